@@ -1,0 +1,153 @@
+//! A message that is cut into frames, one piece per call.
+ghost use Rattle.std.specs.Prelude.{◌≡◌, ℕ, ◌+◌, ◌≤◌, ◌<◌, ◌-◌, ◌↔◌, length, [], ◌∷◌, List, IsTrue, true, false, MatchOption, vec_len};
+ghost use Rattle.afdx_config.specs.Plan.{IsPort, SendsOver};
+ghost use Rattle.afdx_config.specs.Room.{room_of};
+ghost use Rattle.afdx_frame.specs.Frame.{frame_of};
+ghost use Rattle.afdx_frame.specs.Header.{IsFrameOf};
+ghost use Rattle.afdx_frame.specs.Fragments.{blanked, fragments_at, fragments_left};
+ghost use Rattle.afdx_frame.specs.declared.net.Net.{Net as Network};
+ghost use Rattle.afdx_frame.specs.Cutting.{Cutting, IsCut, cutting, pieces_from, pieces_left, piece_at, SameMessage, TakesFirst, written};
+
+use crate::net::{Frame, Net};
+use crate::piece::Piece;
+use crate::write::write_frame;
+use afdx_config::{LinkPlan, PortPlan};
+use arrayvec::ArrayVec;
+use std::marker::Model;
+
+/// A message of a port at a place of its sub-virtual link, of whose datagram the bytes before
+/// `start` were given.
+#[derive(Drop)]
+pub struct Cut {
+    bytes: Vec<u8>,
+    place: u64,
+    port: PortPlan,
+    start: usize,
+}
+
+impl Model for Cut {
+    ghost use Rattle.afdx_frame.specs.Cutting.{Cutting, IsCut};
+
+    ghost Value = { Cutting };
+
+    ghost view = { λ c. record { port = c.port; place = c.place; bytes = c.bytes.items; start = c.start } };
+
+    ghost invariant = { λ c. IsCut c.port c.bytes.items c.start };
+}
+
+/// The piece that starts there, if there is one.
+fn next_piece(room: usize, len: usize, start: usize) -> Option<Piece>
+    requires room { 25 ≤ room }
+    requires len { len ≤ 8200 }
+    ensures { MatchOption result (len ≤ start) (λ piece. (start < len) × (piece ≡ piece_at room len start)) }
+{
+    if start >= len {
+        return None;
+    }
+    let left = len - start;
+    if room < left {
+        Some(Piece {
+            start,
+            len: room - room % 8,
+            more: true,
+        })
+    } else {
+        Some(Piece {
+            start,
+            len: left,
+            more: false,
+        })
+    }
+}
+
+impl Cut {
+    /// A message of a port, of which nothing was given.
+    pub fn new(bytes: Vec<u8>, place: u64, port: &PortPlan) -> Cut
+        requires port { IsPort port.now }
+        requires some { 1 ≤ vec_len bytes }
+        requires most { vec_len bytes ≤ port.now.max }
+        ensures message { (result.port ≡ port.now) × (result.place ≡ place) × (result.bytes ≡ bytes.items) }
+        ensures pieces { (room : ℕ) → pieces_left room result ≡ pieces_from 0 (cutting room (8 + length bytes.items)) }
+        ensures fragments { (end_system room : ℕ) (net : Network) →
+            fragments_left end_system room net result ≡ fragments_at end_system room net place (record { port = port.now; bytes = bytes.items }) }
+    {
+        Cut {
+            bytes,
+            place,
+            port: *port,
+            start: 0,
+        }
+    }
+
+    /// Whether all pieces were given.
+    pub fn is_done(&self) -> bool
+        ensures { (room : ℕ) → IsTrue result ↔ (pieces_left room self.now ≡ []) }
+    {
+        self.start == 8 + self.bytes.len()
+    }
+
+    /// The frame of the next piece, none exactly where all pieces were given.
+    #[inline(always)]
+    pub fn next_frame(
+        &mut self,
+        link: &LinkPlan,
+        end_system: u16,
+        number: u8,
+        net: Net,
+    ) -> Option<Frame>
+        requires { SendsOver self.old.port link.now }
+        ensures frame { TakesFirst
+            (λ piece frame. frame.items ≡ frame_of end_system self.old.port self.old.bytes self.old.place piece net number)
+            (pieces_left (room_of link.now.lmax) self.old) result (pieces_left (room_of link.now.lmax) self.new) }
+        ensures same { SameMessage self.old self.new }
+        ensures fragments { MatchOption result
+            (fragments_left end_system (room_of link.now.lmax) net self.old ≡ [])
+            (λ frame. fragments_left end_system (room_of link.now.lmax) net self.old ≡ blanked frame.items ∷ fragments_left end_system (room_of link.now.lmax) net self.new) }
+    {
+        let mut frame = ArrayVec::new();
+        if !self.write_next(link, end_system, number, net, &mut frame) {
+            return None;
+        }
+        Some(frame)
+    }
+
+    /// As `next_frame`, into a buffer that the caller keeps. Whether a piece was left.
+    #[inline(always)]
+    pub fn write_next(
+        &mut self,
+        link: &LinkPlan,
+        end_system: u16,
+        number: u8,
+        net: Net,
+        out: &mut Frame,
+    ) -> bool
+        requires { SendsOver self.old.port link.now }
+        ensures frame { TakesFirst
+            (λ piece frame. frame.items ≡ frame_of end_system self.old.port self.old.bytes self.old.place piece net number)
+            (pieces_left (room_of link.now.lmax) self.old) (written result out.new) (pieces_left (room_of link.now.lmax) self.new) }
+        ensures same { SameMessage self.old self.new }
+        ensures fragments { MatchOption (written result out.new)
+            (fragments_left end_system (room_of link.now.lmax) net self.old ≡ [])
+            (λ frame. fragments_left end_system (room_of link.now.lmax) net self.old ≡ blanked frame.items ∷ fragments_left end_system (room_of link.now.lmax) net self.new) }
+        ensures header { result ≡ true → IsFrameOf self.old.port.vl.0 self.old.port.sub number net out.new.items }
+        ensures none { result ≡ false → out.new ≡ out.old }
+    {
+        let room = link.lmax.room() as usize;
+        let Some(piece) = next_piece(room, 8 + self.bytes.len(), self.start) else {
+            return false;
+        };
+        out.clear();
+        write_frame(
+            out,
+            end_system,
+            &self.port,
+            &self.bytes,
+            self.place,
+            piece,
+            net,
+            number,
+        );
+        self.start += piece.len;
+        true
+    }
+}

@@ -1,0 +1,17 @@
+-- A network in memory.
+use Rattle.std.specs.Prelude.{ℕ, List, Option, map}
+use Rattle.redundant_mux.specs.Entry.{Entry, entry}
+use Rattle.redundant_mux.specs.declared.memory.Handed.{Handed}
+
+-- what was handed to it, how often it failed and was asked, and which hand is to fail, counted from 1
+pub record Memory : Type 0 where
+  pub handed : List Entry
+  pub failures : ℕ
+  pub asked : ℕ
+  pub fails_at : Option ℕ
+
+abbrev pub entry_of : Handed → Entry
+entry_of one = entry one.at one.frame.items
+
+abbrev pub entries : List Handed → List Entry
+entries handed = map entry_of handed

@@ -1,0 +1,106 @@
+//! Numbers, spacing and cyclic order of a virtual link.
+ghost use Rattle.std.specs.Prelude.{◌≡◌, ℕ, ◌+◌, ◌-◌, ◌*◌, ◌%◌, ◌^◌, ◌<◌, ◌≤◌, None, Some, true};
+ghost use Rattle.afdx_config.specs.Plan.{bag_micros};
+ghost use Rattle.afdx_config.specs.Numbers.{sequence_number};
+ghost use Rattle.vl_shaper.specs.Pace.{Pace, is_due, IsLater, turn_of};
+
+use afdx_config::Bag;
+use std::marker::Model;
+
+/// When a frame was released, in microseconds, and of which sub-VL.
+#[derive(Clone, Copy, Debug, PartialEq, Eq)]
+pub struct Stamp {
+    pub at: u64,
+    pub sub: u8,
+}
+
+/// The regulation of a virtual link: which moments are due, in which order its sub-VLs are asked,
+/// and which sequence number comes next (ARINC 664 Part 7, end system, virtual link scheduling).
+#[derive(Drop)]
+pub struct Shaper {
+    gap: u64,
+    sub_vls: u8,
+    last: Option<Stamp>,
+    number: u8,
+}
+
+impl Model for Shaper {
+    ghost use Rattle.std.specs.Prelude.{◌≤◌};
+    ghost use Rattle.vl_shaper.specs.Pace.{Pace, IsShaped};
+
+    ghost Value = { Pace };
+
+    ghost view = { λ s. record { gap = s.gap; sub_vls = s.sub_vls; last = s.last; next = s.number } };
+
+    ghost invariant = { λ s. IsShaped s.gap s.sub_vls s.last };
+}
+
+impl Shaper {
+    /// A link that has released nothing: it is due at every moment, sub-VL 0 is asked first, and
+    /// the next number is 0.
+    pub fn new(bag: Bag, sub_vls: u8) -> Shaper
+        requires some { 1 ≤ sub_vls }
+        requires few { sub_vls ≤ 4 }
+        ensures { result ≡ record { gap = bag_micros bag; sub_vls = sub_vls; last = None; next = sequence_number 0 } }
+    {
+        Shaper {
+            gap: bag.micros(),
+            sub_vls,
+            last: None,
+            number: 0,
+        }
+    }
+
+    /// How many sub-VLs the link has.
+    pub fn sub_vls(&self) -> u8
+        ensures value { result ≡ self.now.sub_vls }
+        ensures some { 1 ≤ result }
+        ensures few { result ≤ 4 }
+    {
+        self.sub_vls
+    }
+
+    /// Whether a frame may be released at a moment, in microseconds: none has been, or the last one
+    /// a gap ago. A link that is served late doesn't catch up.
+    pub fn due(&self, now: u64) -> bool
+        requires { IsLater self.now.last now }
+        ensures { result ≡ is_due self.now.gap self.now.last now }
+    {
+        match self.last {
+            None => true,
+            Some(last) => self.gap <= now - last.at,
+        }
+    }
+
+    /// The sub-VL that is asked as number `k`, from 0: cyclic order behind the one served last. Each
+    /// sub-VL has one turn.
+    pub fn turn(&self, k: u8) -> u8
+        requires { k < self.now.sub_vls }
+        ensures turn { result ≡ turn_of self.now.sub_vls self.now.last k }
+        ensures below { result < self.now.sub_vls }
+        ensures apart { (j : ℕ) → j < self.now.sub_vls → turn_of self.now.sub_vls self.now.last j ≡ result → j ≡ k }
+    {
+        match self.last {
+            None => k,
+            Some(last) => (last.sub + 1 + k) % self.sub_vls,
+        }
+    }
+
+    /// Notes a release of a sub-VL at a moment, in microseconds, and answers its sequence number: 0
+    /// for the first, then 1 to 255, and after 255 comes 1.
+    pub fn stamp(&mut self, now: u64, sub: u8) -> u8
+        requires later { IsLater self.old.last now }
+        requires due { is_due self.old.gap self.old.last now ≡ true }
+        requires sub { sub < self.old.sub_vls }
+        ensures number { result ≡ self.old.next }
+        ensures next { (i : ℕ) → self.old.next ≡ sequence_number i → self.new.next ≡ sequence_number (i + 1) }
+        ensures last { self.new.last ≡ Some (record { at = now; sub = sub }) }
+        ensures gap { self.new.gap ≡ self.old.gap }
+        ensures sub_vls { self.new.sub_vls ≡ self.old.sub_vls }
+    {
+        let number = self.number;
+        self.last = Some(Stamp { at: now, sub });
+        self.number = if number == 255 { 1 } else { number + 1 };
+        number
+    }
+}
