@@ -1,0 +1,5 @@
+use Rattle.afdx_frame.proofs.Twins.{twin_fragments}
+use Rattle.afdx_frame.proofs.laws.twins_of_fragments.Goals as goal
+
+pub returns : goal.returns
+returns c = λ end_system room net other messages. twin_fragments end_system room net other 0 messages

@@ -1,0 +1,26 @@
+-- What a poll reports.
+use Rattle.std.specs.Prelude.{ℕ, ◌≡◌, List, [], ◌∷◌, ◌++◌, map}
+use Rattle.afdx_config.specs.declared.VlId.{VlId}
+use Rattle.afdx_frame.specs.Header.{link_in, sub_in, number_in}
+use Rattle.redundant_mux.specs.Entry.{Entry}
+use Rattle.redundant_mux.specs.Lines.{Lines, log}
+use Rattle.afdx_tx.specs.declared.served.Served.{Served}
+use Rattle.afdx_tx.specs.declared.served.Served.TheVariants.{Nothing, Released, Lost}
+use Rattle.afdx_tx.specs.declared.report.Release.{Release}
+
+-- the release that an entry shows
+abbrev pub release_of : Entry → Release
+release_of e = record { vl = record { 0 = link_in e.frame }; sub = sub_in e.frame; number = number_in e.frame }
+
+-- the release of one turn
+abbrev pub released_by : VlId → Served → List Release
+released_by vl Nothing = []
+released_by vl (Released sub number) = record { vl = vl; sub = sub; number = number } ∷ []
+released_by vl Lost = []
+
+-- The releases name the new entries of the longer handed list, in order, all of this moment.
+pub record IsTold (now : ℕ) (released : List Release) (before lines : Lines) : Type 0 where
+  pub entries : List Entry
+  pub grown : log lines ≡ log before ++ entries
+  pub named : map release_of entries ≡ released
+  pub moments : map (λ (e : Entry). e.at) entries ≡ map (λ (e : Entry). now) entries

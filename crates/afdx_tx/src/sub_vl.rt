@@ -1,0 +1,10 @@
+//! Which sub-VL of which end system.
+use afdx_config::LinkPlan;
+
+/// A sub-VL: its end system, its link, and its index there.
+#[derive(Clone, Copy, Debug, PartialEq, Eq)]
+pub struct SubVl {
+    pub end_system: u16,
+    pub link: LinkPlan,
+    pub sub: u8,
+}
