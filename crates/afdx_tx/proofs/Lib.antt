@@ -5,3 +5,6 @@ pub mod Mirror
 pub mod Moving
 pub mod Paced
 pub mod Serve
+pub mod Turning
+pub mod Turns
+pub mod Told

@@ -1,5 +1,5 @@
 -- An emitter, as contracts see it.
-use Rattle.std.specs.Prelude.{ℕ, ◌≡◌, ◌%◌, ◌<◌, ◌≤◌, ◌++◌, List, [], ◌∷◌, length, take, drop, set, Bool, true, false, nat_eq, if◌then◌else◌, None}
+use Rattle.std.specs.Prelude.{ℕ, ◌≡◌, ◌%◌, ◌<◌, ◌≤◌, ◌++◌, List, [], ◌∷◌, length, map, take, drop, set, Bool, true, false, nat_eq, if◌then◌else◌, None}
 use Rattle.afdx_config.specs.Config.{Plan, link_plan_at, IsPlan}
 use Rattle.afdx_config.specs.Plan.{bag_micros}
 use Rattle.afdx_config.specs.declared.LinkPlan.{LinkPlan}
@@ -12,7 +12,7 @@ use Rattle.redundant_mux.specs.Lines.{Lines, log, is_alive, IsMirrored}
 use Rattle.vl_shaper.specs.Pace.{IsLater}
 use Rattle.afdx_tx.specs.Streams.{link_stream, sub_stream, told, told_of, IsNumbered, IsSpaced, IsPrefixOf}
 use Rattle.afdx_tx.specs.Legal.{Accepted, AreKnown, IsLegal}
-use Rattle.afdx_tx.specs.Links.{Held, LinkState, held_at, link_at, sub_fragments, AreNamed, pace_of, IsSameLink}
+use Rattle.afdx_tx.specs.Links.{Held, LinkState, held_at, link_at, sub_fragments, IsLink, pace_of}
 
 -- An emitter: its plan, its links in the order of the plan, what was handed over, and the moment of
 -- the last poll.
@@ -22,18 +22,25 @@ pub record Tx : Type 0 where
   pub lines : Lines
   pub moment : ℕ
 
--- a link is the one at this place of the plan
-pub record IsLinkOf (config : Plan) (k : ℕ) (link : LinkState) : Type 0 where
-  pub end_system : link.end_system ≡ config.end_system
-  pub plan : link.plan ≡ link_plan_at config.links k
-  pub gap : link.pace.gap ≡ bag_micros link.plan.bag
-  pub sub_vls : link.pace.sub_vls ≡ link.plan.sub_vls
-  pub count : length link.subs ≡ link.plan.sub_vls
-  pub named : AreNamed link.end_system link.plan link.subs
+-- the plans of links
+abbrev pub plan_of : LinkState → LinkPlan
+plan_of link = link.plan
 
-pub record AreLinksOf (plan : Plan) (links : List LinkState) : Type 0 where
-  pub count : length links ≡ length plan.links
-  pub each : (k : ℕ) → k < length links → IsLinkOf plan k (link_at links k)
+abbrev pub plans : List LinkState → List LinkPlan
+plans links = map plan_of links
+
+abbrev pub AreLinks : List LinkState → Type 0
+AreLinks links = (k : ℕ) → k < length links → IsLink (link_at links k).end_system (link_at links k).plan (link_at links k).pace (link_at links k).subs
+
+-- no two links have one identifier
+abbrev pub AreApart : List LinkState → Type 0
+AreApart links = (i j : ℕ) → i < length links → j < length links → (link_at links i).plan.id ≡ (link_at links j).plan.id → i ≡ j
+
+-- the links are those of a plan, in its order
+pub record AreLinksOf (config : Plan) (links : List LinkState) : Type 0 where
+  pub each_plan : plans links ≡ config.links
+  pub end_system : (k : ℕ) → k < length links → (link_at links k).end_system ≡ config.end_system
+  pub each : AreLinks links
 
 -- nothing of a sub-VL was sent yet
 abbrev pub fresh_held : ℕ → LinkPlan → ℕ → Held
@@ -71,13 +78,13 @@ abbrev pub AreServedBy : ℕ → List LinkState → Type 0
 AreServedBy now links = (k : ℕ) → k < length links → IsLater (link_at links k).pace.last now
 
 -- what every emitter keeps
-pub record IsSound (plan : Plan) (links : List LinkState) (lines : Lines) (moment : ℕ) : Type 0 where
-  pub valid : IsPlan plan
-  pub of_plan : AreLinksOf plan links
+pub record IsSound (config : Plan) (links : List LinkState) (lines : Lines) (moment : ℕ) : Type 0 where
+  pub valid : IsPlan config
+  pub of_plan : AreLinksOf config links
   pub kept : AreKept links (log lines)
   pub later : AreServedBy moment links
   pub mirrored : IsMirrored lines
-  pub known : AreKnown plan.links A (log lines)
+  pub known : AreKnown config.links A (log lines)
   pub whole : is_alive lines ≡ true → AreWhole links
 
 -- The first of a sub-VL's accepted messages were taken, and the others wait. What its stream shows

@@ -6,3 +6,4 @@ pub mod Report
 pub mod Emitter
 pub mod Sending
 pub mod Subs
+pub mod Serving

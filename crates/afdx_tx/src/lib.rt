@@ -2,6 +2,7 @@
 //! out as numbered, spaced frames on two networks.
 #![tactic(auto)]
 
+mod emitter;
 mod fault;
 mod link;
 mod message;

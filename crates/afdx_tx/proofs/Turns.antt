@@ -1,0 +1,170 @@
+-- One more link of a poll has had its turn.
+use Rattle.std.proofs.Common.{ℕ, suc, ◌≡◌, ◌≢◌, ◌⊎◌, ◌+◌, ◌-◌, ◌<◌, ◌≤◌, List, [], ◌∷◌, ◌++◌, Bool, true, false, length, map, take, drop, set, get_or, arith, refl, ap, ◌∙◌, sym, subst, inl, inr, ⊎_elim, None, Option}
+use Rattle.std.proofs.lemmas.List.{length-set, get_or-set_same, get_or-set_other, get_or-drop, drop-drop, drop-set-lt, take_more, take_more_set, get_or-map, length-map, take-set}
+use Rattle.std.proofs.lemmas.Bool.{cases_eq}
+use Rattle.afdx_config.specs.declared.VlId.{VlId}
+use Rattle.afdx_config.specs.declared.LinkPlan.{LinkPlan}
+use Rattle.afdx_config.specs.Config.{link_plan_at}
+use Rattle.afdx_frame.specs.declared.net.Net.TheVariants.{A}
+use Rattle.redundant_mux.specs.Entry.{Entry, entry}
+use Rattle.redundant_mux.specs.Lines.{Lines, log, is_alive, IsMirrored}
+use Rattle.vl_shaper.specs.Pace.{Pace, IsLater}
+use Rattle.afdx_tx.specs.declared.served.Served.{Served}
+use Rattle.afdx_tx.specs.declared.served.Served.TheVariants.{Nothing, Released, Lost}
+use Rattle.afdx_tx.specs.Streams.{link_stream}
+use Rattle.afdx_tx.specs.Legal.{Accepted, IsKnown, AreKnown}
+use Rattle.afdx_tx.specs.Links.{Held, LinkState, link_at, no_link, no_link_plan, pace_of, Serves, IsSameLink, is_lost}
+use Rattle.afdx_tx.specs.Run.{IsTurn, IsRun, IsCutShort}
+use Rattle.afdx_tx.specs.Emitter.{plan_of, plans, AreLinks, AreApart, IsKept, AreKept, AreWhole, AreServedBy, IsLinkInStep, AreInStep}
+use Rattle.afdx_tx.specs.Serving.{IsSamePlan, KeepsStep, IsSteady, IsServing}
+use Rattle.afdx_tx.proofs.Turning.{Turned, IsOwn, link_turn, kept_turn, step_turn, other_stream, kept_stream, step_stream, released_known, picked_of}
+use Rattle.afdx_tx.specs.declared.sub_vl.SubVl.{SubVl}
+
+-- the turn, with the regulation read off the stream
+turn_shown : (now : ℕ) (did : Served) (link new : LinkState) (lines after : Lines) → Turned now link new lines after did → IsKept link (log lines) → IsTurn now link new lines after did
+turn_shown now did link new lines after t k = record {
+      same = t.same;
+      serves = subst (λ (p : Pace). Serves now p link.subs new.subs lines after did) (k.paced t.whole) t.serves;
+    }
+
+run_push : (now : ℕ) (xs ys : List LinkState) (link new : LinkState) (before lines after : Lines) (did : Served) → IsRun now xs ys before lines → IsTurn now link new lines after did → is_lost did ≡ false → IsRun now (xs ++ link ∷ []) (ys ++ new ∷ []) before after
+run_push now [] [] link new before lines after did r t k = (after, did, subst (λ (l : Lines). IsTurn now link new l after did) r t, k, refl)
+run_push now (x ∷ xs) (y ∷ ys) link new before lines after did r t k = (r.0, r.1, r.2, r.3, run_push now xs ys link new r.0 lines after did r.4 t k)
+run_push now [] (y ∷ ys) link new before lines after did r t k = absurd r
+run_push now (x ∷ xs) [] link new before lines after did r t k = absurd r
+
+alive_after : (now : ℕ) (did : Served) (link new : LinkState) (lines after : Lines) → Turned now link new lines after did → is_lost did ≡ false → is_alive lines ≡ true → is_alive after ≡ true
+alive_after now Nothing link new lines after t k a = ap is_alive t.serves.1 ∙ a
+alive_after now (Released sub number) link new lines after t k a = t.serves.2.releases.alive
+alive_after now Lost link new lines after t k a = absurd (let e : true ≡ false = k in cc)
+
+pub at_each : (P : ℕ → LinkState → Type 0) (links : List LinkState) (i : ℕ) (new : LinkState) → i < length links → P i new → ((k : ℕ) → k < length links → k ≢ i → P k (link_at links k)) → (k : ℕ) → k < length links → P k (link_at (set links i new) k)
+at_each P links i new lt p q k klt = ⊎_elim
+    (λ (e : k ≡ i). subst (λ (j : ℕ). P j (link_at (set links i new) j)) (sym e) (subst (P i) (sym (get_or-set_same links i new no_link lt)) p))
+    (λ (ne : k ≢ i). subst (P k) (sym (get_or-set_other links i k new no_link ne)) (q k klt ne))
+    (cases_eq k i)
+
+same_rest : (xs ys : List LinkState) (i : ℕ) → drop i xs ≡ drop i ys → link_at xs i ≡ link_at ys i
+same_rest xs ys i e =
+    let z : i + 0 ≡ i = omega arith in
+    ap (link_at xs) (sym z) ∙ sym (get_or-drop i xs 0 no_link) ∙ ap (λ (l : List LinkState). get_or l 0 no_link) e ∙ get_or-drop i ys 0 no_link ∙ ap (link_at ys) z
+
+trans_same : (a b c : LinkState) → IsSameLink a b → IsSameLink b c → IsSameLink a c
+trans_same a b c p q = record { end_system = q.end_system ∙ p.end_system; plan = q.plan ∙ p.plan; gap = q.gap ∙ p.gap; sub_vls = q.sub_vls ∙ p.sub_vls; count = q.count ∙ p.count }
+
+-- two links of the running list have different identifiers
+apart_now : (old links : List LinkState) (i k : ℕ) → AreApart old → IsSamePlan old links → i < length links → k < length links → k ≢ i → (link_at links i).plan.id.0 ≢ (link_at links k).plan.id.0
+apart_now old links i k apart same lt klt ne e =
+    let il : i < length old = omega (arith, same.count) in
+    let kl : k < length old = omega (arith, same.count) in
+    let id_i : (link_at links i).plan.id ≡ (link_at old i).plan.id = ap (λ (p : LinkPlan). p.id) (same.each i il).plan in
+    let id_k : (link_at links k).plan.id ≡ (link_at old k).plan.id = ap (λ (p : LinkPlan). p.id) (same.each k kl).plan in
+    let ids : (link_at links i).plan.id ≡ (link_at links k).plan.id = let made = λ (n : ℕ). let v : VlId = record { 0 = n } in v in ap made e in
+    ne (sym (apart i k il kl (sym id_i ∙ ids ∙ id_k)))
+
+known_push : (links : List LinkPlan) (H : List Entry) (e : Entry) → AreKnown links A H → IsKnown links A e.frame → AreKnown links A (H ++ e ∷ [])
+known_push links [] e h k = (k, tt)
+known_push links (x ∷ xs) e h k = (h.0, known_push links xs e h.1 k)
+
+pub plan_at_is : (links : List LinkState) (k : ℕ) → k < length links → link_plan_at (plans links) k ≡ (link_at links k).plan
+plan_at_is links k lt = get_or-map plan_of links k no_link no_link_plan lt
+
+pub plans_length : (links : List LinkState) → length (plans links) ≡ length links
+plans_length links = length-map links plan_of
+
+known_after : (now i : ℕ) (old : List LinkState) (did : Served) (links : List LinkState) (new : LinkState) (lines after : Lines) → IsSamePlan old links → i < length links → IsOwn (link_at links i) → Turned now (link_at links i) new lines after did → AreKnown (plans old) A (log lines) → AreKnown (plans old) A (log after)
+known_after now i old Nothing links new lines after same lt own t h = subst (λ (x : Lines). AreKnown (plans old) A (log x)) (sym t.serves.1) h
+known_after now i old (Released sub number) links new lines after same lt own t h =
+    let r = t.serves.2.releases in
+    let il : i < length old = omega (arith, same.count) in
+    let plan : link_plan_at (plans old) i ≡ (link_at links i).plan = plan_at_is old i il ∙ sym (same.each i il).plan in
+    let of = picked_of (link_at links i) sub new.subs t.serves.2.picks own in
+    let below : sub < (link_at links i).plan.sub_vls = released_known now number (link_at links i) sub new.subs lines after t.serves.2 own in
+    let many : (link_plan_at (plans old) i).sub_vls ≡ (link_at links i).plan.sub_vls = ap (λ (p : LinkPlan). p.sub_vls) plan in
+    let own_sub = r.of.of_sub ∙ ap (λ (o : SubVl). o.sub) of in
+    subst (AreKnown (plans old) A) (sym r.enters) (known_push (plans old) (log lines) (entry now r.frame) h (record {
+      size = r.of.size;
+      k = i;
+      within = omega (arith, plans_length old);
+      link = r.of.link ∙ ap (λ (o : SubVl). o.link.id.0) of ∙ ap (λ (p : LinkPlan). p.id.0) (sym plan);
+      of_sub = omega (arith, own_sub);
+      interface = r.of.interface;
+    }))
+known_after now i old Lost links new lines after same lt own t h = subst (AreKnown (plans old) A) (sym t.serves.1.loses.same) h
+
+pub steady_more : (now i : ℕ) (old links : List LinkState) (before lines after : Lines) (new : LinkState) (did : Served)
+    → IsSteady now old links before lines → AreApart old → i < length links
+    → Turned now (link_at links i) new lines after did → IsMirrored after → IsLater new.pace.last now
+    → IsSteady now old (set links i new) before after
+steady_more now i old links before lines after new did s apart lt t mirrored later =
+    let il : i < length old = omega (arith, s.same.count) in
+    let len : length (set links i new) ≡ length links = length-set links i new in
+    let own : IsOwn (link_at links i) = s.each i lt in
+    let other = λ (j : ℕ) (jlt : j < length links) (ne : j ≢ i). other_stream now (link_at links j).plan.id.0 did (link_at links i) new lines after t own (apart_now old links i j apart s.same lt jlt ne) in
+    record {
+      same = record {
+        count = len ∙ s.same.count;
+        each = λ k klt. at_each (λ j l. IsSameLink (link_at old j) l) links i new lt
+            (trans_same _ _ _ (s.same.each i il) t.same)
+            (λ j jlt ne. s.same.each j (omega (arith, s.same.count)))
+            k (omega (arith, s.same.count));
+      };
+      each = λ k klt. at_each (λ j l. IsOwn l) links i new lt (link_turn now (link_at links i) new lines after did t own) (λ j jlt ne. s.each j jlt) k (omega arith);
+      kept = λ k klt. at_each (λ j l. IsKept l (log after)) links i new lt
+            (kept_turn now did (link_at links i) new lines after t own (s.kept i lt))
+            (λ j jlt ne. kept_stream (link_at links j) (log lines) (log after) (other j jlt ne) (s.kept j jlt))
+            k (omega arith);
+      later = λ k klt. at_each (λ j l. IsLater l.pace.last now) links i new lt later (λ j jlt ne. s.later j jlt) k (omega arith);
+      mirrored = mirrored;
+      known = known_after now i old did links new lines after s.same lt own t s.known;
+      keeps = λ accepted step k klt. at_each (λ j l. IsLinkInStep (accepted j) l (log after)) links i new lt
+            (step_turn (accepted i) now did (link_at links i) new lines after t own (s.keeps accepted step i lt))
+            (λ j jlt ne. step_stream (accepted j) (link_at links j) (log lines) (log after) (other j jlt ne) (s.keeps accepted step j jlt))
+            k (omega arith);
+    }
+
+pub serving_more : (now i : ℕ) (old links : List LinkState) (before lines after : Lines) (new : LinkState) (did : Served)
+    → IsServing now i old links before lines → AreApart old → i < length links
+    → Turned now (link_at links i) new lines after did → is_lost did ≡ false → IsMirrored after → IsLater new.pace.last now
+    → IsServing now (i + 1) old (set links i new) before after
+serving_more now i old links before lines after new did s apart lt t kept mirrored later =
+    let il : i < length old = omega (arith, s.steady.same.count) in
+    let len : length (set links i new) ≡ length links = length-set links i new in
+    let here : link_at links i ≡ link_at old i = same_rest links old i s.rest in
+    let turn : IsTurn now (link_at links i) new lines after did = turn_shown now did (link_at links i) new lines after t (s.steady.kept i lt) in
+    let run : IsRun now (take i old ++ link_at links i ∷ []) (take i links ++ new ∷ []) before after = run_push now _ _ (link_at links i) new before lines after did s.run turn kept in
+    let taken : take (i + 1) old ≡ take i old ++ link_at links i ∷ [] = take_more old i no_link il ∙ ap (λ (l : LinkState). take i old ++ l ∷ []) (sym here) in
+    let taken_new : take (i + 1) (set links i new) ≡ take i links ++ new ∷ [] = take_more_set links i new lt in
+    record {
+      steady = steady_more now i old links before lines after new did s.steady apart lt t mirrored later;
+      run = subst (λ (xs : List LinkState). IsRun now xs (take (i + 1) (set links i new)) before after) (sym taken)
+        (subst (λ (ys : List LinkState). IsRun now (take i old ++ link_at links i ∷ []) ys before after) (sym taken_new) run);
+      rest = drop-set-lt (i + 1) links i new (omega arith) ∙ sym (drop-drop 1 i links) ∙ ap (drop 1) s.rest ∙ drop-drop 1 i old;
+      alive = alive_after now did (link_at links i) new lines after t kept s.alive;
+      whole = λ k klt. at_each (λ j l. l.lost ≡ false) links i new lt (t.lost ∙ kept) (λ j jlt ne. s.whole j jlt) k (omega arith);
+    }
+
+-- the link at which the last network was lost
+pub cut_at : (now i : ℕ) (old links : List LinkState) (before lines after : Lines) (new : LinkState) (did : Served) → IsServing now i old links before lines → i < length links → is_lost did ≡ true
+    → Turned now (link_at links i) new lines after did → IsCutShort now old (set links i new) before after
+cut_at now i old links before lines after new Lost s lt e t =
+    let il : i < length old = omega (arith, s.steady.same.count) in
+    let here : link_at links i ≡ link_at old i = same_rest links old i s.rest in
+    let turn : IsTurn now (link_at links i) new lines after Lost = turn_shown now Lost (link_at links i) new lines after t (s.steady.kept i lt) in
+    record {
+      count = length-set links i new ∙ s.steady.same.count;
+      at = i;
+      within = il;
+      mid = lines;
+      run = subst (λ (ys : List LinkState). IsRun now (take i old) ys before lines) (sym (take-set links i new)) s.run;
+      turn = subst (λ (x : LinkState). IsTurn now x (link_at (set links i new) i) lines after Lost) here
+        (subst (λ (y : LinkState). IsTurn now (link_at links i) y lines after Lost) (sym (get_or-set_same links i new no_link lt)) turn);
+      rest = drop-set-lt (i + 1) links i new (omega arith) ∙ sym (drop-drop 1 i links) ∙ ap (drop 1) s.rest ∙ drop-drop 1 i old;
+    }
+cut_at now i old links before lines after new Nothing s lt e t = absurd (let k : false ≡ true = e in cc)
+cut_at now i old links before lines after new (Released sub number) s lt e t = absurd (let k : false ≡ true = e in cc)
+
+pub lost_down : (now : ℕ) (did : Served) (link new : LinkState) (lines after : Lines) → Turned now link new lines after did → is_lost did ≡ true → is_alive after ≡ false
+lost_down now Lost link new lines after t e = t.serves.1.loses.down
+lost_down now Nothing link new lines after t e = absurd (let k : false ≡ true = e in cc)
+lost_down now (Released sub number) link new lines after t e = absurd (let k : false ≡ true = e in cc)
