@@ -129,3 +129,18 @@ link_with link s sent = record link { subs = set link.subs s (waits (held_at lin
 -- a message waits at one sub-VL, and nothing else changes
 abbrev pub tx_with : Tx → ℕ → ℕ → Sent → Tx
 tx_with tx k s sent = record tx { links = set tx.links k (link_with (link_at tx.links k) s sent) }
+
+-- the first links of a plan, nothing of which was sent or released yet
+pub record AreFreshLinks (config : Plan) (links : List LinkState) (many : ℕ) : Type 0 where
+  pub count : length links ≡ many
+  pub each : (k : ℕ) → k < many → IsFreshLink config.end_system (link_plan_at config.links k) (link_at links k)
+
+-- nothing was sent, handed over or polled yet, and both networks stand
+pub record IsFreshTx (config : Plan) (tx : Tx) : Type 0 where
+  pub plan : tx.plan ≡ config
+  pub links : AreFreshLinks config tx.links (length config.links)
+  pub a : tx.lines.a ≡ []
+  pub b : tx.lines.b ≡ []
+  pub a_stands : tx.lines.a_stands ≡ true
+  pub b_stands : tx.lines.b_stands ≡ true
+  pub moment : tx.moment ≡ 0

@@ -9,7 +9,8 @@ use Rattle.afdx_tx.specs.declared.sub_vl.SubVl.{SubVl}
 use Rattle.afdx_tx.specs.declared.fault.Refusal.{Refusal}
 use Rattle.afdx_tx.specs.declared.fault.Refusal.TheVariants.{Empty, TooLong, Full}
 use Rattle.afdx_tx.specs.Links.{held_at, link_at}
-use Rattle.afdx_tx.specs.Emitter.{Tx}
+use Rattle.afdx_tx.specs.Legal.{Accepted}
+use Rattle.afdx_tx.specs.Emitter.{Tx, tx_with, with_accepted}
 
 -- the place of a port's link in the plan
 abbrev pub link_of : Plan → PortPlan → ℕ
@@ -36,6 +37,22 @@ first_refusal (Some why) later = Some why
 abbrev pub refusal_of : Tx → PortPlan → ℕ → Option Refusal
 refusal_of tx port size =
     first_refusal (length_refusal port size) (queue_refusal (link_plan_at tx.plan.links (link_of tx.plan port)).capacity (length (waiting_at tx port)))
+
+-- why the port at this place doesn't take a message of so many bytes, if it doesn't
+abbrev pub refusal_at : Tx → ℕ → ℕ → Option Refusal
+refusal_at tx port size = refusal_of tx (port_plan_at tx.plan.ports port) size
+
+-- a message of the port at this place
+abbrev pub sent_at : Tx → ℕ → List ℕ → Sent
+sent_at tx port bytes = record { port = port_plan_at tx.plan.ports port; bytes = bytes }
+
+-- the emitter, where that message waits at its sub-VL, and nothing else changes
+abbrev pub tx_sent : Tx → ℕ → List ℕ → Tx
+tx_sent tx port bytes = tx_with tx (link_of tx.plan (port_plan_at tx.plan.ports port)) (port_plan_at tx.plan.ports port).sub (sent_at tx port bytes)
+
+-- the accepted lists with that message
+abbrev pub accepted_with : Tx → ℕ → List ℕ → Accepted → Accepted
+accepted_with tx port bytes accepted = with_accepted (link_of tx.plan (port_plan_at tx.plan.ports port)) (port_plan_at tx.plan.ports port).sub (sent_at tx port bytes) accepted
 
 -- a message that a sub-VL may send
 pub record IsMessageOf (of : SubVl) (sent : Sent) : Type 0 where

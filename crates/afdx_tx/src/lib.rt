@@ -6,10 +6,14 @@ mod emitter;
 mod fault;
 mod link;
 mod message;
+mod open;
 mod report;
+mod routing;
 mod served;
 mod sub;
 mod sub_vl;
 
+pub use emitter::Emitter;
 pub use fault::{OpenFault, PollFault, Refusal, SendFault};
+pub use open::open_tx;
 pub use report::{Release, Report};

@@ -1,0 +1,155 @@
+-- From the log to the two handed lists.
+use Rattle.std.proofs.Common.{ℕ, suc, ◌≡◌, ◌≢◌, ◌⊎◌, ◌+◌, ◌-◌, ◌<◌, ◌≤◌, List, [], ◌∷◌, ◌++◌, Bool, true, false, cond, length, map, take, drop, eqb, arith, refl, ap, ◌∙◌, sym, subst, inl, inr, ⊎_elim, Option, Some, None}
+use Rattle.std.proofs.lemmas.List.{map-append, append_assoc, length-map, take-append-drop, take-map}
+use Rattle.std.proofs.lemmas.List.Elements.{filter-append}
+use Rattle.std.specs.Prelude.{filter}
+use Rattle.afdx_config.specs.declared.LinkPlan.{LinkPlan}
+use Rattle.afdx_config.specs.Config.{Plan, link_plan_at}
+use Rattle.afdx_config.specs.Plan.{bag_micros}
+use Rattle.afdx_config.specs.Room.{room_of}
+use Rattle.afdx_frame.specs.declared.net.Net.{Net}
+use Rattle.afdx_frame.specs.declared.net.Net.TheVariants.{A, B}
+use Rattle.afdx_frame.specs.Twin.{twin_of}
+use Rattle.afdx_frame.specs.Fragments.{Sent, blanked, fragments}
+use Rattle.afdx_frame.proofs.Twins.{twin_link, twin_sub, twin_number, twin_interface, twin_blanked, twin_fragments, length-twin}
+use Rattle.redundant_mux.specs.Entry.{Entry, entry}
+use Rattle.redundant_mux.specs.Lines.{Lines, side, log, Keeps, Mirrors, IsMirrored}
+use Rattle.vl_shaper.specs.declared.shaper.Stamp.{Stamp}
+use Rattle.afdx_tx.specs.Streams.{on_link, on_sub, link_stream, sub_stream, told, told_of, stamp_of, IsNumbered, IsSpaced, IsPrefixOf}
+use Rattle.afdx_tx.specs.Legal.{Accepted, IsKnown, AreKnown, IsLegalOn, AreTwins, IsLegal}
+use Rattle.afdx_tx.proofs.Mirror.{all_of, sides}
+
+-- the entries of a list have whole frames
+abbrev AreLong : List Entry → Type 0
+AreLong [] = Unit {0}
+AreLong (e ∷ es) = (60 ≤ length e.frame) × AreLong es
+
+known_long : (links : List LinkPlan) (net : Net) (H : List Entry) → AreKnown links net H → AreLong H
+known_long links net [] h = tt
+known_long links net (e ∷ es) h = (h.0.size, known_long links net es h.1)
+
+filter_long : (p : Entry → Bool) (H : List Entry) → AreLong H → AreLong (filter p H)
+filter_long p [] h = tt
+filter_long p (e ∷ es) h = keep (p e) (filter_long p es h.1)
+  where
+    keep : (b : Bool) → AreLong (filter p es) → AreLong (cond b (e ∷ filter p es) (filter p es))
+    keep true rest = (h.0, rest)
+    keep false rest = rest
+
+filter_both : (net : Net) (b : Bool) (e : Entry) (xs ys : List Entry) → xs ≡ map (side net) ys → cond b (side net e ∷ xs) xs ≡ map (side net) (cond b (e ∷ ys) ys)
+filter_both net true e xs ys h = ap (λ x. side net e ∷ x) h
+filter_both net false e xs ys h = h
+
+-- a test that twins pass alike
+filter_side : (net : Net) (p : Entry → Bool) → ((e : Entry) → p (side net e) ≡ p e) → (H : List Entry) → filter p (map (side net) H) ≡ map (side net) (filter p H)
+filter_side net p h [] = refl
+filter_side net p h (e ∷ es) =
+    ap (λ b. cond b (side net e ∷ filter p (map (side net) es)) (filter p (map (side net) es))) (h e)
+    ∙ filter_both net (p e) e (filter p (map (side net) es)) (filter p es) (filter_side net p h es)
+
+link_side : (net : Net) (vl : ℕ) (H : List Entry) → link_stream vl (map (side net) H) ≡ map (side net) (link_stream vl H)
+link_side net vl H = filter_side net (on_link vl) (λ e. ap (λ l. eqb l vl) (twin_link net e.frame)) H
+
+sub_side : (net : Net) (s : ℕ) (H : List Entry) → sub_stream s (map (side net) H) ≡ map (side net) (sub_stream s H)
+sub_side net s H = filter_side net (on_sub s) (λ e. ap (λ l. eqb l s) (twin_sub net e.frame)) H
+
+told_side : (net : Net) (T : List Entry) → told (map (side net) T) ≡ map (twin_of net) (told T)
+told_side net [] = refl
+told_side net (e ∷ es) = ap (λ x. x ∷ told (map (side net) es)) (twin_blanked net e.frame) ∙ ap (λ x. twin_of net (blanked e.frame) ∷ x) (told_side net es)
+
+numbered_side : (net : Net) (i : ℕ) (xs ys : List Entry) → AreLong (xs ++ ys) → IsNumbered i (xs ++ ys) → IsNumbered i (map (side net) xs)
+numbered_side net i [] ys long h = tt
+numbered_side net i (x ∷ xs) ys long h = (twin_number net x.frame long.0 ∙ h.0, numbered_side net (i + 1) xs ys long.1 h.1)
+
+spaced_side : (net : Net) (gap : ℕ) (before : Option Stamp) (xs ys : List Entry) → IsSpaced gap before (xs ++ ys) → IsSpaced gap before (map (side net) xs)
+spaced_side net gap before [] ys h = tt
+spaced_side net gap before (x ∷ xs) ys h =
+    (h.0, subst (λ (s : ℕ). IsSpaced gap (Some (record { at = x.at; sub = s })) (map (side net) xs)) (sym (twin_sub net x.frame)) (spaced_side net gap (Some (stamp_of x)) xs ys h.1))
+
+known_side : (links : List LinkPlan) (net : Net) (xs ys : List Entry) → AreKnown links A (xs ++ ys) → AreKnown links net (map (side net) xs)
+known_side links net [] ys h = tt
+known_side links net (x ∷ xs) ys h = (
+    record {
+      size = omega (arith, length-twin net x.frame, h.0.size);
+      k = h.0.k;
+      within = h.0.within;
+      link = twin_link net x.frame ∙ h.0.link;
+      of_sub = omega (arith, twin_sub net x.frame, h.0.of_sub);
+      interface = twin_interface net x.frame h.0.size;
+    },
+    known_side links net xs ys h.1)
+
+-- what is legal of the log
+pub record IsLogLegal (plan : Plan) (accepted : Accepted) (H : List Entry) : Type 0 where
+  pub known : AreKnown plan.links A H
+  pub prefixes : (k s : ℕ) → k < length plan.links → s < (link_plan_at plan.links k).sub_vls
+      → IsPrefixOf (told_of (link_plan_at plan.links k).id.0 s H) (fragments plan.end_system (room_of (link_plan_at plan.links k).lmax) A (accepted k s))
+  pub numbered : (k : ℕ) → k < length plan.links → IsNumbered 0 (link_stream (link_plan_at plan.links k).id.0 H)
+  pub spaced : (k : ℕ) → k < length plan.links → IsSpaced (bag_micros (link_plan_at plan.links k).bag) None (link_stream (link_plan_at plan.links k).id.0 H)
+
+-- a prefix of a log's stream, turned to a network
+prefix_side : (net : Net) (vl s end_system room : ℕ) (messages : List Sent) (xs ys : List Entry)
+    → IsPrefixOf (told_of vl s (xs ++ ys)) (fragments end_system room A messages) → IsPrefixOf (told_of vl s (map (side net) xs)) (fragments end_system room net messages)
+prefix_side net vl s end_system room messages xs ys p =
+    let T = sub_stream s (link_stream vl xs) in
+    let U = sub_stream s (link_stream vl ys) in
+    let cut : sub_stream s (link_stream vl (xs ++ ys)) ≡ sub_stream s (link_stream vl xs) ++ sub_stream s (link_stream vl ys) =
+        ap (sub_stream s) (filter-append (on_link vl) xs ys) ∙ filter-append (on_sub s) _ _ in
+    let whole : told T ++ (told U ++ p.0) ≡ fragments end_system room A messages =
+        sym (append_assoc (told T) (told U) p.0) ∙ ap (λ x. x ++ p.0) (sym (map-append (λ (e : Entry). blanked e.frame) T U) ∙ ap told (sym cut)) ∙ p.1 in
+    let mine : told (sub_stream s (link_stream vl (map (side net) xs))) ≡ map (twin_of net) (told T) =
+        ap (λ x. told (sub_stream s x)) (link_side net vl xs) ∙ ap told (sub_side net s (link_stream vl xs)) ∙ told_side net T in (
+      map (twin_of net) (told U ++ p.0),
+      ap (λ x. x ++ map (twin_of net) (told U ++ p.0)) mine
+      ∙ sym (map-append (twin_of net) (told T) (told U ++ p.0))
+      ∙ ap (map (twin_of net)) whole
+      ∙ twin_fragments end_system room net A 0 messages,
+    )
+
+-- the log is legal, and so are the twins of its front
+legal_front : (plan : Plan) (accepted : Accepted) (net : Net) (xs ys : List Entry) → IsLogLegal plan accepted (xs ++ ys) → IsLegalOn plan accepted net (map (side net) xs)
+legal_front plan accepted net xs ys l =
+    let long : AreLong (xs ++ ys) = known_long plan.links A (xs ++ ys) l.known in
+    record {
+      known = known_side plan.links net xs ys l.known;
+      prefixes = λ k s klt slt. prefix_side net (link_plan_at plan.links k).id.0 s plan.end_system (room_of (link_plan_at plan.links k).lmax) (accepted k s) xs ys (l.prefixes k s klt slt);
+      numbered = λ k klt.
+        let vl = (link_plan_at plan.links k).id.0 in
+        let cut = filter-append (on_link vl) xs ys in
+        subst (IsNumbered 0) (sym (link_side net vl xs))
+        (numbered_side net 0 (link_stream vl xs) (link_stream vl ys) (subst AreLong cut (filter_long (on_link vl) (xs ++ ys) long)) (subst (IsNumbered 0) cut (l.numbered k klt)));
+      spaced = λ k klt.
+        let vl = (link_plan_at plan.links k).id.0 in
+        let gap = bag_micros (link_plan_at plan.links k).bag in
+        subst (IsSpaced gap None) (sym (link_side net vl xs))
+        (spaced_side net gap None (link_stream vl xs) (link_stream vl ys) (subst (IsSpaced gap None) (filter-append (on_link vl) xs ys) (l.spaced k klt)));
+    }
+
+legal_keeps : (plan : Plan) (accepted : Accepted) (net : Net) (stands : Bool) (h H : List Entry) → Keeps net stands h H → IsLogLegal plan accepted H → IsLegalOn plan accepted net h
+legal_keeps plan accepted net stands h H k l =
+    subst (IsLegalOn plan accepted net) (sym k.front)
+        (legal_front plan accepted net (take (length h) H) (drop (length h) H) (subst (IsLogLegal plan accepted) (sym (take-append-drop (length h) H)) l))
+
+twins_of : (H : List Entry) (lines : Lines) → Mirrors H lines → AreTwins lines.a lines.b
+twins_of H lines m =
+    let w = m.first.within in
+    let v = m.second.within in
+    record {
+      b_shorter = λ le.
+        let full : length lines.a ≡ length H = ⊎_elim (λ e. e) (λ e. omega arith) m.one in
+        let a : lines.a ≡ H = all_of A lines.a H m.first.front full ∙ m.for_a in
+        m.second.front ∙ ap (λ (x : List Entry). map (side B) (take (length lines.b) x)) (sym a);
+      a_shorter = λ le.
+        let full : length lines.b ≡ length H = ⊎_elim (λ e. omega arith) (λ e. e) m.one in
+        let b : lines.b ≡ map (side B) H = all_of B lines.b H m.second.front full in
+        m.first.front ∙ sym (ap (λ (x : List Entry). map (side A) (take (length lines.a) x)) b ∙ ap (map (side A)) (take-map (side B) (length lines.a) H) ∙ sides A B (take (length lines.a) H));
+    }
+
+-- What is legal of the log is legal of the two lists.
+pub legal_of : (plan : Plan) (accepted : Accepted) (lines : Lines) → IsMirrored lines → IsLogLegal plan accepted (log lines) → IsLegal plan accepted lines.a lines.b
+legal_of plan accepted lines m l =
+    record {
+      on_a = legal_keeps plan accepted A lines.a_stands lines.a (log lines) m.first l;
+      on_b = legal_keeps plan accepted B lines.b_stands lines.b (log lines) m.second l;
+      twins = twins_of (log lines) lines m;
+    }

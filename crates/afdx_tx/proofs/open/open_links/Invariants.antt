@@ -1,0 +1,5 @@
+use Rattle.afdx_tx.specs.Emitter.{AreFreshLinks}
+use Rattle.afdx_tx.proofs.open.open_links.Given as goal
+
+abbrev pub invariant-loop-plan : goal.invariant-loop-plan
+invariant-loop-plan l = AreFreshLinks l.config l.links.items l.plan-index

@@ -1,0 +1,34 @@
+//! Which queue a port's messages join.
+ghost use Rattle.std.specs.Prelude.{◌≡◌, ◌<◌, length};
+ghost use Rattle.afdx_config.specs.Config.{HasLink, link_plan_at};
+ghost use Rattle.afdx_config.specs.Plan.{SendsOver};
+ghost use Rattle.afdx_tx.specs.Sending.{link_of, length_refusal};
+
+use crate::fault::Refusal;
+use afdx_config::{Config, PortPlan};
+
+/// Why a port doesn't take a message of so many bytes, whatever its queue holds.
+pub fn length_refusal(port: &PortPlan, size: usize) -> Option<Refusal>
+    ensures { result ≡ length_refusal port.now size }
+{
+    if size == 0 {
+        return Some(Refusal::Empty);
+    }
+    if size > port.max {
+        return Some(Refusal::TooLong);
+    }
+    None
+}
+
+/// The place of a port's link in the configuration.
+pub fn link_of(config: &Config, port: &PortPlan) -> usize
+    requires { HasLink config.now.links port.now }
+    ensures value { result ≡ link_of config.now port.now }
+    ensures within { result < length config.now.links }
+    ensures id { (link_plan_at config.now.links result).id ≡ port.now.vl }
+{
+    match config.link_index(port.vl) {
+        Some(place) => place,
+        None => unreachable!(),
+    }
+}
