@@ -128,15 +128,25 @@ fn counts_to(asked: &mut u64, fails_at: Option<u64>) -> bool
     }
 }
 
-/// Keeps a frame at the end, in place, where memory suffices. Whether it does.
+/// Keeps a frame at the end, where memory suffices. Whether it does. The frame is filled where it
+/// stands, and not moved there.
 fn keep(handed: &mut Vec<Handed>, at: u64, frame: &[u8]) -> bool
     requires { length frame.now ≤ 1514 }
-    ensures kept { result ≡ true → entries handed.new.items ≡ entries handed.old.items ++ entry at frame.now ∷ [] }
+    ensures kept { result ≡ true →
+        entries handed.new.items ≡ entries handed.old.items ++ entry at frame.now ∷ [] }
     ensures same { result ≡ false → entries handed.new.items ≡ entries handed.old.items }
 {
-    let mut kept = Frame::new();
-    if kept.try_extend_from_slice(frame).is_err() {
+    let end = handed.len();
+    let empty = Handed {
+        at,
+        frame: Frame::new(),
+    };
+    if handed.push(empty).is_err() {
+        return false;
+    }
+    let kept = &mut handed[end];
+    if kept.frame.try_extend_from_slice(frame).is_err() {
         unreachable!();
     }
-    handed.push(Handed { at, frame: kept }).is_ok()
+    true
 }

@@ -59,7 +59,8 @@ fn hand_twin<B: Network + Drop>(
 ) -> bool
     requires short { length frame.now ≤ 1514 }
     requires few { B.failures network.old + 1 < 2 ^ 64 }
-    ensures taken { result ≡ true → B.handed network.new ≡ B.handed network.old ++ entry at (twin_of ForB frame.now) ∷ [] }
+    ensures taken { result ≡ true →
+        B.handed network.new ≡ B.handed network.old ++ entry at (twin_of ForB frame.now) ∷ [] }
     ensures same { result ≡ true → B.failures network.new ≡ B.failures network.old }
     ensures refused { result ≡ false → B.handed network.new ≡ B.handed network.old }
     ensures failed { result ≡ false → B.failures network.new ≡ B.failures network.old + 1 }
