@@ -1,5 +1,5 @@
 //! A network in memory.
-ghost use Rattle.std.specs.Prelude.{◌≡◌, ◌≢◌, ℕ, ◌+◌, ◌^◌, ◌<◌, ◌≤◌, List, [], ◌∷◌, ◌++◌, None, Some, true, false, length, OnOk, OnErr, map};
+ghost use Rattle.std.specs.Prelude.{◌≡◌, ◌≢◌, ℕ, ◌+◌, ◌^◌, ◌<◌, ◌≤◌, List, [], ◌∷◌, ◌++◌, None, Some, true, false, length, OnOk, OnErr, IsErr, min, map};
 ghost use Rattle.redundant_mux.specs.Entry.{entry};
 ghost use Rattle.redundant_mux.specs.Memory.{entries};
 
@@ -41,7 +41,7 @@ impl Model for MemNetwork {
 impl MemNetwork {
     ghost use Rattle.redundant_mux.specs.Memory.{Memory, entries};
 
-    /// A network that was handed nothing, and fails only where memory is refused.
+    /// A network that was handed nothing. A hand fails only where memory was refused.
     pub fn new(alloc: Global) -> MemNetwork
         ensures { result ≡ record { handed = []; failures = 0; asked = 0; fails_at = None } }
     {
@@ -50,6 +50,19 @@ impl MemNetwork {
             failures: 0,
             asked: 0,
             fails_at: None,
+        }
+    }
+
+    /// As `new`, but the hand numbered `k`, counted from 1, fails. The hands after it are taken
+    /// again: to give a network up is its caller's part.
+    pub fn failing_at(alloc: Global, k: u64) -> MemNetwork
+        ensures { result ≡ record { handed = []; failures = 0; asked = 0; fails_at = Some k } }
+    {
+        MemNetwork {
+            handed: Vec::new(alloc),
+            failures: 0,
+            asked: 0,
+            fails_at: Some(k),
         }
     }
 
@@ -75,9 +88,24 @@ impl Network for MemNetwork {
 
     ghost failures = { λ m. m.failures };
 
-    fn hand(&mut self, at: u64, frame: &[u8]) -> Result<(), HandFault> {
-        self.asked = self.asked.wrapping_add(1);
-        if self.fails_at == Some(self.asked) || !keep(&mut self.handed, at, frame) {
+    /// Keeps the frame and its moment at the end of the list. The hand that is to fail does, and so
+    /// does one for which memory is refused. After an error the list is as it was, the failure is
+    /// counted, and the next hand is tried like any other. The count of hands stays at the greatest
+    /// u64, and no later hand is the one that is to fail.
+    fn hand(&mut self, at: u64, frame: &[u8]) -> Result<(), HandFault>
+        requires short { length frame.now ≤ 1514 }
+        requires few { self.old.failures + 1 < 2 ^ 64 }
+        ensures ok { OnOk result (self.new.handed ≡ self.old.handed ++ entry at frame.now ∷ []) }
+        ensures ok_failures { OnOk result (self.new.failures ≡ self.old.failures) }
+        ensures err { OnErr result (self.new.handed ≡ self.old.handed) }
+        ensures err_failures { OnErr result (self.new.failures ≡ self.old.failures + 1) }
+
+        ensures fails { self.old.fails_at ≡ Some (self.old.asked + 1) → IsErr result }
+        ensures asked { self.new.asked ≡ min (self.old.asked + 1) u64.MAX }
+        ensures fails_at { self.new.fails_at ≡ self.old.fails_at }
+    {
+        let is_to_fail = counts_to(&mut self.asked, self.fails_at);
+        if is_to_fail || !keep(&mut self.handed, at, frame) {
             self.failures += 1;
             return Err(HandFault);
         }
@@ -85,15 +113,40 @@ impl Network for MemNetwork {
     }
 }
 
-/// Keeps a frame at the end, in place, where memory suffices. Whether it does.
+/// Counts a hand, up to the greatest u64. Whether it is the one that is to fail.
+fn counts_to(asked: &mut u64, fails_at: Option<u64>) -> bool
+    ensures fails { fails_at ≡ Some (asked.old + 1) → result ≡ true }
+    ensures other { fails_at ≢ Some (asked.old + 1) → result ≡ false }
+    ensures asked { asked.new ≡ min (asked.old + 1) u64.MAX }
+{
+    match asked.checked_add(1) {
+        Some(number) => {
+            *asked = number;
+            fails_at == Some(number)
+        }
+        None => false,
+    }
+}
+
+/// Keeps a frame at the end, where memory suffices. Whether it does. The frame is filled where it
+/// stands, and not moved there.
 fn keep(handed: &mut Vec<Handed>, at: u64, frame: &[u8]) -> bool
     requires { length frame.now ≤ 1514 }
-    ensures kept { result ≡ true → entries handed.new.items ≡ entries handed.old.items ++ entry at frame.now ∷ [] }
+    ensures kept { result ≡ true →
+        entries handed.new.items ≡ entries handed.old.items ++ entry at frame.now ∷ [] }
     ensures same { result ≡ false → entries handed.new.items ≡ entries handed.old.items }
 {
-    let mut kept = Frame::new();
-    if kept.try_extend_from_slice(frame).is_err() {
+    let end = handed.len();
+    let empty = Handed {
+        at,
+        frame: Frame::new(),
+    };
+    if handed.push(empty).is_err() {
+        return false;
+    }
+    let kept = &mut handed[end];
+    if kept.frame.try_extend_from_slice(frame).is_err() {
         unreachable!();
     }
-    handed.push(Handed { at, frame: kept }).is_ok()
+    true
 }

@@ -46,10 +46,13 @@ impl<A: Network + Drop, B: Network + Drop> Model for Mux<A, B> {
       b_stands = m.standing.b;
     } };
 
-    ghost invariant = { λ m. (m.standing.a ≡ true → A.failures m.a ≡ 0) × (m.standing.b ≡ true → B.failures m.b ≡ 0) };
+    ghost invariant = { λ m.
+        (m.standing.a ≡ true → A.failures m.a ≡ 0)
+        × (m.standing.b ≡ true → B.failures m.b ≡ 0) };
 }
 
-/// Hands a network the twin for B of a frame for A, which is made in a buffer. Whether it was taken.
+/// Hands a network the twin for B of a frame for A, which is made in a buffer. Whether it was
+/// taken.
 #[inline(always)]
 fn hand_twin<B: Network + Drop>(
     network: &mut B,
@@ -59,7 +62,8 @@ fn hand_twin<B: Network + Drop>(
 ) -> bool
     requires short { length frame.now ≤ 1514 }
     requires few { B.failures network.old + 1 < 2 ^ 64 }
-    ensures taken { result ≡ true → B.handed network.new ≡ B.handed network.old ++ entry at (twin_of ForB frame.now) ∷ [] }
+    ensures taken { result ≡ true →
+        B.handed network.new ≡ B.handed network.old ++ entry at (twin_of ForB frame.now) ∷ [] }
     ensures same { result ≡ true → B.failures network.new ≡ B.failures network.old }
     ensures refused { result ≡ false → B.handed network.new ≡ B.handed network.old }
     ensures failed { result ≡ false → B.failures network.new ≡ B.failures network.old + 1 }
@@ -125,9 +129,11 @@ impl<A: Network + Drop, B: Network + Drop> Mux<A, B> {
         requires { twin_of ForA frame.now.items ≡ frame.now.items }
         ensures down { IsErr result ↔ ((self.old.a_stands ≡ false) × (self.old.b_stands ≡ false)) }
         ensures err { OnErr result (self.new ≡ self.old) }
-        ensures a { Handing (entry at (twin_of ForA frame.now.items)) self.old.a_stands self.new.a_stands
+        ensures a { Handing (entry at (twin_of ForA frame.now.items))
+            self.old.a_stands self.new.a_stands
             self.old.a self.new.a self.old.a_failures self.new.a_failures }
-        ensures b { Handing (entry at (twin_of ForB frame.now.items)) self.old.b_stands self.new.b_stands
+        ensures b { Handing (entry at (twin_of ForB frame.now.items))
+            self.old.b_stands self.new.b_stands
             self.old.b self.new.b self.old.b_failures self.new.b_failures }
         ensures a_stands { IfOk result (λ standing. standing.a ≡ self.new.a_stands) }
         ensures b_stands { IfOk result (λ standing. standing.b ≡ self.new.b_stands) }

@@ -1,5 +1,5 @@
 -- The regulation of a virtual link.
-use Rattle.std.specs.Prelude.{ℕ, ◌≡◌, ◌+◌, ◌-◌, ◌%◌, ◌<◌, ◌≤◌, Bool, true, false, nat_le, Option, Some, None}
+use Rattle.std.specs.Prelude.{ℕ, ◌+◌, ◌-◌, ◌%◌, ◌<◌, ◌≤◌, Bool, true, nat_le, Option, Some, None}
 use Rattle.vl_shaper.specs.declared.shaper.Stamp.{Stamp}
 
 -- a link's gap in microseconds, its number of sub-VLs, its last release, and the next sequence number

@@ -5,5 +5,4 @@ ghost use Rattle.vl_shaper.specs.Choices.{OneEach};
 /// each other sub-VL is chosen at most once.
 pub fn one_each()
     ensures { OneEach }
-{
-}
+{}

@@ -5,3 +5,6 @@ pub mod laws;
 mod shaper;
 
 pub use shaper::{Shaper, Stamp};
+
+#[cfg(test)]
+mod tests;

@@ -30,7 +30,12 @@ impl Model for Shaper {
 
     ghost Value = { Pace };
 
-    ghost view = { λ s. record { gap = s.gap; sub_vls = s.sub_vls; last = s.last; next = s.number } };
+    ghost view = { λ s. record {
+      gap = s.gap;
+      sub_vls = s.sub_vls;
+      last = s.last;
+      next = s.number;
+    } };
 
     ghost invariant = { λ s. IsShaped s.gap s.sub_vls s.last };
 }
@@ -41,7 +46,12 @@ impl Shaper {
     pub fn new(bag: Bag, sub_vls: u8) -> Shaper
         requires some { 1 ≤ sub_vls }
         requires few { sub_vls ≤ 4 }
-        ensures { result ≡ record { gap = bag_micros bag; sub_vls = sub_vls; last = None; next = sequence_number 0 } }
+        ensures { result ≡ record {
+          gap = bag_micros bag;
+          sub_vls = sub_vls;
+          last = None;
+          next = sequence_number 0;
+        } }
     {
         Shaper {
             gap: bag.micros(),
@@ -72,13 +82,14 @@ impl Shaper {
         }
     }
 
-    /// The sub-VL that is asked as number `k`, from 0: cyclic order behind the one served last. Each
-    /// sub-VL has one turn.
+    /// The sub-VL that is asked as number `k`, from 0: cyclic order behind the one served last.
+    /// Each sub-VL has one turn.
     pub fn turn(&self, k: u8) -> u8
         requires { k < self.now.sub_vls }
         ensures turn { result ≡ turn_of self.now.sub_vls self.now.last k }
         ensures below { result < self.now.sub_vls }
-        ensures apart { (j : ℕ) → j < self.now.sub_vls → turn_of self.now.sub_vls self.now.last j ≡ result → j ≡ k }
+        ensures apart { (j : ℕ) → j < self.now.sub_vls →
+            turn_of self.now.sub_vls self.now.last j ≡ result → j ≡ k }
     {
         match self.last {
             None => k,
@@ -93,7 +104,8 @@ impl Shaper {
         requires due { is_due self.old.gap self.old.last now ≡ true }
         requires sub { sub < self.old.sub_vls }
         ensures number { result ≡ self.old.next }
-        ensures next { (i : ℕ) → self.old.next ≡ sequence_number i → self.new.next ≡ sequence_number (i + 1) }
+        ensures next { (i : ℕ) →
+            self.old.next ≡ sequence_number i → self.new.next ≡ sequence_number (i + 1) }
         ensures last { self.new.last ≡ Some (record { at = now; sub = sub }) }
         ensures gap { self.new.gap ≡ self.old.gap }
         ensures sub_vls { self.new.sub_vls ≡ self.old.sub_vls }
