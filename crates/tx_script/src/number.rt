@@ -38,7 +38,8 @@ fn has_digits_alone(word: &[u8]) -> bool
 
 // The number with one more digit at its end, where it fits.
 fn with_digit(value: u64, digit: u8) -> Option<u64>
-    ensures { MatchOption result (2 ^ 64 ≤ value * 10 + (digit - 48)) (λ v. v ≡ value * 10 + (digit - 48)) }
+    ensures { let next = value * 10 + (digit - 48) in
+        MatchOption result (2 ^ 64 ≤ next) (λ sum. sum ≡ next) }
 {
     let tens = value.checked_mul(10)?;
     tens.checked_add(u64::from(digit.saturating_sub(b'0')))

@@ -1,0 +1,39 @@
+-- The words of a command, and what single words of it write.
+use Rattle.std.specs.Prelude.{codes, ℕ, Bool, ◌==◌, if◌then◌else◌, List, [], ◌∷◌, slice_index, Option, Some, None, Result, Ok, Err}
+use Rattle.std.specs.Str.{bytes_eq}
+use Rattle.hex.specs.Hex.{decode_of}
+use Rattle.tx_script.specs.Words.{words_of}
+
+-- no words where the first one begins with a number sign (35)
+abbrev pub without_note : List (List ℕ) → List (List ℕ)
+without_note [] = []
+without_note (w ∷ ws) = if slice_index w 0 == 35 then [] else w ∷ ws
+
+-- the words of a line's command: none at a blank line and at a note
+abbrev pub command_of : List ℕ → List (List ℕ)
+command_of line = without_note (words_of line)
+
+-- the word `send`
+unfoldable pub is_send : List ℕ → Bool
+is_send word = bytes_eq word (codes "send")
+
+-- the word `at`
+unfoldable pub is_at : List ℕ → Bool
+is_at word = bytes_eq word (codes "at")
+
+-- the greatest identifier of a port
+abbrev pub last_port : ℕ
+last_port = 65535
+
+-- the greatest moment, in microseconds
+abbrev pub last_moment : ℕ
+last_moment = 18446744073709551615
+
+-- the bytes of a text that was decoded
+abbrev pub decoded : {E : Type 0} → Result (List ℕ) E → Option (List ℕ)
+decoded (Ok bytes) = Some bytes
+decoded (Err e) = None
+
+-- the message that a word writes: a hyphen, or hexadecimal digits of either case
+unfoldable pub message_of : List ℕ → Option (List ℕ)
+message_of word = if bytes_eq word (codes "-") then Some [] else decoded (decode_of word)

@@ -1,0 +1,6 @@
+use std::test::Fail;
+
+#[test]
+fn nothing(rt: HostRuntime) -> Result<(), Fail> {
+    Ok(())
+}
