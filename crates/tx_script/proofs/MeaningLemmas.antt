@@ -1,15 +1,12 @@
 -- The faults of a line, by its words.
-use Rattle.std.proofs.Common.{◌≡◌, ℕ, ◌+◌, ◌<◌, ◌≤◌, Bool, true, false, not, cond, List, [], ◌∷◌, length, get_or, refl, ap, sym, ◌∙◌, arith, Option, Some, None, nat_lt, subst}
-use Rattle.std.specs.Prelude.{MatchOption, is_none}
+use Rattle.std.proofs.Common.{◌≡◌, ℕ, true, List, [], ◌∷◌, length, refl, arith, Some, None, nat_lt}
 use Rattle.std.proofs.lemmas.Bool.Decides.{nat_tests}
 use Rattle.tx_script.specs.Numbers.{number_of}
 use Rattle.tx_script.specs.Command.{message_of, last_port, last_moment}
 use Rattle.tx_script.specs.Faults.{send_fault, at_fault}
 use Rattle.tx_script.specs.Meaning.{IsSaidSend, IsSaidAt}
-use Rattle.tx_script.specs.declared.line.Line.{Line}
-use Rattle.tx_script.specs.declared.line.Line.TheVariants.{Send, At, Nothing}
-use Rattle.tx_script.specs.declared.line_fault.LineFault.{LineFault}
-use Rattle.tx_script.specs.declared.line_fault.LineFault.TheVariants.{Word, Number, Hex, Extra, Long, Memory}
+use Rattle.tx_script.specs.declared.line.Line.TheVariants.{Send, At}
+use Rattle.tx_script.specs.declared.line_fault.LineFault.TheVariants.{Word, Number, Hex, Extra}
 
 -- the words behind `send`
 pub send_none : (ws : List (List ℕ)) → ws ≡ [] → send_fault ws ≡ Some Word

@@ -1,8 +1,8 @@
 -- Digits that follow make a number no smaller.
-use Rattle.std.proofs.Common.{◌≡◌, ℕ, ◌+◌, ◌-◌, ◌*◌, ◌≤◌, ◌<◌, List, [], ◌∷◌, length, get_or, drop, arith, rules, Bool, true, false, ◌^◌, refl, ap}
+use Rattle.std.proofs.Common.{◌≡◌, ℕ, ◌+◌, ◌-◌, ◌*◌, ◌≤◌, ◌<◌, List, [], ◌∷◌, length, get_or, drop, arith, true, false, refl}
 use Rattle.std.proofs.lemmas.List.{drop_more, drop_all}
 use Rattle.std.proofs.lemmas.Bool.Decides.{nat_tests}
-use Rattle.std.specs.Prelude.{nat_le, Option, Some, None, cond}
+use Rattle.std.specs.Prelude.{nat_le, Some, None}
 use Rattle.std.proofs.lemmas.Bool.{le-leb}
 use Rattle.tx_script.specs.Numbers.{read_on, number_of, is_numeral}
 

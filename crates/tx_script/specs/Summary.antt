@@ -1,5 +1,5 @@
 -- What is counted of the lines of a run.
-use Rattle.std.specs.Prelude.{ℕ, ◌+◌, ◌≤◌, ⊤}
+use Rattle.std.specs.Prelude.{◌+◌, ◌≤◌, ⊤}
 use Rattle.tx_script.specs.declared.outcome.Outcome.{Outcome}
 use Rattle.tx_script.specs.declared.outcome.Outcome.TheVariants.{Quiet, Accepted, Refused, Released}
 use Rattle.tx_script.specs.declared.summary.Summary.{Summary as Sums}

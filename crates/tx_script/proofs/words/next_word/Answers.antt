@@ -1,6 +1,5 @@
 use Rattle.std.proofs.lemmas.Bool.Decides.{nat_tests}
-use Rattle.std.proofs.Common.{◌≡◌, ◌≤◌, ◌<◌, ◌++◌, ℕ, List, [], length, take, drop, get_or, arith, sym, ◌∙◌, true, false, subst, ap}
-use Rattle.tx_script.specs.Words.{is_blank, words_of}
+use Rattle.std.proofs.Common.{arith}
 use Rattle.tx_script.proofs.WordLemmas.{next_none, next_some}
 use Rattle.tx_script.proofs.words.next_word.Goals as goal
 
