@@ -35,3 +35,6 @@ number_none most w is h = rw (is, leb_no (read_on 0 w) most h) refl
 -- at the end the number is whole
 pub read_on_end : (n : ℕ) (w : List ℕ) (i : ℕ) → length w ≤ i → read_on n (drop i w) ≡ n
 read_on_end n w i h = rw (drop_all i w h)
+
+-- what `number` needs of them
+pub ruleset number_rules = (number_none, number_some, too_great)

@@ -2,6 +2,7 @@
 use Rattle.std.specs.Prelude.{codes, ℕ, Bool, ◌==◌, if◌then◌else◌, List, [], ◌∷◌, slice_index, Option, Some, None, Result, Ok, Err}
 use Rattle.std.specs.Str.{bytes_eq}
 use Rattle.hex.specs.Hex.{decode_of}
+use Rattle.tx_script.specs.Numbers.{number_of}
 use Rattle.tx_script.specs.Words.{words_of}
 
 -- no words where the first one begins with a number sign (35)
@@ -21,13 +22,13 @@ is_send word = bytes_eq word (codes "send")
 unfoldable pub is_at : List ℕ → Bool
 is_at word = bytes_eq word (codes "at")
 
--- the greatest identifier of a port
-abbrev pub last_port : ℕ
-last_port = 65535
+-- the port that a word names, by its identifier
+abbrev pub port_of : List ℕ → Option ℕ
+port_of word = number_of 65535 word
 
--- the greatest moment, in microseconds
-abbrev pub last_moment : ℕ
-last_moment = 18446744073709551615
+-- the moment that a word names, in microseconds
+abbrev pub moment_of : List ℕ → Option ℕ
+moment_of word = number_of 18446744073709551615 word
 
 -- the bytes of a text that was decoded
 abbrev pub decoded : {E : Type 0} → Result (List ℕ) E → Option (List ℕ)

@@ -1,8 +1,7 @@
 -- The faults of a line.
 use Rattle.std.specs.Prelude.{◌≡◌, ℕ, ◌<◌, Bool, true, false, ◌&&◌, nat_lt, if◌then◌else◌, ◌+◌, is_none, List, [], ◌∷◌, length, Option, Some, None}
 use Rattle.std.specs.Option.{option_map_or}
-use Rattle.tx_script.specs.Command.{command_of, is_send, is_at, last_port, last_moment, message_of}
-use Rattle.tx_script.specs.Numbers.{number_of}
+use Rattle.tx_script.specs.Command.{command_of, is_send, is_at, port_of, moment_of, message_of}
 use Rattle.tx_script.specs.declared.lines.TheConstants.{LINE_LIMIT}
 use Rattle.tx_script.specs.declared.line_fault.LineFault.{LineFault}
 use Rattle.tx_script.specs.declared.line_fault.LineFault.TheVariants.{Word, Number, Hex, Extra, Long, Memory}
@@ -28,7 +27,7 @@ lacks_word (w ∷ ws) = option_map_or (λ n. nat_lt (length ws + 1) n) (form_len
 -- a port or a moment that is no number in its range
 abbrev pub has_bad_number : List (List ℕ) → Bool
 has_bad_number (w ∷ n ∷ ws) =
-    if is_send w then is_none (number_of last_port n) else is_at w && is_none (number_of last_moment n)
+    if is_send w then is_none (port_of n) else is_at w && is_none (moment_of n)
 has_bad_number _ = false
 
 -- a message that is not hexadecimal
@@ -62,7 +61,8 @@ rank Memory = 5
 -- a line has this fault, and none that is told before it
 abbrev pub IsFirstFault : List ℕ → LineFault → Type 0
 IsFirstFault line fault =
-    (has_fault fault line ≡ true) × ((other : LineFault) → rank other < rank fault → has_fault other line ≡ false)
+    (has_fault fault line ≡ true)
+    × ((other : LineFault) → rank other < rank fault → has_fault other line ≡ false)
 
 -- a line has no fault
 abbrev pub IsFaultless : List ℕ → Type 0
@@ -71,7 +71,7 @@ IsFaultless line = (fault : LineFault) → has_fault fault line ≡ false
 -- the first fault of the words behind `send`
 abbrev pub send_fault : List (List ℕ) → Option LineFault
 send_fault (n ∷ h ∷ ws) =
-    if is_none (number_of last_port n) then Some Number
+    if is_none (port_of n) then Some Number
     else if is_none (message_of h) then Some Hex
     else if nat_lt 0 (length ws) then Some Extra
     else None
@@ -80,7 +80,7 @@ send_fault _ = Some Word
 -- the first fault of the words behind `at`
 abbrev pub at_fault : List (List ℕ) → Option LineFault
 at_fault (n ∷ ws) =
-    if is_none (number_of last_moment n) then Some Number
+    if is_none (moment_of n) then Some Number
     else if nat_lt 0 (length ws) then Some Extra
     else None
 at_fault _ = Some Word

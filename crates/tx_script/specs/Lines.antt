@@ -20,7 +20,9 @@ has_feed (x ∷ xs) = if x == 10 then true else has_feed xs
 -- the bytes without a carriage return (13) at their end
 abbrev pub without_return : List ℕ → List ℕ
 without_return xs =
-    if nat_lt 0 (length xs) && (slice_index xs (length xs - 1) == 13) then take (length xs - 1) xs else xs
+    if nat_lt 0 (length xs) && (slice_index xs (length xs - 1) == 13)
+    then take (length xs - 1) xs
+    else xs
 
 -- the first line without its end, which is a line feed or a carriage return and a line feed
 abbrev pub first_line : List ℕ → List ℕ

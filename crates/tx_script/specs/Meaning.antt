@@ -1,18 +1,19 @@
 -- What a line says that has no fault.
-use Rattle.std.specs.Prelude.{◌≡◌, ℕ, if◌then◌else◌, List, [], ◌∷◌, get_or, unwrap_or, None}
-use Rattle.tx_script.specs.Command.{command_of, is_send, is_at, last_port, last_moment, message_of}
+use Rattle.std.specs.Prelude.{◌≡◌, ℕ, if◌then◌else◌, List, [], ◌∷◌, unwrap_or, None}
+use Rattle.tx_script.specs.Command.{command_of, is_send, is_at, port_of, moment_of, message_of}
 use Rattle.tx_script.specs.Faults.{send_fault, at_fault}
-use Rattle.tx_script.specs.Numbers.{number_of}
 use Rattle.tx_script.specs.declared.line.Line.{Line}
 use Rattle.tx_script.specs.declared.line.Line.TheVariants.{Send, At, Nothing}
 
 -- what the words behind `send` say
 abbrev pub said_send : List (List ℕ) → Line
-said_send ws = Send (unwrap_or (number_of last_port (get_or ws 0 [])) 0) (unwrap_or (message_of (get_or ws 1 [])) [])
+said_send (p ∷ m ∷ ws) = Send (unwrap_or (port_of p) 0) (unwrap_or (message_of m) [])
+said_send _ = Nothing
 
 -- what the words behind `at` say
 abbrev pub said_at : List (List ℕ) → Line
-said_at ws = At (unwrap_or (number_of last_moment (get_or ws 0 [])) 0)
+said_at (t ∷ ws) = At (unwrap_or (moment_of t) 0)
+said_at _ = Nothing
 
 -- what the words of a command say
 abbrev pub said_by : List (List ℕ) → Line

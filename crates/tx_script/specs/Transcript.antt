@@ -32,9 +32,11 @@ abbrev pub net_name : Net → List ℕ
 net_name A = codes "A"
 net_name B = codes "B"
 
--- the line of a frame: the network, the moment in microseconds, and the frame in lower case hexadecimal
+-- the line of a frame: the network, the moment in microseconds, and the frame in lower case
+-- hexadecimal
 abbrev pub frame_line : Net → Entry → List ℕ
-frame_line net e = net_name net ++ codes " " ++ decimal e.at ++ codes " " ++ encode_lower e.frame ++ 10 ∷ []
+frame_line net e =
+    net_name net ++ codes " " ++ decimal e.at ++ codes " " ++ encode_lower e.frame ++ 10 ∷ []
 
 -- the lines of the frames of a network
 unfoldable pub frame_lines : Net → List Entry → List ℕ

@@ -8,8 +8,8 @@ use std::marker::Model;
 
 const BUFFER_SIZE: usize = 4096;
 
-/// The bytes of a reader, which is asked for 4,096 at a time. Contracts see the bytes that are left,
-/// where those are known.
+/// The bytes of a reader, which is asked for 4,096 at a time. Contracts see the bytes that are
+/// left, where those are known.
 #[derive(Drop)]
 pub struct Bytes<R: Read + Drop> {
     reader: R,

@@ -9,7 +9,8 @@ use crate::run_fault::RunFault;
 use std::io;
 use std::io::Write;
 
-/// Writes the note on a line, counted from 1: a line of text where it was refused, and else nothing.
+/// Writes the note on a line, counted from 1: a line of text where it was refused, and nothing
+/// where it was not.
 #[tactic(auto, unfolding(crate::specs::Transcript::note_of))]
 pub fn write_note<W: Write>(writer: &mut W, line: u64, outcome: Outcome) -> Result<(), RunFault>
     ensures ok { OnOk result (Appends (W.contents writer.old) (W.contents writer.new)

@@ -5,7 +5,7 @@ ghost use Rattle.std.specs.List.{list_all};
 ghost use Rattle.tx_script.specs.Numbers.{number_of, is_numeral as is_numeral_text};
 
 /// The number that a word writes in decimal digits alone, where it is at most the greatest.
-#[tactic(auto, using(crate::proofs::NumberLemmas::number_none, crate::proofs::NumberLemmas::number_some, crate::proofs::NumberLemmas::too_great), unfolding(crate::specs::Numbers::number_of))]
+#[tactic(auto, using(crate::proofs::NumberLemmas::number_rules), unfolding(crate::specs::Numbers::number_of))]
 pub fn number(word: &[u8], most: u64) -> Option<u64>
     ensures value { result ≡ number_of most word.now }
     ensures most { IfSome result (λ n. n ≤ most) }

@@ -60,7 +60,7 @@ fn is_at(word: &[u8]) -> bool
 }
 
 // What the words behind `send` say.
-#[tactic(auto, using(crate::proofs::MeaningLemmas::send_none, crate::proofs::MeaningLemmas::send_one, crate::proofs::MeaningLemmas::send_number, crate::proofs::MeaningLemmas::send_hex, crate::proofs::MeaningLemmas::send_extra, crate::proofs::MeaningLemmas::send_ok))]
+#[tactic(auto, using(crate::proofs::MeaningLemmas::send_rules))]
 fn read_send(alloc: Global, rest: &[u8]) -> Result<Line, LineFault>
     ensures ok { IfOk result (IsSaidSend (words_of rest.now)) }
     ensures fault { IfErr result (λ fault.
@@ -105,7 +105,7 @@ fn message(alloc: Global, word: &[u8]) -> Result<Message, LineFault>
 }
 
 // What the words behind `at` say.
-#[tactic(auto, using(crate::proofs::MeaningLemmas::at_none, crate::proofs::MeaningLemmas::at_number, crate::proofs::MeaningLemmas::at_extra, crate::proofs::MeaningLemmas::at_ok))]
+#[tactic(auto, using(crate::proofs::MeaningLemmas::at_rules))]
 fn read_at(rest: &[u8]) -> Result<Line, LineFault>
     ensures ok { IfOk result (IsSaidAt (words_of rest.now)) }
     ensures fault { IfErr result (λ fault. at_fault (words_of rest.now) ≡ Some fault) }
