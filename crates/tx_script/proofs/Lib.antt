@@ -1,0 +1,5 @@
+mod FrameLemmas
+mod LineLemmas
+mod MeaningLemmas
+mod NumberLemmas
+mod WordLemmas

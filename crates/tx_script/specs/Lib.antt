@@ -1,0 +1,8 @@
+pub mod Command
+pub mod Faults
+pub mod Lines
+pub mod Meaning
+pub mod Numbers
+pub mod Summary
+pub mod Transcript
+pub mod Words

@@ -1,0 +1,48 @@
+-- The texts of a transcript.
+use Rattle.std.specs.Prelude.{codes, ℕ, List, [], ◌∷◌, ◌++◌}
+use Rattle.std.specs.Fmt.{decimal}
+use Rattle.afdx_frame.specs.declared.net.Net.{Net}
+use Rattle.afdx_frame.specs.declared.net.Net.TheVariants.{A, B}
+use Rattle.hex.specs.Hex.{encode_lower}
+use Rattle.redundant_mux.specs.Entry.{Entry}
+use Rattle.tx_script.specs.declared.outcome.Outcome.{Outcome}
+use Rattle.tx_script.specs.declared.outcome.Outcome.TheVariants.{Refused}
+use Rattle.tx_script.specs.declared.refusal.Refusal.{Refusal}
+use Rattle.tx_script.specs.declared.refusal.Refusal.TheVariants.{Empty, TooLong, Full, NoPort, TimeBack}
+
+-- a refusal's name
+abbrev pub name_of : Refusal → List ℕ
+name_of Empty = codes "Empty"
+name_of TooLong = codes "TooLong"
+name_of Full = codes "Full"
+name_of NoPort = codes "NoPort"
+name_of TimeBack = codes "TimeBack"
+
+-- the note on a line that was refused
+abbrev pub refused_note : ℕ → List ℕ → List ℕ
+refused_note line name = codes "line " ++ decimal line ++ codes ": refused " ++ name ++ 10 ∷ []
+
+-- what is written of a line when it was run
+unfoldable pub note_of : ℕ → Outcome → List ℕ
+note_of line (Refused refusal) = refused_note line (name_of refusal)
+note_of line _ = []
+
+-- a network's name
+abbrev pub net_name : Net → List ℕ
+net_name A = codes "A"
+net_name B = codes "B"
+
+-- the line of a frame: the network, the moment in microseconds, and the frame in lower case
+-- hexadecimal
+abbrev pub frame_line : Net → Entry → List ℕ
+frame_line net e =
+    net_name net ++ codes " " ++ decimal e.at ++ codes " " ++ encode_lower e.frame ++ 10 ∷ []
+
+-- the lines of the frames of a network
+unfoldable pub frame_lines : Net → List Entry → List ℕ
+frame_lines net [] = []
+frame_lines net (e ∷ es) = frame_line net e ++ frame_lines net es
+
+-- the lines of A, and then those of B
+abbrev pub streams : List Entry → List Entry → List ℕ
+streams a b = frame_lines A a ++ frame_lines B b

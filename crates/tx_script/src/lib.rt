@@ -1,0 +1,27 @@
+//! Scripts of an end system: their lines, what each line says, and the transcript of a run.
+#![tactic(auto)]
+
+mod bytes;
+mod frames;
+mod line;
+mod line_fault;
+mod lines;
+mod message;
+mod notes;
+mod number;
+mod outcome;
+mod reading;
+mod refusal;
+mod run_fault;
+mod summary;
+mod words;
+
+pub use line::Line;
+pub use line_fault::LineFault;
+pub use message::Message;
+pub use reading::read_line;
+pub use run_fault::RunFault;
+pub use summary::Summary;
+
+#[cfg(test)]
+mod tests;

@@ -1,0 +1,41 @@
+//! The message of a `send` line.
+ghost use Rattle.std.specs.Prelude.{◌≡◌};
+
+use std::marker::Model;
+
+/// The bytes of a message. Contracts see them as a list.
+#[derive(Debug, Drop)]
+pub struct Message {
+    bytes: Vec<u8>,
+}
+
+impl Model for Message {
+    ghost use Rattle.std.specs.Prelude.{ℕ, List};
+
+    ghost Value = { List ℕ };
+
+    ghost view = { λ m. m.bytes.items };
+}
+
+impl Message {
+    /// The message of some bytes.
+    pub fn new(bytes: Vec<u8>) -> Message
+        ensures { result ≡ bytes.items }
+    {
+        Message { bytes }
+    }
+
+    /// Its bytes.
+    pub fn as_slice(&self) -> &[u8]
+        ensures { result.now ≡ self.now }
+    {
+        &self.bytes
+    }
+
+    /// Its bytes, by value.
+    pub fn into_vec(self) -> Vec<u8>
+        ensures { result.items ≡ self }
+    {
+        self.bytes
+    }
+}

@@ -1,0 +1,33 @@
+//! Writing the notes of a transcript.
+ghost use Rattle.std.specs.Prelude.{◌≡◌, IfErr, OnOk};
+ghost use Rattle.std.specs.Io.KnownBytes.{Appends};
+ghost use Rattle.tx_script.specs.Transcript.{name_of, note_of, refused_note};
+
+use crate::outcome::Outcome;
+use crate::refusal::Refusal;
+use crate::run_fault::RunFault;
+use std::io;
+use std::io::Write;
+
+/// Writes the note on a line, counted from 1: a line of text where it was refused, and nothing
+/// where it was not.
+#[tactic(auto, unfolding(crate::specs::Transcript::note_of))]
+pub fn write_note<W: Write>(writer: &mut W, line: u64, outcome: Outcome) -> Result<(), RunFault>
+    ensures ok { OnOk result (Appends (W.contents writer.old) (W.contents writer.new)
+        (note_of line outcome)) }
+    ensures err { IfErr result (λ fault. fault ≡ RunFault.Write) }
+{
+    let written = match outcome {
+        Outcome::Refused(refusal) => write_refused(writer, line, refusal),
+        _ => writer.write_all(b""),
+    };
+    written.map_err(|_| RunFault::Write)
+}
+
+fn write_refused<W: Write>(writer: &mut W, line: u64, refusal: Refusal) -> io::Result<()>
+    ensures { OnOk result (Appends (W.contents writer.old) (W.contents writer.new)
+        (refused_note line (name_of refusal))) }
+{
+    let name = refusal.name();
+    writeln!(writer, "line {line}: refused {name}")
+}

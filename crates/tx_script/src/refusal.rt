@@ -1,0 +1,33 @@
+//! The refusals of a line.
+ghost use Rattle.std.specs.Prelude.{◌≡◌};
+ghost use Rattle.tx_script.specs.Transcript.{name_of};
+
+/// Why a line was refused while running.
+#[derive(Clone, Copy, Debug, PartialEq, Eq)]
+pub enum Refusal {
+    /// The message has no bytes.
+    Empty,
+    /// The message is longer than the port's greatest.
+    TooLong,
+    /// The port's queue is full.
+    Full,
+    /// No port has this identifier.
+    NoPort,
+    /// The moment lies before the last one.
+    TimeBack,
+}
+
+impl Refusal {
+    /// Its name, as a transcript has it.
+    pub fn name(self) -> &'static str
+        ensures { result.now ≡ name_of self }
+    {
+        match self {
+            Refusal::Empty => "Empty",
+            Refusal::TooLong => "TooLong",
+            Refusal::Full => "Full",
+            Refusal::NoPort => "NoPort",
+            Refusal::TimeBack => "TimeBack",
+        }
+    }
+}
