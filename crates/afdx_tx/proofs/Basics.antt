@@ -41,7 +41,7 @@ unfolding fragments_at cutting
 fragments_some of place sent =
     let size : 8 + length sent.bytes ≡ suc (7 + length sent.bytes) = omega arith in
     let lengths : cut_by (8 + length sent.bytes) (room_of of.link.lmax) (8 + length sent.bytes) ≢ [] =
-        subst (λ (n : ℕ). cut_by n (room_of of.link.lmax) (8 + length sent.bytes) ≢ []) (sym size) (cut_some (7 + length sent.bytes) (room_of of.link.lmax) (8 + length sent.bytes)) in
+    subst (λ (n : ℕ). cut_by n (room_of of.link.lmax) (8 + length sent.bytes) ≢ []) (sym size) (cut_some (7 + length sent.bytes) (room_of of.link.lmax) (8 + length sent.bytes)) in
     λ none. pieces_some 0 _ lengths (map_nil _ _ none)
 
 -- none of two holds

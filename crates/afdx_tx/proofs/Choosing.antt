@@ -14,9 +14,9 @@ met f zero s = inr (λ j lt e. absurd (omega arith))
 met f (suc k) s = ⊎_elim
     (λ h. let lt : h.0 < k = h.1 in inl (h.0, (omega arith), h.2))
     (λ h. ⊎_elim
-        (λ (e : f k ≡ s). inl (k, (omega arith), e))
-        (λ (ne : f k ≢ s). inr (λ j lt e. ⊎_elim (λ (l : j < k). h j l e) (λ (g : k ≤ j). let q : j ≡ k = omega arith in ne (ap f (sym q) ∙ e)) (cases_lt j k)))
-        (cases_eq (f k) s))
+    (λ (e : f k ≡ s). inl (k, (omega arith), e))
+    (λ (ne : f k ≢ s). inr (λ j lt e. ⊎_elim (λ (l : j < k). h j l e) (λ (g : k ≤ j). let q : j ≡ k = omega arith in ne (ap f (sym q) ∙ e)) (cases_lt j k)))
+    (cases_eq (f k) s))
     (met f k s)
 
 -- one more that was asked
@@ -31,17 +31,17 @@ passed_more pace old new k d h p apart kl lt a =
     record {
       count = length-set new (turn_of pace.sub_vls pace.last k) h ∙ p.count;
       before = λ j jl. ⊎_elim
-        (λ (l : j < k).
-            let ne : turn_of pace.sub_vls pace.last j ≢ turn_of pace.sub_vls pace.last k = λ e. let q : j ≡ k = apart j (omega arith) e in absurd (omega arith) in
-            subst (λ (x : Held). Asks false (held_at old (turn_of pace.sub_vls pace.last j)) x) (sym (get_or-set_other new (turn_of pace.sub_vls pace.last k) (turn_of pace.sub_vls pace.last j) h nothing_held ne)) (p.before j l))
-        (λ (g : k ≤ j).
-            let q : j ≡ k = omega arith in
-            subst (λ (i : ℕ). Asks false (held_at old (turn_of pace.sub_vls pace.last i)) (held_at (set new (turn_of pace.sub_vls pace.last k) h) (turn_of pace.sub_vls pace.last i))) (sym q)
-                (subst (λ (x : Held). Asks false (held_at old (turn_of pace.sub_vls pace.last k)) x) (sym (held_same new (turn_of pace.sub_vls pace.last k) h lt)) asked))
-        (cases_lt j k);
+          (λ (l : j < k).
+          let ne : turn_of pace.sub_vls pace.last j ≢ turn_of pace.sub_vls pace.last k = λ e. let q : j ≡ k = apart j (omega arith) e in absurd (omega arith) in
+          subst (λ (x : Held). Asks false (held_at old (turn_of pace.sub_vls pace.last j)) x) (sym (get_or-set_other new (turn_of pace.sub_vls pace.last k) (turn_of pace.sub_vls pace.last j) h nothing_held ne)) (p.before j l))
+          (λ (g : k ≤ j).
+          let q : j ≡ k = omega arith in
+          subst (λ (i : ℕ). Asks false (held_at old (turn_of pace.sub_vls pace.last i)) (held_at (set new (turn_of pace.sub_vls pace.last k) h) (turn_of pace.sub_vls pace.last i))) (sym q)
+          (subst (λ (x : Held). Asks false (held_at old (turn_of pace.sub_vls pace.last k)) x) (sym (held_same new (turn_of pace.sub_vls pace.last k) h lt)) asked))
+          (cases_lt j k);
       others = λ s not.
-        let ne : s ≢ turn_of pace.sub_vls pace.last k = λ e. not k (omega arith) (sym e) in
-        get_or-set_other new (turn_of pace.sub_vls pace.last k) s h nothing_held ne ∙ p.others s (λ j jl. not j (omega arith));
+          let ne : s ≢ turn_of pace.sub_vls pace.last k = λ e. not k (omega arith) (sym e) in
+          get_or-set_other new (turn_of pace.sub_vls pace.last k) s h nothing_held ne ∙ p.others s (λ j jl. not j (omega arith));
     }
 
 -- the one that was asked now has something
@@ -60,11 +60,11 @@ chosen_now pace old new k d h p apart kl lt a =
       below = omega (arith, p.count);
       asked = subst (λ (x : Held). Asks true (held_at old (turn_of pace.sub_vls pace.last k)) x) (sym (held_same new (turn_of pace.sub_vls pace.last k) h lt)) asked;
       before = λ j jl.
-        let ne : turn_of pace.sub_vls pace.last j ≢ turn_of pace.sub_vls pace.last k = λ e. let q : j ≡ k = apart j (omega arith) e in absurd (omega arith) in
-        subst (λ (x : Held). Asks false (held_at old (turn_of pace.sub_vls pace.last j)) x) (sym (get_or-set_other new (turn_of pace.sub_vls pace.last k) (turn_of pace.sub_vls pace.last j) h nothing_held ne)) (p.before j jl);
+          let ne : turn_of pace.sub_vls pace.last j ≢ turn_of pace.sub_vls pace.last k = λ e. let q : j ≡ k = apart j (omega arith) e in absurd (omega arith) in
+          subst (λ (x : Held). Asks false (held_at old (turn_of pace.sub_vls pace.last j)) x) (sym (get_or-set_other new (turn_of pace.sub_vls pace.last k) (turn_of pace.sub_vls pace.last j) h nothing_held ne)) (p.before j jl);
       others = λ s not.
-        let ne : s ≢ turn_of pace.sub_vls pace.last k = λ e. not k (omega arith) (sym e) in
-        get_or-set_other new (turn_of pace.sub_vls pace.last k) s h nothing_held ne ∙ p.others s (λ j jl. not j (omega arith));
+          let ne : s ≢ turn_of pace.sub_vls pace.last k = λ e. not k (omega arith) (sym e) in
+          get_or-set_other new (turn_of pace.sub_vls pace.last k) s h nothing_held ne ∙ p.others s (λ j jl. not j (omega arith));
     }
 
 -- a sub-VL was asked, or is as it was
@@ -81,9 +81,9 @@ pub moves_chosen : (pace : Pace) (old : List Held) (sub : ℕ) (new : List Held)
 moves_chosen pace old sub new c s = ⊎_elim
     (λ h. inl (subst (λ (i : ℕ). Asks false (held_at old i) (held_at new i)) h.2 (c.before h.0 h.1)))
     (λ h. ⊎_elim
-        (λ (e : s ≡ sub). inr (inl (subst (λ (i : ℕ). Asks true (held_at old i) (held_at new i)) (sym e) c.asked)))
-        (λ (ne : s ≢ sub). inr (inr (c.others s (λ j jl e. ⊎_elim (λ (l : j < c.turn). h j l e) (λ (g : c.turn ≤ j). let q : j ≡ c.turn = omega arith in ne (sym e ∙ ap (turn_of pace.sub_vls pace.last) q ∙ sym c.is)) (cases_lt j c.turn)))))
-        (cases_eq s sub))
+    (λ (e : s ≡ sub). inr (inl (subst (λ (i : ℕ). Asks true (held_at old i) (held_at new i)) (sym e) c.asked)))
+    (λ (ne : s ≢ sub). inr (inr (c.others s (λ j jl e. ⊎_elim (λ (l : j < c.turn). h j l e) (λ (g : c.turn ≤ j). let q : j ≡ c.turn = omega arith in ne (sym e ∙ ap (turn_of pace.sub_vls pace.last) q ∙ sym c.is)) (cases_lt j c.turn)))))
+    (cases_eq s sub))
     (met (turn_of pace.sub_vls pace.last) c.turn s)
 
 pub passed_sub : (pace : Pace) (old new : List Held) (k sub : ℕ) (d h : Held) (b : Bool) → sub ≡ turn_of pace.sub_vls pace.last k → b ≡ false → PassedOver pace old new k

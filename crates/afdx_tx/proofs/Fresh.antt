@@ -1,6 +1,7 @@
 -- An emitter of which nothing was asked yet.
-use Rattle.std.proofs.Common.{ℕ, zero, suc, ◌≡◌, ◌≢◌, ◌⊎◌, ◌+◌, ◌<◌, ◌≤◌, List, [], ◌∷◌, ◌++◌, Bool, true, false, cond, length, map, get_or, arith, refl, ap, ◌∙◌, sym, subst, inl, inr, None}
-use Rattle.std.proofs.lemmas.List.{ext_get_or}
+use Rattle.std.proofs.Common.{ℕ, zero, suc, ◌≡◌, ◌≢◌, ◌⊎◌, ◌+◌, ◌<◌, ◌≤◌, List, [], ◌∷◌, ◌++◌, Bool, true, false, cond, length, map, get_or, arith, refl, ap, ◌∙◌, sym, subst, inl, inr, ⊎_elim, Option, None}
+use Rattle.std.proofs.lemmas.List.{ext_get_or, length-append, get_or_append_left, get_or_push}
+use Rattle.std.proofs.lemmas.Bool.{cases_lt}
 use Rattle.afdx_config.specs.declared.LinkPlan.{LinkPlan}
 use Rattle.afdx_config.specs.Config.{Plan, IsPlan, link_plan_at}
 use Rattle.afdx_config.specs.Plan.{bag_micros}
@@ -13,10 +14,104 @@ use Rattle.vl_shaper.specs.Pace.{Pace, IsLater}
 use Rattle.vl_shaper.specs.declared.shaper.Stamp.{Stamp}
 use Rattle.afdx_tx.specs.Streams.{link_stream, IsSpaced, IsNumbered}
 use Rattle.afdx_tx.specs.Legal.{AreKnown}
-use Rattle.afdx_tx.specs.Links.{Held, LinkState, link_at, held_at, no_link_plan, IsLink, pace_of}
+use Rattle.afdx_tx.specs.Links.{Held, LinkState, link_at, no_link, held_at, no_link_plan, IsLink, pace_of}
 use Rattle.afdx_tx.specs.Emitter.{Tx, fresh_held, IsFreshLink, AreFreshLinks, AreLinksOf, plan_of, plans, IsSound, IsKept, AreInStep, IsLinkInStep, IsTied, none_accepted}
 use Rattle.afdx_tx.proofs.Turns.{plan_at_is, plans_length}
 
 -- the lines of two networks that were handed nothing
-pub abbrev fresh_lines : Lines
+abbrev pub fresh_lines : Lines
 fresh_lines = record { a = []; b = []; a_failures = 0; b_failures = 0; a_stands = true; b_stands = true }
+
+pub fresh_log : log fresh_lines ≡ []
+unfolding log
+fresh_log = refl
+
+fresh_keeps : (net : Net) → Keeps net true [] []
+fresh_keeps net = record { within = omega arith; front = refl; all = λ e. refl }
+
+fresh_mirrors : Mirrors [] fresh_lines
+fresh_mirrors = record { first = fresh_keeps A; second = fresh_keeps B; for_a = refl; one = inl refl }
+
+-- the sub-VLs of a fresh link are those of its plan
+fresh_own : (own : ℕ) (plan : LinkPlan) (link : LinkState) → IsFreshLink own plan link → IsLink link.end_system link.plan link.pace link.subs
+fresh_own own plan link f =
+    let pace = f.pace in
+    let many : link.pace.sub_vls ≡ plan.sub_vls = ap (λ (p : Pace). p.sub_vls) pace in
+    record {
+      count = f.subs.count ∙ sym many;
+      sub_vls = many ∙ ap (λ (p : LinkPlan). p.sub_vls) (sym f.plan);
+      gap = ap (λ (p : Pace). p.gap) pace ∙ ap (λ (p : LinkPlan). bag_micros p.bag) (sym f.plan);
+      named = λ s lt. let below : s < plan.sub_vls = omega (arith, f.subs.count) in
+          ap (λ (h : Held). h.of) (f.subs.each s below)
+          ∙ ap (λ (e : ℕ). record { end_system = e; link = plan; sub = s }) (sym f.end_system)
+          ∙ ap (λ (p : LinkPlan). record { end_system = link.end_system; link = p; sub = s }) (sym f.plan);
+    }
+
+fresh_kept : (own : ℕ) (plan : LinkPlan) (link : LinkState) → IsFreshLink own plan link → IsKept link []
+fresh_kept own plan link f =
+    record {
+      numbered = tt;
+      spaced = tt;
+      paced = λ _.
+          f.pace
+          ∙ ap (λ (g : ℕ). record { gap = g; sub_vls = plan.sub_vls; last = None; next = sequence_number 0 }) (sym (ap (λ (p : Pace). p.gap) f.pace))
+          ∙ ap (λ (n : ℕ). record { gap = link.pace.gap; sub_vls = n; last = None; next = sequence_number 0 }) (sym (ap (λ (p : Pace). p.sub_vls) f.pace));
+    }
+
+fresh_later : (pace : Pace) → pace.last ≡ None → IsLater pace.last 0
+fresh_later pace e = subst (λ (last : Option Stamp). IsLater last 0) (sym e) tt
+
+fresh_plans : (config : Plan) (links : List LinkState) → AreFreshLinks config links (length config.links) → plans links ≡ config.links
+fresh_plans config links f = ext_get_or no_link_plan (plans links) config.links (plans_length links ∙ f.count)
+    (λ k lt. let here : k < length links = omega (arith, plans_length links) in
+    let there : k < length config.links = omega (arith, f.count) in
+    plan_at_is links k here ∙ (f.each k there).plan)
+
+fresh_of : (config : Plan) (links : List LinkState) → AreFreshLinks config links (length config.links) → AreLinksOf config links
+fresh_of config links f =
+    record {
+      each_plan = fresh_plans config links f;
+      end_system = λ k lt. (f.each k (omega (arith, f.count))).end_system;
+      each = λ k lt. fresh_own config.end_system (link_plan_at config.links k) (link_at links k) (f.each k (omega (arith, f.count)));
+    }
+
+pub fresh_sound : (config : Plan) (links : List LinkState) → IsPlan config → AreFreshLinks config links (length config.links) → IsSound config links fresh_lines 0
+fresh_sound config links valid f =
+    record {
+      valid = valid;
+      of_plan = fresh_of config links f;
+      kept = λ k lt. subst (IsKept (link_at links k)) (sym fresh_log) (fresh_kept config.end_system (link_plan_at config.links k) (link_at links k) (f.each k (omega (arith, f.count))));
+      later = λ k lt. fresh_later (link_at links k).pace (ap (λ (p : Pace). p.last) (f.each k (omega (arith, f.count))).pace);
+      mirrored = subst (λ (H : List Entry). Mirrors H fresh_lines) (sym fresh_log) fresh_mirrors;
+      known = subst (AreKnown config.links A) (sym fresh_log) tt;
+      whole = λ _ k lt. (f.each k (omega (arith, f.count))).lost;
+    }
+
+fresh_tied : (held : Held) → held.left ≡ [] → held.place ≡ 0 → held.waiting ≡ [] → IsTied held [] []
+fresh_tied held left place waiting =
+    record { taken = 0; within = omega arith; place = place; rest = sym waiting; sent = sym left }
+
+pub fresh_step : (config : Plan) (links : List LinkState) → AreFreshLinks config links (length config.links) → AreInStep none_accepted links (log fresh_lines)
+fresh_step config links f k lt =
+    let fresh = f.each k (omega (arith, f.count)) in
+    subst (IsLinkInStep (none_accepted k) (link_at links k)) (sym fresh_log) (record {
+      prefixes = λ s slt. ([], refl);
+      tied = λ _ s slt.
+          let below : s < (link_plan_at config.links k).sub_vls = subst (λ (p : LinkPlan). s < p.sub_vls) fresh.plan slt in
+          let held = fresh.subs.each s below in
+          fresh_tied (held_at (link_at links k).subs s) (ap (λ (h : Held). h.left) held) (ap (λ (h : Held). h.place) held) (ap (λ (h : Held). h.waiting) held);
+    })
+
+-- one fresh link more
+pub fresh_push : (config : Plan) (links : List LinkState) (n : ℕ) (new : LinkState) → AreFreshLinks config links n → IsFreshLink config.end_system (link_plan_at config.links n) new → AreFreshLinks config (links ++ new ∷ []) (n + 1)
+fresh_push config links n new f fresh =
+    record {
+      count = let size = f.count in omega (arith, length-append links (new ∷ []));
+      each = λ k lt. ⊎_elim
+          (λ (below : k < n). subst (IsFreshLink config.end_system (link_plan_at config.links k)) (sym (get_or_append_left links (new ∷ []) no_link k (let size = f.count in omega arith))) (f.each k below))
+          (λ (last : n ≤ k).
+          let e : k ≡ n = omega arith in
+          subst (λ (j : ℕ). IsFreshLink config.end_system (link_plan_at config.links j) (link_at (links ++ new ∷ []) j)) (sym e)
+          (subst (IsFreshLink config.end_system (link_plan_at config.links n)) (sym (get_or_push links new no_link n f.count)) fresh))
+          (cases_lt k n);
+    }

@@ -69,15 +69,16 @@ spaced_side net gap before (x ∷ xs) ys h =
 known_side : (links : List LinkPlan) (net : Net) (xs ys : List Entry) → AreKnown links A (xs ++ ys) → AreKnown links net (map (side net) xs)
 known_side links net [] ys h = tt
 known_side links net (x ∷ xs) ys h = (
-    record {
-      size = omega (arith, length-twin net x.frame, h.0.size);
-      k = h.0.k;
-      within = h.0.within;
-      link = twin_link net x.frame ∙ h.0.link;
-      of_sub = omega (arith, twin_sub net x.frame, h.0.of_sub);
-      interface = twin_interface net x.frame h.0.size;
-    },
-    known_side links net xs ys h.1)
+  record {
+    size = omega (arith, length-twin net x.frame, h.0.size);
+    k = h.0.k;
+    within = h.0.within;
+    link = twin_link net x.frame ∙ h.0.link;
+    of_sub = omega (arith, twin_sub net x.frame, h.0.of_sub);
+    interface = twin_interface net x.frame h.0.size;
+  },
+  known_side links net xs ys h.1,
+)
 
 -- what is legal of the log
 pub record IsLogLegal (plan : Plan) (accepted : Accepted) (H : List Entry) : Type 0 where
@@ -94,16 +95,16 @@ prefix_side net vl s end_system room messages xs ys p =
     let T = sub_stream s (link_stream vl xs) in
     let U = sub_stream s (link_stream vl ys) in
     let cut : sub_stream s (link_stream vl (xs ++ ys)) ≡ sub_stream s (link_stream vl xs) ++ sub_stream s (link_stream vl ys) =
-        ap (sub_stream s) (filter-append (on_link vl) xs ys) ∙ filter-append (on_sub s) _ _ in
+    ap (sub_stream s) (filter-append (on_link vl) xs ys) ∙ filter-append (on_sub s) _ _ in
     let whole : told T ++ (told U ++ p.0) ≡ fragments end_system room A messages =
-        sym (append_assoc (told T) (told U) p.0) ∙ ap (λ x. x ++ p.0) (sym (map-append (λ (e : Entry). blanked e.frame) T U) ∙ ap told (sym cut)) ∙ p.1 in
+    sym (append_assoc (told T) (told U) p.0) ∙ ap (λ x. x ++ p.0) (sym (map-append (λ (e : Entry). blanked e.frame) T U) ∙ ap told (sym cut)) ∙ p.1 in
     let mine : told (sub_stream s (link_stream vl (map (side net) xs))) ≡ map (twin_of net) (told T) =
-        ap (λ x. told (sub_stream s x)) (link_side net vl xs) ∙ ap told (sub_side net s (link_stream vl xs)) ∙ told_side net T in (
+    ap (λ x. told (sub_stream s x)) (link_side net vl xs) ∙ ap told (sub_side net s (link_stream vl xs)) ∙ told_side net T in (
       map (twin_of net) (told U ++ p.0),
       ap (λ x. x ++ map (twin_of net) (told U ++ p.0)) mine
-      ∙ sym (map-append (twin_of net) (told T) (told U ++ p.0))
-      ∙ ap (map (twin_of net)) whole
-      ∙ twin_fragments end_system room net A 0 messages,
+          ∙ sym (map-append (twin_of net) (told T) (told U ++ p.0))
+          ∙ ap (map (twin_of net)) whole
+          ∙ twin_fragments end_system room net A 0 messages,
     )
 
 -- the log is legal, and so are the twins of its front
@@ -114,21 +115,21 @@ legal_front plan accepted net xs ys l =
       known = known_side plan.links net xs ys l.known;
       prefixes = λ k s klt slt. prefix_side net (link_plan_at plan.links k).id.0 s plan.end_system (room_of (link_plan_at plan.links k).lmax) (accepted k s) xs ys (l.prefixes k s klt slt);
       numbered = λ k klt.
-        let vl = (link_plan_at plan.links k).id.0 in
-        let cut = filter-append (on_link vl) xs ys in
-        subst (IsNumbered 0) (sym (link_side net vl xs))
-        (numbered_side net 0 (link_stream vl xs) (link_stream vl ys) (subst AreLong cut (filter_long (on_link vl) (xs ++ ys) long)) (subst (IsNumbered 0) cut (l.numbered k klt)));
+          let vl = (link_plan_at plan.links k).id.0 in
+          let cut = filter-append (on_link vl) xs ys in
+          subst (IsNumbered 0) (sym (link_side net vl xs))
+          (numbered_side net 0 (link_stream vl xs) (link_stream vl ys) (subst AreLong cut (filter_long (on_link vl) (xs ++ ys) long)) (subst (IsNumbered 0) cut (l.numbered k klt)));
       spaced = λ k klt.
-        let vl = (link_plan_at plan.links k).id.0 in
-        let gap = bag_micros (link_plan_at plan.links k).bag in
-        subst (IsSpaced gap None) (sym (link_side net vl xs))
-        (spaced_side net gap None (link_stream vl xs) (link_stream vl ys) (subst (IsSpaced gap None) (filter-append (on_link vl) xs ys) (l.spaced k klt)));
+          let vl = (link_plan_at plan.links k).id.0 in
+          let gap = bag_micros (link_plan_at plan.links k).bag in
+          subst (IsSpaced gap None) (sym (link_side net vl xs))
+          (spaced_side net gap None (link_stream vl xs) (link_stream vl ys) (subst (IsSpaced gap None) (filter-append (on_link vl) xs ys) (l.spaced k klt)));
     }
 
 legal_keeps : (plan : Plan) (accepted : Accepted) (net : Net) (stands : Bool) (h H : List Entry) → Keeps net stands h H → IsLogLegal plan accepted H → IsLegalOn plan accepted net h
 legal_keeps plan accepted net stands h H k l =
     subst (IsLegalOn plan accepted net) (sym k.front)
-        (legal_front plan accepted net (take (length h) H) (drop (length h) H) (subst (IsLogLegal plan accepted) (sym (take-append-drop (length h) H)) l))
+    (legal_front plan accepted net (take (length h) H) (drop (length h) H) (subst (IsLogLegal plan accepted) (sym (take-append-drop (length h) H)) l))
 
 twins_of : (H : List Entry) (lines : Lines) → Mirrors H lines → AreTwins lines.a lines.b
 twins_of H lines m =
@@ -136,13 +137,13 @@ twins_of H lines m =
     let v = m.second.within in
     record {
       b_shorter = λ le.
-        let full : length lines.a ≡ length H = ⊎_elim (λ e. e) (λ e. omega arith) m.one in
-        let a : lines.a ≡ H = all_of A lines.a H m.first.front full ∙ m.for_a in
-        m.second.front ∙ ap (λ (x : List Entry). map (side B) (take (length lines.b) x)) (sym a);
+          let full : length lines.a ≡ length H = ⊎_elim (λ e. e) (λ e. omega arith) m.one in
+          let a : lines.a ≡ H = all_of A lines.a H m.first.front full ∙ m.for_a in
+          m.second.front ∙ ap (λ (x : List Entry). map (side B) (take (length lines.b) x)) (sym a);
       a_shorter = λ le.
-        let full : length lines.b ≡ length H = ⊎_elim (λ e. omega arith) (λ e. e) m.one in
-        let b : lines.b ≡ map (side B) H = all_of B lines.b H m.second.front full in
-        m.first.front ∙ sym (ap (λ (x : List Entry). map (side A) (take (length lines.a) x)) b ∙ ap (map (side A)) (take-map (side B) (length lines.a) H) ∙ sides A B (take (length lines.a) H));
+          let full : length lines.b ≡ length H = ⊎_elim (λ e. omega arith) (λ e. e) m.one in
+          let b : lines.b ≡ map (side B) H = all_of B lines.b H m.second.front full in
+          m.first.front ∙ sym (ap (λ (x : List Entry). map (side A) (take (length lines.a) x)) b ∙ ap (map (side A)) (take-map (side B) (length lines.a) H) ∙ sides A B (take (length lines.a) H));
     }
 
 -- What is legal of the log is legal of the two lists.

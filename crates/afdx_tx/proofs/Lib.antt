@@ -8,3 +8,9 @@ pub mod Serve
 pub mod Turning
 pub mod Turns
 pub mod Told
+pub mod Legal
+pub mod Sound
+pub mod Fresh
+pub mod Routes
+pub mod Accepting
+pub mod Refusing

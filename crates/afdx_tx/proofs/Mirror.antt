@@ -94,11 +94,11 @@ pub log_is : (H : List Entry) (lines : Lines) → Mirrors H lines → log lines 
 unfolding log
 log_is H lines m = ⊎_elim
     (λ (lt : length lines.a < length lines.b).
-        let w = m.first.within in let v = m.second.within in let l : length lines.b ≡ length H = ⊎_elim (λ e. omega arith) (λ e. e) m.one in
-        ap (λ b. map (side A) (cond b lines.b lines.a)) (lt-ltb _ _ lt) ∙ ap (map (side A)) (all_of B _ H m.second.front l) ∙ sides A B H ∙ m.for_a)
+    let w = m.first.within in let v = m.second.within in let l : length lines.b ≡ length H = ⊎_elim (λ e. omega arith) (λ e. e) m.one in
+    ap (λ b. map (side A) (cond b lines.b lines.a)) (lt-ltb _ _ lt) ∙ ap (map (side A)) (all_of B _ H m.second.front l) ∙ sides A B H ∙ m.for_a)
     (λ (le : length lines.b ≤ length lines.a).
-        let w = m.first.within in let v = m.second.within in let l : length lines.a ≡ length H = ⊎_elim (λ e. e) (λ e. omega arith) m.one in
-        ap (λ b. map (side A) (cond b lines.b lines.a)) (le-ltb _ _ le) ∙ ap (map (side A)) (all_of A _ H m.first.front l) ∙ sides A A H ∙ m.for_a)
+    let w = m.first.within in let v = m.second.within in let l : length lines.a ≡ length H = ⊎_elim (λ e. e) (λ e. omega arith) m.one in
+    ap (λ b. map (side A) (cond b lines.b lines.a)) (le-ltb _ _ le) ∙ ap (map (side A)) (all_of A _ H m.first.front l) ∙ sides A A H ∙ m.for_a)
     (cases_lt (length lines.a) (length lines.b))
 
 -- what a hand leaves that some network took

@@ -26,8 +26,8 @@ pub moves_of : (old new : Held) → Moves old new → new.of ≡ old.of
 moves_of old new m = ⊎_elim
     (λ (p : Passes old new). ap (λ (h : Held). h.of) p.same)
     (λ m1. ⊎_elim
-        (λ a. ⊎_elim (λ (g : GoesOn old new). ap (λ (h : Held). h.of) g.same) (λ (s : Starts old new). s.of) a)
-        (λ (e : new ≡ old). ap (λ (h : Held). h.of) e) m1)
+    (λ a. ⊎_elim (λ (g : GoesOn old new). ap (λ (h : Held). h.of) g.same) (λ (s : Starts old new). s.of) a)
+    (λ (e : new ≡ old). ap (λ (h : Held). h.of) e) m1)
     m
 
 pub passed_same : (pace : Pace) (old new : List Held) (n : ℕ) → PassedOver pace old new n → AreSameSubs old new
@@ -38,11 +38,11 @@ chosen_same pace old sub new c s = moves_of (held_at old s) (held_at new s) (mov
 
 pub gives_of : (old new : Held) (frame : List ℕ) → old.left ≡ blanked frame ∷ new.left → new ≡ record old { left = new.left } → Gives old frame new
 gives_of old new frame next same = record {
-      next = next;
-      of = ap (λ (h : Held). h.of) same;
-      place = ap (λ (h : Held). h.place) same;
-      waiting = ap (λ (h : Held). h.waiting) same;
-    }
+  next = next;
+  of = ap (λ (h : Held). h.of) same;
+  place = ap (λ (h : Held). h.place) same;
+  waiting = ap (λ (h : Held). h.waiting) same;
+}
 
 -- a list whose rest begins with an element
 record Splits (xs : List Sent) (n : ℕ) (m : Sent) (rest : List Sent) : Type 0 where
@@ -87,9 +87,9 @@ prefix_of held accepted stream t =
     let rest = sub_fragments held.of (0 + length (take t.taken accepted)) (drop t.taken accepted) in (
       held.left ++ rest,
       sym (append_assoc (told stream) held.left rest)
-      ∙ ap (λ (x : List (List ℕ)). x ++ rest) (sym t.sent)
-      ∙ sym (fragments_append held.of 0 (take t.taken accepted) (drop t.taken accepted))
-      ∙ ap (sub_fragments held.of 0) (take-append-drop t.taken accepted),
+          ∙ ap (λ (x : List (List ℕ)). x ++ rest) (sym t.sent)
+          ∙ sym (fragments_append held.of 0 (take t.taken accepted) (drop t.taken accepted))
+          ∙ ap (sub_fragments held.of 0) (take-append-drop t.taken accepted),
     )
 
 tied_starts : (old new : Held) (accepted : List Sent) (stream : List Entry) → Starts old new → IsTied old accepted stream → IsTied new accepted stream
@@ -108,9 +108,9 @@ tied_starts old new accepted stream p t =
           ∙ ap (λ (x : List (List ℕ)). x ++ message_fragments old.of (length (take t.taken accepted)) p.message) (t.sent ∙ ap (λ (x : List (List ℕ)). told stream ++ x) p.whole ∙ append-nil (told stream))
           ∙ ap (λ (place : ℕ). told stream ++ message_fragments old.of place p.message) size
           ∙ ap (λ (x : List (List ℕ)). told stream ++ x)
-              (sym (fragments_again old.of.end_system (room_of old.of.link.lmax) A t.taken p.message)
-              ∙ ap (λ (place : ℕ). message_fragments old.of place p.message) (sym t.place)
-              ∙ sym p.left);
+          (sym (fragments_again old.of.end_system (room_of old.of.link.lmax) A t.taken p.message)
+          ∙ ap (λ (place : ℕ). message_fragments old.of place p.message) (sym t.place)
+          ∙ sym p.left);
     }
 
 -- a sub-VL that was asked is where its stream is
@@ -118,8 +118,8 @@ pub tied_moves : (old new : Held) (accepted : List Sent) (stream : List Entry) �
 tied_moves old new accepted stream m t = ⊎_elim
     (λ (p : Passes old new). subst (λ (h : Held). IsTied h accepted stream) (sym p.same) t)
     (λ m1. ⊎_elim
-        (λ a. ⊎_elim (λ (g : GoesOn old new). subst (λ (h : Held). IsTied h accepted stream) (sym g.same) t) (λ (p : Starts old new). tied_starts old new accepted stream p t) a)
-        (λ (e : new ≡ old). subst (λ (h : Held). IsTied h accepted stream) (sym e) t) m1)
+    (λ a. ⊎_elim (λ (g : GoesOn old new). subst (λ (h : Held). IsTied h accepted stream) (sym g.same) t) (λ (p : Starts old new). tied_starts old new accepted stream p t) a)
+    (λ (e : new ≡ old). subst (λ (h : Held). IsTied h accepted stream) (sym e) t) m1)
     m
 
 -- and so is one that gave its next frame
@@ -153,6 +153,7 @@ tied_waits held accepted stream sent t =
     drop_push xs zero h = refl
     drop_push [] (suc n) h = absurd (omega arith)
     drop_push (x ∷ xs) (suc n) h = drop_push xs n (omega arith)
+
     take_push : (xs : List Sent) (n : ℕ) → n ≤ length xs → take n (xs ++ sent ∷ []) ≡ take n xs
     take_push xs zero h = refl
     take_push [] (suc n) h = absurd (omega arith)

@@ -38,5 +38,5 @@ follows_more vl now number old_pace new_pace old new lines after before r own la
     let more : link_stream vl (log after) ≡ link_stream vl (log lines) ++ entry now r.frame ∷ [] = stream_more vl now number old new lines after r own in
     let stamp : stamp_of (entry now r.frame) ≡ record { at = now; sub = old.of.sub } = ap (λ (s : ℕ). record { at = now; sub = s }) r.of.of_sub in
     pace_is new_pace (link_stream vl (log after))
-        (last ∙ ap Some (sym stamp) ∙ sym (ap (latest None) more ∙ latest_push None (link_stream vl (log lines)) (entry now r.frame)))
-        (next (length (link_stream vl (log lines))) (ap (λ (x : Pace). x.next) before) ∙ ap sequence_number (sym (ap length more ∙ length_push _ _)))
+    (last ∙ ap Some (sym stamp) ∙ sym (ap (latest None) more ∙ latest_push None (link_stream vl (log lines)) (entry now r.frame)))
+    (next (length (link_stream vl (log lines))) (ap (λ (x : Pace). x.next) before) ∙ ap sequence_number (sym (ap length more ∙ length_push _ _)))

@@ -26,9 +26,9 @@ item_of pace plan old sub mid d c n =
 pub set_same : (pace : Pace) (old : List Held) (sub : ℕ) (mid : List Held) (d h : Held) → IsChoice pace old sub mid → h.of ≡ (get_or mid sub d).of → AreSameSubs old (set mid sub h)
 set_same pace old sub mid d h c e s = ⊎_elim
     (λ (q : s ≡ sub).
-        let here : (held_at (set mid sub h) sub).of ≡ (held_at old sub).of =
-            ap (λ (x : Held). x.of) (held_same mid sub h (omega (arith, c.count, c.below))) ∙ e ∙ ap (λ (x : Held). x.of) (item_is pace old sub mid d c) ∙ chosen_same pace old sub mid c sub in
-        subst (λ (i : ℕ). (held_at (set mid sub h) i).of ≡ (held_at old i).of) (sym q) here)
+    let here : (held_at (set mid sub h) sub).of ≡ (held_at old sub).of =
+    ap (λ (x : Held). x.of) (held_same mid sub h (omega (arith, c.count, c.below))) ∙ e ∙ ap (λ (x : Held). x.of) (item_is pace old sub mid d c) ∙ chosen_same pace old sub mid c sub in
+    subst (λ (i : ℕ). (held_at (set mid sub h) i).of ≡ (held_at old i).of) (sym q) here)
     (λ (ne : s ≢ sub). ap (λ (x : Held). x.of) (get_or-set_other mid sub s h nothing_held ne) ∙ chosen_same pace old sub mid c s)
     (cases_eq s sub)
 

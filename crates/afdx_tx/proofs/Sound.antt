@@ -28,10 +28,10 @@ served_still links before now le h = λ k lt. later_still _ before now le (h k l
 pub same_plans : (old new : List LinkState) → IsSamePlan old new → plans new ≡ plans old
 same_plans old new p =
     ext_get_or no_link_plan (plans new) (plans old) (plans_length new ∙ p.count ∙ sym (plans_length old))
-        (λ k lt.
-            let n : k < length new = omega (arith, plans_length new) in
-            let o : k < length old = omega (arith, p.count) in
-            plan_at_is new k n ∙ (p.each k o).plan ∙ sym (plan_at_is old k o))
+    (λ k lt.
+    let n : k < length new = omega (arith, plans_length new) in
+    let o : k < length old = omega (arith, p.count) in
+    plan_at_is new k n ∙ (p.each k o).plan ∙ sym (plan_at_is old k o))
 
 -- the plan of a link, read off the configuration
 pub plan_is : (config : Plan) (links : List LinkState) → AreLinksOf config links → (k : ℕ) → k < length links → link_plan_at config.links k ≡ (link_at links k).plan
@@ -47,7 +47,7 @@ links_apart config links valid of i j ilt jlt e =
     let il : i < length config.links = omega arith in
     let jl : j < length config.links = omega arith in
     valid.links_apart i j il jl
-        (ap (λ (p : LinkPlan). p.id) (plan_is config links of i ilt) ∙ e ∙ sym (ap (λ (p : LinkPlan). p.id) (plan_is config links of j jlt)))
+    (ap (λ (p : LinkPlan). p.id) (plan_is config links of i ilt) ∙ e ∙ sym (ap (λ (p : LinkPlan). p.id) (plan_is config links of j jlt)))
 
 links_after : (config : Plan) (old new : List LinkState) → AreLinksOf config old → IsSamePlan old new → AreLinks new → AreLinksOf config new
 links_after config old new of same each =
@@ -77,18 +77,18 @@ sound_legal config links lines moment accepted s step =
     legal_of config accepted lines s.mirrored (record {
       known = s.known;
       numbered = λ k klt.
-        let lt : k < length links = omega arith in
-        subst (λ (p : LinkPlan). IsNumbered 0 (link_stream p.id.0 (log lines))) (sym (plan_is config links of k lt)) (s.kept k lt).numbered;
+          let lt : k < length links = omega arith in
+          subst (λ (p : LinkPlan). IsNumbered 0 (link_stream p.id.0 (log lines))) (sym (plan_is config links of k lt)) (s.kept k lt).numbered;
       spaced = λ k klt.
-        let lt : k < length links = omega arith in
-        subst (λ (p : LinkPlan). IsSpaced (bag_micros p.bag) None (link_stream p.id.0 (log lines))) (sym (plan_is config links of k lt))
-            (subst (λ (g : ℕ). IsSpaced g None (link_stream (link_at links k).plan.id.0 (log lines))) (of.each k lt).gap (s.kept k lt).spaced);
+          let lt : k < length links = omega arith in
+          subst (λ (p : LinkPlan). IsSpaced (bag_micros p.bag) None (link_stream p.id.0 (log lines))) (sym (plan_is config links of k lt))
+          (subst (λ (g : ℕ). IsSpaced g None (link_stream (link_at links k).plan.id.0 (log lines))) (of.each k lt).gap (s.kept k lt).spaced);
       prefixes = λ k t klt tlt.
-        let lt : k < length links = omega arith in
-        let plan = plan_is config links of k lt in
-        let below : t < (link_at links k).plan.sub_vls = subst (λ (p : LinkPlan). t < p.sub_vls) plan tlt in
-        subst (λ (p : LinkPlan). IsPrefixOf (told_of p.id.0 t (log lines)) (fragments config.end_system (room_of p.lmax) A (accepted k t))) (sym plan)
-            (subst (λ (e : ℕ). IsPrefixOf (told_of (link_at links k).plan.id.0 t (log lines)) (fragments e (room_of (link_at links k).plan.lmax) A (accepted k t))) (of.end_system k lt) ((step k lt).prefixes t below));
+          let lt : k < length links = omega arith in
+          let plan = plan_is config links of k lt in
+          let below : t < (link_at links k).plan.sub_vls = subst (λ (p : LinkPlan). t < p.sub_vls) plan tlt in
+          subst (λ (p : LinkPlan). IsPrefixOf (told_of p.id.0 t (log lines)) (fragments config.end_system (room_of p.lmax) A (accepted k t))) (sym plan)
+          (subst (λ (e : ℕ). IsPrefixOf (told_of (link_at links k).plan.id.0 t (log lines)) (fragments e (room_of (link_at links k).plan.lmax) A (accepted k t))) (of.end_system k lt) ((step k lt).prefixes t below));
     })
 
 pub in_step_after : (config : Plan) (links : List LinkState) (lines : Lines) (moment : ℕ) (accepted : Accepted) → IsSound config links lines moment → AreInStep accepted links (log lines)

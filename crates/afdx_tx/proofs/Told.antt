@@ -23,9 +23,9 @@ told_more now (Released sub number) link new rs before lines after t own h =
     let of = picked_of link sub new.subs t.serves.2.picks own in
     let e : Entry = entry now r.frame in
     let same : release_of (entry now r.frame) ≡ record { vl = link.plan.id; sub = sub; number = number } =
-        ap (λ (x : ℕ). record { vl = record { 0 = x }; sub = sub_in r.frame; number = number_in r.frame }) (r.of.link ∙ ap (λ (o : SubVl). o.link.id.0) of)
-        ∙ ap (λ (x : ℕ). record { vl = link.plan.id; sub = x; number = number_in r.frame }) (r.of.of_sub ∙ ap (λ (o : SubVl). o.sub) of)
-        ∙ ap (λ (x : ℕ). record { vl = link.plan.id; sub = sub; number = x }) r.of.carries in
+    ap (λ (x : ℕ). record { vl = record { 0 = x }; sub = sub_in r.frame; number = number_in r.frame }) (r.of.link ∙ ap (λ (o : SubVl). o.link.id.0) of)
+    ∙ ap (λ (x : ℕ). record { vl = link.plan.id; sub = x; number = number_in r.frame }) (r.of.of_sub ∙ ap (λ (o : SubVl). o.sub) of)
+    ∙ ap (λ (x : ℕ). record { vl = link.plan.id; sub = sub; number = x }) r.of.carries in
     record {
       entries = h.entries ++ entry now r.frame ∷ [];
       grown = r.enters ∙ ap (λ (x : List Entry). x ++ entry now r.frame ∷ []) h.grown ∙ append_assoc (log before) h.entries (entry now r.frame ∷ []);

@@ -76,22 +76,22 @@ pub kept_turn : (now : ℕ) (did : Served) (link new : LinkState) (lines after :
 kept_turn now Nothing link new lines after t own k =
     let same : log lines ≡ log after = ap log (sym t.serves.1) in
     subst (IsKept new) same (kept_of link new (log lines) t.same k.numbered k.spaced
-        (λ _. subst (λ (H : List Entry). new.pace ≡ pace_of new.pace.gap new.pace.sub_vls (link_stream new.plan.id.0 H)) (sym same) t.paced))
+    (λ _. subst (λ (H : List Entry). new.pace ≡ pace_of new.pace.gap new.pace.sub_vls (link_stream new.plan.id.0 H)) (sym same) t.paced))
 kept_turn now (Released sub number) link new lines after t own k =
     let at = t.serves.2 in
     let more = (released_own now number link sub new.subs lines after at own).0 in
     let stream = link_stream link.plan.id.0 (log lines) in
     let paced : link.pace ≡ pace_of link.pace.gap link.pace.sub_vls (link_stream link.plan.id.0 (log lines)) = k.paced t.whole in
     let apart : IsApart link.pace.gap (latest None (link_stream link.plan.id.0 (log lines))) now =
-        subst (λ (o : Option Stamp). IsApart link.pace.gap o now) (ap (λ (x : Pace). x.last) paced) (due_apart link.pace.gap link.pace.last now t.later t.serves.0) in
+    subst (λ (o : Option Stamp). IsApart link.pace.gap o now) (ap (λ (x : Pace). x.last) paced) (due_apart link.pace.gap link.pace.last now t.later t.serves.0) in
     kept_of link new (log after) t.same
-        (subst (IsNumbered 0) (sym more) (numbered_push 0 stream (entry now at.releases.frame) k.numbered
-            (at.releases.of.carries ∙ t.serves.1 ∙ ap (λ (x : Pace). x.next) paced ∙ ap sequence_number (omega arith))))
-        (subst (IsSpaced link.pace.gap None) (sym more) (spaced_push link.pace.gap None stream (entry now at.releases.frame) k.spaced apart))
-        (λ _. t.paced)
+    (subst (IsNumbered 0) (sym more) (numbered_push 0 stream (entry now at.releases.frame) k.numbered
+    (at.releases.of.carries ∙ t.serves.1 ∙ ap (λ (x : Pace). x.next) paced ∙ ap sequence_number (omega arith))))
+    (subst (IsSpaced link.pace.gap None) (sym more) (spaced_push link.pace.gap None stream (entry now at.releases.frame) k.spaced apart))
+    (λ _. t.paced)
 kept_turn now Lost link new lines after t own k =
     subst (IsKept new) (sym t.serves.1.loses.same) (kept_of link new (log lines) t.same k.numbered k.spaced
-        (λ (f : new.lost ≡ false). absurd (let e : new.lost ≡ true = t.lost in cc)))
+    (λ (f : new.lost ≡ false). absurd (let e : new.lost ≡ true = t.lost in cc)))
 
 -- the link in step with its accepted lists, over a stream that is known by the plan before the turn
 step_of : (accepted : ℕ → List Sent) (link new : LinkState) (H : List Entry) → IsSameLink link new
@@ -130,7 +130,7 @@ pub step_turn : (accepted : ℕ → List Sent) (now : ℕ) (did : Served) (link 
     → IsLinkInStep accepted link (log lines) → IsLinkInStep accepted new (log after)
 step_turn accepted now Nothing link new lines after t own k =
     subst (IsLinkInStep accepted new) (ap log (sym t.serves.1)) (step_of accepted link new (log lines) t.same k.prefixes
-        (λ _ s lt. tied_moves (held_at link.subs s) (held_at new.subs s) (accepted s) _ (moves_nothing now link.pace link.subs new.subs lines after t.serves s) (k.tied t.whole s lt)))
+    (λ _ s lt. tied_moves (held_at link.subs s) (held_at new.subs s) (accepted s) _ (moves_nothing now link.pace link.subs new.subs lines after t.serves s) (k.tied t.whole s lt)))
 step_turn accepted now (Released sub number) link new lines after t own k =
     let at = t.serves.2 in
     let p = at.picks in
@@ -140,29 +140,29 @@ step_turn accepted now (Released sub number) link new lines after t own k =
     let more = both.0 in
     let mine : sub_in at.releases.frame ≡ sub = both.1 in
     let mid : (s : ℕ) → s < link.plan.sub_vls → IsTied (held_at p.mid s) (accepted s) (sub_stream s (link_stream link.plan.id.0 (log lines))) =
-        λ s lt. tied_moves (held_at link.subs s) (held_at p.mid s) (accepted s) _ (moves_chosen link.pace link.subs sub p.mid p.choice s) (k.tied t.whole s lt) in
+    λ s lt. tied_moves (held_at link.subs s) (held_at p.mid s) (accepted s) _ (moves_chosen link.pace link.subs sub p.mid p.choice s) (k.tied t.whole s lt) in
     let tied : (s : ℕ) → s < link.plan.sub_vls → IsTied (held_at new.subs s) (accepted s) (sub_stream s (link_stream link.plan.id.0 (log after))) = λ s lt. ⊎_elim
-        (λ (same : s ≡ sub).
-            let below : sub < link.plan.sub_vls = omega arith in
-            let T : sub_stream sub (link_stream link.plan.id.0 (log after)) ≡ sub_stream sub (link_stream link.plan.id.0 (log lines)) ++ entry now at.releases.frame ∷ [] =
-                ap (sub_stream sub) more ∙ filter_push_in (on_sub sub) stream (entry now frame) (eq-eqb _ _ mine) in
-            let gave : IsTied p.held (accepted sub) (sub_stream sub (link_stream link.plan.id.0 (log lines)) ++ entry now at.releases.frame ∷ []) =
-                tied_gave now frame (held_at p.mid sub) p.held (accepted sub) _ at.releases.gives (mid sub below) in
-            subst (λ (i : ℕ). IsTied (held_at new.subs i) (accepted i) (sub_stream i (link_stream link.plan.id.0 (log after)))) (sym same)
-                (subst (λ (x : Held). IsTied x (accepted sub) (sub_stream sub (link_stream link.plan.id.0 (log after)))) (sym (picked link.pace sub link.subs new.subs p))
-                    (subst (IsTied p.held (accepted sub)) (sym T) gave)))
-        (λ (ne : s ≢ sub).
-            let T : sub_stream s (link_stream link.plan.id.0 (log after)) ≡ sub_stream s (link_stream link.plan.id.0 (log lines)) =
-                ap (sub_stream s) more ∙ filter_push_out (on_sub s) stream (entry now frame) (ne_eqb _ _ (λ q. ne (sym q ∙ mine))) in
-            subst (λ (x : Held). IsTied x (accepted s) (sub_stream s (link_stream link.plan.id.0 (log after)))) (sym (not_picked link.pace sub link.subs new.subs p s ne))
-                (subst (IsTied (held_at p.mid s) (accepted s)) (sym T) (mid s lt)))
-        (cases_eq s sub) in
+    (λ (same : s ≡ sub).
+    let below : sub < link.plan.sub_vls = omega arith in
+    let T : sub_stream sub (link_stream link.plan.id.0 (log after)) ≡ sub_stream sub (link_stream link.plan.id.0 (log lines)) ++ entry now at.releases.frame ∷ [] =
+    ap (sub_stream sub) more ∙ filter_push_in (on_sub sub) stream (entry now frame) (eq-eqb _ _ mine) in
+    let gave : IsTied p.held (accepted sub) (sub_stream sub (link_stream link.plan.id.0 (log lines)) ++ entry now at.releases.frame ∷ []) =
+    tied_gave now frame (held_at p.mid sub) p.held (accepted sub) _ at.releases.gives (mid sub below) in
+    subst (λ (i : ℕ). IsTied (held_at new.subs i) (accepted i) (sub_stream i (link_stream link.plan.id.0 (log after)))) (sym same)
+    (subst (λ (x : Held). IsTied x (accepted sub) (sub_stream sub (link_stream link.plan.id.0 (log after)))) (sym (picked link.pace sub link.subs new.subs p))
+    (subst (IsTied p.held (accepted sub)) (sym T) gave)))
+    (λ (ne : s ≢ sub).
+    let T : sub_stream s (link_stream link.plan.id.0 (log after)) ≡ sub_stream s (link_stream link.plan.id.0 (log lines)) =
+    ap (sub_stream s) more ∙ filter_push_out (on_sub s) stream (entry now frame) (ne_eqb _ _ (λ q. ne (sym q ∙ mine))) in
+    subst (λ (x : Held). IsTied x (accepted s) (sub_stream s (link_stream link.plan.id.0 (log after)))) (sym (not_picked link.pace sub link.subs new.subs p s ne))
+    (subst (IsTied (held_at p.mid s) (accepted s)) (sym T) (mid s lt)))
+    (cases_eq s sub) in
     step_of accepted link new (log after) t.same
-        (λ s lt. prefix_at link s (held_at new.subs s) (accepted s) (log after) (t.subs s ∙ own.named s (omega (arith, own.count, own.sub_vls))) (tied s lt))
-        (λ _. tied)
+    (λ s lt. prefix_at link s (held_at new.subs s) (accepted s) (log after) (t.subs s ∙ own.named s (omega (arith, own.count, own.sub_vls))) (tied s lt))
+    (λ _. tied)
 step_turn accepted now Lost link new lines after t own k =
     subst (IsLinkInStep accepted new) (sym t.serves.1.loses.same) (step_of accepted link new (log lines) t.same k.prefixes
-        (λ (f : new.lost ≡ false). absurd (let e : new.lost ≡ true = t.lost in cc)))
+    (λ (f : new.lost ≡ false). absurd (let e : new.lost ≡ true = t.lost in cc)))
 
 -- another link's stream
 pub other_stream : (now vl : ℕ) (did : Served) (link new : LinkState) (lines after : Lines) → Turned now link new lines after did → IsOwn link → link.plan.id.0 ≢ vl → link_stream vl (log after) ≡ link_stream vl (log lines)

@@ -23,9 +23,9 @@ use Rattle.afdx_tx.specs.declared.sub_vl.SubVl.{SubVl}
 -- the turn, with the regulation read off the stream
 turn_shown : (now : ℕ) (did : Served) (link new : LinkState) (lines after : Lines) → Turned now link new lines after did → IsKept link (log lines) → IsTurn now link new lines after did
 turn_shown now did link new lines after t k = record {
-      same = t.same;
-      serves = subst (λ (p : Pace). Serves now p link.subs new.subs lines after did) (k.paced t.whole) t.serves;
-    }
+  same = t.same;
+  serves = subst (λ (p : Pace). Serves now p link.subs new.subs lines after did) (k.paced t.whole) t.serves;
+}
 
 run_push : (now : ℕ) (xs ys : List LinkState) (link new : LinkState) (before lines after : Lines) (did : Served) → IsRun now xs ys before lines → IsTurn now link new lines after did → is_lost did ≡ false → IsRun now (xs ++ link ∷ []) (ys ++ new ∷ []) before after
 run_push now [] [] link new before lines after did r t k = (after, did, subst (λ (l : Lines). IsTurn now link new l after did) r t, k, refl)
@@ -111,16 +111,16 @@ steady_more now i old links before lines after new did s apart lt t mirrored lat
       };
       each = λ k klt. at_each (λ j l. IsOwn l) links i new lt (link_turn now (link_at links i) new lines after did t own) (λ j jlt ne. s.each j jlt) k (omega arith);
       kept = λ k klt. at_each (λ j l. IsKept l (log after)) links i new lt
-            (kept_turn now did (link_at links i) new lines after t own (s.kept i lt))
-            (λ j jlt ne. kept_stream (link_at links j) (log lines) (log after) (other j jlt ne) (s.kept j jlt))
-            k (omega arith);
+          (kept_turn now did (link_at links i) new lines after t own (s.kept i lt))
+          (λ j jlt ne. kept_stream (link_at links j) (log lines) (log after) (other j jlt ne) (s.kept j jlt))
+          k (omega arith);
       later = λ k klt. at_each (λ j l. IsLater l.pace.last now) links i new lt later (λ j jlt ne. s.later j jlt) k (omega arith);
       mirrored = mirrored;
       known = known_after now i old did links new lines after s.same lt own t s.known;
       keeps = λ accepted step k klt. at_each (λ j l. IsLinkInStep (accepted j) l (log after)) links i new lt
-            (step_turn (accepted i) now did (link_at links i) new lines after t own (s.keeps accepted step i lt))
-            (λ j jlt ne. step_stream (accepted j) (link_at links j) (log lines) (log after) (other j jlt ne) (s.keeps accepted step j jlt))
-            k (omega arith);
+          (step_turn (accepted i) now did (link_at links i) new lines after t own (s.keeps accepted step i lt))
+          (λ j jlt ne. step_stream (accepted j) (link_at links j) (log lines) (log after) (other j jlt ne) (s.keeps accepted step j jlt))
+          k (omega arith);
     }
 
 pub serving_more : (now i : ℕ) (old links : List LinkState) (before lines after : Lines) (new : LinkState) (did : Served)
@@ -138,7 +138,7 @@ serving_more now i old links before lines after new did s apart lt t kept mirror
     record {
       steady = steady_more now i old links before lines after new did s.steady apart lt t mirrored later;
       run = subst (λ (xs : List LinkState). IsRun now xs (take (i + 1) (set links i new)) before after) (sym taken)
-        (subst (λ (ys : List LinkState). IsRun now (take i old ++ link_at links i ∷ []) ys before after) (sym taken_new) run);
+          (subst (λ (ys : List LinkState). IsRun now (take i old ++ link_at links i ∷ []) ys before after) (sym taken_new) run);
       rest = drop-set-lt (i + 1) links i new (omega arith) ∙ sym (drop-drop 1 i links) ∙ ap (drop 1) s.rest ∙ drop-drop 1 i old;
       alive = alive_after now did (link_at links i) new lines after t kept s.alive;
       whole = λ k klt. at_each (λ j l. l.lost ≡ false) links i new lt (t.lost ∙ kept) (λ j jlt ne. s.whole j jlt) k (omega arith);
@@ -158,7 +158,7 @@ cut_at now i old links before lines after new Lost s lt e t =
       mid = lines;
       run = subst (λ (ys : List LinkState). IsRun now (take i old) ys before lines) (sym (take-set links i new)) s.run;
       turn = subst (λ (x : LinkState). IsTurn now x (link_at (set links i new) i) lines after Lost) here
-        (subst (λ (y : LinkState). IsTurn now (link_at links i) y lines after Lost) (sym (get_or-set_same links i new no_link lt)) turn);
+          (subst (λ (y : LinkState). IsTurn now (link_at links i) y lines after Lost) (sym (get_or-set_same links i new no_link lt)) turn);
       rest = drop-set-lt (i + 1) links i new (omega arith) ∙ sym (drop-drop 1 i links) ∙ ap (drop 1) s.rest ∙ drop-drop 1 i old;
     }
 cut_at now i old links before lines after new Nothing s lt e t = absurd (let k : false ≡ true = e in cc)

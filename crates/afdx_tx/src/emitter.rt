@@ -13,7 +13,7 @@ use crate::fault::{PollFault, SendFault};
 use crate::link::{Link, some_stands};
 use crate::message::Message;
 use crate::report::{Release, Report};
-use crate::routing::{length_refusal, link_of};
+use crate::routing::{length_refusal, link_of, port_at};
 use crate::served::Served;
 use afdx_config::{Config, VlId};
 use afdx_frame::Frame;
@@ -194,7 +194,7 @@ impl<A: Network + Drop, B: Network + Drop> Emitter<A, B> {
         ensures back { IfErr result (λ fault. fault.bytes.items ≡ bytes.items) }
         ensures unchanged { OnErr result (self.new ≡ self.old) }
     {
-        let plan = self.config.ports()[port];
+        let plan = port_at(&self.config, port);
         if let Some(why) = length_refusal(&plan, bytes.len()) {
             return Err(SendFault { why, bytes });
         }

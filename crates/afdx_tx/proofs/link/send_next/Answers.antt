@@ -18,7 +18,7 @@ more : (g : Given.Over) (c : goal.Then-some_stands g) → HandedMore c.args.mux.
 more g c =
     let alive : is_alive c.hand.new.self ≡ true = let a = c.in-Ok.ensures.a_stands in let b = c.in-Ok.ensures.b_stands in cc (c.some_stands.ensures, c.if-some_stands.true) in
     handed_more c.args.mux.now c.hand.new.self (entry c.args.now c.write_next.new.out.items) c.requires.mirrored
-        (ap (entry c.args.now) (twin_same A c.write_next.new.out.items c.write_next.ensures.frame.interface)) c.hand.ensures.a c.hand.ensures.b alive
+    (ap (entry c.args.now) (twin_same A c.write_next.new.out.items c.write_next.ensures.frame.interface)) c.hand.ensures.a c.hand.ensures.b alive
 
 -- none did
 none : (g : Given.Over) (c : goal.Else-some_stands g) → HandedNone c.args.mux.now c.hand.new.self
@@ -26,7 +26,7 @@ none g c =
     let down : (c.in-Ok.standing.a || c.in-Ok.standing.b) ≡ false = sym c.some_stands.ensures ∙ c.if-some_stands.false in
     let both = or_none c.in-Ok.standing.a c.in-Ok.standing.b down in
     handed_none c.args.mux.now c.hand.new.self (entry c.args.now c.write_next.new.out.items) c.requires.mirrored c.hand.ensures.a c.hand.ensures.b
-        (sym c.in-Ok.ensures.a_stands ∙ both.0) (sym c.in-Ok.ensures.b_stands ∙ both.1)
+    (sym c.in-Ok.ensures.a_stands ∙ both.0) (sym c.in-Ok.ensures.b_stands ∙ both.1)
 
 pub returns-then-some_stands-clause-mirrored : goal.returns-then-some_stands-clause-mirrored
 returns-then-some_stands-clause-mirrored g c = (more g c).mirrored
