@@ -1,4 +1,5 @@
-mod FrameLemmas
+pub mod FrameLemmas
+mod Matched
 mod LineLemmas
 mod MeaningLemmas
 mod NumberLemmas
