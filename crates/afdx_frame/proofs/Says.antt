@@ -5,7 +5,7 @@ use Rattle.std.proofs.lemmas.Bool.Decides.{nat_tests}
 use Rattle.std.proofs.Math.Seq.{take-append_seam, get_or-append_right}
 use Rattle.std.proofs.Math.ListN.{length-replicate}
 use Rattle.std.specs.Prelude.{IfSome, slice_index, nat_le, if◌then◌else◌}
-use Rattle.afdx_config.specs.declared.PortPlan.{PortPlan}
+use Rattle.afdx_config.specs.declared.port_plan.PortPlan.{PortPlan}
 use Rattle.afdx_config.specs.Plan.{IsPort, IsUnicast}
 use Rattle.afdx_config.specs.Address.{destination_of}
 use Rattle.afdx_config.specs.Numbers.{identification}
