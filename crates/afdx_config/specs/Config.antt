@@ -15,15 +15,35 @@ pub record Plan : Type 0 where
 
 -- the plan of these parts
 abbrev pub plan_of_parts : ℕ → List LinkPlan → List PortPlan → Plan
-plan_of_parts number virtual_links senders = record { end_system = number; links = virtual_links; ports = senders }
+plan_of_parts number virtual_links senders = record {
+  end_system = number;
+  links = virtual_links;
+  ports = senders;
+}
 
 -- the link at a place; past the end a plan that no link has
 abbrev pub link_plan_at : List LinkPlan → ℕ → LinkPlan
-link_plan_at links k = get_or links k (record { id = record { 0 = 0 }; bag = Ms1; lmax = 64; sub_vls = 0; capacity = 0 })
+link_plan_at links k = get_or links k (record {
+  id = record { 0 = 0 };
+  bag = Ms1;
+  lmax = 64;
+  sub_vls = 0;
+  capacity = 0;
+})
 
 -- the port at a place; past the end a plan that no port has
 abbrev pub port_plan_at : List PortPlan → ℕ → PortPlan
-port_plan_at ports k = get_or ports k (record { id = record { 0 = 0 }; vl = record { 0 = 0 }; sub = 0; partition = 0; kind = Queuing; source = 0; destination = 0; max = 0; unicast = None })
+port_plan_at ports k = get_or ports k (record {
+  id = record { 0 = 0 };
+  vl = record { 0 = 0 };
+  sub = 0;
+  partition = 0;
+  kind = Queuing;
+  source = 0;
+  destination = 0;
+  max = 0;
+  unicast = None;
+})
 
 -- a port sends over the link at a place, on one of its sub-VLs
 pub record HasLink (links : List LinkPlan) (port : PortPlan) : Type 0 where
@@ -41,7 +61,8 @@ pub record AreSameFlow (p q : PortPlan) : Type 0 where
 
 -- how many ports a sub-VL has
 abbrev pub ports_on : List PortPlan → ℕ → ℕ → ℕ
-ports_on ports vl sub = count_by (λ (port : PortPlan). nat_eq port.vl.0 vl && nat_eq port.sub sub) ports
+ports_on ports vl sub =
+    count_by (λ (port : PortPlan). nat_eq port.vl.0 vl && nat_eq port.sub sub) ports
 
 -- A valid plan. Ranges: each number lies in its own.
 -- Identifiers: no two links share one, and no two ports. Ports: each has its link and sub-VL there,
@@ -61,7 +82,9 @@ pub record IsPlan (plan : Plan) : Type 0 where
   pub linked : All (HasLink plan.links) plan.ports
   pub sampling : (p : PortPlan) (link : LinkPlan) → Contains plan.ports p → Contains plan.links link
       → p.kind ≡ Sampling → link.id ≡ p.vl → p.max ≤ link.lmax - 47
-  pub flows_apart : (p q : PortPlan) → Contains plan.ports p → Contains plan.ports q → AreSameFlow p q → p ≡ q
-  pub unicasts_apart : (p q : PortPlan) → Contains plan.ports p → Contains plan.ports q → (address : List ℕ)
-      → p.unicast ≡ Some address → q.unicast ≡ Some address → p.partition ≡ q.partition → p.vl ≡ q.vl
+  pub flows_apart : (p q : PortPlan) → Contains plan.ports p → Contains plan.ports q
+      → AreSameFlow p q → p ≡ q
+  pub unicasts_apart : (p q : PortPlan) → Contains plan.ports p → Contains plan.ports q
+      → (address : List ℕ) → p.unicast ≡ Some address → q.unicast ≡ Some address
+      → p.partition ≡ q.partition → p.vl ≡ q.vl
   pub few_ports : (vl sub : ℕ) → ports_on plan.ports vl sub ≤ 64

@@ -16,7 +16,7 @@ demo_link = record {
   capacity = 2;
 }
 
--- port 10 of partition 1 sends messages of up to 8,192 bytes over it, to the link's multicast address
+-- port 10 of partition 1 sends messages of up to 8,192 bytes over it, to its multicast address
 abbrev pub demo_port : PortPlan
 demo_port = record {
   id = record { 0 = 10 };
