@@ -75,7 +75,9 @@ impl Cut {
         requires port { IsPort port.now }
         requires some { 1 ≤ vec_len bytes }
         requires most { vec_len bytes ≤ port.now.max }
-        ensures message { (result.port ≡ port.now) × (result.place ≡ place) × (result.bytes ≡ bytes.items) }
+        ensures message { (result.port ≡ port.now)
+            × (result.place ≡ place)
+            × (result.bytes ≡ bytes.items) }
         ensures pieces { (room : ℕ) →
             pieces_left room result ≡ pieces_from 0 (cutting room (8 + length bytes.items)) }
         ensures fragments { (end_system room : ℕ) (net : Network) →
