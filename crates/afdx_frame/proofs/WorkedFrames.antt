@@ -1,6 +1,6 @@
 -- The worked frames, computed. Each stands as its parts: link header, internet header, piece,
 -- padding, sequence number.
-use Rattle.std.proofs.Common.{◌≡◌, ℕ, List, [], ◌∷◌, ◌++◌, Option, Some, None, refl, replicate, take, drop}
+use Rattle.std.proofs.Common.{◌≡◌, ℕ, List, [], ◌∷◌, ◌++◌, Some, refl, replicate, take, drop}
 use Rattle.afdx_config.specs.declared.port_plan.PortPlan.{PortPlan}
 use Rattle.afdx_config.specs.Demo.{demo_port}
 use Rattle.afdx_frame.specs.declared.net.Net.TheVariants.{A, B}
