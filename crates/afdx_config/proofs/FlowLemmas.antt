@@ -1,10 +1,9 @@
 -- Flows of one plan lie apart.
-use Rattle.std.proofs.Common.{◌≡◌, ℕ, ◌+◌, ◌*◌, ◌/◌, ◌%◌, ◌<◌, ◌⊎◌, inl, inr, List, [], ◌∷◌, get_or, Option, Some, None, refl, sym, ap, subst, ◌∙◌, arith}
-use Rattle.std.specs.Prelude.{IfSome, slice_index, All, Contains}
-use Rattle.afdx_config.specs.declared.VlId.{VlId}
-use Rattle.afdx_config.specs.declared.PortPlan.{PortPlan}
-use Rattle.afdx_config.specs.Address.{source_address, destination_of, destination_address}
-use Rattle.afdx_config.specs.Numbers.{identification}
+use Rattle.std.proofs.Common.{◌≡◌, ℕ, ◌/◌, ◌%◌, ◌<◌, ◌⊎◌, inl, inr, List, get_or, Option, Some, None, refl, ap, subst, arith}
+use Rattle.std.specs.Prelude.{IfSome, All, Contains}
+use Rattle.afdx_config.specs.declared.identifiers.VlId.{VlId}
+use Rattle.afdx_config.specs.declared.port_plan.PortPlan.{PortPlan}
+use Rattle.afdx_config.specs.Address.{destination_of}
 use Rattle.afdx_config.specs.Plan.{IsPort, IsUnicast}
 use Rattle.afdx_config.specs.Config.{Plan, IsPlan}
 use Rattle.afdx_config.specs.Flows.{FlowsApart}

@@ -1,25 +1,51 @@
--- A plan, and when it is valid.
-use Rattle.std.specs.Prelude.{◌≡◌, ℕ, ◌-◌, ◌<◌, ◌≤◌, List, length, get_or, count_by, nat_eq, ◌&&◌, Option, Some, None, All, Contains}
-use Rattle.afdx_config.specs.declared.Bag.TheVariants.{Ms1}
-use Rattle.afdx_config.specs.declared.Kind.TheVariants.{Sampling, Queuing}
-use Rattle.afdx_config.specs.declared.LinkPlan.{LinkPlan}
-use Rattle.afdx_config.specs.declared.PortPlan.{PortPlan}
+-- The plan of an end system, and when it is valid.
+use Rattle.std.specs.Prelude.{◌≡◌, ℕ, ◌-◌, ◌<◌, ◌≤◌, List, length, get_or, count_by, nat_eq, ◌&&◌, Some, None, All, Contains}
+use Rattle.afdx_config.specs.declared.bag.Bag.TheVariants.{Ms1}
+use Rattle.afdx_config.specs.declared.identifiers.Kind.TheVariants.{Sampling, Queuing}
+use Rattle.afdx_config.specs.declared.link_plan.LinkPlan.{LinkPlan}
+use Rattle.afdx_config.specs.declared.port_plan.PortPlan.{PortPlan}
 use Rattle.afdx_config.specs.Address.{destination_address}
 use Rattle.afdx_config.specs.Plan.{IsLink, IsPort, SendsOver}
 
--- the links and the ports of a text
+-- an end system's identifier, its virtual links and its ports
 pub record Plan : Type 0 where
   pub end_system : ℕ
   pub links : List LinkPlan
   pub ports : List PortPlan
 
+-- the plan of these parts
+abbrev pub plan_of_parts : ℕ → List LinkPlan → List PortPlan → Plan
+plan_of_parts number virtual_links senders = record {
+  end_system = number;
+  links = virtual_links;
+  ports = senders;
+}
+
+-- the link at a place; past the end a plan that no link has
 abbrev pub link_plan_at : List LinkPlan → ℕ → LinkPlan
-link_plan_at links k = get_or links k (record { id = record { 0 = 0 }; bag = Ms1; lmax = 64; sub_vls = 0; capacity = 0 })
+link_plan_at links k = get_or links k (record {
+  id = record { 0 = 0 };
+  bag = Ms1;
+  lmax = 64;
+  sub_vls = 0;
+  capacity = 0;
+})
 
+-- the port at a place; past the end a plan that no port has
 abbrev pub port_plan_at : List PortPlan → ℕ → PortPlan
-port_plan_at ports k = get_or ports k (record { id = record { 0 = 0 }; vl = record { 0 = 0 }; sub = 0; partition = 0; kind = Queuing; source = 0; destination = 0; max = 0; unicast = None })
+port_plan_at ports k = get_or ports k (record {
+  id = record { 0 = 0 };
+  vl = record { 0 = 0 };
+  sub = 0;
+  partition = 0;
+  kind = Queuing;
+  source = 0;
+  destination = 0;
+  max = 0;
+  unicast = None;
+})
 
--- the link of a port
+-- a port sends over the link at a place, on one of its sub-VLs
 pub record HasLink (links : List LinkPlan) (port : PortPlan) : Type 0 where
   pub at : ℕ
   pub within : at < length links
@@ -35,20 +61,30 @@ pub record AreSameFlow (p q : PortPlan) : Type 0 where
 
 -- how many ports a sub-VL has
 abbrev pub ports_on : List PortPlan → ℕ → ℕ → ℕ
-ports_on ports vl sub = count_by (λ (port : PortPlan). nat_eq port.vl.0 vl && nat_eq port.sub sub) ports
+ports_on ports vl sub =
+    count_by (λ (port : PortPlan). nat_eq port.vl.0 vl && nat_eq port.sub sub) ports
 
--- what a valid plan keeps
+-- A valid plan. Ranges: each number lies in its own.
+-- Identifiers: no two links share one, and no two ports. Ports: each has its link and sub-VL there,
+-- and a sampling port's greatest message fits into one frame of its link.
+-- Flows: no two ports agree in all that a flow shows, and ports on different links never share both
+-- a partition and a unicast address.
 pub record IsPlan (plan : Plan) : Type 0 where
   pub end_system : plan.end_system < 65536
   pub links : (1 ≤ length plan.links) × (length plan.links ≤ 64)
   pub ports : (1 ≤ length plan.ports) × (length plan.ports ≤ 256)
   pub each_link : All IsLink plan.links
   pub each_port : All IsPort plan.ports
-  pub links_apart : (i j : ℕ) → i < length plan.links → j < length plan.links → (link_plan_at plan.links i).id ≡ (link_plan_at plan.links j).id → i ≡ j
-  pub ports_apart : (i j : ℕ) → i < length plan.ports → j < length plan.ports → (port_plan_at plan.ports i).id ≡ (port_plan_at plan.ports j).id → i ≡ j
+  pub links_apart : (i j : ℕ) → i < length plan.links → j < length plan.links
+      → (link_plan_at plan.links i).id ≡ (link_plan_at plan.links j).id → i ≡ j
+  pub ports_apart : (i j : ℕ) → i < length plan.ports → j < length plan.ports
+      → (port_plan_at plan.ports i).id ≡ (port_plan_at plan.ports j).id → i ≡ j
   pub linked : All (HasLink plan.links) plan.ports
-  pub sampling : (p : PortPlan) (link : LinkPlan) → Contains plan.ports p → Contains plan.links link → p.kind ≡ Sampling → link.id ≡ p.vl → p.max ≤ link.lmax - 47
-  pub flows_apart : (p q : PortPlan) → Contains plan.ports p → Contains plan.ports q → AreSameFlow p q → p ≡ q
-  pub unicasts_apart : (p q : PortPlan) → Contains plan.ports p → Contains plan.ports q → (address : List ℕ)
-      → p.unicast ≡ Some address → q.unicast ≡ Some address → p.partition ≡ q.partition → p.vl ≡ q.vl
+  pub sampling : (p : PortPlan) (link : LinkPlan) → Contains plan.ports p → Contains plan.links link
+      → p.kind ≡ Sampling → link.id ≡ p.vl → p.max ≤ link.lmax - 47
+  pub flows_apart : (p q : PortPlan) → Contains plan.ports p → Contains plan.ports q
+      → AreSameFlow p q → p ≡ q
+  pub unicasts_apart : (p q : PortPlan) → Contains plan.ports p → Contains plan.ports q
+      → (address : List ℕ) → p.unicast ≡ Some address → q.unicast ≡ Some address
+      → p.partition ≡ q.partition → p.vl ≡ q.vl
   pub few_ports : (vl sub : ℕ) → ports_on plan.ports vl sub ≤ 64

@@ -1,9 +1,9 @@
 -- What a plan's numbers mean.
-use Rattle.std.specs.Prelude.{◌≡◌, ℕ, ◌+◌, ◌-◌, ◌*◌, ◌/◌, ◌<◌, ◌≤◌, List, length, slice_index, sum_by, Option, IfSome}
-use Rattle.afdx_config.specs.declared.Bag.{Bag}
-use Rattle.afdx_config.specs.declared.Bag.TheVariants.{Ms1, Ms2, Ms4, Ms8, Ms16, Ms32, Ms64, Ms128}
-use Rattle.afdx_config.specs.declared.LinkPlan.{LinkPlan}
-use Rattle.afdx_config.specs.declared.PortPlan.{PortPlan}
+use Rattle.std.specs.Prelude.{◌≡◌, ℕ, ◌+◌, ◌*◌, ◌<◌, ◌≤◌, List, length, slice_index, sum_by, IfSome}
+use Rattle.afdx_config.specs.declared.bag.Bag.{Bag}
+use Rattle.afdx_config.specs.declared.bag.Bag.TheVariants.{Ms1, Ms2, Ms4, Ms8, Ms16, Ms32, Ms64, Ms128}
+use Rattle.afdx_config.specs.declared.link_plan.LinkPlan.{LinkPlan}
+use Rattle.afdx_config.specs.declared.port_plan.PortPlan.{PortPlan}
 
 -- the bandwidth allocation gap in milliseconds
 abbrev pub bag_ms : Bag → ℕ
@@ -33,8 +33,9 @@ pub record IsLink (link : LinkPlan) : Type 0 where
   pub sub_vls : (1 ≤ link.sub_vls) × (link.sub_vls ≤ 4)
   pub capacity : (1 ≤ link.capacity) × (link.capacity ≤ 256)
 
--- what every port of a configuration keeps
+-- what every port of a configuration keeps; 8,192 bytes are the profile's greatest message
 pub record IsPort (port : PortPlan) : Type 0 where
+  pub id : port.id.0 < 65536
   pub vl : port.vl.0 < 65536
   pub sub : port.sub < 4
   pub partition : port.partition < 32
@@ -48,6 +49,6 @@ pub record SendsOver (port : PortPlan) (link : LinkPlan) : Type 0 where
   pub id : link.id ≡ port.vl
   pub sub : port.sub < link.sub_vls
 
--- the report on jitter, in nanoseconds
+-- the report on jitter, in nanoseconds: 80 for a byte, and 20 bytes around each frame
 abbrev pub jitter_of : List LinkPlan → ℕ
 jitter_of links = 40000 + 80 * sum_by (λ link. 20 + link.lmax) links

@@ -1,14 +1,15 @@
 //! A valid plan.
 ghost use Rattle.std.specs.Prelude.{◌≡◌, ◌==◌, All, position};
-ghost use Rattle.afdx_config.specs.Flows.{FlowsApart};
-ghost use Rattle.afdx_config.specs.Config.{Plan, IsPlan};
-ghost use Rattle.afdx_config.specs.Plan.{IsPort};
+ghost use Rattle.afdx_config.specs.Config.{IsPlan, plan_of_parts};
+ghost use Rattle.afdx_config.specs.Plan.{IsLink, IsPort};
 
-use crate::{LinkPlan, PortId, PortPlan, VlId};
+use crate::identifiers::{PortId, VlId};
+use crate::link_plan::LinkPlan;
+use crate::port_plan::PortPlan;
 use std::marker::Model;
 
-/// A valid plan of an end system.
-#[derive(Drop)]
+/// A plan of an end system that has none of the faults of `ConfigFault`.
+#[derive(Debug, Drop)]
 pub struct Config {
     end_system: u16,
     links: Vec<LinkPlan>,
@@ -16,16 +17,28 @@ pub struct Config {
 }
 
 impl Model for Config {
-    ghost use Rattle.afdx_config.specs.Config.{Plan, IsPlan};
+    ghost use Rattle.afdx_config.specs.Config.{Plan, IsPlan, plan_of_parts};
 
     ghost Value = { Plan };
 
-    ghost view = { λ c. record { end_system = c.end_system; links = c.links.items; ports = c.ports.items } };
+    ghost view = { λ c. plan_of_parts c.end_system c.links.items c.ports.items };
 
-    ghost invariant = { λ c. IsPlan (record { end_system = c.end_system; links = c.links.items; ports = c.ports.items }) };
+    ghost invariant = { λ c. IsPlan (plan_of_parts c.end_system c.links.items c.ports.items) };
 }
 
 impl Config {
+    /// The plan of its parts.
+    pub(crate) fn of(end_system: u16, links: Vec<LinkPlan>, ports: Vec<PortPlan>) -> Config
+        requires { IsPlan (plan_of_parts end_system links.items ports.items) }
+        ensures { result ≡ plan_of_parts end_system links.items ports.items }
+    {
+        Config {
+            end_system,
+            links,
+            ports,
+        }
+    }
+
     /// The end system's identifier.
     pub fn end_system(&self) -> u16
         ensures { result ≡ self.now.end_system }
@@ -37,8 +50,18 @@ impl Config {
     pub fn links(&self) -> &[LinkPlan]
         ensures plan { result.now ≡ self.now.links }
         ensures valid { IsPlan self.now }
+        ensures each { All IsLink result.now }
     {
         &self.links
+    }
+
+    /// The ports, in the order of the text.
+    pub fn ports(&self) -> &[PortPlan]
+        ensures plan { result.now ≡ self.now.ports }
+        ensures valid { IsPlan self.now }
+        ensures each { All IsPort result.now }
+    {
+        &self.ports
     }
 
     /// The place of a link among the links.
@@ -54,21 +77,4 @@ impl Config {
     {
         self.ports.iter().position(|port| port.id.0 == id.0)
     }
-
-    /// The ports, in the order of the text.
-    pub fn ports(&self) -> &[PortPlan]
-        ensures plan { result.now ≡ self.now.ports }
-        ensures valid { IsPlan self.now }
-        ensures each { All IsPort result.now }
-    {
-        &self.ports
-    }
-}
-
-/// Two messages share both addresses and the identification only where they are of one sub-virtual
-/// link and their places differ by a multiple of 16,384.
-pub fn flows_apart(config: &Config)
-    ensures { FlowsApart config.now }
-{
-    let _opened = &config.ports;
 }

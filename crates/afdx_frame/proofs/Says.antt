@@ -1,24 +1,24 @@
 -- Each frame says what went in.
-use Rattle.std.proofs.Common.{◌≡◌, ℕ, suc, ◌+◌, ◌-◌, ◌*◌, ◌/◌, ◌%◌, ◌≤◌, ◌<◌, ◌⊎◌, inl, inr, Bool, true, false, Option, Some, None, List, [], ◌∷◌, ◌++◌, length, take, drop, get_or, replicate, max, refl, sym, ap, subst, ◌∙◌, arith, append_assoc, length-append}
-use Rattle.std.proofs.lemmas.List.{length-take, length-drop, take-append-le, get_or_append_left, get_or-replicate, get_or_push}
+use Rattle.std.proofs.Common.{◌≡◌, ℕ, suc, ◌+◌, ◌-◌, ◌/◌, ◌%◌, ◌≤◌, ◌<◌, ◌⊎◌, inl, inr, Bool, true, false, Option, Some, None, List, [], ◌∷◌, ◌++◌, length, take, drop, get_or, replicate, max, refl, sym, ap, ◌∙◌, arith, append_assoc, length-append}
+use Rattle.std.proofs.lemmas.List.{length-take, length-drop, get_or_append_left, get_or-replicate, get_or_push}
 use Rattle.std.proofs.lemmas.Bool.Decides.{nat_tests}
 use Rattle.std.proofs.Math.Seq.{take-append_seam, get_or-append_right}
 use Rattle.std.proofs.Math.ListN.{length-replicate}
 use Rattle.std.specs.Prelude.{IfSome, slice_index, nat_le, if◌then◌else◌}
-use Rattle.afdx_config.specs.declared.PortPlan.{PortPlan}
+use Rattle.afdx_config.specs.declared.port_plan.PortPlan.{PortPlan}
 use Rattle.afdx_config.specs.Plan.{IsPort, IsUnicast}
 use Rattle.afdx_config.specs.Address.{destination_of}
 use Rattle.afdx_config.specs.Numbers.{identification}
 use Rattle.afdx_frame.specs.declared.net.Net.{Net}
 use Rattle.afdx_frame.specs.declared.net.Net.TheVariants.{A, B}
 use Rattle.afdx_frame.specs.declared.piece.Piece.{Piece}
-use Rattle.afdx_frame.specs.Checksum.{word_sum, checksum}
+use Rattle.afdx_frame.specs.Checksum.{word_sum}
 use Rattle.afdx_frame.specs.Frame.{addresses, header_front, internet_header, interface_byte, link_header, udp_header, datagram, unnumbered, frame_of, fragment_word}
-use Rattle.afdx_frame.specs.Profile.{word_at, total_length, fragment_field, HasLinkHeader, HasInternetHeader, HasAddresses, HasZeroPadding, IsFrame}
+use Rattle.afdx_frame.specs.Profile.{word_at, total_length, fragment_field, HasLinkHeader, HasAddresses, HasZeroPadding}
 use Rattle.afdx_frame.specs.Header.{IsFrameOf}
 use Rattle.afdx_frame.specs.ReadBack.{IsPiece, Says}
 use Rattle.afdx_frame.proofs.Datagram.{length-udp_header}
-use Rattle.afdx_frame.proofs.SaysLemmas.{length-addresses, length-internet, header_closes}
+use Rattle.afdx_frame.proofs.SaysLemmas.{length-internet, header_closes}
 
 interface_one : (net : Net) → (interface_byte net ≡ 32) ⊎ (interface_byte net ≡ 64)
 interface_one A = inl refl

@@ -15,8 +15,8 @@ use afdx_config::{LinkPlan, PortPlan};
 use arrayvec::ArrayVec;
 use std::marker::Model;
 
-/// A message of a port at a place of its sub-virtual link, of whose datagram the bytes before
-/// `start` were given.
+/// A message of a port at a place of its sub-VL, which is given frame by frame: the datagram's
+/// bytes before `start` were given. It takes no memory beyond the message.
 #[derive(Drop)]
 pub struct Cut {
     bytes: Vec<u8>,
@@ -30,16 +30,24 @@ impl Model for Cut {
 
     ghost Value = { Cutting };
 
-    ghost view = { λ c. record { port = c.port; place = c.place; bytes = c.bytes.items; start = c.start } };
+    ghost view = { λ c. record {
+      port = c.port;
+      place = c.place;
+      bytes = c.bytes.items;
+      start = c.start;
+    } };
 
     ghost invariant = { λ c. IsCut c.port c.bytes.items c.start };
 }
 
-/// The piece that starts there, if there is one.
+/// The piece that starts there, if there is one. What does not fit in the room loses the greatest
+/// multiple of 8 bytes that does (RFC 791, the example procedure of fragmentation).
 fn next_piece(room: usize, len: usize, start: usize) -> Option<Piece>
     requires room { 25 ≤ room }
     requires len { len ≤ 8200 }
-    ensures { MatchOption result (len ≤ start) (λ piece. (start < len) × (piece ≡ piece_at room len start)) }
+    ensures { MatchOption result
+        (len ≤ start)
+        (λ piece. (start < len) × (piece ≡ piece_at room len start)) }
 {
     if start >= len {
         return None;
@@ -61,15 +69,21 @@ fn next_piece(room: usize, len: usize, start: usize) -> Option<Piece>
 }
 
 impl Cut {
-    /// A message of a port, of which nothing was given.
+    /// A message of a port of a configuration, of 1 byte to the port's greatest message, of which
+    /// nothing was given. Its place counts the accepted messages of its sub-VL from 0.
     pub fn new(bytes: Vec<u8>, place: u64, port: &PortPlan) -> Cut
         requires port { IsPort port.now }
         requires some { 1 ≤ vec_len bytes }
         requires most { vec_len bytes ≤ port.now.max }
-        ensures message { (result.port ≡ port.now) × (result.place ≡ place) × (result.bytes ≡ bytes.items) }
-        ensures pieces { (room : ℕ) → pieces_left room result ≡ pieces_from 0 (cutting room (8 + length bytes.items)) }
+        ensures message { (result.port ≡ port.now)
+            × (result.place ≡ place)
+            × (result.bytes ≡ bytes.items) }
+        ensures pieces { (room : ℕ) →
+            pieces_left room result ≡ pieces_from 0 (cutting room (8 + length bytes.items)) }
         ensures fragments { (end_system room : ℕ) (net : Network) →
-            fragments_left end_system room net result ≡ fragments_at end_system room net place (record { port = port.now; bytes = bytes.items }) }
+            fragments_left end_system room net result
+            ≡ fragments_at end_system room net place
+            (record { port = port.now; bytes = bytes.items }) }
     {
         Cut {
             bytes,
@@ -86,7 +100,8 @@ impl Cut {
         self.start == 8 + self.bytes.len()
     }
 
-    /// The frame of the next piece, none exactly where all pieces were given.
+    /// The frame of the next piece, with this sequence number, for this network. None exactly where
+    /// all pieces were given; nothing is changed then.
     #[inline(always)]
     pub fn next_frame(
         &mut self,
@@ -97,12 +112,17 @@ impl Cut {
     ) -> Option<Frame>
         requires { SendsOver self.old.port link.now }
         ensures frame { TakesFirst
-            (λ piece frame. frame.items ≡ frame_of end_system self.old.port self.old.bytes self.old.place piece net number)
-            (pieces_left (room_of link.now.lmax) self.old) result (pieces_left (room_of link.now.lmax) self.new) }
+            (λ piece frame. frame.items ≡ frame_of
+            end_system self.old.port self.old.bytes self.old.place piece net number)
+            (pieces_left (room_of link.now.lmax) self.old)
+            result
+            (pieces_left (room_of link.now.lmax) self.new) }
         ensures same { SameMessage self.old self.new }
         ensures fragments { MatchOption result
             (fragments_left end_system (room_of link.now.lmax) net self.old ≡ [])
-            (λ frame. fragments_left end_system (room_of link.now.lmax) net self.old ≡ blanked frame.items ∷ fragments_left end_system (room_of link.now.lmax) net self.new) }
+            (λ frame. fragments_left end_system (room_of link.now.lmax) net self.old
+            ≡ blanked frame.items
+            ∷ fragments_left end_system (room_of link.now.lmax) net self.new) }
     {
         let mut frame = ArrayVec::new();
         if !self.write_next(link, end_system, number, net, &mut frame) {
@@ -111,7 +131,8 @@ impl Cut {
         Some(frame)
     }
 
-    /// As `next_frame`, into a buffer that the caller keeps. Whether a piece was left.
+    /// As `next_frame`, into a buffer that the caller keeps, whose old bytes go. Answers whether a
+    /// piece was left; where none was, the buffer and the message stay as they were.
     #[inline(always)]
     pub fn write_next(
         &mut self,
@@ -123,13 +144,19 @@ impl Cut {
     ) -> bool
         requires { SendsOver self.old.port link.now }
         ensures frame { TakesFirst
-            (λ piece frame. frame.items ≡ frame_of end_system self.old.port self.old.bytes self.old.place piece net number)
-            (pieces_left (room_of link.now.lmax) self.old) (written result out.new) (pieces_left (room_of link.now.lmax) self.new) }
+            (λ piece frame. frame.items ≡ frame_of
+            end_system self.old.port self.old.bytes self.old.place piece net number)
+            (pieces_left (room_of link.now.lmax) self.old)
+            (written result out.new)
+            (pieces_left (room_of link.now.lmax) self.new) }
         ensures same { SameMessage self.old self.new }
         ensures fragments { MatchOption (written result out.new)
             (fragments_left end_system (room_of link.now.lmax) net self.old ≡ [])
-            (λ frame. fragments_left end_system (room_of link.now.lmax) net self.old ≡ blanked frame.items ∷ fragments_left end_system (room_of link.now.lmax) net self.new) }
-        ensures header { result ≡ true → IsFrameOf self.old.port.vl.0 self.old.port.sub number net out.new.items }
+            (λ frame. fragments_left end_system (room_of link.now.lmax) net self.old
+            ≡ blanked frame.items
+            ∷ fragments_left end_system (room_of link.now.lmax) net self.new) }
+        ensures header { result ≡ true →
+            IsFrameOf self.old.port.vl.0 self.old.port.sub number net out.new.items }
         ensures none { result ≡ false → out.new ≡ out.old }
     {
         let room = link.lmax.room() as usize;

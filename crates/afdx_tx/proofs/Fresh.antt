@@ -2,7 +2,7 @@
 use Rattle.std.proofs.Common.{ℕ, zero, suc, ◌≡◌, ◌≢◌, ◌⊎◌, ◌+◌, ◌<◌, ◌≤◌, List, [], ◌∷◌, ◌++◌, Bool, true, false, cond, length, map, get_or, arith, refl, ap, ◌∙◌, sym, subst, inl, inr, ⊎_elim, Option, None}
 use Rattle.std.proofs.lemmas.List.{ext_get_or, length-append, get_or_append_left, get_or_push}
 use Rattle.std.proofs.lemmas.Bool.{cases_lt}
-use Rattle.afdx_config.specs.declared.LinkPlan.{LinkPlan}
+use Rattle.afdx_config.specs.declared.link_plan.LinkPlan.{LinkPlan}
 use Rattle.afdx_config.specs.Config.{Plan, IsPlan, link_plan_at}
 use Rattle.afdx_config.specs.Plan.{bag_micros}
 use Rattle.afdx_config.specs.Numbers.{sequence_number}

@@ -2,8 +2,8 @@
 use Rattle.std.proofs.Common.{ℕ, suc, ◌≡◌, ◌≢◌, ◌⊎◌, ◌+◌, ◌-◌, ◌<◌, ◌≤◌, List, [], ◌∷◌, ◌++◌, Bool, true, false, length, map, take, drop, set, get_or, arith, refl, ap, ◌∙◌, sym, subst, inl, inr, ⊎_elim, None, Option}
 use Rattle.std.proofs.lemmas.List.{length-set, get_or-set_same, get_or-set_other, get_or-drop, drop-drop, drop-set-lt, take_more, take_more_set, get_or-map, length-map, take-set}
 use Rattle.std.proofs.lemmas.Bool.{cases_eq}
-use Rattle.afdx_config.specs.declared.VlId.{VlId}
-use Rattle.afdx_config.specs.declared.LinkPlan.{LinkPlan}
+use Rattle.afdx_config.specs.declared.identifiers.VlId.{VlId}
+use Rattle.afdx_config.specs.declared.link_plan.LinkPlan.{LinkPlan}
 use Rattle.afdx_config.specs.Config.{link_plan_at}
 use Rattle.afdx_frame.specs.declared.net.Net.TheVariants.{A}
 use Rattle.redundant_mux.specs.Entry.{Entry, entry}

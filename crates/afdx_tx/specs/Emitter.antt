@@ -2,7 +2,7 @@
 use Rattle.std.specs.Prelude.{ℕ, ◌≡◌, ◌%◌, ◌<◌, ◌≤◌, ◌++◌, List, [], ◌∷◌, length, map, take, drop, set, Bool, true, false, nat_eq, if◌then◌else◌, None}
 use Rattle.afdx_config.specs.Config.{Plan, link_plan_at, IsPlan}
 use Rattle.afdx_config.specs.Plan.{bag_micros}
-use Rattle.afdx_config.specs.declared.LinkPlan.{LinkPlan}
+use Rattle.afdx_config.specs.declared.link_plan.LinkPlan.{LinkPlan}
 use Rattle.afdx_config.specs.Room.{room_of}
 use Rattle.afdx_config.specs.Numbers.{sequence_number}
 use Rattle.afdx_frame.specs.declared.net.Net.TheVariants.{A}

@@ -4,7 +4,7 @@ use Rattle.afdx_config.specs.Config.{link_plan_at}
 use Rattle.afdx_config.specs.Plan.{bag_micros}
 use Rattle.afdx_config.specs.Numbers.{sequence_number}
 use Rattle.afdx_config.specs.Room.{room_of}
-use Rattle.afdx_config.specs.declared.LinkPlan.{LinkPlan}
+use Rattle.afdx_config.specs.declared.link_plan.LinkPlan.{LinkPlan}
 use Rattle.afdx_frame.specs.declared.net.Net.TheVariants.{A}
 use Rattle.afdx_frame.specs.Header.{IsFrameOf}
 use Rattle.afdx_frame.specs.Twin.{twin_of}

@@ -1,7 +1,7 @@
 use Rattle.std.proofs.Common.{List, set, ◌++◌, ◌+◌, ◌≤◌, ◌≡◌, ◌<◌, true, false, refl, ◌∙◌, ap, sym, length, ℕ, subst, get_or, arith}
 use Rattle.std.proofs.lemmas.List.{get_or_default}
-use Rattle.afdx_config.specs.declared.VlId.{VlId}
-use Rattle.afdx_config.specs.declared.LinkPlan.{LinkPlan}
+use Rattle.afdx_config.specs.declared.identifiers.VlId.{VlId}
+use Rattle.afdx_config.specs.declared.link_plan.LinkPlan.{LinkPlan}
 use Rattle.vl_shaper.specs.Pace.{IsLater}
 use Rattle.afdx_tx.specs.declared.report.Release.{Release}
 use Rattle.afdx_tx.specs.Links.{LinkState, link_at, no_link}

@@ -1,5 +1,5 @@
 use Rattle.std.proofs.Common.{◌≡◌, true, ◌∙◌, ap, sym, ℕ}
-use Rattle.afdx_config.specs.declared.LinkPlan.{LinkPlan}
+use Rattle.afdx_config.specs.declared.link_plan.LinkPlan.{LinkPlan}
 use Rattle.afdx_tx.proofs.Moving.{passed_same}
 use Rattle.afdx_tx.proofs.Serve.{chosen_left, item_of, set_same, releases_at, loses_at}
 use Rattle.afdx_tx.proofs.Paced.{follows_more}

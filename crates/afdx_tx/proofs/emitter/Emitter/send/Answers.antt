@@ -1,7 +1,7 @@
 use Rattle.std.proofs.Common.{ℕ, ◌≡◌, ◌<◌, ◌≤◌, refl, ◌∙◌, ap, sym, subst, length, List, Some, None, set, get_or, arith, ◌⊎◌}
 use Rattle.std.proofs.lemmas.List.{get_or_read}
-use Rattle.afdx_config.specs.declared.LinkPlan.{LinkPlan}
-use Rattle.afdx_config.specs.declared.PortPlan.{PortPlan}
+use Rattle.afdx_config.specs.declared.link_plan.LinkPlan.{LinkPlan}
+use Rattle.afdx_config.specs.declared.port_plan.PortPlan.{PortPlan}
 use Rattle.afdx_config.specs.Config.{Plan, port_plan_at, link_plan_at}
 use Rattle.afdx_frame.specs.Fragments.{Sent}
 use Rattle.afdx_tx.specs.declared.fault.SendFault.{SendFault}

@@ -2,7 +2,7 @@ use Rattle.std.proofs.Common.{ℕ, ◌≡◌, ◌∷◌, ◌<◌, ◌≤◌, ◌
 use Rattle.std.specs.Prelude.{All}
 use Rattle.afdx_config.specs.Room.{room_of}
 use Rattle.afdx_frame.specs.declared.net.Net.TheVariants.{A}
-use Rattle.afdx_config.specs.declared.PortPlan.{PortPlan}
+use Rattle.afdx_config.specs.declared.port_plan.PortPlan.{PortPlan}
 use Rattle.afdx_config.specs.Plan.{SendsOver}
 use Rattle.afdx_frame.specs.Fragments.{Sent}
 use Rattle.afdx_tx.specs.Links.{Held, Starts, TellsCutting, left_of, message_fragments}

@@ -1,0 +1,16 @@
+//! A virtual link of a plan.
+use crate::bag::Bag;
+use crate::identifiers::VlId;
+use crate::lmax::Lmax;
+
+/// What the plan says of a virtual link.
+#[derive(Clone, Copy, Debug, PartialEq, Eq)]
+pub struct LinkPlan {
+    pub id: VlId,
+    pub bag: Bag,
+    pub lmax: Lmax,
+    // 1 to 4
+    pub sub_vls: u8,
+    // of each sub-VL's queue, in messages: 1 to 256
+    pub capacity: usize,
+}
