@@ -2,7 +2,7 @@
 use Rattle.std.specs.Prelude.{ℕ, ◌≡◌, ◌%◌, ◌<◌, ◌++◌, List, [], length, get_or, map, Bool, true}
 use Rattle.afdx_config.specs.Config.{Plan, link_plan_at}
 use Rattle.afdx_config.specs.Plan.{bag_micros}
-use Rattle.afdx_config.specs.declared.LinkPlan.{LinkPlan}
+use Rattle.afdx_config.specs.declared.link_plan.LinkPlan.{LinkPlan}
 use Rattle.afdx_frame.specs.declared.net.Net.TheVariants.{B}
 use Rattle.afdx_frame.specs.Fragments.{Sent}
 use Rattle.redundant_mux.specs.Entry.{Entry}

@@ -1,7 +1,7 @@
 -- A run of lines, with answers of queues that nothing but the run knows.
 use Rattle.std.specs.Prelude.{◌≡◌, ◌≤◌, ◌<◌, ℕ, ◌+◌, Bool, true, false, nat_lt, ◌==◌, if◌then◌else◌, List, [], ◌∷◌, ◌++◌, length, position, Option, Some, None}
 use Rattle.afdx_config.specs.Config.{Plan, port_plan_at, link_plan_at}
-use Rattle.afdx_config.specs.declared.PortPlan.{PortPlan}
+use Rattle.afdx_config.specs.declared.port_plan.PortPlan.{PortPlan}
 use Rattle.afdx_frame.specs.Fragments.{Sent}
 use Rattle.afdx_tx.specs.declared.fault.Refusal.{Refusal as SendRefusal}
 use Rattle.afdx_tx.specs.declared.fault.Refusal.TheVariants as Why
