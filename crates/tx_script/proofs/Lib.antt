@@ -4,3 +4,4 @@ mod LineLemmas
 mod MeaningLemmas
 mod NumberLemmas
 mod WordLemmas
+mod Polling
