@@ -5,3 +5,4 @@ mod MeaningLemmas
 mod NumberLemmas
 mod WordLemmas
 mod Polling
+mod Sending
