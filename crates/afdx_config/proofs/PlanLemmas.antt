@@ -48,11 +48,11 @@ one_place related xs i j d none in_i in_j one other = elim (cases_order i j) [
 ]
 
 -- the place of what is found
-record FoundAt (p : LinkPlan → Bool) (links : List LinkPlan) : Type 0 where
-  at : ℕ
-  within : at < length links
-  passes : p (link_plan_at links at) ≡ true
-  found : find p links ≡ Some (link_plan_at links at)
+pub record FoundAt (p : LinkPlan → Bool) (links : List LinkPlan) : Type 0 where
+  pub at : ℕ
+  pub within : at < length links
+  pub passes : p (link_plan_at links at) ≡ true
+  pub found : find p links ≡ Some (link_plan_at links at)
 
 -- the first, or one behind it
 found_next : (p : LinkPlan → Bool) (x : LinkPlan) (xs : List LinkPlan) (b : Bool) → p x ≡ b
@@ -71,12 +71,12 @@ found_next p x xs false is some later =
       found = rw is behind.found;
     }
 
-found_at : (p : LinkPlan → Bool) (links : List LinkPlan) → list_any p links ≡ true → FoundAt p links
+pub found_at : (p : LinkPlan → Bool) (links : List LinkPlan) → list_any p links ≡ true → FoundAt p links
 found_at p [] some = cc
 found_at p (x ∷ xs) some = found_next p x xs (p x) refl some (found_at p xs)
 
 -- the identifiers of a link that a port names
-named : (port : PortPlan) (link : LinkPlan) → is_link_of port link ≡ true → link.id ≡ port.vl
+pub named : (port : PortPlan) (link : LinkPlan) → is_link_of port link ≡ true → link.id ≡ port.vl
 named port link is =
     let vl : ℕ → VlId = λ n. record { 0 = n } in ap vl (eqb-true link.id.0 port.vl.0 is)
 
