@@ -33,6 +33,7 @@ record Decimal (n : ℕ) : Type 0 where
   no_dots : All (λ byte. (byte == 46) ≡ false) (decimal n)
   value : digits_value 10 (decimal n) ≡ n
 
+-- each number below 256 is such a number
 decimal_of : (n : ℕ) → n < 256 → Decimal n
 decimal_of n small =
     let numeral = decimal_is_IsNumeral n (omega arith) in
@@ -144,6 +145,7 @@ read_one text numbers address true is found =
     let written : writes_numbers text address ≡ true = subst (λ (ns : List ℕ). writes_numbers text ns ≡ true) same is in
     (is_dotted text address written, first_ten text address written)
 
+-- it is read only where it is written
 read_dotted : (text address : List ℕ) → address_of text ≡ Some address → IsDotted text address × (slice_index address 0 ≡ 10)
 unfolding address_of
 read_dotted text address found = read_one text (numbers_of text) address _ refl found

@@ -102,6 +102,7 @@ record OneAddress (s t : Option (List ℕ)) : Type 0 where
   first : s ≡ Some address
   second : t ≡ Some address
 
+-- two addresses that are one
 one_address : (s t : Option (List ℕ)) → are_one_address s t ≡ true → OneAddress s t
 one_address None t one = cc
 one_address (Some a) None one = cc
@@ -121,6 +122,7 @@ no_share plan p q is in_p in_q shares =
 no_fault_count : (most n : ℕ) → 1 ≤ n → n ≤ most → is_no_count most n ≡ false
 no_fault_count most n least below = or_from _ _ (ne_eqb n 0 (λ none. omega arith)) (le-ltb most n below)
 
+-- the law: fault by fault, in the order of their numbers
 pub faultless : (plan : Plan) → IsPlan plan → (fault : ConfigFault) → plan_shows fault plan ≡ false
 faultless plan is DuplicateVl = no_pair has_same_vl plan.links (link_plan_at [] 0) (λ i j before below.
     ne_eqb _ _ (λ number.
