@@ -4,3 +4,6 @@ mod LineLemmas
 mod MeaningLemmas
 mod NumberLemmas
 mod WordLemmas
+mod PlayLemmas
+mod RunLemmas
+mod EndLemmas
