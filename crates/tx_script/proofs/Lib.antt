@@ -1,9 +1,10 @@
+mod EndLemmas
+mod PlayLemmas
+mod RunLemmas
 pub mod FrameLemmas
 mod Matched
 mod LineLemmas
 mod MeaningLemmas
 mod NumberLemmas
 mod WordLemmas
-mod PlayLemmas
-mod RunLemmas
-mod EndLemmas
+mod Polling

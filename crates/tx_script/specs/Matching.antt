@@ -6,7 +6,7 @@ use Rattle.afdx_config.specs.declared.link_plan.LinkPlan.{LinkPlan}
 use Rattle.afdx_frame.specs.declared.net.Net.TheVariants.{B}
 use Rattle.afdx_frame.specs.Fragments.{Sent}
 use Rattle.redundant_mux.specs.Entry.{Entry}
-use Rattle.redundant_mux.specs.Lines.{Lines, side}
+use Rattle.redundant_mux.specs.Lines.{Lines, side, log as log_of}
 use Rattle.afdx_tx.specs.declared.sub_vl.SubVl.{SubVl}
 use Rattle.afdx_tx.specs.Legal.{Accepted}
 use Rattle.afdx_tx.specs.Links.{Held, LinkState, held_at, link_at}
@@ -31,6 +31,7 @@ pub record MatchesLink (own : ℕ) (planned : LinkPlan) (accepted : ℕ → List
 
 -- both networks stand, and hold what was handed over
 pub record MatchesLines (log : List Entry) (lines : Lines) : Type 0 where
+  pub is : log_of lines ≡ log
   pub a : lines.a ≡ log
   pub b : lines.b ≡ map (side B) log
   pub for_a : lines.a_stands ≡ true
