@@ -28,4 +28,6 @@ pub use run_fault::RunFault;
 pub use summary::Summary;
 
 #[cfg(test)]
+mod run_tests;
+#[cfg(test)]
 mod tests;
