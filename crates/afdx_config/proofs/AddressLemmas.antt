@@ -1,5 +1,5 @@
 -- A text that writes four numbers is read as them.
-use Rattle.std.proofs.Common.{◌≡◌, ℕ, ◌<◌, Bool, true, false, List, [], ◌∷◌, ◌++◌, map, Some, None, refl, ap, sym, subst, ◌∙◌, arith, append_assoc}
+use Rattle.std.proofs.Common.{◌≡◌, ℕ, ◌<◌, Bool, true, false, List, [], ◌∷◌, ◌++◌, map, Some, None, refl, ap, sym, subst, ◌∙◌, arith, append_assoc, eq-eqb}
 use Rattle.std.specs.Prelude.{◌==◌, ◌&&◌, nat_lt, if◌then◌else◌, bytes_eq, slice_index, All, decimal}
 use Rattle.std.specs.List.{slice_split}
 use Rattle.std.specs.Char.{digit_value}
@@ -11,8 +11,9 @@ use Rattle.std.proofs.lemmas.Fmt.{decimal_is_IsNumeral}
 use Rattle.std.proofs.lemmas.List.Splits.{slice_split_none, slice_split_at}
 use Rattle.std.proofs.lemmas.List.Elements.{All-cons}
 use Rattle.std.proofs.lemmas.Slice.Eq.{bytes_eq-Decides}
+use Rattle.std.proofs.lemmas.Option.{same_Some}
 use Rattle.std.proofs.lemmas.Bool.{and_parts, and_from, ltb-true, eqb-true, lt-ltb, false_from_ne_true, cond-false}
-use Rattle.afdx_config.specs.Values.{numbers_of, writes_numbers, address_of}
+use Rattle.afdx_config.specs.Values.{numbers_of, writes_numbers, address_of, AddressesAreDotted}
 
 -- a text is itself
 bytes_eq_same : (xs : List ℕ) → bytes_eq xs xs ≡ true
@@ -32,6 +33,7 @@ record Decimal (n : ℕ) : Type 0 where
   no_dots : All (λ byte. (byte == 46) ≡ false) (decimal n)
   value : digits_value 10 (decimal n) ≡ n
 
+-- each number below 256 is such a number
 decimal_of : (n : ℕ) → n < 256 → Decimal n
 decimal_of n small =
     let numeral = decimal_is_IsNumeral n (omega arith) in
@@ -106,6 +108,20 @@ is_dotted text (a ∷ b ∷ c ∷ d ∷ []) h =
     }
 is_dotted text (a ∷ b ∷ c ∷ d ∷ e ∷ rest) h = cc
 
+-- their first is 10
+first_ten : (text numbers : List ℕ) → writes_numbers text numbers ≡ true → slice_index numbers 0 ≡ 10
+first_ten text [] h = cc
+first_ten text (a ∷ []) h = cc
+first_ten text (a ∷ b ∷ []) h = cc
+first_ten text (a ∷ b ∷ c ∷ []) h = cc
+first_ten text (a ∷ b ∷ c ∷ d ∷ []) h =
+    let (numbers, spelled) = and_parts _ (bytes_eq text (dotted_text a b c d)) h in
+    let (three, fourth) = and_parts _ (nat_lt d 256) numbers in
+    let (two, third) = and_parts _ (nat_lt c 256) three in
+    let (first, second) = and_parts (a == 10) (nat_lt b 256) two in
+    eqb-true a 10 first
+first_ten text (a ∷ b ∷ c ∷ d ∷ e ∷ rest) h = cc
+
 -- a text that writes no address is read as none
 pub address_of-none : (text : List ℕ) → ((a : Ipv4Addr) → IsDotted text a.octets → ⊥) → address_of text ≡ None
 unfolding address_of
@@ -113,3 +129,27 @@ address_of-none text none =
     let refused : writes_numbers text (numbers_of text) ≡ false = false_from_ne_true _ (λ written.
     none (record { octets = numbers_of text }) (is_dotted text (numbers_of text) written)) in
     cond-false (writes_numbers text (numbers_of text)) (Some (numbers_of text)) None refused
+
+-- an address is read where it is written
+dotted_read : (text address : List ℕ) → IsDotted text address → slice_index address 0 ≡ 10 → address_of text ≡ Some address
+dotted_read text address is ten =
+    address_of-dotted text address is
+    ∙ ap (λ (test : Bool). if test then Some address else None) (eq-eqb (slice_index address 0) 10 ten)
+
+-- what is read
+read_one : (text numbers address : List ℕ) (b : Bool) → writes_numbers text numbers ≡ b
+    → (if b then Some numbers else None) ≡ Some address → IsDotted text address × (slice_index address 0 ≡ 10)
+read_one text numbers address false is found = cc
+read_one text numbers address true is found =
+    let same : numbers ≡ address = same_Some numbers address found in
+    let written : writes_numbers text address ≡ true = subst (λ (ns : List ℕ). writes_numbers text ns ≡ true) same is in
+    (is_dotted text address written, first_ten text address written)
+
+-- it is read only where it is written
+read_dotted : (text address : List ℕ) → address_of text ≡ Some address → IsDotted text address × (slice_index address 0 ≡ 10)
+unfolding address_of
+read_dotted text address found = read_one text (numbers_of text) address _ refl found
+
+-- both ways
+pub addresses_are_dotted : AddressesAreDotted
+addresses_are_dotted text address = (read_dotted text address, λ both. dotted_read text address both.0 both.1)

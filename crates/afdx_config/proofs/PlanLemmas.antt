@@ -48,11 +48,11 @@ one_place related xs i j d none in_i in_j one other = elim (cases_order i j) [
 ]
 
 -- the place of what is found
-record FoundAt (p : LinkPlan → Bool) (links : List LinkPlan) : Type 0 where
-  at : ℕ
-  within : at < length links
-  passes : p (link_plan_at links at) ≡ true
-  found : find p links ≡ Some (link_plan_at links at)
+pub record FoundAt (p : LinkPlan → Bool) (links : List LinkPlan) : Type 0 where
+  pub at : ℕ
+  pub within : at < length links
+  pub passes : p (link_plan_at links at) ≡ true
+  pub found : find p links ≡ Some (link_plan_at links at)
 
 -- the first, or one behind it
 found_next : (p : LinkPlan → Bool) (x : LinkPlan) (xs : List LinkPlan) (b : Bool) → p x ≡ b
@@ -71,12 +71,13 @@ found_next p x xs false is some later =
       found = rw is behind.found;
     }
 
-found_at : (p : LinkPlan → Bool) (links : List LinkPlan) → list_any p links ≡ true → FoundAt p links
+-- where some link passes, one is found
+pub found_at : (p : LinkPlan → Bool) (links : List LinkPlan) → list_any p links ≡ true → FoundAt p links
 found_at p [] some = cc
 found_at p (x ∷ xs) some = found_next p x xs (p x) refl some (found_at p xs)
 
 -- the identifiers of a link that a port names
-named : (port : PortPlan) (link : LinkPlan) → is_link_of port link ≡ true → link.id ≡ port.vl
+pub named : (port : PortPlan) (link : LinkPlan) → is_link_of port link ≡ true → link.id ≡ port.vl
 named port link is =
     let vl : ℕ → VlId = λ n. record { 0 = n } in ap vl (eqb-true link.id.0 port.vl.0 is)
 
@@ -104,6 +105,7 @@ same_vl links i j none in_i in_j same =
     let number : (link_plan_at links i).id.0 ≡ (link_plan_at links j).id.0 = ap (λ (v : VlId). v.0) same in
     one_place has_same_vl links i j _ none in_i in_j (eq-eqb _ _ number) (eq-eqb _ _ (sym number))
 
+-- two ports of one identifier are one
 same_port : (ports : List PortPlan) (i j : ℕ) → has_pair has_same_port ports ≡ false → i < length ports → j < length ports
     → (port_plan_at ports i).id ≡ (port_plan_at ports j).id → i ≡ j
 same_port ports i j none in_i in_j same =
@@ -185,6 +187,7 @@ shared p q address of_p of_q partition apart =
     let one : are_one_address p.unicast q.unicast ≡ true = rw (of_p, of_q) ((bytes_eq-Decides address address).1 refl) in
     and_from _ _ (and_from _ _ (not_from_false _ (ne_eqb p.vl.0 q.vl.0 apart)) (eq-eqb p.partition q.partition partition)) one
 
+-- ports of one partition and unicast address are on one link
 unicast : (ports : List PortPlan) (p q : PortPlan) (address : List ℕ) → has_pair shares_unicast ports ≡ false
     → Contains ports p → Contains ports q → p.unicast ≡ Some address → q.unicast ≡ Some address
     → p.partition ≡ q.partition → p.vl ≡ q.vl
@@ -201,6 +204,7 @@ record CountedAt (p : PortPlan → Bool) (ports : List PortPlan) : Type 0 where
   within : at < length ports
   passes : p (port_plan_at ports at) ≡ true
 
+-- the first, or one behind it
 counted_next : (p : PortPlan → Bool) (x : PortPlan) (xs : List PortPlan) (b : Bool) → p x ≡ b
     → 0 < count_by p (x ∷ xs) → (0 < count_by p xs → CountedAt p xs) → CountedAt p (x ∷ xs)
 counted_next p x xs true is some later = record { at = 0; within = omega arith; passes = is }
@@ -214,6 +218,7 @@ counted_next p x xs false is some later =
       passes = behind.passes;
     }
 
+-- where a count is not 0, there is one that it counts
 counted : (p : PortPlan → Bool) (ports : List PortPlan) → 0 < count_by p ports → CountedAt p ports
 counted p [] some = absurd (omega arith)
 counted p (x ∷ xs) some = counted_next p x xs (p x) refl some (counted p xs)
@@ -240,6 +245,7 @@ counts most n h =
     let some = eqb-false n 0 none in
     (omega arith, ltb-false most n many)
 
+-- the plan is valid: fault by fault
 pub valid : (plan : Plan) → plan.end_system < 65536 → All IsLink plan.links → All IsPort plan.ports
     → find (λ fault. plan_shows fault plan) plan_faults ≡ None → IsPlan plan
 valid plan end each_link each_port none =

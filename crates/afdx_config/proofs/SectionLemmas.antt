@@ -43,6 +43,7 @@ tables_among-some (boolean s) ms e = cc
 tables_among-some (datetime s) ms e = cc
 tables_among-some (array s) ms e = cc
 
+-- another value is no table
 pub tables_among-none : (d : Data) → None ≡ as_table d → tables_among (item d no_items) ≡ []
 tables_among-none (table ns) e = cc
 tables_among-none (string s) e = refl
@@ -58,6 +59,7 @@ pub rows_step-some : {X : Type 0} (f : X → Members) (old new : List X) (x : X)
 rows_step-some f old new x d before after grown was is found =
     ap (map f) grown ∙ map-append f old (x ∷ []) ∙ ap (λ b. b ++ f x ∷ []) was ∙ sym (is ∙ ap (λ t. before ++ t) (tables_among-some d (f x) found))
 
+-- or no row more
 pub rows_step-none : {X : Type 0} (f : X → Members) (old new : List X) (d : Data) (before after : List Members) → new ≡ old → map f old ≡ before
     → after ≡ before ++ tables_among (item d no_items) → None ≡ as_table d → map f new ≡ after
 rows_step-none f old new d before after same was is found =

@@ -3,7 +3,7 @@ use Rattle.std.specs.Prelude.{◌≡◌, ℕ, ◌<◌, List, [], ◌∷◌, ◌+
 use Rattle.std.specs.List.{list_any}
 use Rattle.toml.specs.Data.{Members}
 use Rattle.toml.specs.Parse.{parse_document}
-use Rattle.afdx_config.specs.Config.{Plan}
+use Rattle.afdx_config.specs.Config.{Plan, IsPlan}
 use Rattle.afdx_config.specs.PlanOf.{plan_of}
 use Rattle.afdx_config.specs.PlanFaults.{has_pair, has_same_vl, has_same_port, names_no_link, names_no_sub, is_too_long, has_same_flow, shares_unicast, is_past_limits}
 use Rattle.afdx_config.specs.Document.{lacks_key, has_unknown_key, has_wrong_kind, is_out_of_range, has_bad_bag}
@@ -89,3 +89,8 @@ plan_faults = DuplicateVl
 -- all that a document shows
 abbrev pub all_faults : List ConfigFault
 all_faults = value_faults ++ plan_faults
+
+-- a valid plan shows none of the faults that plans show: validity asks no more than the faults do
+abbrev pub ValidPlansShowNoFault : Type 0
+ValidPlansShowNoFault =
+    (plan : Plan) (fault : ConfigFault) → IsPlan plan → plan_shows fault plan ≡ false

@@ -1,8 +1,9 @@
 -- The values of a plan, as a text writes them.
-use Rattle.std.specs.Prelude.{ℕ, ℤ, pos, negsuc, ◌==◌, ◌&&◌, nat_lt, if◌then◌else◌, Bool, false, List, [], ◌∷◌, map, codes, bytes_eq, Option, Some, None}
+use Rattle.std.specs.Prelude.{ℕ, ℤ, pos, negsuc, ◌==◌, ◌&&◌, nat_lt, if◌then◌else◌, Bool, false, List, [], ◌∷◌, map, codes, bytes_eq, Option, Some, None, ◌≡◌, ◌↔◌, slice_index}
 use Rattle.std.specs.List.{slice_split}
 use Rattle.std.specs.Str.Parse.{digits_value}
 use Rattle.std.specs.Net.Text.{dotted_text}
+use Rattle.std.specs.Net.Grammar.{IsDotted}
 use Rattle.afdx_config.specs.declared.bag.Bag.{Bag}
 use Rattle.afdx_config.specs.declared.bag.Bag.TheVariants.{Ms1, Ms2, Ms4, Ms8, Ms16, Ms32, Ms64, Ms128}
 use Rattle.afdx_config.specs.declared.identifiers.Kind.{Kind}
@@ -42,3 +43,9 @@ writes_numbers text _ = false
 -- the unicast address that a text writes
 unfoldable pub address_of : List ℕ → Option (List ℕ)
 address_of text = if writes_numbers text (numbers_of text) then Some (numbers_of text) else None
+
+-- an address is read exactly where the text is its four numbers in decimal, joined by dots, none
+-- with a leading zero, and the first is 10
+abbrev pub AddressesAreDotted : Type 0
+AddressesAreDotted = (text address : List ℕ)
+    → (address_of text ≡ Some address) ↔ (IsDotted text address × (slice_index address 0 ≡ 10))

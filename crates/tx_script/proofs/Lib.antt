@@ -8,3 +8,4 @@ mod MeaningLemmas
 mod NumberLemmas
 mod WordLemmas
 mod Polling
+mod Sending

@@ -1,18 +1,17 @@
 -- A poll of an emitter, played over plain lists.
-use Rattle.std.proofs.Common.{ℕ, zero, suc, ◌≡◌, ◌≢◌, ◌⊎◌, ◌+◌, ◌-◌, ◌%◌, ◌<◌, ◌≤◌, List, [], ◌∷◌, ◌++◌, Bool, true, false, cond, length, map, take, drop, set, get_or, arith, refl, ap, ◌∙◌, sym, subst, inl, inr, ⊎_elim, Option, Some, None}
+use Rattle.std.proofs.Common.{ℕ, zero, suc, ◌≡◌, ◌≢◌, ◌+◌, ◌-◌, ◌%◌, ◌<◌, ◌≤◌, List, [], ◌∷◌, ◌++◌, Bool, true, false, cond, length, map, take, drop, set, get_or, arith, refl, ap, ◌∙◌, sym, subst, ⊎_elim, Option, Some, None}
 use Rattle.std.proofs.lemmas.List.{length-set, get_or-set_same, get_or-set_other, append_assoc, length-append, take_more, take_all}
 use Rattle.std.proofs.lemmas.Bool.{cases_eq, cases_lt}
 use Rattle.std.proofs.lemmas.Nat.{mod_below}
 use Rattle.vl_shaper.specs.declared.shaper.Stamp.{Stamp}
 use Rattle.afdx_tx.proofs.Choosing.{met}
-use Rattle.std.specs.Prelude.{slice_index}
-use Rattle.afdx_config.specs.Config.{Plan, link_plan_at}
+use Rattle.afdx_config.specs.Config.{link_plan_at}
 use Rattle.afdx_config.specs.Plan.{bag_micros}
 use Rattle.afdx_config.specs.Room.{room_of}
 use Rattle.afdx_config.specs.declared.link_plan.LinkPlan.{LinkPlan}
 use Rattle.afdx_frame.specs.declared.net.Net.TheVariants.{A, B}
 use Rattle.afdx_frame.specs.Header.{number_in}
-use Rattle.afdx_frame.specs.Fragments.{Sent, blanked, fragments_at}
+use Rattle.afdx_frame.specs.Fragments.{Sent, blanked}
 use Rattle.afdx_frame.proofs.Twins.{fragments_again}
 use Rattle.redundant_mux.specs.Entry.{Entry, entry}
 use Rattle.redundant_mux.specs.Lines.{Lines, side, log, Keeps, IsMirrored}
@@ -24,7 +23,7 @@ use Rattle.afdx_tx.specs.declared.served.Served.{Served}
 use Rattle.afdx_tx.specs.declared.served.Served.TheVariants.{Nothing, Released, Lost}
 use Rattle.afdx_tx.specs.declared.sub_vl.SubVl.{SubVl}
 use Rattle.afdx_tx.specs.Streams.{link_stream}
-use Rattle.afdx_tx.specs.Links.{Held, LinkState, held_at, nothing_held, link_at, no_link, no_link_plan, GoesOn, Starts, Passes, Asks, IsChoice, PassedOver, Picks, Gives, Releases, ReleasesAt, Serves, IsSameLink, is_lost, pace_of, message_fragments}
+use Rattle.afdx_tx.specs.Links.{Held, LinkState, held_at, nothing_held, link_at, GoesOn, Starts, Passes, Asks, IsChoice, PassedOver, Gives, ReleasesAt, Serves, IsSameLink, is_lost, pace_of, message_fragments}
 use Rattle.afdx_tx.specs.Run.{IsTurn, IsRun}
 use Rattle.tx_script.specs.EndSystem.{Progress, Look, no_progress, progress_at, first_look, started, has_left, are_some, Asked, by_look, ask, turns_from, Came, next_frame, released_of, serve_paced, serve_link, then_links, serve_links, EndSystem, polled}
 use Rattle.tx_script.specs.Matching.{MatchesSub, MatchesLink, MatchesLines, Matches}
@@ -55,9 +54,9 @@ choice_others : (pace : Pace) (old mid : List Held) (sub : ℕ) → (c : IsChoic
 choice_others pace old mid sub c s ne = ⊎_elim
     (λ h. subst (λ (i : ℕ). held_at mid i ≡ held_at old i) h.2 (let p : Passes (held_at old (turn_of pace.sub_vls pace.last h.0)) (held_at mid (turn_of pace.sub_vls pace.last h.0)) = c.before h.0 h.1 in p.same))
     (λ h. c.others s (λ k le e. ⊎_elim
-        (λ (lt : k < c.turn). h k lt e)
-        (λ (ge : c.turn ≤ k). let q : k ≡ c.turn = omega arith in ne (sym e ∙ ap (turn_of pace.sub_vls pace.last) q ∙ sym c.is))
-        (cases_lt k c.turn)))
+    (λ (lt : k < c.turn). h k lt e)
+    (λ (ge : c.turn ≤ k). let q : k ≡ c.turn = omega arith in ne (sym e ∙ ap (turn_of pace.sub_vls pace.last) q ∙ sym c.is))
+    (cases_lt k c.turn)))
     (met (turn_of pace.sub_vls pace.last) c.turn s)
 
 -- where none has anything, all are as they were
@@ -80,7 +79,7 @@ module _ (own : ℕ) (plan : LinkPlan) (accepted : ℕ → List Sent) where
   starts_match s progress old new m p =
       let size : length (progress.taken ++ p.message ∷ []) ≡ length progress.taken + 1 = length-append progress.taken (p.message ∷ []) in
       let again : message_fragments (of_sub s) (length progress.taken) p.message ≡ message_fragments (of_sub s) (length progress.taken % 16384) p.message =
-          sym (fragments_again own (room_of plan.lmax) A (length progress.taken) p.message) in
+      sym (fragments_again own (room_of plan.lmax) A (length progress.taken) p.message) in
       record {
         of = p.of ∙ m.of;
         left = again ∙ ap (λ (place : ℕ). message_fragments (of_sub s) place p.message) (sym m.place) ∙ ap (λ (o : SubVl). message_fragments o old.place p.message) (sym m.of) ∙ sym p.left;
@@ -96,23 +95,23 @@ module _ (own : ℕ) (plan : LinkPlan) (accepted : ℕ → List Sent) where
   -- a sub-VL that has nothing is passed over
   asked_pass : (subs : List Progress) (s : ℕ) (order : List ℕ) (chosen : Option ℕ) (after : List Progress) → has_left (progress_at subs s) ≡ false → IsAsked subs order chosen after → IsAsked subs (s ∷ order) chosen after
   asked_pass subs s order chosen after none a = record {
-      looks = None ∷ a.looks;
-      is = λ more. ap (λ (b : Bool). cond b (record { subs = subs; chosen = Some s; looks = None ∷ (a.looks ++ more) }) (ask own plan subs order (a.looks ++ more))) none ∙ a.is more;
-    }
+    looks = None ∷ a.looks;
+    is = λ more. ap (λ (b : Bool). cond b (record { subs = subs; chosen = Some s; looks = None ∷ (a.looks ++ more) }) (ask own plan subs order (a.looks ++ more))) none ∙ a.is more;
+  }
 
   -- one that has a fragment left is chosen without a look
   asked_left : (subs : List Progress) (s : ℕ) (order : List ℕ) → has_left (progress_at subs s) ≡ true → IsAsked subs (s ∷ order) (Some s) subs
   asked_left subs s order some = record {
-      looks = [];
-      is = λ more. ap (λ (b : Bool). cond b (record { subs = subs; chosen = Some s; looks = more }) (by_look (first_look more) (ask own plan subs order (drop 1 more)) (λ message. record { subs = set subs s (started (of_sub s) (progress_at subs s) message); chosen = Some s; looks = drop 1 more }))) some;
-    }
+    looks = [];
+    is = λ more. ap (λ (b : Bool). cond b (record { subs = subs; chosen = Some s; looks = more }) (by_look (first_look more) (ask own plan subs order (drop 1 more)) (λ message. record { subs = set subs s (started (of_sub s) (progress_at subs s) message); chosen = Some s; looks = drop 1 more }))) some;
+  }
 
   -- one at which a look finds a message is chosen
   asked_found : (subs : List Progress) (s : ℕ) (order : List ℕ) (message : Sent) → has_left (progress_at subs s) ≡ false → IsAsked subs (s ∷ order) (Some s) (set subs s (started (of_sub s) (progress_at subs s) message))
   asked_found subs s order message none = record {
-      looks = Some message ∷ [];
-      is = λ more. ap (λ (b : Bool). cond b (record { subs = subs; chosen = Some s; looks = Some message ∷ more }) (record { subs = set subs s (started (of_sub s) (progress_at subs s) message); chosen = Some s; looks = more })) none;
-    }
+    looks = Some message ∷ [];
+    is = λ more. ap (λ (b : Bool). cond b (record { subs = subs; chosen = Some s; looks = Some message ∷ more }) (record { subs = set subs s (started (of_sub s) (progress_at subs s) message); chosen = Some s; looks = more })) none;
+  }
 
   -- What asking one sub-VL that has something comes to.
   record Here (subs : List Progress) (mid : List Held) (s : ℕ) : Type 0 where
@@ -164,8 +163,8 @@ module _ (own : ℕ) (plan : LinkPlan) (accepted : ℕ → List Sent) where
       let below : k < c.turn = omega arith in
       let small : turn_of pace.sub_vls pace.last k < plan.sub_vls = let lt = turn_small pace.sub_vls pace.last k (let w = c.within in omega arith) in omega arith in
       asked_pass subs s (turns_from pace (k + 1) many) (Some sub) here.after
-          (passes_none s (progress_at subs s) (held_at old s) (held_at mid s) (m s small) (c.before k below))
-          (asked_from pace subs old mid sub c n m here behind (k + 1) many (omega arith) (omega arith))
+      (passes_none s (progress_at subs s) (held_at old s) (held_at mid s) (m s small) (c.before k below))
+      (asked_from pace subs old mid sub c n m here behind (k + 1) many (omega arith) (omega arith))
 
   -- the choice, asked for
   chosen_by : (pace : Pace) (subs : List Progress) (old mid : List Held) (sub : ℕ) → IsChoice pace old sub mid → pace.sub_vls ≡ plan.sub_vls → length subs ≡ plan.sub_vls → AreMatched subs old → Chosen pace subs mid sub
@@ -178,8 +177,8 @@ module _ (own : ℕ) (plan : LinkPlan) (accepted : ℕ → List Sent) where
         matched = λ s lt. ⊎_elim
             (λ (e : s ≡ sub). subst (λ (i : ℕ). MatchesSub (of_sub i) (accepted i) (progress_at here.after i) (held_at mid i)) (sym e) here.matched)
             (λ (ne : s ≢ sub).
-                subst (λ (progress : Progress). MatchesSub (of_sub s) (accepted s) progress (held_at mid s)) (sym (here.others s ne))
-                    (subst (MatchesSub (of_sub s) (accepted s) (progress_at subs s)) (sym (choice_others pace old mid sub c s ne)) (m s lt)))
+            subst (λ (progress : Progress). MatchesSub (of_sub s) (accepted s) progress (held_at mid s)) (sym (here.others s ne))
+            (subst (MatchesSub (of_sub s) (accepted s) (progress_at subs s)) (sym (choice_others pace old mid sub c s ne)) (m s lt)))
             (cases_eq s sub);
         count = here.count;
       }
@@ -192,8 +191,8 @@ module _ (own : ℕ) (plan : LinkPlan) (accepted : ℕ → List Sent) where
       let s : ℕ = turn_of pace.sub_vls pace.last k in
       let small : turn_of pace.sub_vls pace.last k < plan.sub_vls = let lt = turn_small pace.sub_vls pace.last k (omega arith) in omega arith in
       asked_pass subs s (turns_from pace (k + 1) many) None subs
-          (passes_none s (progress_at subs s) (held_at old s) (held_at new s) (m s small) (p.before k (omega arith)))
-          (asked_none pace subs old new p n m (k + 1) many (omega arith))
+      (passes_none s (progress_at subs s) (held_at old s) (held_at new s) (m s small) (p.before k (omega arith)))
+      (asked_none pace subs old new p n m (k + 1) many (omega arith))
 
   -- What one link came to: its sub-VLs and what was handed over, whatever looks follow.
   record IsServed (now : ℕ) (subs : List Progress) (H J : List Entry) (link : LinkState) : Type 0 where
@@ -205,14 +204,14 @@ module _ (own : ℕ) (plan : LinkPlan) (accepted : ℕ → List Sent) where
   -- a link that stays one of the plan
   link_after : (link new : LinkState) (subs after : List Progress) → IsSameLink link new → MatchesLink own plan accepted subs link → length after ≡ length subs → AreMatched after new.subs → MatchesLink own plan accepted after new
   link_after link new subs after same m count matched = record {
-      end_system = same.end_system ∙ m.end_system;
-      plan = same.plan ∙ m.plan;
-      gap = same.gap ∙ m.gap;
-      sub_vls = same.sub_vls ∙ m.sub_vls;
-      count = same.count ∙ m.count;
-      many = count ∙ m.many;
-      each = matched;
-    }
+    end_system = same.end_system ∙ m.end_system;
+    plan = same.plan ∙ m.plan;
+    gap = same.gap ∙ m.gap;
+    sub_vls = same.sub_vls ∙ m.sub_vls;
+    count = same.count ∙ m.count;
+    many = count ∙ m.many;
+    each = matched;
+  }
 
   -- what a link does, by its regulation
   paced_served : (now : ℕ) (subs : List Progress) (H : List Entry) (looks : List Look) → serve_link now own plan subs H looks ≡ serve_paced now own plan subs H looks (pace_of (bag_micros plan.bag) plan.sub_vls (link_stream plan.id.0 H))
@@ -230,11 +229,11 @@ module _ (own : ℕ) (plan : LinkPlan) (accepted : ℕ → List Sent) where
   -- a sub-VL that gave its next frame
   gave_match : (s : ℕ) (progress : Progress) (mid held : Held) (frame : List ℕ) → MatchesSub (of_sub s) (accepted s) progress mid → Gives mid frame held → MatchesSub (of_sub s) (accepted s) (record progress { left = drop 1 progress.left }) held
   gave_match s progress mid held frame m g = record {
-      of = g.of ∙ m.of;
-      left = ap (drop 1) (m.left ∙ g.next);
-      place = g.place ∙ m.place;
-      accepted_is = m.accepted_is ∙ ap (λ (w : List Sent). progress.taken ++ w) (sym g.waiting);
-    }
+    of = g.of ∙ m.of;
+    left = ap (drop 1) (m.left ∙ g.next);
+    place = g.place ∙ m.place;
+    accepted_is = m.accepted_is ∙ ap (λ (w : List Sent). progress.taken ++ w) (sym g.waiting);
+  }
 
   -- the frame that goes out is the next one of the sub-VL, with its number
   frame_is : (progress : Progress) (mid held : Held) (frame : List ℕ) (number : ℕ) → progress.left ≡ mid.left → Gives mid frame held → 60 ≤ length frame → number_in frame ≡ number → next_frame progress number ≡ frame
@@ -255,9 +254,9 @@ module _ (own : ℕ) (plan : LinkPlan) (accepted : ℕ → List Sent) where
       let small : sub < plan.sub_vls = let lt = turn_small pace.sub_vls pace.last p.choice.turn p.choice.within in let e = p.choice.is in omega arith in
       let next : Progress = record (progress_at c.after sub) { left = drop 1 (progress_at c.after sub).left } in
       let frame : next_frame (progress_at c.after sub) pace.next ≡ r.frame =
-          ap (next_frame (progress_at c.after sub)) (sym numbered) ∙ frame_is (progress_at c.after sub) (held_at p.mid sub) p.held r.frame number (c.matched sub small).left r.gives r.of.size r.of.carries in
+      ap (next_frame (progress_at c.after sub)) (sym numbered) ∙ frame_is (progress_at c.after sub) (held_at p.mid sub) p.held r.frame number (c.matched sub small).left r.gives r.of.size r.of.carries in
       let entered : log lines ++ entry now (next_frame (progress_at c.after sub) pace.next) ∷ [] ≡ log after =
-          ap (λ (f : List ℕ). log lines ++ entry now f ∷ []) frame ∙ sym r.enters in
+      ap (λ (f : List ℕ). log lines ++ entry now f ∷ []) frame ∙ sym r.enters in
       let inside : sub < length c.after = let count = c.count in let many = m.many in omega arith in
       let held : held_at new.subs sub ≡ p.held = ap (λ (x : List Held). held_at x sub) p.others ∙ get_or-set_same p.mid sub p.held nothing_held (let count = p.choice.count in let below = p.choice.below in omega arith) in
       record {
@@ -268,15 +267,15 @@ module _ (own : ℕ) (plan : LinkPlan) (accepted : ℕ → List Sent) where
             ∙ ap (λ (J : List Entry). record { subs = set c.after sub (record (progress_at c.after sub) { left = drop 1 (progress_at c.after sub).left }); log = J; looks = more }) entered;
         matched = link_after link new subs _ same m (length-set c.after sub next ∙ c.count) (λ s lt. ⊎_elim
             (λ (e : s ≡ sub).
-                let gave : MatchesSub (of_sub sub) (accepted sub) (record (progress_at c.after sub) { left = drop 1 (progress_at c.after sub).left }) p.held =
-                    gave_match sub (progress_at c.after sub) (held_at p.mid sub) p.held r.frame (c.matched sub small) r.gives in
-                subst (λ (i : ℕ). MatchesSub (of_sub i) (accepted i) (progress_at (set c.after sub (record (progress_at c.after sub) { left = drop 1 (progress_at c.after sub).left })) i) (held_at new.subs i)) (sym e)
-                    (subst (λ (progress : Progress). MatchesSub (of_sub sub) (accepted sub) progress (held_at new.subs sub)) (sym (get_or-set_same c.after sub next no_progress inside))
-                        (subst (MatchesSub (of_sub sub) (accepted sub) (record (progress_at c.after sub) { left = drop 1 (progress_at c.after sub).left })) (sym held) gave)))
+            let gave : MatchesSub (of_sub sub) (accepted sub) (record (progress_at c.after sub) { left = drop 1 (progress_at c.after sub).left }) p.held =
+            gave_match sub (progress_at c.after sub) (held_at p.mid sub) p.held r.frame (c.matched sub small) r.gives in
+            subst (λ (i : ℕ). MatchesSub (of_sub i) (accepted i) (progress_at (set c.after sub (record (progress_at c.after sub) { left = drop 1 (progress_at c.after sub).left })) i) (held_at new.subs i)) (sym e)
+            (subst (λ (progress : Progress). MatchesSub (of_sub sub) (accepted sub) progress (held_at new.subs sub)) (sym (get_or-set_same c.after sub next no_progress inside))
+            (subst (MatchesSub (of_sub sub) (accepted sub) (record (progress_at c.after sub) { left = drop 1 (progress_at c.after sub).left })) (sym held) gave)))
             (λ (ne : s ≢ sub).
-                let other : held_at new.subs s ≡ held_at p.mid s = ap (λ (x : List Held). held_at x s) p.others ∙ get_or-set_other p.mid sub s p.held nothing_held ne in
-                subst (λ (progress : Progress). MatchesSub (of_sub s) (accepted s) progress (held_at new.subs s)) (sym (get_or-set_other c.after sub s next no_progress ne))
-                    (subst (MatchesSub (of_sub s) (accepted s) (progress_at c.after s)) (sym other) (c.matched s lt)))
+            let other : held_at new.subs s ≡ held_at p.mid s = ap (λ (x : List Held). held_at x s) p.others ∙ get_or-set_other p.mid sub s p.held nothing_held ne in
+            subst (λ (progress : Progress). MatchesSub (of_sub s) (accepted s) progress (held_at new.subs s)) (sym (get_or-set_other c.after sub s next no_progress ne))
+            (subst (MatchesSub (of_sub s) (accepted s) (progress_at c.after s)) (sym other) (c.matched s lt)))
             (cases_eq s sub));
       }
 
@@ -287,21 +286,21 @@ module _ (own : ℕ) (plan : LinkPlan) (accepted : ℕ → List Sent) where
       → IsServed now subs (log lines) (log after) new
   served_by now Nothing pace link new subs lines after m same n v kept paced =
       subst (λ (J : List Entry). IsServed now subs (log lines) J new) (ap log (sym v.1)) (⊎_elim
-        (λ h. record {
-          after = subs;
-          looks = [];
-          is = λ more. paced more ∙ not_due now pace subs (log lines) more h.0;
-          matched = link_after link new subs subs same m refl (λ s lt. subst (λ (held : List Held). MatchesSub (of_sub s) (accepted s) (progress_at subs s) (held_at held s)) (sym h.1) (m.each s lt));
-        })
-        (λ h.
-          let none : IsAsked subs (turns_from pace 0 pace.sub_vls) None subs = asked_none pace subs link.subs new.subs h.1 n m.each 0 pace.sub_vls (omega arith) in
-          record {
-            after = subs;
-            looks = none.looks;
-            is = λ more. paced (none.looks ++ more) ∙ is_asked now pace subs (log lines) (none.looks ++ more) (record { subs = subs; chosen = None; looks = more }) h.0 (none.is more);
-            matched = link_after link new subs subs same m refl (λ s lt. subst (MatchesSub (of_sub s) (accepted s) (progress_at subs s)) (sym (none_others pace link.subs new.subs pace.sub_vls h.1 s)) (m.each s lt));
-          })
-        v.0)
+      (λ h. record {
+        after = subs;
+        looks = [];
+        is = λ more. paced more ∙ not_due now pace subs (log lines) more h.0;
+        matched = link_after link new subs subs same m refl (λ s lt. subst (λ (held : List Held). MatchesSub (of_sub s) (accepted s) (progress_at subs s) (held_at held s)) (sym h.1) (m.each s lt));
+      })
+      (λ h.
+      let none : IsAsked subs (turns_from pace 0 pace.sub_vls) None subs = asked_none pace subs link.subs new.subs h.1 n m.each 0 pace.sub_vls (omega arith) in
+      record {
+        after = subs;
+        looks = none.looks;
+        is = λ more. paced (none.looks ++ more) ∙ is_asked now pace subs (log lines) (none.looks ++ more) (record { subs = subs; chosen = None; looks = more }) h.0 (none.is more);
+        matched = link_after link new subs subs same m refl (λ s lt. subst (MatchesSub (of_sub s) (accepted s) (progress_at subs s)) (sym (none_others pace link.subs new.subs pace.sub_vls h.1 s)) (m.each s lt));
+      })
+      v.0)
   served_by now (Released sub number) pace link new subs lines after m same n v kept paced = served_released now sub number pace link new subs lines after m same n v.0 v.1 v.2 paced
   served_by now Lost pace link new subs lines after m same n v kept paced = absurd (let e : true ≡ false = kept in cc)
 
@@ -309,12 +308,12 @@ module _ (own : ℕ) (plan : LinkPlan) (accepted : ℕ → List Sent) where
   turn_served : (now : ℕ) (did : Served) (link new : LinkState) (subs : List Progress) (lines after : Lines) → MatchesLink own plan accepted subs link → IsTurn now link new lines after did → is_lost did ≡ false → IsServed now subs (log lines) (log after) new
   turn_served now did link new subs lines after m t kept =
       let gap : pace_of link.pace.gap link.pace.sub_vls (link_stream link.plan.id.0 (log lines)) ≡ pace_of (bag_micros plan.bag) plan.sub_vls (link_stream plan.id.0 (log lines)) =
-          ap (λ (g : ℕ). pace_of g link.pace.sub_vls (link_stream link.plan.id.0 (log lines))) m.gap
-          ∙ ap (λ (n : ℕ). pace_of (bag_micros plan.bag) n (link_stream link.plan.id.0 (log lines))) m.sub_vls
-          ∙ ap (λ (p : LinkPlan). pace_of (bag_micros plan.bag) plan.sub_vls (link_stream p.id.0 (log lines))) m.plan in
+      ap (λ (g : ℕ). pace_of g link.pace.sub_vls (link_stream link.plan.id.0 (log lines))) m.gap
+      ∙ ap (λ (n : ℕ). pace_of (bag_micros plan.bag) n (link_stream link.plan.id.0 (log lines))) m.sub_vls
+      ∙ ap (λ (p : LinkPlan). pace_of (bag_micros plan.bag) plan.sub_vls (link_stream p.id.0 (log lines))) m.plan in
       served_by now did (pace_of (bag_micros plan.bag) plan.sub_vls (link_stream plan.id.0 (log lines))) link new subs lines after m t.same refl
-          (subst (λ (p : Pace). Serves now p link.subs new.subs lines after did) gap t.serves) kept
-          (paced_served now subs (log lines))
+      (subst (λ (p : Pace). Serves now p link.subs new.subs lines after did) gap t.serves) kept
+      (paced_served now subs (log lines))
 
 -- What the links came to: their sub-VLs and what was handed over, whatever looks follow.
 record AreServed (now own : ℕ) (plans : List LinkPlan) (accepted : ℕ → ℕ → List Sent) (subs : List (List Progress)) (H J : List Entry) (news : List LinkState) : Type 0 where
@@ -360,18 +359,18 @@ run_served now own (plan ∷ plans) accepted (sub ∷ subs) [] news lines after 
 run_served now own (plan ∷ plans) accepted (sub ∷ subs) (link ∷ links) [] lines after many count m r = absurd r
 run_served now own (plan ∷ plans) accepted (sub ∷ subs) (link ∷ links) (new ∷ news) lines after many count m r =
     served_more now own plan plans accepted sub subs (log lines) (log r.0) (log after) new news
-        (turn_served own plan (accepted 0) now r.1 link new sub lines r.0 (m 0 (omega arith)) r.2 r.3)
-        (run_served now own plans (λ k. accepted (suc k)) subs links news r.0 after (omega arith) (omega arith) (λ k lt. m (suc k) (omega arith)) r.4)
+    (turn_served own plan (accepted 0) now r.1 link new sub lines r.0 (m 0 (omega arith)) r.2 r.3)
+    (run_served now own plans (λ k. accepted (suc k)) subs links news r.0 after (omega arith) (omega arith) (λ k lt. m (suc k) (omega arith)) r.4)
 
 -- what both networks hold where both stand
 mirrored_lines : (lines : Lines) → IsMirrored lines → lines.a_stands ≡ true → lines.b_stands ≡ true → MatchesLines (log lines) lines
 mirrored_lines lines m a b = record {
-      is = refl;
-      a = all_kept A lines.a_stands lines.a (log lines) m.first a ∙ m.for_a;
-      b = all_kept B lines.b_stands lines.b (log lines) m.second b;
-      for_a = a;
-      for_b = b;
-    }
+  is = refl;
+  a = all_kept A lines.a_stands lines.a (log lines) m.first a ∙ m.for_a;
+  b = all_kept B lines.b_stands lines.b (log lines) m.second b;
+  for_a = a;
+  for_b = b;
+}
   where
     all_kept : (net : Net) (stands : Bool) (handed H : List Entry) → Keeps net stands handed H → stands ≡ true → handed ≡ map (side net) H
     all_kept net stands handed H k e =
@@ -384,9 +383,9 @@ pub polled_matches : (accepted : Accepted) (es : EndSystem) (old new : Tx) (now 
 unfolding polled
 polled_matches accepted es old new now m run mirrored a b plan moment =
     let s : AreServed now es.plan.end_system es.plan.links accepted es.links (log old.lines) (log new.lines) new.links =
-        run_served now es.plan.end_system es.plan.links accepted es.links old.links new.links old.lines new.lines m.many m.count m.links run in
+    run_served now es.plan.end_system es.plan.links accepted es.links old.links new.links old.lines new.lines m.many m.count m.links run in
     let is : serve_links now es.plan.end_system es.plan.links es.links es.log (s.looks ++ []) ≡ record { subs = s.after; log = log new.lines; looks = [] } =
-        ap (λ (H : List Entry). serve_links now es.plan.end_system es.plan.links es.links H (s.looks ++ [])) (sym m.lines.is) ∙ s.is [] in
+    ap (λ (H : List Entry). serve_links now es.plan.end_system es.plan.links es.links H (s.looks ++ [])) (sym m.lines.is) ∙ s.is [] in
     let subs : (serve_links now es.plan.end_system es.plan.links es.links es.log (s.looks ++ [])).subs ≡ s.after = ap (λ (x : Came (List (List Progress))). x.subs) is in
     let handed : (serve_links now es.plan.end_system es.plan.links es.links es.log (s.looks ++ [])).log ≡ log new.lines = ap (λ (x : Came (List (List Progress))). x.log) is in (
       s.looks ++ [],

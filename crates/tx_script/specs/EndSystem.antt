@@ -1,6 +1,6 @@
 -- An end system as a transcript knows it: plain lists, and no queue. What queues answer comes from
 -- outside, as looks.
-use Rattle.std.specs.Prelude.{ℕ, zero, suc, ◌≡◌, ◌+◌, ◌-◌, Bool, true, false, not, if◌then◌else◌, List, [], ◌∷◌, ◌++◌, length, map, drop, set, get_or, replicate, Option, Some, None}
+use Rattle.std.specs.Prelude.{ℕ, zero, suc, ◌+◌, ◌-◌, Bool, true, false, if◌then◌else◌, List, [], ◌∷◌, ◌++◌, length, map, drop, set, get_or, replicate, Option, Some, None}
 use Rattle.afdx_config.specs.Config.{Plan}
 use Rattle.afdx_config.specs.Plan.{bag_micros}
 use Rattle.afdx_config.specs.declared.link_plan.LinkPlan.{LinkPlan}
@@ -46,9 +46,9 @@ first_look (look ∷ looks) = look
 -- a message was found, and is now being sent
 abbrev pub started : SubVl → Progress → Sent → Progress
 started of progress message = record {
-      taken = progress.taken ++ message ∷ [];
-      left = message_fragments of (length progress.taken) message;
-    }
+  taken = progress.taken ++ message ∷ [];
+  left = message_fragments of (length progress.taken) message;
+}
 
 -- whether there are fragments
 abbrev pub are_some : List (List ℕ) → Bool
@@ -76,11 +76,11 @@ ask end_system link subs [] looks = record { subs = subs; chosen = None; looks =
 ask end_system link subs (s ∷ order) looks =
     if has_left (progress_at subs s) then record { subs = subs; chosen = Some s; looks = looks }
     else by_look (first_look looks) (ask end_system link subs order (drop 1 looks))
-        (λ message. record {
-          subs = set subs s (started (record { end_system = end_system; link = link; sub = s }) (progress_at subs s) message);
-          chosen = Some s;
-          looks = drop 1 looks;
-        })
+    (λ message. record {
+      subs = set subs s (started (record { end_system = end_system; link = link; sub = s }) (progress_at subs s) message);
+      chosen = Some s;
+      looks = drop 1 looks;
+    })
 
 -- the sub-VLs in the order of so many turns, from turn k on
 abbrev pub turns_from : Pace → ℕ → ℕ → List ℕ
@@ -101,10 +101,10 @@ next_frame progress number = get_or progress.left 0 [] ++ number ∷ []
 abbrev pub released_of : ℕ → Pace → List Entry → Option ℕ → Asked → Came (List Progress)
 released_of now pace log None asked = record { subs = asked.subs; log = log; looks = asked.looks }
 released_of now pace log (Some s) asked = record {
-      subs = set asked.subs s (record (progress_at asked.subs s) { left = drop 1 (progress_at asked.subs s).left });
-      log = log ++ entry now (next_frame (progress_at asked.subs s) pace.next) ∷ [];
-      looks = asked.looks;
-    }
+  subs = set asked.subs s (record (progress_at asked.subs s) { left = drop 1 (progress_at asked.subs s).left });
+  log = log ++ entry now (next_frame (progress_at asked.subs s) pace.next) ∷ [];
+  looks = asked.looks;
+}
 
 -- what a link does with these looks: where it is due, one frame of the sub-VL that is chosen goes out
 abbrev pub serve_paced : ℕ → ℕ → LinkPlan → List Progress → List Entry → List Look → Pace → Came (List Progress)
@@ -128,16 +128,16 @@ serve_links now end_system [] subs log looks = record { subs = []; log = log; lo
 serve_links now end_system (link ∷ links) [] log looks = record { subs = []; log = log; looks = looks }
 serve_links now end_system (link ∷ links) (sub ∷ subs) log looks =
     then_links (serve_link now end_system link sub log looks)
-        (serve_links now end_system links subs (serve_link now end_system link sub log looks).log (serve_link now end_system link sub log looks).looks)
+    (serve_links now end_system links subs (serve_link now end_system link sub log looks).log (serve_link now end_system link sub log looks).looks)
 
 -- one poll with these looks
 unfoldable pub polled : EndSystem → ℕ → List Look → EndSystem
 polled es now looks = record {
-      plan = es.plan;
-      links = (serve_links now es.plan.end_system es.plan.links es.links es.log looks).subs;
-      log = (serve_links now es.plan.end_system es.plan.links es.links es.log looks).log;
-      moment = now;
-    }
+  plan = es.plan;
+  links = (serve_links now es.plan.end_system es.plan.links es.links es.log looks).subs;
+  log = (serve_links now es.plan.end_system es.plan.links es.links es.log looks).log;
+  moment = now;
+}
 
 -- how many frames that poll releases
 abbrev pub released_by : EndSystem → ℕ → List Look → ℕ

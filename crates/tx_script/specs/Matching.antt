@@ -1,6 +1,6 @@
 -- An emitter whose messages and frames are those of an end system as a transcript knows it.
-use Rattle.std.specs.Prelude.{ℕ, ◌≡◌, ◌%◌, ◌<◌, ◌++◌, List, [], length, get_or, map, Bool, true}
-use Rattle.afdx_config.specs.Config.{Plan, link_plan_at}
+use Rattle.std.specs.Prelude.{ℕ, ◌≡◌, ◌%◌, ◌<◌, ◌++◌, List, [], length, get_or, map, true}
+use Rattle.afdx_config.specs.Config.{link_plan_at}
 use Rattle.afdx_config.specs.Plan.{bag_micros}
 use Rattle.afdx_config.specs.declared.link_plan.LinkPlan.{LinkPlan}
 use Rattle.afdx_frame.specs.declared.net.Net.TheVariants.{B}

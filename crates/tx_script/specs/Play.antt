@@ -1,5 +1,5 @@
 -- A run of lines, with answers of queues that nothing but the run knows.
-use Rattle.std.specs.Prelude.{◌≡◌, ◌≤◌, ◌<◌, ℕ, ◌+◌, Bool, true, false, nat_lt, ◌==◌, if◌then◌else◌, List, [], ◌∷◌, ◌++◌, length, position, Option, Some, None}
+use Rattle.std.specs.Prelude.{◌≡◌, ◌<◌, ℕ, ◌+◌, nat_lt, ◌==◌, if◌then◌else◌, List, [], ◌∷◌, ◌++◌, length, position, Option, Some, None}
 use Rattle.afdx_config.specs.Config.{Plan, port_plan_at, link_plan_at}
 use Rattle.afdx_config.specs.declared.port_plan.PortPlan.{PortPlan}
 use Rattle.afdx_frame.specs.Fragments.{Sent}
@@ -101,12 +101,12 @@ start plan = record { es = fresh plan; accepted = none_accepted; count = 0; note
 -- one line more
 abbrev pub play_line : Turn → Play → Play
 play_line turn st = record {
-      es = after st.es (meaning_of turn.line) turn.answer;
-      accepted = accepted_by st.es (meaning_of turn.line) turn.answer st.accepted;
-      count = st.count + 1;
-      notes = st.notes ++ note_of (st.count + 1) (outcome_of st.es (meaning_of turn.line) turn.answer);
-      summary = counted (outcome_of st.es (meaning_of turn.line) turn.answer) st.summary;
-    }
+  es = after st.es (meaning_of turn.line) turn.answer;
+  accepted = accepted_by st.es (meaning_of turn.line) turn.answer st.accepted;
+  count = st.count + 1;
+  notes = st.notes ++ note_of (st.count + 1) (outcome_of st.es (meaning_of turn.line) turn.answer);
+  summary = counted (outcome_of st.es (meaning_of turn.line) turn.answer) st.summary;
+}
 
 -- the lines one after the other
 abbrev pub play : Play → List Turn → Play

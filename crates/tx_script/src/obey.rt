@@ -30,7 +30,8 @@ fn refused_for(why: afdx_tx::Refusal) -> Refusal
 
 /// A message of a port, by its identifier.
 fn obey_send(emitter: &mut Bench, port: u16, bytes: Message) -> Outcome
-    ensures { ObeysFor (Said.Send port bytes) emitter.old emitter.new result }
+    ensures ok { ObeysFor (Said.Send port bytes) emitter.old emitter.new result }
+    ensures few { HasFew result }
 {
     let Some(place) = emitter.config().port_index(PortId(port)) else {
         return Outcome::Refused(Refusal::NoPort);
