@@ -1,3 +1,6 @@
+mod EndLemmas
+mod PlayLemmas
+mod RunLemmas
 pub mod FrameLemmas
 mod Matched
 mod LineLemmas

@@ -9,3 +9,5 @@ pub mod Words
 pub mod EndSystem
 pub mod Matching
 pub mod Play
+pub mod Run
+pub mod Running

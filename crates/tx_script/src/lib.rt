@@ -13,7 +13,9 @@ mod obey;
 mod outcome;
 mod reading;
 mod refusal;
+mod run;
 mod run_fault;
+mod run_lines;
 mod summary;
 mod words;
 
@@ -21,8 +23,11 @@ pub use line::Line;
 pub use line_fault::LineFault;
 pub use message::Message;
 pub use reading::read_line;
+pub use run::run_script;
 pub use run_fault::RunFault;
 pub use summary::Summary;
 
+#[cfg(test)]
+mod run_tests;
 #[cfg(test)]
 mod tests;

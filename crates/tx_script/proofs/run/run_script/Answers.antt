@@ -1,0 +1,19 @@
+use Rattle.std.proofs.lemmas.Result.{err_from_is_err_and}
+use Rattle.tx_script.proofs.EndLemmas.{leaves_early, leaves_ok, leaves_write, leaves_none}
+use Rattle.tx_script.proofs.run.run_script.Goals as goal
+
+pub returns-in_default : goal.returns-in_default
+returns-in_default g c = leaves_none _ _ _
+
+pub returns-in_err-write_handed-in-Ok-run_lines : goal.returns-in_err-write_handed-in-Ok-run_lines
+returns-in_err-write_handed-in-Ok-run_lines g c =
+    let told = err_from_is_err_and c.from_residual.result c.from_residual.ensures.1 in
+    rw (told.1, told.2, (c.in_err-write_handed-in-Ok-run_lines).ensures.err) (leaves_write _)
+
+pub returns-in-Ok-run_lines : goal.returns-in-Ok-run_lines
+returns-in-Ok-run_lines g c =
+    leaves_ok c.args.config c.in-Ok.emitter.plan c.new-bytes.result _ _ _ _ c.run_lines.new.emitter c.in-Ok-run_lines.summary c.new-bytes.ensures c.in-Ok.ensures.fresh.plan c.in-Ok-run_lines.ensures (c.in_ok-write_handed-in-Ok-run_lines).ensures.ok
+
+pub returns : goal.returns
+returns g c =
+    leaves_early c.args.config c.in-Ok.emitter.plan c.new-bytes.result _ _ _ _ c.run_lines.new.emitter c.in-Err.fault _ c.new-bytes.ensures c.in-Ok.ensures.fresh.plan c.in-Err.ensures c.end_early.ensures

@@ -1,0 +1,64 @@
+-- A run of a script while its streams are not yet written.
+use Rattle.std.specs.Prelude.{◌≡◌, ℕ, ◌<◌, List, [], length, Option, Some, None, Result, Ok, Err, ⊤, ◌⊎◌}
+use Rattle.std.specs.Io.KnownBytes.{Appends, Keeps}
+use Rattle.afdx_config.specs.Config.{Plan}
+use Rattle.afdx_tx.specs.Emitter.{Tx}
+use Rattle.tx_script.specs.Faults.{IsFirstFault}
+use Rattle.tx_script.specs.Lines.{first_line, after_feed}
+use Rattle.tx_script.specs.Matching.{Matches}
+use Rattle.tx_script.specs.Meaning.{meaning_of}
+use Rattle.tx_script.specs.Play.{Turn, play, start}
+use Rattle.tx_script.specs.Run.{BeginsWith, LinesThen, HasBegun, Ends}
+use Rattle.tx_script.specs.declared.line.Line.{Line as Said}
+use Rattle.tx_script.specs.declared.line_fault.LineFault.{LineFault}
+use Rattle.tx_script.specs.declared.line_fault.LineFault.TheVariants.{Memory as OutOfMemory}
+use Rattle.tx_script.specs.declared.run_fault.RunFault.{RunFault}
+use Rattle.tx_script.specs.declared.run_fault.RunFault.TheVariants.{Line, Lines, Read, Write, Memory}
+use Rattle.tx_script.specs.declared.summary.Summary.{Summary as Sums}
+
+-- a text's first line has no fault and says this, and the bytes behind it are left
+pub record Says (text : List ℕ) (left : Option (List ℕ)) (said : Said) : Type 0 where
+  pub begins : BeginsWith text (first_line text)
+  pub said_is : said ≡ meaning_of (first_line text)
+  pub behind : left ≡ Some (after_feed text)
+
+-- a text's first line, which has this number, has this as its first fault
+pub record HasLineFault (text : List ℕ) (line number : ℕ) (fault : LineFault) : Type 0 where
+  pub some : 0 < length text
+  pub number_is : number ≡ line
+  pub first : IsFirstFault (first_line text) fault
+
+-- what the next line of a text says, which has this number
+abbrev pub Reads : (text : List ℕ) → (left : Option (List ℕ)) → (line : ℕ) → Result (Option Said) RunFault → Type 0
+Reads text left line (Ok None) = text ≡ []
+Reads text left line (Ok (Some said)) = Says text left said
+Reads text left line (Err (Line number fault)) = HasLineFault text line number fault
+Reads text left line (Err Lines) = ⊥
+Reads text left line (Err Read) = ⊤
+Reads text left line (Err Write) = ⊥
+Reads text left line (Err Memory) = ⊤
+
+-- some lines of a text were run, their notes are written, the rest is left, and an emitter matches
+pub record Running (plan : Plan) (text : List ℕ) (old new : Option (List ℕ)) (tx : Tx) (rest : List ℕ) (count : ℕ) (sums : Sums) : Type 0 where
+  pub turns : List Turn
+  pub lines : LinesThen text turns rest
+  pub matches : Matches (play (start plan) turns).accepted (play (start plan) turns).es tx
+  pub count_is : (play (start plan) turns).count ≡ count
+  pub sums_are : (play (start plan) turns).summary ≡ sums
+  pub wrote : Appends old new (play (start plan) turns).notes
+
+-- what the lines of a text leave, by their end, whose notes alone are written
+abbrev pub Stops : Plan → List ℕ → (old new : Option (List ℕ)) → Tx → Result Sums RunFault → Type 0
+Stops plan text old new tx result =
+    Ends (Running plan text old new tx) (HasBegun plan text old new) result
+
+-- what a fault of a line is for the run
+abbrev pub run_fault_of : ℕ → LineFault → RunFault
+run_fault_of line OutOfMemory = Memory
+run_fault_of line fault = Line line fault
+
+-- what is written after a fault, and the fault that is told
+abbrev pub EndsEarly : RunFault → (streams : List ℕ) → (old new : Option (List ℕ)) → (told : RunFault) → Type 0
+EndsEarly Memory streams old new told = (told ≡ Memory) × Keeps old new
+EndsEarly Write streams old new told = told ≡ Write
+EndsEarly fault streams old new told = (told ≡ Write) ⊎ ((told ≡ fault) × Appends old new streams)
