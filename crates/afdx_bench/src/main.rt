@@ -3,7 +3,6 @@
 #![tactic(auto)]
 
 mod status;
-
 #[cfg(test)]
 mod tests;
 
@@ -33,7 +32,9 @@ fn refusal_of_words(rt: &HostRuntime) -> Option<u8> {
             Some(FAILED)
         }
         _ => {
-            let _told = eprintln!(rt; "afdx_bench takes no words: it reads a script from standard input");
+            let _told = eprintln!(rt;
+                "afdx_bench takes no words: it reads a script from standard input"
+            );
             Some(REFUSED)
         }
     }

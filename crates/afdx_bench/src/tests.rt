@@ -3,7 +3,11 @@ use std::test::Fail;
 use tx_script::{LineFault, RunFault, Summary};
 
 fn ended(refused: u64) -> Result<Summary, RunFault> {
-    Ok(Summary { accepted: 1, refused, frames: 1 })
+    Ok(Summary {
+        accepted: 1,
+        refused,
+        frames: 1,
+    })
 }
 
 #[test]

@@ -1,5 +1,5 @@
 -- Twins of any frame, and of the fragments of a list of messages.
-use Rattle.std.proofs.Common.{◌≡◌, ◌≢◌, ◌⊎◌, ℕ, zero, suc, ◌+◌, ◌-◌, ◌*◌, ◌%◌, ◌<◌, ◌≤◌, List, [], ◌∷◌, ◌++◌, length, map, take, get_or, set, refl, sym, ap, ◌∙◌, subst, ⊎_elim, arith}
+use Rattle.std.proofs.Common.{◌≡◌, ◌≢◌, ℕ, zero, suc, ◌+◌, ◌-◌, ◌*◌, ◌%◌, ◌<◌, ◌≤◌, List, [], ◌∷◌, ◌++◌, length, map, take, set, refl, sym, ap, ◌∙◌, ⊎_elim, arith}
 use Rattle.std.specs.Prelude.{slice_index}
 use Rattle.std.proofs.lemmas.List.{length-set, get_or-set_same, get_or-set_other, set-get_or, take-set-le, map-append}
 use Rattle.std.proofs.lemmas.Bool.{cases_lt}
@@ -7,14 +7,13 @@ use Rattle.std.proofs.Math.Seq.{take-set-lt}
 use Rattle.afdx_config.specs.Numbers.{identification}
 use Rattle.afdx_config.specs.declared.port_plan.PortPlan.{PortPlan}
 use Rattle.afdx_frame.specs.declared.net.Net.{Net}
-use Rattle.afdx_frame.specs.declared.net.Net.TheVariants.{A, B}
 use Rattle.afdx_frame.specs.declared.piece.Piece.{Piece}
 use Rattle.afdx_frame.specs.Frame.{interface_byte, link_header, unnumbered}
 use Rattle.afdx_frame.specs.Profile.{word_at}
-use Rattle.afdx_frame.specs.Header.{link_in, sub_in, number_in, IsFrameOf}
+use Rattle.afdx_frame.specs.Header.{link_in, sub_in, number_in}
 use Rattle.afdx_frame.specs.Twin.{twin_of}
 use Rattle.afdx_frame.specs.Cutting.{cutting, pieces_from}
-use Rattle.afdx_frame.specs.Fragments.{Sent, blanked, fragments_at, fragments_from, fragments}
+use Rattle.afdx_frame.specs.Fragments.{Sent, blanked, fragments_at, fragments_from}
 
 -- every byte but the interface identifier stays
 pub twin_elsewhere : (net : Net) (frame : List ℕ) (k : ℕ) → k ≢ 11 → slice_index (twin_of net frame) k ≡ slice_index frame k
@@ -64,6 +63,7 @@ take_set n xs i v = ⊎_elim
     set_past [] j w h = refl
     set_past (y ∷ ys) zero w h = absurd (omega arith)
     set_past (y ∷ ys) (suc j) w h = ap (λ (rest : List ℕ). y ∷ rest) (set_past ys j w (omega arith))
+
     short : (m : ℕ) (ys : List ℕ) (j : ℕ) → m ≤ j → length (take m ys) ≤ j
     short zero ys j h = omega arith
     short (suc m) [] j h = omega arith

@@ -7,7 +7,7 @@ use Rattle.afdx_tx.specs.Emitter.{Tx}
 use Rattle.afdx_tx.specs.Links.{held_at, link_at}
 use Rattle.tx_script.specs.EndSystem.{progress_at, no_progress, fresh_subs, fresh}
 use Rattle.tx_script.specs.Lines.{after_feed}
-use Rattle.tx_script.specs.Matching.{Matches, MatchesLink, MatchesSub}
+use Rattle.tx_script.specs.Matching.{Matches}
 use Rattle.tx_script.specs.Meaning.{meaning_of}
 use Rattle.tx_script.specs.Play.{Turn, Play, play, play_line, start, outcome_of, ObeysFor, Obeys, FindsFirst}
 use Rattle.tx_script.specs.Run.{BeginsWith, LinesThen}

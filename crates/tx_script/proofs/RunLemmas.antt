@@ -1,23 +1,18 @@
 -- How a run goes on, and how its lines end.
-use Rattle.std.proofs.Common.{◌≡◌, ℕ, ◌+◌, ◌*◌, ◌<◌, ◌≤◌, List, [], ◌∷◌, ◌++◌, length, Option, Some, None, refl, ap, sym, subst, arith}
-use Rattle.std.specs.Prelude.{IfSome, Result, Ok, Err}
-use Rattle.std.specs.Io.KnownBytes.{Appends, Consumes, IsAtEnd}
-use Rattle.std.proofs.lemmas.Bool.{lt-ltb}
+use Rattle.std.proofs.Common.{◌≡◌, ℕ, ◌+◌, ◌*◌, ◌<◌, ◌≤◌, List, [], ◌∷◌, length, Option, Some, None, refl, ap, subst, arith}
+use Rattle.std.specs.Prelude.{IfSome, Ok, Err}
+use Rattle.std.specs.Io.KnownBytes.{Appends, Consumes}
 use Rattle.afdx_config.specs.Config.{Plan}
 use Rattle.afdx_tx.specs.Emitter.{Tx, IsFreshTx}
 use Rattle.tx_script.specs.EndSystem.{handed_b}
-use Rattle.tx_script.specs.Faults.{IsFirstFault, IsFaultless}
-use Rattle.tx_script.specs.Lines.{Splits, TakesLine, BeginsLong, first_line}
+use Rattle.tx_script.specs.Lines.{first_line}
 use Rattle.tx_script.specs.Meaning.{meaning_of}
 use Rattle.tx_script.specs.Play.{Play, play, start, ObeysFor}
-use Rattle.tx_script.specs.Run.{HasBegun, Ends}
-use Rattle.tx_script.specs.Running.{Says, Reads, Running, Stops, run_fault_of}
+use Rattle.tx_script.specs.Run.{HasBegun}
+use Rattle.tx_script.specs.Running.{Says, Reads, Running, Stops}
 use Rattle.tx_script.specs.Summary.{counted, HasFew}
 use Rattle.tx_script.specs.Transcript.{note_of, streams}
 use Rattle.tx_script.specs.declared.line.Line.{Line as Said}
-use Rattle.tx_script.specs.declared.line_fault.LineFault.{LineFault}
-use Rattle.tx_script.specs.declared.line_fault.LineFault.TheVariants.{Word, Number, Hex, Extra, Long, Memory}
-use Rattle.tx_script.specs.declared.lines.TheConstants.{LINE_LIMIT}
 use Rattle.tx_script.specs.declared.outcome.Outcome.{Outcome}
 use Rattle.tx_script.specs.declared.outcome.Outcome.TheVariants.{Quiet, Accepted, Refused, Released}
 use Rattle.tx_script.specs.declared.run_fault.RunFault.{RunFault}
