@@ -77,7 +77,8 @@ ask end_system link subs (s ∷ order) looks =
     if has_left (progress_at subs s) then record { subs = subs; chosen = Some s; looks = looks }
     else by_look (first_look looks) (ask end_system link subs order (drop 1 looks))
     (λ message. record {
-      subs = set subs s (started (record { end_system = end_system; link = link; sub = s }) (progress_at subs s) message);
+      subs = set subs s
+          (started (record { end_system = end_system; link = link; sub = s }) (progress_at subs s) message);
       chosen = Some s;
       looks = drop 1 looks;
     })
@@ -107,28 +108,37 @@ released_of now pace log (Some s) asked = record {
 }
 
 -- what a link does with these looks: where it is due, one frame of the sub-VL that is chosen goes out
-abbrev pub serve_paced : ℕ → ℕ → LinkPlan → List Progress → List Entry → List Look → Pace → Came (List Progress)
+abbrev pub serve_paced :
+    ℕ → ℕ → LinkPlan → List Progress → List Entry → List Look → Pace → Came (List Progress)
 serve_paced now end_system link subs log looks pace =
     if is_due pace.gap pace.last now
-    then released_of now pace log (ask end_system link subs (turns_from pace 0 pace.sub_vls) looks).chosen (ask end_system link subs (turns_from pace 0 pace.sub_vls) looks)
+    then released_of now pace log
+    (ask end_system link subs (turns_from pace 0 pace.sub_vls) looks).chosen
+    (ask end_system link subs (turns_from pace 0 pace.sub_vls) looks)
     else record { subs = subs; log = log; looks = looks }
 
 -- the regulation is read off the link's stream
-unfoldable pub serve_link : ℕ → ℕ → LinkPlan → List Progress → List Entry → List Look → Came (List Progress)
+unfoldable pub serve_link :
+    ℕ → ℕ → LinkPlan → List Progress → List Entry → List Look → Came (List Progress)
 serve_link now end_system link subs log looks =
-    serve_paced now end_system link subs log looks (pace_of (bag_micros link.bag) link.sub_vls (link_stream link.id.0 log))
+    serve_paced now end_system link subs log looks
+    (pace_of (bag_micros link.bag) link.sub_vls (link_stream link.id.0 log))
 
 -- a link, and then the links behind it
 abbrev pub then_links : Came (List Progress) → Came (List (List Progress)) → Came (List (List Progress))
 then_links one rest = record { subs = one.subs ∷ rest.subs; log = rest.log; looks = rest.looks }
 
 -- all links in the order of the plan
-abbrev pub serve_links : ℕ → ℕ → List LinkPlan → List (List Progress) → List Entry → List Look → Came (List (List Progress))
+abbrev pub serve_links :
+    ℕ → ℕ → List LinkPlan → List (List Progress) → List Entry → List Look
+    → Came (List (List Progress))
 serve_links now end_system [] subs log looks = record { subs = []; log = log; looks = looks }
 serve_links now end_system (link ∷ links) [] log looks = record { subs = []; log = log; looks = looks }
 serve_links now end_system (link ∷ links) (sub ∷ subs) log looks =
     then_links (serve_link now end_system link sub log looks)
-    (serve_links now end_system links subs (serve_link now end_system link sub log looks).log (serve_link now end_system link sub log looks).looks)
+    (serve_links now end_system links subs
+    (serve_link now end_system link sub log looks).log
+    (serve_link now end_system link sub log looks).looks)
 
 -- one poll with these looks
 unfoldable pub polled : EndSystem → ℕ → List Look → EndSystem

@@ -54,13 +54,15 @@ passed_on None answer = queued answer
 -- what becomes of a message for the port at a place
 abbrev pub sent_to : Plan → Option ℕ → List ℕ → Answer → Outcome
 sent_to plan None bytes answer = Came.Refused NoPort
-sent_to plan (Some place) bytes answer = passed_on (length_refusal (port_plan_at plan.ports place) (length bytes)) answer
+sent_to plan (Some place) bytes answer =
+    passed_on (length_refusal (port_plan_at plan.ports place) (length bytes)) answer
 
 -- what becomes of a line
 abbrev pub outcome_of : EndSystem → Line → Answer → Outcome
 outcome_of es (Send port bytes) answer = sent_to es.plan (place_of es.plan port) bytes answer
 outcome_of es (At moment) answer =
-    if nat_lt moment es.moment then Came.Refused TimeBack else Came.Released (released_by es moment (looks_of answer))
+    if nat_lt moment es.moment then Came.Refused TimeBack
+    else Came.Released (released_by es moment (looks_of answer))
 outcome_of es Nothing answer = Came.Quiet
 
 -- the end system after it
@@ -71,7 +73,8 @@ after es _ answer = es
 -- the accepted lists with a message of the port at a place
 abbrev pub with_message : Plan → ℕ → List ℕ → Accepted → Accepted
 with_message plan place bytes accepted =
-    with_accepted (link_of plan (port_plan_at plan.ports place)) (port_plan_at plan.ports place).sub (record { port = port_plan_at plan.ports place; bytes = bytes }) accepted
+    with_accepted (link_of plan (port_plan_at plan.ports place)) (port_plan_at plan.ports place).sub
+    (record { port = port_plan_at plan.ports place; bytes = bytes }) accepted
 
 abbrev pub taken_by : Plan → Option ℕ → List ℕ → Outcome → Accepted → Accepted
 taken_by plan (Some place) bytes Came.Accepted accepted = with_message plan place bytes accepted
@@ -79,7 +82,8 @@ taken_by plan _ bytes outcome accepted = accepted
 
 -- the accepted lists after a line
 abbrev pub accepted_by : EndSystem → Line → Answer → Accepted → Accepted
-accepted_by es (Send port bytes) answer accepted = taken_by es.plan (place_of es.plan port) bytes (outcome_of es (Send port bytes) answer) accepted
+accepted_by es (Send port bytes) answer accepted =
+    taken_by es.plan (place_of es.plan port) bytes (outcome_of es (Send port bytes) answer) accepted
 accepted_by es _ answer accepted = accepted
 
 -- a line, and what queues answered
@@ -96,7 +100,13 @@ pub record Play : Type 0 where
   pub summary : Sums
 
 abbrev pub start : Plan → Play
-start plan = record { es = fresh plan; accepted = none_accepted; count = 0; notes = []; summary = record { accepted = 0; refused = 0; frames = 0 } }
+start plan = record {
+  es = fresh plan;
+  accepted = none_accepted;
+  count = 0;
+  notes = [];
+  summary = record { accepted = 0; refused = 0; frames = 0 };
+}
 
 -- one line more
 abbrev pub play_line : Turn → Play → Play
@@ -119,7 +129,8 @@ transcript st = st.notes ++ streams st.es.log (handed_b st.es)
 
 -- the messages that looks found are the first of those that were accepted, of each sub-VL
 abbrev pub FindsFirst : Play → Type 0
-FindsFirst st = (k s : ℕ) → k < length st.es.plan.links → s < (link_plan_at st.es.plan.links k).sub_vls
+FindsFirst st = (k s : ℕ)
+    → k < length st.es.plan.links → s < (link_plan_at st.es.plan.links k).sub_vls
     → (more : List Sent) × (st.accepted k s ≡ (progress_of st.es k s).taken ++ more)
 
 -- a line was obeyed, over an emitter that matches these lists
@@ -130,4 +141,5 @@ pub record Obeys (line : Line) (accepted : Accepted) (es : EndSystem) (tx : Tx) 
 
 -- the same, whatever lists the emitter matched before
 abbrev pub ObeysFor : Line → (old new : Tx) → Outcome → Type 0
-ObeysFor line old new outcome = (accepted : Accepted) (es : EndSystem) → Matches accepted es old → Obeys line accepted es new outcome
+ObeysFor line old new outcome = (accepted : Accepted) (es : EndSystem)
+    → Matches accepted es old → Obeys line accepted es new outcome
