@@ -27,6 +27,7 @@ same_link v w (Some a) (Some b) small_v small_w is_s is_t same = inr (b, ap Some
 of_member : (P : PortPlan → Type 0) (ports : List PortPlan) (port : PortPlan) → All P ports → Contains ports port → P port
 of_member P ports port each member = subst P member.2 (each member.0 port member.1)
 
+-- the law of flows, for a valid plan
 pub apart : (plan : Plan) → IsPlan plan → FlowsApart plan
 apart plan is p q i j in_p in_q source destination ident =
     let p_is = of_member IsPort plan.ports p is.each_port in_p in

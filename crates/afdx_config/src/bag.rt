@@ -1,6 +1,7 @@
 //! The bandwidth allocation gap.
 ghost use Rattle.std.specs.Prelude.{◌≡◌};
 ghost use Rattle.afdx_config.specs.Plan.{bag_ms, bag_micros};
+ghost use Rattle.afdx_config.specs.Values.{bag_of};
 
 /// The bandwidth allocation gap of a virtual link: the least time between two of its frames
 /// (ARINC 664 Part 7), a power of two from 1 to 128 milliseconds.
@@ -17,6 +18,24 @@ pub enum Bag {
 }
 
 impl Bag {
+    /// The gap of a number of milliseconds, where it is one.
+    #[tactic(auto, unfolding(crate::specs::Values::bag_of))]
+    pub(crate) fn of_ms(number: i64) -> Option<Bag>
+        ensures { result ≡ bag_of number }
+    {
+        match number {
+            1 => Some(Bag::Ms1),
+            2 => Some(Bag::Ms2),
+            4 => Some(Bag::Ms4),
+            8 => Some(Bag::Ms8),
+            16 => Some(Bag::Ms16),
+            32 => Some(Bag::Ms32),
+            64 => Some(Bag::Ms64),
+            128 => Some(Bag::Ms128),
+            _ => None,
+        }
+    }
+
     /// The gap in milliseconds.
     pub fn ms(self) -> u64
         ensures { result ≡ bag_ms self }

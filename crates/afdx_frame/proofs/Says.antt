@@ -20,6 +20,7 @@ use Rattle.afdx_frame.specs.ReadBack.{IsPiece, Says}
 use Rattle.afdx_frame.proofs.Datagram.{length-udp_header}
 use Rattle.afdx_frame.proofs.SaysLemmas.{length-internet, header_closes}
 
+-- an interface is one of the two
 interface_one : (net : Net) → (interface_byte net ≡ 32) ⊎ (interface_byte net ≡ 64)
 interface_one A = inl refl
 interface_one B = inr refl
@@ -39,6 +40,7 @@ destination_kind : (vl : ℕ) (unicast : Option (List ℕ)) (bytes : List ℕ) �
 destination_kind vl None bytes is high low there = inl (there.0, there.1, there.2 ∙ sym high, there.3 ∙ sym low)
 destination_kind vl (Some address) bytes is high low there = inr (there.0 ∙ is.first)
 
+-- a destination address has four bytes
 length-destination : (vl : ℕ) (unicast : Option (List ℕ)) → IfSome unicast IsUnicast → length (destination_of vl unicast) ≡ 4
 length-destination vl None is = refl
 length-destination vl (Some address) is = is.four
@@ -48,6 +50,7 @@ drop_link : (vl end_system : ℕ) (net : Net) (rest : List ℕ) → drop 14 (lin
 unfolding link_header
 drop_link vl end_system net rest = refl
 
+-- a link header has 14 bytes
 length-link : (vl end_system : ℕ) (net : Net) → length (link_header vl end_system net) ≡ 14
 unfolding link_header
 length-link vl end_system net = refl
@@ -68,6 +71,7 @@ padded front count number k behind inside =
     ∙ get_or_append_left (replicate count 0) (number ∷ []) 0 (k - length front) (omega arith)
     ∙ get_or-replicate count (k - length front) 0 0 (omega arith)
 
+-- the last byte is the number
 last_of : (front : List ℕ) (number : ℕ) → get_or (front ++ number ∷ []) (length (front ++ number ∷ []) - 1) 0 ≡ number
 last_of front number = get_or_push front number 0 (length (front ++ number ∷ []) - 1) (omega (arith, length-append front (number ∷ [])))
 

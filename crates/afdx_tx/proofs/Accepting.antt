@@ -69,17 +69,17 @@ sound_with config links lines moment k s sent lt slt z =
     }
 
 -- the accepted list that got the message, and the others
-accepted_here : (k s : ℕ) (sent : Sent) (accepted : Accepted) → with_accepted k s sent accepted k s ≡ accepted k s ++ sent ∷ []
+pub accepted_here : (k s : ℕ) (sent : Sent) (accepted : Accepted) → with_accepted k s sent accepted k s ≡ accepted k s ++ sent ∷ []
 accepted_here k s sent accepted =
     ap (λ b. cond b (cond (eqb s s) (accepted k s ++ sent ∷ []) (accepted k s)) (accepted k s)) (eq-eqb k k refl)
     ∙ ap (λ b. cond b (accepted k s ++ sent ∷ []) (accepted k s)) (eq-eqb s s refl)
 
-accepted_elsewhere : (k s t : ℕ) (sent : Sent) (accepted : Accepted) → t ≢ s → with_accepted k s sent accepted k t ≡ accepted k t
+pub accepted_elsewhere : (k s t : ℕ) (sent : Sent) (accepted : Accepted) → t ≢ s → with_accepted k s sent accepted k t ≡ accepted k t
 accepted_elsewhere k s t sent accepted ne =
     ap (λ b. cond b (cond (eqb t s) (accepted k t ++ sent ∷ []) (accepted k t)) (accepted k t)) (eq-eqb k k refl)
     ∙ ap (λ b. cond b (accepted k t ++ sent ∷ []) (accepted k t)) (ne_eqb t s ne)
 
-accepted_other : (k s i t : ℕ) (sent : Sent) (accepted : Accepted) → i ≢ k → with_accepted k s sent accepted i t ≡ accepted i t
+pub accepted_other : (k s i t : ℕ) (sent : Sent) (accepted : Accepted) → i ≢ k → with_accepted k s sent accepted i t ≡ accepted i t
 accepted_other k s i t sent accepted ne = ap (λ b. cond b (cond (eqb t s) (accepted i t ++ sent ∷ []) (accepted i t)) (accepted i t)) (ne_eqb i k ne)
 
 -- a longer list has longer fragments

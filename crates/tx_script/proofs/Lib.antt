@@ -1,5 +1,8 @@
-mod FrameLemmas
+pub mod FrameLemmas
+mod Matched
 mod LineLemmas
 mod MeaningLemmas
 mod NumberLemmas
 mod WordLemmas
+mod Polling
+mod Sending

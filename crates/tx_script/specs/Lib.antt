@@ -6,3 +6,6 @@ pub mod Numbers
 pub mod Summary
 pub mod Transcript
 pub mod Words
+pub mod EndSystem
+pub mod Matching
+pub mod Play

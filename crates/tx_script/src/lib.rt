@@ -9,6 +9,7 @@ mod lines;
 mod message;
 mod notes;
 mod number;
+mod obey;
 mod outcome;
 mod reading;
 mod refusal;

@@ -1,0 +1,12 @@
+use Rattle.std.proofs.Common.{◌∙◌, ap, map}
+use Rattle.toml.specs.View.{table_view}
+use Rattle.afdx_config.specs.PlanOf.{link_of, port_of}
+use Rattle.afdx_config.proofs.SoundLemmas.{plan_parts}
+use Rattle.afdx_config.proofs.parts.parts_of.Goals as goal
+
+pub returns-clause-value : goal.returns-clause-value
+returns-clause-value c = plan_parts _ _ _ _ _ c.requires.found c.end_system-end_system.ensures
+    (c.in_ok-links.ensures.value
+    ∙ ap (map (λ r. link_of (table_view r.now))) c.as_slice.ensures.value)
+    (c.in_ok-ports.ensures.value
+    ∙ ap (map (λ r. port_of (table_view r.now))) c.as_slice-2.ensures.value)

@@ -1,0 +1,46 @@
+-- The plan that a document writes. It is total: where a value is missing or of another kind, 0 or
+-- the first variant stands in its place, and the document has a fault of a lower number than those
+-- that plans show.
+use Rattle.std.specs.Prelude.{codes, map, option_and_then, unwrap_or}
+use Rattle.std.specs.Option.{option_map_or}
+use Rattle.toml.specs.Data.{Members}
+use Rattle.afdx_config.specs.declared.link_plan.LinkPlan.{LinkPlan}
+use Rattle.afdx_config.specs.declared.port_plan.PortPlan.{PortPlan}
+use Rattle.afdx_config.specs.declared.bag.Bag.TheVariants.{Ms1}
+use Rattle.afdx_config.specs.declared.identifiers.Kind.TheVariants.{Sampling}
+use Rattle.afdx_config.specs.Entries.{whole_at, text_at, number_at}
+use Rattle.afdx_config.specs.Document.{section_at, rows_at}
+use Rattle.afdx_config.specs.Values.{bag_of, kind_of, address_of}
+use Rattle.afdx_config.specs.Config.{Plan}
+
+-- the link of a table
+unfoldable pub link_of : Members → LinkPlan
+link_of members = record {
+  id = record { 0 = number_at (codes "id") members };
+  bag = unwrap_or (option_and_then bag_of (whole_at (codes "bag_ms") members)) Ms1;
+  lmax = number_at (codes "lmax") members;
+  sub_vls = number_at (codes "sub_vls") members;
+  capacity = number_at (codes "capacity") members;
+}
+
+-- the port of a table
+unfoldable pub port_of : Members → PortPlan
+port_of members = record {
+  id = record { 0 = number_at (codes "id") members };
+  vl = record { 0 = number_at (codes "vl") members };
+  sub = number_at (codes "sub") members;
+  partition = number_at (codes "partition") members;
+  kind = unwrap_or (option_and_then kind_of (text_at (codes "kind") members)) Sampling;
+  source = number_at (codes "source") members;
+  destination = number_at (codes "destination") members;
+  max = number_at (codes "max") members;
+  unicast = option_and_then address_of (text_at (codes "dest_ip") members);
+}
+
+-- the plan of a document: its links and ports in the order of the text
+abbrev pub plan_of : Members → Plan
+plan_of document = record {
+  end_system = option_map_or (number_at (codes "id")) (section_at (codes "end_system") document) 0;
+  links = map link_of (rows_at (codes "vl") document);
+  ports = map port_of (rows_at (codes "port") document);
+}

@@ -1,0 +1,51 @@
+-- The values of a plan, as a text writes them.
+use Rattle.std.specs.Prelude.{ℕ, ℤ, pos, negsuc, ◌==◌, ◌&&◌, nat_lt, if◌then◌else◌, Bool, false, List, [], ◌∷◌, map, codes, bytes_eq, Option, Some, None, ◌≡◌, ◌↔◌, slice_index}
+use Rattle.std.specs.List.{slice_split}
+use Rattle.std.specs.Str.Parse.{digits_value}
+use Rattle.std.specs.Net.Text.{dotted_text}
+use Rattle.std.specs.Net.Grammar.{IsDotted}
+use Rattle.afdx_config.specs.declared.bag.Bag.{Bag}
+use Rattle.afdx_config.specs.declared.bag.Bag.TheVariants.{Ms1, Ms2, Ms4, Ms8, Ms16, Ms32, Ms64, Ms128}
+use Rattle.afdx_config.specs.declared.identifiers.Kind.{Kind}
+use Rattle.afdx_config.specs.declared.identifiers.Kind.TheVariants.{Sampling, Queuing}
+
+-- the gap of a number of milliseconds
+unfoldable pub bag_of : ℤ → Option Bag
+bag_of (negsuc n) = None
+bag_of (pos n) =
+    if n == 1 then Some Ms1
+    else if n == 2 then Some Ms2
+    else if n == 4 then Some Ms4
+    else if n == 8 then Some Ms8
+    else if n == 16 then Some Ms16
+    else if n == 32 then Some Ms32
+    else if n == 64 then Some Ms64
+    else if n == 128 then Some Ms128
+    else None
+
+-- the kind that a text names
+unfoldable pub kind_of : List ℕ → Option Kind
+kind_of text =
+    if bytes_eq text (codes "sampling") then Some Sampling
+    else if bytes_eq text (codes "queuing") then Some Queuing
+    else None
+
+-- the numbers between the dots of a text
+abbrev pub numbers_of : List ℕ → List ℕ
+numbers_of text = map (digits_value 10) (slice_split (λ byte. byte == 46) text)
+
+-- the text is four numbers with dots between them, each below 256 and the first 10
+abbrev pub writes_numbers : List ℕ → List ℕ → Bool
+writes_numbers text (a ∷ b ∷ c ∷ d ∷ []) =
+    a == 10 && nat_lt b 256 && nat_lt c 256 && nat_lt d 256 && bytes_eq text (dotted_text a b c d)
+writes_numbers text _ = false
+
+-- the unicast address that a text writes
+unfoldable pub address_of : List ℕ → Option (List ℕ)
+address_of text = if writes_numbers text (numbers_of text) then Some (numbers_of text) else None
+
+-- an address is read exactly where the text is its four numbers in decimal, joined by dots, none
+-- with a leading zero, and the first is 10
+abbrev pub AddressesAreDotted : Type 0
+AddressesAreDotted = (text address : List ℕ)
+    → (address_of text ≡ Some address) ↔ (IsDotted text address × (slice_index address 0 ≡ 10))

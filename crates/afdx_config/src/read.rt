@@ -1,0 +1,59 @@
+//! Reading a configuration.
+ghost use Rattle.std.specs.Prelude.{◌≡◌, ◌≢◌, find, IfOk, IfErr, None, Some};
+ghost use Rattle.toml.specs.View.{table_view};
+ghost use Rattle.afdx_config.specs.PlanOf.{plan_of};
+ghost use Rattle.afdx_config.specs.Faults.{shows, all_faults, IsPlanOf, IsLeastFault};
+
+use crate::config::Config;
+use crate::document::{sections, value_fault};
+use crate::fault::ConfigFault;
+use crate::parts::parts_of;
+use crate::plan_faults::plan_fault;
+use std::alloc::Global;
+use toml::Table;
+
+/// The configuration that a document writes.
+fn read_document(alloc: Global, document: &Table) -> Result<Config, ConfigFault>
+    ensures fine { IfOk result (λ _.
+        find (λ fault. shows fault (table_view document.now)) all_faults ≡ None) }
+    ensures plan { IfOk result (λ config. config ≡ plan_of (table_view document.now)) }
+    ensures fault { IfErr result (λ least. least ≢ ConfigFault.Memory →
+        find (λ fault. shows fault (table_view document.now)) all_faults ≡ Some least) }
+{
+    let sections = match sections(alloc, document) {
+        Ok(sections) => sections,
+        Err(_) => return Err(ConfigFault::Memory),
+    };
+    if let Some(fault) = value_fault(document, &sections) {
+        return Err(fault);
+    }
+    match parts_of(alloc, document, &sections) {
+        Ok(parts) => match plan_fault(&parts) {
+            Some(fault) => Err(fault),
+            None => Ok(Config::of(parts.end_system, parts.links, parts.ports)),
+        },
+        Err(_) => Err(ConfigFault::Memory),
+    }
+}
+
+/// Reads a configuration from a TOML text: the plan of a text without fault, else the fault of the
+/// least number that the text has. Want of memory may stand in place of any answer.
+pub fn read_config(alloc: Global, text: &[u8]) -> Result<Config, ConfigFault>
+    ensures plan { IfOk result (IsPlanOf text.now) }
+    ensures fault { IfErr result (λ least.
+        least ≢ ConfigFault.Memory → IsLeastFault text.now least) }
+{
+    match toml::table_from_slice(alloc, text) {
+        Ok(document) => read_document(alloc, &document),
+        Err(error) => {
+            if error.is_memory() {
+                Err(ConfigFault::Memory)
+            } else {
+                Err(ConfigFault::Toml)
+            }
+        }
+    }
+}
+
+#[cfg(test)]
+mod tests;

@@ -1,0 +1,99 @@
+//! The tables of a configuration's document.
+ghost use Rattle.std.specs.Prelude.{◌≡◌, map, IfOk, option_map, is_none};
+ghost use Rattle.std.specs.List.{list_any};
+ghost use Rattle.toml.specs.View.{table_view, items_view, view};
+ghost use Rattle.toml.specs.Data.{as_table};
+ghost use Rattle.afdx_config.specs.Entries.{tables_among};
+ghost use Rattle.afdx_config.specs.Document.{rows_at, section_at, has_other_item, is_no_table, is_no_rows};
+
+use crate::entries::value_at;
+use std::alloc::{AllocError, Global};
+use toml::{Table, Value};
+
+/// The tables of a document, where the format wants them: the end system's, those of the links and
+/// those of the ports, in the order of the text.
+#[derive(Drop)]
+pub(crate) struct Sections<'a> {
+    pub end: Option<&'a Table>,
+    pub links: Vec<&'a Table>,
+    pub ports: Vec<&'a Table>,
+}
+
+/// The tables of an array.
+fn tables_of<'a>(alloc: Global, values: &'a [Value]) -> Result<Vec<&'a Table>, AllocError>
+    ensures { IfOk result (λ rows.
+        map (λ r. table_view r.now) rows.items ≡ tables_among (items_view values.now)) }
+{
+    let mut rows = Vec::new(alloc);
+    for value in values {
+        if let Some(table) = value.as_table() {
+            rows.push(table)?;
+        }
+    }
+    Ok(rows)
+}
+
+/// The tables of the array under a key.
+pub(crate) fn rows<'a>(
+    alloc: Global,
+    document: &'a Table,
+    key: &str,
+) -> Result<Vec<&'a Table>, AllocError>
+    ensures { IfOk result (λ rows.
+        map (λ r. table_view r.now) rows.items ≡ rows_at key.now (table_view document.now)) }
+{
+    match value_at(document, key) {
+        Some(value) => match value.as_array() {
+            Some(values) => tables_of(alloc, values.as_slice()),
+            None => Ok(Vec::new(alloc)),
+        },
+        None => Ok(Vec::new(alloc)),
+    }
+}
+
+/// The table under a key.
+pub(crate) fn section<'a>(document: &'a Table, key: &str) -> Option<&'a Table>
+    ensures { option_map (λ t. table_view t.now) result
+        ≡ section_at key.now (table_view document.now) }
+{
+    match value_at(document, key) {
+        Some(value) => value.as_table(),
+        None => None,
+    }
+}
+
+/// An item isn't a table.
+fn holds_other_item(values: &[Value]) -> bool
+    ensures { result ≡ has_other_item (items_view values.now) }
+{
+    some_is_no_table(values)
+}
+
+fn some_is_no_table(values: &[Value]) -> bool
+    ensures { result ≡ list_any (λ v. is_none (as_table (view v))) values.now }
+{
+    values.iter().any(|value| !value.is_table())
+}
+
+/// What stands under the key is no table.
+pub(crate) fn is_other_than_table(document: &Table, key: &str) -> bool
+    ensures { result ≡ is_no_table key.now (table_view document.now) }
+{
+    match value_at(document, key) {
+        Some(value) => !value.is_table(),
+        None => false,
+    }
+}
+
+/// What stands under the key is no array of tables.
+pub(crate) fn is_other_than_rows(document: &Table, key: &str) -> bool
+    ensures { result ≡ is_no_rows key.now (table_view document.now) }
+{
+    match value_at(document, key) {
+        Some(value) => match value.as_array() {
+            Some(values) => holds_other_item(values.as_slice()),
+            None => true,
+        },
+        None => false,
+    }
+}

@@ -1,0 +1,133 @@
+-- A run of lines, with answers of queues that nothing but the run knows.
+use Rattle.std.specs.Prelude.{◌≡◌, ◌<◌, ℕ, ◌+◌, nat_lt, ◌==◌, if◌then◌else◌, List, [], ◌∷◌, ◌++◌, length, position, Option, Some, None}
+use Rattle.afdx_config.specs.Config.{Plan, port_plan_at, link_plan_at}
+use Rattle.afdx_config.specs.declared.port_plan.PortPlan.{PortPlan}
+use Rattle.afdx_frame.specs.Fragments.{Sent}
+use Rattle.afdx_tx.specs.declared.fault.Refusal.{Refusal as SendRefusal}
+use Rattle.afdx_tx.specs.declared.fault.Refusal.TheVariants as Why
+use Rattle.afdx_tx.specs.Legal.{Accepted}
+use Rattle.afdx_tx.specs.Emitter.{Tx, none_accepted, with_accepted}
+use Rattle.afdx_tx.specs.Sending.{length_refusal, link_of}
+use Rattle.tx_script.specs.EndSystem.{EndSystem, Look, fresh, polled, released_by, handed_b, progress_of}
+use Rattle.tx_script.specs.Matching.{Matches}
+use Rattle.tx_script.specs.Meaning.{meaning_of}
+use Rattle.tx_script.specs.Summary.{counted}
+use Rattle.tx_script.specs.Transcript.{note_of, streams}
+use Rattle.tx_script.specs.declared.line.Line.{Line}
+use Rattle.tx_script.specs.declared.line.Line.TheVariants.{Send, At, Nothing}
+use Rattle.tx_script.specs.declared.refusal.Refusal.{Refusal}
+use Rattle.tx_script.specs.declared.refusal.Refusal.TheVariants.{Empty, TooLong, Full, NoPort, TimeBack}
+use Rattle.tx_script.specs.declared.outcome.Outcome.{Outcome}
+use Rattle.tx_script.specs.declared.outcome.Outcome.TheVariants as Came
+use Rattle.tx_script.specs.declared.summary.Summary.{Summary as Sums}
+
+-- a queue takes a message or is full, or looks into queues find something or nothing
+pub data Answer : Type 0 where
+  takes : Answer
+  fills : Answer
+  finds : List Look → Answer
+
+-- the looks of a poll; none where the answer is no poll's
+abbrev pub looks_of : Answer → List Look
+looks_of (finds looks) = looks
+looks_of _ = []
+
+-- the place of a port in the plan, by its identifier
+abbrev pub place_of : Plan → ℕ → Option ℕ
+place_of plan id = position (λ (port : PortPlan). port.id.0 == id) plan.ports
+
+-- what a queue says; full where the answer is no queue's
+abbrev pub queued : Answer → Outcome
+queued takes = Came.Accepted
+queued _ = Came.Refused Full
+
+-- the name of a port's refusal
+abbrev pub refusal_of : SendRefusal → Refusal
+refusal_of Why.Empty = Empty
+refusal_of Why.TooLong = TooLong
+refusal_of Why.Full = Full
+
+abbrev pub passed_on : Option SendRefusal → Answer → Outcome
+passed_on (Some why) answer = Came.Refused (refusal_of why)
+passed_on None answer = queued answer
+
+-- what becomes of a message for the port at a place
+abbrev pub sent_to : Plan → Option ℕ → List ℕ → Answer → Outcome
+sent_to plan None bytes answer = Came.Refused NoPort
+sent_to plan (Some place) bytes answer = passed_on (length_refusal (port_plan_at plan.ports place) (length bytes)) answer
+
+-- what becomes of a line
+abbrev pub outcome_of : EndSystem → Line → Answer → Outcome
+outcome_of es (Send port bytes) answer = sent_to es.plan (place_of es.plan port) bytes answer
+outcome_of es (At moment) answer =
+    if nat_lt moment es.moment then Came.Refused TimeBack else Came.Released (released_by es moment (looks_of answer))
+outcome_of es Nothing answer = Came.Quiet
+
+-- the end system after it
+abbrev pub after : EndSystem → Line → Answer → EndSystem
+after es (At moment) answer = if nat_lt moment es.moment then es else polled es moment (looks_of answer)
+after es _ answer = es
+
+-- the accepted lists with a message of the port at a place
+abbrev pub with_message : Plan → ℕ → List ℕ → Accepted → Accepted
+with_message plan place bytes accepted =
+    with_accepted (link_of plan (port_plan_at plan.ports place)) (port_plan_at plan.ports place).sub (record { port = port_plan_at plan.ports place; bytes = bytes }) accepted
+
+abbrev pub taken_by : Plan → Option ℕ → List ℕ → Outcome → Accepted → Accepted
+taken_by plan (Some place) bytes Came.Accepted accepted = with_message plan place bytes accepted
+taken_by plan _ bytes outcome accepted = accepted
+
+-- the accepted lists after a line
+abbrev pub accepted_by : EndSystem → Line → Answer → Accepted → Accepted
+accepted_by es (Send port bytes) answer accepted = taken_by es.plan (place_of es.plan port) bytes (outcome_of es (Send port bytes) answer) accepted
+accepted_by es _ answer accepted = accepted
+
+-- a line, and what queues answered
+pub record Turn : Type 0 where
+  pub line : List ℕ
+  pub answer : Answer
+
+-- what is known after some lines
+pub record Play : Type 0 where
+  pub es : EndSystem
+  pub accepted : Accepted
+  pub count : ℕ
+  pub notes : List ℕ
+  pub summary : Sums
+
+abbrev pub start : Plan → Play
+start plan = record { es = fresh plan; accepted = none_accepted; count = 0; notes = []; summary = record { accepted = 0; refused = 0; frames = 0 } }
+
+-- one line more
+abbrev pub play_line : Turn → Play → Play
+play_line turn st = record {
+  es = after st.es (meaning_of turn.line) turn.answer;
+  accepted = accepted_by st.es (meaning_of turn.line) turn.answer st.accepted;
+  count = st.count + 1;
+  notes = st.notes ++ note_of (st.count + 1) (outcome_of st.es (meaning_of turn.line) turn.answer);
+  summary = counted (outcome_of st.es (meaning_of turn.line) turn.answer) st.summary;
+}
+
+-- the lines one after the other
+abbrev pub play : Play → List Turn → Play
+play st [] = st
+play st (turn ∷ turns) = play (play_line turn st) turns
+
+-- the whole text: the notes, the lines of network A and then those of B
+abbrev pub transcript : Play → List ℕ
+transcript st = st.notes ++ streams st.es.log (handed_b st.es)
+
+-- the messages that looks found are the first of those that were accepted, of each sub-VL
+abbrev pub FindsFirst : Play → Type 0
+FindsFirst st = (k s : ℕ) → k < length st.es.plan.links → s < (link_plan_at st.es.plan.links k).sub_vls
+    → (more : List Sent) × (st.accepted k s ≡ (progress_of st.es k s).taken ++ more)
+
+-- a line was obeyed, over an emitter that matches these lists
+pub record Obeys (line : Line) (accepted : Accepted) (es : EndSystem) (tx : Tx) (outcome : Outcome) : Type 0 where
+  pub answer : Answer
+  pub is : outcome ≡ outcome_of es line answer
+  pub matches : Matches (accepted_by es line answer accepted) (after es line answer) tx
+
+-- the same, whatever lists the emitter matched before
+abbrev pub ObeysFor : Line → (old new : Tx) → Outcome → Type 0
+ObeysFor line old new outcome = (accepted : Accepted) (es : EndSystem) → Matches accepted es old → Obeys line accepted es new outcome
