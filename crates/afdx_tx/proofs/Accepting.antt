@@ -1,6 +1,6 @@
 -- One more accepted message.
-use Rattle.std.proofs.Common.{ℕ, suc, ◌≡◌, ◌≢◌, ◌⊎◌, ◌+◌, ◌<◌, ◌≤◌, List, [], ◌∷◌, ◌++◌, Bool, true, false, cond, length, map, set, get_or, eqb, arith, refl, ap, ◌∙◌, sym, subst, ⊎_elim}
-use Rattle.std.proofs.lemmas.List.{append-nil, append_assoc, length-set, get_or-set_other}
+use Rattle.std.proofs.Common.{ℕ, ◌≡◌, ◌≢◌, ◌+◌, ◌<◌, List, [], ◌∷◌, ◌++◌, false, cond, length, set, eqb, arith, refl, ap, ◌∙◌, sym, subst, ⊎_elim}
+use Rattle.std.proofs.lemmas.List.{append_assoc, length-set, get_or-set_other}
 use Rattle.std.proofs.lemmas.Bool.{cases_eq, eq-eqb, ne_eqb}
 use Rattle.std.proofs.Math.Seq.{map-set_same}
 use Rattle.afdx_config.specs.declared.link_plan.LinkPlan.{LinkPlan}
@@ -15,7 +15,7 @@ use Rattle.afdx_tx.specs.declared.sub_vl.SubVl.{SubVl}
 use Rattle.afdx_tx.specs.Streams.{link_stream, sub_stream, told_of, IsPrefixOf}
 use Rattle.afdx_tx.specs.Legal.{Accepted}
 use Rattle.afdx_tx.specs.Links.{Held, LinkState, held_at, nothing_held, link_at, no_link, sub_fragments}
-use Rattle.afdx_tx.specs.Emitter.{plan_of, plans, AreLinksOf, IsSound, IsKept, IsTied, IsLinkInStep, AreInStep, IsInStep, waits, link_with, with_accepted}
+use Rattle.afdx_tx.specs.Emitter.{plan_of, AreLinksOf, IsSound, IsKept, IsTied, IsLinkInStep, AreInStep, IsInStep, waits, link_with, with_accepted}
 use Rattle.afdx_tx.proofs.Choosing.{held_same}
 use Rattle.afdx_tx.proofs.SubInStep.{fragments_append, tied_waits}
 use Rattle.afdx_tx.proofs.LinkTurn.{IsOwn}

@@ -1,6 +1,6 @@
 -- A chosen sub-VL that became another.
-use Rattle.std.proofs.Common.{ℕ, ◌≡◌, ◌≢◌, ◌+◌, ◌<◌, List, length, set, get_or, arith, refl, ap, ◌∙◌, sym, subst, ⊎_elim, Bool, true, false, []}
-use Rattle.std.proofs.lemmas.List.{get_or_default, length-set, get_or-set_other}
+use Rattle.std.proofs.Common.{ℕ, ◌≡◌, ◌≢◌, List, set, get_or, arith, refl, ap, ◌∙◌, sym, subst, ⊎_elim, []}
+use Rattle.std.proofs.lemmas.List.{get_or_default, get_or-set_other}
 use Rattle.std.proofs.lemmas.Bool.{cases_eq}
 use Rattle.afdx_config.specs.declared.link_plan.LinkPlan.{LinkPlan}
 use Rattle.redundant_mux.specs.Lines.{Lines}

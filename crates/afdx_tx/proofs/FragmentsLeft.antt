@@ -1,11 +1,9 @@
 -- Small facts on lists and fragments.
-use Rattle.std.proofs.Common.{ℕ, zero, suc, ◌≡◌, ◌≢◌, ◌+◌, ◌-◌, ◌<◌, ◌≤◌, List, [], ◌∷◌, ◌++◌, length, map, arith, refl, ap, sym, subst, ◌∙◌, Bool, true, false, not, Option, Some, None}
-use Rattle.std.specs.Prelude.{All, ◌||◌, nat_le, if◌then◌else◌}
+use Rattle.std.proofs.Common.{ℕ, suc, ◌≡◌, ◌≢◌, ◌+◌, ◌-◌, List, [], ◌∷◌, length, map, arith, refl, ap, sym, subst, Bool, true, false, not, Some}
+use Rattle.std.specs.Prelude.{◌||◌, nat_le, if◌then◌else◌}
 use Rattle.afdx_config.specs.Room.{room_of, step_of}
-use Rattle.afdx_frame.specs.declared.net.Net.TheVariants.{A}
-use Rattle.afdx_frame.specs.declared.piece.Piece.{Piece}
 use Rattle.afdx_frame.specs.Cutting.{Cutting, cut_by, cutting, pieces_from, pieces_left}
-use Rattle.afdx_frame.specs.Fragments.{Sent, fragments_at, fragments_left}
+use Rattle.afdx_frame.specs.Fragments.{Sent, fragments_at}
 use Rattle.afdx_tx.specs.declared.sub_vl.SubVl.{SubVl}
 use Rattle.afdx_tx.specs.Links.{TellsCutting, left_of, message_fragments}
 

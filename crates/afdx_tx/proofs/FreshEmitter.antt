@@ -1,5 +1,5 @@
 -- An emitter of which nothing was asked yet.
-use Rattle.std.proofs.Common.{ℕ, zero, suc, ◌≡◌, ◌≢◌, ◌⊎◌, ◌+◌, ◌<◌, ◌≤◌, List, [], ◌∷◌, ◌++◌, Bool, true, false, cond, length, map, get_or, arith, refl, ap, ◌∙◌, sym, subst, inl, inr, ⊎_elim, Option, None}
+use Rattle.std.proofs.Common.{ℕ, ◌≡◌, ◌+◌, ◌<◌, ◌≤◌, List, [], ◌∷◌, ◌++◌, true, length, arith, refl, ap, ◌∙◌, sym, subst, inl, ⊎_elim, Option, None}
 use Rattle.std.proofs.lemmas.List.{ext_get_or, length-append, get_or_append_left, get_or_push}
 use Rattle.std.proofs.lemmas.Bool.{cases_lt}
 use Rattle.afdx_config.specs.declared.link_plan.LinkPlan.{LinkPlan}
@@ -9,13 +9,12 @@ use Rattle.afdx_config.specs.Numbers.{sequence_number}
 use Rattle.afdx_frame.specs.declared.net.Net.{Net}
 use Rattle.afdx_frame.specs.declared.net.Net.TheVariants.{A, B}
 use Rattle.redundant_mux.specs.Entry.{Entry}
-use Rattle.redundant_mux.specs.Lines.{Lines, side, log, Keeps, Mirrors, is_alive}
+use Rattle.redundant_mux.specs.Lines.{Lines, log, Keeps, Mirrors}
 use Rattle.vl_shaper.specs.Pace.{Pace, IsLater}
 use Rattle.vl_shaper.specs.declared.shaper.Stamp.{Stamp}
-use Rattle.afdx_tx.specs.Streams.{link_stream, IsSpaced, IsNumbered}
 use Rattle.afdx_tx.specs.Legal.{AreKnown}
-use Rattle.afdx_tx.specs.Links.{Held, LinkState, link_at, no_link, held_at, no_link_plan, IsLink, pace_of}
-use Rattle.afdx_tx.specs.Emitter.{Tx, fresh_held, IsFreshLink, AreFreshLinks, AreLinksOf, plan_of, plans, IsSound, IsKept, AreInStep, IsLinkInStep, IsTied, none_accepted}
+use Rattle.afdx_tx.specs.Links.{Held, LinkState, link_at, no_link, held_at, no_link_plan, IsLink}
+use Rattle.afdx_tx.specs.Emitter.{IsFreshLink, AreFreshLinks, AreLinksOf, plans, IsSound, IsKept, AreInStep, IsLinkInStep, IsTied, none_accepted}
 use Rattle.afdx_tx.proofs.PollTurns.{plan_at_is, plans_length}
 
 -- the lines of two networks that were handed nothing

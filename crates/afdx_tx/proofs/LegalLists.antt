@@ -1,6 +1,6 @@
 -- From the log to the two handed lists.
-use Rattle.std.proofs.Common.{ℕ, suc, ◌≡◌, ◌≢◌, ◌⊎◌, ◌+◌, ◌-◌, ◌<◌, ◌≤◌, List, [], ◌∷◌, ◌++◌, Bool, true, false, cond, length, map, take, drop, eqb, arith, refl, ap, ◌∙◌, sym, subst, inl, inr, ⊎_elim, Option, Some, None}
-use Rattle.std.proofs.lemmas.List.{map-append, append_assoc, length-map, take-append-drop, take-map}
+use Rattle.std.proofs.Common.{ℕ, ◌≡◌, ◌+◌, ◌<◌, ◌≤◌, List, [], ◌∷◌, ◌++◌, Bool, true, false, cond, length, map, take, drop, eqb, arith, refl, ap, ◌∙◌, sym, subst, ⊎_elim, Option, Some, None}
+use Rattle.std.proofs.lemmas.List.{map-append, append_assoc, take-append-drop, take-map}
 use Rattle.std.proofs.lemmas.List.Elements.{filter-append}
 use Rattle.std.specs.Prelude.{filter}
 use Rattle.afdx_config.specs.declared.link_plan.LinkPlan.{LinkPlan}
@@ -12,11 +12,11 @@ use Rattle.afdx_frame.specs.declared.net.Net.TheVariants.{A, B}
 use Rattle.afdx_frame.specs.Twin.{twin_of}
 use Rattle.afdx_frame.specs.Fragments.{Sent, blanked, fragments}
 use Rattle.afdx_frame.proofs.Twins.{twin_link, twin_sub, twin_number, twin_interface, twin_blanked, twin_fragments, length-twin}
-use Rattle.redundant_mux.specs.Entry.{Entry, entry}
+use Rattle.redundant_mux.specs.Entry.{Entry}
 use Rattle.redundant_mux.specs.Lines.{Lines, side, log, Keeps, Mirrors, IsMirrored}
 use Rattle.vl_shaper.specs.declared.shaper.Stamp.{Stamp}
 use Rattle.afdx_tx.specs.Streams.{on_link, on_sub, link_stream, sub_stream, told, told_of, stamp_of, IsNumbered, IsSpaced, IsPrefixOf}
-use Rattle.afdx_tx.specs.Legal.{Accepted, IsKnown, AreKnown, IsLegalOn, AreTwins, IsLegal}
+use Rattle.afdx_tx.specs.Legal.{Accepted, AreKnown, IsLegalOn, AreTwins, IsLegal}
 use Rattle.afdx_tx.proofs.MirroredLines.{all_of, sides}
 
 -- the entries of a list have whole frames

@@ -1,5 +1,5 @@
 -- One turn of a link, against its stream and its accepted lists.
-use Rattle.std.proofs.Common.{ℕ, zero, suc, ◌≡◌, ◌≢◌, ◌⊎◌, ◌+◌, ◌<◌, ◌≤◌, List, [], ◌∷◌, ◌++◌, Bool, true, false, length, map, set, get_or, arith, refl, ap, ◌∙◌, sym, subst, inl, inr, ⊎_elim, Option, Some, None}
+use Rattle.std.proofs.Common.{ℕ, ◌≡◌, ◌≢◌, ◌<◌, List, [], ◌∷◌, ◌++◌, true, false, arith, ap, ◌∙◌, sym, subst, inr, ⊎_elim, Option, None}
 use Rattle.std.proofs.lemmas.List.{get_or-set_other}
 use Rattle.std.proofs.lemmas.Bool.{cases_eq, eq-eqb, ne_eqb}
 use Rattle.afdx_config.specs.declared.link_plan.LinkPlan.{LinkPlan}
@@ -10,14 +10,14 @@ use Rattle.afdx_frame.specs.declared.net.Net.TheVariants.{A}
 use Rattle.afdx_frame.specs.Header.{sub_in}
 use Rattle.afdx_frame.specs.Fragments.{Sent, fragments}
 use Rattle.redundant_mux.specs.Entry.{Entry, entry}
-use Rattle.redundant_mux.specs.Lines.{Lines, log, is_alive}
+use Rattle.redundant_mux.specs.Lines.{Lines, log}
 use Rattle.vl_shaper.specs.declared.shaper.Stamp.{Stamp}
-use Rattle.vl_shaper.specs.Pace.{Pace, is_due, IsLater}
+use Rattle.vl_shaper.specs.Pace.{Pace, IsLater}
 use Rattle.afdx_tx.specs.declared.served.Served.{Served}
 use Rattle.afdx_tx.specs.declared.served.Served.TheVariants.{Nothing, Released, Lost}
 use Rattle.afdx_tx.specs.declared.sub_vl.SubVl.{SubVl}
 use Rattle.afdx_tx.specs.Streams.{latest, on_sub, link_stream, sub_stream, told, told_of, IsNumbered, IsSpaced, IsApart, IsPrefixOf}
-use Rattle.afdx_tx.specs.Links.{Held, LinkState, held_at, nothing_held, IsChoice, PassedOver, Picks, Releases, Gives, ReleasesAt, Serves, Follows, IsSameLink, AreSameSubs, AreNamed, IsLink, is_lost, pace_of, sub_fragments}
+use Rattle.afdx_tx.specs.Links.{Held, LinkState, held_at, nothing_held, Picks, ReleasesAt, Serves, Follows, IsSameLink, AreSameSubs, IsLink, is_lost, pace_of, sub_fragments}
 use Rattle.afdx_tx.specs.Emitter.{IsKept, IsTied, IsLinkInStep}
 use Rattle.afdx_tx.proofs.Choosing.{Moves, held_same, moves_chosen, moves_passed}
 use Rattle.afdx_tx.proofs.SubInStep.{moves_of, tied_moves, tied_gave, prefix_of}

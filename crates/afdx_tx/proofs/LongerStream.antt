@@ -1,15 +1,15 @@
 -- A stream that has one more frame.
-use Rattle.std.proofs.Common.{ℕ, suc, ◌≡◌, ◌≢◌, ◌⊎◌, ◌+◌, ◌-◌, ◌<◌, ◌≤◌, List, [], ◌∷◌, ◌++◌, Bool, true, false, cond, length, map, take, eqb, leb, arith, refl, ap, ◌∙◌, sym, subst, inl, inr, ⊎_elim, Option, Some, None}
-use Rattle.std.proofs.lemmas.List.{map-append, append-nil, append_assoc, length-append}
+use Rattle.std.proofs.Common.{ℕ, ◌≡◌, ◌+◌, ◌-◌, ◌≤◌, List, [], ◌∷◌, ◌++◌, Bool, true, false, cond, length, arith, refl, ap, ◌∙◌, Option, Some, None}
+use Rattle.std.proofs.lemmas.List.{append-nil}
 use Rattle.std.proofs.lemmas.List.Elements.{filter-append}
 use Rattle.std.proofs.lemmas.Bool.{leb-true}
 use Rattle.std.specs.Prelude.{filter}
 use Rattle.afdx_config.specs.Numbers.{sequence_number}
-use Rattle.afdx_frame.specs.Header.{sub_in, link_in, number_in}
+use Rattle.afdx_frame.specs.Header.{number_in}
 use Rattle.redundant_mux.specs.Entry.{Entry}
 use Rattle.vl_shaper.specs.declared.shaper.Stamp.{Stamp}
 use Rattle.vl_shaper.specs.Pace.{is_due, IsLater}
-use Rattle.afdx_tx.specs.Streams.{stamp_of, latest, IsApart, IsSpaced, IsNumbered, on_link, on_sub, link_stream, sub_stream}
+use Rattle.afdx_tx.specs.Streams.{stamp_of, latest, IsApart, IsSpaced, IsNumbered}
 
 -- the last entry is the one that came
 pub latest_push : (before : Option Stamp) (S : List Entry) (e : Entry) → latest before (S ++ e ∷ []) ≡ Some (stamp_of e)

@@ -1,5 +1,5 @@
 -- One more link of a poll has had its turn.
-use Rattle.std.proofs.Common.{ℕ, suc, ◌≡◌, ◌≢◌, ◌⊎◌, ◌+◌, ◌-◌, ◌<◌, ◌≤◌, List, [], ◌∷◌, ◌++◌, Bool, true, false, length, map, take, drop, set, get_or, arith, refl, ap, ◌∙◌, sym, subst, inl, inr, ⊎_elim, None, Option}
+use Rattle.std.proofs.Common.{ℕ, ◌≡◌, ◌≢◌, ◌+◌, ◌<◌, List, [], ◌∷◌, ◌++◌, true, false, length, take, drop, set, get_or, arith, refl, ap, ◌∙◌, sym, subst, ⊎_elim}
 use Rattle.std.proofs.lemmas.List.{length-set, get_or-set_same, get_or-set_other, get_or-drop, drop-drop, drop-set-lt, take_more, take_more_set, get_or-map, length-map, take-set}
 use Rattle.std.proofs.lemmas.Bool.{cases_eq}
 use Rattle.afdx_config.specs.declared.identifiers.VlId.{VlId}
@@ -11,12 +11,11 @@ use Rattle.redundant_mux.specs.Lines.{Lines, log, is_alive, IsMirrored}
 use Rattle.vl_shaper.specs.Pace.{Pace, IsLater}
 use Rattle.afdx_tx.specs.declared.served.Served.{Served}
 use Rattle.afdx_tx.specs.declared.served.Served.TheVariants.{Nothing, Released, Lost}
-use Rattle.afdx_tx.specs.Streams.{link_stream}
-use Rattle.afdx_tx.specs.Legal.{Accepted, IsKnown, AreKnown}
-use Rattle.afdx_tx.specs.Links.{Held, LinkState, link_at, no_link, no_link_plan, pace_of, Serves, IsSameLink, is_lost}
+use Rattle.afdx_tx.specs.Legal.{IsKnown, AreKnown}
+use Rattle.afdx_tx.specs.Links.{LinkState, link_at, no_link, no_link_plan, Serves, IsSameLink, is_lost}
 use Rattle.afdx_tx.specs.Run.{IsTurn, IsRun, IsCutShort}
-use Rattle.afdx_tx.specs.Emitter.{plan_of, plans, AreLinks, AreApart, IsKept, AreKept, AreWhole, AreServedBy, IsLinkInStep, AreInStep}
-use Rattle.afdx_tx.specs.Serving.{IsSamePlan, KeepsStep, IsSteady, IsServing}
+use Rattle.afdx_tx.specs.Emitter.{plan_of, plans, AreApart, IsKept, IsLinkInStep}
+use Rattle.afdx_tx.specs.Serving.{IsSamePlan, IsSteady, IsServing}
 use Rattle.afdx_tx.proofs.LinkTurn.{Turned, IsOwn, link_turn, kept_turn, step_turn, other_stream, kept_stream, step_stream, released_known, picked_of}
 use Rattle.afdx_tx.specs.declared.sub_vl.SubVl.{SubVl}
 

@@ -1,7 +1,7 @@
 -- Why a port takes or refuses a message.
-use Rattle.std.proofs.Common.{ℕ, ◌≡◌, ◌≢◌, ◌⊎◌, ◌+◌, ◌<◌, ◌≤◌, List, length, set, get_or, Bool, true, false, cond, eqb, ltb, leb, arith, refl, ap, ◌∙◌, sym, subst, inl, inr, ⊎_elim, Option, Some, None, Result, Ok, Err}
+use Rattle.std.proofs.Common.{ℕ, ◌≡◌, ◌≢◌, ◌⊎◌, ◌<◌, ◌≤◌, List, length, set, cond, ltb, arith, refl, ap, ◌∙◌, sym, subst, inl, inr, ⊎_elim, Option, Some, None, Result, Ok, Err}
 use Rattle.std.specs.Prelude.{OnOk, OnErr, IfErr}
-use Rattle.std.proofs.lemmas.Bool.{cases_eq, cases_lt, eq-eqb, ne_eqb, lt-ltb, le-ltb, le-leb}
+use Rattle.std.proofs.lemmas.Bool.{cases_eq, cases_lt, eq-eqb, ne_eqb, lt-ltb, le-leb}
 use Rattle.std.proofs.lemmas.List.{set-get_or}
 use Rattle.afdx_config.specs.declared.link_plan.LinkPlan.{LinkPlan}
 use Rattle.afdx_config.specs.declared.port_plan.PortPlan.{PortPlan}
@@ -12,7 +12,7 @@ use Rattle.redundant_mux.specs.Lines.{Lines}
 use Rattle.afdx_tx.specs.declared.sub_vl.SubVl.{SubVl}
 use Rattle.afdx_tx.specs.declared.fault.Refusal.{Refusal}
 use Rattle.afdx_tx.specs.declared.fault.Refusal.TheVariants.{Empty, TooLong, Full}
-use Rattle.afdx_tx.specs.Links.{Held, LinkState, held_at, link_at, no_link}
+use Rattle.afdx_tx.specs.Links.{LinkState, held_at, link_at, no_link}
 use Rattle.afdx_tx.specs.Emitter.{AreLinksOf, IsSound, link_with}
 use Rattle.afdx_tx.specs.Sending.{length_refusal, queue_refusal, first_refusal, IsMessageOf}
 use Rattle.afdx_tx.proofs.SoundEmitter.{plan_is, count_is}

@@ -1,5 +1,5 @@
 -- An emitter after its links had their turns.
-use Rattle.std.proofs.Common.{ℕ, ◌≡◌, ◌+◌, ◌<◌, ◌≤◌, List, [], Bool, true, false, length, map, get_or, arith, refl, ap, ◌∙◌, sym, subst, Option, Some, None}
+use Rattle.std.proofs.Common.{ℕ, ◌≡◌, ◌<◌, ◌≤◌, List, true, length, arith, ap, ◌∙◌, sym, subst, Option, Some, None}
 use Rattle.std.proofs.lemmas.List.{ext_get_or}
 use Rattle.afdx_config.specs.declared.link_plan.LinkPlan.{LinkPlan}
 use Rattle.afdx_config.specs.Config.{Plan, IsPlan, link_plan_at}
@@ -7,15 +7,15 @@ use Rattle.afdx_config.specs.Plan.{bag_micros}
 use Rattle.afdx_config.specs.Room.{room_of}
 use Rattle.afdx_frame.specs.declared.net.Net.TheVariants.{A}
 use Rattle.afdx_frame.specs.Fragments.{fragments}
-use Rattle.redundant_mux.specs.Lines.{Lines, log, is_alive, IsMirrored}
+use Rattle.redundant_mux.specs.Lines.{Lines, log, is_alive}
 use Rattle.vl_shaper.specs.declared.shaper.Stamp.{Stamp}
 use Rattle.vl_shaper.specs.Pace.{IsLater}
 use Rattle.afdx_tx.specs.Streams.{link_stream, told_of, IsNumbered, IsSpaced, IsPrefixOf}
 use Rattle.afdx_tx.specs.Legal.{Accepted, AreKnown, IsLegal}
-use Rattle.afdx_tx.specs.Links.{LinkState, link_at, no_link, no_link_plan}
-use Rattle.afdx_tx.specs.Emitter.{Tx, plan_of, plans, AreLinks, AreApart, AreLinksOf, AreKept, AreWhole, AreServedBy, IsSound, AreInStep, IsInStep}
+use Rattle.afdx_tx.specs.Links.{LinkState, link_at, no_link_plan}
+use Rattle.afdx_tx.specs.Emitter.{plans, AreLinks, AreApart, AreLinksOf, AreWhole, IsSound, AreInStep, IsInStep}
 use Rattle.afdx_tx.specs.Serving.{IsSamePlan, IsSteady}
-use Rattle.afdx_tx.proofs.LegalLists.{IsLogLegal, legal_of}
+use Rattle.afdx_tx.proofs.LegalLists.{legal_of}
 use Rattle.afdx_tx.proofs.PollTurns.{plan_at_is, plans_length}
 
 -- what was at a moment was so at each later one

@@ -1,9 +1,9 @@
 -- A sub-VL that was asked or gave a frame, against its accepted list and its stream.
-use Rattle.std.proofs.Common.{ℕ, zero, suc, ◌≡◌, ◌≢◌, ◌⊎◌, ◌+◌, ◌%◌, ◌<◌, ◌≤◌, List, [], ◌∷◌, ◌++◌, Bool, true, false, length, map, take, drop, set, get_or, arith, refl, ap, ◌∙◌, sym, subst, inl, inr, ⊎_elim}
-use Rattle.std.proofs.lemmas.List.{append-nil, append_assoc, map-append, length-append, length-take, length-drop, take-append-drop}
+use Rattle.std.proofs.Common.{ℕ, zero, suc, ◌≡◌, ◌≢◌, ◌+◌, ◌<◌, ◌≤◌, List, [], ◌∷◌, ◌++◌, true, length, take, drop, arith, refl, ap, ◌∙◌, sym, subst, ⊎_elim}
+use Rattle.std.proofs.lemmas.List.{append-nil, append_assoc, map-append, length-append, length-take, take-append-drop}
 use Rattle.afdx_config.specs.Room.{room_of}
 use Rattle.afdx_frame.specs.declared.net.Net.TheVariants.{A}
-use Rattle.afdx_frame.specs.Fragments.{Sent, blanked, fragments_at, fragments_from}
+use Rattle.afdx_frame.specs.Fragments.{Sent, blanked}
 use Rattle.afdx_frame.proofs.FragmentLemmas.{fragments_more}
 use Rattle.afdx_frame.proofs.Twins.{fragments_again}
 use Rattle.redundant_mux.specs.Entry.{Entry, entry}

@@ -1,8 +1,8 @@
 -- One more release.
-use Rattle.std.proofs.Common.{ℕ, ◌≡◌, ◌+◌, ◌<◌, ◌≤◌, List, [], ◌∷◌, ◌++◌, length, map, arith, refl, ap, ◌∙◌, sym, subst}
+use Rattle.std.proofs.Common.{ℕ, ◌≡◌, ◌+◌, ◌≤◌, List, [], ◌∷◌, ◌++◌, length, arith, ap, ◌∙◌, sym}
 use Rattle.std.proofs.lemmas.List.{map-append, append-nil, append_assoc, length-append}
 use Rattle.afdx_config.specs.declared.identifiers.VlId.{VlId}
-use Rattle.afdx_frame.specs.Header.{link_in, sub_in, number_in}
+use Rattle.afdx_frame.specs.Header.{sub_in, number_in}
 use Rattle.redundant_mux.specs.Entry.{Entry, entry}
 use Rattle.redundant_mux.specs.Lines.{Lines, log}
 use Rattle.afdx_tx.specs.declared.served.Served.{Served}

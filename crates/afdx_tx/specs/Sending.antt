@@ -1,7 +1,7 @@
 -- What a port takes.
 use Rattle.std.specs.Prelude.{ℕ, ◌≡◌, ◌==◌, ◌≤◌, nat_le, nat_lt, nat_eq, unwrap_or, if◌then◌else◌, List, length, position, Option, Some, None}
 use Rattle.afdx_config.specs.Config.{Plan, port_plan_at, link_plan_at}
-use Rattle.afdx_config.specs.Plan.{IsPort, IsLink, SendsOver}
+use Rattle.afdx_config.specs.Plan.{IsPort, SendsOver}
 use Rattle.afdx_config.specs.declared.link_plan.LinkPlan.{LinkPlan}
 use Rattle.afdx_config.specs.declared.port_plan.PortPlan.{PortPlan}
 use Rattle.afdx_frame.specs.Fragments.{Sent}

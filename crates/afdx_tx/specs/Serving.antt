@@ -1,5 +1,5 @@
 -- What the turns of a poll keep, up to some link.
-use Rattle.std.specs.Prelude.{ℕ, ◌≡◌, ◌≤◌, ◌<◌, List, length, take, drop, Bool, true}
+use Rattle.std.specs.Prelude.{ℕ, ◌≡◌, ◌≤◌, ◌<◌, List, length, take, drop, true}
 use Rattle.afdx_frame.specs.declared.net.Net.TheVariants.{A}
 use Rattle.redundant_mux.specs.Lines.{Lines, log, is_alive, IsMirrored}
 use Rattle.afdx_tx.specs.declared.report.Release.{Release}

@@ -1,4 +1,4 @@
-use Rattle.std.proofs.Common.{List, set, ◌++◌, ◌+◌, ◌≤◌, ◌≡◌, ◌<◌, true, false, refl, ◌∙◌, ap, sym, length, ℕ, subst, get_or, arith}
+use Rattle.std.proofs.Common.{List, ◌++◌, ◌+◌, ◌≤◌, ◌≡◌, ◌<◌, ◌∙◌, ap, sym, length, subst, get_or, arith}
 use Rattle.std.proofs.lemmas.List.{get_or_default}
 use Rattle.afdx_config.specs.declared.identifiers.VlId.{VlId}
 use Rattle.afdx_config.specs.declared.link_plan.LinkPlan.{LinkPlan}

@@ -1,10 +1,8 @@
-use Rattle.std.proofs.Common.{◌≡◌, ◌∙◌, ◌||◌, ap, sym, refl, true, false, Bool, ◌∷◌, List, ℕ}
+use Rattle.std.proofs.Common.{◌≡◌, ◌∙◌, ◌||◌, ap, sym, true, false}
 use Rattle.redundant_mux.specs.Entry.{entry}
-use Rattle.redundant_mux.specs.Lines.{is_alive, log}
+use Rattle.redundant_mux.specs.Lines.{is_alive}
 use Rattle.afdx_frame.specs.declared.net.Net.TheVariants.{A}
-use Rattle.afdx_frame.specs.Twin.{twin_of}
 use Rattle.afdx_frame.proofs.Twins.{twin_same}
-use Rattle.afdx_tx.specs.Links.{Held, Gives}
 use Rattle.afdx_tx.proofs.FragmentsLeft.{or_none}
 use Rattle.afdx_tx.proofs.SubInStep.{gives_of}
 use Rattle.afdx_tx.proofs.MirroredLines.{HandedMore, HandedNone, handed_more, handed_none}

@@ -1,11 +1,9 @@
-use Rattle.std.proofs.Common.{◌≡◌, ◌≤◌, true, refl, ◌∙◌, ap, sym, length, ℕ, List, subst, arith}
+use Rattle.std.proofs.Common.{◌≡◌, ◌∙◌, sym, List, subst}
 use Rattle.std.proofs.lemmas.List.{with_items_is}
 use Rattle.std.specs.Vec.{with_items}
-use Rattle.redundant_mux.specs.Lines.{Lines, is_alive, log}
-use Rattle.afdx_config.specs.Config.{Plan}
-use Rattle.afdx_tx.specs.Legal.{Accepted}
+use Rattle.redundant_mux.specs.Lines.{log}
 use Rattle.afdx_tx.specs.Links.{LinkState}
-use Rattle.afdx_tx.specs.Emitter.{Tx, AreApart, AreInStep, IsSound, IsInStep}
+use Rattle.afdx_tx.specs.Emitter.{AreApart, AreInStep, IsSound, IsInStep}
 use Rattle.afdx_tx.specs.Serving.{IsSteady}
 use Rattle.afdx_tx.proofs.SoundEmitter.{links_apart, sound_after, in_step_after}
 use Rattle.afdx_tx.proofs.emitter.Emitter.poll.Given

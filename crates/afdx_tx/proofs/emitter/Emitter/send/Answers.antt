@@ -1,8 +1,8 @@
-use Rattle.std.proofs.Common.{ℕ, ◌≡◌, ◌<◌, ◌≤◌, refl, ◌∙◌, ap, sym, subst, length, List, Some, None, set, get_or, arith, ◌⊎◌}
+use Rattle.std.proofs.Common.{ℕ, ◌≡◌, ◌≤◌, ◌∙◌, ap, sym, subst, length, Some, None, set, arith, ◌⊎◌}
 use Rattle.std.proofs.lemmas.List.{get_or_read}
 use Rattle.afdx_config.specs.declared.link_plan.LinkPlan.{LinkPlan}
 use Rattle.afdx_config.specs.declared.port_plan.PortPlan.{PortPlan}
-use Rattle.afdx_config.specs.Config.{Plan, port_plan_at, link_plan_at}
+use Rattle.afdx_config.specs.Config.{port_plan_at, link_plan_at}
 use Rattle.afdx_frame.specs.Fragments.{Sent}
 use Rattle.afdx_tx.specs.declared.fault.SendFault.{SendFault}
 use Rattle.afdx_tx.specs.declared.fault.Refusal.{Refusal}

@@ -1,4 +1,4 @@
-use Rattle.std.proofs.Common.{ℕ, ◌≡◌, ◌∷◌, ◌<◌, ◌≤◌, ◌%◌, ◌+◌, ◌∙◌, ap, sym, subst, refl, inr, arith, List, [], Bool, false, Some}
+use Rattle.std.proofs.Common.{ℕ, ◌≡◌, ◌∙◌, ap, sym, subst, refl, inr, arith, [], Bool, Some}
 use Rattle.std.proofs.lemmas.List.Elements.{All-head, All-tail}
 use Rattle.std.specs.Prelude.{All}
 use Rattle.afdx_config.specs.Room.{room_of}
@@ -6,7 +6,7 @@ use Rattle.afdx_frame.specs.declared.net.Net.TheVariants.{A}
 use Rattle.afdx_config.specs.declared.port_plan.PortPlan.{PortPlan}
 use Rattle.afdx_config.specs.Plan.{SendsOver}
 use Rattle.afdx_frame.specs.Fragments.{Sent}
-use Rattle.afdx_tx.specs.Links.{Held, Starts, TellsCutting, left_of, message_fragments}
+use Rattle.afdx_tx.specs.Links.{Held, TellsCutting, left_of, message_fragments}
 use Rattle.afdx_tx.specs.Sending.{IsMessageOf}
 use Rattle.afdx_tx.proofs.FragmentsLeft.{fragments_some}
 use Rattle.afdx_tx.proofs.sub.Sub.ready.Goals as goal
