@@ -1,10 +1,11 @@
 -- Sub-VLs asked in turn.
-use Rattle.std.proofs.Common.{ℕ, zero, suc, ◌≡◌, ◌≢◌, ◌⊎◌, ◌+◌, ◌<◌, ◌≤◌, List, [], ◌∷◌, ◌++◌, Bool, true, false, length, set, get_or, arith, refl, ap, ◌∙◌, sym, subst, inl, inr, ⊎_elim, Option, Some, None}
-use Rattle.std.proofs.lemmas.List.{length-set, get_or-set_same, get_or-set_other, get_or_default}
+use Rattle.std.proofs.Common.{ℕ, zero, suc, ◌≡◌, ◌≢◌, ◌⊎◌, ◌<◌, ◌≤◌, List, true, false, length, set, arith, ap, ◌∙◌, sym, subst, inl, inr, ⊎_elim}
+use Rattle.std.proofs.lemmas.List.{get_or-set_same}
 use Rattle.std.proofs.lemmas.Bool.{cases_eq, cases_lt}
 use Rattle.vl_shaper.specs.Pace.{Pace, turn_of}
 use Rattle.afdx_tx.specs.Links.{Held, held_at, nothing_held, Asks, IsChoice, PassedOver}
 
+-- the sub-VL that was set
 pub held_same : (subs : List Held) (s : ℕ) (h : Held) → s < length subs → held_at (set subs s h) s ≡ h
 held_same subs s h lt = get_or-set_same subs s h nothing_held lt
 
@@ -19,65 +20,21 @@ met f (suc k) s = ⊎_elim
     (cases_eq (f k) s))
     (met f k s)
 
--- one more that was asked
-pub passed_more : (pace : Pace) (old new : List Held) (k : ℕ) (d h : Held) → PassedOver pace old new k
-    → ((j : ℕ) → j < pace.sub_vls → turn_of pace.sub_vls pace.last j ≡ turn_of pace.sub_vls pace.last k → j ≡ k) → k < pace.sub_vls
-    → turn_of pace.sub_vls pace.last k < length new
-    → Asks false (get_or new (turn_of pace.sub_vls pace.last k) d) h → PassedOver pace old (set new (turn_of pace.sub_vls pace.last k) h) (k + 1)
-passed_more pace old new k d h p apart kl lt a =
-    let T : ℕ → ℕ = turn_of pace.sub_vls pace.last in
-    let here : held_at new (turn_of pace.sub_vls pace.last k) ≡ held_at old (turn_of pace.sub_vls pace.last k) = p.others (turn_of pace.sub_vls pace.last k) (λ j jl e. let q : j ≡ k = apart j (omega arith) e in absurd (omega arith)) in
-    let asked : Asks false (held_at old (turn_of pace.sub_vls pace.last k)) h = subst (λ (x : Held). Asks false x h) (get_or_default new (turn_of pace.sub_vls pace.last k) d nothing_held lt ∙ here) a in
-    record {
-      count = length-set new (turn_of pace.sub_vls pace.last k) h ∙ p.count;
-      before = λ j jl. ⊎_elim
-          (λ (l : j < k).
-          let ne : turn_of pace.sub_vls pace.last j ≢ turn_of pace.sub_vls pace.last k = λ e. let q : j ≡ k = apart j (omega arith) e in absurd (omega arith) in
-          subst (λ (x : Held). Asks false (held_at old (turn_of pace.sub_vls pace.last j)) x) (sym (get_or-set_other new (turn_of pace.sub_vls pace.last k) (turn_of pace.sub_vls pace.last j) h nothing_held ne)) (p.before j l))
-          (λ (g : k ≤ j).
-          let q : j ≡ k = omega arith in
-          subst (λ (i : ℕ). Asks false (held_at old (turn_of pace.sub_vls pace.last i)) (held_at (set new (turn_of pace.sub_vls pace.last k) h) (turn_of pace.sub_vls pace.last i))) (sym q)
-          (subst (λ (x : Held). Asks false (held_at old (turn_of pace.sub_vls pace.last k)) x) (sym (held_same new (turn_of pace.sub_vls pace.last k) h lt)) asked))
-          (cases_lt j k);
-      others = λ s not.
-          let ne : s ≢ turn_of pace.sub_vls pace.last k = λ e. not k (omega arith) (sym e) in
-          get_or-set_other new (turn_of pace.sub_vls pace.last k) s h nothing_held ne ∙ p.others s (λ j jl. not j (omega arith));
-    }
-
--- the one that was asked now has something
-pub chosen_now : (pace : Pace) (old new : List Held) (k : ℕ) (d h : Held) → PassedOver pace old new k
-    → ((j : ℕ) → j < pace.sub_vls → turn_of pace.sub_vls pace.last j ≡ turn_of pace.sub_vls pace.last k → j ≡ k) → k < pace.sub_vls
-    → turn_of pace.sub_vls pace.last k < length new
-    → Asks true (get_or new (turn_of pace.sub_vls pace.last k) d) h → IsChoice pace old (turn_of pace.sub_vls pace.last k) (set new (turn_of pace.sub_vls pace.last k) h)
-chosen_now pace old new k d h p apart kl lt a =
-    let here : held_at new (turn_of pace.sub_vls pace.last k) ≡ held_at old (turn_of pace.sub_vls pace.last k) = p.others (turn_of pace.sub_vls pace.last k) (λ j jl e. let q : j ≡ k = apart j (omega arith) e in absurd (omega arith)) in
-    let asked : Asks true (held_at old (turn_of pace.sub_vls pace.last k)) h = subst (λ (x : Held). Asks true x h) (get_or_default new (turn_of pace.sub_vls pace.last k) d nothing_held lt ∙ here) a in
-    record {
-      count = length-set new (turn_of pace.sub_vls pace.last k) h ∙ p.count;
-      turn = k;
-      within = kl;
-      is = refl;
-      below = omega (arith, p.count);
-      asked = subst (λ (x : Held). Asks true (held_at old (turn_of pace.sub_vls pace.last k)) x) (sym (held_same new (turn_of pace.sub_vls pace.last k) h lt)) asked;
-      before = λ j jl.
-          let ne : turn_of pace.sub_vls pace.last j ≢ turn_of pace.sub_vls pace.last k = λ e. let q : j ≡ k = apart j (omega arith) e in absurd (omega arith) in
-          subst (λ (x : Held). Asks false (held_at old (turn_of pace.sub_vls pace.last j)) x) (sym (get_or-set_other new (turn_of pace.sub_vls pace.last k) (turn_of pace.sub_vls pace.last j) h nothing_held ne)) (p.before j jl);
-      others = λ s not.
-          let ne : s ≢ turn_of pace.sub_vls pace.last k = λ e. not k (omega arith) (sym e) in
-          get_or-set_other new (turn_of pace.sub_vls pace.last k) s h nothing_held ne ∙ p.others s (λ j jl. not j (omega arith));
-    }
-
 -- a sub-VL was asked, or is as it was
 abbrev pub Moves : Held → Held → Type 0
 Moves old new = Asks false old new ⊎ (Asks true old new ⊎ (new ≡ old))
 
-pub moves_passed : (pace : Pace) (old new : List Held) (n : ℕ) → PassedOver pace old new n → (s : ℕ) → Moves (held_at old s) (held_at new s)
+-- what happened to each sub-VL where all were passed over
+pub moves_passed : (pace : Pace) (old new : List Held) (n : ℕ) → PassedOver pace old new n → (s : ℕ)
+    → Moves (held_at old s) (held_at new s)
 moves_passed pace old new n p s = ⊎_elim
     (λ h. inl (subst (λ (i : ℕ). Asks false (held_at old i) (held_at new i)) h.2 (p.before h.0 h.1)))
     (λ h. inr (inr (p.others s h)))
     (met (turn_of pace.sub_vls pace.last) n s)
 
-pub moves_chosen : (pace : Pace) (old : List Held) (sub : ℕ) (new : List Held) → IsChoice pace old sub new → (s : ℕ) → Moves (held_at old s) (held_at new s)
+-- what happened to each sub-VL where one was chosen
+pub moves_chosen : (pace : Pace) (old : List Held) (sub : ℕ) (new : List Held) → IsChoice pace old sub new
+    → (s : ℕ) → Moves (held_at old s) (held_at new s)
 moves_chosen pace old sub new c s = ⊎_elim
     (λ h. inl (subst (λ (i : ℕ). Asks false (held_at old i) (held_at new i)) h.2 (c.before h.0 h.1)))
     (λ h. ⊎_elim
@@ -85,17 +42,3 @@ moves_chosen pace old sub new c s = ⊎_elim
     (λ (ne : s ≢ sub). inr (inr (c.others s (λ j jl e. ⊎_elim (λ (l : j < c.turn). h j l e) (λ (g : c.turn ≤ j). let q : j ≡ c.turn = omega arith in ne (sym e ∙ ap (turn_of pace.sub_vls pace.last) q ∙ sym c.is)) (cases_lt j c.turn)))))
     (cases_eq s sub))
     (met (turn_of pace.sub_vls pace.last) c.turn s)
-
-pub passed_sub : (pace : Pace) (old new : List Held) (k sub : ℕ) (d h : Held) (b : Bool) → sub ≡ turn_of pace.sub_vls pace.last k → b ≡ false → PassedOver pace old new k
-    → ((j : ℕ) → j < pace.sub_vls → turn_of pace.sub_vls pace.last j ≡ sub → j ≡ k) → k < pace.sub_vls → sub < length new
-    → Asks b (get_or new sub d) h → PassedOver pace old (set new sub h) (k + 1)
-passed_sub pace old new k sub d h b e f p apart kl lt a =
-    let P : ℕ → Type 0 = λ s. ((j : ℕ) → j < pace.sub_vls → turn_of pace.sub_vls pace.last j ≡ s → j ≡ k) → s < length new → Asks false (get_or new s d) h → PassedOver pace old (set new s h) (k + 1) in
-    subst P (sym e) (λ ap' lt' a'. passed_more pace old new k d h p ap' kl lt' a') apart lt (subst (λ (x : Bool). Asks x (get_or new sub d) h) f a)
-
-pub chosen_sub : (pace : Pace) (old new : List Held) (k sub : ℕ) (d h : Held) (b : Bool) → sub ≡ turn_of pace.sub_vls pace.last k → b ≡ true → PassedOver pace old new k
-    → ((j : ℕ) → j < pace.sub_vls → turn_of pace.sub_vls pace.last j ≡ sub → j ≡ k) → k < pace.sub_vls → sub < length new
-    → Asks b (get_or new sub d) h → IsChoice pace old sub (set new sub h)
-chosen_sub pace old new k sub d h b e f p apart kl lt a =
-    let P : ℕ → Type 0 = λ s. ((j : ℕ) → j < pace.sub_vls → turn_of pace.sub_vls pace.last j ≡ s → j ≡ k) → s < length new → Asks true (get_or new s d) h → IsChoice pace old s (set new s h) in
-    subst P (sym e) (λ ap' lt' a'. chosen_now pace old new k d h p ap' kl lt' a') apart lt (subst (λ (x : Bool). Asks x (get_or new sub d) h) f a)

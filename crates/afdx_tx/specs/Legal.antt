@@ -26,18 +26,24 @@ pub record IsKnown (links : List LinkPlan) (net : Net) (frame : List ℕ) : Type
   pub of_sub : sub_in frame < (link_plan_at links k).sub_vls
   pub interface : slice_index frame 11 ≡ interface_byte net
 
+-- each frame of a list is known
 abbrev pub AreKnown : List LinkPlan → Net → List Entry → Type 0
 AreKnown links net [] = Unit {0}
 AreKnown links net (e ∷ es) = IsKnown links net e.frame × AreKnown links net es
 
 -- What was handed to one network. Every frame is known; each sub-VL's stream is a prefix of the
 -- fragments of its accepted messages; each link's stream is numbered and spaced.
-pub record IsLegalOn (plan : Plan) (accepted : Accepted) (net : Net) (handed : List Entry) : Type 0 where
+pub record IsLegalOn (plan : Plan) (accepted : Accepted)
+    (net : Net) (handed : List Entry) : Type 0 where
   pub known : AreKnown plan.links net handed
   pub prefixes : (k s : ℕ) → k < length plan.links → s < (link_plan_at plan.links k).sub_vls
-      → IsPrefixOf (told_of (link_plan_at plan.links k).id.0 s handed) (fragments plan.end_system (room_of (link_plan_at plan.links k).lmax) net (accepted k s))
-  pub numbered : (k : ℕ) → k < length plan.links → IsNumbered 0 (link_stream (link_plan_at plan.links k).id.0 handed)
-  pub spaced : (k : ℕ) → k < length plan.links → IsSpaced (bag_micros (link_plan_at plan.links k).bag) None (link_stream (link_plan_at plan.links k).id.0 handed)
+      → IsPrefixOf (told_of (link_plan_at plan.links k).id.0 s handed)
+      (fragments plan.end_system (room_of (link_plan_at plan.links k).lmax) net (accepted k s))
+  pub numbered : (k : ℕ) → k < length plan.links
+      → IsNumbered 0 (link_stream (link_plan_at plan.links k).id.0 handed)
+  pub spaced : (k : ℕ) → k < length plan.links
+      → IsSpaced (bag_micros (link_plan_at plan.links k).bag) None
+      (link_stream (link_plan_at plan.links k).id.0 handed)
 
 -- the shorter list is the twins of a prefix of the longer
 pub record AreTwins (a b : List Entry) : Type 0 where

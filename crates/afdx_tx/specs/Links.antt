@@ -7,7 +7,6 @@ use Rattle.afdx_config.specs.Room.{room_of}
 use Rattle.afdx_config.specs.declared.link_plan.LinkPlan.{LinkPlan}
 use Rattle.afdx_frame.specs.declared.net.Net.TheVariants.{A}
 use Rattle.afdx_frame.specs.Header.{IsFrameOf}
-use Rattle.afdx_frame.specs.Twin.{twin_of}
 use Rattle.afdx_frame.specs.Cutting.{Cutting}
 use Rattle.afdx_frame.specs.Fragments.{Sent, blanked, fragments_at, fragments_from, fragments_left}
 use Rattle.redundant_mux.specs.Entry.{Entry, entry}
@@ -20,10 +19,13 @@ use Rattle.afdx_tx.specs.Streams.{link_stream, latest}
 
 -- the fragments of a sub-VL's messages for network A, the first of which has this place
 abbrev pub sub_fragments : SubVl → ℕ → List Sent → List (List ℕ)
-sub_fragments of place messages = fragments_from of.end_system (room_of of.link.lmax) A place messages
+sub_fragments of place messages =
+    fragments_from of.end_system (room_of of.link.lmax) A place messages
 
+-- the fragments of the message at this place
 abbrev pub message_fragments : SubVl → ℕ → Sent → List (List ℕ)
-message_fragments of place sent = fragments_at of.end_system (room_of of.link.lmax) A place sent
+message_fragments of place sent =
+    fragments_at of.end_system (room_of of.link.lmax) A place sent
 
 -- A sub-VL: the fragments left of the message that is being sent, the place of the next message
 -- modulo 16,384, and the messages that wait.
@@ -69,12 +71,20 @@ abbrev pub Asks : Bool → Held → Held → Type 0
 Asks true old new = GoesOn old new ⊎ Starts old new
 Asks false old new = Passes old new
 
+-- the plan at a place behind the last
 abbrev pub no_link_plan : LinkPlan
 no_link_plan = link_plan_at [] 0
 
+-- the sub-VL at an index behind the last
 abbrev pub nothing_held : Held
-nothing_held = record { of = record { end_system = 0; link = no_link_plan; sub = 0 }; left = []; place = 0; waiting = [] }
+nothing_held = record {
+  of = record { end_system = 0; link = no_link_plan; sub = 0 };
+  left = [];
+  place = 0;
+  waiting = [];
+}
 
+-- the sub-VL at an index
 abbrev pub held_at : List Held → ℕ → Held
 held_at subs sub = get_or subs sub nothing_held
 
@@ -87,14 +97,20 @@ pub record IsChoice (pace : Pace) (old : List Held) (sub : ℕ) (new : List Held
   pub is : sub ≡ turn_of pace.sub_vls pace.last turn
   pub below : sub < length old
   pub asked : Asks true (held_at old sub) (held_at new sub)
-  pub before : (k : ℕ) → k < turn → Asks false (held_at old (turn_of pace.sub_vls pace.last k)) (held_at new (turn_of pace.sub_vls pace.last k))
-  pub others : (s : ℕ) → ((k : ℕ) → k ≤ turn → turn_of pace.sub_vls pace.last k ≡ s → ⊥) → held_at new s ≡ held_at old s
+  pub before : (k : ℕ) → k < turn
+      → Asks false (held_at old (turn_of pace.sub_vls pace.last k))
+      (held_at new (turn_of pace.sub_vls pace.last k))
+  pub others : (s : ℕ) → ((k : ℕ) → k ≤ turn → turn_of pace.sub_vls pace.last k ≡ s → ⊥)
+      → held_at new s ≡ held_at old s
 
 -- the first sub-VLs that were asked had nothing
 pub record PassedOver (pace : Pace) (old new : List Held) (asked : ℕ) : Type 0 where
   pub count : length new ≡ length old
-  pub before : (k : ℕ) → k < asked → Asks false (held_at old (turn_of pace.sub_vls pace.last k)) (held_at new (turn_of pace.sub_vls pace.last k))
-  pub others : (s : ℕ) → ((k : ℕ) → k < asked → turn_of pace.sub_vls pace.last k ≡ s → ⊥) → held_at new s ≡ held_at old s
+  pub before : (k : ℕ) → k < asked
+      → Asks false (held_at old (turn_of pace.sub_vls pace.last k))
+      (held_at new (turn_of pace.sub_vls pace.last k))
+  pub others : (s : ℕ) → ((k : ℕ) → k < asked → turn_of pace.sub_vls pace.last k ≡ s → ⊥)
+      → held_at new s ≡ held_at old s
 
 -- A link: its plan, its regulation, its sub-VLs, and whether a frame of it was lost with the last
 -- network.
@@ -105,19 +121,29 @@ pub record LinkState : Type 0 where
   pub subs : List Held
   pub lost : Bool
 
+-- the link at a place behind the last
 abbrev pub no_link : LinkState
-no_link = record { end_system = 0; plan = no_link_plan; pace = record { gap = 0; sub_vls = 0; last = None; next = 0 }; subs = []; lost = false }
+no_link = record {
+  end_system = 0;
+  plan = no_link_plan;
+  pace = record { gap = 0; sub_vls = 0; last = None; next = 0 };
+  subs = [];
+  lost = false;
+}
 
+-- the link at a place
 abbrev pub link_at : List LinkState → ℕ → LinkState
 link_at links k = get_or links k no_link
 
 -- the sub-VLs of a link are those of its plan
 abbrev pub AreNamed : ℕ → LinkPlan → List Held → Type 0
-AreNamed end_system plan subs = (s : ℕ) → s < length subs → (held_at subs s).of ≡ record { end_system = end_system; link = plan; sub = s }
+AreNamed end_system plan subs = (s : ℕ) → s < length subs
+    → (held_at subs s).of ≡ record { end_system = end_system; link = plan; sub = s }
 
 -- the same, but for the end system
 abbrev pub AreSubsOf : LinkPlan → List Held → Type 0
-AreSubsOf plan subs = (s : ℕ) → s < length subs → ((held_at subs s).of.link ≡ plan) × ((held_at subs s).of.sub ≡ s)
+AreSubsOf plan subs = (s : ℕ) → s < length subs
+    → ((held_at subs s).of.link ≡ plan) × ((held_at subs s).of.sub ≡ s)
 
 -- each sub-VL is the one that it was
 abbrev pub AreSameSubs : (old new : List Held) → Type 0
@@ -132,7 +158,12 @@ pub record IsLink (end_system : ℕ) (plan : LinkPlan) (pace : Pace) (subs : Lis
 
 -- what a link's stream says of its regulation: its last release, and the number that comes next
 abbrev pub pace_of : ℕ → ℕ → List Entry → Pace
-pace_of gap sub_vls stream = record { gap = gap; sub_vls = sub_vls; last = latest None stream; next = sequence_number (length stream) }
+pace_of gap sub_vls stream = record {
+  gap = gap;
+  sub_vls = sub_vls;
+  last = latest None stream;
+  next = sequence_number (length stream);
+}
 
 -- a sub-VL gave its next frame
 pub record Gives (old : Held) (frame : List ℕ) (new : Held) : Type 0 where
@@ -163,10 +194,13 @@ pub record Picks (pace : Pace) (sub : ℕ) (old new : List Held) : Type 0 where
   pub held : Held
   pub others : new ≡ set mid sub held
 
-pub record ReleasesAt (now : ℕ) (pace : Pace) (sub number : ℕ) (old new : List Held) (lines after : Lines) : Type 0 where
+-- a sub-VL was chosen, and a network took its frame
+pub record ReleasesAt (now : ℕ) (pace : Pace) (sub number : ℕ)
+    (old new : List Held) (lines after : Lines) : Type 0 where
   pub picks : Picks pace sub old new
   pub releases : Releases now number (held_at picks.mid sub) picks.held lines after
 
+-- a sub-VL was chosen, and its frame was lost with the last network
 pub record LosesAt (pace : Pace) (old new : List Held) (lines after : Lines) : Type 0 where
   pub sub : ℕ
   pub picks : Picks pace sub old new
@@ -177,18 +211,25 @@ pub record LosesAt (pace : Pace) (old new : List Held) (lines after : Lines) : T
 -- next number, unless the last network fails.
 abbrev pub Serves : ℕ → Pace → (old new : List Held) → (lines after : Lines) → Served → Type 0
 Serves now pace old new lines after Nothing =
-    (((is_due pace.gap pace.last now ≡ false) × (new ≡ old)) ⊎ ((is_due pace.gap pace.last now ≡ true) × PassedOver pace old new pace.sub_vls)) × (after ≡ lines)
+    (((is_due pace.gap pace.last now ≡ false) × (new ≡ old))
+    ⊎ ((is_due pace.gap pace.last now ≡ true) × PassedOver pace old new pace.sub_vls))
+    × (after ≡ lines)
 Serves now pace old new lines after (Released sub number) =
-    (is_due pace.gap pace.last now ≡ true) × (number ≡ pace.next) × ReleasesAt now pace sub number old new lines after
+    (is_due pace.gap pace.last now ≡ true)
+    × (number ≡ pace.next)
+    × ReleasesAt now pace sub number old new lines after
 Serves now pace old new lines after Lost =
     (is_due pace.gap pace.last now ≡ true) × LosesAt pace old new lines after
 
 -- where no frame was lost, the regulation is again where the stream is
 abbrev pub Follows : ℕ → Pace → Lines → Served → Type 0
-Follows vl pace after Nothing = pace ≡ pace_of pace.gap pace.sub_vls (link_stream vl (log after))
-Follows vl pace after (Released sub number) = pace ≡ pace_of pace.gap pace.sub_vls (link_stream vl (log after))
+Follows vl pace after Nothing =
+    pace ≡ pace_of pace.gap pace.sub_vls (link_stream vl (log after))
+Follows vl pace after (Released sub number) =
+    pace ≡ pace_of pace.gap pace.sub_vls (link_stream vl (log after))
 Follows vl pace after Lost = Unit {0}
 
+-- whether a turn lost the last network
 abbrev pub is_lost : Served → Bool
 is_lost Nothing = false
 is_lost (Released sub number) = false

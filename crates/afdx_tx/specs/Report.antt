@@ -10,7 +10,11 @@ use Rattle.afdx_tx.specs.declared.report.Release.{Release}
 
 -- the release that an entry shows
 abbrev pub release_of : Entry → Release
-release_of e = record { vl = record { 0 = link_in e.frame }; sub = sub_in e.frame; number = number_in e.frame }
+release_of e = record {
+  vl = record { 0 = link_in e.frame };
+  sub = sub_in e.frame;
+  number = number_in e.frame;
+}
 
 -- the release of one turn
 abbrev pub released_by : VlId → Served → List Release

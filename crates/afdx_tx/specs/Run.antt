@@ -1,5 +1,5 @@
 -- All links of an emitter, one turn after the other.
-use Rattle.std.specs.Prelude.{ℕ, ◌≡◌, ◌+◌, ◌<◌, List, [], ◌∷◌, Bool, true, false, length, take, drop}
+use Rattle.std.specs.Prelude.{ℕ, ◌≡◌, ◌+◌, ◌<◌, List, [], ◌∷◌, false, length, take, drop}
 use Rattle.redundant_mux.specs.Lines.{Lines, log}
 use Rattle.afdx_tx.specs.declared.served.Served.{Served}
 use Rattle.afdx_tx.specs.declared.served.Served.TheVariants.{Lost}
@@ -7,15 +7,22 @@ use Rattle.afdx_tx.specs.Streams.{link_stream}
 use Rattle.afdx_tx.specs.Links.{LinkState, link_at, pace_of, Serves, IsSameLink, is_lost}
 
 -- One turn of a link, whose regulation is read off its stream in the longer handed list.
-pub record IsTurn (now : ℕ) (link new : LinkState) (lines after : Lines) (did : Served) : Type 0 where
+pub record IsTurn (now : ℕ) (link new : LinkState)
+    (lines after : Lines) (did : Served) : Type 0 where
   pub same : IsSameLink link new
-  pub serves : Serves now (pace_of link.pace.gap link.pace.sub_vls (link_stream link.plan.id.0 (log lines))) link.subs new.subs lines after did
+  pub serves : Serves now
+      (pace_of link.pace.gap link.pace.sub_vls (link_stream link.plan.id.0 (log lines)))
+      link.subs new.subs lines after did
 
 -- The links have their turns in order, and the last network isn't lost.
 abbrev pub IsRun : ℕ → (links news : List LinkState) → (lines after : Lines) → Type 0
 IsRun now [] [] lines after = after ≡ lines
 IsRun now (link ∷ links) (new ∷ news) lines after =
-    (mid : Lines) × (did : Served) × IsTurn now link new lines mid did × (is_lost did ≡ false) × IsRun now links news mid after
+    (mid : Lines)
+    × (did : Served)
+    × IsTurn now link new lines mid did
+    × (is_lost did ≡ false)
+    × IsRun now links news mid after
 IsRun now [] (new ∷ news) lines after = ⊥
 IsRun now (link ∷ links) [] lines after = ⊥
 

@@ -1,5 +1,5 @@
 -- What the turns of a poll keep, up to some link.
-use Rattle.std.specs.Prelude.{ℕ, ◌≡◌, ◌≤◌, ◌<◌, List, length, take, drop, Bool, true}
+use Rattle.std.specs.Prelude.{ℕ, ◌≡◌, ◌≤◌, ◌<◌, List, length, take, drop, true}
 use Rattle.afdx_frame.specs.declared.net.Net.TheVariants.{A}
 use Rattle.redundant_mux.specs.Lines.{Lines, log, is_alive, IsMirrored}
 use Rattle.afdx_tx.specs.declared.report.Release.{Release}
@@ -15,8 +15,10 @@ pub record IsSamePlan (old new : List LinkState) : Type 0 where
   pub each : (k : ℕ) → k < length old → IsSameLink (link_at old k) (link_at new k)
 
 -- accepted lists that were in step are in step
-abbrev pub KeepsStep : (old : List LinkState) (before : Lines) (links : List LinkState) (lines : Lines) → Type 0
-KeepsStep old before links lines = (accepted : Accepted) → AreInStep accepted old (log before) → AreInStep accepted links (log lines)
+abbrev pub KeepsStep : (old : List LinkState) (before : Lines)
+    (links : List LinkState) (lines : Lines) → Type 0
+KeepsStep old before links lines = (accepted : Accepted)
+    → AreInStep accepted old (log before) → AreInStep accepted links (log lines)
 
 -- what every turn keeps
 pub record IsSteady (now : ℕ) (old links : List LinkState) (before lines : Lines) : Type 0 where
@@ -36,7 +38,9 @@ pub record IsServing (now i : ℕ) (old links : List LinkState) (before lines : 
   pub alive : is_alive lines ≡ true
   pub whole : AreWhole links
 
-pub record IsPolling (now i : ℕ) (old links : List LinkState) (before lines : Lines) (released : List Release) : Type 0 where
+-- the first i links had their turns, and at most so many releases are told
+pub record IsPolling (now i : ℕ) (old links : List LinkState)
+    (before lines : Lines) (released : List Release) : Type 0 where
   pub serving : IsServing now i old links before lines
   pub told : IsTold now released before lines
   pub room : length released ≤ i

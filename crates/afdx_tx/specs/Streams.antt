@@ -6,9 +6,11 @@ use Rattle.afdx_frame.specs.Fragments.{blanked}
 use Rattle.vl_shaper.specs.declared.shaper.Stamp.{Stamp}
 use Rattle.redundant_mux.specs.Entry.{Entry}
 
+-- whether an entry is of a link
 abbrev pub on_link : ℕ → Entry → Bool
 on_link vl e = nat_eq (link_in e.frame) vl
 
+-- whether an entry is of a sub-VL
 abbrev pub on_sub : ℕ → Entry → Bool
 on_sub sub e = nat_eq (sub_in e.frame) sub
 
@@ -52,5 +54,6 @@ abbrev pub IsNumbered : ℕ → List Entry → Type 0
 IsNumbered i [] = Unit {0}
 IsNumbered i (e ∷ es) = (number_in e.frame ≡ sequence_number i) × IsNumbered (i + 1) es
 
+-- a list begins another
 abbrev pub IsPrefixOf : List (List ℕ) → List (List ℕ) → Type 0
 IsPrefixOf xs ys = (rest : List (List ℕ)) × (xs ++ rest ≡ ys)

@@ -12,7 +12,8 @@ pub record IsCutOf (owner : SubVl) (cut : Cutting) : Type 0 where
   pub of_sub : cut.port.sub ≡ owner.sub
 
 -- The messages that wait are of this sub-VL, and there is room for as many as its link's capacity.
-pub record IsSub (owner : SubVl) (sending : Option Cutting) (waiting : List Sent) (count room next : ℕ) : Type 0 where
+pub record IsSub (owner : SubVl) (sending : Option Cutting)
+    (waiting : List Sent) (count room next : ℕ) : Type 0 where
   pub link : IsLink owner.link
   pub sending_is : IfSome sending (IsCutOf owner)
   pub messages : All (IsMessageOf owner) waiting

@@ -50,8 +50,10 @@ fn serve_all<A: Network + Drop, B: Network + Drop>(
     requires mirrored { IsMirrored mux.old }
     requires known { AreKnown (plans links.old) ForA (log mux.old) }
     ensures steady { IsSteady now links.old links.new mux.old mux.new }
-    ensures run { is_alive mux.new ≡ true → IsRun now links.old links.new mux.old mux.new }
-    ensures cut_short { is_alive mux.new ≡ false → IsCutShort now links.old links.new mux.old mux.new }
+    ensures run { is_alive mux.new ≡ true →
+        IsRun now links.old links.new mux.old mux.new }
+    ensures cut_short { is_alive mux.new ≡ false →
+        IsCutShort now links.old links.new mux.old mux.new }
     ensures whole { is_alive mux.new ≡ true → AreWhole links.new }
     ensures told { IsTold now released.new.items mux.old mux.new }
 {
@@ -81,7 +83,12 @@ impl<A: Network + Drop, B: Network + Drop> Model for Emitter<A, B> {
 
     ghost Value = { Tx };
 
-    ghost view = { λ e. record { plan = e.config; links = e.links.items; lines = e.mux; moment = e.moment } };
+    ghost view = { λ e. record {
+      plan = e.config;
+      links = e.links.items;
+      lines = e.mux;
+      moment = e.moment;
+    } };
 
     ghost invariant = { λ e. IsSound e.config e.links.items e.mux e.moment };
 }
@@ -147,22 +154,29 @@ impl<A: Network + Drop, B: Network + Drop> Emitter<A, B> {
         mux.into_networks()
     }
 
-    /// Gives each link its turn at a moment, in microseconds, in the order of the configuration, until
-    /// the last network fails. A due link with something to send releases exactly one frame. After
-    /// `BothDown` nothing has changed. Takes no memory of its own.
+    /// Gives each link its turn at a moment, in microseconds, in the order of the configuration,
+    /// until the last network fails. A due link with something to send releases exactly one frame
+    /// (ARINC 664 Part 7, bandwidth allocation gap). After `BothDown` nothing has changed. Takes no
+    /// memory of its own.
     pub fn poll(&mut self, now: u64) -> Result<Report, PollFault>
         requires { self.old.moment ≤ now }
         ensures both_down { IsErr result ↔ (is_alive self.old.lines ≡ false) }
         ensures unchanged { OnErr result (self.new ≡ self.old) }
-        ensures kept { (accepted : Accepted) → IsInStep accepted self.old → IsInStep accepted self.new }
+        ensures kept { (accepted : Accepted) →
+            IsInStep accepted self.old → IsInStep accepted self.new }
         ensures plan { self.new.plan ≡ self.old.plan }
         ensures now { OnOk result (self.new.moment ≡ now) }
         ensures mirrored { IsMirrored self.new.lines }
         ensures a_stands { IfOk result (λ report. report.standing.a ≡ self.new.lines.a_stands) }
         ensures b_stands { IfOk result (λ report. report.standing.b ≡ self.new.lines.b_stands) }
-        ensures told { IfOk result (λ report. IsTold now report.released.items self.old.lines self.new.lines) }
-        ensures run { OnOk result (is_alive self.new.lines ≡ true → IsRun now self.old.links self.new.links self.old.lines self.new.lines) }
-        ensures cut_short { OnOk result (is_alive self.new.lines ≡ false → IsCutShort now self.old.links self.new.links self.old.lines self.new.lines) }
+        ensures told { IfOk result
+            (λ report. IsTold now report.released.items self.old.lines self.new.lines) }
+        ensures run { OnOk result
+            (is_alive self.new.lines ≡ true →
+            IsRun now self.old.links self.new.links self.old.lines self.new.lines) }
+        ensures cut_short { OnOk result
+            (is_alive self.new.lines ≡ false →
+            IsCutShort now self.old.links self.new.links self.old.lines self.new.lines) }
     {
         if !some_stands(&self.mux.standing()) {
             return Err(PollFault::BothDown);
@@ -183,14 +197,18 @@ impl<A: Network + Drop, B: Network + Drop> Emitter<A, B> {
     }
 
     /// Hands a message of the port at this place of the configuration to its sub-VL. It is refused
-    /// where it has no bytes, is over the port's greatest message, or the queue of the sub-VL is full,
-    /// the first of these; then nothing has changed, and the message comes back. Takes no memory.
+    /// where it has no bytes, is over the port's greatest message, or the queue of the sub-VL is
+    /// full, the first of these; then nothing has changed, and the message comes back. Takes no
+    /// memory.
     pub fn send(&mut self, port: usize, bytes: Vec<u8>) -> Result<(), SendFault>
         requires { port < length self.old.plan.ports }
         ensures taken { OnOk result (self.new ≡ tx_sent self.old port bytes.items) }
-        ensures accepted { OnOk result ((accepted : Accepted) → IsInStep accepted self.old → IsInStep (accepted_with self.old port bytes.items accepted) self.new) }
+        ensures accepted { OnOk result
+            ((accepted : Accepted) → IsInStep accepted self.old →
+            IsInStep (accepted_with self.old port bytes.items accepted) self.new) }
         ensures ok { OnOk result (refusal_at self.old port (length bytes.items) ≡ None) }
-        ensures refused { IfErr result (λ fault. refusal_at self.old port (length bytes.items) ≡ Some fault.why) }
+        ensures refused { IfErr result
+            (λ fault. refusal_at self.old port (length bytes.items) ≡ Some fault.why) }
         ensures back { IfErr result (λ fault. fault.bytes.items ≡ bytes.items) }
         ensures unchanged { OnErr result (self.new ≡ self.old) }
     {

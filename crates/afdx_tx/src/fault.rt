@@ -3,8 +3,8 @@ use afdx_config::Config;
 use redundant_mux::Network;
 use thiserror::Error;
 
-/// Why a port did not take a message, the first that holds: the message has no bytes, it is over the
-/// port's greatest message, or the queue of the port's sub-VL holds as many messages as it may.
+/// Why a port did not take a message, the first that holds: the message has no bytes, it is over
+/// the port's greatest message, or the queue of the port's sub-VL holds as many messages as it may.
 #[derive(Clone, Copy, Debug, PartialEq, Eq, Error)]
 pub enum Refusal {
     #[error("Empty")]

@@ -17,3 +17,6 @@ pub use emitter::Emitter;
 pub use fault::{OpenFault, PollFault, Refusal, SendFault};
 pub use open::open_tx;
 pub use report::{Release, Report};
+
+#[cfg(test)]
+mod tests;

@@ -58,10 +58,12 @@ fn send_next<A: Network + Drop, B: Network + Drop>(
     requires mirrored { IsMirrored mux.old }
     ensures mirrored { IsMirrored mux.new }
     ensures number { IfSome result (λ number. number ≡ shaper.old.next) }
-    ensures released { IfSome result (λ number. Releases now number sub.old sub.new mux.old mux.new) }
+    ensures released { IfSome result
+        (λ number. Releases now number sub.old sub.new mux.old mux.new) }
     ensures lost { IfNone result (Loses sub.old sub.new mux.old mux.new) }
     ensures of { sub.new.of ≡ sub.old.of }
-    ensures next { (i : ℕ) → shaper.old.next ≡ sequence_number i → shaper.new.next ≡ sequence_number (i + 1) }
+    ensures next { (i : ℕ) → shaper.old.next ≡ sequence_number i →
+        shaper.new.next ≡ sequence_number (i + 1) }
     ensures last { shaper.new.last ≡ Some (record { at = now; sub = sub.old.of.sub }) }
     ensures gap { shaper.new.gap ≡ shaper.old.gap }
     ensures sub_vls { shaper.new.sub_vls ≡ shaper.old.sub_vls }
@@ -94,7 +96,8 @@ fn serve<A: Network + Drop, B: Network + Drop>(
     requires later { IsLater shaper.old.last now }
     requires alive { is_alive mux.old ≡ true }
     requires mirrored { IsMirrored mux.old }
-    requires paced { shaper.old ≡ pace_of shaper.old.gap shaper.old.sub_vls (link_stream plan.now.id.0 (log mux.old)) }
+    requires paced { shaper.old ≡ pace_of shaper.old.gap shaper.old.sub_vls
+        (link_stream plan.now.id.0 (log mux.old)) }
     ensures mirrored { IsMirrored mux.new }
     ensures serves { Serves now shaper.old subs.old subs.new mux.old mux.new result }
     ensures paced { Follows plan.now.id.0 shaper.new mux.new result }
@@ -134,7 +137,13 @@ impl Model for Link {
 
     ghost Value = { LinkState };
 
-    ghost view = { λ l. record { end_system = l.end_system; plan = l.plan; pace = l.shaper; subs = l.subs.items; lost = l.lost } };
+    ghost view = { λ l. record {
+      end_system = l.end_system;
+      plan = l.plan;
+      pace = l.shaper;
+      subs = l.subs.items;
+      lost = l.lost;
+    } };
 
     ghost invariant = { λ l. IsLink l.end_system l.plan l.shaper l.subs.items };
 }
@@ -184,8 +193,10 @@ impl Link {
         requires sub { message.port.sub < self.old.plan.sub_vls }
         requires message { IsMessageOf (held_at self.old.subs message.port.sub).of message }
         ensures ok { OnOk result (self.new ≡ link_with self.old message.port.sub message) }
-        ensures room { OnOk result (length (held_at self.old.subs message.port.sub).waiting < self.old.plan.capacity) }
-        ensures full { OnErr result (self.old.plan.capacity ≤ length (held_at self.old.subs message.port.sub).waiting) }
+        ensures room { OnOk result
+            (length (held_at self.old.subs message.port.sub).waiting < self.old.plan.capacity) }
+        ensures full { OnErr result
+            (self.old.plan.capacity ≤ length (held_at self.old.subs message.port.sub).waiting) }
         ensures why { IfErr result (λ fault. fault.why ≡ Refusal.Full) }
         ensures back { IfErr result (λ fault. fault.bytes.items ≡ message.bytes) }
         ensures unchanged { OnErr result (self.new ≡ self.old) }
@@ -210,9 +221,11 @@ impl Link {
         requires later { IsLater self.old.pace.last now }
         requires alive { is_alive mux.old ≡ true }
         requires mirrored { IsMirrored mux.old }
-        requires paced { self.old.pace ≡ pace_of self.old.pace.gap self.old.pace.sub_vls (link_stream self.old.plan.id.0 (log mux.old)) }
+        requires paced { self.old.pace ≡ pace_of self.old.pace.gap self.old.pace.sub_vls
+            (link_stream self.old.plan.id.0 (log mux.old)) }
         ensures mirrored { IsMirrored mux.new }
-        ensures serves { Serves now self.old.pace self.old.subs self.new.subs mux.old mux.new result }
+        ensures serves { Serves now self.old.pace
+            self.old.subs self.new.subs mux.old mux.new result }
         ensures paced { Follows self.new.plan.id.0 self.new.pace mux.new result }
         ensures later { IsLater self.new.pace.last now }
         ensures same { IsSameLink self.old self.new }

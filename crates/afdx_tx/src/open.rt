@@ -12,7 +12,8 @@ use std::alloc::{AllocError, Global};
 
 /// The links of a configuration, whose queues have room for their capacity.
 fn open_links(alloc: Global, config: &Config) -> Result<Vec<Link>, AllocError>
-    ensures fresh { IfOk result (λ links. AreFreshLinks config.now links.items (length config.now.links)) }
+    ensures fresh { IfOk result
+        (λ links. AreFreshLinks config.now links.items (length config.now.links)) }
     ensures valid { IsPlan config.now }
 {
     let plans = config.links();

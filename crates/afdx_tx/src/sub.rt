@@ -38,7 +38,8 @@ impl Model for Sub {
       waiting = s.waiting.items;
     } };
 
-    ghost invariant = { λ s. IsSub s.of s.sending s.waiting.items (deque_len s.waiting) (deque_capacity s.waiting) s.place };
+    ghost invariant = { λ s. IsSub s.of s.sending s.waiting.items
+        (deque_len s.waiting) (deque_capacity s.waiting) s.place };
 }
 
 impl Sub {
@@ -49,7 +50,8 @@ impl Sub {
     /// A sub-VL whose queue has room for the messages of its link's capacity. None was sent yet.
     pub fn open(alloc: Global, of: SubVl) -> Result<Sub, AllocError>
         requires { IsLink of.link }
-        ensures { IfOk result (λ sub. sub ≡ record { of = of; left = []; place = 0; waiting = [] }) }
+        ensures { IfOk result
+            (λ sub. sub ≡ record { of = of; left = []; place = 0; waiting = [] }) }
     {
         Ok(Sub {
             of,

@@ -1,4 +1,4 @@
-use Rattle.std.proofs.Common.{List, set, ◌++◌, ◌+◌, ◌≤◌, ◌≡◌, ◌<◌, true, false, refl, ◌∙◌, ap, sym, length, ℕ, subst, get_or, arith}
+use Rattle.std.proofs.Common.{List, ◌++◌, ◌+◌, ◌≤◌, ◌≡◌, ◌<◌, ◌∙◌, ap, sym, length, subst, get_or, arith}
 use Rattle.std.proofs.lemmas.List.{get_or_default}
 use Rattle.afdx_config.specs.declared.identifiers.VlId.{VlId}
 use Rattle.afdx_config.specs.declared.link_plan.LinkPlan.{LinkPlan}
@@ -6,9 +6,9 @@ use Rattle.vl_shaper.specs.Pace.{IsLater}
 use Rattle.afdx_tx.specs.declared.report.Release.{Release}
 use Rattle.afdx_tx.specs.Links.{LinkState, link_at, no_link}
 use Rattle.afdx_tx.specs.Report.{IsTold, released_by}
-use Rattle.afdx_tx.proofs.Turning.{Turned}
-use Rattle.afdx_tx.proofs.Told.{told_more, few_released}
-use Rattle.afdx_tx.proofs.Turns.{steady_more, serving_more, cut_at}
+use Rattle.afdx_tx.proofs.LinkTurn.{Turned}
+use Rattle.afdx_tx.proofs.ToldReleases.{told_more, few_released}
+use Rattle.afdx_tx.proofs.PollTurns.{steady_more, serving_more, cut_at}
 use Rattle.afdx_tx.proofs.emitter.serve_all.Given
 use Rattle.afdx_tx.proofs.emitter.serve_all.Goals as goal
 
@@ -40,10 +40,13 @@ loop-link-preserved g c =
       room = subst (λ (rs : List Release). length rs ≤ c.loop-link.link-index + 1) (sym names) (few_released _ c.serve-did.result c.loop-link.released.items c.loop-link.link-index c.loop-link.invariant.room);
     }
 
+-- the link at which the last network was lost is there
 within : (g : Given.Over) (c : goal.Then-is_lost g) → c.loop-link.link-index < length c.loop-link.links
 within g c = let q = c.loop-link.invariant.serving.steady.same.count in let r = c.loop-link-test.true in omega arith
 
-turned_here : (g : Given.Over) (c : goal.Then-is_lost g) → Turned c.args.now (link_at c.loop-link.links c.loop-link.link-index) c.serve-did.new.self c.loop-link.mux c.serve-did.new.mux c.serve-did.result
+-- and it had its turn
+turned_here : (g : Given.Over) (c : goal.Then-is_lost g)
+    → Turned c.args.now (link_at c.loop-link.links c.loop-link.link-index) c.serve-did.new.self c.loop-link.mux c.serve-did.new.mux c.serve-did.result
 turned_here g c =
     let s = c.loop-link.invariant.serving in
     let item : get_or c.loop-link.links c.loop-link.link-index c.link-item.result ≡ link_at c.loop-link.links c.loop-link.link-index = get_or_default c.loop-link.links c.loop-link.link-index c.link-item.result no_link (within g c) in

@@ -1,12 +1,11 @@
-use Rattle.std.proofs.Common.{◌≡◌, ◌∙◌, ◌||◌, ap, sym, refl, true, false, Bool, ◌∷◌, List, ℕ}
+use Rattle.std.proofs.Common.{◌≡◌, ◌∙◌, ◌||◌, ap, sym, true, false}
 use Rattle.redundant_mux.specs.Entry.{entry}
-use Rattle.redundant_mux.specs.Lines.{is_alive, log}
+use Rattle.redundant_mux.specs.Lines.{is_alive}
 use Rattle.afdx_frame.specs.declared.net.Net.TheVariants.{A}
-use Rattle.afdx_frame.specs.Twin.{twin_of}
 use Rattle.afdx_frame.proofs.Twins.{twin_same}
-use Rattle.afdx_tx.specs.Links.{Held, Gives}
-use Rattle.afdx_tx.proofs.Basics.{or_none}
-use Rattle.afdx_tx.proofs.Mirror.{HandedMore, HandedNone, handed_more, handed_none}
+use Rattle.afdx_tx.proofs.FragmentsLeft.{or_none}
+use Rattle.afdx_tx.proofs.SubInStep.{gives_of}
+use Rattle.afdx_tx.proofs.MirroredLines.{HandedMore, HandedNone, handed_more, handed_none}
 use Rattle.afdx_tx.proofs.link.send_next.Given
 use Rattle.afdx_tx.proofs.link.send_next.Goals as goal
 
@@ -14,7 +13,8 @@ pub hand-requires : goal.hand-requires
 hand-requires g c = twin_same A c.write_next.new.out.items c.write_next.ensures.frame.interface
 
 -- some network took the frame
-more : (g : Given.Over) (c : goal.Then-some_stands g) → HandedMore c.args.mux.now c.hand.new.self (entry c.args.now c.write_next.new.out.items)
+more : (g : Given.Over) (c : goal.Then-some_stands g)
+    → HandedMore c.args.mux.now c.hand.new.self (entry c.args.now c.write_next.new.out.items)
 more g c =
     let alive : is_alive c.hand.new.self ≡ true = let a = c.in-Ok.ensures.a_stands in let b = c.in-Ok.ensures.b_stands in cc (c.some_stands.ensures, c.if-some_stands.true) in
     handed_more c.args.mux.now c.hand.new.self (entry c.args.now c.write_next.new.out.items) c.requires.mirrored
@@ -38,7 +38,7 @@ returns-then-some_stands-clause-released g c =
       frame = c.write_next.new.out.items;
       enters = (more g c).enters;
       of = e.frame;
-      gives = record { next = e.left; of = ap (λ (h : Held). h.of) e.same; place = ap (λ (h : Held). h.place) e.same; waiting = ap (λ (h : Held). h.waiting) e.same };
+      gives = gives_of c.args.sub.now c.write_next.new.self c.write_next.new.out.items e.left e.same;
       alive = let a = c.in-Ok.ensures.a_stands in let b = c.in-Ok.ensures.b_stands in cc (c.some_stands.ensures, c.if-some_stands.true);
     }
 
@@ -50,7 +50,7 @@ returns-else-some_stands-clause-lost g c =
     let e = c.write_next.ensures in
     record {
       frame = c.write_next.new.out.items;
-      gives = record { next = e.left; of = ap (λ (h : Held). h.of) e.same; place = ap (λ (h : Held). h.place) e.same; waiting = ap (λ (h : Held). h.waiting) e.same };
+      gives = gives_of c.args.sub.now c.write_next.new.self c.write_next.new.out.items e.left e.same;
       same = (none g c).same;
       down = let a = c.in-Ok.ensures.a_stands in let b = c.in-Ok.ensures.b_stands in cc (c.some_stands.ensures, c.if-some_stands.false);
     }

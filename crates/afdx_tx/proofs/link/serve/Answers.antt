@@ -1,9 +1,8 @@
-use Rattle.std.proofs.Common.{◌≡◌, true, ◌∙◌, ap, sym, ℕ}
+use Rattle.std.proofs.Common.{◌≡◌, true, ◌∙◌, ap, sym}
 use Rattle.afdx_config.specs.declared.link_plan.LinkPlan.{LinkPlan}
-use Rattle.afdx_tx.proofs.Moving.{passed_same}
-use Rattle.afdx_tx.proofs.Serve.{chosen_left, item_of, set_same, releases_at, loses_at}
-use Rattle.afdx_tx.proofs.Paced.{follows_more}
-use Rattle.afdx_tx.proofs.link.serve.Given
+use Rattle.afdx_tx.proofs.SubInStep.{passed_same}
+use Rattle.afdx_tx.proofs.ChosenSub.{chosen_left, item_of, set_same, releases_at, loses_at}
+use Rattle.afdx_tx.proofs.PaceOfStream.{follows_more}
 use Rattle.afdx_tx.proofs.link.serve.Goals as goal
 
 pub send_next-requires-clause-something : goal.send_next-requires-clause-something

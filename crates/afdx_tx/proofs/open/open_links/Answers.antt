@@ -4,7 +4,7 @@ use Rattle.afdx_config.specs.declared.link_plan.LinkPlan.{LinkPlan}
 use Rattle.afdx_config.specs.Config.{link_plan_at}
 use Rattle.afdx_tx.specs.Links.{LinkState, no_link_plan}
 use Rattle.afdx_tx.specs.Emitter.{IsFreshLink, AreFreshLinks}
-use Rattle.afdx_tx.proofs.Fresh.{fresh_push}
+use Rattle.afdx_tx.proofs.FreshEmitter.{fresh_push}
 use Rattle.afdx_tx.proofs.open.open_links.Goals as goal
 
 pub loop-plan-preserved : goal.loop-plan-preserved

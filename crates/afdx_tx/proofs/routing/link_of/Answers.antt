@@ -1,5 +1,5 @@
 use Rattle.std.proofs.Common.{◌∙◌, sym}
-use Rattle.afdx_tx.proofs.Routes.{found, found_over}
+use Rattle.afdx_tx.proofs.PortLink.{found, found_over}
 use Rattle.afdx_tx.proofs.routing.link_of.Goals as goal
 
 pub unreachable-requires : goal.unreachable-requires

@@ -1,7 +1,7 @@
 use Rattle.std.proofs.Common.{sym, subst, not, Option}
 use Rattle.afdx_frame.specs.Cutting.{Cutting}
 use Rattle.afdx_tx.specs.Links.{TellsCutting, left_of}
-use Rattle.afdx_tx.proofs.Basics.{done_tells}
+use Rattle.afdx_tx.proofs.FragmentsLeft.{done_tells}
 use Rattle.afdx_tx.proofs.sub.is_cutting.Goals as goal
 
 pub returns-in-Some : goal.returns-in-Some

@@ -1,9 +1,9 @@
-use Rattle.std.proofs.Common.{◌≡◌, ◌∙◌, ap, sym, subst, ℕ, List, [], true}
+use Rattle.std.proofs.Common.{◌≡◌, ◌∙◌, ap, sym, subst, List, [], true}
 use Rattle.redundant_mux.specs.Entry.{Entry}
-use Rattle.redundant_mux.specs.Lines.{Lines, log}
-use Rattle.afdx_tx.specs.Emitter.{Tx, IsSound, IsInStep, none_accepted}
-use Rattle.afdx_tx.proofs.Fresh.{fresh_lines, fresh_sound, fresh_step}
-use Rattle.afdx_tx.proofs.Sound.{in_step_after}
+use Rattle.redundant_mux.specs.Lines.{Lines}
+use Rattle.afdx_tx.specs.Emitter.{IsSound, IsInStep, none_accepted}
+use Rattle.afdx_tx.proofs.FreshEmitter.{fresh_lines, fresh_sound, fresh_step}
+use Rattle.afdx_tx.proofs.SoundEmitter.{in_step_after}
 use Rattle.afdx_tx.proofs.emitter.Emitter.over.Given
 use Rattle.afdx_tx.proofs.emitter.Emitter.over.Goals as goal
 

@@ -1,13 +1,11 @@
-use Rattle.std.proofs.Common.{◌≡◌, ◌≤◌, true, refl, ◌∙◌, ap, sym, length, ℕ, List, subst, arith}
+use Rattle.std.proofs.Common.{◌≡◌, ◌∙◌, sym, List, subst}
 use Rattle.std.proofs.lemmas.List.{with_items_is}
 use Rattle.std.specs.Vec.{with_items}
-use Rattle.redundant_mux.specs.Lines.{Lines, is_alive, log}
-use Rattle.afdx_config.specs.Config.{Plan}
-use Rattle.afdx_tx.specs.Legal.{Accepted}
+use Rattle.redundant_mux.specs.Lines.{log}
 use Rattle.afdx_tx.specs.Links.{LinkState}
-use Rattle.afdx_tx.specs.Emitter.{Tx, AreApart, AreInStep, IsSound, IsInStep}
+use Rattle.afdx_tx.specs.Emitter.{AreApart, AreInStep, IsSound, IsInStep}
 use Rattle.afdx_tx.specs.Serving.{IsSteady}
-use Rattle.afdx_tx.proofs.Sound.{links_apart, sound_after, in_step_after}
+use Rattle.afdx_tx.proofs.SoundEmitter.{links_apart, sound_after, in_step_after}
 use Rattle.afdx_tx.proofs.emitter.Emitter.poll.Given
 use Rattle.afdx_tx.proofs.emitter.Emitter.poll.Goals as goal
 
@@ -15,10 +13,13 @@ pub serve_all-requires-clause-apart : goal.serve_all-requires-clause-apart
 serve_all-requires-clause-apart g c = subst AreApart (sym c.deref_mut.ensures.value) (links_apart c.self.inside.config c.self.inside.links.items c.self.invariant.valid c.self.invariant.of_plan)
 
 -- the links that the emitter then has
-links_are : (g : Given.Over) (c : goal.After-standing-2 g) → (with_items c.self.inside.links c.serve_all.new.links).items ≡ c.serve_all.new.links
+links_are : (g : Given.Over) (c : goal.After-standing-2 g)
+    → (with_items c.self.inside.links c.serve_all.new.links).items ≡ c.serve_all.new.links
 links_are g c = with_items_is c.self.inside.links c.serve_all.new.links (c.serve_all.ensures.steady.same.count ∙ c.deref_mut.ensures.len)
 
-sound : (g : Given.Over) (c : goal.After-standing-2 g) → IsSound c.self.inside.config (with_items c.self.inside.links c.serve_all.new.links).items c.serve_all.new.mux c.args.now
+-- the emitter that a poll leaves is sound
+sound : (g : Given.Over) (c : goal.After-standing-2 g)
+    → IsSound c.self.inside.config (with_items c.self.inside.links c.serve_all.new.links).items c.serve_all.new.mux c.args.now
 sound g c =
     let e = c.serve_all.ensures in
     let of = c.self.invariant.of_plan in

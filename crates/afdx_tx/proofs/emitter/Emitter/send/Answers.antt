@@ -1,8 +1,8 @@
-use Rattle.std.proofs.Common.{ℕ, ◌≡◌, ◌<◌, ◌≤◌, refl, ◌∙◌, ap, sym, subst, length, List, Some, None, set, get_or, arith, ◌⊎◌}
+use Rattle.std.proofs.Common.{ℕ, ◌≡◌, ◌≤◌, ◌∙◌, ap, sym, subst, length, Some, None, set, arith, ◌⊎◌}
 use Rattle.std.proofs.lemmas.List.{get_or_read}
 use Rattle.afdx_config.specs.declared.link_plan.LinkPlan.{LinkPlan}
 use Rattle.afdx_config.specs.declared.port_plan.PortPlan.{PortPlan}
-use Rattle.afdx_config.specs.Config.{Plan, port_plan_at, link_plan_at}
+use Rattle.afdx_config.specs.Config.{port_plan_at, link_plan_at}
 use Rattle.afdx_frame.specs.Fragments.{Sent}
 use Rattle.afdx_tx.specs.declared.fault.SendFault.{SendFault}
 use Rattle.afdx_tx.specs.declared.fault.Refusal.{Refusal}
@@ -12,7 +12,7 @@ use Rattle.afdx_tx.specs.Links.{LinkState, held_at, link_at, no_link}
 use Rattle.afdx_tx.specs.Emitter.{Tx, IsInStep, link_with, with_accepted}
 use Rattle.afdx_tx.specs.Sending.{IsMessageOf, link_of, refusal_of, refusal_at, accepted_with, length_refusal, queue_refusal, first_refusal}
 use Rattle.afdx_tx.proofs.Accepting.{in_step_with}
-use Rattle.afdx_tx.proofs.Refusing.{fits_port, full_refusal, IsRouted, routed, routed_message, pushed, sound_pushed, on_ok, if_err}
+use Rattle.afdx_tx.proofs.RefusedMessage.{fits_port, full_refusal, IsRouted, routed, routed_message, pushed, sound_pushed, on_ok, if_err}
 use Rattle.afdx_tx.proofs.emitter.Emitter.send.Given
 use Rattle.afdx_tx.proofs.emitter.Emitter.send.Goals as goal
 
@@ -26,17 +26,22 @@ push-requires-clause-message g c =
     (grind (arith, fits.0)) (grind (arith, fits.1)))
 
 -- where the message waits
-route : (g : Given.Over) (c : goal.After-self-1 g) → IsRouted c.self.inside.config c.self.inside.links.items c.link_of-link.result c.port_at-plan.result
+route : (g : Given.Over) (c : goal.After-self-1 g)
+    → IsRouted c.self.inside.config c.self.inside.links.items c.link_of-link.result c.port_at-plan.result
 route g c = routed c.self.inside.config c.self.inside.links.items c.link_of-link.result c.port_at-plan.result c.self.invariant.of_plan c.link_of-link.ensures.within c.link_of-link.ensures.over
 
-item : (g : Given.Over) (c : goal.After-self-1 g) → c.index_mut-chosen.result.now ≡ link_at c.self.inside.links.items c.link_of-link.result
+-- the link that is borrowed is the port's
+item : (g : Given.Over) (c : goal.After-self-1 g)
+    → c.index_mut-chosen.result.now ≡ link_at c.self.inside.links.items c.link_of-link.result
 item g c = get_or_read c.self.inside.links.items c.link_of-link.result c.index_mut-chosen.result.now (route g c).within c.index_mut-chosen.ensures.value no_link
 
 -- the message, and its link with it
 abbrev sent : (g : Given.Over) (c : goal.After-self-1 g) → Sent
 sent g c = record { port = c.port_at-plan.result; bytes = c.args.bytes.items }
 
-either : (g : Given.Over) (c : goal.After-self-1 g) → (c.push.new.self ≡ link_with (link_at c.self.inside.links.items c.link_of-link.result) c.port_at-plan.result.sub (sent g c)) ⊎ (c.push.new.self ≡ link_at c.self.inside.links.items c.link_of-link.result)
+-- it has the message, or is as it was
+either : (g : Given.Over) (c : goal.After-self-1 g)
+    → (c.push.new.self ≡ link_with (link_at c.self.inside.links.items c.link_of-link.result) c.port_at-plan.result.sub (sent g c)) ⊎ (c.push.new.self ≡ link_at c.self.inside.links.items c.link_of-link.result)
 either g c =
     subst (λ (link : LinkState). (c.push.new.self ≡ link_with link c.port_at-plan.result.sub (sent g c)) ⊎ (c.push.new.self ≡ link)) (item g c)
     (pushed c.push.result c.push.new.self (link_with c.index_mut-chosen.result.now c.port_at-plan.result.sub (sent g c)) c.index_mut-chosen.result.now c.push.ensures.ok c.push.ensures.unchanged)
@@ -47,7 +52,8 @@ invariant_of-self g c =
     (route g c).within (route g c).sub (either g c) c.self.invariant
 
 -- the emitter with this link, in step
-abbrev InStepAt : (g : Given.Over) (c : goal.After-self-1 g) (accepted : Accepted) (k : ℕ) (port : PortPlan) (new : LinkState) → Type 0
+abbrev InStepAt : (g : Given.Over) (c : goal.After-self-1 g) (accepted : Accepted) (k : ℕ) (port : PortPlan) (new : LinkState)
+    → Type 0
 InStepAt g c accepted k port new =
     IsInStep (with_accepted k port.sub (record { port = port; bytes = c.args.bytes.items }) accepted)
     (record { plan = c.self.inside.config; links = set c.self.inside.links.items c.link_of-link.result new; lines = c.self.inside.mux; moment = c.self.inside.moment })
@@ -71,7 +77,8 @@ returns-clause-accepted g c = on_ok c.push.result (c.push.new.self ≡ link_with
     c.push.ensures.ok
 
 -- the port's refusal where its queue is full
-full : (g : Given.Over) (c : goal.After-self-1 g) → c.index_mut-chosen.result.now.plan.capacity ≤ length (held_at c.index_mut-chosen.result.now.subs c.port_at-plan.result.sub).waiting
+full : (g : Given.Over) (c : goal.After-self-1 g)
+    → c.index_mut-chosen.result.now.plan.capacity ≤ length (held_at c.index_mut-chosen.result.now.subs c.port_at-plan.result.sub).waiting
     → refusal_at c.args.self.now c.args.port (length c.args.bytes.items) ≡ Some Full
 full g c over =
     let tx : Tx = record { plan = c.self.inside.config; links = c.self.inside.links.items; lines = c.self.inside.mux; moment = c.self.inside.moment } in

@@ -1,13 +1,14 @@
-use Rattle.std.proofs.Common.{ℕ, ◌≡◌, ◌∷◌, ◌<◌, ◌≤◌, ◌%◌, ◌+◌, ◌∙◌, ap, sym, subst, refl, inr, arith, List, [], Bool, false, Some}
+use Rattle.std.proofs.Common.{ℕ, ◌≡◌, ◌∙◌, ap, sym, subst, refl, inr, arith, [], Bool, Some}
+use Rattle.std.proofs.lemmas.List.Elements.{All-head, All-tail}
 use Rattle.std.specs.Prelude.{All}
 use Rattle.afdx_config.specs.Room.{room_of}
 use Rattle.afdx_frame.specs.declared.net.Net.TheVariants.{A}
 use Rattle.afdx_config.specs.declared.port_plan.PortPlan.{PortPlan}
 use Rattle.afdx_config.specs.Plan.{SendsOver}
 use Rattle.afdx_frame.specs.Fragments.{Sent}
-use Rattle.afdx_tx.specs.Links.{Held, Starts, TellsCutting, left_of, message_fragments}
+use Rattle.afdx_tx.specs.Links.{Held, TellsCutting, left_of, message_fragments}
 use Rattle.afdx_tx.specs.Sending.{IsMessageOf}
-use Rattle.afdx_tx.proofs.Basics.{All-tail, All-head, fragments_some}
+use Rattle.afdx_tx.proofs.FragmentsLeft.{fragments_some}
 use Rattle.afdx_tx.proofs.sub.Sub.ready.Goals as goal
 
 -- the message that was taken is of this sub-VL
@@ -15,6 +16,7 @@ message_is : (c : goal.After-self-in-Some-1) → IsMessageOf c.self.inside.of c.
 message_is c = All-head (IsMessageOf c.self.inside.of) c.in-Some.message c.pop_front.new.self.items
     (subst (All (IsMessageOf c.self.inside.of)) c.in-Some.ensures.items c.self.invariant.messages)
 
+-- the port that is sent for is the message's
 port_is : (c : goal.After-self-in-Some-1) → c.new.result.port ≡ c.in-Some.message.port
 port_is c = c.new.ensures.message.0 ∙ ap (λ (sent : Sent). sent.port) c.message.view_is
 

@@ -1,5 +1,5 @@
 -- One more link of a poll has had its turn.
-use Rattle.std.proofs.Common.{ℕ, suc, ◌≡◌, ◌≢◌, ◌⊎◌, ◌+◌, ◌-◌, ◌<◌, ◌≤◌, List, [], ◌∷◌, ◌++◌, Bool, true, false, length, map, take, drop, set, get_or, arith, refl, ap, ◌∙◌, sym, subst, inl, inr, ⊎_elim, None, Option}
+use Rattle.std.proofs.Common.{ℕ, ◌≡◌, ◌≢◌, ◌+◌, ◌<◌, List, [], ◌∷◌, ◌++◌, true, false, length, take, drop, set, get_or, arith, refl, ap, ◌∙◌, sym, subst, ⊎_elim}
 use Rattle.std.proofs.lemmas.List.{length-set, get_or-set_same, get_or-set_other, get_or-drop, drop-drop, drop-set-lt, take_more, take_more_set, get_or-map, length-map, take-set}
 use Rattle.std.proofs.lemmas.Bool.{cases_eq}
 use Rattle.afdx_config.specs.declared.identifiers.VlId.{VlId}
@@ -11,49 +11,61 @@ use Rattle.redundant_mux.specs.Lines.{Lines, log, is_alive, IsMirrored}
 use Rattle.vl_shaper.specs.Pace.{Pace, IsLater}
 use Rattle.afdx_tx.specs.declared.served.Served.{Served}
 use Rattle.afdx_tx.specs.declared.served.Served.TheVariants.{Nothing, Released, Lost}
-use Rattle.afdx_tx.specs.Streams.{link_stream}
-use Rattle.afdx_tx.specs.Legal.{Accepted, IsKnown, AreKnown}
-use Rattle.afdx_tx.specs.Links.{Held, LinkState, link_at, no_link, no_link_plan, pace_of, Serves, IsSameLink, is_lost}
+use Rattle.afdx_tx.specs.Legal.{IsKnown, AreKnown}
+use Rattle.afdx_tx.specs.Links.{LinkState, link_at, no_link, no_link_plan, Serves, IsSameLink, is_lost}
 use Rattle.afdx_tx.specs.Run.{IsTurn, IsRun, IsCutShort}
-use Rattle.afdx_tx.specs.Emitter.{plan_of, plans, AreLinks, AreApart, IsKept, AreKept, AreWhole, AreServedBy, IsLinkInStep, AreInStep}
-use Rattle.afdx_tx.specs.Serving.{IsSamePlan, KeepsStep, IsSteady, IsServing}
-use Rattle.afdx_tx.proofs.Turning.{Turned, IsOwn, link_turn, kept_turn, step_turn, other_stream, kept_stream, step_stream, released_known, picked_of}
+use Rattle.afdx_tx.specs.Emitter.{plan_of, plans, AreApart, IsKept, IsLinkInStep}
+use Rattle.afdx_tx.specs.Serving.{IsSamePlan, IsSteady, IsServing}
+use Rattle.afdx_tx.proofs.LinkTurn.{Turned, IsOwn, link_turn, kept_turn, step_turn, other_stream, kept_stream, step_stream, released_known, picked_of}
 use Rattle.afdx_tx.specs.declared.sub_vl.SubVl.{SubVl}
 
 -- the turn, with the regulation read off the stream
-turn_shown : (now : ℕ) (did : Served) (link new : LinkState) (lines after : Lines) → Turned now link new lines after did → IsKept link (log lines) → IsTurn now link new lines after did
+turn_shown : (now : ℕ) (did : Served) (link new : LinkState) (lines after : Lines)
+    → Turned now link new lines after did → IsKept link (log lines) → IsTurn now link new lines after did
 turn_shown now did link new lines after t k = record {
   same = t.same;
   serves = subst (λ (p : Pace). Serves now p link.subs new.subs lines after did) (k.paced t.whole) t.serves;
 }
 
-run_push : (now : ℕ) (xs ys : List LinkState) (link new : LinkState) (before lines after : Lines) (did : Served) → IsRun now xs ys before lines → IsTurn now link new lines after did → is_lost did ≡ false → IsRun now (xs ++ link ∷ []) (ys ++ new ∷ []) before after
+-- one turn more at the end of a run
+run_push : (now : ℕ) (xs ys : List LinkState) (link new : LinkState) (before lines after : Lines) (did : Served)
+    → IsRun now xs ys before lines → IsTurn now link new lines after did → is_lost did ≡ false
+    → IsRun now (xs ++ link ∷ []) (ys ++ new ∷ []) before after
 run_push now [] [] link new before lines after did r t k = (after, did, subst (λ (l : Lines). IsTurn now link new l after did) r t, k, refl)
 run_push now (x ∷ xs) (y ∷ ys) link new before lines after did r t k = (r.0, r.1, r.2, r.3, run_push now xs ys link new r.0 lines after did r.4 t k)
 run_push now [] (y ∷ ys) link new before lines after did r t k = absurd r
 run_push now (x ∷ xs) [] link new before lines after did r t k = absurd r
 
-alive_after : (now : ℕ) (did : Served) (link new : LinkState) (lines after : Lines) → Turned now link new lines after did → is_lost did ≡ false → is_alive lines ≡ true → is_alive after ≡ true
+-- a network stands after a turn that lost none
+alive_after : (now : ℕ) (did : Served) (link new : LinkState) (lines after : Lines)
+    → Turned now link new lines after did → is_lost did ≡ false → is_alive lines ≡ true
+    → is_alive after ≡ true
 alive_after now Nothing link new lines after t k a = ap is_alive t.serves.1 ∙ a
 alive_after now (Released sub number) link new lines after t k a = t.serves.2.releases.alive
 alive_after now Lost link new lines after t k a = absurd (let e : true ≡ false = k in cc)
 
-pub at_each : (P : ℕ → LinkState → Type 0) (links : List LinkState) (i : ℕ) (new : LinkState) → i < length links → P i new → ((k : ℕ) → k < length links → k ≢ i → P k (link_at links k)) → (k : ℕ) → k < length links → P k (link_at (set links i new) k)
+-- a fact of each link, where one was set
+pub at_each : (P : ℕ → LinkState → Type 0) (links : List LinkState) (i : ℕ) (new : LinkState)
+    → i < length links → P i new → ((k : ℕ) → k < length links → k ≢ i → P k (link_at links k)) → (k : ℕ)
+    → k < length links → P k (link_at (set links i new) k)
 at_each P links i new lt p q k klt = ⊎_elim
     (λ (e : k ≡ i). subst (λ (j : ℕ). P j (link_at (set links i new) j)) (sym e) (subst (P i) (sym (get_or-set_same links i new no_link lt)) p))
     (λ (ne : k ≢ i). subst (P k) (sym (get_or-set_other links i k new no_link ne)) (q k klt ne))
     (cases_eq k i)
 
+-- the first link of equal rests
 same_rest : (xs ys : List LinkState) (i : ℕ) → drop i xs ≡ drop i ys → link_at xs i ≡ link_at ys i
 same_rest xs ys i e =
     let z : i + 0 ≡ i = omega arith in
     ap (link_at xs) (sym z) ∙ sym (get_or-drop i xs 0 no_link) ∙ ap (λ (l : List LinkState). get_or l 0 no_link) e ∙ get_or-drop i ys 0 no_link ∙ ap (link_at ys) z
 
+-- the plan of a link stays the same over two steps
 trans_same : (a b c : LinkState) → IsSameLink a b → IsSameLink b c → IsSameLink a c
 trans_same a b c p q = record { end_system = q.end_system ∙ p.end_system; plan = q.plan ∙ p.plan; gap = q.gap ∙ p.gap; sub_vls = q.sub_vls ∙ p.sub_vls; count = q.count ∙ p.count }
 
 -- two links of the running list have different identifiers
-apart_now : (old links : List LinkState) (i k : ℕ) → AreApart old → IsSamePlan old links → i < length links → k < length links → k ≢ i → (link_at links i).plan.id.0 ≢ (link_at links k).plan.id.0
+apart_now : (old links : List LinkState) (i k : ℕ) → AreApart old → IsSamePlan old links → i < length links
+    → k < length links → k ≢ i → (link_at links i).plan.id.0 ≢ (link_at links k).plan.id.0
 apart_now old links i k apart same lt klt ne e =
     let il : i < length old = omega (arith, same.count) in
     let kl : k < length old = omega (arith, same.count) in
@@ -62,17 +74,26 @@ apart_now old links i k apart same lt klt ne e =
     let ids : (link_at links i).plan.id ≡ (link_at links k).plan.id = let made = λ (n : ℕ). let v : VlId = record { 0 = n } in v in ap made e in
     ne (sym (apart i k il kl (sym id_i ∙ ids ∙ id_k)))
 
-known_push : (links : List LinkPlan) (H : List Entry) (e : Entry) → AreKnown links A H → IsKnown links A e.frame → AreKnown links A (H ++ e ∷ [])
+-- a known frame at the end of a known list
+known_push : (links : List LinkPlan) (H : List Entry) (e : Entry) → AreKnown links A H
+    → IsKnown links A e.frame → AreKnown links A (H ++ e ∷ [])
 known_push links [] e h k = (k, tt)
 known_push links (x ∷ xs) e h k = (h.0, known_push links xs e h.1 k)
 
-pub plan_at_is : (links : List LinkState) (k : ℕ) → k < length links → link_plan_at (plans links) k ≡ (link_at links k).plan
+-- the plan at a place is that of the link there
+pub plan_at_is : (links : List LinkState) (k : ℕ) → k < length links
+    → link_plan_at (plans links) k ≡ (link_at links k).plan
 plan_at_is links k lt = get_or-map plan_of links k no_link no_link_plan lt
 
+-- there are as many plans as links
 pub plans_length : (links : List LinkState) → length (plans links) ≡ length links
 plans_length links = length-map links plan_of
 
-known_after : (now i : ℕ) (old : List LinkState) (did : Served) (links : List LinkState) (new : LinkState) (lines after : Lines) → IsSamePlan old links → i < length links → IsOwn (link_at links i) → Turned now (link_at links i) new lines after did → AreKnown (plans old) A (log lines) → AreKnown (plans old) A (log after)
+-- what was handed over is known after a turn
+known_after : (now i : ℕ) (old : List LinkState) (did : Served) (links : List LinkState) (new : LinkState) (lines after : Lines)
+    → IsSamePlan old links → i < length links → IsOwn (link_at links i)
+    → Turned now (link_at links i) new lines after did → AreKnown (plans old) A (log lines)
+    → AreKnown (plans old) A (log after)
 known_after now i old Nothing links new lines after same lt own t h = subst (λ (x : Lines). AreKnown (plans old) A (log x)) (sym t.serves.1) h
 known_after now i old (Released sub number) links new lines after same lt own t h =
     let r = t.serves.2.releases in
@@ -92,6 +113,7 @@ known_after now i old (Released sub number) links new lines after same lt own t 
     }))
 known_after now i old Lost links new lines after same lt own t h = subst (AreKnown (plans old) A) (sym t.serves.1.loses.same) h
 
+-- every turn keeps what turns keep
 pub steady_more : (now i : ℕ) (old links : List LinkState) (before lines after : Lines) (new : LinkState) (did : Served)
     → IsSteady now old links before lines → AreApart old → i < length links
     → Turned now (link_at links i) new lines after did → IsMirrored after → IsLater new.pace.last now
@@ -123,10 +145,11 @@ steady_more now i old links before lines after new did s apart lt t mirrored lat
           k (omega arith);
     }
 
+-- one more link had its turn, and a network stands
 pub serving_more : (now i : ℕ) (old links : List LinkState) (before lines after : Lines) (new : LinkState) (did : Served)
     → IsServing now i old links before lines → AreApart old → i < length links
-    → Turned now (link_at links i) new lines after did → is_lost did ≡ false → IsMirrored after → IsLater new.pace.last now
-    → IsServing now (i + 1) old (set links i new) before after
+    → Turned now (link_at links i) new lines after did → is_lost did ≡ false → IsMirrored after
+    → IsLater new.pace.last now → IsServing now (i + 1) old (set links i new) before after
 serving_more now i old links before lines after new did s apart lt t kept mirrored later =
     let il : i < length old = omega (arith, s.steady.same.count) in
     let len : length (set links i new) ≡ length links = length-set links i new in
@@ -145,7 +168,8 @@ serving_more now i old links before lines after new did s apart lt t kept mirror
     }
 
 -- the link at which the last network was lost
-pub cut_at : (now i : ℕ) (old links : List LinkState) (before lines after : Lines) (new : LinkState) (did : Served) → IsServing now i old links before lines → i < length links → is_lost did ≡ true
+pub cut_at : (now i : ℕ) (old links : List LinkState) (before lines after : Lines) (new : LinkState) (did : Served)
+    → IsServing now i old links before lines → i < length links → is_lost did ≡ true
     → Turned now (link_at links i) new lines after did → IsCutShort now old (set links i new) before after
 cut_at now i old links before lines after new Lost s lt e t =
     let il : i < length old = omega (arith, s.steady.same.count) in
@@ -163,8 +187,3 @@ cut_at now i old links before lines after new Lost s lt e t =
     }
 cut_at now i old links before lines after new Nothing s lt e t = absurd (let k : false ≡ true = e in cc)
 cut_at now i old links before lines after new (Released sub number) s lt e t = absurd (let k : false ≡ true = e in cc)
-
-pub lost_down : (now : ℕ) (did : Served) (link new : LinkState) (lines after : Lines) → Turned now link new lines after did → is_lost did ≡ true → is_alive after ≡ false
-lost_down now Lost link new lines after t e = t.serves.1.loses.down
-lost_down now Nothing link new lines after t e = absurd (let k : false ≡ true = e in cc)
-lost_down now (Released sub number) link new lines after t e = absurd (let k : false ≡ true = e in cc)

@@ -1,5 +1,5 @@
 -- An emitter of which nothing was asked yet.
-use Rattle.std.proofs.Common.{ℕ, zero, suc, ◌≡◌, ◌≢◌, ◌⊎◌, ◌+◌, ◌<◌, ◌≤◌, List, [], ◌∷◌, ◌++◌, Bool, true, false, cond, length, map, get_or, arith, refl, ap, ◌∙◌, sym, subst, inl, inr, ⊎_elim, Option, None}
+use Rattle.std.proofs.Common.{ℕ, ◌≡◌, ◌+◌, ◌<◌, ◌≤◌, List, [], ◌∷◌, ◌++◌, true, length, arith, refl, ap, ◌∙◌, sym, subst, inl, ⊎_elim, Option, None}
 use Rattle.std.proofs.lemmas.List.{ext_get_or, length-append, get_or_append_left, get_or_push}
 use Rattle.std.proofs.lemmas.Bool.{cases_lt}
 use Rattle.afdx_config.specs.declared.link_plan.LinkPlan.{LinkPlan}
@@ -9,31 +9,34 @@ use Rattle.afdx_config.specs.Numbers.{sequence_number}
 use Rattle.afdx_frame.specs.declared.net.Net.{Net}
 use Rattle.afdx_frame.specs.declared.net.Net.TheVariants.{A, B}
 use Rattle.redundant_mux.specs.Entry.{Entry}
-use Rattle.redundant_mux.specs.Lines.{Lines, side, log, Keeps, Mirrors, is_alive}
+use Rattle.redundant_mux.specs.Lines.{Lines, log, Keeps, Mirrors}
 use Rattle.vl_shaper.specs.Pace.{Pace, IsLater}
 use Rattle.vl_shaper.specs.declared.shaper.Stamp.{Stamp}
-use Rattle.afdx_tx.specs.Streams.{link_stream, IsSpaced, IsNumbered}
 use Rattle.afdx_tx.specs.Legal.{AreKnown}
-use Rattle.afdx_tx.specs.Links.{Held, LinkState, link_at, no_link, held_at, no_link_plan, IsLink, pace_of}
-use Rattle.afdx_tx.specs.Emitter.{Tx, fresh_held, IsFreshLink, AreFreshLinks, AreLinksOf, plan_of, plans, IsSound, IsKept, AreInStep, IsLinkInStep, IsTied, none_accepted}
-use Rattle.afdx_tx.proofs.Turns.{plan_at_is, plans_length}
+use Rattle.afdx_tx.specs.Links.{Held, LinkState, link_at, no_link, held_at, no_link_plan, IsLink}
+use Rattle.afdx_tx.specs.Emitter.{IsFreshLink, AreFreshLinks, AreLinksOf, plans, IsSound, IsKept, AreInStep, IsLinkInStep, IsTied, none_accepted}
+use Rattle.afdx_tx.proofs.PollTurns.{plan_at_is, plans_length}
 
 -- the lines of two networks that were handed nothing
 abbrev pub fresh_lines : Lines
 fresh_lines = record { a = []; b = []; a_failures = 0; b_failures = 0; a_stands = true; b_stands = true }
 
+-- their log is empty
 pub fresh_log : log fresh_lines ≡ []
 unfolding log
 fresh_log = refl
 
+-- an empty list keeps an empty log
 fresh_keeps : (net : Net) → Keeps net true [] []
 fresh_keeps net = record { within = omega arith; front = refl; all = λ e. refl }
 
+-- so both do
 fresh_mirrors : Mirrors [] fresh_lines
 fresh_mirrors = record { first = fresh_keeps A; second = fresh_keeps B; for_a = refl; one = inl refl }
 
 -- the sub-VLs of a fresh link are those of its plan
-fresh_own : (own : ℕ) (plan : LinkPlan) (link : LinkState) → IsFreshLink own plan link → IsLink link.end_system link.plan link.pace link.subs
+fresh_own : (own : ℕ) (plan : LinkPlan) (link : LinkState) → IsFreshLink own plan link
+    → IsLink link.end_system link.plan link.pace link.subs
 fresh_own own plan link f =
     let pace = f.pace in
     let many : link.pace.sub_vls ≡ plan.sub_vls = ap (λ (p : Pace). p.sub_vls) pace in
@@ -47,6 +50,7 @@ fresh_own own plan link f =
           ∙ ap (λ (p : LinkPlan). record { end_system = link.end_system; link = p; sub = s }) (sym f.plan);
     }
 
+-- the regulation of a fresh link is where an empty stream is
 fresh_kept : (own : ℕ) (plan : LinkPlan) (link : LinkState) → IsFreshLink own plan link → IsKept link []
 fresh_kept own plan link f =
     record {
@@ -58,16 +62,21 @@ fresh_kept own plan link f =
           ∙ ap (λ (n : ℕ). record { gap = link.pace.gap; sub_vls = n; last = None; next = sequence_number 0 }) (sym (ap (λ (p : Pace). p.sub_vls) f.pace));
     }
 
+-- a link that released nothing was not served after moment 0
 fresh_later : (pace : Pace) → pace.last ≡ None → IsLater pace.last 0
 fresh_later pace e = subst (λ (last : Option Stamp). IsLater last 0) (sym e) tt
 
-fresh_plans : (config : Plan) (links : List LinkState) → AreFreshLinks config links (length config.links) → plans links ≡ config.links
+-- the plans of fresh links are those of the configuration
+fresh_plans : (config : Plan) (links : List LinkState) → AreFreshLinks config links (length config.links)
+    → plans links ≡ config.links
 fresh_plans config links f = ext_get_or no_link_plan (plans links) config.links (plans_length links ∙ f.count)
     (λ k lt. let here : k < length links = omega (arith, plans_length links) in
     let there : k < length config.links = omega (arith, f.count) in
     plan_at_is links k here ∙ (f.each k there).plan)
 
-fresh_of : (config : Plan) (links : List LinkState) → AreFreshLinks config links (length config.links) → AreLinksOf config links
+-- fresh links are those of the configuration
+fresh_of : (config : Plan) (links : List LinkState) → AreFreshLinks config links (length config.links)
+    → AreLinksOf config links
 fresh_of config links f =
     record {
       each_plan = fresh_plans config links f;
@@ -75,7 +84,9 @@ fresh_of config links f =
       each = λ k lt. fresh_own config.end_system (link_plan_at config.links k) (link_at links k) (f.each k (omega (arith, f.count)));
     }
 
-pub fresh_sound : (config : Plan) (links : List LinkState) → IsPlan config → AreFreshLinks config links (length config.links) → IsSound config links fresh_lines 0
+-- a fresh emitter is sound
+pub fresh_sound : (config : Plan) (links : List LinkState) → IsPlan config
+    → AreFreshLinks config links (length config.links) → IsSound config links fresh_lines 0
 fresh_sound config links valid f =
     record {
       valid = valid;
@@ -87,11 +98,14 @@ fresh_sound config links valid f =
       whole = λ _ k lt. (f.each k (omega (arith, f.count))).lost;
     }
 
+-- a fresh sub-VL is tied to an empty list
 fresh_tied : (held : Held) → held.left ≡ [] → held.place ≡ 0 → held.waiting ≡ [] → IsTied held [] []
 fresh_tied held left place waiting =
     record { taken = 0; within = omega arith; place = place; rest = sym waiting; sent = sym left }
 
-pub fresh_step : (config : Plan) (links : List LinkState) → AreFreshLinks config links (length config.links) → AreInStep none_accepted links (log fresh_lines)
+-- fresh links are in step with nothing accepted
+pub fresh_step : (config : Plan) (links : List LinkState) → AreFreshLinks config links (length config.links)
+    → AreInStep none_accepted links (log fresh_lines)
 fresh_step config links f k lt =
     let fresh = f.each k (omega (arith, f.count)) in
     subst (IsLinkInStep (none_accepted k) (link_at links k)) (sym fresh_log) (record {
@@ -103,7 +117,9 @@ fresh_step config links f k lt =
     })
 
 -- one fresh link more
-pub fresh_push : (config : Plan) (links : List LinkState) (n : ℕ) (new : LinkState) → AreFreshLinks config links n → IsFreshLink config.end_system (link_plan_at config.links n) new → AreFreshLinks config (links ++ new ∷ []) (n + 1)
+pub fresh_push : (config : Plan) (links : List LinkState) (n : ℕ) (new : LinkState)
+    → AreFreshLinks config links n → IsFreshLink config.end_system (link_plan_at config.links n) new
+    → AreFreshLinks config (links ++ new ∷ []) (n + 1)
 fresh_push config links n new f fresh =
     record {
       count = let size = f.count in omega (arith, length-append links (new ∷ []));

@@ -1,29 +1,25 @@
 -- Small facts on lists and fragments.
-use Rattle.std.proofs.Common.{ℕ, zero, suc, ◌≡◌, ◌≢◌, ◌+◌, ◌-◌, ◌<◌, ◌≤◌, List, [], ◌∷◌, ◌++◌, length, map, arith, refl, ap, sym, subst, ◌∙◌, Bool, true, false, not, Option, Some, None}
-use Rattle.std.specs.Prelude.{All, ◌||◌, nat_le, if◌then◌else◌}
+use Rattle.std.proofs.Common.{ℕ, suc, ◌≡◌, ◌≢◌, ◌+◌, ◌-◌, List, [], ◌∷◌, length, map, arith, refl, ap, sym, subst, Bool, true, false, not, Some}
+use Rattle.std.specs.Prelude.{◌||◌, nat_le, if◌then◌else◌}
 use Rattle.afdx_config.specs.Room.{room_of, step_of}
-use Rattle.afdx_frame.specs.declared.net.Net.TheVariants.{A}
-use Rattle.afdx_frame.specs.declared.piece.Piece.{Piece}
 use Rattle.afdx_frame.specs.Cutting.{Cutting, cut_by, cutting, pieces_from, pieces_left}
-use Rattle.afdx_frame.specs.Fragments.{Sent, fragments_at, fragments_left}
+use Rattle.afdx_frame.specs.Fragments.{Sent, fragments_at}
 use Rattle.afdx_tx.specs.declared.sub_vl.SubVl.{SubVl}
 use Rattle.afdx_tx.specs.Links.{TellsCutting, left_of, message_fragments}
 
-pub All-tail : {X : Type 0} (P : X → Type 0) (x : X) (xs : List X) → All P (x ∷ xs) → All P xs
-All-tail P x xs h = λ k d lt. h (suc k) d (omega arith)
-
-pub All-head : {X : Type 0} (P : X → Type 0) (x : X) (xs : List X) → All P (x ∷ xs) → P x
-All-head P x xs h = h 0 x (omega arith)
-
+-- nothing is mapped from nothing alone
 map_nil : {X Y : Type 0} (f : X → Y) (xs : List X) → map f xs ≡ [] → xs ≡ []
 map_nil f [] e = refl
 map_nil f (x ∷ xs) e = cc
 
 -- whether a cut is done tells whether fragments of it are left
-pub done_tells : (of : SubVl) (cut : Cutting) (done : Bool) → ((room : ℕ) → (done ≡ true → pieces_left room cut ≡ []) × (pieces_left room cut ≡ [] → done ≡ true)) → TellsCutting (not done) (left_of of (Some cut))
+pub done_tells : (of : SubVl) (cut : Cutting) (done : Bool)
+    → ((room : ℕ) → (done ≡ true → pieces_left room cut ≡ []) × (pieces_left room cut ≡ [] → done ≡ true))
+    → TellsCutting (not done) (left_of of (Some cut))
 done_tells of cut true h = ap (map _) ((h (room_of of.link.lmax)).0 refl)
 done_tells of cut false h = λ none. let e : false ≡ true = (h (room_of of.link.lmax)).1 (map_nil _ (pieces_left (room_of of.link.lmax) cut) none) in cc
 
+-- every cutting has a length
 cut_some : (turns room n : ℕ) → cut_by (suc turns) room n ≢ []
 cut_some turns room n = some (nat_le n room) (n ∷ []) (step_of room ∷ cut_by turns room (n - step_of room)) (λ e. cc) (λ e. cc)
   where
@@ -31,6 +27,7 @@ cut_some turns room n = some (nat_le n room) (n ∷ []) (step_of room ∷ cut_by
     some true xs ys p q = p
     some false xs ys p q = q
 
+-- each length gives a piece
 pieces_some : (start : ℕ) (lengths : List ℕ) → lengths ≢ [] → pieces_from start lengths ≢ []
 pieces_some start [] some = λ e. some refl
 pieces_some start (len ∷ rest) some = λ e. cc

@@ -1,6 +1,6 @@
 -- A chosen sub-VL that became another.
-use Rattle.std.proofs.Common.{ℕ, ◌≡◌, ◌≢◌, ◌+◌, ◌<◌, List, length, set, get_or, arith, refl, ap, ◌∙◌, sym, subst, ⊎_elim, Bool, true, false, []}
-use Rattle.std.proofs.lemmas.List.{get_or_default, length-set, get_or-set_other}
+use Rattle.std.proofs.Common.{ℕ, ◌≡◌, ◌≢◌, List, set, get_or, arith, refl, ap, ◌∙◌, sym, subst, ⊎_elim, []}
+use Rattle.std.proofs.lemmas.List.{get_or_default, get_or-set_other}
 use Rattle.std.proofs.lemmas.Bool.{cases_eq}
 use Rattle.afdx_config.specs.declared.link_plan.LinkPlan.{LinkPlan}
 use Rattle.redundant_mux.specs.Lines.{Lines}
@@ -8,22 +8,30 @@ use Rattle.vl_shaper.specs.Pace.{Pace}
 use Rattle.afdx_tx.specs.declared.sub_vl.SubVl.{SubVl}
 use Rattle.afdx_tx.specs.Links.{Held, held_at, nothing_held, IsChoice, AreSubsOf, AreSameSubs, Releases, ReleasesAt, Loses, LosesAt}
 use Rattle.afdx_tx.proofs.Choosing.{held_same}
-use Rattle.afdx_tx.proofs.Moving.{asked_left, chosen_same}
+use Rattle.afdx_tx.proofs.SubInStep.{asked_left, chosen_same}
 
-item_is : (pace : Pace) (old : List Held) (sub : ℕ) (mid : List Held) (d : Held) → IsChoice pace old sub mid → get_or mid sub d ≡ held_at mid sub
+-- the chosen one, whatever the default of the index
+item_is : (pace : Pace) (old : List Held) (sub : ℕ) (mid : List Held) (d : Held) → IsChoice pace old sub mid
+    → get_or mid sub d ≡ held_at mid sub
 item_is pace old sub mid d c = get_or_default mid sub d nothing_held (omega (arith, c.count, c.below))
 
-pub chosen_left : (pace : Pace) (old : List Held) (sub : ℕ) (mid : List Held) (d : Held) → IsChoice pace old sub mid → (get_or mid sub d).left ≡ [] → ⊥
+-- it has a fragment left
+pub chosen_left : (pace : Pace) (old : List Held) (sub : ℕ) (mid : List Held) (d : Held)
+    → IsChoice pace old sub mid → (get_or mid sub d).left ≡ [] → ⊥
 chosen_left pace old sub mid d c e = asked_left (held_at old sub) (held_at mid sub) c.asked (sym (ap (λ (h : Held). h.left) (item_is pace old sub mid d c)) ∙ e)
 
 -- the chosen one is the sub-VL of its link at that index
-pub item_of : (pace : Pace) (plan : LinkPlan) (old : List Held) (sub : ℕ) (mid : List Held) (d : Held) → IsChoice pace old sub mid → AreSubsOf plan old → ((get_or mid sub d).of.link ≡ plan) × ((get_or mid sub d).of.sub ≡ sub)
+pub item_of : (pace : Pace) (plan : LinkPlan) (old : List Held) (sub : ℕ) (mid : List Held) (d : Held)
+    → IsChoice pace old sub mid → AreSubsOf plan old
+    → ((get_or mid sub d).of.link ≡ plan) × ((get_or mid sub d).of.sub ≡ sub)
 item_of pace plan old sub mid d c n =
     let same : (get_or mid sub d).of ≡ (held_at old sub).of = ap (λ (h : Held). h.of) (item_is pace old sub mid d c) ∙ chosen_same pace old sub mid c sub in
     let own = n sub c.below in
     (ap (λ (of : SubVl). of.link) same ∙ own.0, ap (λ (of : SubVl). of.sub) same ∙ own.1)
 
-pub set_same : (pace : Pace) (old : List Held) (sub : ℕ) (mid : List Held) (d h : Held) → IsChoice pace old sub mid → h.of ≡ (get_or mid sub d).of → AreSameSubs old (set mid sub h)
+-- all stay themselves where it becomes one of the same name
+pub set_same : (pace : Pace) (old : List Held) (sub : ℕ) (mid : List Held) (d h : Held)
+    → IsChoice pace old sub mid → h.of ≡ (get_or mid sub d).of → AreSameSubs old (set mid sub h)
 set_same pace old sub mid d h c e s = ⊎_elim
     (λ (q : s ≡ sub).
     let here : (held_at (set mid sub h) sub).of ≡ (held_at old sub).of =
@@ -32,14 +40,20 @@ set_same pace old sub mid d h c e s = ⊎_elim
     (λ (ne : s ≢ sub). ap (λ (x : Held). x.of) (get_or-set_other mid sub s h nothing_held ne) ∙ chosen_same pace old sub mid c s)
     (cases_eq s sub)
 
-pub releases_at : (now number : ℕ) (pace : Pace) (old : List Held) (sub : ℕ) (mid : List Held) (d h : Held) (lines after : Lines) → IsChoice pace old sub mid → Releases now number (get_or mid sub d) h lines after → ReleasesAt now pace sub number old (set mid sub h) lines after
+-- a link that chose it released its frame
+pub releases_at : (now number : ℕ) (pace : Pace) (old : List Held) (sub : ℕ) (mid : List Held) (d h : Held) (lines after : Lines)
+    → IsChoice pace old sub mid → Releases now number (get_or mid sub d) h lines after
+    → ReleasesAt now pace sub number old (set mid sub h) lines after
 releases_at now number pace old sub mid d h lines after c r =
     record {
       picks = record { mid = mid; choice = c; held = h; others = refl };
       releases = subst (λ (x : Held). Releases now number x h lines after) (item_is pace old sub mid d c) r;
     }
 
-pub loses_at : (pace : Pace) (old : List Held) (sub : ℕ) (mid : List Held) (d h : Held) (lines after : Lines) → IsChoice pace old sub mid → Loses (get_or mid sub d) h lines after → LosesAt pace old (set mid sub h) lines after
+-- a link that chose it lost its frame
+pub loses_at : (pace : Pace) (old : List Held) (sub : ℕ) (mid : List Held) (d h : Held) (lines after : Lines)
+    → IsChoice pace old sub mid → Loses (get_or mid sub d) h lines after
+    → LosesAt pace old (set mid sub h) lines after
 loses_at pace old sub mid d h lines after c r =
     record {
       sub = sub;

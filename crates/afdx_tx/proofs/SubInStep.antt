@@ -1,9 +1,9 @@
 -- A sub-VL that was asked or gave a frame, against its accepted list and its stream.
-use Rattle.std.proofs.Common.{ℕ, zero, suc, ◌≡◌, ◌≢◌, ◌⊎◌, ◌+◌, ◌%◌, ◌<◌, ◌≤◌, List, [], ◌∷◌, ◌++◌, Bool, true, false, length, map, take, drop, set, get_or, arith, refl, ap, ◌∙◌, sym, subst, inl, inr, ⊎_elim}
-use Rattle.std.proofs.lemmas.List.{append-nil, append_assoc, map-append, length-append, length-take, length-drop, take-append-drop}
+use Rattle.std.proofs.Common.{ℕ, zero, suc, ◌≡◌, ◌≢◌, ◌+◌, ◌<◌, ◌≤◌, List, [], ◌∷◌, ◌++◌, true, length, take, drop, arith, refl, ap, ◌∙◌, sym, subst, ⊎_elim}
+use Rattle.std.proofs.lemmas.List.{append-nil, append_assoc, map-append, length-append, length-take, take-append-drop}
 use Rattle.afdx_config.specs.Room.{room_of}
 use Rattle.afdx_frame.specs.declared.net.Net.TheVariants.{A}
-use Rattle.afdx_frame.specs.Fragments.{Sent, blanked, fragments_at, fragments_from}
+use Rattle.afdx_frame.specs.Fragments.{Sent, blanked}
 use Rattle.afdx_frame.proofs.FragmentLemmas.{fragments_more}
 use Rattle.afdx_frame.proofs.Twins.{fragments_again}
 use Rattle.redundant_mux.specs.Entry.{Entry, entry}
@@ -30,13 +30,18 @@ moves_of old new m = ⊎_elim
     (λ (e : new ≡ old). ap (λ (h : Held). h.of) e) m1)
     m
 
+-- sub-VLs that were passed over stay themselves
 pub passed_same : (pace : Pace) (old new : List Held) (n : ℕ) → PassedOver pace old new n → AreSameSubs old new
 passed_same pace old new n p s = moves_of (held_at old s) (held_at new s) (moves_passed pace old new n p s)
 
-pub chosen_same : (pace : Pace) (old : List Held) (sub : ℕ) (new : List Held) → IsChoice pace old sub new → AreSameSubs old new
+-- sub-VLs of which one was chosen stay themselves
+pub chosen_same : (pace : Pace) (old : List Held) (sub : ℕ) (new : List Held) → IsChoice pace old sub new
+    → AreSameSubs old new
 chosen_same pace old sub new c s = moves_of (held_at old s) (held_at new s) (moves_chosen pace old sub new c s)
 
-pub gives_of : (old new : Held) (frame : List ℕ) → old.left ≡ blanked frame ∷ new.left → new ≡ record old { left = new.left } → Gives old frame new
+-- what gave its next frame, and is otherwise as it was
+pub gives_of : (old new : Held) (frame : List ℕ) → old.left ≡ blanked frame ∷ new.left
+    → new ≡ record old { left = new.left } → Gives old frame new
 gives_of old new frame next same = record {
   next = next;
   of = ap (λ (h : Held). h.of) same;
@@ -50,10 +55,7 @@ record Splits (xs : List Sent) (n : ℕ) (m : Sent) (rest : List Sent) : Type 0 
   front : take (suc n) xs ≡ take n xs ++ m ∷ []
   behind : drop (suc n) xs ≡ rest
 
-head_of : List Sent → Sent → Sent
-head_of [] d = d
-head_of (x ∷ xs) d = x
-
+-- what the rest of a list says of it
 splits : (xs : List Sent) (n : ℕ) (m : Sent) (rest : List Sent) → drop n xs ≡ m ∷ rest → Splits xs n m rest
 splits [] zero m rest e = absurd (let e' : [] ≡ m ∷ rest = e in cc)
 splits [] (suc n) m rest e = absurd (let e' : [] ≡ m ∷ rest = e in cc)
@@ -67,14 +69,16 @@ splits (x ∷ xs) (suc n) m rest e =
     record { within = let w = s.within in omega arith; front = ap (λ (ys : List Sent). x ∷ ys) s.front; behind = s.behind }
 
 -- the fragments of one message more
-pub fragments_push : (of : SubVl) (xs : List Sent) (m : Sent) → sub_fragments of 0 (xs ++ m ∷ []) ≡ sub_fragments of 0 xs ++ message_fragments of (length xs) m
+pub fragments_push : (of : SubVl) (xs : List Sent) (m : Sent)
+    → sub_fragments of 0 (xs ++ m ∷ []) ≡ sub_fragments of 0 xs ++ message_fragments of (length xs) m
 fragments_push of xs m =
     let place : 0 + length xs ≡ length xs = omega arith in
     fragments_more xs of.end_system (room_of of.link.lmax) A 0 m
     ∙ ap (λ (p : ℕ). sub_fragments of 0 xs ++ message_fragments of p m) place
 
 -- the fragments of several
-pub fragments_append : (of : SubVl) (place : ℕ) (xs ys : List Sent) → sub_fragments of place (xs ++ ys) ≡ sub_fragments of place xs ++ sub_fragments of (place + length xs) ys
+pub fragments_append : (of : SubVl) (place : ℕ) (xs ys : List Sent)
+    → sub_fragments of place (xs ++ ys) ≡ sub_fragments of place xs ++ sub_fragments of (place + length xs) ys
 fragments_append of place [] ys = ap (λ (p : ℕ). sub_fragments of p ys) (let e : place ≡ place + 0 = omega arith in e)
 fragments_append of place (x ∷ xs) ys =
     ap (λ (rest : List (List ℕ)). message_fragments of place x ++ rest) (fragments_append of (suc place) xs ys)
@@ -82,7 +86,8 @@ fragments_append of place (x ∷ xs) ys =
     ∙ ap (λ (p : ℕ). (message_fragments of place x ++ sub_fragments of (suc place) xs) ++ sub_fragments of p ys) (let e : suc place + length xs ≡ place + suc (length xs) = omega arith in e)
 
 -- what was told begins the fragments of what was accepted
-pub prefix_of : (held : Held) (accepted : List Sent) (stream : List Entry) → IsTied held accepted stream → IsPrefixOf (told stream) (sub_fragments held.of 0 accepted)
+pub prefix_of : (held : Held) (accepted : List Sent) (stream : List Entry) → IsTied held accepted stream
+    → IsPrefixOf (told stream) (sub_fragments held.of 0 accepted)
 prefix_of held accepted stream t =
     let rest = sub_fragments held.of (0 + length (take t.taken accepted)) (drop t.taken accepted) in (
       held.left ++ rest,
@@ -92,7 +97,9 @@ prefix_of held accepted stream t =
           ∙ ap (sub_fragments held.of 0) (take-append-drop t.taken accepted),
     )
 
-tied_starts : (old new : Held) (accepted : List Sent) (stream : List Entry) → Starts old new → IsTied old accepted stream → IsTied new accepted stream
+-- a sub-VL that began its next message is where its stream is
+tied_starts : (old new : Held) (accepted : List Sent) (stream : List Entry) → Starts old new
+    → IsTied old accepted stream → IsTied new accepted stream
 tied_starts old new accepted stream p t =
     let s = splits accepted t.taken p.message new.waiting (t.rest ∙ p.first) in
     let size : length (take t.taken accepted) ≡ t.taken = let w = s.within in omega (arith, length-take t.taken accepted) in
@@ -114,7 +121,8 @@ tied_starts old new accepted stream p t =
     }
 
 -- a sub-VL that was asked is where its stream is
-pub tied_moves : (old new : Held) (accepted : List Sent) (stream : List Entry) → Moves old new → IsTied old accepted stream → IsTied new accepted stream
+pub tied_moves : (old new : Held) (accepted : List Sent) (stream : List Entry) → Moves old new
+    → IsTied old accepted stream → IsTied new accepted stream
 tied_moves old new accepted stream m t = ⊎_elim
     (λ (p : Passes old new). subst (λ (h : Held). IsTied h accepted stream) (sym p.same) t)
     (λ m1. ⊎_elim
@@ -123,7 +131,8 @@ tied_moves old new accepted stream m t = ⊎_elim
     m
 
 -- and so is one that gave its next frame
-pub tied_gave : (now : ℕ) (frame : List ℕ) (old new : Held) (accepted : List Sent) (stream : List Entry) → Gives old frame new → IsTied old accepted stream → IsTied new accepted (stream ++ entry now frame ∷ [])
+pub tied_gave : (now : ℕ) (frame : List ℕ) (old new : Held) (accepted : List Sent) (stream : List Entry)
+    → Gives old frame new → IsTied old accepted stream → IsTied new accepted (stream ++ entry now frame ∷ [])
 tied_gave now frame old new accepted stream g t =
     record {
       taken = t.taken;
@@ -139,7 +148,8 @@ tied_gave now frame old new accepted stream g t =
     }
 
 -- one accepted message more, which waits
-pub tied_waits : (held : Held) (accepted : List Sent) (stream : List Entry) (sent : Sent) → IsTied held accepted stream → IsTied (waits held sent) (accepted ++ sent ∷ []) stream
+pub tied_waits : (held : Held) (accepted : List Sent) (stream : List Entry) (sent : Sent)
+    → IsTied held accepted stream → IsTied (waits held sent) (accepted ++ sent ∷ []) stream
 tied_waits held accepted stream sent t =
     record {
       taken = t.taken;

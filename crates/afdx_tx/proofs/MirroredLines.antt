@@ -1,20 +1,21 @@
 -- The lists of the two networks, and the log that they mirror.
-use Rattle.std.proofs.Common.{ℕ, suc, ◌≡◌, ◌⊎◌, ◌+◌, ◌<◌, ◌≤◌, List, [], ◌∷◌, ◌++◌, Bool, true, false, cond, length, map, take, ltb, arith, refl, ap, ◌∙◌, sym, subst, inl, inr, ⊎_elim}
-use Rattle.std.proofs.lemmas.List.{map-append, length-append, length-map, take_all, take-append-le, take-map}
+use Rattle.std.proofs.Common.{ℕ, ◌≡◌, ◌⊎◌, ◌<◌, ◌≤◌, List, [], ◌∷◌, ◌++◌, Bool, true, false, cond, length, map, take, arith, refl, ap, ◌∙◌, sym, subst, inl, inr, ⊎_elim}
+use Rattle.std.proofs.lemmas.List.{map-append, length-append, length-map, take_all, take-append-le}
 use Rattle.std.proofs.lemmas.Bool.{cases_lt, lt-ltb, le-ltb, or_cases}
 use Rattle.redundant_mux.specs.Entry.{Entry, entry}
 use Rattle.redundant_mux.specs.Lines.{Lines, Handing, side, log, Keeps, Mirrors, is_alive, IsMirrored}
 use Rattle.afdx_frame.specs.declared.net.Net.{Net}
 use Rattle.afdx_frame.specs.declared.net.Net.TheVariants.{A, B}
-use Rattle.afdx_frame.specs.Twin.{twin_of}
 use Rattle.afdx_frame.proofs.Twins.{twin_twice}
 
 -- all of a list that is as long as the log
-pub all_of : (net : Net) (h H : List Entry) → h ≡ map (side net) (take (length h) H) → length h ≡ length H → h ≡ map (side net) H
+pub all_of : (net : Net) (h H : List Entry) → h ≡ map (side net) (take (length h) H) → length h ≡ length H
+    → h ≡ map (side net) H
 all_of net h H e l = e ∙ ap (map (side net)) (take_all (length h) H (omega arith))
 
 -- a list that is all of the log, and has its next entry
-keeps_more : (net : Net) (h H : List Entry) (e : Entry) (stands : Bool) → Keeps net true h H → Keeps net stands (h ++ side net e ∷ []) (H ++ e ∷ [])
+keeps_more : (net : Net) (h H : List Entry) (e : Entry) (stands : Bool) → Keeps net true h H
+    → Keeps net stands (h ++ side net e ∷ []) (H ++ e ∷ [])
 keeps_more net h H e stands k =
     let whole : h ≡ map (side net) H = all_of net h H k.front (k.all refl) in
     let more : h ++ side net e ∷ [] ≡ map (side net) (H ++ e ∷ []) = ap (λ x. x ++ side net e ∷ []) whole ∙ sym (map-append (side net) H (e ∷ [])) in
@@ -35,14 +36,17 @@ keeps_front net h H xs stood k =
       all = λ e. let n : false ≡ true = e in cc;
     }
 
-keeps_grown : (net : Net) (stood stands : Bool) (h h' H : List Entry) (f g : ℕ) (e : Entry) → Keeps net stood h H → Handing (side net e) stood stands h h' f g → Keeps net stands h' (H ++ e ∷ [])
+-- a list after a hand of which the log has the entry
+keeps_grown : (net : Net) (stood stands : Bool) (h h' H : List Entry) (f g : ℕ) (e : Entry)
+    → Keeps net stood h H → Handing (side net e) stood stands h h' f g → Keeps net stands h' (H ++ e ∷ [])
 keeps_grown net true true h h' H f g e k p = subst (λ (x : List Entry). Keeps net true x (H ++ e ∷ [])) (sym p.0) (keeps_more net h H e true k)
 keeps_grown net true false h h' H f g e k p = subst (λ (x : List Entry). Keeps net false x (H ++ e ∷ [])) (sym p.0) (keeps_front net h H _ true k)
 keeps_grown net false false h h' H f g e k p = subst (λ (x : List Entry). Keeps net false x (H ++ e ∷ [])) (sym p.0) (keeps_front net h H _ false k)
 keeps_grown net false true h h' H f g e k p = absurd p
 
 -- where the hand failed or the network was down
-keeps_same : (net : Net) (stood : Bool) (h h' H : List Entry) (f g : ℕ) (e : Entry) → Keeps net stood h H → Handing e stood false h h' f g → Keeps net false h' H
+keeps_same : (net : Net) (stood : Bool) (h h' H : List Entry) (f g : ℕ) (e : Entry) → Keeps net stood h H
+    → Handing e stood false h h' f g → Keeps net false h' H
 keeps_same net true h h' H f g e k p = subst (λ (x : List Entry). Keeps net false x H) (sym p.0) (record { within = k.within; front = k.front; all = λ b. let n : false ≡ true = b in cc })
 keeps_same net false h h' H f g e k p = subst (λ (x : List Entry). Keeps net false x H) (sym p.0) (record { within = k.within; front = k.front; all = λ b. let n : false ≡ true = b in cc })
 
@@ -62,7 +66,9 @@ mirrors_grown H old new e m t p q some =
       one = ⊎_elim (λ s. inl (k.all s)) (λ s. inr (n.all s)) some;
     }
 
-same_length : (stood : Bool) (h h' : List Entry) (f g : ℕ) (e : Entry) (n : ℕ) → length h ≡ n → Handing e stood false h h' f g → length h' ≡ n
+-- a hand that a network didn't take leaves the length of its list
+same_length : (stood : Bool) (h h' : List Entry) (f g : ℕ) (e : Entry) (n : ℕ) → length h ≡ n
+    → Handing e stood false h h' f g → length h' ≡ n
 same_length true h h' f g e n l p = ap length p.0 ∙ l
 same_length false h h' f g e n l p = ap length p.0 ∙ l
 
@@ -106,6 +112,7 @@ pub record HandedMore (old new : Lines) (e : Entry) : Type 0 where
   pub mirrored : IsMirrored new
   pub enters : log new ≡ log old ++ e ∷ []
 
+-- the log grows by the entry
 pub handed_more : (old new : Lines) (e : Entry) → IsMirrored old → side A e ≡ e
     → Handing (side A e) old.a_stands new.a_stands old.a new.a old.a_failures new.a_failures
     → Handing (side B e) old.b_stands new.b_stands old.b new.b old.b_failures new.b_failures
@@ -121,6 +128,7 @@ pub record HandedNone (old new : Lines) : Type 0 where
   pub mirrored : IsMirrored new
   pub same : log new ≡ log old
 
+-- the log stays as it was
 pub handed_none : (old new : Lines) (e : Entry) → IsMirrored old
     → Handing (side A e) old.a_stands new.a_stands old.a new.a old.a_failures new.a_failures
     → Handing (side B e) old.b_stands new.b_stands old.b new.b old.b_failures new.b_failures

@@ -1,8 +1,8 @@
 -- One more release.
-use Rattle.std.proofs.Common.{ℕ, ◌≡◌, ◌+◌, ◌<◌, ◌≤◌, List, [], ◌∷◌, ◌++◌, length, map, arith, refl, ap, ◌∙◌, sym, subst}
+use Rattle.std.proofs.Common.{ℕ, ◌≡◌, ◌+◌, ◌≤◌, List, [], ◌∷◌, ◌++◌, length, arith, ap, ◌∙◌, sym}
 use Rattle.std.proofs.lemmas.List.{map-append, append-nil, append_assoc, length-append}
 use Rattle.afdx_config.specs.declared.identifiers.VlId.{VlId}
-use Rattle.afdx_frame.specs.Header.{link_in, sub_in, number_in}
+use Rattle.afdx_frame.specs.Header.{sub_in, number_in}
 use Rattle.redundant_mux.specs.Entry.{Entry, entry}
 use Rattle.redundant_mux.specs.Lines.{Lines, log}
 use Rattle.afdx_tx.specs.declared.served.Served.{Served}
@@ -11,12 +11,17 @@ use Rattle.afdx_tx.specs.declared.report.Release.{Release}
 use Rattle.afdx_tx.specs.declared.sub_vl.SubVl.{SubVl}
 use Rattle.afdx_tx.specs.Links.{LinkState}
 use Rattle.afdx_tx.specs.Report.{release_of, released_by, IsTold}
-use Rattle.afdx_tx.proofs.Turning.{Turned, IsOwn, picked_of}
+use Rattle.afdx_tx.proofs.LinkTurn.{Turned, IsOwn, picked_of}
 
-told_same : (now : ℕ) (rs : List Release) (before lines after : Lines) → log after ≡ log lines → IsTold now rs before lines → IsTold now (rs ++ []) before after
+-- where nothing entered nothing more is told
+told_same : (now : ℕ) (rs : List Release) (before lines after : Lines) → log after ≡ log lines
+    → IsTold now rs before lines → IsTold now (rs ++ []) before after
 told_same now rs before lines after e t = record { entries = t.entries; grown = e ∙ t.grown; named = t.named ∙ sym (append-nil rs); moments = t.moments }
 
-pub told_more : (now : ℕ) (did : Served) (link new : LinkState) (rs : List Release) (before lines after : Lines) → Turned now link new lines after did → IsOwn link → IsTold now rs before lines → IsTold now (rs ++ released_by link.plan.id did) before after
+-- what one turn released is told behind the releases before it
+pub told_more : (now : ℕ) (did : Served) (link new : LinkState) (rs : List Release) (before lines after : Lines)
+    → Turned now link new lines after did → IsOwn link → IsTold now rs before lines
+    → IsTold now (rs ++ released_by link.plan.id did) before after
 told_more now Nothing link new rs before lines after t own h = told_same now rs before lines after (ap log t.serves.1) h
 told_more now (Released sub number) link new rs before lines after t own h =
     let r = t.serves.2.releases in
@@ -34,7 +39,9 @@ told_more now (Released sub number) link new rs before lines after t own h =
     }
 told_more now Lost link new rs before lines after t own h = told_same now rs before lines after t.serves.1.loses.same h
 
-pub few_released : (vl : VlId) (did : Served) (rs : List Release) (i : ℕ) → length rs ≤ i → length (rs ++ released_by vl did) ≤ i + 1
+-- one turn releases one frame at most
+pub few_released : (vl : VlId) (did : Served) (rs : List Release) (i : ℕ) → length rs ≤ i
+    → length (rs ++ released_by vl did) ≤ i + 1
 few_released vl Nothing rs i h = omega (arith, length-append rs [])
 few_released vl (Released sub number) rs i h = omega (arith, length-append rs (record { vl = vl; sub = sub; number = number } ∷ []))
 few_released vl Lost rs i h = omega (arith, length-append rs [])

@@ -1,5 +1,5 @@
 -- The regulation of a link after a frame.
-use Rattle.std.proofs.Common.{ℕ, suc, ◌≡◌, ◌≢◌, ◌+◌, ◌<◌, List, [], ◌∷◌, ◌++◌, length, arith, refl, ap, ◌∙◌, sym, subst, Option, Some, None}
+use Rattle.std.proofs.Common.{ℕ, ◌≡◌, ◌≢◌, ◌+◌, List, [], ◌∷◌, ◌++◌, length, ap, ◌∙◌, sym, Option, Some, None}
 use Rattle.std.proofs.lemmas.List.{length_push}
 use Rattle.std.proofs.lemmas.Bool.{eq-eqb, ne_eqb}
 use Rattle.afdx_config.specs.Numbers.{sequence_number}
@@ -9,21 +9,25 @@ use Rattle.vl_shaper.specs.declared.shaper.Stamp.{Stamp}
 use Rattle.vl_shaper.specs.Pace.{Pace}
 use Rattle.afdx_tx.specs.Streams.{stamp_of, latest, on_link, link_stream}
 use Rattle.afdx_tx.specs.Links.{Held, pace_of, Releases}
-use Rattle.afdx_tx.proofs.Grow.{latest_push, filter_push_in, filter_push_out}
+use Rattle.afdx_tx.proofs.LongerStream.{latest_push, filter_push_in, filter_push_out}
 
-pace_is : (pace : Pace) (stream : List Entry) → pace.last ≡ latest None stream → pace.next ≡ sequence_number (length stream) → pace ≡ pace_of pace.gap pace.sub_vls stream
+-- a regulation is where a stream is by its last release and its next number
+pace_is : (pace : Pace) (stream : List Entry) → pace.last ≡ latest None stream
+    → pace.next ≡ sequence_number (length stream) → pace ≡ pace_of pace.gap pace.sub_vls stream
 pace_is pace stream last next =
     ap (λ (x : Option Stamp). record { gap = pace.gap; sub_vls = pace.sub_vls; last = x; next = pace.next }) last
     ∙ ap (λ (x : ℕ). record { gap = pace.gap; sub_vls = pace.sub_vls; last = latest None stream; next = x }) next
 
 -- the link's stream has the frame
-pub stream_more : (vl now number : ℕ) (old new : Held) (lines after : Lines) → (r : Releases now number old new lines after) → old.of.link.id.0 ≡ vl
+pub stream_more : (vl now number : ℕ) (old new : Held) (lines after : Lines)
+    → (r : Releases now number old new lines after) → old.of.link.id.0 ≡ vl
     → link_stream vl (log after) ≡ link_stream vl (log lines) ++ entry now r.frame ∷ []
 stream_more vl now number old new lines after r own =
     ap (link_stream vl) r.enters ∙ filter_push_in (on_link vl) (log lines) (entry now r.frame) (eq-eqb _ _ (r.of.link ∙ own))
 
 -- another link's stream hasn't
-pub stream_same : (vl now number : ℕ) (old new : Held) (lines after : Lines) → (r : Releases now number old new lines after) → old.of.link.id.0 ≢ vl
+pub stream_same : (vl now number : ℕ) (old new : Held) (lines after : Lines)
+    → (r : Releases now number old new lines after) → old.of.link.id.0 ≢ vl
     → link_stream vl (log after) ≡ link_stream vl (log lines)
 stream_same vl now number old new lines after r other =
     ap (link_stream vl) r.enters ∙ filter_push_out (on_link vl) (log lines) (entry now r.frame) (ne_eqb _ _ (λ e. other (sym r.of.link ∙ e)))

@@ -1,5 +1,5 @@
 -- The link of a port.
-use Rattle.std.proofs.Common.{ℕ, zero, suc, ◌≡◌, ◌≢◌, ◌⊎◌, ◌+◌, ◌<◌, ◌≤◌, List, [], ◌∷◌, Bool, true, false, not, cond, length, get_or, arith, refl, ap, ◌∙◌, sym, subst, Option, Some, None}
+use Rattle.std.proofs.Common.{ℕ, zero, suc, ◌≡◌, ◌+◌, ◌<◌, List, [], ◌∷◌, Bool, true, false, not, cond, length, get_or, arith, ap, ◌∙◌, sym, subst, Some, None}
 use Rattle.std.proofs.lemmas.Bool.{eq-eqb, lt-ltb, eqb-true}
 use Rattle.std.proofs.lemmas.List.Quantifiers.{position-Some}
 use Rattle.std.specs.List.{prefix_len, position}
@@ -11,11 +11,13 @@ use Rattle.afdx_config.specs.Plan.{SendsOver}
 use Rattle.afdx_config.specs.Config.{Plan, IsPlan, HasLink, link_plan_at}
 use Rattle.afdx_tx.specs.Links.{no_link_plan}
 
+-- whether a link is the port's
 abbrev is_its : PortPlan → LinkPlan → Bool
 is_its port link = link.id.0 == port.vl.0
 
 -- an element that passes stands behind fewer than all that don't
-passes_short : (p : LinkPlan → Bool) (xs : List LinkPlan) (k : ℕ) (d : LinkPlan) → k < length xs → p (get_or xs k d) ≡ true → prefix_len (λ x. not (p x)) xs < length xs
+passes_short : (p : LinkPlan → Bool) (xs : List LinkPlan) (k : ℕ) (d : LinkPlan) → k < length xs
+    → p (get_or xs k d) ≡ true → prefix_len (λ x. not (p x)) xs < length xs
 passes_short p [] k d lt passes = absurd (omega arith)
 passes_short p (x ∷ xs) zero d lt passes = let e : prefix_len (λ y. not (p y)) (x ∷ xs) ≡ 0 = ap (λ (b : Bool). cond (not b) (1 + prefix_len (λ y. not (p y)) xs) 0) passes in omega arith
 passes_short p (x ∷ xs) (suc k) d lt passes =
@@ -35,14 +37,16 @@ found links port has none =
     let e : None ≡ Some (prefix_len (λ x. not (is_its port x)) links) = sym none ∙ here in cc
 
 -- and it is the port's
-pub found_id : (links : List LinkPlan) (port : PortPlan) (k : ℕ) → position (is_its port) links ≡ Some k → (link_plan_at links k).id ≡ port.vl
+pub found_id : (links : List LinkPlan) (port : PortPlan) (k : ℕ) → position (is_its port) links ≡ Some k
+    → (link_plan_at links k).id ≡ port.vl
 found_id links port k e =
     let some = position-Some (is_its port) links k no_link_plan e in
     let same : (link_plan_at links k).id.0 ≡ port.vl.0 = eqb-true _ _ some.1 in
     let made = λ (n : ℕ). let v : VlId = record { 0 = n } in v in ap made same
 
 -- a valid plan has one link with an identifier
-pub found_over : (plan : Plan) (port : PortPlan) (k : ℕ) → IsPlan plan → HasLink plan.links port → position (is_its port) plan.links ≡ Some k → SendsOver port (link_plan_at plan.links k)
+pub found_over : (plan : Plan) (port : PortPlan) (k : ℕ) → IsPlan plan → HasLink plan.links port
+    → position (is_its port) plan.links ≡ Some k → SendsOver port (link_plan_at plan.links k)
 found_over plan port k valid has e =
     let some = position-Some (is_its port) plan.links k no_link_plan e in
     let id = found_id plan.links port k e in

@@ -1,5 +1,5 @@
 -- An emitter after its links had their turns.
-use Rattle.std.proofs.Common.{ℕ, ◌≡◌, ◌+◌, ◌<◌, ◌≤◌, List, [], Bool, true, false, length, map, get_or, arith, refl, ap, ◌∙◌, sym, subst, Option, Some, None}
+use Rattle.std.proofs.Common.{ℕ, ◌≡◌, ◌<◌, ◌≤◌, List, true, length, arith, ap, ◌∙◌, sym, subst, Option, Some, None}
 use Rattle.std.proofs.lemmas.List.{ext_get_or}
 use Rattle.afdx_config.specs.declared.link_plan.LinkPlan.{LinkPlan}
 use Rattle.afdx_config.specs.Config.{Plan, IsPlan, link_plan_at}
@@ -7,24 +7,23 @@ use Rattle.afdx_config.specs.Plan.{bag_micros}
 use Rattle.afdx_config.specs.Room.{room_of}
 use Rattle.afdx_frame.specs.declared.net.Net.TheVariants.{A}
 use Rattle.afdx_frame.specs.Fragments.{fragments}
-use Rattle.redundant_mux.specs.Lines.{Lines, log, is_alive, IsMirrored}
+use Rattle.redundant_mux.specs.Lines.{Lines, log, is_alive}
 use Rattle.vl_shaper.specs.declared.shaper.Stamp.{Stamp}
 use Rattle.vl_shaper.specs.Pace.{IsLater}
 use Rattle.afdx_tx.specs.Streams.{link_stream, told_of, IsNumbered, IsSpaced, IsPrefixOf}
 use Rattle.afdx_tx.specs.Legal.{Accepted, AreKnown, IsLegal}
-use Rattle.afdx_tx.specs.Links.{LinkState, link_at, no_link, no_link_plan}
-use Rattle.afdx_tx.specs.Emitter.{Tx, plan_of, plans, AreLinks, AreApart, AreLinksOf, AreKept, AreWhole, AreServedBy, IsSound, AreInStep, IsInStep}
+use Rattle.afdx_tx.specs.Links.{LinkState, link_at, no_link_plan}
+use Rattle.afdx_tx.specs.Emitter.{plans, AreLinks, AreApart, AreLinksOf, AreWhole, IsSound, AreInStep, IsInStep}
 use Rattle.afdx_tx.specs.Serving.{IsSamePlan, IsSteady}
-use Rattle.afdx_tx.proofs.Legal.{IsLogLegal, legal_of}
-use Rattle.afdx_tx.proofs.Turns.{plan_at_is, plans_length}
+use Rattle.afdx_tx.proofs.LegalLists.{legal_of}
+use Rattle.afdx_tx.proofs.PollTurns.{plan_at_is, plans_length}
 
+-- what was at a moment was so at each later one
 later_still : (last : Option Stamp) (before now : ℕ) → before ≤ now → IsLater last before → IsLater last now
 later_still None before now le h = tt
 later_still (Some p) before now le h = omega arith
 
-pub served_still : (links : List LinkState) (before now : ℕ) → before ≤ now → AreServedBy before links → AreServedBy now links
-served_still links before now le h = λ k lt. later_still _ before now le (h k lt)
-
+-- the plans stay the same
 pub same_plans : (old new : List LinkState) → IsSamePlan old new → plans new ≡ plans old
 same_plans old new p =
     ext_get_or no_link_plan (plans new) (plans old) (plans_length new ∙ p.count ∙ sym (plans_length old))
@@ -34,9 +33,11 @@ same_plans old new p =
     plan_at_is new k n ∙ (p.each k o).plan ∙ sym (plan_at_is old k o))
 
 -- the plan of a link, read off the configuration
-pub plan_is : (config : Plan) (links : List LinkState) → AreLinksOf config links → (k : ℕ) → k < length links → link_plan_at config.links k ≡ (link_at links k).plan
+pub plan_is : (config : Plan) (links : List LinkState) → AreLinksOf config links → (k : ℕ) → k < length links
+    → link_plan_at config.links k ≡ (link_at links k).plan
 plan_is config links of k lt = ap (λ (ps : List LinkPlan). link_plan_at ps k) (sym of.each_plan) ∙ plan_at_is links k lt
 
+-- there are as many links as the configuration has
 pub count_is : (config : Plan) (links : List LinkState) → AreLinksOf config links → length links ≡ length config.links
 count_is config links of = sym (plans_length links) ∙ ap length of.each_plan
 
@@ -49,7 +50,9 @@ links_apart config links valid of i j ilt jlt e =
     valid.links_apart i j il jl
     (ap (λ (p : LinkPlan). p.id) (plan_is config links of i ilt) ∙ e ∙ sym (ap (λ (p : LinkPlan). p.id) (plan_is config links of j jlt)))
 
-links_after : (config : Plan) (old new : List LinkState) → AreLinksOf config old → IsSamePlan old new → AreLinks new → AreLinksOf config new
+-- the links stay those of the configuration
+links_after : (config : Plan) (old new : List LinkState) → AreLinksOf config old → IsSamePlan old new
+    → AreLinks new → AreLinksOf config new
 links_after config old new of same each =
     record {
       each_plan = same_plans old new same ∙ of.each_plan;
@@ -57,7 +60,10 @@ links_after config old new of same each =
       each = each;
     }
 
-pub sound_after : (config : Plan) (old new : List LinkState) (before lines : Lines) (now : ℕ) → IsPlan config → AreLinksOf config old → IsSteady now old new before lines → (is_alive lines ≡ true → AreWhole new) → IsSound config new lines now
+-- the emitter stays sound
+pub sound_after : (config : Plan) (old new : List LinkState) (before lines : Lines) (now : ℕ) → IsPlan config
+    → AreLinksOf config old → IsSteady now old new before lines → (is_alive lines ≡ true → AreWhole new)
+    → IsSound config new lines now
 sound_after config old new before lines now valid of s whole =
     record {
       valid = valid;
@@ -70,7 +76,9 @@ sound_after config old new before lines now valid of s whole =
     }
 
 -- what was handed over is legal for accepted lists that are in step
-pub sound_legal : (config : Plan) (links : List LinkState) (lines : Lines) (moment : ℕ) (accepted : Accepted) → IsSound config links lines moment → AreInStep accepted links (log lines) → IsLegal config accepted lines.a lines.b
+pub sound_legal : (config : Plan) (links : List LinkState) (lines : Lines) (moment : ℕ) (accepted : Accepted)
+    → IsSound config links lines moment → AreInStep accepted links (log lines)
+    → IsLegal config accepted lines.a lines.b
 sound_legal config links lines moment accepted s step =
     let of = s.of_plan in
     let n = count_is config links of in
@@ -91,6 +99,8 @@ sound_legal config links lines moment accepted s step =
           (subst (λ (e : ℕ). IsPrefixOf (told_of (link_at links k).plan.id.0 t (log lines)) (fragments e (room_of (link_at links k).plan.lmax) A (accepted k t))) (of.end_system k lt) ((step k lt).prefixes t below));
     })
 
-pub in_step_after : (config : Plan) (links : List LinkState) (lines : Lines) (moment : ℕ) (accepted : Accepted) → IsSound config links lines moment → AreInStep accepted links (log lines)
+-- links in step make an emitter in step
+pub in_step_after : (config : Plan) (links : List LinkState) (lines : Lines) (moment : ℕ) (accepted : Accepted)
+    → IsSound config links lines moment → AreInStep accepted links (log lines)
     → IsInStep accepted (record { plan = config; links = links; lines = lines; moment = moment })
 in_step_after config links lines moment accepted s step = record { legal = sound_legal config links lines moment accepted s step; links = step }

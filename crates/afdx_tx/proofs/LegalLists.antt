@@ -1,6 +1,6 @@
 -- From the log to the two handed lists.
-use Rattle.std.proofs.Common.{ℕ, suc, ◌≡◌, ◌≢◌, ◌⊎◌, ◌+◌, ◌-◌, ◌<◌, ◌≤◌, List, [], ◌∷◌, ◌++◌, Bool, true, false, cond, length, map, take, drop, eqb, arith, refl, ap, ◌∙◌, sym, subst, inl, inr, ⊎_elim, Option, Some, None}
-use Rattle.std.proofs.lemmas.List.{map-append, append_assoc, length-map, take-append-drop, take-map}
+use Rattle.std.proofs.Common.{ℕ, ◌≡◌, ◌+◌, ◌<◌, ◌≤◌, List, [], ◌∷◌, ◌++◌, Bool, true, false, cond, length, map, take, drop, eqb, arith, refl, ap, ◌∙◌, sym, subst, ⊎_elim, Option, Some, None}
+use Rattle.std.proofs.lemmas.List.{map-append, append_assoc, take-append-drop, take-map}
 use Rattle.std.proofs.lemmas.List.Elements.{filter-append}
 use Rattle.std.specs.Prelude.{filter}
 use Rattle.afdx_config.specs.declared.link_plan.LinkPlan.{LinkPlan}
@@ -12,22 +12,24 @@ use Rattle.afdx_frame.specs.declared.net.Net.TheVariants.{A, B}
 use Rattle.afdx_frame.specs.Twin.{twin_of}
 use Rattle.afdx_frame.specs.Fragments.{Sent, blanked, fragments}
 use Rattle.afdx_frame.proofs.Twins.{twin_link, twin_sub, twin_number, twin_interface, twin_blanked, twin_fragments, length-twin}
-use Rattle.redundant_mux.specs.Entry.{Entry, entry}
+use Rattle.redundant_mux.specs.Entry.{Entry}
 use Rattle.redundant_mux.specs.Lines.{Lines, side, log, Keeps, Mirrors, IsMirrored}
 use Rattle.vl_shaper.specs.declared.shaper.Stamp.{Stamp}
 use Rattle.afdx_tx.specs.Streams.{on_link, on_sub, link_stream, sub_stream, told, told_of, stamp_of, IsNumbered, IsSpaced, IsPrefixOf}
-use Rattle.afdx_tx.specs.Legal.{Accepted, IsKnown, AreKnown, IsLegalOn, AreTwins, IsLegal}
-use Rattle.afdx_tx.proofs.Mirror.{all_of, sides}
+use Rattle.afdx_tx.specs.Legal.{Accepted, AreKnown, IsLegalOn, AreTwins, IsLegal}
+use Rattle.afdx_tx.proofs.MirroredLines.{all_of, sides}
 
 -- the entries of a list have whole frames
 abbrev AreLong : List Entry → Type 0
 AreLong [] = Unit {0}
 AreLong (e ∷ es) = (60 ≤ length e.frame) × AreLong es
 
+-- known frames are whole
 known_long : (links : List LinkPlan) (net : Net) (H : List Entry) → AreKnown links net H → AreLong H
 known_long links net [] h = tt
 known_long links net (e ∷ es) h = (h.0.size, known_long links net es h.1)
 
+-- some entries of whole frames have whole frames
 filter_long : (p : Entry → Bool) (H : List Entry) → AreLong H → AreLong (filter p H)
 filter_long p [] h = tt
 filter_long p (e ∷ es) h = keep (p e) (filter_long p es h.1)
@@ -36,37 +38,50 @@ filter_long p (e ∷ es) h = keep (p e) (filter_long p es h.1)
     keep true rest = (h.0, rest)
     keep false rest = rest
 
-filter_both : (net : Net) (b : Bool) (e : Entry) (xs ys : List Entry) → xs ≡ map (side net) ys → cond b (side net e ∷ xs) xs ≡ map (side net) (cond b (e ∷ ys) ys)
+-- one entry that is kept or left, before and after it was turned
+filter_both : (net : Net) (b : Bool) (e : Entry) (xs ys : List Entry) → xs ≡ map (side net) ys
+    → cond b (side net e ∷ xs) xs ≡ map (side net) (cond b (e ∷ ys) ys)
 filter_both net true e xs ys h = ap (λ x. side net e ∷ x) h
 filter_both net false e xs ys h = h
 
 -- a test that twins pass alike
-filter_side : (net : Net) (p : Entry → Bool) → ((e : Entry) → p (side net e) ≡ p e) → (H : List Entry) → filter p (map (side net) H) ≡ map (side net) (filter p H)
+filter_side : (net : Net) (p : Entry → Bool) → ((e : Entry) → p (side net e) ≡ p e) → (H : List Entry)
+    → filter p (map (side net) H) ≡ map (side net) (filter p H)
 filter_side net p h [] = refl
 filter_side net p h (e ∷ es) =
     ap (λ b. cond b (side net e ∷ filter p (map (side net) es)) (filter p (map (side net) es))) (h e)
     ∙ filter_both net (p e) e (filter p (map (side net) es)) (filter p es) (filter_side net p h es)
 
-link_side : (net : Net) (vl : ℕ) (H : List Entry) → link_stream vl (map (side net) H) ≡ map (side net) (link_stream vl H)
+-- the stream of a link, turned to a network
+link_side : (net : Net) (vl : ℕ) (H : List Entry)
+    → link_stream vl (map (side net) H) ≡ map (side net) (link_stream vl H)
 link_side net vl H = filter_side net (on_link vl) (λ e. ap (λ l. eqb l vl) (twin_link net e.frame)) H
 
+-- the stream of a sub-VL, turned to a network
 sub_side : (net : Net) (s : ℕ) (H : List Entry) → sub_stream s (map (side net) H) ≡ map (side net) (sub_stream s H)
 sub_side net s H = filter_side net (on_sub s) (λ e. ap (λ l. eqb l s) (twin_sub net e.frame)) H
 
+-- the fragments that a stream shows, turned to a network
 told_side : (net : Net) (T : List Entry) → told (map (side net) T) ≡ map (twin_of net) (told T)
 told_side net [] = refl
 told_side net (e ∷ es) = ap (λ x. x ∷ told (map (side net) es)) (twin_blanked net e.frame) ∙ ap (λ x. twin_of net (blanked e.frame) ∷ x) (told_side net es)
 
-numbered_side : (net : Net) (i : ℕ) (xs ys : List Entry) → AreLong (xs ++ ys) → IsNumbered i (xs ++ ys) → IsNumbered i (map (side net) xs)
+-- the front of a numbered stream, turned to a network, is numbered
+numbered_side : (net : Net) (i : ℕ) (xs ys : List Entry) → AreLong (xs ++ ys) → IsNumbered i (xs ++ ys)
+    → IsNumbered i (map (side net) xs)
 numbered_side net i [] ys long h = tt
 numbered_side net i (x ∷ xs) ys long h = (twin_number net x.frame long.0 ∙ h.0, numbered_side net (i + 1) xs ys long.1 h.1)
 
-spaced_side : (net : Net) (gap : ℕ) (before : Option Stamp) (xs ys : List Entry) → IsSpaced gap before (xs ++ ys) → IsSpaced gap before (map (side net) xs)
+-- the front of a spaced stream, turned to a network, is spaced
+spaced_side : (net : Net) (gap : ℕ) (before : Option Stamp) (xs ys : List Entry)
+    → IsSpaced gap before (xs ++ ys) → IsSpaced gap before (map (side net) xs)
 spaced_side net gap before [] ys h = tt
 spaced_side net gap before (x ∷ xs) ys h =
     (h.0, subst (λ (s : ℕ). IsSpaced gap (Some (record { at = x.at; sub = s })) (map (side net) xs)) (sym (twin_sub net x.frame)) (spaced_side net gap (Some (stamp_of x)) xs ys h.1))
 
-known_side : (links : List LinkPlan) (net : Net) (xs ys : List Entry) → AreKnown links A (xs ++ ys) → AreKnown links net (map (side net) xs)
+-- the front of a known list, turned to a network, is known there
+known_side : (links : List LinkPlan) (net : Net) (xs ys : List Entry) → AreKnown links A (xs ++ ys)
+    → AreKnown links net (map (side net) xs)
 known_side links net [] ys h = tt
 known_side links net (x ∷ xs) ys h = (
   record {
@@ -90,7 +105,8 @@ pub record IsLogLegal (plan : Plan) (accepted : Accepted) (H : List Entry) : Typ
 
 -- a prefix of a log's stream, turned to a network
 prefix_side : (net : Net) (vl s end_system room : ℕ) (messages : List Sent) (xs ys : List Entry)
-    → IsPrefixOf (told_of vl s (xs ++ ys)) (fragments end_system room A messages) → IsPrefixOf (told_of vl s (map (side net) xs)) (fragments end_system room net messages)
+    → IsPrefixOf (told_of vl s (xs ++ ys)) (fragments end_system room A messages)
+    → IsPrefixOf (told_of vl s (map (side net) xs)) (fragments end_system room net messages)
 prefix_side net vl s end_system room messages xs ys p =
     let T = sub_stream s (link_stream vl xs) in
     let U = sub_stream s (link_stream vl ys) in
@@ -108,7 +124,8 @@ prefix_side net vl s end_system room messages xs ys p =
     )
 
 -- the log is legal, and so are the twins of its front
-legal_front : (plan : Plan) (accepted : Accepted) (net : Net) (xs ys : List Entry) → IsLogLegal plan accepted (xs ++ ys) → IsLegalOn plan accepted net (map (side net) xs)
+legal_front : (plan : Plan) (accepted : Accepted) (net : Net) (xs ys : List Entry)
+    → IsLogLegal plan accepted (xs ++ ys) → IsLegalOn plan accepted net (map (side net) xs)
 legal_front plan accepted net xs ys l =
     let long : AreLong (xs ++ ys) = known_long plan.links A (xs ++ ys) l.known in
     record {
@@ -126,11 +143,14 @@ legal_front plan accepted net xs ys l =
           (spaced_side net gap None (link_stream vl xs) (link_stream vl ys) (subst (IsSpaced gap None) (filter-append (on_link vl) xs ys) (l.spaced k klt)));
     }
 
-legal_keeps : (plan : Plan) (accepted : Accepted) (net : Net) (stands : Bool) (h H : List Entry) → Keeps net stands h H → IsLogLegal plan accepted H → IsLegalOn plan accepted net h
+-- a list that keeps a legal log is legal
+legal_keeps : (plan : Plan) (accepted : Accepted) (net : Net) (stands : Bool) (h H : List Entry)
+    → Keeps net stands h H → IsLogLegal plan accepted H → IsLegalOn plan accepted net h
 legal_keeps plan accepted net stands h H k l =
     subst (IsLegalOn plan accepted net) (sym k.front)
     (legal_front plan accepted net (take (length h) H) (drop (length h) H) (subst (IsLogLegal plan accepted) (sym (take-append-drop (length h) H)) l))
 
+-- two lists that mirror one log are twins
 twins_of : (H : List Entry) (lines : Lines) → Mirrors H lines → AreTwins lines.a lines.b
 twins_of H lines m =
     let w = m.first.within in
@@ -147,7 +167,8 @@ twins_of H lines m =
     }
 
 -- What is legal of the log is legal of the two lists.
-pub legal_of : (plan : Plan) (accepted : Accepted) (lines : Lines) → IsMirrored lines → IsLogLegal plan accepted (log lines) → IsLegal plan accepted lines.a lines.b
+pub legal_of : (plan : Plan) (accepted : Accepted) (lines : Lines) → IsMirrored lines
+    → IsLogLegal plan accepted (log lines) → IsLegal plan accepted lines.a lines.b
 legal_of plan accepted lines m l =
     record {
       on_a = legal_keeps plan accepted A lines.a_stands lines.a (log lines) m.first l;

@@ -1,5 +1,5 @@
 -- One turn of a link, against its stream and its accepted lists.
-use Rattle.std.proofs.Common.{ℕ, zero, suc, ◌≡◌, ◌≢◌, ◌⊎◌, ◌+◌, ◌<◌, ◌≤◌, List, [], ◌∷◌, ◌++◌, Bool, true, false, length, map, set, get_or, arith, refl, ap, ◌∙◌, sym, subst, inl, inr, ⊎_elim, Option, Some, None}
+use Rattle.std.proofs.Common.{ℕ, ◌≡◌, ◌≢◌, ◌<◌, List, [], ◌∷◌, ◌++◌, true, false, arith, ap, ◌∙◌, sym, subst, inr, ⊎_elim, Option, None}
 use Rattle.std.proofs.lemmas.List.{get_or-set_other}
 use Rattle.std.proofs.lemmas.Bool.{cases_eq, eq-eqb, ne_eqb}
 use Rattle.afdx_config.specs.declared.link_plan.LinkPlan.{LinkPlan}
@@ -10,19 +10,19 @@ use Rattle.afdx_frame.specs.declared.net.Net.TheVariants.{A}
 use Rattle.afdx_frame.specs.Header.{sub_in}
 use Rattle.afdx_frame.specs.Fragments.{Sent, fragments}
 use Rattle.redundant_mux.specs.Entry.{Entry, entry}
-use Rattle.redundant_mux.specs.Lines.{Lines, log, is_alive}
+use Rattle.redundant_mux.specs.Lines.{Lines, log}
 use Rattle.vl_shaper.specs.declared.shaper.Stamp.{Stamp}
-use Rattle.vl_shaper.specs.Pace.{Pace, is_due, IsLater}
+use Rattle.vl_shaper.specs.Pace.{Pace, IsLater}
 use Rattle.afdx_tx.specs.declared.served.Served.{Served}
 use Rattle.afdx_tx.specs.declared.served.Served.TheVariants.{Nothing, Released, Lost}
 use Rattle.afdx_tx.specs.declared.sub_vl.SubVl.{SubVl}
 use Rattle.afdx_tx.specs.Streams.{latest, on_sub, link_stream, sub_stream, told, told_of, IsNumbered, IsSpaced, IsApart, IsPrefixOf}
-use Rattle.afdx_tx.specs.Links.{Held, LinkState, held_at, nothing_held, IsChoice, PassedOver, Picks, Releases, Gives, ReleasesAt, Serves, Follows, IsSameLink, AreSameSubs, AreNamed, IsLink, is_lost, pace_of, sub_fragments}
+use Rattle.afdx_tx.specs.Links.{Held, LinkState, held_at, nothing_held, Picks, ReleasesAt, Serves, Follows, IsSameLink, AreSameSubs, IsLink, is_lost, pace_of, sub_fragments}
 use Rattle.afdx_tx.specs.Emitter.{IsKept, IsTied, IsLinkInStep}
 use Rattle.afdx_tx.proofs.Choosing.{Moves, held_same, moves_chosen, moves_passed}
-use Rattle.afdx_tx.proofs.Moving.{moves_of, tied_moves, tied_gave, prefix_of}
-use Rattle.afdx_tx.proofs.Grow.{spaced_push, numbered_push, due_apart, filter_push_in, filter_push_out}
-use Rattle.afdx_tx.proofs.Paced.{stream_more, stream_same}
+use Rattle.afdx_tx.proofs.SubInStep.{moves_of, tied_moves, tied_gave, prefix_of}
+use Rattle.afdx_tx.proofs.LongerStream.{spaced_push, numbered_push, due_apart, filter_push_in, filter_push_out}
+use Rattle.afdx_tx.proofs.PaceOfStream.{stream_more, stream_same}
 
 -- a turn of a link that was where its stream is
 pub record Turned (now : ℕ) (link new : LinkState) (lines after : Lines) (did : Served) : Type 0 where
@@ -34,11 +34,13 @@ pub record Turned (now : ℕ) (link new : LinkState) (lines after : Lines) (did 
   pub whole : link.lost ≡ false
   pub lost : new.lost ≡ is_lost did
 
+-- a link is one of its plan
 abbrev pub IsOwn : LinkState → Type 0
 IsOwn link = IsLink link.end_system link.plan link.pace link.subs
 
 -- the link stays one of its plan
-pub link_turn : (now : ℕ) (link new : LinkState) (lines after : Lines) (did : Served) → Turned now link new lines after did → IsOwn link → IsOwn new
+pub link_turn : (now : ℕ) (link new : LinkState) (lines after : Lines) (did : Served)
+    → Turned now link new lines after did → IsOwn link → IsOwn new
 link_turn now link new lines after did t own =
     record {
       count = t.same.count ∙ own.count ∙ sym t.same.sub_vls;
@@ -62,17 +64,22 @@ kept_of link new H same numbered spaced paced =
     }
 
 -- the sub-VL that was picked, and its link
-pub picked_of : (link : LinkState) (sub : ℕ) (news : List Held) (p : Picks link.pace sub link.subs news) → IsOwn link → (held_at p.mid sub).of ≡ record { end_system = link.end_system; link = link.plan; sub = sub }
+pub picked_of : (link : LinkState) (sub : ℕ) (news : List Held) (p : Picks link.pace sub link.subs news)
+    → IsOwn link
+    → (held_at p.mid sub).of ≡ record { end_system = link.end_system; link = link.plan; sub = sub }
 picked_of link sub news p own = moves_of (held_at link.subs sub) (held_at p.mid sub) (moves_chosen link.pace link.subs sub p.mid p.choice sub) ∙ own.named sub p.choice.below
 
 -- what entered is of the picked sub-VL
-released_own : (now number : ℕ) (link : LinkState) (sub : ℕ) (news : List Held) (lines after : Lines) (at : ReleasesAt now link.pace sub number link.subs news lines after) → IsOwn link
+released_own : (now number : ℕ) (link : LinkState) (sub : ℕ) (news : List Held) (lines after : Lines) (at : ReleasesAt now link.pace sub number link.subs news lines after)
+    → IsOwn link
     → (link_stream link.plan.id.0 (log after) ≡ link_stream link.plan.id.0 (log lines) ++ entry now at.releases.frame ∷ []) × (sub_in at.releases.frame ≡ sub)
 released_own now number link sub news lines after at own =
     let of = picked_of link sub news at.picks own in
     (stream_more link.plan.id.0 now number _ _ lines after at.releases (ap (λ (o : SubVl). o.link.id.0) of), at.releases.of.of_sub ∙ ap (λ (o : SubVl). o.sub) of)
 
-pub kept_turn : (now : ℕ) (did : Served) (link new : LinkState) (lines after : Lines) → Turned now link new lines after did → IsOwn link → IsKept link (log lines) → IsKept new (log after)
+-- its stream is numbered and spaced, and its regulation is where the stream is
+pub kept_turn : (now : ℕ) (did : Served) (link new : LinkState) (lines after : Lines)
+    → Turned now link new lines after did → IsOwn link → IsKept link (log lines) → IsKept new (log after)
 kept_turn now Nothing link new lines after t own k =
     let same : log lines ≡ log after = ap log (sym t.serves.1) in
     subst (IsKept new) same (kept_of link new (log lines) t.same k.numbered k.spaced
@@ -109,25 +116,34 @@ step_of accepted link new H same prefixes tied =
     }
 
 -- a prefix, by the sub-VL that it is of
-prefix_at : (link : LinkState) (s : ℕ) (held : Held) (accepted : List Sent) (H : List Entry) → held.of ≡ record { end_system = link.end_system; link = link.plan; sub = s }
-    → IsTied held accepted (sub_stream s (link_stream link.plan.id.0 H)) → IsPrefixOf (told_of link.plan.id.0 s H) (fragments link.end_system (room_of link.plan.lmax) A accepted)
+prefix_at : (link : LinkState) (s : ℕ) (held : Held) (accepted : List Sent) (H : List Entry)
+    → held.of ≡ record { end_system = link.end_system; link = link.plan; sub = s }
+    → IsTied held accepted (sub_stream s (link_stream link.plan.id.0 H))
+    → IsPrefixOf (told_of link.plan.id.0 s H) (fragments link.end_system (room_of link.plan.lmax) A accepted)
 prefix_at link s held accepted H of t =
     subst (λ (o : SubVl). IsPrefixOf (told_of link.plan.id.0 s H) (sub_fragments o 0 accepted)) of (prefix_of held accepted (sub_stream s (link_stream link.plan.id.0 H)) t)
 
-moves_nothing : (now : ℕ) (pace : Pace) (old new : List Held) (lines after : Lines) → Serves now pace old new lines after Nothing → (s : ℕ) → Moves (held_at old s) (held_at new s)
+-- what happened to each sub-VL in a turn that did nothing
+moves_nothing : (now : ℕ) (pace : Pace) (old new : List Held) (lines after : Lines)
+    → Serves now pace old new lines after Nothing → (s : ℕ) → Moves (held_at old s) (held_at new s)
 moves_nothing now pace old new lines after v s = ⊎_elim
     (λ h. inr (inr (ap (λ (x : List Held). held_at x s) h.1)))
     (λ h. moves_passed pace old new pace.sub_vls h.1 s)
     v.0
 
+-- the picked sub-VL after its frame
 picked : (pace : Pace) (sub : ℕ) (old new : List Held) (p : Picks pace sub old new) → held_at new sub ≡ p.held
 picked pace sub old new p = ap (λ (x : List Held). held_at x sub) p.others ∙ held_same p.mid sub p.held (omega (arith, p.choice.count, p.choice.below))
 
-not_picked : (pace : Pace) (sub : ℕ) (old new : List Held) (p : Picks pace sub old new) (s : ℕ) → s ≢ sub → held_at new s ≡ held_at p.mid s
+-- the others are as the choice left them
+not_picked : (pace : Pace) (sub : ℕ) (old new : List Held) (p : Picks pace sub old new) (s : ℕ) → s ≢ sub
+    → held_at new s ≡ held_at p.mid s
 not_picked pace sub old new p s ne = ap (λ (x : List Held). held_at x s) p.others ∙ get_or-set_other p.mid sub s p.held nothing_held ne
 
-pub step_turn : (accepted : ℕ → List Sent) (now : ℕ) (did : Served) (link new : LinkState) (lines after : Lines) → Turned now link new lines after did → IsOwn link
-    → IsLinkInStep accepted link (log lines) → IsLinkInStep accepted new (log after)
+-- a link that was in step is in step after its turn
+pub step_turn : (accepted : ℕ → List Sent) (now : ℕ) (did : Served) (link new : LinkState) (lines after : Lines)
+    → Turned now link new lines after did → IsOwn link → IsLinkInStep accepted link (log lines)
+    → IsLinkInStep accepted new (log after)
 step_turn accepted now Nothing link new lines after t own k =
     subst (IsLinkInStep accepted new) (ap log (sym t.serves.1)) (step_of accepted link new (log lines) t.same k.prefixes
     (λ _ s lt. tied_moves (held_at link.subs s) (held_at new.subs s) (accepted s) _ (moves_nothing now link.pace link.subs new.subs lines after t.serves s) (k.tied t.whole s lt)))
@@ -165,14 +181,18 @@ step_turn accepted now Lost link new lines after t own k =
     (λ (f : new.lost ≡ false). absurd (let e : new.lost ≡ true = t.lost in cc)))
 
 -- another link's stream
-pub other_stream : (now vl : ℕ) (did : Served) (link new : LinkState) (lines after : Lines) → Turned now link new lines after did → IsOwn link → link.plan.id.0 ≢ vl → link_stream vl (log after) ≡ link_stream vl (log lines)
+pub other_stream : (now vl : ℕ) (did : Served) (link new : LinkState) (lines after : Lines)
+    → Turned now link new lines after did → IsOwn link → link.plan.id.0 ≢ vl
+    → link_stream vl (log after) ≡ link_stream vl (log lines)
 other_stream now vl Nothing link new lines after t own ne = ap (λ (x : Lines). link_stream vl (log x)) t.serves.1
 other_stream now vl (Released sub number) link new lines after t own ne =
     let at = t.serves.2 in
     stream_same vl now number _ _ lines after at.releases (λ e. ne (sym (ap (λ (o : SubVl). o.link.id.0) (picked_of link sub new.subs at.picks own)) ∙ e))
 other_stream now vl Lost link new lines after t own ne = ap (link_stream vl) t.serves.1.loses.same
 
-pub kept_stream : (other : LinkState) (H J : List Entry) → link_stream other.plan.id.0 J ≡ link_stream other.plan.id.0 H → IsKept other H → IsKept other J
+-- a link whose stream is the same keeps its regulation
+pub kept_stream : (other : LinkState) (H J : List Entry)
+    → link_stream other.plan.id.0 J ≡ link_stream other.plan.id.0 H → IsKept other H → IsKept other J
 kept_stream other H J e k =
     record {
       numbered = subst (IsNumbered 0) (sym e) k.numbered;
@@ -180,7 +200,10 @@ kept_stream other H J e k =
       paced = λ w. k.paced w ∙ ap (pace_of other.pace.gap other.pace.sub_vls) (sym e);
     }
 
-pub step_stream : (accepted : ℕ → List Sent) (other : LinkState) (H J : List Entry) → link_stream other.plan.id.0 J ≡ link_stream other.plan.id.0 H → IsLinkInStep accepted other H → IsLinkInStep accepted other J
+-- a link whose stream is the same stays in step
+pub step_stream : (accepted : ℕ → List Sent) (other : LinkState) (H J : List Entry)
+    → link_stream other.plan.id.0 J ≡ link_stream other.plan.id.0 H → IsLinkInStep accepted other H
+    → IsLinkInStep accepted other J
 step_stream accepted other H J e k =
     record {
       prefixes = λ s lt. subst (λ (S : List Entry). IsPrefixOf (told (sub_stream s S)) (fragments other.end_system (room_of other.plan.lmax) A (accepted s))) (sym e) (k.prefixes s lt);
@@ -188,5 +211,6 @@ step_stream accepted other H J e k =
     }
 
 -- what entered is known
-pub released_known : (now number : ℕ) (link : LinkState) (sub : ℕ) (news : List Held) (lines after : Lines) → ReleasesAt now link.pace sub number link.subs news lines after → IsOwn link → sub < link.plan.sub_vls
+pub released_known : (now number : ℕ) (link : LinkState) (sub : ℕ) (news : List Held) (lines after : Lines)
+    → ReleasesAt now link.pace sub number link.subs news lines after → IsOwn link → sub < link.plan.sub_vls
 released_known now number link sub news lines after at own = omega (arith, at.picks.choice.below, own.count, own.sub_vls)
