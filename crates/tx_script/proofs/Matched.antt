@@ -34,7 +34,8 @@ sub_waits accepted own planned k s sent progress held m = record {
 
 -- at one of a link's sub-VLs
 link_waits : (accepted : Accepted) (own : ℕ) (planned : LinkPlan) (k s : ℕ) (sent : Sent) (subs : List Progress) (link : LinkState)
-    → MatchesLink own planned (accepted k) subs link → MatchesLink own planned (with_accepted k s sent accepted k) subs (link_with link s sent)
+    → MatchesLink own planned (accepted k) subs link
+    → MatchesLink own planned (with_accepted k s sent accepted k) subs (link_with link s sent)
 link_waits accepted own planned k s sent subs link m = record {
   end_system = m.end_system;
   plan = m.plan;
@@ -57,7 +58,8 @@ link_waits accepted own planned k s sent subs link m = record {
 }
 
 -- at one sub-VL of an emitter
-tx_waits : (accepted : Accepted) (es : EndSystem) (tx : Tx) (k s : ℕ) (sent : Sent) → Matches accepted es tx → Matches (with_accepted k s sent accepted) es (tx_with tx k s sent)
+tx_waits : (accepted : Accepted) (es : EndSystem) (tx : Tx) (k s : ℕ) (sent : Sent) → Matches accepted es tx
+    → Matches (with_accepted k s sent accepted) es (tx_with tx k s sent)
 tx_waits accepted es tx k s sent m = record {
   plan = m.plan;
   count = length-set tx.links k (link_with (link_at tx.links k) s sent) ∙ m.count;
@@ -78,7 +80,9 @@ tx_waits accepted es tx k s sent m = record {
   moment = m.moment;
 }
   where
-    others : (i : ℕ) → MatchesLink es.plan.end_system (link_plan_at es.plan.links i) (accepted i) (get_or es.links i []) (link_at tx.links i) → i ≢ k
+    others : (i : ℕ)
+        → MatchesLink es.plan.end_system (link_plan_at es.plan.links i) (accepted i) (get_or es.links i []) (link_at tx.links i)
+        → i ≢ k
         → MatchesLink es.plan.end_system (link_plan_at es.plan.links i) (with_accepted k s sent accepted i) (get_or es.links i []) (link_at tx.links i)
     others i n ne = record {
       end_system = n.end_system;
@@ -92,12 +96,14 @@ tx_waits accepted es tx k s sent m = record {
     }
 
 -- An emitter to which a message was sent, which was accepted.
-pub sent_matches : (accepted : Accepted) (es : EndSystem) (tx : Tx) (place : ℕ) (bytes : List ℕ) → Matches accepted es tx → Matches (with_message es.plan place bytes accepted) es (tx_sent tx place bytes)
+pub sent_matches : (accepted : Accepted) (es : EndSystem) (tx : Tx) (place : ℕ) (bytes : List ℕ)
+    → Matches accepted es tx → Matches (with_message es.plan place bytes accepted) es (tx_sent tx place bytes)
 sent_matches accepted es tx place bytes m = subst (λ (plan : Plan). Matches (with_message plan place bytes accepted) es (tx_sent tx place bytes)) m.plan (tx_waits accepted es tx _ _ _ m)
 
 -- A poll released as many frames as its report names.
 pub released_many : (accepted : Accepted) (es : EndSystem) (old new : Tx) (now : ℕ) (looks : List Look) (released : List Release)
-    → Matches accepted es old → Matches accepted (polled es now looks) new → IsTold now released old.lines new.lines → length released ≡ released_by es now looks
+    → Matches accepted es old → Matches accepted (polled es now looks) new
+    → IsTold now released old.lines new.lines → length released ≡ released_by es now looks
 released_many accepted es old new now looks released m n told =
     let named : length released ≡ length told.entries = ap length (sym told.named) ∙ length-map told.entries release_of in
     let grown : length (log new.lines) ≡ length (log old.lines) + length told.entries = ap length told.grown ∙ length-append (log old.lines) told.entries in
@@ -106,7 +112,8 @@ released_many accepted es old new now looks released m n told =
     omega arith
 
 -- nothing of a link was sent
-link_fresh : (own : ℕ) (planned : LinkPlan) (link : LinkState) → IsFreshLink own planned link → MatchesLink own planned (none_accepted 0) (fresh_subs planned) link
+link_fresh : (own : ℕ) (planned : LinkPlan) (link : LinkState) → IsFreshLink own planned link
+    → MatchesLink own planned (none_accepted 0) (fresh_subs planned) link
 link_fresh own planned link f = record {
   end_system = f.end_system;
   plan = f.plan;
@@ -122,7 +129,8 @@ link_fresh own planned link f = record {
 }
 
 -- nothing was handed over
-lines_fresh : (lines : Lines) → lines.a ≡ [] → lines.b ≡ [] → lines.a_stands ≡ true → lines.b_stands ≡ true → MatchesLines [] lines
+lines_fresh : (lines : Lines) → lines.a ≡ [] → lines.b ≡ [] → lines.a_stands ≡ true → lines.b_stands ≡ true
+    → MatchesLines [] lines
 unfolding log
 lines_fresh lines a b for_a for_b = record {
   is = ap (λ (xs : List Entry). map (side A) (if nat_lt (length xs) (length lines.b) then lines.b else xs)) a

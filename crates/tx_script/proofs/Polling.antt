@@ -50,7 +50,8 @@ turn_small n None k lt = lt
 turn_small n (Some last) k lt = mod_below (last.sub + 1 + k) n (omega arith)
 
 -- those that the choice isn't of are as they were
-choice_others : (pace : Pace) (old mid : List Held) (sub : ℕ) → (c : IsChoice pace old sub mid) → (s : ℕ) → s ≢ sub → held_at mid s ≡ held_at old s
+choice_others : (pace : Pace) (old mid : List Held) (sub : ℕ) → (c : IsChoice pace old sub mid) → (s : ℕ)
+    → s ≢ sub → held_at mid s ≡ held_at old s
 choice_others pace old mid sub c s ne = ⊎_elim
     (λ h. subst (λ (i : ℕ). held_at mid i ≡ held_at old i) h.2 (let p : Passes (held_at old (turn_of pace.sub_vls pace.last h.0)) (held_at mid (turn_of pace.sub_vls pace.last h.0)) = c.before h.0 h.1 in p.same))
     (λ h. c.others s (λ k le e. ⊎_elim
@@ -60,7 +61,8 @@ choice_others pace old mid sub c s ne = ⊎_elim
     (met (turn_of pace.sub_vls pace.last) c.turn s)
 
 -- where none has anything, all are as they were
-none_others : (pace : Pace) (old new : List Held) (n : ℕ) → PassedOver pace old new n → (s : ℕ) → held_at new s ≡ held_at old s
+none_others : (pace : Pace) (old new : List Held) (n : ℕ) → PassedOver pace old new n → (s : ℕ)
+    → held_at new s ≡ held_at old s
 none_others pace old new n p s = ⊎_elim
     (λ h. subst (λ (i : ℕ). held_at new i ≡ held_at old i) h.2 (let q : Passes (held_at old (turn_of pace.sub_vls pace.last h.0)) (held_at new (turn_of pace.sub_vls pace.last h.0)) = p.before h.0 h.1 in q.same))
     (λ h. p.others s h)
@@ -75,7 +77,9 @@ module _ (own : ℕ) (plan : LinkPlan) (accepted : ℕ → List Sent) where
   AreMatched subs held = (s : ℕ) → s < plan.sub_vls → MatchesSub (of_sub s) (accepted s) (progress_at subs s) (held_at held s)
 
   -- a sub-VL that starts a message matches still
-  starts_match : (s : ℕ) (progress : Progress) (old new : Held) → MatchesSub (of_sub s) (accepted s) progress old → (p : Starts old new) → MatchesSub (of_sub s) (accepted s) (started (of_sub s) progress p.message) new
+  starts_match : (s : ℕ) (progress : Progress) (old new : Held)
+      → MatchesSub (of_sub s) (accepted s) progress old → (p : Starts old new)
+      → MatchesSub (of_sub s) (accepted s) (started (of_sub s) progress p.message) new
   starts_match s progress old new m p =
       let size : length (progress.taken ++ p.message ∷ []) ≡ length progress.taken + 1 = length-append progress.taken (p.message ∷ []) in
       let again : message_fragments (of_sub s) (length progress.taken) p.message ≡ message_fragments (of_sub s) (length progress.taken % 16384) p.message =
@@ -90,24 +94,30 @@ module _ (own : ℕ) (plan : LinkPlan) (accepted : ℕ → List Sent) where
   -- What asking came to, whatever looks follow: these sub-VLs and this choice.
   record IsAsked (subs : List Progress) (order : List ℕ) (chosen : Option ℕ) (after : List Progress) : Type 0 where
     looks : List Look
-    is : (more : List Look) → ask own plan subs order (looks ++ more) ≡ record { subs = after; chosen = chosen; looks = more }
+    is : (more : List Look)
+        → ask own plan subs order (looks ++ more) ≡ record { subs = after; chosen = chosen; looks = more }
 
   -- a sub-VL that has nothing is passed over
-  asked_pass : (subs : List Progress) (s : ℕ) (order : List ℕ) (chosen : Option ℕ) (after : List Progress) → has_left (progress_at subs s) ≡ false → IsAsked subs order chosen after → IsAsked subs (s ∷ order) chosen after
+  asked_pass : (subs : List Progress) (s : ℕ) (order : List ℕ) (chosen : Option ℕ) (after : List Progress)
+      → has_left (progress_at subs s) ≡ false → IsAsked subs order chosen after
+      → IsAsked subs (s ∷ order) chosen after
   asked_pass subs s order chosen after none a = record {
     looks = None ∷ a.looks;
     is = λ more. ap (λ (b : Bool). cond b (record { subs = subs; chosen = Some s; looks = None ∷ (a.looks ++ more) }) (ask own plan subs order (a.looks ++ more))) none ∙ a.is more;
   }
 
   -- one that has a fragment left is chosen without a look
-  asked_left : (subs : List Progress) (s : ℕ) (order : List ℕ) → has_left (progress_at subs s) ≡ true → IsAsked subs (s ∷ order) (Some s) subs
+  asked_left : (subs : List Progress) (s : ℕ) (order : List ℕ) → has_left (progress_at subs s) ≡ true
+      → IsAsked subs (s ∷ order) (Some s) subs
   asked_left subs s order some = record {
     looks = [];
     is = λ more. ap (λ (b : Bool). cond b (record { subs = subs; chosen = Some s; looks = more }) (by_look (first_look more) (ask own plan subs order (drop 1 more)) (λ message. record { subs = set subs s (started (of_sub s) (progress_at subs s) message); chosen = Some s; looks = drop 1 more }))) some;
   }
 
   -- one at which a look finds a message is chosen
-  asked_found : (subs : List Progress) (s : ℕ) (order : List ℕ) (message : Sent) → has_left (progress_at subs s) ≡ false → IsAsked subs (s ∷ order) (Some s) (set subs s (started (of_sub s) (progress_at subs s) message))
+  asked_found : (subs : List Progress) (s : ℕ) (order : List ℕ) (message : Sent)
+      → has_left (progress_at subs s) ≡ false
+      → IsAsked subs (s ∷ order) (Some s) (set subs s (started (of_sub s) (progress_at subs s) message))
   asked_found subs s order message none = record {
     looks = Some message ∷ [];
     is = λ more. ap (λ (b : Bool). cond b (record { subs = subs; chosen = Some s; looks = Some message ∷ more }) (record { subs = set subs s (started (of_sub s) (progress_at subs s) message); chosen = Some s; looks = more })) none;
@@ -121,7 +131,9 @@ module _ (own : ℕ) (plan : LinkPlan) (accepted : ℕ → List Sent) where
     others : (t : ℕ) → t ≢ s → progress_at after t ≡ progress_at subs t
     count : length after ≡ length subs
 
-  asked_here : (subs : List Progress) (old mid : List Held) (s : ℕ) → s < length subs → MatchesSub (of_sub s) (accepted s) (progress_at subs s) (held_at old s) → Asks true (held_at old s) (held_at mid s) → Here subs mid s
+  asked_here : (subs : List Progress) (old mid : List Held) (s : ℕ) → s < length subs
+      → MatchesSub (of_sub s) (accepted s) (progress_at subs s) (held_at old s)
+      → Asks true (held_at old s) (held_at mid s) → Here subs mid s
   asked_here subs old mid s lt m a = ⊎_elim
       (λ (g : GoesOn (held_at old s) (held_at mid s)). record {
         after = subs;
@@ -141,7 +153,8 @@ module _ (own : ℕ) (plan : LinkPlan) (accepted : ℕ → List Sent) where
       a
 
   -- one whose queue and message are empty is passed over
-  passes_none : (s : ℕ) (progress : Progress) (old new : Held) → MatchesSub (of_sub s) (accepted s) progress old → Passes old new → has_left progress ≡ false
+  passes_none : (s : ℕ) (progress : Progress) (old new : Held)
+      → MatchesSub (of_sub s) (accepted s) progress old → Passes old new → has_left progress ≡ false
   passes_none s progress old new m p = none_left progress.left (m.left ∙ p.whole)
 
   -- What asking in turn comes to, where one sub-VL is chosen.
@@ -152,8 +165,10 @@ module _ (own : ℕ) (plan : LinkPlan) (accepted : ℕ → List Sent) where
     count : length after ≡ length subs
 
   -- the turns up to the chosen one are passed over
-  asked_from : (pace : Pace) (subs : List Progress) (old mid : List Held) (sub : ℕ) (c : IsChoice pace old sub mid) → pace.sub_vls ≡ plan.sub_vls → AreMatched subs old → (here : Here subs mid sub)
-      → (behind k many : ℕ) → k + behind ≡ c.turn → k + many ≡ pace.sub_vls → IsAsked subs (turns_from pace k many) (Some sub) here.after
+  asked_from : (pace : Pace) (subs : List Progress) (old mid : List Held) (sub : ℕ) (c : IsChoice pace old sub mid)
+      → pace.sub_vls ≡ plan.sub_vls → AreMatched subs old → (here : Here subs mid sub)
+      → (behind k many : ℕ) → k + behind ≡ c.turn → k + many ≡ pace.sub_vls
+      → IsAsked subs (turns_from pace k many) (Some sub) here.after
   asked_from pace subs old mid sub c n m here behind k zero to total = absurd (let w = c.within in omega arith)
   asked_from pace subs old mid sub c n m here zero k (suc many) to total =
       let at : turn_of pace.sub_vls pace.last k ≡ sub = ap (turn_of pace.sub_vls pace.last) (let e : k ≡ c.turn = omega arith in e) ∙ sym c.is in
@@ -167,7 +182,9 @@ module _ (own : ℕ) (plan : LinkPlan) (accepted : ℕ → List Sent) where
       (asked_from pace subs old mid sub c n m here behind (k + 1) many (omega arith) (omega arith))
 
   -- the choice, asked for
-  chosen_by : (pace : Pace) (subs : List Progress) (old mid : List Held) (sub : ℕ) → IsChoice pace old sub mid → pace.sub_vls ≡ plan.sub_vls → length subs ≡ plan.sub_vls → AreMatched subs old → Chosen pace subs mid sub
+  chosen_by : (pace : Pace) (subs : List Progress) (old mid : List Held) (sub : ℕ) → IsChoice pace old sub mid
+      → pace.sub_vls ≡ plan.sub_vls → length subs ≡ plan.sub_vls → AreMatched subs old
+      → Chosen pace subs mid sub
   chosen_by pace subs old mid sub c n many m =
       let small : sub < plan.sub_vls = let lt = turn_small pace.sub_vls pace.last c.turn c.within in let e = c.is in omega arith in
       let here : Here subs mid sub = asked_here subs old mid sub (omega arith) (m sub small) c.asked in
@@ -184,7 +201,8 @@ module _ (own : ℕ) (plan : LinkPlan) (accepted : ℕ → List Sent) where
       }
 
   -- no sub-VL has anything
-  asked_none : (pace : Pace) (subs : List Progress) (old new : List Held) → PassedOver pace old new pace.sub_vls → pace.sub_vls ≡ plan.sub_vls → AreMatched subs old
+  asked_none : (pace : Pace) (subs : List Progress) (old new : List Held)
+      → PassedOver pace old new pace.sub_vls → pace.sub_vls ≡ plan.sub_vls → AreMatched subs old
       → (k many : ℕ) → k + many ≡ pace.sub_vls → IsAsked subs (turns_from pace k many) None subs
   asked_none pace subs old new p n m k zero total = record { looks = []; is = λ more. refl }
   asked_none pace subs old new p n m k (suc many) total =
@@ -198,11 +216,14 @@ module _ (own : ℕ) (plan : LinkPlan) (accepted : ℕ → List Sent) where
   record IsServed (now : ℕ) (subs : List Progress) (H J : List Entry) (link : LinkState) : Type 0 where
     after : List Progress
     looks : List Look
-    is : (more : List Look) → serve_link now own plan subs H (looks ++ more) ≡ record { subs = after; log = J; looks = more }
+    is : (more : List Look)
+        → serve_link now own plan subs H (looks ++ more) ≡ record { subs = after; log = J; looks = more }
     matched : MatchesLink own plan accepted after link
 
   -- a link that stays one of the plan
-  link_after : (link new : LinkState) (subs after : List Progress) → IsSameLink link new → MatchesLink own plan accepted subs link → length after ≡ length subs → AreMatched after new.subs → MatchesLink own plan accepted after new
+  link_after : (link new : LinkState) (subs after : List Progress) → IsSameLink link new
+      → MatchesLink own plan accepted subs link → length after ≡ length subs → AreMatched after new.subs
+      → MatchesLink own plan accepted after new
   link_after link new subs after same m count matched = record {
     end_system = same.end_system ∙ m.end_system;
     plan = same.plan ∙ m.plan;
@@ -214,20 +235,28 @@ module _ (own : ℕ) (plan : LinkPlan) (accepted : ℕ → List Sent) where
   }
 
   -- what a link does, by its regulation
-  paced_served : (now : ℕ) (subs : List Progress) (H : List Entry) (looks : List Look) → serve_link now own plan subs H looks ≡ serve_paced now own plan subs H looks (pace_of (bag_micros plan.bag) plan.sub_vls (link_stream plan.id.0 H))
+  paced_served : (now : ℕ) (subs : List Progress) (H : List Entry) (looks : List Look)
+      → serve_link now own plan subs H looks ≡ serve_paced now own plan subs H looks (pace_of (bag_micros plan.bag) plan.sub_vls (link_stream plan.id.0 H))
   unfolding serve_link
   paced_served now subs H looks = refl
 
-  not_due : (now : ℕ) (pace : Pace) (subs : List Progress) (H : List Entry) (looks : List Look) → is_due pace.gap pace.last now ≡ false → serve_paced now own plan subs H looks pace ≡ record { subs = subs; log = H; looks = looks }
+  not_due : (now : ℕ) (pace : Pace) (subs : List Progress) (H : List Entry) (looks : List Look)
+      → is_due pace.gap pace.last now ≡ false
+      → serve_paced now own plan subs H looks pace ≡ record { subs = subs; log = H; looks = looks }
   not_due now pace subs H looks e = ap (λ (b : Bool). cond b (released_of now pace H (ask own plan subs (turns_from pace 0 pace.sub_vls) looks).chosen (ask own plan subs (turns_from pace 0 pace.sub_vls) looks)) (record { subs = subs; log = H; looks = looks })) e
 
-  is_asked : (now : ℕ) (pace : Pace) (subs : List Progress) (H : List Entry) (looks : List Look) (asked : Asked) → is_due pace.gap pace.last now ≡ true → ask own plan subs (turns_from pace 0 pace.sub_vls) looks ≡ asked → serve_paced now own plan subs H looks pace ≡ released_of now pace H asked.chosen asked
+  is_asked : (now : ℕ) (pace : Pace) (subs : List Progress) (H : List Entry) (looks : List Look) (asked : Asked)
+      → is_due pace.gap pace.last now ≡ true
+      → ask own plan subs (turns_from pace 0 pace.sub_vls) looks ≡ asked
+      → serve_paced now own plan subs H looks pace ≡ released_of now pace H asked.chosen asked
   is_asked now pace subs H looks asked e a =
       ap (λ (b : Bool). cond b (released_of now pace H (ask own plan subs (turns_from pace 0 pace.sub_vls) looks).chosen (ask own plan subs (turns_from pace 0 pace.sub_vls) looks)) (record { subs = subs; log = H; looks = looks })) e
       ∙ ap (λ (x : Asked). released_of now pace H x.chosen x) a
 
   -- a sub-VL that gave its next frame
-  gave_match : (s : ℕ) (progress : Progress) (mid held : Held) (frame : List ℕ) → MatchesSub (of_sub s) (accepted s) progress mid → Gives mid frame held → MatchesSub (of_sub s) (accepted s) (record progress { left = drop 1 progress.left }) held
+  gave_match : (s : ℕ) (progress : Progress) (mid held : Held) (frame : List ℕ)
+      → MatchesSub (of_sub s) (accepted s) progress mid → Gives mid frame held
+      → MatchesSub (of_sub s) (accepted s) (record progress { left = drop 1 progress.left }) held
   gave_match s progress mid held frame m g = record {
     of = g.of ∙ m.of;
     left = ap (drop 1) (m.left ∙ g.next);
@@ -236,15 +265,19 @@ module _ (own : ℕ) (plan : LinkPlan) (accepted : ℕ → List Sent) where
   }
 
   -- the frame that goes out is the next one of the sub-VL, with its number
-  frame_is : (progress : Progress) (mid held : Held) (frame : List ℕ) (number : ℕ) → progress.left ≡ mid.left → Gives mid frame held → 60 ≤ length frame → number_in frame ≡ number → next_frame progress number ≡ frame
+  frame_is : (progress : Progress) (mid held : Held) (frame : List ℕ) (number : ℕ) → progress.left ≡ mid.left
+      → Gives mid frame held → 60 ≤ length frame → number_in frame ≡ number
+      → next_frame progress number ≡ frame
   frame_is progress mid held frame number left g long carries =
       ap (λ (fragments : List (List ℕ)). get_or fragments 0 [] ++ number ∷ []) (left ∙ g.next)
       ∙ ap (λ (n : ℕ). blanked frame ++ n ∷ []) (sym carries)
       ∙ unblanked frame long
 
   -- a turn that released a frame
-  served_released : (now sub number : ℕ) (pace : Pace) (link new : LinkState) (subs : List Progress) (lines after : Lines) → MatchesLink own plan accepted subs link → IsSameLink link new → pace.sub_vls ≡ plan.sub_vls
-      → is_due pace.gap pace.last now ≡ true → number ≡ pace.next → ReleasesAt now pace sub number link.subs new.subs lines after
+  served_released : (now sub number : ℕ) (pace : Pace) (link new : LinkState) (subs : List Progress) (lines after : Lines)
+      → MatchesLink own plan accepted subs link → IsSameLink link new → pace.sub_vls ≡ plan.sub_vls
+      → is_due pace.gap pace.last now ≡ true → number ≡ pace.next
+      → ReleasesAt now pace sub number link.subs new.subs lines after
       → ((looks : List Look) → serve_link now own plan subs (log lines) looks ≡ serve_paced now own plan subs (log lines) looks pace)
       → IsServed now subs (log lines) (log after) new
   served_released now sub number pace link new subs lines after m same n due numbered at paced =
@@ -280,7 +313,8 @@ module _ (own : ℕ) (plan : LinkPlan) (accepted : ℕ → List Sent) where
       }
 
   -- one turn of a link that lost no frame
-  served_by : (now : ℕ) (did : Served) (pace : Pace) (link new : LinkState) (subs : List Progress) (lines after : Lines) → MatchesLink own plan accepted subs link → IsSameLink link new → pace.sub_vls ≡ plan.sub_vls
+  served_by : (now : ℕ) (did : Served) (pace : Pace) (link new : LinkState) (subs : List Progress) (lines after : Lines)
+      → MatchesLink own plan accepted subs link → IsSameLink link new → pace.sub_vls ≡ plan.sub_vls
       → Serves now pace link.subs new.subs lines after did → is_lost did ≡ false
       → ((looks : List Look) → serve_link now own plan subs (log lines) looks ≡ serve_paced now own plan subs (log lines) looks pace)
       → IsServed now subs (log lines) (log after) new
@@ -305,7 +339,9 @@ module _ (own : ℕ) (plan : LinkPlan) (accepted : ℕ → List Sent) where
   served_by now Lost pace link new subs lines after m same n v kept paced = absurd (let e : true ≡ false = kept in cc)
 
   -- one turn, whose regulation is read off the stream
-  turn_served : (now : ℕ) (did : Served) (link new : LinkState) (subs : List Progress) (lines after : Lines) → MatchesLink own plan accepted subs link → IsTurn now link new lines after did → is_lost did ≡ false → IsServed now subs (log lines) (log after) new
+  turn_served : (now : ℕ) (did : Served) (link new : LinkState) (subs : List Progress) (lines after : Lines)
+      → MatchesLink own plan accepted subs link → IsTurn now link new lines after did → is_lost did ≡ false
+      → IsServed now subs (log lines) (log after) new
   turn_served now did link new subs lines after m t kept =
       let gap : pace_of link.pace.gap link.pace.sub_vls (link_stream link.plan.id.0 (log lines)) ≡ pace_of (bag_micros plan.bag) plan.sub_vls (link_stream plan.id.0 (log lines)) =
       ap (λ (g : ℕ). pace_of g link.pace.sub_vls (link_stream link.plan.id.0 (log lines))) m.gap
@@ -319,14 +355,17 @@ module _ (own : ℕ) (plan : LinkPlan) (accepted : ℕ → List Sent) where
 record AreServed (now own : ℕ) (plans : List LinkPlan) (accepted : ℕ → ℕ → List Sent) (subs : List (List Progress)) (H J : List Entry) (news : List LinkState) : Type 0 where
   after : List (List Progress)
   looks : List Look
-  is : (more : List Look) → serve_links now own plans subs H (looks ++ more) ≡ record { subs = after; log = J; looks = more }
+  is : (more : List Look)
+      → serve_links now own plans subs H (looks ++ more) ≡ record { subs = after; log = J; looks = more }
   many : length after ≡ length plans
   count : length news ≡ length plans
-  matched : (k : ℕ) → k < length plans → MatchesLink own (link_plan_at plans k) (accepted k) (get_or after k []) (link_at news k)
+  matched : (k : ℕ) → k < length plans
+      → MatchesLink own (link_plan_at plans k) (accepted k) (get_or after k []) (link_at news k)
 
 -- a link's turn, and then those of the links behind it
 served_more : (now own : ℕ) (plan : LinkPlan) (plans : List LinkPlan) (accepted : ℕ → ℕ → List Sent) (sub : List Progress) (subs : List (List Progress)) (H I J : List Entry) (new : LinkState) (news : List LinkState)
-    → IsServed own plan (accepted 0) now sub H I new → AreServed now own plans (λ k. accepted (suc k)) subs I J news
+    → IsServed own plan (accepted 0) now sub H I new
+    → AreServed now own plans (λ k. accepted (suc k)) subs I J news
     → AreServed now own (plan ∷ plans) accepted (sub ∷ subs) H J (new ∷ news)
 served_more now own plan plans accepted sub subs H I J new news one rest =
     record {
@@ -341,7 +380,8 @@ served_more now own plan plans accepted sub subs H I J new news one rest =
       matched = each;
     }
   where
-    each : (k : ℕ) → k < length (plan ∷ plans) → MatchesLink own (link_plan_at (plan ∷ plans) k) (accepted k) (get_or (one.after ∷ rest.after) k []) (link_at (new ∷ news) k)
+    each : (k : ℕ) → k < length (plan ∷ plans)
+        → MatchesLink own (link_plan_at (plan ∷ plans) k) (accepted k) (get_or (one.after ∷ rest.after) k []) (link_at (new ∷ news) k)
     each zero lt = one.matched
     each (suc k) lt = rest.matched k (omega arith)
 
@@ -363,7 +403,8 @@ run_served now own (plan ∷ plans) accepted (sub ∷ subs) (link ∷ links) (ne
     (run_served now own plans (λ k. accepted (suc k)) subs links news r.0 after (omega arith) (omega arith) (λ k lt. m (suc k) (omega arith)) r.4)
 
 -- what both networks hold where both stand
-mirrored_lines : (lines : Lines) → IsMirrored lines → lines.a_stands ≡ true → lines.b_stands ≡ true → MatchesLines (log lines) lines
+mirrored_lines : (lines : Lines) → IsMirrored lines → lines.a_stands ≡ true → lines.b_stands ≡ true
+    → MatchesLines (log lines) lines
 mirrored_lines lines m a b = record {
   is = refl;
   a = all_kept A lines.a_stands lines.a (log lines) m.first a ∙ m.for_a;
@@ -372,13 +413,16 @@ mirrored_lines lines m a b = record {
   for_b = b;
 }
   where
-    all_kept : (net : Net) (stands : Bool) (handed H : List Entry) → Keeps net stands handed H → stands ≡ true → handed ≡ map (side net) H
+    all_kept : (net : Net) (stands : Bool) (handed H : List Entry) → Keeps net stands handed H → stands ≡ true
+        → handed ≡ map (side net) H
     all_kept net stands handed H k e =
         k.front ∙ ap (λ (n : ℕ). map (side net) (take n H)) (k.all e) ∙ ap (map (side net)) (take_all (length H) H (omega arith))
 
 -- A poll over networks that both stand afterwards is one that some looks explain.
-pub polled_matches : (accepted : Accepted) (es : EndSystem) (old new : Tx) (now : ℕ) → Matches accepted es old → IsRun now old.links new.links old.lines new.lines
-    → IsMirrored new.lines → new.lines.a_stands ≡ true → new.lines.b_stands ≡ true → new.plan ≡ old.plan → new.moment ≡ now
+pub polled_matches : (accepted : Accepted) (es : EndSystem) (old new : Tx) (now : ℕ) → Matches accepted es old
+    → IsRun now old.links new.links old.lines new.lines
+    → IsMirrored new.lines → new.lines.a_stands ≡ true → new.lines.b_stands ≡ true → new.plan ≡ old.plan
+    → new.moment ≡ now
     → (looks : List Look) × Matches accepted (polled es now looks) new
 unfolding polled
 polled_matches accepted es old new now m run mirrored a b plan moment =

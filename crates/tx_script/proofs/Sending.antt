@@ -18,7 +18,8 @@ use Rattle.tx_script.specs.declared.outcome.Outcome.TheVariants as Came
 use Rattle.tx_script.proofs.Matched.{sent_matches}
 
 -- A message that a port took.
-pub send_taken : (accepted : Accepted) (es : EndSystem) (old : Tx) (id place : ℕ) (bytes : List ℕ) → place_of old.plan id ≡ Some place → refusal_at old place (length bytes) ≡ None
+pub send_taken : (accepted : Accepted) (es : EndSystem) (old : Tx) (id place : ℕ) (bytes : List ℕ)
+    → place_of old.plan id ≡ Some place → refusal_at old place (length bytes) ≡ None
     → Matches accepted es old → Obeys (Send id bytes) accepted es (tx_sent old place bytes) Came.Accepted
 send_taken accepted es old id place bytes found none m = record {
   answer = takes;
@@ -43,7 +44,8 @@ send_taken accepted es old id place bytes found none m = record {
     more_accepted = ap (λ (o : Outcome). taken_by es.plan (place_of es.plan id) bytes o accepted) outcome ∙ ap (λ (p : Option ℕ). taken_by es.plan p bytes Came.Accepted accepted) here
 
 -- A message that was refused.
-pub send_refused : (accepted : Accepted) (es : EndSystem) (tx : Tx) (id : ℕ) (bytes : List ℕ) (why : Refusal) → Came.Refused why ≡ outcome_of es (Send id bytes) fills
+pub send_refused : (accepted : Accepted) (es : EndSystem) (tx : Tx) (id : ℕ) (bytes : List ℕ) (why : Refusal)
+    → Came.Refused why ≡ outcome_of es (Send id bytes) fills
     → Matches accepted es tx → Obeys (Send id bytes) accepted es tx (Came.Refused why)
 send_refused accepted es tx id bytes why is m = record {
   answer = fills;
@@ -56,7 +58,8 @@ send_refused accepted es tx id bytes why is m = record {
     not_taken (Some place) = refl
 
 -- A message that the port at its place refused.
-pub port_refused : (accepted : Accepted) (es : EndSystem) (tx : Tx) (id place : ℕ) (bytes : List ℕ) (why : SendRefusal) → place_of tx.plan id ≡ Some place → refusal_at tx place (length bytes) ≡ Some why
+pub port_refused : (accepted : Accepted) (es : EndSystem) (tx : Tx) (id place : ℕ) (bytes : List ℕ) (why : SendRefusal)
+    → place_of tx.plan id ≡ Some place → refusal_at tx place (length bytes) ≡ Some why
     → Matches accepted es tx → Obeys (Send id bytes) accepted es tx (Came.Refused (refusal_of why))
 port_refused accepted es tx id place bytes why found some m =
     send_refused accepted es tx id bytes (refusal_of why) (sym
@@ -64,10 +67,13 @@ port_refused accepted es tx id place bytes why found some m =
     ∙ ap (λ (p : Option ℕ). sent_to tx.plan p bytes fills) found
     ∙ passed _ _ _ some)) m
   where
-    full : (is_full : Bool) → (if is_full then Some Why.Full else None) ≡ Some why → Came.Refused Full ≡ Came.Refused (refusal_of why)
+    full : (is_full : Bool) → (if is_full then Some Why.Full else None) ≡ Some why
+        → Came.Refused Full ≡ Came.Refused (refusal_of why)
     full true e = ap (λ (o : Option SendRefusal). Came.Refused (refusal_of (unwrap_or o why))) e
     full false e = ap (λ (o : Option SendRefusal). Came.Refused (refusal_of (unwrap_or o Why.Full))) e
 
-    passed : (first : Option SendRefusal) (capacity waiting : ℕ) → first_refusal first (queue_refusal capacity waiting) ≡ Some why → passed_on first fills ≡ Came.Refused (refusal_of why)
+    passed : (first : Option SendRefusal) (capacity waiting : ℕ)
+        → first_refusal first (queue_refusal capacity waiting) ≡ Some why
+        → passed_on first fills ≡ Came.Refused (refusal_of why)
     passed (Some w) capacity waiting e = ap (λ (o : Option SendRefusal). Came.Refused (refusal_of (unwrap_or o why))) e
     passed None capacity waiting e = full _ e

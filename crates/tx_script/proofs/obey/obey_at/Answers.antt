@@ -14,8 +14,10 @@ use Rattle.tx_script.proofs.Matched.{released_many}
 use Rattle.tx_script.proofs.obey.obey_at.Goals as goal
 
 -- a poll at a moment that is not before the last one
-poll_obeys : (es : EndSystem) (new : Tx) (moment released : ℕ) (looks : List Look) (accepted : Accepted) → nat_lt moment es.moment ≡ false
-    → released ≡ released_by es moment looks → Matches accepted (polled es moment looks) new → Obeys (At moment) accepted es new (Released released)
+poll_obeys : (es : EndSystem) (new : Tx) (moment released : ℕ) (looks : List Look) (accepted : Accepted)
+    → nat_lt moment es.moment ≡ false
+    → released ≡ released_by es moment looks → Matches accepted (polled es moment looks) new
+    → Obeys (At moment) accepted es new (Released released)
 poll_obeys es new moment released looks accepted on many m = record {
   answer = finds looks;
   is = ap Released many ∙ sym (ap (λ (b : Bool). if b then Refused TimeBack else Released (released_by es moment looks)) on);
