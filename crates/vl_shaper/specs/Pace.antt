@@ -1,4 +1,4 @@
--- The regulation of a virtual link.
+-- The regulation of a virtual link (ARINC 664 Part 7, bandwidth allocation gap and sub-VLs).
 use Rattle.std.specs.Prelude.{ℕ, ◌+◌, ◌-◌, ◌%◌, ◌<◌, ◌≤◌, Bool, true, nat_le, Option, Some, None}
 use Rattle.vl_shaper.specs.declared.shaper.Stamp.{Stamp}
 
