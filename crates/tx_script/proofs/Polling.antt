@@ -42,7 +42,8 @@ unblanked : (frame : List ℕ) → 60 ≤ length frame → blanked frame ++ numb
 unblanked frame long =
     let last : length frame - 1 < length frame = omega arith in
     let whole : length frame - 1 + 1 ≡ length frame = omega arith in
-    sym (take_more frame (length frame - 1) 0 last) ∙ ap (λ (n : ℕ). take n frame) whole ∙ take_all (length frame) frame (omega arith)
+    sym (take_more frame (length frame - 1) 0 last) ∙ ap (λ (n : ℕ). take n frame) whole
+    ∙ take_all (length frame) frame (omega arith)
 
 -- a turn is one of the link's sub-VLs
 turn_small : (n : ℕ) (last : Option Stamp) (k : ℕ) → k < n → turn_of n last k < n
@@ -53,7 +54,9 @@ turn_small n (Some last) k lt = mod_below (last.sub + 1 + k) n (omega arith)
 choice_others : (pace : Pace) (old mid : List Held) (sub : ℕ) → (c : IsChoice pace old sub mid) → (s : ℕ)
     → s ≢ sub → held_at mid s ≡ held_at old s
 choice_others pace old mid sub c s ne = ⊎_elim
-    (λ h. subst (λ (i : ℕ). held_at mid i ≡ held_at old i) h.2 (let p : Passes (held_at old (turn_of pace.sub_vls pace.last h.0)) (held_at mid (turn_of pace.sub_vls pace.last h.0)) = c.before h.0 h.1 in p.same))
+    (λ h. subst (λ (i : ℕ). held_at mid i ≡ held_at old i) h.2
+    (let p : Passes (held_at old (turn_of pace.sub_vls pace.last h.0))
+    (held_at mid (turn_of pace.sub_vls pace.last h.0)) = c.before h.0 h.1 in p.same))
     (λ h. c.others s (λ k le e. ⊎_elim
     (λ (lt : k < c.turn). h k lt e)
     (λ (ge : c.turn ≤ k). let q : k ≡ c.turn = omega arith in ne (sym e ∙ ap (turn_of pace.sub_vls pace.last) q ∙ sym c.is))
@@ -64,7 +67,9 @@ choice_others pace old mid sub c s ne = ⊎_elim
 none_others : (pace : Pace) (old new : List Held) (n : ℕ) → PassedOver pace old new n → (s : ℕ)
     → held_at new s ≡ held_at old s
 none_others pace old new n p s = ⊎_elim
-    (λ h. subst (λ (i : ℕ). held_at new i ≡ held_at old i) h.2 (let q : Passes (held_at old (turn_of pace.sub_vls pace.last h.0)) (held_at new (turn_of pace.sub_vls pace.last h.0)) = p.before h.0 h.1 in q.same))
+    (λ h. subst (λ (i : ℕ). held_at new i ≡ held_at old i) h.2
+    (let q : Passes (held_at old (turn_of pace.sub_vls pace.last h.0))
+    (held_at new (turn_of pace.sub_vls pace.last h.0)) = p.before h.0 h.1 in q.same))
     (λ h. p.others s h)
     (met (turn_of pace.sub_vls pace.last) n s)
 
@@ -81,14 +86,18 @@ module _ (own : ℕ) (plan : LinkPlan) (accepted : ℕ → List Sent) where
       → MatchesSub (of_sub s) (accepted s) progress old → (p : Starts old new)
       → MatchesSub (of_sub s) (accepted s) (started (of_sub s) progress p.message) new
   starts_match s progress old new m p =
-      let size : length (progress.taken ++ p.message ∷ []) ≡ length progress.taken + 1 = length-append progress.taken (p.message ∷ []) in
-      let again : message_fragments (of_sub s) (length progress.taken) p.message ≡ message_fragments (of_sub s) (length progress.taken % 16384) p.message =
+      let size : length (progress.taken ++ p.message ∷ []) ≡ length progress.taken + 1 =
+      length-append progress.taken (p.message ∷ []) in
+      let again : message_fragments (of_sub s) (length progress.taken) p.message ≡ message_fragments (of_sub s)
+      (length progress.taken % 16384) p.message =
       sym (fragments_again own (room_of plan.lmax) A (length progress.taken) p.message) in
       record {
         of = p.of ∙ m.of;
-        left = again ∙ ap (λ (place : ℕ). message_fragments (of_sub s) place p.message) (sym m.place) ∙ ap (λ (o : SubVl). message_fragments o old.place p.message) (sym m.of) ∙ sym p.left;
+        left = again ∙ ap (λ (place : ℕ). message_fragments (of_sub s) place p.message) (sym m.place)
+            ∙ ap (λ (o : SubVl). message_fragments o old.place p.message) (sym m.of) ∙ sym p.left;
         place = let before = m.place in let after = p.place in omega arith;
-        accepted_is = m.accepted_is ∙ ap (λ (w : List Sent). progress.taken ++ w) p.first ∙ sym (append_assoc progress.taken (p.message ∷ []) new.waiting);
+        accepted_is = m.accepted_is ∙ ap (λ (w : List Sent). progress.taken ++ w) p.first
+            ∙ sym (append_assoc progress.taken (p.message ∷ []) new.waiting);
       }
 
   -- What asking came to, whatever looks follow: these sub-VLs and this choice.
@@ -103,7 +112,8 @@ module _ (own : ℕ) (plan : LinkPlan) (accepted : ℕ → List Sent) where
       → IsAsked subs (s ∷ order) chosen after
   asked_pass subs s order chosen after none a = record {
     looks = None ∷ a.looks;
-    is = λ more. ap (λ (b : Bool). cond b (record { subs = subs; chosen = Some s; looks = None ∷ (a.looks ++ more) }) (ask own plan subs order (a.looks ++ more))) none ∙ a.is more;
+    is = λ more. ap (λ (b : Bool). cond b (record { subs = subs; chosen = Some s; looks = None ∷ (a.looks ++ more) })
+        (ask own plan subs order (a.looks ++ more))) none ∙ a.is more;
   }
 
   -- one that has a fragment left is chosen without a look
@@ -111,7 +121,14 @@ module _ (own : ℕ) (plan : LinkPlan) (accepted : ℕ → List Sent) where
       → IsAsked subs (s ∷ order) (Some s) subs
   asked_left subs s order some = record {
     looks = [];
-    is = λ more. ap (λ (b : Bool). cond b (record { subs = subs; chosen = Some s; looks = more }) (by_look (first_look more) (ask own plan subs order (drop 1 more)) (λ message. record { subs = set subs s (started (of_sub s) (progress_at subs s) message); chosen = Some s; looks = drop 1 more }))) some;
+    is = λ more. ap (λ (b : Bool). cond b (record { subs = subs; chosen = Some s; looks = more })
+        (by_look (first_look more) (ask own plan subs order (drop 1 more))
+        (λ message. record {
+          subs = set subs s (started (of_sub s) (progress_at subs s) message);
+          chosen =
+              Some s;
+          looks = drop 1 more;
+        }))) some;
   }
 
   -- one at which a look finds a message is chosen
@@ -120,7 +137,13 @@ module _ (own : ℕ) (plan : LinkPlan) (accepted : ℕ → List Sent) where
       → IsAsked subs (s ∷ order) (Some s) (set subs s (started (of_sub s) (progress_at subs s) message))
   asked_found subs s order message none = record {
     looks = Some message ∷ [];
-    is = λ more. ap (λ (b : Bool). cond b (record { subs = subs; chosen = Some s; looks = Some message ∷ more }) (record { subs = set subs s (started (of_sub s) (progress_at subs s) message); chosen = Some s; looks = more })) none;
+    is = λ more. ap (λ (b : Bool). cond b (record { subs = subs; chosen = Some s; looks = Some message ∷ more })
+        (record {
+          subs = set subs s (started (of_sub s) (progress_at subs s) message);
+          chosen = Some s;
+          looks =
+              more;
+        })) none;
   }
 
   -- What asking one sub-VL that has something comes to.
@@ -146,7 +169,8 @@ module _ (own : ℕ) (plan : LinkPlan) (accepted : ℕ → List Sent) where
         after = set subs s (started (of_sub s) (progress_at subs s) p.message);
         asked = λ order. asked_found subs s order p.message (none_left (progress_at subs s).left (m.left ∙ p.whole));
         matched = subst (λ (progress : Progress). MatchesSub (of_sub s) (accepted s) progress (held_at mid s))
-            (sym (get_or-set_same subs s (started (of_sub s) (progress_at subs s) p.message) no_progress lt)) (starts_match s (progress_at subs s) (held_at old s) (held_at mid s) m p);
+            (sym (get_or-set_same subs s (started (of_sub s) (progress_at subs s) p.message) no_progress lt))
+            (starts_match s (progress_at subs s) (held_at old s) (held_at mid s) m p);
         others = λ t ne. get_or-set_other subs s t (started (of_sub s) (progress_at subs s) p.message) no_progress ne;
         count = length-set subs s (started (of_sub s) (progress_at subs s) p.message);
       })
@@ -171,12 +195,15 @@ module _ (own : ℕ) (plan : LinkPlan) (accepted : ℕ → List Sent) where
       → IsAsked subs (turns_from pace k many) (Some sub) here.after
   asked_from pace subs old mid sub c n m here behind k zero to total = absurd (let w = c.within in omega arith)
   asked_from pace subs old mid sub c n m here zero k (suc many) to total =
-      let at : turn_of pace.sub_vls pace.last k ≡ sub = ap (turn_of pace.sub_vls pace.last) (let e : k ≡ c.turn = omega arith in e) ∙ sym c.is in
-      subst (λ (s : ℕ). IsAsked subs (s ∷ turns_from pace (k + 1) many) (Some sub) here.after) (sym at) (here.asked (turns_from pace (k + 1) many))
+      let at : turn_of pace.sub_vls pace.last k ≡ sub =
+      ap (turn_of pace.sub_vls pace.last) (let e : k ≡ c.turn = omega arith in e) ∙ sym c.is in
+      subst (λ (s : ℕ). IsAsked subs (s ∷ turns_from pace (k + 1) many) (Some sub) here.after) (sym at)
+      (here.asked (turns_from pace (k + 1) many))
   asked_from pace subs old mid sub c n m here (suc behind) k (suc many) to total =
       let s : ℕ = turn_of pace.sub_vls pace.last k in
       let below : k < c.turn = omega arith in
-      let small : turn_of pace.sub_vls pace.last k < plan.sub_vls = let lt = turn_small pace.sub_vls pace.last k (let w = c.within in omega arith) in omega arith in
+      let small : turn_of pace.sub_vls pace.last k < plan.sub_vls = let lt =
+      turn_small pace.sub_vls pace.last k (let w = c.within in omega arith) in omega arith in
       asked_pass subs s (turns_from pace (k + 1) many) (Some sub) here.after
       (passes_none s (progress_at subs s) (held_at old s) (held_at mid s) (m s small) (c.before k below))
       (asked_from pace subs old mid sub c n m here behind (k + 1) many (omega arith) (omega arith))
@@ -186,16 +213,20 @@ module _ (own : ℕ) (plan : LinkPlan) (accepted : ℕ → List Sent) where
       → pace.sub_vls ≡ plan.sub_vls → length subs ≡ plan.sub_vls → AreMatched subs old
       → Chosen pace subs mid sub
   chosen_by pace subs old mid sub c n many m =
-      let small : sub < plan.sub_vls = let lt = turn_small pace.sub_vls pace.last c.turn c.within in let e = c.is in omega arith in
+      let small : sub < plan.sub_vls = let lt = turn_small pace.sub_vls pace.last c.turn c.within in let e =
+      c.is in omega arith in
       let here : Here subs mid sub = asked_here subs old mid sub (omega arith) (m sub small) c.asked in
       record {
         after = here.after;
         asked = asked_from pace subs old mid sub c n m here c.turn 0 pace.sub_vls (omega arith) (omega arith);
         matched = λ s lt. ⊎_elim
-            (λ (e : s ≡ sub). subst (λ (i : ℕ). MatchesSub (of_sub i) (accepted i) (progress_at here.after i) (held_at mid i)) (sym e) here.matched)
+            (λ (e : s ≡ sub). subst
+            (λ (i : ℕ). MatchesSub (of_sub i) (accepted i) (progress_at here.after i) (held_at mid i)) (sym e)
+            here.matched)
             (λ (ne : s ≢ sub).
             subst (λ (progress : Progress). MatchesSub (of_sub s) (accepted s) progress (held_at mid s)) (sym (here.others s ne))
-            (subst (MatchesSub (of_sub s) (accepted s) (progress_at subs s)) (sym (choice_others pace old mid sub c s ne)) (m s lt)))
+            (subst (MatchesSub (of_sub s) (accepted s) (progress_at subs s))
+            (sym (choice_others pace old mid sub c s ne)) (m s lt)))
             (cases_eq s sub);
         count = here.count;
       }
@@ -207,7 +238,8 @@ module _ (own : ℕ) (plan : LinkPlan) (accepted : ℕ → List Sent) where
   asked_none pace subs old new p n m k zero total = record { looks = []; is = λ more. refl }
   asked_none pace subs old new p n m k (suc many) total =
       let s : ℕ = turn_of pace.sub_vls pace.last k in
-      let small : turn_of pace.sub_vls pace.last k < plan.sub_vls = let lt = turn_small pace.sub_vls pace.last k (omega arith) in omega arith in
+      let small : turn_of pace.sub_vls pace.last k < plan.sub_vls = let lt =
+      turn_small pace.sub_vls pace.last k (omega arith) in omega arith in
       asked_pass subs s (turns_from pace (k + 1) many) None subs
       (passes_none s (progress_at subs s) (held_at old s) (held_at new s) (m s small) (p.before k (omega arith)))
       (asked_none pace subs old new p n m (k + 1) many (omega arith))
@@ -236,21 +268,28 @@ module _ (own : ℕ) (plan : LinkPlan) (accepted : ℕ → List Sent) where
 
   -- what a link does, by its regulation
   paced_served : (now : ℕ) (subs : List Progress) (H : List Entry) (looks : List Look)
-      → serve_link now own plan subs H looks ≡ serve_paced now own plan subs H looks (pace_of (bag_micros plan.bag) plan.sub_vls (link_stream plan.id.0 H))
+      → serve_link now own plan subs H looks ≡ serve_paced now own plan subs H looks
+      (pace_of (bag_micros plan.bag) plan.sub_vls (link_stream plan.id.0 H))
   unfolding serve_link
   paced_served now subs H looks = refl
 
   not_due : (now : ℕ) (pace : Pace) (subs : List Progress) (H : List Entry) (looks : List Look)
       → is_due pace.gap pace.last now ≡ false
       → serve_paced now own plan subs H looks pace ≡ record { subs = subs; log = H; looks = looks }
-  not_due now pace subs H looks e = ap (λ (b : Bool). cond b (released_of now pace H (ask own plan subs (turns_from pace 0 pace.sub_vls) looks).chosen (ask own plan subs (turns_from pace 0 pace.sub_vls) looks)) (record { subs = subs; log = H; looks = looks })) e
+  not_due now pace subs H looks e =
+      ap (λ (b : Bool). cond b
+      (released_of now pace H (ask own plan subs (turns_from pace 0 pace.sub_vls) looks).chosen
+      (ask own plan subs (turns_from pace 0 pace.sub_vls) looks)) (record { subs = subs; log = H; looks = looks })) e
 
   is_asked : (now : ℕ) (pace : Pace) (subs : List Progress) (H : List Entry) (looks : List Look) (asked : Asked)
       → is_due pace.gap pace.last now ≡ true
       → ask own plan subs (turns_from pace 0 pace.sub_vls) looks ≡ asked
       → serve_paced now own plan subs H looks pace ≡ released_of now pace H asked.chosen asked
   is_asked now pace subs H looks asked e a =
-      ap (λ (b : Bool). cond b (released_of now pace H (ask own plan subs (turns_from pace 0 pace.sub_vls) looks).chosen (ask own plan subs (turns_from pace 0 pace.sub_vls) looks)) (record { subs = subs; log = H; looks = looks })) e
+      ap (λ (b : Bool). cond b
+      (released_of now pace H (ask own plan subs (turns_from pace 0 pace.sub_vls) looks).chosen
+      (ask own plan subs (turns_from pace 0 pace.sub_vls) looks))
+      (record { subs = subs; log = H; looks = looks })) e
       ∙ ap (λ (x : Asked). released_of now pace H x.chosen x) a
 
   -- a sub-VL that gave its next frame
@@ -278,36 +317,58 @@ module _ (own : ℕ) (plan : LinkPlan) (accepted : ℕ → List Sent) where
       → MatchesLink own plan accepted subs link → IsSameLink link new → pace.sub_vls ≡ plan.sub_vls
       → is_due pace.gap pace.last now ≡ true → number ≡ pace.next
       → ReleasesAt now pace sub number link.subs new.subs lines after
-      → ((looks : List Look) → serve_link now own plan subs (log lines) looks ≡ serve_paced now own plan subs (log lines) looks pace)
+      → ((looks : List Look)
+      → serve_link now own plan subs (log lines) looks ≡ serve_paced now own plan subs (log lines) looks pace)
       → IsServed now subs (log lines) (log after) new
   served_released now sub number pace link new subs lines after m same n due numbered at paced =
       let p = at.picks in
       let r = at.releases in
       let c : Chosen pace subs p.mid sub = chosen_by pace subs link.subs p.mid sub p.choice n m.many m.each in
-      let small : sub < plan.sub_vls = let lt = turn_small pace.sub_vls pace.last p.choice.turn p.choice.within in let e = p.choice.is in omega arith in
+      let small : sub < plan.sub_vls = let lt =
+      turn_small pace.sub_vls pace.last p.choice.turn p.choice.within in let e = p.choice.is in omega arith in
       let next : Progress = record (progress_at c.after sub) { left = drop 1 (progress_at c.after sub).left } in
       let frame : next_frame (progress_at c.after sub) pace.next ≡ r.frame =
-      ap (next_frame (progress_at c.after sub)) (sym numbered) ∙ frame_is (progress_at c.after sub) (held_at p.mid sub) p.held r.frame number (c.matched sub small).left r.gives r.of.size r.of.carries in
+      ap (next_frame (progress_at c.after sub)) (sym numbered)
+      ∙ frame_is (progress_at c.after sub) (held_at p.mid sub) p.held r.frame number
+      (c.matched sub small).left r.gives r.of.size r.of.carries in
       let entered : log lines ++ entry now (next_frame (progress_at c.after sub) pace.next) ∷ [] ≡ log after =
       ap (λ (f : List ℕ). log lines ++ entry now f ∷ []) frame ∙ sym r.enters in
       let inside : sub < length c.after = let count = c.count in let many = m.many in omega arith in
-      let held : held_at new.subs sub ≡ p.held = ap (λ (x : List Held). held_at x sub) p.others ∙ get_or-set_same p.mid sub p.held nothing_held (let count = p.choice.count in let below = p.choice.below in omega arith) in
+      let held : held_at new.subs sub ≡ p.held =
+      ap (λ (x : List Held). held_at x sub) p.others
+      ∙ get_or-set_same p.mid sub p.held nothing_held
+      (let count = p.choice.count in let below = p.choice.below in omega arith) in
       record {
         after = set c.after sub (record (progress_at c.after sub) { left = drop 1 (progress_at c.after sub).left });
         looks = c.asked.looks;
         is = λ more. paced (c.asked.looks ++ more)
-            ∙ is_asked now pace subs (log lines) (c.asked.looks ++ more) (record { subs = c.after; chosen = Some sub; looks = more }) due (c.asked.is more)
-            ∙ ap (λ (J : List Entry). record { subs = set c.after sub (record (progress_at c.after sub) { left = drop 1 (progress_at c.after sub).left }); log = J; looks = more }) entered;
+            ∙ is_asked now pace subs (log lines) (c.asked.looks ++ more)
+            (record { subs = c.after; chosen = Some sub; looks = more }) due (c.asked.is more)
+            ∙ ap (λ (J : List Entry). record {
+              subs =
+                  set c.after sub (record (progress_at c.after sub) { left = drop 1 (progress_at c.after sub).left });
+              log = J;
+              looks = more;
+            }) entered;
         matched = link_after link new subs _ same m (length-set c.after sub next ∙ c.count) (λ s lt. ⊎_elim
             (λ (e : s ≡ sub).
-            let gave : MatchesSub (of_sub sub) (accepted sub) (record (progress_at c.after sub) { left = drop 1 (progress_at c.after sub).left }) p.held =
+            let gave : MatchesSub (of_sub sub) (accepted sub)
+            (record (progress_at c.after sub) { left = drop 1 (progress_at c.after sub).left }) p.held =
             gave_match sub (progress_at c.after sub) (held_at p.mid sub) p.held r.frame (c.matched sub small) r.gives in
-            subst (λ (i : ℕ). MatchesSub (of_sub i) (accepted i) (progress_at (set c.after sub (record (progress_at c.after sub) { left = drop 1 (progress_at c.after sub).left })) i) (held_at new.subs i)) (sym e)
-            (subst (λ (progress : Progress). MatchesSub (of_sub sub) (accepted sub) progress (held_at new.subs sub)) (sym (get_or-set_same c.after sub next no_progress inside))
-            (subst (MatchesSub (of_sub sub) (accepted sub) (record (progress_at c.after sub) { left = drop 1 (progress_at c.after sub).left })) (sym held) gave)))
+            subst (λ (i : ℕ). MatchesSub (of_sub i) (accepted i)
+            (progress_at (set c.after sub
+            (record (progress_at c.after sub) { left = drop 1 (progress_at c.after sub).left })) i)
+            (held_at new.subs i)) (sym e)
+            (subst (λ (progress : Progress). MatchesSub (of_sub sub) (accepted sub) progress (held_at new.subs sub))
+            (sym (get_or-set_same c.after sub next no_progress inside))
+            (subst (MatchesSub (of_sub sub) (accepted sub)
+            (record (progress_at c.after sub) { left = drop 1 (progress_at c.after sub).left })) (sym held)
+            gave)))
             (λ (ne : s ≢ sub).
-            let other : held_at new.subs s ≡ held_at p.mid s = ap (λ (x : List Held). held_at x s) p.others ∙ get_or-set_other p.mid sub s p.held nothing_held ne in
-            subst (λ (progress : Progress). MatchesSub (of_sub s) (accepted s) progress (held_at new.subs s)) (sym (get_or-set_other c.after sub s next no_progress ne))
+            let other : held_at new.subs s ≡ held_at p.mid s =
+            ap (λ (x : List Held). held_at x s) p.others ∙ get_or-set_other p.mid sub s p.held nothing_held ne in
+            subst (λ (progress : Progress). MatchesSub (of_sub s) (accepted s) progress (held_at new.subs s))
+            (sym (get_or-set_other c.after sub s next no_progress ne))
             (subst (MatchesSub (of_sub s) (accepted s) (progress_at c.after s)) (sym other) (c.matched s lt)))
             (cases_eq s sub));
       }
@@ -316,7 +377,8 @@ module _ (own : ℕ) (plan : LinkPlan) (accepted : ℕ → List Sent) where
   served_by : (now : ℕ) (did : Served) (pace : Pace) (link new : LinkState) (subs : List Progress) (lines after : Lines)
       → MatchesLink own plan accepted subs link → IsSameLink link new → pace.sub_vls ≡ plan.sub_vls
       → Serves now pace link.subs new.subs lines after did → is_lost did ≡ false
-      → ((looks : List Look) → serve_link now own plan subs (log lines) looks ≡ serve_paced now own plan subs (log lines) looks pace)
+      → ((looks : List Look)
+      → serve_link now own plan subs (log lines) looks ≡ serve_paced now own plan subs (log lines) looks pace)
       → IsServed now subs (log lines) (log after) new
   served_by now Nothing pace link new subs lines after m same n v kept paced =
       subst (λ (J : List Entry). IsServed now subs (log lines) J new) (ap log (sym v.1)) (⊎_elim
@@ -324,18 +386,26 @@ module _ (own : ℕ) (plan : LinkPlan) (accepted : ℕ → List Sent) where
         after = subs;
         looks = [];
         is = λ more. paced more ∙ not_due now pace subs (log lines) more h.0;
-        matched = link_after link new subs subs same m refl (λ s lt. subst (λ (held : List Held). MatchesSub (of_sub s) (accepted s) (progress_at subs s) (held_at held s)) (sym h.1) (m.each s lt));
+        matched = link_after link new subs subs same m refl
+            (λ s lt. subst (λ (held : List Held). MatchesSub (of_sub s) (accepted s) (progress_at subs s)
+            (held_at held s)) (sym h.1) (m.each s lt));
       })
       (λ h.
-      let none : IsAsked subs (turns_from pace 0 pace.sub_vls) None subs = asked_none pace subs link.subs new.subs h.1 n m.each 0 pace.sub_vls (omega arith) in
+      let none : IsAsked subs (turns_from pace 0 pace.sub_vls) None subs =
+      asked_none pace subs link.subs new.subs h.1 n m.each 0 pace.sub_vls (omega arith) in
       record {
         after = subs;
         looks = none.looks;
-        is = λ more. paced (none.looks ++ more) ∙ is_asked now pace subs (log lines) (none.looks ++ more) (record { subs = subs; chosen = None; looks = more }) h.0 (none.is more);
-        matched = link_after link new subs subs same m refl (λ s lt. subst (MatchesSub (of_sub s) (accepted s) (progress_at subs s)) (sym (none_others pace link.subs new.subs pace.sub_vls h.1 s)) (m.each s lt));
+        is = λ more. paced (none.looks ++ more)
+            ∙ is_asked now pace subs (log lines) (none.looks ++ more)
+            (record { subs = subs; chosen = None; looks = more }) h.0 (none.is more);
+        matched = link_after link new subs subs same m refl
+            (λ s lt. subst (MatchesSub (of_sub s) (accepted s) (progress_at subs s))
+            (sym (none_others pace link.subs new.subs pace.sub_vls h.1 s)) (m.each s lt));
       })
       v.0)
-  served_by now (Released sub number) pace link new subs lines after m same n v kept paced = served_released now sub number pace link new subs lines after m same n v.0 v.1 v.2 paced
+  served_by now (Released sub number) pace link new subs lines after m same n v kept paced =
+      served_released now sub number pace link new subs lines after m same n v.0 v.1 v.2 paced
   served_by now Lost pace link new subs lines after m same n v kept paced = absurd (let e : true ≡ false = kept in cc)
 
   -- one turn, whose regulation is read off the stream
@@ -343,16 +413,19 @@ module _ (own : ℕ) (plan : LinkPlan) (accepted : ℕ → List Sent) where
       → MatchesLink own plan accepted subs link → IsTurn now link new lines after did → is_lost did ≡ false
       → IsServed now subs (log lines) (log after) new
   turn_served now did link new subs lines after m t kept =
-      let gap : pace_of link.pace.gap link.pace.sub_vls (link_stream link.plan.id.0 (log lines)) ≡ pace_of (bag_micros plan.bag) plan.sub_vls (link_stream plan.id.0 (log lines)) =
+      let gap : pace_of link.pace.gap link.pace.sub_vls (link_stream link.plan.id.0 (log lines)) ≡ pace_of
+      (bag_micros plan.bag) plan.sub_vls (link_stream plan.id.0 (log lines)) =
       ap (λ (g : ℕ). pace_of g link.pace.sub_vls (link_stream link.plan.id.0 (log lines))) m.gap
       ∙ ap (λ (n : ℕ). pace_of (bag_micros plan.bag) n (link_stream link.plan.id.0 (log lines))) m.sub_vls
       ∙ ap (λ (p : LinkPlan). pace_of (bag_micros plan.bag) plan.sub_vls (link_stream p.id.0 (log lines))) m.plan in
-      served_by now did (pace_of (bag_micros plan.bag) plan.sub_vls (link_stream plan.id.0 (log lines))) link new subs lines after m t.same refl
+      served_by now did (pace_of (bag_micros plan.bag) plan.sub_vls (link_stream plan.id.0 (log lines)))
+      link new subs lines after m t.same refl
       (subst (λ (p : Pace). Serves now p link.subs new.subs lines after did) gap t.serves) kept
       (paced_served now subs (log lines))
 
 -- What the links came to: their sub-VLs and what was handed over, whatever looks follow.
-record AreServed (now own : ℕ) (plans : List LinkPlan) (accepted : ℕ → ℕ → List Sent) (subs : List (List Progress)) (H J : List Entry) (news : List LinkState) : Type 0 where
+record AreServed (now own : ℕ) (plans : List LinkPlan) (accepted : ℕ → ℕ → List Sent) (subs : List (List Progress))
+    (H J : List Entry) (news : List LinkState) : Type 0 where
   after : List (List Progress)
   looks : List Look
   is : (more : List Look)
@@ -363,7 +436,8 @@ record AreServed (now own : ℕ) (plans : List LinkPlan) (accepted : ℕ → ℕ
       → MatchesLink own (link_plan_at plans k) (accepted k) (get_or after k []) (link_at news k)
 
 -- a link's turn, and then those of the links behind it
-served_more : (now own : ℕ) (plan : LinkPlan) (plans : List LinkPlan) (accepted : ℕ → ℕ → List Sent) (sub : List Progress) (subs : List (List Progress)) (H I J : List Entry) (new : LinkState) (news : List LinkState)
+served_more : (now own : ℕ) (plan : LinkPlan) (plans : List LinkPlan) (accepted : ℕ → ℕ → List Sent)
+    (sub : List Progress) (subs : List (List Progress)) (H I J : List Entry) (new : LinkState) (news : List LinkState)
     → IsServed own plan (accepted 0) now sub H I new
     → AreServed now own plans (λ k. accepted (suc k)) subs I J news
     → AreServed now own (plan ∷ plans) accepted (sub ∷ subs) H J (new ∷ news)
@@ -373,25 +447,38 @@ served_more now own plan plans accepted sub subs H I J new news one rest =
       looks = one.looks ++ rest.looks;
       is = λ more.
           ap (serve_links now own (plan ∷ plans) (sub ∷ subs) H) (append_assoc one.looks rest.looks more)
-          ∙ ap (λ (x : Came (List Progress)). then_links x (serve_links now own plans subs x.log x.looks)) (one.is (rest.looks ++ more))
-          ∙ ap (λ (x : Came (List (List Progress))). then_links (record { subs = one.after; log = I; looks = rest.looks ++ more }) x) (rest.is more);
+          ∙ ap (λ (x : Came (List Progress)). then_links x (serve_links now own plans subs x.log x.looks))
+          (one.is (rest.looks ++ more))
+          ∙ ap (λ (x : Came (List (List Progress))). then_links
+          (record { subs = one.after; log = I; looks = rest.looks ++ more }) x) (rest.is more);
       many = let m = rest.many in omega arith;
       count = let m = rest.count in omega arith;
       matched = each;
     }
   where
     each : (k : ℕ) → k < length (plan ∷ plans)
-        → MatchesLink own (link_plan_at (plan ∷ plans) k) (accepted k) (get_or (one.after ∷ rest.after) k []) (link_at (new ∷ news) k)
+        → MatchesLink own (link_plan_at (plan ∷ plans) k) (accepted k) (get_or (one.after ∷ rest.after) k [])
+        (link_at (new ∷ news) k)
     each zero lt = one.matched
     each (suc k) lt = rest.matched k (omega arith)
 
 -- all turns of a run
-run_served : (now own : ℕ) (plans : List LinkPlan) (accepted : ℕ → ℕ → List Sent) (subs : List (List Progress)) (links news : List LinkState) (lines after : Lines)
+run_served : (now own : ℕ) (plans : List LinkPlan) (accepted : ℕ → ℕ → List Sent) (subs : List (List Progress))
+    (links news : List LinkState) (lines after : Lines)
     → length subs ≡ length plans → length links ≡ length plans
     → ((k : ℕ) → k < length plans → MatchesLink own (link_plan_at plans k) (accepted k) (get_or subs k []) (link_at links k))
     → IsRun now links news lines after → AreServed now own plans accepted subs (log lines) (log after) news
 run_served now own [] accepted subs [] [] lines after many count m r =
-    subst (λ (J : List Entry). AreServed now own [] accepted subs (log lines) J []) (ap log (sym r)) (record { after = []; looks = []; is = λ more. refl; many = refl; count = refl; matched = λ k lt. absurd (omega arith) })
+    subst (λ (J : List Entry). AreServed now own [] accepted subs (log lines) J []) (ap log (sym r))
+    (record {
+      after = [];
+      looks = [];
+      is = λ more. refl;
+      many = refl;
+      count = refl;
+      matched =
+          λ k lt. absurd (omega arith);
+    })
 run_served now own [] accepted subs [] (new ∷ news) lines after many count m r = absurd r
 run_served now own [] accepted subs (link ∷ links) news lines after many count m r = absurd (omega arith)
 run_served now own (plan ∷ plans) accepted [] links news lines after many count m r = absurd (omega arith)
@@ -400,7 +487,8 @@ run_served now own (plan ∷ plans) accepted (sub ∷ subs) (link ∷ links) [] 
 run_served now own (plan ∷ plans) accepted (sub ∷ subs) (link ∷ links) (new ∷ news) lines after many count m r =
     served_more now own plan plans accepted sub subs (log lines) (log r.0) (log after) new news
     (turn_served own plan (accepted 0) now r.1 link new sub lines r.0 (m 0 (omega arith)) r.2 r.3)
-    (run_served now own plans (λ k. accepted (suc k)) subs links news r.0 after (omega arith) (omega arith) (λ k lt. m (suc k) (omega arith)) r.4)
+    (run_served now own plans (λ k. accepted (suc k)) subs links news r.0 after (omega arith) (omega arith)
+    (λ k lt. m (suc k) (omega arith)) r.4)
 
 -- what both networks hold where both stand
 mirrored_lines : (lines : Lines) → IsMirrored lines → lines.a_stands ≡ true → lines.b_stands ≡ true
@@ -428,16 +516,22 @@ unfolding polled
 polled_matches accepted es old new now m run mirrored a b plan moment =
     let s : AreServed now es.plan.end_system es.plan.links accepted es.links (log old.lines) (log new.lines) new.links =
     run_served now es.plan.end_system es.plan.links accepted es.links old.links new.links old.lines new.lines m.many m.count m.links run in
-    let is : serve_links now es.plan.end_system es.plan.links es.links es.log (s.looks ++ []) ≡ record { subs = s.after; log = log new.lines; looks = [] } =
-    ap (λ (H : List Entry). serve_links now es.plan.end_system es.plan.links es.links H (s.looks ++ [])) (sym m.lines.is) ∙ s.is [] in
-    let subs : (serve_links now es.plan.end_system es.plan.links es.links es.log (s.looks ++ [])).subs ≡ s.after = ap (λ (x : Came (List (List Progress))). x.subs) is in
-    let handed : (serve_links now es.plan.end_system es.plan.links es.links es.log (s.looks ++ [])).log ≡ log new.lines = ap (λ (x : Came (List (List Progress))). x.log) is in (
+    let is : serve_links now es.plan.end_system es.plan.links es.links es.log (s.looks ++ [])
+    ≡ record { subs = s.after; log = log new.lines; looks = [] } =
+    ap (λ (H : List Entry). serve_links now es.plan.end_system es.plan.links es.links H (s.looks ++ []))
+    (sym m.lines.is) ∙ s.is [] in
+    let subs : (serve_links now es.plan.end_system es.plan.links es.links es.log (s.looks ++ [])).subs ≡ s.after =
+    ap (λ (x : Came (List (List Progress))). x.subs) is in
+    let handed : (serve_links now es.plan.end_system es.plan.links es.links es.log
+    (s.looks ++ [])).log ≡ log new.lines = ap (λ (x : Came (List (List Progress))). x.log) is in (
       s.looks ++ [],
       record {
         plan = plan ∙ m.plan;
         count = s.count;
         many = ap length subs ∙ s.many;
-        links = λ k lt. subst (λ (x : List (List Progress)). MatchesLink es.plan.end_system (link_plan_at es.plan.links k) (accepted k) (get_or x k []) (link_at new.links k)) (sym subs) (s.matched k lt);
+        links = λ k lt. subst
+            (λ (x : List (List Progress)). MatchesLink es.plan.end_system (link_plan_at es.plan.links k) (accepted k)
+            (get_or x k []) (link_at new.links k)) (sym subs) (s.matched k lt);
         lines = subst (λ (H : List Entry). MatchesLines H new.lines) (sym handed) (mirrored_lines new.lines mirrored a b);
         moment = moment;
       },

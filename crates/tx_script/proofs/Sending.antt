@@ -24,7 +24,8 @@ pub send_taken : (accepted : Accepted) (es : EndSystem) (old : Tx) (id place : �
 send_taken accepted es old id place bytes found none m = record {
   answer = takes;
   is = sym outcome;
-  matches = subst (λ (more : Accepted). Matches more es (tx_sent old place bytes)) (sym more_accepted) (sent_matches accepted es old place bytes m);
+  matches = subst (λ (more : Accepted). Matches more es (tx_sent old place bytes)) (sym more_accepted)
+      (sent_matches accepted es old place bytes m);
 }
   where
     none_first : (first later : Option SendRefusal) → first_refusal first later ≡ None → first ≡ None
@@ -35,13 +36,16 @@ send_taken accepted es old id place bytes found none m = record {
     here = ap (λ (plan : Plan). place_of plan id) (sym m.plan) ∙ found
 
     allowed : length_refusal (port_plan_at es.plan.ports place) (length bytes) ≡ None
-    allowed = ap (λ (plan : Plan). length_refusal (port_plan_at plan.ports place) (length bytes)) (sym m.plan) ∙ none_first _ _ none
+    allowed = ap (λ (plan : Plan). length_refusal (port_plan_at plan.ports place) (length bytes)) (sym m.plan)
+        ∙ none_first _ _ none
 
     outcome : outcome_of es (Send id bytes) takes ≡ Came.Accepted
-    outcome = ap (λ (p : Option ℕ). sent_to es.plan p bytes takes) here ∙ ap (λ (w : Option SendRefusal). passed_on w takes) allowed
+    outcome = ap (λ (p : Option ℕ). sent_to es.plan p bytes takes) here
+        ∙ ap (λ (w : Option SendRefusal). passed_on w takes) allowed
 
     more_accepted : accepted_by es (Send id bytes) takes accepted ≡ with_message es.plan place bytes accepted
-    more_accepted = ap (λ (o : Outcome). taken_by es.plan (place_of es.plan id) bytes o accepted) outcome ∙ ap (λ (p : Option ℕ). taken_by es.plan p bytes Came.Accepted accepted) here
+    more_accepted = ap (λ (o : Outcome). taken_by es.plan (place_of es.plan id) bytes o accepted) outcome
+        ∙ ap (λ (p : Option ℕ). taken_by es.plan p bytes Came.Accepted accepted) here
 
 -- A message that was refused.
 pub send_refused : (accepted : Accepted) (es : EndSystem) (tx : Tx) (id : ℕ) (bytes : List ℕ) (why : Refusal)
@@ -50,7 +54,9 @@ pub send_refused : (accepted : Accepted) (es : EndSystem) (tx : Tx) (id : ℕ) (
 send_refused accepted es tx id bytes why is m = record {
   answer = fills;
   is = is;
-  matches = subst (λ (same : Accepted). Matches same es tx) (sym (ap (λ (o : Outcome). taken_by es.plan (place_of es.plan id) bytes o accepted) (sym is) ∙ not_taken (place_of es.plan id))) m;
+  matches = subst (λ (same : Accepted). Matches same es tx)
+      (sym (ap (λ (o : Outcome). taken_by es.plan (place_of es.plan id) bytes o accepted) (sym is)
+      ∙ not_taken (place_of es.plan id))) m;
 }
   where
     not_taken : (place : Option ℕ) → taken_by es.plan place bytes (Came.Refused why) accepted ≡ accepted
