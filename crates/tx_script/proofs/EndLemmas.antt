@@ -47,6 +47,7 @@ has_run plan text old mid fin tx rest count sums ran wrote =
       wrote = appends_more old mid fin st.notes (streams tx.lines.a tx.lines.b) (transcript st) ran.wrote wrote same;
     }
 
+-- the lines stopped, and the streams were written
 ends_written : (plan : Plan) (text : List ℕ) (old mid fin : Option (List ℕ)) (tx : Tx) (result : Result Sums RunFault)
     → Stops plan text old mid tx result → Appends mid fin (streams tx.lines.a tx.lines.b) → Ends (HasRun plan text old fin) (HasBegun plan text old mid) result
 ends_written plan text old mid fin tx result stops wrote =
@@ -77,6 +78,7 @@ told_or_write : (plan : Plan) (text : List ℕ) (old mid fin : Option (List ℕ)
 told_or_write plan text old mid fin bytes fault told leaves (inl is) = rw is tt
 told_or_write plan text old mid fin bytes fault told leaves (inr (is, wrote)) = rw is (leaves wrote)
 
+-- the run was told a fault
 early : (plan : Plan) (text : List ℕ) (old mid fin : Option (List ℕ)) (tx : Tx) (fault told : RunFault)
     → Stops plan text old mid tx (Err fault) → EndsEarly fault (streams tx.lines.a tx.lines.b) mid fin told → Leaves plan text old fin (Err told)
 early plan text old mid fin tx Fault.Memory told stops (is, kept) = rw is (begun_kept plan text old mid fin stops kept)
@@ -88,7 +90,7 @@ early plan text old mid fin tx Fault.Lines told stops w =
 early plan text old mid fin tx Fault.Read told stops w =
     told_or_write plan text old mid fin (streams tx.lines.a tx.lines.b) Fault.Read told (ends_written plan text old mid fin tx (Err Fault.Read) stops) w
 
--- of the plan and the bytes that were given
+-- the same of the plan and the bytes that were given
 pub leaves_early : (plan own : Plan) (bytes given old mid fin : Option (List ℕ)) (tx : Tx) (fault told : RunFault) → bytes ≡ given → own ≡ plan
     → IfSome bytes (λ text. Stops own text old mid tx (Err fault)) → EndsEarly fault (streams tx.lines.a tx.lines.b) mid fin told → IfSome given (λ text. Leaves plan text old fin (Err told))
 leaves_early plan own bytes given old mid fin tx fault told same is stops w =
@@ -99,6 +101,7 @@ leaves_early plan own bytes given old mid fin tx fault told same is stops w =
     known_early None h = tt
     known_early (Some text) h = early own text old mid fin tx fault told h w
 
+-- the run was told no fault
 pub leaves_ok : (plan own : Plan) (bytes given old mid fin : Option (List ℕ)) (tx : Tx) (sums : Sums) → bytes ≡ given → own ≡ plan
     → IfSome bytes (λ text. Stops own text old mid tx (Ok sums)) → Appends mid fin (streams tx.lines.a tx.lines.b) → IfSome given (λ text. Leaves plan text old fin (Ok sums))
 leaves_ok plan own bytes given old mid fin tx sums same is stops wrote =

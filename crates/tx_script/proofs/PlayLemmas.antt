@@ -57,12 +57,13 @@ finds_first st tx matches =
     let sub = link.each s below in
     ((held_at (link_at tx.links k).subs s).waiting, sub.accepted_is)
 
--- nothing of a fresh link was taken
+-- nothing of a fresh sub-VL was taken
 none_of : (many s : ℕ) → progress_at (replicate many no_progress) s ≡ no_progress
 none_of zero s = refl
 none_of (suc many) zero = refl
 none_of (suc many) (suc s) = none_of many s
 
+-- nothing of a fresh link was taken
 none_at : (links : List LinkPlan) (k s : ℕ) → progress_at (get_or (map fresh_subs links) k []) s ≡ no_progress
 none_at [] k s = refl
 none_at (link ∷ links) zero s = none_of link.sub_vls s

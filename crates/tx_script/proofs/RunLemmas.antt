@@ -29,6 +29,7 @@ pub record IsWithin (sums : Sums) (count : ℕ) : Type 0 where
   pub refused : sums.refused ≤ count
   pub frames : sums.frames ≤ 64 * count
 
+-- one line counts one at most, and 64 frames
 pub within_more : (outcome : Outcome) (sums : Sums) (count : ℕ) → HasFew outcome → IsWithin sums count → IsWithin (counted outcome sums) (count + 1)
 unfolding counted
 within_more Quiet sums count few w = record { accepted = omega (arith, w.accepted); refused = omega (arith, w.refused); frames = omega (arith, w.frames) }
@@ -84,6 +85,7 @@ has_begun plan text old new tx rest count sums ran =
       wrote = ran.wrote;
     }
 
+-- memory was refused
 pub stop_memory : (plan : Plan) (bytes left old mid : Option (List ℕ)) (tx : Tx) (count : ℕ) (sums : Sums) → IsRunning plan bytes left old mid tx count sums → IfSome bytes (λ text. HasBegun plan text old mid)
 stop_memory plan None left old mid tx count sums goes = tt
 stop_memory plan (Some text) left old mid tx count sums goes = has_begun plan text old mid tx goes.rest count sums goes.ran
@@ -106,6 +108,7 @@ stop_known plan text new old mid tx rest count sums Fault.Read few ran reads = r
 stop_known plan text new old mid tx rest count sums Fault.Write few ran reads = tt
 stop_known plan text new old mid tx rest count sums Fault.Memory few ran reads = has_begun plan text old mid tx rest count sums ran
 
+-- the same where the reader's bytes may be unknown
 pub stop_fault : (plan : Plan) (bytes left new old mid : Option (List ℕ)) (tx : Tx) (count : ℕ) (sums : Sums) (fault : RunFault) → count < LINES_LIMIT
     → IsRunning plan bytes left old mid tx count sums → IfSome left (λ known. Reads known new (count + 1) (Err fault)) → IfSome bytes (λ text. Stops plan text old mid tx (Err fault))
 stop_fault plan None left new old mid tx count sums fault few goes reads = tt

@@ -13,7 +13,7 @@ loop-count-init g c = record {
 pub returns-in_err-said : goal.returns-in_err-said
 returns-in_err-said g c =
     let told = err_from_is_err_and c.from_residual.result c.from_residual.ensures.1 in
-    rw (told.1, told.2) (stop_fault _ _ c.loop-count.bytes c.next_said.new.bytes _ _ c.loop-count.emitter c.loop-count.count c.loop-count.sums _ c.loop-count-test.true c.loop-count.invariant.running c.in_err-said.ensures)
+    rw (told.1, told.2) (stop_fault _ _ c.loop-count.bytes c.next_said.new.bytes _ _ c.loop-count.emitter c.loop-count.count c.loop-count.sums _ (omega arith) c.loop-count.invariant.running c.in_err-said.ensures)
 
 pub returns-in_err-outcome : goal.returns-in_err-outcome
 returns-in_err-outcome g c =
