@@ -15,8 +15,11 @@ use Rattle.tx_script.proofs.FrameLemmas.{appends_more, appends_none}
 use Rattle.tx_script.proofs.PlayLemmas.{finds_first, finds_none}
 
 -- what is known of the lines that were run is known at the end
-ends_more : (Ran More : List ℕ → ℕ → Sums → Type 0) (Begun : Type 0) → ((rest : List ℕ) (count : ℕ) (sums : Sums) → Ran rest count sums → More rest count sums) → (result : Result Sums RunFault) → Ends Ran Begun result → Ends More Begun result
-ends_more Ran More Begun more (Ok sums) h = record { count = h.count; ran = more [] h.count sums h.ran; few = h.few }
+ends_more : (Ran More : List ℕ → ℕ → Sums → Type 0) (Begun : Type 0)
+    → ((rest : List ℕ) (count : ℕ) (sums : Sums) → Ran rest count sums → More rest count sums)
+    → (result : Result Sums RunFault) → Ends Ran Begun result → Ends More Begun result
+ends_more Ran More Begun more (Ok sums) h =
+    record { count = h.count; ran = more [] h.count sums h.ran; few = h.few }
 ends_more Ran More Begun more (Err (Fault.Line number fault)) h = record {
   rest = h.rest;
   count = h.count;
@@ -27,34 +30,44 @@ ends_more Ran More Begun more (Err (Fault.Line number fault)) h = record {
   few = h.few;
   first = h.first;
 }
-ends_more Ran More Begun more (Err Fault.Lines) h = record { rest = h.rest; sums = h.sums; ran = more h.rest _ h.sums h.ran; some = h.some }
-ends_more Ran More Begun more (Err Fault.Read) h = record { rest = h.rest; count = h.count; sums = h.sums; ran = more h.rest h.count h.sums h.ran; few = h.few }
+ends_more Ran More Begun more (Err Fault.Lines) h =
+    record { rest = h.rest; sums = h.sums; ran = more h.rest _ h.sums h.ran; some = h.some }
+ends_more Ran More Begun more (Err Fault.Read) h =
+    record { rest = h.rest; count = h.count; sums = h.sums; ran = more h.rest h.count h.sums h.ran; few = h.few }
 ends_more Ran More Begun more (Err Fault.Write) h = tt
 ends_more Ran More Begun more (Err Fault.Memory) h = h
 
 -- the streams follow the notes
-has_run : (plan : Plan) (text : List ℕ) (old mid fin : Option (List ℕ)) (tx : Tx) (rest : List ℕ) (count : ℕ) (sums : Sums)
-    → Running plan text old mid tx rest count sums → Appends mid fin (streams tx.lines.a tx.lines.b) → HasRun plan text old fin rest count sums
+has_run : (plan : Plan) (text : List ℕ) (old mid fin : Option (List ℕ)) (tx : Tx) (rest : List ℕ) (count : ℕ)
+    (sums : Sums)
+    → Running plan text old mid tx rest count sums → Appends mid fin (streams tx.lines.a tx.lines.b)
+    → HasRun plan text old fin rest count sums
 has_run plan text old mid fin tx rest count sums ran wrote =
     let st : Play = play (start plan) ran.turns in
-    let same : transcript st ≡ st.notes ++ streams tx.lines.a tx.lines.b = rw (ran.matches.lines.a, ran.matches.lines.b) refl in
+    let same : transcript st ≡ st.notes ++ streams tx.lines.a tx.lines.b =
+    rw (ran.matches.lines.a, ran.matches.lines.b) refl in
     record {
       turns = ran.turns;
       lines = ran.lines;
       finds = finds_first st tx ran.matches;
       count_is = ran.count_is;
       sums_are = ran.sums_are;
-      wrote = appends_more old mid fin st.notes (streams tx.lines.a tx.lines.b) (transcript st) ran.wrote wrote same;
+      wrote =
+          appends_more old mid fin st.notes (streams tx.lines.a tx.lines.b) (transcript st) ran.wrote wrote same;
     }
 
 -- the lines stopped, and the streams were written
-ends_written : (plan : Plan) (text : List ℕ) (old mid fin : Option (List ℕ)) (tx : Tx) (result : Result Sums RunFault)
-    → Stops plan text old mid tx result → Appends mid fin (streams tx.lines.a tx.lines.b) → Ends (HasRun plan text old fin) (HasBegun plan text old mid) result
+ends_written : (plan : Plan) (text : List ℕ) (old mid fin : Option (List ℕ)) (tx : Tx)
+    (result : Result Sums RunFault)
+    → Stops plan text old mid tx result → Appends mid fin (streams tx.lines.a tx.lines.b)
+    → Ends (HasRun plan text old fin) (HasBegun plan text old mid) result
 ends_written plan text old mid fin tx result stops wrote =
-    ends_more (Running plan text old mid tx) (HasRun plan text old fin) (HasBegun plan text old mid) (λ rest count sums ran. has_run plan text old mid fin tx rest count sums ran wrote) result stops
+    ends_more (Running plan text old mid tx) (HasRun plan text old fin) (HasBegun plan text old mid)
+    (λ rest count sums ran. has_run plan text old mid fin tx rest count sums ran wrote) result stops
 
 -- nothing more was written
-begun_kept : (plan : Plan) (text : List ℕ) (old mid fin : Option (List ℕ)) → HasBegun plan text old mid → Keeps mid fin → HasBegun plan text old fin
+begun_kept : (plan : Plan) (text : List ℕ) (old mid fin : Option (List ℕ)) → HasBegun plan text old mid
+    → Keeps mid fin → HasBegun plan text old fin
 begun_kept plan text old mid fin b kept = record {
   turns = b.turns;
   rest = b.rest;
@@ -66,49 +79,63 @@ begun_kept plan text old mid fin b kept = record {
   wrote = appends_kept old mid fin b.written b.wrote kept;
 }
   where
-    appends_kept : (x y z : Option (List ℕ)) (bytes : List ℕ) → Appends x y bytes → Keeps y z → Appends x z bytes
+    appends_kept : (x y z : Option (List ℕ)) (bytes : List ℕ) → Appends x y bytes → Keeps y z
+        → Appends x z bytes
     appends_kept None y z bytes h k = tt
     appends_kept (Some xs) None z bytes h k = absurd h
     appends_kept (Some xs) (Some ys) None bytes h k = absurd k
     appends_kept (Some xs) (Some ys) (Some zs) bytes h k = k ∙ h
 
 -- a fault that lets the streams be written, unless the writer failed
-told_or_write : (plan : Plan) (text : List ℕ) (old mid fin : Option (List ℕ)) (bytes : List ℕ) (fault told : RunFault) → (Appends mid fin bytes → Leaves plan text old fin (Err fault))
+told_or_write : (plan : Plan) (text : List ℕ) (old mid fin : Option (List ℕ)) (bytes : List ℕ)
+    (fault told : RunFault) → (Appends mid fin bytes → Leaves plan text old fin (Err fault))
     → (told ≡ Fault.Write) ⊎ ((told ≡ fault) × Appends mid fin bytes) → Leaves plan text old fin (Err told)
 told_or_write plan text old mid fin bytes fault told leaves (inl is) = rw is tt
 told_or_write plan text old mid fin bytes fault told leaves (inr (is, wrote)) = rw is (leaves wrote)
 
 -- the run was told a fault
 early : (plan : Plan) (text : List ℕ) (old mid fin : Option (List ℕ)) (tx : Tx) (fault told : RunFault)
-    → Stops plan text old mid tx (Err fault) → EndsEarly fault (streams tx.lines.a tx.lines.b) mid fin told → Leaves plan text old fin (Err told)
-early plan text old mid fin tx Fault.Memory told stops (is, kept) = rw is (begun_kept plan text old mid fin stops kept)
+    → Stops plan text old mid tx (Err fault) → EndsEarly fault (streams tx.lines.a tx.lines.b) mid fin told
+    → Leaves plan text old fin (Err told)
+early plan text old mid fin tx Fault.Memory told stops (is, kept) =
+    rw is (begun_kept plan text old mid fin stops kept)
 early plan text old mid fin tx Fault.Write told stops is = rw is tt
 early plan text old mid fin tx (Fault.Line number fault) told stops w =
-    told_or_write plan text old mid fin (streams tx.lines.a tx.lines.b) (Fault.Line number fault) told (ends_written plan text old mid fin tx (Err (Fault.Line number fault)) stops) w
+    told_or_write plan text old mid fin (streams tx.lines.a tx.lines.b) (Fault.Line number fault) told
+    (ends_written plan text old mid fin tx (Err (Fault.Line number fault)) stops) w
 early plan text old mid fin tx Fault.Lines told stops w =
-    told_or_write plan text old mid fin (streams tx.lines.a tx.lines.b) Fault.Lines told (ends_written plan text old mid fin tx (Err Fault.Lines) stops) w
+    told_or_write plan text old mid fin (streams tx.lines.a tx.lines.b) Fault.Lines told
+    (ends_written plan text old mid fin tx (Err Fault.Lines) stops) w
 early plan text old mid fin tx Fault.Read told stops w =
-    told_or_write plan text old mid fin (streams tx.lines.a tx.lines.b) Fault.Read told (ends_written plan text old mid fin tx (Err Fault.Read) stops) w
+    told_or_write plan text old mid fin (streams tx.lines.a tx.lines.b) Fault.Read told
+    (ends_written plan text old mid fin tx (Err Fault.Read) stops) w
 
 -- the same of the plan and the bytes that were given
-pub leaves_early : (plan own : Plan) (bytes given old mid fin : Option (List ℕ)) (tx : Tx) (fault told : RunFault) → bytes ≡ given → own ≡ plan
-    → IfSome bytes (λ text. Stops own text old mid tx (Err fault)) → EndsEarly fault (streams tx.lines.a tx.lines.b) mid fin told → IfSome given (λ text. Leaves plan text old fin (Err told))
+pub leaves_early : (plan own : Plan) (bytes given old mid fin : Option (List ℕ)) (tx : Tx)
+    (fault told : RunFault) → bytes ≡ given → own ≡ plan
+    → IfSome bytes (λ text. Stops own text old mid tx (Err fault))
+    → EndsEarly fault (streams tx.lines.a tx.lines.b) mid fin told
+    → IfSome given (λ text. Leaves plan text old fin (Err told))
 leaves_early plan own bytes given old mid fin tx fault told same is stops w =
     subst (λ (known : Option (List ℕ)). IfSome known (λ text. Leaves plan text old fin (Err told))) same
     (subst (λ (p : Plan). IfSome bytes (λ text. Leaves p text old fin (Err told))) is (known_early bytes stops))
   where
-    known_early : (known : Option (List ℕ)) → IfSome known (λ text. Stops own text old mid tx (Err fault)) → IfSome known (λ text. Leaves own text old fin (Err told))
+    known_early : (known : Option (List ℕ)) → IfSome known (λ text. Stops own text old mid tx (Err fault))
+        → IfSome known (λ text. Leaves own text old fin (Err told))
     known_early None h = tt
     known_early (Some text) h = early own text old mid fin tx fault told h w
 
 -- the run was told no fault
-pub leaves_ok : (plan own : Plan) (bytes given old mid fin : Option (List ℕ)) (tx : Tx) (sums : Sums) → bytes ≡ given → own ≡ plan
-    → IfSome bytes (λ text. Stops own text old mid tx (Ok sums)) → Appends mid fin (streams tx.lines.a tx.lines.b) → IfSome given (λ text. Leaves plan text old fin (Ok sums))
+pub leaves_ok : (plan own : Plan) (bytes given old mid fin : Option (List ℕ)) (tx : Tx) (sums : Sums)
+    → bytes ≡ given → own ≡ plan
+    → IfSome bytes (λ text. Stops own text old mid tx (Ok sums)) → Appends mid fin (streams tx.lines.a tx.lines.b)
+    → IfSome given (λ text. Leaves plan text old fin (Ok sums))
 leaves_ok plan own bytes given old mid fin tx sums same is stops wrote =
     subst (λ (known : Option (List ℕ)). IfSome known (λ text. Leaves plan text old fin (Ok sums))) same
     (subst (λ (p : Plan). IfSome bytes (λ text. Leaves p text old fin (Ok sums))) is (known_ok bytes stops))
   where
-    known_ok : (known : Option (List ℕ)) → IfSome known (λ text. Stops own text old mid tx (Ok sums)) → IfSome known (λ text. Leaves own text old fin (Ok sums))
+    known_ok : (known : Option (List ℕ)) → IfSome known (λ text. Stops own text old mid tx (Ok sums))
+        → IfSome known (λ text. Leaves own text old fin (Ok sums))
     known_ok None h = tt
     known_ok (Some text) h = ends_written own text old mid fin tx (Ok sums) h wrote
 
@@ -118,7 +145,8 @@ leaves_write None = tt
 leaves_write (Some text) = tt
 
 -- memory was refused before the first line
-pub leaves_none : (plan : Plan) (bytes old : Option (List ℕ)) → IfSome bytes (λ text. Leaves plan text old old (Err Fault.Memory))
+pub leaves_none : (plan : Plan) (bytes old : Option (List ℕ))
+    → IfSome bytes (λ text. Leaves plan text old old (Err Fault.Memory))
 leaves_none plan None old = tt
 leaves_none plan (Some text) old = record {
   turns = [];

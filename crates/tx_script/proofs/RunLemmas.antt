@@ -30,48 +30,80 @@ pub record IsWithin (sums : Sums) (count : ℕ) : Type 0 where
   pub frames : sums.frames ≤ 64 * count
 
 -- one line counts one at most, and 64 frames
-pub within_more : (outcome : Outcome) (sums : Sums) (count : ℕ) → HasFew outcome → IsWithin sums count → IsWithin (counted outcome sums) (count + 1)
+pub within_more : (outcome : Outcome) (sums : Sums) (count : ℕ) → HasFew outcome → IsWithin sums count
+    → IsWithin (counted outcome sums) (count + 1)
 unfolding counted
-within_more Quiet sums count few w = record { accepted = omega (arith, w.accepted); refused = omega (arith, w.refused); frames = omega (arith, w.frames) }
-within_more Accepted sums count few w = record { accepted = omega (arith, w.accepted); refused = omega (arith, w.refused); frames = omega (arith, w.frames) }
-within_more (Refused refusal) sums count few w = record { accepted = omega (arith, w.accepted); refused = omega (arith, w.refused); frames = omega (arith, w.frames) }
-within_more (Released frames) sums count few w = record { accepted = omega (arith, w.accepted); refused = omega (arith, w.refused); frames = omega (arith, w.frames) }
+within_more Quiet sums count few w =
+    record {
+      accepted = omega (arith, w.accepted);
+      refused = omega (arith, w.refused);
+      frames = omega (arith, w.frames);
+    }
+within_more Accepted sums count few w =
+    record {
+      accepted = omega (arith, w.accepted);
+      refused = omega (arith, w.refused);
+      frames = omega (arith, w.frames);
+    }
+within_more (Refused refusal) sums count few w =
+    record {
+      accepted = omega (arith, w.accepted);
+      refused = omega (arith, w.refused);
+      frames = omega (arith, w.frames);
+    }
+within_more (Released frames) sums count few w =
+    record {
+      accepted = omega (arith, w.accepted);
+      refused = omega (arith, w.refused);
+      frames = omega (arith, w.frames);
+    }
 
 -- some lines of a text were run, and these bytes are left
-pub record Goes (plan : Plan) (text : List ℕ) (left old new : Option (List ℕ)) (tx : Tx) (count : ℕ) (sums : Sums) : Type 0 where
+pub record Goes (plan : Plan) (text : List ℕ) (left old new : Option (List ℕ)) (tx : Tx) (count : ℕ)
+    (sums : Sums) : Type 0 where
   pub rest : List ℕ
   pub left_is : left ≡ Some rest
   pub ran : Running plan text old new tx rest count sums
 
 -- the same where the reader's bytes are known
 abbrev pub IsRunning : Plan → (bytes left old new : Option (List ℕ)) → Tx → ℕ → Sums → Type 0
-IsRunning plan bytes left old new tx count sums = IfSome bytes (λ text. Goes plan text left old new tx count sums)
+IsRunning plan bytes left old new tx count sums =
+    IfSome bytes (λ text. Goes plan text left old new tx count sums)
 
 -- nothing was run
-pub running_none : (plan : Plan) (bytes old : Option (List ℕ)) (tx : Tx) → IsFreshTx plan tx → IsRunning plan bytes bytes old old tx 0 (record { accepted = 0; refused = 0; frames = 0 })
+pub running_none : (plan : Plan) (bytes old : Option (List ℕ)) (tx : Tx) → IsFreshTx plan tx
+    → IsRunning plan bytes bytes old old tx 0 (record { accepted = 0; refused = 0; frames = 0 })
 running_none plan None old tx is_fresh = tt
 running_none plan (Some text) old tx is_fresh = record {
   rest = text;
   left_is = refl;
-  ran = record { turns = []; lines = refl; matches = fresh_matches plan tx is_fresh; count_is = refl; sums_are = refl; wrote = appends_none old };
+  ran =
+      record { turns = []; lines = refl; matches = fresh_matches plan tx is_fresh; count_is = refl; sums_are = refl; wrote = appends_none old };
 }
 
 -- a line was read, obeyed and noted
-pub running_turn : (plan : Plan) (bytes left new old mid fin : Option (List ℕ)) (tx tx2 : Tx) (count : ℕ) (sums : Sums) (said : Said) (outcome : Outcome)
-    → IsRunning plan bytes left old mid tx count sums → IfSome left (λ known. Reads known new (count + 1) (Ok (Some said))) → ObeysFor said tx tx2 outcome → Appends mid fin (note_of (count + 1) outcome)
+pub running_turn : (plan : Plan) (bytes left new old mid fin : Option (List ℕ)) (tx tx2 : Tx) (count : ℕ)
+    (sums : Sums) (said : Said) (outcome : Outcome)
+    → IsRunning plan bytes left old mid tx count sums
+    → IfSome left (λ known. Reads known new (count + 1) (Ok (Some said))) → ObeysFor said tx tx2 outcome
+    → Appends mid fin (note_of (count + 1) outcome)
     → IsRunning plan bytes new old fin tx2 (count + 1) (counted outcome sums)
 running_turn plan None left new old mid fin tx tx2 count sums said outcome goes reads obeys wrote = tt
 running_turn plan (Some text) left new old mid fin tx tx2 count sums said outcome goes reads obeys wrote =
     let says : Says goes.rest new said = rw goes.left_is at reads in
-    let obeyed : ObeysFor (meaning_of (first_line goes.rest)) tx tx2 outcome = subst (λ (s : Said). ObeysFor s tx tx2 outcome) says.said_is obeys in
+    let obeyed : ObeysFor (meaning_of (first_line goes.rest)) tx tx2 outcome =
+    subst (λ (s : Said). ObeysFor s tx tx2 outcome) says.said_is obeys in
     record {
       rest = _;
       left_is = says.behind;
-      ran = running_more plan text old mid fin tx tx2 goes.rest count sums (first_line goes.rest) outcome goes.ran says.begins obeyed wrote;
+      ran =
+          running_more plan text old mid fin tx tx2 goes.rest count sums (first_line goes.rest) outcome goes.ran
+          says.begins obeyed wrote;
     }
 
 -- what was written before memory was refused
-pub has_begun : (plan : Plan) (text : List ℕ) (old new : Option (List ℕ)) (tx : Tx) (rest : List ℕ) (count : ℕ) (sums : Sums) → Running plan text old new tx rest count sums → HasBegun plan text old new
+pub has_begun : (plan : Plan) (text : List ℕ) (old new : Option (List ℕ)) (tx : Tx) (rest : List ℕ)
+    (count : ℕ) (sums : Sums) → Running plan text old new tx rest count sums → HasBegun plan text old new
 has_begun plan text old new tx rest count sums ran =
     let st : Play = play (start plan) ran.turns in
     record {
@@ -86,13 +118,17 @@ has_begun plan text old new tx rest count sums ran =
     }
 
 -- memory was refused
-pub stop_memory : (plan : Plan) (bytes left old mid : Option (List ℕ)) (tx : Tx) (count : ℕ) (sums : Sums) → IsRunning plan bytes left old mid tx count sums → IfSome bytes (λ text. HasBegun plan text old mid)
+pub stop_memory : (plan : Plan) (bytes left old mid : Option (List ℕ)) (tx : Tx) (count : ℕ) (sums : Sums)
+    → IsRunning plan bytes left old mid tx count sums → IfSome bytes (λ text. HasBegun plan text old mid)
 stop_memory plan None left old mid tx count sums goes = tt
-stop_memory plan (Some text) left old mid tx count sums goes = has_begun plan text old mid tx goes.rest count sums goes.ran
+stop_memory plan (Some text) left old mid tx count sums goes =
+    has_begun plan text old mid tx goes.rest count sums goes.ran
 
 -- the next line has a fault, or could not be read
-stop_known : (plan : Plan) (text : List ℕ) (new old mid : Option (List ℕ)) (tx : Tx) (rest : List ℕ) (count : ℕ) (sums : Sums) (fault : RunFault) → count < LINES_LIMIT
-    → Running plan text old mid tx rest count sums → Reads rest new (count + 1) (Err fault) → Stops plan text old mid tx (Err fault)
+stop_known : (plan : Plan) (text : List ℕ) (new old mid : Option (List ℕ)) (tx : Tx) (rest : List ℕ)
+    (count : ℕ) (sums : Sums) (fault : RunFault) → count < LINES_LIMIT
+    → Running plan text old mid tx rest count sums → Reads rest new (count + 1) (Err fault)
+    → Stops plan text old mid tx (Err fault)
 stop_known plan text new old mid tx rest count sums (Fault.Line number fault) few ran reads = record {
   rest = rest;
   count = count;
@@ -104,20 +140,27 @@ stop_known plan text new old mid tx rest count sums (Fault.Line number fault) fe
   first = reads.first;
 }
 stop_known plan text new old mid tx rest count sums Fault.Lines few ran reads = absurd reads
-stop_known plan text new old mid tx rest count sums Fault.Read few ran reads = record { rest = rest; count = count; sums = sums; ran = ran; few = omega arith }
+stop_known plan text new old mid tx rest count sums Fault.Read few ran reads =
+    record { rest = rest; count = count; sums = sums; ran = ran; few = omega arith }
 stop_known plan text new old mid tx rest count sums Fault.Write few ran reads = tt
-stop_known plan text new old mid tx rest count sums Fault.Memory few ran reads = has_begun plan text old mid tx rest count sums ran
+stop_known plan text new old mid tx rest count sums Fault.Memory few ran reads =
+    has_begun plan text old mid tx rest count sums ran
 
 -- the same where the reader's bytes may be unknown
-pub stop_fault : (plan : Plan) (bytes left new old mid : Option (List ℕ)) (tx : Tx) (count : ℕ) (sums : Sums) (fault : RunFault) → count < LINES_LIMIT
-    → IsRunning plan bytes left old mid tx count sums → IfSome left (λ known. Reads known new (count + 1) (Err fault)) → IfSome bytes (λ text. Stops plan text old mid tx (Err fault))
+pub stop_fault : (plan : Plan) (bytes left new old mid : Option (List ℕ)) (tx : Tx) (count : ℕ) (sums : Sums)
+    (fault : RunFault) → count < LINES_LIMIT
+    → IsRunning plan bytes left old mid tx count sums
+    → IfSome left (λ known. Reads known new (count + 1) (Err fault))
+    → IfSome bytes (λ text. Stops plan text old mid tx (Err fault))
 stop_fault plan None left new old mid tx count sums fault few goes reads = tt
 stop_fault plan (Some text) left new old mid tx count sums fault few goes reads =
     stop_known plan text new old mid tx goes.rest count sums fault few goes.ran (rw goes.left_is at reads)
 
 -- there is a line too many
-pub stop_lines : (plan : Plan) (bytes left new old mid : Option (List ℕ)) (tx : Tx) (count : ℕ) (sums : Sums) (byte : ℕ) → count ≡ LINES_LIMIT
-    → IsRunning plan bytes left old mid tx count sums → Consumes left new (byte ∷ []) → IfSome bytes (λ text. Stops plan text old mid tx (Err Fault.Lines))
+pub stop_lines : (plan : Plan) (bytes left new old mid : Option (List ℕ)) (tx : Tx) (count : ℕ) (sums : Sums)
+    (byte : ℕ) → count ≡ LINES_LIMIT
+    → IsRunning plan bytes left old mid tx count sums → Consumes left new (byte ∷ [])
+    → IfSome bytes (λ text. Stops plan text old mid tx (Err Fault.Lines))
 stop_lines plan None left new old mid tx count sums byte all goes taken = tt
 stop_lines plan (Some text) left new old mid tx count sums byte all goes taken =
     record {
@@ -127,6 +170,7 @@ stop_lines plan (Some text) left new old mid tx count sums byte all goes taken =
       some = some_left goes.rest new (rw goes.left_is at taken);
     }
   where
-    some_left : (rest : List ℕ) (after : Option (List ℕ)) → Consumes (Some rest) after (byte ∷ []) → 0 < length rest
+    some_left : (rest : List ℕ) (after : Option (List ℕ)) → Consumes (Some rest) after (byte ∷ [])
+        → 0 < length rest
     some_left rest None h = absurd h
     some_left rest (Some xs) h = omega (arith, ap length h)

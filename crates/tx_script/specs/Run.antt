@@ -24,7 +24,8 @@ LinesThen text (turn ∷ turns) rest =
     BeginsWith text turn.line × LinesThen (after_feed text) turns rest
 
 -- some lines of a text were run, what was written is their transcript, and the rest is left
-pub record HasRun (plan : Plan) (text : List ℕ) (old new : Option (List ℕ)) (rest : List ℕ) (count : ℕ) (sums : Sums) : Type 0 where
+pub record HasRun (plan : Plan) (text : List ℕ) (old new : Option (List ℕ)) (rest : List ℕ) (count : ℕ)
+    (sums : Sums) : Type 0 where
   pub turns : List Turn
   pub lines : LinesThen text turns rest
   pub finds : FindsFirst (play (start plan) turns)

@@ -29,7 +29,8 @@ pub record HasLineFault (text : List ℕ) (line number : ℕ) (fault : LineFault
   pub first : IsFirstFault (first_line text) fault
 
 -- what the next line of a text says, which has this number
-abbrev pub Reads : (text : List ℕ) → (left : Option (List ℕ)) → (line : ℕ) → Result (Option Said) RunFault → Type 0
+abbrev pub Reads : (text : List ℕ) → (left : Option (List ℕ)) → (line : ℕ) → Result (Option Said) RunFault
+    → Type 0
 Reads text left line (Ok None) = text ≡ []
 Reads text left line (Ok (Some said)) = Says text left said
 Reads text left line (Err (Line number fault)) = HasLineFault text line number fault
@@ -39,7 +40,8 @@ Reads text left line (Err Write) = ⊥
 Reads text left line (Err Memory) = ⊤
 
 -- some lines of a text were run, their notes are written, the rest is left, and an emitter matches
-pub record Running (plan : Plan) (text : List ℕ) (old new : Option (List ℕ)) (tx : Tx) (rest : List ℕ) (count : ℕ) (sums : Sums) : Type 0 where
+pub record Running (plan : Plan) (text : List ℕ) (old new : Option (List ℕ)) (tx : Tx) (rest : List ℕ)
+    (count : ℕ) (sums : Sums) : Type 0 where
   pub turns : List Turn
   pub lines : LinesThen text turns rest
   pub matches : Matches (play (start plan) turns).accepted (play (start plan) turns).es tx
@@ -58,7 +60,8 @@ run_fault_of line OutOfMemory = Memory
 run_fault_of line fault = Line line fault
 
 -- what is written after a fault, and the fault that is told
-abbrev pub EndsEarly : RunFault → (streams : List ℕ) → (old new : Option (List ℕ)) → (told : RunFault) → Type 0
+abbrev pub EndsEarly : RunFault → (streams : List ℕ) → (old new : Option (List ℕ)) → (told : RunFault)
+    → Type 0
 EndsEarly Memory streams old new told = (told ≡ Memory) × Keeps old new
 EndsEarly Write streams old new told = told ≡ Write
 EndsEarly fault streams old new told = (told ≡ Write) ⊎ ((told ≡ fault) × Appends old new streams)
