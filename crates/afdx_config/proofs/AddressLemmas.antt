@@ -66,8 +66,11 @@ writes_dotted : (a b c d : ℕ) → b < 256 → c < 256 → d < 256
     → writes_numbers (dotted_text a b c d) (a ∷ b ∷ c ∷ d ∷ []) ≡ (a == 10)
 writes_dotted a b c d lb lc ld = with_first (a == 10)
   where
-    with_first : (ten : Bool) → ten && nat_lt b 256 && nat_lt c 256 && nat_lt d 256 && bytes_eq (dotted_text a b c d) (dotted_text a b c d) ≡ ten
-    with_first true = and_from _ _ (and_from _ _ (and_from _ _ (lt-ltb b 256 lb) (lt-ltb c 256 lc)) (lt-ltb d 256 ld)) (bytes_eq_same (dotted_text a b c d))
+    with_first : (ten : Bool)
+        → ten && nat_lt b 256 && nat_lt c 256 && nat_lt d 256 && bytes_eq (dotted_text a b c d) (dotted_text a b c d)
+        ≡ ten
+    with_first true = and_from _ _ (and_from _ _ (and_from _ _ (lt-ltb b 256 lb) (lt-ltb c 256 lc)) (lt-ltb d 256 ld))
+        (bytes_eq_same (dotted_text a b c d))
     with_first false = refl
 
 -- a text that writes an address is read as it, where its first number is 10

@@ -51,23 +51,28 @@ names_sub plan port is has =
     let here = link_plan_at plan.links found.at in
     let one : found.at ≡ has.at = is.links_apart found.at has.at found.within has.within
     (named port here found.passes ∙ sym has.over.id) in
-    let below : port.sub < here.sub_vls = subst (λ (k : ℕ). port.sub < (link_plan_at plan.links k).sub_vls) (sym one) has.over.sub in
+    let below : port.sub < here.sub_vls =
+    subst (λ (k : ℕ). port.sub < (link_plan_at plan.links k).sub_vls) (sym one) has.over.sub in
     ap (λ (o : Option LinkPlan). option_map_or (λ link. nat_le link.sub_vls port.sub) o false) found.found
     ∙ lt-leb here.sub_vls port.sub below
 
 -- a sampling port's greatest message fits
-long_one : (plan : Plan) (port : PortPlan) (kind : Kind) → port.kind ≡ kind → IsPlan plan → Contains plan.ports port → HasLink plan.links port
-    → (is_sampling kind && option_map_or (λ link. nat_lt (link.lmax - 47) port.max) (find (is_link_of port) plan.links) false) ≡ false
+long_one : (plan : Plan) (port : PortPlan) (kind : Kind) → port.kind ≡ kind → IsPlan plan → Contains plan.ports port
+    → HasLink plan.links port
+    → (is_sampling kind && option_map_or (λ link. nat_lt (link.lmax - 47) port.max)
+    (find (is_link_of port) plan.links) false) ≡ false
 long_one plan port Queuing kind is member has = refl
 long_one plan port Sampling kind is member has =
     let found = linked plan port has in
     let here = link_plan_at plan.links found.at in
-    let most = is.sampling port here member (Contains-get_or plan.links found.at _ found.within) kind (named port here found.passes) in
+    let most = is.sampling port here member (Contains-get_or plan.links found.at _ found.within) kind
+    (named port here found.passes) in
     ap (λ (o : Option LinkPlan). option_map_or (λ link. nat_lt (link.lmax - 47) port.max) o false) found.found
     ∙ le-ltb (here.lmax - 47) port.max most
 
 -- one destination of one link
-destinations : (v w : ℕ) (s t : Option (List ℕ)) → v ≡ w → are_one_destination s t ≡ true → destination_of v s ≡ destination_of w t
+destinations : (v w : ℕ) (s t : Option (List ℕ)) → v ≡ w → are_one_destination s t ≡ true
+    → destination_of v s ≡ destination_of w t
 destinations v w None None same one = ap (λ (n : ℕ). destination_of n None) same
 destinations v w None (Some b) same one = cc
 destinations v w (Some a) None same one = cc
@@ -109,7 +114,8 @@ one_address (Some a) None one = cc
 one_address (Some a) (Some b) one = record { address = b; first = ap Some ((bytes_eq-Decides a b).0 one); second = refl }
 
 -- ports at two places of a valid plan share no address
-no_share : (plan : Plan) (p q : PortPlan) → IsPlan plan → Contains plan.ports p → Contains plan.ports q → shares_unicast p q ≡ true → ⊥
+no_share : (plan : Plan) (p q : PortPlan) → IsPlan plan → Contains plan.ports p → Contains plan.ports q
+    → shares_unicast p q ≡ true → ⊥
 no_share plan p q is in_p in_q shares =
     let (two, address) = and_parts _ (are_one_address p.unicast q.unicast) shares in
     let (link, partition) = and_parts (not (p.vl.0 == q.vl.0)) (p.partition == q.partition) two in
@@ -141,11 +147,17 @@ faultless plan is SamplingTooLong = list_any_none (is_too_long plan.links) plan.
     long_one plan port port.kind refl is (Contains-get_or plan.ports k d below) (is.linked k d below))
 faultless plan is SameFlow = no_pair has_same_flow plan.ports (port_plan_at [] 0) (λ i j before below.
     false_from_ne_true _ (λ one. apart_ports plan i j is before below
-    (is.flows_apart (port_plan_at plan.ports i) (port_plan_at plan.ports j) (Contains-get_or plan.ports i (port_plan_at [] 0) (omega arith)) (Contains-get_or plan.ports j (port_plan_at [] 0) below) (agree (port_plan_at plan.ports i) (port_plan_at plan.ports j) one))))
+    (is.flows_apart (port_plan_at plan.ports i) (port_plan_at plan.ports j)
+    (Contains-get_or plan.ports i (port_plan_at [] 0) (omega arith))
+    (Contains-get_or plan.ports j (port_plan_at [] 0) below)
+    (agree (port_plan_at plan.ports i) (port_plan_at plan.ports j) one))))
 faultless plan is SharedUnicast = no_pair shares_unicast plan.ports (port_plan_at [] 0) (λ i j before below.
-    false_from_ne_true _ (no_share plan (port_plan_at plan.ports i) (port_plan_at plan.ports j) is (Contains-get_or plan.ports i (port_plan_at [] 0) (omega arith)) (Contains-get_or plan.ports j (port_plan_at [] 0) below)))
+    false_from_ne_true _ (no_share plan (port_plan_at plan.ports i) (port_plan_at plan.ports j) is
+    (Contains-get_or plan.ports i (port_plan_at [] 0) (omega arith))
+    (Contains-get_or plan.ports j (port_plan_at [] 0) below)))
 faultless plan is Limit = or_from _ _
-    (or_from _ _ (no_fault_count 64 (length plan.links) is.links.0 is.links.1) (no_fault_count 256 (length plan.ports) is.ports.0 is.ports.1))
+    (or_from _ _ (no_fault_count 64 (length plan.links) is.links.0 is.links.1)
+    (no_fault_count 256 (length plan.ports) is.ports.0 is.ports.1))
     (list_any_none (is_crowded plan.ports) plan.ports (λ k d below.
     let port = get_or plan.ports k d in le-ltb 64 (ports_on plan.ports port.vl.0 port.sub) (is.few_ports port.vl.0 port.sub)))
 faultless plan is _ = refl

@@ -11,7 +11,8 @@ use Rattle.afdx_config.specs.declared.fault.ConfigFault.{ConfigFault}
 use Rattle.afdx_config.specs.declared.fault.ConfigFault.TheVariants.{Toml, MissingKey, UnknownKey, WrongKind, OutOfRange, BadBag, DuplicateVl, DuplicatePort, NoSuchVl, NoSuchSub, SamplingTooLong, SameFlow, SharedUnicast, Limit, Memory}
 
 -- none is found where each fails the test
-none_step : {X : Type 0} (p : X → Bool) (x : X) (xs : List X) (b : Bool) → p x ≡ b → cond b (Some x) (find p xs) ≡ None → (p x ≡ false) × (find p xs ≡ None)
+none_step : {X : Type 0} (p : X → Bool) (x : X) (xs : List X) (b : Bool) → p x ≡ b
+    → cond b (Some x) (find p xs) ≡ None → (p x ≡ false) × (find p xs ≡ None)
 none_step p x xs true e k = cc
 none_step p x xs false e k = (e, k)
 
@@ -26,7 +27,8 @@ Rising [] = ⊤
 Rising (x ∷ xs) = AllByRecursion (λ y. fault_number x < fault_number y) xs × Rising xs
 
 -- no number behind x is below that of x
-none_below : (p : ConfigFault → Bool) (x : ConfigFault) (xs : List ConfigFault) → AllByRecursion (λ y. fault_number x < fault_number y) xs
+none_below : (p : ConfigFault → Bool) (x : ConfigFault) (xs : List ConfigFault)
+    → AllByRecursion (λ y. fault_number x < fault_number y) xs
     → AllByRecursion (λ y. fault_number y < fault_number x → p y ≡ false) xs
 none_below p x [] h = tt
 none_below p x (y ∷ ys) h = (λ l. absurd (omega (arith, h.0)), none_below p x ys h.1)
@@ -36,15 +38,18 @@ abbrev pub Least : (ConfigFault → Bool) → List ConfigFault → ConfigFault �
 Least p xs e = (p e ≡ true) × AllByRecursion (λ f. fault_number f < fault_number e → p f ≡ false) xs
 
 -- the first, or the least behind it
-unfolding_least : (p : ConfigFault → Bool) (x : ConfigFault) (xs : List ConfigFault) (e : ConfigFault) (b : Bool) → p x ≡ b → cond b (Some x) (find p xs) ≡ Some e
+unfolding_least : (p : ConfigFault → Bool) (x : ConfigFault) (xs : List ConfigFault) (e : ConfigFault) (b : Bool)
+    → p x ≡ b → cond b (Some x) (find p xs) ≡ Some e
     → AllByRecursion (λ y. fault_number x < fault_number y) xs → (find p xs ≡ Some e → Least p xs e) → Least p (x ∷ xs) e
 unfolding_least p x xs e true is found rising rest =
     let same : x ≡ e = same_Some x e found in
-    subst (λ (y : ConfigFault). (p y ≡ true) × AllByRecursion (λ f. fault_number f < fault_number y → p f ≡ false) (x ∷ xs)) same (is, (λ l. absurd (omega arith), none_below p x xs rising))
+    subst (λ (y : ConfigFault). (p y ≡ true) × AllByRecursion (λ f. fault_number f < fault_number y → p f ≡ false)
+    (x ∷ xs)) same (is, (λ l. absurd (omega arith), none_below p x xs rising))
 unfolding_least p x xs e false is found rising rest = let (holds, below) = rest found in (holds, (λ l. is, below))
 
 -- what is found first in such a list is the least
-pub find_least : (p : ConfigFault → Bool) (xs : List ConfigFault) (e : ConfigFault) → Rising xs → find p xs ≡ Some e → Least p xs e
+pub find_least : (p : ConfigFault → Bool) (xs : List ConfigFault) (e : ConfigFault) → Rising xs → find p xs ≡ Some e
+    → Least p xs e
 find_least p [] e rising found = cc
 find_least p (x ∷ xs) e rising found = unfolding_least p x xs e (p x) refl found rising.0 (λ k. find_least p xs e rising.1 k)
 
@@ -53,7 +58,8 @@ all_rising : Rising all_faults
 all_rising = search (rules, arith)
 
 -- the first fault of a document is its least
-pub least_of : (doc : Members) (e : ConfigFault) → find (λ f. shows f doc) all_faults ≡ Some e → (f : ConfigFault) → fault_number f < fault_number e → shows f doc ≡ false
+pub least_of : (doc : Members) (e : ConfigFault) → find (λ f. shows f doc) all_faults ≡ Some e → (f : ConfigFault)
+    → fault_number f < fault_number e → shows f doc ≡ false
 least_of doc e found MissingKey l = (find_least (λ f. shows f doc) all_faults e all_rising found).1.0 l
 least_of doc e found UnknownKey l = (find_least (λ f. shows f doc) all_faults e all_rising found).1.1.0 l
 least_of doc e found WrongKind l = (find_least (λ f. shows f doc) all_faults e all_rising found).1.1.1.0 l
@@ -96,7 +102,8 @@ has Toml text doc reads h = cc
 has f text doc reads h = (doc, reads, h)
 
 -- a text is read as one document, so that no other shows the fault
-other : (f : ConfigFault) (text : List ℕ) (doc : Members) → Reads text doc → shows f doc ≡ false → ((d : Members) × Reads text d × (shows f d ≡ true)) → ⊥
+other : (f : ConfigFault) (text : List ℕ) (doc : Members) → Reads text doc → shows f doc ≡ false
+    → ((d : Members) × Reads text d × (shows f d ≡ true)) → ⊥
 other f text doc reads h (d, r, k) =
     let same : d ≡ doc = same_Some d doc (sym r.1 ∙ reads.1) in
     let now : shows f doc ≡ true = subst (λ (x : Members). shows f x ≡ true) same k in cc
@@ -112,7 +119,8 @@ find_later p [] ys h = refl
 find_later p (x ∷ xs) ys h = let (e, k) = none_step p x xs (p x) refl h in rw e (find_later p xs ys k)
 
 -- the first of a list, or one behind it
-first_step : {X : Type 0} (p : X → Bool) (x : X) (xs ys : List X) (e : X) (b : Bool) → p x ≡ b → cond b (Some x) (find p xs) ≡ Some e → (find p xs ≡ Some e → find p (xs ++ ys) ≡ Some e)
+first_step : {X : Type 0} (p : X → Bool) (x : X) (xs ys : List X) (e : X) (b : Bool) → p x ≡ b
+    → cond b (Some x) (find p xs) ≡ Some e → (find p xs ≡ Some e → find p (xs ++ ys) ≡ Some e)
     → cond b (Some x) (find p (xs ++ ys)) ≡ Some e
 first_step p x xs ys e true is h rest = h
 first_step p x xs ys e false is h rest = rest h
@@ -132,7 +140,12 @@ answer_ok text doc (Err e) reads fine is = tt
 pub answer_err : (text : List ℕ) (doc : Members) (r : Result Plan ConfigFault) → Reads text doc
     → IfErr r (λ e. e ≢ Memory → find (λ f. shows f doc) all_faults ≡ Some e) → IfErr r (λ e. e ≢ Memory → IsLeastFault text e)
 answer_err text doc (Ok c) reads h = tt
-answer_err text doc (Err e) reads h = λ other_than. (has e text doc reads (shown_of doc e (h other_than)), λ f l. hasnt f text doc reads (least_of doc e (h other_than) f l))
+answer_err text doc (Err e) reads h =
+    λ other_than. (
+      has e text doc reads (shown_of doc e (h other_than)),
+      λ f l. hasnt f text doc reads
+          (least_of doc e (h other_than) f l),
+    )
 
 -- no number is below that of Toml
 pub toml_least : (text : List ℕ) → HasFault Toml text → IsLeastFault text Toml

@@ -13,7 +13,8 @@ within lo hi (negsuc n) h = cc
 
 -- the number of a value that is there, of its kind and in its range
 pub number_of : (lo hi : ℕ) (o : Option Data) → is_none o ≡ false → option_map_or (λ d. is_none (as_integer d)) o false ≡ false
-    → option_map_or (lies_outside lo hi) (option_and_then as_integer o) false ≡ false → (n : ℕ) × (option_and_then as_integer o ≡ Some (pos n)) × (lo ≤ n) × (n ≤ hi)
+    → option_map_or (lies_outside lo hi) (option_and_then as_integer o) false ≡ false
+    → (n : ℕ) × (option_and_then as_integer o ≡ Some (pos n)) × (lo ≤ n) × (n ≤ hi)
 number_of lo hi None a b c = cc
 number_of lo hi (Some (integer z)) a b c = let (n, e, l, h) = within lo hi z c in (n, ap Some e, l, h)
 number_of lo hi (Some (string s)) a b c = cc

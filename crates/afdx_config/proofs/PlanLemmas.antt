@@ -22,7 +22,8 @@ use Rattle.afdx_config.specs.Faults.{plan_shows, plan_faults}
 use Rattle.afdx_config.proofs.LeastLemmas.{find_none-list}
 
 -- no element passes a test that none passes
-none_at : {X : Type 0} (p : X → Bool) (xs : List X) (k : ℕ) (d : X) → list_any p xs ≡ false → k < length xs → p (get_or xs k d) ≡ false
+none_at : {X : Type 0} (p : X → Bool) (xs : List X) (k : ℕ) (d : X) → list_any p xs ≡ false → k < length xs
+    → p (get_or xs k d) ≡ false
 none_at p xs k d none below =
     false_from_ne_true (p (get_or xs k d)) (λ passes. let found = list_any_at p xs k d below passes in cc)
 
@@ -38,7 +39,8 @@ pair_at related (x ∷ xs) (suc i) (suc j) d none before below =
 
 -- where related elements never stand at two places, they stand at one
 one_place : {X : Type 0} (related : X → X → Bool) (xs : List X) (i j : ℕ) (d : X) → has_pair related xs ≡ false
-    → i < length xs → j < length xs → related (get_or xs i d) (get_or xs j d) ≡ true → related (get_or xs j d) (get_or xs i d) ≡ true → i ≡ j
+    → i < length xs → j < length xs → related (get_or xs i d) (get_or xs j d) ≡ true
+    → related (get_or xs j d) (get_or xs i d) ≡ true → i ≡ j
 one_place related xs i j d none in_i in_j one other = elim (cases_order i j) [
   | inl same ↦ same
   | inr apart ↦ elim apart [
@@ -82,7 +84,8 @@ named port link is =
     let vl : ℕ → VlId = λ n. record { 0 = n } in ap vl (eqb-true link.id.0 port.vl.0 is)
 
 -- a port's link and sub-VL are there
-has_link : (links : List LinkPlan) (port : PortPlan) → names_no_link links port ≡ false → names_no_sub links port ≡ false → HasLink links port
+has_link : (links : List LinkPlan) (port : PortPlan) → names_no_link links port ≡ false
+    → names_no_sub links port ≡ false → HasLink links port
 has_link links port linked sub =
     let found = found_at (is_link_of port) links (not-false _ linked) in
     let here = link_plan_at links found.at in
@@ -126,7 +129,8 @@ fits links port link apart linked short member kind id =
     let it : here ≡ link = ap (link_plan_at links) one ∙ same in
     let long : nat_lt (here.lmax - 47) port.max ≡ false =
     sym (ap (λ (o : Option LinkPlan). option_map_or (λ l. nat_lt (l.lmax - 47) port.max) o false) found.found)
-    ∙ sym (ap (λ (k : Kind). is_sampling k && option_map_or (λ l. nat_lt (l.lmax - 47) port.max) (find (is_link_of port) links) false) kind)
+    ∙ sym (ap (λ (k : Kind). is_sampling k && option_map_or (λ l. nat_lt (l.lmax - 47) port.max)
+    (find (is_link_of port) links) false) kind)
     ∙ short in
     subst (λ (l : LinkPlan). port.max ≤ l.lmax - 47) it (ltb-false (here.lmax - 47) port.max long)
 
@@ -233,7 +237,8 @@ few ports vl sub none = elim (cases_lt 64 (ports_on ports vl sub)) [
       let same : ports_on ports port.vl.0 port.sub ≡ ports_on ports vl sub =
       ap (λ (v : ℕ). ports_on ports v port.sub) (eqb-true port.vl.0 vl link)
       ∙ ap (ports_on ports vl) (eqb-true port.sub sub index) in
-      let most = ltb-false 64 (ports_on ports port.vl.0 port.sub) (none_at (is_crowded ports) ports there.at _ none there.within) in
+      let most = ltb-false 64 (ports_on ports port.vl.0 port.sub)
+      (none_at (is_crowded ports) ports there.at _ none there.within) in
       omega arith
   | inr fine ↦ fine
 ]
@@ -272,8 +277,10 @@ valid plan end each_link each_port none =
           (none_at (names_no_link plan.links) plan.ports k d no_link below)
           (none_at (names_no_sub plan.links) plan.ports k d no_sub below);
       sampling = λ p link in_p in_link kind id. fits plan.links p link duplicate_vl
-          (of_member (λ port. names_no_link plan.links port ≡ false) plan.ports p (λ k d below. none_at (names_no_link plan.links) plan.ports k d no_link below) in_p)
-          (of_member (λ port. is_too_long plan.links port ≡ false) plan.ports p (λ k d below. none_at (is_too_long plan.links) plan.ports k d too_long below) in_p)
+          (of_member (λ port. names_no_link plan.links port ≡ false) plan.ports p
+          (λ k d below. none_at (names_no_link plan.links) plan.ports k d no_link below) in_p)
+          (of_member (λ port. is_too_long plan.links port ≡ false) plan.ports p
+          (λ k d below. none_at (is_too_long plan.links) plan.ports k d too_long below) in_p)
           in_link kind id;
       flows_apart = λ p q in_p in_q same.
           let is_p = of_member IsPort plan.ports p each_port in_p in

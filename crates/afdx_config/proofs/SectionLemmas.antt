@@ -11,7 +11,8 @@ use Rattle.afdx_config.specs.Entries.{has_key_besides, tables_among}
 use Rattle.afdx_config.specs.Document.{has_other_item}
 
 -- a table at the end
-pub tables_among-push : (ds : Items) (d : Data) → tables_among (push_item ds d) ≡ tables_among ds ++ tables_among (item d no_items)
+pub tables_among-push : (ds : Items) (d : Data) → tables_among (push_item ds d) ≡ tables_among ds
+    ++ tables_among (item d no_items)
 tables_among-push no_items d = refl
 tables_among-push (item (string s) ds) d = tables_among-push ds d
 tables_among-push (item (integer z) ds) d = tables_among-push ds d
@@ -22,7 +23,8 @@ tables_among-push (item (array xs) ds) d = tables_among-push ds d
 tables_among-push (item (table ms) ds) d = ap (λ rest. ms ∷ rest) (tables_among-push ds d)
 
 -- a key that isn't known, among the keys of the map
-pub has_key_besides-keys : (known : List ℕ → Bool) (es : List (String Global × Value)) → list_any (λ k. not (known (string_bytes k))) (keys_of es) ≡ has_key_besides known (members_view es)
+pub has_key_besides-keys : (known : List ℕ → Bool) (es : List (String Global × Value))
+    → list_any (λ k. not (known (string_bytes k))) (keys_of es) ≡ has_key_besides known (members_view es)
 has_key_besides-keys known [] = refl
 has_key_besides-keys known (e ∷ es) = ap (λ b. not (known (string_bytes e.0)) || b) (has_key_besides-keys known es)
 
@@ -30,7 +32,9 @@ has_key_besides-keys known (e ∷ es) = ap (λ b. not (known (string_bytes e.0))
 pub tables_among-next : (vs : List Value) (i : ℕ) (v : Value) → i < length vs → v ≡ get_or vs i v
     → tables_among (items_view (take (i + 1) vs)) ≡ tables_among (items_view (take i vs)) ++ tables_among (item (view v) no_items)
 tables_among-next vs i v h is =
-    ap (λ xs. tables_among (items_view xs)) (take_more vs i v h) ∙ ap (λ w. tables_among (items_view (take i vs ++ w ∷ []))) (sym is) ∙ ap tables_among (items_view-push (take i vs) v)
+    ap (λ xs. tables_among (items_view xs)) (take_more vs i v h)
+    ∙ ap (λ w. tables_among (items_view (take i vs ++ w ∷ []))) (sym is)
+    ∙ ap tables_among (items_view-push (take i vs) v)
     ∙ tables_among-push (items_view (take i vs)) (view v)
 
 -- one value is a table or none
@@ -54,13 +58,16 @@ tables_among-none (datetime s) e = refl
 tables_among-none (array s) e = refl
 
 -- one more row, or none
-pub rows_step-some : {X : Type 0} (f : X → Members) (old new : List X) (x : X) (d : Data) (before after : List Members) → new ≡ old ++ x ∷ [] → map f old ≡ before
+pub rows_step-some : {X : Type 0} (f : X → Members) (old new : List X) (x : X) (d : Data)
+    (before after : List Members) → new ≡ old ++ x ∷ [] → map f old ≡ before
     → after ≡ before ++ tables_among (item d no_items) → Some (f x) ≡ as_table d → map f new ≡ after
 rows_step-some f old new x d before after grown was is found =
-    ap (map f) grown ∙ map-append f old (x ∷ []) ∙ ap (λ b. b ++ f x ∷ []) was ∙ sym (is ∙ ap (λ t. before ++ t) (tables_among-some d (f x) found))
+    ap (map f) grown ∙ map-append f old (x ∷ []) ∙ ap (λ b. b ++ f x ∷ []) was
+    ∙ sym (is ∙ ap (λ t. before ++ t) (tables_among-some d (f x) found))
 
 -- or no row more
-pub rows_step-none : {X : Type 0} (f : X → Members) (old new : List X) (d : Data) (before after : List Members) → new ≡ old → map f old ≡ before
+pub rows_step-none : {X : Type 0} (f : X → Members) (old new : List X) (d : Data) (before after : List Members)
+    → new ≡ old → map f old ≡ before
     → after ≡ before ++ tables_among (item d no_items) → None ≡ as_table d → map f new ≡ after
 rows_step-none f old new d before after same was is found =
     ap (map f) same ∙ was ∙ sym (is ∙ ap (λ t. before ++ t) (tables_among-none d found) ∙ append-nil before)

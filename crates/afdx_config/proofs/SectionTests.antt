@@ -14,12 +14,14 @@ list_any-map p f [] = refl
 list_any-map p f (x ∷ xs) = ap (λ b. p (f x) || b) (list_any-map p f xs)
 
 -- the same at an option
-pub option_test-map : {A B : Type 0} (p : B → Bool) (f : A → B) (o : Option A) → option_map_or p (option_map f o) false ≡ option_map_or (λ x. p (f x)) o false
+pub option_test-map : {A B : Type 0} (p : B → Bool) (f : A → B) (o : Option A)
+    → option_map_or p (option_map f o) false ≡ option_map_or (λ x. p (f x)) o false
 option_test-map p f None = refl
 option_test-map p f (Some x) = refl
 
 -- a test of the tables that were found is one of the document
-pub test_of_document : (doc : Members) (s : Sections) (a b c : Members → Bool) → AreSectionsOf doc s → test_of a b c s ≡ some_table a b c doc
+pub test_of_document : (doc : Members) (s : Sections) (a b c : Members → Bool) → AreSectionsOf doc s
+    → test_of a b c s ≡ some_table a b c doc
 test_of_document doc s a b c are =
     let e = sym (option_test-map a (λ t. table_view t.now) s.end) ∙ ap (λ o. option_map_or a o false) are.end_is in
     let l = sym (list_any-map b (λ r. table_view r.now) s.links.items) ∙ ap (list_any b) are.links_are in
@@ -27,5 +29,6 @@ test_of_document doc s a b c are =
     rw (e, l, p) refl
 
 -- the same of the links alone
-pub links_of_document : (doc : Members) (s : Sections) (b : Members → Bool) → AreSectionsOf doc s → list_any (λ r. b (table_view r.now)) s.links.items ≡ list_any b (rows_at (codes "vl") doc)
+pub links_of_document : (doc : Members) (s : Sections) (b : Members → Bool) → AreSectionsOf doc s
+    → list_any (λ r. b (table_view r.now)) s.links.items ≡ list_any b (rows_at (codes "vl") doc)
 links_of_document doc s b are = sym (list_any-map b (λ r. table_view r.now) s.links.items) ∙ ap (list_any b) are.links_are

@@ -35,8 +35,12 @@ at_first a b c d i inside =
 -- the address is the link's or one that begins with 10
 destination_kind : (vl : ℕ) (unicast : Option (List ℕ)) (bytes : List ℕ) → IfSome unicast IsUnicast
     → slice_index bytes 4 ≡ vl / 256 % 256 → slice_index bytes 5 ≡ vl % 256
-    → (slice_index bytes 30 ≡ get_or (destination_of vl unicast) 0 0) × (slice_index bytes 31 ≡ get_or (destination_of vl unicast) 1 0) × (slice_index bytes 32 ≡ get_or (destination_of vl unicast) 2 0) × (slice_index bytes 33 ≡ get_or (destination_of vl unicast) 3 0)
-    → ((slice_index bytes 30 ≡ 224) × (slice_index bytes 31 ≡ 224) × (slice_index bytes 32 ≡ slice_index bytes 4) × (slice_index bytes 33 ≡ slice_index bytes 5)) ⊎ (slice_index bytes 30 ≡ 10)
+    → (slice_index bytes 30 ≡ get_or (destination_of vl unicast) 0 0) ×
+    (slice_index bytes 31 ≡ get_or (destination_of vl unicast) 1 0) ×
+    (slice_index bytes 32 ≡ get_or (destination_of vl unicast) 2 0) ×
+    (slice_index bytes 33 ≡ get_or (destination_of vl unicast) 3 0)
+    → ((slice_index bytes 30 ≡ 224) × (slice_index bytes 31 ≡ 224) × (slice_index bytes 32 ≡ slice_index bytes 4) ×
+    (slice_index bytes 33 ≡ slice_index bytes 5)) ⊎ (slice_index bytes 30 ≡ 10)
 destination_kind vl None bytes is high low there = inl (there.0, there.1, there.2 ∙ sym high, there.3 ∙ sym low)
 destination_kind vl (Some address) bytes is high low there = inr (there.0 ∙ is.first)
 
@@ -57,12 +61,17 @@ length-link vl end_system net = refl
 
 -- flags and offset in one number
 word_of_flags : (more : Bool) (start : ℕ) → start ≤ 8200
-    → (((if more then 8192 else 0) + start / 8) < 16384) × (((if more then 8192 else 0) + start / 8) % 8192 ≡ start / 8) × (nat_le 8192 ((if more then 8192 else 0) + start / 8) ≡ more) × (8192 ≤ (if more then 8192 else 0) + start / 8 → more ≡ true)
+    → (((if more then 8192 else 0) + start / 8) < 16384) ×
+    (((if more then 8192 else 0) + start / 8) % 8192 ≡ start / 8) ×
+    (nat_le 8192 ((if more then 8192 else 0) + start / 8) ≡ more) ×
+    (8192 ≤ (if more then 8192 else 0) + start / 8 → more ≡ true)
 word_of_flags true start most = (omega arith, omega arith, grind (arith, nat_tests), (λ h. refl))
 word_of_flags false start most = (omega arith, omega arith, grind (arith, nat_tests), (λ h. absurd (omega arith)))
 
 -- zeros, and a last byte
-padded : (front : List ℕ) (count number : ℕ) (k : ℕ) → length front ≤ k → suc k < length (front ++ (replicate count 0 ++ number ∷ [])) → get_or (front ++ (replicate count 0 ++ number ∷ [])) k 0 ≡ 0
+padded : (front : List ℕ) (count number : ℕ) (k : ℕ) → length front ≤ k
+    → suc k < length (front ++ (replicate count 0 ++ number ∷ []))
+    → get_or (front ++ (replicate count 0 ++ number ∷ [])) k 0 ≡ 0
 padded front count number k behind inside =
     let size = length-append front (replicate count 0 ++ number ∷ []) in
     let zeros = length-append (replicate count 0) (number ∷ []) in
@@ -73,7 +82,8 @@ padded front count number k behind inside =
 
 -- the last byte is the number
 last_of : (front : List ℕ) (number : ℕ) → get_or (front ++ number ∷ []) (length (front ++ number ∷ []) - 1) 0 ≡ number
-last_of front number = get_or_push front number 0 (length (front ++ number ∷ []) - 1) (omega (arith, length-append front (number ∷ [])))
+last_of front number =
+    get_or_push front number 0 (length (front ++ number ∷ []) - 1) (omega (arith, length-append front (number ∷ [])))
 
 module _ (end_system : ℕ) (port : PortPlan) (message : List ℕ) (place : ℕ) (piece : Piece) (net : Net) (number : ℕ) where
   abbrev frame : List ℕ
@@ -84,7 +94,13 @@ module _ (end_system : ℕ) (port : PortPlan) (message : List ℕ) (place : ℕ)
 
   link_ok : HasLinkHeader frame
   unfolding unnumbered link_header
-  link_ok = record { destination = (refl, refl, refl, refl); source = (refl, refl, refl); interface = interface_one net; kind = (refl, refl) }
+  link_ok = record {
+    destination = (refl, refl, refl, refl);
+    source = (refl, refl, refl);
+    interface =
+        interface_one net;
+    kind = (refl, refl);
+  }
 
   vl_ok : port.vl.0 < 65536 → word_at frame 4 ≡ port.vl.0
   unfolding unnumbered link_header
@@ -102,20 +118,26 @@ module _ (end_system : ℕ) (port : PortPlan) (message : List ℕ) (place : ℕ)
   unfolding unnumbered link_header internet_header header_front
   fragment_ok h = omega arith
 
-  constants_ok : (slice_index frame 14 ≡ 69) × (slice_index frame 15 ≡ 0) × (slice_index frame 22 ≡ 1) × (slice_index frame 23 ≡ 17)
+  constants_ok : (slice_index frame 14 ≡ 69) × (slice_index frame 15 ≡ 0) × (slice_index frame 22 ≡ 1) ×
+      (slice_index frame 23 ≡ 17)
   unfolding unnumbered link_header internet_header header_front
   constants_ok = (refl, refl, refl, refl)
 
-  source_ok : port.partition < 32 → (slice_index frame 26 ≡ 10) × (slice_index frame 27 ≡ slice_index frame 9) × (slice_index frame 28 ≡ slice_index frame 10) × (slice_index frame 29 ≤ 31)
+  source_ok : port.partition < 32
+      → (slice_index frame 26 ≡ 10) × (slice_index frame 27 ≡ slice_index frame 9) ×
+      (slice_index frame 28 ≡ slice_index frame 10) × (slice_index frame 29 ≤ 31)
   unfolding unnumbered link_header internet_header header_front addresses
   source_ok h = (refl, refl, refl, omega arith)
 
   destination_there : 4 ≤ length (destination_of port.vl.0 port.unicast)
-      → (slice_index frame 30 ≡ get_or (destination_of port.vl.0 port.unicast) 0 0) × (slice_index frame 31 ≡ get_or (destination_of port.vl.0 port.unicast) 1 0)
-      × (slice_index frame 32 ≡ get_or (destination_of port.vl.0 port.unicast) 2 0) × (slice_index frame 33 ≡ get_or (destination_of port.vl.0 port.unicast) 3 0)
+      → (slice_index frame 30 ≡ get_or (destination_of port.vl.0 port.unicast) 0 0) ×
+      (slice_index frame 31 ≡ get_or (destination_of port.vl.0 port.unicast) 1 0)
+      × (slice_index frame 32 ≡ get_or (destination_of port.vl.0 port.unicast) 2 0) ×
+      (slice_index frame 33 ≡ get_or (destination_of port.vl.0 port.unicast) 3 0)
   unfolding unnumbered link_header internet_header header_front addresses payload
   destination_there h =
-      let there = λ (i : ℕ) (below : i < length (destination_of port.vl.0 port.unicast)). at_first (destination_of port.vl.0 port.unicast) payload (replicate (25 - piece.len) 0) (number ∷ []) i below in
+      let there = λ (i : ℕ) (below : i < length (destination_of port.vl.0 port.unicast)). at_first
+      (destination_of port.vl.0 port.unicast) payload (replicate (25 - piece.len) 0) (number ∷ []) i below in
       (there 0 (omega arith), there 1 (omega arith), there 2 (omega arith), there 3 (omega arith))
 
   link_bytes : (slice_index frame 4 ≡ port.vl.0 / 256 % 256) × (slice_index frame 5 ≡ port.vl.0 % 256)
@@ -125,7 +147,8 @@ module _ (end_system : ℕ) (port : PortPlan) (message : List ℕ) (place : ℕ)
   addresses_ok : IsPort port → HasAddresses frame
   addresses_ok is = record {
     source = source_ok is.partition;
-    destination = destination_kind port.vl.0 port.unicast frame is.unicast link_bytes.0 link_bytes.1 (destination_there (let four = length-destination port.vl.0 port.unicast is.unicast in omega arith));
+    destination = destination_kind port.vl.0 port.unicast frame is.unicast link_bytes.0 link_bytes.1
+        (destination_there (let four = length-destination port.vl.0 port.unicast is.unicast in omega arith));
   }
 
   length-payload : piece.start + piece.len ≤ 8 + length message → length payload ≡ piece.len
@@ -133,10 +156,18 @@ module _ (end_system : ℕ) (port : PortPlan) (message : List ℕ) (place : ℕ)
   length-payload within =
       let eight = length-udp_header end_system port message in
       let size = length-append (udp_header end_system port message) message in
-      omega (arith, length-take piece.len (drop piece.start (udp_header end_system port message ++ message)), length-drop piece.start (udp_header end_system port message ++ message))
+      omega (
+        arith,
+        length-take piece.len
+            (drop piece.start (udp_header end_system port message ++ message)),
+        length-drop piece.start
+            (udp_header end_system port message ++ message),
+      )
 
   -- the frame from its internet header on
-  tail_is : frame ≡ link_header port.vl.0 end_system net ++ (internet_header end_system port (identification place port.sub) piece ++ (payload ++ (replicate (25 - piece.len) 0 ++ number ∷ [])))
+  tail_is : frame ≡ link_header port.vl.0 end_system net
+      ++ (internet_header end_system port (identification place port.sub) piece
+      ++ (payload ++ (replicate (25 - piece.len) 0 ++ number ∷ [])))
   unfolding unnumbered payload
   tail_is = simp append_assoc
 
@@ -146,21 +177,28 @@ module _ (end_system : ℕ) (port : PortPlan) (message : List ℕ) (place : ℕ)
       let rest = payload ++ (replicate (25 - piece.len) 0 ++ number ∷ []) in
       let twenty = length-internet end_system port (identification place port.sub) piece is in
       let behind : drop 14 frame ≡ header ++ rest = ap (drop 14) tail_is ∙ drop_link port.vl.0 end_system net (header ++ rest) in
-      let front : take 20 (header ++ rest) ≡ header = ap (λ (n : ℕ). take n (header ++ rest)) (sym twenty) ∙ take-append_seam header rest in
+      let front : take 20 (header ++ rest) ≡ header =
+      ap (λ (n : ℕ). take n (header ++ rest)) (sym twenty) ∙ take-append_seam header rest in
       rw (behind, front) (header_closes end_system port (identification place port.sub) piece)
 
   length-front : IsPort port → piece.start + piece.len ≤ 8 + length message
-      → length (link_header port.vl.0 end_system net ++ internet_header end_system port (identification place port.sub) piece ++ payload) ≡ 34 + piece.len
+      → length (link_header port.vl.0 end_system net
+      ++ internet_header end_system port (identification place port.sub) piece ++ payload) ≡ 34 + piece.len
   length-front is within =
       let link = length-link port.vl.0 end_system net in
       let header = length-internet end_system port (identification place port.sub) piece is in
       let part = length-payload within in
-      let first = length-append (link_header port.vl.0 end_system net ++ internet_header end_system port (identification place port.sub) piece) payload in
-      let second = length-append (link_header port.vl.0 end_system net) (internet_header end_system port (identification place port.sub) piece) in
+      let first = length-append
+      (link_header port.vl.0 end_system net
+      ++ internet_header end_system port (identification place port.sub) piece) payload in
+      let second = length-append (link_header port.vl.0 end_system net)
+      (internet_header end_system port (identification place port.sub) piece) in
       omega arith
 
   -- the frame by its fields, its padding and its number
-  parts_are : frame ≡ (link_header port.vl.0 end_system net ++ internet_header end_system port (identification place port.sub) piece ++ payload) ++ (replicate (25 - piece.len) 0 ++ number ∷ [])
+  parts_are : frame ≡ (link_header port.vl.0 end_system net
+      ++ internet_header end_system port (identification place port.sub) piece ++ payload)
+      ++ (replicate (25 - piece.len) 0 ++ number ∷ [])
   unfolding unnumbered payload
   parts_are = simp append_assoc
 
@@ -168,7 +206,10 @@ module _ (end_system : ℕ) (port : PortPlan) (message : List ℕ) (place : ℕ)
   length-frame is within =
       let front = length-front is within in
       let parts = ap length parts_are in
-      let all = length-append (link_header port.vl.0 end_system net ++ internet_header end_system port (identification place port.sub) piece ++ payload) (replicate (25 - piece.len) 0 ++ number ∷ []) in
+      let all = length-append
+      (link_header port.vl.0 end_system net
+      ++ internet_header end_system port (identification place port.sub) piece ++ payload)
+      (replicate (25 - piece.len) 0 ++ number ∷ []) in
       let zeros = length-append (replicate (25 - piece.len) 0) (number ∷ []) in
       let many = length-replicate {A = ℕ} (25 - piece.len) 0 in
       omega arith
@@ -179,13 +220,16 @@ module _ (end_system : ℕ) (port : PortPlan) (message : List ℕ) (place : ℕ)
       let front = length-front is within in
       let parts = ap length parts_are in
       ap (λ (bytes : List ℕ). get_or bytes k 0) parts_are
-      ∙ padded (link_header port.vl.0 end_system net ++ internet_header end_system port (identification place port.sub) piece ++ payload) (25 - piece.len) number k (omega arith) (omega arith)
+      ∙ padded (link_header port.vl.0 end_system net
+      ++ internet_header end_system port (identification place port.sub) piece ++ payload) (25 - piece.len)
+      number k (omega arith) (omega arith)
 
   number_ok : slice_index frame (length frame - 1) ≡ number
   number_ok = last_of (unnumbered end_system port message place piece net) number
 
   flags_ok : IsPiece (length message) piece → length message ≤ 8192
-      → (fragment_field frame < 16384) × (fragment_field frame % 8192 ≡ piece.start / 8) × (nat_le 8192 (fragment_field frame) ≡ piece.more) × (8192 ≤ fragment_field frame → piece.more ≡ true)
+      → (fragment_field frame < 16384) × (fragment_field frame % 8192 ≡ piece.start / 8) ×
+      (nat_le 8192 (fragment_field frame) ≡ piece.more) × (8192 ≤ fragment_field frame → piece.more ≡ true)
   flags_ok is most =
       let small = word_of_flags piece.more piece.start (let within = is.within in omega arith) in
       let same : fragment_field frame ≡ fragment_word piece = fragment_ok (let bound = small.0 in omega arith) in

@@ -86,20 +86,29 @@ twin_pieces : (end_system : ℕ) (sent : Sent) (place : ℕ) (net other : Net) (
     ≡ map (λ piece. unnumbered end_system sent.port sent.bytes place piece net) pieces
 twin_pieces end_system sent place net other [] = refl
 twin_pieces end_system sent place net other (piece ∷ pieces) =
-    ap (λ (first : List ℕ). first ∷ map (twin_of net) (map (λ p. unnumbered end_system sent.port sent.bytes place p other) pieces)) (twin_unnumbered end_system sent.port sent.bytes place piece net other)
-    ∙ ap (λ (rest : List (List ℕ)). unnumbered end_system sent.port sent.bytes place piece net ∷ rest) (twin_pieces end_system sent place net other pieces)
+    ap (λ (first : List ℕ). first ∷ map (twin_of net)
+    (map (λ p. unnumbered end_system sent.port sent.bytes place p other) pieces))
+    (twin_unnumbered end_system sent.port sent.bytes place piece net other)
+    ∙ ap (λ (rest : List (List ℕ)). unnumbered end_system sent.port sent.bytes place piece net ∷ rest)
+    (twin_pieces end_system sent place net other pieces)
 
-twin_message : (end_system room : ℕ) (place : ℕ) (sent : Sent) (net other : Net) → map (twin_of net) (fragments_at end_system room other place sent) ≡ fragments_at end_system room net place sent
+twin_message : (end_system room : ℕ) (place : ℕ) (sent : Sent) (net other : Net)
+    → map (twin_of net) (fragments_at end_system room other place sent) ≡ fragments_at end_system room net place sent
 unfolding fragments_at
-twin_message end_system room place sent net other = twin_pieces end_system sent place net other (pieces_from 0 (cutting room (8 + length sent.bytes)))
+twin_message end_system room place sent net other =
+    twin_pieces end_system sent place net other (pieces_from 0 (cutting room (8 + length sent.bytes)))
 
 pub twin_fragments : (end_system room : ℕ) (net other : Net) (place : ℕ) (messages : List Sent)
     → map (twin_of net) (fragments_from end_system room other place messages) ≡ fragments_from end_system room net place messages
 twin_fragments end_system room net other place [] = refl
 twin_fragments end_system room net other place (sent ∷ later) =
-    map-append (twin_of net) (fragments_at end_system room other place sent) (fragments_from end_system room other (suc place) later)
-    ∙ ap (λ (first : List (List ℕ)). first ++ map (twin_of net) (fragments_from end_system room other (suc place) later)) (twin_message end_system room place sent net other)
-    ∙ ap (λ (rest : List (List ℕ)). fragments_at end_system room net place sent ++ rest) (twin_fragments end_system room net other (suc place) later)
+    map-append (twin_of net) (fragments_at end_system room other place sent)
+    (fragments_from end_system room other (suc place) later)
+    ∙ ap (λ (first : List (List ℕ)). first
+    ++ map (twin_of net) (fragments_from end_system room other (suc place) later))
+    (twin_message end_system room place sent net other)
+    ∙ ap (λ (rest : List (List ℕ)). fragments_at end_system room net place sent ++ rest)
+    (twin_fragments end_system room net other (suc place) later)
 
 -- the identification repeats after 16,384 places, and nothing else of a fragment depends on the place
 ident_again : (place sub : ℕ) → identification (place % 16384) sub ≡ identification place sub
@@ -115,9 +124,13 @@ pieces_again : (end_system : ℕ) (sent : Sent) (place : ℕ) (net : Net) (piece
     ≡ map (λ piece. unnumbered end_system sent.port sent.bytes place piece net) pieces
 pieces_again end_system sent place net [] = refl
 pieces_again end_system sent place net (piece ∷ pieces) =
-    ap (λ (first : List ℕ). first ∷ map (λ p. unnumbered end_system sent.port sent.bytes (place % 16384) p net) pieces) (unnumbered_again end_system sent.port sent.bytes place piece net)
-    ∙ ap (λ (rest : List (List ℕ)). unnumbered end_system sent.port sent.bytes place piece net ∷ rest) (pieces_again end_system sent place net pieces)
+    ap (λ (first : List ℕ). first ∷ map (λ p. unnumbered end_system sent.port sent.bytes (place % 16384) p net)
+    pieces) (unnumbered_again end_system sent.port sent.bytes place piece net)
+    ∙ ap (λ (rest : List (List ℕ)). unnumbered end_system sent.port sent.bytes place piece net ∷ rest)
+    (pieces_again end_system sent place net pieces)
 
-pub fragments_again : (end_system room : ℕ) (net : Net) (place : ℕ) (sent : Sent) → fragments_at end_system room net (place % 16384) sent ≡ fragments_at end_system room net place sent
+pub fragments_again : (end_system room : ℕ) (net : Net) (place : ℕ) (sent : Sent)
+    → fragments_at end_system room net (place % 16384) sent ≡ fragments_at end_system room net place sent
 unfolding fragments_at
-fragments_again end_system room net place sent = pieces_again end_system sent place net (pieces_from 0 (cutting room (8 + length sent.bytes)))
+fragments_again end_system room net place sent =
+    pieces_again end_system sent place net (pieces_from 0 (cutting room (8 + length sent.bytes)))

@@ -16,7 +16,9 @@ met f (suc k) s = ⊎_elim
     (λ h. let lt : h.0 < k = h.1 in inl (h.0, (omega arith), h.2))
     (λ h. ⊎_elim
     (λ (e : f k ≡ s). inl (k, (omega arith), e))
-    (λ (ne : f k ≢ s). inr (λ j lt e. ⊎_elim (λ (l : j < k). h j l e) (λ (g : k ≤ j). let q : j ≡ k = omega arith in ne (ap f (sym q) ∙ e)) (cases_lt j k)))
+    (λ (ne : f k ≢ s). inr
+    (λ j lt e. ⊎_elim (λ (l : j < k). h j l e)
+    (λ (g : k ≤ j). let q : j ≡ k = omega arith in ne (ap f (sym q) ∙ e)) (cases_lt j k)))
     (cases_eq (f k) s))
     (met f k s)
 
@@ -39,6 +41,9 @@ moves_chosen pace old sub new c s = ⊎_elim
     (λ h. inl (subst (λ (i : ℕ). Asks false (held_at old i) (held_at new i)) h.2 (c.before h.0 h.1)))
     (λ h. ⊎_elim
     (λ (e : s ≡ sub). inr (inl (subst (λ (i : ℕ). Asks true (held_at old i) (held_at new i)) (sym e) c.asked)))
-    (λ (ne : s ≢ sub). inr (inr (c.others s (λ j jl e. ⊎_elim (λ (l : j < c.turn). h j l e) (λ (g : c.turn ≤ j). let q : j ≡ c.turn = omega arith in ne (sym e ∙ ap (turn_of pace.sub_vls pace.last) q ∙ sym c.is)) (cases_lt j c.turn)))))
+    (λ (ne : s ≢ sub). inr
+    (inr (c.others s (λ j jl e. ⊎_elim (λ (l : j < c.turn). h j l e)
+    (λ (g : c.turn ≤ j). let q : j ≡ c.turn =
+    omega arith in ne (sym e ∙ ap (turn_of pace.sub_vls pace.last) q ∙ sym c.is)) (cases_lt j c.turn)))))
     (cases_eq s sub))
     (met (turn_of pace.sub_vls pace.last) c.turn s)

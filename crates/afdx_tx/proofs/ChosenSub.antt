@@ -18,14 +18,17 @@ item_is pace old sub mid d c = get_or_default mid sub d nothing_held (omega (ari
 -- it has a fragment left
 pub chosen_left : (pace : Pace) (old : List Held) (sub : ℕ) (mid : List Held) (d : Held)
     → IsChoice pace old sub mid → (get_or mid sub d).left ≡ [] → ⊥
-chosen_left pace old sub mid d c e = asked_left (held_at old sub) (held_at mid sub) c.asked (sym (ap (λ (h : Held). h.left) (item_is pace old sub mid d c)) ∙ e)
+chosen_left pace old sub mid d c e =
+    asked_left (held_at old sub) (held_at mid sub) c.asked
+    (sym (ap (λ (h : Held). h.left) (item_is pace old sub mid d c)) ∙ e)
 
 -- the chosen one is the sub-VL of its link at that index
 pub item_of : (pace : Pace) (plan : LinkPlan) (old : List Held) (sub : ℕ) (mid : List Held) (d : Held)
     → IsChoice pace old sub mid → AreSubsOf plan old
     → ((get_or mid sub d).of.link ≡ plan) × ((get_or mid sub d).of.sub ≡ sub)
 item_of pace plan old sub mid d c n =
-    let same : (get_or mid sub d).of ≡ (held_at old sub).of = ap (λ (h : Held). h.of) (item_is pace old sub mid d c) ∙ chosen_same pace old sub mid c sub in
+    let same : (get_or mid sub d).of ≡ (held_at old sub).of =
+    ap (λ (h : Held). h.of) (item_is pace old sub mid d c) ∙ chosen_same pace old sub mid c sub in
     let own = n sub c.below in
     (ap (λ (of : SubVl). of.link) same ∙ own.0, ap (λ (of : SubVl). of.sub) same ∙ own.1)
 
@@ -35,7 +38,8 @@ pub set_same : (pace : Pace) (old : List Held) (sub : ℕ) (mid : List Held) (d 
 set_same pace old sub mid d h c e s = ⊎_elim
     (λ (q : s ≡ sub).
     let here : (held_at (set mid sub h) sub).of ≡ (held_at old sub).of =
-    ap (λ (x : Held). x.of) (held_same mid sub h (omega (arith, c.count, c.below))) ∙ e ∙ ap (λ (x : Held). x.of) (item_is pace old sub mid d c) ∙ chosen_same pace old sub mid c sub in
+    ap (λ (x : Held). x.of) (held_same mid sub h (omega (arith, c.count, c.below))) ∙ e
+    ∙ ap (λ (x : Held). x.of) (item_is pace old sub mid d c) ∙ chosen_same pace old sub mid c sub in
     subst (λ (i : ℕ). (held_at (set mid sub h) i).of ≡ (held_at old i).of) (sym q) here)
     (λ (ne : s ≢ sub). ap (λ (x : Held). x.of) (get_or-set_other mid sub s h nothing_held ne) ∙ chosen_same pace old sub mid c s)
     (cases_eq s sub)

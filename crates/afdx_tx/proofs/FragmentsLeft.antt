@@ -17,7 +17,8 @@ pub done_tells : (of : SubVl) (cut : Cutting) (done : Bool)
     → ((room : ℕ) → (done ≡ true → pieces_left room cut ≡ []) × (pieces_left room cut ≡ [] → done ≡ true))
     → TellsCutting (not done) (left_of of (Some cut))
 done_tells of cut true h = ap (map _) ((h (room_of of.link.lmax)).0 refl)
-done_tells of cut false h = λ none. let e : false ≡ true = (h (room_of of.link.lmax)).1 (map_nil _ (pieces_left (room_of of.link.lmax) cut) none) in cc
+done_tells of cut false h = λ none. let e : false ≡ true =
+    (h (room_of of.link.lmax)).1 (map_nil _ (pieces_left (room_of of.link.lmax) cut) none) in cc
 
 -- every cutting has a length
 cut_some : (turns room n : ℕ) → cut_by (suc turns) room n ≢ []
@@ -38,7 +39,8 @@ unfolding fragments_at cutting
 fragments_some of place sent =
     let size : 8 + length sent.bytes ≡ suc (7 + length sent.bytes) = omega arith in
     let lengths : cut_by (8 + length sent.bytes) (room_of of.link.lmax) (8 + length sent.bytes) ≢ [] =
-    subst (λ (n : ℕ). cut_by n (room_of of.link.lmax) (8 + length sent.bytes) ≢ []) (sym size) (cut_some (7 + length sent.bytes) (room_of of.link.lmax) (8 + length sent.bytes)) in
+    subst (λ (n : ℕ). cut_by n (room_of of.link.lmax) (8 + length sent.bytes) ≢ []) (sym size)
+    (cut_some (7 + length sent.bytes) (room_of of.link.lmax) (8 + length sent.bytes)) in
     λ none. pieces_some 0 _ lengths (map_nil _ _ none)
 
 -- none of two holds

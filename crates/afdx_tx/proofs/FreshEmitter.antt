@@ -58,8 +58,10 @@ fresh_kept own plan link f =
       spaced = tt;
       paced = λ _.
           f.pace
-          ∙ ap (λ (g : ℕ). record { gap = g; sub_vls = plan.sub_vls; last = None; next = sequence_number 0 }) (sym (ap (λ (p : Pace). p.gap) f.pace))
-          ∙ ap (λ (n : ℕ). record { gap = link.pace.gap; sub_vls = n; last = None; next = sequence_number 0 }) (sym (ap (λ (p : Pace). p.sub_vls) f.pace));
+          ∙ ap (λ (g : ℕ). record { gap = g; sub_vls = plan.sub_vls; last = None; next = sequence_number 0 })
+          (sym (ap (λ (p : Pace). p.gap) f.pace))
+          ∙ ap (λ (n : ℕ). record { gap = link.pace.gap; sub_vls = n; last = None; next = sequence_number 0 })
+          (sym (ap (λ (p : Pace). p.sub_vls) f.pace));
     }
 
 -- a link that released nothing was not served after moment 0
@@ -81,7 +83,8 @@ fresh_of config links f =
     record {
       each_plan = fresh_plans config links f;
       end_system = λ k lt. (f.each k (omega (arith, f.count))).end_system;
-      each = λ k lt. fresh_own config.end_system (link_plan_at config.links k) (link_at links k) (f.each k (omega (arith, f.count)));
+      each = λ k lt. fresh_own config.end_system (link_plan_at config.links k) (link_at links k)
+          (f.each k (omega (arith, f.count)));
     }
 
 -- a fresh emitter is sound
@@ -91,7 +94,9 @@ fresh_sound config links valid f =
     record {
       valid = valid;
       of_plan = fresh_of config links f;
-      kept = λ k lt. subst (IsKept (link_at links k)) (sym fresh_log) (fresh_kept config.end_system (link_plan_at config.links k) (link_at links k) (f.each k (omega (arith, f.count))));
+      kept = λ k lt. subst (IsKept (link_at links k)) (sym fresh_log)
+          (fresh_kept config.end_system (link_plan_at config.links k) (link_at links k)
+          (f.each k (omega (arith, f.count))));
       later = λ k lt. fresh_later (link_at links k).pace (ap (λ (p : Pace). p.last) (f.each k (omega (arith, f.count))).pace);
       mirrored = subst (λ (H : List Entry). Mirrors H fresh_lines) (sym fresh_log) fresh_mirrors;
       known = subst (AreKnown config.links A) (sym fresh_log) tt;
@@ -113,7 +118,8 @@ fresh_step config links f k lt =
       tied = λ _ s slt.
           let below : s < (link_plan_at config.links k).sub_vls = subst (λ (p : LinkPlan). s < p.sub_vls) fresh.plan slt in
           let held = fresh.subs.each s below in
-          fresh_tied (held_at (link_at links k).subs s) (ap (λ (h : Held). h.left) held) (ap (λ (h : Held). h.place) held) (ap (λ (h : Held). h.waiting) held);
+          fresh_tied (held_at (link_at links k).subs s) (ap (λ (h : Held). h.left) held)
+          (ap (λ (h : Held). h.place) held) (ap (λ (h : Held). h.waiting) held);
     })
 
 -- one fresh link more
@@ -124,10 +130,13 @@ fresh_push config links n new f fresh =
     record {
       count = let size = f.count in omega (arith, length-append links (new ∷ []));
       each = λ k lt. ⊎_elim
-          (λ (below : k < n). subst (IsFreshLink config.end_system (link_plan_at config.links k)) (sym (get_or_append_left links (new ∷ []) no_link k (let size = f.count in omega arith))) (f.each k below))
+          (λ (below : k < n). subst (IsFreshLink config.end_system (link_plan_at config.links k))
+          (sym (get_or_append_left links (new ∷ []) no_link k (let size = f.count in omega arith)))
+          (f.each k below))
           (λ (last : n ≤ k).
           let e : k ≡ n = omega arith in
           subst (λ (j : ℕ). IsFreshLink config.end_system (link_plan_at config.links j) (link_at (links ++ new ∷ []) j)) (sym e)
-          (subst (IsFreshLink config.end_system (link_plan_at config.links n)) (sym (get_or_push links new no_link n f.count)) fresh))
+          (subst (IsFreshLink config.end_system (link_plan_at config.links n))
+          (sym (get_or_push links new no_link n f.count)) fresh))
           (cases_lt k n);
     }

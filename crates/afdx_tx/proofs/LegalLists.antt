@@ -64,7 +64,9 @@ sub_side net s H = filter_side net (on_sub s) (λ e. ap (λ l. eqb l s) (twin_su
 -- the fragments that a stream shows, turned to a network
 told_side : (net : Net) (T : List Entry) → told (map (side net) T) ≡ map (twin_of net) (told T)
 told_side net [] = refl
-told_side net (e ∷ es) = ap (λ x. x ∷ told (map (side net) es)) (twin_blanked net e.frame) ∙ ap (λ x. twin_of net (blanked e.frame) ∷ x) (told_side net es)
+told_side net (e ∷ es) =
+    ap (λ x. x ∷ told (map (side net) es)) (twin_blanked net e.frame)
+    ∙ ap (λ x. twin_of net (blanked e.frame) ∷ x) (told_side net es)
 
 -- the front of a numbered stream, turned to a network, is numbered
 numbered_side : (net : Net) (i : ℕ) (xs ys : List Entry) → AreLong (xs ++ ys) → IsNumbered i (xs ++ ys)
@@ -76,8 +78,11 @@ numbered_side net i (x ∷ xs) ys long h = (twin_number net x.frame long.0 ∙ h
 spaced_side : (net : Net) (gap : ℕ) (before : Option Stamp) (xs ys : List Entry)
     → IsSpaced gap before (xs ++ ys) → IsSpaced gap before (map (side net) xs)
 spaced_side net gap before [] ys h = tt
-spaced_side net gap before (x ∷ xs) ys h =
-    (h.0, subst (λ (s : ℕ). IsSpaced gap (Some (record { at = x.at; sub = s })) (map (side net) xs)) (sym (twin_sub net x.frame)) (spaced_side net gap (Some (stamp_of x)) xs ys h.1))
+spaced_side net gap before (x ∷ xs) ys h = (
+  h.0,
+  subst (λ (s : ℕ). IsSpaced gap (Some (record { at = x.at; sub = s })) (map (side net) xs))
+      (sym (twin_sub net x.frame)) (spaced_side net gap (Some (stamp_of x)) xs ys h.1),
+)
 
 -- the front of a known list, turned to a network, is known there
 known_side : (links : List LinkPlan) (net : Net) (xs ys : List Entry) → AreKnown links A (xs ++ ys)
@@ -99,9 +104,11 @@ known_side links net (x ∷ xs) ys h = (
 pub record IsLogLegal (plan : Plan) (accepted : Accepted) (H : List Entry) : Type 0 where
   pub known : AreKnown plan.links A H
   pub prefixes : (k s : ℕ) → k < length plan.links → s < (link_plan_at plan.links k).sub_vls
-      → IsPrefixOf (told_of (link_plan_at plan.links k).id.0 s H) (fragments plan.end_system (room_of (link_plan_at plan.links k).lmax) A (accepted k s))
+      → IsPrefixOf (told_of (link_plan_at plan.links k).id.0 s H)
+      (fragments plan.end_system (room_of (link_plan_at plan.links k).lmax) A (accepted k s))
   pub numbered : (k : ℕ) → k < length plan.links → IsNumbered 0 (link_stream (link_plan_at plan.links k).id.0 H)
-  pub spaced : (k : ℕ) → k < length plan.links → IsSpaced (bag_micros (link_plan_at plan.links k).bag) None (link_stream (link_plan_at plan.links k).id.0 H)
+  pub spaced : (k : ℕ) → k < length plan.links
+      → IsSpaced (bag_micros (link_plan_at plan.links k).bag) None (link_stream (link_plan_at plan.links k).id.0 H)
 
 -- a prefix of a log's stream, turned to a network
 prefix_side : (net : Net) (vl s end_system room : ℕ) (messages : List Sent) (xs ys : List Entry)
@@ -113,7 +120,8 @@ prefix_side net vl s end_system room messages xs ys p =
     let cut : sub_stream s (link_stream vl (xs ++ ys)) ≡ sub_stream s (link_stream vl xs) ++ sub_stream s (link_stream vl ys) =
     ap (sub_stream s) (filter-append (on_link vl) xs ys) ∙ filter-append (on_sub s) _ _ in
     let whole : told T ++ (told U ++ p.0) ≡ fragments end_system room A messages =
-    sym (append_assoc (told T) (told U) p.0) ∙ ap (λ x. x ++ p.0) (sym (map-append (λ (e : Entry). blanked e.frame) T U) ∙ ap told (sym cut)) ∙ p.1 in
+    sym (append_assoc (told T) (told U) p.0)
+    ∙ ap (λ x. x ++ p.0) (sym (map-append (λ (e : Entry). blanked e.frame) T U) ∙ ap told (sym cut)) ∙ p.1 in
     let mine : told (sub_stream s (link_stream vl (map (side net) xs))) ≡ map (twin_of net) (told T) =
     ap (λ x. told (sub_stream s x)) (link_side net vl xs) ∙ ap told (sub_side net s (link_stream vl xs)) ∙ told_side net T in (
       map (twin_of net) (told U ++ p.0),
@@ -130,17 +138,21 @@ legal_front plan accepted net xs ys l =
     let long : AreLong (xs ++ ys) = known_long plan.links A (xs ++ ys) l.known in
     record {
       known = known_side plan.links net xs ys l.known;
-      prefixes = λ k s klt slt. prefix_side net (link_plan_at plan.links k).id.0 s plan.end_system (room_of (link_plan_at plan.links k).lmax) (accepted k s) xs ys (l.prefixes k s klt slt);
+      prefixes = λ k s klt slt. prefix_side net (link_plan_at plan.links k).id.0 s plan.end_system
+          (room_of (link_plan_at plan.links k).lmax) (accepted k s) xs ys (l.prefixes k s klt slt);
       numbered = λ k klt.
           let vl = (link_plan_at plan.links k).id.0 in
           let cut = filter-append (on_link vl) xs ys in
           subst (IsNumbered 0) (sym (link_side net vl xs))
-          (numbered_side net 0 (link_stream vl xs) (link_stream vl ys) (subst AreLong cut (filter_long (on_link vl) (xs ++ ys) long)) (subst (IsNumbered 0) cut (l.numbered k klt)));
+          (numbered_side net 0 (link_stream vl xs) (link_stream vl ys)
+          (subst AreLong cut (filter_long (on_link vl) (xs ++ ys) long))
+          (subst (IsNumbered 0) cut (l.numbered k klt)));
       spaced = λ k klt.
           let vl = (link_plan_at plan.links k).id.0 in
           let gap = bag_micros (link_plan_at plan.links k).bag in
           subst (IsSpaced gap None) (sym (link_side net vl xs))
-          (spaced_side net gap None (link_stream vl xs) (link_stream vl ys) (subst (IsSpaced gap None) (filter-append (on_link vl) xs ys) (l.spaced k klt)));
+          (spaced_side net gap None (link_stream vl xs) (link_stream vl ys)
+          (subst (IsSpaced gap None) (filter-append (on_link vl) xs ys) (l.spaced k klt)));
     }
 
 -- a list that keeps a legal log is legal
@@ -148,7 +160,8 @@ legal_keeps : (plan : Plan) (accepted : Accepted) (net : Net) (stands : Bool) (h
     → Keeps net stands h H → IsLogLegal plan accepted H → IsLegalOn plan accepted net h
 legal_keeps plan accepted net stands h H k l =
     subst (IsLegalOn plan accepted net) (sym k.front)
-    (legal_front plan accepted net (take (length h) H) (drop (length h) H) (subst (IsLogLegal plan accepted) (sym (take-append-drop (length h) H)) l))
+    (legal_front plan accepted net (take (length h) H) (drop (length h) H)
+    (subst (IsLogLegal plan accepted) (sym (take-append-drop (length h) H)) l))
 
 -- two lists that mirror one log are twins
 twins_of : (H : List Entry) (lines : Lines) → Mirrors H lines → AreTwins lines.a lines.b
@@ -163,7 +176,8 @@ twins_of H lines m =
       a_shorter = λ le.
           let full : length lines.b ≡ length H = ⊎_elim (λ e. omega arith) (λ e. e) m.one in
           let b : lines.b ≡ map (side B) H = all_of B lines.b H m.second.front full in
-          m.first.front ∙ sym (ap (λ (x : List Entry). map (side A) (take (length lines.a) x)) b ∙ ap (map (side A)) (take-map (side B) (length lines.a) H) ∙ sides A B (take (length lines.a) H));
+          m.first.front ∙ sym (ap (λ (x : List Entry). map (side A) (take (length lines.a) x)) b
+          ∙ ap (map (side A)) (take-map (side B) (length lines.a) H) ∙ sides A B (take (length lines.a) H));
     }
 
 -- What is legal of the log is legal of the two lists.

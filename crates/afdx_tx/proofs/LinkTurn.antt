@@ -59,7 +59,8 @@ kept_of : (link new : LinkState) (H : List Entry) → IsSameLink link new
 kept_of link new H same numbered spaced paced =
     record {
       numbered = subst (λ (p : LinkPlan). IsNumbered 0 (link_stream p.id.0 H)) (sym same.plan) numbered;
-      spaced = subst (λ (p : LinkPlan). IsSpaced new.pace.gap None (link_stream p.id.0 H)) (sym same.plan) (subst (λ (g : ℕ). IsSpaced g None (link_stream link.plan.id.0 H)) (sym same.gap) spaced);
+      spaced = subst (λ (p : LinkPlan). IsSpaced new.pace.gap None (link_stream p.id.0 H)) (sym same.plan)
+          (subst (λ (g : ℕ). IsSpaced g None (link_stream link.plan.id.0 H)) (sym same.gap) spaced);
       paced = paced;
     }
 
@@ -67,15 +68,22 @@ kept_of link new H same numbered spaced paced =
 pub picked_of : (link : LinkState) (sub : ℕ) (news : List Held) (p : Picks link.pace sub link.subs news)
     → IsOwn link
     → (held_at p.mid sub).of ≡ record { end_system = link.end_system; link = link.plan; sub = sub }
-picked_of link sub news p own = moves_of (held_at link.subs sub) (held_at p.mid sub) (moves_chosen link.pace link.subs sub p.mid p.choice sub) ∙ own.named sub p.choice.below
+picked_of link sub news p own =
+    moves_of (held_at link.subs sub) (held_at p.mid sub) (moves_chosen link.pace link.subs sub p.mid p.choice sub)
+    ∙ own.named sub p.choice.below
 
 -- what entered is of the picked sub-VL
-released_own : (now number : ℕ) (link : LinkState) (sub : ℕ) (news : List Held) (lines after : Lines) (at : ReleasesAt now link.pace sub number link.subs news lines after)
+released_own : (now number : ℕ) (link : LinkState) (sub : ℕ) (news : List Held) (lines after : Lines)
+    (at : ReleasesAt now link.pace sub number link.subs news lines after)
     → IsOwn link
-    → (link_stream link.plan.id.0 (log after) ≡ link_stream link.plan.id.0 (log lines) ++ entry now at.releases.frame ∷ []) × (sub_in at.releases.frame ≡ sub)
+    → (link_stream link.plan.id.0 (log after) ≡ link_stream link.plan.id.0 (log lines)
+    ++ entry now at.releases.frame ∷ []) × (sub_in at.releases.frame ≡ sub)
 released_own now number link sub news lines after at own =
-    let of = picked_of link sub news at.picks own in
-    (stream_more link.plan.id.0 now number _ _ lines after at.releases (ap (λ (o : SubVl). o.link.id.0) of), at.releases.of.of_sub ∙ ap (λ (o : SubVl). o.sub) of)
+    let of = picked_of link sub news at.picks own in (
+      stream_more link.plan.id.0 now number _ _ lines after at.releases
+          (ap (λ (o : SubVl). o.link.id.0) of),
+      at.releases.of.of_sub ∙ ap (λ (o : SubVl). o.sub) of,
+    )
 
 -- its stream is numbered and spaced, and its regulation is where the stream is
 pub kept_turn : (now : ℕ) (did : Served) (link new : LinkState) (lines after : Lines)
@@ -83,18 +91,21 @@ pub kept_turn : (now : ℕ) (did : Served) (link new : LinkState) (lines after :
 kept_turn now Nothing link new lines after t own k =
     let same : log lines ≡ log after = ap log (sym t.serves.1) in
     subst (IsKept new) same (kept_of link new (log lines) t.same k.numbered k.spaced
-    (λ _. subst (λ (H : List Entry). new.pace ≡ pace_of new.pace.gap new.pace.sub_vls (link_stream new.plan.id.0 H)) (sym same) t.paced))
+    (λ _. subst (λ (H : List Entry). new.pace ≡ pace_of new.pace.gap new.pace.sub_vls (link_stream new.plan.id.0 H))
+    (sym same) t.paced))
 kept_turn now (Released sub number) link new lines after t own k =
     let at = t.serves.2 in
     let more = (released_own now number link sub new.subs lines after at own).0 in
     let stream = link_stream link.plan.id.0 (log lines) in
     let paced : link.pace ≡ pace_of link.pace.gap link.pace.sub_vls (link_stream link.plan.id.0 (log lines)) = k.paced t.whole in
     let apart : IsApart link.pace.gap (latest None (link_stream link.plan.id.0 (log lines))) now =
-    subst (λ (o : Option Stamp). IsApart link.pace.gap o now) (ap (λ (x : Pace). x.last) paced) (due_apart link.pace.gap link.pace.last now t.later t.serves.0) in
+    subst (λ (o : Option Stamp). IsApart link.pace.gap o now) (ap (λ (x : Pace). x.last) paced)
+    (due_apart link.pace.gap link.pace.last now t.later t.serves.0) in
     kept_of link new (log after) t.same
     (subst (IsNumbered 0) (sym more) (numbered_push 0 stream (entry now at.releases.frame) k.numbered
     (at.releases.of.carries ∙ t.serves.1 ∙ ap (λ (x : Pace). x.next) paced ∙ ap sequence_number (omega arith))))
-    (subst (IsSpaced link.pace.gap None) (sym more) (spaced_push link.pace.gap None stream (entry now at.releases.frame) k.spaced apart))
+    (subst (IsSpaced link.pace.gap None) (sym more)
+    (spaced_push link.pace.gap None stream (entry now at.releases.frame) k.spaced apart))
     (λ _. t.paced)
 kept_turn now Lost link new lines after t own k =
     subst (IsKept new) (sym t.serves.1.loses.same) (kept_of link new (log lines) t.same k.numbered k.spaced
@@ -102,17 +113,23 @@ kept_turn now Lost link new lines after t own k =
 
 -- the link in step with its accepted lists, over a stream that is known by the plan before the turn
 step_of : (accepted : ℕ → List Sent) (link new : LinkState) (H : List Entry) → IsSameLink link new
-    → ((s : ℕ) → s < link.plan.sub_vls → IsPrefixOf (told_of link.plan.id.0 s H) (fragments link.end_system (room_of link.plan.lmax) A (accepted s)))
-    → (new.lost ≡ false → (s : ℕ) → s < link.plan.sub_vls → IsTied (held_at new.subs s) (accepted s) (sub_stream s (link_stream link.plan.id.0 H)))
+    → ((s : ℕ) → s < link.plan.sub_vls
+    → IsPrefixOf (told_of link.plan.id.0 s H) (fragments link.end_system (room_of link.plan.lmax) A (accepted s)))
+    → (new.lost ≡ false → (s : ℕ) → s < link.plan.sub_vls
+    → IsTied (held_at new.subs s) (accepted s) (sub_stream s (link_stream link.plan.id.0 H)))
     → IsLinkInStep accepted new H
 step_of accepted link new H same prefixes tied =
     let many : new.plan.sub_vls ≡ link.plan.sub_vls = ap (λ (p : LinkPlan). p.sub_vls) same.plan in
     record {
       prefixes = λ s lt.
-          subst (λ (e : ℕ). IsPrefixOf (told_of new.plan.id.0 s H) (fragments e (room_of new.plan.lmax) A (accepted s))) (sym same.end_system)
-          (subst (λ (p : LinkPlan). IsPrefixOf (told_of p.id.0 s H) (fragments link.end_system (room_of p.lmax) A (accepted s))) (sym same.plan) (prefixes s (omega arith)));
+          subst (λ (e : ℕ). IsPrefixOf (told_of new.plan.id.0 s H)
+          (fragments e (room_of new.plan.lmax) A (accepted s))) (sym same.end_system)
+          (subst (λ (p : LinkPlan). IsPrefixOf (told_of p.id.0 s H)
+          (fragments link.end_system (room_of p.lmax) A (accepted s))) (sym same.plan)
+          (prefixes s (omega arith)));
       tied = λ whole s lt.
-          subst (λ (p : LinkPlan). IsTied (held_at new.subs s) (accepted s) (sub_stream s (link_stream p.id.0 H))) (sym same.plan) (tied whole s (omega arith));
+          subst (λ (p : LinkPlan). IsTied (held_at new.subs s) (accepted s) (sub_stream s (link_stream p.id.0 H)))
+          (sym same.plan) (tied whole s (omega arith));
     }
 
 -- a prefix, by the sub-VL that it is of
@@ -121,7 +138,8 @@ prefix_at : (link : LinkState) (s : ℕ) (held : Held) (accepted : List Sent) (H
     → IsTied held accepted (sub_stream s (link_stream link.plan.id.0 H))
     → IsPrefixOf (told_of link.plan.id.0 s H) (fragments link.end_system (room_of link.plan.lmax) A accepted)
 prefix_at link s held accepted H of t =
-    subst (λ (o : SubVl). IsPrefixOf (told_of link.plan.id.0 s H) (sub_fragments o 0 accepted)) of (prefix_of held accepted (sub_stream s (link_stream link.plan.id.0 H)) t)
+    subst (λ (o : SubVl). IsPrefixOf (told_of link.plan.id.0 s H) (sub_fragments o 0 accepted)) of
+    (prefix_of held accepted (sub_stream s (link_stream link.plan.id.0 H)) t)
 
 -- what happened to each sub-VL in a turn that did nothing
 moves_nothing : (now : ℕ) (pace : Pace) (old new : List Held) (lines after : Lines)
@@ -133,12 +151,15 @@ moves_nothing now pace old new lines after v s = ⊎_elim
 
 -- the picked sub-VL after its frame
 picked : (pace : Pace) (sub : ℕ) (old new : List Held) (p : Picks pace sub old new) → held_at new sub ≡ p.held
-picked pace sub old new p = ap (λ (x : List Held). held_at x sub) p.others ∙ held_same p.mid sub p.held (omega (arith, p.choice.count, p.choice.below))
+picked pace sub old new p =
+    ap (λ (x : List Held). held_at x sub) p.others
+    ∙ held_same p.mid sub p.held (omega (arith, p.choice.count, p.choice.below))
 
 -- the others are as the choice left them
 not_picked : (pace : Pace) (sub : ℕ) (old new : List Held) (p : Picks pace sub old new) (s : ℕ) → s ≢ sub
     → held_at new s ≡ held_at p.mid s
-not_picked pace sub old new p s ne = ap (λ (x : List Held). held_at x s) p.others ∙ get_or-set_other p.mid sub s p.held nothing_held ne
+not_picked pace sub old new p s ne =
+    ap (λ (x : List Held). held_at x s) p.others ∙ get_or-set_other p.mid sub s p.held nothing_held ne
 
 -- a link that was in step is in step after its turn
 pub step_turn : (accepted : ℕ → List Sent) (now : ℕ) (did : Served) (link new : LinkState) (lines after : Lines)
@@ -146,7 +167,8 @@ pub step_turn : (accepted : ℕ → List Sent) (now : ℕ) (did : Served) (link 
     → IsLinkInStep accepted new (log after)
 step_turn accepted now Nothing link new lines after t own k =
     subst (IsLinkInStep accepted new) (ap log (sym t.serves.1)) (step_of accepted link new (log lines) t.same k.prefixes
-    (λ _ s lt. tied_moves (held_at link.subs s) (held_at new.subs s) (accepted s) _ (moves_nothing now link.pace link.subs new.subs lines after t.serves s) (k.tied t.whole s lt)))
+    (λ _ s lt. tied_moves (held_at link.subs s) (held_at new.subs s) (accepted s) _
+    (moves_nothing now link.pace link.subs new.subs lines after t.serves s) (k.tied t.whole s lt)))
 step_turn accepted now (Released sub number) link new lines after t own k =
     let at = t.serves.2 in
     let p = at.picks in
@@ -155,26 +177,35 @@ step_turn accepted now (Released sub number) link new lines after t own k =
     let both = released_own now number link sub new.subs lines after at own in
     let more = both.0 in
     let mine : sub_in at.releases.frame ≡ sub = both.1 in
-    let mid : (s : ℕ) → s < link.plan.sub_vls → IsTied (held_at p.mid s) (accepted s) (sub_stream s (link_stream link.plan.id.0 (log lines))) =
-    λ s lt. tied_moves (held_at link.subs s) (held_at p.mid s) (accepted s) _ (moves_chosen link.pace link.subs sub p.mid p.choice s) (k.tied t.whole s lt) in
-    let tied : (s : ℕ) → s < link.plan.sub_vls → IsTied (held_at new.subs s) (accepted s) (sub_stream s (link_stream link.plan.id.0 (log after))) = λ s lt. ⊎_elim
+    let mid : (s : ℕ) → s < link.plan.sub_vls
+    → IsTied (held_at p.mid s) (accepted s) (sub_stream s (link_stream link.plan.id.0 (log lines))) =
+    λ s lt. tied_moves (held_at link.subs s) (held_at p.mid s) (accepted s) _
+    (moves_chosen link.pace link.subs sub p.mid p.choice s) (k.tied t.whole s lt) in
+    let tied : (s : ℕ) → s < link.plan.sub_vls
+    → IsTied (held_at new.subs s) (accepted s) (sub_stream s (link_stream link.plan.id.0 (log after))) =
+    λ s lt. ⊎_elim
     (λ (same : s ≡ sub).
     let below : sub < link.plan.sub_vls = omega arith in
-    let T : sub_stream sub (link_stream link.plan.id.0 (log after)) ≡ sub_stream sub (link_stream link.plan.id.0 (log lines)) ++ entry now at.releases.frame ∷ [] =
+    let T : sub_stream sub (link_stream link.plan.id.0 (log after)) ≡ sub_stream sub
+    (link_stream link.plan.id.0 (log lines)) ++ entry now at.releases.frame ∷ [] =
     ap (sub_stream sub) more ∙ filter_push_in (on_sub sub) stream (entry now frame) (eq-eqb _ _ mine) in
-    let gave : IsTied p.held (accepted sub) (sub_stream sub (link_stream link.plan.id.0 (log lines)) ++ entry now at.releases.frame ∷ []) =
+    let gave : IsTied p.held (accepted sub)
+    (sub_stream sub (link_stream link.plan.id.0 (log lines)) ++ entry now at.releases.frame ∷ []) =
     tied_gave now frame (held_at p.mid sub) p.held (accepted sub) _ at.releases.gives (mid sub below) in
     subst (λ (i : ℕ). IsTied (held_at new.subs i) (accepted i) (sub_stream i (link_stream link.plan.id.0 (log after)))) (sym same)
-    (subst (λ (x : Held). IsTied x (accepted sub) (sub_stream sub (link_stream link.plan.id.0 (log after)))) (sym (picked link.pace sub link.subs new.subs p))
+    (subst (λ (x : Held). IsTied x (accepted sub) (sub_stream sub (link_stream link.plan.id.0 (log after))))
+    (sym (picked link.pace sub link.subs new.subs p))
     (subst (IsTied p.held (accepted sub)) (sym T) gave)))
     (λ (ne : s ≢ sub).
     let T : sub_stream s (link_stream link.plan.id.0 (log after)) ≡ sub_stream s (link_stream link.plan.id.0 (log lines)) =
     ap (sub_stream s) more ∙ filter_push_out (on_sub s) stream (entry now frame) (ne_eqb _ _ (λ q. ne (sym q ∙ mine))) in
-    subst (λ (x : Held). IsTied x (accepted s) (sub_stream s (link_stream link.plan.id.0 (log after)))) (sym (not_picked link.pace sub link.subs new.subs p s ne))
+    subst (λ (x : Held). IsTied x (accepted s) (sub_stream s (link_stream link.plan.id.0 (log after))))
+    (sym (not_picked link.pace sub link.subs new.subs p s ne))
     (subst (IsTied (held_at p.mid s) (accepted s)) (sym T) (mid s lt)))
     (cases_eq s sub) in
     step_of accepted link new (log after) t.same
-    (λ s lt. prefix_at link s (held_at new.subs s) (accepted s) (log after) (t.subs s ∙ own.named s (omega (arith, own.count, own.sub_vls))) (tied s lt))
+    (λ s lt. prefix_at link s (held_at new.subs s) (accepted s) (log after)
+    (t.subs s ∙ own.named s (omega (arith, own.count, own.sub_vls))) (tied s lt))
     (λ _. tied)
 step_turn accepted now Lost link new lines after t own k =
     subst (IsLinkInStep accepted new) (sym t.serves.1.loses.same) (step_of accepted link new (log lines) t.same k.prefixes
@@ -187,7 +218,8 @@ pub other_stream : (now vl : ℕ) (did : Served) (link new : LinkState) (lines a
 other_stream now vl Nothing link new lines after t own ne = ap (λ (x : Lines). link_stream vl (log x)) t.serves.1
 other_stream now vl (Released sub number) link new lines after t own ne =
     let at = t.serves.2 in
-    stream_same vl now number _ _ lines after at.releases (λ e. ne (sym (ap (λ (o : SubVl). o.link.id.0) (picked_of link sub new.subs at.picks own)) ∙ e))
+    stream_same vl now number _ _ lines after at.releases
+    (λ e. ne (sym (ap (λ (o : SubVl). o.link.id.0) (picked_of link sub new.subs at.picks own)) ∙ e))
 other_stream now vl Lost link new lines after t own ne = ap (link_stream vl) t.serves.1.loses.same
 
 -- a link whose stream is the same keeps its regulation
@@ -206,8 +238,11 @@ pub step_stream : (accepted : ℕ → List Sent) (other : LinkState) (H J : List
     → IsLinkInStep accepted other J
 step_stream accepted other H J e k =
     record {
-      prefixes = λ s lt. subst (λ (S : List Entry). IsPrefixOf (told (sub_stream s S)) (fragments other.end_system (room_of other.plan.lmax) A (accepted s))) (sym e) (k.prefixes s lt);
-      tied = λ w s lt. subst (λ (S : List Entry). IsTied (held_at other.subs s) (accepted s) (sub_stream s S)) (sym e) (k.tied w s lt);
+      prefixes = λ s lt. subst
+          (λ (S : List Entry). IsPrefixOf (told (sub_stream s S))
+          (fragments other.end_system (room_of other.plan.lmax) A (accepted s))) (sym e) (k.prefixes s lt);
+      tied = λ w s lt. subst (λ (S : List Entry). IsTied (held_at other.subs s) (accepted s) (sub_stream s S)) (sym e)
+          (k.tied w s lt);
     }
 
 -- what entered is known

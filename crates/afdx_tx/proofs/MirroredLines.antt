@@ -18,7 +18,8 @@ keeps_more : (net : Net) (h H : List Entry) (e : Entry) (stands : Bool) → Keep
     → Keeps net stands (h ++ side net e ∷ []) (H ++ e ∷ [])
 keeps_more net h H e stands k =
     let whole : h ≡ map (side net) H = all_of net h H k.front (k.all refl) in
-    let more : h ++ side net e ∷ [] ≡ map (side net) (H ++ e ∷ []) = ap (λ x. x ++ side net e ∷ []) whole ∙ sym (map-append (side net) H (e ∷ [])) in
+    let more : h ++ side net e ∷ [] ≡ map (side net) (H ++ e ∷ []) =
+    ap (λ x. x ++ side net e ∷ []) whole ∙ sym (map-append (side net) H (e ∷ [])) in
     let long : length (h ++ side net e ∷ []) ≡ length (H ++ e ∷ []) = ap length more ∙ length-map _ _ in
     record {
       within = omega arith;
@@ -39,16 +40,23 @@ keeps_front net h H xs stood k =
 -- a list after a hand of which the log has the entry
 keeps_grown : (net : Net) (stood stands : Bool) (h h' H : List Entry) (f g : ℕ) (e : Entry)
     → Keeps net stood h H → Handing (side net e) stood stands h h' f g → Keeps net stands h' (H ++ e ∷ [])
-keeps_grown net true true h h' H f g e k p = subst (λ (x : List Entry). Keeps net true x (H ++ e ∷ [])) (sym p.0) (keeps_more net h H e true k)
-keeps_grown net true false h h' H f g e k p = subst (λ (x : List Entry). Keeps net false x (H ++ e ∷ [])) (sym p.0) (keeps_front net h H _ true k)
-keeps_grown net false false h h' H f g e k p = subst (λ (x : List Entry). Keeps net false x (H ++ e ∷ [])) (sym p.0) (keeps_front net h H _ false k)
+keeps_grown net true true h h' H f g e k p =
+    subst (λ (x : List Entry). Keeps net true x (H ++ e ∷ [])) (sym p.0) (keeps_more net h H e true k)
+keeps_grown net true false h h' H f g e k p =
+    subst (λ (x : List Entry). Keeps net false x (H ++ e ∷ [])) (sym p.0) (keeps_front net h H _ true k)
+keeps_grown net false false h h' H f g e k p =
+    subst (λ (x : List Entry). Keeps net false x (H ++ e ∷ [])) (sym p.0) (keeps_front net h H _ false k)
 keeps_grown net false true h h' H f g e k p = absurd p
 
 -- where the hand failed or the network was down
 keeps_same : (net : Net) (stood : Bool) (h h' H : List Entry) (f g : ℕ) (e : Entry) → Keeps net stood h H
     → Handing e stood false h h' f g → Keeps net false h' H
-keeps_same net true h h' H f g e k p = subst (λ (x : List Entry). Keeps net false x H) (sym p.0) (record { within = k.within; front = k.front; all = λ b. let n : false ≡ true = b in cc })
-keeps_same net false h h' H f g e k p = subst (λ (x : List Entry). Keeps net false x H) (sym p.0) (record { within = k.within; front = k.front; all = λ b. let n : false ≡ true = b in cc })
+keeps_same net true h h' H f g e k p =
+    subst (λ (x : List Entry). Keeps net false x H) (sym p.0)
+    (record { within = k.within; front = k.front; all = λ b. let n : false ≡ true = b in cc })
+keeps_same net false h h' H f g e k p =
+    subst (λ (x : List Entry). Keeps net false x H) (sym p.0)
+    (record { within = k.within; front = k.front; all = λ b. let n : false ≡ true = b in cc })
 
 -- an entry that at least one network took
 mirrors_grown : (H : List Entry) (old new : Lines) (e : Entry) → Mirrors H old → side A e ≡ e
@@ -87,24 +95,31 @@ mirrors_same H old new e m p q da db =
       first = subst (λ (s : Bool). Keeps A s new.a H) (sym da) k;
       second = subst (λ (s : Bool). Keeps B s new.b H) (sym db) n;
       for_a = m.for_a;
-      one = ⊎_elim (λ l. inl (same_length old.a_stands old.a new.a _ _ (side A e) _ l (subst P da p))) (λ l. inr (same_length old.b_stands old.b new.b _ _ (side B e) _ l (subst Q db q))) m.one;
+      one = ⊎_elim (λ l. inl (same_length old.a_stands old.a new.a _ _ (side A e) _ l (subst P da p)))
+          (λ l. inr (same_length old.b_stands old.b new.b _ _ (side B e) _ l (subst Q db q))) m.one;
     }
 
 -- twins of twins
 pub sides : (net other : Net) (H : List Entry) → map (side net) (map (side other) H) ≡ map (side net) H
 sides net other [] = refl
-sides net other (e ∷ es) = ap (λ (f : List ℕ). entry e.at f ∷ map (side net) (map (side other) es)) (twin_twice net other e.frame) ∙ ap (λ x. side net e ∷ x) (sides net other es)
+sides net other (e ∷ es) =
+    ap (λ (f : List ℕ). entry e.at f ∷ map (side net) (map (side other) es)) (twin_twice net other e.frame)
+    ∙ ap (λ x. side net e ∷ x) (sides net other es)
 
 -- the log is the longer handed list, for network A
 pub log_is : (H : List Entry) (lines : Lines) → Mirrors H lines → log lines ≡ H
 unfolding log
 log_is H lines m = ⊎_elim
     (λ (lt : length lines.a < length lines.b).
-    let w = m.first.within in let v = m.second.within in let l : length lines.b ≡ length H = ⊎_elim (λ e. omega arith) (λ e. e) m.one in
-    ap (λ b. map (side A) (cond b lines.b lines.a)) (lt-ltb _ _ lt) ∙ ap (map (side A)) (all_of B _ H m.second.front l) ∙ sides A B H ∙ m.for_a)
+    let w = m.first.within in let v = m.second.within in let l : length lines.b ≡ length H =
+    ⊎_elim (λ e. omega arith) (λ e. e) m.one in
+    ap (λ b. map (side A) (cond b lines.b lines.a)) (lt-ltb _ _ lt)
+    ∙ ap (map (side A)) (all_of B _ H m.second.front l) ∙ sides A B H ∙ m.for_a)
     (λ (le : length lines.b ≤ length lines.a).
-    let w = m.first.within in let v = m.second.within in let l : length lines.a ≡ length H = ⊎_elim (λ e. e) (λ e. omega arith) m.one in
-    ap (λ b. map (side A) (cond b lines.b lines.a)) (le-ltb _ _ le) ∙ ap (map (side A)) (all_of A _ H m.first.front l) ∙ sides A A H ∙ m.for_a)
+    let w = m.first.within in let v = m.second.within in let l : length lines.a ≡ length H =
+    ⊎_elim (λ e. e) (λ e. omega arith) m.one in
+    ap (λ b. map (side A) (cond b lines.b lines.a)) (le-ltb _ _ le) ∙ ap (map (side A)) (all_of A _ H m.first.front l)
+    ∙ sides A A H ∙ m.for_a)
     (cases_lt (length lines.a) (length lines.b))
 
 -- what a hand leaves that some network took
@@ -119,7 +134,8 @@ pub handed_more : (old new : Lines) (e : Entry) → IsMirrored old → side A e 
     → is_alive new ≡ true
     → HandedMore old new e
 handed_more old new e m t p q alive =
-    let k : Mirrors (log old ++ e ∷ []) new = mirrors_grown (log old) old new e m t p q (or_cases new.a_stands new.b_stands alive) in
+    let k : Mirrors (log old ++ e ∷ []) new =
+    mirrors_grown (log old) old new e m t p q (or_cases new.a_stands new.b_stands alive) in
     let l : log new ≡ log old ++ e ∷ [] = log_is _ new k in
     record { mirrored = subst (λ (H : List Entry). Mirrors H new) (sym l) k; enters = l }
 

@@ -31,8 +31,10 @@ turn_shown now did link new lines after t k = record {
 run_push : (now : ℕ) (xs ys : List LinkState) (link new : LinkState) (before lines after : Lines) (did : Served)
     → IsRun now xs ys before lines → IsTurn now link new lines after did → is_lost did ≡ false
     → IsRun now (xs ++ link ∷ []) (ys ++ new ∷ []) before after
-run_push now [] [] link new before lines after did r t k = (after, did, subst (λ (l : Lines). IsTurn now link new l after did) r t, k, refl)
-run_push now (x ∷ xs) (y ∷ ys) link new before lines after did r t k = (r.0, r.1, r.2, r.3, run_push now xs ys link new r.0 lines after did r.4 t k)
+run_push now [] [] link new before lines after did r t k =
+    (after, did, subst (λ (l : Lines). IsTurn now link new l after did) r t, k, refl)
+run_push now (x ∷ xs) (y ∷ ys) link new before lines after did r t k =
+    (r.0, r.1, r.2, r.3, run_push now xs ys link new r.0 lines after did r.4 t k)
 run_push now [] (y ∷ ys) link new before lines after did r t k = absurd r
 run_push now (x ∷ xs) [] link new before lines after did r t k = absurd r
 
@@ -49,7 +51,8 @@ pub at_each : (P : ℕ → LinkState → Type 0) (links : List LinkState) (i : �
     → i < length links → P i new → ((k : ℕ) → k < length links → k ≢ i → P k (link_at links k)) → (k : ℕ)
     → k < length links → P k (link_at (set links i new) k)
 at_each P links i new lt p q k klt = ⊎_elim
-    (λ (e : k ≡ i). subst (λ (j : ℕ). P j (link_at (set links i new) j)) (sym e) (subst (P i) (sym (get_or-set_same links i new no_link lt)) p))
+    (λ (e : k ≡ i). subst (λ (j : ℕ). P j (link_at (set links i new) j)) (sym e)
+    (subst (P i) (sym (get_or-set_same links i new no_link lt)) p))
     (λ (ne : k ≢ i). subst (P k) (sym (get_or-set_other links i k new no_link ne)) (q k klt ne))
     (cases_eq k i)
 
@@ -57,11 +60,20 @@ at_each P links i new lt p q k klt = ⊎_elim
 same_rest : (xs ys : List LinkState) (i : ℕ) → drop i xs ≡ drop i ys → link_at xs i ≡ link_at ys i
 same_rest xs ys i e =
     let z : i + 0 ≡ i = omega arith in
-    ap (link_at xs) (sym z) ∙ sym (get_or-drop i xs 0 no_link) ∙ ap (λ (l : List LinkState). get_or l 0 no_link) e ∙ get_or-drop i ys 0 no_link ∙ ap (link_at ys) z
+    ap (link_at xs) (sym z) ∙ sym (get_or-drop i xs 0 no_link) ∙ ap (λ (l : List LinkState). get_or l 0 no_link) e
+    ∙ get_or-drop i ys 0 no_link ∙ ap (link_at ys) z
 
 -- the plan of a link stays the same over two steps
 trans_same : (a b c : LinkState) → IsSameLink a b → IsSameLink b c → IsSameLink a c
-trans_same a b c p q = record { end_system = q.end_system ∙ p.end_system; plan = q.plan ∙ p.plan; gap = q.gap ∙ p.gap; sub_vls = q.sub_vls ∙ p.sub_vls; count = q.count ∙ p.count }
+trans_same a b c p q =
+    record {
+      end_system = q.end_system ∙ p.end_system;
+      plan = q.plan ∙ p.plan;
+      gap = q.gap ∙ p.gap;
+      sub_vls =
+          q.sub_vls ∙ p.sub_vls;
+      count = q.count ∙ p.count;
+    }
 
 -- two links of the running list have different identifiers
 apart_now : (old links : List LinkState) (i k : ℕ) → AreApart old → IsSamePlan old links → i < length links
@@ -71,7 +83,8 @@ apart_now old links i k apart same lt klt ne e =
     let kl : k < length old = omega (arith, same.count) in
     let id_i : (link_at links i).plan.id ≡ (link_at old i).plan.id = ap (λ (p : LinkPlan). p.id) (same.each i il).plan in
     let id_k : (link_at links k).plan.id ≡ (link_at old k).plan.id = ap (λ (p : LinkPlan). p.id) (same.each k kl).plan in
-    let ids : (link_at links i).plan.id ≡ (link_at links k).plan.id = let made = λ (n : ℕ). let v : VlId = record { 0 = n } in v in ap made e in
+    let ids : (link_at links i).plan.id ≡ (link_at links k).plan.id = let made = λ (n : ℕ). let v : VlId =
+    record { 0 = n } in v in ap made e in
     ne (sym (apart i k il kl (sym id_i ∙ ids ∙ id_k)))
 
 -- a known frame at the end of a known list
@@ -94,13 +107,15 @@ known_after : (now i : ℕ) (old : List LinkState) (did : Served) (links : List 
     → IsSamePlan old links → i < length links → IsOwn (link_at links i)
     → Turned now (link_at links i) new lines after did → AreKnown (plans old) A (log lines)
     → AreKnown (plans old) A (log after)
-known_after now i old Nothing links new lines after same lt own t h = subst (λ (x : Lines). AreKnown (plans old) A (log x)) (sym t.serves.1) h
+known_after now i old Nothing links new lines after same lt own t h =
+    subst (λ (x : Lines). AreKnown (plans old) A (log x)) (sym t.serves.1) h
 known_after now i old (Released sub number) links new lines after same lt own t h =
     let r = t.serves.2.releases in
     let il : i < length old = omega (arith, same.count) in
     let plan : link_plan_at (plans old) i ≡ (link_at links i).plan = plan_at_is old i il ∙ sym (same.each i il).plan in
     let of = picked_of (link_at links i) sub new.subs t.serves.2.picks own in
-    let below : sub < (link_at links i).plan.sub_vls = released_known now number (link_at links i) sub new.subs lines after t.serves.2 own in
+    let below : sub < (link_at links i).plan.sub_vls =
+    released_known now number (link_at links i) sub new.subs lines after t.serves.2 own in
     let many : (link_plan_at (plans old) i).sub_vls ≡ (link_at links i).plan.sub_vls = ap (λ (p : LinkPlan). p.sub_vls) plan in
     let own_sub = r.of.of_sub ∙ ap (λ (o : SubVl). o.sub) of in
     subst (AreKnown (plans old) A) (sym r.enters) (known_push (plans old) (log lines) (entry now r.frame) h (record {
@@ -122,7 +137,8 @@ steady_more now i old links before lines after new did s apart lt t mirrored lat
     let il : i < length old = omega (arith, s.same.count) in
     let len : length (set links i new) ≡ length links = length-set links i new in
     let own : IsOwn (link_at links i) = s.each i lt in
-    let other = λ (j : ℕ) (jlt : j < length links) (ne : j ≢ i). other_stream now (link_at links j).plan.id.0 did (link_at links i) new lines after t own (apart_now old links i j apart s.same lt jlt ne) in
+    let other = λ (j : ℕ) (jlt : j < length links) (ne : j ≢ i). other_stream now (link_at links j).plan.id.0 did
+    (link_at links i) new lines after t own (apart_now old links i j apart s.same lt jlt ne) in
     record {
       same = record {
         count = len ∙ s.same.count;
@@ -131,7 +147,8 @@ steady_more now i old links before lines after new did s apart lt t mirrored lat
             (λ j jlt ne. s.same.each j (omega (arith, s.same.count)))
             k (omega (arith, s.same.count));
       };
-      each = λ k klt. at_each (λ j l. IsOwn l) links i new lt (link_turn now (link_at links i) new lines after did t own) (λ j jlt ne. s.each j jlt) k (omega arith);
+      each = λ k klt. at_each (λ j l. IsOwn l) links i new lt
+          (link_turn now (link_at links i) new lines after did t own) (λ j jlt ne. s.each j jlt) k (omega arith);
       kept = λ k klt. at_each (λ j l. IsKept l (log after)) links i new lt
           (kept_turn now did (link_at links i) new lines after t own (s.kept i lt))
           (λ j jlt ne. kept_stream (link_at links j) (log lines) (log after) (other j jlt ne) (s.kept j jlt))
@@ -141,7 +158,8 @@ steady_more now i old links before lines after new did s apart lt t mirrored lat
       known = known_after now i old did links new lines after s.same lt own t s.known;
       keeps = λ accepted step k klt. at_each (λ j l. IsLinkInStep (accepted j) l (log after)) links i new lt
           (step_turn (accepted i) now did (link_at links i) new lines after t own (s.keeps accepted step i lt))
-          (λ j jlt ne. step_stream (accepted j) (link_at links j) (log lines) (log after) (other j jlt ne) (s.keeps accepted step j jlt))
+          (λ j jlt ne. step_stream (accepted j) (link_at links j) (log lines) (log after) (other j jlt ne)
+          (s.keeps accepted step j jlt))
           k (omega arith);
     }
 
@@ -154,9 +172,12 @@ serving_more now i old links before lines after new did s apart lt t kept mirror
     let il : i < length old = omega (arith, s.steady.same.count) in
     let len : length (set links i new) ≡ length links = length-set links i new in
     let here : link_at links i ≡ link_at old i = same_rest links old i s.rest in
-    let turn : IsTurn now (link_at links i) new lines after did = turn_shown now did (link_at links i) new lines after t (s.steady.kept i lt) in
-    let run : IsRun now (take i old ++ link_at links i ∷ []) (take i links ++ new ∷ []) before after = run_push now _ _ (link_at links i) new before lines after did s.run turn kept in
-    let taken : take (i + 1) old ≡ take i old ++ link_at links i ∷ [] = take_more old i no_link il ∙ ap (λ (l : LinkState). take i old ++ l ∷ []) (sym here) in
+    let turn : IsTurn now (link_at links i) new lines after did =
+    turn_shown now did (link_at links i) new lines after t (s.steady.kept i lt) in
+    let run : IsRun now (take i old ++ link_at links i ∷ []) (take i links ++ new ∷ []) before after =
+    run_push now _ _ (link_at links i) new before lines after did s.run turn kept in
+    let taken : take (i + 1) old ≡ take i old ++ link_at links i ∷ [] =
+    take_more old i no_link il ∙ ap (λ (l : LinkState). take i old ++ l ∷ []) (sym here) in
     let taken_new : take (i + 1) (set links i new) ≡ take i links ++ new ∷ [] = take_more_set links i new lt in
     record {
       steady = steady_more now i old links before lines after new did s.steady apart lt t mirrored later;
@@ -174,7 +195,8 @@ pub cut_at : (now i : ℕ) (old links : List LinkState) (before lines after : Li
 cut_at now i old links before lines after new Lost s lt e t =
     let il : i < length old = omega (arith, s.steady.same.count) in
     let here : link_at links i ≡ link_at old i = same_rest links old i s.rest in
-    let turn : IsTurn now (link_at links i) new lines after Lost = turn_shown now Lost (link_at links i) new lines after t (s.steady.kept i lt) in
+    let turn : IsTurn now (link_at links i) new lines after Lost =
+    turn_shown now Lost (link_at links i) new lines after t (s.steady.kept i lt) in
     record {
       count = length-set links i new ∙ s.steady.same.count;
       at = i;
@@ -182,7 +204,8 @@ cut_at now i old links before lines after new Lost s lt e t =
       mid = lines;
       run = subst (λ (ys : List LinkState). IsRun now (take i old) ys before lines) (sym (take-set links i new)) s.run;
       turn = subst (λ (x : LinkState). IsTurn now x (link_at (set links i new) i) lines after Lost) here
-          (subst (λ (y : LinkState). IsTurn now (link_at links i) y lines after Lost) (sym (get_or-set_same links i new no_link lt)) turn);
+          (subst (λ (y : LinkState). IsTurn now (link_at links i) y lines after Lost)
+          (sym (get_or-set_same links i new no_link lt)) turn);
       rest = drop-set-lt (i + 1) links i new (omega arith) ∙ sym (drop-drop 1 i links) ∙ ap (drop 1) s.rest ∙ drop-drop 1 i old;
     }
 cut_at now i old links before lines after new Nothing s lt e t = absurd (let k : false ≡ true = e in cc)

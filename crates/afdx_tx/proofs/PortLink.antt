@@ -19,7 +19,8 @@ is_its port link = link.id.0 == port.vl.0
 passes_short : (p : LinkPlan → Bool) (xs : List LinkPlan) (k : ℕ) (d : LinkPlan) → k < length xs
     → p (get_or xs k d) ≡ true → prefix_len (λ x. not (p x)) xs < length xs
 passes_short p [] k d lt passes = absurd (omega arith)
-passes_short p (x ∷ xs) zero d lt passes = let e : prefix_len (λ y. not (p y)) (x ∷ xs) ≡ 0 = ap (λ (b : Bool). cond (not b) (1 + prefix_len (λ y. not (p y)) xs) 0) passes in omega arith
+passes_short p (x ∷ xs) zero d lt passes = let e : prefix_len (λ y. not (p y)) (x ∷ xs) ≡ 0 =
+    ap (λ (b : Bool). cond (not b) (1 + prefix_len (λ y. not (p y)) xs) 0) passes in omega arith
 passes_short p (x ∷ xs) (suc k) d lt passes =
     let rest : prefix_len (λ y. not (p y)) xs < length xs = passes_short p xs k d (omega arith) passes in
     at (not (p x)) rest
@@ -33,7 +34,8 @@ pub found : (links : List LinkPlan) (port : PortPlan) → HasLink links port →
 found links port has none =
     let passes : is_its port (link_plan_at links has.at) ≡ true = eq-eqb _ _ (ap (λ (id : VlId). id.0) has.over.id) in
     let short = passes_short (is_its port) links has.at no_link_plan has.within passes in
-    let here : position (is_its port) links ≡ Some (prefix_len (λ x. not (is_its port x)) links) = ap (λ (b : Bool). cond b (Some (prefix_len (λ x. not (is_its port x)) links)) None) (lt-ltb _ _ short) in
+    let here : position (is_its port) links ≡ Some (prefix_len (λ x. not (is_its port x)) links) =
+    ap (λ (b : Bool). cond b (Some (prefix_len (λ x. not (is_its port x)) links)) None) (lt-ltb _ _ short) in
     let e : None ≡ Some (prefix_len (λ x. not (is_its port x)) links) = sym none ∙ here in cc
 
 -- and it is the port's

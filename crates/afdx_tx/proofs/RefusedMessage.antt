@@ -21,10 +21,15 @@ use Rattle.afdx_tx.proofs.Accepting.{sound_with}
 -- a message whose length isn't refused has a byte, and at most the greatest number
 pub fits_port : (port : PortPlan) (size : ℕ) → length_refusal port size ≡ None → (1 ≤ size) × (size ≤ port.max)
 fits_port port size none = ⊎_elim
-    (λ (e : size ≡ 0). absurd (let some : length_refusal port size ≡ Some Empty = ap (λ b. cond b (Some Empty) (cond (ltb port.max size) (Some TooLong) None)) (eq-eqb _ _ e) in let k : Some Empty ≡ None = sym some ∙ none in cc))
+    (λ (e : size ≡ 0). absurd
+    (let some : length_refusal port size ≡ Some Empty =
+    ap (λ b. cond b (Some Empty) (cond (ltb port.max size) (Some TooLong) None)) (eq-eqb _ _ e)
+    in let k : Some Empty ≡ None = sym some ∙ none in cc))
     (λ (ne : size ≢ 0). ⊎_elim
     (λ (over : port.max < size). absurd (
-    let some : length_refusal port size ≡ Some TooLong = ap (λ b. cond b (Some Empty) (cond (ltb port.max size) (Some TooLong) None)) (ne_eqb _ _ ne) ∙ ap (λ b. cond b (Some TooLong) None) (lt-ltb _ _ over) in
+    let some : length_refusal port size ≡ Some TooLong =
+    ap (λ b. cond b (Some Empty) (cond (ltb port.max size) (Some TooLong) None)) (ne_eqb _ _ ne)
+    ∙ ap (λ b. cond b (Some TooLong) None) (lt-ltb _ _ over) in
     let k : Some TooLong ≡ None = sym some ∙ none in cc))
     (λ (within : size ≤ port.max). (omega arith, within))
     (cases_lt port.max size))
@@ -34,13 +39,20 @@ fits_port port size none = ⊎_elim
 pub full_refusal : (port : PortPlan) (size capacity waiting : ℕ) → length_refusal port size ≡ None
     → capacity ≤ waiting
     → first_refusal (length_refusal port size) (queue_refusal capacity waiting) ≡ Some Full
-full_refusal port size capacity waiting none full = ap (λ (r : Option Refusal). first_refusal r (queue_refusal capacity waiting)) none ∙ ap (λ b. cond b (Some Full) None) (le-leb _ _ full)
+full_refusal port size capacity waiting none full =
+    ap (λ (r : Option Refusal). first_refusal r (queue_refusal capacity waiting)) none
+    ∙ ap (λ b. cond b (Some Full) None) (le-leb _ _ full)
 
 -- where a port's message waits
 pub record IsRouted (config : Plan) (links : List LinkState) (k : ℕ) (port : PortPlan) : Type 0 where
   pub within : k < length links
   pub sub : port.sub < length (link_at links k).subs
-  pub of : (held_at (link_at links k).subs port.sub).of ≡ record { end_system = (link_at links k).end_system; link = (link_at links k).plan; sub = port.sub }
+  pub of : (held_at (link_at links k).subs port.sub).of ≡ record {
+    end_system = (link_at links k).end_system;
+    link =
+        (link_at links k).plan;
+    sub = port.sub;
+  }
   pub plan : link_plan_at config.links k ≡ (link_at links k).plan
 
 -- a port that sends over a link has its sub-VL there
@@ -82,8 +94,11 @@ pub sound_pushed : (config : Plan) (links : List LinkState) (lines : Lines) (mom
     → (new ≡ link_with (link_at links k) s sent) ⊎ (new ≡ link_at links k) → IsSound config links lines moment
     → IsSound config (set links k new) lines moment
 sound_pushed config links lines moment k s sent new lt slt either z = ⊎_elim
-    (λ (e : new ≡ link_with (link_at links k) s sent). subst (λ (l : LinkState). IsSound config (set links k l) lines moment) (sym e) (sound_with config links lines moment k s sent lt slt z))
-    (λ (e : new ≡ link_at links k). subst (λ (ls : List LinkState). IsSound config ls lines moment) (sym (ap (set links k) e ∙ set-get_or links k no_link)) z)
+    (λ (e : new ≡ link_with (link_at links k) s sent). subst
+    (λ (l : LinkState). IsSound config (set links k l) lines moment) (sym e)
+    (sound_with config links lines moment k s sent lt slt z))
+    (λ (e : new ≡ link_at links k). subst (λ (ls : List LinkState). IsSound config ls lines moment)
+    (sym (ap (set links k) e ∙ set-get_or links k no_link)) z)
     either
 
 -- what follows from a fact on Ok

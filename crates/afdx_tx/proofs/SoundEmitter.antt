@@ -48,7 +48,8 @@ links_apart config links valid of i j ilt jlt e =
     let il : i < length config.links = omega arith in
     let jl : j < length config.links = omega arith in
     valid.links_apart i j il jl
-    (ap (λ (p : LinkPlan). p.id) (plan_is config links of i ilt) ∙ e ∙ sym (ap (λ (p : LinkPlan). p.id) (plan_is config links of j jlt)))
+    (ap (λ (p : LinkPlan). p.id) (plan_is config links of i ilt) ∙ e
+    ∙ sym (ap (λ (p : LinkPlan). p.id) (plan_is config links of j jlt)))
 
 -- the links stay those of the configuration
 links_after : (config : Plan) (old new : List LinkState) → AreLinksOf config old → IsSamePlan old new
@@ -86,21 +87,28 @@ sound_legal config links lines moment accepted s step =
       known = s.known;
       numbered = λ k klt.
           let lt : k < length links = omega arith in
-          subst (λ (p : LinkPlan). IsNumbered 0 (link_stream p.id.0 (log lines))) (sym (plan_is config links of k lt)) (s.kept k lt).numbered;
+          subst (λ (p : LinkPlan). IsNumbered 0 (link_stream p.id.0 (log lines))) (sym (plan_is config links of k lt))
+          (s.kept k lt).numbered;
       spaced = λ k klt.
           let lt : k < length links = omega arith in
-          subst (λ (p : LinkPlan). IsSpaced (bag_micros p.bag) None (link_stream p.id.0 (log lines))) (sym (plan_is config links of k lt))
-          (subst (λ (g : ℕ). IsSpaced g None (link_stream (link_at links k).plan.id.0 (log lines))) (of.each k lt).gap (s.kept k lt).spaced);
+          subst (λ (p : LinkPlan). IsSpaced (bag_micros p.bag) None (link_stream p.id.0 (log lines)))
+          (sym (plan_is config links of k lt))
+          (subst (λ (g : ℕ). IsSpaced g None (link_stream (link_at links k).plan.id.0 (log lines))) (of.each k lt).gap
+          (s.kept k lt).spaced);
       prefixes = λ k t klt tlt.
           let lt : k < length links = omega arith in
           let plan = plan_is config links of k lt in
           let below : t < (link_at links k).plan.sub_vls = subst (λ (p : LinkPlan). t < p.sub_vls) plan tlt in
-          subst (λ (p : LinkPlan). IsPrefixOf (told_of p.id.0 t (log lines)) (fragments config.end_system (room_of p.lmax) A (accepted k t))) (sym plan)
-          (subst (λ (e : ℕ). IsPrefixOf (told_of (link_at links k).plan.id.0 t (log lines)) (fragments e (room_of (link_at links k).plan.lmax) A (accepted k t))) (of.end_system k lt) ((step k lt).prefixes t below));
+          subst (λ (p : LinkPlan). IsPrefixOf (told_of p.id.0 t (log lines))
+          (fragments config.end_system (room_of p.lmax) A (accepted k t))) (sym plan)
+          (subst (λ (e : ℕ). IsPrefixOf (told_of (link_at links k).plan.id.0 t (log lines))
+          (fragments e (room_of (link_at links k).plan.lmax) A (accepted k t))) (of.end_system k lt)
+          ((step k lt).prefixes t below));
     })
 
 -- links in step make an emitter in step
 pub in_step_after : (config : Plan) (links : List LinkState) (lines : Lines) (moment : ℕ) (accepted : Accepted)
     → IsSound config links lines moment → AreInStep accepted links (log lines)
     → IsInStep accepted (record { plan = config; links = links; lines = lines; moment = moment })
-in_step_after config links lines moment accepted s step = record { legal = sound_legal config links lines moment accepted s step; links = step }
+in_step_after config links lines moment accepted s step =
+    record { legal = sound_legal config links lines moment accepted s step; links = step }

@@ -82,8 +82,10 @@ pub fragments_append : (of : SubVl) (place : ℕ) (xs ys : List Sent)
 fragments_append of place [] ys = ap (λ (p : ℕ). sub_fragments of p ys) (let e : place ≡ place + 0 = omega arith in e)
 fragments_append of place (x ∷ xs) ys =
     ap (λ (rest : List (List ℕ)). message_fragments of place x ++ rest) (fragments_append of (suc place) xs ys)
-    ∙ sym (append_assoc (message_fragments of place x) (sub_fragments of (suc place) xs) (sub_fragments of (suc place + length xs) ys))
-    ∙ ap (λ (p : ℕ). (message_fragments of place x ++ sub_fragments of (suc place) xs) ++ sub_fragments of p ys) (let e : suc place + length xs ≡ place + suc (length xs) = omega arith in e)
+    ∙ sym (append_assoc (message_fragments of place x) (sub_fragments of (suc place) xs)
+    (sub_fragments of (suc place + length xs) ys))
+    ∙ ap (λ (p : ℕ). (message_fragments of place x ++ sub_fragments of (suc place) xs) ++ sub_fragments of p ys)
+    (let e : suc place + length xs ≡ place + suc (length xs) = omega arith in e)
 
 -- what was told begins the fragments of what was accepted
 pub prefix_of : (held : Held) (accepted : List Sent) (stream : List Entry) → IsTied held accepted stream
@@ -112,7 +114,8 @@ tied_starts old new accepted stream p t =
           ap (λ (of : SubVl). sub_fragments of 0 (take (suc t.taken) accepted)) p.of
           ∙ ap (sub_fragments old.of 0) s.front
           ∙ fragments_push old.of (take t.taken accepted) p.message
-          ∙ ap (λ (x : List (List ℕ)). x ++ message_fragments old.of (length (take t.taken accepted)) p.message) (t.sent ∙ ap (λ (x : List (List ℕ)). told stream ++ x) p.whole ∙ append-nil (told stream))
+          ∙ ap (λ (x : List (List ℕ)). x ++ message_fragments old.of (length (take t.taken accepted)) p.message)
+          (t.sent ∙ ap (λ (x : List (List ℕ)). told stream ++ x) p.whole ∙ append-nil (told stream))
           ∙ ap (λ (place : ℕ). told stream ++ message_fragments old.of place p.message) size
           ∙ ap (λ (x : List (List ℕ)). told stream ++ x)
           (sym (fragments_again old.of.end_system (room_of old.of.link.lmax) A t.taken p.message)
@@ -126,7 +129,8 @@ pub tied_moves : (old new : Held) (accepted : List Sent) (stream : List Entry) �
 tied_moves old new accepted stream m t = ⊎_elim
     (λ (p : Passes old new). subst (λ (h : Held). IsTied h accepted stream) (sym p.same) t)
     (λ m1. ⊎_elim
-    (λ a. ⊎_elim (λ (g : GoesOn old new). subst (λ (h : Held). IsTied h accepted stream) (sym g.same) t) (λ (p : Starts old new). tied_starts old new accepted stream p t) a)
+    (λ a. ⊎_elim (λ (g : GoesOn old new). subst (λ (h : Held). IsTied h accepted stream) (sym g.same) t)
+    (λ (p : Starts old new). tied_starts old new accepted stream p t) a)
     (λ (e : new ≡ old). subst (λ (h : Held). IsTied h accepted stream) (sym e) t) m1)
     m
 
@@ -144,7 +148,8 @@ tied_gave now frame old new accepted stream g t =
           ∙ t.sent
           ∙ ap (λ (x : List (List ℕ)). told stream ++ x) g.next
           ∙ sym (append_assoc (told stream) (blanked frame ∷ []) new.left)
-          ∙ ap (λ (x : List (List ℕ)). x ++ new.left) (sym (map-append (λ (e : Entry). blanked e.frame) stream (entry now frame ∷ [])));
+          ∙ ap (λ (x : List (List ℕ)). x ++ new.left)
+          (sym (map-append (λ (e : Entry). blanked e.frame) stream (entry now frame ∷ [])));
     }
 
 -- one accepted message more, which waits

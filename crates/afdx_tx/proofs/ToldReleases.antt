@@ -16,7 +16,8 @@ use Rattle.afdx_tx.proofs.LinkTurn.{Turned, IsOwn, picked_of}
 -- where nothing entered nothing more is told
 told_same : (now : ℕ) (rs : List Release) (before lines after : Lines) → log after ≡ log lines
     → IsTold now rs before lines → IsTold now (rs ++ []) before after
-told_same now rs before lines after e t = record { entries = t.entries; grown = e ∙ t.grown; named = t.named ∙ sym (append-nil rs); moments = t.moments }
+told_same now rs before lines after e t =
+    record { entries = t.entries; grown = e ∙ t.grown; named = t.named ∙ sym (append-nil rs); moments = t.moments }
 
 -- what one turn released is told behind the releases before it
 pub told_more : (now : ℕ) (did : Served) (link new : LinkState) (rs : List Release) (before lines after : Lines)
@@ -28,14 +29,21 @@ told_more now (Released sub number) link new rs before lines after t own h =
     let of = picked_of link sub new.subs t.serves.2.picks own in
     let e : Entry = entry now r.frame in
     let same : release_of (entry now r.frame) ≡ record { vl = link.plan.id; sub = sub; number = number } =
-    ap (λ (x : ℕ). record { vl = record { 0 = x }; sub = sub_in r.frame; number = number_in r.frame }) (r.of.link ∙ ap (λ (o : SubVl). o.link.id.0) of)
-    ∙ ap (λ (x : ℕ). record { vl = link.plan.id; sub = x; number = number_in r.frame }) (r.of.of_sub ∙ ap (λ (o : SubVl). o.sub) of)
+    ap (λ (x : ℕ). record { vl = record { 0 = x }; sub = sub_in r.frame; number = number_in r.frame })
+    (r.of.link ∙ ap (λ (o : SubVl). o.link.id.0) of)
+    ∙ ap (λ (x : ℕ). record { vl = link.plan.id; sub = x; number = number_in r.frame })
+    (r.of.of_sub ∙ ap (λ (o : SubVl). o.sub) of)
     ∙ ap (λ (x : ℕ). record { vl = link.plan.id; sub = sub; number = x }) r.of.carries in
     record {
       entries = h.entries ++ entry now r.frame ∷ [];
-      grown = r.enters ∙ ap (λ (x : List Entry). x ++ entry now r.frame ∷ []) h.grown ∙ append_assoc (log before) h.entries (entry now r.frame ∷ []);
-      named = map-append release_of h.entries (entry now r.frame ∷ []) ∙ ap (λ (x : List Release). x ++ release_of (entry now r.frame) ∷ []) h.named ∙ ap (λ (x : Release). rs ++ x ∷ []) same;
-      moments = map-append (λ (x : Entry). x.at) h.entries (entry now r.frame ∷ []) ∙ ap (λ (x : List ℕ). x ++ now ∷ []) h.moments ∙ sym (map-append (λ (x : Entry). now) h.entries (entry now r.frame ∷ []));
+      grown = r.enters ∙ ap (λ (x : List Entry). x ++ entry now r.frame ∷ []) h.grown
+          ∙ append_assoc (log before) h.entries (entry now r.frame ∷ []);
+      named = map-append release_of h.entries (entry now r.frame ∷ [])
+          ∙ ap (λ (x : List Release). x ++ release_of (entry now r.frame) ∷ []) h.named
+          ∙ ap (λ (x : Release). rs ++ x ∷ []) same;
+      moments = map-append (λ (x : Entry). x.at) h.entries (entry now r.frame ∷ [])
+          ∙ ap (λ (x : List ℕ). x ++ now ∷ []) h.moments
+          ∙ sym (map-append (λ (x : Entry). now) h.entries (entry now r.frame ∷ []));
     }
 told_more now Lost link new rs before lines after t own h = told_same now rs before lines after t.serves.1.loses.same h
 
@@ -43,5 +51,6 @@ told_more now Lost link new rs before lines after t own h = told_same now rs bef
 pub few_released : (vl : VlId) (did : Served) (rs : List Release) (i : ℕ) → length rs ≤ i
     → length (rs ++ released_by vl did) ≤ i + 1
 few_released vl Nothing rs i h = omega (arith, length-append rs [])
-few_released vl (Released sub number) rs i h = omega (arith, length-append rs (record { vl = vl; sub = sub; number = number } ∷ []))
+few_released vl (Released sub number) rs i h =
+    omega (arith, length-append rs (record { vl = vl; sub = sub; number = number } ∷ []))
 few_released vl Lost rs i h = omega (arith, length-append rs [])

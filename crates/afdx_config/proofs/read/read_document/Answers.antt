@@ -9,4 +9,5 @@ parts_of-requires-clause-sound c =
 
 pub of-requires : goal.of-requires
 of-requires c =
-    valid _ c.in-Ok-parts_of.ensures.end_system c.in-Ok-parts_of.ensures.links c.in-Ok-parts_of.ensures.ports (sym c.plan_fault.ensures ∙ c.in-None.is)
+    valid _ c.in-Ok-parts_of.ensures.end_system c.in-Ok-parts_of.ensures.links c.in-Ok-parts_of.ensures.ports
+    (sym c.plan_fault.ensures ∙ c.in-None.is)

@@ -16,16 +16,19 @@ hand-requires g c = twin_same A c.write_next.new.out.items c.write_next.ensures.
 more : (g : Given.Over) (c : goal.Then-some_stands g)
     → HandedMore c.args.mux.now c.hand.new.self (entry c.args.now c.write_next.new.out.items)
 more g c =
-    let alive : is_alive c.hand.new.self ≡ true = let a = c.in-Ok.ensures.a_stands in let b = c.in-Ok.ensures.b_stands in cc (c.some_stands.ensures, c.if-some_stands.true) in
+    let alive : is_alive c.hand.new.self ≡ true = let a = c.in-Ok.ensures.a_stands in let b =
+    c.in-Ok.ensures.b_stands in cc (c.some_stands.ensures, c.if-some_stands.true) in
     handed_more c.args.mux.now c.hand.new.self (entry c.args.now c.write_next.new.out.items) c.requires.mirrored
-    (ap (entry c.args.now) (twin_same A c.write_next.new.out.items c.write_next.ensures.frame.interface)) c.hand.ensures.a c.hand.ensures.b alive
+    (ap (entry c.args.now) (twin_same A c.write_next.new.out.items c.write_next.ensures.frame.interface))
+    c.hand.ensures.a c.hand.ensures.b alive
 
 -- none did
 none : (g : Given.Over) (c : goal.Else-some_stands g) → HandedNone c.args.mux.now c.hand.new.self
 none g c =
     let down : (c.in-Ok.standing.a || c.in-Ok.standing.b) ≡ false = sym c.some_stands.ensures ∙ c.if-some_stands.false in
     let both = or_none c.in-Ok.standing.a c.in-Ok.standing.b down in
-    handed_none c.args.mux.now c.hand.new.self (entry c.args.now c.write_next.new.out.items) c.requires.mirrored c.hand.ensures.a c.hand.ensures.b
+    handed_none c.args.mux.now c.hand.new.self (entry c.args.now c.write_next.new.out.items)
+    c.requires.mirrored c.hand.ensures.a c.hand.ensures.b
     (sym c.in-Ok.ensures.a_stands ∙ both.0) (sym c.in-Ok.ensures.b_stands ∙ both.1)
 
 pub returns-then-some_stands-clause-mirrored : goal.returns-then-some_stands-clause-mirrored
@@ -39,7 +42,8 @@ returns-then-some_stands-clause-released g c =
       enters = (more g c).enters;
       of = e.frame;
       gives = gives_of c.args.sub.now c.write_next.new.self c.write_next.new.out.items e.left e.same;
-      alive = let a = c.in-Ok.ensures.a_stands in let b = c.in-Ok.ensures.b_stands in cc (c.some_stands.ensures, c.if-some_stands.true);
+      alive = let a = c.in-Ok.ensures.a_stands in let b =
+          c.in-Ok.ensures.b_stands in cc (c.some_stands.ensures, c.if-some_stands.true);
     }
 
 pub returns-else-some_stands-clause-mirrored : goal.returns-else-some_stands-clause-mirrored
@@ -52,5 +56,6 @@ returns-else-some_stands-clause-lost g c =
       frame = c.write_next.new.out.items;
       gives = gives_of c.args.sub.now c.write_next.new.self c.write_next.new.out.items e.left e.same;
       same = (none g c).same;
-      down = let a = c.in-Ok.ensures.a_stands in let b = c.in-Ok.ensures.b_stands in cc (c.some_stands.ensures, c.if-some_stands.false);
+      down = let a = c.in-Ok.ensures.a_stands in let b =
+          c.in-Ok.ensures.b_stands in cc (c.some_stands.ensures, c.if-some_stands.false);
     }

@@ -17,7 +17,8 @@ returns-in-None-send_next-clause-serves g c =
     (sym c.due.ensures ∙ due, loses_at _ _ _ _ c.index-subs-sub.result _ _ _ c.in-Some.ensures.chosen c.in-None-send_next.ensures.lost)
 
 pub returns-in-None-send_next-clause-same : goal.returns-in-None-send_next-clause-same
-returns-in-None-send_next-clause-same g c = set_same _ _ _ _ c.index-subs-sub.result _ c.in-Some.ensures.chosen c.in-None-send_next.ensures.of
+returns-in-None-send_next-clause-same g c =
+    set_same _ _ _ _ c.index-subs-sub.result _ c.in-Some.ensures.chosen c.in-None-send_next.ensures.of
 
 pub returns-in-Some-send_next-clause-serves : goal.returns-in-Some-send_next-clause-serves
 returns-in-Some-send_next-clause-serves g c =
@@ -35,4 +36,5 @@ returns-in-Some-send_next-clause-paced g c =
     c.in-Some-send_next.ensures.last c.in-Some-send_next.ensures.next
 
 pub returns-in-Some-send_next-clause-same : goal.returns-in-Some-send_next-clause-same
-returns-in-Some-send_next-clause-same g c = set_same _ _ _ _ c.index-subs-sub.result _ c.in-Some.ensures.chosen c.in-Some-send_next.ensures.of
+returns-in-Some-send_next-clause-same g c =
+    set_same _ _ _ _ c.index-subs-sub.result _ c.in-Some.ensures.chosen c.in-Some-send_next.ensures.of

@@ -6,4 +6,6 @@ pub unreachable-requires : goal.unreachable-requires
 unreachable-requires c = found c.args.config.now.links c.args.port.now c.requires.linked (sym c.link_index.ensures ∙ c.in-None.is)
 
 pub returns-clause-over : goal.returns-clause-over
-returns-clause-over c = found_over c.args.config.now c.args.port.now c.in-Some.place c.requires.valid c.requires.linked (sym c.link_index.ensures ∙ c.in-Some.is)
+returns-clause-over c =
+    found_over c.args.config.now c.args.port.now c.in-Some.place c.requires.valid c.requires.linked
+    (sym c.link_index.ensures ∙ c.in-Some.is)

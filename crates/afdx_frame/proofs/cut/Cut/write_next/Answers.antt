@@ -12,7 +12,14 @@ use Rattle.afdx_frame.proofs.cut.Cut.write_next.Goals as goal
 frame_none : goal.returns-in_default-clause-frame
 frame_none c =
     rw (← c.self.view_is) (
-    let none = left_none (room_of c.args.link.now.lmax) (record { port = c.self.inside.port; place = c.self.inside.place; bytes = c.self.inside.bytes.items; start = c.self.inside.start }) (grind arith) in
+    let none = left_none (room_of c.args.link.now.lmax)
+    (record {
+      port = c.self.inside.port;
+      place = c.self.inside.place;
+      bytes = c.self.inside.bytes.items;
+      start =
+          c.self.inside.start;
+    }) (grind arith) in
     takes_none _ _ _ none none)
 
 frame_some : goal.returns-clause-frame
@@ -31,7 +38,8 @@ frame_some c =
     ∙ ap (λ (p : Piece). frame_of c.args.end_system port bytes place p c.args.net c.args.number) first in
     rw (← c.self.view_is) (
     takes_one _ _ _ _ _ _
-    (left_first room (record { port = port; place = place; bytes = bytes; start = start }) (omega arith) (omega (arith, c.in-Some.ensures.0)))
+    (left_first room (record { port = port; place = place; bytes = bytes; start = start }) (omega arith)
+    (omega (arith, c.in-Some.ensures.0)))
     frame
     (ap (λ (p : Piece). pieces_left room (record { port = port; place = place; bytes = bytes; start = start + p.len })) first))
 
@@ -42,14 +50,18 @@ pub returns-clause-frame : goal.returns-clause-frame
 returns-clause-frame c = frame_some c
 
 pub returns-in_default-clause-fragments : goal.returns-in_default-clause-fragments
-returns-in_default-clause-fragments c = step_fragments _ _ _ _ _ _ _ (frame_none c) (record { port = refl; place = refl; bytes = refl })
+returns-in_default-clause-fragments c =
+    step_fragments _ _ _ _ _ _ _ (frame_none c) (record { port = refl; place = refl; bytes = refl })
 
 pub returns-clause-fragments : goal.returns-clause-fragments
-returns-clause-fragments c = step_fragments _ _ _ _ _ _ _ (frame_some c) (rw (← c.self.view_is) (record { port = refl; place = refl; bytes = refl }))
+returns-clause-fragments c =
+    step_fragments _ _ _ _ _ _ _ (frame_some c)
+    (rw (← c.self.view_is) (record { port = refl; place = refl; bytes = refl }))
 
 pub returns-clause-header : goal.returns-clause-header
 returns-clause-header c =
     let within : c.in-Some.piece.start + c.in-Some.piece.len ≤ 8 + length c.deref.result.now = search (rules, arith) in
     let says : IsFrameOf c.self.inside.port.vl.0 c.self.inside.port.sub c.args.number c.args.net c.write_frame.new.out.items =
-    rw c.write_frame.ensures (header_says c.args.end_system c.self.inside.port c.deref.result.now c.self.inside.place c.in-Some.piece c.args.net c.args.number c.self.invariant.port within) in
+    rw c.write_frame.ensures
+    (header_says c.args.end_system c.self.inside.port c.deref.result.now c.self.inside.place c.in-Some.piece c.args.net c.args.number c.self.invariant.port within) in
     λ _. subst (λ (cut : Cutting). IsFrameOf cut.port.vl.0 cut.port.sub c.args.number c.args.net c.write_frame.new.out.items) c.self.view_is says

@@ -11,8 +11,24 @@ use Rattle.afdx_tx.proofs.emitter.Emitter.over.Goals as goal
 nothing_handed : (g : Given.Over) (c : goal.After-new-2 g) → c.new.result ≡ fresh_lines
 nothing_handed g c =
     c.new.ensures
-    ∙ ap (λ (a : List Entry). record { a = a; b = g.B.Network.handed c.args.b; a_failures = 0; b_failures = 0; a_stands = true; b_stands = true }) c.requires.a_empty
-    ∙ ap (λ (b : List Entry). record { a = []; b = b; a_failures = 0; b_failures = 0; a_stands = true; b_stands = true }) c.requires.b_empty
+    ∙ ap (λ (a : List Entry). record {
+      a = a;
+      b = g.B.Network.handed c.args.b;
+      a_failures = 0;
+      b_failures =
+          0;
+      a_stands = true;
+      b_stands = true;
+    }) c.requires.a_empty
+    ∙ ap (λ (b : List Entry). record {
+      a = [];
+      b = b;
+      a_failures = 0;
+      b_failures = 0;
+      a_stands = true;
+      b_stands =
+          true;
+    }) c.requires.b_empty
 
 pub invariant_of-result : goal.invariant_of-result
 invariant_of-result g c =
@@ -21,5 +37,9 @@ invariant_of-result g c =
 
 pub returns-clause-step : goal.returns-clause-step
 returns-clause-step g c =
-    subst (λ (lines : Lines). IsInStep none_accepted (record { plan = c.args.config; links = c.args.links.items; lines = lines; moment = 0 })) (sym (nothing_handed g c))
-    (in_step_after c.args.config c.args.links.items fresh_lines 0 none_accepted (fresh_sound c.args.config c.args.links.items c.requires.valid c.requires.fresh) (fresh_step c.args.config c.args.links.items c.requires.fresh))
+    subst (λ (lines : Lines). IsInStep none_accepted
+    (record { plan = c.args.config; links = c.args.links.items; lines = lines; moment = 0 }))
+    (sym (nothing_handed g c))
+    (in_step_after c.args.config c.args.links.items fresh_lines 0 none_accepted
+    (fresh_sound c.args.config c.args.links.items c.requires.valid c.requires.fresh)
+    (fresh_step c.args.config c.args.links.items c.requires.fresh))

@@ -10,12 +10,15 @@ use Rattle.afdx_tx.proofs.emitter.Emitter.poll.Given
 use Rattle.afdx_tx.proofs.emitter.Emitter.poll.Goals as goal
 
 pub serve_all-requires-clause-apart : goal.serve_all-requires-clause-apart
-serve_all-requires-clause-apart g c = subst AreApart (sym c.deref_mut.ensures.value) (links_apart c.self.inside.config c.self.inside.links.items c.self.invariant.valid c.self.invariant.of_plan)
+serve_all-requires-clause-apart g c =
+    subst AreApart (sym c.deref_mut.ensures.value)
+    (links_apart c.self.inside.config c.self.inside.links.items c.self.invariant.valid c.self.invariant.of_plan)
 
 -- the links that the emitter then has
 links_are : (g : Given.Over) (c : goal.After-standing-2 g)
     → (with_items c.self.inside.links c.serve_all.new.links).items ≡ c.serve_all.new.links
-links_are g c = with_items_is c.self.inside.links c.serve_all.new.links (c.serve_all.ensures.steady.same.count ∙ c.deref_mut.ensures.len)
+links_are g c = with_items_is c.self.inside.links c.serve_all.new.links
+    (c.serve_all.ensures.steady.same.count ∙ c.deref_mut.ensures.len)
 
 -- the emitter that a poll leaves is sound
 sound : (g : Given.Over) (c : goal.After-standing-2 g)
@@ -33,8 +36,19 @@ invariant_of-self g c = sound g c
 pub returns-clause-kept : goal.returns-clause-kept
 returns-clause-kept g c = λ accepted before.
     let e = c.serve_all.ensures in
-    let old : IsInStep accepted (record { plan = c.self.inside.config; links = c.self.inside.links.items; lines = c.self.inside.mux; moment = c.self.inside.moment }) = subst (IsInStep accepted) (sym c.self.view_is) before in
+    let old : IsInStep accepted
+    (record {
+      plan = c.self.inside.config;
+      links = c.self.inside.links.items;
+      lines = c.self.inside.mux;
+      moment =
+          c.self.inside.moment;
+    }) = subst (IsInStep accepted) (sym c.self.view_is) before in
     let step : AreInStep accepted c.serve_all.new.links (log c.serve_all.new.mux) =
-    e.steady.keeps accepted (subst (λ (ls : List LinkState). AreInStep accepted ls (log c.self.inside.mux)) (sym c.deref_mut.ensures.value) old.links) in
-    in_step_after c.self.inside.config (with_items c.self.inside.links c.serve_all.new.links).items c.serve_all.new.mux c.args.now accepted (sound g c)
+    e.steady.keeps accepted
+    (subst (λ (ls : List LinkState). AreInStep accepted ls (log c.self.inside.mux))
+    (sym c.deref_mut.ensures.value) old.links) in
+    in_step_after c.self.inside.config
+    (with_items c.self.inside.links c.serve_all.new.links).items c.serve_all.new.mux c.args.now accepted
+    (sound g c)
     (subst (λ (ls : List LinkState). AreInStep accepted ls (log c.serve_all.new.mux)) (sym (links_are g c)) step)

@@ -38,14 +38,23 @@ invariant_of-self-in-Some c =
 
 pub returns-in-Some : goal.returns-in-Some
 returns-in-Some c =
-    let old : Held = record { of = c.self.inside.of; left = left_of c.self.inside.of c.self.inside.sending; place = c.self.inside.place; waiting = c.self.inside.waiting.items } in
+    let old : Held = record {
+      of = c.self.inside.of;
+      left = left_of c.self.inside.of c.self.inside.sending;
+      place =
+          c.self.inside.place;
+      waiting = c.self.inside.waiting.items;
+    } in
     let sent : Sent = record { port = c.message.inside.port; bytes = c.message.inside.bytes.items } in
     let same : sent ≡ c.in-Some.message = c.message.view_is in
-    let left : left_of c.self.inside.of (Some c.new.result) ≡ message_fragments c.self.inside.of c.self.inside.place c.in-Some.message =
+    let left : left_of c.self.inside.of (Some c.new.result)
+    ≡ message_fragments c.self.inside.of c.self.inside.place c.in-Some.message =
     c.new.ensures.fragments c.self.inside.of.end_system (room_of c.self.inside.of.link.lmax) A
     ∙ ap (λ (place : ℕ). message_fragments c.self.inside.of place sent) c.from.ensures
     ∙ ap (message_fragments c.self.inside.of c.self.inside.place) same in
-    let whole : left_of c.self.inside.of c.self.inside.sending ≡ [] = subst (λ (b : Bool). TellsCutting b (left_of c.self.inside.of c.self.inside.sending)) c.if-is_cutting.false c.is_cutting.ensures in
+    let whole : left_of c.self.inside.of c.self.inside.sending ≡ [] =
+    subst (λ (b : Bool). TellsCutting b (left_of c.self.inside.of c.self.inside.sending))
+    c.if-is_cutting.false c.is_cutting.ensures in
     rw (← c.self.view_is) (inr (record {
       message = c.in-Some.message;
       whole = whole;
