@@ -1,5 +1,4 @@
 use crate::status::status_of;
-use std::test::Fail;
 use tx_script::{LineFault, RunFault, Summary};
 
 fn ended(refused: u64) -> Result<Summary, RunFault> {
@@ -11,13 +10,13 @@ fn ended(refused: u64) -> Result<Summary, RunFault> {
 }
 
 #[test]
-fn the_status_tells_how_a_run_ended() -> Result<(), Fail> {
+fn the_status_tells_how_a_run_ended(rt: HostRuntime) {
     let fault = LineFault::Number;
-    assert_eq!(status_of(&ended(0)), 0);
-    assert_eq!(status_of(&ended(1)), 3);
-    assert_eq!(status_of(&Err(RunFault::Line { line: 2, fault })), 2);
-    assert_eq!(status_of(&Err(RunFault::Lines)), 2);
-    assert_eq!(status_of(&Err(RunFault::Read)), 4);
-    assert_eq!(status_of(&Err(RunFault::Write)), 4);
-    assert_eq!(status_of(&Err(RunFault::Memory)), 4);
+    assert_eq!(rt; status_of(&ended(0)), 0);
+    assert_eq!(rt; status_of(&ended(1)), 3);
+    assert_eq!(rt; status_of(&Err(RunFault::Line { line: 2, fault })), 2);
+    assert_eq!(rt; status_of(&Err(RunFault::Lines)), 2);
+    assert_eq!(rt; status_of(&Err(RunFault::Read)), 4);
+    assert_eq!(rt; status_of(&Err(RunFault::Write)), 4);
+    assert_eq!(rt; status_of(&Err(RunFault::Memory)), 4);
 }
