@@ -19,4 +19,6 @@ pub use open::open_tx;
 pub use report::{Release, Report};
 
 #[cfg(test)]
+mod network_tests;
+#[cfg(test)]
 mod tests;
