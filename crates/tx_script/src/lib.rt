@@ -28,6 +28,8 @@ pub use run_fault::RunFault;
 pub use summary::Summary;
 
 #[cfg(test)]
+mod plan_tests;
+#[cfg(test)]
 mod run_tests;
 #[cfg(test)]
 mod tests;
