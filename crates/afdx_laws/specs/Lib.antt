@@ -1,0 +1,3 @@
+pub mod Policer
+pub mod Spacing
+pub mod WorkedPolicing

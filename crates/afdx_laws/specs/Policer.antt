@@ -1,0 +1,99 @@
+-- The policer of a switch (ARINC 664 Part 7, traffic policing): a token bucket for each virtual link.
+use Rattle.std.specs.Prelude.{◌≡◌, ℕ, ◌+◌, ◌-◌, ◌*◌, ◌≤◌, ◌<◌, min, nat_le, if◌then◌else◌, List, [], ◌∷◌, map}
+
+-- a frame that comes to the switch: the moment in microseconds, and its bytes on the wire
+pub record Arrival : Type 0 where
+  pub at : ℕ
+  pub size : ℕ
+
+-- what a switch is told of a link: its gap in microseconds, its greatest frame in bytes on the wire,
+-- and the greatest jitter that it allows, in microseconds
+pub record Rule : Type 0 where
+  pub gap : ℕ
+  pub lmax : ℕ
+  pub jitter : ℕ
+
+-- A link's account, and when it was last filled. A credit of one byte is counted as `gap`, so that
+-- lmax bytes a gap are lmax a microsecond, without fractions.
+pub record Account : Type 0 where
+  pub credit : ℕ
+  pub since : ℕ
+
+-- the account is never above lmax (1 + jitter / gap) bytes
+abbrev pub limit : Rule → ℕ
+limit rule = rule.lmax * (rule.gap + rule.jitter)
+
+-- it begins there
+abbrev pub full : Rule → Account
+full rule = record { credit = limit rule; since = 0 }
+
+-- it grows by lmax bytes a gap
+abbrev pub filled : Rule → Account → ℕ → Account
+filled rule account now = record {
+  credit = min (limit rule) (account.credit + rule.lmax * (now - account.since));
+  since = now;
+}
+
+-- a frame that passes is paid for
+abbrev pub paid : Account → ℕ → Account
+paid account price = record { credit = account.credit - price; since = account.since }
+
+-- A frame is charged by its bytes, or each frame as the greatest one.
+pub data Charge : Type 0 where
+  by_bytes : Charge
+  by_frames : Charge
+
+-- what a frame costs
+abbrev pub price : Charge → Rule → Arrival → ℕ
+price by_bytes rule frame = frame.size * rule.gap
+price by_frames rule frame = rule.lmax * rule.gap
+
+-- the frames that pass: those whose price the account can pay
+abbrev pub passed : Charge → Rule → Account → List Arrival → List Arrival
+passed charge rule account [] = []
+passed charge rule account (frame ∷ frames) =
+    if nat_le (price charge rule frame) (filled rule account frame.at).credit
+    then frame ∷ passed charge rule
+    (paid (filled rule account frame.at) (price charge rule frame)) frames
+    else passed charge rule (filled rule account frame.at) frames
+
+-- a frame on its way: the moment of its release, and the one at which it comes to the switch
+pub record Passage : Type 0 where
+  pub released : ℕ
+  pub arrived : ℕ
+  pub size : ℕ
+
+-- what the switch sees of it
+abbrev pub arrival : Passage → Arrival
+arrival passage = record { at = passage.arrived; size = passage.size }
+
+-- it was on its way for at most the jitter, and is no greater than the greatest
+pub record IsOnTime (rule : Rule) (passage : Passage) : Type 0 where
+  pub after : passage.released ≤ passage.arrived
+  pub soon : passage.arrived ≤ passage.released + rule.jitter
+  pub small : passage.size ≤ rule.lmax
+
+-- such frames, neighbours released at least a gap apart
+abbrev pub AreOnTime : Rule → List Passage → Type 0
+AreOnTime rule [] = Unit {0}
+AreOnTime rule (first ∷ []) = IsOnTime rule first
+AreOnTime rule (first ∷ second ∷ later) = IsOnTime rule first
+    × (first.released + rule.gap ≤ second.released)
+    × AreOnTime rule (second ∷ later)
+
+-- The switch drops none of them.
+abbrev pub NoneDropped : Type 0
+NoneDropped = (charge : Charge) (rule : Rule) (passages : List Passage) → AreOnTime rule passages
+    → passed charge rule (full rule) (map arrival passages) ≡ map arrival passages
+
+-- a switch's rule that allows no jitter
+abbrev pub strict : ℕ → ℕ → Rule
+strict gap lmax = record { gap = gap; lmax = lmax; jitter = 0 }
+
+-- It is no switch that lets all pass: with no jitter, of two greatest frames less than a gap apart
+-- the second is dropped.
+abbrev pub EarlyDropped : Type 0
+EarlyDropped = (charge : Charge) (gap lmax a b : ℕ) → 1 ≤ lmax → a ≤ b → b < a + gap
+    → passed charge (strict gap lmax) (full (strict gap lmax))
+    (record { at = a; size = lmax } ∷ record { at = b; size = lmax } ∷ [])
+    ≡ record { at = a; size = lmax } ∷ []
