@@ -2,7 +2,11 @@
 //!
 //! That a switch or a receiver works as it is defined here is a premise of each, and so is that the
 //! networks deliver what is said.
+ghost use Rattle.afdx_frame.specs.declared.net.Net.TheVariants.{B};
+ghost use Rattle.afdx_laws.specs.Loss.{AreClose, LossMasked, LossNotMasked, NumbersClash, one_lost};
+ghost use Rattle.afdx_laws.specs.Networks.{ExactlyOnce};
 ghost use Rattle.afdx_laws.specs.Policer.{EarlyDropped, NoneDropped};
+ghost use Rattle.afdx_laws.specs.Skew.{SkewIsNear};
 ghost use Rattle.afdx_laws.specs.Spacing.{StreamPasses};
 ghost use Rattle.afdx_laws.specs.WorkedPolicing.{PolicesThree};
 
@@ -28,4 +32,45 @@ pub fn early_dropped()
 /// at the moment of its release.
 pub fn stream_passes()
     ensures { StreamPasses }
+{}
+
+/// A receiver accepts each frame of a link exactly once and in order, as far as one of the networks
+/// carried them, from any interleaving of what the two networks carried, as long as none is more
+/// than 255 less its window frames behind the other.
+///
+/// Each network may stop carrying at any point, and then carries nothing more. Nothing is said of
+/// frames that both networks lose, of a transmitter that begins anew with 0, and of the receiver's
+/// timer for frames that come late (SkewMax).
+pub fn exactly_once()
+    ensures { ExactlyOnce }
+{}
+
+/// A receiver for which the next number alone is new accepts each frame once and in order although
+/// one network loses, repeats and reorders frames, where the other carries them all.
+///
+/// Where the whole network stops too, a loss on the other holds up the receiver until the numbers
+/// come round.
+pub fn loss_masked()
+    ensures masked { LossMasked }
+
+    // network A loses a frame, and network B carries all three
+    ensures worked { AreClose B 3 0 0 one_lost }
+{}
+
+/// A receiver for which the next two numbers are new drops the good copy of a frame that the network
+/// that is ahead lost, and one for which the next alone is new accepts it.
+pub fn loss_not_masked()
+    ensures { LossNotMasked }
+{}
+
+/// The bound on the lag is exact, for each window: one frame of lag more, and the receiver accepts
+/// an old frame as new.
+pub fn numbers_clash()
+    ensures { NumbersClash }
+{}
+
+/// Networks that deliver each frame within a delay of its release are never further apart than
+/// 1 + delay / gap frames, so that a receiver's bound on the lag is one on the delay.
+pub fn skew_is_near()
+    ensures { SkewIsNear }
 {}
