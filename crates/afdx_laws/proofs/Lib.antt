@@ -6,3 +6,7 @@ pub mod Receiving
 pub mod Arrivals
 pub mod Losing
 pub mod Skewed
+pub mod InOrder
+pub mod Reading
+pub mod Arriving
+pub mod HandedOver

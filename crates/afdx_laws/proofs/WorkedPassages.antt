@@ -2,6 +2,7 @@
 use Rattle.std.proofs.Common.{refl, arith}
 use Rattle.afdx_laws.specs.WorkedPolicing.{PolicesThree}
 
+-- they are policed so
 pub polices_three : PolicesThree
 polices_three = record {
   on_time = (

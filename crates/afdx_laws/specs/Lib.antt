@@ -5,3 +5,6 @@ pub mod Receiver
 pub mod Networks
 pub mod Loss
 pub mod Skew
+pub mod Delivery
+pub mod Messages
+pub mod Handed

@@ -3,7 +3,10 @@
 //! That a switch or a receiver works as it is defined here is a premise of each, and so is that the
 //! networks deliver what is said.
 ghost use Rattle.afdx_frame.specs.declared.net.Net.TheVariants.{B};
+ghost use Rattle.afdx_laws.specs.Delivery.{InOrder};
+ghost use Rattle.afdx_laws.specs.Handed.{HandedArrive};
 ghost use Rattle.afdx_laws.specs.Loss.{AreClose, LossMasked, LossNotMasked, NumbersClash, one_lost};
+ghost use Rattle.afdx_laws.specs.Messages.{DespiteLoss, MessagesArrive};
 ghost use Rattle.afdx_laws.specs.Networks.{ExactlyOnce};
 ghost use Rattle.afdx_laws.specs.Policer.{EarlyDropped, NoneDropped};
 ghost use Rattle.afdx_laws.specs.Skew.{SkewIsNear};
@@ -73,4 +76,33 @@ pub fn numbers_clash()
 /// 1 + delay / gap frames, so that a receiver's bound on the lag is one on the delay.
 pub fn skew_is_near()
     ensures { SkewIsNear }
+{}
+
+/// Of the fragments of several sub-VLs, each sub-VL's own in order, the first datagrams of each are
+/// reassembled in order, each once, and all of those whose fragments came.
+///
+/// A receiver keeps a buffer for each identification, as many as it needs, and never gives one up.
+pub fn in_order()
+    ensures { InOrder }
+{}
+
+/// A receiver's messages of a sub-VL are the first of those that were accepted for it, each once and
+/// in order, and all whose fragments one of the networks carried.
+pub fn messages_arrive()
+    ensures { MessagesArrive }
+{}
+
+/// They are so although one network loses, repeats and reorders frames, where the other carries them
+/// all and the next number alone is new to the receiver.
+pub fn despite_loss()
+    ensures { DespiteLoss }
+{}
+
+/// They are so by what was handed to the two networks: two lists, twins as far as both go, numbered,
+/// and of each sub-VL the first fragments of its accepted messages.
+///
+/// It reads identification, offset, flags, total length and number of each frame. That its addresses,
+/// its ports and its checksum are right, other laws say (`afdx_frame::laws::each_frame_says`).
+pub fn handed_arrive()
+    ensures { HandedArrive }
 {}
