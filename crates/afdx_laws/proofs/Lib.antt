@@ -10,3 +10,4 @@ pub mod InOrder
 pub mod Reading
 pub mod Arriving
 pub mod HandedOver
+pub mod WorkedMessage

@@ -8,3 +8,4 @@ pub mod Skew
 pub mod Delivery
 pub mod Messages
 pub mod Handed
+pub mod WorkedDelivery

@@ -11,6 +11,7 @@ ghost use Rattle.afdx_laws.specs.Networks.{ExactlyOnce};
 ghost use Rattle.afdx_laws.specs.Policer.{EarlyDropped, NoneDropped};
 ghost use Rattle.afdx_laws.specs.Skew.{SkewIsNear};
 ghost use Rattle.afdx_laws.specs.Spacing.{StreamPasses};
+ghost use Rattle.afdx_laws.specs.WorkedDelivery.{OneMessageArrives};
 ghost use Rattle.afdx_laws.specs.WorkedPolicing.{PolicesThree};
 
 /// A switch that polices a link by its gap, its greatest frame and a jitter, by bytes or by frames,
@@ -104,5 +105,8 @@ pub fn despite_loss()
 /// It reads identification, offset, flags, total length and number of each frame. That its addresses,
 /// its ports and its checksum are right, other laws say (`afdx_frame::laws::each_frame_says`).
 pub fn handed_arrive()
-    ensures { HandedArrive }
+    ensures arrive { HandedArrive }
+
+    // a message of two frames
+    ensures worked { OneMessageArrives }
 {}
