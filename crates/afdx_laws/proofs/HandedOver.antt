@@ -11,10 +11,10 @@ use Rattle.afdx_frame.specs.Header.{sub_in, number_in}
 use Rattle.afdx_frame.specs.Twin.{twin_of}
 use Rattle.afdx_frame.specs.Fragments.{Sent, blanked, fragments}
 use Rattle.afdx_frame.proofs.Twins.{length-twin, twin_number, twin_sub, twin_twice, twin_blanked, twin_fragments}
-use Rattle.afdx_laws.specs.Receiver.{begin, received, carried, IsNear, IsPrefixOf, IsNumbered}
+use Rattle.afdx_laws.specs.Receiver.{begin, received, carried, IsPrefixOf, IsNumbered}
 use Rattle.afdx_laws.specs.Networks.{IsLong, IsStream, AreCarried, most_carried}
 use Rattle.afdx_laws.specs.Messages.{sub_stream, messages_in, IsSending, AreFirst}
-use Rattle.afdx_laws.specs.Handed.{IsOwn, AreTwins, longer, HandedArrive}
+use Rattle.afdx_laws.specs.Handed.{IsOwn, AreTwins, AreCarriedOf, longer, HandedArrive}
 use Rattle.afdx_laws.proofs.Arriving.{messages_arrive_holds}
 
 -- a beginning of a beginning
@@ -35,13 +35,13 @@ prefix_of_take net n xs = (
 )
 
 -- a network's own frames are their twins for it
-own_twins : (net : Net) (xs : List (List ℕ)) → All (IsOwn net) xs → map (twin_of net) xs ≡ xs
+pub own_twins : (net : Net) (xs : List (List ℕ)) → All (IsOwn net) xs → map (twin_of net) xs ≡ xs
 own_twins net [] all = refl
 own_twins net (x ∷ xs) all = ap (λ (y : List ℕ). y ∷ map (twin_of net) xs) (all 0 x (omega arith))
     ∙ ap (λ (ys : List (List ℕ)). x ∷ ys) (own_twins net xs (λ k d h. all (suc k) d (omega arith)))
 
 -- a twin of a twin
-twin_twin : (first second : Net) (xs : List (List ℕ))
+pub twin_twin : (first second : Net) (xs : List (List ℕ))
     → map (twin_of second) (map (twin_of first) xs) ≡ map (twin_of second) xs
 twin_twin first second [] = refl
 twin_twin first second (x ∷ xs) = ap (λ (y : List ℕ). y ∷ map (twin_of second) (map (twin_of first) xs))
@@ -107,30 +107,26 @@ turned end_system room sub accepted b p = (
 
 -- what both networks carried of the longer list, as network A has it, where that is B's
 carried_of_b : (lag : ℕ) (a b : List (List ℕ)) (arrivals : List (Net × List ℕ)) → length a < length b
-    → All (IsOwn B) b → AreTwins a b
-    → IsPrefixOf (carried A arrivals) a → IsPrefixOf (carried B arrivals) b → IsNear lag arrivals
-    → AreCarried lag (map (twin_of A) b) arrivals
-carried_of_b lag a b arrivals shorter own twins pa pb near = record {
-  on_a = prefix_trans (carried A arrivals) a (map (twin_of A) (map (twin_of A) b)) pa
+    → All (IsOwn B) b → AreTwins a b → AreCarriedOf lag a b arrivals → AreCarried lag (map (twin_of A) b) arrivals
+carried_of_b lag a b arrivals shorter own twins carry = record {
+  on_a = prefix_trans (carried A arrivals) a (map (twin_of A) (map (twin_of A) b)) carry.on_a
       (prefix_same a (map (twin_of A) b) (map (twin_of A) (map (twin_of A) b)) (sym (twin_twin A A b))
       (subst (λ (xs : List (List ℕ)). IsPrefixOf xs (map (twin_of A) b)) (sym (twins.a_shorter (omega arith)))
       (prefix_of_take A (length a) b)));
   on_b = prefix_same (carried B arrivals) b (map (twin_of B) (map (twin_of A) b))
-      (sym (twin_twin A B b ∙ own_twins B b own)) pb;
-  near = near;
+      (sym (twin_twin A B b ∙ own_twins B b own)) carry.on_b;
+  near = carry.near;
 }
 
 -- and where it is A's
 carried_of_a : (lag : ℕ) (a b : List (List ℕ)) (arrivals : List (Net × List ℕ)) → length b ≤ length a
-    → All (IsOwn A) a → AreTwins a b
-    → IsPrefixOf (carried A arrivals) a → IsPrefixOf (carried B arrivals) b → IsNear lag arrivals
-    → AreCarried lag a arrivals
-carried_of_a lag a b arrivals as_long own twins pa pb near = record {
-  on_a = prefix_same (carried A arrivals) a (map (twin_of A) a) (sym (own_twins A a own)) pa;
-  on_b = prefix_trans (carried B arrivals) b (map (twin_of B) a) pb
+    → All (IsOwn A) a → AreTwins a b → AreCarriedOf lag a b arrivals → AreCarried lag a arrivals
+carried_of_a lag a b arrivals as_long own twins carry = record {
+  on_a = prefix_same (carried A arrivals) a (map (twin_of A) a) (sym (own_twins A a own)) carry.on_a;
+  on_b = prefix_trans (carried B arrivals) b (map (twin_of B) a) carry.on_b
       (subst (λ (xs : List (List ℕ)). IsPrefixOf xs (map (twin_of B) a)) (sym (twins.b_shorter (omega arith)))
       (prefix_of_take B (length b) a));
-  near = near;
+  near = carry.near;
 }
 
 -- a sub-VL has as many frames in the twins
@@ -152,42 +148,39 @@ same_first end_system room sub accepted some others messages counts first = reco
 
 -- the law, by which list is the longer
 pub handed_arrive_holds : HandedArrive
-handed_arrive_holds end_system room lag tolerance accepted a b arrivals handed fit pa pb near sub index =
+handed_arrive_holds end_system room sub lag tolerance accepted a b arrivals handed fit carry =
     let count : ℕ = most_carried arrivals in
     let messages : List (List ℕ) = messages_in sub (received number_in tolerance begin arrivals) in
     elim (cases_lt (length a) (length b)) [
       | inl shorter ↦
           let stream : List (List ℕ) = map (twin_of A) b in
-          let sending : IsSending end_system room sub (accepted sub) stream = record {
+          let sending : IsSending end_system room sub accepted stream = record {
             link = handed.link;
-            index = index;
-            sent = handed.sent sub index;
+            index = handed.index;
+            sent = handed.sent;
             frames = stream_twins A b handed.on_b.frames;
-            first = turned end_system room sub (accepted sub) b (handed.on_b.prefixes sub index);
+            first = turned end_system room sub accepted b handed.on_b.first;
           } in
-          let carry = carried_of_b lag a b arrivals shorter handed.on_b.own handed.twins pa pb near in
+          let carry_b = carried_of_b lag a b arrivals shorter handed.on_b.own handed.twins carry in
           let longer_is : longer a b ≡ b = ap (λ (t : Bool). cond t b a) (lt_yes (length a) (length b) shorter) in
-          let counts : length (sub_stream sub (take count stream)) ≡ length
-          (sub_stream sub (take count (longer a b))) =
-          same_count sub count b ∙ ap (λ (xs : List (List ℕ)). length (sub_stream sub (take count xs)))
-          (sym longer_is) in
-          same_first end_system room sub (accepted sub) (take count stream)
-          (take count (longer a b)) messages counts
-          (messages_arrive_holds end_system room sub lag tolerance (accepted sub) stream arrivals sending fit carry)
+          let counts : length (sub_stream sub (take count stream)) ≡ length (sub_stream sub (take count (longer a b))) =
+          same_count sub count b ∙ ap (λ (xs : List (List ℕ)). length (sub_stream sub (take count xs))) (sym longer_is) in
+          same_first end_system room sub accepted (take count stream) (take count (longer a b)) messages counts
+          (messages_arrive_holds end_system room sub lag tolerance accepted stream arrivals sending fit carry_b)
       | inr as_long ↦
-          let sending : IsSending end_system room sub (accepted sub) a = record {
+          let sending : IsSending end_system room sub accepted a = record {
             link = handed.link;
-            index = index;
-            sent = handed.sent sub index;
+            index = handed.index;
+            sent = handed.sent;
             frames = handed.on_a.frames;
-            first = handed.on_a.prefixes sub index;
+            first = handed.on_a.first;
           } in
-          let carry = carried_of_a lag a b arrivals as_long handed.on_a.own handed.twins pa pb near in
+          let carry_a = carried_of_a lag a b arrivals as_long handed.on_a.own handed.twins carry in
           let longer_is : longer a b ≡ a = ap (λ (t : Bool). cond t b a) (lt_no (length a) (length b) as_long) in
           let counts : length (sub_stream sub (take count a)) ≡ length (sub_stream sub (take count (longer a b))) =
           ap (λ (xs : List (List ℕ)). length (sub_stream sub (take count xs))) (sym longer_is) in
-          same_first end_system room sub (accepted sub) (take count a) (take count (longer a b)) messages counts
-          (messages_arrive_holds end_system room sub lag tolerance (accepted sub) a arrivals sending fit carry)
+          same_first end_system room sub accepted (take count a) (take count (longer a b)) messages counts
+          (messages_arrive_holds end_system room sub lag tolerance accepted a arrivals sending fit carry_a)
     ]
   where
     lt_yes : (m n : ℕ) → m < n → nat_lt m n ≡ true

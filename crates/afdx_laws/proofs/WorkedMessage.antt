@@ -1,6 +1,5 @@
 -- The worked delivery, by computation.
-use Rattle.std.proofs.Common.{◌≡◌, ℕ, zero, suc, ◌≤◌, ◌<◌, List, [], ◌∷◌, length, map, refl, ap, ◌∙◌, arith}
-use Rattle.std.specs.Prelude.{All}
+use Rattle.std.proofs.Common.{◌≡◌, zero, suc, ◌≤◌, List, [], ◌∷◌, length, map, refl, ap, ◌∙◌, arith}
 use Rattle.std.proofs.lemmas.List.{length-append}
 use Rattle.std.proofs.lemmas.List.Elements.{All-cons, All-nil}
 use Rattle.afdx_config.specs.Demo.{demo_port}
@@ -45,17 +44,13 @@ frames_numbered net (suc zero) spare inside = refl
 frames_numbered net (suc (suc i)) spare inside = absurd (omega arith)
 
 -- they are the fragments of the message
-first_fragments : (net : Net) (sub : ℕ) → sub < 4
-    → IsPrefixOf (map blanked (sub_stream sub (both_frames net))) (fragments 1 25 net (one_accepted sub))
+first_fragments : (net : Net)
+    → IsPrefixOf (map blanked (sub_stream 0 (both_frames net))) (fragments 1 25 net one_accepted)
 unfolding checksum addresses header_front internet_header link_header udp_header datagram unnumbered cutting fragments_at
-first_fragments net zero below = ([], refl)
-first_fragments net (suc zero) below = ([], refl)
-first_fragments net (suc (suc zero)) below = ([], refl)
-first_fragments net (suc (suc (suc zero))) below = ([], refl)
-first_fragments net (suc (suc (suc (suc sub)))) below = absurd (omega arith)
+first_fragments net = ([], refl)
 
 -- so they are handed over
-handed_to : (net : Net) → IsHanded 1 25 one_accepted net (both_frames net)
+handed_to : (net : Net) → IsHanded 1 25 0 one_accepted net (both_frames net)
 handed_to net = record {
   frames = record {
     long = All-cons IsLong (front_frame net) (back_frame net ∷ []) (omega (arith, front_long net))
@@ -64,7 +59,7 @@ handed_to net = record {
   };
   own = All-cons (IsOwn net) (front_frame net) (back_frame net ∷ []) (own_front net)
       (All-cons (IsOwn net) (back_frame net) [] (own_back net) (All-nil (IsOwn net)));
-  prefixes = first_fragments net;
+  first = first_fragments net;
 }
 
 -- the two lists are twins
@@ -89,11 +84,6 @@ demo_sends = let size : length bytes_41 ≡ 41 = refl in record {
   some = omega arith;
   most = omega arith;
 }
-
--- each sub-VL's messages may be sent
-all_sent : (sub : ℕ) → sub < 4 → All (IsSent sub) (one_accepted sub)
-all_sent zero below = All-cons (IsSent 0) (record { port = demo_port; bytes = bytes_41 }) [] demo_sends (All-nil (IsSent 0))
-all_sent (suc sub) below = All-nil (IsSent (suc sub))
 
 -- a network carried no more than came
 carried_le : {F : Type 0} (net : Net) (xs : List (Net × F)) → length (carried net xs) ≤ length xs
@@ -125,15 +115,14 @@ pub one_message_arrives : OneMessageArrives
 one_message_arrives = record {
   handed = record {
     link = record { numbered = omega arith; least = omega arith; greatest = omega arith };
-    sent = all_sent;
+    index = omega arith;
+    sent = All-cons (IsSent 0) (record { port = demo_port; bytes = bytes_41 }) [] demo_sends (All-nil (IsSent 0));
     on_a = handed_to A;
     on_b = handed_to B;
     twins = are_twins;
   };
   fit = record { checks = omega arith; opens = omega arith; apart = omega arith };
-  on_a = ([], refl);
-  on_b = ([], refl);
-  near = few_are_near four_arrivals;
+  carry = record { on_a = ([], refl); on_b = ([], refl); near = few_are_near four_arrivals };
   accepts = accepts_both;
   message = ap (messages_in 0) accepts_both ∙ gives_message;
 }

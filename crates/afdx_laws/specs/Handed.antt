@@ -13,13 +13,12 @@ use Rattle.afdx_laws.specs.Messages.{sub_stream, messages_in, IsSent, IsLinkOf, 
 abbrev pub IsOwn : Net → List ℕ → Type 0
 IsOwn net frame = twin_of net frame ≡ frame
 
--- a link's frames as they were handed to a network: the network's own, numbered, and of each sub-VL
--- the first fragments of its accepted messages
-pub record IsHanded (end_system room : ℕ) (accepted : ℕ → List Sent) (net : Net) (handed : List (List ℕ)) : Type 0 where
+-- a link's frames as they were handed to a network: the network's own, numbered, and those of a
+-- sub-VL the first fragments of its accepted messages
+pub record IsHanded (end_system room sub : ℕ) (accepted : List Sent) (net : Net) (handed : List (List ℕ)) : Type 0 where
   pub frames : IsStream handed
   pub own : All (IsOwn net) handed
-  pub prefixes : (sub : ℕ) → sub < 4
-      → IsPrefixOf (map blanked (sub_stream sub handed)) (fragments end_system room net (accepted sub))
+  pub first : IsPrefixOf (map blanked (sub_stream sub handed)) (fragments end_system room net accepted)
 
 -- the shorter list is the twins of the beginning of the longer one
 pub record AreTwins (a b : List (List ℕ)) : Type 0 where
@@ -31,22 +30,27 @@ abbrev pub longer : List (List ℕ) → List (List ℕ) → List (List ℕ)
 longer a b = if nat_lt (length a) (length b) then b else a
 
 -- a link's frames were handed to both networks
-pub record AreHanded (end_system room : ℕ) (accepted : ℕ → List Sent) (a b : List (List ℕ)) : Type 0 where
+pub record AreHanded (end_system room sub : ℕ) (accepted : List Sent) (a b : List (List ℕ)) : Type 0 where
   pub link : IsLinkOf end_system room
-  pub sent : (sub : ℕ) → sub < 4 → All (IsSent sub) (accepted sub)
-  pub on_a : IsHanded end_system room accepted A a
-  pub on_b : IsHanded end_system room accepted B b
+  pub index : sub < 4
+  pub sent : All (IsSent sub) accepted
+  pub on_a : IsHanded end_system room sub accepted A a
+  pub on_b : IsHanded end_system room sub accepted B b
   pub twins : AreTwins a b
 
+-- what two networks carried of what they were handed, in the order in which it came from both
+pub record AreCarriedOf (lag : ℕ) (a b : List (List ℕ)) (arrivals : List (Net × List ℕ)) : Type 0 where
+  pub on_a : IsPrefixOf (carried A arrivals) a
+  pub on_b : IsPrefixOf (carried B arrivals) b
+  pub near : IsNear lag arrivals
+
 -- Each network carries some beginning of what it was handed, and the two come together in some order,
--- near to each other. Then the receiver's messages of each sub-VL are the first accepted ones, in
--- order and each once, and all whose fragments one network carried.
+-- near to each other. Then the receiver's messages of a sub-VL are the first accepted ones, in order
+-- and each once, and all whose fragments one network carried.
 abbrev pub HandedArrive : Type 0
-HandedArrive = (end_system room lag : ℕ) (tolerance : Tolerance) (accepted : ℕ → List Sent)
+HandedArrive = (end_system room sub lag : ℕ) (tolerance : Tolerance) (accepted : List Sent)
     (a b : List (List ℕ)) (arrivals : List (Net × List ℕ))
-    → AreHanded end_system room accepted a b
-    → IsFitFor lag tolerance
-    → IsPrefixOf (carried A arrivals) a → IsPrefixOf (carried B arrivals) b → IsNear lag arrivals
-    → (sub : ℕ) → sub < 4
-    → AreFirst end_system room sub (accepted sub) (take (most_carried arrivals) (longer a b))
+    → AreHanded end_system room sub accepted a b
+    → IsFitFor lag tolerance → AreCarriedOf lag a b arrivals
+    → AreFirst end_system room sub accepted (take (most_carried arrivals) (longer a b))
     (messages_in sub (received number_in tolerance begin arrivals))

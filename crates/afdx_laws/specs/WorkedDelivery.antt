@@ -1,6 +1,6 @@
 -- A worked delivery: the demonstration port sends 41 bytes over a link with frames of up to 64, which
 -- takes two frames. Network B is behind by one frame, and then ahead.
-use Rattle.std.specs.Prelude.{◌≡◌, ℕ, zero, suc, List, [], ◌∷◌, replicate}
+use Rattle.std.specs.Prelude.{◌≡◌, ℕ, List, [], ◌∷◌, replicate}
 use Rattle.afdx_config.specs.Demo.{demo_port}
 use Rattle.afdx_frame.specs.declared.net.Net.{Net}
 use Rattle.afdx_frame.specs.declared.net.Net.TheVariants.{A, B}
@@ -8,18 +8,17 @@ use Rattle.afdx_frame.specs.Cutting.{piece_at}
 use Rattle.afdx_frame.specs.Frame.{frame_of}
 use Rattle.afdx_frame.specs.Fragments.{Sent}
 use Rattle.afdx_frame.specs.Header.{number_in}
-use Rattle.afdx_laws.specs.Receiver.{Tolerance, IsFitFor, begin, received, carried, IsNear, IsPrefixOf}
+use Rattle.afdx_laws.specs.Receiver.{Tolerance, IsFitFor, begin, received}
 use Rattle.afdx_laws.specs.Messages.{messages_in}
-use Rattle.afdx_laws.specs.Handed.{AreHanded}
+use Rattle.afdx_laws.specs.Handed.{AreHanded, AreCarriedOf}
 
 -- the message
 abbrev pub bytes_41 : List ℕ
 bytes_41 = replicate 41 0xaa
 
--- the accepted messages of each sub-VL: this one, of sub-VL 0
-abbrev pub one_accepted : ℕ → List Sent
-one_accepted zero = record { port = demo_port; bytes = bytes_41 } ∷ []
-one_accepted (suc sub) = []
+-- the accepted messages of sub-VL 0: this one
+abbrev pub one_accepted : List Sent
+one_accepted = record { port = demo_port; bytes = bytes_41 } ∷ []
 
 -- its first frame, for a network: bytes 0 to 23 of the datagram
 abbrev pub front_frame : Net → List ℕ
@@ -48,11 +47,9 @@ plain_receiver = record { check = 1; window = 1 }
 -- They meet what the laws of delivery ask for, the receiver accepts A's first frame and B's second,
 -- and has the message.
 pub record OneMessageArrives : Type 0 where
-  pub handed : AreHanded 1 25 one_accepted (both_frames A) (both_frames B)
+  pub handed : AreHanded 1 25 0 one_accepted (both_frames A) (both_frames B)
   pub fit : IsFitFor 4 plain_receiver
-  pub on_a : IsPrefixOf (carried A four_arrivals) (both_frames A)
-  pub on_b : IsPrefixOf (carried B four_arrivals) (both_frames B)
-  pub near : IsNear 4 four_arrivals
+  pub carry : AreCarriedOf 4 (both_frames A) (both_frames B) four_arrivals
   pub accepts : received number_in plain_receiver begin four_arrivals
       ≡ front_frame A ∷ back_frame B ∷ []
   pub message : messages_in 0 (received number_in plain_receiver begin four_arrivals) ≡ bytes_41 ∷ []
