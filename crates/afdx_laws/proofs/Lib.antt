@@ -11,3 +11,5 @@ pub mod Reading
 pub mod Arriving
 pub mod HandedOver
 pub mod WorkedMessage
+pub mod LinkFrames
+pub mod LegalLinks

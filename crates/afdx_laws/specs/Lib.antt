@@ -9,3 +9,4 @@ pub mod Delivery
 pub mod Messages
 pub mod Handed
 pub mod WorkedDelivery
+pub mod Plans

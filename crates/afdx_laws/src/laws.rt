@@ -8,6 +8,7 @@ ghost use Rattle.afdx_laws.specs.Handed.{HandedArrive};
 ghost use Rattle.afdx_laws.specs.Loss.{AreClose, LossMasked, LossNotMasked, NumbersClash, one_lost};
 ghost use Rattle.afdx_laws.specs.Messages.{DespiteLoss, MessagesArrive};
 ghost use Rattle.afdx_laws.specs.Networks.{ExactlyOnce};
+ghost use Rattle.afdx_laws.specs.Plans.{LegalArrive};
 ghost use Rattle.afdx_laws.specs.Policer.{EarlyDropped, NoneDropped};
 ghost use Rattle.afdx_laws.specs.Skew.{SkewIsNear};
 ghost use Rattle.afdx_laws.specs.Spacing.{StreamPasses};
@@ -109,4 +110,14 @@ pub fn handed_arrive()
 
     // a message of two frames
     ensures worked { OneMessageArrives }
+{}
+
+/// For each link and sub-VL of a valid plan: from what was handed over legally, the receiver's
+/// messages are the first accepted ones, each once and in order, and among them all whose fragments
+/// one network carried.
+///
+/// What the emitter hands over is legal (`afdx_tx`, `IsLegal`): with that, this says what the calls of
+/// the emitter mean at the receiving end.
+pub fn legal_arrive()
+    ensures { LegalArrive }
 {}
