@@ -215,7 +215,7 @@ module _ (end_system : ℕ) (port : PortPlan) (message : List ℕ) (place : ℕ)
   unfolding unnumbered payload
   parts_are = simp append_assoc
 
-  length-frame : IsPort port → piece.start + piece.len ≤ 8 + length message → length frame ≡ max 60 (35 + piece.len)
+  pub length-frame : IsPort port → piece.start + piece.len ≤ 8 + length message → length frame ≡ max 60 (35 + piece.len)
   length-frame is within =
       let front = length-front is within in
       let parts = ap length parts_are in

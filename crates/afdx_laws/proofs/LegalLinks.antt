@@ -18,7 +18,7 @@ use Rattle.afdx_laws.proofs.LinkFrames.{long_of, own_of, numbered_of, told_is, f
 use Rattle.afdx_laws.proofs.HandedOver.{handed_arrive_holds}
 
 -- a link of a valid plan is one
-link_is : (plan : Plan) (k : ℕ) → IsPlan plan → k < length plan.links → IsLink (link_plan_at plan.links k)
+pub link_is : (plan : Plan) (k : ℕ) → IsPlan plan → k < length plan.links → IsLink (link_plan_at plan.links k)
 link_is plan k valid inside = valid.each_link k _ inside
 
 -- it has its room
@@ -28,7 +28,7 @@ room_is plan k valid inside =
     record { numbered = valid.end_system; least = omega arith; greatest = omega arith }
 
 -- what may be sent by the plan may be sent
-sent_is : (plan : Plan) (sub : ℕ) (sent : Sent) → IsPlan plan → IsAllowed plan sub sent → IsSent sub sent
+pub sent_is : (plan : Plan) (sub : ℕ) (sent : Sent) → IsPlan plan → IsAllowed plan sub sent → IsSent sub sent
 sent_is plan sub sent valid allowed =
     let port : IsPort sent.port = All-contains IsPort plan.ports sent.port valid.each_port allowed.port in
     let most = allowed.most in

@@ -13,3 +13,6 @@ pub mod HandedOver
 pub mod WorkedMessage
 pub mod LinkFrames
 pub mod LegalLinks
+pub mod Spent
+pub mod Sizes
+pub mod LegalSpacing

@@ -124,7 +124,7 @@ drop-datagram end_system sent = drop_at (udp_header end_system sent.port sent.by
     (length-udp_header end_system sent.port sent.bytes)
 
 -- each piece of a message is one
-from_start : (room size : ℕ) → 25 ≤ room → room ≤ 1479
+pub from_start : (room size : ℕ) → 25 ≤ room → room ≤ 1479
     → AllByRecursion (IsPiece size) (pieces_from 0 (cutting room (8 + size)))
 from_start room size least greatest =
     let whole : 8 + size - 0 ≡ 8 + size = omega arith in

@@ -1,13 +1,18 @@
--- Every link of a plan at once: from legal handing over to the messages at the receiving ends.
-use Rattle.std.specs.Prelude.{◌≡◌, ℕ, ◌≤◌, ◌<◌, List, length, map, take, All, Contains}
+-- Every link of a plan at once: from legal handing over past the switch to the messages at the
+-- receiving ends.
+use Rattle.std.specs.Prelude.{◌≡◌, ℕ, ◌+◌, ◌≤◌, ◌<◌, List, length, map, take, All, Contains}
+use Rattle.std.specs.List.{AllZip}
 use Rattle.afdx_config.specs.Config.{Plan, IsPlan, link_plan_at}
+use Rattle.afdx_config.specs.Plan.{bag_micros}
 use Rattle.afdx_config.specs.Room.{room_of}
 use Rattle.afdx_frame.specs.declared.net.Net.{Net}
 use Rattle.afdx_frame.specs.Header.{number_in}
 use Rattle.afdx_frame.specs.Fragments.{Sent}
 use Rattle.redundant_mux.specs.Entry.{Entry}
 use Rattle.afdx_tx.specs.Streams.{link_stream}
-use Rattle.afdx_tx.specs.Legal.{Accepted, IsLegal}
+use Rattle.afdx_tx.specs.Legal.{Accepted, IsLegalOn, IsLegal}
+use Rattle.afdx_laws.specs.Policer.{Charge, Rule, Passage, arrival, full, passed}
+use Rattle.afdx_laws.specs.Spacing.{Released, IsOnItsWay}
 use Rattle.afdx_laws.specs.Receiver.{Tolerance, IsFitFor, begin, received}
 use Rattle.afdx_laws.specs.Networks.{most_carried}
 use Rattle.afdx_laws.specs.Messages.{messages_in, AreFirst}
@@ -46,3 +51,31 @@ LegalArrive = (plan : Plan) (accepted : Accepted) (a b : List Entry)
     → AreFirst plan.end_system (room_at plan k) sub (accepted k sub)
     (take (most_carried arrivals) (longer (frames_of (id_at plan k) a) (frames_of (id_at plan k) b)))
     (messages_in sub (received number_in tolerance begin arrivals))
+
+-- a link's frames with their moments
+abbrev pub released_of : ℕ → List Entry → List Released
+released_of vl handed =
+    map (λ (e : Entry). record { at = e.at; frame = e.frame }) (link_stream vl handed)
+
+-- what a switch is told of a link, where a frame takes so many bytes on the wire beside its own, and
+-- this jitter is allowed
+abbrev pub rule_at : Plan → ℕ → ℕ → ℕ → Rule
+rule_at plan k around most = record {
+  gap = bag_micros (link_plan_at plan.links k).bag;
+  lmax = (link_plan_at plan.links k).lmax + around;
+  jitter = most;
+}
+
+-- Of what was handed over legally to a network, for a valid plan, a switch that polices each link by its
+-- gap and its greatest frame drops none, whatever each is delayed by, up to the jitter.
+abbrev pub LegalPasses : Type 0
+LegalPasses = (plan : Plan) (accepted : Accepted) (net : Net) (handed : List Entry)
+    → IsPlan plan → IsLegalOn plan accepted net handed
+    → (k : ℕ) → k < length plan.links
+    → ((sub : ℕ) → sub < (link_plan_at plan.links k).sub_vls
+    → All (IsAllowed plan sub) (accepted k sub))
+    → (charge : Charge) (jitter around : ℕ) (passages : List Passage)
+    → AllZip (IsOnItsWay around jitter) (released_of (id_at plan k) handed) passages
+    → passed charge (rule_at plan k around jitter) (full (rule_at plan k around jitter))
+    (map arrival passages)
+    ≡ map arrival passages

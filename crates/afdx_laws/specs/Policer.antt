@@ -1,5 +1,5 @@
 -- The policer of a switch (ARINC 664 Part 7, traffic policing): a token bucket for each virtual link.
-use Rattle.std.specs.Prelude.{◌≡◌, ℕ, ◌+◌, ◌-◌, ◌*◌, ◌≤◌, ◌<◌, min, nat_le, if◌then◌else◌, List, [], ◌∷◌, map}
+use Rattle.std.specs.Prelude.{◌≡◌, ℕ, ◌+◌, ◌-◌, ◌*◌, ◌≤◌, ◌<◌, min, nat_le, if◌then◌else◌, List, [], ◌∷◌, map, sum_by}
 
 -- a frame that comes to the switch: the moment in microseconds, and its bytes on the wire
 pub record Arrival : Type 0 where
@@ -86,14 +86,27 @@ abbrev pub NoneDropped : Type 0
 NoneDropped = (charge : Charge) (rule : Rule) (passages : List Passage) → AreOnTime rule passages
     → passed charge rule (full rule) (map arrival passages) ≡ map arrival passages
 
--- a switch's rule that allows no jitter
-abbrev pub strict : ℕ → ℕ → Rule
-strict gap lmax = record { gap = gap; lmax = lmax; jitter = 0 }
+-- what some frames cost
+abbrev pub cost : Charge → Rule → List Arrival → ℕ
+cost charge rule frames = sum_by (price charge rule) frames
 
--- It is no switch that lets all pass: with no jitter, of two greatest frames less than a gap apart
--- the second is dropped.
+-- moments that don't go back, from a start to an end
+abbrev pub AreBetween : ℕ → ℕ → List Arrival → Type 0
+AreBetween start end [] = start ≤ end
+AreBetween start end (frame ∷ later) = (start ≤ frame.at) × AreBetween frame.at end later
+
+-- It is no switch that lets all pass: whatever comes, what passes from one moment to another costs at
+-- most lmax bytes for each gap between them, and lmax (1 + jitter / gap) more.
+abbrev pub NoMorePasses : Type 0
+NoMorePasses = (charge : Charge) (rule : Rule) (credit start end : ℕ) (frames : List Arrival)
+    → credit ≤ limit rule → AreBetween start end frames
+    → cost charge rule (passed charge rule (record { credit = credit; since = start }) frames)
+    ≤ rule.lmax * (rule.gap + rule.jitter + (end - start))
+
+-- With no jitter, of two greatest frames less than a gap apart the second is dropped.
 abbrev pub EarlyDropped : Type 0
 EarlyDropped = (charge : Charge) (gap lmax a b : ℕ) → 1 ≤ lmax → a ≤ b → b < a + gap
-    → passed charge (strict gap lmax) (full (strict gap lmax))
+    → passed charge (record { gap = gap; lmax = lmax; jitter = 0 })
+    (full (record { gap = gap; lmax = lmax; jitter = 0 }))
     (record { at = a; size = lmax } ∷ record { at = b; size = lmax } ∷ [])
     ≡ record { at = a; size = lmax } ∷ []

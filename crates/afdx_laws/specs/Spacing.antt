@@ -1,6 +1,7 @@
 -- A link's stream at a switch: released frames, without the four bytes of their check sequence.
 use Rattle.std.specs.Prelude.{◌≡◌, ℕ, ◌+◌, ◌≤◌, Option, Some, None, List, [], ◌∷◌, length, map, All}
-use Rattle.afdx_laws.specs.Policer.{Charge, Arrival, strict, full, passed}
+use Rattle.std.specs.List.{AllZip}
+use Rattle.afdx_laws.specs.Policer.{Charge, Passage, arrival, full, passed}
 
 -- a released frame and its moment in microseconds
 pub record Released : Type 0 where
@@ -21,15 +22,21 @@ IsSpaced gap before (r ∷ later) = IsApart gap before r.at × IsSpaced gap (Som
 abbrev pub IsUpTo : ℕ → Released → Type 0
 IsUpTo lmax r = length r.frame + 4 ≤ lmax
 
--- what a switch sees of it at once, where each frame takes so many bytes on the wire beside its own
--- (none, or 20 of preamble, delimiter and gap)
-abbrev pub on_wire : ℕ → Released → Arrival
-on_wire around r = record { at = r.at; size = length r.frame + 4 + around }
+-- a released frame on its way to a switch: it comes at most the jitter after its release, and takes so
+-- many bytes on the wire beside its own (none, or 20 of preamble, delimiter and gap)
+pub record IsOnItsWay (around jitter : ℕ) (r : Released) (passage : Passage) : Type 0 where
+  pub released : passage.released ≡ r.at
+  pub size : passage.size ≡ length r.frame + 4 + around
+  pub after : r.at ≤ passage.arrived
+  pub soon : passage.arrived ≤ r.at + jitter
 
--- A switch that allows no jitter at all drops no frame of a spaced stream.
+-- A switch that polices by the gap, the greatest frame and the jitter drops no frame of a spaced
+-- stream, whatever each is delayed by, up to the jitter.
 abbrev pub StreamPasses : Type 0
-StreamPasses = (charge : Charge) (gap lmax around : ℕ) (stream : List Released)
+StreamPasses = (charge : Charge) (gap lmax jitter around : ℕ) (stream : List Released)
+    (passages : List Passage)
     → IsSpaced gap None stream → All (IsUpTo lmax) stream
-    → passed charge (strict gap (lmax + around)) (full (strict gap (lmax + around)))
-    (map (on_wire around) stream)
-    ≡ map (on_wire around) stream
+    → AllZip (IsOnItsWay around jitter) stream passages
+    → passed charge (record { gap = gap; lmax = lmax + around; jitter = jitter })
+    (full (record { gap = gap; lmax = lmax + around; jitter = jitter })) (map arrival passages)
+    ≡ map arrival passages

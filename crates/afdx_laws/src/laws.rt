@@ -8,8 +8,8 @@ ghost use Rattle.afdx_laws.specs.Handed.{HandedArrive};
 ghost use Rattle.afdx_laws.specs.Loss.{AreClose, LossMasked, LossNotMasked, NumbersClash, one_lost};
 ghost use Rattle.afdx_laws.specs.Messages.{DespiteLoss, MessagesArrive};
 ghost use Rattle.afdx_laws.specs.Networks.{ExactlyOnce};
-ghost use Rattle.afdx_laws.specs.Plans.{LegalArrive};
-ghost use Rattle.afdx_laws.specs.Policer.{EarlyDropped, NoneDropped};
+ghost use Rattle.afdx_laws.specs.Plans.{LegalArrive, LegalPasses};
+ghost use Rattle.afdx_laws.specs.Policer.{EarlyDropped, NoMorePasses, NoneDropped};
 ghost use Rattle.afdx_laws.specs.Skew.{SkewIsNear};
 ghost use Rattle.afdx_laws.specs.Spacing.{StreamPasses};
 ghost use Rattle.afdx_laws.specs.WorkedDelivery.{OneMessageArrives};
@@ -28,13 +28,19 @@ pub fn none_dropped()
     ensures worked { PolicesThree }
 {}
 
+/// Whatever comes, no more passes than the rule allows: what passes from one moment to another costs at
+/// most Lmax bytes for each gap between them, and Lmax (1 + jitter / gap) more.
+pub fn no_more_passes()
+    ensures { NoMorePasses }
+{}
+
 /// Of two greatest frames less than a gap apart a switch that allows no jitter drops the second.
 pub fn early_dropped()
     ensures { EarlyDropped }
 {}
 
-/// A switch that allows no jitter drops no frame of a spaced stream of a link, where each frame comes
-/// at the moment of its release.
+/// A switch drops no frame of a spaced stream of frames, whatever each is delayed by on its way, up to
+/// the jitter that the switch allows.
 pub fn stream_passes()
     ensures { StreamPasses }
 {}
@@ -120,4 +126,11 @@ pub fn handed_arrive()
 /// the emitter mean at the receiving end.
 pub fn legal_arrive()
     ensures { LegalArrive }
+{}
+
+/// For each link of a valid plan: of what was handed over legally to a network, a switch that polices
+/// the link by its gap and its greatest frame drops none, whatever each frame is delayed by on its way,
+/// up to the jitter that the switch allows.
+pub fn legal_passes()
+    ensures { LegalPasses }
 {}
