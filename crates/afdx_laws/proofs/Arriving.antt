@@ -1,8 +1,9 @@
 -- The receiver has the first of the accepted messages.
-use Rattle.std.proofs.Common.{◌≡◌, ℕ, zero, suc, ◌%◌, ◌≤◌, ◌<◌, Bool, true, false, nat_eq, cond, List, [], ◌∷◌, ◌++◌, length, map, take, drop, get_or, refl, ap, sym, ◌∙◌, arith}
-use Rattle.std.specs.Prelude.{All, filter}
+use Rattle.std.proofs.Common.{◌≡◌, ℕ, ◌%◌, ◌≤◌, nat_eq, List, [], ◌∷◌, ◌++◌, length, map, take, drop, refl, ap, sym, ◌∙◌, arith}
+use Rattle.std.specs.Prelude.{All}
 use Rattle.std.proofs.lemmas.List.{append_assoc, map-append, take-append-drop, length-map, length-append, take-take, take-map}
-use Rattle.std.proofs.lemmas.List.Elements.{filter-append, All-map, All-weaker, All-take}
+use Rattle.std.proofs.lemmas.Simd.{map-map}
+use Rattle.std.proofs.lemmas.List.Elements.{filter-append, All-filter, All-map, All-weaker, All-take}
 use Rattle.afdx_frame.specs.declared.net.Net.TheVariants.{A}
 use Rattle.afdx_frame.specs.Frame.{datagram}
 use Rattle.afdx_frame.specs.Twin.{twin_of}
@@ -25,17 +26,12 @@ map_same : {X Y : Type 0} (f g : X → Y) (xs : List X) → ((x : X) → f x ≡
 map_same f g [] same = refl
 map_same f g (x ∷ xs) same = ap (λ y. y ∷ map f xs) (same x) ∙ ap (λ ys. g x ∷ ys) (map_same f g xs same)
 
--- one function after another
-map_map : {X Y Z : Type 0} (f : X → Y) (g : Y → Z) (xs : List X) → map g (map f xs) ≡ map (λ x. g (f x)) xs
-map_map f g [] = refl
-map_map f g (x ∷ xs) = ap (λ ys. g (f x) ∷ ys) (map_map f g xs)
-
 -- the fragments that were received
 fragments_received : (got sent : List (List ℕ)) → map (twin_of A) got ≡ map (twin_of A) sent
     → map fragment_in got ≡ map fragment_in sent
 fragments_received got sent same =
     map_same fragment_in (λ f. fragment_in (twin_of A f)) got (λ f. sym (same_fragment A f))
-    ∙ sym (map_map (twin_of A) fragment_in got) ∙ ap (map fragment_in) same ∙ map_map (twin_of A) fragment_in sent
+    ∙ sym (map-map fragment_in (twin_of A) got) ∙ ap (map fragment_in) same ∙ map-map fragment_in (twin_of A) sent
     ∙ map_same (λ f. fragment_in (twin_of A f)) fragment_in sent (λ f. same_fragment A f)
 
 -- the first frames of a link have the first frames of a sub
@@ -44,27 +40,13 @@ sub_take : (sub n : ℕ) (stream : List (List ℕ)) → sub_stream sub stream �
 sub_take sub n stream = ap (sub_stream sub) (sym (take-append-drop n stream))
     ∙ filter-append (λ (f : List ℕ). nat_eq (word_at f 18 % 4) sub) (take n stream) (drop n stream)
 
--- what holds of all holds of some of them
-all_filter : (P : List ℕ → Type 0) (p : List ℕ → Bool) (xs : List (List ℕ)) → All P xs → All P (filter p xs)
-all_filter P p [] all = all
-all_filter P p (x ∷ xs) all = one (p x) (all_filter P p xs (λ k d h. all (suc k) d (omega arith)))
-    (all 0 x (omega arith))
-  where
-    one : (t : Bool) → All P (filter p xs) → P x → All P (cond t (x ∷ filter p xs) (filter p xs))
-    one true rest first = λ k d h. at k d h
-      where
-        at : (k : ℕ) (d : List ℕ) → k < length (x ∷ filter p xs) → P (get_or (x ∷ filter p xs) k d)
-        at zero d h = first
-        at (suc k) d h = rest k d (omega arith)
-    one false rest first = rest
-
 -- the messages in the first datagrams
 bytes_of : (end_system many : ℕ) (accepted : List Sent)
     → map (drop 8) (take many (map (λ (sent : Sent). datagram end_system sent.port sent.bytes) accepted)) ≡ take
     many (map (λ (sent : Sent). sent.bytes) accepted)
 bytes_of end_system many accepted =
     sym (take-map (drop 8) many (map (λ (sent : Sent). datagram end_system sent.port sent.bytes) accepted))
-    ∙ ap (take many) (map_map (λ (sent : Sent). datagram end_system sent.port sent.bytes) (drop 8) accepted
+    ∙ ap (take many) (map-map (drop 8) (λ (sent : Sent). datagram end_system sent.port sent.bytes) accepted
     ∙ map_same (λ (sent : Sent). drop 8 (datagram end_system sent.port sent.bytes))
     (λ (sent : Sent). sent.bytes) accepted (λ sent. drop-datagram end_system sent))
 
@@ -95,7 +77,7 @@ arrived end_system room sub count accepted stream got sending first_frames =
     ∙ append_assoc (map blanked (sub_stream sub (take count stream)))
     (map blanked (sub_stream sub (drop count stream))) prefix.0 in
     let long_sub : All IsLong (sub_stream sub (take count stream)) =
-    all_filter IsLong (λ (f : List ℕ). nat_eq (word_at f 18 % 4) sub) (take count stream)
+    All-filter (λ (f : List ℕ). nat_eq (word_at f 18 % 4) sub) IsLong (take count stream)
     (All-take IsLong count stream sending.frames.long) in
     let frames : map read_any (fragments end_system room A accepted) ≡ map fragment_in
     (sub_stream sub (take count stream)) ++ map read_any rest =
@@ -110,7 +92,7 @@ arrived end_system room sub count accepted stream got sending first_frames =
     let ends = in_order_holds room sub datagrams (map fragment_in got) (omega arith) sending.index some
     (map read_any rest, came) in
     let out_is : messages_in sub got ≡ take ends.0 (map (λ (s : Sent). s.bytes) accepted) =
-    sym (map_map (λ (e : ℕ × List ℕ). e.1) (drop 8) (of_sub sub (delivered (λ key. empty) (map fragment_in got))))
+    sym (map-map (drop 8) (λ (e : ℕ × List ℕ). e.1) (of_sub sub (delivered (λ key. empty) (map fragment_in got))))
     ∙ ap (map (drop 8)) ends.1 ∙ bytes_of end_system ends.0 accepted in
     record {
       many = ends.0;

@@ -16,3 +16,4 @@ pub mod LegalLinks
 pub mod Spent
 pub mod Sizes
 pub mod LegalSpacing
+pub mod WorkedDemo

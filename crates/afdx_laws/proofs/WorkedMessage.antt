@@ -2,6 +2,7 @@
 use Rattle.std.proofs.Common.{◌≡◌, zero, suc, ◌≤◌, List, [], ◌∷◌, length, map, refl, ap, ◌∙◌, arith}
 use Rattle.std.proofs.lemmas.List.{length-append}
 use Rattle.std.proofs.lemmas.List.Elements.{All-cons, All-nil}
+use Rattle.afdx_config.specs.Plan.{IsPort}
 use Rattle.afdx_config.specs.Demo.{demo_port}
 use Rattle.afdx_frame.specs.declared.net.Net.{Net}
 use Rattle.afdx_frame.specs.declared.net.Net.TheVariants.{A, B}
@@ -67,23 +68,24 @@ are_twins : AreTwins (both_frames A) (both_frames B)
 unfolding checksum addresses header_front internet_header link_header udp_header datagram unnumbered
 are_twins = record { b_shorter = λ h. refl; a_shorter = λ h. refl }
 
--- the demonstration port may send the message
-demo_sends : IsSent 0 (record { port = demo_port; bytes = bytes_41 })
-demo_sends = let size : length bytes_41 ≡ 41 = refl in record {
-  port = record {
-    id = omega arith;
-    vl = omega arith;
-    sub = omega arith;
-    partition = omega arith;
-    source = (omega arith, omega arith);
-    destination = (omega arith, omega arith);
-    max = (omega arith, omega arith);
-    unicast = tt;
-  };
-  its = refl;
-  some = omega arith;
-  most = omega arith;
+-- the demonstration port is one
+pub demo_port_is : IsPort demo_port
+demo_port_is = record {
+  id = omega arith;
+  vl = omega arith;
+  sub = omega arith;
+  partition = omega arith;
+  source = (omega arith, omega arith);
+  destination = (omega arith, omega arith);
+  max = (omega arith, omega arith);
+  unicast = tt;
 }
+
+-- it may send the message
+demo_sends : IsSent 0 (record { port = demo_port; bytes = bytes_41 })
+demo_sends =
+    let size : length bytes_41 ≡ 41 = refl in
+    record { port = demo_port_is; its = refl; some = omega arith; most = omega arith }
 
 -- a network carried no more than came
 carried_le : {F : Type 0} (net : Net) (xs : List (Net × F)) → length (carried net xs) ≤ length xs
@@ -94,7 +96,7 @@ carried_le B ((A, frame) ∷ xs) = let l = carried_le B xs in omega arith
 carried_le B ((B, frame) ∷ xs) = let l = carried_le B xs in omega arith
 
 -- few arrivals are near
-few_are_near : {F : Type 0} (arrivals : List (Net × F)) → IsNear (length arrivals) arrivals
+pub few_are_near : {F : Type 0} (arrivals : List (Net × F)) → IsNear (length arrivals) arrivals
 few_are_near arrivals before after net frame is =
     let whole = ap length is ∙ length-append before ((net, frame) ∷ after) in
     let few = carried_le (other net) before in

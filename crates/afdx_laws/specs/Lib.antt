@@ -10,3 +10,4 @@ pub mod Messages
 pub mod Handed
 pub mod WorkedDelivery
 pub mod Plans
+pub mod WorkedPlan

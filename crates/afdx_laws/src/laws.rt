@@ -13,6 +13,7 @@ ghost use Rattle.afdx_laws.specs.Policer.{EarlyDropped, NoMorePasses, NoneDroppe
 ghost use Rattle.afdx_laws.specs.Skew.{SkewIsNear};
 ghost use Rattle.afdx_laws.specs.Spacing.{StreamPasses};
 ghost use Rattle.afdx_laws.specs.WorkedDelivery.{OneMessageArrives};
+ghost use Rattle.afdx_laws.specs.WorkedPlan.{OneIsLegal};
 ghost use Rattle.afdx_laws.specs.WorkedPolicing.{PolicesThree};
 
 /// A switch that polices a link by its gap, its greatest frame and a jitter, by bytes or by frames,
@@ -125,7 +126,10 @@ pub fn handed_arrive()
 /// What the emitter hands over is legal (`afdx_tx`, `IsLegal`): with that, this says what the calls of
 /// the emitter mean at the receiving end.
 pub fn legal_arrive()
-    ensures { LegalArrive }
+    ensures arrive { LegalArrive }
+
+    // the demonstration configuration, with one message
+    ensures worked { OneIsLegal }
 {}
 
 /// For each link of a valid plan: of what was handed over legally to a network, a switch that polices
