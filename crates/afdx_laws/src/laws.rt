@@ -1,0 +1,140 @@
+//! Laws of the definitions. Their functions do nothing: the contract is the law.
+//!
+//! That a switch or a receiver works as it is defined here is a premise of each, and so is that the
+//! networks deliver what is said.
+ghost use Rattle.afdx_frame.specs.declared.net.Net.TheVariants.{B};
+ghost use Rattle.afdx_laws.specs.Delivery.{InOrder};
+ghost use Rattle.afdx_laws.specs.Handed.{HandedArrive};
+ghost use Rattle.afdx_laws.specs.Loss.{AreClose, LossMasked, LossNotMasked, NumbersClash, one_lost};
+ghost use Rattle.afdx_laws.specs.Messages.{DespiteLoss, MessagesArrive};
+ghost use Rattle.afdx_laws.specs.Networks.{ExactlyOnce};
+ghost use Rattle.afdx_laws.specs.Plans.{LegalArrive, LegalPasses};
+ghost use Rattle.afdx_laws.specs.Policer.{EarlyDropped, NoMorePasses, NoneDropped};
+ghost use Rattle.afdx_laws.specs.Skew.{SkewIsNear};
+ghost use Rattle.afdx_laws.specs.Spacing.{StreamPasses};
+ghost use Rattle.afdx_laws.specs.WorkedDelivery.{OneMessageArrives};
+ghost use Rattle.afdx_laws.specs.WorkedPlan.{OneIsLegal};
+ghost use Rattle.afdx_laws.specs.WorkedPolicing.{PolicesThree};
+
+/// A switch that polices a link by its gap, its greatest frame and a jitter, by bytes or by frames,
+/// drops no frame of a link that keeps its gap, whatever each frame is delayed by on its way, up to
+/// the jitter.
+///
+/// One link alone. That frames are delayed by no more is a premise. Nothing is said of the queues of
+/// the switch.
+pub fn none_dropped()
+    ensures passed { NoneDropped }
+
+    // three frames, one of them late, and three that come too early
+    ensures worked { PolicesThree }
+{}
+
+/// Whatever comes, no more passes than the rule allows: what passes from one moment to another costs at
+/// most Lmax bytes for each gap between them, and Lmax (1 + jitter / gap) more.
+pub fn no_more_passes()
+    ensures { NoMorePasses }
+{}
+
+/// Of two greatest frames less than a gap apart a switch that allows no jitter drops the second.
+pub fn early_dropped()
+    ensures { EarlyDropped }
+{}
+
+/// A switch drops no frame of a spaced stream of frames, whatever each is delayed by on its way, up to
+/// the jitter that the switch allows.
+pub fn stream_passes()
+    ensures { StreamPasses }
+{}
+
+/// A receiver accepts each frame of a link exactly once and in order, as far as one of the networks
+/// carried them, from any interleaving of what the two networks carried, as long as none is more
+/// than 255 less its window frames behind the other.
+///
+/// Each network may stop carrying at any point, and then carries nothing more. Nothing is said of
+/// frames that both networks lose, of a transmitter that begins anew with 0, and of the receiver's
+/// timer for frames that come late (SkewMax).
+pub fn exactly_once()
+    ensures { ExactlyOnce }
+{}
+
+/// A receiver for which the next number alone is new accepts each frame once and in order although
+/// one network loses, repeats and reorders frames, where the other carries them all.
+///
+/// Where the whole network stops too, a loss on the other holds up the receiver until the numbers
+/// come round.
+pub fn loss_masked()
+    ensures masked { LossMasked }
+
+    // network A loses a frame, and network B carries all three
+    ensures worked { AreClose B 3 0 0 one_lost }
+{}
+
+/// A receiver for which the next two numbers are new drops the good copy of a frame that the network
+/// that is ahead lost, and one for which the next alone is new accepts it.
+pub fn loss_not_masked()
+    ensures { LossNotMasked }
+{}
+
+/// The bound on the lag is exact, for each window: one frame of lag more, and the receiver accepts
+/// an old frame as new.
+pub fn numbers_clash()
+    ensures { NumbersClash }
+{}
+
+/// Networks that deliver each frame within a delay of its release are never further apart than
+/// 1 + delay / gap frames, so that a receiver's bound on the lag is one on the delay.
+pub fn skew_is_near()
+    ensures { SkewIsNear }
+{}
+
+/// Of the fragments of several sub-VLs, each sub-VL's own in order, the first datagrams of each are
+/// reassembled in order, each once, and all of those whose fragments came.
+///
+/// A receiver keeps a buffer for each identification, as many as it needs, and never gives one up.
+pub fn in_order()
+    ensures { InOrder }
+{}
+
+/// A receiver's messages of a sub-VL are the first of those that were accepted for it, each once and
+/// in order, and all whose fragments one of the networks carried.
+pub fn messages_arrive()
+    ensures { MessagesArrive }
+{}
+
+/// They are so although one network loses, repeats and reorders frames, where the other carries them
+/// all and the next number alone is new to the receiver.
+pub fn despite_loss()
+    ensures { DespiteLoss }
+{}
+
+/// They are so by what was handed to the two networks: two lists, twins as far as both go, numbered,
+/// and of each sub-VL the first fragments of its accepted messages.
+///
+/// It reads identification, offset, flags, total length and number of each frame. That its addresses,
+/// its ports and its checksum are right, other laws say (`afdx_frame::laws::each_frame_says`).
+pub fn handed_arrive()
+    ensures arrive { HandedArrive }
+
+    // a message of two frames
+    ensures worked { OneMessageArrives }
+{}
+
+/// For each link and sub-VL of a valid plan: from what was handed over legally, the receiver's
+/// messages are the first accepted ones, each once and in order, and among them all whose fragments
+/// one network carried.
+///
+/// What the emitter hands over is legal (`afdx_tx`, `IsLegal`): with that, this says what the calls of
+/// the emitter mean at the receiving end.
+pub fn legal_arrive()
+    ensures arrive { LegalArrive }
+
+    // the demonstration configuration, with one message
+    ensures worked { OneIsLegal }
+{}
+
+/// For each link of a valid plan: of what was handed over legally to a network, a switch that polices
+/// the link by its gap and its greatest frame drops none, whatever each frame is delayed by on its way,
+/// up to the jitter that the switch allows.
+pub fn legal_passes()
+    ensures { LegalPasses }
+{}
