@@ -1,11 +1,10 @@
 use Rattle.std.proofs.Common.{◌≡◌, ◌∙◌, ap, sym, subst, List, [], true}
 use Rattle.redundant_mux.specs.Entry.{Entry}
 use Rattle.redundant_mux.specs.Lines.{Lines}
-use Rattle.afdx_tx.specs.Emitter.{IsSound, IsInStep, none_accepted}
-use Rattle.afdx_tx.proofs.FreshEmitter.{fresh_lines, fresh_sound, fresh_step}
-use Rattle.afdx_tx.proofs.SoundEmitter.{in_step_after}
-use Rattle.afdx_tx.proofs.emitter.Emitter.over.Given
-use Rattle.afdx_tx.proofs.emitter.Emitter.over.Goals as goal
+use Rattle.afdx_tx.specs.Emitter.{IsSound}
+use Rattle.afdx_tx.proofs.FreshEmitter.{fresh_lines, fresh_sound}
+use Rattle.afdx_tx.proofs.transmitter.Transmitter.over.Given
+use Rattle.afdx_tx.proofs.transmitter.Transmitter.over.Goals as goal
 
 -- nothing was handed to either network
 nothing_handed : (g : Given.Over) (c : goal.After-new-2 g) → c.new.result ≡ fresh_lines
@@ -34,12 +33,3 @@ pub invariant_of-result : goal.invariant_of-result
 invariant_of-result g c =
     subst (λ (lines : Lines). IsSound c.args.config c.args.links.items lines 0) (sym (nothing_handed g c))
     (fresh_sound c.args.config c.args.links.items c.requires.valid c.requires.fresh)
-
-pub returns-clause-step : goal.returns-clause-step
-returns-clause-step g c =
-    subst (λ (lines : Lines). IsInStep none_accepted
-    (record { plan = c.args.config; links = c.args.links.items; lines = lines; moment = 0 }))
-    (sym (nothing_handed g c))
-    (in_step_after c.args.config c.args.links.items fresh_lines 0 none_accepted
-    (fresh_sound c.args.config c.args.links.items c.requires.valid c.requires.fresh)
-    (fresh_step c.args.config c.args.links.items c.requires.fresh))

@@ -9,8 +9,8 @@ use Rattle.afdx_tx.specs.Report.{IsTold, released_by}
 use Rattle.afdx_tx.proofs.LinkTurn.{Turned}
 use Rattle.afdx_tx.proofs.ToldReleases.{told_more, few_released}
 use Rattle.afdx_tx.proofs.PollTurns.{steady_more, serving_more, cut_at}
-use Rattle.afdx_tx.proofs.emitter.serve_all.Given
-use Rattle.afdx_tx.proofs.emitter.serve_all.Goals as goal
+use Rattle.afdx_tx.proofs.transmitter.serve_all.Given
+use Rattle.afdx_tx.proofs.transmitter.serve_all.Goals as goal
 
 pub loop-link-preserved : goal.loop-link-preserved
 loop-link-preserved g c =
@@ -25,7 +25,6 @@ loop-link-preserved g c =
       serves = e.serves;
       paced = e.paced;
       same = e.same;
-      subs = e.subs;
       later = subst (λ (l : LinkState). IsLater l.pace.last c.args.now) (sym item) (s.steady.later c.loop-link.link-index lt);
       whole = ap (λ (l : LinkState). l.lost) item ∙ s.whole c.loop-link.link-index lt;
       lost = e.lost;
@@ -64,7 +63,6 @@ turned_here g c =
       serves = e.serves;
       paced = e.paced;
       same = e.same;
-      subs = e.subs;
       later = subst (λ (l : LinkState). IsLater l.pace.last c.args.now) (sym item)
           (s.steady.later c.loop-link.link-index (within g c));
       whole = ap (λ (l : LinkState). l.lost) item ∙ s.whole c.loop-link.link-index (within g c);
@@ -74,7 +72,7 @@ turned_here g c =
 
 pub returns-then-is_lost-clause-steady : goal.returns-then-is_lost-clause-steady
 returns-then-is_lost-clause-steady g c =
-    steady_more c.args.now c.loop-link.link-index c.args.links.now c.loop-link.links c.args.mux.now c.loop-link.mux c.serve-did.new.mux c.serve-did.new.self c.serve-did.result
+    steady_more c.args.now c.loop-link.link-index c.args.links.now c.loop-link.links c.loop-link.mux c.serve-did.new.mux c.serve-did.new.self c.serve-did.result
     c.loop-link.invariant.serving.steady c.requires.apart (within g c) (turned_here g c)
     c.serve-did.ensures.mirrored c.serve-did.ensures.later
 
