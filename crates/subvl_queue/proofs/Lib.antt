@@ -1,0 +1,6 @@
+pub mod Parts
+pub mod Passes
+pub mod Sending
+pub mod Counting
+pub mod Receiving
+pub mod Seating
