@@ -4,3 +4,5 @@ pub mod Sending
 pub mod Counting
 pub mod Receiving
 pub mod Seating
+pub mod Whole
+pub mod Ends
