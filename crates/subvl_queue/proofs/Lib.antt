@@ -6,3 +6,4 @@ pub mod Receiving
 pub mod Seating
 pub mod Whole
 pub mod Ends
+pub mod Together

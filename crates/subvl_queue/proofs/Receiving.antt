@@ -18,7 +18,7 @@ settles pass v may items views h at =
     let capacity : v.capacity ≡ h.capacity = mine.capacity_is in
     let within : length items ≤ h.capacity = h.within in
     let parts : (p : ℕ) → part_of p (v.got ++ items) ≡ h.sent p =
-        λ p. ap (λ (g : List (ℕ × List ℕ)). part_of p (g ++ items)) mine.got_is ∙ h.parts p in
+    λ p. ap (λ (g : List (ℕ × List ℕ)). part_of p (g ++ items)) mine.got_is ∙ h.parts p in
     record {
       within = omega arith;
       back = back_parts h.seat h.sent (v.got ++ items) parts v.joined mine.back;
@@ -42,7 +42,7 @@ pops pass v may m items views h at =
     let capacity : v.capacity ≡ h.capacity = mine.capacity_is in
     let first : (p : ℕ) → part_of p (got ++ items) ≡ h.sent p = λ p. ap (part_of p) (append_assoc h.got (m ∷ []) items) ∙ h.parts p in
     let parts : (p : ℕ) → part_of p ((v.got ++ m ∷ []) ++ items) ≡ h.sent p =
-        λ p. ap (λ (g : List (ℕ × List ℕ)). part_of p ((g ++ m ∷ []) ++ items)) mine.got_is ∙ first p in (
+    λ p. ap (λ (g : List (ℕ × List ℕ)). part_of p ((g ++ m ∷ []) ++ items)) mine.got_is ∙ first p in (
       w,
       record {
         capacity = h.capacity;
@@ -73,12 +73,15 @@ pops pass v may m items views h at =
       record {
         after = refl;
         sound = record { port = known pass v m items views h mine; message = All-head Sound m items h.sound };
-        settles = (items, record {
-          within = omega (arith, within, capacity);
-          back = back_parts h.seat h.sent ((v.got ++ m ∷ []) ++ items) parts v.joined mine.back;
-          no_more = λ p le. parts p ∙ (mine.unmade p le).1;
-          short = λ p. subst (λ (l : List (List ℕ)). length l ≤ most_calls) (sym (parts p)) (h.short p);
-        });
+        settles = (
+          items,
+          record {
+            within = omega (arith, within, capacity);
+            back = back_parts h.seat h.sent ((v.got ++ m ∷ []) ++ items) parts v.joined mine.back;
+            no_more = λ p le. parts p ∙ (mine.unmade p le).1;
+            short = λ p. subst (λ (l : List (List ℕ)). length l ≤ most_calls) (sym (parts p)) (h.short p);
+          },
+        );
       },
     )
 
@@ -89,10 +92,10 @@ looks_again pass v may items views h at =
     let F : ℕ → View → Type 0 = Fits h.capacity h.reader h.seat h.sent h.got in
     let mine = (h.each pass v at).as_receiver may in
     let old : Each F (set views pass l) = each_set F views pass l
-        (record {
-          as_sender = λ s. is_not l.sends refl s;
-          as_receiver = λ _. record { one = mine.one; got_is = mine.got_is; capacity_is = mine.capacity_is; unmade = mine.unmade; back = mine.back };
-        }) (λ j u ne e. h.each j u e) in
+    (record {
+      as_sender = λ s. is_not l.sends refl s;
+      as_receiver = λ _. record { one = mine.one; got_is = mine.got_is; capacity_is = mine.capacity_is; unmade = mine.unmade; back = mine.back };
+    }) (λ j u ne e. h.each j u e) in
     record {
       capacity = h.capacity;
       reader = h.reader;
@@ -113,7 +116,7 @@ few_got capacity ports room waiting v w m kept takes =
     let made : v.made ≡ ports = ap (λ (x : View). x.made) kept.is in
     let most : ports ≤ 64 = kept.ports_most in
     subst (λ (l : List (ℕ × List ℕ)). length l ≤ most_items) (sym (ap (λ (x : View). x.got) takes.after))
-        (few_items v.capacity v.made v.joined (v.got ++ m ∷ []) (omega (arith, made, most)) takes.settles)
+    (few_items v.capacity v.made v.joined (v.got ++ m ∷ []) (omega (arith, made, most)) takes.settles)
 
 -- a receiver stays one as it takes a message
 pub after_taking : (capacity ports room : ℕ) (waiting : List (ℕ × List ℕ)) (v w : View) (m : ℕ × List ℕ) → IsReceiver capacity ports room waiting v →

@@ -11,7 +11,6 @@ use Rattle.subvl_queue.specs.Rule.{sender, receiver, nobody, Fits, FitsSender, D
 use Rattle.subvl_queue.proofs.Parts.{none_left}
 use Rattle.subvl_queue.proofs.Passes.{at_end, Each, each_set, each_push, back_again, apart, seated, is_not, fits_nobody}
 
-
 -- an empty channel, with nobody but the receiver
 pub begins : Delivers [] (receiver 0 0 [] [] 0 ∷ [])
 begins =
@@ -46,14 +45,14 @@ measures capacity pass v may none_made none_got items views h at =
     let parts : (p : ℕ) → part_of p items ≡ h.sent p = λ p. ap (λ (g : List (ℕ × List ℕ)). part_of p (g ++ items)) (sym got) ∙ h.parts p in
     let nothing : items ≡ [] = none_left items (λ p. parts p ∙ (idle p).1) in
     let old : Each F (set views pass l) = each_set F views pass l
-        (record {
-          as_sender = λ s. is_not l.sends refl s;
-          as_receiver = λ _. record { one = mine.one; got_is = refl; capacity_is = refl; unmade = λ p _. idle p; back = tt };
-        })
-        (λ j u ne e. let was = h.each j u e in record {
-          as_sender = λ s. absurd (some-ne-none j (sym (was.as_sender s).seated ∙ (idle u.port).0));
-          as_receiver = λ g. absurd (ne ((was.as_receiver g).one ∙ sym mine.one));
-        }) in
+    (record {
+      as_sender = λ s. is_not l.sends refl s;
+      as_receiver = λ _. record { one = mine.one; got_is = refl; capacity_is = refl; unmade = λ p _. idle p; back = tt };
+    })
+    (λ j u ne e. let was = h.each j u e in record {
+      as_sender = λ s. absurd (some-ne-none j (sym (was.as_sender s).seated ∙ (idle u.port).0));
+      as_receiver = λ g. absurd (ne ((was.as_receiver g).one ∙ sym mine.one));
+    }) in
     record {
       capacity = capacity;
       reader = h.reader;
@@ -82,23 +81,25 @@ makes pass v may items views h at =
     let F : ℕ → View → Type 0 = Fits h.capacity h.reader seat h.sent h.got in
     let Old : ℕ → View → Type 0 = λ j u. F j u × (u.port ≡ v.made → u.sends ≡ true → ⊥) in
     let later : (p : ℕ) → v.made + 1 ≤ p → (seat p ≡ none) × (h.sent p ≡ []) =
-        λ p le. let ne : p ≢ v.made = omega (arith, le) in let y = mine.unmade p (omega (arith, le)) in (other p ne ∙ y.0, y.1) in
-    let old : Each Old vs = each_set Old views pass l
-        (record {
-          as_sender = λ s. is_not l.sends refl s;
-          as_receiver = λ _. record { one = mine.one; got_is = mine.got_is; capacity_is = mine.capacity_is; unmade = later; back = tt };
-        }, λ _ s. is_not l.sends refl s)
-        (λ j u ne e. let was = h.each j u e in (
-          record {
-            as_sender = λ s. let x = was.as_sender s in record {
-              seated = other u.port (away u.port j x.seated) ∙ x.seated;
-              own = x.own;
-              capacity_is = x.capacity_is;
-            };
-            as_receiver = λ g. absurd (ne ((was.as_receiver g).one ∙ sym mine.one));
-          },
-          λ is s. away u.port j (was.as_sender s).seated is,
-        )) in
+    λ p le. let ne : p ≢ v.made = omega (arith, le) in let y = mine.unmade p (omega (arith, le)) in (other p ne ∙ y.0, y.1) in
+    let old : Each Old vs = each_set Old views pass l (
+      record {
+        as_sender = λ s. is_not l.sends refl s;
+        as_receiver = λ _. record { one = mine.one; got_is = mine.got_is; capacity_is = mine.capacity_is; unmade = later; back = tt };
+      },
+      λ _ s. is_not l.sends refl s,
+    )
+    (λ j u ne e. let was = h.each j u e in (
+      record {
+        as_sender = λ s. let x = was.as_sender s in record {
+          seated = other u.port (away u.port j x.seated) ∙ x.seated;
+          own = x.own;
+          capacity_is = x.capacity_is;
+        };
+        as_receiver = λ g. absurd (ne ((was.as_receiver g).one ∙ sym mine.one));
+      },
+      λ is s. away u.port j (was.as_sender s).seated is,
+    )) in
     let fresh : (j : ℕ) → get_elem? (vs ++ r ∷ []) j ≡ some r → F j r = λ j e. record {
       as_sender = λ s. record {
         seated = here ∙ ap some (sym (at_end vs r r j (λ x. (old j r x).1 refl s) e));
@@ -134,28 +135,28 @@ merges pass v other w gets sends items views h at two at' =
     let here : seat w.port ≡ none = ap (λ (b : Bool). if b then none else h.seat w.port) (eq-eqb w.port w.port refl) in
     let away : (p : ℕ) → p ≢ w.port → seat p ≡ h.seat p = λ p ne. ap (λ (b : Bool). if b then none else h.seat p) (ne_eqb p w.port ne) in
     let still : (p : ℕ) → h.seat p ≡ none → (seat p ≡ none) × (h.sent p ≡ h.sent p) =
-        λ p e. (away p (seated h.seat p w.port other e theirs.seated) ∙ e, refl) in
+    λ p e. (away p (seated h.seat p w.port other e theirs.seated) ∙ e, refl) in
     let F : ℕ → View → Type 0 = Fits h.capacity h.reader seat h.sent h.got in
     let Now : ℕ → View → Type 0 = λ j u. j ≢ other → F j u in
     let now : Each Now vs = each_set Now views pass both
-        (λ _. record {
-          as_sender = λ s. is_not both.sends refl s;
-          as_receiver = λ _. record {
-            one = mine.one;
-            got_is = mine.got_is;
-            capacity_is = mine.capacity_is;
-            unmade = λ p le. let y = mine.unmade p le in ((still p y.0).0, y.1);
-            back = (here, sym theirs.own, back_again h.seat seat h.sent h.sent still v.joined mine.back);
-          };
-        })
-        (λ j u ne e away_from. let x = h.each j u e in record {
-          as_sender = λ s. let y = x.as_sender s in record {
-            seated = away u.port (apart h.seat u.port w.port j other y.seated theirs.seated away_from) ∙ y.seated;
-            own = y.own;
-            capacity_is = y.capacity_is;
-          };
-          as_receiver = λ g. absurd (ne ((x.as_receiver g).one ∙ sym mine.one));
-        }) in
+    (λ _. record {
+      as_sender = λ s. is_not both.sends refl s;
+      as_receiver = λ _. record {
+        one = mine.one;
+        got_is = mine.got_is;
+        capacity_is = mine.capacity_is;
+        unmade = λ p le. let y = mine.unmade p le in ((still p y.0).0, y.1);
+        back = (here, sym theirs.own, back_again h.seat seat h.sent h.sent still v.joined mine.back);
+      };
+    })
+    (λ j u ne e away_from. let x = h.each j u e in record {
+      as_sender = λ s. let y = x.as_sender s in record {
+        seated = away u.port (apart h.seat u.port w.port j other y.seated theirs.seated away_from) ∙ y.seated;
+        own = y.own;
+        capacity_is = y.capacity_is;
+      };
+      as_receiver = λ g. absurd (ne ((x.as_receiver g).one ∙ sym mine.one));
+    }) in
     record {
       capacity = h.capacity;
       reader = h.reader;

@@ -18,14 +18,14 @@ pushes n pass v m may full from few message items views room h at =
     let sent : ℕ → List (List ℕ) = λ p. part_of p (h.got ++ (items ++ m ∷ [])) in
     let again : (p : ℕ) → sent p ≡ part_of p ((h.got ++ items) ++ m ∷ []) = λ p. ap (part_of p) (sym (append_assoc h.got items (m ∷ []))) in
     let same : sent v.port ≡ h.sent v.port ++ m.1 ∷ [] =
-        again v.port ∙ part_push v.port (h.got ++ items) m from ∙ ap (λ l. l ++ m.1 ∷ []) (h.parts v.port) in
+    again v.port ∙ part_push v.port (h.got ++ items) m from ∙ ap (λ l. l ++ m.1 ∷ []) (h.parts v.port) in
     let other : (p : ℕ) → p ≢ v.port → sent p ≡ h.sent p =
-        λ p ne. again p ∙ part_push_other p (h.got ++ items) m (λ e. ne (sym e ∙ from)) ∙ h.parts p in
+    λ p ne. again p ∙ part_push_other p (h.got ++ items) m (λ e. ne (sym e ∙ from)) ∙ h.parts p in
     let wait : (p : ℕ) → h.seat p ≡ none → (h.seat p ≡ none) × (sent p ≡ h.sent p) =
-        λ p e. (e, other p (seated h.seat p v.port pass e mine.seated)) in
+    λ p e. (e, other p (seated h.seat p v.port pass e mine.seated)) in
     let grown : v.own ++ m.1 ∷ [] ≡ sent v.port = ap (λ l. l ++ m.1 ∷ []) mine.own ∙ sym same in
     let short_here : length (sent v.port) ≤ most_calls =
-        subst (λ (l : List (List ℕ)). length l ≤ most_calls) grown (omega (arith, few, length-append v.own (m.1 ∷ []))) in
+    subst (λ (l : List (List ℕ)). length l ≤ most_calls) grown (omega (arith, few, length-append v.own (m.1 ∷ []))) in
     let capacity : v.capacity ≡ h.capacity = mine.capacity_is in (
       w,
       record {

@@ -71,7 +71,7 @@ pub few_left : (capacity made : ℕ) (joined : List (ℕ × List (List ℕ))) (g
     → SettlesWith capacity made joined got → SettlesWith capacity made joined (got ++ more) → length more ≤ capacity
 few_left capacity made joined got more all x y =
     let same = same_length (got ++ x.0) ((got ++ more) ++ y.0)
-        (agree made joined (got ++ x.0) ((got ++ more) ++ y.0) all x.1.back x.1.no_more y.1.back y.1.no_more) in
+    (agree made joined (got ++ x.0) ((got ++ more) ++ y.0) all x.1.back x.1.no_more y.1.back y.1.no_more) in
     let within : length x.0 ≤ capacity = x.1.within in
     omega (arith, length-append got x.0, length-append got more, length-append (got ++ more) y.0)
 

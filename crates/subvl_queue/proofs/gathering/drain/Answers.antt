@@ -21,9 +21,9 @@ push_back_reserved-requires g c =
     let more : List (ℕ × List ℕ) = room ++ c.in-Ok.item ∷ [] in
     let then = c.in-Ok.ensures.rule.settles in
     let here : SettlesWith v.capacity v.made v.joined ((v.got ++ room) ++ c.in-Ok.item ∷ []) =
-        subst (λ (u : View). SettlesWith u.capacity u.made u.joined (u.got ++ c.in-Ok.item ∷ [])) knows then in
+    subst (λ (u : View). SettlesWith u.capacity u.made u.joined (u.got ++ c.in-Ok.item ∷ [])) knows then in
     let same : SettlesWith v.capacity v.made v.joined (v.got ++ more) =
-        subst (λ (l : List (ℕ × List ℕ)). SettlesWith v.capacity v.made v.joined l) (append_assoc v.got room (c.in-Ok.item ∷ [])) here in
+    subst (λ (l : List (ℕ × List ℕ)). SettlesWith v.capacity v.made v.joined l) (append_assoc v.got room (c.in-Ok.item ∷ [])) here in
     let first : SettlesWith v.capacity v.made v.joined v.got = c.learn_as.ensures.rule in
     let fits : length more ≤ v.capacity = few_left v.capacity v.made v.joined v.got more c.requires.all first same in
     let reserved = c.requires.room in
@@ -37,5 +37,5 @@ returns-in-Err-clause-few g c =
     let held = c.in-Err.ensures.rule.1 in
     let here : SettlesWith (view c.loop.pass).capacity (view c.loop.pass).made (view c.loop.pass).joined (view c.loop.pass).got = (held.0, held.2) in
     let same : SettlesWith v.capacity v.made v.joined (v.got ++ room) =
-        subst (λ (u : View). SettlesWith u.capacity u.made u.joined u.got) c.loop.invariant.knows here in
+    subst (λ (u : View). SettlesWith u.capacity u.made u.joined u.got) c.loop.invariant.knows here in
     few_left v.capacity v.made v.joined v.got room c.requires.all c.learn_as.ensures.rule same
