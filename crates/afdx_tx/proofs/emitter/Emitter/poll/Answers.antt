@@ -1,7 +1,6 @@
 use Rattle.std.proofs.Common.{◌≡◌, subst}
 use Rattle.afdx_tx.specs.Emitter.{Tx, queues_in}
 use Rattle.afdx_tx.proofs.SoundEmitter.{receiving_still, same_queues}
-use Rattle.afdx_tx.proofs.emitter.Emitter.poll.Given
 use Rattle.afdx_tx.proofs.emitter.Emitter.poll.Goals as goal
 
 pub invariant_of-self : goal.invariant_of-self
