@@ -69,12 +69,12 @@ fn next_piece(room: usize, len: usize, start: usize) -> Option<Piece>
 }
 
 impl Cut {
-    /// A message of a port of a configuration, of 1 byte to the port's greatest message, of which
-    /// nothing was given. Its place counts the accepted messages of its sub-VL from 0.
+    /// A message of a port of a configuration, of 1 to 8,192 bytes, of which nothing was given. Its
+    /// place counts the accepted messages of its sub-VL from 0.
     pub fn new(bytes: Vec<u8>, place: u64, port: &PortPlan) -> Cut
         requires port { IsPort port.now }
         requires some { 1 ≤ vec_len bytes }
-        requires most { vec_len bytes ≤ port.now.max }
+        requires most { vec_len bytes ≤ 8192 }
         ensures message { (result.port ≡ port.now)
             × (result.place ≡ place)
             × (result.bytes ≡ bytes.items) }

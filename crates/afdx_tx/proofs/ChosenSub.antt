@@ -6,9 +6,9 @@ use Rattle.afdx_config.specs.declared.link_plan.LinkPlan.{LinkPlan}
 use Rattle.redundant_mux.specs.Lines.{Lines}
 use Rattle.vl_shaper.specs.Pace.{Pace}
 use Rattle.afdx_tx.specs.declared.sub_vl.SubVl.{SubVl}
-use Rattle.afdx_tx.specs.Links.{Held, held_at, nothing_held, IsChoice, AreSubsOf, AreSameSubs, Releases, ReleasesAt, Loses, LosesAt}
+use Rattle.afdx_tx.specs.Links.{Held, held_at, nothing_held, IsChoice, AreSubsOf, IsSameSub, AreSameSubs, Releases, ReleasesAt, Loses, LosesAt}
 use Rattle.afdx_tx.proofs.Choosing.{held_same}
-use Rattle.afdx_tx.proofs.SubInStep.{asked_left, chosen_same}
+use Rattle.afdx_tx.proofs.SubInStep.{asked_left, chosen_same, same_sub_here, same_sub_on}
 
 -- the chosen one, whatever the default of the index
 item_is : (pace : Pace) (old : List Held) (sub : ℕ) (mid : List Held) (d : Held) → IsChoice pace old sub mid
@@ -28,20 +28,24 @@ pub item_of : (pace : Pace) (plan : LinkPlan) (old : List Held) (sub : ℕ) (mid
     → ((get_or mid sub d).of.link ≡ plan) × ((get_or mid sub d).of.sub ≡ sub)
 item_of pace plan old sub mid d c n =
     let same : (get_or mid sub d).of ≡ (held_at old sub).of =
-    ap (λ (h : Held). h.of) (item_is pace old sub mid d c) ∙ chosen_same pace old sub mid c sub in
+    ap (λ (h : Held). h.of) (item_is pace old sub mid d c) ∙ (chosen_same pace old sub mid c sub).of in
     let own = n sub c.below in
     (ap (λ (of : SubVl). of.link) same ∙ own.0, ap (λ (of : SubVl). of.sub) same ∙ own.1)
 
--- all stay themselves where it becomes one of the same name
+-- all stay themselves where it becomes one that does
 pub set_same : (pace : Pace) (old : List Held) (sub : ℕ) (mid : List Held) (d h : Held)
-    → IsChoice pace old sub mid → h.of ≡ (get_or mid sub d).of → AreSameSubs old (set mid sub h)
+    → IsChoice pace old sub mid → IsSameSub (get_or mid sub d) h → AreSameSubs old (set mid sub h)
 set_same pace old sub mid d h c e s = ⊎_elim
     (λ (q : s ≡ sub).
-    let here : (held_at (set mid sub h) sub).of ≡ (held_at old sub).of =
-    ap (λ (x : Held). x.of) (held_same mid sub h (omega (arith, c.count, c.below))) ∙ e
-    ∙ ap (λ (x : Held). x.of) (item_is pace old sub mid d c) ∙ chosen_same pace old sub mid c sub in
-    subst (λ (i : ℕ). (held_at (set mid sub h) i).of ≡ (held_at old i).of) (sym q) here)
-    (λ (ne : s ≢ sub). ap (λ (x : Held). x.of) (get_or-set_other mid sub s h nothing_held ne) ∙ chosen_same pace old sub mid c s)
+    let chosen : IsSameSub (held_at mid sub) h =
+    subst (λ (x : Held). IsSameSub x h) (item_is pace old sub mid d c) e in
+    let here : IsSameSub (held_at old sub) (held_at (set mid sub h) sub) =
+    subst (IsSameSub (held_at old sub)) (sym (held_same mid sub h (omega (arith, c.count, c.below))))
+    (same_sub_on (held_at old sub) (held_at mid sub) h (chosen_same pace old sub mid c sub) chosen) in
+    subst (λ (i : ℕ). IsSameSub (held_at old i) (held_at (set mid sub h) i)) (sym q) here)
+    (λ (ne : s ≢ sub).
+    same_sub_on (held_at old s) (held_at mid s) (held_at (set mid sub h) s) (chosen_same pace old sub mid c s)
+    (same_sub_here (held_at mid s) (held_at (set mid sub h) s) (get_or-set_other mid sub s h nothing_held ne)))
     (cases_eq s sub)
 
 -- a link that chose it released its frame

@@ -1,8 +1,9 @@
 -- An emitter of which nothing was asked yet.
-use Rattle.std.proofs.Common.{ℕ, ◌≡◌, ◌+◌, ◌<◌, ◌≤◌, List, [], ◌∷◌, ◌++◌, true, length, arith, refl, ap, ◌∙◌, sym, subst, inl, ⊎_elim, Option, None}
+use Rattle.std.proofs.Common.{ℕ, ◌≡◌, ◌+◌, ◌<◌, ◌≤◌, List, [], ◌∷◌, ◌++◌, true, false, length, arith, refl, ap, ◌∙◌, sym, subst, inl, ⊎_elim, Option, None}
 use Rattle.std.proofs.lemmas.List.{ext_get_or, length-append, get_or_append_left, get_or_push}
 use Rattle.std.proofs.lemmas.Bool.{cases_lt}
 use Rattle.afdx_config.specs.declared.link_plan.LinkPlan.{LinkPlan}
+use Rattle.afdx_config.specs.declared.port_plan.PortPlan.{PortPlan}
 use Rattle.afdx_config.specs.Config.{Plan, IsPlan, link_plan_at}
 use Rattle.afdx_config.specs.Plan.{bag_micros}
 use Rattle.afdx_config.specs.Numbers.{sequence_number}
@@ -13,8 +14,10 @@ use Rattle.redundant_mux.specs.Lines.{Lines, log, Keeps, Mirrors}
 use Rattle.vl_shaper.specs.Pace.{Pace, IsLater}
 use Rattle.vl_shaper.specs.declared.shaper.Stamp.{Stamp}
 use Rattle.afdx_tx.specs.Legal.{AreKnown}
-use Rattle.afdx_tx.specs.Links.{Held, LinkState, link_at, no_link, held_at, no_link_plan, IsLink}
-use Rattle.afdx_tx.specs.Emitter.{IsFreshLink, AreFreshLinks, AreLinksOf, plans, IsSound, IsKept, AreInStep, IsLinkInStep, IsTied, none_accepted}
+use Rattle.afdx_tx.specs.declared.sub_vl.SubVl.{SubVl}
+use Rattle.afdx_tx.specs.Seen.{Seen, taken_of, receiving, IsReceiving}
+use Rattle.afdx_tx.specs.Links.{Held, LinkState, link_at, no_link, held_at, no_link_plan, IsLink, sub_fragments, sent_by, taken_by}
+use Rattle.afdx_tx.specs.Emitter.{IsFreshSub, IsFreshLink, AreFreshLinks, AreLinksOf, AreReceiving, plans, ports_of_sub, IsSound, IsKept, IsTied}
 use Rattle.afdx_tx.proofs.PollTurns.{plan_at_is, plans_length}
 
 -- the lines of two networks that were handed nothing
@@ -35,9 +38,9 @@ fresh_mirrors : Mirrors [] fresh_lines
 fresh_mirrors = record { first = fresh_keeps A; second = fresh_keeps B; for_a = refl; one = inl refl }
 
 -- the sub-VLs of a fresh link are those of its plan
-fresh_own : (own : ℕ) (plan : LinkPlan) (link : LinkState) → IsFreshLink own plan link
+fresh_own : (own : ℕ) (ports : List PortPlan) (plan : LinkPlan) (link : LinkState) → IsFreshLink own ports plan link
     → IsLink link.end_system link.plan link.pace link.subs
-fresh_own own plan link f =
+fresh_own own ports plan link f =
     let pace = f.pace in
     let many : link.pace.sub_vls ≡ plan.sub_vls = ap (λ (p : Pace). p.sub_vls) pace in
     record {
@@ -45,23 +48,37 @@ fresh_own own plan link f =
       sub_vls = many ∙ ap (λ (p : LinkPlan). p.sub_vls) (sym f.plan);
       gap = ap (λ (p : Pace). p.gap) pace ∙ ap (λ (p : LinkPlan). bag_micros p.bag) (sym f.plan);
       named = λ s lt. let below : s < plan.sub_vls = omega (arith, f.subs.count) in
-          ap (λ (h : Held). h.of) (f.subs.each s below)
+          (f.subs.each s below).of
           ∙ ap (λ (e : ℕ). record { end_system = e; link = plan; sub = s }) (sym f.end_system)
           ∙ ap (λ (p : LinkPlan). record { end_system = link.end_system; link = p; sub = s }) (sym f.plan);
     }
 
--- the regulation of a fresh link is where an empty stream is
-fresh_kept : (own : ℕ) (plan : LinkPlan) (link : LinkState) → IsFreshLink own plan link → IsKept link []
-fresh_kept own plan link f =
+-- a fresh sub-VL took nothing
+fresh_taken : (own : SubVl) (senders : List PortPlan) (held : Held) → IsFreshSub own senders held → taken_by held ≡ []
+fresh_taken own senders held f = ap (λ (seen : Seen). sent_by held.ports (taken_of seen)) f.seen
+
+-- and is tied to an empty stream
+fresh_tied : (own : SubVl) (senders : List PortPlan) (held : Held) → IsFreshSub own senders held → IsTied held []
+fresh_tied own senders held f = ap (sub_fragments held.of 0) (fresh_taken own senders held f) ∙ sym f.left
+
+-- a fresh link keeps what links keep, of an empty log
+fresh_kept : (own : ℕ) (ports : List PortPlan) (plan : LinkPlan) (link : LinkState) → IsFreshLink own ports plan link
+    → IsKept link []
+fresh_kept own ports plan link f =
     record {
       numbered = tt;
       spaced = tt;
+      prefixes = λ s lt. (_, refl);
       paced = λ _.
           f.pace
           ∙ ap (λ (g : ℕ). record { gap = g; sub_vls = plan.sub_vls; last = None; next = sequence_number 0 })
           (sym (ap (λ (p : Pace). p.gap) f.pace))
           ∙ ap (λ (n : ℕ). record { gap = link.pace.gap; sub_vls = n; last = None; next = sequence_number 0 })
           (sym (ap (λ (p : Pace). p.sub_vls) f.pace));
+      tied = λ _ s lt.
+          let below : s < plan.sub_vls = subst (λ (p : LinkPlan). s < p.sub_vls) f.plan lt in
+          fresh_tied _ _ (held_at link.subs s) (f.subs.each s below);
+      behind = λ (l : link.lost ≡ true). absurd (let e : link.lost ≡ false = f.lost in cc);
     }
 
 -- a link that released nothing was not served after moment 0
@@ -83,9 +100,22 @@ fresh_of config links f =
     record {
       each_plan = fresh_plans config links f;
       end_system = λ k lt. (f.each k (omega (arith, f.count))).end_system;
-      each = λ k lt. fresh_own config.end_system (link_plan_at config.links k) (link_at links k)
+      each = λ k lt. fresh_own config.end_system config.ports (link_plan_at config.links k) (link_at links k)
           (f.each k (omega (arith, f.count)));
+      ports = λ k s lt slt.
+          let fresh = f.each k (omega (arith, f.count)) in
+          let below : s < (link_plan_at config.links k).sub_vls = omega (arith, fresh.subs.count) in
+          (fresh.subs.each s below).ports
+          ∙ ap (λ (p : LinkPlan). ports_of_sub config.ports p.id.0 s) (sym fresh.plan);
     }
+
+-- the ports of every queue of a fresh emitter may send
+pub fresh_receiving : (config : Plan) (links : List LinkState) → AreFreshLinks config links (length config.links)
+    → AreReceiving links
+fresh_receiving config links f k s lt slt =
+    let fresh = f.each k (omega (arith, f.count)) in
+    let below : s < (link_plan_at config.links k).sub_vls = omega (arith, fresh.subs.count) in
+    subst IsReceiving (sym (fresh.subs.each s below).seen) tt
 
 -- a fresh emitter is sound
 pub fresh_sound : (config : Plan) (links : List LinkState) → IsPlan config
@@ -95,7 +125,7 @@ fresh_sound config links valid f =
       valid = valid;
       of_plan = fresh_of config links f;
       kept = λ k lt. subst (IsKept (link_at links k)) (sym fresh_log)
-          (fresh_kept config.end_system (link_plan_at config.links k) (link_at links k)
+          (fresh_kept config.end_system config.ports (link_plan_at config.links k) (link_at links k)
           (f.each k (omega (arith, f.count))));
       later = λ k lt. fresh_later (link_at links k).pace (ap (λ (p : Pace). p.last) (f.each k (omega (arith, f.count))).pace);
       mirrored = subst (λ (H : List Entry). Mirrors H fresh_lines) (sym fresh_log) fresh_mirrors;
@@ -103,40 +133,21 @@ fresh_sound config links valid f =
       whole = λ _ k lt. (f.each k (omega (arith, f.count))).lost;
     }
 
--- a fresh sub-VL is tied to an empty list
-fresh_tied : (held : Held) → held.left ≡ [] → held.place ≡ 0 → held.waiting ≡ [] → IsTied held [] []
-fresh_tied held left place waiting =
-    record { taken = 0; within = omega arith; place = place; rest = sym waiting; sent = sym left }
-
--- fresh links are in step with nothing accepted
-pub fresh_step : (config : Plan) (links : List LinkState) → AreFreshLinks config links (length config.links)
-    → AreInStep none_accepted links (log fresh_lines)
-fresh_step config links f k lt =
-    let fresh = f.each k (omega (arith, f.count)) in
-    subst (IsLinkInStep (none_accepted k) (link_at links k)) (sym fresh_log) (record {
-      prefixes = λ s slt. ([], refl);
-      tied = λ _ s slt.
-          let below : s < (link_plan_at config.links k).sub_vls = subst (λ (p : LinkPlan). s < p.sub_vls) fresh.plan slt in
-          let held = fresh.subs.each s below in
-          fresh_tied (held_at (link_at links k).subs s) (ap (λ (h : Held). h.left) held)
-          (ap (λ (h : Held). h.place) held) (ap (λ (h : Held). h.waiting) held);
-    })
-
 -- one fresh link more
 pub fresh_push : (config : Plan) (links : List LinkState) (n : ℕ) (new : LinkState)
-    → AreFreshLinks config links n → IsFreshLink config.end_system (link_plan_at config.links n) new
+    → AreFreshLinks config links n → IsFreshLink config.end_system config.ports (link_plan_at config.links n) new
     → AreFreshLinks config (links ++ new ∷ []) (n + 1)
 fresh_push config links n new f fresh =
     record {
       count = let size = f.count in omega (arith, length-append links (new ∷ []));
       each = λ k lt. ⊎_elim
-          (λ (below : k < n). subst (IsFreshLink config.end_system (link_plan_at config.links k))
+          (λ (below : k < n). subst (IsFreshLink config.end_system config.ports (link_plan_at config.links k))
           (sym (get_or_append_left links (new ∷ []) no_link k (let size = f.count in omega arith)))
           (f.each k below))
           (λ (last : n ≤ k).
           let e : k ≡ n = omega arith in
-          subst (λ (j : ℕ). IsFreshLink config.end_system (link_plan_at config.links j) (link_at (links ++ new ∷ []) j)) (sym e)
-          (subst (IsFreshLink config.end_system (link_plan_at config.links n))
+          subst (λ (j : ℕ). IsFreshLink config.end_system config.ports (link_plan_at config.links j) (link_at (links ++ new ∷ []) j)) (sym e)
+          (subst (IsFreshLink config.end_system config.ports (link_plan_at config.links n))
           (sym (get_or_push links new no_link n f.count)) fresh))
           (cases_lt k n);
     }

@@ -2,6 +2,7 @@ pub mod FragmentsLeft
 pub mod Choosing
 pub mod LongerStream
 pub mod MirroredLines
+pub mod QueueLooks
 pub mod SubInStep
 pub mod PaceOfStream
 pub mod ChosenSub
@@ -12,5 +13,3 @@ pub mod LegalLists
 pub mod SoundEmitter
 pub mod FreshEmitter
 pub mod PortLink
-pub mod Accepting
-pub mod RefusedMessage

@@ -12,11 +12,12 @@ use Rattle.vl_shaper.specs.Pace.{Pace, IsLater}
 use Rattle.afdx_tx.specs.declared.served.Served.{Served}
 use Rattle.afdx_tx.specs.declared.served.Served.TheVariants.{Nothing, Released, Lost}
 use Rattle.afdx_tx.specs.Legal.{IsKnown, AreKnown}
-use Rattle.afdx_tx.specs.Links.{LinkState, link_at, no_link, no_link_plan, Serves, IsSameLink, is_lost}
+use Rattle.afdx_tx.specs.Links.{LinkState, link_at, held_at, no_link, no_link_plan, Serves, IsSameLink, is_lost}
 use Rattle.afdx_tx.specs.Run.{IsTurn, IsRun, IsCutShort}
-use Rattle.afdx_tx.specs.Emitter.{plan_of, plans, AreApart, IsKept, IsLinkInStep}
-use Rattle.afdx_tx.specs.Serving.{IsSamePlan, IsSteady, IsServing}
-use Rattle.afdx_tx.proofs.LinkTurn.{Turned, IsOwn, link_turn, kept_turn, step_turn, other_stream, kept_stream, step_stream, released_known, picked_of}
+use Rattle.afdx_tx.specs.Emitter.{plan_of, plans, AreApart, IsKept, IsSamePlan}
+use Rattle.afdx_tx.specs.Serving.{IsSteady, IsServing}
+use Rattle.afdx_tx.proofs.LinkTurn.{Turned, IsOwn, link_turn, kept_turn, other_stream, kept_stream, released_known, picked_of}
+use Rattle.afdx_tx.proofs.SubInStep.{same_sub_on}
 use Rattle.afdx_tx.specs.declared.sub_vl.SubVl.{SubVl}
 
 -- the turn, with the regulation read off the stream
@@ -73,6 +74,7 @@ trans_same a b c p q =
       sub_vls =
           q.sub_vls ∙ p.sub_vls;
       count = q.count ∙ p.count;
+      subs = λ s. same_sub_on (held_at a.subs s) (held_at b.subs s) (held_at c.subs s) (p.subs s) (q.subs s);
     }
 
 -- two links of the running list have different identifiers
@@ -129,11 +131,11 @@ known_after now i old (Released sub number) links new lines after same lt own t 
 known_after now i old Lost links new lines after same lt own t h = subst (AreKnown (plans old) A) (sym t.serves.1.loses.same) h
 
 -- every turn keeps what turns keep
-pub steady_more : (now i : ℕ) (old links : List LinkState) (before lines after : Lines) (new : LinkState) (did : Served)
-    → IsSteady now old links before lines → AreApart old → i < length links
+pub steady_more : (now i : ℕ) (old links : List LinkState) (lines after : Lines) (new : LinkState) (did : Served)
+    → IsSteady now old links lines → AreApart old → i < length links
     → Turned now (link_at links i) new lines after did → IsMirrored after → IsLater new.pace.last now
-    → IsSteady now old (set links i new) before after
-steady_more now i old links before lines after new did s apart lt t mirrored later =
+    → IsSteady now old (set links i new) after
+steady_more now i old links lines after new did s apart lt t mirrored later =
     let il : i < length old = omega (arith, s.same.count) in
     let len : length (set links i new) ≡ length links = length-set links i new in
     let own : IsOwn (link_at links i) = s.each i lt in
@@ -156,11 +158,6 @@ steady_more now i old links before lines after new did s apart lt t mirrored lat
       later = λ k klt. at_each (λ j l. IsLater l.pace.last now) links i new lt later (λ j jlt ne. s.later j jlt) k (omega arith);
       mirrored = mirrored;
       known = known_after now i old did links new lines after s.same lt own t s.known;
-      keeps = λ accepted step k klt. at_each (λ j l. IsLinkInStep (accepted j) l (log after)) links i new lt
-          (step_turn (accepted i) now did (link_at links i) new lines after t own (s.keeps accepted step i lt))
-          (λ j jlt ne. step_stream (accepted j) (link_at links j) (log lines) (log after) (other j jlt ne)
-          (s.keeps accepted step j jlt))
-          k (omega arith);
     }
 
 -- one more link had its turn, and a network stands
@@ -180,7 +177,7 @@ serving_more now i old links before lines after new did s apart lt t kept mirror
     take_more old i no_link il ∙ ap (λ (l : LinkState). take i old ++ l ∷ []) (sym here) in
     let taken_new : take (i + 1) (set links i new) ≡ take i links ++ new ∷ [] = take_more_set links i new lt in
     record {
-      steady = steady_more now i old links before lines after new did s.steady apart lt t mirrored later;
+      steady = steady_more now i old links lines after new did s.steady apart lt t mirrored later;
       run = subst (λ (xs : List LinkState). IsRun now xs (take (i + 1) (set links i new)) before after) (sym taken)
           (subst (λ (ys : List LinkState). IsRun now (take i old ++ link_at links i ∷ []) ys before after) (sym taken_new) run);
       rest = drop-set-lt (i + 1) links i new (omega arith) ∙ sym (drop-drop 1 i links) ∙ ap (drop 1) s.rest ∙ drop-drop 1 i old;

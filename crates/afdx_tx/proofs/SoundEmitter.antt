@@ -1,6 +1,6 @@
 -- An emitter after its links had their turns.
-use Rattle.std.proofs.Common.{ℕ, ◌≡◌, ◌<◌, ◌≤◌, List, true, length, arith, ap, ◌∙◌, sym, subst, Option, Some, None}
-use Rattle.std.proofs.lemmas.List.{ext_get_or}
+use Rattle.std.proofs.Common.{ℕ, ◌≡◌, ◌<◌, ◌≤◌, List, [], true, length, arith, ap, ◌∙◌, sym, subst, Option, Some, None}
+use Rattle.std.proofs.lemmas.List.{ext_get_or, get_or-map, length-map}
 use Rattle.afdx_config.specs.declared.link_plan.LinkPlan.{LinkPlan}
 use Rattle.afdx_config.specs.Config.{Plan, IsPlan, link_plan_at}
 use Rattle.afdx_config.specs.Plan.{bag_micros}
@@ -11,12 +11,13 @@ use Rattle.redundant_mux.specs.Lines.{Lines, log, is_alive}
 use Rattle.vl_shaper.specs.declared.shaper.Stamp.{Stamp}
 use Rattle.vl_shaper.specs.Pace.{IsLater}
 use Rattle.afdx_tx.specs.Streams.{link_stream, told_of, IsNumbered, IsSpaced, IsPrefixOf}
-use Rattle.afdx_tx.specs.Legal.{Accepted, AreKnown, IsLegal}
-use Rattle.afdx_tx.specs.Links.{LinkState, link_at, no_link_plan}
-use Rattle.afdx_tx.specs.Emitter.{plans, AreLinks, AreApart, AreLinksOf, AreWhole, IsSound, AreInStep, IsInStep}
-use Rattle.afdx_tx.specs.Serving.{IsSamePlan, IsSteady}
+use Rattle.afdx_tx.specs.Legal.{AreKnown, IsLegal}
+use Rattle.afdx_tx.specs.Links.{LinkState, link_at, no_link, held_at, nothing_held, no_link_plan, IsSameLink}
+use Rattle.afdx_tx.specs.Emitter.{plans, AreLinks, AreApart, AreLinksOf, AreWhole, AreReceiving, IsSamePlan, IsSound, taken_in, held_queue, link_queues, queues_in, ports_of_sub}
+use Rattle.afdx_tx.specs.Serving.{IsSteady}
 use Rattle.afdx_tx.proofs.LegalLists.{legal_of}
 use Rattle.afdx_tx.proofs.PollTurns.{plan_at_is, plans_length}
+use Rattle.afdx_tx.proofs.QueueLooks.{still_receiving, same_name}
 
 -- what was at a moment was so at each later one
 later_still : (last : Option Stamp) (before now : ℕ) → before ≤ now → IsLater last before → IsLater last now
@@ -59,13 +60,19 @@ links_after config old new of same each =
       each_plan = same_plans old new same ∙ of.each_plan;
       end_system = λ k lt. let o : k < length old = omega (arith, same.count) in (same.each k o).end_system ∙ of.end_system k o;
       each = each;
+      ports = λ k s lt slt.
+          let o : k < length old = omega (arith, same.count) in
+          let on = same.each k o in
+          let t : s < length (link_at old k).subs = omega (arith, on.count) in
+          (on.subs s).ports ∙ of.ports k s o t
+          ∙ ap (λ (p : LinkPlan). ports_of_sub config.ports p.id.0 s) (sym on.plan);
     }
 
 -- the emitter stays sound
-pub sound_after : (config : Plan) (old new : List LinkState) (before lines : Lines) (now : ℕ) → IsPlan config
-    → AreLinksOf config old → IsSteady now old new before lines → (is_alive lines ≡ true → AreWhole new)
+pub sound_after : (config : Plan) (old new : List LinkState) (lines : Lines) (now : ℕ) → IsPlan config
+    → AreLinksOf config old → IsSteady now old new lines → (is_alive lines ≡ true → AreWhole new)
     → IsSound config new lines now
-sound_after config old new before lines now valid of s whole =
+sound_after config old new lines now valid of s whole =
     record {
       valid = valid;
       of_plan = links_after config old new of s.same s.each;
@@ -76,14 +83,13 @@ sound_after config old new before lines now valid of s whole =
       whole = whole;
     }
 
--- what was handed over is legal for accepted lists that are in step
-pub sound_legal : (config : Plan) (links : List LinkState) (lines : Lines) (moment : ℕ) (accepted : Accepted)
-    → IsSound config links lines moment → AreInStep accepted links (log lines)
-    → IsLegal config accepted lines.a lines.b
-sound_legal config links lines moment accepted s step =
+-- what was handed over is legal for the messages that were taken
+pub sound_legal : (config : Plan) (links : List LinkState) (lines : Lines) (moment : ℕ)
+    → IsSound config links lines moment → IsLegal config (taken_in links) lines.a lines.b
+sound_legal config links lines moment s =
     let of = s.of_plan in
     let n = count_is config links of in
-    legal_of config accepted lines s.mirrored (record {
+    legal_of config (taken_in links) lines s.mirrored (record {
       known = s.known;
       numbered = λ k klt.
           let lt : k < length links = omega arith in
@@ -100,15 +106,42 @@ sound_legal config links lines moment accepted s step =
           let plan = plan_is config links of k lt in
           let below : t < (link_at links k).plan.sub_vls = subst (λ (p : LinkPlan). t < p.sub_vls) plan tlt in
           subst (λ (p : LinkPlan). IsPrefixOf (told_of p.id.0 t (log lines))
-          (fragments config.end_system (room_of p.lmax) A (accepted k t))) (sym plan)
+          (fragments config.end_system (room_of p.lmax) A (taken_in links k t))) (sym plan)
           (subst (λ (e : ℕ). IsPrefixOf (told_of (link_at links k).plan.id.0 t (log lines))
-          (fragments e (room_of (link_at links k).plan.lmax) A (accepted k t))) (of.end_system k lt)
-          ((step k lt).prefixes t below));
+          (fragments e (room_of (link_at links k).plan.lmax) A (taken_in links k t))) (of.end_system k lt)
+          ((s.kept k lt).prefixes t below));
     })
 
--- links in step make an emitter in step
-pub in_step_after : (config : Plan) (links : List LinkState) (lines : Lines) (moment : ℕ) (accepted : Accepted)
-    → IsSound config links lines moment → AreInStep accepted links (log lines)
-    → IsInStep accepted (record { plan = config; links = links; lines = lines; moment = moment })
-in_step_after config links lines moment accepted s step =
-    record { legal = sound_legal config links lines moment accepted s step; links = step }
+-- the ports of every queue may send on
+pub receiving_still : (old new : List LinkState) → IsSamePlan old new → AreReceiving old → AreReceiving new
+receiving_still old new same r k s klt slt =
+    let o : k < length old = omega (arith, same.count) in
+    let on = same.each k o in
+    let t : s < length (link_at old k).subs = omega (arith, on.count) in
+    still_receiving (held_at (link_at old k).subs s).seen (held_at (link_at new k).subs s).seen (on.subs s).queue (r k s o t)
+
+-- the queues of a link stay the same
+same_link_queues : (old new : LinkState) → IsSameLink old new → link_queues new ≡ link_queues old
+same_link_queues old new p =
+    let here = length-map new.subs held_queue in
+    let there = length-map old.subs held_queue in
+    ext_get_or None (link_queues new) (link_queues old) (here ∙ p.count ∙ sym there)
+    (λ s lt.
+    let n : s < length new.subs = omega (arith, here) in
+    let o : s < length old.subs = omega (arith, p.count) in
+    get_or-map held_queue new.subs s nothing_held None n
+    ∙ same_name (held_at old.subs s).seen (held_at new.subs s).seen (p.subs s).queue
+    ∙ sym (get_or-map held_queue old.subs s nothing_held None o))
+
+-- the queues of all links do
+pub same_queues : (old new : List LinkState) → IsSamePlan old new → queues_in new ≡ queues_in old
+same_queues old new p =
+    let here = length-map new link_queues in
+    let there = length-map old link_queues in
+    ext_get_or [] (queues_in new) (queues_in old) (here ∙ p.count ∙ sym there)
+    (λ k lt.
+    let n : k < length new = omega (arith, here) in
+    let o : k < length old = omega (arith, p.count) in
+    get_or-map link_queues new k no_link [] n
+    ∙ same_link_queues (link_at old k) (link_at new k) (p.each k o)
+    ∙ sym (get_or-map link_queues old k no_link [] o))

@@ -1,18 +1,22 @@
 -- An emitter, as contracts see it.
-use Rattle.std.specs.Prelude.{ℕ, ◌≡◌, ◌%◌, ◌<◌, ◌≤◌, ◌++◌, List, [], ◌∷◌, length, map, take, drop, set, true, false, nat_eq, if◌then◌else◌, None}
+use Rattle.std.specs.Prelude.{ℕ, ◌≡◌, ◌<◌, ◌++◌, ◌&&◌, List, [], length, map, filter, true, false, nat_eq, Option, None}
 use Rattle.afdx_config.specs.Config.{Plan, link_plan_at, IsPlan}
 use Rattle.afdx_config.specs.Plan.{bag_micros}
 use Rattle.afdx_config.specs.declared.link_plan.LinkPlan.{LinkPlan}
+use Rattle.afdx_config.specs.declared.port_plan.PortPlan.{PortPlan}
 use Rattle.afdx_config.specs.Room.{room_of}
 use Rattle.afdx_config.specs.Numbers.{sequence_number}
 use Rattle.afdx_frame.specs.declared.net.Net.TheVariants.{A}
-use Rattle.afdx_frame.specs.Fragments.{Sent, fragments}
+use Rattle.afdx_frame.specs.Fragments.{fragments}
 use Rattle.redundant_mux.specs.Entry.{Entry}
 use Rattle.redundant_mux.specs.Lines.{Lines, log, is_alive, IsMirrored}
 use Rattle.vl_shaper.specs.Pace.{IsLater}
+use Rattle.subvl_queue.specs.Views.{QueueName, new_receiver}
+use Rattle.afdx_tx.specs.declared.sub_vl.SubVl.{SubVl}
+use Rattle.afdx_tx.specs.Seen.{receiving, queue_of, IsReceiving}
 use Rattle.afdx_tx.specs.Streams.{link_stream, sub_stream, told, told_of, IsNumbered, IsSpaced, IsPrefixOf}
-use Rattle.afdx_tx.specs.Legal.{Accepted, AreKnown, IsLegal}
-use Rattle.afdx_tx.specs.Links.{Held, LinkState, held_at, link_at, sub_fragments, IsLink, pace_of}
+use Rattle.afdx_tx.specs.Legal.{Accepted, AreKnown}
+use Rattle.afdx_tx.specs.Links.{Held, LinkState, held_at, link_at, taken_by, sub_fragments, IsLink, IsSameLink, pace_of}
 
 -- An emitter: its plan, its links in the order of the plan, what was handed over, and the moment of
 -- the last poll.
@@ -41,30 +45,40 @@ abbrev pub AreApart : List LinkState → Type 0
 AreApart links = (i j : ℕ) → i < length links → j < length links
     → (link_at links i).plan.id ≡ (link_at links j).plan.id → i ≡ j
 
--- the links are those of a plan, in its order
+-- the ports of a sub-VL, in the order of the configuration
+abbrev pub ports_of_sub : List PortPlan → ℕ → ℕ → List PortPlan
+ports_of_sub ports vl sub =
+    filter (λ (port : PortPlan). nat_eq port.vl.0 vl && nat_eq port.sub sub) ports
+
+-- the links are those of a plan, in its order, and so are the ports of their sub-VLs
 pub record AreLinksOf (config : Plan) (links : List LinkState) : Type 0 where
   pub each_plan : plans links ≡ config.links
   pub end_system : (k : ℕ) → k < length links
       → (link_at links k).end_system ≡ config.end_system
   pub each : AreLinks links
+  pub ports : (k s : ℕ) → k < length links → s < length (link_at links k).subs
+      → (held_at (link_at links k).subs s).ports
+      ≡ ports_of_sub config.ports (link_at links k).plan.id.0 s
 
--- nothing of a sub-VL was sent yet
-abbrev pub fresh_held : ℕ → LinkPlan → ℕ → Held
-fresh_held end_system link s = record {
-  of = record { end_system = end_system; link = link; sub = s };
-  left = [];
-  place = 0;
-  waiting = [];
-}
+-- nothing of a sub-VL was sent or taken yet, and its queue was not looked into
+pub record IsFreshSub (own : SubVl) (senders : List PortPlan) (held : Held) : Type 0 where
+  pub of : held.of ≡ own
+  pub ports : held.ports ≡ senders
+  pub left : held.left ≡ []
+  pub queue : QueueName
+  pub seen : held.seen ≡ receiving (new_receiver queue own.link.capacity (length senders))
 
--- so many sub-VLs of a link, nothing of which was sent yet
-pub record AreFreshSubs (end_system : ℕ) (link : LinkPlan)
+-- so many sub-VLs of a link, nothing of which was sent or taken yet
+pub record AreFreshSubs (end_system : ℕ) (ports : List PortPlan) (link : LinkPlan)
     (subs : List Held) (many : ℕ) : Type 0 where
   pub count : length subs ≡ many
-  pub each : (s : ℕ) → s < many → held_at subs s ≡ fresh_held end_system link s
+  pub each : (s : ℕ) → s < many
+      → IsFreshSub (record { end_system = end_system; link = link; sub = s })
+      (ports_of_sub ports link.id.0 s) (held_at subs s)
 
--- nothing of a link was sent or released yet
-pub record IsFreshLink (own : ℕ) (link : LinkPlan) (state : LinkState) : Type 0 where
+-- nothing of a link was taken or released yet
+pub record IsFreshLink (own : ℕ) (ports : List PortPlan) (link : LinkPlan)
+    (state : LinkState) : Type 0 where
   pub end_system : state.end_system ≡ own
   pub plan : state.plan ≡ link
   pub pace : state.pace ≡ record {
@@ -73,18 +87,47 @@ pub record IsFreshLink (own : ℕ) (link : LinkPlan) (state : LinkState) : Type 
     last = None;
     next = sequence_number 0;
   }
-  pub subs : AreFreshSubs own link state.subs link.sub_vls
+  pub subs : AreFreshSubs own ports link state.subs link.sub_vls
   pub lost : state.lost ≡ false
 
--- A link's stream is numbered and spaced. Where no frame was lost, its regulation is where the
--- stream is.
+-- What a sub-VL's stream shows, and what is left of the message that is being sent, are the
+-- fragments of the messages that it took.
+abbrev pub IsTied : Held → List Entry → Type 0
+IsTied held stream = sub_fragments held.of 0 (taken_by held) ≡ told stream ++ held.left
+
+-- a sub-VL's stream is behind the fragments of the messages that it took
+pub record IsBehind (held : Held) (stream : List Entry) : Type 0 where
+  pub left : List (List ℕ)
+  pub some : left ≡ [] → ⊥
+  pub ahead : sub_fragments held.of 0 (taken_by held) ≡ told stream ++ left
+
+-- some sub-VL of a link is behind
+pub record IsSubBehind (link : LinkState) (log : List Entry) : Type 0 where
+  pub sub : ℕ
+  pub within : sub < link.plan.sub_vls
+  pub behind : IsBehind (held_at link.subs sub)
+      (sub_stream sub (link_stream link.plan.id.0 log))
+
+-- each sub-VL of a link is tied to its stream
+abbrev pub IsLinkTied : LinkState → List Entry → Type 0
+IsLinkTied link log = (s : ℕ) → s < link.plan.sub_vls
+    → IsTied (held_at link.subs s) (sub_stream s (link_stream link.plan.id.0 log))
+
+-- A link's stream is numbered and spaced, and each sub-VL's is a prefix of the fragments of the
+-- messages that it took. Where no frame was lost, its regulation is where the stream is, and each
+-- sub-VL is tied to its own. Where one was, some sub-VL stays behind.
 pub record IsKept (link : LinkState) (log : List Entry) : Type 0 where
   pub numbered : IsNumbered 0 (link_stream link.plan.id.0 log)
   pub spaced : IsSpaced link.pace.gap None (link_stream link.plan.id.0 log)
+  pub prefixes : (s : ℕ) → s < link.plan.sub_vls
+      → IsPrefixOf (told_of link.plan.id.0 s log)
+      (fragments link.end_system (room_of link.plan.lmax) A (taken_by (held_at link.subs s)))
   pub paced : link.lost ≡ false
       → link.pace ≡ pace_of link.pace.gap link.pace.sub_vls (link_stream link.plan.id.0 log)
+  pub tied : link.lost ≡ false → IsLinkTied link log
+  pub behind : link.lost ≡ true → IsSubBehind link log
 
--- each link's stream and regulation are so
+-- each link keeps that
 abbrev pub AreKept : List LinkState → List Entry → Type 0
 AreKept links log = (k : ℕ) → k < length links → IsKept (link_at links k) log
 
@@ -107,67 +150,45 @@ pub record IsSound (config : Plan) (links : List LinkState)
   pub known : AreKnown config.links A (log lines)
   pub whole : is_alive lines ≡ true → AreWhole links
 
--- The first of a sub-VL's accepted messages were taken, and the others wait. What its stream shows
--- and what is left of the message that is being sent are the fragments of those taken.
-pub record IsTied (held : Held) (accepted : List Sent) (stream : List Entry) : Type 0 where
-  pub taken : ℕ
-  pub within : taken ≤ length accepted
-  pub place : held.place ≡ taken % 16384
-  pub rest : drop taken accepted ≡ held.waiting
-  pub sent : sub_fragments held.of 0 (take taken accepted) ≡ told stream ++ held.left
+-- each link that lost no frame is tied to its streams
+abbrev pub AreTied : List LinkState → List Entry → Type 0
+AreTied links log = (k : ℕ) → k < length links → (link_at links k).lost ≡ false
+    → IsLinkTied (link_at links k) log
 
--- A link's sub-VLs are in step with their accepted lists, unless a frame was lost. Each stream is a
--- prefix of the fragments of its accepted list in any case.
-pub record IsLinkInStep (accepted : ℕ → List Sent)
-    (link : LinkState) (log : List Entry) : Type 0 where
-  pub prefixes : (s : ℕ) → s < link.plan.sub_vls
-      → IsPrefixOf (told_of link.plan.id.0 s log)
-      (fragments link.end_system (room_of link.plan.lmax) A (accepted s))
-  pub tied : link.lost ≡ false → (s : ℕ) → s < link.plan.sub_vls
-      → IsTied (held_at link.subs s) (accepted s) (sub_stream s (link_stream link.plan.id.0 log))
+-- the messages that were taken of each sub-VL
+abbrev pub taken_in : List LinkState → Accepted
+taken_in links k s = taken_by (held_at (link_at links k).subs s)
 
--- each link is in step with its accepted lists
-abbrev pub AreInStep : Accepted → List LinkState → List Entry → Type 0
-AreInStep accepted links log = (k : ℕ) → k < length links
-    → IsLinkInStep (accepted k) (link_at links k) log
+-- the ports of every queue may still send
+abbrev pub AreReceiving : List LinkState → Type 0
+AreReceiving links = (k s : ℕ) → k < length links → s < length (link_at links k).subs
+    → IsReceiving (held_at (link_at links k).subs s).seen
 
--- The accepted lists are in step with an emitter: what it handed over is legal for them, and what
--- it has still to send is the rest of their fragments.
-pub record IsInStep (accepted : Accepted) (tx : Tx) : Type 0 where
-  pub legal : IsLegal tx.plan accepted tx.lines.a tx.lines.b
-  pub links : AreInStep accepted tx.links (log tx.lines)
+-- the queue of a sub-VL
+abbrev pub held_queue : Held → Option QueueName
+held_queue held = queue_of held.seen
 
--- nothing was accepted yet
-abbrev pub none_accepted : Accepted
-none_accepted k s = []
+-- the queues of a link's sub-VLs
+abbrev pub link_queues : LinkState → List (Option QueueName)
+link_queues link = map held_queue link.subs
 
--- the accepted lists with one message more
-abbrev pub with_accepted : ℕ → ℕ → Sent → Accepted → Accepted
-with_accepted k s sent accepted i t =
-    if nat_eq i k
-    then if nat_eq t s then accepted i t ++ sent ∷ [] else accepted i t
-    else accepted i t
+-- the queues of each link
+abbrev pub queues_in : List LinkState → List (List (Option QueueName))
+queues_in links = map link_queues links
 
--- a message waits behind those of its sub-VL
-abbrev pub waits : Held → Sent → Held
-waits held sent = record held { waiting = held.waiting ++ sent ∷ [] }
+-- the links, their plans, sub-VLs and queues are the same
+pub record IsSamePlan (old new : List LinkState) : Type 0 where
+  pub count : length new ≡ length old
+  pub each : (k : ℕ) → k < length old → IsSameLink (link_at old k) (link_at new k)
 
--- a message waits at one sub-VL of a link
-abbrev pub link_with : LinkState → ℕ → Sent → LinkState
-link_with link s sent = record link { subs = set link.subs s (waits (held_at link.subs s) sent) }
-
--- a message waits at one sub-VL, and nothing else changes
-abbrev pub tx_with : Tx → ℕ → ℕ → Sent → Tx
-tx_with tx k s sent =
-    record tx { links = set tx.links k (link_with (link_at tx.links k) s sent) }
-
--- the first links of a plan, nothing of which was sent or released yet
+-- the first links of a plan, nothing of which was taken or released yet
 pub record AreFreshLinks (config : Plan) (links : List LinkState) (many : ℕ) : Type 0 where
   pub count : length links ≡ many
   pub each : (k : ℕ) → k < many
-      → IsFreshLink config.end_system (link_plan_at config.links k) (link_at links k)
+      → IsFreshLink config.end_system config.ports (link_plan_at config.links k)
+      (link_at links k)
 
--- nothing was sent, handed over or polled yet, and both networks stand
+-- nothing was taken, handed over or polled yet, and both networks stand
 pub record IsFreshTx (config : Plan) (tx : Tx) : Type 0 where
   pub plan : tx.plan ≡ config
   pub links : AreFreshLinks config tx.links (length config.links)

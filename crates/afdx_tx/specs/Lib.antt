@@ -1,3 +1,5 @@
+pub mod Seen
+pub mod QueueEnds
 pub mod Streams
 pub mod Legal
 pub mod Links

@@ -1,10 +1,11 @@
 -- A link of an emitter, and what one turn of it does.
-use Rattle.std.specs.Prelude.{ℕ, ◌≡◌, ◌⊎◌, ◌+◌, ◌%◌, ◌≤◌, ◌<◌, List, [], ◌∷◌, ◌++◌, Bool, true, false, length, get_or, set, Option, Some, None}
-use Rattle.afdx_config.specs.Config.{link_plan_at}
+use Rattle.std.specs.Prelude.{ℕ, ◌≡◌, ◌⊎◌, ◌≤◌, ◌<◌, List, [], ◌∷◌, ◌++◌, Bool, true, false, length, map, get_or, set, Option, Some, None}
+use Rattle.afdx_config.specs.Config.{link_plan_at, port_plan_at}
 use Rattle.afdx_config.specs.Plan.{bag_micros}
 use Rattle.afdx_config.specs.Numbers.{sequence_number}
 use Rattle.afdx_config.specs.Room.{room_of}
 use Rattle.afdx_config.specs.declared.link_plan.LinkPlan.{LinkPlan}
+use Rattle.afdx_config.specs.declared.port_plan.PortPlan.{PortPlan}
 use Rattle.afdx_frame.specs.declared.net.Net.TheVariants.{A}
 use Rattle.afdx_frame.specs.Header.{IsFrameOf}
 use Rattle.afdx_frame.specs.Cutting.{Cutting}
@@ -16,6 +17,7 @@ use Rattle.afdx_tx.specs.declared.served.Served.{Served}
 use Rattle.afdx_tx.specs.declared.served.Served.TheVariants.{Nothing, Released, Lost}
 use Rattle.afdx_tx.specs.declared.sub_vl.SubVl.{SubVl}
 use Rattle.afdx_tx.specs.Streams.{link_stream, latest}
+use Rattle.afdx_tx.specs.Seen.{Seen, taken_of, nothing_seen, FindsNothing, Finds, IsSameQueue}
 
 -- the fragments of a sub-VL's messages for network A, the first of which has this place
 abbrev pub sub_fragments : SubVl → ℕ → List Sent → List (List ℕ)
@@ -27,13 +29,25 @@ abbrev pub message_fragments : SubVl → ℕ → Sent → List (List ℕ)
 message_fragments of place sent =
     fragments_at of.end_system (room_of of.link.lmax) A place sent
 
--- A sub-VL: the fragments left of the message that is being sent, the place of the next message
--- modulo 16,384, and the messages that wait.
+-- A sub-VL: its ports in the order of the configuration, the fragments left of the message that is
+-- being sent, and its queue.
 pub record Held : Type 0 where
   pub of : SubVl
+  pub ports : List PortPlan
   pub left : List (List ℕ)
-  pub place : ℕ
-  pub waiting : List Sent
+  pub seen : Seen
+
+-- the message of one of these ports
+abbrev pub sent_of : List PortPlan → ℕ × List ℕ → Sent
+sent_of ports item = record { port = port_plan_at ports item.0; bytes = item.1 }
+
+-- the messages of these ports
+abbrev pub sent_by : List PortPlan → List (ℕ × List ℕ) → List Sent
+sent_by ports items = map (sent_of ports) items
+
+-- the messages that a sub-VL has taken from its queue
+abbrev pub taken_by : Held → List Sent
+taken_by held = sent_by held.ports (taken_of held.seen)
 
 -- the fragments that are left of a cut message, if there is one
 abbrev pub left_of : SubVl → Option Cutting → List (List ℕ)
@@ -50,21 +64,22 @@ pub record GoesOn (old new : Held) : Type 0 where
   pub some : old.left ≡ [] → ⊥
   pub same : new ≡ old
 
--- no message was being sent, and the first one that waits now is
+-- no message was being sent, and the one that was found in the queue now is
 pub record Starts (old new : Held) : Type 0 where
-  pub message : Sent
+  pub message : ℕ × List ℕ
   pub whole : old.left ≡ []
-  pub first : old.waiting ≡ message ∷ new.waiting
-  pub left : new.left ≡ message_fragments old.of old.place message
+  pub finds : Finds old.seen message new.seen
+  pub left : new.left ≡
+      message_fragments old.of (length (taken_of old.seen)) (sent_of old.ports message)
   pub some : new.left ≡ [] → ⊥
-  pub place : new.place ≡ (old.place + 1) % 16384
   pub of : new.of ≡ old.of
+  pub ports : new.ports ≡ old.ports
 
--- no message is being sent, and none waits
+-- no message is being sent, and none was found in the queue
 pub record Passes (old new : Held) : Type 0 where
   pub whole : old.left ≡ []
-  pub none : old.waiting ≡ []
-  pub same : new ≡ old
+  pub nothing : FindsNothing old.seen new.seen
+  pub same : new ≡ record old { seen = new.seen }
 
 -- a sub-VL was asked, and answered whether it has something
 abbrev pub Asks : Bool → Held → Held → Type 0
@@ -79,9 +94,9 @@ no_link_plan = link_plan_at [] 0
 abbrev pub nothing_held : Held
 nothing_held = record {
   of = record { end_system = 0; link = no_link_plan; sub = 0 };
+  ports = [];
   left = [];
-  place = 0;
-  waiting = [];
+  seen = nothing_seen;
 }
 
 -- the sub-VL at an index
@@ -145,9 +160,15 @@ abbrev pub AreSubsOf : LinkPlan → List Held → Type 0
 AreSubsOf plan subs = (s : ℕ) → s < length subs
     → ((held_at subs s).of.link ≡ plan) × ((held_at subs s).of.sub ≡ s)
 
+-- a sub-VL is the one that it was, with the same ports and queue
+pub record IsSameSub (old new : Held) : Type 0 where
+  pub of : new.of ≡ old.of
+  pub ports : new.ports ≡ old.ports
+  pub queue : IsSameQueue old.seen new.seen
+
 -- each sub-VL is the one that it was
 abbrev pub AreSameSubs : (old new : List Held) → Type 0
-AreSameSubs old new = (s : ℕ) → (held_at new s).of ≡ (held_at old s).of
+AreSameSubs old new = (s : ℕ) → IsSameSub (held_at old s) (held_at new s)
 
 -- what the fields of a link keep
 pub record IsLink (end_system : ℕ) (plan : LinkPlan) (pace : Pace) (subs : List Held) : Type 0 where
@@ -168,9 +189,7 @@ pace_of gap sub_vls stream = record {
 -- a sub-VL gave its next frame
 pub record Gives (old : Held) (frame : List ℕ) (new : Held) : Type 0 where
   pub next : old.left ≡ blanked frame ∷ new.left
-  pub of : new.of ≡ old.of
-  pub place : new.place ≡ old.place
-  pub waiting : new.waiting ≡ old.waiting
+  pub same : new ≡ record old { left = new.left }
 
 -- at least one network took the frame of a sub-VL
 pub record Releases (now number : ℕ) (old new : Held) (lines after : Lines) : Type 0 where
@@ -235,10 +254,11 @@ is_lost Nothing = false
 is_lost (Released sub number) = false
 is_lost Lost = true
 
--- the link of the plan stays the same
+-- the link of the plan stays the same, and so do its sub-VLs
 pub record IsSameLink (old new : LinkState) : Type 0 where
   pub end_system : new.end_system ≡ old.end_system
   pub plan : new.plan ≡ old.plan
   pub gap : new.pace.gap ≡ old.pace.gap
   pub sub_vls : new.pace.sub_vls ≡ old.pace.sub_vls
   pub count : length new.subs ≡ length old.subs
+  pub subs : AreSameSubs old.subs new.subs

@@ -1,38 +1,26 @@
 -- What the turns of a poll keep, up to some link.
-use Rattle.std.specs.Prelude.{ℕ, ◌≡◌, ◌≤◌, ◌<◌, List, length, take, drop, true}
+use Rattle.std.specs.Prelude.{ℕ, ◌≡◌, ◌≤◌, List, length, take, drop, true}
 use Rattle.afdx_frame.specs.declared.net.Net.TheVariants.{A}
 use Rattle.redundant_mux.specs.Lines.{Lines, log, is_alive, IsMirrored}
 use Rattle.afdx_tx.specs.declared.report.Release.{Release}
-use Rattle.afdx_tx.specs.Legal.{Accepted, AreKnown}
-use Rattle.afdx_tx.specs.Links.{LinkState, link_at, IsSameLink}
+use Rattle.afdx_tx.specs.Legal.{AreKnown}
+use Rattle.afdx_tx.specs.Links.{LinkState}
 use Rattle.afdx_tx.specs.Run.{IsRun}
 use Rattle.afdx_tx.specs.Report.{IsTold}
-use Rattle.afdx_tx.specs.Emitter.{plans, AreLinks, AreKept, AreWhole, AreServedBy, AreInStep}
-
--- the same plan
-pub record IsSamePlan (old new : List LinkState) : Type 0 where
-  pub count : length new ≡ length old
-  pub each : (k : ℕ) → k < length old → IsSameLink (link_at old k) (link_at new k)
-
--- accepted lists that were in step are in step
-abbrev pub KeepsStep : (old : List LinkState) (before : Lines)
-    (links : List LinkState) (lines : Lines) → Type 0
-KeepsStep old before links lines = (accepted : Accepted)
-    → AreInStep accepted old (log before) → AreInStep accepted links (log lines)
+use Rattle.afdx_tx.specs.Emitter.{plans, AreLinks, AreKept, AreWhole, AreServedBy, IsSamePlan}
 
 -- what every turn keeps
-pub record IsSteady (now : ℕ) (old links : List LinkState) (before lines : Lines) : Type 0 where
+pub record IsSteady (now : ℕ) (old links : List LinkState) (lines : Lines) : Type 0 where
   pub same : IsSamePlan old links
   pub each : AreLinks links
   pub kept : AreKept links (log lines)
   pub later : AreServedBy now links
   pub mirrored : IsMirrored lines
   pub known : AreKnown (plans old) A (log lines)
-  pub keeps : KeepsStep old before links lines
 
 -- the first i links had their turns
 pub record IsServing (now i : ℕ) (old links : List LinkState) (before lines : Lines) : Type 0 where
-  pub steady : IsSteady now old links before lines
+  pub steady : IsSteady now old links lines
   pub run : IsRun now (take i old) (take i links) before lines
   pub rest : drop i links ≡ drop i old
   pub alive : is_alive lines ≡ true

@@ -5,13 +5,14 @@
 mod emitter;
 mod fault;
 mod link;
-mod message;
 mod open;
+mod queue;
 mod report;
 mod routing;
 mod served;
 mod sub;
 mod sub_vl;
+mod transmitter;
 
 pub use emitter::Emitter;
 pub use fault::{OpenFault, PollFault, Refusal, SendFault};

@@ -1,25 +1,22 @@
 //! A link: its sub-VLs in turn.
-ghost use Rattle.std.specs.Prelude.{◌≡◌, ◌≢◌, ℕ, ◌+◌, ◌^◌, ◌<◌, ◌≤◌, List, [], true, false, ◌||◌, Some, length, IfSome, IfNone, IfOk, OnOk, OnErr, IfErr};
+ghost use Rattle.std.specs.Prelude.{◌≡◌, ◌≢◌, ℕ, ◌+◌, ◌<◌, [], true, false, ◌||◌, Some, length, IfSome, IfNone};
 ghost use Rattle.afdx_config.specs.Numbers.{sequence_number};
 ghost use Rattle.vl_shaper.specs.Pace.{IsLater, is_due};
 ghost use Rattle.redundant_mux.specs.Lines.{is_alive, log, IsMirrored};
 ghost use Rattle.afdx_tx.specs.Streams.{link_stream};
-ghost use Rattle.afdx_tx.specs.Links.{pace_of, AreSubsOf, AreSameSubs, Serves, Follows, Releases, Loses, is_lost, IsChoice, PassedOver};
+ghost use Rattle.afdx_tx.specs.Links.{pace_of, AreSubsOf, IsSameSub, AreSameSubs, Serves, Follows, Releases, Loses, is_lost, IsChoice, PassedOver};
 
-use crate::fault::{Refusal, SendFault};
-use crate::message::Message;
 use crate::served::Served;
 use crate::sub::Sub;
-use crate::sub_vl::SubVl;
 use afdx_config::{LinkPlan, VlId};
 use afdx_frame::Frame;
 use redundant_mux::{Mux, Network, Standing};
-use std::alloc::{AllocError, Global};
 use std::marker::Model;
+use std::sync::Wait;
 use vl_shaper::Shaper;
 
 /// The sub-VL that is to be served, whose next message is then being sent.
-fn choose(shaper: &Shaper, subs: &mut [Sub]) -> Option<u8>
+fn choose<R: Wait>(rt: &R, shaper: &Shaper, subs: &mut [Sub]) -> Option<u8>
     requires { length subs.old ≡ shaper.now.sub_vls }
     ensures chosen { IfSome result (λ sub. IsChoice shaper.now subs.old sub subs.new) }
     ensures below { IfSome result (λ sub. sub < length subs.old) }
@@ -28,7 +25,7 @@ fn choose(shaper: &Shaper, subs: &mut [Sub]) -> Option<u8>
     for k in 0..shaper.sub_vls() {
         let sub = shaper.turn(k);
         let asked = &mut subs[sub as usize];
-        if asked.ready() {
+        if asked.ready(rt) {
             return Some(sub);
         }
     }
@@ -61,7 +58,7 @@ fn send_next<A: Network + Drop, B: Network + Drop>(
     ensures released { IfSome result
         (λ number. Releases now number sub.old sub.new mux.old mux.new) }
     ensures lost { IfNone result (Loses sub.old sub.new mux.old mux.new) }
-    ensures of { sub.new.of ≡ sub.old.of }
+    ensures same { IsSameSub sub.old sub.new }
     ensures next { (i : ℕ) → shaper.old.next ≡ sequence_number i →
         shaper.new.next ≡ sequence_number (i + 1) }
     ensures last { shaper.new.last ≡ Some (record { at = now; sub = sub.old.of.sub }) }
@@ -83,7 +80,8 @@ fn send_next<A: Network + Drop, B: Network + Drop>(
 }
 
 /// One turn of the parts of a link.
-fn serve<A: Network + Drop, B: Network + Drop>(
+fn serve<R: Wait, A: Network + Drop, B: Network + Drop>(
+    rt: &R,
     plan: &LinkPlan,
     shaper: &mut Shaper,
     subs: &mut [Sub],
@@ -109,7 +107,7 @@ fn serve<A: Network + Drop, B: Network + Drop>(
     if !shaper.due(now) {
         return Served::Nothing;
     }
-    match choose(shaper, subs) {
+    match choose(rt, shaper, subs) {
         None => Served::Nothing,
         Some(sub) => {
             let chosen = &mut subs[sub as usize];
@@ -149,36 +147,39 @@ impl Model for Link {
 }
 
 impl Link {
-    ghost use Rattle.std.specs.Prelude.{◌≡◌, ◌<◌, length, true, false, None, IfOk, OnOk, OnErr, IfErr};
-    ghost use Rattle.afdx_config.specs.Plan.{IsLink as IsLinkPlan};
+    ghost use Rattle.std.specs.Prelude.{◌≡◌, ℕ, length, true, false, None};
+    ghost use Rattle.afdx_config.specs.Numbers.{sequence_number};
+    ghost use Rattle.afdx_config.specs.Plan.{IsLink as IsLinkPlan, bag_micros};
     ghost use Rattle.vl_shaper.specs.Pace.{IsLater};
     ghost use Rattle.redundant_mux.specs.Lines.{is_alive, log, IsMirrored};
     ghost use Rattle.afdx_tx.specs.Streams.{link_stream};
-    ghost use Rattle.afdx_tx.specs.Links.{LinkState, AreNamed, AreSameSubs, Serves, Follows, IsSameLink, is_lost, pace_of, held_at};
-    ghost use Rattle.afdx_tx.specs.Emitter.{IsFreshLink, link_with};
-    ghost use Rattle.afdx_tx.specs.Sending.{IsMessageOf};
+    ghost use Rattle.afdx_tx.specs.Links.{LinkState, AreNamed, Serves, Follows, IsSameLink, is_lost, pace_of};
 
-    /// A link whose sub-VLs have room for the plan's capacity. Nothing was sent yet.
-    pub fn open(alloc: Global, end_system: u16, plan: LinkPlan) -> Result<Link, AllocError>
-        requires { IsLinkPlan plan }
-        ensures { IfOk result (λ link. IsFreshLink end_system plan link) }
+    /// A link of these sub-VLs, those of its plan. Nothing was released yet.
+    pub fn new(end_system: u16, plan: LinkPlan, subs: Vec<Sub>) -> Link
+        requires plan { IsLinkPlan plan }
+        requires count { length subs.items ≡ plan.sub_vls }
+        requires named { AreNamed end_system plan subs.items }
+        ensures { result ≡ record {
+          end_system = end_system;
+          plan = plan;
+          pace = record {
+            gap = bag_micros plan.bag;
+            sub_vls = plan.sub_vls;
+            last = None;
+            next = sequence_number 0;
+          };
+          subs = subs.items;
+          lost = false;
+        } }
     {
-        let mut subs = Vec::with_capacity(alloc, plan.sub_vls as usize)?;
-        for sub in 0..plan.sub_vls {
-            let of = SubVl {
-                end_system,
-                link: plan,
-                sub,
-            };
-            subs.push(Sub::open(alloc, of)?)?;
-        }
-        Ok(Link {
+        Link {
             end_system,
             plan,
             shaper: Shaper::new(plan.bag, plan.sub_vls),
             subs,
             lost: false,
-        })
+        }
     }
 
     /// Its identifier.
@@ -188,32 +189,10 @@ impl Link {
         self.plan.id
     }
 
-    /// Lets a message of a sub-VL wait, where the queue has room. Takes no memory.
-    pub fn push(&mut self, message: Message) -> Result<(), SendFault>
-        requires sub { message.port.sub < self.old.plan.sub_vls }
-        requires message { IsMessageOf (held_at self.old.subs message.port.sub).of message }
-        ensures ok { OnOk result (self.new ≡ link_with self.old message.port.sub message) }
-        ensures room { OnOk result
-            (length (held_at self.old.subs message.port.sub).waiting < self.old.plan.capacity) }
-        ensures full { OnErr result
-            (self.old.plan.capacity ≤ length (held_at self.old.subs message.port.sub).waiting) }
-        ensures why { IfErr result (λ fault. fault.why ≡ Refusal.Full) }
-        ensures back { IfErr result (λ fault. fault.bytes.items ≡ message.bytes) }
-        ensures unchanged { OnErr result (self.new ≡ self.old) }
-    {
-        let chosen = &mut self.subs[message.port.sub as usize];
-        match chosen.push(message) {
-            Ok(()) => Ok(()),
-            Err(refused) => Err(SendFault {
-                why: Refusal::Full,
-                bytes: refused.bytes,
-            }),
-        }
-    }
-
     /// One turn of the link at a moment, in microseconds. The frame is made in a kept buffer.
-    pub fn serve<A: Network + Drop, B: Network + Drop>(
+    pub fn serve<R: Wait, A: Network + Drop, B: Network + Drop>(
         &mut self,
+        rt: &R,
         frame: &mut Frame,
         mux: &mut Mux<A, B>,
         now: u64,
@@ -229,10 +208,10 @@ impl Link {
         ensures paced { Follows self.new.plan.id.0 self.new.pace mux.new result }
         ensures later { IsLater self.new.pace.last now }
         ensures same { IsSameLink self.old self.new }
-        ensures subs { AreSameSubs self.old.subs self.new.subs }
         ensures lost { self.new.lost ≡ is_lost result }
     {
         let did = serve(
+            rt,
             &self.plan,
             &mut self.shaper,
             &mut self.subs,

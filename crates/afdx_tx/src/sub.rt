@@ -1,64 +1,73 @@
-//! A sub-VL: messages that wait, and one that is being sent.
-ghost use Rattle.std.specs.Prelude.{◌≡◌, ◌≢◌, ℕ, ◌+◌, ◌%◌, ◌^◌, ◌<◌, ◌≤◌, ◌↔◌, [], ◌∷◌, ◌++◌, true, false, length, IsTrue, OnOk, OnErr, IfOk, IfErr};
+//! A sub-VL: the queue of its messages, and one that is being sent.
+ghost use Rattle.std.specs.Prelude.{◌≡◌, ◌≢◌, [], ◌∷◌, length, All};
 ghost use Rattle.afdx_config.specs.Plan.{IsLink};
 ghost use Rattle.afdx_frame.specs.declared.net.Net.TheVariants.{A as ForA};
 ghost use Rattle.afdx_frame.specs.Fragments.{blanked};
 ghost use Rattle.afdx_frame.specs.Header.{IsFrameOf};
-ghost use Rattle.afdx_frame.specs.Twin.{twin_of};
 ghost use Rattle.afdx_tx.specs.Links.{left_of, TellsCutting};
 
-use crate::message::Message;
+use crate::queue::Queue;
 use crate::sub_vl::SubVl;
+use afdx_config::PortPlan;
 use afdx_frame::{Cut, Frame, Net};
-use std::alloc::{AllocError, Global};
-use std::collections::VecDeque;
 use std::marker::Model;
+use std::sync::Wait;
+use subvl_queue::{Item, Receiver};
 
-/// A sub-VL. Contracts see the fragments left of the message that is being sent, the place of the
-/// next message modulo 16,384, and the messages that wait.
+/// A sub-VL. Contracts see its ports, the fragments left of the message that is being sent, and its
+/// queue.
 #[derive(Drop)]
 pub struct Sub {
     of: SubVl,
+    // In the order of the configuration; a message's port is an index into them.
+    ports: Vec<PortPlan>,
     sending: Option<Cut>,
-    waiting: VecDeque<Message>,
+    queue: Queue,
+    // The place of the next message, modulo 16,384.
     place: u16,
 }
 
 impl Model for Sub {
     ghost use Rattle.afdx_tx.specs.Links.{Held, left_of};
-    ghost use Rattle.std.specs.VecDeque.{deque_len, deque_capacity};
     ghost use Rattle.afdx_tx.specs.Subs.{IsSub};
 
     ghost Value = { Held };
 
     ghost view = { λ s. record {
       of = s.of;
+      ports = s.ports.items;
       left = left_of s.of s.sending;
-      place = s.place;
-      waiting = s.waiting.items;
+      seen = s.queue;
     } };
 
-    ghost invariant = { λ s. IsSub s.of s.sending s.waiting.items
-        (deque_len s.waiting) (deque_capacity s.waiting) s.place };
+    ghost invariant = { λ s. IsSub s.of s.ports.items s.sending s.queue s.place };
 }
 
 impl Sub {
+    ghost use Rattle.afdx_tx.specs.Seen.{receiving};
     ghost use Rattle.afdx_tx.specs.Links.{Held, Asks};
-    ghost use Rattle.afdx_tx.specs.Emitter.{waits};
-    ghost use Rattle.afdx_tx.specs.Sending.{IsMessageOf};
+    ghost use Rattle.afdx_tx.specs.Subs.{IsPortOf};
 
-    /// A sub-VL whose queue has room for the messages of its link's capacity. None was sent yet.
-    pub fn open(alloc: Global, of: SubVl) -> Result<Sub, AllocError>
-        requires { IsLink of.link }
-        ensures { IfOk result
-            (λ sub. sub ≡ record { of = of; left = []; place = 0; waiting = [] }) }
+    /// A sub-VL of these ports, over a queue with a sender for each. Nothing was taken yet.
+    pub fn new(of: SubVl, ports: Vec<PortPlan>, receiver: Receiver) -> Sub
+        requires link { IsLink of.link }
+        requires ports { All (IsPortOf of) ports.items }
+        requires count { length ports.items ≡ receiver.ports }
+        requires fresh { receiver.taken ≡ [] }
+        ensures { result ≡ record {
+          of = of;
+          ports = ports.items;
+          left = [];
+          seen = receiving receiver;
+        } }
     {
-        Ok(Sub {
+        Sub {
             of,
+            ports,
             sending: None,
-            waiting: VecDeque::with_capacity(alloc, of.link.capacity)?,
+            queue: Queue::new(receiver),
             place: 0,
-        })
+        }
     }
 
     /// Its index in its link.
@@ -68,34 +77,20 @@ impl Sub {
         self.of.sub
     }
 
-    /// Lets a message wait, where the queue holds fewer than the link's capacity. Takes no memory.
-    pub fn push(&mut self, message: Message) -> Result<(), Message>
-        requires { IsMessageOf self.old.of message }
-        ensures ok { OnOk result (self.new ≡ waits self.old message) }
-        ensures room { OnOk result (length self.old.waiting < self.old.of.link.capacity) }
-        ensures full { OnErr result (self.old.of.link.capacity ≤ length self.old.waiting) }
-        ensures unchanged { OnErr result (self.new ≡ self.old) }
-        ensures back { IfErr result (λ refused. refused ≡ message) }
-    {
-        if self.waiting.len() >= self.of.link.capacity {
-            return Err(message);
-        }
-        self.waiting.push_back_reserved(message);
-        Ok(())
-    }
-
-    /// Whether there is something to send, which is then being sent.
-    pub fn ready(&mut self) -> bool
+    /// Whether there is something to send, which is then being sent. The queue is looked into only
+    /// where no message is being sent.
+    pub fn ready<R: Wait>(&mut self, rt: &R) -> bool
         ensures { Asks result self.old self.new }
     {
         if is_cutting(&self.of, &self.sending) {
             return true;
         }
-        match self.waiting.pop_front() {
+        match self.queue.take(rt) {
             None => false,
-            Some(message) => {
-                let Message { port, bytes } = message;
-                self.sending = Some(Cut::new(bytes, u64::from(self.place), &port));
+            Some(item) => {
+                let Item { port, bytes } = item;
+                let sender = self.ports[usize::from(port)];
+                self.sending = Some(Cut::new(bytes, u64::from(self.place), &sender));
                 self.place = (self.place + 1) % 16384;
                 true
             }

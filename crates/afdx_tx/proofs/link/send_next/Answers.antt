@@ -4,7 +4,7 @@ use Rattle.redundant_mux.specs.Lines.{is_alive}
 use Rattle.afdx_frame.specs.declared.net.Net.TheVariants.{A}
 use Rattle.afdx_frame.proofs.Twins.{twin_same}
 use Rattle.afdx_tx.proofs.FragmentsLeft.{or_none}
-use Rattle.afdx_tx.proofs.SubInStep.{gives_of}
+use Rattle.afdx_tx.proofs.SubInStep.{gave_same}
 use Rattle.afdx_tx.proofs.MirroredLines.{HandedMore, HandedNone, handed_more, handed_none}
 use Rattle.afdx_tx.proofs.link.send_next.Given
 use Rattle.afdx_tx.proofs.link.send_next.Goals as goal
@@ -41,7 +41,7 @@ returns-then-some_stands-clause-released g c =
       frame = c.write_next.new.out.items;
       enters = (more g c).enters;
       of = e.frame;
-      gives = gives_of c.args.sub.now c.write_next.new.self c.write_next.new.out.items e.left e.same;
+      gives = record { next = e.left; same = e.same };
       alive = let a = c.in-Ok.ensures.a_stands in let b =
           c.in-Ok.ensures.b_stands in cc (c.some_stands.ensures, c.if-some_stands.true);
     }
@@ -54,8 +54,18 @@ returns-else-some_stands-clause-lost g c =
     let e = c.write_next.ensures in
     record {
       frame = c.write_next.new.out.items;
-      gives = gives_of c.args.sub.now c.write_next.new.self c.write_next.new.out.items e.left e.same;
+      gives = record { next = e.left; same = e.same };
       same = (none g c).same;
       down = let a = c.in-Ok.ensures.a_stands in let b =
           c.in-Ok.ensures.b_stands in cc (c.some_stands.ensures, c.if-some_stands.false);
     }
+
+pub returns-then-some_stands-clause-same : goal.returns-then-some_stands-clause-same
+returns-then-some_stands-clause-same g c =
+    let e = c.write_next.ensures in
+    gave_same c.write_next.new.out.items c.args.sub.now c.write_next.new.self (record { next = e.left; same = e.same })
+
+pub returns-else-some_stands-clause-same : goal.returns-else-some_stands-clause-same
+returns-else-some_stands-clause-same g c =
+    let e = c.write_next.ensures in
+    gave_same c.write_next.new.out.items c.args.sub.now c.write_next.new.self (record { next = e.left; same = e.same })

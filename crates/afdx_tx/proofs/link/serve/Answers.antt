@@ -18,7 +18,7 @@ returns-in-None-send_next-clause-serves g c =
 
 pub returns-in-None-send_next-clause-same : goal.returns-in-None-send_next-clause-same
 returns-in-None-send_next-clause-same g c =
-    set_same _ _ _ _ c.index-subs-sub.result _ c.in-Some.ensures.chosen c.in-None-send_next.ensures.of
+    set_same _ _ _ _ c.index-subs-sub.result _ c.in-Some.ensures.chosen c.in-None-send_next.ensures.same
 
 pub returns-in-Some-send_next-clause-serves : goal.returns-in-Some-send_next-clause-serves
 returns-in-Some-send_next-clause-serves g c =
@@ -37,4 +37,4 @@ returns-in-Some-send_next-clause-paced g c =
 
 pub returns-in-Some-send_next-clause-same : goal.returns-in-Some-send_next-clause-same
 returns-in-Some-send_next-clause-same g c =
-    set_same _ _ _ _ c.index-subs-sub.result _ c.in-Some.ensures.chosen c.in-Some-send_next.ensures.of
+    set_same _ _ _ _ c.index-subs-sub.result _ c.in-Some.ensures.chosen c.in-Some-send_next.ensures.same

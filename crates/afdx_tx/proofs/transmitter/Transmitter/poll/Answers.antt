@@ -1,0 +1,51 @@
+use Rattle.std.proofs.Common.{◌≡◌, ◌∙◌, sym, List, subst}
+use Rattle.std.proofs.lemmas.List.{with_items_is}
+use Rattle.std.specs.Vec.{with_items}
+use Rattle.afdx_tx.specs.Links.{LinkState}
+use Rattle.afdx_tx.specs.Legal.{IsLegal}
+use Rattle.afdx_tx.specs.Emitter.{Tx, AreApart, IsSound, taken_in}
+use Rattle.afdx_tx.specs.Serving.{IsSteady}
+use Rattle.afdx_tx.proofs.SoundEmitter.{links_apart, sound_after, sound_legal}
+use Rattle.afdx_tx.proofs.transmitter.Transmitter.poll.Given
+use Rattle.afdx_tx.proofs.transmitter.Transmitter.poll.Goals as goal
+
+pub serve_all-requires-clause-apart : goal.serve_all-requires-clause-apart
+serve_all-requires-clause-apart g c =
+    subst AreApart (sym c.deref_mut.ensures.value)
+    (links_apart c.self.inside.config c.self.inside.links.items c.self.invariant.valid c.self.invariant.of_plan)
+
+-- the links that the transmitter then has
+links_are : (g : Given.Over) (c : goal.After-standing-2 g)
+    → (with_items c.self.inside.links c.serve_all.new.links).items ≡ c.serve_all.new.links
+links_are g c = with_items_is c.self.inside.links c.serve_all.new.links
+    (c.serve_all.ensures.steady.same.count ∙ c.deref_mut.ensures.len)
+
+-- what the turns kept, over the links that it had
+steady : (g : Given.Over) (c : goal.After-standing-2 g)
+    → IsSteady c.args.now c.self.inside.links.items c.serve_all.new.links c.serve_all.new.mux
+steady g c = subst (λ (ls : List LinkState). IsSteady c.args.now ls c.serve_all.new.links c.serve_all.new.mux)
+    c.deref_mut.ensures.value c.serve_all.ensures.steady
+
+-- the transmitter that a poll leaves is sound
+sound : (g : Given.Over) (c : goal.After-standing-2 g)
+    → IsSound c.self.inside.config (with_items c.self.inside.links c.serve_all.new.links).items c.serve_all.new.mux c.args.now
+sound g c =
+    subst (λ (ls : List LinkState). IsSound c.self.inside.config ls c.serve_all.new.mux c.args.now) (sym (links_are g c))
+    (sound_after c.self.inside.config c.self.inside.links.items c.serve_all.new.links c.serve_all.new.mux c.args.now
+    c.self.invariant.valid c.self.invariant.of_plan (steady g c) c.serve_all.ensures.whole)
+
+pub invariant_of-self : goal.invariant_of-self
+invariant_of-self g c = sound g c
+
+pub returns-clause-legal : goal.returns-clause-legal
+returns-clause-legal g c =
+    sound_legal c.self.inside.config (with_items c.self.inside.links c.serve_all.new.links).items c.serve_all.new.mux c.args.now
+    (sound g c)
+
+pub returns-clause-tied : goal.returns-clause-tied
+returns-clause-tied g c = λ k lt whole. ((sound g c).kept k lt).tied whole
+
+pub returns-then-not-some_stands-clause-legal : goal.returns-then-not-some_stands-clause-legal
+returns-then-not-some_stands-clause-legal g c =
+    subst (λ (t : Tx). IsLegal t.plan (taken_in t.links) t.lines.a t.lines.b) c.self.view_is
+    (sound_legal c.self.inside.config c.self.inside.links.items c.self.inside.mux c.self.inside.moment c.self.invariant)

@@ -1,0 +1,197 @@
+//! All links over two networks, whatever ends of their queues are at hand.
+ghost use Rattle.std.specs.Prelude.{◌≡◌, ◌<◌, ◌≤◌, ◌++◌, [], true, false, length};
+ghost use Rattle.arrayvec.specs.ArrayVec.{array_vec_len};
+ghost use Rattle.afdx_frame.specs.declared.net.Net.TheVariants.{A as ForA};
+ghost use Rattle.redundant_mux.specs.Lines.{is_alive, log, IsMirrored};
+ghost use Rattle.afdx_tx.specs.Legal.{AreKnown};
+ghost use Rattle.afdx_tx.specs.Run.{IsRun, IsCutShort};
+ghost use Rattle.afdx_tx.specs.Report.{IsTold, released_by};
+ghost use Rattle.afdx_tx.specs.Emitter.{plans, AreApart, AreLinks, AreKept, AreWhole, AreServedBy};
+ghost use Rattle.afdx_tx.specs.Serving.{IsSteady};
+
+use crate::fault::PollFault;
+use crate::link::{Link, some_stands};
+use crate::report::{Release, Report};
+use crate::served::Served;
+use afdx_config::{Config, VlId};
+use afdx_frame::Frame;
+use arrayvec::ArrayVec;
+use redundant_mux::{Mux, Network};
+use std::marker::Model;
+use std::sync::Wait;
+
+/// Adds what a turn released.
+fn note(released: &mut ArrayVec<Release, 64>, vl: VlId, did: &Served)
+    requires { array_vec_len released.old < 64 }
+    ensures { released.new.items ≡ released.old.items ++ released_by vl did.now }
+{
+    if let Served::Released { sub, number } = *did {
+        released.push(Release { vl, sub, number });
+    }
+}
+
+/// Gives each link its turn, in order, until the last network fails.
+fn serve_all<R: Wait, A: Network + Drop, B: Network + Drop>(
+    rt: &R,
+    links: &mut [Link],
+    frame: &mut Frame,
+    mux: &mut Mux<A, B>,
+    now: u64,
+    released: &mut ArrayVec<Release, 64>,
+)
+    requires few { length links.old ≤ 64 }
+    requires none { released.old.items ≡ [] }
+    requires each { AreLinks links.old }
+    requires apart { AreApart links.old }
+    requires kept { AreKept links.old (log mux.old) }
+    requires later { AreServedBy now links.old }
+    requires alive { is_alive mux.old ≡ true }
+    requires whole { AreWhole links.old }
+    requires mirrored { IsMirrored mux.old }
+    requires known { AreKnown (plans links.old) ForA (log mux.old) }
+    ensures steady { IsSteady now links.old links.new mux.new }
+    ensures run { is_alive mux.new ≡ true →
+        IsRun now links.old links.new mux.old mux.new }
+    ensures cut_short { is_alive mux.new ≡ false →
+        IsCutShort now links.old links.new mux.old mux.new }
+    ensures whole { is_alive mux.new ≡ true → AreWhole links.new }
+    ensures told { IsTold now released.new.items mux.old mux.new }
+{
+    for link in links.iter_mut() {
+        let did = link.serve(rt, frame, mux, now);
+        note(released, link.id(), &did);
+        if did.is_lost() {
+            return;
+        }
+    }
+}
+
+/// Sends what is taken from the queues of its sub-VLs, on two networks. Contracts see its plan, its
+/// links, what was handed to the networks, and the moment of the last poll.
+#[derive(Drop)]
+pub struct Transmitter<A: Network + Drop, B: Network + Drop> {
+    config: Config,
+    links: Vec<Link>,
+    mux: Mux<A, B>,
+    // Where each frame is made.
+    frame: Frame,
+    moment: u64,
+}
+
+impl<A: Network + Drop, B: Network + Drop> Model for Transmitter<A, B> {
+    ghost use Rattle.afdx_tx.specs.Emitter.{Tx, IsSound};
+
+    ghost Value = { Tx };
+
+    ghost view = { λ e. record {
+      plan = e.config;
+      links = e.links.items;
+      lines = e.mux;
+      moment = e.moment;
+    } };
+
+    ghost invariant = { λ e. IsSound e.config e.links.items e.mux e.moment };
+}
+
+impl<A: Network + Drop, B: Network + Drop> Transmitter<A, B> {
+    ghost use Rattle.std.specs.Prelude.{◌≡◌, ◌≤◌, ◌↔◌, [], true, false, length, IsErr, OnErr, OnOk, IfOk};
+    ghost use Rattle.afdx_config.specs.Config.{IsPlan};
+    ghost use Rattle.redundant_mux.specs.Lines.{is_alive, log, IsMirrored};
+    ghost use Rattle.afdx_tx.specs.Legal.{IsLegal};
+    ghost use Rattle.afdx_tx.specs.Run.{IsRun, IsCutShort};
+    ghost use Rattle.afdx_tx.specs.Report.{IsTold};
+    ghost use Rattle.afdx_tx.specs.Emitter.{Tx, IsFreshTx, AreFreshLinks, AreTied, IsSamePlan, taken_in};
+
+    /// Over fresh links of a configuration, and networks that were handed nothing.
+    pub fn over(config: Config, links: Vec<Link>, a: A, b: B) -> Transmitter<A, B>
+        requires valid { IsPlan config }
+        requires fresh { AreFreshLinks config links.items (length config.links) }
+        requires a_empty { A.handed a ≡ [] }
+        requires b_empty { B.handed b ≡ [] }
+        requires a_new { A.failures a ≡ 0 }
+        requires b_new { B.failures b ≡ 0 }
+        ensures { IsFreshTx config result }
+    {
+        Transmitter {
+            config,
+            links,
+            mux: Mux::new(a, b),
+            frame: Frame::new(),
+            moment: 0,
+        }
+    }
+
+    /// The configuration that it was opened with.
+    pub fn config(&self) -> &Config
+        ensures { result.now ≡ self.now.plan }
+    {
+        &self.config
+    }
+
+    /// The moment of the last poll that didn't answer `BothDown`, in microseconds, and 0 at first.
+    pub fn now(&self) -> u64
+        ensures { result ≡ self.now.moment }
+    {
+        self.moment
+    }
+
+    /// The two networks, with what was handed to them.
+    pub fn into_networks(self) -> (A, B)
+        ensures a { A.handed result.0 ≡ self.lines.a }
+        ensures b { B.handed result.1 ≡ self.lines.b }
+        ensures a_failures { A.failures result.0 ≡ self.lines.a_failures }
+        ensures b_failures { B.failures result.1 ≡ self.lines.b_failures }
+        ensures legal { IsLegal self.plan (taken_in self.links) self.lines.a self.lines.b }
+    {
+        let Transmitter {
+            config: _,
+            links: _,
+            mux,
+            frame: _,
+            moment: _,
+        } = self;
+        mux.into_networks()
+    }
+
+    /// Gives each link its turn at a moment, in microseconds, in the order of the configuration,
+    /// until the last network fails. After `BothDown` nothing has changed.
+    pub fn poll<R: Wait>(&mut self, rt: &R, now: u64) -> Result<Report, PollFault>
+        requires { self.old.moment ≤ now }
+        ensures both_down { IsErr result ↔ (is_alive self.old.lines ≡ false) }
+        ensures unchanged { OnErr result (self.new ≡ self.old) }
+        ensures legal { IsLegal self.new.plan (taken_in self.new.links) self.new.lines.a self.new.lines.b }
+        ensures tied { AreTied self.new.links (log self.new.lines) }
+        ensures plan { self.new.plan ≡ self.old.plan }
+        ensures same { IsSamePlan self.old.links self.new.links }
+        ensures now { OnOk result (self.new.moment ≡ now) }
+        ensures mirrored { IsMirrored self.new.lines }
+        ensures a_stands { IfOk result (λ report. report.standing.a ≡ self.new.lines.a_stands) }
+        ensures b_stands { IfOk result (λ report. report.standing.b ≡ self.new.lines.b_stands) }
+        ensures told { IfOk result
+            (λ report. IsTold now report.released.items self.old.lines self.new.lines) }
+        ensures run { OnOk result
+            (is_alive self.new.lines ≡ true →
+            IsRun now self.old.links self.new.links self.old.lines self.new.lines) }
+        ensures cut_short { OnOk result
+            (is_alive self.new.lines ≡ false →
+            IsCutShort now self.old.links self.new.links self.old.lines self.new.lines) }
+    {
+        if !some_stands(&self.mux.standing()) {
+            return Err(PollFault::BothDown);
+        }
+        self.moment = now;
+        let mut released = ArrayVec::new();
+        serve_all(
+            rt,
+            &mut self.links,
+            &mut self.frame,
+            &mut self.mux,
+            now,
+            &mut released,
+        );
+        Ok(Report {
+            released,
+            standing: self.mux.standing(),
+        })
+    }
+}
