@@ -10,6 +10,7 @@ pub mod InOrder
 pub mod Reading
 pub mod Arriving
 pub mod HandedOver
+pub mod HandedLoss
 pub mod WorkedMessage
 pub mod LinkFrames
 pub mod LegalLinks
