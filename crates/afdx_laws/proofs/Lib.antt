@@ -18,3 +18,4 @@ pub mod Spent
 pub mod Sizes
 pub mod LegalSpacing
 pub mod WorkedDemo
+pub mod WorkedMoments

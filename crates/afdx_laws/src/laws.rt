@@ -15,6 +15,7 @@ ghost use Rattle.afdx_laws.specs.Spacing.{StreamPasses};
 ghost use Rattle.afdx_laws.specs.WorkedDelivery.{OneMessageArrives};
 ghost use Rattle.afdx_laws.specs.WorkedPlan.{OneIsLegal};
 ghost use Rattle.afdx_laws.specs.WorkedPolicing.{PolicesThree};
+ghost use Rattle.afdx_laws.specs.WorkedSkew.{ComesInTime};
 
 /// A switch that polices a link by its gap, its greatest frame and a jitter, by bytes or by frames,
 /// drops no frame of a link that keeps its gap, whatever each frame is delayed by on its way, up to
@@ -84,7 +85,10 @@ pub fn numbers_clash()
 /// Networks that deliver each frame within a delay of its release are never further apart than
 /// 1 + delay / gap frames, so that a receiver's bound on the lag is one on the delay.
 pub fn skew_is_near()
-    ensures { SkewIsNear }
+    ensures near { SkewIsNear }
+
+    // a frame that comes from both networks
+    ensures worked { ComesInTime }
 {}
 
 /// Of the fragments of several sub-VLs, each sub-VL's own in order, the first datagrams of each are
