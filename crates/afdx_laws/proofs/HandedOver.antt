@@ -14,7 +14,7 @@ use Rattle.afdx_frame.proofs.Twins.{length-twin, twin_number, twin_sub, twin_twi
 use Rattle.afdx_laws.specs.Receiver.{begin, received, carried, IsPrefixOf, IsNumbered}
 use Rattle.afdx_laws.specs.Networks.{IsLong, IsStream, AreCarried, most_carried}
 use Rattle.afdx_laws.specs.Messages.{sub_stream, messages_in, IsSending, AreFirst}
-use Rattle.afdx_laws.specs.Handed.{IsOwn, AreTwins, AreCarriedOf, longer, HandedArrive}
+use Rattle.afdx_laws.specs.Handed.{IsOwn, AreTwins, AreHanded, AreCarriedOf, longer, HandedArrive}
 use Rattle.afdx_laws.proofs.Arriving.{messages_arrive_holds}
 
 -- a beginning of a beginning
@@ -130,20 +130,56 @@ carried_of_a lag a b arrivals as_long own twins carry = record {
 }
 
 -- a sub-VL has as many frames in the twins
-same_count : (sub count : ℕ) (b : List (List ℕ))
+pub same_count : (sub count : ℕ) (b : List (List ℕ))
     → length (sub_stream sub (take count (map (twin_of A) b))) ≡ length (sub_stream sub (take count b))
 same_count sub count b = ap (λ (xs : List (List ℕ)). length (sub_stream sub xs)) (take-map (twin_of A) count b)
     ∙ ap length (sub_twins A sub (take count b))
     ∙ length-map (sub_stream sub (take count b)) (twin_of A)
 
 -- messages that are the first, by frames of which a sub-VL has as many
-same_first : (end_system room sub : ℕ) (accepted : List Sent) (some others messages : List (List ℕ))
+pub same_first : (end_system room sub : ℕ) (accepted : List Sent) (some others messages : List (List ℕ))
     → length (sub_stream sub some) ≡ length (sub_stream sub others)
     → AreFirst end_system room sub accepted some messages → AreFirst end_system room sub accepted others messages
 same_first end_system room sub accepted some others messages counts first = record {
   many = first.many;
   are = first.are;
   all = λ j few enough. first.all j few (omega arith);
+}
+
+-- the longer list is B's
+pub longer_b : (a b : List (List ℕ)) → length a < length b → longer a b ≡ b
+longer_b a b shorter = ap (λ (t : Bool). cond t b a) (yes (length a) (length b) shorter)
+  where
+    yes : (m n : ℕ) → m < n → nat_lt m n ≡ true
+    yes m n h = grind (arith, nat_tests)
+
+-- and where it is A's
+pub longer_a : (a b : List (List ℕ)) → length b ≤ length a → longer a b ≡ a
+longer_a a b as_long = ap (λ (t : Bool). cond t b a) (no (length a) (length b) as_long)
+  where
+    no : (m n : ℕ) → n ≤ m → nat_lt m n ≡ false
+    no m n h = grind (arith, nat_tests)
+
+-- B's frames, as network A has them, are sent
+pub sending_b : (end_system room sub : ℕ) (accepted : List Sent) (a b : List (List ℕ))
+    → AreHanded end_system room sub accepted a b → IsSending end_system room sub accepted (map (twin_of A) b)
+sending_b end_system room sub accepted a b handed = record {
+  link = handed.link;
+  index = handed.index;
+  sent = handed.sent;
+  frames = stream_twins A b handed.on_b.frames;
+  first = turned end_system room sub accepted b handed.on_b.first;
+}
+
+-- and A's are
+pub sending_a : (end_system room sub : ℕ) (accepted : List Sent) (a b : List (List ℕ))
+    → AreHanded end_system room sub accepted a b → IsSending end_system room sub accepted a
+sending_a end_system room sub accepted a b handed = record {
+  link = handed.link;
+  index = handed.index;
+  sent = handed.sent;
+  frames = handed.on_a.frames;
+  first = handed.on_a.first;
 }
 
 -- the law, by which list is the longer
@@ -154,37 +190,19 @@ handed_arrive_holds end_system room sub lag tolerance accepted a b arrivals hand
     elim (cases_lt (length a) (length b)) [
       | inl shorter ↦
           let stream : List (List ℕ) = map (twin_of A) b in
-          let sending : IsSending end_system room sub accepted stream = record {
-            link = handed.link;
-            index = handed.index;
-            sent = handed.sent;
-            frames = stream_twins A b handed.on_b.frames;
-            first = turned end_system room sub accepted b handed.on_b.first;
-          } in
+          let sending = sending_b end_system room sub accepted a b handed in
           let carry_b = carried_of_b lag a b arrivals shorter handed.on_b.own handed.twins carry in
-          let longer_is : longer a b ≡ b = ap (λ (t : Bool). cond t b a) (lt_yes (length a) (length b) shorter) in
+          let longer_is : longer a b ≡ b = longer_b a b shorter in
           let counts : length (sub_stream sub (take count stream)) ≡ length (sub_stream sub (take count (longer a b))) =
           same_count sub count b ∙ ap (λ (xs : List (List ℕ)). length (sub_stream sub (take count xs))) (sym longer_is) in
           same_first end_system room sub accepted (take count stream) (take count (longer a b)) messages counts
           (messages_arrive_holds end_system room sub lag tolerance accepted stream arrivals sending fit carry_b)
       | inr as_long ↦
-          let sending : IsSending end_system room sub accepted a = record {
-            link = handed.link;
-            index = handed.index;
-            sent = handed.sent;
-            frames = handed.on_a.frames;
-            first = handed.on_a.first;
-          } in
+          let sending = sending_a end_system room sub accepted a b handed in
           let carry_a = carried_of_a lag a b arrivals as_long handed.on_a.own handed.twins carry in
-          let longer_is : longer a b ≡ a = ap (λ (t : Bool). cond t b a) (lt_no (length a) (length b) as_long) in
+          let longer_is : longer a b ≡ a = longer_a a b as_long in
           let counts : length (sub_stream sub (take count a)) ≡ length (sub_stream sub (take count (longer a b))) =
           ap (λ (xs : List (List ℕ)). length (sub_stream sub (take count xs))) (sym longer_is) in
           same_first end_system room sub accepted (take count a) (take count (longer a b)) messages counts
           (messages_arrive_holds end_system room sub lag tolerance accepted a arrivals sending fit carry_a)
     ]
-  where
-    lt_yes : (m n : ℕ) → m < n → nat_lt m n ≡ true
-    lt_yes m n h = grind (arith, nat_tests)
-
-    lt_no : (m n : ℕ) → n ≤ m → nat_lt m n ≡ false
-    lt_no m n h = grind (arith, nat_tests)

@@ -1,5 +1,6 @@
 -- Each link of a plan, by what was handed over legally.
 use Rattle.std.proofs.Common.{◌≡◌, ℕ, ◌+◌, ◌<◌, inl, inr, List, ◌++◌, length, ap, sym, ◌∙◌, arith}
+use Rattle.std.specs.Prelude.{All}
 use Rattle.std.proofs.lemmas.Bool.{cases_lt}
 use Rattle.std.proofs.lemmas.List.Elements.{All-contains, All-weaker}
 use Rattle.afdx_config.specs.Config.{Plan, IsPlan, link_plan_at}
@@ -12,10 +13,11 @@ use Rattle.redundant_mux.specs.Entry.{Entry}
 use Rattle.afdx_tx.specs.Streams.{link_stream}
 use Rattle.afdx_tx.specs.Legal.{Accepted, IsLegalOn, IsLegal}
 use Rattle.afdx_laws.specs.Messages.{IsSent, IsLinkOf}
-use Rattle.afdx_laws.specs.Handed.{AreTwins, IsHanded}
-use Rattle.afdx_laws.specs.Plans.{id_at, room_at, frames_of, IsAllowed, LegalArrive}
+use Rattle.afdx_laws.specs.Handed.{AreTwins, IsHanded, AreHanded}
+use Rattle.afdx_laws.specs.Plans.{id_at, room_at, frames_of, IsAllowed, LegalArrive, LegalDespiteLoss}
 use Rattle.afdx_laws.proofs.LinkFrames.{long_of, own_of, numbered_of, told_is, frames_front, twins_by_a, twins_by_b}
 use Rattle.afdx_laws.proofs.HandedOver.{handed_arrive_holds}
+use Rattle.afdx_laws.proofs.HandedLoss.{handed_despite_loss_holds}
 
 -- a link of a valid plan is one
 pub link_is : (plan : Plan) (k : ℕ) → IsPlan plan → k < length plan.links → IsLink (link_plan_at plan.links k)
@@ -66,17 +68,32 @@ twins_are plan accepted a b vl legal = elim (cases_lt (length a) (length b)) [
       (frames_front B vl a b (legal.twins.b_shorter (omega arith)))
 ]
 
--- the law
-pub legal_arrive_holds : LegalArrive
-legal_arrive_holds plan accepted a b valid legal k sub inside index allowed lag tolerance arrivals fit carry =
-    let vl : ℕ = id_at plan k in
+-- so a link's frames were handed to both networks
+are_handed : (plan : Plan) (accepted : Accepted) (a b : List Entry) (k sub : ℕ) → IsPlan plan → IsLegal plan accepted a b
+    → k < length plan.links → sub < (link_plan_at plan.links k).sub_vls → All (IsAllowed plan sub) (accepted k sub)
+    → AreHanded plan.end_system (room_at plan k) sub (accepted k sub)
+    (frames_of (id_at plan k) a) (frames_of (id_at plan k) b)
+are_handed plan accepted a b k sub valid legal inside index allowed =
     let few = (link_is plan k valid inside).sub_vls in
-    handed_arrive_holds plan.end_system (room_at plan k) sub lag tolerance (accepted k sub)
-    (frames_of vl a) (frames_of vl b) arrivals (record {
+    record {
       link = room_is plan k valid inside;
       index = omega arith;
       sent = All-weaker (IsAllowed plan sub) (IsSent sub) (λ sent is. sent_is plan sub sent valid is) (accepted k sub) allowed;
       on_a = handed_is plan accepted A a k sub legal.on_a inside index;
       on_b = handed_is plan accepted B b k sub legal.on_b inside index;
-      twins = twins_are plan accepted a b vl legal;
-    }) fit carry
+      twins = twins_are plan accepted a b (id_at plan k) legal;
+    }
+
+-- the law
+pub legal_arrive_holds : LegalArrive
+legal_arrive_holds plan accepted a b valid legal k sub inside index allowed lag tolerance arrivals fit carry =
+    handed_arrive_holds plan.end_system (room_at plan k) sub lag tolerance (accepted k sub)
+    (frames_of (id_at plan k) a) (frames_of (id_at plan k) b) arrivals
+    (are_handed plan accepted a b k sub valid legal inside index allowed) fit carry
+
+-- the law despite loss
+pub legal_despite_loss_holds : LegalDespiteLoss
+legal_despite_loss_holds plan accepted a b valid legal k sub inside index allowed check whole came some close =
+    handed_despite_loss_holds plan.end_system (room_at plan k) sub check whole (accepted k sub)
+    (frames_of (id_at plan k) a) (frames_of (id_at plan k) b) came
+    (are_handed plan accepted a b k sub valid legal inside index allowed) some close

@@ -10,6 +10,7 @@ pub mod InOrder
 pub mod Reading
 pub mod Arriving
 pub mod HandedOver
+pub mod HandedLoss
 pub mod WorkedMessage
 pub mod LinkFrames
 pub mod LegalLinks
@@ -17,3 +18,4 @@ pub mod Spent
 pub mod Sizes
 pub mod LegalSpacing
 pub mod WorkedDemo
+pub mod WorkedMoments

@@ -7,6 +7,7 @@ use Rattle.afdx_frame.specs.Twin.{twin_of}
 use Rattle.afdx_frame.specs.Fragments.{Sent, blanked, fragments}
 use Rattle.afdx_laws.specs.Receiver.{Tolerance, IsFitFor, begin, received, carried, IsNear, IsPrefixOf}
 use Rattle.afdx_laws.specs.Networks.{IsStream, most_carried}
+use Rattle.afdx_laws.specs.Loss.{AreClose, next_alone, frames_at}
 use Rattle.afdx_laws.specs.Messages.{sub_stream, messages_in, IsSent, IsLinkOf, AreFirst}
 
 -- a frame has a network's interface identifier
@@ -54,3 +55,15 @@ HandedArrive = (end_system room sub lag : ℕ) (tolerance : Tolerance) (accepted
     → IsFitFor lag tolerance → AreCarriedOf lag a b arrivals
     → AreFirst end_system room sub accepted (take (most_carried arrivals) (longer a b))
     (messages_in sub (received number_in tolerance begin arrivals))
+
+-- They are so although one network loses, repeats and reorders frames, where the other carries all that
+-- was handed over and the next number alone is new to the receiver. A frame is told by its network and
+-- its place in the longer list, and comes as that network was handed it: as a twin.
+abbrev pub HandedDespiteLoss : Type 0
+HandedDespiteLoss = (end_system room sub check : ℕ) (whole : Net) (accepted : List Sent)
+    (a b : List (List ℕ)) (came : List (Net × ℕ))
+    → AreHanded end_system room sub accepted a b
+    → 1 ≤ check → AreClose whole (length (longer a b)) 0 0 came
+    → AreFirst end_system room sub accepted (take (length (carried whole came)) (longer a b))
+    (messages_in sub
+    (received number_in (next_alone check) begin (frames_at (longer a b) came)))

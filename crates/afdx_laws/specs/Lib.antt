@@ -11,3 +11,4 @@ pub mod Handed
 pub mod WorkedDelivery
 pub mod Plans
 pub mod WorkedPlan
+pub mod WorkedSkew

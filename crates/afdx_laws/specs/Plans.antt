@@ -13,8 +13,9 @@ use Rattle.afdx_tx.specs.Streams.{link_stream}
 use Rattle.afdx_tx.specs.Legal.{Accepted, IsLegalOn, IsLegal}
 use Rattle.afdx_laws.specs.Policer.{Charge, Rule, Passage, arrival, full, passed}
 use Rattle.afdx_laws.specs.Spacing.{Released, IsOnItsWay}
-use Rattle.afdx_laws.specs.Receiver.{Tolerance, IsFitFor, begin, received}
+use Rattle.afdx_laws.specs.Receiver.{Tolerance, IsFitFor, begin, received, carried}
 use Rattle.afdx_laws.specs.Networks.{most_carried}
+use Rattle.afdx_laws.specs.Loss.{AreClose, next_alone, frames_at}
 use Rattle.afdx_laws.specs.Messages.{messages_in, AreFirst}
 use Rattle.afdx_laws.specs.Handed.{AreCarriedOf, longer}
 
@@ -51,6 +52,22 @@ LegalArrive = (plan : Plan) (accepted : Accepted) (a b : List Entry)
     → AreFirst plan.end_system (room_at plan k) sub (accepted k sub)
     (take (most_carried arrivals) (longer (frames_of (id_at plan k) a) (frames_of (id_at plan k) b)))
     (messages_in sub (received number_in tolerance begin arrivals))
+
+-- They are so although one network loses, repeats and reorders frames, where the other carries all of
+-- the link that was handed over and the next number alone is new to the receiver.
+abbrev pub LegalDespiteLoss : Type 0
+LegalDespiteLoss = (plan : Plan) (accepted : Accepted) (a b : List Entry)
+    → IsPlan plan → IsLegal plan accepted a b
+    → (k sub : ℕ) → k < length plan.links → sub < (link_plan_at plan.links k).sub_vls
+    → All (IsAllowed plan sub) (accepted k sub)
+    → (check : ℕ) (whole : Net) (came : List (Net × ℕ)) → 1 ≤ check
+    → AreClose whole
+    (length (longer (frames_of (id_at plan k) a) (frames_of (id_at plan k) b))) 0 0 came
+    → AreFirst plan.end_system (room_at plan k) sub (accepted k sub)
+    (take (length (carried whole came))
+    (longer (frames_of (id_at plan k) a) (frames_of (id_at plan k) b)))
+    (messages_in sub (received number_in (next_alone check) begin
+    (frames_at (longer (frames_of (id_at plan k) a) (frames_of (id_at plan k) b)) came)))
 
 -- a link's frames with their moments
 abbrev pub released_of : ℕ → List Entry → List Released

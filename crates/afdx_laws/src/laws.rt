@@ -4,17 +4,18 @@
 //! networks deliver what is said.
 ghost use Rattle.afdx_frame.specs.declared.net.Net.TheVariants.{B};
 ghost use Rattle.afdx_laws.specs.Delivery.{InOrder};
-ghost use Rattle.afdx_laws.specs.Handed.{HandedArrive};
+ghost use Rattle.afdx_laws.specs.Handed.{HandedArrive, HandedDespiteLoss};
 ghost use Rattle.afdx_laws.specs.Loss.{AreClose, LossMasked, LossNotMasked, NumbersClash, one_lost};
 ghost use Rattle.afdx_laws.specs.Messages.{DespiteLoss, MessagesArrive};
 ghost use Rattle.afdx_laws.specs.Networks.{ExactlyOnce};
-ghost use Rattle.afdx_laws.specs.Plans.{LegalArrive, LegalPasses};
+ghost use Rattle.afdx_laws.specs.Plans.{LegalArrive, LegalDespiteLoss, LegalPasses};
 ghost use Rattle.afdx_laws.specs.Policer.{EarlyDropped, NoMorePasses, NoneDropped};
 ghost use Rattle.afdx_laws.specs.Skew.{SkewIsNear};
 ghost use Rattle.afdx_laws.specs.Spacing.{StreamPasses};
 ghost use Rattle.afdx_laws.specs.WorkedDelivery.{OneMessageArrives};
 ghost use Rattle.afdx_laws.specs.WorkedPlan.{OneIsLegal};
 ghost use Rattle.afdx_laws.specs.WorkedPolicing.{PolicesThree};
+ghost use Rattle.afdx_laws.specs.WorkedSkew.{ComesInTime};
 
 /// A switch that polices a link by its gap, its greatest frame and a jitter, by bytes or by frames,
 /// drops no frame of a link that keeps its gap, whatever each frame is delayed by on its way, up to
@@ -84,7 +85,10 @@ pub fn numbers_clash()
 /// Networks that deliver each frame within a delay of its release are never further apart than
 /// 1 + delay / gap frames, so that a receiver's bound on the lag is one on the delay.
 pub fn skew_is_near()
-    ensures { SkewIsNear }
+    ensures near { SkewIsNear }
+
+    // a frame that comes from both networks
+    ensures worked { ComesInTime }
 {}
 
 /// Of the fragments of several sub-VLs, each sub-VL's own in order, the first datagrams of each are
@@ -119,6 +123,12 @@ pub fn handed_arrive()
     ensures worked { OneMessageArrives }
 {}
 
+/// They are so by what was handed over although one network loses, repeats and reorders frames, where
+/// the other carries all of them and the next number alone is new to the receiver.
+pub fn handed_despite_loss()
+    ensures { HandedDespiteLoss }
+{}
+
 /// For each link and sub-VL of a valid plan: from what was handed over legally, the receiver's
 /// messages are the first accepted ones, each once and in order, and among them all whose fragments
 /// one network carried.
@@ -130,6 +140,12 @@ pub fn legal_arrive()
 
     // the demonstration configuration, with one message
     ensures worked { OneIsLegal }
+{}
+
+/// They are so although one network loses, repeats and reorders frames, where the other carries all of
+/// the link and the next number alone is new to the receiver.
+pub fn legal_despite_loss()
+    ensures { LegalDespiteLoss }
 {}
 
 /// For each link of a valid plan: of what was handed over legally to a network, a switch that polices
