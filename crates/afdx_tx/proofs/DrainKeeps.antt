@@ -1,5 +1,5 @@
 -- What stays of accepted messages that are known whole.
-use Rattle.std.proofs.Common.{ℕ, ◌≡◌, ◌<◌, ◌≤◌, List, [], ◌++◌, length, map, arith, refl, ap, ◌∙◌, sym, subst, ⊎_elim, Result, Ok, Err}
+use Rattle.std.proofs.Common.{ℕ, ◌≡◌, ◌<◌, ◌≤◌, List, ◌++◌, length, arith, ap, ◌∙◌, sym, subst, ⊎_elim, Result, Ok, Err}
 use Rattle.std.specs.Prelude.{OnOk}
 use Rattle.std.proofs.lemmas.List.{append_assoc, get_or_past}
 use Rattle.std.proofs.lemmas.Bool.{cases_lt}
@@ -8,12 +8,12 @@ use Rattle.afdx_config.specs.Room.{room_of}
 use Rattle.afdx_config.specs.declared.port_plan.PortPlan.{PortPlan}
 use Rattle.afdx_frame.specs.declared.net.Net.{Net}
 use Rattle.afdx_frame.specs.declared.net.Net.TheVariants.{A, B}
-use Rattle.afdx_frame.specs.Fragments.{Sent, fragments}
+use Rattle.afdx_frame.specs.Fragments.{fragments}
 use Rattle.redundant_mux.specs.Entry.{Entry}
 use Rattle.afdx_tx.specs.Seen.{Seen, receiving, gathered, IsGathered, IsSameQueue}
 use Rattle.afdx_tx.specs.Streams.{told_of, IsPrefixOf}
-use Rattle.afdx_tx.specs.Legal.{Accepted, IsLegalOn, IsLegal}
-use Rattle.afdx_tx.specs.Links.{Held, LinkState, held_at, link_at, nothing_held, no_link, sent_by, IsSameSub, IsSameLink}
+use Rattle.afdx_tx.specs.Legal.{IsLegalOn, IsLegal}
+use Rattle.afdx_tx.specs.Links.{Held, LinkState, held_at, link_at, nothing_held, no_link, sent_by, IsSameSub}
 use Rattle.afdx_tx.specs.Emitter.{IsSamePlan, taken_in}
 use Rattle.afdx_tx.specs.Drain.{AreGathered, known_of, accepted_by, accepted_in}
 use Rattle.afdx_tx.proofs.OwedFragments.{owed_split, untaken}

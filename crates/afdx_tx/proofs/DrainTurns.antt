@@ -1,9 +1,9 @@
 -- The turns of links whose accepted messages are known whole.
-use Rattle.std.proofs.Common.{ℕ, zero, suc, ◌≡◌, ◌⊎◌, ◌+◌, ◌-◌, ◌*◌, ◌/◌, ◌%◌, ◌<◌, ◌≤◌, List, [], ◌∷◌, ◌++◌, true, false, length, map, take, arith, refl, ap, ◌∙◌, sym, subst, inl, inr, ⊎_elim, Option, Some, None}
-use Rattle.std.proofs.lemmas.List.{take-map, get_or-take, length-map}
+use Rattle.std.proofs.Common.{ℕ, zero, suc, ◌≡◌, ◌+◌, ◌-◌, ◌*◌, ◌/◌, ◌%◌, ◌<◌, ◌≤◌, List, [], ◌∷◌, false, length, take, arith, refl, ap, ◌∙◌, sym, subst, inl, inr, ⊎_elim, Option, Some, None}
+use Rattle.std.proofs.lemmas.List.{take-map, get_or-take}
 use Rattle.std.proofs.lemmas.Nat.{mod_below, mod-mul-add, div-add-mod'}
 use Rattle.std.proofs.lemmas.Bool.{cases_lt}
-use Rattle.afdx_config.specs.Config.{Plan, link_plan_at}
+use Rattle.afdx_config.specs.Config.{Plan}
 use Rattle.afdx_config.specs.Plan.{bag_micros}
 use Rattle.afdx_config.specs.declared.link_plan.LinkPlan.{LinkPlan}
 use Rattle.afdx_frame.specs.declared.net.Net.TheVariants.{A}
@@ -19,12 +19,11 @@ use Rattle.afdx_tx.specs.declared.sub_vl.SubVl.{SubVl}
 use Rattle.afdx_tx.specs.Seen.{IsGathered}
 use Rattle.afdx_tx.specs.Streams.{link_stream}
 use Rattle.afdx_tx.specs.Legal.{Accepted}
-use Rattle.afdx_tx.specs.Links.{Held, LinkState, held_at, link_at, no_link, IsChoice, PassedOver, Asks, Picks, Releases, Serves, pace_of, is_lost}
+use Rattle.afdx_tx.specs.Links.{Held, LinkState, held_at, link_at, no_link, IsChoice, PassedOver, Asks, Picks, Serves, pace_of}
 use Rattle.afdx_tx.specs.Run.{IsTurn, IsRun, IsCutShort}
 use Rattle.afdx_tx.specs.Emitter.{AreLinksOf, plans, plan_of}
-use Rattle.afdx_tx.specs.Drain.{AreGathered, accepted_in, pace_in, IsReleased, IsLinkDone, IsNext, Enters, LosesNext, Drains, AreDrained, IsDrained, IsDrainCutShort}
+use Rattle.afdx_tx.specs.Drain.{AreGathered, accepted_in, pace_in, IsLinkDone, IsNext, Drains, AreDrained, IsDrained, IsDrainCutShort}
 use Rattle.afdx_tx.proofs.LinkTurn.{IsOwn}
-use Rattle.afdx_tx.proofs.PollTurns.{plans_length}
 use Rattle.afdx_tx.proofs.SoundEmitter.{plan_is, count_is}
 use Rattle.afdx_tx.proofs.SubInStep.{chosen_same}
 use Rattle.afdx_tx.proofs.OwedFragments.{Stands, stands_of, lists_of, passed_released, asked_owes}
@@ -48,9 +47,11 @@ turn_onto sub_vls (Some l) s lt =
     ⊎_elim
     (λ (g : s < next % sub_vls).
     let m : (next / sub_vls + 1) * sub_vls ≡ next / sub_vls * sub_vls + sub_vls = more_times (next / sub_vls) sub_vls in
-    let at : next + (s + sub_vls - next % sub_vls) ≡ (next / sub_vls + 1) * sub_vls + s = omega arith in
-    (s + sub_vls - next % sub_vls, (omega arith),
-    ap (λ (x : ℕ). x % sub_vls) at ∙ mod-mul-add (next / sub_vls + 1) sub_vls s lt))
+    let at : next + (s + sub_vls - next % sub_vls) ≡ (next / sub_vls + 1) * sub_vls + s = omega arith in (
+      s + sub_vls - next % sub_vls,
+      (omega arith),
+      ap (λ (x : ℕ). x % sub_vls) at ∙ mod-mul-add (next / sub_vls + 1) sub_vls s lt,
+    ))
     (λ (g : next % sub_vls ≤ s).
     let at : next + (s - next % sub_vls) ≡ next / sub_vls * sub_vls + s = omega arith in
     (s - next % sub_vls, (omega arith), ap (λ (x : ℕ). x % sub_vls) at ∙ mod-mul-add (next / sub_vls) sub_vls s lt))
@@ -103,25 +104,28 @@ drains : (now end_system : ℕ) (link : LinkPlan) (subs news : List Held) (lines
 drains now end_system link subs news lines after Nothing all named s =
     (⊎_elim (λ h. inl h.0) (λ h. inr (h.0, none_left end_system link (log lines) subs news all h.1)) s.0, s.1)
 drains now end_system link subs news lines after (Released sub number) all named s =
-    let r = s.2.releases in
-    (s.0,
-    next_of end_system link (log lines) subs s.2.picks.mid sub all s.2.picks.choice,
-    s.1,
-    record {
-      frame = r.frame;
-      enters = r.enters;
-      of = subst (λ (of : SubVl). IsFrameOf of.link.id.0 of.sub number A r.frame)
-          (picked_of end_system link (pace_in link (log lines)) sub subs news s.2.picks named) r.of;
-      alive = r.alive;
-    })
+    let r = s.2.releases in (
+      s.0,
+      next_of end_system link (log lines) subs s.2.picks.mid sub all s.2.picks.choice,
+      s.1,
+      record {
+        frame = r.frame;
+        enters = r.enters;
+        of = subst (λ (of : SubVl). IsFrameOf of.link.id.0 of.sub number A r.frame)
+            (picked_of end_system link (pace_in link (log lines)) sub subs news s.2.picks named) r.of;
+        alive = r.alive;
+      },
+    )
 drains now end_system link subs news lines after Lost all named s =
-    let at = s.1 in
-    (s.0, record {
-      sub = at.sub;
-      next = next_of end_system link (log lines) subs at.picks.mid at.sub all at.picks.choice;
-      same = at.loses.same;
-      down = at.loses.down;
-    })
+    let at = s.1 in (
+      s.0,
+      record {
+        sub = at.sub;
+        next = next_of end_system link (log lines) subs at.picks.mid at.sub all at.picks.choice;
+        same = at.loses.same;
+        down = at.loses.down;
+      },
+    )
 
 -- the regulation of a link is that of its plan
 pace_is : (link : LinkState) (log : List Entry) → IsOwn link

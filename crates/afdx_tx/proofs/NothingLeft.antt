@@ -1,15 +1,11 @@
 -- Whether all accepted messages are wholly released.
-use Rattle.std.proofs.Common.{ℕ, ◌≡◌, ◌⊎◌, ◌<◌, List, [], ◌∷◌, ◌++◌, Bool, true, false, length, arith, refl, ap, ◌∙◌, sym, subst, ⊎_elim}
+use Rattle.std.proofs.Common.{ℕ, ◌≡◌, ◌<◌, List, [], ◌∷◌, Bool, true, false, length, arith, refl, ap, ◌∙◌, sym, subst, ⊎_elim}
 use Rattle.afdx_config.specs.Config.{Plan, link_plan_at}
-use Rattle.afdx_config.specs.Room.{room_of}
 use Rattle.afdx_config.specs.declared.link_plan.LinkPlan.{LinkPlan}
-use Rattle.afdx_frame.specs.declared.net.Net.TheVariants.{A}
-use Rattle.afdx_frame.specs.Fragments.{fragments}
 use Rattle.redundant_mux.specs.Entry.{Entry}
 use Rattle.redundant_mux.specs.Lines.{Lines, log}
 use Rattle.afdx_tx.specs.declared.sub_vl.SubVl.{SubVl}
 use Rattle.afdx_tx.specs.Seen.{Seen, receiving, gathered, IsGathered, TellsDrained}
-use Rattle.afdx_tx.specs.Streams.{told_of}
 use Rattle.afdx_tx.specs.Links.{Held, LinkState, held_at, link_at, sub_fragments, taken_by}
 use Rattle.afdx_tx.specs.Emitter.{IsKept, IsSound}
 use Rattle.afdx_tx.specs.Drain.{AreGathered, accepted_in, Owes, IsReleased, IsLinkDone, IsAllDone}

@@ -1,5 +1,5 @@
 -- The fragments of a sub-VL's accepted messages, against its stream.
-use Rattle.std.proofs.Common.{ℕ, suc, ◌≡◌, ◌+◌, ◌<◌, List, [], ◌∷◌, ◌++◌, true, false, length, map, arith, refl, ap, ◌∙◌, sym, subst, ⊎_elim}
+use Rattle.std.proofs.Common.{ℕ, suc, ◌≡◌, ◌+◌, ◌<◌, List, [], ◌∷◌, ◌++◌, true, false, length, arith, refl, ap, ◌∙◌, sym, ⊎_elim}
 use Rattle.std.proofs.lemmas.List.{append-nil, append_assoc, map-append, nil_from_length, length-append}
 use Rattle.afdx_config.specs.Room.{room_of}
 use Rattle.afdx_config.specs.declared.link_plan.LinkPlan.{LinkPlan}
@@ -7,11 +7,10 @@ use Rattle.afdx_frame.specs.declared.net.Net.{Net}
 use Rattle.afdx_frame.specs.declared.net.Net.TheVariants.{A}
 use Rattle.afdx_frame.specs.Fragments.{Sent, fragments, fragments_at, fragments_from}
 use Rattle.redundant_mux.specs.Entry.{Entry}
-use Rattle.subvl_queue.specs.Views.{accepted_of}
 use Rattle.afdx_tx.specs.declared.sub_vl.SubVl.{SubVl}
 use Rattle.afdx_tx.specs.Seen.{Seen, receiving, gathered, taken_of, FindsNothing, Finds, IsGathered}
 use Rattle.afdx_tx.specs.Streams.{told_of}
-use Rattle.afdx_tx.specs.Links.{Held, LinkState, held_at, link_at, GoesOn, Starts, Passes, Asks, sent_of, sent_by, taken_by, sub_fragments}
+use Rattle.afdx_tx.specs.Links.{Held, LinkState, held_at, GoesOn, Starts, Asks, sent_of, sent_by, taken_by, sub_fragments}
 use Rattle.afdx_tx.specs.Emitter.{IsLinkTied}
 use Rattle.afdx_tx.specs.Drain.{known_of, accepted_by, IsReleased, Owes}
 use Rattle.afdx_tx.proofs.FragmentsLeft.{fragments_some}

@@ -1,4 +1,4 @@
-use Rattle.std.proofs.Common.{◌≡◌, true, ◌∙◌, ap, subst}
+use Rattle.std.proofs.Common.{◌≡◌, true, subst}
 use Rattle.redundant_mux.specs.Lines.{log}
 use Rattle.afdx_tx.specs.Emitter.{Tx}
 use Rattle.afdx_tx.specs.Drain.{IsAllDone, accepted_in}

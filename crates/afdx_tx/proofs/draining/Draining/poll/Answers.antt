@@ -1,4 +1,4 @@
-use Rattle.std.proofs.Common.{◌≡◌, true, false, ◌∙◌, ap, subst}
+use Rattle.std.proofs.Common.{◌∙◌, ap, subst}
 use Rattle.afdx_tx.specs.Emitter.{Tx}
 use Rattle.afdx_tx.specs.Drain.{IsDrained, IsDrainCutShort, accepted_in}
 use Rattle.afdx_tx.proofs.DrainKeeps.{gathered_still, accepted_same, legal_accepted, on_ok}
