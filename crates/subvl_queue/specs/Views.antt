@@ -1,12 +1,17 @@
 -- What contracts see of the ends of a queue. A message stands with its sender's index, as a pair of the index and the bytes.
 use Rattle.std.specs.Prelude.{◌≡◌, ℕ, ◌+◌, ◌<◌, ◌≤◌, Bool, true, false, List, [], ◌∷◌, ◌++◌, length, slice_index_or}
+use Rattle.atomic_table.specs.Seated.{TableId}
+use Rattle.atomic_table.specs.declared.badge.Badge.{Badge}
+use Rattle.crossbeam_channel.specs.declared.flavors.array.Key.{Key}
+use Rattle.crossbeam_channel.specs.Fifo.{Held}
 use Rattle.subvl_queue.specs.declared.refused.Why.{Why}
 use Rattle.subvl_queue.specs.declared.refused.Why.TheVariants.{Closed, Exhausted, Full}
 use Rattle.subvl_queue.specs.Messages.{IsMessage, part_of}
+use Rattle.subvl_queue.specs.Rule.{EndsWith}
 
 -- which queue an end belongs to; callers only compare names
 abbrev pub QueueName : Type 0
-QueueName = ℕ
+QueueName = TableId × Badge (Key (ℕ × List ℕ))
 
 -- a sender: its own messages that were accepted, in order, and how often it asked, of `calls`
 pub record SenderView : Type 0 where
@@ -62,7 +67,7 @@ sent s bytes = record s { asks = s.asks + 1; own = s.own ++ bytes ∷ [] }
 
 -- at one moment of the call the queue held as many messages as its capacity, and this sender's were the last that it sent
 abbrev pub WasFull : SenderView → Type 0
-WasFull s = Unit {0}
+WasFull s = Held s.capacity (λ items. EndsWith s.own (part_of s.port items))
 
 -- why a message was refused, and what that leaves of the sender
 abbrev pub IsRefused : SenderView → Why → SenderView → Type 0

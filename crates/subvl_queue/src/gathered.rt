@@ -1,26 +1,52 @@
-//! STAND-IN.
+//! All ends of a queue in one hand.
 ghost use Rattle.std.specs.Prelude.{◌≡◌, ◌^◌, ◌<◌, ◌≤◌, [], ◌∷◌, ◌++◌, length, IfSome, IfNone};
-ghost use Rattle.subvl_queue.specs.Messages.{IsMessage, IsItem};
+ghost use Rattle.crossbeam_channel.specs.Claims.{view};
+ghost use Rattle.subvl_queue.specs.Kept.{IsGathered};
+ghost use Rattle.subvl_queue.specs.Messages.{IsMessage, before};
 ghost use Rattle.subvl_queue.specs.Views.{TellsLeft};
 
 use crate::item::Item;
+use crate::rule::Knowing;
+use std::collections::VecDeque;
 use std::marker::Model;
 
+/// All ends of a queue, so that its accepted messages are known whole. Contracts see how many
+/// senders the queue has, what was taken, and what was accepted and not taken yet.
 #[derive(Drop)]
 pub struct Gathered {
-    ports: usize,
+    pass: Knowing,
+    left: VecDeque<Item>,
 }
 
 impl Model for Gathered {
-    ghost use Rattle.std.specs.Prelude.{[]};
+    ghost use Rattle.crossbeam_channel.specs.Claims as claims;
+    ghost use Rattle.subvl_queue.specs.Kept.{IsGathered};
+    ghost use Rattle.subvl_queue.specs.Messages.{before};
     ghost use Rattle.subvl_queue.specs.Views.{GatheredView};
 
     ghost Value = { GatheredView };
 
-    ghost view = { λ r. record { ports = r.ports; taken = []; left = [] } };
+    ghost view = { λ g. record {
+      ports = (claims.view g.pass).made;
+      taken = before (claims.view g.pass).got g.left.items;
+      left = g.left.items;
+    } };
+
+    ghost invariant = { λ g. IsGathered g.left.items (claims.view g.pass) };
 }
 
 impl Gathered {
+    // What was got, and the end of it that is left.
+    pub(crate) fn new(pass: Knowing, left: VecDeque<Item>) -> Gathered
+        requires { IsGathered left.items (view pass) }
+        ensures ports { result.ports ≡ (view pass).made }
+        ensures taken { result.taken ≡ before (view pass).got left.items }
+        ensures left { result.left ≡ left.items }
+    {
+        Gathered { pass, left }
+    }
+
+    /// Takes the next accepted message, and none exactly where all were taken.
     pub fn take(&mut self) -> Option<Item>
         ensures none { IfNone result (self.old.left ≡ []) }
         ensures unchanged { IfNone result (self.new ≡ self.old) }
@@ -31,14 +57,14 @@ impl Gathered {
         ensures message { IfSome result (λ item. IsMessage item.1) }
         ensures few { length self.new.taken ≤ 2 ^ 46 }
     {
-        let _ports = self.ports;
-        None
+        let item = self.left.pop_front()?;
+        Some(item)
     }
 
+    /// Whether all accepted messages were taken.
     pub fn is_drained(&self) -> bool
         ensures { TellsLeft result self.now.left }
     {
-        let _ports = self.ports;
-        true
+        self.left.is_empty()
     }
 }

@@ -2,10 +2,12 @@
 #![tactic(auto)]
 
 mod gathered;
+mod gathering;
 mod item;
 mod making;
 mod receiver;
 mod refused;
+mod rule;
 mod sender;
 
 pub use gathered::Gathered;
@@ -14,3 +16,6 @@ pub use making::make;
 pub use receiver::Receiver;
 pub use refused::{Refused, Why};
 pub use sender::Sender;
+
+#[cfg(test)]
+mod tests;
