@@ -9,3 +9,8 @@ pub mod Emitter
 pub mod Sending
 pub mod Subs
 pub mod Serving
+pub mod Ports
+pub mod Room
+pub mod Rooms
+pub mod Drain
+pub mod Gathering
