@@ -13,3 +13,4 @@ pub mod LegalLists
 pub mod SoundEmitter
 pub mod FreshEmitter
 pub mod PortLink
+pub mod RoomSteps

@@ -27,8 +27,8 @@ abbrev pub room_at : List (List RoomView) → ℕ → ℕ → RoomView
 room_at rooms link sub = room_in (rooms_of rooms link) sub
 
 -- In a room for so many are this many senders, of each of which a fact holds by its index.
-pub record Holds (room : RoomView) (size many : ℕ) (P : ℕ → SenderView → Type 0) : Type 0 where
-  pub size : size ≤ room.size
+pub record Holds (room : RoomView) (places many : ℕ) (P : ℕ → SenderView → Type 0) : Type 0 where
+  pub size : places ≤ room.size
   pub count : length room.senders ≡ many
   pub each : (j : ℕ) (d : SenderView) → j < many → P j (slice_index_or room.senders j d)
 
@@ -70,7 +70,7 @@ fresh_for config queues k s j sender =
 -- a sender of a queue, with this index
 pub record IsSenderOf (queue : Option QueueName) (index : ℕ) (sender : SenderView) : Type 0 where
   pub of : queue ≡ Some sender.queue
-  pub index : sender.port ≡ index
+  pub is : sender.port ≡ index
 
 -- senders of these queues
 abbrev pub senders_for : List (List (Option QueueName)) → ℕ → ℕ → ℕ → SenderView → Type 0

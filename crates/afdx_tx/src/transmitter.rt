@@ -125,7 +125,8 @@ impl<A: Network + Drop, B: Network + Drop> Transmitter<A, B> {
         requires b_empty { B.handed b ≡ [] }
         requires a_new { A.failures a ≡ 0 }
         requires b_new { B.failures b ≡ 0 }
-        ensures { IsFreshTx config result }
+        ensures fresh { IsFreshTx config result }
+        ensures links { result.links ≡ links.items }
     {
         Transmitter {
             config,
