@@ -14,3 +14,5 @@ pub mod SoundEmitter
 pub mod FreshEmitter
 pub mod PortLink
 pub mod RoomSteps
+pub mod FreshRooms
+pub mod OwnPorts

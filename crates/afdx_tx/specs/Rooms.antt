@@ -49,18 +49,17 @@ abbrev pub AreReserved : Plan → List (List RoomView) → Type 0
 AreReserved config rooms = AreRooms config rooms 0 (λ k s j sender. Unit {0})
 
 -- all senders of a sub-VL are in its room, and have not asked yet
-abbrev pub IsFreshRoom : ℕ → Held → RoomView → Type 0
-IsFreshRoom many held room =
-    Holds room many many (IsFreshSender (queue_of held.seen) held.of.link.capacity)
+abbrev pub IsFreshRoom : (capacity many : ℕ) → Held → RoomView → Type 0
+IsFreshRoom capacity many held room =
+    Holds room many many (IsFreshSender (queue_of held.seen) capacity)
 
 -- so many rooms of a link, with all senders of their sub-VLs, that have not asked yet
 pub record AreFreshRooms (ports : List PortPlan) (link : LinkPlan) (subs : List Held)
     (rooms : List RoomView) (many : ℕ) : Type 0 where
   pub count : length rooms ≡ many
   pub each : (s : ℕ) → s < many
-      → Holds (room_in rooms s) (length (ports_of_sub ports link.id.0 s))
-      (length (ports_of_sub ports link.id.0 s))
-      (IsFreshSender (queue_of (held_at subs s).seen) link.capacity)
+      → IsFreshRoom link.capacity (length (ports_of_sub ports link.id.0 s)) (held_at subs s)
+      (room_in rooms s)
 
 -- senders that have not asked yet
 abbrev pub fresh_for : Plan → List (List (Option QueueName)) → ℕ → ℕ → ℕ → SenderView → Type 0

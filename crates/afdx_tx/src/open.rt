@@ -42,7 +42,7 @@ fn open_sub(alloc: Global, config: &Config, of: SubVl) -> Result<(Sub, Room), Al
     requires sub { of.sub < of.link.sub_vls }
     ensures fresh { IfOk result (λ opened. IsFreshSub of
         (ports_of_sub config.now.ports of.link.id.0 of.sub) opened.0) }
-    ensures room { IfOk result (λ opened. IsFreshRoom
+    ensures room { IfOk result (λ opened. IsFreshRoom of.link.capacity
         (length (ports_of_sub config.now.ports of.link.id.0 of.sub)) opened.0 opened.1) }
 {
     let ports = ports_of(alloc, config.ports(), &of)?;
