@@ -2,7 +2,7 @@ ghost use Rattle.std.specs.Prelude.{◌≡◌, ◌<◌, ◌≤◌, [], length, m
 ghost use Rattle.arrayvec.specs.ArrayVec.{array_vec_len};
 ghost use Rattle.redundant_mux.specs.Entry.{entry};
 
-use crate::{Emitter, PollFault, Report, open_tx};
+use crate::{Emitter, PollFault, Report, TxPort, open_tx};
 use afdx_config::{Config, read_config};
 use afdx_frame::Frame;
 use arrayvec::ArrayVec;
@@ -10,6 +10,7 @@ use redundant_mux::{HandFault, MemNetwork, Network, Standing};
 use std::alloc::Global;
 use std::default::Default;
 use std::process::Abort;
+use std::sync::Wait;
 use std::test::Fail;
 
 // One link with room for six messages, and one port.
@@ -24,30 +25,44 @@ fn six(alloc: Global) -> Result<Config, Fail> {
     read_config(alloc, SIX.as_bytes()).map_err(|_| Fail::from("a valid plan"))
 }
 
-/// Sends six messages of one byte, which are taken.
-fn send_six<A: Network + Drop, B: Network + Drop>(
-    rt: &impl Abort,
-    alloc: Global,
-    tx: &mut Emitter<A, B>,
-) -> Result<(), Fail> {
+/// Sends six messages of one byte, which are accepted.
+fn send_six<R: Abort + Wait>(rt: &R, alloc: Global, port: &mut TxPort) -> Result<(), Fail> {
     for byte in 1..=6u8 {
-        if tx.config().ports().is_empty() {
-            return Err(Fail::from("a plan with a port"));
-        }
-        tx.send(0, vec![in alloc; byte]?).expect(rt, "taken");
+        port.send(rt, vec![in alloc; byte]?).expect(rt, "accepted");
     }
     Ok(())
 }
 
+/// The emitter of one link and its port, over two networks that were handed nothing.
+fn open_six<A: Network + Drop, B: Network + Drop>(
+    alloc: Global,
+    a: A,
+    b: B,
+) -> Result<(Emitter<A, B>, TxPort), Fail>
+    requires a_empty { A.handed a ≡ [] }
+    requires b_empty { B.handed b ≡ [] }
+    requires a_new { A.failures a ≡ 0 }
+    requires b_new { B.failures b ≡ 0 }
+{
+    let Ok((tx, mut ports)) = open_tx(alloc, six(alloc)?, a, b) else {
+        return Err(Fail::from("no memory"));
+    };
+    match ports.pop() {
+        Some(port) => Ok((tx, port)),
+        None => Err(Fail::from("a plan with a port")),
+    }
+}
+
 /// Polls at a moment that isn't before the last one.
-fn poll_at<A: Network + Drop, B: Network + Drop>(
+fn poll_at<R: Wait, A: Network + Drop, B: Network + Drop>(
+    rt: &R,
     tx: &mut Emitter<A, B>,
     now: u64,
 ) -> Result<Result<Report, PollFault>, Fail> {
     if now < tx.now() {
         return Err(Fail::from("a moment not before the last one"));
     }
-    Ok(tx.poll(now))
+    Ok(tx.poll(rt, now))
 }
 
 /// Asserts what the poll with this number, counted from 1, answers where A fails at hand `k` and B at
@@ -92,17 +107,15 @@ fn assert_handed(rt: &impl Abort, network: &MemNetwork, many: u64) {
 }
 
 /// A run of six polls where A fails at hand `k` and B at hand `m`.
-fn run_failing(rt: &impl Abort, alloc: Global, k: u64, m: u64) -> Result<(), Fail>
+fn run_failing<R: Abort + Wait>(rt: &R, alloc: Global, k: u64, m: u64) -> Result<(), Fail>
     requires { (1 ≤ k) × (1 ≤ m) }
 {
     let a = MemNetwork::failing_at(alloc, k);
     let b = MemNetwork::failing_at(alloc, m);
-    let Ok(mut tx) = open_tx(alloc, six(alloc)?, a, b) else {
-        return Err(Fail::from("no memory"));
-    };
-    send_six(rt, alloc, &mut tx)?;
+    let (mut tx, mut port) = open_six(alloc, a, b)?;
+    send_six(rt, alloc, &mut port)?;
     for turn in 1..=6u64 {
-        let answer = poll_at(&mut tx, 1_000 * (turn - 1))?;
+        let answer = poll_at(rt, &mut tx, 1_000 * (turn - 1))?;
         assert_answer(rt, turn, k, m, answer);
     }
     assert_eq!(rt; tx.now(), 1_000 * (k.max(m).min(6) - 1));
@@ -178,12 +191,10 @@ fn a_network_without_memory_fails_where_it_is_full_and_the_other_goes_on(
     rt: HostRuntime,
 ) -> Result<(), Fail> {
     let alloc = rt.alloc();
-    let Ok(mut tx) = open_tx(alloc, six(alloc)?, empty_shelf(), MemNetwork::new(alloc)) else {
-        return Err(Fail::from("no memory"));
-    };
-    send_six(&rt, alloc, &mut tx)?;
+    let (mut tx, mut port) = open_six(alloc, empty_shelf(), MemNetwork::new(alloc))?;
+    send_six(&rt, alloc, &mut port)?;
     for turn in 1..=6u64 {
-        let report = poll_at(&mut tx, 1_000 * (turn - 1))?.expect(&rt, "B stands");
+        let report = poll_at(&rt, &mut tx, 1_000 * (turn - 1))?.expect(&rt, "B stands");
         assert_eq!(rt; report.released.len(), 1);
         assert_eq!(rt;
             report.standing,
