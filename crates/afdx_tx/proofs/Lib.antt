@@ -13,3 +13,7 @@ pub mod LegalLists
 pub mod SoundEmitter
 pub mod FreshEmitter
 pub mod PortLink
+pub mod OwedFragments
+pub mod DrainTurns
+pub mod DrainKeeps
+pub mod NothingLeft

@@ -9,3 +9,5 @@ pub mod Emitter
 pub mod Sending
 pub mod Subs
 pub mod Serving
+pub mod Drain
+pub mod Done

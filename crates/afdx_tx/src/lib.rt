@@ -2,6 +2,7 @@
 //! out as numbered, spaced frames on two networks.
 #![tactic(auto)]
 
+mod draining;
 mod emitter;
 mod fault;
 mod link;
@@ -14,6 +15,7 @@ mod sub;
 mod sub_vl;
 mod transmitter;
 
+pub use draining::Draining;
 pub use emitter::Emitter;
 pub use fault::{OpenFault, PollFault, Refusal, SendFault};
 pub use open::open_tx;

@@ -5,6 +5,7 @@ ghost use Rattle.vl_shaper.specs.Pace.{IsLater, is_due};
 ghost use Rattle.redundant_mux.specs.Lines.{is_alive, log, IsMirrored};
 ghost use Rattle.afdx_tx.specs.Streams.{link_stream};
 ghost use Rattle.afdx_tx.specs.Links.{pace_of, AreSubsOf, IsSameSub, AreSameSubs, Serves, Follows, Releases, Loses, is_lost, IsChoice, PassedOver};
+ghost use Rattle.afdx_tx.specs.Done.{TellsSubsDone};
 
 use crate::served::Served;
 use crate::sub::Sub;
@@ -119,6 +120,18 @@ fn serve<R: Wait, A: Network + Drop, B: Network + Drop>(
     }
 }
 
+/// Whether no sub-VL has anything left.
+fn subs_done(subs: &[Sub]) -> bool
+    ensures { TellsSubsDone result subs.now }
+{
+    for sub in subs {
+        if !sub.is_done() {
+            return false;
+        }
+    }
+    true
+}
+
 /// A virtual link: its sub-VLs and its regulation. Contracts see its plan, its regulation, its
 /// sub-VLs, and whether a frame of it was lost with the last network.
 #[derive(Drop)]
@@ -154,6 +167,7 @@ impl Link {
     ghost use Rattle.redundant_mux.specs.Lines.{is_alive, log, IsMirrored};
     ghost use Rattle.afdx_tx.specs.Streams.{link_stream};
     ghost use Rattle.afdx_tx.specs.Links.{LinkState, AreNamed, Serves, Follows, IsSameLink, is_lost, pace_of};
+    ghost use Rattle.afdx_tx.specs.Done.{TellsLinkDone};
 
     /// A link of these sub-VLs, those of its plan. Nothing was released yet.
     pub fn new(end_system: u16, plan: LinkPlan, subs: Vec<Sub>) -> Link
@@ -187,6 +201,16 @@ impl Link {
         ensures { result ≡ self.now.plan.id }
     {
         self.plan.id
+    }
+
+    /// Whether it has lost no frame, and no sub-VL has anything left.
+    pub fn is_done(&self) -> bool
+        ensures { TellsLinkDone result self.now }
+    {
+        if self.lost {
+            return false;
+        }
+        subs_done(&self.subs)
     }
 
     /// One turn of the link at a moment, in microseconds. The frame is made in a kept buffer.
