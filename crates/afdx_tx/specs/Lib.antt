@@ -11,3 +11,7 @@ pub mod Subs
 pub mod Serving
 pub mod Drain
 pub mod Done
+pub mod Ports
+pub mod Room
+pub mod Rooms
+pub mod Gathering
