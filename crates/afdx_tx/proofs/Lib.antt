@@ -16,3 +16,5 @@ pub mod PortLink
 pub mod RoomSteps
 pub mod FreshRooms
 pub mod OwnPorts
+pub mod SeatSteps
+pub mod FromLast
