@@ -13,6 +13,10 @@ pub mod LegalLists
 pub mod SoundEmitter
 pub mod FreshEmitter
 pub mod PortLink
+pub mod OwedFragments
+pub mod DrainTurns
+pub mod DrainKeeps
+pub mod NothingLeft
 pub mod RoomSteps
 pub mod FreshRooms
 pub mod OwnPorts

@@ -1,6 +1,6 @@
 -- An emitter after its links had their turns.
-use Rattle.std.proofs.Common.{ℕ, ◌≡◌, ◌<◌, ◌≤◌, List, true, length, arith, ap, ◌∙◌, sym, subst, Option, Some, None}
-use Rattle.std.proofs.lemmas.List.{ext_get_or}
+use Rattle.std.proofs.Common.{ℕ, ◌≡◌, ◌<◌, ◌≤◌, List, [], true, length, arith, ap, ◌∙◌, sym, subst, Option, Some, None}
+use Rattle.std.proofs.lemmas.List.{ext_get_or, get_or-map, length-map}
 use Rattle.afdx_config.specs.declared.link_plan.LinkPlan.{LinkPlan}
 use Rattle.afdx_config.specs.Config.{Plan, IsPlan, link_plan_at}
 use Rattle.afdx_config.specs.Plan.{bag_micros}
@@ -12,12 +12,12 @@ use Rattle.vl_shaper.specs.declared.shaper.Stamp.{Stamp}
 use Rattle.vl_shaper.specs.Pace.{IsLater}
 use Rattle.afdx_tx.specs.Streams.{link_stream, told_of, IsNumbered, IsSpaced, IsPrefixOf}
 use Rattle.afdx_tx.specs.Legal.{AreKnown, IsLegal}
-use Rattle.afdx_tx.specs.Links.{LinkState, link_at, held_at, no_link_plan}
-use Rattle.afdx_tx.specs.Emitter.{plans, AreLinks, AreApart, AreLinksOf, AreWhole, AreReceiving, IsSamePlan, IsSound, taken_in, queues_in, ports_of_sub}
+use Rattle.afdx_tx.specs.Links.{LinkState, link_at, no_link, held_at, nothing_held, no_link_plan, IsSameLink}
+use Rattle.afdx_tx.specs.Emitter.{plans, AreLinks, AreApart, AreLinksOf, AreWhole, AreReceiving, IsSamePlan, IsSound, taken_in, held_queue, link_queues, queues_in, ports_of_sub}
 use Rattle.afdx_tx.specs.Serving.{IsSteady}
 use Rattle.afdx_tx.proofs.LegalLists.{legal_of}
 use Rattle.afdx_tx.proofs.PollTurns.{plan_at_is, plans_length}
-use Rattle.afdx_tx.proofs.QueueLooks.{still_receiving}
+use Rattle.afdx_tx.proofs.QueueLooks.{still_receiving, same_name}
 
 -- what was at a moment was so at each later one
 later_still : (last : Option Stamp) (before now : ℕ) → before ≤ now → IsLater last before → IsLater last now
@@ -119,3 +119,29 @@ receiving_still old new same r k s klt slt =
     let on = same.each k o in
     let t : s < length (link_at old k).subs = omega (arith, on.count) in
     still_receiving (held_at (link_at old k).subs s).seen (held_at (link_at new k).subs s).seen (on.subs s).queue (r k s o t)
+
+-- the queues of a link stay the same
+same_link_queues : (old new : LinkState) → IsSameLink old new → link_queues new ≡ link_queues old
+same_link_queues old new p =
+    let here = length-map new.subs held_queue in
+    let there = length-map old.subs held_queue in
+    ext_get_or None (link_queues new) (link_queues old) (here ∙ p.count ∙ sym there)
+    (λ s lt.
+    let n : s < length new.subs = omega (arith, here) in
+    let o : s < length old.subs = omega (arith, p.count) in
+    get_or-map held_queue new.subs s nothing_held None n
+    ∙ same_name (held_at old.subs s).seen (held_at new.subs s).seen (p.subs s).queue
+    ∙ sym (get_or-map held_queue old.subs s nothing_held None o))
+
+-- the queues of all links do
+pub same_queues : (old new : List LinkState) → IsSamePlan old new → queues_in new ≡ queues_in old
+same_queues old new p =
+    let here = length-map new link_queues in
+    let there = length-map old link_queues in
+    ext_get_or [] (queues_in new) (queues_in old) (here ∙ p.count ∙ sym there)
+    (λ k lt.
+    let n : k < length new = omega (arith, here) in
+    let o : k < length old = omega (arith, p.count) in
+    get_or-map link_queues new k no_link [] n
+    ∙ same_link_queues (link_at old k) (link_at new k) (p.each k o)
+    ∙ sym (get_or-map link_queues old k no_link [] o))

@@ -164,10 +164,17 @@ abbrev pub AreReceiving : List LinkState → Type 0
 AreReceiving links = (k s : ℕ) → k < length links → s < length (link_at links k).subs
     → IsReceiving (held_at (link_at links k).subs s).seen
 
--- the queue of each sub-VL
+-- the queue of a sub-VL
+abbrev pub held_queue : Held → Option QueueName
+held_queue held = queue_of held.seen
+
+-- the queues of a link's sub-VLs
+abbrev pub link_queues : LinkState → List (Option QueueName)
+link_queues link = map held_queue link.subs
+
+-- the queues of each link
 abbrev pub queues_in : List LinkState → List (List (Option QueueName))
-queues_in links =
-    map (λ (link : LinkState). map (λ (held : Held). queue_of held.seen) link.subs) links
+queues_in links = map link_queues links
 
 -- the links, their plans, sub-VLs and queues are the same
 pub record IsSamePlan (old new : List LinkState) : Type 0 where

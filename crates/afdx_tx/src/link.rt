@@ -5,6 +5,7 @@ ghost use Rattle.vl_shaper.specs.Pace.{IsLater, is_due};
 ghost use Rattle.redundant_mux.specs.Lines.{is_alive, log, IsMirrored};
 ghost use Rattle.afdx_tx.specs.Streams.{link_stream};
 ghost use Rattle.afdx_tx.specs.Links.{pace_of, AreSubsOf, IsSameSub, AreSameSubs, Serves, Follows, Releases, Loses, is_lost, IsChoice, PassedOver};
+ghost use Rattle.afdx_tx.specs.Done.{TellsSubsDone};
 ghost use Rattle.afdx_tx.specs.Gathering.{AreFullSubs, GathersSubs};
 
 use crate::room::{LinkRooms, Room};
@@ -121,6 +122,18 @@ fn serve<R: Wait, A: Network + Drop, B: Network + Drop>(
     }
 }
 
+/// Whether no sub-VL has anything left.
+fn subs_done(subs: &[Sub]) -> bool
+    ensures { TellsSubsDone result subs.now }
+{
+    for sub in subs {
+        if !sub.is_done() {
+            return false;
+        }
+    }
+    true
+}
+
 /// Gathers the queue of each sub-VL with the senders in its room, which are all that it has.
 // From the last, since taking from the end of a list needs no memory.
 fn gather_subs<R: Wait>(rt: &R, subs: &mut [Sub], mut rooms: Vec<Room>)
@@ -168,6 +181,7 @@ impl Link {
     ghost use Rattle.redundant_mux.specs.Lines.{is_alive, log, IsMirrored};
     ghost use Rattle.afdx_tx.specs.Streams.{link_stream};
     ghost use Rattle.afdx_tx.specs.Links.{LinkState, AreNamed, Serves, Follows, IsSameLink, is_lost, pace_of};
+    ghost use Rattle.afdx_tx.specs.Done.{TellsLinkDone};
     ghost use Rattle.afdx_tx.specs.Gathering.{AreFullSubs, GathersLink};
 
     /// A link of these sub-VLs, those of its plan. Nothing was released yet.
@@ -202,6 +216,16 @@ impl Link {
         ensures { result ≡ self.now.plan.id }
     {
         self.plan.id
+    }
+
+    /// Whether it has lost no frame, and no sub-VL has anything left.
+    pub fn is_done(&self) -> bool
+        ensures { TellsLinkDone result self.now }
+    {
+        if self.lost {
+            return false;
+        }
+        subs_done(&self.subs)
     }
 
     /// One turn of the link at a moment, in microseconds. The frame is made in a kept buffer.

@@ -46,6 +46,7 @@ impl Model for Sub {
 impl Sub {
     ghost use Rattle.afdx_tx.specs.Seen.{receiving};
     ghost use Rattle.afdx_tx.specs.Links.{Held, Asks};
+    ghost use Rattle.afdx_tx.specs.Done.{TellsSubDone};
     ghost use Rattle.afdx_tx.specs.Subs.{IsPortOf};
     ghost use Rattle.afdx_tx.specs.Gathering.{IsFull, GathersSub};
 
@@ -96,6 +97,16 @@ impl Sub {
                 true
             }
         }
+    }
+
+    /// Whether no message is being sent, and it is known that none is left in the queue.
+    pub fn is_done(&self) -> bool
+        ensures { TellsSubDone result self.now }
+    {
+        if is_cutting(&self.of, &self.sending) {
+            return false;
+        }
+        self.queue.is_drained()
     }
 
     /// Writes the next frame, for network A and with this sequence number, into a kept buffer.

@@ -8,6 +8,7 @@ ghost use Rattle.afdx_tx.specs.Run.{IsRun, IsCutShort};
 ghost use Rattle.afdx_tx.specs.Report.{IsTold, released_by};
 ghost use Rattle.afdx_tx.specs.Emitter.{plans, AreApart, AreLinks, AreKept, AreWhole, AreServedBy};
 ghost use Rattle.afdx_tx.specs.Serving.{IsSteady};
+ghost use Rattle.afdx_tx.specs.Done.{TellsAllDone};
 ghost use Rattle.afdx_tx.specs.Gathering.{AreFull, GathersLinks};
 
 use crate::fault::PollFault;
@@ -68,6 +69,18 @@ fn serve_all<R: Wait, A: Network + Drop, B: Network + Drop>(
     }
 }
 
+/// Whether no link has anything left, and none has lost a frame.
+fn all_done(links: &[Link]) -> bool
+    ensures { TellsAllDone result links.now }
+{
+    for link in links {
+        if !link.is_done() {
+            return false;
+        }
+    }
+    true
+}
+
 /// Gathers the queue of each sub-VL with the senders in its room, which are all that it has.
 // From the last, since taking from the end of a list needs no memory.
 fn gather_all<R: Wait>(rt: &R, links: &mut [Link], mut rooms: Vec<LinkRooms>)
@@ -108,13 +121,14 @@ impl<A: Network + Drop, B: Network + Drop> Model for Transmitter<A, B> {
 }
 
 impl<A: Network + Drop, B: Network + Drop> Transmitter<A, B> {
-    ghost use Rattle.std.specs.Prelude.{◌≡◌, ◌≤◌, ◌↔◌, [], true, false, length, IsErr, OnErr, OnOk, IfOk};
+    ghost use Rattle.std.specs.Prelude.{◌≡◌, ◌≤◌, ◌↔◌, [], true, false, length, IsTrue, IsErr, OnErr, OnOk, IfOk};
     ghost use Rattle.afdx_config.specs.Config.{IsPlan};
     ghost use Rattle.redundant_mux.specs.Lines.{is_alive, log, IsMirrored};
     ghost use Rattle.afdx_tx.specs.Legal.{IsLegal};
     ghost use Rattle.afdx_tx.specs.Run.{IsRun, IsCutShort};
     ghost use Rattle.afdx_tx.specs.Report.{IsTold};
-    ghost use Rattle.afdx_tx.specs.Emitter.{Tx, IsFreshTx, AreFreshLinks, AreTied, IsSamePlan, taken_in};
+    ghost use Rattle.afdx_tx.specs.Emitter.{Tx, IsFreshTx, AreFreshLinks, AreLinksOf, AreTied, IsSamePlan, taken_in};
+    ghost use Rattle.afdx_tx.specs.Drain.{AreGathered, IsAllDone, accepted_in};
     ghost use Rattle.afdx_tx.specs.Gathering.{AreFull, GathersLinks};
 
     /// Over fresh links of a configuration, and networks that were handed nothing.
@@ -151,6 +165,15 @@ impl<A: Network + Drop, B: Network + Drop> Transmitter<A, B> {
         self.moment
     }
 
+    /// Whether every fragment of every accepted message was taken by at least one network.
+    pub fn is_done(&self) -> bool
+        requires { AreGathered self.now.links }
+        ensures { IsTrue result ↔ IsAllDone self.now.plan
+            (accepted_in self.now.links) (log self.now.lines) }
+    {
+        all_done(&self.links)
+    }
+
     /// The two networks, with what was handed to them.
     pub fn into_networks(self) -> (A, B)
         ensures a { A.handed result.0 ≡ self.lines.a }
@@ -179,6 +202,7 @@ impl<A: Network + Drop, B: Network + Drop> Transmitter<A, B> {
         ensures tied { AreTied self.new.links (log self.new.lines) }
         ensures plan { self.new.plan ≡ self.old.plan }
         ensures same { IsSamePlan self.old.links self.new.links }
+        ensures of_plan { AreLinksOf self.old.plan self.old.links }
         ensures now { OnOk result (self.new.moment ≡ now) }
         ensures mirrored { IsMirrored self.new.lines }
         ensures a_stands { IfOk result (λ report. report.standing.a ≡ self.new.lines.a_stands) }

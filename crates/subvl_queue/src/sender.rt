@@ -71,7 +71,7 @@ impl Sender {
         requires some { 1 ≤ length bytes.items }
         requires most { length bytes.items ≤ 8192 }
         ensures ok { IfOk result (λ _. self.new ≡ sent self.old bytes.items) }
-        ensures open { IfOk result (λ _. self.old.asks < self.old.calls) }
+        ensures asks { IfOk result (λ _. self.old.asks < self.old.calls) }
         ensures back { IfErr result (λ e. e.bytes.items ≡ bytes.items) }
         ensures refused { IfErr result (λ e. IsRefused self.old e.why self.new) }
     {

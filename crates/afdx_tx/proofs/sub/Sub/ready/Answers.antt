@@ -1,66 +1,51 @@
-use Rattle.std.proofs.Common.{ℕ, ◌≡◌, ◌∙◌, ap, sym, subst, refl, inr, arith, [], Bool, Some}
-use Rattle.std.proofs.lemmas.List.Elements.{All-head, All-tail}
-use Rattle.std.specs.Prelude.{All}
+use Rattle.std.proofs.Common.{ℕ, ◌≡◌, ◌∙◌, ◌%◌, ◌<◌, ap, sym, subst, refl, inr, arith, [], Bool, Some, List, length}
+use Rattle.std.proofs.lemmas.List.{get_or_read}
+use Rattle.afdx_config.specs.Config.{port_plan_at}
 use Rattle.afdx_config.specs.Room.{room_of}
-use Rattle.afdx_frame.specs.declared.net.Net.TheVariants.{A}
 use Rattle.afdx_config.specs.declared.port_plan.PortPlan.{PortPlan}
-use Rattle.afdx_config.specs.Plan.{SendsOver}
-use Rattle.afdx_frame.specs.Fragments.{Sent}
-use Rattle.afdx_tx.specs.Links.{Held, TellsCutting, left_of, message_fragments}
-use Rattle.afdx_tx.specs.Sending.{IsMessageOf}
+use Rattle.afdx_frame.specs.declared.net.Net.TheVariants.{A}
+use Rattle.afdx_frame.proofs.Twins.{fragments_again}
+use Rattle.afdx_tx.specs.Seen.{taken_of}
+use Rattle.afdx_tx.specs.Links.{TellsCutting, left_of, message_fragments, sent_of}
 use Rattle.afdx_tx.proofs.FragmentsLeft.{fragments_some}
+use Rattle.afdx_tx.proofs.sub.Sub.ready.Given
 use Rattle.afdx_tx.proofs.sub.Sub.ready.Goals as goal
 
--- the message that was taken is of this sub-VL
-message_is : (c : goal.After-self-in-Some-1) → IsMessageOf c.self.inside.of c.in-Some.message
-message_is c = All-head (IsMessageOf c.self.inside.of) c.in-Some.message c.pop_front.new.self.items
-    (subst (All (IsMessageOf c.self.inside.of)) c.in-Some.ensures.items c.self.invariant.messages)
-
--- the port that is sent for is the message's
-port_is : (c : goal.After-self-in-Some-1) → c.new.result.port ≡ c.in-Some.message.port
-port_is c = c.new.ensures.message.0 ∙ ap (λ (sent : Sent). sent.port) c.message.view_is
-
-pub invariant_of-self-in-Some : goal.invariant_of-self-in-Some
-invariant_of-self-in-Some c =
-    let fewer = c.in-Some.ensures.cases in
-    record {
-      link = c.self.invariant.link;
-      sending_is = record {
-        over = subst (λ (port : PortPlan). SendsOver port c.self.inside.of.link) (sym (port_is c)) (message_is c).over;
-        of_sub = ap (λ (port : PortPlan). port.sub) (port_is c) ∙ (message_is c).of_sub;
-      };
-      messages = All-tail (IsMessageOf c.self.inside.of) c.in-Some.message c.pop_front.new.self.items
-          (subst (All (IsMessageOf c.self.inside.of)) c.in-Some.ensures.items c.self.invariant.messages);
-      few = omega (arith, c.self.invariant.few, c.in-Some.ensures.cases);
-      reserved = omega (arith, c.self.invariant.reserved, c.in-Some.ensures.capacity);
-      place = omega arith;
-    }
+-- the message that was cut is the one that was found
+cut_is : (g : Given.Over) (c : goal.After-self-in-Some-1 g)
+    → record { port = c.index.result.now; bytes = c.item.inside.bytes.items } ≡ sent_of c.self.inside.ports.items c.in-Some.item
+cut_is g c =
+    let bytes : (c.item.inside.port, c.item.inside.bytes.items) ≡ c.in-Some.item = c.item.view_is in
+    let place : c.from.result ≡ c.in-Some.item.0 = c.from.ensures ∙ ap (λ (i : ℕ × List ℕ). i.0) bytes in
+    let within : c.from.result < length c.self.inside.ports.items =
+    let port = c.in-Some.ensures.item.port in omega (arith, c.self.invariant.count) in
+    let sender : c.index.result.now ≡ port_plan_at c.self.inside.ports.items c.from.result =
+    get_or_read c.self.inside.ports.items c.from.result c.index.result.now within c.index.ensures (port_plan_at [] 0) in
+    ap (λ (p : PortPlan). record { port = p; bytes = c.item.inside.bytes.items })
+    (sender ∙ ap (port_plan_at c.self.inside.ports.items) place)
+    ∙ ap (λ (i : ℕ × List ℕ). record { port = port_plan_at c.self.inside.ports.items c.in-Some.item.0; bytes = i.1 }) bytes
 
 pub returns-in-Some : goal.returns-in-Some
-returns-in-Some c =
-    let old : Held = record {
-      of = c.self.inside.of;
-      left = left_of c.self.inside.of c.self.inside.sending;
-      place =
-          c.self.inside.place;
-      waiting = c.self.inside.waiting.items;
-    } in
-    let sent : Sent = record { port = c.message.inside.port; bytes = c.message.inside.bytes.items } in
-    let same : sent ≡ c.in-Some.message = c.message.view_is in
+returns-in-Some g c =
+    let of = c.self.inside.of in
     let left : left_of c.self.inside.of (Some c.new.result)
-    ≡ message_fragments c.self.inside.of c.self.inside.place c.in-Some.message =
-    c.new.ensures.fragments c.self.inside.of.end_system (room_of c.self.inside.of.link.lmax) A
-    ∙ ap (λ (place : ℕ). message_fragments c.self.inside.of place sent) c.from.ensures
-    ∙ ap (message_fragments c.self.inside.of c.self.inside.place) same in
+    ≡ message_fragments c.self.inside.of (length (taken_of c.self.inside.queue)) (sent_of c.self.inside.ports.items c.in-Some.item) =
+    c.new.ensures.fragments of.end_system (room_of of.link.lmax) A
+    ∙ ap (λ (place : ℕ). message_fragments c.self.inside.of place
+    (record { port = c.index.result.now; bytes = c.item.inside.bytes.items })) (c.from-in-Some.ensures ∙ c.self.invariant.place)
+    ∙ ap (message_fragments c.self.inside.of (length (taken_of c.self.inside.queue) % 16384)) (cut_is g c)
+    ∙ fragments_again of.end_system (room_of of.link.lmax) A (length (taken_of c.self.inside.queue))
+    (sent_of c.self.inside.ports.items c.in-Some.item) in
     let whole : left_of c.self.inside.of c.self.inside.sending ≡ [] =
     subst (λ (b : Bool). TellsCutting b (left_of c.self.inside.of c.self.inside.sending))
     c.if-is_cutting.false c.is_cutting.ensures in
     rw (← c.self.view_is) (inr (record {
-      message = c.in-Some.message;
+      message = c.in-Some.item;
       whole = whole;
-      first = c.in-Some.ensures.items;
+      finds = c.in-Some.ensures.some;
       left = left;
-      some = λ none. fragments_some c.self.inside.of c.self.inside.place c.in-Some.message (sym left ∙ none);
-      place = refl;
+      some = λ none. fragments_some c.self.inside.of (length (taken_of c.self.inside.queue))
+          (sent_of c.self.inside.ports.items c.in-Some.item) (sym left ∙ none);
       of = refl;
+      ports = refl;
     }))

@@ -2,7 +2,8 @@ use Rattle.std.proofs.Common.{◌≡◌, ◌∙◌, sym, List, subst}
 use Rattle.std.proofs.lemmas.List.{with_items_is}
 use Rattle.std.specs.Vec.{with_items}
 use Rattle.afdx_tx.specs.Links.{LinkState}
-use Rattle.afdx_tx.specs.Emitter.{AreApart, IsSamePlan, IsSound}
+use Rattle.afdx_tx.specs.Legal.{IsLegal}
+use Rattle.afdx_tx.specs.Emitter.{Tx, AreApart, IsSound, taken_in}
 use Rattle.afdx_tx.specs.Serving.{IsSteady}
 use Rattle.afdx_tx.proofs.SoundEmitter.{links_apart, sound_after, sound_legal}
 use Rattle.afdx_tx.proofs.transmitter.Transmitter.poll.Given
@@ -43,3 +44,8 @@ returns-clause-legal g c =
 
 pub returns-clause-tied : goal.returns-clause-tied
 returns-clause-tied g c = λ k lt whole. ((sound g c).kept k lt).tied whole
+
+pub returns-then-not-some_stands-clause-legal : goal.returns-then-not-some_stands-clause-legal
+returns-then-not-some_stands-clause-legal g c =
+    subst (λ (t : Tx). IsLegal t.plan (taken_in t.links) t.lines.a t.lines.b) c.self.view_is
+    (sound_legal c.self.inside.config c.self.inside.links.items c.self.inside.mux c.self.inside.moment c.self.invariant)
