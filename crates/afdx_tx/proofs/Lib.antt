@@ -20,3 +20,5 @@ pub mod NothingLeft
 pub mod RoomSteps
 pub mod FreshRooms
 pub mod OwnPorts
+pub mod SeatSteps
+pub mod FromLast
