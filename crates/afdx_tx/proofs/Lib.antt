@@ -17,3 +17,6 @@ pub mod OwedFragments
 pub mod DrainTurns
 pub mod DrainKeeps
 pub mod NothingLeft
+pub mod RoomSteps
+pub mod FreshRooms
+pub mod OwnPorts

@@ -5,10 +5,13 @@
 mod draining;
 mod emitter;
 mod fault;
+mod gather;
 mod link;
 mod open;
+mod port;
 mod queue;
 mod report;
+mod room;
 mod routing;
 mod served;
 mod sub;
@@ -19,6 +22,7 @@ pub use draining::Draining;
 pub use emitter::Emitter;
 pub use fault::{OpenFault, PollFault, Refusal, SendFault};
 pub use open::open_tx;
+pub use port::TxPort;
 pub use report::{Release, Report};
 
 #[cfg(test)]

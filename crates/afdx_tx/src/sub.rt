@@ -12,7 +12,7 @@ use afdx_config::PortPlan;
 use afdx_frame::{Cut, Frame, Net};
 use std::marker::Model;
 use std::sync::Wait;
-use subvl_queue::{Item, Receiver};
+use subvl_queue::{Item, Receiver, Sender};
 
 /// A sub-VL. Contracts see its ports, the fragments left of the message that is being sent, and its
 /// queue.
@@ -48,6 +48,7 @@ impl Sub {
     ghost use Rattle.afdx_tx.specs.Links.{Held, Asks};
     ghost use Rattle.afdx_tx.specs.Done.{TellsSubDone};
     ghost use Rattle.afdx_tx.specs.Subs.{IsPortOf};
+    ghost use Rattle.afdx_tx.specs.Gathering.{IsFull, GathersSub};
 
     /// A sub-VL of these ports, over a queue with a sender for each. Nothing was taken yet.
     pub fn new(of: SubVl, ports: Vec<PortPlan>, receiver: Receiver) -> Sub
@@ -124,6 +125,14 @@ impl Sub {
                 }
             }
         }
+    }
+
+    /// Gathers its queue with these senders, which are all that it has.
+    pub fn gather<R: Wait>(&mut self, rt: &R, senders: Vec<Sender>)
+        requires full { IsFull self.old.seen senders.items }
+        ensures { GathersSub self.old senders.items self.new }
+    {
+        self.queue.gather(rt, senders);
     }
 }
 

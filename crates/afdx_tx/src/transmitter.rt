@@ -9,10 +9,12 @@ ghost use Rattle.afdx_tx.specs.Report.{IsTold, released_by};
 ghost use Rattle.afdx_tx.specs.Emitter.{plans, AreApart, AreLinks, AreKept, AreWhole, AreServedBy};
 ghost use Rattle.afdx_tx.specs.Serving.{IsSteady};
 ghost use Rattle.afdx_tx.specs.Done.{TellsAllDone};
+ghost use Rattle.afdx_tx.specs.Gathering.{AreFull, GathersLinks};
 
 use crate::fault::PollFault;
 use crate::link::{Link, some_stands};
 use crate::report::{Release, Report};
+use crate::room::LinkRooms;
 use crate::served::Served;
 use afdx_config::{Config, VlId};
 use afdx_frame::Frame;
@@ -79,6 +81,18 @@ fn all_done(links: &[Link]) -> bool
     true
 }
 
+/// Gathers the queue of each sub-VL with the senders in its room, which are all that it has.
+// From the last, since taking from the end of a list needs no memory.
+fn gather_all<R: Wait>(rt: &R, links: &mut [Link], mut rooms: Vec<LinkRooms>)
+    requires full { AreFull links.old rooms.items }
+    ensures { GathersLinks links.old rooms.items links.new }
+{
+    while let Some(own) = rooms.pop() {
+        let link = &mut links[rooms.len()];
+        link.gather(rt, own);
+    }
+}
+
 /// Sends what is taken from the queues of its sub-VLs, on two networks. Contracts see its plan, its
 /// links, what was handed to the networks, and the moment of the last poll.
 #[derive(Drop)]
@@ -115,6 +129,7 @@ impl<A: Network + Drop, B: Network + Drop> Transmitter<A, B> {
     ghost use Rattle.afdx_tx.specs.Report.{IsTold};
     ghost use Rattle.afdx_tx.specs.Emitter.{Tx, IsFreshTx, AreFreshLinks, AreLinksOf, AreTied, IsSamePlan, taken_in};
     ghost use Rattle.afdx_tx.specs.Drain.{AreGathered, IsAllDone, accepted_in};
+    ghost use Rattle.afdx_tx.specs.Gathering.{AreFull, GathersLinks};
 
     /// Over fresh links of a configuration, and networks that were handed nothing.
     pub fn over(config: Config, links: Vec<Link>, a: A, b: B) -> Transmitter<A, B>
@@ -124,7 +139,8 @@ impl<A: Network + Drop, B: Network + Drop> Transmitter<A, B> {
         requires b_empty { B.handed b ≡ [] }
         requires a_new { A.failures a ≡ 0 }
         requires b_new { B.failures b ≡ 0 }
-        ensures { IsFreshTx config result }
+        ensures fresh { IsFreshTx config result }
+        ensures links { result.links ≡ links.items }
     {
         Transmitter {
             config,
@@ -217,5 +233,17 @@ impl<A: Network + Drop, B: Network + Drop> Transmitter<A, B> {
             released,
             standing: self.mux.standing(),
         })
+    }
+
+    /// Gathers the queue of each sub-VL with the senders in its room, which are all that it has.
+    pub fn gather<R: Wait>(&mut self, rt: &R, rooms: Vec<LinkRooms>)
+        requires full { AreFull self.old.links rooms.items }
+        ensures plan { self.new.plan ≡ self.old.plan }
+        ensures lines { self.new.lines ≡ self.old.lines }
+        ensures moment { self.new.moment ≡ self.old.moment }
+        ensures links { GathersLinks self.old.links rooms.items self.new.links }
+        ensures legal { IsLegal self.new.plan (taken_in self.new.links) self.new.lines.a self.new.lines.b }
+    {
+        gather_all(rt, &mut self.links, rooms);
     }
 }
