@@ -26,4 +26,6 @@ pub use port::TxPort;
 pub use report::{Release, Report};
 
 #[cfg(test)]
+mod draining_tests;
+#[cfg(test)]
 mod tests;
