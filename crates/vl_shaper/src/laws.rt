@@ -21,7 +21,8 @@ pub fn queued_message()
     ensures { QueuedMessage }
 {}
 
-/// One choice fewer is not enough, on any link and for any message.
+/// One choice fewer is not enough, on any link and for any number of fragments, where all sub-VLs have
+/// something all the while.
 pub fn bound_is_met()
     ensures { BoundIsMet }
 {}
@@ -44,7 +45,7 @@ pub fn in_time()
 ///
 /// The start is the moment of a release, or any moment from which the link's gap is counted. That polls
 /// come until then is a premise, and that the message's sub-VL has something at each of them until it is
-/// wholly released.
+/// wholly released. Nothing is said of the time that the networks take.
 pub fn polled_in_time()
     ensures bound { PolledInTime }
 
