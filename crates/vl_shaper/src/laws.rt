@@ -2,6 +2,8 @@
 ghost use Rattle.vl_shaper.specs.Choices.{OneEach};
 ghost use Rattle.vl_shaper.specs.InTime.{InTime};
 ghost use Rattle.vl_shaper.specs.Latency.{BoundIsMet, QueuedMessage};
+ghost use Rattle.vl_shaper.specs.Polls.{PolledInTime};
+ghost use Rattle.vl_shaper.specs.WorkedPolls.{ServesInTime};
 ghost use Rattle.vl_shaper.specs.WorkedWait.{WaitsFourChoices};
 
 /// Between two neighbouring choices of a sub-VL that had something at each choice between them,
@@ -19,7 +21,8 @@ pub fn queued_message()
     ensures { QueuedMessage }
 {}
 
-/// One choice fewer is not enough, on any link and for any message.
+/// One choice fewer is not enough, on any link and for any number of fragments, where all sub-VLs have
+/// something all the while.
 pub fn bound_is_met()
     ensures { BoundIsMet }
 {}
@@ -35,4 +38,17 @@ pub fn in_time()
 
     // a worked run meets the premises
     ensures worked { WaitsFourChoices }
+{}
+
+/// By the polls of the link: where each poll follows the one before it within the lateness, the message
+/// is wholly released s (q + f) (gap + late) after the start at the latest.
+///
+/// The start is the moment of a release, or any moment from which the link's gap is counted. That polls
+/// come until then is a premise, and that the message's sub-VL has something at each of them until it is
+/// wholly released. Nothing is said of the time that the networks take.
+pub fn polled_in_time()
+    ensures bound { PolledInTime }
+
+    // six polls, three of which find the link due
+    ensures worked { ServesInTime }
 {}
