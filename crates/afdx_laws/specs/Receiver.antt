@@ -20,9 +20,9 @@ abbrev pub ahead : ℕ → ℕ → ℕ → Bool
 ahead zero last n = false
 ahead (suc many) last n = nat_eq n (next_number last) || ahead many (next_number last) n
 
--- How many numbers behind the last one of its network the check takes as valid, and how many behind
--- the last accepted one are new. What is not new is the copy of an old frame. A receiver that
--- expects the next number alone has 1; the standard's check of the next two has 2.
+-- How many numbers after the last one of its network the check takes as valid, and how many after the
+-- last accepted one are new. What is not new is the copy of an old frame. A receiver that expects the
+-- next number alone has 1; the standard's check of the next two has 2.
 pub record Tolerance : Type 0 where
   pub check : ℕ
   pub window : ℕ
@@ -42,7 +42,7 @@ abbrev pub is_ahead : ℕ → Option ℕ → ℕ → Bool
 is_ahead many None n = true
 is_ahead many (Some last) n = ahead many last n
 
--- the integrity check: near behind the last one of its network, or 0, with which transmitters begin
+-- the integrity check: soon after the last one of its network, or 0, with which transmitters begin
 abbrev pub is_valid : ℕ → Option ℕ → ℕ → Bool
 is_valid many last n = nat_eq n 0 || is_ahead many last n
 
