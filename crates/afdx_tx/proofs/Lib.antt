@@ -22,3 +22,4 @@ pub mod FreshRooms
 pub mod OwnPorts
 pub mod SeatSteps
 pub mod FromLast
+pub mod GatheredEmitter

@@ -4,7 +4,7 @@ use Rattle.subvl_queue.specs.Views.{SenderView}
 use Rattle.afdx_tx.specs.Links.{Held, held_at, nothing_held}
 use Rattle.afdx_tx.specs.Room.{RoomView}
 use Rattle.afdx_tx.specs.Rooms.{no_room, room_in}
-use Rattle.afdx_tx.specs.Gathering.{IsFull, GathersSub}
+use Rattle.afdx_tx.specs.Gathering.{IsFullSub, GathersSub}
 use Rattle.afdx_tx.proofs.FromLast.{FromLast, last_is, step}
 use Rattle.afdx_tx.proofs.link.gather_subs.Goals as goal
 
@@ -25,8 +25,8 @@ gather-requires g c =
     let senders : c.into_senders.result.items ≡ (room_in c.args.rooms.items (length c.pop.new.self.items)).senders =
     c.into_senders.ensures ∙ ap (λ (r : RoomView). r.senders) last.2 in
     record {
-      full = subst (λ (h : Held). IsFull h.seen c.into_senders.result.items) (sym here)
-          (subst (λ (xs : List SenderView). IsFull (held_at c.args.subs.now (length c.pop.new.self.items)).seen xs) (sym senders)
+      full = subst (λ (h : Held). IsFullSub h c.into_senders.result.items) (sym here)
+          (subst (λ (xs : List SenderView). IsFullSub (held_at c.args.subs.now (length c.pop.new.self.items)) xs) (sym senders)
           (c.requires.full.each (length c.pop.new.self.items) last.0));
     }
 
