@@ -1,0 +1,6 @@
+use Rattle.std.proofs.Common.{◌≡◌, ℕ, ◌<◌, get_or}
+use Rattle.subvl_queue.specs.Views.{SenderView}
+use Rattle.subvl_queue.proofs.gathering.has_port.Given as goal
+
+abbrev pub invariant-loop-sender : goal.invariant-loop-sender
+invariant-loop-sender l = (k : ℕ) (d : SenderView) → k < l.sender-index → (get_or l.senders k d).port ≡ l.port → ⊥

@@ -1,0 +1,17 @@
+//! What goes through a queue.
+use std::marker::Model;
+
+/// A message of 1 to 8,192 bytes, and the index of its sender. Contracts see the two as a pair.
+#[derive(Debug, Drop)]
+pub struct Item {
+    pub port: u8,
+    pub bytes: Vec<u8>,
+}
+
+impl Model for Item {
+    ghost use Rattle.std.specs.Prelude.{ℕ, List};
+
+    ghost Value = { ℕ × List ℕ };
+
+    ghost view = { λ i. (i.port, i.bytes.items) };
+}

@@ -1,0 +1,21 @@
+//! The queue of one sub-VL: senders that may go to threads of their own, and one receiver.
+#![tactic(auto)]
+
+mod gathered;
+mod gathering;
+mod item;
+mod making;
+mod receiver;
+mod refused;
+mod rule;
+mod sender;
+
+pub use gathered::Gathered;
+pub use item::Item;
+pub use making::make;
+pub use receiver::Receiver;
+pub use refused::{Refused, Why};
+pub use sender::Sender;
+
+#[cfg(test)]
+mod tests;
