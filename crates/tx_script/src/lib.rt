@@ -1,6 +1,7 @@
 //! Scripts of an end system: their lines, what each line says, and the transcript of a run.
 #![tactic(auto)]
 
+mod bench;
 mod bytes;
 mod frames;
 mod line;
@@ -9,7 +10,6 @@ mod lines;
 mod message;
 mod notes;
 mod number;
-mod obey;
 mod outcome;
 mod reading;
 mod refusal;
@@ -28,6 +28,10 @@ pub use run_fault::RunFault;
 pub use summary::Summary;
 
 #[cfg(test)]
+mod plan_tests;
+#[cfg(test)]
 mod run_tests;
+#[cfg(test)]
+mod stream_tests;
 #[cfg(test)]
 mod tests;
