@@ -229,9 +229,12 @@ blind_finds st other h = record {
   own = λ k s within below. subst (All (λ (sent : Sent).
       Contains (ports_of_sub other.es.plan.ports (link_plan_at other.es.plan.links k).id.0 s) sent.port))
       (sym (none k s)) (λ i d lt. absurd (omega arith));
-  first = λ place lt. (other.accepted place, sym (ap (λ (taken : List Sent).
-      messages_of (port_plan_at other.es.plan.ports place) taken ++ other.accepted place)
-      (none (link_of other.es.plan (port_plan_at other.es.plan.ports place)) (port_plan_at other.es.plan.ports place).sub)));
+  first = λ place lt. (
+    other.accepted place,
+    sym (ap (λ (taken : List Sent).
+        messages_of (port_plan_at other.es.plan.ports place) taken ++ other.accepted place)
+        (none (link_of other.es.plan (port_plan_at other.es.plan.ports place)) (port_plan_at other.es.plan.ports place).sub)),
+  );
 }
   where
     none : (k s : ℕ) → (progress_of other.es k s).taken ≡ []

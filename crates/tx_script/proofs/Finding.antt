@@ -100,14 +100,18 @@ known_at tx drain ports k s g = ⊎_elim
     let known = known_first (held_at (link_at tx.links k).subs s).seen (held_at (link_at drain.links k).subs s).seen sub.queue in
     (known.0, known.1))
     (λ (past : length (link_at tx.links k).subs ≤ s).
-    let same : length (link_at drain.links k).subs ≡ length (link_at tx.links k).subs = link.count in
-    ([], ap (λ (held : Held). known_of held.seen) (get_or_past (link_at drain.links k).subs s nothing_held (omega arith))
-    ∙ sym (ap (λ (held : Held). taken_of held.seen ++ []) (get_or_past (link_at tx.links k).subs s nothing_held past))))
+    let same : length (link_at drain.links k).subs ≡ length (link_at tx.links k).subs = link.count in (
+      [],
+      ap (λ (held : Held). known_of held.seen) (get_or_past (link_at drain.links k).subs s nothing_held (omega arith))
+          ∙ sym (ap (λ (held : Held). taken_of held.seen ++ []) (get_or_past (link_at tx.links k).subs s nothing_held past)),
+    ))
     (cases_lt s (length (link_at tx.links k).subs)))
     (λ (past : length tx.links ≤ k).
-    let same : length drain.links ≡ length tx.links = g.count in
-    ([], ap (λ (link : LinkState). known_of (held_at link.subs s).seen) (get_or_past drain.links k no_link (omega arith))
-    ∙ sym (ap (λ (link : LinkState). taken_of (held_at link.subs s).seen ++ []) (get_or_past tx.links k no_link past))))
+    let same : length drain.links ≡ length tx.links = g.count in (
+      [],
+      ap (λ (link : LinkState). known_of (held_at link.subs s).seen) (get_or_past drain.links k no_link (omega arith))
+          ∙ sym (ap (λ (link : LinkState). taken_of (held_at link.subs s).seen ++ []) (get_or_past tx.links k no_link past)),
+    ))
     (cases_lt k (length tx.links))
 
 -- What queues gave is the first of what their ports sent, where the ports are gathered.
@@ -142,14 +146,15 @@ gave_first tx drain ports h g = record { own = own; first = first }
         let is : get_or ports place d ≡ part.port =
         get_or_default ports place d part.port inside
         ∙ ap (λ (k : ℕ). get_or ports k part.port) (sym here) ∙ part.inside.2 in
-        let known = known_at tx drain ports (link_of tx.plan (port_plan_at tx.plan.ports place)) (port_plan_at tx.plan.ports place).sub g in
-        (part_of (index_of tx.plan.ports place) known.0,
-        ap (λ (p : PortView). p.sender.own) is ∙ sym part.part
-        ∙ ap (λ (config : Plan). part_of (index_of config.ports place)
-        (known_of (held_at (link_at drain.links (link_of config (port_plan_at config.ports place))).subs
-        (port_plan_at config.ports place).sub).seen)) g.plan
-        ∙ ap (part_of (index_of tx.plan.ports place)) known.1
-        ∙ part_append (index_of tx.plan.ports place) (taken_of (held_for tx (port_plan_at tx.plan.ports place)).seen) known.0)
+        let known = known_at tx drain ports (link_of tx.plan (port_plan_at tx.plan.ports place)) (port_plan_at tx.plan.ports place).sub g in (
+          part_of (index_of tx.plan.ports place) known.0,
+          ap (λ (p : PortView). p.sender.own) is ∙ sym part.part
+              ∙ ap (λ (config : Plan). part_of (index_of config.ports place)
+              (known_of (held_at (link_at drain.links (link_of config (port_plan_at config.ports place))).subs
+              (port_plan_at config.ports place).sub).seen)) g.plan
+              ∙ ap (part_of (index_of tx.plan.ports place)) known.1
+              ∙ part_append (index_of tx.plan.ports place) (taken_of (held_for tx (port_plan_at tx.plan.ports place)).seen) known.0,
+        )
 
 -- the messages of a port are its part of those of its sub-VL
 messages_part : (senders : List PortPlan) (port : PortPlan) (i : ℕ) → port_plan_at senders i ≡ port
@@ -314,6 +319,8 @@ finds_first st bench h g m = record { own = own; first = first }
             ∙ own_messages st.es.plan place valid lt items
             (subst (λ (n : ℕ). All (λ (item : ℕ × List ℕ).
             item.0 < length (ports_of_sub st.es.plan.ports n (port_plan_at st.es.plan.ports place).sub)) items) vl
-            (below k (port_plan_at st.es.plan.ports place).sub within over.sub)) in
-            (gave.0, sym (m.own place (some_port bench.ports place inside) inside) ∙ gave.1
-            ∙ ap (λ (front : List (List ℕ)). front ++ gave.0) (given ∙ sym part))
+            (below k (port_plan_at st.es.plan.ports place).sub within over.sub)) in (
+              gave.0,
+              sym (m.own place (some_port bench.ports place inside) inside) ∙ gave.1
+                  ∙ ap (λ (front : List (List ℕ)). front ++ gave.0) (given ∙ sym part),
+            )

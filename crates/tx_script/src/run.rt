@@ -30,12 +30,7 @@ fn write_handed<T: Wait, W: Write>(rt: &T, writer: &mut W, bench: Bench) -> Resu
 }
 
 /// Writes the streams after a fault that lets them be written. The fault of the run.
-fn end_early<T: Wait, W: Write>(
-    rt: &T,
-    writer: &mut W,
-    bench: Bench,
-    fault: RunFault,
-) -> RunFault
+fn end_early<T: Wait, W: Write>(rt: &T, writer: &mut W, bench: Bench, fault: RunFault) -> RunFault
     ensures { EndsEarly fault bench (W.contents writer.old) (W.contents writer.new) result }
 {
     match fault {

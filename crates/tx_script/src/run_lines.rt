@@ -3,12 +3,12 @@ ghost use Rattle.std.specs.Prelude.{◌≡◌, IfSome};
 ghost use Rattle.tx_script.specs.AtBench.{IsFreshBench};
 ghost use Rattle.tx_script.specs.Running.{Reads, Stops, run_fault_of};
 
+use crate::bench::{Bench, obey};
 use crate::bytes::Bytes;
 use crate::line::Line;
 use crate::line_fault::LineFault;
 use crate::lines::{Next, ReadFault, next_line};
 use crate::notes::write_note;
-use crate::bench::{Bench, obey};
 use crate::reading::read_line;
 use crate::run_fault::RunFault;
 use crate::summary::Summary;

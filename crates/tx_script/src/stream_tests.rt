@@ -66,7 +66,10 @@ fn a_reader_may_give_one_byte_a_call(rt: HostRuntime) -> Result<(), Fail> {
     let mut text = Vec::new(rt.alloc());
     let told = run(&rt, rt.alloc(), Single(LATE.as_bytes()), &mut text)?;
     assert_eq!(rt; (told.accepted, told.refused, told.frames), (2, 1, 1));
-    assert_eq!(rt; text.as_slice(), late_text(rt.alloc(), LATE.len())?.as_bytes());
+    assert_eq!(rt;
+        text.as_slice(),
+        late_text(rt.alloc(), LATE.len())?.as_bytes()
+    );
     Ok(())
 }
 
@@ -135,7 +138,8 @@ fn a_writer_that_fails_at_any_write_ends_the_run(rt: HostRuntime) -> Result<(), 
 
 #[test]
 fn lines_may_end_in_carriage_returns_and_have_many_blanks(rt: HostRuntime) -> Result<(), Fail> {
-    let script = b"\r\n  send\t10   01 \r\n\t\t# \x00\xff\xc3\xa9\r\n \t \r\n at \t 0\r\n   at     1000";
+    let script =
+        b"\r\n  send\t10   01 \r\n\t\t# \x00\xff\xc3\xa9\r\n \t \r\n at \t 0\r\n   at     1000";
     let mut text = Vec::new(rt.alloc());
     let told = run(&rt, rt.alloc(), script.as_slice(), &mut text)?;
     assert_eq!(rt; (told.accepted, told.refused, told.frames), (1, 0, 1));

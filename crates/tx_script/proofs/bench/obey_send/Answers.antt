@@ -35,29 +35,29 @@ invariant_of-bench g c =
     let here : c.index_mut.result.now ≡ get_or c.bench.inside.ports.items c.in-Some.place c.index_mut.result.now =
     c.index_mut.ensures.value in
     elim c.match-send.branch [
-      in-Ok w ↦
-      let accepts : Accepts (get_or c.bench.inside.ports.items c.in-Some.place c.index_mut.result.now) c.into_vec.result.items
-      c.send.new.self =
-      subst (λ (p : PortView). Accepts p c.into_vec.result.items c.send.new.self) here w.in-Ok.ensures.accepted in
-      sent_at_hand c.bench.inside.emitter c.bench.inside.ports.items c.in-Some.place c.index_mut.result.now c.send.new.self inside
-      (accepts_same (get_or c.bench.inside.ports.items c.in-Some.place c.index_mut.result.now) c.send.new.self
-      c.into_vec.result.items accepts) c.bench.invariant
-    | in-Err w ↦
-      let refuses : Refuses (get_or c.bench.inside.ports.items c.in-Some.place c.index_mut.result.now)
-      (length c.into_vec.result.items) w.in-Err.fault.why c.send.new.self =
-      subst (λ (p : PortView). Refuses p (length c.into_vec.result.items) w.in-Err.fault.why c.send.new.self) here
-      w.in-Err.ensures.refused in
-      let asked : HaveAsked LINES_LIMIT c.bench.inside.ports.items =
-      subst (λ (bench : AtBench). HaveAsked LINES_LIMIT bench.ports) (sym c.bench.view_is) c.requires in
-      let some = never_exhausted (get_or c.bench.inside.ports.items c.in-Some.place c.index_mut.result.now) c.send.new.self
-      (length c.into_vec.result.items) w.in-Err.fault.why
-      (c.bench.invariant.calls c.in-Some.place c.index_mut.result.now inside)
-      (asked c.in-Some.place c.index_mut.result.now inside) refuses in
-      let left : IsUnsent (get_or c.bench.inside.ports.items c.in-Some.place c.index_mut.result.now) c.send.new.self =
-      unsent (get_or c.bench.inside.ports.items c.in-Some.place c.index_mut.result.now) c.send.new.self
-      (length c.into_vec.result.items) w.in-Err.fault.why some refuses in
-      sent_at_hand c.bench.inside.emitter c.bench.inside.ports.items c.in-Some.place c.index_mut.result.now c.send.new.self inside
-      left.same c.bench.invariant
+      | in-Ok w ↦
+          let accepts : Accepts (get_or c.bench.inside.ports.items c.in-Some.place c.index_mut.result.now) c.into_vec.result.items
+          c.send.new.self =
+          subst (λ (p : PortView). Accepts p c.into_vec.result.items c.send.new.self) here w.in-Ok.ensures.accepted in
+          sent_at_hand c.bench.inside.emitter c.bench.inside.ports.items c.in-Some.place c.index_mut.result.now c.send.new.self inside
+          (accepts_same (get_or c.bench.inside.ports.items c.in-Some.place c.index_mut.result.now) c.send.new.self
+          c.into_vec.result.items accepts) c.bench.invariant
+      | in-Err w ↦
+          let refuses : Refuses (get_or c.bench.inside.ports.items c.in-Some.place c.index_mut.result.now)
+          (length c.into_vec.result.items) w.in-Err.fault.why c.send.new.self =
+          subst (λ (p : PortView). Refuses p (length c.into_vec.result.items) w.in-Err.fault.why c.send.new.self) here
+          w.in-Err.ensures.refused in
+          let asked : HaveAsked LINES_LIMIT c.bench.inside.ports.items =
+          subst (λ (bench : AtBench). HaveAsked LINES_LIMIT bench.ports) (sym c.bench.view_is) c.requires in
+          let some = never_exhausted (get_or c.bench.inside.ports.items c.in-Some.place c.index_mut.result.now) c.send.new.self
+          (length c.into_vec.result.items) w.in-Err.fault.why
+          (c.bench.invariant.calls c.in-Some.place c.index_mut.result.now inside)
+          (asked c.in-Some.place c.index_mut.result.now inside) refuses in
+          let left : IsUnsent (get_or c.bench.inside.ports.items c.in-Some.place c.index_mut.result.now) c.send.new.self =
+          unsent (get_or c.bench.inside.ports.items c.in-Some.place c.index_mut.result.now) c.send.new.self
+          (length c.into_vec.result.items) w.in-Err.fault.why some refuses in
+          sent_at_hand c.bench.inside.emitter c.bench.inside.ports.items c.in-Some.place c.index_mut.result.now c.send.new.self inside
+          left.same c.bench.invariant
     ]
 
 pub returns-clause-ok : goal.returns-clause-ok
@@ -74,31 +74,31 @@ returns-clause-ok g c = λ accepted es m.
       ports = set c.bench.inside.ports.items c.in-Some.place c.send.new.self;
     }) c.match-send.result) c.into_vec.ensures
     (elim c.match-send.branch [
-      in-Ok w ↦
-      let accepts : Accepts (get_or c.bench.inside.ports.items c.in-Some.place c.index_mut.result.now) c.into_vec.result.items
-      c.send.new.self =
-      subst (λ (p : PortView). Accepts p c.into_vec.result.items c.send.new.self) here w.in-Ok.ensures.accepted in
-      let may : MaySend (get_or c.bench.inside.ports.items c.in-Some.place c.index_mut.result.now).plan
-      (length c.into_vec.result.items) =
-      subst (λ (p : PortView). MaySend p.plan (length c.into_vec.result.items)) here w.in-Ok.ensures.sendable in
-      rw w.result-is
-      (send_taken accepted es c.bench.inside.emitter c.bench.inside.ports.items c.args.port c.in-Some.place
-      c.index_mut.result.now c.send.new.self c.into_vec.result.items c.bench.invariant found inside may accepts before)
-    | in-Err w ↦
-      let refuses : Refuses (get_or c.bench.inside.ports.items c.in-Some.place c.index_mut.result.now)
-      (length c.into_vec.result.items) w.in-Err.fault.why c.send.new.self =
-      subst (λ (p : PortView). Refuses p (length c.into_vec.result.items) w.in-Err.fault.why c.send.new.self) here
-      w.in-Err.ensures.refused in
-      let asked : HaveAsked LINES_LIMIT c.bench.inside.ports.items =
-      subst (λ (bench : AtBench). HaveAsked LINES_LIMIT bench.ports) (sym c.bench.view_is) c.requires in
-      let some = never_exhausted (get_or c.bench.inside.ports.items c.in-Some.place c.index_mut.result.now) c.send.new.self
-      (length c.into_vec.result.items) w.in-Err.fault.why
-      (c.bench.invariant.calls c.in-Some.place c.index_mut.result.now inside)
-      (asked c.in-Some.place c.index_mut.result.now inside) refuses in
-      rw (w.result-is, w.refused_for.ensures)
-      (send_refused accepted es c.bench.inside.emitter c.bench.inside.ports.items c.args.port c.in-Some.place
-      c.index_mut.result.now c.send.new.self c.into_vec.result.items w.in-Err.fault.why c.bench.invariant found inside some
-      refuses before)
+      | in-Ok w ↦
+          let accepts : Accepts (get_or c.bench.inside.ports.items c.in-Some.place c.index_mut.result.now) c.into_vec.result.items
+          c.send.new.self =
+          subst (λ (p : PortView). Accepts p c.into_vec.result.items c.send.new.self) here w.in-Ok.ensures.accepted in
+          let may : MaySend (get_or c.bench.inside.ports.items c.in-Some.place c.index_mut.result.now).plan
+          (length c.into_vec.result.items) =
+          subst (λ (p : PortView). MaySend p.plan (length c.into_vec.result.items)) here w.in-Ok.ensures.sendable in
+          rw w.result-is
+          (send_taken accepted es c.bench.inside.emitter c.bench.inside.ports.items c.args.port c.in-Some.place
+          c.index_mut.result.now c.send.new.self c.into_vec.result.items c.bench.invariant found inside may accepts before)
+      | in-Err w ↦
+          let refuses : Refuses (get_or c.bench.inside.ports.items c.in-Some.place c.index_mut.result.now)
+          (length c.into_vec.result.items) w.in-Err.fault.why c.send.new.self =
+          subst (λ (p : PortView). Refuses p (length c.into_vec.result.items) w.in-Err.fault.why c.send.new.self) here
+          w.in-Err.ensures.refused in
+          let asked : HaveAsked LINES_LIMIT c.bench.inside.ports.items =
+          subst (λ (bench : AtBench). HaveAsked LINES_LIMIT bench.ports) (sym c.bench.view_is) c.requires in
+          let some = never_exhausted (get_or c.bench.inside.ports.items c.in-Some.place c.index_mut.result.now) c.send.new.self
+          (length c.into_vec.result.items) w.in-Err.fault.why
+          (c.bench.invariant.calls c.in-Some.place c.index_mut.result.now inside)
+          (asked c.in-Some.place c.index_mut.result.now inside) refuses in
+          rw (w.result-is, w.refused_for.ensures)
+          (send_refused accepted es c.bench.inside.emitter c.bench.inside.ports.items c.args.port c.in-Some.place
+          c.index_mut.result.now c.send.new.self c.into_vec.result.items w.in-Err.fault.why c.bench.invariant found inside some
+          refuses before)
     ])
 
 pub returns-clause-asked : goal.returns-clause-asked
@@ -111,27 +111,27 @@ returns-clause-asked g c = λ count h.
     let before : HaveAsked count c.bench.inside.ports.items =
     subst (λ (bench : AtBench). HaveAsked count bench.ports) (sym c.bench.view_is) h in
     elim c.match-send.branch [
-      in-Ok w ↦
-      let accepts : Accepts (get_or c.bench.inside.ports.items c.in-Some.place c.index_mut.result.now) c.into_vec.result.items
-      c.send.new.self =
-      subst (λ (p : PortView). Accepts p c.into_vec.result.items c.send.new.self) here w.in-Ok.ensures.accepted in
-      asked_more count c.bench.inside.ports.items c.in-Some.place c.index_mut.result.now c.send.new.self inside
-      (let more : c.send.new.self.sender.asks
-      ≡ (get_or c.bench.inside.ports.items c.in-Some.place c.index_mut.result.now).sender.asks + 1 =
-      ap (λ (p : PortView). p.sender.asks) accepts in omega arith) before
-    | in-Err w ↦
-      let refuses : Refuses (get_or c.bench.inside.ports.items c.in-Some.place c.index_mut.result.now)
-      (length c.into_vec.result.items) w.in-Err.fault.why c.send.new.self =
-      subst (λ (p : PortView). Refuses p (length c.into_vec.result.items) w.in-Err.fault.why c.send.new.self) here
-      w.in-Err.ensures.refused in
-      let asked : HaveAsked LINES_LIMIT c.bench.inside.ports.items =
-      subst (λ (bench : AtBench). HaveAsked LINES_LIMIT bench.ports) (sym c.bench.view_is) c.requires in
-      let some = never_exhausted (get_or c.bench.inside.ports.items c.in-Some.place c.index_mut.result.now) c.send.new.self
-      (length c.into_vec.result.items) w.in-Err.fault.why
-      (c.bench.invariant.calls c.in-Some.place c.index_mut.result.now inside)
-      (asked c.in-Some.place c.index_mut.result.now inside) refuses in
-      let left : IsUnsent (get_or c.bench.inside.ports.items c.in-Some.place c.index_mut.result.now) c.send.new.self =
-      unsent (get_or c.bench.inside.ports.items c.in-Some.place c.index_mut.result.now) c.send.new.self
-      (length c.into_vec.result.items) w.in-Err.fault.why some refuses in
-      asked_more count c.bench.inside.ports.items c.in-Some.place c.index_mut.result.now c.send.new.self inside left.asks before
+      | in-Ok w ↦
+          let accepts : Accepts (get_or c.bench.inside.ports.items c.in-Some.place c.index_mut.result.now) c.into_vec.result.items
+          c.send.new.self =
+          subst (λ (p : PortView). Accepts p c.into_vec.result.items c.send.new.self) here w.in-Ok.ensures.accepted in
+          asked_more count c.bench.inside.ports.items c.in-Some.place c.index_mut.result.now c.send.new.self inside
+          (let more : c.send.new.self.sender.asks
+          ≡ (get_or c.bench.inside.ports.items c.in-Some.place c.index_mut.result.now).sender.asks + 1 =
+          ap (λ (p : PortView). p.sender.asks) accepts in omega arith) before
+      | in-Err w ↦
+          let refuses : Refuses (get_or c.bench.inside.ports.items c.in-Some.place c.index_mut.result.now)
+          (length c.into_vec.result.items) w.in-Err.fault.why c.send.new.self =
+          subst (λ (p : PortView). Refuses p (length c.into_vec.result.items) w.in-Err.fault.why c.send.new.self) here
+          w.in-Err.ensures.refused in
+          let asked : HaveAsked LINES_LIMIT c.bench.inside.ports.items =
+          subst (λ (bench : AtBench). HaveAsked LINES_LIMIT bench.ports) (sym c.bench.view_is) c.requires in
+          let some = never_exhausted (get_or c.bench.inside.ports.items c.in-Some.place c.index_mut.result.now) c.send.new.self
+          (length c.into_vec.result.items) w.in-Err.fault.why
+          (c.bench.invariant.calls c.in-Some.place c.index_mut.result.now inside)
+          (asked c.in-Some.place c.index_mut.result.now inside) refuses in
+          let left : IsUnsent (get_or c.bench.inside.ports.items c.in-Some.place c.index_mut.result.now) c.send.new.self =
+          unsent (get_or c.bench.inside.ports.items c.in-Some.place c.index_mut.result.now) c.send.new.self
+          (length c.into_vec.result.items) w.in-Err.fault.why some refuses in
+          asked_more count c.bench.inside.ports.items c.in-Some.place c.index_mut.result.now c.send.new.self inside left.asks before
     ]
