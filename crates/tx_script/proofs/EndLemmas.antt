@@ -3,16 +3,17 @@ use Rattle.std.proofs.Common.{◌≡◌, ℕ, inl, inr, List, [], ◌++◌, Opti
 use Rattle.std.specs.Prelude.{IfSome, Result, Ok, Err, ◌⊎◌, ⊤}
 use Rattle.std.specs.Io.KnownBytes.{Appends, Keeps}
 use Rattle.afdx_config.specs.Config.{Plan}
-use Rattle.afdx_tx.specs.Emitter.{Tx}
+use Rattle.tx_script.specs.AtBench.{AtBench}
 use Rattle.tx_script.specs.Play.{Play, play, start, transcript}
 use Rattle.tx_script.specs.Run.{HasRun, HasBegun, Ends, Leaves}
-use Rattle.tx_script.specs.Running.{Running, Stops, EndsEarly}
+use Rattle.tx_script.specs.Running.{Running, Stops, Writes, EndsEarly}
 use Rattle.tx_script.specs.Transcript.{streams}
 use Rattle.tx_script.specs.declared.run_fault.RunFault.{RunFault}
 use Rattle.tx_script.specs.declared.run_fault.RunFault.TheVariants as Fault
 use Rattle.tx_script.specs.declared.summary.Summary.{Summary as Sums}
 use Rattle.tx_script.proofs.FrameLemmas.{appends_more, appends_none}
-use Rattle.tx_script.proofs.PlayLemmas.{finds_first, finds_none}
+use Rattle.tx_script.proofs.Blind.{blind_start, blind_finds}
+use Rattle.tx_script.proofs.Finding.{finds_first}
 
 -- what is known of the lines that were run is known at the end
 ends_more : (Ran More : List ℕ → ℕ → Sums → Type 0) (Begun : Type 0)
@@ -38,32 +39,32 @@ ends_more Ran More Begun more (Err Fault.Write) h = tt
 ends_more Ran More Begun more (Err Fault.Memory) h = h
 
 -- the streams follow the notes
-has_run : (plan : Plan) (text : List ℕ) (old mid fin : Option (List ℕ)) (tx : Tx) (rest : List ℕ) (count : ℕ)
+has_run : (plan : Plan) (text : List ℕ) (old mid fin : Option (List ℕ)) (bench : AtBench) (rest : List ℕ) (count : ℕ)
     (sums : Sums)
-    → Running plan text old mid tx rest count sums → Appends mid fin (streams tx.lines.a tx.lines.b)
+    → Running plan text old mid bench rest count sums → Writes bench mid fin
     → HasRun plan text old fin rest count sums
-has_run plan text old mid fin tx rest count sums ran wrote =
+has_run plan text old mid fin bench rest count sums ran wrote =
     let st : Play = play (start plan) ran.turns in
-    let same : transcript st ≡ st.notes ++ streams tx.lines.a tx.lines.b =
-    rw (ran.matches.lines.a, ran.matches.lines.b) refl in
+    let same : transcript st ≡ st.notes ++ streams bench.tx.lines.a bench.tx.lines.b =
+    rw (ran.matches.emitter.lines.a, ran.matches.emitter.lines.b) refl in
     record {
       turns = ran.turns;
       lines = ran.lines;
-      finds = finds_first st tx ran.matches;
+      finds = finds_first st bench wrote.hand wrote.first ran.matches;
       count_is = ran.count_is;
       sums_are = ran.sums_are;
       wrote =
-          appends_more old mid fin st.notes (streams tx.lines.a tx.lines.b) (transcript st) ran.wrote wrote same;
+          appends_more old mid fin st.notes (streams bench.tx.lines.a bench.tx.lines.b) (transcript st) ran.wrote wrote.wrote same;
     }
 
 -- the lines stopped, and the streams were written
-ends_written : (plan : Plan) (text : List ℕ) (old mid fin : Option (List ℕ)) (tx : Tx)
+ends_written : (plan : Plan) (text : List ℕ) (old mid fin : Option (List ℕ)) (bench : AtBench)
     (result : Result Sums RunFault)
-    → Stops plan text old mid tx result → Appends mid fin (streams tx.lines.a tx.lines.b)
+    → Stops plan text old mid bench result → Writes bench mid fin
     → Ends (HasRun plan text old fin) (HasBegun plan text old mid) result
-ends_written plan text old mid fin tx result stops wrote =
-    ends_more (Running plan text old mid tx) (HasRun plan text old fin) (HasBegun plan text old mid)
-    (λ rest count sums ran. has_run plan text old mid fin tx rest count sums ran wrote) result stops
+ends_written plan text old mid fin bench result stops wrote =
+    ends_more (Running plan text old mid bench) (HasRun plan text old fin) (HasBegun plan text old mid)
+    (λ rest count sums ran. has_run plan text old mid fin bench rest count sums ran wrote) result stops
 
 -- nothing more was written
 begun_kept : (plan : Plan) (text : List ℕ) (old mid fin : Option (List ℕ)) → HasBegun plan text old mid
@@ -87,57 +88,57 @@ begun_kept plan text old mid fin b kept = record {
     appends_kept (Some xs) (Some ys) (Some zs) bytes h k = k ∙ h
 
 -- a fault that lets the streams be written, unless the writer failed
-told_or_write : (plan : Plan) (text : List ℕ) (old mid fin : Option (List ℕ)) (bytes : List ℕ)
-    (fault told : RunFault) → (Appends mid fin bytes → Leaves plan text old fin (Err fault))
-    → (told ≡ Fault.Write) ⊎ ((told ≡ fault) × Appends mid fin bytes) → Leaves plan text old fin (Err told)
-told_or_write plan text old mid fin bytes fault told leaves (inl is) = rw is tt
-told_or_write plan text old mid fin bytes fault told leaves (inr (is, wrote)) = rw is (leaves wrote)
+told_or_write : (plan : Plan) (text : List ℕ) (old mid fin : Option (List ℕ)) (bench : AtBench)
+    (fault told : RunFault) → (Writes bench mid fin → Leaves plan text old fin (Err fault))
+    → (told ≡ Fault.Write) ⊎ ((told ≡ fault) × Writes bench mid fin) → Leaves plan text old fin (Err told)
+told_or_write plan text old mid fin bench fault told leaves (inl is) = rw is tt
+told_or_write plan text old mid fin bench fault told leaves (inr (is, wrote)) = rw is (leaves wrote)
 
 -- the run was told a fault
-early : (plan : Plan) (text : List ℕ) (old mid fin : Option (List ℕ)) (tx : Tx) (fault told : RunFault)
-    → Stops plan text old mid tx (Err fault) → EndsEarly fault (streams tx.lines.a tx.lines.b) mid fin told
+early : (plan : Plan) (text : List ℕ) (old mid fin : Option (List ℕ)) (bench : AtBench) (fault told : RunFault)
+    → Stops plan text old mid bench (Err fault) → EndsEarly fault bench mid fin told
     → Leaves plan text old fin (Err told)
-early plan text old mid fin tx Fault.Memory told stops (is, kept) =
+early plan text old mid fin bench Fault.Memory told stops (is, kept) =
     rw is (begun_kept plan text old mid fin stops kept)
-early plan text old mid fin tx Fault.Write told stops is = rw is tt
-early plan text old mid fin tx (Fault.Line number fault) told stops w =
-    told_or_write plan text old mid fin (streams tx.lines.a tx.lines.b) (Fault.Line number fault) told
-    (ends_written plan text old mid fin tx (Err (Fault.Line number fault)) stops) w
-early plan text old mid fin tx Fault.Lines told stops w =
-    told_or_write plan text old mid fin (streams tx.lines.a tx.lines.b) Fault.Lines told
-    (ends_written plan text old mid fin tx (Err Fault.Lines) stops) w
-early plan text old mid fin tx Fault.Read told stops w =
-    told_or_write plan text old mid fin (streams tx.lines.a tx.lines.b) Fault.Read told
-    (ends_written plan text old mid fin tx (Err Fault.Read) stops) w
+early plan text old mid fin bench Fault.Write told stops is = rw is tt
+early plan text old mid fin bench (Fault.Line number fault) told stops w =
+    told_or_write plan text old mid fin bench (Fault.Line number fault) told
+    (ends_written plan text old mid fin bench (Err (Fault.Line number fault)) stops) w
+early plan text old mid fin bench Fault.Lines told stops w =
+    told_or_write plan text old mid fin bench Fault.Lines told
+    (ends_written plan text old mid fin bench (Err Fault.Lines) stops) w
+early plan text old mid fin bench Fault.Read told stops w =
+    told_or_write plan text old mid fin bench Fault.Read told
+    (ends_written plan text old mid fin bench (Err Fault.Read) stops) w
 
 -- the same of the plan and the bytes that were given
-pub leaves_early : (plan own : Plan) (bytes given old mid fin : Option (List ℕ)) (tx : Tx)
+pub leaves_early : (plan own : Plan) (bytes given old mid fin : Option (List ℕ)) (bench : AtBench)
     (fault told : RunFault) → bytes ≡ given → own ≡ plan
-    → IfSome bytes (λ text. Stops own text old mid tx (Err fault))
-    → EndsEarly fault (streams tx.lines.a tx.lines.b) mid fin told
+    → IfSome bytes (λ text. Stops own text old mid bench (Err fault))
+    → EndsEarly fault bench mid fin told
     → IfSome given (λ text. Leaves plan text old fin (Err told))
-leaves_early plan own bytes given old mid fin tx fault told same is stops w =
+leaves_early plan own bytes given old mid fin bench fault told same is stops w =
     subst (λ (known : Option (List ℕ)). IfSome known (λ text. Leaves plan text old fin (Err told))) same
     (subst (λ (p : Plan). IfSome bytes (λ text. Leaves p text old fin (Err told))) is (known_early bytes stops))
   where
-    known_early : (known : Option (List ℕ)) → IfSome known (λ text. Stops own text old mid tx (Err fault))
+    known_early : (known : Option (List ℕ)) → IfSome known (λ text. Stops own text old mid bench (Err fault))
         → IfSome known (λ text. Leaves own text old fin (Err told))
     known_early None h = tt
-    known_early (Some text) h = early own text old mid fin tx fault told h w
+    known_early (Some text) h = early own text old mid fin bench fault told h w
 
 -- the run was told no fault
-pub leaves_ok : (plan own : Plan) (bytes given old mid fin : Option (List ℕ)) (tx : Tx) (sums : Sums)
+pub leaves_ok : (plan own : Plan) (bytes given old mid fin : Option (List ℕ)) (bench : AtBench) (sums : Sums)
     → bytes ≡ given → own ≡ plan
-    → IfSome bytes (λ text. Stops own text old mid tx (Ok sums)) → Appends mid fin (streams tx.lines.a tx.lines.b)
+    → IfSome bytes (λ text. Stops own text old mid bench (Ok sums)) → Writes bench mid fin
     → IfSome given (λ text. Leaves plan text old fin (Ok sums))
-leaves_ok plan own bytes given old mid fin tx sums same is stops wrote =
+leaves_ok plan own bytes given old mid fin bench sums same is stops wrote =
     subst (λ (known : Option (List ℕ)). IfSome known (λ text. Leaves plan text old fin (Ok sums))) same
     (subst (λ (p : Plan). IfSome bytes (λ text. Leaves p text old fin (Ok sums))) is (known_ok bytes stops))
   where
-    known_ok : (known : Option (List ℕ)) → IfSome known (λ text. Stops own text old mid tx (Ok sums))
+    known_ok : (known : Option (List ℕ)) → IfSome known (λ text. Stops own text old mid bench (Ok sums))
         → IfSome known (λ text. Leaves own text old fin (Ok sums))
     known_ok None h = tt
-    known_ok (Some text) h = ends_written own text old mid fin tx (Ok sums) h wrote
+    known_ok (Some text) h = ends_written own text old mid fin bench (Ok sums) h wrote
 
 -- where the writer failed nothing is known
 pub leaves_write : (bytes : Option (List ℕ)) → IfSome bytes (λ text. ⊤)
@@ -154,7 +155,7 @@ leaves_none plan (Some text) old = record {
   written = [];
   unwritten = transcript (start plan);
   lines = refl;
-  finds = finds_none plan;
+  finds = blind_finds (start plan) (start plan) (blind_start plan);
   begins = refl;
   wrote = appends_none old;
 }

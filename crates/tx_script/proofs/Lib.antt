@@ -9,3 +9,7 @@ mod NumberLemmas
 mod WordLemmas
 mod Polling
 mod Sending
+mod AtHand
+mod Blind
+mod SubPorts
+mod Finding

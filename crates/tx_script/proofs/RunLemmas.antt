@@ -1,13 +1,13 @@
 -- How a run goes on, and how its lines end.
-use Rattle.std.proofs.Common.{◌≡◌, ℕ, ◌+◌, ◌*◌, ◌<◌, ◌≤◌, List, [], ◌∷◌, length, Option, Some, None, refl, ap, subst, arith}
+use Rattle.std.proofs.Common.{◌≡◌, ℕ, ◌+◌, ◌*◌, ◌<◌, ◌≤◌, List, [], ◌∷◌, ◌++◌, length, Option, Some, None, refl, ap, subst, arith}
 use Rattle.std.specs.Prelude.{IfSome, Ok, Err}
 use Rattle.std.specs.Io.KnownBytes.{Appends, Consumes}
 use Rattle.afdx_config.specs.Config.{Plan}
-use Rattle.afdx_tx.specs.Emitter.{Tx, IsFreshTx}
+use Rattle.tx_script.specs.AtBench.{AtBench, IsFreshBench, ObeysFor}
 use Rattle.tx_script.specs.EndSystem.{handed_b}
 use Rattle.tx_script.specs.Lines.{first_line}
 use Rattle.tx_script.specs.Meaning.{meaning_of}
-use Rattle.tx_script.specs.Play.{Play, play, start, ObeysFor}
+use Rattle.tx_script.specs.Play.{Play, play, start}
 use Rattle.tx_script.specs.Run.{HasBegun}
 use Rattle.tx_script.specs.Running.{Says, Reads, Running, Stops}
 use Rattle.tx_script.specs.Summary.{counted, HasFew}
@@ -21,7 +21,9 @@ use Rattle.tx_script.specs.declared.run_lines.TheConstants.{LINES_LIMIT}
 use Rattle.tx_script.specs.declared.summary.Summary.{Summary as Sums}
 use Rattle.tx_script.proofs.FrameLemmas.{appends_none}
 use Rattle.tx_script.proofs.Matched.{fresh_matches}
-use Rattle.tx_script.proofs.PlayLemmas.{running_more, finds_first}
+use Rattle.tx_script.proofs.AtHand.{fresh_sent}
+use Rattle.tx_script.proofs.Blind.{blind, IsBlindOf, blind_run, blind_lines, blind_finds}
+use Rattle.tx_script.proofs.PlayLemmas.{running_more}
 
 -- counts grow slowly
 pub record IsWithin (sums : Sums) (count : ℕ) : Type 0 where
@@ -59,77 +61,79 @@ within_more (Released frames) sums count few w =
     }
 
 -- some lines of a text were run, and these bytes are left
-pub record Goes (plan : Plan) (text : List ℕ) (left old new : Option (List ℕ)) (tx : Tx) (count : ℕ)
+pub record Goes (plan : Plan) (text : List ℕ) (left old new : Option (List ℕ)) (bench : AtBench) (count : ℕ)
     (sums : Sums) : Type 0 where
   pub rest : List ℕ
   pub left_is : left ≡ Some rest
-  pub ran : Running plan text old new tx rest count sums
+  pub ran : Running plan text old new bench rest count sums
 
 -- the same where the reader's bytes are known
-abbrev pub IsRunning : Plan → (bytes left old new : Option (List ℕ)) → Tx → ℕ → Sums → Type 0
-IsRunning plan bytes left old new tx count sums =
-    IfSome bytes (λ text. Goes plan text left old new tx count sums)
+abbrev pub IsRunning : Plan → (bytes left old new : Option (List ℕ)) → AtBench → ℕ → Sums → Type 0
+IsRunning plan bytes left old new bench count sums =
+    IfSome bytes (λ text. Goes plan text left old new bench count sums)
 
 -- nothing was run
-pub running_none : (plan : Plan) (bytes old : Option (List ℕ)) (tx : Tx) → IsFreshTx plan tx
-    → IsRunning plan bytes bytes old old tx 0 (record { accepted = 0; refused = 0; frames = 0 })
-running_none plan None old tx is_fresh = tt
-running_none plan (Some text) old tx is_fresh = record {
+pub running_none : (plan : Plan) (bytes old : Option (List ℕ)) (bench : AtBench) → IsFreshBench plan bench
+    → IsRunning plan bytes bytes old old bench 0 (record { accepted = 0; refused = 0; frames = 0 })
+running_none plan None old bench is_fresh = tt
+running_none plan (Some text) old bench is_fresh = record {
   rest = text;
   left_is = refl;
   ran =
-      record { turns = []; lines = refl; matches = fresh_matches plan tx is_fresh; count_is = refl; sums_are = refl; wrote = appends_none old };
+      record { turns = []; lines = refl; matches = record { emitter = fresh_matches plan bench.tx is_fresh.tx; own = fresh_sent bench.tx bench.ports is_fresh.ports }; count_is = refl; sums_are = refl; wrote = appends_none old };
 }
 
 -- a line was read, obeyed and noted
-pub running_turn : (plan : Plan) (bytes left new old mid fin : Option (List ℕ)) (tx tx2 : Tx) (count : ℕ)
+pub running_turn : (plan : Plan) (bytes left new old mid fin : Option (List ℕ)) (bench bench2 : AtBench) (count : ℕ)
     (sums : Sums) (said : Said) (outcome : Outcome)
-    → IsRunning plan bytes left old mid tx count sums
-    → IfSome left (λ known. Reads known new (count + 1) (Ok (Some said))) → ObeysFor said tx tx2 outcome
+    → IsRunning plan bytes left old mid bench count sums
+    → IfSome left (λ known. Reads known new (count + 1) (Ok (Some said))) → ObeysFor said bench bench2 outcome
     → Appends mid fin (note_of (count + 1) outcome)
-    → IsRunning plan bytes new old fin tx2 (count + 1) (counted outcome sums)
-running_turn plan None left new old mid fin tx tx2 count sums said outcome goes reads obeys wrote = tt
-running_turn plan (Some text) left new old mid fin tx tx2 count sums said outcome goes reads obeys wrote =
+    → IsRunning plan bytes new old fin bench2 (count + 1) (counted outcome sums)
+running_turn plan None left new old mid fin bench bench2 count sums said outcome goes reads obeys wrote = tt
+running_turn plan (Some text) left new old mid fin bench bench2 count sums said outcome goes reads obeys wrote =
     let says : Says goes.rest new said = rw goes.left_is at reads in
-    let obeyed : ObeysFor (meaning_of (first_line goes.rest)) tx tx2 outcome =
-    subst (λ (s : Said). ObeysFor s tx tx2 outcome) says.said_is obeys in
+    let obeyed : ObeysFor (meaning_of (first_line goes.rest)) bench bench2 outcome =
+    subst (λ (s : Said). ObeysFor s bench bench2 outcome) says.said_is obeys in
     record {
       rest = _;
       left_is = says.behind;
       ran =
-          running_more plan text old mid fin tx tx2 goes.rest count sums (first_line goes.rest) outcome goes.ran
+          running_more plan text old mid fin bench bench2 goes.rest count sums (first_line goes.rest) outcome goes.ran
           says.begins obeyed wrote;
     }
 
--- what was written before memory was refused
-pub has_begun : (plan : Plan) (text : List ℕ) (old new : Option (List ℕ)) (tx : Tx) (rest : List ℕ)
-    (count : ℕ) (sums : Sums) → Running plan text old new tx rest count sums → HasBegun plan text old new
-has_begun plan text old new tx rest count sums ran =
+-- what was written before memory was refused; the notes don't tell what looks found
+pub has_begun : (plan : Plan) (text : List ℕ) (old new : Option (List ℕ)) (bench : AtBench) (rest : List ℕ)
+    (count : ℕ) (sums : Sums) → Running plan text old new bench rest count sums → HasBegun plan text old new
+has_begun plan text old new bench rest count sums ran =
     let st : Play = play (start plan) ran.turns in
+    let other : Play = play (start plan) (blind ran.turns) in
+    let is : IsBlindOf (play (start plan) ran.turns) (play (start plan) (blind ran.turns)) = blind_run plan ran.turns in
     record {
-      turns = ran.turns;
+      turns = blind ran.turns;
       rest = rest;
       written = st.notes;
-      unwritten = streams st.es.log (handed_b st.es);
-      lines = ran.lines;
-      finds = finds_first st tx ran.matches;
-      begins = refl;
+      unwritten = streams other.es.log (handed_b other.es);
+      lines = blind_lines text ran.turns rest ran.lines;
+      finds = blind_finds st other is;
+      begins = ap (λ (notes : List ℕ). notes ++ streams other.es.log (handed_b other.es)) is.notes;
       wrote = ran.wrote;
     }
 
 -- memory was refused
-pub stop_memory : (plan : Plan) (bytes left old mid : Option (List ℕ)) (tx : Tx) (count : ℕ) (sums : Sums)
-    → IsRunning plan bytes left old mid tx count sums → IfSome bytes (λ text. HasBegun plan text old mid)
-stop_memory plan None left old mid tx count sums goes = tt
-stop_memory plan (Some text) left old mid tx count sums goes =
-    has_begun plan text old mid tx goes.rest count sums goes.ran
+pub stop_memory : (plan : Plan) (bytes left old mid : Option (List ℕ)) (bench : AtBench) (count : ℕ) (sums : Sums)
+    → IsRunning plan bytes left old mid bench count sums → IfSome bytes (λ text. HasBegun plan text old mid)
+stop_memory plan None left old mid bench count sums goes = tt
+stop_memory plan (Some text) left old mid bench count sums goes =
+    has_begun plan text old mid bench goes.rest count sums goes.ran
 
 -- the next line has a fault, or could not be read
-stop_known : (plan : Plan) (text : List ℕ) (new old mid : Option (List ℕ)) (tx : Tx) (rest : List ℕ)
+stop_known : (plan : Plan) (text : List ℕ) (new old mid : Option (List ℕ)) (bench : AtBench) (rest : List ℕ)
     (count : ℕ) (sums : Sums) (fault : RunFault) → count < LINES_LIMIT
-    → Running plan text old mid tx rest count sums → Reads rest new (count + 1) (Err fault)
-    → Stops plan text old mid tx (Err fault)
-stop_known plan text new old mid tx rest count sums (Fault.Line number fault) few ran reads = record {
+    → Running plan text old mid bench rest count sums → Reads rest new (count + 1) (Err fault)
+    → Stops plan text old mid bench (Err fault)
+stop_known plan text new old mid bench rest count sums (Fault.Line number fault) few ran reads = record {
   rest = rest;
   count = count;
   sums = sums;
@@ -139,34 +143,34 @@ stop_known plan text new old mid tx rest count sums (Fault.Line number fault) fe
   few = omega (arith, reads.number_is);
   first = reads.first;
 }
-stop_known plan text new old mid tx rest count sums Fault.Lines few ran reads = absurd reads
-stop_known plan text new old mid tx rest count sums Fault.Read few ran reads =
+stop_known plan text new old mid bench rest count sums Fault.Lines few ran reads = absurd reads
+stop_known plan text new old mid bench rest count sums Fault.Read few ran reads =
     record { rest = rest; count = count; sums = sums; ran = ran; few = omega arith }
-stop_known plan text new old mid tx rest count sums Fault.Write few ran reads = tt
-stop_known plan text new old mid tx rest count sums Fault.Memory few ran reads =
-    has_begun plan text old mid tx rest count sums ran
+stop_known plan text new old mid bench rest count sums Fault.Write few ran reads = tt
+stop_known plan text new old mid bench rest count sums Fault.Memory few ran reads =
+    has_begun plan text old mid bench rest count sums ran
 
 -- the same where the reader's bytes may be unknown
-pub stop_fault : (plan : Plan) (bytes left new old mid : Option (List ℕ)) (tx : Tx) (count : ℕ) (sums : Sums)
+pub stop_fault : (plan : Plan) (bytes left new old mid : Option (List ℕ)) (bench : AtBench) (count : ℕ) (sums : Sums)
     (fault : RunFault) → count < LINES_LIMIT
-    → IsRunning plan bytes left old mid tx count sums
+    → IsRunning plan bytes left old mid bench count sums
     → IfSome left (λ known. Reads known new (count + 1) (Err fault))
-    → IfSome bytes (λ text. Stops plan text old mid tx (Err fault))
-stop_fault plan None left new old mid tx count sums fault few goes reads = tt
-stop_fault plan (Some text) left new old mid tx count sums fault few goes reads =
-    stop_known plan text new old mid tx goes.rest count sums fault few goes.ran (rw goes.left_is at reads)
+    → IfSome bytes (λ text. Stops plan text old mid bench (Err fault))
+stop_fault plan None left new old mid bench count sums fault few goes reads = tt
+stop_fault plan (Some text) left new old mid bench count sums fault few goes reads =
+    stop_known plan text new old mid bench goes.rest count sums fault few goes.ran (rw goes.left_is at reads)
 
 -- there is a line too many
-pub stop_lines : (plan : Plan) (bytes left new old mid : Option (List ℕ)) (tx : Tx) (count : ℕ) (sums : Sums)
+pub stop_lines : (plan : Plan) (bytes left new old mid : Option (List ℕ)) (bench : AtBench) (count : ℕ) (sums : Sums)
     (byte : ℕ) → count ≡ LINES_LIMIT
-    → IsRunning plan bytes left old mid tx count sums → Consumes left new (byte ∷ [])
-    → IfSome bytes (λ text. Stops plan text old mid tx (Err Fault.Lines))
-stop_lines plan None left new old mid tx count sums byte all goes taken = tt
-stop_lines plan (Some text) left new old mid tx count sums byte all goes taken =
+    → IsRunning plan bytes left old mid bench count sums → Consumes left new (byte ∷ [])
+    → IfSome bytes (λ text. Stops plan text old mid bench (Err Fault.Lines))
+stop_lines plan None left new old mid bench count sums byte all goes taken = tt
+stop_lines plan (Some text) left new old mid bench count sums byte all goes taken =
     record {
       rest = goes.rest;
       sums = sums;
-      ran = subst (λ (n : ℕ). Running plan text old mid tx goes.rest n sums) all goes.ran;
+      ran = subst (λ (n : ℕ). Running plan text old mid bench goes.rest n sums) all goes.ran;
       some = some_left goes.rest new (rw goes.left_is at taken);
     }
   where

@@ -1,85 +1,221 @@
 -- Obeying a line that sends a message.
-use Rattle.std.proofs.Common.{ℕ, ◌≡◌, Bool, true, false, if◌then◌else◌, List, length, refl, ap, ◌∙◌, sym, subst, Option, Some, None}
-use Rattle.std.specs.Prelude.{unwrap_or}
+use Rattle.std.proofs.Common.{ℕ, ◌≡◌, ◌≢◌, ◌≤◌, ◌<◌, ◌+◌, ◌==◌, Bool, true, false, if◌then◌else◌, nat_eq, nat_lt, List, [], ◌∷◌, ◌++◌, length, set, get_or, refl, ap, ◌∙◌, sym, subst, arith, Option, Some, None}
+use Rattle.std.proofs.lemmas.Bool.{eq-eqb, ne_eqb, lt-ltb, le-ltb}
+use Rattle.std.proofs.lemmas.List.Quantifiers.{position-Some}
 use Rattle.afdx_config.specs.Config.{Plan, port_plan_at}
+use Rattle.afdx_config.specs.declared.port_plan.PortPlan.{PortPlan}
+use Rattle.subvl_queue.specs.Messages.{most_calls}
+use Rattle.subvl_queue.specs.Views.{SenderView, asked}
 use Rattle.afdx_tx.specs.declared.fault.Refusal.{Refusal as SendRefusal}
 use Rattle.afdx_tx.specs.declared.fault.Refusal.TheVariants as Why
-use Rattle.afdx_tx.specs.Legal.{Accepted}
 use Rattle.afdx_tx.specs.Emitter.{Tx}
-use Rattle.afdx_tx.specs.Sending.{first_refusal, queue_refusal, length_refusal, refusal_at, tx_sent}
+use Rattle.afdx_tx.specs.Ports.{PortView, MaySend, Accepts, Refuses, BelongsTo}
+use Rattle.afdx_tx.specs.Sending.{length_refusal}
+use Rattle.tx_script.specs.AtBench.{AtBench, IsAtHand, HaveSent, Matches, Obeys}
 use Rattle.tx_script.specs.EndSystem.{EndSystem}
-use Rattle.tx_script.specs.Matching.{Matches}
-use Rattle.tx_script.specs.Play.{takes, fills, Obeys, place_of, sent_to, passed_on, refusal_of, outcome_of, taken_by, accepted_by, with_message}
+use Rattle.tx_script.specs.Play.{Answer, Messages, takes, closes, fills, place_of, sent_to, passed_on, refusal_of, outcome_of, taken_by, accepted_by, with_message}
 use Rattle.tx_script.specs.declared.line.Line.TheVariants.{Send}
 use Rattle.tx_script.specs.declared.refusal.Refusal.{Refusal}
-use Rattle.tx_script.specs.declared.refusal.Refusal.TheVariants.{Full}
+use Rattle.tx_script.specs.declared.refusal.Refusal.TheVariants.{NoPort}
+use Rattle.tx_script.specs.declared.run_lines.TheConstants.{LINES_LIMIT}
 use Rattle.tx_script.specs.declared.outcome.Outcome.{Outcome}
 use Rattle.tx_script.specs.declared.outcome.Outcome.TheVariants as Came
-use Rattle.tx_script.proofs.Matched.{sent_matches}
+use Rattle.tx_script.proofs.AtHand.{IsSamePort, have_sent, have_kept}
 
--- A message that a port took.
-pub send_taken : (accepted : Accepted) (es : EndSystem) (old : Tx) (id place : ℕ) (bytes : List ℕ)
-    → place_of old.plan id ≡ Some place → refusal_at old place (length bytes) ≡ None
-    → Matches accepted es old → Obeys (Send id bytes) accepted es (tx_sent old place bytes) Came.Accepted
-send_taken accepted es old id place bytes found none m = record {
+-- a message of no bytes
+empty_refused : (port : PortPlan) (size : ℕ) → size ≡ 0 → length_refusal port size ≡ Some Why.Empty
+empty_refused port size e = ap (λ (b : Bool). if b then Some Why.Empty
+    else if nat_lt port.max size then Some Why.TooLong else None) (eq-eqb size 0 e)
+
+-- one over the port's greatest
+long_refused : (port : PortPlan) (size : ℕ) → port.max < size → length_refusal port size ≡ Some Why.TooLong
+long_refused port size over =
+    ap (λ (b : Bool). if b then Some Why.Empty else if nat_lt port.max size then Some Why.TooLong else None)
+    (ne_eqb size 0 (λ e. absurd (omega arith)))
+    ∙ ap (λ (b : Bool). if b then Some Why.TooLong else None) (lt-ltb port.max size over)
+
+-- one that the port may send
+may_pass : (port : PortPlan) (size : ℕ) → MaySend port size → length_refusal port size ≡ None
+may_pass port size may =
+    ap (λ (b : Bool). if b then Some Why.Empty else if nat_lt port.max size then Some Why.TooLong else None)
+    (ne_eqb size 0 (λ e. absurd (let some = may.some in omega arith)))
+    ∙ ap (λ (b : Bool). if b then Some Why.TooLong else None) (le-ltb port.max size may.most)
+
+-- A port that accepted a message is the same otherwise.
+pub accepts_same : (old new : PortView) (bytes : List ℕ) → Accepts old bytes new → IsSamePort old new
+accepts_same old new bytes e = record {
+  place = ap (λ (p : PortView). p.place) e;
+  plan = ap (λ (p : PortView). p.plan) e;
+  queue = ap (λ (p : PortView). p.sender.queue) e;
+  index = ap (λ (p : PortView). p.sender.port) e;
+  calls = ap (λ (p : PortView). p.sender.calls) e;
+}
+
+-- a port whose queue refused a message asked once more
+asked_same : (old new : PortView) → new ≡ record old { sender = new.sender } → new.sender ≡ asked old.sender
+    → IsSamePort old new
+asked_same old new e s = record {
+  place = ap (λ (p : PortView). p.place) e;
+  plan = ap (λ (p : PortView). p.plan) e;
+  queue = ap (λ (sender : SenderView). sender.queue) s;
+  index = ap (λ (sender : SenderView). sender.port) s;
+  calls = ap (λ (sender : SenderView). sender.calls) s;
+}
+
+-- What a refusal leaves of a port.
+pub record IsUnsent (old new : PortView) : Type 0 where
+  pub same : IsSamePort old new
+  pub own : new.sender.own ≡ old.sender.own
+  pub asks : new.sender.asks ≤ old.sender.asks + 1
+
+unsent_same : (old new : PortView) → new ≡ old → IsUnsent old new
+unsent_same old new e = record {
+  same = record {
+    place = ap (λ (p : PortView). p.place) e;
+    plan = ap (λ (p : PortView). p.plan) e;
+    queue = ap (λ (p : PortView). p.sender.queue) e;
+    index = ap (λ (p : PortView). p.sender.port) e;
+    calls = ap (λ (p : PortView). p.sender.calls) e;
+  };
+  own = ap (λ (p : PortView). p.sender.own) e;
+  asks = let same : new.sender.asks ≡ old.sender.asks = ap (λ (p : PortView). p.sender.asks) e in omega arith;
+}
+
+unsent_asked : (old new : PortView) → new ≡ record old { sender = new.sender } → new.sender ≡ asked old.sender
+    → IsUnsent old new
+unsent_asked old new e s = record {
+  same = asked_same old new e s;
+  own = ap (λ (sender : SenderView). sender.own) s;
+  asks = let more : new.sender.asks ≡ old.sender.asks + 1 = ap (λ (sender : SenderView). sender.asks) s in omega arith;
+}
+
+pub unsent : (old new : PortView) (size : ℕ) (why : SendRefusal) → (why ≡ Why.Exhausted → ⊥) → Refuses old size why new
+    → IsUnsent old new
+unsent old new size Why.Empty some r = unsent_same old new r.1
+unsent old new size Why.TooLong some r = unsent_same old new r.1
+unsent old new size Why.Closed some r = unsent_asked old new r.same r.queue.1
+unsent old new size Why.Exhausted some r = absurd (some refl)
+unsent old new size Why.Full some r = unsent_asked old new r.same r.queue.1
+
+-- A port that asked as often as a script has lines may ask on.
+pub never_exhausted : (old new : PortView) (size : ℕ) (why : SendRefusal) → old.sender.calls ≡ most_calls
+    → old.sender.asks ≤ LINES_LIMIT → Refuses old size why new → why ≡ Why.Exhausted → ⊥
+never_exhausted old new size why calls few r e =
+    let refuses : Refuses old size Why.Exhausted new = subst (λ (w : SendRefusal). Refuses old size w new) e r in
+    let spent : old.sender.asks ≡ old.sender.calls = refuses.queue.0 in
+    omega arith
+
+-- the plan of the port at a place
+plan_here : (tx : Tx) (ports : List PortView) (place : ℕ) (d : PortView) → IsAtHand tx ports → place < length ports
+    → (get_or ports place d).plan ≡ port_plan_at tx.plan.ports place
+plan_here tx ports place d h lt =
+    let belongs : BelongsTo tx.plan _ (get_or ports place d) = h.opened place d lt in
+    belongs.plan ∙ ap (port_plan_at tx.plan.ports) (h.placed place d lt)
+
+-- A port that was found has its place among the ports at hand.
+pub place_inside : (tx : Tx) (ports : List PortView) (id place : ℕ) → IsAtHand tx ports → place_of tx.plan id ≡ Some place
+    → place < length ports
+place_inside tx ports id place h found =
+    let some = position-Some (λ (port : PortPlan). port.id.0 == id) tx.plan.ports place (port_plan_at [] 0) found in
+    let within = some.0 in
+    let many = h.many in
+    omega arith
+
+-- what becomes of a message whose length was asked
+sent_here : (es : EndSystem) (tx : Tx) (id place : ℕ) (bytes : List ℕ) (port : PortPlan) (answer : Answer)
+    (why : Option SendRefusal) → tx.plan ≡ es.plan → place_of tx.plan id ≡ Some place
+    → port ≡ port_plan_at tx.plan.ports place → length_refusal port (length bytes) ≡ why
+    → outcome_of es (Send id bytes) answer ≡ passed_on why answer
+sent_here es tx id place bytes port answer why plan found is asked =
+    ap (λ (config : Plan). sent_to config (place_of config id) bytes answer) (sym plan)
+    ∙ ap (λ (p : Option ℕ). sent_to tx.plan p bytes answer) found
+    ∙ ap (λ (p : PortPlan). passed_on (length_refusal p (length bytes)) answer) (sym is)
+    ∙ ap (λ (w : Option SendRefusal). passed_on w answer) asked
+
+-- A message that its port accepted.
+pub send_taken : (accepted : Messages) (es : EndSystem) (tx : Tx) (ports : List PortView) (id place : ℕ) (d new : PortView)
+    (bytes : List ℕ) → IsAtHand tx ports → place_of tx.plan id ≡ Some place → place < length ports
+    → MaySend (get_or ports place d).plan (length bytes) → Accepts (get_or ports place d) bytes new
+    → Matches accepted es (record { tx = tx; ports = ports })
+    → Obeys (Send id bytes) accepted es (record { tx = tx; ports = set ports place new }) Came.Accepted
+send_taken accepted es tx ports id place d new bytes h found lt may accepts m = record {
   answer = takes;
   is = sym outcome;
-  matches = subst (λ (more : Accepted). Matches more es (tx_sent old place bytes)) (sym more_accepted)
-      (sent_matches accepted es old place bytes m);
+  matches = record {
+    emitter = m.emitter;
+    own = subst (λ (more : Messages). HaveSent more (set ports place new)) (sym more_accepted)
+        (have_sent accepted ports place d new bytes lt (ap (λ (p : PortView). p.sender.own) accepts) m.own);
+  };
 }
   where
-    none_first : (first later : Option SendRefusal) → first_refusal first later ≡ None → first ≡ None
-    none_first None later e = refl
-    none_first (Some why) later e = e
-
     here : place_of es.plan id ≡ Some place
-    here = ap (λ (plan : Plan). place_of plan id) (sym m.plan) ∙ found
-
-    allowed : length_refusal (port_plan_at es.plan.ports place) (length bytes) ≡ None
-    allowed = ap (λ (plan : Plan). length_refusal (port_plan_at plan.ports place) (length bytes)) (sym m.plan)
-        ∙ none_first _ _ none
+    here = ap (λ (plan : Plan). place_of plan id) (sym m.emitter.plan) ∙ found
 
     outcome : outcome_of es (Send id bytes) takes ≡ Came.Accepted
-    outcome = ap (λ (p : Option ℕ). sent_to es.plan p bytes takes) here
-        ∙ ap (λ (w : Option SendRefusal). passed_on w takes) allowed
+    outcome = sent_here es tx id place bytes (get_or ports place d).plan takes None m.emitter.plan found
+        (plan_here tx ports place d h lt) (may_pass (get_or ports place d).plan (length bytes) may)
 
-    more_accepted : accepted_by es (Send id bytes) takes accepted ≡ with_message es.plan place bytes accepted
-    more_accepted = ap (λ (o : Outcome). taken_by es.plan (place_of es.plan id) bytes o accepted) outcome
-        ∙ ap (λ (p : Option ℕ). taken_by es.plan p bytes Came.Accepted accepted) here
+    more_accepted : accepted_by es (Send id bytes) takes accepted ≡ with_message place bytes accepted
+    more_accepted = ap (λ (o : Outcome). taken_by (place_of es.plan id) bytes o accepted) outcome
+        ∙ ap (λ (p : Option ℕ). taken_by p bytes Came.Accepted accepted) here
 
--- A message that was refused.
-pub send_refused : (accepted : Accepted) (es : EndSystem) (tx : Tx) (id : ℕ) (bytes : List ℕ) (why : Refusal)
-    → Came.Refused why ≡ outcome_of es (Send id bytes) fills
-    → Matches accepted es tx → Obeys (Send id bytes) accepted es tx (Came.Refused why)
-send_refused accepted es tx id bytes why is m = record {
-  answer = fills;
-  is = is;
-  matches = subst (λ (same : Accepted). Matches same es tx)
-      (sym (ap (λ (o : Outcome). taken_by es.plan (place_of es.plan id) bytes o accepted) (sym is)
-      ∙ not_taken (place_of es.plan id))) m;
+-- what a refused message leaves of the accepted ones
+not_taken : (place : Option ℕ) (bytes : List ℕ) (why : Refusal) (accepted : Messages)
+    → taken_by place bytes (Came.Refused why) accepted ≡ accepted
+not_taken None bytes why accepted = refl
+not_taken (Some place) bytes why accepted = refl
+
+-- a message was refused, whatever its port
+refused_by : (accepted : Messages) (es : EndSystem) (bench : AtBench) (id : ℕ) (bytes : List ℕ) (answer : Answer) (why : Refusal)
+    → outcome_of es (Send id bytes) answer ≡ Came.Refused why → Matches accepted es bench
+    → Obeys (Send id bytes) accepted es bench (Came.Refused why)
+refused_by accepted es bench id bytes answer why is m = record {
+  answer = answer;
+  is = sym is;
+  matches = subst (λ (same : Messages). Matches same es bench)
+      (sym (ap (λ (o : Outcome). taken_by (place_of es.plan id) bytes o accepted) is
+      ∙ not_taken (place_of es.plan id) bytes why accepted)) m;
 }
-  where
-    not_taken : (place : Option ℕ) → taken_by es.plan place bytes (Came.Refused why) accepted ≡ accepted
-    not_taken None = refl
-    not_taken (Some place) = refl
 
--- A message that the port at its place refused.
-pub port_refused : (accepted : Accepted) (es : EndSystem) (tx : Tx) (id place : ℕ) (bytes : List ℕ) (why : SendRefusal)
-    → place_of tx.plan id ≡ Some place → refusal_at tx place (length bytes) ≡ Some why
-    → Matches accepted es tx → Obeys (Send id bytes) accepted es tx (Came.Refused (refusal_of why))
-port_refused accepted es tx id place bytes why found some m =
-    send_refused accepted es tx id bytes (refusal_of why) (sym
-    (ap (λ (plan : Plan). sent_to plan (place_of plan id) bytes fills) (sym m.plan)
-    ∙ ap (λ (p : Option ℕ). sent_to tx.plan p bytes fills) found
-    ∙ passed _ _ _ some)) m
-  where
-    full : (is_full : Bool) → (if is_full then Some Why.Full else None) ≡ Some why
-        → Came.Refused Full ≡ Came.Refused (refusal_of why)
-    full true e = ap (λ (o : Option SendRefusal). Came.Refused (refusal_of (unwrap_or o why))) e
-    full false e = ap (λ (o : Option SendRefusal). Came.Refused (refusal_of (unwrap_or o Why.Full))) e
+-- A message for no port.
+pub send_nowhere : (accepted : Messages) (es : EndSystem) (bench : AtBench) (id : ℕ) (bytes : List ℕ)
+    → place_of bench.tx.plan id ≡ None → Matches accepted es bench
+    → Obeys (Send id bytes) accepted es bench (Came.Refused NoPort)
+send_nowhere accepted es bench id bytes none m =
+    refused_by accepted es bench id bytes fills NoPort
+    (ap (λ (config : Plan). sent_to config (place_of config id) bytes fills) (sym m.emitter.plan)
+    ∙ ap (λ (p : Option ℕ). sent_to bench.tx.plan p bytes fills) none) m
 
-    passed : (first : Option SendRefusal) (capacity waiting : ℕ)
-        → first_refusal first (queue_refusal capacity waiting) ≡ Some why
-        → passed_on first fills ≡ Came.Refused (refusal_of why)
-    passed (Some w) capacity waiting e = ap (λ (o : Option SendRefusal). Came.Refused (refusal_of (unwrap_or o why))) e
-    passed None capacity waiting e = full _ e
+-- the answer of a queue that refused
+answer_of : SendRefusal → Answer
+answer_of Why.Closed = closes
+answer_of _ = fills
+
+-- what becomes of a message that was refused
+refusal_passed : (old new : PortView) (size : ℕ) (why : SendRefusal) → (why ≡ Why.Exhausted → ⊥) → Refuses old size why new
+    → passed_on (length_refusal old.plan size) (answer_of why) ≡ Came.Refused (refusal_of why)
+unfolding answer_of
+refusal_passed old new size Why.Empty some r = ap (λ (w : Option SendRefusal). passed_on w fills) (empty_refused old.plan size r.0)
+refusal_passed old new size Why.TooLong some r = ap (λ (w : Option SendRefusal). passed_on w fills) (long_refused old.plan size r.0)
+refusal_passed old new size Why.Closed some r = ap (λ (w : Option SendRefusal). passed_on w closes) (may_pass old.plan size r.may)
+refusal_passed old new size Why.Exhausted some r = absurd (some refl)
+refusal_passed old new size Why.Full some r = ap (λ (w : Option SendRefusal). passed_on w fills) (may_pass old.plan size r.may)
+
+-- A message that its port refused.
+pub send_refused : (accepted : Messages) (es : EndSystem) (tx : Tx) (ports : List PortView) (id place : ℕ) (d new : PortView)
+    (bytes : List ℕ) (why : SendRefusal) → IsAtHand tx ports → place_of tx.plan id ≡ Some place → place < length ports
+    → (why ≡ Why.Exhausted → ⊥) → Refuses (get_or ports place d) (length bytes) why new
+    → Matches accepted es (record { tx = tx; ports = ports })
+    → Obeys (Send id bytes) accepted es (record { tx = tx; ports = set ports place new }) (Came.Refused (refusal_of why))
+send_refused accepted es tx ports id place d new bytes why h found lt some refuses m =
+    refused_by accepted es (record { tx = tx; ports = set ports place new }) id bytes (answer_of why) (refusal_of why)
+    (sent_here es tx id place bytes (get_or ports place d).plan (answer_of why)
+    (length_refusal (get_or ports place d).plan (length bytes)) m.emitter.plan found
+    (plan_here tx ports place d h lt) refl
+    ∙ refusal_passed (get_or ports place d) new (length bytes) why some refuses)
+    (record {
+      emitter = m.emitter;
+      own = have_kept accepted ports place d new lt
+          (let left : IsUnsent (get_or ports place d) new =
+          unsent (get_or ports place d) new (length bytes) why some refuses in left.own) m.own;
+    })

@@ -9,5 +9,6 @@ pub mod Words
 pub mod EndSystem
 pub mod Matching
 pub mod Play
+pub mod AtBench
 pub mod Run
 pub mod Running

@@ -1,29 +1,28 @@
 -- A run of lines, with answers of queues that nothing but the run knows.
-use Rattle.std.specs.Prelude.{◌≡◌, ◌<◌, ℕ, ◌+◌, nat_lt, ◌==◌, if◌then◌else◌, List, [], ◌∷◌, ◌++◌, length, position, Option, Some, None}
+use Rattle.std.specs.Prelude.{◌≡◌, ◌<◌, ℕ, ◌+◌, nat_lt, nat_eq, ◌==◌, if◌then◌else◌, List, [], ◌∷◌, ◌++◌, length, position, get_or, All, Contains, Option, Some, None}
 use Rattle.afdx_config.specs.Config.{Plan, port_plan_at, link_plan_at}
 use Rattle.afdx_config.specs.declared.port_plan.PortPlan.{PortPlan}
 use Rattle.afdx_frame.specs.Fragments.{Sent}
 use Rattle.afdx_tx.specs.declared.fault.Refusal.{Refusal as SendRefusal}
 use Rattle.afdx_tx.specs.declared.fault.Refusal.TheVariants as Why
-use Rattle.afdx_tx.specs.Legal.{Accepted}
-use Rattle.afdx_tx.specs.Emitter.{Tx, none_accepted, with_accepted}
+use Rattle.afdx_tx.specs.Emitter.{Tx, ports_of_sub}
 use Rattle.afdx_tx.specs.Sending.{length_refusal, link_of}
 use Rattle.tx_script.specs.EndSystem.{EndSystem, Look, fresh, polled, released_by, handed_b, progress_of}
-use Rattle.tx_script.specs.Matching.{Matches}
 use Rattle.tx_script.specs.Meaning.{meaning_of}
 use Rattle.tx_script.specs.Summary.{counted}
 use Rattle.tx_script.specs.Transcript.{note_of, streams}
 use Rattle.tx_script.specs.declared.line.Line.{Line}
 use Rattle.tx_script.specs.declared.line.Line.TheVariants.{Send, At, Nothing}
 use Rattle.tx_script.specs.declared.refusal.Refusal.{Refusal}
-use Rattle.tx_script.specs.declared.refusal.Refusal.TheVariants.{Empty, TooLong, Full, NoPort, TimeBack}
+use Rattle.tx_script.specs.declared.refusal.Refusal.TheVariants.{Empty, TooLong, Closed, Full, NoPort, TimeBack}
 use Rattle.tx_script.specs.declared.outcome.Outcome.{Outcome}
 use Rattle.tx_script.specs.declared.outcome.Outcome.TheVariants as Came
 use Rattle.tx_script.specs.declared.summary.Summary.{Summary as Sums}
 
--- a queue takes a message or is full, or looks into queues find something or nothing
+-- a queue takes a message, is closed or is full, or looks into queues find something or nothing
 pub data Answer : Type 0 where
   takes : Answer
+  closes : Answer
   fills : Answer
   finds : List Look → Answer
 
@@ -39,13 +38,15 @@ place_of plan id = position (λ (port : PortPlan). port.id.0 == id) plan.ports
 -- what a queue says; full where the answer is no queue's
 abbrev pub queued : Answer → Outcome
 queued takes = Came.Accepted
+queued closes = Came.Refused Closed
 queued _ = Came.Refused Full
 
--- the name of a port's refusal
+-- the name of a port's refusal; a script has fewer lines than a port may ask, so none is exhausted
 abbrev pub refusal_of : SendRefusal → Refusal
 refusal_of Why.Empty = Empty
 refusal_of Why.TooLong = TooLong
-refusal_of Why.Full = Full
+refusal_of Why.Closed = Closed
+refusal_of _ = Full
 
 abbrev pub passed_on : Option SendRefusal → Answer → Outcome
 passed_on (Some why) answer = Came.Refused (refusal_of why)
@@ -70,20 +71,27 @@ abbrev pub after : EndSystem → Line → Answer → EndSystem
 after es (At moment) answer = if nat_lt moment es.moment then es else polled es moment (looks_of answer)
 after es _ answer = es
 
--- the accepted lists with a message of the port at a place
-abbrev pub with_message : Plan → ℕ → List ℕ → Accepted → Accepted
-with_message plan place bytes accepted =
-    with_accepted (link_of plan (port_plan_at plan.ports place)) (port_plan_at plan.ports place).sub
-    (record { port = port_plan_at plan.ports place; bytes = bytes }) accepted
+-- the messages of each port that were accepted, by its place in the plan
+abbrev pub Messages : Type 0
+Messages = ℕ → List (List ℕ)
 
-abbrev pub taken_by : Plan → Option ℕ → List ℕ → Outcome → Accepted → Accepted
-taken_by plan (Some place) bytes Came.Accepted accepted = with_message plan place bytes accepted
-taken_by plan _ bytes outcome accepted = accepted
+-- nothing was accepted
+abbrev pub none_accepted : Messages
+none_accepted place = []
 
--- the accepted lists after a line
-abbrev pub accepted_by : EndSystem → Line → Answer → Accepted → Accepted
+-- a message more of the port at a place
+abbrev pub with_message : ℕ → List ℕ → Messages → Messages
+with_message place bytes accepted other =
+    if nat_eq other place then accepted other ++ bytes ∷ [] else accepted other
+
+abbrev pub taken_by : Option ℕ → List ℕ → Outcome → Messages → Messages
+taken_by (Some place) bytes Came.Accepted accepted = with_message place bytes accepted
+taken_by _ bytes outcome accepted = accepted
+
+-- the accepted messages after a line
+abbrev pub accepted_by : EndSystem → Line → Answer → Messages → Messages
 accepted_by es (Send port bytes) answer accepted =
-    taken_by es.plan (place_of es.plan port) bytes (outcome_of es (Send port bytes) answer) accepted
+    taken_by (place_of es.plan port) bytes (outcome_of es (Send port bytes) answer) accepted
 accepted_by es _ answer accepted = accepted
 
 -- a line, and what queues answered
@@ -94,7 +102,7 @@ pub record Turn : Type 0 where
 -- what is known after some lines
 pub record Play : Type 0 where
   pub es : EndSystem
-  pub accepted : Accepted
+  pub accepted : Messages
   pub count : ℕ
   pub notes : List ℕ
   pub summary : Sums
@@ -127,19 +135,27 @@ play st (turn ∷ turns) = play (play_line turn st) turns
 abbrev pub transcript : Play → List ℕ
 transcript st = st.notes ++ streams st.es.log (handed_b st.es)
 
--- the messages that looks found are the first of those that were accepted, of each sub-VL
-abbrev pub FindsFirst : Play → Type 0
-FindsFirst st = (k s : ℕ)
-    → k < length st.es.plan.links → s < (link_plan_at st.es.plan.links k).sub_vls
-    → (more : List Sent) × (st.accepted k s ≡ (progress_of st.es k s).taken ++ more)
+-- the messages of a port among these, in their order
+abbrev pub messages_of : PortPlan → List Sent → List (List ℕ)
+messages_of port [] = []
+messages_of port (sent ∷ more) =
+    if nat_eq sent.port.id.0 port.id.0 then sent.bytes ∷ messages_of port more
+    else messages_of port more
 
--- a line was obeyed, over an emitter that matches these lists
-pub record Obeys (line : Line) (accepted : Accepted) (es : EndSystem) (tx : Tx) (outcome : Outcome) : Type 0 where
-  pub answer : Answer
-  pub is : outcome ≡ outcome_of es line answer
-  pub matches : Matches (accepted_by es line answer accepted) (after es line answer) tx
+-- the messages that looks found of the sub-VL of a port
+abbrev pub found_beside : EndSystem → PortPlan → List Sent
+found_beside es port = (progress_of es (link_of es.plan port) port.sub).taken
 
--- the same, whatever lists the emitter matched before
-abbrev pub ObeysFor : Line → (old new : Tx) → Outcome → Type 0
-ObeysFor line old new outcome = (accepted : Accepted) (es : EndSystem)
-    → Matches accepted es old → Obeys line accepted es new outcome
+-- Looks found what was sent: each message is of a port of the sub-VL, and the messages of each port
+-- are the first of those of its accepted lines.
+pub record FindsFirst (st : Play) : Type 0 where
+  pub own : (k s : ℕ)
+      → k < length st.es.plan.links → s < (link_plan_at st.es.plan.links k).sub_vls
+      → All (λ (sent : Sent).
+      Contains (ports_of_sub st.es.plan.ports (link_plan_at st.es.plan.links k).id.0 s) sent.port)
+      (progress_of st.es k s).taken
+  pub first : (place : ℕ) → place < length st.es.plan.ports
+      → (more : List (List ℕ))
+      × (st.accepted place
+      ≡ messages_of (port_plan_at st.es.plan.ports place)
+      (found_beside st.es (port_plan_at st.es.plan.ports place)) ++ more)

@@ -2,13 +2,13 @@
 use Rattle.std.specs.Prelude.{◌≡◌, ℕ, ◌<◌, List, [], length, Option, Some, None, Result, Ok, Err, ⊤, ◌⊎◌}
 use Rattle.std.specs.Io.KnownBytes.{Appends, Keeps}
 use Rattle.afdx_config.specs.Config.{Plan}
-use Rattle.afdx_tx.specs.Emitter.{Tx}
+use Rattle.tx_script.specs.AtBench.{AtBench, IsAtHand, Matches, GaveFirst}
 use Rattle.tx_script.specs.Faults.{IsFirstFault}
 use Rattle.tx_script.specs.Lines.{first_line, after_feed}
-use Rattle.tx_script.specs.Matching.{Matches}
 use Rattle.tx_script.specs.Meaning.{meaning_of}
 use Rattle.tx_script.specs.Play.{Turn, play, start}
 use Rattle.tx_script.specs.Run.{BeginsWith, LinesThen, HasBegun, Ends}
+use Rattle.tx_script.specs.Transcript.{streams}
 use Rattle.tx_script.specs.declared.line.Line.{Line as Said}
 use Rattle.tx_script.specs.declared.line_fault.LineFault.{LineFault}
 use Rattle.tx_script.specs.declared.line_fault.LineFault.TheVariants.{Memory as OutOfMemory}
@@ -39,29 +39,34 @@ Reads text left line (Err Read) = ⊤
 Reads text left line (Err Write) = ⊥
 Reads text left line (Err Memory) = ⊤
 
--- some lines of a text were run, their notes are written, the rest is left, and an emitter matches
-pub record Running (plan : Plan) (text : List ℕ) (old new : Option (List ℕ)) (tx : Tx) (rest : List ℕ)
+-- some lines of a text were run, their notes are written, the rest is left, and a bench matches
+pub record Running (plan : Plan) (text : List ℕ) (old new : Option (List ℕ)) (bench : AtBench) (rest : List ℕ)
     (count : ℕ) (sums : Sums) : Type 0 where
   pub turns : List Turn
   pub lines : LinesThen text turns rest
-  pub matches : Matches (play (start plan) turns).accepted (play (start plan) turns).es tx
+  pub matches : Matches (play (start plan) turns).accepted (play (start plan) turns).es bench
   pub count_is : (play (start plan) turns).count ≡ count
   pub sums_are : (play (start plan) turns).summary ≡ sums
   pub wrote : Appends old new (play (start plan) turns).notes
 
 -- what the lines of a text leave, by their end, whose notes alone are written
-abbrev pub Stops : Plan → List ℕ → (old new : Option (List ℕ)) → Tx → Result Sums RunFault → Type 0
-Stops plan text old new tx result =
-    Ends (Running plan text old new tx) (HasBegun plan text old new) result
+abbrev pub Stops : Plan → List ℕ → (old new : Option (List ℕ)) → AtBench → Result Sums RunFault → Type 0
+Stops plan text old new bench result =
+    Ends (Running plan text old new bench) (HasBegun plan text old new) result
 
 -- what a fault of a line is for the run
 abbrev pub run_fault_of : ℕ → LineFault → RunFault
 run_fault_of line OutOfMemory = Memory
 run_fault_of line fault = Line line fault
 
+-- what was handed over at a bench is written, and what was taken is known
+pub record Writes (bench : AtBench) (old new : Option (List ℕ)) : Type 0 where
+  pub wrote : Appends old new (streams bench.tx.lines.a bench.tx.lines.b)
+  pub hand : IsAtHand bench.tx bench.ports
+  pub first : GaveFirst bench.tx bench.ports
+
 -- what is written after a fault, and the fault that is told
-abbrev pub EndsEarly : RunFault → (streams : List ℕ) → (old new : Option (List ℕ)) → (told : RunFault)
-    → Type 0
-EndsEarly Memory streams old new told = (told ≡ Memory) × Keeps old new
-EndsEarly Write streams old new told = told ≡ Write
-EndsEarly fault streams old new told = (told ≡ Write) ⊎ ((told ≡ fault) × Appends old new streams)
+abbrev pub EndsEarly : RunFault → AtBench → (old new : Option (List ℕ)) → (told : RunFault) → Type 0
+EndsEarly Memory bench old new told = (told ≡ Memory) × Keeps old new
+EndsEarly Write bench old new told = told ≡ Write
+EndsEarly fault bench old new told = (told ≡ Write) ⊎ ((told ≡ fault) × Writes bench old new)

@@ -8,12 +8,13 @@ use Rattle.redundant_mux.specs.Entry.{Entry}
 use Rattle.tx_script.specs.declared.outcome.Outcome.{Outcome}
 use Rattle.tx_script.specs.declared.outcome.Outcome.TheVariants.{Refused}
 use Rattle.tx_script.specs.declared.refusal.Refusal.{Refusal}
-use Rattle.tx_script.specs.declared.refusal.Refusal.TheVariants.{Empty, TooLong, Full, NoPort, TimeBack}
+use Rattle.tx_script.specs.declared.refusal.Refusal.TheVariants.{Empty, TooLong, Closed, Full, NoPort, TimeBack}
 
 -- a refusal's name
 abbrev pub name_of : Refusal → List ℕ
 name_of Empty = codes "Empty"
 name_of TooLong = codes "TooLong"
+name_of Closed = codes "Closed"
 name_of Full = codes "Full"
 name_of NoPort = codes "NoPort"
 name_of TimeBack = codes "TimeBack"

@@ -1,6 +1,7 @@
 //! Scripts of an end system: their lines, what each line says, and the transcript of a run.
 #![tactic(auto)]
 
+mod bench;
 mod bytes;
 mod frames;
 mod line;
@@ -9,7 +10,6 @@ mod lines;
 mod message;
 mod notes;
 mod number;
-mod obey;
 mod outcome;
 mod reading;
 mod refusal;
@@ -31,5 +31,7 @@ pub use summary::Summary;
 mod plan_tests;
 #[cfg(test)]
 mod run_tests;
+#[cfg(test)]
+mod stream_tests;
 #[cfg(test)]
 mod tests;

@@ -2,6 +2,7 @@ use crate::{RunFault, Summary, run_script};
 use afdx_config::read_config;
 use std::alloc::{AllocError, Global};
 use std::io::Write;
+use std::sync::Wait;
 use std::test::Fail;
 
 // A link of a configuration.
@@ -85,9 +86,15 @@ fn plan_text(alloc: Global, links: &[Link], ports: &[Port]) -> Result<String, Al
 }
 
 // A script over a configuration, into a text.
-fn run(alloc: Global, plan: &str, script: &str, text: &mut Vec<u8>) -> Result<Summary, Fail> {
+fn run<T: Wait>(
+    rt: &T,
+    alloc: Global,
+    plan: &str,
+    script: &str,
+    text: &mut Vec<u8>,
+) -> Result<Summary, Fail> {
     let config = read_config(alloc, plan.as_bytes()).map_err(|_| Fail::from("a valid plan"))?;
-    match run_script(alloc, config, script.as_bytes(), text) {
+    match run_script(rt, alloc, config, script.as_bytes(), text) {
         Ok(told) => Ok(told),
         Err(RunFault::Memory) => Err(Fail::from("no memory")),
         Err(_) => Err(Fail::from("a script without fault")),
@@ -199,7 +206,7 @@ fn a_message_past_one_frame_goes_out_as_two(rt: HostRuntime) -> Result<(), Fail>
     ];
     let plan = plan_text(alloc, &[DEMO_LINK], &[DEMO_PORT])?;
     let mut text = Vec::new(alloc);
-    let told = run(alloc, &plan, &script, &mut text)?;
+    let told = run(&rt, alloc, &plan, &script, &mut text)?;
     assert_eq!(rt; (told.accepted, told.refused, told.frames), (1, 0, 2));
     assert_eq!(rt; text.as_slice(), expected(alloc, &frames)?.as_bytes());
     Ok(())
@@ -218,7 +225,7 @@ fn a_unicast_message_carries_its_destination_address(rt: HostRuntime) -> Result<
         ..FIRST
     }];
     let mut text = Vec::new(alloc);
-    run(alloc, &plan, "send 10 01\nat 0\n", &mut text)?;
+    run(&rt, alloc, &plan, "send 10 01\nat 0\n", &mut text)?;
     assert_eq!(rt; text.as_slice(), expected(alloc, &frames)?.as_bytes());
     Ok(())
 }
@@ -233,7 +240,7 @@ fn a_link_releases_again_once_its_gap_is_over_and_not_before(rt: HostRuntime) ->
     let plan = plan_text(alloc, &[link], &[DEMO_PORT])?;
     let script = "send 10 01\nsend 10 02\nat 0\nat 1999\nat 2000\n";
     let mut text = Vec::new(alloc);
-    let told = run(alloc, &plan, script, &mut text)?;
+    let told = run(&rt, alloc, &plan, script, &mut text)?;
     assert_eq!(rt; (told.accepted, told.refused, told.frames), (2, 0, 2));
     assert_eq!(rt;
         text.as_slice(),
@@ -257,7 +264,7 @@ fn a_link_that_is_polled_late_does_not_catch_up(rt: HostRuntime) -> Result<(), F
         ..SECOND
     };
     let mut text = Vec::new(alloc);
-    run(alloc, &plan, script, &mut text)?;
+    run(&rt, alloc, &plan, script, &mut text)?;
     let wanted = expected(alloc, &[FIRST, second, THIRD])?;
     assert_eq!(rt; text.as_slice(), wanted.as_bytes());
     Ok(())
@@ -327,7 +334,7 @@ fn two_sub_vls_send_piece_by_piece_in_turn(rt: HostRuntime) -> Result<(), Fail> 
     writeln!(script, "send 20 {message}\nsend 21 01\nsend 21 02")?;
     writeln!(script, "at 0\nat 1000\nat 2000\nat 3000\nat 4000")?;
     let mut text = Vec::new(alloc);
-    run(alloc, &plan, &script, &mut text)?;
+    run(&rt, alloc, &plan, &script, &mut text)?;
     assert_eq!(rt; text.as_slice(), expected(alloc, &IN_TURN)?.as_bytes());
     Ok(())
 }
@@ -432,7 +439,7 @@ fn the_greatest_plan_sends_all_that_its_queues_hold_in_the_order_of_its_links(
     push_polls(&mut wanted, "A", "20")?;
     push_polls(&mut wanted, "B", "40")?;
     let mut text = Vec::new(alloc);
-    let told = run(alloc, &plan, &script, &mut text)?;
+    let told = run(&rt, alloc, &plan, &script, &mut text)?;
     assert_eq!(rt;
         (told.accepted, told.refused, told.frames),
         (65_536, 256, 65_536)

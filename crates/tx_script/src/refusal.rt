@@ -9,6 +9,8 @@ pub enum Refusal {
     Empty,
     /// The message is longer than the port's greatest.
     TooLong,
+    /// The port's queue is closed.
+    Closed,
     /// The port's queue is full.
     Full,
     /// No port has this identifier.
@@ -25,6 +27,7 @@ impl Refusal {
         match self {
             Refusal::Empty => "Empty",
             Refusal::TooLong => "TooLong",
+            Refusal::Closed => "Closed",
             Refusal::Full => "Full",
             Refusal::NoPort => "NoPort",
             Refusal::TimeBack => "TimeBack",

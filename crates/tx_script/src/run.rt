@@ -1,41 +1,42 @@
 //! Running a script.
 ghost use Rattle.std.specs.Prelude.{◌≡◌, IfSome, IfErr, OnOk};
 ghost use Rattle.std.specs.Io.KnownBytes.{Appends};
+ghost use Rattle.tx_script.specs.AtBench.{IsAtHand, GaveFirst};
 ghost use Rattle.tx_script.specs.Run.{Leaves};
 ghost use Rattle.tx_script.specs.Running.{EndsEarly};
 ghost use Rattle.tx_script.specs.Transcript.{streams};
 
+use crate::bench::Bench;
 use crate::bytes::Bytes;
 use crate::frames::write_streams;
-use crate::obey::Bench;
 use crate::run_fault::RunFault;
 use crate::run_lines::run_lines;
 use crate::summary::Summary;
 use afdx_config::Config;
-use afdx_tx::open_tx;
-use redundant_mux::MemNetwork;
 use std::alloc::Global;
 use std::io::{Read, Write};
+use std::sync::Wait;
 
-/// Writes what was handed to the two networks of an emitter.
-fn write_handed<W: Write>(writer: &mut W, emitter: Bench) -> Result<(), RunFault>
+/// Writes what was handed to the two networks of a bench.
+fn write_handed<T: Wait, W: Write>(rt: &T, writer: &mut W, bench: Bench) -> Result<(), RunFault>
     ensures ok { OnOk result (Appends (W.contents writer.old) (W.contents writer.new)
-        (streams emitter.lines.a emitter.lines.b)) }
+        (streams bench.tx.lines.a bench.tx.lines.b)) }
     ensures err { IfErr result (λ fault. fault ≡ RunFault.Write) }
+    ensures hand { IsAtHand bench.tx bench.ports }
+    ensures first { GaveFirst bench.tx bench.ports }
 {
-    let (a, b) = emitter.into_networks();
+    let (a, b) = bench.into_networks(rt);
     write_streams(writer, a.handed(), b.handed())
 }
 
 /// Writes the streams after a fault that lets them be written. The fault of the run.
-fn end_early<W: Write>(writer: &mut W, emitter: Bench, fault: RunFault) -> RunFault
-    ensures { EndsEarly fault (streams emitter.lines.a emitter.lines.b)
-        (W.contents writer.old) (W.contents writer.new) result }
+fn end_early<T: Wait, W: Write>(rt: &T, writer: &mut W, bench: Bench, fault: RunFault) -> RunFault
+    ensures { EndsEarly fault bench (W.contents writer.old) (W.contents writer.new) result }
 {
     match fault {
         RunFault::Write => RunFault::Write,
         RunFault::Memory => RunFault::Memory,
-        _ => match write_handed(writer, emitter) {
+        _ => match write_handed(rt, writer, bench) {
             Ok(()) => fault,
             Err(_) => RunFault::Write,
         },
@@ -49,7 +50,8 @@ fn end_early<W: Write>(writer: &mut W, emitter: Bench, fault: RunFault) -> RunFa
 /// A line's fault, `Lines` and `Read` end the run there: the lines before it were run, and their
 /// notes and frames are written. After `Write`, when the writer failed, and after `Memory` nothing
 /// more is written; what was written before `Memory` begins the transcript of lines that were run.
-pub fn run_script<R: Read + Drop, W: Write>(
+pub fn run_script<T: Wait, R: Read + Drop, W: Write>(
+    rt: &T,
     alloc: Global,
     config: Config,
     reader: R,
@@ -58,17 +60,15 @@ pub fn run_script<R: Read + Drop, W: Write>(
     ensures { IfSome (R.remaining reader) (λ text. Leaves config text
         (W.contents writer.old) (W.contents writer.new) result) }
 {
-    let a = MemNetwork::new(alloc);
-    let b = MemNetwork::new(alloc);
-    let Ok(mut emitter) = open_tx(alloc, config, a, b) else {
+    let Ok(mut bench) = Bench::open(alloc, config) else {
         return Err(RunFault::Memory);
     };
     let mut bytes = Bytes::new(reader);
-    match run_lines(alloc, &mut bytes, &mut emitter, writer) {
+    match run_lines(rt, alloc, &mut bytes, &mut bench, writer) {
         Ok(summary) => {
-            write_handed(writer, emitter)?;
+            write_handed(rt, writer, bench)?;
             Ok(summary)
         }
-        Err(fault) => Err(end_early(writer, emitter, fault)),
+        Err(fault) => Err(end_early(rt, writer, bench, fault)),
     }
 }

@@ -1,19 +1,20 @@
 //! Running the lines of a script.
 ghost use Rattle.std.specs.Prelude.{◌≡◌, IfSome};
-ghost use Rattle.afdx_tx.specs.Emitter.{IsFreshTx};
+ghost use Rattle.tx_script.specs.AtBench.{IsFreshBench};
 ghost use Rattle.tx_script.specs.Running.{Reads, Stops, run_fault_of};
 
+use crate::bench::{Bench, obey};
 use crate::bytes::Bytes;
 use crate::line::Line;
 use crate::line_fault::LineFault;
 use crate::lines::{Next, ReadFault, next_line};
 use crate::notes::write_note;
-use crate::obey::{Bench, obey};
 use crate::reading::read_line;
 use crate::run_fault::RunFault;
 use crate::summary::Summary;
 use std::alloc::Global;
 use std::io::{Read, Write};
+use std::sync::Wait;
 
 /// How many lines a script may have.
 pub const LINES_LIMIT: u64 = 1_000_000;
@@ -50,16 +51,17 @@ fn next_said<R: Read + Drop>(
     }
 }
 
-/// Runs the lines of a reader over a fresh emitter, and writes their notes.
-pub fn run_lines<R: Read + Drop, W: Write>(
+/// Runs the lines of a reader at a fresh bench, and writes their notes.
+pub fn run_lines<T: Wait, R: Read + Drop, W: Write>(
+    rt: &T,
     alloc: Global,
     bytes: &mut Bytes<R>,
-    emitter: &mut Bench,
+    bench: &mut Bench,
     writer: &mut W,
 ) -> Result<Summary, RunFault>
-    requires { IsFreshTx emitter.old.plan emitter.old }
-    ensures { IfSome bytes.old (λ text. Stops emitter.old.plan text
-        (W.contents writer.old) (W.contents writer.new) emitter.new result) }
+    requires { IsFreshBench bench.old.tx.plan bench.old }
+    ensures { IfSome bytes.old (λ text. Stops bench.old.tx.plan text
+        (W.contents writer.old) (W.contents writer.new) bench.new result) }
 {
     let mut text = Vec::new(alloc);
     let mut sums = Summary {
@@ -71,7 +73,7 @@ pub fn run_lines<R: Read + Drop, W: Write>(
         let Some(said) = next_said(alloc, bytes, &mut text, count + 1)? else {
             return Ok(sums);
         };
-        let outcome = obey(emitter, said)?;
+        let outcome = obey(rt, bench, said)?;
         write_note(writer, count + 1, outcome)?;
         sums = sums.count(outcome);
     }

@@ -2,16 +2,18 @@ use crate::{LineFault, RunFault, Summary, run_script};
 use afdx_config::demo_config;
 use std::alloc::{AllocError, Global};
 use std::io::{self, Read, Write};
+use std::sync::Wait;
 use std::test::Fail;
 
 // The script over the demonstration configuration.
-fn run<R: Read + Drop, W: Write>(
+fn run<T: Wait, R: Read + Drop, W: Write>(
+    rt: &T,
     alloc: Global,
     script: R,
     text: &mut W,
 ) -> Result<Summary, RunFault> {
     let config = demo_config(alloc).map_err(|_| RunFault::Memory)?;
-    run_script(alloc, config, script, text)
+    run_script(rt, alloc, config, script, text)
 }
 
 fn sums(accepted: u64, refused: u64, frames: u64) -> Summary {
@@ -88,7 +90,7 @@ fn a_message_goes_out_on_both_networks(rt: HostRuntime) -> Result<(), Fail> {
     let scripts = ["send 10 01\nat 0\n", "# note\r\n\n send\t0010 01\nat 0"];
     for script in scripts {
         let mut text = Vec::new(rt.alloc());
-        let told = run(rt.alloc(), script.as_bytes(), &mut text)?;
+        let told = run(&rt, rt.alloc(), script.as_bytes(), &mut text)?;
         assert_eq!(rt; told, sums(1, 0, 1));
         assert_eq!(rt; text.as_slice(), wanted.as_bytes());
     }
@@ -99,7 +101,7 @@ fn a_message_goes_out_on_both_networks(rt: HostRuntime) -> Result<(), Fail> {
 fn nothing_is_written_where_nothing_was_sent(rt: HostRuntime) -> Result<(), Fail> {
     for script in ["", "at 0\n", "send 10 01\n"] {
         let mut text = Vec::new(rt.alloc());
-        let told = run(rt.alloc(), script.as_bytes(), &mut text)?;
+        let told = run(&rt, rt.alloc(), script.as_bytes(), &mut text)?;
         assert_eq!(rt; (told.refused, told.frames), (0, 0), "at {script}");
         assert_eq!(rt; text.len(), 0, "at {script}");
     }
@@ -120,7 +122,7 @@ fn a_message_of_1_471_bytes_fills_one_frame(rt: HostRuntime) -> Result<(), Fail>
     script.push_str("\nat 0\n")?;
     wanted.push_str("00\nB 0 0300000000010200000001400800450005db")?;
     let mut text = Vec::new(rt.alloc());
-    let told = run(rt.alloc(), script.as_bytes(), &mut text)?;
+    let told = run(&rt, rt.alloc(), script.as_bytes(), &mut text)?;
     assert_eq!(rt; told, sums(1, 0, 1));
     assert_eq!(rt; text.len(), 2 * (4 + 2 * 1_514 + 1));
     assert!(rt; text.as_slice().starts_with(wanted.as_bytes()));
@@ -149,7 +151,7 @@ fn a_full_queue_refuses_a_message_until_a_frame_went_out(rt: HostRuntime) -> Res
     ];
     let wanted = expected(rt.alloc(), "line 3: refused Full\n", &frames)?;
     let mut text = Vec::new(rt.alloc());
-    let told = run(rt.alloc(), script.as_bytes(), &mut text)?;
+    let told = run(&rt, rt.alloc(), script.as_bytes(), &mut text)?;
     assert_eq!(rt; told, sums(3, 1, 3));
     assert_eq!(rt; text.as_slice(), wanted.as_bytes());
     Ok(())
@@ -167,7 +169,7 @@ fn a_refused_message_takes_no_identification(rt: HostRuntime) -> Result<(), Fail
     let frames = [Frame { byte: 7, ..FIRST }];
     let wanted = expected(rt.alloc(), notes, &frames)?;
     let mut text = Vec::new(rt.alloc());
-    let told = run(rt.alloc(), script.as_bytes(), &mut text)?;
+    let told = run(&rt, rt.alloc(), script.as_bytes(), &mut text)?;
     assert_eq!(rt; told, sums(1, 3, 1));
     assert_eq!(rt; text.as_slice(), wanted.as_bytes());
     Ok(())
@@ -182,7 +184,7 @@ fn an_earlier_moment_is_refused_and_an_equal_one_is_not(rt: HostRuntime) -> Resu
     }];
     let wanted = expected(rt.alloc(), "line 5: refused TimeBack\n", &frames)?;
     let mut text = Vec::new(rt.alloc());
-    let told = run(rt.alloc(), script.as_bytes(), &mut text)?;
+    let told = run(&rt, rt.alloc(), script.as_bytes(), &mut text)?;
     assert_eq!(rt; told, sums(2, 1, 1));
     assert_eq!(rt; text.as_slice(), wanted.as_bytes());
     Ok(())
@@ -205,7 +207,7 @@ fn numbers_go_on_with_1_after_255(rt: HostRuntime) -> Result<(), Fail> {
     }
     let wanted = expected(rt.alloc(), "", &frames)?;
     let mut text = Vec::new(rt.alloc());
-    let told = run(rt.alloc(), script.as_bytes(), &mut text)?;
+    let told = run(&rt, rt.alloc(), script.as_bytes(), &mut text)?;
     assert_eq!(rt; told, sums(257, 0, 257));
     assert_eq!(rt; text.as_slice(), wanted.as_bytes());
     Ok(())
@@ -229,7 +231,7 @@ fn a_fault_tells_its_line(rt: HostRuntime) -> Result<(), Fail> {
         script.extend_from_slice(b"send 10 01\n")?;
         script.extend_from_slice(line)?;
         let mut text = Vec::new(rt.alloc());
-        let told = run(rt.alloc(), script.as_slice(), &mut text);
+        let told = run(&rt, rt.alloc(), script.as_slice(), &mut text);
         assert_eq!(rt; told, Err(at_line(2, fault)));
         assert_eq!(rt; text.len(), 0);
     }
@@ -254,11 +256,11 @@ fn notes_and_frames_so_far_are_written_after_a_fault(rt: HostRuntime) -> Result<
     let script = b"\nsend 99 01\nsend 10 01\nat 0\nsend 10 02\nsend\nat 1000\n";
     let wanted = expected(rt.alloc(), "line 2: refused NoPort\n", &[FIRST])?;
     let mut text = Vec::new(rt.alloc());
-    let told = run(rt.alloc(), script.as_slice(), &mut text);
+    let told = run(&rt, rt.alloc(), script.as_slice(), &mut text);
     assert_eq!(rt; told, Err(at_line(6, LineFault::Word)));
     assert_eq!(rt; text.as_slice(), wanted.as_bytes());
     text.clear();
-    let told = run(rt.alloc(), Interrupted(&script[..40]), &mut text);
+    let told = run(&rt, rt.alloc(), Interrupted(&script[..40]), &mut text);
     assert_eq!(rt; told, Err(RunFault::Read));
     assert_eq!(rt; text.as_slice(), wanted.as_bytes());
     Ok(())
@@ -270,7 +272,7 @@ fn a_writer_that_fails_ends_the_run(rt: HostRuntime) -> Result<(), Fail> {
         let mut room = vec![in rt.alloc(); 0u8; size]?;
         let mut text = room.as_mut_slice();
         let script = b"send 99 01\nsend 10 01\nat 0\n";
-        let told = run(rt.alloc(), script.as_slice(), &mut text);
+        let told = run(&rt, rt.alloc(), script.as_slice(), &mut text);
         assert_eq!(rt; told, Err(RunFault::Write), "at {size}");
     }
     Ok(())
@@ -280,11 +282,11 @@ fn a_writer_that_fails_ends_the_run(rt: HostRuntime) -> Result<(), Fail> {
 fn a_script_has_1_000_000_lines_at_most(rt: HostRuntime) -> Result<(), Fail> {
     let script = vec![in rt.alloc(); b'\n'; 1_000_000]?;
     let mut text = Vec::new(rt.alloc());
-    let told = run(rt.alloc(), script.as_slice(), &mut text);
+    let told = run(&rt, rt.alloc(), script.as_slice(), &mut text);
     assert_eq!(rt; told, Ok(sums(0, 0, 0)));
     let mut script = script;
     script.extend_from_slice(b"at x")?;
-    let told = run(rt.alloc(), script.as_slice(), &mut text);
+    let told = run(&rt, rt.alloc(), script.as_slice(), &mut text);
     assert_eq!(rt; told, Err(RunFault::Lines));
     assert_eq!(rt; text.len(), 0);
     Ok(())

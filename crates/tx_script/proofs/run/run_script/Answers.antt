@@ -12,11 +12,15 @@ returns-in_err-write_handed-in-Ok-run_lines g c =
 
 pub returns-in-Ok-run_lines : goal.returns-in-Ok-run_lines
 returns-in-Ok-run_lines g c =
-    leaves_ok c.args.config c.in-Ok.emitter.plan c.new-bytes.result _ _ _ _ c.run_lines.new.emitter
-    c.in-Ok-run_lines.summary c.new-bytes.ensures c.in-Ok.ensures.fresh.plan c.in-Ok-run_lines.ensures
-    (c.in_ok-write_handed-in-Ok-run_lines).ensures.ok
+    leaves_ok c.args.config c.in-Ok.bench.tx.plan c.new-bytes.result _ _ _ _ c.run_lines.new.bench
+    c.in-Ok-run_lines.summary c.new-bytes.ensures c.in-Ok.ensures.fresh.tx.plan c.in-Ok-run_lines.ensures
+    (record {
+      wrote = (c.in_ok-write_handed-in-Ok-run_lines).ensures.ok;
+      hand = (c.in_ok-write_handed-in-Ok-run_lines).ensures.hand;
+      first = (c.in_ok-write_handed-in-Ok-run_lines).ensures.first;
+    })
 
 pub returns : goal.returns
 returns g c =
-    leaves_early c.args.config c.in-Ok.emitter.plan c.new-bytes.result _ _ _ _ c.run_lines.new.emitter
-    c.in-Err.fault _ c.new-bytes.ensures c.in-Ok.ensures.fresh.plan c.in-Err.ensures c.end_early.ensures
+    leaves_early c.args.config c.in-Ok.bench.tx.plan c.new-bytes.result _ _ _ _ c.run_lines.new.bench
+    c.in-Err.fault _ c.new-bytes.ensures c.in-Ok.ensures.fresh.tx.plan c.in-Err.ensures c.end_early.ensures

@@ -1,0 +1,72 @@
+-- An emitter with its ports, as a run of a script has them at hand.
+use Rattle.std.specs.Prelude.{ℕ, ◌≡◌, ◌≤◌, ◌<◌, ◌++◌, List, length, slice_index_or, All}
+use Rattle.afdx_config.specs.Config.{Plan, IsPlan, port_plan_at}
+use Rattle.subvl_queue.specs.Messages.{most_calls, part_of}
+use Rattle.afdx_tx.specs.Seen.{taken_of, ports_of}
+use Rattle.afdx_tx.specs.Links.{held_at, link_at}
+use Rattle.afdx_tx.specs.Emitter.{Tx, IsFreshTx}
+use Rattle.afdx_tx.specs.Gathering.{held_for}
+use Rattle.afdx_tx.specs.Ports.{PortView, AreOpenedWith, AreFreshPorts, index_of}
+use Rattle.tx_script.specs.EndSystem.{EndSystem}
+use Rattle.tx_script.specs.Matching.{MatchesTx}
+use Rattle.tx_script.specs.Play.{Answer, Messages, outcome_of, after, accepted_by}
+use Rattle.tx_script.specs.declared.line.Line.{Line}
+use Rattle.tx_script.specs.declared.outcome.Outcome.{Outcome}
+
+-- an emitter, and its ports in the order of the configuration
+pub record AtBench : Type 0 where
+  pub tx : Tx
+  pub ports : List PortView
+
+-- The ports of an emitter stand in the order of its configuration, which is valid, and may ask as
+-- often as any.
+pub record IsAtHand (tx : Tx) (ports : List PortView) : Type 0 where
+  pub valid : IsPlan tx.plan
+  pub many : length ports ≡ length tx.plan.ports
+  pub opened : AreOpenedWith tx ports
+  pub placed : (place : ℕ) (d : PortView) → place < length ports
+      → (slice_index_or ports place d).place ≡ place
+  pub calls : All (λ (port : PortView). port.sender.calls ≡ most_calls) ports
+
+-- no port asked more often
+abbrev pub HaveAsked : ℕ → List PortView → Type 0
+HaveAsked count ports = All (λ (port : PortView). port.sender.asks ≤ count) ports
+
+-- nothing was sent, handed over or polled yet
+pub record IsFreshBench (config : Plan) (bench : AtBench) : Type 0 where
+  pub tx : IsFreshTx config bench.tx
+  pub ports : AreFreshPorts bench.tx bench.ports
+
+-- the messages of each port that were accepted are its own list
+abbrev pub HaveSent : Messages → List PortView → Type 0
+HaveSent accepted ports = (place : ℕ) (d : PortView) → place < length ports
+    → (slice_index_or ports place d).sender.own ≡ accepted place
+
+-- an emitter and its ports match an end system and the messages that were accepted
+pub record Matches (accepted : Messages) (es : EndSystem) (bench : AtBench) : Type 0 where
+  pub emitter : MatchesTx es bench.tx
+  pub own : HaveSent accepted bench.ports
+
+-- a line was obeyed, at a bench that matches these
+pub record Obeys (line : Line) (accepted : Messages) (es : EndSystem) (bench : AtBench)
+    (outcome : Outcome) : Type 0 where
+  pub answer : Answer
+  pub is : outcome ≡ outcome_of es line answer
+  pub matches : Matches (accepted_by es line answer accepted) (after es line answer) bench
+
+-- the same, whatever the bench matched before
+abbrev pub ObeysFor : Line → (old new : AtBench) → Outcome → Type 0
+ObeysFor line old new outcome = (accepted : Messages) (es : EndSystem)
+    → Matches accepted es old → Obeys line accepted es new outcome
+
+-- Each message that was taken is of a port of its queue, and of each port the first of its own list
+-- were taken.
+pub record GaveFirst (tx : Tx) (ports : List PortView) : Type 0 where
+  pub own : (k s : ℕ) → k < length tx.links → s < length (link_at tx.links k).subs
+      → All (λ (item : ℕ × List ℕ). item.0 < ports_of (held_at (link_at tx.links k).subs s).seen)
+      (taken_of (held_at (link_at tx.links k).subs s).seen)
+  pub first : (place : ℕ) (d : PortView) → place < length tx.plan.ports
+      → (more : List (List ℕ))
+      × ((slice_index_or ports place d).sender.own
+      ≡ part_of (index_of tx.plan.ports place)
+      (taken_of (held_for tx (port_plan_at tx.plan.ports place)).seen) ++ more)

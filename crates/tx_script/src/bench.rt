@@ -1,0 +1,140 @@
+//! An emitter with its ports, and doing what a line says.
+ghost use Rattle.std.specs.Prelude.{◌≡◌, ◌≢◌, ℕ, ◌+◌, IfOk, IfErr};
+ghost use Rattle.afdx_tx.specs.declared.fault.Refusal.TheVariants as Why;
+ghost use Rattle.tx_script.specs.declared.line.Line.TheVariants as Said;
+ghost use Rattle.tx_script.specs.declared.run_fault.RunFault.TheVariants as RunFault;
+ghost use Rattle.tx_script.specs.declared.run_lines.TheConstants.{LINES_LIMIT};
+ghost use Rattle.tx_script.specs.AtBench.{ObeysFor, HaveAsked};
+ghost use Rattle.tx_script.specs.Play.{refusal_of};
+ghost use Rattle.tx_script.specs.Summary.{HasFew};
+
+use crate::line::Line;
+use crate::message::Message;
+use crate::outcome::Outcome;
+use crate::refusal::Refusal;
+use crate::run_fault::RunFault;
+use afdx_config::{Config, PortId};
+use afdx_tx::{Emitter, TxPort, open_tx};
+use redundant_mux::MemNetwork;
+use std::alloc::Global;
+use std::marker::Model;
+use std::sync::Wait;
+
+/// The emitter of a script, over two networks in memory, and its ports in the order of the
+/// configuration.
+#[derive(Drop)]
+pub struct Bench {
+    emitter: Emitter<MemNetwork, MemNetwork>,
+    ports: Vec<TxPort>,
+}
+
+impl Model for Bench {
+    ghost use Rattle.tx_script.specs.AtBench.{AtBench, IsAtHand};
+
+    ghost Value = { AtBench };
+
+    ghost view = { λ b. record { tx = b.emitter; ports = b.ports.items } };
+
+    ghost invariant = { λ b. IsAtHand b.emitter b.ports.items };
+}
+
+impl Bench {
+    ghost use Rattle.std.specs.Prelude.{◌≡◌, IfOk, IfErr};
+    ghost use Rattle.tx_script.specs.declared.run_fault.RunFault.TheVariants as RunFault;
+    ghost use Rattle.tx_script.specs.AtBench.{IsAtHand, IsFreshBench, GaveFirst};
+
+    /// A bench at which nothing was done. The only fault is Memory.
+    pub fn open(alloc: Global, config: Config) -> Result<Bench, RunFault>
+        ensures fresh { IfOk result (λ bench. IsFreshBench config bench) }
+        ensures err { IfErr result (λ fault. fault ≡ RunFault.Memory) }
+    {
+        let a = MemNetwork::new(alloc);
+        let b = MemNetwork::new(alloc);
+        match open_tx(alloc, config, a, b) {
+            Ok((emitter, ports)) => Ok(Bench { emitter, ports }),
+            Err(_) => Err(RunFault::Memory),
+        }
+    }
+
+    /// The two networks, with what was handed to them. All ports are gathered first, which shows
+    /// that what was taken is the first of what they sent.
+    pub fn into_networks<R: Wait>(self, rt: &R) -> (MemNetwork, MemNetwork)
+        ensures a { result.0.handed ≡ self.tx.lines.a }
+        ensures b { result.1.handed ≡ self.tx.lines.b }
+        ensures hand { IsAtHand self.tx self.ports }
+        ensures first { GaveFirst self.tx self.ports }
+    {
+        let Bench { emitter, ports } = self;
+        match emitter.gather(rt, ports) {
+            Ok(draining) => draining.into_networks(),
+            Err(_) => unreachable!(),
+        }
+    }
+}
+
+/// What a port's refusal is called.
+fn refused_for(why: afdx_tx::Refusal) -> Refusal
+    requires { why ≢ Why.Exhausted }
+    ensures { result ≡ refusal_of why }
+{
+    match why {
+        afdx_tx::Refusal::Empty => Refusal::Empty,
+        afdx_tx::Refusal::TooLong => Refusal::TooLong,
+        afdx_tx::Refusal::Closed => Refusal::Closed,
+        afdx_tx::Refusal::Exhausted => unreachable!(),
+        afdx_tx::Refusal::Full => Refusal::Full,
+    }
+}
+
+/// A message of a port, by its identifier.
+fn obey_send<R: Wait>(rt: &R, bench: &mut Bench, port: u16, bytes: Message) -> Outcome
+    requires { HaveAsked LINES_LIMIT bench.old.ports }
+    ensures ok { ObeysFor (Said.Send port bytes) bench.old bench.new result }
+    ensures few { HasFew result }
+    ensures asked { (count : ℕ) → HaveAsked count bench.old.ports → HaveAsked (count + 1) bench.new.ports }
+{
+    let Some(place) = bench.emitter.config().port_index(PortId(port)) else {
+        return Outcome::Refused(Refusal::NoPort);
+    };
+    match bench.ports[place].send(rt, bytes.into_vec()) {
+        Ok(()) => Outcome::Accepted,
+        Err(fault) => Outcome::Refused(refused_for(fault.why)),
+    }
+}
+
+/// A poll at a moment. A network in memory fails only for memory.
+fn obey_at<R: Wait>(rt: &R, bench: &mut Bench, moment: u64) -> Result<Outcome, RunFault>
+    ensures ok { IfOk result (λ outcome. ObeysFor (Said.At moment) bench.old bench.new outcome) }
+    ensures few { IfOk result (λ outcome. HasFew outcome) }
+    ensures err { IfErr result (λ fault. fault ≡ RunFault.Memory) }
+    ensures ports { bench.new.ports ≡ bench.old.ports }
+{
+    if moment < bench.emitter.now() {
+        return Ok(Outcome::Refused(Refusal::TimeBack));
+    }
+    match bench.emitter.poll(rt, moment) {
+        Ok(report) => {
+            if report.standing.a && report.standing.b {
+                Ok(Outcome::Released(report.released.len() as u64))
+            } else {
+                Err(RunFault::Memory)
+            }
+        }
+        Err(_) => Err(RunFault::Memory),
+    }
+}
+
+/// Does what a line says. The only fault is Memory, and then nothing is said of the emitter.
+pub fn obey<R: Wait>(rt: &R, bench: &mut Bench, line: Line) -> Result<Outcome, RunFault>
+    requires { HaveAsked LINES_LIMIT bench.old.ports }
+    ensures ok { IfOk result (λ outcome. ObeysFor line bench.old bench.new outcome) }
+    ensures few { IfOk result (λ outcome. HasFew outcome) }
+    ensures err { IfErr result (λ fault. fault ≡ RunFault.Memory) }
+    ensures asked { (count : ℕ) → HaveAsked count bench.old.ports → HaveAsked (count + 1) bench.new.ports }
+{
+    match line {
+        Line::Send { port, bytes } => Ok(obey_send(rt, bench, port, bytes)),
+        Line::At(moment) => obey_at(rt, bench, moment),
+        Line::Nothing => Ok(Outcome::Quiet),
+    }
+}
