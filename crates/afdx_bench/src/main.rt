@@ -37,12 +37,12 @@ fn obey<W: Write>(rt: &HostRuntime, words: Words, writer: &mut W) -> Result<End,
     match words {
         Words::Script => {
             let config = demo_config(alloc).map_err(Failure::Config)?;
-            let ran = run_script(alloc, config, rt.stdin(), writer);
+            let ran = run_script(rt, alloc, config, rt.stdin(), writer);
             ran.map(End::Ran).map_err(Failure::Run)
         }
         Words::Run { config, script } => {
             let config = read_plan(alloc, open(rt, config.as_str())?)?;
-            let ran = run_script(alloc, config, open(rt, script.as_str())?, writer);
+            let ran = run_script(rt, alloc, config, open(rt, script.as_str())?, writer);
             ran.map(End::Ran).map_err(Failure::Run)
         }
         Words::Check { config } => {
