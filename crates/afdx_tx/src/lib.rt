@@ -27,3 +27,6 @@ pub use report::{Release, Report};
 
 #[cfg(test)]
 mod tests;
+
+#[cfg(test)]
+mod port_tests;
