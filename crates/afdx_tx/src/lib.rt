@@ -31,3 +31,6 @@ mod draining_tests;
 mod network_tests;
 #[cfg(test)]
 mod tests;
+
+#[cfg(test)]
+mod port_tests;
