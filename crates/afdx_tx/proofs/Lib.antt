@@ -13,3 +13,14 @@ pub mod LegalLists
 pub mod SoundEmitter
 pub mod FreshEmitter
 pub mod PortLink
+pub mod OwedFragments
+pub mod DrainTurns
+pub mod DrainKeeps
+pub mod NothingLeft
+pub mod RoomSteps
+pub mod FreshRooms
+pub mod OwnPorts
+pub mod SeatSteps
+pub mod FromLast
+pub mod GatheredEmitter
+pub mod GatheredPorts

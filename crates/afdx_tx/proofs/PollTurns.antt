@@ -25,6 +25,7 @@ turn_shown : (now : ℕ) (did : Served) (link new : LinkState) (lines after : Li
     → Turned now link new lines after did → IsKept link (log lines) → IsTurn now link new lines after did
 turn_shown now did link new lines after t k = record {
   same = t.same;
+  tied = k.tied t.whole;
   serves = subst (λ (p : Pace). Serves now p link.subs new.subs lines after did) (k.paced t.whole) t.serves;
 }
 

@@ -5,11 +5,14 @@ use Rattle.afdx_tx.specs.declared.served.Served.{Served}
 use Rattle.afdx_tx.specs.declared.served.Served.TheVariants.{Lost}
 use Rattle.afdx_tx.specs.Streams.{link_stream}
 use Rattle.afdx_tx.specs.Links.{LinkState, link_at, pace_of, Serves, IsSameLink, is_lost}
+use Rattle.afdx_tx.specs.Emitter.{IsLinkTied}
 
--- One turn of a link, whose regulation is read off its stream in the longer handed list.
+-- One turn of a link, whose regulation is read off its stream in the longer handed list, and whose
+-- sub-VLs are tied to their streams before it.
 pub record IsTurn (now : ℕ) (link new : LinkState)
     (lines after : Lines) (did : Served) : Type 0 where
   pub same : IsSameLink link new
+  pub tied : IsLinkTied link (log lines)
   pub serves : Serves now
       (pace_of link.pace.gap link.pace.sub_vls (link_stream link.plan.id.0 (log lines)))
       link.subs new.subs lines after did

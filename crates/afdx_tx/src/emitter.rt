@@ -1,7 +1,11 @@
 //! The emitter, while ports send.
+use crate::draining::Draining;
 use crate::fault::PollFault;
+use crate::gather::{has_every_place, seat_all};
 use crate::link::Link;
+use crate::port::TxPort;
 use crate::report::Report;
+use crate::room::LinkRooms;
 use crate::transmitter::Transmitter;
 use afdx_config::Config;
 use redundant_mux::Network;
@@ -13,39 +17,54 @@ use std::sync::Wait;
 #[derive(Drop)]
 pub struct Emitter<A: Network + Drop, B: Network + Drop> {
     inner: Transmitter<A, B>,
+    // Where the ports' senders go when they come back.
+    rooms: Vec<LinkRooms>,
 }
 
 impl<A: Network + Drop, B: Network + Drop> Model for Emitter<A, B> {
     ghost use Rattle.afdx_tx.specs.Emitter.{Tx, AreReceiving};
+    ghost use Rattle.afdx_tx.specs.Rooms.{AreReserved};
 
     ghost Value = { Tx };
 
     ghost view = { λ e. e.inner };
 
-    ghost invariant = { λ e. AreReceiving e.inner.links };
+    ghost invariant = { λ e. AreReceiving e.inner.links × AreReserved e.inner.plan e.rooms.items };
 }
 
 impl<A: Network + Drop, B: Network + Drop> Emitter<A, B> {
-    ghost use Rattle.std.specs.Prelude.{◌≡◌, ◌≤◌, ◌↔◌, [], true, false, length, IsErr, OnErr, OnOk, IfOk};
+    ghost use Rattle.std.specs.Prelude.{◌≡◌, ◌≤◌, ◌↔◌, [], true, false, length, IsErr, OnErr, OnOk, IfOk, IfErr};
     ghost use Rattle.afdx_config.specs.Config.{IsPlan};
     ghost use Rattle.redundant_mux.specs.Lines.{is_alive, log, IsMirrored};
     ghost use Rattle.afdx_tx.specs.Legal.{IsLegal};
     ghost use Rattle.afdx_tx.specs.Run.{IsRun, IsCutShort};
     ghost use Rattle.afdx_tx.specs.Report.{IsTold};
     ghost use Rattle.afdx_tx.specs.Emitter.{Tx, IsFreshTx, AreFreshLinks, AreTied, taken_in, queues_in};
+    ghost use Rattle.afdx_tx.specs.Ports.{AreOpenedWith, LacksPlace};
+    ghost use Rattle.afdx_tx.specs.Rooms.{AreReserved};
+    ghost use Rattle.afdx_tx.specs.Gathering.{IsGatheredTx};
 
     /// Over fresh links of a configuration, and networks that were handed nothing.
-    pub(crate) fn over(config: Config, links: Vec<Link>, a: A, b: B) -> Emitter<A, B>
+    pub(crate) fn over(
+        config: Config,
+        links: Vec<Link>,
+        rooms: Vec<LinkRooms>,
+        a: A,
+        b: B,
+    ) -> Emitter<A, B>
         requires valid { IsPlan config }
         requires fresh { AreFreshLinks config links.items (length config.links) }
+        requires rooms { AreReserved config rooms.items }
         requires a_empty { A.handed a ≡ [] }
         requires b_empty { B.handed b ≡ [] }
         requires a_new { A.failures a ≡ 0 }
         requires b_new { B.failures b ≡ 0 }
-        ensures { IsFreshTx config result }
+        ensures fresh { IsFreshTx config result }
+        ensures links { result.links ≡ links.items }
     {
         Emitter {
             inner: Transmitter::over(config, links, a, b),
+            rooms,
         }
     }
 
@@ -71,7 +90,7 @@ impl<A: Network + Drop, B: Network + Drop> Emitter<A, B> {
         ensures b_failures { B.failures result.1 ≡ self.lines.b_failures }
         ensures legal { IsLegal self.plan (taken_in self.links) self.lines.a self.lines.b }
     {
-        let Emitter { inner } = self;
+        let Emitter { inner, rooms: _ } = self;
         inner.into_networks()
     }
 
@@ -101,5 +120,34 @@ impl<A: Network + Drop, B: Network + Drop> Emitter<A, B> {
             IsCutShort now self.old.links self.new.links self.old.lines self.new.lines) }
     {
         self.inner.poll(rt, now)
+    }
+
+    /// Takes all ports back, in any order, so that what they had accepted is known whole and can be
+    /// sent to its end. Refused exactly where a port of the configuration isn't in the list; then
+    /// both come back as they were. It may wait for a port's last message to be ready. Takes no
+    /// memory.
+    pub fn gather<R: Wait>(
+        self,
+        rt: &R,
+        ports: Vec<TxPort>,
+    ) -> Result<Draining<A, B>, (Emitter<A, B>, Vec<TxPort>)>
+        requires opened { AreOpenedWith self ports.items }
+        ensures gathered { IfOk result (λ draining. IsGatheredTx self ports.items draining) }
+        ensures legal { IfOk result (λ draining. IsLegal draining.plan
+            (taken_in draining.links) draining.lines.a draining.lines.b) }
+        ensures emitter_back { IfErr result (λ back. back.0 ≡ self) }
+        ensures ports_back { IfErr result (λ back. back.1 ≡ ports) }
+        ensures missing { IfErr result (λ _. LacksPlace (length self.plan.ports) ports.items) }
+    {
+        if !has_every_place(ports.as_slice(), self.config().ports().len()) {
+            return Err((self, ports));
+        }
+        let Emitter {
+            mut inner,
+            mut rooms,
+        } = self;
+        seat_all(&inner, &mut rooms, ports);
+        inner.gather(rt, rooms);
+        Ok(Draining::over(inner))
     }
 }

@@ -3,19 +3,28 @@ use afdx_config::Config;
 use redundant_mux::Network;
 use thiserror::Error;
 
-/// Why a port did not take a message, the first that holds: the message has no bytes, it is over
-/// the port's greatest message, or the queue of the port's sub-VL holds as many messages as it may.
+/// Why a port did not take a message. The length of the message is asked first, and then the queue
+/// of the port's sub-VL.
 #[derive(Clone, Copy, Debug, PartialEq, Eq, Error)]
 pub enum Refusal {
+    /// The message has no bytes. The port is as it was.
     #[error("Empty")]
     Empty = 1,
+    /// The message is over the port's greatest message. The port is as it was.
     #[error("TooLong")]
     TooLong = 2,
+    /// The emitter is gone. The port has asked once more.
+    #[error("Closed")]
+    Closed = 3,
+    /// The port has asked as often as it may. It is as it was.
+    #[error("Exhausted")]
+    Exhausted = 4,
+    /// The queue held as many messages as its capacity. The port has asked once more.
     #[error("Full")]
     Full = 5,
 }
 
-/// A message that was refused, and why. The emitter is as it was before the call.
+/// A message that was refused, and why. The accepted messages are as they were.
 #[derive(Debug, Drop)]
 pub struct SendFault {
     pub why: Refusal,

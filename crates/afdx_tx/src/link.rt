@@ -5,7 +5,10 @@ ghost use Rattle.vl_shaper.specs.Pace.{IsLater, is_due};
 ghost use Rattle.redundant_mux.specs.Lines.{is_alive, log, IsMirrored};
 ghost use Rattle.afdx_tx.specs.Streams.{link_stream};
 ghost use Rattle.afdx_tx.specs.Links.{pace_of, AreSubsOf, IsSameSub, AreSameSubs, Serves, Follows, Releases, Loses, is_lost, IsChoice, PassedOver};
+ghost use Rattle.afdx_tx.specs.Done.{TellsSubsDone};
+ghost use Rattle.afdx_tx.specs.Gathering.{AreFullSubs, GathersSubs};
 
+use crate::room::{LinkRooms, Room};
 use crate::served::Served;
 use crate::sub::Sub;
 use afdx_config::{LinkPlan, VlId};
@@ -119,6 +122,30 @@ fn serve<R: Wait, A: Network + Drop, B: Network + Drop>(
     }
 }
 
+/// Whether no sub-VL has anything left.
+fn subs_done(subs: &[Sub]) -> bool
+    ensures { TellsSubsDone result subs.now }
+{
+    for sub in subs {
+        if !sub.is_done() {
+            return false;
+        }
+    }
+    true
+}
+
+/// Gathers the queue of each sub-VL with the senders in its room, which are all that it has.
+// From the last, since taking from the end of a list needs no memory.
+fn gather_subs<R: Wait>(rt: &R, subs: &mut [Sub], mut rooms: Vec<Room>)
+    requires full { AreFullSubs subs.old rooms.items }
+    ensures { GathersSubs subs.old rooms.items subs.new }
+{
+    while let Some(room) = rooms.pop() {
+        let sub = &mut subs[rooms.len()];
+        sub.gather(rt, room.into_senders());
+    }
+}
+
 /// A virtual link: its sub-VLs and its regulation. Contracts see its plan, its regulation, its
 /// sub-VLs, and whether a frame of it was lost with the last network.
 #[derive(Drop)]
@@ -154,6 +181,8 @@ impl Link {
     ghost use Rattle.redundant_mux.specs.Lines.{is_alive, log, IsMirrored};
     ghost use Rattle.afdx_tx.specs.Streams.{link_stream};
     ghost use Rattle.afdx_tx.specs.Links.{LinkState, AreNamed, Serves, Follows, IsSameLink, is_lost, pace_of};
+    ghost use Rattle.afdx_tx.specs.Done.{TellsLinkDone};
+    ghost use Rattle.afdx_tx.specs.Gathering.{AreFullSubs, GathersLink};
 
     /// A link of these sub-VLs, those of its plan. Nothing was released yet.
     pub fn new(end_system: u16, plan: LinkPlan, subs: Vec<Sub>) -> Link
@@ -189,6 +218,16 @@ impl Link {
         self.plan.id
     }
 
+    /// Whether it has lost no frame, and no sub-VL has anything left.
+    pub fn is_done(&self) -> bool
+        ensures { TellsLinkDone result self.now }
+    {
+        if self.lost {
+            return false;
+        }
+        subs_done(&self.subs)
+    }
+
     /// One turn of the link at a moment, in microseconds. The frame is made in a kept buffer.
     pub fn serve<R: Wait, A: Network + Drop, B: Network + Drop>(
         &mut self,
@@ -221,5 +260,13 @@ impl Link {
         );
         self.lost = did.is_lost();
         did
+    }
+
+    /// Gathers the queue of each sub-VL with the senders in its room, which are all that it has.
+    pub fn gather<R: Wait>(&mut self, rt: &R, rooms: LinkRooms)
+        requires full { AreFullSubs self.old.subs rooms }
+        ensures { GathersLink self.old rooms self.new }
+    {
+        gather_subs(rt, &mut self.subs, rooms.into_rooms());
     }
 }

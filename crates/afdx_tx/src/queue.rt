@@ -4,8 +4,9 @@ ghost use Rattle.subvl_queue.specs.Messages.{IsItem};
 ghost use Rattle.afdx_tx.specs.Seen.{receiving, gathered, ports_of, FindsNothing, Finds, TellsDrained};
 
 use std::marker::Model;
+use std::mem::replace;
 use std::sync::Wait;
-use subvl_queue::{Gathered, Item, Receiver};
+use subvl_queue::{Gathered, Item, Receiver, Sender};
 
 /// The ends of a queue that are at hand.
 #[derive(Drop)]
@@ -36,6 +37,7 @@ impl Queue {
     ghost use Rattle.std.specs.Prelude.{◌≡◌, IfSome, IfNone};
     ghost use Rattle.subvl_queue.specs.Messages.{IsItem};
     ghost use Rattle.afdx_tx.specs.Seen.{receiving, gathered, nothing_seen, ports_of, FindsNothing, Finds, TellsDrained};
+    ghost use Rattle.afdx_tx.specs.Gathering.{IsFull, Gathers};
 
     /// The queue of a receiver, whose ports may send.
     pub fn new(receiver: Receiver) -> Queue
@@ -68,6 +70,21 @@ impl Queue {
             End::Receiving(_) => false,
             End::Gathered(all) => all.is_drained(),
             End::Empty => true,
+        }
+    }
+
+    /// Gathers the ends of the queue, with these senders, which are all that it has. It may wait for
+    /// a port's last message to be ready.
+    pub fn gather<R: Wait>(&mut self, rt: &R, senders: Vec<Sender>)
+        requires full { IsFull self.old senders.items }
+        ensures { Gathers self.old senders.items self.new }
+    {
+        match replace(&mut self.end, End::Empty) {
+            End::Receiving(receiver) => match receiver.gather(rt, senders) {
+                Ok(all) => self.end = End::Gathered(all),
+                Err(_) => unreachable!(),
+            },
+            _ => unreachable!(),
         }
     }
 }

@@ -12,7 +12,7 @@ use afdx_config::PortPlan;
 use afdx_frame::{Cut, Frame, Net};
 use std::marker::Model;
 use std::sync::Wait;
-use subvl_queue::{Item, Receiver};
+use subvl_queue::{Item, Receiver, Sender};
 
 /// A sub-VL. Contracts see its ports, the fragments left of the message that is being sent, and its
 /// queue.
@@ -46,7 +46,9 @@ impl Model for Sub {
 impl Sub {
     ghost use Rattle.afdx_tx.specs.Seen.{receiving};
     ghost use Rattle.afdx_tx.specs.Links.{Held, Asks};
+    ghost use Rattle.afdx_tx.specs.Done.{TellsSubDone};
     ghost use Rattle.afdx_tx.specs.Subs.{IsPortOf};
+    ghost use Rattle.afdx_tx.specs.Gathering.{IsFullSub, GathersSub};
 
     /// A sub-VL of these ports, over a queue with a sender for each. Nothing was taken yet.
     pub fn new(of: SubVl, ports: Vec<PortPlan>, receiver: Receiver) -> Sub
@@ -97,6 +99,16 @@ impl Sub {
         }
     }
 
+    /// Whether no message is being sent, and it is known that none is left in the queue.
+    pub fn is_done(&self) -> bool
+        ensures { TellsSubDone result self.now }
+    {
+        if is_cutting(&self.of, &self.sending) {
+            return false;
+        }
+        self.queue.is_drained()
+    }
+
     /// Writes the next frame, for network A and with this sequence number, into a kept buffer.
     pub fn write_next(&mut self, number: u8, out: &mut Frame)
         requires { self.old.left ≢ [] }
@@ -113,6 +125,14 @@ impl Sub {
                 }
             }
         }
+    }
+
+    /// Gathers its queue with these senders, which are all that it has.
+    pub fn gather<R: Wait>(&mut self, rt: &R, senders: Vec<Sender>)
+        requires full { IsFullSub self.old senders.items }
+        ensures { GathersSub self.old senders.items self.new }
+    {
+        self.queue.gather(rt, senders);
     }
 }
 

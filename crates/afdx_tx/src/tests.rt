@@ -1,11 +1,12 @@
 ghost use Rattle.std.specs.Prelude.{◌≡◌, ◌≤◌, [], IfOk};
 ghost use Rattle.afdx_config.specs.Demo.{demo_plan};
 
-use crate::{Emitter, PollFault, Refusal, Release, Report, open_tx};
+use crate::{Emitter, PollFault, Release, Report, TxPort, open_tx};
 use afdx_config::{VlId, demo_config};
 use redundant_mux::{MemNetwork, Standing};
 use std::alloc::Global;
 use std::process::Abort;
+use std::sync::Wait;
 use std::test::Fail;
 
 // The first message of port 10, of the one byte 01, for network A and for network B.
@@ -29,43 +30,46 @@ const ONLY_B: Standing = Standing { a: false, b: true };
 
 const NEITHER: Standing = Standing { a: false, b: false };
 
-/// The demonstration configuration over two networks.
+/// The demonstration configuration over two networks, and its one port.
 fn open_demo(
     alloc: Global,
     a: MemNetwork,
     b: MemNetwork,
-) -> Result<Emitter<MemNetwork, MemNetwork>, Fail>
+) -> Result<(Emitter<MemNetwork, MemNetwork>, TxPort), Fail>
     requires a_empty { a.handed ≡ [] }
     requires b_empty { b.handed ≡ [] }
     requires a_new { a.failures ≡ 0 }
     requires b_new { b.failures ≡ 0 }
-    ensures plan { IfOk result (λ tx. tx.plan ≡ demo_plan) }
-    ensures moment { IfOk result (λ tx. tx.moment ≡ 0) }
+    ensures plan { IfOk result (λ opened. opened.0.plan ≡ demo_plan) }
+    ensures moment { IfOk result (λ opened. opened.0.moment ≡ 0) }
 {
     let config = demo_config(alloc)?;
     match open_tx(alloc, config, a, b) {
-        Ok(tx) => Ok(tx),
+        Ok((tx, mut ports)) => match ports.pop() {
+            Some(port) => Ok((tx, port)),
+            None => Err(Fail::from("no port")),
+        },
         Err(_) => Err(Fail::from("no memory")),
     }
 }
 
 /// Sends a message, which is taken.
-fn send_taken(rt: &impl Abort, tx: &mut Emitter<MemNetwork, MemNetwork>, bytes: Vec<u8>)
-    requires plan { tx.old.plan ≡ demo_plan }
-    ensures plan { tx.new.plan ≡ demo_plan }
-    ensures moment { tx.new.moment ≡ tx.old.moment }
-{
-    tx.send(0, bytes).expect(rt, "taken");
+fn send_taken<R: Abort + Wait>(rt: &R, port: &mut TxPort, bytes: Vec<u8>) {
+    port.send(rt, bytes).expect(rt, "taken");
 }
 
 /// Polls while some network stands.
-fn poll_alive(rt: &impl Abort, tx: &mut Emitter<MemNetwork, MemNetwork>, now: u64) -> Report
+fn poll_alive<R: Abort + Wait>(
+    rt: &R,
+    tx: &mut Emitter<MemNetwork, MemNetwork>,
+    now: u64,
+) -> Report
     requires plan { tx.old.plan ≡ demo_plan }
     requires later { tx.old.moment ≤ now }
     ensures plan { tx.new.plan ≡ demo_plan }
     ensures moment { tx.new.moment ≡ now }
 {
-    tx.poll(now).expect(rt, "some network stands")
+    tx.poll(rt, now).expect(rt, "some network stands")
 }
 
 /// The release of the one sub-VL with this number.
@@ -82,8 +86,8 @@ fn a_message_of_one_byte_goes_out_as_one_frame_on_each_network(
     rt: HostRuntime,
 ) -> Result<(), Fail> {
     let alloc = rt.alloc();
-    let mut tx = open_demo(alloc, MemNetwork::new(alloc), MemNetwork::new(alloc))?;
-    send_taken(&rt, &mut tx, vec![in alloc; 1]?);
+    let (mut tx, mut port) = open_demo(alloc, MemNetwork::new(alloc), MemNetwork::new(alloc))?;
+    send_taken(&rt, &mut port, vec![in alloc; 1]?);
     let report = poll_alive(&rt, &mut tx, 0);
     assert_eq!(rt; report.released.as_slice(), [numbered(0)].as_slice());
     assert_eq!(rt; report.standing, BOTH);
@@ -98,31 +102,11 @@ fn a_message_of_one_byte_goes_out_as_one_frame_on_each_network(
 }
 
 #[test]
-fn a_message_that_is_refused_comes_back(rt: HostRuntime) -> Result<(), Fail> {
-    let alloc = rt.alloc();
-    let mut tx = open_demo(alloc, MemNetwork::new(alloc), MemNetwork::new(alloc))?;
-    send_taken(&rt, &mut tx, vec![in alloc; 1]?);
-    send_taken(&rt, &mut tx, vec![in alloc; 2]?);
-    for (bytes, why) in [
-        (vec![in alloc; 3]?, Refusal::Full),
-        (Vec::new(alloc), Refusal::Empty),
-        (vec![in alloc; 7; 8193]?, Refusal::TooLong),
-    ] {
-        let sent = bytes.clone()?;
-        assert_eq!(rt; tx.config().ports().len(), 1);
-        let fault = tx.send(0, bytes).expect_err(&rt, "refused");
-        assert_eq!(rt; fault.why, why);
-        assert_eq!(rt; fault.bytes, sent);
-    }
-    Ok(())
-}
-
-#[test]
 fn a_link_releases_nothing_before_its_gap_is_over(rt: HostRuntime) -> Result<(), Fail> {
     let alloc = rt.alloc();
-    let mut tx = open_demo(alloc, MemNetwork::new(alloc), MemNetwork::new(alloc))?;
-    send_taken(&rt, &mut tx, vec![in alloc; 1]?);
-    send_taken(&rt, &mut tx, vec![in alloc; 2]?);
+    let (mut tx, mut port) = open_demo(alloc, MemNetwork::new(alloc), MemNetwork::new(alloc))?;
+    send_taken(&rt, &mut port, vec![in alloc; 1]?);
+    send_taken(&rt, &mut port, vec![in alloc; 2]?);
     let first = poll_alive(&rt, &mut tx, 0);
     let early = poll_alive(&rt, &mut tx, 999);
     let second = poll_alive(&rt, &mut tx, 1_000);
@@ -148,20 +132,20 @@ fn a_network_that_fails_is_given_up_and_after_both_a_poll_does_nothing(
     let alloc = rt.alloc();
     let a = MemNetwork::failing_at(alloc, 3);
     let b = MemNetwork::failing_at(alloc, 6);
-    let mut tx = open_demo(alloc, a, b)?;
-    send_taken(&rt, &mut tx, vec![in alloc; 1]?);
-    send_taken(&rt, &mut tx, vec![in alloc; 2]?);
+    let (mut tx, mut port) = open_demo(alloc, a, b)?;
+    send_taken(&rt, &mut port, vec![in alloc; 1]?);
+    send_taken(&rt, &mut port, vec![in alloc; 2]?);
     let at_0 = poll_alive(&rt, &mut tx, 0);
-    send_taken(&rt, &mut tx, vec![in alloc; 3]?);
+    send_taken(&rt, &mut port, vec![in alloc; 3]?);
     let at_1000 = poll_alive(&rt, &mut tx, 1_000);
-    send_taken(&rt, &mut tx, vec![in alloc; 4]?);
+    send_taken(&rt, &mut port, vec![in alloc; 4]?);
     let at_2000 = poll_alive(&rt, &mut tx, 2_000);
-    send_taken(&rt, &mut tx, vec![in alloc; 5]?);
+    send_taken(&rt, &mut port, vec![in alloc; 5]?);
     let at_3000 = poll_alive(&rt, &mut tx, 3_000);
-    send_taken(&rt, &mut tx, vec![in alloc; 6]?);
+    send_taken(&rt, &mut port, vec![in alloc; 6]?);
     let at_4000 = poll_alive(&rt, &mut tx, 4_000);
     let at_5000 = poll_alive(&rt, &mut tx, 5_000);
-    let at_6000 = tx.poll(6_000);
+    let at_6000 = tx.poll(&rt, 6_000);
     assert_eq!(rt; at_6000.err(), Some(PollFault::BothDown));
     assert_eq!(rt; tx.now(), 5_000);
 

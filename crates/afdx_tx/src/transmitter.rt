@@ -8,10 +8,13 @@ ghost use Rattle.afdx_tx.specs.Run.{IsRun, IsCutShort};
 ghost use Rattle.afdx_tx.specs.Report.{IsTold, released_by};
 ghost use Rattle.afdx_tx.specs.Emitter.{plans, AreApart, AreLinks, AreKept, AreWhole, AreServedBy};
 ghost use Rattle.afdx_tx.specs.Serving.{IsSteady};
+ghost use Rattle.afdx_tx.specs.Done.{TellsAllDone};
+ghost use Rattle.afdx_tx.specs.Gathering.{AreFull, GathersLinks};
 
 use crate::fault::PollFault;
 use crate::link::{Link, some_stands};
 use crate::report::{Release, Report};
+use crate::room::LinkRooms;
 use crate::served::Served;
 use afdx_config::{Config, VlId};
 use afdx_frame::Frame;
@@ -66,6 +69,30 @@ fn serve_all<R: Wait, A: Network + Drop, B: Network + Drop>(
     }
 }
 
+/// Whether no link has anything left, and none has lost a frame.
+fn all_done(links: &[Link]) -> bool
+    ensures { TellsAllDone result links.now }
+{
+    for link in links {
+        if !link.is_done() {
+            return false;
+        }
+    }
+    true
+}
+
+/// Gathers the queue of each sub-VL with the senders in its room, which are all that it has.
+// From the last, since taking from the end of a list needs no memory.
+fn gather_all<R: Wait>(rt: &R, links: &mut [Link], mut rooms: Vec<LinkRooms>)
+    requires full { AreFull links.old rooms.items }
+    ensures { GathersLinks links.old rooms.items links.new }
+{
+    while let Some(own) = rooms.pop() {
+        let link = &mut links[rooms.len()];
+        link.gather(rt, own);
+    }
+}
+
 /// Sends what is taken from the queues of its sub-VLs, on two networks. Contracts see its plan, its
 /// links, what was handed to the networks, and the moment of the last poll.
 #[derive(Drop)]
@@ -94,13 +121,17 @@ impl<A: Network + Drop, B: Network + Drop> Model for Transmitter<A, B> {
 }
 
 impl<A: Network + Drop, B: Network + Drop> Transmitter<A, B> {
-    ghost use Rattle.std.specs.Prelude.{◌≡◌, ◌≤◌, ◌↔◌, [], true, false, length, IsErr, OnErr, OnOk, IfOk};
+    ghost use Rattle.std.specs.Prelude.{◌≡◌, ◌≤◌, ◌↔◌, [], true, false, length, IsTrue, IsErr, OnErr, OnOk, IfOk};
     ghost use Rattle.afdx_config.specs.Config.{IsPlan};
     ghost use Rattle.redundant_mux.specs.Lines.{is_alive, log, IsMirrored};
     ghost use Rattle.afdx_tx.specs.Legal.{IsLegal};
     ghost use Rattle.afdx_tx.specs.Run.{IsRun, IsCutShort};
     ghost use Rattle.afdx_tx.specs.Report.{IsTold};
-    ghost use Rattle.afdx_tx.specs.Emitter.{Tx, IsFreshTx, AreFreshLinks, AreTied, IsSamePlan, taken_in};
+    ghost use Rattle.afdx_tx.specs.Emitter.{Tx, IsFreshTx, AreFreshLinks, AreLinksOf, AreTied, IsSamePlan, taken_in};
+    ghost use Rattle.afdx_tx.specs.Drain.{AreGathered, IsAllDone, accepted_in};
+    ghost use Rattle.afdx_tx.specs.Emitter.{AreReceiving, queues_in};
+    ghost use Rattle.afdx_tx.specs.Rooms.{AreRooms, senders_for};
+    ghost use Rattle.afdx_tx.specs.Gathering.{GathersLinks, HasShape};
 
     /// Over fresh links of a configuration, and networks that were handed nothing.
     pub fn over(config: Config, links: Vec<Link>, a: A, b: B) -> Transmitter<A, B>
@@ -110,7 +141,8 @@ impl<A: Network + Drop, B: Network + Drop> Transmitter<A, B> {
         requires b_empty { B.handed b ≡ [] }
         requires a_new { A.failures a ≡ 0 }
         requires b_new { B.failures b ≡ 0 }
-        ensures { IsFreshTx config result }
+        ensures fresh { IsFreshTx config result }
+        ensures links { result.links ≡ links.items }
     {
         Transmitter {
             config,
@@ -133,6 +165,15 @@ impl<A: Network + Drop, B: Network + Drop> Transmitter<A, B> {
         ensures { result ≡ self.now.moment }
     {
         self.moment
+    }
+
+    /// Whether every fragment of every accepted message was taken by at least one network.
+    pub fn is_done(&self) -> bool
+        requires { AreGathered self.now.links }
+        ensures { IsTrue result ↔ IsAllDone self.now.plan
+            (accepted_in self.now.links) (log self.now.lines) }
+    {
+        all_done(&self.links)
     }
 
     /// The two networks, with what was handed to them.
@@ -163,6 +204,7 @@ impl<A: Network + Drop, B: Network + Drop> Transmitter<A, B> {
         ensures tied { AreTied self.new.links (log self.new.lines) }
         ensures plan { self.new.plan ≡ self.old.plan }
         ensures same { IsSamePlan self.old.links self.new.links }
+        ensures of_plan { AreLinksOf self.old.plan self.old.links }
         ensures now { OnOk result (self.new.moment ≡ now) }
         ensures mirrored { IsMirrored self.new.lines }
         ensures a_stands { IfOk result (λ report. report.standing.a ≡ self.new.lines.a_stands) }
@@ -193,5 +235,20 @@ impl<A: Network + Drop, B: Network + Drop> Transmitter<A, B> {
             released,
             standing: self.mux.standing(),
         })
+    }
+
+    /// Gathers the queue of each sub-VL with the senders in its room, which are all that it has.
+    pub fn gather<R: Wait>(&mut self, rt: &R, rooms: Vec<LinkRooms>)
+        requires receiving { AreReceiving self.old.links }
+        requires full { AreRooms self.old.plan rooms.items (length self.old.plan.ports)
+            (senders_for (queues_in self.old.links)) }
+        ensures plan { self.new.plan ≡ self.old.plan }
+        ensures lines { self.new.lines ≡ self.old.lines }
+        ensures moment { self.new.moment ≡ self.old.moment }
+        ensures links { GathersLinks self.old.links rooms.items self.new.links }
+        ensures shape { HasShape self.old.plan self.old.links }
+        ensures legal { IsLegal self.new.plan (taken_in self.new.links) self.new.lines.a self.new.lines.b }
+    {
+        gather_all(rt, &mut self.links, rooms);
     }
 }

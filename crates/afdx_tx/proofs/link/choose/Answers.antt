@@ -1,6 +1,5 @@
 use Rattle.std.proofs.Common.{◌<◌, length, arith}
 use Rattle.afdx_tx.proofs.Choosing.{passed_sub, chosen_sub}
-use Rattle.afdx_tx.proofs.link.choose.Given
 use Rattle.afdx_tx.proofs.link.choose.Goals as goal
 
 pub returns-then-ready-clause-chosen : goal.returns-then-ready-clause-chosen

@@ -4,10 +4,9 @@ use Rattle.afdx_config.specs.Config.{port_plan_at}
 use Rattle.afdx_config.specs.Room.{room_of}
 use Rattle.afdx_config.specs.declared.port_plan.PortPlan.{PortPlan}
 use Rattle.afdx_frame.specs.declared.net.Net.TheVariants.{A}
-use Rattle.afdx_frame.specs.Fragments.{Sent}
 use Rattle.afdx_frame.proofs.Twins.{fragments_again}
 use Rattle.afdx_tx.specs.Seen.{taken_of}
-use Rattle.afdx_tx.specs.Links.{Held, TellsCutting, left_of, message_fragments, sent_of}
+use Rattle.afdx_tx.specs.Links.{TellsCutting, left_of, message_fragments, sent_of}
 use Rattle.afdx_tx.proofs.FragmentsLeft.{fragments_some}
 use Rattle.afdx_tx.proofs.sub.Sub.ready.Given
 use Rattle.afdx_tx.proofs.sub.Sub.ready.Goals as goal

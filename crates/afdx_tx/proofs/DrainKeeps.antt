@@ -1,0 +1,110 @@
+-- What stays of accepted messages that are known whole.
+use Rattle.std.proofs.Common.{ℕ, ◌≡◌, ◌<◌, ◌≤◌, List, ◌++◌, length, arith, ap, ◌∙◌, sym, subst, ⊎_elim, Result, Ok, Err}
+use Rattle.std.specs.Prelude.{OnOk}
+use Rattle.std.proofs.lemmas.List.{append_assoc, get_or_past}
+use Rattle.std.proofs.lemmas.Bool.{cases_lt}
+use Rattle.afdx_config.specs.Config.{Plan, link_plan_at}
+use Rattle.afdx_config.specs.Room.{room_of}
+use Rattle.afdx_config.specs.declared.port_plan.PortPlan.{PortPlan}
+use Rattle.afdx_frame.specs.declared.net.Net.{Net}
+use Rattle.afdx_frame.specs.declared.net.Net.TheVariants.{A, B}
+use Rattle.afdx_frame.specs.Fragments.{fragments}
+use Rattle.redundant_mux.specs.Entry.{Entry}
+use Rattle.afdx_tx.specs.Seen.{Seen, receiving, gathered, IsGathered, IsSameQueue}
+use Rattle.afdx_tx.specs.Streams.{told_of, IsPrefixOf}
+use Rattle.afdx_tx.specs.Legal.{IsLegalOn, IsLegal}
+use Rattle.afdx_tx.specs.Links.{Held, LinkState, held_at, link_at, nothing_held, no_link, sent_by, IsSameSub}
+use Rattle.afdx_tx.specs.Emitter.{IsSamePlan, taken_in}
+use Rattle.afdx_tx.specs.Drain.{AreGathered, known_of, accepted_by, accepted_in}
+use Rattle.afdx_tx.proofs.OwedFragments.{owed_split, untaken}
+
+-- the same queue is still gathered
+still_gathered : (old new : Seen) → IsGathered old → IsSameQueue old new → IsGathered new
+still_gathered (receiving r) new g e = absurd g
+still_gathered (gathered q) (gathered h) g e = tt
+still_gathered (gathered q) (receiving s) g e = absurd e
+
+-- and the same was accepted into it
+same_known : (old new : Seen) → IsGathered old → IsSameQueue old new → known_of new ≡ known_of old
+same_known (receiving r) new g e = absurd g
+same_known (gathered q) (gathered h) g e = e.1
+same_known (gathered q) (receiving s) g e = absurd e
+
+-- a sub-VL behind the last has no queue
+gathered_past : (links : List LinkState) (k s : ℕ) → AreGathered links → IsGathered (held_at (link_at links k).subs s).seen
+gathered_past links k s g = ⊎_elim
+    (λ (lt : k < length links). ⊎_elim
+    (λ (slt : s < length (link_at links k).subs). g k s lt slt)
+    (λ (ge : length (link_at links k).subs ≤ s).
+    subst (λ (h : Held). IsGathered h.seen) (sym (get_or_past (link_at links k).subs s nothing_held ge)) tt)
+    (cases_lt s (length (link_at links k).subs)))
+    (λ (ge : length links ≤ k).
+    subst (λ (l : LinkState). IsGathered (held_at l.subs s).seen) (sym (get_or_past links k no_link ge)) tt)
+    (cases_lt k (length links))
+
+-- each sub-VL is the same, whatever its link
+same_sub : (old new : List LinkState) → IsSamePlan old new → (k s : ℕ) → k < length old
+    → IsSameSub (held_at (link_at old k).subs s) (held_at (link_at new k).subs s)
+same_sub old new p k s lt = (p.each k lt).subs s
+
+-- queues that are the same are still gathered
+pub gathered_still : (old new : List LinkState) → IsSamePlan old new → AreGathered old → AreGathered new
+gathered_still old new p g k s lt slt =
+    let o : k < length old = omega (arith, p.count) in
+    still_gathered (held_at (link_at old k).subs s).seen (held_at (link_at new k).subs s).seen
+    (gathered_past old k s g) (same_sub old new p k s o).queue
+
+-- the accepted list of a sub-VL is the same
+same_accepted : (old new : Held) → IsGathered old.seen → IsSameSub old new → accepted_by new ≡ accepted_by old
+same_accepted old new g e =
+    ap (λ (ports : List PortPlan). sent_by ports (known_of new.seen)) e.ports
+    ∙ ap (sent_by old.ports) (same_known old.seen new.seen g e.queue)
+
+-- each accepted list is the same
+each_same : (old new : List LinkState) → IsSamePlan old new → AreGathered old → (k s : ℕ)
+    → accepted_in new k s ≡ accepted_in old k s
+each_same old new p g k s = ⊎_elim
+    (λ (lt : k < length old). same_accepted (held_at (link_at old k).subs s) (held_at (link_at new k).subs s)
+    (gathered_past old k s g) (same_sub old new p k s lt))
+    (λ (ge : length old ≤ k). ap (λ (l : LinkState). accepted_by (held_at l.subs s))
+    (get_or_past new k no_link (omega (arith, p.count)) ∙ sym (get_or_past old k no_link ge)))
+    (cases_lt k (length old))
+
+-- the accepted lists are the same
+pub accepted_same : (old new : List LinkState) → IsSamePlan old new → AreGathered old → accepted_in new ≡ accepted_in old
+accepted_same old new p g = λ i. λ k s. each_same old new p g k s i
+
+-- what begins the fragments of what was taken begins those of what was accepted
+prefix_grown : (shown : List (List ℕ)) (end_system room : ℕ) (net : Net) (links : List LinkState) (k s : ℕ)
+    → IsPrefixOf shown (fragments end_system room net (taken_in links k s))
+    → IsPrefixOf shown (fragments end_system room net (accepted_in links k s))
+prefix_grown shown end_system room net links k s p =
+    let held = held_at (link_at links k).subs s in
+    let more = untaken end_system room net held in (
+      p.0 ++ more,
+      sym (append_assoc shown p.0 more)
+          ∙ ap (λ (x : List (List ℕ)). x ++ more) p.1
+          ∙ sym (owed_split end_system room net held),
+    )
+
+-- so what was handed to a network is legal for what was accepted
+legal_on : (plan : Plan) (links : List LinkState) (net : Net) (handed : List Entry)
+    → IsLegalOn plan (taken_in links) net handed → IsLegalOn plan (accepted_in links) net handed
+legal_on plan links net handed l = record {
+  known = l.known;
+  prefixes = λ k s lt slt. prefix_grown (told_of (link_plan_at plan.links k).id.0 s handed) plan.end_system
+      (room_of (link_plan_at plan.links k).lmax) net links k s (l.prefixes k s lt slt);
+  numbered = l.numbered;
+  spaced = l.spaced;
+}
+
+-- What is legal for what was taken is legal for what was accepted.
+pub legal_accepted : (plan : Plan) (links : List LinkState) (a b : List Entry)
+    → IsLegal plan (taken_in links) a b → IsLegal plan (accepted_in links) a b
+legal_accepted plan links a b l =
+    record { on_a = legal_on plan links A a l.on_a; on_b = legal_on plan links B b l.on_b; twins = l.twins }
+
+-- what follows from a result that is Ok
+pub on_ok : {T E : Type 0} (r : Result T E) (P Q : Type 0) → (P → Q) → OnOk r P → OnOk r Q
+on_ok (Ok x) P Q f h = f h
+on_ok (Err e) P Q f h = tt

@@ -1,0 +1,139 @@
+-- Whether all accepted messages are wholly released.
+use Rattle.std.proofs.Common.{ℕ, ◌≡◌, ◌<◌, List, [], ◌∷◌, Bool, true, false, length, arith, refl, ap, ◌∙◌, sym, subst, ⊎_elim}
+use Rattle.afdx_config.specs.Config.{Plan, link_plan_at}
+use Rattle.afdx_config.specs.declared.link_plan.LinkPlan.{LinkPlan}
+use Rattle.redundant_mux.specs.Entry.{Entry}
+use Rattle.redundant_mux.specs.Lines.{Lines, log}
+use Rattle.afdx_tx.specs.declared.sub_vl.SubVl.{SubVl}
+use Rattle.afdx_tx.specs.Seen.{Seen, receiving, gathered, IsGathered, TellsDrained}
+use Rattle.afdx_tx.specs.Links.{Held, LinkState, held_at, link_at, sub_fragments, taken_by}
+use Rattle.afdx_tx.specs.Emitter.{IsKept, IsSound}
+use Rattle.afdx_tx.specs.Drain.{AreGathered, accepted_in, Owes, IsReleased, IsLinkDone, IsAllDone}
+use Rattle.afdx_tx.specs.Done.{TellsSubDone, HasSubLeft, TellsLinkDone, TellsAllDone}
+use Rattle.afdx_tx.proofs.LinkTurn.{IsOwn}
+use Rattle.afdx_tx.proofs.SoundEmitter.{plan_is, count_is}
+use Rattle.afdx_tx.proofs.OwedFragments.{rest_of, Stands, stands_of, lists_of, all_released, owes_taken, owes_rest, owes_not}
+use Rattle.afdx_tx.proofs.DrainTurns.{IsLinkGathered}
+
+-- a drained queue has nothing left
+drained_rest : (seen : Seen) → TellsDrained true seen → rest_of seen ≡ []
+drained_rest (receiving r) d = absurd d
+drained_rest (gathered g) d = d
+
+-- a sub-VL that is done is wholly released
+sub_done : (end_system : ℕ) (link : LinkPlan) (log : List Entry) (s : ℕ) (subs : List Held)
+    → Stands end_system link log s (held_at subs s) → TellsSubDone true (held_at subs s)
+    → IsReleased end_system link (lists_of subs) log s
+sub_done end_system link log s subs at d =
+    all_released end_system link log s subs at d.0 (drained_rest (held_at subs s).seen d.1)
+
+-- a link that is done is wholly released
+link_done : (link : LinkState) (log : List Entry) → IsOwn link → IsKept link log → IsLinkGathered link
+    → TellsLinkDone true link → IsLinkDone link.end_system link.plan (lists_of link.subs) log
+link_done link log own kept g d s lt =
+    let within : s < length link.subs = omega (arith, own.count, own.sub_vls) in
+    sub_done link.end_system link.plan log s link.subs
+    (stands_of link log s own (kept.tied d.0) within (g s within)) (d.1 s within)
+
+-- a queue that isn't drained has a next message
+next_of_rest : (seen : Seen) → IsGathered seen → TellsDrained false seen
+    → (message : ℕ × List ℕ) × (more : List (ℕ × List ℕ)) × (rest_of seen ≡ message ∷ more)
+next_of_rest (receiving r) g d = absurd g
+next_of_rest (gathered q) g d = first q.left d
+  where
+    first : (left : List (ℕ × List ℕ)) → (left ≡ [] → ⊥)
+        → (message : ℕ × List ℕ) × (more : List (ℕ × List ℕ)) × (left ≡ message ∷ more)
+    first [] some = absurd (some refl)
+    first (message ∷ more) some = (message, more, refl)
+
+-- a sub-VL of a link that isn't wholly released
+pub record HasOwing (link : LinkState) (log : List Entry) : Type 0 where
+  pub sub : ℕ
+  pub within : sub < link.plan.sub_vls
+  pub owes : Owes link.end_system link.plan (lists_of link.subs) log sub
+
+-- where a frame was lost
+lost_owes : (link : LinkState) (log : List Entry) → IsOwn link → IsKept link log → link.lost ≡ true → HasOwing link log
+lost_owes link log own kept lost =
+    let b = kept.behind lost in
+    let within : b.sub < length link.subs = omega (arith, b.within, own.count, own.sub_vls) in
+    record {
+      sub = b.sub;
+      within = b.within;
+      owes = owes_taken link.end_system link.plan log b.sub link.subs b.behind.left b.behind.some
+          (ap (λ (of : SubVl). sub_fragments of 0 (taken_by (held_at link.subs b.sub))) (sym (own.named b.sub within)) ∙ b.behind.ahead);
+    }
+
+-- where something is left, and no frame was lost
+left_owes : (link : LinkState) (log : List Entry) → IsOwn link → IsKept link log → IsLinkGathered link
+    → HasSubLeft link.subs → link.lost ≡ false → HasOwing link log
+left_owes link log own kept g d whole =
+    let within : d.sub < link.plan.sub_vls = omega (arith, d.within, own.count, own.sub_vls) in
+    let at = stands_of link log d.sub own (kept.tied whole) d.within (g d.sub d.within) in
+    record {
+      sub = d.sub;
+      within = within;
+      owes = ⊎_elim
+          (λ some. owes_taken link.end_system link.plan log d.sub link.subs (held_at link.subs d.sub).left some at.taken)
+          (λ not. let next = next_of_rest (held_at link.subs d.sub).seen at.seen not in
+          owes_rest link.end_system link.plan log d.sub link.subs next.0 next.1 at next.2)
+          d.left;
+    }
+
+-- a link that isn't done
+link_owes : (link : LinkState) (log : List Entry) → IsOwn link → IsKept link log → IsLinkGathered link
+    → TellsLinkDone false link → HasOwing link log
+link_owes link log own kept g d =
+    ⊎_elim (λ lost. lost_owes link log own kept lost) (λ left. by_lost link.lost refl left) d
+  where
+    by_lost : (b : Bool) → link.lost ≡ b → HasSubLeft link.subs → HasOwing link log
+    by_lost true e left = lost_owes link log own kept e
+    by_lost false e left = left_owes link log own kept g left e
+
+-- what a link of the configuration says of its accepted messages
+by_plan : (config : Plan) (links : List LinkState) (P : ℕ → LinkPlan → Type 0) (k : ℕ)
+    → (link_at links k).end_system ≡ config.end_system → link_plan_at config.links k ≡ (link_at links k).plan
+    → P config.end_system (link_plan_at config.links k) → P (link_at links k).end_system (link_at links k).plan
+by_plan config links P k e p h =
+    subst (P (link_at links k).end_system) p (subst (λ (n : ℕ). P n (link_plan_at config.links k)) (sym e) h)
+
+-- and the other way round
+to_plan : (config : Plan) (links : List LinkState) (P : ℕ → LinkPlan → Type 0) (k : ℕ)
+    → (link_at links k).end_system ≡ config.end_system → link_plan_at config.links k ≡ (link_at links k).plan
+    → P (link_at links k).end_system (link_at links k).plan → P config.end_system (link_plan_at config.links k)
+to_plan config links P k e p h =
+    subst (λ (n : ℕ). P n (link_plan_at config.links k)) e (subst (P (link_at links k).end_system) (sym p) h)
+
+-- where all links are done, all accepted messages are wholly released
+done_true : (config : Plan) (links : List LinkState) (lines : Lines) (moment : ℕ)
+    → IsSound config links lines moment → AreGathered links → TellsAllDone true links
+    → IsAllDone config (accepted_in links) (log lines)
+done_true config links lines moment sound g d k lt =
+    let here : k < length links = omega (arith, lt, count_is config links sound.of_plan) in
+    to_plan config links (λ (n : ℕ) (p : LinkPlan). IsLinkDone n p (lists_of (link_at links k).subs) (log lines)) k
+    (sound.of_plan.end_system k here) (plan_is config links sound.of_plan k here)
+    (link_done (link_at links k) (log lines) (sound.of_plan.each k here) (sound.kept k here) (λ s slt. g k s here slt) (d k here))
+
+-- and where one isn't, some are not
+done_false : (config : Plan) (links : List LinkState) (lines : Lines) (moment : ℕ)
+    → IsSound config links lines moment → AreGathered links → TellsAllDone false links
+    → IsAllDone config (accepted_in links) (log lines) → ⊥
+done_false config links lines moment sound g d all =
+    let k = d.place in
+    let link = link_at links k in
+    let owing = link_owes link (log lines) (sound.of_plan.each k d.within) (sound.kept k d.within)
+    (λ s slt. g k s d.within slt) d.left in
+    let within : k < length config.links = omega (arith, d.within, count_is config links sound.of_plan) in
+    owes_not link.end_system link.plan (lists_of link.subs) (log lines) owing.sub owing.owes
+    (by_plan config links (λ (n : ℕ) (p : LinkPlan). IsLinkDone n p (lists_of link.subs) (log lines)) k
+    (sound.of_plan.end_system k d.within) (plan_is config links sound.of_plan k d.within)
+    (all k within) owing.sub owing.within)
+
+-- Whether all links are done is whether all accepted messages are wholly released.
+pub all_done : (done : Bool) (config : Plan) (links : List LinkState) (lines : Lines) (moment : ℕ)
+    → IsSound config links lines moment → AreGathered links → TellsAllDone done links
+    → (done ≡ true → IsAllDone config (accepted_in links) (log lines))
+    × (IsAllDone config (accepted_in links) (log lines) → done ≡ true)
+all_done true config links lines moment s g d = ((λ _. done_true config links lines moment s g d), (λ _. refl))
+all_done false config links lines moment s g d =
+    ((λ (e : false ≡ true). absurd (cc)), (λ all. absurd (done_false config links lines moment s g d all)))

@@ -1,0 +1,171 @@
+-- The fragments of a sub-VL's accepted messages, against its stream.
+use Rattle.std.proofs.Common.{ℕ, suc, ◌≡◌, ◌+◌, ◌<◌, List, [], ◌∷◌, ◌++◌, true, false, length, arith, refl, ap, ◌∙◌, sym, ⊎_elim}
+use Rattle.std.proofs.lemmas.List.{append-nil, append_assoc, map-append, nil_from_length, length-append}
+use Rattle.afdx_config.specs.Room.{room_of}
+use Rattle.afdx_config.specs.declared.link_plan.LinkPlan.{LinkPlan}
+use Rattle.afdx_frame.specs.declared.net.Net.{Net}
+use Rattle.afdx_frame.specs.declared.net.Net.TheVariants.{A}
+use Rattle.afdx_frame.specs.Fragments.{Sent, fragments, fragments_at, fragments_from}
+use Rattle.redundant_mux.specs.Entry.{Entry}
+use Rattle.afdx_tx.specs.declared.sub_vl.SubVl.{SubVl}
+use Rattle.afdx_tx.specs.Seen.{Seen, receiving, gathered, taken_of, FindsNothing, Finds, IsGathered}
+use Rattle.afdx_tx.specs.Streams.{told_of}
+use Rattle.afdx_tx.specs.Links.{Held, LinkState, held_at, GoesOn, Starts, Asks, sent_of, sent_by, taken_by, sub_fragments}
+use Rattle.afdx_tx.specs.Emitter.{IsLinkTied}
+use Rattle.afdx_tx.specs.Drain.{known_of, accepted_by, IsReleased, Owes}
+use Rattle.afdx_tx.proofs.FragmentsLeft.{fragments_some}
+use Rattle.afdx_tx.proofs.LinkTurn.{IsOwn}
+
+-- what is known to be left of a queue
+abbrev pub rest_of : Seen → List (ℕ × List ℕ)
+rest_of (receiving r) = []
+rest_of (gathered g) = g.left
+
+-- what was accepted is what was taken, and what is left
+known_rest : (seen : Seen) → known_of seen ≡ taken_of seen ++ rest_of seen
+known_rest (receiving r) = sym (append-nil r.taken)
+known_rest (gathered g) = refl
+
+-- where nothing was found, nothing is left
+rest_none : (old new : Seen) → IsGathered old → FindsNothing old new → rest_of old ≡ []
+rest_none (receiving r) new g f = absurd g
+rest_none (gathered q) new g f = f.0
+
+-- what was found is the next that is left
+rest_next : (old : Seen) (message : ℕ × List ℕ) (new : Seen) → IsGathered old → Finds old message new
+    → (more : List (ℕ × List ℕ)) × (rest_of old ≡ message ∷ more)
+rest_next (receiving r) message new g f = absurd g
+rest_next (gathered q) message new g f = (f.0, f.1)
+
+-- the fragments of two lists of messages
+fragments_append : (end_system room : ℕ) (net : Net) (place : ℕ) (xs ys : List Sent)
+    → fragments_from end_system room net place (xs ++ ys)
+    ≡ fragments_from end_system room net place xs ++ fragments_from end_system room net (place + length xs) ys
+fragments_append end_system room net place [] ys = ap (λ (p : ℕ). fragments_from end_system room net p ys) (omega arith)
+fragments_append end_system room net place (x ∷ xs) ys =
+    ap (λ (z : List (List ℕ)). fragments_at end_system room net place x ++ z)
+    (fragments_append end_system room net (suc place) xs ys
+    ∙ ap (λ (p : ℕ). fragments_from end_system room net (suc place) xs ++ fragments_from end_system room net p ys)
+    (omega arith))
+    ∙ sym (append_assoc (fragments_at end_system room net place x) (fragments_from end_system room net (suc place) xs)
+    (fragments_from end_system room net (place + suc (length xs)) ys))
+
+-- the fragments of the messages of a sub-VL that were accepted and not taken
+abbrev pub untaken : ℕ → ℕ → Net → Held → List (List ℕ)
+untaken end_system room net held =
+    fragments_from end_system room net (0 + length (taken_by held)) (sent_by held.ports (rest_of held.seen))
+
+-- the fragments of a sub-VL's accepted messages
+pub owed_split : (end_system room : ℕ) (net : Net) (held : Held)
+    → fragments end_system room net (accepted_by held)
+    ≡ fragments end_system room net (taken_by held) ++ untaken end_system room net held
+owed_split end_system room net held =
+    ap (λ (items : List (ℕ × List ℕ)). fragments end_system room net (sent_by held.ports items)) (known_rest held.seen)
+    ∙ ap (fragments end_system room net) (map-append (sent_of held.ports) (taken_of held.seen) (rest_of held.seen))
+    ∙ fragments_append end_system room net 0 (taken_by held) (sent_by held.ports (rest_of held.seen))
+
+-- two lists make none only where the first is none
+left_nil : {X : Type 0} (xs ys : List X) → xs ++ ys ≡ [] → xs ≡ []
+left_nil [] ys e = refl
+left_nil (x ∷ xs) ys e = absurd (let k : x ∷ (xs ++ ys) ≡ [] = e in cc)
+
+-- a sub-VL of a link where its stream is, whose accepted messages are known whole
+pub record Stands (end_system : ℕ) (link : LinkPlan) (log : List Entry) (s : ℕ) (held : Held) : Type 0 where
+  pub taken : fragments end_system (room_of link.lmax) A (taken_by held) ≡ told_of link.id.0 s log ++ held.left
+  pub seen : IsGathered held.seen
+
+-- each sub-VL of a tied link is
+pub stands_of : (link : LinkState) (log : List Entry) (s : ℕ) → IsOwn link → IsLinkTied link log
+    → s < length link.subs → IsGathered (held_at link.subs s).seen
+    → Stands link.end_system link.plan log s (held_at link.subs s)
+stands_of link log s own tied lt g =
+    let within : s < link.plan.sub_vls = omega (arith, own.count, own.sub_vls) in
+    record {
+      taken = ap (λ (of : SubVl). sub_fragments of 0 (taken_by (held_at link.subs s))) (sym (own.named s lt)) ∙ tied s within;
+      seen = g;
+    }
+
+-- the accepted lists of some sub-VLs
+abbrev pub lists_of : List Held → ℕ → List Sent
+lists_of subs s = accepted_by (held_at subs s)
+
+-- nothing is left of what was taken, nor to be taken
+pub all_released : (end_system : ℕ) (link : LinkPlan) (log : List Entry) (s : ℕ) (subs : List Held)
+    → Stands end_system link log s (held_at subs s) → (held_at subs s).left ≡ [] → rest_of (held_at subs s).seen ≡ []
+    → IsReleased end_system link (lists_of subs) log s
+all_released end_system link log s subs at none drained =
+    let held = held_at subs s in
+    let room = room_of link.lmax in
+    owed_split end_system room A held
+    ∙ ap (λ (rest : List (ℕ × List ℕ)). fragments end_system room A (taken_by held)
+    ++ fragments_from end_system room A (0 + length (taken_by held)) (sent_by held.ports rest)) drained
+    ∙ append-nil (fragments end_system room A (taken_by held))
+    ∙ at.taken
+    ∙ ap (λ (x : List (List ℕ)). told_of link.id.0 s log ++ x) none
+    ∙ append-nil (told_of link.id.0 s log)
+
+-- the stream of a sub-VL is behind what was taken
+pub owes_taken : (end_system : ℕ) (link : LinkPlan) (log : List Entry) (s : ℕ) (subs : List Held) (left : List (List ℕ))
+    → (left ≡ [] → ⊥)
+    → fragments end_system (room_of link.lmax) A (taken_by (held_at subs s)) ≡ told_of link.id.0 s log ++ left
+    → Owes end_system link (lists_of subs) log s
+owes_taken end_system link log s subs left some e =
+    let more = untaken end_system (room_of link.lmax) A (held_at subs s) in
+    record {
+      left = left ++ more;
+      some = λ none. some (left_nil left more none);
+      ahead = owed_split end_system (room_of link.lmax) A (held_at subs s)
+          ∙ ap (λ (x : List (List ℕ)). x ++ more) e
+          ∙ append_assoc (told_of link.id.0 s log) left more;
+    }
+
+-- a message is left to be taken
+pub owes_rest : (end_system : ℕ) (link : LinkPlan) (log : List Entry) (s : ℕ) (subs : List Held)
+    (message : ℕ × List ℕ) (more : List (ℕ × List ℕ))
+    → Stands end_system link log s (held_at subs s) → rest_of (held_at subs s).seen ≡ message ∷ more
+    → Owes end_system link (lists_of subs) log s
+owes_rest end_system link log s subs message more at e =
+    let held = held_at subs s in
+    let room = room_of link.lmax in
+    let place = 0 + length (taken_by held) in
+    let next = fragments_from end_system room A place (sent_by held.ports (message ∷ more)) in
+    record {
+      left = held.left ++ next;
+      some = λ none. fragments_some (record { end_system = end_system; link = link; sub = s }) place (sent_of held.ports message)
+          (left_nil _ _ (right_nil held.left next none));
+      ahead = owed_split end_system room A held
+          ∙ ap (λ (rest : List (ℕ × List ℕ)). fragments end_system room A (taken_by held)
+          ++ fragments_from end_system room A place (sent_by held.ports rest)) e
+          ∙ ap (λ (x : List (List ℕ)). x ++ next) at.taken
+          ∙ append_assoc (told_of link.id.0 s log) held.left next;
+    }
+  where
+    right_nil : (xs ys : List (List ℕ)) → xs ++ ys ≡ [] → ys ≡ []
+    right_nil [] ys e = e
+    right_nil (x ∷ xs) ys e = absurd (let k : x ∷ (xs ++ ys) ≡ [] = e in cc)
+
+-- what was asked and has nothing is wholly released
+pub passed_released : (end_system : ℕ) (link : LinkPlan) (log : List Entry) (s : ℕ) (subs : List Held) (new : Held)
+    → Stands end_system link log s (held_at subs s) → Asks false (held_at subs s) new
+    → IsReleased end_system link (lists_of subs) log s
+passed_released end_system link log s subs new at p =
+    all_released end_system link log s subs at p.whole (rest_none (held_at subs s).seen new.seen at.seen p.nothing)
+
+-- and what has something is not
+pub asked_owes : (end_system : ℕ) (link : LinkPlan) (log : List Entry) (s : ℕ) (subs : List Held) (new : Held)
+    → Stands end_system link log s (held_at subs s) → Asks true (held_at subs s) new
+    → Owes end_system link (lists_of subs) log s
+asked_owes end_system link log s subs new at a = ⊎_elim
+    (λ (g : GoesOn (held_at subs s) new). owes_taken end_system link log s subs (held_at subs s).left g.some at.taken)
+    (λ (p : Starts (held_at subs s) new).
+    let next = rest_next (held_at subs s).seen p.message new.seen at.seen p.finds in
+    owes_rest end_system link log s subs p.message next.0 at next.1)
+    a
+
+-- no sub-VL is both
+pub owes_not : (end_system : ℕ) (link : LinkPlan) (accepted : ℕ → List Sent) (log : List Entry) (s : ℕ)
+    → Owes end_system link accepted log s → IsReleased end_system link accepted log s → ⊥
+owes_not end_system link accepted log s o r =
+    let told = told_of link.id.0 s log in
+    let e : length (told ++ o.left) ≡ length told = ap length (sym o.ahead ∙ r) in
+    o.some (nil_from_length o.left (omega (arith, length-append told o.left)))

@@ -1,0 +1,12 @@
+use Rattle.std.proofs.Common.{subst}
+use Rattle.afdx_tx.specs.Emitter.{Tx}
+use Rattle.afdx_tx.specs.Legal.{IsLegal}
+use Rattle.afdx_tx.specs.Drain.{accepted_in}
+use Rattle.afdx_tx.proofs.DrainKeeps.{legal_accepted}
+use Rattle.afdx_tx.proofs.draining.Draining.into_networks.Goals as goal
+
+pub returns-clause-legal : goal.returns-clause-legal
+returns-clause-legal g c =
+    let inner = c.self.inside.inner in
+    subst (λ (d : Tx). IsLegal d.plan (accepted_in d.links) d.lines.a d.lines.b) c.self.view_is
+    (legal_accepted inner.plan inner.links inner.lines.a inner.lines.b c.into_networks.ensures.legal)

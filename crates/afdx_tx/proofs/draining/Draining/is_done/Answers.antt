@@ -1,0 +1,10 @@
+use Rattle.std.proofs.Common.{◌≡◌, true, subst}
+use Rattle.redundant_mux.specs.Lines.{log}
+use Rattle.afdx_tx.specs.Emitter.{Tx}
+use Rattle.afdx_tx.specs.Drain.{IsAllDone, accepted_in}
+use Rattle.afdx_tx.proofs.draining.Draining.is_done.Goals as goal
+
+pub returns : goal.returns
+returns g c =
+    subst (λ (d : Tx). (c.is_done.result ≡ true → IsAllDone d.plan (accepted_in d.links) (log d.lines))
+    × (IsAllDone d.plan (accepted_in d.links) (log d.lines) → c.is_done.result ≡ true)) c.self.view_is c.is_done.ensures

@@ -1,0 +1,37 @@
+use Rattle.std.proofs.Common.{◌∙◌, ap, subst}
+use Rattle.afdx_tx.specs.Emitter.{Tx}
+use Rattle.afdx_tx.specs.Drain.{IsDrained, IsDrainCutShort, accepted_in}
+use Rattle.afdx_tx.proofs.DrainKeeps.{gathered_still, accepted_same, legal_accepted, on_ok}
+use Rattle.afdx_tx.proofs.DrainTurns.{run_drained, cut_drained}
+use Rattle.afdx_tx.proofs.draining.Draining.poll.Goals as goal
+
+pub invariant_of-self : goal.invariant_of-self
+invariant_of-self g c =
+    gathered_still c.self.inside.inner.links c.poll.new.self.links c.poll.ensures.same c.self.invariant
+
+pub returns-clause-legal : goal.returns-clause-legal
+returns-clause-legal g c =
+    legal_accepted c.poll.new.self.plan c.poll.new.self.links c.poll.new.self.lines.a c.poll.new.self.lines.b c.poll.ensures.legal
+
+pub returns-clause-accepted : goal.returns-clause-accepted
+returns-clause-accepted g c =
+    accepted_same c.self.inside.inner.links c.poll.new.self.links c.poll.ensures.same c.self.invariant
+    ∙ ap (λ (d : Tx). accepted_in d.links) c.self.view_is
+
+pub returns-clause-run : goal.returns-clause-run
+returns-clause-run g c =
+    let inner = c.self.inside.inner in
+    on_ok c.poll.result _ _
+    (λ h alive. subst (λ (d : Tx). IsDrained c.args.now d.plan (accepted_in d.links) d.lines c.poll.new.self.lines) c.self.view_is
+    (run_drained c.args.now inner.plan inner.links c.poll.new.self.links inner.lines c.poll.new.self.lines
+    c.poll.ensures.of_plan c.self.invariant (h alive)))
+    c.poll.ensures.run
+
+pub returns-clause-cut_short : goal.returns-clause-cut_short
+returns-clause-cut_short g c =
+    let inner = c.self.inside.inner in
+    on_ok c.poll.result _ _
+    (λ h down. subst (λ (d : Tx). IsDrainCutShort c.args.now d.plan (accepted_in d.links) d.lines c.poll.new.self.lines) c.self.view_is
+    (cut_drained c.args.now inner.plan inner.links c.poll.new.self.links inner.lines c.poll.new.self.lines
+    c.poll.ensures.of_plan c.self.invariant (h down)))
+    c.poll.ensures.cut_short

@@ -1,0 +1,37 @@
+use Rattle.std.proofs.Common.{ℕ, ◌≡◌, ◌≤◌, List, All, length, vec_len, arith, ap, ◌∙◌, sym, subst}
+use Rattle.afdx_config.specs.declared.port_plan.PortPlan.{PortPlan}
+use Rattle.afdx_config.specs.Plan.{IsPort}
+use Rattle.subvl_queue.specs.Views.{new_receiver}
+use Rattle.afdx_tx.specs.Seen.{receiving}
+use Rattle.afdx_tx.specs.Links.{Held}
+use Rattle.afdx_tx.specs.Subs.{IsPortOf}
+use Rattle.afdx_tx.specs.Emitter.{ports_of_sub}
+use Rattle.afdx_tx.proofs.OwnPorts.{few_ports, own_ports}
+use Rattle.afdx_tx.proofs.open.open_sub.Goals as goal
+
+pub make-requires-clause-ports : goal.make-requires-clause-ports
+make-requires-clause-ports c =
+    let few = few_ports c.args.config.now c.args.of.link.id.0 c.args.of.sub c.ports.ensures.valid in
+    omega (arith, c.len.ensures, ap length c.in_ok-ports.ensures,
+    ap (λ (all : List PortPlan). length (ports_of_sub all c.args.of.link.id.0 c.args.of.sub)) c.ports.ensures.plan)
+
+pub new-requires-clause-ports : goal.new-requires-clause-ports
+new-requires-clause-ports c =
+    subst (λ (ports : List PortPlan). All (IsPortOf c.args.of) ports) (sym (c.in_ok-ports.ensures
+    ∙ ap (λ (all : List PortPlan). ports_of_sub all c.args.of.link.id.0 c.args.of.sub) c.ports.ensures.plan))
+    (own_ports c.args.config.now.ports c.args.of (c.ports.ensures.valid.each_port) c.requires.sub)
+
+pub returns-clause-fresh : goal.returns-clause-fresh
+returns-clause-fresh c =
+    let held = c.new.ensures in
+    let ports = c.in_ok-ports.ensures
+    ∙ ap (λ (all : List PortPlan). ports_of_sub all c.args.of.link.id.0 c.args.of.sub) c.ports.ensures.plan in
+    record {
+      of = ap (λ (h : Held). h.of) held;
+      ports = ap (λ (h : Held). h.ports) held ∙ ports;
+      left = ap (λ (h : Held). h.left) held;
+      queue = c.in_ok-receiver.receiver.queue;
+      seen = ap (λ (h : Held). h.seen) held ∙ ap receiving (c.in_ok-receiver.ensures.receiver
+          ∙ ap (λ (n : ℕ). new_receiver c.in_ok-receiver.receiver.queue c.args.of.link.capacity n) (let many : c.len.result ≡ length
+          (ports_of_sub c.args.config.now.ports c.args.of.link.id.0 c.args.of.sub) = omega (arith, c.len.ensures, ap length ports) in many));
+    }

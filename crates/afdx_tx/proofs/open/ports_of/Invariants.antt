@@ -1,0 +1,6 @@
+use Rattle.std.proofs.Common.{◌≡◌, take}
+use Rattle.afdx_tx.specs.Emitter.{ports_of_sub}
+use Rattle.afdx_tx.proofs.open.ports_of.Given as goal
+
+abbrev pub invariant-loop-port : goal.invariant-loop-port
+invariant-loop-port l = l.own.items ≡ ports_of_sub (take l.port-index l.ports) l.of.link.id.0 l.of.sub

@@ -1,0 +1,18 @@
+use Rattle.std.proofs.Common.{List, ◌≡◌, true, sym, subst}
+use Rattle.redundant_mux.specs.Lines.{log}
+use Rattle.afdx_tx.specs.Links.{LinkState}
+use Rattle.afdx_tx.specs.Emitter.{Tx}
+use Rattle.afdx_tx.specs.Drain.{AreGathered, IsAllDone, accepted_in}
+use Rattle.afdx_tx.specs.Done.{TellsAllDone}
+use Rattle.afdx_tx.proofs.NothingLeft.{all_done}
+use Rattle.afdx_tx.proofs.transmitter.Transmitter.is_done.Goals as goal
+
+pub returns : goal.returns
+returns g c =
+    let done = c.all_done.result in
+    let links = c.self.inside.links.items in
+    subst (λ (t : Tx). (done ≡ true → IsAllDone t.plan (accepted_in t.links) (log t.lines))
+    × (IsAllDone t.plan (accepted_in t.links) (log t.lines) → done ≡ true)) c.self.view_is
+    (all_done done c.self.inside.config links c.self.inside.mux c.self.inside.moment c.self.invariant
+    (subst (λ (t : Tx). AreGathered t.links) (sym c.self.view_is) c.requires)
+    (subst (λ (ls : List LinkState). TellsAllDone done ls) c.deref.ensures.value c.all_done.ensures))

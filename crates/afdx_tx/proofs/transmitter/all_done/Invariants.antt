@@ -1,0 +1,7 @@
+use Rattle.std.proofs.Common.{ℕ, ◌<◌, true}
+use Rattle.afdx_tx.specs.Links.{link_at}
+use Rattle.afdx_tx.specs.Done.{TellsLinkDone}
+use Rattle.afdx_tx.proofs.transmitter.all_done.Given as goal
+
+abbrev pub invariant-loop-link : goal.invariant-loop-link
+invariant-loop-link l = (k : ℕ) → k < l.link-index → TellsLinkDone true (link_at l.fn.links k)

@@ -1,0 +1,126 @@
+-- The ports of an emitter come back.
+use Rattle.std.specs.Prelude.{ℕ, ◌≡◌, ◌<◌, ◌≤◌, List, [], length, get_or, slice_index_or, Contains, Option, Some}
+use Rattle.afdx_config.specs.Config.{Plan, link_plan_at, port_plan_at}
+use Rattle.afdx_config.specs.declared.port_plan.PortPlan.{PortPlan}
+use Rattle.subvl_queue.specs.Messages.{AreItems, part_of}
+use Rattle.subvl_queue.specs.Views.{QueueName, SenderView, HasEvery, IsWhole, accepted_of}
+use Rattle.afdx_tx.specs.Seen.{Seen, receiving, gathered, ports_of, queue_of, IsReceiving}
+use Rattle.afdx_tx.specs.Drain.{known_of}
+use Rattle.afdx_tx.specs.Links.{Held, LinkState, held_at, link_at}
+use Rattle.afdx_tx.specs.Emitter.{Tx}
+use Rattle.afdx_tx.specs.Sending.{link_of}
+use Rattle.afdx_tx.specs.Ports.{PortView, index_of}
+use Rattle.afdx_tx.specs.Room.{RoomView}
+use Rattle.afdx_tx.specs.Rooms.{room_in, rooms_of, room_at}
+
+-- The same queue, whose accepted messages are known whole from now on: those that were taken, and
+-- what is left. Each is of one of its ports.
+abbrev pub BecomesWhole : (old new : Seen) → Type 0
+BecomesWhole (receiving old) (gathered new) =
+    (new.taken ≡ old.taken) × (new.ports ≡ old.ports) × AreItems old.ports (accepted_of new)
+BecomesWhole (receiving old) (receiving new) = ⊥
+BecomesWhole (gathered old) (receiving new) = ⊥
+BecomesWhole (gathered old) (gathered new) = ⊥
+
+-- the ends of a queue come together, and each sender's part of the messages is its own list
+pub record Gathers (old : Seen) (senders : List SenderView) (new : Seen) : Type 0 where
+  pub queue : BecomesWhole old new
+  pub whole : IsWhole (ports_of old) senders (known_of new)
+
+-- the ports of a queue may still send, and every sender of it is there, and no other
+pub record IsFull (seen : Seen) (senders : List SenderView) : Type 0 where
+  pub receiving : IsReceiving seen
+  pub every : HasEvery (ports_of seen) senders
+  pub together : (k : ℕ) (d : SenderView) → k < length senders
+      → queue_of seen ≡ Some (slice_index_or senders k d).queue
+
+-- the same of a sub-VL, which has as many senders as ports
+pub record IsFullSub (held : Held) (senders : List SenderView) : Type 0 where
+  pub receiving : IsReceiving held.seen
+  pub every : HasEvery (length held.ports) senders
+  pub together : (k : ℕ) (d : SenderView) → k < length senders
+      → queue_of held.seen ≡ Some (slice_index_or senders k d).queue
+
+-- a sub-VL but for its queue, which is gathered
+pub record GathersSub (old : Held) (senders : List SenderView) (new : Held) : Type 0 where
+  pub same : new ≡ record old { seen = new.seen }
+  pub gathers : Gathers old.seen senders new.seen
+
+-- the sub-VLs of a link
+pub record GathersSubs (old : List Held) (rooms : List RoomView) (new : List Held) : Type 0 where
+  pub count : length new ≡ length old
+  pub each : (s : ℕ) → s < length old
+      → GathersSub (held_at old s) (room_in rooms s).senders (held_at new s)
+
+-- a link
+pub record GathersLink (old : LinkState) (rooms : List RoomView) (new : LinkState) : Type 0 where
+  pub same : new ≡ record old { subs = new.subs }
+  pub subs : GathersSubs old.subs rooms new.subs
+
+-- the links
+pub record GathersLinks (old : List LinkState) (rooms : List (List RoomView))
+    (new : List LinkState) : Type 0 where
+  pub count : length new ≡ length old
+  pub each : (k : ℕ) → k < length old
+      → GathersLink (link_at old k) (rooms_of rooms k) (link_at new k)
+
+-- the room of each sub-VL of a link has all of its senders
+pub record AreFullSubs (subs : List Held) (rooms : List RoomView) : Type 0 where
+  pub count : length rooms ≡ length subs
+  pub each : (s : ℕ) → s < length subs → IsFullSub (held_at subs s) (room_in rooms s).senders
+
+-- the room of each sub-VL has all of its senders
+pub record AreFull (links : List LinkState) (rooms : List (List RoomView)) : Type 0 where
+  pub count : length rooms ≡ length links
+  pub each : (k : ℕ) → k < length links → AreFullSubs (link_at links k).subs (rooms_of rooms k)
+
+-- as many links as a configuration has, each with as many sub-VLs
+pub record HasShape (config : Plan) (links : List LinkState) : Type 0 where
+  pub count : length links ≡ length config.links
+  pub subs : (k : ℕ) → k < length config.links
+      → length (link_at links k).subs ≡ (link_plan_at config.links k).sub_vls
+
+-- the sender of the port at a place stands in the room of its sub-VL, at its index
+pub record HasSeat (config : Plan) (ports : List PortView) (rooms : List (List RoomView))
+    (place : ℕ) : Type 0 where
+  pub port : PortView
+  pub inside : Contains ports port
+  pub at : port.place ≡ place
+  pub within : index_of config.ports place < length (room_at rooms
+      (link_of config (port_plan_at config.ports place)) (port_plan_at config.ports place).sub).senders
+  pub sender : (d : SenderView) → slice_index_or (room_at rooms
+      (link_of config (port_plan_at config.ports place)) (port_plan_at config.ports place).sub).senders
+      (index_of config.ports place) d ≡ port.sender
+
+-- the sub-VL of a port
+abbrev pub held_for : Tx → PortPlan → Held
+held_for tx port = held_at (link_at tx.links (link_of tx.plan port)).subs port.sub
+
+-- The port at a place is in a list, and what its sub-VL accepted of it is the port's own list.
+pub record HasOwnPart (tx : Tx) (ports : List PortView) (place : ℕ) : Type 0 where
+  pub port : PortView
+  pub inside : Contains ports port
+  pub at : port.place ≡ place
+  pub part : part_of (index_of tx.plan.ports place)
+      (known_of (held_for tx (port_plan_at tx.plan.ports place)).seen) ≡ port.sender.own
+
+-- a sub-VL but for its queue, whose accepted messages are known whole
+pub record IsGatheredSub (old new : Held) : Type 0 where
+  pub same : new ≡ record old { seen = new.seen }
+  pub queue : BecomesWhole old.seen new.seen
+
+-- a link but for the queues of its sub-VLs
+pub record IsGatheredLink (old new : LinkState) : Type 0 where
+  pub same : new ≡ record old { subs = new.subs }
+  pub count : length new.subs ≡ length old.subs
+  pub each : (s : ℕ) → s < length old.subs → IsGatheredSub (held_at old.subs s) (held_at new.subs s)
+
+-- An emitter but for its queues: of each sub-VL the accepted messages are known whole, and of each
+-- port they are its own list, in order.
+pub record IsGatheredTx (old : Tx) (ports : List PortView) (new : Tx) : Type 0 where
+  pub plan : new.plan ≡ old.plan
+  pub lines : new.lines ≡ old.lines
+  pub moment : new.moment ≡ old.moment
+  pub count : length new.links ≡ length old.links
+  pub links : (k : ℕ) → k < length old.links → IsGatheredLink (link_at old.links k) (link_at new.links k)
+  pub own : (place : ℕ) → place < length old.plan.ports → HasOwnPart new ports place

@@ -1,0 +1,117 @@
+-- Ports, each of which sends into the queue of its sub-VL.
+use Rattle.std.specs.Prelude.{ℕ, ◌≡◌, ◌<◌, ◌≤◌, List, [], ◌∷◌, ◌++◌, length, take, get_or, slice_index_or, All, Contains, Option, Some, None}
+use Rattle.afdx_config.specs.Config.{Plan, link_plan_at, port_plan_at}
+use Rattle.afdx_config.specs.declared.port_plan.PortPlan.{PortPlan}
+use Rattle.subvl_queue.specs.Messages.{most_calls}
+use Rattle.subvl_queue.specs.Views.{QueueName, SenderView, new_sender, sent, IsRefused}
+use Rattle.subvl_queue.specs.declared.refused.Why.{Why}
+use Rattle.subvl_queue.specs.declared.refused.Why.TheVariants.{Closed as QueueClosed, Exhausted as QueueExhausted, Full as QueueFull}
+use Rattle.afdx_tx.specs.declared.fault.Refusal.{Refusal}
+use Rattle.afdx_tx.specs.declared.fault.Refusal.TheVariants.{Empty, TooLong, Closed, Exhausted, Full}
+use Rattle.afdx_tx.specs.Sending.{link_of}
+use Rattle.afdx_tx.specs.Emitter.{Tx, queues_in, ports_of_sub}
+
+-- A port: its place in the configuration, what the configuration says of it, and its sender.
+pub record PortView : Type 0 where
+  pub place : ℕ
+  pub plan : PortPlan
+  pub sender : SenderView
+
+-- a port may send a message of so many bytes
+pub record MaySend (port : PortPlan) (size : ℕ) : Type 0 where
+  pub some : 1 ≤ size
+  pub most : size ≤ port.max
+
+-- a message was accepted: it is the last of the port's own
+abbrev pub Accepts : PortView → List ℕ → PortView → Type 0
+Accepts old bytes new = new ≡ record old { sender = sent old.sender bytes }
+
+-- a message that the port may send was refused by its queue
+pub record QueueRefuses (old : PortView) (size : ℕ) (why : Why) (new : PortView) : Type 0 where
+  pub may : MaySend old.plan size
+  pub queue : IsRefused old.sender why new.sender
+  pub same : new ≡ record old { sender = new.sender }
+
+-- Why a message of so many bytes was refused, and what that leaves of the port.
+abbrev pub Refuses : PortView → ℕ → Refusal → PortView → Type 0
+Refuses old size Empty new = (size ≡ 0) × (new ≡ old)
+Refuses old size TooLong new = (old.plan.max < size) × (new ≡ old)
+Refuses old size Closed new = QueueRefuses old size QueueClosed new
+Refuses old size Exhausted new = QueueRefuses old size QueueExhausted new
+Refuses old size Full new = QueueRefuses old size QueueFull new
+
+-- the index of a port among those of its sub-VL, by its place in the configuration
+abbrev pub index_of : List PortPlan → ℕ → ℕ
+index_of ports place =
+    length (ports_of_sub (take place ports) (port_plan_at ports place).vl.0 (port_plan_at ports place).sub)
+
+-- the queue of a sub-VL
+abbrev pub queue_at : List (List (Option QueueName)) → ℕ → ℕ → Option QueueName
+queue_at queues link sub = get_or (get_or queues link []) sub None
+
+-- the queue of a port's sub-VL
+abbrev pub queue_for : Plan → List (List (Option QueueName)) → PortPlan → Option QueueName
+queue_for config queues port = queue_at queues (link_of config port) port.sub
+
+-- A port of a configuration over these queues: what is said at its place, and a sender of the queue
+-- of its sub-VL, with its index there.
+pub record BelongsTo (config : Plan) (queues : List (List (Option QueueName)))
+    (port : PortView) : Type 0 where
+  pub within : port.place < length config.ports
+  pub plan : port.plan ≡ port_plan_at config.ports port.place
+  pub queue : queue_for config queues port.plan ≡ Some port.sender.queue
+  pub index : port.sender.port ≡ index_of config.ports port.place
+
+-- a port of an emitter
+abbrev pub IsPortOfTx : Tx → PortView → Type 0
+IsPortOfTx tx port = BelongsTo tx.plan (queues_in tx.links) port
+
+-- each port of a list is one of the emitter's
+abbrev pub AreOpenedWith : Tx → List PortView → Type 0
+AreOpenedWith tx ports = All (IsPortOfTx tx) ports
+
+-- a sender of a queue, with this index, that has not asked yet
+pub record IsFreshSender (queue : Option QueueName) (capacity index : ℕ)
+    (sender : SenderView) : Type 0 where
+  pub of : queue ≡ Some sender.queue
+  pub is : sender ≡ new_sender sender.queue capacity most_calls index
+
+-- the port at a place, that has not asked yet
+pub record IsFreshPort (config : Plan) (queues : List (List (Option QueueName)))
+    (place : ℕ) (port : PortView) : Type 0 where
+  pub at : port.place ≡ place
+  pub plan : port.plan ≡ port_plan_at config.ports place
+  pub sender : IsFreshSender (queue_for config queues port.plan)
+      (link_plan_at config.links (link_of config port.plan)).capacity
+      (index_of config.ports place) port.sender
+
+-- the ports of a configuration in its order, none of which has asked yet
+pub record ArePortsOf (config : Plan) (queues : List (List (Option QueueName)))
+    (ports : List PortView) : Type 0 where
+  pub count : length ports ≡ length config.ports
+  pub each : (k : ℕ) (d : PortView) → k < length config.ports
+      → IsFreshPort config queues k (slice_index_or ports k d)
+
+-- the ports of an emitter, that have not asked yet
+abbrev pub AreFreshPorts : Tx → List PortView → Type 0
+AreFreshPorts tx ports = ArePortsOf tx.plan (queues_in tx.links) ports
+
+-- the port at a place is in a list
+pub record HasPlace (ports : List PortView) (place : ℕ) : Type 0 where
+  pub port : PortView
+  pub inside : Contains ports port
+  pub at : port.place ≡ place
+
+-- each port of a configuration of so many is in a list
+abbrev pub HasEveryPlace : ℕ → List PortView → Type 0
+HasEveryPlace many ports = (place : ℕ) → place < many → HasPlace ports place
+
+-- some port of a configuration of so many isn't in a list
+abbrev pub LacksPlace : ℕ → List PortView → Type 0
+LacksPlace many ports = (place : ℕ) × (place < many) × (HasPlace ports place → ⊥)
+
+-- why a port refused what its queue refused
+abbrev pub refusal_of : Why → Refusal
+refusal_of QueueClosed = Closed
+refusal_of QueueExhausted = Exhausted
+refusal_of QueueFull = Full

@@ -1,0 +1,108 @@
+//! The emitter once its ports are gathered: it sends what is left.
+use crate::fault::PollFault;
+use crate::report::Report;
+use crate::transmitter::Transmitter;
+use afdx_config::Config;
+use redundant_mux::Network;
+use std::marker::Model;
+use std::sync::Wait;
+
+/// Sends what is left in the queues after their ports were gathered, on two networks. What was
+/// accepted doesn't change any more. Contracts see its plan, its links, what was handed to the
+/// networks, and the moment of the last poll.
+#[derive(Drop)]
+pub struct Draining<A: Network + Drop, B: Network + Drop> {
+    inner: Transmitter<A, B>,
+}
+
+impl<A: Network + Drop, B: Network + Drop> Model for Draining<A, B> {
+    ghost use Rattle.afdx_tx.specs.Emitter.{Tx};
+    ghost use Rattle.afdx_tx.specs.Drain.{AreGathered};
+
+    ghost Value = { Tx };
+
+    ghost view = { λ d. d.inner };
+
+    ghost invariant = { λ d. AreGathered d.inner.links };
+}
+
+impl<A: Network + Drop, B: Network + Drop> Draining<A, B> {
+    ghost use Rattle.std.specs.Prelude.{◌≡◌, ◌≤◌, ◌↔◌, true, false, IsTrue, IsErr, OnErr, OnOk, IfOk};
+    ghost use Rattle.redundant_mux.specs.Lines.{is_alive, log, IsMirrored};
+    ghost use Rattle.afdx_tx.specs.Legal.{IsLegal};
+    ghost use Rattle.afdx_tx.specs.Report.{IsTold};
+    ghost use Rattle.afdx_tx.specs.Drain.{AreGathered, IsAllDone, IsDrained, IsDrainCutShort, accepted_in};
+
+    /// Over links whose queues are all gathered.
+    pub(crate) fn over(inner: Transmitter<A, B>) -> Draining<A, B>
+        requires { AreGathered inner.links }
+        ensures { result ≡ inner }
+    {
+        Draining { inner }
+    }
+
+    /// The configuration that the emitter was opened with.
+    pub fn config(&self) -> &Config
+        ensures { result.now ≡ self.now.plan }
+    {
+        self.inner.config()
+    }
+
+    /// The moment of the last poll that didn't answer `BothDown`, of the emitter's or here, in
+    /// microseconds, and 0 before the first.
+    pub fn now(&self) -> u64
+        ensures { result ≡ self.now.moment }
+    {
+        self.inner.now()
+    }
+
+    /// Whether every fragment of every accepted message was taken by at least one network. Once a
+    /// frame was lost with the last network it stays false.
+    pub fn is_done(&self) -> bool
+        ensures { IsTrue result ↔ IsAllDone self.now.plan
+            (accepted_in self.now.links) (log self.now.lines) }
+    {
+        self.inner.is_done()
+    }
+
+    /// The two networks, with what was handed to them.
+    pub fn into_networks(self) -> (A, B)
+        ensures a { A.handed result.0 ≡ self.lines.a }
+        ensures b { B.handed result.1 ≡ self.lines.b }
+        ensures a_failures { A.failures result.0 ≡ self.lines.a_failures }
+        ensures b_failures { B.failures result.1 ≡ self.lines.b_failures }
+        ensures legal { IsLegal self.plan (accepted_in self.links) self.lines.a self.lines.b }
+    {
+        let Draining { inner } = self;
+        inner.into_networks()
+    }
+
+    /// Gives each link its turn at a moment, in microseconds, in the order of the configuration,
+    /// until the last network fails. A due link with an accepted message that isn't wholly released
+    /// releases exactly one frame (ARINC 664 Part 7, bandwidth allocation gap). After `BothDown`
+    /// nothing has changed. Takes no memory.
+    pub fn poll<R: Wait>(&mut self, rt: &R, now: u64) -> Result<Report, PollFault>
+        requires { self.old.moment ≤ now }
+        ensures both_down { IsErr result ↔ (is_alive self.old.lines ≡ false) }
+        ensures unchanged { OnErr result (self.new ≡ self.old) }
+        ensures legal { IsLegal self.new.plan (accepted_in self.new.links)
+            self.new.lines.a self.new.lines.b }
+        ensures plan { self.new.plan ≡ self.old.plan }
+        ensures accepted { accepted_in self.new.links ≡ accepted_in self.old.links }
+        ensures now { OnOk result (self.new.moment ≡ now) }
+        ensures mirrored { IsMirrored self.new.lines }
+        ensures a_stands { IfOk result (λ report. report.standing.a ≡ self.new.lines.a_stands) }
+        ensures b_stands { IfOk result (λ report. report.standing.b ≡ self.new.lines.b_stands) }
+        ensures told { IfOk result
+            (λ report. IsTold now report.released.items self.old.lines self.new.lines) }
+        ensures run { OnOk result
+            (is_alive self.new.lines ≡ true →
+            IsDrained now self.old.plan (accepted_in self.old.links) self.old.lines self.new.lines) }
+        ensures cut_short { OnOk result
+            (is_alive self.new.lines ≡ false →
+            IsDrainCutShort now self.old.plan (accepted_in self.old.links)
+            self.old.lines self.new.lines) }
+    {
+        self.inner.poll(rt, now)
+    }
+}

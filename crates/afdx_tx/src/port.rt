@@ -1,0 +1,127 @@
+//! A port, for a thread of its own.
+ghost use Rattle.std.specs.Prelude.{◌≡◌, length};
+ghost use Rattle.afdx_tx.specs.Ports.{refusal_of};
+
+use crate::fault::{Refusal, SendFault};
+use crate::routing::length_refusal;
+use afdx_config::{PortId, PortPlan};
+use std::marker::Model;
+use std::sync::Wait;
+use subvl_queue::{Refused, Sender, Why};
+
+/// A port of an emitter, which may go to another thread. Contracts see its place in the
+/// configuration, what the configuration says of it, and its sender, with the messages of it that
+/// were accepted.
+#[derive(Drop)]
+pub struct TxPort {
+    plan: PortPlan,
+    place: usize,
+    sender: Sender,
+}
+
+impl Model for TxPort {
+    ghost use Rattle.afdx_config.specs.Plan.{IsPort};
+    ghost use Rattle.afdx_tx.specs.Ports.{PortView};
+
+    ghost Value = { PortView };
+
+    ghost view = { λ p. record {
+      place = p.place;
+      plan = p.plan;
+      sender = p.sender;
+    } };
+
+    ghost invariant = { λ p. IsPort p.plan };
+}
+
+impl TxPort {
+    ghost use Rattle.std.specs.Prelude.{◌≡◌, ◌<◌, length, IfOk, IfErr};
+    ghost use Rattle.afdx_config.specs.Plan.{IsPort};
+    ghost use Rattle.afdx_tx.specs.Ports.{PortView, MaySend, Accepts, Refuses};
+
+    // The port of a configuration at a place, with a sender of its sub-VL's queue.
+    pub(crate) fn new(plan: PortPlan, place: usize, sender: Sender) -> TxPort
+        requires { IsPort plan }
+        ensures { result ≡ record {
+          place = place;
+          plan = plan;
+          sender = sender;
+        } }
+    {
+        TxPort {
+            plan,
+            place,
+            sender,
+        }
+    }
+
+    /// Its identifier.
+    pub fn id(&self) -> PortId
+        ensures { result ≡ self.now.plan.id }
+    {
+        self.plan.id
+    }
+
+    /// How many of its messages were accepted.
+    pub fn accepted(&self) -> u64
+        ensures { result ≡ length self.now.sender.own }
+    {
+        self.sender.accepted()
+    }
+
+    // Its place in the configuration.
+    pub(crate) fn place(&self) -> usize
+        ensures { result ≡ self.now.place }
+    {
+        self.place
+    }
+
+    // Its sender.
+    pub(crate) fn into_sender(self) -> Sender
+        ensures { result ≡ self.sender }
+    {
+        let TxPort {
+            plan: _,
+            place: _,
+            sender,
+        } = self;
+        sender
+    }
+
+    /// Puts a message at the end of the queue of its sub-VL, or hands it back and says why: it has
+    /// no bytes, it is over the port's greatest message, or its queue refused it. Where the length
+    /// is refused nothing has changed; otherwise only how often the port asked. The call may wait
+    /// for a poll that is in the middle of a take. Takes no memory.
+    pub fn send<R: Wait>(&mut self, rt: &R, bytes: Vec<u8>) -> Result<(), SendFault>
+        ensures accepted { IfOk result (λ _. Accepts self.old bytes.items self.new) }
+        ensures sendable { IfOk result (λ _. MaySend self.old.plan (length bytes.items)) }
+        ensures open { IfOk result (λ _. self.old.sender.asks < self.old.sender.calls) }
+        ensures back { IfErr result (λ fault. fault.bytes.items ≡ bytes.items) }
+        ensures refused { IfErr result
+            (λ fault. Refuses self.old (length bytes.items) fault.why self.new) }
+    {
+        if let Some(why) = length_refusal(&self.plan, bytes.len()) {
+            return Err(SendFault { why, bytes });
+        }
+        match self.sender.send(rt, bytes) {
+            Ok(()) => Ok(()),
+            Err(refused) => Err(handed_back(refused)),
+        }
+    }
+}
+
+// The message that a queue refused.
+fn handed_back(refused: Refused) -> SendFault
+    ensures why { result.why ≡ refusal_of refused.why }
+    ensures bytes { result.bytes.items ≡ refused.bytes.items }
+{
+    let why = match refused.why {
+        Why::Closed => Refusal::Closed,
+        Why::Exhausted => Refusal::Exhausted,
+        Why::Full => Refusal::Full,
+    };
+    SendFault {
+        why,
+        bytes: refused.bytes,
+    }
+}
