@@ -1,0 +1,2 @@
+mod ReadingLemmas
+mod ReportLemmas

@@ -1,52 +1,76 @@
-//! The bench of a transmitting end system: runs a script from standard input over the demonstration
-//! configuration and two networks in memory, and prints its transcript.
+//! The bench of a transmitting end system: runs scripts over two networks in memory and prints their
+//! transcripts, and reports on configurations.
 #![tactic(auto)]
 
+mod check;
+mod failure;
+mod reading;
+mod report;
 mod status;
 #[cfg(test)]
 mod tests;
+mod told;
+mod words;
 
 use afdx_config::demo_config;
-use status::{FAILED, REFUSED, status_of};
+use failure::Failure;
+use reading::read_plan;
+use status::{End, status_of};
+use std::fs::File;
 use std::io::{self, BufWriter, Write};
 use std::process::ExitCode;
-use tx_script::{RunFault, Summary, run_script};
+use told::tell_words;
+use tx_script::{RunFault, run_script};
+use words::{Words, read_words};
 
-/// Runs the script, and writes what the output still holds.
-fn run(rt: &HostRuntime) -> Result<Summary, RunFault> {
-    let config = demo_config(rt.alloc()).map_err(|_| RunFault::Memory)?;
-    let mut writer = BufWriter::new(rt.alloc(), io::writer(rt)).map_err(|_| RunFault::Memory)?;
-    let end = run_script(rt.alloc(), config, rt.stdin(), &mut writer);
-    match writer.flush() {
-        Ok(()) => end,
-        Err(_) => Err(RunFault::Write),
+/// Opens a file that a word names.
+fn open(rt: &HostRuntime, path: &str) -> Result<File, Failure> {
+    File::open(rt, path).map_err(|error| match error.kind() {
+        io::ErrorKind::OutOfMemory => Failure::Run(RunFault::Memory),
+        _ => Failure::Run(RunFault::Read),
+    })
+}
+
+/// Does what the words ask for. The configuration is read before the script is opened.
+fn obey<W: Write>(rt: &HostRuntime, words: Words, writer: &mut W) -> Result<End, Failure> {
+    let alloc = rt.alloc();
+    match words {
+        Words::Script => {
+            let config = demo_config(alloc).map_err(Failure::Config)?;
+            let ran = run_script(rt, alloc, config, rt.stdin(), writer);
+            ran.map(End::Ran).map_err(Failure::Run)
+        }
+        Words::Run { config, script } => {
+            let config = read_plan(alloc, open(rt, config.as_str())?)?;
+            let ran = run_script(rt, alloc, config, open(rt, script.as_str())?, writer);
+            ran.map(End::Ran).map_err(Failure::Run)
+        }
+        Words::Check { config } => {
+            check::check(alloc, open(rt, config.as_str())?, writer)?;
+            Ok(End::Told)
+        }
+        Words::Storm => Err(Failure::Storm),
     }
 }
 
-/// The status to end with where the command line has words, which are all refused, or can't be read.
-fn refusal_of_words(rt: &HostRuntime) -> Option<u8> {
-    match std::env::args(rt) {
-        Ok(words) if words.len() <= 1 => None,
-        Err(error) if error.kind() == io::ErrorKind::OutOfMemory => {
-            let _told = eprintln!(rt; "{}", RunFault::Memory);
-            Some(FAILED)
-        }
-        _ => {
-            let _told = eprintln!(rt;
-                "afdx_bench takes no words: it reads a script from standard input"
-            );
-            Some(REFUSED)
-        }
+/// Does what the words ask for, and writes what the output still holds.
+fn run(rt: &HostRuntime, words: Words) -> Result<End, Failure> {
+    let writer = BufWriter::new(rt.alloc(), io::writer(rt));
+    let mut writer = writer.map_err(|_| Failure::Run(RunFault::Memory))?;
+    let end = obey(rt, words, &mut writer);
+    match writer.flush() {
+        Ok(()) => end,
+        Err(_) => Err(Failure::Run(RunFault::Write)),
     }
 }
 
 fn main(rt: HostRuntime) -> ExitCode {
-    if let Some(status) = refusal_of_words(&rt) {
-        return ExitCode::from(status);
-    }
-    let end = run(&rt);
-    if let Err(fault) = &end {
-        let _told = eprintln!(rt; "{fault}");
+    let end = match read_words(&rt) {
+        Ok(words) => run(&rt, words).unwrap_or_else(End::Failed),
+        Err(error) => tell_words(&rt, &error),
+    };
+    if let End::Failed(failure) = &end {
+        let _told = eprintln!(rt; "{failure}");
     }
     ExitCode::from(status_of(&end))
 }

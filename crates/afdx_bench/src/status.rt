@@ -1,13 +1,15 @@
-//! The exit statuses of the program.
+//! The ends of the program, and their exit statuses.
 ghost use Rattle.std.specs.Prelude.{◌≡◌};
-ghost use Rattle.afdx_bench.specs.Status.{exit_status};
+ghost use Rattle.afdx_bench.specs.Status.{exit_status, failure_status as status_of_failure, run_status as status_of_run};
 
+use crate::failure::Failure;
+use afdx_config::ConfigFault;
 use tx_script::{RunFault, Summary};
 
-/// The script ended, and no line of it was refused.
+/// All that was asked for was done, and no line of a script was refused.
 pub const DONE: u8 = 0;
 
-/// The words or the script were refused.
+/// The words, the configuration or the script were refused.
 pub const REFUSED: u8 = 2;
 
 /// The script ended, and at least one of its lines was refused while running.
@@ -16,14 +18,48 @@ pub const LINES_REFUSED: u8 = 3;
 /// Memory, reading or writing failed.
 pub const FAILED: u8 = 4;
 
-/// The status of a run by its end.
-pub fn status_of(end: &Result<Summary, RunFault>) -> u8
+/// How the program ends.
+#[derive(Clone, Copy, Debug, PartialEq, Eq)]
+pub enum End {
+    /// Help, or the report of a plan, was written.
+    Told,
+    /// The script was run to its end.
+    Ran(Summary),
+    /// The words of the command line were refused, which was told already.
+    WordsRefused,
+    /// The command ended early.
+    Failed(Failure),
+}
+
+/// The exit status of an end.
+pub fn status_of(end: &End) -> u8
     ensures { result ≡ exit_status end.now }
 {
     match end {
-        Ok(summary) if summary.refused == 0 => DONE,
-        Ok(_) => LINES_REFUSED,
-        Err(RunFault::Line { .. } | RunFault::Lines) => REFUSED,
-        Err(RunFault::Read | RunFault::Write | RunFault::Memory) => FAILED,
+        End::Told => DONE,
+        End::Ran(summary) if summary.refused == 0 => DONE,
+        End::Ran(_) => LINES_REFUSED,
+        End::WordsRefused => REFUSED,
+        End::Failed(failure) => failure_status(failure),
+    }
+}
+
+fn failure_status(failure: &Failure) -> u8
+    ensures { result ≡ status_of_failure failure.now }
+{
+    match failure {
+        Failure::Config(ConfigFault::Memory) => FAILED,
+        Failure::Config(_) => REFUSED,
+        Failure::Run(fault) => run_status(fault),
+        Failure::Storm => REFUSED,
+    }
+}
+
+fn run_status(fault: &RunFault) -> u8
+    ensures { result ≡ status_of_run fault.now }
+{
+    match fault {
+        RunFault::Line { .. } | RunFault::Lines => REFUSED,
+        RunFault::Read | RunFault::Write | RunFault::Memory => FAILED,
     }
 }

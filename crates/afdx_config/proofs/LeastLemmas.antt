@@ -146,24 +146,3 @@ answer_err text doc (Err e) reads h =
       λ f l. hasnt f text doc reads
           (least_of doc e (h other_than) f l),
     )
-
--- no number is below that of Toml
-pub toml_least : (text : List ℕ) → HasFault Toml text → IsLeastFault text Toml
-toml_least text h = (h, λ f l. below f l)
-  where
-    below : (f : ConfigFault) → fault_number f < 1 → ¬ HasFault f text
-    below Toml l = absurd (omega arith)
-    below MissingKey l = absurd (omega arith)
-    below UnknownKey l = absurd (omega arith)
-    below WrongKind l = absurd (omega arith)
-    below OutOfRange l = absurd (omega arith)
-    below BadBag l = absurd (omega arith)
-    below DuplicateVl l = absurd (omega arith)
-    below DuplicatePort l = absurd (omega arith)
-    below NoSuchVl l = absurd (omega arith)
-    below NoSuchSub l = absurd (omega arith)
-    below SamplingTooLong l = absurd (omega arith)
-    below SameFlow l = absurd (omega arith)
-    below SharedUnicast l = absurd (omega arith)
-    below Limit l = absurd (omega arith)
-    below Memory l = absurd (omega arith)

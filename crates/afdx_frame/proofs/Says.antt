@@ -1,6 +1,6 @@
 -- Each frame says what went in.
 use Rattle.std.proofs.Common.{◌≡◌, ℕ, suc, ◌+◌, ◌-◌, ◌/◌, ◌%◌, ◌≤◌, ◌<◌, ◌⊎◌, inl, inr, Bool, true, false, Option, Some, None, List, [], ◌∷◌, ◌++◌, length, take, drop, get_or, replicate, max, refl, sym, ap, ◌∙◌, arith, append_assoc, length-append}
-use Rattle.std.proofs.lemmas.List.{length-take, length-drop, get_or_append_left, get_or-replicate, get_or_push}
+use Rattle.std.proofs.lemmas.List.{drop-drop, drop_at, take_at, length-take, length-drop, get_or_append_left, get_or-replicate, get_or_push}
 use Rattle.std.proofs.lemmas.Bool.Decides.{nat_tests}
 use Rattle.std.proofs.Math.Seq.{take-append_seam, get_or-append_right}
 use Rattle.std.proofs.Math.ListN.{length-replicate}
@@ -106,7 +106,7 @@ module _ (end_system : ℕ) (port : PortPlan) (message : List ℕ) (place : ℕ)
   unfolding unnumbered link_header
   vl_ok h = omega arith
 
-  total_ok : piece.len ≤ 1479 → total_length frame ≡ 20 + piece.len
+  pub total_ok : piece.len ≤ 1479 → total_length frame ≡ 20 + piece.len
   unfolding unnumbered link_header internet_header header_front
   total_ok h = omega arith
 
@@ -181,6 +181,19 @@ module _ (end_system : ℕ) (port : PortPlan) (message : List ℕ) (place : ℕ)
       ap (λ (n : ℕ). take n (header ++ rest)) (sym twenty) ∙ take-append_seam header rest in
       rw (behind, front) (header_closes end_system port (identification place port.sub) piece)
 
+  -- the piece stands behind the headers
+  pub payload_says : IsPort port → piece.start + piece.len ≤ 8 + length message
+      → take piece.len (drop 34 frame) ≡ take piece.len (drop piece.start (datagram end_system port message))
+  unfolding payload
+  payload_says is within =
+      let header = internet_header end_system port (identification place port.sub) piece in
+      let rest = payload ++ (replicate (25 - piece.len) 0 ++ number ∷ []) in
+      let twenty = length-internet end_system port (identification place port.sub) piece is in
+      let behind : drop 14 frame ≡ header ++ rest = ap (drop 14) tail_is ∙ drop_link port.vl.0 end_system net (header ++ rest) in
+      let both : drop 34 frame ≡ rest = sym (drop-drop 20 14 frame) ∙ ap (drop 20) behind ∙ drop_at header rest 20 twenty in
+      ap (take piece.len) both
+      ∙ take_at payload (replicate (25 - piece.len) 0 ++ number ∷ []) piece.len (length-payload within)
+
   length-front : IsPort port → piece.start + piece.len ≤ 8 + length message
       → length (link_header port.vl.0 end_system net
       ++ internet_header end_system port (identification place port.sub) piece ++ payload) ≡ 34 + piece.len
@@ -202,7 +215,7 @@ module _ (end_system : ℕ) (port : PortPlan) (message : List ℕ) (place : ℕ)
   unfolding unnumbered payload
   parts_are = simp append_assoc
 
-  length-frame : IsPort port → piece.start + piece.len ≤ 8 + length message → length frame ≡ max 60 (35 + piece.len)
+  pub length-frame : IsPort port → piece.start + piece.len ≤ 8 + length message → length frame ≡ max 60 (35 + piece.len)
   length-frame is within =
       let front = length-front is within in
       let parts = ap length parts_are in

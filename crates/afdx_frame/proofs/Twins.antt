@@ -19,7 +19,8 @@ use Rattle.afdx_frame.specs.Fragments.{Sent, blanked, fragments_at, fragments_fr
 pub twin_elsewhere : (net : Net) (frame : List ℕ) (k : ℕ) → k ≢ 11 → slice_index (twin_of net frame) k ≡ slice_index frame k
 twin_elsewhere net frame k other = get_or-set_other frame 11 k (interface_byte net) 0 other
 
-twin_word : (net : Net) (frame : List ℕ) (k : ℕ) → k ≢ 11 → k + 1 ≢ 11 → word_at (twin_of net frame) k ≡ word_at frame k
+-- a word that the identifier is no part of
+pub twin_word : (net : Net) (frame : List ℕ) (k : ℕ) → k ≢ 11 → k + 1 ≢ 11 → word_at (twin_of net frame) k ≡ word_at frame k
 twin_word net frame k first second =
     ap (λ (high : ℕ). 256 * high + slice_index (twin_of net frame) (k + 1)) (twin_elsewhere net frame k first)
     ∙ ap (λ (low : ℕ). 256 * slice_index frame k + low) (twin_elsewhere net frame (k + 1) second)

@@ -6,3 +6,5 @@ pub mod Profile
 pub mod Header
 pub mod ReadBack
 pub mod Fragments
+pub mod Reassembly
+pub mod WorkedReassembly

@@ -19,3 +19,5 @@ pub use sender::Sender;
 
 #[cfg(test)]
 mod tests;
+#[cfg(test)]
+mod thread_tests;

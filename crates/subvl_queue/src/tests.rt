@@ -7,66 +7,90 @@ use std::process::Abort;
 use std::sync::Wait;
 use std::test::Fail;
 
-// A message of two bytes.
-fn message(alloc: Global, first: u8, second: u8) -> Result<Vec<u8>, AllocError>
-    ensures { IfOk result (λ bytes. bytes.items ≡ first ∷ second ∷ []) }
+// Sends a message of two bytes. Why it was refused, if it was; then it came back.
+fn send<R: Wait + Abort>(
+    rt: &R,
+    alloc: Global,
+    sender: &mut Sender,
+    first: u8,
+    second: u8,
+) -> Result<Option<Why>, AllocError>
+    ensures { sender.new.queue ≡ sender.old.queue }
 {
-    Ok(vec![in alloc; first, second]?)
+    let bytes = vec![in alloc; first, second]?;
+    match sender.send(rt, bytes) {
+        Ok(()) => Ok(None),
+        Err(refused) => {
+            assert_eq!(rt; refused.bytes.as_slice(), [first, second].as_slice());
+            Ok(Some(refused.why))
+        }
+    }
 }
 
-// Whether it is this message of this port.
-fn is_item(item: Option<Item>, port: u8, first: u8, second: u8) -> bool {
-    match item {
-        Some(item) => item.port == port && item.bytes.as_slice() == [first, second].as_slice(),
-        None => false,
-    }
+// An item's port and its two bytes.
+fn shown(item: Item) -> Option<[u8; 3]> {
+    let first = *item.bytes.first()?;
+    let second = *item.bytes.get(1)?;
+    Some([item.port, first, second])
+}
+
+// Takes the next message, shown.
+fn take<R: Wait>(rt: &R, receiver: &mut Receiver) -> Option<[u8; 3]>
+    ensures { receiver.new.queue ≡ receiver.old.queue }
+{
+    let item = receiver.take(rt)?;
+    shown(item)
+}
+
+// Takes the next message that is left, shown.
+fn take_left(gathered: &mut Gathered) -> Option<[u8; 3]> {
+    let item = gathered.take()?;
+    shown(item)
 }
 
 #[test]
 fn a_queue_of_two_takes_two_messages_and_gives_them_in_order(rt: HostRuntime) -> Result<(), Fail> {
     let alloc = rt.alloc();
     let (mut receiver, mut senders) = make(alloc, 2, 1, 10)?;
-    assert_eq!(rt; senders.len(), 1);
     let mut sender = senders.pop().ok_or(AllocError)?;
     assert_eq!(rt; sender.index(), 0);
-    assert_eq!(rt; sender.accepted(), 0);
-    assert!(rt; receiver.take(&rt).is_none());
-    assert!(rt; sender.send(&rt, message(alloc, 1, 10)?).is_ok());
-    assert!(rt; sender.send(&rt, message(alloc, 2, 20)?).is_ok());
-    let third = sender
-        .send(&rt, message(alloc, 3, 30)?)
-        .err()
-        .ok_or(AllocError)?;
-    assert_eq!(rt; third.why, Why::Full);
-    assert_eq!(rt; third.bytes.as_slice(), [3, 30].as_slice());
-    assert!(rt; is_item(receiver.take(&rt), 0, 1, 10));
-    assert!(rt; sender.send(&rt, third.bytes).is_ok());
-    assert!(rt; is_item(receiver.take(&rt), 0, 2, 20));
-    assert!(rt; is_item(receiver.take(&rt), 0, 3, 30));
-    assert!(rt; receiver.take(&rt).is_none());
+    assert_eq!(rt; take(&rt, &mut receiver), None);
+    assert_eq!(rt; send(&rt, alloc, &mut sender, 1, 10)?, None);
+    assert_eq!(rt; send(&rt, alloc, &mut sender, 2, 20)?, None);
+    assert_eq!(rt; send(&rt, alloc, &mut sender, 3, 30)?, Some(Why::Full));
+    assert_eq!(rt; take(&rt, &mut receiver), Some([0, 1, 10]));
+    assert_eq!(rt; send(&rt, alloc, &mut sender, 4, 40)?, None);
+    assert_eq!(rt; take(&rt, &mut receiver), Some([0, 2, 20]));
+    assert_eq!(rt; take(&rt, &mut receiver), Some([0, 4, 40]));
+    assert_eq!(rt; take(&rt, &mut receiver), None);
     assert_eq!(rt; sender.accepted(), 3);
     Ok(())
 }
 
+// Sends three messages through each of two senders, in turn.
+fn interleave<R: Wait + Abort>(
+    rt: &R,
+    alloc: Global,
+    first: &mut Sender,
+    second: &mut Sender,
+) -> Result<(), AllocError> {
+    for number in 0..3 {
+        assert_eq!(rt; send(rt, alloc, first, 7, number)?, None);
+        assert_eq!(rt; send(rt, alloc, second, 9, number)?, None);
+    }
+    Ok(())
+}
+
 #[test]
-fn each_ports_messages_keep_their_order(rt: HostRuntime) -> Result<(), Fail> {
+fn each_senders_messages_keep_their_order(rt: HostRuntime) -> Result<(), Fail> {
     let alloc = rt.alloc();
-    let (mut receiver, mut senders) = make(alloc, 8, 2, 10)?;
-    assert_eq!(rt; senders.len(), 2);
-    for (port, number) in [(1, 0), (0, 0), (0, 1), (1, 1), (0, 2), (1, 2)] {
-        let bytes = message(alloc, port, number)?;
-        assert!(rt; senders[usize::from(port)].send(&rt, bytes).is_ok());
+    let (mut receiver, mut first, mut second) = open_two(alloc)?;
+    interleave(&rt, alloc, &mut first, &mut second)?;
+    for number in 0..3 {
+        assert_eq!(rt; take(&rt, &mut receiver), Some([0, 7, number]));
+        assert_eq!(rt; take(&rt, &mut receiver), Some([1, 9, number]));
     }
-    let mut next = [0u8, 0u8];
-    for _ in 0..6 {
-        let item = receiver.take(&rt).ok_or(AllocError)?;
-        let port = item.port;
-        let number = next[usize::from(port)];
-        assert_eq!(rt; item.bytes.as_slice(), [port, number].as_slice());
-        next[usize::from(port)] = number.wrapping_add(1);
-    }
-    assert_eq!(rt; next, [3, 3]);
-    assert!(rt; receiver.take(&rt).is_none());
+    assert_eq!(rt; take(&rt, &mut receiver), None);
     Ok(())
 }
 
@@ -83,52 +107,80 @@ fn two(alloc: Global, first: Sender, second: Sender) -> Result<Vec<Sender>, Allo
 
 // The sender alone in a list.
 fn one(alloc: Global, sender: Sender) -> Result<Vec<Sender>, AllocError>
-    ensures { IfOk result (λ senders. AreOf sender.queue senders.items) }
+    ensures is { IfOk result (λ senders. senders.items ≡ sender ∷ []) }
+    ensures queue { IfOk result (λ senders. AreOf sender.queue senders.items) }
 {
     let mut senders = Vec::new(alloc);
     senders.push(sender)?;
     Ok(senders)
 }
 
-// Gathers one of two senders, which is refused, and then both, the later one first.
-fn gather_one_then_both<R: Wait + Abort>(
+// Gathers one of two senders, which is refused. Both come back.
+fn gather_alone<R: Wait + Abort>(
     rt: &R,
     alloc: Global,
     receiver: Receiver,
-    first: Sender,
-    second: Sender,
-) -> Result<Gathered, Fail>
-    requires first { first.queue ≡ receiver.queue }
-    requires second { second.queue ≡ receiver.queue }
+    sender: Sender,
+) -> Result<(Receiver, Sender), AllocError>
+    requires { sender.queue ≡ receiver.queue }
+    ensures receiver { IfOk result (λ r. r.0.queue ≡ receiver.queue) }
+    ensures sender { IfOk result (λ r. r.1.queue ≡ receiver.queue) }
 {
-    let alone = one(alloc, second)?;
-    let (receiver, mut back) = receiver.gather(rt, alone).err().ok_or(AllocError)?;
-    assert_eq!(rt; back.len(), 1);
-    let second = back.pop().ok_or(AllocError)?;
-    assert_eq!(rt; second.index(), 1);
-    let both = two(alloc, second, first)?;
-    let gathered = receiver.gather(rt, both).ok().ok_or(AllocError)?;
-    Ok(gathered)
+    let alone = one(alloc, sender)?;
+    match receiver.gather(rt, alone) {
+        Ok(_) => panic!(rt; "a sender is missing"),
+        Err((receiver, mut back)) => {
+            let sender = back.pop().ok_or(AllocError)?;
+            Ok((receiver, sender))
+        }
+    }
+}
+
+// A queue for eight messages of two senders.
+fn open_two(alloc: Global) -> Result<(Receiver, Sender, Sender), AllocError>
+    ensures first { IfOk result (λ r. r.1.queue ≡ r.0.queue) }
+    ensures second { IfOk result (λ r. r.2.queue ≡ r.0.queue) }
+{
+    let (receiver, mut senders) = make(alloc, 8, 2, 10)?;
+    let second = senders.pop().ok_or(AllocError)?;
+    let first = senders.pop().ok_or(AllocError)?;
+    Ok((receiver, first, second))
+}
+
+// Two messages of the first sender and one of the second, of which the first is taken.
+fn send_three_take_one<R: Wait + Abort>(
+    rt: &R,
+    alloc: Global,
+    receiver: &mut Receiver,
+    first: &mut Sender,
+    second: &mut Sender,
+) -> Result<(), AllocError>
+    ensures receiver { receiver.new.queue ≡ receiver.old.queue }
+    ensures first { first.new.queue ≡ first.old.queue }
+    ensures second { second.new.queue ≡ second.old.queue }
+{
+    assert_eq!(rt; send(rt, alloc, first, 5, 1)?, None);
+    assert_eq!(rt; send(rt, alloc, second, 6, 1)?, None);
+    assert_eq!(rt; send(rt, alloc, first, 5, 2)?, None);
+    assert_eq!(rt; take(rt, receiver), Some([0, 5, 1]));
+    Ok(())
 }
 
 #[test]
 fn gathering_needs_every_sender_in_any_order(rt: HostRuntime) -> Result<(), Fail> {
     let alloc = rt.alloc();
-    let (mut receiver, mut senders) = make(alloc, 4, 2, 10)?;
-    assert_eq!(rt; senders.len(), 2);
-    let mut second = senders.pop().ok_or(AllocError)?;
-    let mut first = senders.pop().ok_or(AllocError)?;
-    assert!(rt; first.send(&rt, message(alloc, 0, 1)?).is_ok());
-    assert!(rt; second.send(&rt, message(alloc, 1, 1)?).is_ok());
-    assert!(rt; first.send(&rt, message(alloc, 0, 2)?).is_ok());
-    assert!(rt; is_item(receiver.take(&rt), 0, 0, 1));
-    let mut gathered = gather_one_then_both(&rt, alloc, receiver, first, second)?;
+    let (mut receiver, mut first, mut second) = open_two(alloc)?;
+    send_three_take_one(&rt, alloc, &mut receiver, &mut first, &mut second)?;
+    let (receiver, second) = gather_alone(&rt, alloc, receiver, second)?;
+    assert_eq!(rt; second.index(), 1);
+    let both = two(alloc, second, first)?;
+    let mut gathered = receiver.gather(&rt, both).ok().ok_or(AllocError)?;
     assert!(rt; !gathered.is_drained());
-    assert!(rt; is_item(gathered.take(), 1, 1, 1));
-    assert!(rt; is_item(gathered.take(), 0, 0, 2));
+    assert_eq!(rt; take_left(&mut gathered), Some([1, 6, 1]));
+    assert_eq!(rt; take_left(&mut gathered), Some([0, 5, 2]));
     assert!(rt; gathered.is_drained());
-    assert!(rt; gathered.take().is_none());
-    assert!(rt; gathered.take().is_none());
+    assert_eq!(rt; take_left(&mut gathered), None);
+    assert_eq!(rt; take_left(&mut gathered), None);
     Ok(())
 }
 
@@ -137,43 +189,27 @@ fn the_fourth_ask_of_three_is_exhausted(rt: HostRuntime) -> Result<(), Fail> {
     let alloc = rt.alloc();
     let (mut receiver, mut senders) = make(alloc, 1, 1, 3)?;
     let mut sender = senders.pop().ok_or(AllocError)?;
-    assert!(rt; sender.send(&rt, message(alloc, 1, 0)?).is_ok());
-    for number in 2..4 {
-        let refused = sender
-            .send(&rt, message(alloc, number, 0)?)
-            .err()
-            .ok_or(AllocError)?;
-        assert_eq!(rt; refused.why, Why::Full);
-    }
-    assert!(rt; is_item(receiver.take(&rt), 0, 1, 0));
-    let refused = sender
-        .send(&rt, message(alloc, 4, 0)?)
-        .err()
-        .ok_or(AllocError)?;
-    assert_eq!(rt; refused.why, Why::Exhausted);
-    assert_eq!(rt; refused.bytes.as_slice(), [4, 0].as_slice());
-    assert!(rt; receiver.take(&rt).is_none());
+    assert_eq!(rt; send(&rt, alloc, &mut sender, 1, 0)?, None);
+    assert_eq!(rt; send(&rt, alloc, &mut sender, 2, 0)?, Some(Why::Full));
+    assert_eq!(rt; send(&rt, alloc, &mut sender, 3, 0)?, Some(Why::Full));
+    assert_eq!(rt; take(&rt, &mut receiver), Some([0, 1, 0]));
+    assert_eq!(rt; send(&rt, alloc, &mut sender, 4, 0)?, Some(Why::Exhausted));
+    assert_eq!(rt; take(&rt, &mut receiver), None);
     assert_eq!(rt; sender.accepted(), 1);
     Ok(())
 }
 
 #[test]
-fn with_the_receiver_gone_a_queue_is_closed_until_the_calls_are_used_up(
+fn a_queue_whose_receiver_is_gone_is_closed_until_the_calls_are_used_up(
     rt: HostRuntime,
 ) -> Result<(), Fail> {
     let alloc = rt.alloc();
-    let (receiver, mut senders) = make(alloc, 1, 1, 2)?;
+    let (receiver, mut senders) = make(alloc, 2, 1, 2)?;
     let mut sender = senders.pop().ok_or(AllocError)?;
-    assert!(rt; sender.send(&rt, message(alloc, 1, 0)?).is_ok());
+    assert_eq!(rt; send(&rt, alloc, &mut sender, 1, 0)?, None);
     drop(receiver);
-    let refused = sender
-        .send(&rt, message(alloc, 2, 0)?)
-        .err()
-        .ok_or(AllocError)?;
-    assert_eq!(rt; refused.why, Why::Closed);
-    assert_eq!(rt; refused.bytes.as_slice(), [2, 0].as_slice());
-    let refused = sender.send(&rt, refused.bytes).err().ok_or(AllocError)?;
-    assert_eq!(rt; refused.why, Why::Exhausted);
+    assert_eq!(rt; send(&rt, alloc, &mut sender, 2, 0)?, Some(Why::Closed));
+    assert_eq!(rt; send(&rt, alloc, &mut sender, 3, 0)?, Some(Why::Exhausted));
     assert_eq!(rt; sender.accepted(), 1);
     Ok(())
 }
@@ -181,10 +217,9 @@ fn with_the_receiver_gone_a_queue_is_closed_until_the_calls_are_used_up(
 #[test]
 fn a_queue_without_senders_is_gathered_at_once(rt: HostRuntime) -> Result<(), Fail> {
     let (receiver, senders) = make(rt.alloc(), 256, 0, 1)?;
-    assert_eq!(rt; senders.len(), 0);
     let mut gathered = receiver.gather(&rt, senders).ok().ok_or(AllocError)?;
     assert!(rt; gathered.is_drained());
-    assert!(rt; gathered.take().is_none());
+    assert_eq!(rt; take_left(&mut gathered), None);
     Ok(())
 }
 

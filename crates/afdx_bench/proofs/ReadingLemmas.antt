@@ -1,0 +1,25 @@
+-- A text that was read up to a limit.
+use Rattle.std.proofs.Common.{◌≡◌, ℕ, ◌+◌, ◌≤◌, List, [], ◌++◌, length, Option, Some, None, IfSome, arith, ap, subst, ◌∙◌, take}
+use Rattle.std.proofs.lemmas.List.{take_all, length-take}
+use Rattle.std.specs.Prelude.{option_map}
+
+-- a text within the limit is whole, where one byte more than the limit would have been read
+pub within_limit : (known : Option (List ℕ)) (limit : ℕ) (text : List ℕ)
+    → IfSome (option_map (take (limit + 1)) known) (λ bytes. text ≡ bytes) → length text ≤ limit
+    → IfSome known (λ bytes. text ≡ bytes)
+within_limit None limit text is few = tt
+within_limit (Some bytes) limit text is few =
+    is ∙ take_all (limit + 1) bytes (omega (arith, ap length is, length-take (limit + 1) bytes))
+
+-- the same of a reader that takes up to a limit from another one
+pub whole_text : (known inner : Option (List ℕ)) (limit most : ℕ) (old text : List ℕ)
+    → most ≡ limit + 1 → inner ≡ known → old ≡ []
+    → IfSome (option_map (take most) inner) (λ bytes. text ≡ old ++ bytes) → length text ≤ limit
+    → IfSome known (λ bytes. text ≡ bytes)
+whole_text known inner limit most old text at_most at_inner at_old is few =
+    let first : IfSome (option_map (take (limit + 1)) inner) (λ bytes. text ≡ old ++ bytes)
+    = subst (λ n. IfSome (option_map (take n) inner) (λ bytes. text ≡ old ++ bytes)) at_most is in
+    let second : IfSome (option_map (take (limit + 1)) known) (λ bytes. text ≡ old ++ bytes)
+    = subst (λ r. IfSome (option_map (take (limit + 1)) r) (λ bytes. text ≡ old ++ bytes)) at_inner first in
+    within_limit known limit text
+    (subst (λ o. IfSome (option_map (take (limit + 1)) known) (λ bytes. text ≡ o ++ bytes)) at_old second) few

@@ -1,0 +1,69 @@
+-- What `check` tells of a plan.
+use Rattle.std.specs.Prelude.{codes, ℕ, List, [], ◌∷◌, ◌++◌, Option, Some, None, nat_lt, if◌then◌else◌, flat_map, decimal}
+use Rattle.std.specs.Net.Text.{ipv4_text}
+use Rattle.afdx_config.specs.Config.{Plan}
+use Rattle.afdx_config.specs.Plan.{bag_ms, jitter_of}
+use Rattle.afdx_config.specs.declared.identifiers.Kind.{Kind}
+use Rattle.afdx_config.specs.declared.identifiers.Kind.TheVariants.{Sampling, Queuing}
+use Rattle.afdx_config.specs.declared.link_plan.LinkPlan.{LinkPlan}
+use Rattle.afdx_config.specs.declared.port_plan.PortPlan.{PortPlan}
+
+-- the end system
+unfoldable pub end_system_line : ℕ → List ℕ
+end_system_line id = codes "end system " ++ decimal id ++ 10 ∷ []
+
+-- a virtual link's gap and greatest frame
+unfoldable pub pace_text : LinkPlan → List ℕ
+pace_text link = codes "link " ++ decimal link.id.0 ++ codes ": bag " ++ decimal (bag_ms link.bag)
+    ++ codes " ms, lmax " ++ decimal link.lmax
+
+-- a virtual link's queues
+unfoldable pub queues_text : LinkPlan → List ℕ
+queues_text link = codes ", sub-VLs " ++ decimal link.sub_vls ++ codes ", capacity "
+    ++ decimal link.capacity ++ 10 ∷ []
+
+-- a virtual link
+unfoldable pub link_line : LinkPlan → List ℕ
+link_line link = pace_text link ++ queues_text link
+
+-- a kind of ports
+abbrev pub kind_name : Kind → List ℕ
+kind_name Sampling = codes "sampling"
+kind_name Queuing = codes "queuing"
+
+-- a port's destination: its unicast address with dots, or a word for its link's multicast address
+unfoldable pub destination_text : Option (List ℕ) → List ℕ
+destination_text None = codes "multicast"
+destination_text (Some address) = ipv4_text address
+
+-- a port's link, sub-VL and partition
+unfoldable pub way_text : PortPlan → List ℕ
+way_text port = codes "port " ++ decimal port.id.0 ++ codes ": link " ++ decimal port.vl.0
+    ++ codes " sub " ++ decimal port.sub ++ codes ", partition " ++ decimal port.partition
+
+-- a port's kind, UDP ports and greatest message
+unfoldable pub flow_text : PortPlan → List ℕ
+flow_text port = codes ", " ++ kind_name port.kind ++ codes ", " ++ decimal port.source
+    ++ codes " to " ++ decimal port.destination ++ codes ", max " ++ decimal port.max
+
+-- a port
+unfoldable pub port_line : PortPlan → List ℕ
+port_line port = way_text port ++ flow_text port ++ codes ", " ++ destination_text port.unicast
+    ++ 10 ∷ []
+
+-- the jitter in nanoseconds, beside the most that the report calls good
+unfoldable pub jitter_text : ℕ → List ℕ
+jitter_text jitter = codes "jitter " ++ decimal jitter ++ codes " ns, limit " ++ decimal 500000
+
+-- whether it is more
+unfoldable pub verdict_text : ℕ → List ℕ
+verdict_text jitter = if nat_lt 500000 jitter then codes ", exceeded" ++ 10 ∷ [] else 10 ∷ []
+
+-- the jitter
+unfoldable pub jitter_line : ℕ → List ℕ
+jitter_line jitter = jitter_text jitter ++ verdict_text jitter
+
+-- the whole report
+unfoldable pub report_of : Plan → List ℕ
+report_of plan = end_system_line plan.end_system ++ flat_map link_line plan.links
+    ++ flat_map port_line plan.ports ++ jitter_line (jitter_of plan.links)

@@ -1,0 +1,146 @@
+-- The receiver has the first of the accepted messages.
+use Rattle.std.proofs.Common.{◌≡◌, ℕ, ◌%◌, ◌≤◌, nat_eq, List, [], ◌∷◌, ◌++◌, length, map, take, drop, refl, ap, sym, ◌∙◌, arith}
+use Rattle.std.specs.Prelude.{All}
+use Rattle.std.proofs.lemmas.List.{append_assoc, map-append, take-append-drop, length-map, length-append, take-take, take-map}
+use Rattle.std.proofs.lemmas.Simd.{map-map}
+use Rattle.std.proofs.lemmas.List.Elements.{filter-append, All-filter, All-map, All-weaker, All-take}
+use Rattle.afdx_frame.specs.declared.net.Net.TheVariants.{A}
+use Rattle.afdx_frame.specs.Frame.{datagram}
+use Rattle.afdx_frame.specs.Twin.{twin_of}
+use Rattle.afdx_frame.specs.Profile.{word_at}
+use Rattle.afdx_frame.specs.Fragments.{Sent, blanked, fragments}
+use Rattle.afdx_frame.specs.Reassembly.{Fragment, empty}
+use Rattle.afdx_laws.specs.Receiver.{begin, received, carried}
+use Rattle.afdx_frame.specs.Header.{number_in}
+use Rattle.afdx_laws.specs.Networks.{IsLong, most_carried}
+use Rattle.afdx_laws.specs.Loss.{next_alone, frames_at}
+use Rattle.afdx_laws.proofs.Arrivals.{exactly_once_holds}
+use Rattle.afdx_laws.proofs.Losing.{loss_masked_holds}
+use Rattle.afdx_laws.specs.Delivery.{delivered, of_sub, sent_from}
+use Rattle.afdx_laws.specs.Messages.{fragment_in, sub_stream, messages_in, IsSent, IsSending, AreFirst, MessagesArrive, DespiteLoss}
+use Rattle.afdx_laws.proofs.InOrder.{in_order_holds}
+use Rattle.afdx_laws.proofs.Reading.{same_fragment, read_any, reads_all, reads_frames, of_sub_is, length-datagram, drop-datagram}
+
+-- functions that agree
+map_same : {X Y : Type 0} (f g : X → Y) (xs : List X) → ((x : X) → f x ≡ g x) → map f xs ≡ map g xs
+map_same f g [] same = refl
+map_same f g (x ∷ xs) same = ap (λ y. y ∷ map f xs) (same x) ∙ ap (λ ys. g x ∷ ys) (map_same f g xs same)
+
+-- the fragments that were received
+fragments_received : (got sent : List (List ℕ)) → map (twin_of A) got ≡ map (twin_of A) sent
+    → map fragment_in got ≡ map fragment_in sent
+fragments_received got sent same =
+    map_same fragment_in (λ f. fragment_in (twin_of A f)) got (λ f. sym (same_fragment A f))
+    ∙ sym (map-map fragment_in (twin_of A) got) ∙ ap (map fragment_in) same ∙ map-map fragment_in (twin_of A) sent
+    ∙ map_same (λ f. fragment_in (twin_of A f)) fragment_in sent (λ f. same_fragment A f)
+
+-- the first frames of a link have the first frames of a sub
+sub_take : (sub n : ℕ) (stream : List (List ℕ)) → sub_stream sub stream ≡ sub_stream sub (take n stream)
+    ++ sub_stream sub (drop n stream)
+sub_take sub n stream = ap (sub_stream sub) (sym (take-append-drop n stream))
+    ∙ filter-append (λ (f : List ℕ). nat_eq (word_at f 18 % 4) sub) (take n stream) (drop n stream)
+
+-- the messages in the first datagrams
+bytes_of : (end_system many : ℕ) (accepted : List Sent)
+    → map (drop 8) (take many (map (λ (sent : Sent). datagram end_system sent.port sent.bytes) accepted)) ≡ take
+    many (map (λ (sent : Sent). sent.bytes) accepted)
+bytes_of end_system many accepted =
+    sym (take-map (drop 8) many (map (λ (sent : Sent). datagram end_system sent.port sent.bytes) accepted))
+    ∙ ap (take many) (map-map (drop 8) (λ (sent : Sent). datagram end_system sent.port sent.bytes) accepted
+    ∙ map_same (λ (sent : Sent). drop 8 (datagram end_system sent.port sent.bytes))
+    (λ (sent : Sent). sent.bytes) accepted (λ sent. drop-datagram end_system sent))
+
+-- what is in frames that are the first of the stream's
+pub arrived : (end_system room sub count : ℕ) (accepted : List Sent) (stream got : List (List ℕ))
+    → IsSending end_system room sub accepted stream
+    → map (twin_of A) got ≡ take count (map (twin_of A) stream)
+    → AreFirst end_system room sub accepted (take count stream) (messages_in sub got)
+arrived end_system room sub count accepted stream got sending first_frames =
+    let small = sending.link.numbered in
+    let least = sending.link.least in
+    let greatest = sending.link.greatest in
+    let sent = sending.sent in
+    let prefix = sending.first in
+    let datagrams : List (List ℕ) = map (λ (s : Sent). datagram end_system s.port s.bytes) accepted in
+    let once : map (twin_of A) got ≡ map (twin_of A) (take count stream) = first_frames
+    ∙ take-map (twin_of A) count stream in
+    let frags : map fragment_in got ≡ map fragment_in (take count stream) =
+    fragments_received got (take count stream) once in
+    let mine : of_sub sub (map fragment_in got) ≡ map fragment_in (sub_stream sub (take count stream)) =
+    ap (of_sub sub) frags ∙ of_sub_is sub (take count stream) in
+    let read = reads_all accepted end_system room sub 0 small least greatest sent in
+    let rest : List (List ℕ) = map blanked (sub_stream sub (drop count stream)) ++ prefix.0 in
+    let split : fragments end_system room A accepted ≡ map blanked (sub_stream sub (take count stream)) ++ rest =
+    prefix.1 ∙ ap (λ (xs : List (List ℕ)). map blanked xs ++ prefix.0) (sub_take sub count stream)
+    ∙ ap (λ (xs : List (List ℕ)). xs ++ prefix.0)
+    (map-append blanked (sub_stream sub (take count stream)) (sub_stream sub (drop count stream)))
+    ∙ append_assoc (map blanked (sub_stream sub (take count stream)))
+    (map blanked (sub_stream sub (drop count stream))) prefix.0 in
+    let long_sub : All IsLong (sub_stream sub (take count stream)) =
+    All-filter (λ (f : List ℕ). nat_eq (word_at f 18 % 4) sub) IsLong (take count stream)
+    (All-take IsLong count stream sending.frames.long) in
+    let frames : map read_any (fragments end_system room A accepted) ≡ map fragment_in
+    (sub_stream sub (take count stream)) ++ map read_any rest =
+    reads_frames (sub_stream sub (take count stream))
+    (fragments end_system room A accepted) rest read.each long_sub split in
+    let came : sent_from room sub 0 datagrams ≡ of_sub sub (map fragment_in got) ++ map read_any rest =
+    sym read.are ∙ frames ∙ ap (λ (xs : List (ℕ × Fragment)). xs ++ map read_any rest) (sym mine) in
+    let some : All (λ (d : List ℕ). 1 ≤ length d) datagrams =
+    All-map (λ (d : List ℕ). 1 ≤ length d) (λ (s : Sent). datagram end_system s.port s.bytes) accepted
+    (All-weaker (IsSent sub) (λ (s : Sent). 1 ≤ length (datagram end_system s.port s.bytes))
+    (λ s is. omega (arith, length-datagram end_system s)) accepted sent) in
+    let ends = in_order_holds room sub datagrams (map fragment_in got) (omega arith) sending.index some
+    (map read_any rest, came) in
+    let out_is : messages_in sub got ≡ take ends.0 (map (λ (s : Sent). s.bytes) accepted) =
+    sym (map-map (drop 8) (λ (e : ℕ × List ℕ). e.1) (of_sub sub (delivered (λ key. empty) (map fragment_in got))))
+    ∙ ap (map (drop 8)) ends.1 ∙ bytes_of end_system ends.0 accepted in
+    record {
+      many = ends.0;
+      are = out_is;
+      all = λ j few enough.
+          let first = reads_all (take j accepted) end_system room sub 0 small least greatest
+          (All-take (IsSent sub) j accepted sent) in
+          let count_frags : length (fragments end_system room A (take j accepted)) ≡ length
+          (sent_from room sub 0 (map (λ (s : Sent). datagram end_system s.port s.bytes) (take j accepted))) =
+          sym (length-map (fragments end_system room A (take j accepted)) read_any) ∙ ap length first.are in
+          let of_taken : length (sent_from room sub 0 (take j datagrams)) ≡ length
+          (sent_from room sub 0 (map (λ (s : Sent). datagram end_system s.port s.bytes) (take j accepted))) =
+          ap (λ (ds : List (List ℕ)). length (sent_from room sub 0 ds))
+          (take-map (λ (s : Sent). datagram end_system s.port s.bytes) j accepted) in
+          let mine_count : length (of_sub sub (map fragment_in got)) ≡ length (sub_stream sub (take count stream)) =
+          ap length mine ∙ length-map (sub_stream sub (take count stream)) fragment_in in
+          let all_count : length datagrams ≡ length accepted =
+          length-map accepted (λ (s : Sent). datagram end_system s.port s.bytes) in
+          ends.2 j (omega arith) (omega arith);
+    }
+
+-- the law, by what the receiver accepts
+pub messages_arrive_holds : MessagesArrive
+messages_arrive_holds end_system room sub lag tolerance accepted stream arrivals sending fit carry =
+    arrived end_system room sub (most_carried arrivals) accepted stream
+    (received number_in tolerance begin arrivals) sending
+    (exactly_once_holds lag tolerance stream arrivals fit sending.frames carry)
+
+-- more frames of a link are no fewer of a sub
+more_of_sub : (sub few many : ℕ) (stream : List (List ℕ)) → few ≤ many
+    → length (sub_stream sub (take few stream)) ≤ length (sub_stream sub (take many stream))
+more_of_sub sub few many stream less =
+    let split = ap length (sub_take sub few (take many stream)) in
+    let both = length-append (sub_stream sub (take few (take many stream)))
+    (sub_stream sub (drop few (take many stream))) in
+    let same : length (sub_stream sub (take few (take many stream))) ≡ length (sub_stream sub (take few stream)) =
+    ap (λ (xs : List (List ℕ)). length (sub_stream sub xs)) (take-take few many stream less) in
+    omega arith
+
+-- the law, by what the receiver accepts despite loss
+pub despite_loss_holds : DespiteLoss
+despite_loss_holds end_system room sub check whole accepted stream came sending some close =
+    let masked = loss_masked_holds whole check stream came some sending.frames close in
+    let got = received number_in (next_alone check) begin (frames_at stream came) in
+    let first = arrived end_system room sub masked.0 accepted stream got sending masked.2 in
+    let more = more_of_sub sub (length (carried whole came)) masked.0 stream masked.1 in
+    record {
+      many = first.many;
+      are = first.are;
+      all = λ j few enough. first.all j few (omega arith);
+    }

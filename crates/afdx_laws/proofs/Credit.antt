@@ -1,0 +1,97 @@
+-- The account always has what the next frame costs.
+use Rattle.std.proofs.Common.{ℕ, ◌≡◌, ◌+◌, ◌-◌, ◌*◌, ◌<◌, ◌≤◌, min, List, [], ◌∷◌, true, false, map, arith, refl, ap, ◌∙◌, nat_le}
+use Rattle.std.proofs.lemmas.Bool.Decides.{nat_tests}
+use Rattle.std.proofs.lemmas.Nat.{mul-le}
+use Rattle.afdx_laws.specs.Policer.{Arrival, Rule, Account, Charge, by_bytes, by_frames, limit, full, filled, paid, price, passed, Passage, arrival, IsOnTime, AreOnTime, NoneDropped}
+
+-- what it can pay for
+yes : (a b : ℕ) → a ≤ b → nat_le a b ≡ true
+yes a b h = grind (arith, nat_tests)
+
+-- what it can't
+no : (a b : ℕ) → b < a → nat_le a b ≡ false
+no a b h = grind (arith, nat_tests)
+
+-- no frame costs more than the greatest
+price_le : (charge : Charge) (rule : Rule) (frame : Arrival) → frame.size ≤ rule.lmax
+    → price charge rule frame ≤ rule.lmax * rule.gap
+price_le by_bytes rule frame h = mul-le frame.size rule.gap rule.lmax rule.gap h (omega arith)
+price_le by_frames rule frame h = omega arith
+
+-- below both
+le_min : (n a b : ℕ) → n ≤ a → n ≤ b → n ≤ min a b
+le_min n a b p q = omega arith
+
+-- what stands on the account when a frame comes: its price, and what filled while it was on its way
+abbrev IsReady : Rule → Account → Passage → Type 0
+IsReady rule account p = rule.lmax * (rule.gap + (p.arrived - p.released)) ≤ (filled rule account p.arrived).credit
+
+-- a product over a sum
+spread : (l a b : ℕ) → l * (a + b) ≡ l * a + l * b
+spread l a b = omega arith
+
+-- so it is at the first frame, when the account is full
+ready_first : (rule : Rule) (p : Passage) → IsOnTime rule p → IsReady rule (full rule) p
+ready_first rule p on = let after = on.after in let soon = on.soon in
+    let m = mul-le rule.lmax (rule.gap + (p.arrived - p.released)) rule.lmax (rule.gap + rule.jitter) (omega arith)
+    (omega arith) in
+    le_min (rule.lmax * (rule.gap + (p.arrived - p.released))) (limit rule)
+    (limit rule + rule.lmax * (p.arrived - 0)) m (omega arith)
+
+-- after it is paid, what filled while it was on its way is left
+left : (rule : Rule) (account : Account) (p : Passage) (cost : ℕ) → IsReady rule account p
+    → cost ≤ rule.lmax * rule.gap
+    → rule.lmax * (p.arrived - p.released) ≤ (paid (filled rule account p.arrived) cost).credit
+left rule account p cost ready cheap = let s = spread rule.lmax rule.gap (p.arrived - p.released) in omega arith
+
+-- so it is at the next frame
+ready_next : (rule : Rule) (credit : ℕ) (p q : Passage) → IsOnTime rule p → IsOnTime rule q
+    → p.released + rule.gap ≤ q.released
+    → rule.lmax * (p.arrived - p.released) ≤ credit → IsReady rule (record { credit = credit; since = p.arrived }) q
+ready_next rule credit p q on next apart has =
+    let a1 = on.after in let a2 = next.after in let soon = next.soon in
+    let m = mul-le rule.lmax (rule.gap + (q.arrived - q.released)) rule.lmax (rule.gap + rule.jitter) (omega arith)
+    (omega arith) in
+    let more = mul-le rule.lmax (rule.gap + (q.arrived - q.released)) rule.lmax
+    ((p.arrived - p.released) + (q.arrived - p.arrived)) (omega arith) (omega arith) in
+    let s = spread rule.lmax (p.arrived - p.released) (q.arrived - p.arrived) in
+    le_min (rule.lmax * (rule.gap + (q.arrived - q.released))) (limit rule)
+    (credit + rule.lmax * (q.arrived - p.arrived)) m (omega arith)
+
+-- a frame that can be paid passes
+passes : (charge : Charge) (rule : Rule) (account : Account) (p : Passage) (frames : List Arrival)
+    → price charge rule (arrival p) ≤ (filled rule account p.arrived).credit
+    → passed charge rule account (arrival p ∷ frames) ≡ arrival p ∷ passed charge rule
+    (paid (filled rule account p.arrived) (price charge rule (arrival p))) frames
+passes charge rule account p frames h = let t = yes _ _ h in rw t refl
+
+-- the first frame's price is there
+enough : (charge : Charge) (rule : Rule) (account : Account) (p : Passage) → IsReady rule account p
+    → IsOnTime rule p → price charge rule (arrival p) ≤ (filled rule account p.arrived).credit
+enough charge rule account p ready on = let c = price_le charge rule (arrival p) on.small in let s =
+    spread rule.lmax rule.gap (p.arrived - p.released) in omega arith
+
+-- all frames pass from there on
+all_pass : (charge : Charge) (rule : Rule) (account : Account) (p : Passage) (rest : List Passage)
+    → AreOnTime rule (p ∷ rest) → IsReady rule account p
+    → passed charge rule account (map arrival (p ∷ rest)) ≡ map arrival (p ∷ rest)
+all_pass charge rule account p [] on ready = passes charge rule account p [] (enough charge rule account p ready on)
+all_pass charge rule account p (q ∷ rest) on ready =
+    let cost = price charge rule (arrival p) in
+    let cheap = price_le charge rule (arrival p) (on.0).small in
+    passes charge rule account p (map arrival (q ∷ rest)) (enough charge rule account p ready on.0)
+    ∙ ap (λ (fs : List Arrival). arrival p ∷ fs)
+    (all_pass charge rule (paid (filled rule account p.arrived) cost) q rest on.2
+    (ready_next rule (paid (filled rule account p.arrived) cost).credit p q on.0 (head_on rule q rest on.2) on.1
+    (left rule account p cost ready cheap)))
+  where
+    head_on : (rule : Rule) (q : Passage) (rest : List Passage) → AreOnTime rule (q ∷ rest) → IsOnTime rule q
+    head_on rule q [] on = on
+    head_on rule q (r ∷ rest) on = on.0
+
+-- the law
+pub none_dropped_holds : NoneDropped
+none_dropped_holds charge rule [] on = refl
+none_dropped_holds charge rule (p ∷ []) on = all_pass charge rule (full rule) p [] on (ready_first rule p on)
+none_dropped_holds charge rule (p ∷ q ∷ rest) on =
+    all_pass charge rule (full rule) p (q ∷ rest) on (ready_first rule p on.0)

@@ -1,0 +1,99 @@
+-- Each link of a plan, by what was handed over legally.
+use Rattle.std.proofs.Common.{◌≡◌, ℕ, ◌+◌, ◌<◌, inl, inr, List, ◌++◌, length, ap, sym, ◌∙◌, arith}
+use Rattle.std.specs.Prelude.{All}
+use Rattle.std.proofs.lemmas.Bool.{cases_lt}
+use Rattle.std.proofs.lemmas.List.Elements.{All-contains, All-weaker}
+use Rattle.afdx_config.specs.Config.{Plan, IsPlan, link_plan_at}
+use Rattle.afdx_config.specs.Numbers.{sequence_number}
+use Rattle.afdx_config.specs.Plan.{IsLink, IsPort}
+use Rattle.afdx_frame.specs.declared.net.Net.{Net}
+use Rattle.afdx_frame.specs.declared.net.Net.TheVariants.{A, B}
+use Rattle.afdx_frame.specs.Fragments.{Sent}
+use Rattle.redundant_mux.specs.Entry.{Entry}
+use Rattle.afdx_tx.specs.Streams.{link_stream}
+use Rattle.afdx_tx.specs.Legal.{Accepted, IsLegalOn, IsLegal}
+use Rattle.afdx_laws.specs.Messages.{IsSent, IsLinkOf}
+use Rattle.afdx_laws.specs.Handed.{AreTwins, IsHanded, AreHanded}
+use Rattle.afdx_laws.specs.Plans.{id_at, room_at, frames_of, IsAllowed, LegalArrive, LegalDespiteLoss}
+use Rattle.afdx_laws.proofs.LinkFrames.{long_of, own_of, numbered_of, told_is, frames_front, twins_by_a, twins_by_b}
+use Rattle.afdx_laws.proofs.HandedOver.{handed_arrive_holds}
+use Rattle.afdx_laws.proofs.HandedLoss.{handed_despite_loss_holds}
+
+-- a link of a valid plan is one
+pub link_is : (plan : Plan) (k : ℕ) → IsPlan plan → k < length plan.links → IsLink (link_plan_at plan.links k)
+link_is plan k valid inside = valid.each_link k _ inside
+
+-- it has its room
+room_is : (plan : Plan) (k : ℕ) → IsPlan plan → k < length plan.links → IsLinkOf plan.end_system (room_at plan k)
+room_is plan k valid inside =
+    let lmax = (link_is plan k valid inside).lmax in
+    record { numbered = valid.end_system; least = omega arith; greatest = omega arith }
+
+-- what may be sent by the plan may be sent
+pub sent_is : (plan : Plan) (sub : ℕ) (sent : Sent) → IsPlan plan → IsAllowed plan sub sent → IsSent sub sent
+sent_is plan sub sent valid allowed =
+    let port : IsPort sent.port = All-contains IsPort plan.ports sent.port valid.each_port allowed.port in
+    let most = allowed.most in
+    let greatest = port.max in
+    record { port = port; its = allowed.its; some = allowed.some; most = omega arith }
+
+-- a link's frames were handed to a network
+handed_is : (plan : Plan) (accepted : Accepted) (net : Net) (handed : List Entry) (k sub : ℕ)
+    → IsLegalOn plan accepted net handed → k < length plan.links → sub < (link_plan_at plan.links k).sub_vls
+    → IsHanded plan.end_system (room_at plan k) sub (accepted k sub) net (frames_of (id_at plan k) handed)
+handed_is plan accepted net handed k sub legal inside index =
+    let vl : ℕ = id_at plan k in
+    let first = legal.prefixes k sub inside index in
+    let told = told_is sub (link_stream vl handed) in
+    record {
+      frames = record {
+        long = long_of plan.links net vl handed legal.known;
+        numbered = λ i spare below. numbered_of 0 (link_stream vl handed) (legal.numbered k inside) i spare below
+            ∙ ap sequence_number (from_zero i);
+      };
+      own = own_of plan.links net vl handed legal.known;
+      first = (first.0, sym first.1 ∙ ap (λ (fs : List (List ℕ)). fs ++ first.0) told);
+    }
+  where
+    from_zero : (i : ℕ) → 0 + i ≡ i
+    from_zero i = omega arith
+
+-- a link's frames are twins
+twins_are : (plan : Plan) (accepted : Accepted) (a b : List Entry) (vl : ℕ) → IsLegal plan accepted a b
+    → AreTwins (frames_of vl a) (frames_of vl b)
+twins_are plan accepted a b vl legal = elim (cases_lt (length a) (length b)) [
+  | inl shorter ↦ twins_by_a (frames_of vl a) (frames_of vl b) (own_of plan.links B vl b legal.on_b.known)
+      (frames_front A vl b a (legal.twins.a_shorter (omega arith)))
+  | inr as_long ↦ twins_by_b (frames_of vl a) (frames_of vl b) (own_of plan.links A vl a legal.on_a.known)
+      (frames_front B vl a b (legal.twins.b_shorter (omega arith)))
+]
+
+-- so a link's frames were handed to both networks
+are_handed : (plan : Plan) (accepted : Accepted) (a b : List Entry) (k sub : ℕ) → IsPlan plan → IsLegal plan accepted a b
+    → k < length plan.links → sub < (link_plan_at plan.links k).sub_vls → All (IsAllowed plan sub) (accepted k sub)
+    → AreHanded plan.end_system (room_at plan k) sub (accepted k sub)
+    (frames_of (id_at plan k) a) (frames_of (id_at plan k) b)
+are_handed plan accepted a b k sub valid legal inside index allowed =
+    let few = (link_is plan k valid inside).sub_vls in
+    record {
+      link = room_is plan k valid inside;
+      index = omega arith;
+      sent = All-weaker (IsAllowed plan sub) (IsSent sub) (λ sent is. sent_is plan sub sent valid is) (accepted k sub) allowed;
+      on_a = handed_is plan accepted A a k sub legal.on_a inside index;
+      on_b = handed_is plan accepted B b k sub legal.on_b inside index;
+      twins = twins_are plan accepted a b (id_at plan k) legal;
+    }
+
+-- the law
+pub legal_arrive_holds : LegalArrive
+legal_arrive_holds plan accepted a b valid legal k sub inside index allowed lag tolerance arrivals fit carry =
+    handed_arrive_holds plan.end_system (room_at plan k) sub lag tolerance (accepted k sub)
+    (frames_of (id_at plan k) a) (frames_of (id_at plan k) b) arrivals
+    (are_handed plan accepted a b k sub valid legal inside index allowed) fit carry
+
+-- the law despite loss
+pub legal_despite_loss_holds : LegalDespiteLoss
+legal_despite_loss_holds plan accepted a b valid legal k sub inside index allowed check whole came some close =
+    handed_despite_loss_holds plan.end_system (room_at plan k) sub check whole (accepted k sub)
+    (frames_of (id_at plan k) a) (frames_of (id_at plan k) b) came
+    (are_handed plan accepted a b k sub valid legal inside index allowed) some close

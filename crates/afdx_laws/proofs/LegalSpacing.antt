@@ -1,0 +1,147 @@
+-- Each link of a plan keeps its gap and its greatest frame, by what was handed over legally.
+use Rattle.std.proofs.Common.{◌≡◌, ℕ, ◌-◌, ◌<◌, inl, inr, Bool, true, false, nat_eq, cond, List, [], ◌∷◌, ◌++◌, length, map, ap, sym, ◌∙◌, subst, arith}
+use Rattle.std.specs.Prelude.{All, Option, Some, None}
+use Rattle.std.proofs.lemmas.Bool.{cases_Bool}
+use Rattle.std.proofs.lemmas.Bool.Decides.{nat_tests}
+use Rattle.std.proofs.lemmas.List.{length-take}
+use Rattle.std.proofs.lemmas.List.Elements.{All-cons, All-nil, All-weaker, All-tail}
+use Rattle.afdx_config.specs.Config.{Plan, IsPlan, link_plan_at}
+use Rattle.afdx_config.specs.Plan.{bag_micros}
+use Rattle.afdx_config.specs.declared.identifiers.VlId.{VlId}
+use Rattle.afdx_frame.specs.declared.net.Net.{Net}
+use Rattle.afdx_frame.specs.Fragments.{blanked}
+use Rattle.afdx_frame.specs.Header.{link_in, sub_in}
+use Rattle.redundant_mux.specs.Entry.{Entry}
+use Rattle.vl_shaper.specs.declared.shaper.Stamp.{Stamp}
+use Rattle.afdx_tx.specs.Streams.{link_stream, sub_stream, on_link, on_sub, told, told_of, stamp_of, IsSpaced as AreSpaced}
+use Rattle.afdx_tx.specs.Legal.{Accepted, IsKnown, AreKnown, IsLegalOn}
+use Rattle.afdx_laws.specs.Messages.{IsSent}
+use Rattle.afdx_laws.specs.Networks.{IsLong}
+use Rattle.afdx_laws.specs.Spacing.{Released, IsSpaced, IsUpTo}
+use Rattle.afdx_laws.specs.Plans.{id_at, released_of, IsAllowed, LegalPasses}
+use Rattle.afdx_laws.proofs.LegalLinks.{link_is, sent_is}
+use Rattle.afdx_laws.proofs.Sizes.{IsShort, short_messages}
+use Rattle.afdx_laws.proofs.Spaced.{stream_passes_holds}
+
+-- a released frame
+abbrev release : Entry → Released
+release e = record { at = e.at; frame = e.frame }
+
+-- the moment of the frame before
+abbrev moment_of : Option Stamp → Option ℕ
+moment_of None = None
+moment_of (Some stamp) = Some stamp.at
+
+-- neighbours are as far apart
+spaced_is : (gap : ℕ) (before : Option Stamp) (es : List Entry) → AreSpaced gap before es
+    → IsSpaced gap (moment_of before) (map release es)
+spaced_is gap before [] spaced = tt
+spaced_is gap None (e ∷ es) spaced = (tt, spaced_is gap (Some (stamp_of e)) es spaced.1)
+spaced_is gap (Some last) (e ∷ es) spaced = (spaced.0, spaced_is gap (Some (stamp_of e)) es spaced.1)
+
+-- an entry of one of so many sub-VLs, with a frame that has all fields
+record IsWithin (subs : ℕ) (e : Entry) : Type 0 where
+  long : IsLong e.frame
+  of_sub : sub_in e.frame < subs
+
+-- identifiers of links are the same where their numbers are
+same_id : (x y : VlId) → x.0 ≡ y.0 → x ≡ y
+same_id x y e = ap (λ (n : ℕ). record { 0 = n }) e
+
+-- a known entry of a link is of one of its sub-VLs
+known_within : (plan : Plan) (net : Net) (k : ℕ) (e : Entry) → IsPlan plan → k < length plan.links
+    → IsKnown plan.links net e.frame → on_link (id_at plan k) e ≡ true → IsWithin (link_plan_at plan.links k).sub_vls e
+known_within plan net k e valid inside known on =
+    let number : link_in e.frame ≡ id_at plan k = is_eq (link_in e.frame) (id_at plan k) on in
+    let at : known.k ≡ k = valid.links_apart known.k k known.within inside
+    (same_id (link_plan_at plan.links known.k).id (link_plan_at plan.links k).id (sym known.link ∙ number)) in
+    record {
+      long = known.size;
+      of_sub = subst (λ (j : ℕ). sub_in e.frame < (link_plan_at plan.links j).sub_vls) at known.of_sub;
+    }
+  where
+    is_eq : (a b : ℕ) → nat_eq a b ≡ true → a ≡ b
+    is_eq a b h = grind (arith, nat_tests)
+
+-- so are all of its stream
+stream_within : (plan : Plan) (net : Net) (k : ℕ) (es : List Entry) → IsPlan plan → k < length plan.links
+    → AreKnown plan.links net es → All (IsWithin (link_plan_at plan.links k).sub_vls) (link_stream (id_at plan k) es)
+stream_within plan net k [] valid inside known = All-nil (IsWithin (link_plan_at plan.links k).sub_vls)
+stream_within plan net k (e ∷ es) valid inside known =
+    let subs : ℕ = (link_plan_at plan.links k).sub_vls in
+    let later : List Entry = link_stream (id_at plan k) es in
+    let rest : All (IsWithin subs) later = stream_within plan net k es valid inside known.1 in
+    elim (cases_Bool (on_link (id_at plan k) e)) [
+      | inl on ↦ subst (λ (t : Bool). All (IsWithin subs) (cond t (e ∷ later) later)) (sym on)
+          (All-cons (IsWithin subs) e later (known_within plan net k e valid inside known.0 on) rest)
+      | inr off ↦ subst (λ (t : Bool). All (IsWithin subs) (cond t (e ∷ later) later)) (sym off) rest
+    ]
+
+-- what holds of each fragment of each sub-VL holds of each entry
+by_subs : (P : List ℕ → Type 0) (subs : ℕ) (es : List Entry) → All (IsWithin subs) es
+    → ((sub : ℕ) → sub < subs → All P (told (sub_stream sub es)))
+    → All (λ (e : Entry). P (blanked e.frame)) es
+by_subs P subs [] within each = All-nil (λ (e : Entry). P (blanked e.frame))
+by_subs P subs (e ∷ es) within each =
+    let first = within 0 e (omega arith) in
+    let own : nat_eq (sub_in e.frame) (sub_in e.frame) ≡ true = eq_self (sub_in e.frame) in
+    let mine : All P (blanked e.frame ∷ told (sub_stream (sub_in e.frame) es)) =
+    subst (λ (t : Bool). All P (told (cond t (e ∷ sub_stream (sub_in e.frame) es) (sub_stream (sub_in e.frame) es)))) own
+    (each (sub_in e.frame) first.of_sub) in
+    All-cons (λ (d : Entry). P (blanked d.frame)) e es (mine 0 (blanked e.frame) (omega arith))
+    (by_subs P subs es (All-tail (IsWithin subs) e es within) (λ sub below. behind (on_sub sub e) sub (each sub below)))
+  where
+    eq_self : (n : ℕ) → nat_eq n n ≡ true
+    eq_self n = grind (arith, nat_tests)
+
+    behind : (t : Bool) (sub : ℕ) → All P (told (cond t (e ∷ sub_stream sub es) (sub_stream sub es))) → All P (told (sub_stream sub es))
+    behind true sub all = All-tail P (blanked e.frame) (told (sub_stream sub es)) all
+    behind false sub all = all
+
+-- what holds of a list holds of its beginning
+all_front : (P : List ℕ → Type 0) (xs rest ys : List (List ℕ)) → xs ++ rest ≡ ys → All P ys → All P xs
+all_front P [] rest ys is all = All-nil P
+all_front P (x ∷ xs) rest [] is all = cc
+all_front P (x ∷ xs) rest (y ∷ ys) is all =
+    let parts = both is in
+    All-cons P x xs (subst P (sym parts.0) (all 0 y (omega arith))) (all_front P xs rest ys parts.1 (All-tail P y ys all))
+  where
+    both : {X : Type 0} {x y : X} {xs ys : List X} → x ∷ xs ≡ y ∷ ys → (x ≡ y) × (xs ≡ ys)
+    both e = (cc, cc)
+
+-- the fragments of each sub-VL are short enough
+short_told : (plan : Plan) (accepted : Accepted) (net : Net) (handed : List Entry) (k sub : ℕ) → IsPlan plan
+    → IsLegalOn plan accepted net handed → k < length plan.links → sub < (link_plan_at plan.links k).sub_vls
+    → All (IsAllowed plan sub) (accepted k sub)
+    → All (IsShort (link_plan_at plan.links k).lmax) (told_of (id_at plan k) sub handed)
+short_told plan accepted net handed k sub valid legal inside index allowed =
+    let lmax = (link_is plan k valid inside).lmax in
+    let first = legal.prefixes k sub inside index in
+    all_front (IsShort (link_plan_at plan.links k).lmax) (told_of (id_at plan k) sub handed) first.0 _ first.1
+    (short_messages (accepted k sub) plan.end_system (link_plan_at plan.links k).lmax sub 0 net lmax.0 lmax.1
+    (All-weaker (IsAllowed plan sub) (IsSent sub) (λ sent is. sent_is plan sub sent valid is) (accepted k sub) allowed))
+
+-- a link's frames are no greater than its greatest
+small_of : (lmax subs : ℕ) (es : List Entry) → All (IsWithin subs) es
+    → All (λ (e : Entry). IsShort lmax (blanked e.frame)) es → All (IsUpTo lmax) (map release es)
+small_of lmax subs [] within short = All-nil (IsUpTo lmax)
+small_of lmax subs (e ∷ es) within short =
+    let long = (within 0 e (omega arith)).long in
+    let cut = length-take (length e.frame - 1) e.frame in
+    let mine = short 0 e (omega arith) in
+    All-cons (IsUpTo lmax) (release e) (map release es) (omega arith)
+    (small_of lmax subs es (All-tail (IsWithin subs) e es within)
+    (All-tail (λ (d : Entry). IsShort lmax (blanked d.frame)) e es short))
+
+-- the law
+pub legal_passes_holds : LegalPasses
+legal_passes_holds plan accepted net handed valid legal k inside allowed charge jitter around passages way =
+    let vl : ℕ = id_at plan k in
+    let lmax : ℕ = (link_plan_at plan.links k).lmax in
+    let subs : ℕ = (link_plan_at plan.links k).sub_vls in
+    let within = stream_within plan net k handed valid inside legal.known in
+    let short = by_subs (IsShort lmax) subs (link_stream vl handed) within
+    (λ sub index. short_told plan accepted net handed k sub valid legal inside index (allowed sub index)) in
+    stream_passes_holds charge (bag_micros (link_plan_at plan.links k).bag) lmax jitter around (released_of vl handed) passages
+    (spaced_is (bag_micros (link_plan_at plan.links k).bag) None (link_stream vl handed) (legal.spaced k inside))
+    (small_of lmax subs (link_stream vl handed) within short) way

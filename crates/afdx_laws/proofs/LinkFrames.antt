@@ -1,0 +1,129 @@
+-- A link's frames in what was handed over.
+use Rattle.std.proofs.Common.{◌≡◌, ℕ, zero, suc, ◌+◌, ◌≤◌, ◌<◌, Bool, true, false, nat_eq, cond, List, [], ◌∷◌, ◌++◌, length, map, take, drop, get_or, refl, ap, sym, ◌∙◌, arith}
+use Rattle.std.specs.Prelude.{All}
+use Rattle.std.proofs.Math.Seq.{take-append_seam}
+use Rattle.std.proofs.lemmas.List.{map-append, take-append-drop, length-map, length-take, take_all}
+use Rattle.std.proofs.lemmas.List.Elements.{All-cons, All-nil, filter-append}
+use Rattle.afdx_config.specs.Numbers.{sequence_number}
+use Rattle.afdx_config.specs.declared.link_plan.LinkPlan.{LinkPlan}
+use Rattle.afdx_frame.specs.declared.net.Net.{Net}
+use Rattle.afdx_frame.specs.declared.net.Net.TheVariants.{A, B}
+use Rattle.afdx_frame.specs.Fragments.{blanked}
+use Rattle.afdx_frame.specs.Header.{number_in}
+use Rattle.afdx_frame.specs.Twin.{twin_of}
+use Rattle.afdx_frame.proofs.Twins.{twin_same, twin_link}
+use Rattle.redundant_mux.specs.Entry.{Entry}
+use Rattle.redundant_mux.specs.Lines.{side}
+use Rattle.afdx_tx.specs.Streams.{link_stream, on_link, on_sub, told, IsNumbered as IsNumberedFrom, sub_stream as entries_of_sub}
+use Rattle.afdx_tx.specs.Legal.{AreKnown}
+use Rattle.afdx_laws.specs.Networks.{IsLong}
+use Rattle.afdx_laws.specs.Messages.{sub_stream}
+use Rattle.afdx_laws.specs.Handed.{IsOwn, AreTwins}
+use Rattle.afdx_laws.specs.Plans.{frames_of}
+use Rattle.afdx_laws.proofs.HandedOver.{own_twins, twin_twin}
+
+-- the frame of an entry
+abbrev frame_of_entry : Entry → List ℕ
+frame_of_entry e = e.frame
+
+-- a link's frames have all fields that are read
+pub long_of : (links : List LinkPlan) (net : Net) (vl : ℕ) (es : List Entry) → AreKnown links net es → All IsLong (frames_of vl es)
+long_of links net vl [] known = All-nil IsLong
+long_of links net vl (e ∷ es) known = one (on_link vl e) (long_of links net vl es known.1)
+  where
+    one : (t : Bool) → All IsLong (frames_of vl es)
+        → All IsLong (map frame_of_entry (cond t (e ∷ link_stream vl es) (link_stream vl es)))
+    one true rest = All-cons IsLong e.frame (frames_of vl es) (known.0).size rest
+    one false rest = rest
+
+-- they are the network's own
+pub own_of : (links : List LinkPlan) (net : Net) (vl : ℕ) (es : List Entry) → AreKnown links net es
+    → All (IsOwn net) (frames_of vl es)
+own_of links net vl [] known = All-nil (IsOwn net)
+own_of links net vl (e ∷ es) known = one (on_link vl e) (own_of links net vl es known.1)
+  where
+    one : (t : Bool) → All (IsOwn net) (frames_of vl es)
+        → All (IsOwn net) (map frame_of_entry (cond t (e ∷ link_stream vl es) (link_stream vl es)))
+    one true rest = All-cons (IsOwn net) e.frame (frames_of vl es) (twin_same net e.frame (known.0).interface) rest
+    one false rest = rest
+
+-- entries that carry numbers in order, by their places
+pub numbered_of : (start : ℕ) (es : List Entry) → IsNumberedFrom start es → (i : ℕ) (spare : List ℕ)
+    → i < length (map frame_of_entry es) → number_in (get_or (map frame_of_entry es) i spare) ≡ sequence_number (start + i)
+numbered_of start [] numbered i spare inside = absurd (omega arith)
+numbered_of start (e ∷ es) numbered zero spare inside =
+    let here : start ≡ start + 0 = omega arith in
+    numbered.0 ∙ ap sequence_number here
+numbered_of start (e ∷ es) numbered (suc i) spare inside =
+    let there : start + 1 + i ≡ start + suc i = omega arith in
+    numbered_of (start + 1) es numbered.1 i spare (omega arith) ∙ ap sequence_number there
+
+-- a sub-VL's fragments, by entries and by frames
+pub told_is : (sub : ℕ) (es : List Entry)
+    → told (entries_of_sub sub es) ≡ map blanked (sub_stream sub (map frame_of_entry es))
+told_is sub [] = refl
+told_is sub (e ∷ es) = one (on_sub sub e) (told_is sub es)
+  where
+    one : (t : Bool) → told (entries_of_sub sub es) ≡ map blanked (sub_stream sub (map frame_of_entry es))
+        → told (cond t (e ∷ entries_of_sub sub es) (entries_of_sub sub es))
+        ≡ map blanked (cond t (e.frame ∷ sub_stream sub (map frame_of_entry es)) (sub_stream sub (map frame_of_entry es)))
+    one true rest = ap (λ (fs : List (List ℕ)). blanked e.frame ∷ fs) rest
+    one false rest = rest
+
+-- a link's frames of entries for another network
+frames_side : (net : Net) (vl : ℕ) (es : List Entry) → frames_of vl (map (side net) es) ≡ map (twin_of net) (frames_of vl es)
+frames_side net vl [] = refl
+frames_side net vl (e ∷ es) =
+    ap (λ (n : ℕ). map frame_of_entry (cond (nat_eq n vl) (side net e ∷ link_stream vl (map (side net) es))
+    (link_stream vl (map (side net) es)))) (twin_link net e.frame)
+    ∙ one (on_link vl e) (frames_side net vl es)
+  where
+    one : (t : Bool) → frames_of vl (map (side net) es) ≡ map (twin_of net) (frames_of vl es)
+        → map frame_of_entry (cond t (side net e ∷ link_stream vl (map (side net) es)) (link_stream vl (map (side net) es)))
+        ≡ map (twin_of net) (map frame_of_entry (cond t (e ∷ link_stream vl es) (link_stream vl es)))
+    one true rest = ap (λ (fs : List (List ℕ)). twin_of net e.frame ∷ fs) rest
+    one false rest = rest
+
+-- a link's frames in the first entries are its first frames
+frames_take : (vl n : ℕ) (es : List Entry)
+    → frames_of vl (take n es) ≡ take (length (frames_of vl (take n es))) (frames_of vl es)
+frames_take vl n es =
+    let front : List (List ℕ) = frames_of vl (take n es) in
+    let back : List (List ℕ) = frames_of vl (drop n es) in
+    let whole : frames_of vl es ≡ front ++ back =
+    ap (frames_of vl) (sym (take-append-drop n es))
+    ∙ ap (map frame_of_entry) (filter-append (on_link vl) (take n es) (drop n es))
+    ∙ map-append frame_of_entry (link_stream vl (take n es)) (link_stream vl (drop n es)) in
+    sym (ap (take (length front)) whole ∙ take-append_seam front back)
+
+-- twins of the first entries have a link's frames as twins of its first
+pub frames_front : (net : Net) (vl : ℕ) (longer shorter : List Entry) → shorter ≡ map (side net) (take (length shorter) longer)
+    → frames_of vl shorter ≡ map (twin_of net) (take (length (frames_of vl shorter)) (frames_of vl longer))
+frames_front net vl longer shorter is =
+    let n : ℕ = length shorter in
+    let turned : frames_of vl shorter ≡ map (twin_of net) (frames_of vl (take n longer)) =
+    ap (frames_of vl) is ∙ frames_side net vl (take n longer) in
+    let count : length (frames_of vl (take n longer)) ≡ length (frames_of vl shorter) =
+    sym (ap length turned ∙ length-map (frames_of vl (take n longer)) (twin_of net)) in
+    turned ∙ ap (map (twin_of net)) (frames_take vl n longer
+    ∙ ap (λ (m : ℕ). take m (frames_of vl longer)) count)
+
+-- where twins of the first of a network's own frames are as many, these are their twins in turn
+turned_back : (first second : Net) (xs ys : List (List ℕ)) → All (IsOwn first) xs
+    → ys ≡ map (twin_of second) (take (length ys) xs) → length xs ≤ length ys
+    → xs ≡ map (twin_of first) (take (length xs) ys)
+turned_back first second xs ys own is as_long =
+    let count = ap length is ∙ length-map (take (length ys) xs) (twin_of second) in
+    let taken = length-take (length ys) xs in
+    let all_x : take (length ys) xs ≡ xs = take_all (length ys) xs (omega arith) in
+    let all_y : take (length xs) ys ≡ ys = take_all (length xs) ys (omega arith) in
+    sym (ap (map (twin_of first)) (all_y ∙ is ∙ ap (map (twin_of second)) all_x)
+    ∙ twin_twin second first xs ∙ own_twins first xs own)
+
+-- so the shorter list is twins of the longer one's beginning, whichever that is
+pub twins_by_b : (xs ys : List (List ℕ)) → All (IsOwn A) xs → ys ≡ map (twin_of B) (take (length ys) xs) → AreTwins xs ys
+twins_by_b xs ys own is = record { b_shorter = λ h. is; a_shorter = λ h. turned_back A B xs ys own is h }
+
+-- and the other way round
+pub twins_by_a : (xs ys : List (List ℕ)) → All (IsOwn B) ys → xs ≡ map (twin_of A) (take (length xs) ys) → AreTwins xs ys
+twins_by_a xs ys own is = record { b_shorter = λ h. turned_back B A ys xs own is h; a_shorter = λ h. is }

@@ -1,0 +1,278 @@
+-- The whole network makes good what the other one loses.
+use Rattle.std.proofs.Common.{◌≡◌, ℕ, zero, suc, ◌+◌, ◌-◌, ◌≤◌, ◌<◌, ◌⊎◌, inl, inr, Bool, true, false, nat_eq, cond, max, List, [], ◌∷◌, ◌++◌, length, map, take, get_or, refl, ap, sym, ◌∙◌, subst, arith}
+use Rattle.std.specs.Prelude.{Option, Some, None, All}
+use Rattle.std.proofs.lemmas.Bool.{cases_lt, cases_Bool, cases_order, and_from, and_parts}
+use Rattle.std.proofs.lemmas.List.{append-nil, get_or-map, length-map}
+use Rattle.afdx_config.specs.Numbers.{sequence_number}
+use Rattle.afdx_frame.specs.declared.net.Net.{Net}
+use Rattle.afdx_frame.specs.declared.net.Net.TheVariants.{A, B}
+use Rattle.afdx_frame.specs.Twin.{twin_of}
+use Rattle.afdx_laws.specs.Receiver.{Tolerance, State, begin, is_accepted, is_valid, is_ahead, received, carried, with_seen, with_accepted, seen_on, IsNumbered}
+use Rattle.afdx_frame.specs.Header.{number_in}
+use Rattle.afdx_laws.specs.Networks.{IsLong}
+use Rattle.afdx_laws.specs.Loss.{same_net, AreClose, frame_at, one_lost, LossMasked, LossNotMasked, NumbersClash}
+use Rattle.afdx_laws.proofs.NumberLemmas.{last, new_next, valid_next, old_copy, old_is_ahead, next_is, differ, eq_no}
+use Rattle.afdx_laws.proofs.Receiving.{IsPlaced, grows}
+use Rattle.afdx_laws.proofs.Arrivals.{placed}
+
+-- a number too far ahead isn't the next one
+too_far : (c i : ℕ) → 1 ≤ c → c < i → i < c + 255 → is_ahead 1 (last c) (sequence_number i) ≡ false
+too_far zero i some far near = absurd (omega arith)
+too_far (suc j) i some far near =
+    let n = next_is j in
+    let t : nat_eq (sequence_number i) (sequence_number (suc j)) ≡ false =
+    eq_no _ _ (λ e. differ (suc j) i far near (sym e)) in
+    rw (n, t) refl
+
+-- a test has one answer
+both : (t : Bool) → t ≡ true → t ≡ false → ⊥
+both t a b = cc
+
+-- what is accepted is the next frame
+is_next : (c i high : ℕ) → high ≤ i + 254 → c ≤ high → i < c + 255 → (high ≡ 0 → i ≡ 0) → (high ≡ 0) ⊎ (1 ≤ c)
+    → is_ahead 1 (last c) (sequence_number i) ≡ true → i ≡ c
+is_next c i high near within far first begun new = elim (cases_order i c) [
+  | inl same ↦ same
+  | inr (inl old) ↦ absurd (both (is_ahead 1 (last c) (sequence_number i)) new (old_copy 1 i c old (omega arith)))
+  | inr (inr ahead_of) ↦ elim begun [
+    | inl none ↦ let z = first none in absurd (omega arith)
+    | inr some ↦ absurd (both (is_ahead 1 (last c) (sequence_number i)) new (too_far c i some ahead_of far))
+  ]
+]
+
+-- the state after a frame
+accepted_seen : (net : Net) (n : ℕ) (state : State) → (with_seen net n state).accepted ≡ state.accepted
+accepted_seen A n state = refl
+accepted_seen B n state = refl
+
+-- accepting a frame leaves what was seen
+seen_accepted : (net : Net) (n : ℕ) (state : State) → seen_on net (with_accepted n state) ≡ seen_on net state
+seen_accepted A n state = refl
+seen_accepted B n state = refl
+
+-- what was seen last on the whole network, after a frame
+seen_after : (whole net : Net) (b i : ℕ) (state : State) → seen_on whole state ≡ last b
+    → (same_net whole net ≡ true → i ≡ b)
+    → seen_on whole (with_seen net (sequence_number i) state) ≡ last (cond (same_net whole net) (b + 1) b)
+seen_after A A b i state seen own = ap (λ (k : ℕ). last (suc k)) (own refl) ∙ ap last (one_more b)
+  where
+    one_more : (b : ℕ) → suc b ≡ b + 1
+    one_more b = omega arith
+seen_after B B b i state seen own = ap (λ (k : ℕ). last (suc k)) (own refl) ∙ ap last (one_more b)
+  where
+    one_more : (b : ℕ) → suc b ≡ b + 1
+    one_more b = omega arith
+seen_after A B b i state seen own = seen
+seen_after B A b i state seen own = seen
+
+-- what was seen last on the frame's own network
+seen_own : (whole net : Net) (state : State) → same_net whole net ≡ true → seen_on net state ≡ seen_on whole state
+seen_own A A state same = refl
+seen_own B B state same = refl
+seen_own A B state same = cc
+seen_own B A state same = cc
+
+-- what the whole network carried, counted from a place
+count_whole : {F : Type 0} (whole net : Net) (frame : F) (b : ℕ) (es : List (Net × F))
+    → cond (same_net whole net) (b + 1) b + length (carried whole es) ≡ b + length
+    (carried whole ((net, frame) ∷ es))
+count_whole A A frame b es = omega arith
+count_whole B B frame b es = omega arith
+count_whole A B frame b es = omega arith
+count_whole B A frame b es = omega arith
+
+-- the receiver isn't behind the whole network, where it drops
+grown_le : (t : Bool) (b c : ℕ) → b ≤ c → (t ≡ true → b < c) → cond t (b + 1) b ≤ c
+grown_le true b c le lt = let l = lt refl in omega arith
+grown_le false b c le lt = le
+
+-- and where it accepts
+grown_le_suc : (t : Bool) (b c : ℕ) → b ≤ c → cond t (b + 1) b ≤ suc c
+grown_le_suc true b c le = omega arith
+grown_le_suc false b c le = omega arith
+
+-- the stream is accepted in order, at least as far as a place
+pub record Masks {F : Type 0} (h : F → F) (stream got : List F) (c reach : ℕ) : Type 0 where
+  pub many : ℕ
+  pub reaches : reach ≤ many
+  pub are : take c stream ++ map h got ≡ take many stream
+
+-- whatever comes next, so it is accepted
+masks : {F : Type 0} (number : F → ℕ) (h : F → F) (stream : List F) (frame : Net → ℕ → F)
+    (check : ℕ) (whole : Net) (es : List (Net × ℕ)) (state : State) (high b c : ℕ)
+    → 1 ≤ check → ((net : Net) (i : ℕ) → i < length stream → IsPlaced number h stream i (frame net i))
+    → AreClose whole (length stream) high b es → seen_on whole state ≡ last b → state.accepted ≡ last c → b ≤ c
+    → c ≤ high → (high ≡ 0) ⊎ (1 ≤ c)
+    → Masks h stream (received number (record { check = check; window = 1 }) state
+    (map (λ (e : Net × ℕ). (e.0, frame e.0 e.1)) es)) c (b + length (carried whole es))
+masks number h stream frame check whole [] state high b c some each close seen took behind within begun = record {
+  many = c;
+  reaches = omega arith;
+  are = append-nil (take c stream);
+}
+masks {F = F} number h stream frame check whole
+    ((net, i) ∷ es) state high b c some each close seen took behind within begun =
+    let tolerance : Tolerance = record { check = check; window = 1 } in
+    let is = each net i close.0 in
+    let f : F = frame net i in
+    let rest : List (Net × F) = map (λ (e : Net × ℕ). (e.0, frame e.0 e.1)) es in
+    let near = close.1 in
+    let far = close.2 in
+    let number_is : number f ≡ sequence_number i = is.1 in
+    let after : State = with_seen net (number f) state in
+    let seen_next : seen_on whole after ≡ last (cond (same_net whole net) (b + 1) b) =
+    ap (λ (n : ℕ). seen_on whole (with_seen net n state)) number_is ∙ seen_after whole net b i state seen close.4 in
+    let total = count_whole whole net i b es in
+    elim (cases_Bool (is_accepted tolerance state net (number f))) [
+      | inl takes ↦
+          let parts = and_parts (is_valid check (seen_on net state) (number f))
+          (is_ahead 1 state.accepted (number f)) takes in
+          let new : is_ahead 1 (last c) (sequence_number i) ≡ true =
+          sym (ap (λ (o : Option ℕ). is_ahead 1 o (number f)) took ∙ ap (is_ahead 1 (last c)) number_is)
+          ∙ parts.1 in
+          let next : i ≡ c = is_next c i high near within (omega arith) close.3 begun new in
+          let taken : (with_accepted (number f) after).accepted ≡ last (suc c) = ap Some number_is
+          ∙ ap (λ (k : ℕ). last (suc k)) next in
+          let more = masks number h stream frame check whole es (with_accepted (number f) after) (max high (i + 1))
+          (cond (same_net whole net) (b + 1) b) (suc c) some each close.5
+          (seen_accepted whole (number f) after ∙ seen_next) taken (grown_le_suc (same_net whole net) b c behind)
+          (omega arith) (inr (omega arith)) in
+          let step : received number tolerance state ((net, f) ∷ rest) ≡ f ∷ received number tolerance
+          (with_accepted (number f) after) rest = rw takes refl in
+          let reach = more.reaches in
+          record {
+            many = more.many;
+            reaches = omega arith;
+            are = ap (λ (fs : List F). take c stream ++ map h fs) step
+                ∙ grows h stream c f (map h (received number tolerance (with_accepted (number f) after) rest))
+                (subst (λ (k : ℕ). k < length stream) next is.0)
+                (is.2 ∙ ap (λ (k : ℕ). get_or stream k (h f)) next)
+                ∙ more.are;
+          }
+      | inr drops ↦
+          let own_behind : same_net whole net ≡ true → b < c = λ own. elim (cases_lt b c) [
+            | inl less ↦ less
+            | inr equal ↦
+                let c_is : c ≡ b = omega arith in
+                let i_is : i ≡ b = close.4 own in
+                let v : is_valid check (seen_on net state) (number f) ≡ true =
+                ap (λ (o : Option ℕ). is_valid check o (number f)) (seen_own whole net state own ∙ seen)
+                ∙ ap (is_valid check (last b)) (number_is ∙ ap sequence_number i_is)
+                ∙ valid_next check b some in
+                let a : is_ahead 1 state.accepted (number f) ≡ true =
+                ap (λ (o : Option ℕ). is_ahead 1 o (number f)) (took ∙ ap last c_is)
+                ∙ ap (is_ahead 1 (last b)) (number_is ∙ ap sequence_number i_is) ∙ new_next 1 b (omega arith) in
+                absurd (both (is_accepted tolerance state net (number f)) (and_from _ _ v a) drops)
+          ] in
+          let started : 1 ≤ c = elim begun [
+            | inr yet ↦ yet
+            | inl none ↦
+                let c_is : c ≡ 0 = omega arith in
+                let i_is : i ≡ 0 = close.3 none in
+                let n_is : number f ≡ 0 = number_is ∙ ap sequence_number i_is in
+                let v : is_valid check (seen_on net state) (number f) ≡ true =
+                ap (is_valid check (seen_on net state)) n_is in
+                let a : is_ahead 1 state.accepted (number f) ≡ true =
+                ap (λ (o : Option ℕ). is_ahead 1 o (number f)) (took ∙ ap last c_is) in
+                absurd (both (is_accepted tolerance state net (number f)) (and_from _ _ v a) drops)
+          ] in
+          let more = masks number h stream frame check whole es after (max high (i + 1))
+          (cond (same_net whole net) (b + 1) b) c some each close.5
+          seen_next (accepted_seen net (number f) state ∙ took)
+          (grown_le (same_net whole net) b c behind own_behind) (omega arith) (inr started) in
+          let step : received number tolerance state ((net, f) ∷ rest) ≡ received number tolerance after rest =
+          rw drops refl in
+          let reach = more.reaches in
+          record {
+            many = more.many;
+            reaches = omega arith;
+            are = ap (λ (fs : List F). take c stream ++ map h fs) step ∙ more.are;
+          }
+    ]
+
+-- the law
+pub loss_masked_holds : LossMasked
+loss_masked_holds whole check stream came some frames close =
+    let long = frames.long in
+    let numbered = frames.numbered in
+    let each : (net : Net) (i : ℕ) → i < length (map (twin_of A) stream)
+    → IsPlaced number_in (twin_of A) (map (twin_of A) stream) i (frame_at stream net i) =
+    λ net i inside. at stream long numbered net i inside in
+    let close_map : AreClose whole (length (map (twin_of A) stream)) 0 0 came =
+    subst (λ (n : ℕ). AreClose whole n 0 0 came) (sym (length-map stream (twin_of A))) close in
+    let m = masks number_in (twin_of A) (map (twin_of A) stream)
+    (frame_at stream) check whole came begin 0 0 0 some each close_map (begun whole) refl (omega arith)
+    (omega arith) (inl refl) in
+    let reach = m.reaches in
+    (m.many, omega arith, m.are)
+  where
+    begun : (whole : Net) → seen_on whole begin ≡ None
+    begun A = refl
+    begun B = refl
+
+    at : (stream : List (List ℕ)) → All IsLong stream → IsNumbered number_in stream
+        → (net : Net) (i : ℕ) → i < length (map (twin_of A) stream)
+        → IsPlaced number_in (twin_of A) (map (twin_of A) stream) i (frame_at stream net i)
+    at stream long numbered net i inside =
+        let la = length-map stream (twin_of A) in
+        let ln = length-map stream (twin_of net) in
+        placed net stream i (frame_at stream net i) long numbered (omega arith)
+        (sym (get_or-map (twin_of net) stream i [] (frame_at stream net i) (omega arith)))
+
+-- both runs, by computation
+pub loss_not_masked_holds : LossNotMasked
+loss_not_masked_holds = (refl, refl)
+
+-- the law of the clash
+pub numbers_clash_holds : NumbersClash
+numbers_clash_holds check window lag place checks opens behind apart old =
+    let state : State = record {
+      seen_a = Some (sequence_number (place + lag - 1));
+      seen_b = Some (sequence_number (place - 1));
+      accepted = Some (sequence_number (place + lag - 1));
+    } in
+    let before : last place ≡ Some (sequence_number (place - 1)) = last_is place old in
+    let valid : is_valid check (seen_on B state) (sequence_number place) ≡ true =
+    ap (λ (o : Option ℕ). is_valid check o (sequence_number place)) (sym before) ∙ valid_next check place checks in
+    let new : is_ahead window state.accepted (sequence_number place) ≡ true =
+    old_is_ahead window (place + lag - 1) place opens old (omega arith) in
+    and_from _ _ valid new
+  where
+    last_is : (i : ℕ) → 1 ≤ i → last i ≡ Some (sequence_number (i - 1))
+    last_is zero some = absurd (omega arith)
+    last_is (suc i) some = let e : i ≡ suc i - 1 = omega arith in ap (λ (k : ℕ). Some (sequence_number k)) e
+
+-- network A loses 1, and network B carries all three
+pub one_lost_is_close : AreClose B 3 0 0 one_lost
+one_lost_is_close = (
+  omega arith,
+  omega arith,
+  omega arith,
+  (λ h. refl),
+  (λ h. absurd (no_yes h)),
+  (
+    omega arith,
+    omega arith,
+    omega arith,
+    (λ h. absurd (omega arith)),
+    (λ h. absurd (no_yes h)),
+    (
+      omega arith,
+      omega arith,
+      omega arith,
+      (λ h. absurd (omega arith)),
+      (λ h. refl),
+      (
+        omega arith,
+        omega arith,
+        omega arith,
+        (λ h. absurd (omega arith)),
+        (λ h. refl),
+        (omega arith, omega arith, omega arith, (λ h. absurd (omega arith)), (λ h. refl), tt),
+      ),
+    ),
+  ),
+)
+  where
+    no_yes : false ≡ true → ⊥
+    no_yes h = cc

@@ -1,0 +1,220 @@
+-- What is read of a frame is what went in.
+use Rattle.std.proofs.Common.{◌≡◌, ℕ, suc, ◌+◌, ◌-◌, ◌/◌, ◌%◌, ◌≤◌, ◌<◌, Bool, true, false, nat_eq, nat_le, cond, List, [], ◌∷◌, ◌++◌, length, map, take, drop, set, get_or, refl, ap, sym, ◌∙◌, subst, arith}
+use Rattle.std.specs.Prelude.{All}
+use Rattle.std.specs.List.{AllByRecursion}
+use Rattle.std.proofs.lemmas.List.{drop-set-lt, map-append, length-append, drop_at, take_more, take_all}
+use Rattle.afdx_config.specs.Plan.{IsPort}
+use Rattle.afdx_config.specs.Numbers.{identification}
+use Rattle.afdx_frame.specs.declared.net.Net.{Net}
+use Rattle.afdx_frame.specs.declared.net.Net.TheVariants.{A}
+use Rattle.afdx_frame.specs.declared.piece.Piece.{Piece}
+use Rattle.afdx_frame.specs.Cutting.{cutting, pieces_from}
+use Rattle.afdx_frame.specs.Frame.{interface_byte, datagram, udp_header, unnumbered, frame_of}
+use Rattle.afdx_frame.specs.Twin.{twin_of}
+use Rattle.afdx_frame.specs.Profile.{word_at, total_length, fragment_field}
+use Rattle.afdx_frame.specs.Fragments.{Sent, blanked, fragments_at, fragments_from}
+use Rattle.afdx_frame.specs.ReadBack.{IsPiece}
+use Rattle.afdx_frame.proofs.Twins.{twin_word}
+use Rattle.afdx_frame.proofs.Says.{says, total_ok, payload_says}
+use Rattle.afdx_frame.proofs.PiecesAre.{pieces_are}
+use Rattle.afdx_frame.proofs.Datagram.{length-udp_header}
+use Rattle.afdx_frame.specs.Reassembly.{Fragment, fragment_of, fragments_of}
+use Rattle.afdx_laws.specs.Delivery.{of_sub, keyed, sent_from}
+use Rattle.afdx_laws.specs.Networks.{IsLong}
+use Rattle.afdx_laws.specs.Messages.{fragment_in, sub_stream, IsSent}
+
+-- two fragments with their identifications are the same
+abbrev same_pair : ℕ × Fragment → ℕ × Fragment → Type 0
+same_pair x y = x ≡ y
+
+-- the interface identifier isn't read
+pub same_fragment : (net : Net) (frame : List ℕ) → fragment_in (twin_of net frame) ≡ fragment_in frame
+same_fragment net frame =
+    let ident = twin_word net frame 18 (λ e. omega arith) (λ e. omega arith) in
+    let total = twin_word net frame 16 (λ e. omega arith) (λ e. omega arith) in
+    let field = twin_word net frame 20 (λ e. omega arith) (λ e. omega arith) in
+    let behind : drop 34 (set frame 11 (interface_byte net)) ≡ drop 34 frame =
+    drop-set-lt 34 frame 11 (interface_byte net) (omega arith) in
+    built (word_at (twin_of net frame) 18) (word_at frame 18) (fragment_field (twin_of net frame))
+    (fragment_field frame) (total_length (twin_of net frame)) (total_length frame) (drop 34 (twin_of net frame))
+    (drop 34 frame) ident field total behind
+  where
+    built : (i j f g t u : ℕ) (xs ys : List ℕ) → i ≡ j → f ≡ g → t ≡ u → xs ≡ ys
+        → same_pair (i, record { offset = f % 8192; more = nat_le 8192 f; bytes = take (t - 20) xs })
+        (j, record { offset = g % 8192; more = nat_le 8192 g; bytes = take (u - 20) ys })
+    built i j f g t u xs ys a b c d = cc
+
+-- the frame of a piece says its fragment
+read_piece : (end_system : ℕ) (sent : Sent) (place : ℕ) (piece : Piece) (number : ℕ) → end_system < 65536
+    → IsPort sent.port → length sent.bytes ≤ 8192 → IsPiece (length sent.bytes) piece
+    → fragment_in (unnumbered end_system sent.port sent.bytes place piece A
+    ++ number ∷ []) ≡ (
+      identification place sent.port.sub,
+      fragment_of
+          (datagram end_system sent.port sent.bytes) piece,
+    )
+read_piece end_system sent place piece number small port most is =
+    let s = says end_system sent.port sent.bytes place piece A number port most is in
+    let len = is.len in
+    let frame : List ℕ = frame_of end_system sent.port sent.bytes place piece A number in
+    let total : total_length frame ≡ 20 + piece.len =
+    total_ok end_system sent.port sent.bytes place piece A number len.1 in
+    let bytes_len : total_length frame - 20 ≡ piece.len = omega arith in
+    let bytes_are : take (total_length frame - 20) (drop 34 frame) ≡ take piece.len
+    (drop piece.start (datagram end_system sent.port sent.bytes)) =
+    ap (λ (n : ℕ). take n (drop 34 frame)) bytes_len
+    ∙ payload_says end_system sent.port sent.bytes place piece A number port is.within in
+    built (word_at frame 18) (identification place sent.port.sub) (fragment_field frame % 8192) (piece.start / 8)
+    (nat_le 8192 (fragment_field frame)) piece.more (take (total_length frame - 20) (drop 34 frame))
+    (take piece.len (drop piece.start (datagram end_system sent.port sent.bytes))) s.ident_says s.offset_says
+    s.more_says bytes_are
+  where
+    built : (i j o p : ℕ) (m n : Bool) (xs ys : List ℕ) → i ≡ j → o ≡ p → m ≡ n → xs ≡ ys
+        → same_pair (i, record { offset = o; more = m; bytes = xs })
+        (j, record { offset = p; more = n; bytes = ys })
+    built i j o p m n xs ys a b c d = cc
+
+-- what an unnumbered frame says, whatever its number is
+abbrev pub read_any : List ℕ → ℕ × Fragment
+read_any u = fragment_in (u ++ 0 ∷ [])
+
+-- its fragment doesn't depend on the number
+abbrev pub IsRead : List ℕ → Type 0
+IsRead u = (number : ℕ) → fragment_in (u ++ number ∷ []) ≡ read_any u
+
+-- such frames, and their fragments
+pub record AreRead (us : List (List ℕ)) (fs : List (ℕ × Fragment)) : Type 0 where
+  pub each : AllByRecursion IsRead us
+  pub are : map read_any us ≡ fs
+
+-- the frames of pieces are read as their fragments
+reads_pieces : (ps : List Piece) (end_system : ℕ) (sent : Sent) (place : ℕ) → end_system < 65536 → IsPort sent.port
+    → length sent.bytes ≤ 8192 → AllByRecursion (IsPiece (length sent.bytes)) ps
+    → AreRead (map (λ piece. unnumbered end_system sent.port sent.bytes place piece A) ps)
+    (keyed (identification place sent.port.sub)
+    (map (fragment_of (datagram end_system sent.port sent.bytes)) ps))
+reads_pieces [] end_system sent place small port most are = record { each = tt; are = refl }
+reads_pieces (p ∷ ps) end_system sent place small port most are =
+    let rest = reads_pieces ps end_system sent place small port most are.1 in
+    let one = λ (n : ℕ). read_piece end_system sent place p n small port most are.0 in
+    record {
+      each = (λ number. one number ∙ sym (one 0), rest.each);
+      are = ap (λ (x : ℕ × Fragment). x ∷ map read_any
+          (map (λ piece. unnumbered end_system sent.port sent.bytes place piece A) ps)) (one 0)
+          ∙ ap (λ (xs : List (ℕ × Fragment)).
+          (identification place sent.port.sub, fragment_of (datagram end_system sent.port sent.bytes) p) ∷ xs)
+          rest.are;
+    }
+
+-- a datagram has its header and the message
+pub length-datagram : (end_system : ℕ) (sent : Sent) → length
+    (datagram end_system sent.port sent.bytes) ≡ 8 + length sent.bytes
+unfolding datagram
+length-datagram end_system sent = omega (
+  arith,
+  length-append
+      (udp_header end_system sent.port sent.bytes) sent.bytes,
+  length-udp_header end_system sent.port sent.bytes,
+)
+
+-- without its header it is the message
+pub drop-datagram : (end_system : ℕ) (sent : Sent) → drop 8 (datagram end_system sent.port sent.bytes) ≡ sent.bytes
+unfolding datagram
+drop-datagram end_system sent = drop_at (udp_header end_system sent.port sent.bytes) sent.bytes 8
+    (length-udp_header end_system sent.port sent.bytes)
+
+-- each piece of a message is one
+pub from_start : (room size : ℕ) → 25 ≤ room → room ≤ 1479
+    → AllByRecursion (IsPiece size) (pieces_from 0 (cutting room (8 + size)))
+from_start room size least greatest =
+    let whole : 8 + size - 0 ≡ 8 + size = omega arith in
+    subst (λ (n : ℕ). AllByRecursion (IsPiece size) (pieces_from 0 (cutting room n))) whole
+    (pieces_are (8 + size) room size 0 (omega arith) least greatest (omega arith) (omega arith))
+
+-- the frames of a message are read as its fragments
+reads_message : (end_system room : ℕ) (sent : Sent) (place : ℕ) → end_system < 65536 → 25 ≤ room → room ≤ 1479
+    → IsPort sent.port → length sent.bytes ≤ 8192
+    → AreRead (fragments_at end_system room A place sent)
+    (keyed (identification place sent.port.sub) (fragments_of room (datagram end_system sent.port sent.bytes)))
+unfolding fragments_at
+reads_message end_system room sent place small least greatest port most =
+    subst (λ (n : ℕ). AreRead (map (λ piece. unnumbered end_system sent.port sent.bytes place piece A)
+    (pieces_from 0 (cutting room (8 + length sent.bytes))))
+    (keyed (identification place sent.port.sub)
+    (map (fragment_of (datagram end_system sent.port sent.bytes)) (pieces_from 0 (cutting room n)))))
+    (sym (length-datagram end_system sent))
+    (reads_pieces (pieces_from 0 (cutting room (8 + length sent.bytes))) end_system sent place small port most
+    (from_start room (length sent.bytes) least greatest))
+
+-- what holds of two lists
+all_append : {X : Type 0} (P : X → Type 0) (xs ys : List X) → AllByRecursion P xs → AllByRecursion P ys
+    → AllByRecursion P (xs ++ ys)
+all_append P [] ys a b = b
+all_append P (x ∷ xs) ys a b = (a.0, all_append P xs ys a.1 b)
+
+-- the frames of all messages are read as their fragments
+pub reads_all : (accepted : List Sent) (end_system room sub place : ℕ) → end_system < 65536 → 25 ≤ room
+    → room ≤ 1479 → All (IsSent sub) accepted
+    → AreRead (fragments_from end_system room A place accepted)
+    (sent_from room sub place (map (λ (sent : Sent). datagram end_system sent.port sent.bytes) accepted))
+reads_all [] end_system room sub place small least greatest are = record { each = tt; are = refl }
+reads_all (sent ∷ later) end_system room sub place small least greatest are =
+    let one = are 0 sent (omega arith) in
+    let first = reads_message end_system room sent place small least greatest one.port one.most in
+    let rest = reads_all later end_system room sub (suc place) small least greatest
+    (λ k d h. are (suc k) d (omega arith)) in
+    record {
+      each = all_append IsRead (fragments_at end_system room A place sent)
+          (fragments_from end_system room A (suc place) later) first.each rest.each;
+      are = map-append read_any (fragments_at end_system room A place sent)
+          (fragments_from end_system room A (suc place) later)
+          ∙ ap (λ (xs : List (ℕ × Fragment)). xs
+          ++ map read_any (fragments_from end_system room A (suc place) later)) first.are
+          ∙ ap (λ (n : ℕ). keyed (identification place n)
+          (fragments_of room (datagram end_system sent.port sent.bytes))
+          ++ map read_any (fragments_from end_system room A (suc place) later)) one.its
+          ∙ ap (λ (xs : List (ℕ × Fragment)). keyed (identification place sub)
+          (fragments_of room (datagram end_system sent.port sent.bytes)) ++ xs) rest.are;
+    }
+
+-- a frame is its blanked bytes and its number
+with_last : (frame : List ℕ) → 1 ≤ length frame → frame ≡ blanked frame ++ get_or frame (length frame - 1) 0 ∷ []
+with_last frame some =
+    let whole : length frame - 1 + 1 ≡ length frame = omega arith in
+    sym (take_all (length frame) frame (omega arith)) ∙ ap (λ (n : ℕ). take n frame) (sym whole)
+    ∙ take_more frame (length frame - 1) 0 (omega arith)
+
+-- frames that are the first of these fragments are read as the first of these
+pub reads_frames : (frames us rest : List (List ℕ)) → AllByRecursion IsRead us → All IsLong frames
+    → us ≡ map blanked frames ++ rest
+    → map read_any us ≡ map fragment_in frames ++ map read_any rest
+reads_frames [] us rest each long is = ap (map read_any) is
+reads_frames (f ∷ frames) [] rest each long is = absurd (none_cons is)
+  where
+    none_cons : {X : Type 0} {x : X} {xs : List X} → [] ≡ x ∷ xs → ⊥
+    none_cons e = cc
+reads_frames (f ∷ frames) (u ∷ us) rest each long is =
+    let heads = parts is in
+    let frame_is : f ≡ u ++ get_or f (length f - 1) 0 ∷ [] =
+    with_last f (let l = long 0 f (omega arith) in omega arith)
+    ∙ ap (λ (x : List ℕ). x ++ get_or f (length f - 1) 0 ∷ []) (sym heads.0) in
+    let mine : fragment_in f ≡ read_any u = ap fragment_in frame_is ∙ each.0 (get_or f (length f - 1) 0) in
+    ap (λ (x : ℕ × Fragment). x ∷ map read_any us) (sym mine)
+    ∙ ap (λ (xs : List (ℕ × Fragment)). fragment_in f ∷ xs)
+    (reads_frames frames us rest each.1 (λ k d h. long (suc k) d (omega arith)) heads.1)
+  where
+    parts : {X : Type 0} {x y : X} {xs ys : List X} → x ∷ xs ≡ y ∷ ys → (x ≡ y) × (xs ≡ ys)
+    parts e = (cc, cc)
+
+-- a sub's fragments are those of its frames
+pub of_sub_is : (sub : ℕ) (frames : List (List ℕ))
+    → of_sub sub (map fragment_in frames) ≡ map fragment_in (sub_stream sub frames)
+of_sub_is sub [] = refl
+of_sub_is sub (f ∷ frames) = one (nat_eq (word_at f 18 % 4) sub) (of_sub_is sub frames)
+  where
+    one : (t : Bool) → of_sub sub (map fragment_in frames) ≡ map fragment_in (sub_stream sub frames)
+        → cond t (fragment_in f ∷ of_sub sub (map fragment_in frames))
+        (of_sub sub (map fragment_in frames)) ≡ map fragment_in
+        (cond t (f ∷ sub_stream sub frames) (sub_stream sub frames))
+    one true e = ap (λ (xs : List (ℕ × Fragment)). fragment_in f ∷ xs) e
+    one false e = e

@@ -1,0 +1,104 @@
+-- Frames that are near by the clock are near by their count.
+use Rattle.std.proofs.Common.{◌≡◌, ℕ, zero, suc, ◌+◌, ◌-◌, ◌*◌, ◌/◌, ◌≤◌, ◌<◌, inl, inr, List, [], ◌∷◌, ◌++◌, length, refl, ap, ◌∙◌, subst, arith}
+use Rattle.std.proofs.lemmas.Bool.{cases_lt}
+use Rattle.std.proofs.lemmas.Nat.{le-div}
+use Rattle.std.proofs.lemmas.List.{append_assoc, length-append}
+use Rattle.afdx_frame.specs.declared.net.Net.{Net}
+use Rattle.afdx_frame.specs.declared.net.Net.TheVariants.{A, B}
+use Rattle.afdx_laws.specs.Receiver.{other, carried}
+use Rattle.afdx_laws.specs.Skew.{SkewIsNear}
+
+-- where a network's frame number k came
+record Found {F : Type 0} (net : Net) (k : ℕ) (xs : List (Net × F)) : Type 0 where
+  before : List (Net × F)
+  frame : F
+  after : List (Net × F)
+  is : xs ≡ before ++ (net, frame) ∷ after
+  count : length (carried net before) ≡ k
+
+-- where a frame is that was carried
+found : {F : Type 0} (net : Net) (k : ℕ) (xs : List (Net × F)) → k < length (carried net xs) → Found net k xs
+found net k [] inside = absurd (omega arith)
+found A zero ((A, f) ∷ xs) inside = record { before = []; frame = f; after = xs; is = refl; count = refl }
+found A (suc k) ((A, f) ∷ xs) inside = let r = found A k xs (omega arith) in
+    record {
+      before = (A, f) ∷ r.before;
+      frame = r.frame;
+      after = r.after;
+      is = ap (λ ys. (A, f) ∷ ys) r.is;
+      count =
+          ap suc r.count;
+    }
+found A k ((B, f) ∷ xs) inside = let r = found A k xs inside in
+    record {
+      before = (B, f) ∷ r.before;
+      frame = r.frame;
+      after = r.after;
+      is = ap (λ ys. (B, f) ∷ ys) r.is;
+      count =
+          r.count;
+    }
+found B zero ((B, f) ∷ xs) inside = record { before = []; frame = f; after = xs; is = refl; count = refl }
+found B (suc k) ((B, f) ∷ xs) inside = let r = found B k xs (omega arith) in
+    record {
+      before = (B, f) ∷ r.before;
+      frame = r.frame;
+      after = r.after;
+      is = ap (λ ys. (B, f) ∷ ys) r.is;
+      count =
+          ap suc r.count;
+    }
+found B k ((A, f) ∷ xs) inside = let r = found B k xs inside in
+    record {
+      before = (A, f) ∷ r.before;
+      frame = r.frame;
+      after = r.after;
+      is = ap (λ ys. (A, f) ∷ ys) r.is;
+      count =
+          r.count;
+    }
+
+-- moments don't go back, and releases lie apart
+later : (at : ℕ → ℕ) → ((k : ℕ) → at k ≤ at (k + 1)) → (j n : ℕ) → at j ≤ at (j + n)
+later at step j zero = let e : j ≡ j + 0 = omega arith in subst (λ (k : ℕ). at j ≤ at k) e (omega arith)
+later at step j (suc n) = let h = later at step j n in let s = step (j + n) in let e : j + n + 1 ≡ j + suc n =
+    omega arith in subst (λ (k : ℕ). at j ≤ at k) e (omega arith)
+
+-- so many releases are so many gaps apart
+spread : (gap : ℕ) (released : ℕ → ℕ) → ((i : ℕ) → released i + gap ≤ released (i + 1))
+    → (i n : ℕ) → released i + n * gap ≤ released (i + n)
+spread gap released step i zero = let e : i ≡ i + 0 = omega arith in
+    subst (λ (k : ℕ). released i + 0 * gap ≤ released k) e (omega arith)
+spread gap released step i (suc n) = let h = spread gap released step i n in let s = step (i + n) in
+    let e : i + n + 1 ≡ i + suc n = omega arith in
+    subst (λ (k : ℕ). released i + suc n * gap ≤ released k) e (omega arith)
+
+-- the law
+pub skew_is_near_holds : SkewIsNear
+skew_is_near_holds gap delay released at arrivals some apart forward delivered before after net frame is =
+    let i : ℕ = length (carried net before) in
+    let b : ℕ = length (carried (other net) before) in
+    elim (cases_lt i b) [
+      | inr less ↦ omega arith
+      | inl ahead ↦
+          let r = found (other net) (b - 1) before (omega arith) in
+          let split : arrivals ≡ r.before ++ (other net, r.frame) ∷ (r.after ++ (net, frame) ∷ after) =
+          is ∙ ap (λ (xs : List (Net × List ℕ)). xs ++ (net, frame) ∷ after) r.is
+          ∙ append_assoc r.before ((other net, r.frame) ∷ r.after) ((net, frame) ∷ after) in
+          let first = delivered r.before (r.after ++ (net, frame) ∷ after) (other net) r.frame split in
+          let mine = delivered before after net frame is in
+          let len = ap length r.is ∙ length-append r.before ((other net, r.frame) ∷ r.after) in
+          let reach : length r.before + (length before - length r.before) ≡ length before = omega arith in
+          let time : at (length r.before) ≤ at (length before) =
+          subst (λ (k : ℕ). at (length r.before) ≤ at k) reach
+          (later at forward (length r.before) (length before - length r.before)) in
+          let back : i + (b - 1 - i) ≡ b - 1 = omega arith in
+          let gaps : released i + (b - 1 - i) * gap ≤ released (b - 1) =
+          subst (λ (k : ℕ). released i + (b - 1 - i) * gap ≤ released k) back
+          (spread gap released apart i (b - 1 - i)) in
+          let at_first : released (b - 1) ≤ at (length r.before) =
+          subst (λ (k : ℕ). released k ≤ at (length r.before)) r.count first.0 in
+          let last = mine.1 in
+          let few : b - 1 - i ≤ delay / gap = le-div (b - 1 - i) delay gap some (omega arith) in
+          omega arith
+    ]

@@ -1,0 +1,144 @@
+-- The worked handing over of a plan, by computation.
+use Rattle.std.proofs.Common.{◌≡◌, ℕ, zero, suc, ◌+◌, ◌≤◌, ◌<◌, Bool, true, false, nat_eq, cond, ◌&&◌, [], ◌∷◌, length, refl, ap, sym, ◌∙◌, arith}
+use Rattle.std.specs.Prelude.{Contains, None}
+use Rattle.std.specs.List.{AllZip}
+use Rattle.std.proofs.lemmas.List.Elements.{All-cons, All-nil}
+use Rattle.afdx_config.specs.declared.identifiers.Kind.TheVariants.{Sampling, Queuing}
+use Rattle.afdx_config.specs.declared.port_plan.PortPlan.{PortPlan}
+use Rattle.afdx_config.specs.Config.{IsPlan, HasLink, ports_on, link_plan_at}
+use Rattle.afdx_config.specs.Demo.{demo_plan, demo_link, demo_port}
+use Rattle.afdx_config.specs.Plan.{IsLink, IsPort, bag_micros}
+use Rattle.afdx_config.specs.Room.{room_of}
+use Rattle.afdx_frame.specs.declared.net.Net.{Net}
+use Rattle.afdx_frame.specs.declared.net.Net.TheVariants.{A, B}
+use Rattle.afdx_frame.specs.Checksum.{checksum}
+use Rattle.afdx_frame.specs.Cutting.{cutting}
+use Rattle.afdx_frame.specs.Fragments.{fragments, fragments_at}
+use Rattle.afdx_frame.specs.Frame.{addresses, header_front, internet_header, link_header, udp_header, datagram, unnumbered}
+use Rattle.afdx_frame.specs.Header.{sub_in}
+use Rattle.afdx_tx.specs.Streams.{link_stream, told_of, IsNumbered, IsSpaced, IsPrefixOf}
+use Rattle.afdx_tx.specs.Legal.{IsKnown, IsLegalOn, AreTwins}
+use Rattle.afdx_laws.specs.Handed.{AreCarriedOf}
+use Rattle.afdx_laws.specs.Spacing.{IsOnItsWay}
+use Rattle.afdx_laws.specs.Plans.{IsAllowed, frames_of, released_of}
+use Rattle.afdx_laws.specs.WorkedPlan.{OneIsLegal, one_byte, one_byte_accepted, one_frame, one_entry, two_arrivals, one_passage}
+use Rattle.afdx_laws.proofs.WorkedMessage.{demo_port_is, few_are_near}
+
+-- what is in a list of one is that one
+only_one : {X : Type 0} (x y : X) → Contains (x ∷ []) y → y ≡ x
+only_one x y (zero, inside, is) = sym is
+only_one x y (suc k, inside, is) = absurd (omega (arith, inside))
+
+-- places in a list of one are the same
+same_place : (i j : ℕ) → i < 1 → j < 1 → i ≡ j
+same_place i j a b = omega arith
+
+-- one port is few
+few_ports : (vl sub : ℕ) → ports_on (demo_port ∷ []) vl sub ≤ 64
+few_ports vl sub = one (nat_eq demo_port.vl.0 vl && nat_eq demo_port.sub sub)
+  where
+    one : (t : Bool) → 0 + cond t 1 0 ≤ 64
+    one true = omega arith
+    one false = omega arith
+
+-- the demonstration plan is valid
+demo_valid : IsPlan demo_plan
+demo_valid = record {
+  end_system = omega arith;
+  links = (omega arith, omega arith);
+  ports = (omega arith, omega arith);
+  each_link = All-cons IsLink demo_link [] (record {
+    id = omega arith;
+    lmax = (omega arith, omega arith);
+    sub_vls = (omega arith, omega arith);
+    capacity = (omega arith, omega arith);
+  }) (All-nil IsLink);
+  each_port = All-cons IsPort demo_port [] demo_port_is (All-nil IsPort);
+  links_apart = λ i j a b e. same_place i j a b;
+  ports_apart = λ i j a b e. same_place i j a b;
+  linked = All-cons (HasLink (demo_link ∷ [])) demo_port []
+      (record { at = 0; within = omega arith; over = record { id = refl; sub = omega arith } })
+      (All-nil (HasLink (demo_link ∷ [])));
+  sampling = λ p link has_p has_link kind id.
+      absurd (queuing (sym (ap (λ (q : PortPlan). q.kind) (only_one demo_port p has_p)) ∙ kind));
+  flows_apart = λ p q has_p has_q same. only_one demo_port p has_p ∙ sym (only_one demo_port q has_q);
+  unicasts_apart = λ p q has_p has_q address a b same.
+      ap (λ (r : PortPlan). r.vl) (only_one demo_port p has_p ∙ sym (only_one demo_port q has_q));
+  few_ports = few_ports;
+}
+  where
+    queuing : Queuing ≡ Sampling → ⊥
+    queuing e = cc
+
+-- the frame is known
+one_known : (net : Net) → IsKnown (demo_link ∷ []) net (one_frame net)
+unfolding checksum addresses header_front internet_header link_header udp_header datagram unnumbered
+one_known net = record {
+  size = let size : length (one_frame net) ≡ 60 = refl in omega arith;
+  k = 0;
+  within = omega arith;
+  link = refl;
+  of_sub = let sub : sub_in (one_frame net) ≡ 0 = refl in omega arith;
+  interface = refl;
+}
+
+-- it is the fragment of the message
+one_prefix : (net : Net) (k sub : ℕ) → k < 1 → sub < (link_plan_at (demo_link ∷ []) k).sub_vls
+    → IsPrefixOf (told_of (link_plan_at (demo_link ∷ []) k).id.0 sub (one_entry net))
+    (fragments 1 (room_of (link_plan_at (demo_link ∷ []) k).lmax) net (one_byte_accepted k sub))
+unfolding checksum addresses header_front internet_header link_header udp_header datagram unnumbered cutting fragments_at
+one_prefix net zero zero inside index = ([], refl)
+one_prefix net zero (suc sub) inside index = absurd (omega arith)
+one_prefix net (suc k) sub inside index = absurd (omega arith)
+
+-- its number is 0
+one_numbered : (net : Net) (k : ℕ) → k < 1 → IsNumbered 0 (link_stream (link_plan_at (demo_link ∷ []) k).id.0 (one_entry net))
+unfolding checksum addresses header_front internet_header link_header udp_header datagram unnumbered
+one_numbered net zero inside = (refl, tt)
+one_numbered net (suc k) inside = absurd (omega arith)
+
+-- there is none before it
+one_spaced : (net : Net) (k : ℕ) → k < 1
+    → IsSpaced (bag_micros (link_plan_at (demo_link ∷ []) k).bag) None
+    (link_stream (link_plan_at (demo_link ∷ []) k).id.0 (one_entry net))
+unfolding checksum addresses header_front internet_header link_header udp_header datagram unnumbered
+one_spaced net zero inside = (tt, tt)
+one_spaced net (suc k) inside = absurd (omega arith)
+
+-- so it is handed over legally
+legal_on : (net : Net) → IsLegalOn demo_plan one_byte_accepted net (one_entry net)
+legal_on net = record {
+  known = (one_known net, tt);
+  prefixes = one_prefix net;
+  numbered = one_numbered net;
+  spaced = one_spaced net;
+}
+
+-- the two networks' frames are twins
+one_twins : AreTwins (one_entry A) (one_entry B)
+unfolding checksum addresses header_front internet_header link_header udp_header datagram unnumbered
+one_twins = record { b_shorter = λ h. refl; a_shorter = λ h. refl }
+
+-- the message may be sent
+one_allowed : IsAllowed demo_plan 0 one_byte
+one_allowed = record { port = (0, omega arith, refl); its = refl; some = omega arith; most = omega arith }
+
+-- each network carries its frame
+one_carried : AreCarriedOf 2 (frames_of 1 (one_entry A)) (frames_of 1 (one_entry B)) two_arrivals
+unfolding checksum addresses header_front internet_header link_header udp_header datagram unnumbered
+one_carried = record { on_a = ([], refl); on_b = ([], refl); near = few_are_near two_arrivals }
+
+-- it is on its way
+one_on_its_way : AllZip (IsOnItsWay 20 500) (released_of 1 (one_entry A)) one_passage
+unfolding checksum addresses header_front internet_header link_header udp_header datagram unnumbered
+one_on_its_way = (record { released = refl; size = refl; after = omega arith; soon = omega arith }, tt)
+
+-- the row
+pub one_is_legal : OneIsLegal
+one_is_legal = record {
+  valid = demo_valid;
+  legal = record { on_a = legal_on A; on_b = legal_on B; twins = one_twins };
+  allowed = All-cons (IsAllowed demo_plan 0) one_byte [] one_allowed (All-nil (IsAllowed demo_plan 0));
+  carry = one_carried;
+  passage = one_on_its_way;
+}

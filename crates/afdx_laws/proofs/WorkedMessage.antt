@@ -1,0 +1,130 @@
+-- The worked delivery, by computation.
+use Rattle.std.proofs.Common.{◌≡◌, zero, suc, ◌≤◌, List, [], ◌∷◌, length, map, refl, ap, ◌∙◌, arith}
+use Rattle.std.proofs.lemmas.List.{length-append}
+use Rattle.std.proofs.lemmas.List.Elements.{All-cons, All-nil}
+use Rattle.afdx_config.specs.Plan.{IsPort}
+use Rattle.afdx_config.specs.Demo.{demo_port}
+use Rattle.afdx_frame.specs.declared.net.Net.{Net}
+use Rattle.afdx_frame.specs.declared.net.Net.TheVariants.{A, B}
+use Rattle.afdx_frame.specs.Checksum.{checksum}
+use Rattle.afdx_frame.specs.Cutting.{cutting}
+use Rattle.afdx_frame.specs.Frame.{addresses, header_front, internet_header, link_header, udp_header, datagram, unnumbered}
+use Rattle.afdx_frame.specs.Fragments.{fragments, fragments_at, blanked}
+use Rattle.afdx_frame.specs.Header.{number_in}
+use Rattle.afdx_laws.specs.Receiver.{begin, received, carried, other, IsNear, IsPrefixOf, IsNumbered}
+use Rattle.afdx_laws.specs.Networks.{IsLong}
+use Rattle.afdx_laws.specs.Messages.{IsSent, messages_in, sub_stream}
+use Rattle.afdx_laws.specs.Handed.{IsOwn, IsHanded, AreTwins}
+use Rattle.afdx_laws.specs.WorkedDelivery.{bytes_41, one_accepted, front_frame, back_frame, both_frames, four_arrivals, plain_receiver, OneMessageArrives}
+
+-- a frame of either piece has 60 bytes
+front_long : (net : Net) → length (front_frame net) ≡ 60
+unfolding checksum addresses header_front internet_header link_header udp_header datagram unnumbered
+front_long net = refl
+
+-- the second too
+back_long : (net : Net) → length (back_frame net) ≡ 60
+unfolding checksum addresses header_front internet_header link_header udp_header datagram unnumbered
+back_long net = refl
+
+-- each has a network's identifier
+own_front : (net : Net) → IsOwn net (front_frame net)
+unfolding checksum addresses header_front internet_header link_header udp_header datagram unnumbered
+own_front net = refl
+
+-- the second too
+own_back : (net : Net) → IsOwn net (back_frame net)
+unfolding checksum addresses header_front internet_header link_header udp_header datagram unnumbered
+own_back net = refl
+
+-- they are numbered from 0 on
+frames_numbered : (net : Net) → IsNumbered number_in (both_frames net)
+unfolding checksum addresses header_front internet_header link_header udp_header datagram unnumbered
+frames_numbered net zero spare inside = refl
+frames_numbered net (suc zero) spare inside = refl
+frames_numbered net (suc (suc i)) spare inside = absurd (omega arith)
+
+-- they are the fragments of the message
+first_fragments : (net : Net)
+    → IsPrefixOf (map blanked (sub_stream 0 (both_frames net))) (fragments 1 25 net one_accepted)
+unfolding checksum addresses header_front internet_header link_header udp_header datagram unnumbered cutting fragments_at
+first_fragments net = ([], refl)
+
+-- so they are handed over
+handed_to : (net : Net) → IsHanded 1 25 0 one_accepted net (both_frames net)
+handed_to net = record {
+  frames = record {
+    long = All-cons IsLong (front_frame net) (back_frame net ∷ []) (omega (arith, front_long net))
+        (All-cons IsLong (back_frame net) [] (omega (arith, back_long net)) (All-nil IsLong));
+    numbered = frames_numbered net;
+  };
+  own = All-cons (IsOwn net) (front_frame net) (back_frame net ∷ []) (own_front net)
+      (All-cons (IsOwn net) (back_frame net) [] (own_back net) (All-nil (IsOwn net)));
+  first = first_fragments net;
+}
+
+-- the two lists are twins
+are_twins : AreTwins (both_frames A) (both_frames B)
+unfolding checksum addresses header_front internet_header link_header udp_header datagram unnumbered
+are_twins = record { b_shorter = λ h. refl; a_shorter = λ h. refl }
+
+-- the demonstration port is one
+pub demo_port_is : IsPort demo_port
+demo_port_is = record {
+  id = omega arith;
+  vl = omega arith;
+  sub = omega arith;
+  partition = omega arith;
+  source = (omega arith, omega arith);
+  destination = (omega arith, omega arith);
+  max = (omega arith, omega arith);
+  unicast = tt;
+}
+
+-- it may send the message
+demo_sends : IsSent 0 (record { port = demo_port; bytes = bytes_41 })
+demo_sends =
+    let size : length bytes_41 ≡ 41 = refl in
+    record { port = demo_port_is; its = refl; some = omega arith; most = omega arith }
+
+-- a network carried no more than came
+carried_le : {F : Type 0} (net : Net) (xs : List (Net × F)) → length (carried net xs) ≤ length xs
+carried_le net [] = omega arith
+carried_le A ((A, frame) ∷ xs) = let l = carried_le A xs in omega arith
+carried_le A ((B, frame) ∷ xs) = let l = carried_le A xs in omega arith
+carried_le B ((A, frame) ∷ xs) = let l = carried_le B xs in omega arith
+carried_le B ((B, frame) ∷ xs) = let l = carried_le B xs in omega arith
+
+-- few arrivals are near
+pub few_are_near : {F : Type 0} (arrivals : List (Net × F)) → IsNear (length arrivals) arrivals
+few_are_near arrivals before after net frame is =
+    let whole = ap length is ∙ length-append before ((net, frame) ∷ after) in
+    let few = carried_le (other net) before in
+    omega arith
+
+-- what the receiver accepts
+accepts_both : received number_in plain_receiver begin four_arrivals ≡ front_frame A ∷ back_frame B ∷ []
+unfolding checksum addresses header_front internet_header link_header udp_header datagram unnumbered
+accepts_both = refl
+
+-- what that gives
+gives_message : messages_in 0 (front_frame A ∷ back_frame B ∷ []) ≡ bytes_41 ∷ []
+unfolding checksum addresses header_front internet_header link_header udp_header datagram unnumbered
+gives_message = refl
+
+-- the row
+pub one_message_arrives : OneMessageArrives
+one_message_arrives = record {
+  handed = record {
+    link = record { numbered = omega arith; least = omega arith; greatest = omega arith };
+    index = omega arith;
+    sent = All-cons (IsSent 0) (record { port = demo_port; bytes = bytes_41 }) [] demo_sends (All-nil (IsSent 0));
+    on_a = handed_to A;
+    on_b = handed_to B;
+    twins = are_twins;
+  };
+  fit = record { checks = omega arith; opens = omega arith; apart = omega arith };
+  carry = record { on_a = ([], refl); on_b = ([], refl); near = few_are_near four_arrivals };
+  accepts = accepts_both;
+  message = ap (messages_in 0) accepts_both ∙ gives_message;
+}

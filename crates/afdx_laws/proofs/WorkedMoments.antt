@@ -1,0 +1,32 @@
+-- The worked skew.
+use Rattle.std.proofs.Common.{◌≡◌, ℕ, List, [], ◌∷◌, length, ap, sym, ◌∙◌, arith}
+use Rattle.std.proofs.lemmas.List.{length-append}
+use Rattle.afdx_frame.specs.declared.net.Net.{Net}
+use Rattle.afdx_frame.specs.declared.net.Net.TheVariants.{B}
+use Rattle.afdx_laws.specs.Receiver.{carried}
+use Rattle.afdx_laws.specs.Skew.{IsDelivered}
+use Rattle.afdx_laws.specs.WorkedSkew.{release_of, arrival_of, both_copies, ComesInTime}
+
+-- the parts of two lists that are the same
+heads : {X : Type 0} {x y : X} {xs ys : List X} → x ∷ xs ≡ y ∷ ys → (x ≡ y) × (xs ≡ ys)
+heads e = (cc, cc)
+
+-- each copy comes in time
+both_delivered : IsDelivered 400 release_of arrival_of both_copies
+both_delivered [] after net frame is = (omega arith, omega arith)
+both_delivered (x ∷ []) after net frame is =
+    let first = heads is in
+    let second = heads first.1 in
+    let from_b : B ≡ net = ap (λ (e : Net × List ℕ). e.0) second.0 in
+    let none : length (carried net (x ∷ [])) ≡ 0 =
+    ap (λ (n : Net). length (carried n (x ∷ []))) (sym from_b)
+    ∙ ap (λ (e : Net × List ℕ). length (carried B (e ∷ []))) (sym first.0) in
+    (omega arith, omega arith)
+both_delivered (x ∷ y ∷ before) after net frame is =
+    let size = ap length is in
+    let parts = length-append before ((net, frame) ∷ after) in
+    absurd (omega arith)
+
+-- the row
+pub comes_in_time : ComesInTime
+comes_in_time = record { apart = λ i. omega arith; forward = λ k. omega arith; delivered = both_delivered }

@@ -1,0 +1,8 @@
+use Rattle.afdx_laws.proofs.Losing.{loss_masked_holds, one_lost_is_close}
+use Rattle.afdx_laws.proofs.laws.loss_masked.Goals as goal
+
+pub returns-clause-masked : goal.returns-clause-masked
+returns-clause-masked c = loss_masked_holds
+
+pub returns-clause-worked : goal.returns-clause-worked
+returns-clause-worked c = one_lost_is_close

@@ -1,0 +1,69 @@
+-- From what was handed to two networks to the messages at the receiving end.
+use Rattle.std.specs.Prelude.{◌≡◌, ℕ, ◌≤◌, ◌<◌, nat_lt, if◌then◌else◌, List, length, map, take, All}
+use Rattle.afdx_frame.specs.declared.net.Net.{Net}
+use Rattle.afdx_frame.specs.declared.net.Net.TheVariants.{A, B}
+use Rattle.afdx_frame.specs.Header.{number_in}
+use Rattle.afdx_frame.specs.Twin.{twin_of}
+use Rattle.afdx_frame.specs.Fragments.{Sent, blanked, fragments}
+use Rattle.afdx_laws.specs.Receiver.{Tolerance, IsFitFor, begin, received, carried, IsNear, IsPrefixOf}
+use Rattle.afdx_laws.specs.Networks.{IsStream, most_carried}
+use Rattle.afdx_laws.specs.Loss.{AreClose, next_alone, frames_at}
+use Rattle.afdx_laws.specs.Messages.{sub_stream, messages_in, IsSent, IsLinkOf, AreFirst}
+
+-- a frame has a network's interface identifier
+abbrev pub IsOwn : Net → List ℕ → Type 0
+IsOwn net frame = twin_of net frame ≡ frame
+
+-- a link's frames as they were handed to a network: the network's own, numbered, and those of a
+-- sub-VL the first fragments of its accepted messages
+pub record IsHanded (end_system room sub : ℕ) (accepted : List Sent) (net : Net) (handed : List (List ℕ)) : Type 0 where
+  pub frames : IsStream handed
+  pub own : All (IsOwn net) handed
+  pub first : IsPrefixOf (map blanked (sub_stream sub handed)) (fragments end_system room net accepted)
+
+-- the shorter list is the twins of the beginning of the longer one
+pub record AreTwins (a b : List (List ℕ)) : Type 0 where
+  pub b_shorter : length b ≤ length a → b ≡ map (twin_of B) (take (length b) a)
+  pub a_shorter : length a ≤ length b → a ≡ map (twin_of A) (take (length a) b)
+
+-- the list of the network that was handed more
+abbrev pub longer : List (List ℕ) → List (List ℕ) → List (List ℕ)
+longer a b = if nat_lt (length a) (length b) then b else a
+
+-- a link's frames were handed to both networks
+pub record AreHanded (end_system room sub : ℕ) (accepted : List Sent) (a b : List (List ℕ)) : Type 0 where
+  pub link : IsLinkOf end_system room
+  pub index : sub < 4
+  pub sent : All (IsSent sub) accepted
+  pub on_a : IsHanded end_system room sub accepted A a
+  pub on_b : IsHanded end_system room sub accepted B b
+  pub twins : AreTwins a b
+
+-- what two networks carried of what they were handed, in the order in which it came from both
+pub record AreCarriedOf (lag : ℕ) (a b : List (List ℕ)) (arrivals : List (Net × List ℕ)) : Type 0 where
+  pub on_a : IsPrefixOf (carried A arrivals) a
+  pub on_b : IsPrefixOf (carried B arrivals) b
+  pub near : IsNear lag arrivals
+
+-- Each network carries some beginning of what it was handed, and the two come together in some order,
+-- near to each other. Then the receiver's messages of a sub-VL are the first accepted ones, in order
+-- and each once, and all whose fragments one network carried.
+abbrev pub HandedArrive : Type 0
+HandedArrive = (end_system room sub lag : ℕ) (tolerance : Tolerance) (accepted : List Sent)
+    (a b : List (List ℕ)) (arrivals : List (Net × List ℕ))
+    → AreHanded end_system room sub accepted a b
+    → IsFitFor lag tolerance → AreCarriedOf lag a b arrivals
+    → AreFirst end_system room sub accepted (take (most_carried arrivals) (longer a b))
+    (messages_in sub (received number_in tolerance begin arrivals))
+
+-- They are so although one network loses, repeats and reorders frames, where the other carries all that
+-- was handed over and the next number alone is new to the receiver. A frame is told by its network and
+-- its place in the longer list, and comes as that network was handed it: as a twin.
+abbrev pub HandedDespiteLoss : Type 0
+HandedDespiteLoss = (end_system room sub check : ℕ) (whole : Net) (accepted : List Sent)
+    (a b : List (List ℕ)) (came : List (Net × ℕ))
+    → AreHanded end_system room sub accepted a b
+    → 1 ≤ check → AreClose whole (length (longer a b)) 0 0 came
+    → AreFirst end_system room sub accepted (take (length (carried whole came)) (longer a b))
+    (messages_in sub
+    (received number_in (next_alone check) begin (frames_at (longer a b) came)))

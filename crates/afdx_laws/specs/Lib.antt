@@ -1,0 +1,14 @@
+pub mod Policer
+pub mod Spacing
+pub mod WorkedPolicing
+pub mod Receiver
+pub mod Networks
+pub mod Loss
+pub mod Skew
+pub mod Delivery
+pub mod Messages
+pub mod Handed
+pub mod WorkedDelivery
+pub mod Plans
+pub mod WorkedPlan
+pub mod WorkedSkew

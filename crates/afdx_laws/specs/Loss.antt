@@ -1,0 +1,72 @@
+-- One network may lose, repeat and reorder frames, as long as the other carries them all.
+use Rattle.std.specs.Prelude.{◌≡◌, ℕ, ◌+◌, ◌-◌, ◌≤◌, ◌<◌, max, Bool, true, false, cond, Some, List, [], ◌∷◌, length, map, take, slice_index_or}
+use Rattle.afdx_config.specs.Numbers.{sequence_number}
+use Rattle.afdx_frame.specs.declared.net.Net.{Net}
+use Rattle.afdx_frame.specs.declared.net.Net.TheVariants.{A, B}
+use Rattle.afdx_frame.specs.Header.{number_in}
+use Rattle.afdx_frame.specs.Twin.{twin_of}
+use Rattle.afdx_laws.specs.Receiver.{Tolerance, begin, is_accepted, received, carried}
+use Rattle.afdx_laws.specs.Networks.{IsStream}
+
+-- the two networks are one
+abbrev pub same_net : Net → Net → Bool
+same_net A A = true
+same_net B B = true
+same_net A B = false
+same_net B A = false
+
+-- Frames of a stream of n come, each told by its network and its place in the stream. The whole
+-- network carries every frame, in order. Each frame lies less than 255 places from the farthest that
+-- came before it, and from what the whole network carried; the first of all is the stream's first.
+abbrev pub AreClose : Net → ℕ → ℕ → ℕ → List (Net × ℕ) → Type 0
+AreClose whole n farthest carries [] = Unit {0}
+AreClose whole n farthest carries (e ∷ es) = (e.1 < n)
+    × (farthest ≤ e.1 + 254)
+    × (e.1 ≤ carries + 254)
+    × (farthest ≡ 0 → e.1 ≡ 0)
+    × (same_net whole e.0 ≡ true → e.1 ≡ carries)
+    × AreClose whole n (max farthest (e.1 + 1)) (cond (same_net whole e.0) (carries + 1) carries) es
+
+-- the frame at a place, as a network carries it
+abbrev pub frame_at : List (List ℕ) → Net → ℕ → List ℕ
+frame_at stream net i = twin_of net (slice_index_or stream i [])
+
+-- the frames that come
+abbrev pub frames_at : List (List ℕ) → List (Net × ℕ) → List (Net × List ℕ)
+frames_at stream came = map (λ (e : Net × ℕ). (e.0, frame_at stream e.0 e.1)) came
+
+-- the next number alone is new
+abbrev pub next_alone : ℕ → Tolerance
+next_alone check = record { check = check; window = 1 }
+
+-- A receiver for which the next number alone is new accepts each frame once, in order, at least as
+-- far as the whole network carried them.
+abbrev pub LossMasked : Type 0
+LossMasked = (whole : Net) (check : ℕ) (stream : List (List ℕ)) (came : List (Net × ℕ)) → 1 ≤ check
+    → IsStream stream → AreClose whole (length stream) 0 0 came
+    → (many : ℕ)
+    × (length (carried whole came) ≤ many)
+    × (map (twin_of A) (received number_in (next_alone check) begin (frames_at stream came))
+    ≡ take many (map (twin_of A) stream))
+
+-- numbers that come: network A, which is ahead, loses 1
+abbrev pub one_lost : List (Net × ℕ)
+one_lost = (A, 0) ∷ (A, 2) ∷ (B, 0) ∷ (B, 1) ∷ (B, 2) ∷ []
+
+-- A receiver for which the next two numbers are new doesn't: B's copy of 1 is dropped. With the next
+-- alone it is accepted.
+abbrev pub LossNotMasked : Type 0
+LossNotMasked =
+    (received (λ (n : ℕ). n) (record { check = 2; window = 2 }) begin one_lost ≡ 0 ∷ 2 ∷ [])
+    × (received (λ (n : ℕ). n) (record { check = 2; window = 1 }) begin one_lost ≡ 0 ∷ 1 ∷ 2 ∷ [])
+
+-- The bound on the lag is exact, for each window: where network A has carried 256 - window frames
+-- more than B, B's next frame, an old one, is accepted as new.
+abbrev pub NumbersClash : Type 0
+NumbersClash = (check window lag place : ℕ) → 1 ≤ check → 1 ≤ window → 1 ≤ lag
+    → lag + window ≡ 256 → 1 ≤ place
+    → is_accepted (record { check = check; window = window }) (record {
+      seen_a = Some (sequence_number (place + lag - 1));
+      seen_b = Some (sequence_number (place - 1));
+      accepted = Some (sequence_number (place + lag - 1));
+    }) B (sequence_number place) ≡ true

@@ -1,0 +1,112 @@
+-- The policer of a switch (ARINC 664 Part 7, traffic policing): a token bucket for each virtual link.
+use Rattle.std.specs.Prelude.{◌≡◌, ℕ, ◌+◌, ◌-◌, ◌*◌, ◌≤◌, ◌<◌, min, nat_le, if◌then◌else◌, List, [], ◌∷◌, map, sum_by}
+
+-- a frame that comes to the switch: the moment in microseconds, and its bytes on the wire
+pub record Arrival : Type 0 where
+  pub at : ℕ
+  pub size : ℕ
+
+-- what a switch is told of a link: its gap in microseconds, its greatest frame in bytes on the wire,
+-- and the greatest jitter that it allows, in microseconds
+pub record Rule : Type 0 where
+  pub gap : ℕ
+  pub lmax : ℕ
+  pub jitter : ℕ
+
+-- A link's account, and when it was last filled. A credit of one byte is counted as `gap`, so that
+-- lmax bytes a gap are lmax a microsecond, without fractions.
+pub record Account : Type 0 where
+  pub credit : ℕ
+  pub since : ℕ
+
+-- the account is never above lmax (1 + jitter / gap) bytes
+abbrev pub limit : Rule → ℕ
+limit rule = rule.lmax * (rule.gap + rule.jitter)
+
+-- it begins there
+abbrev pub full : Rule → Account
+full rule = record { credit = limit rule; since = 0 }
+
+-- it grows by lmax bytes a gap
+abbrev pub filled : Rule → Account → ℕ → Account
+filled rule account now = record {
+  credit = min (limit rule) (account.credit + rule.lmax * (now - account.since));
+  since = now;
+}
+
+-- a frame that passes is paid for
+abbrev pub paid : Account → ℕ → Account
+paid account price = record { credit = account.credit - price; since = account.since }
+
+-- A frame is charged by its bytes, or each frame as the greatest one.
+pub data Charge : Type 0 where
+  by_bytes : Charge
+  by_frames : Charge
+
+-- what a frame costs
+abbrev pub price : Charge → Rule → Arrival → ℕ
+price by_bytes rule frame = frame.size * rule.gap
+price by_frames rule frame = rule.lmax * rule.gap
+
+-- the frames that pass: those whose price the account can pay
+abbrev pub passed : Charge → Rule → Account → List Arrival → List Arrival
+passed charge rule account [] = []
+passed charge rule account (frame ∷ frames) =
+    if nat_le (price charge rule frame) (filled rule account frame.at).credit
+    then frame ∷ passed charge rule
+    (paid (filled rule account frame.at) (price charge rule frame)) frames
+    else passed charge rule (filled rule account frame.at) frames
+
+-- a frame on its way: the moment of its release, and the one at which it comes to the switch
+pub record Passage : Type 0 where
+  pub released : ℕ
+  pub arrived : ℕ
+  pub size : ℕ
+
+-- what the switch sees of it
+abbrev pub arrival : Passage → Arrival
+arrival passage = record { at = passage.arrived; size = passage.size }
+
+-- it was on its way for at most the jitter, and is no greater than the greatest
+pub record IsOnTime (rule : Rule) (passage : Passage) : Type 0 where
+  pub after : passage.released ≤ passage.arrived
+  pub soon : passage.arrived ≤ passage.released + rule.jitter
+  pub small : passage.size ≤ rule.lmax
+
+-- such frames, neighbours released at least a gap apart
+abbrev pub AreOnTime : Rule → List Passage → Type 0
+AreOnTime rule [] = Unit {0}
+AreOnTime rule (first ∷ []) = IsOnTime rule first
+AreOnTime rule (first ∷ second ∷ later) = IsOnTime rule first
+    × (first.released + rule.gap ≤ second.released)
+    × AreOnTime rule (second ∷ later)
+
+-- The switch drops none of them.
+abbrev pub NoneDropped : Type 0
+NoneDropped = (charge : Charge) (rule : Rule) (passages : List Passage) → AreOnTime rule passages
+    → passed charge rule (full rule) (map arrival passages) ≡ map arrival passages
+
+-- what some frames cost
+abbrev pub cost : Charge → Rule → List Arrival → ℕ
+cost charge rule frames = sum_by (price charge rule) frames
+
+-- moments that don't go back, from a start to an end
+abbrev pub AreBetween : ℕ → ℕ → List Arrival → Type 0
+AreBetween start end [] = start ≤ end
+AreBetween start end (frame ∷ later) = (start ≤ frame.at) × AreBetween frame.at end later
+
+-- It is no switch that lets all pass: whatever comes, what passes from one moment to another costs at
+-- most lmax bytes for each gap between them, and lmax (1 + jitter / gap) more.
+abbrev pub NoMorePasses : Type 0
+NoMorePasses = (charge : Charge) (rule : Rule) (credit start end : ℕ) (frames : List Arrival)
+    → credit ≤ limit rule → AreBetween start end frames
+    → cost charge rule (passed charge rule (record { credit = credit; since = start }) frames)
+    ≤ rule.lmax * (rule.gap + rule.jitter + (end - start))
+
+-- With no jitter, of two greatest frames less than a gap apart the second is dropped.
+abbrev pub EarlyDropped : Type 0
+EarlyDropped = (charge : Charge) (gap lmax a b : ℕ) → 1 ≤ lmax → a ≤ b → b < a + gap
+    → passed charge (record { gap = gap; lmax = lmax; jitter = 0 })
+    (full (record { gap = gap; lmax = lmax; jitter = 0 }))
+    (record { at = a; size = lmax } ∷ record { at = b; size = lmax } ∷ [])
+    ≡ record { at = a; size = lmax } ∷ []

@@ -1,0 +1,112 @@
+-- The receiving end of a virtual link (ARINC 664 Part 7, integrity checking and redundancy
+-- management): a check of each network's numbers, then the first valid frame wins. It sees numbers
+-- alone, so that it is defined for frames of any kind.
+use Rattle.std.specs.Prelude.{◌≡◌, ℕ, zero, suc, ◌+◌, ◌≤◌, ◌<◌, nat_eq, ◌&&◌, ◌||◌, Bool, true, false, if◌then◌else◌, Option, Some, None, List, [], ◌∷◌, ◌++◌, length, slice_index_or}
+use Rattle.afdx_config.specs.Numbers.{sequence_number}
+use Rattle.afdx_frame.specs.declared.net.Net.{Net}
+use Rattle.afdx_frame.specs.declared.net.Net.TheVariants.{A, B}
+
+-- the other network
+abbrev pub other : Net → Net
+other A = B
+other B = A
+
+-- the number after a number
+abbrev pub next_number : ℕ → ℕ
+next_number n = if nat_eq n 255 then 1 else n + 1
+
+-- one of so many numbers after a number
+abbrev pub ahead : ℕ → ℕ → ℕ → Bool
+ahead zero last n = false
+ahead (suc many) last n = nat_eq n (next_number last) || ahead many (next_number last) n
+
+-- How many numbers after the last one of its network the check takes as valid, and how many after the
+-- last accepted one are new. What is not new is the copy of an old frame. A receiver that expects the
+-- next number alone has 1; the standard's check of the next two has 2.
+pub record Tolerance : Type 0 where
+  pub check : ℕ
+  pub window : ℕ
+
+-- the number seen last on each network, and the one accepted last
+pub record State : Type 0 where
+  pub seen_a : Option ℕ
+  pub seen_b : Option ℕ
+  pub accepted : Option ℕ
+
+-- before the first frame
+abbrev pub begin : State
+begin = record { seen_a = None; seen_b = None; accepted = None }
+
+-- one of so many numbers after the last one, or the first of all
+abbrev pub is_ahead : ℕ → Option ℕ → ℕ → Bool
+is_ahead many None n = true
+is_ahead many (Some last) n = ahead many last n
+
+-- the integrity check: soon after the last one of its network, or 0, with which transmitters begin
+abbrev pub is_valid : ℕ → Option ℕ → ℕ → Bool
+is_valid many last n = nat_eq n 0 || is_ahead many last n
+
+-- the number seen last on a network
+abbrev pub seen_on : Net → State → Option ℕ
+seen_on A state = state.seen_a
+seen_on B state = state.seen_b
+
+-- after a frame of a network
+abbrev pub with_seen : Net → ℕ → State → State
+with_seen A n state = record { seen_a = Some n; seen_b = state.seen_b; accepted = state.accepted }
+with_seen B n state = record { seen_a = state.seen_a; seen_b = Some n; accepted = state.accepted }
+
+-- after one that was accepted
+abbrev pub with_accepted : ℕ → State → State
+with_accepted n state = record {
+  seen_a = state.seen_a;
+  seen_b = state.seen_b;
+  accepted = Some n;
+}
+
+-- the frame is valid and new
+abbrev pub is_accepted : Tolerance → State → Net → ℕ → Bool
+is_accepted tolerance state net n =
+    is_valid tolerance.check (seen_on net state) n && is_ahead tolerance.window state.accepted n
+
+-- the frames that are accepted, of those that come from both networks in this order
+abbrev pub received : {F : Type 0} → (F → ℕ) → Tolerance → State → List (Net × F) → List F
+received number tolerance state [] = []
+received number tolerance state (e ∷ es) =
+    if is_accepted tolerance state e.0 (number e.1)
+    then e.1 ∷ received number tolerance
+    (with_accepted (number e.1) (with_seen e.0 (number e.1) state)) es
+    else received number tolerance (with_seen e.0 (number e.1) state) es
+
+-- what one network carried, of what came from both
+abbrev pub carried_by : {F : Type 0} → Net → Net → F → List F → List F
+carried_by A A frame later = frame ∷ later
+carried_by B B frame later = frame ∷ later
+carried_by A B frame later = later
+carried_by B A frame later = later
+
+-- all of it, in order
+abbrev pub carried : {F : Type 0} → Net → List (Net × F) → List F
+carried net [] = []
+carried net (e ∷ es) = carried_by net e.0 e.1 (carried net es)
+
+-- Each frame that comes is at most `lag` frames behind what the other network carried before it.
+abbrev pub IsNear : {F : Type 0} → ℕ → List (Net × F) → Type 0
+IsNear {F} lag arrivals = (before after : List (Net × F)) (net : Net) (frame : F)
+    → arrivals ≡ before ++ (net, frame) ∷ after
+    → length (carried (other net) before) ≤ length (carried net before) + lag
+
+-- a list begins another
+abbrev pub IsPrefixOf : {F : Type 0} → List F → List F → Type 0
+IsPrefixOf {F} xs ys = (rest : List F) × (ys ≡ xs ++ rest)
+
+-- frame i carries the number of place i
+abbrev pub IsNumbered : {F : Type 0} → (F → ℕ) → List F → Type 0
+IsNumbered {F} number stream = (i : ℕ) (spare : F) → i < length stream
+    → number (slice_index_or stream i spare) ≡ sequence_number i
+
+-- The receiver takes the next number at least, and at this lag no old frame's number is in its window.
+pub record IsFitFor (lag : ℕ) (tolerance : Tolerance) : Type 0 where
+  pub checks : 1 ≤ tolerance.check
+  pub opens : 1 ≤ tolerance.window
+  pub apart : lag + tolerance.window ≤ 255

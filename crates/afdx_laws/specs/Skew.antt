@@ -1,0 +1,22 @@
+-- How near the two networks are, by the clock.
+use Rattle.std.specs.Prelude.{◌≡◌, ℕ, ◌+◌, ◌/◌, ◌≤◌, List, ◌∷◌, ◌++◌, length}
+use Rattle.afdx_frame.specs.declared.net.Net.{Net}
+use Rattle.afdx_laws.specs.Receiver.{carried, IsNear}
+
+-- Arrival k comes at the moment `at k`. Each network delivers frame i at its release or later, and at
+-- most `delay` later.
+abbrev pub IsDelivered : ℕ → (ℕ → ℕ) → (ℕ → ℕ) → List (Net × List ℕ) → Type 0
+IsDelivered delay released at arrivals =
+    (before after : List (Net × List ℕ)) (net : Net) (frame : List ℕ)
+    → arrivals ≡ before ++ (net, frame) ∷ after
+    → (released (length (carried net before)) ≤ at (length before))
+    × (at (length before) ≤ released (length (carried net before)) + delay)
+
+-- Where frames are released at least a gap apart, none comes more than 1 + delay / gap frames behind
+-- the other network.
+abbrev pub SkewIsNear : Type 0
+SkewIsNear = (gap delay : ℕ) (released at : ℕ → ℕ) (arrivals : List (Net × List ℕ)) → 1 ≤ gap
+    → ((i : ℕ) → released i + gap ≤ released (i + 1))
+    → ((k : ℕ) → at k ≤ at (k + 1))
+    → IsDelivered delay released at arrivals
+    → IsNear (1 + delay / gap) arrivals

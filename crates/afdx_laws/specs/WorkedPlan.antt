@@ -1,0 +1,49 @@
+-- A worked handing over of a plan: over the demonstration configuration one message of one byte is
+-- accepted, and its frame is handed to both networks at the moment 0.
+use Rattle.std.specs.Prelude.{ℕ, List, [], ◌∷◌, All}
+use Rattle.std.specs.List.{AllZip}
+use Rattle.afdx_config.specs.Config.{IsPlan}
+use Rattle.afdx_config.specs.Demo.{demo_plan, demo_port}
+use Rattle.afdx_frame.specs.declared.net.Net.{Net}
+use Rattle.afdx_frame.specs.declared.net.Net.TheVariants.{A, B}
+use Rattle.afdx_frame.specs.Cutting.{piece_at}
+use Rattle.afdx_frame.specs.Frame.{frame_of}
+use Rattle.afdx_frame.specs.Fragments.{Sent}
+use Rattle.redundant_mux.specs.Entry.{Entry, entry}
+use Rattle.afdx_tx.specs.Legal.{Accepted, IsLegal}
+use Rattle.afdx_laws.specs.Handed.{AreCarriedOf}
+use Rattle.afdx_laws.specs.Policer.{Passage}
+use Rattle.afdx_laws.specs.Spacing.{IsOnItsWay}
+use Rattle.afdx_laws.specs.Plans.{frames_of, released_of, IsAllowed}
+
+-- the message
+abbrev pub one_byte : Sent
+one_byte = record { port = demo_port; bytes = 1 ∷ [] }
+
+-- the accepted messages of the one sub-VL
+abbrev pub one_byte_accepted : Accepted
+one_byte_accepted k sub = one_byte ∷ []
+
+-- its frame for a network
+abbrev pub one_frame : Net → List ℕ
+one_frame net = frame_of 1 demo_port (1 ∷ []) 0 (piece_at 1479 9 0) net 0
+
+-- what was handed to the network
+abbrev pub one_entry : Net → List Entry
+one_entry net = entry 0 (one_frame net) ∷ []
+
+-- what comes from both
+abbrev pub two_arrivals : List (Net × List ℕ)
+two_arrivals = (B, one_frame B) ∷ (A, one_frame A) ∷ []
+
+-- the frame on its way to a switch: 64 bytes with its check sequence, and 20 around it
+abbrev pub one_passage : List Passage
+one_passage = record { released = 0; arrived = 40; size = 84 } ∷ []
+
+-- It meets what the laws of a plan ask for.
+pub record OneIsLegal : Type 0 where
+  pub valid : IsPlan demo_plan
+  pub legal : IsLegal demo_plan one_byte_accepted (one_entry A) (one_entry B)
+  pub allowed : All (IsAllowed demo_plan 0) (one_byte_accepted 0 0)
+  pub carry : AreCarriedOf 2 (frames_of 1 (one_entry A)) (frames_of 1 (one_entry B)) two_arrivals
+  pub passage : AllZip (IsOnItsWay 20 500) (released_of 1 (one_entry A)) one_passage

@@ -1,0 +1,31 @@
+-- A worked policing: a gap of 1,000 microseconds, frames of up to 100 bytes, and up to 200
+-- microseconds of jitter.
+use Rattle.std.specs.Prelude.{◌≡◌, ℕ, List, [], ◌∷◌, map}
+use Rattle.afdx_laws.specs.Policer.{Arrival, Rule, Passage, AreOnTime, by_bytes, by_frames, arrival, full, passed}
+
+-- what the switch is told
+abbrev pub worked_rule : Rule
+worked_rule = record { gap = 1000; lmax = 100; jitter = 200 }
+
+-- frames released at 0, 1,000 and 2,000, the first of them held up
+abbrev pub three_passages : List Passage
+three_passages = record { released = 0; arrived = 200; size = 100 }
+    ∷ record { released = 1000; arrived = 1000; size = 100 }
+    ∷ record { released = 2000; arrived = 2000; size = 80 }
+    ∷ []
+
+-- a greatest frame
+abbrev pub greatest_at : ℕ → Arrival
+greatest_at moment = record { at = moment; size = 100 }
+
+-- They are on time and pass, however the switch charges. Of greatest frames at 200, 1,000 and 1,700
+-- the last is dropped.
+pub record PolicesThree : Type 0 where
+  pub on_time : AreOnTime worked_rule three_passages
+  pub bytes_pass : passed by_bytes worked_rule (full worked_rule) (map arrival three_passages)
+      ≡ map arrival three_passages
+  pub frames_pass : passed by_frames worked_rule (full worked_rule) (map arrival three_passages)
+      ≡ map arrival three_passages
+  pub early : passed by_bytes worked_rule (full worked_rule)
+      (greatest_at 200 ∷ greatest_at 1000 ∷ greatest_at 1700 ∷ [])
+      ≡ greatest_at 200 ∷ greatest_at 1000 ∷ []

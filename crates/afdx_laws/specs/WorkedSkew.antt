@@ -1,0 +1,24 @@
+-- A worked skew: frames are released a millisecond apart, and each network delivers within 400
+-- microseconds.
+use Rattle.std.specs.Prelude.{ℕ, ◌+◌, ◌*◌, ◌≤◌, List, [], ◌∷◌}
+use Rattle.afdx_frame.specs.declared.net.Net.{Net}
+use Rattle.afdx_frame.specs.declared.net.Net.TheVariants.{A, B}
+use Rattle.afdx_laws.specs.Skew.{IsDelivered}
+
+-- the release of a frame
+abbrev pub release_of : ℕ → ℕ
+release_of i = 1000 * i
+
+-- the moment of an arrival
+abbrev pub arrival_of : ℕ → ℕ
+arrival_of k = 300 + 100 * k
+
+-- the first frame comes from network A, and then from B; its bytes don't matter
+abbrev pub both_copies : List (Net × List ℕ)
+both_copies = (A, 7 ∷ []) ∷ (B, 7 ∷ []) ∷ []
+
+-- They meet what the law of the skew asks for.
+pub record ComesInTime : Type 0 where
+  pub apart : (i : ℕ) → release_of i + 1000 ≤ release_of (i + 1)
+  pub forward : (k : ℕ) → arrival_of k ≤ arrival_of (k + 1)
+  pub delivered : IsDelivered 400 release_of arrival_of both_copies

@@ -1,0 +1,186 @@
+//! Laws of the definitions. Their functions do nothing: the contract is the law.
+//!
+//! That a switch or a receiver works as it is defined in specs/ is a premise of each, and so is that the
+//! networks deliver what is said. None says anything of frames that both networks lose, of a transmitter
+//! that begins anew with number 0, or of a receiver's timer for frames that come late (SkewMax).
+ghost use Rattle.afdx_frame.specs.declared.net.Net.TheVariants.{B};
+ghost use Rattle.afdx_laws.specs.Delivery.{InOrder};
+ghost use Rattle.afdx_laws.specs.Handed.{HandedArrive, HandedDespiteLoss};
+ghost use Rattle.afdx_laws.specs.Loss.{AreClose, LossMasked, LossNotMasked, NumbersClash, one_lost};
+ghost use Rattle.afdx_laws.specs.Messages.{DespiteLoss, MessagesArrive};
+ghost use Rattle.afdx_laws.specs.Networks.{ExactlyOnce};
+ghost use Rattle.afdx_laws.specs.Plans.{LegalArrive, LegalDespiteLoss, LegalPasses};
+ghost use Rattle.afdx_laws.specs.Policer.{EarlyDropped, NoMorePasses, NoneDropped};
+ghost use Rattle.afdx_laws.specs.Skew.{SkewIsNear};
+ghost use Rattle.afdx_laws.specs.Spacing.{StreamPasses};
+ghost use Rattle.afdx_laws.specs.WorkedDelivery.{OneMessageArrives};
+ghost use Rattle.afdx_laws.specs.WorkedPlan.{OneIsLegal};
+ghost use Rattle.afdx_laws.specs.WorkedPolicing.{PolicesThree};
+ghost use Rattle.afdx_laws.specs.WorkedSkew.{ComesInTime};
+
+/// A switch that polices a link by its gap, its greatest frame and a jitter, by bytes or by frames,
+/// drops no frame of a link that keeps its gap, whatever each frame is delayed by on its way, up to
+/// the jitter.
+///
+/// One link alone. That frames are delayed by no more is a premise. Nothing is said of the queues of
+/// the switch.
+pub fn none_dropped()
+    ensures passed { NoneDropped }
+
+    // three frames, one of them late, and three that come too early
+    ensures worked { PolicesThree }
+{}
+
+/// Whatever comes, no more passes than the rule allows: what passes from one moment to another costs at
+/// most Lmax bytes for each gap between them, and Lmax (1 + jitter / gap) more.
+///
+/// Moments that don't go back are a premise. It doesn't say which frames pass.
+pub fn no_more_passes()
+    ensures { NoMorePasses }
+{}
+
+/// Of two greatest frames less than a gap apart a switch that allows no jitter drops the second.
+///
+/// It says nothing of smaller frames: charged by their bytes, two of them may pass at once.
+pub fn early_dropped()
+    ensures { EarlyDropped }
+{}
+
+/// A switch drops no frame of a spaced stream of frames, whatever each is delayed by on its way, up to
+/// the jitter that the switch allows.
+///
+/// That the frames are no greater than Lmax and delayed by no more than the jitter are premises.
+pub fn stream_passes()
+    ensures { StreamPasses }
+{}
+
+/// A receiver accepts each frame of a link exactly once and in order, as far as one of the networks
+/// carried them, from any interleaving of what the two networks carried, as long as none is more
+/// than 255 less its window frames behind the other.
+///
+/// Each network may stop carrying at any point, and then carries nothing more. Nothing is said of a
+/// network that loses a frame and goes on: see `loss_masked`.
+pub fn exactly_once()
+    ensures { ExactlyOnce }
+{}
+
+/// A receiver for which the next number alone is new accepts each frame once and in order although
+/// one network loses, repeats and reorders frames, where the other carries them all.
+///
+/// The two are less than 255 frames apart. Nothing is said for the time after the whole network stopped:
+/// then a frame that the other one loses holds up the receiver until the numbers come round.
+pub fn loss_masked()
+    ensures masked { LossMasked }
+
+    // network A loses a frame, and network B carries all three
+    ensures worked { AreClose B 3 0 0 one_lost }
+{}
+
+/// A receiver for which the next two numbers are new drops the good copy of a frame that the network
+/// that is ahead lost, and one for which the next alone is new accepts it.
+///
+/// It is one run of five arrivals. With two networks that are level it needn't happen.
+pub fn loss_not_masked()
+    ensures { LossNotMasked }
+{}
+
+/// The bound on the lag is exact, for each window: one frame of lag more, and the receiver accepts
+/// an old frame as new.
+///
+/// The receiver's state is written out: network A carried so many frames more than B, and B's next
+/// comes. That a run ends in this state is not proved.
+pub fn numbers_clash()
+    ensures { NumbersClash }
+{}
+
+/// Networks that deliver each frame within a delay of its release are never further apart than
+/// 1 + delay / gap frames, so that a receiver's bound on the lag is one on the delay.
+///
+/// That each network delivers all frames in order, and none before its release, are premises.
+pub fn skew_is_near()
+    ensures near { SkewIsNear }
+
+    // a frame that comes from both networks
+    ensures worked { ComesInTime }
+{}
+
+/// Of the fragments of several sub-VLs, each sub-VL's own in order, the first datagrams of each are
+/// reassembled in order, each once, and all of those whose fragments came.
+///
+/// A receiver keeps a buffer for each identification, as many as it needs, and never gives one up.
+/// Nothing is said of fragments of one sub-VL that come out of order.
+pub fn in_order()
+    ensures { InOrder }
+{}
+
+/// A receiver's messages of a sub-VL are the first of those that were accepted for it, each once and
+/// in order, and all whose fragments one of the networks carried.
+///
+/// The premises are those of `exactly_once`, and that the link's frames of this sub-VL are the first
+/// fragments of its accepted messages. It doesn't say when a message comes.
+pub fn messages_arrive()
+    ensures { MessagesArrive }
+{}
+
+/// A receiver's messages of a sub-VL are the first accepted ones although one network loses, repeats and
+/// reorders frames, where the other carries them all and the next number alone is new to the receiver.
+///
+/// What `loss_masked` doesn't say isn't said here.
+pub fn despite_loss()
+    ensures { DespiteLoss }
+{}
+
+/// A receiver's messages of a sub-VL are the first accepted ones, by what was handed to the two networks
+/// over a link: two lists, twins as far as both go, numbered, and of the sub-VL the first fragments of its
+/// accepted messages.
+///
+/// It reads identification, offset, flags, total length and number of each frame. That its addresses,
+/// its ports and its checksum are right, other laws say (`afdx_frame::laws::each_frame_says`).
+pub fn handed_arrive()
+    ensures arrive { HandedArrive }
+
+    // a message of two frames
+    ensures worked { OneMessageArrives }
+{}
+
+/// A receiver's messages of a sub-VL are the first accepted ones, by what was handed to the two networks
+/// over a link, although one of them loses, repeats and reorders frames, where the other carries all of
+/// them and the next number alone is new to the receiver.
+///
+/// What `loss_masked` doesn't say isn't said here.
+pub fn handed_despite_loss()
+    ensures { HandedDespiteLoss }
+{}
+
+/// For each link and sub-VL of a valid plan: from what was handed over legally, the receiver's
+/// messages are the first accepted ones, each once and in order, and among them all whose fragments
+/// one network carried.
+///
+/// What the emitter hands over is legal (`afdx_tx`, `IsLegal`): with that, this says what the calls of
+/// the emitter mean at the receiving end. That each network carries a beginning of a link's frames and
+/// that the two are near are premises, and that accepted messages are such as `Emitter::send` accepts.
+/// It doesn't say when a message comes.
+pub fn legal_arrive()
+    ensures arrive { LegalArrive }
+
+    // the demonstration configuration, with one message
+    ensures worked { OneIsLegal }
+{}
+
+/// For each link and sub-VL of a valid plan: from what was handed over legally, the receiver's messages
+/// are the first accepted ones although one network loses, repeats and reorders frames, where the other
+/// carries all frames of the link and the next number alone is new to the receiver.
+///
+/// What `loss_masked` doesn't say isn't said here.
+pub fn legal_despite_loss()
+    ensures { LegalDespiteLoss }
+{}
+
+/// For each link of a valid plan: of what was handed over legally to a network, a switch that polices
+/// the link by its gap and its greatest frame drops none, whatever each frame is delayed by on its way,
+/// up to the jitter that the switch allows.
+///
+/// That the delay stays below the jitter is a premise, and nothing is said of the queues of the switch.
+pub fn legal_passes()
+    ensures { LegalPasses }
+{}

@@ -1,0 +1,144 @@
+-- The wait of a message, by the polls of its link.
+use Rattle.std.proofs.Common.{ℕ, zero, suc, ◌≡◌, ◌+◌, ◌-◌, ◌*◌, ◌<◌, ◌≤◌, Bool, true, false, nat_le, ◌&&◌, cond, List, [], ◌∷◌, arith, refl, ap, ◌∙◌, sym, subst, ◌⊎◌, inl, inr}
+use Rattle.std.specs.Prelude.{Option, Some, None}
+use Rattle.std.proofs.lemmas.Bool.Decides.{nat_tests}
+use Rattle.std.proofs.lemmas.Bool.{and_from, cases_lt, cases_eq, eq-eqb, ne_eqb}
+use Rattle.std.proofs.lemmas.Nat.{mul-le}
+use Rattle.std.proofs.lemmas.List.Sums.{sum_by-cons}
+use Rattle.vl_shaper.specs.Choices.{Choice}
+use Rattle.vl_shaper.specs.Polls.{Poll, IsServed, AreServed, ArePolled, latest_poll, moment_after, served_after, is_of, HasAtPolls, released_by, PolledInTime}
+use Rattle.vl_shaper.proofs.OneEach.{back, back_lt, turn_lt, ahead, further, not_x}
+use Rattle.vl_shaper.proofs.Waits.{back_self, one_more_round}
+
+-- what a poll adds to the count
+counted : (x moment : ℕ) (poll : Poll) (polls : List Poll)
+    → released_by x moment (poll ∷ polls)
+    ≡ cond (nat_le poll.at moment && is_of x poll.released) 1 0 + released_by x moment polls
+counted x moment poll polls = sum_by-cons (λ (p : Poll). cond (nat_le p.at moment && is_of x p.released) 1 0) poll polls
+
+-- a release in time counts
+counts : (x moment : ℕ) (poll : Poll) (polls : List Poll) → poll.at ≤ moment → is_of x poll.released ≡ true
+    → released_by x moment (poll ∷ polls) ≡ suc (released_by x moment polls)
+counts x moment poll polls soon own =
+    let in_time : (nat_le poll.at moment && is_of x poll.released) ≡ true =
+    and_from (nat_le poll.at moment) (is_of x poll.released) (yes poll.at moment soon) own in
+    counted x moment poll polls ∙ ap (λ (t : Bool). cond t 1 0 + released_by x moment polls) in_time
+    ∙ one_more (released_by x moment polls)
+  where
+    yes : (a b : ℕ) → a ≤ b → nat_le a b ≡ true
+    yes a b h = grind (arith, nat_tests)
+
+    one_more : (n : ℕ) → 1 + n ≡ suc n
+    one_more n = omega arith
+
+-- no poll takes from the count
+no_less : (x moment : ℕ) (poll : Poll) (polls : List Poll) → released_by x moment polls ≤ released_by x moment (poll ∷ polls)
+no_less x moment poll polls = let whole = counted x moment poll polls in omega arith
+
+-- a number of choices that is one fewer needs one pause less
+one_pause : (fewer more pause : ℕ) → suc fewer ≤ more → pause + fewer * pause ≤ more * pause
+one_pause fewer more pause less = let m = mul-le (suc fewer) pause more pause less (omega arith) in omega arith
+
+-- a frame was released, or none
+by_release : (o : Option ℕ) → (o ≡ None) ⊎ ((chosen : ℕ) × (o ≡ Some chosen))
+by_release None = inl refl
+by_release (Some chosen) = inr (chosen, refl)
+
+-- a poll that released none, though a sub-VL had something, came before the link was due
+not_due : (gap subs before l x : ℕ) (p : Poll) → x < subs → IsServed gap subs before l p None → p.has x ≡ true
+    → p.at < before + gap
+not_due gap subs before l x p xl idle had = elim (cases_lt p.at (before + gap)) [
+  | inl early ↦ early
+  | inr due ↦ absurd (both (p.has x) had (idle due x xl))
+]
+  where
+    both : (t : Bool) → t ≡ true → t ≡ false → ⊥
+    both t a b = cc
+
+-- a number less none
+less_none : (n : ℕ) → n - 0 ≡ n
+less_none n = omega arith
+
+-- less one
+less_one : (n : ℕ) → suc n - 1 ≡ n
+less_one n = omega arith
+
+-- from any poll on: there is still a round for each turn but what is left of the first
+in_time : (polls : List Poll) (subs x l f gap late before polled moment : ℕ) → x < subs → l < subs → 1 ≤ gap
+    → AreServed gap subs before l polls → ArePolled late polled polls → HasAtPolls x f polls
+    → polled < before + gap
+    → (1 ≤ f → before + (subs * f - back subs x l) * (gap + late) ≤ moment)
+    → moment ≤ latest_poll polled polls
+    → f ≤ released_by x moment polls
+in_time polls subs x l zero gap late before polled moment xl ll some served paced has near enough reach = omega arith
+in_time [] subs x l (suc f) gap late before polled moment xl ll some served paced has near enough reach =
+    let b = back_lt subs x l xl ll in
+    let m = one_more_round subs f in
+    let e = enough (omega arith) in
+    let p = one_pause 0 (subs * suc f - back subs x l) (gap + late) (omega arith) in
+    absurd (omega arith)
+in_time (p ∷ ps) subs x l (suc f) gap late before polled moment xl ll some served paced has near enough reach =
+    let pause : ℕ = gap + late in
+    let had : p.has x ≡ true = has.0 (omega arith) in
+    let step = paced.0 in
+    let b = back_lt subs x l xl ll in
+    let m = one_more_round subs f in
+    let e = enough (omega arith) in
+    let one = one_pause 0 (subs * suc f - back subs x l) pause (omega arith) in
+    elim (by_release p.released) [
+      | inl is ↦
+          let idle : IsServed gap subs before l p None = subst (IsServed gap subs before l p) is served.0 in
+          let early : p.at < before + gap = not_due gap subs before l x p xl idle had in
+          let rest_served : AreServed gap subs before l ps =
+          subst (λ (o : Option ℕ). AreServed gap subs (moment_after before p.at o) (served_after l o) ps) is served.1 in
+          let left : suc f - cond (is_of x p.released) 1 0 ≡ suc f =
+          ap (λ (o : Option ℕ). suc f - cond (is_of x o) 1 0) is ∙ less_none (suc f) in
+          let rest : suc f ≤ released_by x moment ps =
+          in_time ps subs x l (suc f) gap late before p.at moment xl ll some rest_served paced.1
+          (subst (λ (n : ℕ). HasAtPolls x n ps) left has.1) early enough reach in
+          let more = no_less x moment p ps in
+          omega arith
+      | inr (chosen, is) ↦
+          let made : IsServed gap subs before l p (Some chosen) = subst (IsServed gap subs before l p) is served.0 in
+          let due = made.0 in
+          let ch = made.1 in
+          let w : ch.turn < subs = ch.within in
+          let below : chosen < subs = subst (λ (n : ℕ). n < subs) (sym ch.is) (turn_lt subs l ch.turn ll w) in
+          let rest_served : AreServed gap subs p.at chosen ps =
+          subst (λ (o : Option ℕ). AreServed gap subs (moment_after before p.at o) (served_after l o) ps) is served.1 in
+          elim (cases_eq chosen x) [
+            | inl own ↦
+                let mine : is_of x p.released ≡ true = ap (is_of x) is ∙ eq-eqb chosen x own in
+                let left : suc f - cond (is_of x p.released) 1 0 ≡ f =
+                ap (λ (t : Bool). suc f - cond t 1 0) mine ∙ less_one f in
+                let none : back subs x chosen ≡ 0 = ap (back subs x) own ∙ back_self subs x xl in
+                let fewer = one_pause (subs * f - back subs x chosen) (subs * suc f - back subs x l) pause (omega arith) in
+                let rest : f ≤ released_by x moment ps =
+                in_time ps subs x chosen f gap late p.at p.at moment xl below some rest_served paced.1
+                (subst (λ (n : ℕ). HasAtPolls x n ps) left has.1) (omega arith) (λ h. omega arith) reach in
+                let count = counts x moment p ps (omega arith) mine in
+                omega arith
+            | inr ne ↦
+                let c : Choice = record { has = p.has; sub = chosen } in
+                let before_x = ahead subs x l ch.turn xl ll w (not_x subs x l c ch had ne) in
+                let far : back subs x l < back subs x chosen =
+                subst (λ (n : ℕ). back subs x l < back subs x n) (sym ch.is) (further subs x l ch.turn xl ll w before_x) in
+                let other : is_of x p.released ≡ false = ap (is_of x) is ∙ ne_eqb chosen x ne in
+                let left : suc f - cond (is_of x p.released) 1 0 ≡ suc f =
+                ap (λ (t : Bool). suc f - cond t 1 0) other ∙ less_none (suc f) in
+                let back_c = back_lt subs x chosen xl below in
+                let fewer = one_pause (subs * suc f - back subs x chosen) (subs * suc f - back subs x l) pause (omega arith) in
+                let rest : suc f ≤ released_by x moment ps =
+                in_time ps subs x chosen (suc f) gap late p.at p.at moment xl below some rest_served paced.1
+                (subst (λ (n : ℕ). HasAtPolls x n ps) left has.1) (omega arith) (λ h. omega arith) reach in
+                let more = no_less x moment p ps in
+                omega arith
+          ]
+    ]
+
+-- the law
+pub polled_in_time_holds : PolledInTime
+polled_in_time_holds subs x last q f gap late start polls xl ll some served paced has reach =
+    in_time polls subs x last (q + f) gap late start start _ xl ll some served paced has (omega arith)
+    (λ h. let m = mul-le (subs * (q + f) - back subs x last) (gap + late) (subs * (q + f)) (gap + late) (omega arith) (omega arith) in omega arith)
+    reach

@@ -1,0 +1,116 @@
+-- Rounds in which every sub-VL has something: the choices that a fragment waits for longest.
+use Rattle.std.proofs.Common.{ℕ, zero, suc, ◌≡◌, ◌≢◌, ◌+◌, ◌-◌, ◌*◌, ◌<◌, ◌≤◌, List, [], ◌∷◌, true, length, arith, refl, ap, ◌∙◌, ⊎_elim}
+use Rattle.std.proofs.lemmas.Bool.{cases_lt, cases_eq, eq-eqb, ne_eqb}
+use Rattle.std.proofs.lemmas.Nat.{mul-le}
+use Rattle.vl_shaper.specs.Choices.{Choice, next_turn, AreChosen}
+use Rattle.vl_shaper.specs.Latency.{turns_of, HasUntil, BoundIsMet}
+use Rattle.vl_shaper.proofs.OneEach.{back, back_cases, turn_cases, turn_lt, count_yes, count_no}
+use Rattle.vl_shaper.proofs.Waits.{back_self, one_more_round}
+
+-- a choice at which every sub-VL had something
+abbrev busy : ℕ → Choice
+busy sub = record { has = λ i. true; sub = sub }
+
+-- so many of them, behind the one served last
+abbrev rounds : ℕ → ℕ → ℕ → List Choice
+rounds subs last zero = []
+rounds subs last (suc n) = busy (next_turn subs last 0) ∷ rounds subs (next_turn subs last 0) n
+
+-- there are so many
+length-rounds : (n subs last : ℕ) → length (rounds subs last n) ≡ n
+length-rounds zero subs last = refl
+length-rounds (suc n) subs last = ap suc (length-rounds n subs (next_turn subs last 0))
+
+-- each is the first in cyclic order
+rounds_chosen : (n subs last : ℕ) → last < subs → AreChosen subs last (rounds subs last n)
+rounds_chosen zero subs last below = tt
+rounds_chosen (suc n) subs last below = (
+  record { turn = 0; within = omega arith; is = refl; had = refl; before = λ k h. absurd (omega arith) },
+  rounds_chosen n subs (next_turn subs last 0) (turn_lt subs last 0 below (omega arith)),
+)
+
+-- each sub-VL had something throughout
+rounds_have : (n subs last x many : ℕ) → HasUntil x many (rounds subs last n)
+rounds_have zero subs last x many = tt
+rounds_have (suc n) subs last x many =
+    let next : ℕ = next_turn subs last 0 in
+    ((λ h. refl), rounds_have n subs next x (many - turns_of x (busy next ∷ [])))
+
+-- the next one lies one further behind x, or is x itself
+one_further : (subs x l : ℕ) → x < subs → l < subs → next_turn subs l 0 ≢ x
+    → back subs x (next_turn subs l 0) ≡ suc (back subs x l)
+one_further subs x l xl ll ne = ⊎_elim
+    (λ t. let t0 = t.0 in let t1 = t.1 in ⊎_elim
+    (λ b. let b0 = b.0 in let b1 = b.1 in ⊎_elim
+    (λ d. let d0 = d.0 in let d1 = d.1 in omega arith)
+    (λ d. let d0 = d.0 in let d1 = d.1 in absurd (ne (omega arith)))
+    (back_cases subs x (next_turn subs l 0)))
+    (λ b. let b0 = b.0 in let b1 = b.1 in ⊎_elim
+    (λ d. let d0 = d.0 in let d1 = d.1 in omega arith)
+    (λ d. let d0 = d.0 in let d1 = d.1 in omega arith)
+    (back_cases subs x (next_turn subs l 0)))
+    (back_cases subs x l))
+    (λ t. let t0 = t.0 in let t1 = t.1 in ⊎_elim
+    (λ b. let b0 = b.0 in let b1 = b.1 in ⊎_elim
+    (λ d. let d0 = d.0 in let d1 = d.1 in omega arith)
+    (λ d. let d0 = d.0 in let d1 = d.1 in absurd (ne (omega arith)))
+    (back_cases subs x (next_turn subs l 0)))
+    (λ b. let b0 = b.0 in let b1 = b.1 in ⊎_elim
+    (λ d. let d0 = d.0 in let d1 = d.1 in omega arith)
+    (λ d. let d0 = d.0 in let d1 = d.1 in absurd (ne (omega arith)))
+    (back_cases subs x (next_turn subs l 0)))
+    (back_cases subs x l))
+    (turn_cases subs l 0 ll (omega arith))
+
+-- the one before x lies a whole round but one behind it
+just_before : (subs x l : ℕ) → x < subs → l < subs → next_turn subs l 0 ≡ x → suc (back subs x l) ≡ subs
+just_before subs x l xl ll e = ⊎_elim
+    (λ t. let t0 = t.0 in let t1 = t.1 in ⊎_elim
+    (λ b. let b0 = b.0 in let b1 = b.1 in omega arith)
+    (λ b. let b0 = b.0 in let b1 = b.1 in omega arith) (back_cases subs x l))
+    (λ t. let t0 = t.0 in let t1 = t.1 in ⊎_elim
+    (λ b. let b0 = b.0 in let b1 = b.1 in omega arith)
+    (λ b. let b0 = b.0 in let b1 = b.1 in omega arith) (back_cases subs x l))
+    (turn_cases subs l 0 ll (omega arith))
+
+-- x has at most a turn a round
+few_turns : (n subs x l : ℕ) → x < subs → l < subs → subs * turns_of x (rounds subs l n) ≤ n + back subs x l
+few_turns zero subs x l xl ll = omega arith
+few_turns (suc n) subs x l xl ll =
+    let next : ℕ = next_turn subs l 0 in
+    let cs : List Choice = rounds subs next n in
+    let below : next < subs = turn_lt subs l 0 ll (omega arith) in
+    let rest : subs * turns_of x cs ≤ n + back subs x next = few_turns n subs x next xl below in
+    ⊎_elim
+    (λ (e : next ≡ x).
+    let mine : turns_of x (busy next ∷ cs) ≡ suc (turns_of x cs) = count_yes x (busy next) cs (eq-eqb next x e) in
+    let z : back subs x next ≡ 0 = ap (back subs x) e ∙ back_self subs x xl in
+    let b : suc (back subs x l) ≡ subs = just_before subs x l xl ll e in
+    let m = one_more_round subs (turns_of x cs) in
+    let all : subs * turns_of x (busy next ∷ cs) ≡ subs + subs * turns_of x cs = ap (λ (k : ℕ). subs * k) mine ∙ m in
+    omega arith)
+    (λ (ne : next ≢ x).
+    let mine : turns_of x (busy next ∷ cs) ≡ turns_of x cs = count_no x (busy next) cs (ne_eqb next x ne) in
+    let b : back subs x next ≡ suc (back subs x l) = one_further subs x l xl ll ne in
+    let all : subs * turns_of x (busy next ∷ cs) ≡ subs * turns_of x cs = ap (λ (k : ℕ). subs * k) mine in
+    omega arith)
+    (cases_eq next x)
+
+-- the law, by rounds that begin behind x itself
+pub bound_is_met_holds : BoundIsMet
+bound_is_met_holds subs x zero xl some = absurd (omega arith)
+bound_is_met_holds subs x (suc f) xl some =
+    let n : ℕ = subs * suc f - 1 in
+    let m = one_more_round subs f in
+    let few : subs * turns_of x (rounds subs x n) ≤ n + back subs x x = few_turns n subs x x xl xl in
+    let z = back_self subs x xl in (
+      rounds subs x n,
+      rounds_chosen n subs x xl,
+      rounds_have n subs x x (suc f),
+      (let l = length-rounds n subs x in omega arith),
+      fewer subs (turns_of x (rounds subs x n)) (suc f) (omega arith),
+    )
+  where
+    fewer : (s a b : ℕ) → s * a < s * b → a < b
+    fewer s a b less = ⊎_elim (λ (h : a < b). h)
+        (λ (h : b ≤ a). absurd (let m = mul-le s b s a (omega arith) h in omega arith)) (cases_lt a b)
