@@ -30,7 +30,6 @@ mod draining_tests;
 #[cfg(test)]
 mod network_tests;
 #[cfg(test)]
-mod tests;
-
-#[cfg(test)]
 mod port_tests;
+#[cfg(test)]
+mod tests;
