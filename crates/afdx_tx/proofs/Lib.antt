@@ -20,3 +20,7 @@ pub mod NothingLeft
 pub mod RoomSteps
 pub mod FreshRooms
 pub mod OwnPorts
+pub mod SeatSteps
+pub mod FromLast
+pub mod GatheredEmitter
+pub mod GatheredPorts

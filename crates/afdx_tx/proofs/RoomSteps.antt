@@ -99,17 +99,17 @@ others_at config place vl t lt off =
     more ∙ ap (λ (n : ℕ). seats config.ports place vl t + n) none ∙ add-zero (seats config.ports place vl t)
 
 -- the rooms of a link that was changed
-this_link : (rooms : List (List RoomView)) (k : ℕ) (own : List RoomView) → k < length rooms
+pub this_link : (rooms : List (List RoomView)) (k : ℕ) (own : List RoomView) → k < length rooms
     → rooms_of (set rooms k own) k ≡ own
 this_link rooms k own lt = get_or-set_same rooms k own [] lt
 
 -- the rooms of the other links are as they were
-other_link : (rooms : List (List RoomView)) (k : ℕ) (own : List RoomView) (other : ℕ) → (other ≡ k → ⊥)
+pub other_link : (rooms : List (List RoomView)) (k : ℕ) (own : List RoomView) (other : ℕ) → (other ≡ k → ⊥)
     → rooms_of (set rooms k own) other ≡ rooms_of rooms other
 other_link rooms k own other ne = get_or-set_other rooms k other own [] ne
 
 -- of the changed link one room was changed
-other_room : (before own : List RoomView) (s t : ℕ) → own ≡ set before s (room_in own s) → (t ≡ s → ⊥)
+pub other_room : (before own : List RoomView) (s t : ℕ) → own ≡ set before s (room_in own s) → (t ≡ s → ⊥)
     → room_in own t ≡ room_in before t
 other_room before own s t e ne =
     ap (λ (rs : List RoomView). room_in rs t) e ∙ get_or-set_other before s t (room_in own s) no_room ne
@@ -301,3 +301,16 @@ fresh_port config queues place k s plan x is link sub fresh =
           (subst (λ (n : ℕ). IsFreshSender (queue_at queues k n) (link_plan_at config.links k).capacity
           (index_of config.ports place) x) sub fresh);
     }
+
+-- the port at a place, where a configuration is shown by a reference
+pub place_at : (config shown : Plan) (place k s : ℕ) (plan : PortPlan) → shown ≡ config
+    → plan ≡ port_plan_at shown.ports place → place < length shown.ports → k < length shown.links
+    → SendsOver plan (link_plan_at shown.links k) → s ≡ plan.sub → IsAt config place k s
+place_at config shown place k s plan e is within link over sub =
+    subst (λ (c : Plan). IsAt c place k s) e
+    (record {
+      within = within;
+      link = link;
+      over = subst (λ (p : PortPlan). SendsOver p (link_plan_at shown.links k)) is over;
+      sub = ap (λ (p : PortPlan). p.sub) (sym is) ∙ sym sub;
+    })

@@ -1,6 +1,6 @@
 -- The ports of an emitter come back.
 use Rattle.std.specs.Prelude.{ℕ, ◌≡◌, ◌<◌, ◌≤◌, List, [], length, get_or, slice_index_or, Contains, Option, Some}
-use Rattle.afdx_config.specs.Config.{Plan, port_plan_at}
+use Rattle.afdx_config.specs.Config.{Plan, link_plan_at, port_plan_at}
 use Rattle.afdx_config.specs.declared.port_plan.PortPlan.{PortPlan}
 use Rattle.subvl_queue.specs.Messages.{AreItems, part_of}
 use Rattle.subvl_queue.specs.Views.{QueueName, SenderView, HasEvery, IsWhole, accepted_of}
@@ -34,6 +34,13 @@ pub record IsFull (seen : Seen) (senders : List SenderView) : Type 0 where
   pub together : (k : ℕ) (d : SenderView) → k < length senders
       → queue_of seen ≡ Some (slice_index_or senders k d).queue
 
+-- the same of a sub-VL, which has as many senders as ports
+pub record IsFullSub (held : Held) (senders : List SenderView) : Type 0 where
+  pub receiving : IsReceiving held.seen
+  pub every : HasEvery (length held.ports) senders
+  pub together : (k : ℕ) (d : SenderView) → k < length senders
+      → queue_of held.seen ≡ Some (slice_index_or senders k d).queue
+
 -- a sub-VL but for its queue, which is gathered
 pub record GathersSub (old : Held) (senders : List SenderView) (new : Held) : Type 0 where
   pub same : new ≡ record old { seen = new.seen }
@@ -60,12 +67,18 @@ pub record GathersLinks (old : List LinkState) (rooms : List (List RoomView))
 -- the room of each sub-VL of a link has all of its senders
 pub record AreFullSubs (subs : List Held) (rooms : List RoomView) : Type 0 where
   pub count : length rooms ≡ length subs
-  pub each : (s : ℕ) → s < length subs → IsFull (held_at subs s).seen (room_in rooms s).senders
+  pub each : (s : ℕ) → s < length subs → IsFullSub (held_at subs s) (room_in rooms s).senders
 
 -- the room of each sub-VL has all of its senders
 pub record AreFull (links : List LinkState) (rooms : List (List RoomView)) : Type 0 where
   pub count : length rooms ≡ length links
   pub each : (k : ℕ) → k < length links → AreFullSubs (link_at links k).subs (rooms_of rooms k)
+
+-- as many links as a configuration has, each with as many sub-VLs
+pub record HasShape (config : Plan) (links : List LinkState) : Type 0 where
+  pub count : length links ≡ length config.links
+  pub subs : (k : ℕ) → k < length config.links
+      → length (link_at links k).subs ≡ (link_plan_at config.links k).sub_vls
 
 -- the sender of the port at a place stands in the room of its sub-VL, at its index
 pub record HasSeat (config : Plan) (ports : List PortView) (rooms : List (List RoomView))

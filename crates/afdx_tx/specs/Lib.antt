@@ -9,9 +9,9 @@ pub mod Emitter
 pub mod Sending
 pub mod Subs
 pub mod Serving
+pub mod Drain
+pub mod Done
 pub mod Ports
 pub mod Room
 pub mod Rooms
-pub mod Drain
 pub mod Gathering
-pub mod Done

@@ -27,5 +27,9 @@ pub use report::{Release, Report};
 
 #[cfg(test)]
 mod draining_tests;
+
+#[cfg(test)]
+mod port_tests;
+
 #[cfg(test)]
 mod tests;

@@ -48,7 +48,7 @@ impl Sub {
     ghost use Rattle.afdx_tx.specs.Links.{Held, Asks};
     ghost use Rattle.afdx_tx.specs.Done.{TellsSubDone};
     ghost use Rattle.afdx_tx.specs.Subs.{IsPortOf};
-    ghost use Rattle.afdx_tx.specs.Gathering.{IsFull, GathersSub};
+    ghost use Rattle.afdx_tx.specs.Gathering.{IsFullSub, GathersSub};
 
     /// A sub-VL of these ports, over a queue with a sender for each. Nothing was taken yet.
     pub fn new(of: SubVl, ports: Vec<PortPlan>, receiver: Receiver) -> Sub
@@ -129,7 +129,7 @@ impl Sub {
 
     /// Gathers its queue with these senders, which are all that it has.
     pub fn gather<R: Wait>(&mut self, rt: &R, senders: Vec<Sender>)
-        requires full { IsFull self.old.seen senders.items }
+        requires full { IsFullSub self.old senders.items }
         ensures { GathersSub self.old senders.items self.new }
     {
         self.queue.gather(rt, senders);

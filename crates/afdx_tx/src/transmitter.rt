@@ -129,7 +129,9 @@ impl<A: Network + Drop, B: Network + Drop> Transmitter<A, B> {
     ghost use Rattle.afdx_tx.specs.Report.{IsTold};
     ghost use Rattle.afdx_tx.specs.Emitter.{Tx, IsFreshTx, AreFreshLinks, AreLinksOf, AreTied, IsSamePlan, taken_in};
     ghost use Rattle.afdx_tx.specs.Drain.{AreGathered, IsAllDone, accepted_in};
-    ghost use Rattle.afdx_tx.specs.Gathering.{AreFull, GathersLinks};
+    ghost use Rattle.afdx_tx.specs.Emitter.{AreReceiving, queues_in};
+    ghost use Rattle.afdx_tx.specs.Rooms.{AreRooms, senders_for};
+    ghost use Rattle.afdx_tx.specs.Gathering.{GathersLinks, HasShape};
 
     /// Over fresh links of a configuration, and networks that were handed nothing.
     pub fn over(config: Config, links: Vec<Link>, a: A, b: B) -> Transmitter<A, B>
@@ -237,11 +239,14 @@ impl<A: Network + Drop, B: Network + Drop> Transmitter<A, B> {
 
     /// Gathers the queue of each sub-VL with the senders in its room, which are all that it has.
     pub fn gather<R: Wait>(&mut self, rt: &R, rooms: Vec<LinkRooms>)
-        requires full { AreFull self.old.links rooms.items }
+        requires receiving { AreReceiving self.old.links }
+        requires full { AreRooms self.old.plan rooms.items (length self.old.plan.ports)
+            (senders_for (queues_in self.old.links)) }
         ensures plan { self.new.plan ≡ self.old.plan }
         ensures lines { self.new.lines ≡ self.old.lines }
         ensures moment { self.new.moment ≡ self.old.moment }
         ensures links { GathersLinks self.old.links rooms.items self.new.links }
+        ensures shape { HasShape self.old.plan self.old.links }
         ensures legal { IsLegal self.new.plan (taken_in self.new.links) self.new.lines.a self.new.lines.b }
     {
         gather_all(rt, &mut self.links, rooms);

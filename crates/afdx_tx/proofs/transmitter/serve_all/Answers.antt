@@ -17,7 +17,9 @@ loop-link-preserved g c =
     let s = c.loop-link.invariant.serving in
     let lt : c.loop-link.link-index < length c.loop-link.links = let q = s.steady.same.count in let r =
     c.loop-link-test.true in omega arith in
-    let item : get_or c.loop-link.links c.loop-link.link-index c.link-item.result ≡ link_at c.loop-link.links c.loop-link.link-index = get_or_default c.loop-link.links c.loop-link.link-index c.link-item.result no_link lt in
+    let item : get_or c.loop-link.links c.loop-link.link-index c.link-item.result
+    ≡ link_at c.loop-link.links c.loop-link.link-index =
+    get_or_default c.loop-link.links c.loop-link.link-index c.link-item.result no_link lt in
     let e = c.serve-did.ensures in
     let turned : Turned c.args.now (get_or c.loop-link.links c.loop-link.link-index c.link-item.result)
     c.serve-did.new.self c.loop-link.mux c.serve-did.new.mux c.serve-did.result =
@@ -37,10 +39,13 @@ loop-link-preserved g c =
     c.note.ensures ∙ ap (λ (v : VlId). c.loop-link.released.items ++ released_by v c.serve-did.result)
     (c.id.ensures ∙ ap (λ (p : LinkPlan). p.id) turned_at.same.plan) in
     record {
-      serving = serving_more c.args.now c.loop-link.link-index c.args.links.now c.loop-link.links c.args.mux.now c.loop-link.mux c.serve-did.new.mux c.serve-did.new.self c.serve-did.result
+      serving = serving_more c.args.now c.loop-link.link-index c.args.links.now c.loop-link.links c.args.mux.now
+          c.loop-link.mux c.serve-did.new.mux c.serve-did.new.self c.serve-did.result
           s c.requires.apart lt turned_at (sym c.is_lost.ensures ∙ c.if-is_lost.false) e.mirrored e.later;
       told = subst (λ (rs : List Release). IsTold c.args.now rs c.args.mux.now c.serve-did.new.mux) (sym names)
-          (told_more c.args.now c.serve-did.result _ c.serve-did.new.self c.loop-link.released.items c.args.mux.now c.loop-link.mux c.serve-did.new.mux turned_at (s.steady.each c.loop-link.link-index lt) c.loop-link.invariant.told);
+          (told_more c.args.now c.serve-did.result _ c.serve-did.new.self c.loop-link.released.items c.args.mux.now
+          c.loop-link.mux c.serve-did.new.mux turned_at (s.steady.each c.loop-link.link-index lt)
+          c.loop-link.invariant.told);
       room = subst (λ (rs : List Release). length rs ≤ c.loop-link.link-index + 1) (sym names)
           (few_released _ c.serve-did.result c.loop-link.released.items c.loop-link.link-index c.loop-link.invariant.room);
     }
@@ -55,7 +60,9 @@ turned_here : (g : Given.Over) (c : goal.Then-is_lost g)
     c.serve-did.new.self c.loop-link.mux c.serve-did.new.mux c.serve-did.result
 turned_here g c =
     let s = c.loop-link.invariant.serving in
-    let item : get_or c.loop-link.links c.loop-link.link-index c.link-item.result ≡ link_at c.loop-link.links c.loop-link.link-index = get_or_default c.loop-link.links c.loop-link.link-index c.link-item.result no_link (within g c) in
+    let item : get_or c.loop-link.links c.loop-link.link-index c.link-item.result
+    ≡ link_at c.loop-link.links c.loop-link.link-index =
+    get_or_default c.loop-link.links c.loop-link.link-index c.link-item.result no_link (within g c) in
     let e = c.serve-did.ensures in
     let turned : Turned c.args.now (get_or c.loop-link.links c.loop-link.link-index c.link-item.result)
     c.serve-did.new.self c.loop-link.mux c.serve-did.new.mux c.serve-did.result =
@@ -72,11 +79,13 @@ turned_here g c =
 
 pub returns-then-is_lost-clause-steady : goal.returns-then-is_lost-clause-steady
 returns-then-is_lost-clause-steady g c =
-    steady_more c.args.now c.loop-link.link-index c.args.links.now c.loop-link.links c.loop-link.mux c.serve-did.new.mux c.serve-did.new.self c.serve-did.result
+    steady_more c.args.now c.loop-link.link-index c.args.links.now c.loop-link.links c.loop-link.mux c.serve-did.new.mux
+    c.serve-did.new.self c.serve-did.result
     c.loop-link.invariant.serving.steady c.requires.apart (within g c) (turned_here g c)
     c.serve-did.ensures.mirrored c.serve-did.ensures.later
 
 pub returns-then-is_lost-clause-cut_short : goal.returns-then-is_lost-clause-cut_short
 returns-then-is_lost-clause-cut_short g c = λ _.
-    cut_at c.args.now c.loop-link.link-index c.args.links.now c.loop-link.links c.args.mux.now c.loop-link.mux c.serve-did.new.mux c.serve-did.new.self c.serve-did.result
+    cut_at c.args.now c.loop-link.link-index c.args.links.now c.loop-link.links c.args.mux.now c.loop-link.mux
+    c.serve-did.new.mux c.serve-did.new.self c.serve-did.result
     c.loop-link.invariant.serving (within g c) (sym c.is_lost.ensures ∙ c.if-is_lost.true) (turned_here g c)

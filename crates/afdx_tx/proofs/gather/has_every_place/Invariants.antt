@@ -1,0 +1,6 @@
+use Rattle.std.proofs.Common.{ℕ, ◌<◌}
+use Rattle.afdx_tx.specs.Ports.{HasPlace}
+use Rattle.afdx_tx.proofs.gather.has_every_place.Given as goal
+
+abbrev pub invariant-loop-place : goal.invariant-loop-place
+invariant-loop-place l = (p : ℕ) → p < l.place → HasPlace l.ports p

@@ -1,0 +1,11 @@
+use Rattle.std.proofs.Common.{[], vec_len}
+use Rattle.afdx_tx.specs.Links.{no_link}
+use Rattle.afdx_tx.specs.Gathering.{GathersLink}
+use Rattle.afdx_tx.proofs.FromLast.{FromLast}
+use Rattle.afdx_tx.proofs.transmitter.gather_all.Given as goal
+
+abbrev pub invariant-loop-own : goal.invariant-loop-own
+invariant-loop-own g l = FromLast no_link [] GathersLink l.initial.links l.initial.rooms.items l.links l.rooms.items
+
+abbrev pub decreases-loop-own : goal.decreases-loop-own
+decreases-loop-own g l = vec_len l.rooms
