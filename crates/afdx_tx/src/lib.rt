@@ -27,9 +27,7 @@ pub use report::{Release, Report};
 
 #[cfg(test)]
 mod draining_tests;
-
 #[cfg(test)]
 mod port_tests;
-
 #[cfg(test)]
 mod tests;
