@@ -51,10 +51,12 @@ grown rooms k s own x m t lt e put =
     (⊎_elim
     (λ (its : t ≡ s). subst (λ (j : ℕ). Goal k j) (sym its)
     (x ∷ [], ap (λ (rs : List RoomView). (room_in rs s).senders) (this_link rooms k own lt) ∙ put))
-    (λ (ne : t ≡ s → ⊥).
-    ([], ap (λ (rs : List RoomView). (room_in rs t).senders) (this_link rooms k own lt)
-    ∙ ap (λ (r : RoomView). r.senders) (other_room (rooms_of rooms k) own s t e ne)
-    ∙ sym (append-nil (room_at rooms k t).senders)))
+    (λ (ne : t ≡ s → ⊥). (
+      [],
+      ap (λ (rs : List RoomView). (room_in rs t).senders) (this_link rooms k own lt)
+          ∙ ap (λ (r : RoomView). r.senders) (other_room (rooms_of rooms k) own s t e ne)
+          ∙ sym (append-nil (room_at rooms k t).senders),
+    ))
     (cases_eq t s)))
     (λ (ne : m ≡ k → ⊥).
     ([], ap (λ (rs : List RoomView). (room_in rs t).senders) (other_link rooms k own m ne) ∙ sym (append-nil (room_at rooms m t).senders)))

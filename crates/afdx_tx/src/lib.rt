@@ -26,7 +26,6 @@ pub use port::TxPort;
 pub use report::{Release, Report};
 
 #[cfg(test)]
-mod tests;
-
-#[cfg(test)]
 mod port_tests;
+#[cfg(test)]
+mod tests;

@@ -123,7 +123,12 @@ fn ports_are_gathered_in_any_order_and_not_with_one_missing(rt: HostRuntime) -> 
 }
 
 /// Sends a message of two bytes from each port of an emitter.
-fn send_each<R: Abort + Wait>(rt: &R, alloc: Global, tx: &Tx, ports: &mut [TxPort]) -> Result<(), Fail>
+fn send_each<R: Abort + Wait>(
+    rt: &R,
+    alloc: Global,
+    tx: &Tx,
+    ports: &mut [TxPort],
+) -> Result<(), Fail>
     requires opened { AreOpenedWith tx.now ports.old }
     ensures opened { AreOpenedWith tx.now ports.new }
 {

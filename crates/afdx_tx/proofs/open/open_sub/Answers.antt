@@ -12,8 +12,12 @@ use Rattle.afdx_tx.proofs.open.open_sub.Goals as goal
 pub make-requires-clause-ports : goal.make-requires-clause-ports
 make-requires-clause-ports c =
     let few = few_ports c.args.config.now c.args.of.link.id.0 c.args.of.sub c.ports.ensures.valid in
-    omega (arith, c.len.ensures, ap length c.in_ok-ports.ensures,
-    ap (λ (all : List PortPlan). length (ports_of_sub all c.args.of.link.id.0 c.args.of.sub)) c.ports.ensures.plan)
+    omega (
+      arith,
+      c.len.ensures,
+      ap length c.in_ok-ports.ensures,
+      ap (λ (all : List PortPlan). length (ports_of_sub all c.args.of.link.id.0 c.args.of.sub)) c.ports.ensures.plan,
+    )
 
 pub new-requires-clause-ports : goal.new-requires-clause-ports
 new-requires-clause-ports c =
