@@ -1,8 +1,8 @@
-ghost use Rattle.std.specs.Prelude.{◌≡◌, [], ◌∷◌, IfOk, All, length};
+ghost use Rattle.std.specs.Prelude.{◌≡◌, IfOk};
 ghost use Rattle.afdx_tx.specs.Ports.{AreOpenedWith};
 
-use crate::{Draining, Emitter, Refusal, TxPort, open_tx};
-use afdx_config::{Config, PortId, read_config};
+use crate::{Emitter, Refusal, TxPort, open_tx};
+use afdx_config::{PortId, read_config};
 use redundant_mux::MemNetwork;
 use std::alloc::Global;
 use std::process::Abort;
@@ -93,6 +93,15 @@ fn a_message_that_is_refused_comes_back(rt: HostRuntime) -> Result<(), Fail> {
     Ok(())
 }
 
+/// Turns the ports of an emitter round.
+fn turn_round(tx: &Tx, ports: &mut [TxPort])
+    requires opened { AreOpenedWith tx.now ports.old }
+    ensures opened { AreOpenedWith tx.now ports.new }
+{
+    let _tx = tx;
+    ports.reverse();
+}
+
 #[test]
 fn ports_are_gathered_in_any_order_and_not_with_one_missing(rt: HostRuntime) -> Result<(), Fail> {
     let alloc = rt.alloc();
@@ -104,7 +113,7 @@ fn ports_are_gathered_in_any_order_and_not_with_one_missing(rt: HostRuntime) -> 
             tx
         }
     };
-    ports.reverse();
+    turn_round(&gone, &mut ports);
     let draining = match gone.gather(&rt, ports) {
         Ok(draining) => draining,
         Err(_) => return Err(Fail::from("not gathered")),
@@ -113,14 +122,37 @@ fn ports_are_gathered_in_any_order_and_not_with_one_missing(rt: HostRuntime) -> 
     Ok(())
 }
 
+/// Sends a message of two bytes from each port of an emitter.
+fn send_each<R: Abort + Wait>(
+    rt: &R,
+    alloc: Global,
+    tx: &Tx,
+    ports: &mut [TxPort],
+) -> Result<(), Fail>
+    requires opened { AreOpenedWith tx.now ports.old }
+    ensures opened { AreOpenedWith tx.now ports.new }
+{
+    let _tx = tx;
+    for port in ports.iter_mut() {
+        assert!(rt; port.send(rt, vec![in alloc; 1, 2]?).is_ok());
+    }
+    Ok(())
+}
+
 #[test]
 fn what_was_accepted_goes_out_after_the_ports_are_gathered(rt: HostRuntime) -> Result<(), Fail> {
     let alloc = rt.alloc();
     let (mut tx, mut ports) = open_two(alloc)?;
-    for port in ports.iter_mut() {
-        assert!(rt; port.send(&rt, vec![in alloc; 1, 2]?).is_ok());
-    }
+    send_each(&rt, alloc, &tx, &mut ports)?;
     let report = tx.poll(&rt, 0).expect(&rt, "both networks stand");
     assert_eq!(rt; report.released.len(), 1);
+    let mut draining = match tx.gather(&rt, ports) {
+        Ok(draining) => draining,
+        Err(_) => return Err(Fail::from("not gathered")),
+    };
+    assert!(rt; !draining.is_done());
+    let report = draining.poll(&rt, 1_000).expect(&rt, "both networks stand");
+    assert_eq!(rt; report.released.len(), 1);
+    assert!(rt; draining.is_done());
     Ok(())
 }
