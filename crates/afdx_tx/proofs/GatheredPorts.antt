@@ -1,5 +1,5 @@
 -- What was accepted of each port that came back.
-use Rattle.std.proofs.Common.{ℕ, ◌≡◌, ◌<◌, List, length, get_or, All, Contains, arith, refl, ap, ◌∙◌, sym, subst, Option, Some, None, unwrap_or}
+use Rattle.std.proofs.Common.{ℕ, ◌≡◌, ◌<◌, List, length, arith, refl, ap, ◌∙◌, sym, subst, Option, Some, None, unwrap_or}
 use Rattle.std.specs.Prelude.{◌==◌, position}
 use Rattle.std.proofs.lemmas.List.Elements.{All-contains}
 use Rattle.std.proofs.lemmas.List.Quantifiers.{position-Some}
@@ -15,8 +15,8 @@ use Rattle.afdx_tx.specs.Sending.{link_of}
 use Rattle.afdx_tx.specs.Drain.{known_of}
 use Rattle.afdx_tx.specs.Ports.{PortView, BelongsTo, AreOpenedWith, index_of}
 use Rattle.afdx_tx.specs.Room.{RoomView}
-use Rattle.afdx_tx.specs.Rooms.{rooms_of, room_in, room_at}
-use Rattle.afdx_tx.specs.Gathering.{GathersLink, GathersLinks, GathersSub, IsGatheredLink, HasShape, HasSeat, HasOwnPart, held_for}
+use Rattle.afdx_tx.specs.Rooms.{room_at}
+use Rattle.afdx_tx.specs.Gathering.{GathersLink, GathersLinks, IsGatheredLink, HasShape, HasSeat, HasOwnPart}
 use Rattle.afdx_tx.proofs.PortLink.{found, found_over}
 
 -- the link of a port is one of the plan, and the port sends over it

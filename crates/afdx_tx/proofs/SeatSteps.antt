@@ -1,5 +1,5 @@
 -- The senders of the ports come into their rooms.
-use Rattle.std.proofs.Common.{ℕ, zero, suc, ◌≡◌, ◌⊎◌, ◌+◌, ◌<◌, ◌≤◌, List, [], ◌∷◌, ◌++◌, length, get_or, set, All, Contains, arith, refl, ap, ◌∙◌, sym, subst, inl, inr, ⊎_elim, Option, Some, append-nil}
+use Rattle.std.proofs.Common.{ℕ, zero, suc, ◌≡◌, ◌⊎◌, ◌<◌, List, [], ◌∷◌, ◌++◌, length, get_or, set, All, Contains, arith, refl, ap, ◌∙◌, sym, subst, inl, inr, ⊎_elim, Option, append-nil}
 use Rattle.std.specs.List.Sorted.{IsPermutation}
 use Rattle.std.proofs.lemmas.Bool.{cases_eq}
 use Rattle.std.proofs.lemmas.List.{length-append, get_or_append_left, get_or_push}

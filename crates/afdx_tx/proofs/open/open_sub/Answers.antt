@@ -1,6 +1,5 @@
-use Rattle.std.proofs.Common.{ℕ, ◌≡◌, ◌≤◌, List, All, length, vec_len, arith, ap, ◌∙◌, sym, subst}
+use Rattle.std.proofs.Common.{ℕ, ◌≡◌, List, All, length, arith, ap, ◌∙◌, sym, subst}
 use Rattle.afdx_config.specs.declared.port_plan.PortPlan.{PortPlan}
-use Rattle.afdx_config.specs.Plan.{IsPort}
 use Rattle.subvl_queue.specs.Views.{new_receiver}
 use Rattle.afdx_tx.specs.Seen.{receiving}
 use Rattle.afdx_tx.specs.Links.{Held}
