@@ -121,38 +121,3 @@ fn ports_are_gathered_in_any_order_and_not_with_one_missing(rt: HostRuntime) -> 
     assert_eq!(rt; draining.now(), 0);
     Ok(())
 }
-
-/// Sends a message of two bytes from each port of an emitter.
-fn send_each<R: Abort + Wait>(
-    rt: &R,
-    alloc: Global,
-    tx: &Tx,
-    ports: &mut [TxPort],
-) -> Result<(), Fail>
-    requires opened { AreOpenedWith tx.now ports.old }
-    ensures opened { AreOpenedWith tx.now ports.new }
-{
-    let _tx = tx;
-    for port in ports.iter_mut() {
-        assert!(rt; port.send(rt, vec![in alloc; 1, 2]?).is_ok());
-    }
-    Ok(())
-}
-
-#[test]
-fn what_was_accepted_goes_out_after_the_ports_are_gathered(rt: HostRuntime) -> Result<(), Fail> {
-    let alloc = rt.alloc();
-    let (mut tx, mut ports) = open_two(alloc)?;
-    send_each(&rt, alloc, &tx, &mut ports)?;
-    let report = tx.poll(&rt, 0).expect(&rt, "both networks stand");
-    assert_eq!(rt; report.released.len(), 1);
-    let mut draining = match tx.gather(&rt, ports) {
-        Ok(draining) => draining,
-        Err(_) => return Err(Fail::from("not gathered")),
-    };
-    assert!(rt; !draining.is_done());
-    let report = draining.poll(&rt, 1_000).expect(&rt, "both networks stand");
-    assert_eq!(rt; report.released.len(), 1);
-    assert!(rt; draining.is_done());
-    Ok(())
-}
