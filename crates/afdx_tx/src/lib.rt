@@ -26,6 +26,8 @@ pub use port::TxPort;
 pub use report::{Release, Report};
 
 #[cfg(test)]
+mod draining_tests;
+#[cfg(test)]
 mod network_tests;
 #[cfg(test)]
 mod port_tests;
