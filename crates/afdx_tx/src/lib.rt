@@ -31,3 +31,5 @@ mod draining_tests;
 mod network_tests;
 #[cfg(test)]
 mod tests;
+#[cfg(test)]
+mod thread_tests;
