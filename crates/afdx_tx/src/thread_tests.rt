@@ -66,7 +66,12 @@ fn open_plan(
     ensures { IfOk result (λ opened. AreOpenedWith opened.0 opened.1.items) }
 {
     let config = plan(alloc, capacity)?;
-    match open_tx(alloc, config, MemNetwork::new(alloc), MemNetwork::new(alloc)) {
+    match open_tx(
+        alloc,
+        config,
+        MemNetwork::new(alloc),
+        MemNetwork::new(alloc),
+    ) {
         Ok(opened) => Ok(opened),
         Err(_) => Err(Fail::from("no memory")),
     }
@@ -124,8 +129,11 @@ fn start_all<R: Threads + Wait + Copy + Send + 'static>(
         let promise = ComesBack {
             of: Snapshot::of(&port),
         };
-        let worker =
-            thread::spawn_with(&rt, promise, move || send_all(&rt, alloc, port, messages))?;
+        let worker = thread::spawn_with(
+            &rt,
+            promise,
+            move || send_all(&rt, alloc, port, messages),
+        )?;
         workers.push(worker)?;
     }
     Ok(workers)
@@ -157,11 +165,7 @@ fn join_all<R: Threads>(
 }
 
 // Polls, a gap apart, until so many frames were released, while the ports send.
-fn poll_some<R: Wait + Abort>(
-    rt: &R,
-    tx: &mut Emitter<MemNetwork, MemNetwork>,
-    count: usize,
-)
+fn poll_some<R: Wait + Abort>(rt: &R, tx: &mut Emitter<MemNetwork, MemNetwork>, count: usize)
     ensures plan { tx.new.plan ≡ tx.old.plan }
     ensures queues { queues_in tx.new.links ≡ queues_in tx.old.links }
 {
@@ -180,11 +184,7 @@ fn poll_some<R: Wait + Abort>(
 }
 
 // Polls, a gap apart, until all was released, and no more often than so many times.
-fn drain<R: Wait + Abort>(
-    rt: &R,
-    draining: &mut Draining<MemNetwork, MemNetwork>,
-    count: usize,
-) {
+fn drain<R: Wait + Abort>(rt: &R, draining: &mut Draining<MemNetwork, MemNetwork>, count: usize) {
     for _turn in 0..count {
         if draining.is_done() {
             return;
