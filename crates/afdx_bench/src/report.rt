@@ -1,7 +1,10 @@
 //! The report on a plan.
 ghost use Rattle.std.specs.Prelude.{◌≡◌, OnOk, flat_map};
 ghost use Rattle.std.specs.Io.KnownBytes.{Appends};
-ghost use Rattle.afdx_bench.specs.Report.{kind_name as name_of_kind, end_system_line, pace_text, queues_text, link_line, way_text, flow_text, destination_text, port_line, jitter_text, verdict_text, jitter_line, report_of};
+ghost use Rattle.afdx_bench.specs.Report.{kind_name as name_of_kind, end_system_line, report_of};
+ghost use Rattle.afdx_bench.specs.Report.{pace_text, queues_text, link_line};
+ghost use Rattle.afdx_bench.specs.Report.{way_text, flow_text, destination_text, port_line};
+ghost use Rattle.afdx_bench.specs.Report.{jitter_text, verdict_text, jitter_line};
 
 use afdx_config::{Config, Kind, LinkPlan, PortPlan, jitter_ns};
 use std::io::{self, Write};

@@ -1,16 +1,15 @@
 -- Rooms whose senders have not asked yet.
-use Rattle.std.proofs.Common.{ℕ, ◌≡◌, ◌+◌, ◌<◌, ◌≤◌, List, [], ◌∷◌, ◌++◌, length, map, take, get_or, arith, refl, ap, ◌∙◌, sym, subst, below_more, Option, None}
+use Rattle.std.proofs.Common.{ℕ, ◌≡◌, ◌+◌, ◌<◌, List, [], ◌∷◌, ◌++◌, length, map, get_or, arith, ap, ◌∙◌, sym, subst, below_more, Option, None}
 use Rattle.std.proofs.lemmas.List.{length-append, get_or_append_left, get_or_push}
 use Rattle.std.proofs.Math.ListN.{get_or-map}
 use Rattle.std.proofs.Math.Seq.{take-length}
 use Rattle.afdx_config.specs.declared.link_plan.LinkPlan.{LinkPlan}
 use Rattle.afdx_config.specs.declared.port_plan.PortPlan.{PortPlan}
-use Rattle.afdx_config.specs.Config.{Plan, IsPlan, link_plan_at}
+use Rattle.afdx_config.specs.Config.{Plan, link_plan_at}
 use Rattle.subvl_queue.specs.Views.{QueueName, SenderView}
-use Rattle.afdx_tx.specs.declared.sub_vl.SubVl.{SubVl}
 use Rattle.afdx_tx.specs.Seen.{queue_of}
 use Rattle.afdx_tx.specs.Links.{Held, LinkState, held_at, link_at, nothing_held, no_link}
-use Rattle.afdx_tx.specs.Emitter.{ports_of_sub, queues_in, IsFreshSub, AreFreshSubs, AreFreshLinks}
+use Rattle.afdx_tx.specs.Emitter.{ports_of_sub, queues_in, IsFreshSub, AreFreshSubs}
 use Rattle.afdx_tx.specs.Ports.{queue_at, IsFreshSender}
 use Rattle.afdx_tx.specs.Room.{RoomView}
 use Rattle.afdx_tx.specs.Rooms.{no_room, room_in, rooms_of, room_at, Holds, AreRooms, AreReserved, IsFreshRoom, AreFreshRooms, fresh_for}

@@ -1,5 +1,5 @@
 -- An emitter whose queues were gathered is as sound as it was.
-use Rattle.std.proofs.Common.{ℕ, ◌≡◌, ◌+◌, ◌<◌, ◌≤◌, List, [], ◌∷◌, ◌++◌, true, false, length, map, take, get_or, slice_index_or, arith, refl, ap, ◌∙◌, sym, subst, Option, Some}
+use Rattle.std.proofs.Common.{ℕ, ◌≡◌, ◌<◌, List, ◌++◌, length, arith, ap, ◌∙◌, sym, subst}
 use Rattle.std.proofs.Math.Seq.{take-length}
 use Rattle.std.proofs.lemmas.List.{ext_get_or}
 use Rattle.afdx_config.specs.declared.link_plan.LinkPlan.{LinkPlan}
@@ -10,17 +10,16 @@ use Rattle.afdx_frame.specs.declared.net.Net.TheVariants.{A}
 use Rattle.afdx_frame.specs.Fragments.{fragments}
 use Rattle.redundant_mux.specs.Entry.{Entry}
 use Rattle.redundant_mux.specs.Lines.{Lines, log}
-use Rattle.vl_shaper.specs.Pace.{Pace, IsLater}
-use Rattle.subvl_queue.specs.Views.{QueueName, SenderView, HasEvery}
-use Rattle.afdx_tx.specs.Seen.{Seen, receiving, gathered, taken_of, ports_of, queue_of, IsReceiving, IsGathered}
+use Rattle.vl_shaper.specs.Pace.{IsLater}
+use Rattle.subvl_queue.specs.Views.{SenderView}
+use Rattle.afdx_tx.specs.Seen.{Seen, receiving, gathered, taken_of, IsGathered}
 use Rattle.afdx_tx.specs.Streams.{told, link_stream, sub_stream, told_of, IsPrefixOf}
-use Rattle.afdx_tx.specs.Links.{Held, LinkState, held_at, link_at, no_link_plan, IsLink, AreNamed, sent_by, taken_by, sub_fragments}
+use Rattle.afdx_tx.specs.Links.{Held, LinkState, held_at, link_at, no_link_plan, IsLink, sent_by, taken_by, sub_fragments}
 use Rattle.afdx_tx.specs.Emitter.{plans, AreLinks, AreLinksOf, AreReceiving, IsKept, IsTied, IsBehind, IsSound, ports_of_sub, queues_in}
 use Rattle.afdx_tx.specs.Drain.{AreGathered}
-use Rattle.afdx_tx.specs.Ports.{queue_at}
 use Rattle.afdx_tx.specs.Room.{RoomView}
-use Rattle.afdx_tx.specs.Rooms.{room_in, rooms_of, room_at, AreRooms, senders_for}
-use Rattle.afdx_tx.specs.Gathering.{BecomesWhole, GathersSub, GathersLink, GathersLinks, IsFullSub, AreFull, HasShape}
+use Rattle.afdx_tx.specs.Rooms.{rooms_of, room_at, AreRooms, senders_for}
+use Rattle.afdx_tx.specs.Gathering.{BecomesWhole, GathersSub, GathersLink, GathersLinks, AreFull, HasShape}
 use Rattle.afdx_tx.proofs.PollTurns.{plan_at_is, plans_length}
 use Rattle.afdx_tx.proofs.SoundEmitter.{plan_is, count_is}
 use Rattle.afdx_tx.proofs.FreshRooms.{queue_at_is}

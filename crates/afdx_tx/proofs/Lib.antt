@@ -23,3 +23,4 @@ pub mod OwnPorts
 pub mod SeatSteps
 pub mod FromLast
 pub mod GatheredEmitter
+pub mod GatheredPorts

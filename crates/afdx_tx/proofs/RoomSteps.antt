@@ -1,11 +1,10 @@
 -- A sender goes into a room, or out of one.
-use Rattle.std.proofs.Common.{ℕ, ◌≡◌, ◌⊎◌, ◌+◌, ◌-◌, ◌<◌, ◌≤◌, List, [], ◌∷◌, ◌++◌, Bool, true, false, ◌&&◌, nat_eq, cond, filter, length, take, drop, get_or, set, arith, refl, ap, ◌∙◌, sym, subst, inl, inr, ⊎_elim, below_more, add-zero, Option}
+use Rattle.std.proofs.Common.{ℕ, ◌≡◌, ◌+◌, ◌<◌, ◌≤◌, List, [], ◌∷◌, ◌++◌, Bool, true, false, ◌&&◌, nat_eq, cond, length, take, drop, get_or, set, arith, refl, ap, ◌∙◌, sym, subst, ⊎_elim, below_more, add-zero, Option}
 use Rattle.std.proofs.lemmas.Bool.{cases_eq, eq-eqb, ne_eqb}
 use Rattle.std.proofs.lemmas.List.{length-append, get_or_append_left, get_or_push, get_or-set_same, get_or-set_other, length-set, take-append-drop}
 use Rattle.std.proofs.lemmas.List.Elements.{filter-append}
 use Rattle.std.proofs.lemmas.List.Filters.{length-filter_more}
 use Rattle.afdx_config.specs.declared.identifiers.VlId.{VlId}
-use Rattle.afdx_config.specs.declared.link_plan.LinkPlan.{LinkPlan}
 use Rattle.afdx_config.specs.declared.port_plan.PortPlan.{PortPlan}
 use Rattle.afdx_config.specs.Config.{Plan, IsPlan, link_plan_at, port_plan_at}
 use Rattle.afdx_config.specs.Plan.{SendsOver}

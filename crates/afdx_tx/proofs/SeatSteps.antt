@@ -1,5 +1,5 @@
 -- The senders of the ports come into their rooms.
-use Rattle.std.proofs.Common.{ℕ, zero, suc, ◌≡◌, ◌⊎◌, ◌+◌, ◌<◌, ◌≤◌, List, [], ◌∷◌, ◌++◌, length, get_or, set, All, Contains, arith, refl, ap, ◌∙◌, sym, subst, inl, inr, ⊎_elim, Option, Some, append-nil}
+use Rattle.std.proofs.Common.{ℕ, zero, suc, ◌≡◌, ◌⊎◌, ◌<◌, List, [], ◌∷◌, ◌++◌, length, get_or, set, All, Contains, arith, refl, ap, ◌∙◌, sym, subst, inl, inr, ⊎_elim, Option, append-nil}
 use Rattle.std.specs.List.Sorted.{IsPermutation}
 use Rattle.std.proofs.lemmas.Bool.{cases_eq}
 use Rattle.std.proofs.lemmas.List.{length-append, get_or_append_left, get_or_push}
@@ -51,10 +51,12 @@ grown rooms k s own x m t lt e put =
     (⊎_elim
     (λ (its : t ≡ s). subst (λ (j : ℕ). Goal k j) (sym its)
     (x ∷ [], ap (λ (rs : List RoomView). (room_in rs s).senders) (this_link rooms k own lt) ∙ put))
-    (λ (ne : t ≡ s → ⊥).
-    ([], ap (λ (rs : List RoomView). (room_in rs t).senders) (this_link rooms k own lt)
-    ∙ ap (λ (r : RoomView). r.senders) (other_room (rooms_of rooms k) own s t e ne)
-    ∙ sym (append-nil (room_at rooms k t).senders)))
+    (λ (ne : t ≡ s → ⊥). (
+      [],
+      ap (λ (rs : List RoomView). (room_in rs t).senders) (this_link rooms k own lt)
+          ∙ ap (λ (r : RoomView). r.senders) (other_room (rooms_of rooms k) own s t e ne)
+          ∙ sym (append-nil (room_at rooms k t).senders),
+    ))
     (cases_eq t s)))
     (λ (ne : m ≡ k → ⊥).
     ([], ap (λ (rs : List RoomView). (room_in rs t).senders) (other_link rooms k own m ne) ∙ sym (append-nil (room_at rooms m t).senders)))

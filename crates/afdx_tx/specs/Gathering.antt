@@ -1,9 +1,9 @@
 -- The ports of an emitter come back.
-use Rattle.std.specs.Prelude.{ℕ, ◌≡◌, ◌<◌, ◌≤◌, List, [], length, get_or, slice_index_or, Contains, Option, Some}
+use Rattle.std.specs.Prelude.{ℕ, ◌≡◌, ◌<◌, List, length, slice_index_or, Contains, Some}
 use Rattle.afdx_config.specs.Config.{Plan, link_plan_at, port_plan_at}
 use Rattle.afdx_config.specs.declared.port_plan.PortPlan.{PortPlan}
 use Rattle.subvl_queue.specs.Messages.{AreItems, part_of}
-use Rattle.subvl_queue.specs.Views.{QueueName, SenderView, HasEvery, IsWhole, accepted_of}
+use Rattle.subvl_queue.specs.Views.{SenderView, HasEvery, IsWhole, accepted_of}
 use Rattle.afdx_tx.specs.Seen.{Seen, receiving, gathered, ports_of, queue_of, IsReceiving}
 use Rattle.afdx_tx.specs.Drain.{known_of}
 use Rattle.afdx_tx.specs.Links.{Held, LinkState, held_at, link_at}

@@ -1,5 +1,5 @@
 -- Ports, each of which sends into the queue of its sub-VL.
-use Rattle.std.specs.Prelude.{ℕ, ◌≡◌, ◌<◌, ◌≤◌, List, [], ◌∷◌, ◌++◌, length, take, get_or, slice_index_or, All, Contains, Option, Some, None}
+use Rattle.std.specs.Prelude.{ℕ, ◌≡◌, ◌<◌, ◌≤◌, List, [], length, take, get_or, slice_index_or, All, Contains, Option, Some, None}
 use Rattle.afdx_config.specs.Config.{Plan, link_plan_at, port_plan_at}
 use Rattle.afdx_config.specs.declared.port_plan.PortPlan.{PortPlan}
 use Rattle.subvl_queue.specs.Messages.{most_calls}

@@ -30,6 +30,8 @@ mod draining_tests;
 #[cfg(test)]
 mod network_tests;
 #[cfg(test)]
+mod port_tests;
+#[cfg(test)]
 mod tests;
 #[cfg(test)]
 mod thread_tests;

@@ -81,10 +81,7 @@ fn open_link(
 }
 
 /// The links of a configuration, and the senders of all ports.
-fn open_links(
-    alloc: Global,
-    config: &Config,
-) -> Result<(Vec<Link>, Vec<LinkRooms>), AllocError>
+fn open_links(alloc: Global, config: &Config) -> Result<(Vec<Link>, Vec<LinkRooms>), AllocError>
     ensures fresh { IfOk result
         (λ opened. AreFreshLinks config.now opened.0.items (length config.now.links)) }
     ensures rooms { IfOk result (λ opened. AreRooms config.now opened.1.items

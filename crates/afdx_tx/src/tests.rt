@@ -59,11 +59,7 @@ fn send_taken<R: Abort + Wait>(rt: &R, port: &mut TxPort, bytes: Vec<u8>) {
 }
 
 /// Polls while some network stands.
-fn poll_alive<R: Abort + Wait>(
-    rt: &R,
-    tx: &mut Emitter<MemNetwork, MemNetwork>,
-    now: u64,
-) -> Report
+fn poll_alive<R: Abort + Wait>(rt: &R, tx: &mut Emitter<MemNetwork, MemNetwork>, now: u64) -> Report
     requires plan { tx.old.plan ≡ demo_plan }
     requires later { tx.old.moment ≤ now }
     ensures plan { tx.new.plan ≡ demo_plan }

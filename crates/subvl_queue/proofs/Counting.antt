@@ -1,9 +1,9 @@
 -- How many messages there are.
 use Rattle.std.proofs.Common.{◌≡◌, ◌≢◌, ℕ, zero, suc, ◌+◌, ◌*◌, ◌==◌, ◌≤◌, if◌then◌else◌, Bool, List, [], ◌∷◌, ◌++◌, length, sym, refl, ap, ◌∙◌, subst, eq-eqb, ne_eqb, arith, length-append}
-use native.Mathlib.Decide.{ℕ_discrete, dec_le}
+use native.Mathlib.Decide.{ℕ_discrete}
 use Rattle.subvl_queue.specs.Messages.{most_calls, most_items, part_of}
 use Rattle.subvl_queue.specs.Rule.{SettlesWith}
-use Rattle.subvl_queue.proofs.Parts.{part_append, part_same, part_other, none_left}
+use Rattle.subvl_queue.proofs.Parts.{part_same, part_other, none_left}
 
 abbrev Items : Type 0
 Items = List (ℕ × List ℕ)

@@ -6,8 +6,8 @@ use lib.ListN.{get_elem?}
 use Rattle.atomic_table.proofs.Lists.{at_set, at_snoc}
 use Rattle.crossbeam_channel.specs.Fifo.{Forks, Merges}
 use Rattle.subvl_queue.specs.declared.rule.View.{View}
-use Rattle.subvl_queue.specs.Messages.{IsMessage, most_calls, part_of}
-use Rattle.subvl_queue.specs.Rule.{sender, receiver, nobody, Fits, FitsSender, Delivers}
+use Rattle.subvl_queue.specs.Messages.{IsMessage, part_of}
+use Rattle.subvl_queue.specs.Rule.{sender, receiver, nobody, Fits, Delivers}
 use Rattle.subvl_queue.proofs.Parts.{none_left}
 use Rattle.subvl_queue.proofs.Passes.{at_end, Each, each_set, each_push, back_again, apart, seated, is_not, fits_nobody}
 

@@ -1,9 +1,9 @@
 -- With all senders taken in and the channel drained, the accepted messages are known whole.
-use Rattle.std.proofs.Common.{◌≡◌, ℕ, ◌+◌, ◌*◌, ◌<◌, ◌≤◌, List, [], ◌∷◌, ◌++◌, length, map, sym, refl, ap, ◌∙◌, subst, arith}
+use Rattle.std.proofs.Common.{◌≡◌, ℕ, ◌*◌, ◌≤◌, List, [], ◌++◌, length, map, sym, ap, ◌∙◌, subst, arith}
 use Rattle.std.proofs.lemmas.List.Elements.{All-append, All-same}
 use Rattle.subvl_queue.specs.declared.rule.View.{View}
 use Rattle.subvl_queue.specs.Kept.{IsReceiver, IsGathered}
-use Rattle.subvl_queue.specs.Messages.{IsItem, AreItems, most_calls, most_items, part_of, before}
+use Rattle.subvl_queue.specs.Messages.{IsItem, AreItems, most_calls, part_of, before}
 use Rattle.subvl_queue.specs.Rule.{receiver, AreParts}
 use Rattle.subvl_queue.specs.Views.{SenderView, entry, HasEvery, IsWhole}
 use Rattle.subvl_queue.proofs.Counting.{total}

@@ -1,7 +1,7 @@
 -- What came back fixes how many messages there are, and the whole.
-use Rattle.std.proofs.Common.{◌≡◌, ◌≢◌, ℕ, zero, suc, ◌+◌, ◌-◌, ◌==◌, ◌<◌, ◌≤◌, if◌then◌else◌, Bool, List, [], ◌∷◌, ◌++◌, length, map, take, get_or, sym, refl, ap, ◌∙◌, subst, append_assoc, eq-eqb, ne_eqb, arith, length-append, lt_of_not-le}
+use Rattle.std.proofs.Common.{◌≡◌, ◌≢◌, ℕ, zero, suc, ◌+◌, ◌==◌, ◌<◌, ◌≤◌, if◌then◌else◌, Bool, List, [], ◌∷◌, ◌++◌, length, map, get_or, sym, refl, ap, ◌∙◌, subst, eq-eqb, ne_eqb, arith, length-append, lt_of_not-le}
 use native.Mathlib.Decide.{dec_le, ℕ_discrete}
-use Rattle.subvl_queue.specs.Messages.{part_of, before}
+use Rattle.subvl_queue.specs.Messages.{part_of}
 use Rattle.subvl_queue.specs.Rule.{AreParts, SettlesWith, Fixes}
 use Rattle.subvl_queue.specs.Views.{SenderView, entry, HasPort}
 use Rattle.subvl_queue.proofs.Parts.{none_left, part_same, part_other}

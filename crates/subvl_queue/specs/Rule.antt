@@ -1,5 +1,5 @@
 -- The rule of a channel, over the messages that it holds, oldest first, and over what each pass knows.
-use Rattle.std.specs.Prelude.{◌≡◌, ℕ, ◌+◌, ◌≤◌, Bool, true, false, List, [], ◌∷◌, ◌++◌, length, All}
+use Rattle.std.specs.Prelude.{◌≡◌, ℕ, ◌+◌, ◌≤◌, true, false, List, [], ◌∷◌, ◌++◌, length, All}
 use mathlib.Core.Option.{Option, some, none}
 use lib.ListN.{get_elem?}
 use Rattle.subvl_queue.specs.Messages.{IsMessage, IsItem, most_calls, part_of}

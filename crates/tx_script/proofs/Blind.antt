@@ -1,5 +1,6 @@
 -- The same lines, with looks that find nothing: what is noted is the same.
-use Rattle.std.proofs.Common.{ℕ, zero, suc, ◌≡◌, ◌+◌, ◌<◌, ◌++◌, List, [], ◌∷◌, Bool, true, false, cond, if◌then◌else◌, nat_lt, length, map, get_or, replicate, arith, refl, ap, ◌∙◌, sym, subst, Option, Some, None}
+use Rattle.std.proofs.Common.{ℕ, zero, suc, ◌≡◌, ◌+◌, ◌++◌, List, [], ◌∷◌, Bool, true, false, cond, if◌then◌else◌}
+use Rattle.std.proofs.Common.{nat_lt, length, map, get_or, replicate, arith, refl, ap, ◌∙◌, sym, subst, Option, Some, None}
 use Rattle.std.specs.Prelude.{All, Contains}
 use Rattle.afdx_config.specs.Config.{Plan, link_plan_at, port_plan_at}
 use Rattle.afdx_config.specs.Plan.{bag_micros}
@@ -11,10 +12,12 @@ use Rattle.afdx_tx.specs.declared.fault.Refusal.{Refusal as SendRefusal}
 use Rattle.afdx_tx.specs.Links.{pace_of}
 use Rattle.afdx_tx.specs.Emitter.{ports_of_sub}
 use Rattle.afdx_tx.specs.Sending.{length_refusal, link_of}
-use Rattle.tx_script.specs.EndSystem.{EndSystem, Look, Progress, no_progress, progress_at, progress_of, has_left, Asked, ask, turns_from, Came, released_of, serve_link, then_links, serve_links, polled, released_by, fresh, fresh_subs}
+use Rattle.tx_script.specs.EndSystem.{EndSystem, Look, Progress, no_progress, progress_at, progress_of, has_left, Asked, ask, turns_from}
+use Rattle.tx_script.specs.EndSystem.{Came, released_of, serve_link, then_links, serve_links, polled, released_by, fresh, fresh_subs}
 use Rattle.tx_script.specs.Lines.{after_feed}
 use Rattle.tx_script.specs.Meaning.{meaning_of}
-use Rattle.tx_script.specs.Play.{Answer, takes, closes, fills, finds, looks_of, queued, passed_on, sent_to, place_of, Turn, Play, play, play_line, start, outcome_of, after, FindsFirst, messages_of}
+use Rattle.tx_script.specs.Play.{Answer, takes, closes, fills, finds, looks_of, queued, passed_on, sent_to, place_of}
+use Rattle.tx_script.specs.Play.{Turn, Play, play, play_line, start, outcome_of, after, FindsFirst, messages_of}
 use Rattle.tx_script.specs.Run.{LinesThen}
 use Rattle.tx_script.specs.Transcript.{note_of}
 use Rattle.tx_script.specs.declared.line.Line.{Line}

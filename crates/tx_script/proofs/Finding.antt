@@ -1,10 +1,11 @@
 -- What looks found is the first of what was sent.
-use Rattle.std.proofs.Common.{ℕ, zero, suc, ◌≡◌, ◌≢◌, ◌<◌, ◌≤◌, ◌==◌, List, [], ◌∷◌, ◌++◌, Bool, true, false, if◌then◌else◌, ◌&&◌, nat_eq, length, map, take, get_or, arith, refl, ap, ◌∙◌, sym, subst, ⊎_elim, Option, Some, None, append_assoc}
+use Rattle.std.proofs.Common.{ℕ, zero, suc, ◌≡◌, ◌≢◌, ◌<◌, ◌≤◌, ◌==◌, List, [], ◌∷◌, ◌++◌, Bool, true, if◌then◌else◌, ◌&&◌}
+use Rattle.std.proofs.Common.{nat_eq, length, take, get_or, arith, refl, ap, ◌∙◌, sym, subst, ⊎_elim, Option, Some, None}
 use Rattle.std.specs.Prelude.{All, Contains, filter, position, unwrap_or}
 use Rattle.std.proofs.lemmas.Bool.{cases_eq, cases_lt, eq-eqb, ne_eqb}
 use Rattle.std.proofs.lemmas.List.Quantifiers.{position-Some}
 use Rattle.std.proofs.lemmas.List.{get_or_default, get_or_past}
-use Rattle.std.proofs.lemmas.List.Elements.{All-map, All-get_or, Contains-get_or}
+use Rattle.std.proofs.lemmas.List.Elements.{All-map, Contains-get_or}
 use Rattle.afdx_config.specs.Config.{Plan, IsPlan, HasLink, link_plan_at, port_plan_at}
 use Rattle.afdx_config.specs.Plan.{SendsOver}
 use Rattle.afdx_config.specs.declared.link_plan.LinkPlan.{LinkPlan}
@@ -17,15 +18,15 @@ use Rattle.subvl_queue.specs.Views.{accepted_of}
 use Rattle.subvl_queue.proofs.Parts.{part_append}
 use Rattle.afdx_tx.specs.Seen.{Seen, receiving, gathered, taken_of, ports_of}
 use Rattle.afdx_tx.specs.Drain.{known_of}
-use Rattle.afdx_tx.specs.Links.{no_link_plan, nothing_held, no_link, Held, LinkState, held_at, link_at, sent_of, sent_by, taken_by}
+use Rattle.afdx_tx.specs.Links.{no_link_plan, nothing_held, no_link, Held, LinkState, held_at, link_at, sent_of, sent_by}
 use Rattle.afdx_tx.specs.Emitter.{Tx, ports_of_sub}
 use Rattle.afdx_tx.specs.Sending.{link_of}
-use Rattle.afdx_tx.specs.Ports.{PortView, HasPlace, LacksPlace, index_of}
+use Rattle.afdx_tx.specs.Ports.{PortView, LacksPlace, index_of}
 use Rattle.afdx_tx.specs.Gathering.{BecomesWhole, IsGatheredSub, IsGatheredLink, IsGatheredTx, HasOwnPart, held_for}
 use Rattle.afdx_tx.proofs.PortLink.{found, found_over}
 use Rattle.tx_script.specs.AtBench.{AtBench, IsAtHand, Matches, GaveFirst}
 use Rattle.tx_script.specs.EndSystem.{progress_of, progress_at}
-use Rattle.tx_script.specs.Matching.{MatchesSub, MatchesLink, MatchesTx}
+use Rattle.tx_script.specs.Matching.{MatchesSub, MatchesLink}
 use Rattle.tx_script.specs.Play.{Play, FindsFirst, messages_of, found_beside}
 use Rattle.tx_script.proofs.SubPorts.{IsPassing, filter_at, filter_from}
 

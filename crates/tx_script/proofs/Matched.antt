@@ -1,5 +1,5 @@
 -- An emitter that matches plain lists: at the beginning, and after a poll.
-use Rattle.std.proofs.Common.{ℕ, ◌≡◌, ◌+◌, List, [], ◌∷◌, ◌++◌, length, map, get_or, arith, true, if◌then◌else◌, nat_lt, refl, ap, ◌∙◌, sym, subst}
+use Rattle.std.proofs.Common.{ℕ, ◌≡◌, ◌+◌, List, [], length, map, arith, true, if◌then◌else◌, nat_lt, ap, ◌∙◌, sym, subst}
 use Rattle.std.proofs.lemmas.List.{length-append, length-map, length-replicate, get_or-map, get_or-replicate}
 use Rattle.afdx_config.specs.Config.{Plan, link_plan_at}
 use Rattle.afdx_config.specs.declared.link_plan.LinkPlan.{LinkPlan}

@@ -1,13 +1,13 @@
 -- A poll of an emitter, played over plain lists.
-use Rattle.std.proofs.Common.{ℕ, zero, suc, ◌≡◌, ◌≢◌, ◌+◌, ◌-◌, ◌<◌, ◌≤◌, List, [], ◌∷◌, ◌++◌, Bool, true, false, cond, length, map, take, drop, set, get_or, arith, refl, ap, ◌∙◌, sym, subst, ⊎_elim, Option, Some, None}
-use Rattle.std.proofs.lemmas.List.{length-set, get_or-set_same, get_or-set_other, append_assoc, length-append, length-map, map-append, take_more, take_all}
+use Rattle.std.proofs.Common.{ℕ, zero, suc, ◌≡◌, ◌≢◌, ◌+◌, ◌-◌, ◌<◌, ◌≤◌, List, [], ◌∷◌, ◌++◌, Bool, true, false, cond}
+use Rattle.std.proofs.Common.{length, map, take, drop, set, get_or, arith, refl, ap, ◌∙◌, sym, subst, ⊎_elim, Option, Some, None}
+use Rattle.std.proofs.lemmas.List.{length-set, get_or-set_same, get_or-set_other, append_assoc, length-map, map-append, take_more, take_all}
 use Rattle.std.proofs.lemmas.Bool.{cases_eq, cases_lt}
 use Rattle.std.proofs.lemmas.Nat.{mod_below}
 use Rattle.vl_shaper.specs.declared.shaper.Stamp.{Stamp}
 use Rattle.afdx_tx.proofs.Choosing.{met}
 use Rattle.afdx_config.specs.Config.{link_plan_at}
 use Rattle.afdx_config.specs.Plan.{bag_micros}
-use Rattle.afdx_config.specs.Room.{room_of}
 use Rattle.afdx_config.specs.declared.link_plan.LinkPlan.{LinkPlan}
 use Rattle.afdx_frame.specs.declared.net.Net.TheVariants.{A, B}
 use Rattle.afdx_frame.specs.Header.{number_in}
@@ -24,9 +24,11 @@ use Rattle.afdx_tx.specs.declared.served.Served.{Served}
 use Rattle.afdx_tx.specs.declared.served.Served.TheVariants.{Nothing, Released, Lost}
 use Rattle.afdx_tx.specs.declared.sub_vl.SubVl.{SubVl}
 use Rattle.afdx_tx.specs.Streams.{link_stream}
-use Rattle.afdx_tx.specs.Links.{Held, LinkState, held_at, nothing_held, link_at, GoesOn, Starts, Passes, Asks, IsChoice, PassedOver, Gives, ReleasesAt, sent_of, sent_by, taken_by, Serves, IsSameLink, is_lost, pace_of, message_fragments}
+use Rattle.afdx_tx.specs.Links.{Held, LinkState, held_at, nothing_held, link_at, GoesOn, Starts, Passes, Asks, IsChoice, PassedOver}
+use Rattle.afdx_tx.specs.Links.{Gives, ReleasesAt, sent_of, sent_by, taken_by, Serves, IsSameLink, is_lost, pace_of, message_fragments}
 use Rattle.afdx_tx.specs.Run.{IsTurn, IsRun}
-use Rattle.tx_script.specs.EndSystem.{Progress, Look, no_progress, progress_at, first_look, started, has_left, are_some, Asked, by_look, ask, turns_from, Came, next_frame, released_of, serve_paced, serve_link, then_links, serve_links, EndSystem, polled}
+use Rattle.tx_script.specs.EndSystem.{Progress, Look, no_progress, progress_at, first_look, started, has_left, are_some, Asked, by_look, ask}
+use Rattle.tx_script.specs.EndSystem.{turns_from, Came, next_frame, released_of, serve_paced, serve_link, then_links, serve_links, EndSystem, polled}
 use Rattle.tx_script.specs.Matching.{MatchesSub, MatchesLink, MatchesLines, MatchesTx}
 
 -- whether fragments are left, in step with the emitter

@@ -80,7 +80,17 @@ running_none plan (Some text) old bench is_fresh = record {
   rest = text;
   left_is = refl;
   ran =
-      record { turns = []; lines = refl; matches = record { emitter = fresh_matches plan bench.tx is_fresh.tx; own = fresh_sent bench.tx bench.ports is_fresh.ports }; count_is = refl; sums_are = refl; wrote = appends_none old };
+      record {
+        turns = [];
+        lines = refl;
+        matches = record {
+          emitter = fresh_matches plan bench.tx is_fresh.tx;
+          own = fresh_sent bench.tx bench.ports is_fresh.ports;
+        };
+        count_is = refl;
+        sums_are = refl;
+        wrote = appends_none old;
+      };
 }
 
 -- a line was read, obeyed and noted

@@ -1,5 +1,6 @@
 -- Obeying a line that sends a message.
-use Rattle.std.proofs.Common.{ℕ, ◌≡◌, ◌≢◌, ◌≤◌, ◌<◌, ◌+◌, ◌==◌, Bool, true, false, if◌then◌else◌, nat_eq, nat_lt, List, [], ◌∷◌, ◌++◌, length, set, get_or, refl, ap, ◌∙◌, sym, subst, arith, Option, Some, None}
+use Rattle.std.proofs.Common.{ℕ, ◌≡◌, ◌≤◌, ◌<◌, ◌+◌, ◌==◌, Bool, if◌then◌else◌, nat_lt, List, []}
+use Rattle.std.proofs.Common.{length, set, get_or, refl, ap, ◌∙◌, sym, subst, arith, Option, Some, None}
 use Rattle.std.proofs.lemmas.Bool.{eq-eqb, ne_eqb, lt-ltb, le-ltb}
 use Rattle.std.proofs.lemmas.List.Quantifiers.{position-Some}
 use Rattle.afdx_config.specs.Config.{Plan, port_plan_at}
@@ -13,7 +14,8 @@ use Rattle.afdx_tx.specs.Ports.{PortView, MaySend, Accepts, Refuses, BelongsTo}
 use Rattle.afdx_tx.specs.Sending.{length_refusal}
 use Rattle.tx_script.specs.AtBench.{AtBench, IsAtHand, HaveSent, Matches, Obeys}
 use Rattle.tx_script.specs.EndSystem.{EndSystem}
-use Rattle.tx_script.specs.Play.{Answer, Messages, takes, closes, fills, place_of, sent_to, passed_on, refusal_of, outcome_of, taken_by, accepted_by, with_message}
+use Rattle.tx_script.specs.Play.{Answer, Messages, takes, closes, fills, place_of, sent_to}
+use Rattle.tx_script.specs.Play.{passed_on, refusal_of, outcome_of, taken_by, accepted_by, with_message}
 use Rattle.tx_script.specs.declared.line.Line.TheVariants.{Send}
 use Rattle.tx_script.specs.declared.refusal.Refusal.{Refusal}
 use Rattle.tx_script.specs.declared.refusal.Refusal.TheVariants.{NoPort}

@@ -1,11 +1,12 @@
 -- A run of lines, with answers of queues that nothing but the run knows.
-use Rattle.std.specs.Prelude.{◌≡◌, ◌<◌, ℕ, ◌+◌, nat_lt, nat_eq, ◌==◌, if◌then◌else◌, List, [], ◌∷◌, ◌++◌, length, position, get_or, All, Contains, Option, Some, None}
+use Rattle.std.specs.Prelude.{◌≡◌, ◌<◌, ℕ, ◌+◌, nat_lt, nat_eq, ◌==◌, if◌then◌else◌, List, []}
+use Rattle.std.specs.Prelude.{◌∷◌, ◌++◌, length, position, All, Contains, Option, Some, None}
 use Rattle.afdx_config.specs.Config.{Plan, port_plan_at, link_plan_at}
 use Rattle.afdx_config.specs.declared.port_plan.PortPlan.{PortPlan}
 use Rattle.afdx_frame.specs.Fragments.{Sent}
 use Rattle.afdx_tx.specs.declared.fault.Refusal.{Refusal as SendRefusal}
 use Rattle.afdx_tx.specs.declared.fault.Refusal.TheVariants as Why
-use Rattle.afdx_tx.specs.Emitter.{Tx, ports_of_sub}
+use Rattle.afdx_tx.specs.Emitter.{ports_of_sub}
 use Rattle.afdx_tx.specs.Sending.{length_refusal, link_of}
 use Rattle.tx_script.specs.EndSystem.{EndSystem, Look, fresh, polled, released_by, handed_b, progress_of}
 use Rattle.tx_script.specs.Meaning.{meaning_of}

@@ -4,5 +4,8 @@ use Rattle.afdx_bench.proofs.reading.read_text.Goals as goal
 
 pub returns-then-len-le-TEXT_LIMIT-clause-whole : goal.returns-then-len-le-TEXT_LIMIT-clause-whole
 returns-then-len-le-TEXT_LIMIT-clause-whole g c =
-    whole_text (g.R.Read.remaining c.args.reader) (g.R.Read.remaining c.take-reader.result.inner) 16777216 c.take-reader.result.limit c.new-text.result.items c.read_to_end.new.buf.items
-    c.take-reader.ensures.limit (ap g.R.Read.remaining c.take-reader.ensures.inner) c.new-text.ensures.items (c.in-Ok.ensures.bytes) (omega arith)
+    let inner = c.take-reader.result.inner in
+    whole_text (g.R.Read.remaining c.args.reader) (g.R.Read.remaining inner) 16777216
+    c.take-reader.result.limit c.new-text.result.items c.read_to_end.new.buf.items
+    c.take-reader.ensures.limit (ap g.R.Read.remaining c.take-reader.ensures.inner)
+    c.new-text.ensures.items (c.in-Ok.ensures.bytes) (omega arith)

@@ -8,4 +8,5 @@ loop-link-init g c = Appends-nil _
 
 pub loop-link-preserved : goal.loop-link-preserved
 loop-link-preserved g c =
-    item_turn link_line _ _ _ c.args.links.now c.loop-link.link-index _ _ c.loop-link-test.true c.link-item.is c.loop-link.invariant (c.in_ok-write_link.ensures)
+    item_turn link_line _ _ _ c.args.links.now c.loop-link.link-index _ _
+    c.loop-link-test.true c.link-item.is c.loop-link.invariant (c.in_ok-write_link.ensures)

@@ -9,4 +9,5 @@ loop-port-init g c = Appends-nil _
 
 pub loop-port-preserved : goal.loop-port-preserved
 loop-port-preserved g c =
-    item_turn port_line _ _ _ c.args.ports.now c.loop-port.port-index _ _ c.loop-port-test.true refl c.loop-port.invariant (c.in_ok-write_port.ensures)
+    item_turn port_line _ _ _ c.args.ports.now c.loop-port.port-index _ _
+    c.loop-port-test.true refl c.loop-port.invariant (c.in_ok-write_port.ensures)

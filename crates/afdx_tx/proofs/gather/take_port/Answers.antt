@@ -1,4 +1,4 @@
-use Rattle.std.proofs.Common.{ℕ, ◌≡◌, ◌<◌, List, ◌∷◌, length, get_or, arith, ap, sym, subst}
+use Rattle.std.proofs.Common.{◌<◌, List, ◌∷◌, length, sym, subst}
 use Rattle.std.specs.List.Sorted.{IsPermutation}
 use Rattle.std.proofs.lemmas.List.Sorted.{IsPermutation-swap_remove}
 use Rattle.afdx_tx.specs.Ports.{PortView}

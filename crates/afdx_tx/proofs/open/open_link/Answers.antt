@@ -1,4 +1,4 @@
-use Rattle.std.proofs.Common.{ℕ, ◌≡◌, ◌+◌, ◌<◌, List, [], ◌∷◌, ◌++◌, length, ap, ◌∙◌, sym, subst}
+use Rattle.std.proofs.Common.{ℕ, ◌+◌, List, [], ◌∷◌, ◌++◌, sym, subst}
 use Rattle.afdx_tx.specs.Links.{Held}
 use Rattle.afdx_tx.specs.Emitter.{IsFreshSub, AreFreshSubs, ports_of_sub}
 use Rattle.afdx_tx.specs.Room.{RoomView}

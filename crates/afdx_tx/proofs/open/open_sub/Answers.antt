@@ -1,6 +1,5 @@
-use Rattle.std.proofs.Common.{ℕ, ◌≡◌, ◌≤◌, List, All, length, vec_len, arith, ap, ◌∙◌, sym, subst}
+use Rattle.std.proofs.Common.{ℕ, ◌≡◌, List, All, length, arith, ap, ◌∙◌, sym, subst}
 use Rattle.afdx_config.specs.declared.port_plan.PortPlan.{PortPlan}
-use Rattle.afdx_config.specs.Plan.{IsPort}
 use Rattle.subvl_queue.specs.Views.{new_receiver}
 use Rattle.afdx_tx.specs.Seen.{receiving}
 use Rattle.afdx_tx.specs.Links.{Held}
@@ -12,8 +11,12 @@ use Rattle.afdx_tx.proofs.open.open_sub.Goals as goal
 pub make-requires-clause-ports : goal.make-requires-clause-ports
 make-requires-clause-ports c =
     let few = few_ports c.args.config.now c.args.of.link.id.0 c.args.of.sub c.ports.ensures.valid in
-    omega (arith, c.len.ensures, ap length c.in_ok-ports.ensures,
-    ap (λ (all : List PortPlan). length (ports_of_sub all c.args.of.link.id.0 c.args.of.sub)) c.ports.ensures.plan)
+    omega (
+      arith,
+      c.len.ensures,
+      ap length c.in_ok-ports.ensures,
+      ap (λ (all : List PortPlan). length (ports_of_sub all c.args.of.link.id.0 c.args.of.sub)) c.ports.ensures.plan,
+    )
 
 pub new-requires-clause-ports : goal.new-requires-clause-ports
 new-requires-clause-ports c =

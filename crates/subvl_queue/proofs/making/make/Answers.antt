@@ -25,5 +25,7 @@ loop-port-preserved c =
       count = rw (c.push_reserved.ensures.items) (omega (arith, old.count, length-append c.loop-port.senders.items (c.in_ok-sender.sender ∷ [])));
       len = search rules;
       room = search rules;
-      senders = rw c.push_reserved.ensures.items (λ k d lt. next_row _ _ d (new_sender _ c.args.capacity c.args.calls) c.loop-port.port old.count (made.sender ∙ (λ i. new_sender (old.named i) (c.in_ok-tx.ensures.1 i) c.args.calls c.loop-port.port)) (λ j. old.senders j d) k lt);
+      senders = rw c.push_reserved.ensures.items (λ k d lt. next_row _ _ d (new_sender _ c.args.capacity c.args.calls) c.loop-port.port old.count
+          (made.sender ∙ (λ i. new_sender (old.named i) (c.in_ok-tx.ensures.1 i) c.args.calls c.loop-port.port))
+          (λ j. old.senders j d) k lt);
     }

@@ -1,4 +1,4 @@
-use Rattle.std.proofs.Common.{◌≡◌, ℕ, ◌<◌, List, Option, Some, IfSome, get_or, map, sym, ap, ◌∙◌, subst, arith, length}
+use Rattle.std.proofs.Common.{◌≡◌, List, Option, Some, IfSome, get_or, map, sym, ap, ◌∙◌, subst, arith}
 use Rattle.std.proofs.Math.ListN as base
 use Rattle.std.proofs.lemmas.List.{get_or-map}
 use Rattle.std.specs.declared.thread.PromisedHandle.{PromisedHandle}

@@ -1,18 +1,17 @@
 use Rattle.std.proofs.Common.{◌≡◌, ℕ, Bool, List, true, false, ap, sym, ◌∙◌, subst, if◌then◌else◌, nat_lt, arith, ◌||◌}
 use Rattle.std.proofs.lemmas.Bool.{le-ltb}
 use Rattle.redundant_mux.specs.Lines.{is_alive}
-use Rattle.afdx_tx.specs.Emitter.{Tx}
 use Rattle.tx_script.specs.EndSystem.{EndSystem, Look, polled, released_by}
 use Rattle.tx_script.specs.Play.{Messages, finds}
 use Rattle.tx_script.specs.AtBench.{AtBench, Matches, Obeys}
-use Rattle.tx_script.specs.Matching.{MatchesTx}
 use Rattle.tx_script.specs.declared.line.Line.TheVariants.{At}
 use Rattle.tx_script.specs.declared.outcome.Outcome.TheVariants.{Released, Refused}
 use Rattle.tx_script.specs.declared.refusal.Refusal.TheVariants.{TimeBack}
 use Rattle.tx_script.proofs.Polling.{polled_matches}
 use Rattle.tx_script.proofs.Matched.{released_many}
 use Rattle.tx_script.proofs.bench.obey_at.Goals as goal
-use Rattle.tx_script.proofs.bench.obey_at.Goals.{in-Ok+then-report+then-report-2, in-Ok+else-report, else-report-via-then-report+else-report-2, else-report-via-else-report, in-Err}
+use Rattle.tx_script.proofs.bench.obey_at.Goals.{in-Ok+then-report+then-report-2, in-Ok+else-report, else-report-via-then-report+else-report-2}
+use Rattle.tx_script.proofs.bench.obey_at.Goals.{else-report-via-else-report, in-Err}
 
 -- a poll at a moment that is not before the last one
 poll_obeys : (es : EndSystem) (new : AtBench) (moment released : ℕ) (looks : List Look) (accepted : Messages)
@@ -29,7 +28,6 @@ poll_obeys es new moment released looks accepted on many m = record {
 pub returns-clause-ok : goal.returns-clause-ok
 returns-clause-ok g c = elim c.match-poll.branch [
   | in-Ok+then-report+then-report-2 w ↦ rw w.result-is (λ accepted es m.
-      let old : Tx = c.bench.inside.emitter in
       let a : c.poll.new.self.lines.a_stands ≡ true = sym w.in-Ok.ensures.a_stands ∙ w.if-report.true in
       let b : c.poll.new.self.lines.b_stands ≡ true = sym w.in-Ok.ensures.b_stands ∙ w.if-report-2.true in
       let alive : is_alive c.poll.new.self.lines ≡ true = ap (λ (x : Bool). x || c.poll.new.self.lines.b_stands) a in
@@ -37,11 +35,13 @@ returns-clause-ok g c = elim c.match-poll.branch [
       subst (Matches accepted es) (sym c.bench.view_is) m in
       let p = polled_matches es c.bench.inside.emitter c.poll.new.self c.args.moment before.emitter (w.in-Ok.ensures.run alive)
       w.in-Ok.ensures.mirrored a b w.in-Ok.ensures.plan w.in-Ok.ensures.now in
-      let many = released_many es c.bench.inside.emitter c.poll.new.self c.args.moment p.0 w.in-Ok.report.released.items before.emitter p.1 w.in-Ok.ensures.told in
+      let many =
+      released_many es c.bench.inside.emitter c.poll.new.self c.args.moment p.0 w.in-Ok.report.released.items before.emitter p.1 w.in-Ok.ensures.told in
       let early : nat_lt c.args.moment es.moment ≡ false =
       le-ltb c.args.moment es.moment
       (let now = c.now.ensures in let last = before.emitter.moment in let on = c.if-moment-now.false in omega arith) in
-      poll_obeys es (record { tx = c.poll.new.self; ports = c.bench.inside.ports.items }) c.args.moment w.len.result p.0 accepted early (w.len.ensures.value ∙ many)
+      poll_obeys es (record { tx = c.poll.new.self; ports = c.bench.inside.ports.items }) c.args.moment w.len.result p.0
+      accepted early (w.len.ensures.value ∙ many)
       (record { emitter = p.1; own = before.own }))
   | in-Ok+else-report w ↦ elim w.else-report.branch [
     | else-report-via-then-report+else-report-2 v ↦ rw w.result-is tt

@@ -1,17 +1,12 @@
-use Rattle.std.proofs.Common.{◌≡◌, ◌<◌, ◌≤◌, ◌+◌, ℕ, List, length, get_or, set, Some, None, ap, sym, ◌∙◌, refl, subst, arith, Option}
+use Rattle.std.proofs.Common.{◌≡◌, ◌+◌, ℕ, List, length, get_or, set, Some, None, ap, sym, ◌∙◌, refl, subst, arith, Option}
 use Rattle.afdx_config.specs.Config.{Plan}
-use Rattle.afdx_tx.specs.declared.fault.Refusal.{Refusal as SendRefusal}
 use Rattle.afdx_tx.specs.declared.fault.Refusal.TheVariants as Why
 use Rattle.afdx_tx.specs.Ports.{PortView, MaySend, Accepts, Refuses}
-use Rattle.tx_script.specs.AtBench.{AtBench, IsAtHand, HaveAsked, Matches, Obeys}
-use Rattle.tx_script.specs.Play.{place_of, refusal_of}
+use Rattle.tx_script.specs.AtBench.{AtBench, HaveAsked, Matches, Obeys}
+use Rattle.tx_script.specs.Play.{place_of}
 use Rattle.tx_script.specs.declared.line.Line.TheVariants.{Send}
-use Rattle.tx_script.specs.declared.outcome.Outcome.{Outcome}
-use Rattle.tx_script.specs.declared.outcome.Outcome.TheVariants.{Accepted, Refused}
-use Rattle.tx_script.specs.declared.refusal.Refusal.{Refusal}
-use Rattle.tx_script.specs.declared.refusal.Refusal.TheVariants.{NoPort}
 use Rattle.tx_script.specs.declared.run_lines.TheConstants.{LINES_LIMIT}
-use Rattle.tx_script.proofs.AtHand.{IsSamePort, sent_at_hand, asked_more}
+use Rattle.tx_script.proofs.AtHand.{sent_at_hand, asked_more}
 use Rattle.tx_script.proofs.Sending.{IsUnsent, unsent, accepts_same, never_exhausted, place_inside, send_taken, send_refused, send_nowhere}
 use Rattle.tx_script.proofs.bench.obey_send.Goals as goal
 use Rattle.tx_script.proofs.bench.obey_send.Goals.{in-Ok, in-Err}
@@ -25,7 +20,8 @@ pub returns-in_default-clause-ok : goal.returns-in_default-clause-ok
 returns-in_default-clause-ok g c = λ accepted es m.
     send_nowhere accepted es c.args.bench.now c.args.port c.args.bytes
     (subst (λ (bench : AtBench). place_of bench.tx.plan c.args.port ≡ None) c.bench.view_is
-    (ap (λ (plan : Plan). place_of plan c.args.port) (sym c.config.ensures) ∙ sym c.port_index.ensures ∙ none_found c.port_index.result c.in_default.not-Some)) m
+    (ap (λ (plan : Plan). place_of plan c.args.port) (sym c.config.ensures) ∙ sym c.port_index.ensures
+    ∙ none_found c.port_index.result c.in_default.not-Some)) m
 
 pub invariant_of-bench : goal.invariant_of-bench
 invariant_of-bench g c =

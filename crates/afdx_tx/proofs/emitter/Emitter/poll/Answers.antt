@@ -8,7 +8,7 @@ use Rattle.afdx_tx.proofs.emitter.Emitter.poll.Goals as goal
 pub invariant_of-self : goal.invariant_of-self
 invariant_of-self g c = (
   receiving_still c.self.inside.inner.links c.poll.new.self.links c.poll.ensures.same c.self.invariant.0,
-  subst (λ (config : Plan). AreReserved config c.self.inside.rooms.items) (sym c.poll.ensures.plan) c.self.invariant.1,
+  subst (λ (plan : Plan). AreReserved plan c.self.inside.rooms.items) (sym c.poll.ensures.plan) c.self.invariant.1,
 )
 
 pub returns-clause-queues : goal.returns-clause-queues

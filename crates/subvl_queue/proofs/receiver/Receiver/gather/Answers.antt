@@ -1,8 +1,8 @@
-use Rattle.std.proofs.Common.{◌≡◌, ℕ, ◌<◌, List, refl, sym, ap, ◌∙◌, subst}
+use Rattle.std.proofs.Common.{◌≡◌, ℕ, ◌<◌, List, sym, ap, ◌∙◌, subst}
 use Rattle.crossbeam_channel.specs.Claims.{view}
 use Rattle.subvl_queue.specs.declared.rule.View.{View}
 use Rattle.subvl_queue.specs.Rule.{Fixes}
-use Rattle.subvl_queue.specs.Views.{SenderView, ReceiverView, entry, HasEvery, LacksOne}
+use Rattle.subvl_queue.specs.Views.{SenderView, ReceiverView, HasEvery, LacksOne}
 use Rattle.subvl_queue.proofs.Together.{Drained, gathers, is_whole}
 use Rattle.subvl_queue.proofs.Whole.{fixes}
 use Rattle.subvl_queue.proofs.receiver.Receiver.gather.Goals as goal
@@ -18,7 +18,8 @@ drain-requires-clause-all g c =
 
 pub returns-then-not-has_every-clause-missing : goal.returns-then-not-has_every-clause-missing
 returns-then-not-has_every-clause-missing g c =
-    subst (λ (y : ℕ × List SenderView). LacksOne y.0 y.1) (λ i. (ap (λ (r : ReceiverView). r.ports) c.self.view_is i, c.as_slice.ensures.value i)) c.if-not-has_every.ensures
+    subst (λ (y : ℕ × List SenderView). LacksOne y.0 y.1)
+    (λ i. (ap (λ (r : ReceiverView). r.ports) c.self.view_is i, c.as_slice.ensures.value i)) c.if-not-has_every.ensures
 
 pub new-requires : goal.new-requires
 new-requires g c =

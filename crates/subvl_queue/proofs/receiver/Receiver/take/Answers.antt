@@ -8,7 +8,11 @@ try_recv_as-requires-clause-rule g c =
     let may = ap (λ (v : View). v.gets) c.self.invariant.2.is in (pops _ _ may, settles _ _ may)
 
 pub invariant_of-self : goal.invariant_of-self
-invariant_of-self g c = (rw (sym c.self.invariant.1) c.try_recv_as.ensures.channel.0, c.self.invariant.1, after_taking _ _ _ _ _ _ _ c.self.invariant.2 c.in-Ok.ensures.rule)
+invariant_of-self g c = (
+  rw (sym c.self.invariant.1) c.try_recv_as.ensures.channel.0,
+  c.self.invariant.1,
+  after_taking _ _ _ _ _ _ _ c.self.invariant.2 c.in-Ok.ensures.rule,
+)
 
 pub another-requires-clause-rule : goal.another-requires-clause-rule
 another-requires-clause-rule g c = looks_again _ _ (ap (λ (v : View). v.gets) (c.in-Err.ensures.rule.0 ∙ c.self.invariant.2.is))

@@ -1,0 +1,77 @@
+-- What was accepted of each port that came back.
+use Rattle.std.proofs.Common.{ℕ, ◌≡◌, ◌<◌, List, length, arith, refl, ap, ◌∙◌, sym, subst, Option, Some, None, unwrap_or}
+use Rattle.std.specs.Prelude.{◌==◌, position}
+use Rattle.std.proofs.lemmas.List.Elements.{All-contains}
+use Rattle.std.proofs.lemmas.List.Quantifiers.{position-Some}
+use Rattle.afdx_config.specs.declared.link_plan.LinkPlan.{LinkPlan}
+use Rattle.afdx_config.specs.declared.port_plan.PortPlan.{PortPlan}
+use Rattle.afdx_config.specs.Config.{Plan, IsPlan, HasLink, link_plan_at, port_plan_at}
+use Rattle.afdx_config.specs.Plan.{SendsOver}
+use Rattle.subvl_queue.specs.Messages.{part_of}
+use Rattle.subvl_queue.specs.Views.{SenderView}
+use Rattle.afdx_tx.specs.Links.{LinkState, held_at, link_at, no_link_plan}
+use Rattle.afdx_tx.specs.Emitter.{Tx, queues_in}
+use Rattle.afdx_tx.specs.Sending.{link_of}
+use Rattle.afdx_tx.specs.Drain.{known_of}
+use Rattle.afdx_tx.specs.Ports.{PortView, BelongsTo, AreOpenedWith, index_of}
+use Rattle.afdx_tx.specs.Room.{RoomView}
+use Rattle.afdx_tx.specs.Rooms.{room_at}
+use Rattle.afdx_tx.specs.Gathering.{GathersLink, GathersLinks, IsGatheredLink, HasShape, HasSeat, HasOwnPart}
+use Rattle.afdx_tx.proofs.PortLink.{found, found_over}
+
+-- the link of a port is one of the plan, and the port sends over it
+pub link_within : (plan : Plan) (port : PortPlan) → IsPlan plan → HasLink plan.links port
+    → (link_of plan port < length plan.links) × SendsOver port (link_plan_at plan.links (link_of plan port))
+link_within plan port valid has = at (position (λ (link : LinkPlan). link.id.0 == port.vl.0) plan.links) refl
+  where
+    at : (r : Option ℕ) → position (λ (link : LinkPlan). link.id.0 == port.vl.0) plan.links ≡ r
+        → (unwrap_or r 0 < length plan.links) × SendsOver port (link_plan_at plan.links (unwrap_or r 0))
+    at None e = absurd (found plan.links port has e)
+    at (Some k) e = (
+      (position-Some (λ (link : LinkPlan). link.id.0 == port.vl.0) plan.links k no_link_plan e).0,
+      found_over plan port k valid has e,
+    )
+
+-- a gathered link is the one that it was, but for its queues
+pub link_gathered : (old : LinkState) (rooms : List RoomView) (new : LinkState) → GathersLink old rooms new
+    → IsGatheredLink old new
+link_gathered old rooms new g =
+    record {
+      same = g.same;
+      count = g.subs.count;
+      each = λ s lt. let sub = g.subs.each s lt in record { same = sub.same; queue = sub.gathers.queue };
+    }
+
+-- of the port at a place its sub-VL accepted its own list
+pub own_part : (tx new : Tx) (ports : List PortView) (rooms : List (List RoomView)) (place : ℕ) → IsPlan tx.plan
+    → HasShape tx.plan tx.links → GathersLinks tx.links rooms new.links → new.plan ≡ tx.plan → AreOpenedWith tx ports
+    → place < length tx.plan.ports → HasSeat tx.plan ports rooms place → HasOwnPart new ports place
+own_part tx new ports rooms place valid shape g same opened lt seat =
+    let port = port_plan_at tx.plan.ports place in
+    let k = link_of tx.plan port in
+    let s = port.sub in
+    let linked = link_within tx.plan port valid (valid.linked place _ lt) in
+    let link : link_of tx.plan (port_plan_at tx.plan.ports place) < length tx.links =
+    let below = linked.0 in omega (arith, shape.count) in
+    let sub : (port_plan_at tx.plan.ports place).sub < length (link_at tx.links (link_of tx.plan (port_plan_at tx.plan.ports place))).subs =
+    let below = linked.1.sub in omega (arith, shape.subs k linked.0) in
+    let gathered = (g.each k link).subs.each s sub in
+    let senders = (room_at rooms k s).senders in
+    let index = index_of tx.plan.ports place in
+    let known = known_of (held_at (link_at new.links k).subs s).seen in
+    let sender = seat.sender seat.port.sender in
+    let own = All-contains (BelongsTo tx.plan (queues_in tx.links)) ports seat.port opened seat.inside in
+    let at : seat.port.sender.port ≡ index_of tx.plan.ports place = own.index ∙ ap (index_of tx.plan.ports) seat.at in
+    let part : part_of index known ≡ seat.port.sender.own =
+    ap (λ (p : ℕ). part_of p known) (sym at)
+    ∙ ap (λ (x : SenderView). part_of x.port known) (sym sender)
+    ∙ gathered.gathers.whole.parts index seat.port.sender seat.within
+    ∙ ap (λ (x : SenderView). x.own) sender in
+    record {
+      port = seat.port;
+      inside = seat.inside;
+      at = seat.at;
+      part = subst (λ (config : Plan). part_of (index_of config.ports place)
+          (known_of (held_at (link_at new.links (link_of config (port_plan_at config.ports place))).subs
+          (port_plan_at config.ports place).sub).seen) ≡ seat.port.sender.own) (sym same) part;
+    }
