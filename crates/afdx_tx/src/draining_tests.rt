@@ -1,10 +1,8 @@
 //! Tests of sending what is left.
-ghost use Rattle.std.specs.Prelude.{◌≡◌, ◌≤◌, [], IfOk};
-ghost use Rattle.afdx_tx.specs.Emitter.{Tx};
-ghost use Rattle.afdx_tx.specs.Ports.{IsPortOfTx};
+ghost use Rattle.std.specs.Prelude.{◌≡◌, []};
 
-use crate::{Draining, Emitter, PollFault, Release, Report, TxPort, open_tx};
-use afdx_config::{VlId, demo_config};
+use crate::testing::{numbered, open_demo, send_taken};
+use crate::{Draining, PollFault, Report};
 use redundant_mux::{MemNetwork, Standing};
 use std::alloc::Global;
 use std::process::Abort;
@@ -12,36 +10,6 @@ use std::sync::Wait;
 use std::test::Fail;
 
 const NEITHER: Standing = Standing { a: false, b: false };
-
-/// The demonstration configuration over two networks, and its one port.
-fn open_demo(
-    alloc: Global,
-    a: MemNetwork,
-    b: MemNetwork,
-) -> Result<(Emitter<MemNetwork, MemNetwork>, TxPort), Fail>
-    requires a_empty { a.handed ≡ [] }
-    requires b_empty { b.handed ≡ [] }
-    requires a_new { a.failures ≡ 0 }
-    requires b_new { b.failures ≡ 0 }
-    ensures port { IfOk result (λ opened. IsPortOfTx opened.0 opened.1) }
-    ensures moment { IfOk result (λ opened. opened.0.moment ≡ 0) }
-{
-    let config = demo_config(alloc)?;
-    match open_tx(alloc, config, a, b) {
-        Ok((tx, mut ports)) => match ports.pop() {
-            Some(port) => Ok((tx, port)),
-            None => Err(Fail::from("no port")),
-        },
-        Err(_) => Err(Fail::from("no memory")),
-    }
-}
-
-/// Sends a message, which is taken. The port stays one of its emitter.
-fn send_taken<R: Abort + Wait>(rt: &R, port: &mut TxPort, bytes: Vec<u8>)
-    ensures { (tx : Tx) → IsPortOfTx tx port.old → IsPortOfTx tx port.new }
-{
-    port.send(rt, bytes).expect(rt, "taken");
-}
 
 /// Two messages of one byte are taken, and the port comes back, at first without it.
 fn gather_two<R: Abort + Wait>(
@@ -54,11 +22,10 @@ fn gather_two<R: Abort + Wait>(
     requires b_empty { b.handed ≡ [] }
     requires a_new { a.failures ≡ 0 }
     requires b_new { b.failures ≡ 0 }
-    ensures moment { IfOk result (λ draining. draining.moment ≡ 0) }
 {
     let (tx, mut port) = open_demo(alloc, a, b)?;
-    send_taken(rt, &mut port, vec![in alloc; 1]?);
-    send_taken(rt, &mut port, vec![in alloc; 2]?);
+    send_taken(rt, alloc, &mut port, &[1]);
+    send_taken(rt, alloc, &mut port, &[2]);
     let ports = vec![in alloc; port]?;
     let (tx, none) = match tx.gather(rt, Vec::new(alloc)) {
         Ok(_) => return Err(Fail::from("gathered without its port")),
@@ -71,25 +38,23 @@ fn gather_two<R: Abort + Wait>(
     }
 }
 
+/// Polls at a moment that isn't before the last one.
+fn poll_at<R: Abort + Wait>(
+    rt: &R,
+    draining: &mut Draining<MemNetwork, MemNetwork>,
+    now: u64,
+) -> Result<Report, PollFault> {
+    assert!(rt; draining.now() <= now);
+    draining.poll(rt, now)
+}
+
 /// Polls while some network stands.
 fn poll_alive<R: Abort + Wait>(
     rt: &R,
     draining: &mut Draining<MemNetwork, MemNetwork>,
     now: u64,
-) -> Report
-    requires later { draining.old.moment ≤ now }
-    ensures moment { draining.new.moment ≡ now }
-{
-    draining.poll(rt, now).expect(rt, "some network stands")
-}
-
-/// The release of the one sub-VL with this number.
-fn numbered(number: u8) -> Release {
-    Release {
-        vl: VlId(1),
-        sub: 0,
-        number,
-    }
+) -> Report {
+    poll_at(rt, draining, now).expect(rt, "some network stands")
 }
 
 #[test]
@@ -123,7 +88,7 @@ fn a_lost_frame_is_never_done(rt: HostRuntime) -> Result<(), Fail> {
     let first = poll_alive(&rt, &mut draining, 0);
     let second = poll_alive(&rt, &mut draining, 1_000);
     assert_eq!(rt; draining.is_done(), false);
-    let third = draining.poll(&rt, 2_000);
+    let third = poll_at(&rt, &mut draining, 2_000);
     assert_eq!(rt; third.err(), Some(PollFault::BothDown));
     assert_eq!(rt; draining.is_done(), false);
     assert_eq!(rt; draining.now(), 1_000);

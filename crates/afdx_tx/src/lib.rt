@@ -32,4 +32,8 @@ mod network_tests;
 #[cfg(test)]
 mod port_tests;
 #[cfg(test)]
+mod testing;
+#[cfg(test)]
 mod tests;
+#[cfg(test)]
+mod thread_tests;

@@ -1,7 +1,9 @@
+//! Tests of networks that fail.
 ghost use Rattle.std.specs.Prelude.{◌≡◌, ◌<◌, ◌≤◌, [], length, map, IfOk};
 ghost use Rattle.arrayvec.specs.ArrayVec.{array_vec_len};
 ghost use Rattle.redundant_mux.specs.Entry.{entry};
 
+use crate::testing::{poll_alive, poll_at, send_taken};
 use crate::{Emitter, PollFault, Report, TxPort, open_tx};
 use afdx_config::{Config, read_config};
 use afdx_frame::Frame;
@@ -25,12 +27,11 @@ fn six(alloc: Global) -> Result<Config, Fail> {
     read_config(alloc, SIX.as_bytes()).map_err(|_| Fail::from("a valid plan"))
 }
 
-/// Sends six messages of one byte, which are accepted.
-fn send_six<R: Abort + Wait>(rt: &R, alloc: Global, port: &mut TxPort) -> Result<(), Fail> {
+/// Sends six messages of one byte, which are taken.
+fn send_six<R: Abort + Wait>(rt: &R, alloc: Global, port: &mut TxPort) {
     for byte in 1..=6u8 {
-        port.send(rt, vec![in alloc; byte]?).expect(rt, "accepted");
+        send_taken(rt, alloc, port, &[byte]);
     }
-    Ok(())
 }
 
 /// The emitter of one link and its port, over two networks that were handed nothing.
@@ -51,18 +52,6 @@ fn open_six<A: Network + Drop, B: Network + Drop>(
         Some(port) => Ok((tx, port)),
         None => Err(Fail::from("a plan with a port")),
     }
-}
-
-/// Polls at a moment that isn't before the last one.
-fn poll_at<R: Wait, A: Network + Drop, B: Network + Drop>(
-    rt: &R,
-    tx: &mut Emitter<A, B>,
-    now: u64,
-) -> Result<Result<Report, PollFault>, Fail> {
-    if now < tx.now() {
-        return Err(Fail::from("a moment not before the last one"));
-    }
-    Ok(tx.poll(rt, now))
 }
 
 /// Asserts what the poll with this number, counted from 1, answers where A fails at hand `k` and B at
@@ -113,9 +102,9 @@ fn run_failing<R: Abort + Wait>(rt: &R, alloc: Global, k: u64, m: u64) -> Result
     let a = MemNetwork::failing_at(alloc, k);
     let b = MemNetwork::failing_at(alloc, m);
     let (mut tx, mut port) = open_six(alloc, a, b)?;
-    send_six(rt, alloc, &mut port)?;
+    send_six(rt, alloc, &mut port);
     for turn in 1..=6u64 {
-        let answer = poll_at(rt, &mut tx, 1_000 * (turn - 1))?;
+        let answer = poll_at(rt, &mut tx, 1_000 * (turn - 1));
         assert_answer(rt, turn, k, m, answer);
     }
     assert_eq!(rt; tx.now(), 1_000 * (k.max(m).min(6) - 1));
@@ -192,9 +181,9 @@ fn a_network_without_memory_fails_where_it_is_full_and_the_other_goes_on(
 ) -> Result<(), Fail> {
     let alloc = rt.alloc();
     let (mut tx, mut port) = open_six(alloc, empty_shelf(), MemNetwork::new(alloc))?;
-    send_six(&rt, alloc, &mut port)?;
+    send_six(&rt, alloc, &mut port);
     for turn in 1..=6u64 {
-        let report = poll_at(&rt, &mut tx, 1_000 * (turn - 1))?.expect(&rt, "B stands");
+        let report = poll_alive(&rt, &mut tx, 1_000 * (turn - 1));
         assert_eq!(rt; report.released.len(), 1);
         assert_eq!(rt;
             report.standing,

@@ -1,7 +1,9 @@
+//! Tests of ports, on one thread.
 ghost use Rattle.std.specs.Prelude.{◌≡◌, IfOk};
-ghost use Rattle.afdx_tx.specs.Ports.{AreOpenedWith};
+ghost use Rattle.afdx_tx.specs.Ports.{IsPortOfTx, AreOpenedWith};
 
-use crate::{Emitter, Refusal, TxPort, open_tx};
+use crate::testing::{poll_alive, send_taken};
+use crate::{Draining, Emitter, Refusal, TxPort, open_tx};
 use afdx_config::{PortId, read_config};
 use redundant_mux::MemNetwork;
 use std::alloc::Global;
@@ -43,31 +45,38 @@ max = 4
 
 type Tx = Emitter<MemNetwork, MemNetwork>;
 
-/// An emitter of these two ports.
-fn open_two(alloc: Global) -> Result<(Tx, Vec<TxPort>), Fail>
-    ensures opened { IfOk result (λ opened. AreOpenedWith opened.0 opened.1.items) }
-    ensures moment { IfOk result (λ opened. opened.0.moment ≡ 0) }
+type Drain = Draining<MemNetwork, MemNetwork>;
+
+/// An emitter of these two ports, and each of them.
+fn open_pair(alloc: Global) -> Result<(Tx, TxPort, TxPort), Fail>
+    ensures first { IfOk result (λ opened. IsPortOfTx opened.0 opened.1) }
+    ensures second { IfOk result (λ opened. IsPortOfTx opened.0 opened.2) }
 {
     let config = read_config(alloc, TWO_PORTS.as_bytes())?;
     let (a, b) = (MemNetwork::new(alloc), MemNetwork::new(alloc));
-    match open_tx(alloc, config, a, b) {
-        Ok((tx, ports)) => Ok((tx, ports)),
-        Err(_) => Err(Fail::from("no memory")),
+    let Ok((tx, mut ports)) = open_tx(alloc, config, a, b) else {
+        return Err(Fail::from("no memory"));
+    };
+    match (ports.pop(), ports.pop()) {
+        (Some(second), Some(first)) => Ok((tx, first, second)),
+        _ => Err(Fail::from("two ports")),
     }
 }
 
 /// Asserts that a message is refused, and comes back.
-fn assert_refused<R: Abort + Wait>(rt: &R, port: &mut TxPort, bytes: Vec<u8>, why: Refusal)
-    ensures plan { port.new.plan ≡ port.old.plan }
-    ensures place { port.new.place ≡ port.old.place }
-{
-    let (size, first) = (bytes.len(), bytes.first().copied());
-    match port.send(rt, bytes) {
+fn assert_refused<R: Abort + Wait>(
+    rt: &R,
+    alloc: Global,
+    port: &mut TxPort,
+    bytes: &[u8],
+    why: Refusal,
+) {
+    let message = bytes.to_vec(alloc).expect(rt, "memory");
+    match port.send(rt, message) {
         Ok(()) => panic!(rt; "taken"),
         Err(fault) => {
             assert_eq!(rt; fault.why, why);
-            assert_eq!(rt; fault.bytes.len(), size);
-            assert_eq!(rt; fault.bytes.first().copied(), first);
+            assert_eq!(rt; fault.bytes.as_slice(), bytes);
         }
     }
 }
@@ -75,49 +84,79 @@ fn assert_refused<R: Abort + Wait>(rt: &R, port: &mut TxPort, bytes: Vec<u8>, wh
 #[test]
 fn a_message_that_is_refused_comes_back(rt: HostRuntime) -> Result<(), Fail> {
     let alloc = rt.alloc();
-    let (tx, mut ports) = open_two(alloc)?;
-    assert_eq!(rt; ports.len(), 2);
-    let mut second = ports.pop().ok_or("two ports")?;
-    let mut first = ports.pop().ok_or("two ports")?;
+    let (tx, mut first, mut second) = open_pair(alloc)?;
     assert_eq!(rt; first.id(), PortId(10));
     assert_eq!(rt; second.id(), PortId(20));
-    assert_refused(&rt, &mut first, Vec::new(alloc), Refusal::Empty);
-    assert_refused(&rt, &mut second, vec![in alloc; 7; 5]?, Refusal::TooLong);
-    assert!(rt; second.send(&rt, vec![in alloc; 7; 4]?).is_ok());
-    assert!(rt; first.send(&rt, vec![in alloc; 8; 100]?).is_ok());
-    assert_refused(&rt, &mut first, vec![in alloc; 9]?, Refusal::Full);
+    assert_refused(&rt, alloc, &mut first, &[0; 0], Refusal::Empty);
+    assert_refused(&rt, alloc, &mut second, &[7; 5], Refusal::TooLong);
+    send_taken(&rt, alloc, &mut second, &[7; 4]);
+    send_taken(&rt, alloc, &mut first, &[8; 100]);
+    assert_refused(&rt, alloc, &mut first, &[9], Refusal::Full);
     assert_eq!(rt; first.accepted(), 1);
     assert_eq!(rt; second.accepted(), 1);
     drop(tx);
-    assert_refused(&rt, &mut first, vec![in alloc; 9]?, Refusal::Closed);
+    assert_refused(&rt, alloc, &mut first, &[9], Refusal::Closed);
     Ok(())
 }
 
-/// Turns the ports of an emitter round.
-fn turn_round(tx: &Tx, ports: &mut [TxPort])
-    requires opened { AreOpenedWith tx.now ports.old }
-    ensures opened { AreOpenedWith tx.now ports.new }
+/// Ports of an emitter, of which one is missing. Both come back.
+fn gather_too_few<R: Wait>(rt: &R, tx: Tx, ports: Vec<TxPort>) -> Result<(Tx, Vec<TxPort>), Fail>
+    requires opened { AreOpenedWith tx ports.items }
+    ensures tx { IfOk result (λ back. back.0 ≡ tx) }
+    ensures ports { IfOk result (λ back. back.1 ≡ ports) }
 {
-    let _tx = tx;
-    ports.reverse();
+    match tx.gather(rt, ports) {
+        Ok(_) => Err(Fail::from("gathered with a port missing")),
+        Err(back) => Ok(back),
+    }
+}
+
+/// Both ports of an emitter, the second one first.
+fn gather_pair<R: Wait>(
+    rt: &R,
+    alloc: Global,
+    tx: Tx,
+    first: TxPort,
+    second: TxPort,
+) -> Result<Drain, Fail>
+    requires first { IsPortOfTx tx first }
+    requires second { IsPortOfTx tx second }
+{
+    let ports = vec![in alloc; second, first]?;
+    match tx.gather(rt, ports) {
+        Ok(draining) => Ok(draining),
+        Err(_) => Err(Fail::from("each port is there")),
+    }
 }
 
 #[test]
 fn ports_are_gathered_in_any_order_and_not_with_one_missing(rt: HostRuntime) -> Result<(), Fail> {
     let alloc = rt.alloc();
-    let (tx, mut ports) = open_two(alloc)?;
-    let gone = match tx.gather(&rt, Vec::new(alloc)) {
-        Ok(_) => return Err(Fail::from("gathered without ports")),
-        Err((tx, none)) => {
-            assert_eq!(rt; none.len(), 0);
-            tx
-        }
-    };
-    turn_round(&gone, &mut ports);
-    let draining = match gone.gather(&rt, ports) {
-        Ok(draining) => draining,
-        Err(_) => return Err(Fail::from("not gathered")),
-    };
+    let (tx, first, second) = open_pair(alloc)?;
+    let (tx, none) = gather_too_few(&rt, tx, Vec::new(alloc))?;
+    assert_eq!(rt; none.len(), 0);
+    let draining = gather_pair(&rt, alloc, tx, first, second)?;
     assert_eq!(rt; draining.now(), 0);
+    Ok(())
+}
+
+/// Both ports send, one message goes out, and the ports come back.
+fn send_poll_and_gather<R: Abort + Wait>(rt: &R, alloc: Global) -> Result<Drain, Fail> {
+    let (mut tx, mut first, mut second) = open_pair(alloc)?;
+    send_taken(rt, alloc, &mut first, &[1, 2]);
+    send_taken(rt, alloc, &mut second, &[3]);
+    let report = poll_alive(rt, &mut tx, 0);
+    assert_eq!(rt; report.released.len(), 1);
+    gather_pair(rt, alloc, tx, first, second)
+}
+
+#[test]
+fn what_was_accepted_goes_out_after_the_ports_are_gathered(rt: HostRuntime) -> Result<(), Fail> {
+    let mut draining = send_poll_and_gather(&rt, rt.alloc())?;
+    assert_eq!(rt; draining.is_done(), false);
+    assert_eq!(rt; draining.now(), 0);
+    let report = draining.poll(&rt, 1_000).expect(&rt, "some network stands");
+    assert_eq!(rt; report.released.len(), 1);
+    assert_eq!(rt; draining.is_done(), true);
     Ok(())
 }

@@ -1,12 +1,8 @@
-ghost use Rattle.std.specs.Prelude.{◌≡◌, ◌≤◌, [], IfOk};
-ghost use Rattle.afdx_config.specs.Demo.{demo_plan};
-
-use crate::{Emitter, PollFault, Release, Report, TxPort, open_tx};
-use afdx_config::{VlId, demo_config};
+//! Tests of the demonstration configuration.
+use crate::PollFault;
+use crate::testing::{numbered, open_demo, poll_alive, poll_at, send_taken};
 use redundant_mux::{MemNetwork, Standing};
-use std::alloc::Global;
 use std::process::Abort;
-use std::sync::Wait;
 use std::test::Fail;
 
 // The first message of port 10, of the one byte 01, for network A and for network B.
@@ -30,60 +26,13 @@ const ONLY_B: Standing = Standing { a: false, b: true };
 
 const NEITHER: Standing = Standing { a: false, b: false };
 
-/// The demonstration configuration over two networks, and its one port.
-fn open_demo(
-    alloc: Global,
-    a: MemNetwork,
-    b: MemNetwork,
-) -> Result<(Emitter<MemNetwork, MemNetwork>, TxPort), Fail>
-    requires a_empty { a.handed ≡ [] }
-    requires b_empty { b.handed ≡ [] }
-    requires a_new { a.failures ≡ 0 }
-    requires b_new { b.failures ≡ 0 }
-    ensures plan { IfOk result (λ opened. opened.0.plan ≡ demo_plan) }
-    ensures moment { IfOk result (λ opened. opened.0.moment ≡ 0) }
-{
-    let config = demo_config(alloc)?;
-    match open_tx(alloc, config, a, b) {
-        Ok((tx, mut ports)) => match ports.pop() {
-            Some(port) => Ok((tx, port)),
-            None => Err(Fail::from("no port")),
-        },
-        Err(_) => Err(Fail::from("no memory")),
-    }
-}
-
-/// Sends a message, which is taken.
-fn send_taken<R: Abort + Wait>(rt: &R, port: &mut TxPort, bytes: Vec<u8>) {
-    port.send(rt, bytes).expect(rt, "taken");
-}
-
-/// Polls while some network stands.
-fn poll_alive<R: Abort + Wait>(rt: &R, tx: &mut Emitter<MemNetwork, MemNetwork>, now: u64) -> Report
-    requires plan { tx.old.plan ≡ demo_plan }
-    requires later { tx.old.moment ≤ now }
-    ensures plan { tx.new.plan ≡ demo_plan }
-    ensures moment { tx.new.moment ≡ now }
-{
-    tx.poll(rt, now).expect(rt, "some network stands")
-}
-
-/// The release of the one sub-VL with this number.
-fn numbered(number: u8) -> Release {
-    Release {
-        vl: VlId(1),
-        sub: 0,
-        number,
-    }
-}
-
 #[test]
 fn a_message_of_one_byte_goes_out_as_one_frame_on_each_network(
     rt: HostRuntime,
 ) -> Result<(), Fail> {
     let alloc = rt.alloc();
     let (mut tx, mut port) = open_demo(alloc, MemNetwork::new(alloc), MemNetwork::new(alloc))?;
-    send_taken(&rt, &mut port, vec![in alloc; 1]?);
+    send_taken(&rt, alloc, &mut port, &[1]);
     let report = poll_alive(&rt, &mut tx, 0);
     assert_eq!(rt; report.released.as_slice(), [numbered(0)].as_slice());
     assert_eq!(rt; report.standing, BOTH);
@@ -101,8 +50,8 @@ fn a_message_of_one_byte_goes_out_as_one_frame_on_each_network(
 fn a_link_releases_nothing_before_its_gap_is_over(rt: HostRuntime) -> Result<(), Fail> {
     let alloc = rt.alloc();
     let (mut tx, mut port) = open_demo(alloc, MemNetwork::new(alloc), MemNetwork::new(alloc))?;
-    send_taken(&rt, &mut port, vec![in alloc; 1]?);
-    send_taken(&rt, &mut port, vec![in alloc; 2]?);
+    send_taken(&rt, alloc, &mut port, &[1]);
+    send_taken(&rt, alloc, &mut port, &[2]);
     let first = poll_alive(&rt, &mut tx, 0);
     let early = poll_alive(&rt, &mut tx, 999);
     let second = poll_alive(&rt, &mut tx, 1_000);
@@ -129,33 +78,22 @@ fn a_network_that_fails_is_given_up_and_after_both_a_poll_does_nothing(
     let a = MemNetwork::failing_at(alloc, 3);
     let b = MemNetwork::failing_at(alloc, 6);
     let (mut tx, mut port) = open_demo(alloc, a, b)?;
-    send_taken(&rt, &mut port, vec![in alloc; 1]?);
-    send_taken(&rt, &mut port, vec![in alloc; 2]?);
-    let at_0 = poll_alive(&rt, &mut tx, 0);
-    send_taken(&rt, &mut port, vec![in alloc; 3]?);
-    let at_1000 = poll_alive(&rt, &mut tx, 1_000);
-    send_taken(&rt, &mut port, vec![in alloc; 4]?);
-    let at_2000 = poll_alive(&rt, &mut tx, 2_000);
-    send_taken(&rt, &mut port, vec![in alloc; 5]?);
-    let at_3000 = poll_alive(&rt, &mut tx, 3_000);
-    send_taken(&rt, &mut port, vec![in alloc; 6]?);
-    let at_4000 = poll_alive(&rt, &mut tx, 4_000);
-    let at_5000 = poll_alive(&rt, &mut tx, 5_000);
-    let at_6000 = tx.poll(&rt, 6_000);
-    assert_eq!(rt; at_6000.err(), Some(PollFault::BothDown));
-    assert_eq!(rt; tx.now(), 5_000);
-
-    let standing = [BOTH, BOTH, ONLY_B, ONLY_B, ONLY_B];
-    let reports = [at_0, at_1000, at_2000, at_3000, at_4000];
-    let mut number = 0;
-    for (report, standing) in reports.iter().zip(standing) {
-        assert_eq!(rt; report.released.as_slice(), [numbered(number)].as_slice());
-        assert_eq!(rt; report.standing, standing);
-        number = number.wrapping_add(1);
+    send_taken(&rt, alloc, &mut port, &[1]);
+    for (number, standing) in [BOTH, BOTH, ONLY_B, ONLY_B, ONLY_B].iter().enumerate() {
+        send_taken(&rt, alloc, &mut port, &[2]);
+        let report = poll_alive(&rt, &mut tx, 1_000 * number as u64);
+        assert_eq!(rt;
+            report.released.as_slice(),
+            [numbered(number as u8)].as_slice()
+        );
+        assert_eq!(rt; report.standing, *standing);
     }
-    assert_eq!(rt; at_5000.released.len(), 0);
-    assert_eq!(rt; at_5000.standing, NEITHER);
-
+    let last = poll_alive(&rt, &mut tx, 5_000);
+    assert_eq!(rt; last.released.len(), 0);
+    assert_eq!(rt; last.standing, NEITHER);
+    let after = poll_at(&rt, &mut tx, 6_000);
+    assert_eq!(rt; after.err(), Some(PollFault::BothDown));
+    assert_eq!(rt; tx.now(), 5_000);
     let (a, b) = tx.into_networks();
     assert_numbers(&rt, &a, &[0, 1]);
     assert_numbers(&rt, &b, &[0, 1, 2, 3, 4]);

@@ -1,8 +1,0 @@
-use Rattle.std.proofs.lemmas.List.Sorted.{All-permutation}
-use Rattle.afdx_tx.specs.Ports.{IsPortOfTx}
-use Rattle.afdx_tx.proofs.port_tests.turn_round.Goals as goal
-
-pub returns : goal.returns
-returns c = record {
-  opened = All-permutation (IsPortOfTx c.args.tx.now) _ _ c.reverse.ensures.permutation c.requires.opened;
-}
