@@ -23,10 +23,6 @@ eq_no a b h = grind (arith, nat_tests)
 from_eq : (a b : ℕ) → nat_eq a b ≡ true → a ≡ b
 from_eq a b h = grind (arith, nat_tests)
 
--- buffers that are the same for a sub
-SameFor : ℕ → (ℕ → Buffer) → (ℕ → Buffer) → Type 0
-SameFor sub xs ys = (k : ℕ) → k % 4 ≡ sub → xs k ≡ ys k
-
 -- a change of one buffer keeps them the same
 same_with : (sub key : ℕ) (b : Buffer) (xs ys : ℕ → Buffer) → ((k : ℕ) → k % 4 ≡ sub → xs k ≡ ys k)
     → (k : ℕ) → k % 4 ≡ sub → with_buffer key b xs k ≡ with_buffer key b ys k

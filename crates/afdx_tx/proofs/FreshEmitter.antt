@@ -15,9 +15,9 @@ use Rattle.vl_shaper.specs.Pace.{Pace, IsLater}
 use Rattle.vl_shaper.specs.declared.shaper.Stamp.{Stamp}
 use Rattle.afdx_tx.specs.Legal.{AreKnown}
 use Rattle.afdx_tx.specs.declared.sub_vl.SubVl.{SubVl}
-use Rattle.afdx_tx.specs.Seen.{Seen, taken_of, IsReceiving}
+use Rattle.afdx_tx.specs.Seen.{Seen, taken_of}
 use Rattle.afdx_tx.specs.Links.{Held, LinkState, link_at, no_link, held_at, no_link_plan, IsLink, sub_fragments, sent_by, taken_by}
-use Rattle.afdx_tx.specs.Emitter.{IsFreshSub, IsFreshLink, AreFreshLinks, AreLinksOf, AreReceiving, plans, ports_of_sub, IsSound, IsKept, IsTied}
+use Rattle.afdx_tx.specs.Emitter.{IsFreshSub, IsFreshLink, AreFreshLinks, AreLinksOf, plans, ports_of_sub, IsSound, IsKept, IsTied}
 use Rattle.afdx_tx.proofs.PollTurns.{plan_at_is, plans_length}
 
 -- the lines of two networks that were handed nothing
@@ -108,14 +108,6 @@ fresh_of config links f =
           (fresh.subs.each s below).ports
           ∙ ap (λ (p : LinkPlan). ports_of_sub config.ports p.id.0 s) (sym fresh.plan);
     }
-
--- the ports of every queue of a fresh emitter may send
-pub fresh_receiving : (config : Plan) (links : List LinkState) → AreFreshLinks config links (length config.links)
-    → AreReceiving links
-fresh_receiving config links f k s lt slt =
-    let fresh = f.each k (omega (arith, f.count)) in
-    let below : s < (link_plan_at config.links k).sub_vls = omega (arith, fresh.subs.count) in
-    subst IsReceiving (sym (fresh.subs.each s below).seen) tt
 
 -- a fresh emitter is sound
 pub fresh_sound : (config : Plan) (links : List LinkState) → IsPlan config

@@ -12,11 +12,10 @@ use Rattle.redundant_mux.specs.Entry.{Entry}
 use Rattle.redundant_mux.specs.Lines.{Lines, log}
 use Rattle.vl_shaper.specs.Pace.{IsLater}
 use Rattle.subvl_queue.specs.Views.{SenderView}
-use Rattle.afdx_tx.specs.Seen.{Seen, receiving, gathered, taken_of, IsGathered}
+use Rattle.afdx_tx.specs.Seen.{Seen, receiving, gathered, taken_of}
 use Rattle.afdx_tx.specs.Streams.{told, link_stream, sub_stream, told_of, IsPrefixOf}
 use Rattle.afdx_tx.specs.Links.{Held, LinkState, held_at, link_at, no_link_plan, IsLink, sent_by, taken_by, sub_fragments}
 use Rattle.afdx_tx.specs.Emitter.{plans, AreLinks, AreLinksOf, AreReceiving, IsKept, IsTied, IsBehind, IsSound, ports_of_sub, queues_in}
-use Rattle.afdx_tx.specs.Drain.{AreGathered}
 use Rattle.afdx_tx.specs.Room.{RoomView}
 use Rattle.afdx_tx.specs.Rooms.{rooms_of, room_at, AreRooms, senders_for}
 use Rattle.afdx_tx.specs.Gathering.{BecomesWhole, GathersSub, GathersLink, GathersLinks, AreFull, HasShape}
@@ -30,13 +29,6 @@ taken_same (receiving old) (gathered new) b = b.0
 taken_same (receiving old) (receiving new) b = absurd b
 taken_same (gathered old) (gathered new) b = absurd b
 taken_same (gathered old) (receiving new) b = absurd b
-
--- and the accepted messages are known whole
-now_gathered : (old new : Seen) → BecomesWhole old new → IsGathered new
-now_gathered (receiving old) (gathered new) b = tt
-now_gathered (receiving old) (receiving new) b = b
-now_gathered (gathered old) (gathered new) b = tt
-now_gathered (gathered old) (receiving new) b = b
 
 -- a sub-VL keeps all that streams are told by
 of_same : (old : Held) (senders : List SenderView) (new : Held) → GathersSub old senders new → new.of ≡ old.of
@@ -163,15 +155,6 @@ gathered_sound config old rooms new lines moment g s =
       whole = λ alive k lt. let below : k < length old = omega (arith, g.count) in
           ap (λ (l : LinkState). l.lost) (g.each k below).same ∙ s.whole alive k below;
     }
-
--- every queue is gathered
-pub gathered_all : (old : List LinkState) (rooms : List (List RoomView)) (new : List LinkState) → GathersLinks old rooms new
-    → AreGathered new
-gathered_all old rooms new g k s lt slt =
-    let below : k < length old = omega (arith, g.count) in
-    let link = g.each k below in
-    let sub : s < length (link_at old k).subs = omega (arith, link.subs.count) in
-    now_gathered (held_at (link_at old k).subs s).seen (held_at (link_at new k).subs s).seen (link.subs.each s sub).gathers.queue
 
 -- the links are as many as the configuration's, and so are their sub-VLs
 pub shape_of : (config : Plan) (links : List LinkState) → AreLinksOf config links → HasShape config links

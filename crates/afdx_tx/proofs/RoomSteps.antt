@@ -274,18 +274,6 @@ has_place config rooms place k s P at are =
     let size = holds.size in
     (many, omega arith)
 
--- or with the sender of the last
-pub has_sender : (config : Plan) (rooms : List (List RoomView)) (place k s : ℕ)
-    (P : ℕ → ℕ → ℕ → SenderView → Type 0) → IsAt config place k s → AreRooms config rooms (place + 1) P
-    → 0 < length (room_at rooms k s).senders
-has_sender config rooms place k s P at are =
-    let sub : s < (link_plan_at config.links k).sub_vls =
-    subst (λ (n : ℕ). n < (link_plan_at config.links k).sub_vls) at.sub at.over.sub in
-    let holds = are.each k s at.link sub in
-    let many = holds.count in
-    let more = seat_at config place k s at in
-    omega arith
-
 -- the port at a place, with the sender that was taken for it
 pub fresh_port : (config : Plan) (queues : List (List (Option QueueName))) (place k s : ℕ) (plan : PortPlan) (x : SenderView)
     → plan ≡ port_plan_at config.ports place → k ≡ link_of config plan → s ≡ plan.sub

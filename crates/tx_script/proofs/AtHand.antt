@@ -1,11 +1,10 @@
 -- The ports at hand: at the beginning, after a send and after a poll.
 use Rattle.std.proofs.Common.{ℕ, ◌≡◌, ◌≢◌, ◌≤◌, ◌<◌, ◌+◌, Bool, if◌then◌else◌, List, [], ◌∷◌, ◌++◌}
 use Rattle.std.proofs.Common.{length, set, get_or, refl, ap, ◌∙◌, sym, subst, arith, ⊎_elim, Option, Some}
-use Rattle.std.specs.Prelude.{All}
 use Rattle.std.proofs.lemmas.List.{length-set, get_or-set_same, get_or-set_other}
 use Rattle.std.proofs.lemmas.List.Elements.{All-set}
 use Rattle.std.proofs.lemmas.Bool.{cases_eq, eq-eqb, ne_eqb}
-use Rattle.afdx_config.specs.Config.{Plan, IsPlan, port_plan_at}
+use Rattle.afdx_config.specs.Config.{Plan, port_plan_at}
 use Rattle.afdx_config.specs.declared.port_plan.PortPlan.{PortPlan}
 use Rattle.subvl_queue.specs.Messages.{most_calls}
 use Rattle.subvl_queue.specs.Views.{QueueName, SenderView}
@@ -61,43 +60,6 @@ sent_at_hand tx ports i d new lt same h = record {
       (λ at. same.place ∙ h.placed i d at);
   calls = All-set (λ (port : PortView). port.sender.calls ≡ most_calls) ports i new (same.calls ∙ h.calls i d lt) h.calls;
 }
-
--- An emitter that was polled.
-pub polled_at_hand : (old new : Tx) (ports : List PortView) → new.plan ≡ old.plan
-    → queues_in new.links ≡ queues_in old.links → IsAtHand old ports → IsAtHand new ports
-polled_at_hand old new ports plan queues h = record {
-  valid = subst IsPlan (sym plan) h.valid;
-  many = h.many ∙ ap (λ (config : Plan). length config.ports) (sym plan);
-  opened = subst (λ (config : Plan). All (λ (port : PortView). BelongsTo config (queues_in new.links) port) ports) (sym plan)
-      (subst (λ (names : List (List (Option QueueName))).
-      All (λ (port : PortView). BelongsTo old.plan names port) ports) (sym queues) h.opened);
-  placed = h.placed;
-  calls = h.calls;
-}
-
--- Ports that were opened.
-pub fresh_at_hand : (tx : Tx) (ports : List PortView) → IsPlan tx.plan → AreFreshPorts tx ports → IsAtHand tx ports
-fresh_at_hand tx ports valid f = record {
-  valid = valid;
-  many = f.count;
-  opened = λ k d lt. belongs k d (omega (arith, f.count));
-  placed = λ k d lt. let here : IsFreshPort tx.plan (queues_in tx.links) k (get_or ports k d) =
-      f.each k d (omega (arith, f.count)) in here.at;
-  calls = λ k d lt. let here : IsFreshPort tx.plan (queues_in tx.links) k (get_or ports k d) =
-      f.each k d (omega (arith, f.count)) in ap (λ (sender : SenderView). sender.calls) here.sender.is;
-}
-  where
-    belongs : (k : ℕ) (d : PortView) → k < length tx.plan.ports
-        → BelongsTo tx.plan (queues_in tx.links) (get_or ports k d)
-    belongs k d lt =
-        let here : IsFreshPort tx.plan (queues_in tx.links) k (get_or ports k d) = f.each k d lt in
-        record {
-          within = subst (λ (place : ℕ). place < length tx.plan.ports) (sym here.at) lt;
-          plan = here.plan ∙ ap (λ (place : ℕ). port_plan_at tx.plan.ports place) (sym here.at);
-          queue = here.sender.of;
-          index = ap (λ (sender : SenderView). sender.port) here.sender.is
-              ∙ ap (λ (place : ℕ). index_of tx.plan.ports place) (sym here.at);
-        }
 
 -- None of them asked.
 pub fresh_asked : (tx : Tx) (ports : List PortView) → AreFreshPorts tx ports → HaveAsked 0 ports
