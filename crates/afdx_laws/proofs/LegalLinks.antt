@@ -10,8 +10,8 @@ use Rattle.afdx_frame.specs.declared.net.Net.{Net}
 use Rattle.afdx_frame.specs.declared.net.Net.TheVariants.{A, B}
 use Rattle.afdx_frame.specs.Fragments.{Sent}
 use Rattle.redundant_mux.specs.Entry.{Entry}
-use Rattle.afdx_tx.specs.Streams.{link_stream}
-use Rattle.afdx_tx.specs.Legal.{Accepted, IsLegalOn, IsLegal}
+use Rattle.afdx_legal.specs.Streams.{link_stream}
+use Rattle.afdx_legal.specs.Legal.{Accepted, IsLegalOn, IsLegal}
 use Rattle.afdx_laws.specs.Messages.{IsSent, IsLinkOf}
 use Rattle.afdx_laws.specs.Handed.{AreTwins, IsHanded, AreHanded}
 use Rattle.afdx_laws.specs.Plans.{id_at, room_at, frames_of, IsAllowed, LegalArrive, LegalDespiteLoss}

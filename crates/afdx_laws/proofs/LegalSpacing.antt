@@ -13,8 +13,8 @@ use Rattle.afdx_frame.specs.Fragments.{blanked}
 use Rattle.afdx_frame.specs.Header.{link_in, sub_in}
 use Rattle.redundant_mux.specs.Entry.{Entry}
 use Rattle.vl_shaper.specs.declared.shaper.Stamp.{Stamp}
-use Rattle.afdx_tx.specs.Streams.{link_stream, sub_stream, on_link, on_sub, told, told_of, stamp_of, IsSpaced as AreSpaced}
-use Rattle.afdx_tx.specs.Legal.{Accepted, IsKnown, AreKnown, IsLegalOn}
+use Rattle.afdx_legal.specs.Streams.{link_stream, sub_stream, on_link, on_sub, told, told_of, stamp_of, IsSpaced as AreSpaced}
+use Rattle.afdx_legal.specs.Legal.{Accepted, IsKnown, AreKnown, IsLegalOn}
 use Rattle.afdx_laws.specs.Messages.{IsSent}
 use Rattle.afdx_laws.specs.Networks.{IsLong}
 use Rattle.afdx_laws.specs.Spacing.{Released, IsSpaced, IsUpTo}

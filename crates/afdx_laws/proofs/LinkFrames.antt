@@ -14,8 +14,8 @@ use Rattle.afdx_frame.specs.Twin.{twin_of}
 use Rattle.afdx_frame.proofs.Twins.{twin_same, twin_link}
 use Rattle.redundant_mux.specs.Entry.{Entry}
 use Rattle.redundant_mux.specs.Lines.{side}
-use Rattle.afdx_tx.specs.Streams.{link_stream, on_link, on_sub, told, IsNumbered as IsNumberedFrom, sub_stream as entries_of_sub}
-use Rattle.afdx_tx.specs.Legal.{AreKnown}
+use Rattle.afdx_legal.specs.Streams.{link_stream, on_link, on_sub, told, IsNumbered as IsNumberedFrom, sub_stream as entries_of_sub}
+use Rattle.afdx_legal.specs.Legal.{AreKnown}
 use Rattle.afdx_laws.specs.Networks.{IsLong}
 use Rattle.afdx_laws.specs.Messages.{sub_stream}
 use Rattle.afdx_laws.specs.Handed.{IsOwn, AreTwins}

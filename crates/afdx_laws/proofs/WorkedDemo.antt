@@ -16,8 +16,8 @@ use Rattle.afdx_frame.specs.Cutting.{cutting}
 use Rattle.afdx_frame.specs.Fragments.{fragments, fragments_at}
 use Rattle.afdx_frame.specs.Frame.{addresses, header_front, internet_header, link_header, udp_header, datagram, unnumbered}
 use Rattle.afdx_frame.specs.Header.{sub_in}
-use Rattle.afdx_tx.specs.Streams.{link_stream, told_of, IsNumbered, IsSpaced, IsPrefixOf}
-use Rattle.afdx_tx.specs.Legal.{IsKnown, IsLegalOn, AreTwins}
+use Rattle.afdx_legal.specs.Streams.{link_stream, told_of, IsNumbered, IsSpaced, IsPrefixOf}
+use Rattle.afdx_legal.specs.Legal.{IsKnown, IsLegalOn, AreTwins}
 use Rattle.afdx_laws.specs.Handed.{AreCarriedOf}
 use Rattle.afdx_laws.specs.Spacing.{IsOnItsWay}
 use Rattle.afdx_laws.specs.Plans.{IsAllowed, frames_of, released_of}

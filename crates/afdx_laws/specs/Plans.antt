@@ -9,8 +9,8 @@ use Rattle.afdx_frame.specs.declared.net.Net.{Net}
 use Rattle.afdx_frame.specs.Header.{number_in}
 use Rattle.afdx_frame.specs.Fragments.{Sent}
 use Rattle.redundant_mux.specs.Entry.{Entry}
-use Rattle.afdx_tx.specs.Streams.{link_stream}
-use Rattle.afdx_tx.specs.Legal.{Accepted, IsLegalOn, IsLegal}
+use Rattle.afdx_legal.specs.Streams.{link_stream}
+use Rattle.afdx_legal.specs.Legal.{Accepted, IsLegalOn, IsLegal}
 use Rattle.afdx_laws.specs.Policer.{Charge, Rule, Passage, arrival, full, passed}
 use Rattle.afdx_laws.specs.Spacing.{Released, IsOnItsWay}
 use Rattle.afdx_laws.specs.Receiver.{Tolerance, IsFitFor, begin, received, carried}

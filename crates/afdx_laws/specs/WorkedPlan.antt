@@ -10,7 +10,7 @@ use Rattle.afdx_frame.specs.Cutting.{piece_at}
 use Rattle.afdx_frame.specs.Frame.{frame_of}
 use Rattle.afdx_frame.specs.Fragments.{Sent}
 use Rattle.redundant_mux.specs.Entry.{Entry, entry}
-use Rattle.afdx_tx.specs.Legal.{Accepted, IsLegal}
+use Rattle.afdx_legal.specs.Legal.{Accepted, IsLegal}
 use Rattle.afdx_laws.specs.Handed.{AreCarriedOf}
 use Rattle.afdx_laws.specs.Policer.{Passage}
 use Rattle.afdx_laws.specs.Spacing.{IsOnItsWay}

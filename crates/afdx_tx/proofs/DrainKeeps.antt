@@ -10,12 +10,13 @@ use Rattle.afdx_frame.specs.declared.net.Net.{Net}
 use Rattle.afdx_frame.specs.declared.net.Net.TheVariants.{A, B}
 use Rattle.afdx_frame.specs.Fragments.{fragments}
 use Rattle.redundant_mux.specs.Entry.{Entry}
-use Rattle.afdx_tx.specs.Seen.{Seen, receiving, gathered, IsGathered, IsSameQueue}
-use Rattle.afdx_tx.specs.Streams.{told_of, IsPrefixOf}
-use Rattle.afdx_tx.specs.Legal.{IsLegalOn, IsLegal}
-use Rattle.afdx_tx.specs.Links.{Held, LinkState, held_at, link_at, nothing_held, no_link, sent_by, IsSameSub}
+use Rattle.vl_link.specs.Seen.{Seen, receiving, gathered, IsGathered, IsSameQueue}
+use Rattle.afdx_legal.specs.Streams.{told_of, IsPrefixOf}
+use Rattle.afdx_legal.specs.Legal.{IsLegalOn, IsLegal}
+use Rattle.vl_link.specs.Links.{Held, LinkState, held_at, link_at, nothing_held, no_link, sent_by, IsSameSub}
 use Rattle.afdx_tx.specs.Emitter.{IsSamePlan, taken_in}
-use Rattle.afdx_tx.specs.Drain.{AreGathered, known_of, accepted_by, accepted_in}
+use Rattle.afdx_tx.specs.Drain.{AreGathered, accepted_by, accepted_in}
+use Rattle.vl_link.specs.Seen.{known_of}
 use Rattle.afdx_tx.proofs.OwedFragments.{owed_split, untaken}
 
 -- the same queue is still gathered

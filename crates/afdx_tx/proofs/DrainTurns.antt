@@ -13,19 +13,19 @@ use Rattle.redundant_mux.specs.Entry.{Entry}
 use Rattle.redundant_mux.specs.Lines.{Lines, log}
 use Rattle.vl_shaper.specs.declared.shaper.Stamp.{Stamp}
 use Rattle.vl_shaper.specs.Pace.{Pace, turn_of}
-use Rattle.afdx_tx.specs.declared.served.Served.{Served}
-use Rattle.afdx_tx.specs.declared.served.Served.TheVariants.{Nothing, Released, Lost}
-use Rattle.afdx_tx.specs.declared.sub_vl.SubVl.{SubVl}
-use Rattle.afdx_tx.specs.Seen.{IsGathered}
-use Rattle.afdx_tx.specs.Streams.{link_stream}
-use Rattle.afdx_tx.specs.Legal.{Accepted}
-use Rattle.afdx_tx.specs.Links.{Held, LinkState, held_at, link_at, no_link, IsChoice, PassedOver, Asks, Picks, Serves, pace_of}
+use Rattle.vl_link.specs.declared.served.Served.{Served}
+use Rattle.vl_link.specs.declared.served.Served.TheVariants.{Nothing, Released, Lost}
+use Rattle.vl_link.specs.declared.sub_vl.SubVl.{SubVl}
+use Rattle.vl_link.specs.Seen.{IsGathered}
+use Rattle.afdx_legal.specs.Streams.{link_stream}
+use Rattle.afdx_legal.specs.Legal.{Accepted}
+use Rattle.vl_link.specs.Links.{Held, LinkState, held_at, link_at, no_link, IsChoice, PassedOver, Asks, Picks, Serves, pace_of}
 use Rattle.afdx_tx.specs.Run.{IsTurn, IsRun, IsCutShort}
 use Rattle.afdx_tx.specs.Emitter.{AreLinksOf, plans, plan_of}
 use Rattle.afdx_tx.specs.Drain.{AreGathered, accepted_in, pace_in, IsLinkDone, IsNext, Drains, AreDrained, IsDrained, IsDrainCutShort}
-use Rattle.afdx_tx.proofs.LinkTurn.{IsOwn}
+use Rattle.vl_link.proofs.LinkTurn.{IsOwn}
 use Rattle.afdx_tx.proofs.SoundEmitter.{plan_is, count_is}
-use Rattle.afdx_tx.proofs.SubInStep.{chosen_same}
+use Rattle.vl_link.proofs.SubInStep.{chosen_same}
 use Rattle.afdx_tx.proofs.OwedFragments.{Stands, stands_of, lists_of, passed_released, asked_owes}
 
 -- each turn is of a sub-VL

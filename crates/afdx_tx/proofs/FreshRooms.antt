@@ -7,12 +7,13 @@ use Rattle.afdx_config.specs.declared.link_plan.LinkPlan.{LinkPlan}
 use Rattle.afdx_config.specs.declared.port_plan.PortPlan.{PortPlan}
 use Rattle.afdx_config.specs.Config.{Plan, link_plan_at}
 use Rattle.subvl_queue.specs.Views.{QueueName, SenderView}
-use Rattle.afdx_tx.specs.Seen.{queue_of}
-use Rattle.afdx_tx.specs.Links.{Held, LinkState, held_at, link_at, nothing_held, no_link}
+use Rattle.vl_link.specs.Seen.{queue_of}
+use Rattle.vl_link.specs.Links.{Held, LinkState, held_at, link_at, nothing_held, no_link}
 use Rattle.afdx_tx.specs.Emitter.{ports_of_sub, queues_in, IsFreshSub, AreFreshSubs}
 use Rattle.afdx_tx.specs.Ports.{queue_at, IsFreshSender}
-use Rattle.afdx_tx.specs.Room.{RoomView}
-use Rattle.afdx_tx.specs.Rooms.{no_room, room_in, rooms_of, room_at, Holds, AreRooms, AreReserved, IsFreshRoom, AreFreshRooms, fresh_for}
+use Rattle.vl_link.specs.Room.{RoomView}
+use Rattle.vl_link.specs.Room.{no_room, room_in}
+use Rattle.afdx_tx.specs.Rooms.{rooms_of, room_at, Holds, AreRooms, AreReserved, IsFreshRoom, AreFreshRooms, fresh_for}
 
 -- the queue of a sub-VL, as the list of all queues has it
 pub queue_at_is : (links : List LinkState) (k s : ℕ)

@@ -12,13 +12,15 @@ use Rattle.redundant_mux.specs.Entry.{Entry}
 use Rattle.redundant_mux.specs.Lines.{Lines, log}
 use Rattle.vl_shaper.specs.Pace.{IsLater}
 use Rattle.subvl_queue.specs.Views.{SenderView}
-use Rattle.afdx_tx.specs.Seen.{Seen, receiving, gathered, taken_of}
-use Rattle.afdx_tx.specs.Streams.{told, link_stream, sub_stream, told_of, IsPrefixOf}
-use Rattle.afdx_tx.specs.Links.{Held, LinkState, held_at, link_at, no_link_plan, IsLink, sent_by, taken_by, sub_fragments}
-use Rattle.afdx_tx.specs.Emitter.{plans, AreLinks, AreLinksOf, AreReceiving, IsKept, IsTied, IsBehind, IsSound, ports_of_sub, queues_in}
-use Rattle.afdx_tx.specs.Room.{RoomView}
+use Rattle.vl_link.specs.Seen.{Seen, receiving, gathered, taken_of}
+use Rattle.afdx_legal.specs.Streams.{told, link_stream, sub_stream, told_of, IsPrefixOf}
+use Rattle.vl_link.specs.Links.{Held, LinkState, held_at, link_at, no_link_plan, IsLink, sent_by, taken_by, sub_fragments}
+use Rattle.afdx_tx.specs.Emitter.{plans, AreLinks, AreLinksOf, AreReceiving, IsSound, ports_of_sub, queues_in}
+use Rattle.vl_link.specs.Kept.{IsKept, IsTied, IsBehind}
+use Rattle.vl_link.specs.Room.{RoomView}
 use Rattle.afdx_tx.specs.Rooms.{rooms_of, room_at, AreRooms, senders_for}
-use Rattle.afdx_tx.specs.Gathering.{BecomesWhole, GathersSub, GathersLink, GathersLinks, AreFull, HasShape}
+use Rattle.vl_link.specs.LinkGathering.{BecomesWhole, GathersSub, GathersLink}
+use Rattle.afdx_tx.specs.Gathering.{GathersLinks, AreFull, HasShape}
 use Rattle.afdx_tx.proofs.PollTurns.{plan_at_is, plans_length}
 use Rattle.afdx_tx.proofs.SoundEmitter.{plan_is, count_is}
 use Rattle.afdx_tx.proofs.FreshRooms.{queue_at_is}

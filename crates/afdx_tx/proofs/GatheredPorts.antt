@@ -9,14 +9,15 @@ use Rattle.afdx_config.specs.Config.{Plan, IsPlan, HasLink, link_plan_at, port_p
 use Rattle.afdx_config.specs.Plan.{SendsOver}
 use Rattle.subvl_queue.specs.Messages.{part_of}
 use Rattle.subvl_queue.specs.Views.{SenderView}
-use Rattle.afdx_tx.specs.Links.{LinkState, held_at, link_at, no_link_plan}
+use Rattle.vl_link.specs.Links.{LinkState, held_at, link_at, no_link_plan}
 use Rattle.afdx_tx.specs.Emitter.{Tx, queues_in}
 use Rattle.afdx_tx.specs.Sending.{link_of}
-use Rattle.afdx_tx.specs.Drain.{known_of}
+use Rattle.vl_link.specs.Seen.{known_of}
 use Rattle.afdx_tx.specs.Ports.{PortView, BelongsTo, AreOpenedWith, index_of}
-use Rattle.afdx_tx.specs.Room.{RoomView}
+use Rattle.vl_link.specs.Room.{RoomView}
 use Rattle.afdx_tx.specs.Rooms.{room_at}
-use Rattle.afdx_tx.specs.Gathering.{GathersLink, GathersLinks, IsGatheredLink, HasShape, HasSeat, HasOwnPart}
+use Rattle.vl_link.specs.LinkGathering.{GathersLink}
+use Rattle.afdx_tx.specs.Gathering.{GathersLinks, IsGatheredLink, HasShape, HasSeat, HasOwnPart}
 use Rattle.afdx_tx.proofs.PortLink.{found, found_over}
 
 -- the link of a port is one of the plan, and the port sends over it

@@ -1,12 +1,3 @@
-pub mod FragmentsLeft
-pub mod Choosing
-pub mod LongerStream
-pub mod MirroredLines
-pub mod QueueLooks
-pub mod SubInStep
-pub mod PaceOfStream
-pub mod ChosenSub
-pub mod LinkTurn
 pub mod PollTurns
 pub mod ToldReleases
 pub mod LegalLists
@@ -21,6 +12,5 @@ pub mod RoomSteps
 pub mod FreshRooms
 pub mod OwnPorts
 pub mod SeatSteps
-pub mod FromLast
 pub mod GatheredEmitter
 pub mod GatheredPorts

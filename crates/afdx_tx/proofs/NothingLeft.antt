@@ -4,13 +4,15 @@ use Rattle.afdx_config.specs.Config.{Plan, link_plan_at}
 use Rattle.afdx_config.specs.declared.link_plan.LinkPlan.{LinkPlan}
 use Rattle.redundant_mux.specs.Entry.{Entry}
 use Rattle.redundant_mux.specs.Lines.{Lines, log}
-use Rattle.afdx_tx.specs.declared.sub_vl.SubVl.{SubVl}
-use Rattle.afdx_tx.specs.Seen.{Seen, receiving, gathered, IsGathered, TellsDrained}
-use Rattle.afdx_tx.specs.Links.{Held, LinkState, held_at, link_at, sub_fragments, taken_by}
-use Rattle.afdx_tx.specs.Emitter.{IsKept, IsSound}
+use Rattle.vl_link.specs.declared.sub_vl.SubVl.{SubVl}
+use Rattle.vl_link.specs.Seen.{Seen, receiving, gathered, IsGathered, TellsDrained}
+use Rattle.vl_link.specs.Links.{Held, LinkState, held_at, link_at, sub_fragments, taken_by}
+use Rattle.vl_link.specs.Kept.{IsKept}
+use Rattle.afdx_tx.specs.Emitter.{IsSound}
 use Rattle.afdx_tx.specs.Drain.{AreGathered, accepted_in, Owes, IsReleased, IsLinkDone, IsAllDone}
-use Rattle.afdx_tx.specs.Done.{TellsSubDone, HasSubLeft, TellsLinkDone, TellsAllDone}
-use Rattle.afdx_tx.proofs.LinkTurn.{IsOwn}
+use Rattle.vl_link.specs.LinkDone.{TellsSubDone, HasSubLeft, TellsLinkDone}
+use Rattle.afdx_tx.specs.Done.{TellsAllDone}
+use Rattle.vl_link.proofs.LinkTurn.{IsOwn}
 use Rattle.afdx_tx.proofs.SoundEmitter.{plan_is, count_is}
 use Rattle.afdx_tx.proofs.OwedFragments.{rest_of, Stands, stands_of, lists_of, all_released, owes_taken, owes_rest, owes_not}
 use Rattle.afdx_tx.proofs.DrainTurns.{IsLinkGathered}

@@ -7,14 +7,15 @@ use Rattle.afdx_frame.specs.declared.net.Net.{Net}
 use Rattle.afdx_frame.specs.declared.net.Net.TheVariants.{A}
 use Rattle.afdx_frame.specs.Fragments.{Sent, fragments, fragments_at, fragments_from}
 use Rattle.redundant_mux.specs.Entry.{Entry}
-use Rattle.afdx_tx.specs.declared.sub_vl.SubVl.{SubVl}
-use Rattle.afdx_tx.specs.Seen.{Seen, receiving, gathered, taken_of, FindsNothing, Finds, IsGathered}
-use Rattle.afdx_tx.specs.Streams.{told_of}
-use Rattle.afdx_tx.specs.Links.{Held, LinkState, held_at, GoesOn, Starts, Asks, sent_of, sent_by, taken_by, sub_fragments}
-use Rattle.afdx_tx.specs.Emitter.{IsLinkTied}
-use Rattle.afdx_tx.specs.Drain.{known_of, accepted_by, IsReleased, Owes}
-use Rattle.afdx_tx.proofs.FragmentsLeft.{fragments_some}
-use Rattle.afdx_tx.proofs.LinkTurn.{IsOwn}
+use Rattle.vl_link.specs.declared.sub_vl.SubVl.{SubVl}
+use Rattle.vl_link.specs.Seen.{Seen, receiving, gathered, taken_of, FindsNothing, Finds, IsGathered}
+use Rattle.afdx_legal.specs.Streams.{told_of}
+use Rattle.vl_link.specs.Links.{Held, LinkState, held_at, GoesOn, Starts, Asks, sent_of, sent_by, taken_by, sub_fragments}
+use Rattle.vl_link.specs.Kept.{IsLinkTied}
+use Rattle.vl_link.specs.Seen.{known_of}
+use Rattle.afdx_tx.specs.Drain.{accepted_by, IsReleased, Owes}
+use Rattle.vl_link.proofs.FragmentsLeft.{fragments_some}
+use Rattle.vl_link.proofs.LinkTurn.{IsOwn}
 
 -- what is known to be left of a queue
 abbrev pub rest_of : Seen → List (ℕ × List ℕ)

@@ -7,8 +7,8 @@ use Rattle.afdx_config.specs.declared.identifiers.VlId.{VlId}
 use Rattle.afdx_config.specs.declared.port_plan.PortPlan.{PortPlan}
 use Rattle.afdx_config.specs.Config.{Plan, IsPlan}
 use Rattle.afdx_config.specs.Plan.{IsPort}
-use Rattle.afdx_tx.specs.declared.sub_vl.SubVl.{SubVl}
-use Rattle.afdx_tx.specs.Subs.{IsPortOf}
+use Rattle.vl_link.specs.declared.sub_vl.SubVl.{SubVl}
+use Rattle.vl_link.specs.Subs.{IsPortOf}
 use Rattle.afdx_tx.specs.Emitter.{ports_of_sub}
 
 -- they are few

@@ -9,16 +9,17 @@ use Rattle.afdx_frame.specs.declared.net.Net.TheVariants.{A}
 use Rattle.redundant_mux.specs.Entry.{Entry, entry}
 use Rattle.redundant_mux.specs.Lines.{Lines, log, is_alive, IsMirrored}
 use Rattle.vl_shaper.specs.Pace.{Pace, IsLater}
-use Rattle.afdx_tx.specs.declared.served.Served.{Served}
-use Rattle.afdx_tx.specs.declared.served.Served.TheVariants.{Nothing, Released, Lost}
-use Rattle.afdx_tx.specs.Legal.{IsKnown, AreKnown}
-use Rattle.afdx_tx.specs.Links.{LinkState, link_at, held_at, no_link, no_link_plan, Serves, IsSameLink, is_lost}
+use Rattle.vl_link.specs.declared.served.Served.{Served}
+use Rattle.vl_link.specs.declared.served.Served.TheVariants.{Nothing, Released, Lost}
+use Rattle.afdx_legal.specs.Legal.{IsKnown, AreKnown}
+use Rattle.vl_link.specs.Links.{LinkState, link_at, held_at, no_link, no_link_plan, Serves, IsSameLink, is_lost}
 use Rattle.afdx_tx.specs.Run.{IsTurn, IsRun, IsCutShort}
-use Rattle.afdx_tx.specs.Emitter.{plan_of, plans, AreApart, IsKept, IsSamePlan}
+use Rattle.afdx_tx.specs.Emitter.{plan_of, plans, AreApart, IsSamePlan}
+use Rattle.vl_link.specs.Kept.{IsKept}
 use Rattle.afdx_tx.specs.Serving.{IsSteady, IsServing}
-use Rattle.afdx_tx.proofs.LinkTurn.{Turned, IsOwn, link_turn, kept_turn, other_stream, kept_stream, released_known, picked_of}
-use Rattle.afdx_tx.proofs.SubInStep.{same_sub_on}
-use Rattle.afdx_tx.specs.declared.sub_vl.SubVl.{SubVl}
+use Rattle.vl_link.proofs.LinkTurn.{Turned, IsOwn, link_turn, kept_turn, other_stream, kept_stream, released_known, picked_of}
+use Rattle.vl_link.proofs.SubInStep.{same_sub_on}
+use Rattle.vl_link.specs.declared.sub_vl.SubVl.{SubVl}
 
 -- the turn, with the regulation read off the stream
 turn_shown : (now : ℕ) (did : Served) (link new : LinkState) (lines after : Lines)

@@ -9,7 +9,7 @@ use Rattle.afdx_config.specs.declared.link_plan.LinkPlan.{LinkPlan}
 use Rattle.afdx_config.specs.declared.port_plan.PortPlan.{PortPlan}
 use Rattle.afdx_config.specs.Plan.{SendsOver}
 use Rattle.afdx_config.specs.Config.{Plan, IsPlan, HasLink, link_plan_at}
-use Rattle.afdx_tx.specs.Links.{no_link_plan}
+use Rattle.vl_link.specs.Links.{no_link_plan}
 
 -- whether a link is the port's
 abbrev is_its : PortPlan → LinkPlan → Bool

@@ -12,8 +12,9 @@ use Rattle.subvl_queue.specs.Views.{QueueName, SenderView}
 use Rattle.afdx_tx.specs.Emitter.{ports_of_sub}
 use Rattle.afdx_tx.specs.Ports.{index_of, queue_at, IsFreshSender, IsFreshPort}
 use Rattle.afdx_tx.specs.Sending.{link_of}
-use Rattle.afdx_tx.specs.Room.{RoomView}
-use Rattle.afdx_tx.specs.Rooms.{no_room, room_in, rooms_of, room_at, Holds, AreRooms, fresh_for}
+use Rattle.vl_link.specs.Room.{RoomView}
+use Rattle.vl_link.specs.Room.{no_room, room_in}
+use Rattle.afdx_tx.specs.Rooms.{rooms_of, room_at, Holds, AreRooms, fresh_for}
 
 -- whether a port is of a sub-VL
 abbrev on_sub_vl : ℕ → ℕ → PortPlan → Bool

@@ -10,8 +10,9 @@ use Rattle.afdx_config.specs.Config.{Plan, port_plan_at}
 use Rattle.subvl_queue.specs.Views.{QueueName, SenderView}
 use Rattle.afdx_tx.specs.Sending.{link_of}
 use Rattle.afdx_tx.specs.Ports.{PortView, HasPlace, BelongsTo, queue_at, index_of}
-use Rattle.afdx_tx.specs.Room.{RoomView}
-use Rattle.afdx_tx.specs.Rooms.{room_in, rooms_of, room_at, IsSenderOf}
+use Rattle.vl_link.specs.Room.{RoomView}
+use Rattle.vl_link.specs.Room.{room_in}
+use Rattle.afdx_tx.specs.Rooms.{rooms_of, room_at, IsSenderOf}
 use Rattle.afdx_tx.specs.Gathering.{HasSeat}
 use Rattle.afdx_tx.proofs.RoomSteps.{this_link, other_link, other_room}
 

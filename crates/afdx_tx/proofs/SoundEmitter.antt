@@ -1,5 +1,5 @@
 -- An emitter after its links had their turns.
-use Rattle.std.proofs.Common.{ℕ, ◌≡◌, ◌<◌, ◌≤◌, List, [], true, length, arith, ap, ◌∙◌, sym, subst, None}
+use Rattle.std.proofs.Common.{ℕ, ◌≡◌, ◌<◌, List, [], true, length, arith, ap, ◌∙◌, sym, subst, None}
 use Rattle.std.proofs.lemmas.List.{ext_get_or, get_or-map, length-map}
 use Rattle.afdx_config.specs.declared.link_plan.LinkPlan.{LinkPlan}
 use Rattle.afdx_config.specs.Config.{Plan, IsPlan, link_plan_at}
@@ -8,14 +8,14 @@ use Rattle.afdx_config.specs.Room.{room_of}
 use Rattle.afdx_frame.specs.declared.net.Net.TheVariants.{A}
 use Rattle.afdx_frame.specs.Fragments.{fragments}
 use Rattle.redundant_mux.specs.Lines.{Lines, log, is_alive}
-use Rattle.afdx_tx.specs.Streams.{link_stream, told_of, IsNumbered, IsSpaced, IsPrefixOf}
-use Rattle.afdx_tx.specs.Legal.{AreKnown, IsLegal}
-use Rattle.afdx_tx.specs.Links.{LinkState, link_at, no_link, held_at, nothing_held, no_link_plan, IsSameLink}
+use Rattle.afdx_legal.specs.Streams.{link_stream, told_of, IsNumbered, IsSpaced, IsPrefixOf}
+use Rattle.afdx_legal.specs.Legal.{AreKnown, IsLegal}
+use Rattle.vl_link.specs.Links.{LinkState, link_at, no_link, held_at, nothing_held, no_link_plan, IsSameLink}
 use Rattle.afdx_tx.specs.Emitter.{plans, AreLinks, AreApart, AreLinksOf, AreWhole, AreReceiving, IsSamePlan, IsSound, taken_in, held_queue, link_queues, queues_in, ports_of_sub}
 use Rattle.afdx_tx.specs.Serving.{IsSteady}
 use Rattle.afdx_tx.proofs.LegalLists.{legal_of}
 use Rattle.afdx_tx.proofs.PollTurns.{plan_at_is, plans_length}
-use Rattle.afdx_tx.proofs.QueueLooks.{still_receiving, same_name}
+use Rattle.vl_link.proofs.QueueLooks.{still_receiving, same_name}
 
 -- the plans stay the same
 pub same_plans : (old new : List LinkState) → IsSamePlan old new → plans new ≡ plans old

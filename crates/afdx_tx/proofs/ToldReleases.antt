@@ -5,13 +5,13 @@ use Rattle.afdx_config.specs.declared.identifiers.VlId.{VlId}
 use Rattle.afdx_frame.specs.Header.{sub_in, number_in}
 use Rattle.redundant_mux.specs.Entry.{Entry, entry}
 use Rattle.redundant_mux.specs.Lines.{Lines, log}
-use Rattle.afdx_tx.specs.declared.served.Served.{Served}
-use Rattle.afdx_tx.specs.declared.served.Served.TheVariants.{Nothing, Released, Lost}
+use Rattle.vl_link.specs.declared.served.Served.{Served}
+use Rattle.vl_link.specs.declared.served.Served.TheVariants.{Nothing, Released, Lost}
 use Rattle.afdx_tx.specs.declared.report.Release.{Release}
-use Rattle.afdx_tx.specs.declared.sub_vl.SubVl.{SubVl}
-use Rattle.afdx_tx.specs.Links.{LinkState}
+use Rattle.vl_link.specs.declared.sub_vl.SubVl.{SubVl}
+use Rattle.vl_link.specs.Links.{LinkState}
 use Rattle.afdx_tx.specs.Report.{release_of, released_by, IsTold}
-use Rattle.afdx_tx.proofs.LinkTurn.{Turned, IsOwn, picked_of}
+use Rattle.vl_link.proofs.LinkTurn.{Turned, IsOwn, picked_of}
 
 -- where nothing entered nothing more is told
 told_same : (now : ℕ) (rs : List Release) (before lines after : Lines) → log after ≡ log lines

@@ -11,23 +11,17 @@ use Rattle.afdx_frame.specs.Header.{IsFrameOf}
 use Rattle.redundant_mux.specs.Entry.{Entry, entry}
 use Rattle.redundant_mux.specs.Lines.{Lines, log, is_alive}
 use Rattle.vl_shaper.specs.Pace.{Pace, is_due, turn_of}
-use Rattle.subvl_queue.specs.Views.{accepted_of}
-use Rattle.afdx_tx.specs.declared.served.Served.{Served}
-use Rattle.afdx_tx.specs.declared.served.Served.TheVariants.{Nothing, Released, Lost}
-use Rattle.afdx_tx.specs.Seen.{Seen, receiving, gathered, IsGathered}
-use Rattle.afdx_tx.specs.Streams.{link_stream, told_of}
-use Rattle.afdx_tx.specs.Legal.{Accepted}
-use Rattle.afdx_tx.specs.Links.{Held, LinkState, held_at, link_at, sent_by, pace_of, is_lost}
+use Rattle.vl_link.specs.declared.served.Served.{Served}
+use Rattle.vl_link.specs.declared.served.Served.TheVariants.{Nothing, Released, Lost}
+use Rattle.vl_link.specs.Seen.{IsGathered, known_of}
+use Rattle.afdx_legal.specs.Streams.{link_stream, told_of}
+use Rattle.afdx_legal.specs.Legal.{Accepted}
+use Rattle.vl_link.specs.Links.{Held, LinkState, held_at, link_at, sent_by, pace_of, is_lost}
 
 -- every queue is gathered
 abbrev pub AreGathered : List LinkState → Type 0
 AreGathered links = (k s : ℕ) → k < length links → s < length (link_at links k).subs
     → IsGathered (held_at (link_at links k).subs s).seen
-
--- what was accepted into a queue; before it is gathered, as much of it as was taken
-abbrev pub known_of : Seen → List (ℕ × List ℕ)
-known_of (receiving r) = r.taken
-known_of (gathered g) = accepted_of g
 
 -- the accepted messages of a sub-VL
 abbrev pub accepted_by : Held → List Sent

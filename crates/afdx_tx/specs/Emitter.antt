@@ -1,22 +1,20 @@
 -- An emitter, as contracts see it.
-use Rattle.std.specs.Prelude.{ℕ, ◌≡◌, ◌<◌, ◌++◌, ◌&&◌, List, [], length, map, filter, true, false, nat_eq, Option, None}
+use Rattle.std.specs.Prelude.{ℕ, ◌≡◌, ◌<◌, ◌&&◌, List, [], length, map, filter, true, false, nat_eq, Option, None}
 use Rattle.afdx_config.specs.Config.{Plan, link_plan_at, IsPlan}
 use Rattle.afdx_config.specs.Plan.{bag_micros}
 use Rattle.afdx_config.specs.declared.link_plan.LinkPlan.{LinkPlan}
 use Rattle.afdx_config.specs.declared.port_plan.PortPlan.{PortPlan}
-use Rattle.afdx_config.specs.Room.{room_of}
 use Rattle.afdx_config.specs.Numbers.{sequence_number}
 use Rattle.afdx_frame.specs.declared.net.Net.TheVariants.{A}
-use Rattle.afdx_frame.specs.Fragments.{fragments}
 use Rattle.redundant_mux.specs.Entry.{Entry}
 use Rattle.redundant_mux.specs.Lines.{Lines, log, is_alive, IsMirrored}
 use Rattle.vl_shaper.specs.Pace.{IsLater}
 use Rattle.subvl_queue.specs.Views.{QueueName, new_receiver}
-use Rattle.afdx_tx.specs.declared.sub_vl.SubVl.{SubVl}
-use Rattle.afdx_tx.specs.Seen.{receiving, queue_of, IsReceiving}
-use Rattle.afdx_tx.specs.Streams.{link_stream, sub_stream, told, told_of, IsNumbered, IsSpaced, IsPrefixOf}
-use Rattle.afdx_tx.specs.Legal.{Accepted, AreKnown}
-use Rattle.afdx_tx.specs.Links.{Held, LinkState, held_at, link_at, taken_by, sub_fragments, IsLink, IsSameLink, pace_of}
+use Rattle.vl_link.specs.declared.sub_vl.SubVl.{SubVl}
+use Rattle.vl_link.specs.Seen.{receiving, queue_of, IsReceiving}
+use Rattle.afdx_legal.specs.Legal.{Accepted, AreKnown}
+use Rattle.vl_link.specs.Links.{Held, LinkState, held_at, link_at, taken_by, IsLink, IsSameLink}
+use Rattle.vl_link.specs.Kept.{IsLinkTied, IsKept}
 
 -- An emitter: its plan, its links in the order of the plan, what was handed over, and the moment of
 -- the last poll.
@@ -89,43 +87,6 @@ pub record IsFreshLink (own : ℕ) (ports : List PortPlan) (link : LinkPlan)
   }
   pub subs : AreFreshSubs own ports link state.subs link.sub_vls
   pub lost : state.lost ≡ false
-
--- What a sub-VL's stream shows, and what is left of the message that is being sent, are the
--- fragments of the messages that it took.
-abbrev pub IsTied : Held → List Entry → Type 0
-IsTied held stream = sub_fragments held.of 0 (taken_by held) ≡ told stream ++ held.left
-
--- a sub-VL's stream is behind the fragments of the messages that it took
-pub record IsBehind (held : Held) (stream : List Entry) : Type 0 where
-  pub left : List (List ℕ)
-  pub some : left ≡ [] → ⊥
-  pub ahead : sub_fragments held.of 0 (taken_by held) ≡ told stream ++ left
-
--- some sub-VL of a link is behind
-pub record IsSubBehind (link : LinkState) (log : List Entry) : Type 0 where
-  pub sub : ℕ
-  pub within : sub < link.plan.sub_vls
-  pub behind : IsBehind (held_at link.subs sub)
-      (sub_stream sub (link_stream link.plan.id.0 log))
-
--- each sub-VL of a link is tied to its stream
-abbrev pub IsLinkTied : LinkState → List Entry → Type 0
-IsLinkTied link log = (s : ℕ) → s < link.plan.sub_vls
-    → IsTied (held_at link.subs s) (sub_stream s (link_stream link.plan.id.0 log))
-
--- A link's stream is numbered and spaced, and each sub-VL's is a prefix of the fragments of the
--- messages that it took. Where no frame was lost, its regulation is where the stream is, and each
--- sub-VL is tied to its own. Where one was, some sub-VL stays behind.
-pub record IsKept (link : LinkState) (log : List Entry) : Type 0 where
-  pub numbered : IsNumbered 0 (link_stream link.plan.id.0 log)
-  pub spaced : IsSpaced link.pace.gap None (link_stream link.plan.id.0 log)
-  pub prefixes : (s : ℕ) → s < link.plan.sub_vls
-      → IsPrefixOf (told_of link.plan.id.0 s log)
-      (fragments link.end_system (room_of link.plan.lmax) A (taken_by (held_at link.subs s)))
-  pub paced : link.lost ≡ false
-      → link.pace ≡ pace_of link.pace.gap link.pace.sub_vls (link_stream link.plan.id.0 log)
-  pub tied : link.lost ≡ false → IsLinkTied link log
-  pub behind : link.lost ≡ true → IsSubBehind link log
 
 -- each link keeps that
 abbrev pub AreKept : List LinkState → List Entry → Type 0

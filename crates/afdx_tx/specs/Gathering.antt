@@ -1,61 +1,17 @@
 -- The ports of an emitter come back.
-use Rattle.std.specs.Prelude.{ℕ, ◌≡◌, ◌<◌, List, length, slice_index_or, Contains, Some}
+use Rattle.std.specs.Prelude.{ℕ, ◌≡◌, ◌<◌, List, length, slice_index_or, Contains}
 use Rattle.afdx_config.specs.Config.{Plan, link_plan_at, port_plan_at}
 use Rattle.afdx_config.specs.declared.port_plan.PortPlan.{PortPlan}
-use Rattle.subvl_queue.specs.Messages.{AreItems, part_of}
-use Rattle.subvl_queue.specs.Views.{SenderView, HasEvery, IsWhole, accepted_of}
-use Rattle.afdx_tx.specs.Seen.{Seen, receiving, gathered, ports_of, queue_of, IsReceiving}
-use Rattle.afdx_tx.specs.Drain.{known_of}
-use Rattle.afdx_tx.specs.Links.{Held, LinkState, held_at, link_at}
+use Rattle.subvl_queue.specs.Messages.{part_of}
+use Rattle.subvl_queue.specs.Views.{SenderView}
+use Rattle.vl_link.specs.Seen.{known_of}
+use Rattle.vl_link.specs.Links.{Held, LinkState, held_at, link_at}
 use Rattle.afdx_tx.specs.Emitter.{Tx}
 use Rattle.afdx_tx.specs.Sending.{link_of}
 use Rattle.afdx_tx.specs.Ports.{PortView, index_of}
-use Rattle.afdx_tx.specs.Room.{RoomView}
-use Rattle.afdx_tx.specs.Rooms.{room_in, rooms_of, room_at}
-
--- The same queue, whose accepted messages are known whole from now on: those that were taken, and
--- what is left. Each is of one of its ports.
-abbrev pub BecomesWhole : (old new : Seen) → Type 0
-BecomesWhole (receiving old) (gathered new) =
-    (new.taken ≡ old.taken) × (new.ports ≡ old.ports) × AreItems old.ports (accepted_of new)
-BecomesWhole (receiving old) (receiving new) = ⊥
-BecomesWhole (gathered old) (receiving new) = ⊥
-BecomesWhole (gathered old) (gathered new) = ⊥
-
--- the ends of a queue come together, and each sender's part of the messages is its own list
-pub record Gathers (old : Seen) (senders : List SenderView) (new : Seen) : Type 0 where
-  pub queue : BecomesWhole old new
-  pub whole : IsWhole (ports_of old) senders (known_of new)
-
--- the ports of a queue may still send, and every sender of it is there, and no other
-pub record IsFull (seen : Seen) (senders : List SenderView) : Type 0 where
-  pub receiving : IsReceiving seen
-  pub every : HasEvery (ports_of seen) senders
-  pub together : (k : ℕ) (d : SenderView) → k < length senders
-      → queue_of seen ≡ Some (slice_index_or senders k d).queue
-
--- the same of a sub-VL, which has as many senders as ports
-pub record IsFullSub (held : Held) (senders : List SenderView) : Type 0 where
-  pub receiving : IsReceiving held.seen
-  pub every : HasEvery (length held.ports) senders
-  pub together : (k : ℕ) (d : SenderView) → k < length senders
-      → queue_of held.seen ≡ Some (slice_index_or senders k d).queue
-
--- a sub-VL but for its queue, which is gathered
-pub record GathersSub (old : Held) (senders : List SenderView) (new : Held) : Type 0 where
-  pub same : new ≡ record old { seen = new.seen }
-  pub gathers : Gathers old.seen senders new.seen
-
--- the sub-VLs of a link
-pub record GathersSubs (old : List Held) (rooms : List RoomView) (new : List Held) : Type 0 where
-  pub count : length new ≡ length old
-  pub each : (s : ℕ) → s < length old
-      → GathersSub (held_at old s) (room_in rooms s).senders (held_at new s)
-
--- a link
-pub record GathersLink (old : LinkState) (rooms : List RoomView) (new : LinkState) : Type 0 where
-  pub same : new ≡ record old { subs = new.subs }
-  pub subs : GathersSubs old.subs rooms new.subs
+use Rattle.vl_link.specs.Room.{RoomView}
+use Rattle.afdx_tx.specs.Rooms.{rooms_of, room_at}
+use Rattle.vl_link.specs.LinkGathering.{BecomesWhole, GathersLink, AreFullSubs}
 
 -- the links
 pub record GathersLinks (old : List LinkState) (rooms : List (List RoomView))
@@ -63,11 +19,6 @@ pub record GathersLinks (old : List LinkState) (rooms : List (List RoomView))
   pub count : length new ≡ length old
   pub each : (k : ℕ) → k < length old
       → GathersLink (link_at old k) (rooms_of rooms k) (link_at new k)
-
--- the room of each sub-VL of a link has all of its senders
-pub record AreFullSubs (subs : List Held) (rooms : List RoomView) : Type 0 where
-  pub count : length rooms ≡ length subs
-  pub each : (s : ℕ) → s < length subs → IsFullSub (held_at subs s) (room_in rooms s).senders
 
 -- the room of each sub-VL has all of its senders
 pub record AreFull (links : List LinkState) (rooms : List (List RoomView)) : Type 0 where

@@ -1,16 +1,9 @@
-pub mod Seen
-pub mod QueueEnds
-pub mod Streams
-pub mod Legal
-pub mod Links
 pub mod Run
 pub mod Report
 pub mod Emitter
 pub mod Sending
-pub mod Subs
 pub mod Serving
 pub mod Ports
-pub mod Room
 pub mod Rooms
 pub mod Drain
 pub mod Gathering

@@ -4,8 +4,8 @@ use Rattle.afdx_config.specs.declared.identifiers.VlId.{VlId}
 use Rattle.afdx_frame.specs.Header.{link_in, sub_in, number_in}
 use Rattle.redundant_mux.specs.Entry.{Entry}
 use Rattle.redundant_mux.specs.Lines.{Lines, log}
-use Rattle.afdx_tx.specs.declared.served.Served.{Served}
-use Rattle.afdx_tx.specs.declared.served.Served.TheVariants.{Nothing, Released, Lost}
+use Rattle.vl_link.specs.declared.served.Served.{Served}
+use Rattle.vl_link.specs.declared.served.Served.TheVariants.{Nothing, Released, Lost}
 use Rattle.afdx_tx.specs.declared.report.Release.{Release}
 
 -- the release that an entry shows

@@ -4,19 +4,11 @@ use Rattle.afdx_config.specs.Config.{Plan, link_plan_at}
 use Rattle.subvl_queue.specs.Views.{QueueName, SenderView}
 use Rattle.afdx_config.specs.declared.link_plan.LinkPlan.{LinkPlan}
 use Rattle.afdx_config.specs.declared.port_plan.PortPlan.{PortPlan}
-use Rattle.afdx_tx.specs.Seen.{queue_of}
-use Rattle.afdx_tx.specs.Links.{Held, held_at}
+use Rattle.vl_link.specs.Seen.{queue_of}
+use Rattle.vl_link.specs.Links.{Held, held_at}
 use Rattle.afdx_tx.specs.Emitter.{ports_of_sub}
-use Rattle.afdx_tx.specs.Room.{RoomView}
+use Rattle.vl_link.specs.Room.{RoomView, room_in}
 use Rattle.afdx_tx.specs.Ports.{queue_at, IsFreshSender}
-
--- no room
-abbrev pub no_room : RoomView
-no_room = record { senders = []; size = 0 }
-
--- the room of a sub-VL of a link
-abbrev pub room_in : List RoomView → ℕ → RoomView
-room_in rooms sub = get_or rooms sub no_room
 
 -- the rooms of a link
 abbrev pub rooms_of : List (List RoomView) → ℕ → List RoomView

@@ -1,11 +1,11 @@
 -- All links of an emitter, one turn after the other.
 use Rattle.std.specs.Prelude.{ℕ, ◌≡◌, ◌+◌, ◌<◌, List, [], ◌∷◌, false, length, take, drop}
 use Rattle.redundant_mux.specs.Lines.{Lines, log}
-use Rattle.afdx_tx.specs.declared.served.Served.{Served}
-use Rattle.afdx_tx.specs.declared.served.Served.TheVariants.{Lost}
-use Rattle.afdx_tx.specs.Streams.{link_stream}
-use Rattle.afdx_tx.specs.Links.{LinkState, link_at, pace_of, Serves, IsSameLink, is_lost}
-use Rattle.afdx_tx.specs.Emitter.{IsLinkTied}
+use Rattle.vl_link.specs.declared.served.Served.{Served}
+use Rattle.vl_link.specs.declared.served.Served.TheVariants.{Lost}
+use Rattle.afdx_legal.specs.Streams.{link_stream}
+use Rattle.vl_link.specs.Links.{LinkState, link_at, pace_of, Serves, IsSameLink, is_lost}
+use Rattle.vl_link.specs.Kept.{IsLinkTied}
 
 -- One turn of a link, whose regulation is read off its stream in the longer handed list, and whose
 -- sub-VLs are tied to their streams before it.

@@ -3,8 +3,8 @@ use Rattle.std.specs.Prelude.{ℕ, ◌≡◌, ◌≤◌, List, length, take, dro
 use Rattle.afdx_frame.specs.declared.net.Net.TheVariants.{A}
 use Rattle.redundant_mux.specs.Lines.{Lines, log, is_alive, IsMirrored}
 use Rattle.afdx_tx.specs.declared.report.Release.{Release}
-use Rattle.afdx_tx.specs.Legal.{AreKnown}
-use Rattle.afdx_tx.specs.Links.{LinkState}
+use Rattle.afdx_legal.specs.Legal.{AreKnown}
+use Rattle.vl_link.specs.Links.{LinkState}
 use Rattle.afdx_tx.specs.Run.{IsRun}
 use Rattle.afdx_tx.specs.Report.{IsTold}
 use Rattle.afdx_tx.specs.Emitter.{plans, AreLinks, AreKept, AreWhole, AreServedBy, IsSamePlan}

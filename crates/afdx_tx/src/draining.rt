@@ -29,7 +29,7 @@ impl<A: Network + Drop, B: Network + Drop> Model for Draining<A, B> {
 impl<A: Network + Drop, B: Network + Drop> Draining<A, B> {
     ghost use Rattle.std.specs.Prelude.{◌≡◌, ◌≤◌, ◌↔◌, true, false, IsTrue, IsErr, OnErr, OnOk, IfOk};
     ghost use Rattle.redundant_mux.specs.Lines.{is_alive, log, IsMirrored};
-    ghost use Rattle.afdx_tx.specs.Legal.{IsLegal};
+    ghost use Rattle.afdx_legal.specs.Legal.{IsLegal};
     ghost use Rattle.afdx_tx.specs.Report.{IsTold};
     ghost use Rattle.afdx_tx.specs.Drain.{AreGathered, IsAllDone, IsDrained, IsDrainCutShort, accepted_in};
 

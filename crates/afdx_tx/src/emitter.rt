@@ -2,15 +2,14 @@
 use crate::draining::Draining;
 use crate::fault::PollFault;
 use crate::gather::{has_every_place, seat_all};
-use crate::link::Link;
 use crate::port::TxPort;
 use crate::report::Report;
-use crate::room::LinkRooms;
 use crate::transmitter::Transmitter;
 use afdx_config::Config;
 use redundant_mux::Network;
 use std::marker::Model;
 use std::sync::Wait;
+use vl_link::{Link, LinkRooms};
 
 /// Sends what ports hand over, on two networks. Contracts see its plan, its links, what was handed
 /// to the networks, and the moment of the last poll.
@@ -36,7 +35,7 @@ impl<A: Network + Drop, B: Network + Drop> Emitter<A, B> {
     ghost use Rattle.std.specs.Prelude.{◌≡◌, ◌≤◌, ◌↔◌, [], true, false, length, IsErr, OnErr, OnOk, IfOk, IfErr};
     ghost use Rattle.afdx_config.specs.Config.{IsPlan};
     ghost use Rattle.redundant_mux.specs.Lines.{is_alive, log, IsMirrored};
-    ghost use Rattle.afdx_tx.specs.Legal.{IsLegal};
+    ghost use Rattle.afdx_legal.specs.Legal.{IsLegal};
     ghost use Rattle.afdx_tx.specs.Run.{IsRun, IsCutShort};
     ghost use Rattle.afdx_tx.specs.Report.{IsTold};
     ghost use Rattle.afdx_tx.specs.Emitter.{Tx, IsFreshTx, AreFreshLinks, AreTied, taken_in, queues_in};

@@ -7,10 +7,10 @@ ghost use Rattle.afdx_tx.specs.Rooms.{AreRooms, AreReserved, senders_for};
 ghost use Rattle.afdx_tx.specs.Gathering.{HasSeat};
 
 use crate::port::TxPort;
-use crate::room::LinkRooms;
 use crate::routing::{link_of, port_at};
 use crate::transmitter::Transmitter;
 use redundant_mux::Network;
+use vl_link::LinkRooms;
 
 // The index of the port of a place in a list.
 fn position_of(ports: &[TxPort], place: usize) -> Option<usize>

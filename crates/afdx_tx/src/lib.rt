@@ -6,16 +6,10 @@ mod draining;
 mod emitter;
 mod fault;
 mod gather;
-mod link;
 mod open;
 mod port;
-mod queue;
 mod report;
-mod room;
 mod routing;
-mod served;
-mod sub;
-mod sub_vl;
 mod transmitter;
 
 pub use draining::Draining;
@@ -24,16 +18,3 @@ pub use fault::{OpenFault, PollFault, Refusal, SendFault};
 pub use open::open_tx;
 pub use port::TxPort;
 pub use report::{Release, Report};
-
-#[cfg(test)]
-mod draining_tests;
-#[cfg(test)]
-mod network_tests;
-#[cfg(test)]
-mod port_tests;
-#[cfg(test)]
-mod testing;
-#[cfg(test)]
-mod tests;
-#[cfg(test)]
-mod thread_tests;

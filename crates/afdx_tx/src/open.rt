@@ -8,16 +8,13 @@ ghost use Rattle.afdx_tx.specs.Rooms.{IsFreshRoom, AreFreshRooms, AreRooms, AreR
 
 use crate::emitter::Emitter;
 use crate::fault::OpenFault;
-use crate::link::Link;
 use crate::port::TxPort;
-use crate::room::{LinkRooms, Room};
 use crate::routing::{link_of, port_at};
-use crate::sub::Sub;
-use crate::sub_vl::SubVl;
 use afdx_config::{Config, LinkPlan, PortPlan};
 use redundant_mux::Network;
 use std::alloc::{AllocError, Global};
 use subvl_queue::make;
+use vl_link::{Link, LinkRooms, Room, Sub, SubVl};
 
 /// How often a port may ask: 2^40 times.
 const CALLS: u64 = 1_099_511_627_776;

@@ -3,7 +3,7 @@ ghost use Rattle.std.specs.Prelude.{◌≡◌, ◌<◌, ◌≤◌, ◌++◌, [],
 ghost use Rattle.arrayvec.specs.ArrayVec.{array_vec_len};
 ghost use Rattle.afdx_frame.specs.declared.net.Net.TheVariants.{A as ForA};
 ghost use Rattle.redundant_mux.specs.Lines.{is_alive, log, IsMirrored};
-ghost use Rattle.afdx_tx.specs.Legal.{AreKnown};
+ghost use Rattle.afdx_legal.specs.Legal.{AreKnown};
 ghost use Rattle.afdx_tx.specs.Run.{IsRun, IsCutShort};
 ghost use Rattle.afdx_tx.specs.Report.{IsTold, released_by};
 ghost use Rattle.afdx_tx.specs.Emitter.{plans, AreApart, AreLinks, AreKept, AreWhole, AreServedBy};
@@ -12,16 +12,14 @@ ghost use Rattle.afdx_tx.specs.Done.{TellsAllDone};
 ghost use Rattle.afdx_tx.specs.Gathering.{AreFull, GathersLinks};
 
 use crate::fault::PollFault;
-use crate::link::{Link, some_stands};
 use crate::report::{Release, Report};
-use crate::room::LinkRooms;
-use crate::served::Served;
 use afdx_config::{Config, VlId};
 use afdx_frame::Frame;
 use arrayvec::ArrayVec;
 use redundant_mux::{Mux, Network};
 use std::marker::Model;
 use std::sync::Wait;
+use vl_link::{Link, LinkRooms, Served, some_stands};
 
 /// Adds what a turn released.
 fn note(released: &mut ArrayVec<Release, 64>, vl: VlId, did: &Served)
@@ -124,7 +122,7 @@ impl<A: Network + Drop, B: Network + Drop> Transmitter<A, B> {
     ghost use Rattle.std.specs.Prelude.{◌≡◌, ◌≤◌, ◌↔◌, [], true, false, length, IsTrue, IsErr, OnErr, OnOk, IfOk};
     ghost use Rattle.afdx_config.specs.Config.{IsPlan};
     ghost use Rattle.redundant_mux.specs.Lines.{is_alive, log, IsMirrored};
-    ghost use Rattle.afdx_tx.specs.Legal.{IsLegal};
+    ghost use Rattle.afdx_legal.specs.Legal.{IsLegal};
     ghost use Rattle.afdx_tx.specs.Run.{IsRun, IsCutShort};
     ghost use Rattle.afdx_tx.specs.Report.{IsTold};
     ghost use Rattle.afdx_tx.specs.Emitter.{Tx, IsFreshTx, AreFreshLinks, AreLinksOf, AreTied, IsSamePlan, taken_in};

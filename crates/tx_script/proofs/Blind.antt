@@ -9,7 +9,7 @@ use Rattle.afdx_frame.specs.Fragments.{Sent}
 use Rattle.redundant_mux.specs.Entry.{Entry}
 use Rattle.vl_shaper.specs.Pace.{Pace, is_due}
 use Rattle.afdx_tx.specs.declared.fault.Refusal.{Refusal as SendRefusal}
-use Rattle.afdx_tx.specs.Links.{pace_of}
+use Rattle.vl_link.specs.Links.{pace_of}
 use Rattle.afdx_tx.specs.Emitter.{ports_of_sub}
 use Rattle.afdx_tx.specs.Sending.{length_refusal, link_of}
 use Rattle.tx_script.specs.EndSystem.{EndSystem, Look, Progress, no_progress, progress_at, progress_of, has_left, Asked, ask, turns_from}

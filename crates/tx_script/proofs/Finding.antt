@@ -16,13 +16,14 @@ use Rattle.afdx_frame.specs.Fragments.{Sent}
 use Rattle.subvl_queue.specs.Messages.{part_of, AreItems, IsItem}
 use Rattle.subvl_queue.specs.Views.{accepted_of}
 use Rattle.subvl_queue.proofs.Parts.{part_append}
-use Rattle.afdx_tx.specs.Seen.{Seen, receiving, gathered, taken_of, ports_of}
-use Rattle.afdx_tx.specs.Drain.{known_of}
-use Rattle.afdx_tx.specs.Links.{no_link_plan, nothing_held, no_link, Held, LinkState, held_at, link_at, sent_of, sent_by}
+use Rattle.vl_link.specs.Seen.{Seen, receiving, gathered, taken_of, ports_of}
+use Rattle.vl_link.specs.Seen.{known_of}
+use Rattle.vl_link.specs.Links.{no_link_plan, nothing_held, no_link, Held, LinkState, held_at, link_at, sent_of, sent_by}
 use Rattle.afdx_tx.specs.Emitter.{Tx, ports_of_sub}
 use Rattle.afdx_tx.specs.Sending.{link_of}
 use Rattle.afdx_tx.specs.Ports.{PortView, LacksPlace, index_of}
-use Rattle.afdx_tx.specs.Gathering.{BecomesWhole, IsGatheredSub, IsGatheredLink, IsGatheredTx, HasOwnPart, held_for}
+use Rattle.vl_link.specs.LinkGathering.{BecomesWhole}
+use Rattle.afdx_tx.specs.Gathering.{IsGatheredSub, IsGatheredLink, IsGatheredTx, HasOwnPart, held_for}
 use Rattle.afdx_tx.proofs.PortLink.{found, found_over}
 use Rattle.tx_script.specs.AtBench.{AtBench, IsAtHand, Matches, GaveFirst}
 use Rattle.tx_script.specs.EndSystem.{progress_of, progress_at}

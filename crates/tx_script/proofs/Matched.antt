@@ -9,9 +9,9 @@ use Rattle.redundant_mux.specs.Entry.{Entry}
 use Rattle.redundant_mux.specs.Lines.{Lines, log, side}
 use Rattle.vl_shaper.specs.Pace.{Pace}
 use Rattle.afdx_tx.specs.declared.report.Release.{Release}
-use Rattle.afdx_tx.specs.declared.sub_vl.SubVl.{SubVl}
-use Rattle.afdx_tx.specs.Seen.{Seen, taken_of, ports_of}
-use Rattle.afdx_tx.specs.Links.{Held, LinkState, held_at, link_at, sent_by, no_link_plan}
+use Rattle.vl_link.specs.declared.sub_vl.SubVl.{SubVl}
+use Rattle.vl_link.specs.Seen.{Seen, taken_of, ports_of}
+use Rattle.vl_link.specs.Links.{Held, LinkState, held_at, link_at, sent_by, no_link_plan}
 use Rattle.afdx_tx.specs.Emitter.{Tx, IsFreshTx, IsFreshLink, IsFreshSub, ports_of_sub}
 use Rattle.afdx_tx.specs.Report.{IsTold, release_of}
 use Rattle.tx_script.specs.EndSystem.{EndSystem, Look, Progress, no_progress, fresh, fresh_subs, polled, released_by}

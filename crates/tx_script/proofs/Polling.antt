@@ -5,7 +5,7 @@ use Rattle.std.proofs.lemmas.List.{length-set, get_or-set_same, get_or-set_other
 use Rattle.std.proofs.lemmas.Bool.{cases_eq, cases_lt}
 use Rattle.std.proofs.lemmas.Nat.{mod_below}
 use Rattle.vl_shaper.specs.declared.shaper.Stamp.{Stamp}
-use Rattle.afdx_tx.proofs.Choosing.{met}
+use Rattle.vl_link.proofs.Choosing.{met}
 use Rattle.afdx_config.specs.Config.{link_plan_at}
 use Rattle.afdx_config.specs.Plan.{bag_micros}
 use Rattle.afdx_config.specs.declared.link_plan.LinkPlan.{LinkPlan}
@@ -17,15 +17,15 @@ use Rattle.redundant_mux.specs.Lines.{Lines, side, log, Keeps, IsMirrored}
 use Rattle.afdx_frame.specs.declared.net.Net.{Net}
 use Rattle.afdx_tx.specs.Emitter.{Tx, ports_of_sub}
 use Rattle.afdx_config.specs.declared.port_plan.PortPlan.{PortPlan}
-use Rattle.afdx_tx.specs.Seen.{taken_of, ports_of}
-use Rattle.afdx_tx.proofs.QueueLooks.{taken_nothing, taken_finds, same_nothing, same_finds, same_ports}
+use Rattle.vl_link.specs.Seen.{taken_of, ports_of}
+use Rattle.vl_link.proofs.QueueLooks.{taken_nothing, taken_finds, same_nothing, same_finds, same_ports}
 use Rattle.vl_shaper.specs.Pace.{Pace, is_due, turn_of}
-use Rattle.afdx_tx.specs.declared.served.Served.{Served}
-use Rattle.afdx_tx.specs.declared.served.Served.TheVariants.{Nothing, Released, Lost}
-use Rattle.afdx_tx.specs.declared.sub_vl.SubVl.{SubVl}
-use Rattle.afdx_tx.specs.Streams.{link_stream}
-use Rattle.afdx_tx.specs.Links.{Held, LinkState, held_at, nothing_held, link_at, GoesOn, Starts, Passes, Asks, IsChoice, PassedOver}
-use Rattle.afdx_tx.specs.Links.{Gives, ReleasesAt, sent_of, sent_by, taken_by, Serves, IsSameLink, is_lost, pace_of, message_fragments}
+use Rattle.vl_link.specs.declared.served.Served.{Served}
+use Rattle.vl_link.specs.declared.served.Served.TheVariants.{Nothing, Released, Lost}
+use Rattle.vl_link.specs.declared.sub_vl.SubVl.{SubVl}
+use Rattle.afdx_legal.specs.Streams.{link_stream}
+use Rattle.vl_link.specs.Links.{Held, LinkState, held_at, nothing_held, link_at, GoesOn, Starts, Passes, Asks, IsChoice, PassedOver}
+use Rattle.vl_link.specs.Links.{Gives, ReleasesAt, sent_of, sent_by, taken_by, Serves, IsSameLink, is_lost, pace_of, message_fragments}
 use Rattle.afdx_tx.specs.Run.{IsTurn, IsRun}
 use Rattle.tx_script.specs.EndSystem.{Progress, Look, no_progress, progress_at, first_look, started, has_left, are_some, Asked, by_look, ask}
 use Rattle.tx_script.specs.EndSystem.{turns_from, Came, next_frame, released_of, serve_paced, serve_link, then_links, serve_links, EndSystem, polled}

@@ -2,8 +2,8 @@
 use Rattle.std.specs.Prelude.{ℕ, ◌≡◌, ◌≤◌, ◌<◌, ◌++◌, List, length, slice_index_or, All}
 use Rattle.afdx_config.specs.Config.{Plan, IsPlan, port_plan_at}
 use Rattle.subvl_queue.specs.Messages.{most_calls, part_of}
-use Rattle.afdx_tx.specs.Seen.{taken_of, ports_of}
-use Rattle.afdx_tx.specs.Links.{held_at, link_at}
+use Rattle.vl_link.specs.Seen.{taken_of, ports_of}
+use Rattle.vl_link.specs.Links.{held_at, link_at}
 use Rattle.afdx_tx.specs.Emitter.{Tx, IsFreshTx}
 use Rattle.afdx_tx.specs.Gathering.{held_for}
 use Rattle.afdx_tx.specs.Ports.{PortView, AreOpenedWith, AreFreshPorts, index_of}

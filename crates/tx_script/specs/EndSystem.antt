@@ -10,9 +10,9 @@ use Rattle.afdx_frame.specs.Fragments.{Sent}
 use Rattle.redundant_mux.specs.Entry.{Entry, entry}
 use Rattle.redundant_mux.specs.Lines.{side}
 use Rattle.vl_shaper.specs.Pace.{Pace, is_due, turn_of}
-use Rattle.afdx_tx.specs.declared.sub_vl.SubVl.{SubVl}
-use Rattle.afdx_tx.specs.Streams.{link_stream}
-use Rattle.afdx_tx.specs.Links.{message_fragments, pace_of}
+use Rattle.vl_link.specs.declared.sub_vl.SubVl.{SubVl}
+use Rattle.afdx_legal.specs.Streams.{link_stream}
+use Rattle.vl_link.specs.Links.{message_fragments, pace_of}
 
 -- A sub-VL: the messages that were taken from its queue, and the fragments left of the last one.
 pub record Progress : Type 0 where

@@ -7,9 +7,9 @@ use Rattle.afdx_config.specs.declared.port_plan.PortPlan.{PortPlan}
 use Rattle.afdx_frame.specs.declared.net.Net.TheVariants.{B}
 use Rattle.redundant_mux.specs.Entry.{Entry}
 use Rattle.redundant_mux.specs.Lines.{Lines, side, log as log_of}
-use Rattle.afdx_tx.specs.declared.sub_vl.SubVl.{SubVl}
-use Rattle.afdx_tx.specs.Seen.{ports_of}
-use Rattle.afdx_tx.specs.Links.{Held, LinkState, held_at, link_at, taken_by}
+use Rattle.vl_link.specs.declared.sub_vl.SubVl.{SubVl}
+use Rattle.vl_link.specs.Seen.{ports_of}
+use Rattle.vl_link.specs.Links.{Held, LinkState, held_at, link_at, taken_by}
 use Rattle.afdx_tx.specs.Emitter.{Tx, ports_of_sub}
 use Rattle.tx_script.specs.EndSystem.{Progress, EndSystem, progress_at}
 

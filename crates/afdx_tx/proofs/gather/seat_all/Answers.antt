@@ -5,8 +5,9 @@ use Rattle.afdx_config.specs.Config.{Plan, IsPlan, port_plan_at}
 use Rattle.subvl_queue.specs.Views.{SenderView}
 use Rattle.afdx_tx.specs.Emitter.{queues_in}
 use Rattle.afdx_tx.specs.Sending.{link_of}
-use Rattle.afdx_tx.specs.Room.{RoomView}
-use Rattle.afdx_tx.specs.Rooms.{rooms_of, room_in, room_at, senders_for}
+use Rattle.vl_link.specs.Room.{RoomView}
+use Rattle.afdx_tx.specs.Rooms.{rooms_of, room_at, senders_for}
+use Rattle.vl_link.specs.Room.{room_in}
 use Rattle.afdx_tx.proofs.RoomSteps.{IsAt, place_at, put, has_room, has_place}
 use Rattle.afdx_tx.proofs.SeatSteps.{taken_inside, left_inside, others_left, seat_kept, seat_new, sender_of}
 use Rattle.afdx_tx.proofs.gather.seat_all.Goals as goal

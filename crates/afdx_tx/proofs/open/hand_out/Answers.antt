@@ -5,8 +5,9 @@ use Rattle.afdx_config.specs.Config.{link_plan_at}
 use Rattle.afdx_config.specs.Plan.{SendsOver}
 use Rattle.afdx_tx.specs.Emitter.{queues_in}
 use Rattle.afdx_tx.specs.Ports.{PortView, IsFreshPort}
-use Rattle.afdx_tx.specs.Room.{RoomView}
-use Rattle.afdx_tx.specs.Rooms.{AreRooms, fresh_for, rooms_of, room_in}
+use Rattle.vl_link.specs.Room.{RoomView}
+use Rattle.afdx_tx.specs.Rooms.{AreRooms, fresh_for, rooms_of}
+use Rattle.vl_link.specs.Room.{room_in}
 use Rattle.afdx_tx.proofs.RoomSteps.{IsAt, taken, has_room, fresh_port}
 use Rattle.afdx_tx.proofs.open.hand_out.Goals as goal
 

@@ -1,7 +1,7 @@
 use Rattle.std.proofs.Common.{ℕ, ◌+◌, List, [], ◌∷◌, ◌++◌, sym, subst}
-use Rattle.afdx_tx.specs.Links.{Held}
+use Rattle.vl_link.specs.Links.{Held}
 use Rattle.afdx_tx.specs.Emitter.{IsFreshSub, AreFreshSubs, ports_of_sub}
-use Rattle.afdx_tx.specs.Room.{RoomView}
+use Rattle.vl_link.specs.Room.{RoomView}
 use Rattle.afdx_tx.specs.Rooms.{AreFreshRooms}
 use Rattle.afdx_tx.proofs.FreshRooms.{subs_push, rooms_push}
 use Rattle.afdx_tx.proofs.open.open_link.Goals as goal

@@ -2,9 +2,9 @@ use Rattle.std.proofs.Common.{◌≡◌, ◌∙◌, ◌<◌, ◌+◌, [], ◌∷
 use Rattle.std.proofs.lemmas.List.{get_or_default}
 use Rattle.afdx_config.specs.declared.link_plan.LinkPlan.{LinkPlan}
 use Rattle.afdx_config.specs.Config.{link_plan_at}
-use Rattle.afdx_tx.specs.Links.{LinkState, no_link_plan}
+use Rattle.vl_link.specs.Links.{LinkState, no_link_plan}
 use Rattle.afdx_tx.specs.Emitter.{IsFreshLink, AreFreshLinks}
-use Rattle.afdx_tx.specs.Room.{RoomView}
+use Rattle.vl_link.specs.Room.{RoomView}
 use Rattle.afdx_tx.specs.Rooms.{AreFreshRooms}
 use Rattle.afdx_tx.proofs.FreshEmitter.{fresh_push}
 use Rattle.afdx_tx.proofs.FreshRooms.{AreLinkRooms, links_push, all_rooms}

@@ -1,9 +1,9 @@
 use Rattle.std.proofs.Common.{ℕ, ◌≡◌, List, All, length, arith, ap, ◌∙◌, sym, subst}
 use Rattle.afdx_config.specs.declared.port_plan.PortPlan.{PortPlan}
 use Rattle.subvl_queue.specs.Views.{new_receiver}
-use Rattle.afdx_tx.specs.Seen.{receiving}
-use Rattle.afdx_tx.specs.Links.{Held}
-use Rattle.afdx_tx.specs.Subs.{IsPortOf}
+use Rattle.vl_link.specs.Seen.{receiving}
+use Rattle.vl_link.specs.Links.{Held}
+use Rattle.vl_link.specs.Subs.{IsPortOf}
 use Rattle.afdx_tx.specs.Emitter.{ports_of_sub}
 use Rattle.afdx_tx.proofs.OwnPorts.{few_ports, own_ports}
 use Rattle.afdx_tx.proofs.open.open_sub.Goals as goal

@@ -1,6 +1,6 @@
 use Rattle.std.proofs.Common.{ℕ, ◌<◌, true}
-use Rattle.afdx_tx.specs.Links.{link_at}
-use Rattle.afdx_tx.specs.Done.{TellsLinkDone}
+use Rattle.vl_link.specs.Links.{link_at}
+use Rattle.vl_link.specs.LinkDone.{TellsLinkDone}
 use Rattle.afdx_tx.proofs.transmitter.all_done.Given as goal
 
 abbrev pub invariant-loop-link : goal.invariant-loop-link

@@ -1,8 +1,8 @@
 use Rattle.std.proofs.Common.{ℕ, ◌≡◌, ◌<◌, [], length, get_or, set, arith, ap, ◌∙◌, sym, subst}
 use Rattle.std.proofs.lemmas.List.{get_or_default}
-use Rattle.afdx_tx.specs.Links.{LinkState, link_at, no_link}
-use Rattle.afdx_tx.specs.Gathering.{AreFullSubs, GathersLink}
-use Rattle.afdx_tx.proofs.FromLast.{FromLast, last_is, step}
+use Rattle.vl_link.specs.Links.{LinkState, link_at, no_link}
+use Rattle.vl_link.specs.LinkGathering.{AreFullSubs, GathersLink}
+use Rattle.vl_link.proofs.FromLast.{FromLast, last_is, step}
 use Rattle.afdx_tx.proofs.transmitter.gather_all.Goals as goal
 
 pub gather-requires : goal.gather-requires

@@ -1,7 +1,7 @@
 use Rattle.std.proofs.Common.{[], vec_len}
-use Rattle.afdx_tx.specs.Links.{no_link}
-use Rattle.afdx_tx.specs.Gathering.{GathersLink}
-use Rattle.afdx_tx.proofs.FromLast.{FromLast}
+use Rattle.vl_link.specs.Links.{no_link}
+use Rattle.vl_link.specs.LinkGathering.{GathersLink}
+use Rattle.vl_link.proofs.FromLast.{FromLast}
 use Rattle.afdx_tx.proofs.transmitter.gather_all.Given as goal
 
 abbrev pub invariant-loop-own : goal.invariant-loop-own

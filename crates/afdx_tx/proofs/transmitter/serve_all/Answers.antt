@@ -4,9 +4,9 @@ use Rattle.afdx_config.specs.declared.identifiers.VlId.{VlId}
 use Rattle.afdx_config.specs.declared.link_plan.LinkPlan.{LinkPlan}
 use Rattle.vl_shaper.specs.Pace.{IsLater}
 use Rattle.afdx_tx.specs.declared.report.Release.{Release}
-use Rattle.afdx_tx.specs.Links.{LinkState, link_at, no_link}
+use Rattle.vl_link.specs.Links.{LinkState, link_at, no_link}
 use Rattle.afdx_tx.specs.Report.{IsTold, released_by}
-use Rattle.afdx_tx.proofs.LinkTurn.{Turned}
+use Rattle.vl_link.proofs.LinkTurn.{Turned}
 use Rattle.afdx_tx.proofs.ToldReleases.{told_more, few_released}
 use Rattle.afdx_tx.proofs.PollTurns.{steady_more, serving_more, cut_at}
 use Rattle.afdx_tx.proofs.transmitter.serve_all.Given

@@ -1,6 +1,6 @@
 use Rattle.std.proofs.Common.{subst}
 use Rattle.afdx_tx.specs.Emitter.{Tx}
-use Rattle.afdx_tx.specs.Legal.{IsLegal}
+use Rattle.afdx_legal.specs.Legal.{IsLegal}
 use Rattle.afdx_tx.specs.Drain.{accepted_in}
 use Rattle.afdx_tx.proofs.DrainKeeps.{legal_accepted}
 use Rattle.afdx_tx.proofs.draining.Draining.into_networks.Goals as goal

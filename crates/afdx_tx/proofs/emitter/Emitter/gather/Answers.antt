@@ -2,10 +2,10 @@ use Rattle.std.proofs.Common.{◌≡◌, ◌∙◌, List, length, ap, sym, subst
 use Rattle.std.proofs.lemmas.List.{with_items_is}
 use Rattle.std.specs.Vec.{with_items}
 use Rattle.afdx_config.specs.Config.{IsPlan}
-use Rattle.afdx_tx.specs.Links.{link_at}
+use Rattle.vl_link.specs.Links.{link_at}
 use Rattle.afdx_tx.specs.Emitter.{Tx}
 use Rattle.afdx_tx.specs.Ports.{AreOpenedWith}
-use Rattle.afdx_tx.specs.Room.{RoomView}
+use Rattle.vl_link.specs.Room.{RoomView}
 use Rattle.afdx_tx.specs.Rooms.{rooms_of}
 use Rattle.afdx_tx.specs.Gathering.{GathersLinks, IsGatheredTx}
 use Rattle.afdx_tx.proofs.GatheredPorts.{link_gathered, own_part}

@@ -1,7 +1,7 @@
 use Rattle.std.proofs.Common.{◌≡◌, ◌∙◌, sym, List, length, subst}
 use Rattle.std.proofs.lemmas.List.{with_items_is}
 use Rattle.std.specs.Vec.{with_items}
-use Rattle.afdx_tx.specs.Links.{LinkState}
+use Rattle.vl_link.specs.Links.{LinkState}
 use Rattle.afdx_tx.specs.Emitter.{Tx, IsSound, AreReceiving, queues_in}
 use Rattle.afdx_tx.specs.Rooms.{AreRooms, senders_for}
 use Rattle.afdx_tx.specs.Gathering.{AreFull, GathersLinks, HasShape}

@@ -1,5 +1,5 @@
 use Rattle.std.proofs.Common.{subst}
-use Rattle.afdx_tx.specs.Legal.{IsLegal}
+use Rattle.afdx_legal.specs.Legal.{IsLegal}
 use Rattle.afdx_tx.specs.Emitter.{Tx, taken_in}
 use Rattle.afdx_tx.proofs.SoundEmitter.{sound_legal}
 use Rattle.afdx_tx.proofs.transmitter.Transmitter.into_networks.Goals as goal

@@ -1,6 +1,6 @@
 use Rattle.std.proofs.Common.{List, ◌≡◌, true, sym, subst}
 use Rattle.redundant_mux.specs.Lines.{log}
-use Rattle.afdx_tx.specs.Links.{LinkState}
+use Rattle.vl_link.specs.Links.{LinkState}
 use Rattle.afdx_tx.specs.Emitter.{Tx}
 use Rattle.afdx_tx.specs.Drain.{AreGathered, IsAllDone, accepted_in}
 use Rattle.afdx_tx.specs.Done.{TellsAllDone}

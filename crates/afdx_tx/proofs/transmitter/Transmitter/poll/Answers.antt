@@ -1,8 +1,8 @@
 use Rattle.std.proofs.Common.{◌≡◌, ◌∙◌, sym, List, subst}
 use Rattle.std.proofs.lemmas.List.{with_items_is}
 use Rattle.std.specs.Vec.{with_items}
-use Rattle.afdx_tx.specs.Links.{LinkState}
-use Rattle.afdx_tx.specs.Legal.{IsLegal}
+use Rattle.vl_link.specs.Links.{LinkState}
+use Rattle.afdx_legal.specs.Legal.{IsLegal}
 use Rattle.afdx_tx.specs.Emitter.{Tx, AreApart, IsSound, taken_in}
 use Rattle.afdx_tx.specs.Serving.{IsSteady}
 use Rattle.afdx_tx.proofs.SoundEmitter.{links_apart, sound_after, sound_legal}

@@ -1,0 +1,57 @@
+-- Legal handing over: of a plan, the accepted lists and two handed lists, and nothing else.
+use Rattle.std.specs.Prelude.{ℕ, ◌≡◌, ◌≤◌, ◌<◌, List, [], ◌∷◌, length, map, take, slice_index, None}
+use Rattle.afdx_config.specs.Config.{Plan, link_plan_at}
+use Rattle.afdx_config.specs.Plan.{bag_micros}
+use Rattle.afdx_config.specs.Room.{room_of}
+use Rattle.afdx_config.specs.declared.link_plan.LinkPlan.{LinkPlan}
+use Rattle.afdx_frame.specs.declared.net.Net.{Net}
+use Rattle.afdx_frame.specs.declared.net.Net.TheVariants.{A, B}
+use Rattle.afdx_frame.specs.Frame.{interface_byte}
+use Rattle.afdx_frame.specs.Header.{link_in, sub_in}
+use Rattle.afdx_frame.specs.Fragments.{Sent, fragments}
+use Rattle.redundant_mux.specs.Entry.{Entry}
+use Rattle.redundant_mux.specs.Lines.{side}
+use Rattle.afdx_legal.specs.Streams.{link_stream, told_of, IsNumbered, IsSpaced, IsPrefixOf}
+
+-- The accepted list of each sub-VL, by the place of its link in the plan and its index.
+abbrev pub Accepted : Type 0
+Accepted = ℕ → ℕ → List Sent
+
+-- a frame of a sub-VL of the plan, with a network's interface identifier
+pub record IsKnown (links : List LinkPlan) (net : Net) (frame : List ℕ) : Type 0 where
+  pub size : 60 ≤ length frame
+  pub k : ℕ
+  pub within : k < length links
+  pub link : link_in frame ≡ (link_plan_at links k).id.0
+  pub of_sub : sub_in frame < (link_plan_at links k).sub_vls
+  pub interface : slice_index frame 11 ≡ interface_byte net
+
+-- each frame of a list is known
+abbrev pub AreKnown : List LinkPlan → Net → List Entry → Type 0
+AreKnown links net [] = Unit {0}
+AreKnown links net (e ∷ es) = IsKnown links net e.frame × AreKnown links net es
+
+-- What was handed to one network. Every frame is known; each sub-VL's stream is a prefix of the
+-- fragments of its accepted messages; each link's stream is numbered and spaced.
+pub record IsLegalOn (plan : Plan) (accepted : Accepted)
+    (net : Net) (handed : List Entry) : Type 0 where
+  pub known : AreKnown plan.links net handed
+  pub prefixes : (k s : ℕ) → k < length plan.links → s < (link_plan_at plan.links k).sub_vls
+      → IsPrefixOf (told_of (link_plan_at plan.links k).id.0 s handed)
+      (fragments plan.end_system (room_of (link_plan_at plan.links k).lmax) net (accepted k s))
+  pub numbered : (k : ℕ) → k < length plan.links
+      → IsNumbered 0 (link_stream (link_plan_at plan.links k).id.0 handed)
+  pub spaced : (k : ℕ) → k < length plan.links
+      → IsSpaced (bag_micros (link_plan_at plan.links k).bag) None
+      (link_stream (link_plan_at plan.links k).id.0 handed)
+
+-- the shorter list is the twins of a prefix of the longer
+pub record AreTwins (a b : List Entry) : Type 0 where
+  pub b_shorter : length b ≤ length a → b ≡ map (side B) (take (length b) a)
+  pub a_shorter : length a ≤ length b → a ≡ map (side A) (take (length a) b)
+
+-- what was handed to the two networks is legal for the accepted lists
+pub record IsLegal (plan : Plan) (accepted : Accepted) (a b : List Entry) : Type 0 where
+  pub on_a : IsLegalOn plan accepted A a
+  pub on_b : IsLegalOn plan accepted B b
+  pub twins : AreTwins a b

@@ -1,0 +1,99 @@
+//! Tests of sending what is left.
+ghost use Rattle.std.specs.Prelude.{◌≡◌, []};
+
+use crate::testing::{numbered, open_demo, send_taken};
+use afdx_tx::{Draining, PollFault, Report};
+use redundant_mux::{MemNetwork, Standing};
+use std::alloc::Global;
+use std::process::Abort;
+use std::sync::Wait;
+use std::test::Fail;
+
+const NEITHER: Standing = Standing { a: false, b: false };
+
+/// Two messages of one byte are taken, and the port comes back, at first without it.
+fn gather_two<R: Abort + Wait>(
+    rt: &R,
+    alloc: Global,
+    a: MemNetwork,
+    b: MemNetwork,
+) -> Result<Draining<MemNetwork, MemNetwork>, Fail>
+    requires a_empty { a.handed ≡ [] }
+    requires b_empty { b.handed ≡ [] }
+    requires a_new { a.failures ≡ 0 }
+    requires b_new { b.failures ≡ 0 }
+{
+    let (tx, mut port) = open_demo(alloc, a, b)?;
+    send_taken(rt, alloc, &mut port, &[1]);
+    send_taken(rt, alloc, &mut port, &[2]);
+    let ports = vec![in alloc; port]?;
+    let (tx, none) = match tx.gather(rt, Vec::new(alloc)) {
+        Ok(_) => return Err(Fail::from("gathered without its port")),
+        Err(back) => back,
+    };
+    assert_eq!(rt; none.len(), 0);
+    match tx.gather(rt, ports) {
+        Ok(draining) => Ok(draining),
+        Err(_) => Err(Fail::from("its port is there")),
+    }
+}
+
+/// Polls at a moment that isn't before the last one.
+fn poll_at<R: Abort + Wait>(
+    rt: &R,
+    draining: &mut Draining<MemNetwork, MemNetwork>,
+    now: u64,
+) -> Result<Report, PollFault> {
+    assert!(rt; draining.now() <= now);
+    draining.poll(rt, now)
+}
+
+/// Polls while some network stands.
+fn poll_alive<R: Abort + Wait>(
+    rt: &R,
+    draining: &mut Draining<MemNetwork, MemNetwork>,
+    now: u64,
+) -> Report {
+    poll_at(rt, draining, now).expect(rt, "some network stands")
+}
+
+#[test]
+fn what_is_left_goes_out_after_the_port_came_back(rt: HostRuntime) -> Result<(), Fail> {
+    let alloc = rt.alloc();
+    let a = MemNetwork::new(alloc);
+    let b = MemNetwork::new(alloc);
+    let mut draining = gather_two(&rt, alloc, a, b)?;
+    let first = poll_alive(&rt, &mut draining, 0);
+    assert_eq!(rt; draining.is_done(), false);
+    let second = poll_alive(&rt, &mut draining, 1_000);
+    assert_eq!(rt; draining.is_done(), true);
+    let third = poll_alive(&rt, &mut draining, 2_000);
+    assert_eq!(rt; draining.is_done(), true);
+    assert_eq!(rt; draining.now(), 2_000);
+    assert_eq!(rt; first.released.as_slice(), [numbered(0)].as_slice());
+    assert_eq!(rt; second.released.as_slice(), [numbered(1)].as_slice());
+    assert_eq!(rt; third.released.len(), 0);
+    let (a, b) = draining.into_networks();
+    assert_eq!(rt; a.handed().len(), 2);
+    assert_eq!(rt; b.handed().len(), 2);
+    Ok(())
+}
+
+#[test]
+fn a_lost_frame_is_never_done(rt: HostRuntime) -> Result<(), Fail> {
+    let alloc = rt.alloc();
+    let a = MemNetwork::failing_at(alloc, 2);
+    let b = MemNetwork::failing_at(alloc, 2);
+    let mut draining = gather_two(&rt, alloc, a, b)?;
+    let first = poll_alive(&rt, &mut draining, 0);
+    let second = poll_alive(&rt, &mut draining, 1_000);
+    assert_eq!(rt; draining.is_done(), false);
+    let third = poll_at(&rt, &mut draining, 2_000);
+    assert_eq!(rt; third.err(), Some(PollFault::BothDown));
+    assert_eq!(rt; draining.is_done(), false);
+    assert_eq!(rt; draining.now(), 1_000);
+    assert_eq!(rt; first.released.as_slice(), [numbered(0)].as_slice());
+    assert_eq!(rt; second.released.len(), 0);
+    assert_eq!(rt; second.standing, NEITHER);
+    Ok(())
+}

@@ -1,0 +1,15 @@
+//! Tests of the emitter, over what its users see.
+#![tactic(auto)]
+
+#[cfg(test)]
+mod draining_tests;
+#[cfg(test)]
+mod network_tests;
+#[cfg(test)]
+mod port_tests;
+#[cfg(test)]
+mod testing;
+#[cfg(test)]
+mod tests;
+#[cfg(test)]
+mod thread_tests;

@@ -1,0 +1,204 @@
+//! Tests of networks that fail.
+ghost use Rattle.std.specs.Prelude.{◌≡◌, ◌<◌, ◌≤◌, [], length, map, IfOk};
+ghost use Rattle.arrayvec.specs.ArrayVec.{array_vec_len};
+ghost use Rattle.redundant_mux.specs.Entry.{entry};
+
+use crate::testing::{poll_alive, poll_at, send_taken};
+use afdx_tx::{Emitter, PollFault, Report, TxPort, open_tx};
+use afdx_config::{Config, read_config};
+use afdx_frame::Frame;
+use arrayvec::ArrayVec;
+use redundant_mux::{HandFault, MemNetwork, Network, Standing};
+use std::alloc::Global;
+use std::default::Default;
+use std::process::Abort;
+use std::sync::Wait;
+use std::test::Fail;
+
+// One link with room for six messages, and one port.
+const SIX: &str = "[end_system]\nid = 1\n\
+                   [[vl]]\nid = 1\nbag_ms = 1\nlmax = 1518\nsub_vls = 1\ncapacity = 6\n\
+                   [[port]]\nid = 10\nvl = 1\nsub = 0\npartition = 1\nkind = \"queuing\"\n\
+                   source = 1000\ndestination = 2000\nmax = 8192\n";
+
+const NEITHER: Standing = Standing { a: false, b: false };
+
+fn six(alloc: Global) -> Result<Config, Fail> {
+    read_config(alloc, SIX.as_bytes()).map_err(|_| Fail::from("a valid plan"))
+}
+
+/// Sends six messages of one byte, which are taken.
+fn send_six<R: Abort + Wait>(rt: &R, alloc: Global, port: &mut TxPort) {
+    for byte in 1..=6u8 {
+        send_taken(rt, alloc, port, &[byte]);
+    }
+}
+
+/// The emitter of one link and its port, over two networks that were handed nothing.
+fn open_six<A: Network + Drop, B: Network + Drop>(
+    alloc: Global,
+    a: A,
+    b: B,
+) -> Result<(Emitter<A, B>, TxPort), Fail>
+    requires a_empty { A.handed a ≡ [] }
+    requires b_empty { B.handed b ≡ [] }
+    requires a_new { A.failures a ≡ 0 }
+    requires b_new { B.failures b ≡ 0 }
+{
+    let Ok((tx, mut ports)) = open_tx(alloc, six(alloc)?, a, b) else {
+        return Err(Fail::from("no memory"));
+    };
+    match ports.pop() {
+        Some(port) => Ok((tx, port)),
+        None => Err(Fail::from("a plan with a port")),
+    }
+}
+
+/// Asserts what the poll with this number, counted from 1, answers where A fails at hand `k` and B at
+/// hand `m`: a release while one of them stands, nothing where the last one fails, and then `BothDown`.
+fn assert_answer(rt: &impl Abort, turn: u64, k: u64, m: u64, answer: Result<Report, PollFault>) {
+    let last = k.max(m);
+    match answer {
+        Ok(report) => {
+            assert!(rt; turn <= last);
+            let standing = if turn < last {
+                Standing {
+                    a: turn < k,
+                    b: turn < m,
+                }
+            } else {
+                NEITHER
+            };
+            assert_eq!(rt; report.standing, standing, "at poll {turn} of {k}, {m}");
+            assert_eq!(rt;
+                report.released.len() == 1,
+                turn < last,
+                "at poll {turn} of {k}, {m}"
+            );
+            assert_eq!(rt;
+                report.released.is_empty(),
+                turn == last,
+                "at poll {turn} of {k}, {m}"
+            );
+        }
+        Err(PollFault::BothDown) => assert!(rt; last < turn),
+    }
+}
+
+/// Asserts that the frames of so many polls were handed over, with their moments and numbers.
+fn assert_handed(rt: &impl Abort, network: &MemNetwork, many: u64) {
+    let handed = network.handed();
+    assert_eq!(rt; handed.len() as u64, many);
+    for (entry, place) in handed.iter().zip(0..7u8) {
+        assert_eq!(rt; entry.at, 1_000 * u64::from(place));
+        assert_eq!(rt; entry.frame.last(), Some(&place));
+    }
+}
+
+/// A run of six polls where A fails at hand `k` and B at hand `m`.
+fn run_failing<R: Abort + Wait>(rt: &R, alloc: Global, k: u64, m: u64) -> Result<(), Fail>
+    requires { (1 ≤ k) × (1 ≤ m) }
+{
+    let a = MemNetwork::failing_at(alloc, k);
+    let b = MemNetwork::failing_at(alloc, m);
+    let (mut tx, mut port) = open_six(alloc, a, b)?;
+    send_six(rt, alloc, &mut port);
+    for turn in 1..=6u64 {
+        let answer = poll_at(rt, &mut tx, 1_000 * (turn - 1));
+        assert_answer(rt, turn, k, m, answer);
+    }
+    assert_eq!(rt; tx.now(), 1_000 * (k.max(m).min(6) - 1));
+    let (a, b) = tx.into_networks();
+    assert_handed(rt, &a, k - 1);
+    assert_handed(rt, &b, m - 1);
+    Ok(())
+}
+
+#[test]
+fn each_network_keeps_the_frames_before_its_failure_whenever_both_fail(
+    rt: HostRuntime,
+) -> Result<(), Fail> {
+    for k in 1..=7 {
+        for m in 1..=7 {
+            run_failing(&rt, rt.alloc(), k, m)?;
+        }
+    }
+    Ok(())
+}
+
+/// A frame that was handed over, and its moment in microseconds.
+#[derive(Drop)]
+struct Kept {
+    at: u64,
+    frame: Frame,
+}
+
+impl Default for Kept {
+    fn default() -> Kept {
+        Kept {
+            at: 0,
+            frame: Frame::new(),
+        }
+    }
+}
+
+/// A network with room for two frames, which fails where it is full.
+#[derive(Drop)]
+struct Shelf {
+    kept: ArrayVec<Kept, 2>,
+    failures: u64,
+}
+
+impl Network for Shelf {
+    ghost handed = { λ s. map (λ k. entry k.at k.frame.items) s.kept.items };
+
+    ghost failures = { λ s. s.failures };
+
+    fn hand(&mut self, at: u64, frame: &[u8]) -> Result<(), HandFault> {
+        let mut copy = Frame::new();
+        if self.kept.is_full() || copy.try_extend_from_slice(frame).is_err() {
+            self.failures += 1;
+            return Err(HandFault);
+        }
+        self.kept.push(Kept { at, frame: copy });
+        Ok(())
+    }
+}
+
+fn empty_shelf() -> Shelf
+    ensures empty { map (λ k. entry k.at k.frame.items) result.kept.items ≡ [] }
+    ensures new { result.failures ≡ 0 }
+{
+    Shelf {
+        kept: ArrayVec::new(),
+        failures: 0,
+    }
+}
+
+#[test]
+fn a_network_without_memory_fails_where_it_is_full_and_the_other_goes_on(
+    rt: HostRuntime,
+) -> Result<(), Fail> {
+    let alloc = rt.alloc();
+    let (mut tx, mut port) = open_six(alloc, empty_shelf(), MemNetwork::new(alloc))?;
+    send_six(&rt, alloc, &mut port);
+    for turn in 1..=6u64 {
+        let report = poll_alive(&rt, &mut tx, 1_000 * (turn - 1));
+        assert_eq!(rt; report.released.len(), 1);
+        assert_eq!(rt;
+            report.standing,
+            Standing {
+                a: turn < 3,
+                b: true
+            }
+        );
+    }
+    let (a, b) = tx.into_networks();
+    assert_eq!(rt; (a.kept.len(), a.failures), (2, 1));
+    assert_handed(&rt, &b, 6);
+    for (kept, place) in a.kept.iter().zip(0..2u8) {
+        assert_eq!(rt; kept.at, 1_000 * u64::from(place));
+        assert_eq!(rt; kept.frame.last(), Some(&place));
+    }
+    Ok(())
+}

@@ -1,0 +1,162 @@
+//! Tests of ports, on one thread.
+ghost use Rattle.std.specs.Prelude.{◌≡◌, IfOk};
+ghost use Rattle.afdx_tx.specs.Ports.{IsPortOfTx, AreOpenedWith};
+
+use crate::testing::{poll_alive, send_taken};
+use afdx_tx::{Draining, Emitter, Refusal, TxPort, open_tx};
+use afdx_config::{PortId, read_config};
+use redundant_mux::MemNetwork;
+use std::alloc::Global;
+use std::process::Abort;
+use std::sync::Wait;
+use std::test::Fail;
+
+// One sub-VL with room for two messages, and two ports on it, of 100 bytes and of 4.
+const TWO_PORTS: &str = "[end_system]
+id = 1
+
+[[vl]]
+id = 1
+bag_ms = 1
+lmax = 1518
+sub_vls = 1
+capacity = 2
+
+[[port]]
+id = 10
+vl = 1
+sub = 0
+partition = 1
+kind = \"queuing\"
+source = 1000
+destination = 2000
+max = 100
+
+[[port]]
+id = 20
+vl = 1
+sub = 0
+partition = 2
+kind = \"queuing\"
+source = 1000
+destination = 2000
+max = 4
+";
+
+type Tx = Emitter<MemNetwork, MemNetwork>;
+
+type Drain = Draining<MemNetwork, MemNetwork>;
+
+/// An emitter of these two ports, and each of them.
+fn open_pair(alloc: Global) -> Result<(Tx, TxPort, TxPort), Fail>
+    ensures first { IfOk result (λ opened. IsPortOfTx opened.0 opened.1) }
+    ensures second { IfOk result (λ opened. IsPortOfTx opened.0 opened.2) }
+{
+    let config = read_config(alloc, TWO_PORTS.as_bytes())?;
+    let (a, b) = (MemNetwork::new(alloc), MemNetwork::new(alloc));
+    let Ok((tx, mut ports)) = open_tx(alloc, config, a, b) else {
+        return Err(Fail::from("no memory"));
+    };
+    match (ports.pop(), ports.pop()) {
+        (Some(second), Some(first)) => Ok((tx, first, second)),
+        _ => Err(Fail::from("two ports")),
+    }
+}
+
+/// Asserts that a message is refused, and comes back.
+fn assert_refused<R: Abort + Wait>(
+    rt: &R,
+    alloc: Global,
+    port: &mut TxPort,
+    bytes: &[u8],
+    why: Refusal,
+) {
+    let message = bytes.to_vec(alloc).expect(rt, "memory");
+    match port.send(rt, message) {
+        Ok(()) => panic!(rt; "taken"),
+        Err(fault) => {
+            assert_eq!(rt; fault.why, why);
+            assert_eq!(rt; fault.bytes.as_slice(), bytes);
+        }
+    }
+}
+
+#[test]
+fn a_message_that_is_refused_comes_back(rt: HostRuntime) -> Result<(), Fail> {
+    let alloc = rt.alloc();
+    let (tx, mut first, mut second) = open_pair(alloc)?;
+    assert_eq!(rt; first.id(), PortId(10));
+    assert_eq!(rt; second.id(), PortId(20));
+    assert_refused(&rt, alloc, &mut first, &[0; 0], Refusal::Empty);
+    assert_refused(&rt, alloc, &mut second, &[7; 5], Refusal::TooLong);
+    send_taken(&rt, alloc, &mut second, &[7; 4]);
+    send_taken(&rt, alloc, &mut first, &[8; 100]);
+    assert_refused(&rt, alloc, &mut first, &[9], Refusal::Full);
+    assert_eq!(rt; first.accepted(), 1);
+    assert_eq!(rt; second.accepted(), 1);
+    drop(tx);
+    assert_refused(&rt, alloc, &mut first, &[9], Refusal::Closed);
+    Ok(())
+}
+
+/// Ports of an emitter, of which one is missing. Both come back.
+fn gather_too_few<R: Wait>(rt: &R, tx: Tx, ports: Vec<TxPort>) -> Result<(Tx, Vec<TxPort>), Fail>
+    requires opened { AreOpenedWith tx ports.items }
+    ensures tx { IfOk result (λ back. back.0 ≡ tx) }
+    ensures ports { IfOk result (λ back. back.1 ≡ ports) }
+{
+    match tx.gather(rt, ports) {
+        Ok(_) => Err(Fail::from("gathered with a port missing")),
+        Err(back) => Ok(back),
+    }
+}
+
+/// Both ports of an emitter, the second one first.
+fn gather_pair<R: Wait>(
+    rt: &R,
+    alloc: Global,
+    tx: Tx,
+    first: TxPort,
+    second: TxPort,
+) -> Result<Drain, Fail>
+    requires first { IsPortOfTx tx first }
+    requires second { IsPortOfTx tx second }
+{
+    let ports = vec![in alloc; second, first]?;
+    match tx.gather(rt, ports) {
+        Ok(draining) => Ok(draining),
+        Err(_) => Err(Fail::from("each port is there")),
+    }
+}
+
+#[test]
+fn ports_are_gathered_in_any_order_and_not_with_one_missing(rt: HostRuntime) -> Result<(), Fail> {
+    let alloc = rt.alloc();
+    let (tx, first, second) = open_pair(alloc)?;
+    let (tx, none) = gather_too_few(&rt, tx, Vec::new(alloc))?;
+    assert_eq!(rt; none.len(), 0);
+    let draining = gather_pair(&rt, alloc, tx, first, second)?;
+    assert_eq!(rt; draining.now(), 0);
+    Ok(())
+}
+
+/// Both ports send, one message goes out, and the ports come back.
+fn send_poll_and_gather<R: Abort + Wait>(rt: &R, alloc: Global) -> Result<Drain, Fail> {
+    let (mut tx, mut first, mut second) = open_pair(alloc)?;
+    send_taken(rt, alloc, &mut first, &[1, 2]);
+    send_taken(rt, alloc, &mut second, &[3]);
+    let report = poll_alive(rt, &mut tx, 0);
+    assert_eq!(rt; report.released.len(), 1);
+    gather_pair(rt, alloc, tx, first, second)
+}
+
+#[test]
+fn what_was_accepted_goes_out_after_the_ports_are_gathered(rt: HostRuntime) -> Result<(), Fail> {
+    let mut draining = send_poll_and_gather(&rt, rt.alloc())?;
+    assert_eq!(rt; draining.is_done(), false);
+    assert_eq!(rt; draining.now(), 0);
+    let report = draining.poll(&rt, 1_000).expect(&rt, "some network stands");
+    assert_eq!(rt; report.released.len(), 1);
+    assert_eq!(rt; draining.is_done(), true);
+    Ok(())
+}

@@ -1,0 +1,278 @@
+//! Tests of ports that send from threads of their own.
+ghost use Rattle.std.specs.Prelude.{◌≡◌, [], map, Some, IfOk, IfSome};
+ghost use Rattle.afdx_tx.specs.Emitter.{Tx, queues_in};
+ghost use Rattle.afdx_tx.specs.Ports.{IsPortOfTx, AreOpenedWith};
+
+use afdx_tx::{Draining, Emitter, Refusal, SendFault, TxPort, open_tx};
+use afdx_config::{Config, read_config};
+use redundant_mux::MemNetwork;
+use std::alloc::{AllocError, Global};
+use std::process::Abort;
+use std::snapshot::Snapshot;
+use std::sync::Wait;
+use std::test::Fail;
+use std::thread;
+use std::thread::{Promise, PromisedHandle, Threads, join_promised};
+
+// How many ports the link has, two on each of its two sub-VLs.
+const PORTS: u8 = 4;
+
+// How often a message is sent again after Full, and how often the emitter is polled meanwhile.
+const TURNS: u64 = 100_000_000;
+
+// The gap of the link, in microseconds.
+const GAP: u64 = 1_000;
+
+// The port that comes back, if one does, is of the same emitter as the one that was given.
+#[derive(Drop)]
+struct ComesBack {
+    of: Snapshot<TxPort>,
+}
+
+impl Promise<Option<TxPort>> for ComesBack {
+    ghost use Rattle.std.specs.Prelude.{IfSome};
+    ghost use Rattle.afdx_tx.specs.Emitter.{Tx};
+    ghost use Rattle.afdx_tx.specs.Ports.{IsPortOfTx};
+
+    ghost kept_by = { λ p r. IfSome r
+        (λ port. (tx : Tx) → IsPortOfTx tx p.of.value → IsPortOfTx tx port) };
+}
+
+type Worker = PromisedHandle<Option<TxPort>, ComesBack>;
+
+// End system 1 with one link of two sub-VLs with room for so many messages. Ports 1 to 4 are of
+// partitions 1 to 4, the first two on sub-VL 0.
+fn plan(alloc: Global, capacity: usize) -> Result<Config, Fail> {
+    let mut text = format!(in alloc;
+        "[end_system]\nid = 1\n\
+         [[vl]]\nid = 1\nbag_ms = 1\nlmax = 1518\nsub_vls = 2\ncapacity = {capacity}\n"
+    )?;
+    for port in 1..=PORTS {
+        let sub = (port - 1) / 2;
+        let lines = format!(in alloc;
+            "[[port]]\nid = {port}\nvl = 1\nsub = {sub}\npartition = {port}\n\
+             kind = \"queuing\"\nsource = 1000\ndestination = 2000\nmax = 64\n"
+        )?;
+        text.push_str(&lines)?;
+    }
+    read_config(alloc, text.as_bytes()).map_err(|_| Fail::from("a valid plan"))
+}
+
+// The emitter of that plan over two networks that were handed nothing, and its ports.
+fn open_plan(
+    alloc: Global,
+    capacity: usize,
+) -> Result<(Emitter<MemNetwork, MemNetwork>, Vec<TxPort>), Fail>
+    ensures { IfOk result (λ opened. AreOpenedWith opened.0 opened.1.items) }
+{
+    let config = plan(alloc, capacity)?;
+    match open_tx(
+        alloc,
+        config,
+        MemNetwork::new(alloc),
+        MemNetwork::new(alloc),
+    ) {
+        Ok(opened) => Ok(opened),
+        Err(_) => Err(Fail::from("no memory")),
+    }
+}
+
+// Sends a message, and again after Full. Whether it was accepted.
+fn send_one<R: Wait>(rt: &R, port: &mut TxPort, bytes: Vec<u8>) -> bool
+    ensures { (tx : Tx) → IsPortOfTx tx port.old → IsPortOfTx tx port.new }
+{
+    let mut next = bytes;
+    for _turn in 0..TURNS {
+        match port.send(rt, next) {
+            Ok(()) => return true,
+            Err(
+                SendFault {
+                    why: Refusal::Full,
+                    bytes,
+                },
+            ) => {
+                next = bytes;
+                thread::yield_now();
+            }
+            Err(_) => return false,
+        }
+    }
+    false
+}
+
+// Sends the port's identifier with each number below `messages`, from 0 on. The port, if all were
+// accepted.
+fn send_all<R: Wait>(rt: &R, alloc: Global, mut port: TxPort, messages: u8) -> Option<TxPort>
+    ensures { IfSome result (λ back. (tx : Tx) → IsPortOfTx tx port → IsPortOfTx tx back) }
+{
+    let name = u8::try_from(port.id().0).ok()?;
+    for number in 0..messages {
+        let bytes = vec![in alloc; name, number].ok()?;
+        if !send_one(rt, &mut port, bytes) {
+            return None;
+        }
+    }
+    Some(port)
+}
+
+// Each port sends in a thread of its own.
+fn start_all<R: Threads + Wait + Copy + Send + 'static>(
+    rt: R,
+    alloc: Global,
+    ports: Vec<TxPort>,
+    messages: u8,
+) -> Result<Vec<Worker>, AllocError>
+    ensures { IfOk result (λ workers. map (λ h. h.promise.of.value) workers.items ≡ ports.items) }
+{
+    let mut workers = Vec::new(alloc);
+    for port in ports {
+        let promise = ComesBack {
+            of: Snapshot::of(&port),
+        };
+        let worker = thread::spawn_with(
+            &rt,
+            promise,
+            move || send_all(&rt, alloc, port, messages),
+        )?;
+        workers.push(worker)?;
+    }
+    Ok(workers)
+}
+
+// The ports, if all came back.
+fn all_back(alloc: Global, ended: Vec<Option<TxPort>>) -> Result<Vec<TxPort>, AllocError>
+    ensures { IfOk result (λ ports. map Some ports.items ≡ ended.items) }
+{
+    let mut ports = Vec::new(alloc);
+    for one in ended {
+        ports.push(one.ok_or(AllocError)?)?;
+    }
+    Ok(ports)
+}
+
+// Joins the workers. The ports that came back are of the same emitter as those that were given.
+fn join_all<R: Threads>(
+    rt: &R,
+    alloc: Global,
+    workers: Vec<Worker>,
+) -> Result<Vec<TxPort>, AllocError>
+    ensures { IfOk result (λ ports. (tx : Tx)
+        → AreOpenedWith tx (map (λ h. h.promise.of.value) workers.items) → AreOpenedWith tx ports.items) }
+{
+    let ended = join_promised(rt, workers)?;
+    let ports = all_back(alloc, ended)?;
+    Ok(ports)
+}
+
+// Polls, a gap apart, until so many frames were released, while the ports send.
+fn poll_some<R: Wait + Abort>(rt: &R, tx: &mut Emitter<MemNetwork, MemNetwork>, count: usize)
+    ensures plan { tx.new.plan ≡ tx.old.plan }
+    ensures queues { queues_in tx.new.links ≡ queues_in tx.old.links }
+{
+    let mut left = count;
+    for _turn in 0..TURNS {
+        if left == 0 {
+            return;
+        }
+        let now = tx.now().saturating_add(GAP);
+        let report = tx.poll(rt, now).expect(rt, "both networks stand");
+        match report.released.len() {
+            0 => thread::yield_now(),
+            released => left = left.saturating_sub(released),
+        }
+    }
+}
+
+// Polls, a gap apart, until all was released, and no more often than so many times.
+fn drain<R: Wait + Abort>(rt: &R, draining: &mut Draining<MemNetwork, MemNetwork>, count: usize) {
+    for _turn in 0..count {
+        if draining.is_done() {
+            return;
+        }
+        let now = draining.now().saturating_add(GAP);
+        draining.poll(rt, now).expect(rt, "both networks stand");
+    }
+}
+
+// The number of the frame at a place of a link's stream: 0, 1 to 255, 1 and so on.
+fn number_at(place: usize) -> usize {
+    match place.checked_sub(1) {
+        Some(before) => before % 255 + 1,
+        None => 0,
+    }
+}
+
+// Each port's messages were handed over whole, in its order, and each frame has the number of its
+// place. A frame's partition names its port.
+fn check_frames(rt: &impl Abort, network: &MemNetwork, messages: u8) {
+    let handed = network.handed();
+    assert_eq!(rt; handed.len(), usize::from(PORTS) * usize::from(messages));
+    let mut next = [0u8; 4];
+    for (place, entry) in handed.iter().enumerate() {
+        let frame = entry.frame.as_slice();
+        assert_eq!(rt; frame.len(), 60);
+        let port = frame[29];
+        assert!(rt; 1 <= port && port <= PORTS);
+        let number = next[usize::from(port - 1)];
+        assert!(rt; number < messages);
+        assert_eq!(rt; &frame[42..44], [port, number].as_slice());
+        assert_eq!(rt; usize::from(frame[59]), number_at(place));
+        next[usize::from(port - 1)] = number + 1;
+    }
+    assert_eq!(rt; next, [messages; 4]);
+}
+
+// Each port sends so many messages from a thread of its own, while the emitter is polled. All ports
+// come back, and no more messages are left than the capacity.
+fn gather_from_threads<R: Threads + Wait + Abort + Copy + Send + 'static>(
+    rt: R,
+    alloc: Global,
+    capacity: usize,
+    messages: u8,
+) -> Result<Draining<MemNetwork, MemNetwork>, Fail> {
+    let (mut tx, ports) = open_plan(alloc, capacity)?;
+    let workers = start_all(rt, alloc, ports, messages)?;
+    // What is left then has room in any one queue, so each port can send its last message.
+    let count = usize::from(PORTS) * usize::from(messages);
+    poll_some(&rt, &mut tx, count.saturating_sub(capacity));
+    let ports = join_all(&rt, alloc, workers)?;
+    check_accepted(&rt, &ports, messages);
+    match tx.gather(&rt, ports) {
+        Ok(draining) => Ok(draining),
+        Err(_) => Err(Fail::from("each port is there")),
+    }
+}
+
+// Each port had so many messages accepted.
+fn check_accepted(rt: &impl Abort, ports: &[TxPort], messages: u8) {
+    for port in ports {
+        assert_eq!(rt; port.accepted(), u64::from(messages));
+    }
+}
+
+// After all ports came back from their threads, and what was left is sent, both networks have every
+// message.
+fn send_from_threads<R: Threads + Wait + Abort + Copy + Send + 'static>(
+    rt: R,
+    alloc: Global,
+    capacity: usize,
+    messages: u8,
+) -> Result<(), Fail> {
+    let mut draining = gather_from_threads(rt, alloc, capacity, messages)?;
+    drain(&rt, &mut draining, capacity);
+    assert_eq!(rt; draining.is_done(), true);
+    let (a, b) = draining.into_networks();
+    check_frames(&rt, &a, messages);
+    check_frames(&rt, &b, messages);
+    Ok(())
+}
+
+#[test]
+fn four_ports_send_a_hundred_messages_each_from_threads(rt: HostRuntime) -> Result<(), Fail> {
+    send_from_threads(rt, rt.alloc(), 256, 100)
+}
+
+#[test]
+fn four_threads_send_through_queues_with_room_for_two(rt: HostRuntime) -> Result<(), Fail> {
+    send_from_threads(rt, rt.alloc(), 2, 20)
+}

@@ -1,7 +1,0 @@
-use Rattle.std.proofs.Common.{ℕ, ◌<◌, true}
-use Rattle.afdx_tx.specs.Links.{held_at}
-use Rattle.afdx_tx.specs.Done.{TellsSubDone}
-use Rattle.afdx_tx.proofs.link.subs_done.Given as goal
-
-abbrev pub invariant-loop-sub : goal.invariant-loop-sub
-invariant-loop-sub l = (s : ℕ) → s < l.sub-index → TellsSubDone true (held_at l.fn.subs s)

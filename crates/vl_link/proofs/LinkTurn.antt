@@ -1,0 +1,283 @@
+-- One turn of a link, against its stream.
+use Rattle.std.proofs.Common.{ℕ, ◌≡◌, ◌≢◌, ◌<◌, List, [], ◌∷◌, ◌++◌, true, false, arith, ap, ◌∙◌, sym, subst, inr, ⊎_elim, Option, None}
+use Rattle.std.proofs.lemmas.List.{get_or-set_other}
+use Rattle.std.proofs.lemmas.Bool.{cases_eq, eq-eqb, ne_eqb}
+use Rattle.afdx_config.specs.declared.link_plan.LinkPlan.{LinkPlan}
+use Rattle.afdx_config.specs.Plan.{bag_micros}
+use Rattle.afdx_config.specs.Room.{room_of}
+use Rattle.afdx_config.specs.Numbers.{sequence_number}
+use Rattle.afdx_frame.specs.declared.net.Net.TheVariants.{A}
+use Rattle.afdx_frame.specs.Header.{sub_in}
+use Rattle.afdx_frame.specs.Fragments.{blanked, fragments}
+use Rattle.redundant_mux.specs.Entry.{Entry, entry}
+use Rattle.redundant_mux.specs.Lines.{Lines, log}
+use Rattle.vl_shaper.specs.declared.shaper.Stamp.{Stamp}
+use Rattle.vl_shaper.specs.Pace.{Pace, IsLater}
+use Rattle.vl_link.specs.declared.served.Served.{Served}
+use Rattle.vl_link.specs.declared.served.Served.TheVariants.{Nothing, Released, Lost}
+use Rattle.vl_link.specs.declared.sub_vl.SubVl.{SubVl}
+use Rattle.afdx_legal.specs.Streams.{latest, on_sub, link_stream, sub_stream, told, told_of, IsNumbered, IsSpaced, IsApart, IsPrefixOf}
+use Rattle.vl_link.specs.Links.{Held, LinkState, held_at, nothing_held, Gives, Picks, ReleasesAt, Serves, Follows, IsSameLink, IsLink, is_lost, pace_of, sub_fragments, taken_by}
+use Rattle.vl_link.specs.Kept.{IsKept, IsTied, IsBehind, IsLinkTied}
+use Rattle.vl_link.proofs.Choosing.{Moves, held_same, moves_chosen, moves_passed}
+use Rattle.vl_link.proofs.SubInStep.{moves_of, tied_moves, tied_gave, prefix_of, shown, gave_shown}
+use Rattle.afdx_legal.proofs.LongerStream.{spaced_push, numbered_push, due_apart, filter_push_in, filter_push_out}
+use Rattle.vl_link.proofs.PaceOfStream.{stream_more, stream_same}
+
+-- a turn of a link that was where its stream is
+pub record Turned (now : ℕ) (link new : LinkState) (lines after : Lines) (did : Served) : Type 0 where
+  pub serves : Serves now link.pace link.subs new.subs lines after did
+  pub paced : Follows new.plan.id.0 new.pace after did
+  pub same : IsSameLink link new
+  pub later : IsLater link.pace.last now
+  pub whole : link.lost ≡ false
+  pub lost : new.lost ≡ is_lost did
+
+-- a link is one of its plan
+abbrev pub IsOwn : LinkState → Type 0
+IsOwn link = IsLink link.end_system link.plan link.pace link.subs
+
+-- the link stays one of its plan
+pub link_turn : (now : ℕ) (link new : LinkState) (lines after : Lines) (did : Served)
+    → Turned now link new lines after did → IsOwn link → IsOwn new
+link_turn now link new lines after did t own =
+    record {
+      count = t.same.count ∙ own.count ∙ sym t.same.sub_vls;
+      sub_vls = t.same.sub_vls ∙ own.sub_vls ∙ ap (λ (p : LinkPlan). p.sub_vls) (sym t.same.plan);
+      gap = t.same.gap ∙ own.gap ∙ ap (λ (p : LinkPlan). bag_micros p.bag) (sym t.same.plan);
+      named = λ s lt. (t.same.subs s).of ∙ own.named s (omega (arith, t.same.count))
+          ∙ ap (λ (e : ℕ). record { end_system = e; link = link.plan; sub = s }) (sym t.same.end_system)
+          ∙ ap (λ (p : LinkPlan). record { end_system = new.end_system; link = p; sub = s }) (sym t.same.plan);
+    }
+
+-- the link after a turn, over a stream that is known by the plan before it
+kept_of : (link new : LinkState) (H : List Entry) → IsSameLink link new
+    → IsNumbered 0 (link_stream link.plan.id.0 H) → IsSpaced link.pace.gap None (link_stream link.plan.id.0 H)
+    → ((s : ℕ) → s < link.plan.sub_vls → IsPrefixOf (told_of link.plan.id.0 s H)
+    (fragments link.end_system (room_of link.plan.lmax) A (taken_by (held_at new.subs s))))
+    → (new.lost ≡ false → new.pace ≡ pace_of new.pace.gap new.pace.sub_vls (link_stream new.plan.id.0 H))
+    → (new.lost ≡ false → (s : ℕ) → s < link.plan.sub_vls
+    → IsTied (held_at new.subs s) (sub_stream s (link_stream link.plan.id.0 H)))
+    → (new.lost ≡ true → (s : ℕ) × (s < link.plan.sub_vls)
+    × IsBehind (held_at new.subs s) (sub_stream s (link_stream link.plan.id.0 H)))
+    → IsKept new H
+kept_of link new H same numbered spaced prefixes paced tied behind =
+    let many : new.plan.sub_vls ≡ link.plan.sub_vls = ap (λ (p : LinkPlan). p.sub_vls) same.plan in
+    record {
+      numbered = subst (λ (p : LinkPlan). IsNumbered 0 (link_stream p.id.0 H)) (sym same.plan) numbered;
+      spaced = subst (λ (p : LinkPlan). IsSpaced new.pace.gap None (link_stream p.id.0 H)) (sym same.plan)
+          (subst (λ (g : ℕ). IsSpaced g None (link_stream link.plan.id.0 H)) (sym same.gap) spaced);
+      prefixes = λ s lt.
+          subst (λ (e : ℕ). IsPrefixOf (told_of new.plan.id.0 s H)
+          (fragments e (room_of new.plan.lmax) A (taken_by (held_at new.subs s)))) (sym same.end_system)
+          (subst (λ (p : LinkPlan). IsPrefixOf (told_of p.id.0 s H)
+          (fragments link.end_system (room_of p.lmax) A (taken_by (held_at new.subs s)))) (sym same.plan)
+          (prefixes s (omega arith)));
+      paced = paced;
+      tied = λ whole s lt.
+          subst (λ (p : LinkPlan). IsTied (held_at new.subs s) (sub_stream s (link_stream p.id.0 H)))
+          (sym same.plan) (tied whole s (omega arith));
+      behind = λ lost.
+          let b = behind lost in
+          let within : b.0 < link.plan.sub_vls = b.1 in
+          record {
+            sub = b.0;
+            within = omega arith;
+            behind = subst (λ (p : LinkPlan). IsBehind (held_at new.subs b.0) (sub_stream b.0 (link_stream p.id.0 H)))
+                (sym same.plan) b.2;
+          };
+    }
+
+-- the sub-VL that was picked, and its link
+pub picked_of : (link : LinkState) (sub : ℕ) (news : List Held) (p : Picks link.pace sub link.subs news)
+    → IsOwn link
+    → (held_at p.mid sub).of ≡ record { end_system = link.end_system; link = link.plan; sub = sub }
+picked_of link sub news p own =
+    (moves_of (held_at link.subs sub) (held_at p.mid sub) (moves_chosen link.pace link.subs sub p.mid p.choice sub)).of
+    ∙ own.named sub p.choice.below
+
+-- what entered is of the picked sub-VL
+released_own : (now number : ℕ) (link : LinkState) (sub : ℕ) (news : List Held) (lines after : Lines)
+    (at : ReleasesAt now link.pace sub number link.subs news lines after)
+    → IsOwn link
+    → (link_stream link.plan.id.0 (log after) ≡ link_stream link.plan.id.0 (log lines)
+    ++ entry now at.releases.frame ∷ []) × (sub_in at.releases.frame ≡ sub)
+released_own now number link sub news lines after at own =
+    let of = picked_of link sub news at.picks own in (
+      stream_more link.plan.id.0 now number _ _ lines after at.releases
+          (ap (λ (o : SubVl). o.link.id.0) of),
+      at.releases.of.of_sub ∙ ap (λ (o : SubVl). o.sub) of,
+    )
+
+-- a prefix, by the sub-VL that it is of
+prefix_at : (link : LinkState) (s : ℕ) (held : Held) (H : List Entry)
+    → held.of ≡ record { end_system = link.end_system; link = link.plan; sub = s }
+    → IsTied held (sub_stream s (link_stream link.plan.id.0 H))
+    → IsPrefixOf (told_of link.plan.id.0 s H) (fragments link.end_system (room_of link.plan.lmax) A (taken_by held))
+prefix_at link s held H of t =
+    subst (λ (o : SubVl). IsPrefixOf (told_of link.plan.id.0 s H) (sub_fragments o 0 (taken_by held))) of
+    (prefix_of held (sub_stream s (link_stream link.plan.id.0 H)) t)
+
+-- what happened to each sub-VL in a turn that did nothing
+moves_nothing : (now : ℕ) (pace : Pace) (old new : List Held) (lines after : Lines)
+    → Serves now pace old new lines after Nothing → (s : ℕ) → Moves (held_at old s) (held_at new s)
+moves_nothing now pace old new lines after v s = ⊎_elim
+    (λ h. inr (inr (ap (λ (x : List Held). held_at x s) h.1)))
+    (λ h. moves_passed pace old new pace.sub_vls h.1 s)
+    v.0
+
+-- the picked sub-VL after its frame
+picked : (pace : Pace) (sub : ℕ) (old new : List Held) (p : Picks pace sub old new) → held_at new sub ≡ p.held
+picked pace sub old new p =
+    ap (λ (x : List Held). held_at x sub) p.others
+    ∙ held_same p.mid sub p.held (omega (arith, p.choice.count, p.choice.below))
+
+-- the others are as the choice left them
+not_picked : (pace : Pace) (sub : ℕ) (old new : List Held) (p : Picks pace sub old new) (s : ℕ) → s ≢ sub
+    → held_at new s ≡ held_at p.mid s
+not_picked pace sub old new p s ne =
+    ap (λ (x : List Held). held_at x s) p.others ∙ get_or-set_other p.mid sub s p.held nothing_held ne
+
+-- what the picked sub-VL's frame leaves of what was taken
+picked_shown : (pace : Pace) (sub : ℕ) (old new : List Held) (p : Picks pace sub old new) (frame : List ℕ)
+    → Gives (held_at p.mid sub) frame p.held → (s : ℕ) → shown (held_at new s) ≡ shown (held_at p.mid s)
+picked_shown pace sub old new p frame g s = ⊎_elim
+    (λ (e : s ≡ sub). subst (λ (i : ℕ). shown (held_at new i) ≡ shown (held_at p.mid i)) (sym e)
+    (ap shown (picked pace sub old new p) ∙ gave_shown frame (held_at p.mid sub) p.held g))
+    (λ (ne : s ≢ sub). ap shown (not_picked pace sub old new p s ne))
+    (cases_eq s sub)
+
+-- the sub-VLs of a link of a plan are tied to their streams where they were asked
+tied_mid : (link : LinkState) (H : List Entry) (mid : List Held)
+    → ((s : ℕ) → Moves (held_at link.subs s) (held_at mid s)) → IsLinkTied link H → (s : ℕ) → s < link.plan.sub_vls
+    → IsTied (held_at mid s) (sub_stream s (link_stream link.plan.id.0 H))
+tied_mid link H mid moves tied s lt = tied_moves (held_at link.subs s) (held_at mid s) _ (moves s) (tied s lt)
+
+-- each sub-VL's stream after the picked one's frame entered
+tied_released : (now number : ℕ) (link : LinkState) (sub : ℕ) (news : List Held) (lines after : Lines)
+    (at : ReleasesAt now link.pace sub number link.subs news lines after) → IsOwn link → IsLinkTied link (log lines)
+    → (s : ℕ) → s < link.plan.sub_vls
+    → IsTied (held_at news s) (sub_stream s (link_stream link.plan.id.0 (log after)))
+tied_released now number link sub news lines after at own before s lt =
+    let p = at.picks in
+    let frame = at.releases.frame in
+    let stream = link_stream link.plan.id.0 (log lines) in
+    let both = released_own now number link sub news lines after at own in
+    let mine : sub_in at.releases.frame ≡ sub = both.1 in
+    let mid = tied_mid link (log lines) p.mid (moves_chosen link.pace link.subs sub p.mid p.choice) before in
+    ⊎_elim
+    (λ (same : s ≡ sub).
+    let below : sub < link.plan.sub_vls = omega arith in
+    let T : sub_stream sub (link_stream link.plan.id.0 (log after)) ≡ sub_stream sub
+    (link_stream link.plan.id.0 (log lines)) ++ entry now at.releases.frame ∷ [] =
+    ap (sub_stream sub) both.0 ∙ filter_push_in (on_sub sub) stream (entry now frame) (eq-eqb _ _ mine) in
+    let gave : IsTied p.held (sub_stream sub (link_stream link.plan.id.0 (log lines)) ++ entry now at.releases.frame ∷ []) =
+    tied_gave now frame (held_at p.mid sub) p.held _ at.releases.gives (mid sub below) in
+    subst (λ (i : ℕ). IsTied (held_at news i) (sub_stream i (link_stream link.plan.id.0 (log after)))) (sym same)
+    (subst (λ (x : Held). IsTied x (sub_stream sub (link_stream link.plan.id.0 (log after))))
+    (sym (picked link.pace sub link.subs news p))
+    (subst (IsTied p.held) (sym T) gave)))
+    (λ (ne : s ≢ sub).
+    let T : sub_stream s (link_stream link.plan.id.0 (log after)) ≡ sub_stream s (link_stream link.plan.id.0 (log lines)) =
+    ap (sub_stream s) both.0 ∙ filter_push_out (on_sub s) stream (entry now frame) (ne_eqb _ _ (λ q. ne (sym q ∙ mine))) in
+    subst (λ (x : Held). IsTied x (sub_stream s (link_stream link.plan.id.0 (log after))))
+    (sym (not_picked link.pace sub link.subs news p s ne))
+    (subst (IsTied (held_at p.mid s)) (sym T) (mid s lt)))
+    (cases_eq s sub)
+
+-- a link that kept what links keep does after its turn
+pub kept_turn : (now : ℕ) (did : Served) (link new : LinkState) (lines after : Lines)
+    → Turned now link new lines after did → IsOwn link → IsKept link (log lines) → IsKept new (log after)
+kept_turn now Nothing link new lines after t own k =
+    let same : log lines ≡ log after = ap log (sym t.serves.1) in
+    let tied : (s : ℕ) → s < link.plan.sub_vls
+    → IsTied (held_at new.subs s) (sub_stream s (link_stream link.plan.id.0 (log lines))) =
+    tied_mid link (log lines) new.subs (moves_nothing now link.pace link.subs new.subs lines after t.serves) (k.tied t.whole) in
+    subst (IsKept new) same (kept_of link new (log lines) t.same k.numbered k.spaced
+    (λ s lt. prefix_at link s (held_at new.subs s) (log lines)
+    ((t.same.subs s).of ∙ own.named s (omega (arith, own.count, own.sub_vls))) (tied s lt))
+    (λ _. subst (λ (H : List Entry). new.pace ≡ pace_of new.pace.gap new.pace.sub_vls (link_stream new.plan.id.0 H))
+    (sym same) t.paced)
+    (λ _. tied)
+    (λ (l : new.lost ≡ true). absurd (let e : new.lost ≡ false = t.lost in cc)))
+kept_turn now (Released sub number) link new lines after t own k =
+    let at = t.serves.2 in
+    let more = (released_own now number link sub new.subs lines after at own).0 in
+    let stream = link_stream link.plan.id.0 (log lines) in
+    let paced : link.pace ≡ pace_of link.pace.gap link.pace.sub_vls (link_stream link.plan.id.0 (log lines)) = k.paced t.whole in
+    let apart : IsApart link.pace.gap (latest None (link_stream link.plan.id.0 (log lines))) now =
+    subst (λ (o : Option Stamp). IsApart link.pace.gap o now) (ap (λ (x : Pace). x.last) paced)
+    (due_apart link.pace.gap link.pace.last now t.later t.serves.0) in
+    let tied : (s : ℕ) → s < link.plan.sub_vls
+    → IsTied (held_at new.subs s) (sub_stream s (link_stream link.plan.id.0 (log after))) =
+    tied_released now number link sub new.subs lines after at own (k.tied t.whole) in
+    kept_of link new (log after) t.same
+    (subst (IsNumbered 0) (sym more) (numbered_push 0 stream (entry now at.releases.frame) k.numbered
+    (at.releases.of.carries ∙ t.serves.1 ∙ ap (λ (x : Pace). x.next) paced ∙ ap sequence_number (omega arith))))
+    (subst (IsSpaced link.pace.gap None) (sym more)
+    (spaced_push link.pace.gap None stream (entry now at.releases.frame) k.spaced apart))
+    (λ s lt. prefix_at link s (held_at new.subs s) (log after)
+    ((t.same.subs s).of ∙ own.named s (omega (arith, own.count, own.sub_vls))) (tied s lt))
+    (λ _. t.paced)
+    (λ _. tied)
+    (λ (l : new.lost ≡ true). absurd (let e : new.lost ≡ false = t.lost in cc))
+kept_turn now Lost link new lines after t own k =
+    let at = t.serves.1 in
+    let p = at.picks in
+    let gives = at.loses.gives in
+    let below : at.sub < link.plan.sub_vls = omega (arith, p.choice.below, own.count, own.sub_vls) in
+    let same = picked_shown link.pace at.sub link.subs new.subs p at.loses.frame gives in
+    let mid = tied_mid link (log lines) p.mid (moves_chosen link.pace link.subs at.sub p.mid p.choice) (k.tied t.whole) in
+    subst (IsKept new) (sym at.loses.same) (kept_of link new (log lines) t.same k.numbered k.spaced
+    (λ s lt. subst (λ (o : SubVl). IsPrefixOf (told_of link.plan.id.0 s (log lines)) (sub_fragments o 0 (taken_by (held_at new.subs s))))
+    ((t.same.subs s).of ∙ own.named s (omega (arith, own.count, own.sub_vls)))
+    ((held_at p.mid s).left, sym (same s ∙ mid s lt)))
+    (λ (f : new.lost ≡ false). absurd (let e : new.lost ≡ true = t.lost in cc))
+    (λ (f : new.lost ≡ false). absurd (let e : new.lost ≡ true = t.lost in cc))
+    (λ _. (
+      at.sub,
+      below,
+      record {
+        left = (held_at p.mid at.sub).left;
+        some = λ none. let e : [] ≡ blanked at.loses.frame ∷ p.held.left = sym none ∙ gives.next in cc;
+        ahead = same at.sub ∙ mid at.sub below;
+      },
+    )))
+
+-- another link's stream
+pub other_stream : (now vl : ℕ) (did : Served) (link new : LinkState) (lines after : Lines)
+    → Turned now link new lines after did → IsOwn link → link.plan.id.0 ≢ vl
+    → link_stream vl (log after) ≡ link_stream vl (log lines)
+other_stream now vl Nothing link new lines after t own ne = ap (λ (x : Lines). link_stream vl (log x)) t.serves.1
+other_stream now vl (Released sub number) link new lines after t own ne =
+    let at = t.serves.2 in
+    stream_same vl now number _ _ lines after at.releases
+    (λ e. ne (sym (ap (λ (o : SubVl). o.link.id.0) (picked_of link sub new.subs at.picks own)) ∙ e))
+other_stream now vl Lost link new lines after t own ne = ap (link_stream vl) t.serves.1.loses.same
+
+-- a link whose stream is the same keeps what it kept
+pub kept_stream : (other : LinkState) (H J : List Entry)
+    → link_stream other.plan.id.0 J ≡ link_stream other.plan.id.0 H → IsKept other H → IsKept other J
+kept_stream other H J e k =
+    record {
+      numbered = subst (IsNumbered 0) (sym e) k.numbered;
+      spaced = subst (IsSpaced other.pace.gap None) (sym e) k.spaced;
+      prefixes = λ s lt. subst
+          (λ (S : List Entry). IsPrefixOf (told (sub_stream s S))
+          (fragments other.end_system (room_of other.plan.lmax) A (taken_by (held_at other.subs s)))) (sym e)
+          (k.prefixes s lt);
+      paced = λ w. k.paced w ∙ ap (pace_of other.pace.gap other.pace.sub_vls) (sym e);
+      tied = λ w s lt. subst (λ (S : List Entry). IsTied (held_at other.subs s) (sub_stream s S)) (sym e) (k.tied w s lt);
+      behind = λ l.
+          let b = k.behind l in
+          record {
+            sub = b.sub;
+            within = b.within;
+            behind = subst (λ (S : List Entry). IsBehind (held_at other.subs b.sub) (sub_stream b.sub S)) (sym e) b.behind;
+          };
+    }
+
+-- what entered is known
+pub released_known : (now number : ℕ) (link : LinkState) (sub : ℕ) (news : List Held) (lines after : Lines)
+    → ReleasesAt now link.pace sub number link.subs news lines after → IsOwn link → sub < link.plan.sub_vls
+released_known now number link sub news lines after at own = omega (arith, at.picks.choice.below, own.count, own.sub_vls)

@@ -1,0 +1,62 @@
+-- A queue after a look into it.
+use Rattle.std.proofs.Common.{ℕ, ◌≡◌, ◌∙◌, List, [], ◌∷◌, ◌++◌, Some, refl, ap, sym, subst}
+use Rattle.std.proofs.lemmas.List.{append_assoc}
+use Rattle.vl_link.specs.Seen.{Seen, receiving, gathered, taken_of, ports_of, queue_of, FindsNothing, Finds, IsReceiving, IsSameQueue}
+
+-- nothing more was taken where nothing was found
+pub taken_nothing : (old new : Seen) → FindsNothing old new → taken_of new ≡ taken_of old
+taken_nothing (receiving r) new f = ap taken_of f
+taken_nothing (gathered g) new f = ap taken_of f.1
+
+-- what was found was taken
+pub taken_finds : (old : Seen) (message : ℕ × List ℕ) (new : Seen) → Finds old message new
+    → taken_of new ≡ taken_of old ++ message ∷ []
+taken_finds (receiving r) message new f = ap taken_of f
+taken_finds (gathered g) message new f = ap taken_of f.2
+
+-- a queue in which nothing was found is the same
+pub same_nothing : (old new : Seen) → FindsNothing old new → IsSameQueue old new
+same_nothing (receiving r) new f = subst (IsSameQueue (receiving r)) (sym f) (refl, refl, refl)
+same_nothing (gathered g) new f = subst (IsSameQueue (gathered g)) (sym f.1) (refl, refl)
+
+-- and so is one from which a message was taken
+pub same_finds : (old : Seen) (message : ℕ × List ℕ) (new : Seen) → Finds old message new → IsSameQueue old new
+same_finds (receiving r) message new f = subst (IsSameQueue (receiving r)) (sym f) (refl, refl, refl)
+same_finds (gathered g) message new f = subst (IsSameQueue (gathered g)) (sym f.2) (
+  refl,
+  append_assoc g.taken (message ∷ []) f.0 ∙ ap (λ (left : List (ℕ × List ℕ)). g.taken ++ left) (sym f.1),
+)
+
+-- a queue is the same as itself
+pub same_here : (seen : Seen) → IsSameQueue seen seen
+same_here (receiving r) = (refl, refl, refl)
+same_here (gathered g) = (refl, refl)
+
+-- the same over two steps
+pub same_on : (a b c : Seen) → IsSameQueue a b → IsSameQueue b c → IsSameQueue a c
+same_on (receiving a) (receiving b) (receiving c) p q = (q.0 ∙ p.0, q.1 ∙ p.1, q.2 ∙ p.2)
+same_on (gathered a) (gathered b) (gathered c) p q = (q.0 ∙ p.0, q.1 ∙ p.1)
+same_on (receiving a) (gathered b) c p q = absurd p
+same_on (gathered a) (receiving b) c p q = absurd p
+same_on (receiving a) (receiving b) (gathered c) p q = absurd q
+same_on (gathered a) (gathered b) (receiving c) p q = absurd q
+
+-- the same queue has as many ports
+pub same_ports : (old new : Seen) → IsSameQueue old new → ports_of new ≡ ports_of old
+same_ports (receiving r) (receiving s) e = e.2
+same_ports (gathered g) (gathered h) e = e.0
+same_ports (receiving r) (gathered h) e = absurd e
+same_ports (gathered g) (receiving s) e = absurd e
+
+-- and the same name
+pub same_name : (old new : Seen) → IsSameQueue old new → queue_of new ≡ queue_of old
+same_name (receiving r) (receiving s) e = ap Some e.0
+same_name (gathered g) (gathered h) e = refl
+same_name (receiving r) (gathered h) e = absurd e
+same_name (gathered g) (receiving s) e = absurd e
+
+-- while ports may send, they may send on
+pub still_receiving : (old new : Seen) → IsSameQueue old new → IsReceiving old → IsReceiving new
+still_receiving (receiving r) (receiving s) e i = tt
+still_receiving (gathered g) new e i = absurd i
+still_receiving (receiving r) (gathered h) e i = absurd e

@@ -1,0 +1,129 @@
+-- A sub-VL that was asked or gave a frame, against its stream.
+use Rattle.std.proofs.Common.{ℕ, ◌≡◌, ◌≢◌, ◌+◌, List, [], ◌∷◌, ◌++◌, true, length, arith, refl, ap, ◌∙◌, sym, subst, ⊎_elim}
+use Rattle.std.proofs.lemmas.List.{append-nil, append_assoc, map-append, length-map}
+use Rattle.afdx_config.specs.Room.{room_of}
+use Rattle.afdx_config.specs.declared.port_plan.PortPlan.{PortPlan}
+use Rattle.afdx_frame.specs.declared.net.Net.TheVariants.{A}
+use Rattle.afdx_frame.specs.Fragments.{Sent, blanked}
+use Rattle.afdx_frame.proofs.FragmentLemmas.{fragments_more}
+use Rattle.redundant_mux.specs.Entry.{Entry, entry}
+use Rattle.vl_shaper.specs.Pace.{Pace}
+use Rattle.vl_link.specs.declared.sub_vl.SubVl.{SubVl}
+use Rattle.vl_link.specs.Seen.{taken_of}
+use Rattle.afdx_legal.specs.Streams.{told, IsPrefixOf}
+use Rattle.vl_link.specs.Links.{Held, held_at, GoesOn, Starts, Passes, Asks, IsChoice, PassedOver, Gives, IsSameSub, AreSameSubs, sub_fragments, message_fragments, sent_of, sent_by, taken_by}
+use Rattle.vl_link.specs.Kept.{IsTied}
+use Rattle.vl_link.proofs.Choosing.{Moves, moves_chosen, moves_passed}
+use Rattle.vl_link.proofs.QueueLooks.{taken_nothing, taken_finds, same_nothing, same_finds, same_here, same_on}
+
+-- what was asked and has something has a fragment left
+pub asked_left : (old new : Held) → Asks true old new → new.left ≢ []
+asked_left old new a none = ⊎_elim
+    (λ (g : GoesOn old new). g.some (sym (ap (λ (h : Held). h.left) g.same) ∙ none))
+    (λ (s : Starts old new). s.some none)
+    a
+
+-- a sub-VL that did nothing stays itself
+pub same_sub_here : (old new : Held) → new ≡ old → IsSameSub old new
+same_sub_here old new e = subst (IsSameSub old) (sym e) (record { of = refl; ports = refl; queue = same_here old.seen })
+
+-- a sub-VL stays itself over two steps
+pub same_sub_on : (a b c : Held) → IsSameSub a b → IsSameSub b c → IsSameSub a c
+same_sub_on a b c p q =
+    record { of = q.of ∙ p.of; ports = q.ports ∙ p.ports; queue = same_on a.seen b.seen c.seen p.queue q.queue }
+
+-- a sub-VL that is asked stays itself
+pub moves_of : (old new : Held) → Moves old new → IsSameSub old new
+moves_of old new m = ⊎_elim
+    (λ (p : Passes old new). record {
+      of = ap (λ (h : Held). h.of) p.same;
+      ports = ap (λ (h : Held). h.ports) p.same;
+      queue = same_nothing old.seen new.seen p.nothing;
+    })
+    (λ m1. ⊎_elim
+    (λ a. ⊎_elim
+    (λ (g : GoesOn old new). same_sub_here old new g.same)
+    (λ (s : Starts old new). record {
+      of = s.of;
+      ports = s.ports;
+      queue = same_finds old.seen s.message new.seen s.finds;
+    })
+    a)
+    (λ (e : new ≡ old). same_sub_here old new e) m1)
+    m
+
+-- sub-VLs that were passed over stay themselves
+pub passed_same : (pace : Pace) (old new : List Held) (n : ℕ) → PassedOver pace old new n → AreSameSubs old new
+passed_same pace old new n p s = moves_of (held_at old s) (held_at new s) (moves_passed pace old new n p s)
+
+-- sub-VLs of which one was chosen stay themselves
+pub chosen_same : (pace : Pace) (old : List Held) (sub : ℕ) (new : List Held) → IsChoice pace old sub new
+    → AreSameSubs old new
+chosen_same pace old sub new c s = moves_of (held_at old s) (held_at new s) (moves_chosen pace old sub new c s)
+
+-- and so does one that gave its next frame
+pub gave_same : (frame : List ℕ) (old new : Held) → Gives old frame new → IsSameSub old new
+gave_same frame old new g =
+    subst (IsSameSub old) (sym g.same) (record { of = refl; ports = refl; queue = same_here old.seen })
+
+-- the fragments of one message more
+fragments_push : (of : SubVl) (xs : List Sent) (m : Sent)
+    → sub_fragments of 0 (xs ++ m ∷ []) ≡ sub_fragments of 0 xs ++ message_fragments of (length xs) m
+fragments_push of xs m =
+    let place : 0 + length xs ≡ length xs = omega arith in
+    fragments_more xs of.end_system (room_of of.link.lmax) A 0 m
+    ∙ ap (λ (p : ℕ). sub_fragments of 0 xs ++ message_fragments of p m) place
+
+-- what was told begins the fragments of what was taken
+pub prefix_of : (held : Held) (stream : List Entry) → IsTied held stream
+    → IsPrefixOf (told stream) (sub_fragments held.of 0 (taken_by held))
+prefix_of held stream t = (held.left, sym t)
+
+-- a sub-VL that began its next message is where its stream is
+tied_starts : (old new : Held) (stream : List Entry) → Starts old new → IsTied old stream → IsTied new stream
+tied_starts old new stream p t =
+    let sent : Sent = sent_of old.ports p.message in
+    ap (λ (of : SubVl). sub_fragments of 0 (taken_by new)) p.of
+    ∙ ap (λ (ports : List PortPlan). sub_fragments old.of 0 (sent_by ports (taken_of new.seen))) p.ports
+    ∙ ap (λ (items : List (ℕ × List ℕ)). sub_fragments old.of 0 (sent_by old.ports items))
+    (taken_finds old.seen p.message new.seen p.finds)
+    ∙ ap (sub_fragments old.of 0) (map-append (sent_of old.ports) (taken_of old.seen) (p.message ∷ []))
+    ∙ fragments_push old.of (taken_by old) (sent_of old.ports p.message)
+    ∙ ap (λ (n : ℕ). sub_fragments old.of 0 (taken_by old) ++ message_fragments old.of n (sent_of old.ports p.message))
+    (length-map (taken_of old.seen) (sent_of old.ports))
+    ∙ ap (λ (x : List (List ℕ)). x ++ message_fragments old.of (length (taken_of old.seen)) (sent_of old.ports p.message))
+    (t ∙ ap (λ (x : List (List ℕ)). told stream ++ x) p.whole ∙ append-nil (told stream))
+    ∙ ap (λ (x : List (List ℕ)). told stream ++ x) (sym p.left)
+
+-- a sub-VL that was asked is where its stream is
+pub tied_moves : (old new : Held) (stream : List Entry) → Moves old new → IsTied old stream → IsTied new stream
+tied_moves old new stream m t = ⊎_elim
+    (λ (p : Passes old new).
+    let before : IsTied (record old { seen = new.seen }) stream =
+    ap (λ (items : List (ℕ × List ℕ)). sub_fragments old.of 0 (sent_by old.ports items))
+    (taken_nothing old.seen new.seen p.nothing) ∙ t in
+    subst (λ (h : Held). IsTied h stream) (sym p.same) before)
+    (λ m1. ⊎_elim
+    (λ a. ⊎_elim (λ (g : GoesOn old new). subst (λ (h : Held). IsTied h stream) (sym g.same) t)
+    (λ (p : Starts old new). tied_starts old new stream p t) a)
+    (λ (e : new ≡ old). subst (λ (h : Held). IsTied h stream) (sym e) t) m1)
+    m
+
+-- the fragments of what a sub-VL took
+abbrev pub shown : Held → List (List ℕ)
+shown held = sub_fragments held.of 0 (taken_by held)
+
+-- a sub-VL that gave its next frame took nothing more
+pub gave_shown : (frame : List ℕ) (old new : Held) → Gives old frame new → shown new ≡ shown old
+gave_shown frame old new g = ap shown g.same
+
+-- and is where its stream is
+pub tied_gave : (now : ℕ) (frame : List ℕ) (old new : Held) (stream : List Entry)
+    → Gives old frame new → IsTied old stream → IsTied new (stream ++ entry now frame ∷ [])
+tied_gave now frame old new stream g t =
+    gave_shown frame old new g
+    ∙ t
+    ∙ ap (λ (x : List (List ℕ)). told stream ++ x) g.next
+    ∙ sym (append_assoc (told stream) (blanked frame ∷ []) new.left)
+    ∙ ap (λ (x : List (List ℕ)). x ++ new.left)
+    (sym (map-append (λ (e : Entry). blanked e.frame) stream (entry now frame ∷ [])))

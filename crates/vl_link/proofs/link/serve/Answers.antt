@@ -1,0 +1,40 @@
+use Rattle.std.proofs.Common.{◌≡◌, true, ◌∙◌, ap, sym}
+use Rattle.afdx_config.specs.declared.link_plan.LinkPlan.{LinkPlan}
+use Rattle.vl_link.proofs.SubInStep.{passed_same}
+use Rattle.vl_link.proofs.ChosenSub.{chosen_left, item_of, set_same, releases_at, loses_at}
+use Rattle.vl_link.proofs.PaceOfStream.{follows_more}
+use Rattle.vl_link.proofs.link.serve.Goals as goal
+
+pub send_next-requires-clause-something : goal.send_next-requires-clause-something
+send_next-requires-clause-something g c = chosen_left _ _ _ _ c.index-subs-sub.result c.in-Some.ensures.chosen
+
+pub returns-in-None-clause-same : goal.returns-in-None-clause-same
+returns-in-None-clause-same g c = passed_same _ _ _ _ c.in-None.ensures.none
+
+pub returns-in-None-send_next-clause-serves : goal.returns-in-None-send_next-clause-serves
+returns-in-None-send_next-clause-serves g c =
+    let due : c.due.result ≡ true = c.if-not-due.false in
+    (sym c.due.ensures ∙ due, loses_at _ _ _ _ c.index-subs-sub.result _ _ _ c.in-Some.ensures.chosen c.in-None-send_next.ensures.lost)
+
+pub returns-in-None-send_next-clause-same : goal.returns-in-None-send_next-clause-same
+returns-in-None-send_next-clause-same g c =
+    set_same _ _ _ _ c.index-subs-sub.result _ c.in-Some.ensures.chosen c.in-None-send_next.ensures.same
+
+pub returns-in-Some-send_next-clause-serves : goal.returns-in-Some-send_next-clause-serves
+returns-in-Some-send_next-clause-serves g c =
+    let due : c.due.result ≡ true = c.if-not-due.false in (
+      sym c.due.ensures ∙ due,
+      c.in-Some-send_next.ensures.number,
+      releases_at _ _ _ _ _ _ c.index-subs-sub.result _ _ _ c.in-Some.ensures.chosen c.in-Some-send_next.ensures.released,
+    )
+
+pub returns-in-Some-send_next-clause-paced : goal.returns-in-Some-send_next-clause-paced
+returns-in-Some-send_next-clause-paced g c =
+    let own = item_of _ c.args.plan.now _ _ _ c.index-subs-sub.result c.in-Some.ensures.chosen c.requires.named in
+    follows_more _ _ _ c.args.shaper.now _ _ _ _ _ c.requires.paced c.in-Some-send_next.ensures.released
+    (ap (λ (link : LinkPlan). link.id.0) own.0)
+    c.in-Some-send_next.ensures.last c.in-Some-send_next.ensures.next
+
+pub returns-in-Some-send_next-clause-same : goal.returns-in-Some-send_next-clause-same
+returns-in-Some-send_next-clause-same g c =
+    set_same _ _ _ _ c.index-subs-sub.result _ c.in-Some.ensures.chosen c.in-Some-send_next.ensures.same

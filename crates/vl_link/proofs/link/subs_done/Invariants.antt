@@ -1,0 +1,7 @@
+use Rattle.std.proofs.Common.{ℕ, ◌<◌, true}
+use Rattle.vl_link.specs.Links.{held_at}
+use Rattle.vl_link.specs.LinkDone.{TellsSubDone}
+use Rattle.vl_link.proofs.link.subs_done.Given as goal
+
+abbrev pub invariant-loop-sub : goal.invariant-loop-sub
+invariant-loop-sub l = (s : ℕ) → s < l.sub-index → TellsSubDone true (held_at l.fn.subs s)

@@ -1,0 +1,264 @@
+-- A link of an emitter, and what one turn of it does.
+use Rattle.std.specs.Prelude.{ℕ, ◌≡◌, ◌⊎◌, ◌≤◌, ◌<◌, List, [], ◌∷◌, ◌++◌, Bool, true, false, length, map, get_or, set, Option, Some, None}
+use Rattle.afdx_config.specs.Config.{link_plan_at, port_plan_at}
+use Rattle.afdx_config.specs.Plan.{bag_micros}
+use Rattle.afdx_config.specs.Numbers.{sequence_number}
+use Rattle.afdx_config.specs.Room.{room_of}
+use Rattle.afdx_config.specs.declared.link_plan.LinkPlan.{LinkPlan}
+use Rattle.afdx_config.specs.declared.port_plan.PortPlan.{PortPlan}
+use Rattle.afdx_frame.specs.declared.net.Net.TheVariants.{A}
+use Rattle.afdx_frame.specs.Header.{IsFrameOf}
+use Rattle.afdx_frame.specs.Cutting.{Cutting}
+use Rattle.afdx_frame.specs.Fragments.{Sent, blanked, fragments_at, fragments_from, fragments_left}
+use Rattle.redundant_mux.specs.Entry.{Entry, entry}
+use Rattle.redundant_mux.specs.Lines.{Lines, is_alive, log}
+use Rattle.vl_shaper.specs.Pace.{Pace, is_due, turn_of}
+use Rattle.vl_link.specs.declared.served.Served.{Served}
+use Rattle.vl_link.specs.declared.served.Served.TheVariants.{Nothing, Released, Lost}
+use Rattle.vl_link.specs.declared.sub_vl.SubVl.{SubVl}
+use Rattle.afdx_legal.specs.Streams.{link_stream, latest}
+use Rattle.vl_link.specs.Seen.{Seen, taken_of, nothing_seen, FindsNothing, Finds, IsSameQueue}
+
+-- the fragments of a sub-VL's messages for network A, the first of which has this place
+abbrev pub sub_fragments : SubVl → ℕ → List Sent → List (List ℕ)
+sub_fragments of place messages =
+    fragments_from of.end_system (room_of of.link.lmax) A place messages
+
+-- the fragments of the message at this place
+abbrev pub message_fragments : SubVl → ℕ → Sent → List (List ℕ)
+message_fragments of place sent =
+    fragments_at of.end_system (room_of of.link.lmax) A place sent
+
+-- A sub-VL: its ports in the order of the configuration, the fragments left of the message that is
+-- being sent, and its queue.
+pub record Held : Type 0 where
+  pub of : SubVl
+  pub ports : List PortPlan
+  pub left : List (List ℕ)
+  pub seen : Seen
+
+-- the message of one of these ports
+abbrev pub sent_of : List PortPlan → ℕ × List ℕ → Sent
+sent_of ports item = record { port = port_plan_at ports item.0; bytes = item.1 }
+
+-- the messages of these ports
+abbrev pub sent_by : List PortPlan → List (ℕ × List ℕ) → List Sent
+sent_by ports items = map (sent_of ports) items
+
+-- the messages that a sub-VL has taken from its queue
+abbrev pub taken_by : Held → List Sent
+taken_by held = sent_by held.ports (taken_of held.seen)
+
+-- the fragments that are left of a cut message, if there is one
+abbrev pub left_of : SubVl → Option Cutting → List (List ℕ)
+left_of of None = []
+left_of of (Some cut) = fragments_left of.end_system (room_of of.link.lmax) A cut
+
+-- whether some fragment is left
+abbrev pub TellsCutting : Bool → List (List ℕ) → Type 0
+TellsCutting true left = left ≡ [] → ⊥
+TellsCutting false left = left ≡ []
+
+-- a message is being sent: nothing changes
+pub record GoesOn (old new : Held) : Type 0 where
+  pub some : old.left ≡ [] → ⊥
+  pub same : new ≡ old
+
+-- no message was being sent, and the one that was found in the queue now is
+pub record Starts (old new : Held) : Type 0 where
+  pub message : ℕ × List ℕ
+  pub whole : old.left ≡ []
+  pub finds : Finds old.seen message new.seen
+  pub left : new.left ≡
+      message_fragments old.of (length (taken_of old.seen)) (sent_of old.ports message)
+  pub some : new.left ≡ [] → ⊥
+  pub of : new.of ≡ old.of
+  pub ports : new.ports ≡ old.ports
+
+-- no message is being sent, and none was found in the queue
+pub record Passes (old new : Held) : Type 0 where
+  pub whole : old.left ≡ []
+  pub nothing : FindsNothing old.seen new.seen
+  pub same : new ≡ record old { seen = new.seen }
+
+-- a sub-VL was asked, and answered whether it has something
+abbrev pub Asks : Bool → Held → Held → Type 0
+Asks true old new = GoesOn old new ⊎ Starts old new
+Asks false old new = Passes old new
+
+-- the plan at a place behind the last
+abbrev pub no_link_plan : LinkPlan
+no_link_plan = link_plan_at [] 0
+
+-- the sub-VL at an index behind the last
+abbrev pub nothing_held : Held
+nothing_held = record {
+  of = record { end_system = 0; link = no_link_plan; sub = 0 };
+  ports = [];
+  left = [];
+  seen = nothing_seen;
+}
+
+-- the sub-VL at an index
+abbrev pub held_at : List Held → ℕ → Held
+held_at subs sub = get_or subs sub nothing_held
+
+-- The round-robin choice: in cyclic order behind the one served last, the first that has something.
+-- Those before it had nothing, and those that weren't asked are as they were (ARINC 664 Part 7).
+pub record IsChoice (pace : Pace) (old : List Held) (sub : ℕ) (new : List Held) : Type 0 where
+  pub count : length new ≡ length old
+  pub turn : ℕ
+  pub within : turn < pace.sub_vls
+  pub is : sub ≡ turn_of pace.sub_vls pace.last turn
+  pub below : sub < length old
+  pub asked : Asks true (held_at old sub) (held_at new sub)
+  pub before : (k : ℕ) → k < turn
+      → Asks false (held_at old (turn_of pace.sub_vls pace.last k))
+      (held_at new (turn_of pace.sub_vls pace.last k))
+  pub others : (s : ℕ) → ((k : ℕ) → k ≤ turn → turn_of pace.sub_vls pace.last k ≡ s → ⊥)
+      → held_at new s ≡ held_at old s
+
+-- the first sub-VLs that were asked had nothing
+pub record PassedOver (pace : Pace) (old new : List Held) (asked : ℕ) : Type 0 where
+  pub count : length new ≡ length old
+  pub before : (k : ℕ) → k < asked
+      → Asks false (held_at old (turn_of pace.sub_vls pace.last k))
+      (held_at new (turn_of pace.sub_vls pace.last k))
+  pub others : (s : ℕ) → ((k : ℕ) → k < asked → turn_of pace.sub_vls pace.last k ≡ s → ⊥)
+      → held_at new s ≡ held_at old s
+
+-- A link: its plan, its regulation, its sub-VLs, and whether a frame of it was lost with the last
+-- network.
+pub record LinkState : Type 0 where
+  pub end_system : ℕ
+  pub plan : LinkPlan
+  pub pace : Pace
+  pub subs : List Held
+  pub lost : Bool
+
+-- the link at a place behind the last
+abbrev pub no_link : LinkState
+no_link = record {
+  end_system = 0;
+  plan = no_link_plan;
+  pace = record { gap = 0; sub_vls = 0; last = None; next = 0 };
+  subs = [];
+  lost = false;
+}
+
+-- the link at a place
+abbrev pub link_at : List LinkState → ℕ → LinkState
+link_at links k = get_or links k no_link
+
+-- the sub-VLs of a link are those of its plan
+abbrev pub AreNamed : ℕ → LinkPlan → List Held → Type 0
+AreNamed end_system plan subs = (s : ℕ) → s < length subs
+    → (held_at subs s).of ≡ record { end_system = end_system; link = plan; sub = s }
+
+-- the same, but for the end system
+abbrev pub AreSubsOf : LinkPlan → List Held → Type 0
+AreSubsOf plan subs = (s : ℕ) → s < length subs
+    → ((held_at subs s).of.link ≡ plan) × ((held_at subs s).of.sub ≡ s)
+
+-- a sub-VL is the one that it was, with the same ports and queue
+pub record IsSameSub (old new : Held) : Type 0 where
+  pub of : new.of ≡ old.of
+  pub ports : new.ports ≡ old.ports
+  pub queue : IsSameQueue old.seen new.seen
+
+-- each sub-VL is the one that it was
+abbrev pub AreSameSubs : (old new : List Held) → Type 0
+AreSameSubs old new = (s : ℕ) → IsSameSub (held_at old s) (held_at new s)
+
+-- what the fields of a link keep
+pub record IsLink (end_system : ℕ) (plan : LinkPlan) (pace : Pace) (subs : List Held) : Type 0 where
+  pub count : length subs ≡ pace.sub_vls
+  pub sub_vls : pace.sub_vls ≡ plan.sub_vls
+  pub gap : pace.gap ≡ bag_micros plan.bag
+  pub named : AreNamed end_system plan subs
+
+-- what a link's stream says of its regulation: its last release, and the number that comes next
+abbrev pub pace_of : ℕ → ℕ → List Entry → Pace
+pace_of gap sub_vls stream = record {
+  gap = gap;
+  sub_vls = sub_vls;
+  last = latest None stream;
+  next = sequence_number (length stream);
+}
+
+-- a sub-VL gave its next frame
+pub record Gives (old : Held) (frame : List ℕ) (new : Held) : Type 0 where
+  pub next : old.left ≡ blanked frame ∷ new.left
+  pub same : new ≡ record old { left = new.left }
+
+-- at least one network took the frame of a sub-VL
+pub record Releases (now number : ℕ) (old new : Held) (lines after : Lines) : Type 0 where
+  pub frame : List ℕ
+  pub enters : log after ≡ log lines ++ entry now frame ∷ []
+  pub of : IsFrameOf old.of.link.id.0 old.of.sub number A frame
+  pub gives : Gives old frame new
+  pub alive : is_alive after ≡ true
+
+-- the last network that stood failed, and with it the frame of a sub-VL
+pub record Loses (old new : Held) (lines after : Lines) : Type 0 where
+  pub frame : List ℕ
+  pub gives : Gives old frame new
+  pub same : log after ≡ log lines
+  pub down : is_alive after ≡ false
+
+-- a sub-VL was chosen, and then gave its next frame
+pub record Picks (pace : Pace) (sub : ℕ) (old new : List Held) : Type 0 where
+  pub mid : List Held
+  pub choice : IsChoice pace old sub mid
+  pub held : Held
+  pub others : new ≡ set mid sub held
+
+-- a sub-VL was chosen, and a network took its frame
+pub record ReleasesAt (now : ℕ) (pace : Pace) (sub number : ℕ)
+    (old new : List Held) (lines after : Lines) : Type 0 where
+  pub picks : Picks pace sub old new
+  pub releases : Releases now number (held_at picks.mid sub) picks.held lines after
+
+-- a sub-VL was chosen, and its frame was lost with the last network
+pub record LosesAt (pace : Pace) (old new : List Held) (lines after : Lines) : Type 0 where
+  pub sub : ℕ
+  pub picks : Picks pace sub old new
+  pub loses : Loses (held_at picks.mid sub) picks.held lines after
+
+-- One turn of a link, by what it did. It releases nothing where it isn't due, or every sub-VL was
+-- passed over; where it is due and some sub-VL has something it releases one frame, now, with the
+-- next number, unless the last network fails.
+abbrev pub Serves : ℕ → Pace → (old new : List Held) → (lines after : Lines) → Served → Type 0
+Serves now pace old new lines after Nothing =
+    (((is_due pace.gap pace.last now ≡ false) × (new ≡ old))
+    ⊎ ((is_due pace.gap pace.last now ≡ true) × PassedOver pace old new pace.sub_vls))
+    × (after ≡ lines)
+Serves now pace old new lines after (Released sub number) =
+    (is_due pace.gap pace.last now ≡ true)
+    × (number ≡ pace.next)
+    × ReleasesAt now pace sub number old new lines after
+Serves now pace old new lines after Lost =
+    (is_due pace.gap pace.last now ≡ true) × LosesAt pace old new lines after
+
+-- where no frame was lost, the regulation is again where the stream is
+abbrev pub Follows : ℕ → Pace → Lines → Served → Type 0
+Follows vl pace after Nothing =
+    pace ≡ pace_of pace.gap pace.sub_vls (link_stream vl (log after))
+Follows vl pace after (Released sub number) =
+    pace ≡ pace_of pace.gap pace.sub_vls (link_stream vl (log after))
+Follows vl pace after Lost = Unit {0}
+
+-- whether a turn lost the last network
+abbrev pub is_lost : Served → Bool
+is_lost Nothing = false
+is_lost (Released sub number) = false
+is_lost Lost = true
+
+-- the link of the plan stays the same, and so do its sub-VLs
+pub record IsSameLink (old new : LinkState) : Type 0 where
+  pub end_system : new.end_system ≡ old.end_system
+  pub plan : new.plan ≡ old.plan
+  pub gap : new.pace.gap ≡ old.pace.gap
+  pub sub_vls : new.pace.sub_vls ≡ old.pace.sub_vls
+  pub count : length new.subs ≡ length old.subs
+  pub subs : AreSameSubs old.subs new.subs

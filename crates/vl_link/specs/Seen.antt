@@ -1,0 +1,77 @@
+-- The taking end of a sub-VL's queue. A message stands with the index of its port, as a pair of the
+-- index and the bytes.
+use Rattle.std.specs.Prelude.{ℕ, ◌≡◌, List, [], ◌∷◌, ◌++◌, Bool, true, false, Option, Some, None}
+use Rattle.subvl_queue.specs.Views.{QueueName, ReceiverView, GatheredView, looked, after_take, accepted_of}
+
+-- a receiver, whose ports may still send; or all ends of the queue, whose messages are known whole
+pub data Seen : Type 0 where
+  receiving : ReceiverView → Seen
+  gathered : GatheredView → Seen
+
+-- what was taken so far, in order
+abbrev pub taken_of : Seen → List (ℕ × List ℕ)
+taken_of (receiving r) = r.taken
+taken_of (gathered g) = g.taken
+
+-- how many ports the queue has
+abbrev pub ports_of : Seen → ℕ
+ports_of (receiving r) = r.ports
+ports_of (gathered g) = g.ports
+
+-- the queue that a receiver belongs to
+abbrev pub queue_of : Seen → Option QueueName
+queue_of (receiving r) = Some r.queue
+queue_of (gathered g) = None
+
+-- ports may still send
+abbrev pub IsReceiving : Seen → Type 0
+IsReceiving (receiving r) = Unit {0}
+IsReceiving (gathered g) = ⊥
+
+-- the accepted messages are known whole
+abbrev pub IsGathered : Seen → Type 0
+IsGathered (receiving r) = ⊥
+IsGathered (gathered g) = Unit {0}
+
+-- all ends of a queue of no ports
+abbrev pub nothing_seen : Seen
+nothing_seen = gathered (record { ports = 0; taken = []; left = [] })
+
+-- a look that found nothing ready; where the messages are known whole, none is left
+abbrev pub FindsNothing : (old new : Seen) → Type 0
+FindsNothing (receiving old) new = new ≡ receiving (looked old)
+FindsNothing (gathered old) new = (old.left ≡ []) × (new ≡ gathered old)
+
+-- a look that found this message, which is taken; where the messages are known whole, it is the next
+abbrev pub Finds : (old : Seen) → ℕ × List ℕ → (new : Seen) → Type 0
+Finds (receiving old) message new = new ≡ receiving (after_take old message)
+Finds (gathered old) message new =
+    (more : List (ℕ × List ℕ))
+    × (old.left ≡ message ∷ more)
+    × (new ≡ gathered (record {
+      ports = old.ports;
+      taken = old.taken ++ message ∷ [];
+      left = more;
+    }))
+
+-- whether it is known that nothing is left to be taken
+abbrev pub TellsDrained : Bool → Seen → Type 0
+TellsDrained true (receiving r) = ⊥
+TellsDrained false (receiving r) = Unit {0}
+TellsDrained true (gathered g) = g.left ≡ []
+TellsDrained false (gathered g) = g.left ≡ [] → ⊥
+
+-- The same queue, of which more may have been taken. Where its accepted messages are known whole,
+-- they are the same.
+abbrev pub IsSameQueue : (old new : Seen) → Type 0
+IsSameQueue (receiving old) (receiving new) =
+    (new.queue ≡ old.queue) × (new.capacity ≡ old.capacity) × (new.ports ≡ old.ports)
+IsSameQueue (gathered old) (gathered new) =
+    (new.ports ≡ old.ports) × (accepted_of new ≡ accepted_of old)
+IsSameQueue (receiving old) (gathered new) = ⊥
+IsSameQueue (gathered old) (receiving new) = ⊥
+
+-- what was accepted into a queue; before it is gathered, as much of it as was taken
+abbrev pub known_of : Seen → List (ℕ × List ℕ)
+known_of (receiving r) = r.taken
+known_of (gathered g) = accepted_of g

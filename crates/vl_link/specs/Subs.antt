@@ -1,0 +1,28 @@
+-- What the fields of a sub-VL keep.
+use Rattle.std.specs.Prelude.{ℕ, ◌≡◌, ◌%◌, List, length, All, Option, IfSome}
+use Rattle.afdx_config.specs.Plan.{IsLink, IsPort, SendsOver}
+use Rattle.afdx_config.specs.declared.port_plan.PortPlan.{PortPlan}
+use Rattle.afdx_frame.specs.Cutting.{Cutting}
+use Rattle.vl_link.specs.declared.sub_vl.SubVl.{SubVl}
+use Rattle.vl_link.specs.Seen.{Seen, taken_of, ports_of}
+
+-- a port of this sub-VL
+pub record IsPortOf (owner : SubVl) (sender : PortPlan) : Type 0 where
+  pub port : IsPort sender
+  pub over : SendsOver sender owner.link
+  pub of_sub : sender.sub ≡ owner.sub
+
+-- the message that is being sent is of this sub-VL
+pub record IsCutOf (owner : SubVl) (cut : Cutting) : Type 0 where
+  pub over : SendsOver cut.port owner.link
+  pub of_sub : cut.port.sub ≡ owner.sub
+
+-- The ports are of this sub-VL, and the queue has a sender for each. The next message's place counts
+-- those that were taken, modulo 16,384.
+pub record IsSub (owner : SubVl) (ports : List PortPlan) (sending : Option Cutting)
+    (seen : Seen) (next : ℕ) : Type 0 where
+  pub link : IsLink owner.link
+  pub senders : All (IsPortOf owner) ports
+  pub count : length ports ≡ ports_of seen
+  pub sending_is : IfSome sending (IsCutOf owner)
+  pub place : next ≡ length (taken_of seen) % 16384

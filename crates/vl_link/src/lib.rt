@@ -1,0 +1,15 @@
+//! One turn of a virtual link: its sub-VLs, their queues, and the frame that goes out.
+#![tactic(auto)]
+
+mod link;
+mod queue;
+mod room;
+mod served;
+mod sub;
+mod sub_vl;
+
+pub use link::{Link, some_stands};
+pub use room::{LinkRooms, Room};
+pub use served::Served;
+pub use sub::Sub;
+pub use sub_vl::SubVl;

@@ -1,0 +1,272 @@
+//! A link: its sub-VLs in turn.
+ghost use Rattle.std.specs.Prelude.{◌≡◌, ◌≢◌, ℕ, ◌+◌, ◌<◌, [], true, false, ◌||◌, Some, length, IfSome, IfNone};
+ghost use Rattle.afdx_config.specs.Numbers.{sequence_number};
+ghost use Rattle.vl_shaper.specs.Pace.{IsLater, is_due};
+ghost use Rattle.redundant_mux.specs.Lines.{is_alive, log, IsMirrored};
+ghost use Rattle.afdx_legal.specs.Streams.{link_stream};
+ghost use Rattle.vl_link.specs.Links.{pace_of, AreSubsOf, IsSameSub, AreSameSubs, Serves, Follows, Releases, Loses, is_lost, IsChoice, PassedOver};
+ghost use Rattle.vl_link.specs.LinkDone.{TellsSubsDone};
+ghost use Rattle.vl_link.specs.LinkGathering.{AreFullSubs, GathersSubs};
+
+use crate::room::{LinkRooms, Room};
+use crate::served::Served;
+use crate::sub::Sub;
+use afdx_config::{LinkPlan, VlId};
+use afdx_frame::Frame;
+use redundant_mux::{Mux, Network, Standing};
+use std::marker::Model;
+use std::sync::Wait;
+use vl_shaper::Shaper;
+
+/// The sub-VL that is to be served, whose next message is then being sent.
+fn choose<R: Wait>(rt: &R, shaper: &Shaper, subs: &mut [Sub]) -> Option<u8>
+    requires { length subs.old ≡ shaper.now.sub_vls }
+    ensures chosen { IfSome result (λ sub. IsChoice shaper.now subs.old sub subs.new) }
+    ensures below { IfSome result (λ sub. sub < length subs.old) }
+    ensures none { IfNone result (PassedOver shaper.now subs.old subs.new shaper.now.sub_vls) }
+{
+    for k in 0..shaper.sub_vls() {
+        let sub = shaper.turn(k);
+        let asked = &mut subs[sub as usize];
+        if asked.ready(rt) {
+            return Some(sub);
+        }
+    }
+    None
+}
+
+/// Whether some network stands.
+pub fn some_stands(standing: &Standing) -> bool
+    ensures { result ≡ (standing.now.a || standing.now.b) }
+{
+    standing.a || standing.b
+}
+
+/// Sends the next frame of a sub-VL, and answers its number. None: no network stands any more.
+fn send_next<A: Network + Drop, B: Network + Drop>(
+    shaper: &mut Shaper,
+    sub: &mut Sub,
+    frame: &mut Frame,
+    mux: &mut Mux<A, B>,
+    now: u64,
+) -> Option<u8>
+    requires something { sub.old.left ≢ [] }
+    requires below { sub.old.of.sub < shaper.old.sub_vls }
+    requires later { IsLater shaper.old.last now }
+    requires due { is_due shaper.old.gap shaper.old.last now ≡ true }
+    requires alive { is_alive mux.old ≡ true }
+    requires mirrored { IsMirrored mux.old }
+    ensures mirrored { IsMirrored mux.new }
+    ensures number { IfSome result (λ number. number ≡ shaper.old.next) }
+    ensures released { IfSome result
+        (λ number. Releases now number sub.old sub.new mux.old mux.new) }
+    ensures lost { IfNone result (Loses sub.old sub.new mux.old mux.new) }
+    ensures same { IsSameSub sub.old sub.new }
+    ensures next { (i : ℕ) → shaper.old.next ≡ sequence_number i →
+        shaper.new.next ≡ sequence_number (i + 1) }
+    ensures last { shaper.new.last ≡ Some (record { at = now; sub = sub.old.of.sub }) }
+    ensures gap { shaper.new.gap ≡ shaper.old.gap }
+    ensures sub_vls { shaper.new.sub_vls ≡ shaper.old.sub_vls }
+{
+    let number = shaper.stamp(now, sub.index());
+    sub.write_next(number, frame);
+    match mux.hand(now, frame) {
+        Ok(standing) => {
+            if some_stands(&standing) {
+                Some(number)
+            } else {
+                None
+            }
+        }
+        Err(_) => None,
+    }
+}
+
+/// One turn of the parts of a link.
+fn serve<R: Wait, A: Network + Drop, B: Network + Drop>(
+    rt: &R,
+    plan: &LinkPlan,
+    shaper: &mut Shaper,
+    subs: &mut [Sub],
+    frame: &mut Frame,
+    mux: &mut Mux<A, B>,
+    now: u64,
+) -> Served
+    requires count { length subs.old ≡ shaper.old.sub_vls }
+    requires named { AreSubsOf plan.now subs.old }
+    requires later { IsLater shaper.old.last now }
+    requires alive { is_alive mux.old ≡ true }
+    requires mirrored { IsMirrored mux.old }
+    requires paced { shaper.old ≡ pace_of shaper.old.gap shaper.old.sub_vls
+        (link_stream plan.now.id.0 (log mux.old)) }
+    ensures mirrored { IsMirrored mux.new }
+    ensures serves { Serves now shaper.old subs.old subs.new mux.old mux.new result }
+    ensures paced { Follows plan.now.id.0 shaper.new mux.new result }
+    ensures later { IsLater shaper.new.last now }
+    ensures gap { shaper.new.gap ≡ shaper.old.gap }
+    ensures sub_vls { shaper.new.sub_vls ≡ shaper.old.sub_vls }
+    ensures same { AreSameSubs subs.old subs.new }
+{
+    if !shaper.due(now) {
+        return Served::Nothing;
+    }
+    match choose(rt, shaper, subs) {
+        None => Served::Nothing,
+        Some(sub) => {
+            let chosen = &mut subs[sub as usize];
+            match send_next(shaper, chosen, frame, mux, now) {
+                None => Served::Lost,
+                Some(number) => Served::Released { sub, number },
+            }
+        }
+    }
+}
+
+/// Whether no sub-VL has anything left.
+fn subs_done(subs: &[Sub]) -> bool
+    ensures { TellsSubsDone result subs.now }
+{
+    for sub in subs {
+        if !sub.is_done() {
+            return false;
+        }
+    }
+    true
+}
+
+/// Gathers the queue of each sub-VL with the senders in its room, which are all that it has.
+// From the last, since taking from the end of a list needs no memory.
+fn gather_subs<R: Wait>(rt: &R, subs: &mut [Sub], mut rooms: Vec<Room>)
+    requires full { AreFullSubs subs.old rooms.items }
+    ensures { GathersSubs subs.old rooms.items subs.new }
+{
+    while let Some(room) = rooms.pop() {
+        let sub = &mut subs[rooms.len()];
+        sub.gather(rt, room.into_senders());
+    }
+}
+
+/// A virtual link: its sub-VLs and its regulation. Contracts see its plan, its regulation, its
+/// sub-VLs, and whether a frame of it was lost with the last network.
+#[derive(Drop)]
+pub struct Link {
+    end_system: u16,
+    plan: LinkPlan,
+    shaper: Shaper,
+    subs: Vec<Sub>,
+    lost: bool,
+}
+
+impl Model for Link {
+    ghost use Rattle.vl_link.specs.Links.{LinkState, IsLink};
+
+    ghost Value = { LinkState };
+
+    ghost view = { λ l. record {
+      end_system = l.end_system;
+      plan = l.plan;
+      pace = l.shaper;
+      subs = l.subs.items;
+      lost = l.lost;
+    } };
+
+    ghost invariant = { λ l. IsLink l.end_system l.plan l.shaper l.subs.items };
+}
+
+impl Link {
+    ghost use Rattle.std.specs.Prelude.{◌≡◌, ℕ, length, true, false, None};
+    ghost use Rattle.afdx_config.specs.Numbers.{sequence_number};
+    ghost use Rattle.afdx_config.specs.Plan.{IsLink as IsLinkPlan, bag_micros};
+    ghost use Rattle.vl_shaper.specs.Pace.{IsLater};
+    ghost use Rattle.redundant_mux.specs.Lines.{is_alive, log, IsMirrored};
+    ghost use Rattle.afdx_legal.specs.Streams.{link_stream};
+    ghost use Rattle.vl_link.specs.Links.{LinkState, AreNamed, Serves, Follows, IsSameLink, is_lost, pace_of};
+    ghost use Rattle.vl_link.specs.LinkDone.{TellsLinkDone};
+    ghost use Rattle.vl_link.specs.LinkGathering.{AreFullSubs, GathersLink};
+
+    /// A link of these sub-VLs, those of its plan. Nothing was released yet.
+    pub fn new(end_system: u16, plan: LinkPlan, subs: Vec<Sub>) -> Link
+        requires plan { IsLinkPlan plan }
+        requires count { length subs.items ≡ plan.sub_vls }
+        requires named { AreNamed end_system plan subs.items }
+        ensures { result ≡ record {
+          end_system = end_system;
+          plan = plan;
+          pace = record {
+            gap = bag_micros plan.bag;
+            sub_vls = plan.sub_vls;
+            last = None;
+            next = sequence_number 0;
+          };
+          subs = subs.items;
+          lost = false;
+        } }
+    {
+        Link {
+            end_system,
+            plan,
+            shaper: Shaper::new(plan.bag, plan.sub_vls),
+            subs,
+            lost: false,
+        }
+    }
+
+    /// Its identifier.
+    pub fn id(&self) -> VlId
+        ensures { result ≡ self.now.plan.id }
+    {
+        self.plan.id
+    }
+
+    /// Whether it has lost no frame, and no sub-VL has anything left.
+    pub fn is_done(&self) -> bool
+        ensures { TellsLinkDone result self.now }
+    {
+        if self.lost {
+            return false;
+        }
+        subs_done(&self.subs)
+    }
+
+    /// One turn of the link at a moment, in microseconds. The frame is made in a kept buffer.
+    pub fn serve<R: Wait, A: Network + Drop, B: Network + Drop>(
+        &mut self,
+        rt: &R,
+        frame: &mut Frame,
+        mux: &mut Mux<A, B>,
+        now: u64,
+    ) -> Served
+        requires later { IsLater self.old.pace.last now }
+        requires alive { is_alive mux.old ≡ true }
+        requires mirrored { IsMirrored mux.old }
+        requires paced { self.old.pace ≡ pace_of self.old.pace.gap self.old.pace.sub_vls
+            (link_stream self.old.plan.id.0 (log mux.old)) }
+        ensures mirrored { IsMirrored mux.new }
+        ensures serves { Serves now self.old.pace
+            self.old.subs self.new.subs mux.old mux.new result }
+        ensures paced { Follows self.new.plan.id.0 self.new.pace mux.new result }
+        ensures later { IsLater self.new.pace.last now }
+        ensures same { IsSameLink self.old self.new }
+        ensures lost { self.new.lost ≡ is_lost result }
+    {
+        let did = serve(
+            rt,
+            &self.plan,
+            &mut self.shaper,
+            &mut self.subs,
+            frame,
+            mux,
+            now,
+        );
+        self.lost = did.is_lost();
+        did
+    }
+
+    /// Gathers the queue of each sub-VL with the senders in its room, which are all that it has.
+    pub fn gather<R: Wait>(&mut self, rt: &R, rooms: LinkRooms)
+        requires full { AreFullSubs self.old.subs rooms }
+        ensures { GathersLink self.old rooms self.new }
+    {
+        gather_subs(rt, &mut self.subs, rooms.into_rooms());
+    }
+}

@@ -1,0 +1,90 @@
+//! The taking end of a sub-VL's queue, while its ports send and after they are gathered.
+ghost use Rattle.std.specs.Prelude.{IfSome, IfNone};
+ghost use Rattle.subvl_queue.specs.Messages.{IsItem};
+ghost use Rattle.vl_link.specs.Seen.{receiving, gathered, ports_of, FindsNothing, Finds, TellsDrained};
+
+use std::marker::Model;
+use std::mem::replace;
+use std::sync::Wait;
+use subvl_queue::{Gathered, Item, Receiver, Sender};
+
+/// The ends of a queue that are at hand.
+#[derive(Drop)]
+enum End {
+    Receiving(Receiver),
+    Gathered(Gathered),
+    // The receiver was moved out, to be gathered.
+    Empty,
+}
+
+/// The taking end of a sub-VL's queue. Contracts see a receiver, or all ends.
+#[derive(Drop)]
+pub struct Queue {
+    end: End,
+}
+
+impl Model for Queue {
+    ghost use Rattle.vl_link.specs.Seen.{Seen};
+
+    ghost Value = { Seen };
+
+    ghost use Rattle.vl_link.specs.QueueEnds.{seen_of};
+
+    ghost view = { λ q. seen_of q.end };
+}
+
+impl Queue {
+    ghost use Rattle.std.specs.Prelude.{◌≡◌, IfSome, IfNone};
+    ghost use Rattle.subvl_queue.specs.Messages.{IsItem};
+    ghost use Rattle.vl_link.specs.Seen.{receiving, gathered, nothing_seen, ports_of, FindsNothing, Finds, TellsDrained};
+    ghost use Rattle.vl_link.specs.LinkGathering.{IsFull, Gathers};
+
+    /// The queue of a receiver, whose ports may send.
+    pub fn new(receiver: Receiver) -> Queue
+        ensures { result ≡ receiving receiver }
+    {
+        Queue {
+            end: End::Receiving(receiver),
+        }
+    }
+
+    /// The next message, where one is ready. It may wait for a port that is in the middle of a send,
+    /// where ports send.
+    pub fn take<R: Wait>(&mut self, rt: &R) -> Option<Item>
+        ensures none { IfNone result (FindsNothing self.old self.new) }
+        ensures some { IfSome result (λ item. Finds self.old item self.new) }
+        ensures item { IfSome result (IsItem (ports_of self.old)) }
+    {
+        match &mut self.end {
+            End::Receiving(receiver) => receiver.take(rt),
+            End::Gathered(all) => all.take(),
+            End::Empty => None,
+        }
+    }
+
+    /// Whether it is known that nothing is left to be taken.
+    pub fn is_drained(&self) -> bool
+        ensures { TellsDrained result self.now }
+    {
+        match &self.end {
+            End::Receiving(_) => false,
+            End::Gathered(all) => all.is_drained(),
+            End::Empty => true,
+        }
+    }
+
+    /// Gathers the ends of the queue, with these senders, which are all that it has. It may wait for
+    /// a port's last message to be ready.
+    pub fn gather<R: Wait>(&mut self, rt: &R, senders: Vec<Sender>)
+        requires full { IsFull self.old senders.items }
+        ensures { Gathers self.old senders.items self.new }
+    {
+        match replace(&mut self.end, End::Empty) {
+            End::Receiving(receiver) => match receiver.gather(rt, senders) {
+                Ok(all) => self.end = End::Gathered(all),
+                Err(_) => unreachable!(),
+            },
+            _ => unreachable!(),
+        }
+    }
+}

@@ -1,0 +1,26 @@
+//! What one turn of a link did.
+ghost use Rattle.std.specs.Prelude.{◌≡◌};
+ghost use Rattle.vl_link.specs.Links.{is_lost};
+
+/// What one turn of a link did.
+#[derive(Clone, Copy, Debug, PartialEq, Eq)]
+pub enum Served {
+    /// It wasn't due, or no sub-VL had anything.
+    Nothing,
+    /// A frame of this sub-VL went out, with this sequence number.
+    Released { sub: u8, number: u8 },
+    /// The last network that stood failed, and a frame with it.
+    Lost,
+}
+
+impl Served {
+    /// Whether a frame was lost.
+    pub fn is_lost(&self) -> bool
+        ensures { result ≡ is_lost self.now }
+    {
+        match self {
+            Served::Lost => true,
+            _ => false,
+        }
+    }
+}

@@ -1,0 +1,148 @@
+//! A sub-VL: the queue of its messages, and one that is being sent.
+ghost use Rattle.std.specs.Prelude.{◌≡◌, ◌≢◌, [], ◌∷◌, length, All};
+ghost use Rattle.afdx_config.specs.Plan.{IsLink};
+ghost use Rattle.afdx_frame.specs.declared.net.Net.TheVariants.{A as ForA};
+ghost use Rattle.afdx_frame.specs.Fragments.{blanked};
+ghost use Rattle.afdx_frame.specs.Header.{IsFrameOf};
+ghost use Rattle.vl_link.specs.Links.{left_of, TellsCutting};
+
+use crate::queue::Queue;
+use crate::sub_vl::SubVl;
+use afdx_config::PortPlan;
+use afdx_frame::{Cut, Frame, Net};
+use std::marker::Model;
+use std::sync::Wait;
+use subvl_queue::{Item, Receiver, Sender};
+
+/// A sub-VL. Contracts see its ports, the fragments left of the message that is being sent, and its
+/// queue.
+#[derive(Drop)]
+pub struct Sub {
+    of: SubVl,
+    // In the order of the configuration; a message's port is an index into them.
+    ports: Vec<PortPlan>,
+    sending: Option<Cut>,
+    queue: Queue,
+    // The place of the next message, modulo 16,384.
+    place: u16,
+}
+
+impl Model for Sub {
+    ghost use Rattle.vl_link.specs.Links.{Held, left_of};
+    ghost use Rattle.vl_link.specs.Subs.{IsSub};
+
+    ghost Value = { Held };
+
+    ghost view = { λ s. record {
+      of = s.of;
+      ports = s.ports.items;
+      left = left_of s.of s.sending;
+      seen = s.queue;
+    } };
+
+    ghost invariant = { λ s. IsSub s.of s.ports.items s.sending s.queue s.place };
+}
+
+impl Sub {
+    ghost use Rattle.vl_link.specs.Seen.{receiving};
+    ghost use Rattle.vl_link.specs.Links.{Held, Asks};
+    ghost use Rattle.vl_link.specs.LinkDone.{TellsSubDone};
+    ghost use Rattle.vl_link.specs.Subs.{IsPortOf};
+    ghost use Rattle.vl_link.specs.LinkGathering.{IsFullSub, GathersSub};
+
+    /// A sub-VL of these ports, over a queue with a sender for each. Nothing was taken yet.
+    pub fn new(of: SubVl, ports: Vec<PortPlan>, receiver: Receiver) -> Sub
+        requires link { IsLink of.link }
+        requires ports { All (IsPortOf of) ports.items }
+        requires count { length ports.items ≡ receiver.ports }
+        requires fresh { receiver.taken ≡ [] }
+        ensures { result ≡ record {
+          of = of;
+          ports = ports.items;
+          left = [];
+          seen = receiving receiver;
+        } }
+    {
+        Sub {
+            of,
+            ports,
+            sending: None,
+            queue: Queue::new(receiver),
+            place: 0,
+        }
+    }
+
+    /// Its index in its link.
+    pub fn index(&self) -> u8
+        ensures { result ≡ self.now.of.sub }
+    {
+        self.of.sub
+    }
+
+    /// Whether there is something to send, which is then being sent. The queue is looked into only
+    /// where no message is being sent.
+    pub fn ready<R: Wait>(&mut self, rt: &R) -> bool
+        ensures { Asks result self.old self.new }
+    {
+        if is_cutting(&self.of, &self.sending) {
+            return true;
+        }
+        match self.queue.take(rt) {
+            None => false,
+            Some(item) => {
+                let Item { port, bytes } = item;
+                let sender = self.ports[usize::from(port)];
+                self.sending = Some(Cut::new(bytes, u64::from(self.place), &sender));
+                self.place = (self.place + 1) % 16384;
+                true
+            }
+        }
+    }
+
+    /// Whether no message is being sent, and it is known that none is left in the queue.
+    pub fn is_done(&self) -> bool
+        ensures { TellsSubDone result self.now }
+    {
+        if is_cutting(&self.of, &self.sending) {
+            return false;
+        }
+        self.queue.is_drained()
+    }
+
+    /// Writes the next frame, for network A and with this sequence number, into a kept buffer.
+    pub fn write_next(&mut self, number: u8, out: &mut Frame)
+        requires { self.old.left ≢ [] }
+        ensures left { self.old.left ≡ blanked out.new.items ∷ self.new.left }
+        ensures frame { IsFrameOf self.old.of.link.id.0 self.old.of.sub number ForA out.new.items }
+        ensures same { self.new ≡ record self.old { left = self.new.left } }
+    {
+        let of = self.of;
+        match &mut self.sending {
+            None => unreachable!(),
+            Some(cut) => {
+                if !cut.write_next(&of.link, of.end_system, number, Net::A, out) {
+                    unreachable!()
+                }
+            }
+        }
+    }
+
+    /// Gathers its queue with these senders, which are all that it has.
+    pub fn gather<R: Wait>(&mut self, rt: &R, senders: Vec<Sender>)
+        requires full { IsFullSub self.old senders.items }
+        ensures { GathersSub self.old senders.items self.new }
+    {
+        self.queue.gather(rt, senders);
+    }
+}
+
+/// Whether a message is being sent.
+fn is_cutting(of: &SubVl, sending: &Option<Cut>) -> bool
+    ensures { TellsCutting result (left_of of.now sending.now) }
+{
+    let _of = of;
+    match sending {
+        None => false,
+        Some(cut) => !cut.is_done(),
+    }
+}
