@@ -14,6 +14,11 @@ pub record Lines : Type 0 where
   pub a_stands : Bool
   pub b_stands : Bool
 
+-- the lines of two networks
+abbrev pub lines_of : (a b : List Entry) (a_failures b_failures : ℕ) (a_stands b_stands : Bool) → Lines
+lines_of a b f g s t =
+    record { a = a; b = b; a_failures = f; b_failures = g; a_stands = s; b_stands = t }
+
 -- One network when an entry is handed over, by whether it stood before and stands afterwards.
 abbrev pub Handing : (handed : Entry) (stood stands : Bool) (old new : List Entry) (failures_old failures_new : ℕ) → Type 0
 -- it takes the entry
@@ -52,3 +57,10 @@ pub record Mirrors (log : List Entry) (lines : Lines) : Type 0 where
 
 abbrev pub IsMirrored : Lines → Type 0
 IsMirrored lines = Mirrors (log lines) lines
+
+-- What holds of two networks that are given up at their first failure: one that stands has not
+-- failed, and their lists mirror one log.
+pub record AreInStep (lines : Lines) : Type 0 where
+  pub a_unfailed : lines.a_stands ≡ true → lines.a_failures ≡ 0
+  pub b_unfailed : lines.b_stands ≡ true → lines.b_failures ≡ 0
+  pub mirrored : IsMirrored lines

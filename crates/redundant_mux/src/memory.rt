@@ -4,7 +4,7 @@ ghost use Rattle.redundant_mux.specs.Entry.{entry};
 ghost use Rattle.redundant_mux.specs.Memory.{entries};
 
 use crate::network::{HandFault, Network};
-use afdx_frame::Frame;
+use afdx_frame::{Frame, GREATEST_FRAME};
 use std::alloc::Global;
 use std::marker::Model;
 
@@ -93,7 +93,7 @@ impl Network for MemNetwork {
     /// counted, and the next hand is tried like any other. The count of hands stays at the greatest
     /// u64, and no later hand is the one that is to fail.
     fn hand(&mut self, at: u64, frame: &[u8]) -> Result<(), HandFault>
-        requires short { length frame.now ≤ 1514 }
+        requires short { length frame.now ≤ GREATEST_FRAME }
         requires few { self.old.failures + 1 < 2 ^ 64 }
         ensures ok { OnOk result (self.new.handed ≡ self.old.handed ++ entry at frame.now ∷ []) }
         ensures ok_failures { OnOk result (self.new.failures ≡ self.old.failures) }
@@ -131,7 +131,7 @@ fn counts_to(asked: &mut u64, fails_at: Option<u64>) -> bool
 /// Keeps a frame at the end, where memory suffices. Whether it does. The frame is filled where it
 /// stands, and not moved there.
 fn keep(handed: &mut Vec<Handed>, at: u64, frame: &[u8]) -> bool
-    requires { length frame.now ≤ 1514 }
+    requires { length frame.now ≤ GREATEST_FRAME }
     ensures kept { result ≡ true →
         entries handed.new.items ≡ entries handed.old.items ++ entry at frame.now ∷ [] }
     ensures same { result ≡ false → entries handed.new.items ≡ entries handed.old.items }

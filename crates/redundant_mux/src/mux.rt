@@ -1,12 +1,12 @@
 //! One frame for two networks.
-ghost use Rattle.std.specs.Prelude.{◌≡◌, ℕ, ◌+◌, ◌-◌, ◌^◌, ◌<◌, ◌≤◌, ◌↔◌, List, [], ◌∷◌, ◌++◌, true, false, length, IsErr, OnErr, IfOk};
+ghost use Rattle.std.specs.Prelude.{◌≡◌, ℕ, ◌≤◌, ◌↔◌, [], ◌∷◌, ◌++◌, true, false, length, IsErr, OnErr, IfOk};
 ghost use Rattle.afdx_frame.specs.Twin.{twin_of};
 ghost use Rattle.afdx_frame.specs.declared.net.Net.TheVariants.{A as ForA, B as ForB};
 ghost use Rattle.redundant_mux.specs.Entry.{entry};
-ghost use Rattle.redundant_mux.specs.Lines.{Lines, Handing};
+ghost use Rattle.redundant_mux.specs.Lines.{Handing, is_alive, log, IsMirrored};
 
 use crate::network::Network;
-use afdx_frame::Frame;
+use afdx_frame::{Frame, GREATEST_FRAME, Net, make_twin};
 use std::marker::Model;
 
 /// Both networks were down.
@@ -28,62 +28,68 @@ pub struct Mux<A: Network + Drop, B: Network + Drop> {
     b: B,
     standing: Standing,
     // Where B's twin of a frame is made.
-    twin: [u8; 1514],
+    twin: [u8; GREATEST_FRAME],
 }
 
 impl<A: Network + Drop, B: Network + Drop> Model for Mux<A, B> {
-    ghost use Rattle.std.specs.Prelude.{ℕ, ◌≡◌, true};
-    ghost use Rattle.redundant_mux.specs.Lines.{Lines};
+    ghost use Rattle.redundant_mux.specs.Lines.{Lines, AreInStep, lines_of};
 
     ghost Value = { Lines };
 
-    ghost view = { λ m. record {
-      a = A.handed m.a;
-      b = B.handed m.b;
-      a_failures = A.failures m.a;
-      b_failures = B.failures m.b;
-      a_stands = m.standing.a;
-      b_stands = m.standing.b;
-    } };
+    ghost view = { λ m. lines_of (A.handed m.a) (B.handed m.b) (A.failures m.a) (B.failures m.b)
+        m.standing.a m.standing.b };
 
-    ghost invariant = { λ m.
-        (m.standing.a ≡ true → A.failures m.a ≡ 0)
-        × (m.standing.b ≡ true → B.failures m.b ≡ 0) };
+    ghost invariant = { λ m. AreInStep (lines_of (A.handed m.a) (B.handed m.b) (A.failures m.a)
+        (B.failures m.b) m.standing.a m.standing.b) };
 }
 
-/// Hands a network the twin for B of a frame for A, which is made in a buffer. Whether it was
-/// taken.
+/// Hands a network that stands a frame, once. It is down for good where it fails.
 #[inline(always)]
-fn hand_twin<B: Network + Drop>(
-    network: &mut B,
-    buffer: &mut [u8; 1514],
+fn hand_to<N: Network + Drop>(network: &mut N, stands: &mut bool, at: u64, frame: &[u8])
+    requires short { length frame.now ≤ GREATEST_FRAME }
+    requires unfailed { stands.old ≡ true → N.failures network.old ≡ 0 }
+    ensures handing { Handing (entry at frame.now) stands.old stands.new
+        (N.handed network.old) (N.handed network.new)
+        (N.failures network.old) (N.failures network.new) }
+    ensures unfailed { stands.new ≡ true → N.failures network.new ≡ 0 }
+{
+    *stands = *stands && network.hand(at, frame).is_ok();
+}
+
+/// Hands a network that stands the twin for B of a frame for A, which is made in a buffer.
+#[inline(always)]
+fn hand_twin<N: Network + Drop>(
+    network: &mut N,
+    stands: &mut bool,
+    buffer: &mut [u8; GREATEST_FRAME],
     at: u64,
     frame: &[u8],
-) -> bool
-    requires short { length frame.now ≤ 1514 }
-    requires few { B.failures network.old + 1 < 2 ^ 64 }
-    ensures taken { result ≡ true →
-        B.handed network.new ≡ B.handed network.old ++ entry at (twin_of ForB frame.now) ∷ [] }
-    ensures same { result ≡ true → B.failures network.new ≡ B.failures network.old }
-    ensures refused { result ≡ false → B.handed network.new ≡ B.handed network.old }
-    ensures failed { result ≡ false → B.failures network.new ≡ B.failures network.old + 1 }
+)
+    requires short { length frame.now ≤ GREATEST_FRAME }
+    requires unfailed { stands.old ≡ true → N.failures network.old ≡ 0 }
+    ensures handing { Handing (entry at (twin_of ForB frame.now)) stands.old stands.new
+        (N.handed network.old) (N.handed network.new)
+        (N.failures network.old) (N.failures network.new) }
+    ensures unfailed { stands.new ≡ true → N.failures network.new ≡ 0 }
 {
-    let twin = &mut buffer[..frame.len()];
-    twin.copy_from_slice(frame);
-    if twin.len() > 11 {
-        twin[11] = 0x40;
+    if *stands {
+        let twin = &mut buffer[..frame.len()];
+        twin.copy_from_slice(frame);
+        make_twin(twin, Net::B);
+        hand_to(network, stands, at, twin);
     }
-    network.hand(at, twin).is_ok()
 }
 
 impl<A: Network + Drop, B: Network + Drop> Mux<A, B> {
-    /// Over two networks that have not failed. Both stand.
+    /// Over two networks that were handed nothing and have not failed. Both stand.
     pub fn new(a: A, b: B) -> Mux<A, B>
         requires a { A.failures a ≡ 0 }
         requires b { B.failures b ≡ 0 }
+        requires a_empty { A.handed a ≡ [] }
+        requires b_empty { B.handed b ≡ [] }
         ensures { result ≡ record {
-          a = A.handed a;
-          b = B.handed b;
+          a = [];
+          b = [];
           a_failures = 0;
           b_failures = 0;
           a_stands = true;
@@ -94,7 +100,7 @@ impl<A: Network + Drop, B: Network + Drop> Mux<A, B> {
             a,
             b,
             standing: Standing { a: true, b: true },
-            twin: [0; 1514],
+            twin: [0; GREATEST_FRAME],
         }
     }
 
@@ -102,6 +108,7 @@ impl<A: Network + Drop, B: Network + Drop> Mux<A, B> {
     pub fn standing(&self) -> Standing
         ensures a { result.a ≡ self.now.a_stands }
         ensures b { result.b ≡ self.now.b_stands }
+        ensures mirrored { IsMirrored self.now }
     {
         self.standing
     }
@@ -112,6 +119,7 @@ impl<A: Network + Drop, B: Network + Drop> Mux<A, B> {
         ensures b { B.handed result.1 ≡ self.b }
         ensures a_failures { A.failures result.0 ≡ self.a_failures }
         ensures b_failures { B.failures result.1 ≡ self.b_failures }
+        ensures mirrored { IsMirrored self }
     {
         let Mux {
             a,
@@ -135,20 +143,18 @@ impl<A: Network + Drop, B: Network + Drop> Mux<A, B> {
         ensures b { Handing (entry at (twin_of ForB frame.now.items))
             self.old.b_stands self.new.b_stands
             self.old.b self.new.b self.old.b_failures self.new.b_failures }
+        ensures enters { is_alive self.new ≡ true →
+            log self.new ≡ log self.old ++ entry at frame.now.items ∷ [] }
+        ensures lost { is_alive self.new ≡ false → log self.new ≡ log self.old }
+        ensures mirrored { IsMirrored self.new }
         ensures a_stands { IfOk result (λ standing. standing.a ≡ self.new.a_stands) }
         ensures b_stands { IfOk result (λ standing. standing.b ≡ self.new.b_stands) }
     {
         if !self.standing.a && !self.standing.b {
             return Err(BothDown);
         }
-        if self.standing.a {
-            let taken = self.a.hand(at, frame).is_ok();
-            self.standing.a = taken;
-        }
-        if self.standing.b {
-            let taken = hand_twin(&mut self.b, &mut self.twin, at, frame);
-            self.standing.b = taken;
-        }
+        hand_to(&mut self.a, &mut self.standing.a, at, frame);
+        hand_twin(&mut self.b, &mut self.standing.b, &mut self.twin, at, frame);
         Ok(self.standing)
     }
 }

@@ -2,6 +2,8 @@
 ghost use Rattle.std.specs.Prelude.{◌≡◌, ℕ, ◌+◌, ◌^◌, ◌<◌, ◌≤◌, List, [], ◌∷◌, ◌++◌, length, OnOk, OnErr};
 ghost use Rattle.redundant_mux.specs.Entry.{Entry, entry};
 
+use afdx_frame::GREATEST_FRAME;
+
 /// A network did not take a frame.
 #[derive(Clone, Copy, Debug, PartialEq, Eq)]
 pub struct HandFault;
@@ -16,7 +18,7 @@ pub trait Network {
     /// Hands the network a frame, from destination MAC address to sequence number, at a moment in
     /// microseconds. After an error the network holds what it held, and has failed once more.
     fn hand(&mut self, at: u64, frame: &[u8]) -> Result<(), HandFault>
-        requires short { length frame.now ≤ 1514 }
+        requires short { length frame.now ≤ GREATEST_FRAME }
         requires few { failures self.old + 1 < 2 ^ 64 }
         ensures ok { OnOk result (handed self.new ≡ handed self.old ++ entry at frame.now ∷ []) }
         ensures ok_failures { OnOk result (failures self.new ≡ failures self.old) }

@@ -1,0 +1,35 @@
+use Rattle.std.proofs.Common.{◌≡◌, ap, sym, subst}
+use Rattle.redundant_mux.specs.Entry.{Entry, entry}
+use Rattle.redundant_mux.specs.Lines.{Lines, lines_of, log, IsMirrored}
+use Rattle.redundant_mux.proofs.MirroredLines.{HandedOn, handed_on}
+use Rattle.redundant_mux.proofs.mux.Mux.hand.Given
+use Rattle.redundant_mux.proofs.mux.Mux.hand.Goals as goal
+
+-- what the hand leaves
+left : (g : Given.Over) (c : goal.After-result-1 g)
+    → HandedOn c.args.self.now
+    (lines_of (g.A.Network.handed c.hand_to.new.network) (g.B.Network.handed c.hand_twin.new.network)
+    (g.A.Network.failures c.hand_to.new.network) (g.B.Network.failures c.hand_twin.new.network)
+    c.hand_to.new.stands c.hand_twin.new.stands)
+    (entry c.args.at c.args.frame.now.items)
+left g c =
+    let for_a = ap (entry c.args.at) c.requires in
+    let a = rw c.deref.ensures.0 at c.hand_to.ensures.handing in
+    let b = rw c.deref-2.ensures.0 at c.hand_twin.ensures.handing in
+    rw (← c.self.view_is) (handed_on _ _ _ c.self.invariant.mirrored for_a a b)
+
+pub invariant_of-self : goal.invariant_of-self
+invariant_of-self g c = record {
+  a_unfailed = c.hand_to.ensures.unfailed;
+  b_unfailed = c.hand_twin.ensures.unfailed;
+  mirrored = (left g c).mirrored;
+}
+
+pub returns-clause-enters : goal.returns-clause-enters
+returns-clause-enters g c = (left g c).enters
+
+pub returns-clause-lost : goal.returns-clause-lost
+returns-clause-lost g c = (left g c).lost
+
+pub returns-clause-mirrored : goal.returns-clause-mirrored
+returns-clause-mirrored g c = (left g c).mirrored

@@ -1,0 +1,7 @@
+use Rattle.std.proofs.Common.{◌≡◌, true, sym, rules}
+use Rattle.redundant_mux.specs.Lines.{AreInStep, lines_of}
+use Rattle.redundant_mux.proofs.MirroredLines.{fresh_in_step}
+use Rattle.redundant_mux.proofs.mux.Mux.new.Goals as goal
+
+pub invariant_of-result : goal.invariant_of-result
+invariant_of-result g c = rw (c.requires.a_empty, c.requires.b_empty, c.requires.a, c.requires.b) fresh_in_step
