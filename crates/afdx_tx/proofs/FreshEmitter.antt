@@ -10,7 +10,8 @@ use Rattle.afdx_config.specs.Numbers.{sequence_number}
 use Rattle.afdx_frame.specs.declared.net.Net.{Net}
 use Rattle.afdx_frame.specs.declared.net.Net.TheVariants.{A, B}
 use Rattle.redundant_mux.specs.Entry.{Entry}
-use Rattle.redundant_mux.specs.Lines.{Lines, log, Keeps, Mirrors}
+use Rattle.redundant_mux.specs.Lines.{log}
+use Rattle.redundant_mux.proofs.MirroredLines.{fresh_lines, fresh_log, fresh_in_step}
 use Rattle.vl_shaper.specs.Pace.{Pace, IsLater}
 use Rattle.vl_shaper.specs.declared.shaper.Stamp.{Stamp}
 use Rattle.afdx_legal.specs.Legal.{AreKnown}
@@ -20,23 +21,6 @@ use Rattle.vl_link.specs.Links.{Held, LinkState, link_at, no_link, held_at, no_l
 use Rattle.afdx_tx.specs.Emitter.{IsFreshSub, IsFreshLink, AreFreshLinks, AreLinksOf, plans, ports_of_sub, IsSound}
 use Rattle.vl_link.specs.Kept.{IsKept, IsTied}
 use Rattle.afdx_tx.proofs.PollTurns.{plan_at_is, plans_length}
-
--- the lines of two networks that were handed nothing
-abbrev pub fresh_lines : Lines
-fresh_lines = record { a = []; b = []; a_failures = 0; b_failures = 0; a_stands = true; b_stands = true }
-
--- their log is empty
-pub fresh_log : log fresh_lines ≡ []
-unfolding log
-fresh_log = refl
-
--- an empty list keeps an empty log
-fresh_keeps : (net : Net) → Keeps net true [] []
-fresh_keeps net = record { within = omega arith; front = refl; all = λ e. refl }
-
--- so both do
-fresh_mirrors : Mirrors [] fresh_lines
-fresh_mirrors = record { first = fresh_keeps A; second = fresh_keeps B; for_a = refl; one = inl refl }
 
 -- the sub-VLs of a fresh link are those of its plan
 fresh_own : (own : ℕ) (ports : List PortPlan) (plan : LinkPlan) (link : LinkState) → IsFreshLink own ports plan link
@@ -121,7 +105,7 @@ fresh_sound config links valid f =
           (fresh_kept config.end_system config.ports (link_plan_at config.links k) (link_at links k)
           (f.each k (omega (arith, f.count))));
       later = λ k lt. fresh_later (link_at links k).pace (ap (λ (p : Pace). p.last) (f.each k (omega (arith, f.count))).pace);
-      mirrored = subst (λ (H : List Entry). Mirrors H fresh_lines) (sym fresh_log) fresh_mirrors;
+      mirrored = fresh_in_step.mirrored;
       known = subst (AreKnown config.links A) (sym fresh_log) tt;
       whole = λ _ k lt. (f.each k (omega (arith, f.count))).lost;
     }

@@ -17,7 +17,7 @@ use Rattle.redundant_mux.specs.Lines.{Lines, side, log, Keeps, Mirrors, IsMirror
 use Rattle.vl_shaper.specs.declared.shaper.Stamp.{Stamp}
 use Rattle.afdx_legal.specs.Streams.{on_link, on_sub, link_stream, sub_stream, told, told_of, stamp_of, IsNumbered, IsSpaced, IsPrefixOf}
 use Rattle.afdx_legal.specs.Legal.{Accepted, AreKnown, IsLegalOn, AreTwins, IsLegal}
-use Rattle.vl_link.proofs.MirroredLines.{all_of, sides}
+use Rattle.redundant_mux.proofs.MirroredLines.{all_of, sides}
 
 -- the entries of a list have whole frames
 abbrev AreLong : List Entry → Type 0

@@ -1,5 +1,5 @@
 -- One more link of a poll has had its turn.
-use Rattle.std.proofs.Common.{ℕ, ◌≡◌, ◌≢◌, ◌+◌, ◌<◌, List, [], ◌∷◌, ◌++◌, true, false, length, take, drop, set, get_or, arith, refl, ap, ◌∙◌, sym, subst, ⊎_elim}
+use Rattle.std.proofs.Common.{ℕ, ◌≡◌, ◌≢◌, ◌+◌, ◌<◌, List, [], ◌∷◌, ◌++◌, ◌||◌, Bool, true, false, length, take, drop, set, get_or, arith, refl, ap, ◌∙◌, sym, subst, ⊎_elim}
 use Rattle.std.proofs.lemmas.List.{length-set, get_or-set_same, get_or-set_other, get_or-drop, drop-drop, drop-set-lt, take_more, take_more_set, get_or-map, length-map, take-set}
 use Rattle.std.proofs.lemmas.Bool.{cases_eq}
 use Rattle.afdx_config.specs.declared.identifiers.VlId.{VlId}
@@ -7,14 +7,14 @@ use Rattle.afdx_config.specs.declared.link_plan.LinkPlan.{LinkPlan}
 use Rattle.afdx_config.specs.Config.{link_plan_at}
 use Rattle.afdx_frame.specs.declared.net.Net.TheVariants.{A}
 use Rattle.redundant_mux.specs.Entry.{Entry, entry}
-use Rattle.redundant_mux.specs.Lines.{Lines, log, is_alive, IsMirrored}
+use Rattle.redundant_mux.specs.Lines.{Lines, log, is_alive}
 use Rattle.vl_shaper.specs.Pace.{Pace, IsLater}
 use Rattle.vl_link.specs.declared.served.Served.{Served}
 use Rattle.vl_link.specs.declared.served.Served.TheVariants.{Nothing, Released, Lost}
 use Rattle.afdx_legal.specs.Legal.{IsKnown, AreKnown}
-use Rattle.vl_link.specs.Links.{LinkState, link_at, held_at, no_link, no_link_plan, Serves, IsSameLink, is_lost}
+use Rattle.vl_link.specs.Links.{LinkState, link_at, held_at, no_link, no_link_plan, Serves, Follows, IsSameLink, is_lost}
 use Rattle.afdx_tx.specs.Run.{IsTurn, IsRun, IsCutShort}
-use Rattle.afdx_tx.specs.Emitter.{plan_of, plans, AreApart, IsSamePlan}
+use Rattle.afdx_tx.specs.Emitter.{plan_of, plans, AreApart, AreServedBy, AreWhole, IsSamePlan}
 use Rattle.vl_link.specs.Kept.{IsKept}
 use Rattle.afdx_tx.specs.Serving.{IsSteady, IsServing}
 use Rattle.vl_link.proofs.LinkTurn.{Turned, IsOwn, link_turn, kept_turn, other_stream, kept_stream, released_known, picked_of}
@@ -29,6 +29,23 @@ turn_shown now did link new lines after t k = record {
   tied = k.tied t.whole;
   serves = subst (λ (p : Pace). Serves now p link.subs new.subs lines after did) (k.paced t.whole) t.serves;
 }
+
+-- what serving one of the links came to, as its turn at its place
+pub turned_at : (now i : ℕ) (links : List LinkState) (item new : LinkState) (lines after : Lines) (did : Served)
+    → item ≡ link_at links i → i < length links → AreServedBy now links → AreWhole links
+    → Serves now item.pace item.subs new.subs lines after did → Follows new.plan.id.0 new.pace after did
+    → IsSameLink item new → new.lost ≡ (item.lost || is_lost did)
+    → Turned now (link_at links i) new lines after did
+turned_at now i links item new lines after did is lt later whole serves paced same lost =
+    let kept : item.lost ≡ false = ap (λ (l : LinkState). l.lost) is ∙ whole i lt in
+    subst (λ (l : LinkState). Turned now l new lines after did) is (record {
+      serves = serves;
+      paced = paced;
+      same = same;
+      later = subst (λ (l : LinkState). IsLater l.pace.last now) (sym is) (later i lt);
+      whole = kept;
+      lost = lost ∙ ap (λ (b : Bool). b || is_lost did) kept;
+    })
 
 -- one turn more at the end of a run
 run_push : (now : ℕ) (xs ys : List LinkState) (link new : LinkState) (before lines after : Lines) (did : Served)
@@ -135,9 +152,9 @@ known_after now i old Lost links new lines after same lt own t h = subst (AreKno
 -- every turn keeps what turns keep
 pub steady_more : (now i : ℕ) (old links : List LinkState) (lines after : Lines) (new : LinkState) (did : Served)
     → IsSteady now old links lines → AreApart old → i < length links
-    → Turned now (link_at links i) new lines after did → IsMirrored after → IsLater new.pace.last now
+    → Turned now (link_at links i) new lines after did → IsLater new.pace.last now
     → IsSteady now old (set links i new) after
-steady_more now i old links lines after new did s apart lt t mirrored later =
+steady_more now i old links lines after new did s apart lt t later =
     let il : i < length old = omega (arith, s.same.count) in
     let len : length (set links i new) ≡ length links = length-set links i new in
     let own : IsOwn (link_at links i) = s.each i lt in
@@ -158,16 +175,15 @@ steady_more now i old links lines after new did s apart lt t mirrored later =
           (λ j jlt ne. kept_stream (link_at links j) (log lines) (log after) (other j jlt ne) (s.kept j jlt))
           k (omega arith);
       later = λ k klt. at_each (λ j l. IsLater l.pace.last now) links i new lt later (λ j jlt ne. s.later j jlt) k (omega arith);
-      mirrored = mirrored;
       known = known_after now i old did links new lines after s.same lt own t s.known;
     }
 
 -- one more link had its turn, and a network stands
 pub serving_more : (now i : ℕ) (old links : List LinkState) (before lines after : Lines) (new : LinkState) (did : Served)
     → IsServing now i old links before lines → AreApart old → i < length links
-    → Turned now (link_at links i) new lines after did → is_lost did ≡ false → IsMirrored after
+    → Turned now (link_at links i) new lines after did → is_lost did ≡ false
     → IsLater new.pace.last now → IsServing now (i + 1) old (set links i new) before after
-serving_more now i old links before lines after new did s apart lt t kept mirrored later =
+serving_more now i old links before lines after new did s apart lt t kept later =
     let il : i < length old = omega (arith, s.steady.same.count) in
     let len : length (set links i new) ≡ length links = length-set links i new in
     let here : link_at links i ≡ link_at old i = same_rest links old i s.rest in
@@ -179,7 +195,7 @@ serving_more now i old links before lines after new did s apart lt t kept mirror
     take_more old i no_link il ∙ ap (λ (l : LinkState). take i old ++ l ∷ []) (sym here) in
     let taken_new : take (i + 1) (set links i new) ≡ take i links ++ new ∷ [] = take_more_set links i new lt in
     record {
-      steady = steady_more now i old links lines after new did s.steady apart lt t mirrored later;
+      steady = steady_more now i old links lines after new did s.steady apart lt t later;
       run = subst (λ (xs : List LinkState). IsRun now xs (take (i + 1) (set links i new)) before after) (sym taken)
           (subst (λ (ys : List LinkState). IsRun now (take i old ++ link_at links i ∷ []) ys before after) (sym taken_new) run);
       rest = drop-set-lt (i + 1) links i new (omega arith) ∙ sym (drop-drop 1 i links) ∙ ap (drop 1) s.rest ∙ drop-drop 1 i old;

@@ -7,7 +7,7 @@ use Rattle.afdx_config.specs.Plan.{bag_micros}
 use Rattle.afdx_config.specs.Room.{room_of}
 use Rattle.afdx_frame.specs.declared.net.Net.TheVariants.{A}
 use Rattle.afdx_frame.specs.Fragments.{fragments}
-use Rattle.redundant_mux.specs.Lines.{Lines, log, is_alive}
+use Rattle.redundant_mux.specs.Lines.{Lines, log, is_alive, IsMirrored}
 use Rattle.afdx_legal.specs.Streams.{link_stream, told_of, IsNumbered, IsSpaced, IsPrefixOf}
 use Rattle.afdx_legal.specs.Legal.{AreKnown, IsLegal}
 use Rattle.vl_link.specs.Links.{LinkState, link_at, no_link, held_at, nothing_held, no_link_plan, IsSameLink}
@@ -63,15 +63,15 @@ links_after config old new of same each =
 
 -- the emitter stays sound
 pub sound_after : (config : Plan) (old new : List LinkState) (lines : Lines) (now : ℕ) → IsPlan config
-    → AreLinksOf config old → IsSteady now old new lines → (is_alive lines ≡ true → AreWhole new)
+    → AreLinksOf config old → IsSteady now old new lines → IsMirrored lines → (is_alive lines ≡ true → AreWhole new)
     → IsSound config new lines now
-sound_after config old new lines now valid of s whole =
+sound_after config old new lines now valid of s mirrored whole =
     record {
       valid = valid;
       of_plan = links_after config old new of s.same s.each;
       kept = s.kept;
       later = s.later;
-      mirrored = s.mirrored;
+      mirrored = mirrored;
       known = subst (λ (ps : List LinkPlan). AreKnown ps A (log lines)) of.each_plan s.known;
       whole = whole;
     }

@@ -7,6 +7,8 @@ use Rattle.redundant_mux.specs.Lines.{Lines, log}
 use Rattle.vl_link.specs.declared.served.Served.{Served}
 use Rattle.vl_link.specs.declared.served.Served.TheVariants.{Nothing, Released, Lost}
 use Rattle.afdx_tx.specs.declared.report.Release.{Release}
+use Rattle.afdx_tx.specs.declared.report.Report.{Report}
+use Rattle.afdx_tx.specs.Emitter.{Tx}
 
 -- the release that an entry shows
 abbrev pub release_of : Entry → Release
@@ -28,3 +30,11 @@ pub record IsTold (now : ℕ) (released : List Release) (before lines : Lines) :
   pub grown : log lines ≡ log before ++ entries
   pub named : map release_of entries ≡ released
   pub moments : map (λ (e : Entry). e.at) entries ≡ map (λ (e : Entry). now) entries
+
+-- What a poll tells of what it did: the moment is now this one, the report names what was released,
+-- and says which networks stand.
+pub record Polls (now : ℕ) (old : Tx) (report : Report) (new : Tx) : Type 0 where
+  pub moment : new.moment ≡ now
+  pub released : IsTold now report.released.items old.lines new.lines
+  pub a_stands : report.standing.a ≡ new.lines.a_stands
+  pub b_stands : report.standing.b ≡ new.lines.b_stands

@@ -1,7 +1,7 @@
 -- What the turns of a poll keep, up to some link.
 use Rattle.std.specs.Prelude.{ℕ, ◌≡◌, ◌≤◌, List, length, take, drop, true}
 use Rattle.afdx_frame.specs.declared.net.Net.TheVariants.{A}
-use Rattle.redundant_mux.specs.Lines.{Lines, log, is_alive, IsMirrored}
+use Rattle.redundant_mux.specs.Lines.{Lines, log, is_alive}
 use Rattle.afdx_tx.specs.declared.report.Release.{Release}
 use Rattle.afdx_legal.specs.Legal.{AreKnown}
 use Rattle.vl_link.specs.Links.{LinkState}
@@ -15,7 +15,6 @@ pub record IsSteady (now : ℕ) (old links : List LinkState) (lines : Lines) : T
   pub each : AreLinks links
   pub kept : AreKept links (log lines)
   pub later : AreServedBy now links
-  pub mirrored : IsMirrored lines
   pub known : AreKnown (plans old) A (log lines)
 
 -- the first i links had their turns

@@ -30,7 +30,7 @@ impl<A: Network + Drop, B: Network + Drop> Draining<A, B> {
     ghost use Rattle.std.specs.Prelude.{◌≡◌, ◌≤◌, ◌↔◌, true, false, IsTrue, IsErr, OnErr, OnOk, IfOk};
     ghost use Rattle.redundant_mux.specs.Lines.{is_alive, log, IsMirrored};
     ghost use Rattle.afdx_legal.specs.Legal.{IsLegal};
-    ghost use Rattle.afdx_tx.specs.Report.{IsTold};
+    ghost use Rattle.afdx_tx.specs.Report.{Polls};
     ghost use Rattle.afdx_tx.specs.Drain.{AreGathered, IsAllDone, IsDrained, IsDrainCutShort, accepted_in};
 
     /// Over links whose queues are all gathered.
@@ -89,12 +89,8 @@ impl<A: Network + Drop, B: Network + Drop> Draining<A, B> {
             self.new.lines.a self.new.lines.b }
         ensures plan { self.new.plan ≡ self.old.plan }
         ensures accepted { accepted_in self.new.links ≡ accepted_in self.old.links }
-        ensures now { OnOk result (self.new.moment ≡ now) }
         ensures mirrored { IsMirrored self.new.lines }
-        ensures a_stands { IfOk result (λ report. report.standing.a ≡ self.new.lines.a_stands) }
-        ensures b_stands { IfOk result (λ report. report.standing.b ≡ self.new.lines.b_stands) }
-        ensures told { IfOk result
-            (λ report. IsTold now report.released.items self.old.lines self.new.lines) }
+        ensures told { IfOk result (λ report. Polls now self.old report self.new) }
         ensures run { OnOk result
             (is_alive self.new.lines ≡ true →
             IsDrained now self.old.plan (accepted_in self.old.links) self.old.lines self.new.lines) }

@@ -37,7 +37,7 @@ impl<A: Network + Drop, B: Network + Drop> Emitter<A, B> {
     ghost use Rattle.redundant_mux.specs.Lines.{is_alive, log, IsMirrored};
     ghost use Rattle.afdx_legal.specs.Legal.{IsLegal};
     ghost use Rattle.afdx_tx.specs.Run.{IsRun, IsCutShort};
-    ghost use Rattle.afdx_tx.specs.Report.{IsTold};
+    ghost use Rattle.afdx_tx.specs.Report.{Polls};
     ghost use Rattle.afdx_tx.specs.Emitter.{Tx, IsFreshTx, AreFreshLinks, AreTied, taken_in, queues_in};
     ghost use Rattle.afdx_tx.specs.Ports.{AreOpenedWith, LacksPlace};
     ghost use Rattle.afdx_tx.specs.Rooms.{AreReserved};
@@ -105,12 +105,8 @@ impl<A: Network + Drop, B: Network + Drop> Emitter<A, B> {
         ensures tied { AreTied self.new.links (log self.new.lines) }
         ensures plan { self.new.plan ≡ self.old.plan }
         ensures queues { queues_in self.new.links ≡ queues_in self.old.links }
-        ensures now { OnOk result (self.new.moment ≡ now) }
         ensures mirrored { IsMirrored self.new.lines }
-        ensures a_stands { IfOk result (λ report. report.standing.a ≡ self.new.lines.a_stands) }
-        ensures b_stands { IfOk result (λ report. report.standing.b ≡ self.new.lines.b_stands) }
-        ensures told { IfOk result
-            (λ report. IsTold now report.released.items self.old.lines self.new.lines) }
+        ensures told { IfOk result (λ report. Polls now self.old report self.new) }
         ensures run { OnOk result
             (is_alive self.new.lines ≡ true →
             IsRun now self.old.links self.new.links self.old.lines self.new.lines) }

@@ -48,7 +48,6 @@ fn serve_all<R: Wait, A: Network + Drop, B: Network + Drop>(
     requires later { AreServedBy now links.old }
     requires alive { is_alive mux.old ≡ true }
     requires whole { AreWhole links.old }
-    requires mirrored { IsMirrored mux.old }
     requires known { AreKnown (plans links.old) ForA (log mux.old) }
     ensures steady { IsSteady now links.old links.new mux.new }
     ensures run { is_alive mux.new ≡ true →
@@ -124,7 +123,7 @@ impl<A: Network + Drop, B: Network + Drop> Transmitter<A, B> {
     ghost use Rattle.redundant_mux.specs.Lines.{is_alive, log, IsMirrored};
     ghost use Rattle.afdx_legal.specs.Legal.{IsLegal};
     ghost use Rattle.afdx_tx.specs.Run.{IsRun, IsCutShort};
-    ghost use Rattle.afdx_tx.specs.Report.{IsTold};
+    ghost use Rattle.afdx_tx.specs.Report.{Polls};
     ghost use Rattle.afdx_tx.specs.Emitter.{Tx, IsFreshTx, AreFreshLinks, AreLinksOf, AreTied, IsSamePlan, taken_in};
     ghost use Rattle.afdx_tx.specs.Drain.{AreGathered, IsAllDone, accepted_in};
     ghost use Rattle.afdx_tx.specs.Emitter.{AreReceiving, queues_in};
@@ -203,12 +202,8 @@ impl<A: Network + Drop, B: Network + Drop> Transmitter<A, B> {
         ensures plan { self.new.plan ≡ self.old.plan }
         ensures same { IsSamePlan self.old.links self.new.links }
         ensures of_plan { AreLinksOf self.old.plan self.old.links }
-        ensures now { OnOk result (self.new.moment ≡ now) }
         ensures mirrored { IsMirrored self.new.lines }
-        ensures a_stands { IfOk result (λ report. report.standing.a ≡ self.new.lines.a_stands) }
-        ensures b_stands { IfOk result (λ report. report.standing.b ≡ self.new.lines.b_stands) }
-        ensures told { IfOk result
-            (λ report. IsTold now report.released.items self.old.lines self.new.lines) }
+        ensures told { IfOk result (λ report. Polls now self.old report self.new) }
         ensures run { OnOk result
             (is_alive self.new.lines ≡ true →
             IsRun now self.old.links self.new.links self.old.lines self.new.lines) }

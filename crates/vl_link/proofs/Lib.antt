@@ -1,6 +1,5 @@
 pub mod FragmentsLeft
 pub mod Choosing
-pub mod MirroredLines
 pub mod QueueLooks
 pub mod SubInStep
 pub mod PaceOfStream

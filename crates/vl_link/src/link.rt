@@ -2,7 +2,7 @@
 ghost use Rattle.std.specs.Prelude.{◌≡◌, ◌≢◌, ℕ, ◌+◌, ◌<◌, [], true, false, ◌||◌, Some, length, IfSome, IfNone};
 ghost use Rattle.afdx_config.specs.Numbers.{sequence_number};
 ghost use Rattle.vl_shaper.specs.Pace.{IsLater, is_due};
-ghost use Rattle.redundant_mux.specs.Lines.{is_alive, log, IsMirrored};
+ghost use Rattle.redundant_mux.specs.Lines.{is_alive, log};
 ghost use Rattle.afdx_legal.specs.Streams.{link_stream};
 ghost use Rattle.vl_link.specs.Links.{pace_of, AreSubsOf, IsSameSub, AreSameSubs, Serves, Follows, Releases, Loses, is_lost, IsChoice, PassedOver};
 ghost use Rattle.vl_link.specs.LinkDone.{TellsSubsDone};
@@ -55,8 +55,6 @@ fn send_next<A: Network + Drop, B: Network + Drop>(
     requires later { IsLater shaper.old.last now }
     requires due { is_due shaper.old.gap shaper.old.last now ≡ true }
     requires alive { is_alive mux.old ≡ true }
-    requires mirrored { IsMirrored mux.old }
-    ensures mirrored { IsMirrored mux.new }
     ensures number { IfSome result (λ number. number ≡ shaper.old.next) }
     ensures released { IfSome result
         (λ number. Releases now number sub.old sub.new mux.old mux.new) }
@@ -82,8 +80,8 @@ fn send_next<A: Network + Drop, B: Network + Drop>(
     }
 }
 
-/// One turn of the parts of a link.
-fn serve<R: Wait, A: Network + Drop, B: Network + Drop>(
+/// One turn of the parts of a link that is due.
+fn serve_due<R: Wait, A: Network + Drop, B: Network + Drop>(
     rt: &R,
     plan: &LinkPlan,
     shaper: &mut Shaper,
@@ -95,11 +93,10 @@ fn serve<R: Wait, A: Network + Drop, B: Network + Drop>(
     requires count { length subs.old ≡ shaper.old.sub_vls }
     requires named { AreSubsOf plan.now subs.old }
     requires later { IsLater shaper.old.last now }
+    requires due { is_due shaper.old.gap shaper.old.last now ≡ true }
     requires alive { is_alive mux.old ≡ true }
-    requires mirrored { IsMirrored mux.old }
     requires paced { shaper.old ≡ pace_of shaper.old.gap shaper.old.sub_vls
         (link_stream plan.now.id.0 (log mux.old)) }
-    ensures mirrored { IsMirrored mux.new }
     ensures serves { Serves now shaper.old subs.old subs.new mux.old mux.new result }
     ensures paced { Follows plan.now.id.0 shaper.new mux.new result }
     ensures later { IsLater shaper.new.last now }
@@ -107,9 +104,6 @@ fn serve<R: Wait, A: Network + Drop, B: Network + Drop>(
     ensures sub_vls { shaper.new.sub_vls ≡ shaper.old.sub_vls }
     ensures same { AreSameSubs subs.old subs.new }
 {
-    if !shaper.due(now) {
-        return Served::Nothing;
-    }
     match choose(rt, shaper, subs) {
         None => Served::Nothing,
         Some(sub) => {
@@ -174,11 +168,11 @@ impl Model for Link {
 }
 
 impl Link {
-    ghost use Rattle.std.specs.Prelude.{◌≡◌, ℕ, length, true, false, None};
+    ghost use Rattle.std.specs.Prelude.{◌≡◌, ℕ, ◌||◌, length, true, false, None};
     ghost use Rattle.afdx_config.specs.Numbers.{sequence_number};
     ghost use Rattle.afdx_config.specs.Plan.{IsLink as IsLinkPlan, bag_micros};
     ghost use Rattle.vl_shaper.specs.Pace.{IsLater};
-    ghost use Rattle.redundant_mux.specs.Lines.{is_alive, log, IsMirrored};
+    ghost use Rattle.redundant_mux.specs.Lines.{is_alive, log};
     ghost use Rattle.afdx_legal.specs.Streams.{link_stream};
     ghost use Rattle.vl_link.specs.Links.{LinkState, AreNamed, Serves, Follows, IsSameLink, is_lost, pace_of};
     ghost use Rattle.vl_link.specs.LinkDone.{TellsLinkDone};
@@ -229,6 +223,7 @@ impl Link {
     }
 
     /// One turn of the link at a moment, in microseconds. The frame is made in a kept buffer.
+    #[inline(always)]
     pub fn serve<R: Wait, A: Network + Drop, B: Network + Drop>(
         &mut self,
         rt: &R,
@@ -238,18 +233,20 @@ impl Link {
     ) -> Served
         requires later { IsLater self.old.pace.last now }
         requires alive { is_alive mux.old ≡ true }
-        requires mirrored { IsMirrored mux.old }
         requires paced { self.old.pace ≡ pace_of self.old.pace.gap self.old.pace.sub_vls
             (link_stream self.old.plan.id.0 (log mux.old)) }
-        ensures mirrored { IsMirrored mux.new }
         ensures serves { Serves now self.old.pace
             self.old.subs self.new.subs mux.old mux.new result }
         ensures paced { Follows self.new.plan.id.0 self.new.pace mux.new result }
         ensures later { IsLater self.new.pace.last now }
         ensures same { IsSameLink self.old self.new }
-        ensures lost { self.new.lost ≡ is_lost result }
+        ensures lost { self.new.lost ≡ (self.old.lost || is_lost result) }
     {
-        let did = serve(
+        // Most links aren't due at most polls, so that is asked first.
+        if !self.shaper.due(now) {
+            return Served::Nothing;
+        }
+        let did = serve_due(
             rt,
             &self.plan,
             &mut self.shaper,
@@ -258,7 +255,7 @@ impl Link {
             mux,
             now,
         );
-        self.lost = did.is_lost();
+        self.lost = self.lost || did.is_lost();
         did
     }
 

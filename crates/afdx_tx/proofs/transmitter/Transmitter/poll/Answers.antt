@@ -32,7 +32,7 @@ sound : (g : Given.Over) (c : goal.After-standing-2 g)
 sound g c =
     subst (λ (ls : List LinkState). IsSound c.self.inside.config ls c.serve_all.new.mux c.args.now) (sym (links_are g c))
     (sound_after c.self.inside.config c.self.inside.links.items c.serve_all.new.links c.serve_all.new.mux c.args.now
-    c.self.invariant.valid c.self.invariant.of_plan (steady g c) c.serve_all.ensures.whole)
+    c.self.invariant.valid c.self.invariant.of_plan (steady g c) c.standing-2.ensures.mirrored c.serve_all.ensures.whole)
 
 pub invariant_of-self : goal.invariant_of-self
 invariant_of-self g c = sound g c

@@ -3,7 +3,7 @@ use Rattle.afdx_config.specs.declared.link_plan.LinkPlan.{LinkPlan}
 use Rattle.vl_link.proofs.SubInStep.{passed_same}
 use Rattle.vl_link.proofs.ChosenSub.{chosen_left, item_of, set_same, releases_at, loses_at}
 use Rattle.vl_link.proofs.PaceOfStream.{follows_more}
-use Rattle.vl_link.proofs.link.serve.Goals as goal
+use Rattle.vl_link.proofs.link.serve_due.Goals as goal
 
 pub send_next-requires-clause-something : goal.send_next-requires-clause-something
 send_next-requires-clause-something g c = chosen_left _ _ _ _ c.index-subs-sub.result c.in-Some.ensures.chosen
@@ -13,20 +13,18 @@ returns-in-None-clause-same g c = passed_same _ _ _ _ c.in-None.ensures.none
 
 pub returns-in-None-send_next-clause-serves : goal.returns-in-None-send_next-clause-serves
 returns-in-None-send_next-clause-serves g c =
-    let due : c.due.result ≡ true = c.if-not-due.false in
-    (sym c.due.ensures ∙ due, loses_at _ _ _ _ c.index-subs-sub.result _ _ _ c.in-Some.ensures.chosen c.in-None-send_next.ensures.lost)
+    (c.requires.due, loses_at _ _ _ _ c.index-subs-sub.result _ _ _ c.in-Some.ensures.chosen c.in-None-send_next.ensures.lost)
 
 pub returns-in-None-send_next-clause-same : goal.returns-in-None-send_next-clause-same
 returns-in-None-send_next-clause-same g c =
     set_same _ _ _ _ c.index-subs-sub.result _ c.in-Some.ensures.chosen c.in-None-send_next.ensures.same
 
 pub returns-in-Some-send_next-clause-serves : goal.returns-in-Some-send_next-clause-serves
-returns-in-Some-send_next-clause-serves g c =
-    let due : c.due.result ≡ true = c.if-not-due.false in (
-      sym c.due.ensures ∙ due,
-      c.in-Some-send_next.ensures.number,
-      releases_at _ _ _ _ _ _ c.index-subs-sub.result _ _ _ c.in-Some.ensures.chosen c.in-Some-send_next.ensures.released,
-    )
+returns-in-Some-send_next-clause-serves g c = (
+  c.requires.due,
+  c.in-Some-send_next.ensures.number,
+  releases_at _ _ _ _ _ _ c.index-subs-sub.result _ _ _ c.in-Some.ensures.chosen c.in-Some-send_next.ensures.released,
+)
 
 pub returns-in-Some-send_next-clause-paced : goal.returns-in-Some-send_next-clause-paced
 returns-in-Some-send_next-clause-paced g c =
