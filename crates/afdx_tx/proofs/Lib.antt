@@ -14,3 +14,4 @@ pub mod OwnPorts
 pub mod SeatSteps
 pub mod GatheredEmitter
 pub mod GatheredPorts
+pub mod PollingLinks

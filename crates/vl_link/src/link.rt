@@ -171,7 +171,7 @@ impl Link {
     ghost use Rattle.std.specs.Prelude.{◌≡◌, ℕ, ◌||◌, length, true, false, None};
     ghost use Rattle.afdx_config.specs.Numbers.{sequence_number};
     ghost use Rattle.afdx_config.specs.Plan.{IsLink as IsLinkPlan, bag_micros};
-    ghost use Rattle.vl_shaper.specs.Pace.{IsLater};
+    ghost use Rattle.vl_shaper.specs.Pace.{IsLater, is_due};
     ghost use Rattle.redundant_mux.specs.Lines.{is_alive, log};
     ghost use Rattle.afdx_legal.specs.Streams.{link_stream};
     ghost use Rattle.vl_link.specs.Links.{LinkState, AreNamed, Serves, Follows, IsSameLink, is_lost, pace_of};
@@ -222,8 +222,17 @@ impl Link {
         subs_done(&self.subs)
     }
 
-    /// One turn of the link at a moment, in microseconds. The frame is made in a kept buffer.
+    /// Whether it may release a frame at a moment, in microseconds.
     #[inline(always)]
+    pub fn is_due(&self, now: u64) -> bool
+        requires { IsLater self.now.pace.last now }
+        ensures { result ≡ is_due self.now.pace.gap self.now.pace.last now }
+    {
+        self.shaper.due(now)
+    }
+
+    /// One turn of the link at a moment, in microseconds, at which it is due. The frame is made in a
+    /// kept buffer.
     pub fn serve<R: Wait, A: Network + Drop, B: Network + Drop>(
         &mut self,
         rt: &R,
@@ -232,6 +241,7 @@ impl Link {
         now: u64,
     ) -> Served
         requires later { IsLater self.old.pace.last now }
+        requires due { is_due self.old.pace.gap self.old.pace.last now ≡ true }
         requires alive { is_alive mux.old ≡ true }
         requires paced { self.old.pace ≡ pace_of self.old.pace.gap self.old.pace.sub_vls
             (link_stream self.old.plan.id.0 (log mux.old)) }
@@ -242,10 +252,6 @@ impl Link {
         ensures same { IsSameLink self.old self.new }
         ensures lost { self.new.lost ≡ (self.old.lost || is_lost result) }
     {
-        // Most links aren't due at most polls, so that is asked first.
-        if !self.shaper.due(now) {
-            return Served::Nothing;
-        }
         let did = serve_due(
             rt,
             &self.plan,

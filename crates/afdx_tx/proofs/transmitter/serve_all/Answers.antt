@@ -1,69 +1,83 @@
-use Rattle.std.proofs.Common.{List, ◌++◌, ◌+◌, ◌≤◌, ◌≡◌, ◌<◌, ◌∙◌, ap, sym, length, subst, get_or, arith}
-use Rattle.std.proofs.lemmas.List.{get_or_default}
+use Rattle.std.proofs.Common.{List, ◌++◌, ◌+◌, ◌≡◌, ◌<◌, ◌∙◌, ap, sym, length, subst, set, get_or, arith, false}
+use Rattle.std.proofs.lemmas.List.{get_or_default, set-get_or}
 use Rattle.afdx_config.specs.declared.identifiers.VlId.{VlId}
 use Rattle.afdx_config.specs.declared.link_plan.LinkPlan.{LinkPlan}
-use Rattle.afdx_tx.specs.declared.report.Release.{Release}
-use Rattle.vl_link.specs.Links.{link_at, no_link}
-use Rattle.afdx_tx.specs.Report.{IsTold, released_by}
+use Rattle.vl_shaper.specs.Pace.{is_due}
+use Rattle.vl_link.specs.Links.{LinkState, link_at, no_link}
 use Rattle.vl_link.proofs.LinkTurn.{Turned}
-use Rattle.afdx_tx.proofs.ToldReleases.{told_more, few_released}
-use Rattle.afdx_tx.proofs.PollTurns.{turned_at, steady_more, serving_more, cut_at}
+use Rattle.afdx_tx.specs.declared.report.Release.{Release}
+use Rattle.afdx_tx.specs.Report.{released_by}
+use Rattle.arrayvec.specs.ArrayVec.{ArrayVec}
+use Rattle.afdx_tx.proofs.PollTurns.{turned_at, steady_more, cut_at}
+use Rattle.afdx_tx.proofs.PollingLinks.{polling_is, polling_more, polling_on}
 use Rattle.afdx_tx.proofs.transmitter.serve_all.Given
 use Rattle.afdx_tx.proofs.transmitter.serve_all.Goals as goal
+use Rattle.afdx_tx.proofs.transmitter.serve_all.Goals.{then-is_due+else-is_lost, else-is_due}
+
+-- the place is one of a link
+within : (g : Given.Over) (c : goal.Joined-is_due g) → c.loop-link.link-index < length c.loop-link.links
+within g c = let q = c.loop-link.invariant.serving.steady.same.count in let r = c.loop-link-test.true in omega arith
+
+-- the link that was asked is the one at that place
+asked : (g : Given.Over) (c : goal.Joined-is_due g)
+    → get_or c.loop-link.links c.loop-link.link-index c.link-item.result
+    ≡ link_at c.loop-link.links c.loop-link.link-index
+asked g c = get_or_default c.loop-link.links c.loop-link.link-index c.link-item.result no_link (within g c)
 
 pub loop-link-preserved : goal.loop-link-preserved
 loop-link-preserved g c =
-    let s = c.loop-link.invariant.serving in
-    let lt : c.loop-link.link-index < length c.loop-link.links = let q = s.steady.same.count in let r =
-    c.loop-link-test.true in omega arith in
-    let item : get_or c.loop-link.links c.loop-link.link-index c.link-item.result
-    ≡ link_at c.loop-link.links c.loop-link.link-index =
-    get_or_default c.loop-link.links c.loop-link.link-index c.link-item.result no_link lt in
-    let e = c.serve-did.ensures in
-    let turned : Turned c.args.now (link_at c.loop-link.links c.loop-link.link-index)
-    c.serve-did.new.self c.loop-link.mux c.serve-did.new.mux c.serve-did.result =
-    turned_at _ _ c.loop-link.links _ _ _ _ _ item lt s.steady.later s.whole e.serves e.paced e.same e.lost in
-    let names : c.note.new.released.items ≡ c.loop-link.released.items
-    ++ released_by (link_at c.loop-link.links c.loop-link.link-index).plan.id c.serve-did.result =
-    c.note.ensures ∙ ap (λ (v : VlId). c.loop-link.released.items ++ released_by v c.serve-did.result)
-    (c.id.ensures ∙ ap (λ (p : LinkPlan). p.id) turned.same.plan) in
-    record {
-      serving = serving_more c.args.now c.loop-link.link-index c.args.links.now c.loop-link.links c.args.mux.now
-          c.loop-link.mux c.serve-did.new.mux c.serve-did.new.self c.serve-did.result
-          s c.requires.apart lt turned (sym c.is_lost.ensures ∙ c.if-is_lost.false) e.later;
-      told = subst (λ (rs : List Release). IsTold c.args.now rs c.args.mux.now c.serve-did.new.mux) (sym names)
-          (told_more c.args.now c.serve-did.result _ c.serve-did.new.self c.loop-link.released.items c.args.mux.now
-          c.loop-link.mux c.serve-did.new.mux turned (s.steady.each c.loop-link.link-index lt)
-          c.loop-link.invariant.told);
-      room = subst (λ (rs : List Release). length rs ≤ c.loop-link.link-index + 1) (sym names)
-          (few_released _ c.serve-did.result c.loop-link.released.items c.loop-link.link-index c.loop-link.invariant.room);
-    }
+    let links = c.loop-link.links in
+    let i = c.loop-link.link-index in
+    let p = c.loop-link.invariant in
+    let lt = within g c in
+    elim c.if-is_due.branch [
+      | then-is_due+else-is_lost w ↦
+          let e = w.serve-did.ensures in
+          let turned : Turned c.args.now (link_at links i) w.serve-did.new.self c.loop-link.mux w.serve-did.new.mux w.serve-did.result =
+          turned_at _ _ links _ _ _ _ _ (asked g c) lt p.serving.steady.later p.serving.whole e.serves e.paced e.same e.lost in
+          let names : w.note.new.released.items ≡ c.loop-link.released.items
+          ++ released_by (link_at links i).plan.id w.serve-did.result =
+          w.note.ensures ∙ ap (λ (v : VlId). c.loop-link.released.items ++ released_by v w.serve-did.result)
+          (w.id.ensures ∙ ap (λ (plan : LinkPlan). plan.id) turned.same.plan) in
+          polling_is _ _ _ _ _ _ _ _ _ _ w.links-is w.mux-is
+          (ap (λ (v : ArrayVec Release). v.items) w.released-is ∙ names)
+          (polling_more c.args.now i c.args.links.now links c.args.mux.now c.loop-link.mux w.serve-did.new.mux
+          w.serve-did.new.self w.serve-did.result c.loop-link.released.items p c.requires.apart lt turned
+          (sym w.is_lost.ensures ∙ w.if-is_lost.false) e.later)
+      | else-is_due w ↦
+          let early : is_due (link_at links i).pace.gap (link_at links i).pace.last c.args.now ≡ false =
+          subst (λ (l : LinkState). is_due l.pace.gap l.pace.last c.args.now ≡ false) (asked g c)
+          (sym c.is_due.ensures ∙ w.if-is_due.false) in
+          polling_is _ _ _ _ _ _ _ _ _ _ (w.links-is ∙ set-get_or links i c.link-item.result) w.mux-is
+          (ap (λ (v : ArrayVec Release). v.items) w.released-is)
+          (polling_on c.args.now i c.args.links.now links c.args.mux.now c.loop-link.mux c.loop-link.released.items p
+          c.requires.apart lt early)
+    ]
 
--- the link at which the last network was lost is there
-within : (g : Given.Over) (c : goal.Then-is_lost g) → c.loop-link.link-index < length c.loop-link.links
-within g c = let q = c.loop-link.invariant.serving.steady.same.count in let r = c.loop-link-test.true in omega arith
-
--- and it had its turn
-turned_here : (g : Given.Over) (c : goal.Then-is_lost g)
+-- the link at which the last network was lost had its turn
+turned_here : (g : Given.Over) (c : goal.Then-is_lost g) → c.loop-link.link-index < length c.loop-link.links
     → Turned c.args.now (link_at c.loop-link.links c.loop-link.link-index)
     c.serve-did.new.self c.loop-link.mux c.serve-did.new.mux c.serve-did.result
-turned_here g c =
+turned_here g c lt =
     let s = c.loop-link.invariant.serving in
-    let item : get_or c.loop-link.links c.loop-link.link-index c.link-item.result
-    ≡ link_at c.loop-link.links c.loop-link.link-index =
-    get_or_default c.loop-link.links c.loop-link.link-index c.link-item.result no_link (within g c) in
     let e = c.serve-did.ensures in
-    turned_at _ _ c.loop-link.links _ _ _ _ _ item (within g c) s.steady.later s.whole e.serves e.paced e.same e.lost
+    turned_at _ _ c.loop-link.links _ _ _ _ _
+    (get_or_default c.loop-link.links c.loop-link.link-index c.link-item.result no_link lt) lt s.steady.later s.whole
+    e.serves e.paced e.same e.lost
 
 pub returns-then-is_lost-clause-steady : goal.returns-then-is_lost-clause-steady
 returns-then-is_lost-clause-steady g c =
+    let s = c.loop-link.invariant.serving.steady in
+    let lt : c.loop-link.link-index < length c.loop-link.links =
+    let q = s.same.count in let r = c.loop-link-test.true in omega arith in
     steady_more c.args.now c.loop-link.link-index c.args.links.now c.loop-link.links c.loop-link.mux c.serve-did.new.mux
-    c.serve-did.new.self c.serve-did.result
-    c.loop-link.invariant.serving.steady c.requires.apart (within g c) (turned_here g c)
-    c.serve-did.ensures.later
+    c.serve-did.new.self c.serve-did.result s c.requires.apart lt (turned_here g c lt) c.serve-did.ensures.later
 
 pub returns-then-is_lost-clause-cut_short : goal.returns-then-is_lost-clause-cut_short
 returns-then-is_lost-clause-cut_short g c = λ _.
+    let s = c.loop-link.invariant.serving in
+    let lt : c.loop-link.link-index < length c.loop-link.links =
+    let q = s.steady.same.count in let r = c.loop-link-test.true in omega arith in
     cut_at c.args.now c.loop-link.link-index c.args.links.now c.loop-link.links c.args.mux.now c.loop-link.mux
-    c.serve-did.new.mux c.serve-did.new.self c.serve-did.result
-    c.loop-link.invariant.serving (within g c) (sym c.is_lost.ensures ∙ c.if-is_lost.true) (turned_here g c)
+    c.serve-did.new.mux c.serve-did.new.self c.serve-did.result s lt (sym c.is_lost.ensures ∙ c.if-is_lost.true)
+    (turned_here g c lt)
