@@ -8,6 +8,3 @@ mod network;
 pub use memory::{Handed, MemNetwork};
 pub use mux::{BothDown, Mux, Standing};
 pub use network::{HandFault, Network};
-
-#[cfg(test)]
-mod tests;

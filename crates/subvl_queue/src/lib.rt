@@ -16,8 +16,3 @@ pub use making::make;
 pub use receiver::Receiver;
 pub use refused::{Refused, Why};
 pub use sender::Sender;
-
-#[cfg(test)]
-mod tests;
-#[cfg(test)]
-mod thread_tests;

@@ -80,6 +80,7 @@ impl Receiver {
 
     /// Takes the next message, where one is ready. Either way it has looked once more. The call may
     /// wait for a sender that is in the middle of a send.
+    #[inline(always)]
     pub fn take<R: Wait>(&mut self, rt: &R) -> Option<Item>
         ensures none { IfNone result (self.new ≡ looked self.old) }
         ensures some { IfSome result (λ item. self.new ≡ after_take self.old item) }

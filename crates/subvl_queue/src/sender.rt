@@ -67,6 +67,7 @@ impl Sender {
     /// Puts a message of 1 to 8,192 bytes at the end of the queue, or hands it back. A message that
     /// is refused isn't accepted, and `Why` says what it leaves. The call may wait for a receiver
     /// that is in the middle of a take.
+    #[inline(always)]
     pub fn send<R: Wait>(&mut self, rt: &R, bytes: Vec<u8>) -> Result<(), Refused>
         requires some { 1 ≤ length bytes.items }
         requires most { length bytes.items ≤ 8192 }

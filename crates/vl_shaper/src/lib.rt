@@ -5,6 +5,3 @@ pub mod laws;
 mod shaper;
 
 pub use shaper::{Shaper, Stamp};
-
-#[cfg(test)]
-mod tests;

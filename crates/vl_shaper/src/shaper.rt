@@ -93,7 +93,14 @@ impl Shaper {
     {
         match self.last {
             None => k,
-            Some(last) => (last.sub + 1 + k) % self.sub_vls,
+            Some(last) => {
+                let turn = last.sub + 1 + k;
+                if turn < self.sub_vls {
+                    turn
+                } else {
+                    turn - self.sub_vls
+                }
+            }
         }
     }
 

@@ -1,5 +1,0 @@
-use Rattle.std.proofs.Common.{length}
-use Rattle.subvl_queue.proofs.thread_tests.take_rest.Given as goal
-
-abbrev pub decreases-loop-item : goal.decreases-loop-item
-decreases-loop-item l = length l.gathered.left
