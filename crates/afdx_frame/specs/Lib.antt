@@ -1,3 +1,4 @@
+pub mod Roles
 pub mod Checksum
 pub mod Frame
 pub mod Cutting

@@ -3,6 +3,7 @@ ghost use Rattle.std.specs.Prelude.{◌≡◌, ℕ, ◌+◌, ◌≤◌, ◌<◌,
 ghost use Rattle.afdx_config.specs.Plan.{IsPort, SendsOver};
 ghost use Rattle.afdx_config.specs.Room.{room_of};
 ghost use Rattle.afdx_frame.specs.Frame.{frame_of};
+ghost use Rattle.afdx_frame.specs.Roles.{greatest_message, greatest_datagram};
 ghost use Rattle.afdx_frame.specs.Header.{IsFrameOf};
 ghost use Rattle.afdx_frame.specs.Fragments.{blanked, fragments_at, fragments_left};
 ghost use Rattle.afdx_frame.specs.declared.net.Net.{Net as Network};
@@ -44,7 +45,7 @@ impl Model for Cut {
 /// multiple of 8 bytes that does (RFC 791, the example procedure of fragmentation).
 fn next_piece(room: usize, len: usize, start: usize) -> Option<Piece>
     requires room { 25 ≤ room }
-    requires len { len ≤ 8200 }
+    requires len { len ≤ greatest_datagram }
     ensures { MatchOption result
         (len ≤ start)
         (λ piece. (start < len) × (piece ≡ piece_at room len start)) }
@@ -74,7 +75,7 @@ impl Cut {
     pub fn new(bytes: Vec<u8>, place: u64, port: &PortPlan) -> Cut
         requires port { IsPort port.now }
         requires some { 1 ≤ vec_len bytes }
-        requires most { vec_len bytes ≤ 8192 }
+        requires most { vec_len bytes ≤ greatest_message }
         ensures message { (result.port ≡ port.now)
             × (result.place ≡ place)
             × (result.bytes ≡ bytes.items) }
@@ -163,7 +164,6 @@ impl Cut {
         let Some(piece) = next_piece(room, 8 + self.bytes.len(), self.start) else {
             return false;
         };
-        out.clear();
         write_frame(
             out,
             end_system,
