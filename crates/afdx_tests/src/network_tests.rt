@@ -4,9 +4,9 @@ ghost use Rattle.arrayvec.specs.ArrayVec.{array_vec_len};
 ghost use Rattle.redundant_mux.specs.Entry.{entry};
 
 use crate::testing::{poll_alive, poll_at, send_taken};
-use afdx_tx::{Emitter, PollFault, Report, TxPort, open_tx};
 use afdx_config::{Config, read_config};
 use afdx_frame::Frame;
+use afdx_tx::{Emitter, PollFault, Report, TxPort, open_tx};
 use arrayvec::ArrayVec;
 use redundant_mux::{HandFault, MemNetwork, Network, Standing};
 use std::alloc::Global;

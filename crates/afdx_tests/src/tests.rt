@@ -1,6 +1,6 @@
 //! Tests of the demonstration configuration.
-use afdx_tx::PollFault;
 use crate::testing::{numbered, open_demo, poll_alive, poll_at, send_taken};
+use afdx_tx::PollFault;
 use redundant_mux::{MemNetwork, Standing};
 use std::process::Abort;
 use std::test::Fail;
