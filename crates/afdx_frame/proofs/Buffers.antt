@@ -1,8 +1,7 @@
 -- What a buffer knows after fragments of one datagram.
 use Rattle.std.proofs.Common.{◌≡◌, ℕ, zero, suc, ◌+◌, ◌-◌, ◌*◌, ◌/◌, ◌≤◌, ◌<◌, inl, inr, true, false, nat_le, nat_lt, List, [], ◌∷◌, length, map, take, drop, get_or, refl, ap, ◌∙◌, arith}
 use Rattle.std.specs.Prelude.{All, Contains, Option, Some, slice_index}
-use Rattle.std.proofs.lemmas.Bool.Decides.{nat_tests}
-use Rattle.std.proofs.lemmas.Bool.{cases_Bool, and_parts, and_from}
+use Rattle.std.proofs.lemmas.Bool.{cases_Bool, and_parts, and_from, leb-true, ltb-true, le-leb, lt-ltb}
 use Rattle.std.proofs.lemmas.List.{get_or-take, get_or-drop, length-take, length-drop}
 use Rattle.std.proofs.lemmas.List.Elements.{All-contains, All-map, All-head, All-tail, All-weaker, Contains-get_or}
 use Rattle.afdx_frame.specs.declared.piece.Piece.{Piece}
@@ -101,24 +100,12 @@ all_bytes (x ∷ xs) byte_at start each =
 pub covers_parts : (f : Fragment) (i : ℕ) → covers f i ≡ true → (8 * f.offset ≤ i)
     × (i < 8 * f.offset + length f.bytes)
 covers_parts f i in_it = let p = and_parts (nat_le (8 * f.offset) i)
-    (nat_lt i (8 * f.offset + length f.bytes)) in_it in (from_le _ _ p.0, from_lt _ _ p.1)
-  where
-    from_le : (a b : ℕ) → nat_le a b ≡ true → a ≤ b
-    from_le a b h = grind (arith, nat_tests)
-
-    from_lt : (a b : ℕ) → nat_lt a b ≡ true → a < b
-    from_lt a b h = grind (arith, nat_tests)
+    (nat_lt i (8 * f.offset + length f.bytes)) in_it in (leb-true _ _ p.0, ltb-true _ _ p.1)
 
 -- and from its bounds
 pub covers_from : (f : Fragment) (i : ℕ) → 8 * f.offset ≤ i → i < 8 * f.offset + length f.bytes → covers f i ≡ true
 covers_from f i low high = and_from (nat_le (8 * f.offset) i) (nat_lt i (8 * f.offset + length f.bytes))
-    (to_le _ _ low) (to_lt _ _ high)
-  where
-    to_le : (a b : ℕ) → a ≤ b → nat_le a b ≡ true
-    to_le a b h = grind (arith, nat_tests)
-
-    to_lt : (a b : ℕ) → a < b → nat_lt a b ≡ true
-    to_lt a b h = grind (arith, nat_tests)
+    (le-leb _ _ low) (lt-ltb _ _ high)
 
 -- how much a fragment carries
 pub data_length : (d : List ℕ) (p : Piece) → p.start + p.len ≤ length d → length (fragment_of d p).bytes ≡ p.len

@@ -1,42 +1,12 @@
 -- The pieces of a datagram lie side by side and cover it.
 use Rattle.std.proofs.Common.{◌≡◌, ℕ, zero, suc, ◌+◌, ◌-◌, ◌*◌, ◌/◌, ◌≤◌, ◌<◌, inl, inr, Bool, true, false, nat_le, nat_lt, List, [], ◌∷◌, length, refl, ap, sym, ◌∙◌, subst, arith}
 use Rattle.std.specs.Prelude.{All, Contains}
-use Rattle.std.proofs.lemmas.Bool.Decides.{nat_tests}
-use Rattle.std.proofs.lemmas.Bool.{cases_lt}
+use Rattle.std.proofs.lemmas.Bool.{cases_lt, lt-ltb}
 use Rattle.std.proofs.lemmas.List.Elements.{All-cons, All-nil}
 use Rattle.afdx_config.specs.Room.{step_of}
 use Rattle.afdx_frame.specs.declared.piece.Piece.{Piece}
 use Rattle.afdx_frame.specs.Cutting.{cut_by, pieces_from}
-use Rattle.afdx_frame.proofs.CuttingLemmas.{step_le, step_pos}
-
--- the test of what fits
-yes_le : (a b : ℕ) → a ≤ b → nat_le a b ≡ true
-yes_le a b h = grind (arith, nat_tests)
-
--- and of what doesn't
-no_le : (a b : ℕ) → b < a → nat_le a b ≡ false
-no_le a b h = grind (arith, nat_tests)
-
--- the test of what is left
-yes_lt : (a b : ℕ) → a < b → nat_lt a b ≡ true
-yes_lt a b h = grind (arith, nat_tests)
-
--- the two ways that a cutting goes on
-pub cut_last : (turns room m : ℕ) → m ≤ room → cut_by (suc turns) room m ≡ m ∷ []
-cut_last turns room m fits = let t = yes_le m room fits in rw t refl
-
--- and the other
-pub cut_more : (turns room m : ℕ) → room < m → cut_by (suc turns) room m ≡ step_of room ∷ cut_by turns room
-    (m - step_of room)
-cut_more turns room m over = let t = no_le m room over in rw t refl
-
--- something is cut into something
-pub cut_some : (turns room m : ℕ) → 1 ≤ m → m ≤ turns → 0 < length (cut_by turns room m)
-cut_some zero room m some enough = absurd (omega arith)
-cut_some (suc turns) room m some enough = elim (cases_lt room m) [
-  | inl over ↦ let e = cut_more turns room m over in rw e (omega arith)
-  | inr fits ↦ let e = cut_last turns room m fits in rw e (omega arith)
-]
+use Rattle.afdx_frame.proofs.CuttingLemmas.{step_le, step_pos, cut_last, cut_more, cut_some}
 
 -- what each piece of n bytes keeps
 pub record IsPart (n : ℕ) (piece : Piece) : Type 0 where
@@ -68,7 +38,7 @@ pub later_more : (turns room start m : ℕ) → room < m → 8 ≤ room → m �
 later_more turns room start m over least enough =
     let s = step_le room in
     let p = step_pos room least in
-    let t = yes_lt 0 (length (cut_by turns room (m - step_of room)))
+    let t = lt-ltb 0 (length (cut_by turns room (m - step_of room)))
     (cut_some turns room (m - step_of room) (omega arith) (omega arith)) in
     ap (pieces_from start) (cut_more turns room m over)
     ∙ ap (λ (b : Bool). record { start = start; len = step_of room; more = b } ∷ later turns room

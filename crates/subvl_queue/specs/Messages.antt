@@ -1,10 +1,14 @@
 -- Messages in a queue. Each stands with the index of its sender, as a pair of the index and the bytes.
 use Rattle.std.specs.Prelude.{ℕ, ◌==◌, ◌-◌, ◌^◌, ◌<◌, ◌≤◌, take, length, if◌then◌else◌, List, [], ◌∷◌, All}
 
+-- the most bytes of a message
+abbrev pub most_bytes : ℕ
+most_bytes = 8192
+
 -- the bytes of a message
 pub record IsMessage (bytes : List ℕ) : Type 0 where
   pub some : 1 ≤ length bytes
-  pub most : length bytes ≤ 8192
+  pub most : length bytes ≤ most_bytes
 
 -- a message of one of so many senders
 pub record IsItem (ports : ℕ) (item : ℕ × List ℕ) : Type 0 where

@@ -2,6 +2,7 @@
 ghost use Rattle.std.specs.Prelude.{◌≡◌, ◌+◌, ◌^◌, ◌<◌, ◌≤◌, [], ◌∷◌, ◌++◌, length, IfOk, IfErr};
 ghost use Rattle.crossbeam_channel.specs.Claims.{view, IsSeatAt};
 ghost use Rattle.crossbeam_channel.specs.Ends.{sends_on, ruled_capacity};
+ghost use Rattle.subvl_queue.specs.Messages.{most_bytes};
 ghost use Rattle.subvl_queue.specs.Rule.{sender};
 ghost use Rattle.subvl_queue.specs.Names.{name_of};
 ghost use Rattle.subvl_queue.specs.Views.{new_sender, sent, IsRefused};
@@ -70,7 +71,7 @@ impl Sender {
     #[inline(always)]
     pub fn send<R: Wait>(&mut self, rt: &R, bytes: Vec<u8>) -> Result<(), Refused>
         requires some { 1 ≤ length bytes.items }
-        requires most { length bytes.items ≤ 8192 }
+        requires most { length bytes.items ≤ most_bytes }
         ensures ok { IfOk result (λ _. self.new ≡ sent self.old bytes.items) }
         ensures asks { IfOk result (λ _. self.old.asks < self.old.calls) }
         ensures back { IfErr result (λ e. e.bytes.items ≡ bytes.items) }

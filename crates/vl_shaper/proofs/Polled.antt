@@ -1,8 +1,7 @@
 -- The wait of a message, by the polls of its link.
 use Rattle.std.proofs.Common.{ℕ, zero, suc, ◌≡◌, ◌+◌, ◌-◌, ◌*◌, ◌<◌, ◌≤◌, Bool, true, false, nat_le, ◌&&◌, cond, List, [], ◌∷◌, arith, refl, ap, ◌∙◌, sym, subst, ◌⊎◌, inl, inr}
 use Rattle.std.specs.Prelude.{Option, Some, None}
-use Rattle.std.proofs.lemmas.Bool.Decides.{nat_tests}
-use Rattle.std.proofs.lemmas.Bool.{and_from, cases_lt, cases_eq, eq-eqb, ne_eqb}
+use Rattle.std.proofs.lemmas.Bool.{and_from, le-leb, cases_lt, cases_eq, eq-eqb, ne_eqb}
 use Rattle.std.proofs.lemmas.Nat.{mul-le}
 use Rattle.std.proofs.lemmas.List.Sums.{sum_by-cons}
 use Rattle.vl_shaper.specs.Choices.{Choice}
@@ -21,13 +20,10 @@ counts : (x moment : ℕ) (poll : Poll) (polls : List Poll) → poll.at ≤ mome
     → released_by x moment (poll ∷ polls) ≡ suc (released_by x moment polls)
 counts x moment poll polls soon own =
     let in_time : (nat_le poll.at moment && is_of x poll.released) ≡ true =
-    and_from (nat_le poll.at moment) (is_of x poll.released) (yes poll.at moment soon) own in
+    and_from (nat_le poll.at moment) (is_of x poll.released) (le-leb poll.at moment soon) own in
     counted x moment poll polls ∙ ap (λ (t : Bool). cond t 1 0 + released_by x moment polls) in_time
     ∙ one_more (released_by x moment polls)
   where
-    yes : (a b : ℕ) → a ≤ b → nat_le a b ≡ true
-    yes a b h = grind (arith, nat_tests)
-
     one_more : (n : ℕ) → 1 + n ≡ suc n
     one_more n = omega arith
 

@@ -1,6 +1,6 @@
-use Rattle.std.proofs.Common.{◌≡◌, ap, sym, subst}
-use Rattle.redundant_mux.specs.Entry.{Entry, entry}
-use Rattle.redundant_mux.specs.Lines.{Lines, lines_of, log, IsMirrored}
+use Rattle.std.proofs.Common.{ap}
+use Rattle.redundant_mux.specs.Entry.{entry}
+use Rattle.redundant_mux.specs.Lines.{lines_of}
 use Rattle.redundant_mux.proofs.MirroredLines.{HandedOn, handed_on}
 use Rattle.redundant_mux.proofs.mux.Mux.hand.Given
 use Rattle.redundant_mux.proofs.mux.Mux.hand.Goals as goal

@@ -1,5 +1,3 @@
-use Rattle.std.proofs.Common.{◌≡◌, true, sym, rules}
-use Rattle.redundant_mux.specs.Lines.{AreInStep, lines_of}
 use Rattle.redundant_mux.proofs.MirroredLines.{fresh_in_step}
 use Rattle.redundant_mux.proofs.mux.Mux.new.Goals as goal
 
