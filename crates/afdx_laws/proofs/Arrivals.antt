@@ -3,9 +3,12 @@ use Rattle.std.proofs.Common.{◌≡◌, ℕ, suc, ◌+◌, ◌<◌, inl, inr, m
 use Rattle.std.specs.Prelude.{All}
 use Rattle.std.proofs.lemmas.Bool.{cases_lt}
 use Rattle.std.proofs.lemmas.List.{append_assoc, drop_more, drop_all, get_or-map, length-map, set-set}
+use Rattle.afdx_config.specs.Numbers.{sequence_number}
 use Rattle.afdx_frame.specs.declared.net.Net.{Net}
 use Rattle.afdx_frame.specs.declared.net.Net.TheVariants.{A, B}
-use Rattle.afdx_laws.specs.Receiver.{carried, carried_by, IsNear, IsPrefixOf, IsNumbered}
+use Rattle.afdx_legal.specs.Streams.{IsNumbered, IsPrefixOf}
+use Rattle.afdx_legal.proofs.LongerStream.{numbered_at}
+use Rattle.afdx_laws.specs.Receiver.{carried, carried_by, IsNear}
 use Rattle.afdx_frame.specs.Frame.{interface_byte}
 use Rattle.afdx_frame.specs.Twin.{twin_of}
 use Rattle.afdx_frame.specs.Header.{number_in}
@@ -32,13 +35,13 @@ count_more net (x ∷ before) e =
     omega arith
 
 -- the first of what is left
-pub first_of_rest : {X : Type 0} (xs : List X) (i : ℕ) (y : X) (ys : List X) → drop i xs ≡ y ∷ ys → (i < length xs)
-    × (y ≡ get_or xs i y) × (drop (suc i) xs ≡ ys)
+pub first_of_rest : {X : Type 0} (xs : List X) (i : ℕ) (y : X) (ys : List X) → y ∷ ys ≡ drop i xs → (i < length xs)
+    × (y ≡ get_or xs i y) × (ys ≡ drop (suc i) xs)
 first_of_rest {X = X} xs i y ys e = elim (cases_lt i (length xs)) [
-  | inl inside ↦ let m : get_or xs i y ∷ drop (i + 1) xs ≡ y ∷ ys = sym (drop_more xs i y inside) ∙ e in
+  | inl inside ↦ let m : y ∷ ys ≡ get_or xs i y ∷ drop (i + 1) xs = e ∙ drop_more xs i y inside in
       let one : suc i ≡ i + 1 = omega arith in
-      (inside, sym (heads m), ap (λ (k : ℕ). drop k xs) one ∙ tails m)
-  | inr past ↦ let n : [] ≡ y ∷ ys = sym (drop_all i xs past) ∙ e in absurd (no_cons y ys n)
+      (inside, heads m, tails m ∙ ap (λ (k : ℕ). drop k xs) (sym one))
+  | inr past ↦ let n : [] ≡ y ∷ ys = sym (e ∙ drop_all i xs past) in absurd (no_cons y ys n)
 ]
   where
     no_cons : {X : Type 0} (y : X) (ys : List X) → [] ≡ y ∷ ys → ⊥
@@ -52,7 +55,7 @@ first_of_rest {X = X} xs i y ys e = elim (cases_lt i (length xs)) [
 
 -- the frame at a place, as a network has it
 pub placed : (net : Net) (stream : List (List ℕ)) (i : ℕ) (frame : List ℕ) → All IsLong stream
-    → IsNumbered number_in stream
+    → IsNumbered number_in 0 stream
     → i < length (map (twin_of net) stream) → frame ≡ get_or (map (twin_of net) stream) i frame
     → IsPlaced number_in (twin_of A) (map (twin_of A) stream) i frame
 placed net stream i frame long numbered inside is =
@@ -61,7 +64,7 @@ placed net stream i frame long numbered inside is =
     let within : i < length stream = omega arith in
     let f : frame ≡ twin_of net (get_or stream i []) = is ∙ get_or-map (twin_of net) stream i [] frame within in (
       omega arith,
-      ap number_in f ∙ twin_number net (get_or stream i []) (long i [] within) ∙ numbered i [] within,
+      ap number_in f ∙ twin_number net (get_or stream i []) (long i [] within) ∙ numbered_at number_in 0 stream numbered i [] within ∙ ap sequence_number (omega arith),
       ap (twin_of A) f ∙ set-set (get_or stream i []) 11 (interface_byte net) (interface_byte A)
           ∙ sym (get_or-map (twin_of A) stream i [] (twin_of A frame) within),
     )
@@ -69,7 +72,7 @@ placed net stream i frame long numbered inside is =
 -- what two networks carry comes as the receiver needs it
 comes : (stream : List (List ℕ)) (lag : ℕ) (arrivals : List (Net × List ℕ)) (rest before : List (Net × List ℕ))
     (a b : ℕ)
-    → All IsLong stream → IsNumbered number_in stream → IsNear lag arrivals
+    → All IsLong stream → IsNumbered number_in 0 stream → IsNear lag arrivals
     → arrivals ≡ before ++ rest → a ≡ length (carried A before) → b ≡ length (carried B before)
     → IsPrefixOf (carried A rest) (drop a (map (twin_of A) stream))
     → IsPrefixOf (carried B rest) (drop b (map (twin_of B) stream))

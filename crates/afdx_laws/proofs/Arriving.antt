@@ -3,21 +3,23 @@ use Rattle.std.proofs.Common.{◌≡◌, ℕ, ◌%◌, ◌≤◌, nat_eq, List, 
 use Rattle.std.specs.Prelude.{All}
 use Rattle.std.proofs.lemmas.List.{append_assoc, map-append, take-append-drop, length-map, length-append, take-take, take-map}
 use Rattle.std.proofs.lemmas.Simd.{map-map}
-use Rattle.std.proofs.lemmas.List.Elements.{filter-append, All-filter, All-map, All-weaker, All-take}
+use Rattle.std.proofs.lemmas.List.Elements.{All-filter, All-map, All-weaker, All-take}
 use Rattle.afdx_frame.specs.declared.net.Net.TheVariants.{A}
 use Rattle.afdx_frame.specs.Frame.{datagram}
 use Rattle.afdx_frame.specs.Twin.{twin_of}
 use Rattle.afdx_frame.specs.Profile.{word_at}
 use Rattle.afdx_frame.specs.Fragments.{Sent, blanked, fragments}
 use Rattle.afdx_frame.specs.Reassembly.{Fragment, empty}
+use Rattle.afdx_legal.specs.Streams.{those_with}
+use Rattle.afdx_legal.proofs.LongerStream.{with_append}
 use Rattle.afdx_laws.specs.Receiver.{begin, received, carried}
-use Rattle.afdx_frame.specs.Header.{number_in}
+use Rattle.afdx_frame.specs.Header.{sub_in, number_in}
 use Rattle.afdx_laws.specs.Networks.{IsLong, most_carried}
 use Rattle.afdx_laws.specs.Loss.{next_alone, frames_at}
 use Rattle.afdx_laws.proofs.Arrivals.{exactly_once_holds}
 use Rattle.afdx_laws.proofs.Losing.{loss_masked_holds}
 use Rattle.afdx_laws.specs.Delivery.{delivered, of_sub, sent_from}
-use Rattle.afdx_laws.specs.Messages.{fragment_in, sub_stream, messages_in, IsSent, IsSending, AreFirst, MessagesArrive, DespiteLoss}
+use Rattle.afdx_laws.specs.Messages.{fragment_in, messages_in, IsSent, IsSending, AreFirst, MessagesArrive, DespiteLoss}
 use Rattle.afdx_laws.proofs.InOrder.{in_order_holds}
 use Rattle.afdx_laws.proofs.Reading.{same_fragment, read_any, reads_all, reads_frames, of_sub_is, length-datagram, drop-datagram}
 
@@ -35,10 +37,10 @@ fragments_received got sent same =
     ∙ map_same (λ f. fragment_in (twin_of A f)) fragment_in sent (λ f. same_fragment A f)
 
 -- the first frames of a link have the first frames of a sub
-sub_take : (sub n : ℕ) (stream : List (List ℕ)) → sub_stream sub stream ≡ sub_stream sub (take n stream)
-    ++ sub_stream sub (drop n stream)
-sub_take sub n stream = ap (sub_stream sub) (sym (take-append-drop n stream))
-    ∙ filter-append (λ (f : List ℕ). nat_eq (word_at f 18 % 4) sub) (take n stream) (drop n stream)
+sub_take : (sub n : ℕ) (stream : List (List ℕ)) → those_with sub_in sub stream ≡ those_with sub_in sub (take n stream)
+    ++ those_with sub_in sub (drop n stream)
+sub_take sub n stream = ap (those_with sub_in sub) (sym (take-append-drop n stream))
+    ∙ with_append sub_in sub (take n stream) (drop n stream)
 
 -- the messages in the first datagrams
 bytes_of : (end_system many : ℕ) (accepted : List Sent)
@@ -66,22 +68,22 @@ arrived end_system room sub count accepted stream got sending first_frames =
     ∙ take-map (twin_of A) count stream in
     let frags : map fragment_in got ≡ map fragment_in (take count stream) =
     fragments_received got (take count stream) once in
-    let mine : of_sub sub (map fragment_in got) ≡ map fragment_in (sub_stream sub (take count stream)) =
+    let mine : of_sub sub (map fragment_in got) ≡ map fragment_in (those_with sub_in sub (take count stream)) =
     ap (of_sub sub) frags ∙ of_sub_is sub (take count stream) in
     let read = reads_all accepted end_system room sub 0 small least greatest sent in
-    let rest : List (List ℕ) = map blanked (sub_stream sub (drop count stream)) ++ prefix.0 in
-    let split : fragments end_system room A accepted ≡ map blanked (sub_stream sub (take count stream)) ++ rest =
-    prefix.1 ∙ ap (λ (xs : List (List ℕ)). map blanked xs ++ prefix.0) (sub_take sub count stream)
+    let rest : List (List ℕ) = map blanked (those_with sub_in sub (drop count stream)) ++ prefix.0 in
+    let split : fragments end_system room A accepted ≡ map blanked (those_with sub_in sub (take count stream)) ++ rest =
+    sym prefix.1 ∙ ap (λ (xs : List (List ℕ)). map blanked xs ++ prefix.0) (sub_take sub count stream)
     ∙ ap (λ (xs : List (List ℕ)). xs ++ prefix.0)
-    (map-append blanked (sub_stream sub (take count stream)) (sub_stream sub (drop count stream)))
-    ∙ append_assoc (map blanked (sub_stream sub (take count stream)))
-    (map blanked (sub_stream sub (drop count stream))) prefix.0 in
-    let long_sub : All IsLong (sub_stream sub (take count stream)) =
+    (map-append blanked (those_with sub_in sub (take count stream)) (those_with sub_in sub (drop count stream)))
+    ∙ append_assoc (map blanked (those_with sub_in sub (take count stream)))
+    (map blanked (those_with sub_in sub (drop count stream))) prefix.0 in
+    let long_sub : All IsLong (those_with sub_in sub (take count stream)) =
     All-filter (λ (f : List ℕ). nat_eq (word_at f 18 % 4) sub) IsLong (take count stream)
     (All-take IsLong count stream sending.frames.long) in
     let frames : map read_any (fragments end_system room A accepted) ≡ map fragment_in
-    (sub_stream sub (take count stream)) ++ map read_any rest =
-    reads_frames (sub_stream sub (take count stream))
+    (those_with sub_in sub (take count stream)) ++ map read_any rest =
+    reads_frames (those_with sub_in sub (take count stream))
     (fragments end_system room A accepted) rest read.each long_sub split in
     let came : sent_from room sub 0 datagrams ≡ of_sub sub (map fragment_in got) ++ map read_any rest =
     sym read.are ∙ frames ∙ ap (λ (xs : List (ℕ × Fragment)). xs ++ map read_any rest) (sym mine) in
@@ -90,7 +92,7 @@ arrived end_system room sub count accepted stream got sending first_frames =
     (All-weaker (IsSent sub) (λ (s : Sent). 1 ≤ length (datagram end_system s.port s.bytes))
     (λ s is. omega (arith, length-datagram end_system s)) accepted sent) in
     let ends = in_order_holds room sub datagrams (map fragment_in got) (omega arith) sending.index some
-    (map read_any rest, came) in
+    (map read_any rest, sym came) in
     let out_is : messages_in sub got ≡ take ends.0 (map (λ (s : Sent). s.bytes) accepted) =
     sym (map-map (drop 8) (λ (e : ℕ × List ℕ). e.1) (of_sub sub (delivered (λ key. empty) (map fragment_in got))))
     ∙ ap (map (drop 8)) ends.1 ∙ bytes_of end_system ends.0 accepted in
@@ -107,8 +109,8 @@ arrived end_system room sub count accepted stream got sending first_frames =
           (sent_from room sub 0 (map (λ (s : Sent). datagram end_system s.port s.bytes) (take j accepted))) =
           ap (λ (ds : List (List ℕ)). length (sent_from room sub 0 ds))
           (take-map (λ (s : Sent). datagram end_system s.port s.bytes) j accepted) in
-          let mine_count : length (of_sub sub (map fragment_in got)) ≡ length (sub_stream sub (take count stream)) =
-          ap length mine ∙ length-map (sub_stream sub (take count stream)) fragment_in in
+          let mine_count : length (of_sub sub (map fragment_in got)) ≡ length (those_with sub_in sub (take count stream)) =
+          ap length mine ∙ length-map (those_with sub_in sub (take count stream)) fragment_in in
           let all_count : length datagrams ≡ length accepted =
           length-map accepted (λ (s : Sent). datagram end_system s.port s.bytes) in
           ends.2 j (omega arith) (omega arith);
@@ -123,13 +125,13 @@ messages_arrive_holds end_system room sub lag tolerance accepted stream arrivals
 
 -- more frames of a link are no fewer of a sub
 more_of_sub : (sub few many : ℕ) (stream : List (List ℕ)) → few ≤ many
-    → length (sub_stream sub (take few stream)) ≤ length (sub_stream sub (take many stream))
+    → length (those_with sub_in sub (take few stream)) ≤ length (those_with sub_in sub (take many stream))
 more_of_sub sub few many stream less =
     let split = ap length (sub_take sub few (take many stream)) in
-    let both = length-append (sub_stream sub (take few (take many stream)))
-    (sub_stream sub (drop few (take many stream))) in
-    let same : length (sub_stream sub (take few (take many stream))) ≡ length (sub_stream sub (take few stream)) =
-    ap (λ (xs : List (List ℕ)). length (sub_stream sub xs)) (take-take few many stream less) in
+    let both = length-append (those_with sub_in sub (take few (take many stream)))
+    (those_with sub_in sub (drop few (take many stream))) in
+    let same : length (those_with sub_in sub (take few (take many stream))) ≡ length (those_with sub_in sub (take few stream)) =
+    ap (λ (xs : List (List ℕ)). length (those_with sub_in sub xs)) (take-take few many stream less) in
     omega arith
 
 -- the law, by what the receiver accepts despite loss

@@ -1,9 +1,9 @@
 -- The longer list, as network A has it, is the stream.
-use Rattle.std.proofs.Common.{◌≡◌, ℕ, suc, ◌≤◌, ◌<◌, inl, inr, Bool, true, false, nat_eq, nat_lt, cond, List, [], ◌∷◌, ◌++◌, length, map, take, drop, get_or, refl, ap, sym, ◌∙◌, subst, arith}
+use Rattle.std.proofs.Common.{◌≡◌, ℕ, suc, ◌≤◌, ◌<◌, inl, inr, Bool, true, false, nat_eq, nat_lt, cond, List, [], ◌∷◌, ◌++◌, length, map, take, drop, refl, ap, sym, ◌∙◌, subst, arith}
 use Rattle.std.specs.Prelude.{All}
 use Rattle.std.proofs.lemmas.Bool.Decides.{nat_tests}
 use Rattle.std.proofs.lemmas.Bool.{cases_lt}
-use Rattle.std.proofs.lemmas.List.{append_assoc, map-append, take-append-drop, length-map, take-map, get_or-map}
+use Rattle.std.proofs.lemmas.List.{append_assoc, map-append, take-append-drop, length-map, take-map}
 use Rattle.std.proofs.lemmas.List.Elements.{All-map, All-weaker}
 use Rattle.afdx_frame.specs.declared.net.Net.{Net}
 use Rattle.afdx_frame.specs.declared.net.Net.TheVariants.{A, B}
@@ -11,27 +11,29 @@ use Rattle.afdx_frame.specs.Header.{sub_in, number_in}
 use Rattle.afdx_frame.specs.Twin.{twin_of}
 use Rattle.afdx_frame.specs.Fragments.{Sent, blanked, fragments}
 use Rattle.afdx_frame.proofs.Twins.{length-twin, twin_number, twin_sub, twin_twice, twin_blanked, twin_fragments}
-use Rattle.afdx_laws.specs.Receiver.{begin, received, carried, IsPrefixOf, IsNumbered}
+use Rattle.afdx_legal.specs.Streams.{those_with, IsPrefixOf}
+use Rattle.afdx_legal.specs.Legal.{AreTwins}
+use Rattle.afdx_legal.proofs.LongerStream.{numbered_map}
+use Rattle.afdx_laws.specs.Receiver.{begin, received, carried}
 use Rattle.afdx_laws.specs.Networks.{IsLong, IsStream, AreCarried, most_carried}
-use Rattle.afdx_laws.specs.Messages.{sub_stream, messages_in, IsSending, AreFirst}
-use Rattle.afdx_laws.specs.Handed.{IsOwn, AreTwins, AreHanded, AreCarriedOf, longer, HandedArrive}
+use Rattle.afdx_laws.specs.Messages.{messages_in, IsSending, AreFirst}
+use Rattle.afdx_laws.specs.Handed.{IsOwn, AreHanded, AreCarriedOf, longer, HandedArrive}
 use Rattle.afdx_laws.proofs.Arriving.{messages_arrive_holds}
 
 -- a beginning of a beginning
 prefix_trans : {F : Type 0} (xs ys zs : List F) → IsPrefixOf xs ys → IsPrefixOf ys zs → IsPrefixOf xs zs
-prefix_trans xs ys zs p q = (p.0 ++ q.0, q.1 ∙ ap (λ l. l ++ q.0) p.1 ∙ append_assoc xs p.0 q.0)
+prefix_trans xs ys zs p q = (p.0 ++ q.0, sym (append_assoc xs p.0 q.0) ∙ ap (λ l. l ++ q.0) p.1 ∙ q.1)
 
 -- a beginning of the same list
 prefix_same : {F : Type 0} (xs ys zs : List F) → ys ≡ zs → IsPrefixOf xs ys → IsPrefixOf xs zs
-prefix_same xs ys zs e p = (p.0, sym e ∙ p.1)
+prefix_same xs ys zs e p = (p.0, p.1 ∙ e)
 
 -- the twins of the first frames begin the twins
 prefix_of_take : (net : Net) (n : ℕ) (xs : List (List ℕ))
     → IsPrefixOf (map (twin_of net) (take n xs)) (map (twin_of net) xs)
 prefix_of_take net n xs = (
   map (twin_of net) (drop n xs),
-  ap (map (twin_of net)) (sym (take-append-drop n xs))
-      ∙ map-append (twin_of net) (take n xs) (drop n xs),
+  sym (map-append (twin_of net) (take n xs) (drop n xs)) ∙ ap (map (twin_of net)) (take-append-drop n xs),
 )
 
 -- a network's own frames are their twins for it
@@ -54,35 +56,27 @@ long_twins net xs long = All-map IsLong (twin_of net) xs
     (All-weaker IsLong (λ (f : List ℕ). 60 ≤ length (twin_of net f))
     (λ f h. omega (arith, length-twin net f)) xs long)
 
--- and numbered alike
-numbered_twins : (net : Net) (xs : List (List ℕ)) → All IsLong xs → IsNumbered number_in xs
-    → IsNumbered number_in (map (twin_of net) xs)
-numbered_twins net xs long numbered i d inside =
-    let len = length-map xs (twin_of net) in
-    let within : i < length xs = omega arith in
-    ap number_in (get_or-map (twin_of net) xs i [] d within) ∙ twin_number net (get_or xs i []) (long i [] within)
-    ∙ numbered i [] within
-
 -- a stream's twins are one
 stream_twins : (net : Net) (xs : List (List ℕ)) → IsStream xs → IsStream (map (twin_of net) xs)
 stream_twins net xs is = record {
   long = long_twins net xs is.long;
-  numbered = numbered_twins net xs is.long is.numbered;
+  numbered = numbered_map number_in number_in (twin_of net) 0 xs
+      (All-weaker IsLong (λ (f : List ℕ). number_in (twin_of net f) ≡ number_in f) (twin_number net) xs is.long) is.numbered;
 }
 
 -- the sub-VL of a twin
 sub_twins : (net : Net) (sub : ℕ) (xs : List (List ℕ))
-    → sub_stream sub (map (twin_of net) xs) ≡ map (twin_of net) (sub_stream sub xs)
+    → those_with sub_in sub (map (twin_of net) xs) ≡ map (twin_of net) (those_with sub_in sub xs)
 sub_twins net sub [] = refl
 sub_twins net sub (x ∷ xs) =
-    ap (λ (n : ℕ). cond (nat_eq n sub) (twin_of net x ∷ sub_stream sub (map (twin_of net) xs))
-    (sub_stream sub (map (twin_of net) xs))) (twin_sub net x)
+    ap (λ (n : ℕ). cond (nat_eq n sub) (twin_of net x ∷ those_with sub_in sub (map (twin_of net) xs))
+    (those_with sub_in sub (map (twin_of net) xs))) (twin_sub net x)
     ∙ one (nat_eq (sub_in x) sub) (sub_twins net sub xs)
   where
-    one : (t : Bool) → sub_stream sub (map (twin_of net) xs) ≡ map (twin_of net) (sub_stream sub xs)
-        → cond t (twin_of net x ∷ sub_stream sub (map (twin_of net) xs))
-        (sub_stream sub (map (twin_of net) xs)) ≡ map (twin_of net)
-        (cond t (x ∷ sub_stream sub xs) (sub_stream sub xs))
+    one : (t : Bool) → those_with sub_in sub (map (twin_of net) xs) ≡ map (twin_of net) (those_with sub_in sub xs)
+        → cond t (twin_of net x ∷ those_with sub_in sub (map (twin_of net) xs))
+        (those_with sub_in sub (map (twin_of net) xs)) ≡ map (twin_of net)
+        (cond t (x ∷ those_with sub_in sub xs) (those_with sub_in sub xs))
     one true e = ap (λ (ys : List (List ℕ)). twin_of net x ∷ ys) e
     one false e = e
 
@@ -95,19 +89,19 @@ blanked_twins net (x ∷ xs) = ap (λ (y : List ℕ). y ∷ map blanked (map (tw
 
 -- what was sent to network B, as network A has it
 turned : (end_system room sub : ℕ) (accepted : List Sent) (b : List (List ℕ))
-    → IsPrefixOf (map blanked (sub_stream sub b)) (fragments end_system room B accepted)
-    → IsPrefixOf (map blanked (sub_stream sub (map (twin_of A) b))) (fragments end_system room A accepted)
+    → IsPrefixOf (map blanked (those_with sub_in sub b)) (fragments end_system room B accepted)
+    → IsPrefixOf (map blanked (those_with sub_in sub (map (twin_of A) b))) (fragments end_system room A accepted)
 turned end_system room sub accepted b p = (
   map (twin_of A) p.0,
-  sym (twin_fragments end_system room A B 0 accepted) ∙ ap (map (twin_of A)) p.1
-      ∙ map-append (twin_of A) (map blanked (sub_stream sub b)) p.0
-      ∙ ap (λ (xs : List (List ℕ)). xs ++ map (twin_of A) p.0)
-      (sym (ap (map blanked) (sub_twins A sub b) ∙ blanked_twins A (sub_stream sub b))),
+  ap (λ (xs : List (List ℕ)). xs ++ map (twin_of A) p.0)
+      (ap (map blanked) (sub_twins A sub b) ∙ blanked_twins A (those_with sub_in sub b))
+      ∙ sym (map-append (twin_of A) (map blanked (those_with sub_in sub b)) p.0)
+      ∙ ap (map (twin_of A)) p.1 ∙ twin_fragments end_system room A B 0 accepted,
 )
 
 -- what both networks carried of the longer list, as network A has it, where that is B's
 carried_of_b : (lag : ℕ) (a b : List (List ℕ)) (arrivals : List (Net × List ℕ)) → length a < length b
-    → All (IsOwn B) b → AreTwins a b → AreCarriedOf lag a b arrivals → AreCarried lag (map (twin_of A) b) arrivals
+    → All (IsOwn B) b → AreTwins twin_of a b → AreCarriedOf lag a b arrivals → AreCarried lag (map (twin_of A) b) arrivals
 carried_of_b lag a b arrivals shorter own twins carry = record {
   on_a = prefix_trans (carried A arrivals) a (map (twin_of A) (map (twin_of A) b)) carry.on_a
       (prefix_same a (map (twin_of A) b) (map (twin_of A) (map (twin_of A) b)) (sym (twin_twin A A b))
@@ -120,7 +114,7 @@ carried_of_b lag a b arrivals shorter own twins carry = record {
 
 -- and where it is A's
 carried_of_a : (lag : ℕ) (a b : List (List ℕ)) (arrivals : List (Net × List ℕ)) → length b ≤ length a
-    → All (IsOwn A) a → AreTwins a b → AreCarriedOf lag a b arrivals → AreCarried lag a arrivals
+    → All (IsOwn A) a → AreTwins twin_of a b → AreCarriedOf lag a b arrivals → AreCarried lag a arrivals
 carried_of_a lag a b arrivals as_long own twins carry = record {
   on_a = prefix_same (carried A arrivals) a (map (twin_of A) a) (sym (own_twins A a own)) carry.on_a;
   on_b = prefix_trans (carried B arrivals) b (map (twin_of B) a) carry.on_b
@@ -131,14 +125,14 @@ carried_of_a lag a b arrivals as_long own twins carry = record {
 
 -- a sub-VL has as many frames in the twins
 pub same_count : (sub count : ℕ) (b : List (List ℕ))
-    → length (sub_stream sub (take count (map (twin_of A) b))) ≡ length (sub_stream sub (take count b))
-same_count sub count b = ap (λ (xs : List (List ℕ)). length (sub_stream sub xs)) (take-map (twin_of A) count b)
+    → length (those_with sub_in sub (take count (map (twin_of A) b))) ≡ length (those_with sub_in sub (take count b))
+same_count sub count b = ap (λ (xs : List (List ℕ)). length (those_with sub_in sub xs)) (take-map (twin_of A) count b)
     ∙ ap length (sub_twins A sub (take count b))
-    ∙ length-map (sub_stream sub (take count b)) (twin_of A)
+    ∙ length-map (those_with sub_in sub (take count b)) (twin_of A)
 
 -- messages that are the first, by frames of which a sub-VL has as many
 pub same_first : (end_system room sub : ℕ) (accepted : List Sent) (some others messages : List (List ℕ))
-    → length (sub_stream sub some) ≡ length (sub_stream sub others)
+    → length (those_with sub_in sub some) ≡ length (those_with sub_in sub others)
     → AreFirst end_system room sub accepted some messages → AreFirst end_system room sub accepted others messages
 same_first end_system room sub accepted some others messages counts first = record {
   many = first.many;
@@ -193,16 +187,16 @@ handed_arrive_holds end_system room sub lag tolerance accepted a b arrivals hand
           let sending = sending_b end_system room sub accepted a b handed in
           let carry_b = carried_of_b lag a b arrivals shorter handed.on_b.own handed.twins carry in
           let longer_is : longer a b ≡ b = longer_b a b shorter in
-          let counts : length (sub_stream sub (take count stream)) ≡ length (sub_stream sub (take count (longer a b))) =
-          same_count sub count b ∙ ap (λ (xs : List (List ℕ)). length (sub_stream sub (take count xs))) (sym longer_is) in
+          let counts : length (those_with sub_in sub (take count stream)) ≡ length (those_with sub_in sub (take count (longer a b))) =
+          same_count sub count b ∙ ap (λ (xs : List (List ℕ)). length (those_with sub_in sub (take count xs))) (sym longer_is) in
           same_first end_system room sub accepted (take count stream) (take count (longer a b)) messages counts
           (messages_arrive_holds end_system room sub lag tolerance accepted stream arrivals sending fit carry_b)
       | inr as_long ↦
           let sending = sending_a end_system room sub accepted a b handed in
           let carry_a = carried_of_a lag a b arrivals as_long handed.on_a.own handed.twins carry in
           let longer_is : longer a b ≡ a = longer_a a b as_long in
-          let counts : length (sub_stream sub (take count a)) ≡ length (sub_stream sub (take count (longer a b))) =
-          ap (λ (xs : List (List ℕ)). length (sub_stream sub (take count xs))) (sym longer_is) in
+          let counts : length (those_with sub_in sub (take count a)) ≡ length (those_with sub_in sub (take count (longer a b))) =
+          ap (λ (xs : List (List ℕ)). length (those_with sub_in sub (take count xs))) (sym longer_is) in
           same_first end_system room sub accepted (take count a) (take count (longer a b)) messages counts
           (messages_arrive_holds end_system room sub lag tolerance accepted a arrivals sending fit carry_a)
     ]

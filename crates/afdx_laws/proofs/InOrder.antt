@@ -293,22 +293,22 @@ goes ((key, g) ∷ came) room sub place buffers done f [] d
 
 -- the law
 pub in_order_holds : InOrder
-in_order_holds room sub [] came least small some (rest, is) = (
+in_order_holds room sub [] came least small some (rest, begun) = (
   0,
   ap (map (λ (e : ℕ × List ℕ). e.1)) (apart sub came (λ key. empty) (λ key. empty) (λ k h. refl)
-      ∙ ap (delivered (λ key. empty)) (first_nil (of_sub sub came) rest is)),
+      ∙ ap (delivered (λ key. empty)) (first_nil (of_sub sub came) rest begun)),
   (λ j few enough. few),
 )
   where
-    first_nil : {X : Type 0} (xs ys : List X) → [] ≡ xs ++ ys → xs ≡ []
+    first_nil : {X : Type 0} (xs ys : List X) → xs ++ ys ≡ [] → xs ≡ []
     first_nil [] ys e = refl
     first_nil (x ∷ xs) ys e = cc
-in_order_holds room sub (d ∷ later) came least small some (rest, is) =
+in_order_holds room sub (d ∷ later) came least small some (rest, begun) =
     let block = begins room d (some 0 d (omega arith)) in
     let got = goes (of_sub sub came) room sub 0
     (λ key. empty) [] block.first block.behind d later rest least small some block.is block.block refl
     (refl, λ k h ne. refl)
-    (ap (λ (fs : List Fragment). keyed (identification 0 sub) fs ++ sent_from room sub 1 later) (sym block.is) ∙ is)
+    (ap (λ (fs : List Fragment). keyed (identification 0 sub) fs ++ sent_from room sub 1 later) (sym block.is) ∙ sym begun)
     in (
       got.many,
       ap (map (λ (e : ℕ × List ℕ). e.1)) (apart sub came (λ key. empty) (λ key. empty) (λ k h. refl)) ∙ got.are,

@@ -1,20 +1,20 @@
 -- Each link of a plan, by what was handed over legally.
-use Rattle.std.proofs.Common.{◌≡◌, ℕ, ◌+◌, ◌<◌, inl, inr, List, ◌++◌, length, ap, sym, ◌∙◌, arith}
+use Rattle.std.proofs.Common.{ℕ, ◌<◌, inl, inr, List, ◌++◌, length, ap, sym, ◌∙◌, arith}
 use Rattle.std.specs.Prelude.{All}
 use Rattle.std.proofs.lemmas.Bool.{cases_lt}
 use Rattle.std.proofs.lemmas.List.Elements.{All-contains, All-weaker}
 use Rattle.afdx_config.specs.Config.{Plan, IsPlan, link_plan_at}
-use Rattle.afdx_config.specs.Numbers.{sequence_number}
 use Rattle.afdx_config.specs.Plan.{IsLink, IsPort}
 use Rattle.afdx_frame.specs.declared.net.Net.{Net}
 use Rattle.afdx_frame.specs.declared.net.Net.TheVariants.{A, B}
+use Rattle.afdx_frame.specs.Twin.{twin_of}
 use Rattle.afdx_frame.specs.Fragments.{Sent}
 use Rattle.redundant_mux.specs.Entry.{Entry}
 use Rattle.afdx_legal.specs.Streams.{link_stream}
-use Rattle.afdx_legal.specs.Legal.{Accepted, IsLegalOn, IsLegal}
+use Rattle.afdx_legal.specs.Legal.{Accepted, IsLegalOn, AreTwins, IsLegal}
 use Rattle.afdx_laws.specs.Messages.{IsSent, IsLinkOf}
-use Rattle.afdx_laws.specs.Handed.{AreTwins, IsHanded, AreHanded}
-use Rattle.afdx_laws.specs.Plans.{id_at, room_at, frames_of, IsAllowed, LegalArrive, LegalDespiteLoss}
+use Rattle.afdx_laws.specs.Handed.{IsHanded, AreHanded}
+use Rattle.afdx_laws.specs.Plans.{id_at, piece_room, frames_of, IsAllowed, LegalArrive, LegalDespiteLoss}
 use Rattle.afdx_laws.proofs.LinkFrames.{long_of, own_of, numbered_of, told_is, frames_front, twins_by_a, twins_by_b}
 use Rattle.afdx_laws.proofs.HandedOver.{handed_arrive_holds}
 use Rattle.afdx_laws.proofs.HandedLoss.{handed_despite_loss_holds}
@@ -24,7 +24,7 @@ pub link_is : (plan : Plan) (k : ℕ) → IsPlan plan → k < length plan.links 
 link_is plan k valid inside = valid.each_link k _ inside
 
 -- it has its room
-room_is : (plan : Plan) (k : ℕ) → IsPlan plan → k < length plan.links → IsLinkOf plan.end_system (room_at plan k)
+room_is : (plan : Plan) (k : ℕ) → IsPlan plan → k < length plan.links → IsLinkOf plan.end_system (piece_room plan k)
 room_is plan k valid inside =
     let lmax = (link_is plan k valid inside).lmax in
     record { numbered = valid.end_system; least = omega arith; greatest = omega arith }
@@ -40,7 +40,7 @@ sent_is plan sub sent valid allowed =
 -- a link's frames were handed to a network
 handed_is : (plan : Plan) (accepted : Accepted) (net : Net) (handed : List Entry) (k sub : ℕ)
     → IsLegalOn plan accepted net handed → k < length plan.links → sub < (link_plan_at plan.links k).sub_vls
-    → IsHanded plan.end_system (room_at plan k) sub (accepted k sub) net (frames_of (id_at plan k) handed)
+    → IsHanded plan.end_system (piece_room plan k) sub (accepted k sub) net (frames_of (id_at plan k) handed)
 handed_is plan accepted net handed k sub legal inside index =
     let vl : ℕ = id_at plan k in
     let first = legal.prefixes k sub inside index in
@@ -48,19 +48,15 @@ handed_is plan accepted net handed k sub legal inside index =
     record {
       frames = record {
         long = long_of plan.links net vl handed legal.known;
-        numbered = λ i spare below. numbered_of 0 (link_stream vl handed) (legal.numbered k inside) i spare below
-            ∙ ap sequence_number (from_zero i);
+        numbered = numbered_of (link_stream vl handed) (legal.numbered k inside);
       };
       own = own_of plan.links net vl handed legal.known;
-      first = (first.0, sym first.1 ∙ ap (λ (fs : List (List ℕ)). fs ++ first.0) told);
+      first = (first.0, ap (λ (fs : List (List ℕ)). fs ++ first.0) (sym told) ∙ first.1);
     }
-  where
-    from_zero : (i : ℕ) → 0 + i ≡ i
-    from_zero i = omega arith
 
 -- a link's frames are twins
 twins_are : (plan : Plan) (accepted : Accepted) (a b : List Entry) (vl : ℕ) → IsLegal plan accepted a b
-    → AreTwins (frames_of vl a) (frames_of vl b)
+    → AreTwins twin_of (frames_of vl a) (frames_of vl b)
 twins_are plan accepted a b vl legal = elim (cases_lt (length a) (length b)) [
   | inl shorter ↦ twins_by_a (frames_of vl a) (frames_of vl b) (own_of plan.links B vl b legal.on_b.known)
       (frames_front A vl b a (legal.twins.a_shorter (omega arith)))
@@ -71,7 +67,7 @@ twins_are plan accepted a b vl legal = elim (cases_lt (length a) (length b)) [
 -- so a link's frames were handed to both networks
 are_handed : (plan : Plan) (accepted : Accepted) (a b : List Entry) (k sub : ℕ) → IsPlan plan → IsLegal plan accepted a b
     → k < length plan.links → sub < (link_plan_at plan.links k).sub_vls → All (IsAllowed plan sub) (accepted k sub)
-    → AreHanded plan.end_system (room_at plan k) sub (accepted k sub)
+    → AreHanded plan.end_system (piece_room plan k) sub (accepted k sub)
     (frames_of (id_at plan k) a) (frames_of (id_at plan k) b)
 are_handed plan accepted a b k sub valid legal inside index allowed =
     let few = (link_is plan k valid inside).sub_vls in
@@ -87,13 +83,13 @@ are_handed plan accepted a b k sub valid legal inside index allowed =
 -- the law
 pub legal_arrive_holds : LegalArrive
 legal_arrive_holds plan accepted a b valid legal k sub inside index allowed lag tolerance arrivals fit carry =
-    handed_arrive_holds plan.end_system (room_at plan k) sub lag tolerance (accepted k sub)
+    handed_arrive_holds plan.end_system (piece_room plan k) sub lag tolerance (accepted k sub)
     (frames_of (id_at plan k) a) (frames_of (id_at plan k) b) arrivals
     (are_handed plan accepted a b k sub valid legal inside index allowed) fit carry
 
 -- the law despite loss
 pub legal_despite_loss_holds : LegalDespiteLoss
 legal_despite_loss_holds plan accepted a b valid legal k sub inside index allowed check whole came some close =
-    handed_despite_loss_holds plan.end_system (room_at plan k) sub check whole (accepted k sub)
+    handed_despite_loss_holds plan.end_system (piece_room plan k) sub check whole (accepted k sub)
     (frames_of (id_at plan k) a) (frames_of (id_at plan k) b) came
     (are_handed plan accepted a b k sub valid legal inside index allowed) some close

@@ -1,6 +1,6 @@
 -- Each link of a plan keeps its gap and its greatest frame, by what was handed over legally.
-use Rattle.std.proofs.Common.{◌≡◌, ℕ, ◌-◌, ◌<◌, inl, inr, Bool, true, false, nat_eq, cond, List, [], ◌∷◌, ◌++◌, length, map, ap, sym, ◌∙◌, subst, arith}
-use Rattle.std.specs.Prelude.{All, Option, Some, None}
+use Rattle.std.proofs.Common.{◌≡◌, ℕ, ◌-◌, ◌<◌, inl, inr, Bool, true, false, nat_eq, cond, List, [], ◌∷◌, ◌++◌, length, ap, sym, ◌∙◌, subst, arith}
+use Rattle.std.specs.Prelude.{All}
 use Rattle.std.proofs.lemmas.Bool.{cases_Bool}
 use Rattle.std.proofs.lemmas.Bool.Decides.{nat_tests}
 use Rattle.std.proofs.lemmas.List.{length-take}
@@ -12,32 +12,15 @@ use Rattle.afdx_frame.specs.declared.net.Net.{Net}
 use Rattle.afdx_frame.specs.Fragments.{blanked}
 use Rattle.afdx_frame.specs.Header.{link_in, sub_in}
 use Rattle.redundant_mux.specs.Entry.{Entry}
-use Rattle.vl_shaper.specs.declared.shaper.Stamp.{Stamp}
-use Rattle.afdx_legal.specs.Streams.{link_stream, sub_stream, on_link, on_sub, told, told_of, stamp_of, IsSpaced as AreSpaced}
+use Rattle.afdx_legal.specs.Streams.{link_stream, sub_stream, told, told_of}
 use Rattle.afdx_legal.specs.Legal.{Accepted, IsKnown, AreKnown, IsLegalOn}
 use Rattle.afdx_laws.specs.Messages.{IsSent}
 use Rattle.afdx_laws.specs.Networks.{IsLong}
-use Rattle.afdx_laws.specs.Spacing.{Released, IsSpaced, IsUpTo}
-use Rattle.afdx_laws.specs.Plans.{id_at, released_of, IsAllowed, LegalPasses}
+use Rattle.afdx_laws.specs.Spacing.{IsUpTo}
+use Rattle.afdx_laws.specs.Plans.{id_at, IsAllowed, LegalPasses}
 use Rattle.afdx_laws.proofs.LegalLinks.{link_is, sent_is}
 use Rattle.afdx_laws.proofs.Sizes.{IsShort, short_messages}
 use Rattle.afdx_laws.proofs.Spaced.{stream_passes_holds}
-
--- a released frame
-abbrev release : Entry → Released
-release e = record { at = e.at; frame = e.frame }
-
--- the moment of the frame before
-abbrev moment_of : Option Stamp → Option ℕ
-moment_of None = None
-moment_of (Some stamp) = Some stamp.at
-
--- neighbours are as far apart
-spaced_is : (gap : ℕ) (before : Option Stamp) (es : List Entry) → AreSpaced gap before es
-    → IsSpaced gap (moment_of before) (map release es)
-spaced_is gap before [] spaced = tt
-spaced_is gap None (e ∷ es) spaced = (tt, spaced_is gap (Some (stamp_of e)) es spaced.1)
-spaced_is gap (Some last) (e ∷ es) spaced = (spaced.0, spaced_is gap (Some (stamp_of e)) es spaced.1)
 
 -- an entry of one of so many sub-VLs, with a frame that has all fields
 record IsWithin (subs : ℕ) (e : Entry) : Type 0 where
@@ -50,7 +33,7 @@ same_id x y e = ap (λ (n : ℕ). record { 0 = n }) e
 
 -- a known entry of a link is of one of its sub-VLs
 known_within : (plan : Plan) (net : Net) (k : ℕ) (e : Entry) → IsPlan plan → k < length plan.links
-    → IsKnown plan.links net e.frame → on_link (id_at plan k) e ≡ true → IsWithin (link_plan_at plan.links k).sub_vls e
+    → IsKnown plan.links net e.frame → nat_eq (link_in e.frame) (id_at plan k) ≡ true → IsWithin (link_plan_at plan.links k).sub_vls e
 known_within plan net k e valid inside known on =
     let number : link_in e.frame ≡ id_at plan k = is_eq (link_in e.frame) (id_at plan k) on in
     let at : known.k ≡ k = valid.links_apart known.k k known.within inside
@@ -71,7 +54,7 @@ stream_within plan net k (e ∷ es) valid inside known =
     let subs : ℕ = (link_plan_at plan.links k).sub_vls in
     let later : List Entry = link_stream (id_at plan k) es in
     let rest : All (IsWithin subs) later = stream_within plan net k es valid inside known.1 in
-    elim (cases_Bool (on_link (id_at plan k) e)) [
+    elim (cases_Bool (nat_eq (link_in e.frame) (id_at plan k))) [
       | inl on ↦ subst (λ (t : Bool). All (IsWithin subs) (cond t (e ∷ later) later)) (sym on)
           (All-cons (IsWithin subs) e later (known_within plan net k e valid inside known.0 on) rest)
       | inr off ↦ subst (λ (t : Bool). All (IsWithin subs) (cond t (e ∷ later) later)) (sym off) rest
@@ -89,7 +72,7 @@ by_subs P subs (e ∷ es) within each =
     subst (λ (t : Bool). All P (told (cond t (e ∷ sub_stream (sub_in e.frame) es) (sub_stream (sub_in e.frame) es)))) own
     (each (sub_in e.frame) first.of_sub) in
     All-cons (λ (d : Entry). P (blanked d.frame)) e es (mine 0 (blanked e.frame) (omega arith))
-    (by_subs P subs es (All-tail (IsWithin subs) e es within) (λ sub below. behind (on_sub sub e) sub (each sub below)))
+    (by_subs P subs es (All-tail (IsWithin subs) e es within) (λ sub below. behind (nat_eq (sub_in e.frame) sub) sub (each sub below)))
   where
     eq_self : (n : ℕ) → nat_eq n n ≡ true
     eq_self n = grind (arith, nat_tests)
@@ -123,13 +106,13 @@ short_told plan accepted net handed k sub valid legal inside index allowed =
 
 -- a link's frames are no greater than its greatest
 small_of : (lmax subs : ℕ) (es : List Entry) → All (IsWithin subs) es
-    → All (λ (e : Entry). IsShort lmax (blanked e.frame)) es → All (IsUpTo lmax) (map release es)
+    → All (λ (e : Entry). IsShort lmax (blanked e.frame)) es → All (IsUpTo lmax) es
 small_of lmax subs [] within short = All-nil (IsUpTo lmax)
 small_of lmax subs (e ∷ es) within short =
     let long = (within 0 e (omega arith)).long in
     let cut = length-take (length e.frame - 1) e.frame in
     let mine = short 0 e (omega arith) in
-    All-cons (IsUpTo lmax) (release e) (map release es) (omega arith)
+    All-cons (IsUpTo lmax) e es (omega arith)
     (small_of lmax subs es (All-tail (IsWithin subs) e es within)
     (All-tail (λ (d : Entry). IsShort lmax (blanked d.frame)) e es short))
 
@@ -142,6 +125,6 @@ legal_passes_holds plan accepted net handed valid legal k inside allowed charge 
     let within = stream_within plan net k handed valid inside legal.known in
     let short = by_subs (IsShort lmax) subs (link_stream vl handed) within
     (λ sub index. short_told plan accepted net handed k sub valid legal inside index (allowed sub index)) in
-    stream_passes_holds charge (bag_micros (link_plan_at plan.links k).bag) lmax jitter around (released_of vl handed) passages
-    (spaced_is (bag_micros (link_plan_at plan.links k).bag) None (link_stream vl handed) (legal.spaced k inside))
+    stream_passes_holds charge (bag_micros (link_plan_at plan.links k).bag) lmax jitter around (link_stream vl handed) passages
+    (legal.spaced k inside)
     (small_of lmax subs (link_stream vl handed) within short) way

@@ -1,24 +1,23 @@
 -- A link's frames in what was handed over.
-use Rattle.std.proofs.Common.{◌≡◌, ℕ, zero, suc, ◌+◌, ◌≤◌, ◌<◌, Bool, true, false, nat_eq, cond, List, [], ◌∷◌, ◌++◌, length, map, take, drop, get_or, refl, ap, sym, ◌∙◌, arith}
+use Rattle.std.proofs.Common.{◌≡◌, ℕ, ◌≤◌, Bool, true, false, nat_eq, cond, List, [], ◌∷◌, ◌++◌, length, map, take, drop, refl, ap, sym, ◌∙◌, arith}
 use Rattle.std.specs.Prelude.{All}
 use Rattle.std.proofs.Math.Seq.{take-append_seam}
 use Rattle.std.proofs.lemmas.List.{map-append, take-append-drop, length-map, length-take, take_all}
-use Rattle.std.proofs.lemmas.List.Elements.{All-cons, All-nil, filter-append}
-use Rattle.afdx_config.specs.Numbers.{sequence_number}
+use Rattle.std.proofs.lemmas.List.Elements.{All-cons, All-nil}
 use Rattle.afdx_config.specs.declared.link_plan.LinkPlan.{LinkPlan}
 use Rattle.afdx_frame.specs.declared.net.Net.{Net}
 use Rattle.afdx_frame.specs.declared.net.Net.TheVariants.{A, B}
 use Rattle.afdx_frame.specs.Fragments.{blanked}
-use Rattle.afdx_frame.specs.Header.{number_in}
+use Rattle.afdx_frame.specs.Header.{link_in, sub_in, number_in}
 use Rattle.afdx_frame.specs.Twin.{twin_of}
 use Rattle.afdx_frame.proofs.Twins.{twin_same, twin_link}
 use Rattle.redundant_mux.specs.Entry.{Entry}
 use Rattle.redundant_mux.specs.Lines.{side}
-use Rattle.afdx_legal.specs.Streams.{link_stream, on_link, on_sub, told, IsNumbered as IsNumberedFrom, sub_stream as entries_of_sub}
-use Rattle.afdx_legal.specs.Legal.{AreKnown}
+use Rattle.afdx_legal.specs.Streams.{those_with, link_stream, sub_stream, told, number_of, IsNumbered}
+use Rattle.afdx_legal.specs.Legal.{AreKnown, AreTwins}
+use Rattle.afdx_legal.proofs.LongerStream.{with_append, numbered_map}
 use Rattle.afdx_laws.specs.Networks.{IsLong}
-use Rattle.afdx_laws.specs.Messages.{sub_stream}
-use Rattle.afdx_laws.specs.Handed.{IsOwn, AreTwins}
+use Rattle.afdx_laws.specs.Handed.{IsOwn}
 use Rattle.afdx_laws.specs.Plans.{frames_of}
 use Rattle.afdx_laws.proofs.HandedOver.{own_twins, twin_twin}
 
@@ -29,7 +28,7 @@ frame_of_entry e = e.frame
 -- a link's frames have all fields that are read
 pub long_of : (links : List LinkPlan) (net : Net) (vl : ℕ) (es : List Entry) → AreKnown links net es → All IsLong (frames_of vl es)
 long_of links net vl [] known = All-nil IsLong
-long_of links net vl (e ∷ es) known = one (on_link vl e) (long_of links net vl es known.1)
+long_of links net vl (e ∷ es) known = one (nat_eq (link_in e.frame) vl) (long_of links net vl es known.1)
   where
     one : (t : Bool) → All IsLong (frames_of vl es)
         → All IsLong (map frame_of_entry (cond t (e ∷ link_stream vl es) (link_stream vl es)))
@@ -40,33 +39,26 @@ long_of links net vl (e ∷ es) known = one (on_link vl e) (long_of links net vl
 pub own_of : (links : List LinkPlan) (net : Net) (vl : ℕ) (es : List Entry) → AreKnown links net es
     → All (IsOwn net) (frames_of vl es)
 own_of links net vl [] known = All-nil (IsOwn net)
-own_of links net vl (e ∷ es) known = one (on_link vl e) (own_of links net vl es known.1)
+own_of links net vl (e ∷ es) known = one (nat_eq (link_in e.frame) vl) (own_of links net vl es known.1)
   where
     one : (t : Bool) → All (IsOwn net) (frames_of vl es)
         → All (IsOwn net) (map frame_of_entry (cond t (e ∷ link_stream vl es) (link_stream vl es)))
     one true rest = All-cons (IsOwn net) e.frame (frames_of vl es) (twin_same net e.frame (known.0).interface) rest
     one false rest = rest
 
--- entries that carry numbers in order, by their places
-pub numbered_of : (start : ℕ) (es : List Entry) → IsNumberedFrom start es → (i : ℕ) (spare : List ℕ)
-    → i < length (map frame_of_entry es) → number_in (get_or (map frame_of_entry es) i spare) ≡ sequence_number (start + i)
-numbered_of start [] numbered i spare inside = absurd (omega arith)
-numbered_of start (e ∷ es) numbered zero spare inside =
-    let here : start ≡ start + 0 = omega arith in
-    numbered.0 ∙ ap sequence_number here
-numbered_of start (e ∷ es) numbered (suc i) spare inside =
-    let there : start + 1 + i ≡ start + suc i = omega arith in
-    numbered_of (start + 1) es numbered.1 i spare (omega arith) ∙ ap sequence_number there
+-- and numbered as its entries are
+pub numbered_of : (es : List Entry) → IsNumbered number_of 0 es → IsNumbered number_in 0 (map frame_of_entry es)
+numbered_of es numbered = numbered_map number_of number_in frame_of_entry 0 es (λ k d inside. refl) numbered
 
 -- a sub-VL's fragments, by entries and by frames
 pub told_is : (sub : ℕ) (es : List Entry)
-    → told (entries_of_sub sub es) ≡ map blanked (sub_stream sub (map frame_of_entry es))
+    → told (sub_stream sub es) ≡ map blanked (those_with sub_in sub (map frame_of_entry es))
 told_is sub [] = refl
-told_is sub (e ∷ es) = one (on_sub sub e) (told_is sub es)
+told_is sub (e ∷ es) = one (nat_eq (sub_in e.frame) sub) (told_is sub es)
   where
-    one : (t : Bool) → told (entries_of_sub sub es) ≡ map blanked (sub_stream sub (map frame_of_entry es))
-        → told (cond t (e ∷ entries_of_sub sub es) (entries_of_sub sub es))
-        ≡ map blanked (cond t (e.frame ∷ sub_stream sub (map frame_of_entry es)) (sub_stream sub (map frame_of_entry es)))
+    one : (t : Bool) → told (sub_stream sub es) ≡ map blanked (those_with sub_in sub (map frame_of_entry es))
+        → told (cond t (e ∷ sub_stream sub es) (sub_stream sub es))
+        ≡ map blanked (cond t (e.frame ∷ those_with sub_in sub (map frame_of_entry es)) (those_with sub_in sub (map frame_of_entry es)))
     one true rest = ap (λ (fs : List (List ℕ)). blanked e.frame ∷ fs) rest
     one false rest = rest
 
@@ -76,7 +68,7 @@ frames_side net vl [] = refl
 frames_side net vl (e ∷ es) =
     ap (λ (n : ℕ). map frame_of_entry (cond (nat_eq n vl) (side net e ∷ link_stream vl (map (side net) es))
     (link_stream vl (map (side net) es)))) (twin_link net e.frame)
-    ∙ one (on_link vl e) (frames_side net vl es)
+    ∙ one (nat_eq (link_in e.frame) vl) (frames_side net vl es)
   where
     one : (t : Bool) → frames_of vl (map (side net) es) ≡ map (twin_of net) (frames_of vl es)
         → map frame_of_entry (cond t (side net e ∷ link_stream vl (map (side net) es)) (link_stream vl (map (side net) es)))
@@ -92,7 +84,7 @@ frames_take vl n es =
     let back : List (List ℕ) = frames_of vl (drop n es) in
     let whole : frames_of vl es ≡ front ++ back =
     ap (frames_of vl) (sym (take-append-drop n es))
-    ∙ ap (map frame_of_entry) (filter-append (on_link vl) (take n es) (drop n es))
+    ∙ ap (map frame_of_entry) (with_append (λ (e : Entry). link_in e.frame) vl (take n es) (drop n es))
     ∙ map-append frame_of_entry (link_stream vl (take n es)) (link_stream vl (drop n es)) in
     sym (ap (take (length front)) whole ∙ take-append_seam front back)
 
@@ -121,9 +113,9 @@ turned_back first second xs ys own is as_long =
     ∙ twin_twin second first xs ∙ own_twins first xs own)
 
 -- so the shorter list is twins of the longer one's beginning, whichever that is
-pub twins_by_b : (xs ys : List (List ℕ)) → All (IsOwn A) xs → ys ≡ map (twin_of B) (take (length ys) xs) → AreTwins xs ys
+pub twins_by_b : (xs ys : List (List ℕ)) → All (IsOwn A) xs → ys ≡ map (twin_of B) (take (length ys) xs) → AreTwins twin_of xs ys
 twins_by_b xs ys own is = record { b_shorter = λ h. is; a_shorter = λ h. turned_back A B xs ys own is h }
 
 -- and the other way round
-pub twins_by_a : (xs ys : List (List ℕ)) → All (IsOwn B) ys → xs ≡ map (twin_of A) (take (length xs) ys) → AreTwins xs ys
+pub twins_by_a : (xs ys : List (List ℕ)) → All (IsOwn B) ys → xs ≡ map (twin_of A) (take (length xs) ys) → AreTwins twin_of xs ys
 twins_by_a xs ys own is = record { b_shorter = λ h. turned_back B A ys xs own is h; a_shorter = λ h. is }

@@ -7,7 +7,8 @@ use Rattle.afdx_config.specs.Numbers.{sequence_number}
 use Rattle.afdx_frame.specs.declared.net.Net.{Net}
 use Rattle.afdx_frame.specs.declared.net.Net.TheVariants.{A, B}
 use Rattle.afdx_frame.specs.Twin.{twin_of}
-use Rattle.afdx_laws.specs.Receiver.{Tolerance, State, begin, is_accepted, is_valid, is_ahead, received, carried, with_seen, with_accepted, seen_on, IsNumbered}
+use Rattle.afdx_legal.specs.Streams.{IsNumbered}
+use Rattle.afdx_laws.specs.Receiver.{Tolerance, State, begin, is_accepted, is_valid, is_ahead, received, carried, with_seen, with_accepted, seen_on}
 use Rattle.afdx_frame.specs.Header.{number_in}
 use Rattle.afdx_laws.specs.Networks.{IsLong}
 use Rattle.afdx_laws.specs.Loss.{same_net, AreClose, frame_at, one_lost, LossMasked, LossNotMasked, NumbersClash}
@@ -210,7 +211,7 @@ loss_masked_holds whole check stream came some frames close =
     begun A = refl
     begun B = refl
 
-    at : (stream : List (List ℕ)) → All IsLong stream → IsNumbered number_in stream
+    at : (stream : List (List ℕ)) → All IsLong stream → IsNumbered number_in 0 stream
         → (net : Net) (i : ℕ) → i < length (map (twin_of A) stream)
         → IsPlaced number_in (twin_of A) (map (twin_of A) stream) i (frame_at stream net i)
     at stream long numbered net i inside =

@@ -19,9 +19,11 @@ use Rattle.afdx_frame.proofs.Says.{says, total_ok, payload_says}
 use Rattle.afdx_frame.proofs.PiecesAre.{pieces_are}
 use Rattle.afdx_frame.proofs.Datagram.{length-udp_header}
 use Rattle.afdx_frame.specs.Reassembly.{Fragment, fragment_of, fragments_of}
+use Rattle.afdx_frame.specs.Header.{sub_in}
+use Rattle.afdx_legal.specs.Streams.{those_with}
 use Rattle.afdx_laws.specs.Delivery.{of_sub, keyed, sent_from}
 use Rattle.afdx_laws.specs.Networks.{IsLong}
-use Rattle.afdx_laws.specs.Messages.{fragment_in, sub_stream, IsSent}
+use Rattle.afdx_laws.specs.Messages.{fragment_in, IsSent}
 
 -- two fragments with their identifications are the same
 abbrev same_pair : ℕ × Fragment → ℕ × Fragment → Type 0
@@ -208,13 +210,13 @@ reads_frames (f ∷ frames) (u ∷ us) rest each long is =
 
 -- a sub's fragments are those of its frames
 pub of_sub_is : (sub : ℕ) (frames : List (List ℕ))
-    → of_sub sub (map fragment_in frames) ≡ map fragment_in (sub_stream sub frames)
+    → of_sub sub (map fragment_in frames) ≡ map fragment_in (those_with sub_in sub frames)
 of_sub_is sub [] = refl
 of_sub_is sub (f ∷ frames) = one (nat_eq (word_at f 18 % 4) sub) (of_sub_is sub frames)
   where
-    one : (t : Bool) → of_sub sub (map fragment_in frames) ≡ map fragment_in (sub_stream sub frames)
+    one : (t : Bool) → of_sub sub (map fragment_in frames) ≡ map fragment_in (those_with sub_in sub frames)
         → cond t (fragment_in f ∷ of_sub sub (map fragment_in frames))
         (of_sub sub (map fragment_in frames)) ≡ map fragment_in
-        (cond t (f ∷ sub_stream sub frames) (sub_stream sub frames))
+        (cond t (f ∷ those_with sub_in sub frames) (those_with sub_in sub frames))
     one true e = ap (λ (xs : List (ℕ × Fragment)). fragment_in f ∷ xs) e
     one false e = e

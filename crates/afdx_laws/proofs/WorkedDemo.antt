@@ -16,11 +16,12 @@ use Rattle.afdx_frame.specs.Cutting.{cutting}
 use Rattle.afdx_frame.specs.Fragments.{fragments, fragments_at}
 use Rattle.afdx_frame.specs.Frame.{addresses, header_front, internet_header, link_header, udp_header, datagram, unnumbered}
 use Rattle.afdx_frame.specs.Header.{sub_in}
-use Rattle.afdx_legal.specs.Streams.{link_stream, told_of, IsNumbered, IsSpaced, IsPrefixOf}
+use Rattle.redundant_mux.specs.Lines.{side}
+use Rattle.afdx_legal.specs.Streams.{link_stream, told_of, number_of, IsNumbered, IsSpaced, IsPrefixOf}
 use Rattle.afdx_legal.specs.Legal.{IsKnown, IsLegalOn, AreTwins}
 use Rattle.afdx_laws.specs.Handed.{AreCarriedOf}
 use Rattle.afdx_laws.specs.Spacing.{IsOnItsWay}
-use Rattle.afdx_laws.specs.Plans.{IsAllowed, frames_of, released_of}
+use Rattle.afdx_laws.specs.Plans.{IsAllowed, frames_of}
 use Rattle.afdx_laws.specs.WorkedPlan.{OneIsLegal, one_byte, one_byte_accepted, one_frame, one_entry, two_arrivals, one_passage}
 use Rattle.afdx_laws.proofs.WorkedMessage.{demo_port_is, few_are_near}
 
@@ -92,7 +93,7 @@ one_prefix net zero (suc sub) inside index = absurd (omega arith)
 one_prefix net (suc k) sub inside index = absurd (omega arith)
 
 -- its number is 0
-one_numbered : (net : Net) (k : ℕ) → k < 1 → IsNumbered 0 (link_stream (link_plan_at (demo_link ∷ []) k).id.0 (one_entry net))
+one_numbered : (net : Net) (k : ℕ) → k < 1 → IsNumbered number_of 0 (link_stream (link_plan_at (demo_link ∷ []) k).id.0 (one_entry net))
 unfolding checksum addresses header_front internet_header link_header udp_header datagram unnumbered
 one_numbered net zero inside = (refl, tt)
 one_numbered net (suc k) inside = absurd (omega arith)
@@ -115,7 +116,7 @@ legal_on net = record {
 }
 
 -- the two networks' frames are twins
-one_twins : AreTwins (one_entry A) (one_entry B)
+one_twins : AreTwins side (one_entry A) (one_entry B)
 unfolding checksum addresses header_front internet_header link_header udp_header datagram unnumbered
 one_twins = record { b_shorter = λ h. refl; a_shorter = λ h. refl }
 
@@ -129,7 +130,7 @@ unfolding checksum addresses header_front internet_header link_header udp_header
 one_carried = record { on_a = ([], refl); on_b = ([], refl); near = few_are_near two_arrivals }
 
 -- it is on its way
-one_on_its_way : AllZip (IsOnItsWay 20 500) (released_of 1 (one_entry A)) one_passage
+one_on_its_way : AllZip (IsOnItsWay 20 500) (link_stream 1 (one_entry A)) one_passage
 unfolding checksum addresses header_front internet_header link_header udp_header datagram unnumbered
 one_on_its_way = (record { released = refl; size = refl; after = omega arith; soon = omega arith }, tt)
 

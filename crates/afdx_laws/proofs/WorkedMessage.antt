@@ -1,5 +1,5 @@
 -- The worked delivery, by computation.
-use Rattle.std.proofs.Common.{◌≡◌, zero, suc, ◌≤◌, List, [], ◌∷◌, length, map, refl, ap, ◌∙◌, arith}
+use Rattle.std.proofs.Common.{◌≡◌, ◌≤◌, List, [], ◌∷◌, length, map, refl, ap, ◌∙◌, arith}
 use Rattle.std.proofs.lemmas.List.{length-append}
 use Rattle.std.proofs.lemmas.List.Elements.{All-cons, All-nil}
 use Rattle.afdx_config.specs.Plan.{IsPort}
@@ -10,11 +10,14 @@ use Rattle.afdx_frame.specs.Checksum.{checksum}
 use Rattle.afdx_frame.specs.Cutting.{cutting}
 use Rattle.afdx_frame.specs.Frame.{addresses, header_front, internet_header, link_header, udp_header, datagram, unnumbered}
 use Rattle.afdx_frame.specs.Fragments.{fragments, fragments_at, blanked}
-use Rattle.afdx_frame.specs.Header.{number_in}
-use Rattle.afdx_laws.specs.Receiver.{begin, received, carried, other, IsNear, IsPrefixOf, IsNumbered}
+use Rattle.afdx_frame.specs.Header.{sub_in, number_in}
+use Rattle.afdx_frame.specs.Twin.{twin_of}
+use Rattle.afdx_legal.specs.Streams.{those_with, IsNumbered, IsPrefixOf}
+use Rattle.afdx_legal.specs.Legal.{AreTwins}
+use Rattle.afdx_laws.specs.Receiver.{begin, received, carried, other, IsNear}
 use Rattle.afdx_laws.specs.Networks.{IsLong}
-use Rattle.afdx_laws.specs.Messages.{IsSent, messages_in, sub_stream}
-use Rattle.afdx_laws.specs.Handed.{IsOwn, IsHanded, AreTwins}
+use Rattle.afdx_laws.specs.Messages.{IsSent, messages_in}
+use Rattle.afdx_laws.specs.Handed.{IsOwn, IsHanded}
 use Rattle.afdx_laws.specs.WorkedDelivery.{bytes_41, one_accepted, front_frame, back_frame, both_frames, four_arrivals, plain_receiver, OneMessageArrives}
 
 -- a frame of either piece has 60 bytes
@@ -38,15 +41,13 @@ unfolding checksum addresses header_front internet_header link_header udp_header
 own_back net = refl
 
 -- they are numbered from 0 on
-frames_numbered : (net : Net) → IsNumbered number_in (both_frames net)
+frames_numbered : (net : Net) → IsNumbered number_in 0 (both_frames net)
 unfolding checksum addresses header_front internet_header link_header udp_header datagram unnumbered
-frames_numbered net zero spare inside = refl
-frames_numbered net (suc zero) spare inside = refl
-frames_numbered net (suc (suc i)) spare inside = absurd (omega arith)
+frames_numbered net = (refl, (refl, tt))
 
 -- they are the fragments of the message
 first_fragments : (net : Net)
-    → IsPrefixOf (map blanked (sub_stream 0 (both_frames net))) (fragments 1 25 net one_accepted)
+    → IsPrefixOf (map blanked (those_with sub_in 0 (both_frames net))) (fragments 1 25 net one_accepted)
 unfolding checksum addresses header_front internet_header link_header udp_header datagram unnumbered cutting fragments_at
 first_fragments net = ([], refl)
 
@@ -64,7 +65,7 @@ handed_to net = record {
 }
 
 -- the two lists are twins
-are_twins : AreTwins (both_frames A) (both_frames B)
+are_twins : AreTwins twin_of (both_frames A) (both_frames B)
 unfolding checksum addresses header_front internet_header link_header udp_header datagram unnumbered
 are_twins = record { b_shorter = λ h. refl; a_shorter = λ h. refl }
 

@@ -5,14 +5,14 @@ use Rattle.afdx_frame.specs.declared.net.Net.{Net}
 use Rattle.afdx_frame.specs.declared.net.Net.TheVariants.{B}
 use Rattle.afdx_laws.specs.Receiver.{carried}
 use Rattle.afdx_laws.specs.Skew.{IsDelivered}
-use Rattle.afdx_laws.specs.WorkedSkew.{release_of, arrival_of, both_copies, ComesInTime}
+use Rattle.afdx_laws.specs.WorkedSkew.{released_at, arrival_of, both_copies, ComesInTime}
 
 -- the parts of two lists that are the same
 heads : {X : Type 0} {x y : X} {xs ys : List X} → x ∷ xs ≡ y ∷ ys → (x ≡ y) × (xs ≡ ys)
 heads e = (cc, cc)
 
 -- each copy comes in time
-both_delivered : IsDelivered 400 release_of arrival_of both_copies
+both_delivered : IsDelivered 400 released_at arrival_of both_copies
 both_delivered [] after net frame is = (omega arith, omega arith)
 both_delivered (x ∷ []) after net frame is =
     let first = heads is in

@@ -1,8 +1,8 @@
 -- From the fragments of a link to the datagrams of its sub-VLs, at the receiving end.
-use Rattle.std.specs.Prelude.{◌≡◌, ℕ, suc, ◌%◌, ◌≤◌, ◌<◌, nat_eq, if◌then◌else◌, Option, Some, None, List, [], ◌∷◌, ◌++◌, length, map, take, filter, All}
+use Rattle.std.specs.Prelude.{◌≡◌, ℕ, suc, ◌%◌, ◌≤◌, ◌<◌, nat_eq, if◌then◌else◌, Option, Some, None, List, [], ◌∷◌, ◌++◌, length, map, take, All}
 use Rattle.afdx_config.specs.Numbers.{identification}
 use Rattle.afdx_frame.specs.Reassembly.{Fragment, Buffer, empty, put, datagram_in, fragments_of}
-use Rattle.afdx_laws.specs.Receiver.{IsPrefixOf}
+use Rattle.afdx_legal.specs.Streams.{those_with, IsPrefixOf}
 
 -- a buffer for each identification
 abbrev pub with_buffer : ℕ → Buffer → (ℕ → Buffer) → ℕ → Buffer
@@ -28,7 +28,7 @@ delivered buffers (e ∷ es) =
 
 -- those of a sub-VL, which is the identification modulo 4
 abbrev pub of_sub : {X : Type 0} → ℕ → List (ℕ × X) → List (ℕ × X)
-of_sub {X} sub entries = filter (λ (e : ℕ × X). nat_eq (e.0 % 4) sub) entries
+of_sub {X} sub entries = those_with (λ (e : ℕ × X). e.0 % 4) sub entries
 
 -- fragments of one identification
 abbrev pub keyed : ℕ → List Fragment → List (ℕ × Fragment)

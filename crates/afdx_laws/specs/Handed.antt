@@ -2,13 +2,15 @@
 use Rattle.std.specs.Prelude.{◌≡◌, ℕ, ◌≤◌, ◌<◌, nat_lt, if◌then◌else◌, List, length, map, take, All}
 use Rattle.afdx_frame.specs.declared.net.Net.{Net}
 use Rattle.afdx_frame.specs.declared.net.Net.TheVariants.{A, B}
-use Rattle.afdx_frame.specs.Header.{number_in}
+use Rattle.afdx_frame.specs.Header.{sub_in, number_in}
 use Rattle.afdx_frame.specs.Twin.{twin_of}
 use Rattle.afdx_frame.specs.Fragments.{Sent, blanked, fragments}
-use Rattle.afdx_laws.specs.Receiver.{Tolerance, IsFitFor, begin, received, carried, IsNear, IsPrefixOf}
+use Rattle.afdx_legal.specs.Streams.{those_with, IsPrefixOf}
+use Rattle.afdx_legal.specs.Legal.{AreTwins}
+use Rattle.afdx_laws.specs.Receiver.{Tolerance, IsFitFor, begin, received, carried, IsNear}
 use Rattle.afdx_laws.specs.Networks.{IsStream, most_carried}
 use Rattle.afdx_laws.specs.Loss.{AreClose, next_alone, frames_at}
-use Rattle.afdx_laws.specs.Messages.{sub_stream, messages_in, IsSent, IsLinkOf, AreFirst}
+use Rattle.afdx_laws.specs.Messages.{messages_in, IsSent, IsLinkOf, AreFirst}
 
 -- a frame has a network's interface identifier
 abbrev pub IsOwn : Net → List ℕ → Type 0
@@ -19,12 +21,7 @@ IsOwn net frame = twin_of net frame ≡ frame
 pub record IsHanded (end_system room sub : ℕ) (accepted : List Sent) (net : Net) (handed : List (List ℕ)) : Type 0 where
   pub frames : IsStream handed
   pub own : All (IsOwn net) handed
-  pub first : IsPrefixOf (map blanked (sub_stream sub handed)) (fragments end_system room net accepted)
-
--- the shorter list is the twins of the beginning of the longer one
-pub record AreTwins (a b : List (List ℕ)) : Type 0 where
-  pub b_shorter : length b ≤ length a → b ≡ map (twin_of B) (take (length b) a)
-  pub a_shorter : length a ≤ length b → a ≡ map (twin_of A) (take (length a) b)
+  pub first : IsPrefixOf (map blanked (those_with sub_in sub handed)) (fragments end_system room net accepted)
 
 -- the list of the network that was handed more
 abbrev pub longer : List (List ℕ) → List (List ℕ) → List (List ℕ)
@@ -37,7 +34,7 @@ pub record AreHanded (end_system room sub : ℕ) (accepted : List Sent) (a b : L
   pub sent : All (IsSent sub) accepted
   pub on_a : IsHanded end_system room sub accepted A a
   pub on_b : IsHanded end_system room sub accepted B b
-  pub twins : AreTwins a b
+  pub twins : AreTwins twin_of a b
 
 -- what two networks carried of what they were handed, in the order in which it came from both
 pub record AreCarriedOf (lag : ℕ) (a b : List (List ℕ)) (arrivals : List (Net × List ℕ)) : Type 0 where

@@ -1,5 +1,5 @@
 -- From the frames of a link to the messages of its sub-VLs, at the receiving end.
-use Rattle.std.specs.Prelude.{◌≡◌, ℕ, ◌-◌, ◌%◌, ◌≤◌, ◌<◌, nat_eq, nat_le, List, length, map, take, drop, filter, All}
+use Rattle.std.specs.Prelude.{◌≡◌, ℕ, ◌-◌, ◌%◌, ◌≤◌, ◌<◌, nat_le, List, length, map, take, drop, All}
 use Rattle.afdx_config.specs.Plan.{IsPort}
 use Rattle.afdx_frame.specs.declared.net.Net.{Net}
 use Rattle.afdx_frame.specs.declared.net.Net.TheVariants.{A}
@@ -7,7 +7,8 @@ use Rattle.afdx_frame.specs.Profile.{word_at, total_length, fragment_field}
 use Rattle.afdx_frame.specs.Header.{sub_in, number_in}
 use Rattle.afdx_frame.specs.Fragments.{Sent, blanked, fragments}
 use Rattle.afdx_frame.specs.Reassembly.{Fragment, empty}
-use Rattle.afdx_laws.specs.Receiver.{Tolerance, IsFitFor, begin, received, carried, IsPrefixOf}
+use Rattle.afdx_legal.specs.Streams.{those_with, IsPrefixOf}
+use Rattle.afdx_laws.specs.Receiver.{Tolerance, IsFitFor, begin, received, carried}
 use Rattle.afdx_laws.specs.Networks.{IsStream, AreCarried, most_carried}
 use Rattle.afdx_laws.specs.Loss.{AreClose, next_alone, frames_at}
 use Rattle.afdx_laws.specs.Delivery.{delivered, of_sub}
@@ -22,10 +23,6 @@ fragment_in frame = (
     bytes = take (total_length frame - 20) (drop 34 frame);
   },
 )
-
--- a sub-VL's frames of a link
-abbrev pub sub_stream : ℕ → List (List ℕ) → List (List ℕ)
-sub_stream sub stream = filter (λ (frame : List ℕ). nat_eq (sub_in frame) sub) stream
 
 -- a sub-VL's messages in a link's frames: its datagrams, reassembled, without the eight bytes of
 -- their UDP header (RFC 768)
@@ -52,7 +49,7 @@ pub record IsSending (end_system room sub : ℕ) (accepted : List Sent) (stream 
   pub index : sub < 4
   pub sent : All (IsSent sub) accepted
   pub frames : IsStream stream
-  pub first : IsPrefixOf (map blanked (sub_stream sub stream)) (fragments end_system room A accepted)
+  pub first : IsPrefixOf (map blanked (those_with sub_in sub stream)) (fragments end_system room A accepted)
 
 -- Messages are the first of the accepted ones, in order and each once, and among them are all whose
 -- fragments are in these frames.
@@ -60,7 +57,7 @@ pub record AreFirst (end_system room sub : ℕ) (accepted : List Sent) (frames m
   pub many : ℕ
   pub are : messages ≡ take many (map (λ (sent : Sent). sent.bytes) accepted)
   pub all : (j : ℕ) → j ≤ length accepted
-      → length (fragments end_system room A (take j accepted)) ≤ length (sub_stream sub frames)
+      → length (fragments end_system room A (take j accepted)) ≤ length (those_with sub_in sub frames)
       → j ≤ many
 
 -- The receiver's messages are the first accepted ones, and all whose fragments one network carried.

@@ -4,7 +4,8 @@ use Rattle.afdx_frame.specs.declared.net.Net.{Net}
 use Rattle.afdx_frame.specs.declared.net.Net.TheVariants.{A, B}
 use Rattle.afdx_frame.specs.Header.{number_in}
 use Rattle.afdx_frame.specs.Twin.{twin_of}
-use Rattle.afdx_laws.specs.Receiver.{Tolerance, IsFitFor, begin, received, carried, IsNear, IsPrefixOf, IsNumbered}
+use Rattle.afdx_legal.specs.Streams.{IsNumbered, IsPrefixOf}
+use Rattle.afdx_laws.specs.Receiver.{Tolerance, IsFitFor, begin, received, carried, IsNear}
 
 -- a frame that has all fields that are read
 abbrev pub IsLong : List ℕ → Type 0
@@ -13,7 +14,7 @@ IsLong frame = 60 ≤ length frame
 -- a link's stream of frames, numbered from the first on
 pub record IsStream (stream : List (List ℕ)) : Type 0 where
   pub long : All IsLong stream
-  pub numbered : IsNumbered number_in stream
+  pub numbered : IsNumbered number_in 0 stream
 
 -- what two networks carried of a link's stream, in the order in which it came from both: each the
 -- beginning of the stream, without loss up to where it ends, and each near to the other

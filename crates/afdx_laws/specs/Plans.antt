@@ -12,7 +12,7 @@ use Rattle.redundant_mux.specs.Entry.{Entry}
 use Rattle.afdx_legal.specs.Streams.{link_stream}
 use Rattle.afdx_legal.specs.Legal.{Accepted, IsLegalOn, IsLegal}
 use Rattle.afdx_laws.specs.Policer.{Charge, Rule, Passage, arrival, full, passed}
-use Rattle.afdx_laws.specs.Spacing.{Released, IsOnItsWay}
+use Rattle.afdx_laws.specs.Spacing.{IsOnItsWay}
 use Rattle.afdx_laws.specs.Receiver.{Tolerance, IsFitFor, begin, received, carried}
 use Rattle.afdx_laws.specs.Networks.{most_carried}
 use Rattle.afdx_laws.specs.Loss.{AreClose, next_alone, frames_at}
@@ -24,8 +24,8 @@ abbrev pub id_at : Plan → ℕ → ℕ
 id_at plan k = (link_plan_at plan.links k).id.0
 
 -- the room of a piece on it
-abbrev pub room_at : Plan → ℕ → ℕ
-room_at plan k = room_of (link_plan_at plan.links k).lmax
+abbrev pub piece_room : Plan → ℕ → ℕ
+piece_room plan k = room_of (link_plan_at plan.links k).lmax
 
 -- a link's frames in what was handed to a network
 abbrev pub frames_of : ℕ → List Entry → List (List ℕ)
@@ -49,7 +49,7 @@ LegalArrive = (plan : Plan) (accepted : Accepted) (a b : List Entry)
     → (lag : ℕ) (tolerance : Tolerance) (arrivals : List (Net × List ℕ))
     → IsFitFor lag tolerance
     → AreCarriedOf lag (frames_of (id_at plan k) a) (frames_of (id_at plan k) b) arrivals
-    → AreFirst plan.end_system (room_at plan k) sub (accepted k sub)
+    → AreFirst plan.end_system (piece_room plan k) sub (accepted k sub)
     (take (most_carried arrivals) (longer (frames_of (id_at plan k) a) (frames_of (id_at plan k) b)))
     (messages_in sub (received number_in tolerance begin arrivals))
 
@@ -63,16 +63,11 @@ LegalDespiteLoss = (plan : Plan) (accepted : Accepted) (a b : List Entry)
     → (check : ℕ) (whole : Net) (came : List (Net × ℕ)) → 1 ≤ check
     → AreClose whole
     (length (longer (frames_of (id_at plan k) a) (frames_of (id_at plan k) b))) 0 0 came
-    → AreFirst plan.end_system (room_at plan k) sub (accepted k sub)
+    → AreFirst plan.end_system (piece_room plan k) sub (accepted k sub)
     (take (length (carried whole came))
     (longer (frames_of (id_at plan k) a) (frames_of (id_at plan k) b)))
     (messages_in sub (received number_in (next_alone check) begin
     (frames_at (longer (frames_of (id_at plan k) a) (frames_of (id_at plan k) b)) came)))
-
--- a link's frames with their moments
-abbrev pub released_of : ℕ → List Entry → List Released
-released_of vl handed =
-    map (λ (e : Entry). record { at = e.at; frame = e.frame }) (link_stream vl handed)
 
 -- what a switch is told of a link, where a frame takes so many bytes on the wire beside its own, and
 -- this jitter is allowed
@@ -92,7 +87,7 @@ LegalPasses = (plan : Plan) (accepted : Accepted) (net : Net) (handed : List Ent
     → ((sub : ℕ) → sub < (link_plan_at plan.links k).sub_vls
     → All (IsAllowed plan sub) (accepted k sub))
     → (charge : Charge) (jitter around : ℕ) (passages : List Passage)
-    → AllZip (IsOnItsWay around jitter) (released_of (id_at plan k) handed) passages
+    → AllZip (IsOnItsWay around jitter) (link_stream (id_at plan k) handed) passages
     → passed charge (rule_at plan k around jitter) (full (rule_at plan k around jitter))
     (map arrival passages)
     ≡ map arrival passages

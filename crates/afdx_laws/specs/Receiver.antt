@@ -1,8 +1,7 @@
 -- The receiving end of a virtual link (ARINC 664 Part 7, integrity checking and redundancy
 -- management): a check of each network's numbers, then the first valid frame wins. It sees numbers
 -- alone, so that it is defined for frames of any kind.
-use Rattle.std.specs.Prelude.{◌≡◌, ℕ, zero, suc, ◌+◌, ◌≤◌, ◌<◌, nat_eq, ◌&&◌, ◌||◌, Bool, true, false, if◌then◌else◌, Option, Some, None, List, [], ◌∷◌, ◌++◌, length, slice_index_or}
-use Rattle.afdx_config.specs.Numbers.{sequence_number}
+use Rattle.std.specs.Prelude.{◌≡◌, ℕ, zero, suc, ◌+◌, ◌≤◌, nat_eq, ◌&&◌, ◌||◌, Bool, true, false, if◌then◌else◌, Option, Some, None, List, [], ◌∷◌, ◌++◌, length}
 use Rattle.afdx_frame.specs.declared.net.Net.{Net}
 use Rattle.afdx_frame.specs.declared.net.Net.TheVariants.{A, B}
 
@@ -95,15 +94,6 @@ abbrev pub IsNear : {F : Type 0} → ℕ → List (Net × F) → Type 0
 IsNear {F} lag arrivals = (before after : List (Net × F)) (net : Net) (frame : F)
     → arrivals ≡ before ++ (net, frame) ∷ after
     → length (carried (other net) before) ≤ length (carried net before) + lag
-
--- a list begins another
-abbrev pub IsPrefixOf : {F : Type 0} → List F → List F → Type 0
-IsPrefixOf {F} xs ys = (rest : List F) × (ys ≡ xs ++ rest)
-
--- frame i carries the number of place i
-abbrev pub IsNumbered : {F : Type 0} → (F → ℕ) → List F → Type 0
-IsNumbered {F} number stream = (i : ℕ) (spare : F) → i < length stream
-    → number (slice_index_or stream i spare) ≡ sequence_number i
 
 -- The receiver takes the next number at least, and at this lag no old frame's number is in its window.
 pub record IsFitFor (lag : ℕ) (tolerance : Tolerance) : Type 0 where

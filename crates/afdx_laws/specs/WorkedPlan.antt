@@ -10,11 +10,12 @@ use Rattle.afdx_frame.specs.Cutting.{piece_at}
 use Rattle.afdx_frame.specs.Frame.{frame_of}
 use Rattle.afdx_frame.specs.Fragments.{Sent}
 use Rattle.redundant_mux.specs.Entry.{Entry, entry}
+use Rattle.afdx_legal.specs.Streams.{link_stream}
 use Rattle.afdx_legal.specs.Legal.{Accepted, IsLegal}
 use Rattle.afdx_laws.specs.Handed.{AreCarriedOf}
 use Rattle.afdx_laws.specs.Policer.{Passage}
 use Rattle.afdx_laws.specs.Spacing.{IsOnItsWay}
-use Rattle.afdx_laws.specs.Plans.{frames_of, released_of, IsAllowed}
+use Rattle.afdx_laws.specs.Plans.{frames_of, IsAllowed}
 
 -- the message
 abbrev pub one_byte : Sent
@@ -46,4 +47,4 @@ pub record OneIsLegal : Type 0 where
   pub legal : IsLegal demo_plan one_byte_accepted (one_entry A) (one_entry B)
   pub allowed : All (IsAllowed demo_plan 0) (one_byte_accepted 0 0)
   pub carry : AreCarriedOf 2 (frames_of 1 (one_entry A)) (frames_of 1 (one_entry B)) two_arrivals
-  pub passage : AllZip (IsOnItsWay 20 500) (released_of 1 (one_entry A)) one_passage
+  pub passage : AllZip (IsOnItsWay 20 500) (link_stream 1 (one_entry A)) one_passage

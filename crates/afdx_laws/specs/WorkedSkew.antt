@@ -6,8 +6,8 @@ use Rattle.afdx_frame.specs.declared.net.Net.TheVariants.{A, B}
 use Rattle.afdx_laws.specs.Skew.{IsDelivered}
 
 -- the release of a frame
-abbrev pub release_of : ℕ → ℕ
-release_of i = 1000 * i
+abbrev pub released_at : ℕ → ℕ
+released_at i = 1000 * i
 
 -- the moment of an arrival
 abbrev pub arrival_of : ℕ → ℕ
@@ -19,6 +19,6 @@ both_copies = (A, 7 ∷ []) ∷ (B, 7 ∷ []) ∷ []
 
 -- They meet what the law of the skew asks for.
 pub record ComesInTime : Type 0 where
-  pub apart : (i : ℕ) → release_of i + 1000 ≤ release_of (i + 1)
+  pub apart : (i : ℕ) → released_at i + 1000 ≤ released_at (i + 1)
   pub forward : (k : ℕ) → arrival_of k ≤ arrival_of (k + 1)
-  pub delivered : IsDelivered 400 release_of arrival_of both_copies
+  pub delivered : IsDelivered 400 released_at arrival_of both_copies

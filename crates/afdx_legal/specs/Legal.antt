@@ -1,4 +1,5 @@
--- Legal handing over: of a plan, the accepted lists and two handed lists, and nothing else.
+-- Legal handing over: of a plan, the accepted lists and two handed lists, and nothing else. Who checks the
+-- headline reads this crate, and what it stands on.
 use Rattle.std.specs.Prelude.{ℕ, ◌≡◌, ◌≤◌, ◌<◌, List, [], ◌∷◌, length, map, take, slice_index, None}
 use Rattle.afdx_config.specs.Config.{Plan, link_plan_at}
 use Rattle.afdx_config.specs.Plan.{bag_micros}
@@ -11,7 +12,7 @@ use Rattle.afdx_frame.specs.Header.{link_in, sub_in}
 use Rattle.afdx_frame.specs.Fragments.{Sent, fragments}
 use Rattle.redundant_mux.specs.Entry.{Entry}
 use Rattle.redundant_mux.specs.Lines.{side}
-use Rattle.afdx_legal.specs.Streams.{link_stream, told_of, IsNumbered, IsSpaced, IsPrefixOf}
+use Rattle.afdx_legal.specs.Streams.{link_stream, told_of, number_of, IsNumbered, IsSpaced, IsPrefixOf}
 
 -- The accepted list of each sub-VL, by the place of its link in the plan and its index.
 abbrev pub Accepted : Type 0
@@ -40,18 +41,18 @@ pub record IsLegalOn (plan : Plan) (accepted : Accepted)
       → IsPrefixOf (told_of (link_plan_at plan.links k).id.0 s handed)
       (fragments plan.end_system (room_of (link_plan_at plan.links k).lmax) net (accepted k s))
   pub numbered : (k : ℕ) → k < length plan.links
-      → IsNumbered 0 (link_stream (link_plan_at plan.links k).id.0 handed)
+      → IsNumbered number_of 0 (link_stream (link_plan_at plan.links k).id.0 handed)
   pub spaced : (k : ℕ) → k < length plan.links
       → IsSpaced (bag_micros (link_plan_at plan.links k).bag) None
       (link_stream (link_plan_at plan.links k).id.0 handed)
 
--- the shorter list is the twins of a prefix of the longer
-pub record AreTwins (a b : List Entry) : Type 0 where
-  pub b_shorter : length b ≤ length a → b ≡ map (side B) (take (length b) a)
-  pub a_shorter : length a ≤ length b → a ≡ map (side A) (take (length a) b)
+-- the shorter list is the twins of a prefix of the longer, where each is turned to its network
+pub record AreTwins {F : Type 0} (turn : Net → F → F) (a b : List F) : Type 0 where
+  pub b_shorter : length b ≤ length a → b ≡ map (turn B) (take (length b) a)
+  pub a_shorter : length a ≤ length b → a ≡ map (turn A) (take (length a) b)
 
 -- what was handed to the two networks is legal for the accepted lists
 pub record IsLegal (plan : Plan) (accepted : Accepted) (a b : List Entry) : Type 0 where
   pub on_a : IsLegalOn plan accepted A a
   pub on_b : IsLegalOn plan accepted B b
-  pub twins : AreTwins a b
+  pub twins : AreTwins side a b

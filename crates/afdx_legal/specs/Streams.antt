@@ -1,26 +1,23 @@
--- Streams, read out of what was handed over alone.
-use Rattle.std.specs.Prelude.{ℕ, ◌≡◌, ◌+◌, ◌≤◌, List, [], ◌∷◌, ◌++◌, Bool, nat_eq, filter, map, Option, Some, None}
+-- Streams, read out of what was handed over alone: words that the headline and the laws share. Who checks
+-- the headline reads this crate, and what it stands on.
+use Rattle.std.specs.Prelude.{ℕ, ◌≡◌, ◌+◌, ◌≤◌, List, [], ◌∷◌, ◌++◌, nat_eq, filter, map, Option, Some, None}
 use Rattle.afdx_config.specs.Numbers.{sequence_number}
 use Rattle.afdx_frame.specs.Header.{link_in, sub_in, number_in}
 use Rattle.afdx_frame.specs.Fragments.{blanked}
 use Rattle.vl_shaper.specs.declared.shaper.Stamp.{Stamp}
 use Rattle.redundant_mux.specs.Entry.{Entry}
 
--- whether an entry is of a link
-abbrev pub on_link : ℕ → Entry → Bool
-on_link vl e = nat_eq (link_in e.frame) vl
-
--- whether an entry is of a sub-VL
-abbrev pub on_sub : ℕ → Entry → Bool
-on_sub sub e = nat_eq (sub_in e.frame) sub
+-- those of a list of which this number is read
+abbrev pub those_with : {F : Type 0} → (F → ℕ) → ℕ → List F → List F
+those_with {F} read number xs = filter (λ (x : F). nat_eq (read x) number) xs
 
 -- the entries of a link
 abbrev pub link_stream : ℕ → List Entry → List Entry
-link_stream vl handed = filter (on_link vl) handed
+link_stream vl handed = those_with (λ (e : Entry). link_in e.frame) vl handed
 
 -- of a link's stream, the entries of a sub-VL
 abbrev pub sub_stream : ℕ → List Entry → List Entry
-sub_stream sub stream = filter (on_sub sub) stream
+sub_stream sub stream = those_with (λ (e : Entry). sub_in e.frame) sub stream
 
 -- the frames of a stream, their sequence numbers blanked
 abbrev pub told : List Entry → List (List ℕ)
@@ -49,11 +46,15 @@ abbrev pub IsSpaced : ℕ → Option Stamp → List Entry → Type 0
 IsSpaced gap before [] = Unit {0}
 IsSpaced gap before (e ∷ es) = IsApart gap before e.at × IsSpaced gap (Some (stamp_of e)) es
 
--- the entries carry the sequence numbers of place i, and so on (ARINC 664 Part 7, sequence numbers)
-abbrev pub IsNumbered : ℕ → List Entry → Type 0
-IsNumbered i [] = Unit {0}
-IsNumbered i (e ∷ es) = (number_in e.frame ≡ sequence_number i) × IsNumbered (i + 1) es
+-- the sequence number of an entry
+abbrev pub number_of : Entry → ℕ
+number_of e = number_in e.frame
+
+-- a list carries the sequence numbers of place i, and so on (ARINC 664 Part 7, sequence numbers)
+abbrev pub IsNumbered : {F : Type 0} → (F → ℕ) → ℕ → List F → Type 0
+IsNumbered number i [] = Unit {0}
+IsNumbered number i (x ∷ xs) = (number x ≡ sequence_number i) × IsNumbered number (i + 1) xs
 
 -- a list begins another
-abbrev pub IsPrefixOf : List (List ℕ) → List (List ℕ) → Type 0
-IsPrefixOf xs ys = (rest : List (List ℕ)) × (xs ++ rest ≡ ys)
+abbrev pub IsPrefixOf : {F : Type 0} → List F → List F → Type 0
+IsPrefixOf {F} xs ys = (rest : List F) × (xs ++ rest ≡ ys)

@@ -1,7 +1,6 @@
 -- From the log to the two handed lists.
 use Rattle.std.proofs.Common.{ℕ, ◌≡◌, ◌+◌, ◌<◌, ◌≤◌, List, [], ◌∷◌, ◌++◌, Bool, true, false, cond, length, map, take, drop, eqb, arith, refl, ap, ◌∙◌, sym, subst, ⊎_elim, Option, Some, None}
 use Rattle.std.proofs.lemmas.List.{map-append, append_assoc, take-append-drop, take-map}
-use Rattle.std.proofs.lemmas.List.Elements.{filter-append}
 use Rattle.std.specs.Prelude.{filter}
 use Rattle.afdx_config.specs.declared.link_plan.LinkPlan.{LinkPlan}
 use Rattle.afdx_config.specs.Config.{Plan, link_plan_at}
@@ -9,14 +8,16 @@ use Rattle.afdx_config.specs.Plan.{bag_micros}
 use Rattle.afdx_config.specs.Room.{room_of}
 use Rattle.afdx_frame.specs.declared.net.Net.{Net}
 use Rattle.afdx_frame.specs.declared.net.Net.TheVariants.{A, B}
+use Rattle.afdx_frame.specs.Header.{link_in, sub_in}
 use Rattle.afdx_frame.specs.Twin.{twin_of}
 use Rattle.afdx_frame.specs.Fragments.{Sent, blanked, fragments}
 use Rattle.afdx_frame.proofs.Twins.{twin_link, twin_sub, twin_number, twin_interface, twin_blanked, twin_fragments, length-twin}
 use Rattle.redundant_mux.specs.Entry.{Entry}
 use Rattle.redundant_mux.specs.Lines.{Lines, side, log, Keeps, Mirrors, IsMirrored}
 use Rattle.vl_shaper.specs.declared.shaper.Stamp.{Stamp}
-use Rattle.afdx_legal.specs.Streams.{on_link, on_sub, link_stream, sub_stream, told, told_of, stamp_of, IsNumbered, IsSpaced, IsPrefixOf}
+use Rattle.afdx_legal.specs.Streams.{link_stream, sub_stream, told, told_of, stamp_of, number_of, IsNumbered, IsSpaced, IsPrefixOf}
 use Rattle.afdx_legal.specs.Legal.{Accepted, AreKnown, IsLegalOn, AreTwins, IsLegal}
+use Rattle.afdx_legal.proofs.LongerStream.{with_append}
 use Rattle.redundant_mux.proofs.MirroredLines.{all_of, sides}
 
 -- the entries of a list have whole frames
@@ -52,14 +53,18 @@ filter_side net p h (e ∷ es) =
     ap (λ b. cond b (side net e ∷ filter p (map (side net) es)) (filter p (map (side net) es))) (h e)
     ∙ filter_both net (p e) e (filter p (map (side net) es)) (filter p es) (filter_side net p h es)
 
+-- a link's entries in two lists
+link_append : (vl : ℕ) (xs ys : List Entry) → link_stream vl (xs ++ ys) ≡ link_stream vl xs ++ link_stream vl ys
+link_append vl xs ys = with_append (λ (e : Entry). link_in e.frame) vl xs ys
+
 -- the stream of a link, turned to a network
 link_side : (net : Net) (vl : ℕ) (H : List Entry)
     → link_stream vl (map (side net) H) ≡ map (side net) (link_stream vl H)
-link_side net vl H = filter_side net (on_link vl) (λ e. ap (λ l. eqb l vl) (twin_link net e.frame)) H
+link_side net vl H = filter_side net (λ e. eqb (link_in e.frame) vl) (λ e. ap (λ l. eqb l vl) (twin_link net e.frame)) H
 
 -- the stream of a sub-VL, turned to a network
 sub_side : (net : Net) (s : ℕ) (H : List Entry) → sub_stream s (map (side net) H) ≡ map (side net) (sub_stream s H)
-sub_side net s H = filter_side net (on_sub s) (λ e. ap (λ l. eqb l s) (twin_sub net e.frame)) H
+sub_side net s H = filter_side net (λ e. eqb (sub_in e.frame) s) (λ e. ap (λ l. eqb l s) (twin_sub net e.frame)) H
 
 -- the fragments that a stream shows, turned to a network
 told_side : (net : Net) (T : List Entry) → told (map (side net) T) ≡ map (twin_of net) (told T)
@@ -69,8 +74,8 @@ told_side net (e ∷ es) =
     ∙ ap (λ x. twin_of net (blanked e.frame) ∷ x) (told_side net es)
 
 -- the front of a numbered stream, turned to a network, is numbered
-numbered_side : (net : Net) (i : ℕ) (xs ys : List Entry) → AreLong (xs ++ ys) → IsNumbered i (xs ++ ys)
-    → IsNumbered i (map (side net) xs)
+numbered_side : (net : Net) (i : ℕ) (xs ys : List Entry) → AreLong (xs ++ ys) → IsNumbered number_of i (xs ++ ys)
+    → IsNumbered number_of i (map (side net) xs)
 numbered_side net i [] ys long h = tt
 numbered_side net i (x ∷ xs) ys long h = (twin_number net x.frame long.0 ∙ h.0, numbered_side net (i + 1) xs ys long.1 h.1)
 
@@ -106,7 +111,7 @@ pub record IsLogLegal (plan : Plan) (accepted : Accepted) (H : List Entry) : Typ
   pub prefixes : (k s : ℕ) → k < length plan.links → s < (link_plan_at plan.links k).sub_vls
       → IsPrefixOf (told_of (link_plan_at plan.links k).id.0 s H)
       (fragments plan.end_system (room_of (link_plan_at plan.links k).lmax) A (accepted k s))
-  pub numbered : (k : ℕ) → k < length plan.links → IsNumbered 0 (link_stream (link_plan_at plan.links k).id.0 H)
+  pub numbered : (k : ℕ) → k < length plan.links → IsNumbered number_of 0 (link_stream (link_plan_at plan.links k).id.0 H)
   pub spaced : (k : ℕ) → k < length plan.links
       → IsSpaced (bag_micros (link_plan_at plan.links k).bag) None (link_stream (link_plan_at plan.links k).id.0 H)
 
@@ -118,7 +123,7 @@ prefix_side net vl s end_system room messages xs ys p =
     let T = sub_stream s (link_stream vl xs) in
     let U = sub_stream s (link_stream vl ys) in
     let cut : sub_stream s (link_stream vl (xs ++ ys)) ≡ sub_stream s (link_stream vl xs) ++ sub_stream s (link_stream vl ys) =
-    ap (sub_stream s) (filter-append (on_link vl) xs ys) ∙ filter-append (on_sub s) _ _ in
+    ap (sub_stream s) (link_append vl xs ys) ∙ with_append (λ (e : Entry). sub_in e.frame) s _ _ in
     let whole : told T ++ (told U ++ p.0) ≡ fragments end_system room A messages =
     sym (append_assoc (told T) (told U) p.0)
     ∙ ap (λ x. x ++ p.0) (sym (map-append (λ (e : Entry). blanked e.frame) T U) ∙ ap told (sym cut)) ∙ p.1 in
@@ -142,17 +147,17 @@ legal_front plan accepted net xs ys l =
           (room_of (link_plan_at plan.links k).lmax) (accepted k s) xs ys (l.prefixes k s klt slt);
       numbered = λ k klt.
           let vl = (link_plan_at plan.links k).id.0 in
-          let cut = filter-append (on_link vl) xs ys in
-          subst (IsNumbered 0) (sym (link_side net vl xs))
+          let cut = link_append vl xs ys in
+          subst (IsNumbered number_of 0) (sym (link_side net vl xs))
           (numbered_side net 0 (link_stream vl xs) (link_stream vl ys)
-          (subst AreLong cut (filter_long (on_link vl) (xs ++ ys) long))
-          (subst (IsNumbered 0) cut (l.numbered k klt)));
+          (subst AreLong cut (filter_long (λ e. eqb (link_in e.frame) vl) (xs ++ ys) long))
+          (subst (IsNumbered number_of 0) cut (l.numbered k klt)));
       spaced = λ k klt.
           let vl = (link_plan_at plan.links k).id.0 in
           let gap = bag_micros (link_plan_at plan.links k).bag in
           subst (IsSpaced gap None) (sym (link_side net vl xs))
           (spaced_side net gap None (link_stream vl xs) (link_stream vl ys)
-          (subst (IsSpaced gap None) (filter-append (on_link vl) xs ys) (l.spaced k klt)));
+          (subst (IsSpaced gap None) (link_append vl xs ys) (l.spaced k klt)));
     }
 
 -- a list that keeps a legal log is legal
@@ -164,7 +169,7 @@ legal_keeps plan accepted net stands h H k l =
     (subst (IsLogLegal plan accepted) (sym (take-append-drop (length h) H)) l))
 
 -- two lists that mirror one log are twins
-twins_of : (H : List Entry) (lines : Lines) → Mirrors H lines → AreTwins lines.a lines.b
+twins_of : (H : List Entry) (lines : Lines) → Mirrors H lines → AreTwins side lines.a lines.b
 twins_of H lines m =
     let w = m.first.within in
     let v = m.second.within in

@@ -1,15 +1,15 @@
 -- The regulation of a link after a frame.
 use Rattle.std.proofs.Common.{ℕ, ◌≡◌, ◌≢◌, ◌+◌, List, [], ◌∷◌, ◌++◌, length, ap, ◌∙◌, sym, Option, Some, None}
 use Rattle.std.proofs.lemmas.List.{length_push}
-use Rattle.std.proofs.lemmas.Bool.{eq-eqb, ne_eqb}
 use Rattle.afdx_config.specs.Numbers.{sequence_number}
+use Rattle.afdx_frame.specs.Header.{link_in}
 use Rattle.redundant_mux.specs.Entry.{Entry, entry}
 use Rattle.redundant_mux.specs.Lines.{Lines, log}
 use Rattle.vl_shaper.specs.declared.shaper.Stamp.{Stamp}
 use Rattle.vl_shaper.specs.Pace.{Pace}
-use Rattle.afdx_legal.specs.Streams.{stamp_of, latest, on_link, link_stream}
+use Rattle.afdx_legal.specs.Streams.{stamp_of, latest, link_stream}
 use Rattle.vl_link.specs.Links.{Held, pace_of, Releases}
-use Rattle.afdx_legal.proofs.LongerStream.{latest_push, filter_push_in, filter_push_out}
+use Rattle.afdx_legal.proofs.LongerStream.{latest_push, with_push_in, with_push_out}
 
 -- a regulation is where a stream is by its last release and its next number
 pace_is : (pace : Pace) (stream : List Entry) → pace.last ≡ latest None stream
@@ -23,7 +23,7 @@ pub stream_more : (vl now number : ℕ) (old new : Held) (lines after : Lines)
     → (r : Releases now number old new lines after) → old.of.link.id.0 ≡ vl
     → link_stream vl (log after) ≡ link_stream vl (log lines) ++ entry now r.frame ∷ []
 stream_more vl now number old new lines after r own =
-    ap (link_stream vl) r.enters ∙ filter_push_in (on_link vl) (log lines) (entry now r.frame) (eq-eqb _ _ (r.of.link ∙ own))
+    ap (link_stream vl) r.enters ∙ with_push_in (λ (e : Entry). link_in e.frame) vl (log lines) (entry now r.frame) (r.of.link ∙ own)
 
 -- another link's stream hasn't
 pub stream_same : (vl now number : ℕ) (old new : Held) (lines after : Lines)
@@ -31,7 +31,7 @@ pub stream_same : (vl now number : ℕ) (old new : Held) (lines after : Lines)
     → link_stream vl (log after) ≡ link_stream vl (log lines)
 stream_same vl now number old new lines after r other =
     ap (link_stream vl) r.enters
-    ∙ filter_push_out (on_link vl) (log lines) (entry now r.frame) (ne_eqb _ _ (λ e. other (sym r.of.link ∙ e)))
+    ∙ with_push_out (λ (e : Entry). link_in e.frame) vl (log lines) (entry now r.frame) (λ e. other (sym r.of.link ∙ e))
 
 -- the shaper that noted the frame is where the stream is
 pub follows_more : (vl now number : ℕ) (old_pace new_pace : Pace) (old new : Held) (lines after : Lines)
