@@ -10,7 +10,7 @@ use Rattle.afdx_frame.specs.declared.net.Net.{Net}
 use Rattle.afdx_frame.specs.declared.net.Net.TheVariants.{A, B}
 use Rattle.afdx_frame.specs.Fragments.{fragments}
 use Rattle.redundant_mux.specs.Entry.{Entry}
-use Rattle.vl_link.specs.Seen.{Seen, receiving, gathered, IsGathered, IsSameQueue}
+use Rattle.vl_link.specs.Seen.{Seen, receiving, gathered, IsKnownWhole, IsSameQueue}
 use Rattle.afdx_legal.specs.Streams.{told_of, IsPrefixOf}
 use Rattle.afdx_legal.specs.Legal.{IsLegalOn, IsLegal}
 use Rattle.vl_link.specs.Links.{Held, LinkState, held_at, link_at, nothing_held, no_link, sent_by, IsSameSub}
@@ -20,27 +20,27 @@ use Rattle.vl_link.specs.Seen.{known_of}
 use Rattle.afdx_tx.proofs.OwedFragments.{owed_split, untaken}
 
 -- the same queue is still gathered
-still_gathered : (old new : Seen) → IsGathered old → IsSameQueue old new → IsGathered new
+still_gathered : (old new : Seen) → IsKnownWhole old → IsSameQueue old new → IsKnownWhole new
 still_gathered (receiving r) new g e = absurd g
 still_gathered (gathered q) (gathered h) g e = tt
 still_gathered (gathered q) (receiving s) g e = absurd e
 
 -- and the same was accepted into it
-same_known : (old new : Seen) → IsGathered old → IsSameQueue old new → known_of new ≡ known_of old
+same_known : (old new : Seen) → IsKnownWhole old → IsSameQueue old new → known_of new ≡ known_of old
 same_known (receiving r) new g e = absurd g
 same_known (gathered q) (gathered h) g e = e.1
 same_known (gathered q) (receiving s) g e = absurd e
 
 -- a sub-VL behind the last has no queue
-gathered_past : (links : List LinkState) (k s : ℕ) → AreGathered links → IsGathered (held_at (link_at links k).subs s).seen
+gathered_past : (links : List LinkState) (k s : ℕ) → AreGathered links → IsKnownWhole (held_at (link_at links k).subs s).seen
 gathered_past links k s g = ⊎_elim
     (λ (lt : k < length links). ⊎_elim
     (λ (slt : s < length (link_at links k).subs). g k s lt slt)
     (λ (ge : length (link_at links k).subs ≤ s).
-    subst (λ (h : Held). IsGathered h.seen) (sym (get_or_past (link_at links k).subs s nothing_held ge)) tt)
+    subst (λ (h : Held). IsKnownWhole h.seen) (sym (get_or_past (link_at links k).subs s nothing_held ge)) tt)
     (cases_lt s (length (link_at links k).subs)))
     (λ (ge : length links ≤ k).
-    subst (λ (l : LinkState). IsGathered (held_at l.subs s).seen) (sym (get_or_past links k no_link ge)) tt)
+    subst (λ (l : LinkState). IsKnownWhole (held_at l.subs s).seen) (sym (get_or_past links k no_link ge)) tt)
     (cases_lt k (length links))
 
 -- each sub-VL is the same, whatever its link
@@ -56,7 +56,7 @@ gathered_still old new p g k s lt slt =
     (gathered_past old k s g) (same_sub old new p k s o).queue
 
 -- the accepted list of a sub-VL is the same
-same_accepted : (old new : Held) → IsGathered old.seen → IsSameSub old new → accepted_by new ≡ accepted_by old
+same_accepted : (old new : Held) → IsKnownWhole old.seen → IsSameSub old new → accepted_by new ≡ accepted_by old
 same_accepted old new g e =
     ap (λ (ports : List PortPlan). sent_by ports (known_of new.seen)) e.ports
     ∙ ap (sent_by old.ports) (same_known old.seen new.seen g e.queue)

@@ -16,12 +16,12 @@ use Rattle.vl_shaper.specs.Pace.{Pace, turn_of}
 use Rattle.vl_link.specs.declared.served.Served.{Served}
 use Rattle.vl_link.specs.declared.served.Served.TheVariants.{Nothing, Released, Lost}
 use Rattle.vl_link.specs.declared.sub_vl.SubVl.{SubVl}
-use Rattle.vl_link.specs.Seen.{IsGathered}
+use Rattle.vl_link.specs.Seen.{IsKnownWhole}
 use Rattle.afdx_legal.specs.Streams.{link_stream}
 use Rattle.afdx_legal.specs.Legal.{Accepted}
 use Rattle.vl_link.specs.Links.{Held, LinkState, held_at, link_at, no_link, IsChoice, PassedOver, Asks, Picks, Serves, pace_of}
 use Rattle.afdx_tx.specs.Run.{IsTurn, IsRun, IsCutShort}
-use Rattle.afdx_tx.specs.Emitter.{AreLinksOf, plans, plan_of}
+use Rattle.afdx_tx.specs.Emitter.{AreLinksOf, plans, plan_of_link}
 use Rattle.afdx_tx.specs.Drain.{AreGathered, accepted_in, pace_in, IsLinkDone, IsNext, Drains, AreDrained, IsDrained, IsDrainCutShort}
 use Rattle.vl_link.proofs.LinkTurn.{IsOwn}
 use Rattle.afdx_tx.proofs.SoundEmitter.{plan_is, count_is}
@@ -137,7 +137,7 @@ pace_is link log own =
 
 -- the accepted messages of a link are known whole
 abbrev pub IsLinkGathered : LinkState → Type 0
-IsLinkGathered link = (s : ℕ) → s < length link.subs → IsGathered (held_at link.subs s).seen
+IsLinkGathered link = (s : ℕ) → s < length link.subs → IsKnownWhole (held_at link.subs s).seen
 
 -- one turn of a link
 drain_turn : (now end_system : ℕ) (link new : LinkState) (lines after : Lines) (did : Served)
@@ -239,7 +239,7 @@ cut_drained now config links news lines after of g c =
       within = omega (arith, c.within, count_is config links of);
       mid = c.mid;
       run = subst (λ (ps : List LinkPlan). AreDrained now config.end_system ps (accepted_in links) lines c.mid)
-          (sym (take-map plan_of c.at links) ∙ ap (take c.at) of.each_plan) front;
+          (sym (take-map plan_of_link c.at links) ∙ ap (take c.at) of.each_plan) front;
       turn = subst (λ (p : LinkPlan). Drains now config.end_system p (lists_of (link_at links c.at).subs) c.mid after Lost)
           (sym (plan_is config links of c.at c.within))
           (drain_turn now config.end_system (link_at links c.at) (link_at news c.at) c.mid after Lost

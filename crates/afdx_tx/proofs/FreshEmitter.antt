@@ -17,14 +17,14 @@ use Rattle.vl_shaper.specs.declared.shaper.Stamp.{Stamp}
 use Rattle.afdx_legal.specs.Legal.{AreKnown}
 use Rattle.vl_link.specs.declared.sub_vl.SubVl.{SubVl}
 use Rattle.vl_link.specs.Seen.{Seen, taken_of}
-use Rattle.vl_link.specs.Links.{Held, LinkState, link_at, no_link, held_at, no_link_plan, IsLink, sub_fragments, sent_by, taken_by}
+use Rattle.vl_link.specs.Links.{Held, LinkState, link_at, no_link, held_at, no_link_plan, IsLinkOfPlan, sub_fragments, sent_by, taken_by}
 use Rattle.afdx_tx.specs.Emitter.{IsFreshSub, IsFreshLink, AreFreshLinks, AreLinksOf, plans, ports_of_sub, IsSound}
 use Rattle.vl_link.specs.Kept.{IsKept, IsTied}
 use Rattle.afdx_tx.proofs.PollTurns.{plan_at_is, plans_length}
 
 -- the sub-VLs of a fresh link are those of its plan
 fresh_own : (own : ℕ) (ports : List PortPlan) (plan : LinkPlan) (link : LinkState) → IsFreshLink own ports plan link
-    → IsLink link.end_system link.plan link.pace link.subs
+    → IsLinkOfPlan link.end_system link.plan link.pace link.subs
 fresh_own own ports plan link f =
     let pace = f.pace in
     let many : link.pace.sub_vls ≡ plan.sub_vls = ap (λ (p : Pace). p.sub_vls) pace in

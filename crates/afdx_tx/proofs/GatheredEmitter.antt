@@ -14,7 +14,7 @@ use Rattle.vl_shaper.specs.Pace.{IsLater}
 use Rattle.subvl_queue.specs.Views.{SenderView}
 use Rattle.vl_link.specs.Seen.{Seen, receiving, gathered, taken_of}
 use Rattle.afdx_legal.specs.Streams.{told, link_stream, sub_stream, told_of, IsPrefixOf}
-use Rattle.vl_link.specs.Links.{Held, LinkState, held_at, link_at, no_link_plan, IsLink, sent_by, taken_by, sub_fragments}
+use Rattle.vl_link.specs.Links.{Held, LinkState, held_at, link_at, no_link_plan, IsLinkOfPlan, sent_by, taken_by, sub_fragments}
 use Rattle.afdx_tx.specs.Emitter.{plans, AreLinks, AreLinksOf, AreReceiving, IsSound, ports_of_sub, queues_in}
 use Rattle.vl_link.specs.Kept.{IsKept, IsTied, IsBehind}
 use Rattle.vl_link.specs.Room.{RoomView}
@@ -70,9 +70,9 @@ behind_same old senders new stream g b =
 
 -- a link keeps what its fields keep
 own_same : (old : LinkState) (rooms : List RoomView) (new : LinkState) → GathersLink old rooms new
-    → IsLink old.end_system old.plan old.pace old.subs → IsLink new.end_system new.plan new.pace new.subs
+    → IsLinkOfPlan old.end_system old.plan old.pace old.subs → IsLinkOfPlan new.end_system new.plan new.pace new.subs
 own_same old rooms new g own =
-    subst (λ (l : LinkState). IsLink l.end_system l.plan l.pace l.subs) (sym g.same)
+    subst (λ (l : LinkState). IsLinkOfPlan l.end_system l.plan l.pace l.subs) (sym g.same)
     (record {
       count = g.subs.count ∙ own.count;
       sub_vls = own.sub_vls;
@@ -83,7 +83,7 @@ own_same old rooms new g own =
 
 -- and what it keeps of a log
 kept_same : (old : LinkState) (rooms : List RoomView) (new : LinkState) (log : List Entry) → GathersLink old rooms new
-    → IsLink old.end_system old.plan old.pace old.subs → IsKept old log → IsKept new log
+    → IsLinkOfPlan old.end_system old.plan old.pace old.subs → IsKept old log → IsKept new log
 kept_same old rooms new log g own kept =
     let within : (s : ℕ) → s < old.plan.sub_vls → s < length old.subs =
     λ s lt. let count = own.count in let vls = own.sub_vls in omega arith in

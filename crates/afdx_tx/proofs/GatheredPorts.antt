@@ -11,7 +11,7 @@ use Rattle.subvl_queue.specs.Messages.{part_of}
 use Rattle.subvl_queue.specs.Views.{SenderView}
 use Rattle.vl_link.specs.Links.{LinkState, held_at, link_at, no_link_plan}
 use Rattle.afdx_tx.specs.Emitter.{Tx, queues_in}
-use Rattle.afdx_tx.specs.Sending.{link_of}
+use Rattle.afdx_tx.specs.Sending.{link_place}
 use Rattle.vl_link.specs.Seen.{known_of}
 use Rattle.afdx_tx.specs.Ports.{PortView, BelongsTo, AreOpenedWith, index_of}
 use Rattle.vl_link.specs.Room.{RoomView}
@@ -22,7 +22,7 @@ use Rattle.afdx_tx.proofs.PortLink.{found, found_over}
 
 -- the link of a port is one of the plan, and the port sends over it
 pub link_within : (plan : Plan) (port : PortPlan) → IsPlan plan → HasLink plan.links port
-    → (link_of plan port < length plan.links) × SendsOver port (link_plan_at plan.links (link_of plan port))
+    → (link_place plan port < length plan.links) × SendsOver port (link_plan_at plan.links (link_place plan port))
 link_within plan port valid has = at (position (λ (link : LinkPlan). link.id.0 == port.vl.0) plan.links) refl
   where
     at : (r : Option ℕ) → position (λ (link : LinkPlan). link.id.0 == port.vl.0) plan.links ≡ r
@@ -49,12 +49,12 @@ pub own_part : (tx new : Tx) (ports : List PortView) (rooms : List (List RoomVie
     → place < length tx.plan.ports → HasSeat tx.plan ports rooms place → HasOwnPart new ports place
 own_part tx new ports rooms place valid shape g same opened lt seat =
     let port = port_plan_at tx.plan.ports place in
-    let k = link_of tx.plan port in
+    let k = link_place tx.plan port in
     let s = port.sub in
     let linked = link_within tx.plan port valid (valid.linked place _ lt) in
-    let link : link_of tx.plan (port_plan_at tx.plan.ports place) < length tx.links =
+    let link : link_place tx.plan (port_plan_at tx.plan.ports place) < length tx.links =
     let below = linked.0 in omega (arith, shape.count) in
-    let sub : (port_plan_at tx.plan.ports place).sub < length (link_at tx.links (link_of tx.plan (port_plan_at tx.plan.ports place))).subs =
+    let sub : (port_plan_at tx.plan.ports place).sub < length (link_at tx.links (link_place tx.plan (port_plan_at tx.plan.ports place))).subs =
     let below = linked.1.sub in omega (arith, shape.subs k linked.0) in
     let gathered = (g.each k link).subs.each s sub in
     let senders = (room_at rooms k s).senders in
@@ -73,6 +73,6 @@ own_part tx new ports rooms place valid shape g same opened lt seat =
       inside = seat.inside;
       at = seat.at;
       part = subst (λ (config : Plan). part_of (index_of config.ports place)
-          (known_of (held_at (link_at new.links (link_of config (port_plan_at config.ports place))).subs
+          (known_of (held_at (link_at new.links (link_place config (port_plan_at config.ports place))).subs
           (port_plan_at config.ports place).sub).seen) ≡ seat.port.sender.own) (sym same) part;
     }

@@ -5,7 +5,7 @@ use Rattle.afdx_config.specs.declared.link_plan.LinkPlan.{LinkPlan}
 use Rattle.redundant_mux.specs.Entry.{Entry}
 use Rattle.redundant_mux.specs.Lines.{Lines, log}
 use Rattle.vl_link.specs.declared.sub_vl.SubVl.{SubVl}
-use Rattle.vl_link.specs.Seen.{Seen, receiving, gathered, IsGathered, TellsDrained}
+use Rattle.vl_link.specs.Seen.{Seen, receiving, gathered, IsKnownWhole, TellsDrained}
 use Rattle.vl_link.specs.Links.{Held, LinkState, held_at, link_at, sub_fragments, taken_by}
 use Rattle.vl_link.specs.Kept.{IsKept}
 use Rattle.afdx_tx.specs.Emitter.{IsSound}
@@ -38,7 +38,7 @@ link_done link log own kept g d s lt =
     (stands_of link log s own (kept.tied d.0) within (g s within)) (d.1 s within)
 
 -- a queue that isn't drained has a next message
-next_of_rest : (seen : Seen) → IsGathered seen → TellsDrained false seen
+next_of_rest : (seen : Seen) → IsKnownWhole seen → TellsDrained false seen
     → (message : ℕ × List ℕ) × (more : List (ℕ × List ℕ)) × (rest_of seen ≡ message ∷ more)
 next_of_rest (receiving r) g d = absurd g
 next_of_rest (gathered q) g d = first q.left d

@@ -8,7 +8,7 @@ use Rattle.afdx_frame.specs.declared.net.Net.TheVariants.{A}
 use Rattle.afdx_frame.specs.Fragments.{Sent, fragments, fragments_at, fragments_from}
 use Rattle.redundant_mux.specs.Entry.{Entry}
 use Rattle.vl_link.specs.declared.sub_vl.SubVl.{SubVl}
-use Rattle.vl_link.specs.Seen.{Seen, receiving, gathered, taken_of, FindsNothing, Finds, IsGathered}
+use Rattle.vl_link.specs.Seen.{Seen, receiving, gathered, taken_of, FindsNothing, Finds, IsKnownWhole}
 use Rattle.afdx_legal.specs.Streams.{told_of}
 use Rattle.vl_link.specs.Links.{Held, LinkState, held_at, GoesOn, Starts, Asks, sent_of, sent_by, taken_by, sub_fragments}
 use Rattle.vl_link.specs.Kept.{IsLinkTied}
@@ -28,12 +28,12 @@ known_rest (receiving r) = sym (append-nil r.taken)
 known_rest (gathered g) = refl
 
 -- where nothing was found, nothing is left
-rest_none : (old new : Seen) → IsGathered old → FindsNothing old new → rest_of old ≡ []
+rest_none : (old new : Seen) → IsKnownWhole old → FindsNothing old new → rest_of old ≡ []
 rest_none (receiving r) new g f = absurd g
 rest_none (gathered q) new g f = f.0
 
 -- what was found is the next that is left
-rest_next : (old : Seen) (message : ℕ × List ℕ) (new : Seen) → IsGathered old → Finds old message new
+rest_next : (old : Seen) (message : ℕ × List ℕ) (new : Seen) → IsKnownWhole old → Finds old message new
     → (more : List (ℕ × List ℕ)) × (rest_of old ≡ message ∷ more)
 rest_next (receiving r) message new g f = absurd g
 rest_next (gathered q) message new g f = (f.0, f.1)
@@ -73,11 +73,11 @@ left_nil (x ∷ xs) ys e = absurd (let k : x ∷ (xs ++ ys) ≡ [] = e in cc)
 -- a sub-VL of a link where its stream is, whose accepted messages are known whole
 pub record Stands (end_system : ℕ) (link : LinkPlan) (log : List Entry) (s : ℕ) (held : Held) : Type 0 where
   pub taken : fragments end_system (room_of link.lmax) A (taken_by held) ≡ told_of link.id.0 s log ++ held.left
-  pub seen : IsGathered held.seen
+  pub seen : IsKnownWhole held.seen
 
 -- each sub-VL of a tied link is
 pub stands_of : (link : LinkState) (log : List Entry) (s : ℕ) → IsOwn link → IsLinkTied link log
-    → s < length link.subs → IsGathered (held_at link.subs s).seen
+    → s < length link.subs → IsKnownWhole (held_at link.subs s).seen
     → Stands link.end_system link.plan log s (held_at link.subs s)
 stands_of link log s own tied lt g =
     let within : s < link.plan.sub_vls = omega (arith, own.count, own.sub_vls) in

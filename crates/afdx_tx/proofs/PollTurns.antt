@@ -14,7 +14,7 @@ use Rattle.vl_link.specs.declared.served.Served.TheVariants.{Nothing, Released, 
 use Rattle.afdx_legal.specs.Legal.{IsKnown, AreKnown}
 use Rattle.vl_link.specs.Links.{LinkState, link_at, held_at, no_link, no_link_plan, Serves, Follows, IsSameLink, is_lost}
 use Rattle.afdx_tx.specs.Run.{IsTurn, IsRun, IsCutShort}
-use Rattle.afdx_tx.specs.Emitter.{plan_of, plans, AreApart, AreServedBy, AreWhole, IsSamePlan}
+use Rattle.afdx_tx.specs.Emitter.{plan_of_link, plans, AreApart, AreServedBy, AreWhole, IsSamePlan}
 use Rattle.vl_link.specs.Kept.{IsKept}
 use Rattle.afdx_tx.specs.Serving.{IsSteady, IsServing}
 use Rattle.vl_link.proofs.LinkTurn.{Turned, IsOwn, link_turn, kept_turn, other_stream, kept_stream, released_known, picked_of}
@@ -117,11 +117,11 @@ known_push links (x ∷ xs) e h k = (h.0, known_push links xs e h.1 k)
 -- the plan at a place is that of the link there
 pub plan_at_is : (links : List LinkState) (k : ℕ) → k < length links
     → link_plan_at (plans links) k ≡ (link_at links k).plan
-plan_at_is links k lt = get_or-map plan_of links k no_link no_link_plan lt
+plan_at_is links k lt = get_or-map plan_of_link links k no_link no_link_plan lt
 
 -- there are as many plans as links
 pub plans_length : (links : List LinkState) → length (plans links) ≡ length links
-plans_length links = length-map links plan_of
+plans_length links = length-map links plan_of_link
 
 -- what was handed over is known after a turn
 known_after : (now i : ℕ) (old : List LinkState) (did : Served) (links : List LinkState) (new : LinkState) (lines after : Lines)

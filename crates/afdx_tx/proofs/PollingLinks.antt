@@ -11,7 +11,7 @@ use Rattle.vl_link.proofs.LinkTurn.{Turned}
 use Rattle.vl_link.proofs.SubInStep.{same_sub_here}
 use Rattle.afdx_tx.specs.declared.report.Release.{Release}
 use Rattle.afdx_tx.specs.Emitter.{AreApart}
-use Rattle.afdx_tx.specs.Report.{released_by}
+use Rattle.afdx_tx.specs.Report.{turn_release}
 use Rattle.afdx_tx.specs.Serving.{IsPolling}
 use Rattle.afdx_tx.proofs.PollTurns.{serving_more}
 use Rattle.afdx_tx.proofs.ToldReleases.{told_more, few_released}
@@ -21,7 +21,7 @@ pub polling_more : (now i : ℕ) (old links : List LinkState) (before lines afte
     (released : List Release) → IsPolling now i old links before lines released → AreApart old → i < length links
     → Turned now (link_at links i) new lines after did → is_lost did ≡ false → IsLater new.pace.last now
     → IsPolling now (i + 1) old (set links i new) before after
-    (released ++ released_by (link_at links i).plan.id did)
+    (released ++ turn_release (link_at links i).plan.id did)
 polling_more now i old links before lines after new did released p apart lt turned kept later =
     let s = p.serving in
     record {

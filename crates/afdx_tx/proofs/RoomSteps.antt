@@ -11,7 +11,7 @@ use Rattle.afdx_config.specs.Plan.{SendsOver}
 use Rattle.subvl_queue.specs.Views.{QueueName, SenderView}
 use Rattle.afdx_tx.specs.Emitter.{ports_of_sub}
 use Rattle.afdx_tx.specs.Ports.{index_of, queue_at, IsFreshSender, IsFreshPort}
-use Rattle.afdx_tx.specs.Sending.{link_of}
+use Rattle.afdx_tx.specs.Sending.{link_place}
 use Rattle.vl_link.specs.Room.{RoomView}
 use Rattle.vl_link.specs.Room.{no_room, room_in}
 use Rattle.afdx_tx.specs.Rooms.{rooms_of, room_at, Holds, AreRooms, fresh_for}
@@ -277,7 +277,7 @@ has_place config rooms place k s P at are =
 
 -- the port at a place, with the sender that was taken for it
 pub fresh_port : (config : Plan) (queues : List (List (Option QueueName))) (place k s : ℕ) (plan : PortPlan) (x : SenderView)
-    → plan ≡ port_plan_at config.ports place → k ≡ link_of config plan → s ≡ plan.sub
+    → plan ≡ port_plan_at config.ports place → k ≡ link_place config plan → s ≡ plan.sub
     → fresh_for config queues k s (index_of config.ports place) x
     → IsFreshPort config queues place (record { place = place; plan = plan; sender = x })
 fresh_port config queues place k s plan x is link sub fresh =

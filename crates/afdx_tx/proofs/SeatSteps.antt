@@ -8,7 +8,7 @@ use Rattle.std.proofs.lemmas.List.Sorted.{Contains-permutation, IsPermutation-sy
 use Rattle.afdx_config.specs.declared.port_plan.PortPlan.{PortPlan}
 use Rattle.afdx_config.specs.Config.{Plan, port_plan_at}
 use Rattle.subvl_queue.specs.Views.{QueueName, SenderView}
-use Rattle.afdx_tx.specs.Sending.{link_of}
+use Rattle.afdx_tx.specs.Sending.{link_place}
 use Rattle.afdx_tx.specs.Ports.{PortView, HasPlace, BelongsTo, queue_at, index_of}
 use Rattle.vl_link.specs.Room.{RoomView}
 use Rattle.vl_link.specs.Room.{room_in}
@@ -69,7 +69,7 @@ pub seat_kept : (config : Plan) (ports : List PortView) (rooms : List (List Room
     → (room_in own s).senders ≡ (room_at rooms k s).senders ++ x ∷ []
     → HasSeat config ports rooms place → HasSeat config ports (set rooms k own) place
 seat_kept config ports rooms k s own x place lt e put seat =
-    let m = link_of config (port_plan_at config.ports place) in
+    let m = link_place config (port_plan_at config.ports place) in
     let t = (port_plan_at config.ports place).sub in
     let more = grown rooms k s own x m t lt e put in
     let before = (room_at rooms m t).senders in
@@ -85,13 +85,13 @@ seat_kept config ports rooms k s own x place lt e put seat =
 
 -- the port whose sender is put last has its seat
 pub seat_new : (config : Plan) (ports : List PortView) (rooms : List (List RoomView)) (place k s : ℕ) (own : List RoomView)
-    (port : PortView) → k < length rooms → k ≡ link_of config (port_plan_at config.ports place)
+    (port : PortView) → k < length rooms → k ≡ link_place config (port_plan_at config.ports place)
     → s ≡ (port_plan_at config.ports place).sub
     → length (room_at rooms k s).senders ≡ index_of config.ports place
     → (room_in own s).senders ≡ (room_at rooms k s).senders ++ port.sender ∷ []
     → Contains ports port → port.place ≡ place → HasSeat config ports (set rooms k own) place
 seat_new config ports rooms place k s own port lt link sub many put inside at =
-    let here : (room_at (set rooms k own) (link_of config (port_plan_at config.ports place)) (port_plan_at config.ports place).sub).senders
+    let here : (room_at (set rooms k own) (link_place config (port_plan_at config.ports place)) (port_plan_at config.ports place).sub).senders
     ≡ (room_at rooms k s).senders ++ port.sender ∷ [] =
     ap (λ (n : ℕ). (room_at (set rooms k own) n (port_plan_at config.ports place).sub).senders) (sym link)
     ∙ ap (λ (n : ℕ). (room_at (set rooms k own) k n).senders) (sym sub)
@@ -108,15 +108,15 @@ seat_new config ports rooms place k s own port lt link sub many put inside at =
 -- the sender of a port belongs to the queue of its sub-VL, with its index
 pub sender_of : (config : Plan) (queues : List (List (Option QueueName))) (ports : List PortView) (place k s : ℕ)
     (port : PortView) → All (BelongsTo config queues) ports → Contains ports port → port.place ≡ place
-    → k ≡ link_of config (port_plan_at config.ports place) → s ≡ (port_plan_at config.ports place).sub
+    → k ≡ link_place config (port_plan_at config.ports place) → s ≡ (port_plan_at config.ports place).sub
     → IsSenderOf (queue_at queues k s) (index_of config.ports place) port.sender
 sender_of config queues ports place k s port all inside at link sub =
     let own = All-contains (BelongsTo config queues) ports port all inside in
     let plan : port.plan ≡ port_plan_at config.ports place =
     own.plan ∙ ap (λ (p : ℕ). port_plan_at config.ports p) at in
     record {
-      of = ap (λ (n : ℕ). queue_at queues n s) (link ∙ ap (link_of config) (sym plan))
-          ∙ ap (λ (n : ℕ). queue_at queues (link_of config port.plan) n) (sub ∙ ap (λ (p : PortPlan). p.sub) (sym plan))
+      of = ap (λ (n : ℕ). queue_at queues n s) (link ∙ ap (link_place config) (sym plan))
+          ∙ ap (λ (n : ℕ). queue_at queues (link_place config port.plan) n) (sub ∙ ap (λ (p : PortPlan). p.sub) (sym plan))
           ∙ own.queue;
       is = own.index ∙ ap (index_of config.ports) at;
     }

@@ -10,7 +10,7 @@ use Rattle.vl_link.specs.declared.served.Served.TheVariants.{Nothing, Released, 
 use Rattle.afdx_tx.specs.declared.report.Release.{Release}
 use Rattle.vl_link.specs.declared.sub_vl.SubVl.{SubVl}
 use Rattle.vl_link.specs.Links.{LinkState}
-use Rattle.afdx_tx.specs.Report.{release_of, released_by, IsTold}
+use Rattle.afdx_tx.specs.Report.{release_of, turn_release, IsTold}
 use Rattle.vl_link.proofs.LinkTurn.{Turned, IsOwn, picked_of}
 
 -- where nothing entered nothing more is told
@@ -22,7 +22,7 @@ told_same now rs before lines after e t =
 -- what one turn released is told behind the releases before it
 pub told_more : (now : ℕ) (did : Served) (link new : LinkState) (rs : List Release) (before lines after : Lines)
     → Turned now link new lines after did → IsOwn link → IsTold now rs before lines
-    → IsTold now (rs ++ released_by link.plan.id did) before after
+    → IsTold now (rs ++ turn_release link.plan.id did) before after
 told_more now Nothing link new rs before lines after t own h = told_same now rs before lines after (ap log t.serves.1) h
 told_more now (Released sub number) link new rs before lines after t own h =
     let r = t.serves.2.releases in
@@ -49,7 +49,7 @@ told_more now Lost link new rs before lines after t own h = told_same now rs bef
 
 -- one turn releases one frame at most
 pub few_released : (vl : VlId) (did : Served) (rs : List Release) (i : ℕ) → length rs ≤ i
-    → length (rs ++ released_by vl did) ≤ i + 1
+    → length (rs ++ turn_release vl did) ≤ i + 1
 few_released vl Nothing rs i h = omega (arith, length-append rs [])
 few_released vl (Released sub number) rs i h =
     omega (arith, length-append rs (record { vl = vl; sub = sub; number = number } ∷ []))

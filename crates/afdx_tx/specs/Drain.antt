@@ -13,7 +13,7 @@ use Rattle.redundant_mux.specs.Lines.{Lines, log, is_alive}
 use Rattle.vl_shaper.specs.Pace.{Pace, is_due, turn_of}
 use Rattle.vl_link.specs.declared.served.Served.{Served}
 use Rattle.vl_link.specs.declared.served.Served.TheVariants.{Nothing, Released, Lost}
-use Rattle.vl_link.specs.Seen.{IsGathered, known_of}
+use Rattle.vl_link.specs.Seen.{IsKnownWhole, known_of}
 use Rattle.afdx_legal.specs.Streams.{link_stream, told_of}
 use Rattle.afdx_legal.specs.Legal.{Accepted}
 use Rattle.vl_link.specs.Links.{Held, LinkState, held_at, link_at, sent_by, pace_of, is_lost}
@@ -21,7 +21,7 @@ use Rattle.vl_link.specs.Links.{Held, LinkState, held_at, link_at, sent_by, pace
 -- every queue is gathered
 abbrev pub AreGathered : List LinkState → Type 0
 AreGathered links = (k s : ℕ) → k < length links → s < length (link_at links k).subs
-    → IsGathered (held_at (link_at links k).subs s).seen
+    → IsKnownWhole (held_at (link_at links k).subs s).seen
 
 -- the accepted messages of a sub-VL
 abbrev pub accepted_by : Held → List Sent

@@ -13,7 +13,7 @@ use Rattle.subvl_queue.specs.Views.{QueueName, new_receiver}
 use Rattle.vl_link.specs.declared.sub_vl.SubVl.{SubVl}
 use Rattle.vl_link.specs.Seen.{receiving, queue_of, IsReceiving}
 use Rattle.afdx_legal.specs.Legal.{Accepted, AreKnown}
-use Rattle.vl_link.specs.Links.{Held, LinkState, held_at, link_at, taken_by, IsLink, IsSameLink}
+use Rattle.vl_link.specs.Links.{Held, LinkState, held_at, link_at, taken_by, IsLinkOfPlan, IsSameLink}
 use Rattle.vl_link.specs.Kept.{IsLinkTied, IsKept}
 
 -- An emitter: its plan, its links in the order of the plan, what was handed over, and the moment of
@@ -25,17 +25,17 @@ pub record Tx : Type 0 where
   pub moment : ℕ
 
 -- the plans of links
-abbrev pub plan_of : LinkState → LinkPlan
-plan_of link = link.plan
+abbrev pub plan_of_link : LinkState → LinkPlan
+plan_of_link link = link.plan
 
 -- the plans of the links, in their order
 abbrev pub plans : List LinkState → List LinkPlan
-plans links = map plan_of links
+plans links = map plan_of_link links
 
 -- each link keeps what its fields keep
 abbrev pub AreLinks : List LinkState → Type 0
 AreLinks links = (k : ℕ) → k < length links
-    → IsLink (link_at links k).end_system (link_at links k).plan
+    → IsLinkOfPlan (link_at links k).end_system (link_at links k).plan
     (link_at links k).pace (link_at links k).subs
 
 -- no two links have one identifier

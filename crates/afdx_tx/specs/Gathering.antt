@@ -7,7 +7,7 @@ use Rattle.subvl_queue.specs.Views.{SenderView}
 use Rattle.vl_link.specs.Seen.{known_of}
 use Rattle.vl_link.specs.Links.{Held, LinkState, held_at, link_at}
 use Rattle.afdx_tx.specs.Emitter.{Tx}
-use Rattle.afdx_tx.specs.Sending.{link_of}
+use Rattle.afdx_tx.specs.Sending.{link_place}
 use Rattle.afdx_tx.specs.Ports.{PortView, index_of}
 use Rattle.vl_link.specs.Room.{RoomView}
 use Rattle.afdx_tx.specs.Rooms.{rooms_of, room_at}
@@ -38,14 +38,14 @@ pub record HasSeat (config : Plan) (ports : List PortView) (rooms : List (List R
   pub inside : Contains ports port
   pub at : port.place ≡ place
   pub within : index_of config.ports place < length (room_at rooms
-      (link_of config (port_plan_at config.ports place)) (port_plan_at config.ports place).sub).senders
+      (link_place config (port_plan_at config.ports place)) (port_plan_at config.ports place).sub).senders
   pub sender : (d : SenderView) → slice_index_or (room_at rooms
-      (link_of config (port_plan_at config.ports place)) (port_plan_at config.ports place).sub).senders
+      (link_place config (port_plan_at config.ports place)) (port_plan_at config.ports place).sub).senders
       (index_of config.ports place) d ≡ port.sender
 
 -- the sub-VL of a port
 abbrev pub held_for : Tx → PortPlan → Held
-held_for tx port = held_at (link_at tx.links (link_of tx.plan port)).subs port.sub
+held_for tx port = held_at (link_at tx.links (link_place tx.plan port)).subs port.sub
 
 -- The port at a place is in a list, and what its sub-VL accepted of it is the port's own list.
 pub record HasOwnPart (tx : Tx) (ports : List PortView) (place : ℕ) : Type 0 where

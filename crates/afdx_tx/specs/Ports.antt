@@ -8,7 +8,7 @@ use Rattle.subvl_queue.specs.declared.refused.Why.{Why}
 use Rattle.subvl_queue.specs.declared.refused.Why.TheVariants.{Closed as QueueClosed, Exhausted as QueueExhausted, Full as QueueFull}
 use Rattle.afdx_tx.specs.declared.fault.Refusal.{Refusal}
 use Rattle.afdx_tx.specs.declared.fault.Refusal.TheVariants.{Empty, TooLong, Closed, Exhausted, Full}
-use Rattle.afdx_tx.specs.Sending.{link_of}
+use Rattle.afdx_tx.specs.Sending.{link_place}
 use Rattle.afdx_tx.specs.Emitter.{Tx, queues_in, ports_of_sub}
 
 -- A port: its place in the configuration, what the configuration says of it, and its sender.
@@ -51,7 +51,7 @@ queue_at queues link sub = get_or (get_or queues link []) sub None
 
 -- the queue of a port's sub-VL
 abbrev pub queue_for : Plan → List (List (Option QueueName)) → PortPlan → Option QueueName
-queue_for config queues port = queue_at queues (link_of config port) port.sub
+queue_for config queues port = queue_at queues (link_place config port) port.sub
 
 -- A port of a configuration over these queues: what is said at its place, and a sender of the queue
 -- of its sub-VL, with its index there.
@@ -82,7 +82,7 @@ pub record IsFreshPort (config : Plan) (queues : List (List (Option QueueName)))
   pub at : port.place ≡ place
   pub plan : port.plan ≡ port_plan_at config.ports place
   pub sender : IsFreshSender (queue_for config queues port.plan)
-      (link_plan_at config.links (link_of config port.plan)).capacity
+      (link_plan_at config.links (link_place config port.plan)).capacity
       (index_of config.ports place) port.sender
 
 -- the ports of a configuration in its order, none of which has asked yet

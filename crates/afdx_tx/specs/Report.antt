@@ -19,10 +19,10 @@ release_of e = record {
 }
 
 -- the release of one turn
-abbrev pub released_by : VlId → Served → List Release
-released_by vl Nothing = []
-released_by vl (Released sub number) = record { vl = vl; sub = sub; number = number } ∷ []
-released_by vl Lost = []
+abbrev pub turn_release : VlId → Served → List Release
+turn_release vl Nothing = []
+turn_release vl (Released sub number) = record { vl = vl; sub = sub; number = number } ∷ []
+turn_release vl Lost = []
 
 -- The releases name the new entries of the longer handed list, in order, all of this moment.
 pub record IsTold (now : ℕ) (released : List Release) (before lines : Lines) : Type 0 where

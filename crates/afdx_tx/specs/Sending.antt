@@ -7,8 +7,8 @@ use Rattle.afdx_tx.specs.declared.fault.Refusal.{Refusal}
 use Rattle.afdx_tx.specs.declared.fault.Refusal.TheVariants.{Empty, TooLong}
 
 -- the place of a port's link in the plan
-abbrev pub link_of : Plan → PortPlan → ℕ
-link_of plan port = unwrap_or (position (λ (link : LinkPlan). link.id.0 == port.vl.0) plan.links) 0
+abbrev pub link_place : Plan → PortPlan → ℕ
+link_place plan port = unwrap_or (position (λ (link : LinkPlan). link.id.0 == port.vl.0) plan.links) 0
 
 -- Why a port doesn't take a message of so many bytes, whatever its queue holds: first that it has
 -- none, then that it is over the port's greatest message.

@@ -2,7 +2,7 @@
 ghost use Rattle.std.specs.Prelude.{◌≡◌, ◌<◌, length};
 ghost use Rattle.afdx_config.specs.Config.{HasLink, IsPlan, link_plan_at, port_plan_at};
 ghost use Rattle.afdx_config.specs.Plan.{IsPort, SendsOver};
-ghost use Rattle.afdx_tx.specs.Sending.{link_of, length_refusal};
+ghost use Rattle.afdx_tx.specs.Sending.{link_place, length_refusal};
 
 use crate::fault::Refusal;
 use afdx_config::{Config, PortPlan};
@@ -35,7 +35,7 @@ pub fn port_at(config: &Config, place: usize) -> PortPlan
 pub fn link_of(config: &Config, port: &PortPlan) -> usize
     requires valid { IsPlan config.now }
     requires linked { HasLink config.now.links port.now }
-    ensures value { result ≡ link_of config.now port.now }
+    ensures value { result ≡ link_place config.now port.now }
     ensures within { result < length config.now.links }
     ensures over { SendsOver port.now (link_plan_at config.now.links result) }
 {

@@ -5,7 +5,7 @@ ghost use Rattle.afdx_frame.specs.declared.net.Net.TheVariants.{A as ForA};
 ghost use Rattle.redundant_mux.specs.Lines.{is_alive, log, IsMirrored};
 ghost use Rattle.afdx_legal.specs.Legal.{AreKnown};
 ghost use Rattle.afdx_tx.specs.Run.{IsRun, IsCutShort};
-ghost use Rattle.afdx_tx.specs.Report.{IsTold, released_by};
+ghost use Rattle.afdx_tx.specs.Report.{IsTold, turn_release};
 ghost use Rattle.afdx_tx.specs.Emitter.{plans, AreApart, AreLinks, AreKept, AreWhole, AreServedBy};
 ghost use Rattle.afdx_tx.specs.Serving.{IsSteady};
 ghost use Rattle.afdx_tx.specs.Done.{TellsAllDone};
@@ -24,7 +24,7 @@ use vl_link::{Link, LinkRooms, Served, some_stands};
 /// Adds what a turn released.
 fn note(released: &mut ArrayVec<Release, 64>, vl: VlId, did: &Served)
     requires { array_vec_len released.old < 64 }
-    ensures { released.new.items ≡ released.old.items ++ released_by vl did.now }
+    ensures { released.new.items ≡ released.old.items ++ turn_release vl did.now }
 {
     if let Served::Released { sub, number } = *did {
         released.push(Release { vl, sub, number });

@@ -11,9 +11,9 @@ use Rattle.vl_shaper.specs.Pace.{Pace, is_due}
 use Rattle.afdx_tx.specs.declared.fault.Refusal.{Refusal as SendRefusal}
 use Rattle.vl_link.specs.Links.{pace_of}
 use Rattle.afdx_tx.specs.Emitter.{ports_of_sub}
-use Rattle.afdx_tx.specs.Sending.{length_refusal, link_of}
+use Rattle.afdx_tx.specs.Sending.{length_refusal, link_place}
 use Rattle.tx_script.specs.EndSystem.{EndSystem, Look, Progress, no_progress, progress_at, progress_of, has_left, Asked, ask, turns_from}
-use Rattle.tx_script.specs.EndSystem.{Came, released_of, serve_link, then_links, serve_links, polled, released_by, fresh, fresh_subs}
+use Rattle.tx_script.specs.EndSystem.{Came, released_of, serve_link, then_links, serve_links, polled, frames_released, fresh, fresh_subs}
 use Rattle.tx_script.specs.Lines.{after_feed}
 use Rattle.tx_script.specs.Meaning.{meaning_of}
 use Rattle.tx_script.specs.Play.{Answer, takes, closes, fills, finds, looks_of, queued, passed_on, sent_to, place_of}
@@ -176,9 +176,9 @@ same_note line (Send port bytes) answer es other h =
 same_note line Nothing answer es other h = refl
 same_note line (At now) answer es other h =
     ap (λ (moment : ℕ). note_of line (if nat_lt now moment then Refused TimeBack
-    else Released (released_by other now (looks_of (blind_answer answer))))) h.moment
-    ∙ note_at (nat_lt now es.moment) line (released_by other now (looks_of (blind_answer answer)))
-    (released_by es now (looks_of answer))
+    else Released (frames_released other now (looks_of (blind_answer answer))))) h.moment
+    ∙ note_at (nat_lt now es.moment) line (frames_released other now (looks_of (blind_answer answer)))
+    (frames_released es now (looks_of answer))
 
 -- two runs that noted the same, of which the second took nothing from queues
 pub record IsBlindOf (st other : Play) : Type 0 where
@@ -236,7 +236,7 @@ blind_finds st other h = record {
     other.accepted place,
     sym (ap (λ (taken : List Sent).
         messages_of (port_plan_at other.es.plan.ports place) taken ++ other.accepted place)
-        (none (link_of other.es.plan (port_plan_at other.es.plan.ports place)) (port_plan_at other.es.plan.ports place).sub)),
+        (none (link_place other.es.plan (port_plan_at other.es.plan.ports place)) (port_plan_at other.es.plan.ports place).sub)),
   );
 }
   where

@@ -20,7 +20,7 @@ use Rattle.vl_link.specs.Seen.{Seen, receiving, gathered, taken_of, ports_of}
 use Rattle.vl_link.specs.Seen.{known_of}
 use Rattle.vl_link.specs.Links.{no_link_plan, nothing_held, no_link, Held, LinkState, held_at, link_at, sent_of, sent_by}
 use Rattle.afdx_tx.specs.Emitter.{Tx, ports_of_sub}
-use Rattle.afdx_tx.specs.Sending.{link_of}
+use Rattle.afdx_tx.specs.Sending.{link_place}
 use Rattle.afdx_tx.specs.Ports.{PortView, LacksPlace, index_of}
 use Rattle.vl_link.specs.LinkGathering.{BecomesWhole}
 use Rattle.afdx_tx.specs.Gathering.{IsGatheredSub, IsGatheredLink, IsGatheredTx, HasOwnPart, held_for}
@@ -72,8 +72,8 @@ all_first {X} P (x ∷ xs) ys h = each (all_first P xs ys (λ j e less. h (suc j
 
 -- the link of a port of a valid plan
 record HasOwnLink (plan : Plan) (port : PortPlan) : Type 0 where
-  within : link_of plan port < length plan.links
-  over : SendsOver port (link_plan_at plan.links (link_of plan port))
+  within : link_place plan port < length plan.links
+  over : SendsOver port (link_plan_at plan.links (link_place plan port))
 
 own_link : (plan : Plan) (port : PortPlan) → IsPlan plan → HasLink plan.links port → HasOwnLink plan port
 own_link plan port valid has = by (position (λ (link : LinkPlan). link.id.0 == port.vl.0) plan.links) refl
@@ -81,7 +81,7 @@ own_link plan port valid has = by (position (λ (link : LinkPlan). link.id.0 == 
     by : (place : Option ℕ) → position (λ (link : LinkPlan). link.id.0 == port.vl.0) plan.links ≡ place → HasOwnLink plan port
     by None e = absurd (found plan.links port has e)
     by (Some k) e =
-        let is : link_of plan port ≡ k = ap (λ (p : Option ℕ). unwrap_or p 0) e in
+        let is : link_place plan port ≡ k = ap (λ (p : Option ℕ). unwrap_or p 0) e in
         let some = position-Some (λ (link : LinkPlan). link.id.0 == port.vl.0) plan.links k no_link_plan e in
         record {
           within = let lt = some.0 in omega arith;
@@ -148,11 +148,11 @@ gave_first tx drain ports h g = record { own = own; first = first }
         let is : get_or ports place d ≡ part.port =
         get_or_default ports place d part.port inside
         ∙ ap (λ (k : ℕ). get_or ports k part.port) (sym here) ∙ part.inside.2 in
-        let known = known_at tx drain ports (link_of tx.plan (port_plan_at tx.plan.ports place)) (port_plan_at tx.plan.ports place).sub g in (
+        let known = known_at tx drain ports (link_place tx.plan (port_plan_at tx.plan.ports place)) (port_plan_at tx.plan.ports place).sub g in (
           part_of (index_of tx.plan.ports place) known.0,
           ap (λ (p : PortView). p.sender.own) is ∙ sym part.part
               ∙ ap (λ (config : Plan). part_of (index_of config.ports place)
-              (known_of (held_at (link_at drain.links (link_of config (port_plan_at config.ports place))).subs
+              (known_of (held_at (link_at drain.links (link_place config (port_plan_at config.ports place))).subs
               (port_plan_at config.ports place).sub).seen)) g.plan
               ∙ ap (part_of (index_of tx.plan.ports place)) known.1
               ∙ part_append (index_of tx.plan.ports place) (taken_of (held_for tx (port_plan_at tx.plan.ports place)).seen) known.0,
@@ -282,9 +282,9 @@ finds_first st bench h g m = record { own = own; first = first }
         valid.linked place no_port_plan lt in
         let over : HasOwnLink st.es.plan (port_plan_at st.es.plan.ports place) =
         own_link st.es.plan (port_plan_at st.es.plan.ports place) valid linked in
-        by (link_of st.es.plan (port_plan_at st.es.plan.ports place)) refl over.within over.over
+        by (link_place st.es.plan (port_plan_at st.es.plan.ports place)) refl over.within over.over
       where
-        by : (k : ℕ) → link_of st.es.plan (port_plan_at st.es.plan.ports place) ≡ k
+        by : (k : ℕ) → link_place st.es.plan (port_plan_at st.es.plan.ports place) ≡ k
             → k < length st.es.plan.links → SendsOver (port_plan_at st.es.plan.ports place) (link_plan_at st.es.plan.links k)
             → (more : List (List ℕ))
             × (st.accepted place
@@ -305,7 +305,7 @@ finds_first st bench h g m = record { own = own; first = first }
             (taken_of (held_for bench.tx (port_plan_at bench.tx.plan.ports place)).seen)
             ≡ part_of (index_of st.es.plan.ports place) items =
             ap (λ (config : Plan). part_of (index_of config.ports place)
-            (taken_of (held_at (link_at bench.tx.links (link_of config (port_plan_at config.ports place))).subs
+            (taken_of (held_at (link_at bench.tx.links (link_place config (port_plan_at config.ports place))).subs
             (port_plan_at config.ports place).sub).seen)) m.emitter.plan
             ∙ ap (λ (i : ℕ). part_of (index_of st.es.plan.ports place)
             (taken_of (held_at (link_at bench.tx.links i).subs (port_plan_at st.es.plan.ports place).sub).seen)) is in

@@ -14,13 +14,13 @@ use Rattle.vl_link.specs.Seen.{Seen, taken_of, ports_of}
 use Rattle.vl_link.specs.Links.{Held, LinkState, held_at, link_at, sent_by, no_link_plan}
 use Rattle.afdx_tx.specs.Emitter.{Tx, IsFreshTx, IsFreshLink, IsFreshSub, ports_of_sub}
 use Rattle.afdx_tx.specs.Report.{IsTold, release_of}
-use Rattle.tx_script.specs.EndSystem.{EndSystem, Look, Progress, no_progress, fresh, fresh_subs, polled, released_by}
+use Rattle.tx_script.specs.EndSystem.{EndSystem, Look, Progress, no_progress, fresh, fresh_subs, polled, frames_released}
 use Rattle.tx_script.specs.Matching.{MatchesSub, MatchesLink, MatchesLines, MatchesTx}
 
 -- A poll released as many frames as its report names.
 pub released_many : (es : EndSystem) (old new : Tx) (now : ℕ) (looks : List Look) (released : List Release)
     → MatchesTx es old → MatchesTx (polled es now looks) new
-    → IsTold now released old.lines new.lines → length released ≡ released_by es now looks
+    → IsTold now released old.lines new.lines → length released ≡ frames_released es now looks
 released_many es old new now looks released m n told =
     let named : length released ≡ length told.entries = ap length (sym told.named) ∙ length-map told.entries release_of in
     let grown : length (log new.lines) ≡ length (log old.lines) + length told.entries =

@@ -15,13 +15,13 @@ use Rattle.afdx_tx.specs.Sending.{length_refusal}
 use Rattle.tx_script.specs.AtBench.{AtBench, IsAtHand, HaveSent, Matches, Obeys}
 use Rattle.tx_script.specs.EndSystem.{EndSystem}
 use Rattle.tx_script.specs.Play.{Answer, Messages, takes, closes, fills, place_of, sent_to}
-use Rattle.tx_script.specs.Play.{passed_on, refusal_of, outcome_of, taken_by, accepted_by, with_message}
+use Rattle.tx_script.specs.Play.{passed_on, script_refusal, outcome_of, accepted_with, accepted_after, with_message}
 use Rattle.tx_script.specs.declared.line.Line.TheVariants.{Send}
 use Rattle.tx_script.specs.declared.refusal.Refusal.{Refusal}
 use Rattle.tx_script.specs.declared.refusal.Refusal.TheVariants.{NoPort}
 use Rattle.tx_script.specs.declared.run_lines.TheConstants.{LINES_LIMIT}
 use Rattle.tx_script.specs.declared.outcome.Outcome.{Outcome}
-use Rattle.tx_script.specs.declared.outcome.Outcome.TheVariants as Came
+use Rattle.tx_script.specs.declared.outcome.Outcome.TheVariants as Became
 use Rattle.tx_script.proofs.AtHand.{IsSamePort, have_sent, have_kept}
 
 -- a message of no bytes
@@ -139,7 +139,7 @@ pub send_taken : (accepted : Messages) (es : EndSystem) (tx : Tx) (ports : List 
     (bytes : List ℕ) → IsAtHand tx ports → place_of tx.plan id ≡ Some place → place < length ports
     → MaySend (get_or ports place d).plan (length bytes) → Accepts (get_or ports place d) bytes new
     → Matches accepted es (record { tx = tx; ports = ports })
-    → Obeys (Send id bytes) accepted es (record { tx = tx; ports = set ports place new }) Came.Accepted
+    → Obeys (Send id bytes) accepted es (record { tx = tx; ports = set ports place new }) Became.Accepted
 send_taken accepted es tx ports id place d new bytes h found lt may accepts m = record {
   answer = takes;
   is = sym outcome;
@@ -153,36 +153,36 @@ send_taken accepted es tx ports id place d new bytes h found lt may accepts m = 
     here : place_of es.plan id ≡ Some place
     here = ap (λ (plan : Plan). place_of plan id) (sym m.emitter.plan) ∙ found
 
-    outcome : outcome_of es (Send id bytes) takes ≡ Came.Accepted
+    outcome : outcome_of es (Send id bytes) takes ≡ Became.Accepted
     outcome = sent_here es tx id place bytes (get_or ports place d).plan takes None m.emitter.plan found
         (plan_here tx ports place d h lt) (may_pass (get_or ports place d).plan (length bytes) may)
 
-    more_accepted : accepted_by es (Send id bytes) takes accepted ≡ with_message place bytes accepted
-    more_accepted = ap (λ (o : Outcome). taken_by (place_of es.plan id) bytes o accepted) outcome
-        ∙ ap (λ (p : Option ℕ). taken_by p bytes Came.Accepted accepted) here
+    more_accepted : accepted_after es (Send id bytes) takes accepted ≡ with_message place bytes accepted
+    more_accepted = ap (λ (o : Outcome). accepted_with (place_of es.plan id) bytes o accepted) outcome
+        ∙ ap (λ (p : Option ℕ). accepted_with p bytes Became.Accepted accepted) here
 
 -- what a refused message leaves of the accepted ones
 not_taken : (place : Option ℕ) (bytes : List ℕ) (why : Refusal) (accepted : Messages)
-    → taken_by place bytes (Came.Refused why) accepted ≡ accepted
+    → accepted_with place bytes (Became.Refused why) accepted ≡ accepted
 not_taken None bytes why accepted = refl
 not_taken (Some place) bytes why accepted = refl
 
 -- a message was refused, whatever its port
 refused_by : (accepted : Messages) (es : EndSystem) (bench : AtBench) (id : ℕ) (bytes : List ℕ) (answer : Answer) (why : Refusal)
-    → outcome_of es (Send id bytes) answer ≡ Came.Refused why → Matches accepted es bench
-    → Obeys (Send id bytes) accepted es bench (Came.Refused why)
+    → outcome_of es (Send id bytes) answer ≡ Became.Refused why → Matches accepted es bench
+    → Obeys (Send id bytes) accepted es bench (Became.Refused why)
 refused_by accepted es bench id bytes answer why is m = record {
   answer = answer;
   is = sym is;
   matches = subst (λ (same : Messages). Matches same es bench)
-      (sym (ap (λ (o : Outcome). taken_by (place_of es.plan id) bytes o accepted) is
+      (sym (ap (λ (o : Outcome). accepted_with (place_of es.plan id) bytes o accepted) is
       ∙ not_taken (place_of es.plan id) bytes why accepted)) m;
 }
 
 -- A message for no port.
 pub send_nowhere : (accepted : Messages) (es : EndSystem) (bench : AtBench) (id : ℕ) (bytes : List ℕ)
     → place_of bench.tx.plan id ≡ None → Matches accepted es bench
-    → Obeys (Send id bytes) accepted es bench (Came.Refused NoPort)
+    → Obeys (Send id bytes) accepted es bench (Became.Refused NoPort)
 send_nowhere accepted es bench id bytes none m =
     refused_by accepted es bench id bytes fills NoPort
     (ap (λ (config : Plan). sent_to config (place_of config id) bytes fills) (sym m.emitter.plan)
@@ -195,7 +195,7 @@ answer_of _ = fills
 
 -- what becomes of a message that was refused
 refusal_passed : (old new : PortView) (size : ℕ) (why : SendRefusal) → (why ≡ Why.Exhausted → ⊥) → Refuses old size why new
-    → passed_on (length_refusal old.plan size) (answer_of why) ≡ Came.Refused (refusal_of why)
+    → passed_on (length_refusal old.plan size) (answer_of why) ≡ Became.Refused (script_refusal why)
 unfolding answer_of
 refusal_passed old new size Why.Empty some r = ap (λ (w : Option SendRefusal). passed_on w fills) (empty_refused old.plan size r.0)
 refusal_passed old new size Why.TooLong some r = ap (λ (w : Option SendRefusal). passed_on w fills) (long_refused old.plan size r.0)
@@ -208,9 +208,9 @@ pub send_refused : (accepted : Messages) (es : EndSystem) (tx : Tx) (ports : Lis
     (bytes : List ℕ) (why : SendRefusal) → IsAtHand tx ports → place_of tx.plan id ≡ Some place → place < length ports
     → (why ≡ Why.Exhausted → ⊥) → Refuses (get_or ports place d) (length bytes) why new
     → Matches accepted es (record { tx = tx; ports = ports })
-    → Obeys (Send id bytes) accepted es (record { tx = tx; ports = set ports place new }) (Came.Refused (refusal_of why))
+    → Obeys (Send id bytes) accepted es (record { tx = tx; ports = set ports place new }) (Became.Refused (script_refusal why))
 send_refused accepted es tx ports id place d new bytes why h found lt some refuses m =
-    refused_by accepted es (record { tx = tx; ports = set ports place new }) id bytes (answer_of why) (refusal_of why)
+    refused_by accepted es (record { tx = tx; ports = set ports place new }) id bytes (answer_of why) (script_refusal why)
     (sent_here es tx id place bytes (get_or ports place d).plan (answer_of why)
     (length_refusal (get_or ports place d).plan (length bytes)) m.emitter.plan found
     (plan_here tx ports place d h lt) refl

@@ -9,7 +9,7 @@ use Rattle.afdx_tx.specs.Gathering.{held_for}
 use Rattle.afdx_tx.specs.Ports.{PortView, AreOpenedWith, AreFreshPorts, index_of}
 use Rattle.tx_script.specs.EndSystem.{EndSystem}
 use Rattle.tx_script.specs.Matching.{MatchesTx}
-use Rattle.tx_script.specs.Play.{Answer, Messages, outcome_of, after, accepted_by}
+use Rattle.tx_script.specs.Play.{Answer, Messages, outcome_of, after, accepted_after}
 use Rattle.tx_script.specs.declared.line.Line.{Line}
 use Rattle.tx_script.specs.declared.outcome.Outcome.{Outcome}
 
@@ -52,7 +52,7 @@ pub record Obeys (line : Line) (accepted : Messages) (es : EndSystem) (bench : A
     (outcome : Outcome) : Type 0 where
   pub answer : Answer
   pub is : outcome ≡ outcome_of es line answer
-  pub matches : Matches (accepted_by es line answer accepted) (after es line answer) bench
+  pub matches : Matches (accepted_after es line answer accepted) (after es line answer) bench
 
 -- the same, whatever the bench matched before
 abbrev pub ObeysFor : Line → (old new : AtBench) → Outcome → Type 0

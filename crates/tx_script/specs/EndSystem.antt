@@ -151,8 +151,8 @@ polled es now looks = record {
 }
 
 -- how many frames that poll releases
-abbrev pub released_by : EndSystem → ℕ → List Look → ℕ
-released_by es now looks = length (polled es now looks).log - length es.log
+abbrev pub frames_released : EndSystem → ℕ → List Look → ℕ
+frames_released es now looks = length (polled es now looks).log - length es.log
 
 -- nothing was sent, handed over or polled yet
 abbrev pub fresh_subs : LinkPlan → List Progress

@@ -7,8 +7,8 @@ use Rattle.afdx_frame.specs.Fragments.{Sent}
 use Rattle.afdx_tx.specs.declared.fault.Refusal.{Refusal as SendRefusal}
 use Rattle.afdx_tx.specs.declared.fault.Refusal.TheVariants as Why
 use Rattle.afdx_tx.specs.Emitter.{ports_of_sub}
-use Rattle.afdx_tx.specs.Sending.{length_refusal, link_of}
-use Rattle.tx_script.specs.EndSystem.{EndSystem, Look, fresh, polled, released_by, handed_b, progress_of}
+use Rattle.afdx_tx.specs.Sending.{length_refusal, link_place}
+use Rattle.tx_script.specs.EndSystem.{EndSystem, Look, fresh, polled, frames_released, handed_b, progress_of}
 use Rattle.tx_script.specs.Meaning.{meaning_of}
 use Rattle.tx_script.specs.Summary.{counted}
 use Rattle.tx_script.specs.Transcript.{note_of, streams}
@@ -17,7 +17,7 @@ use Rattle.tx_script.specs.declared.line.Line.TheVariants.{Send, At, Nothing}
 use Rattle.tx_script.specs.declared.refusal.Refusal.{Refusal}
 use Rattle.tx_script.specs.declared.refusal.Refusal.TheVariants.{Empty, TooLong, Closed, Full, NoPort, TimeBack}
 use Rattle.tx_script.specs.declared.outcome.Outcome.{Outcome}
-use Rattle.tx_script.specs.declared.outcome.Outcome.TheVariants as Came
+use Rattle.tx_script.specs.declared.outcome.Outcome.TheVariants as Became
 use Rattle.tx_script.specs.declared.summary.Summary.{Summary as Sums}
 
 -- a queue takes a message, is closed or is full, or looks into queues find something or nothing
@@ -38,24 +38,24 @@ place_of plan id = position (λ (port : PortPlan). port.id.0 == id) plan.ports
 
 -- what a queue says; full where the answer is no queue's
 abbrev pub queued : Answer → Outcome
-queued takes = Came.Accepted
-queued closes = Came.Refused Closed
-queued _ = Came.Refused Full
+queued takes = Became.Accepted
+queued closes = Became.Refused Closed
+queued _ = Became.Refused Full
 
 -- the name of a port's refusal; a script has fewer lines than a port may ask, so none is exhausted
-abbrev pub refusal_of : SendRefusal → Refusal
-refusal_of Why.Empty = Empty
-refusal_of Why.TooLong = TooLong
-refusal_of Why.Closed = Closed
-refusal_of _ = Full
+abbrev pub script_refusal : SendRefusal → Refusal
+script_refusal Why.Empty = Empty
+script_refusal Why.TooLong = TooLong
+script_refusal Why.Closed = Closed
+script_refusal _ = Full
 
 abbrev pub passed_on : Option SendRefusal → Answer → Outcome
-passed_on (Some why) answer = Came.Refused (refusal_of why)
+passed_on (Some why) answer = Became.Refused (script_refusal why)
 passed_on None answer = queued answer
 
 -- what becomes of a message for the port at a place
 abbrev pub sent_to : Plan → Option ℕ → List ℕ → Answer → Outcome
-sent_to plan None bytes answer = Came.Refused NoPort
+sent_to plan None bytes answer = Became.Refused NoPort
 sent_to plan (Some place) bytes answer =
     passed_on (length_refusal (port_plan_at plan.ports place) (length bytes)) answer
 
@@ -63,9 +63,9 @@ sent_to plan (Some place) bytes answer =
 abbrev pub outcome_of : EndSystem → Line → Answer → Outcome
 outcome_of es (Send port bytes) answer = sent_to es.plan (place_of es.plan port) bytes answer
 outcome_of es (At moment) answer =
-    if nat_lt moment es.moment then Came.Refused TimeBack
-    else Came.Released (released_by es moment (looks_of answer))
-outcome_of es Nothing answer = Came.Quiet
+    if nat_lt moment es.moment then Became.Refused TimeBack
+    else Became.Released (frames_released es moment (looks_of answer))
+outcome_of es Nothing answer = Became.Quiet
 
 -- the end system after it
 abbrev pub after : EndSystem → Line → Answer → EndSystem
@@ -85,15 +85,15 @@ abbrev pub with_message : ℕ → List ℕ → Messages → Messages
 with_message place bytes accepted other =
     if nat_eq other place then accepted other ++ bytes ∷ [] else accepted other
 
-abbrev pub taken_by : Option ℕ → List ℕ → Outcome → Messages → Messages
-taken_by (Some place) bytes Came.Accepted accepted = with_message place bytes accepted
-taken_by _ bytes outcome accepted = accepted
+abbrev pub accepted_with : Option ℕ → List ℕ → Outcome → Messages → Messages
+accepted_with (Some place) bytes Became.Accepted accepted = with_message place bytes accepted
+accepted_with _ bytes outcome accepted = accepted
 
 -- the accepted messages after a line
-abbrev pub accepted_by : EndSystem → Line → Answer → Messages → Messages
-accepted_by es (Send port bytes) answer accepted =
-    taken_by (place_of es.plan port) bytes (outcome_of es (Send port bytes) answer) accepted
-accepted_by es _ answer accepted = accepted
+abbrev pub accepted_after : EndSystem → Line → Answer → Messages → Messages
+accepted_after es (Send port bytes) answer accepted =
+    accepted_with (place_of es.plan port) bytes (outcome_of es (Send port bytes) answer) accepted
+accepted_after es _ answer accepted = accepted
 
 -- a line, and what queues answered
 pub record Turn : Type 0 where
@@ -121,7 +121,7 @@ start plan = record {
 abbrev pub play_line : Turn → Play → Play
 play_line turn st = record {
   es = after st.es (meaning_of turn.line) turn.answer;
-  accepted = accepted_by st.es (meaning_of turn.line) turn.answer st.accepted;
+  accepted = accepted_after st.es (meaning_of turn.line) turn.answer st.accepted;
   count = st.count + 1;
   notes = st.notes ++ note_of (st.count + 1) (outcome_of st.es (meaning_of turn.line) turn.answer);
   summary = counted (outcome_of st.es (meaning_of turn.line) turn.answer) st.summary;
@@ -145,7 +145,7 @@ messages_of port (sent ∷ more) =
 
 -- the messages that looks found of the sub-VL of a port
 abbrev pub found_beside : EndSystem → PortPlan → List Sent
-found_beside es port = (progress_of es (link_of es.plan port) port.sub).taken
+found_beside es port = (progress_of es (link_place es.plan port) port.sub).taken
 
 -- Looks found what was sent: each message is of a port of the sub-VL, and the messages of each port
 -- are the first of those of its accepted lines.

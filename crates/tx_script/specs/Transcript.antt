@@ -11,13 +11,13 @@ use Rattle.tx_script.specs.declared.refusal.Refusal.{Refusal}
 use Rattle.tx_script.specs.declared.refusal.Refusal.TheVariants.{Empty, TooLong, Closed, Full, NoPort, TimeBack}
 
 -- a refusal's name
-abbrev pub name_of : Refusal → List ℕ
-name_of Empty = codes "Empty"
-name_of TooLong = codes "TooLong"
-name_of Closed = codes "Closed"
-name_of Full = codes "Full"
-name_of NoPort = codes "NoPort"
-name_of TimeBack = codes "TimeBack"
+abbrev pub refusal_name : Refusal → List ℕ
+refusal_name Empty = codes "Empty"
+refusal_name TooLong = codes "TooLong"
+refusal_name Closed = codes "Closed"
+refusal_name Full = codes "Full"
+refusal_name NoPort = codes "NoPort"
+refusal_name TimeBack = codes "TimeBack"
 
 -- the note on a line that was refused
 abbrev pub refused_note : ℕ → List ℕ → List ℕ
@@ -25,7 +25,7 @@ refused_note line name = codes "line " ++ decimal line ++ codes ": refused " ++ 
 
 -- what is written of a line when it was run
 unfoldable pub note_of : ℕ → Outcome → List ℕ
-note_of line (Refused refusal) = refused_note line (name_of refusal)
+note_of line (Refused refusal) = refused_note line (refusal_name refusal)
 note_of line _ = []
 
 -- a network's name

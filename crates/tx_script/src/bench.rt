@@ -5,7 +5,7 @@ ghost use Rattle.tx_script.specs.declared.line.Line.TheVariants as Said;
 ghost use Rattle.tx_script.specs.declared.run_fault.RunFault.TheVariants as RunFault;
 ghost use Rattle.tx_script.specs.declared.run_lines.TheConstants.{LINES_LIMIT};
 ghost use Rattle.tx_script.specs.AtBench.{ObeysFor, HaveAsked};
-ghost use Rattle.tx_script.specs.Play.{refusal_of};
+ghost use Rattle.tx_script.specs.Play.{script_refusal};
 ghost use Rattle.tx_script.specs.Summary.{HasFew};
 
 use crate::line::Line;
@@ -75,7 +75,7 @@ impl Bench {
 /// What a port's refusal is called.
 fn refused_for(why: afdx_tx::Refusal) -> Refusal
     requires { why ≢ Why.Exhausted }
-    ensures { result ≡ refusal_of why }
+    ensures { result ≡ script_refusal why }
 {
     match why {
         afdx_tx::Refusal::Empty => Refusal::Empty,

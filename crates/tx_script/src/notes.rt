@@ -1,7 +1,7 @@
 //! Writing the notes of a transcript.
 ghost use Rattle.std.specs.Prelude.{◌≡◌, IfErr, OnOk};
 ghost use Rattle.std.specs.Io.KnownBytes.{Appends};
-ghost use Rattle.tx_script.specs.Transcript.{name_of, note_of, refused_note};
+ghost use Rattle.tx_script.specs.Transcript.{refusal_name, note_of, refused_note};
 
 use crate::outcome::Outcome;
 use crate::refusal::Refusal;
@@ -26,7 +26,7 @@ pub fn write_note<W: Write>(writer: &mut W, line: u64, outcome: Outcome) -> Resu
 
 fn write_refused<W: Write>(writer: &mut W, line: u64, refusal: Refusal) -> io::Result<()>
     ensures { OnOk result (Appends (W.contents writer.old) (W.contents writer.new)
-        (refused_note line (name_of refusal))) }
+        (refused_note line (refusal_name refusal))) }
 {
     let name = refusal.name();
     writeln!(writer, "line {line}: refused {name}")

@@ -1,6 +1,6 @@
 //! The refusals of a line.
 ghost use Rattle.std.specs.Prelude.{◌≡◌};
-ghost use Rattle.tx_script.specs.Transcript.{name_of};
+ghost use Rattle.tx_script.specs.Transcript.{refusal_name};
 
 /// Why a line was refused while running.
 #[derive(Clone, Copy, Debug, PartialEq, Eq)]
@@ -22,7 +22,7 @@ pub enum Refusal {
 impl Refusal {
     /// Its name, as a transcript has it.
     pub fn name(self) -> &'static str
-        ensures { result.now ≡ name_of self }
+        ensures { result.now ≡ refusal_name self }
     {
         match self {
             Refusal::Empty => "Empty",

@@ -17,7 +17,7 @@ use Rattle.vl_link.specs.declared.served.Served.{Served}
 use Rattle.vl_link.specs.declared.served.Served.TheVariants.{Nothing, Released, Lost}
 use Rattle.vl_link.specs.declared.sub_vl.SubVl.{SubVl}
 use Rattle.afdx_legal.specs.Streams.{latest, link_stream, sub_stream, told, told_of, number_of, IsNumbered, IsSpaced, IsApart, IsPrefixOf}
-use Rattle.vl_link.specs.Links.{Held, LinkState, held_at, nothing_held, Gives, Picks, ReleasesAt, Serves, Follows, IsSameLink, IsLink, is_lost, pace_of, sub_fragments, taken_by}
+use Rattle.vl_link.specs.Links.{Held, LinkState, held_at, nothing_held, Gives, Picks, ReleasesAt, Serves, Follows, IsSameLink, IsLinkOfPlan, is_lost, pace_of, sub_fragments, taken_by}
 use Rattle.vl_link.specs.Kept.{IsKept, IsTied, IsBehind, IsLinkTied}
 use Rattle.vl_link.proofs.Choosing.{Moves, held_same, moves_chosen, moves_passed}
 use Rattle.vl_link.proofs.SubInStep.{moves_of, tied_moves, tied_gave, prefix_of, shown, gave_shown}
@@ -35,7 +35,7 @@ pub record Turned (now : ℕ) (link new : LinkState) (lines after : Lines) (did 
 
 -- a link is one of its plan
 abbrev pub IsOwn : LinkState → Type 0
-IsOwn link = IsLink link.end_system link.plan link.pace link.subs
+IsOwn link = IsLinkOfPlan link.end_system link.plan link.pace link.subs
 
 -- the link stays one of its plan
 pub link_turn : (now : ℕ) (link new : LinkState) (lines after : Lines) (did : Served)

@@ -171,7 +171,7 @@ abbrev pub AreSameSubs : (old new : List Held) → Type 0
 AreSameSubs old new = (s : ℕ) → IsSameSub (held_at old s) (held_at new s)
 
 -- what the fields of a link keep
-pub record IsLink (end_system : ℕ) (plan : LinkPlan) (pace : Pace) (subs : List Held) : Type 0 where
+pub record IsLinkOfPlan (end_system : ℕ) (plan : LinkPlan) (pace : Pace) (subs : List Held) : Type 0 where
   pub count : length subs ≡ pace.sub_vls
   pub sub_vls : pace.sub_vls ≡ plan.sub_vls
   pub gap : pace.gap ≡ bag_micros plan.bag

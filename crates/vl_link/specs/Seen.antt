@@ -29,9 +29,9 @@ IsReceiving (receiving r) = Unit {0}
 IsReceiving (gathered g) = ⊥
 
 -- the accepted messages are known whole
-abbrev pub IsGathered : Seen → Type 0
-IsGathered (receiving r) = ⊥
-IsGathered (gathered g) = Unit {0}
+abbrev pub IsKnownWhole : Seen → Type 0
+IsKnownWhole (receiving r) = ⊥
+IsKnownWhole (gathered g) = Unit {0}
 
 -- all ends of a queue of no ports
 abbrev pub nothing_seen : Seen

@@ -152,7 +152,7 @@ pub struct Link {
 }
 
 impl Model for Link {
-    ghost use Rattle.vl_link.specs.Links.{LinkState, IsLink};
+    ghost use Rattle.vl_link.specs.Links.{LinkState, IsLinkOfPlan};
 
     ghost Value = { LinkState };
 
@@ -164,13 +164,13 @@ impl Model for Link {
       lost = l.lost;
     } };
 
-    ghost invariant = { λ l. IsLink l.end_system l.plan l.shaper l.subs.items };
+    ghost invariant = { λ l. IsLinkOfPlan l.end_system l.plan l.shaper l.subs.items };
 }
 
 impl Link {
     ghost use Rattle.std.specs.Prelude.{◌≡◌, ℕ, ◌||◌, length, true, false, None};
     ghost use Rattle.afdx_config.specs.Numbers.{sequence_number};
-    ghost use Rattle.afdx_config.specs.Plan.{IsLink as IsLinkPlan, bag_micros};
+    ghost use Rattle.afdx_config.specs.Plan.{IsLink, bag_micros};
     ghost use Rattle.vl_shaper.specs.Pace.{IsLater, is_due};
     ghost use Rattle.redundant_mux.specs.Lines.{is_alive, log};
     ghost use Rattle.afdx_legal.specs.Streams.{link_stream};
@@ -180,7 +180,7 @@ impl Link {
 
     /// A link of these sub-VLs, those of its plan. Nothing was released yet.
     pub fn new(end_system: u16, plan: LinkPlan, subs: Vec<Sub>) -> Link
-        requires plan { IsLinkPlan plan }
+        requires plan { IsLink plan }
         requires count { length subs.items ≡ plan.sub_vls }
         requires named { AreNamed end_system plan subs.items }
         ensures { result ≡ record {

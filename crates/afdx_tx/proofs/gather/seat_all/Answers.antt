@@ -4,7 +4,7 @@ use Rattle.afdx_config.specs.declared.port_plan.PortPlan.{PortPlan}
 use Rattle.afdx_config.specs.Config.{Plan, IsPlan, port_plan_at}
 use Rattle.subvl_queue.specs.Views.{SenderView}
 use Rattle.afdx_tx.specs.Emitter.{queues_in}
-use Rattle.afdx_tx.specs.Sending.{link_of}
+use Rattle.afdx_tx.specs.Sending.{link_place}
 use Rattle.vl_link.specs.Room.{RoomView}
 use Rattle.afdx_tx.specs.Rooms.{rooms_of, room_at, senders_for}
 use Rattle.vl_link.specs.Room.{room_in}
@@ -46,10 +46,10 @@ loop-place-preserved g c =
     c.link_of-link.ensures.within c.link_of-link.ensures.over c.from.ensures in
     let plan : c.port_at-plan.result ≡ port_plan_at c.args.tx.now.plan.ports c.loop-place.place =
     c.port_at-plan.ensures.value ∙ ap (λ (p : Plan). port_plan_at p.ports c.loop-place.place) c.config-config.ensures in
-    let link : c.link_of-link.result ≡ link_of c.args.tx.now.plan (port_plan_at c.args.tx.now.plan.ports c.loop-place.place) =
+    let link : c.link_of-link.result ≡ link_place c.args.tx.now.plan (port_plan_at c.args.tx.now.plan.ports c.loop-place.place) =
     c.link_of-link.ensures.value
-    ∙ ap (λ (p : Plan). link_of p c.port_at-plan.result) c.config-config.ensures
-    ∙ ap (link_of c.args.tx.now.plan) plan in
+    ∙ ap (λ (p : Plan). link_place p c.port_at-plan.result) c.config-config.ensures
+    ∙ ap (link_place c.args.tx.now.plan) plan in
     let sub : c.from.result ≡ (port_plan_at c.args.tx.now.plan.ports c.loop-place.place).sub =
     c.from.ensures ∙ ap (λ (p : PortPlan). p.sub) plan in
     let valid : IsPlan c.args.tx.now.plan = subst IsPlan c.config-config.ensures c.port_at-plan.ensures.valid in

@@ -6,7 +6,7 @@ use Rattle.vl_shaper.specs.Pace.{is_due}
 use Rattle.vl_link.specs.Links.{LinkState, link_at, no_link}
 use Rattle.vl_link.proofs.LinkTurn.{Turned}
 use Rattle.afdx_tx.specs.declared.report.Release.{Release}
-use Rattle.afdx_tx.specs.Report.{released_by}
+use Rattle.afdx_tx.specs.Report.{turn_release}
 use Rattle.arrayvec.specs.ArrayVec.{ArrayVec}
 use Rattle.afdx_tx.proofs.PollTurns.{turned_at, steady_more, cut_at}
 use Rattle.afdx_tx.proofs.PollingLinks.{polling_is, polling_more, polling_on}
@@ -36,8 +36,8 @@ loop-link-preserved g c =
           let turned : Turned c.args.now (link_at links i) w.serve-did.new.self c.loop-link.mux w.serve-did.new.mux w.serve-did.result =
           turned_at _ _ links _ _ _ _ _ (asked g c) lt p.serving.steady.later p.serving.whole e.serves e.paced e.same e.lost in
           let names : w.note.new.released.items ≡ c.loop-link.released.items
-          ++ released_by (link_at links i).plan.id w.serve-did.result =
-          w.note.ensures ∙ ap (λ (v : VlId). c.loop-link.released.items ++ released_by v w.serve-did.result)
+          ++ turn_release (link_at links i).plan.id w.serve-did.result =
+          w.note.ensures ∙ ap (λ (v : VlId). c.loop-link.released.items ++ turn_release v w.serve-did.result)
           (w.id.ensures ∙ ap (λ (plan : LinkPlan). plan.id) turned.same.plan) in
           polling_is _ _ _ _ _ _ _ _ _ _ w.links-is w.mux-is
           (ap (λ (v : ArrayVec Release). v.items) w.released-is ∙ names)

@@ -1,7 +1,7 @@
 use Rattle.std.proofs.Common.{◌≡◌, ℕ, Bool, List, true, false, ap, sym, ◌∙◌, subst, if◌then◌else◌, nat_lt, arith, ◌||◌}
 use Rattle.std.proofs.lemmas.Bool.{le-ltb}
 use Rattle.redundant_mux.specs.Lines.{is_alive}
-use Rattle.tx_script.specs.EndSystem.{EndSystem, Look, polled, released_by}
+use Rattle.tx_script.specs.EndSystem.{EndSystem, Look, polled, frames_released}
 use Rattle.tx_script.specs.Play.{Messages, finds}
 use Rattle.tx_script.specs.AtBench.{AtBench, Matches, Obeys}
 use Rattle.tx_script.specs.declared.line.Line.TheVariants.{At}
@@ -16,11 +16,11 @@ use Rattle.tx_script.proofs.bench.obey_at.Goals.{else-report-via-else-report, in
 -- a poll at a moment that is not before the last one
 poll_obeys : (es : EndSystem) (new : AtBench) (moment released : ℕ) (looks : List Look) (accepted : Messages)
     → nat_lt moment es.moment ≡ false
-    → released ≡ released_by es moment looks → Matches accepted (polled es moment looks) new
+    → released ≡ frames_released es moment looks → Matches accepted (polled es moment looks) new
     → Obeys (At moment) accepted es new (Released released)
 poll_obeys es new moment released looks accepted on many m = record {
   answer = finds looks;
-  is = ap Released many ∙ sym (ap (λ (b : Bool). if b then Refused TimeBack else Released (released_by es moment looks)) on);
+  is = ap Released many ∙ sym (ap (λ (b : Bool). if b then Refused TimeBack else Released (frames_released es moment looks)) on);
   matches = subst (λ (e : EndSystem). Matches accepted e new)
       (sym (ap (λ (b : Bool). if b then es else polled es moment looks) on)) m;
 }
