@@ -19,3 +19,6 @@ pub mod Sizes
 pub mod LegalSpacing
 pub mod WorkedDemo
 pub mod WorkedMoments
+pub mod WorkedNumbers
+pub mod WorkedPieces
+pub mod WorkedLosses

@@ -13,7 +13,7 @@ use Rattle.afdx_frame.specs.Twin.{twin_of}
 use Rattle.afdx_frame.proofs.Twins.{twin_same, twin_link}
 use Rattle.redundant_mux.specs.Entry.{Entry}
 use Rattle.redundant_mux.specs.Lines.{side}
-use Rattle.afdx_legal.specs.Streams.{those_with, link_stream, sub_stream, told, number_of, IsNumbered}
+use Rattle.afdx_legal.specs.Streams.{those_with, link_stream, sub_stream, told, entry_number, IsNumbered}
 use Rattle.afdx_legal.specs.Legal.{AreKnown, AreTwins}
 use Rattle.afdx_legal.proofs.LongerStream.{with_append, numbered_map}
 use Rattle.afdx_laws.specs.Networks.{IsLong}
@@ -47,8 +47,8 @@ own_of links net vl (e ∷ es) known = one (nat_eq (link_in e.frame) vl) (own_of
     one false rest = rest
 
 -- and numbered as its entries are
-pub numbered_of : (es : List Entry) → IsNumbered number_of 0 es → IsNumbered number_in 0 (map frame_of_entry es)
-numbered_of es numbered = numbered_map number_of number_in frame_of_entry 0 es (λ k d inside. refl) numbered
+pub numbered_of : (es : List Entry) → IsNumbered entry_number 0 es → IsNumbered number_in 0 (map frame_of_entry es)
+numbered_of es numbered = numbered_map entry_number number_in frame_of_entry 0 es (λ k d inside. refl) numbered
 
 -- a sub-VL's fragments, by entries and by frames
 pub told_is : (sub : ℕ) (es : List Entry)

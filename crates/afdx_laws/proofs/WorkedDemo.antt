@@ -15,13 +15,16 @@ use Rattle.afdx_frame.specs.Checksum.{checksum}
 use Rattle.afdx_frame.specs.Cutting.{cutting}
 use Rattle.afdx_frame.specs.Fragments.{fragments, fragments_at}
 use Rattle.afdx_frame.specs.Frame.{addresses, header_front, internet_header, link_header, udp_header, datagram, unnumbered}
-use Rattle.afdx_frame.specs.Header.{sub_in}
+use Rattle.afdx_frame.specs.Header.{sub_in, number_in}
 use Rattle.redundant_mux.specs.Lines.{side}
-use Rattle.afdx_legal.specs.Streams.{link_stream, told_of, number_of, IsNumbered, IsSpaced, IsPrefixOf}
+use Rattle.afdx_legal.specs.Streams.{link_stream, told_of, entry_number, IsNumbered, IsSpaced, IsPrefixOf}
 use Rattle.afdx_legal.specs.Legal.{IsKnown, IsLegalOn, AreTwins}
 use Rattle.afdx_laws.specs.Handed.{AreCarriedOf}
+use Rattle.afdx_laws.specs.Receiver.{begin, received}
+use Rattle.afdx_laws.specs.Messages.{messages_in}
 use Rattle.afdx_laws.specs.Spacing.{IsOnItsWay}
 use Rattle.afdx_laws.specs.Plans.{IsAllowed, frames_of}
+use Rattle.afdx_laws.specs.WorkedDelivery.{plain_receiver}
 use Rattle.afdx_laws.specs.WorkedPlan.{OneIsLegal, one_byte, one_byte_accepted, one_frame, one_entry, two_arrivals, one_passage}
 use Rattle.afdx_laws.proofs.WorkedMessage.{demo_port_is, few_are_near}
 
@@ -93,7 +96,7 @@ one_prefix net zero (suc sub) inside index = absurd (omega arith)
 one_prefix net (suc k) sub inside index = absurd (omega arith)
 
 -- its number is 0
-one_numbered : (net : Net) (k : ℕ) → k < 1 → IsNumbered number_of 0 (link_stream (link_plan_at (demo_link ∷ []) k).id.0 (one_entry net))
+one_numbered : (net : Net) (k : ℕ) → k < 1 → IsNumbered entry_number 0 (link_stream (link_plan_at (demo_link ∷ []) k).id.0 (one_entry net))
 unfolding checksum addresses header_front internet_header link_header udp_header datagram unnumbered
 one_numbered net zero inside = (refl, tt)
 one_numbered net (suc k) inside = absurd (omega arith)
@@ -125,14 +128,19 @@ one_allowed : IsAllowed demo_plan 0 one_byte
 one_allowed = record { port = (0, omega arith, refl); its = refl; some = omega arith; most = omega arith }
 
 -- each network carries its frame
-one_carried : AreCarriedOf 2 (frames_of 1 (one_entry A)) (frames_of 1 (one_entry B)) two_arrivals
+one_carried : AreCarriedOf 1 (frames_of 1 (one_entry A)) (frames_of 1 (one_entry B)) two_arrivals
 unfolding checksum addresses header_front internet_header link_header udp_header datagram unnumbered
-one_carried = record { on_a = ([], refl); on_b = ([], refl); near = few_are_near two_arrivals }
+one_carried = record { on_a = ([], refl); on_b = ([], refl); near = few_are_near 1 two_arrivals (omega arith) }
 
 -- it is on its way
 one_on_its_way : AllZip (IsOnItsWay 20 500) (link_stream 1 (one_entry A)) one_passage
 unfolding checksum addresses header_front internet_header link_header udp_header datagram unnumbered
 one_on_its_way = (record { released = refl; size = refl; after = omega arith; soon = omega arith }, tt)
+
+-- its message comes
+one_message : messages_in 0 (received number_in plain_receiver begin two_arrivals) ≡ (1 ∷ []) ∷ []
+unfolding checksum addresses header_front internet_header link_header udp_header datagram unnumbered
+one_message = refl
 
 -- the row
 pub one_is_legal : OneIsLegal
@@ -141,5 +149,7 @@ one_is_legal = record {
   legal = record { on_a = legal_on A; on_b = legal_on B; twins = one_twins };
   allowed = All-cons (IsAllowed demo_plan 0) one_byte [] one_allowed (All-nil (IsAllowed demo_plan 0));
   carry = one_carried;
+  message = one_message;
   passage = one_on_its_way;
+  passes = refl;
 }

@@ -1,5 +1,5 @@
 -- The worked delivery, by computation.
-use Rattle.std.proofs.Common.{◌≡◌, ◌≤◌, List, [], ◌∷◌, length, map, refl, ap, ◌∙◌, arith}
+use Rattle.std.proofs.Common.{◌≡◌, ◌≤◌, List, [], ◌∷◌, length, map, ◌+◌, ℕ, refl, ap, ◌∙◌, arith}
 use Rattle.std.proofs.lemmas.List.{length-append}
 use Rattle.std.proofs.lemmas.List.Elements.{All-cons, All-nil}
 use Rattle.afdx_config.specs.Plan.{IsPort}
@@ -15,9 +15,9 @@ use Rattle.afdx_frame.specs.Twin.{twin_of}
 use Rattle.afdx_legal.specs.Streams.{those_with, IsNumbered, IsPrefixOf}
 use Rattle.afdx_legal.specs.Legal.{AreTwins}
 use Rattle.afdx_laws.specs.Receiver.{begin, received, carried, other, IsNear}
-use Rattle.afdx_laws.specs.Networks.{IsLong}
+use Rattle.afdx_laws.specs.Networks.{IsLong, IsStream}
 use Rattle.afdx_laws.specs.Messages.{IsSent, messages_in}
-use Rattle.afdx_laws.specs.Handed.{IsOwn, IsHanded}
+use Rattle.afdx_laws.specs.Handed.{IsOwn, IsHanded, AreHanded}
 use Rattle.afdx_laws.specs.WorkedDelivery.{bytes_41, one_accepted, front_frame, back_frame, both_frames, four_arrivals, plain_receiver, OneMessageArrives}
 
 -- a frame of either piece has 60 bytes
@@ -51,14 +51,18 @@ first_fragments : (net : Net)
 unfolding checksum addresses header_front internet_header link_header udp_header datagram unnumbered cutting fragments_at
 first_fragments net = ([], refl)
 
+-- so they are a stream
+pub stream_of : (net : Net) → IsStream (both_frames net)
+stream_of net = record {
+  long = All-cons IsLong (front_frame net) (back_frame net ∷ []) (omega (arith, front_long net))
+      (All-cons IsLong (back_frame net) [] (omega (arith, back_long net)) (All-nil IsLong));
+  numbered = frames_numbered net;
+}
+
 -- so they are handed over
 handed_to : (net : Net) → IsHanded 1 25 0 one_accepted net (both_frames net)
 handed_to net = record {
-  frames = record {
-    long = All-cons IsLong (front_frame net) (back_frame net ∷ []) (omega (arith, front_long net))
-        (All-cons IsLong (back_frame net) [] (omega (arith, back_long net)) (All-nil IsLong));
-    numbered = frames_numbered net;
-  };
+  frames = stream_of net;
   own = All-cons (IsOwn net) (front_frame net) (back_frame net ∷ []) (own_front net)
       (All-cons (IsOwn net) (back_frame net) [] (own_back net) (All-nil (IsOwn net)));
   first = first_fragments net;
@@ -97,8 +101,8 @@ carried_le B ((A, frame) ∷ xs) = let l = carried_le B xs in omega arith
 carried_le B ((B, frame) ∷ xs) = let l = carried_le B xs in omega arith
 
 -- few arrivals are near
-pub few_are_near : {F : Type 0} (arrivals : List (Net × F)) → IsNear (length arrivals) arrivals
-few_are_near arrivals before after net frame is =
+pub few_are_near : {F : Type 0} (lag : ℕ) (arrivals : List (Net × F)) → length arrivals ≤ lag + 1 → IsNear lag arrivals
+few_are_near lag arrivals few_came before after net frame is =
     let whole = ap length is ∙ length-append before ((net, frame) ∷ after) in
     let few = carried_le (other net) before in
     omega arith
@@ -113,19 +117,28 @@ gives_message : messages_in 0 (front_frame A ∷ back_frame B ∷ []) ≡ bytes_
 unfolding checksum addresses header_front internet_header link_header udp_header datagram unnumbered
 gives_message = refl
 
+-- so the frames were handed to both networks
+pub both_handed : AreHanded 1 25 0 one_accepted (both_frames A) (both_frames B)
+both_handed = record {
+  link = record { numbered = omega arith; least = omega arith; greatest = omega arith };
+  index = omega arith;
+  sent = All-cons (IsSent 0) (record { port = demo_port; bytes = bytes_41 }) [] demo_sends (All-nil (IsSent 0));
+  on_a = handed_to A;
+  on_b = handed_to B;
+  twins = are_twins;
+}
+
 -- the row
 pub one_message_arrives : OneMessageArrives
 one_message_arrives = record {
-  handed = record {
-    link = record { numbered = omega arith; least = omega arith; greatest = omega arith };
-    index = omega arith;
-    sent = All-cons (IsSent 0) (record { port = demo_port; bytes = bytes_41 }) [] demo_sends (All-nil (IsSent 0));
-    on_a = handed_to A;
-    on_b = handed_to B;
-    twins = are_twins;
-  };
+  handed = both_handed;
   fit = record { checks = omega arith; opens = omega arith; apart = omega arith };
-  carry = record { on_a = ([], refl); on_b = ([], refl); near = few_are_near four_arrivals };
+  carry = record { on_a = ([], refl); on_b = ([], refl); near = few_are_near 3 four_arrivals (omega arith) };
   accepts = accepts_both;
   message = ap (messages_in 0) accepts_both ∙ gives_message;
+  first = record {
+    many = 1;
+    are = ap (messages_in 0) accepts_both ∙ gives_message;
+    all = λ j few enough. few;
+  };
 }

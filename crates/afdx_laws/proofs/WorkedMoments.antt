@@ -1,10 +1,11 @@
 -- The worked skew.
-use Rattle.std.proofs.Common.{◌≡◌, ℕ, List, [], ◌∷◌, length, ap, sym, ◌∙◌, arith}
+use Rattle.std.proofs.Common.{◌≡◌, ℕ, List, [], ◌∷◌, length, refl, ap, sym, ◌∙◌, arith}
 use Rattle.std.proofs.lemmas.List.{length-append}
 use Rattle.afdx_frame.specs.declared.net.Net.{Net}
-use Rattle.afdx_frame.specs.declared.net.Net.TheVariants.{B}
-use Rattle.afdx_laws.specs.Receiver.{carried}
+use Rattle.afdx_frame.specs.declared.net.Net.TheVariants.{A, B}
+use Rattle.afdx_laws.specs.Receiver.{carried, IsNear}
 use Rattle.afdx_laws.specs.Skew.{IsDelivered}
+use Rattle.afdx_laws.proofs.WorkedMessage.{few_are_near}
 use Rattle.afdx_laws.specs.WorkedSkew.{released_at, arrival_of, both_copies, ComesInTime}
 
 -- the parts of two lists that are the same
@@ -27,6 +28,10 @@ both_delivered (x ∷ y ∷ before) after net frame is =
     let parts = length-append before ((net, frame) ∷ after) in
     absurd (omega arith)
 
+-- the second copy comes a frame behind
+no_nearer : IsNear 0 both_copies → ⊥
+no_nearer near = let behind = near ((A, 7 ∷ []) ∷ []) [] B (7 ∷ []) refl in omega arith
+
 -- the row
 pub comes_in_time : ComesInTime
-comes_in_time = record { apart = λ i. omega arith; forward = λ k. omega arith; delivered = both_delivered }
+comes_in_time = record { apart = λ i. omega arith; forward = λ k. omega arith; delivered = both_delivered; near = few_are_near 1 both_copies (omega arith); exact = no_nearer }

@@ -1,6 +1,6 @@
 -- The worked policing, by computation.
 use Rattle.std.proofs.Common.{refl, arith}
-use Rattle.afdx_laws.specs.WorkedPolicing.{PolicesThree}
+use Rattle.afdx_laws.specs.WorkedPolicing.{PolicesThree, SpendsAll}
 
 -- they are policed so
 pub polices_three : PolicesThree
@@ -17,4 +17,13 @@ polices_three = record {
   bytes_pass = refl;
   frames_pass = refl;
   early = refl;
+}
+
+-- and so are they paid for
+pub spends_all : SpendsAll
+spends_all = record {
+  small = omega arith;
+  between = (omega arith, (omega arith, (omega arith, (omega arith, omega arith))));
+  passes = refl;
+  spends = refl;
 }

@@ -12,3 +12,6 @@ pub mod WorkedDelivery
 pub mod Plans
 pub mod WorkedPlan
 pub mod WorkedSkew
+pub mod WorkedReceiving
+pub mod WorkedOrder
+pub mod WorkedLoss

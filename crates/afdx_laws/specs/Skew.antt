@@ -12,6 +12,10 @@ IsDelivered delay released at arrivals =
     → (released (length (carried net before)) ≤ at (length before))
     × (at (length before) ≤ released (length (carried net before)) + delay)
 
+-- the most frames that a network may be behind the other
+abbrev pub frames_behind : ℕ → ℕ → ℕ
+frames_behind gap delay = 1 + delay / gap
+
 -- Where frames are released at least a gap apart, none comes more than 1 + delay / gap frames behind
 -- the other network.
 abbrev pub SkewIsNear : Type 0
@@ -19,4 +23,4 @@ SkewIsNear = (gap delay : ℕ) (released at : ℕ → ℕ) (arrivals : List (Net
     → ((i : ℕ) → released i + gap ≤ released (i + 1))
     → ((k : ℕ) → at k ≤ at (k + 1))
     → IsDelivered delay released at arrivals
-    → IsNear (1 + delay / gap) arrivals
+    → IsNear (frames_behind gap delay) arrivals

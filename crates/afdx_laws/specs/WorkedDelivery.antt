@@ -1,6 +1,6 @@
 -- A worked delivery: the demonstration port sends 41 bytes over a link with frames of up to 64, which
 -- takes two frames. Network B is behind by one frame, and then ahead.
-use Rattle.std.specs.Prelude.{◌≡◌, ℕ, List, [], ◌∷◌, replicate}
+use Rattle.std.specs.Prelude.{◌≡◌, ℕ, List, [], ◌∷◌, replicate, take}
 use Rattle.afdx_config.specs.Demo.{demo_port}
 use Rattle.afdx_frame.specs.declared.net.Net.{Net}
 use Rattle.afdx_frame.specs.declared.net.Net.TheVariants.{A, B}
@@ -9,8 +9,9 @@ use Rattle.afdx_frame.specs.Frame.{frame_of}
 use Rattle.afdx_frame.specs.Fragments.{Sent}
 use Rattle.afdx_frame.specs.Header.{number_in}
 use Rattle.afdx_laws.specs.Receiver.{Tolerance, IsFitFor, begin, received}
-use Rattle.afdx_laws.specs.Messages.{messages_in}
-use Rattle.afdx_laws.specs.Handed.{AreHanded, AreCarriedOf}
+use Rattle.afdx_laws.specs.Networks.{most_carried}
+use Rattle.afdx_laws.specs.Messages.{messages_in, AreFirst}
+use Rattle.afdx_laws.specs.Handed.{AreHanded, AreCarriedOf, longer}
 
 -- the message
 abbrev pub bytes_41 : List ℕ
@@ -48,8 +49,11 @@ plain_receiver = record { check = 1; window = 1 }
 -- and has the message.
 pub record OneMessageArrives : Type 0 where
   pub handed : AreHanded 1 25 0 one_accepted (both_frames A) (both_frames B)
-  pub fit : IsFitFor 4 plain_receiver
-  pub carry : AreCarriedOf 4 (both_frames A) (both_frames B) four_arrivals
+  pub fit : IsFitFor 3 plain_receiver
+  pub carry : AreCarriedOf 3 (both_frames A) (both_frames B) four_arrivals
   pub accepts : received number_in plain_receiver begin four_arrivals
       ≡ front_frame A ∷ back_frame B ∷ []
   pub message : messages_in 0 (received number_in plain_receiver begin four_arrivals) ≡ bytes_41 ∷ []
+  pub first : AreFirst 1 25 0 one_accepted
+      (take (most_carried four_arrivals) (longer (both_frames A) (both_frames B)))
+      (messages_in 0 (received number_in plain_receiver begin four_arrivals))

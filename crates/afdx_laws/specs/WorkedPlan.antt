@@ -1,6 +1,6 @@
 -- A worked handing over of a plan: over the demonstration configuration one message of one byte is
 -- accepted, and its frame is handed to both networks at the moment 0.
-use Rattle.std.specs.Prelude.{ℕ, List, [], ◌∷◌, All}
+use Rattle.std.specs.Prelude.{◌≡◌, ℕ, List, [], ◌∷◌, map, All}
 use Rattle.std.specs.List.{AllZip}
 use Rattle.afdx_config.specs.Config.{IsPlan}
 use Rattle.afdx_config.specs.Demo.{demo_plan, demo_port}
@@ -8,14 +8,18 @@ use Rattle.afdx_frame.specs.declared.net.Net.{Net}
 use Rattle.afdx_frame.specs.declared.net.Net.TheVariants.{A, B}
 use Rattle.afdx_frame.specs.Cutting.{piece_at}
 use Rattle.afdx_frame.specs.Frame.{frame_of}
+use Rattle.afdx_frame.specs.Header.{number_in}
 use Rattle.afdx_frame.specs.Fragments.{Sent}
 use Rattle.redundant_mux.specs.Entry.{Entry, entry}
 use Rattle.afdx_legal.specs.Streams.{link_stream}
 use Rattle.afdx_legal.specs.Legal.{Accepted, IsLegal}
 use Rattle.afdx_laws.specs.Handed.{AreCarriedOf}
-use Rattle.afdx_laws.specs.Policer.{Passage}
+use Rattle.afdx_laws.specs.Policer.{Passage, by_bytes, arrival, full, passed}
 use Rattle.afdx_laws.specs.Spacing.{IsOnItsWay}
-use Rattle.afdx_laws.specs.Plans.{frames_of, IsAllowed}
+use Rattle.afdx_laws.specs.Receiver.{begin, received}
+use Rattle.afdx_laws.specs.Messages.{messages_in}
+use Rattle.afdx_laws.specs.Plans.{frames_of, rule_at, IsAllowed}
+use Rattle.afdx_laws.specs.WorkedDelivery.{plain_receiver}
 
 -- the message
 abbrev pub one_byte : Sent
@@ -41,10 +45,14 @@ two_arrivals = (B, one_frame B) ∷ (A, one_frame A) ∷ []
 abbrev pub one_passage : List Passage
 one_passage = record { released = 0; arrived = 40; size = 84 } ∷ []
 
--- It meets what the laws of a plan ask for.
+-- It meets what the laws of a plan ask for: the message comes, and a switch drops no frame.
 pub record OneIsLegal : Type 0 where
   pub valid : IsPlan demo_plan
   pub legal : IsLegal demo_plan one_byte_accepted (one_entry A) (one_entry B)
   pub allowed : All (IsAllowed demo_plan 0) (one_byte_accepted 0 0)
-  pub carry : AreCarriedOf 2 (frames_of 1 (one_entry A)) (frames_of 1 (one_entry B)) two_arrivals
+  pub carry : AreCarriedOf 1 (frames_of 1 (one_entry A)) (frames_of 1 (one_entry B)) two_arrivals
+  pub message : messages_in 0 (received number_in plain_receiver begin two_arrivals) ≡ (1 ∷ []) ∷ []
   pub passage : AllZip (IsOnItsWay 20 500) (link_stream 1 (one_entry A)) one_passage
+  pub passes : passed by_bytes (rule_at demo_plan 0 20 500) (full (rule_at demo_plan 0 20 500))
+      (map arrival one_passage)
+      ≡ map arrival one_passage

@@ -1,7 +1,7 @@
 -- A worked policing: a gap of 1,000 microseconds, frames of up to 100 bytes, and up to 200
 -- microseconds of jitter.
-use Rattle.std.specs.Prelude.{◌≡◌, ℕ, List, [], ◌∷◌, map}
-use Rattle.afdx_laws.specs.Policer.{Arrival, Rule, Passage, AreOnTime, by_bytes, by_frames, arrival, full, passed}
+use Rattle.std.specs.Prelude.{◌≡◌, ℕ, ◌+◌, ◌-◌, ◌*◌, ◌≤◌, List, [], ◌∷◌, map}
+use Rattle.afdx_laws.specs.Policer.{Arrival, Rule, Passage, AreOnTime, AreBetween, by_bytes, by_frames, arrival, cost, full, limit, passed}
 
 -- what the switch is told
 abbrev pub worked_rule : Rule
@@ -29,3 +29,16 @@ pub record PolicesThree : Type 0 where
   pub early : passed by_bytes worked_rule (full worked_rule)
       (greatest_at 200 ∷ greatest_at 1000 ∷ greatest_at 1700 ∷ [])
       ≡ greatest_at 200 ∷ greatest_at 1000 ∷ []
+
+-- greatest frames, of which the account can't pay the second
+abbrev pub four_greatest : List Arrival
+four_greatest = greatest_at 0 ∷ greatest_at 500 ∷ greatest_at 800 ∷ greatest_at 1800 ∷ []
+
+-- From a full account on, the other three pass, and cost just as much as the rule allows.
+pub record SpendsAll : Type 0 where
+  pub small : (full worked_rule).credit ≤ limit worked_rule
+  pub between : AreBetween 0 1800 four_greatest
+  pub passes : passed by_bytes worked_rule (full worked_rule) four_greatest
+      ≡ greatest_at 0 ∷ greatest_at 800 ∷ greatest_at 1800 ∷ []
+  pub spends : cost by_bytes worked_rule (passed by_bytes worked_rule (full worked_rule) four_greatest)
+      ≡ worked_rule.lmax * (worked_rule.gap + worked_rule.jitter + (1800 - 0))

@@ -3,7 +3,8 @@
 use Rattle.std.specs.Prelude.{ℕ, ◌+◌, ◌*◌, ◌≤◌, List, [], ◌∷◌}
 use Rattle.afdx_frame.specs.declared.net.Net.{Net}
 use Rattle.afdx_frame.specs.declared.net.Net.TheVariants.{A, B}
-use Rattle.afdx_laws.specs.Skew.{IsDelivered}
+use Rattle.afdx_laws.specs.Receiver.{IsNear}
+use Rattle.afdx_laws.specs.Skew.{IsDelivered, frames_behind}
 
 -- the release of a frame
 abbrev pub released_at : ℕ → ℕ
@@ -17,8 +18,10 @@ arrival_of k = 300 + 100 * k
 abbrev pub both_copies : List (Net × List ℕ)
 both_copies = (A, 7 ∷ []) ∷ (B, 7 ∷ []) ∷ []
 
--- They meet what the law of the skew asks for.
+-- They meet what the law of the skew asks for, and are near: a frame behind, and no less.
 pub record ComesInTime : Type 0 where
   pub apart : (i : ℕ) → released_at i + 1000 ≤ released_at (i + 1)
   pub forward : (k : ℕ) → arrival_of k ≤ arrival_of (k + 1)
   pub delivered : IsDelivered 400 released_at arrival_of both_copies
+  pub near : IsNear (frames_behind 1000 400) both_copies
+  pub exact : IsNear 0 both_copies → ⊥

@@ -14,8 +14,11 @@ ghost use Rattle.afdx_laws.specs.Policer.{EarlyDropped, NoMorePasses, NoneDroppe
 ghost use Rattle.afdx_laws.specs.Skew.{SkewIsNear};
 ghost use Rattle.afdx_laws.specs.Spacing.{StreamPasses};
 ghost use Rattle.afdx_laws.specs.WorkedDelivery.{OneMessageArrives};
+ghost use Rattle.afdx_laws.specs.WorkedLoss.{ComesDespiteLoss, HandedDespiteOneLoss, LegalDespiteOneLoss};
+ghost use Rattle.afdx_laws.specs.WorkedOrder.{FirstIsGiven};
 ghost use Rattle.afdx_laws.specs.WorkedPlan.{OneIsLegal};
-ghost use Rattle.afdx_laws.specs.WorkedPolicing.{PolicesThree};
+ghost use Rattle.afdx_laws.specs.WorkedPolicing.{PolicesThree, SpendsAll};
+ghost use Rattle.afdx_laws.specs.WorkedReceiving.{AcceptsEachOnce, ClashesPast254};
 ghost use Rattle.afdx_laws.specs.WorkedSkew.{ComesInTime};
 
 /// A switch that polices a link by its gap, its greatest frame and a jitter, by bytes or by frames,
@@ -36,7 +39,10 @@ pub fn none_dropped()
 ///
 /// Moments that don't go back are a premise. It doesn't say which frames pass.
 pub fn no_more_passes()
-    ensures { NoMorePasses }
+    ensures paid { NoMorePasses }
+
+    // four greatest frames, one of them too early: the others spend all
+    ensures worked { SpendsAll }
 {}
 
 /// Of two greatest frames less than a gap apart a switch that allows no jitter drops the second.
@@ -61,7 +67,10 @@ pub fn stream_passes()
 /// Each network may stop carrying at any point, and then carries nothing more. Nothing is said of a
 /// network that loses a frame and goes on: see `loss_masked`.
 pub fn exactly_once()
-    ensures { ExactlyOnce }
+    ensures once { ExactlyOnce }
+
+    // two frames from both networks, and numbers that come round
+    ensures worked { AcceptsEachOnce }
 {}
 
 /// A receiver for which the next number alone is new accepts each frame once and in order although
@@ -90,7 +99,10 @@ pub fn loss_not_masked()
 /// The receiver's state is written out: network A carried so many frames more than B, and B's next
 /// comes. That a run ends in this state is not proved.
 pub fn numbers_clash()
-    ensures { NumbersClash }
+    ensures clash { NumbersClash }
+
+    // an old frame that is 254 frames late, and one that is 255
+    ensures worked { ClashesPast254 }
 {}
 
 /// Networks that deliver each frame within a delay of its release are never further apart than
@@ -110,7 +122,10 @@ pub fn skew_is_near()
 /// A receiver keeps a buffer for each identification, as many as it needs, and never gives one up.
 /// Nothing is said of fragments of one sub-VL that come out of order.
 pub fn in_order()
-    ensures { InOrder }
+    ensures ordered { InOrder }
+
+    // two datagrams, of which one comes whole, and another sub-VL's between them
+    ensures worked { FirstIsGiven }
 {}
 
 /// A receiver's messages of a sub-VL are the first of those that were accepted for it, each once and
@@ -127,7 +142,10 @@ pub fn messages_arrive()
 ///
 /// What `loss_masked` doesn't say isn't said here.
 pub fn despite_loss()
-    ensures { DespiteLoss }
+    ensures arrive { DespiteLoss }
+
+    // network A repeats a message's first frame and loses its second
+    ensures worked { ComesDespiteLoss }
 {}
 
 /// A receiver's messages of a sub-VL are the first accepted ones, by what was handed to the two networks
@@ -149,7 +167,10 @@ pub fn handed_arrive()
 ///
 /// What `loss_masked` doesn't say isn't said here.
 pub fn handed_despite_loss()
-    ensures { HandedDespiteLoss }
+    ensures arrive { HandedDespiteLoss }
+
+    // network A repeats a message's first frame and loses its second
+    ensures worked { HandedDespiteOneLoss }
 {}
 
 /// For each link and sub-VL of a valid plan: from what was handed over legally, the receiver's
@@ -173,7 +194,10 @@ pub fn legal_arrive()
 ///
 /// What `loss_masked` doesn't say isn't said here.
 pub fn legal_despite_loss()
-    ensures { LegalDespiteLoss }
+    ensures arrive { LegalDespiteLoss }
+
+    // the demonstration configuration, with one message that network A loses
+    ensures worked { LegalDespiteOneLoss }
 {}
 
 /// For each link of a valid plan: of what was handed over legally to a network, a switch that polices

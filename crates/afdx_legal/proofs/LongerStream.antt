@@ -8,7 +8,7 @@ use Rattle.afdx_config.specs.Numbers.{sequence_number}
 use Rattle.redundant_mux.specs.Entry.{Entry}
 use Rattle.vl_shaper.specs.declared.shaper.Stamp.{Stamp}
 use Rattle.vl_shaper.specs.Pace.{is_due, IsLater}
-use Rattle.afdx_legal.specs.Streams.{those_with, stamp_of, latest, number_of, IsApart, IsSpaced, IsNumbered}
+use Rattle.afdx_legal.specs.Streams.{those_with, stamp_of, latest, entry_number, IsApart, IsSpaced, IsNumbered}
 
 -- the last entry is the one that came
 pub latest_push : (before : Option Stamp) (S : List Entry) (e : Entry) → latest before (S ++ e ∷ []) ≡ Some (stamp_of e)
@@ -22,8 +22,8 @@ spaced_push gap before [] e h g = (g, tt)
 spaced_push gap before (x ∷ xs) e h g = (h.0, spaced_push gap (Some (stamp_of x)) xs e h.1 g)
 
 -- a frame with the next number keeps a stream numbered
-pub numbered_push : (i : ℕ) (S : List Entry) (e : Entry) → IsNumbered number_of i S
-    → number_of e ≡ sequence_number (i + length S) → IsNumbered number_of i (S ++ e ∷ [])
+pub numbered_push : (i : ℕ) (S : List Entry) (e : Entry) → IsNumbered entry_number i S
+    → entry_number e ≡ sequence_number (i + length S) → IsNumbered entry_number i (S ++ e ∷ [])
 numbered_push i [] e h g = (g ∙ ap sequence_number (omega arith), tt)
 numbered_push i (x ∷ xs) e h g = (h.0, numbered_push (i + 1) xs e h.1 (g ∙ ap sequence_number (omega arith)))
 

@@ -12,7 +12,7 @@ use Rattle.afdx_frame.specs.Header.{link_in, sub_in}
 use Rattle.afdx_frame.specs.Fragments.{Sent, fragments}
 use Rattle.redundant_mux.specs.Entry.{Entry}
 use Rattle.redundant_mux.specs.Lines.{side}
-use Rattle.afdx_legal.specs.Streams.{link_stream, told_of, number_of, IsNumbered, IsSpaced, IsPrefixOf}
+use Rattle.afdx_legal.specs.Streams.{link_stream, told_of, entry_number, IsNumbered, IsSpaced, IsPrefixOf}
 
 -- The accepted list of each sub-VL, by the place of its link in the plan and its index.
 abbrev pub Accepted : Type 0
@@ -41,7 +41,7 @@ pub record IsLegalOn (plan : Plan) (accepted : Accepted)
       → IsPrefixOf (told_of (link_plan_at plan.links k).id.0 s handed)
       (fragments plan.end_system (room_of (link_plan_at plan.links k).lmax) net (accepted k s))
   pub numbered : (k : ℕ) → k < length plan.links
-      → IsNumbered number_of 0 (link_stream (link_plan_at plan.links k).id.0 handed)
+      → IsNumbered entry_number 0 (link_stream (link_plan_at plan.links k).id.0 handed)
   pub spaced : (k : ℕ) → k < length plan.links
       → IsSpaced (bag_micros (link_plan_at plan.links k).bag) None
       (link_stream (link_plan_at plan.links k).id.0 handed)

@@ -47,8 +47,8 @@ IsSpaced gap before [] = Unit {0}
 IsSpaced gap before (e ∷ es) = IsApart gap before e.at × IsSpaced gap (Some (stamp_of e)) es
 
 -- the sequence number of an entry
-abbrev pub number_of : Entry → ℕ
-number_of e = number_in e.frame
+abbrev pub entry_number : Entry → ℕ
+entry_number e = number_in e.frame
 
 -- a list carries the sequence numbers of place i, and so on (ARINC 664 Part 7, sequence numbers)
 abbrev pub IsNumbered : {F : Type 0} → (F → ℕ) → ℕ → List F → Type 0

@@ -15,7 +15,7 @@ use Rattle.afdx_frame.proofs.Twins.{twin_link, twin_sub, twin_number, twin_inter
 use Rattle.redundant_mux.specs.Entry.{Entry}
 use Rattle.redundant_mux.specs.Lines.{Lines, side, log, Keeps, Mirrors, IsMirrored}
 use Rattle.vl_shaper.specs.declared.shaper.Stamp.{Stamp}
-use Rattle.afdx_legal.specs.Streams.{link_stream, sub_stream, told, told_of, stamp_of, number_of, IsNumbered, IsSpaced, IsPrefixOf}
+use Rattle.afdx_legal.specs.Streams.{link_stream, sub_stream, told, told_of, stamp_of, entry_number, IsNumbered, IsSpaced, IsPrefixOf}
 use Rattle.afdx_legal.specs.Legal.{Accepted, AreKnown, IsLegalOn, AreTwins, IsLegal}
 use Rattle.afdx_legal.proofs.LongerStream.{with_append}
 use Rattle.redundant_mux.proofs.MirroredLines.{all_of, sides}
@@ -74,8 +74,8 @@ told_side net (e ∷ es) =
     ∙ ap (λ x. twin_of net (blanked e.frame) ∷ x) (told_side net es)
 
 -- the front of a numbered stream, turned to a network, is numbered
-numbered_side : (net : Net) (i : ℕ) (xs ys : List Entry) → AreLong (xs ++ ys) → IsNumbered number_of i (xs ++ ys)
-    → IsNumbered number_of i (map (side net) xs)
+numbered_side : (net : Net) (i : ℕ) (xs ys : List Entry) → AreLong (xs ++ ys) → IsNumbered entry_number i (xs ++ ys)
+    → IsNumbered entry_number i (map (side net) xs)
 numbered_side net i [] ys long h = tt
 numbered_side net i (x ∷ xs) ys long h = (twin_number net x.frame long.0 ∙ h.0, numbered_side net (i + 1) xs ys long.1 h.1)
 
@@ -111,7 +111,7 @@ pub record IsLogLegal (plan : Plan) (accepted : Accepted) (H : List Entry) : Typ
   pub prefixes : (k s : ℕ) → k < length plan.links → s < (link_plan_at plan.links k).sub_vls
       → IsPrefixOf (told_of (link_plan_at plan.links k).id.0 s H)
       (fragments plan.end_system (room_of (link_plan_at plan.links k).lmax) A (accepted k s))
-  pub numbered : (k : ℕ) → k < length plan.links → IsNumbered number_of 0 (link_stream (link_plan_at plan.links k).id.0 H)
+  pub numbered : (k : ℕ) → k < length plan.links → IsNumbered entry_number 0 (link_stream (link_plan_at plan.links k).id.0 H)
   pub spaced : (k : ℕ) → k < length plan.links
       → IsSpaced (bag_micros (link_plan_at plan.links k).bag) None (link_stream (link_plan_at plan.links k).id.0 H)
 
@@ -148,10 +148,10 @@ legal_front plan accepted net xs ys l =
       numbered = λ k klt.
           let vl = (link_plan_at plan.links k).id.0 in
           let cut = link_append vl xs ys in
-          subst (IsNumbered number_of 0) (sym (link_side net vl xs))
+          subst (IsNumbered entry_number 0) (sym (link_side net vl xs))
           (numbered_side net 0 (link_stream vl xs) (link_stream vl ys)
           (subst AreLong cut (filter_long (λ e. eqb (link_in e.frame) vl) (xs ++ ys) long))
-          (subst (IsNumbered number_of 0) cut (l.numbered k klt)));
+          (subst (IsNumbered entry_number 0) cut (l.numbered k klt)));
       spaced = λ k klt.
           let vl = (link_plan_at plan.links k).id.0 in
           let gap = bag_micros (link_plan_at plan.links k).bag in

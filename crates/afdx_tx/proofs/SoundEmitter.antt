@@ -8,7 +8,7 @@ use Rattle.afdx_config.specs.Room.{room_of}
 use Rattle.afdx_frame.specs.declared.net.Net.TheVariants.{A}
 use Rattle.afdx_frame.specs.Fragments.{fragments}
 use Rattle.redundant_mux.specs.Lines.{Lines, log, is_alive, IsMirrored}
-use Rattle.afdx_legal.specs.Streams.{link_stream, told_of, number_of, IsNumbered, IsSpaced, IsPrefixOf}
+use Rattle.afdx_legal.specs.Streams.{link_stream, told_of, entry_number, IsNumbered, IsSpaced, IsPrefixOf}
 use Rattle.afdx_legal.specs.Legal.{AreKnown, IsLegal}
 use Rattle.vl_link.specs.Links.{LinkState, link_at, no_link, held_at, nothing_held, no_link_plan, IsSameLink}
 use Rattle.afdx_tx.specs.Emitter.{plans, AreLinks, AreApart, AreLinksOf, AreWhole, AreReceiving, IsSamePlan, IsSound, taken_in, held_queue, link_queues, queues_in, ports_of_sub}
@@ -86,7 +86,7 @@ sound_legal config links lines moment s =
       known = s.known;
       numbered = λ k klt.
           let lt : k < length links = omega arith in
-          subst (λ (p : LinkPlan). IsNumbered number_of 0 (link_stream p.id.0 (log lines))) (sym (plan_is config links of k lt))
+          subst (λ (p : LinkPlan). IsNumbered entry_number 0 (link_stream p.id.0 (log lines))) (sym (plan_is config links of k lt))
           (s.kept k lt).numbered;
       spaced = λ k klt.
           let lt : k < length links = omega arith in

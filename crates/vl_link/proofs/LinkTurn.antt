@@ -16,7 +16,7 @@ use Rattle.vl_shaper.specs.Pace.{Pace, IsLater}
 use Rattle.vl_link.specs.declared.served.Served.{Served}
 use Rattle.vl_link.specs.declared.served.Served.TheVariants.{Nothing, Released, Lost}
 use Rattle.vl_link.specs.declared.sub_vl.SubVl.{SubVl}
-use Rattle.afdx_legal.specs.Streams.{latest, link_stream, sub_stream, told, told_of, number_of, IsNumbered, IsSpaced, IsApart, IsPrefixOf}
+use Rattle.afdx_legal.specs.Streams.{latest, link_stream, sub_stream, told, told_of, entry_number, IsNumbered, IsSpaced, IsApart, IsPrefixOf}
 use Rattle.vl_link.specs.Links.{Held, LinkState, held_at, nothing_held, Gives, Picks, ReleasesAt, Serves, Follows, IsSameLink, IsLinkOfPlan, is_lost, pace_of, sub_fragments, taken_by}
 use Rattle.vl_link.specs.Kept.{IsKept, IsTied, IsBehind, IsLinkTied}
 use Rattle.vl_link.proofs.Choosing.{Moves, held_same, moves_chosen, moves_passed}
@@ -52,7 +52,7 @@ link_turn now link new lines after did t own =
 
 -- the link after a turn, over a stream that is known by the plan before it
 kept_of : (link new : LinkState) (H : List Entry) → IsSameLink link new
-    → IsNumbered number_of 0 (link_stream link.plan.id.0 H) → IsSpaced link.pace.gap None (link_stream link.plan.id.0 H)
+    → IsNumbered entry_number 0 (link_stream link.plan.id.0 H) → IsSpaced link.pace.gap None (link_stream link.plan.id.0 H)
     → ((s : ℕ) → s < link.plan.sub_vls → IsPrefixOf (told_of link.plan.id.0 s H)
     (fragments link.end_system (room_of link.plan.lmax) A (taken_by (held_at new.subs s))))
     → (new.lost ≡ false → new.pace ≡ pace_of new.pace.gap new.pace.sub_vls (link_stream new.plan.id.0 H))
@@ -64,7 +64,7 @@ kept_of : (link new : LinkState) (H : List Entry) → IsSameLink link new
 kept_of link new H same numbered spaced prefixes paced tied behind =
     let many : new.plan.sub_vls ≡ link.plan.sub_vls = ap (λ (p : LinkPlan). p.sub_vls) same.plan in
     record {
-      numbered = subst (λ (p : LinkPlan). IsNumbered number_of 0 (link_stream p.id.0 H)) (sym same.plan) numbered;
+      numbered = subst (λ (p : LinkPlan). IsNumbered entry_number 0 (link_stream p.id.0 H)) (sym same.plan) numbered;
       spaced = subst (λ (p : LinkPlan). IsSpaced new.pace.gap None (link_stream p.id.0 H)) (sym same.plan)
           (subst (λ (g : ℕ). IsSpaced g None (link_stream link.plan.id.0 H)) (sym same.gap) spaced);
       prefixes = λ s lt.
@@ -212,7 +212,7 @@ kept_turn now (Released sub number) link new lines after t own k =
     → IsTied (held_at new.subs s) (sub_stream s (link_stream link.plan.id.0 (log after))) =
     tied_released now number link sub new.subs lines after at own (k.tied t.whole) in
     kept_of link new (log after) t.same
-    (subst (IsNumbered number_of 0) (sym more) (numbered_push 0 stream (entry now at.releases.frame) k.numbered
+    (subst (IsNumbered entry_number 0) (sym more) (numbered_push 0 stream (entry now at.releases.frame) k.numbered
     (at.releases.of.carries ∙ t.serves.1 ∙ ap (λ (x : Pace). x.next) paced ∙ ap sequence_number (omega arith))))
     (subst (IsSpaced link.pace.gap None) (sym more)
     (spaced_push link.pace.gap None stream (entry now at.releases.frame) k.spaced apart))
@@ -260,7 +260,7 @@ pub kept_stream : (other : LinkState) (H J : List Entry)
     → link_stream other.plan.id.0 J ≡ link_stream other.plan.id.0 H → IsKept other H → IsKept other J
 kept_stream other H J e k =
     record {
-      numbered = subst (IsNumbered number_of 0) (sym e) k.numbered;
+      numbered = subst (IsNumbered entry_number 0) (sym e) k.numbered;
       spaced = subst (IsSpaced other.pace.gap None) (sym e) k.spaced;
       prefixes = λ s lt. subst
           (λ (S : List Entry). IsPrefixOf (told (sub_stream s S))

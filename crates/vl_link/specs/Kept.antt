@@ -5,7 +5,7 @@ use Rattle.afdx_frame.specs.declared.net.Net.TheVariants.{A}
 use Rattle.afdx_frame.specs.Fragments.{fragments}
 use Rattle.redundant_mux.specs.Entry.{Entry}
 use Rattle.redundant_mux.specs.Lines.{log}
-use Rattle.afdx_legal.specs.Streams.{link_stream, sub_stream, told, told_of, number_of, IsNumbered, IsSpaced, IsPrefixOf}
+use Rattle.afdx_legal.specs.Streams.{link_stream, sub_stream, told, told_of, entry_number, IsNumbered, IsSpaced, IsPrefixOf}
 use Rattle.vl_link.specs.Links.{Held, LinkState, held_at, taken_by, sub_fragments, pace_of}
 
 -- What a sub-VL's stream shows, and what is left of the message that is being sent, are the
@@ -35,7 +35,7 @@ IsLinkTied link log = (s : ℕ) → s < link.plan.sub_vls
 -- messages that it took. Where no frame was lost, its regulation is where the stream is, and each
 -- sub-VL is tied to its own. Where one was, some sub-VL stays behind.
 pub record IsKept (link : LinkState) (log : List Entry) : Type 0 where
-  pub numbered : IsNumbered number_of 0 (link_stream link.plan.id.0 log)
+  pub numbered : IsNumbered entry_number 0 (link_stream link.plan.id.0 log)
   pub spaced : IsSpaced link.pace.gap None (link_stream link.plan.id.0 log)
   pub prefixes : (s : ℕ) → s < link.plan.sub_vls
       → IsPrefixOf (told_of link.plan.id.0 s log)

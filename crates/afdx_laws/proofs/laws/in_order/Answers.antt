@@ -1,5 +1,9 @@
 use Rattle.afdx_laws.proofs.InOrder.{in_order_holds}
+use Rattle.afdx_laws.proofs.WorkedPieces.{first_is_given}
 use Rattle.afdx_laws.proofs.laws.in_order.Goals as goal
 
-pub returns : goal.returns
-returns c = in_order_holds
+pub returns-clause-ordered : goal.returns-clause-ordered
+returns-clause-ordered c = in_order_holds
+
+pub returns-clause-worked : goal.returns-clause-worked
+returns-clause-worked c = first_is_given
