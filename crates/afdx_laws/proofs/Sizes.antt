@@ -13,9 +13,8 @@ use Rattle.afdx_frame.specs.Cutting.{cut_by, cutting, pieces_from}
 use Rattle.afdx_frame.specs.Fragments.{Sent, fragments_at, fragments_from}
 use Rattle.afdx_frame.specs.Frame.{unnumbered}
 use Rattle.afdx_frame.specs.ReadBack.{IsPiece}
-use Rattle.afdx_frame.proofs.CuttingLemmas.{step_le}
+use Rattle.afdx_frame.proofs.CuttingLemmas.{step_le, cut_last, cut_more}
 use Rattle.afdx_frame.proofs.Says.{length-frame}
-use Rattle.afdx_frame.proofs.SideBySide.{cut_last, cut_more}
 use Rattle.afdx_laws.specs.Messages.{IsSent}
 use Rattle.afdx_laws.proofs.Reading.{from_start}
 
