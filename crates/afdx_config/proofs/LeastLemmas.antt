@@ -1,25 +1,16 @@
 -- The first fault of a list in order of numbers is the least.
-use Rattle.std.proofs.Common.{◌≡◌, ℕ, ◌<◌, Bool, true, false, cond, List, [], ◌∷◌, Some, None, refl, sym, ◌∙◌, arith, rules, ◌++◌, subst}
+use Rattle.std.proofs.Common.{◌≡◌, ℕ, ◌<◌, Bool, true, false, cond, List, [], ◌∷◌, Some, None, refl, sym, ◌∙◌, arith, rules, subst}
 use Rattle.std.specs.Prelude.{find, ⊤, Result, Ok, Err, IfOk, IfErr, ◌≢◌}
 use Rattle.std.specs.List.{AllByRecursion}
 use Rattle.std.proofs.lemmas.Option.{same_Some}
 use Rattle.toml.specs.Data.{Members}
-use Rattle.afdx_config.specs.Faults.{fault_number, shows, all_faults, Reads, HasFault, IsLeastFault, IsPlanOf}
-use Rattle.afdx_config.specs.Config.{Plan}
+use Rattle.afdx_plan.proofs.FindLemmas.{find_none-list}
+use Rattle.afdx_plan.specs.PlanFaults.{fault_number}
+use Rattle.afdx_config.specs.Faults.{shows, all_faults, Reads, HasFault, IsLeastFault, IsPlanOf}
+use Rattle.afdx_plan.specs.Config.{Plan}
 use Rattle.afdx_config.specs.PlanOf.{plan_of}
-use Rattle.afdx_config.specs.declared.fault.ConfigFault.{ConfigFault}
-use Rattle.afdx_config.specs.declared.fault.ConfigFault.TheVariants.{Toml, MissingKey, UnknownKey, WrongKind, OutOfRange, BadBag, DuplicateVl, DuplicatePort, NoSuchVl, NoSuchSub, SamplingTooLong, SameFlow, SharedUnicast, Limit, Memory}
-
--- none is found where each fails the test
-none_step : {X : Type 0} (p : X → Bool) (x : X) (xs : List X) (b : Bool) → p x ≡ b
-    → cond b (Some x) (find p xs) ≡ None → (p x ≡ false) × (find p xs ≡ None)
-none_step p x xs true e k = cc
-none_step p x xs false e k = (e, k)
-
--- where none is found, each fails the test
-pub find_none-list : {X : Type 0} (p : X → Bool) (xs : List X) → find p xs ≡ None → AllByRecursion (λ x. p x ≡ false) xs
-find_none-list p [] h = tt
-find_none-list p (x ∷ xs) h = let (e, k) = none_step p x xs (p x) refl h in (e, find_none-list p xs k)
+use Rattle.afdx_plan.specs.declared.fault.ConfigFault.{ConfigFault}
+use Rattle.afdx_plan.specs.declared.fault.ConfigFault.TheVariants.{Toml, MissingKey, UnknownKey, WrongKind, OutOfRange, BadBag, DuplicateVl, DuplicatePort, NoSuchVl, NoSuchSub, SamplingTooLong, SameFlow, SharedUnicast, Limit, Memory}
 
 -- each fault of the list has a smaller number than those behind it
 abbrev pub Rising : List ConfigFault → Type 0
@@ -57,23 +48,30 @@ find_least p (x ∷ xs) e rising found = unfolding_least p x xs e (p x) refl fou
 all_rising : Rising all_faults
 all_rising = search (rules, arith)
 
+-- what holds of each fault that documents show, and of the two others, holds of every fault
+every : (P : ConfigFault → Type 0) → AllByRecursion P all_faults → P Toml → P Memory → (f : ConfigFault) → P f
+every P each toml memory Toml = toml
+every P each toml memory MissingKey = each.0
+every P each toml memory UnknownKey = each.1.0
+every P each toml memory WrongKind = each.1.1.0
+every P each toml memory OutOfRange = each.1.1.1.0
+every P each toml memory BadBag = each.1.1.1.1.0
+every P each toml memory DuplicateVl = each.1.1.1.1.1.0
+every P each toml memory DuplicatePort = each.1.1.1.1.1.1.0
+every P each toml memory NoSuchVl = each.1.1.1.1.1.1.1.0
+every P each toml memory NoSuchSub = each.1.1.1.1.1.1.1.1.0
+every P each toml memory SamplingTooLong = each.1.1.1.1.1.1.1.1.1.0
+every P each toml memory SameFlow = each.1.1.1.1.1.1.1.1.1.1.0
+every P each toml memory SharedUnicast = each.1.1.1.1.1.1.1.1.1.1.1.0
+every P each toml memory Limit = each.1.1.1.1.1.1.1.1.1.1.1.1.0
+every P each toml memory Memory = memory
+
 -- the first fault of a document is its least
 pub least_of : (doc : Members) (e : ConfigFault) → find (λ f. shows f doc) all_faults ≡ Some e → (f : ConfigFault)
     → fault_number f < fault_number e → shows f doc ≡ false
-least_of doc e found MissingKey l = (find_least (λ f. shows f doc) all_faults e all_rising found).1.0 l
-least_of doc e found UnknownKey l = (find_least (λ f. shows f doc) all_faults e all_rising found).1.1.0 l
-least_of doc e found WrongKind l = (find_least (λ f. shows f doc) all_faults e all_rising found).1.1.1.0 l
-least_of doc e found OutOfRange l = (find_least (λ f. shows f doc) all_faults e all_rising found).1.1.1.1.0 l
-least_of doc e found BadBag l = (find_least (λ f. shows f doc) all_faults e all_rising found).1.1.1.1.1.0 l
-least_of doc e found DuplicateVl l = (find_least (λ f. shows f doc) all_faults e all_rising found).1.1.1.1.1.1.0 l
-least_of doc e found DuplicatePort l = (find_least (λ f. shows f doc) all_faults e all_rising found).1.1.1.1.1.1.1.0 l
-least_of doc e found NoSuchVl l = (find_least (λ f. shows f doc) all_faults e all_rising found).1.1.1.1.1.1.1.1.0 l
-least_of doc e found NoSuchSub l = (find_least (λ f. shows f doc) all_faults e all_rising found).1.1.1.1.1.1.1.1.1.0 l
-least_of doc e found SamplingTooLong l = (find_least (λ f. shows f doc) all_faults e all_rising found).1.1.1.1.1.1.1.1.1.1.0 l
-least_of doc e found SameFlow l = (find_least (λ f. shows f doc) all_faults e all_rising found).1.1.1.1.1.1.1.1.1.1.1.0 l
-least_of doc e found SharedUnicast l = (find_least (λ f. shows f doc) all_faults e all_rising found).1.1.1.1.1.1.1.1.1.1.1.1.0 l
-least_of doc e found Limit l = (find_least (λ f. shows f doc) all_faults e all_rising found).1.1.1.1.1.1.1.1.1.1.1.1.1.0 l
-least_of doc e found _ l = refl
+least_of doc e found =
+    every (λ f. fault_number f < fault_number e → shows f doc ≡ false)
+    (find_least (λ f. shows f doc) all_faults e all_rising found).1 (λ l. refl) (λ l. refl)
 
 -- the first fault of a document is shown
 pub shown_of : (doc : Members) (e : ConfigFault) → find (λ f. shows f doc) all_faults ≡ Some e → shows e doc ≡ true
@@ -81,20 +79,7 @@ shown_of doc e found = (find_least (λ f. shows f doc) all_faults e all_rising f
 
 -- a document without fault shows none
 pub none_of : (doc : Members) → find (λ f. shows f doc) all_faults ≡ None → (f : ConfigFault) → shows f doc ≡ false
-none_of doc none MissingKey = (find_none-list (λ f. shows f doc) all_faults none).0
-none_of doc none UnknownKey = (find_none-list (λ f. shows f doc) all_faults none).1.0
-none_of doc none WrongKind = (find_none-list (λ f. shows f doc) all_faults none).1.1.0
-none_of doc none OutOfRange = (find_none-list (λ f. shows f doc) all_faults none).1.1.1.0
-none_of doc none BadBag = (find_none-list (λ f. shows f doc) all_faults none).1.1.1.1.0
-none_of doc none DuplicateVl = (find_none-list (λ f. shows f doc) all_faults none).1.1.1.1.1.0
-none_of doc none DuplicatePort = (find_none-list (λ f. shows f doc) all_faults none).1.1.1.1.1.1.0
-none_of doc none NoSuchVl = (find_none-list (λ f. shows f doc) all_faults none).1.1.1.1.1.1.1.0
-none_of doc none NoSuchSub = (find_none-list (λ f. shows f doc) all_faults none).1.1.1.1.1.1.1.1.0
-none_of doc none SamplingTooLong = (find_none-list (λ f. shows f doc) all_faults none).1.1.1.1.1.1.1.1.1.0
-none_of doc none SameFlow = (find_none-list (λ f. shows f doc) all_faults none).1.1.1.1.1.1.1.1.1.1.0
-none_of doc none SharedUnicast = (find_none-list (λ f. shows f doc) all_faults none).1.1.1.1.1.1.1.1.1.1.1.0
-none_of doc none Limit = (find_none-list (λ f. shows f doc) all_faults none).1.1.1.1.1.1.1.1.1.1.1.1.0
-none_of doc none _ = refl
+none_of doc none = every (λ f. shows f doc ≡ false) (find_none-list (λ f. shows f doc) all_faults none) refl refl
 
 -- what a document shows, its text has
 pub has : (f : ConfigFault) (text : List ℕ) (doc : Members) → Reads text doc → shows f doc ≡ true → HasFault f text
@@ -112,23 +97,6 @@ other f text doc reads h (d, r, k) =
 pub hasnt : (f : ConfigFault) (text : List ℕ) (doc : Members) → Reads text doc → shows f doc ≡ false → ¬ HasFault f text
 hasnt Toml text doc reads h = λ k. k doc reads
 hasnt f text doc reads h = λ k. other f text doc reads h k
-
--- the two lists, one after the other
-pub find_later : {X : Type 0} (p : X → Bool) (xs ys : List X) → find p xs ≡ None → find p (xs ++ ys) ≡ find p ys
-find_later p [] ys h = refl
-find_later p (x ∷ xs) ys h = let (e, k) = none_step p x xs (p x) refl h in rw e (find_later p xs ys k)
-
--- the first of a list, or one behind it
-first_step : {X : Type 0} (p : X → Bool) (x : X) (xs ys : List X) (e : X) (b : Bool) → p x ≡ b
-    → cond b (Some x) (find p xs) ≡ Some e → (find p xs ≡ Some e → find p (xs ++ ys) ≡ Some e)
-    → cond b (Some x) (find p (xs ++ ys)) ≡ Some e
-first_step p x xs ys e true is h rest = h
-first_step p x xs ys e false is h rest = rest h
-
--- what is found in the first list is found in both
-pub find_first : {X : Type 0} (p : X → Bool) (xs ys : List X) (e : X) → find p xs ≡ Some e → find p (xs ++ ys) ≡ Some e
-find_first p [] ys e h = cc
-find_first p (x ∷ xs) ys e h = first_step p x xs ys e (p x) refl h (λ k. find_first p xs ys e k)
 
 -- what is known of a document's answer, of its text's
 pub answer_ok : (text : List ℕ) (doc : Members) (r : Result Plan ConfigFault) → Reads text doc

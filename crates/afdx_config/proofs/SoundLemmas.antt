@@ -12,13 +12,13 @@ use Rattle.toml.specs.declared.value.Value.{Value}
 use Rattle.afdx_config.specs.Tables.{end_lacks, link_lacks, port_lacks, end_has_wrong_kind, link_has_wrong_kind, port_has_wrong_kind, end_is_outside, link_is_outside, port_is_outside, link_has_bad_bag}
 use Rattle.afdx_config.specs.Document.{some_table, lacks_key, has_wrong_kind, is_out_of_range, has_bad_bag}
 use Rattle.afdx_config.specs.Views.{AreSectionsOf, AreSound, IsSoundEnd, IsSoundLink, IsSoundPort}
-use Rattle.afdx_config.specs.declared.link_plan.LinkPlan.{LinkPlan}
-use Rattle.afdx_config.specs.declared.port_plan.PortPlan.{PortPlan}
+use Rattle.afdx_plan.specs.declared.link_plan.LinkPlan.{LinkPlan}
+use Rattle.afdx_plan.specs.declared.port_plan.PortPlan.{PortPlan}
 use Rattle.afdx_config.specs.Entries.{number_at}
 use Rattle.afdx_config.specs.PlanOf.{link_of, port_of, plan_of}
 use Rattle.afdx_config.specs.Faults.{shows, value_faults}
 use Rattle.afdx_config.specs.declared.sections.Sections.{Sections}
-use Rattle.afdx_config.proofs.LeastLemmas.{find_none-list}
+use Rattle.afdx_plan.proofs.FindLemmas.{find_none-list}
 use Rattle.afdx_config.proofs.SectionTests.{test_of_document, links_of_document}
 
 -- a table that was found

@@ -4,14 +4,14 @@
 use Rattle.std.specs.Prelude.{codes, map, option_and_then, unwrap_or}
 use Rattle.std.specs.Option.{option_map_or}
 use Rattle.toml.specs.Data.{Members}
-use Rattle.afdx_config.specs.declared.link_plan.LinkPlan.{LinkPlan}
-use Rattle.afdx_config.specs.declared.port_plan.PortPlan.{PortPlan}
-use Rattle.afdx_config.specs.declared.bag.Bag.TheVariants.{Ms1}
-use Rattle.afdx_config.specs.declared.identifiers.Kind.TheVariants.{Sampling}
+use Rattle.afdx_plan.specs.declared.link_plan.LinkPlan.{LinkPlan}
+use Rattle.afdx_plan.specs.declared.port_plan.PortPlan.{PortPlan}
+use Rattle.afdx_plan.specs.declared.bag.Bag.TheVariants.{Ms1}
+use Rattle.afdx_plan.specs.declared.identifiers.Kind.TheVariants.{Sampling}
 use Rattle.afdx_config.specs.Entries.{whole_at, text_at, number_at}
 use Rattle.afdx_config.specs.Document.{section_at, rows_at}
 use Rattle.afdx_config.specs.Values.{bag_of, kind_of, address_of}
-use Rattle.afdx_config.specs.Config.{Plan}
+use Rattle.afdx_plan.specs.Config.{Plan}
 
 -- the link of a table
 unfoldable pub link_of : Members → LinkPlan

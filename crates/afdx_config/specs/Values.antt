@@ -4,10 +4,10 @@ use Rattle.std.specs.List.{slice_split}
 use Rattle.std.specs.Str.Parse.{digits_value}
 use Rattle.std.specs.Net.Text.{dotted_text}
 use Rattle.std.specs.Net.Grammar.{IsDotted}
-use Rattle.afdx_config.specs.declared.bag.Bag.{Bag}
-use Rattle.afdx_config.specs.declared.bag.Bag.TheVariants.{Ms1, Ms2, Ms4, Ms8, Ms16, Ms32, Ms64, Ms128}
-use Rattle.afdx_config.specs.declared.identifiers.Kind.{Kind}
-use Rattle.afdx_config.specs.declared.identifiers.Kind.TheVariants.{Sampling, Queuing}
+use Rattle.afdx_plan.specs.declared.bag.Bag.{Bag}
+use Rattle.afdx_plan.specs.declared.bag.Bag.TheVariants.{Ms1, Ms2, Ms4, Ms8, Ms16, Ms32, Ms64, Ms128}
+use Rattle.afdx_plan.specs.declared.identifiers.Kind.{Kind}
+use Rattle.afdx_plan.specs.declared.identifiers.Kind.TheVariants.{Sampling, Queuing}
 
 -- the gap of a number of milliseconds
 unfoldable pub bag_of : ℤ → Option Bag

@@ -4,7 +4,7 @@ use Rattle.std.specs.List.{list_any}
 use Rattle.std.specs.Option.{option_map_or, ForSome}
 use Rattle.toml.specs.Data.{Members}
 use Rattle.toml.specs.View.{table_view}
-use Rattle.afdx_config.specs.Config.{Plan, plan_of_parts}
+use Rattle.afdx_plan.specs.Config.{Plan, plan_of_parts}
 use Rattle.afdx_config.specs.Document.{section_at, rows_at}
 use Rattle.afdx_config.specs.Tables.{end_lacks, end_has_wrong_kind, end_is_outside, link_lacks, link_has_wrong_kind, link_is_outside, link_has_bad_bag, port_lacks, port_has_wrong_kind, port_is_outside}
 use Rattle.afdx_config.specs.declared.sections.Sections.{Sections}

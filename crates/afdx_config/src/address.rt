@@ -1,6 +1,6 @@
 //! Unicast addresses, as a text writes them.
 ghost use Rattle.std.specs.Prelude.{◌≡◌, ◌==◌, if◌then◌else◌, slice_index, Some, None, IfSome};
-ghost use Rattle.afdx_config.specs.Plan.{IsUnicast};
+ghost use Rattle.afdx_plan.specs.Plan.{IsUnicast};
 ghost use Rattle.afdx_config.specs.Values.{address_of};
 
 use std::net::Ipv4Addr;

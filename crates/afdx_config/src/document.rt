@@ -13,7 +13,6 @@ use crate::end_table::{
     end_has_other_key, end_is_of_wrong_kind, end_is_out_of_range, end_lacks_key,
 };
 use crate::entries::lacks_key;
-use crate::fault::ConfigFault;
 use crate::link_table::{
     some_link_has_bad_bag, some_link_has_other_key, some_link_is_of_wrong_kind,
     some_link_is_out_of_range, some_link_lacks_key,
@@ -23,6 +22,7 @@ use crate::port_table::{
     some_port_lacks_key,
 };
 use crate::sections::{Sections, is_other_than_rows, is_other_than_table, rows, section};
+use afdx_plan::ConfigFault;
 use std::alloc::{AllocError, Global};
 use toml::Table;
 

@@ -5,15 +5,13 @@ ghost use Rattle.std.specs.BTreeMap.{keys};
 ghost use Rattle.toml.specs.View.{table_view};
 ghost use Rattle.afdx_config.specs.Entries.{has_key_besides};
 ghost use Rattle.afdx_config.specs.Tables.{is_link_key, link_lacks, link_has_wrong_kind, link_is_outside, link_has_bad_bag};
-ghost use Rattle.afdx_config.specs.Plan.{IsLink};
+ghost use Rattle.afdx_plan.specs.Plan.{IsLink};
 ghost use Rattle.afdx_config.specs.PlanOf.{link_of};
 ghost use Rattle.afdx_config.specs.Views.{IsSoundLink};
 
-use crate::bag::Bag;
 use crate::entries::{is_other_than_whole, is_out_of_range, lacks_key, number, whole_number};
-use crate::identifiers::VlId;
-use crate::link_plan::LinkPlan;
-use crate::lmax::Lmax;
+use crate::values::bag_of_ms;
+use afdx_plan::{Bag, LinkPlan, Lmax, VlId};
 use std::alloc::{AllocError, Global};
 use toml::Table;
 
@@ -106,7 +104,7 @@ fn has_bad_bag(table: &Table) -> bool
     ensures { result ≡ link_has_bad_bag (table_view table.now) }
 {
     match whole_number(table, "bag_ms") {
-        Some(number) => Bag::of_ms(number).is_none(),
+        Some(number) => bag_of_ms(number).is_none(),
         None => false,
     }
 }
@@ -126,7 +124,7 @@ fn link_plan(table: &Table) -> LinkPlan
     ensures ranges { IsLink result }
 {
     let bag = match whole_number(table, "bag_ms") {
-        Some(number) => Bag::of_ms(number),
+        Some(number) => bag_of_ms(number),
         None => None,
     };
     LinkPlan {

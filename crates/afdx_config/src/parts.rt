@@ -1,16 +1,15 @@
 //! A plan that wasn't judged as a whole.
 ghost use Rattle.std.specs.Prelude.{◌≡◌, ◌<◌, IfOk, All};
 ghost use Rattle.toml.specs.View.{table_view};
-ghost use Rattle.afdx_config.specs.Plan.{IsLink, IsPort};
+ghost use Rattle.afdx_plan.specs.Plan.{IsLink, IsPort};
 ghost use Rattle.afdx_config.specs.PlanOf.{plan_of};
 ghost use Rattle.afdx_config.specs.Views.{AreSectionsOf, AreSound, plan_in};
 
 use crate::end_table::end_system;
-use crate::link_plan::LinkPlan;
 use crate::link_table::link_plans;
-use crate::port_plan::PortPlan;
 use crate::port_table::port_plans;
 use crate::sections::Sections;
+use afdx_plan::{LinkPlan, PortPlan};
 use std::alloc::{AllocError, Global};
 use toml::Table;
 

@@ -5,9 +5,9 @@ ghost use Rattle.std.specs.BTreeMap.{keys};
 ghost use Rattle.toml.specs.View.{table_view};
 ghost use Rattle.afdx_config.specs.Entries.{has_key_besides, text_at};
 ghost use Rattle.afdx_config.specs.Values.{address_of, kind_of};
-ghost use Rattle.afdx_config.specs.declared.identifiers.Kind.TheVariants.{Sampling};
+ghost use Rattle.afdx_plan.specs.declared.identifiers.Kind.TheVariants.{Sampling};
 ghost use Rattle.afdx_config.specs.Tables.{is_port_key, port_lacks, port_has_wrong_kind, port_is_outside, names_no_kind, writes_no_address};
-ghost use Rattle.afdx_config.specs.Plan.{IsPort, IsUnicast};
+ghost use Rattle.afdx_plan.specs.Plan.{IsPort, IsUnicast};
 ghost use Rattle.afdx_config.specs.PlanOf.{port_of};
 ghost use Rattle.afdx_config.specs.Views.{IsSoundPort};
 
@@ -15,8 +15,8 @@ use crate::address::unicast_address;
 use crate::entries::{
     is_other_than_text, is_other_than_whole, is_out_of_range, lacks_key, number, text,
 };
-use crate::identifiers::{Kind, PortId, VlId};
-use crate::port_plan::PortPlan;
+use crate::values::kind_named;
+use afdx_plan::{Kind, PortId, PortPlan, VlId};
 use std::alloc::{AllocError, Global};
 use toml::Table;
 
@@ -128,7 +128,7 @@ fn names_no_kind(table: &Table) -> bool
     ensures { result ≡ names_no_kind (table_view table.now) }
 {
     match text(table, "kind") {
-        Some(name) => Kind::named(name).is_none(),
+        Some(name) => kind_named(name).is_none(),
         None => false,
     }
 }
@@ -150,7 +150,7 @@ fn kind(table: &Table) -> Kind
         Sampling }
 {
     let kind = match text(table, "kind") {
-        Some(name) => Kind::named(name),
+        Some(name) => kind_named(name),
         None => None,
     };
     kind.unwrap_or(Kind::Sampling)

@@ -4,11 +4,9 @@ ghost use Rattle.toml.specs.View.{table_view};
 ghost use Rattle.afdx_config.specs.PlanOf.{plan_of};
 ghost use Rattle.afdx_config.specs.Faults.{shows, all_faults, IsPlanOf, IsLeastFault};
 
-use crate::config::Config;
 use crate::document::{sections, value_fault};
-use crate::fault::ConfigFault;
 use crate::parts::parts_of;
-use crate::plan_faults::plan_fault;
+use afdx_plan::{Config, ConfigFault};
 use std::alloc::Global;
 use toml::Table;
 
@@ -28,10 +26,7 @@ fn read_document(alloc: Global, document: &Table) -> Result<Config, ConfigFault>
         return Err(fault);
     }
     match parts_of(alloc, document, &sections) {
-        Ok(parts) => match plan_fault(&parts) {
-            Some(fault) => Err(fault),
-            None => Ok(Config::of(parts.end_system, parts.links, parts.ports)),
-        },
+        Ok(parts) => Config::new(parts.end_system, parts.links, parts.ports),
         Err(_) => Err(ConfigFault::Memory),
     }
 }
@@ -54,6 +49,3 @@ pub fn read_config(alloc: Global, text: &[u8]) -> Result<Config, ConfigFault>
         }
     }
 }
-
-#[cfg(test)]
-mod tests;

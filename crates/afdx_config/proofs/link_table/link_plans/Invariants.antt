@@ -1,6 +1,6 @@
 use Rattle.std.proofs.Common.{◌≡◌, map, take}
 use Rattle.std.specs.Prelude.{All}
-use Rattle.afdx_config.specs.Plan.{IsLink}
+use Rattle.afdx_plan.specs.Plan.{IsLink}
 use Rattle.toml.specs.View.{table_view}
 use Rattle.afdx_config.specs.PlanOf.{link_of}
 use Rattle.afdx_config.proofs.link_table.link_plans.Given as goal

@@ -1,6 +1,6 @@
 use Rattle.std.proofs.Common.{◌≡◌, map, take}
 use Rattle.std.specs.Prelude.{All}
-use Rattle.afdx_config.specs.Plan.{IsPort}
+use Rattle.afdx_plan.specs.Plan.{IsPort}
 use Rattle.toml.specs.View.{table_view}
 use Rattle.afdx_config.specs.PlanOf.{port_of}
 use Rattle.afdx_config.proofs.port_table.port_plans.Given as goal

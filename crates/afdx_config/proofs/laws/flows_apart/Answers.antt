@@ -1,5 +1,0 @@
-use Rattle.afdx_config.proofs.FlowLemmas.{apart}
-use Rattle.afdx_config.proofs.laws.flows_apart.Goals as goal
-
-pub returns : goal.returns
-returns c = apart _ c.ports-ports.ensures.valid

@@ -1,0 +1,37 @@
+//! Values of a plan, as a text writes them.
+ghost use Rattle.std.specs.Prelude.{◌≡◌};
+ghost use Rattle.afdx_config.specs.Values.{bag_of, kind_of};
+
+use afdx_plan::{Bag, Kind};
+
+/// The gap of a number of milliseconds, where it is one.
+#[tactic(auto, unfolding(crate::specs::Values::bag_of))]
+pub(crate) fn bag_of_ms(number: i64) -> Option<Bag>
+    ensures { result ≡ bag_of number }
+{
+    match number {
+        1 => Some(Bag::Ms1),
+        2 => Some(Bag::Ms2),
+        4 => Some(Bag::Ms4),
+        8 => Some(Bag::Ms8),
+        16 => Some(Bag::Ms16),
+        32 => Some(Bag::Ms32),
+        64 => Some(Bag::Ms64),
+        128 => Some(Bag::Ms128),
+        _ => None,
+    }
+}
+
+/// The kind that a text names.
+#[tactic(auto, unfolding(crate::specs::Values::kind_of))]
+pub(crate) fn kind_named(text: &str) -> Option<Kind>
+    ensures { result ≡ kind_of text.now }
+{
+    if text == "sampling" {
+        Some(Kind::Sampling)
+    } else if text == "queuing" {
+        Some(Kind::Queuing)
+    } else {
+        None
+    }
+}

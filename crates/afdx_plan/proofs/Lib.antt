@@ -1,0 +1,4 @@
+pub mod FlowLemmas
+pub mod FindLemmas
+pub mod PlanLemmas
+pub mod FaultlessLemmas

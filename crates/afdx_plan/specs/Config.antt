@@ -1,0 +1,91 @@
+-- The plan of an end system, and when it is valid.
+use Rattle.std.specs.Prelude.{◌≡◌, ℕ, ◌-◌, ◌<◌, ◌≤◌, List, length, get_or, count_by, nat_eq, ◌&&◌, Some, None, All, Contains}
+use Rattle.afdx_plan.specs.declared.bag.Bag.TheVariants.{Ms1}
+use Rattle.afdx_plan.specs.declared.identifiers.Kind.TheVariants.{Sampling, Queuing}
+use Rattle.afdx_plan.specs.declared.link_plan.LinkPlan.{LinkPlan}
+use Rattle.afdx_plan.specs.declared.port_plan.PortPlan.{PortPlan}
+use Rattle.afdx_plan.specs.declared.limits.TheConstants.{LINKS_LIMIT, PORTS_LIMIT, SUB_PORTS_LIMIT}
+use Rattle.afdx_plan.specs.Address.{destination_address}
+use Rattle.afdx_plan.specs.Plan.{IsLink, IsPort, SendsOver}
+
+-- an end system's identifier, its virtual links and its ports
+pub record Plan : Type 0 where
+  pub end_system : ℕ
+  pub links : List LinkPlan
+  pub ports : List PortPlan
+
+-- the plan of these parts
+abbrev pub plan_of_parts : ℕ → List LinkPlan → List PortPlan → Plan
+plan_of_parts number virtual_links senders = record {
+  end_system = number;
+  links = virtual_links;
+  ports = senders;
+}
+
+-- the link at a place; past the end a plan that no link has
+abbrev pub link_plan_at : List LinkPlan → ℕ → LinkPlan
+link_plan_at links k = get_or links k (record {
+  id = record { 0 = 0 };
+  bag = Ms1;
+  lmax = 64;
+  sub_vls = 0;
+  capacity = 0;
+})
+
+-- the port at a place; past the end a plan that no port has
+abbrev pub port_plan_at : List PortPlan → ℕ → PortPlan
+port_plan_at ports k = get_or ports k (record {
+  id = record { 0 = 0 };
+  vl = record { 0 = 0 };
+  sub = 0;
+  partition = 0;
+  kind = Queuing;
+  source = 0;
+  destination = 0;
+  max = 0;
+  unicast = None;
+})
+
+-- a port sends over the link at a place, on one of its sub-VLs
+pub record HasLink (links : List LinkPlan) (port : PortPlan) : Type 0 where
+  pub at : ℕ
+  pub within : at < length links
+  pub over : SendsOver port (link_plan_at links at)
+
+-- two ports agree in link, partition, both UDP ports and destination
+pub record AreSameFlow (p q : PortPlan) : Type 0 where
+  pub vl : p.vl ≡ q.vl
+  pub partition : p.partition ≡ q.partition
+  pub source : p.source ≡ q.source
+  pub destination : p.destination ≡ q.destination
+  pub address : destination_address p ≡ destination_address q
+
+-- how many ports a sub-VL has
+abbrev pub ports_on : List PortPlan → ℕ → ℕ → ℕ
+ports_on ports vl sub =
+    count_by (λ (port : PortPlan). nat_eq port.vl.0 vl && nat_eq port.sub sub) ports
+
+-- A valid plan. Ranges: each number lies in its own.
+-- Identifiers: no two links share one, and no two ports. Ports: each has its link and sub-VL there,
+-- and a sampling port's greatest message fits into one frame of its link.
+-- Flows: no two ports agree in all that a flow shows, and ports on different links never share both
+-- a partition and a unicast address.
+pub record IsPlan (plan : Plan) : Type 0 where
+  pub end_system : plan.end_system < 65536
+  pub links : (1 ≤ length plan.links) × (length plan.links ≤ LINKS_LIMIT)
+  pub ports : (1 ≤ length plan.ports) × (length plan.ports ≤ PORTS_LIMIT)
+  pub each_link : All IsLink plan.links
+  pub each_port : All IsPort plan.ports
+  pub links_apart : (i j : ℕ) → i < length plan.links → j < length plan.links
+      → (link_plan_at plan.links i).id ≡ (link_plan_at plan.links j).id → i ≡ j
+  pub ports_apart : (i j : ℕ) → i < length plan.ports → j < length plan.ports
+      → (port_plan_at plan.ports i).id ≡ (port_plan_at plan.ports j).id → i ≡ j
+  pub linked : All (HasLink plan.links) plan.ports
+  pub sampling : (p : PortPlan) (link : LinkPlan) → Contains plan.ports p → Contains plan.links link
+      → p.kind ≡ Sampling → link.id ≡ p.vl → p.max ≤ link.lmax - 47
+  pub flows_apart : (p q : PortPlan) → Contains plan.ports p → Contains plan.ports q
+      → AreSameFlow p q → p ≡ q
+  pub unicasts_apart : (p q : PortPlan) → Contains plan.ports p → Contains plan.ports q
+      → (address : List ℕ) → p.unicast ≡ Some address → q.unicast ≡ Some address
+      → p.partition ≡ q.partition → p.vl ≡ q.vl
+  pub few_ports : (vl sub : ℕ) → ports_on plan.ports vl sub ≤ SUB_PORTS_LIMIT

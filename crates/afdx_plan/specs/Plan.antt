@@ -1,0 +1,55 @@
+-- What a plan's numbers mean.
+use Rattle.std.specs.Prelude.{◌≡◌, ℕ, ◌+◌, ◌*◌, ◌<◌, ◌≤◌, List, length, slice_index, sum_by, IfSome}
+use Rattle.afdx_plan.specs.declared.bag.Bag.{Bag}
+use Rattle.afdx_plan.specs.declared.bag.Bag.TheVariants.{Ms1, Ms2, Ms4, Ms8, Ms16, Ms32, Ms64, Ms128}
+use Rattle.afdx_plan.specs.declared.limits.TheConstants.{CAPACITY_LIMIT, MESSAGE_LIMIT}
+use Rattle.afdx_plan.specs.declared.link_plan.LinkPlan.{LinkPlan}
+use Rattle.afdx_plan.specs.declared.port_plan.PortPlan.{PortPlan}
+
+-- the bandwidth allocation gap in milliseconds
+abbrev pub bag_ms : Bag → ℕ
+bag_ms Ms1 = 1
+bag_ms Ms2 = 2
+bag_ms Ms4 = 4
+bag_ms Ms8 = 8
+bag_ms Ms16 = 16
+bag_ms Ms32 = 32
+bag_ms Ms64 = 64
+bag_ms Ms128 = 128
+
+-- the same in microseconds
+abbrev pub bag_micros : Bag → ℕ
+bag_micros bag = 1000 * bag_ms bag
+
+-- an IPv4 address in 10.0.0.0/8
+pub record IsUnicast (address : List ℕ) : Type 0 where
+  pub four : length address ≡ 4
+  pub bytes : (i : ℕ) → slice_index address i < 256
+  pub first : slice_index address 0 ≡ 10
+
+-- what every link of a configuration keeps
+pub record IsLink (link : LinkPlan) : Type 0 where
+  pub id : link.id.0 < 65536
+  pub lmax : (64 ≤ link.lmax) × (link.lmax ≤ 1518)
+  pub sub_vls : (1 ≤ link.sub_vls) × (link.sub_vls ≤ 4)
+  pub capacity : (1 ≤ link.capacity) × (link.capacity ≤ CAPACITY_LIMIT)
+
+-- what every port of a configuration keeps
+pub record IsPort (port : PortPlan) : Type 0 where
+  pub id : port.id.0 < 65536
+  pub vl : port.vl.0 < 65536
+  pub sub : port.sub < 4
+  pub partition : port.partition < 32
+  pub source : (1 ≤ port.source) × (port.source < 65536)
+  pub destination : (1 ≤ port.destination) × (port.destination < 65536)
+  pub max : (1 ≤ port.max) × (port.max ≤ MESSAGE_LIMIT)
+  pub unicast : IfSome port.unicast IsUnicast
+
+-- the port sends over this link
+pub record SendsOver (port : PortPlan) (link : LinkPlan) : Type 0 where
+  pub id : link.id ≡ port.vl
+  pub sub : port.sub < link.sub_vls
+
+-- the report on jitter, in nanoseconds: 80 for a byte, and 20 bytes around each frame
+abbrev pub jitter_of : List LinkPlan → ℕ
+jitter_of links = 40000 + 80 * sum_by (λ link. 20 + link.lmax) links

@@ -1,0 +1,103 @@
+//! A valid plan.
+ghost use Rattle.std.specs.Prelude.{◌≡◌, ◌==◌, All, position, IfOk, IfErr, None, Some};
+ghost use Rattle.afdx_plan.specs.Config.{IsPlan, plan_of_parts};
+ghost use Rattle.afdx_plan.specs.Plan.{IsLink, IsPort};
+ghost use Rattle.afdx_plan.specs.PlanFaults.{least_plan_fault};
+
+use crate::fault::ConfigFault;
+use crate::identifiers::{PortId, VlId};
+use crate::link_plan::LinkPlan;
+use crate::plan_faults::plan_fault;
+use crate::port_plan::PortPlan;
+use std::marker::Model;
+
+/// A plan of an end system that has none of the faults of `ConfigFault`.
+#[derive(Debug, Drop)]
+pub struct Config {
+    end_system: u16,
+    links: Vec<LinkPlan>,
+    ports: Vec<PortPlan>,
+}
+
+impl Model for Config {
+    ghost use Rattle.afdx_plan.specs.Config.{Plan, IsPlan, plan_of_parts};
+
+    ghost Value = { Plan };
+
+    ghost view = { λ c. plan_of_parts c.end_system c.links.items c.ports.items };
+
+    ghost invariant = { λ c. IsPlan (plan_of_parts c.end_system c.links.items c.ports.items) };
+}
+
+impl Config {
+    /// The plan of its parts, or the fault of the least number that they show.
+    pub fn new(
+        end_system: u16,
+        links: Vec<LinkPlan>,
+        ports: Vec<PortPlan>,
+    ) -> Result<Config, ConfigFault>
+        requires links { All IsLink links.items }
+        requires ports { All IsPort ports.items }
+        ensures plan { IfOk result (λ config.
+            config ≡ plan_of_parts end_system links.items ports.items) }
+        ensures fine { IfOk result (λ _. least_plan_fault links.items ports.items ≡ None) }
+        ensures fault { IfErr result (λ least.
+            least_plan_fault links.items ports.items ≡ Some least) }
+    {
+        match plan_fault(links.as_slice(), ports.as_slice()) {
+            Some(fault) => Err(fault),
+            None => Ok(Config::of(end_system, links, ports)),
+        }
+    }
+
+    /// The plan of parts without fault.
+    pub(crate) fn of(end_system: u16, links: Vec<LinkPlan>, ports: Vec<PortPlan>) -> Config
+        requires { IsPlan (plan_of_parts end_system links.items ports.items) }
+        ensures { result ≡ plan_of_parts end_system links.items ports.items }
+    {
+        Config {
+            end_system,
+            links,
+            ports,
+        }
+    }
+
+    /// The end system's identifier.
+    pub fn end_system(&self) -> u16
+        ensures { result ≡ self.now.end_system }
+    {
+        self.end_system
+    }
+
+    /// The links, in the order of the text.
+    pub fn links(&self) -> &[LinkPlan]
+        ensures plan { result.now ≡ self.now.links }
+        ensures valid { IsPlan self.now }
+        ensures each { All IsLink result.now }
+    {
+        &self.links
+    }
+
+    /// The ports, in the order of the text.
+    pub fn ports(&self) -> &[PortPlan]
+        ensures plan { result.now ≡ self.now.ports }
+        ensures valid { IsPlan self.now }
+        ensures each { All IsPort result.now }
+    {
+        &self.ports
+    }
+
+    /// The place of a link among the links.
+    pub fn link_index(&self, id: VlId) -> Option<usize>
+        ensures { result ≡ position (λ link. link.id.0 == id.0) self.now.links }
+    {
+        self.links.iter().position(|link| link.id.0 == id.0)
+    }
+
+    /// The place of a port among the ports.
+    pub fn port_index(&self, id: PortId) -> Option<usize>
+        ensures { result ≡ position (λ port. port.id.0 == id.0) self.now.ports }
+    {
+        self.ports.iter().position(|port| port.id.0 == id.0)
+    }
+}

@@ -1,0 +1,53 @@
+//! The demonstration configuration.
+ghost use Rattle.std.specs.Prelude.{◌≡◌, IfOk, IfErr};
+ghost use Rattle.afdx_plan.specs.Demo.{demo_link, demo_port, demo_plan};
+
+use crate::bag::Bag;
+use crate::config::Config;
+use crate::fault::ConfigFault;
+use crate::identifiers::{Kind, PortId, VlId};
+use crate::link_plan::LinkPlan;
+use crate::lmax::Lmax;
+use crate::port_plan::PortPlan;
+use std::alloc::Global;
+
+/// The demonstration configuration: end system 1 with link 1 and port 10. Only want of memory
+/// refuses it.
+pub fn demo_config(alloc: Global) -> Result<Config, ConfigFault>
+    ensures plan { IfOk result (λ config. config ≡ demo_plan) }
+    ensures refused { IfErr result (λ fault. fault ≡ ConfigFault.Memory) }
+{
+    let links = Vec::from_array(alloc, [demo_link()]).map_err(|_| ConfigFault::Memory)?;
+    let ports = Vec::from_array(alloc, [demo_port()]).map_err(|_| ConfigFault::Memory)?;
+    Ok(Config::of(1, links, ports))
+}
+
+/// Its link.
+fn demo_link() -> LinkPlan
+    ensures { result ≡ demo_link }
+{
+    LinkPlan {
+        id: VlId(1),
+        bag: Bag::Ms1,
+        lmax: Lmax::new(1518),
+        sub_vls: 1,
+        capacity: 2,
+    }
+}
+
+/// Its port.
+fn demo_port() -> PortPlan
+    ensures { result ≡ demo_port }
+{
+    PortPlan {
+        id: PortId(10),
+        vl: VlId(1),
+        sub: 0,
+        partition: 1,
+        kind: Kind::Queuing,
+        source: 1000,
+        destination: 2000,
+        max: 8192,
+        unicast: None,
+    }
+}

@@ -1,0 +1,50 @@
+//! Why a text is no configuration.
+ghost use Rattle.std.specs.Prelude.{◌≡◌};
+ghost use Rattle.afdx_plan.specs.PlanFaults.{fault_number};
+
+use thiserror::Error;
+
+/// Why a text is no configuration. Of the faults of a text the one of the least number is
+/// answered; `Memory` may stand in place of any answer.
+#[derive(Clone, Copy, Debug, PartialEq, Eq, Error)]
+pub enum ConfigFault {
+    #[error("Toml")]
+    Toml = 1,
+    #[error("MissingKey")]
+    MissingKey,
+    #[error("UnknownKey")]
+    UnknownKey,
+    #[error("WrongKind")]
+    WrongKind,
+    #[error("OutOfRange")]
+    OutOfRange,
+    #[error("BadBag")]
+    BadBag,
+    #[error("DuplicateVl")]
+    DuplicateVl,
+    #[error("DuplicatePort")]
+    DuplicatePort,
+    #[error("NoSuchVl")]
+    NoSuchVl,
+    #[error("NoSuchSub")]
+    NoSuchSub,
+    #[error("SamplingTooLong")]
+    SamplingTooLong,
+    #[error("SameFlow")]
+    SameFlow,
+    #[error("SharedUnicast")]
+    SharedUnicast,
+    #[error("Limit")]
+    Limit,
+    #[error("Memory")]
+    Memory,
+}
+
+impl ConfigFault {
+    /// The number of the fault, 1 to 15 in the order above.
+    pub fn number(self) -> u8
+        ensures { result ≡ fault_number self }
+    {
+        self as u8
+    }
+}

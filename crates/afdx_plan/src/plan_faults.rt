@@ -1,0 +1,242 @@
+//! The faults that a plan shows.
+ghost use Rattle.std.specs.Prelude.{◌≡◌, ◌==◌, ◌&&◌, nat_eq, not, find, option_copied, count_by, ℕ, length};
+ghost use Rattle.std.specs.List.{list_any};
+ghost use Rattle.afdx_plan.specs.Config.{ports_on};
+ghost use Rattle.afdx_plan.specs.PlanFaults.{has_pair, has_same_vl, has_same_port, is_link_of, names_no_link, names_no_sub, is_sampling, is_too_long, are_one_address, are_one_destination, has_same_flow, shares_unicast, is_no_count, is_crowded, is_past_limits, least_plan_fault};
+
+use crate::fault::ConfigFault;
+use crate::identifiers::Kind;
+use crate::limits::{LINKS_LIMIT, PORTS_LIMIT, SUB_PORTS_LIMIT};
+use crate::link_plan::LinkPlan;
+use crate::port_plan::PortPlan;
+
+/// Two links have one identifier.
+fn two_links_are_one(links: &[LinkPlan]) -> bool
+    ensures { result ≡ has_pair has_same_vl links.now }
+{
+    for (i, link) in links.iter().enumerate() {
+        if is_again_in(link, &links[i + 1..]) {
+            return true;
+        }
+    }
+    false
+}
+
+fn is_again_in(link: &LinkPlan, others: &[LinkPlan]) -> bool
+    ensures { result ≡ list_any (has_same_vl link.now) others.now }
+{
+    others.iter().any(|other| link.id.0 == other.id.0)
+}
+
+/// Two ports have one identifier.
+fn two_ports_are_one(ports: &[PortPlan]) -> bool
+    ensures { result ≡ has_pair has_same_port ports.now }
+{
+    for (i, port) in ports.iter().enumerate() {
+        if has_its_identifier(port, &ports[i + 1..]) {
+            return true;
+        }
+    }
+    false
+}
+
+fn has_its_identifier(port: &PortPlan, others: &[PortPlan]) -> bool
+    ensures { result ≡ list_any (has_same_port port.now) others.now }
+{
+    others.iter().any(|other| port.id.0 == other.id.0)
+}
+
+/// A port names a link that isn't there.
+fn some_port_has_no_link(links: &[LinkPlan], ports: &[PortPlan]) -> bool
+    ensures { result ≡ list_any (names_no_link links.now) ports.now }
+{
+    ports.iter().any(|port| !has_link(links, port))
+}
+
+fn has_link(links: &[LinkPlan], port: &PortPlan) -> bool
+    ensures { result ≡ list_any (is_link_of port.now) links.now }
+{
+    links.iter().any(|link| link.id.0 == port.vl.0)
+}
+
+/// The link of a port.
+fn link_of<'a>(links: &'a [LinkPlan], port: &PortPlan) -> Option<&'a LinkPlan>
+    ensures { option_copied result ≡ find (is_link_of port.now) links.now }
+{
+    links.iter().find(|link| link.id.0 == port.vl.0)
+}
+
+/// A port's sub-VL isn't there.
+fn some_port_has_no_sub(links: &[LinkPlan], ports: &[PortPlan]) -> bool
+    ensures { result ≡ list_any (names_no_sub links.now) ports.now }
+{
+    ports.iter().any(|port| has_no_sub(links, port))
+}
+
+fn has_no_sub(links: &[LinkPlan], port: &PortPlan) -> bool
+    ensures { result ≡ names_no_sub links.now port.now }
+{
+    match link_of(links, port) {
+        Some(link) => link.sub_vls <= port.sub,
+        None => false,
+    }
+}
+
+/// A sampling port's greatest message doesn't fit into one frame.
+fn some_port_is_too_long(links: &[LinkPlan], ports: &[PortPlan]) -> bool
+    ensures { result ≡ list_any (is_too_long links.now) ports.now }
+{
+    ports.iter().any(|port| is_too_long(links, port))
+}
+
+fn is_too_long(links: &[LinkPlan], port: &PortPlan) -> bool
+    ensures { result ≡ is_too_long links.now port.now }
+{
+    match port.kind {
+        Kind::Queuing => false,
+        Kind::Sampling => match link_of(links, port) {
+            Some(link) => (link.lmax.bytes() as usize) - 47 < port.max,
+            None => false,
+        },
+    }
+}
+
+/// Two ports agree in all that their flow shows.
+fn two_flows_are_one(ports: &[PortPlan]) -> bool
+    ensures { result ≡ has_pair has_same_flow ports.now }
+{
+    for (i, port) in ports.iter().enumerate() {
+        if has_its_flow(port, &ports[i + 1..]) {
+            return true;
+        }
+    }
+    false
+}
+
+fn has_its_flow(port: &PortPlan, others: &[PortPlan]) -> bool
+    ensures { result ≡ list_any (has_same_flow port.now) others.now }
+{
+    others.iter().any(|other| is_same_flow(port, other))
+}
+
+fn is_same_flow(a: &PortPlan, b: &PortPlan) -> bool
+    ensures { result ≡ has_same_flow a.now b.now }
+{
+    a.vl.0 == b.vl.0
+        && a.partition == b.partition
+        && a.source == b.source
+        && a.destination == b.destination
+        && is_one_destination(a.unicast, b.unicast)
+}
+
+fn is_one_destination(a: Option<[u8; 4]>, b: Option<[u8; 4]>) -> bool
+    ensures { result ≡ are_one_destination a b }
+{
+    match (a, b) {
+        (None, None) => true,
+        (Some(one), Some(other)) => one == other,
+        _ => false,
+    }
+}
+
+/// Two ports on different links agree in partition and unicast address.
+fn two_ports_share_an_address(ports: &[PortPlan]) -> bool
+    ensures { result ≡ has_pair shares_unicast ports.now }
+{
+    for (i, port) in ports.iter().enumerate() {
+        if shares_its_address(port, &ports[i + 1..]) {
+            return true;
+        }
+    }
+    false
+}
+
+fn shares_its_address(port: &PortPlan, others: &[PortPlan]) -> bool
+    ensures { result ≡ list_any (shares_unicast port.now) others.now }
+{
+    others.iter().any(|other| shares_address(port, other))
+}
+
+fn shares_address(a: &PortPlan, b: &PortPlan) -> bool
+    ensures { result ≡ shares_unicast a.now b.now }
+{
+    a.vl.0 != b.vl.0 && a.partition == b.partition && is_one_address(a.unicast, b.unicast)
+}
+
+fn is_one_address(a: Option<[u8; 4]>, b: Option<[u8; 4]>) -> bool
+    ensures { result ≡ are_one_address a b }
+{
+    match (a, b) {
+        (Some(one), Some(other)) => one == other,
+        _ => false,
+    }
+}
+
+/// There are no or too many links or ports, or a sub-VL has too many ports.
+fn is_past_limits(links: &[LinkPlan], ports: &[PortPlan]) -> bool
+    ensures { result ≡ is_past_limits links.now ports.now }
+{
+    let in_links = is_no_count(LINKS_LIMIT, links.len());
+    let in_ports = is_no_count(PORTS_LIMIT, ports.len());
+    let in_subs = some_sub_is_crowded(ports);
+    in_links || in_ports || in_subs
+}
+
+fn is_no_count(most: usize, count: usize) -> bool
+    ensures { result ≡ is_no_count most count }
+{
+    count == 0 || most < count
+}
+
+fn some_sub_is_crowded(ports: &[PortPlan]) -> bool
+    ensures { result ≡ list_any (is_crowded ports.now) ports.now }
+{
+    ports.iter().any(|port| is_crowded(ports, port))
+}
+
+fn is_crowded(ports: &[PortPlan], port: &PortPlan) -> bool
+    ensures { result ≡ is_crowded ports.now port.now }
+{
+    SUB_PORTS_LIMIT < count_on(ports, port.vl.0, port.sub)
+}
+
+/// How many ports a sub-VL has.
+fn count_on(ports: &[PortPlan], vl: u16, sub: u8) -> usize
+    ensures { result ≡ ports_on ports.now vl sub }
+{
+    ports
+        .iter()
+        .filter(|port| port.vl.0 == vl && port.sub == sub)
+        .count()
+}
+
+/// The fault of the least number that the links and ports of a plan show.
+pub(crate) fn plan_fault(links: &[LinkPlan], ports: &[PortPlan]) -> Option<ConfigFault>
+    ensures { result ≡ least_plan_fault links.now ports.now }
+{
+    if two_links_are_one(links) {
+        return Some(ConfigFault::DuplicateVl);
+    }
+    if two_ports_are_one(ports) {
+        return Some(ConfigFault::DuplicatePort);
+    }
+    if some_port_has_no_link(links, ports) {
+        return Some(ConfigFault::NoSuchVl);
+    }
+    if some_port_has_no_sub(links, ports) {
+        return Some(ConfigFault::NoSuchSub);
+    }
+    if some_port_is_too_long(links, ports) {
+        return Some(ConfigFault::SamplingTooLong);
+    }
+    if two_flows_are_one(ports) {
+        return Some(ConfigFault::SameFlow);
+    }
+    if two_ports_share_an_address(ports) {
+        return Some(ConfigFault::SharedUnicast);
+    }
+    if is_past_limits(links, ports) {
+        return Some(ConfigFault::Limit);
+    }
+    None
+}

@@ -1,0 +1,7 @@
+//! Tests of plans and of their texts.
+#![tactic(auto)]
+
+#[cfg(test)]
+mod plan_tests;
+#[cfg(test)]
+mod read_tests;
