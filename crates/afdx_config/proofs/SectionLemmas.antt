@@ -8,7 +8,7 @@ use Rattle.toml.specs.View.{view, items_view, members_view}
 use Rattle.toml.specs.declared.value.Value.{Value}
 use Rattle.toml.proofs.Views.{items_view-push}
 use Rattle.afdx_config.specs.Entries.{has_key_besides, tables_among}
-use Rattle.afdx_config.specs.Document.{has_other_item}
+use Rattle.afdx_config.specs.Tables.{has_other_item}
 
 -- a table at the end
 pub tables_among-push : (ds : Items) (d : Data) → tables_among (push_item ds d) ≡ tables_among ds

@@ -1,11 +1,14 @@
 -- What is found in the code's tables is found in the document's.
-use Rattle.std.proofs.Common.{◌≡◌, codes, Bool, false, ◌||◌, List, [], ◌∷◌, map, Option, Some, None, option_map, refl, ap, sym, ◌∙◌}
+use Rattle.std.proofs.Common.{◌≡◌, Bool, false, ◌||◌, List, [], ◌∷◌, map, Option, Some, None, option_map, refl, ap, sym, ◌∙◌}
 use Rattle.std.specs.List.{list_any}
 use Rattle.std.specs.Option.{option_map_or}
 use Rattle.toml.specs.Data.{Members}
 use Rattle.toml.specs.View.{table_view}
-use Rattle.afdx_config.specs.Document.{rows_at, some_table}
-use Rattle.afdx_config.specs.Views.{test_of, AreSectionsOf}
+use Rattle.afdx_plan.specs.declared.fault.ConfigFault.{ConfigFault}
+use Rattle.afdx_config.specs.Document.{values_show}
+use Rattle.afdx_config.specs.Format.{end_fields, link_fields, port_fields}
+use Rattle.afdx_config.specs.Tables.{table_shows}
+use Rattle.afdx_config.specs.Views.{AreSectionsOf, sections_show}
 use Rattle.afdx_config.specs.declared.sections.Sections.{Sections}
 
 -- a test of what a map gives
@@ -19,16 +22,18 @@ pub option_test-map : {A B : Type 0} (p : B → Bool) (f : A → B) (o : Option 
 option_test-map p f None = refl
 option_test-map p f (Some x) = refl
 
--- a test of the tables that were found is one of the document
-pub test_of_document : (doc : Members) (s : Sections) (a b c : Members → Bool) → AreSectionsOf doc s
-    → test_of a b c s ≡ some_table a b c doc
-test_of_document doc s a b c are =
-    let e = sym (option_test-map a (λ t. table_view t.now) s.end) ∙ ap (λ o. option_map_or a o false) are.end_is in
-    let l = sym (list_any-map b (λ r. table_view r.now) s.links.items) ∙ ap (list_any b) are.links_are in
-    let p = sym (list_any-map c (λ r. table_view r.now) s.ports.items) ∙ ap (list_any c) are.ports_are in
-    rw (e, l, p) refl
+-- four tests in turn
+pub four : (a b c d e f g h : Bool) → a ≡ e → b ≡ f → c ≡ g → d ≡ h → (a || b || c || d) ≡ (e || f || g || h)
+four a b c d e f g h p q r s = rw (p, q, r, s) refl
 
--- the same of the links alone
-pub links_of_document : (doc : Members) (s : Sections) (b : Members → Bool) → AreSectionsOf doc s
-    → list_any (λ r. b (table_view r.now)) s.links.items ≡ list_any b (rows_at (codes "vl") doc)
-links_of_document doc s b are = sym (list_any-map b (λ r. table_view r.now) s.links.items) ∙ ap (list_any b) are.links_are
+-- a fault of the tables that were found is one of the document
+pub shown_in : (fault : ConfigFault) (doc : Members) (s : Sections) → AreSectionsOf doc s
+    → sections_show fault doc s ≡ values_show fault doc
+unfolding values_show
+shown_in fault doc s are = four _ _ _ _ _ _ _ _ refl
+    (sym (option_test-map (table_shows fault end_fields) (λ t. table_view t.now) s.end)
+    ∙ ap (λ o. option_map_or (table_shows fault end_fields) o false) are.end_is)
+    (sym (list_any-map (table_shows fault link_fields) (λ t. table_view t.now) s.links.items)
+    ∙ ap (list_any (table_shows fault link_fields)) are.links_are)
+    (sym (list_any-map (table_shows fault port_fields) (λ t. table_view t.now) s.ports.items)
+    ∙ ap (list_any (table_shows fault port_fields)) are.ports_are)

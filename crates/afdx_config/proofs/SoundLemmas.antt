@@ -1,5 +1,5 @@
 -- A document whose values show no fault has tables without fault.
-use Rattle.std.proofs.Common.{◌≡◌, codes, Bool, false, List, [], ◌∷◌, map, Option, Some, None, option_map, ℕ, refl, ap, sym, ◌∙◌, Bor, BTreeMap, String, Global, subst, arith}
+use Rattle.std.proofs.Common.{◌≡◌, codes, false, List, [], ◌∷◌, map, Option, Some, None, option_map, ℕ, refl, ap, sym, ◌∙◌, Bor, BTreeMap, String, Global, subst, arith}
 use Rattle.std.proofs.lemmas.Option.{same_Some}
 use Rattle.std.proofs.lemmas.List.Elements.{All-cons}
 use Rattle.std.specs.Prelude.{All, find}
@@ -9,86 +9,81 @@ use Rattle.std.proofs.lemmas.Bool.{or_parts}
 use Rattle.toml.specs.Data.{Members}
 use Rattle.toml.specs.View.{table_view}
 use Rattle.toml.specs.declared.value.Value.{Value}
-use Rattle.afdx_config.specs.Tables.{end_lacks, link_lacks, port_lacks, end_has_wrong_kind, link_has_wrong_kind, port_has_wrong_kind, end_is_outside, link_is_outside, port_is_outside, link_has_bad_bag}
-use Rattle.afdx_config.specs.Document.{some_table, lacks_key, has_wrong_kind, is_out_of_range, has_bad_bag}
-use Rattle.afdx_config.specs.Views.{AreSectionsOf, AreSound, IsSoundEnd, IsSoundLink, IsSoundPort}
+use Rattle.afdx_plan.specs.declared.fault.ConfigFault.{ConfigFault}
+use Rattle.afdx_plan.specs.declared.fault.ConfigFault.TheVariants.{MissingKey, WrongKind, OutOfRange, BadBag}
 use Rattle.afdx_plan.specs.declared.link_plan.LinkPlan.{LinkPlan}
 use Rattle.afdx_plan.specs.declared.port_plan.PortPlan.{PortPlan}
-use Rattle.afdx_config.specs.Entries.{number_at}
-use Rattle.afdx_config.specs.PlanOf.{link_of, port_of, plan_of}
-use Rattle.afdx_config.specs.Faults.{shows, value_faults}
-use Rattle.afdx_config.specs.declared.sections.Sections.{Sections}
 use Rattle.afdx_plan.proofs.FindLemmas.{find_none-list}
-use Rattle.afdx_config.proofs.SectionTests.{test_of_document, links_of_document}
+use Rattle.afdx_config.specs.Document.{values_show}
+use Rattle.afdx_config.specs.Entries.{number_at}
+use Rattle.afdx_config.specs.Faults.{shows, value_faults}
+use Rattle.afdx_config.specs.Format.{Field, end_fields, link_fields, port_fields}
+use Rattle.afdx_config.specs.PlanOf.{link_of, port_of, plan_of}
+use Rattle.afdx_config.specs.Tables.{table_shows}
+use Rattle.afdx_config.specs.Views.{AreSectionsOf, AreSound, IsSound}
+use Rattle.afdx_config.specs.declared.sections.Sections.{Sections}
+use Rattle.afdx_config.proofs.SectionTests.{shown_in}
 
 -- a table that was found
-abbrev Row : Type 0
-Row = Bor (BTreeMap (String Global) Value)
+abbrev Found : Type 0
+Found = Bor (BTreeMap (String Global) Value)
 
--- what a test of the three kinds of table says of each
-record Clear (a b c : Members → Bool) (s : Sections) : Type 0 where
-  end_clear : option_map_or (λ t. a (table_view t.now)) s.end false ≡ false
-  links_clear : list_any (λ r. b (table_view r.now)) s.links.items ≡ false
-  ports_clear : list_any (λ r. c (table_view r.now)) s.ports.items ≡ false
+-- none of the tables that were found shows a fault
+record Clear (fault : ConfigFault) (s : Sections) : Type 0 where
+  end_clear : option_map_or (λ t. table_shows fault end_fields (table_view t.now)) s.end false ≡ false
+  links_clear : list_any (λ t. table_shows fault link_fields (table_view t.now)) s.links.items ≡ false
+  ports_clear : list_any (λ t. table_shows fault port_fields (table_view t.now)) s.ports.items ≡ false
 
--- where the test of all fails, it fails at each
-clear : (doc : Members) (s : Sections) (a b c : Members → Bool) → AreSectionsOf doc s → some_table a b c doc ≡ false
-    → Clear a b c s
-clear doc s a b c are h =
-    let (el, p) = or_parts _ _ (test_of_document doc s a b c are ∙ h) in
-    let (e, l) = or_parts _ _ el in record { end_clear = e; links_clear = l; ports_clear = p }
+-- where the document doesn't show the fault, none of them does
+clear : (doc : Members) (s : Sections) (fault : ConfigFault) → AreSectionsOf doc s → values_show fault doc ≡ false
+    → Clear fault s
+clear doc s fault are none =
+    let (top_end_links, p) = or_parts _ _ (shown_in fault doc s are ∙ none) in
+    let (top_end, l) = or_parts _ _ top_end_links in
+    let (top, e) = or_parts _ _ top_end in record { end_clear = e; links_clear = l; ports_clear = p }
 
--- the end system's table is without fault
-ends : (o : Option Row) → option_map_or (λ t. end_lacks (table_view t.now)) o false ≡ false
-    → option_map_or (λ t. end_has_wrong_kind (table_view t.now)) o false ≡ false
-    → option_map_or (λ t. end_is_outside (table_view t.now)) o false ≡ false → ForSome o (λ t. IsSoundEnd (table_view t.now))
-ends None a b c = λ t e. cc
-ends (Some x) a b c =
-    λ t e. subst (λ (y : Row). IsSoundEnd (table_view y.now)) (same_Some x t e)
-    (record { complete = a; kinds = b; inside = c })
+-- a table that shows no fault is sound
+one_sound : (fields : List Field) (o : Option Found)
+    → option_map_or (λ t. table_shows MissingKey fields (table_view t.now)) o false ≡ false
+    → option_map_or (λ t. table_shows WrongKind fields (table_view t.now)) o false ≡ false
+    → option_map_or (λ t. table_shows OutOfRange fields (table_view t.now)) o false ≡ false
+    → option_map_or (λ t. table_shows BadBag fields (table_view t.now)) o false ≡ false
+    → ForSome o (λ t. IsSound fields (table_view t.now))
+one_sound fields None a b c d = λ t e. cc
+one_sound fields (Some x) a b c d =
+    λ t e. subst (λ (y : Found). IsSound fields (table_view y.now)) (same_Some x t e)
+    (record { complete = a; kinds = b; inside = c; gaps = d })
 
--- so are the links' tables
-links : (rows : List Row) → list_any (λ r. link_lacks (table_view r.now)) rows ≡ false
-    → list_any (λ r. link_has_wrong_kind (table_view r.now)) rows ≡ false
-    → list_any (λ r. link_is_outside (table_view r.now)) rows ≡ false
-    → list_any (λ r. link_has_bad_bag (table_view r.now)) rows ≡ false
-    → All (λ r. IsSoundLink (table_view r.now)) rows
-links [] a b c d = λ k d' h. absurd (omega arith)
-links (x ∷ xs) a b c d =
+-- so are those of a list
+all_sound : (fields : List Field) (tables : List Found)
+    → list_any (λ t. table_shows MissingKey fields (table_view t.now)) tables ≡ false
+    → list_any (λ t. table_shows WrongKind fields (table_view t.now)) tables ≡ false
+    → list_any (λ t. table_shows OutOfRange fields (table_view t.now)) tables ≡ false
+    → list_any (λ t. table_shows BadBag fields (table_view t.now)) tables ≡ false
+    → All (λ t. IsSound fields (table_view t.now)) tables
+all_sound fields [] a b c d = λ k d' h. absurd (omega arith)
+all_sound fields (x ∷ xs) a b c d =
     let (a1, a2) = or_parts _ _ a in
     let (b1, b2) = or_parts _ _ b in
     let (c1, c2) = or_parts _ _ c in
-    let (d1, d2) = or_parts _ _ d
-    in All-cons (λ (r : Row). IsSoundLink (table_view r.now)) x xs
-    (record { complete = a1; kinds = b1; inside = c1; bag = d1 }) (links xs a2 b2 c2 d2)
-
--- so are the ports' tables
-ports : (rows : List Row) → list_any (λ r. port_lacks (table_view r.now)) rows ≡ false
-    → list_any (λ r. port_has_wrong_kind (table_view r.now)) rows ≡ false
-    → list_any (λ r. port_is_outside (table_view r.now)) rows ≡ false → All (λ r. IsSoundPort (table_view r.now)) rows
-ports [] a b c = λ k d h. absurd (omega arith)
-ports (x ∷ xs) a b c =
-    let (a1, a2) = or_parts _ _ a in
-    let (b1, b2) = or_parts _ _ b in
-    let (c1, c2) = or_parts _ _ c
-    in All-cons (λ (r : Row). IsSoundPort (table_view r.now)) x xs
-    (record { complete = a1; kinds = b1; inside = c1 }) (ports xs a2 b2 c2)
+    let (d1, d2) = or_parts _ _ d in
+    All-cons (λ (t : Found). IsSound fields (table_view t.now)) x xs
+    (record { complete = a1; kinds = b1; inside = c1; gaps = d1 }) (all_sound fields xs a2 b2 c2 d2)
 
 -- no fault of the values: the tables are sound
 pub sound : (doc : Members) (s : Sections) → AreSectionsOf doc s → find (λ f. shows f doc) value_faults ≡ None → AreSound s
-unfolding lacks_key has_wrong_kind is_out_of_range has_bad_bag
 sound doc s are none =
     let faults = find_none-list (λ f. shows f doc) value_faults none in
-    let k = clear doc s _ _ _ are ((or_parts _ _ faults.0).1) in
-    let w = clear doc s _ _ _ are ((or_parts _ _ faults.1.1.0).1) in
-    let r = clear doc s _ _ _ are faults.1.1.1.0 in
-    let b = links_of_document doc s link_has_bad_bag are ∙ faults.1.1.1.1.0 in record {
-      end_sound = ends s.end k.end_clear w.end_clear r.end_clear;
-      links_sound = links s.links.items k.links_clear w.links_clear r.links_clear b;
-      ports_sound = ports s.ports.items k.ports_clear w.ports_clear r.ports_clear;
+    let missing = clear doc s MissingKey are faults.0 in
+    let kind = clear doc s WrongKind are faults.1.1.0 in
+    let range = clear doc s OutOfRange are faults.1.1.1.0 in
+    let gap = clear doc s BadBag are faults.1.1.1.1.0 in record {
+      end_sound = one_sound end_fields s.end missing.end_clear kind.end_clear range.end_clear gap.end_clear;
+      links_sound = all_sound link_fields s.links.items missing.links_clear kind.links_clear range.links_clear gap.links_clear;
+      ports_sound = all_sound port_fields s.ports.items missing.ports_clear kind.ports_clear range.ports_clear gap.ports_clear;
     }
 
--- the parts that the code reads are the plan's
+-- two maps in one
 maps : {A B C : Type 0} (g : B → C) (f : A → B) (xs : List A) → map g (map f xs) ≡ map (λ x. g (f x)) xs
 maps g f [] = refl
 maps g f (x ∷ xs) = ap (λ ys. g (f x) ∷ ys) (maps g f xs)
@@ -102,11 +97,11 @@ option_maps g f (Some x) d = refl
 -- the plan of the parts is that of the document
 pub plan_parts : (doc : Members) (s : Sections) (e : ℕ) (ls : List LinkPlan) (ps : List PortPlan) → AreSectionsOf doc s
     → e ≡ option_map_or (λ t. number_at (codes "id") (table_view t.now)) s.end 0
-    → ls ≡ map (λ r. link_of (table_view r.now)) s.links.items
-    → ps ≡ map (λ r. port_of (table_view r.now)) s.ports.items → record { end_system = e; links = ls; ports = ps } ≡ plan_of doc
+    → ls ≡ map (λ t. link_of (table_view t.now)) s.links.items
+    → ps ≡ map (λ t. port_of (table_view t.now)) s.ports.items → record { end_system = e; links = ls; ports = ps } ≡ plan_of doc
 plan_parts doc s e ls ps are he hl hp =
     let a = he ∙ sym (option_maps (number_at (codes "id")) (λ t. table_view t.now) s.end 0)
     ∙ ap (λ o. option_map_or (number_at (codes "id")) o 0) are.end_is in
-    let b = hl ∙ sym (maps link_of (λ r. table_view r.now) s.links.items) ∙ ap (map link_of) are.links_are in
-    let c = hp ∙ sym (maps port_of (λ r. table_view r.now) s.ports.items) ∙ ap (map port_of) are.ports_are in
+    let b = hl ∙ sym (maps link_of (λ t. table_view t.now) s.links.items) ∙ ap (map link_of) are.links_are in
+    let c = hp ∙ sym (maps port_of (λ t. table_view t.now) s.ports.items) ∙ ap (map port_of) are.ports_are in
     rw (a, b, c) refl

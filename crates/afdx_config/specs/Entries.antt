@@ -1,11 +1,7 @@
 -- What stands under a key of a table, and which faults it shows.
-use Rattle.std.specs.Prelude.{ℕ, ℤ, pos, negsuc, nat_lt, List, [], ◌∷◌, Bool, true, false, not, ◌||◌, is_none, Option, option_and_then}
+use Rattle.std.specs.Prelude.{ℕ, ℤ, pos, negsuc, nat_lt, List, [], ◌∷◌, Bool, true, false, not, ◌||◌, ◌≡◌, ◌≤◌, Some, Option, option_and_then}
 use Rattle.std.specs.Option.{option_map_or}
 use Rattle.toml.specs.Data.{Items, no_items, item, Members, no_members, member, get_member, as_integer, as_str, table}
-
--- the table has nothing under the key
-abbrev pub lacks : List ℕ → Members → Bool
-lacks key members = is_none (get_member key members)
 
 -- the whole number under the key
 abbrev pub whole_at : List ℕ → Members → Option ℤ
@@ -15,23 +11,10 @@ whole_at key members = option_and_then as_integer (get_member key members)
 abbrev pub text_at : List ℕ → Members → Option (List ℕ)
 text_at key members = option_and_then as_str (get_member key members)
 
--- what stands under the key is no whole number
-abbrev pub is_no_whole : List ℕ → Members → Bool
-is_no_whole key members = option_map_or (λ d. is_none (as_integer d)) (get_member key members) false
-
--- what stands under the key is no text
-abbrev pub is_no_text : List ℕ → Members → Bool
-is_no_text key members = option_map_or (λ d. is_none (as_str d)) (get_member key members) false
-
 -- a whole number lies outside least to most
 abbrev pub lies_outside : ℕ → ℕ → ℤ → Bool
 lies_outside least most (pos n) = nat_lt n least || nat_lt most n
 lies_outside least most (negsuc n) = true
-
--- a whole number stands under the key, and lies outside least to most
-abbrev pub is_outside : ℕ → ℕ → List ℕ → Members → Bool
-is_outside least most key members =
-    option_map_or (lies_outside least most) (whole_at key members) false
 
 -- a whole number that isn't below 0
 abbrev pub natural : ℤ → ℕ
@@ -41,6 +24,11 @@ natural (negsuc n) = 0
 -- the number under a key, or 0
 abbrev pub number_at : List ℕ → Members → ℕ
 number_at key members = option_map_or natural (whole_at key members) 0
+
+-- a number from least to most stands under the key
+abbrev pub HasNumber : ℕ → ℕ → List ℕ → Members → Type 0
+HasNumber least most key members =
+    (n : ℕ) × (whole_at key members ≡ Some (pos n)) × (least ≤ n) × (n ≤ most)
 
 -- the table has a key that isn't known
 abbrev pub has_key_besides : (List ℕ → Bool) → Members → Bool

@@ -5,17 +5,17 @@ use Rattle.toml.specs.Parse.{parse_document}
 use Rattle.afdx_plan.specs.Config.{Plan}
 use Rattle.afdx_config.specs.PlanOf.{plan_of}
 use Rattle.afdx_plan.specs.PlanFaults.{fault_number, plan_shows, plan_faults}
-use Rattle.afdx_config.specs.Document.{lacks_key, has_unknown_key, has_wrong_kind, is_out_of_range, has_bad_bag}
+use Rattle.afdx_config.specs.Document.{values_show}
 use Rattle.afdx_plan.specs.declared.fault.ConfigFault.{ConfigFault}
 use Rattle.afdx_plan.specs.declared.fault.ConfigFault.TheVariants.{Toml, MissingKey, UnknownKey, WrongKind, OutOfRange, BadBag}
 
 -- a document shows a fault of 2 to 14
 abbrev pub shows : ConfigFault → Members → Bool
-shows MissingKey document = lacks_key document
-shows UnknownKey document = has_unknown_key document
-shows WrongKind document = has_wrong_kind document
-shows OutOfRange document = is_out_of_range document
-shows BadBag document = has_bad_bag document
+shows MissingKey document = values_show MissingKey document
+shows UnknownKey document = values_show UnknownKey document
+shows WrongKind document = values_show WrongKind document
+shows OutOfRange document = values_show OutOfRange document
+shows BadBag document = values_show BadBag document
 shows fault document = plan_shows fault (plan_of document)
 
 -- the document that a text writes

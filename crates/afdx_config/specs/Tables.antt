@@ -1,121 +1,59 @@
--- The three kinds of table of a configuration: their keys, and the faults that their values show.
-use Rattle.std.specs.Prelude.{codes, ℕ, List, Bool, false, ◌||◌, is_none, bytes_eq}
+-- The faults that the values of a table show, by the format of the table.
+use Rattle.std.specs.Prelude.{ℕ, List, Bool, true, false, ◌||◌, ◌&&◌, is_none, bytes_eq}
+use Rattle.std.specs.List.{list_any}
 use Rattle.std.specs.Option.{option_map_or}
-use Rattle.toml.specs.Data.{Members}
-use Rattle.afdx_config.specs.Entries.{lacks, whole_at, text_at, is_no_whole, is_no_text, is_outside}
+use Rattle.toml.specs.Data.{Data, Items, no_items, item, Members, get_member, as_integer, as_str, as_array, as_table}
+use Rattle.afdx_plan.specs.declared.fault.ConfigFault.{ConfigFault}
+use Rattle.afdx_plan.specs.declared.fault.ConfigFault.TheVariants.{MissingKey, UnknownKey, WrongKind, OutOfRange, BadBag}
+use Rattle.afdx_config.specs.declared.format.Content.{Content}
+use Rattle.afdx_config.specs.declared.format.Content.TheVariants.{Whole, Gap, PortKind, Address, Section, Rows}
+use Rattle.afdx_config.specs.Entries.{lies_outside, has_key_besides}
 use Rattle.afdx_config.specs.Values.{bag_of, kind_of, address_of}
+use Rattle.afdx_config.specs.Format.{Field}
 
--- the keys of the whole text
-abbrev pub is_document_key : List ℕ → Bool
-is_document_key key = bytes_eq key (codes "end_system")
-    || bytes_eq key (codes "vl")
-    || bytes_eq key (codes "port")
+-- an item isn't a table
+abbrev pub has_other_item : Items → Bool
+has_other_item no_items = false
+has_other_item (item d ds) = is_none (as_table d) || has_other_item ds
 
--- the keys of an end system
-abbrev pub is_end_key : List ℕ → Bool
-is_end_key key = bytes_eq key (codes "id")
+-- a value is of another kind than its content
+abbrev pub is_of_other_kind : Content → Data → Bool
+is_of_other_kind (Whole least most) value = is_none (as_integer value)
+is_of_other_kind Gap value = is_none (as_integer value)
+is_of_other_kind PortKind value = is_none (as_str value)
+is_of_other_kind Address value = is_none (as_str value)
+is_of_other_kind Section value = is_none (as_table value)
+is_of_other_kind Rows value = option_map_or has_other_item (as_array value) true
 
--- the keys of a link
-abbrev pub is_link_key : List ℕ → Bool
-is_link_key key = bytes_eq key (codes "id")
-    || bytes_eq key (codes "bag_ms")
-    || bytes_eq key (codes "lmax")
-    || bytes_eq key (codes "sub_vls")
-    || bytes_eq key (codes "capacity")
+-- a value is a number outside its range, or another text than stands there
+abbrev pub is_outside : Content → Data → Bool
+is_outside (Whole least most) value =
+    option_map_or (lies_outside least most) (as_integer value) false
+is_outside PortKind value = option_map_or (λ t. is_none (kind_of t)) (as_str value) false
+is_outside Address value = option_map_or (λ t. is_none (address_of t)) (as_str value) false
+is_outside _ value = false
 
--- the keys of a port; `dest_ip` may be missing
-abbrev pub is_port_key : List ℕ → Bool
-is_port_key key = bytes_eq key (codes "id")
-    || bytes_eq key (codes "vl")
-    || bytes_eq key (codes "sub")
-    || bytes_eq key (codes "partition")
-    || bytes_eq key (codes "kind")
-    || bytes_eq key (codes "source")
-    || bytes_eq key (codes "destination")
-    || bytes_eq key (codes "max")
-    || bytes_eq key (codes "dest_ip")
+-- a value is a number that is no gap
+abbrev pub is_no_gap : Content → Data → Bool
+is_no_gap Gap value = option_map_or (λ z. is_none (bag_of z)) (as_integer value) false
+is_no_gap _ value = false
 
--- an end system lacks a required key
-unfoldable pub end_lacks : Members → Bool
-end_lacks members = lacks (codes "id") members
+-- a key of a table is missing, or what stands under it shows a fault
+abbrev pub field_shows : ConfigFault → Members → Field → Bool
+field_shows MissingKey entries field = field.is_needed && is_none (get_member field.key entries)
+field_shows WrongKind entries field =
+    option_map_or (is_of_other_kind field.content) (get_member field.key entries) false
+field_shows OutOfRange entries field =
+    option_map_or (is_outside field.content) (get_member field.key entries) false
+field_shows BadBag entries field =
+    option_map_or (is_no_gap field.content) (get_member field.key entries) false
+field_shows _ entries field = false
 
--- a link does
-unfoldable pub link_lacks : Members → Bool
-link_lacks members = lacks (codes "id") members
-    || lacks (codes "bag_ms") members
-    || lacks (codes "lmax") members
-    || lacks (codes "sub_vls") members
-    || lacks (codes "capacity") members
+-- the key is one of these
+abbrev pub is_key_of : List Field → List ℕ → Bool
+is_key_of fields key = list_any (λ field. bytes_eq key field.key) fields
 
--- a port does
-unfoldable pub port_lacks : Members → Bool
-port_lacks members = lacks (codes "id") members
-    || lacks (codes "vl") members
-    || lacks (codes "sub") members
-    || lacks (codes "partition") members
-    || lacks (codes "kind") members
-    || lacks (codes "source") members
-    || lacks (codes "destination") members
-    || lacks (codes "max") members
-
--- a value of an end system is not of its kind
-unfoldable pub end_has_wrong_kind : Members → Bool
-end_has_wrong_kind members = is_no_whole (codes "id") members
-
--- one of a link is not
-unfoldable pub link_has_wrong_kind : Members → Bool
-link_has_wrong_kind members = is_no_whole (codes "id") members
-    || is_no_whole (codes "bag_ms") members
-    || is_no_whole (codes "lmax") members
-    || is_no_whole (codes "sub_vls") members
-    || is_no_whole (codes "capacity") members
-
--- one of a port is not
-unfoldable pub port_has_wrong_kind : Members → Bool
-port_has_wrong_kind members = is_no_whole (codes "id") members
-    || is_no_whole (codes "vl") members
-    || is_no_whole (codes "sub") members
-    || is_no_whole (codes "partition") members
-    || is_no_text (codes "kind") members
-    || is_no_whole (codes "source") members
-    || is_no_whole (codes "destination") members
-    || is_no_whole (codes "max") members
-    || is_no_text (codes "dest_ip") members
-
--- a value of an end system lies outside its range
-unfoldable pub end_is_outside : Members → Bool
-end_is_outside members = is_outside 0 65535 (codes "id") members
-
--- one of a link does; `bag_ms` has a fault of its own
-unfoldable pub link_is_outside : Members → Bool
-link_is_outside members = is_outside 0 65535 (codes "id") members
-    || is_outside 64 1518 (codes "lmax") members
-    || is_outside 1 4 (codes "sub_vls") members
-    || is_outside 1 256 (codes "capacity") members
-
--- the text under `kind` names no kind
-abbrev pub names_no_kind : Members → Bool
-names_no_kind members =
-    option_map_or (λ t. is_none (kind_of t)) (text_at (codes "kind") members) false
-
--- the text under `dest_ip` writes no unicast address
-abbrev pub writes_no_address : Members → Bool
-writes_no_address members =
-    option_map_or (λ t. is_none (address_of t)) (text_at (codes "dest_ip") members) false
-
--- a value of a port lies outside its range, or a text is another
-unfoldable pub port_is_outside : Members → Bool
-port_is_outside members = is_outside 0 65535 (codes "id") members
-    || is_outside 0 65535 (codes "vl") members
-    || is_outside 0 3 (codes "sub") members
-    || is_outside 0 31 (codes "partition") members
-    || names_no_kind members
-    || is_outside 1 65535 (codes "source") members
-    || is_outside 1 65535 (codes "destination") members
-    || is_outside 1 8192 (codes "max") members
-    || writes_no_address members
-
--- the number under `bag_ms` is no gap
-unfoldable pub link_has_bad_bag : Members → Bool
-link_has_bad_bag members =
-    option_map_or (λ z. is_none (bag_of z)) (whole_at (codes "bag_ms") members) false
+-- a table shows a fault of 2 to 6
+abbrev pub table_shows : ConfigFault → List Field → Members → Bool
+table_shows UnknownKey fields entries = has_key_besides (is_key_of fields) entries
+table_shows fault fields entries = list_any (field_shows fault entries) fields

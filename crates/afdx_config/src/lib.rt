@@ -3,8 +3,9 @@
 
 mod address;
 mod document;
-mod end_table;
 mod entries;
+mod fields;
+mod format;
 pub mod laws;
 mod link_table;
 mod parts;

@@ -1,11 +1,14 @@
 //! A plan that wasn't judged as a whole.
-ghost use Rattle.std.specs.Prelude.{◌≡◌, ◌<◌, IfOk, All};
+ghost use Rattle.std.specs.Prelude.{◌≡◌, codes, IfOk, All};
+ghost use Rattle.std.specs.Option.{option_map_or, ForSome};
 ghost use Rattle.toml.specs.View.{table_view};
 ghost use Rattle.afdx_plan.specs.Plan.{IsLink, IsPort};
+ghost use Rattle.afdx_config.specs.Entries.{number_at};
+ghost use Rattle.afdx_config.specs.Format.{end_fields};
 ghost use Rattle.afdx_config.specs.PlanOf.{plan_of};
-ghost use Rattle.afdx_config.specs.Views.{AreSectionsOf, AreSound, plan_in};
+ghost use Rattle.afdx_config.specs.Views.{AreSectionsOf, AreSound, IsSound, plan_in};
 
-use crate::end_table::end_system;
+use crate::entries::number;
 use crate::link_table::link_plans;
 use crate::port_table::port_plans;
 use crate::sections::Sections;
@@ -21,6 +24,18 @@ pub(crate) struct Parts {
     pub ports: Vec<PortPlan>,
 }
 
+/// The end system's identifier, or 0 where there is no table.
+fn end_system(end: Option<&Table>) -> u16
+    requires { ForSome end (λ t. IsSound end_fields (table_view t.now)) }
+    ensures { result
+        ≡ option_map_or (λ t. number_at (codes "id") (table_view t.now)) end.entry 0 }
+{
+    match end {
+        Some(table) => number(table, "id", 0, 65535),
+        None => 0,
+    }
+}
+
 /// The plan of a document whose values show no fault.
 pub(crate) fn parts_of(
     alloc: Global,
@@ -30,7 +45,6 @@ pub(crate) fn parts_of(
     requires found { AreSectionsOf (table_view document.now) sections.now }
     requires sound { AreSound sections.now }
     ensures value { IfOk result (λ parts. plan_in parts ≡ plan_of (table_view document.now)) }
-    ensures end_system { IfOk result (λ parts. parts.end_system < 65536) }
     ensures links { IfOk result (λ parts. All IsLink parts.links.items) }
     ensures ports { IfOk result (λ parts. All IsPort parts.ports.items) }
 {

@@ -4,8 +4,9 @@ ghost use Rattle.toml.specs.View.{table_view};
 ghost use Rattle.afdx_config.specs.PlanOf.{plan_of};
 ghost use Rattle.afdx_config.specs.Faults.{shows, all_faults, IsPlanOf, IsLeastFault};
 
-use crate::document::{sections, value_fault};
+use crate::document::value_fault;
 use crate::parts::parts_of;
+use crate::sections::Sections;
 use afdx_plan::{Config, ConfigFault};
 use std::alloc::Global;
 use toml::Table;
@@ -18,7 +19,7 @@ fn read_document(alloc: Global, document: &Table) -> Result<Config, ConfigFault>
     ensures fault { IfErr result (λ least. least ≢ ConfigFault.Memory →
         find (λ fault. shows fault (table_view document.now)) all_faults ≡ Some least) }
 {
-    let sections = match sections(alloc, document) {
+    let sections = match Sections::of(alloc, document) {
         Ok(sections) => sections,
         Err(_) => return Err(ConfigFault::Memory),
     };

@@ -1,10 +1,9 @@
 //! The tables of a configuration's document.
-ghost use Rattle.std.specs.Prelude.{◌≡◌, map, IfOk, option_map, is_none};
-ghost use Rattle.std.specs.List.{list_any};
-ghost use Rattle.toml.specs.View.{table_view, items_view, view};
-ghost use Rattle.toml.specs.Data.{as_table};
+ghost use Rattle.std.specs.Prelude.{◌≡◌, map, IfOk, option_map};
+ghost use Rattle.toml.specs.View.{table_view, items_view};
 ghost use Rattle.afdx_config.specs.Entries.{tables_among};
-ghost use Rattle.afdx_config.specs.Document.{rows_at, section_at, has_other_item, is_no_table, is_no_rows};
+ghost use Rattle.afdx_config.specs.Document.{rows_at, section_at};
+ghost use Rattle.afdx_config.specs.Views.{AreSectionsOf};
 
 use crate::entries::value_at;
 use std::alloc::{AllocError, Global};
@@ -34,11 +33,7 @@ fn tables_of<'a>(alloc: Global, values: &'a [Value]) -> Result<Vec<&'a Table>, A
 }
 
 /// The tables of the array under a key.
-pub(crate) fn rows<'a>(
-    alloc: Global,
-    document: &'a Table,
-    key: &str,
-) -> Result<Vec<&'a Table>, AllocError>
+fn rows<'a>(alloc: Global, document: &'a Table, key: &str) -> Result<Vec<&'a Table>, AllocError>
     ensures { IfOk result (λ rows.
         map (λ r. table_view r.now) rows.items ≡ rows_at key.now (table_view document.now)) }
 {
@@ -52,7 +47,7 @@ pub(crate) fn rows<'a>(
 }
 
 /// The table under a key.
-pub(crate) fn section<'a>(document: &'a Table, key: &str) -> Option<&'a Table>
+fn section<'a>(document: &'a Table, key: &str) -> Option<&'a Table>
     ensures { option_map (λ t. table_view t.now) result
         ≡ section_at key.now (table_view document.now) }
 {
@@ -62,38 +57,15 @@ pub(crate) fn section<'a>(document: &'a Table, key: &str) -> Option<&'a Table>
     }
 }
 
-/// An item isn't a table.
-fn holds_other_item(values: &[Value]) -> bool
-    ensures { result ≡ has_other_item (items_view values.now) }
-{
-    some_is_no_table(values)
-}
-
-fn some_is_no_table(values: &[Value]) -> bool
-    ensures { result ≡ list_any (λ v. is_none (as_table (view v))) values.now }
-{
-    values.iter().any(|value| !value.is_table())
-}
-
-/// What stands under the key is no table.
-pub(crate) fn is_other_than_table(document: &Table, key: &str) -> bool
-    ensures { result ≡ is_no_table key.now (table_view document.now) }
-{
-    match value_at(document, key) {
-        Some(value) => !value.is_table(),
-        None => false,
-    }
-}
-
-/// What stands under the key is no array of tables.
-pub(crate) fn is_other_than_rows(document: &Table, key: &str) -> bool
-    ensures { result ≡ is_no_rows key.now (table_view document.now) }
-{
-    match value_at(document, key) {
-        Some(value) => match value.as_array() {
-            Some(values) => holds_other_item(values.as_slice()),
-            None => true,
-        },
-        None => false,
+impl<'a> Sections<'a> {
+    /// The tables of a document.
+    pub(crate) fn of(alloc: Global, document: &'a Table) -> Result<Sections<'a>, AllocError>
+        ensures { IfOk result (AreSectionsOf (table_view document.now)) }
+    {
+        Ok(Sections {
+            end: section(document, "end_system"),
+            links: rows(alloc, document, "vl")?,
+            ports: rows(alloc, document, "port")?,
+        })
     }
 }

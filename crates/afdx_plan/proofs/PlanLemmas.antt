@@ -21,7 +21,7 @@ use Rattle.afdx_plan.specs.PlanFaults.{has_pair, has_same_vl, has_same_port, is_
 use Rattle.afdx_plan.proofs.FindLemmas.{find_none-list}
 
 -- no element passes a test that none passes
-none_at : {X : Type 0} (p : X → Bool) (xs : List X) (k : ℕ) (d : X) → list_any p xs ≡ false → k < length xs
+pub none_at : {X : Type 0} (p : X → Bool) (xs : List X) (k : ℕ) (d : X) → list_any p xs ≡ false → k < length xs
     → p (get_or xs k d) ≡ false
 none_at p xs k d none below =
     false_from_ne_true (p (get_or xs k d)) (λ passes. let found = list_any_at p xs k d below passes in cc)

@@ -1,10 +1,10 @@
 //! The greatest numbers of a plan.
 
 /// The greatest message of a port, in bytes.
-pub const MESSAGE_LIMIT: u16 = 8192;
+pub const MESSAGE_LIMIT: usize = 8192;
 
 /// The greatest queue of a sub-VL, in messages.
-pub const CAPACITY_LIMIT: u16 = 256;
+pub const CAPACITY_LIMIT: usize = 256;
 
 /// The most virtual links of an end system.
 pub const LINKS_LIMIT: usize = 64;

@@ -314,7 +314,6 @@ fn a_value_is_a_whole_number_that_stands_once(rt: HostRuntime) -> Result<(), Fai
 #[test]
 fn sections_have_their_kinds(rt: HostRuntime) -> Result<(), Fail> {
     let alloc = rt.alloc();
-    let rest = "[[vl]]\nid = 1\nbag_ms = 1\nlmax = 1518\nsub_vls = 1\ncapacity = 2\n";
     let texts = [
         ("", 2),
         ("\n", 2),
@@ -328,7 +327,7 @@ fn sections_have_their_kinds(rt: HostRuntime) -> Result<(), Fail> {
     for (text, number) in texts {
         assert_eq!(rt; fault_of(alloc, text), number, "{text}");
     }
-    let no_port = format!(in alloc; "[end_system]\nid = 1\n{rest}")?;
+    let no_port = format!(in alloc; "[end_system]\nid = 1\n{LINK}")?;
     assert_eq!(rt; fault_of(alloc, no_port.as_str()), 2);
     Ok(())
 }

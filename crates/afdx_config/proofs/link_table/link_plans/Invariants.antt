@@ -5,8 +5,8 @@ use Rattle.toml.specs.View.{table_view}
 use Rattle.afdx_config.specs.PlanOf.{link_of}
 use Rattle.afdx_config.proofs.link_table.link_plans.Given as goal
 
-abbrev pub invariant-loop-row : goal.invariant-loop-row
-invariant-loop-row l = record {
-  value : l.links.items ≡ map (λ r. link_of (table_view r.now)) (take l.row-index l.rows);
+abbrev pub invariant-loop-table : goal.invariant-loop-table
+invariant-loop-table l = record {
+  value : l.links.items ≡ map (λ t. link_of (table_view t.now)) (take l.table-index l.tables);
   ranges : All IsLink l.links.items;
 }

@@ -5,8 +5,8 @@ use Rattle.toml.specs.View.{table_view}
 use Rattle.afdx_config.specs.PlanOf.{port_of}
 use Rattle.afdx_config.proofs.port_table.port_plans.Given as goal
 
-abbrev pub invariant-loop-row : goal.invariant-loop-row
-invariant-loop-row l = record {
-  value : l.ports.items ≡ map (λ r. port_of (table_view r.now)) (take l.row-index l.rows);
+abbrev pub invariant-loop-table : goal.invariant-loop-table
+invariant-loop-table l = record {
+  value : l.ports.items ≡ map (λ t. port_of (table_view t.now)) (take l.table-index l.tables);
   ranges : All IsPort l.ports.items;
 }

@@ -1,0 +1,9 @@
+use Rattle.std.proofs.Common.{◌∙◌, sym}
+use Rattle.std.specs.Prelude.{bytes_eq}
+use Rattle.afdx_config.specs.Views.{field_of}
+use Rattle.afdx_config.proofs.SectionTests.{list_any-map}
+use Rattle.afdx_config.proofs.fields.is_key_of.Goals as goal
+
+pub returns : goal.returns
+returns c = c.names_some.ensures
+    ∙ sym (list_any-map (λ f. bytes_eq c.args.key.now f.key) field_of c.args.fields.now)

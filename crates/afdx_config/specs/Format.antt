@@ -1,0 +1,52 @@
+-- The format of a configuration: the keys of its tables, and what stands under them.
+use Rattle.std.specs.Prelude.{codes, ℕ, List, [], ◌∷◌, Bool, true, false}
+use Rattle.afdx_plan.specs.declared.limits.TheConstants.{CAPACITY_LIMIT, MESSAGE_LIMIT}
+use Rattle.afdx_config.specs.declared.format.Content.{Content}
+use Rattle.afdx_config.specs.declared.format.Content.TheVariants.{Whole, Gap, PortKind, Address, Section, Rows}
+
+-- a key of a table, whether it must stand there, and what may stand under it
+pub record Field : Type 0 where
+  pub key : List ℕ
+  pub is_needed : Bool
+  pub content : Content
+
+-- a key that must stand there
+abbrev pub needed : List ℕ → Content → Field
+needed name what = record { key = name; is_needed = true; content = what }
+
+-- a key that may be missing
+abbrev pub optional : List ℕ → Content → Field
+optional name what = record { key = name; is_needed = false; content = what }
+
+-- the top of the text
+abbrev pub document_fields : List Field
+document_fields = needed (codes "end_system") Section
+    ∷ needed (codes "vl") Rows
+    ∷ needed (codes "port") Rows
+    ∷ []
+
+-- the table of the end system
+abbrev pub end_fields : List Field
+end_fields = needed (codes "id") (Whole 0 65535) ∷ []
+
+-- the table of a link
+abbrev pub link_fields : List Field
+link_fields = needed (codes "id") (Whole 0 65535)
+    ∷ needed (codes "bag_ms") Gap
+    ∷ needed (codes "lmax") (Whole 64 1518)
+    ∷ needed (codes "sub_vls") (Whole 1 4)
+    ∷ needed (codes "capacity") (Whole 1 CAPACITY_LIMIT)
+    ∷ []
+
+-- the table of a port
+abbrev pub port_fields : List Field
+port_fields = needed (codes "id") (Whole 0 65535)
+    ∷ needed (codes "vl") (Whole 0 65535)
+    ∷ needed (codes "sub") (Whole 0 3)
+    ∷ needed (codes "partition") (Whole 0 31)
+    ∷ needed (codes "kind") PortKind
+    ∷ needed (codes "source") (Whole 1 65535)
+    ∷ needed (codes "destination") (Whole 1 65535)
+    ∷ needed (codes "max") (Whole 1 MESSAGE_LIMIT)
+    ∷ optional (codes "dest_ip") Address
+    ∷ []

@@ -1,0 +1,54 @@
+//! The format of a configuration: the keys of its tables, and what stands under them.
+use afdx_plan::{CAPACITY_LIMIT, MESSAGE_LIMIT};
+
+/// What may stand under a key: a whole number from a least to a greatest one, the milliseconds of
+/// a gap, the name of a kind of port, a unicast address, a table, or an array of tables.
+#[derive(Clone, Copy)]
+pub(crate) enum Content {
+    Whole(u16, u16),
+    Gap,
+    PortKind,
+    Address,
+    Section,
+    Rows,
+}
+
+/// A key of a table, whether it must stand there, and what may stand under it.
+#[derive(Clone, Copy)]
+pub(crate) struct Field(pub &'static str, pub bool, pub Content);
+
+const NEEDED: bool = true;
+
+const OPTIONAL: bool = false;
+
+/// The top of the text.
+pub(crate) const DOCUMENT: [Field; 3] = [
+    Field("end_system", NEEDED, Content::Section),
+    Field("vl", NEEDED, Content::Rows),
+    Field("port", NEEDED, Content::Rows),
+];
+
+/// The table of the end system.
+pub(crate) const END: [Field; 1] = [Field("id", NEEDED, Content::Whole(0, 65535))];
+
+/// The table of a link.
+pub(crate) const LINK: [Field; 5] = [
+    Field("id", NEEDED, Content::Whole(0, 65535)),
+    Field("bag_ms", NEEDED, Content::Gap),
+    Field("lmax", NEEDED, Content::Whole(64, 1518)),
+    Field("sub_vls", NEEDED, Content::Whole(1, 4)),
+    Field("capacity", NEEDED, Content::Whole(1, CAPACITY_LIMIT as u16)),
+];
+
+/// The table of a port.
+pub(crate) const PORT: [Field; 9] = [
+    Field("id", NEEDED, Content::Whole(0, 65535)),
+    Field("vl", NEEDED, Content::Whole(0, 65535)),
+    Field("sub", NEEDED, Content::Whole(0, 3)),
+    Field("partition", NEEDED, Content::Whole(0, 31)),
+    Field("kind", NEEDED, Content::PortKind),
+    Field("source", NEEDED, Content::Whole(1, 65535)),
+    Field("destination", NEEDED, Content::Whole(1, 65535)),
+    Field("max", NEEDED, Content::Whole(1, MESSAGE_LIMIT as u16)),
+    Field("dest_ip", OPTIONAL, Content::Address),
+];
