@@ -16,11 +16,11 @@ pub list_any-map : {A B : Type 0} (p : B → Bool) (f : A → B) (xs : List A) �
 list_any-map p f [] = refl
 list_any-map p f (x ∷ xs) = ap (λ b. p (f x) || b) (list_any-map p f xs)
 
--- the same at an option
-pub option_test-map : {A B : Type 0} (p : B → Bool) (f : A → B) (o : Option A)
-    → option_map_or p (option_map f o) false ≡ option_map_or (λ x. p (f x)) o false
-option_test-map p f None = refl
-option_test-map p f (Some x) = refl
+-- the same at an option, with an answer for none
+pub option_maps : {A B C : Type 0} (g : B → C) (f : A → B) (o : Option A) (d : C)
+    → option_map_or g (option_map f o) d ≡ option_map_or (λ x. g (f x)) o d
+option_maps g f None d = refl
+option_maps g f (Some x) d = refl
 
 -- four tests in turn
 pub four : (a b c d e f g h : Bool) → a ≡ e → b ≡ f → c ≡ g → d ≡ h → (a || b || c || d) ≡ (e || f || g || h)
@@ -31,7 +31,7 @@ pub shown_in : (fault : ConfigFault) (doc : Members) (s : Sections) → AreSecti
     → sections_show fault doc s ≡ values_show fault doc
 unfolding values_show
 shown_in fault doc s are = four _ _ _ _ _ _ _ _ refl
-    (sym (option_test-map (table_shows fault end_fields) (λ t. table_view t.now) s.end)
+    (sym (option_maps (table_shows fault end_fields) (λ t. table_view t.now) s.end false)
     ∙ ap (λ o. option_map_or (table_shows fault end_fields) o false) are.end_is)
     (sym (list_any-map (table_shows fault link_fields) (λ t. table_view t.now) s.links.items)
     ∙ ap (list_any (table_shows fault link_fields)) are.links_are)

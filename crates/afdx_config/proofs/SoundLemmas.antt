@@ -1,7 +1,8 @@
 -- A document whose values show no fault has tables without fault.
-use Rattle.std.proofs.Common.{◌≡◌, codes, false, List, [], ◌∷◌, map, Option, Some, None, option_map, ℕ, refl, ap, sym, ◌∙◌, Bor, BTreeMap, String, Global, subst, arith}
+use Rattle.std.proofs.Common.{◌≡◌, codes, false, List, [], ◌∷◌, map, Option, Some, None, ℕ, refl, ap, sym, ◌∙◌, Bor, BTreeMap, String, Global, subst, arith}
 use Rattle.std.proofs.lemmas.Option.{same_Some}
 use Rattle.std.proofs.lemmas.List.Elements.{All-cons}
+use Rattle.std.proofs.lemmas.Simd.{map-map}
 use Rattle.std.specs.Prelude.{All, find}
 use Rattle.std.specs.List.{list_any}
 use Rattle.std.specs.Option.{option_map_or, ForSome}
@@ -22,7 +23,7 @@ use Rattle.afdx_config.specs.PlanOf.{link_of, port_of, plan_of}
 use Rattle.afdx_config.specs.Tables.{table_shows}
 use Rattle.afdx_config.specs.Views.{AreSectionsOf, AreSound, IsSound}
 use Rattle.afdx_config.specs.declared.sections.Sections.{Sections}
-use Rattle.afdx_config.proofs.SectionTests.{shown_in}
+use Rattle.afdx_config.proofs.SectionTests.{shown_in, option_maps}
 
 -- a table that was found
 abbrev Found : Type 0
@@ -83,17 +84,6 @@ sound doc s are none =
       ports_sound = all_sound port_fields s.ports.items missing.ports_clear kind.ports_clear range.ports_clear gap.ports_clear;
     }
 
--- two maps in one
-maps : {A B C : Type 0} (g : B → C) (f : A → B) (xs : List A) → map g (map f xs) ≡ map (λ x. g (f x)) xs
-maps g f [] = refl
-maps g f (x ∷ xs) = ap (λ ys. g (f x) ∷ ys) (maps g f xs)
-
--- two maps of an option in one
-option_maps : {A B C : Type 0} (g : B → C) (f : A → B) (o : Option A) (d : C)
-    → option_map_or g (option_map f o) d ≡ option_map_or (λ x. g (f x)) o d
-option_maps g f None d = refl
-option_maps g f (Some x) d = refl
-
 -- the plan of the parts is that of the document
 pub plan_parts : (doc : Members) (s : Sections) (e : ℕ) (ls : List LinkPlan) (ps : List PortPlan) → AreSectionsOf doc s
     → e ≡ option_map_or (λ t. number_at (codes "id") (table_view t.now)) s.end 0
@@ -102,6 +92,6 @@ pub plan_parts : (doc : Members) (s : Sections) (e : ℕ) (ls : List LinkPlan) (
 plan_parts doc s e ls ps are he hl hp =
     let a = he ∙ sym (option_maps (number_at (codes "id")) (λ t. table_view t.now) s.end 0)
     ∙ ap (λ o. option_map_or (number_at (codes "id")) o 0) are.end_is in
-    let b = hl ∙ sym (maps link_of (λ t. table_view t.now) s.links.items) ∙ ap (map link_of) are.links_are in
-    let c = hp ∙ sym (maps port_of (λ t. table_view t.now) s.ports.items) ∙ ap (map port_of) are.ports_are in
+    let b = hl ∙ sym (map-map link_of (λ t. table_view t.now) s.links.items) ∙ ap (map link_of) are.links_are in
+    let c = hp ∙ sym (map-map port_of (λ t. table_view t.now) s.ports.items) ∙ ap (map port_of) are.ports_are in
     rw (a, b, c) refl

@@ -1,5 +1,5 @@
 -- What stands under a key of a table, and which faults it shows.
-use Rattle.std.specs.Prelude.{ℕ, ℤ, pos, negsuc, nat_lt, List, [], ◌∷◌, Bool, true, false, not, ◌||◌, ◌≡◌, ◌≤◌, Some, Option, option_and_then}
+use Rattle.std.specs.Prelude.{ℕ, ℤ, pos, negsuc, nat_lt, List, [], ◌∷◌, Bool, true, false, not, ◌||◌, Option, option_and_then}
 use Rattle.std.specs.Option.{option_map_or}
 use Rattle.toml.specs.Data.{Items, no_items, item, Members, no_members, member, get_member, as_integer, as_str, table}
 
@@ -24,11 +24,6 @@ natural (negsuc n) = 0
 -- the number under a key, or 0
 abbrev pub number_at : List ℕ → Members → ℕ
 number_at key members = option_map_or natural (whole_at key members) 0
-
--- a number from least to most stands under the key
-abbrev pub HasNumber : ℕ → ℕ → List ℕ → Members → Type 0
-HasNumber least most key members =
-    (n : ℕ) × (whole_at key members ≡ Some (pos n)) × (least ≤ n) × (n ≤ most)
 
 -- the table has a key that isn't known
 abbrev pub has_key_besides : (List ℕ → Bool) → Members → Bool

@@ -1,8 +1,8 @@
 -- Flows of one plan lie apart.
-use Rattle.std.proofs.Common.{◌≡◌, ℕ, ◌/◌, ◌%◌, ◌<◌, ◌⊎◌, inl, inr, List, get_or, Option, Some, None, refl, ap, subst, arith}
-use Rattle.std.specs.Prelude.{IfSome, All, Contains}
+use Rattle.std.proofs.Common.{◌≡◌, ℕ, ◌/◌, ◌%◌, ◌<◌, ◌⊎◌, inl, inr, List, get_or, Option, Some, None, refl, ap, arith}
+use Rattle.std.specs.Prelude.{IfSome}
+use Rattle.std.proofs.lemmas.List.Elements.{All-contains}
 use Rattle.afdx_plan.specs.declared.identifiers.VlId.{VlId}
-use Rattle.afdx_plan.specs.declared.port_plan.PortPlan.{PortPlan}
 use Rattle.afdx_plan.specs.Address.{destination_of}
 use Rattle.afdx_plan.specs.Plan.{IsPort, IsUnicast}
 use Rattle.afdx_plan.specs.Config.{Plan, IsPlan}
@@ -23,15 +23,11 @@ same_link v w (Some a) None small_v small_w is_s is_t same =
     let ten = is_s.first in absurd (omega arith)
 same_link v w (Some a) (Some b) small_v small_w is_s is_t same = inr (b, ap Some same, refl)
 
--- what holds of each holds of one that is among them
-of_member : (P : PortPlan → Type 0) (ports : List PortPlan) (port : PortPlan) → All P ports → Contains ports port → P port
-of_member P ports port each member = subst P member.2 (each member.0 port member.1)
-
 -- the law of flows, for a valid plan
 pub apart : (plan : Plan) → IsPlan plan → FlowsApart plan
 apart plan is p q i j in_p in_q source destination ident =
-    let p_is = of_member IsPort plan.ports p is.each_port in_p in
-    let q_is = of_member IsPort plan.ports q is.each_port in_q in
+    let p_is = All-contains IsPort plan.ports p is.each_port in_p in
+    let q_is = All-contains IsPort plan.ports q is.each_port in_q in
     let partition : p.partition ≡ q.partition = ap (λ (xs : List ℕ). get_or xs 3 0) source in
     let sub_p = p_is.sub in
     let sub_q = q_is.sub in

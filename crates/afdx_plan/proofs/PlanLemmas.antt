@@ -5,6 +5,7 @@ use Rattle.std.specs.List.{list_any}
 use Rattle.std.specs.Option.{option_map_or}
 use Rattle.std.proofs.lemmas.Bool.{or_parts, and_parts, and_from, eqb-true, eqb-false, ltb-false, leb-false, ne_eqb, false_from_ne_true, cases_order, cases_eq, cases_lt, not-false, not_from_false}
 use Rattle.std.proofs.lemmas.List.{get_or_default}
+use Rattle.std.proofs.lemmas.List.Elements.{All-contains}
 use Rattle.std.proofs.lemmas.List.Folds.{list_any_at}
 use Rattle.std.proofs.lemmas.List.Sums.{sum_by-cons}
 use Rattle.std.proofs.lemmas.Slice.Eq.{bytes_eq-Decides}
@@ -179,10 +180,6 @@ related_members related xs x y none in_x in_y one other =
     let back : related (get_or xs in_y.0 x) (get_or xs in_x.0 x) ≡ true = rw (at_x, at_y) other in
     one_member xs x y in_x in_y (one_place related xs in_x.0 in_y.0 x none in_x.1 in_y.1 forth back)
 
--- what holds of each holds of a member
-of_member : {X : Type 0} (P : X → Type 0) (xs : List X) (x : X) → All P xs → Contains xs x → P x
-of_member P xs x each member = subst P member.2 (each member.0 x member.1)
-
 -- two ports that share a unicast address
 shared : (p q : PortPlan) (address : List ℕ) → p.unicast ≡ Some address → q.unicast ≡ Some address
     → p.partition ≡ q.partition → (p.vl.0 ≡ q.vl.0 → ⊥) → shares_unicast p q ≡ true
@@ -276,14 +273,14 @@ valid plan end each_link each_port none =
           (none_at (names_no_link plan.links) plan.ports k d no_link below)
           (none_at (names_no_sub plan.links) plan.ports k d no_sub below);
       sampling = λ p link in_p in_link kind id. fits plan.links p link duplicate_vl
-          (of_member (λ port. names_no_link plan.links port ≡ false) plan.ports p
+          (All-contains (λ port. names_no_link plan.links port ≡ false) plan.ports p
           (λ k d below. none_at (names_no_link plan.links) plan.ports k d no_link below) in_p)
-          (of_member (λ port. is_too_long plan.links port ≡ false) plan.ports p
+          (All-contains (λ port. is_too_long plan.links port ≡ false) plan.ports p
           (λ k d below. none_at (is_too_long plan.links) plan.ports k d too_long below) in_p)
           in_link kind id;
       flows_apart = λ p q in_p in_q same.
-          let is_p = of_member IsPort plan.ports p each_port in_p in
-          let is_q = of_member IsPort plan.ports q each_port in_q in
+          let is_p = All-contains IsPort plan.ports p each_port in_p in
+          let is_q = All-contains IsPort plan.ports q each_port in_q in
           related_members has_same_flow plan.ports p q one_flow in_p in_q
           (same_flow p q is_p is_q same) (same_flow q p is_q is_p (same_flow_back p q same));
       unicasts_apart = λ p q in_p in_q address of_p of_q partition.
