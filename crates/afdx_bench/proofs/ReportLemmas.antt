@@ -5,10 +5,10 @@ use Rattle.std.proofs.lemmas.List.{take_more, flat_map_more}
 use Rattle.std.specs.Io.KnownBytes.{Appends}
 use Rattle.std.specs.List.{flat_map}
 use Rattle.afdx_bench.specs.Report.{end_system_line, link_line, port_line, jitter_line, report_of}
-use Rattle.afdx_config.specs.Config.{Plan}
-use Rattle.afdx_config.specs.Plan.{jitter_of}
-use Rattle.afdx_config.specs.declared.link_plan.LinkPlan.{LinkPlan}
-use Rattle.afdx_config.specs.declared.port_plan.PortPlan.{PortPlan}
+use Rattle.afdx_plan.specs.Config.{Plan}
+use Rattle.afdx_plan.specs.Plan.{jitter_of}
+use Rattle.afdx_plan.specs.declared.link_plan.LinkPlan.{LinkPlan}
+use Rattle.afdx_plan.specs.declared.port_plan.PortPlan.{PortPlan}
 
 -- the text of the next item, which is at this place; past the end stands another one
 pub flat_map-take_more : {X : Type 0} (f : X → List ℕ) (xs : List X) (i : ℕ) (x other : X) → i < length xs → x ≡ get_or xs i other

@@ -1,12 +1,12 @@
 -- What `check` tells of a plan.
 use Rattle.std.specs.Prelude.{codes, ℕ, List, [], ◌∷◌, ◌++◌, Option, Some, None, nat_lt, if◌then◌else◌, flat_map, decimal}
 use Rattle.std.specs.Net.Text.{ipv4_text}
-use Rattle.afdx_config.specs.Config.{Plan}
-use Rattle.afdx_config.specs.Plan.{bag_ms, jitter_of}
-use Rattle.afdx_config.specs.declared.identifiers.Kind.{Kind}
-use Rattle.afdx_config.specs.declared.identifiers.Kind.TheVariants.{Sampling, Queuing}
-use Rattle.afdx_config.specs.declared.link_plan.LinkPlan.{LinkPlan}
-use Rattle.afdx_config.specs.declared.port_plan.PortPlan.{PortPlan}
+use Rattle.afdx_plan.specs.Config.{Plan}
+use Rattle.afdx_plan.specs.Plan.{bag_ms, jitter_of}
+use Rattle.afdx_plan.specs.declared.identifiers.Kind.{Kind}
+use Rattle.afdx_plan.specs.declared.identifiers.Kind.TheVariants.{Sampling, Queuing}
+use Rattle.afdx_plan.specs.declared.link_plan.LinkPlan.{LinkPlan}
+use Rattle.afdx_plan.specs.declared.port_plan.PortPlan.{PortPlan}
 
 -- the end system
 unfoldable pub end_system_line : ℕ → List ℕ

@@ -4,7 +4,7 @@ use Rattle.afdx_bench.specs.declared.failure.Failure.{Failure}
 use Rattle.afdx_bench.specs.declared.failure.Failure.TheVariants.{Config, Run, Storm}
 use Rattle.afdx_bench.specs.declared.status.End.{End}
 use Rattle.afdx_bench.specs.declared.status.End.TheVariants.{Told, Ran, WordsRefused, Failed}
-use Rattle.afdx_config.specs.declared.fault.ConfigFault.TheVariants as Plan
+use Rattle.afdx_plan.specs.declared.fault.ConfigFault.TheVariants as Plan
 use Rattle.clap.specs.declared.error.kind.ErrorKind.{ErrorKind}
 use Rattle.clap.specs.declared.error.kind.ErrorKind.TheVariants.{DisplayHelp, DisplayVersion, OutOfMemory}
 use Rattle.tx_script.specs.declared.run_fault.RunFault.{RunFault}

@@ -1,5 +1,5 @@
 //! Why a command ends early.
-use afdx_config::ConfigFault;
+use afdx_plan::ConfigFault;
 use std::error::Error;
 use std::fmt;
 use tx_script::RunFault;

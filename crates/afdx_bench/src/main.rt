@@ -12,7 +12,7 @@ mod tests;
 mod told;
 mod words;
 
-use afdx_config::demo_config;
+use afdx_plan::demo_config;
 use failure::Failure;
 use reading::read_plan;
 use status::{End, status_of};

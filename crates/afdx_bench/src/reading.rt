@@ -4,7 +4,8 @@ ghost use Rattle.afdx_bench.specs.Reading.{IsRefusal};
 ghost use Rattle.afdx_config.specs.Faults.{IsPlanOf};
 
 use crate::failure::Failure;
-use afdx_config::{Config, read_config};
+use afdx_config::read_config;
+use afdx_plan::Config;
 use std::alloc::Global;
 use std::io::{self, Read};
 use tx_script::RunFault;

@@ -6,7 +6,7 @@ ghost use Rattle.afdx_bench.specs.Report.{pace_text, queues_text, link_line};
 ghost use Rattle.afdx_bench.specs.Report.{way_text, flow_text, destination_text, port_line};
 ghost use Rattle.afdx_bench.specs.Report.{jitter_text, verdict_text, jitter_line};
 
-use afdx_config::{Config, Kind, LinkPlan, PortPlan, jitter_ns};
+use afdx_plan::{Config, Kind, LinkPlan, PortPlan, jitter_ns};
 use std::io::{self, Write};
 use std::net::Ipv4Addr;
 

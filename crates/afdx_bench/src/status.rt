@@ -3,7 +3,7 @@ ghost use Rattle.std.specs.Prelude.{◌≡◌};
 ghost use Rattle.afdx_bench.specs.Status.{exit_status, failure_status as status_of_failure, run_status as status_of_run};
 
 use crate::failure::Failure;
-use afdx_config::ConfigFault;
+use afdx_plan::ConfigFault;
 use tx_script::{RunFault, Summary};
 
 /// All that was asked for was done, and no line of a script was refused.

@@ -2,7 +2,7 @@ use crate::failure::Failure;
 use crate::status::{End, status_of};
 use crate::told::tell_words;
 use crate::words::{Words, parse};
-use afdx_config::ConfigFault;
+use afdx_plan::ConfigFault;
 use clap::Error;
 use std::alloc::{AllocError, Global};
 use std::test::Fail;

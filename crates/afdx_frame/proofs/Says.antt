@@ -5,10 +5,10 @@ use Rattle.std.proofs.lemmas.Bool.Decides.{nat_tests}
 use Rattle.std.proofs.Math.Seq.{take-append_seam, get_or-append_right}
 use Rattle.std.proofs.Math.ListN.{length-replicate}
 use Rattle.std.specs.Prelude.{IfSome, slice_index, nat_le, if◌then◌else◌}
-use Rattle.afdx_config.specs.declared.port_plan.PortPlan.{PortPlan}
-use Rattle.afdx_config.specs.Plan.{IsPort, IsUnicast}
-use Rattle.afdx_config.specs.Address.{destination_of}
-use Rattle.afdx_config.specs.Numbers.{identification}
+use Rattle.afdx_plan.specs.declared.port_plan.PortPlan.{PortPlan}
+use Rattle.afdx_plan.specs.Plan.{IsPort, IsUnicast}
+use Rattle.afdx_plan.specs.Address.{destination_of}
+use Rattle.afdx_plan.specs.Numbers.{identification}
 use Rattle.afdx_frame.specs.declared.net.Net.{Net}
 use Rattle.afdx_frame.specs.declared.net.Net.TheVariants.{A, B}
 use Rattle.afdx_frame.specs.declared.piece.Piece.{Piece}

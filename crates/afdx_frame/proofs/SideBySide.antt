@@ -3,7 +3,7 @@ use Rattle.std.proofs.Common.{◌≡◌, ℕ, zero, suc, ◌+◌, ◌-◌, ◌*�
 use Rattle.std.specs.Prelude.{All, Contains}
 use Rattle.std.proofs.lemmas.Bool.{cases_lt, lt-ltb}
 use Rattle.std.proofs.lemmas.List.Elements.{All-cons, All-nil}
-use Rattle.afdx_config.specs.Room.{step_of}
+use Rattle.afdx_plan.specs.Room.{step_of}
 use Rattle.afdx_frame.specs.declared.piece.Piece.{Piece}
 use Rattle.afdx_frame.specs.Cutting.{cut_by, pieces_from}
 use Rattle.afdx_frame.proofs.CuttingLemmas.{step_le, step_pos, cut_last, cut_more, cut_some}

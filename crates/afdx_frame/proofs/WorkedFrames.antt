@@ -1,13 +1,13 @@
 -- The worked frames, computed. Each stands as its parts: link header, internet header, piece,
 -- padding, sequence number.
 use Rattle.std.proofs.Common.{◌≡◌, ℕ, List, [], ◌∷◌, ◌++◌, Some, refl, replicate, take, drop}
-use Rattle.afdx_config.specs.declared.port_plan.PortPlan.{PortPlan}
-use Rattle.afdx_config.specs.Demo.{demo_port}
+use Rattle.afdx_plan.specs.declared.port_plan.PortPlan.{PortPlan}
+use Rattle.afdx_plan.specs.Demo.{demo_port}
 use Rattle.afdx_frame.specs.declared.net.Net.TheVariants.{A, B}
 use Rattle.afdx_frame.specs.Checksum.{checksum}
 use Rattle.afdx_frame.specs.Frame.{addresses, header_front, internet_header, link_header, udp_header, datagram, unnumbered, frame_of}
 use Rattle.afdx_frame.specs.Cutting.{cutting, piece_at}
-use Rattle.afdx_config.specs.Numbers.{identification, sequence_number}
+use Rattle.afdx_plan.specs.Numbers.{identification, sequence_number}
 
 -- the demonstration port with a unicast address
 abbrev pub unicast_port : PortPlan

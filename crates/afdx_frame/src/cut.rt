@@ -1,7 +1,7 @@
 //! A message that is cut into frames, one piece per call.
 ghost use Rattle.std.specs.Prelude.{◌≡◌, ℕ, ◌+◌, ◌≤◌, ◌<◌, ◌-◌, ◌↔◌, length, [], ◌∷◌, List, IsTrue, true, false, MatchOption, vec_len};
-ghost use Rattle.afdx_config.specs.Plan.{IsPort, SendsOver};
-ghost use Rattle.afdx_config.specs.Room.{room_of};
+ghost use Rattle.afdx_plan.specs.Plan.{IsPort, SendsOver};
+ghost use Rattle.afdx_plan.specs.Room.{room_of};
 ghost use Rattle.afdx_frame.specs.Frame.{frame_of};
 ghost use Rattle.afdx_frame.specs.Roles.{greatest_message, greatest_datagram};
 ghost use Rattle.afdx_frame.specs.Header.{IsFrameOf};
@@ -12,7 +12,7 @@ ghost use Rattle.afdx_frame.specs.Cutting.{Cutting, IsCut, cutting, pieces_from,
 use crate::net::{Frame, Net};
 use crate::piece::Piece;
 use crate::write::write_frame;
-use afdx_config::{LinkPlan, PortPlan};
+use afdx_plan::{LinkPlan, PortPlan};
 use arrayvec::ArrayVec;
 use std::marker::Model;
 

@@ -4,7 +4,7 @@ use Rattle.std.specs.Prelude.{All, Option, Some, None}
 use Rattle.std.proofs.lemmas.Bool.Decides.{nat_tests}
 use Rattle.std.proofs.lemmas.Bool.{cases_eq, cases_Bool}
 use Rattle.std.proofs.lemmas.List.{append_assoc}
-use Rattle.afdx_config.specs.Numbers.{identification}
+use Rattle.afdx_plan.specs.Numbers.{identification}
 use Rattle.afdx_frame.specs.Cutting.{cutting, pieces_from}
 use Rattle.afdx_frame.proofs.CuttingLemmas.{cutting_some}
 use Rattle.afdx_frame.specs.Reassembly.{Fragment, Buffer, empty, put, put_all, bytes_to, datagram_in, fragment_of, fragments_of}

@@ -3,8 +3,8 @@ use Rattle.std.proofs.Common.{ℕ, ◌<◌, inl, inr, List, ◌++◌, length, ap
 use Rattle.std.specs.Prelude.{All}
 use Rattle.std.proofs.lemmas.Bool.{cases_lt}
 use Rattle.std.proofs.lemmas.List.Elements.{All-contains, All-weaker}
-use Rattle.afdx_config.specs.Config.{Plan, IsPlan, link_plan_at}
-use Rattle.afdx_config.specs.Plan.{IsLink, IsPort}
+use Rattle.afdx_plan.specs.Config.{Plan, IsPlan, link_plan_at}
+use Rattle.afdx_plan.specs.Plan.{IsLink, IsPort}
 use Rattle.afdx_frame.specs.declared.net.Net.{Net}
 use Rattle.afdx_frame.specs.declared.net.Net.TheVariants.{A, B}
 use Rattle.afdx_frame.specs.Twin.{twin_of}

@@ -5,9 +5,9 @@ use Rattle.std.proofs.lemmas.Bool.{cases_Bool}
 use Rattle.std.proofs.lemmas.Bool.Decides.{nat_tests}
 use Rattle.std.proofs.lemmas.List.{length-take}
 use Rattle.std.proofs.lemmas.List.Elements.{All-cons, All-nil, All-weaker, All-tail}
-use Rattle.afdx_config.specs.Config.{Plan, IsPlan, link_plan_at}
-use Rattle.afdx_config.specs.Plan.{bag_micros}
-use Rattle.afdx_config.specs.declared.identifiers.VlId.{VlId}
+use Rattle.afdx_plan.specs.Config.{Plan, IsPlan, link_plan_at}
+use Rattle.afdx_plan.specs.Plan.{bag_micros}
+use Rattle.afdx_plan.specs.declared.identifiers.VlId.{VlId}
 use Rattle.afdx_frame.specs.declared.net.Net.{Net}
 use Rattle.afdx_frame.specs.Fragments.{blanked}
 use Rattle.afdx_frame.specs.Header.{link_in, sub_in}

@@ -3,7 +3,7 @@ use Rattle.std.proofs.Common.{◌≡◌, ℕ, zero, suc, ◌+◌, ◌-◌, ◌%�
 use Rattle.std.specs.Prelude.{Option, Some, None}
 use Rattle.std.proofs.lemmas.Bool.Decides.{nat_tests}
 use Rattle.std.proofs.lemmas.Bool.{cases_eq}
-use Rattle.afdx_config.specs.Numbers.{sequence_number}
+use Rattle.afdx_plan.specs.Numbers.{sequence_number}
 use Rattle.afdx_laws.specs.Receiver.{next_number, ahead, is_ahead, is_valid}
 
 -- the test of equality

@@ -3,8 +3,8 @@ use Rattle.std.proofs.Common.{◌≡◌, ℕ, suc, ◌+◌, ◌-◌, ◌/◌, �
 use Rattle.std.specs.Prelude.{All}
 use Rattle.std.specs.List.{AllByRecursion}
 use Rattle.std.proofs.lemmas.List.{drop-set-lt, map-append, length-append, drop_at, take_more, take_all}
-use Rattle.afdx_config.specs.Plan.{IsPort}
-use Rattle.afdx_config.specs.Numbers.{identification}
+use Rattle.afdx_plan.specs.Plan.{IsPort}
+use Rattle.afdx_plan.specs.Numbers.{identification}
 use Rattle.afdx_frame.specs.declared.net.Net.{Net}
 use Rattle.afdx_frame.specs.declared.net.Net.TheVariants.{A}
 use Rattle.afdx_frame.specs.declared.piece.Piece.{Piece}

@@ -4,7 +4,7 @@ use Rattle.std.proofs.lemmas.Bool.{cases_lt, and_from, and_right}
 use Rattle.std.proofs.lemmas.List.{take_more, append_assoc, append-nil}
 use Rattle.afdx_frame.specs.declared.net.Net.{Net}
 use Rattle.afdx_frame.specs.declared.net.Net.TheVariants.{A, B}
-use Rattle.afdx_config.specs.Numbers.{sequence_number}
+use Rattle.afdx_plan.specs.Numbers.{sequence_number}
 use Rattle.afdx_laws.specs.Receiver.{Tolerance, State, is_accepted, is_valid, is_ahead, received, carried, with_seen, with_accepted, seen_on}
 use Rattle.afdx_laws.proofs.NumberLemmas.{last, new_next, valid_next, old_copy}
 

@@ -5,8 +5,8 @@ use Rattle.std.specs.List.{AllByRecursion}
 use Rattle.std.proofs.lemmas.Bool.{cases_lt}
 use Rattle.std.proofs.lemmas.List.{length-append}
 use Rattle.std.proofs.lemmas.List.Elements.{All-cons, All-nil, All-append}
-use Rattle.afdx_config.specs.Plan.{IsPort}
-use Rattle.afdx_config.specs.Room.{room_of, step_of}
+use Rattle.afdx_plan.specs.Plan.{IsPort}
+use Rattle.afdx_plan.specs.Room.{room_of, step_of}
 use Rattle.afdx_frame.specs.declared.net.Net.{Net}
 use Rattle.afdx_frame.specs.declared.piece.Piece.{Piece}
 use Rattle.afdx_frame.specs.Cutting.{cut_by, cutting, pieces_from}

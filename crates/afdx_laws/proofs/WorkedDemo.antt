@@ -3,12 +3,12 @@ use Rattle.std.proofs.Common.{◌≡◌, ℕ, zero, suc, ◌+◌, ◌≤◌, ◌
 use Rattle.std.specs.Prelude.{Contains, None}
 use Rattle.std.specs.List.{AllZip}
 use Rattle.std.proofs.lemmas.List.Elements.{All-cons, All-nil}
-use Rattle.afdx_config.specs.declared.identifiers.Kind.TheVariants.{Sampling, Queuing}
-use Rattle.afdx_config.specs.declared.port_plan.PortPlan.{PortPlan}
-use Rattle.afdx_config.specs.Config.{IsPlan, HasLink, ports_on, link_plan_at}
-use Rattle.afdx_config.specs.Demo.{demo_plan, demo_link, demo_port}
-use Rattle.afdx_config.specs.Plan.{IsLink, IsPort, bag_micros}
-use Rattle.afdx_config.specs.Room.{room_of}
+use Rattle.afdx_plan.specs.declared.identifiers.Kind.TheVariants.{Sampling, Queuing}
+use Rattle.afdx_plan.specs.declared.port_plan.PortPlan.{PortPlan}
+use Rattle.afdx_plan.specs.Config.{IsPlan, HasLink, ports_on, link_plan_at}
+use Rattle.afdx_plan.specs.Demo.{demo_plan, demo_link, demo_port}
+use Rattle.afdx_plan.specs.Plan.{IsLink, IsPort, bag_micros}
+use Rattle.afdx_plan.specs.Room.{room_of}
 use Rattle.afdx_frame.specs.declared.net.Net.{Net}
 use Rattle.afdx_frame.specs.declared.net.Net.TheVariants.{A, B}
 use Rattle.afdx_frame.specs.Checksum.{checksum}

@@ -2,8 +2,8 @@
 use Rattle.std.proofs.Common.{◌≡◌, ◌≤◌, List, [], ◌∷◌, length, map, ◌+◌, ℕ, refl, ap, ◌∙◌, arith}
 use Rattle.std.proofs.lemmas.List.{length-append}
 use Rattle.std.proofs.lemmas.List.Elements.{All-cons, All-nil}
-use Rattle.afdx_config.specs.Plan.{IsPort}
-use Rattle.afdx_config.specs.Demo.{demo_port}
+use Rattle.afdx_plan.specs.Plan.{IsPort}
+use Rattle.afdx_plan.specs.Demo.{demo_port}
 use Rattle.afdx_frame.specs.declared.net.Net.{Net}
 use Rattle.afdx_frame.specs.declared.net.Net.TheVariants.{A, B}
 use Rattle.afdx_frame.specs.Checksum.{checksum}

@@ -1,6 +1,6 @@
 -- From the fragments of a link to the datagrams of its sub-VLs, at the receiving end.
 use Rattle.std.specs.Prelude.{◌≡◌, ℕ, suc, ◌%◌, ◌≤◌, ◌<◌, nat_eq, if◌then◌else◌, Option, Some, None, List, [], ◌∷◌, ◌++◌, length, map, take, All}
-use Rattle.afdx_config.specs.Numbers.{identification}
+use Rattle.afdx_plan.specs.Numbers.{identification}
 use Rattle.afdx_frame.specs.Reassembly.{Fragment, Buffer, empty, put, datagram_in, fragments_of}
 use Rattle.afdx_legal.specs.Streams.{those_with, IsPrefixOf}
 

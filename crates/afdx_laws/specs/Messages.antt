@@ -1,6 +1,6 @@
 -- From the frames of a link to the messages of its sub-VLs, at the receiving end.
 use Rattle.std.specs.Prelude.{◌≡◌, ℕ, ◌-◌, ◌%◌, ◌≤◌, ◌<◌, nat_le, List, length, map, take, drop, All}
-use Rattle.afdx_config.specs.Plan.{IsPort}
+use Rattle.afdx_plan.specs.Plan.{IsPort}
 use Rattle.afdx_frame.specs.declared.net.Net.{Net}
 use Rattle.afdx_frame.specs.declared.net.Net.TheVariants.{A}
 use Rattle.afdx_frame.specs.Profile.{word_at, total_length, fragment_field}

@@ -1,7 +1,7 @@
 -- A worked delivery: the demonstration port sends 41 bytes over a link with frames of up to 64, which
 -- takes two frames. Network B is behind by one frame, and then ahead.
 use Rattle.std.specs.Prelude.{◌≡◌, ℕ, List, [], ◌∷◌, replicate, take}
-use Rattle.afdx_config.specs.Demo.{demo_port}
+use Rattle.afdx_plan.specs.Demo.{demo_port}
 use Rattle.afdx_frame.specs.declared.net.Net.{Net}
 use Rattle.afdx_frame.specs.declared.net.Net.TheVariants.{A, B}
 use Rattle.afdx_frame.specs.Cutting.{piece_at}

@@ -1,7 +1,7 @@
 -- Worked losses: network B carries every frame, and network A doesn't.
 use Rattle.std.specs.Prelude.{◌≡◌, ℕ, List, [], ◌∷◌, length, take, All}
-use Rattle.afdx_config.specs.Config.{IsPlan}
-use Rattle.afdx_config.specs.Demo.{demo_plan}
+use Rattle.afdx_plan.specs.Config.{IsPlan}
+use Rattle.afdx_plan.specs.Demo.{demo_plan}
 use Rattle.afdx_frame.specs.declared.net.Net.{Net}
 use Rattle.afdx_frame.specs.declared.net.Net.TheVariants.{A, B}
 use Rattle.afdx_frame.specs.Header.{number_in}

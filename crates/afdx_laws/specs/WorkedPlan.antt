@@ -2,8 +2,8 @@
 -- accepted, and its frame is handed to both networks at the moment 0.
 use Rattle.std.specs.Prelude.{◌≡◌, ℕ, List, [], ◌∷◌, map, All}
 use Rattle.std.specs.List.{AllZip}
-use Rattle.afdx_config.specs.Config.{IsPlan}
-use Rattle.afdx_config.specs.Demo.{demo_plan, demo_port}
+use Rattle.afdx_plan.specs.Config.{IsPlan}
+use Rattle.afdx_plan.specs.Demo.{demo_plan, demo_port}
 use Rattle.afdx_frame.specs.declared.net.Net.{Net}
 use Rattle.afdx_frame.specs.declared.net.Net.TheVariants.{A, B}
 use Rattle.afdx_frame.specs.Cutting.{piece_at}

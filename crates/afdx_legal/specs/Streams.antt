@@ -1,7 +1,7 @@
 -- Streams, read out of what was handed over alone: words that the headline and the laws share. Who checks
 -- the headline reads this crate, and what it stands on.
 use Rattle.std.specs.Prelude.{ℕ, ◌≡◌, ◌+◌, ◌≤◌, List, [], ◌∷◌, ◌++◌, nat_eq, filter, map, Option, Some, None}
-use Rattle.afdx_config.specs.Numbers.{sequence_number}
+use Rattle.afdx_plan.specs.Numbers.{sequence_number}
 use Rattle.afdx_frame.specs.Header.{link_in, sub_in, number_in}
 use Rattle.afdx_frame.specs.Fragments.{blanked}
 use Rattle.vl_shaper.specs.declared.shaper.Stamp.{Stamp}

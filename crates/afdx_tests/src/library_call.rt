@@ -1,5 +1,5 @@
 //! The call of the library that README.md shows.
-use afdx_config::demo_config;
+use afdx_plan::demo_config;
 use afdx_tx::open_tx;
 use redundant_mux::MemNetwork;
 use std::test::Fail;

@@ -4,7 +4,8 @@ ghost use Rattle.arrayvec.specs.ArrayVec.{array_vec_len};
 ghost use Rattle.redundant_mux.specs.Entry.{entry};
 
 use crate::testing::{poll_alive, poll_at, send_taken};
-use afdx_config::{Config, read_config};
+use afdx_config::read_config;
+use afdx_plan::Config;
 use afdx_frame::Frame;
 use afdx_tx::{Emitter, PollFault, Report, TxPort, open_tx};
 use arrayvec::ArrayVec;

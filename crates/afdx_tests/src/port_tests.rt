@@ -3,7 +3,8 @@ ghost use Rattle.std.specs.Prelude.{◌≡◌, IfOk};
 ghost use Rattle.afdx_tx.specs.Ports.{IsPortOfTx, AreOpenedWith};
 
 use crate::testing::{poll_alive, send_taken};
-use afdx_config::{PortId, read_config};
+use afdx_config::read_config;
+use afdx_plan::PortId;
 use afdx_tx::{Draining, Emitter, Refusal, TxPort, open_tx};
 use redundant_mux::MemNetwork;
 use std::alloc::Global;

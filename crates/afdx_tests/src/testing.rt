@@ -3,7 +3,7 @@ ghost use Rattle.std.specs.Prelude.{◌≡◌, [], IfOk};
 ghost use Rattle.afdx_tx.specs.Emitter.{Tx};
 ghost use Rattle.afdx_tx.specs.Ports.{PortView, IsPortOfTx};
 
-use afdx_config::{VlId, demo_config};
+use afdx_plan::{VlId, demo_config};
 use afdx_tx::{Emitter, PollFault, Release, Report, TxPort, open_tx};
 use redundant_mux::{MemNetwork, Network};
 use std::alloc::Global;

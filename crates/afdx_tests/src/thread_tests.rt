@@ -3,7 +3,9 @@ ghost use Rattle.std.specs.Prelude.{◌≡◌, [], map, Some, IfOk, IfSome};
 ghost use Rattle.afdx_tx.specs.Emitter.{Tx, queues_in};
 ghost use Rattle.afdx_tx.specs.Ports.{IsPortOfTx, AreOpenedWith};
 
-use afdx_config::{Config, read_config};
+use afdx_config::read_config;
+
+use afdx_plan::Config;
 use afdx_tx::{Draining, Emitter, Refusal, SendFault, TxPort, open_tx};
 use redundant_mux::MemNetwork;
 use std::alloc::{AllocError, Global};

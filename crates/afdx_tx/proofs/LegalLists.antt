@@ -2,10 +2,10 @@
 use Rattle.std.proofs.Common.{ℕ, ◌≡◌, ◌+◌, ◌<◌, ◌≤◌, List, [], ◌∷◌, ◌++◌, Bool, true, false, cond, length, map, take, drop, eqb, arith, refl, ap, ◌∙◌, sym, subst, ⊎_elim, Option, Some, None}
 use Rattle.std.proofs.lemmas.List.{map-append, append_assoc, take-append-drop, take-map}
 use Rattle.std.specs.Prelude.{filter}
-use Rattle.afdx_config.specs.declared.link_plan.LinkPlan.{LinkPlan}
-use Rattle.afdx_config.specs.Config.{Plan, link_plan_at}
-use Rattle.afdx_config.specs.Plan.{bag_micros}
-use Rattle.afdx_config.specs.Room.{room_of}
+use Rattle.afdx_plan.specs.declared.link_plan.LinkPlan.{LinkPlan}
+use Rattle.afdx_plan.specs.Config.{Plan, link_plan_at}
+use Rattle.afdx_plan.specs.Plan.{bag_micros}
+use Rattle.afdx_plan.specs.Room.{room_of}
 use Rattle.afdx_frame.specs.declared.net.Net.{Net}
 use Rattle.afdx_frame.specs.declared.net.Net.TheVariants.{A, B}
 use Rattle.afdx_frame.specs.Header.{link_in, sub_in}

@@ -1,7 +1,7 @@
 -- Whether all accepted messages are wholly released.
 use Rattle.std.proofs.Common.{ℕ, ◌≡◌, ◌<◌, List, [], ◌∷◌, Bool, true, false, length, arith, refl, ap, ◌∙◌, sym, subst, ⊎_elim}
-use Rattle.afdx_config.specs.Config.{Plan, link_plan_at}
-use Rattle.afdx_config.specs.declared.link_plan.LinkPlan.{LinkPlan}
+use Rattle.afdx_plan.specs.Config.{Plan, link_plan_at}
+use Rattle.afdx_plan.specs.declared.link_plan.LinkPlan.{LinkPlan}
 use Rattle.redundant_mux.specs.Entry.{Entry}
 use Rattle.redundant_mux.specs.Lines.{Lines, log}
 use Rattle.vl_link.specs.declared.sub_vl.SubVl.{SubVl}

@@ -1,8 +1,8 @@
 -- The fragments of a sub-VL's accepted messages, against its stream.
 use Rattle.std.proofs.Common.{ℕ, suc, ◌≡◌, ◌+◌, ◌<◌, List, [], ◌∷◌, ◌++◌, true, false, length, arith, refl, ap, ◌∙◌, sym, ⊎_elim}
 use Rattle.std.proofs.lemmas.List.{append-nil, append_assoc, map-append, nil_from_length, length-append}
-use Rattle.afdx_config.specs.Room.{room_of}
-use Rattle.afdx_config.specs.declared.link_plan.LinkPlan.{LinkPlan}
+use Rattle.afdx_plan.specs.Room.{room_of}
+use Rattle.afdx_plan.specs.declared.link_plan.LinkPlan.{LinkPlan}
 use Rattle.afdx_frame.specs.declared.net.Net.{Net}
 use Rattle.afdx_frame.specs.declared.net.Net.TheVariants.{A}
 use Rattle.afdx_frame.specs.Fragments.{Sent, fragments, fragments_at, fragments_from}

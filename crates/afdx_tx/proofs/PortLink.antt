@@ -4,11 +4,11 @@ use Rattle.std.proofs.lemmas.Bool.{eq-eqb, lt-ltb, eqb-true}
 use Rattle.std.proofs.lemmas.List.Quantifiers.{position-Some}
 use Rattle.std.specs.List.{prefix_len, position}
 use Rattle.std.specs.Prelude.{◌==◌}
-use Rattle.afdx_config.specs.declared.identifiers.VlId.{VlId}
-use Rattle.afdx_config.specs.declared.link_plan.LinkPlan.{LinkPlan}
-use Rattle.afdx_config.specs.declared.port_plan.PortPlan.{PortPlan}
-use Rattle.afdx_config.specs.Plan.{SendsOver}
-use Rattle.afdx_config.specs.Config.{Plan, IsPlan, HasLink, link_plan_at}
+use Rattle.afdx_plan.specs.declared.identifiers.VlId.{VlId}
+use Rattle.afdx_plan.specs.declared.link_plan.LinkPlan.{LinkPlan}
+use Rattle.afdx_plan.specs.declared.port_plan.PortPlan.{PortPlan}
+use Rattle.afdx_plan.specs.Plan.{SendsOver}
+use Rattle.afdx_plan.specs.Config.{Plan, IsPlan, HasLink, link_plan_at}
 use Rattle.vl_link.specs.Links.{no_link_plan}
 
 -- whether a link is the port's

@@ -4,10 +4,10 @@ use Rattle.std.proofs.lemmas.Bool.{cases_eq, eq-eqb, ne_eqb}
 use Rattle.std.proofs.lemmas.List.{length-append, get_or_append_left, get_or_push, get_or-set_same, get_or-set_other, length-set, take-append-drop}
 use Rattle.std.proofs.lemmas.List.Elements.{filter-append}
 use Rattle.std.proofs.lemmas.List.Filters.{length-filter_more}
-use Rattle.afdx_config.specs.declared.identifiers.VlId.{VlId}
-use Rattle.afdx_config.specs.declared.port_plan.PortPlan.{PortPlan}
-use Rattle.afdx_config.specs.Config.{Plan, IsPlan, link_plan_at, port_plan_at}
-use Rattle.afdx_config.specs.Plan.{SendsOver}
+use Rattle.afdx_plan.specs.declared.identifiers.VlId.{VlId}
+use Rattle.afdx_plan.specs.declared.port_plan.PortPlan.{PortPlan}
+use Rattle.afdx_plan.specs.Config.{Plan, IsPlan, link_plan_at, port_plan_at}
+use Rattle.afdx_plan.specs.Plan.{SendsOver}
 use Rattle.subvl_queue.specs.Views.{QueueName, SenderView}
 use Rattle.afdx_tx.specs.Emitter.{ports_of_sub}
 use Rattle.afdx_tx.specs.Ports.{index_of, queue_at, IsFreshSender, IsFreshPort}

@@ -5,8 +5,8 @@ use Rattle.std.proofs.lemmas.Bool.{cases_eq}
 use Rattle.std.proofs.lemmas.List.{length-append, get_or_append_left, get_or_push}
 use Rattle.std.proofs.lemmas.List.Elements.{All-contains}
 use Rattle.std.proofs.lemmas.List.Sorted.{Contains-permutation, IsPermutation-sym}
-use Rattle.afdx_config.specs.declared.port_plan.PortPlan.{PortPlan}
-use Rattle.afdx_config.specs.Config.{Plan, port_plan_at}
+use Rattle.afdx_plan.specs.declared.port_plan.PortPlan.{PortPlan}
+use Rattle.afdx_plan.specs.Config.{Plan, port_plan_at}
 use Rattle.subvl_queue.specs.Views.{QueueName, SenderView}
 use Rattle.afdx_tx.specs.Sending.{link_place}
 use Rattle.afdx_tx.specs.Ports.{PortView, HasPlace, BelongsTo, queue_at, index_of}

@@ -1,7 +1,7 @@
 -- One more release.
 use Rattle.std.proofs.Common.{ℕ, ◌≡◌, ◌+◌, ◌≤◌, List, [], ◌∷◌, ◌++◌, length, arith, ap, ◌∙◌, sym}
 use Rattle.std.proofs.lemmas.List.{map-append, append-nil, append_assoc, length-append}
-use Rattle.afdx_config.specs.declared.identifiers.VlId.{VlId}
+use Rattle.afdx_plan.specs.declared.identifiers.VlId.{VlId}
 use Rattle.afdx_frame.specs.Header.{sub_in, number_in}
 use Rattle.redundant_mux.specs.Entry.{Entry, entry}
 use Rattle.redundant_mux.specs.Lines.{Lines, log}

@@ -1,7 +1,7 @@
 -- The ports of an emitter come back.
 use Rattle.std.specs.Prelude.{ℕ, ◌≡◌, ◌<◌, List, length, slice_index_or, Contains}
-use Rattle.afdx_config.specs.Config.{Plan, link_plan_at, port_plan_at}
-use Rattle.afdx_config.specs.declared.port_plan.PortPlan.{PortPlan}
+use Rattle.afdx_plan.specs.Config.{Plan, link_plan_at, port_plan_at}
+use Rattle.afdx_plan.specs.declared.port_plan.PortPlan.{PortPlan}
 use Rattle.subvl_queue.specs.Messages.{part_of}
 use Rattle.subvl_queue.specs.Views.{SenderView}
 use Rattle.vl_link.specs.Seen.{known_of}

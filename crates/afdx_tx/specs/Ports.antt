@@ -1,7 +1,7 @@
 -- Ports, each of which sends into the queue of its sub-VL.
 use Rattle.std.specs.Prelude.{ℕ, ◌≡◌, ◌<◌, ◌≤◌, List, [], length, take, get_or, slice_index_or, All, Contains, Option, Some, None}
-use Rattle.afdx_config.specs.Config.{Plan, link_plan_at, port_plan_at}
-use Rattle.afdx_config.specs.declared.port_plan.PortPlan.{PortPlan}
+use Rattle.afdx_plan.specs.Config.{Plan, link_plan_at, port_plan_at}
+use Rattle.afdx_plan.specs.declared.port_plan.PortPlan.{PortPlan}
 use Rattle.subvl_queue.specs.Messages.{most_calls}
 use Rattle.subvl_queue.specs.Views.{QueueName, SenderView, new_sender, sent, IsRefused}
 use Rattle.subvl_queue.specs.declared.refused.Why.{Why}

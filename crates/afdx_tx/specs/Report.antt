@@ -1,6 +1,6 @@
 -- What a poll reports.
 use Rattle.std.specs.Prelude.{ℕ, ◌≡◌, List, [], ◌∷◌, ◌++◌, map}
-use Rattle.afdx_config.specs.declared.identifiers.VlId.{VlId}
+use Rattle.afdx_plan.specs.declared.identifiers.VlId.{VlId}
 use Rattle.afdx_frame.specs.Header.{link_in, sub_in, number_in}
 use Rattle.redundant_mux.specs.Entry.{Entry}
 use Rattle.redundant_mux.specs.Lines.{Lines, log}

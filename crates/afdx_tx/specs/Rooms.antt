@@ -1,9 +1,9 @@
 -- Room for the senders of each sub-VL.
 use Rattle.std.specs.Prelude.{ℕ, ◌≡◌, ◌<◌, ◌≤◌, List, [], length, take, get_or, slice_index_or, Option, Some}
-use Rattle.afdx_config.specs.Config.{Plan, link_plan_at}
+use Rattle.afdx_plan.specs.Config.{Plan, link_plan_at}
 use Rattle.subvl_queue.specs.Views.{QueueName, SenderView}
-use Rattle.afdx_config.specs.declared.link_plan.LinkPlan.{LinkPlan}
-use Rattle.afdx_config.specs.declared.port_plan.PortPlan.{PortPlan}
+use Rattle.afdx_plan.specs.declared.link_plan.LinkPlan.{LinkPlan}
+use Rattle.afdx_plan.specs.declared.port_plan.PortPlan.{PortPlan}
 use Rattle.vl_link.specs.Seen.{queue_of}
 use Rattle.vl_link.specs.Links.{Held, held_at}
 use Rattle.afdx_tx.specs.Emitter.{ports_of_sub}

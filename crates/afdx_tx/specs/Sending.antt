@@ -1,8 +1,8 @@
 -- What a port takes.
 use Rattle.std.specs.Prelude.{ℕ, ◌==◌, nat_lt, nat_eq, unwrap_or, if◌then◌else◌, position, Option, Some, None}
-use Rattle.afdx_config.specs.Config.{Plan}
-use Rattle.afdx_config.specs.declared.link_plan.LinkPlan.{LinkPlan}
-use Rattle.afdx_config.specs.declared.port_plan.PortPlan.{PortPlan}
+use Rattle.afdx_plan.specs.Config.{Plan}
+use Rattle.afdx_plan.specs.declared.link_plan.LinkPlan.{LinkPlan}
+use Rattle.afdx_plan.specs.declared.port_plan.PortPlan.{PortPlan}
 use Rattle.afdx_tx.specs.declared.fault.Refusal.{Refusal}
 use Rattle.afdx_tx.specs.declared.fault.Refusal.TheVariants.{Empty, TooLong}
 

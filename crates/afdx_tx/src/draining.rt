@@ -2,7 +2,7 @@
 use crate::fault::PollFault;
 use crate::report::Report;
 use crate::transmitter::Transmitter;
-use afdx_config::Config;
+use afdx_plan::Config;
 use redundant_mux::Network;
 use std::marker::Model;
 use std::sync::Wait;

@@ -5,7 +5,7 @@ use crate::gather::{has_every_place, seat_all};
 use crate::port::TxPort;
 use crate::report::Report;
 use crate::transmitter::Transmitter;
-use afdx_config::Config;
+use afdx_plan::Config;
 use redundant_mux::Network;
 use std::marker::Model;
 use std::sync::Wait;
@@ -33,7 +33,7 @@ impl<A: Network + Drop, B: Network + Drop> Model for Emitter<A, B> {
 
 impl<A: Network + Drop, B: Network + Drop> Emitter<A, B> {
     ghost use Rattle.std.specs.Prelude.{◌≡◌, ◌≤◌, ◌↔◌, [], true, false, length, IsErr, OnErr, OnOk, IfOk, IfErr};
-    ghost use Rattle.afdx_config.specs.Config.{IsPlan};
+    ghost use Rattle.afdx_plan.specs.Config.{IsPlan};
     ghost use Rattle.redundant_mux.specs.Lines.{is_alive, log, IsMirrored};
     ghost use Rattle.afdx_legal.specs.Legal.{IsLegal};
     ghost use Rattle.afdx_tx.specs.Run.{IsRun, IsCutShort};

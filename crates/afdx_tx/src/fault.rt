@@ -1,5 +1,5 @@
 //! Why a call was refused.
-use afdx_config::Config;
+use afdx_plan::Config;
 use redundant_mux::Network;
 use thiserror::Error;
 

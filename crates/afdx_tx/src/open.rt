@@ -1,7 +1,7 @@
 //! Opening an emitter.
 ghost use Rattle.std.specs.Prelude.{◌≡◌, ◌<◌, [], length, IfOk, IfErr};
-ghost use Rattle.afdx_config.specs.Config.{IsPlan};
-ghost use Rattle.afdx_config.specs.Plan.{IsLink};
+ghost use Rattle.afdx_plan.specs.Config.{IsPlan};
+ghost use Rattle.afdx_plan.specs.Plan.{IsLink};
 ghost use Rattle.afdx_tx.specs.Emitter.{IsFreshSub, IsFreshLink, IsFreshTx, AreFreshLinks, ports_of_sub, queues_in};
 ghost use Rattle.afdx_tx.specs.Ports.{ArePortsOf, AreFreshPorts, AreOpenedWith};
 ghost use Rattle.afdx_tx.specs.Rooms.{IsFreshRoom, AreFreshRooms, AreRooms, AreReserved, fresh_for};
@@ -10,7 +10,7 @@ use crate::emitter::Emitter;
 use crate::fault::OpenFault;
 use crate::port::TxPort;
 use crate::routing::{link_of, port_at};
-use afdx_config::{Config, LinkPlan, PortPlan};
+use afdx_plan::{Config, LinkPlan, PortPlan};
 use redundant_mux::Network;
 use std::alloc::{AllocError, Global};
 use subvl_queue::make;

@@ -4,7 +4,7 @@ ghost use Rattle.afdx_tx.specs.Ports.{refusal_of};
 
 use crate::fault::{Refusal, SendFault};
 use crate::routing::length_refusal;
-use afdx_config::{PortId, PortPlan};
+use afdx_plan::{PortId, PortPlan};
 use std::marker::Model;
 use std::sync::Wait;
 use subvl_queue::{Refused, Sender, Why};
@@ -20,7 +20,7 @@ pub struct TxPort {
 }
 
 impl Model for TxPort {
-    ghost use Rattle.afdx_config.specs.Plan.{IsPort};
+    ghost use Rattle.afdx_plan.specs.Plan.{IsPort};
     ghost use Rattle.afdx_tx.specs.Ports.{PortView};
 
     ghost Value = { PortView };
@@ -36,7 +36,7 @@ impl Model for TxPort {
 
 impl TxPort {
     ghost use Rattle.std.specs.Prelude.{◌≡◌, ◌<◌, length, IfOk, IfErr};
-    ghost use Rattle.afdx_config.specs.Plan.{IsPort};
+    ghost use Rattle.afdx_plan.specs.Plan.{IsPort};
     ghost use Rattle.afdx_tx.specs.Ports.{PortView, MaySend, Accepts, Refuses};
 
     // The port of a configuration at a place, with a sender of its sub-VL's queue.

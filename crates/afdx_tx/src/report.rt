@@ -1,5 +1,5 @@
 //! What a poll did.
-use afdx_config::VlId;
+use afdx_plan::VlId;
 use arrayvec::ArrayVec;
 use redundant_mux::Standing;
 use std::default::Default;

@@ -1,11 +1,11 @@
 //! Which queue a port's messages join.
 ghost use Rattle.std.specs.Prelude.{◌≡◌, ◌<◌, length};
-ghost use Rattle.afdx_config.specs.Config.{HasLink, IsPlan, link_plan_at, port_plan_at};
-ghost use Rattle.afdx_config.specs.Plan.{IsPort, SendsOver};
+ghost use Rattle.afdx_plan.specs.Config.{HasLink, IsPlan, link_plan_at, port_plan_at};
+ghost use Rattle.afdx_plan.specs.Plan.{IsPort, SendsOver};
 ghost use Rattle.afdx_tx.specs.Sending.{link_place, length_refusal};
 
 use crate::fault::Refusal;
-use afdx_config::{Config, PortPlan};
+use afdx_plan::{Config, PortPlan};
 
 /// Why a port doesn't take a message of so many bytes, whatever its queue holds.
 pub fn length_refusal(port: &PortPlan, size: usize) -> Option<Refusal>

@@ -13,7 +13,7 @@ ghost use Rattle.afdx_tx.specs.Gathering.{AreFull, GathersLinks};
 
 use crate::fault::PollFault;
 use crate::report::{Release, Report};
-use afdx_config::{Config, VlId};
+use afdx_plan::{Config, VlId};
 use afdx_frame::Frame;
 use arrayvec::ArrayVec;
 use redundant_mux::{Mux, Network};
@@ -122,7 +122,7 @@ impl<A: Network + Drop, B: Network + Drop> Model for Transmitter<A, B> {
 
 impl<A: Network + Drop, B: Network + Drop> Transmitter<A, B> {
     ghost use Rattle.std.specs.Prelude.{◌≡◌, ◌≤◌, ◌↔◌, [], true, false, length, IsTrue, IsErr, OnErr, OnOk, IfOk};
-    ghost use Rattle.afdx_config.specs.Config.{IsPlan};
+    ghost use Rattle.afdx_plan.specs.Config.{IsPlan};
     ghost use Rattle.redundant_mux.specs.Lines.{is_alive, log, IsMirrored};
     ghost use Rattle.afdx_legal.specs.Legal.{IsLegal};
     ghost use Rattle.afdx_tx.specs.Run.{IsRun, IsCutShort};

@@ -1,8 +1,8 @@
 //! Tests of frames: pieces, fields, twins, readers.
 ghost use Rattle.std.specs.Prelude.{◌≡◌};
-ghost use Rattle.afdx_config.specs.Plan.{IsPort};
+ghost use Rattle.afdx_plan.specs.Plan.{IsPort};
 
-use afdx_config::{Bag, Kind, LinkPlan, Lmax, PortId, PortPlan, VlId};
+use afdx_plan::{Bag, Kind, LinkPlan, Lmax, PortId, PortPlan, VlId};
 use afdx_frame::{Cut, Frame, Net, ident_of, more_of, offset_of, sn_of, sub_of, twin, vl_of};
 use std::alloc::{AllocError, Global};
 use std::test::Fail;

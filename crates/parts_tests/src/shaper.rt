@@ -1,5 +1,5 @@
 //! Tests of the regulation of a link.
-use afdx_config::Bag;
+use afdx_plan::Bag;
 use vl_shaper::Shaper;
 
 #[test]

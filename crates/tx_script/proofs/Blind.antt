@@ -2,9 +2,9 @@
 use Rattle.std.proofs.Common.{ℕ, zero, suc, ◌≡◌, ◌+◌, ◌++◌, List, [], ◌∷◌, Bool, true, false, cond, if◌then◌else◌}
 use Rattle.std.proofs.Common.{nat_lt, length, map, get_or, replicate, arith, refl, ap, ◌∙◌, sym, subst, Option, Some, None}
 use Rattle.std.specs.Prelude.{All, Contains}
-use Rattle.afdx_config.specs.Config.{Plan, link_plan_at, port_plan_at}
-use Rattle.afdx_config.specs.Plan.{bag_micros}
-use Rattle.afdx_config.specs.declared.link_plan.LinkPlan.{LinkPlan}
+use Rattle.afdx_plan.specs.Config.{Plan, link_plan_at, port_plan_at}
+use Rattle.afdx_plan.specs.Plan.{bag_micros}
+use Rattle.afdx_plan.specs.declared.link_plan.LinkPlan.{LinkPlan}
 use Rattle.afdx_frame.specs.Fragments.{Sent}
 use Rattle.redundant_mux.specs.Entry.{Entry}
 use Rattle.vl_shaper.specs.Pace.{Pace, is_due}

@@ -2,7 +2,7 @@
 use Rattle.std.proofs.Common.{◌≡◌, ℕ, inl, inr, List, [], ◌++◌, Option, Some, None, refl, ◌∙◌, subst}
 use Rattle.std.specs.Prelude.{IfSome, Result, Ok, Err, ◌⊎◌, ⊤}
 use Rattle.std.specs.Io.KnownBytes.{Appends, Keeps}
-use Rattle.afdx_config.specs.Config.{Plan}
+use Rattle.afdx_plan.specs.Config.{Plan}
 use Rattle.tx_script.specs.AtBench.{AtBench}
 use Rattle.tx_script.specs.Play.{Play, play, start, transcript}
 use Rattle.tx_script.specs.Run.{HasRun, HasBegun, Ends, Leaves}

@@ -6,12 +6,12 @@ use Rattle.std.proofs.lemmas.Bool.{cases_eq, cases_lt, eq-eqb, ne_eqb}
 use Rattle.std.proofs.lemmas.List.Quantifiers.{position-Some}
 use Rattle.std.proofs.lemmas.List.{get_or_default, get_or_past}
 use Rattle.std.proofs.lemmas.List.Elements.{All-map, Contains-get_or}
-use Rattle.afdx_config.specs.Config.{Plan, IsPlan, HasLink, link_plan_at, port_plan_at}
-use Rattle.afdx_config.specs.Plan.{SendsOver}
-use Rattle.afdx_config.specs.declared.link_plan.LinkPlan.{LinkPlan}
-use Rattle.afdx_config.specs.declared.port_plan.PortPlan.{PortPlan}
-use Rattle.afdx_config.specs.declared.identifiers.PortId.{PortId}
-use Rattle.afdx_config.specs.declared.identifiers.VlId.{VlId}
+use Rattle.afdx_plan.specs.Config.{Plan, IsPlan, HasLink, link_plan_at, port_plan_at}
+use Rattle.afdx_plan.specs.Plan.{SendsOver}
+use Rattle.afdx_plan.specs.declared.link_plan.LinkPlan.{LinkPlan}
+use Rattle.afdx_plan.specs.declared.port_plan.PortPlan.{PortPlan}
+use Rattle.afdx_plan.specs.declared.identifiers.PortId.{PortId}
+use Rattle.afdx_plan.specs.declared.identifiers.VlId.{VlId}
 use Rattle.afdx_frame.specs.Fragments.{Sent}
 use Rattle.subvl_queue.specs.Messages.{part_of, AreItems, IsItem}
 use Rattle.subvl_queue.specs.Views.{accepted_of}

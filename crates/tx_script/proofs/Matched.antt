@@ -1,9 +1,9 @@
 -- An emitter that matches plain lists: at the beginning, and after a poll.
 use Rattle.std.proofs.Common.{ℕ, ◌≡◌, ◌+◌, List, [], length, map, arith, true, if◌then◌else◌, nat_lt, ap, ◌∙◌, sym, subst}
 use Rattle.std.proofs.lemmas.List.{length-append, length-map, length-replicate, get_or-map, get_or-replicate}
-use Rattle.afdx_config.specs.Config.{Plan, link_plan_at}
-use Rattle.afdx_config.specs.declared.link_plan.LinkPlan.{LinkPlan}
-use Rattle.afdx_config.specs.declared.port_plan.PortPlan.{PortPlan}
+use Rattle.afdx_plan.specs.Config.{Plan, link_plan_at}
+use Rattle.afdx_plan.specs.declared.link_plan.LinkPlan.{LinkPlan}
+use Rattle.afdx_plan.specs.declared.port_plan.PortPlan.{PortPlan}
 use Rattle.afdx_frame.specs.declared.net.Net.TheVariants.{A}
 use Rattle.redundant_mux.specs.Entry.{Entry}
 use Rattle.redundant_mux.specs.Lines.{Lines, log, side}

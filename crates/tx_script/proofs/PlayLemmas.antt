@@ -1,7 +1,7 @@
 -- One line more of a run.
 use Rattle.std.proofs.Common.{◌≡◌, ℕ, ◌+◌, List, [], ◌∷◌, ◌++◌, Option, refl, ap, sym, ◌∙◌, subst}
 use Rattle.std.specs.Io.KnownBytes.{Appends}
-use Rattle.afdx_config.specs.Config.{Plan}
+use Rattle.afdx_plan.specs.Config.{Plan}
 use Rattle.tx_script.specs.Lines.{after_feed}
 use Rattle.tx_script.specs.AtBench.{AtBench, Matches, ObeysFor, Obeys}
 use Rattle.tx_script.specs.Meaning.{meaning_of}

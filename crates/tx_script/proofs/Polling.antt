@@ -6,9 +6,9 @@ use Rattle.std.proofs.lemmas.Bool.{cases_eq, cases_lt}
 use Rattle.std.proofs.lemmas.Nat.{mod_below}
 use Rattle.vl_shaper.specs.declared.shaper.Stamp.{Stamp}
 use Rattle.vl_link.proofs.Choosing.{met}
-use Rattle.afdx_config.specs.Config.{link_plan_at}
-use Rattle.afdx_config.specs.Plan.{bag_micros}
-use Rattle.afdx_config.specs.declared.link_plan.LinkPlan.{LinkPlan}
+use Rattle.afdx_plan.specs.Config.{link_plan_at}
+use Rattle.afdx_plan.specs.Plan.{bag_micros}
+use Rattle.afdx_plan.specs.declared.link_plan.LinkPlan.{LinkPlan}
 use Rattle.afdx_frame.specs.declared.net.Net.TheVariants.{A, B}
 use Rattle.afdx_frame.specs.Header.{number_in}
 use Rattle.afdx_frame.specs.Fragments.{Sent, blanked}
@@ -16,7 +16,7 @@ use Rattle.redundant_mux.specs.Entry.{Entry, entry}
 use Rattle.redundant_mux.specs.Lines.{Lines, side, log, Keeps, IsMirrored}
 use Rattle.afdx_frame.specs.declared.net.Net.{Net}
 use Rattle.afdx_tx.specs.Emitter.{Tx, ports_of_sub}
-use Rattle.afdx_config.specs.declared.port_plan.PortPlan.{PortPlan}
+use Rattle.afdx_plan.specs.declared.port_plan.PortPlan.{PortPlan}
 use Rattle.vl_link.specs.Seen.{taken_of, ports_of}
 use Rattle.vl_link.proofs.QueueLooks.{taken_nothing, taken_finds, same_nothing, same_finds, same_ports}
 use Rattle.vl_shaper.specs.Pace.{Pace, is_due, turn_of}

@@ -1,6 +1,6 @@
 -- An emitter with its ports, as a run of a script has them at hand.
 use Rattle.std.specs.Prelude.{ℕ, ◌≡◌, ◌≤◌, ◌<◌, ◌++◌, List, length, slice_index_or, All}
-use Rattle.afdx_config.specs.Config.{Plan, IsPlan, port_plan_at}
+use Rattle.afdx_plan.specs.Config.{Plan, IsPlan, port_plan_at}
 use Rattle.subvl_queue.specs.Messages.{most_calls, part_of}
 use Rattle.vl_link.specs.Seen.{taken_of, ports_of}
 use Rattle.vl_link.specs.Links.{held_at, link_at}

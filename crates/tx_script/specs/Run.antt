@@ -1,7 +1,7 @@
 -- What a run of a script leaves.
 use Rattle.std.specs.Prelude.{◌≡◌, ℕ, ◌+◌, ◌<◌, ◌≤◌, List, [], ◌∷◌, ◌++◌, length, Option, Result, Ok, Err, ⊤}
 use Rattle.std.specs.Io.KnownBytes.{Appends}
-use Rattle.afdx_config.specs.Config.{Plan}
+use Rattle.afdx_plan.specs.Config.{Plan}
 use Rattle.tx_script.specs.Faults.{IsFirstFault, IsFaultless}
 use Rattle.tx_script.specs.Lines.{first_line, after_feed}
 use Rattle.tx_script.specs.Play.{Turn, play, start, transcript, FindsFirst}

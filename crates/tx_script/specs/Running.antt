@@ -1,7 +1,7 @@
 -- A run of a script while its streams are not yet written.
 use Rattle.std.specs.Prelude.{◌≡◌, ℕ, ◌<◌, List, [], length, Option, Some, None, Result, Ok, Err, ⊤, ◌⊎◌}
 use Rattle.std.specs.Io.KnownBytes.{Appends, Keeps}
-use Rattle.afdx_config.specs.Config.{Plan}
+use Rattle.afdx_plan.specs.Config.{Plan}
 use Rattle.tx_script.specs.AtBench.{AtBench, IsAtHand, Matches, GaveFirst}
 use Rattle.tx_script.specs.Faults.{IsFirstFault}
 use Rattle.tx_script.specs.Lines.{first_line, after_feed}

@@ -13,7 +13,7 @@ use crate::message::Message;
 use crate::outcome::Outcome;
 use crate::refusal::Refusal;
 use crate::run_fault::RunFault;
-use afdx_config::{Config, PortId};
+use afdx_plan::{Config, PortId};
 use afdx_tx::{Emitter, TxPort, open_tx};
 use redundant_mux::MemNetwork;
 use std::alloc::Global;

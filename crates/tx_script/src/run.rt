@@ -12,7 +12,7 @@ use crate::frames::write_streams;
 use crate::run_fault::RunFault;
 use crate::run_lines::run_lines;
 use crate::summary::Summary;
-use afdx_config::Config;
+use afdx_plan::Config;
 use std::alloc::Global;
 use std::io::{Read, Write};
 use std::sync::Wait;

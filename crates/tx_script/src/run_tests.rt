@@ -1,5 +1,5 @@
 use crate::{LineFault, RunFault, Summary, run_script};
-use afdx_config::demo_config;
+use afdx_plan::demo_config;
 use std::alloc::{AllocError, Global};
 use std::io::{self, Read, Write};
 use std::sync::Wait;

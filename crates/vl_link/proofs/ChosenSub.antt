@@ -2,7 +2,7 @@
 use Rattle.std.proofs.Common.{ℕ, ◌≡◌, ◌≢◌, List, set, get_or, arith, refl, ap, ◌∙◌, sym, subst, ⊎_elim, []}
 use Rattle.std.proofs.lemmas.List.{get_or_default, get_or-set_other}
 use Rattle.std.proofs.lemmas.Bool.{cases_eq}
-use Rattle.afdx_config.specs.declared.link_plan.LinkPlan.{LinkPlan}
+use Rattle.afdx_plan.specs.declared.link_plan.LinkPlan.{LinkPlan}
 use Rattle.redundant_mux.specs.Lines.{Lines}
 use Rattle.vl_shaper.specs.Pace.{Pace}
 use Rattle.vl_link.specs.declared.sub_vl.SubVl.{SubVl}

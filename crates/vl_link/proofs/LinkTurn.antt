@@ -2,10 +2,10 @@
 use Rattle.std.proofs.Common.{ℕ, ◌≡◌, ◌≢◌, ◌<◌, List, [], ◌∷◌, ◌++◌, true, false, arith, ap, ◌∙◌, sym, subst, inr, ⊎_elim, Option, None}
 use Rattle.std.proofs.lemmas.List.{get_or-set_other}
 use Rattle.std.proofs.lemmas.Bool.{cases_eq}
-use Rattle.afdx_config.specs.declared.link_plan.LinkPlan.{LinkPlan}
-use Rattle.afdx_config.specs.Plan.{bag_micros}
-use Rattle.afdx_config.specs.Room.{room_of}
-use Rattle.afdx_config.specs.Numbers.{sequence_number}
+use Rattle.afdx_plan.specs.declared.link_plan.LinkPlan.{LinkPlan}
+use Rattle.afdx_plan.specs.Plan.{bag_micros}
+use Rattle.afdx_plan.specs.Room.{room_of}
+use Rattle.afdx_plan.specs.Numbers.{sequence_number}
 use Rattle.afdx_frame.specs.declared.net.Net.TheVariants.{A}
 use Rattle.afdx_frame.specs.Header.{sub_in}
 use Rattle.afdx_frame.specs.Fragments.{blanked, fragments}

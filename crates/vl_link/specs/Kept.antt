@@ -1,6 +1,6 @@
 -- What the stream of a link keeps.
 use Rattle.std.specs.Prelude.{ℕ, ◌≡◌, ◌<◌, ◌++◌, List, [], true, false, None}
-use Rattle.afdx_config.specs.Room.{room_of}
+use Rattle.afdx_plan.specs.Room.{room_of}
 use Rattle.afdx_frame.specs.declared.net.Net.TheVariants.{A}
 use Rattle.afdx_frame.specs.Fragments.{fragments}
 use Rattle.redundant_mux.specs.Entry.{Entry}

@@ -1,11 +1,11 @@
 -- A link of an emitter, and what one turn of it does.
 use Rattle.std.specs.Prelude.{ℕ, ◌≡◌, ◌⊎◌, ◌≤◌, ◌<◌, List, [], ◌∷◌, ◌++◌, Bool, true, false, length, map, get_or, set, Option, Some, None}
-use Rattle.afdx_config.specs.Config.{link_plan_at, port_plan_at}
-use Rattle.afdx_config.specs.Plan.{bag_micros}
-use Rattle.afdx_config.specs.Numbers.{sequence_number}
-use Rattle.afdx_config.specs.Room.{room_of}
-use Rattle.afdx_config.specs.declared.link_plan.LinkPlan.{LinkPlan}
-use Rattle.afdx_config.specs.declared.port_plan.PortPlan.{PortPlan}
+use Rattle.afdx_plan.specs.Config.{link_plan_at, port_plan_at}
+use Rattle.afdx_plan.specs.Plan.{bag_micros}
+use Rattle.afdx_plan.specs.Numbers.{sequence_number}
+use Rattle.afdx_plan.specs.Room.{room_of}
+use Rattle.afdx_plan.specs.declared.link_plan.LinkPlan.{LinkPlan}
+use Rattle.afdx_plan.specs.declared.port_plan.PortPlan.{PortPlan}
 use Rattle.afdx_frame.specs.declared.net.Net.TheVariants.{A}
 use Rattle.afdx_frame.specs.Header.{IsFrameOf}
 use Rattle.afdx_frame.specs.Cutting.{Cutting}

@@ -1,7 +1,7 @@
 -- What the fields of a sub-VL keep.
 use Rattle.std.specs.Prelude.{ℕ, ◌≡◌, ◌%◌, List, length, All, Option, IfSome}
-use Rattle.afdx_config.specs.Plan.{IsLink, IsPort, SendsOver}
-use Rattle.afdx_config.specs.declared.port_plan.PortPlan.{PortPlan}
+use Rattle.afdx_plan.specs.Plan.{IsLink, IsPort, SendsOver}
+use Rattle.afdx_plan.specs.declared.port_plan.PortPlan.{PortPlan}
 use Rattle.afdx_frame.specs.Cutting.{Cutting}
 use Rattle.vl_link.specs.declared.sub_vl.SubVl.{SubVl}
 use Rattle.vl_link.specs.Seen.{Seen, taken_of, ports_of}

@@ -1,6 +1,6 @@
 //! A link: its sub-VLs in turn.
 ghost use Rattle.std.specs.Prelude.{◌≡◌, ◌≢◌, ℕ, ◌+◌, ◌<◌, [], true, false, ◌||◌, Some, length, IfSome, IfNone};
-ghost use Rattle.afdx_config.specs.Numbers.{sequence_number};
+ghost use Rattle.afdx_plan.specs.Numbers.{sequence_number};
 ghost use Rattle.vl_shaper.specs.Pace.{IsLater, is_due};
 ghost use Rattle.redundant_mux.specs.Lines.{is_alive, log};
 ghost use Rattle.afdx_legal.specs.Streams.{link_stream};
@@ -11,7 +11,7 @@ ghost use Rattle.vl_link.specs.LinkGathering.{AreFullSubs, GathersSubs};
 use crate::room::{LinkRooms, Room};
 use crate::served::Served;
 use crate::sub::Sub;
-use afdx_config::{LinkPlan, VlId};
+use afdx_plan::{LinkPlan, VlId};
 use afdx_frame::Frame;
 use redundant_mux::{Mux, Network, Standing};
 use std::marker::Model;
@@ -169,8 +169,8 @@ impl Model for Link {
 
 impl Link {
     ghost use Rattle.std.specs.Prelude.{◌≡◌, ℕ, ◌||◌, length, true, false, None};
-    ghost use Rattle.afdx_config.specs.Numbers.{sequence_number};
-    ghost use Rattle.afdx_config.specs.Plan.{IsLink, bag_micros};
+    ghost use Rattle.afdx_plan.specs.Numbers.{sequence_number};
+    ghost use Rattle.afdx_plan.specs.Plan.{IsLink, bag_micros};
     ghost use Rattle.vl_shaper.specs.Pace.{IsLater, is_due};
     ghost use Rattle.redundant_mux.specs.Lines.{is_alive, log};
     ghost use Rattle.afdx_legal.specs.Streams.{link_stream};

@@ -1,6 +1,6 @@
 //! A sub-VL: the queue of its messages, and one that is being sent.
 ghost use Rattle.std.specs.Prelude.{◌≡◌, ◌≢◌, [], ◌∷◌, length, All};
-ghost use Rattle.afdx_config.specs.Plan.{IsLink};
+ghost use Rattle.afdx_plan.specs.Plan.{IsLink};
 ghost use Rattle.afdx_frame.specs.declared.net.Net.TheVariants.{A as ForA};
 ghost use Rattle.afdx_frame.specs.Fragments.{blanked};
 ghost use Rattle.afdx_frame.specs.Header.{IsFrameOf};
@@ -8,7 +8,7 @@ ghost use Rattle.vl_link.specs.Links.{left_of, TellsCutting};
 
 use crate::queue::Queue;
 use crate::sub_vl::SubVl;
-use afdx_config::PortPlan;
+use afdx_plan::PortPlan;
 use afdx_frame::{Cut, Frame, Net};
 use std::marker::Model;
 use std::sync::Wait;

@@ -1,5 +1,5 @@
 //! Which sub-VL of which end system.
-use afdx_config::LinkPlan;
+use afdx_plan::LinkPlan;
 
 /// A sub-VL: its end system, its link, and its index there.
 #[derive(Clone, Copy, Debug, PartialEq, Eq)]

@@ -1,10 +1,10 @@
 //! Numbers, spacing and cyclic order of a virtual link.
 ghost use Rattle.std.specs.Prelude.{◌≡◌, ℕ, ◌+◌, ◌-◌, ◌*◌, ◌%◌, ◌^◌, ◌<◌, ◌≤◌, None, Some, true};
-ghost use Rattle.afdx_config.specs.Plan.{bag_micros};
-ghost use Rattle.afdx_config.specs.Numbers.{sequence_number};
+ghost use Rattle.afdx_plan.specs.Plan.{bag_micros};
+ghost use Rattle.afdx_plan.specs.Numbers.{sequence_number};
 ghost use Rattle.vl_shaper.specs.Pace.{Pace, is_due, IsLater, turn_of};
 
-use afdx_config::Bag;
+use afdx_plan::Bag;
 use std::marker::Model;
 
 /// When a frame was released, in microseconds, and of which sub-VL.

@@ -1,6 +1,6 @@
 use super::check;
 use crate::failure::Failure;
-use afdx_config::ConfigFault;
+use afdx_plan::ConfigFault;
 use std::alloc::Global;
 use std::io::{self, Read};
 use std::test::Fail;

@@ -1,7 +1,7 @@
 use Rattle.std.proofs.Common.{◌≡◌, ◌<◌, List, [], ◌∷◌, ◌++◌, length, get_or, set, arith, ap, ◌∙◌, sym, subst, below_more}
 use Rattle.std.proofs.lemmas.List.{get_or_default}
-use Rattle.afdx_config.specs.declared.port_plan.PortPlan.{PortPlan}
-use Rattle.afdx_config.specs.Config.{Plan, IsPlan, port_plan_at}
+use Rattle.afdx_plan.specs.declared.port_plan.PortPlan.{PortPlan}
+use Rattle.afdx_plan.specs.Config.{Plan, IsPlan, port_plan_at}
 use Rattle.subvl_queue.specs.Views.{SenderView}
 use Rattle.afdx_tx.specs.Emitter.{queues_in}
 use Rattle.afdx_tx.specs.Sending.{link_place}

@@ -1,8 +1,8 @@
 use Rattle.std.proofs.Common.{ℕ, ◌≡◌, ◌+◌, ◌-◌, ◌<◌, List, [], ◌∷◌, ◌++◌, length, get_or, set, arith, ap, ◌∙◌, sym, subst, refl, below_more}
 use Rattle.std.proofs.lemmas.List.{get_or_default, get_or_append_left, get_or_push, length-append}
-use Rattle.afdx_config.specs.declared.port_plan.PortPlan.{PortPlan}
-use Rattle.afdx_config.specs.Config.{link_plan_at}
-use Rattle.afdx_config.specs.Plan.{SendsOver}
+use Rattle.afdx_plan.specs.declared.port_plan.PortPlan.{PortPlan}
+use Rattle.afdx_plan.specs.Config.{link_plan_at}
+use Rattle.afdx_plan.specs.Plan.{SendsOver}
 use Rattle.afdx_tx.specs.Emitter.{queues_in}
 use Rattle.afdx_tx.specs.Ports.{PortView, IsFreshPort}
 use Rattle.vl_link.specs.Room.{RoomView}

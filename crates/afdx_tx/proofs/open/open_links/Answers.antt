@@ -1,7 +1,7 @@
 use Rattle.std.proofs.Common.{◌≡◌, ◌∙◌, ◌<◌, ◌+◌, [], ◌∷◌, ◌++◌, ap, sym, subst, get_or, length, List, arith}
 use Rattle.std.proofs.lemmas.List.{get_or_default}
-use Rattle.afdx_config.specs.declared.link_plan.LinkPlan.{LinkPlan}
-use Rattle.afdx_config.specs.Config.{link_plan_at}
+use Rattle.afdx_plan.specs.declared.link_plan.LinkPlan.{LinkPlan}
+use Rattle.afdx_plan.specs.Config.{link_plan_at}
 use Rattle.vl_link.specs.Links.{LinkState, no_link_plan}
 use Rattle.afdx_tx.specs.Emitter.{IsFreshLink, AreFreshLinks}
 use Rattle.vl_link.specs.Room.{RoomView}

@@ -1,5 +1,5 @@
 use Rattle.std.proofs.Common.{ℕ, ◌≡◌, List, All, length, arith, ap, ◌∙◌, sym, subst}
-use Rattle.afdx_config.specs.declared.port_plan.PortPlan.{PortPlan}
+use Rattle.afdx_plan.specs.declared.port_plan.PortPlan.{PortPlan}
 use Rattle.subvl_queue.specs.Views.{new_receiver}
 use Rattle.vl_link.specs.Seen.{receiving}
 use Rattle.vl_link.specs.Links.{Held}

@@ -1,5 +1,5 @@
 use Rattle.std.proofs.Common.{◌≡◌, ◌+◌, ℕ, List, length, get_or, set, Some, None, ap, sym, ◌∙◌, refl, subst, arith, Option}
-use Rattle.afdx_config.specs.Config.{Plan}
+use Rattle.afdx_plan.specs.Config.{Plan}
 use Rattle.afdx_tx.specs.Ports.{PortView, MaySend, Accepts, Refuses}
 use Rattle.tx_script.specs.AtBench.{AtBench, HaveAsked, Matches, Obeys}
 use Rattle.tx_script.specs.Play.{place_of}

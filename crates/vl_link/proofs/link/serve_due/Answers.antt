@@ -1,5 +1,5 @@
 use Rattle.std.proofs.Common.{◌≡◌, true, ◌∙◌, ap, sym}
-use Rattle.afdx_config.specs.declared.link_plan.LinkPlan.{LinkPlan}
+use Rattle.afdx_plan.specs.declared.link_plan.LinkPlan.{LinkPlan}
 use Rattle.vl_link.proofs.SubInStep.{passed_same}
 use Rattle.vl_link.proofs.ChosenSub.{chosen_left, item_of, set_same, releases_at, loses_at}
 use Rattle.vl_link.proofs.PaceOfStream.{follows_more}

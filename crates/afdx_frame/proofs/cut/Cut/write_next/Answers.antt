@@ -1,5 +1,5 @@
 use Rattle.std.proofs.Common.{◌≡◌, ℕ, ◌+◌, ◌≤◌, List, length, arith, refl, ap, subst, ◌∙◌, rules}
-use Rattle.afdx_config.specs.Room.{room_of}
+use Rattle.afdx_plan.specs.Room.{room_of}
 use Rattle.afdx_frame.specs.declared.piece.Piece.{Piece}
 use Rattle.afdx_frame.specs.Frame.{frame_of}
 use Rattle.afdx_frame.specs.Cutting.{Cutting, piece_at, pieces_left}

@@ -1,7 +1,7 @@
 use Rattle.std.proofs.Common.{◌≡◌, ◌∙◌, List, length, ap, sym, subst}
 use Rattle.std.proofs.lemmas.List.{with_items_is}
 use Rattle.std.specs.Vec.{with_items}
-use Rattle.afdx_config.specs.Config.{IsPlan}
+use Rattle.afdx_plan.specs.Config.{IsPlan}
 use Rattle.vl_link.specs.Links.{link_at}
 use Rattle.afdx_tx.specs.Emitter.{Tx}
 use Rattle.afdx_tx.specs.Ports.{AreOpenedWith}

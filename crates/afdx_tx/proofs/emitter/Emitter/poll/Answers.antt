@@ -1,5 +1,5 @@
 use Rattle.std.proofs.Common.{◌≡◌, sym, subst}
-use Rattle.afdx_config.specs.Config.{Plan}
+use Rattle.afdx_plan.specs.Config.{Plan}
 use Rattle.afdx_tx.specs.Emitter.{Tx, queues_in}
 use Rattle.afdx_tx.specs.Rooms.{AreReserved}
 use Rattle.afdx_tx.proofs.SoundEmitter.{receiving_still, same_queues}

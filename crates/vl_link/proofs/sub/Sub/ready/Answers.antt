@@ -1,8 +1,8 @@
 use Rattle.std.proofs.Common.{ℕ, ◌≡◌, ◌∙◌, ◌%◌, ◌<◌, ap, sym, subst, refl, inr, arith, [], Bool, Some, List, length}
 use Rattle.std.proofs.lemmas.List.{get_or_read}
-use Rattle.afdx_config.specs.Config.{port_plan_at}
-use Rattle.afdx_config.specs.Room.{room_of}
-use Rattle.afdx_config.specs.declared.port_plan.PortPlan.{PortPlan}
+use Rattle.afdx_plan.specs.Config.{port_plan_at}
+use Rattle.afdx_plan.specs.Room.{room_of}
+use Rattle.afdx_plan.specs.declared.port_plan.PortPlan.{PortPlan}
 use Rattle.afdx_frame.specs.declared.net.Net.TheVariants.{A}
 use Rattle.afdx_frame.proofs.Twins.{fragments_again}
 use Rattle.vl_link.specs.Seen.{taken_of}
