@@ -1,6 +1,6 @@
 -- The same lines, with looks that find nothing: what is noted is the same.
 use Rattle.std.proofs.Common.{ℕ, zero, suc, ◌≡◌, ◌+◌, ◌++◌, List, [], ◌∷◌, Bool, true, false, cond, if◌then◌else◌}
-use Rattle.std.proofs.Common.{nat_lt, length, map, get_or, replicate, arith, refl, ap, ◌∙◌, sym, subst, Option, Some, None}
+use Rattle.std.proofs.Common.{nat_lt, map, get_or, replicate, arith, refl, ap, ◌∙◌, sym, subst, Some, None}
 use Rattle.std.specs.Prelude.{All, Contains}
 use Rattle.afdx_plan.specs.Config.{Plan, link_plan_at, port_plan_at}
 use Rattle.afdx_plan.specs.Plan.{bag_micros}
@@ -8,20 +8,19 @@ use Rattle.afdx_plan.specs.declared.link_plan.LinkPlan.{LinkPlan}
 use Rattle.afdx_frame.specs.Fragments.{Sent}
 use Rattle.redundant_mux.specs.Entry.{Entry}
 use Rattle.vl_shaper.specs.Pace.{Pace, is_due}
-use Rattle.afdx_tx.specs.declared.fault.Refusal.{Refusal as SendRefusal}
 use Rattle.vl_link.specs.Links.{pace_of}
 use Rattle.afdx_tx.specs.Emitter.{ports_of_sub}
-use Rattle.afdx_tx.specs.Sending.{length_refusal, link_place}
+use Rattle.afdx_tx.specs.Sending.{link_place}
 use Rattle.tx_script.specs.EndSystem.{EndSystem, Look, Progress, no_progress, progress_at, progress_of, has_left, Asked, ask, turns_from}
 use Rattle.tx_script.specs.EndSystem.{Came, released_of, serve_link, then_links, serve_links, polled, frames_released, fresh, fresh_subs}
-use Rattle.tx_script.specs.Lines.{after_feed}
-use Rattle.tx_script.specs.Meaning.{meaning_of}
-use Rattle.tx_script.specs.Play.{Answer, takes, closes, fills, finds, looks_of, queued, passed_on, sent_to, place_of}
+use Rattle.script_lines.specs.Lines.{after_feed}
+use Rattle.script_lines.specs.Meaning.{meaning_of}
+use Rattle.tx_script.specs.Play.{Answer, finds, looks_of, sent_to, place_of}
 use Rattle.tx_script.specs.Play.{Turn, Play, play, play_line, start, outcome_of, after, FindsFirst, messages_of}
 use Rattle.tx_script.specs.Run.{LinesThen}
 use Rattle.tx_script.specs.Transcript.{note_of}
-use Rattle.tx_script.specs.declared.line.Line.{Line}
-use Rattle.tx_script.specs.declared.line.Line.TheVariants.{Send, At, Nothing}
+use Rattle.script_lines.specs.declared.line.Line.{Line}
+use Rattle.script_lines.specs.declared.line.Line.TheVariants.{Send, At, Nothing}
 use Rattle.tx_script.specs.declared.outcome.Outcome.TheVariants.{Refused, Released}
 use Rattle.tx_script.specs.declared.refusal.Refusal.TheVariants.{TimeBack}
 
@@ -80,15 +79,14 @@ links_idle now own (link ∷ links) =
     ∙ ap (λ (rest : Came (List (List Progress))).
     then_links (record { subs = fresh_subs link; log = []; looks = [] }) rest) (links_idle now own links)
 
--- the answer whose looks find nothing
-abbrev blind_answer : Answer → Answer
-blind_answer takes = takes
-blind_answer closes = closes
-blind_answer fills = fills
-blind_answer (finds looks) = finds []
+-- at a poll the answer whose looks find nothing
+abbrev blind_answer : Line → Answer → Answer
+blind_answer (At now) answer = finds []
+blind_answer said answer = answer
 
+-- the line with such an answer
 abbrev blind_turn : Turn → Turn
-blind_turn turn = record { line = turn.line; answer = blind_answer turn.answer }
+blind_turn turn = record { line = turn.line; answer = blind_answer (meaning_of turn.line) turn.answer }
 
 -- the lines with such answers
 abbrev pub blind : List Turn → List Turn
@@ -119,40 +117,14 @@ polled_idle es other now looks h =
       log = ap (λ (x : Came (List (List Progress))). x.log) came;
     }
 
--- such answers have no looks
-no_looks : (answer : Answer) → looks_of (blind_answer answer) ≡ []
-no_looks takes = refl
-no_looks closes = refl
-no_looks fills = refl
-no_looks (finds looks) = refl
-
--- and say the same of a message
-same_queued : (answer : Answer) → queued (blind_answer answer) ≡ queued answer
-same_queued takes = refl
-same_queued closes = refl
-same_queued fills = refl
-same_queued (finds looks) = refl
-
-same_passed : (why : Option SendRefusal) (answer : Answer) → passed_on why (blind_answer answer) ≡ passed_on why answer
-same_passed None answer = same_queued answer
-same_passed (Some why) answer = refl
-
-same_sent : (plan : Plan) (place : Option ℕ) (bytes : List ℕ) (answer : Answer)
-    → sent_to plan place bytes (blind_answer answer) ≡ sent_to plan place bytes answer
-same_sent plan None bytes answer = refl
-same_sent plan (Some place) bytes answer =
-    same_passed (length_refusal (port_plan_at plan.ports place) (length bytes)) answer
-
 -- after a line it is so still
 after_idle : (said : Line) (answer : Answer) (es other : EndSystem) → IsIdle es other
-    → IsIdle (after es said answer) (after other said (blind_answer answer))
+    → IsIdle (after es said answer) (after other said (blind_answer said answer))
 after_idle (Send port bytes) answer es other h = h
 after_idle Nothing answer es other h = h
 after_idle (At now) answer es other h =
-    subst (λ (looks : List Look). IsIdle (if nat_lt now es.moment then es else polled es now (looks_of answer))
-    (if nat_lt now other.moment then other else polled other now looks)) (sym (no_looks answer))
-    (subst (λ (moment : ℕ). IsIdle (if nat_lt now es.moment then es else polled es now (looks_of answer))
-    (if nat_lt now moment then other else polled other now [])) (sym h.moment) (by (nat_lt now es.moment)))
+    subst (λ (moment : ℕ). IsIdle (if nat_lt now es.moment then es else polled es now (looks_of answer))
+    (if nat_lt now moment then other else polled other now [])) (sym h.moment) (by (nat_lt now es.moment))
   where
     by : (early : Bool) → IsIdle (if early then es else polled es now (looks_of answer))
         (if early then other else polled other now [])
@@ -169,16 +141,14 @@ note_at false line many few = refl
 
 -- the same is noted of a line
 same_note : (line : ℕ) (said : Line) (answer : Answer) (es other : EndSystem) → IsIdle es other
-    → note_of line (outcome_of other said (blind_answer answer)) ≡ note_of line (outcome_of es said answer)
+    → note_of line (outcome_of other said (blind_answer said answer)) ≡ note_of line (outcome_of es said answer)
 same_note line (Send port bytes) answer es other h =
-    ap (λ (plan : Plan). note_of line (sent_to plan (place_of plan port) bytes (blind_answer answer))) h.plan
-    ∙ ap (note_of line) (same_sent es.plan (place_of es.plan port) bytes answer)
+    ap (λ (plan : Plan). note_of line (sent_to plan (place_of plan port) bytes answer)) h.plan
 same_note line Nothing answer es other h = refl
 same_note line (At now) answer es other h =
     ap (λ (moment : ℕ). note_of line (if nat_lt now moment then Refused TimeBack
-    else Released (frames_released other now (looks_of (blind_answer answer))))) h.moment
-    ∙ note_at (nat_lt now es.moment) line (frames_released other now (looks_of (blind_answer answer)))
-    (frames_released es now (looks_of answer))
+    else Released (frames_released other now []))) h.moment
+    ∙ note_at (nat_lt now es.moment) line (frames_released other now []) (frames_released es now (looks_of answer))
 
 -- two runs that noted the same, of which the second took nothing from queues
 pub record IsBlindOf (st other : Play) : Type 0 where
@@ -193,9 +163,9 @@ blind_more turn st other h = record {
   idle = after_idle (meaning_of turn.line) turn.answer st.es other.es h.idle;
   count = ap (λ (count : ℕ). count + 1) h.count;
   notes = ap (λ (notes : List ℕ). notes
-      ++ note_of (other.count + 1) (outcome_of other.es (meaning_of turn.line) (blind_answer turn.answer))) h.notes
+      ++ note_of (other.count + 1) (outcome_of other.es (meaning_of turn.line) (blind_answer (meaning_of turn.line) turn.answer))) h.notes
       ∙ ap (λ (count : ℕ). st.notes
-      ++ note_of (count + 1) (outcome_of other.es (meaning_of turn.line) (blind_answer turn.answer))) h.count
+      ++ note_of (count + 1) (outcome_of other.es (meaning_of turn.line) (blind_answer (meaning_of turn.line) turn.answer))) h.count
       ∙ ap (λ (note : List ℕ). st.notes ++ note)
       (same_note (st.count + 1) (meaning_of turn.line) turn.answer st.es other.es h.idle);
 }

@@ -1,7 +1,8 @@
 -- How a run ends once its streams are written.
-use Rattle.std.proofs.Common.{◌≡◌, ℕ, inl, inr, List, [], ◌++◌, Option, Some, None, refl, ◌∙◌, subst}
+use Rattle.std.proofs.Common.{◌≡◌, ℕ, inl, inr, List, [], ◌++◌, Option, Some, None, refl, sym, subst}
 use Rattle.std.specs.Prelude.{IfSome, Result, Ok, Err, ◌⊎◌, ⊤}
 use Rattle.std.specs.Io.KnownBytes.{Appends, Keeps}
+use Rattle.std.proofs.KnownBytes.{Appends-nil, Appends-trans, Appends-kept}
 use Rattle.afdx_plan.specs.Config.{Plan}
 use Rattle.tx_script.specs.AtBench.{AtBench}
 use Rattle.tx_script.specs.Play.{Play, play, start, transcript}
@@ -11,7 +12,6 @@ use Rattle.tx_script.specs.Transcript.{streams}
 use Rattle.tx_script.specs.declared.run_fault.RunFault.{RunFault}
 use Rattle.tx_script.specs.declared.run_fault.RunFault.TheVariants as Fault
 use Rattle.tx_script.specs.declared.summary.Summary.{Summary as Sums}
-use Rattle.tx_script.proofs.FrameLemmas.{appends_more, appends_none}
 use Rattle.tx_script.proofs.Blind.{blind_start, blind_finds}
 use Rattle.tx_script.proofs.Finding.{finds_first}
 
@@ -54,7 +54,8 @@ has_run plan text old mid fin bench rest count sums ran wrote =
       count_is = ran.count_is;
       sums_are = ran.sums_are;
       wrote =
-          appends_more old mid fin st.notes (streams bench.tx.lines.a bench.tx.lines.b) (transcript st) ran.wrote wrote.wrote same;
+          subst (Appends old fin) (sym same)
+          (Appends-trans old mid fin st.notes (streams bench.tx.lines.a bench.tx.lines.b) ran.wrote wrote.wrote);
     }
 
 -- the lines stopped, and the streams were written
@@ -77,15 +78,8 @@ begun_kept plan text old mid fin b kept = record {
   lines = b.lines;
   finds = b.finds;
   begins = b.begins;
-  wrote = appends_kept old mid fin b.written b.wrote kept;
+  wrote = Appends-kept old mid fin b.written b.wrote kept;
 }
-  where
-    appends_kept : (x y z : Option (List ℕ)) (bytes : List ℕ) → Appends x y bytes → Keeps y z
-        → Appends x z bytes
-    appends_kept None y z bytes h k = tt
-    appends_kept (Some xs) None z bytes h k = absurd h
-    appends_kept (Some xs) (Some ys) None bytes h k = absurd k
-    appends_kept (Some xs) (Some ys) (Some zs) bytes h k = k ∙ h
 
 -- a fault that lets the streams be written, unless the writer failed
 told_or_write : (plan : Plan) (text : List ℕ) (old mid fin : Option (List ℕ)) (bench : AtBench)
@@ -157,5 +151,5 @@ leaves_none plan (Some text) old = record {
   lines = refl;
   finds = blind_finds (start plan) (start plan) (blind_start plan);
   begins = refl;
-  wrote = appends_none old;
+  wrote = Appends-nil old;
 }

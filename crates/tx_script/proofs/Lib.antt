@@ -2,11 +2,8 @@ mod EndLemmas
 mod PlayLemmas
 mod RunLemmas
 pub mod FrameLemmas
+mod LogLemmas
 mod Matched
-mod LineLemmas
-mod MeaningLemmas
-mod NumberLemmas
-mod WordLemmas
 mod Polling
 mod Sending
 mod AtHand

@@ -1,10 +1,11 @@
 -- One line more of a run.
 use Rattle.std.proofs.Common.{◌≡◌, ℕ, ◌+◌, List, [], ◌∷◌, ◌++◌, Option, refl, ap, sym, ◌∙◌, subst}
 use Rattle.std.specs.Io.KnownBytes.{Appends}
+use Rattle.std.proofs.KnownBytes.{Appends-trans}
 use Rattle.afdx_plan.specs.Config.{Plan}
-use Rattle.tx_script.specs.Lines.{after_feed}
+use Rattle.script_lines.specs.Lines.{after_feed}
 use Rattle.tx_script.specs.AtBench.{AtBench, Matches, ObeysFor, Obeys}
-use Rattle.tx_script.specs.Meaning.{meaning_of}
+use Rattle.script_lines.specs.Meaning.{meaning_of}
 use Rattle.tx_script.specs.Play.{Turn, Play, play, play_line, start, outcome_of}
 use Rattle.tx_script.specs.Run.{BeginsWith, LinesThen}
 use Rattle.tx_script.specs.Running.{Running}
@@ -12,7 +13,6 @@ use Rattle.tx_script.specs.Summary.{counted}
 use Rattle.tx_script.specs.Transcript.{note_of}
 use Rattle.tx_script.specs.declared.outcome.Outcome.{Outcome}
 use Rattle.tx_script.specs.declared.summary.Summary.{Summary as Sums}
-use Rattle.tx_script.proofs.FrameLemmas.{appends_more}
 
 -- the last line is played after those before it
 pub play_more : (st : Play) (turns : List Turn) (turn : Turn) → play st (turns ++ turn ∷ []) ≡ play_line turn
@@ -54,7 +54,6 @@ running_more plan text old mid fin bench new rest count sums line outcome ran be
           ap (λ (p : Play). p.summary) more ∙ ap (λ (o : Outcome). counted o st.summary) same
           ∙ ap (λ (s : Sums). counted outcome s) ran.sums_are;
       wrote =
-          appends_more old mid fin st.notes (note_of (count + 1) outcome)
-          (play (start plan) (ran.turns ++ turn ∷ [])).notes ran.wrote wrote
-          (ap (λ (p : Play). p.notes) more ∙ noted);
+          subst (Appends old fin) (sym (ap (λ (p : Play). p.notes) more ∙ noted))
+          (Appends-trans old mid fin st.notes (note_of (count + 1) outcome) ran.wrote wrote);
     }

@@ -2,24 +2,24 @@
 use Rattle.std.proofs.Common.{◌≡◌, ℕ, ◌+◌, ◌*◌, ◌<◌, ◌≤◌, List, [], ◌∷◌, ◌++◌, length, Option, Some, None, refl, ap, subst, arith}
 use Rattle.std.specs.Prelude.{IfSome, Ok, Err}
 use Rattle.std.specs.Io.KnownBytes.{Appends, Consumes}
+use Rattle.std.proofs.KnownBytes.{Appends-nil}
 use Rattle.afdx_plan.specs.Config.{Plan}
 use Rattle.tx_script.specs.AtBench.{AtBench, IsFreshBench, ObeysFor}
 use Rattle.tx_script.specs.EndSystem.{handed_b}
-use Rattle.tx_script.specs.Lines.{first_line}
-use Rattle.tx_script.specs.Meaning.{meaning_of}
+use Rattle.script_lines.specs.Lines.{first_line}
+use Rattle.script_lines.specs.Meaning.{meaning_of}
 use Rattle.tx_script.specs.Play.{Play, play, start}
 use Rattle.tx_script.specs.Run.{HasBegun}
 use Rattle.tx_script.specs.Running.{Says, Reads, Running, Stops}
 use Rattle.tx_script.specs.Summary.{counted, HasFew}
 use Rattle.tx_script.specs.Transcript.{note_of, streams}
-use Rattle.tx_script.specs.declared.line.Line.{Line as Said}
+use Rattle.script_lines.specs.declared.line.Line.{Line as Said}
 use Rattle.tx_script.specs.declared.outcome.Outcome.{Outcome}
 use Rattle.tx_script.specs.declared.outcome.Outcome.TheVariants.{Quiet, Accepted, Refused, Released}
 use Rattle.tx_script.specs.declared.run_fault.RunFault.{RunFault}
 use Rattle.tx_script.specs.declared.run_fault.RunFault.TheVariants as Fault
-use Rattle.tx_script.specs.declared.run_lines.TheConstants.{LINES_LIMIT}
+use Rattle.tx_script.specs.declared.obey_lines.TheConstants.{LINES_LIMIT}
 use Rattle.tx_script.specs.declared.summary.Summary.{Summary as Sums}
-use Rattle.tx_script.proofs.FrameLemmas.{appends_none}
 use Rattle.tx_script.proofs.Matched.{fresh_matches}
 use Rattle.tx_script.proofs.AtHand.{fresh_sent}
 use Rattle.tx_script.proofs.Blind.{blind, IsBlindOf, blind_run, blind_lines, blind_finds}
@@ -89,7 +89,7 @@ running_none plan (Some text) old bench is_fresh = record {
         };
         count_is = refl;
         sums_are = refl;
-        wrote = appends_none old;
+        wrote = Appends-nil old;
       };
 }
 

@@ -1,27 +1,28 @@
 -- Obeying a line that sends a message.
-use Rattle.std.proofs.Common.{ℕ, ◌≡◌, ◌≤◌, ◌<◌, ◌+◌, ◌==◌, Bool, if◌then◌else◌, nat_lt, List, []}
+use Rattle.std.proofs.Common.{ℕ, ◌≡◌, ◌≢◌, ◌≤◌, ◌<◌, ◌+◌, ◌==◌, Bool, if◌then◌else◌, nat_lt, List, []}
 use Rattle.std.proofs.Common.{length, set, get_or, refl, ap, ◌∙◌, sym, subst, arith, Option, Some, None}
 use Rattle.std.proofs.lemmas.Bool.{eq-eqb, ne_eqb, lt-ltb, le-ltb}
 use Rattle.std.proofs.lemmas.List.Quantifiers.{position-Some}
 use Rattle.afdx_plan.specs.Config.{Plan, port_plan_at}
 use Rattle.afdx_plan.specs.declared.port_plan.PortPlan.{PortPlan}
 use Rattle.subvl_queue.specs.Messages.{most_calls}
-use Rattle.subvl_queue.specs.Views.{SenderView, asked}
+use Rattle.subvl_queue.specs.Views.{SenderView, asked, sent}
 use Rattle.afdx_tx.specs.declared.fault.Refusal.{Refusal as SendRefusal}
 use Rattle.afdx_tx.specs.declared.fault.Refusal.TheVariants as Why
 use Rattle.afdx_tx.specs.Emitter.{Tx}
 use Rattle.afdx_tx.specs.Ports.{PortView, MaySend, Accepts, Refuses, BelongsTo}
 use Rattle.afdx_tx.specs.Sending.{length_refusal}
-use Rattle.tx_script.specs.AtBench.{AtBench, IsAtHand, HaveSent, Matches, Obeys}
+use Rattle.tx_script.specs.AtBench.{AtBench, IsAtHand, HaveSent, Matches, Obeys, Sends}
 use Rattle.tx_script.specs.EndSystem.{EndSystem}
 use Rattle.tx_script.specs.Play.{Answer, Messages, takes, closes, fills, place_of, sent_to}
 use Rattle.tx_script.specs.Play.{passed_on, script_refusal, outcome_of, accepted_with, accepted_after, with_message}
-use Rattle.tx_script.specs.declared.line.Line.TheVariants.{Send}
+use Rattle.script_lines.specs.declared.line.Line.TheVariants.{Send}
 use Rattle.tx_script.specs.declared.refusal.Refusal.{Refusal}
 use Rattle.tx_script.specs.declared.refusal.Refusal.TheVariants.{NoPort}
-use Rattle.tx_script.specs.declared.run_lines.TheConstants.{LINES_LIMIT}
+use Rattle.tx_script.specs.declared.obey_lines.TheConstants.{LINES_LIMIT}
 use Rattle.tx_script.specs.declared.outcome.Outcome.{Outcome}
 use Rattle.tx_script.specs.declared.outcome.Outcome.TheVariants as Became
+use Rattle.tx_script.specs.Summary.{HasFew}
 use Rattle.tx_script.proofs.AtHand.{IsSamePort, have_sent, have_kept}
 
 -- a message of no bytes
@@ -43,55 +44,44 @@ may_pass port size may =
     (ne_eqb size 0 (λ e. absurd (let some = may.some in omega arith)))
     ∙ ap (λ (b : Bool). if b then Some Why.TooLong else None) (le-ltb port.max size may.most)
 
--- A port that accepted a message is the same otherwise.
-pub accepts_same : (old new : PortView) (bytes : List ℕ) → Accepts old bytes new → IsSamePort old new
-accepts_same old new bytes e = record {
-  place = ap (λ (p : PortView). p.place) e;
-  plan = ap (λ (p : PortView). p.plan) e;
-  queue = ap (λ (p : PortView). p.sender.queue) e;
-  index = ap (λ (p : PortView). p.sender.port) e;
-  calls = ap (λ (p : PortView). p.sender.calls) e;
-}
-
--- a port whose queue refused a message asked once more
-asked_same : (old new : PortView) → new ≡ record old { sender = new.sender } → new.sender ≡ asked old.sender
+-- a port whose sender alone changed
+same_by : (old new : PortView) (sender : SenderView) → new ≡ record old { sender = sender }
+    → sender.queue ≡ old.sender.queue → sender.port ≡ old.sender.port → sender.calls ≡ old.sender.calls
     → IsSamePort old new
-asked_same old new e s = record {
+same_by old new sender e queue index calls = record {
   place = ap (λ (p : PortView). p.place) e;
   plan = ap (λ (p : PortView). p.plan) e;
-  queue = ap (λ (sender : SenderView). sender.queue) s;
-  index = ap (λ (sender : SenderView). sender.port) s;
-  calls = ap (λ (sender : SenderView). sender.calls) s;
+  queue = ap (λ (p : PortView). p.sender.queue) e ∙ queue;
+  index = ap (λ (p : PortView). p.sender.port) e ∙ index;
+  calls = ap (λ (p : PortView). p.sender.calls) e ∙ calls;
 }
 
 -- What a refusal leaves of a port.
-pub record IsUnsent (old new : PortView) : Type 0 where
-  pub same : IsSamePort old new
-  pub own : new.sender.own ≡ old.sender.own
-  pub asks : new.sender.asks ≤ old.sender.asks + 1
+record IsUnsent (old new : PortView) : Type 0 where
+  same : IsSamePort old new
+  own : new.sender.own ≡ old.sender.own
+  asks : new.sender.asks ≤ old.sender.asks + 1
 
+-- the length alone was asked
 unsent_same : (old new : PortView) → new ≡ old → IsUnsent old new
 unsent_same old new e = record {
-  same = record {
-    place = ap (λ (p : PortView). p.place) e;
-    plan = ap (λ (p : PortView). p.plan) e;
-    queue = ap (λ (p : PortView). p.sender.queue) e;
-    index = ap (λ (p : PortView). p.sender.port) e;
-    calls = ap (λ (p : PortView). p.sender.calls) e;
-  };
+  same = same_by old new old.sender e refl refl refl;
   own = ap (λ (p : PortView). p.sender.own) e;
   asks = let same : new.sender.asks ≡ old.sender.asks = ap (λ (p : PortView). p.sender.asks) e in omega arith;
 }
 
+-- its queue was asked
 unsent_asked : (old new : PortView) → new ≡ record old { sender = new.sender } → new.sender ≡ asked old.sender
     → IsUnsent old new
 unsent_asked old new e s = record {
-  same = asked_same old new e s;
+  same = same_by old new new.sender e (ap (λ (sender : SenderView). sender.queue) s)
+      (ap (λ (sender : SenderView). sender.port) s) (ap (λ (sender : SenderView). sender.calls) s);
   own = ap (λ (sender : SenderView). sender.own) s;
   asks = let more : new.sender.asks ≡ old.sender.asks + 1 = ap (λ (sender : SenderView). sender.asks) s in omega arith;
 }
 
-pub unsent : (old new : PortView) (size : ℕ) (why : SendRefusal) → (why ≡ Why.Exhausted → ⊥) → Refuses old size why new
+-- whatever the refusal
+unsent : (old new : PortView) (size : ℕ) (why : SendRefusal) → why ≢ Why.Exhausted → Refuses old size why new
     → IsUnsent old new
 unsent old new size Why.Empty some r = unsent_same old new r.1
 unsent old new size Why.TooLong some r = unsent_same old new r.1
@@ -115,7 +105,7 @@ plan_here tx ports place d h lt =
     belongs.plan ∙ ap (port_plan_at tx.plan.ports) (h.placed place d lt)
 
 -- A port that was found has its place among the ports at hand.
-pub place_inside : (tx : Tx) (ports : List PortView) (id place : ℕ) → IsAtHand tx ports → place_of tx.plan id ≡ Some place
+place_inside : (tx : Tx) (ports : List PortView) (id place : ℕ) → IsAtHand tx ports → place_of tx.plan id ≡ Some place
     → place < length ports
 place_inside tx ports id place h found =
     let some = position-Some (λ (port : PortPlan). port.id.0 == id) tx.plan.ports place (port_plan_at [] 0) found in
@@ -135,7 +125,7 @@ sent_here es tx id place bytes port answer why plan found is asked =
     ∙ ap (λ (w : Option SendRefusal). passed_on w answer) asked
 
 -- A message that its port accepted.
-pub send_taken : (accepted : Messages) (es : EndSystem) (tx : Tx) (ports : List PortView) (id place : ℕ) (d new : PortView)
+send_taken : (accepted : Messages) (es : EndSystem) (tx : Tx) (ports : List PortView) (id place : ℕ) (d new : PortView)
     (bytes : List ℕ) → IsAtHand tx ports → place_of tx.plan id ≡ Some place → place < length ports
     → MaySend (get_or ports place d).plan (length bytes) → Accepts (get_or ports place d) bytes new
     → Matches accepted es (record { tx = tx; ports = ports })
@@ -194,7 +184,7 @@ answer_of Why.Closed = closes
 answer_of _ = fills
 
 -- what becomes of a message that was refused
-refusal_passed : (old new : PortView) (size : ℕ) (why : SendRefusal) → (why ≡ Why.Exhausted → ⊥) → Refuses old size why new
+refusal_passed : (old new : PortView) (size : ℕ) (why : SendRefusal) → why ≢ Why.Exhausted → Refuses old size why new
     → passed_on (length_refusal old.plan size) (answer_of why) ≡ Became.Refused (script_refusal why)
 unfolding answer_of
 refusal_passed old new size Why.Empty some r = ap (λ (w : Option SendRefusal). passed_on w fills) (empty_refused old.plan size r.0)
@@ -204,9 +194,9 @@ refusal_passed old new size Why.Exhausted some r = absurd (some refl)
 refusal_passed old new size Why.Full some r = ap (λ (w : Option SendRefusal). passed_on w fills) (may_pass old.plan size r.may)
 
 -- A message that its port refused.
-pub send_refused : (accepted : Messages) (es : EndSystem) (tx : Tx) (ports : List PortView) (id place : ℕ) (d new : PortView)
+send_refused : (accepted : Messages) (es : EndSystem) (tx : Tx) (ports : List PortView) (id place : ℕ) (d new : PortView)
     (bytes : List ℕ) (why : SendRefusal) → IsAtHand tx ports → place_of tx.plan id ≡ Some place → place < length ports
-    → (why ≡ Why.Exhausted → ⊥) → Refuses (get_or ports place d) (length bytes) why new
+    → why ≢ Why.Exhausted → Refuses (get_or ports place d) (length bytes) why new
     → Matches accepted es (record { tx = tx; ports = ports })
     → Obeys (Send id bytes) accepted es (record { tx = tx; ports = set ports place new }) (Became.Refused (script_refusal why))
 send_refused accepted es tx ports id place d new bytes why h found lt some refuses m =
@@ -221,3 +211,59 @@ send_refused accepted es tx ports id place d new bytes why h found lt some refus
           (let left : IsUnsent (get_or ports place d) new =
           unsent (get_or ports place d) new (length bytes) why some refuses in left.own) m.own;
     })
+
+-- A port was found at its place, and was given a message.
+pub record IsSentAt (tx : Tx) (ports : List PortView) (id place : ℕ) (port new : PortView) (bytes : List ℕ)
+    (outcome : Outcome) : Type 0 where
+  pub found : place_of tx.plan id ≡ Some place
+  pub within : place < length ports
+  pub sends : Sends (get_or ports place port) bytes new outcome
+
+pub sent_at : (tx : Tx) (ports : List PortView) (id place : ℕ) (port new : PortView) (bytes : List ℕ)
+    (outcome : Outcome) (config : Plan) (at : Option ℕ) → IsAtHand tx ports → config ≡ tx.plan
+    → at ≡ place_of config id → at ≡ Some place → port ≡ get_or ports place port → Sends port bytes new outcome
+    → IsSentAt tx ports id place port new bytes outcome
+sent_at tx ports id place port new bytes outcome config at h plan asked some here sends = record {
+  found = found;
+  within = place_inside tx ports id place h found;
+  sends = subst (λ (p : PortView). Sends p bytes new outcome) here sends;
+}
+  where
+    found : place_of tx.plan id ≡ Some place
+    found = ap (λ (p : Plan). place_of p id) (sym plan) ∙ sym asked ∙ some
+
+-- A port that was given a message is the same otherwise.
+pub sends_same : (old new : PortView) (bytes : List ℕ) (outcome : Outcome) → Sends old bytes new outcome
+    → IsSamePort old new
+sends_same old new bytes Became.Quiet h = absurd h
+sends_same old new bytes Became.Accepted h = same_by old new (sent old.sender bytes) h.1 refl refl refl
+sends_same old new bytes (Became.Refused refusal) h = (unsent old new (length bytes) h.why h.some h.refuses).same
+sends_same old new bytes (Became.Released frames) h = absurd h
+
+-- It asked once more at most.
+pub sends_asks : (old new : PortView) (bytes : List ℕ) (outcome : Outcome) → Sends old bytes new outcome
+    → new.sender.asks ≤ old.sender.asks + 1
+sends_asks old new bytes Became.Quiet h = absurd h
+sends_asks old new bytes Became.Accepted h =
+    let more : new.sender.asks ≡ old.sender.asks + 1 = ap (λ (p : PortView). p.sender.asks) h.1 in omega arith
+sends_asks old new bytes (Became.Refused refusal) h = (unsent old new (length bytes) h.why h.some h.refuses).asks
+sends_asks old new bytes (Became.Released frames) h = absurd h
+
+-- It released no frame.
+pub sends_few : (old new : PortView) (bytes : List ℕ) (outcome : Outcome) → Sends old bytes new outcome → HasFew outcome
+sends_few old new bytes Became.Quiet h = absurd h
+sends_few old new bytes Became.Accepted h = tt
+sends_few old new bytes (Became.Refused refusal) h = tt
+sends_few old new bytes (Became.Released frames) h = absurd h
+
+-- A message for the port at a place.
+pub sends_obeys : (accepted : Messages) (es : EndSystem) (tx : Tx) (ports : List PortView) (id place : ℕ) (d new : PortView)
+    (bytes : List ℕ) (outcome : Outcome) → IsAtHand tx ports → place_of tx.plan id ≡ Some place → place < length ports
+    → Sends (get_or ports place d) bytes new outcome → Matches accepted es (record { tx = tx; ports = ports })
+    → Obeys (Send id bytes) accepted es (record { tx = tx; ports = set ports place new }) outcome
+sends_obeys accepted es tx ports id place d new bytes Became.Quiet h found lt sends m = absurd sends
+sends_obeys accepted es tx ports id place d new bytes Became.Accepted h found lt sends m =
+    send_taken accepted es tx ports id place d new bytes h found lt sends.0 sends.1 m
+sends_obeys accepted es tx ports id place d new bytes (Became.Refused refusal) h found lt sends m =
+    rw sends.named (send_refused accepted es tx ports id place d new bytes sends.why h found lt sends.some sends.refuses m)
+sends_obeys accepted es tx ports id place d new bytes (Became.Released frames) h found lt sends m = absurd sends

@@ -1,17 +1,21 @@
 -- An emitter with its ports, as a run of a script has them at hand.
-use Rattle.std.specs.Prelude.{ℕ, ◌≡◌, ◌≤◌, ◌<◌, ◌++◌, List, length, slice_index_or, All}
+use Rattle.std.specs.Prelude.{ℕ, ◌≡◌, ◌≢◌, ◌≤◌, ◌<◌, ◌++◌, List, length, slice_index_or, All}
 use Rattle.afdx_plan.specs.Config.{Plan, IsPlan, port_plan_at}
 use Rattle.subvl_queue.specs.Messages.{most_calls, part_of}
 use Rattle.vl_link.specs.Seen.{taken_of, ports_of}
 use Rattle.vl_link.specs.Links.{held_at, link_at}
 use Rattle.afdx_tx.specs.Emitter.{Tx, IsFreshTx}
 use Rattle.afdx_tx.specs.Gathering.{held_for}
-use Rattle.afdx_tx.specs.Ports.{PortView, AreOpenedWith, AreFreshPorts, index_of}
+use Rattle.afdx_tx.specs.Ports.{PortView, AreOpenedWith, AreFreshPorts, MaySend, Accepts, Refuses, index_of}
+use Rattle.afdx_tx.specs.declared.fault.Refusal.{Refusal as SendRefusal}
+use Rattle.afdx_tx.specs.declared.fault.Refusal.TheVariants as Why
 use Rattle.tx_script.specs.EndSystem.{EndSystem}
 use Rattle.tx_script.specs.Matching.{MatchesTx}
-use Rattle.tx_script.specs.Play.{Answer, Messages, outcome_of, after, accepted_after}
-use Rattle.tx_script.specs.declared.line.Line.{Line}
+use Rattle.tx_script.specs.Play.{Answer, Messages, outcome_of, after, accepted_after, script_refusal}
+use Rattle.script_lines.specs.declared.line.Line.{Line}
 use Rattle.tx_script.specs.declared.outcome.Outcome.{Outcome}
+use Rattle.tx_script.specs.declared.outcome.Outcome.TheVariants as Became
+use Rattle.tx_script.specs.declared.refusal.Refusal.{Refusal}
 
 -- an emitter, and its ports in the order of the configuration
 pub record AtBench : Type 0 where
@@ -46,6 +50,19 @@ HaveSent accepted ports = (place : ℕ) (d : PortView) → place < length ports
 pub record Matches (accepted : Messages) (es : EndSystem) (bench : AtBench) : Type 0 where
   pub emitter : MatchesTx es bench.tx
   pub own : HaveSent accepted bench.ports
+
+-- a port refused a message of so many bytes, which is told by this name
+pub record RefusesAs (old : PortView) (size : ℕ) (refusal : Refusal) (new : PortView) : Type 0 where
+  pub why : SendRefusal
+  pub named : refusal ≡ script_refusal why
+  pub some : why ≢ Why.Exhausted
+  pub refuses : Refuses old size why new
+
+-- a port was given a message: it accepted or refused it
+abbrev pub Sends : PortView → List ℕ → PortView → Outcome → Type 0
+Sends old bytes new Became.Accepted = MaySend old.plan (length bytes) × Accepts old bytes new
+Sends old bytes new (Became.Refused refusal) = RefusesAs old (length bytes) refusal new
+Sends old bytes new outcome = ⊥
 
 -- a line was obeyed, at a bench that matches these
 pub record Obeys (line : Line) (accepted : Messages) (es : EndSystem) (bench : AtBench)

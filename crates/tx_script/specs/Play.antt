@@ -9,11 +9,11 @@ use Rattle.afdx_tx.specs.declared.fault.Refusal.TheVariants as Why
 use Rattle.afdx_tx.specs.Emitter.{ports_of_sub}
 use Rattle.afdx_tx.specs.Sending.{length_refusal, link_place}
 use Rattle.tx_script.specs.EndSystem.{EndSystem, Look, fresh, polled, frames_released, handed_b, progress_of}
-use Rattle.tx_script.specs.Meaning.{meaning_of}
+use Rattle.script_lines.specs.Meaning.{meaning_of}
 use Rattle.tx_script.specs.Summary.{counted}
 use Rattle.tx_script.specs.Transcript.{note_of, streams}
-use Rattle.tx_script.specs.declared.line.Line.{Line}
-use Rattle.tx_script.specs.declared.line.Line.TheVariants.{Send, At, Nothing}
+use Rattle.script_lines.specs.declared.line.Line.{Line}
+use Rattle.script_lines.specs.declared.line.Line.TheVariants.{Send, At, Nothing}
 use Rattle.tx_script.specs.declared.refusal.Refusal.{Refusal}
 use Rattle.tx_script.specs.declared.refusal.Refusal.TheVariants.{Empty, TooLong, Closed, Full, NoPort, TimeBack}
 use Rattle.tx_script.specs.declared.outcome.Outcome.{Outcome}

@@ -2,13 +2,13 @@
 use Rattle.std.specs.Prelude.{◌≡◌, ℕ, ◌+◌, ◌<◌, ◌≤◌, List, [], ◌∷◌, ◌++◌, length, Option, Result, Ok, Err, ⊤}
 use Rattle.std.specs.Io.KnownBytes.{Appends}
 use Rattle.afdx_plan.specs.Config.{Plan}
-use Rattle.tx_script.specs.Faults.{IsFirstFault, IsFaultless}
-use Rattle.tx_script.specs.Lines.{first_line, after_feed}
+use Rattle.script_lines.specs.Faults.{IsFirstFault, IsFaultless}
+use Rattle.script_lines.specs.Lines.{first_line, after_feed}
 use Rattle.tx_script.specs.Play.{Turn, play, start, transcript, FindsFirst}
-use Rattle.tx_script.specs.declared.line_fault.LineFault.{LineFault}
+use Rattle.script_lines.specs.declared.line_fault.LineFault.{LineFault}
 use Rattle.tx_script.specs.declared.run_fault.RunFault.{RunFault}
 use Rattle.tx_script.specs.declared.run_fault.RunFault.TheVariants.{Line, Lines, Read, Write, Memory}
-use Rattle.tx_script.specs.declared.run_lines.TheConstants.{LINES_LIMIT}
+use Rattle.tx_script.specs.declared.obey_lines.TheConstants.{LINES_LIMIT}
 use Rattle.tx_script.specs.declared.summary.Summary.{Summary as Sums}
 
 -- a text begins with this line, which has no fault

@@ -3,15 +3,15 @@ use Rattle.std.specs.Prelude.{◌≡◌, ℕ, ◌<◌, List, [], length, Option,
 use Rattle.std.specs.Io.KnownBytes.{Appends, Keeps}
 use Rattle.afdx_plan.specs.Config.{Plan}
 use Rattle.tx_script.specs.AtBench.{AtBench, IsAtHand, Matches, GaveFirst}
-use Rattle.tx_script.specs.Faults.{IsFirstFault}
-use Rattle.tx_script.specs.Lines.{first_line, after_feed}
-use Rattle.tx_script.specs.Meaning.{meaning_of}
+use Rattle.script_lines.specs.Faults.{IsFirstFault}
+use Rattle.script_lines.specs.Lines.{first_line, after_feed}
+use Rattle.script_lines.specs.Meaning.{meaning_of}
 use Rattle.tx_script.specs.Play.{Turn, play, start}
 use Rattle.tx_script.specs.Run.{BeginsWith, LinesThen, HasBegun, Ends}
 use Rattle.tx_script.specs.Transcript.{streams}
-use Rattle.tx_script.specs.declared.line.Line.{Line as Said}
-use Rattle.tx_script.specs.declared.line_fault.LineFault.{LineFault}
-use Rattle.tx_script.specs.declared.line_fault.LineFault.TheVariants.{Memory as OutOfMemory}
+use Rattle.script_lines.specs.declared.line.Line.{Line as Said}
+use Rattle.script_lines.specs.declared.line_fault.LineFault.{LineFault}
+use Rattle.script_lines.specs.declared.line_fault.LineFault.TheVariants.{Memory as OutOfMemory}
 use Rattle.tx_script.specs.declared.run_fault.RunFault.{RunFault}
 use Rattle.tx_script.specs.declared.run_fault.RunFault.TheVariants.{Line, Lines, Read, Write, Memory}
 use Rattle.tx_script.specs.declared.summary.Summary.{Summary as Sums}

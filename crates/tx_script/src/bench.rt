@@ -1,21 +1,21 @@
 //! An emitter with its ports, and doing what a line says.
-ghost use Rattle.std.specs.Prelude.{◌≡◌, ◌≢◌, ℕ, ◌+◌, IfOk, IfErr};
+ghost use Rattle.std.specs.Prelude.{◌≡◌, ◌≢◌, ◌≤◌, ℕ, ◌+◌, IfOk, IfErr};
 ghost use Rattle.afdx_tx.specs.declared.fault.Refusal.TheVariants as Why;
-ghost use Rattle.tx_script.specs.declared.line.Line.TheVariants as Said;
+ghost use Rattle.script_lines.specs.declared.line.Line.TheVariants as Said;
 ghost use Rattle.tx_script.specs.declared.run_fault.RunFault.TheVariants as RunFault;
-ghost use Rattle.tx_script.specs.declared.run_lines.TheConstants.{LINES_LIMIT};
-ghost use Rattle.tx_script.specs.AtBench.{ObeysFor, HaveAsked};
+ghost use Rattle.tx_script.specs.declared.obey_lines.TheConstants.{LINES_LIMIT};
+ghost use Rattle.subvl_queue.specs.Messages.{most_calls};
+ghost use Rattle.tx_script.specs.AtBench.{ObeysFor, HaveAsked, Sends};
 ghost use Rattle.tx_script.specs.Play.{script_refusal};
 ghost use Rattle.tx_script.specs.Summary.{HasFew};
 
-use crate::line::Line;
-use crate::message::Message;
+use crate::frame_log::FrameLog;
 use crate::outcome::Outcome;
 use crate::refusal::Refusal;
 use crate::run_fault::RunFault;
 use afdx_plan::{Config, PortId};
 use afdx_tx::{Emitter, TxPort, open_tx};
-use redundant_mux::MemNetwork;
+use script_lines::{Line, Message};
 use std::alloc::Global;
 use std::marker::Model;
 use std::sync::Wait;
@@ -24,7 +24,7 @@ use std::sync::Wait;
 /// configuration.
 #[derive(Drop)]
 pub struct Bench {
-    emitter: Emitter<MemNetwork, MemNetwork>,
+    emitter: Emitter<FrameLog, FrameLog>,
     ports: Vec<TxPort>,
 }
 
@@ -48,8 +48,8 @@ impl Bench {
         ensures fresh { IfOk result (λ bench. IsFreshBench config bench) }
         ensures err { IfErr result (λ fault. fault ≡ RunFault.Memory) }
     {
-        let a = MemNetwork::new(alloc);
-        let b = MemNetwork::new(alloc);
+        let a = FrameLog::new(alloc);
+        let b = FrameLog::new(alloc);
         match open_tx(alloc, config, a, b) {
             Ok((emitter, ports)) => Ok(Bench { emitter, ports }),
             Err(_) => Err(RunFault::Memory),
@@ -58,7 +58,7 @@ impl Bench {
 
     /// The two networks, with what was handed to them. All ports are gathered first, which shows
     /// that what was taken is the first of what they sent.
-    pub fn into_networks<R: Wait>(self, rt: &R) -> (MemNetwork, MemNetwork)
+    pub fn into_networks<R: Wait>(self, rt: &R) -> (FrameLog, FrameLog)
         ensures a { result.0.handed ≡ self.tx.lines.a }
         ensures b { result.1.handed ≡ self.tx.lines.b }
         ensures hand { IsAtHand self.tx self.ports }
@@ -86,6 +86,18 @@ fn refused_for(why: afdx_tx::Refusal) -> Refusal
     }
 }
 
+/// Gives a port a message. A script has fewer lines than a port may ask, so that none is exhausted.
+fn send_message<R: Wait>(rt: &R, port: &mut TxPort, message: Message) -> Outcome
+    requires calls { port.old.sender.calls ≡ most_calls }
+    requires asks { port.old.sender.asks ≤ LINES_LIMIT }
+    ensures { Sends port.old message port.new result }
+{
+    match port.send(rt, message.into_vec()) {
+        Ok(()) => Outcome::Accepted,
+        Err(fault) => Outcome::Refused(refused_for(fault.why)),
+    }
+}
+
 /// A message of a port, by its identifier.
 fn obey_send<R: Wait>(rt: &R, bench: &mut Bench, port: u16, bytes: Message) -> Outcome
     requires { HaveAsked LINES_LIMIT bench.old.ports }
@@ -93,12 +105,9 @@ fn obey_send<R: Wait>(rt: &R, bench: &mut Bench, port: u16, bytes: Message) -> O
     ensures few { HasFew result }
     ensures asked { (count : ℕ) → HaveAsked count bench.old.ports → HaveAsked (count + 1) bench.new.ports }
 {
-    let Some(place) = bench.emitter.config().port_index(PortId(port)) else {
-        return Outcome::Refused(Refusal::NoPort);
-    };
-    match bench.ports[place].send(rt, bytes.into_vec()) {
-        Ok(()) => Outcome::Accepted,
-        Err(fault) => Outcome::Refused(refused_for(fault.why)),
+    match bench.emitter.config().port_index(PortId(port)) {
+        Some(place) => send_message(rt, &mut bench.ports[place], bytes),
+        None => Outcome::Refused(Refusal::NoPort),
     }
 }
 

@@ -1,12 +1,13 @@
 //! Writing the frames of a transcript.
-ghost use Rattle.std.specs.Prelude.{◌≡◌, ◌++◌, IfErr, OnOk};
+ghost use Rattle.std.specs.Prelude.{◌≡◌, ◌≤◌, length, IfErr, OnOk};
 ghost use Rattle.std.specs.Io.KnownBytes.{Appends};
-ghost use Rattle.redundant_mux.specs.Memory.{entries, entry_of};
+ghost use Rattle.redundant_mux.specs.Entry.{entry};
+ghost use Rattle.tx_script.specs.FrameLog.{AreKept, spelled};
 ghost use Rattle.tx_script.specs.Transcript.{net_name as name_of_net, frame_line, frame_lines, streams};
 
+use crate::frame_log::{FrameLog, Mark};
 use crate::run_fault::RunFault;
 use afdx_frame::Net;
-use redundant_mux::Handed;
 use std::io;
 use std::io::Write;
 
@@ -14,43 +15,58 @@ use std::io::Write;
 const DIGITS: usize = 3028;
 
 /// Writes what was handed to network A, and then what was handed to B.
-pub fn write_streams<W: Write>(writer: &mut W, a: &[Handed], b: &[Handed]) -> Result<(), RunFault>
+pub fn write_streams<W: Write>(writer: &mut W, a: &FrameLog, b: &FrameLog) -> Result<(), RunFault>
     ensures ok { OnOk result (Appends (W.contents writer.old) (W.contents writer.new)
-        (streams (entries a.now) (entries b.now))) }
+        (streams a.now.handed b.now.handed)) }
     ensures err { IfErr result (λ fault. fault ≡ RunFault.Write) }
 {
     write_both(writer, a, b).map_err(|_| RunFault::Write)
 }
 
-fn write_both<W: Write>(writer: &mut W, a: &[Handed], b: &[Handed]) -> io::Result<()>
+fn write_both<W: Write>(writer: &mut W, a: &FrameLog, b: &FrameLog) -> io::Result<()>
     ensures { OnOk result (Appends (W.contents writer.old) (W.contents writer.new)
-        (streams (entries a.now) (entries b.now))) }
+        (streams a.now.handed b.now.handed)) }
 {
-    write_frames(writer, Net::A, a)?;
-    write_frames(writer, Net::B, b)
+    a.write_lines(writer, Net::A)?;
+    b.write_lines(writer, Net::B)
 }
 
-/// Writes a line for each frame that was handed to a network.
-pub fn write_frames<W: Write>(writer: &mut W, net: Net, handed: &[Handed]) -> io::Result<()>
+/// Writes a line for each frame, whose bytes stand one after the other, under a network's name.
+pub fn write_frames<W: Write>(
+    writer: &mut W,
+    net: Net,
+    marks: &[Mark],
+    bytes: &[u8],
+) -> io::Result<()>
+    requires { AreKept marks.now bytes.now }
     ensures { OnOk result (Appends (W.contents writer.old) (W.contents writer.new)
-        (frame_lines net (entries handed.now))) }
+        (frame_lines net (spelled marks.now bytes.now))) }
 {
-    for one in handed {
-        write_frame(writer, net, one)?;
+    let mut digits = [0; DIGITS];
+    let mut rest = bytes;
+    for mark in marks {
+        let (frame, more) = rest.split_at(mark.len);
+        write_frame(writer, net, mark.at, frame, &mut digits)?;
+        rest = more;
     }
     Ok(())
 }
 
-fn write_frame<W: Write>(writer: &mut W, net: Net, handed: &Handed) -> io::Result<()>
+// Writes the line of a frame, whose digits are made in a buffer.
+fn write_frame<W: Write>(
+    writer: &mut W,
+    net: Net,
+    at: u64,
+    frame: &[u8],
+    buffer: &mut [u8; DIGITS],
+) -> io::Result<()>
+    requires { length frame.now ≤ 1514 }
     ensures { OnOk result (Appends (W.contents writer.old) (W.contents writer.new)
-        (frame_line net (entry_of handed.now))) }
+        (frame_line net (entry at frame.now))) }
 {
-    let frame = handed.frame.as_slice();
-    let mut buffer = [0; DIGITS];
     let digits = &mut buffer[..2 * frame.len()];
     hex::encode_to_slice(frame, digits).unwrap();
     let name = net_name(net);
-    let at = handed.at;
     write!(writer, "{name} {at} ")?;
     writer.write_all(digits)?;
     writer.write_all(b"\n")

@@ -1,37 +1,23 @@
-//! Scripts of an end system: their lines, what each line says, and the transcript of a run.
+//! Running a script of an end system, and the transcript of a run.
 #![tactic(auto)]
 
 mod bench;
-mod bytes;
+mod frame_log;
 mod frames;
-mod line;
-mod line_fault;
-mod lines;
-mod message;
 mod notes;
-mod number;
+mod obey_lines;
 mod outcome;
-mod reading;
 mod refusal;
-mod run;
 mod run_fault;
-mod run_lines;
+mod script;
 mod summary;
-mod words;
 
-pub use line::Line;
-pub use line_fault::LineFault;
-pub use message::Message;
-pub use reading::read_line;
-pub use run::run_script;
+pub use frame_log::FrameLog;
+pub use frames::write_streams;
+pub use notes::write_note;
+pub use outcome::Outcome;
+pub use refusal::Refusal;
 pub use run_fault::RunFault;
+pub use script::run_script;
+pub use script_lines::{Line, LineFault, Message, read_line};
 pub use summary::Summary;
-
-#[cfg(test)]
-mod plan_tests;
-#[cfg(test)]
-mod run_tests;
-#[cfg(test)]
-mod stream_tests;
-#[cfg(test)]
-mod tests;

@@ -12,16 +12,18 @@ use std::io::Write;
 /// Writes the note on a line, counted from 1: a line of text where it was refused, and nothing
 /// where it was not.
 #[tactic(auto, unfolding(crate::specs::Transcript::note_of))]
+#[inline(always)]
 pub fn write_note<W: Write>(writer: &mut W, line: u64, outcome: Outcome) -> Result<(), RunFault>
     ensures ok { OnOk result (Appends (W.contents writer.old) (W.contents writer.new)
         (note_of line outcome)) }
     ensures err { IfErr result (λ fault. fault ≡ RunFault.Write) }
 {
-    let written = match outcome {
-        Outcome::Refused(refusal) => write_refused(writer, line, refusal),
-        _ => writer.write_all(b""),
-    };
-    written.map_err(|_| RunFault::Write)
+    match outcome {
+        Outcome::Refused(refusal) => {
+            write_refused(writer, line, refusal).map_err(|_| RunFault::Write)
+        }
+        _ => Ok(()),
+    }
 }
 
 fn write_refused<W: Write>(writer: &mut W, line: u64, refusal: Refusal) -> io::Result<()>

@@ -1,5 +1,5 @@
 //! The faults of a run.
-use crate::line_fault::LineFault;
+use script_lines::LineFault;
 use thiserror::Error;
 
 /// Why a run ended before the end of its script. Its text is what a program tells of it.

@@ -4,7 +4,7 @@ use Rattle.redundant_mux.specs.Lines.{is_alive}
 use Rattle.tx_script.specs.EndSystem.{EndSystem, Look, polled, frames_released}
 use Rattle.tx_script.specs.Play.{Messages, finds}
 use Rattle.tx_script.specs.AtBench.{AtBench, Matches, Obeys}
-use Rattle.tx_script.specs.declared.line.Line.TheVariants.{At}
+use Rattle.script_lines.specs.declared.line.Line.TheVariants.{At}
 use Rattle.tx_script.specs.declared.outcome.Outcome.TheVariants.{Released, Refused}
 use Rattle.tx_script.specs.declared.refusal.Refusal.TheVariants.{TimeBack}
 use Rattle.tx_script.proofs.Polling.{polled_matches}
@@ -28,15 +28,15 @@ poll_obeys es new moment released looks accepted on many m = record {
 pub returns-clause-ok : goal.returns-clause-ok
 returns-clause-ok g c = elim c.match-poll.branch [
   | in-Ok+then-report+then-report-2 w ↦ rw w.result-is (λ accepted es m.
-      let a : c.poll.new.self.lines.a_stands ≡ true = sym w.in-Ok.ensures.a_stands ∙ w.if-report.true in
-      let b : c.poll.new.self.lines.b_stands ≡ true = sym w.in-Ok.ensures.b_stands ∙ w.if-report-2.true in
+      let a : c.poll.new.self.lines.a_stands ≡ true = sym w.in-Ok.ensures.told.a_stands ∙ w.if-report.true in
+      let b : c.poll.new.self.lines.b_stands ≡ true = sym w.in-Ok.ensures.told.b_stands ∙ w.if-report-2.true in
       let alive : is_alive c.poll.new.self.lines ≡ true = ap (λ (x : Bool). x || c.poll.new.self.lines.b_stands) a in
       let before : Matches accepted es (record { tx = c.bench.inside.emitter; ports = c.bench.inside.ports.items }) =
       subst (Matches accepted es) (sym c.bench.view_is) m in
       let p = polled_matches es c.bench.inside.emitter c.poll.new.self c.args.moment before.emitter (w.in-Ok.ensures.run alive)
-      w.in-Ok.ensures.mirrored a b w.in-Ok.ensures.plan w.in-Ok.ensures.now in
+      w.in-Ok.ensures.mirrored a b w.in-Ok.ensures.plan w.in-Ok.ensures.told.moment in
       let many =
-      released_many es c.bench.inside.emitter c.poll.new.self c.args.moment p.0 w.in-Ok.report.released.items before.emitter p.1 w.in-Ok.ensures.told in
+      released_many es c.bench.inside.emitter c.poll.new.self c.args.moment p.0 w.in-Ok.report.released.items before.emitter p.1 w.in-Ok.ensures.told.released in
       let early : nat_lt c.args.moment es.moment ≡ false =
       le-ltb c.args.moment es.moment
       (let now = c.now.ensures in let last = before.emitter.moment in let on = c.if-moment-now.false in omega arith) in

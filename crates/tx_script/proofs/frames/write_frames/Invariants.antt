@@ -1,8 +1,8 @@
-use Rattle.std.proofs.Common.{take}
-use Rattle.std.specs.Io.KnownBytes.{Appends}
-use Rattle.redundant_mux.specs.Memory.{entries}
-use Rattle.tx_script.specs.Transcript.{frame_lines}
+use Rattle.std.proofs.Common.{drop}
+use Rattle.tx_script.proofs.FrameLemmas.{HasWritten}
 use Rattle.tx_script.proofs.frames.write_frames.Given as goal
 
-abbrev pub invariant-loop-one : goal.invariant-loop-one
-invariant-loop-one g l = Appends (g.W.Write.contents l.initial.writer) (g.W.Write.contents l.writer) (frame_lines l.net (entries (take l.one-index l.handed)))
+abbrev pub invariant-loop-mark : goal.invariant-loop-mark
+invariant-loop-mark g l =
+    HasWritten l.net (g.W.Write.contents l.initial.writer) (g.W.Write.contents l.writer) l.marks l.bytes
+    (drop l.mark-index l.marks) l.rest

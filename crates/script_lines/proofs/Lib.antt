@@ -1,0 +1,5 @@
+mod FeedLemmas
+mod LineLemmas
+mod MeaningLemmas
+mod NumberLemmas
+mod WordLemmas

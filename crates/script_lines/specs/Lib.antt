@@ -1,0 +1,6 @@
+pub mod Command
+pub mod Faults
+pub mod Lines
+pub mod Meaning
+pub mod Numbers
+pub mod Words

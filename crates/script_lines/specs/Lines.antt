@@ -1,0 +1,56 @@
+-- The lines of a text. A line ends with a line feed (10); the last one may lack it.
+use Rattle.std.specs.Prelude.{◌≡◌, ℕ, ◌-◌, ◌<◌, ◌≤◌, ◌==◌, ◌&&◌, nat_lt, Bool, true, false, if◌then◌else◌, List, [], ◌∷◌, ◌++◌, length, take, slice_index, Option, IfSome, Some}
+use Rattle.std.specs.Io.KnownBytes.{Consumes}
+use Rattle.script_lines.specs.declared.line_text.TheConstants.{LINE_LIMIT}
+
+-- the bytes before the first line feed
+abbrev pub before_feed : List ℕ → List ℕ
+before_feed [] = []
+before_feed (x ∷ xs) = if x == 10 then [] else x ∷ before_feed xs
+
+-- the bytes behind it
+abbrev pub after_feed : List ℕ → List ℕ
+after_feed [] = []
+after_feed (x ∷ xs) = if x == 10 then xs else after_feed xs
+
+-- whether there is one
+abbrev pub has_feed : List ℕ → Bool
+has_feed [] = false
+has_feed (x ∷ xs) = if x == 10 then true else has_feed xs
+
+-- a text has no line feed
+abbrev pub IsPlain : List ℕ → Type 0
+IsPlain xs = has_feed xs ≡ false
+
+-- bytes with no line feed were taken, and a line grew by them
+pub record TakesPlain (old new : Option (List ℕ)) (line grown : List ℕ) : Type 0 where
+  pub part : List ℕ
+  pub plain : IsPlain part
+  pub taken : Consumes old new part
+  pub is : grown ≡ line ++ part
+
+-- the bytes without a carriage return (13) at their end
+abbrev pub without_return : List ℕ → List ℕ
+without_return xs =
+    if nat_lt 0 (length xs) && (slice_index xs (length xs - 1) == 13)
+    then take (length xs - 1) xs
+    else xs
+
+-- the first line without its end, which is a line feed or a carriage return and a line feed
+abbrev pub first_line : List ℕ → List ℕ
+first_line text = if has_feed text then without_return (before_feed text) else before_feed text
+
+-- a text is a line, which is short enough, and what is left behind its end
+pub record Splits (text line : List ℕ) (left : Option (List ℕ)) : Type 0 where
+  pub some : 0 < length text
+  pub first : line ≡ first_line text
+  pub short : length line ≤ LINE_LIMIT
+  pub behind : left ≡ Some (after_feed text)
+
+-- the bytes that are known lose their first line, which is short enough
+abbrev pub TakesLine : Option (List ℕ) → Option (List ℕ) → List ℕ → Type 0
+TakesLine old new line = IfSome old (λ text. Splits text line new)
+
+-- the first line of the bytes that are known is too long
+abbrev pub BeginsLong : Option (List ℕ) → Type 0
+BeginsLong old = IfSome old (λ text. LINE_LIMIT < length (first_line text))

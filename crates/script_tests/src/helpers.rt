@@ -1,0 +1,144 @@
+//! What tests of scripts share.
+use afdx_config::read_config;
+use afdx_plan::demo_config;
+use std::alloc::{AllocError, Global};
+use std::io::{Read, Write};
+use std::sync::Wait;
+use tx_script::{LineFault, RunFault, Summary, run_script};
+
+// A script over the demonstration configuration: port 10 on virtual link 1, of one sub-VL with room
+// for two messages.
+pub fn run<T: Wait, R: Read + Drop, W: Write>(
+    rt: &T,
+    alloc: Global,
+    script: R,
+    text: &mut W,
+) -> Result<Summary, RunFault> {
+    let config = demo_config(alloc).map_err(|_| RunFault::Memory)?;
+    run_script(rt, alloc, config, script, text)
+}
+
+// A script over a configuration, by its text.
+pub fn run_over<T: Wait, R: Read + Drop, W: Write>(
+    rt: &T,
+    alloc: Global,
+    plan: &str,
+    script: R,
+    text: &mut W,
+) -> Result<Summary, RunFault> {
+    let config = read_config(alloc, plan.as_bytes()).map_err(|_| RunFault::Memory)?;
+    run_script(rt, alloc, config, script, text)
+}
+
+pub fn sums(accepted: u64, refused: u64, frames: u64) -> Summary {
+    Summary {
+        accepted,
+        refused,
+        frames,
+    }
+}
+
+pub fn at_line(line: u64, fault: LineFault) -> RunFault {
+    RunFault::Line { line, fault }
+}
+
+// A network's name in a transcript, and byte 11 of its frames.
+pub const NETS: [(&str, &str); 2] = [("A", "20"), ("B", "40")];
+
+// A frame of virtual link 1: its moment, the IPv4 header and the piece behind it in hexadecimal, how
+// many zero bytes pad it, and its sequence number.
+#[derive(Clone, Copy)]
+pub struct Frame<'a> {
+    pub at: u64,
+    pub header: &'a str,
+    pub piece: &'a str,
+    pub padding: usize,
+    pub number: u8,
+}
+
+// Its line on a network.
+fn push_frame(text: &mut String, net: (&str, &str), frame: &Frame) -> Result<(), AllocError> {
+    let (name, byte_11) = net;
+    let Frame {
+        at,
+        header,
+        piece,
+        ..
+    } = frame;
+    write!(text, "{name} {at} 0300000000010200000001{byte_11}0800")?;
+    write!(text, "{header}{piece}")?;
+    for _ in 0..frame.padding {
+        text.push_str("00")?;
+    }
+    let number = frame.number;
+    writeln!(text, "{number:02x}")
+}
+
+// The lines of A, and then those of B.
+pub fn frame_lines(alloc: Global, frames: &[Frame]) -> Result<String, AllocError> {
+    let mut text = String::new(alloc);
+    for net in NETS {
+        for frame in frames {
+            push_frame(&mut text, net, frame)?;
+        }
+    }
+    Ok(text)
+}
+
+// A message of one byte that was sent as a frame of 60 bytes: its moment, the identification and the
+// checksum of the header, the byte and the sequence number.
+#[derive(Clone, Copy)]
+pub struct Small {
+    pub at: u64,
+    pub ident: u16,
+    pub checksum: u16,
+    pub byte: u8,
+    pub number: u8,
+}
+
+// The first one of a run, of the byte 01.
+pub const FIRST: Small = Small {
+    at: 0,
+    ident: 0,
+    checksum: 0xcdee,
+    byte: 1,
+    number: 0,
+};
+
+// Its line on a network.
+fn push_small(
+    alloc: Global,
+    text: &mut String,
+    net: (&str, &str),
+    small: &Small,
+) -> Result<(), AllocError> {
+    let Small {
+        at,
+        ident,
+        checksum,
+        byte,
+        number,
+    } = small;
+    let header = format!(in alloc; "4500001d{ident:04x}00000111{checksum:04x}0a000101e0e00001")?;
+    let piece = format!(in alloc; "03e807d000090000{byte:02x}")?;
+    let frame = Frame {
+        at: *at,
+        header: &header,
+        piece: &piece,
+        padding: 16,
+        number: *number,
+    };
+    push_frame(text, net, &frame)
+}
+
+// The notes, the lines of A, and then those of B.
+pub fn expected(alloc: Global, notes: &str, smalls: &[Small]) -> Result<String, AllocError> {
+    let mut text = String::new(alloc);
+    text.push_str(notes)?;
+    for net in NETS {
+        for small in smalls {
+            push_small(alloc, &mut text, net, small)?;
+        }
+    }
+    Ok(text)
+}

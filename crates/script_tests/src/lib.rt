@@ -1,0 +1,15 @@
+//! Tests of scripts: their lines, and their running over whole end systems.
+#![tactic(auto)]
+
+#[cfg(test)]
+mod helpers;
+#[cfg(test)]
+mod line_tests;
+#[cfg(test)]
+mod plan_tests;
+#[cfg(test)]
+mod run_tests;
+#[cfg(test)]
+mod stream_tests;
+#[cfg(test)]
+mod transcript_tests;

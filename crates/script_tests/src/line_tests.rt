@@ -1,0 +1,182 @@
+use script_lines::{Bytes, Line, LineFault, Message, Next, ReadFault, next_line, read_line};
+use std::alloc::Global;
+use std::io::{self, Read};
+use std::test::Fail;
+
+fn says_send(alloc: Global, line: &[u8], port: u16, message: &[u8]) -> bool {
+    match read_line(alloc, line) {
+        Ok(Line::Send { port: read, bytes }) => read == port && bytes.as_slice() == message,
+        _ => false,
+    }
+}
+
+fn says_at(alloc: Global, line: &[u8], moment: u64) -> bool {
+    match read_line(alloc, line) {
+        Ok(Line::At(read)) => read == moment,
+        _ => false,
+    }
+}
+
+fn says_nothing(alloc: Global, line: &[u8]) -> bool {
+    match read_line(alloc, line) {
+        Ok(Line::Nothing) => true,
+        _ => false,
+    }
+}
+
+fn fault_of(alloc: Global, line: &[u8]) -> Option<LineFault> {
+    match read_line(alloc, line) {
+        Ok(_) => None,
+        Err(fault) => Some(fault),
+    }
+}
+
+#[test]
+fn a_send_has_a_port_and_a_message(rt: HostRuntime) -> Result<(), Fail> {
+    let alloc = rt.alloc();
+    assert!(rt; says_send(alloc, b"send 10 01", 10, &[1]));
+    assert!(rt; says_send(alloc, b"send 10 -", 10, &[]));
+    assert!(rt;
+        says_send(
+            alloc,
+            b"\t send\t\t0065535  00Fface0 ",
+            65_535,
+            &[0, 255, 172, 224]
+        )
+    );
+    Ok(())
+}
+
+#[test]
+fn an_at_has_a_moment(rt: HostRuntime) -> Result<(), Fail> {
+    assert!(rt; says_at(rt.alloc(), b"at 0", 0));
+    assert!(rt; says_at(rt.alloc(), b"  at\t018446744073709551615\t", u64::MAX));
+    Ok(())
+}
+
+#[test]
+fn blank_lines_and_notes_say_nothing(rt: HostRuntime) -> Result<(), Fail> {
+    let blanks = vec![in rt.alloc(); b' '; 20_000]?;
+    let lines: [&[u8]; 5] = [b"", b" \t ", b"# note", b" #send 10 0g", &blanks];
+    for line in lines {
+        assert!(rt; says_nothing(rt.alloc(), line));
+    }
+    Ok(())
+}
+
+#[test]
+fn a_fault_has_its_number_and_its_name(rt: HostRuntime) -> Result<(), Fail> {
+    let lines: [(&str, &str); 24] = [
+        ("sand 10 01", "1 Word"),
+        ("send", "1 Word"),
+        ("send 10", "1 Word"),
+        ("send x", "1 Word"),
+        ("at", "1 Word"),
+        ("Send 10 01", "1 Word"),
+        ("sendd 10 01", "1 Word"),
+        ("close 1 0", "1 Word"),
+        ("at x", "2 Number"),
+        ("at +1", "2 Number"),
+        ("at -1", "2 Number"),
+        ("at 1x", "2 Number"),
+        ("send 65536 01", "2 Number"),
+        ("send - 0g 01", "2 Number"),
+        ("at 18446744073709551616 0", "2 Number"),
+        ("at 100000000000000000000000", "2 Number"),
+        ("send 10 0g", "3 Hex"),
+        ("send 10 012", "3 Hex"),
+        ("send 10 0x01", "3 Hex"),
+        ("send 10 --", "3 Hex"),
+        ("send 10 0g 01", "3 Hex"),
+        ("at 0 0", "4 Extra"),
+        ("send 10 01 02", "4 Extra"),
+        ("send 10 - # note", "4 Extra"),
+    ];
+    for (line, wanted) in lines {
+        let fault = fault_of(rt.alloc(), line.as_bytes()).ok_or("no fault")?;
+        let number = fault.number();
+        let told = format!(in rt.alloc(); "{number} {fault}")?;
+        assert_eq!(rt; told.as_str(), wanted, "at {line}");
+    }
+    Ok(())
+}
+
+#[test]
+fn a_line_of_20_001_bytes_is_long(rt: HostRuntime) -> Result<(), Fail> {
+    let mut line = vec![in rt.alloc(); b' '; 20_001]?;
+    assert_eq!(rt; fault_of(rt.alloc(), &line), Some(LineFault::Long));
+    line[0] = b'#';
+    assert_eq!(rt; fault_of(rt.alloc(), &line), Some(LineFault::Long));
+    line[0] = b'x';
+    assert_eq!(rt; fault_of(rt.alloc(), &line), Some(LineFault::Long));
+    Ok(())
+}
+
+#[test]
+fn lines_lose_their_ends(rt: HostRuntime) -> Result<(), Fail> {
+    let mut bytes = Bytes::new(b"at 0\r\n\nat\r 1\r\r\n\r\nat 2\r".as_slice());
+    let mut line = Vec::new(rt.alloc());
+    let lines: [&[u8]; 5] = [b"at 0", b"", b"at\r 1\r", b"", b"at 2\r"];
+    for wanted in lines {
+        assert_eq!(rt; next_line(&mut bytes, &mut line), Ok(Next::Line));
+        assert_eq!(rt; line.as_slice(), wanted);
+    }
+    assert_eq!(rt; next_line(&mut bytes, &mut line), Ok(Next::End));
+    Ok(())
+}
+
+#[test]
+fn a_line_ends_within_20_000_bytes(rt: HostRuntime) -> Result<(), Fail> {
+    let mut text = vec![in rt.alloc(); b' '; 20_000]?;
+    text.extend_from_slice(b"\r\n")?;
+    let mut line = Vec::new(rt.alloc());
+    let mut bytes = Bytes::new(text.as_slice());
+    assert_eq!(rt; next_line(&mut bytes, &mut line), Ok(Next::Line));
+    assert_eq!(rt; line.len(), 20_000);
+    for end in [b"\r\n".as_slice(), b"\n".as_slice(), b"".as_slice()] {
+        text.truncate(20_000);
+        text.push(b' ')?;
+        text.extend_from_slice(end)?;
+        let mut bytes = Bytes::new(text.as_slice());
+        assert_eq!(rt; next_line(&mut bytes, &mut line), Ok(Next::Long));
+    }
+    Ok(())
+}
+
+// Gives three bytes a call, and is interrupted at its end, once.
+#[derive(Drop)]
+struct Interrupted<'a> {
+    text: &'a [u8],
+    interrupted: bool,
+}
+
+impl Read for Interrupted<'_> {
+    fn read(&mut self, buf: &mut [u8]) -> io::Result<usize> {
+        if self.text.is_empty() && !self.interrupted {
+            self.interrupted = true;
+            return Err(io::Error::from(io::ErrorKind::Interrupted));
+        }
+        let len = buf.len().min(3);
+        self.text.read(&mut buf[..len])
+    }
+}
+
+#[test]
+fn an_interruption_is_a_failure_to_read(rt: HostRuntime) -> Result<(), Fail> {
+    let mut bytes = Bytes::new(Interrupted {
+        text: b"at 1000\nat 20",
+        interrupted: false,
+    });
+    let mut line = Vec::new(rt.alloc());
+    assert_eq!(rt; next_line(&mut bytes, &mut line), Ok(Next::Line));
+    assert_eq!(rt; line.as_slice(), b"at 1000".as_slice());
+    assert_eq!(rt; next_line(&mut bytes, &mut line), Err(ReadFault::Read));
+    Ok(())
+}
+
+#[test]
+fn a_message_gives_its_bytes_back(rt: HostRuntime) -> Result<(), Fail> {
+    let message = Message::new(Vec::from_array(rt.alloc(), [1u8, 2])?);
+    assert_eq!(rt; message.into_vec().as_slice(), [1, 2].as_slice());
+    Ok(())
+}

@@ -1,0 +1,49 @@
+use Rattle.std.proofs.Common.{◌≡◌, arith}
+use Rattle.std.proofs.lemmas.Result.{err_from_is_err_and}
+use Rattle.tx_script.specs.declared.obey_lines.TheConstants.{LINES_LIMIT}
+use Rattle.tx_script.proofs.AtHand.{fresh_asked, asked_on}
+use Rattle.tx_script.proofs.RunLemmas.{running_none, running_turn, within_more, stop_memory, stop_fault, stop_lines}
+use Rattle.tx_script.proofs.obey_lines.obey_lines.Goals as goal
+
+pub loop-count-init : goal.loop-count-init
+loop-count-init g c = record {
+  asked = fresh_asked c.args.bench.now.tx c.args.bench.now.ports c.requires.ports;
+  running = running_none _ _ _ _ c.requires;
+  within = record { accepted = omega arith; refused = omega arith; frames = omega arith };
+}
+
+pub returns-in_err-said : goal.returns-in_err-said
+returns-in_err-said g c =
+    let told = err_from_is_err_and c.from_residual.result c.from_residual.ensures.1 in
+    rw (told.1, told.2) (stop_fault _ _ c.loop-count.bytes c.next_said.new.bytes _ _ c.loop-count.bench
+    c.loop-count.count c.loop-count.sums _ (omega arith) c.loop-count.invariant.running c.in_err-said.ensures)
+
+pub returns-in_err-outcome : goal.returns-in_err-outcome
+returns-in_err-outcome g c =
+    let told =
+    err_from_is_err_and c.from_residual-in_err-outcome.result c.from_residual-in_err-outcome.ensures.1 in
+    rw (told.1, told.2, c.in_err-outcome.ensures.err)
+    (stop_memory _ _ c.loop-count.bytes _ _ c.loop-count.bench
+    c.loop-count.count c.loop-count.sums c.loop-count.invariant.running)
+
+pub loop-count-preserved : goal.loop-count-preserved
+loop-count-preserved g c =
+    let reads = rw c.in-Some.is at c.in_ok-said.ensures in
+    rw c.count-sums.ensures (record {
+      asked = c.obey.ensures.asked c.loop-count.count c.loop-count.invariant.asked;
+      running =
+          running_turn _ _ c.loop-count.bytes c.next_said.new.bytes _ _ _ _ c.obey.new.bench c.loop-count.count
+          c.loop-count.sums c.in-Some.said c.in_ok-outcome.outcome
+          c.loop-count.invariant.running reads c.in_ok-outcome.ensures.ok c.in_ok-write_note.ensures.ok;
+      within = within_more _ _ _ c.in_ok-outcome.ensures.few c.loop-count.invariant.within;
+    })
+
+pub returns-in-Ok-Some : goal.returns-in-Ok-Some
+returns-in-Ok-Some g c =
+    let all : c.loop-count.count ≡ LINES_LIMIT = omega arith in
+    let taken = rw c.in-Ok-Some.field-0-is at c.in-Ok-Some.ensures.taken in
+    stop_lines _ _ c.loop-count.bytes c.next.new.self _ _ c.loop-count.bench c.loop-count.count
+    c.loop-count.sums _ all c.loop-count.invariant.running taken
+
+pub obey-requires : goal.obey-requires
+obey-requires g c = asked_on c.loop-count.count _ _ (omega arith) c.loop-count.invariant.asked

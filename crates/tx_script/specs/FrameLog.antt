@@ -1,0 +1,20 @@
+-- What a network that keeps all bytes in one place was handed.
+use Rattle.std.specs.Prelude.{ℕ, ◌≡◌, ◌≤◌, List, [], ◌∷◌, length, take, drop, All}
+use Rattle.std.specs.List.{sum_by}
+use Rattle.redundant_mux.specs.Entry.{Entry, entry}
+use Rattle.tx_script.specs.declared.frame_log.Mark.{Mark}
+
+-- what was handed over, and how often a hand failed
+pub record FrameLog : Type 0 where
+  pub handed : List Entry
+  pub failures : ℕ
+
+-- the frames whose bytes stand one after the other
+abbrev pub spelled : List Mark → List ℕ → List Entry
+spelled [] bytes = []
+spelled (mark ∷ marks) bytes = entry mark.at (take mark.len bytes) ∷ spelled marks (drop mark.len bytes)
+
+-- the bytes are those of these frames, of which each is at most the longest
+pub record AreKept (marks : List Mark) (bytes : List ℕ) : Type 0 where
+  pub all : sum_by (λ (mark : Mark). mark.len) marks ≡ length bytes
+  pub short : All (λ (mark : Mark). mark.len ≤ 1514) marks

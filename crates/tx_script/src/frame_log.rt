@@ -1,0 +1,110 @@
+//! A network that keeps what it is handed.
+ghost use Rattle.std.specs.Prelude.{◌≡◌, ◌+◌, ◌^◌, ◌<◌, ◌≤◌, [], ◌∷◌, ◌++◌, true, false, length, OnOk, OnErr};
+ghost use Rattle.std.specs.Io.KnownBytes.{Appends};
+ghost use Rattle.redundant_mux.specs.Entry.{entry};
+ghost use Rattle.tx_script.specs.FrameLog.{AreKept, spelled};
+ghost use Rattle.tx_script.specs.Transcript.{frame_lines};
+
+use crate::frames::write_frames;
+use afdx_frame::Net;
+use redundant_mux::{HandFault, Network};
+use std::alloc::Global;
+use std::io::{self, Write};
+use std::marker::Model;
+
+/// The moment of a frame that was handed over, in microseconds, and how many bytes it has.
+#[derive(Clone, Copy, Debug, PartialEq, Eq)]
+pub struct Mark {
+    pub at: u64,
+    pub len: usize,
+}
+
+/// A network that keeps what it is handed: the bytes of all frames one after the other. Contracts
+/// see what was handed to it, and its failures.
+#[derive(Drop)]
+pub struct FrameLog {
+    marks: Vec<Mark>,
+    bytes: Vec<u8>,
+    failures: u64,
+}
+
+impl Model for FrameLog {
+    ghost use Rattle.tx_script.specs.FrameLog.{FrameLog, AreKept, spelled};
+
+    ghost Value = { FrameLog };
+
+    ghost view = { λ l. record {
+      handed = spelled l.marks.items l.bytes.items;
+      failures = l.failures;
+    } };
+
+    ghost invariant = { λ l. AreKept l.marks.items l.bytes.items };
+}
+
+impl FrameLog {
+    /// A network that was handed nothing. A hand fails only where memory was refused.
+    pub fn new(alloc: Global) -> FrameLog
+        ensures { result ≡ record { handed = []; failures = 0 } }
+    {
+        FrameLog {
+            marks: Vec::new(alloc),
+            bytes: Vec::new(alloc),
+            failures: 0,
+        }
+    }
+
+    /// Writes a line for each frame that was handed over, under a network's name.
+    pub fn write_lines<W: Write>(&self, writer: &mut W, net: Net) -> io::Result<()>
+        ensures { OnOk result (Appends (W.contents writer.old) (W.contents writer.new)
+            (frame_lines net self.now.handed)) }
+    {
+        write_frames(writer, net, &self.marks, &self.bytes)
+    }
+}
+
+impl Network for FrameLog {
+    ghost use Rattle.tx_script.specs.FrameLog.{FrameLog};
+
+    ghost handed = { λ l. l.handed };
+
+    ghost failures = { λ l. l.failures };
+
+    /// Keeps the frame and its moment at the end. A hand for which memory is refused fails: what was
+    /// handed over is as it was, the failure is counted, and the next hand is tried like any other.
+    fn hand(&mut self, at: u64, frame: &[u8]) -> Result<(), HandFault>
+        requires short { length frame.now ≤ 1514 }
+        requires few { self.old.failures + 1 < 2 ^ 64 }
+        ensures ok { OnOk result (self.new.handed ≡ self.old.handed ++ entry at frame.now ∷ []) }
+        ensures ok_failures { OnOk result (self.new.failures ≡ self.old.failures) }
+        ensures err { OnErr result (self.new.handed ≡ self.old.handed) }
+        ensures err_failures { OnErr result (self.new.failures ≡ self.old.failures + 1) }
+    {
+        if !keep(&mut self.marks, &mut self.bytes, at, frame) {
+            self.failures += 1;
+            return Err(HandFault);
+        }
+        Ok(())
+    }
+}
+
+// Keeps a frame at the end, where memory suffices. Whether it does.
+fn keep(marks: &mut Vec<Mark>, bytes: &mut Vec<u8>, at: u64, frame: &[u8]) -> bool
+    requires short { length frame.now ≤ 1514 }
+    requires before { AreKept marks.old.items bytes.old.items }
+    ensures kept { result ≡ true → spelled marks.new.items bytes.new.items
+        ≡ spelled marks.old.items bytes.old.items ++ entry at frame.now ∷ [] }
+    ensures same { result ≡ false →
+        spelled marks.new.items bytes.new.items ≡ spelled marks.old.items bytes.old.items }
+    ensures after { AreKept marks.new.items bytes.new.items }
+{
+    let end = bytes.len();
+    if bytes.extend_from_slice(frame).is_err() {
+        return false;
+    }
+    let len = frame.len();
+    if marks.push(Mark { at, len }).is_err() {
+        bytes.truncate(end);
+        return false;
+    }
+    true
+}

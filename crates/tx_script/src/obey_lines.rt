@@ -1,0 +1,81 @@
+//! Obeying the lines of a script.
+ghost use Rattle.std.specs.Prelude.{◌≡◌, IfSome};
+ghost use Rattle.tx_script.specs.AtBench.{IsFreshBench};
+ghost use Rattle.tx_script.specs.Running.{Reads, Stops, run_fault_of};
+
+use crate::bench::{Bench, obey};
+use crate::notes::write_note;
+use crate::run_fault::RunFault;
+use crate::summary::Summary;
+use script_lines::{Bytes, Line, LineFault, Next, ReadFault, next_line, read_line};
+use std::alloc::Global;
+use std::io::{Read, Write};
+use std::sync::Wait;
+
+/// How many lines a script may have.
+pub const LINES_LIMIT: u64 = 1_000_000;
+
+/// What a fault of a line is for the run.
+fn at_line(line: u64, fault: LineFault) -> RunFault
+    ensures { result ≡ run_fault_of line fault }
+{
+    match fault {
+        LineFault::Memory => RunFault::Memory,
+        _ => RunFault::Line { line, fault },
+    }
+}
+
+/// What the next line of a reader says, which has this number; `None` at the end.
+fn next_said<R: Read + Drop>(
+    alloc: Global,
+    bytes: &mut Bytes<R>,
+    text: &mut Vec<u8>,
+    line: u64,
+) -> Result<Option<Line>, RunFault>
+    ensures { IfSome bytes.old (λ known. Reads known bytes.new line result) }
+{
+    match next_line(bytes, text) {
+        Ok(Next::Line) => {}
+        Ok(Next::Long) => return Err(at_line(line, LineFault::Long)),
+        Ok(Next::End) => return Ok(None),
+        Err(ReadFault::Read) => return Err(RunFault::Read),
+        Err(ReadFault::Memory) => return Err(RunFault::Memory),
+    }
+    match read_line(alloc, text) {
+        Ok(said) => Ok(Some(said)),
+        Err(fault) => Err(at_line(line, fault)),
+    }
+}
+
+/// Obeys the lines of a reader at a fresh bench, and writes their notes.
+pub fn obey_lines<T: Wait, R: Read + Drop, W: Write>(
+    rt: &T,
+    alloc: Global,
+    bytes: &mut Bytes<R>,
+    bench: &mut Bench,
+    writer: &mut W,
+) -> Result<Summary, RunFault>
+    requires { IsFreshBench bench.old.tx.plan bench.old }
+    ensures { IfSome bytes.old (λ text. Stops bench.old.tx.plan text
+        (W.contents writer.old) (W.contents writer.new) bench.new result) }
+{
+    let mut text = Vec::new(alloc);
+    let mut sums = Summary {
+        accepted: 0,
+        refused: 0,
+        frames: 0,
+    };
+    for count in 0..LINES_LIMIT {
+        let Some(said) = next_said(alloc, bytes, &mut text, count + 1)? else {
+            return Ok(sums);
+        };
+        let outcome = obey(rt, bench, said)?;
+        write_note(writer, count + 1, outcome)?;
+        sums = sums.count(outcome);
+    }
+    match bytes.next() {
+        Ok(None) => Ok(sums),
+        Ok(Some(_)) => Err(RunFault::Lines),
+        Err(_) => Err(RunFault::Read),
+    }
+}

@@ -1,0 +1,74 @@
+//! Running a script.
+ghost use Rattle.std.specs.Prelude.{◌≡◌, IfSome, IfErr, OnOk};
+ghost use Rattle.std.specs.Io.KnownBytes.{Appends};
+ghost use Rattle.tx_script.specs.AtBench.{IsAtHand, GaveFirst};
+ghost use Rattle.tx_script.specs.Run.{Leaves};
+ghost use Rattle.tx_script.specs.Running.{EndsEarly};
+ghost use Rattle.tx_script.specs.Transcript.{streams};
+
+use crate::bench::Bench;
+use crate::frames::write_streams;
+use crate::obey_lines::obey_lines;
+use crate::run_fault::RunFault;
+use crate::summary::Summary;
+use afdx_plan::Config;
+use script_lines::Bytes;
+use std::alloc::Global;
+use std::io::{Read, Write};
+use std::sync::Wait;
+
+/// Writes what was handed to the two networks of a bench.
+fn write_handed<T: Wait, W: Write>(rt: &T, writer: &mut W, bench: Bench) -> Result<(), RunFault>
+    ensures ok { OnOk result (Appends (W.contents writer.old) (W.contents writer.new)
+        (streams bench.tx.lines.a bench.tx.lines.b)) }
+    ensures err { IfErr result (λ fault. fault ≡ RunFault.Write) }
+    ensures hand { IsAtHand bench.tx bench.ports }
+    ensures first { GaveFirst bench.tx bench.ports }
+{
+    let (a, b) = bench.into_networks(rt);
+    write_streams(writer, &a, &b)
+}
+
+/// Writes the streams after a fault that lets them be written. The fault of the run.
+fn end_early<T: Wait, W: Write>(rt: &T, writer: &mut W, bench: Bench, fault: RunFault) -> RunFault
+    ensures { EndsEarly fault bench (W.contents writer.old) (W.contents writer.new) result }
+{
+    match fault {
+        RunFault::Write => RunFault::Write,
+        RunFault::Memory => RunFault::Memory,
+        _ => match write_handed(rt, writer, bench) {
+            Ok(()) => fault,
+            Err(_) => RunFault::Write,
+        },
+    }
+}
+
+/// Runs a script over a configuration and two networks in memory, and writes its transcript: the
+/// notes on lines that were refused, in their order, then the frames that were handed to network A,
+/// then those handed to B. A script has at most 1,000,000 lines of at most 20,000 bytes each.
+///
+/// A line's fault, `Lines` and `Read` end the run there: the lines before it were run, and their
+/// notes and frames are written. After `Write`, when the writer failed, and after `Memory` nothing
+/// more is written; what was written before `Memory` begins the transcript of lines that were run.
+pub fn run_script<T: Wait, R: Read + Drop, W: Write>(
+    rt: &T,
+    alloc: Global,
+    config: Config,
+    reader: R,
+    writer: &mut W,
+) -> Result<Summary, RunFault>
+    ensures { IfSome (R.remaining reader) (λ text. Leaves config text
+        (W.contents writer.old) (W.contents writer.new) result) }
+{
+    let Ok(mut bench) = Bench::open(alloc, config) else {
+        return Err(RunFault::Memory);
+    };
+    let mut bytes = Bytes::new(reader);
+    match obey_lines(rt, alloc, &mut bytes, &mut bench, writer) {
+        Ok(summary) => {
+            write_handed(rt, writer, bench)?;
+            Ok(summary)
+        }
+        Err(fault) => Err(end_early(rt, writer, bench, fault)),
+    }
+}
