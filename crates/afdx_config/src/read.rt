@@ -19,17 +19,12 @@ fn read_document(alloc: Global, document: &Table) -> Result<Config, ConfigFault>
     ensures fault { IfErr result (λ least. least ≢ ConfigFault.Memory →
         find (λ fault. shows fault (table_view document.now)) all_faults ≡ Some least) }
 {
-    let sections = match Sections::of(alloc, document) {
-        Ok(sections) => sections,
-        Err(_) => return Err(ConfigFault::Memory),
-    };
+    let sections = Sections::of(alloc, document).map_err(|_| ConfigFault::Memory)?;
     if let Some(fault) = value_fault(document, &sections) {
         return Err(fault);
     }
-    match parts_of(alloc, document, &sections) {
-        Ok(parts) => Config::new(parts.end_system, parts.links, parts.ports),
-        Err(_) => Err(ConfigFault::Memory),
-    }
+    let parts = parts_of(alloc, document, &sections).map_err(|_| ConfigFault::Memory)?;
+    Config::new(parts.end_system, parts.links, parts.ports)
 }
 
 /// Reads a configuration from a TOML text: the plan of a text without fault, else the fault of the
