@@ -1,8 +1,8 @@
-use crate::helpers::{at_line, sums};
+use crate::helpers::at_line;
 use redundant_mux::Network;
 use script_lines::LineFault;
 use std::test::Fail;
-use tx_script::{FrameLog, Outcome, Refusal, RunFault, write_note, write_streams};
+use tx_script::{FrameLog, Outcome, Refusal, RunFault, Summary, write_note, write_streams};
 
 #[test]
 fn a_note_tells_the_line_and_the_refusal(rt: HostRuntime) -> Result<(), Fail> {
@@ -70,7 +70,12 @@ fn a_full_writer_is_a_failure_to_write(rt: HostRuntime) -> Result<(), Fail> {
 
 #[test]
 fn a_summary_counts_what_became_of_lines(rt: HostRuntime) -> Result<(), Fail> {
-    let one = sums(0, 0, 0).count(Outcome::Released(2));
+    let none = Summary {
+        accepted: 0,
+        refused: 0,
+        frames: 0,
+    };
+    let one = none.count(Outcome::Released(2));
     assert_eq!(rt; (one.accepted, one.refused, one.frames), (0, 0, 2));
     Ok(())
 }
