@@ -7,7 +7,8 @@ use Rattle.afdx_plan.specs.Numbers.{sequence_number}
 use Rattle.afdx_frame.specs.declared.net.Net.{Net}
 use Rattle.afdx_frame.specs.declared.net.Net.TheVariants.{A, B}
 use Rattle.afdx_legal.specs.Streams.{IsNumbered, IsPrefixOf}
-use Rattle.afdx_legal.proofs.LongerStream.{numbered_at}
+use Rattle.afdx_legal.proofs.StreamLemmas.{numbered_at}
+use Rattle.afdx_laws.proofs.ListLemmas.{cons_parts, nil_isnt_cons}
 use Rattle.afdx_laws.specs.Receiver.{carried, carried_by, IsNear}
 use Rattle.afdx_frame.specs.Frame.{interface_byte}
 use Rattle.afdx_frame.specs.Twin.{twin_of}
@@ -40,18 +41,9 @@ pub first_of_rest : {X : Type 0} (xs : List X) (i : ℕ) (y : X) (ys : List X) �
 first_of_rest {X = X} xs i y ys e = elim (cases_lt i (length xs)) [
   | inl inside ↦ let m : y ∷ ys ≡ get_or xs i y ∷ drop (i + 1) xs = e ∙ drop_more xs i y inside in
       let one : suc i ≡ i + 1 = omega arith in
-      (inside, heads m, tails m ∙ ap (λ (k : ℕ). drop k xs) (sym one))
-  | inr past ↦ let n : [] ≡ y ∷ ys = sym (e ∙ drop_all i xs past) in absurd (no_cons y ys n)
+      (inside, (cons_parts m).0, (cons_parts m).1 ∙ ap (λ (k : ℕ). drop k xs) (sym one))
+  | inr past ↦ let n : [] ≡ y ∷ ys = sym (e ∙ drop_all i xs past) in absurd (nil_isnt_cons n)
 ]
-  where
-    no_cons : {X : Type 0} (y : X) (ys : List X) → [] ≡ y ∷ ys → ⊥
-    no_cons y ys n = cc
-
-    heads : {X : Type 0} {x y : X} {xs ys : List X} → x ∷ xs ≡ y ∷ ys → x ≡ y
-    heads e = cc
-
-    tails : {X : Type 0} {x y : X} {xs ys : List X} → x ∷ xs ≡ y ∷ ys → xs ≡ ys
-    tails e = cc
 
 -- the frame at a place, as a network has it
 pub placed : (net : Net) (stream : List (List ℕ)) (i : ℕ) (frame : List ℕ) → All IsLong stream

@@ -11,7 +11,7 @@ use Rattle.afdx_frame.specs.Profile.{word_at}
 use Rattle.afdx_frame.specs.Fragments.{Sent, blanked, fragments}
 use Rattle.afdx_frame.specs.Reassembly.{Fragment, empty}
 use Rattle.afdx_legal.specs.Streams.{those_with}
-use Rattle.afdx_legal.proofs.LongerStream.{with_append}
+use Rattle.afdx_legal.proofs.StreamLemmas.{with_append}
 use Rattle.afdx_laws.specs.Receiver.{begin, received, carried}
 use Rattle.afdx_frame.specs.Header.{sub_in, number_in}
 use Rattle.afdx_laws.specs.Networks.{IsLong, most_carried}

@@ -1,16 +1,9 @@
 -- The account always has what the next frame costs.
-use Rattle.std.proofs.Common.{ℕ, ◌≡◌, ◌+◌, ◌-◌, ◌*◌, ◌<◌, ◌≤◌, min, List, [], ◌∷◌, true, false, map, arith, refl, ap, ◌∙◌, nat_le}
-use Rattle.std.proofs.lemmas.Bool.Decides.{nat_tests}
+use Rattle.std.proofs.Common.{ℕ, ◌≡◌, ◌+◌, ◌-◌, ◌*◌, ◌≤◌, List, [], ◌∷◌, map, arith, refl, ap, ◌∙◌}
+use Rattle.std.proofs.lemmas.Bool.{le-leb}
 use Rattle.std.proofs.lemmas.Nat.{mul-le}
-use Rattle.afdx_laws.specs.Policer.{Arrival, Rule, Account, Charge, by_bytes, by_frames, limit, full, filled, paid, price, passed, Passage, arrival, IsOnTime, AreOnTime, NoneDropped}
-
--- what it can pay for
-yes : (a b : ℕ) → a ≤ b → nat_le a b ≡ true
-yes a b h = grind (arith, nat_tests)
-
--- what it can't
-no : (a b : ℕ) → b < a → nat_le a b ≡ false
-no a b h = grind (arith, nat_tests)
+use Rattle.std.proofs.Math.Nat.{mul-add, le-min}
+use Rattle.afdx_laws.specs.Policer.{Arrival, Rule, Account, Charge, by_bytes, by_frames, full, filled, paid, price, passed, Passage, arrival, IsOnTime, AreOnTime, NoneDropped}
 
 -- no frame costs more than the greatest
 price_le : (charge : Charge) (rule : Rule) (frame : Arrival) → frame.size ≤ rule.lmax
@@ -18,31 +11,22 @@ price_le : (charge : Charge) (rule : Rule) (frame : Arrival) → frame.size ≤ 
 price_le by_bytes rule frame h = mul-le frame.size rule.gap rule.lmax rule.gap h (omega arith)
 price_le by_frames rule frame h = omega arith
 
--- below both
-le_min : (n a b : ℕ) → n ≤ a → n ≤ b → n ≤ min a b
-le_min n a b p q = omega arith
-
 -- what stands on the account when a frame comes: its price, and what filled while it was on its way
 abbrev IsReady : Rule → Account → Passage → Type 0
 IsReady rule account p = rule.lmax * (rule.gap + (p.arrived - p.released)) ≤ (filled rule account p.arrived).credit
-
--- a product over a sum
-spread : (l a b : ℕ) → l * (a + b) ≡ l * a + l * b
-spread l a b = omega arith
 
 -- so it is at the first frame, when the account is full
 ready_first : (rule : Rule) (p : Passage) → IsOnTime rule p → IsReady rule (full rule) p
 ready_first rule p on = let after = on.after in let soon = on.soon in
     let m = mul-le rule.lmax (rule.gap + (p.arrived - p.released)) rule.lmax (rule.gap + rule.jitter) (omega arith)
     (omega arith) in
-    le_min (rule.lmax * (rule.gap + (p.arrived - p.released))) (limit rule)
-    (limit rule + rule.lmax * (p.arrived - 0)) m (omega arith)
+    le-min m (omega arith)
 
 -- after it is paid, what filled while it was on its way is left
 left : (rule : Rule) (account : Account) (p : Passage) (cost : ℕ) → IsReady rule account p
     → cost ≤ rule.lmax * rule.gap
     → rule.lmax * (p.arrived - p.released) ≤ (paid (filled rule account p.arrived) cost).credit
-left rule account p cost ready cheap = let s = spread rule.lmax rule.gap (p.arrived - p.released) in omega arith
+left rule account p cost ready cheap = let s = mul-add rule.lmax rule.gap (p.arrived - p.released) in omega arith
 
 -- so it is at the next frame
 ready_next : (rule : Rule) (credit : ℕ) (p q : Passage) → IsOnTime rule p → IsOnTime rule q
@@ -54,22 +38,21 @@ ready_next rule credit p q on next apart has =
     (omega arith) in
     let more = mul-le rule.lmax (rule.gap + (q.arrived - q.released)) rule.lmax
     ((p.arrived - p.released) + (q.arrived - p.arrived)) (omega arith) (omega arith) in
-    let s = spread rule.lmax (p.arrived - p.released) (q.arrived - p.arrived) in
-    le_min (rule.lmax * (rule.gap + (q.arrived - q.released))) (limit rule)
-    (credit + rule.lmax * (q.arrived - p.arrived)) m (omega arith)
+    let s = mul-add rule.lmax (p.arrived - p.released) (q.arrived - p.arrived) in
+    le-min m (omega arith)
 
 -- a frame that can be paid passes
 passes : (charge : Charge) (rule : Rule) (account : Account) (p : Passage) (frames : List Arrival)
     → price charge rule (arrival p) ≤ (filled rule account p.arrived).credit
     → passed charge rule account (arrival p ∷ frames) ≡ arrival p ∷ passed charge rule
     (paid (filled rule account p.arrived) (price charge rule (arrival p))) frames
-passes charge rule account p frames h = let t = yes _ _ h in rw t refl
+passes charge rule account p frames h = let t = le-leb _ _ h in rw t refl
 
 -- the first frame's price is there
 enough : (charge : Charge) (rule : Rule) (account : Account) (p : Passage) → IsReady rule account p
     → IsOnTime rule p → price charge rule (arrival p) ≤ (filled rule account p.arrived).credit
 enough charge rule account p ready on = let c = price_le charge rule (arrival p) on.small in let s =
-    spread rule.lmax rule.gap (p.arrived - p.released) in omega arith
+    mul-add rule.lmax rule.gap (p.arrived - p.released) in omega arith
 
 -- all frames pass from there on
 all_pass : (charge : Charge) (rule : Rule) (account : Account) (p : Passage) (rest : List Passage)

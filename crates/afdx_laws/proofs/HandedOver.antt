@@ -1,8 +1,7 @@
 -- The longer list, as network A has it, is the stream.
-use Rattle.std.proofs.Common.{◌≡◌, ℕ, suc, ◌≤◌, ◌<◌, inl, inr, Bool, true, false, nat_eq, nat_lt, cond, List, [], ◌∷◌, ◌++◌, length, map, take, drop, refl, ap, sym, ◌∙◌, subst, arith}
+use Rattle.std.proofs.Common.{◌≡◌, ℕ, suc, ◌≤◌, ◌<◌, inl, inr, Bool, cond, List, [], ◌∷◌, ◌++◌, length, map, take, drop, refl, ap, sym, ◌∙◌, subst, arith}
 use Rattle.std.specs.Prelude.{All}
-use Rattle.std.proofs.lemmas.Bool.Decides.{nat_tests}
-use Rattle.std.proofs.lemmas.Bool.{cases_lt}
+use Rattle.std.proofs.lemmas.Bool.{cases_lt, lt-ltb, le-ltb}
 use Rattle.std.proofs.lemmas.List.{append_assoc, map-append, take-append-drop, length-map, take-map}
 use Rattle.std.proofs.lemmas.List.Elements.{All-map, All-weaker}
 use Rattle.afdx_frame.specs.declared.net.Net.{Net}
@@ -13,7 +12,7 @@ use Rattle.afdx_frame.specs.Fragments.{Sent, blanked, fragments}
 use Rattle.afdx_frame.proofs.Twins.{length-twin, twin_number, twin_sub, twin_twice, twin_blanked, twin_fragments}
 use Rattle.afdx_legal.specs.Streams.{those_with, IsPrefixOf}
 use Rattle.afdx_legal.specs.Legal.{AreTwins}
-use Rattle.afdx_legal.proofs.LongerStream.{numbered_map}
+use Rattle.afdx_legal.proofs.StreamLemmas.{with_map, numbered_map}
 use Rattle.afdx_laws.specs.Receiver.{begin, received, carried}
 use Rattle.afdx_laws.specs.Networks.{IsLong, IsStream, AreCarried, most_carried}
 use Rattle.afdx_laws.specs.Messages.{messages_in, IsSending, AreFirst}
@@ -67,18 +66,7 @@ stream_twins net xs is = record {
 -- the sub-VL of a twin
 sub_twins : (net : Net) (sub : ℕ) (xs : List (List ℕ))
     → those_with sub_in sub (map (twin_of net) xs) ≡ map (twin_of net) (those_with sub_in sub xs)
-sub_twins net sub [] = refl
-sub_twins net sub (x ∷ xs) =
-    ap (λ (n : ℕ). cond (nat_eq n sub) (twin_of net x ∷ those_with sub_in sub (map (twin_of net) xs))
-    (those_with sub_in sub (map (twin_of net) xs))) (twin_sub net x)
-    ∙ one (nat_eq (sub_in x) sub) (sub_twins net sub xs)
-  where
-    one : (t : Bool) → those_with sub_in sub (map (twin_of net) xs) ≡ map (twin_of net) (those_with sub_in sub xs)
-        → cond t (twin_of net x ∷ those_with sub_in sub (map (twin_of net) xs))
-        (those_with sub_in sub (map (twin_of net) xs)) ≡ map (twin_of net)
-        (cond t (x ∷ those_with sub_in sub xs) (those_with sub_in sub xs))
-    one true e = ap (λ (ys : List (List ℕ)). twin_of net x ∷ ys) e
-    one false e = e
+sub_twins net sub xs = with_map sub_in sub_in (twin_of net) sub (twin_sub net) xs
 
 -- twins, without their numbers
 blanked_twins : (net : Net) (xs : List (List ℕ))
@@ -142,17 +130,11 @@ same_first end_system room sub accepted some others messages counts first = reco
 
 -- the longer list is B's
 pub longer_b : (a b : List (List ℕ)) → length a < length b → longer a b ≡ b
-longer_b a b shorter = ap (λ (t : Bool). cond t b a) (yes (length a) (length b) shorter)
-  where
-    yes : (m n : ℕ) → m < n → nat_lt m n ≡ true
-    yes m n h = grind (arith, nat_tests)
+longer_b a b shorter = ap (λ (t : Bool). cond t b a) (lt-ltb (length a) (length b) shorter)
 
 -- and where it is A's
 pub longer_a : (a b : List (List ℕ)) → length b ≤ length a → longer a b ≡ a
-longer_a a b as_long = ap (λ (t : Bool). cond t b a) (no (length a) (length b) as_long)
-  where
-    no : (m n : ℕ) → n ≤ m → nat_lt m n ≡ false
-    no m n h = grind (arith, nat_tests)
+longer_a a b as_long = ap (λ (t : Bool). cond t b a) (le-ltb (length a) (length b) as_long)
 
 -- B's frames, as network A has them, are sent
 pub sending_b : (end_system room sub : ℕ) (accepted : List Sent) (a b : List (List ℕ))

@@ -2,26 +2,15 @@
 use Rattle.std.proofs.Common.{◌≡◌, ℕ, zero, suc, ◌+◌, ◌%◌, ◌≤◌, ◌<◌, inl, inr, Bool, true, false, nat_eq, cond, List, [], ◌∷◌, ◌++◌, length, map, take, refl, ap, sym, ◌∙◌, subst, arith}
 use Rattle.std.specs.Prelude.{All, Option, Some, None}
 use Rattle.std.proofs.lemmas.Bool.Decides.{nat_tests}
-use Rattle.std.proofs.lemmas.Bool.{cases_eq, cases_Bool}
+use Rattle.std.proofs.lemmas.Bool.{cases_eq, cases_Bool, eq-eqb, ne_eqb, eqb-true, false≢true}
 use Rattle.std.proofs.lemmas.List.{append_assoc}
 use Rattle.afdx_plan.specs.Numbers.{identification}
 use Rattle.afdx_frame.specs.Cutting.{cutting, pieces_from}
 use Rattle.afdx_frame.proofs.CuttingLemmas.{cutting_some}
 use Rattle.afdx_frame.specs.Reassembly.{Fragment, Buffer, empty, put, put_all, bytes_to, datagram_in, fragment_of, fragments_of}
 use Rattle.afdx_frame.proofs.Buffers.{any_order_holds}
+use Rattle.afdx_laws.proofs.ListLemmas.{cons_parts, nil_begins}
 use Rattle.afdx_laws.specs.Delivery.{with_buffer, kept_in, given, delivered, of_sub, keyed, sent_from, InOrder}
-
--- the test of equality
-eq_yes : (a b : ℕ) → a ≡ b → nat_eq a b ≡ true
-eq_yes a b h = grind (arith, nat_tests)
-
--- the test of what differs
-eq_no : (a b : ℕ) → (a ≡ b → ⊥) → nat_eq a b ≡ false
-eq_no a b h = grind (arith, nat_tests)
-
--- and what it says
-from_eq : (a b : ℕ) → nat_eq a b ≡ true → a ≡ b
-from_eq a b h = grind (arith, nat_tests)
 
 -- a change of one buffer keeps them the same
 same_with : (sub key : ℕ) (b : Buffer) (xs ys : ℕ → Buffer) → ((k : ℕ) → k % 4 ≡ sub → xs k ≡ ys k)
@@ -32,13 +21,10 @@ same_with sub key b xs ys same k is = ap (λ (c : Buffer). cond (nat_eq k key) b
 other_with : (sub key : ℕ) (b : Buffer) (xs ys : ℕ → Buffer) → nat_eq (key % 4) sub ≡ false
     → ((k : ℕ) → k % 4 ≡ sub → xs k ≡ ys k) → (k : ℕ) → k % 4 ≡ sub → with_buffer key b xs k ≡ ys k
 other_with sub key b xs ys isnt same k is = elim (cases_eq k key) [
-  | inl e ↦ let t : nat_eq (key % 4) sub ≡ true = eq_yes (key % 4) sub (ap (λ (n : ℕ). n % 4) (sym e) ∙ is) in
-      absurd (both (nat_eq (key % 4) sub) t isnt)
-  | inr ne ↦ ap (λ (t : Bool). cond t b (xs k)) (eq_no k key ne) ∙ same k is
+  | inl e ↦ let t : nat_eq (key % 4) sub ≡ true = eq-eqb (key % 4) sub (ap (λ (n : ℕ). n % 4) (sym e) ∙ is) in
+      absurd (false≢true (sym isnt ∙ t))
+  | inr ne ↦ ap (λ (t : Bool). cond t b (xs k)) (ne_eqb k key ne) ∙ same k is
 ]
-  where
-    both : (t : Bool) → t ≡ true → t ≡ false → ⊥
-    both t a b = cc
 
 -- what is given for this sub-VL is one of its datagrams
 of_given : (sub key : ℕ) (o : Option (List ℕ)) (rest : List (ℕ × List ℕ)) → nat_eq (key % 4) sub ≡ true
@@ -58,7 +44,7 @@ apart : (sub : ℕ) (es : List (ℕ × Fragment)) (xs ys : ℕ → Buffer) → (
 apart sub [] xs ys same = refl
 apart sub (e ∷ es) xs ys same = elim (cases_Bool (nat_eq (e.0 % 4) sub)) [
   | inl is ↦
-      let mine : xs e.0 ≡ ys e.0 = same e.0 (from_eq (e.0 % 4) sub is) in
+      let mine : xs e.0 ≡ ys e.0 = same e.0 (eqb-true (e.0 % 4) sub is) in
       let b : Buffer = put (ys e.0) e.1 in
       ap (λ (c : Buffer). of_sub sub (given e.0 (datagram_in (put c e.1))
       (delivered (with_buffer e.0 (kept_in (put c e.1) (datagram_in (put c e.1))) xs) es))) mine
@@ -145,18 +131,14 @@ abbrev Holds : ℕ → ℕ → (ℕ → Buffer) → List Fragment → Type 0
 Holds sub key buffers done = (buffers key ≡ put_all empty done)
     × ((k : ℕ) → k % 4 ≡ sub → (k ≡ key → ⊥) → buffers k ≡ empty)
 
--- the parts of two lists that are the same
-same_heads : {X : Type 0} {x y : X} {xs ys : List X} → x ∷ xs ≡ y ∷ ys → (x ≡ y) × (xs ≡ ys)
-same_heads e = (cc, cc)
-
 -- the buffer that was changed
 with_same : (key : ℕ) (b : Buffer) (buffers : ℕ → Buffer) → with_buffer key b buffers key ≡ b
-with_same key b buffers = ap (λ (t : Bool). cond t b (buffers key)) (eq_yes key key refl)
+with_same key b buffers = ap (λ (t : Bool). cond t b (buffers key)) (eq-eqb key key refl)
 
 -- each other one
 with_else : (key k : ℕ) (b : Buffer) (buffers : ℕ → Buffer) → (k ≡ key → ⊥)
     → with_buffer key b buffers k ≡ buffers k
-with_else key k b buffers ne = ap (λ (t : Bool). cond t b (buffers k)) (eq_no k key ne)
+with_else key k b buffers ne = ap (λ (t : Bool). cond t b (buffers k)) (ne_eqb k key ne)
 
 -- after a datagram all buffers of its sub-VL are empty
 all_empty : (sub key : ℕ) (buffers : ℕ → Buffer) → ((k : ℕ) → k % 4 ≡ sub → (k ≡ key → ⊥) → buffers k ≡ empty)
@@ -186,6 +168,18 @@ begins_with (f ∷ fs) b = record { first = f; behind = fs; is = refl; block = b
 begins : (room : ℕ) (d : List ℕ) → 1 ≤ length d → Begins (fragments_of room d)
 begins room d some = begins_with (fragments_of room d) (is_block room d some)
 
+-- the last fragment of a datagram gives it
+completes : (buffers : ℕ → Buffer) (came : ℕ × Fragment) (key : ℕ) (f : Fragment) (later : List (ℕ × Fragment))
+    (room : ℕ) (done : List Fragment) (d : List ℕ) → 8 ≤ room → 1 ≤ length d → fragments_of room d ≡ done ++ f ∷ []
+    → buffers key ≡ put_all empty done → (key, f) ≡ came
+    → delivered buffers (came ∷ later) ≡ (key, d) ∷ delivered (with_buffer key empty buffers) later
+completes buffers came key f later room done d least some split holds same =
+    let b : Buffer = put (buffers key) f in
+    let put_is : b ≡ put_all empty (fragments_of room d) =
+    ap (λ (c : Buffer). put c f) holds ∙ sym (put_more done empty f) ∙ ap (put_all empty) (sym split) in
+    ap (λ (e : ℕ × Fragment). delivered buffers (e ∷ later)) (sym same)
+    ∙ step_some buffers key f later b d refl (ap datagram_in put_is ∙ whole room d least some)
+
 -- the law from any place on, by induction over what comes
 goes : (came : List (ℕ × Fragment)) (room sub place : ℕ) (buffers : ℕ → Buffer) (done : List Fragment)
     (f : Fragment) (todo : List Fragment) (d : List ℕ) (later : List (List ℕ)) (rest : List (ℕ × Fragment))
@@ -201,7 +195,7 @@ goes [] room sub place buffers done f todo d later rest least small some split b
 }
 goes ((key, g) ∷ came) room sub place buffers done f
     (next ∷ todo) d later rest least small some split block none holds is =
-    let heads = same_heads is in
+    let heads = cons_parts is in
     let key_is : identification place sub ≡ key = ap (λ (e : ℕ × Fragment). e.0) heads.0 in
     let frag_is : f ≡ g = ap (λ (e : ℕ × Fragment). e.1) heads.0 in
     let k : ℕ = identification place sub in
@@ -224,16 +218,11 @@ goes ((key, g) ∷ came) room sub place buffers done f
       all = λ j few enough. next_one.all j few (omega arith);
     }
 goes ((key, g) ∷ came) room sub place buffers done f [] d [] rest least small some split block none holds is =
-    let heads = same_heads is in
+    let heads = cons_parts is in
     let k : ℕ = identification place sub in
-    let b : Buffer = put (buffers k) f in
-    let put_is : b ≡ put_all empty (fragments_of room d) = ap (λ (c : Buffer). put c f) holds.0
-    ∙ sym (put_more done empty f) ∙ ap (put_all empty) (sym split) in
-    let full : datagram_in b ≡ Some d = ap datagram_in put_is ∙ whole room d least (some 0 d (omega arith)) in
     let step : delivered buffers ((key, g) ∷ came) ≡ (k, d) ∷ delivered (with_buffer k empty buffers) came =
-    ap (λ (e : ℕ × Fragment). delivered buffers (e ∷ came)) (sym heads.0)
-    ∙ step_some buffers k f came b d refl full in
-    let none_left : came ≡ [] = first_empty came rest heads.1 in
+    completes buffers (key, g) k f came room done d least (some 0 d (omega arith)) split holds.0 heads.0 in
+    let none_left : came ≡ [] = nil_begins came rest (sym heads.1) in
     record {
       many = 1;
       are = ap (map (λ (e : ℕ × List ℕ). e.1)) step
@@ -241,21 +230,12 @@ goes ((key, g) ∷ came) room sub place buffers done f [] d [] rest least small 
           ((k, d) ∷ delivered (with_buffer k empty buffers) es)) none_left;
       all = λ j few enough. omega arith;
     }
-  where
-    first_empty : {X : Type 0} (xs ys : List X) → [] ≡ xs ++ ys → xs ≡ []
-    first_empty [] ys e = refl
-    first_empty (x ∷ xs) ys e = cc
 goes ((key, g) ∷ came) room sub place buffers done f [] d
     (e ∷ later) rest least small some split block none holds is =
-    let heads = same_heads is in
+    let heads = cons_parts is in
     let k : ℕ = identification place sub in
-    let b : Buffer = put (buffers k) f in
-    let put_is : b ≡ put_all empty (fragments_of room d) = ap (λ (c : Buffer). put c f) holds.0
-    ∙ sym (put_more done empty f) ∙ ap (put_all empty) (sym split) in
-    let full : datagram_in b ≡ Some d = ap datagram_in put_is ∙ whole room d least (some 0 d (omega arith)) in
     let step : delivered buffers ((key, g) ∷ came) ≡ (k, d) ∷ delivered (with_buffer k empty buffers) came =
-    ap (λ (x : ℕ × Fragment). delivered buffers (x ∷ came)) (sym heads.0)
-    ∙ step_some buffers k f came b d refl full in
+    completes buffers (key, g) k f came room done d least (some 0 d (omega arith)) split holds.0 heads.0 in
     let empties = all_empty sub k buffers holds.1 in
     let block_e = begins room e (some 1 e (omega arith)) in
     let frags = block_e.is in
@@ -296,13 +276,9 @@ pub in_order_holds : InOrder
 in_order_holds room sub [] came least small some (rest, begun) = (
   0,
   ap (map (λ (e : ℕ × List ℕ). e.1)) (apart sub came (λ key. empty) (λ key. empty) (λ k h. refl)
-      ∙ ap (delivered (λ key. empty)) (first_nil (of_sub sub came) rest begun)),
+      ∙ ap (delivered (λ key. empty)) (nil_begins (of_sub sub came) rest begun)),
   (λ j few enough. few),
 )
-  where
-    first_nil : {X : Type 0} (xs ys : List X) → xs ++ ys ≡ [] → xs ≡ []
-    first_nil [] ys e = refl
-    first_nil (x ∷ xs) ys e = cc
 in_order_holds room sub (d ∷ later) came least small some (rest, begun) =
     let block = begins room d (some 0 d (omega arith)) in
     let got = goes (of_sub sub came) room sub 0

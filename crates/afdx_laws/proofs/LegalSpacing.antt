@@ -1,8 +1,7 @@
 -- Each link of a plan keeps its gap and its greatest frame, by what was handed over legally.
-use Rattle.std.proofs.Common.{◌≡◌, ℕ, ◌-◌, ◌<◌, inl, inr, Bool, true, false, nat_eq, cond, List, [], ◌∷◌, ◌++◌, length, ap, sym, ◌∙◌, subst, arith}
+use Rattle.std.proofs.Common.{◌≡◌, ℕ, ◌-◌, ◌<◌, inl, inr, Bool, true, false, nat_eq, cond, List, [], ◌∷◌, length, refl, ap, sym, ◌∙◌, subst, arith}
 use Rattle.std.specs.Prelude.{All}
-use Rattle.std.proofs.lemmas.Bool.{cases_Bool}
-use Rattle.std.proofs.lemmas.Bool.Decides.{nat_tests}
+use Rattle.std.proofs.lemmas.Bool.{cases_Bool, eqb-true, eq-eqb}
 use Rattle.std.proofs.lemmas.List.{length-take}
 use Rattle.std.proofs.lemmas.List.Elements.{All-cons, All-nil, All-weaker, All-tail}
 use Rattle.afdx_plan.specs.Config.{Plan, IsPlan, link_plan_at}
@@ -14,6 +13,7 @@ use Rattle.afdx_frame.specs.Header.{link_in, sub_in}
 use Rattle.redundant_mux.specs.Entry.{Entry}
 use Rattle.afdx_legal.specs.Streams.{link_stream, sub_stream, told, told_of}
 use Rattle.afdx_legal.specs.Legal.{Accepted, IsKnown, AreKnown, IsLegalOn}
+use Rattle.afdx_laws.proofs.ListLemmas.{all_front}
 use Rattle.afdx_laws.specs.Messages.{IsSent}
 use Rattle.afdx_laws.specs.Networks.{IsLong}
 use Rattle.afdx_laws.specs.Spacing.{IsUpTo}
@@ -35,16 +35,13 @@ same_id x y e = ap (λ (n : ℕ). record { 0 = n }) e
 known_within : (plan : Plan) (net : Net) (k : ℕ) (e : Entry) → IsPlan plan → k < length plan.links
     → IsKnown plan.links net e.frame → nat_eq (link_in e.frame) (id_at plan k) ≡ true → IsWithin (link_plan_at plan.links k).sub_vls e
 known_within plan net k e valid inside known on =
-    let number : link_in e.frame ≡ id_at plan k = is_eq (link_in e.frame) (id_at plan k) on in
+    let number : link_in e.frame ≡ id_at plan k = eqb-true (link_in e.frame) (id_at plan k) on in
     let at : known.k ≡ k = valid.links_apart known.k k known.within inside
     (same_id (link_plan_at plan.links known.k).id (link_plan_at plan.links k).id (sym known.link ∙ number)) in
     record {
       long = known.size;
       of_sub = subst (λ (j : ℕ). sub_in e.frame < (link_plan_at plan.links j).sub_vls) at known.of_sub;
     }
-  where
-    is_eq : (a b : ℕ) → nat_eq a b ≡ true → a ≡ b
-    is_eq a b h = grind (arith, nat_tests)
 
 -- so are all of its stream
 stream_within : (plan : Plan) (net : Net) (k : ℕ) (es : List Entry) → IsPlan plan → k < length plan.links
@@ -67,30 +64,16 @@ by_subs : (P : List ℕ → Type 0) (subs : ℕ) (es : List Entry) → All (IsWi
 by_subs P subs [] within each = All-nil (λ (e : Entry). P (blanked e.frame))
 by_subs P subs (e ∷ es) within each =
     let first = within 0 e (omega arith) in
-    let own : nat_eq (sub_in e.frame) (sub_in e.frame) ≡ true = eq_self (sub_in e.frame) in
+    let own : nat_eq (sub_in e.frame) (sub_in e.frame) ≡ true = eq-eqb (sub_in e.frame) (sub_in e.frame) refl in
     let mine : All P (blanked e.frame ∷ told (sub_stream (sub_in e.frame) es)) =
     subst (λ (t : Bool). All P (told (cond t (e ∷ sub_stream (sub_in e.frame) es) (sub_stream (sub_in e.frame) es)))) own
     (each (sub_in e.frame) first.of_sub) in
     All-cons (λ (d : Entry). P (blanked d.frame)) e es (mine 0 (blanked e.frame) (omega arith))
     (by_subs P subs es (All-tail (IsWithin subs) e es within) (λ sub below. behind (nat_eq (sub_in e.frame) sub) sub (each sub below)))
   where
-    eq_self : (n : ℕ) → nat_eq n n ≡ true
-    eq_self n = grind (arith, nat_tests)
-
     behind : (t : Bool) (sub : ℕ) → All P (told (cond t (e ∷ sub_stream sub es) (sub_stream sub es))) → All P (told (sub_stream sub es))
     behind true sub all = All-tail P (blanked e.frame) (told (sub_stream sub es)) all
     behind false sub all = all
-
--- what holds of a list holds of its beginning
-all_front : (P : List ℕ → Type 0) (xs rest ys : List (List ℕ)) → xs ++ rest ≡ ys → All P ys → All P xs
-all_front P [] rest ys is all = All-nil P
-all_front P (x ∷ xs) rest [] is all = cc
-all_front P (x ∷ xs) rest (y ∷ ys) is all =
-    let parts = both is in
-    All-cons P x xs (subst P (sym parts.0) (all 0 y (omega arith))) (all_front P xs rest ys parts.1 (All-tail P y ys all))
-  where
-    both : {X : Type 0} {x y : X} {xs ys : List X} → x ∷ xs ≡ y ∷ ys → (x ≡ y) × (xs ≡ ys)
-    both e = (cc, cc)
 
 -- the fragments of each sub-VL are short enough
 short_told : (plan : Plan) (accepted : Accepted) (net : Net) (handed : List Entry) (k sub : ℕ) → IsPlan plan

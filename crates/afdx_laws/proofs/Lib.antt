@@ -1,3 +1,4 @@
+pub mod ListLemmas
 pub mod Credit
 pub mod Spaced
 pub mod WorkedPassages

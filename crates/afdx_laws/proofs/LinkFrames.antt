@@ -1,9 +1,10 @@
 -- A link's frames in what was handed over.
-use Rattle.std.proofs.Common.{◌≡◌, ℕ, ◌≤◌, Bool, true, false, nat_eq, cond, List, [], ◌∷◌, ◌++◌, length, map, take, drop, refl, ap, sym, ◌∙◌, arith}
+use Rattle.std.proofs.Common.{◌≡◌, ℕ, ◌≤◌, nat_eq, List, [], ◌∷◌, ◌++◌, length, map, take, drop, refl, ap, sym, ◌∙◌, arith}
 use Rattle.std.specs.Prelude.{All}
 use Rattle.std.proofs.Math.Seq.{take-append_seam}
 use Rattle.std.proofs.lemmas.List.{map-append, take-append-drop, length-map, length-take, take_all}
-use Rattle.std.proofs.lemmas.List.Elements.{All-cons, All-nil}
+use Rattle.std.proofs.lemmas.List.Elements.{All-cons, All-nil, All-weaker, All-map, All-filter}
+use Rattle.std.proofs.lemmas.Simd.{map-map}
 use Rattle.afdx_plan.specs.declared.link_plan.LinkPlan.{LinkPlan}
 use Rattle.afdx_frame.specs.declared.net.Net.{Net}
 use Rattle.afdx_frame.specs.declared.net.Net.TheVariants.{A, B}
@@ -14,8 +15,8 @@ use Rattle.afdx_frame.proofs.Twins.{twin_same, twin_link}
 use Rattle.redundant_mux.specs.Entry.{Entry}
 use Rattle.redundant_mux.specs.Lines.{side}
 use Rattle.afdx_legal.specs.Streams.{those_with, link_stream, sub_stream, told, entry_number, IsNumbered}
-use Rattle.afdx_legal.specs.Legal.{AreKnown, AreTwins}
-use Rattle.afdx_legal.proofs.LongerStream.{with_append, numbered_map}
+use Rattle.afdx_legal.specs.Legal.{IsKnown, AreKnown, AreTwins}
+use Rattle.afdx_legal.proofs.StreamLemmas.{with_append, with_map, numbered_map}
 use Rattle.afdx_laws.specs.Networks.{IsLong}
 use Rattle.afdx_laws.specs.Handed.{IsOwn}
 use Rattle.afdx_laws.specs.Plans.{frames_of}
@@ -25,26 +26,30 @@ use Rattle.afdx_laws.proofs.HandedOver.{own_twins, twin_twin}
 abbrev frame_of_entry : Entry → List ℕ
 frame_of_entry e = e.frame
 
+-- known entries, by their places
+known_all : (links : List LinkPlan) (net : Net) (es : List Entry) → AreKnown links net es
+    → All (λ (e : Entry). IsKnown links net e.frame) es
+known_all links net [] known = All-nil (λ (e : Entry). IsKnown links net e.frame)
+known_all links net (e ∷ es) known =
+    All-cons (λ (d : Entry). IsKnown links net d.frame) e es known.0 (known_all links net es known.1)
+
+-- what holds of each known frame holds of a link's frames
+of_known : (P : List ℕ → Type 0) (links : List LinkPlan) (net : Net) (vl : ℕ) (es : List Entry)
+    → ((frame : List ℕ) → IsKnown links net frame → P frame) → AreKnown links net es → All P (frames_of vl es)
+of_known P links net vl es each known =
+    let all = All-weaker (λ (e : Entry). IsKnown links net e.frame) (λ (e : Entry). P e.frame) (λ e is. each e.frame is) es
+    (known_all links net es known) in
+    All-map P frame_of_entry (link_stream vl es)
+    (All-filter (λ (e : Entry). nat_eq (link_in e.frame) vl) (λ (e : Entry). P e.frame) es all)
+
 -- a link's frames have all fields that are read
 pub long_of : (links : List LinkPlan) (net : Net) (vl : ℕ) (es : List Entry) → AreKnown links net es → All IsLong (frames_of vl es)
-long_of links net vl [] known = All-nil IsLong
-long_of links net vl (e ∷ es) known = one (nat_eq (link_in e.frame) vl) (long_of links net vl es known.1)
-  where
-    one : (t : Bool) → All IsLong (frames_of vl es)
-        → All IsLong (map frame_of_entry (cond t (e ∷ link_stream vl es) (link_stream vl es)))
-    one true rest = All-cons IsLong e.frame (frames_of vl es) (known.0).size rest
-    one false rest = rest
+long_of links net vl es known = of_known IsLong links net vl es (λ frame is. is.size) known
 
 -- they are the network's own
 pub own_of : (links : List LinkPlan) (net : Net) (vl : ℕ) (es : List Entry) → AreKnown links net es
     → All (IsOwn net) (frames_of vl es)
-own_of links net vl [] known = All-nil (IsOwn net)
-own_of links net vl (e ∷ es) known = one (nat_eq (link_in e.frame) vl) (own_of links net vl es known.1)
-  where
-    one : (t : Bool) → All (IsOwn net) (frames_of vl es)
-        → All (IsOwn net) (map frame_of_entry (cond t (e ∷ link_stream vl es) (link_stream vl es)))
-    one true rest = All-cons (IsOwn net) e.frame (frames_of vl es) (twin_same net e.frame (known.0).interface) rest
-    one false rest = rest
+own_of links net vl es known = of_known (IsOwn net) links net vl es (λ frame is. twin_same net frame is.interface) known
 
 -- and numbered as its entries are
 pub numbered_of : (es : List Entry) → IsNumbered entry_number 0 es → IsNumbered number_in 0 (map frame_of_entry es)
@@ -53,28 +58,17 @@ numbered_of es numbered = numbered_map entry_number number_in frame_of_entry 0 e
 -- a sub-VL's fragments, by entries and by frames
 pub told_is : (sub : ℕ) (es : List Entry)
     → told (sub_stream sub es) ≡ map blanked (those_with sub_in sub (map frame_of_entry es))
-told_is sub [] = refl
-told_is sub (e ∷ es) = one (nat_eq (sub_in e.frame) sub) (told_is sub es)
-  where
-    one : (t : Bool) → told (sub_stream sub es) ≡ map blanked (those_with sub_in sub (map frame_of_entry es))
-        → told (cond t (e ∷ sub_stream sub es) (sub_stream sub es))
-        ≡ map blanked (cond t (e.frame ∷ those_with sub_in sub (map frame_of_entry es)) (those_with sub_in sub (map frame_of_entry es)))
-    one true rest = ap (λ (fs : List (List ℕ)). blanked e.frame ∷ fs) rest
-    one false rest = rest
+told_is sub es =
+    sym (map-map blanked frame_of_entry (sub_stream sub es))
+    ∙ ap (map blanked) (sym (with_map (λ (e : Entry). sub_in e.frame) sub_in frame_of_entry sub (λ e. refl) es))
 
 -- a link's frames of entries for another network
 frames_side : (net : Net) (vl : ℕ) (es : List Entry) → frames_of vl (map (side net) es) ≡ map (twin_of net) (frames_of vl es)
-frames_side net vl [] = refl
-frames_side net vl (e ∷ es) =
-    ap (λ (n : ℕ). map frame_of_entry (cond (nat_eq n vl) (side net e ∷ link_stream vl (map (side net) es))
-    (link_stream vl (map (side net) es)))) (twin_link net e.frame)
-    ∙ one (nat_eq (link_in e.frame) vl) (frames_side net vl es)
-  where
-    one : (t : Bool) → frames_of vl (map (side net) es) ≡ map (twin_of net) (frames_of vl es)
-        → map frame_of_entry (cond t (side net e ∷ link_stream vl (map (side net) es)) (link_stream vl (map (side net) es)))
-        ≡ map (twin_of net) (map frame_of_entry (cond t (e ∷ link_stream vl es) (link_stream vl es)))
-    one true rest = ap (λ (fs : List (List ℕ)). twin_of net e.frame ∷ fs) rest
-    one false rest = rest
+frames_side net vl es =
+    ap (map frame_of_entry) (with_map (λ (e : Entry). link_in e.frame) (λ (e : Entry). link_in e.frame) (side net) vl
+    (λ e. twin_link net e.frame) es)
+    ∙ map-map frame_of_entry (side net) (link_stream vl es)
+    ∙ sym (map-map (twin_of net) frame_of_entry (link_stream vl es))
 
 -- a link's frames in the first entries are its first frames
 frames_take : (vl n : ℕ) (es : List Entry)

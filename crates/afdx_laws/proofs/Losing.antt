@@ -1,7 +1,7 @@
 -- The whole network makes good what the other one loses.
 use Rattle.std.proofs.Common.{◌≡◌, ℕ, zero, suc, ◌+◌, ◌-◌, ◌≤◌, ◌<◌, ◌⊎◌, inl, inr, Bool, true, false, nat_eq, cond, max, List, [], ◌∷◌, ◌++◌, length, map, take, get_or, refl, ap, sym, ◌∙◌, subst, arith}
 use Rattle.std.specs.Prelude.{Option, Some, None, All}
-use Rattle.std.proofs.lemmas.Bool.{cases_lt, cases_Bool, cases_order, and_from, and_parts}
+use Rattle.std.proofs.lemmas.Bool.{cases_lt, cases_Bool, cases_order, and_from, and_parts, ne_eqb, false≢true}
 use Rattle.std.proofs.lemmas.List.{append-nil, get_or-map, length-map}
 use Rattle.afdx_plan.specs.Numbers.{sequence_number}
 use Rattle.afdx_frame.specs.declared.net.Net.{Net}
@@ -12,7 +12,7 @@ use Rattle.afdx_laws.specs.Receiver.{Tolerance, State, begin, is_accepted, is_va
 use Rattle.afdx_frame.specs.Header.{number_in}
 use Rattle.afdx_laws.specs.Networks.{IsLong}
 use Rattle.afdx_laws.specs.Loss.{same_net, AreClose, frame_at, one_lost, LossMasked, LossNotMasked, NumbersClash}
-use Rattle.afdx_laws.proofs.NumberLemmas.{last, new_next, valid_next, old_copy, old_is_ahead, next_is, differ, eq_no}
+use Rattle.afdx_laws.proofs.NumberLemmas.{last, new_next, valid_next, old_copy, old_is_ahead, next_is, differ}
 use Rattle.afdx_laws.proofs.Receiving.{IsPlaced, grows}
 use Rattle.afdx_laws.proofs.Arrivals.{placed}
 
@@ -22,22 +22,22 @@ too_far zero i some far near = absurd (omega arith)
 too_far (suc j) i some far near =
     let n = next_is j in
     let t : nat_eq (sequence_number i) (sequence_number (suc j)) ≡ false =
-    eq_no _ _ (λ e. differ (suc j) i far near (sym e)) in
+    ne_eqb _ _ (λ e. differ (suc j) i far near (sym e)) in
     rw (n, t) refl
 
 -- a test has one answer
-both : (t : Bool) → t ≡ true → t ≡ false → ⊥
-both t a b = cc
+one_answer : {t : Bool} → t ≡ true → t ≡ false → ⊥
+one_answer is isnt = false≢true (sym isnt ∙ is)
 
 -- what is accepted is the next frame
 is_next : (c i high : ℕ) → high ≤ i + 254 → c ≤ high → i < c + 255 → (high ≡ 0 → i ≡ 0) → (high ≡ 0) ⊎ (1 ≤ c)
     → is_ahead 1 (last c) (sequence_number i) ≡ true → i ≡ c
 is_next c i high near within far first begun new = elim (cases_order i c) [
   | inl same ↦ same
-  | inr (inl old) ↦ absurd (both (is_ahead 1 (last c) (sequence_number i)) new (old_copy 1 i c old (omega arith)))
+  | inr (inl old) ↦ absurd (one_answer new (old_copy 1 i c old (omega arith)))
   | inr (inr ahead_of) ↦ elim begun [
     | inl none ↦ let z = first none in absurd (omega arith)
-    | inr some ↦ absurd (both (is_ahead 1 (last c) (sequence_number i)) new (too_far c i some ahead_of far))
+    | inr some ↦ absurd (one_answer new (too_far c i some ahead_of far))
   ]
 ]
 
@@ -163,7 +163,7 @@ masks {F = F} number h stream frame check whole
                 let a : is_ahead 1 state.accepted (number f) ≡ true =
                 ap (λ (o : Option ℕ). is_ahead 1 o (number f)) (took ∙ ap last c_is)
                 ∙ ap (is_ahead 1 (last b)) (number_is ∙ ap sequence_number i_is) ∙ new_next 1 b (omega arith) in
-                absurd (both (is_accepted tolerance state net (number f)) (and_from _ _ v a) drops)
+                absurd (one_answer (and_from _ _ v a) drops)
           ] in
           let started : 1 ≤ c = elim begun [
             | inr yet ↦ yet
@@ -175,7 +175,7 @@ masks {F = F} number h stream frame check whole
                 ap (is_valid check (seen_on net state)) n_is in
                 let a : is_ahead 1 state.accepted (number f) ≡ true =
                 ap (λ (o : Option ℕ). is_ahead 1 o (number f)) (took ∙ ap last c_is) in
-                absurd (both (is_accepted tolerance state net (number f)) (and_from _ _ v a) drops)
+                absurd (one_answer (and_from _ _ v a) drops)
           ] in
           let more = masks number h stream frame check whole es after (max high (i + 1))
           (cond (same_net whole net) (b + 1) b) c some each close.5
@@ -250,13 +250,13 @@ one_lost_is_close = (
   omega arith,
   omega arith,
   (λ h. refl),
-  (λ h. absurd (no_yes h)),
+  (λ h. absurd (false≢true h)),
   (
     omega arith,
     omega arith,
     omega arith,
     (λ h. absurd (omega arith)),
-    (λ h. absurd (no_yes h)),
+    (λ h. absurd (false≢true h)),
     (
       omega arith,
       omega arith,
@@ -274,6 +274,3 @@ one_lost_is_close = (
     ),
   ),
 )
-  where
-    no_yes : false ≡ true → ⊥
-    no_yes h = cc

@@ -1,23 +1,14 @@
 -- Numbers that differ.
 use Rattle.std.proofs.Common.{◌≡◌, ℕ, zero, suc, ◌+◌, ◌-◌, ◌%◌, ◌≤◌, ◌<◌, inl, inr, Bool, true, false, nat_eq, ◌||◌, refl, ap, ◌∙◌, sym, arith}
 use Rattle.std.specs.Prelude.{Option, Some, None}
-use Rattle.std.proofs.lemmas.Bool.Decides.{nat_tests}
-use Rattle.std.proofs.lemmas.Bool.{cases_eq}
+use Rattle.std.proofs.lemmas.Bool.{cases_eq, eq-eqb, ne_eqb}
 use Rattle.afdx_plan.specs.Numbers.{sequence_number}
 use Rattle.afdx_laws.specs.Receiver.{next_number, ahead, is_ahead, is_valid}
-
--- the test of equality
-eq_yes : (a b : ℕ) → a ≡ b → nat_eq a b ≡ true
-eq_yes a b h = grind (arith, nat_tests)
-
--- the test of what differs
-pub eq_no : (a b : ℕ) → (a ≡ b → ⊥) → nat_eq a b ≡ false
-eq_no a b h = grind (arith, nat_tests)
 
 -- the number of a place behind the first
 number_is : (i : ℕ) → sequence_number (suc i) ≡ i % 255 + 1
 number_is i =
-    let t : nat_eq (suc i) 0 ≡ false = eq_no (suc i) 0 (λ e. omega arith) in
+    let t : nat_eq (suc i) 0 ≡ false = ne_eqb (suc i) 0 (λ e. omega arith) in
     let before : suc i - 1 ≡ i = omega arith in
     rw (t, before) refl
 
@@ -31,8 +22,8 @@ next_is (suc i) =
   where
     after : (i : ℕ) → next_number (i % 255 + 1) ≡ suc i % 255 + 1
     after i = elim (cases_eq (i % 255 + 1) 255) [
-      | inl top ↦ let t = eq_yes (i % 255 + 1) 255 top in rw t (omega arith)
-      | inr below ↦ let t = eq_no (i % 255 + 1) 255 below in rw t (omega arith)
+      | inl top ↦ let t = eq-eqb (i % 255 + 1) 255 top in rw t (omega arith)
+      | inr below ↦ let t = ne_eqb (i % 255 + 1) 255 below in rw t (omega arith)
     ]
 
 -- numbers differ within 255 places
@@ -44,7 +35,7 @@ differ (suc a) (suc k) later near same = let here = number_is a in let there = n
 -- the next number is ahead
 ahead_next : (many j n : ℕ) → 1 ≤ many → n ≡ next_number j → ahead many j n ≡ true
 ahead_next zero j n some e = absurd (omega arith)
-ahead_next (suc many) j n some e = let t = eq_yes n (next_number j) e in rw t refl
+ahead_next (suc many) j n some e = let t = eq-eqb n (next_number j) e in rw t refl
 
 -- an old one isn't
 pub ahead_old : (many j a : ℕ) → a ≤ j → j + many < a + 255
@@ -53,7 +44,7 @@ ahead_old zero j a old near = refl
 ahead_old (suc many) j a old near =
     let n = next_is j in
     let t : nat_eq (sequence_number a) (sequence_number (suc j)) ≡ false =
-    eq_no _ _ (differ a (suc j) (omega arith) (omega arith)) in
+    ne_eqb _ _ (differ a (suc j) (omega arith) (omega arith)) in
     let rest : ahead many (sequence_number (suc j)) (sequence_number a) ≡ false =
     ahead_old many (suc j) a (omega arith) (omega arith) in
     rw (n, t, rest) refl
@@ -99,7 +90,7 @@ ahead_last zero j =
     let n = next_is j in
     let here : sequence_number (suc j + 0) ≡ next_number (sequence_number j) = ap sequence_number (whole j)
     ∙ sym n in
-    let t : nat_eq (sequence_number (suc j + 0)) (next_number (sequence_number j)) ≡ true = eq_yes _ _ here in
+    let t : nat_eq (sequence_number (suc j + 0)) (next_number (sequence_number j)) ≡ true = eq-eqb _ _ here in
     rw t refl
   where
     whole : (j : ℕ) → suc j + 0 ≡ suc j

@@ -1,5 +1,5 @@
 -- What is read of a frame is what went in.
-use Rattle.std.proofs.Common.{◌≡◌, ℕ, suc, ◌+◌, ◌-◌, ◌/◌, ◌%◌, ◌≤◌, ◌<◌, Bool, true, false, nat_eq, nat_le, cond, List, [], ◌∷◌, ◌++◌, length, map, take, drop, set, get_or, refl, ap, sym, ◌∙◌, subst, arith}
+use Rattle.std.proofs.Common.{◌≡◌, ℕ, suc, ◌+◌, ◌-◌, ◌/◌, ◌%◌, ◌≤◌, ◌<◌, Bool, nat_le, List, [], ◌∷◌, ◌++◌, length, map, take, drop, set, get_or, refl, ap, sym, ◌∙◌, subst, arith}
 use Rattle.std.specs.Prelude.{All}
 use Rattle.std.specs.List.{AllByRecursion}
 use Rattle.std.proofs.lemmas.List.{drop-set-lt, map-append, length-append, drop_at, take_more, take_all}
@@ -21,8 +21,10 @@ use Rattle.afdx_frame.proofs.Datagram.{length-udp_header}
 use Rattle.afdx_frame.specs.Reassembly.{Fragment, fragment_of, fragments_of}
 use Rattle.afdx_frame.specs.Header.{sub_in}
 use Rattle.afdx_legal.specs.Streams.{those_with}
+use Rattle.afdx_legal.proofs.StreamLemmas.{with_map}
 use Rattle.afdx_laws.specs.Delivery.{of_sub, keyed, sent_from}
 use Rattle.afdx_laws.specs.Networks.{IsLong}
+use Rattle.afdx_laws.proofs.ListLemmas.{cons_parts, nil_isnt_cons}
 use Rattle.afdx_laws.specs.Messages.{fragment_in, IsSent}
 
 -- two fragments with their identifications are the same
@@ -191,12 +193,9 @@ pub reads_frames : (frames us rest : List (List ℕ)) → AllByRecursion IsRead 
     → us ≡ map blanked frames ++ rest
     → map read_any us ≡ map fragment_in frames ++ map read_any rest
 reads_frames [] us rest each long is = ap (map read_any) is
-reads_frames (f ∷ frames) [] rest each long is = absurd (none_cons is)
-  where
-    none_cons : {X : Type 0} {x : X} {xs : List X} → [] ≡ x ∷ xs → ⊥
-    none_cons e = cc
+reads_frames (f ∷ frames) [] rest each long is = absurd (nil_isnt_cons is)
 reads_frames (f ∷ frames) (u ∷ us) rest each long is =
-    let heads = parts is in
+    let heads = cons_parts is in
     let frame_is : f ≡ u ++ get_or f (length f - 1) 0 ∷ [] =
     with_last f (let l = long 0 f (omega arith) in omega arith)
     ∙ ap (λ (x : List ℕ). x ++ get_or f (length f - 1) 0 ∷ []) (sym heads.0) in
@@ -204,19 +203,8 @@ reads_frames (f ∷ frames) (u ∷ us) rest each long is =
     ap (λ (x : ℕ × Fragment). x ∷ map read_any us) (sym mine)
     ∙ ap (λ (xs : List (ℕ × Fragment)). fragment_in f ∷ xs)
     (reads_frames frames us rest each.1 (λ k d h. long (suc k) d (omega arith)) heads.1)
-  where
-    parts : {X : Type 0} {x y : X} {xs ys : List X} → x ∷ xs ≡ y ∷ ys → (x ≡ y) × (xs ≡ ys)
-    parts e = (cc, cc)
 
 -- a sub's fragments are those of its frames
 pub of_sub_is : (sub : ℕ) (frames : List (List ℕ))
     → of_sub sub (map fragment_in frames) ≡ map fragment_in (those_with sub_in sub frames)
-of_sub_is sub [] = refl
-of_sub_is sub (f ∷ frames) = one (nat_eq (word_at f 18 % 4) sub) (of_sub_is sub frames)
-  where
-    one : (t : Bool) → of_sub sub (map fragment_in frames) ≡ map fragment_in (those_with sub_in sub frames)
-        → cond t (fragment_in f ∷ of_sub sub (map fragment_in frames))
-        (of_sub sub (map fragment_in frames)) ≡ map fragment_in
-        (cond t (f ∷ those_with sub_in sub frames) (those_with sub_in sub frames))
-    one true e = ap (λ (xs : List (ℕ × Fragment)). fragment_in f ∷ xs) e
-    one false e = e
+of_sub_is sub frames = with_map sub_in (λ (e : ℕ × Fragment). e.0 % 4) fragment_in sub (λ frame. refl) frames

@@ -1,6 +1,7 @@
 -- What a receiver hands on.
 use Rattle.std.proofs.Common.{◌≡◌, ℕ, suc, ◌+◌, ◌≤◌, ◌<◌, inl, inr, true, false, max, List, [], ◌∷◌, ◌++◌, length, map, take, get_or, refl, ap, sym, ◌∙◌, arith}
 use Rattle.std.proofs.lemmas.Bool.{cases_lt, and_from, and_right}
+use Rattle.std.proofs.Math.Nat.{max-eq_left, max-eq_right}
 use Rattle.std.proofs.lemmas.List.{take_more, append_assoc, append-nil}
 use Rattle.afdx_frame.specs.declared.net.Net.{Net}
 use Rattle.afdx_frame.specs.declared.net.Net.TheVariants.{A, B}
@@ -49,14 +50,6 @@ drops_it number tolerance state after net frame es n is old then_is =
     let s : with_seen net (number frame) state ≡ after = ap (λ (m : ℕ). with_seen net m state) is ∙ then_is in
     rw (t, s) refl
 
--- the greater of two
-max_left : (a b : ℕ) → b ≤ a → max a b ≡ a
-max_left a b h = omega arith
-
--- and the other way
-max_right : (a b : ℕ) → a ≤ b → max a b ≡ b
-max_right a b h = omega arith
-
 -- one more frame of the stream
 pub grows : {F : Type 0} (h : F → F) (stream : List F) (i : ℕ) (frame : F) (rest : List F) → i < length stream
     → h frame ≡ get_or stream i (h frame)
@@ -91,8 +84,8 @@ hands_on {F = F} number h stream tolerance lag ((A, frame) ∷ es) a b check win
     let whole = ap (λ (k : ℕ). take k stream) counts in
     elim (cases_lt a b) [
       | inl older ↦
-          let m : max a b ≡ b = max_right a b (omega arith) in
-          let m' : max (suc a) b ≡ b = max_right (suc a) b (omega arith) in
+          let m : max a b ≡ b = max-eq_right (omega arith) in
+          let m' : max (suc a) b ≡ b = max-eq_right (omega arith) in
           let old : is_ahead tolerance.window (last (max a b)) (sequence_number a) ≡ false =
           ap (λ (k : ℕ). is_ahead tolerance.window (last k) (sequence_number a)) m
           ∙ old_copy tolerance.window a b older (omega arith) in
@@ -104,8 +97,8 @@ hands_on {F = F} number h stream tolerance lag ((A, frame) ∷ es) a b check win
           ∙ ap (λ (k : ℕ). take k stream ++ map h (received number tolerance (state_at (suc a) b) es)) (m ∙ sym m')
           ∙ next ∙ whole
       | inr newer ↦
-          let m : max a b ≡ a = max_left a b newer in
-          let m' : max (suc a) b ≡ suc a = max_left (suc a) b (omega arith) in
+          let m : max a b ≡ a = max-eq_left newer in
+          let m' : max (suc a) b ≡ suc a = max-eq_left (omega arith) in
           let new : is_ahead tolerance.window (last (max a b)) (sequence_number a) ≡ true =
           ap (λ (k : ℕ). is_ahead tolerance.window (last k) (sequence_number a)) m
           ∙ new_next tolerance.window a window in
@@ -129,8 +122,8 @@ hands_on {F = F} number h stream tolerance lag ((B, frame) ∷ es) a b check win
     let whole = ap (λ (k : ℕ). take k stream) counts in
     elim (cases_lt b a) [
       | inl older ↦
-          let m : max a b ≡ a = max_left a b (omega arith) in
-          let m' : max a (suc b) ≡ a = max_left a (suc b) (omega arith) in
+          let m : max a b ≡ a = max-eq_left (omega arith) in
+          let m' : max a (suc b) ≡ a = max-eq_left (omega arith) in
           let old : is_ahead tolerance.window (last (max a b)) (sequence_number b) ≡ false =
           ap (λ (k : ℕ). is_ahead tolerance.window (last k) (sequence_number b)) m
           ∙ old_copy tolerance.window b a older (omega arith) in
@@ -142,8 +135,8 @@ hands_on {F = F} number h stream tolerance lag ((B, frame) ∷ es) a b check win
           ∙ ap (λ (k : ℕ). take k stream ++ map h (received number tolerance (state_at a (suc b)) es)) (m ∙ sym m')
           ∙ next ∙ whole
       | inr newer ↦
-          let m : max a b ≡ b = max_right a b newer in
-          let m' : max a (suc b) ≡ suc b = max_right a (suc b) (omega arith) in
+          let m : max a b ≡ b = max-eq_right newer in
+          let m' : max a (suc b) ≡ suc b = max-eq_right (omega arith) in
           let new : is_ahead tolerance.window (last (max a b)) (sequence_number b) ≡ true =
           ap (λ (k : ℕ). is_ahead tolerance.window (last k) (sequence_number b)) m
           ∙ new_next tolerance.window b window in

@@ -16,47 +16,28 @@ record Found {F : Type 0} (net : Net) (k : ℕ) (xs : List (Net × F)) : Type 0 
   is : xs ≡ before ++ (net, frame) ∷ after
   count : length (carried net before) ≡ k
 
+-- a frame that is behind another one
+behind : {F : Type 0} (net : Net) (k j : ℕ) (e : Net × F) (xs : List (Net × F)) (r : Found net k xs)
+    → length (carried net (e ∷ r.before)) ≡ j → Found net j (e ∷ xs)
+behind net k j e xs r count_is = record {
+  before = e ∷ r.before;
+  frame = r.frame;
+  after = r.after;
+  is = ap (λ ys. e ∷ ys) r.is;
+  count = count_is;
+}
+
 -- where a frame is that was carried
 found : {F : Type 0} (net : Net) (k : ℕ) (xs : List (Net × F)) → k < length (carried net xs) → Found net k xs
 found net k [] inside = absurd (omega arith)
 found A zero ((A, f) ∷ xs) inside = record { before = []; frame = f; after = xs; is = refl; count = refl }
-found A (suc k) ((A, f) ∷ xs) inside = let r = found A k xs (omega arith) in
-    record {
-      before = (A, f) ∷ r.before;
-      frame = r.frame;
-      after = r.after;
-      is = ap (λ ys. (A, f) ∷ ys) r.is;
-      count =
-          ap suc r.count;
-    }
-found A k ((B, f) ∷ xs) inside = let r = found A k xs inside in
-    record {
-      before = (B, f) ∷ r.before;
-      frame = r.frame;
-      after = r.after;
-      is = ap (λ ys. (B, f) ∷ ys) r.is;
-      count =
-          r.count;
-    }
 found B zero ((B, f) ∷ xs) inside = record { before = []; frame = f; after = xs; is = refl; count = refl }
+found A (suc k) ((A, f) ∷ xs) inside = let r = found A k xs (omega arith) in
+    behind A k (suc k) (A, f) xs r (ap suc r.count)
 found B (suc k) ((B, f) ∷ xs) inside = let r = found B k xs (omega arith) in
-    record {
-      before = (B, f) ∷ r.before;
-      frame = r.frame;
-      after = r.after;
-      is = ap (λ ys. (B, f) ∷ ys) r.is;
-      count =
-          ap suc r.count;
-    }
-found B k ((A, f) ∷ xs) inside = let r = found B k xs inside in
-    record {
-      before = (A, f) ∷ r.before;
-      frame = r.frame;
-      after = r.after;
-      is = ap (λ ys. (A, f) ∷ ys) r.is;
-      count =
-          r.count;
-    }
+    behind B k (suc k) (B, f) xs r (ap suc r.count)
+found A k ((B, f) ∷ xs) inside = let r = found A k xs inside in behind A k k (B, f) xs r r.count
+found B k ((A, f) ∷ xs) inside = let r = found B k xs inside in behind B k k (A, f) xs r r.count
 
 -- moments don't go back, and releases lie apart
 later : (at : ℕ → ℕ) → ((k : ℕ) → at k ≤ at (k + 1)) → (j n : ℕ) → at j ≤ at (j + n)

@@ -1,17 +1,9 @@
 -- What passes is paid for.
-use Rattle.std.proofs.Common.{ℕ, ◌≡◌, ◌+◌, ◌-◌, ◌*◌, ◌<◌, ◌≤◌, inl, inr, min, List, [], ◌∷◌, true, false, nat_le, refl, ap, sym, ◌∙◌, arith}
-use Rattle.std.proofs.lemmas.Bool.Decides.{nat_tests}
-use Rattle.std.proofs.lemmas.Bool.{cases_lt}
+use Rattle.std.proofs.Common.{ℕ, ◌≡◌, ◌+◌, ◌-◌, ◌*◌, ◌<◌, ◌≤◌, inl, inr, List, [], ◌∷◌, refl, ap, sym, ◌∙◌, arith}
+use Rattle.std.proofs.lemmas.Bool.{cases_lt, le-leb, lt-leb}
 use Rattle.std.proofs.lemmas.List.Sums.{sum_by-cons}
+use Rattle.std.proofs.Math.Nat.{mul-add, min-le_right}
 use Rattle.afdx_laws.specs.Policer.{Arrival, Rule, Account, Charge, limit, filled, paid, price, passed, cost, AreBetween, NoMorePasses}
-
--- what it can pay for
-yes : (a b : ℕ) → a ≤ b → nat_le a b ≡ true
-yes a b h = grind (arith, nat_tests)
-
--- what it can't
-no : (a b : ℕ) → b < a → nat_le a b ≡ false
-no a b h = grind (arith, nat_tests)
 
 -- a frame that passes, and what passes behind it
 one_passed : (charge : Charge) (rule : Rule) (account : Account) (f : Arrival) (later : List Arrival)
@@ -20,7 +12,7 @@ one_passed : (charge : Charge) (rule : Rule) (account : Account) (f : Arrival) (
     ≡ price charge rule f + cost charge rule
     (passed charge rule (paid (filled rule account f.at) (price charge rule f)) later)
 one_passed charge rule account f later can =
-    let t = yes _ _ can in
+    let t = le-leb _ _ can in
     rw t (sum_by-cons (price charge rule) f
     (passed charge rule (paid (filled rule account f.at) (price charge rule f)) later))
 
@@ -29,17 +21,13 @@ one_dropped : (charge : Charge) (rule : Rule) (account : Account) (f : Arrival) 
     → (filled rule account f.at).credit < price charge rule f
     → cost charge rule (passed charge rule account (f ∷ later))
     ≡ cost charge rule (passed charge rule (filled rule account f.at) later)
-one_dropped charge rule account f later cannot = let t = no _ _ cannot in rw t refl
-
--- a product over a sum
-spread : (l a b : ℕ) → l * (a + b) ≡ l * a + l * b
-spread l a b = omega arith
+one_dropped charge rule account f later cannot = let t = lt-leb _ _ cannot in rw t refl
 
 -- what fills from one moment to a third, by one between them
 filled_over : (l since now end : ℕ) → since ≤ now → now ≤ end → l * (now - since) + l * (end - now) ≡ l * (end - since)
 filled_over l since now end first second =
     let parts : (now - since) + (end - now) ≡ end - since = omega arith in
-    sym (spread l (now - since) (end - now)) ∙ ap (λ (n : ℕ). l * n) parts
+    sym (mul-add l (now - since) (end - now)) ∙ ap (λ (n : ℕ). l * n) parts
 
 -- the last moment isn't before the first
 in_order : (start end : ℕ) (frames : List Arrival) → AreBetween start end frames → start ≤ end
@@ -56,7 +44,7 @@ spent charge rule credit start end (f ∷ later) between =
     let now : Account = filled rule account f.at in
     let order = in_order f.at end later between.1 in
     let whole = filled_over rule.lmax start f.at end between.0 order in
-    let most : now.credit ≤ credit + rule.lmax * (f.at - start) = min_right (limit rule) (credit + rule.lmax * (f.at - start)) in
+    let most : now.credit ≤ credit + rule.lmax * (f.at - start) = min-le_right (limit rule) (credit + rule.lmax * (f.at - start)) in
     elim (cases_lt now.credit (price charge rule f)) [
       | inl cannot ↦
           let rest = spent charge rule now.credit f.at end later between.1 in
@@ -67,13 +55,10 @@ spent charge rule credit start end (f ∷ later) between =
           let same = one_passed charge rule account f later can in
           omega arith
     ]
-  where
-    min_right : (a b : ℕ) → min a b ≤ b
-    min_right a b = omega arith
 
 -- the law
 pub no_more_passes_holds : NoMorePasses
 no_more_passes_holds charge rule credit start end frames small between =
     let all = spent charge rule credit start end frames between in
-    let whole = spread rule.lmax (rule.gap + rule.jitter) (end - start) in
+    let whole = mul-add rule.lmax (rule.gap + rule.jitter) (end - start) in
     omega arith

@@ -5,19 +5,16 @@ use Rattle.afdx_frame.specs.declared.net.Net.{Net}
 use Rattle.afdx_frame.specs.declared.net.Net.TheVariants.{A, B}
 use Rattle.afdx_laws.specs.Receiver.{carried, IsNear}
 use Rattle.afdx_laws.specs.Skew.{IsDelivered}
+use Rattle.afdx_laws.proofs.ListLemmas.{cons_parts}
 use Rattle.afdx_laws.proofs.WorkedMessage.{few_are_near}
 use Rattle.afdx_laws.specs.WorkedSkew.{released_at, arrival_of, both_copies, ComesInTime}
-
--- the parts of two lists that are the same
-heads : {X : Type 0} {x y : X} {xs ys : List X} → x ∷ xs ≡ y ∷ ys → (x ≡ y) × (xs ≡ ys)
-heads e = (cc, cc)
 
 -- each copy comes in time
 both_delivered : IsDelivered 400 released_at arrival_of both_copies
 both_delivered [] after net frame is = (omega arith, omega arith)
 both_delivered (x ∷ []) after net frame is =
-    let first = heads is in
-    let second = heads first.1 in
+    let first = cons_parts is in
+    let second = cons_parts first.1 in
     let from_b : B ≡ net = ap (λ (e : Net × List ℕ). e.0) second.0 in
     let none : length (carried net (x ∷ [])) ≡ 0 =
     ap (λ (n : Net). length (carried n (x ∷ []))) (sym from_b)

@@ -1,9 +1,8 @@
 -- A stream that has one more frame.
-use Rattle.std.proofs.Common.{ℕ, ◌≡◌, ◌≢◌, zero, suc, ◌+◌, ◌-◌, ◌≤◌, ◌<◌, List, [], ◌∷◌, ◌++◌, nat_eq, true, cond, length, map, get_or, arith, refl, ap, ◌∙◌, Option, Some, None}
+use Rattle.std.proofs.Common.{ℕ, ◌≡◌, ◌≢◌, ◌+◌, ◌-◌, ◌≤◌, List, [], ◌∷◌, ◌++◌, true, cond, length, arith, refl, ap, ◌∙◌, Option, Some, None}
 use Rattle.std.proofs.lemmas.List.{append-nil}
-use Rattle.std.proofs.lemmas.List.Elements.{filter-append, All-tail}
 use Rattle.std.proofs.lemmas.Bool.{leb-true, eq-eqb, ne_eqb}
-use Rattle.std.specs.Prelude.{All}
+use Rattle.afdx_legal.proofs.StreamLemmas.{with_append}
 use Rattle.afdx_plan.specs.Numbers.{sequence_number}
 use Rattle.redundant_mux.specs.Entry.{Entry}
 use Rattle.vl_shaper.specs.declared.shaper.Stamp.{Stamp}
@@ -33,11 +32,6 @@ pub due_apart : (gap : ℕ) (last : Option Stamp) (now : ℕ) → IsLater last n
 due_apart gap None now l d = tt
 due_apart gap (Some last) now l d = let k : gap ≤ now - last.at = leb-true _ _ d in omega arith
 
--- those of two lists
-pub with_append : {F : Type 0} (read : F → ℕ) (n : ℕ) (xs ys : List F)
-    → those_with read n (xs ++ ys) ≡ those_with read n xs ++ those_with read n ys
-with_append {F = F} read n xs ys = filter-append (λ (x : F). nat_eq (read x) n) xs ys
-
 -- one of them that comes last stays last
 pub with_push_in : {F : Type 0} (read : F → ℕ) (n : ℕ) (xs : List F) (x : F) → read x ≡ n
     → those_with read n (xs ++ x ∷ []) ≡ those_with read n xs ++ x ∷ []
@@ -49,18 +43,3 @@ pub with_push_out : {F : Type 0} (read : F → ℕ) (n : ℕ) (xs : List F) (x :
     → those_with read n (xs ++ x ∷ []) ≡ those_with read n xs
 with_push_out read n xs x isnt = with_append read n xs (x ∷ [])
     ∙ ap (λ b. those_with read n xs ++ cond b (x ∷ []) []) (ne_eqb (read x) n isnt) ∙ append-nil (those_with read n xs)
-
--- the sequence number at a place
-pub numbered_at : {F : Type 0} (number : F → ℕ) (start : ℕ) (xs : List F) → IsNumbered number start xs → (i : ℕ) (spare : F)
-    → i < length xs → number (get_or xs i spare) ≡ sequence_number (start + i)
-numbered_at number start [] numbered i spare inside = absurd (omega arith)
-numbered_at number start (x ∷ xs) numbered zero spare inside = numbered.0 ∙ ap sequence_number (omega arith)
-numbered_at number start (x ∷ xs) numbered (suc i) spare inside =
-    numbered_at number (start + 1) xs numbered.1 i spare (omega arith) ∙ ap sequence_number (omega arith)
-
--- what has the same numbers is numbered alike
-pub numbered_map : {X Y : Type 0} (of_x : X → ℕ) (of_y : Y → ℕ) (f : X → Y) (start : ℕ) (xs : List X)
-    → All (λ x. of_y (f x) ≡ of_x x) xs → IsNumbered of_x start xs → IsNumbered of_y start (map f xs)
-numbered_map of_x of_y f start [] same numbered = tt
-numbered_map of_x of_y f start (x ∷ xs) same numbered =
-    (same 0 x (omega arith) ∙ numbered.0, numbered_map of_x of_y f (start + 1) xs (All-tail (λ z. of_y (f z) ≡ of_x z) x xs same) numbered.1)

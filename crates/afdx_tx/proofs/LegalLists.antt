@@ -17,7 +17,7 @@ use Rattle.redundant_mux.specs.Lines.{Lines, side, log, Keeps, Mirrors, IsMirror
 use Rattle.vl_shaper.specs.declared.shaper.Stamp.{Stamp}
 use Rattle.afdx_legal.specs.Streams.{link_stream, sub_stream, told, told_of, stamp_of, entry_number, IsNumbered, IsSpaced, IsPrefixOf}
 use Rattle.afdx_legal.specs.Legal.{Accepted, AreKnown, IsLegalOn, AreTwins, IsLegal}
-use Rattle.afdx_legal.proofs.LongerStream.{with_append}
+use Rattle.afdx_legal.proofs.StreamLemmas.{with_append, with_map}
 use Rattle.redundant_mux.proofs.MirroredLines.{all_of, sides}
 
 -- the entries of a list have whole frames
@@ -39,20 +39,6 @@ filter_long p (e ∷ es) h = keep (p e) (filter_long p es h.1)
     keep true rest = (h.0, rest)
     keep false rest = rest
 
--- one entry that is kept or left, before and after it was turned
-filter_both : (net : Net) (b : Bool) (e : Entry) (xs ys : List Entry) → xs ≡ map (side net) ys
-    → cond b (side net e ∷ xs) xs ≡ map (side net) (cond b (e ∷ ys) ys)
-filter_both net true e xs ys h = ap (λ x. side net e ∷ x) h
-filter_both net false e xs ys h = h
-
--- a test that twins pass alike
-filter_side : (net : Net) (p : Entry → Bool) → ((e : Entry) → p (side net e) ≡ p e) → (H : List Entry)
-    → filter p (map (side net) H) ≡ map (side net) (filter p H)
-filter_side net p h [] = refl
-filter_side net p h (e ∷ es) =
-    ap (λ b. cond b (side net e ∷ filter p (map (side net) es)) (filter p (map (side net) es))) (h e)
-    ∙ filter_both net (p e) e (filter p (map (side net) es)) (filter p es) (filter_side net p h es)
-
 -- a link's entries in two lists
 link_append : (vl : ℕ) (xs ys : List Entry) → link_stream vl (xs ++ ys) ≡ link_stream vl xs ++ link_stream vl ys
 link_append vl xs ys = with_append (λ (e : Entry). link_in e.frame) vl xs ys
@@ -60,11 +46,11 @@ link_append vl xs ys = with_append (λ (e : Entry). link_in e.frame) vl xs ys
 -- the stream of a link, turned to a network
 link_side : (net : Net) (vl : ℕ) (H : List Entry)
     → link_stream vl (map (side net) H) ≡ map (side net) (link_stream vl H)
-link_side net vl H = filter_side net (λ e. eqb (link_in e.frame) vl) (λ e. ap (λ l. eqb l vl) (twin_link net e.frame)) H
+link_side net vl H = with_map _ (λ (e : Entry). link_in e.frame) (side net) vl (λ e. twin_link net e.frame) H
 
 -- the stream of a sub-VL, turned to a network
 sub_side : (net : Net) (s : ℕ) (H : List Entry) → sub_stream s (map (side net) H) ≡ map (side net) (sub_stream s H)
-sub_side net s H = filter_side net (λ e. eqb (sub_in e.frame) s) (λ e. ap (λ l. eqb l s) (twin_sub net e.frame)) H
+sub_side net s H = with_map _ (λ (e : Entry). sub_in e.frame) (side net) s (λ e. twin_sub net e.frame) H
 
 -- the fragments that a stream shows, turned to a network
 told_side : (net : Net) (T : List Entry) → told (map (side net) T) ≡ map (twin_of net) (told T)
