@@ -1,5 +1,5 @@
 -- Frames of two networks come as a receiver needs them.
-use Rattle.std.proofs.Common.{◌≡◌, ℕ, suc, ◌+◌, ◌<◌, inl, inr, max, List, [], ◌∷◌, ◌++◌, length, map, take, drop, get_or, refl, ap, sym, ◌∙◌, arith}
+use Rattle.std.proofs.Common.{◌≡◌, ℕ, suc, ◌+◌, ◌≤◌, ◌<◌, inl, inr, max, List, [], ◌∷◌, ◌++◌, length, map, take, drop, get_or, refl, ap, sym, ◌∙◌, arith}
 use Rattle.std.specs.Prelude.{All}
 use Rattle.std.proofs.lemmas.Bool.{cases_lt}
 use Rattle.std.proofs.lemmas.List.{append_assoc, drop_more, drop_all, get_or-map, length-map, set-set}
@@ -9,7 +9,7 @@ use Rattle.afdx_frame.specs.declared.net.Net.TheVariants.{A, B}
 use Rattle.afdx_legal.specs.Streams.{IsNumbered, IsPrefixOf}
 use Rattle.afdx_legal.proofs.StreamLemmas.{numbered_at}
 use Rattle.afdx_laws.proofs.ListLemmas.{cons_parts, nil_isnt_cons}
-use Rattle.afdx_laws.specs.Receiver.{carried, carried_by, IsNear}
+use Rattle.afdx_laws.specs.Receiver.{other, carried, carried_by, IsNear}
 use Rattle.afdx_frame.specs.Frame.{interface_byte}
 use Rattle.afdx_frame.specs.Twin.{twin_of}
 use Rattle.afdx_frame.specs.Header.{number_in}
@@ -61,6 +61,23 @@ placed net stream i frame long numbered inside is =
           ∙ sym (get_or-map (twin_of A) stream i [] (twin_of A frame) within),
     )
 
+-- a frame that comes is in its place and near to the other network, and the rest of its network's follows
+one_comes : (net : Net) (stream : List (List ℕ)) (lag i j : ℕ) (arrivals es before : List (Net × List ℕ)) (frame : List ℕ)
+    → All IsLong stream → IsNumbered number_in 0 stream → IsNear lag arrivals
+    → arrivals ≡ before ++ (net, frame) ∷ es → i ≡ length (carried net before) → j ≡ length (carried (other net) before)
+    → IsPrefixOf (frame ∷ carried net es) (drop i (map (twin_of net) stream))
+    → IsPlaced number_in (twin_of A) (map (twin_of A) stream) i frame × (j ≤ i + lag)
+    × IsPrefixOf (carried net es) (drop (suc i) (map (twin_of net) stream))
+    × (arrivals ≡ (before ++ (net, frame) ∷ []) ++ es)
+one_comes net stream lag i j arrivals es before frame long numbered near whole mine others p =
+    let first = first_of_rest (map (twin_of net) stream) i frame (carried net es ++ p.0) p.1 in
+    let close = near before es net frame whole in (
+      placed net stream i frame long numbered first.0 first.1,
+      omega arith,
+      (p.0, first.2),
+      whole ∙ sym (append_assoc before ((net, frame) ∷ []) es),
+    )
+
 -- what two networks carry comes as the receiver needs it
 comes : (stream : List (List ℕ)) (lag : ℕ) (arrivals : List (Net × List ℕ)) (rest before : List (Net × List ℕ))
     (a b : ℕ)
@@ -71,25 +88,19 @@ comes : (stream : List (List ℕ)) (lag : ℕ) (arrivals : List (Net × List ℕ
     → Comes number_in (twin_of A) (map (twin_of A) stream) lag a b rest
 comes stream lag arrivals [] before a b long numbered near whole na nb pa pb = tt
 comes stream lag arrivals ((A, frame) ∷ es) before a b long numbered near whole na nb pa pb =
-    let first = first_of_rest (map (twin_of A) stream) a frame (carried A es ++ pa.0) pa.1 in
-    let close = near before es A frame whole in
+    let one = one_comes A stream lag a b arrivals es before frame long numbered near whole na nb pa in
     let ca = count_more A before (A, frame) in
-    let cb = count_more B before (A, frame) in (
-      placed A stream a frame long numbered first.0 first.1,
-      omega arith,
-      comes stream lag arrivals es (before ++ (A, frame) ∷ []) (suc a) b long numbered near
-          (whole ∙ sym (append_assoc before ((A, frame) ∷ []) es)) (omega arith) (omega arith) (pa.0, first.2) pb,
-    )
+    let cb = count_more B before (A, frame) in
+    let next = comes stream lag arrivals es (before ++ (A, frame) ∷ []) (suc a) b long numbered near one.3
+    (omega arith) (omega arith) one.2 pb in
+    (one.0, one.1, next)
 comes stream lag arrivals ((B, frame) ∷ es) before a b long numbered near whole na nb pa pb =
-    let first = first_of_rest (map (twin_of B) stream) b frame (carried B es ++ pb.0) pb.1 in
-    let close = near before es B frame whole in
+    let one = one_comes B stream lag b a arrivals es before frame long numbered near whole nb na pb in
     let ca = count_more A before (B, frame) in
-    let cb = count_more B before (B, frame) in (
-      placed B stream b frame long numbered first.0 first.1,
-      omega arith,
-      comes stream lag arrivals es (before ++ (B, frame) ∷ []) a (suc b) long numbered near
-          (whole ∙ sym (append_assoc before ((B, frame) ∷ []) es)) (omega arith) (omega arith) pa (pb.0, first.2),
-    )
+    let cb = count_more B before (B, frame) in
+    let next = comes stream lag arrivals es (before ++ (B, frame) ∷ []) a (suc b) long numbered near one.3
+    (omega arith) (omega arith) pa one.2 in
+    (one.0, one.1, next)
 
 -- the law
 pub exactly_once_holds : ExactlyOnce

@@ -10,6 +10,7 @@ use Rattle.afdx_frame.specs.Fragments.{Sent}
 use Rattle.afdx_frame.specs.Header.{number_in}
 use Rattle.afdx_laws.specs.Receiver.{Tolerance, IsFitFor, begin, received}
 use Rattle.afdx_laws.specs.Networks.{most_carried}
+use Rattle.afdx_laws.specs.Loss.{next_alone}
 use Rattle.afdx_laws.specs.Messages.{messages_in, AreFirst}
 use Rattle.afdx_laws.specs.Handed.{AreHanded, AreCarriedOf, longer}
 
@@ -43,7 +44,7 @@ four_arrivals = (A, front_frame A)
 
 -- the next number alone is new
 abbrev pub plain_receiver : Tolerance
-plain_receiver = record { check = 1; window = 1 }
+plain_receiver = next_alone 1
 
 -- They meet what the laws of delivery ask for, the receiver accepts A's first frame and B's second,
 -- and has the message.

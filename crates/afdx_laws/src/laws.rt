@@ -177,7 +177,7 @@ pub fn handed_despite_loss()
 /// messages are the first accepted ones, each once and in order, and among them all whose fragments
 /// one network carried.
 ///
-/// What the emitter hands over is legal (`afdx_tx`, `IsLegal`): with that, this says what the calls of
+/// What the emitter hands over is legal (`afdx_legal`, `IsLegal`): with that, this says what the calls of
 /// the emitter mean at the receiving end. That each network carries a beginning of a link's frames and
 /// that the two are near are premises, and that accepted messages are such as `Emitter::send` accepts.
 /// It doesn't say when a message comes.
