@@ -16,7 +16,7 @@ use Rattle.afdx_legal.proofs.StreamLemmas.{with_map, numbered_map}
 use Rattle.afdx_laws.specs.Receiver.{begin, received, carried}
 use Rattle.afdx_laws.specs.Networks.{IsLong, IsStream, AreCarried, most_carried}
 use Rattle.afdx_laws.specs.Messages.{messages_in, IsSending, AreFirst}
-use Rattle.afdx_laws.specs.Handed.{IsOwn, AreHanded, AreCarriedOf, longer, HandedArrive}
+use Rattle.afdx_laws.specs.Handed.{IsOfNet, AreHanded, AreCarriedOf, longer, HandedArrive}
 use Rattle.afdx_laws.proofs.Arriving.{messages_arrive_holds}
 
 -- a beginning of a beginning
@@ -36,7 +36,7 @@ prefix_of_take net n xs = (
 )
 
 -- a network's own frames are their twins for it
-pub own_twins : (net : Net) (xs : List (List ℕ)) → All (IsOwn net) xs → map (twin_of net) xs ≡ xs
+pub own_twins : (net : Net) (xs : List (List ℕ)) → All (IsOfNet net) xs → map (twin_of net) xs ≡ xs
 own_twins net [] all = refl
 own_twins net (x ∷ xs) all = ap (λ (y : List ℕ). y ∷ map (twin_of net) xs) (all 0 x (omega arith))
     ∙ ap (λ (ys : List (List ℕ)). x ∷ ys) (own_twins net xs (λ k d h. all (suc k) d (omega arith)))
@@ -89,7 +89,7 @@ turned end_system room sub accepted b p = (
 
 -- what both networks carried of the longer list, as network A has it, where that is B's
 carried_of_b : (lag : ℕ) (a b : List (List ℕ)) (arrivals : List (Net × List ℕ)) → length a < length b
-    → All (IsOwn B) b → AreTwins twin_of a b → AreCarriedOf lag a b arrivals → AreCarried lag (map (twin_of A) b) arrivals
+    → All (IsOfNet B) b → AreTwins twin_of a b → AreCarriedOf lag a b arrivals → AreCarried lag (map (twin_of A) b) arrivals
 carried_of_b lag a b arrivals shorter own twins carry = record {
   on_a = prefix_trans (carried A arrivals) a (map (twin_of A) (map (twin_of A) b)) carry.on_a
       (prefix_same a (map (twin_of A) b) (map (twin_of A) (map (twin_of A) b)) (sym (twin_twin A A b))
@@ -102,7 +102,7 @@ carried_of_b lag a b arrivals shorter own twins carry = record {
 
 -- and where it is A's
 carried_of_a : (lag : ℕ) (a b : List (List ℕ)) (arrivals : List (Net × List ℕ)) → length b ≤ length a
-    → All (IsOwn A) a → AreTwins twin_of a b → AreCarriedOf lag a b arrivals → AreCarried lag a arrivals
+    → All (IsOfNet A) a → AreTwins twin_of a b → AreCarriedOf lag a b arrivals → AreCarried lag a arrivals
 carried_of_a lag a b arrivals as_long own twins carry = record {
   on_a = prefix_same (carried A arrivals) a (map (twin_of A) a) (sym (own_twins A a own)) carry.on_a;
   on_b = prefix_trans (carried B arrivals) b (map (twin_of B) a) carry.on_b

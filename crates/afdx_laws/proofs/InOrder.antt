@@ -101,7 +101,7 @@ nothing_yet : (b : Buffer) → b.total ≡ None → datagram_in b ≡ None
 nothing_yet b none = ap (bytes_to b.byte_at) none
 
 -- what is delivered from a place on, where some fragments of a datagram came already
-pub record Delivers (room sub place : ℕ) (buffers : ℕ → Buffer) (came : List (ℕ × Fragment))
+pub record DeliversFrom (room sub place : ℕ) (buffers : ℕ → Buffer) (came : List (ℕ × Fragment))
     (now : List (ℕ × Fragment)) (d : List ℕ) (later : List (List ℕ)) : Type 0 where
   pub many : ℕ
   pub are : map (λ (e : ℕ × List ℕ). e.1) (delivered buffers came) ≡ take many (d ∷ later)
@@ -127,8 +127,8 @@ step_some buffers key f es b d is some =
     ∙ ap (λ (o : Option (List ℕ)). given key o (delivered (with_buffer key (kept_in b o) buffers) es)) some
 
 -- what a state keeps: this datagram's buffer holds what came of it, each other buffer is empty
-abbrev Holds : ℕ → ℕ → (ℕ → Buffer) → List Fragment → Type 0
-Holds sub key buffers done = (buffers key ≡ put_all empty done)
+abbrev HoldsSoFar : ℕ → ℕ → (ℕ → Buffer) → List Fragment → Type 0
+HoldsSoFar sub key buffers done = (buffers key ≡ put_all empty done)
     × ((k : ℕ) → k % 4 ≡ sub → (k ≡ key → ⊥) → buffers k ≡ empty)
 
 -- the buffer that was changed
@@ -185,9 +185,9 @@ goes : (came : List (ℕ × Fragment)) (room sub place : ℕ) (buffers : ℕ →
     (f : Fragment) (todo : List Fragment) (d : List ℕ) (later : List (List ℕ)) (rest : List (ℕ × Fragment))
     → 8 ≤ room → sub < 4 → All (λ (x : List ℕ). 1 ≤ length x) (d ∷ later)
     → fragments_of room d ≡ done ++ f ∷ todo → IsBlock (f ∷ todo)
-    → (buffers (identification place sub)).total ≡ None → Holds sub (identification place sub) buffers done
+    → (buffers (identification place sub)).total ≡ None → HoldsSoFar sub (identification place sub) buffers done
     → keyed (identification place sub) (f ∷ todo) ++ sent_from room sub (suc place) later ≡ came ++ rest
-    → Delivers room sub place buffers came (keyed (identification place sub) (f ∷ todo)) d later
+    → DeliversFrom room sub place buffers came (keyed (identification place sub) (f ∷ todo)) d later
 goes [] room sub place buffers done f todo d later rest least small some split block none holds is = record {
   many = 0;
   are = refl;

@@ -23,7 +23,7 @@ use Rattle.afdx_laws.proofs.Sizes.{IsShort, short_messages}
 use Rattle.afdx_laws.proofs.Spaced.{stream_passes_holds}
 
 -- an entry of one of so many sub-VLs, with a frame that has all fields
-record IsWithin (subs : ℕ) (e : Entry) : Type 0 where
+record IsOfSubs (subs : ℕ) (e : Entry) : Type 0 where
   long : IsLong e.frame
   of_sub : sub_in e.frame < subs
 
@@ -33,7 +33,7 @@ same_id x y e = ap (λ (n : ℕ). record { 0 = n }) e
 
 -- a known entry of a link is of one of its sub-VLs
 known_within : (plan : Plan) (net : Net) (k : ℕ) (e : Entry) → IsPlan plan → k < length plan.links
-    → IsKnown plan.links net e.frame → nat_eq (link_in e.frame) (id_at plan k) ≡ true → IsWithin (link_plan_at plan.links k).sub_vls e
+    → IsKnown plan.links net e.frame → nat_eq (link_in e.frame) (id_at plan k) ≡ true → IsOfSubs (link_plan_at plan.links k).sub_vls e
 known_within plan net k e valid inside known on =
     let number : link_in e.frame ≡ id_at plan k = eqb-true (link_in e.frame) (id_at plan k) on in
     let at : known.k ≡ k = valid.links_apart known.k k known.within inside
@@ -45,20 +45,20 @@ known_within plan net k e valid inside known on =
 
 -- so are all of its stream
 stream_within : (plan : Plan) (net : Net) (k : ℕ) (es : List Entry) → IsPlan plan → k < length plan.links
-    → AreKnown plan.links net es → All (IsWithin (link_plan_at plan.links k).sub_vls) (link_stream (id_at plan k) es)
-stream_within plan net k [] valid inside known = All-nil (IsWithin (link_plan_at plan.links k).sub_vls)
+    → AreKnown plan.links net es → All (IsOfSubs (link_plan_at plan.links k).sub_vls) (link_stream (id_at plan k) es)
+stream_within plan net k [] valid inside known = All-nil (IsOfSubs (link_plan_at plan.links k).sub_vls)
 stream_within plan net k (e ∷ es) valid inside known =
     let subs : ℕ = (link_plan_at plan.links k).sub_vls in
     let later : List Entry = link_stream (id_at plan k) es in
-    let rest : All (IsWithin subs) later = stream_within plan net k es valid inside known.1 in
+    let rest : All (IsOfSubs subs) later = stream_within plan net k es valid inside known.1 in
     elim (cases_Bool (nat_eq (link_in e.frame) (id_at plan k))) [
-      | inl on ↦ subst (λ (t : Bool). All (IsWithin subs) (cond t (e ∷ later) later)) (sym on)
-          (All-cons (IsWithin subs) e later (known_within plan net k e valid inside known.0 on) rest)
-      | inr off ↦ subst (λ (t : Bool). All (IsWithin subs) (cond t (e ∷ later) later)) (sym off) rest
+      | inl on ↦ subst (λ (t : Bool). All (IsOfSubs subs) (cond t (e ∷ later) later)) (sym on)
+          (All-cons (IsOfSubs subs) e later (known_within plan net k e valid inside known.0 on) rest)
+      | inr off ↦ subst (λ (t : Bool). All (IsOfSubs subs) (cond t (e ∷ later) later)) (sym off) rest
     ]
 
 -- what holds of each fragment of each sub-VL holds of each entry
-by_subs : (P : List ℕ → Type 0) (subs : ℕ) (es : List Entry) → All (IsWithin subs) es
+by_subs : (P : List ℕ → Type 0) (subs : ℕ) (es : List Entry) → All (IsOfSubs subs) es
     → ((sub : ℕ) → sub < subs → All P (told (sub_stream sub es)))
     → All (λ (e : Entry). P (blanked e.frame)) es
 by_subs P subs [] within each = All-nil (λ (e : Entry). P (blanked e.frame))
@@ -69,7 +69,7 @@ by_subs P subs (e ∷ es) within each =
     subst (λ (t : Bool). All P (told (cond t (e ∷ sub_stream (sub_in e.frame) es) (sub_stream (sub_in e.frame) es)))) own
     (each (sub_in e.frame) first.of_sub) in
     All-cons (λ (d : Entry). P (blanked d.frame)) e es (mine 0 (blanked e.frame) (omega arith))
-    (by_subs P subs es (All-tail (IsWithin subs) e es within) (λ sub below. behind (nat_eq (sub_in e.frame) sub) sub (each sub below)))
+    (by_subs P subs es (All-tail (IsOfSubs subs) e es within) (λ sub below. behind (nat_eq (sub_in e.frame) sub) sub (each sub below)))
   where
     behind : (t : Bool) (sub : ℕ) → All P (told (cond t (e ∷ sub_stream sub es) (sub_stream sub es))) → All P (told (sub_stream sub es))
     behind true sub all = All-tail P (blanked e.frame) (told (sub_stream sub es)) all
@@ -88,7 +88,7 @@ short_told plan accepted net handed k sub valid legal inside index allowed =
     (All-weaker (IsAllowed plan sub) (IsSent sub) (λ sent is. sent_is plan sub sent valid is) (accepted k sub) allowed))
 
 -- a link's frames are no greater than its greatest
-small_of : (lmax subs : ℕ) (es : List Entry) → All (IsWithin subs) es
+small_of : (lmax subs : ℕ) (es : List Entry) → All (IsOfSubs subs) es
     → All (λ (e : Entry). IsShort lmax (blanked e.frame)) es → All (IsUpTo lmax) es
 small_of lmax subs [] within short = All-nil (IsUpTo lmax)
 small_of lmax subs (e ∷ es) within short =
@@ -96,7 +96,7 @@ small_of lmax subs (e ∷ es) within short =
     let cut = length-take (length e.frame - 1) e.frame in
     let mine = short 0 e (omega arith) in
     All-cons (IsUpTo lmax) e es (omega arith)
-    (small_of lmax subs es (All-tail (IsWithin subs) e es within)
+    (small_of lmax subs es (All-tail (IsOfSubs subs) e es within)
     (All-tail (λ (d : Entry). IsShort lmax (blanked d.frame)) e es short))
 
 -- the law

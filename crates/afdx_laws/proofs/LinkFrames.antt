@@ -18,7 +18,7 @@ use Rattle.afdx_legal.specs.Streams.{those_with, link_stream, sub_stream, told, 
 use Rattle.afdx_legal.specs.Legal.{IsKnown, AreKnown, AreTwins}
 use Rattle.afdx_legal.proofs.StreamLemmas.{with_append, with_map, numbered_map}
 use Rattle.afdx_laws.specs.Networks.{IsLong}
-use Rattle.afdx_laws.specs.Handed.{IsOwn}
+use Rattle.afdx_laws.specs.Handed.{IsOfNet}
 use Rattle.afdx_laws.specs.Plans.{frames_of}
 use Rattle.afdx_laws.proofs.HandedOver.{own_twins, twin_twin}
 
@@ -48,8 +48,8 @@ long_of links net vl es known = of_known IsLong links net vl es (λ frame is. is
 
 -- they are the network's own
 pub own_of : (links : List LinkPlan) (net : Net) (vl : ℕ) (es : List Entry) → AreKnown links net es
-    → All (IsOwn net) (frames_of vl es)
-own_of links net vl es known = of_known (IsOwn net) links net vl es (λ frame is. twin_same net frame is.interface) known
+    → All (IsOfNet net) (frames_of vl es)
+own_of links net vl es known = of_known (IsOfNet net) links net vl es (λ frame is. twin_same net frame is.interface) known
 
 -- and numbered as its entries are
 pub numbered_of : (es : List Entry) → IsNumbered entry_number 0 es → IsNumbered number_in 0 (map frame_of_entry es)
@@ -95,7 +95,7 @@ frames_front net vl longer shorter is =
     ∙ ap (λ (m : ℕ). take m (frames_of vl longer)) count)
 
 -- where twins of the first of a network's own frames are as many, these are their twins in turn
-turned_back : (first second : Net) (xs ys : List (List ℕ)) → All (IsOwn first) xs
+turned_back : (first second : Net) (xs ys : List (List ℕ)) → All (IsOfNet first) xs
     → ys ≡ map (twin_of second) (take (length ys) xs) → length xs ≤ length ys
     → xs ≡ map (twin_of first) (take (length xs) ys)
 turned_back first second xs ys own is as_long =
@@ -107,9 +107,9 @@ turned_back first second xs ys own is as_long =
     ∙ twin_twin second first xs ∙ own_twins first xs own)
 
 -- so the shorter list is twins of the longer one's beginning, whichever that is
-pub twins_by_b : (xs ys : List (List ℕ)) → All (IsOwn A) xs → ys ≡ map (twin_of B) (take (length ys) xs) → AreTwins twin_of xs ys
+pub twins_by_b : (xs ys : List (List ℕ)) → All (IsOfNet A) xs → ys ≡ map (twin_of B) (take (length ys) xs) → AreTwins twin_of xs ys
 twins_by_b xs ys own is = record { b_shorter = λ h. is; a_shorter = λ h. turned_back A B xs ys own is h }
 
 -- and the other way round
-pub twins_by_a : (xs ys : List (List ℕ)) → All (IsOwn B) ys → xs ≡ map (twin_of A) (take (length xs) ys) → AreTwins twin_of xs ys
+pub twins_by_a : (xs ys : List (List ℕ)) → All (IsOfNet B) ys → xs ≡ map (twin_of A) (take (length xs) ys) → AreTwins twin_of xs ys
 twins_by_a xs ys own is = record { b_shorter = λ h. turned_back B A ys xs own is h; a_shorter = λ h. is }

@@ -6,7 +6,7 @@ use Rattle.afdx_frame.specs.Checksum.{checksum}
 use Rattle.afdx_frame.specs.Frame.{addresses, header_front, internet_header, link_header, udp_header, datagram, unnumbered}
 use Rattle.afdx_laws.specs.Loss.{AreClose}
 use Rattle.afdx_laws.specs.WorkedDelivery.{bytes_41, both_frames}
-use Rattle.afdx_laws.specs.WorkedLoss.{second_lost, only_lost, messages_of, longer_frames, longer_of_plan, ComesDespiteLoss, HandedDespiteOneLoss, LegalDespiteOneLoss}
+use Rattle.afdx_laws.specs.WorkedLoss.{second_lost, only_lost, messages_despite, longer_frames, longer_of_plan, ComesDespiteLoss, HandedDespiteOneLoss, LegalDespiteOneLoss}
 use Rattle.afdx_laws.proofs.WorkedDemo.{one_is_legal}
 use Rattle.afdx_laws.proofs.WorkedMessage.{both_handed}
 use Rattle.afdx_laws.proofs.HandedOver.{sending_a}
@@ -37,7 +37,7 @@ second_is_close = (
 )
 
 -- the message of a stream
-stream_message : messages_of (both_frames A) second_lost ≡ bytes_41 ∷ []
+stream_message : messages_despite (both_frames A) second_lost ≡ bytes_41 ∷ []
 unfolding checksum addresses header_front internet_header link_header udp_header datagram unnumbered
 stream_message = refl
 
@@ -51,7 +51,7 @@ comes_despite_loss = record {
 }
 
 -- the message of what was handed over
-handed_message : messages_of longer_frames second_lost ≡ bytes_41 ∷ []
+handed_message : messages_despite longer_frames second_lost ≡ bytes_41 ∷ []
 unfolding checksum addresses header_front internet_header link_header udp_header datagram unnumbered
 handed_message = refl
 
@@ -76,7 +76,7 @@ only_is_close =
     (omega arith, omega arith, omega arith, (λ h. refl), (λ h. refl), tt)
 
 -- the message of a plan
-plan_message : messages_of longer_of_plan only_lost ≡ (1 ∷ []) ∷ []
+plan_message : messages_despite longer_of_plan only_lost ≡ (1 ∷ []) ∷ []
 unfolding checksum addresses header_front internet_header link_header udp_header datagram unnumbered
 plan_message = refl
 

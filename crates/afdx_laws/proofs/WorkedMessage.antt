@@ -17,7 +17,7 @@ use Rattle.afdx_legal.specs.Legal.{AreTwins}
 use Rattle.afdx_laws.specs.Receiver.{begin, received, carried, other, IsNear}
 use Rattle.afdx_laws.specs.Networks.{IsLong, IsStream}
 use Rattle.afdx_laws.specs.Messages.{IsSent, messages_in}
-use Rattle.afdx_laws.specs.Handed.{IsOwn, IsHanded, AreHanded}
+use Rattle.afdx_laws.specs.Handed.{IsOfNet, IsHanded, AreHanded}
 use Rattle.afdx_laws.specs.WorkedDelivery.{bytes_41, one_accepted, front_frame, back_frame, both_frames, four_arrivals, plain_receiver, OneMessageArrives}
 
 -- a frame of either piece has 60 bytes
@@ -31,12 +31,12 @@ unfolding checksum addresses header_front internet_header link_header udp_header
 back_long net = refl
 
 -- each has a network's identifier
-own_front : (net : Net) → IsOwn net (front_frame net)
+own_front : (net : Net) → IsOfNet net (front_frame net)
 unfolding checksum addresses header_front internet_header link_header udp_header datagram unnumbered
 own_front net = refl
 
 -- the second too
-own_back : (net : Net) → IsOwn net (back_frame net)
+own_back : (net : Net) → IsOfNet net (back_frame net)
 unfolding checksum addresses header_front internet_header link_header udp_header datagram unnumbered
 own_back net = refl
 
@@ -63,8 +63,8 @@ stream_of net = record {
 handed_to : (net : Net) → IsHanded 1 25 0 one_accepted net (both_frames net)
 handed_to net = record {
   frames = stream_of net;
-  own = All-cons (IsOwn net) (front_frame net) (back_frame net ∷ []) (own_front net)
-      (All-cons (IsOwn net) (back_frame net) [] (own_back net) (All-nil (IsOwn net)));
+  own = All-cons (IsOfNet net) (front_frame net) (back_frame net ∷ []) (own_front net)
+      (All-cons (IsOfNet net) (back_frame net) [] (own_back net) (All-nil (IsOfNet net)));
   first = first_fragments net;
 }
 

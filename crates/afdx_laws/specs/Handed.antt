@@ -13,14 +13,14 @@ use Rattle.afdx_laws.specs.Loss.{AreClose, next_alone, frames_at}
 use Rattle.afdx_laws.specs.Messages.{messages_in, IsSent, IsLinkOf, AreFirst}
 
 -- a frame has a network's interface identifier
-abbrev pub IsOwn : Net → List ℕ → Type 0
-IsOwn net frame = twin_of net frame ≡ frame
+abbrev pub IsOfNet : Net → List ℕ → Type 0
+IsOfNet net frame = twin_of net frame ≡ frame
 
 -- a link's frames as they were handed to a network: the network's own, numbered, and those of a
 -- sub-VL the first fragments of its accepted messages
 pub record IsHanded (end_system room sub : ℕ) (accepted : List Sent) (net : Net) (handed : List (List ℕ)) : Type 0 where
   pub frames : IsStream handed
-  pub own : All (IsOwn net) handed
+  pub own : All (IsOfNet net) handed
   pub first : IsPrefixOf (map blanked (those_with sub_in sub handed)) (fragments end_system room net accepted)
 
 -- the list of the network that was handed more

@@ -23,8 +23,8 @@ abbrev pub only_lost : List (Net × ℕ)
 only_lost = (B, 0) ∷ []
 
 -- a receiver's messages of sub-VL 0, of what comes of a stream
-abbrev pub messages_of : List (List ℕ) → List (Net × ℕ) → List (List ℕ)
-messages_of stream came = messages_in 0 (received number_in (next_alone 1) begin (frames_at stream came))
+abbrev pub messages_despite : List (List ℕ) → List (Net × ℕ) → List (List ℕ)
+messages_despite stream came = messages_in 0 (received number_in (next_alone 1) begin (frames_at stream came))
 
 -- what was handed over of the worked delivery, the longer list
 abbrev pub longer_frames : List (List ℕ)
@@ -38,17 +38,17 @@ longer_of_plan = longer (frames_of 1 (one_entry A)) (frames_of 1 (one_entry B))
 pub record ComesDespiteLoss : Type 0 where
   pub sending : IsSending 1 25 0 one_accepted (both_frames A)
   pub close : AreClose B (length (both_frames A)) 0 0 second_lost
-  pub message : messages_of (both_frames A) second_lost ≡ bytes_41 ∷ []
+  pub message : messages_despite (both_frames A) second_lost ≡ bytes_41 ∷ []
   pub first : AreFirst 1 25 0 one_accepted (take (length (carried B second_lost)) (both_frames A))
-      (messages_of (both_frames A) second_lost)
+      (messages_despite (both_frames A) second_lost)
 
 -- So it does by what was handed to both networks.
 pub record HandedDespiteOneLoss : Type 0 where
   pub handed : AreHanded 1 25 0 one_accepted (both_frames A) (both_frames B)
   pub close : AreClose B (length longer_frames) 0 0 second_lost
-  pub message : messages_of longer_frames second_lost ≡ bytes_41 ∷ []
+  pub message : messages_despite longer_frames second_lost ≡ bytes_41 ∷ []
   pub first : AreFirst 1 25 0 one_accepted (take (length (carried B second_lost)) longer_frames)
-      (messages_of longer_frames second_lost)
+      (messages_despite longer_frames second_lost)
 
 -- And so does the one message of the worked plan.
 pub record LegalDespiteOneLoss : Type 0 where
@@ -56,6 +56,6 @@ pub record LegalDespiteOneLoss : Type 0 where
   pub legal : IsLegal demo_plan one_byte_accepted (one_entry A) (one_entry B)
   pub allowed : All (IsAllowed demo_plan 0) (one_byte_accepted 0 0)
   pub close : AreClose B (length longer_of_plan) 0 0 only_lost
-  pub message : messages_of longer_of_plan only_lost ≡ (1 ∷ []) ∷ []
+  pub message : messages_despite longer_of_plan only_lost ≡ (1 ∷ []) ∷ []
   pub first : AreFirst 1 1479 0 (one_byte_accepted 0 0)
-      (take (length (carried B only_lost)) longer_of_plan) (messages_of longer_of_plan only_lost)
+      (take (length (carried B only_lost)) longer_of_plan) (messages_despite longer_of_plan only_lost)
