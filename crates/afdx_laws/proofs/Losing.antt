@@ -11,7 +11,7 @@ use Rattle.afdx_legal.specs.Streams.{IsNumbered}
 use Rattle.afdx_laws.specs.Receiver.{Tolerance, State, begin, is_accepted, is_valid, is_ahead, received, carried, with_seen, with_accepted, seen_on}
 use Rattle.afdx_frame.specs.Header.{number_in}
 use Rattle.afdx_laws.specs.Networks.{IsLong}
-use Rattle.afdx_laws.specs.Loss.{same_net, AreClose, frame_at, one_lost, LossMasked, LossNotMasked, NumbersClash}
+use Rattle.afdx_laws.specs.Loss.{same_net, AreClose, frame_at, LossMasked, LossNotMasked, NumbersClash}
 use Rattle.afdx_laws.proofs.NumberLemmas.{last, new_next, valid_next, old_copy, old_is_ahead, next_is, differ}
 use Rattle.afdx_laws.proofs.Receiving.{IsPlaced, grows}
 use Rattle.afdx_laws.proofs.Arrivals.{placed}
@@ -242,35 +242,3 @@ numbers_clash_holds check window lag place checks opens behind apart old =
     last_is : (i : ℕ) → 1 ≤ i → last i ≡ Some (sequence_number (i - 1))
     last_is zero some = absurd (omega arith)
     last_is (suc i) some = let e : i ≡ suc i - 1 = omega arith in ap (λ (k : ℕ). Some (sequence_number k)) e
-
--- network A loses 1, and network B carries all three
-pub one_lost_is_close : AreClose B 3 0 0 one_lost
-one_lost_is_close = (
-  omega arith,
-  omega arith,
-  omega arith,
-  (λ h. refl),
-  (λ h. absurd (false≢true h)),
-  (
-    omega arith,
-    omega arith,
-    omega arith,
-    (λ h. absurd (omega arith)),
-    (λ h. absurd (false≢true h)),
-    (
-      omega arith,
-      omega arith,
-      omega arith,
-      (λ h. absurd (omega arith)),
-      (λ h. refl),
-      (
-        omega arith,
-        omega arith,
-        omega arith,
-        (λ h. absurd (omega arith)),
-        (λ h. refl),
-        (omega arith, omega arith, omega arith, (λ h. absurd (omega arith)), (λ h. refl), tt),
-      ),
-    ),
-  ),
-)

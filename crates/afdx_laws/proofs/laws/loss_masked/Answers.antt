@@ -1,4 +1,5 @@
-use Rattle.afdx_laws.proofs.Losing.{loss_masked_holds, one_lost_is_close}
+use Rattle.afdx_laws.proofs.Losing.{loss_masked_holds}
+use Rattle.afdx_laws.proofs.WorkedLosses.{one_lost_is_close}
 use Rattle.afdx_laws.proofs.laws.loss_masked.Goals as goal
 
 pub returns-clause-masked : goal.returns-clause-masked
