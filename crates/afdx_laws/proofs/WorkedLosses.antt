@@ -1,15 +1,18 @@
 -- The worked losses, by computation.
-use Rattle.std.proofs.Common.{◌≡◌, ℕ, ◌+◌, max, Bool, true, false, not, ◌&&◌, ◌||◌, nat_eq, nat_lt, nat_le, cond, List, [], ◌∷◌, length, refl, sym, subst}
+use Rattle.std.proofs.Common.{◌≡◌, ℕ, ◌+◌, max, Bool, true, false, not, ◌&&◌, ◌||◌, nat_eq, nat_lt, nat_le, cond, List, [], ◌∷◌, length, map, take, refl, sym, subst}
 use Rattle.std.proofs.lemmas.Bool.{and_parts, false≢true, eqb-true, eq-eqb, leb-true, ltb-true}
 use Rattle.afdx_frame.specs.declared.net.Net.{Net}
 use Rattle.afdx_frame.specs.declared.net.Net.TheVariants.{A, B}
 use Rattle.afdx_frame.specs.Checksum.{checksum}
 use Rattle.afdx_frame.specs.Frame.{addresses, header_front, internet_header, link_header, udp_header, datagram, unnumbered}
-use Rattle.afdx_laws.specs.Loss.{AreClose, same_net, one_lost}
+use Rattle.afdx_frame.specs.Header.{number_in}
+use Rattle.afdx_frame.specs.Twin.{twin_of}
+use Rattle.afdx_laws.specs.Receiver.{begin, received}
+use Rattle.afdx_laws.specs.Loss.{AreClose, same_net, next_alone, frames_at, one_lost}
 use Rattle.afdx_laws.specs.WorkedDelivery.{bytes_41, both_frames}
-use Rattle.afdx_laws.specs.WorkedLoss.{second_lost, only_lost, messages_despite, longer_frames, longer_of_plan, ComesDespiteLoss, HandedDespiteOneLoss, LegalDespiteOneLoss}
+use Rattle.afdx_laws.specs.WorkedLoss.{second_lost, only_lost, messages_despite, longer_frames, longer_of_plan, MasksOneLoss, ComesDespiteLoss, HandedDespiteOneLoss, LegalDespiteOneLoss}
 use Rattle.afdx_laws.proofs.WorkedDemo.{one_is_legal}
-use Rattle.afdx_laws.proofs.WorkedMessage.{both_handed}
+use Rattle.afdx_laws.proofs.WorkedMessage.{stream_of, both_handed}
 use Rattle.afdx_laws.proofs.HandedOver.{sending_a}
 
 -- what AreClose says of a run, as a test
@@ -46,12 +49,28 @@ close_by_test (e ∷ es) whole n farthest carries test =
     )
 
 -- network A loses the second of three numbers, and network B carries all
-pub one_lost_is_close : AreClose B 3 0 0 one_lost
+one_lost_is_close : AreClose B 3 0 0 one_lost
 one_lost_is_close = close_by_test one_lost B 3 0 0 refl
 
 -- the frames of a message come close to each other
 second_is_close : AreClose B 2 0 0 second_lost
 second_is_close = close_by_test second_lost B 2 0 0 refl
+
+-- both frames are accepted
+both_masked : map (twin_of A) (received number_in (next_alone 1) begin (frames_at (both_frames A) second_lost))
+    ≡ take 2 (map (twin_of A) (both_frames A))
+unfolding checksum addresses header_front internet_header link_header udp_header datagram unnumbered
+both_masked = refl
+
+-- the row of the losses
+pub masks_one_loss : MasksOneLoss
+masks_one_loss = record {
+  lost = one_lost_is_close;
+  numbers = refl;
+  stream = stream_of A;
+  close = second_is_close;
+  masked = both_masked;
+}
 
 -- the message of a stream
 stream_message : messages_despite (both_frames A) second_lost ≡ bytes_41 ∷ []

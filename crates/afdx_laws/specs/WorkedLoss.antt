@@ -1,13 +1,15 @@
 -- Worked losses: network B carries every frame, and network A doesn't.
-use Rattle.std.specs.Prelude.{◌≡◌, ℕ, List, [], ◌∷◌, length, take, All}
+use Rattle.std.specs.Prelude.{◌≡◌, ℕ, List, [], ◌∷◌, length, map, take, All}
 use Rattle.afdx_plan.specs.Config.{IsPlan}
 use Rattle.afdx_plan.specs.Demo.{demo_plan}
 use Rattle.afdx_frame.specs.declared.net.Net.{Net}
 use Rattle.afdx_frame.specs.declared.net.Net.TheVariants.{A, B}
 use Rattle.afdx_frame.specs.Header.{number_in}
+use Rattle.afdx_frame.specs.Twin.{twin_of}
 use Rattle.afdx_legal.specs.Legal.{IsLegal}
 use Rattle.afdx_laws.specs.Receiver.{begin, received, carried}
-use Rattle.afdx_laws.specs.Loss.{AreClose, next_alone, frames_at}
+use Rattle.afdx_laws.specs.Networks.{IsStream}
+use Rattle.afdx_laws.specs.Loss.{AreClose, next_alone, frames_at, one_lost}
 use Rattle.afdx_laws.specs.Messages.{messages_in, IsSending, AreFirst}
 use Rattle.afdx_laws.specs.Handed.{AreHanded, longer}
 use Rattle.afdx_laws.specs.Plans.{frames_of, IsAllowed}
@@ -33,6 +35,17 @@ longer_frames = longer (both_frames A) (both_frames B)
 -- and of the worked plan
 abbrev pub longer_of_plan : List (List ℕ)
 longer_of_plan = longer (frames_of 1 (one_entry A)) (frames_of 1 (one_entry B))
+
+-- The frames of the worked delivery meet what the law of losses asks for, and are accepted once. So are three
+-- numbers of which network A loses the second.
+pub record MasksOneLoss : Type 0 where
+  pub lost : AreClose B 3 0 0 one_lost
+  pub numbers : received (λ (n : ℕ). n) (next_alone 2) begin one_lost ≡ 0 ∷ 1 ∷ 2 ∷ []
+  pub stream : IsStream (both_frames A)
+  pub close : AreClose B (length (both_frames A)) 0 0 second_lost
+  pub masked :
+      map (twin_of A) (received number_in (next_alone 1) begin (frames_at (both_frames A) second_lost))
+      ≡ take 2 (map (twin_of A) (both_frames A))
 
 -- A stream's message of two frames comes.
 pub record ComesDespiteLoss : Type 0 where

@@ -1,7 +1,11 @@
 -- A worked policing: a gap of 1,000 microseconds, frames of up to 100 bytes, and up to 200
 -- microseconds of jitter.
-use Rattle.std.specs.Prelude.{◌≡◌, ℕ, ◌+◌, ◌-◌, ◌*◌, ◌≤◌, List, [], ◌∷◌, map}
+use Rattle.std.specs.Prelude.{◌≡◌, ℕ, ◌+◌, ◌-◌, ◌*◌, ◌≤◌, None, List, [], ◌∷◌, replicate, map, All}
+use Rattle.std.specs.List.{AllZip}
+use Rattle.redundant_mux.specs.Entry.{Entry, entry}
+use Rattle.afdx_legal.specs.Streams.{IsSpaced}
 use Rattle.afdx_laws.specs.Policer.{Arrival, Rule, Passage, AreOnTime, AreBetween, by_bytes, by_frames, arrival, cost, full, limit, passed}
+use Rattle.afdx_laws.specs.Spacing.{IsUpTo, IsOnItsWay}
 
 -- what the switch is told
 abbrev pub worked_rule : Rule
@@ -42,3 +46,38 @@ pub record SpendsAll : Type 0 where
       ≡ greatest_at 0 ∷ greatest_at 800 ∷ greatest_at 1800 ∷ []
   pub spends : cost by_bytes worked_rule (passed by_bytes worked_rule (full worked_rule) four_greatest)
       ≡ worked_rule.lmax * (worked_rule.gap + worked_rule.jitter + (1800 - 0))
+
+-- what a switch is told that allows no jitter
+abbrev pub strict_rule : Rule
+strict_rule = record { gap = 1000; lmax = 100; jitter = 0 }
+
+-- Of two greatest frames a microsecond less than the gap apart it drops the second, and a gap apart none.
+pub record DropsTheEarly : Type 0 where
+  pub early : passed by_bytes strict_rule (full strict_rule) (greatest_at 200 ∷ greatest_at 1199 ∷ [])
+      ≡ greatest_at 200 ∷ []
+  pub in_time : passed by_bytes strict_rule (full strict_rule) (greatest_at 200 ∷ greatest_at 1200 ∷ [])
+      ≡ greatest_at 200 ∷ greatest_at 1200 ∷ []
+
+-- two frames of a stream, of 60 bytes, a gap apart
+abbrev pub two_entries : List Entry
+two_entries = entry 0 (replicate 60 7) ∷ entry 1000 (replicate 60 7) ∷ []
+
+-- both on their way, with 20 bytes around each: the first is held up by all the jitter
+abbrev pub two_passages : List Passage
+two_passages = record { released = 0; arrived = 200; size = 84 }
+    ∷ record { released = 1000; arrived = 1000; size = 84 }
+    ∷ []
+
+-- what the switch is told of frames with what is around them
+abbrev pub rule_around : Rule
+rule_around = record { gap = 1000; lmax = 64 + 20; jitter = 200 }
+
+-- The stream meets what the law of streams asks for, and passes.
+pub record PassesTwo : Type 0 where
+  pub spaced : IsSpaced 1000 None two_entries
+  pub small : All (IsUpTo 64) two_entries
+  pub way : AllZip (IsOnItsWay 20 200) two_entries two_passages
+  pub bytes_pass : passed by_bytes rule_around (full rule_around) (map arrival two_passages)
+      ≡ map arrival two_passages
+  pub frames_pass : passed by_frames rule_around (full rule_around) (map arrival two_passages)
+      ≡ map arrival two_passages

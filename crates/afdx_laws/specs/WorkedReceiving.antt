@@ -7,7 +7,8 @@ use Rattle.afdx_frame.specs.Header.{number_in}
 use Rattle.afdx_frame.specs.Twin.{twin_of}
 use Rattle.afdx_laws.specs.Receiver.{State, IsFitFor, begin, received}
 use Rattle.afdx_laws.specs.Networks.{IsStream, AreCarried, most_carried}
-use Rattle.afdx_laws.specs.WorkedDelivery.{both_frames, four_arrivals, plain_receiver}
+use Rattle.afdx_laws.specs.Messages.{messages_in, IsSending, AreFirst}
+use Rattle.afdx_laws.specs.WorkedDelivery.{bytes_41, one_accepted, both_frames, four_arrivals, plain_receiver}
 
 -- frames of network A by their numbers, which come round
 abbrev pub past_255 : List (Net × ℕ)
@@ -30,6 +31,15 @@ pub record AcceptsEachOnce : Type 0 where
   pub once : map (twin_of A) (received number_in plain_receiver begin four_arrivals)
       ≡ take (most_carried four_arrivals) (map (twin_of A) (both_frames A))
   pub round : received (λ (n : ℕ). n) plain_receiver begin past_255 ≡ 254 ∷ 255 ∷ 1 ∷ 2 ∷ []
+
+-- They are a message's, which arrives.
+pub record StreamArrives : Type 0 where
+  pub sending : IsSending 1 25 0 one_accepted (both_frames A)
+  pub fit : IsFitFor 3 plain_receiver
+  pub carry : AreCarried 3 (both_frames A) four_arrivals
+  pub message : messages_in 0 (received number_in plain_receiver begin four_arrivals) ≡ bytes_41 ∷ []
+  pub first : AreFirst 1 25 0 one_accepted (take (most_carried four_arrivals) (both_frames A))
+      (messages_in 0 (received number_in plain_receiver begin four_arrivals))
 
 -- Where network B is 254 frames behind, its second frame is dropped, which A's was accepted for. One
 -- frame more is out of bounds, and it is accepted again.

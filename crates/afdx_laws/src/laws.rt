@@ -3,10 +3,9 @@
 //! That a switch or a receiver works as it is defined in specs/ is a premise of each, and so is that the
 //! networks deliver what is said. None says anything of frames that both networks lose, of a transmitter
 //! that begins anew with number 0, or of a receiver's timer for frames that come late (SkewMax).
-ghost use Rattle.afdx_frame.specs.declared.net.Net.TheVariants.{B};
 ghost use Rattle.afdx_laws.specs.Delivery.{InOrder};
 ghost use Rattle.afdx_laws.specs.Handed.{HandedArrive, HandedDespiteLoss};
-ghost use Rattle.afdx_laws.specs.Loss.{AreClose, LossMasked, LossNotMasked, NumbersClash, one_lost};
+ghost use Rattle.afdx_laws.specs.Loss.{LossMasked, LossNotMasked, NumbersClash};
 ghost use Rattle.afdx_laws.specs.Messages.{DespiteLoss, MessagesArrive};
 ghost use Rattle.afdx_laws.specs.Networks.{ExactlyOnce};
 ghost use Rattle.afdx_laws.specs.Plans.{LegalArrive, LegalDespiteLoss, LegalPasses};
@@ -14,11 +13,11 @@ ghost use Rattle.afdx_laws.specs.Policer.{EarlyDropped, NoMorePasses, NoneDroppe
 ghost use Rattle.afdx_laws.specs.Skew.{SkewIsNear};
 ghost use Rattle.afdx_laws.specs.Spacing.{StreamPasses};
 ghost use Rattle.afdx_laws.specs.WorkedDelivery.{OneMessageArrives};
-ghost use Rattle.afdx_laws.specs.WorkedLoss.{ComesDespiteLoss, HandedDespiteOneLoss, LegalDespiteOneLoss};
+ghost use Rattle.afdx_laws.specs.WorkedLoss.{MasksOneLoss, ComesDespiteLoss, HandedDespiteOneLoss, LegalDespiteOneLoss};
 ghost use Rattle.afdx_laws.specs.WorkedOrder.{FirstIsGiven};
 ghost use Rattle.afdx_laws.specs.WorkedPlan.{OneIsLegal};
-ghost use Rattle.afdx_laws.specs.WorkedPolicing.{PolicesThree, SpendsAll};
-ghost use Rattle.afdx_laws.specs.WorkedReceiving.{AcceptsEachOnce, ClashesPast254};
+ghost use Rattle.afdx_laws.specs.WorkedPolicing.{PolicesThree, SpendsAll, DropsTheEarly, PassesTwo};
+ghost use Rattle.afdx_laws.specs.WorkedReceiving.{AcceptsEachOnce, StreamArrives, ClashesPast254};
 ghost use Rattle.afdx_laws.specs.WorkedSkew.{ComesInTime};
 
 /// A switch that polices a link by its gap, its greatest frame and a jitter, by bytes or by frames,
@@ -49,7 +48,10 @@ pub fn no_more_passes()
 ///
 /// It says nothing of smaller frames: charged by their bytes, two of them may pass at once.
 pub fn early_dropped()
-    ensures { EarlyDropped }
+    ensures dropped { EarlyDropped }
+
+    // two greatest frames, a microsecond less than the gap apart, and a gap apart
+    ensures worked { DropsTheEarly }
 {}
 
 /// A switch drops no frame of a spaced stream of frames, whatever each is delayed by on its way, up to
@@ -57,7 +59,10 @@ pub fn early_dropped()
 ///
 /// That the frames are no greater than Lmax and delayed by no more than the jitter are premises.
 pub fn stream_passes()
-    ensures { StreamPasses }
+    ensures passes { StreamPasses }
+
+    // two frames, of which one is late
+    ensures worked { PassesTwo }
 {}
 
 /// A receiver accepts each frame of a link exactly once and in order, as far as one of the networks
@@ -81,8 +86,8 @@ pub fn exactly_once()
 pub fn loss_masked()
     ensures masked { LossMasked }
 
-    // network A loses a frame, and network B carries all three
-    ensures worked { AreClose B 3 0 0 one_lost }
+    // network A loses a frame, and network B carries all
+    ensures worked { MasksOneLoss }
 {}
 
 /// A receiver for which the next two numbers are new drops the good copy of a frame that the network
@@ -134,7 +139,10 @@ pub fn in_order()
 /// The premises are those of `exactly_once`, and that the link's frames of this sub-VL are the first
 /// fragments of its accepted messages. It doesn't say when a message comes.
 pub fn messages_arrive()
-    ensures { MessagesArrive }
+    ensures arrive { MessagesArrive }
+
+    // a message of two frames
+    ensures worked { StreamArrives }
 {}
 
 /// A receiver's messages of a sub-VL are the first accepted ones although one network loses, repeats and

@@ -1,5 +1,9 @@
 use Rattle.afdx_laws.proofs.Arriving.{messages_arrive_holds}
+use Rattle.afdx_laws.proofs.WorkedNumbers.{stream_arrives}
 use Rattle.afdx_laws.proofs.laws.messages_arrive.Goals as goal
 
-pub returns : goal.returns
-returns c = messages_arrive_holds
+pub returns-clause-arrive : goal.returns-clause-arrive
+returns-clause-arrive c = messages_arrive_holds
+
+pub returns-clause-worked : goal.returns-clause-worked
+returns-clause-worked c = stream_arrives
