@@ -42,8 +42,3 @@ fragments_some of place sent =
     subst (λ (n : ℕ). cut_by n (room_of of.link.lmax) (8 + length sent.bytes) ≢ []) (sym size)
     (cut_some (7 + length sent.bytes) (room_of of.link.lmax) (8 + length sent.bytes)) in
     λ none. pieces_some 0 _ lengths (map_nil _ _ none)
-
--- none of two holds
-pub or_none : (a b : Bool) → (a || b) ≡ false → (a ≡ false) × (b ≡ false)
-or_none true b e = cc
-or_none false b e = (refl, e)
