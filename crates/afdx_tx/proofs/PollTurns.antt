@@ -1,6 +1,6 @@
 -- One more link of a poll has had its turn.
-use Rattle.std.proofs.Common.{ℕ, ◌≡◌, ◌≢◌, ◌+◌, ◌<◌, List, [], ◌∷◌, ◌++◌, ◌||◌, Bool, true, false, length, take, drop, set, get_or, arith, refl, ap, ◌∙◌, sym, subst, ⊎_elim}
-use Rattle.std.proofs.lemmas.List.{length-set, get_or-set_same, get_or-set_other, get_or-drop, drop-drop, drop-set-lt, take_more, take_more_set, get_or-map, length-map, take-set}
+use Rattle.std.proofs.Common.{ℕ, suc, ◌≡◌, ◌≢◌, ◌+◌, ◌<◌, List, [], ◌∷◌, ◌++◌, ◌||◌, Bool, true, false, length, drop, set, get_or, arith, ap, ◌∙◌, sym, subst, ⊎_elim}
+use Rattle.std.proofs.lemmas.List.{length-set, get_or-set_same, get_or-set_other, get_or-drop, drop-drop, drop-set-lt, get_or-map, length-map}
 use Rattle.std.proofs.lemmas.Bool.{cases_eq}
 use Rattle.afdx_plan.specs.declared.identifiers.VlId.{VlId}
 use Rattle.afdx_plan.specs.declared.link_plan.LinkPlan.{LinkPlan}
@@ -12,14 +12,15 @@ use Rattle.vl_shaper.specs.Pace.{Pace, IsLater}
 use Rattle.vl_link.specs.declared.served.Served.{Served}
 use Rattle.vl_link.specs.declared.served.Served.TheVariants.{Nothing, Released, Lost}
 use Rattle.afdx_legal.specs.Legal.{IsKnown, AreKnown}
-use Rattle.vl_link.specs.Links.{LinkState, link_at, held_at, no_link, no_link_plan, Serves, Follows, IsSameLink, is_lost}
-use Rattle.afdx_tx.specs.Run.{IsTurn, IsRun, IsCutShort}
+use Rattle.vl_link.specs.Links.{LinkState, link_at, held_at, no_link, no_link_plan, Serves, Follows, IsSameLink}
+use Rattle.vl_link.specs.Turn.{AreTurns, is_lost}
+use Rattle.afdx_tx.specs.Run.{IsTurn, IsTurnAt, IsCutShort}
 use Rattle.afdx_tx.specs.Emitter.{plan_of_link, plans, AreApart, AreServedBy, AreWhole, IsSamePlan}
 use Rattle.vl_link.specs.Kept.{IsKept}
 use Rattle.afdx_tx.specs.Serving.{IsSteady, IsServing}
-use Rattle.vl_link.proofs.LinkTurn.{Turned, IsOwn, link_turn, kept_turn, other_stream, kept_stream, released_known, picked_of}
+use Rattle.vl_link.proofs.LinkTurn.{Turned, IsOwn, link_turn, kept_turn, other_stream, kept_stream, released_below}
+use Rattle.vl_link.proofs.TurnLaws.{turns_seen, turns_push}
 use Rattle.vl_link.proofs.SubInStep.{same_sub_on}
-use Rattle.vl_link.specs.declared.sub_vl.SubVl.{SubVl}
 
 -- the turn, with the regulation read off the stream
 turn_shown : (now : ℕ) (did : Served) (link new : LinkState) (lines after : Lines)
@@ -27,13 +28,13 @@ turn_shown : (now : ℕ) (did : Served) (link new : LinkState) (lines after : Li
 turn_shown now did link new lines after t k = record {
   same = t.same;
   tied = k.tied t.whole;
-  serves = subst (λ (p : Pace). Serves now p link.subs new.subs lines after did) (k.paced t.whole) t.serves;
+  serves = subst (λ (p : Pace). Serves now link.plan.id.0 p link.subs new.subs lines after did) (k.paced t.whole) t.serves;
 }
 
 -- what serving one of the links came to, as its turn at its place
 pub turned_at : (now i : ℕ) (links : List LinkState) (item new : LinkState) (lines after : Lines) (did : Served)
     → item ≡ link_at links i → i < length links → AreServedBy now links → AreWhole links
-    → Serves now item.pace item.subs new.subs lines after did → Follows new.plan.id.0 new.pace after did
+    → Serves now item.plan.id.0 item.pace item.subs new.subs lines after did → Follows new.plan.id.0 new.pace after did
     → IsSameLink item new → new.lost ≡ (item.lost || is_lost did)
     → Turned now (link_at links i) new lines after did
 turned_at now i links item new lines after did is lt later whole serves paced same lost =
@@ -47,23 +48,12 @@ turned_at now i links item new lines after did is lt later whole serves paced sa
       lost = lost ∙ ap (λ (b : Bool). b || is_lost did) kept;
     })
 
--- one turn more at the end of a run
-run_push : (now : ℕ) (xs ys : List LinkState) (link new : LinkState) (before lines after : Lines) (did : Served)
-    → IsRun now xs ys before lines → IsTurn now link new lines after did → is_lost did ≡ false
-    → IsRun now (xs ++ link ∷ []) (ys ++ new ∷ []) before after
-run_push now [] [] link new before lines after did r t k =
-    (after, did, subst (λ (l : Lines). IsTurn now link new l after did) r t, k, refl)
-run_push now (x ∷ xs) (y ∷ ys) link new before lines after did r t k =
-    (r.0, r.1, r.2, r.3, run_push now xs ys link new r.0 lines after did r.4 t k)
-run_push now [] (y ∷ ys) link new before lines after did r t k = absurd r
-run_push now (x ∷ xs) [] link new before lines after did r t k = absurd r
-
 -- a network stands after a turn that lost none
 alive_after : (now : ℕ) (did : Served) (link new : LinkState) (lines after : Lines)
     → Turned now link new lines after did → is_lost did ≡ false → is_alive lines ≡ true
     → is_alive after ≡ true
 alive_after now Nothing link new lines after t k a = ap is_alive t.serves.1 ∙ a
-alive_after now (Released sub number) link new lines after t k a = t.serves.2.releases.alive
+alive_after now (Released sub number) link new lines after t k a = t.serves.2.alive
 alive_after now Lost link new lines after t k a = absurd (let e : true ≡ false = k in cc)
 
 -- a fact of each link, where one was set
@@ -131,23 +121,20 @@ known_after : (now i : ℕ) (old : List LinkState) (did : Served) (links : List 
 known_after now i old Nothing links new lines after same lt own t h =
     subst (λ (x : Lines). AreKnown (plans old) A (log x)) (sym t.serves.1) h
 known_after now i old (Released sub number) links new lines after same lt own t h =
-    let r = t.serves.2.releases in
+    let r = t.serves.2 in
     let il : i < length old = omega (arith, same.count) in
     let plan : link_plan_at (plans old) i ≡ (link_at links i).plan = plan_at_is old i il ∙ sym (same.each i il).plan in
-    let of = picked_of (link_at links i) sub new.subs t.serves.2.picks own in
-    let below : sub < (link_at links i).plan.sub_vls =
-    released_known now number (link_at links i) sub new.subs lines after t.serves.2 own in
+    let below : sub < (link_at links i).plan.sub_vls = released_below now number (link_at links i) _ sub lines after r own in
     let many : (link_plan_at (plans old) i).sub_vls ≡ (link_at links i).plan.sub_vls = ap (λ (p : LinkPlan). p.sub_vls) plan in
-    let own_sub = r.of.of_sub ∙ ap (λ (o : SubVl). o.sub) of in
     subst (AreKnown (plans old) A) (sym r.enters) (known_push (plans old) (log lines) (entry now r.frame) h (record {
       size = r.of.size;
       k = i;
       within = omega (arith, plans_length old);
-      link = r.of.link ∙ ap (λ (o : SubVl). o.link.id.0) of ∙ ap (λ (p : LinkPlan). p.id.0) (sym plan);
-      of_sub = omega (arith, own_sub);
+      link = r.of.link ∙ ap (λ (p : LinkPlan). p.id.0) (sym plan);
+      of_sub = omega (arith, r.of.of_sub);
       interface = r.of.interface;
     }))
-known_after now i old Lost links new lines after same lt own t h = subst (AreKnown (plans old) A) (sym t.serves.1.loses.same) h
+known_after now i old Lost links new lines after same lt own t h = subst (AreKnown (plans old) A) (sym t.serves.1.same) h
 
 -- every turn keeps what turns keep
 pub steady_more : (now i : ℕ) (old links : List LinkState) (lines after : Lines) (new : LinkState) (did : Served)
@@ -178,6 +165,23 @@ steady_more now i old links lines after new did s apart lt t later =
       known = known_after now i old did links new lines after s.same lt own t s.known;
     }
 
+-- the turn of the link that was set
+turn_at : (now : ℕ) (did : Served) (old links : List LinkState) (i : ℕ) (new : LinkState) (lines after : Lines)
+    → i < length old → i < length links → link_at links i ≡ link_at old i → IsTurn now (link_at links i) new lines after did
+    → IsTurnAt now old (set links i new) i lines after did
+turn_at now did old links i new lines after il lt here turn =
+    subst (λ (x : LinkState). IsTurn now x (link_at (set links i new) i) lines after did) here
+    (subst (λ (y : LinkState). IsTurn now (link_at links i) y lines after did)
+    (sym (get_or-set_same links i new no_link lt)) turn)
+
+-- the turns before it
+turns_before : (now : ℕ) (old links : List LinkState) (i : ℕ) (new : LinkState) (before lines : Lines)
+    → AreTurns (IsTurnAt now old links) 0 i before lines → AreTurns (IsTurnAt now old (set links i new)) 0 i before lines
+turns_before now old links i new before lines r =
+    turns_seen (IsTurnAt now old links) (IsTurnAt now old (set links i new)) 0 i before lines
+    (λ k le lt mid behind did t. subst (λ (l : LinkState). IsTurn now (link_at old k) l mid behind did)
+    (sym (get_or-set_other links i k new no_link (λ e. absurd (omega arith)))) t) r
+
 -- one more link had its turn, and a network stands
 pub serving_more : (now i : ℕ) (old links : List LinkState) (before lines after : Lines) (new : LinkState) (did : Served)
     → IsServing now i old links before lines → AreApart old → i < length links
@@ -187,17 +191,16 @@ serving_more now i old links before lines after new did s apart lt t kept later 
     let il : i < length old = omega (arith, s.steady.same.count) in
     let len : length (set links i new) ≡ length links = length-set links i new in
     let here : link_at links i ≡ link_at old i = same_rest links old i s.rest in
-    let turn : IsTurn now (link_at links i) new lines after did =
-    turn_shown now did (link_at links i) new lines after t (s.steady.kept i lt) in
-    let run : IsRun now (take i old ++ link_at links i ∷ []) (take i links ++ new ∷ []) before after =
-    run_push now _ _ (link_at links i) new before lines after did s.run turn kept in
-    let taken : take (i + 1) old ≡ take i old ++ link_at links i ∷ [] =
-    take_more old i no_link il ∙ ap (λ (l : LinkState). take i old ++ l ∷ []) (sym here) in
-    let taken_new : take (i + 1) (set links i new) ≡ take i links ++ new ∷ [] = take_more_set links i new lt in
+    let turn : IsTurnAt now old (set links i new) i lines after did =
+    turn_at now did old links i new lines after il lt here
+    (turn_shown now did (link_at links i) new lines after t (s.steady.kept i lt)) in
     record {
       steady = steady_more now i old links lines after new did s.steady apart lt t later;
-      run = subst (λ (xs : List LinkState). IsRun now xs (take (i + 1) (set links i new)) before after) (sym taken)
-          (subst (λ (ys : List LinkState). IsRun now (take i old ++ link_at links i ∷ []) ys before after) (sym taken_new) run);
+      turns = let more : i + 1 ≡ suc i = omega arith in
+          subst (λ (n : ℕ). AreTurns (IsTurnAt now old (set links i new)) 0 n before after) (sym more)
+          (turns_push (IsTurnAt now old (set links i new)) 0 i before lines after did
+          (turns_before now old links i new before lines s.turns)
+          (subst (λ (n : ℕ). IsTurnAt now old (set links i new) n lines after did) (omega arith) turn) kept);
       rest = drop-set-lt (i + 1) links i new (omega arith) ∙ sym (drop-drop 1 i links) ∙ ap (drop 1) s.rest ∙ drop-drop 1 i old;
       alive = alive_after now did (link_at links i) new lines after t kept s.alive;
       whole = λ k klt. at_each (λ j l. l.lost ≡ false) links i new lt (t.lost ∙ kept) (λ j jlt ne. s.whole j jlt) k (omega arith);
@@ -210,17 +213,16 @@ pub cut_at : (now i : ℕ) (old links : List LinkState) (before lines after : Li
 cut_at now i old links before lines after new Lost s lt e t =
     let il : i < length old = omega (arith, s.steady.same.count) in
     let here : link_at links i ≡ link_at old i = same_rest links old i s.rest in
-    let turn : IsTurn now (link_at links i) new lines after Lost =
-    turn_shown now Lost (link_at links i) new lines after t (s.steady.kept i lt) in
     record {
       count = length-set links i new ∙ s.steady.same.count;
-      at = i;
-      within = il;
-      mid = lines;
-      run = subst (λ (ys : List LinkState). IsRun now (take i old) ys before lines) (sym (take-set links i new)) s.run;
-      turn = subst (λ (x : LinkState). IsTurn now x (link_at (set links i new) i) lines after Lost) here
-          (subst (λ (y : LinkState). IsTurn now (link_at links i) y lines after Lost)
-          (sym (get_or-set_same links i new no_link lt)) turn);
+      cut = record {
+        at = i;
+        within = il;
+        mid = lines;
+        before = turns_before now old links i new before lines s.turns;
+        turn = turn_at now Lost old links i new lines after il lt here
+            (turn_shown now Lost (link_at links i) new lines after t (s.steady.kept i lt));
+      };
       rest = drop-set-lt (i + 1) links i new (omega arith) ∙ sym (drop-drop 1 i links) ∙ ap (drop 1) s.rest ∙ drop-drop 1 i old;
     }
 cut_at now i old links before lines after new Nothing s lt e t = absurd (let k : false ≡ true = e in cc)

@@ -5,7 +5,8 @@ use Rattle.redundant_mux.specs.Lines.{Lines, log}
 use Rattle.vl_shaper.specs.Pace.{IsLater, is_due}
 use Rattle.vl_link.specs.declared.served.Served.{Served}
 use Rattle.vl_link.specs.declared.served.Served.TheVariants.{Nothing}
-use Rattle.vl_link.specs.Links.{LinkState, link_at, held_at, no_link, IsSameLink, is_lost}
+use Rattle.vl_link.specs.Links.{LinkState, link_at, held_at, no_link, IsSameLink}
+use Rattle.vl_link.specs.Turn.{is_lost}
 use Rattle.vl_link.specs.Kept.{IsKept}
 use Rattle.vl_link.proofs.LinkTurn.{Turned}
 use Rattle.vl_link.proofs.SubInStep.{same_sub_here}
@@ -26,7 +27,7 @@ polling_more now i old links before lines after new did released p apart lt turn
     let s = p.serving in
     record {
       serving = serving_more now i old links before lines after new did s apart lt turned kept later;
-      told = told_more now did (link_at links i) new released before lines after turned (s.steady.each i lt) p.told;
+      told = told_more now did (link_at links i) new released before lines after turned p.told;
       room = few_released (link_at links i).plan.id did released i p.room;
     }
 
@@ -54,7 +55,7 @@ same_link link = record {
 idle_turn : (now : ℕ) (link : LinkState) (lines : Lines) → is_due link.pace.gap link.pace.last now ≡ false
     → IsLater link.pace.last now → link.lost ≡ false → IsKept link (log lines) → Turned now link link lines lines Nothing
 idle_turn now link lines early later whole kept = record {
-  serves = (inl (early, refl), refl);
+  serves = (inl (early, λ s. refl), refl);
   paced = kept.paced whole;
   same = same_link link;
   later = later;

@@ -8,10 +8,9 @@ use Rattle.redundant_mux.specs.Lines.{Lines, log}
 use Rattle.vl_link.specs.declared.served.Served.{Served}
 use Rattle.vl_link.specs.declared.served.Served.TheVariants.{Nothing, Released, Lost}
 use Rattle.afdx_tx.specs.declared.report.Release.{Release}
-use Rattle.vl_link.specs.declared.sub_vl.SubVl.{SubVl}
 use Rattle.vl_link.specs.Links.{LinkState}
 use Rattle.afdx_tx.specs.Report.{release_of, turn_release, IsTold}
-use Rattle.vl_link.proofs.LinkTurn.{Turned, IsOwn, picked_of}
+use Rattle.vl_link.proofs.LinkTurn.{Turned}
 
 -- where nothing entered nothing more is told
 told_same : (now : ℕ) (rs : List Release) (before lines after : Lines) → log after ≡ log lines
@@ -21,18 +20,17 @@ told_same now rs before lines after e t =
 
 -- what one turn released is told behind the releases before it
 pub told_more : (now : ℕ) (did : Served) (link new : LinkState) (rs : List Release) (before lines after : Lines)
-    → Turned now link new lines after did → IsOwn link → IsTold now rs before lines
+    → Turned now link new lines after did → IsTold now rs before lines
     → IsTold now (rs ++ turn_release link.plan.id did) before after
-told_more now Nothing link new rs before lines after t own h = told_same now rs before lines after (ap log t.serves.1) h
-told_more now (Released sub number) link new rs before lines after t own h =
-    let r = t.serves.2.releases in
-    let of = picked_of link sub new.subs t.serves.2.picks own in
+told_more now Nothing link new rs before lines after t h = told_same now rs before lines after (ap log t.serves.1) h
+told_more now (Released sub number) link new rs before lines after t h =
+    let r = t.serves.2 in
     let e : Entry = entry now r.frame in
     let same : release_of (entry now r.frame) ≡ record { vl = link.plan.id; sub = sub; number = number } =
     ap (λ (x : ℕ). record { vl = record { 0 = x }; sub = sub_in r.frame; number = number_in r.frame })
-    (r.of.link ∙ ap (λ (o : SubVl). o.link.id.0) of)
+    r.of.link
     ∙ ap (λ (x : ℕ). record { vl = link.plan.id; sub = x; number = number_in r.frame })
-    (r.of.of_sub ∙ ap (λ (o : SubVl). o.sub) of)
+    r.of.of_sub
     ∙ ap (λ (x : ℕ). record { vl = link.plan.id; sub = sub; number = x }) r.of.carries in
     record {
       entries = h.entries ++ entry now r.frame ∷ [];
@@ -45,7 +43,7 @@ told_more now (Released sub number) link new rs before lines after t own h =
           ∙ ap (λ (x : List ℕ). x ++ now ∷ []) h.moments
           ∙ sym (map-append (λ (x : Entry). now) h.entries (entry now r.frame ∷ []));
     }
-told_more now Lost link new rs before lines after t own h = told_same now rs before lines after t.serves.1.loses.same h
+told_more now Lost link new rs before lines after t h = told_same now rs before lines after t.serves.1.same h
 
 -- one turn releases one frame at most
 pub few_released : (vl : VlId) (did : Served) (rs : List Release) (i : ℕ) → length rs ≤ i

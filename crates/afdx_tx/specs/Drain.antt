@@ -1,22 +1,21 @@
 -- Sending what is left, once all that was accepted is known: told by the plan, the accepted lists and
 -- what was handed over, whatever was taken from the queues.
-use Rattle.std.specs.Prelude.{ℕ, ◌≡◌, ◌⊎◌, ◌<◌, List, [], ◌∷◌, ◌++◌, true, false, suc, length, take}
+use Rattle.std.specs.Prelude.{ℕ, ◌≡◌, ◌<◌, List, [], ◌++◌, length}
 use Rattle.afdx_plan.specs.Config.{Plan, link_plan_at}
 use Rattle.afdx_plan.specs.Plan.{bag_micros}
 use Rattle.afdx_plan.specs.Room.{room_of}
 use Rattle.afdx_plan.specs.declared.link_plan.LinkPlan.{LinkPlan}
 use Rattle.afdx_frame.specs.declared.net.Net.TheVariants.{A}
 use Rattle.afdx_frame.specs.Fragments.{Sent, fragments}
-use Rattle.afdx_frame.specs.Header.{IsFrameOf}
-use Rattle.redundant_mux.specs.Entry.{Entry, entry}
-use Rattle.redundant_mux.specs.Lines.{Lines, log, is_alive}
-use Rattle.vl_shaper.specs.Pace.{Pace, is_due, turn_of}
+use Rattle.redundant_mux.specs.Entry.{Entry}
+use Rattle.redundant_mux.specs.Lines.{Lines, log}
+use Rattle.vl_shaper.specs.Pace.{Pace}
 use Rattle.vl_link.specs.declared.served.Served.{Served}
-use Rattle.vl_link.specs.declared.served.Served.TheVariants.{Nothing, Released, Lost}
 use Rattle.vl_link.specs.Seen.{IsKnownWhole, known_of}
 use Rattle.afdx_legal.specs.Streams.{link_stream, told_of}
 use Rattle.afdx_legal.specs.Legal.{Accepted}
-use Rattle.vl_link.specs.Links.{Held, LinkState, held_at, link_at, sent_by, pace_of, is_lost}
+use Rattle.vl_link.specs.Links.{Held, LinkState, held_at, link_at, sent_by, pace_of}
+use Rattle.vl_link.specs.Turn.{TurnView, Turn, AreTurns, IsCut}
 
 -- every queue is gathered
 abbrev pub AreGathered : List LinkState → Type 0
@@ -59,71 +58,31 @@ IsAllDone plan accepted log = (k : ℕ) → k < length plan.links
 abbrev pub pace_in : LinkPlan → List Entry → Pace
 pace_in link log = pace_of (bag_micros link.bag) link.sub_vls (link_stream link.id.0 log)
 
--- The round-robin choice: in cyclic order behind the sub-VL served last, the first that has an
--- accepted message that isn't wholly released (ARINC 664 Part 7).
-pub record IsNext (end_system : ℕ) (link : LinkPlan) (accepted : ℕ → List Sent)
-    (log : List Entry) (sub : ℕ) : Type 0 where
-  pub turn : ℕ
-  pub within : turn < link.sub_vls
-  pub is : sub ≡ turn_of link.sub_vls (pace_in link log).last turn
-  pub owes : Owes end_system link accepted log sub
-  pub before : (k : ℕ) → k < turn
-      → IsReleased end_system link accepted log (turn_of link.sub_vls (pace_in link log).last k)
+-- a turn over accepted lists: a sub-VL has something where an accepted message isn't wholly released
+abbrev pub accepted_view : ℕ → LinkPlan → (ℕ → List Sent) → List Entry → TurnView
+accepted_view end_system link accepted log = record {
+  lacks = IsReleased end_system link accepted log;
+  rests = λ s. Unit {0};
+  gives = λ s frame. Owes end_system link accepted log s;
+}
 
--- a frame of a sub-VL, with this number, entered the longer handed list, and a network stands
-pub record Enters (now : ℕ) (link : LinkPlan) (sub number : ℕ)
-    (lines after : Lines) : Type 0 where
-  pub frame : List ℕ
-  pub enters : log after ≡ log lines ++ entry now frame ∷ []
-  pub of : IsFrameOf link.id.0 sub number A frame
-  pub alive : is_alive after ≡ true
-
--- the last network that stood failed with the frame of the next sub-VL
-pub record LosesNext (end_system : ℕ) (link : LinkPlan) (accepted : ℕ → List Sent)
-    (lines after : Lines) : Type 0 where
-  pub sub : ℕ
-  pub next : IsNext end_system link accepted (log lines) sub
-  pub same : log after ≡ log lines
-  pub down : is_alive after ≡ false
-
--- One turn of a link, by what it did. It releases nothing where it isn't due, or all its accepted
--- messages are wholly released; otherwise it releases one frame, now, with the next number, unless
--- the last network fails.
+-- one turn of a link, by its accepted lists
 abbrev pub Drains : ℕ → ℕ → LinkPlan → (ℕ → List Sent) → (lines after : Lines) → Served → Type 0
-Drains now end_system link accepted lines after Nothing =
-    ((is_due (bag_micros link.bag) (pace_in link (log lines)).last now ≡ false)
-    ⊎ ((is_due (bag_micros link.bag) (pace_in link (log lines)).last now ≡ true)
-    × IsLinkDone end_system link accepted (log lines)))
-    × (after ≡ lines)
-Drains now end_system link accepted lines after (Released sub number) =
-    (is_due (bag_micros link.bag) (pace_in link (log lines)).last now ≡ true)
-    × IsNext end_system link accepted (log lines) sub
-    × (number ≡ (pace_in link (log lines)).next)
-    × Enters now link sub number lines after
-Drains now end_system link accepted lines after Lost =
-    (is_due (bag_micros link.bag) (pace_in link (log lines)).last now ≡ true)
-    × LosesNext end_system link accepted lines after
+Drains now end_system link accepted lines after did =
+    Turn now link.id.0 (pace_in link (log lines))
+    (accepted_view end_system link accepted (log lines)) lines after did
 
--- links have their turns in order, and the last network isn't lost
-abbrev pub AreDrained : ℕ → ℕ → List LinkPlan → Accepted → (lines after : Lines) → Type 0
-AreDrained now end_system [] accepted lines after = after ≡ lines
-AreDrained now end_system (link ∷ links) accepted lines after =
-    (mid : Lines)
-    × (did : Served)
-    × Drains now end_system link (accepted 0) lines mid did
-    × (is_lost did ≡ false)
-    × AreDrained now end_system links (λ k. accepted (suc k)) mid after
+-- one turn of the link of a plan at a place
+abbrev pub DrainsAt : ℕ → Plan → Accepted → ℕ → (lines after : Lines) → Served → Type 0
+DrainsAt now plan accepted k lines after did =
+    Drains now plan.end_system (link_plan_at plan.links k) (accepted k) lines after did
 
 -- The links of a plan have their turns in order, and the last network isn't lost.
 abbrev pub IsDrained : ℕ → Plan → Accepted → (lines after : Lines) → Type 0
 IsDrained now plan accepted lines after =
-    AreDrained now plan.end_system plan.links accepted lines after
+    AreTurns (DrainsAt now plan accepted) 0 (length plan.links) lines after
 
 -- At one link the last network is lost, and the links behind it have no turn.
-pub record IsDrainCutShort (now : ℕ) (plan : Plan) (accepted : Accepted)
-    (lines after : Lines) : Type 0 where
-  pub at : ℕ
-  pub within : at < length plan.links
-  pub mid : Lines
-  pub run : AreDrained now plan.end_system (take at plan.links) accepted lines mid
-  pub turn : Drains now plan.end_system (link_plan_at plan.links at) (accepted at) mid after Lost
+abbrev pub IsDrainCutShort : ℕ → Plan → Accepted → (lines after : Lines) → Type 0
+IsDrainCutShort now plan accepted lines after =
+    IsCut (DrainsAt now plan accepted) (length plan.links) lines after

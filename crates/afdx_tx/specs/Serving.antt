@@ -1,11 +1,12 @@
 -- What the turns of a poll keep, up to some link.
-use Rattle.std.specs.Prelude.{ℕ, ◌≡◌, ◌≤◌, List, length, take, drop, true}
+use Rattle.std.specs.Prelude.{ℕ, ◌≡◌, ◌≤◌, List, length, drop, true}
 use Rattle.afdx_frame.specs.declared.net.Net.TheVariants.{A}
 use Rattle.redundant_mux.specs.Lines.{Lines, log, is_alive}
 use Rattle.afdx_tx.specs.declared.report.Release.{Release}
 use Rattle.afdx_legal.specs.Legal.{AreKnown}
 use Rattle.vl_link.specs.Links.{LinkState}
-use Rattle.afdx_tx.specs.Run.{IsRun}
+use Rattle.vl_link.specs.Turn.{AreTurns}
+use Rattle.afdx_tx.specs.Run.{IsTurnAt}
 use Rattle.afdx_tx.specs.Report.{IsTold}
 use Rattle.afdx_tx.specs.Emitter.{plans, AreLinks, AreKept, AreWhole, AreServedBy, IsSamePlan}
 
@@ -20,7 +21,7 @@ pub record IsSteady (now : ℕ) (old links : List LinkState) (lines : Lines) : T
 -- the first i links had their turns
 pub record IsServing (now i : ℕ) (old links : List LinkState) (before lines : Lines) : Type 0 where
   pub steady : IsSteady now old links lines
-  pub run : IsRun now (take i old) (take i links) before lines
+  pub turns : AreTurns (IsTurnAt now old links) 0 i before lines
   pub rest : drop i links ≡ drop i old
   pub alive : is_alive lines ≡ true
   pub whole : AreWhole links

@@ -1,21 +1,24 @@
 -- The same lines, with looks that find nothing: what is noted is the same.
-use Rattle.std.proofs.Common.{ℕ, zero, suc, ◌≡◌, ◌+◌, ◌++◌, List, [], ◌∷◌, Bool, true, false, cond, if◌then◌else◌}
-use Rattle.std.proofs.Common.{nat_lt, map, get_or, replicate, arith, refl, ap, ◌∙◌, sym, subst, Some, None}
+use Rattle.std.proofs.Common.{ℕ, zero, suc, ◌≡◌, ◌+◌, ◌-◌, ◌++◌, List, [], ◌∷◌, Bool, true, false, if◌then◌else◌}
+use Rattle.std.proofs.Common.{nat_lt, length, arith, refl, ap, ◌∙◌, sym, subst, inr, ltb-false, None}
 use Rattle.std.specs.Prelude.{All, Contains}
 use Rattle.afdx_plan.specs.Config.{Plan, link_plan_at, port_plan_at}
 use Rattle.afdx_plan.specs.Plan.{bag_micros}
 use Rattle.afdx_plan.specs.declared.link_plan.LinkPlan.{LinkPlan}
 use Rattle.afdx_frame.specs.Fragments.{Sent}
 use Rattle.redundant_mux.specs.Entry.{Entry}
-use Rattle.vl_shaper.specs.Pace.{Pace, is_due}
-use Rattle.vl_link.specs.Links.{pace_of}
+use Rattle.redundant_mux.specs.Lines.{log}
+use Rattle.vl_shaper.specs.Pace.{is_due}
+use Rattle.vl_link.specs.declared.served.Served.TheVariants.{Nothing as DidNothing}
+use Rattle.vl_link.specs.Turn.{AreTurns}
+use Rattle.afdx_legal.specs.Streams.{latest, link_stream}
 use Rattle.afdx_tx.specs.Emitter.{ports_of_sub}
 use Rattle.afdx_tx.specs.Sending.{link_place}
-use Rattle.tx_script.specs.EndSystem.{EndSystem, Look, Progress, no_progress, progress_at, progress_of, has_left, Asked, ask, turns_from}
-use Rattle.tx_script.specs.EndSystem.{Came, released_of, serve_link, then_links, serve_links, polled, frames_released, fresh, fresh_subs}
+use Rattle.redundant_mux.proofs.MirroredLines.{fresh_lines, fresh_log}
+use Rattle.tx_script.specs.EndSystem.{EndSystem, Progress, no_progress, HasTurnAt, Polls}
 use Rattle.script_lines.specs.Lines.{after_feed}
 use Rattle.script_lines.specs.Meaning.{meaning_of}
-use Rattle.tx_script.specs.Play.{Answer, finds, looks_of, sent_to, place_of}
+use Rattle.tx_script.specs.Play.{Answer, leaves, left_by, sent_to, place_of, IsAnswer, IsPolled, AreAnswers, takes, closes, fills}
 use Rattle.tx_script.specs.Play.{Turn, Play, play, play_line, start, outcome_of, after, FindsFirst, messages_of}
 use Rattle.tx_script.specs.Run.{LinesThen}
 use Rattle.tx_script.specs.Transcript.{note_of}
@@ -24,112 +27,95 @@ use Rattle.script_lines.specs.declared.line.Line.TheVariants.{Send, At, Nothing}
 use Rattle.tx_script.specs.declared.outcome.Outcome.TheVariants.{Refused, Released}
 use Rattle.tx_script.specs.declared.refusal.Refusal.TheVariants.{TimeBack}
 
--- nothing of a fresh sub-VL was taken
-none_of : (many s : ℕ) → progress_at (replicate many no_progress) s ≡ no_progress
-none_of zero s = refl
-none_of (suc many) zero = refl
-none_of (suc many) (suc s) = none_of many s
-
--- nothing of a fresh link was taken
-none_at : (links : List LinkPlan) (k s : ℕ) → progress_at (get_or (map fresh_subs links) k []) s ≡ no_progress
-none_at [] k s = refl
-none_at (link ∷ links) zero s = none_of link.sub_vls s
-none_at (link ∷ links) (suc k) s = none_at links k s
-
--- fresh sub-VLs have nothing where looks find nothing
-ask_none : (own : ℕ) (link : LinkPlan) (many : ℕ) (order : List ℕ)
-    → ask own link (replicate many no_progress) order [] ≡ record {
-      subs = replicate many no_progress;
-      chosen = None;
-      looks = [];
-    }
-ask_none own link many [] = refl
-ask_none own link many (s ∷ order) =
-    ap (λ (progress : Progress). cond (has_left progress)
-    (record { subs = replicate many no_progress; chosen = Some s; looks = [] })
-    (ask own link (replicate many no_progress) order [])) (none_of many s)
-    ∙ ask_none own link many order
-
--- and the link releases nothing
-link_idle : (now own : ℕ) (link : LinkPlan)
-    → serve_link now own link (fresh_subs link) [] [] ≡ record { subs = fresh_subs link; log = []; looks = [] }
-unfolding serve_link
-link_idle now own link = by (is_due pace.gap pace.last now)
-  where
-    pace : Pace
-    pace = pace_of (bag_micros link.bag) link.sub_vls []
-
-    idle : Came (List Progress)
-    idle = record { subs = fresh_subs link; log = []; looks = [] }
-
-    by : (due : Bool)
-        → cond due (released_of now pace [] (ask own link (fresh_subs link) (turns_from pace 0 pace.sub_vls) []).chosen
-        (ask own link (fresh_subs link) (turns_from pace 0 pace.sub_vls) [])) idle ≡ idle
-    by true = ap (λ (asked : Asked). released_of now pace [] asked.chosen asked)
-        (ask_none own link link.sub_vls (turns_from pace 0 pace.sub_vls))
-    by false = refl
-
--- and so does each
-links_idle : (now own : ℕ) (links : List LinkPlan)
-    → serve_links now own links (map fresh_subs links) [] [] ≡ record { subs = map fresh_subs links; log = []; looks = [] }
-links_idle now own [] = refl
-links_idle now own (link ∷ links) =
-    ap (λ (one : Came (List Progress)). then_links one (serve_links now own links (map fresh_subs links) one.log one.looks))
-    (link_idle now own link)
-    ∙ ap (λ (rest : Came (List (List Progress))).
-    then_links (record { subs = fresh_subs link; log = []; looks = [] }) rest) (links_idle now own links)
-
--- at a poll the answer whose looks find nothing
-abbrev blind_answer : Line → Answer → Answer
-blind_answer (At now) answer = finds []
-blind_answer said answer = answer
-
--- the line with such an answer
-abbrev blind_turn : Turn → Turn
-blind_turn turn = record { line = turn.line; answer = blind_answer (meaning_of turn.line) turn.answer }
-
--- the lines with such answers
-abbrev pub blind : List Turn → List Turn
-blind turns = map blind_turn turns
-
 -- an end system that took nothing and handed nothing over, of the same plan and moment
 pub record IsIdle (es other : EndSystem) : Type 0 where
   pub plan : other.plan ≡ es.plan
   pub moment : other.moment ≡ es.moment
-  pub links : other.links ≡ map fresh_subs other.plan.links
+  pub subs : (k s : ℕ) → other.subs k s ≡ no_progress
   pub log : other.log ≡ []
 
--- a poll whose looks find nothing leaves it so
-polled_idle : (es other : EndSystem) (now : ℕ) (looks : List Look) → IsIdle es other
-    → IsIdle (polled es now looks) (polled other now [])
-unfolding polled
-polled_idle es other now looks h =
-    let came : serve_links now other.plan.end_system other.plan.links other.links other.log []
-    ≡ record { subs = map fresh_subs other.plan.links; log = []; looks = [] } =
-    ap (λ (links : List (List Progress)). serve_links now other.plan.end_system other.plan.links links other.log []) h.links
-    ∙ ap (λ (log : List Entry).
-    serve_links now other.plan.end_system other.plan.links (map fresh_subs other.plan.links) log []) h.log
-    ∙ links_idle now other.plan.end_system other.plan.links in
-    record {
-      plan = h.plan;
-      moment = refl;
-      links = ap (λ (x : Came (List (List Progress))). x.subs) came;
-      log = ap (λ (x : Came (List (List Progress))). x.log) came;
-    }
+-- the same at another moment
+abbrev idle_at : EndSystem → ℕ → EndSystem
+idle_at other now = record other { moment = now }
+
+-- a link of which nothing was released is due
+due_first : (now : ℕ) (plan : LinkPlan)
+    → is_due (bag_micros plan.bag) (latest None (link_stream plan.id.0 (log fresh_lines))) now ≡ true
+due_first now plan = ap (λ (H : List Entry).
+    is_due (bag_micros plan.bag) (latest None (link_stream plan.id.0 H)) now) fresh_log
+
+-- links of which nothing was taken release nothing
+idle_turns : (now : ℕ) (other : EndSystem) → ((k s : ℕ) → other.subs k s ≡ no_progress) → (k many : ℕ)
+    → AreTurns (HasTurnAt now other (idle_at other now)) k many fresh_lines fresh_lines
+idle_turns now other none k zero = refl
+idle_turns now other none k (suc many) = (
+  fresh_lines,
+  DidNothing,
+  (
+    inr (
+      due_first now (link_plan_at other.plan.links k),
+      record {
+        each = λ s lt. (ap (λ (progress : Progress). progress.left) (none k s), refl);
+        others = λ s past. refl;
+      },
+    ),
+    refl,
+  ),
+  refl,
+  idle_turns now other none (k + 1) many,
+)
+
+-- so they are polled
+idle_polls : (now : ℕ) (es other : EndSystem) → IsIdle es other → Polls now other (idle_at other now)
+idle_polls now es other h = record {
+  plan = refl;
+  moment = refl;
+  lines = fresh_lines;
+  after = fresh_lines;
+  was = fresh_log ∙ sym h.log;
+  is = fresh_log ∙ sym h.log;
+  turns = idle_turns now other h.subs 0 (length other.plan.links);
+}
+
+-- the answer to a line where looks find nothing
+abbrev blind_answer : EndSystem → Line → Answer → Answer
+blind_answer other (At now) answer = leaves (idle_at other now)
+blind_answer other _ answer = answer
+
+abbrev blind_turn : EndSystem → Turn → Turn
+blind_turn other turn = record { line = turn.line; answer = blind_answer other (meaning_of turn.line) turn.answer }
+
+-- the lines with such answers
+abbrev pub blind : Play → List Turn → List Turn
+blind other [] = []
+blind other (turn ∷ turns) = blind_turn other.es turn ∷ blind (play_line (blind_turn other.es turn) other) turns
+
+-- such an answer may be given
+blind_may : (said : Line) (answer : Answer) (es other : EndSystem) → IsIdle es other
+    → IsAnswer other said (blind_answer other said answer)
+blind_may (Send port bytes) answer es other h = tt
+blind_may Nothing answer es other h = tt
+blind_may (At now) answer es other h = λ later. idle_polls now es other h
 
 -- after a line it is so still
-after_idle : (said : Line) (answer : Answer) (es other : EndSystem) → IsIdle es other
-    → IsIdle (after es said answer) (after other said (blind_answer said answer))
-after_idle (Send port bytes) answer es other h = h
-after_idle Nothing answer es other h = h
-after_idle (At now) answer es other h =
-    subst (λ (moment : ℕ). IsIdle (if nat_lt now es.moment then es else polled es now (looks_of answer))
-    (if nat_lt now moment then other else polled other now [])) (sym h.moment) (by (nat_lt now es.moment))
+after_idle : (said : Line) (answer : Answer) (es other : EndSystem) → IsAnswer es said answer → IsIdle es other
+    → IsIdle (after es said answer) (after other said (blind_answer other said answer))
+after_idle (Send port bytes) answer es other may h = h
+after_idle Nothing answer es other may h = h
+after_idle (At now) answer es other may h =
+    subst (λ (moment : ℕ). IsIdle (if nat_lt now es.moment then es else left_by es answer)
+    (if nat_lt now moment then other else idle_at other now)) (sym h.moment) (by (nat_lt now es.moment) refl)
   where
-    by : (early : Bool) → IsIdle (if early then es else polled es now (looks_of answer))
-        (if early then other else polled other now [])
-    by true = h
-    by false = polled_idle es other now (looks_of answer) h
+    left : (given : Answer) → IsPolled now es given → IsIdle (left_by es given) (idle_at other now)
+    left (leaves new) p = record { plan = h.plan ∙ sym p.plan; moment = sym p.moment; subs = h.subs; log = h.log }
+    left takes p = absurd p
+    left closes p = absurd p
+    left fills p = absurd p
+
+    by : (early : Bool) → nat_lt now es.moment ≡ early → IsIdle (if early then es else left_by es answer)
+        (if early then other else idle_at other now)
+    by true e = h
+    by false e = left answer (may (ltb-false now es.moment e))
 
 -- what is noted of a poll doesn't tell its releases
 note_at : (early : Bool) (line many few : ℕ)
@@ -141,14 +127,15 @@ note_at false line many few = refl
 
 -- the same is noted of a line
 same_note : (line : ℕ) (said : Line) (answer : Answer) (es other : EndSystem) → IsIdle es other
-    → note_of line (outcome_of other said (blind_answer said answer)) ≡ note_of line (outcome_of es said answer)
+    → note_of line (outcome_of other said (blind_answer other said answer)) ≡ note_of line (outcome_of es said answer)
 same_note line (Send port bytes) answer es other h =
     ap (λ (plan : Plan). note_of line (sent_to plan (place_of plan port) bytes answer)) h.plan
 same_note line Nothing answer es other h = refl
 same_note line (At now) answer es other h =
     ap (λ (moment : ℕ). note_of line (if nat_lt now moment then Refused TimeBack
-    else Released (frames_released other now []))) h.moment
-    ∙ note_at (nat_lt now es.moment) line (frames_released other now []) (frames_released es now (looks_of answer))
+    else Released (length other.log - length other.log))) h.moment
+    ∙ note_at (nat_lt now es.moment) line (length other.log - length other.log)
+    (length (left_by es answer).log - length es.log)
 
 -- two runs that noted the same, of which the second took nothing from queues
 pub record IsBlindOf (st other : Play) : Type 0 where
@@ -157,44 +144,59 @@ pub record IsBlindOf (st other : Play) : Type 0 where
   pub notes : other.notes ≡ st.notes
 
 -- one line more
-blind_more : (turn : Turn) (st other : Play) → IsBlindOf st other
-    → IsBlindOf (play_line turn st) (play_line (blind_turn turn) other)
-blind_more turn st other h = record {
-  idle = after_idle (meaning_of turn.line) turn.answer st.es other.es h.idle;
+blind_more : (turn : Turn) (st other : Play) → IsAnswer st.es (meaning_of turn.line) turn.answer → IsBlindOf st other
+    → IsBlindOf (play_line turn st) (play_line (blind_turn other.es turn) other)
+blind_more turn st other may h = record {
+  idle = after_idle (meaning_of turn.line) turn.answer st.es other.es may h.idle;
   count = ap (λ (count : ℕ). count + 1) h.count;
   notes = ap (λ (notes : List ℕ). notes
-      ++ note_of (other.count + 1) (outcome_of other.es (meaning_of turn.line) (blind_answer (meaning_of turn.line) turn.answer))) h.notes
+      ++ note_of (other.count + 1) (outcome_of other.es (meaning_of turn.line) (blind_answer other.es (meaning_of turn.line) turn.answer))) h.notes
       ∙ ap (λ (count : ℕ). st.notes
-      ++ note_of (count + 1) (outcome_of other.es (meaning_of turn.line) (blind_answer (meaning_of turn.line) turn.answer))) h.count
+      ++ note_of (count + 1) (outcome_of other.es (meaning_of turn.line) (blind_answer other.es (meaning_of turn.line) turn.answer))) h.count
       ∙ ap (λ (note : List ℕ). st.notes ++ note)
       (same_note (st.count + 1) (meaning_of turn.line) turn.answer st.es other.es h.idle);
 }
 
 -- all lines
-blind_play : (turns : List Turn) (st other : Play) → IsBlindOf st other
-    → IsBlindOf (play st turns) (play other (blind turns))
-blind_play [] st other h = h
-blind_play (turn ∷ turns) st other h =
-    blind_play turns (play_line turn st) (play_line (blind_turn turn) other) (blind_more turn st other h)
+blind_play : (turns : List Turn) (st other : Play) → AreAnswers st turns → IsBlindOf st other
+    → IsBlindOf (play st turns) (play other (blind other turns))
+blind_play [] st other may h = h
+blind_play (turn ∷ turns) st other may h =
+    blind_play turns (play_line turn st) (play_line (blind_turn other.es turn) other) may.1 (blind_more turn st other may.0 h)
 
 -- before the first line
 pub blind_start : (plan : Plan) → IsBlindOf (start plan) (start plan)
-unfolding fresh
 blind_start plan = record {
-  idle = record { plan = refl; moment = refl; links = refl; log = refl };
+  idle = record { plan = refl; moment = refl; subs = λ k s. refl; log = refl };
   count = refl;
   notes = refl;
 }
 
 -- The same lines with such answers note the same.
-pub blind_run : (plan : Plan) (turns : List Turn) → IsBlindOf (play (start plan) turns) (play (start plan) (blind turns))
-blind_run plan turns = blind_play turns (start plan) (start plan) (blind_start plan)
+pub blind_run : (plan : Plan) (turns : List Turn) → AreAnswers (start plan) turns
+    → IsBlindOf (play (start plan) turns) (play (start plan) (blind (start plan) turns))
+blind_run plan turns may = blind_play turns (start plan) (start plan) may (blind_start plan)
 
 -- They are the same lines.
-pub blind_lines : (text : List ℕ) (turns : List Turn) (rest : List ℕ) → LinesThen text turns rest
-    → LinesThen text (blind turns) rest
-blind_lines text [] rest lines = lines
-blind_lines text (turn ∷ turns) rest lines = (lines.0, blind_lines (after_feed text) turns rest lines.1)
+pub blind_lines : (text : List ℕ) (other : Play) (turns : List Turn) (rest : List ℕ) → LinesThen text turns rest
+    → LinesThen text (blind other turns) rest
+blind_lines text other [] rest lines = lines
+blind_lines text other (turn ∷ turns) rest lines =
+    (lines.0, blind_lines (after_feed text) (play_line (blind_turn other.es turn) other) turns rest lines.1)
+
+-- each such answer may be given
+answers_blind : (turns : List Turn) (st other : Play) → AreAnswers st turns → IsBlindOf st other
+    → AreAnswers other (blind other turns)
+answers_blind [] st other may h = tt
+answers_blind (turn ∷ turns) st other may h = (
+  blind_may (meaning_of turn.line) turn.answer st.es other.es h.idle,
+  answers_blind turns (play_line turn st) (play_line (blind_turn other.es turn) other) may.1 (blind_more turn st other may.0 h),
+)
+
+-- Such answers may be given.
+pub blind_answers : (plan : Plan) (turns : List Turn) → AreAnswers (start plan) turns
+    → AreAnswers (start plan) (blind (start plan) turns)
+blind_answers plan turns may = answers_blind turns (start plan) (start plan) may (blind_start plan)
 
 -- Where nothing was taken, nothing else than what was sent was.
 pub blind_finds : (st other : Play) → IsBlindOf st other → FindsFirst other
@@ -210,6 +212,5 @@ blind_finds st other h = record {
   );
 }
   where
-    none : (k s : ℕ) → (progress_of other.es k s).taken ≡ []
-    none k s = ap (λ (links : List (List Progress)). (progress_at (get_or links k []) s).taken) h.idle.links
-        ∙ ap (λ (progress : Progress). progress.taken) (none_at other.es.plan.links k s)
+    none : (k s : ℕ) → (other.es.subs k s).taken ≡ []
+    none k s = ap (λ (progress : Progress). progress.taken) (h.idle.subs k s)

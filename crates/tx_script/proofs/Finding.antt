@@ -26,8 +26,8 @@ use Rattle.vl_link.specs.LinkGathering.{BecomesWhole}
 use Rattle.afdx_tx.specs.Gathering.{IsGatheredSub, IsGatheredLink, IsGatheredTx, HasOwnPart, held_for}
 use Rattle.afdx_tx.proofs.PortLink.{found, found_over}
 use Rattle.tx_script.specs.AtBench.{AtBench, IsAtHand, Matches, GaveFirst}
-use Rattle.tx_script.specs.EndSystem.{progress_of, progress_at}
-use Rattle.tx_script.specs.Matching.{MatchesSub, MatchesLink}
+use Rattle.tx_script.specs.EndSystem.{Progress}
+use Rattle.tx_script.specs.Matching.{IsPlannedSub, IsPlannedLink}
 use Rattle.tx_script.specs.Play.{Play, FindsFirst, messages_of, found_beside}
 use Rattle.tx_script.proofs.SubPorts.{IsPassing, filter_at, filter_from}
 
@@ -233,33 +233,33 @@ finds_first st bench h g m = record { own = own; first = first }
         item.0 < length (ports_of_sub st.es.plan.ports (link_plan_at st.es.plan.links k).id.0 s))
         (taken_of (held_at (link_at bench.tx.links k).subs s).seen)
     below k s within inside =
-        let link : MatchesLink st.es.plan.end_system (link_plan_at st.es.plan.links k) st.es.plan.ports
-        (get_or st.es.links k []) (link_at bench.tx.links k) = m.emitter.links k within in
-        let sub : MatchesSub (record { end_system = st.es.plan.end_system; link = link_plan_at st.es.plan.links k; sub = s })
+        let link : IsPlannedLink st.es.plan.end_system (link_plan_at st.es.plan.links k) st.es.plan.ports
+        (link_at bench.tx.links k) = m.emitter.planned k within in
+        let sub : IsPlannedSub (record { end_system = st.es.plan.end_system; link = link_plan_at st.es.plan.links k; sub = s })
         (ports_of_sub st.es.plan.ports (link_plan_at st.es.plan.links k).id.0 s)
-        (progress_at (get_or st.es.links k []) s) (held_at (link_at bench.tx.links k).subs s) = link.each s inside in
+        (held_at (link_at bench.tx.links k).subs s) = link.each s inside in
         subst (λ (n : ℕ). All (λ (item : ℕ × List ℕ). item.0 < n) (taken_of (held_at (link_at bench.tx.links k).subs s).seen))
         sub.queue
         (g.own k s (let count = m.emitter.count in omega arith) (let count = link.count in omega arith))
 
     -- and what it is of the end system
     taken_is : (k s : ℕ) → k < length st.es.plan.links → s < (link_plan_at st.es.plan.links k).sub_vls
-        → (progress_of st.es k s).taken
+        → (st.es.subs k s).taken
         ≡ sent_by (ports_of_sub st.es.plan.ports (link_plan_at st.es.plan.links k).id.0 s)
         (taken_of (held_at (link_at bench.tx.links k).subs s).seen)
     taken_is k s within inside =
-        let link : MatchesLink st.es.plan.end_system (link_plan_at st.es.plan.links k) st.es.plan.ports
-        (get_or st.es.links k []) (link_at bench.tx.links k) = m.emitter.links k within in
-        let sub : MatchesSub (record { end_system = st.es.plan.end_system; link = link_plan_at st.es.plan.links k; sub = s })
+        let link : IsPlannedLink st.es.plan.end_system (link_plan_at st.es.plan.links k) st.es.plan.ports
+        (link_at bench.tx.links k) = m.emitter.planned k within in
+        let sub : IsPlannedSub (record { end_system = st.es.plan.end_system; link = link_plan_at st.es.plan.links k; sub = s })
         (ports_of_sub st.es.plan.ports (link_plan_at st.es.plan.links k).id.0 s)
-        (progress_at (get_or st.es.links k []) s) (held_at (link_at bench.tx.links k).subs s) = link.each s inside in
-        sub.taken ∙ ap (λ (senders : List PortPlan). sent_by senders (taken_of (held_at (link_at bench.tx.links k).subs s).seen))
+        (held_at (link_at bench.tx.links k).subs s) = link.each s inside in
+        ap (λ (progress : Progress). progress.taken) (m.emitter.subs k s within) ∙ ap (λ (senders : List PortPlan). sent_by senders (taken_of (held_at (link_at bench.tx.links k).subs s).seen))
         sub.ports
 
     own : (k s : ℕ) → k < length st.es.plan.links → s < (link_plan_at st.es.plan.links k).sub_vls
         → All (λ (sent : Sent).
         Contains (ports_of_sub st.es.plan.ports (link_plan_at st.es.plan.links k).id.0 s) sent.port)
-        (progress_of st.es k s).taken
+        (st.es.subs k s).taken
     own k s within inside =
         subst (All (λ (sent : Sent).
         Contains (ports_of_sub st.es.plan.ports (link_plan_at st.es.plan.links k).id.0 s) sent.port))
@@ -312,7 +312,7 @@ finds_first st bench h g m = record { own = own; first = first }
             let beside : found_beside st.es (port_plan_at st.es.plan.ports place)
             ≡ sent_by (ports_of_sub st.es.plan.ports (port_plan_at st.es.plan.ports place).vl.0
             (port_plan_at st.es.plan.ports place).sub) items =
-            ap (λ (i : ℕ). (progress_of st.es i (port_plan_at st.es.plan.ports place).sub).taken) is
+            ap (λ (i : ℕ). (st.es.subs i (port_plan_at st.es.plan.ports place).sub).taken) is
             ∙ taken_is k (port_plan_at st.es.plan.ports place).sub within over.sub
             ∙ ap (λ (n : ℕ). sent_by (ports_of_sub st.es.plan.ports n (port_plan_at st.es.plan.ports place).sub) items) vl in
             let part : messages_of (port_plan_at st.es.plan.ports place) (found_beside st.es (port_plan_at st.es.plan.ports place))

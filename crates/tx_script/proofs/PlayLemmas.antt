@@ -6,7 +6,7 @@ use Rattle.afdx_plan.specs.Config.{Plan}
 use Rattle.script_lines.specs.Lines.{after_feed}
 use Rattle.tx_script.specs.AtBench.{AtBench, Matches, ObeysFor, Obeys}
 use Rattle.script_lines.specs.Meaning.{meaning_of}
-use Rattle.tx_script.specs.Play.{Turn, Play, play, play_line, start, outcome_of}
+use Rattle.tx_script.specs.Play.{Turn, Play, play, play_line, start, outcome_of, IsAnswer, AreAnswers}
 use Rattle.tx_script.specs.Run.{BeginsWith, LinesThen}
 use Rattle.tx_script.specs.Running.{Running}
 use Rattle.tx_script.specs.Summary.{counted}
@@ -19,6 +19,12 @@ pub play_more : (st : Play) (turns : List Turn) (turn : Turn) → play st (turns
     (play st turns)
 play_more st [] turn = refl
 play_more st (first ∷ turns) turn = play_more (play_line first st) turns turn
+
+-- and its answer is given after theirs
+pub answers_more : (st : Play) (turns : List Turn) (turn : Turn) → AreAnswers st turns
+    → IsAnswer (play st turns).es (meaning_of turn.line) turn.answer → AreAnswers st (turns ++ turn ∷ [])
+answers_more st [] turn all may = (may, tt)
+answers_more st (first ∷ turns) turn all may = (all.0, answers_more (play_line first st) turns turn all.1 may)
 
 -- a text is these lines and the one with which the rest begins
 pub lines_more : (text : List ℕ) (turns : List Turn) (rest : List ℕ) (turn : Turn) → LinesThen text turns rest
@@ -48,6 +54,7 @@ running_more plan text old mid fin bench new rest count sums line outcome ran be
     record {
       turns = ran.turns ++ turn ∷ [];
       lines = lines_more text ran.turns rest turn ran.lines begins;
+      answers = answers_more (start plan) ran.turns turn ran.answers obeyed.may;
       matches = subst (λ (p : Play). Matches p.accepted p.es new) (sym more) obeyed.matches;
       count_is = ap (λ (p : Play). p.count) more ∙ ap (λ k. k + 1) ran.count_is;
       sums_are =

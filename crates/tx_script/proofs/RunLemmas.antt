@@ -22,7 +22,7 @@ use Rattle.tx_script.specs.declared.obey_lines.TheConstants.{LINES_LIMIT}
 use Rattle.tx_script.specs.declared.summary.Summary.{Summary as Sums}
 use Rattle.tx_script.proofs.Matched.{fresh_matches}
 use Rattle.tx_script.proofs.AtHand.{fresh_sent}
-use Rattle.tx_script.proofs.Blind.{blind, IsBlindOf, blind_run, blind_lines, blind_finds}
+use Rattle.tx_script.proofs.Blind.{blind, IsBlindOf, blind_run, blind_lines, blind_answers, blind_finds}
 use Rattle.tx_script.proofs.PlayLemmas.{running_more}
 
 -- counts grow slowly
@@ -83,6 +83,7 @@ running_none plan (Some text) old bench is_fresh = record {
       record {
         turns = [];
         lines = refl;
+        answers = tt;
         matches = record {
           emitter = fresh_matches plan bench.tx is_fresh.tx;
           own = fresh_sent bench.tx bench.ports is_fresh.ports;
@@ -118,14 +119,15 @@ pub has_begun : (plan : Plan) (text : List ℕ) (old new : Option (List ℕ)) (b
     (count : ℕ) (sums : Sums) → Running plan text old new bench rest count sums → HasBegun plan text old new
 has_begun plan text old new bench rest count sums ran =
     let st : Play = play (start plan) ran.turns in
-    let other : Play = play (start plan) (blind ran.turns) in
-    let is : IsBlindOf (play (start plan) ran.turns) (play (start plan) (blind ran.turns)) = blind_run plan ran.turns in
+    let other : Play = play (start plan) (blind (start plan) ran.turns) in
+    let is : IsBlindOf (play (start plan) ran.turns) (play (start plan) (blind (start plan) ran.turns)) = blind_run plan ran.turns ran.answers in
     record {
-      turns = blind ran.turns;
+      turns = blind (start plan) ran.turns;
       rest = rest;
       written = st.notes;
       unwritten = streams other.es.log (handed_b other.es);
-      lines = blind_lines text ran.turns rest ran.lines;
+      lines = blind_lines text (start plan) ran.turns rest ran.lines;
+      answers = blind_answers plan ran.turns ran.answers;
       finds = blind_finds st other is;
       begins = ap (λ (notes : List ℕ). notes ++ streams other.es.log (handed_b other.es)) is.notes;
       wrote = ran.wrote;

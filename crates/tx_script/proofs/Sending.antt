@@ -132,6 +132,7 @@ send_taken : (accepted : Messages) (es : EndSystem) (tx : Tx) (ports : List Port
     → Obeys (Send id bytes) accepted es (record { tx = tx; ports = set ports place new }) Became.Accepted
 send_taken accepted es tx ports id place d new bytes h found lt may accepts m = record {
   answer = takes;
+  may = tt;
   is = sym outcome;
   matches = record {
     emitter = m.emitter;
@@ -163,6 +164,7 @@ refused_by : (accepted : Messages) (es : EndSystem) (bench : AtBench) (id : ℕ)
     → Obeys (Send id bytes) accepted es bench (Became.Refused why)
 refused_by accepted es bench id bytes answer why is m = record {
   answer = answer;
+  may = tt;
   is = sym is;
   matches = subst (λ (same : Messages). Matches same es bench)
       (sym (ap (λ (o : Outcome). accepted_with (place_of es.plan id) bytes o accepted) is

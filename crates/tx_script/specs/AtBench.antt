@@ -11,7 +11,7 @@ use Rattle.afdx_tx.specs.declared.fault.Refusal.{Refusal as SendRefusal}
 use Rattle.afdx_tx.specs.declared.fault.Refusal.TheVariants as Why
 use Rattle.tx_script.specs.EndSystem.{EndSystem}
 use Rattle.tx_script.specs.Matching.{MatchesTx}
-use Rattle.tx_script.specs.Play.{Answer, Messages, outcome_of, after, accepted_after, script_refusal}
+use Rattle.tx_script.specs.Play.{Answer, IsAnswer, Messages, outcome_of, after, accepted_after, script_refusal}
 use Rattle.script_lines.specs.declared.line.Line.{Line}
 use Rattle.tx_script.specs.declared.outcome.Outcome.{Outcome}
 use Rattle.tx_script.specs.declared.outcome.Outcome.TheVariants as Became
@@ -68,6 +68,7 @@ Sends old bytes new outcome = ⊥
 pub record Obeys (line : Line) (accepted : Messages) (es : EndSystem) (bench : AtBench)
     (outcome : Outcome) : Type 0 where
   pub answer : Answer
+  pub may : IsAnswer es line answer
   pub is : outcome ≡ outcome_of es line answer
   pub matches : Matches (accepted_after es line answer accepted) (after es line answer) bench
 

@@ -1,165 +1,88 @@
--- An end system as a transcript knows it: plain lists, and no queue. What queues answer comes from
--- outside, as looks.
-use Rattle.std.specs.Prelude.{ℕ, zero, suc, ◌+◌, ◌-◌, Bool, true, false, if◌then◌else◌, List, []}
-use Rattle.std.specs.Prelude.{◌∷◌, ◌++◌, length, map, drop, set, get_or, replicate, Option, Some, None}
-use Rattle.afdx_plan.specs.Config.{Plan}
-use Rattle.afdx_plan.specs.Plan.{bag_micros}
+-- An end system as a transcript knows it: what was taken of each sub-VL and what is left, no queue.
+use Rattle.std.specs.Prelude.{ℕ, ◌≡◌, ◌⊎◌, List, [], ◌∷◌, ◌++◌, length, map}
+use Rattle.afdx_plan.specs.Config.{Plan, link_plan_at}
 use Rattle.afdx_plan.specs.declared.link_plan.LinkPlan.{LinkPlan}
 use Rattle.afdx_frame.specs.declared.net.Net.TheVariants.{B}
-use Rattle.afdx_frame.specs.Fragments.{Sent}
-use Rattle.redundant_mux.specs.Entry.{Entry, entry}
-use Rattle.redundant_mux.specs.Lines.{side}
-use Rattle.vl_shaper.specs.Pace.{Pace, is_due, turn_of}
+use Rattle.afdx_frame.specs.Fragments.{Sent, blanked}
+use Rattle.redundant_mux.specs.Entry.{Entry}
+use Rattle.redundant_mux.specs.Lines.{Lines, side, log as log_of}
+use Rattle.vl_link.specs.declared.served.Served.{Served}
 use Rattle.vl_link.specs.declared.sub_vl.SubVl.{SubVl}
-use Rattle.afdx_legal.specs.Streams.{link_stream}
-use Rattle.vl_link.specs.Links.{message_fragments, pace_of}
+use Rattle.vl_link.specs.Turn.{TurnView, Turn, AreTurns}
+use Rattle.vl_link.specs.Links.{message_fragments}
+use Rattle.afdx_tx.specs.Drain.{pace_in}
 
 -- A sub-VL: the messages that were taken from its queue, and the fragments left of the last one.
 pub record Progress : Type 0 where
   pub taken : List Sent
   pub left : List (List ℕ)
 
--- The plan, the sub-VLs of each link, what was handed to network A, and the moment of the last poll.
+-- The plan, the sub-VLs by the place of their link and their index, what was handed to network A, and
+-- the moment of the last poll.
 pub record EndSystem : Type 0 where
   pub plan : Plan
-  pub links : List (List Progress)
+  pub subs : ℕ → ℕ → Progress
   pub log : List Entry
   pub moment : ℕ
 
--- A look into a queue finds nothing, or the first message that waits.
-abbrev pub Look : Type 0
-Look = Option Sent
+-- a message was found, and is now being sent
+abbrev pub started : SubVl → Progress → Sent → Progress
+started of old message = record {
+  taken = old.taken ++ message ∷ [];
+  left = message_fragments of (length old.taken) message;
+}
 
+-- a sub-VL goes on with its message, or nothing is left of it and a look finds the next one
+abbrev pub GoesOnOrFinds : SubVl → (old mid : Progress) → Type 0
+GoesOnOrFinds of old mid =
+    ((old.left ≡ [] → ⊥) × (mid ≡ old))
+    ⊎ ((message : Sent) × (old.left ≡ []) × (mid ≡ started of old message))
+
+-- a sub-VL has something, and gives its next frame
+pub record SendsFrame (of : SubVl) (old : Progress) (frame : List ℕ) (new : Progress) : Type 0 where
+  pub mid : Progress
+  pub asked : GoesOnOrFinds of old mid
+  pub next : mid.left ≡ blanked frame ∷ new.left
+  pub taken : new.taken ≡ mid.taken
+
+-- a turn over the sub-VLs of a link: one has nothing where a look finds nothing either
+abbrev pub progress_view : ℕ → LinkPlan → (old new : ℕ → Progress) → TurnView
+progress_view end_system link old new = record {
+  lacks = λ s. ((old s).left ≡ []) × (new s ≡ old s);
+  rests = λ s. new s ≡ old s;
+  gives = λ s frame.
+      SendsFrame (record { end_system = end_system; link = link; sub = s }) (old s) frame (new s);
+}
+
+-- one turn of the link of a plan, from its sub-VLs to others
+abbrev pub HasTurn : ℕ → ℕ → LinkPlan → (old new : ℕ → Progress) → (lines after : Lines) → Served → Type 0
+HasTurn now end_system link old new lines after did =
+    Turn now link.id.0 (pace_in link (log_of lines)) (progress_view end_system link old new)
+    lines after did
+
+-- one turn of the link at a place
+abbrev pub HasTurnAt : ℕ → (old new : EndSystem) → ℕ → (lines after : Lines) → Served → Type 0
+HasTurnAt now old new k lines after did =
+    HasTurn now old.plan.end_system (link_plan_at old.plan.links k) (old.subs k) (new.subs k)
+    lines after did
+
+-- a poll: the links have their turns in order, and the last network isn't lost
+pub record Polls (now : ℕ) (old new : EndSystem) : Type 0 where
+  pub plan : new.plan ≡ old.plan
+  pub moment : new.moment ≡ now
+  pub lines : Lines
+  pub after : Lines
+  pub was : log_of lines ≡ old.log
+  pub is : log_of after ≡ new.log
+  pub turns : AreTurns (HasTurnAt now old new) 0 (length old.plan.links) lines after
+
+-- nothing was sent
 abbrev pub no_progress : Progress
 no_progress = record { taken = []; left = [] }
 
-abbrev pub progress_at : List Progress → ℕ → Progress
-progress_at subs s = get_or subs s no_progress
-
-abbrev pub progress_of : EndSystem → ℕ → ℕ → Progress
-progress_of es k s = progress_at (get_or es.links k []) s
-
--- the first look of a list, which finds nothing where there is none
-abbrev pub first_look : List Look → Look
-first_look [] = None
-first_look (look ∷ looks) = look
-
--- a message was found, and is now being sent
-abbrev pub started : SubVl → Progress → Sent → Progress
-started of progress message = record {
-  taken = progress.taken ++ message ∷ [];
-  left = message_fragments of (length progress.taken) message;
-}
-
--- whether there are fragments
-abbrev pub are_some : List (List ℕ) → Bool
-are_some [] = false
-are_some (fragment ∷ fragments) = true
-
--- some fragment is left
-abbrev pub has_left : Progress → Bool
-has_left progress = are_some progress.left
-
--- What asking sub-VLs in turn led to: the one that has something, if any, and the looks that are left.
-pub record Asked : Type 0 where
-  pub subs : List Progress
-  pub chosen : Option ℕ
-  pub looks : List Look
-
--- by what a look found
-abbrev pub by_look : Look → Asked → (Sent → Asked) → Asked
-by_look None passed found = passed
-by_look (Some message) passed found = found message
-
--- In this order, the first sub-VL that has something: a fragment left, or a message that a look finds.
-abbrev pub ask : ℕ → LinkPlan → List Progress → List ℕ → List Look → Asked
-ask end_system link subs [] looks = record { subs = subs; chosen = None; looks = looks }
-ask end_system link subs (s ∷ order) looks =
-    if has_left (progress_at subs s) then record { subs = subs; chosen = Some s; looks = looks }
-    else by_look (first_look looks) (ask end_system link subs order (drop 1 looks))
-    (λ message. record {
-      subs = set subs s
-          (started (record { end_system = end_system; link = link; sub = s }) (progress_at subs s) message);
-      chosen = Some s;
-      looks = drop 1 looks;
-    })
-
--- the sub-VLs in the order of so many turns, from turn k on
-abbrev pub turns_from : Pace → ℕ → ℕ → List ℕ
-turns_from pace k zero = []
-turns_from pace k (suc many) = turn_of pace.sub_vls pace.last k ∷ turns_from pace (k + 1) many
-
--- What one link, or all links, came to: their sub-VLs, what was then handed over, and the looks left.
-pub record Came (X : Type 0) : Type 0 where
-  pub subs : X
-  pub log : List Entry
-  pub looks : List Look
-
--- the next frame of a sub-VL
-abbrev pub next_frame : Progress → ℕ → List ℕ
-next_frame progress number = get_or progress.left 0 [] ++ number ∷ []
-
--- the frame of the chosen sub-VL goes out, with the next number
-abbrev pub released_of : ℕ → Pace → List Entry → Option ℕ → Asked → Came (List Progress)
-released_of now pace log None asked = record { subs = asked.subs; log = log; looks = asked.looks }
-released_of now pace log (Some s) asked = record {
-  subs = set asked.subs s (record (progress_at asked.subs s) { left = drop 1 (progress_at asked.subs s).left });
-  log = log ++ entry now (next_frame (progress_at asked.subs s) pace.next) ∷ [];
-  looks = asked.looks;
-}
-
--- what a link does with these looks: where it is due, one frame of the sub-VL that is chosen goes out
-abbrev pub serve_paced :
-    ℕ → ℕ → LinkPlan → List Progress → List Entry → List Look → Pace → Came (List Progress)
-serve_paced now end_system link subs log looks pace =
-    if is_due pace.gap pace.last now
-    then released_of now pace log
-    (ask end_system link subs (turns_from pace 0 pace.sub_vls) looks).chosen
-    (ask end_system link subs (turns_from pace 0 pace.sub_vls) looks)
-    else record { subs = subs; log = log; looks = looks }
-
--- the regulation is read off the link's stream
-unfoldable pub serve_link :
-    ℕ → ℕ → LinkPlan → List Progress → List Entry → List Look → Came (List Progress)
-serve_link now end_system link subs log looks =
-    serve_paced now end_system link subs log looks
-    (pace_of (bag_micros link.bag) link.sub_vls (link_stream link.id.0 log))
-
--- a link, and then the links behind it
-abbrev pub then_links : Came (List Progress) → Came (List (List Progress)) → Came (List (List Progress))
-then_links one rest = record { subs = one.subs ∷ rest.subs; log = rest.log; looks = rest.looks }
-
--- all links in the order of the plan
-abbrev pub serve_links :
-    ℕ → ℕ → List LinkPlan → List (List Progress) → List Entry → List Look
-    → Came (List (List Progress))
-serve_links now end_system [] subs log looks = record { subs = []; log = log; looks = looks }
-serve_links now end_system (link ∷ links) [] log looks = record { subs = []; log = log; looks = looks }
-serve_links now end_system (link ∷ links) (sub ∷ subs) log looks =
-    then_links (serve_link now end_system link sub log looks)
-    (serve_links now end_system links subs
-    (serve_link now end_system link sub log looks).log
-    (serve_link now end_system link sub log looks).looks)
-
--- one poll with these looks
-unfoldable pub polled : EndSystem → ℕ → List Look → EndSystem
-polled es now looks = record {
-  plan = es.plan;
-  links = (serve_links now es.plan.end_system es.plan.links es.links es.log looks).subs;
-  log = (serve_links now es.plan.end_system es.plan.links es.links es.log looks).log;
-  moment = now;
-}
-
--- how many frames that poll releases
-abbrev pub frames_released : EndSystem → ℕ → List Look → ℕ
-frames_released es now looks = length (polled es now looks).log - length es.log
-
 -- nothing was sent, handed over or polled yet
-abbrev pub fresh_subs : LinkPlan → List Progress
-fresh_subs link = replicate link.sub_vls no_progress
-
-unfoldable pub fresh : Plan → EndSystem
-fresh plan = record { plan = plan; links = map fresh_subs plan.links; log = []; moment = 0 }
+abbrev pub fresh : Plan → EndSystem
+fresh plan = record { plan = plan; subs = λ k s. no_progress; log = []; moment = 0 }
 
 -- what was handed to network B
 abbrev pub handed_b : EndSystem → List Entry

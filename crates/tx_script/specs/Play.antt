@@ -1,5 +1,5 @@
 -- A run of lines, with answers of queues that nothing but the run knows.
-use Rattle.std.specs.Prelude.{◌≡◌, ◌<◌, ℕ, ◌+◌, nat_lt, nat_eq, ◌==◌, if◌then◌else◌, List, []}
+use Rattle.std.specs.Prelude.{◌≡◌, ◌<◌, ◌≤◌, ℕ, ◌+◌, ◌-◌, nat_lt, nat_eq, ◌==◌, if◌then◌else◌, List, []}
 use Rattle.std.specs.Prelude.{◌∷◌, ◌++◌, length, position, All, Contains, Option, Some, None}
 use Rattle.afdx_plan.specs.Config.{Plan, port_plan_at, link_plan_at}
 use Rattle.afdx_plan.specs.declared.port_plan.PortPlan.{PortPlan}
@@ -8,7 +8,7 @@ use Rattle.afdx_tx.specs.declared.fault.Refusal.{Refusal as SendRefusal}
 use Rattle.afdx_tx.specs.declared.fault.Refusal.TheVariants as Why
 use Rattle.afdx_tx.specs.Emitter.{ports_of_sub}
 use Rattle.afdx_tx.specs.Sending.{length_refusal, link_place}
-use Rattle.tx_script.specs.EndSystem.{EndSystem, Look, fresh, polled, frames_released, handed_b, progress_of}
+use Rattle.tx_script.specs.EndSystem.{EndSystem, Polls, fresh, handed_b}
 use Rattle.script_lines.specs.Meaning.{meaning_of}
 use Rattle.tx_script.specs.Summary.{counted}
 use Rattle.tx_script.specs.Transcript.{note_of, streams}
@@ -20,17 +20,27 @@ use Rattle.tx_script.specs.declared.outcome.Outcome.{Outcome}
 use Rattle.tx_script.specs.declared.outcome.Outcome.TheVariants as Became
 use Rattle.tx_script.specs.declared.summary.Summary.{Summary as Sums}
 
--- a queue takes a message, is closed or is full, or looks into queues find something or nothing
+-- a queue takes a message, is closed or is full, or a poll leaves the end system so
 pub data Answer : Type 0 where
   takes : Answer
   closes : Answer
   fills : Answer
-  finds : List Look → Answer
+  leaves : EndSystem → Answer
 
--- the looks of a poll; none where the answer is no poll's
-abbrev pub looks_of : Answer → List Look
-looks_of (finds looks) = looks
-looks_of _ = []
+-- the end system that a poll leaves; the same where the answer is no poll's
+abbrev pub left_by : EndSystem → Answer → EndSystem
+left_by es (leaves new) = new
+left_by es _ = es
+
+-- a poll at this moment leaves the end system so
+abbrev pub IsPolled : ℕ → EndSystem → Answer → Type 0
+IsPolled now es (leaves new) = Polls now es new
+IsPolled now es _ = ⊥
+
+-- What may be answered to a line. A queue may take a message, be closed or be full.
+abbrev pub IsAnswer : EndSystem → Line → Answer → Type 0
+IsAnswer es (At moment) answer = es.moment ≤ moment → IsPolled moment es answer
+IsAnswer es _ answer = Unit {0}
 
 -- the place of a port in the plan, by its identifier
 abbrev pub place_of : Plan → ℕ → Option ℕ
@@ -64,12 +74,12 @@ abbrev pub outcome_of : EndSystem → Line → Answer → Outcome
 outcome_of es (Send port bytes) answer = sent_to es.plan (place_of es.plan port) bytes answer
 outcome_of es (At moment) answer =
     if nat_lt moment es.moment then Became.Refused TimeBack
-    else Became.Released (frames_released es moment (looks_of answer))
+    else Became.Released (length (left_by es answer).log - length es.log)
 outcome_of es Nothing answer = Became.Quiet
 
 -- the end system after it
 abbrev pub after : EndSystem → Line → Answer → EndSystem
-after es (At moment) answer = if nat_lt moment es.moment then es else polled es moment (looks_of answer)
+after es (At moment) answer = if nat_lt moment es.moment then es else left_by es answer
 after es _ answer = es
 
 -- the messages of each port that were accepted, by its place in the plan
@@ -132,6 +142,12 @@ abbrev pub play : Play → List Turn → Play
 play st [] = st
 play st (turn ∷ turns) = play (play_line turn st) turns
 
+-- the answers may be given, one after the other
+abbrev pub AreAnswers : Play → List Turn → Type 0
+AreAnswers st [] = Unit {0}
+AreAnswers st (turn ∷ turns) =
+    IsAnswer st.es (meaning_of turn.line) turn.answer × AreAnswers (play_line turn st) turns
+
 -- the whole text: the notes, the lines of network A and then those of B
 abbrev pub transcript : Play → List ℕ
 transcript st = st.notes ++ streams st.es.log (handed_b st.es)
@@ -145,7 +161,7 @@ messages_of port (sent ∷ more) =
 
 -- the messages that looks found of the sub-VL of a port
 abbrev pub found_beside : EndSystem → PortPlan → List Sent
-found_beside es port = (progress_of es (link_place es.plan port) port.sub).taken
+found_beside es port = (es.subs (link_place es.plan port) port.sub).taken
 
 -- Looks found what was sent: each message is of a port of the sub-VL, and the messages of each port
 -- are the first of those of its accepted lines.
@@ -154,7 +170,7 @@ pub record FindsFirst (st : Play) : Type 0 where
       → k < length st.es.plan.links → s < (link_plan_at st.es.plan.links k).sub_vls
       → All (λ (sent : Sent).
       Contains (ports_of_sub st.es.plan.ports (link_plan_at st.es.plan.links k).id.0 s) sent.port)
-      (progress_of st.es k s).taken
+      (st.es.subs k s).taken
   pub first : (place : ℕ) → place < length st.es.plan.ports
       → (more : List (List ℕ))
       × (st.accepted place

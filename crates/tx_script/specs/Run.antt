@@ -4,7 +4,7 @@ use Rattle.std.specs.Io.KnownBytes.{Appends}
 use Rattle.afdx_plan.specs.Config.{Plan}
 use Rattle.script_lines.specs.Faults.{IsFirstFault, IsFaultless}
 use Rattle.script_lines.specs.Lines.{first_line, after_feed}
-use Rattle.tx_script.specs.Play.{Turn, play, start, transcript, FindsFirst}
+use Rattle.tx_script.specs.Play.{Turn, play, start, transcript, AreAnswers, FindsFirst}
 use Rattle.script_lines.specs.declared.line_fault.LineFault.{LineFault}
 use Rattle.tx_script.specs.declared.run_fault.RunFault.{RunFault}
 use Rattle.tx_script.specs.declared.run_fault.RunFault.TheVariants.{Line, Lines, Read, Write, Memory}
@@ -28,6 +28,7 @@ pub record HasRun (plan : Plan) (text : List ℕ) (old new : Option (List ℕ)) 
     (sums : Sums) : Type 0 where
   pub turns : List Turn
   pub lines : LinesThen text turns rest
+  pub answers : AreAnswers (start plan) turns
   pub finds : FindsFirst (play (start plan) turns)
   pub count_is : (play (start plan) turns).count ≡ count
   pub sums_are : (play (start plan) turns).summary ≡ sums
@@ -40,6 +41,7 @@ pub record HasBegun (plan : Plan) (text : List ℕ) (old new : Option (List ℕ)
   pub written : List ℕ
   pub unwritten : List ℕ
   pub lines : LinesThen text turns rest
+  pub answers : AreAnswers (start plan) turns
   pub finds : FindsFirst (play (start plan) turns)
   pub begins : transcript (play (start plan) turns) ≡ written ++ unwritten
   pub wrote : Appends old new written

@@ -6,7 +6,7 @@ use Rattle.tx_script.specs.AtBench.{AtBench, IsAtHand, Matches, GaveFirst}
 use Rattle.script_lines.specs.Faults.{IsFirstFault}
 use Rattle.script_lines.specs.Lines.{first_line, after_feed}
 use Rattle.script_lines.specs.Meaning.{meaning_of}
-use Rattle.tx_script.specs.Play.{Turn, play, start}
+use Rattle.tx_script.specs.Play.{Turn, play, start, AreAnswers}
 use Rattle.tx_script.specs.Run.{BeginsWith, LinesThen, HasBegun, Ends}
 use Rattle.tx_script.specs.Transcript.{streams}
 use Rattle.script_lines.specs.declared.line.Line.{Line as Said}
@@ -44,6 +44,7 @@ pub record Running (plan : Plan) (text : List ℕ) (old new : Option (List ℕ))
     (count : ℕ) (sums : Sums) : Type 0 where
   pub turns : List Turn
   pub lines : LinesThen text turns rest
+  pub answers : AreAnswers (start plan) turns
   pub matches : Matches (play (start plan) turns).accepted (play (start plan) turns).es bench
   pub count_is : (play (start plan) turns).count ≡ count
   pub sums_are : (play (start plan) turns).summary ≡ sums

@@ -3,7 +3,7 @@ use Rattle.std.proofs.Common.{ℕ, zero, suc, ◌≡◌, ◌≢◌, ◌⊎◌, �
 use Rattle.std.proofs.lemmas.List.{length-set, get_or-set_same, get_or-set_other, get_or_default}
 use Rattle.std.proofs.lemmas.Bool.{cases_eq, cases_lt}
 use Rattle.vl_shaper.specs.Pace.{Pace, turn_of}
-use Rattle.vl_link.specs.Links.{Held, held_at, nothing_held, Asks, IsChoice, PassedOver}
+use Rattle.vl_link.specs.Links.{Held, held_at, nothing_held, Asks, IsChosen, PassedOver}
 
 -- the sub-VL that was set
 pub held_same : (subs : List Held) (s : ℕ) (h : Held) → s < length subs → held_at (set subs s h) s ≡ h
@@ -90,17 +90,19 @@ chosen_now : (pace : Pace) (old new : List Held) (k : ℕ) (d h : Held) → Pass
     → IsOnlyAt pace k (turn_of pace.sub_vls pace.last k) → k < pace.sub_vls
     → turn_of pace.sub_vls pace.last k < length new
     → Asks true (get_or new (turn_of pace.sub_vls pace.last k) d) h
-    → IsChoice pace old (turn_of pace.sub_vls pace.last k) (set new (turn_of pace.sub_vls pace.last k) h)
+    → IsChosen pace old (turn_of pace.sub_vls pace.last k) (set new (turn_of pace.sub_vls pace.last k) h)
 chosen_now pace old new k d h p only kl lt a =
     record {
       count = length-set new (turn_of pace.sub_vls pace.last k) h ∙ p.count;
-      turn = k;
-      within = kl;
-      is = refl;
       below = omega (arith, p.count);
-      asked = asked_here pace old new k d h true p only kl lt a;
-      before = before_set pace old new k h p only kl;
-      others = others_set pace old new k h p;
+      choice = record {
+        turn = k;
+        within = kl;
+        is = refl;
+        chosen = asked_here pace old new k d h true p only kl lt a;
+        before = before_set pace old new k h p only kl;
+        others = others_set pace old new k h p;
+      };
     }
 
 -- one more was passed over, by its index
@@ -116,10 +118,10 @@ passed_sub pace old new k sub d h b e f p only kl lt a =
 -- one was chosen, by its index
 pub chosen_sub : (pace : Pace) (old new : List Held) (k sub : ℕ) (d h : Held) (b : Bool)
     → sub ≡ turn_of pace.sub_vls pace.last k → b ≡ true → PassedOver pace old new k → IsOnlyAt pace k sub
-    → k < pace.sub_vls → sub < length new → Asks b (get_or new sub d) h → IsChoice pace old sub (set new sub h)
+    → k < pace.sub_vls → sub < length new → Asks b (get_or new sub d) h → IsChosen pace old sub (set new sub h)
 chosen_sub pace old new k sub d h b e f p only kl lt a =
     let P : ℕ → Type 0 = λ s. IsOnlyAt pace k s → s < length new → Asks true (get_or new s d) h
-    → IsChoice pace old s (set new s h) in
+    → IsChosen pace old s (set new s h) in
     subst P (sym e) (λ o l x. chosen_now pace old new k d h p o kl l x) only lt
     (subst (λ (x : Bool). Asks x (get_or new sub d) h) f a)
 
@@ -134,17 +136,3 @@ moves_passed pace old new n p s = ⊎_elim
     (λ h. inl (subst (λ (i : ℕ). Asks false (held_at old i) (held_at new i)) h.2 (p.before h.0 h.1)))
     (λ h. inr (inr (p.others s h)))
     (met (turn_of pace.sub_vls pace.last) n s)
-
--- what happened to each sub-VL where one was chosen
-pub moves_chosen : (pace : Pace) (old : List Held) (sub : ℕ) (new : List Held) → IsChoice pace old sub new
-    → (s : ℕ) → Moves (held_at old s) (held_at new s)
-moves_chosen pace old sub new c s = ⊎_elim
-    (λ h. inl (subst (λ (i : ℕ). Asks false (held_at old i) (held_at new i)) h.2 (c.before h.0 h.1)))
-    (λ h. ⊎_elim
-    (λ (e : s ≡ sub). inr (inl (subst (λ (i : ℕ). Asks true (held_at old i) (held_at new i)) (sym e) c.asked)))
-    (λ (ne : s ≢ sub). inr
-    (inr (c.others s (λ j jl e. ⊎_elim (λ (l : j < c.turn). h j l e)
-    (λ (g : c.turn ≤ j). let q : j ≡ c.turn =
-    omega arith in ne (sym e ∙ ap (turn_of pace.sub_vls pace.last) q ∙ sym c.is)) (cases_lt j c.turn)))))
-    (cases_eq s sub))
-    (met (turn_of pace.sub_vls pace.last) c.turn s)

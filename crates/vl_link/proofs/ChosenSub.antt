@@ -1,30 +1,35 @@
 -- A chosen sub-VL that became another.
-use Rattle.std.proofs.Common.{ℕ, ◌≡◌, ◌≢◌, List, set, get_or, arith, refl, ap, ◌∙◌, sym, subst, ⊎_elim, []}
+use Rattle.std.proofs.Common.{ℕ, ◌≡◌, ◌≢◌, ◌<◌, List, set, get_or, arith, ap, ◌∙◌, sym, subst, ⊎_elim, []}
 use Rattle.std.proofs.lemmas.List.{get_or_default, get_or-set_other}
 use Rattle.std.proofs.lemmas.Bool.{cases_eq}
 use Rattle.afdx_plan.specs.declared.link_plan.LinkPlan.{LinkPlan}
 use Rattle.redundant_mux.specs.Lines.{Lines}
 use Rattle.vl_shaper.specs.Pace.{Pace}
 use Rattle.vl_link.specs.declared.sub_vl.SubVl.{SubVl}
-use Rattle.vl_link.specs.Links.{Held, held_at, nothing_held, IsChoice, AreSubsOf, IsSameSub, AreSameSubs, Releases, ReleasesAt, Loses, LosesAt}
+use Rattle.vl_link.specs.Links.{Held, held_at, nothing_held, Passes, Gives, GivesFrame, IsChosen, PassedOver, AreSubsOf, IsSameSub, AreSameSubs, SendsNext, FailsNext, held_view}
+use Rattle.vl_link.specs.Turn.{IsChoice, NoneHas, Releases, Loses}
+use Rattle.afdx_frame.specs.declared.net.Net.TheVariants.{A}
+use Rattle.afdx_frame.specs.Header.{IsFrameOf}
+use Rattle.vl_shaper.specs.Pace.{turn_of}
 use Rattle.vl_link.proofs.Choosing.{held_same}
+use Rattle.vl_link.proofs.TurnLaws.{turn_below, turn_onto}
 use Rattle.vl_link.proofs.SubInStep.{asked_left, chosen_same, same_sub_here, same_sub_on}
 
 -- the chosen one, whatever the default of the index
-item_is : (pace : Pace) (old : List Held) (sub : ℕ) (mid : List Held) (d : Held) → IsChoice pace old sub mid
+item_is : (pace : Pace) (old : List Held) (sub : ℕ) (mid : List Held) (d : Held) → IsChosen pace old sub mid
     → get_or mid sub d ≡ held_at mid sub
 item_is pace old sub mid d c = get_or_default mid sub d nothing_held (omega (arith, c.count, c.below))
 
 -- it has a fragment left
 pub chosen_left : (pace : Pace) (old : List Held) (sub : ℕ) (mid : List Held) (d : Held)
-    → IsChoice pace old sub mid → (get_or mid sub d).left ≡ [] → ⊥
+    → IsChosen pace old sub mid → (get_or mid sub d).left ≡ [] → ⊥
 chosen_left pace old sub mid d c e =
-    asked_left (held_at old sub) (held_at mid sub) c.asked
+    asked_left (held_at old sub) (held_at mid sub) c.choice.chosen
     (sym (ap (λ (h : Held). h.left) (item_is pace old sub mid d c)) ∙ e)
 
 -- the chosen one is the sub-VL of its link at that index
 pub item_of : (pace : Pace) (plan : LinkPlan) (old : List Held) (sub : ℕ) (mid : List Held) (d : Held)
-    → IsChoice pace old sub mid → AreSubsOf plan old
+    → IsChosen pace old sub mid → AreSubsOf plan old
     → ((get_or mid sub d).of.link ≡ plan) × ((get_or mid sub d).of.sub ≡ sub)
 item_of pace plan old sub mid d c n =
     let same : (get_or mid sub d).of ≡ (held_at old sub).of =
@@ -34,7 +39,7 @@ item_of pace plan old sub mid d c n =
 
 -- all stay themselves where it becomes one that does
 pub set_same : (pace : Pace) (old : List Held) (sub : ℕ) (mid : List Held) (d h : Held)
-    → IsChoice pace old sub mid → IsSameSub (get_or mid sub d) h → AreSameSubs old (set mid sub h)
+    → IsChosen pace old sub mid → IsSameSub (get_or mid sub d) h → AreSameSubs old (set mid sub h)
 set_same pace old sub mid d h c e s = ⊎_elim
     (λ (q : s ≡ sub).
     let chosen : IsSameSub (held_at mid sub) h =
@@ -48,23 +53,71 @@ set_same pace old sub mid d h c e s = ⊎_elim
     (same_sub_here (held_at mid s) (held_at (set mid sub h) s) (get_or-set_other mid sub s h nothing_held ne)))
     (cases_eq s sub)
 
+-- the choice, once the chosen one became another that gave a frame
+chosen_gives : (pace : Pace) (old : List Held) (sub : ℕ) (mid : List Held) (h : Held) (frame : List ℕ)
+    → IsChosen pace old sub mid → Gives (held_at mid sub) frame h
+    → IsChoice pace (λ s. GivesFrame (held_at old s) frame (held_at (set mid sub h) s))
+    (λ s. Passes (held_at old s) (held_at (set mid sub h) s)) (λ s. held_at (set mid sub h) s ≡ held_at old s) sub
+chosen_gives pace old sub mid h frame c g = record {
+  turn = c.choice.turn;
+  within = c.choice.within;
+  is = c.choice.is;
+  chosen = record {
+    mid = held_at mid sub;
+    asked = c.choice.chosen;
+    gives = subst (λ (x : Held). Gives (held_at mid sub) frame x)
+        (sym (held_same mid sub h (omega (arith, c.count, c.below)))) g;
+  };
+  before = λ k lt.
+      let passed : Passes (held_at old (turn_of pace.sub_vls pace.last k)) (held_at mid (turn_of pace.sub_vls pace.last k)) =
+      c.choice.before k lt in
+      let ne : turn_of pace.sub_vls pace.last k ≢ sub = λ e. asked_left (held_at old sub) (held_at mid sub) c.choice.chosen
+      (subst (λ (i : ℕ). (held_at mid i).left ≡ []) e (ap (λ (x : Held). x.left) passed.same ∙ passed.whole)) in
+      subst (Passes (held_at old (turn_of pace.sub_vls pace.last k)))
+      (sym (get_or-set_other mid sub (turn_of pace.sub_vls pace.last k) h nothing_held ne)) passed;
+  others = λ s not.
+      get_or-set_other mid sub s h nothing_held (λ e. not c.choice.turn (omega arith) (sym c.choice.is ∙ sym e))
+      ∙ c.choice.others s not;
+}
+
 -- a link that chose it released its frame
-pub releases_at : (now number : ℕ) (pace : Pace) (old : List Held) (sub : ℕ) (mid : List Held) (d h : Held) (lines after : Lines)
-    → IsChoice pace old sub mid → Releases now number (get_or mid sub d) h lines after
-    → ReleasesAt now pace sub number old (set mid sub h) lines after
-releases_at now number pace old sub mid d h lines after c r =
+pub releases_at : (now number : ℕ) (plan : LinkPlan) (pace : Pace) (old : List Held) (sub : ℕ) (mid : List Held) (d h : Held) (lines after : Lines)
+    → IsChosen pace old sub mid → AreSubsOf plan old → SendsNext now number (get_or mid sub d) h lines after
+    → Releases now plan.id.0 pace (held_view old (set mid sub h)) sub number lines after
+releases_at now number plan pace old sub mid d h lines after c n r =
+    let own = item_of pace plan old sub mid d c n in
     record {
-      picks = record { mid = mid; choice = c; held = h; others = refl };
-      releases = subst (λ (x : Held). Releases now number x h lines after) (item_is pace old sub mid d c) r;
+      frame = r.frame;
+      choice = chosen_gives pace old sub mid h r.frame c
+          (subst (λ (x : Held). Gives x r.frame h) (item_is pace old sub mid d c) r.gives);
+      of = subst (λ (i : ℕ). IsFrameOf plan.id.0 i number A r.frame) own.1
+          (subst (λ (p : LinkPlan). IsFrameOf p.id.0 (get_or mid sub d).of.sub number A r.frame) own.0 r.of);
+      enters = r.enters;
+      alive = r.alive;
     }
 
 -- a link that chose it lost its frame
 pub loses_at : (pace : Pace) (old : List Held) (sub : ℕ) (mid : List Held) (d h : Held) (lines after : Lines)
-    → IsChoice pace old sub mid → Loses (get_or mid sub d) h lines after
-    → LosesAt pace old (set mid sub h) lines after
+    → IsChosen pace old sub mid → FailsNext (get_or mid sub d) h lines after
+    → Loses pace (held_view old (set mid sub h)) lines after
 loses_at pace old sub mid d h lines after c r =
     record {
       sub = sub;
-      picks = record { mid = mid; choice = c; held = h; others = refl };
-      loses = subst (λ (x : Held). Loses x h lines after) (item_is pace old sub mid d c) r;
+      frame = r.frame;
+      choice = chosen_gives pace old sub mid h r.frame c
+          (subst (λ (x : Held). Gives x r.frame h) (item_is pace old sub mid d c) r.gives);
+      same = r.same;
+      down = r.down;
     }
+
+-- where all were passed over, none has anything
+pub none_has : (pace : Pace) (old new : List Held) → PassedOver pace old new pace.sub_vls
+    → NoneHas pace (held_view old new).lacks (held_view old new).rests
+none_has pace old new p = record {
+  each = λ s lt.
+      let t = turn_onto pace.sub_vls pace.last s lt in
+      subst (λ (i : ℕ). Passes (held_at old i) (held_at new i)) t.2 (p.before t.0 t.1);
+  others = λ s past. p.others s (λ k lt e.
+      let below : turn_of pace.sub_vls pace.last k < pace.sub_vls = turn_below pace.sub_vls pace.last k lt in
+      absurd (omega arith));
+}

@@ -4,5 +4,6 @@ pub mod QueueLooks
 pub mod SubInStep
 pub mod PaceOfStream
 pub mod ChosenSub
+pub mod TurnLaws
 pub mod LinkTurn
 pub mod FromLast

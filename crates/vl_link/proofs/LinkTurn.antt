@@ -1,6 +1,5 @@
 -- One turn of a link, against its stream.
-use Rattle.std.proofs.Common.{ℕ, ◌≡◌, ◌≢◌, ◌<◌, List, [], ◌∷◌, ◌++◌, true, false, arith, ap, ◌∙◌, sym, subst, inr, ⊎_elim, Option, None}
-use Rattle.std.proofs.lemmas.List.{get_or-set_other}
+use Rattle.std.proofs.Common.{ℕ, ◌≡◌, ◌≢◌, ◌<◌, List, [], ◌∷◌, ◌++◌, true, false, arith, ap, ◌∙◌, sym, subst, inl, inr, ⊎_elim, Option, None}
 use Rattle.std.proofs.lemmas.Bool.{cases_eq}
 use Rattle.afdx_plan.specs.declared.link_plan.LinkPlan.{LinkPlan}
 use Rattle.afdx_plan.specs.Plan.{bag_micros}
@@ -17,16 +16,18 @@ use Rattle.vl_link.specs.declared.served.Served.{Served}
 use Rattle.vl_link.specs.declared.served.Served.TheVariants.{Nothing, Released, Lost}
 use Rattle.vl_link.specs.declared.sub_vl.SubVl.{SubVl}
 use Rattle.afdx_legal.specs.Streams.{latest, link_stream, sub_stream, told, told_of, entry_number, IsNumbered, IsSpaced, IsApart, IsPrefixOf}
-use Rattle.vl_link.specs.Links.{Held, LinkState, held_at, nothing_held, Gives, Picks, ReleasesAt, Serves, Follows, IsSameLink, IsLinkOfPlan, is_lost, pace_of, sub_fragments, taken_by}
+use Rattle.vl_link.specs.Turn.{TurnView, IsChoice, Releases, Loses, is_lost}
+use Rattle.vl_link.specs.Links.{Held, LinkState, held_at, Passes, GivesFrame, held_view, Serves, Follows, IsSameLink, IsLinkOfPlan, pace_of, sub_fragments, taken_by}
 use Rattle.vl_link.specs.Kept.{IsKept, IsTied, IsBehind, IsLinkTied}
-use Rattle.vl_link.proofs.Choosing.{Moves, held_same, moves_chosen, moves_passed}
-use Rattle.vl_link.proofs.SubInStep.{moves_of, tied_moves, tied_gave, prefix_of, shown, gave_shown}
+use Rattle.vl_link.proofs.Choosing.{Moves}
+use Rattle.vl_link.proofs.TurnLaws.{choice_below, choice_other}
+use Rattle.vl_link.proofs.SubInStep.{tied_moves, tied_gave, prefix_of, shown, gave_shown}
 use Rattle.afdx_legal.proofs.LongerStream.{spaced_push, numbered_push, due_apart, with_push_in, with_push_out}
 use Rattle.vl_link.proofs.PaceOfStream.{stream_more, stream_same}
 
 -- a turn of a link that was where its stream is
 pub record Turned (now : ℕ) (link new : LinkState) (lines after : Lines) (did : Served) : Type 0 where
-  pub serves : Serves now link.pace link.subs new.subs lines after did
+  pub serves : Serves now link.plan.id.0 link.pace link.subs new.subs lines after did
   pub paced : Follows new.plan.id.0 new.pace after did
   pub same : IsSameLink link new
   pub later : IsLater link.pace.last now
@@ -88,27 +89,6 @@ kept_of link new H same numbered spaced prefixes paced tied behind =
           };
     }
 
--- the sub-VL that was picked, and its link
-pub picked_of : (link : LinkState) (sub : ℕ) (news : List Held) (p : Picks link.pace sub link.subs news)
-    → IsOwn link
-    → (held_at p.mid sub).of ≡ record { end_system = link.end_system; link = link.plan; sub = sub }
-picked_of link sub news p own =
-    (moves_of (held_at link.subs sub) (held_at p.mid sub) (moves_chosen link.pace link.subs sub p.mid p.choice sub)).of
-    ∙ own.named sub p.choice.below
-
--- what entered is of the picked sub-VL
-released_own : (now number : ℕ) (link : LinkState) (sub : ℕ) (news : List Held) (lines after : Lines)
-    (at : ReleasesAt now link.pace sub number link.subs news lines after)
-    → IsOwn link
-    → (link_stream link.plan.id.0 (log after) ≡ link_stream link.plan.id.0 (log lines)
-    ++ entry now at.releases.frame ∷ []) × (sub_in at.releases.frame ≡ sub)
-released_own now number link sub news lines after at own =
-    let of = picked_of link sub news at.picks own in (
-      stream_more link.plan.id.0 now number _ _ lines after at.releases
-          (ap (λ (o : SubVl). o.link.id.0) of),
-      at.releases.of.of_sub ∙ ap (λ (o : SubVl). o.sub) of,
-    )
-
 -- a prefix, by the sub-VL that it is of
 prefix_at : (link : LinkState) (s : ℕ) (held : Held) (H : List Entry)
     → held.of ≡ record { end_system = link.end_system; link = link.plan; sub = s }
@@ -119,71 +99,75 @@ prefix_at link s held H of t =
     (prefix_of held (sub_stream s (link_stream link.plan.id.0 H)) t)
 
 -- what happened to each sub-VL in a turn that did nothing
-moves_nothing : (now : ℕ) (pace : Pace) (old new : List Held) (lines after : Lines)
-    → Serves now pace old new lines after Nothing → (s : ℕ) → Moves (held_at old s) (held_at new s)
-moves_nothing now pace old new lines after v s = ⊎_elim
-    (λ h. inr (inr (ap (λ (x : List Held). held_at x s) h.1)))
-    (λ h. moves_passed pace old new pace.sub_vls h.1 s)
+moves_nothing : (now vl : ℕ) (pace : Pace) (old new : List Held) (lines after : Lines)
+    → Serves now vl pace old new lines after Nothing → (s : ℕ) → s < pace.sub_vls → Moves (held_at old s) (held_at new s)
+moves_nothing now vl pace old new lines after v s lt = ⊎_elim
+    (λ h. inr (inr (h.1 s)))
+    (λ h. inl (h.1.each s lt))
     v.0
 
--- the picked sub-VL after its frame
-picked : (pace : Pace) (sub : ℕ) (old new : List Held) (p : Picks pace sub old new) → held_at new sub ≡ p.held
-picked pace sub old new p =
-    ap (λ (x : List Held). held_at x sub) p.others
-    ∙ held_same p.mid sub p.held (omega (arith, p.choice.count, p.choice.below))
+-- what happened to one that wasn't chosen
+moves_other : (pace : Pace) (old new : List Held) (sub : ℕ) (frame : List ℕ)
+    → IsChoice pace (λ s. GivesFrame (held_at old s) frame (held_at new s)) (λ s. Passes (held_at old s) (held_at new s))
+    (λ s. held_at new s ≡ held_at old s) sub → (s : ℕ) → s ≢ sub → Moves (held_at old s) (held_at new s)
+moves_other pace old new sub frame c s ne = ⊎_elim
+    (λ (p : Passes (held_at old s) (held_at new s)). inl p)
+    (λ (e : held_at new s ≡ held_at old s). inr (inr e))
+    (choice_other pace (λ i. GivesFrame (held_at old i) frame (held_at new i)) (λ i. Passes (held_at old i) (held_at new i))
+    (λ i. held_at new i ≡ held_at old i) sub c s ne)
 
--- the others are as the choice left them
-not_picked : (pace : Pace) (sub : ℕ) (old new : List Held) (p : Picks pace sub old new) (s : ℕ) → s ≢ sub
-    → held_at new s ≡ held_at p.mid s
-not_picked pace sub old new p s ne =
-    ap (λ (x : List Held). held_at x s) p.others ∙ get_or-set_other p.mid sub s p.held nothing_held ne
+-- the chosen one had the fragments of its frame and of what it has left
+shows_tied : (old new : Held) (frame : List ℕ) (stream : List Entry) → (g : GivesFrame old frame new) → IsTied old stream
+    → IsTied g.mid stream
+shows_tied old new frame stream g t = tied_moves old g.mid stream (inr (inl g.asked)) t
 
--- what the picked sub-VL's frame leaves of what was taken
-picked_shown : (pace : Pace) (sub : ℕ) (old new : List Held) (p : Picks pace sub old new) (frame : List ℕ)
-    → Gives (held_at p.mid sub) frame p.held → (s : ℕ) → shown (held_at new s) ≡ shown (held_at p.mid s)
-picked_shown pace sub old new p frame g s = ⊎_elim
-    (λ (e : s ≡ sub). subst (λ (i : ℕ). shown (held_at new i) ≡ shown (held_at p.mid i)) (sym e)
-    (ap shown (picked pace sub old new p) ∙ gave_shown frame (held_at p.mid sub) p.held g))
-    (λ (ne : s ≢ sub). ap shown (not_picked pace sub old new p s ne))
-    (cases_eq s sub)
-
--- the sub-VLs of a link of a plan are tied to their streams where they were asked
-tied_mid : (link : LinkState) (H : List Entry) (mid : List Held)
-    → ((s : ℕ) → Moves (held_at link.subs s) (held_at mid s)) → IsLinkTied link H → (s : ℕ) → s < link.plan.sub_vls
-    → IsTied (held_at mid s) (sub_stream s (link_stream link.plan.id.0 H))
-tied_mid link H mid moves tied s lt = tied_moves (held_at link.subs s) (held_at mid s) _ (moves s) (tied s lt)
-
--- each sub-VL's stream after the picked one's frame entered
+-- each sub-VL's stream after the frame of the chosen one entered
 tied_released : (now number : ℕ) (link : LinkState) (sub : ℕ) (news : List Held) (lines after : Lines)
-    (at : ReleasesAt now link.pace sub number link.subs news lines after) → IsOwn link → IsLinkTied link (log lines)
-    → (s : ℕ) → s < link.plan.sub_vls
+    (at : Releases now link.plan.id.0 link.pace (held_view link.subs news) sub number lines after)
+    → IsLinkTied link (log lines) → (s : ℕ) → s < link.plan.sub_vls
     → IsTied (held_at news s) (sub_stream s (link_stream link.plan.id.0 (log after)))
-tied_released now number link sub news lines after at own before s lt =
-    let p = at.picks in
-    let frame = at.releases.frame in
+tied_released now number link sub news lines after at before s lt =
+    let frame = at.frame in
     let stream = link_stream link.plan.id.0 (log lines) in
-    let both = released_own now number link sub news lines after at own in
-    let mine : sub_in at.releases.frame ≡ sub = both.1 in
-    let mid = tied_mid link (log lines) p.mid (moves_chosen link.pace link.subs sub p.mid p.choice) before in
+    let mine : sub_in at.frame ≡ sub = at.of.of_sub in
+    let more : link_stream link.plan.id.0 (log after) ≡ link_stream link.plan.id.0 (log lines) ++ entry now at.frame ∷ [] =
+    stream_more link.plan.id.0 now sub number at.frame lines after at.of at.enters in
     ⊎_elim
     (λ (same : s ≡ sub).
     let below : sub < link.plan.sub_vls = omega arith in
+    let g : GivesFrame (held_at link.subs sub) at.frame (held_at news sub) = at.choice.chosen in
     let T : sub_stream sub (link_stream link.plan.id.0 (log after)) ≡ sub_stream sub
-    (link_stream link.plan.id.0 (log lines)) ++ entry now at.releases.frame ∷ [] =
-    ap (sub_stream sub) both.0 ∙ with_push_in (λ (e : Entry). sub_in e.frame) sub stream (entry now frame) mine in
-    let gave : IsTied p.held (sub_stream sub (link_stream link.plan.id.0 (log lines)) ++ entry now at.releases.frame ∷ []) =
-    tied_gave now frame (held_at p.mid sub) p.held _ at.releases.gives (mid sub below) in
+    (link_stream link.plan.id.0 (log lines)) ++ entry now at.frame ∷ [] =
+    ap (sub_stream sub) more ∙ with_push_in (λ (e : Entry). sub_in e.frame) sub stream (entry now frame) mine in
+    let gave : IsTied (held_at news sub) (sub_stream sub (link_stream link.plan.id.0 (log lines)) ++ entry now at.frame ∷ []) =
+    tied_gave now frame g.mid (held_at news sub) _ g.gives
+    (shows_tied (held_at link.subs sub) (held_at news sub) frame _ g (before sub below)) in
     subst (λ (i : ℕ). IsTied (held_at news i) (sub_stream i (link_stream link.plan.id.0 (log after)))) (sym same)
-    (subst (λ (x : Held). IsTied x (sub_stream sub (link_stream link.plan.id.0 (log after))))
-    (sym (picked link.pace sub link.subs news p))
-    (subst (IsTied p.held) (sym T) gave)))
+    (subst (IsTied (held_at news sub)) (sym T) gave))
     (λ (ne : s ≢ sub).
     let T : sub_stream s (link_stream link.plan.id.0 (log after)) ≡ sub_stream s (link_stream link.plan.id.0 (log lines)) =
-    ap (sub_stream s) both.0 ∙ with_push_out (λ (e : Entry). sub_in e.frame) s stream (entry now frame) (λ q. ne (sym q ∙ mine)) in
-    subst (λ (x : Held). IsTied x (sub_stream s (link_stream link.plan.id.0 (log after))))
-    (sym (not_picked link.pace sub link.subs news p s ne))
-    (subst (IsTied (held_at p.mid s)) (sym T) (mid s lt)))
+    ap (sub_stream s) more ∙ with_push_out (λ (e : Entry). sub_in e.frame) s stream (entry now frame) (λ q. ne (sym q ∙ mine)) in
+    subst (IsTied (held_at news s)) (sym T) (tied_moves (held_at link.subs s) (held_at news s) _
+    (moves_other link.pace link.subs news sub frame at.choice s ne) (before s lt)))
     (cases_eq s sub)
+
+-- each sub-VL's stream begins the fragments of what it took, where a frame of the chosen one was lost
+prefix_lost : (link : LinkState) (news : List Held) (lines after : Lines)
+    (at : Loses link.pace (held_view link.subs news) lines after)
+    → IsLinkTied link (log lines) → (s : ℕ) → s < link.plan.sub_vls
+    → IsPrefixOf (told (sub_stream s (link_stream link.plan.id.0 (log lines)))) (shown (held_at news s))
+prefix_lost link news lines after at before s lt =
+    let stream = sub_stream s (link_stream link.plan.id.0 (log lines)) in
+    ⊎_elim
+    (λ (same : s ≡ at.sub).
+    let g : GivesFrame (held_at link.subs s) at.frame (held_at news s) =
+    subst (λ (i : ℕ). GivesFrame (held_at link.subs i) at.frame (held_at news i)) (sym same) at.choice.chosen in
+    let mid : IsTied g.mid (sub_stream s (link_stream link.plan.id.0 (log lines))) =
+    shows_tied (held_at link.subs s) (held_at news s) at.frame stream g (before s lt) in
+    (g.mid.left, sym (gave_shown at.frame g.mid (held_at news s) g.gives ∙ mid)))
+    (λ (ne : s ≢ at.sub). prefix_of (held_at news s) stream (tied_moves (held_at link.subs s) (held_at news s) stream
+    (moves_other link.pace link.subs news at.sub at.frame at.choice s ne) (before s lt)))
+    (cases_eq s at.sub)
 
 -- a link that kept what links keep does after its turn
 pub kept_turn : (now : ℕ) (did : Served) (link new : LinkState) (lines after : Lines)
@@ -192,7 +176,9 @@ kept_turn now Nothing link new lines after t own k =
     let same : log lines ≡ log after = ap log (sym t.serves.1) in
     let tied : (s : ℕ) → s < link.plan.sub_vls
     → IsTied (held_at new.subs s) (sub_stream s (link_stream link.plan.id.0 (log lines))) =
-    tied_mid link (log lines) new.subs (moves_nothing now link.pace link.subs new.subs lines after t.serves) (k.tied t.whole) in
+    λ s lt. tied_moves (held_at link.subs s) (held_at new.subs s) _
+    (moves_nothing now link.plan.id.0 link.pace link.subs new.subs lines after t.serves s (omega (arith, own.sub_vls)))
+    (k.tied t.whole s lt) in
     subst (IsKept new) same (kept_of link new (log lines) t.same k.numbered k.spaced
     (λ s lt. prefix_at link s (held_at new.subs s) (log lines)
     ((t.same.subs s).of ∙ own.named s (omega (arith, own.count, own.sub_vls))) (tied s lt))
@@ -202,7 +188,7 @@ kept_turn now Nothing link new lines after t own k =
     (λ (l : new.lost ≡ true). absurd (let e : new.lost ≡ false = t.lost in cc)))
 kept_turn now (Released sub number) link new lines after t own k =
     let at = t.serves.2 in
-    let more = (released_own now number link sub new.subs lines after at own).0 in
+    let more = stream_more link.plan.id.0 now sub number at.frame lines after at.of at.enters in
     let stream = link_stream link.plan.id.0 (log lines) in
     let paced : link.pace ≡ pace_of link.pace.gap link.pace.sub_vls (link_stream link.plan.id.0 (log lines)) = k.paced t.whole in
     let apart : IsApart link.pace.gap (latest None (link_stream link.plan.id.0 (log lines))) now =
@@ -210,12 +196,12 @@ kept_turn now (Released sub number) link new lines after t own k =
     (due_apart link.pace.gap link.pace.last now t.later t.serves.0) in
     let tied : (s : ℕ) → s < link.plan.sub_vls
     → IsTied (held_at new.subs s) (sub_stream s (link_stream link.plan.id.0 (log after))) =
-    tied_released now number link sub new.subs lines after at own (k.tied t.whole) in
+    tied_released now number link sub new.subs lines after at (k.tied t.whole) in
     kept_of link new (log after) t.same
-    (subst (IsNumbered entry_number 0) (sym more) (numbered_push 0 stream (entry now at.releases.frame) k.numbered
-    (at.releases.of.carries ∙ t.serves.1 ∙ ap (λ (x : Pace). x.next) paced ∙ ap sequence_number (omega arith))))
+    (subst (IsNumbered entry_number 0) (sym more) (numbered_push 0 stream (entry now at.frame) k.numbered
+    (at.of.carries ∙ t.serves.1 ∙ ap (λ (x : Pace). x.next) paced ∙ ap sequence_number (omega arith))))
     (subst (IsSpaced link.pace.gap None) (sym more)
-    (spaced_push link.pace.gap None stream (entry now at.releases.frame) k.spaced apart))
+    (spaced_push link.pace.gap None stream (entry now at.frame) k.spaced apart))
     (λ s lt. prefix_at link s (held_at new.subs s) (log after)
     ((t.same.subs s).of ∙ own.named s (omega (arith, own.count, own.sub_vls))) (tied s lt))
     (λ _. t.paced)
@@ -223,24 +209,25 @@ kept_turn now (Released sub number) link new lines after t own k =
     (λ (l : new.lost ≡ true). absurd (let e : new.lost ≡ false = t.lost in cc))
 kept_turn now Lost link new lines after t own k =
     let at = t.serves.1 in
-    let p = at.picks in
-    let gives = at.loses.gives in
-    let below : at.sub < link.plan.sub_vls = omega (arith, p.choice.below, own.count, own.sub_vls) in
-    let same = picked_shown link.pace at.sub link.subs new.subs p at.loses.frame gives in
-    let mid = tied_mid link (log lines) p.mid (moves_chosen link.pace link.subs at.sub p.mid p.choice) (k.tied t.whole) in
-    subst (IsKept new) (sym at.loses.same) (kept_of link new (log lines) t.same k.numbered k.spaced
+    let below : at.sub < link.plan.sub_vls =
+    omega (arith, choice_below link.pace _ _ _ at.sub at.choice, own.sub_vls) in
+    let g : GivesFrame (held_at link.subs at.sub) at.frame (held_at new.subs at.sub) = at.choice.chosen in
+    let stream = sub_stream at.sub (link_stream link.plan.id.0 (log lines)) in
+    let mid : IsTied g.mid (sub_stream at.sub (link_stream link.plan.id.0 (log lines))) =
+    shows_tied (held_at link.subs at.sub) (held_at new.subs at.sub) at.frame stream g (k.tied t.whole at.sub below) in
+    subst (IsKept new) (sym at.same) (kept_of link new (log lines) t.same k.numbered k.spaced
     (λ s lt. subst (λ (o : SubVl). IsPrefixOf (told_of link.plan.id.0 s (log lines)) (sub_fragments o 0 (taken_by (held_at new.subs s))))
     ((t.same.subs s).of ∙ own.named s (omega (arith, own.count, own.sub_vls)))
-    ((held_at p.mid s).left, sym (same s ∙ mid s lt)))
+    (prefix_lost link new.subs lines after at (k.tied t.whole) s lt))
     (λ (f : new.lost ≡ false). absurd (let e : new.lost ≡ true = t.lost in cc))
     (λ (f : new.lost ≡ false). absurd (let e : new.lost ≡ true = t.lost in cc))
     (λ _. (
       at.sub,
       below,
       record {
-        left = (held_at p.mid at.sub).left;
-        some = λ none. let e : [] ≡ blanked at.loses.frame ∷ p.held.left = sym none ∙ gives.next in cc;
-        ahead = same at.sub ∙ mid at.sub below;
+        left = g.mid.left;
+        some = λ none. let e : [] ≡ blanked at.frame ∷ (held_at new.subs at.sub).left = sym none ∙ g.gives.next in cc;
+        ahead = gave_shown at.frame g.mid (held_at new.subs at.sub) g.gives ∙ mid;
       },
     )))
 
@@ -251,9 +238,8 @@ pub other_stream : (now vl : ℕ) (did : Served) (link new : LinkState) (lines a
 other_stream now vl Nothing link new lines after t own ne = ap (λ (x : Lines). link_stream vl (log x)) t.serves.1
 other_stream now vl (Released sub number) link new lines after t own ne =
     let at = t.serves.2 in
-    stream_same vl now number _ _ lines after at.releases
-    (λ e. ne (sym (ap (λ (o : SubVl). o.link.id.0) (picked_of link sub new.subs at.picks own)) ∙ e))
-other_stream now vl Lost link new lines after t own ne = ap (link_stream vl) t.serves.1.loses.same
+    stream_same link.plan.id.0 vl now sub number at.frame lines after at.of at.enters ne
+other_stream now vl Lost link new lines after t own ne = ap (link_stream vl) t.serves.1.same
 
 -- a link whose stream is the same keeps what it kept
 pub kept_stream : (other : LinkState) (H J : List Entry)
@@ -277,7 +263,8 @@ kept_stream other H J e k =
           };
     }
 
--- what entered is known
-pub released_known : (now number : ℕ) (link : LinkState) (sub : ℕ) (news : List Held) (lines after : Lines)
-    → ReleasesAt now link.pace sub number link.subs news lines after → IsOwn link → sub < link.plan.sub_vls
-released_known now number link sub news lines after at own = omega (arith, at.picks.choice.below, own.count, own.sub_vls)
+-- the sub-VL that released a frame is one of its link's
+pub released_below : (now number : ℕ) (link : LinkState) (view : TurnView) (sub : ℕ) (lines after : Lines)
+    → Releases now link.plan.id.0 link.pace view sub number lines after → IsOwn link → sub < link.plan.sub_vls
+released_below now number link view sub lines after at own =
+    omega (arith, choice_below link.pace _ _ _ sub at.choice, own.sub_vls)

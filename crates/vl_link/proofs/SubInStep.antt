@@ -1,5 +1,6 @@
 -- A sub-VL that was asked or gave a frame, against its stream.
-use Rattle.std.proofs.Common.{ℕ, ◌≡◌, ◌≢◌, ◌+◌, List, [], ◌∷◌, ◌++◌, true, length, arith, refl, ap, ◌∙◌, sym, subst, ⊎_elim}
+use Rattle.std.proofs.Common.{ℕ, ◌≡◌, ◌≢◌, ◌+◌, List, [], ◌∷◌, ◌++◌, true, false, length, arith, refl, ap, ◌∙◌, sym, subst, inl, inr, ⊎_elim}
+use Rattle.std.proofs.lemmas.Bool.{cases_eq}
 use Rattle.std.proofs.lemmas.List.{append-nil, append_assoc, map-append, length-map}
 use Rattle.afdx_plan.specs.Room.{room_of}
 use Rattle.afdx_plan.specs.declared.port_plan.PortPlan.{PortPlan}
@@ -11,9 +12,10 @@ use Rattle.vl_shaper.specs.Pace.{Pace}
 use Rattle.vl_link.specs.declared.sub_vl.SubVl.{SubVl}
 use Rattle.vl_link.specs.Seen.{taken_of}
 use Rattle.afdx_legal.specs.Streams.{told, IsPrefixOf}
-use Rattle.vl_link.specs.Links.{Held, held_at, GoesOn, Starts, Passes, Asks, IsChoice, PassedOver, Gives, IsSameSub, AreSameSubs, sub_fragments, message_fragments, sent_of, sent_by, taken_by}
+use Rattle.vl_link.specs.Links.{Held, held_at, GoesOn, Starts, Passes, Asks, IsChosen, PassedOver, Gives, IsSameSub, AreSameSubs, sub_fragments, message_fragments, sent_of, sent_by, taken_by}
 use Rattle.vl_link.specs.Kept.{IsTied}
-use Rattle.vl_link.proofs.Choosing.{Moves, moves_chosen, moves_passed}
+use Rattle.vl_link.proofs.Choosing.{Moves, moves_passed}
+use Rattle.vl_link.proofs.TurnLaws.{choice_other}
 use Rattle.vl_link.proofs.QueueLooks.{taken_nothing, taken_finds, same_nothing, same_finds, same_here, same_on}
 
 -- what was asked and has something has a fragment left
@@ -56,8 +58,19 @@ moves_of old new m = ⊎_elim
 pub passed_same : (pace : Pace) (old new : List Held) (n : ℕ) → PassedOver pace old new n → AreSameSubs old new
 passed_same pace old new n p s = moves_of (held_at old s) (held_at new s) (moves_passed pace old new n p s)
 
+-- what happened to each sub-VL where one was chosen
+moves_chosen : (pace : Pace) (old : List Held) (sub : ℕ) (new : List Held) → IsChosen pace old sub new
+    → (s : ℕ) → Moves (held_at old s) (held_at new s)
+moves_chosen pace old sub new c s = ⊎_elim
+    (λ (e : s ≡ sub). inr (inl (subst (λ (i : ℕ). Asks true (held_at old i) (held_at new i)) (sym e) c.choice.chosen)))
+    (λ (ne : s ≢ sub). ⊎_elim (λ (p : Passes (held_at old s) (held_at new s)). inl p)
+    (λ (e : held_at new s ≡ held_at old s). inr (inr e))
+    (choice_other pace (λ i. Asks true (held_at old i) (held_at new i)) (λ i. Asks false (held_at old i) (held_at new i))
+    (λ i. held_at new i ≡ held_at old i) sub c.choice s ne))
+    (cases_eq s sub)
+
 -- sub-VLs of which one was chosen stay themselves
-pub chosen_same : (pace : Pace) (old : List Held) (sub : ℕ) (new : List Held) → IsChoice pace old sub new
+pub chosen_same : (pace : Pace) (old : List Held) (sub : ℕ) (new : List Held) → IsChosen pace old sub new
     → AreSameSubs old new
 chosen_same pace old sub new c s = moves_of (held_at old s) (held_at new s) (moves_chosen pace old sub new c s)
 

@@ -1,5 +1,5 @@
 -- A link of an emitter, and what one turn of it does.
-use Rattle.std.specs.Prelude.{ℕ, ◌≡◌, ◌⊎◌, ◌≤◌, ◌<◌, List, [], ◌∷◌, ◌++◌, Bool, true, false, length, map, get_or, set, Option, Some, None}
+use Rattle.std.specs.Prelude.{ℕ, ◌≡◌, ◌⊎◌, ◌<◌, List, [], ◌∷◌, ◌++◌, Bool, true, false, length, map, get_or, Option, Some, None}
 use Rattle.afdx_plan.specs.Config.{link_plan_at, port_plan_at}
 use Rattle.afdx_plan.specs.Plan.{bag_micros}
 use Rattle.afdx_plan.specs.Numbers.{sequence_number}
@@ -12,7 +12,8 @@ use Rattle.afdx_frame.specs.Cutting.{Cutting}
 use Rattle.afdx_frame.specs.Fragments.{Sent, blanked, fragments_at, fragments_from, fragments_left}
 use Rattle.redundant_mux.specs.Entry.{Entry, entry}
 use Rattle.redundant_mux.specs.Lines.{Lines, is_alive, log}
-use Rattle.vl_shaper.specs.Pace.{Pace, is_due, turn_of}
+use Rattle.vl_shaper.specs.Pace.{Pace, turn_of}
+use Rattle.vl_link.specs.Turn.{TurnView, IsChoice, Turn}
 use Rattle.vl_link.specs.declared.served.Served.{Served}
 use Rattle.vl_link.specs.declared.served.Served.TheVariants.{Nothing, Released, Lost}
 use Rattle.vl_link.specs.declared.sub_vl.SubVl.{SubVl}
@@ -103,20 +104,14 @@ nothing_held = record {
 abbrev pub held_at : List Held → ℕ → Held
 held_at subs sub = get_or subs sub nothing_held
 
--- The round-robin choice: in cyclic order behind the one served last, the first that has something.
--- Those before it had nothing, and those that weren't asked are as they were (ARINC 664 Part 7).
-pub record IsChoice (pace : Pace) (old : List Held) (sub : ℕ) (new : List Held) : Type 0 where
+-- the first in cyclic order that has something was chosen, and is then sending its message
+pub record IsChosen (pace : Pace) (old : List Held) (sub : ℕ) (new : List Held) : Type 0 where
   pub count : length new ≡ length old
-  pub turn : ℕ
-  pub within : turn < pace.sub_vls
-  pub is : sub ≡ turn_of pace.sub_vls pace.last turn
   pub below : sub < length old
-  pub asked : Asks true (held_at old sub) (held_at new sub)
-  pub before : (k : ℕ) → k < turn
-      → Asks false (held_at old (turn_of pace.sub_vls pace.last k))
-      (held_at new (turn_of pace.sub_vls pace.last k))
-  pub others : (s : ℕ) → ((k : ℕ) → k ≤ turn → turn_of pace.sub_vls pace.last k ≡ s → ⊥)
-      → held_at new s ≡ held_at old s
+  pub choice : IsChoice pace
+      (λ s. Asks true (held_at old s) (held_at new s))
+      (λ s. Asks false (held_at old s) (held_at new s))
+      (λ s. held_at new s ≡ held_at old s) sub
 
 -- the first sub-VLs that were asked had nothing
 pub record PassedOver (pace : Pace) (old new : List Held) (asked : ℕ) : Type 0 where
@@ -192,7 +187,7 @@ pub record Gives (old : Held) (frame : List ℕ) (new : Held) : Type 0 where
   pub same : new ≡ record old { left = new.left }
 
 -- at least one network took the frame of a sub-VL
-pub record Releases (now number : ℕ) (old new : Held) (lines after : Lines) : Type 0 where
+pub record SendsNext (now number : ℕ) (old new : Held) (lines after : Lines) : Type 0 where
   pub frame : List ℕ
   pub enters : log after ≡ log lines ++ entry now frame ∷ []
   pub of : IsFrameOf old.of.link.id.0 old.of.sub number A frame
@@ -200,45 +195,29 @@ pub record Releases (now number : ℕ) (old new : Held) (lines after : Lines) : 
   pub alive : is_alive after ≡ true
 
 -- the last network that stood failed, and with it the frame of a sub-VL
-pub record Loses (old new : Held) (lines after : Lines) : Type 0 where
+pub record FailsNext (old new : Held) (lines after : Lines) : Type 0 where
   pub frame : List ℕ
   pub gives : Gives old frame new
   pub same : log after ≡ log lines
   pub down : is_alive after ≡ false
 
--- a sub-VL was chosen, and then gave its next frame
-pub record Picks (pace : Pace) (sub : ℕ) (old new : List Held) : Type 0 where
-  pub mid : List Held
-  pub choice : IsChoice pace old sub mid
-  pub held : Held
-  pub others : new ≡ set mid sub held
+-- a sub-VL had something when it was asked, and gave its next frame
+pub record GivesFrame (old : Held) (frame : List ℕ) (new : Held) : Type 0 where
+  pub mid : Held
+  pub asked : Asks true old mid
+  pub gives : Gives mid frame new
 
--- a sub-VL was chosen, and a network took its frame
-pub record ReleasesAt (now : ℕ) (pace : Pace) (sub number : ℕ)
-    (old new : List Held) (lines after : Lines) : Type 0 where
-  pub picks : Picks pace sub old new
-  pub releases : Releases now number (held_at picks.mid sub) picks.held lines after
+-- a turn over sub-VLs with their queues
+abbrev pub held_view : (old new : List Held) → TurnView
+held_view old new = record {
+  lacks = λ s. Passes (held_at old s) (held_at new s);
+  rests = λ s. held_at new s ≡ held_at old s;
+  gives = λ s frame. GivesFrame (held_at old s) frame (held_at new s);
+}
 
--- a sub-VL was chosen, and its frame was lost with the last network
-pub record LosesAt (pace : Pace) (old new : List Held) (lines after : Lines) : Type 0 where
-  pub sub : ℕ
-  pub picks : Picks pace sub old new
-  pub loses : Loses (held_at picks.mid sub) picks.held lines after
-
--- One turn of a link, by what it did. It releases nothing where it isn't due, or every sub-VL was
--- passed over; where it is due and some sub-VL has something it releases one frame, now, with the
--- next number, unless the last network fails.
-abbrev pub Serves : ℕ → Pace → (old new : List Held) → (lines after : Lines) → Served → Type 0
-Serves now pace old new lines after Nothing =
-    (((is_due pace.gap pace.last now ≡ false) × (new ≡ old))
-    ⊎ ((is_due pace.gap pace.last now ≡ true) × PassedOver pace old new pace.sub_vls))
-    × (after ≡ lines)
-Serves now pace old new lines after (Released sub number) =
-    (is_due pace.gap pace.last now ≡ true)
-    × (number ≡ pace.next)
-    × ReleasesAt now pace sub number old new lines after
-Serves now pace old new lines after Lost =
-    (is_due pace.gap pace.last now ≡ true) × LosesAt pace old new lines after
+-- One turn of a link, whose sub-VLs are asked by looks into their queues.
+abbrev pub Serves : ℕ → ℕ → Pace → (old new : List Held) → (lines after : Lines) → Served → Type 0
+Serves now vl pace old new lines after did = Turn now vl pace (held_view old new) lines after did
 
 -- where no frame was lost, the regulation is again where the stream is
 abbrev pub Follows : ℕ → Pace → Lines → Served → Type 0
@@ -247,12 +226,6 @@ Follows vl pace after Nothing =
 Follows vl pace after (Released sub number) =
     pace ≡ pace_of pace.gap pace.sub_vls (link_stream vl (log after))
 Follows vl pace after Lost = Unit {0}
-
--- whether a turn lost the last network
-abbrev pub is_lost : Served → Bool
-is_lost Nothing = false
-is_lost (Released sub number) = false
-is_lost Lost = true
 
 -- the link of the plan stays the same, and so do its sub-VLs
 pub record IsSameLink (old new : LinkState) : Type 0 where

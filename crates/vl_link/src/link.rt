@@ -4,7 +4,7 @@ ghost use Rattle.afdx_plan.specs.Numbers.{sequence_number};
 ghost use Rattle.vl_shaper.specs.Pace.{IsLater, is_due};
 ghost use Rattle.redundant_mux.specs.Lines.{is_alive, log};
 ghost use Rattle.afdx_legal.specs.Streams.{link_stream};
-ghost use Rattle.vl_link.specs.Links.{pace_of, AreSubsOf, IsSameSub, AreSameSubs, Serves, Follows, Releases, Loses, is_lost, IsChoice, PassedOver};
+ghost use Rattle.vl_link.specs.Links.{pace_of, AreSubsOf, IsSameSub, AreSameSubs, Serves, Follows, SendsNext, FailsNext, IsChosen, PassedOver};
 ghost use Rattle.vl_link.specs.LinkDone.{TellsSubsDone};
 ghost use Rattle.vl_link.specs.LinkGathering.{AreFullSubs, GathersSubs};
 
@@ -21,7 +21,7 @@ use vl_shaper::Shaper;
 /// The sub-VL that is to be served, whose next message is then being sent.
 fn choose<R: Wait>(rt: &R, shaper: &Shaper, subs: &mut [Sub]) -> Option<u8>
     requires { length subs.old ≡ shaper.now.sub_vls }
-    ensures chosen { IfSome result (λ sub. IsChoice shaper.now subs.old sub subs.new) }
+    ensures chosen { IfSome result (λ sub. IsChosen shaper.now subs.old sub subs.new) }
     ensures below { IfSome result (λ sub. sub < length subs.old) }
     ensures none { IfNone result (PassedOver shaper.now subs.old subs.new shaper.now.sub_vls) }
 {
@@ -57,8 +57,8 @@ fn send_next<A: Network + Drop, B: Network + Drop>(
     requires alive { is_alive mux.old ≡ true }
     ensures number { IfSome result (λ number. number ≡ shaper.old.next) }
     ensures released { IfSome result
-        (λ number. Releases now number sub.old sub.new mux.old mux.new) }
-    ensures lost { IfNone result (Loses sub.old sub.new mux.old mux.new) }
+        (λ number. SendsNext now number sub.old sub.new mux.old mux.new) }
+    ensures lost { IfNone result (FailsNext sub.old sub.new mux.old mux.new) }
     ensures same { IsSameSub sub.old sub.new }
     ensures next { (i : ℕ) → shaper.old.next ≡ sequence_number i →
         shaper.new.next ≡ sequence_number (i + 1) }
@@ -97,7 +97,8 @@ fn serve_due<R: Wait, A: Network + Drop, B: Network + Drop>(
     requires alive { is_alive mux.old ≡ true }
     requires paced { shaper.old ≡ pace_of shaper.old.gap shaper.old.sub_vls
         (link_stream plan.now.id.0 (log mux.old)) }
-    ensures serves { Serves now shaper.old subs.old subs.new mux.old mux.new result }
+    ensures serves { Serves now plan.now.id.0 shaper.old
+        subs.old subs.new mux.old mux.new result }
     ensures paced { Follows plan.now.id.0 shaper.new mux.new result }
     ensures later { IsLater shaper.new.last now }
     ensures gap { shaper.new.gap ≡ shaper.old.gap }
@@ -174,7 +175,8 @@ impl Link {
     ghost use Rattle.vl_shaper.specs.Pace.{IsLater, is_due};
     ghost use Rattle.redundant_mux.specs.Lines.{is_alive, log};
     ghost use Rattle.afdx_legal.specs.Streams.{link_stream};
-    ghost use Rattle.vl_link.specs.Links.{LinkState, AreNamed, Serves, Follows, IsSameLink, is_lost, pace_of};
+    ghost use Rattle.vl_link.specs.Links.{LinkState, AreNamed, Serves, Follows, IsSameLink, pace_of};
+    ghost use Rattle.vl_link.specs.Turn.{is_lost};
     ghost use Rattle.vl_link.specs.LinkDone.{TellsLinkDone};
     ghost use Rattle.vl_link.specs.LinkGathering.{AreFullSubs, GathersLink};
 
@@ -245,7 +247,7 @@ impl Link {
         requires alive { is_alive mux.old ≡ true }
         requires paced { self.old.pace ≡ pace_of self.old.pace.gap self.old.pace.sub_vls
             (link_stream self.old.plan.id.0 (log mux.old)) }
-        ensures serves { Serves now self.old.pace
+        ensures serves { Serves now self.old.plan.id.0 self.old.pace
             self.old.subs self.new.subs mux.old mux.new result }
         ensures paced { Follows self.new.plan.id.0 self.new.pace mux.new result }
         ensures later { IsLater self.new.pace.last now }

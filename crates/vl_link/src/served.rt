@@ -1,6 +1,6 @@
 //! What one turn of a link did.
 ghost use Rattle.std.specs.Prelude.{◌≡◌};
-ghost use Rattle.vl_link.specs.Links.{is_lost};
+ghost use Rattle.vl_link.specs.Turn.{is_lost};
 
 /// What one turn of a link did.
 #[derive(Clone, Copy, Debug, PartialEq, Eq)]

@@ -1,28 +1,30 @@
-use Rattle.std.proofs.Common.{◌≡◌, ℕ, Bool, List, true, false, ap, sym, ◌∙◌, subst, if◌then◌else◌, nat_lt, arith, ◌||◌}
+use Rattle.std.proofs.Common.{◌≡◌, ℕ, Bool, true, false, ap, sym, ◌∙◌, subst, if◌then◌else◌, nat_lt, arith, ◌||◌, ◌-◌, length, refl}
 use Rattle.std.proofs.lemmas.Bool.{le-ltb}
-use Rattle.redundant_mux.specs.Lines.{is_alive}
-use Rattle.tx_script.specs.EndSystem.{EndSystem, Look, polled, frames_released}
-use Rattle.tx_script.specs.Play.{Messages, finds}
+use Rattle.redundant_mux.specs.Lines.{is_alive, log}
+use Rattle.tx_script.specs.EndSystem.{EndSystem, Polls}
+use Rattle.tx_script.specs.Play.{Messages, leaves}
 use Rattle.tx_script.specs.AtBench.{AtBench, Matches, Obeys}
 use Rattle.script_lines.specs.declared.line.Line.TheVariants.{At}
 use Rattle.tx_script.specs.declared.outcome.Outcome.TheVariants.{Released, Refused}
 use Rattle.tx_script.specs.declared.refusal.Refusal.TheVariants.{TimeBack}
-use Rattle.tx_script.proofs.Polling.{polled_matches}
+use Rattle.tx_script.proofs.Polling.{left_at, polled_matches, left_matches}
 use Rattle.tx_script.proofs.Matched.{released_many}
 use Rattle.tx_script.proofs.bench.obey_at.Goals as goal
 use Rattle.tx_script.proofs.bench.obey_at.Goals.{in-Ok+then-report+then-report-2, in-Ok+else-report, else-report-via-then-report+else-report-2}
 use Rattle.tx_script.proofs.bench.obey_at.Goals.{else-report-via-else-report, in-Err}
 
 -- a poll at a moment that is not before the last one
-poll_obeys : (es : EndSystem) (new : AtBench) (moment released : ℕ) (looks : List Look) (accepted : Messages)
-    → nat_lt moment es.moment ≡ false
-    → released ≡ frames_released es moment looks → Matches accepted (polled es moment looks) new
+poll_obeys : (es : EndSystem) (new : AtBench) (moment released : ℕ) (accepted : Messages)
+    → nat_lt moment es.moment ≡ false → Polls moment es (left_at es moment new.tx)
+    → released ≡ length (log new.tx.lines) - length es.log → Matches accepted (left_at es moment new.tx) new
     → Obeys (At moment) accepted es new (Released released)
-poll_obeys es new moment released looks accepted on many m = record {
-  answer = finds looks;
-  is = ap Released many ∙ sym (ap (λ (b : Bool). if b then Refused TimeBack else Released (frames_released es moment looks)) on);
+poll_obeys es new moment released accepted on polls many m = record {
+  answer = leaves (left_at es moment new.tx);
+  may = λ later. polls;
+  is = ap Released many
+      ∙ sym (ap (λ (b : Bool). if b then Refused TimeBack else Released (length (log new.tx.lines) - length es.log)) on);
   matches = subst (λ (e : EndSystem). Matches accepted e new)
-      (sym (ap (λ (b : Bool). if b then es else polled es moment looks) on)) m;
+      (sym (ap (λ (b : Bool). if b then es else left_at es moment new.tx) on)) m;
 }
 
 pub returns-clause-ok : goal.returns-clause-ok
@@ -33,16 +35,18 @@ returns-clause-ok g c = elim c.match-poll.branch [
       let alive : is_alive c.poll.new.self.lines ≡ true = ap (λ (x : Bool). x || c.poll.new.self.lines.b_stands) a in
       let before : Matches accepted es (record { tx = c.bench.inside.emitter; ports = c.bench.inside.ports.items }) =
       subst (Matches accepted es) (sym c.bench.view_is) m in
-      let p = polled_matches es c.bench.inside.emitter c.poll.new.self c.args.moment before.emitter (w.in-Ok.ensures.run alive)
+      let run = w.in-Ok.ensures.run alive in
+      let left = left_matches es c.bench.inside.emitter c.poll.new.self c.args.moment before.emitter run
       w.in-Ok.ensures.mirrored a b w.in-Ok.ensures.plan w.in-Ok.ensures.told.moment in
-      let many =
-      released_many es c.bench.inside.emitter c.poll.new.self c.args.moment p.0 w.in-Ok.report.released.items before.emitter p.1 w.in-Ok.ensures.told.released in
+      let many = released_many es.log (log c.poll.new.self.lines) c.bench.inside.emitter c.poll.new.self c.args.moment
+      w.in-Ok.report.released.items before.emitter.lines.is refl w.in-Ok.ensures.told.released in
       let early : nat_lt c.args.moment es.moment ≡ false =
       le-ltb c.args.moment es.moment
       (let now = c.now.ensures in let last = before.emitter.moment in let on = c.if-moment-now.false in omega arith) in
-      poll_obeys es (record { tx = c.poll.new.self; ports = c.bench.inside.ports.items }) c.args.moment w.len.result p.0
-      accepted early (w.len.ensures.value ∙ many)
-      (record { emitter = p.1; own = before.own }))
+      poll_obeys es (record { tx = c.poll.new.self; ports = c.bench.inside.ports.items }) c.args.moment w.len.result
+      accepted early (polled_matches es c.bench.inside.emitter c.poll.new.self c.args.moment before.emitter run)
+      (w.len.ensures.value ∙ many)
+      (record { emitter = left; own = before.own }))
   | in-Ok+else-report w ↦ elim w.else-report.branch [
     | else-report-via-then-report+else-report-2 v ↦ rw w.result-is tt
     | else-report-via-else-report v ↦ rw w.result-is tt

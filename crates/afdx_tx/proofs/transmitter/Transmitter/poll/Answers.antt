@@ -4,6 +4,7 @@ use Rattle.std.specs.Vec.{with_items}
 use Rattle.vl_link.specs.Links.{LinkState}
 use Rattle.afdx_legal.specs.Legal.{IsLegal}
 use Rattle.afdx_tx.specs.Emitter.{Tx, AreApart, IsSound, taken_in}
+use Rattle.afdx_tx.specs.Run.{IsRun, IsCutShort}
 use Rattle.afdx_tx.specs.Serving.{IsSteady}
 use Rattle.afdx_tx.proofs.SoundEmitter.{links_apart, sound_after, sound_legal}
 use Rattle.afdx_tx.proofs.transmitter.Transmitter.poll.Given
@@ -49,3 +50,21 @@ pub returns-then-not-some_stands-clause-legal : goal.returns-then-not-some_stand
 returns-then-not-some_stands-clause-legal g c =
     subst (λ (t : Tx). IsLegal t.plan (taken_in t.links) t.lines.a t.lines.b) c.self.view_is
     (sound_legal c.self.inside.config c.self.inside.links.items c.self.inside.mux c.self.inside.moment c.self.invariant)
+
+pub returns-clause-run : goal.returns-clause-run
+returns-clause-run g c = λ alive.
+    subst (λ (t : Tx). IsRun c.args.now t.links (with_items c.self.inside.links c.serve_all.new.links).items t.lines
+    c.serve_all.new.mux) c.self.view_is
+    (subst (λ (ls : List LinkState). IsRun c.args.now c.self.inside.links.items ls c.self.inside.mux c.serve_all.new.mux)
+    (sym (links_are g c))
+    (subst (λ (ls : List LinkState). IsRun c.args.now ls c.serve_all.new.links c.self.inside.mux c.serve_all.new.mux)
+    c.deref_mut.ensures.value (c.serve_all.ensures.run alive)))
+
+pub returns-clause-cut_short : goal.returns-clause-cut_short
+returns-clause-cut_short g c = λ down.
+    subst (λ (t : Tx). IsCutShort c.args.now t.links (with_items c.self.inside.links c.serve_all.new.links).items t.lines
+    c.serve_all.new.mux) c.self.view_is
+    (subst (λ (ls : List LinkState). IsCutShort c.args.now c.self.inside.links.items ls c.self.inside.mux c.serve_all.new.mux)
+    (sym (links_are g c))
+    (subst (λ (ls : List LinkState). IsCutShort c.args.now ls c.serve_all.new.links c.self.inside.mux c.serve_all.new.mux)
+    c.deref_mut.ensures.value (c.serve_all.ensures.cut_short down)))

@@ -1,0 +1,155 @@
+-- A turn of a link, whatever is known of its sub-VLs.
+use Rattle.std.proofs.Common.{ℕ, zero, suc, ◌≡◌, ◌≢◌, ◌⊎◌, ◌+◌, ◌-◌, ◌*◌, ◌/◌, ◌%◌, ◌<◌, ◌≤◌, List, false, arith, refl, ap, ◌∙◌, sym, subst, inl, inr, ⊎_elim, Option, Some, None}
+use Rattle.std.proofs.lemmas.Bool.{cases_eq, cases_lt}
+use Rattle.std.proofs.lemmas.Nat.{mod_below, mod-mul-add, div-add-mod'}
+use Rattle.redundant_mux.specs.Lines.{Lines}
+use Rattle.vl_shaper.specs.declared.shaper.Stamp.{Stamp}
+use Rattle.vl_shaper.specs.Pace.{Pace, turn_of}
+use Rattle.vl_link.specs.declared.served.Served.{Served}
+use Rattle.vl_link.specs.declared.served.Served.TheVariants.{Nothing, Released, Lost}
+use Rattle.vl_link.specs.Turn.{TurnView, IsChoice, Turn, AreTurns, is_lost}
+use Rattle.vl_link.proofs.Choosing.{met}
+
+-- each turn is of a sub-VL
+pub turn_below : (sub_vls : ℕ) (last : Option Stamp) (k : ℕ) → k < sub_vls → turn_of sub_vls last k < sub_vls
+turn_below sub_vls None k lt = lt
+turn_below sub_vls (Some l) k lt = mod_below (l.sub + 1 + k) sub_vls (omega arith)
+
+more_times : (q n : ℕ) → (q + 1) * n ≡ q * n + n
+more_times q n = grind arith
+
+-- each sub-VL has its turn
+pub turn_onto : (sub_vls : ℕ) (last : Option Stamp) (s : ℕ) → s < sub_vls
+    → (k : ℕ) × (k < sub_vls) × (turn_of sub_vls last k ≡ s)
+turn_onto sub_vls None s lt = (s, lt, refl)
+turn_onto sub_vls (Some l) s lt =
+    let next : ℕ = l.sub + 1 in
+    let e : next / sub_vls * sub_vls + next % sub_vls ≡ next = div-add-mod' next sub_vls in
+    let r : next % sub_vls < sub_vls = mod_below next sub_vls (omega arith) in
+    ⊎_elim
+    (λ (g : s < next % sub_vls).
+    let m : (next / sub_vls + 1) * sub_vls ≡ next / sub_vls * sub_vls + sub_vls = more_times (next / sub_vls) sub_vls in
+    let at : next + (s + sub_vls - next % sub_vls) ≡ (next / sub_vls + 1) * sub_vls + s = omega arith in (
+      s + sub_vls - next % sub_vls,
+      (omega arith),
+      ap (λ (x : ℕ). x % sub_vls) at ∙ mod-mul-add (next / sub_vls + 1) sub_vls s lt,
+    ))
+    (λ (g : next % sub_vls ≤ s).
+    let at : next + (s - next % sub_vls) ≡ next / sub_vls * sub_vls + s = omega arith in
+    (s - next % sub_vls, (omega arith), ap (λ (x : ℕ). x % sub_vls) at ∙ mod-mul-add (next / sub_vls) sub_vls s lt))
+    (cases_lt s (next % sub_vls))
+
+-- the chosen one is one of the sub-VLs
+pub choice_below : (pace : Pace) (has lacks rests : ℕ → Type 0) (sub : ℕ) → IsChoice pace has lacks rests sub
+    → sub < pace.sub_vls
+choice_below pace has lacks rests sub c =
+    let below : turn_of pace.sub_vls pace.last c.turn < pace.sub_vls = turn_below pace.sub_vls pace.last c.turn c.within in
+    let is = c.is in
+    omega arith
+
+-- another than the chosen one has nothing, or wasn't asked
+pub choice_other : (pace : Pace) (has lacks rests : ℕ → Type 0) (sub : ℕ) → IsChoice pace has lacks rests sub
+    → (s : ℕ) → s ≢ sub → lacks s ⊎ rests s
+choice_other pace has lacks rests sub c s ne = ⊎_elim
+    (λ h. inl (subst lacks h.2 (c.before h.0 h.1)))
+    (λ h. inr (c.others s (λ k le e. ⊎_elim
+    (λ (lt : k < c.turn). h k lt e)
+    (λ (ge : c.turn ≤ k). let q : k ≡ c.turn = omega arith in ne (sym e ∙ ap (turn_of pace.sub_vls pace.last) q ∙ sym c.is))
+    (cases_lt k c.turn))))
+    (met (turn_of pace.sub_vls pace.last) c.turn s)
+
+-- what is known in one view is known in another
+pub record IsSeenIn (pace : Pace) (view other : TurnView) : Type 0 where
+  pub lacks : (s : ℕ) → s < pace.sub_vls → view.lacks s → other.lacks s
+  pub rests : (s : ℕ) → view.rests s → other.rests s
+  pub gives : (s : ℕ) (frame : List ℕ) → s < pace.sub_vls → view.gives s frame → other.gives s frame
+
+-- a choice in one view is one in the other
+choice_seen : (pace : Pace) (view other : TurnView) (frame : List ℕ) (sub : ℕ) → IsSeenIn pace view other
+    → IsChoice pace (λ s. view.gives s frame) view.lacks view.rests sub
+    → IsChoice pace (λ s. other.gives s frame) other.lacks other.rests sub
+choice_seen pace view other frame sub i c = record {
+  turn = c.turn;
+  within = c.within;
+  is = c.is;
+  chosen = i.gives sub frame (choice_below pace (λ s. view.gives s frame) view.lacks view.rests sub c) c.chosen;
+  before = λ k lt. i.lacks (turn_of pace.sub_vls pace.last k)
+      (turn_below pace.sub_vls pace.last k (let w = c.within in omega arith)) (c.before k lt);
+  others = λ s not. i.rests s (c.others s not);
+}
+
+-- A turn in one view is one in another that knows no more.
+pub turn_seen : (now vl : ℕ) (pace : Pace) (view other : TurnView) (lines after : Lines) (did : Served) → IsSeenIn pace view other
+    → Turn now vl pace view lines after did → Turn now vl pace other lines after did
+turn_seen now vl pace view other lines after Nothing i t = (
+  ⊎_elim
+      (λ h. inl (h.0, λ s. i.rests s (h.1 s)))
+      (λ h. inr (h.0, record { each = λ s lt. i.lacks s lt (h.1.each s lt); others = λ s past. i.rests s (h.1.others s past) }))
+      t.0,
+  t.1,
+)
+turn_seen now vl pace view other lines after (Released sub number) i t = (
+  t.0,
+  t.1,
+  record {
+    frame = t.2.frame;
+    choice = choice_seen pace view other t.2.frame sub i t.2.choice;
+    of = t.2.of;
+    enters = t.2.enters;
+    alive = t.2.alive;
+  },
+)
+turn_seen now vl pace view other lines after Lost i t = (
+  t.0,
+  record {
+    sub = t.1.sub;
+    frame = t.1.frame;
+    choice = choice_seen pace view other t.1.frame t.1.sub i t.1.choice;
+    same = t.1.same;
+    down = t.1.down;
+  },
+)
+
+-- Turns of one kind are turns of another.
+pub turns_seen : (P Q : ℕ → Lines → Lines → Served → Type 0) (k many : ℕ) (lines after : Lines)
+    → ((i : ℕ) → k ≤ i → i < k + many → (before behind : Lines) (did : Served) → P i before behind did → Q i before behind did)
+    → AreTurns P k many lines after → AreTurns Q k many lines after
+turns_seen P Q k zero lines after f r = r
+turns_seen P Q k (suc many) lines after f r = (
+  r.0,
+  r.1,
+  f k (omega arith) (omega arith) lines r.0 r.1 r.2,
+  r.3,
+  turns_seen P Q (k + 1) many r.0 after (λ i le lt. f i (omega arith) (omega arith)) r.4,
+)
+
+-- One turn more behind them.
+pub turns_push : (P : ℕ → Lines → Lines → Served → Type 0) (k many : ℕ) (lines mid after : Lines) (did : Served)
+    → AreTurns P k many lines mid → P (k + many) mid after did → is_lost did ≡ false
+    → AreTurns P k (suc many) lines after
+turns_push P k zero lines mid after did r t kept =
+    let at : k + 0 ≡ k = omega arith in (
+      after,
+      did,
+      subst (λ (l : Lines). P k l after did) r (subst (λ (i : ℕ). P i mid after did) at t),
+      kept,
+      refl,
+    )
+turns_push P k (suc many) lines mid after did r t kept =
+    let at : k + suc many ≡ k + 1 + many = omega arith in (
+      r.0,
+      r.1,
+      r.2,
+      r.3,
+      turns_push P (k + 1) many r.0 mid after did r.4 (subst (λ (i : ℕ). P i mid after did) at t) kept,
+    )
+
+-- What each turn shows holds at each place.
+pub turns_each : (P : ℕ → Lines → Lines → Served → Type 0) (Q : ℕ → Type 0) (k many : ℕ) (lines after : Lines)
+    → ((i : ℕ) (before behind : Lines) (did : Served) → P i before behind did → Q i)
+    → AreTurns P k many lines after → (i : ℕ) → k ≤ i → i < k + many → Q i
+turns_each P Q k zero lines after f r i le lt = absurd (omega arith)
+turns_each P Q k (suc many) lines after f r i le lt = ⊎_elim
+    (λ (e : i ≡ k). subst Q (sym e) (f k lines r.0 r.1 r.2))
+    (λ (ne : i ≢ k). turns_each P Q (k + 1) many r.0 after f r.4 i (omega arith) (omega arith))
+    (cases_eq i k)

@@ -1,0 +1,89 @@
+-- One turn of a virtual link, by what is known of its sub-VLs, and the turns of links in order.
+use Rattle.std.specs.Prelude.{ℕ, zero, suc, ◌≡◌, ◌⊎◌, ◌+◌, ◌<◌, ◌≤◌, List, [], ◌∷◌, ◌++◌, Bool, true, false}
+use Rattle.afdx_frame.specs.declared.net.Net.TheVariants.{A}
+use Rattle.afdx_frame.specs.Header.{IsFrameOf}
+use Rattle.redundant_mux.specs.Entry.{entry}
+use Rattle.redundant_mux.specs.Lines.{Lines, is_alive, log}
+use Rattle.vl_shaper.specs.Pace.{Pace, is_due, turn_of}
+use Rattle.vl_link.specs.declared.served.Served.{Served}
+use Rattle.vl_link.specs.declared.served.Served.TheVariants.{Nothing, Released, Lost}
+
+-- What is known of the sub-VLs of a link in a turn, by their index: which were asked and have
+-- nothing, which weren't asked, and which had something and gave this frame.
+pub record TurnView : Type 1 where
+  pub lacks : ℕ → Type 0
+  pub rests : ℕ → Type 0
+  pub gives : ℕ → List ℕ → Type 0
+
+-- The round-robin choice: in cyclic order behind the sub-VL served last, the first that has
+-- something. Those before it have nothing, and the others aren't asked (ARINC 664 Part 7).
+pub record IsChoice (pace : Pace) (has lacks rests : ℕ → Type 0) (sub : ℕ) : Type 0 where
+  pub turn : ℕ
+  pub within : turn < pace.sub_vls
+  pub is : sub ≡ turn_of pace.sub_vls pace.last turn
+  pub chosen : has sub
+  pub before : (k : ℕ) → k < turn → lacks (turn_of pace.sub_vls pace.last k)
+  pub others : (s : ℕ) → ((k : ℕ) → k ≤ turn → turn_of pace.sub_vls pace.last k ≡ s → ⊥) → rests s
+
+-- every sub-VL was asked, and none has anything
+pub record NoneHas (pace : Pace) (lacks rests : ℕ → Type 0) : Type 0 where
+  pub each : (s : ℕ) → s < pace.sub_vls → lacks s
+  pub others : (s : ℕ) → pace.sub_vls ≤ s → rests s
+
+-- the sub-VL that was chosen gave a frame with this number, and a network took it
+pub record Releases (now vl : ℕ) (pace : Pace) (view : TurnView) (sub number : ℕ)
+    (lines after : Lines) : Type 0 where
+  pub frame : List ℕ
+  pub choice : IsChoice pace (λ s. view.gives s frame) view.lacks view.rests sub
+  pub of : IsFrameOf vl sub number A frame
+  pub enters : log after ≡ log lines ++ entry now frame ∷ []
+  pub alive : is_alive after ≡ true
+
+-- the last network that stood failed with the frame of the sub-VL that was chosen
+pub record Loses (pace : Pace) (view : TurnView) (lines after : Lines) : Type 0 where
+  pub sub : ℕ
+  pub frame : List ℕ
+  pub choice : IsChoice pace (λ s. view.gives s frame) view.lacks view.rests sub
+  pub same : log after ≡ log lines
+  pub down : is_alive after ≡ false
+
+-- One turn of a link, by what it did. It releases nothing where it isn't due, or no sub-VL has
+-- anything; where it is due and some sub-VL has something it releases one frame, now, with the
+-- next number, unless the last network fails.
+abbrev pub Turn : ℕ → ℕ → Pace → TurnView → (lines after : Lines) → Served → Type 0
+Turn now vl pace view lines after Nothing =
+    (((is_due pace.gap pace.last now ≡ false) × ((s : ℕ) → view.rests s))
+    ⊎ ((is_due pace.gap pace.last now ≡ true) × NoneHas pace view.lacks view.rests))
+    × (after ≡ lines)
+Turn now vl pace view lines after (Released sub number) =
+    (is_due pace.gap pace.last now ≡ true)
+    × (number ≡ pace.next)
+    × Releases now vl pace view sub number lines after
+Turn now vl pace view lines after Lost =
+    (is_due pace.gap pace.last now ≡ true) × Loses pace view lines after
+
+-- whether a turn lost the last network
+abbrev pub is_lost : Served → Bool
+is_lost Nothing = false
+is_lost (Released sub number) = false
+is_lost Lost = true
+
+-- so many links have their turns in order, from a place on, and the last network isn't lost
+abbrev pub AreTurns : (ℕ → (lines after : Lines) → Served → Type 0) → (k many : ℕ)
+    → (lines after : Lines) → Type 0
+AreTurns IsTurn k zero lines after = after ≡ lines
+AreTurns IsTurn k (suc many) lines after =
+    (mid : Lines)
+    × (did : Served)
+    × IsTurn k lines mid did
+    × (is_lost did ≡ false)
+    × AreTurns IsTurn (k + 1) many mid after
+
+-- at one of so many links the last network is lost, and the links behind it have no turn
+pub record IsCut (IsTurn : ℕ → (lines after : Lines) → Served → Type 0) (many : ℕ)
+    (lines after : Lines) : Type 0 where
+  pub at : ℕ
+  pub within : at < many
+  pub mid : Lines
+  pub before : AreTurns IsTurn 0 at lines mid
+  pub turn : IsTurn at mid after Lost
