@@ -1,9 +1,9 @@
 -- A link's frames in what was handed over.
-use Rattle.std.proofs.Common.{◌≡◌, ℕ, ◌≤◌, nat_eq, List, [], ◌∷◌, ◌++◌, length, map, take, drop, refl, ap, sym, ◌∙◌, arith}
+use Rattle.std.proofs.Common.{◌≡◌, ℕ, ◌≤◌, nat_eq, List, ◌++◌, length, map, take, drop, refl, ap, sym, ◌∙◌, arith}
 use Rattle.std.specs.Prelude.{All}
 use Rattle.std.proofs.Math.Seq.{take-append_seam}
 use Rattle.std.proofs.lemmas.List.{map-append, take-append-drop, length-map, length-take, take_all}
-use Rattle.std.proofs.lemmas.List.Elements.{All-cons, All-nil, All-weaker, All-map, All-filter}
+use Rattle.std.proofs.lemmas.List.Elements.{All-weaker, All-map, All-filter}
 use Rattle.std.proofs.lemmas.Simd.{map-map}
 use Rattle.afdx_plan.specs.declared.link_plan.LinkPlan.{LinkPlan}
 use Rattle.afdx_frame.specs.declared.net.Net.{Net}
@@ -16,7 +16,7 @@ use Rattle.redundant_mux.specs.Entry.{Entry}
 use Rattle.redundant_mux.specs.Lines.{side}
 use Rattle.afdx_legal.specs.Streams.{those_with, link_stream, sub_stream, told, entry_number, IsNumbered}
 use Rattle.afdx_legal.specs.Legal.{IsKnown, AreKnown, AreTwins}
-use Rattle.afdx_legal.proofs.StreamLemmas.{with_append, with_map, numbered_map}
+use Rattle.afdx_legal.proofs.StreamLemmas.{known_all, with_append, with_map, numbered_map}
 use Rattle.afdx_laws.specs.Networks.{IsLong}
 use Rattle.afdx_laws.specs.Handed.{IsOfNet}
 use Rattle.afdx_laws.specs.Plans.{frames_of}
@@ -25,13 +25,6 @@ use Rattle.afdx_laws.proofs.HandedOver.{own_twins, twin_twin}
 -- the frame of an entry
 abbrev frame_of_entry : Entry → List ℕ
 frame_of_entry e = e.frame
-
--- known entries, by their places
-known_all : (links : List LinkPlan) (net : Net) (es : List Entry) → AreKnown links net es
-    → All (λ (e : Entry). IsKnown links net e.frame) es
-known_all links net [] known = All-nil (λ (e : Entry). IsKnown links net e.frame)
-known_all links net (e ∷ es) known =
-    All-cons (λ (d : Entry). IsKnown links net d.frame) e es known.0 (known_all links net es known.1)
 
 -- what holds of each known frame holds of a link's frames
 of_known : (P : List ℕ → Type 0) (links : List LinkPlan) (net : Net) (vl : ℕ) (es : List Entry)

@@ -1,9 +1,13 @@
 -- The words of streams, over lists that are mapped, joined or looked into.
 use Rattle.std.proofs.Common.{ℕ, ◌≡◌, zero, suc, ◌+◌, ◌<◌, List, [], ◌∷◌, ◌++◌, Bool, true, false, nat_eq, cond, length, map, get_or, arith, refl, ap, ◌∙◌}
 use Rattle.std.specs.Prelude.{All}
-use Rattle.std.proofs.lemmas.List.Elements.{filter-append, All-tail}
+use Rattle.std.proofs.lemmas.List.Elements.{filter-append, All-cons, All-nil, All-tail}
 use Rattle.afdx_plan.specs.Numbers.{sequence_number}
+use Rattle.afdx_plan.specs.declared.link_plan.LinkPlan.{LinkPlan}
+use Rattle.afdx_frame.specs.declared.net.Net.{Net}
+use Rattle.redundant_mux.specs.Entry.{Entry}
 use Rattle.afdx_legal.specs.Streams.{those_with, IsNumbered}
+use Rattle.afdx_legal.specs.Legal.{IsKnown, AreKnown}
 
 -- those of two lists
 pub with_append : {F : Type 0} (read : F → ℕ) (n : ℕ) (xs ys : List F)
@@ -38,3 +42,10 @@ pub numbered_map : {X Y : Type 0} (of_x : X → ℕ) (of_y : Y → ℕ) (f : X �
 numbered_map of_x of_y f start [] same numbered = tt
 numbered_map of_x of_y f start (x ∷ xs) same numbered =
     (same 0 x (omega arith) ∙ numbered.0, numbered_map of_x of_y f (start + 1) xs (All-tail (λ z. of_y (f z) ≡ of_x z) x xs same) numbered.1)
+
+-- known entries, by their places
+pub known_all : (links : List LinkPlan) (net : Net) (es : List Entry) → AreKnown links net es
+    → All (λ (e : Entry). IsKnown links net e.frame) es
+known_all links net [] known = All-nil (λ (e : Entry). IsKnown links net e.frame)
+known_all links net (e ∷ es) known =
+    All-cons (λ (d : Entry). IsKnown links net d.frame) e es known.0 (known_all links net es known.1)

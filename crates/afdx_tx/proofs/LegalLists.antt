@@ -1,7 +1,8 @@
 -- From the log to the two handed lists.
-use Rattle.std.proofs.Common.{ℕ, ◌≡◌, ◌+◌, ◌<◌, ◌≤◌, List, [], ◌∷◌, ◌++◌, Bool, true, false, cond, length, map, take, drop, eqb, arith, refl, ap, ◌∙◌, sym, subst, ⊎_elim, Option, Some, None}
+use Rattle.std.proofs.Common.{ℕ, ◌≡◌, ◌+◌, ◌<◌, ◌≤◌, List, [], ◌∷◌, ◌++◌, Bool, length, map, take, drop, eqb, arith, refl, ap, ◌∙◌, sym, subst, ⊎_elim, Option, Some, None}
 use Rattle.std.proofs.lemmas.List.{map-append, append_assoc, take-append-drop, take-map}
-use Rattle.std.specs.Prelude.{filter}
+use Rattle.std.specs.Prelude.{All}
+use Rattle.std.proofs.lemmas.List.Elements.{All-weaker, All-filter, All-tail}
 use Rattle.afdx_plan.specs.declared.link_plan.LinkPlan.{LinkPlan}
 use Rattle.afdx_plan.specs.Config.{Plan, link_plan_at}
 use Rattle.afdx_plan.specs.Plan.{bag_micros}
@@ -16,28 +17,18 @@ use Rattle.redundant_mux.specs.Entry.{Entry}
 use Rattle.redundant_mux.specs.Lines.{Lines, side, log, Keeps, Mirrors, IsMirrored}
 use Rattle.vl_shaper.specs.declared.shaper.Stamp.{Stamp}
 use Rattle.afdx_legal.specs.Streams.{link_stream, sub_stream, told, told_of, stamp_of, entry_number, IsNumbered, IsSpaced, IsPrefixOf}
-use Rattle.afdx_legal.specs.Legal.{Accepted, AreKnown, IsLegalOn, AreTwins, IsLegal}
-use Rattle.afdx_legal.proofs.StreamLemmas.{with_append, with_map}
+use Rattle.afdx_legal.specs.Legal.{Accepted, IsKnown, AreKnown, IsLegalOn, AreTwins, IsLegal}
+use Rattle.afdx_legal.proofs.StreamLemmas.{with_append, with_map, known_all}
 use Rattle.redundant_mux.proofs.MirroredLines.{all_of, sides}
 
--- the entries of a list have whole frames
-abbrev AreLong : List Entry → Type 0
-AreLong [] = Unit {0}
-AreLong (e ∷ es) = (60 ≤ length e.frame) × AreLong es
+-- a whole frame
+abbrev IsWhole : Entry → Type 0
+IsWhole e = 60 ≤ length e.frame
 
 -- known frames are whole
-known_long : (links : List LinkPlan) (net : Net) (H : List Entry) → AreKnown links net H → AreLong H
-known_long links net [] h = tt
-known_long links net (e ∷ es) h = (h.0.size, known_long links net es h.1)
-
--- some entries of whole frames have whole frames
-filter_long : (p : Entry → Bool) (H : List Entry) → AreLong H → AreLong (filter p H)
-filter_long p [] h = tt
-filter_long p (e ∷ es) h = keep (p e) (filter_long p es h.1)
-  where
-    keep : (b : Bool) → AreLong (filter p es) → AreLong (cond b (e ∷ filter p es) (filter p es))
-    keep true rest = (h.0, rest)
-    keep false rest = rest
+known_whole : (links : List LinkPlan) (net : Net) (H : List Entry) → AreKnown links net H → All IsWhole H
+known_whole links net H known =
+    All-weaker (λ (e : Entry). IsKnown links net e.frame) IsWhole (λ e is. is.size) H (known_all links net H known)
 
 -- a link's entries in two lists
 link_append : (vl : ℕ) (xs ys : List Entry) → link_stream vl (xs ++ ys) ≡ link_stream vl xs ++ link_stream vl ys
@@ -60,10 +51,13 @@ told_side net (e ∷ es) =
     ∙ ap (λ x. twin_of net (blanked e.frame) ∷ x) (told_side net es)
 
 -- the front of a numbered stream, turned to a network, is numbered
-numbered_side : (net : Net) (i : ℕ) (xs ys : List Entry) → AreLong (xs ++ ys) → IsNumbered entry_number i (xs ++ ys)
+numbered_side : (net : Net) (i : ℕ) (xs ys : List Entry) → All IsWhole (xs ++ ys) → IsNumbered entry_number i (xs ++ ys)
     → IsNumbered entry_number i (map (side net) xs)
 numbered_side net i [] ys long h = tt
-numbered_side net i (x ∷ xs) ys long h = (twin_number net x.frame long.0 ∙ h.0, numbered_side net (i + 1) xs ys long.1 h.1)
+numbered_side net i (x ∷ xs) ys long h = (
+  twin_number net x.frame (long 0 x (omega arith)) ∙ h.0,
+  numbered_side net (i + 1) xs ys (All-tail IsWhole x (xs ++ ys) long) h.1,
+)
 
 -- the front of a spaced stream, turned to a network, is spaced
 spaced_side : (net : Net) (gap : ℕ) (before : Option Stamp) (xs ys : List Entry)
@@ -126,7 +120,7 @@ prefix_side net vl s end_system room messages xs ys p =
 legal_front : (plan : Plan) (accepted : Accepted) (net : Net) (xs ys : List Entry)
     → IsLogLegal plan accepted (xs ++ ys) → IsLegalOn plan accepted net (map (side net) xs)
 legal_front plan accepted net xs ys l =
-    let long : AreLong (xs ++ ys) = known_long plan.links A (xs ++ ys) l.known in
+    let whole = known_whole plan.links A (xs ++ ys) l.known in
     record {
       known = known_side plan.links net xs ys l.known;
       prefixes = λ k s klt slt. prefix_side net (link_plan_at plan.links k).id.0 s plan.end_system
@@ -136,7 +130,8 @@ legal_front plan accepted net xs ys l =
           let cut = link_append vl xs ys in
           subst (IsNumbered entry_number 0) (sym (link_side net vl xs))
           (numbered_side net 0 (link_stream vl xs) (link_stream vl ys)
-          (subst AreLong cut (filter_long (λ e. eqb (link_in e.frame) vl) (xs ++ ys) long))
+          (subst (λ (es : List Entry). All IsWhole es) cut
+          (All-filter (λ e. eqb (link_in e.frame) vl) IsWhole (xs ++ ys) whole))
           (subst (IsNumbered entry_number 0) cut (l.numbered k klt)));
       spaced = λ k klt.
           let vl = (link_plan_at plan.links k).id.0 in
