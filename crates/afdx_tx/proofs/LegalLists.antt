@@ -21,14 +21,14 @@ use Rattle.afdx_legal.specs.Legal.{Accepted, IsKnown, AreKnown, IsLegalOn, AreTw
 use Rattle.afdx_legal.proofs.StreamLemmas.{with_append, with_map, known_all}
 use Rattle.redundant_mux.proofs.MirroredLines.{all_of, sides}
 
--- a whole frame
-abbrev IsWhole : Entry → Type 0
-IsWhole e = 60 ≤ length e.frame
+-- an entry whose frame has all fields that are read
+abbrev IsLongEntry : Entry → Type 0
+IsLongEntry e = 60 ≤ length e.frame
 
 -- known frames are whole
-known_whole : (links : List LinkPlan) (net : Net) (H : List Entry) → AreKnown links net H → All IsWhole H
+known_whole : (links : List LinkPlan) (net : Net) (H : List Entry) → AreKnown links net H → All IsLongEntry H
 known_whole links net H known =
-    All-weaker (λ (e : Entry). IsKnown links net e.frame) IsWhole (λ e is. is.size) H (known_all links net H known)
+    All-weaker (λ (e : Entry). IsKnown links net e.frame) IsLongEntry (λ e is. is.size) H (known_all links net H known)
 
 -- a link's entries in two lists
 link_append : (vl : ℕ) (xs ys : List Entry) → link_stream vl (xs ++ ys) ≡ link_stream vl xs ++ link_stream vl ys
@@ -51,12 +51,12 @@ told_side net (e ∷ es) =
     ∙ ap (λ x. twin_of net (blanked e.frame) ∷ x) (told_side net es)
 
 -- the front of a numbered stream, turned to a network, is numbered
-numbered_side : (net : Net) (i : ℕ) (xs ys : List Entry) → All IsWhole (xs ++ ys) → IsNumbered entry_number i (xs ++ ys)
+numbered_side : (net : Net) (i : ℕ) (xs ys : List Entry) → All IsLongEntry (xs ++ ys) → IsNumbered entry_number i (xs ++ ys)
     → IsNumbered entry_number i (map (side net) xs)
 numbered_side net i [] ys long h = tt
 numbered_side net i (x ∷ xs) ys long h = (
   twin_number net x.frame (long 0 x (omega arith)) ∙ h.0,
-  numbered_side net (i + 1) xs ys (All-tail IsWhole x (xs ++ ys) long) h.1,
+  numbered_side net (i + 1) xs ys (All-tail IsLongEntry x (xs ++ ys) long) h.1,
 )
 
 -- the front of a spaced stream, turned to a network, is spaced
@@ -130,8 +130,8 @@ legal_front plan accepted net xs ys l =
           let cut = link_append vl xs ys in
           subst (IsNumbered entry_number 0) (sym (link_side net vl xs))
           (numbered_side net 0 (link_stream vl xs) (link_stream vl ys)
-          (subst (λ (es : List Entry). All IsWhole es) cut
-          (All-filter (λ e. eqb (link_in e.frame) vl) IsWhole (xs ++ ys) whole))
+          (subst (λ (es : List Entry). All IsLongEntry es) cut
+          (All-filter (λ e. eqb (link_in e.frame) vl) IsLongEntry (xs ++ ys) whole))
           (subst (IsNumbered entry_number 0) cut (l.numbered k klt)));
       spaced = λ k klt.
           let vl = (link_plan_at plan.links k).id.0 in
