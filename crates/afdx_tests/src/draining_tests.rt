@@ -1,15 +1,13 @@
 //! Tests of sending what is left.
 ghost use Rattle.std.specs.Prelude.{◌≡◌, []};
 
-use crate::testing::{numbered, open_demo, send_taken};
+use crate::testing::{NEITHER, numbered, open_demo, send_taken};
 use afdx_tx::{Draining, PollFault, Report};
-use redundant_mux::{MemNetwork, Standing};
+use redundant_mux::MemNetwork;
 use std::alloc::Global;
 use std::process::Abort;
 use std::sync::Wait;
 use std::test::Fail;
-
-const NEITHER: Standing = Standing { a: false, b: false };
 
 /// Two messages of one byte are taken, and the port comes back, at first without it.
 fn gather_two<R: Abort + Wait>(

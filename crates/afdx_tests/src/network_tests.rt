@@ -3,11 +3,11 @@ ghost use Rattle.std.specs.Prelude.{◌≡◌, ◌<◌, ◌≤◌, [], length, m
 ghost use Rattle.arrayvec.specs.ArrayVec.{array_vec_len};
 ghost use Rattle.redundant_mux.specs.Entry.{entry};
 
-use crate::testing::{poll_alive, poll_at, send_taken};
+use crate::testing::{NEITHER, open_one, poll_alive, poll_at, send_taken};
 use afdx_config::read_config;
 use afdx_plan::Config;
 use afdx_frame::Frame;
-use afdx_tx::{Emitter, PollFault, Report, TxPort, open_tx};
+use afdx_tx::{Emitter, PollFault, Report, TxPort};
 use arrayvec::ArrayVec;
 use redundant_mux::{HandFault, MemNetwork, Network, Standing};
 use std::alloc::Global;
@@ -21,8 +21,6 @@ const SIX: &str = "[end_system]\nid = 1\n\
                    [[vl]]\nid = 1\nbag_ms = 1\nlmax = 1518\nsub_vls = 1\ncapacity = 6\n\
                    [[port]]\nid = 10\nvl = 1\nsub = 0\npartition = 1\nkind = \"queuing\"\n\
                    source = 1000\ndestination = 2000\nmax = 8192\n";
-
-const NEITHER: Standing = Standing { a: false, b: false };
 
 fn six(alloc: Global) -> Result<Config, Fail> {
     read_config(alloc, SIX.as_bytes()).map_err(|_| Fail::from("a valid plan"))
@@ -46,13 +44,7 @@ fn open_six<A: Network + Drop, B: Network + Drop>(
     requires a_new { A.failures a ≡ 0 }
     requires b_new { B.failures b ≡ 0 }
 {
-    let Ok((tx, mut ports)) = open_tx(alloc, six(alloc)?, a, b) else {
-        return Err(Fail::from("no memory"));
-    };
-    match ports.pop() {
-        Some(port) => Ok((tx, port)),
-        None => Err(Fail::from("a plan with a port")),
-    }
+    open_one(alloc, six(alloc)?, a, b)
 }
 
 /// Asserts what the poll with this number, counted from 1, answers where A fails at hand `k` and B at

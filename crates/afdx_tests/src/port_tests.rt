@@ -2,10 +2,10 @@
 ghost use Rattle.std.specs.Prelude.{◌≡◌, IfOk};
 ghost use Rattle.afdx_tx.specs.Ports.{IsPortOfTx, AreOpenedWith};
 
-use crate::testing::{poll_alive, send_taken};
+use crate::testing::{open, poll_alive, send_taken};
 use afdx_config::read_config;
 use afdx_plan::PortId;
-use afdx_tx::{Draining, Emitter, Refusal, TxPort, open_tx};
+use afdx_tx::{Draining, Emitter, Refusal, TxPort};
 use redundant_mux::MemNetwork;
 use std::alloc::Global;
 use std::process::Abort;
@@ -55,9 +55,7 @@ fn open_pair(alloc: Global) -> Result<(Tx, TxPort, TxPort), Fail>
 {
     let config = read_config(alloc, TWO_PORTS.as_bytes())?;
     let (a, b) = (MemNetwork::new(alloc), MemNetwork::new(alloc));
-    let Ok((tx, mut ports)) = open_tx(alloc, config, a, b) else {
-        return Err(Fail::from("no memory"));
-    };
+    let (tx, mut ports) = open(alloc, config, a, b)?;
     match (ports.pop(), ports.pop()) {
         (Some(second), Some(first)) => Ok((tx, first, second)),
         _ => Err(Fail::from("two ports")),

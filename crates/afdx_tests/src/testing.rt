@@ -1,15 +1,58 @@
 //! What tests of this crate do again and again.
 ghost use Rattle.std.specs.Prelude.{◌≡◌, [], IfOk};
 ghost use Rattle.afdx_tx.specs.Emitter.{Tx};
-ghost use Rattle.afdx_tx.specs.Ports.{PortView, IsPortOfTx};
+ghost use Rattle.afdx_tx.specs.Ports.{PortView, IsPortOfTx, AreOpenedWith};
 
-use afdx_plan::{VlId, demo_config};
+use afdx_plan::{Config, VlId, demo_config};
 use afdx_tx::{Emitter, PollFault, Release, Report, TxPort, open_tx};
-use redundant_mux::{MemNetwork, Network};
+use redundant_mux::{MemNetwork, Network, Standing};
 use std::alloc::Global;
 use std::process::Abort;
 use std::sync::Wait;
 use std::test::Fail;
+
+pub(crate) const BOTH: Standing = Standing { a: true, b: true };
+
+pub(crate) const NEITHER: Standing = Standing { a: false, b: false };
+
+/// An emitter of a configuration over two networks that were handed nothing, and its ports.
+pub(crate) fn open<A: Network + Drop, B: Network + Drop>(
+    alloc: Global,
+    config: Config,
+    a: A,
+    b: B,
+) -> Result<(Emitter<A, B>, Vec<TxPort>), Fail>
+    requires a_empty { A.handed a ≡ [] }
+    requires b_empty { B.handed b ≡ [] }
+    requires a_new { A.failures a ≡ 0 }
+    requires b_new { B.failures b ≡ 0 }
+    ensures { IfOk result (λ opened. AreOpenedWith opened.0 opened.1.items) }
+{
+    match open_tx(alloc, config, a, b) {
+        Ok(opened) => Ok(opened),
+        Err(_) => Err(Fail::from("no memory")),
+    }
+}
+
+/// The same of a configuration with one port.
+pub(crate) fn open_one<A: Network + Drop, B: Network + Drop>(
+    alloc: Global,
+    config: Config,
+    a: A,
+    b: B,
+) -> Result<(Emitter<A, B>, TxPort), Fail>
+    requires a_empty { A.handed a ≡ [] }
+    requires b_empty { B.handed b ≡ [] }
+    requires a_new { A.failures a ≡ 0 }
+    requires b_new { B.failures b ≡ 0 }
+    ensures { IfOk result (λ opened. IsPortOfTx opened.0 opened.1) }
+{
+    let (tx, mut ports) = open(alloc, config, a, b)?;
+    match ports.pop() {
+        Some(port) => Ok((tx, port)),
+        None => Err(Fail::from("no port")),
+    }
+}
 
 /// The demonstration configuration over two networks, and its one port.
 pub(crate) fn open_demo(
@@ -23,14 +66,7 @@ pub(crate) fn open_demo(
     requires b_new { b.failures ≡ 0 }
     ensures { IfOk result (λ opened. IsPortOfTx opened.0 opened.1) }
 {
-    let config = demo_config(alloc)?;
-    match open_tx(alloc, config, a, b) {
-        Ok((tx, mut ports)) => match ports.pop() {
-            Some(port) => Ok((tx, port)),
-            None => Err(Fail::from("no port")),
-        },
-        Err(_) => Err(Fail::from("no memory")),
-    }
+    open_one(alloc, demo_config(alloc)?, a, b)
 }
 
 /// Sends a message, which is taken. The port stays one of its emitter.

@@ -1,5 +1,5 @@
 //! Tests of the demonstration configuration.
-use crate::testing::{numbered, open_demo, poll_alive, poll_at, send_taken};
+use crate::testing::{BOTH, NEITHER, numbered, open_demo, poll_alive, poll_at, send_taken};
 use afdx_tx::PollFault;
 use redundant_mux::{MemNetwork, Standing};
 use std::process::Abort;
@@ -20,11 +20,7 @@ const FOR_B: [u8; 60] = [
     0x00, 0x00, 0x00, 0x00, 0x00, 0x00, 0x00, 0x00, 0x00, 0x00, 0x00, 0x00,
 ];
 
-const BOTH: Standing = Standing { a: true, b: true };
-
 const ONLY_B: Standing = Standing { a: false, b: true };
-
-const NEITHER: Standing = Standing { a: false, b: false };
 
 #[test]
 fn a_message_of_one_byte_goes_out_as_one_frame_on_each_network(

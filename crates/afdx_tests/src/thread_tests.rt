@@ -3,10 +3,11 @@ ghost use Rattle.std.specs.Prelude.{◌≡◌, [], map, Some, IfOk, IfSome};
 ghost use Rattle.afdx_tx.specs.Emitter.{Tx, queues_in};
 ghost use Rattle.afdx_tx.specs.Ports.{IsPortOfTx, AreOpenedWith};
 
+use crate::testing::open;
 use afdx_config::read_config;
 
 use afdx_plan::Config;
-use afdx_tx::{Draining, Emitter, Refusal, SendFault, TxPort, open_tx};
+use afdx_tx::{Draining, Emitter, Refusal, SendFault, TxPort};
 use redundant_mux::MemNetwork;
 use std::alloc::{AllocError, Global};
 use std::process::Abort;
@@ -68,15 +69,12 @@ fn open_plan(
     ensures { IfOk result (λ opened. AreOpenedWith opened.0 opened.1.items) }
 {
     let config = plan(alloc, capacity)?;
-    match open_tx(
+    open(
         alloc,
         config,
         MemNetwork::new(alloc),
         MemNetwork::new(alloc),
-    ) {
-        Ok(opened) => Ok(opened),
-        Err(_) => Err(Fail::from("no memory")),
-    }
+    )
 }
 
 // Sends a message, and again after Full. Whether it was accepted.

@@ -2,6 +2,7 @@ pub mod FragmentsLeft
 pub mod Choosing
 pub mod QueueLooks
 pub mod SubInStep
+pub mod SubKept
 pub mod PaceOfStream
 pub mod ChosenSub
 pub mod TurnLaws

@@ -1,10 +1,11 @@
-use Rattle.std.proofs.Common.{ℕ, ◌≡◌, ◌+◌, ◌-◌, ◌<◌, List, [], ◌∷◌, ◌++◌, length, get_or, set, arith, ap, ◌∙◌, sym, subst, refl, below_more}
-use Rattle.std.proofs.lemmas.List.{get_or_default, get_or_append_left, get_or_push, length-append}
+use Rattle.std.proofs.Common.{ℕ, ◌≡◌, ◌+◌, ◌-◌, ◌<◌, List, [], ◌∷◌, ◌++◌, length, get_or, set, arith, reverse, ap, ◌∙◌, sym, subst, refl, below_more, Option}
+use Rattle.std.proofs.lemmas.List.{get_or_default, get_or_append_left, get_or_push, get_or-reverse, length-append, length-reverse}
 use Rattle.afdx_plan.specs.declared.port_plan.PortPlan.{PortPlan}
-use Rattle.afdx_plan.specs.Config.{link_plan_at}
+use Rattle.afdx_plan.specs.Config.{Plan, link_plan_at}
 use Rattle.afdx_plan.specs.Plan.{SendsOver}
 use Rattle.afdx_tx.specs.Emitter.{queues_in}
-use Rattle.afdx_tx.specs.Ports.{PortView, IsFreshPort}
+use Rattle.subvl_queue.specs.Views.{QueueName}
+use Rattle.afdx_tx.specs.Ports.{PortView, IsFreshPort, ArePortsOf}
 use Rattle.vl_link.specs.Room.{RoomView}
 use Rattle.afdx_tx.specs.Rooms.{AreRooms, fresh_for, rooms_of}
 use Rattle.vl_link.specs.Room.{room_in}
@@ -59,3 +60,28 @@ loop-place-preserved c =
           (sym (get_or_push c.loop-place.ports.items c.new.result d (length c.loop-place.ports.items) refl)) fresh))
           m (omega (arith, ap length pushed, length-append c.loop-place.ports.items (c.new.result ∷ []))));
     }
+
+-- fresh ports from the last to the first, turned round, are those of the configuration
+turned_round : (config : Plan) (queues : List (List (Option QueueName))) (ports : List PortView)
+    → length ports ≡ length config.ports
+    → ((m : ℕ) (d : PortView) → m < length ports → IsFreshPort config queues (length config.ports - 1 - m) (get_or ports m d))
+    → ArePortsOf config queues (reverse ports)
+turned_round config queues ports many each = record {
+  count = length-reverse ports ∙ many;
+  each = λ k d lt.
+      let within : k < length ports = omega arith in
+      let back : length config.ports - 1 - (length ports - 1 - k) ≡ k = omega arith in
+      let below : length ports - 1 - k < length ports = omega arith in
+      subst (IsFreshPort config queues k) (sym (get_or-reverse ports k d within))
+      (subst (λ (n : ℕ). IsFreshPort config queues n (get_or ports (length ports - 1 - k) d)) back
+      (each (length ports - 1 - k) d below));
+}
+
+pub returns-clause-ports : goal.returns-clause-ports
+returns-clause-ports c =
+    let config = c.args.config.now in
+    let queues = queues_in c.args.links.now in
+    let many : length c.loop-place.ports.items ≡ length c.args.config.now.ports =
+    let count = c.loop-place.invariant.count in let end = c.loop-place-test.false in omega arith in
+    subst (ArePortsOf config queues) (sym c.reverse.ensures.items)
+    (turned_round config queues c.loop-place.ports.items many c.loop-place.invariant.each)

@@ -1,4 +1,4 @@
-use Rattle.std.proofs.Common.{◌≡◌, ◌∙◌, ◌||◌, ap, sym, true, false}
+use Rattle.std.proofs.Common.{◌≡◌, true, false}
 use Rattle.redundant_mux.specs.Lines.{is_alive}
 use Rattle.afdx_frame.specs.declared.net.Net.TheVariants.{A}
 use Rattle.afdx_frame.proofs.Twins.{twin_same}

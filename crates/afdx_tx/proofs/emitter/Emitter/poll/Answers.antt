@@ -1,7 +1,11 @@
-use Rattle.std.proofs.Common.{◌≡◌, sym, subst}
+use Rattle.std.proofs.Common.{◌≡◌, true, false, IfOk, OnOk, sym, subst}
 use Rattle.afdx_plan.specs.Config.{Plan}
+use Rattle.redundant_mux.specs.Lines.{is_alive}
+use Rattle.afdx_tx.specs.declared.report.Report.{Report}
 use Rattle.afdx_tx.specs.Emitter.{Tx, queues_in}
+use Rattle.afdx_tx.specs.Report.{Polls}
 use Rattle.afdx_tx.specs.Rooms.{AreReserved}
+use Rattle.afdx_tx.specs.Run.{IsRun, IsCutShort}
 use Rattle.afdx_tx.proofs.SoundEmitter.{receiving_still, same_queues}
 use Rattle.afdx_tx.proofs.emitter.Emitter.poll.Goals as goal
 
@@ -15,3 +19,18 @@ pub returns-clause-queues : goal.returns-clause-queues
 returns-clause-queues g c =
     subst (λ (t : Tx). queues_in c.poll.new.self.links ≡ queues_in t.links) c.self.view_is
     (same_queues c.self.inside.inner.links c.poll.new.self.links c.poll.ensures.same)
+
+pub returns-clause-told : goal.returns-clause-told
+returns-clause-told g c =
+    subst (λ (t : Tx). IfOk c.poll.result (λ (report : Report). Polls c.args.now t report c.poll.new.self)) c.self.view_is
+    c.poll.ensures.told
+
+pub returns-clause-run : goal.returns-clause-run
+returns-clause-run g c =
+    subst (λ (t : Tx). OnOk c.poll.result (is_alive c.poll.new.self.lines ≡ true
+    → IsRun c.args.now t.links c.poll.new.self.links t.lines c.poll.new.self.lines)) c.self.view_is c.poll.ensures.run
+
+pub returns-clause-cut_short : goal.returns-clause-cut_short
+returns-clause-cut_short g c =
+    subst (λ (t : Tx). OnOk c.poll.result (is_alive c.poll.new.self.lines ≡ false
+    → IsCutShort c.args.now t.links c.poll.new.self.links t.lines c.poll.new.self.lines)) c.self.view_is c.poll.ensures.cut_short

@@ -2,7 +2,6 @@ use Rattle.std.proofs.Common.{sym, subst}
 use Rattle.redundant_mux.specs.Lines.{Lines}
 use Rattle.afdx_tx.specs.Emitter.{IsSound}
 use Rattle.afdx_tx.proofs.FreshEmitter.{fresh_sound}
-use Rattle.afdx_tx.proofs.transmitter.Transmitter.over.Given
 use Rattle.afdx_tx.proofs.transmitter.Transmitter.over.Goals as goal
 
 pub invariant_of-result : goal.invariant_of-result
