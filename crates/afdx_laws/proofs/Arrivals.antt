@@ -56,7 +56,8 @@ placed net stream i frame long numbered inside is =
     let within : i < length stream = omega arith in
     let f : frame ≡ twin_of net (get_or stream i []) = is ∙ get_or-map (twin_of net) stream i [] frame within in (
       omega arith,
-      ap number_in f ∙ twin_number net (get_or stream i []) (long i [] within) ∙ numbered_at number_in 0 stream numbered i [] within ∙ ap sequence_number (omega arith),
+      ap number_in f ∙ twin_number net (get_or stream i []) (long i [] within)
+          ∙ numbered_at number_in 0 stream numbered i [] within ∙ ap sequence_number (omega arith),
       ap (twin_of A) f ∙ set-set (get_or stream i []) 11 (interface_byte net) (interface_byte A)
           ∙ sym (get_or-map (twin_of A) stream i [] (twin_of A frame) within),
     )

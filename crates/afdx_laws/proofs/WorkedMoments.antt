@@ -31,4 +31,11 @@ no_nearer near = let behind = near ((A, 7 ∷ []) ∷ []) [] B (7 ∷ []) refl i
 
 -- the row
 pub comes_in_time : ComesInTime
-comes_in_time = record { apart = λ i. omega arith; forward = λ k. omega arith; delivered = both_delivered; near = few_are_near 1 both_copies (omega arith); exact = no_nearer }
+comes_in_time = record {
+  apart = λ i. omega arith;
+  forward = λ k. omega arith;
+  delivered = both_delivered;
+  near =
+      few_are_near 1 both_copies (omega arith);
+  exact = no_nearer;
+}

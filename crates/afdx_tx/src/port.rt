@@ -1,13 +1,26 @@
 //! A port, for a thread of its own.
 ghost use Rattle.std.specs.Prelude.{◌≡◌, length};
 ghost use Rattle.afdx_tx.specs.Ports.{refusal_of};
+ghost use Rattle.afdx_tx.specs.Sending.{length_refusal};
 
 use crate::fault::{Refusal, SendFault};
-use crate::routing::length_refusal;
 use afdx_plan::{PortId, PortPlan};
 use std::marker::Model;
 use std::sync::Wait;
 use subvl_queue::{Refused, Sender, Why};
+
+/// Why a port doesn't take a message of so many bytes, whatever its queue holds.
+fn length_refusal(port: &PortPlan, size: usize) -> Option<Refusal>
+    ensures { result ≡ length_refusal port.now size }
+{
+    if size == 0 {
+        return Some(Refusal::Empty);
+    }
+    if size > port.max {
+        return Some(Refusal::TooLong);
+    }
+    None
+}
 
 /// A port of an emitter, which may go to another thread. Contracts see its place in the
 /// configuration, what the configuration says of it, and its sender, with the messages of it that

@@ -2,23 +2,9 @@
 ghost use Rattle.std.specs.Prelude.{◌≡◌, ◌<◌, length};
 ghost use Rattle.afdx_plan.specs.Config.{HasLink, IsPlan, link_plan_at, port_plan_at};
 ghost use Rattle.afdx_plan.specs.Plan.{IsPort, SendsOver};
-ghost use Rattle.afdx_tx.specs.Sending.{link_place, length_refusal};
+ghost use Rattle.afdx_tx.specs.Sending.{link_place};
 
-use crate::fault::Refusal;
 use afdx_plan::{Config, PortPlan};
-
-/// Why a port doesn't take a message of so many bytes, whatever its queue holds.
-pub fn length_refusal(port: &PortPlan, size: usize) -> Option<Refusal>
-    ensures { result ≡ length_refusal port.now size }
-{
-    if size == 0 {
-        return Some(Refusal::Empty);
-    }
-    if size > port.max {
-        return Some(Refusal::TooLong);
-    }
-    None
-}
 
 /// The port at a place of the configuration.
 pub fn port_at(config: &Config, place: usize) -> PortPlan

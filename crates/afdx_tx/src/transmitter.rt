@@ -13,8 +13,8 @@ ghost use Rattle.afdx_tx.specs.Gathering.{AreFull, GathersLinks};
 
 use crate::fault::PollFault;
 use crate::report::{Release, Report};
-use afdx_plan::{Config, VlId};
 use afdx_frame::Frame;
+use afdx_plan::{Config, VlId};
 use arrayvec::ArrayVec;
 use redundant_mux::{Mux, Network};
 use std::marker::Model;

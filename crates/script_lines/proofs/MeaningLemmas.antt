@@ -21,14 +21,17 @@ send_one ws more n h k = rw (h, k) refl
 pub send_number : (ws more rest : List (List ℕ)) (n m : List ℕ) → ws ≡ n ∷ more → more ≡ m ∷ rest → None ≡ port_of n → send_fault ws ≡ Some Number
 send_number ws more rest n m h k e = rw (h, k, ← e) refl
 
-pub send_hex : (ws more rest : List (List ℕ)) (n m : List ℕ) (p : ℕ) → ws ≡ n ∷ more → more ≡ m ∷ rest → Some p ≡ port_of n → message_of m ≡ None → send_fault ws ≡ Some Hex
+pub send_hex : (ws more rest : List (List ℕ)) (n m : List ℕ) (p : ℕ) → ws ≡ n ∷ more → more ≡ m ∷ rest
+    → Some p ≡ port_of n → message_of m ≡ None → send_fault ws ≡ Some Hex
 send_hex ws more rest n m p h k e f = rw (h, k, ← e, f) refl
 
-pub send_extra : (ws more rest last : List (List ℕ)) (n m x bs : List ℕ) (p : ℕ) → ws ≡ n ∷ more → more ≡ m ∷ rest → Some p ≡ port_of n → message_of m ≡ Some bs → rest ≡ x ∷ last
+pub send_extra : (ws more rest last : List (List ℕ)) (n m x bs : List ℕ) (p : ℕ) → ws ≡ n ∷ more → more ≡ m ∷ rest
+    → Some p ≡ port_of n → message_of m ≡ Some bs → rest ≡ x ∷ last
     → send_fault ws ≡ Some Extra
 send_extra ws more rest last n m x bs p h k e f r = rw (h, k, ← e, f, r) (rw (some_word x last) refl)
 
-pub send_ok : (ws more rest : List (List ℕ)) (n m bs : List ℕ) (p : ℕ) → ws ≡ n ∷ more → more ≡ m ∷ rest → Some p ≡ port_of n → message_of m ≡ Some bs → rest ≡ [] → IsSaidSend ws (Send p bs)
+pub send_ok : (ws more rest : List (List ℕ)) (n m bs : List ℕ) (p : ℕ) → ws ≡ n ∷ more → more ≡ m ∷ rest
+    → Some p ≡ port_of n → message_of m ≡ Some bs → rest ≡ [] → IsSaidSend ws (Send p bs)
 send_ok ws more rest n m bs p h k e f r = rw (h, k, ← e, f, r) (refl, refl)
 
 -- the words behind `at`

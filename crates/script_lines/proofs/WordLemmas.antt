@@ -18,7 +18,8 @@ abbrev pub parts_behind : List ℕ → List (List ℕ)
 parts_behind [] = []
 parts_behind (x ∷ xs) = slice_split is_blank xs
 
-split_front : (word rest : List ℕ) → ((k : ℕ) → k < length word → is_blank (get_or (word ++ rest) k 0) ≡ false) → (0 < length rest → is_blank (get_or rest 0 0) ≡ true)
+split_front : (word rest : List ℕ) → ((k : ℕ) → k < length word → is_blank (get_or (word ++ rest) k 0) ≡ false)
+    → (0 < length rest → is_blank (get_or rest 0 0) ≡ true)
     → slice_split is_blank (word ++ rest) ≡ word ∷ parts_behind rest
 split_front [] [] h e = refl
 split_front [] (b ∷ bs) h e = let gap : is_blank b ≡ true = e (omega arith) in rw gap refl
@@ -37,22 +38,30 @@ word_counts [] parts h = absurd (omega (arith, h))
 word_counts (x ∷ xs) parts h = let some : (length (x ∷ xs) == 0) ≡ false = ne_eqb (length (x ∷ xs)) 0 (λ e. absurd (omega arith)) in rw some refl
 
 -- the first word, and those behind it
-pub split_word : (text word rest : List ℕ) → text ≡ word ++ rest → 0 < length word → ((k : ℕ) → k < length word → is_blank (get_or text k 0) ≡ false) → (length word < length text → is_blank (get_or text (length word) 0) ≡ true)
+pub split_word : (text word rest : List ℕ) → text ≡ word ++ rest → 0 < length word → ((k : ℕ) → k < length word
+    → is_blank (get_or text k 0) ≡ false) → (length word < length text
+    → is_blank (get_or text (length word) 0) ≡ true)
     → words_of text ≡ word ∷ words_of rest
 unfolding words_of
 split_word text word rest is some h e =
-    let here : (k : ℕ) → k < length word → is_blank (get_or (word ++ rest) k 0) ≡ false = subst (λ (t : List ℕ). (k : ℕ) → k < length word → is_blank (get_or t k 0) ≡ false) is h in
+    let here : (k : ℕ) → k < length word
+    → is_blank (get_or (word ++ rest) k 0) ≡ false = subst (λ (t : List ℕ). (k : ℕ) → k < length word
+    → is_blank (get_or t k 0) ≡ false) is h in
     let there : length word < length (word ++ rest) → is_blank (get_or (word ++ rest) (length word) 0) ≡ true =
     subst (λ (t : List ℕ). length word < length t → is_blank (get_or t (length word) 0) ≡ true) is e in
-    let gap : 0 < length rest → is_blank (get_or rest 0 0) ≡ true = λ l. sym (ap is_blank (get_behind word rest)) ∙ there (omega (arith, length-append word rest)) in
-    ap (λ t. filter is_some_text (slice_split is_blank t)) is ∙ ap (λ parts. filter is_some_text parts) (split_front word rest here gap) ∙ word_counts word (parts_behind rest) some
+    let gap : 0 < length rest → is_blank (get_or rest 0 0) ≡ true = λ l. sym (ap is_blank (get_behind word rest))
+    ∙ there (omega (arith, length-append word rest)) in
+    ap (λ t. filter is_some_text (slice_split is_blank t)) is
+    ∙ ap (λ parts. filter is_some_text parts) (split_front word rest here gap)
+    ∙ word_counts word (parts_behind rest) some
     ∙ ap (λ r. word ∷ r) (behind rest gap)
   where
     get_behind : (xs ys : List ℕ) → get_or (xs ++ ys) (length xs) 0 ≡ get_or ys 0 0
     get_behind [] ys = refl
     get_behind (x ∷ xs) ys = get_behind xs ys
 
-pub skip_blanks : (line front text : List ℕ) → line ≡ front ++ text → ((k : ℕ) → k < length front → is_blank (get_or line k 0) ≡ true) → words_of line ≡ words_of text
+pub skip_blanks : (line front text : List ℕ) → line ≡ front ++ text → ((k : ℕ) → k < length front
+    → is_blank (get_or line k 0) ≡ true) → words_of line ≡ words_of text
 skip_blanks line front text is h =
     ap words_of is ∙ skip_front front text (subst (λ (t : List ℕ). (k : ℕ) → k < length front → is_blank (get_or t k 0) ≡ true) is h)
 
@@ -64,7 +73,8 @@ halves : (n : ℕ) (xs a b : List ℕ) → a ≡ take n xs → b ≡ drop n xs �
 halves n xs a b h k = rw (h, k) (sym (take-append-drop n xs))
 
 -- nothing but blanks
-pub next_none : (line front text : List ℕ) (n : ℕ) → front ≡ take n line → text ≡ drop n line → length front ≡ n → ((k : ℕ) → k < n → is_blank (get_or line k 0) ≡ true) → length text ≡ 0 → words_of line ≡ []
+pub next_none : (line front text : List ℕ) (n : ℕ) → front ≡ take n line → text ≡ drop n line → length front ≡ n
+    → ((k : ℕ) → k < n → is_blank (get_or line k 0) ≡ true) → length text ≡ 0 → words_of line ≡ []
 next_none line front text n h k len blank none =
     skip_blanks line front text (halves n line front text h k) (λ j lt. blank j (omega arith)) ∙ no_words text (length_zero text none)
   where
@@ -73,18 +83,22 @@ next_none line front text n h k len blank none =
     length_zero (x ∷ xs) e = absurd (omega (arith, e))
 
 -- blanks, and then a word
-pub next_some : (line front text word rest : List ℕ) (n m : ℕ) → front ≡ take n line → text ≡ drop n line → length front ≡ n → ((k : ℕ) → k < n → is_blank (get_or line k 0) ≡ true)
+pub next_some : (line front text word rest : List ℕ) (n m : ℕ) → front ≡ take n line → text ≡ drop n line
+    → length front ≡ n → ((k : ℕ) → k < n → is_blank (get_or line k 0) ≡ true)
     → (n < length line → is_blank (get_or line n 0) ≡ false) → 0 < length text
-    → word ≡ take m text → rest ≡ drop m text → length word ≡ m → ((k : ℕ) → k < m → is_blank (get_or text k 0) ≡ false) → (m < length text → is_blank (get_or text m 0) ≡ true)
+    → word ≡ take m text → rest ≡ drop m text → length word ≡ m → ((k : ℕ) → k < m
+    → is_blank (get_or text k 0) ≡ false) → (m < length text → is_blank (get_or text m 0) ≡ true)
     → words_of line ≡ word ∷ words_of rest
 next_some line front text word rest n m h k len blank found some h2 k2 len2 word_is gap =
     let whole : line ≡ front ++ text = halves n line front text h k in
     let parts : text ≡ word ++ rest = halves m text word rest h2 k2 in
     let starts : is_blank (get_or text 0 0) ≡ false =
-    subst (λ (j : ℕ). is_blank j ≡ false) (ap (λ (t : List ℕ). get_or t n 0) whole ∙ get_at front text n len) (found (omega (arith, ap length whole, length-append front text))) in
+    subst (λ (j : ℕ). is_blank j ≡ false) (ap (λ (t : List ℕ). get_or t n 0) whole
+    ∙ get_at front text n len) (found (omega (arith, ap length whole, length-append front text))) in
     let long : 0 < length word = first_is word rest m len2 parts (λ z. clash (is_blank (get_or text 0 0)) starts (gap_first z)) in
     skip_blanks line front text whole (λ j lt. blank j (omega arith))
-    ∙ split_word text word rest parts long (λ j lt. word_is j (omega arith)) (λ lt. subst (λ (j : ℕ). is_blank (get_or text j 0) ≡ true) (sym len2) (gap (omega arith)))
+    ∙ split_word text word rest parts long (λ j lt. word_is j (omega arith)) (λ lt. subst (λ (j : ℕ). is_blank
+    (get_or text j 0) ≡ true) (sym len2) (gap (omega arith)))
   where
     get_at : (xs ys : List ℕ) (i : ℕ) → length xs ≡ i → get_or (xs ++ ys) i 0 ≡ get_or ys 0 0
     get_at [] ys zero e = refl

@@ -253,7 +253,9 @@ finds_first st bench h g m = record { own = own; first = first }
         let sub : IsPlannedSub (record { end_system = st.es.plan.end_system; link = link_plan_at st.es.plan.links k; sub = s })
         (ports_of_sub st.es.plan.ports (link_plan_at st.es.plan.links k).id.0 s)
         (held_at (link_at bench.tx.links k).subs s) = link.each s inside in
-        ap (λ (progress : Progress). progress.taken) (m.emitter.subs k s within) ∙ ap (λ (senders : List PortPlan). sent_by senders (taken_of (held_at (link_at bench.tx.links k).subs s).seen))
+        ap (λ (progress : Progress). progress.taken) (m.emitter.subs k s within)
+        ∙ ap (λ (senders : List PortPlan). sent_by senders (taken_of (held_at
+        (link_at bench.tx.links k).subs s).seen))
         sub.ports
 
     own : (k s : ℕ) → k < length st.es.plan.links → s < (link_plan_at st.es.plan.links k).sub_vls

@@ -14,7 +14,8 @@ use Rattle.tx_script.specs.declared.frame_log.Mark.{Mark}
 frames_more : (net : Net) (es : List Entry) (e : Entry) → frame_lines net (es ++ e ∷ []) ≡ frame_lines net es ++ frame_line net e
 unfolding frame_lines
 frames_more net [] e = append-nil (frame_line net e)
-frames_more net (x ∷ xs) e = ap (λ r. frame_line net x ++ r) (frames_more net xs e) ∙ sym (append_assoc (frame_line net x) (frame_lines net xs) (frame_line net e))
+frames_more net (x ∷ xs) e = ap (λ r. frame_line net x ++ r) (frames_more net xs e)
+    ∙ sym (append_assoc (frame_line net x) (frame_lines net xs) (frame_line net e))
 
 -- the lines of some frames were appended, and these marks and bytes are left
 pub record HasWritten (net : Net) (old new : Option (List ℕ)) (marks : List Mark) (bytes : List ℕ)

@@ -19,7 +19,8 @@ loop-sub-preserved c =
           (subs_push own ports plan c.loop-sub.subs.items sub c.in_ok-opened.opened c.loop-sub.invariant.fresh fresh);
       rooms = subst (λ (subs : List Held). AreFreshRooms ports plan subs c.push-in-loop-sub.new.self.items (sub + 1))
           (sym c.in_ok-push.ensures.items)
-          (subst (λ (rooms : List RoomView). AreFreshRooms ports plan (c.loop-sub.subs.items ++ c.in_ok-opened.opened ∷ []) rooms (sub + 1)) (sym c.in_ok-push-2.ensures.items)
+          (subst (λ (rooms : List RoomView). AreFreshRooms ports plan (c.loop-sub.subs.items ++
+          c.in_ok-opened.opened ∷ []) rooms (sub + 1)) (sym c.in_ok-push-2.ensures.items)
           (rooms_push ports plan c.loop-sub.subs.items c.loop-sub.rooms.items sub c.in_ok-opened.opened c.in_ok-opened.room
           c.loop-sub.invariant.fresh.count c.loop-sub.invariant.rooms c.in_ok-opened.ensures.room));
     }

@@ -32,7 +32,8 @@ loop-plan-preserved c =
           (fresh_push config c.loop-plan.links.items k c.in_ok-link.link old.fresh fresh);
       rooms = subst (λ (links : List LinkState). AreLinkRooms config links c.push-in-loop-plan.new.self.items (k + 1))
           (sym c.in_ok-push.ensures.items)
-          (subst (λ (rooms : List (List RoomView)). AreLinkRooms config (c.loop-plan.links.items ++ c.in_ok-link.link ∷ []) rooms (k + 1)) (sym c.in_ok-push-2.ensures.items)
+          (subst (λ (rooms : List (List RoomView)). AreLinkRooms config (c.loop-plan.links.items ++
+          c.in_ok-link.link ∷ []) rooms (k + 1)) (sym c.in_ok-push-2.ensures.items)
           (links_push config c.loop-plan.links.items c.loop-plan.rooms.items k c.in_ok-link.link c.in_ok-link.own
           old.fresh.count old.rooms rooms));
     }

@@ -63,5 +63,6 @@ returns-clause-header c =
     let within : c.in-Some.piece.start + c.in-Some.piece.len ≤ 8 + length c.deref.result.now = search (rules, arith) in
     let says : IsFrameOf c.self.inside.port.vl.0 c.self.inside.port.sub c.args.number c.args.net c.write_frame.new.out.items =
     rw c.write_frame.ensures
-    (header_says c.args.end_system c.self.inside.port c.deref.result.now c.self.inside.place c.in-Some.piece c.args.net c.args.number c.self.invariant.port within) in
+    (header_says c.args.end_system c.self.inside.port c.deref.result.now c.self.inside.place c.in-Some.piece
+    c.args.net c.args.number c.self.invariant.port within) in
     λ _. subst (λ (cut : Cutting). IsFrameOf cut.port.vl.0 cut.port.sub c.args.number c.args.net c.write_frame.new.out.items) c.self.view_is says
