@@ -3,7 +3,7 @@ use Rattle.std.specs.Prelude.{ℕ, ◌≡◌, ◌⊎◌, ◌+◌, ◌≤◌, Lis
 use Rattle.afdx_frame.specs.Twin.{twin_of}
 use Rattle.afdx_frame.specs.declared.net.Net.{Net}
 use Rattle.afdx_frame.specs.declared.net.Net.TheVariants.{A, B}
-use Rattle.redundant_mux.specs.Entry.{Entry, entry}
+use Rattle.redundant_mux.specs.Entry.{Entry}
 
 -- the two handed lists, the failures of each network, and whether it stands
 pub record Lines : Type 0 where
@@ -36,7 +36,7 @@ is_alive lines = lines.a_stands || lines.b_stands
 
 -- the entry for a network
 abbrev pub side : Net → Entry → Entry
-side net e = entry e.at (twin_of net e.frame)
+side net e = record { at = e.at; frame = twin_of net e.frame }
 
 -- the longer handed list, its frames for network A
 unfoldable pub log : Lines → List Entry
