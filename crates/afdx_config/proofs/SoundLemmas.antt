@@ -21,7 +21,7 @@ use Rattle.afdx_config.specs.Faults.{shows, value_faults}
 use Rattle.afdx_config.specs.Format.{Field, end_fields, link_fields, port_fields}
 use Rattle.afdx_config.specs.PlanOf.{link_of, port_of, plan_of}
 use Rattle.afdx_config.specs.Tables.{table_shows}
-use Rattle.afdx_config.specs.Views.{AreSectionsOf, AreSound, IsSound}
+use Rattle.afdx_config.specs.Views.{AreSectionsOf, AreSound, IsSoundTable}
 use Rattle.afdx_config.specs.declared.sections.Sections.{Sections}
 use Rattle.afdx_config.proofs.SectionTests.{shown_in, option_maps}
 
@@ -49,10 +49,10 @@ one_sound : (fields : List Field) (o : Option Found)
     → option_map_or (λ t. table_shows WrongKind fields (table_view t.now)) o false ≡ false
     → option_map_or (λ t. table_shows OutOfRange fields (table_view t.now)) o false ≡ false
     → option_map_or (λ t. table_shows BadBag fields (table_view t.now)) o false ≡ false
-    → ForSome o (λ t. IsSound fields (table_view t.now))
+    → ForSome o (λ t. IsSoundTable fields (table_view t.now))
 one_sound fields None a b c d = λ t e. cc
 one_sound fields (Some x) a b c d =
-    λ t e. subst (λ (y : Found). IsSound fields (table_view y.now)) (same_Some x t e)
+    λ t e. subst (λ (y : Found). IsSoundTable fields (table_view y.now)) (same_Some x t e)
     (record { complete = a; kinds = b; inside = c; gaps = d })
 
 -- so are those of a list
@@ -61,14 +61,14 @@ all_sound : (fields : List Field) (tables : List Found)
     → list_any (λ t. table_shows WrongKind fields (table_view t.now)) tables ≡ false
     → list_any (λ t. table_shows OutOfRange fields (table_view t.now)) tables ≡ false
     → list_any (λ t. table_shows BadBag fields (table_view t.now)) tables ≡ false
-    → All (λ t. IsSound fields (table_view t.now)) tables
+    → All (λ t. IsSoundTable fields (table_view t.now)) tables
 all_sound fields [] a b c d = λ k d' h. absurd (omega arith)
 all_sound fields (x ∷ xs) a b c d =
     let (a1, a2) = or_parts _ _ a in
     let (b1, b2) = or_parts _ _ b in
     let (c1, c2) = or_parts _ _ c in
     let (d1, d2) = or_parts _ _ d in
-    All-cons (λ (t : Found). IsSound fields (table_view t.now)) x xs
+    All-cons (λ (t : Found). IsSoundTable fields (table_view t.now)) x xs
     (record { complete = a1; kinds = b1; inside = c1; gaps = d1 }) (all_sound fields xs a2 b2 c2 d2)
 
 -- no fault of the values: the tables are sound

@@ -37,7 +37,7 @@ sections_show fault document sections = table_shows fault document_fields docume
     || list_any (λ t. table_shows fault port_fields (table_view t.now)) sections.ports.items
 
 -- a table without fault
-pub record IsSound (fields : List Field) (members : Members) : Type 0 where
+pub record IsSoundTable (fields : List Field) (members : Members) : Type 0 where
   pub complete : table_shows MissingKey fields members ≡ false
   pub kinds : table_shows WrongKind fields members ≡ false
   pub inside : table_shows OutOfRange fields members ≡ false
@@ -45,9 +45,9 @@ pub record IsSound (fields : List Field) (members : Members) : Type 0 where
 
 -- each of the tables is without fault
 pub record AreSound (sections : Sections) : Type 0 where
-  pub end_sound : ForSome sections.end (λ t. IsSound end_fields (table_view t.now))
-  pub links_sound : All (λ r. IsSound link_fields (table_view r.now)) sections.links.items
-  pub ports_sound : All (λ r. IsSound port_fields (table_view r.now)) sections.ports.items
+  pub end_sound : ForSome sections.end (λ t. IsSoundTable end_fields (table_view t.now))
+  pub links_sound : All (λ r. IsSoundTable link_fields (table_view r.now)) sections.links.items
+  pub ports_sound : All (λ r. IsSoundTable port_fields (table_view r.now)) sections.ports.items
 
 -- the plan of parts that weren't judged as a whole
 abbrev pub plan_in : Parts → Plan

@@ -4,7 +4,7 @@ ghost use Rattle.toml.specs.View.{table_view};
 ghost use Rattle.afdx_plan.specs.Plan.{IsLink};
 ghost use Rattle.afdx_config.specs.Format.{link_fields};
 ghost use Rattle.afdx_config.specs.PlanOf.{link_of};
-ghost use Rattle.afdx_config.specs.Views.{IsSound};
+ghost use Rattle.afdx_config.specs.Views.{IsSoundTable};
 
 use crate::entries::{number, whole_number};
 use crate::values::bag_of_ms;
@@ -15,7 +15,7 @@ use toml::Table;
 /// The link of a table without fault.
 #[tactic(auto, unfolding(crate::specs::PlanOf::link_of))]
 fn link_plan(table: &Table) -> LinkPlan
-    requires { IsSound link_fields (table_view table.now) }
+    requires { IsSoundTable link_fields (table_view table.now) }
     ensures value { result ≡ link_of (table_view table.now) }
     ensures ranges { IsLink result }
 {
@@ -34,7 +34,7 @@ fn link_plan(table: &Table) -> LinkPlan
 
 /// The links of tables without fault, in their order.
 pub(crate) fn link_plans(alloc: Global, tables: &[&Table]) -> Result<Vec<LinkPlan>, AllocError>
-    requires { All (λ t. IsSound link_fields (table_view t.now)) tables.now }
+    requires { All (λ t. IsSoundTable link_fields (table_view t.now)) tables.now }
     ensures value { IfOk result (λ links.
         links.items ≡ map (λ t. link_of (table_view t.now)) tables.now) }
     ensures ranges { IfOk result (λ links. All IsLink links.items) }

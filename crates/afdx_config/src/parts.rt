@@ -6,7 +6,7 @@ ghost use Rattle.afdx_plan.specs.Plan.{IsLink, IsPort};
 ghost use Rattle.afdx_config.specs.Entries.{number_at};
 ghost use Rattle.afdx_config.specs.Format.{end_fields};
 ghost use Rattle.afdx_config.specs.PlanOf.{plan_of};
-ghost use Rattle.afdx_config.specs.Views.{AreSectionsOf, AreSound, IsSound, plan_in};
+ghost use Rattle.afdx_config.specs.Views.{AreSectionsOf, AreSound, IsSoundTable, plan_in};
 
 use crate::entries::number;
 use crate::link_table::link_plans;
@@ -26,7 +26,7 @@ pub(crate) struct Parts {
 
 /// The end system's identifier, or 0 where there is no table.
 fn end_system(end: Option<&Table>) -> u16
-    requires { ForSome end (λ t. IsSound end_fields (table_view t.now)) }
+    requires { ForSome end (λ t. IsSoundTable end_fields (table_view t.now)) }
     ensures { result
         ≡ option_map_or (λ t. number_at (codes "id") (table_view t.now)) end.entry 0 }
 {

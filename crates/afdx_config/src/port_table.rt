@@ -7,7 +7,7 @@ ghost use Rattle.afdx_config.specs.Entries.{text_at};
 ghost use Rattle.afdx_config.specs.Format.{port_fields};
 ghost use Rattle.afdx_config.specs.PlanOf.{port_of};
 ghost use Rattle.afdx_config.specs.Values.{address_of, kind_of};
-ghost use Rattle.afdx_config.specs.Views.{IsSound};
+ghost use Rattle.afdx_config.specs.Views.{IsSoundTable};
 
 use crate::address::unicast_address;
 use crate::entries::{number, text};
@@ -44,7 +44,7 @@ fn unicast(table: &Table) -> Option<[u8; 4]>
 /// The port of a table without fault.
 #[tactic(auto, unfolding(crate::specs::PlanOf::port_of))]
 fn port_plan(table: &Table) -> PortPlan
-    requires { IsSound port_fields (table_view table.now) }
+    requires { IsSoundTable port_fields (table_view table.now) }
     ensures value { result ≡ port_of (table_view table.now) }
     ensures ranges { IsPort result }
 {
@@ -63,7 +63,7 @@ fn port_plan(table: &Table) -> PortPlan
 
 /// The ports of tables without fault, in their order.
 pub(crate) fn port_plans(alloc: Global, tables: &[&Table]) -> Result<Vec<PortPlan>, AllocError>
-    requires { All (λ t. IsSound port_fields (table_view t.now)) tables.now }
+    requires { All (λ t. IsSoundTable port_fields (table_view t.now)) tables.now }
     ensures value { IfOk result (λ ports.
         ports.items ≡ map (λ t. port_of (table_view t.now)) tables.now) }
     ensures ranges { IfOk result (λ ports. All IsPort ports.items) }

@@ -5,8 +5,8 @@ ghost use Rattle.redundant_mux.specs.Entry.{entry};
 
 use crate::testing::{NEITHER, open_one, poll_alive, poll_at, send_taken};
 use afdx_config::read_config;
-use afdx_plan::Config;
 use afdx_frame::Frame;
+use afdx_plan::Config;
 use afdx_tx::{Emitter, PollFault, Report, TxPort};
 use arrayvec::ArrayVec;
 use redundant_mux::{HandFault, MemNetwork, Network, Standing};

@@ -5,7 +5,6 @@ ghost use Rattle.afdx_tx.specs.Ports.{IsPortOfTx, AreOpenedWith};
 
 use crate::testing::open;
 use afdx_config::read_config;
-
 use afdx_plan::Config;
 use afdx_tx::{Draining, Emitter, Refusal, SendFault, TxPort};
 use redundant_mux::MemNetwork;

@@ -15,7 +15,7 @@ use Rattle.vl_link.specs.Seen.{IsKnownWhole, known_of}
 use Rattle.afdx_legal.specs.Streams.{link_stream, told_of}
 use Rattle.afdx_legal.specs.Legal.{Accepted}
 use Rattle.vl_link.specs.Links.{Held, LinkState, held_at, link_at, sent_by, pace_of}
-use Rattle.vl_link.specs.Turn.{TurnView, Turn, AreTurns, IsCut}
+use Rattle.vl_link.specs.Turn.{TurnView, Turn, AreTurns, BreaksOff}
 
 -- every queue is gathered
 abbrev pub AreGathered : List LinkState → Type 0
@@ -85,4 +85,4 @@ IsDrained now plan accepted lines after =
 -- At one link the last network is lost, and the links behind it have no turn.
 abbrev pub IsDrainCutShort : ℕ → Plan → Accepted → (lines after : Lines) → Type 0
 IsDrainCutShort now plan accepted lines after =
-    IsCut (DrainsAt now plan accepted) (length plan.links) lines after
+    BreaksOff (DrainsAt now plan accepted) (length plan.links) lines after

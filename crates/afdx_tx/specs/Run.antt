@@ -3,7 +3,7 @@ use Rattle.std.specs.Prelude.{ℕ, ◌≡◌, ◌+◌, List, length, drop}
 use Rattle.redundant_mux.specs.Lines.{Lines, log}
 use Rattle.vl_link.specs.declared.served.Served.{Served}
 use Rattle.afdx_legal.specs.Streams.{link_stream}
-use Rattle.vl_link.specs.Turn.{AreTurns, IsCut}
+use Rattle.vl_link.specs.Turn.{AreTurns, BreaksOff}
 use Rattle.vl_link.specs.Links.{LinkState, link_at, pace_of, Serves, IsSameLink}
 use Rattle.vl_link.specs.Kept.{IsLinkTied}
 
@@ -30,5 +30,5 @@ pub record IsRun (now : ℕ) (links news : List LinkState) (lines after : Lines)
 -- At one link the last network is lost, and the links behind it have no turn.
 pub record IsCutShort (now : ℕ) (links news : List LinkState) (lines after : Lines) : Type 0 where
   pub count : length news ≡ length links
-  pub cut : IsCut (IsTurnAt now links news) (length links) lines after
+  pub cut : BreaksOff (IsTurnAt now links news) (length links) lines after
   pub rest : drop (cut.at + 1) news ≡ drop (cut.at + 1) links

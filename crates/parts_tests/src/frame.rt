@@ -2,8 +2,8 @@
 ghost use Rattle.std.specs.Prelude.{◌≡◌};
 ghost use Rattle.afdx_plan.specs.Plan.{IsPort};
 
-use afdx_plan::{Bag, Kind, LinkPlan, Lmax, PortId, PortPlan, VlId};
 use afdx_frame::{Cut, Frame, Net, ident_of, more_of, offset_of, sn_of, sub_of, twin, vl_of};
+use afdx_plan::{Bag, Kind, LinkPlan, Lmax, PortId, PortPlan, VlId};
 use std::alloc::{AllocError, Global};
 use std::test::Fail;
 

@@ -1,7 +1,7 @@
 -- The faults of a line, by its words.
 use Rattle.std.proofs.Common.{◌≡◌, ℕ, true, List, [], ◌∷◌, length, refl, arith, Some, None, nat_lt}
 use Rattle.std.proofs.lemmas.Bool.{lt-ltb}
-use Rattle.script_lines.specs.Command.{message_of, port_of, moment_of}
+use Rattle.script_lines.specs.Command.{message_of, port_number, moment_of}
 use Rattle.script_lines.specs.Faults.{send_fault, at_fault}
 use Rattle.script_lines.specs.Meaning.{IsSaidSend, IsSaidAt}
 use Rattle.script_lines.specs.declared.line.Line.TheVariants.{Send, At}
@@ -18,20 +18,20 @@ send_none ws h = rw h refl
 pub send_one : (ws more : List (List ℕ)) (n : List ℕ) → ws ≡ n ∷ more → more ≡ [] → send_fault ws ≡ Some Word
 send_one ws more n h k = rw (h, k) refl
 
-pub send_number : (ws more rest : List (List ℕ)) (n m : List ℕ) → ws ≡ n ∷ more → more ≡ m ∷ rest → None ≡ port_of n → send_fault ws ≡ Some Number
+pub send_number : (ws more rest : List (List ℕ)) (n m : List ℕ) → ws ≡ n ∷ more → more ≡ m ∷ rest → None ≡ port_number n → send_fault ws ≡ Some Number
 send_number ws more rest n m h k e = rw (h, k, ← e) refl
 
 pub send_hex : (ws more rest : List (List ℕ)) (n m : List ℕ) (p : ℕ) → ws ≡ n ∷ more → more ≡ m ∷ rest
-    → Some p ≡ port_of n → message_of m ≡ None → send_fault ws ≡ Some Hex
+    → Some p ≡ port_number n → message_of m ≡ None → send_fault ws ≡ Some Hex
 send_hex ws more rest n m p h k e f = rw (h, k, ← e, f) refl
 
 pub send_extra : (ws more rest last : List (List ℕ)) (n m x bs : List ℕ) (p : ℕ) → ws ≡ n ∷ more → more ≡ m ∷ rest
-    → Some p ≡ port_of n → message_of m ≡ Some bs → rest ≡ x ∷ last
+    → Some p ≡ port_number n → message_of m ≡ Some bs → rest ≡ x ∷ last
     → send_fault ws ≡ Some Extra
 send_extra ws more rest last n m x bs p h k e f r = rw (h, k, ← e, f, r) (rw (some_word x last) refl)
 
 pub send_ok : (ws more rest : List (List ℕ)) (n m bs : List ℕ) (p : ℕ) → ws ≡ n ∷ more → more ≡ m ∷ rest
-    → Some p ≡ port_of n → message_of m ≡ Some bs → rest ≡ [] → IsSaidSend ws (Send p bs)
+    → Some p ≡ port_number n → message_of m ≡ Some bs → rest ≡ [] → IsSaidSend ws (Send p bs)
 send_ok ws more rest n m bs p h k e f r = rw (h, k, ← e, f, r) (refl, refl)
 
 -- the words behind `at`

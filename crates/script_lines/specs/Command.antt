@@ -23,8 +23,8 @@ unfoldable pub is_at : List ℕ → Bool
 is_at word = bytes_eq word (codes "at")
 
 -- the port that a word names, by its identifier
-abbrev pub port_of : List ℕ → Option ℕ
-port_of word = number_of 65535 word
+abbrev pub port_number : List ℕ → Option ℕ
+port_number word = number_of 65535 word
 
 -- the moment that a word names, in microseconds
 abbrev pub moment_of : List ℕ → Option ℕ

@@ -1,19 +1,19 @@
 -- The faults of a line.
 use Rattle.std.specs.Prelude.{◌≡◌, ℕ, ◌<◌, Bool, true, false, ◌&&◌, nat_lt, if◌then◌else◌, ◌+◌, is_none, List, [], ◌∷◌, length, Option, Some, None}
 use Rattle.std.specs.Option.{option_map_or}
-use Rattle.script_lines.specs.Command.{command_of, is_send, is_at, port_of, moment_of, message_of}
+use Rattle.script_lines.specs.Command.{command_of, is_send, is_at, port_number, moment_of, message_of}
 use Rattle.script_lines.specs.declared.line_text.TheConstants.{LINE_LIMIT}
 use Rattle.script_lines.specs.declared.line_fault.LineFault.{LineFault}
 use Rattle.script_lines.specs.declared.line_fault.LineFault.TheVariants.{Word, Number, Hex, Extra, Long, Memory}
 
 -- a fault's number
-abbrev pub fault_number : LineFault → ℕ
-fault_number Word = 1
-fault_number Number = 2
-fault_number Hex = 3
-fault_number Extra = 4
-fault_number Long = 5
-fault_number Memory = 6
+abbrev pub line_fault_number : LineFault → ℕ
+line_fault_number Word = 1
+line_fault_number Number = 2
+line_fault_number Hex = 3
+line_fault_number Extra = 4
+line_fault_number Long = 5
+line_fault_number Memory = 6
 
 -- how many words the form of a first word has
 abbrev pub form_len : List ℕ → Option ℕ
@@ -27,7 +27,7 @@ lacks_word (w ∷ ws) = option_map_or (λ n. nat_lt (length ws + 1) n) (form_len
 -- a port or a moment that is no number in its range
 abbrev pub has_bad_number : List (List ℕ) → Bool
 has_bad_number (w ∷ n ∷ ws) =
-    if is_send w then is_none (port_of n) else is_at w && is_none (moment_of n)
+    if is_send w then is_none (port_number n) else is_at w && is_none (moment_of n)
 has_bad_number _ = false
 
 -- a message that is not hexadecimal
@@ -71,7 +71,7 @@ IsFaultless line = (fault : LineFault) → has_fault fault line ≡ false
 -- the first fault of the words behind `send`
 abbrev pub send_fault : List (List ℕ) → Option LineFault
 send_fault (n ∷ h ∷ ws) =
-    if is_none (port_of n) then Some Number
+    if is_none (port_number n) then Some Number
     else if is_none (message_of h) then Some Hex
     else if nat_lt 0 (length ws) then Some Extra
     else None

@@ -1,13 +1,13 @@
 -- What a line says that has no fault.
 use Rattle.std.specs.Prelude.{◌≡◌, ℕ, if◌then◌else◌, List, [], ◌∷◌, unwrap_or, None}
-use Rattle.script_lines.specs.Command.{command_of, is_send, is_at, port_of, moment_of, message_of}
+use Rattle.script_lines.specs.Command.{command_of, is_send, is_at, port_number, moment_of, message_of}
 use Rattle.script_lines.specs.Faults.{send_fault, at_fault}
 use Rattle.script_lines.specs.declared.line.Line.{Line}
 use Rattle.script_lines.specs.declared.line.Line.TheVariants.{Send, At, Nothing}
 
 -- what the words behind `send` say
 abbrev pub said_send : List (List ℕ) → Line
-said_send (p ∷ m ∷ ws) = Send (unwrap_or (port_of p) 0) (unwrap_or (message_of m) [])
+said_send (p ∷ m ∷ ws) = Send (unwrap_or (port_number p) 0) (unwrap_or (message_of m) [])
 said_send _ = Nothing
 
 -- what the words behind `at` say

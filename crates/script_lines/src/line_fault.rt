@@ -1,6 +1,6 @@
 //! The faults of a line.
 ghost use Rattle.std.specs.Prelude.{◌≡◌};
-ghost use Rattle.script_lines.specs.Faults.{fault_number};
+ghost use Rattle.script_lines.specs.Faults.{line_fault_number};
 
 use thiserror::Error;
 
@@ -30,7 +30,7 @@ pub enum LineFault {
 impl LineFault {
     /// The number of the fault: 1 for `Word` to 6 for `Memory`.
     pub fn number(self) -> u8
-        ensures { result ≡ fault_number self }
+        ensures { result ≡ line_fault_number self }
     {
         self as u8
     }

@@ -5,7 +5,7 @@ use Rattle.subvl_queue.specs.declared.rule.View.{View}
 use Rattle.subvl_queue.specs.Kept.{IsReceiver, IsGathered}
 use Rattle.subvl_queue.specs.Messages.{IsItem, AreItems, most_calls, part_of, before}
 use Rattle.subvl_queue.specs.Rule.{receiver, AreParts}
-use Rattle.subvl_queue.specs.Views.{SenderView, entry, HasEvery, IsWhole}
+use Rattle.subvl_queue.specs.Views.{SenderView, brought_by, HasEvery, IsWhole}
 use Rattle.subvl_queue.proofs.Counting.{total}
 use Rattle.subvl_queue.proofs.Ends.{before_is}
 use Rattle.subvl_queue.proofs.Whole.{parts_at}
@@ -21,7 +21,7 @@ pub record Drained (old new : View) (room : List (ℕ × List ℕ)) : Type 0 whe
 
 -- a receiver, after it took the senders in
 abbrev Joined : View → List SenderView → View → Type 0
-Joined old senders new = new ≡ receiver old.capacity old.made old.got (map entry senders) old.looks
+Joined old senders new = new ≡ receiver old.capacity old.made old.got (map brought_by senders) old.looks
 
 pub ports_are : (capacity ports reserved : ℕ) (waiting : List (ℕ × List ℕ)) (senders : List SenderView) (old joined new : View) (room : List (ℕ × List ℕ)) →
     IsReceiver capacity ports reserved waiting old → Joined old senders joined → Drained joined new room → new.made ≡ ports
@@ -59,7 +59,7 @@ pub is_whole : (capacity ports reserved : ℕ) (waiting : List (ℕ × List ℕ)
     IsWhole ports senders (before new.got room ++ room)
 is_whole capacity ports reserved waiting senders old joined new room kept join drained every =
     let whole = all_got senders old joined new room join drained in
-    let parts : AreParts new.got (map entry senders) =
+    let parts : AreParts new.got (map brought_by senders) =
     subst (λ (j : List (ℕ × List (List ℕ))). AreParts new.got j) (ap (λ (v : View). v.joined) join) drained.parts in
     let made : ports ≡ joined.made = sym (ports_are capacity ports reserved waiting senders old joined new room kept join drained) ∙ drained.made in
     record {

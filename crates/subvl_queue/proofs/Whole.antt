@@ -3,7 +3,7 @@ use Rattle.std.proofs.Common.{◌≡◌, ◌≢◌, ℕ, zero, suc, ◌+◌, ◌
 use native.Mathlib.Decide.{dec_le, ℕ_discrete}
 use Rattle.subvl_queue.specs.Messages.{part_of}
 use Rattle.subvl_queue.specs.Rule.{AreParts, SettlesWith, Fixes}
-use Rattle.subvl_queue.specs.Views.{SenderView, entry, HasPort}
+use Rattle.subvl_queue.specs.Views.{SenderView, brought_by, HasPort}
 use Rattle.subvl_queue.proofs.Parts.{none_left, part_same, part_other}
 
 abbrev Items : Type 0
@@ -76,14 +76,14 @@ few_left capacity made joined got more all x y =
     omega (arith, length-append got x.0, length-append got more, length-append (got ++ more) y.0)
 
 -- each sender's part is what it brought back
-pub parts_at : (ms : List (ℕ × List ℕ)) (senders : List SenderView) (k : ℕ) (d : SenderView) → k < length senders → AreParts ms (map entry senders)
+pub parts_at : (ms : List (ℕ × List ℕ)) (senders : List SenderView) (k : ℕ) (d : SenderView) → k < length senders → AreParts ms (map brought_by senders)
     → part_of (get_or senders k d).port ms ≡ (get_or senders k d).own
 parts_at ms [] k d lt a = absurd (omega arith)
 parts_at ms (s ∷ ss) zero d lt a = a.0
 parts_at ms (s ∷ ss) (suc k) d lt a = parts_at ms ss k d (omega arith) a.1
 
 -- a sender that is there fixes its port
-pub fixes : (senders : List SenderView) (p : ℕ) → HasPort senders p → Fixes (map entry senders) p
+pub fixes : (senders : List SenderView) (p : ℕ) → HasPort senders p → Fixes (map brought_by senders) p
 fixes [] p h = absurd (omega (arith, h.1))
 fixes (s ∷ ss) p h = ((get_or (s ∷ ss) h.0 s).own, (λ ms a. ap (λ (q : ℕ). part_of q ms) (sym (h.2 s)) ∙ parts_at ms (s ∷ ss) h.0 s h.1 a))
 

@@ -88,8 +88,8 @@ abbrev pub accepted_of : GatheredView → List (ℕ × List ℕ)
 accepted_of g = g.taken ++ g.left
 
 -- what a sender brings back
-abbrev pub entry : SenderView → ℕ × List (List ℕ)
-entry s = (s.port, s.own)
+abbrev pub brought_by : SenderView → ℕ × List (List ℕ)
+brought_by s = (s.port, s.own)
 
 -- a sender of this port is in the list
 abbrev pub HasPort : List SenderView → ℕ → Type 0

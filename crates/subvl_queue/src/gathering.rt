@@ -6,7 +6,7 @@ ghost use Rattle.crossbeam_channel.specs.Ends.{sends_on, receives_on};
 ghost use Rattle.subvl_queue.specs.Messages.{AreItems, most_calls, part_of};
 ghost use Rattle.subvl_queue.specs.Rule.{receiver, AreParts, Fixes};
 ghost use Rattle.subvl_queue.specs.Names.{name_of};
-ghost use Rattle.subvl_queue.specs.Views.{HasPort, HasEvery, LacksOne, AreOf, entry};
+ghost use Rattle.subvl_queue.specs.Views.{HasPort, HasEvery, LacksOne, AreOf, brought_by};
 
 use crate::item::Item;
 use crate::rule::{Gathers, Knowing, ReceivingEnd, SendingEnd, Taken};
@@ -46,7 +46,7 @@ pub fn join_all(tx: &SendingEnd, pass: &mut Knowing, mut senders: Vec<Sender>)
     requires together { AreOf (name_of pass.old) senders.items }
     ensures seat { IsSeatAt (sends_on tx.now) pass.new }
     ensures knows { view pass.new ≡ receiver (view pass.old).capacity (view pass.old).made (view pass.old).got
-        (map entry senders.items) (view pass.old).looks }
+        (map brought_by senders.items) (view pass.old).looks }
 {
     while let Some(sender) = senders.pop() {
         let (end, other) = sender.into_ends();

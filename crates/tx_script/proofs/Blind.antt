@@ -15,11 +15,11 @@ use Rattle.afdx_legal.specs.Streams.{latest, link_stream}
 use Rattle.afdx_tx.specs.Emitter.{ports_of_sub}
 use Rattle.afdx_tx.specs.Sending.{link_place}
 use Rattle.redundant_mux.proofs.MirroredLines.{fresh_lines, fresh_log}
-use Rattle.tx_script.specs.EndSystem.{EndSystem, Progress, no_progress, HasTurnAt, Polls}
+use Rattle.tx_script.specs.EndSystem.{EndSystem, Progress, no_progress, HasTurnAt, HasPolled}
 use Rattle.script_lines.specs.Lines.{after_feed}
 use Rattle.script_lines.specs.Meaning.{meaning_of}
 use Rattle.tx_script.specs.Play.{Answer, leaves, left_by, sent_to, place_of, IsAnswer, IsPolled, AreAnswers, takes, closes, fills}
-use Rattle.tx_script.specs.Play.{Turn, Play, play, play_line, start, outcome_of, after, FindsFirst, messages_of}
+use Rattle.tx_script.specs.Play.{AnsweredLine, Play, play, play_line, start, outcome_of, after, FindsFirst, messages_of}
 use Rattle.tx_script.specs.Run.{LinesThen}
 use Rattle.tx_script.specs.Transcript.{note_of}
 use Rattle.script_lines.specs.declared.line.Line.{Line}
@@ -66,7 +66,7 @@ idle_turns now other none k (suc many) = (
 )
 
 -- so they are polled
-idle_polls : (now : ℕ) (es other : EndSystem) → IsIdle es other → Polls now other (idle_at other now)
+idle_polls : (now : ℕ) (es other : EndSystem) → IsIdle es other → HasPolled now other (idle_at other now)
 idle_polls now es other h = record {
   plan = refl;
   moment = refl;
@@ -82,11 +82,11 @@ abbrev blind_answer : EndSystem → Line → Answer → Answer
 blind_answer other (At now) answer = leaves (idle_at other now)
 blind_answer other _ answer = answer
 
-abbrev blind_turn : EndSystem → Turn → Turn
+abbrev blind_turn : EndSystem → AnsweredLine → AnsweredLine
 blind_turn other turn = record { line = turn.line; answer = blind_answer other (meaning_of turn.line) turn.answer }
 
 -- the lines with such answers
-abbrev pub blind : Play → List Turn → List Turn
+abbrev pub blind : Play → List AnsweredLine → List AnsweredLine
 blind other [] = []
 blind other (turn ∷ turns) = blind_turn other.es turn ∷ blind (play_line (blind_turn other.es turn) other) turns
 
@@ -144,7 +144,7 @@ pub record IsBlindOf (st other : Play) : Type 0 where
   pub notes : other.notes ≡ st.notes
 
 -- one line more
-blind_more : (turn : Turn) (st other : Play) → IsAnswer st.es (meaning_of turn.line) turn.answer → IsBlindOf st other
+blind_more : (turn : AnsweredLine) (st other : Play) → IsAnswer st.es (meaning_of turn.line) turn.answer → IsBlindOf st other
     → IsBlindOf (play_line turn st) (play_line (blind_turn other.es turn) other)
 blind_more turn st other may h = record {
   idle = after_idle (meaning_of turn.line) turn.answer st.es other.es may h.idle;
@@ -158,7 +158,7 @@ blind_more turn st other may h = record {
 }
 
 -- all lines
-blind_play : (turns : List Turn) (st other : Play) → AreAnswers st turns → IsBlindOf st other
+blind_play : (turns : List AnsweredLine) (st other : Play) → AreAnswers st turns → IsBlindOf st other
     → IsBlindOf (play st turns) (play other (blind other turns))
 blind_play [] st other may h = h
 blind_play (turn ∷ turns) st other may h =
@@ -173,19 +173,19 @@ blind_start plan = record {
 }
 
 -- The same lines with such answers note the same.
-pub blind_run : (plan : Plan) (turns : List Turn) → AreAnswers (start plan) turns
+pub blind_run : (plan : Plan) (turns : List AnsweredLine) → AreAnswers (start plan) turns
     → IsBlindOf (play (start plan) turns) (play (start plan) (blind (start plan) turns))
 blind_run plan turns may = blind_play turns (start plan) (start plan) may (blind_start plan)
 
 -- They are the same lines.
-pub blind_lines : (text : List ℕ) (other : Play) (turns : List Turn) (rest : List ℕ) → LinesThen text turns rest
+pub blind_lines : (text : List ℕ) (other : Play) (turns : List AnsweredLine) (rest : List ℕ) → LinesThen text turns rest
     → LinesThen text (blind other turns) rest
 blind_lines text other [] rest lines = lines
 blind_lines text other (turn ∷ turns) rest lines =
     (lines.0, blind_lines (after_feed text) (play_line (blind_turn other.es turn) other) turns rest lines.1)
 
 -- each such answer may be given
-answers_blind : (turns : List Turn) (st other : Play) → AreAnswers st turns → IsBlindOf st other
+answers_blind : (turns : List AnsweredLine) (st other : Play) → AreAnswers st turns → IsBlindOf st other
     → AreAnswers other (blind other turns)
 answers_blind [] st other may h = tt
 answers_blind (turn ∷ turns) st other may h = (
@@ -194,7 +194,7 @@ answers_blind (turn ∷ turns) st other may h = (
 )
 
 -- Such answers may be given.
-pub blind_answers : (plan : Plan) (turns : List Turn) → AreAnswers (start plan) turns
+pub blind_answers : (plan : Plan) (turns : List AnsweredLine) → AreAnswers (start plan) turns
     → AreAnswers (start plan) (blind (start plan) turns)
 blind_answers plan turns may = answers_blind turns (start plan) (start plan) may (blind_start plan)
 

@@ -5,7 +5,7 @@ use Rattle.std.proofs.KnownBytes.{Appends-nil, Appends-trans}
 use Rattle.std.specs.Io.KnownBytes.{Appends}
 use Rattle.afdx_frame.specs.declared.net.Net.{Net}
 use Rattle.redundant_mux.specs.Entry.{Entry, entry}
-use Rattle.tx_script.specs.FrameLog.{spelled, AreKept}
+use Rattle.tx_script.specs.FrameLog.{spelled, AreInLog}
 use Rattle.tx_script.specs.Transcript.{frame_line, frame_lines}
 use Rattle.tx_script.proofs.LogLemmas.{kept_tail}
 use Rattle.tx_script.specs.declared.frame_log.Mark.{Mark}
@@ -22,11 +22,11 @@ pub record HasWritten (net : Net) (old new : Option (List ℕ)) (marks : List Ma
     (left : List Mark) (rest : List ℕ) : Type 0 where
   pub done : List Entry
   pub is : spelled marks bytes ≡ done ++ spelled left rest
-  pub kept : AreKept left rest
+  pub kept : AreInLog left rest
   pub wrote : Appends old new (frame_lines net done)
 
 -- none were
-pub frames_none : (net : Net) (old : Option (List ℕ)) (marks : List Mark) (bytes : List ℕ) → AreKept marks bytes
+pub frames_none : (net : Net) (old : Option (List ℕ)) (marks : List Mark) (bytes : List ℕ) → AreInLog marks bytes
     → HasWritten net old old marks bytes marks bytes
 unfolding frame_lines
 frames_none net old marks bytes kept = record { done = []; is = refl; kept = kept; wrote = Appends-nil old }
@@ -44,7 +44,7 @@ frames_turn net old mid new marks bytes i d rest front more lt is_front is_more 
       ∙ rw (is_front, is_more) (sym (append_assoc h.done (entry mark.at (take mark.len rest) ∷ [])
       (spelled (drop (i + 1) marks) (drop mark.len rest))));
   kept = rw is_more (kept_tail mark (drop (i + 1) marks) rest
-      (subst (λ (left : List Mark). AreKept left rest) next h.kept));
+      (subst (λ (left : List Mark). AreInLog left rest) next h.kept));
   wrote = subst (Appends old new) (sym (frames_more net h.done (entry mark.at front)))
       (Appends-trans old mid new (frame_lines net h.done) (frame_line net (entry mark.at front)) h.wrote wrote);
 }

@@ -4,7 +4,7 @@ use Rattle.std.specs.List.{sum_by}
 use Rattle.std.proofs.lemmas.List.{take_all, take-append-le, drop-append-le}
 use Rattle.std.proofs.lemmas.List.Sums.{sum_by-cons}
 use Rattle.redundant_mux.specs.Entry.{Entry, entry}
-use Rattle.tx_script.specs.FrameLog.{spelled, AreKept}
+use Rattle.tx_script.specs.FrameLog.{spelled, AreInLog}
 use Rattle.tx_script.specs.declared.frame_log.Mark.{Mark}
 
 -- the frames that are spelled once one more stands behind them
@@ -23,8 +23,8 @@ spelled_more (m ∷ ms) bytes mark frame all len =
     (spelled_more ms (drop m.len bytes) mark frame rest len))
 
 -- the frames behind the first
-pub kept_tail : (mark : Mark) (marks : List Mark) (bytes : List ℕ) → AreKept (mark ∷ marks) bytes
-    → AreKept marks (drop mark.len bytes)
+pub kept_tail : (mark : Mark) (marks : List Mark) (bytes : List ℕ) → AreInLog (mark ∷ marks) bytes
+    → AreInLog marks (drop mark.len bytes)
 kept_tail mark marks bytes h = record {
   all =
       let all = h.all in

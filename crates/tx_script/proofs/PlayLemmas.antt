@@ -6,7 +6,7 @@ use Rattle.afdx_plan.specs.Config.{Plan}
 use Rattle.script_lines.specs.Lines.{after_feed}
 use Rattle.tx_script.specs.AtBench.{AtBench, Matches, ObeysFor, Obeys}
 use Rattle.script_lines.specs.Meaning.{meaning_of}
-use Rattle.tx_script.specs.Play.{Turn, Play, play, play_line, start, outcome_of, IsAnswer, AreAnswers}
+use Rattle.tx_script.specs.Play.{AnsweredLine, Play, play, play_line, start, outcome_of, IsAnswer, AreAnswers}
 use Rattle.tx_script.specs.Run.{BeginsWith, LinesThen}
 use Rattle.tx_script.specs.Running.{Running}
 use Rattle.tx_script.specs.Summary.{counted}
@@ -15,19 +15,19 @@ use Rattle.tx_script.specs.declared.outcome.Outcome.{Outcome}
 use Rattle.tx_script.specs.declared.summary.Summary.{Summary as Sums}
 
 -- the last line is played after those before it
-pub play_more : (st : Play) (turns : List Turn) (turn : Turn) → play st (turns ++ turn ∷ []) ≡ play_line turn
+pub play_more : (st : Play) (turns : List AnsweredLine) (turn : AnsweredLine) → play st (turns ++ turn ∷ []) ≡ play_line turn
     (play st turns)
 play_more st [] turn = refl
 play_more st (first ∷ turns) turn = play_more (play_line first st) turns turn
 
 -- and its answer is given after theirs
-pub answers_more : (st : Play) (turns : List Turn) (turn : Turn) → AreAnswers st turns
+pub answers_more : (st : Play) (turns : List AnsweredLine) (turn : AnsweredLine) → AreAnswers st turns
     → IsAnswer (play st turns).es (meaning_of turn.line) turn.answer → AreAnswers st (turns ++ turn ∷ [])
 answers_more st [] turn all may = (may, tt)
 answers_more st (first ∷ turns) turn all may = (all.0, answers_more (play_line first st) turns turn all.1 may)
 
 -- a text is these lines and the one with which the rest begins
-pub lines_more : (text : List ℕ) (turns : List Turn) (rest : List ℕ) (turn : Turn) → LinesThen text turns rest
+pub lines_more : (text : List ℕ) (turns : List AnsweredLine) (rest : List ℕ) (turn : AnsweredLine) → LinesThen text turns rest
     → BeginsWith rest turn.line → LinesThen text (turns ++ turn ∷ []) (after_feed rest)
 lines_more text [] rest turn lines begins =
     (subst (λ (whole : List ℕ). BeginsWith whole turn.line) (sym lines) begins, ap after_feed lines)
@@ -44,7 +44,7 @@ running_more plan text old mid fin bench new rest count sums line outcome ran be
     let st : Play = play (start plan) ran.turns in
     let obeyed : Obeys (meaning_of line) st.accepted st.es new outcome =
     obeys st.accepted st.es ran.matches in
-    let turn : Turn = record { line = line; answer = obeyed.answer } in
+    let turn : AnsweredLine = record { line = line; answer = obeyed.answer } in
     let more : play (start plan) (ran.turns ++ turn ∷ []) ≡ play_line turn st =
     play_more (start plan) ran.turns turn in
     let same : outcome_of st.es (meaning_of line) obeyed.answer ≡ outcome = sym obeyed.is in

@@ -23,7 +23,7 @@ use Rattle.vl_link.proofs.TurnLaws.{IsSeenIn, turn_seen, turns_seen, turns_each}
 use Rattle.afdx_tx.specs.Drain.{pace_in}
 use Rattle.afdx_tx.specs.Emitter.{Tx, ports_of_sub}
 use Rattle.afdx_tx.specs.Run.{IsTurn, IsTurnAt, IsRun}
-use Rattle.tx_script.specs.EndSystem.{Progress, EndSystem, started, GoesOnOrFinds, SendsFrame, progress_view, HasTurn, HasTurnAt, Polls}
+use Rattle.tx_script.specs.EndSystem.{Progress, EndSystem, started, GoesOnOrFinds, SendsFrame, progress_view, HasTurn, HasTurnAt, HasPolled}
 use Rattle.tx_script.specs.Matching.{IsPlannedSub, IsPlannedLink, progress_of, MatchesLines, MatchesTx}
 
 -- a message that was found stands behind those that were taken before it
@@ -155,7 +155,7 @@ left_at es now new = record {
 
 -- A poll of an emitter is one of the end system that it matches.
 pub polled_matches : (es : EndSystem) (old new : Tx) (now : ℕ) → MatchesTx es old
-    → IsRun now old.links new.links old.lines new.lines → Polls now es (left_at es now new)
+    → IsRun now old.links new.links old.lines new.lines → HasPolled now es (left_at es now new)
 polled_matches es old new now m run = record {
   plan = refl;
   moment = refl;

@@ -10,7 +10,7 @@ use Rattle.script_lines.specs.Lines.{first_line}
 use Rattle.script_lines.specs.Meaning.{meaning_of}
 use Rattle.tx_script.specs.Play.{Play, play, start}
 use Rattle.tx_script.specs.Run.{HasBegun}
-use Rattle.tx_script.specs.Running.{Says, Reads, Running, Stops}
+use Rattle.tx_script.specs.Running.{SaysLine, ReadsLine, Running, Stops}
 use Rattle.tx_script.specs.Summary.{counted, HasFew}
 use Rattle.tx_script.specs.Transcript.{note_of, streams}
 use Rattle.script_lines.specs.declared.line.Line.{Line as Said}
@@ -98,12 +98,12 @@ running_none plan (Some text) old bench is_fresh = record {
 pub running_turn : (plan : Plan) (bytes left new old mid fin : Option (List ℕ)) (bench bench2 : AtBench) (count : ℕ)
     (sums : Sums) (said : Said) (outcome : Outcome)
     → IsRunning plan bytes left old mid bench count sums
-    → IfSome left (λ known. Reads known new (count + 1) (Ok (Some said))) → ObeysFor said bench bench2 outcome
+    → IfSome left (λ known. ReadsLine known new (count + 1) (Ok (Some said))) → ObeysFor said bench bench2 outcome
     → Appends mid fin (note_of (count + 1) outcome)
     → IsRunning plan bytes new old fin bench2 (count + 1) (counted outcome sums)
 running_turn plan None left new old mid fin bench bench2 count sums said outcome goes reads obeys wrote = tt
 running_turn plan (Some text) left new old mid fin bench bench2 count sums said outcome goes reads obeys wrote =
-    let says : Says goes.rest new said = rw goes.left_is at reads in
+    let says : SaysLine goes.rest new said = rw goes.left_is at reads in
     let obeyed : ObeysFor (meaning_of (first_line goes.rest)) bench bench2 outcome =
     subst (λ (s : Said). ObeysFor s bench bench2 outcome) says.said_is obeys in
     record {
@@ -143,7 +143,7 @@ stop_memory plan (Some text) left old mid bench count sums goes =
 -- the next line has a fault, or could not be read
 stop_known : (plan : Plan) (text : List ℕ) (new old mid : Option (List ℕ)) (bench : AtBench) (rest : List ℕ)
     (count : ℕ) (sums : Sums) (fault : RunFault) → count < LINES_LIMIT
-    → Running plan text old mid bench rest count sums → Reads rest new (count + 1) (Err fault)
+    → Running plan text old mid bench rest count sums → ReadsLine rest new (count + 1) (Err fault)
     → Stops plan text old mid bench (Err fault)
 stop_known plan text new old mid bench rest count sums (Fault.Line number fault) few ran reads = record {
   rest = rest;
@@ -166,7 +166,7 @@ stop_known plan text new old mid bench rest count sums Fault.Memory few ran read
 pub stop_fault : (plan : Plan) (bytes left new old mid : Option (List ℕ)) (bench : AtBench) (count : ℕ) (sums : Sums)
     (fault : RunFault) → count < LINES_LIMIT
     → IsRunning plan bytes left old mid bench count sums
-    → IfSome left (λ known. Reads known new (count + 1) (Err fault))
+    → IfSome left (λ known. ReadsLine known new (count + 1) (Err fault))
     → IfSome bytes (λ text. Stops plan text old mid bench (Err fault))
 stop_fault plan None left new old mid bench count sums fault few goes reads = tt
 stop_fault plan (Some text) left new old mid bench count sums fault few goes reads =

@@ -67,7 +67,7 @@ HasTurnAt now old new k lines after did =
     lines after did
 
 -- a poll: the links have their turns in order, and the last network isn't lost
-pub record Polls (now : ℕ) (old new : EndSystem) : Type 0 where
+pub record HasPolled (now : ℕ) (old new : EndSystem) : Type 0 where
   pub plan : new.plan ≡ old.plan
   pub moment : new.moment ≡ now
   pub lines : Lines

@@ -15,6 +15,6 @@ spelled [] bytes = []
 spelled (mark ∷ marks) bytes = entry mark.at (take mark.len bytes) ∷ spelled marks (drop mark.len bytes)
 
 -- the bytes are those of these frames, of which each is at most the longest
-pub record AreKept (marks : List Mark) (bytes : List ℕ) : Type 0 where
+pub record AreInLog (marks : List Mark) (bytes : List ℕ) : Type 0 where
   pub all : sum_by (λ (mark : Mark). mark.len) marks ≡ length bytes
   pub short : All (λ (mark : Mark). mark.len ≤ 1514) marks

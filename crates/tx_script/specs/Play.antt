@@ -8,7 +8,7 @@ use Rattle.afdx_tx.specs.declared.fault.Refusal.{Refusal as SendRefusal}
 use Rattle.afdx_tx.specs.declared.fault.Refusal.TheVariants as Why
 use Rattle.afdx_tx.specs.Emitter.{ports_of_sub}
 use Rattle.afdx_tx.specs.Sending.{length_refusal, link_place}
-use Rattle.tx_script.specs.EndSystem.{EndSystem, Polls, fresh, handed_b}
+use Rattle.tx_script.specs.EndSystem.{EndSystem, HasPolled, fresh, handed_b}
 use Rattle.script_lines.specs.Meaning.{meaning_of}
 use Rattle.tx_script.specs.Summary.{counted}
 use Rattle.tx_script.specs.Transcript.{note_of, streams}
@@ -34,7 +34,7 @@ left_by es _ = es
 
 -- a poll at this moment leaves the end system so
 abbrev pub IsPolled : ℕ → EndSystem → Answer → Type 0
-IsPolled now es (leaves new) = Polls now es new
+IsPolled now es (leaves new) = HasPolled now es new
 IsPolled now es _ = ⊥
 
 -- What may be answered to a line. A queue may take a message, be closed or be full.
@@ -106,7 +106,7 @@ accepted_after es (Send port bytes) answer accepted =
 accepted_after es _ answer accepted = accepted
 
 -- a line, and what queues answered
-pub record Turn : Type 0 where
+pub record AnsweredLine : Type 0 where
   pub line : List ℕ
   pub answer : Answer
 
@@ -128,7 +128,7 @@ start plan = record {
 }
 
 -- one line more
-abbrev pub play_line : Turn → Play → Play
+abbrev pub play_line : AnsweredLine → Play → Play
 play_line turn st = record {
   es = after st.es (meaning_of turn.line) turn.answer;
   accepted = accepted_after st.es (meaning_of turn.line) turn.answer st.accepted;
@@ -138,12 +138,12 @@ play_line turn st = record {
 }
 
 -- the lines one after the other
-abbrev pub play : Play → List Turn → Play
+abbrev pub play : Play → List AnsweredLine → Play
 play st [] = st
 play st (turn ∷ turns) = play (play_line turn st) turns
 
 -- the answers may be given, one after the other
-abbrev pub AreAnswers : Play → List Turn → Type 0
+abbrev pub AreAnswers : Play → List AnsweredLine → Type 0
 AreAnswers st [] = Unit {0}
 AreAnswers st (turn ∷ turns) =
     IsAnswer st.es (meaning_of turn.line) turn.answer × AreAnswers (play_line turn st) turns

@@ -4,7 +4,7 @@ use Rattle.std.specs.Io.KnownBytes.{Appends}
 use Rattle.afdx_plan.specs.Config.{Plan}
 use Rattle.script_lines.specs.Faults.{IsFirstFault, IsFaultless}
 use Rattle.script_lines.specs.Lines.{first_line, after_feed}
-use Rattle.tx_script.specs.Play.{Turn, play, start, transcript, AreAnswers, FindsFirst}
+use Rattle.tx_script.specs.Play.{AnsweredLine, play, start, transcript, AreAnswers, FindsFirst}
 use Rattle.script_lines.specs.declared.line_fault.LineFault.{LineFault}
 use Rattle.tx_script.specs.declared.run_fault.RunFault.{RunFault}
 use Rattle.tx_script.specs.declared.run_fault.RunFault.TheVariants.{Line, Lines, Read, Write, Memory}
@@ -18,7 +18,7 @@ pub record BeginsWith (text line : List ℕ) : Type 0 where
   pub faultless : IsFaultless line
 
 -- a text is these lines, none with a fault, and then the rest
-abbrev pub LinesThen : (text : List ℕ) → List Turn → (rest : List ℕ) → Type 0
+abbrev pub LinesThen : (text : List ℕ) → List AnsweredLine → (rest : List ℕ) → Type 0
 LinesThen text [] rest = text ≡ rest
 LinesThen text (turn ∷ turns) rest =
     BeginsWith text turn.line × LinesThen (after_feed text) turns rest
@@ -26,7 +26,7 @@ LinesThen text (turn ∷ turns) rest =
 -- some lines of a text were run, what was written is their transcript, and the rest is left
 pub record HasRun (plan : Plan) (text : List ℕ) (old new : Option (List ℕ)) (rest : List ℕ) (count : ℕ)
     (sums : Sums) : Type 0 where
-  pub turns : List Turn
+  pub turns : List AnsweredLine
   pub lines : LinesThen text turns rest
   pub answers : AreAnswers (start plan) turns
   pub finds : FindsFirst (play (start plan) turns)
@@ -36,7 +36,7 @@ pub record HasRun (plan : Plan) (text : List ℕ) (old new : Option (List ℕ)) 
 
 -- some lines of a text were run, and what was written begins their transcript
 pub record HasBegun (plan : Plan) (text : List ℕ) (old new : Option (List ℕ)) : Type 0 where
-  pub turns : List Turn
+  pub turns : List AnsweredLine
   pub rest : List ℕ
   pub written : List ℕ
   pub unwritten : List ℕ

@@ -6,7 +6,7 @@ use Rattle.tx_script.specs.AtBench.{AtBench, IsAtHand, Matches, GaveFirst}
 use Rattle.script_lines.specs.Faults.{IsFirstFault}
 use Rattle.script_lines.specs.Lines.{first_line, after_feed}
 use Rattle.script_lines.specs.Meaning.{meaning_of}
-use Rattle.tx_script.specs.Play.{Turn, play, start, AreAnswers}
+use Rattle.tx_script.specs.Play.{AnsweredLine, play, start, AreAnswers}
 use Rattle.tx_script.specs.Run.{BeginsWith, LinesThen, HasBegun, Ends}
 use Rattle.tx_script.specs.Transcript.{streams}
 use Rattle.script_lines.specs.declared.line.Line.{Line as Said}
@@ -17,7 +17,7 @@ use Rattle.tx_script.specs.declared.run_fault.RunFault.TheVariants.{Line, Lines,
 use Rattle.tx_script.specs.declared.summary.Summary.{Summary as Sums}
 
 -- a text's first line has no fault and says this, and the bytes behind it are left
-pub record Says (text : List ℕ) (left : Option (List ℕ)) (said : Said) : Type 0 where
+pub record SaysLine (text : List ℕ) (left : Option (List ℕ)) (said : Said) : Type 0 where
   pub begins : BeginsWith text (first_line text)
   pub said_is : said ≡ meaning_of (first_line text)
   pub behind : left ≡ Some (after_feed text)
@@ -29,20 +29,20 @@ pub record HasLineFault (text : List ℕ) (line number : ℕ) (fault : LineFault
   pub first : IsFirstFault (first_line text) fault
 
 -- what the next line of a text says, which has this number
-abbrev pub Reads : (text : List ℕ) → (left : Option (List ℕ)) → (line : ℕ) → Result (Option Said) RunFault
+abbrev pub ReadsLine : (text : List ℕ) → (left : Option (List ℕ)) → (line : ℕ) → Result (Option Said) RunFault
     → Type 0
-Reads text left line (Ok None) = text ≡ []
-Reads text left line (Ok (Some said)) = Says text left said
-Reads text left line (Err (Line number fault)) = HasLineFault text line number fault
-Reads text left line (Err Lines) = ⊥
-Reads text left line (Err Read) = ⊤
-Reads text left line (Err Write) = ⊥
-Reads text left line (Err Memory) = ⊤
+ReadsLine text left line (Ok None) = text ≡ []
+ReadsLine text left line (Ok (Some said)) = SaysLine text left said
+ReadsLine text left line (Err (Line number fault)) = HasLineFault text line number fault
+ReadsLine text left line (Err Lines) = ⊥
+ReadsLine text left line (Err Read) = ⊤
+ReadsLine text left line (Err Write) = ⊥
+ReadsLine text left line (Err Memory) = ⊤
 
 -- some lines of a text were run, their notes are written, the rest is left, and a bench matches
 pub record Running (plan : Plan) (text : List ℕ) (old new : Option (List ℕ)) (bench : AtBench) (rest : List ℕ)
     (count : ℕ) (sums : Sums) : Type 0 where
-  pub turns : List Turn
+  pub turns : List AnsweredLine
   pub lines : LinesThen text turns rest
   pub answers : AreAnswers (start plan) turns
   pub matches : Matches (play (start plan) turns).accepted (play (start plan) turns).es bench

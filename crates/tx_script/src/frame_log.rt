@@ -2,7 +2,7 @@
 ghost use Rattle.std.specs.Prelude.{◌≡◌, ◌+◌, ◌^◌, ◌<◌, ◌≤◌, [], ◌∷◌, ◌++◌, true, false, length, OnOk, OnErr};
 ghost use Rattle.std.specs.Io.KnownBytes.{Appends};
 ghost use Rattle.redundant_mux.specs.Entry.{entry};
-ghost use Rattle.tx_script.specs.FrameLog.{AreKept, spelled};
+ghost use Rattle.tx_script.specs.FrameLog.{AreInLog, spelled};
 ghost use Rattle.tx_script.specs.Transcript.{frame_lines};
 
 use crate::frames::write_frames;
@@ -29,7 +29,7 @@ pub struct FrameLog {
 }
 
 impl Model for FrameLog {
-    ghost use Rattle.tx_script.specs.FrameLog.{FrameLog, AreKept, spelled};
+    ghost use Rattle.tx_script.specs.FrameLog.{FrameLog, AreInLog, spelled};
 
     ghost Value = { FrameLog };
 
@@ -38,7 +38,7 @@ impl Model for FrameLog {
       failures = l.failures;
     } };
 
-    ghost invariant = { λ l. AreKept l.marks.items l.bytes.items };
+    ghost invariant = { λ l. AreInLog l.marks.items l.bytes.items };
 }
 
 impl FrameLog {
@@ -90,12 +90,12 @@ impl Network for FrameLog {
 // Keeps a frame at the end, where memory suffices. Whether it does.
 fn keep(marks: &mut Vec<Mark>, bytes: &mut Vec<u8>, at: u64, frame: &[u8]) -> bool
     requires short { length frame.now ≤ 1514 }
-    requires before { AreKept marks.old.items bytes.old.items }
+    requires before { AreInLog marks.old.items bytes.old.items }
     ensures kept { result ≡ true → spelled marks.new.items bytes.new.items
         ≡ spelled marks.old.items bytes.old.items ++ entry at frame.now ∷ [] }
     ensures same { result ≡ false →
         spelled marks.new.items bytes.new.items ≡ spelled marks.old.items bytes.old.items }
-    ensures after { AreKept marks.new.items bytes.new.items }
+    ensures after { AreInLog marks.new.items bytes.new.items }
 {
     let end = bytes.len();
     if bytes.extend_from_slice(frame).is_err() {

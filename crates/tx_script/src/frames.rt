@@ -2,7 +2,7 @@
 ghost use Rattle.std.specs.Prelude.{◌≡◌, ◌≤◌, length, IfErr, OnOk};
 ghost use Rattle.std.specs.Io.KnownBytes.{Appends};
 ghost use Rattle.redundant_mux.specs.Entry.{entry};
-ghost use Rattle.tx_script.specs.FrameLog.{AreKept, spelled};
+ghost use Rattle.tx_script.specs.FrameLog.{AreInLog, spelled};
 ghost use Rattle.tx_script.specs.Transcript.{net_name as name_of_net, frame_line, frame_lines, streams};
 
 use crate::frame_log::{FrameLog, Mark};
@@ -38,7 +38,7 @@ pub fn write_frames<W: Write>(
     marks: &[Mark],
     bytes: &[u8],
 ) -> io::Result<()>
-    requires { AreKept marks.now bytes.now }
+    requires { AreInLog marks.now bytes.now }
     ensures { OnOk result (Appends (W.contents writer.old) (W.contents writer.new)
         (frame_lines net (spelled marks.now bytes.now))) }
 {

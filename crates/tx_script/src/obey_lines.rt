@@ -1,7 +1,7 @@
 //! Obeying the lines of a script.
 ghost use Rattle.std.specs.Prelude.{◌≡◌, IfSome};
 ghost use Rattle.tx_script.specs.AtBench.{IsFreshBench};
-ghost use Rattle.tx_script.specs.Running.{Reads, Stops, run_fault_of};
+ghost use Rattle.tx_script.specs.Running.{ReadsLine, Stops, run_fault_of};
 
 use crate::bench::{Bench, obey};
 use crate::notes::write_note;
@@ -32,7 +32,7 @@ fn next_said<R: Read + Drop>(
     text: &mut Vec<u8>,
     line: u64,
 ) -> Result<Option<Line>, RunFault>
-    ensures { IfSome bytes.old (λ known. Reads known bytes.new line result) }
+    ensures { IfSome bytes.old (λ known. ReadsLine known bytes.new line result) }
 {
     match next_line(bytes, text) {
         Ok(Next::Line) => {}

@@ -3,7 +3,7 @@ use Rattle.std.proofs.Common.{ℕ, zero, suc, ◌≡◌, ◌≢◌, ◌⊎◌, �
 use Rattle.std.proofs.lemmas.List.{length-set, get_or-set_same, get_or-set_other, get_or_default}
 use Rattle.std.proofs.lemmas.Bool.{cases_eq, cases_lt}
 use Rattle.vl_shaper.specs.Pace.{Pace, turn_of}
-use Rattle.vl_link.specs.Links.{Held, held_at, nothing_held, Asks, IsChosen, PassedOver}
+use Rattle.vl_link.specs.Links.{Held, held_at, nothing_held, Asks, IsPicked, PassedOver}
 
 -- the sub-VL that was set
 pub held_same : (subs : List Held) (s : ℕ) (h : Held) → s < length subs → held_at (set subs s h) s ≡ h
@@ -90,7 +90,7 @@ chosen_now : (pace : Pace) (old new : List Held) (k : ℕ) (d h : Held) → Pass
     → IsOnlyAt pace k (turn_of pace.sub_vls pace.last k) → k < pace.sub_vls
     → turn_of pace.sub_vls pace.last k < length new
     → Asks true (get_or new (turn_of pace.sub_vls pace.last k) d) h
-    → IsChosen pace old (turn_of pace.sub_vls pace.last k) (set new (turn_of pace.sub_vls pace.last k) h)
+    → IsPicked pace old (turn_of pace.sub_vls pace.last k) (set new (turn_of pace.sub_vls pace.last k) h)
 chosen_now pace old new k d h p only kl lt a =
     record {
       count = length-set new (turn_of pace.sub_vls pace.last k) h ∙ p.count;
@@ -118,10 +118,10 @@ passed_sub pace old new k sub d h b e f p only kl lt a =
 -- one was chosen, by its index
 pub chosen_sub : (pace : Pace) (old new : List Held) (k sub : ℕ) (d h : Held) (b : Bool)
     → sub ≡ turn_of pace.sub_vls pace.last k → b ≡ true → PassedOver pace old new k → IsOnlyAt pace k sub
-    → k < pace.sub_vls → sub < length new → Asks b (get_or new sub d) h → IsChosen pace old sub (set new sub h)
+    → k < pace.sub_vls → sub < length new → Asks b (get_or new sub d) h → IsPicked pace old sub (set new sub h)
 chosen_sub pace old new k sub d h b e f p only kl lt a =
     let P : ℕ → Type 0 = λ s. IsOnlyAt pace k s → s < length new → Asks true (get_or new s d) h
-    → IsChosen pace old s (set new s h) in
+    → IsPicked pace old s (set new s h) in
     subst P (sym e) (λ o l x. chosen_now pace old new k d h p o kl l x) only lt
     (subst (λ (x : Bool). Asks x (get_or new sub d) h) f a)
 

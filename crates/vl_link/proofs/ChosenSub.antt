@@ -6,30 +6,30 @@ use Rattle.afdx_plan.specs.declared.link_plan.LinkPlan.{LinkPlan}
 use Rattle.redundant_mux.specs.Lines.{Lines}
 use Rattle.vl_shaper.specs.Pace.{Pace}
 use Rattle.vl_link.specs.declared.sub_vl.SubVl.{SubVl}
-use Rattle.vl_link.specs.Links.{Held, held_at, nothing_held, Passes, Gives, GivesFrame, IsChosen, PassedOver, AreSubsOf, IsSameSub, AreSameSubs, SendsNext, FailsNext, held_view}
+use Rattle.vl_link.specs.Links.{Held, held_at, nothing_held, Passes, Gives, GivesFrame, IsPicked, PassedOver, AreSubsOf, IsSameSub, AreSameSubs, SendsNext, FailsNext, held_view}
 use Rattle.vl_link.specs.Turn.{IsChoice, NoneHas, Releases, Loses}
 use Rattle.afdx_frame.specs.declared.net.Net.TheVariants.{A}
 use Rattle.afdx_frame.specs.Header.{IsFrameOf}
 use Rattle.vl_shaper.specs.Pace.{turn_of}
 use Rattle.vl_link.proofs.Choosing.{held_same}
-use Rattle.vl_link.proofs.TurnLaws.{turn_below, turn_onto}
+use Rattle.vl_shaper.proofs.Turns.{turn_below, turn_onto}
 use Rattle.vl_link.proofs.SubInStep.{asked_left, chosen_same, same_sub_here, same_sub_on}
 
 -- the chosen one, whatever the default of the index
-item_is : (pace : Pace) (old : List Held) (sub : ℕ) (mid : List Held) (d : Held) → IsChosen pace old sub mid
+item_is : (pace : Pace) (old : List Held) (sub : ℕ) (mid : List Held) (d : Held) → IsPicked pace old sub mid
     → get_or mid sub d ≡ held_at mid sub
 item_is pace old sub mid d c = get_or_default mid sub d nothing_held (omega (arith, c.count, c.below))
 
 -- it has a fragment left
 pub chosen_left : (pace : Pace) (old : List Held) (sub : ℕ) (mid : List Held) (d : Held)
-    → IsChosen pace old sub mid → (get_or mid sub d).left ≡ [] → ⊥
+    → IsPicked pace old sub mid → (get_or mid sub d).left ≡ [] → ⊥
 chosen_left pace old sub mid d c e =
     asked_left (held_at old sub) (held_at mid sub) c.choice.chosen
     (sym (ap (λ (h : Held). h.left) (item_is pace old sub mid d c)) ∙ e)
 
 -- the chosen one is the sub-VL of its link at that index
 pub item_of : (pace : Pace) (plan : LinkPlan) (old : List Held) (sub : ℕ) (mid : List Held) (d : Held)
-    → IsChosen pace old sub mid → AreSubsOf plan old
+    → IsPicked pace old sub mid → AreSubsOf plan old
     → ((get_or mid sub d).of.link ≡ plan) × ((get_or mid sub d).of.sub ≡ sub)
 item_of pace plan old sub mid d c n =
     let same : (get_or mid sub d).of ≡ (held_at old sub).of =
@@ -39,7 +39,7 @@ item_of pace plan old sub mid d c n =
 
 -- all stay themselves where it becomes one that does
 pub set_same : (pace : Pace) (old : List Held) (sub : ℕ) (mid : List Held) (d h : Held)
-    → IsChosen pace old sub mid → IsSameSub (get_or mid sub d) h → AreSameSubs old (set mid sub h)
+    → IsPicked pace old sub mid → IsSameSub (get_or mid sub d) h → AreSameSubs old (set mid sub h)
 set_same pace old sub mid d h c e s = ⊎_elim
     (λ (q : s ≡ sub).
     let chosen : IsSameSub (held_at mid sub) h =
@@ -55,7 +55,7 @@ set_same pace old sub mid d h c e s = ⊎_elim
 
 -- the choice, once the chosen one became another that gave a frame
 chosen_gives : (pace : Pace) (old : List Held) (sub : ℕ) (mid : List Held) (h : Held) (frame : List ℕ)
-    → IsChosen pace old sub mid → Gives (held_at mid sub) frame h
+    → IsPicked pace old sub mid → Gives (held_at mid sub) frame h
     → IsChoice pace (λ s. GivesFrame (held_at old s) frame (held_at (set mid sub h) s))
     (λ s. Passes (held_at old s) (held_at (set mid sub h) s)) (λ s. held_at (set mid sub h) s ≡ held_at old s) sub
 chosen_gives pace old sub mid h frame c g = record {
@@ -82,7 +82,7 @@ chosen_gives pace old sub mid h frame c g = record {
 
 -- a link that chose it released its frame
 pub releases_at : (now number : ℕ) (plan : LinkPlan) (pace : Pace) (old : List Held) (sub : ℕ) (mid : List Held) (d h : Held) (lines after : Lines)
-    → IsChosen pace old sub mid → AreSubsOf plan old → SendsNext now number (get_or mid sub d) h lines after
+    → IsPicked pace old sub mid → AreSubsOf plan old → SendsNext now number (get_or mid sub d) h lines after
     → Releases now plan.id.0 pace (held_view old (set mid sub h)) sub number lines after
 releases_at now number plan pace old sub mid d h lines after c n r =
     let own = item_of pace plan old sub mid d c n in
@@ -98,7 +98,7 @@ releases_at now number plan pace old sub mid d h lines after c n r =
 
 -- a link that chose it lost its frame
 pub loses_at : (pace : Pace) (old : List Held) (sub : ℕ) (mid : List Held) (d h : Held) (lines after : Lines)
-    → IsChosen pace old sub mid → FailsNext (get_or mid sub d) h lines after
+    → IsPicked pace old sub mid → FailsNext (get_or mid sub d) h lines after
     → Loses pace (held_view old (set mid sub h)) lines after
 loses_at pace old sub mid d h lines after c r =
     record {

@@ -1,6 +1,6 @@
 -- Small facts on lists and fragments.
 use Rattle.std.proofs.Common.{ℕ, suc, ◌≡◌, ◌≢◌, ◌+◌, ◌-◌, List, [], ◌∷◌, length, map, arith, refl, ap, sym, subst, Bool, true, false, not, Some}
-use Rattle.std.specs.Prelude.{◌||◌, nat_le, if◌then◌else◌}
+use Rattle.std.specs.Prelude.{nat_le, if◌then◌else◌}
 use Rattle.afdx_plan.specs.Room.{room_of, step_of}
 use Rattle.afdx_frame.specs.Cutting.{Cutting, cut_by, cutting, pieces_from, pieces_left}
 use Rattle.afdx_frame.specs.Fragments.{Sent, fragments_at}

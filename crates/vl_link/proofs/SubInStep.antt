@@ -12,7 +12,7 @@ use Rattle.vl_shaper.specs.Pace.{Pace}
 use Rattle.vl_link.specs.declared.sub_vl.SubVl.{SubVl}
 use Rattle.vl_link.specs.Seen.{taken_of}
 use Rattle.afdx_legal.specs.Streams.{told, IsPrefixOf}
-use Rattle.vl_link.specs.Links.{Held, held_at, GoesOn, Starts, Passes, Asks, IsChosen, PassedOver, Gives, IsSameSub, AreSameSubs, sub_fragments, message_fragments, sent_of, sent_by, taken_by}
+use Rattle.vl_link.specs.Links.{Held, held_at, GoesOn, Starts, Passes, Asks, IsPicked, PassedOver, Gives, IsSameSub, AreSameSubs, sub_fragments, message_fragments, sent_of, sent_by, taken_by}
 use Rattle.vl_link.specs.Kept.{IsTied}
 use Rattle.vl_link.proofs.Choosing.{Moves, moves_passed}
 use Rattle.vl_link.proofs.TurnLaws.{choice_other}
@@ -59,7 +59,7 @@ pub passed_same : (pace : Pace) (old new : List Held) (n : ℕ) → PassedOver p
 passed_same pace old new n p s = moves_of (held_at old s) (held_at new s) (moves_passed pace old new n p s)
 
 -- what happened to each sub-VL where one was chosen
-moves_chosen : (pace : Pace) (old : List Held) (sub : ℕ) (new : List Held) → IsChosen pace old sub new
+moves_chosen : (pace : Pace) (old : List Held) (sub : ℕ) (new : List Held) → IsPicked pace old sub new
     → (s : ℕ) → Moves (held_at old s) (held_at new s)
 moves_chosen pace old sub new c s = ⊎_elim
     (λ (e : s ≡ sub). inr (inl (subst (λ (i : ℕ). Asks true (held_at old i) (held_at new i)) (sym e) c.choice.chosen)))
@@ -70,7 +70,7 @@ moves_chosen pace old sub new c s = ⊎_elim
     (cases_eq s sub)
 
 -- sub-VLs of which one was chosen stay themselves
-pub chosen_same : (pace : Pace) (old : List Held) (sub : ℕ) (new : List Held) → IsChosen pace old sub new
+pub chosen_same : (pace : Pace) (old : List Held) (sub : ℕ) (new : List Held) → IsPicked pace old sub new
     → AreSameSubs old new
 chosen_same pace old sub new c s = moves_of (held_at old s) (held_at new s) (moves_chosen pace old sub new c s)
 

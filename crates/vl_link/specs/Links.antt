@@ -105,7 +105,7 @@ abbrev pub held_at : List Held → ℕ → Held
 held_at subs sub = get_or subs sub nothing_held
 
 -- the first in cyclic order that has something was chosen, and is then sending its message
-pub record IsChosen (pace : Pace) (old : List Held) (sub : ℕ) (new : List Held) : Type 0 where
+pub record IsPicked (pace : Pace) (old : List Held) (sub : ℕ) (new : List Held) : Type 0 where
   pub count : length new ≡ length old
   pub below : sub < length old
   pub choice : IsChoice pace

@@ -80,7 +80,7 @@ AreTurns IsTurn k (suc many) lines after =
     × AreTurns IsTurn (k + 1) many mid after
 
 -- at one of so many links the last network is lost, and the links behind it have no turn
-pub record IsCut (IsTurn : ℕ → (lines after : Lines) → Served → Type 0) (many : ℕ)
+pub record BreaksOff (IsTurn : ℕ → (lines after : Lines) → Served → Type 0) (many : ℕ)
     (lines after : Lines) : Type 0 where
   pub at : ℕ
   pub within : at < many

@@ -4,15 +4,15 @@ ghost use Rattle.afdx_plan.specs.Numbers.{sequence_number};
 ghost use Rattle.vl_shaper.specs.Pace.{IsLater, is_due};
 ghost use Rattle.redundant_mux.specs.Lines.{is_alive, log};
 ghost use Rattle.afdx_legal.specs.Streams.{link_stream};
-ghost use Rattle.vl_link.specs.Links.{pace_of, AreSubsOf, IsSameSub, AreSameSubs, Serves, Follows, SendsNext, FailsNext, IsChosen, PassedOver};
+ghost use Rattle.vl_link.specs.Links.{pace_of, AreSubsOf, IsSameSub, AreSameSubs, Serves, Follows, SendsNext, FailsNext, IsPicked, PassedOver};
 ghost use Rattle.vl_link.specs.LinkDone.{TellsSubsDone};
 ghost use Rattle.vl_link.specs.LinkGathering.{AreFullSubs, GathersSubs};
 
 use crate::room::{LinkRooms, Room};
 use crate::served::Served;
 use crate::sub::Sub;
-use afdx_plan::{LinkPlan, VlId};
 use afdx_frame::Frame;
+use afdx_plan::{LinkPlan, VlId};
 use redundant_mux::{Mux, Network, Standing};
 use std::marker::Model;
 use std::sync::Wait;
@@ -21,7 +21,7 @@ use vl_shaper::Shaper;
 /// The sub-VL that is to be served, whose next message is then being sent.
 fn choose<R: Wait>(rt: &R, shaper: &Shaper, subs: &mut [Sub]) -> Option<u8>
     requires { length subs.old ≡ shaper.now.sub_vls }
-    ensures chosen { IfSome result (λ sub. IsChosen shaper.now subs.old sub subs.new) }
+    ensures chosen { IfSome result (λ sub. IsPicked shaper.now subs.old sub subs.new) }
     ensures below { IfSome result (λ sub. sub < length subs.old) }
     ensures none { IfNone result (PassedOver shaper.now subs.old subs.new shaper.now.sub_vls) }
 {

@@ -8,8 +8,8 @@ ghost use Rattle.vl_link.specs.Links.{left_of, TellsCutting};
 
 use crate::queue::Queue;
 use crate::sub_vl::SubVl;
-use afdx_plan::PortPlan;
 use afdx_frame::{Cut, Frame, Net};
+use afdx_plan::PortPlan;
 use std::marker::Model;
 use std::sync::Wait;
 use subvl_queue::{Item, Receiver, Sender};

@@ -1,6 +1,7 @@
 -- The turns of sub-VLs.
-use Rattle.std.proofs.Common.{ℕ, ◌+◌, ◌<◌, Option, Some, None, arith}
-use Rattle.std.proofs.lemmas.Nat.{mod_below}
+use Rattle.std.proofs.Common.{ℕ, ◌≡◌, ◌+◌, ◌-◌, ◌*◌, ◌/◌, ◌%◌, ◌<◌, ◌≤◌, Option, Some, None, arith, refl, ap, ◌∙◌, ⊎_elim}
+use Rattle.std.proofs.lemmas.Bool.{cases_lt}
+use Rattle.std.proofs.lemmas.Nat.{mod_below, mod-mul-add, div-add-mod'}
 use Rattle.vl_shaper.specs.Pace.{turn_of}
 use Rattle.vl_shaper.specs.declared.shaper.Stamp.{Stamp}
 
@@ -8,3 +9,28 @@ use Rattle.vl_shaper.specs.declared.shaper.Stamp.{Stamp}
 pub turn_below : (sub_vls : ℕ) (last : Option Stamp) (k : ℕ) → k < sub_vls → turn_of sub_vls last k < sub_vls
 turn_below sub_vls None k lt = lt
 turn_below sub_vls (Some last) k lt = mod_below (last.sub + 1 + k) sub_vls (omega arith)
+
+-- one time more
+more_times : (q n : ℕ) → (q + 1) * n ≡ q * n + n
+more_times q n = grind arith
+
+-- each sub-VL has its turn
+pub turn_onto : (sub_vls : ℕ) (last : Option Stamp) (s : ℕ) → s < sub_vls
+    → (k : ℕ) × (k < sub_vls) × (turn_of sub_vls last k ≡ s)
+turn_onto sub_vls None s lt = (s, lt, refl)
+turn_onto sub_vls (Some l) s lt =
+    let next : ℕ = l.sub + 1 in
+    let e : next / sub_vls * sub_vls + next % sub_vls ≡ next = div-add-mod' next sub_vls in
+    let r : next % sub_vls < sub_vls = mod_below next sub_vls (omega arith) in
+    ⊎_elim
+    (λ (g : s < next % sub_vls).
+    let m : (next / sub_vls + 1) * sub_vls ≡ next / sub_vls * sub_vls + sub_vls = more_times (next / sub_vls) sub_vls in
+    let at : next + (s + sub_vls - next % sub_vls) ≡ (next / sub_vls + 1) * sub_vls + s = omega arith in (
+      s + sub_vls - next % sub_vls,
+      (omega arith),
+      ap (λ (x : ℕ). x % sub_vls) at ∙ mod-mul-add (next / sub_vls + 1) sub_vls s lt,
+    ))
+    (λ (g : next % sub_vls ≤ s).
+    let at : next + (s - next % sub_vls) ≡ next / sub_vls * sub_vls + s = omega arith in
+    (s - next % sub_vls, (omega arith), ap (λ (x : ℕ). x % sub_vls) at ∙ mod-mul-add (next / sub_vls) sub_vls s lt))
+    (cases_lt s (next % sub_vls))

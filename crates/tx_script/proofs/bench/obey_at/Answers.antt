@@ -1,7 +1,7 @@
 use Rattle.std.proofs.Common.{◌≡◌, ℕ, Bool, true, false, ap, sym, ◌∙◌, subst, if◌then◌else◌, nat_lt, arith, ◌||◌, ◌-◌, length, refl}
 use Rattle.std.proofs.lemmas.Bool.{le-ltb}
 use Rattle.redundant_mux.specs.Lines.{is_alive, log}
-use Rattle.tx_script.specs.EndSystem.{EndSystem, Polls}
+use Rattle.tx_script.specs.EndSystem.{EndSystem, HasPolled}
 use Rattle.tx_script.specs.Play.{Messages, leaves}
 use Rattle.tx_script.specs.AtBench.{AtBench, Matches, Obeys}
 use Rattle.script_lines.specs.declared.line.Line.TheVariants.{At}
@@ -15,7 +15,7 @@ use Rattle.tx_script.proofs.bench.obey_at.Goals.{else-report-via-else-report, in
 
 -- a poll at a moment that is not before the last one
 poll_obeys : (es : EndSystem) (new : AtBench) (moment released : ℕ) (accepted : Messages)
-    → nat_lt moment es.moment ≡ false → Polls moment es (left_at es moment new.tx)
+    → nat_lt moment es.moment ≡ false → HasPolled moment es (left_at es moment new.tx)
     → released ≡ length (log new.tx.lines) - length es.log → Matches accepted (left_at es moment new.tx) new
     → Obeys (At moment) accepted es new (Released released)
 poll_obeys es new moment released accepted on polls many m = record {

@@ -1,4 +1,4 @@
-use Rattle.std.proofs.Common.{ℕ, ◌≡◌, true, Some, ◌∙◌, ap, sym, refl, inr}
+use Rattle.std.proofs.Common.{ℕ, Some, ◌∙◌, ap, refl, inr}
 use Rattle.vl_link.proofs.SubInStep.{passed_same}
 use Rattle.vl_link.proofs.ChosenSub.{chosen_left, item_of, set_same, releases_at, loses_at, none_has}
 use Rattle.vl_link.proofs.PaceOfStream.{follows_more}
@@ -24,11 +24,11 @@ returns-in-None-send_next-clause-same g c =
 
 pub returns-in-Some-send_next-clause-serves : goal.returns-in-Some-send_next-clause-serves
 returns-in-Some-send_next-clause-serves g c = (
-      c.requires.due,
-      c.in-Some-send_next.ensures.number,
-      releases_at _ _ c.args.plan.now _ _ _ _ c.index-subs-sub.result _ _ _ c.in-Some.ensures.chosen c.requires.named
-          c.in-Some-send_next.ensures.released,
-    )
+  c.requires.due,
+  c.in-Some-send_next.ensures.number,
+  releases_at _ _ c.args.plan.now _ _ _ _ c.index-subs-sub.result _ _ _ c.in-Some.ensures.chosen c.requires.named
+      c.in-Some-send_next.ensures.released,
+)
 
 pub returns-in-Some-send_next-clause-paced : goal.returns-in-Some-send_next-clause-paced
 returns-in-Some-send_next-clause-paced g c =
