@@ -7,8 +7,8 @@ use Rattle.afdx_bench.specs.declared.status.End.TheVariants.{Told, Ran, WordsRef
 use Rattle.afdx_plan.specs.declared.fault.ConfigFault.TheVariants as Plan
 use Rattle.clap.specs.declared.error.kind.ErrorKind.{ErrorKind}
 use Rattle.clap.specs.declared.error.kind.ErrorKind.TheVariants.{DisplayHelp, DisplayVersion, OutOfMemory}
-use Rattle.tx_script.specs.declared.run_fault.RunFault.{RunFault}
-use Rattle.tx_script.specs.declared.run_fault.RunFault.TheVariants.{Line, Lines, Read, Write, Memory}
+use Rattle.transcript.specs.declared.run_fault.RunFault.{RunFault}
+use Rattle.transcript.specs.declared.run_fault.RunFault.TheVariants.{Line, Lines, Read, Write, Memory}
 
 -- 2 where the script has a fault, and 4 where memory or a stream failed
 abbrev pub run_status : RunFault → ℕ

@@ -21,11 +21,11 @@ use Rattle.script_lines.specs.Meaning.{meaning_of}
 use Rattle.tx_script.specs.Play.{Answer, leaves, left_by, sent_to, place_of, IsAnswer, IsPolled, AreAnswers, takes, closes, fills}
 use Rattle.tx_script.specs.Play.{AnsweredLine, Play, play, play_line, start, outcome_of, after, FindsFirst, messages_of}
 use Rattle.tx_script.specs.Run.{LinesThen}
-use Rattle.tx_script.specs.Transcript.{note_of}
+use Rattle.transcript.specs.Transcript.{note_of}
 use Rattle.script_lines.specs.declared.line.Line.{Line}
 use Rattle.script_lines.specs.declared.line.Line.TheVariants.{Send, At, Nothing}
-use Rattle.tx_script.specs.declared.outcome.Outcome.TheVariants.{Refused, Released}
-use Rattle.tx_script.specs.declared.refusal.Refusal.TheVariants.{TimeBack}
+use Rattle.transcript.specs.declared.outcome.Outcome.TheVariants.{Refused, Released}
+use Rattle.transcript.specs.declared.refusal.Refusal.TheVariants.{TimeBack}
 
 -- an end system that took nothing and handed nothing over, of the same plan and moment
 pub record IsIdle (es other : EndSystem) : Type 0 where

@@ -8,10 +8,10 @@ use Rattle.tx_script.specs.AtBench.{AtBench}
 use Rattle.tx_script.specs.Play.{Play, play, start, transcript}
 use Rattle.tx_script.specs.Run.{HasRun, HasBegun, Ends, Leaves}
 use Rattle.tx_script.specs.Running.{Running, Stops, Writes, EndsEarly}
-use Rattle.tx_script.specs.Transcript.{streams}
-use Rattle.tx_script.specs.declared.run_fault.RunFault.{RunFault}
-use Rattle.tx_script.specs.declared.run_fault.RunFault.TheVariants as Fault
-use Rattle.tx_script.specs.declared.summary.Summary.{Summary as Sums}
+use Rattle.transcript.specs.Transcript.{streams}
+use Rattle.transcript.specs.declared.run_fault.RunFault.{RunFault}
+use Rattle.transcript.specs.declared.run_fault.RunFault.TheVariants as Fault
+use Rattle.transcript.specs.declared.summary.Summary.{Summary as Sums}
 use Rattle.tx_script.proofs.Blind.{blind_start, blind_finds}
 use Rattle.tx_script.proofs.Finding.{finds_first}
 

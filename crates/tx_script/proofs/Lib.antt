@@ -1,8 +1,6 @@
 mod EndLemmas
 mod PlayLemmas
 mod RunLemmas
-pub mod FrameLemmas
-mod LogLemmas
 mod Matched
 mod Polling
 mod Sending

@@ -9,10 +9,10 @@ use Rattle.script_lines.specs.Meaning.{meaning_of}
 use Rattle.tx_script.specs.Play.{AnsweredLine, Play, play, play_line, start, outcome_of, IsAnswer, AreAnswers}
 use Rattle.tx_script.specs.Run.{BeginsWith, LinesThen}
 use Rattle.tx_script.specs.Running.{Running}
-use Rattle.tx_script.specs.Summary.{counted}
-use Rattle.tx_script.specs.Transcript.{note_of}
-use Rattle.tx_script.specs.declared.outcome.Outcome.{Outcome}
-use Rattle.tx_script.specs.declared.summary.Summary.{Summary as Sums}
+use Rattle.transcript.specs.Summary.{counted}
+use Rattle.transcript.specs.Transcript.{note_of}
+use Rattle.transcript.specs.declared.outcome.Outcome.{Outcome}
+use Rattle.transcript.specs.declared.summary.Summary.{Summary as Sums}
 
 -- the last line is played after those before it
 pub play_more : (st : Play) (turns : List AnsweredLine) (turn : AnsweredLine) → play st (turns ++ turn ∷ []) ≡ play_line turn

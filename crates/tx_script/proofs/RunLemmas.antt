@@ -11,15 +11,15 @@ use Rattle.script_lines.specs.Meaning.{meaning_of}
 use Rattle.tx_script.specs.Play.{Play, play, start}
 use Rattle.tx_script.specs.Run.{HasBegun}
 use Rattle.tx_script.specs.Running.{SaysLine, ReadsLine, Running, Stops}
-use Rattle.tx_script.specs.Summary.{counted, HasFew}
-use Rattle.tx_script.specs.Transcript.{note_of, streams}
+use Rattle.transcript.specs.Summary.{counted, HasFew}
+use Rattle.transcript.specs.Transcript.{note_of, streams}
 use Rattle.script_lines.specs.declared.line.Line.{Line as Said}
-use Rattle.tx_script.specs.declared.outcome.Outcome.{Outcome}
-use Rattle.tx_script.specs.declared.outcome.Outcome.TheVariants.{Quiet, Accepted, Refused, Released}
-use Rattle.tx_script.specs.declared.run_fault.RunFault.{RunFault}
-use Rattle.tx_script.specs.declared.run_fault.RunFault.TheVariants as Fault
+use Rattle.transcript.specs.declared.outcome.Outcome.{Outcome}
+use Rattle.transcript.specs.declared.outcome.Outcome.TheVariants.{Quiet, Accepted, Refused, Released}
+use Rattle.transcript.specs.declared.run_fault.RunFault.{RunFault}
+use Rattle.transcript.specs.declared.run_fault.RunFault.TheVariants as Fault
 use Rattle.tx_script.specs.declared.obey_lines.TheConstants.{LINES_LIMIT}
-use Rattle.tx_script.specs.declared.summary.Summary.{Summary as Sums}
+use Rattle.transcript.specs.declared.summary.Summary.{Summary as Sums}
 use Rattle.tx_script.proofs.Matched.{fresh_matches}
 use Rattle.tx_script.proofs.AtHand.{fresh_sent}
 use Rattle.tx_script.proofs.Blind.{blind, IsBlindOf, blind_run, blind_lines, blind_answers, blind_finds}

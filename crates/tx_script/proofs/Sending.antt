@@ -17,12 +17,12 @@ use Rattle.tx_script.specs.EndSystem.{EndSystem}
 use Rattle.tx_script.specs.Play.{Answer, Messages, takes, closes, fills, place_of, sent_to}
 use Rattle.tx_script.specs.Play.{passed_on, script_refusal, outcome_of, accepted_with, accepted_after, with_message}
 use Rattle.script_lines.specs.declared.line.Line.TheVariants.{Send}
-use Rattle.tx_script.specs.declared.refusal.Refusal.{Refusal}
-use Rattle.tx_script.specs.declared.refusal.Refusal.TheVariants.{NoPort}
+use Rattle.transcript.specs.declared.refusal.Refusal.{Refusal}
+use Rattle.transcript.specs.declared.refusal.Refusal.TheVariants.{NoPort}
 use Rattle.tx_script.specs.declared.obey_lines.TheConstants.{LINES_LIMIT}
-use Rattle.tx_script.specs.declared.outcome.Outcome.{Outcome}
-use Rattle.tx_script.specs.declared.outcome.Outcome.TheVariants as Became
-use Rattle.tx_script.specs.Summary.{HasFew}
+use Rattle.transcript.specs.declared.outcome.Outcome.{Outcome}
+use Rattle.transcript.specs.declared.outcome.Outcome.TheVariants as Became
+use Rattle.transcript.specs.Summary.{HasFew}
 use Rattle.tx_script.proofs.AtHand.{IsSamePort, have_sent, have_kept}
 
 -- a message of no bytes

@@ -13,9 +13,9 @@ use Rattle.tx_script.specs.EndSystem.{EndSystem}
 use Rattle.tx_script.specs.Matching.{MatchesTx}
 use Rattle.tx_script.specs.Play.{Answer, IsAnswer, Messages, outcome_of, after, accepted_after, script_refusal}
 use Rattle.script_lines.specs.declared.line.Line.{Line}
-use Rattle.tx_script.specs.declared.outcome.Outcome.{Outcome}
-use Rattle.tx_script.specs.declared.outcome.Outcome.TheVariants as Became
-use Rattle.tx_script.specs.declared.refusal.Refusal.{Refusal}
+use Rattle.transcript.specs.declared.outcome.Outcome.{Outcome}
+use Rattle.transcript.specs.declared.outcome.Outcome.TheVariants as Became
+use Rattle.transcript.specs.declared.refusal.Refusal.{Refusal}
 
 -- an emitter, and its ports in the order of the configuration
 pub record AtBench : Type 0 where

@@ -4,9 +4,6 @@ pub use Rattle.script_lines.specs.Lines
 pub use Rattle.script_lines.specs.Meaning
 pub use Rattle.script_lines.specs.Numbers
 pub use Rattle.script_lines.specs.Words
-pub mod FrameLog
-pub mod Summary
-pub mod Transcript
 pub mod EndSystem
 pub mod Matching
 pub mod Play

@@ -10,15 +10,15 @@ use Rattle.afdx_tx.specs.Emitter.{ports_of_sub}
 use Rattle.afdx_tx.specs.Sending.{length_refusal, link_place}
 use Rattle.tx_script.specs.EndSystem.{EndSystem, HasPolled, fresh, handed_b}
 use Rattle.script_lines.specs.Meaning.{meaning_of}
-use Rattle.tx_script.specs.Summary.{counted}
-use Rattle.tx_script.specs.Transcript.{note_of, streams}
+use Rattle.transcript.specs.Summary.{counted}
+use Rattle.transcript.specs.Transcript.{note_of, streams}
 use Rattle.script_lines.specs.declared.line.Line.{Line}
 use Rattle.script_lines.specs.declared.line.Line.TheVariants.{Send, At, Nothing}
-use Rattle.tx_script.specs.declared.refusal.Refusal.{Refusal}
-use Rattle.tx_script.specs.declared.refusal.Refusal.TheVariants.{Empty, TooLong, Closed, Full, NoPort, TimeBack}
-use Rattle.tx_script.specs.declared.outcome.Outcome.{Outcome}
-use Rattle.tx_script.specs.declared.outcome.Outcome.TheVariants as Became
-use Rattle.tx_script.specs.declared.summary.Summary.{Summary as Sums}
+use Rattle.transcript.specs.declared.refusal.Refusal.{Refusal}
+use Rattle.transcript.specs.declared.refusal.Refusal.TheVariants.{Empty, TooLong, Closed, Full, NoPort, TimeBack}
+use Rattle.transcript.specs.declared.outcome.Outcome.{Outcome}
+use Rattle.transcript.specs.declared.outcome.Outcome.TheVariants as Became
+use Rattle.transcript.specs.declared.summary.Summary.{Summary as Sums}
 
 -- a queue takes a message, is closed or is full, or a poll leaves the end system so
 pub data Answer : Type 0 where

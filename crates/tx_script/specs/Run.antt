@@ -6,10 +6,10 @@ use Rattle.script_lines.specs.Faults.{IsFirstFault, IsFaultless}
 use Rattle.script_lines.specs.Lines.{first_line, after_feed}
 use Rattle.tx_script.specs.Play.{AnsweredLine, play, start, transcript, AreAnswers, FindsFirst}
 use Rattle.script_lines.specs.declared.line_fault.LineFault.{LineFault}
-use Rattle.tx_script.specs.declared.run_fault.RunFault.{RunFault}
-use Rattle.tx_script.specs.declared.run_fault.RunFault.TheVariants.{Line, Lines, Read, Write, Memory}
+use Rattle.transcript.specs.declared.run_fault.RunFault.{RunFault}
+use Rattle.transcript.specs.declared.run_fault.RunFault.TheVariants.{Line, Lines, Read, Write, Memory}
 use Rattle.tx_script.specs.declared.obey_lines.TheConstants.{LINES_LIMIT}
-use Rattle.tx_script.specs.declared.summary.Summary.{Summary as Sums}
+use Rattle.transcript.specs.declared.summary.Summary.{Summary as Sums}
 
 -- a text begins with this line, which has no fault
 pub record BeginsWith (text line : List ℕ) : Type 0 where

@@ -8,13 +8,13 @@ use Rattle.script_lines.specs.Lines.{first_line, after_feed}
 use Rattle.script_lines.specs.Meaning.{meaning_of}
 use Rattle.tx_script.specs.Play.{AnsweredLine, play, start, AreAnswers}
 use Rattle.tx_script.specs.Run.{BeginsWith, LinesThen, HasBegun, Ends}
-use Rattle.tx_script.specs.Transcript.{streams}
+use Rattle.transcript.specs.Transcript.{streams}
 use Rattle.script_lines.specs.declared.line.Line.{Line as Said}
 use Rattle.script_lines.specs.declared.line_fault.LineFault.{LineFault}
 use Rattle.script_lines.specs.declared.line_fault.LineFault.TheVariants.{Memory as OutOfMemory}
-use Rattle.tx_script.specs.declared.run_fault.RunFault.{RunFault}
-use Rattle.tx_script.specs.declared.run_fault.RunFault.TheVariants.{Line, Lines, Read, Write, Memory}
-use Rattle.tx_script.specs.declared.summary.Summary.{Summary as Sums}
+use Rattle.transcript.specs.declared.run_fault.RunFault.{RunFault}
+use Rattle.transcript.specs.declared.run_fault.RunFault.TheVariants.{Line, Lines, Read, Write, Memory}
+use Rattle.transcript.specs.declared.summary.Summary.{Summary as Sums}
 
 -- a text's first line has no fault and says this, and the bytes behind it are left
 pub record SaysLine (text : List ℕ) (left : Option (List ℕ)) (said : Said) : Type 0 where

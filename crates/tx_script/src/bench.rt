@@ -2,23 +2,20 @@
 ghost use Rattle.std.specs.Prelude.{◌≡◌, ◌≢◌, ◌≤◌, ℕ, ◌+◌, IfOk, IfErr};
 ghost use Rattle.afdx_tx.specs.declared.fault.Refusal.TheVariants as Why;
 ghost use Rattle.script_lines.specs.declared.line.Line.TheVariants as Said;
-ghost use Rattle.tx_script.specs.declared.run_fault.RunFault.TheVariants as RunFault;
+ghost use Rattle.transcript.specs.declared.run_fault.RunFault.TheVariants as RunFault;
 ghost use Rattle.tx_script.specs.declared.obey_lines.TheConstants.{LINES_LIMIT};
 ghost use Rattle.subvl_queue.specs.Messages.{most_calls};
 ghost use Rattle.tx_script.specs.AtBench.{ObeysFor, HaveAsked, Sends};
 ghost use Rattle.tx_script.specs.Play.{script_refusal};
-ghost use Rattle.tx_script.specs.Summary.{HasFew};
+ghost use Rattle.transcript.specs.Summary.{HasFew};
 
-use crate::frame_log::FrameLog;
-use crate::outcome::Outcome;
-use crate::refusal::Refusal;
-use crate::run_fault::RunFault;
 use afdx_plan::{Config, PortId};
 use afdx_tx::{Emitter, TxPort, open_tx};
 use script_lines::{Line, Message};
 use std::alloc::Global;
 use std::marker::Model;
 use std::sync::Wait;
+use transcript::{FrameLog, Outcome, Refusal, RunFault};
 
 /// The emitter of a script, over two networks in memory, and its ports in the order of the
 /// configuration.
@@ -40,7 +37,7 @@ impl Model for Bench {
 
 impl Bench {
     ghost use Rattle.std.specs.Prelude.{◌≡◌, IfOk, IfErr};
-    ghost use Rattle.tx_script.specs.declared.run_fault.RunFault.TheVariants as RunFault;
+    ghost use Rattle.transcript.specs.declared.run_fault.RunFault.TheVariants as RunFault;
     ghost use Rattle.tx_script.specs.AtBench.{IsAtHand, IsFreshBench, GaveFirst};
 
     /// A bench at which nothing was done. The only fault is Memory.

@@ -4,18 +4,16 @@ ghost use Rattle.std.specs.Io.KnownBytes.{Appends};
 ghost use Rattle.tx_script.specs.AtBench.{IsAtHand, GaveFirst};
 ghost use Rattle.tx_script.specs.Run.{Leaves};
 ghost use Rattle.tx_script.specs.Running.{EndsEarly};
-ghost use Rattle.tx_script.specs.Transcript.{streams};
+ghost use Rattle.transcript.specs.Transcript.{streams};
 
 use crate::bench::Bench;
-use crate::frames::write_streams;
 use crate::obey_lines::obey_lines;
-use crate::run_fault::RunFault;
-use crate::summary::Summary;
 use afdx_plan::Config;
 use script_lines::Bytes;
 use std::alloc::Global;
 use std::io::{Read, Write};
 use std::sync::Wait;
+use transcript::{RunFault, Summary, write_streams};
 
 /// Writes what was handed to the two networks of a bench.
 fn write_handed<T: Wait, W: Write>(rt: &T, writer: &mut W, bench: Bench) -> Result<(), RunFault>

@@ -2,8 +2,8 @@
 ghost use Rattle.std.specs.Prelude.{◌≡◌, ◌+◌, ◌^◌, ◌<◌, ◌≤◌, [], ◌∷◌, ◌++◌, true, false, length, OnOk, OnErr};
 ghost use Rattle.std.specs.Io.KnownBytes.{Appends};
 ghost use Rattle.redundant_mux.specs.Entry.{entry};
-ghost use Rattle.tx_script.specs.FrameLog.{AreInLog, spelled};
-ghost use Rattle.tx_script.specs.Transcript.{frame_lines};
+ghost use Rattle.transcript.specs.FrameLog.{AreInLog, spelled};
+ghost use Rattle.transcript.specs.Transcript.{frame_lines};
 
 use crate::frames::write_frames;
 use afdx_frame::Net;
@@ -29,7 +29,7 @@ pub struct FrameLog {
 }
 
 impl Model for FrameLog {
-    ghost use Rattle.tx_script.specs.FrameLog.{FrameLog, AreInLog, spelled};
+    ghost use Rattle.transcript.specs.FrameLog.{FrameLog, AreInLog, spelled};
 
     ghost Value = { FrameLog };
 
@@ -63,7 +63,7 @@ impl FrameLog {
 }
 
 impl Network for FrameLog {
-    ghost use Rattle.tx_script.specs.FrameLog.{FrameLog};
+    ghost use Rattle.transcript.specs.FrameLog.{FrameLog};
 
     ghost handed = { λ l. l.handed };
 

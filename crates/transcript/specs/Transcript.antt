@@ -5,10 +5,10 @@ use Rattle.afdx_frame.specs.declared.net.Net.{Net}
 use Rattle.afdx_frame.specs.declared.net.Net.TheVariants.{A, B}
 use Rattle.hex.specs.Hex.{encode_lower}
 use Rattle.redundant_mux.specs.Entry.{Entry}
-use Rattle.tx_script.specs.declared.outcome.Outcome.{Outcome}
-use Rattle.tx_script.specs.declared.outcome.Outcome.TheVariants.{Refused}
-use Rattle.tx_script.specs.declared.refusal.Refusal.{Refusal}
-use Rattle.tx_script.specs.declared.refusal.Refusal.TheVariants.{Empty, TooLong, Closed, Full, NoPort, TimeBack}
+use Rattle.transcript.specs.declared.outcome.Outcome.{Outcome}
+use Rattle.transcript.specs.declared.outcome.Outcome.TheVariants.{Refused}
+use Rattle.transcript.specs.declared.refusal.Refusal.{Refusal}
+use Rattle.transcript.specs.declared.refusal.Refusal.TheVariants.{Empty, TooLong, Closed, Full, NoPort, TimeBack}
 
 -- a refusal's name
 abbrev pub refusal_name : Refusal → List ℕ

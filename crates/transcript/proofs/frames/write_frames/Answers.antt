@@ -1,5 +1,5 @@
-use Rattle.tx_script.proofs.FrameLemmas.{frames_none, frames_turn}
-use Rattle.tx_script.proofs.frames.write_frames.Goals as goal
+use Rattle.transcript.proofs.FrameLemmas.{frames_none, frames_turn}
+use Rattle.transcript.proofs.frames.write_frames.Goals as goal
 
 pub loop-mark-init : goal.loop-mark-init
 loop-mark-init g c = frames_none _ _ _ _ c.requires

@@ -2,7 +2,7 @@
 use Rattle.std.specs.Prelude.{ℕ, ◌≡◌, ◌≤◌, List, [], ◌∷◌, length, take, drop, All}
 use Rattle.std.specs.List.{sum_by}
 use Rattle.redundant_mux.specs.Entry.{Entry, entry}
-use Rattle.tx_script.specs.declared.frame_log.Mark.{Mark}
+use Rattle.transcript.specs.declared.frame_log.Mark.{Mark}
 
 -- what was handed over, and how often a hand failed
 pub record FrameLog : Type 0 where

@@ -1,6 +1,6 @@
 //! The refusals of a line.
 ghost use Rattle.std.specs.Prelude.{◌≡◌};
-ghost use Rattle.tx_script.specs.Transcript.{refusal_name};
+ghost use Rattle.transcript.specs.Transcript.{refusal_name};
 
 /// Why a line was refused while running.
 #[derive(Clone, Copy, Debug, PartialEq, Eq)]

@@ -5,10 +5,10 @@ use Rattle.std.proofs.KnownBytes.{Appends-nil, Appends-trans}
 use Rattle.std.specs.Io.KnownBytes.{Appends}
 use Rattle.afdx_frame.specs.declared.net.Net.{Net}
 use Rattle.redundant_mux.specs.Entry.{Entry, entry}
-use Rattle.tx_script.specs.FrameLog.{spelled, AreInLog}
-use Rattle.tx_script.specs.Transcript.{frame_line, frame_lines}
-use Rattle.tx_script.proofs.LogLemmas.{kept_tail}
-use Rattle.tx_script.specs.declared.frame_log.Mark.{Mark}
+use Rattle.transcript.specs.FrameLog.{spelled, AreInLog}
+use Rattle.transcript.specs.Transcript.{frame_line, frame_lines}
+use Rattle.transcript.proofs.LogLemmas.{kept_tail}
+use Rattle.transcript.specs.declared.frame_log.Mark.{Mark}
 
 -- the lines of one more entry
 frames_more : (net : Net) (es : List Entry) (e : Entry) → frame_lines net (es ++ e ∷ []) ≡ frame_lines net es ++ frame_line net e

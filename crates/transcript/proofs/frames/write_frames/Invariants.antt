@@ -1,6 +1,6 @@
 use Rattle.std.proofs.Common.{drop}
-use Rattle.tx_script.proofs.FrameLemmas.{HasWritten}
-use Rattle.tx_script.proofs.frames.write_frames.Given as goal
+use Rattle.transcript.proofs.FrameLemmas.{HasWritten}
+use Rattle.transcript.proofs.frames.write_frames.Given as goal
 
 abbrev pub invariant-loop-mark : goal.invariant-loop-mark
 invariant-loop-mark g l =

@@ -1,8 +1,8 @@
 -- What is counted of the lines of a run.
 use Rattle.std.specs.Prelude.{◌+◌, ◌≤◌, ⊤}
-use Rattle.tx_script.specs.declared.outcome.Outcome.{Outcome}
-use Rattle.tx_script.specs.declared.outcome.Outcome.TheVariants.{Quiet, Accepted, Refused, Released}
-use Rattle.tx_script.specs.declared.summary.Summary.{Summary as Sums}
+use Rattle.transcript.specs.declared.outcome.Outcome.{Outcome}
+use Rattle.transcript.specs.declared.outcome.Outcome.TheVariants.{Quiet, Accepted, Refused, Released}
+use Rattle.transcript.specs.declared.summary.Summary.{Summary as Sums}
 
 -- the counts after one more line
 unfoldable pub counted : Outcome → Sums → Sums

@@ -2,8 +2,8 @@
 ghost use Rattle.std.specs.Prelude.{◌≡◌, ◌≤◌, length, IfErr, OnOk};
 ghost use Rattle.std.specs.Io.KnownBytes.{Appends};
 ghost use Rattle.redundant_mux.specs.Entry.{entry};
-ghost use Rattle.tx_script.specs.FrameLog.{AreInLog, spelled};
-ghost use Rattle.tx_script.specs.Transcript.{net_name as name_of_net, frame_line, frame_lines, streams};
+ghost use Rattle.transcript.specs.FrameLog.{AreInLog, spelled};
+ghost use Rattle.transcript.specs.Transcript.{net_name as name_of_net, frame_line, frame_lines, streams};
 
 use crate::frame_log::{FrameLog, Mark};
 use crate::run_fault::RunFault;

@@ -1,7 +1,7 @@
 //! Writing the notes of a transcript.
 ghost use Rattle.std.specs.Prelude.{◌≡◌, IfErr, OnOk};
 ghost use Rattle.std.specs.Io.KnownBytes.{Appends};
-ghost use Rattle.tx_script.specs.Transcript.{refusal_name, note_of, refused_note};
+ghost use Rattle.transcript.specs.Transcript.{refusal_name, note_of, refused_note};
 
 use crate::outcome::Outcome;
 use crate::refusal::Refusal;

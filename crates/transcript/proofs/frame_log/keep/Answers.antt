@@ -1,6 +1,6 @@
 use Rattle.std.proofs.Common.{refl}
-use Rattle.tx_script.proofs.LogLemmas.{spelled_more}
-use Rattle.tx_script.proofs.frame_log.keep.Goals as goal
+use Rattle.transcript.proofs.LogLemmas.{spelled_more}
+use Rattle.transcript.proofs.frame_log.keep.Goals as goal
 
 pub returns-clause-kept : goal.returns-clause-kept
 returns-clause-kept c = λ yes.

@@ -1,6 +1,6 @@
 //! The counts of a run.
 ghost use Rattle.std.specs.Prelude.{◌≡◌, ◌+◌, ◌^◌, ◌<◌};
-ghost use Rattle.tx_script.specs.Summary.{counted, HasFew};
+ghost use Rattle.transcript.specs.Summary.{counted, HasFew};
 
 use crate::outcome::Outcome;
 

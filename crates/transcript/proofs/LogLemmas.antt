@@ -4,8 +4,8 @@ use Rattle.std.specs.List.{sum_by}
 use Rattle.std.proofs.lemmas.List.{take_all, take-append-le, drop-append-le}
 use Rattle.std.proofs.lemmas.List.Sums.{sum_by-cons}
 use Rattle.redundant_mux.specs.Entry.{Entry, entry}
-use Rattle.tx_script.specs.FrameLog.{spelled, AreInLog}
-use Rattle.tx_script.specs.declared.frame_log.Mark.{Mark}
+use Rattle.transcript.specs.FrameLog.{spelled, AreInLog}
+use Rattle.transcript.specs.declared.frame_log.Mark.{Mark}
 
 -- the frames that are spelled once one more stands behind them
 pub spelled_more : (marks : List Mark) (bytes : List ℕ) (mark : Mark) (frame : List ℕ)

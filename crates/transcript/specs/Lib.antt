@@ -1,0 +1,3 @@
+pub mod FrameLog
+pub mod Summary
+pub mod Transcript
