@@ -1,6 +1,7 @@
 -- What a network that keeps all bytes in one place was handed.
 use Rattle.std.specs.Prelude.{ℕ, ◌≡◌, ◌≤◌, List, [], ◌∷◌, length, take, drop, All}
 use Rattle.std.specs.List.{sum_by}
+use Rattle.afdx_frame.specs.declared.net.TheConstants.{GREATEST_FRAME}
 use Rattle.redundant_mux.specs.Entry.{Entry, entry}
 use Rattle.transcript.specs.declared.frame_log.Mark.{Mark}
 
@@ -17,4 +18,4 @@ spelled (mark ∷ marks) bytes = entry mark.at (take mark.len bytes) ∷ spelled
 -- the bytes are those of these frames, of which each is at most the longest
 pub record AreInLog (marks : List Mark) (bytes : List ℕ) : Type 0 where
   pub all : sum_by (λ (mark : Mark). mark.len) marks ≡ length bytes
-  pub short : All (λ (mark : Mark). mark.len ≤ 1514) marks
+  pub short : All (λ (mark : Mark). mark.len ≤ GREATEST_FRAME) marks

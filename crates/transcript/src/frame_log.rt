@@ -6,7 +6,7 @@ ghost use Rattle.transcript.specs.FrameLog.{AreInLog, spelled};
 ghost use Rattle.transcript.specs.Transcript.{frame_lines};
 
 use crate::frames::write_frames;
-use afdx_frame::Net;
+use afdx_frame::{GREATEST_FRAME, Net};
 use redundant_mux::{HandFault, Network};
 use std::alloc::Global;
 use std::io::{self, Write};
@@ -72,7 +72,7 @@ impl Network for FrameLog {
     /// Keeps the frame and its moment at the end. A hand for which memory is refused fails: what was
     /// handed over is as it was, the failure is counted, and the next hand is tried like any other.
     fn hand(&mut self, at: u64, frame: &[u8]) -> Result<(), HandFault>
-        requires short { length frame.now ≤ 1514 }
+        requires short { length frame.now ≤ GREATEST_FRAME }
         requires few { self.old.failures + 1 < 2 ^ 64 }
         ensures ok { OnOk result (self.new.handed ≡ self.old.handed ++ entry at frame.now ∷ []) }
         ensures ok_failures { OnOk result (self.new.failures ≡ self.old.failures) }
@@ -89,7 +89,7 @@ impl Network for FrameLog {
 
 // Keeps a frame at the end, where memory suffices. Whether it does.
 fn keep(marks: &mut Vec<Mark>, bytes: &mut Vec<u8>, at: u64, frame: &[u8]) -> bool
-    requires short { length frame.now ≤ 1514 }
+    requires short { length frame.now ≤ GREATEST_FRAME }
     requires before { AreInLog marks.old.items bytes.old.items }
     ensures kept { result ≡ true → spelled marks.new.items bytes.new.items
         ≡ spelled marks.old.items bytes.old.items ++ entry at frame.now ∷ [] }

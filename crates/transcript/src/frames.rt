@@ -7,12 +7,12 @@ ghost use Rattle.transcript.specs.Transcript.{net_name as name_of_net, frame_lin
 
 use crate::frame_log::{FrameLog, Mark};
 use crate::run_fault::RunFault;
-use afdx_frame::Net;
+use afdx_frame::{GREATEST_FRAME, Net};
 use std::io;
 use std::io::Write;
 
 // Two digits for each byte of a frame.
-const DIGITS: usize = 3028;
+const DIGITS: usize = 2 * GREATEST_FRAME;
 
 /// Writes what was handed to network A, and then what was handed to B.
 pub fn write_streams<W: Write>(writer: &mut W, a: &FrameLog, b: &FrameLog) -> Result<(), RunFault>
@@ -60,7 +60,7 @@ fn write_frame<W: Write>(
     frame: &[u8],
     buffer: &mut [u8; DIGITS],
 ) -> io::Result<()>
-    requires { length frame.now ≤ 1514 }
+    requires { length frame.now ≤ GREATEST_FRAME }
     ensures { OnOk result (Appends (W.contents writer.old) (W.contents writer.new)
         (frame_line net (entry at frame.now))) }
 {

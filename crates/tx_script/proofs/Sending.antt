@@ -5,7 +5,6 @@ use Rattle.std.proofs.lemmas.Bool.{eq-eqb, ne_eqb, lt-ltb, le-ltb}
 use Rattle.std.proofs.lemmas.List.Quantifiers.{position-Some}
 use Rattle.afdx_plan.specs.Config.{Plan, port_plan_at}
 use Rattle.afdx_plan.specs.declared.port_plan.PortPlan.{PortPlan}
-use Rattle.subvl_queue.specs.Messages.{most_calls}
 use Rattle.subvl_queue.specs.Views.{SenderView, asked, sent}
 use Rattle.afdx_tx.specs.declared.fault.Refusal.{Refusal as SendRefusal}
 use Rattle.afdx_tx.specs.declared.fault.Refusal.TheVariants as Why
@@ -19,10 +18,8 @@ use Rattle.tx_script.specs.Play.{passed_on, script_refusal, outcome_of, accepted
 use Rattle.script_lines.specs.declared.line.Line.TheVariants.{Send}
 use Rattle.transcript.specs.declared.refusal.Refusal.{Refusal}
 use Rattle.transcript.specs.declared.refusal.Refusal.TheVariants.{NoPort}
-use Rattle.tx_script.specs.declared.obey_lines.TheConstants.{LINES_LIMIT}
 use Rattle.transcript.specs.declared.outcome.Outcome.{Outcome}
 use Rattle.transcript.specs.declared.outcome.Outcome.TheVariants as Became
-use Rattle.transcript.specs.Summary.{HasFew}
 use Rattle.tx_script.proofs.AtHand.{IsSamePort, have_sent, have_kept}
 
 -- a message of no bytes
@@ -88,14 +85,6 @@ unsent old new size Why.TooLong some r = unsent_same old new r.1
 unsent old new size Why.Closed some r = unsent_asked old new r.same r.queue.1
 unsent old new size Why.Exhausted some r = absurd (some refl)
 unsent old new size Why.Full some r = unsent_asked old new r.same r.queue.1
-
--- A port that asked as often as a script has lines may ask on.
-pub never_exhausted : (old new : PortView) (size : ℕ) (why : SendRefusal) → old.sender.calls ≡ most_calls
-    → old.sender.asks ≤ LINES_LIMIT → Refuses old size why new → why ≡ Why.Exhausted → ⊥
-never_exhausted old new size why calls few r e =
-    let refuses : Refuses old size Why.Exhausted new = subst (λ (w : SendRefusal). Refuses old size w new) e r in
-    let spent : old.sender.asks ≡ old.sender.calls = refuses.queue.0 in
-    omega arith
 
 -- the plan of the port at a place
 plan_here : (tx : Tx) (ports : List PortView) (place : ℕ) (d : PortView) → IsAtHand tx ports → place < length ports
@@ -250,13 +239,6 @@ sends_asks old new bytes Became.Accepted h =
     let more : new.sender.asks ≡ old.sender.asks + 1 = ap (λ (p : PortView). p.sender.asks) h.1 in omega arith
 sends_asks old new bytes (Became.Refused refusal) h = (unsent old new (length bytes) h.why h.some h.refuses).asks
 sends_asks old new bytes (Became.Released frames) h = absurd h
-
--- It released no frame.
-pub sends_few : (old new : PortView) (bytes : List ℕ) (outcome : Outcome) → Sends old bytes new outcome → HasFew outcome
-sends_few old new bytes Became.Quiet h = absurd h
-sends_few old new bytes Became.Accepted h = tt
-sends_few old new bytes (Became.Refused refusal) h = tt
-sends_few old new bytes (Became.Released frames) h = absurd h
 
 -- A message for the port at a place.
 pub sends_obeys : (accepted : Messages) (es : EndSystem) (tx : Tx) (ports : List PortView) (id place : ℕ) (d new : PortView)
