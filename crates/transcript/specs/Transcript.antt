@@ -1,5 +1,5 @@
 -- The texts of a transcript.
-use Rattle.std.specs.Prelude.{codes, ℕ, List, [], ◌∷◌, ◌++◌}
+use Rattle.std.specs.Prelude.{codes, ℕ, Bool, true, false, List, [], ◌∷◌, ◌++◌}
 use Rattle.std.specs.Fmt.{decimal}
 use Rattle.afdx_frame.specs.declared.net.Net.{Net}
 use Rattle.afdx_frame.specs.declared.net.Net.TheVariants.{A, B}
@@ -9,6 +9,8 @@ use Rattle.transcript.specs.declared.outcome.Outcome.{Outcome}
 use Rattle.transcript.specs.declared.outcome.Outcome.TheVariants.{Refused}
 use Rattle.transcript.specs.declared.refusal.Refusal.{Refusal}
 use Rattle.transcript.specs.declared.refusal.Refusal.TheVariants.{Empty, TooLong, Closed, Full, NoPort, TimeBack}
+use Rattle.transcript.specs.declared.run_fault.RunFault.{RunFault}
+use Rattle.transcript.specs.declared.run_fault.RunFault.TheVariants.{Write, Memory}
 
 -- a refusal's name
 abbrev pub refusal_name : Refusal → List ℕ
@@ -47,3 +49,9 @@ frame_lines net (e ∷ es) = frame_line net e ++ frame_lines net es
 -- the lines of A, and then those of B
 abbrev pub streams : List Entry → List Entry → List ℕ
 streams a b = frame_lines A a ++ frame_lines B b
+
+-- nothing more is written once the writer failed or memory was refused
+abbrev pub ends_writing : RunFault → Bool
+ends_writing Write = true
+ends_writing Memory = true
+ends_writing fault = false

@@ -1,4 +1,7 @@
 //! The faults of a run.
+ghost use Rattle.std.specs.Prelude.{◌≡◌};
+ghost use Rattle.transcript.specs.Transcript.{ends_writing};
+
 use script_lines::LineFault;
 use thiserror::Error;
 
@@ -20,4 +23,16 @@ pub enum RunFault {
     /// Memory was refused.
     #[error("out of memory")]
     Memory,
+}
+
+impl RunFault {
+    /// Whether nothing more is written once a run was told it.
+    pub fn ends_writing(self) -> bool
+        ensures { result ≡ ends_writing self }
+    {
+        match self {
+            RunFault::Write | RunFault::Memory => true,
+            RunFault::Line { .. } | RunFault::Lines | RunFault::Read => false,
+        }
+    }
 }

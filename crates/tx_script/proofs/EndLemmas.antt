@@ -1,14 +1,15 @@
 -- How a run ends once its streams are written.
-use Rattle.std.proofs.Common.{◌≡◌, ℕ, inl, inr, List, [], ◌++◌, Option, Some, None, refl, sym, subst}
+use Rattle.std.proofs.Common.{◌≡◌, ℕ, true, false, inl, inr, List, [], ◌++◌, Option, Some, None, refl, sym, subst}
+use Rattle.std.proofs.lemmas.Bool.{false≢true}
 use Rattle.std.specs.Prelude.{IfSome, Result, Ok, Err, ◌⊎◌, ⊤}
 use Rattle.std.specs.Io.KnownBytes.{Appends, Keeps}
-use Rattle.std.proofs.KnownBytes.{Appends-nil, Appends-trans, Appends-kept}
+use Rattle.std.proofs.KnownBytes.{Appends-nil, Appends-trans, Appends-kept, Keeps-refl}
 use Rattle.afdx_plan.specs.Config.{Plan}
 use Rattle.tx_script.specs.AtBench.{AtBench}
 use Rattle.tx_script.specs.Play.{Play, play, start, transcript}
 use Rattle.tx_script.specs.Run.{HasRun, HasBegun, Ends, Leaves}
 use Rattle.tx_script.specs.Running.{Running, Stops, Writes, EndsEarly}
-use Rattle.transcript.specs.Transcript.{streams}
+use Rattle.transcript.specs.Transcript.{streams, ends_writing}
 use Rattle.transcript.specs.declared.run_fault.RunFault.{RunFault}
 use Rattle.transcript.specs.declared.run_fault.RunFault.TheVariants as Fault
 use Rattle.transcript.specs.declared.summary.Summary.{Summary as Sums}
@@ -89,6 +90,33 @@ told_or_write : (plan : Plan) (text : List ℕ) (old mid fin : Option (List ℕ)
     → (told ≡ Fault.Write) ⊎ ((told ≡ fault) × Writes bench mid fin) → Leaves plan text old fin (Err told)
 told_or_write plan text old mid fin bench fault told leaves (inl is) = rw is tt
 told_or_write plan text old mid fin bench fault told leaves (inr (is, wrote)) = rw is (leaves wrote)
+
+-- nothing more is written after this fault
+pub ends_silent : (bench : AtBench) (bytes : Option (List ℕ)) (fault : RunFault) → ends_writing fault ≡ true
+    → EndsEarly fault bench bytes bytes fault
+ends_silent bench bytes Fault.Memory ends = (refl, Keeps-refl bytes)
+ends_silent bench bytes Fault.Write ends = refl
+ends_silent bench bytes (Fault.Line number fault) ends = absurd (false≢true ends)
+ends_silent bench bytes Fault.Lines ends = absurd (false≢true ends)
+ends_silent bench bytes Fault.Read ends = absurd (false≢true ends)
+
+-- the streams were written after this fault
+pub ends_told : (bench : AtBench) (old new : Option (List ℕ)) (fault : RunFault) → ends_writing fault ≡ false
+    → Writes bench old new → EndsEarly fault bench old new fault
+ends_told bench old new Fault.Memory goes wrote = absurd (false≢true (sym goes))
+ends_told bench old new Fault.Write goes wrote = refl
+ends_told bench old new (Fault.Line number fault) goes wrote = inr (refl, wrote)
+ends_told bench old new Fault.Lines goes wrote = inr (refl, wrote)
+ends_told bench old new Fault.Read goes wrote = inr (refl, wrote)
+
+-- the writer failed after this fault
+pub ends_failed : (bench : AtBench) (old new : Option (List ℕ)) (fault : RunFault) → ends_writing fault ≡ false
+    → EndsEarly fault bench old new Fault.Write
+ends_failed bench old new Fault.Memory goes = absurd (false≢true (sym goes))
+ends_failed bench old new Fault.Write goes = refl
+ends_failed bench old new (Fault.Line number fault) goes = inl refl
+ends_failed bench old new Fault.Lines goes = inl refl
+ends_failed bench old new Fault.Read goes = inl refl
 
 -- the run was told a fault
 early : (plan : Plan) (text : List ℕ) (old mid fin : Option (List ℕ)) (bench : AtBench) (fault told : RunFault)

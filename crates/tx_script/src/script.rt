@@ -27,17 +27,16 @@ fn write_handed<T: Wait, W: Write>(rt: &T, writer: &mut W, bench: Bench) -> Resu
     write_streams(writer, &a, &b)
 }
 
-/// Writes the streams after a fault that lets them be written. The fault of the run.
+/// Writes the streams after a fault, unless it ends the writing. The fault of the run.
 fn end_early<T: Wait, W: Write>(rt: &T, writer: &mut W, bench: Bench, fault: RunFault) -> RunFault
     ensures { EndsEarly fault bench (W.contents writer.old) (W.contents writer.new) result }
 {
-    match fault {
-        RunFault::Write => RunFault::Write,
-        RunFault::Memory => RunFault::Memory,
-        _ => match write_handed(rt, writer, bench) {
-            Ok(()) => fault,
-            Err(_) => RunFault::Write,
-        },
+    if fault.ends_writing() {
+        return fault;
+    }
+    match write_handed(rt, writer, bench) {
+        Ok(()) => fault,
+        Err(_) => RunFault::Write,
     }
 }
 
