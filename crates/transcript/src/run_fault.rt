@@ -31,8 +31,11 @@ impl RunFault {
         ensures { result ≡ ends_writing self }
     {
         match self {
-            RunFault::Write | RunFault::Memory => true,
-            RunFault::Line { .. } | RunFault::Lines | RunFault::Read => false,
+            RunFault::Line { .. } => false,
+            RunFault::Lines => false,
+            RunFault::Read => false,
+            RunFault::Write => true,
+            RunFault::Memory => true,
         }
     }
 }
