@@ -1,43 +1,42 @@
-use Rattle.std.proofs.Common.{◌≡◌, true, false}
-use Rattle.redundant_mux.specs.Lines.{is_alive}
+use Rattle.std.proofs.Common.{◌≡◌, ◌∙◌, ◌||◌, Bool, true, false, ap, sym}
+use Rattle.redundant_mux.specs.Lines.{Lines, is_alive}
 use Rattle.afdx_frame.specs.declared.net.Net.TheVariants.{A}
 use Rattle.afdx_frame.proofs.Twins.{twin_same}
 use Rattle.vl_link.proofs.SubInStep.{gave_same}
-use Rattle.vl_link.proofs.link.send_next.Given
 use Rattle.vl_link.proofs.link.send_next.Goals as goal
 
 pub hand-requires : goal.hand-requires
 hand-requires g c = twin_same A c.write_next.new.out.items c.write_next.ensures.frame.interface
 
--- a network stands afterwards
-stands : (g : Given.Over) (c : goal.Then-some_stands g) → is_alive c.hand.new.self ≡ true
-stands g c = let a = c.in-Ok.ensures.a_stands in let b =
-    c.in-Ok.ensures.b_stands in cc (c.some_stands.ensures, c.if-some_stands.true)
-
--- none does
-are_down : (g : Given.Over) (c : goal.Else-some_stands g) → is_alive c.hand.new.self ≡ false
-are_down g c = let a = c.in-Ok.ensures.a_stands in let b =
-    c.in-Ok.ensures.b_stands in cc (c.some_stands.ensures, c.if-some_stands.false)
+-- whether some network stands, as the mux answered it
+alive_is : (lines : Lines) (a b some result : Bool) → a ≡ lines.a_stands → b ≡ lines.b_stands → some ≡ (a || b)
+    → some ≡ result → is_alive lines ≡ result
+alive_is lines a b some result a_is b_is some_is is =
+    ap (λ (x : Bool). x || lines.b_stands) (sym a_is) ∙ ap (λ (x : Bool). a || x) (sym b_is) ∙ sym some_is ∙ is
 
 pub returns-then-some_stands-clause-released : goal.returns-then-some_stands-clause-released
 returns-then-some_stands-clause-released g c =
     let e = c.write_next.ensures in
+    let alive = alive_is c.hand.new.self _ _ _ true c.in-Ok.ensures.a_stands c.in-Ok.ensures.b_stands c.some_stands.ensures
+    c.if-some_stands.true in
     record {
       frame = c.write_next.new.out.items;
-      enters = c.hand.ensures.enters (stands g c);
+      enters = c.hand.ensures.enters alive;
       of = e.frame;
       gives = record { next = e.left; same = e.same };
-      alive = stands g c;
+      alive = alive;
     }
 
 pub returns-else-some_stands-clause-lost : goal.returns-else-some_stands-clause-lost
 returns-else-some_stands-clause-lost g c =
     let e = c.write_next.ensures in
+    let down = alive_is c.hand.new.self _ _ _ false c.in-Ok.ensures.a_stands c.in-Ok.ensures.b_stands c.some_stands.ensures
+    c.if-some_stands.false in
     record {
       frame = c.write_next.new.out.items;
       gives = record { next = e.left; same = e.same };
-      same = c.hand.ensures.lost (are_down g c);
-      down = are_down g c;
+      same = c.hand.ensures.lost down;
+      down = down;
     }
 
 pub returns-then-some_stands-clause-same : goal.returns-then-some_stands-clause-same
@@ -49,3 +48,9 @@ pub returns-else-some_stands-clause-same : goal.returns-else-some_stands-clause-
 returns-else-some_stands-clause-same g c =
     let e = c.write_next.ensures in
     gave_same c.write_next.new.out.items c.args.sub.now c.write_next.new.self (record { next = e.left; same = e.same })
+
+pub returns-then-some_stands-clause-last : goal.returns-then-some_stands-clause-last
+returns-then-some_stands-clause-last g c = cc
+
+pub returns-else-some_stands-clause-last : goal.returns-else-some_stands-clause-last
+returns-else-some_stands-clause-last g c = cc
