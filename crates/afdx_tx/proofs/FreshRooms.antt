@@ -24,6 +24,16 @@ queue_at_is links k s =
     ap (λ (qs : List (Option QueueName)). get_or qs s None) (get_or-map all links k no_link)
     ∙ get_or-map own (link_at links k).subs s nothing_held
 
+-- no sub-VL yet
+pub subs_none : (end_system : ℕ) (ports : List PortPlan) (link : LinkPlan) (subs : List Held) → subs ≡ []
+    → AreFreshSubs end_system ports link subs 0
+subs_none end_system ports link subs none = record { count = ap length none; each = λ s lt. absurd (omega arith) }
+
+-- and no room
+pub rooms_none : (ports : List PortPlan) (link : LinkPlan) (subs : List Held) (rooms : List RoomView) → rooms ≡ []
+    → AreFreshRooms ports link subs rooms 0
+rooms_none ports link subs rooms none = record { count = ap length none; each = λ s lt. absurd (omega arith) }
+
 -- one sub-VL more
 pub subs_push : (end_system : ℕ) (ports : List PortPlan) (link : LinkPlan) (subs : List Held) (n : ℕ) (new : Held)
     → AreFreshSubs end_system ports link subs n

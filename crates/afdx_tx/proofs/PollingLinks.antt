@@ -1,8 +1,10 @@
 -- One more link of a poll was asked whether it is due, and served where it is.
-use Rattle.std.proofs.Common.{ℕ, ◌≡◌, ◌+◌, ◌<◌, ◌≤◌, List, [], ◌++◌, Bool, true, false, length, set, refl, sym, subst, inl}
+use Rattle.std.proofs.Common.{ℕ, ◌≡◌, ◌+◌, ◌<◌, ◌≤◌, List, [], ◌++◌, Bool, true, false, length, set, refl, arith, ap, sym, subst, inl}
 use Rattle.std.proofs.lemmas.List.{set-get_or, append-nil}
-use Rattle.redundant_mux.specs.Lines.{Lines, log}
+use Rattle.afdx_frame.specs.declared.net.Net.TheVariants.{A}
+use Rattle.redundant_mux.specs.Lines.{Lines, log, is_alive}
 use Rattle.vl_shaper.specs.Pace.{IsLater, is_due}
+use Rattle.afdx_legal.specs.Legal.{AreKnown}
 use Rattle.vl_link.specs.declared.served.Served.{Served}
 use Rattle.vl_link.specs.declared.served.Served.TheVariants.{Nothing}
 use Rattle.vl_link.specs.Links.{LinkState, link_at, held_at, no_link, IsSameLink}
@@ -11,11 +13,44 @@ use Rattle.vl_link.specs.Kept.{IsKept}
 use Rattle.vl_link.proofs.LinkTurn.{Turned}
 use Rattle.vl_link.proofs.SubInStep.{same_sub_here}
 use Rattle.afdx_tx.specs.declared.report.Release.{Release}
-use Rattle.afdx_tx.specs.Emitter.{AreApart}
+use Rattle.afdx_tx.specs.Emitter.{plans, AreApart, AreLinks, AreKept, AreServedBy, AreWhole}
 use Rattle.afdx_tx.specs.Report.{turn_release}
 use Rattle.afdx_tx.specs.Serving.{IsPolling}
 use Rattle.afdx_tx.proofs.PollTurns.{serving_more}
 use Rattle.afdx_tx.proofs.ToldReleases.{told_more, few_released}
+
+-- a link is the one that it is
+same_link : (link : LinkState) → IsSameLink link link
+same_link link = record {
+  end_system = refl;
+  plan = refl;
+  gap = refl;
+  sub_vls = refl;
+  count = refl;
+  subs = λ s. same_sub_here (held_at link.subs s) (held_at link.subs s) refl;
+}
+
+-- no link had its turn yet
+pub polling_none : (now : ℕ) (links : List LinkState) (lines : Lines) (released : List Release) → released ≡ []
+    → AreLinks links → AreKept links (log lines) → AreServedBy now links → AreKnown (plans links) A (log lines)
+    → is_alive lines ≡ true → AreWhole links → IsPolling now 0 links links lines lines released
+polling_none now links lines released none each kept later known alive whole = record {
+  serving = record {
+    steady = record {
+      same = record { count = refl; each = λ k lt. same_link (link_at links k) };
+      each = each;
+      kept = kept;
+      later = later;
+      known = known;
+    };
+    turns = refl;
+    rest = refl;
+    alive = alive;
+    whole = whole;
+  };
+  told = record { entries = []; grown = sym (append-nil (log lines)); named = sym none; moments = refl };
+  room = omega (arith, ap length none);
+}
 
 -- one more link had its turn
 pub polling_more : (now i : ℕ) (old links : List LinkState) (before lines after : Lines) (new : LinkState) (did : Served)
@@ -39,17 +74,6 @@ polling_is now i old links links' before after after' released released' e f h p
     subst (λ (ls : List LinkState). IsPolling now i old ls before after' released') (sym e)
     (subst (λ (l : Lines). IsPolling now i old links before l released') (sym f)
     (subst (λ (rs : List Release). IsPolling now i old links before after rs) (sym h) p))
-
--- a link is the one that it is
-same_link : (link : LinkState) → IsSameLink link link
-same_link link = record {
-  end_system = refl;
-  plan = refl;
-  gap = refl;
-  sub_vls = refl;
-  count = refl;
-  subs = λ s. same_sub_here (held_at link.subs s) (held_at link.subs s) refl;
-}
 
 -- the turn of a link that isn't due
 idle_turn : (now : ℕ) (link : LinkState) (lines : Lines) → is_due link.pace.gap link.pace.last now ≡ false

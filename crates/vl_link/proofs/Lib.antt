@@ -8,3 +8,4 @@ pub mod ChosenSub
 pub mod TurnLaws
 pub mod LinkTurn
 pub mod FromLast
+pub mod Standing

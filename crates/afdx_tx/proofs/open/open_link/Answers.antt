@@ -3,8 +3,17 @@ use Rattle.vl_link.specs.Links.{Held}
 use Rattle.afdx_tx.specs.Emitter.{IsFreshSub, AreFreshSubs, ports_of_sub}
 use Rattle.vl_link.specs.Room.{RoomView}
 use Rattle.afdx_tx.specs.Rooms.{AreFreshRooms}
-use Rattle.afdx_tx.proofs.FreshRooms.{subs_push, rooms_push}
+use Rattle.afdx_tx.proofs.FreshRooms.{subs_none, rooms_none, subs_push, rooms_push}
 use Rattle.afdx_tx.proofs.open.open_link.Goals as goal
+
+pub loop-sub-init : goal.loop-sub-init
+loop-sub-init c =
+    let config = c.args.config.now in
+    record {
+      fresh = subs_none config.end_system config.ports c.args.plan.now c.in_ok-subs.subs.items c.in_ok-subs.ensures.items;
+      rooms = rooms_none config.ports c.args.plan.now c.in_ok-subs.subs.items c.in_ok-rooms.rooms.items
+          c.in_ok-rooms.ensures.items;
+    }
 
 pub loop-sub-preserved : goal.loop-sub-preserved
 loop-sub-preserved c =

@@ -2,14 +2,14 @@ use Rattle.std.proofs.Common.{List, ◌++◌, ◌+◌, ◌≡◌, ◌<◌, ◌�
 use Rattle.std.proofs.lemmas.List.{get_or_default, set-get_or}
 use Rattle.afdx_plan.specs.declared.identifiers.VlId.{VlId}
 use Rattle.afdx_plan.specs.declared.link_plan.LinkPlan.{LinkPlan}
-use Rattle.vl_shaper.specs.Pace.{is_due}
+use Rattle.vl_shaper.specs.Pace.{IsLater, is_due}
 use Rattle.vl_link.specs.Links.{LinkState, link_at, no_link}
 use Rattle.vl_link.proofs.LinkTurn.{Turned}
 use Rattle.afdx_tx.specs.declared.report.Release.{Release}
 use Rattle.afdx_tx.specs.Report.{turn_release}
 use Rattle.arrayvec.specs.ArrayVec.{ArrayVec}
 use Rattle.afdx_tx.proofs.PollTurns.{turned_at, steady_more, cut_at}
-use Rattle.afdx_tx.proofs.PollingLinks.{polling_is, polling_more, polling_on}
+use Rattle.afdx_tx.proofs.PollingLinks.{polling_none, polling_is, polling_more, polling_on}
 use Rattle.afdx_tx.proofs.transmitter.serve_all.Given
 use Rattle.afdx_tx.proofs.transmitter.serve_all.Goals as goal
 use Rattle.afdx_tx.proofs.transmitter.serve_all.Goals.{then-is_due+else-is_lost, else-is_due}
@@ -23,6 +23,24 @@ asked : (g : Given.Over) (c : goal.Joined-is_due g)
     → get_or c.loop-link.links c.loop-link.link-index c.link-item.result
     ≡ link_at c.loop-link.links c.loop-link.link-index
 asked g c = get_or_default c.loop-link.links c.loop-link.link-index c.link-item.result no_link (within g c)
+
+pub loop-link-init : goal.loop-link-init
+loop-link-init g c =
+    let r = c.requires in
+    polling_none c.args.now c.args.links.now c.args.mux.now c.args.released.now.items r.none r.each r.kept r.later r.known r.alive
+    r.whole
+
+pub is_due-requires : goal.is_due-requires
+is_due-requires g c =
+    let s = c.loop-link.invariant.serving.steady in
+    let lt : c.loop-link.link-index < length c.loop-link.links =
+    let q = s.same.count in let r = c.loop-link-test.true in omega arith in
+    subst (λ (l : LinkState). IsLater l.pace.last c.args.now)
+    (sym (get_or_default c.loop-link.links c.loop-link.link-index c.link-item.result no_link lt))
+    (s.later c.loop-link.link-index lt)
+
+pub serve-did-requires-clause-due : goal.serve-did-requires-clause-due
+serve-did-requires-clause-due g c = sym c.is_due.ensures ∙ c.if-is_due.true
 
 pub loop-link-preserved : goal.loop-link-preserved
 loop-link-preserved g c =

@@ -1,18 +1,12 @@
-use Rattle.std.proofs.Common.{◌≡◌, ◌∙◌, ◌||◌, Bool, true, false, ap, sym}
-use Rattle.redundant_mux.specs.Lines.{Lines, is_alive}
+use Rattle.std.proofs.Common.{true, false}
 use Rattle.afdx_frame.specs.declared.net.Net.TheVariants.{A}
 use Rattle.afdx_frame.proofs.Twins.{twin_same}
+use Rattle.vl_link.proofs.Standing.{alive_is}
 use Rattle.vl_link.proofs.SubInStep.{gave_same}
 use Rattle.vl_link.proofs.link.send_next.Goals as goal
 
 pub hand-requires : goal.hand-requires
 hand-requires g c = twin_same A c.write_next.new.out.items c.write_next.ensures.frame.interface
-
--- whether some network stands, as the mux answered it
-alive_is : (lines : Lines) (a b some result : Bool) → a ≡ lines.a_stands → b ≡ lines.b_stands → some ≡ (a || b)
-    → some ≡ result → is_alive lines ≡ result
-alive_is lines a b some result a_is b_is some_is is =
-    ap (λ (x : Bool). x || lines.b_stands) (sym a_is) ∙ ap (λ (x : Bool). a || x) (sym b_is) ∙ sym some_is ∙ is
 
 pub returns-then-some_stands-clause-released : goal.returns-then-some_stands-clause-released
 returns-then-some_stands-clause-released g c =

@@ -33,7 +33,7 @@ returns-in-Some-send_next-clause-serves g c = (
 pub returns-in-Some-send_next-clause-paced : goal.returns-in-Some-send_next-clause-paced
 returns-in-Some-send_next-clause-paced g c =
     let own = item_of _ c.args.plan.now _ _ _ c.index-subs-sub.result c.in-Some.ensures.chosen c.requires.named in
-    follows_more c.args.plan.now.id.0 c.args.now _ _ c.args.shaper.now _ _ _ _ c.requires.paced
+    follows_more c.args.plan.now.id.0 c.args.now _ _ c.args.shaper.now c.send_next.new.shaper _ _ _ c.requires.paced
     (releases_at _ _ c.args.plan.now _ _ _ _ c.index-subs-sub.result _ _ _ c.in-Some.ensures.chosen c.requires.named
     c.in-Some-send_next.ensures.released)
     (c.in-Some-send_next.ensures.last ∙ ap (λ (s : ℕ). Some (record { at = c.args.now; sub = s })) own.1)
@@ -42,3 +42,9 @@ returns-in-Some-send_next-clause-paced g c =
 pub returns-in-Some-send_next-clause-same : goal.returns-in-Some-send_next-clause-same
 returns-in-Some-send_next-clause-same g c =
     set_same _ _ _ _ c.index-subs-sub.result _ c.in-Some.ensures.chosen c.in-Some-send_next.ensures.same
+
+pub returns-in-None-clause-paced : goal.returns-in-None-clause-paced
+returns-in-None-clause-paced g c = c.requires.paced
+
+pub returns-in-None-send_next-clause-paced : goal.returns-in-None-send_next-clause-paced
+returns-in-None-send_next-clause-paced g c = tt

@@ -1,9 +1,12 @@
-use Rattle.std.proofs.Common.{◌≡◌, ◌∙◌, sym, List, subst}
+use Rattle.std.proofs.Common.{◌≡◌, ◌∙◌, true, false, refl, sym, List, subst}
 use Rattle.std.proofs.lemmas.List.{with_items_is}
 use Rattle.std.specs.Vec.{with_items}
+use Rattle.redundant_mux.specs.Lines.{is_alive}
 use Rattle.vl_link.specs.Links.{LinkState}
+use Rattle.vl_link.proofs.Standing.{alive_is}
 use Rattle.afdx_legal.specs.Legal.{IsLegal}
 use Rattle.afdx_tx.specs.Emitter.{Tx, AreApart, IsSound, taken_in}
+use Rattle.afdx_tx.specs.Report.{IsTold}
 use Rattle.afdx_tx.specs.Run.{IsRun, IsCutShort}
 use Rattle.afdx_tx.specs.Serving.{IsSteady}
 use Rattle.afdx_tx.proofs.SoundEmitter.{links_apart, sound_after, sound_legal}
@@ -68,3 +71,33 @@ returns-clause-cut_short g c = λ down.
     (sym (links_are g c))
     (subst (λ (ls : List LinkState). IsCutShort c.args.now ls c.serve_all.new.links c.self.inside.mux c.serve_all.new.mux)
     c.deref_mut.ensures.value (c.serve_all.ensures.cut_short down)))
+
+pub serve_all-requires-clause-alive : goal.serve_all-requires-clause-alive
+serve_all-requires-clause-alive g c =
+    alive_is c.self.inside.mux _ _ _ true c.standing.ensures.a c.standing.ensures.b c.some_stands.ensures c.if-not-some_stands.false
+
+pub returns-clause-both_down : goal.returns-clause-both_down
+returns-clause-both_down g c =
+    let up : is_alive c.args.self.now.lines ≡ true = subst (λ (t : Tx). is_alive t.lines ≡ true) c.self.view_is
+    (alive_is c.self.inside.mux _ _ _ true c.standing.ensures.a c.standing.ensures.b c.some_stands.ensures
+    c.if-not-some_stands.false) in
+    (λ (no : false ≡ true). cc, λ (down : is_alive c.args.self.now.lines ≡ false). sym down ∙ up)
+
+pub returns-then-not-some_stands-clause-both_down : goal.returns-then-not-some_stands-clause-both_down
+returns-then-not-some_stands-clause-both_down g c =
+    let down : is_alive c.args.self.now.lines ≡ false = subst (λ (t : Tx). is_alive t.lines ≡ false) c.self.view_is
+    (alive_is c.self.inside.mux _ _ _ false c.standing.ensures.a c.standing.ensures.b c.some_stands.ensures
+    c.if-not-some_stands.true) in
+    (λ _. down, λ _. refl)
+
+pub returns-then-not-some_stands-clause-unchanged : goal.returns-then-not-some_stands-clause-unchanged
+returns-then-not-some_stands-clause-unchanged g c = refl
+
+pub returns-clause-told : goal.returns-clause-told
+returns-clause-told g c = record {
+  moment = refl;
+  released = subst (λ (t : Tx). IsTold c.args.now c.serve_all.new.released.items t.lines c.serve_all.new.mux) c.self.view_is
+      c.serve_all.ensures.told;
+  a_stands = c.standing-2.ensures.a;
+  b_stands = c.standing-2.ensures.b;
+}
