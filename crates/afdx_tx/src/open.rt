@@ -1,5 +1,5 @@
 //! Opening an emitter.
-ghost use Rattle.std.specs.Prelude.{◌≡◌, ◌<◌, [], length, IfOk, IfErr};
+ghost use Rattle.std.specs.Prelude.{◌≡◌, ◌<◌, ◌&&◌, [], length, nat_eq, IfOk, IfErr};
 ghost use Rattle.afdx_plan.specs.Config.{IsPlan};
 ghost use Rattle.afdx_plan.specs.Plan.{IsLink};
 ghost use Rattle.afdx_tx.specs.Emitter.{IsFreshSub, IsFreshLink, IsFreshTx, AreFreshLinks, ports_of_sub, queues_in};
@@ -19,6 +19,13 @@ use vl_link::{Link, LinkRooms, Room, Sub, SubVl};
 /// How often a port may ask: 2^40 times.
 const CALLS: u64 = 1_099_511_627_776;
 
+/// Whether a port is one of a sub-VL.
+fn is_port_of(port: &PortPlan, of: &SubVl) -> bool
+    ensures { result ≡ (nat_eq port.now.vl.0 of.now.link.id.0 && nat_eq port.now.sub of.now.sub) }
+{
+    port.vl == of.link.id && port.sub == of.sub
+}
+
 /// The ports of a sub-VL, in the order of the configuration.
 fn ports_of(alloc: Global, ports: &[PortPlan], of: &SubVl) -> Result<Vec<PortPlan>, AllocError>
     ensures { IfOk result
@@ -26,7 +33,7 @@ fn ports_of(alloc: Global, ports: &[PortPlan], of: &SubVl) -> Result<Vec<PortPla
 {
     let mut own = Vec::new(alloc);
     for port in ports {
-        if port.vl == of.link.id && port.sub == of.sub {
+        if is_port_of(port, of) {
             own.push(*port)?;
         }
     }

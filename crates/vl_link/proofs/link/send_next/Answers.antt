@@ -1,4 +1,4 @@
-use Rattle.std.proofs.Common.{true, false}
+use Rattle.std.proofs.Common.{ℕ, ◌∙◌, Some, true, false, ap}
 use Rattle.afdx_frame.specs.declared.net.Net.TheVariants.{A}
 use Rattle.afdx_frame.proofs.Twins.{twin_same}
 use Rattle.vl_link.proofs.Standing.{alive_is}
@@ -44,7 +44,9 @@ returns-else-some_stands-clause-same g c =
     gave_same c.write_next.new.out.items c.args.sub.now c.write_next.new.self (record { next = e.left; same = e.same })
 
 pub returns-then-some_stands-clause-last : goal.returns-then-some_stands-clause-last
-returns-then-some_stands-clause-last g c = cc
+returns-then-some_stands-clause-last g c =
+    c.stamp-number.ensures.last ∙ ap (λ (s : ℕ). Some (record { at = c.args.now; sub = s })) c.index.ensures
 
 pub returns-else-some_stands-clause-last : goal.returns-else-some_stands-clause-last
-returns-else-some_stands-clause-last g c = cc
+returns-else-some_stands-clause-last g c =
+    c.stamp-number.ensures.last ∙ ap (λ (s : ℕ). Some (record { at = c.args.now; sub = s })) c.index.ensures
