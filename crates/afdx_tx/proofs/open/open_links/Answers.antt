@@ -38,6 +38,12 @@ loop-plan-preserved c =
           old.fresh.count old.rooms rooms));
     }
 
+pub returns-clause-fresh : goal.returns-clause-fresh
+returns-clause-fresh c =
+    let all : c.loop-plan.plan-index ≡ length c.args.config.now.links = let past = c.loop-plan-test.false in
+    let end = c.loop-plan.auto.plan-index-end in omega (arith, ap length c.links-plans.ensures.plan) in
+    subst (AreFreshLinks c.args.config.now c.loop-plan.links.items) all c.loop-plan.invariant.fresh
+
 pub returns-clause-rooms : goal.returns-clause-rooms
 returns-clause-rooms c =
     let config = c.args.config.now in
