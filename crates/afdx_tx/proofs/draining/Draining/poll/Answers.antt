@@ -1,5 +1,8 @@
-use Rattle.std.proofs.Common.{◌∙◌, ap, subst}
+use Rattle.std.proofs.Common.{◌≡◌, ◌∙◌, ◌↔◌, false, IsErr, OnErr, IfOk, ap, subst}
+use Rattle.redundant_mux.specs.Lines.{is_alive}
+use Rattle.afdx_tx.specs.declared.report.Report.{Report}
 use Rattle.afdx_tx.specs.Emitter.{Tx}
+use Rattle.afdx_tx.specs.Report.{Polls}
 use Rattle.afdx_tx.specs.Drain.{IsDrained, IsDrainCutShort, accepted_in}
 use Rattle.afdx_tx.proofs.DrainKeeps.{gathered_still, accepted_same, legal_accepted, on_ok}
 use Rattle.afdx_tx.proofs.DrainTurns.{run_drained, cut_drained}
@@ -35,3 +38,16 @@ returns-clause-cut_short g c =
     (cut_drained c.args.now inner.plan inner.links c.poll.new.self.links inner.lines c.poll.new.self.lines
     c.poll.ensures.of_plan c.self.invariant (h down)))
     c.poll.ensures.cut_short
+
+pub returns-clause-both_down : goal.returns-clause-both_down
+returns-clause-both_down g c =
+    subst (λ (d : Tx). IsErr c.poll.result ↔ (is_alive d.lines ≡ false)) c.self.view_is c.poll.ensures.both_down
+
+pub returns-clause-unchanged : goal.returns-clause-unchanged
+returns-clause-unchanged g c =
+    subst (λ (d : Tx). OnErr c.poll.result (c.poll.new.self ≡ d)) c.self.view_is c.poll.ensures.unchanged
+
+pub returns-clause-told : goal.returns-clause-told
+returns-clause-told g c =
+    subst (λ (d : Tx). IfOk c.poll.result (λ (report : Report). Polls c.args.now d report c.poll.new.self)) c.self.view_is
+    c.poll.ensures.told
