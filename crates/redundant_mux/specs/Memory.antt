@@ -3,9 +3,11 @@ use Rattle.std.specs.Prelude.{ℕ, List, Option, map}
 use Rattle.redundant_mux.specs.Entry.{Entry, entry}
 use Rattle.redundant_mux.specs.declared.memory.Handed.{Handed}
 
--- what was handed to it, how often it failed and was asked, and which hand is to fail, counted from 1
+-- what was handed to it, for how many frames it has memory, how often it failed and was asked, and
+-- which hand is to fail, counted from 1
 pub record Memory : Type 0 where
   pub handed : List Entry
+  pub capacity : ℕ
   pub failures : ℕ
   pub asked : ℕ
   pub fails_at : Option ℕ

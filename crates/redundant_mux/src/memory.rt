@@ -1,5 +1,5 @@
 //! A network in memory.
-ghost use Rattle.std.specs.Prelude.{◌≡◌, ◌≢◌, ℕ, ◌+◌, ◌^◌, ◌<◌, ◌≤◌, List, [], ◌∷◌, ◌++◌, None, Some, true, false, length, OnOk, OnErr, IsErr, min, map};
+ghost use Rattle.std.specs.Prelude.{◌≡◌, ◌≢◌, ℕ, ◌+◌, ◌^◌, ◌<◌, ◌≤◌, List, [], ◌∷◌, ◌++◌, None, Some, true, false, length, OnOk, OnErr, IsErr, min, map, vec_len, vec_capacity};
 ghost use Rattle.redundant_mux.specs.Entry.{entry};
 ghost use Rattle.redundant_mux.specs.Memory.{entries};
 
@@ -15,8 +15,8 @@ pub struct Handed {
     pub frame: Frame,
 }
 
-/// A network that keeps what it is handed. Contracts see what was handed to it, its failures, how
-/// often it was asked, and which hand is to fail.
+/// A network that keeps what it is handed. Contracts see what was handed to it, for how many frames
+/// it has memory, its failures, how often it was asked, and which hand is to fail.
 #[derive(Drop)]
 pub struct MemNetwork {
     handed: Vec<Handed>,
@@ -26,12 +26,14 @@ pub struct MemNetwork {
 }
 
 impl Model for MemNetwork {
+    ghost use Rattle.std.specs.Prelude.{vec_capacity};
     ghost use Rattle.redundant_mux.specs.Memory.{Memory, entries};
 
     ghost Value = { Memory };
 
     ghost view = { λ m. record {
       handed = entries m.handed.items;
+      capacity = vec_capacity m.handed;
       failures = m.failures;
       asked = m.asked;
       fails_at = m.fails_at;
@@ -43,7 +45,13 @@ impl MemNetwork {
 
     /// A network that was handed nothing. A hand fails only where memory was refused.
     pub fn new(alloc: Global) -> MemNetwork
-        ensures { result ≡ record { handed = []; failures = 0; asked = 0; fails_at = None } }
+        ensures { result ≡ record {
+          handed = [];
+          capacity = 0;
+          failures = 0;
+          asked = 0;
+          fails_at = None;
+        } }
     {
         MemNetwork {
             handed: Vec::new(alloc),
@@ -56,7 +64,13 @@ impl MemNetwork {
     /// As `new`, but the hand numbered `k`, counted from 1, fails. The hands after it are taken
     /// again: to give a network up is its caller's part.
     pub fn failing_at(alloc: Global, k: u64) -> MemNetwork
-        ensures { result ≡ record { handed = []; failures = 0; asked = 0; fails_at = Some k } }
+        ensures { result ≡ record {
+          handed = [];
+          capacity = 0;
+          failures = 0;
+          asked = 0;
+          fails_at = Some k;
+        } }
     {
         MemNetwork {
             handed: Vec::new(alloc),
@@ -89,7 +103,7 @@ impl Network for MemNetwork {
     ghost failures = { λ m. m.failures };
 
     /// Keeps the frame and its moment at the end of the list. The hand that is to fail does, and so
-    /// does one for which memory is refused. After an error the list is as it was, the failure is
+    /// does one for which memory is refused: no other. After an error the list is as it was, the failure is
     /// counted, and the next hand is tried like any other. The count of hands stays at the greatest
     /// u64, and no later hand is the one that is to fail.
     fn hand(&mut self, at: u64, frame: &[u8]) -> Result<(), HandFault>
@@ -101,6 +115,9 @@ impl Network for MemNetwork {
         ensures err_failures { OnErr result (self.new.failures ≡ self.old.failures + 1) }
 
         ensures fails { self.old.fails_at ≡ Some (self.old.asked + 1) → IsErr result }
+        ensures only { OnErr result (self.old.fails_at ≢ Some (self.old.asked + 1) →
+            self.old.capacity ≤ length self.old.handed) }
+        ensures capacity { self.old.capacity ≤ self.new.capacity }
         ensures asked { self.new.asked ≡ min (self.old.asked + 1) u64.MAX }
         ensures fails_at { self.new.fails_at ≡ self.old.fails_at }
     {
@@ -135,6 +152,8 @@ fn keep(handed: &mut Vec<Handed>, at: u64, frame: &[u8]) -> bool
     ensures kept { result ≡ true →
         entries handed.new.items ≡ entries handed.old.items ++ entry at frame.now ∷ [] }
     ensures same { result ≡ false → entries handed.new.items ≡ entries handed.old.items }
+    ensures full { result ≡ false → vec_capacity handed.old ≤ vec_len handed.old }
+    ensures capacity { vec_capacity handed.old ≤ vec_capacity handed.new }
 {
     let end = handed.len();
     let empty = Handed {
