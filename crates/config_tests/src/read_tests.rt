@@ -52,7 +52,7 @@ fn the_text_of_the_demonstration_is_its_plan(rt: HostRuntime) -> Result<(), Fail
 #[test]
 fn a_text_with_one_change_has_its_fault(rt: HostRuntime) -> Result<(), Fail> {
     let alloc = rt.alloc();
-    let changes: [(&str, &str, u8); 19] = [
+    let changes: [(&str, &str, u8); 20] = [
         (" = 8192", " =", 1),
         ("id = 1\n", "id = 99999999999999999999\n", 1),
         ("lmax = 1518\n", "", 2),
@@ -72,6 +72,7 @@ fn a_text_with_one_change_has_its_fault(rt: HostRuntime) -> Result<(), Fail> {
         ("\nvl = 1\n", "\nvl = 9\n", 9),
         ("sub = 0", "sub = 1", 10),
         ("capacity = 2", "capacity = 256", 0),
+        ("capacity = 2", "capacity = 257", 5),
     ];
     for (old, new, number) in changes {
         let text = TEXT.replace(alloc, old, new)?;
