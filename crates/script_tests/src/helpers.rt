@@ -3,6 +3,7 @@ use afdx_config::read_config;
 use afdx_plan::demo_config;
 use std::alloc::{AllocError, Global};
 use std::io::{Read, Write};
+use std::process::Abort;
 use std::sync::Wait;
 use tx_script::{LineFault, RunFault, Summary, run_script};
 
@@ -18,16 +19,76 @@ pub fn run<T: Wait, R: Read + Drop, W: Write>(
     run_script(rt, alloc, config, script, text)
 }
 
-// A script over a configuration, by its text.
-pub fn run_over<T: Wait, R: Read + Drop, W: Write>(
+// What it comes to, and what is written of it.
+pub fn transcript<T: Wait, R: Read + Drop>(
+    rt: &T,
+    alloc: Global,
+    script: R,
+) -> (Result<Summary, RunFault>, Vec<u8>) {
+    let mut text = Vec::new(alloc);
+    let told = run(rt, alloc, script, &mut text);
+    (told, text)
+}
+
+// Asserts what a script over the demonstration configuration comes to, and what is written of it. A
+// test that calls this has a short proof, since it keeps no writer of its own.
+pub fn assert_run<T: Wait + Abort, R: Read + Drop>(
+    rt: &T,
+    alloc: Global,
+    script: R,
+    wanted: Result<Summary, RunFault>,
+    wanted_text: &[u8],
+) {
+    let (told, text) = transcript(rt, alloc, script);
+    assert_eq!(rt; told, wanted);
+    assert_eq!(rt; text.as_slice(), wanted_text);
+}
+
+// A script over a configuration, by its text, and what is written of it.
+pub fn transcript_over<T: Wait>(
     rt: &T,
     alloc: Global,
     plan: &str,
-    script: R,
-    text: &mut W,
-) -> Result<Summary, RunFault> {
-    let config = read_config(alloc, plan.as_bytes()).map_err(|_| RunFault::Memory)?;
-    run_script(rt, alloc, config, script, text)
+    script: &str,
+) -> (Result<Summary, RunFault>, Vec<u8>) {
+    let mut text = Vec::new(alloc);
+    let Ok(config) = read_config(alloc, plan.as_bytes()) else {
+        return (Err(RunFault::Memory), text);
+    };
+    let told = run_script(rt, alloc, config, script.as_bytes(), &mut text);
+    (told, text)
+}
+
+// Asserts what a script over a configuration comes to, and what is written of it.
+pub fn assert_run_over<T: Wait + Abort>(
+    rt: &T,
+    alloc: Global,
+    plan: &str,
+    script: &str,
+    wanted: Summary,
+    wanted_text: &str,
+) {
+    let (told, text) = transcript_over(rt, alloc, plan, script);
+    assert_eq!(rt; told, Ok(wanted));
+    assert_eq!(rt; text.as_slice(), wanted_text.as_bytes());
+}
+
+// Texts, one behind the other.
+pub fn joined(alloc: Global, parts: &[&str]) -> Result<String, AllocError> {
+    let mut text = String::new(alloc);
+    for part in parts {
+        text.push_str(part)?;
+    }
+    Ok(text)
+}
+
+// The same text, so often.
+pub fn repeated(alloc: Global, part: &str, many: usize) -> Result<String, AllocError> {
+    let mut text = String::new(alloc);
+    for _ in 0..many {
+        text.push_str(part)?;
+    }
+    Ok(text)
 }
 
 pub fn sums(accepted: u64, refused: u64, frames: u64) -> Summary {

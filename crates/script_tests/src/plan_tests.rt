@@ -1,95 +1,24 @@
-use crate::helpers::{Frame, NETS, frame_lines, run_over};
+use crate::helpers::{
+    Frame, NETS, assert_run_over, frame_lines, joined, repeated, sums, transcript_over,
+};
 use std::alloc::{AllocError, Global};
 use std::io::Write;
 use std::test::Fail;
 
-// A link of a configuration.
-#[derive(Clone, Copy)]
-struct Link {
-    id: u16,
-    bag_ms: u16,
-    lmax: u16,
-    sub_vls: u8,
-    capacity: u16,
-}
+// The parts of a configuration's text: its head, the link and the port of the demonstration, and
+// what the ports below have in common.
+const HEAD: &str = "[end_system]\nid = 1\n";
 
-const DEMO_LINK: Link = Link {
-    id: 1,
-    bag_ms: 1,
-    lmax: 1518,
-    sub_vls: 1,
-    capacity: 2,
-};
+const DEMO_LINK: &str = "[[vl]]\nid = 1\nbag_ms = 1\nlmax = 1518\nsub_vls = 1\ncapacity = 2\n";
 
-// A port of a configuration, and what stands behind its keys.
-#[derive(Clone, Copy)]
-struct Port<'a> {
-    id: u16,
-    vl: u16,
-    sub: u8,
-    source: u16,
-    behind: &'a str,
-}
+const DEMO_PORT: &str = "[[port]]\nid = 10\nvl = 1\nsub = 0\nsource = 1000\n";
 
-const DEMO_PORT: Port<'static> = Port {
-    id: 10,
-    vl: 1,
-    sub: 0,
-    source: 1000,
-    behind: "",
-};
+const PORT_REST: &str = "partition = 1\nkind = \"queuing\"\ndestination = 2000\nmax = 8192\n";
 
-fn push_link(text: &mut String, link: &Link) -> Result<(), AllocError> {
-    let Link {
-        id,
-        bag_ms,
-        lmax,
-        sub_vls,
-        capacity,
-    } = link;
-    write!(
-        text,
-        "[[vl]]\nid = {id}\nbag_ms = {bag_ms}\nlmax = {lmax}\n"
-    )?;
-    write!(text, "sub_vls = {sub_vls}\ncapacity = {capacity}\n")
-}
-
-fn push_port(text: &mut String, port: &Port) -> Result<(), AllocError> {
-    let Port {
-        id,
-        vl,
-        sub,
-        source,
-        behind,
-    } = port;
-    write!(text, "[[port]]\nid = {id}\nvl = {vl}\nsub = {sub}\n")?;
-    write!(
-        text,
-        "partition = 1\nkind = \"queuing\"\nsource = {source}\n"
-    )?;
-    write!(text, "destination = 2000\nmax = 8192\n{behind}\n")
-}
-
-// The text of a configuration.
-fn plan_text(alloc: Global, links: &[Link], ports: &[Port]) -> Result<String, AllocError> {
-    let mut text = String::new(alloc);
-    text.push_str("[end_system]\nid = 1\n")?;
-    for link in links {
-        push_link(&mut text, link)?;
-    }
-    for port in ports {
-        push_port(&mut text, port)?;
-    }
-    Ok(text)
-}
-
-// The same byte, so often, in hexadecimal.
-fn bytes_of(alloc: Global, byte: &str, many: usize) -> Result<String, AllocError> {
-    let mut text = String::new(alloc);
-    for _ in 0..many {
-        text.push_str(byte)?;
-    }
-    Ok(text)
+// The text of a configuration of one link, given without its identifier, with the demonstration's
+// port, behind whose keys something may stand.
+fn plan_with(alloc: Global, link: &str, behind: &str) -> Result<String, AllocError> {
+    joined(alloc, &[HEAD, link, DEMO_PORT, PORT_REST, behind])
 }
 
 const FIRST: Frame<'static> = Frame {
@@ -116,15 +45,16 @@ const THIRD: Frame<'static> = Frame {
     number: 2,
 };
 
-#[test]
-fn a_message_past_one_frame_goes_out_as_two(rt: HostRuntime) -> Result<(), Fail> {
-    let alloc = rt.alloc();
-    let mut script = String::new(alloc);
-    let message = bytes_of(alloc, "aa", 1_472)?;
-    writeln!(script, "send 10 {message}\nat 0\nat 1000")?;
-    let mut piece = String::new(alloc);
-    piece.push_str("03e807d005c80000")?;
-    piece.push_str(&bytes_of(alloc, "aa", 1_464)?)?;
+// A message of 1,472 bytes, and two polls.
+fn long_send(alloc: Global) -> Result<String, AllocError> {
+    let message = repeated(alloc, "aa", 1_472)?;
+    joined(alloc, &["send 10 ", &message, "\nat 0\nat 1000\n"])
+}
+
+// Its two frames.
+fn long_frames(alloc: Global) -> Result<String, AllocError> {
+    let message = repeated(alloc, "aa", 1_464)?;
+    let piece = joined(alloc, &["03e807d005c80000", &message])?;
     let frames = [
         Frame {
             at: 0,
@@ -141,75 +71,52 @@ fn a_message_past_one_frame_goes_out_as_two(rt: HostRuntime) -> Result<(), Fail>
             number: 1,
         },
     ];
-    let plan = plan_text(alloc, &[DEMO_LINK], &[DEMO_PORT])?;
-    let mut text = Vec::new(alloc);
-    let told = run_over(&rt, alloc, &plan, script.as_bytes(), &mut text)?;
-    assert_eq!(rt; (told.accepted, told.refused, told.frames), (1, 0, 2));
-    assert_eq!(rt; text.as_slice(), frame_lines(alloc, &frames)?.as_bytes());
+    frame_lines(alloc, &frames)
+}
+
+#[test]
+fn a_message_past_one_frame_goes_out_as_two(rt: HostRuntime) -> Result<(), Fail> {
+    let plan = plan_with(rt.alloc(), DEMO_LINK, "")?;
+    let script = long_send(rt.alloc())?;
+    let wanted = long_frames(rt.alloc())?;
+    assert_run_over(&rt, rt.alloc(), &plan, &script, sums(1, 0, 2), &wanted);
     Ok(())
 }
 
 #[test]
 fn a_unicast_message_carries_its_destination_address(rt: HostRuntime) -> Result<(), Fail> {
-    let alloc = rt.alloc();
-    let port = Port {
-        behind: "dest_ip = \"10.0.2.1\"",
-        ..DEMO_PORT
-    };
-    let plan = plan_text(alloc, &[DEMO_LINK], &[port])?;
-    let frames = [Frame {
+    let plan = plan_with(rt.alloc(), DEMO_LINK, "dest_ip = \"10.0.2.1\"\n")?;
+    let frame = Frame {
         header: "4500001d000000000111a2cf0a0001010a000201",
         ..FIRST
-    }];
-    let mut text = Vec::new(alloc);
-    run_over(
-        &rt,
-        alloc,
-        &plan,
-        b"send 10 01\nat 0\n".as_slice(),
-        &mut text,
-    )?;
-    assert_eq!(rt; text.as_slice(), frame_lines(alloc, &frames)?.as_bytes());
+    };
+    let wanted = frame_lines(rt.alloc(), &[frame])?;
+    let script = "send 10 01\nat 0\n";
+    assert_run_over(&rt, rt.alloc(), &plan, script, sums(1, 0, 1), &wanted);
     Ok(())
 }
 
 #[test]
 fn a_link_releases_again_once_its_gap_is_over_and_not_before(rt: HostRuntime) -> Result<(), Fail> {
-    let alloc = rt.alloc();
-    let link = Link {
-        bag_ms: 2,
-        ..DEMO_LINK
-    };
-    let plan = plan_text(alloc, &[link], &[DEMO_PORT])?;
+    let link = "[[vl]]\nid = 1\nbag_ms = 2\nlmax = 1518\nsub_vls = 1\ncapacity = 2\n";
+    let plan = plan_with(rt.alloc(), link, "")?;
     let script = "send 10 01\nsend 10 02\nat 0\nat 1999\nat 2000\n";
-    let mut text = Vec::new(alloc);
-    let told = run_over(&rt, alloc, &plan, script.as_bytes(), &mut text)?;
-    assert_eq!(rt; (told.accepted, told.refused, told.frames), (2, 0, 2));
-    assert_eq!(rt;
-        text.as_slice(),
-        frame_lines(alloc, &[FIRST, SECOND])?.as_bytes()
-    );
+    let wanted = frame_lines(rt.alloc(), &[FIRST, SECOND])?;
+    assert_run_over(&rt, rt.alloc(), &plan, script, sums(2, 0, 2), &wanted);
     Ok(())
 }
 
 #[test]
 fn a_link_that_is_polled_late_does_not_catch_up(rt: HostRuntime) -> Result<(), Fail> {
-    let alloc = rt.alloc();
-    let link = Link {
-        bag_ms: 4,
-        capacity: 3,
-        ..DEMO_LINK
-    };
-    let plan = plan_text(alloc, &[link], &[DEMO_PORT])?;
+    let link = "[[vl]]\nid = 1\nbag_ms = 4\nlmax = 1518\nsub_vls = 1\ncapacity = 3\n";
+    let plan = plan_with(rt.alloc(), link, "")?;
     let script = "send 10 01\nsend 10 02\nsend 10 03\nat 0\nat 7000\nat 8000\nat 11000\n";
     let second = Frame {
         at: 7_000,
         ..SECOND
     };
-    let mut text = Vec::new(alloc);
-    run_over(&rt, alloc, &plan, script.as_bytes(), &mut text)?;
-    let wanted = frame_lines(alloc, &[FIRST, second, THIRD])?;
-    assert_eq!(rt; text.as_slice(), wanted.as_bytes());
+    let wanted = frame_lines(rt.alloc(), &[FIRST, second, THIRD])?;
+    assert_run_over(&rt, rt.alloc(), &plan, script, sums(3, 0, 3), &wanted);
     Ok(())
 }
 
@@ -253,73 +160,81 @@ const IN_TURN: [Frame<'static>; 5] = [
     },
 ];
 
+// Their configuration.
+fn plan_in_turn(alloc: Global) -> Result<String, AllocError> {
+    let link = "[[vl]]\nid = 1\nbag_ms = 1\nlmax = 64\nsub_vls = 2\ncapacity = 2\n";
+    let first = "[[port]]\nid = 20\nvl = 1\nsub = 0\nsource = 1000\n";
+    let second = "[[port]]\nid = 21\nvl = 1\nsub = 1\nsource = 1001\n";
+    joined(alloc, &[HEAD, link, first, PORT_REST, second, PORT_REST])
+}
+
+// Their messages, and five polls.
+fn script_in_turn(alloc: Global) -> Result<String, AllocError> {
+    let message = repeated(alloc, "aa", 60)?;
+    let behind = "\nsend 21 01\nsend 21 02\nat 0\nat 1000\nat 2000\nat 3000\nat 4000\n";
+    joined(alloc, &["send 20 ", &message, behind])
+}
+
 #[test]
 fn two_sub_vls_send_piece_by_piece_in_turn(rt: HostRuntime) -> Result<(), Fail> {
-    let alloc = rt.alloc();
-    let link = Link {
-        lmax: 64,
-        sub_vls: 2,
-        ..DEMO_LINK
-    };
-    let first = Port {
-        id: 20,
-        ..DEMO_PORT
-    };
-    let second = Port {
-        id: 21,
-        sub: 1,
-        source: 1001,
-        ..DEMO_PORT
-    };
-    let plan = plan_text(alloc, &[link], &[first, second])?;
-    let mut script = String::new(alloc);
-    let message = bytes_of(alloc, "aa", 60)?;
-    writeln!(script, "send 20 {message}\nsend 21 01\nsend 21 02")?;
-    writeln!(script, "at 0\nat 1000\nat 2000\nat 3000\nat 4000")?;
-    let mut text = Vec::new(alloc);
-    run_over(&rt, alloc, &plan, script.as_bytes(), &mut text)?;
-    assert_eq!(rt; text.as_slice(), frame_lines(alloc, &IN_TURN)?.as_bytes());
+    let plan = plan_in_turn(rt.alloc())?;
+    let script = script_in_turn(rt.alloc())?;
+    let wanted = frame_lines(rt.alloc(), &IN_TURN)?;
+    assert_run_over(&rt, rt.alloc(), &plan, &script, sums(3, 0, 5), &wanted);
     Ok(())
 }
 
-// 64 links of four sub-VLs with room for 256 messages, and a port on each sub-VL: the greatest plan
-// but for its frames.
+// A link of the greatest plan, of four sub-VLs with room for 256 messages.
+fn push_link(text: &mut String, id: u16) -> Result<(), AllocError> {
+    writeln!(text, "[[vl]]\nid = {id}")?;
+    text.push_str("bag_ms = 1\nlmax = 1518\nsub_vls = 4\ncapacity = 256\n")
+}
+
+// A port of it, on a sub-VL.
+fn push_port(text: &mut String, vl: u16, sub: u16) -> Result<(), AllocError> {
+    let id = 4 * u32::from(vl) + u32::from(sub);
+    let source = 1000 + u32::from(sub);
+    writeln!(
+        text,
+        "[[port]]\nid = {id}\nvl = {vl}\nsub = {sub}\nsource = {source}"
+    )?;
+    text.push_str(PORT_REST)
+}
+
+// 64 such links, and a port on each sub-VL: the greatest plan but for its frames.
 fn greatest_plan(alloc: Global) -> Result<String, AllocError> {
     let mut text = String::new(alloc);
-    text.push_str("[end_system]\nid = 1\n")?;
+    text.push_str(HEAD)?;
     for id in 1..=64 {
-        let link = Link {
-            id,
-            sub_vls: 4,
-            capacity: 256,
-            ..DEMO_LINK
-        };
-        push_link(&mut text, &link)?;
+        push_link(&mut text, id)?;
     }
-    for vl in 1..=64u16 {
-        for sub in 0..4u8 {
-            let port = Port {
-                id: 4 * vl + u16::from(sub),
-                vl,
-                sub,
-                source: 1000 + u16::from(sub),
-                behind: "",
-            };
-            push_port(&mut text, &port)?;
+    for vl in 1..=64 {
+        for sub in 0..4 {
+            push_port(&mut text, vl, sub)?;
         }
     }
     Ok(text)
 }
 
-// Each port sends 256 messages of one byte, which are all that its queue holds, and one more.
-fn push_sends(script: &mut String) -> Result<(), AllocError> {
-    for port in 4..260u16 {
-        for message in 0..=255u8 {
-            writeln!(script, "send {port} {message:02x}")?;
-        }
-        writeln!(script, "send {port} ff")?;
+// A port sends 256 messages of one byte, which are all that its queue holds, and one more.
+fn push_sends(script: &mut String, port: u16) -> Result<(), AllocError> {
+    for message in 0..=255u8 {
+        writeln!(script, "send {port} {message:02x}")?;
     }
-    Ok(())
+    writeln!(script, "send {port} ff")
+}
+
+// Each port sends, and then all are polled, a gap apart, once more than there are messages of a
+// link.
+fn greatest_script(alloc: Global) -> Result<String, AllocError> {
+    let mut script = String::new(alloc);
+    for port in 4..260 {
+        push_sends(&mut script, port)?;
+    }
+    for k in 0..=1_024u64 {
+        writeln!(script, "at {}", 1_000 * k)?;
+    }
+    Ok(script)
 }
 
 // The notes on the messages that found their queue full.
@@ -360,29 +275,25 @@ fn push_polls(text: &mut String, net: (&str, &str)) -> Result<(), AllocError> {
     Ok(())
 }
 
+// The notes, and the lines of A and of B.
+fn greatest_transcript(alloc: Global) -> Result<String, AllocError> {
+    let mut text = String::new(alloc);
+    push_notes(&mut text)?;
+    for net in NETS {
+        push_polls(&mut text, net)?;
+    }
+    Ok(text)
+}
+
 #[test]
 fn the_greatest_plan_sends_all_that_its_queues_hold_in_the_order_of_its_links(
     rt: HostRuntime,
 ) -> Result<(), Fail> {
-    let alloc = rt.alloc();
-    let plan = greatest_plan(alloc)?;
-    let mut script = String::new(alloc);
-    push_sends(&mut script)?;
-    for k in 0..=1_024u64 {
-        let at = 1_000 * k;
-        writeln!(script, "at {at}")?;
-    }
-    let mut wanted = String::new(alloc);
-    push_notes(&mut wanted)?;
-    for net in NETS {
-        push_polls(&mut wanted, net)?;
-    }
-    let mut text = Vec::new(alloc);
-    let told = run_over(&rt, alloc, &plan, script.as_bytes(), &mut text)?;
-    assert_eq!(rt;
-        (told.accepted, told.refused, told.frames),
-        (65_536, 256, 65_536)
-    );
+    let plan = greatest_plan(rt.alloc())?;
+    let script = greatest_script(rt.alloc())?;
+    let wanted = greatest_transcript(rt.alloc())?;
+    let (told, text) = transcript_over(&rt, rt.alloc(), &plan, &script);
+    assert_eq!(rt; told, Ok(sums(65_536, 256, 65_536)));
     assert!(rt; text.as_slice() == wanted.as_bytes());
     Ok(())
 }

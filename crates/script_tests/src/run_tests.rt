@@ -1,138 +1,149 @@
-use crate::helpers::{FIRST, Small, at_line, expected, run, sums};
+use crate::helpers::{
+    FIRST, Small, assert_run, at_line, expected, joined, repeated, run, sums, transcript,
+};
+use std::alloc::{AllocError, Global};
 use std::io::{self, Read, Write};
+use std::sync::Wait;
 use std::test::Fail;
-use tx_script::{LineFault, RunFault};
+use tx_script::{LineFault, RunFault, Summary};
 
 #[test]
-fn a_message_goes_out_on_both_networks(rt: HostRuntime) -> Result<(), Fail> {
+fn a_message_goes_out_on_both_networks(rt: HostRuntime) {
     let wanted = "A 0 03000000000102000000012008004500001d000000000111cdee0a000101e0e0000103e807d\
                   000090000010000000000000000000000000000000000\n\
                   B 0 03000000000102000000014008004500001d000000000111cdee0a000101e0e0000103e807d\
                   000090000010000000000000000000000000000000000\n";
-    let scripts = ["send 10 01\nat 0\n", "# note\r\n\n send\t0010 01\nat 0"];
-    for script in scripts {
-        let mut text = Vec::new(rt.alloc());
-        let told = run(&rt, rt.alloc(), script.as_bytes(), &mut text)?;
-        assert_eq!(rt; told, sums(1, 0, 1));
-        assert_eq!(rt; text.as_slice(), wanted.as_bytes());
+    for script in ["send 10 01\nat 0\n", "# note\r\n\n send\t0010 01\nat 0"] {
+        let told = Ok(sums(1, 0, 1));
+        assert_run(&rt, rt.alloc(), script.as_bytes(), told, wanted.as_bytes());
     }
-    Ok(())
 }
 
 #[test]
-fn nothing_is_written_where_nothing_was_sent(rt: HostRuntime) -> Result<(), Fail> {
-    for script in ["", "at 0\n", "send 10 01\n"] {
-        let mut text = Vec::new(rt.alloc());
-        let told = run(&rt, rt.alloc(), script.as_bytes(), &mut text)?;
-        assert_eq!(rt; (told.refused, told.frames), (0, 0), "at {script}");
+fn nothing_is_written_where_nothing_was_sent(rt: HostRuntime) {
+    for (script, accepted) in [("", 0), ("at 0\n", 0), ("send 10 01\n", 1)] {
+        let (told, text) = transcript(&rt, rt.alloc(), script.as_bytes());
+        assert_eq!(rt; told, Ok(sums(accepted, 0, 0)), "at {script}");
         assert_eq!(rt; text.len(), 0, "at {script}");
     }
-    Ok(())
 }
 
 #[test]
 fn a_message_of_1_471_bytes_fills_one_frame(rt: HostRuntime) -> Result<(), Fail> {
-    let mut script = String::new(rt.alloc());
-    script.push_str("send 10 ")?;
-    let mut wanted = String::new(rt.alloc());
-    wanted.push_str("A 0 0300000000010200000001200800450005db000000000111c830")?;
-    wanted.push_str("0a000101e0e0000103e807d005c70000")?;
-    for _ in 0..1_471 {
-        script.push_str("aa")?;
-        wanted.push_str("aa")?;
-    }
-    script.push_str("\nat 0\n")?;
-    wanted.push_str("00\nB 0 0300000000010200000001400800450005db")?;
-    let mut text = Vec::new(rt.alloc());
-    let told = run(&rt, rt.alloc(), script.as_bytes(), &mut text)?;
-    assert_eq!(rt; told, sums(1, 0, 1));
+    let message = repeated(rt.alloc(), "aa", 1_471)?;
+    let script = joined(rt.alloc(), &["send 10 ", &message, "\nat 0\n"])?;
+    let parts = [
+        "A 0 0300000000010200000001200800450005db000000000111c830",
+        "0a000101e0e0000103e807d005c70000",
+        &message,
+        "00\nB 0 0300000000010200000001400800450005db",
+    ];
+    let wanted = joined(rt.alloc(), &parts)?;
+    let (told, text) = transcript(&rt, rt.alloc(), script.as_bytes());
+    assert_eq!(rt; told, Ok(sums(1, 0, 1)));
     assert_eq!(rt; text.len(), 2 * (4 + 2 * 1_514 + 1));
     assert!(rt; text.as_slice().starts_with(wanted.as_bytes()));
     Ok(())
 }
 
+// The frames of the messages 01, 02 and 03, a gap apart.
+const THREE: [Small; 3] = [
+    FIRST,
+    Small {
+        at: 1000,
+        ident: 4,
+        checksum: 0xcdea,
+        byte: 2,
+        number: 1,
+    },
+    Small {
+        at: 2000,
+        ident: 8,
+        checksum: 0xcde6,
+        byte: 3,
+        number: 2,
+    },
+];
+
 #[test]
 fn a_full_queue_refuses_a_message_until_a_frame_went_out(rt: HostRuntime) -> Result<(), Fail> {
-    let script = "send 10 01\nsend 10 02\nsend 10 03\nat 0\nsend 10 03\nat 1000\nat 2000\n";
-    let frames = [
-        FIRST,
-        Small {
-            at: 1000,
-            ident: 4,
-            checksum: 0xcdea,
-            byte: 2,
-            number: 1,
-        },
-        Small {
-            at: 2000,
-            ident: 8,
-            checksum: 0xcde6,
-            byte: 3,
-            number: 2,
-        },
-    ];
-    let wanted = expected(rt.alloc(), "line 3: refused Full\n", &frames)?;
-    let mut text = Vec::new(rt.alloc());
-    let told = run(&rt, rt.alloc(), script.as_bytes(), &mut text)?;
-    assert_eq!(rt; told, sums(3, 1, 3));
-    assert_eq!(rt; text.as_slice(), wanted.as_bytes());
+    let script = b"send 10 01\nsend 10 02\nsend 10 03\nat 0\nsend 10 03\nat 1000\nat 2000\n";
+    let wanted = expected(rt.alloc(), "line 3: refused Full\n", &THREE)?;
+    let told = Ok(sums(3, 1, 3));
+    assert_run(&rt, rt.alloc(), script.as_slice(), told, wanted.as_bytes());
     Ok(())
+}
+
+// An empty message, one that is too long, one of no port, and then one that is taken.
+fn refused_sends(alloc: Global) -> Result<String, AllocError> {
+    let long = repeated(alloc, "00", 8_193)?;
+    let behind = "\nsend 99 01\nsend 10 07\nat 0\n";
+    joined(alloc, &["send 10 -\nsend 10 ", &long, behind])
 }
 
 #[test]
 fn a_refused_message_takes_no_identification(rt: HostRuntime) -> Result<(), Fail> {
-    let mut script = String::new(rt.alloc());
-    script.push_str("send 10 -\nsend 10 ")?;
-    for _ in 0..8_193 {
-        script.push_str("00")?;
-    }
-    script.push_str("\nsend 99 01\nsend 10 07\nat 0\n")?;
+    let script = refused_sends(rt.alloc())?;
     let notes = "line 1: refused Empty\nline 2: refused TooLong\nline 3: refused NoPort\n";
-    let frames = [Small { byte: 7, ..FIRST }];
-    let wanted = expected(rt.alloc(), notes, &frames)?;
-    let mut text = Vec::new(rt.alloc());
-    let told = run(&rt, rt.alloc(), script.as_bytes(), &mut text)?;
-    assert_eq!(rt; told, sums(1, 3, 1));
-    assert_eq!(rt; text.as_slice(), wanted.as_bytes());
+    let wanted = expected(rt.alloc(), notes, &[Small { byte: 7, ..FIRST }])?;
+    let told = Ok(sums(1, 3, 1));
+    assert_run(&rt, rt.alloc(), script.as_bytes(), told, wanted.as_bytes());
     Ok(())
 }
 
 #[test]
 fn an_earlier_moment_is_refused_and_an_equal_one_is_not(rt: HostRuntime) -> Result<(), Fail> {
-    let script = "send 10 01\nsend 10 02\nat 18446744073709551615\nat 18446744073709551615\nat 5\n";
-    let frames = [Small {
+    let script =
+        b"send 10 01\nsend 10 02\nat 18446744073709551615\nat 18446744073709551615\nat 5\n";
+    let last = Small {
         at: u64::MAX,
         ..FIRST
-    }];
-    let wanted = expected(rt.alloc(), "line 5: refused TimeBack\n", &frames)?;
-    let mut text = Vec::new(rt.alloc());
-    let told = run(&rt, rt.alloc(), script.as_bytes(), &mut text)?;
-    assert_eq!(rt; told, sums(2, 1, 1));
-    assert_eq!(rt; text.as_slice(), wanted.as_bytes());
+    };
+    let wanted = expected(rt.alloc(), "line 5: refused TimeBack\n", &[last])?;
+    let told = Ok(sums(2, 1, 1));
+    assert_run(&rt, rt.alloc(), script.as_slice(), told, wanted.as_bytes());
     Ok(())
 }
 
-#[test]
-fn numbers_go_on_with_1_after_255(rt: HostRuntime) -> Result<(), Fail> {
-    let mut script = String::new(rt.alloc());
-    let mut frames = Vec::new(rt.alloc());
+// The message 01 and a poll, a gap apart, so often that the numbers begin again.
+fn sends_to_256(alloc: Global) -> Result<String, AllocError> {
+    let mut script = String::new(alloc);
+    for place in 0..257u64 {
+        writeln!(script, "send 10 01\nat {}", 1_000 * place)?;
+    }
+    Ok(script)
+}
+
+// Their frames.
+fn frames_to_256(alloc: Global) -> Result<Vec<Small>, AllocError> {
+    let mut frames = Vec::new(alloc);
     for place in 0..257u16 {
-        let at = 1_000 * u64::from(place);
-        writeln!(script, "send 10 01\nat {at}")?;
         frames.push(Small {
-            at,
+            at: 1_000 * u64::from(place),
             ident: 4 * place,
             checksum: 0xcdee - 4 * place,
             byte: 1,
             number: if place < 256 { place as u8 } else { 1 },
         })?;
     }
+    Ok(frames)
+}
+
+#[test]
+fn numbers_go_on_with_1_after_255(rt: HostRuntime) -> Result<(), Fail> {
+    let script = sends_to_256(rt.alloc())?;
+    let frames = frames_to_256(rt.alloc())?;
     let wanted = expected(rt.alloc(), "", &frames)?;
-    let mut text = Vec::new(rt.alloc());
-    let told = run(&rt, rt.alloc(), script.as_bytes(), &mut text)?;
-    assert_eq!(rt; told, sums(257, 0, 257));
-    assert_eq!(rt; text.as_slice(), wanted.as_bytes());
+    let told = Ok(sums(257, 0, 257));
+    assert_run(&rt, rt.alloc(), script.as_bytes(), told, wanted.as_bytes());
     Ok(())
+}
+
+// A line behind one that sends a message.
+fn second_line(alloc: Global, line: &[u8]) -> Result<Vec<u8>, AllocError> {
+    let mut script = b"send 10 01\n".as_slice().to_vec(alloc)?;
+    script.extend_from_slice(line)?;
+    Ok(script)
 }
 
 #[test]
@@ -149,13 +160,14 @@ fn a_fault_tells_its_line(rt: HostRuntime) -> Result<(), Fail> {
         (&long, LineFault::Long),
     ];
     for (line, fault) in lines {
-        let mut script = Vec::new(rt.alloc());
-        script.extend_from_slice(b"send 10 01\n")?;
-        script.extend_from_slice(line)?;
-        let mut text = Vec::new(rt.alloc());
-        let told = run(&rt, rt.alloc(), script.as_slice(), &mut text);
-        assert_eq!(rt; told, Err(at_line(2, fault)));
-        assert_eq!(rt; text.len(), 0);
+        let script = second_line(rt.alloc(), line)?;
+        assert_run(
+            &rt,
+            rt.alloc(),
+            script.as_slice(),
+            Err(at_line(2, fault)),
+            b"",
+        );
     }
     Ok(())
 }
@@ -177,39 +189,50 @@ impl Read for Interrupted<'_> {
 fn notes_and_frames_so_far_are_written_after_a_fault(rt: HostRuntime) -> Result<(), Fail> {
     let script = b"\nsend 99 01\nsend 10 01\nat 0\nsend 10 02\nsend\nat 1000\n";
     let wanted = expected(rt.alloc(), "line 2: refused NoPort\n", &[FIRST])?;
-    let mut text = Vec::new(rt.alloc());
-    let told = run(&rt, rt.alloc(), script.as_slice(), &mut text);
-    assert_eq!(rt; told, Err(at_line(6, LineFault::Word)));
-    assert_eq!(rt; text.as_slice(), wanted.as_bytes());
-    text.clear();
-    let told = run(&rt, rt.alloc(), Interrupted(&script[..40]), &mut text);
-    assert_eq!(rt; told, Err(RunFault::Read));
-    assert_eq!(rt; text.as_slice(), wanted.as_bytes());
+    let told = Err(at_line(6, LineFault::Word));
+    assert_run(&rt, rt.alloc(), script.as_slice(), told, wanted.as_bytes());
+    let reader = Interrupted(&script[..40]);
+    assert_run(
+        &rt,
+        rt.alloc(),
+        reader,
+        Err(RunFault::Read),
+        wanted.as_bytes(),
+    );
     Ok(())
 }
 
+// A script over a writer with room for so many bytes.
+fn run_within<T: Wait>(
+    rt: &T,
+    alloc: Global,
+    size: usize,
+    script: &[u8],
+) -> Result<Summary, RunFault> {
+    let mut room = vec![in alloc; 0u8; size].map_err(|_| RunFault::Memory)?;
+    let mut text = room.as_mut_slice();
+    run(rt, alloc, script, &mut text)
+}
+
 #[test]
-fn a_writer_that_fails_ends_the_run(rt: HostRuntime) -> Result<(), Fail> {
+fn a_writer_that_fails_ends_the_run(rt: HostRuntime) {
     for size in [10, 30, 200] {
-        let mut room = vec![in rt.alloc(); 0u8; size]?;
-        let mut text = room.as_mut_slice();
-        let script = b"send 99 01\nsend 10 01\nat 0\n";
-        let told = run(&rt, rt.alloc(), script.as_slice(), &mut text);
+        let told = run_within(&rt, rt.alloc(), size, b"send 99 01\nsend 10 01\nat 0\n");
         assert_eq!(rt; told, Err(RunFault::Write), "at {size}");
     }
-    Ok(())
 }
 
 #[test]
 fn a_script_has_1_000_000_lines_at_most(rt: HostRuntime) -> Result<(), Fail> {
-    let script = vec![in rt.alloc(); b'\n'; 1_000_000]?;
-    let mut text = Vec::new(rt.alloc());
-    let told = run(&rt, rt.alloc(), script.as_slice(), &mut text);
-    assert_eq!(rt; told, Ok(sums(0, 0, 0)));
-    let mut script = script;
+    let mut script = vec![in rt.alloc(); b'\n'; 1_000_000]?;
+    assert_run(&rt, rt.alloc(), script.as_slice(), Ok(sums(0, 0, 0)), b"");
     script.extend_from_slice(b"at x")?;
-    let told = run(&rt, rt.alloc(), script.as_slice(), &mut text);
-    assert_eq!(rt; told, Err(RunFault::Lines));
-    assert_eq!(rt; text.len(), 0);
+    assert_run(
+        &rt,
+        rt.alloc(),
+        script.as_slice(),
+        Err(RunFault::Lines),
+        b"",
+    );
     Ok(())
 }

@@ -1,8 +1,9 @@
-use crate::helpers::{FIRST, Small, at_line, expected, run};
+use crate::helpers::{FIRST, Small, assert_run, at_line, expected, run, sums, transcript};
 use std::alloc::{AllocError, Global};
 use std::io::{self, Read, Write};
+use std::sync::Wait;
 use std::test::Fail;
-use tx_script::{LineFault, RunFault};
+use tx_script::{LineFault, RunFault, Summary};
 
 // The lines of the first message, of the one byte 01, that went out at a moment.
 fn first_at(alloc: Global, at: u64) -> Result<String, AllocError> {
@@ -39,12 +40,14 @@ impl Read for Single<'_> {
 
 #[test]
 fn a_reader_may_give_one_byte_a_call(rt: HostRuntime) -> Result<(), Fail> {
-    let mut text = Vec::new(rt.alloc());
-    let told = run(&rt, rt.alloc(), Single(LATE.as_bytes()), &mut text)?;
-    assert_eq!(rt; (told.accepted, told.refused, told.frames), (2, 1, 1));
-    assert_eq!(rt;
-        text.as_slice(),
-        late_text(rt.alloc(), LATE.len())?.as_bytes()
+    let wanted = late_text(rt.alloc(), LATE.len())?;
+    let reader = Single(LATE.as_bytes());
+    assert_run(
+        &rt,
+        rt.alloc(),
+        reader,
+        Ok(sums(2, 1, 1)),
+        wanted.as_bytes(),
     );
     Ok(())
 }
@@ -65,11 +68,10 @@ impl Read for Broken<'_> {
 #[test]
 fn a_reader_that_fails_at_any_byte_ends_the_run_there(rt: HostRuntime) -> Result<(), Fail> {
     for bytes in 0..=LATE.len() {
-        let mut text = Vec::new(rt.alloc());
-        let reader = Broken(&LATE.as_bytes()[..bytes]);
-        let told = run(&rt, rt.alloc(), reader, &mut text);
-        assert_eq!(rt; told, Err(RunFault::Read), "at {bytes}");
         let wanted = late_text(rt.alloc(), bytes)?;
+        let reader = Broken(&LATE.as_bytes()[..bytes]);
+        let (told, text) = transcript(&rt, rt.alloc(), reader);
+        assert_eq!(rt; told, Err(RunFault::Read), "at {bytes}");
         assert_eq!(rt; text.as_slice(), wanted.as_bytes(), "at {bytes}");
     }
     Ok(())
@@ -95,32 +97,42 @@ impl Write for Limited {
     }
 }
 
+// What a script comes to over a writer that takes so many writes, and how many of them are left.
+fn run_limited<T: Wait>(rt: &T, alloc: Global, left: u32) -> (Result<Summary, RunFault>, u32) {
+    let script = b"send 99 01\nsend 10 01\nat 0\nat 5\nat 0\n";
+    let mut writer = Limited { left };
+    let told = run(rt, alloc, script.as_slice(), &mut writer);
+    (told, writer.left)
+}
+
 #[test]
-fn a_writer_that_fails_at_any_write_ends_the_run(rt: HostRuntime) -> Result<(), Fail> {
-    let script = "send 99 01\nsend 10 01\nat 0\nat 5\nat 0\n";
-    let mut whole = Limited { left: 1_000 };
-    let told = run(&rt, rt.alloc(), script.as_bytes(), &mut whole)?;
-    assert_eq!(rt; (told.accepted, told.refused, told.frames), (1, 2, 1));
-    let writes = 1_000u32.saturating_sub(whole.left);
+fn a_writer_that_fails_at_any_write_ends_the_run(rt: HostRuntime) {
+    let (told, unused) = run_limited(&rt, rt.alloc(), 1_000);
+    assert_eq!(rt; told, Ok(sums(1, 2, 1)));
+    let writes = 1_000u32.saturating_sub(unused);
     assert!(rt; writes > 4);
     for left in 0..writes {
-        let mut writer = Limited { left };
-        let told = run(&rt, rt.alloc(), script.as_bytes(), &mut writer);
+        let (told, left_over) = run_limited(&rt, rt.alloc(), left);
         assert_eq!(rt; told, Err(RunFault::Write), "at {left}");
-        assert_eq!(rt; writer.left, 0, "at {left}");
+        assert_eq!(rt; left_over, 0, "at {left}");
     }
-    Ok(())
 }
 
 #[test]
 fn lines_may_end_in_carriage_returns_and_have_many_blanks(rt: HostRuntime) -> Result<(), Fail> {
     let script =
         b"\r\n  send\t10   01 \r\n\t\t# \x00\xff\xc3\xa9\r\n \t \r\n at \t 0\r\n   at     1000";
-    let mut text = Vec::new(rt.alloc());
-    let told = run(&rt, rt.alloc(), script.as_slice(), &mut text)?;
-    assert_eq!(rt; (told.accepted, told.refused, told.frames), (1, 0, 1));
-    assert_eq!(rt; text.as_slice(), first_at(rt.alloc(), 0)?.as_bytes());
+    let wanted = first_at(rt.alloc(), 0)?;
+    let told = Ok(sums(1, 0, 1));
+    assert_run(&rt, rt.alloc(), script.as_slice(), told, wanted.as_bytes());
     Ok(())
+}
+
+// A line behind two that send a message.
+fn third_line(alloc: Global, line: &[u8]) -> Result<Vec<u8>, AllocError> {
+    let mut script = b"send 10 01\r\nat 0\r\n".as_slice().to_vec(alloc)?;
+    script.extend_from_slice(line)?;
+    Ok(script)
 }
 
 #[test]
@@ -135,14 +147,11 @@ fn odd_bytes_are_no_words_and_no_numbers(rt: HostRuntime) -> Result<(), Fail> {
         (b"send 10 0\x00", LineFault::Hex),
         (b"send 10 \xff\xff", LineFault::Hex),
     ];
+    let wanted = first_at(rt.alloc(), 0)?;
     for (line, fault) in lines {
-        let mut script = Vec::new(rt.alloc());
-        script.extend_from_slice(b"send 10 01\r\nat 0\r\n")?;
-        script.extend_from_slice(line)?;
-        let mut text = Vec::new(rt.alloc());
-        let told = run(&rt, rt.alloc(), script.as_slice(), &mut text);
-        assert_eq!(rt; told, Err(at_line(3, fault)));
-        assert_eq!(rt; text.as_slice(), first_at(rt.alloc(), 0)?.as_bytes());
+        let script = third_line(rt.alloc(), line)?;
+        let told = Err(at_line(3, fault));
+        assert_run(&rt, rt.alloc(), script.as_slice(), told, wanted.as_bytes());
     }
     Ok(())
 }
@@ -156,19 +165,23 @@ fn prefix_fault(bytes: usize) -> Option<RunFault> {
     }
 }
 
+// What is written of them: the frame, once the poll was read.
+fn prefix_text(alloc: Global, bytes: usize) -> Result<String, AllocError> {
+    if bytes >= 15 {
+        first_at(alloc, 0)
+    } else {
+        Ok(String::new(alloc))
+    }
+}
+
 #[test]
 fn each_prefix_of_a_script_has_its_fault_or_none(rt: HostRuntime) -> Result<(), Fail> {
     let script = "send 10 01\nat 0\n";
     for bytes in 0..=script.len() {
-        let mut text = Vec::new(rt.alloc());
-        let told = run(&rt, rt.alloc(), &script.as_bytes()[..bytes], &mut text);
+        let wanted = prefix_text(rt.alloc(), bytes)?;
+        let (told, text) = transcript(&rt, rt.alloc(), &script.as_bytes()[..bytes]);
         assert_eq!(rt; told.err(), prefix_fault(bytes), "at {bytes}");
-        if bytes >= 15 {
-            let wanted = first_at(rt.alloc(), 0)?;
-            assert_eq!(rt; text.as_slice(), wanted.as_bytes(), "at {bytes}");
-        } else {
-            assert_eq!(rt; text.len(), 0, "at {bytes}");
-        }
+        assert_eq!(rt; text.as_slice(), wanted.as_bytes(), "at {bytes}");
     }
     Ok(())
 }
