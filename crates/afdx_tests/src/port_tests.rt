@@ -48,6 +48,18 @@ type Tx = Emitter<MemNetwork, MemNetwork>;
 
 type Drain = Draining<MemNetwork, MemNetwork>;
 
+/// Each of the two ports of an emitter.
+fn take_two(tx: &Tx, mut ports: Vec<TxPort>) -> Result<(TxPort, TxPort), Fail>
+    requires { AreOpenedWith tx.now ports.items }
+    ensures first { IfOk result (λ two. IsPortOfTx tx.now two.0) }
+    ensures second { IfOk result (λ two. IsPortOfTx tx.now two.1) }
+{
+    match (ports.pop(), ports.pop()) {
+        (Some(second), Some(first)) => Ok((first, second)),
+        _ => Err(Fail::from("two ports")),
+    }
+}
+
 /// An emitter of these two ports, and each of them.
 fn open_pair(alloc: Global) -> Result<(Tx, TxPort, TxPort), Fail>
     ensures first { IfOk result (λ opened. IsPortOfTx opened.0 opened.1) }
@@ -55,11 +67,9 @@ fn open_pair(alloc: Global) -> Result<(Tx, TxPort, TxPort), Fail>
 {
     let config = read_config(alloc, TWO_PORTS.as_bytes())?;
     let (a, b) = (MemNetwork::new(alloc), MemNetwork::new(alloc));
-    let (tx, mut ports) = open(alloc, config, a, b)?;
-    match (ports.pop(), ports.pop()) {
-        (Some(second), Some(first)) => Ok((tx, first, second)),
-        _ => Err(Fail::from("two ports")),
-    }
+    let (tx, ports) = open(alloc, config, a, b)?;
+    let (first, second) = take_two(&tx, ports)?;
+    Ok((tx, first, second))
 }
 
 /// Asserts that a message is refused, and comes back.
