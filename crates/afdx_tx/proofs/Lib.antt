@@ -15,4 +15,3 @@ pub mod SeatSteps
 pub mod GatheredEmitter
 pub mod GatheredPorts
 pub mod PollingLinks
-pub mod DrainEnding

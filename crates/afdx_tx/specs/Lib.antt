@@ -8,4 +8,3 @@ pub mod Rooms
 pub mod Drain
 pub mod Gathering
 pub mod Done
-pub mod DrainEnds

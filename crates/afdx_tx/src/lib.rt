@@ -6,7 +6,6 @@ mod draining;
 mod emitter;
 mod fault;
 mod gather;
-pub mod laws;
 mod open;
 mod port;
 mod report;
