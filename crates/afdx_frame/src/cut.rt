@@ -17,7 +17,7 @@ use arrayvec::ArrayVec;
 use std::marker::Model;
 
 /// A message of a port at a place of its sub-VL, which is given frame by frame: the datagram's
-/// bytes before `start` were given. It takes no memory beyond the message.
+/// bytes before `start` were given. Its calls' bodies ask for no memory beyond the message.
 #[derive(Drop)]
 pub struct Cut {
     bytes: Vec<u8>,

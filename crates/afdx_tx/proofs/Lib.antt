@@ -15,3 +15,4 @@ pub mod SeatSteps
 pub mod GatheredEmitter
 pub mod GatheredPorts
 pub mod PollingLinks
+pub mod DrainEnding

@@ -2,7 +2,8 @@
 use Rattle.std.proofs.Common.{ℕ, ◌≡◌, ◌+◌, ◌<◌, ◌≤◌, List, [], ◌++◌, Bool, true, false, length, set, refl, arith, ap, sym, subst, inl}
 use Rattle.std.proofs.lemmas.List.{set-get_or, append-nil}
 use Rattle.afdx_frame.specs.declared.net.Net.TheVariants.{A}
-use Rattle.redundant_mux.specs.Lines.{Lines, log, is_alive}
+use Rattle.redundant_mux.specs.Lines.{Lines, BothEndure, log, is_alive}
+use Rattle.redundant_mux.proofs.Enduring.{both_none, both_on}
 use Rattle.vl_shaper.specs.Pace.{IsLater, is_due}
 use Rattle.afdx_legal.specs.Legal.{AreKnown}
 use Rattle.vl_link.specs.declared.served.Served.{Served}
@@ -50,20 +51,22 @@ polling_none now links lines released none each kept later known alive whole = r
   };
   told = record { entries = []; grown = sym (append-nil (log lines)); named = sym none; moments = refl };
   room = omega (arith, ap length none);
+  endure = both_none lines;
 }
 
 -- one more link had its turn
 pub polling_more : (now i : ℕ) (old links : List LinkState) (before lines after : Lines) (new : LinkState) (did : Served)
     (released : List Release) → IsPolling now i old links before lines released → AreApart old → i < length links
     → Turned now (link_at links i) new lines after did → is_lost did ≡ false → IsLater new.pace.last now
-    → IsPolling now (i + 1) old (set links i new) before after
+    → BothEndure lines after → IsPolling now (i + 1) old (set links i new) before after
     (released ++ turn_release (link_at links i).plan.id did)
-polling_more now i old links before lines after new did released p apart lt turned kept later =
+polling_more now i old links before lines after new did released p apart lt turned kept later endure =
     let s = p.serving in
     record {
       serving = serving_more now i old links before lines after new did s apart lt turned kept later;
       told = told_more now did (link_at links i) new released before lines after turned p.told;
       room = few_released (link_at links i).plan.id did released i p.room;
+      endure = both_on before lines after p.endure endure;
     }
 
 -- the same, of what is equal
@@ -99,4 +102,4 @@ polling_on now i old links before lines released p apart lt early =
     subst (λ (ls : List LinkState). IsPolling now (i + 1) old ls before lines released) (set-get_or links i no_link)
     (subst (λ (rs : List Release). IsPolling now (i + 1) old (set links i link) before lines rs) (append-nil released)
     (polling_more now i old links before lines lines link Nothing released p apart lt
-    (idle_turn now link lines early later (s.whole i lt) (s.steady.kept i lt)) refl later))
+    (idle_turn now link lines early later (s.whole i lt) (s.steady.kept i lt)) refl later (both_none lines)))

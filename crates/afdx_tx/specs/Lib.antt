@@ -8,3 +8,4 @@ pub mod Rooms
 pub mod Drain
 pub mod Gathering
 pub mod Done
+pub mod DrainEnds

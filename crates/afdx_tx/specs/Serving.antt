@@ -1,7 +1,7 @@
 -- What the turns of a poll keep, up to some link.
 use Rattle.std.specs.Prelude.{ℕ, ◌≡◌, ◌≤◌, List, length, drop, true}
 use Rattle.afdx_frame.specs.declared.net.Net.TheVariants.{A}
-use Rattle.redundant_mux.specs.Lines.{Lines, log, is_alive}
+use Rattle.redundant_mux.specs.Lines.{Lines, BothEndure, log, is_alive}
 use Rattle.afdx_tx.specs.declared.report.Release.{Release}
 use Rattle.afdx_legal.specs.Legal.{AreKnown}
 use Rattle.vl_link.specs.Links.{LinkState}
@@ -26,9 +26,11 @@ pub record IsServing (now i : ℕ) (old links : List LinkState) (before lines : 
   pub alive : is_alive lines ≡ true
   pub whole : AreWhole links
 
--- the first i links had their turns, and at most so many releases are told
+-- the first i links had their turns, at most so many releases are told, and a network is down only
+-- where it was or failed
 pub record IsPolling (now i : ℕ) (old links : List LinkState)
     (before lines : Lines) (released : List Release) : Type 0 where
   pub serving : IsServing now i old links before lines
   pub told : IsTold now released before lines
   pub room : length released ≤ i
+  pub endure : BothEndure before lines

@@ -28,7 +28,7 @@ impl<A: Network + Drop, B: Network + Drop> Model for Draining<A, B> {
 
 impl<A: Network + Drop, B: Network + Drop> Draining<A, B> {
     ghost use Rattle.std.specs.Prelude.{◌≡◌, ◌≤◌, ◌↔◌, true, false, IsTrue, IsErr, OnErr, OnOk, IfOk};
-    ghost use Rattle.redundant_mux.specs.Lines.{is_alive, log, IsMirrored};
+    ghost use Rattle.redundant_mux.specs.Lines.{BothEndure, is_alive, log, IsMirrored};
     ghost use Rattle.afdx_legal.specs.Legal.{IsLegal};
     ghost use Rattle.afdx_tx.specs.Report.{Polls};
     ghost use Rattle.afdx_tx.specs.Drain.{AreGathered, IsAllDone, IsDrained, IsDrainCutShort, accepted_in};
@@ -80,7 +80,7 @@ impl<A: Network + Drop, B: Network + Drop> Draining<A, B> {
     /// Gives each link its turn at a moment, in microseconds, in the order of the configuration,
     /// until the last network fails. A due link with an accepted message that isn't wholly released
     /// releases exactly one frame (ARINC 664 Part 7, bandwidth allocation gap). After `BothDown`
-    /// nothing has changed. Takes no memory.
+    /// nothing has changed. Its body asks for no memory.
     pub fn poll<R: Wait>(&mut self, rt: &R, now: u64) -> Result<Report, PollFault>
         requires { self.old.moment ≤ now }
         ensures both_down { IsErr result ↔ (is_alive self.old.lines ≡ false) }
@@ -90,6 +90,7 @@ impl<A: Network + Drop, B: Network + Drop> Draining<A, B> {
         ensures plan { self.new.plan ≡ self.old.plan }
         ensures accepted { accepted_in self.new.links ≡ accepted_in self.old.links }
         ensures mirrored { IsMirrored self.new.lines }
+        ensures endure { BothEndure self.old.lines self.new.lines }
         ensures told { IfOk result (λ report. Polls now self.old report self.new) }
         ensures run { OnOk result
             (is_alive self.new.lines ≡ true →

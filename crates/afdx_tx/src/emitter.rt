@@ -34,7 +34,7 @@ impl<A: Network + Drop, B: Network + Drop> Model for Emitter<A, B> {
 impl<A: Network + Drop, B: Network + Drop> Emitter<A, B> {
     ghost use Rattle.std.specs.Prelude.{◌≡◌, ◌≤◌, ◌↔◌, [], true, false, length, IsErr, OnErr, OnOk, IfOk, IfErr};
     ghost use Rattle.afdx_plan.specs.Config.{IsPlan};
-    ghost use Rattle.redundant_mux.specs.Lines.{is_alive, log, IsMirrored};
+    ghost use Rattle.redundant_mux.specs.Lines.{BothEndure, is_alive, log, IsMirrored};
     ghost use Rattle.afdx_legal.specs.Legal.{IsLegal};
     ghost use Rattle.afdx_tx.specs.Run.{IsRun, IsCutShort};
     ghost use Rattle.afdx_tx.specs.Report.{Polls};
@@ -96,7 +96,7 @@ impl<A: Network + Drop, B: Network + Drop> Emitter<A, B> {
     /// Gives each link its turn at a moment, in microseconds, in the order of the configuration,
     /// until the last network fails. A due link with something to send releases exactly one frame
     /// (ARINC 664 Part 7, bandwidth allocation gap). After `BothDown` nothing has changed. It may
-    /// wait for a port that is in the middle of a send. Takes no memory.
+    /// wait for a port that is in the middle of a send. Its body asks for no memory.
     pub fn poll<R: Wait>(&mut self, rt: &R, now: u64) -> Result<Report, PollFault>
         requires { self.old.moment ≤ now }
         ensures both_down { IsErr result ↔ (is_alive self.old.lines ≡ false) }
@@ -106,6 +106,7 @@ impl<A: Network + Drop, B: Network + Drop> Emitter<A, B> {
         ensures plan { self.new.plan ≡ self.old.plan }
         ensures queues { queues_in self.new.links ≡ queues_in self.old.links }
         ensures mirrored { IsMirrored self.new.lines }
+        ensures endure { BothEndure self.old.lines self.new.lines }
         ensures told { IfOk result (λ report. Polls now self.old report self.new) }
         ensures run { OnOk result
             (is_alive self.new.lines ≡ true →
@@ -119,8 +120,8 @@ impl<A: Network + Drop, B: Network + Drop> Emitter<A, B> {
 
     /// Takes all ports back, in any order, so that what they had accepted is known whole and can be
     /// sent to its end. Refused exactly where a port of the configuration isn't in the list; then
-    /// both come back as they were. It may wait for a port's last message to be ready. Takes no
-    /// memory.
+    /// both come back as they were. It may wait for a port's last message to be ready. Its
+    /// body asks for no memory.
     pub fn gather<R: Wait>(
         self,
         rt: &R,

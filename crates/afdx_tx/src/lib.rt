@@ -6,6 +6,7 @@ mod draining;
 mod emitter;
 mod fault;
 mod gather;
+pub mod laws;
 mod open;
 mod port;
 mod report;

@@ -104,7 +104,7 @@ impl TxPort {
     /// Puts a message at the end of the queue of its sub-VL, or hands it back and says why: it has
     /// no bytes, it is over the port's greatest message, or its queue refused it. Where the length
     /// is refused nothing has changed; otherwise only how often the port asked. The call may wait
-    /// for a poll that is in the middle of a take. Takes no memory.
+    /// for a poll that is in the middle of a take. Its body asks for no memory.
     pub fn send<R: Wait>(&mut self, rt: &R, bytes: Vec<u8>) -> Result<(), SendFault>
         ensures accepted { IfOk result (λ _. Accepts self.old bytes.items self.new) }
         ensures sendable { IfOk result (λ _. MaySend self.old.plan (length bytes.items)) }

@@ -2,7 +2,7 @@
 ghost use Rattle.std.specs.Prelude.{◌≡◌, ◌<◌, ◌≤◌, ◌++◌, [], true, false, length};
 ghost use Rattle.arrayvec.specs.ArrayVec.{array_vec_len};
 ghost use Rattle.afdx_frame.specs.declared.net.Net.TheVariants.{A as ForA};
-ghost use Rattle.redundant_mux.specs.Lines.{is_alive, log, IsMirrored};
+ghost use Rattle.redundant_mux.specs.Lines.{BothEndure, is_alive, log, IsMirrored};
 ghost use Rattle.afdx_legal.specs.Legal.{AreKnown};
 ghost use Rattle.afdx_tx.specs.Run.{IsRun, IsCutShort};
 ghost use Rattle.afdx_tx.specs.Report.{IsTold, turn_release};
@@ -56,6 +56,7 @@ fn serve_all<R: Wait, A: Network + Drop, B: Network + Drop>(
         IsCutShort now links.old links.new mux.old mux.new }
     ensures whole { is_alive mux.new ≡ true → AreWhole links.new }
     ensures told { IsTold now released.new.items mux.old mux.new }
+    ensures endure { BothEndure mux.old mux.new }
 {
     for link in links.iter_mut() {
         // Most links aren't due at most polls: that costs a comparison.
@@ -123,7 +124,7 @@ impl<A: Network + Drop, B: Network + Drop> Model for Transmitter<A, B> {
 impl<A: Network + Drop, B: Network + Drop> Transmitter<A, B> {
     ghost use Rattle.std.specs.Prelude.{◌≡◌, ◌≤◌, ◌↔◌, [], true, false, length, IsTrue, IsErr, OnErr, OnOk, IfOk};
     ghost use Rattle.afdx_plan.specs.Config.{IsPlan};
-    ghost use Rattle.redundant_mux.specs.Lines.{is_alive, log, IsMirrored};
+    ghost use Rattle.redundant_mux.specs.Lines.{BothEndure, is_alive, log, IsMirrored};
     ghost use Rattle.afdx_legal.specs.Legal.{IsLegal};
     ghost use Rattle.afdx_tx.specs.Run.{IsRun, IsCutShort};
     ghost use Rattle.afdx_tx.specs.Report.{Polls};
@@ -206,6 +207,7 @@ impl<A: Network + Drop, B: Network + Drop> Transmitter<A, B> {
         ensures same { IsSamePlan self.old.links self.new.links }
         ensures of_plan { AreLinksOf self.old.plan self.old.links }
         ensures mirrored { IsMirrored self.new.lines }
+        ensures endure { BothEndure self.old.lines self.new.lines }
         ensures told { IfOk result (λ report. Polls now self.old report self.new) }
         ensures run { OnOk result
             (is_alive self.new.lines ≡ true →

@@ -1,1 +1,2 @@
 pub mod MirroredLines
+pub mod Enduring

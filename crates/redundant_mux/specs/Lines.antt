@@ -1,5 +1,5 @@
 -- What was handed to two networks, and which of them still stand.
-use Rattle.std.specs.Prelude.{ℕ, ◌≡◌, ◌⊎◌, ◌+◌, ◌≤◌, List, [], ◌∷◌, ◌++◌, Bool, true, false, ◌||◌, if◌then◌else◌, nat_lt, length, map, take}
+use Rattle.std.specs.Prelude.{ℕ, ◌≡◌, ◌⊎◌, ◌↔◌, ◌+◌, ◌≤◌, List, [], ◌∷◌, ◌++◌, Bool, true, false, ◌||◌, if◌then◌else◌, nat_lt, length, map, take}
 use Rattle.afdx_frame.specs.Twin.{twin_of}
 use Rattle.afdx_frame.specs.declared.net.Net.{Net}
 use Rattle.afdx_frame.specs.declared.net.Net.TheVariants.{A, B}
@@ -29,6 +29,19 @@ Handing handed true false old new f g = (new ≡ old) × (g ≡ f + 1)
 Handing handed false false old new f g = (new ≡ old) × (g ≡ f)
 -- it doesn't come back
 Handing handed false true old new f g = ⊥
+
+-- One network through some hands: it stands afterwards exactly where it stood and none of them failed;
+-- at most one fails; and while it is down it gets nothing.
+pub record Endures (stood stands : Bool) (old new : List Entry) (failures_old failures_new : ℕ) : Type 0 where
+  pub stays : (stands ≡ true) ↔ ((stood ≡ true) × (failures_new ≡ failures_old))
+  pub least : failures_old ≤ failures_new
+  pub most : failures_new ≤ failures_old + 1
+  pub down : stood ≡ false → (new ≡ old) × (failures_new ≡ failures_old)
+
+-- both networks through some hands
+pub record BothEndure (before after : Lines) : Type 0 where
+  pub a : Endures before.a_stands after.a_stands before.a after.a before.a_failures after.a_failures
+  pub b : Endures before.b_stands after.b_stands before.b after.b before.b_failures after.b_failures
 
 -- some network stands
 abbrev pub is_alive : Lines → Bool

@@ -3,7 +3,7 @@ ghost use Rattle.std.specs.Prelude.{◌≡◌, ℕ, ◌≤◌, ◌↔◌, [], �
 ghost use Rattle.afdx_frame.specs.Twin.{twin_of};
 ghost use Rattle.afdx_frame.specs.declared.net.Net.TheVariants.{A as ForA, B as ForB};
 ghost use Rattle.redundant_mux.specs.Entry.{entry};
-ghost use Rattle.redundant_mux.specs.Lines.{Handing, is_alive, log, IsMirrored};
+ghost use Rattle.redundant_mux.specs.Lines.{Handing, BothEndure, is_alive, log, IsMirrored};
 
 use crate::network::Network;
 use afdx_frame::{Frame, GREATEST_FRAME, Net, make_twin};
@@ -146,6 +146,7 @@ impl<A: Network + Drop, B: Network + Drop> Mux<A, B> {
         ensures enters { is_alive self.new ≡ true →
             log self.new ≡ log self.old ++ entry at frame.now.items ∷ [] }
         ensures lost { is_alive self.new ≡ false → log self.new ≡ log self.old }
+        ensures endure { BothEndure self.old self.new }
         ensures mirrored { IsMirrored self.new }
         ensures a_stands { IfOk result (λ standing. standing.a ≡ self.new.a_stands) }
         ensures b_stands { IfOk result (λ standing. standing.b ≡ self.new.b_stands) }

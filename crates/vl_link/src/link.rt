@@ -2,7 +2,7 @@
 ghost use Rattle.std.specs.Prelude.{◌≡◌, ◌≢◌, ℕ, ◌+◌, ◌<◌, [], true, false, ◌||◌, Some, length, IfSome, IfNone};
 ghost use Rattle.afdx_plan.specs.Numbers.{sequence_number};
 ghost use Rattle.vl_shaper.specs.Pace.{IsLater, is_due};
-ghost use Rattle.redundant_mux.specs.Lines.{is_alive, log};
+ghost use Rattle.redundant_mux.specs.Lines.{BothEndure, is_alive, log};
 ghost use Rattle.afdx_legal.specs.Streams.{link_stream};
 ghost use Rattle.vl_link.specs.Links.{pace_of, AreSubsOf, IsSameSub, AreSameSubs, Serves, Follows, SendsNext, FailsNext, IsPicked, PassedOver};
 ghost use Rattle.vl_link.specs.LinkDone.{TellsSubsDone};
@@ -65,6 +65,7 @@ fn send_next<A: Network + Drop, B: Network + Drop>(
     ensures last { shaper.new.last ≡ Some (record { at = now; sub = sub.old.of.sub }) }
     ensures gap { shaper.new.gap ≡ shaper.old.gap }
     ensures sub_vls { shaper.new.sub_vls ≡ shaper.old.sub_vls }
+    ensures endure { BothEndure mux.old mux.new }
 {
     let number = shaper.stamp(now, sub.index());
     sub.write_next(number, frame);
@@ -104,6 +105,7 @@ fn serve_due<R: Wait, A: Network + Drop, B: Network + Drop>(
     ensures gap { shaper.new.gap ≡ shaper.old.gap }
     ensures sub_vls { shaper.new.sub_vls ≡ shaper.old.sub_vls }
     ensures same { AreSameSubs subs.old subs.new }
+    ensures endure { BothEndure mux.old mux.new }
 {
     match choose(rt, shaper, subs) {
         None => Served::Nothing,
@@ -173,7 +175,7 @@ impl Link {
     ghost use Rattle.afdx_plan.specs.Numbers.{sequence_number};
     ghost use Rattle.afdx_plan.specs.Plan.{IsLink, bag_micros};
     ghost use Rattle.vl_shaper.specs.Pace.{IsLater, is_due};
-    ghost use Rattle.redundant_mux.specs.Lines.{is_alive, log};
+    ghost use Rattle.redundant_mux.specs.Lines.{BothEndure, is_alive, log};
     ghost use Rattle.afdx_legal.specs.Streams.{link_stream};
     ghost use Rattle.vl_link.specs.Links.{LinkState, AreNamed, Serves, Follows, IsSameLink, pace_of};
     ghost use Rattle.vl_link.specs.Turn.{is_lost};
@@ -253,6 +255,7 @@ impl Link {
         ensures later { IsLater self.new.pace.last now }
         ensures same { IsSameLink self.old self.new }
         ensures lost { self.new.lost ≡ (self.old.lost || is_lost result) }
+        ensures endure { BothEndure mux.old mux.new }
     {
         let did = serve_due(
             rt,

@@ -1,5 +1,6 @@
 use Rattle.std.proofs.Common.{List, ◌++◌, ◌+◌, ◌≡◌, ◌<◌, ◌∙◌, ap, sym, length, subst, set, get_or, arith, false}
 use Rattle.std.proofs.lemmas.List.{get_or_default, set-get_or}
+use Rattle.redundant_mux.proofs.Enduring.{both_on}
 use Rattle.afdx_plan.specs.declared.identifiers.VlId.{VlId}
 use Rattle.afdx_plan.specs.declared.link_plan.LinkPlan.{LinkPlan}
 use Rattle.vl_shaper.specs.Pace.{IsLater, is_due}
@@ -61,7 +62,7 @@ loop-link-preserved g c =
           (ap (λ (v : ArrayVec Release). v.items) w.released-is ∙ names)
           (polling_more c.args.now i c.args.links.now links c.args.mux.now c.loop-link.mux w.serve-did.new.mux
           w.serve-did.new.self w.serve-did.result c.loop-link.released.items p c.requires.apart lt turned
-          (sym w.is_lost.ensures ∙ w.if-is_lost.false) e.later)
+          (sym w.is_lost.ensures ∙ w.if-is_lost.false) e.later e.endure)
       | else-is_due w ↦
           let early : is_due (link_at links i).pace.gap (link_at links i).pace.last c.args.now ≡ false =
           subst (λ (l : LinkState). is_due l.pace.gap l.pace.last c.args.now ≡ false) (asked g c)
@@ -99,3 +100,7 @@ returns-then-is_lost-clause-cut_short g c = λ _.
     cut_at c.args.now c.loop-link.link-index c.args.links.now c.loop-link.links c.args.mux.now c.loop-link.mux
     c.serve-did.new.mux c.serve-did.new.self c.serve-did.result s lt (sym c.is_lost.ensures ∙ c.if-is_lost.true)
     (turned_here g c lt)
+
+pub returns-then-is_lost-clause-endure : goal.returns-then-is_lost-clause-endure
+returns-then-is_lost-clause-endure g c =
+    both_on c.args.mux.now c.loop-link.mux c.serve-did.new.mux c.loop-link.invariant.endure c.serve-did.ensures.endure

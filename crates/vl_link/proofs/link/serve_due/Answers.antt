@@ -1,4 +1,5 @@
 use Rattle.std.proofs.Common.{ℕ, Some, ◌∙◌, ap, refl, inr}
+use Rattle.redundant_mux.proofs.Enduring.{both_none}
 use Rattle.vl_link.proofs.SubInStep.{passed_same}
 use Rattle.vl_link.proofs.ChosenSub.{chosen_left, item_of, set_same, releases_at, loses_at, none_has}
 use Rattle.vl_link.proofs.PaceOfStream.{follows_more}
@@ -48,3 +49,6 @@ returns-in-None-clause-paced g c = c.requires.paced
 
 pub returns-in-None-send_next-clause-paced : goal.returns-in-None-send_next-clause-paced
 returns-in-None-send_next-clause-paced g c = tt
+
+pub returns-in-None-clause-endure : goal.returns-in-None-clause-endure
+returns-in-None-clause-endure g c = both_none c.args.mux.now

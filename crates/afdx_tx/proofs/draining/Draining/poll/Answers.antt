@@ -1,5 +1,5 @@
 use Rattle.std.proofs.Common.{◌≡◌, ◌∙◌, ◌↔◌, false, IsErr, OnErr, IfOk, ap, subst}
-use Rattle.redundant_mux.specs.Lines.{is_alive}
+use Rattle.redundant_mux.specs.Lines.{BothEndure, is_alive}
 use Rattle.afdx_tx.specs.declared.report.Report.{Report}
 use Rattle.afdx_tx.specs.Emitter.{Tx}
 use Rattle.afdx_tx.specs.Report.{Polls}
@@ -51,3 +51,7 @@ pub returns-clause-told : goal.returns-clause-told
 returns-clause-told g c =
     subst (λ (d : Tx). IfOk c.poll.result (λ (report : Report). Polls c.args.now d report c.poll.new.self)) c.self.view_is
     c.poll.ensures.told
+
+pub returns-clause-endure : goal.returns-clause-endure
+returns-clause-endure g c =
+    subst (λ (t : Tx). BothEndure t.lines c.poll.new.self.lines) c.self.view_is c.poll.ensures.endure

@@ -1,6 +1,6 @@
 use Rattle.std.proofs.Common.{◌≡◌, true, false, IfOk, OnOk, sym, subst}
 use Rattle.afdx_plan.specs.Config.{Plan}
-use Rattle.redundant_mux.specs.Lines.{is_alive}
+use Rattle.redundant_mux.specs.Lines.{BothEndure, is_alive}
 use Rattle.afdx_tx.specs.declared.report.Report.{Report}
 use Rattle.afdx_tx.specs.Emitter.{Tx, queues_in}
 use Rattle.afdx_tx.specs.Report.{Polls}
@@ -34,3 +34,7 @@ pub returns-clause-cut_short : goal.returns-clause-cut_short
 returns-clause-cut_short g c =
     subst (λ (t : Tx). OnOk c.poll.result (is_alive c.poll.new.self.lines ≡ false
     → IsCutShort c.args.now t.links c.poll.new.self.links t.lines c.poll.new.self.lines)) c.self.view_is c.poll.ensures.cut_short
+
+pub returns-clause-endure : goal.returns-clause-endure
+returns-clause-endure g c =
+    subst (λ (t : Tx). BothEndure t.lines c.poll.new.self.lines) c.self.view_is c.poll.ensures.endure

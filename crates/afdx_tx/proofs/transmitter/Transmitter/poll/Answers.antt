@@ -1,7 +1,8 @@
 use Rattle.std.proofs.Common.{◌≡◌, ◌∙◌, true, false, refl, sym, List, subst}
 use Rattle.std.proofs.lemmas.List.{with_items_is}
 use Rattle.std.specs.Vec.{with_items}
-use Rattle.redundant_mux.specs.Lines.{is_alive}
+use Rattle.redundant_mux.specs.Lines.{BothEndure, is_alive}
+use Rattle.redundant_mux.proofs.Enduring.{both_none}
 use Rattle.vl_link.specs.Links.{LinkState}
 use Rattle.vl_link.proofs.Standing.{alive_is}
 use Rattle.afdx_legal.specs.Legal.{IsLegal}
@@ -101,3 +102,10 @@ returns-clause-told g c = record {
   a_stands = c.standing-2.ensures.a;
   b_stands = c.standing-2.ensures.b;
 }
+
+pub returns-clause-endure : goal.returns-clause-endure
+returns-clause-endure g c =
+    subst (λ (t : Tx). BothEndure t.lines c.serve_all.new.mux) c.self.view_is c.serve_all.ensures.endure
+
+pub returns-then-not-some_stands-clause-endure : goal.returns-then-not-some_stands-clause-endure
+returns-then-not-some_stands-clause-endure g c = both_none c.args.self.now.lines

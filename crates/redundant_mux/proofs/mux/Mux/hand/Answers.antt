@@ -1,6 +1,7 @@
 use Rattle.std.proofs.Common.{ap}
 use Rattle.redundant_mux.specs.Entry.{entry}
 use Rattle.redundant_mux.specs.Lines.{lines_of}
+use Rattle.redundant_mux.proofs.Enduring.{both_hands}
 use Rattle.redundant_mux.proofs.MirroredLines.{HandedOn, handed_on}
 use Rattle.redundant_mux.proofs.mux.Mux.hand.Given
 use Rattle.redundant_mux.proofs.mux.Mux.hand.Goals as goal
@@ -33,3 +34,7 @@ returns-clause-lost g c = (left g c).lost
 
 pub returns-clause-mirrored : goal.returns-clause-mirrored
 returns-clause-mirrored g c = (left g c).mirrored
+
+pub returns-clause-endure : goal.returns-clause-endure
+returns-clause-endure g c =
+    rw (← c.self.view_is) (both_hands _ _ _ _ c.hand_to.ensures.handing c.hand_twin.ensures.handing)

@@ -1,0 +1,264 @@
+-- Each poll of a drain that finds a link due sends one of its frames, until it owes none.
+use Rattle.std.proofs.Common.{ℕ, zero, suc, ◌≡◌, ◌≢◌, ◌⊎◌, ◌+◌, ◌-◌, ◌<◌, ◌≤◌, List, [], ◌∷◌, ◌++◌, Bool, true, false, length, arith, refl, ap, ◌∙◌, sym, subst, Option, Some, None, inl, inr, ⊎_elim}
+use Rattle.std.proofs.lemmas.Bool.{both_ways, cases_eq, le-leb}
+use Rattle.std.proofs.lemmas.List.{length-append, length-map, length_push, nil_from_length}
+use Rattle.afdx_plan.specs.declared.identifiers.VlId.{VlId}
+use Rattle.afdx_plan.specs.declared.link_plan.LinkPlan.{LinkPlan}
+use Rattle.afdx_plan.specs.Config.{Plan, IsPlan, link_plan_at}
+use Rattle.afdx_plan.specs.Plan.{bag_micros}
+use Rattle.afdx_plan.specs.Room.{room_of}
+use Rattle.afdx_frame.specs.declared.net.Net.TheVariants.{A}
+use Rattle.afdx_frame.specs.Header.{sub_in}
+use Rattle.afdx_frame.specs.Fragments.{Sent, blanked, fragments}
+use Rattle.redundant_mux.specs.Entry.{Entry, entry}
+use Rattle.redundant_mux.specs.Lines.{Lines, log}
+use Rattle.vl_shaper.specs.declared.shaper.Stamp.{Stamp}
+use Rattle.vl_shaper.specs.Pace.{IsLater, is_due}
+use Rattle.vl_link.specs.declared.served.Served.{Served}
+use Rattle.vl_link.specs.declared.served.Served.TheVariants.{Nothing, Released, Lost}
+use Rattle.vl_link.specs.Turn.{AreTurns, is_lost}
+use Rattle.vl_link.proofs.TurnLaws.{choice_below}
+use Rattle.vl_link.proofs.PaceOfStream.{stream_more, stream_same}
+use Rattle.afdx_legal.specs.Streams.{stamp_of, latest, link_stream, sub_stream, told}
+use Rattle.afdx_legal.specs.Legal.{Accepted}
+use Rattle.afdx_legal.proofs.LongerStream.{latest_push, with_push_in, with_push_out}
+use Rattle.afdx_tx.specs.Drain.{Owes, Drains, DrainsAt, IsDrained, pace_in, accepted_view}
+use Rattle.afdx_tx.specs.DrainEnds.{owed, stream_at, owed_at, AreApartBy, AreDrained, DrainEnds}
+
+-- the fragments of the accepted messages of a sub-VL
+abbrev due_of : ℕ → LinkPlan → (ℕ → List Sent) → ℕ → List (List ℕ)
+due_of end_system link accepted sub = fragments end_system (room_of link.lmax) A (accepted sub)
+
+-- a link's stream has them all
+abbrev HasAll : ℕ → LinkPlan → (ℕ → List Sent) → List Entry → Type 0
+HasAll end_system link accepted S = (s : ℕ) → s < link.sub_vls
+    → due_of end_system link accepted s ≡ told (sub_stream s S)
+
+-- a link's stream lacked one of a sub-VL, and has one more frame of it
+record Gains (now end_system : ℕ) (link : LinkPlan) (accepted : ℕ → List Sent) (S T : List Entry) : Type 0 where
+  pub sub : ℕ
+  pub within : sub < link.sub_vls
+  pub short : length (told (sub_stream sub S)) < length (due_of end_system link accepted sub)
+  pub frame : List ℕ
+  pub of : sub_in frame ≡ sub
+  pub stream : T ≡ S ++ entry now frame ∷ []
+
+-- what a poll does to the stream of a link that is due
+abbrev Comes : (now end_system : ℕ) (link : LinkPlan) (accepted : ℕ → List Sent) (S T : List Entry) → Type 0
+Comes now end_system link accepted S T =
+    ((T ≡ S) × HasAll end_system link accepted S) ⊎ Gains now end_system link accepted S T
+
+-- a list with an end is longer than the list
+longer : (xs ys zs : List (List ℕ)) → (zs ≡ [] → ⊥) → xs ≡ ys ++ zs → length ys < length xs
+longer xs ys [] some e = absurd (some refl)
+longer xs ys (z ∷ zs) some e = omega (arith, ap length e, length-append ys (z ∷ zs))
+
+-- the turn of the link itself
+own_turn : (now end_system : ℕ) (link : LinkPlan) (accepted : ℕ → List Sent) (lines after : Lines) (did : Served)
+    → is_due (bag_micros link.bag) (latest None (link_stream link.id.0 (log lines))) now ≡ true
+    → Drains now end_system link accepted lines after did → is_lost did ≡ false
+    → Comes now end_system link accepted (link_stream link.id.0 (log lines)) (link_stream link.id.0 (log after))
+own_turn now end_system link accepted lines after Nothing due t kept = ⊎_elim
+    (λ early. absurd (both_ways _ early.0 due))
+    (λ none. inl (ap (λ (l : Lines). link_stream link.id.0 (log l)) t.1, none.1.each))
+    t.0
+own_turn now end_system link accepted lines after (Released sub number) due t kept =
+    let r = t.2 in
+    let view = accepted_view end_system link accepted (log lines) in
+    let owes : Owes end_system link accepted (log lines) sub = r.choice.chosen in
+    inr (record {
+      sub = sub;
+      within = choice_below (pace_in link (log lines)) (λ s. view.gives s r.frame) view.lacks view.rests sub r.choice;
+      short = longer _ _ owes.left owes.some owes.ahead;
+      frame = r.frame;
+      of = r.of.of_sub;
+      stream = stream_more link.id.0 now sub number r.frame lines after r.of r.enters;
+    })
+own_turn now end_system link accepted lines after Lost due t kept = absurd (both_ways true kept refl)
+
+-- the turn of another link
+other_turn : (now end_system : ℕ) (link : LinkPlan) (accepted : ℕ → List Sent) (lines after : Lines) (did : Served) (vl : ℕ)
+    → link.id.0 ≢ vl → Drains now end_system link accepted lines after did → is_lost did ≡ false
+    → link_stream vl (log after) ≡ link_stream vl (log lines)
+other_turn now end_system link accepted lines after Nothing vl ne t kept =
+    ap (λ (l : Lines). link_stream vl (log l)) t.1
+other_turn now end_system link accepted lines after (Released sub number) vl ne t kept =
+    let r = t.2 in
+    stream_same link.id.0 vl now sub number r.frame lines after r.of r.enters ne
+other_turn now end_system link accepted lines after Lost vl ne t kept = absurd (both_ways true kept refl)
+
+-- the link at a place differs from another
+abbrev IsOther : Plan → ℕ → ℕ → Type 0
+IsOther plan k j = (link_plan_at plan.links j).id.0 ≢ (link_plan_at plan.links k).id.0
+
+-- the turns of other links
+other_turns : (now : ℕ) (plan : Plan) (accepted : Accepted) (k i many : ℕ) (lines after : Lines)
+    → ((j : ℕ) → i ≤ j → j < i + many → IsOther plan k j)
+    → AreTurns (DrainsAt now plan accepted) i many lines after
+    → stream_at plan k after ≡ stream_at plan k lines
+other_turns now plan accepted k i zero lines after ne t = ap (stream_at plan k) t
+other_turns now plan accepted k i (suc many) lines after ne t =
+    other_turns now plan accepted k (i + 1) many t.0 after (λ j le lt. ne j (omega arith) (omega arith)) t.4
+    ∙ other_turn now plan.end_system (link_plan_at plan.links i) (accepted i) lines t.0 t.1 (link_plan_at plan.links k).id.0
+    (ne i (omega arith) (omega arith)) t.2 t.3
+
+-- what the poll does to the stream of the link at a place
+abbrev ComesAt : ℕ → Plan → Accepted → ℕ → (S T : List Entry) → Type 0
+ComesAt now plan accepted k S T = Comes now plan.end_system (link_plan_at plan.links k) (accepted k) S T
+
+-- the link at a place is due by its stream
+abbrev IsDueBy : ℕ → Plan → ℕ → List Entry → Type 0
+IsDueBy now plan k S = is_due (bag_micros (link_plan_at plan.links k).bag) (latest None S) now ≡ true
+
+-- the turns of all links, that of the link among them
+turns_come : (now : ℕ) (plan : Plan) (accepted : Accepted) (k i many : ℕ) (lines after : Lines)
+    → i ≤ k → k < i + many
+    → ((j : ℕ) → j < i + many → (j ≡ k → ⊥) → IsOther plan k j)
+    → IsDueBy now plan k (stream_at plan k lines)
+    → AreTurns (DrainsAt now plan accepted) i many lines after
+    → ComesAt now plan accepted k (stream_at plan k lines) (stream_at plan k after)
+turns_come now plan accepted k i zero lines after le lt ne due t = absurd (omega arith)
+turns_come now plan accepted k i (suc many) lines after le lt ne due t = ⊎_elim
+    (λ (here : i ≡ k).
+    let own = own_turn now plan.end_system (link_plan_at plan.links k) (accepted k) lines t.0 t.1 due
+    (subst (λ (j : ℕ). DrainsAt now plan accepted j lines t.0 t.1) here t.2) t.3 in
+    let rest = other_turns now plan accepted k (i + 1) many t.0 after
+    (λ j jle jlt. ne j (omega arith) (λ e. absurd (omega (arith, e, here)))) t.4 in
+    subst (ComesAt now plan accepted k (stream_at plan k lines)) (sym rest) own)
+    (λ (later : i ≡ k → ⊥).
+    let same = other_turn now plan.end_system (link_plan_at plan.links i) (accepted i) lines t.0 t.1
+    (link_plan_at plan.links k).id.0 (ne i (omega arith) later) t.2 t.3 in
+    let further : i + 1 ≤ k = omega (arith, le, later) in
+    subst (λ (S : List Entry). ComesAt now plan accepted k S (stream_at plan k after)) same
+    (turns_come now plan accepted k (i + 1) many t.0 after further (omega arith) (λ j jlt. ne j (omega arith))
+    (subst (IsDueBy now plan k) (sym same) due) t.4))
+    (cases_eq i k)
+
+-- no two links of a valid plan have one identifier
+others : (plan : Plan) (k : ℕ) → IsPlan plan → k < length plan.links → (j : ℕ) → j < length plan.links → (j ≡ k → ⊥)
+    → IsOther plan k j
+others plan k valid lt j jlt ne e =
+    let made = λ (n : ℕ). let v : VlId = record { 0 = n } in v in
+    ne (valid.links_apart j k jlt lt (ap made e))
+
+-- what a poll does to the stream of a link that is due
+poll_comes : (now : ℕ) (plan : Plan) (accepted : Accepted) (k : ℕ) (lines after : Lines) → IsPlan plan → k < length plan.links
+    → IsDueBy now plan k (stream_at plan k lines) → IsDrained now plan accepted lines after
+    → ComesAt now plan accepted k (stream_at plan k lines) (stream_at plan k after)
+poll_comes now plan accepted k lines after valid lt due t =
+    turns_come now plan accepted k 0 (length plan.links) lines after (omega arith) (omega arith)
+    (λ j jlt ne. others plan k valid lt j (omega arith) ne) due t
+
+-- a gap after a moment that isn't before the last release
+due_by : (bag gap before now : ℕ) (last : Option Stamp) → bag ≤ gap → before + gap ≤ now → IsLater last before
+    → is_due bag last now ≡ true
+due_by bag gap before now None small apart later = refl
+due_by bag gap before now (Some last) small apart later = le-leb bag (now - last.at) (omega arith)
+
+-- a later moment
+later_on : (last : Option Stamp) (m n : ℕ) → m ≤ n → IsLater last m → IsLater last n
+later_on None m n le later = tt
+later_on (Some last) m n le later = omega arith
+
+-- another sub-VL's frames are the same
+told_other : (now sub s : ℕ) (frame : List ℕ) (S T : List Entry) → sub_in frame ≡ sub → s ≢ sub → T ≡ S ++ entry now frame ∷ []
+    → length (told (sub_stream s T)) ≡ length (told (sub_stream s S))
+told_other now sub s frame S T of ne more =
+    ap (λ (l : List Entry). length (told (sub_stream s l))) more
+    ∙ ap (λ (l : List Entry). length (told l))
+    (with_push_out (λ (e : Entry). sub_in e.frame) s S (entry now frame) (λ e. ne (sym e ∙ of)))
+
+-- the sub-VL's own are one more
+told_own : (now sub : ℕ) (frame : List ℕ) (S T : List Entry) → sub_in frame ≡ sub → T ≡ S ++ entry now frame ∷ []
+    → length (told (sub_stream sub T)) ≡ length (told (sub_stream sub S)) + 1
+told_own now sub frame S T of more =
+    ap (λ (l : List Entry). length (told (sub_stream sub l))) more
+    ∙ ap (λ (l : List Entry). length (told l))
+    (with_push_in (λ (e : Entry). sub_in e.frame) sub S (entry now frame) of)
+    ∙ length-map (sub_stream sub S ++ entry now frame ∷ []) (λ (e : Entry). blanked e.frame)
+    ∙ length_push (sub_stream sub S) (entry now frame)
+    ∙ ap (λ (n : ℕ). n + 1) (sym (length-map (sub_stream sub S) (λ (e : Entry). blanked e.frame)))
+
+-- the sub-VLs below owe what they owed
+below_same : (now end_system : ℕ) (link : LinkPlan) (accepted : ℕ → List Sent) (S T : List Entry)
+    (g : Gains now end_system link accepted S T) (n : ℕ) → n ≤ g.sub
+    → owed end_system link accepted T n ≡ owed end_system link accepted S n
+below_same now end_system link accepted S T g zero le = refl
+below_same now end_system link accepted S T g (suc n) le =
+    let before = below_same now end_system link accepted S T g n (omega arith) in
+    let other = told_other now g.sub n g.frame S T g.of (λ e. absurd (omega (arith, e))) g.stream in
+    omega (arith, before, other)
+
+-- with the sub-VL they owe one less
+one_less : (now end_system : ℕ) (link : LinkPlan) (accepted : ℕ → List Sent) (S T : List Entry)
+    (g : Gains now end_system link accepted S T) (n : ℕ) → g.sub < n
+    → owed end_system link accepted T n + 1 ≤ owed end_system link accepted S n
+one_less now end_system link accepted S T g zero lt = absurd (omega arith)
+one_less now end_system link accepted S T g (suc n) lt = ⊎_elim
+    (λ (here : n ≡ g.sub).
+    let before = below_same now end_system link accepted S T g n (omega (arith, here)) in
+    let own = told_own now n g.frame S T (g.of ∙ sym here) g.stream in
+    let short = subst (λ (s : ℕ). length (told (sub_stream s S)) < length (due_of end_system link accepted s)) (sym here) g.short in
+    omega (arith, before, own, short))
+    (λ (ne : n ≡ g.sub → ⊥).
+    let before = one_less now end_system link accepted S T g n (omega (arith, ne)) in
+    let other = told_other now g.sub n g.frame S T g.of ne g.stream in
+    omega (arith, before, other))
+    (cases_eq n g.sub)
+
+-- the release is the latest
+gained_later : (now end_system : ℕ) (link : LinkPlan) (accepted : ℕ → List Sent) (S T : List Entry)
+    → Gains now end_system link accepted S T → IsLater (latest None T) now
+gained_later now end_system link accepted S T g =
+    subst (λ (last : Option Stamp). IsLater last now)
+    (sym (ap (latest None) g.stream ∙ latest_push None S (entry now g.frame))) (omega arith)
+
+-- what has all gains nothing
+none_gained : (now end_system : ℕ) (link : LinkPlan) (accepted : ℕ → List Sent) (S T : List Entry)
+    → HasAll end_system link accepted S → Gains now end_system link accepted S T → ⊥
+none_gained now end_system link accepted S T all g =
+    let same = ap length (all g.sub g.within) in
+    let short = g.short in
+    omega (arith, same, short)
+
+-- the link at a place has all
+abbrev HasAllAt : Plan → Accepted → ℕ → List Entry → Type 0
+HasAllAt plan accepted k S = HasAll plan.end_system (link_plan_at plan.links k) (accepted k) S
+
+-- a link that has all keeps it
+stays : (plan : Plan) (accepted : Accepted) (k : ℕ) (moments : List ℕ) (lines after : Lines) (start gap : ℕ)
+    → IsPlan plan → k < length plan.links → bag_micros (link_plan_at plan.links k).bag ≤ gap
+    → IsLater (latest None (stream_at plan k lines)) start
+    → AreApartBy gap start moments → AreDrained plan accepted moments lines after
+    → HasAllAt plan accepted k (stream_at plan k lines) → HasAllAt plan accepted k (stream_at plan k after)
+stays plan accepted k [] lines after start gap valid lt small later apart p all =
+    subst (λ (l : Lines). HasAllAt plan accepted k (stream_at plan k l)) (sym p) all
+stays plan accepted k (now ∷ moments) lines after start gap valid lt small later apart p all = ⊎_elim
+    (λ still. stays plan accepted k moments p.0 after now gap valid lt small
+    (subst (λ (S : List Entry). IsLater (latest None S) now) (sym still.0) (later_on _ start now (omega (arith, apart.0)) later))
+    apart.1 p.2 (subst (HasAllAt plan accepted k) (sym still.0) all))
+    (λ g. absurd (none_gained now plan.end_system (link_plan_at plan.links k) (accepted k) _ _ all g))
+    (poll_comes now plan accepted k lines p.0 valid lt (due_by _ gap start now _ small apart.0 later) p.1)
+
+-- a link has all after more polls than it owes frames
+ends : (plan : Plan) (accepted : Accepted) (k : ℕ) (moments : List ℕ) (lines after : Lines) (start gap : ℕ)
+    → IsPlan plan → k < length plan.links → bag_micros (link_plan_at plan.links k).bag ≤ gap
+    → IsLater (latest None (stream_at plan k lines)) start
+    → AreApartBy gap start moments → AreDrained plan accepted moments lines after
+    → owed_at plan accepted k lines < length moments
+    → HasAllAt plan accepted k (stream_at plan k after)
+ends plan accepted k [] lines after start gap valid lt small later apart p few = absurd (omega arith)
+ends plan accepted k (now ∷ moments) lines after start gap valid lt small later apart p few = ⊎_elim
+    (λ still. stays plan accepted k moments p.0 after now gap valid lt small
+    (subst (λ (S : List Entry). IsLater (latest None S) now) (sym still.0) (later_on _ start now (omega (arith, apart.0)) later))
+    apart.1 p.2 (subst (HasAllAt plan accepted k) (sym still.0) still.1))
+    (λ g.
+    let less = one_less now plan.end_system (link_plan_at plan.links k) (accepted k) _ _ g (link_plan_at plan.links k).sub_vls g.within in
+    ends plan accepted k moments p.0 after now gap valid lt small
+    (gained_later now plan.end_system (link_plan_at plan.links k) (accepted k) _ _ g) apart.1 p.2 (omega (arith, less, few)))
+    (poll_comes now plan accepted k lines p.0 valid lt (due_by _ gap start now _ small apart.0 later) p.1)
+
+-- so have all links
+pub drain_ends_holds : DrainEnds
+drain_ends_holds plan accepted moments lines after start gap valid later small apart p few = λ k lt.
+    ends plan accepted k moments lines after start gap valid lt (small k lt) (later k lt) apart p (few k lt)

@@ -1,0 +1,52 @@
+-- A drain comes to its end: by how many polls, over networks that don't fail.
+use Rattle.std.specs.Prelude.{ℕ, zero, suc, ◌≡◌, ◌+◌, ◌-◌, ◌<◌, ◌≤◌, List, [], ◌∷◌, length, None}
+use Rattle.afdx_plan.specs.Config.{Plan, IsPlan, link_plan_at}
+use Rattle.afdx_plan.specs.Plan.{bag_micros}
+use Rattle.afdx_plan.specs.Room.{room_of}
+use Rattle.afdx_plan.specs.declared.link_plan.LinkPlan.{LinkPlan}
+use Rattle.afdx_frame.specs.declared.net.Net.TheVariants.{A}
+use Rattle.afdx_frame.specs.Fragments.{Sent, fragments}
+use Rattle.redundant_mux.specs.Entry.{Entry}
+use Rattle.redundant_mux.specs.Lines.{Lines, log}
+use Rattle.vl_shaper.specs.Pace.{IsLater}
+use Rattle.afdx_legal.specs.Streams.{link_stream, sub_stream, told, latest}
+use Rattle.afdx_legal.specs.Legal.{Accepted}
+use Rattle.afdx_tx.specs.Drain.{IsAllDone, IsDrained}
+
+-- how many fragments of the accepted messages of a link's first so many sub-VLs its stream lacks
+abbrev pub owed : ℕ → LinkPlan → (ℕ → List Sent) → List Entry → ℕ → ℕ
+owed end_system link accepted stream zero = 0
+owed end_system link accepted stream (suc sub) = owed end_system link accepted stream sub
+    + (length (fragments end_system (room_of link.lmax) A (accepted sub)) - length (told (sub_stream sub stream)))
+
+-- the stream of the link at a place
+abbrev pub stream_at : Plan → ℕ → Lines → List Entry
+stream_at plan k lines = link_stream (link_plan_at plan.links k).id.0 (log lines)
+
+-- how many frames the link at a place owes
+abbrev pub owed_at : Plan → Accepted → ℕ → Lines → ℕ
+owed_at plan accepted k lines = owed plan.end_system (link_plan_at plan.links k) (accepted k)
+    (stream_at plan k lines) (link_plan_at plan.links k).sub_vls
+
+-- each of these moments lies a gap after the one before it
+abbrev pub AreApartBy : ℕ → ℕ → List ℕ → Type 0
+AreApartBy gap before [] = Unit {0}
+AreApartBy gap before (now ∷ moments) = (before + gap ≤ now) × AreApartBy gap now moments
+
+-- polls of a drain at these moments, in none of which the last network fails
+abbrev pub AreDrained : Plan → Accepted → List ℕ → (lines after : Lines) → Type 0
+AreDrained plan accepted [] lines after = after ≡ lines
+AreDrained plan accepted (now ∷ moments) lines after =
+    (mid : Lines) × IsDrained now plan accepted lines mid × AreDrained plan accepted moments mid after
+
+-- Polls that lie apart by the greatest gap of the plan, the first of them that long after every
+-- release, send all that is left, where they are more than each link owes.
+abbrev pub DrainEnds : Type 0
+DrainEnds = (plan : Plan) (accepted : Accepted) (moments : List ℕ) (lines after : Lines) (start gap : ℕ)
+    → IsPlan plan
+    → ((k : ℕ) → k < length plan.links → IsLater (latest None (stream_at plan k lines)) start)
+    → ((k : ℕ) → k < length plan.links → bag_micros (link_plan_at plan.links k).bag ≤ gap)
+    → AreApartBy gap start moments
+    → AreDrained plan accepted moments lines after
+    → ((k : ℕ) → k < length plan.links → owed_at plan accepted k lines < length moments)
+    → IsAllDone plan accepted (log after)

@@ -1,0 +1,81 @@
+-- Networks through some hands.
+use Rattle.std.proofs.Common.{ℕ, ◌≡◌, List, Bool, true, false, refl, sym, ◌∙◌, inl, inr, arith}
+use Rattle.std.proofs.lemmas.Bool.{cases_Bool, both_ways}
+use Rattle.redundant_mux.specs.Entry.{Entry}
+use Rattle.redundant_mux.specs.Lines.{Lines, Handing, Endures, BothEndure}
+
+-- through none
+endures_none : (s : Bool) (h : List Entry) (f : ℕ) → Endures s s h h f f
+endures_none s h f = record {
+  stays = ((λ up. (up, refl)), (λ both. both.0));
+  least = omega arith;
+  most = omega arith;
+  down = λ _. (refl, refl);
+}
+
+-- through one
+endures_hand : (e : Entry) (stood stands : Bool) (old new : List Entry) (f g : ℕ)
+    → Handing e stood stands old new f g → Endures stood stands old new f g
+endures_hand e true true old new f g p = record {
+  stays = ((λ _. (refl, p.1)), (λ _. refl));
+  least = omega (arith, p.1);
+  most = omega (arith, p.1);
+  down = λ no. absurd (both_ways true no refl);
+}
+endures_hand e true false old new f g p = record {
+  stays = ((λ up. absurd (both_ways false refl up)), (λ both. absurd (omega (arith, both.1, p.1))));
+  least = omega (arith, p.1);
+  most = omega (arith, p.1);
+  down = λ no. absurd (both_ways true no refl);
+}
+endures_hand e false false old new f g p = record {
+  stays = ((λ up. absurd (both_ways false refl up)), (λ both. both.0));
+  least = omega (arith, p.1);
+  most = omega (arith, p.1);
+  down = λ _. p;
+}
+endures_hand e false true old new f g p = absurd p
+
+-- through some, and then some more
+endures_on : (s m t : Bool) (h i j : List Entry) (f g k : ℕ) → Endures s m h i f g → Endures m t i j g k → Endures s t h j f k
+endures_on s m t h i j f g k p q = record {
+  stays = (
+    (λ up. let late = q.stays.0 up in let soon = p.stays.0 late.0 in (soon.0, late.1 ∙ soon.1)),
+    (λ both.
+        let same : g ≡ f = omega (arith, p.least, q.least, both.1) in
+        q.stays.1 (p.stays.1 (both.0, same), both.1 ∙ sym same)),
+  );
+  least = omega (arith, p.least, q.least);
+  most = elim (cases_Bool m) [
+    | inl up ↦ omega (arith, (p.stays.0 up).1, q.most)
+    | inr down ↦ omega (arith, p.most, (q.down down).1)
+  ];
+  down = λ no. elim (cases_Bool m) [
+    | inl up ↦ absurd (both_ways s no (p.stays.0 up).0)
+    | inr down ↦ ((q.down down).0 ∙ (p.down no).0, (q.down down).1 ∙ (p.down no).1)
+  ];
+}
+
+-- both through none
+pub both_none : (lines : Lines) → BothEndure lines lines
+both_none lines = record {
+  a = endures_none lines.a_stands lines.a lines.a_failures;
+  b = endures_none lines.b_stands lines.b lines.b_failures;
+}
+
+-- both through one
+pub both_hands : (before after : Lines) (e f : Entry)
+    → Handing e before.a_stands after.a_stands before.a after.a before.a_failures after.a_failures
+    → Handing f before.b_stands after.b_stands before.b after.b before.b_failures after.b_failures
+    → BothEndure before after
+both_hands before after e f p q = record {
+  a = endures_hand e _ _ _ _ _ _ p;
+  b = endures_hand f _ _ _ _ _ _ q;
+}
+
+-- both through some, and then some more
+pub both_on : (before mid after : Lines) → BothEndure before mid → BothEndure mid after → BothEndure before after
+both_on before mid after p q = record {
+  a = endures_on _ _ _ _ _ _ _ _ _ p.a q.a;
+  b = endures_on _ _ _ _ _ _ _ _ _ p.b q.b;
+}
