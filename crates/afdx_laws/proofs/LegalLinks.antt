@@ -14,7 +14,8 @@ use Rattle.afdx_legal.specs.Streams.{link_stream}
 use Rattle.afdx_legal.specs.Legal.{Accepted, IsLegalOn, AreTwins, IsLegal}
 use Rattle.afdx_laws.specs.Messages.{IsSent, IsLinkOf}
 use Rattle.afdx_laws.specs.Handed.{IsHanded, AreHanded}
-use Rattle.afdx_laws.specs.Plans.{id_at, piece_room, frames_of, IsAllowed, LegalArrive, LegalDespiteLoss}
+use Rattle.afdx_legal.specs.Allowed.{IsAllowed}
+use Rattle.afdx_laws.specs.Plans.{id_at, piece_room, frames_of, LegalArrive, LegalDespiteLoss}
 use Rattle.afdx_laws.proofs.LinkFrames.{long_of, own_of, numbered_of, told_is, frames_front, twins_by_a, twins_by_b}
 use Rattle.afdx_laws.proofs.HandedOver.{handed_arrive_holds}
 use Rattle.afdx_laws.proofs.HandedLoss.{handed_despite_loss_holds}
@@ -30,12 +31,10 @@ room_is plan k valid inside =
     record { numbered = valid.end_system; least = omega arith; greatest = omega arith }
 
 -- what may be sent by the plan may be sent
-pub sent_is : (plan : Plan) (sub : ℕ) (sent : Sent) → IsPlan plan → IsAllowed plan sub sent → IsSent sub sent
-sent_is plan sub sent valid allowed =
+pub sent_is : (plan : Plan) (k sub : ℕ) (sent : Sent) → IsPlan plan → IsAllowed plan k sub sent → IsSent sub sent
+sent_is plan k sub sent valid allowed =
     let port : IsPort sent.port = All-contains IsPort plan.ports sent.port valid.each_port allowed.port in
-    let most = allowed.most in
-    let greatest = port.max in
-    record { port = port; its = allowed.its; some = allowed.some; most = omega arith }
+    record { port = port; its = allowed.its; some = allowed.some; most = allowed.most }
 
 -- a link's frames were handed to a network
 handed_is : (plan : Plan) (accepted : Accepted) (net : Net) (handed : List Entry) (k sub : ℕ)
@@ -66,7 +65,7 @@ twins_are plan accepted a b vl legal = elim (cases_lt (length a) (length b)) [
 
 -- so a link's frames were handed to both networks
 are_handed : (plan : Plan) (accepted : Accepted) (a b : List Entry) (k sub : ℕ) → IsPlan plan → IsLegal plan accepted a b
-    → k < length plan.links → sub < (link_plan_at plan.links k).sub_vls → All (IsAllowed plan sub) (accepted k sub)
+    → k < length plan.links → sub < (link_plan_at plan.links k).sub_vls → All (IsAllowed plan k sub) (accepted k sub)
     → AreHanded plan.end_system (piece_room plan k) sub (accepted k sub)
     (frames_of (id_at plan k) a) (frames_of (id_at plan k) b)
 are_handed plan accepted a b k sub valid legal inside index allowed =
@@ -74,7 +73,7 @@ are_handed plan accepted a b k sub valid legal inside index allowed =
     record {
       link = room_is plan k valid inside;
       index = omega arith;
-      sent = All-weaker (IsAllowed plan sub) (IsSent sub) (λ sent is. sent_is plan sub sent valid is) (accepted k sub) allowed;
+      sent = All-weaker (IsAllowed plan k sub) (IsSent sub) (λ sent is. sent_is plan k sub sent valid is) (accepted k sub) allowed;
       on_a = handed_is plan accepted A a k sub legal.on_a inside index;
       on_b = handed_is plan accepted B b k sub legal.on_b inside index;
       twins = twins_are plan accepted a b (id_at plan k) legal;

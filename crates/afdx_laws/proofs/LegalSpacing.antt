@@ -17,7 +17,8 @@ use Rattle.afdx_laws.proofs.ListLemmas.{all_front}
 use Rattle.afdx_laws.specs.Messages.{IsSent}
 use Rattle.afdx_laws.specs.Networks.{IsLong}
 use Rattle.afdx_laws.specs.Spacing.{IsUpTo}
-use Rattle.afdx_laws.specs.Plans.{id_at, IsAllowed, LegalPasses}
+use Rattle.afdx_legal.specs.Allowed.{IsAllowed}
+use Rattle.afdx_laws.specs.Plans.{id_at, LegalPasses}
 use Rattle.afdx_laws.proofs.LegalLinks.{link_is, sent_is}
 use Rattle.afdx_laws.proofs.Sizes.{IsShort, short_messages}
 use Rattle.afdx_laws.proofs.Spaced.{stream_passes_holds}
@@ -78,14 +79,14 @@ by_subs P subs (e ∷ es) within each =
 -- the fragments of each sub-VL are short enough
 short_told : (plan : Plan) (accepted : Accepted) (net : Net) (handed : List Entry) (k sub : ℕ) → IsPlan plan
     → IsLegalOn plan accepted net handed → k < length plan.links → sub < (link_plan_at plan.links k).sub_vls
-    → All (IsAllowed plan sub) (accepted k sub)
+    → All (IsAllowed plan k sub) (accepted k sub)
     → All (IsShort (link_plan_at plan.links k).lmax) (told_of (id_at plan k) sub handed)
 short_told plan accepted net handed k sub valid legal inside index allowed =
     let lmax = (link_is plan k valid inside).lmax in
     let first = legal.prefixes k sub inside index in
     all_front (IsShort (link_plan_at plan.links k).lmax) (told_of (id_at plan k) sub handed) first.0 _ first.1
     (short_messages (accepted k sub) plan.end_system (link_plan_at plan.links k).lmax sub 0 net lmax.0 lmax.1
-    (All-weaker (IsAllowed plan sub) (IsSent sub) (λ sent is. sent_is plan sub sent valid is) (accepted k sub) allowed))
+    (All-weaker (IsAllowed plan k sub) (IsSent sub) (λ sent is. sent_is plan k sub sent valid is) (accepted k sub) allowed))
 
 -- a link's frames are no greater than its greatest
 small_of : (lmax subs : ℕ) (es : List Entry) → All (IsOfSubs subs) es

@@ -23,7 +23,8 @@ use Rattle.afdx_laws.specs.Handed.{AreCarriedOf}
 use Rattle.afdx_laws.specs.Receiver.{begin, received}
 use Rattle.afdx_laws.specs.Messages.{messages_in}
 use Rattle.afdx_laws.specs.Spacing.{IsOnItsWay}
-use Rattle.afdx_laws.specs.Plans.{IsAllowed, frames_of}
+use Rattle.afdx_legal.specs.Allowed.{IsAllowed}
+use Rattle.afdx_laws.specs.Plans.{frames_of}
 use Rattle.afdx_laws.specs.WorkedDelivery.{plain_receiver}
 use Rattle.afdx_laws.specs.WorkedPlan.{OneIsLegal, one_byte, one_byte_accepted, one_frame, one_entry, two_arrivals, one_passage}
 use Rattle.afdx_laws.proofs.WorkedMessage.{demo_port_is, few_are_near}
@@ -124,8 +125,8 @@ unfolding checksum addresses header_front internet_header link_header udp_header
 one_twins = record { b_shorter = λ h. refl; a_shorter = λ h. refl }
 
 -- the message may be sent
-one_allowed : IsAllowed demo_plan 0 one_byte
-one_allowed = record { port = (0, omega arith, refl); its = refl; some = omega arith; most = omega arith }
+one_allowed : IsAllowed demo_plan 0 0 one_byte
+one_allowed = record { port = (0, omega arith, refl); over = refl; its = refl; some = omega arith; most = omega arith }
 
 -- each network carries its frame
 one_carried : AreCarriedOf 1 (frames_of 1 (one_entry A)) (frames_of 1 (one_entry B)) two_arrivals
@@ -147,7 +148,7 @@ pub one_is_legal : OneIsLegal
 one_is_legal = record {
   valid = demo_valid;
   legal = record { on_a = legal_on A; on_b = legal_on B; twins = one_twins };
-  allowed = All-cons (IsAllowed demo_plan 0) one_byte [] one_allowed (All-nil (IsAllowed demo_plan 0));
+  allowed = All-cons (IsAllowed demo_plan 0 0) one_byte [] one_allowed (All-nil (IsAllowed demo_plan 0 0));
   carry = one_carried;
   message = one_message;
   passage = one_on_its_way;

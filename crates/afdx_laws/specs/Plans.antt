@@ -1,16 +1,16 @@
 -- Every link of a plan at once: from legal handing over past the switch to the messages at the
 -- receiving ends.
-use Rattle.std.specs.Prelude.{◌≡◌, ℕ, ◌+◌, ◌≤◌, ◌<◌, List, length, map, take, All, Contains}
+use Rattle.std.specs.Prelude.{◌≡◌, ℕ, ◌+◌, ◌≤◌, ◌<◌, List, length, map, take, All}
 use Rattle.std.specs.List.{AllZip}
 use Rattle.afdx_plan.specs.Config.{Plan, IsPlan, link_plan_at}
 use Rattle.afdx_plan.specs.Plan.{bag_micros}
 use Rattle.afdx_plan.specs.Room.{room_of}
 use Rattle.afdx_frame.specs.declared.net.Net.{Net}
 use Rattle.afdx_frame.specs.Header.{number_in}
-use Rattle.afdx_frame.specs.Fragments.{Sent}
 use Rattle.redundant_mux.specs.Entry.{Entry}
 use Rattle.afdx_legal.specs.Streams.{link_stream}
 use Rattle.afdx_legal.specs.Legal.{Accepted, IsLegalOn, IsLegal}
+use Rattle.afdx_legal.specs.Allowed.{IsAllowed}
 use Rattle.afdx_laws.specs.Policer.{Charge, Rule, Passage, arrival, full, passed}
 use Rattle.afdx_laws.specs.Spacing.{IsOnItsWay}
 use Rattle.afdx_laws.specs.Receiver.{Tolerance, IsFitFor, begin, received, carried}
@@ -31,13 +31,6 @@ piece_room plan k = room_of (link_plan_at plan.links k).lmax
 abbrev pub frames_of : ℕ → List Entry → List (List ℕ)
 frames_of vl handed = map (λ (e : Entry). e.frame) (link_stream vl handed)
 
--- a message that a port of the plan, on a sub-VL of this index, may send
-pub record IsAllowed (plan : Plan) (sub : ℕ) (sent : Sent) : Type 0 where
-  pub port : Contains plan.ports sent.port
-  pub its : sent.port.sub ≡ sub
-  pub some : 1 ≤ length sent.bytes
-  pub most : length sent.bytes ≤ sent.port.max
-
 -- Of what was handed over legally, for a valid plan, each network carries some beginning of a link's
 -- frames, near to the other. Then the receiver's messages of each sub-VL are the first of its accepted
 -- messages, in order and each once, and all whose fragments one network carried.
@@ -45,7 +38,7 @@ abbrev pub LegalArrive : Type 0
 LegalArrive = (plan : Plan) (accepted : Accepted) (a b : List Entry)
     → IsPlan plan → IsLegal plan accepted a b
     → (k sub : ℕ) → k < length plan.links → sub < (link_plan_at plan.links k).sub_vls
-    → All (IsAllowed plan sub) (accepted k sub)
+    → All (IsAllowed plan k sub) (accepted k sub)
     → (lag : ℕ) (tolerance : Tolerance) (arrivals : List (Net × List ℕ))
     → IsFitFor lag tolerance
     → AreCarriedOf lag (frames_of (id_at plan k) a) (frames_of (id_at plan k) b) arrivals
@@ -59,7 +52,7 @@ abbrev pub LegalDespiteLoss : Type 0
 LegalDespiteLoss = (plan : Plan) (accepted : Accepted) (a b : List Entry)
     → IsPlan plan → IsLegal plan accepted a b
     → (k sub : ℕ) → k < length plan.links → sub < (link_plan_at plan.links k).sub_vls
-    → All (IsAllowed plan sub) (accepted k sub)
+    → All (IsAllowed plan k sub) (accepted k sub)
     → (check : ℕ) (whole : Net) (came : List (Net × ℕ)) → 1 ≤ check
     → AreClose whole
     (length (longer (frames_of (id_at plan k) a) (frames_of (id_at plan k) b))) 0 0 came
@@ -85,7 +78,7 @@ LegalPasses = (plan : Plan) (accepted : Accepted) (net : Net) (handed : List Ent
     → IsPlan plan → IsLegalOn plan accepted net handed
     → (k : ℕ) → k < length plan.links
     → ((sub : ℕ) → sub < (link_plan_at plan.links k).sub_vls
-    → All (IsAllowed plan sub) (accepted k sub))
+    → All (IsAllowed plan k sub) (accepted k sub))
     → (charge : Charge) (jitter around : ℕ) (passages : List Passage)
     → AllZip (IsOnItsWay around jitter) (link_stream (id_at plan k) handed) passages
     → passed charge (rule_at plan k around jitter) (full (rule_at plan k around jitter))

@@ -12,7 +12,8 @@ use Rattle.afdx_laws.specs.Networks.{IsStream}
 use Rattle.afdx_laws.specs.Loss.{AreClose, next_alone, frames_at, one_lost}
 use Rattle.afdx_laws.specs.Messages.{messages_in, IsSending, AreFirst}
 use Rattle.afdx_laws.specs.Handed.{AreHanded, longer}
-use Rattle.afdx_laws.specs.Plans.{frames_of, IsAllowed}
+use Rattle.afdx_legal.specs.Allowed.{IsAllowed}
+use Rattle.afdx_laws.specs.Plans.{frames_of}
 use Rattle.afdx_laws.specs.WorkedDelivery.{bytes_41, one_accepted, both_frames}
 use Rattle.afdx_laws.specs.WorkedPlan.{one_byte_accepted, one_entry}
 
@@ -67,7 +68,7 @@ pub record HandedDespiteOneLoss : Type 0 where
 pub record LegalDespiteOneLoss : Type 0 where
   pub valid : IsPlan demo_plan
   pub legal : IsLegal demo_plan one_byte_accepted (one_entry A) (one_entry B)
-  pub allowed : All (IsAllowed demo_plan 0) (one_byte_accepted 0 0)
+  pub allowed : All (IsAllowed demo_plan 0 0) (one_byte_accepted 0 0)
   pub close : AreClose B (length longer_of_plan) 0 0 only_lost
   pub message : messages_despite longer_of_plan only_lost ≡ (1 ∷ []) ∷ []
   pub first : AreFirst 1 1479 0 (one_byte_accepted 0 0)

@@ -18,7 +18,8 @@ use Rattle.afdx_laws.specs.Policer.{Passage, by_bytes, arrival, full, passed}
 use Rattle.afdx_laws.specs.Spacing.{IsOnItsWay}
 use Rattle.afdx_laws.specs.Receiver.{begin, received}
 use Rattle.afdx_laws.specs.Messages.{messages_in}
-use Rattle.afdx_laws.specs.Plans.{frames_of, rule_at, IsAllowed}
+use Rattle.afdx_legal.specs.Allowed.{IsAllowed}
+use Rattle.afdx_laws.specs.Plans.{frames_of, rule_at}
 use Rattle.afdx_laws.specs.WorkedDelivery.{plain_receiver}
 
 -- the message
@@ -49,7 +50,7 @@ one_passage = record { released = 0; arrived = 40; size = 84 } ∷ []
 pub record OneIsLegal : Type 0 where
   pub valid : IsPlan demo_plan
   pub legal : IsLegal demo_plan one_byte_accepted (one_entry A) (one_entry B)
-  pub allowed : All (IsAllowed demo_plan 0) (one_byte_accepted 0 0)
+  pub allowed : All (IsAllowed demo_plan 0 0) (one_byte_accepted 0 0)
   pub carry : AreCarriedOf 1 (frames_of 1 (one_entry A)) (frames_of 1 (one_entry B)) two_arrivals
   pub message : messages_in 0 (received number_in plain_receiver begin two_arrivals) ≡ (1 ∷ []) ∷ []
   pub passage : AllZip (IsOnItsWay 20 500) (link_stream 1 (one_entry A)) one_passage

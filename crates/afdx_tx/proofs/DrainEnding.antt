@@ -1,7 +1,7 @@
 -- Each poll of a drain that finds a link due sends one of its frames, until it owes none.
-use Rattle.std.proofs.Common.{ℕ, zero, suc, ◌≡◌, ◌≢◌, ◌⊎◌, ◌+◌, ◌-◌, ◌<◌, ◌≤◌, List, [], ◌∷◌, ◌++◌, Bool, true, false, length, arith, refl, ap, ◌∙◌, sym, subst, Option, Some, None, inl, inr, ⊎_elim}
+use Rattle.std.proofs.Common.{ℕ, zero, suc, ◌≡◌, ◌≢◌, ◌⊎◌, ◌+◌, ◌-◌, ◌<◌, ◌≤◌, List, [], ◌∷◌, ◌++◌, true, false, length, arith, refl, ap, ◌∙◌, sym, subst, Option, Some, None, inl, inr, ⊎_elim}
 use Rattle.std.proofs.lemmas.Bool.{both_ways, cases_eq, le-leb}
-use Rattle.std.proofs.lemmas.List.{length-append, length-map, length_push, nil_from_length}
+use Rattle.std.proofs.lemmas.List.{length-append, length-map, length_push}
 use Rattle.afdx_plan.specs.declared.identifiers.VlId.{VlId}
 use Rattle.afdx_plan.specs.declared.link_plan.LinkPlan.{LinkPlan}
 use Rattle.afdx_plan.specs.Config.{Plan, IsPlan, link_plan_at}
@@ -19,7 +19,7 @@ use Rattle.vl_link.specs.declared.served.Served.TheVariants.{Nothing, Released, 
 use Rattle.vl_link.specs.Turn.{AreTurns, is_lost}
 use Rattle.vl_link.proofs.TurnLaws.{choice_below}
 use Rattle.vl_link.proofs.PaceOfStream.{stream_more, stream_same}
-use Rattle.afdx_legal.specs.Streams.{stamp_of, latest, link_stream, sub_stream, told}
+use Rattle.afdx_legal.specs.Streams.{latest, link_stream, sub_stream, told}
 use Rattle.afdx_legal.specs.Legal.{Accepted}
 use Rattle.afdx_legal.proofs.LongerStream.{latest_push, with_push_in, with_push_out}
 use Rattle.afdx_tx.specs.Drain.{Owes, Drains, DrainsAt, IsDrained, pace_in, accepted_view}

@@ -2,6 +2,7 @@
 use Rattle.std.proofs.Common.{ℕ, ◌≡◌, ◌+◌, ◌<◌, ◌≤◌, List, [], ◌∷◌, ◌++◌, true, false, length, arith, refl, ap, ◌∙◌, sym, subst, ⊎_elim, Option, None}
 use Rattle.std.proofs.lemmas.List.{ext_get_or, length-append, get_or_append_left, get_or_push}
 use Rattle.std.proofs.lemmas.Bool.{cases_lt}
+use Rattle.std.proofs.lemmas.List.Elements.{All-nil}
 use Rattle.afdx_plan.specs.declared.link_plan.LinkPlan.{LinkPlan}
 use Rattle.afdx_plan.specs.declared.port_plan.PortPlan.{PortPlan}
 use Rattle.afdx_plan.specs.Config.{Plan, IsPlan, link_plan_at}
@@ -13,8 +14,9 @@ use Rattle.vl_shaper.specs.Pace.{Pace, IsLater}
 use Rattle.vl_shaper.specs.declared.shaper.Stamp.{Stamp}
 use Rattle.afdx_legal.specs.Legal.{AreKnown}
 use Rattle.vl_link.specs.declared.sub_vl.SubVl.{SubVl}
-use Rattle.vl_link.specs.Seen.{Seen, taken_of}
-use Rattle.vl_link.specs.Links.{Held, LinkState, link_at, no_link, held_at, no_link_plan, IsLinkOfPlan, sub_fragments, sent_by, taken_by}
+use Rattle.vl_link.specs.Seen.{Seen, taken_of, known_of}
+use Rattle.subvl_queue.specs.Messages.{IsItem, AreItems}
+use Rattle.vl_link.specs.Links.{Held, LinkState, link_at, no_link, held_at, no_link_plan, HasOwnItems, IsLinkOfPlan, sub_fragments, sent_by, taken_by}
 use Rattle.afdx_tx.specs.Emitter.{IsFreshSub, IsFreshLink, AreFreshLinks, AreLinksOf, plans, ports_of_sub, IsSound}
 use Rattle.vl_link.specs.Kept.{IsKept, IsTied}
 use Rattle.afdx_tx.proofs.PollTurns.{plan_at_is, plans_length}
@@ -38,6 +40,11 @@ fresh_own own ports plan link f =
 -- a fresh sub-VL took nothing
 fresh_taken : (own : SubVl) (senders : List PortPlan) (held : Held) → IsFreshSub own senders held → taken_by held ≡ []
 fresh_taken own senders held f = ap (λ (seen : Seen). sent_by held.ports (taken_of seen)) f.seen
+
+-- so nothing of other ports
+fresh_items : (own : SubVl) (senders : List PortPlan) (held : Held) → IsFreshSub own senders held → HasOwnItems held
+fresh_items own senders held f =
+    subst (AreItems (length held.ports)) (sym (ap known_of f.seen)) (All-nil (IsItem (length held.ports)))
 
 -- and is tied to an empty stream
 fresh_tied : (own : SubVl) (senders : List PortPlan) (held : Held) → IsFreshSub own senders held → IsTied held []
@@ -105,6 +112,9 @@ fresh_sound config links valid f =
       mirrored = fresh_in_step.mirrored;
       known = subst (AreKnown config.links A) (sym fresh_log) tt;
       whole = λ _ k lt. (f.each k (omega (arith, f.count))).lost;
+      items = λ k s lt slt.
+          let subs = (f.each k (omega (arith, f.count))).subs in
+          fresh_items _ _ (held_at (link_at links k).subs s) (subs.each s (omega (arith, subs.count)));
     }
 
 -- one fresh link more

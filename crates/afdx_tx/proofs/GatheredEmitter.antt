@@ -156,6 +156,10 @@ gathered_sound config old rooms new lines moment g s =
       known = s.known;
       whole = λ alive k lt. let below : k < length old = omega (arith, g.count) in
           ap (λ (l : LinkState). l.lost) (g.each k below).same ∙ s.whole alive k below;
+      items = λ k t klt tlt. let below : k < length old = omega (arith, g.count) in
+          let subs = (g.each k below).subs in
+          let sub : t < length (link_at old k).subs = omega (arith, subs.count) in
+          (subs.each t sub).items;
     }
 
 -- the links are as many as the configuration's, and so are their sub-VLs

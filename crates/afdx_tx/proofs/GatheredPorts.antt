@@ -1,37 +1,20 @@
 -- What was accepted of each port that came back.
-use Rattle.std.proofs.Common.{ℕ, ◌≡◌, ◌<◌, List, length, arith, refl, ap, ◌∙◌, sym, subst, Option, Some, None, unwrap_or}
-use Rattle.std.specs.Prelude.{◌==◌, position}
+use Rattle.std.proofs.Common.{ℕ, ◌≡◌, ◌<◌, List, length, arith, ap, ◌∙◌, sym, subst}
 use Rattle.std.proofs.lemmas.List.Elements.{All-contains}
-use Rattle.std.proofs.lemmas.List.Quantifiers.{position-Some}
-use Rattle.afdx_plan.specs.declared.link_plan.LinkPlan.{LinkPlan}
-use Rattle.afdx_plan.specs.declared.port_plan.PortPlan.{PortPlan}
-use Rattle.afdx_plan.specs.Config.{Plan, IsPlan, HasLink, link_plan_at, port_plan_at}
-use Rattle.afdx_plan.specs.Plan.{SendsOver}
+use Rattle.afdx_plan.specs.Config.{Plan, IsPlan, port_plan_at}
 use Rattle.subvl_queue.specs.Messages.{part_of}
 use Rattle.subvl_queue.specs.Views.{SenderView}
-use Rattle.vl_link.specs.Links.{LinkState, held_at, link_at, no_link_plan}
-use Rattle.afdx_tx.specs.Emitter.{Tx, queues_in}
+use Rattle.vl_link.specs.Links.{LinkState, held_at, link_at}
+use Rattle.afdx_tx.specs.Emitter.{Tx, AreLinksOf, HaveOwnItems, queues_in}
 use Rattle.afdx_tx.specs.Sending.{link_place}
 use Rattle.vl_link.specs.Seen.{known_of}
 use Rattle.afdx_tx.specs.Ports.{PortView, BelongsTo, AreOpenedWith, index_of}
 use Rattle.vl_link.specs.Room.{RoomView}
 use Rattle.afdx_tx.specs.Rooms.{room_at}
 use Rattle.vl_link.specs.LinkGathering.{GathersLink}
-use Rattle.afdx_tx.specs.Gathering.{GathersLinks, IsGatheredLink, HasShape, HasSeat, HasOwnPart}
-use Rattle.afdx_tx.proofs.PortLink.{found, found_over}
-
--- the link of a port is one of the plan, and the port sends over it
-pub link_within : (plan : Plan) (port : PortPlan) → IsPlan plan → HasLink plan.links port
-    → (link_place plan port < length plan.links) × SendsOver port (link_plan_at plan.links (link_place plan port))
-link_within plan port valid has = at (position (λ (link : LinkPlan). link.id.0 == port.vl.0) plan.links) refl
-  where
-    at : (r : Option ℕ) → position (λ (link : LinkPlan). link.id.0 == port.vl.0) plan.links ≡ r
-        → (unwrap_or r 0 < length plan.links) × SendsOver port (link_plan_at plan.links (unwrap_or r 0))
-    at None e = absurd (found plan.links port has e)
-    at (Some k) e = (
-      (position-Some (λ (link : LinkPlan). link.id.0 == port.vl.0) plan.links k no_link_plan e).0,
-      found_over plan port k valid has e,
-    )
+use Rattle.afdx_tx.specs.Gathering.{GathersLinks, IsGatheredLink, HasShape, HasSeat, HasOwnPart, held_for}
+use Rattle.afdx_tx.proofs.PortLink.{link_within}
+use Rattle.afdx_tx.proofs.PortMessages.{own_messages}
 
 -- a gathered link is the one that it was, but for its queues
 pub link_gathered : (old : LinkState) (rooms : List RoomView) (new : LinkState) → GathersLink old rooms new
@@ -45,9 +28,10 @@ link_gathered old rooms new g =
 
 -- of the port at a place its sub-VL accepted its own list
 pub own_part : (tx new : Tx) (ports : List PortView) (rooms : List (List RoomView)) (place : ℕ) → IsPlan tx.plan
-    → HasShape tx.plan tx.links → GathersLinks tx.links rooms new.links → new.plan ≡ tx.plan → AreOpenedWith tx ports
-    → place < length tx.plan.ports → HasSeat tx.plan ports rooms place → HasOwnPart new ports place
-own_part tx new ports rooms place valid shape g same opened lt seat =
+    → HasShape tx.plan tx.links → GathersLinks tx.links rooms new.links → new.plan ≡ tx.plan → AreLinksOf new.plan new.links
+    → HaveOwnItems new.links → AreOpenedWith tx ports → place < length tx.plan.ports → HasSeat tx.plan ports rooms place
+    → HasOwnPart new ports place
+own_part tx new ports rooms place valid shape g same of items opened lt seat =
     let port = port_plan_at tx.plan.ports place in
     let k = link_place tx.plan port in
     let s = port.sub in
@@ -68,11 +52,17 @@ own_part tx new ports rooms place valid shape g same opened lt seat =
     ∙ ap (λ (x : SenderView). part_of x.port known) (sym sender)
     ∙ gathered.gathers.whole.parts index seat.port.sender seat.within
     ∙ ap (λ (x : SenderView). x.own) sender in
+    let moved : part_of (index_of new.plan.ports place) (known_of (held_for new (port_plan_at new.plan.ports place)).seen)
+    ≡ seat.port.sender.own =
+    subst (λ (config : Plan). part_of (index_of config.ports place)
+    (known_of (held_at (link_at new.links (link_place config (port_plan_at config.ports place))).subs
+    (port_plan_at config.ports place).sub).seen) ≡ seat.port.sender.own) (sym same) part in
     record {
       port = seat.port;
       inside = seat.inside;
       at = seat.at;
-      part = subst (λ (config : Plan). part_of (index_of config.ports place)
-          (known_of (held_at (link_at new.links (link_place config (port_plan_at config.ports place))).subs
-          (port_plan_at config.ports place).sub).seen) ≡ seat.port.sender.own) (sym same) part;
+      messages = seat.messages;
+      part = moved;
+      accepted = own_messages new place seat.port.sender.own (subst IsPlan (sym same) valid) of items
+          (subst (λ (config : Plan). place < length config.ports) (sym same) lt) moved;
     }

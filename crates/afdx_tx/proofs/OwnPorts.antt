@@ -19,7 +19,7 @@ few_ports config vl sub valid =
     omega (arith, length-filter on config.ports)
 
 -- both halves of a test
-both_true : (a b : Bool) → (a && b) ≡ true → (a ≡ true) × (b ≡ true)
+pub both_true : (a b : Bool) → (a && b) ≡ true → (a ≡ true) × (b ≡ true)
 both_true true b e = (refl, e)
 both_true false b e = absurd (let no : false ≡ true = e in cc)
 

@@ -1,5 +1,5 @@
 -- One more link of a poll was asked whether it is due, and served where it is.
-use Rattle.std.proofs.Common.{ℕ, ◌≡◌, ◌+◌, ◌<◌, ◌≤◌, List, [], ◌++◌, Bool, true, false, length, set, refl, arith, ap, sym, subst, inl}
+use Rattle.std.proofs.Common.{ℕ, ◌≡◌, ◌+◌, ◌<◌, List, [], ◌++◌, true, false, length, set, refl, arith, ap, sym, subst, inl}
 use Rattle.std.proofs.lemmas.List.{set-get_or, append-nil}
 use Rattle.afdx_frame.specs.declared.net.Net.TheVariants.{A}
 use Rattle.redundant_mux.specs.Lines.{Lines, BothEndure, log, is_alive}

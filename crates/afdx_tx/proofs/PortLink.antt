@@ -1,5 +1,5 @@
 -- The link of a port.
-use Rattle.std.proofs.Common.{ℕ, zero, suc, ◌≡◌, ◌+◌, ◌<◌, List, [], ◌∷◌, Bool, true, false, not, cond, length, get_or, arith, ap, ◌∙◌, sym, subst, Some, None}
+use Rattle.std.proofs.Common.{ℕ, zero, suc, ◌≡◌, ◌+◌, ◌<◌, List, [], ◌∷◌, Bool, true, false, not, cond, length, get_or, arith, ap, ◌∙◌, sym, subst, refl, Option, Some, None, unwrap_or}
 use Rattle.std.proofs.lemmas.Bool.{eq-eqb, lt-ltb, eqb-true}
 use Rattle.std.proofs.lemmas.List.Quantifiers.{position-Some}
 use Rattle.std.specs.List.{prefix_len, position}
@@ -10,6 +10,7 @@ use Rattle.afdx_plan.specs.declared.port_plan.PortPlan.{PortPlan}
 use Rattle.afdx_plan.specs.Plan.{SendsOver}
 use Rattle.afdx_plan.specs.Config.{Plan, IsPlan, HasLink, link_plan_at}
 use Rattle.vl_link.specs.Links.{no_link_plan}
+use Rattle.afdx_tx.specs.Sending.{link_place}
 
 -- whether a link is the port's
 abbrev is_its : PortPlan → LinkPlan → Bool
@@ -54,3 +55,16 @@ found_over plan port k valid has e =
     let id = found_id plan.links port k e in
     let same : k ≡ has.at = valid.links_apart k has.at some.0 has.within (id ∙ sym has.over.id) in
     subst (λ (i : ℕ). SendsOver port (link_plan_at plan.links i)) (sym same) has.over
+
+-- the link of a port is one of the plan, and the port sends over it
+pub link_within : (plan : Plan) (port : PortPlan) → IsPlan plan → HasLink plan.links port
+    → (link_place plan port < length plan.links) × SendsOver port (link_plan_at plan.links (link_place plan port))
+link_within plan port valid has = at (position (λ (link : LinkPlan). link.id.0 == port.vl.0) plan.links) refl
+  where
+    at : (r : Option ℕ) → position (λ (link : LinkPlan). link.id.0 == port.vl.0) plan.links ≡ r
+        → (unwrap_or r 0 < length plan.links) × SendsOver port (link_plan_at plan.links (unwrap_or r 0))
+    at None e = absurd (found plan.links port has e)
+    at (Some k) e = (
+      (position-Some (λ (link : LinkPlan). link.id.0 == port.vl.0) plan.links k no_link_plan e).0,
+      found_over plan port k valid has e,
+    )

@@ -9,7 +9,7 @@ use Rattle.afdx_plan.specs.declared.port_plan.PortPlan.{PortPlan}
 use Rattle.afdx_plan.specs.Config.{Plan, port_plan_at}
 use Rattle.subvl_queue.specs.Views.{QueueName, SenderView}
 use Rattle.afdx_tx.specs.Sending.{link_place}
-use Rattle.afdx_tx.specs.Ports.{PortView, HasPlace, BelongsTo, queue_at, index_of}
+use Rattle.afdx_tx.specs.Ports.{PortView, HasOwnMessages, HasPlace, BelongsTo, queue_at, index_of}
 use Rattle.vl_link.specs.Room.{RoomView}
 use Rattle.vl_link.specs.Room.{room_in}
 use Rattle.afdx_tx.specs.Rooms.{rooms_of, room_at, IsSenderOf}
@@ -77,6 +77,7 @@ seat_kept config ports rooms k s own x place lt e put seat =
       port = seat.port;
       inside = seat.inside;
       at = seat.at;
+      messages = seat.messages;
       within = let below = seat.within in omega (arith, ap length more.1, length-append (room_at rooms m t).senders more.0);
       sender = λ d. ap (λ (xs : List SenderView). get_or xs (index_of config.ports place) d) more.1
           ∙ get_or_append_left before more.0 d (index_of config.ports place) seat.within
@@ -89,8 +90,8 @@ pub seat_new : (config : Plan) (ports : List PortView) (rooms : List (List RoomV
     → s ≡ (port_plan_at config.ports place).sub
     → length (room_at rooms k s).senders ≡ index_of config.ports place
     → (room_in own s).senders ≡ (room_at rooms k s).senders ++ port.sender ∷ []
-    → Contains ports port → port.place ≡ place → HasSeat config ports (set rooms k own) place
-seat_new config ports rooms place k s own port lt link sub many put inside at =
+    → Contains ports port → port.place ≡ place → HasOwnMessages port → HasSeat config ports (set rooms k own) place
+seat_new config ports rooms place k s own port lt link sub many put inside at messages =
     let here : (room_at (set rooms k own) (link_place config (port_plan_at config.ports place)) (port_plan_at config.ports place).sub).senders
     ≡ (room_at rooms k s).senders ++ port.sender ∷ [] =
     ap (λ (n : ℕ). (room_at (set rooms k own) n (port_plan_at config.ports place).sub).senders) (sym link)
@@ -100,6 +101,7 @@ seat_new config ports rooms place k s own port lt link sub many put inside at =
       port = port;
       inside = inside;
       at = at;
+      messages = messages;
       within = omega (arith, ap length here, length-append (room_at rooms k s).senders (port.sender ∷ []));
       sender = λ d. ap (λ (xs : List SenderView). get_or xs (index_of config.ports place) d) here
           ∙ get_or_push (room_at rooms k s).senders port.sender d (index_of config.ports place) many;

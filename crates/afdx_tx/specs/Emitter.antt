@@ -13,7 +13,7 @@ use Rattle.subvl_queue.specs.Views.{QueueName, new_receiver}
 use Rattle.vl_link.specs.declared.sub_vl.SubVl.{SubVl}
 use Rattle.vl_link.specs.Seen.{receiving, queue_of, IsReceiving}
 use Rattle.afdx_legal.specs.Legal.{Accepted, AreKnown}
-use Rattle.vl_link.specs.Links.{Held, LinkState, held_at, link_at, taken_by, IsLinkOfPlan, IsSameLink}
+use Rattle.vl_link.specs.Links.{Held, LinkState, held_at, link_at, taken_by, HasOwnItems, IsLinkOfPlan, IsSameLink}
 use Rattle.vl_link.specs.Kept.{IsLinkTied, IsKept}
 
 -- An emitter: its plan, its links in the order of the plan, what was handed over, and the moment of
@@ -100,6 +100,11 @@ AreWhole links = (k : ℕ) → k < length links → (link_at links k).lost ≡ f
 abbrev pub AreServedBy : ℕ → List LinkState → Type 0
 AreServedBy now links = (k : ℕ) → k < length links → IsLater (link_at links k).pace.last now
 
+-- what was taken from each queue is of the ports of its sub-VL
+abbrev pub HaveOwnItems : List LinkState → Type 0
+HaveOwnItems links = (k s : ℕ) → k < length links → s < length (link_at links k).subs
+    → HasOwnItems (held_at (link_at links k).subs s)
+
 -- what every emitter keeps
 pub record IsSound (config : Plan) (links : List LinkState)
     (lines : Lines) (moment : ℕ) : Type 0 where
@@ -110,6 +115,7 @@ pub record IsSound (config : Plan) (links : List LinkState)
   pub mirrored : IsMirrored lines
   pub known : AreKnown config.links A (log lines)
   pub whole : is_alive lines ≡ true → AreWhole links
+  pub items : HaveOwnItems links
 
 -- each link that lost no frame is tied to its streams
 abbrev pub AreTied : List LinkState → List Entry → Type 0

@@ -4,11 +4,13 @@ use Rattle.afdx_plan.specs.Config.{Plan, link_plan_at, port_plan_at}
 use Rattle.afdx_plan.specs.declared.port_plan.PortPlan.{PortPlan}
 use Rattle.subvl_queue.specs.Messages.{part_of}
 use Rattle.subvl_queue.specs.Views.{SenderView}
+use Rattle.afdx_legal.specs.Allowed.{messages_of}
 use Rattle.vl_link.specs.Seen.{known_of}
 use Rattle.vl_link.specs.Links.{Held, LinkState, held_at, link_at}
 use Rattle.afdx_tx.specs.Emitter.{Tx}
 use Rattle.afdx_tx.specs.Sending.{link_place}
-use Rattle.afdx_tx.specs.Ports.{PortView, index_of}
+use Rattle.afdx_tx.specs.Ports.{PortView, HasOwnMessages, index_of}
+use Rattle.afdx_tx.specs.Drain.{accepted_by}
 use Rattle.vl_link.specs.Room.{RoomView}
 use Rattle.afdx_tx.specs.Rooms.{rooms_of, room_at}
 use Rattle.vl_link.specs.LinkGathering.{BecomesWhole, GathersLink, AreFullSubs}
@@ -37,6 +39,7 @@ pub record HasSeat (config : Plan) (ports : List PortView) (rooms : List (List R
   pub port : PortView
   pub inside : Contains ports port
   pub at : port.place ≡ place
+  pub messages : HasOwnMessages port
   pub within : index_of config.ports place < length (room_at rooms
       (link_place config (port_plan_at config.ports place)) (port_plan_at config.ports place).sub).senders
   pub sender : (d : SenderView) → slice_index_or (room_at rooms
@@ -47,13 +50,17 @@ pub record HasSeat (config : Plan) (ports : List PortView) (rooms : List (List R
 abbrev pub held_for : Tx → PortPlan → Held
 held_for tx port = held_at (link_at tx.links (link_place tx.plan port)).subs port.sub
 
--- The port at a place is in a list, and what its sub-VL accepted of it is the port's own list.
+-- The port at a place is in a list, and what its sub-VL accepted of it is the port's own list, of
+-- messages that it may send.
 pub record HasOwnPart (tx : Tx) (ports : List PortView) (place : ℕ) : Type 0 where
   pub port : PortView
   pub inside : Contains ports port
   pub at : port.place ≡ place
+  pub messages : HasOwnMessages port
   pub part : part_of (index_of tx.plan.ports place)
       (known_of (held_for tx (port_plan_at tx.plan.ports place)).seen) ≡ port.sender.own
+  pub accepted : messages_of (port_plan_at tx.plan.ports place).id.0
+      (accepted_by (held_for tx (port_plan_at tx.plan.ports place))) ≡ port.sender.own
 
 -- a sub-VL but for its queue, whose accepted messages are known whole
 pub record IsGatheredSub (old new : Held) : Type 0 where

@@ -22,6 +22,10 @@ pub record MaySend (port : PortPlan) (size : ℕ) : Type 0 where
   pub some : 1 ≤ size
   pub most : size ≤ port.max
 
+-- each message of a port's own is one that it may send
+abbrev pub HasOwnMessages : PortView → Type 0
+HasOwnMessages port = All (λ (bytes : List ℕ). MaySend port.plan (length bytes)) port.sender.own
+
 -- a message was accepted: it is the last of the port's own
 abbrev pub Accepts : PortView → List ℕ → PortView → Type 0
 Accepts old bytes new = new ≡ record old { sender = sent old.sender bytes }

@@ -36,6 +36,8 @@ impl<A: Network + Drop, B: Network + Drop> Emitter<A, B> {
     ghost use Rattle.afdx_plan.specs.Config.{IsPlan};
     ghost use Rattle.redundant_mux.specs.Lines.{BothEndure, is_alive, log, IsMirrored};
     ghost use Rattle.afdx_legal.specs.Legal.{IsLegal};
+    ghost use Rattle.afdx_legal.specs.Allowed.{AreAllowed};
+    ghost use Rattle.afdx_tx.specs.Drain.{accepted_in};
     ghost use Rattle.afdx_tx.specs.Run.{IsRun, IsCutShort};
     ghost use Rattle.afdx_tx.specs.Report.{Polls};
     ghost use Rattle.afdx_tx.specs.Emitter.{Tx, IsFreshTx, AreFreshLinks, AreTied, taken_in, queues_in};
@@ -88,6 +90,7 @@ impl<A: Network + Drop, B: Network + Drop> Emitter<A, B> {
         ensures a_failures { A.failures result.0 ≡ self.lines.a_failures }
         ensures b_failures { B.failures result.1 ≡ self.lines.b_failures }
         ensures legal { IsLegal self.plan (taken_in self.links) self.lines.a self.lines.b }
+        ensures allowed { AreAllowed self.plan (taken_in self.links) }
     {
         let Emitter { inner, rooms: _ } = self;
         inner.into_networks()
@@ -102,6 +105,7 @@ impl<A: Network + Drop, B: Network + Drop> Emitter<A, B> {
         ensures both_down { IsErr result ↔ (is_alive self.old.lines ≡ false) }
         ensures unchanged { OnErr result (self.new ≡ self.old) }
         ensures legal { IsLegal self.new.plan (taken_in self.new.links) self.new.lines.a self.new.lines.b }
+        ensures allowed { AreAllowed self.new.plan (taken_in self.new.links) }
         ensures tied { AreTied self.new.links (log self.new.lines) }
         ensures plan { self.new.plan ≡ self.old.plan }
         ensures queues { queues_in self.new.links ≡ queues_in self.old.links }
@@ -131,6 +135,8 @@ impl<A: Network + Drop, B: Network + Drop> Emitter<A, B> {
         ensures gathered { IfOk result (λ draining. IsGatheredTx self ports.items draining) }
         ensures legal { IfOk result (λ draining. IsLegal draining.plan
             (taken_in draining.links) draining.lines.a draining.lines.b) }
+        ensures allowed { IfOk result (λ draining.
+            AreAllowed draining.plan (accepted_in draining.links)) }
         ensures emitter_back { IfErr result (λ back. back.0 ≡ self) }
         ensures ports_back { IfErr result (λ back. back.1 ≡ ports) }
         ensures missing { IfErr result (λ _. LacksPlace (length self.plan.ports) ports.items) }

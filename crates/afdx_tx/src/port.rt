@@ -33,8 +33,9 @@ pub struct TxPort {
 }
 
 impl Model for TxPort {
+    ghost use Rattle.std.specs.Prelude.{length, All};
     ghost use Rattle.afdx_plan.specs.Plan.{IsPort};
-    ghost use Rattle.afdx_tx.specs.Ports.{PortView};
+    ghost use Rattle.afdx_tx.specs.Ports.{PortView, MaySend};
 
     ghost Value = { PortView };
 
@@ -44,17 +45,18 @@ impl Model for TxPort {
       sender = p.sender;
     } };
 
-    ghost invariant = { λ p. IsPort p.plan };
+    ghost invariant = { λ p. IsPort p.plan × All (λ m. MaySend p.plan (length m)) p.sender.own };
 }
 
 impl TxPort {
-    ghost use Rattle.std.specs.Prelude.{◌≡◌, ◌<◌, length, IfOk, IfErr};
+    ghost use Rattle.std.specs.Prelude.{◌≡◌, ◌<◌, [], length, IfOk, IfErr};
     ghost use Rattle.afdx_plan.specs.Plan.{IsPort};
-    ghost use Rattle.afdx_tx.specs.Ports.{PortView, MaySend, Accepts, Refuses};
+    ghost use Rattle.afdx_tx.specs.Ports.{PortView, MaySend, HasOwnMessages, Accepts, Refuses};
 
     // The port of a configuration at a place, with a sender of its sub-VL's queue.
     pub(crate) fn new(plan: PortPlan, place: usize, sender: Sender) -> TxPort
-        requires { IsPort plan }
+        requires port { IsPort plan }
+        requires fresh { sender.own ≡ [] }
         ensures { result ≡ record {
           place = place;
           plan = plan;
@@ -75,9 +77,10 @@ impl TxPort {
         self.plan.id
     }
 
-    /// How many of its messages were accepted.
+    /// How many of its messages were accepted. Each has from 1 byte to its greatest message.
     pub fn accepted(&self) -> u64
-        ensures { result ≡ length self.now.sender.own }
+        ensures count { result ≡ length self.now.sender.own }
+        ensures messages { HasOwnMessages self.now }
     {
         self.sender.accepted()
     }
@@ -91,7 +94,8 @@ impl TxPort {
 
     // Its sender.
     pub(crate) fn into_sender(self) -> Sender
-        ensures { result ≡ self.sender }
+        ensures sender { result ≡ self.sender }
+        ensures messages { HasOwnMessages self }
     {
         let TxPort {
             plan: _,

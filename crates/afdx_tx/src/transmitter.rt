@@ -126,9 +126,10 @@ impl<A: Network + Drop, B: Network + Drop> Transmitter<A, B> {
     ghost use Rattle.afdx_plan.specs.Config.{IsPlan};
     ghost use Rattle.redundant_mux.specs.Lines.{BothEndure, is_alive, log, IsMirrored};
     ghost use Rattle.afdx_legal.specs.Legal.{IsLegal};
+    ghost use Rattle.afdx_legal.specs.Allowed.{AreAllowed};
     ghost use Rattle.afdx_tx.specs.Run.{IsRun, IsCutShort};
     ghost use Rattle.afdx_tx.specs.Report.{Polls};
-    ghost use Rattle.afdx_tx.specs.Emitter.{Tx, IsFreshTx, AreFreshLinks, AreLinksOf, AreTied, IsSamePlan, taken_in};
+    ghost use Rattle.afdx_tx.specs.Emitter.{Tx, IsFreshTx, AreFreshLinks, AreLinksOf, AreTied, HaveOwnItems, IsSamePlan, taken_in};
     ghost use Rattle.afdx_tx.specs.Drain.{AreGathered, IsAllDone, accepted_in};
     ghost use Rattle.afdx_tx.specs.Emitter.{AreReceiving, queues_in};
     ghost use Rattle.afdx_tx.specs.Rooms.{AreRooms, senders_for};
@@ -184,6 +185,8 @@ impl<A: Network + Drop, B: Network + Drop> Transmitter<A, B> {
         ensures a_failures { A.failures result.0 ≡ self.lines.a_failures }
         ensures b_failures { B.failures result.1 ≡ self.lines.b_failures }
         ensures legal { IsLegal self.plan (taken_in self.links) self.lines.a self.lines.b }
+        ensures taken { AreAllowed self.plan (taken_in self.links) }
+        ensures accepted { AreAllowed self.plan (accepted_in self.links) }
     {
         let Transmitter {
             config: _,
@@ -202,6 +205,8 @@ impl<A: Network + Drop, B: Network + Drop> Transmitter<A, B> {
         ensures both_down { IsErr result ↔ (is_alive self.old.lines ≡ false) }
         ensures unchanged { OnErr result (self.new ≡ self.old) }
         ensures legal { IsLegal self.new.plan (taken_in self.new.links) self.new.lines.a self.new.lines.b }
+        ensures taken { AreAllowed self.new.plan (taken_in self.new.links) }
+        ensures accepted { AreAllowed self.new.plan (accepted_in self.new.links) }
         ensures tied { AreTied self.new.links (log self.new.lines) }
         ensures plan { self.new.plan ≡ self.old.plan }
         ensures same { IsSamePlan self.old.links self.new.links }
@@ -245,7 +250,10 @@ impl<A: Network + Drop, B: Network + Drop> Transmitter<A, B> {
         ensures moment { self.new.moment ≡ self.old.moment }
         ensures links { GathersLinks self.old.links rooms.items self.new.links }
         ensures shape { HasShape self.old.plan self.old.links }
+        ensures ports { AreLinksOf self.new.plan self.new.links }
+        ensures items { HaveOwnItems self.new.links }
         ensures legal { IsLegal self.new.plan (taken_in self.new.links) self.new.lines.a self.new.lines.b }
+        ensures accepted { AreAllowed self.new.plan (accepted_in self.new.links) }
     {
         gather_all(rt, &mut self.links, rooms);
     }

@@ -1,7 +1,10 @@
 -- A queue after a look into it.
-use Rattle.std.proofs.Common.{ℕ, ◌≡◌, ◌∙◌, List, [], ◌∷◌, ◌++◌, Some, refl, ap, sym, subst}
-use Rattle.std.proofs.lemmas.List.{append_assoc}
-use Rattle.vl_link.specs.Seen.{Seen, receiving, gathered, taken_of, ports_of, queue_of, FindsNothing, Finds, IsReceiving, IsSameQueue}
+use Rattle.std.proofs.Common.{ℕ, ◌≡◌, ◌∙◌, List, [], ◌∷◌, ◌++◌, Some, arith, refl, ap, sym, subst}
+use Rattle.std.proofs.lemmas.List.{append_assoc, length-append, get_or_append_left}
+use Rattle.std.proofs.lemmas.List.Elements.{All-push}
+use Rattle.subvl_queue.specs.Messages.{IsItem, AreItems}
+use Rattle.vl_link.specs.LinkGathering.{BecomesWhole}
+use Rattle.vl_link.specs.Seen.{Seen, receiving, gathered, taken_of, known_of, ports_of, queue_of, FindsNothing, Finds, IsReceiving, IsSameQueue}
 
 -- nothing more was taken where nothing was found
 pub taken_nothing : (old new : Seen) → FindsNothing old new → taken_of new ≡ taken_of old
@@ -26,6 +29,34 @@ same_finds (gathered g) message new f = subst (IsSameQueue (gathered g)) (sym f.
   refl,
   append_assoc g.taken (message ∷ []) f.0 ∙ ap (λ (left : List (ℕ × List ℕ)). g.taken ++ left) (sym f.1),
 )
+
+-- where nothing was found, no more is known
+pub items_nothing : (n : ℕ) (old new : Seen) → FindsNothing old new → AreItems n (known_of old) → AreItems n (known_of new)
+items_nothing n (receiving r) new f items = subst (λ (seen : Seen). AreItems n (known_of seen)) (sym f) items
+items_nothing n (gathered g) new f items = subst (λ (seen : Seen). AreItems n (known_of seen)) (sym f.1) items
+
+-- what was found is known then; where the messages are known whole, it was known before
+pub items_finds : (n : ℕ) (old : Seen) (message : ℕ × List ℕ) (new : Seen) → Finds old message new → IsItem n message
+    → AreItems n (known_of old) → AreItems n (known_of new)
+items_finds n (receiving r) message new f item items =
+    subst (λ (seen : Seen). AreItems n (known_of seen)) (sym f) (All-push (IsItem n) r.taken message items item)
+items_finds n (gathered g) message new f item items =
+    subst (λ (seen : Seen). AreItems n (known_of seen)) (sym f.2)
+    (subst (AreItems n) (sym (append_assoc g.taken (message ∷ []) f.0
+    ∙ ap (λ (left : List (ℕ × List ℕ)). g.taken ++ left) (sym f.1))) items)
+
+-- what is known of a queue that was gathered is of its ports
+pub items_whole : (n : ℕ) (old new : Seen) → n ≡ ports_of old → BecomesWhole old new → AreItems n (known_of new)
+items_whole n (receiving old) (gathered new) many b = subst (λ (m : ℕ). AreItems m (known_of (gathered new))) (sym many) b.2
+items_whole n (receiving old) (receiving new) many b = absurd b
+items_whole n (gathered old) (gathered new) many b = absurd b
+items_whole n (gathered old) (receiving new) many b = absurd b
+
+-- what was taken is of the ports that all that is known is of
+pub items_taken : (n : ℕ) (seen : Seen) → AreItems n (known_of seen) → AreItems n (taken_of seen)
+items_taken n (receiving r) items = items
+items_taken n (gathered g) items = λ k d lt.
+    subst (IsItem n) (get_or_append_left g.taken g.left d k lt) (items k d (omega (arith, length-append g.taken g.left)))
 
 -- a queue is the same as itself
 pub same_here : (seen : Seen) → IsSameQueue seen seen

@@ -9,14 +9,15 @@ use Rattle.afdx_frame.specs.Fragments.{Sent, blanked}
 use Rattle.afdx_frame.proofs.FragmentLemmas.{fragments_more}
 use Rattle.redundant_mux.specs.Entry.{Entry, entry}
 use Rattle.vl_shaper.specs.Pace.{Pace}
+use Rattle.subvl_queue.specs.Messages.{AreItems}
 use Rattle.vl_link.specs.declared.sub_vl.SubVl.{SubVl}
-use Rattle.vl_link.specs.Seen.{taken_of}
+use Rattle.vl_link.specs.Seen.{taken_of, known_of}
 use Rattle.afdx_legal.specs.Streams.{told, IsPrefixOf}
-use Rattle.vl_link.specs.Links.{Held, held_at, GoesOn, Starts, Passes, Asks, IsPicked, PassedOver, Gives, IsSameSub, AreSameSubs, sub_fragments, message_fragments, sent_of, sent_by, taken_by}
+use Rattle.vl_link.specs.Links.{Held, held_at, HasOwnItems, GoesOn, Starts, Passes, Asks, IsPicked, PassedOver, Gives, IsSameSub, AreSameSubs, sub_fragments, message_fragments, sent_of, sent_by, taken_by}
 use Rattle.vl_link.specs.Kept.{IsTied}
 use Rattle.vl_link.proofs.Choosing.{Moves, moves_passed}
 use Rattle.vl_link.proofs.TurnLaws.{choice_other}
-use Rattle.vl_link.proofs.QueueLooks.{taken_nothing, taken_finds, same_nothing, same_finds, same_here, same_on}
+use Rattle.vl_link.proofs.QueueLooks.{taken_nothing, taken_finds, items_nothing, items_finds, same_nothing, same_finds, same_here, same_on}
 
 -- what was asked and has something has a fragment left
 pub asked_left : (old new : Held) → Asks true old new → new.left ≢ []
@@ -27,12 +28,28 @@ asked_left old new a none = ⊎_elim
 
 -- a sub-VL that did nothing stays itself
 pub same_sub_here : (old new : Held) → new ≡ old → IsSameSub old new
-same_sub_here old new e = subst (IsSameSub old) (sym e) (record { of = refl; ports = refl; queue = same_here old.seen })
+same_sub_here old new e = subst (IsSameSub old) (sym e) (record { of = refl; ports = refl; queue = same_here old.seen; items = λ i. i })
 
 -- a sub-VL stays itself over two steps
 pub same_sub_on : (a b c : Held) → IsSameSub a b → IsSameSub b c → IsSameSub a c
 same_sub_on a b c p q =
-    record { of = q.of ∙ p.of; ports = q.ports ∙ p.ports; queue = same_on a.seen b.seen c.seen p.queue q.queue }
+    record {
+      of = q.of ∙ p.of;
+      ports = q.ports ∙ p.ports;
+      queue = same_on a.seen b.seen c.seen p.queue q.queue;
+      items = λ i. q.items (p.items i);
+    }
+
+-- where nothing was found, nothing more is known
+items_pass : (old new : Held) → Passes old new → HasOwnItems old → HasOwnItems new
+items_pass old new p items =
+    subst HasOwnItems (sym p.same) (items_nothing (length old.ports) old.seen new.seen p.nothing items)
+
+-- what was found is of the sub-VL's ports too
+items_start : (old new : Held) → Starts old new → HasOwnItems old → HasOwnItems new
+items_start old new s items =
+    subst (λ (ports : List PortPlan). AreItems (length ports) (known_of new.seen)) (sym s.ports)
+    (items_finds (length old.ports) old.seen s.message new.seen s.finds s.item items)
 
 -- a sub-VL that is asked stays itself
 pub moves_of : (old new : Held) → Moves old new → IsSameSub old new
@@ -41,6 +58,7 @@ moves_of old new m = ⊎_elim
       of = ap (λ (h : Held). h.of) p.same;
       ports = ap (λ (h : Held). h.ports) p.same;
       queue = same_nothing old.seen new.seen p.nothing;
+      items = items_pass old new p;
     })
     (λ m1. ⊎_elim
     (λ a. ⊎_elim
@@ -49,6 +67,7 @@ moves_of old new m = ⊎_elim
       of = s.of;
       ports = s.ports;
       queue = same_finds old.seen s.message new.seen s.finds;
+      items = items_start old new s;
     })
     a)
     (λ (e : new ≡ old). same_sub_here old new e) m1)
@@ -77,7 +96,7 @@ chosen_same pace old sub new c s = moves_of (held_at old s) (held_at new s) (mov
 -- and so does one that gave its next frame
 pub gave_same : (frame : List ℕ) (old new : Held) → Gives old frame new → IsSameSub old new
 gave_same frame old new g =
-    subst (IsSameSub old) (sym g.same) (record { of = refl; ports = refl; queue = same_here old.seen })
+    subst (IsSameSub old) (sym g.same) (record { of = refl; ports = refl; queue = same_here old.seen; items = λ i. i })
 
 -- the fragments of one message more
 fragments_push : (of : SubVl) (xs : List Sent) (m : Sent)

@@ -4,7 +4,7 @@ use Rattle.subvl_queue.specs.Messages.{AreItems}
 use Rattle.subvl_queue.specs.Views.{SenderView, HasEvery, IsWhole, accepted_of}
 use Rattle.vl_link.specs.Seen.{Seen, receiving, gathered, ports_of, queue_of, IsReceiving}
 use Rattle.vl_link.specs.Seen.{known_of}
-use Rattle.vl_link.specs.Links.{Held, LinkState, held_at}
+use Rattle.vl_link.specs.Links.{Held, LinkState, held_at, HasOwnItems}
 use Rattle.vl_link.specs.Room.{RoomView}
 use Rattle.vl_link.specs.Room.{room_in}
 
@@ -36,10 +36,11 @@ pub record IsFullSub (held : Held) (senders : List SenderView) : Type 0 where
   pub together : (k : ℕ) (d : SenderView) → k < length senders
       → queue_of held.seen ≡ Some (slice_index_or senders k d).queue
 
--- a sub-VL but for its queue, which is gathered
+-- a sub-VL but for its queue, which is gathered, and whose messages are of its ports
 pub record GathersSub (old : Held) (senders : List SenderView) (new : Held) : Type 0 where
   pub same : new ≡ record old { seen = new.seen }
   pub gathers : Gathers old.seen senders new.seen
+  pub items : HasOwnItems new
 
 -- the sub-VLs of a link
 pub record GathersSubs (old : List Held) (rooms : List RoomView) (new : List Held) : Type 0 where

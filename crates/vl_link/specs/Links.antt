@@ -12,13 +12,14 @@ use Rattle.afdx_frame.specs.Cutting.{Cutting}
 use Rattle.afdx_frame.specs.Fragments.{Sent, blanked, fragments_at, fragments_from, fragments_left}
 use Rattle.redundant_mux.specs.Entry.{Entry, entry}
 use Rattle.redundant_mux.specs.Lines.{Lines, is_alive, log}
+use Rattle.subvl_queue.specs.Messages.{IsItem, AreItems}
 use Rattle.vl_shaper.specs.Pace.{Pace, turn_of}
 use Rattle.vl_link.specs.Turn.{TurnView, IsChoice, Turn}
 use Rattle.vl_link.specs.declared.served.Served.{Served}
 use Rattle.vl_link.specs.declared.served.Served.TheVariants.{Nothing, Released, Lost}
 use Rattle.vl_link.specs.declared.sub_vl.SubVl.{SubVl}
 use Rattle.afdx_legal.specs.Streams.{link_stream, latest}
-use Rattle.vl_link.specs.Seen.{Seen, taken_of, nothing_seen, FindsNothing, Finds, IsSameQueue}
+use Rattle.vl_link.specs.Seen.{Seen, taken_of, known_of, nothing_seen, FindsNothing, Finds, IsSameQueue}
 
 -- the fragments of a sub-VL's messages for network A, the first of which has this place
 abbrev pub sub_fragments : SubVl → ℕ → List Sent → List (List ℕ)
@@ -65,9 +66,14 @@ pub record GoesOn (old new : Held) : Type 0 where
   pub some : old.left ≡ [] → ⊥
   pub same : new ≡ old
 
--- no message was being sent, and the one that was found in the queue now is
+-- what is known of a sub-VL's queue is of its ports
+abbrev pub HasOwnItems : Held → Type 0
+HasOwnItems held = AreItems (length held.ports) (known_of held.seen)
+
+-- no message was being sent, and the one of its ports that was found in the queue now is
 pub record Starts (old new : Held) : Type 0 where
   pub message : ℕ × List ℕ
+  pub item : IsItem (length old.ports) message
   pub whole : old.left ≡ []
   pub finds : Finds old.seen message new.seen
   pub left : new.left ≡
@@ -155,11 +161,12 @@ abbrev pub AreSubsOf : LinkPlan → List Held → Type 0
 AreSubsOf plan subs = (s : ℕ) → s < length subs
     → ((held_at subs s).of.link ≡ plan) × ((held_at subs s).of.sub ≡ s)
 
--- a sub-VL is the one that it was, with the same ports and queue
+-- a sub-VL is the one that it was, with the same ports and queue, and what is known of it stays of its ports
 pub record IsSameSub (old new : Held) : Type 0 where
   pub of : new.of ≡ old.of
   pub ports : new.ports ≡ old.ports
   pub queue : IsSameQueue old.seen new.seen
+  pub items : HasOwnItems old → HasOwnItems new
 
 -- each sub-VL is the one that it was
 abbrev pub AreSameSubs : (old new : List Held) → Type 0

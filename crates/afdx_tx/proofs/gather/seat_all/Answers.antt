@@ -62,7 +62,7 @@ loop-place-preserved g c =
     ≡ (room_at c.loop-place.rooms c.link_of-link.result c.from.result).senders ++ c.take_port-port.result.sender ∷ [] =
     c.put.ensures.put
     ∙ ap (λ (rs : List RoomView). (room_in rs c.from.result).senders ++ c.into_sender.result ∷ []) here
-    ∙ ap (λ (x : SenderView). (room_at c.loop-place.rooms c.link_of-link.result c.from.result).senders ++ x ∷ []) c.into_sender.ensures in
+    ∙ ap (λ (x : SenderView). (room_at c.loop-place.rooms c.link_of-link.result c.from.result).senders ++ x ∷ []) c.into_sender.ensures.sender in
     let size = c.put.ensures.size ∙ ap (λ (rs : List RoomView). (room_in rs s).size) here in
     let inside = old.back port (taken_inside c.loop-place.ports.items c.take_port-port.new.ports.items port c.take_port-port.ensures.rest) in
     let many = has_place config rooms n k s P at old.rooms in
@@ -72,7 +72,7 @@ loop-place-preserved g c =
       seats = below_more _ _
           (λ p lt. seat_kept config c.args.ports.items rooms k s c.put.new.self port.sender p within changed senders (old.seats p lt))
           (seat_new config c.args.ports.items rooms n k s c.put.new.self port within link sub many.0 senders inside
-          c.take_port-port.ensures.at);
+          c.take_port-port.ensures.at c.into_sender.ensures.messages);
       rest = λ p le lt. others_left c.loop-place.ports.items c.take_port-port.new.ports.items port n p c.take_port-port.ensures.rest
           c.take_port-port.ensures.at (λ (e : p ≡ c.loop-place.place). omega arith) (old.rest p (omega arith) lt);
       back = λ q has. old.back q (left_inside c.loop-place.ports.items c.take_port-port.new.ports.items port q

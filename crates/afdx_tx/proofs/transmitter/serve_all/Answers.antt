@@ -1,4 +1,4 @@
-use Rattle.std.proofs.Common.{List, ◌++◌, ◌+◌, ◌≡◌, ◌<◌, ◌∙◌, ap, sym, length, subst, set, get_or, arith, false}
+use Rattle.std.proofs.Common.{◌++◌, ◌≡◌, ◌<◌, ◌∙◌, ap, sym, length, subst, get_or, arith, false}
 use Rattle.std.proofs.lemmas.List.{get_or_default, set-get_or}
 use Rattle.redundant_mux.proofs.Enduring.{both_on}
 use Rattle.afdx_plan.specs.declared.identifiers.VlId.{VlId}

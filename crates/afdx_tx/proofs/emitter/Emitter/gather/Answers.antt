@@ -3,7 +3,9 @@ use Rattle.std.proofs.lemmas.List.{with_items_is}
 use Rattle.std.specs.Vec.{with_items}
 use Rattle.afdx_plan.specs.Config.{IsPlan}
 use Rattle.vl_link.specs.Links.{link_at}
+use Rattle.afdx_legal.specs.Allowed.{AreAllowed}
 use Rattle.afdx_tx.specs.Emitter.{Tx}
+use Rattle.afdx_tx.specs.Drain.{accepted_in}
 use Rattle.afdx_tx.specs.Ports.{AreOpenedWith}
 use Rattle.vl_link.specs.Room.{RoomView}
 use Rattle.afdx_tx.specs.Rooms.{rooms_of}
@@ -30,7 +32,11 @@ returns-clause-gathered g c =
       count = links.count;
       links = λ k lt. link_gathered (link_at tx.links k) (rooms_of c.seat_all.new.rooms k) (link_at new.links k) (links.each k lt);
       own = λ place lt. own_part tx new c.args.ports.items c.seat_all.new.rooms place valid c.gather.ensures.shape links
-          c.gather.ensures.plan opened lt (c.seat_all.ensures.seats place lt);
+          c.gather.ensures.plan c.gather.ensures.ports c.gather.ensures.items opened lt (c.seat_all.ensures.seats place lt);
     } in
     subst (λ (t : Tx). IsGatheredTx t c.args.ports.items c.over.result) c.self.view_is
     (subst (IsGatheredTx c.self.inside.inner c.args.ports.items) (sym c.over.ensures) gathered)
+
+pub returns-clause-allowed : goal.returns-clause-allowed
+returns-clause-allowed g c =
+    subst (λ (t : Tx). AreAllowed t.plan (accepted_in t.links)) (sym c.over.ensures) c.gather.ensures.accepted

@@ -7,6 +7,7 @@ use Rattle.afdx_tx.specs.Rooms.{AreRooms, senders_for}
 use Rattle.afdx_tx.specs.Gathering.{AreFull, GathersLinks, HasShape}
 use Rattle.afdx_tx.proofs.SoundEmitter.{sound_legal}
 use Rattle.afdx_tx.proofs.GatheredEmitter.{gathered_sound, shape_of, full_of}
+use Rattle.afdx_tx.proofs.PortMessages.{accepted_allowed}
 use Rattle.afdx_tx.proofs.transmitter.Transmitter.gather.Given
 use Rattle.afdx_tx.proofs.transmitter.Transmitter.gather.Goals as goal
 
@@ -52,3 +53,14 @@ pub returns-clause-shape : goal.returns-clause-shape
 returns-clause-shape g c =
     subst (λ (t : Tx). HasShape t.plan t.links) c.self.view_is
     (shape_of c.self.inside.config c.self.inside.links.items c.self.invariant.of_plan)
+
+pub returns-clause-ports : goal.returns-clause-ports
+returns-clause-ports g c = (sound g c).of_plan
+
+pub returns-clause-items : goal.returns-clause-items
+returns-clause-items g c = (sound g c).items
+
+pub returns-clause-accepted : goal.returns-clause-accepted
+returns-clause-accepted g c =
+    accepted_allowed c.self.inside.config (with_items c.self.inside.links c.gather_all.new.links).items (sound g c).of_plan
+    (sound g c).items

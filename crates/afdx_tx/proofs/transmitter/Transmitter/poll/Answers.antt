@@ -6,11 +6,14 @@ use Rattle.redundant_mux.proofs.Enduring.{both_none}
 use Rattle.vl_link.specs.Links.{LinkState}
 use Rattle.vl_link.proofs.Standing.{alive_is}
 use Rattle.afdx_legal.specs.Legal.{IsLegal}
+use Rattle.afdx_legal.specs.Allowed.{AreAllowed}
 use Rattle.afdx_tx.specs.Emitter.{Tx, AreApart, IsSound, taken_in}
+use Rattle.afdx_tx.specs.Drain.{accepted_in}
 use Rattle.afdx_tx.specs.Report.{IsTold}
 use Rattle.afdx_tx.specs.Run.{IsRun, IsCutShort}
 use Rattle.afdx_tx.specs.Serving.{IsSteady}
 use Rattle.afdx_tx.proofs.SoundEmitter.{links_apart, sound_after, sound_legal}
+use Rattle.afdx_tx.proofs.PortMessages.{taken_allowed, accepted_allowed}
 use Rattle.afdx_tx.proofs.transmitter.Transmitter.poll.Given
 use Rattle.afdx_tx.proofs.transmitter.Transmitter.poll.Goals as goal
 
@@ -37,7 +40,7 @@ sound : (g : Given.Over) (c : goal.After-standing-2 g)
 sound g c =
     subst (λ (ls : List LinkState). IsSound c.self.inside.config ls c.serve_all.new.mux c.args.now) (sym (links_are g c))
     (sound_after c.self.inside.config c.self.inside.links.items c.serve_all.new.links c.serve_all.new.mux c.args.now
-    c.self.invariant.valid c.self.invariant.of_plan (steady g c) c.standing-2.ensures.mirrored c.serve_all.ensures.whole)
+    c.self.invariant.valid c.self.invariant.of_plan c.self.invariant.items (steady g c) c.standing-2.ensures.mirrored c.serve_all.ensures.whole)
 
 pub invariant_of-self : goal.invariant_of-self
 invariant_of-self g c = sound g c
@@ -46,6 +49,26 @@ pub returns-clause-legal : goal.returns-clause-legal
 returns-clause-legal g c =
     sound_legal c.self.inside.config (with_items c.self.inside.links c.serve_all.new.links).items c.serve_all.new.mux c.args.now
     (sound g c)
+
+pub returns-clause-taken : goal.returns-clause-taken
+returns-clause-taken g c =
+    taken_allowed c.self.inside.config (with_items c.self.inside.links c.serve_all.new.links).items (sound g c).of_plan
+    (sound g c).items
+
+pub returns-clause-accepted : goal.returns-clause-accepted
+returns-clause-accepted g c =
+    accepted_allowed c.self.inside.config (with_items c.self.inside.links c.serve_all.new.links).items (sound g c).of_plan
+    (sound g c).items
+
+pub returns-then-not-some_stands-clause-taken : goal.returns-then-not-some_stands-clause-taken
+returns-then-not-some_stands-clause-taken g c =
+    subst (λ (t : Tx). AreAllowed t.plan (taken_in t.links)) c.self.view_is
+    (taken_allowed c.self.inside.config c.self.inside.links.items c.self.invariant.of_plan c.self.invariant.items)
+
+pub returns-then-not-some_stands-clause-accepted : goal.returns-then-not-some_stands-clause-accepted
+returns-then-not-some_stands-clause-accepted g c =
+    subst (λ (t : Tx). AreAllowed t.plan (accepted_in t.links)) c.self.view_is
+    (accepted_allowed c.self.inside.config c.self.inside.links.items c.self.invariant.of_plan c.self.invariant.items)
 
 pub returns-clause-tied : goal.returns-clause-tied
 returns-clause-tied g c = λ k lt whole. ((sound g c).kept k lt).tied whole

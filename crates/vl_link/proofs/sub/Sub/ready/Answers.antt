@@ -7,6 +7,7 @@ use Rattle.afdx_plan.specs.declared.port_plan.PortPlan.{PortPlan}
 use Rattle.afdx_frame.specs.Cutting.{Cutting}
 use Rattle.afdx_frame.specs.declared.net.Net.TheVariants.{A}
 use Rattle.afdx_frame.proofs.Twins.{fragments_again}
+use Rattle.subvl_queue.specs.Messages.{IsItem}
 use Rattle.vl_link.specs.declared.sub_vl.SubVl.{SubVl}
 use Rattle.vl_link.specs.Seen.{taken_of}
 use Rattle.vl_link.specs.Links.{TellsCutting, left_of, message_fragments, sent_of}
@@ -65,6 +66,7 @@ returns-in-Some g c =
     (sent_of c.self.inside.ports.items c.in-Some.item) in
     rw (← c.self.view_is) (inr (record {
       message = c.in-Some.item;
+      item = subst (λ (n : ℕ). IsItem n c.in-Some.item) (sym c.self.invariant.count) c.in-Some.ensures.item;
       whole = is_whole c.self.inside.of c.self.inside.sending _ c.if-is_cutting.false c.is_cutting.ensures;
       finds = c.in-Some.ensures.some;
       left = left;

@@ -1,0 +1,24 @@
+-- What the messages of the accepted lists are.
+use Rattle.std.specs.Prelude.{ℕ, ◌≡◌, ◌≤◌, ◌<◌, nat_eq, List, length, map, filter, All, Contains}
+use Rattle.afdx_plan.specs.Config.{Plan, link_plan_at}
+use Rattle.afdx_frame.specs.Fragments.{Sent}
+use Rattle.afdx_frame.specs.Roles.{greatest_message}
+use Rattle.afdx_legal.specs.Legal.{Accepted}
+
+-- a message of a port of the plan, over the link at a place and a sub-VL of it
+pub record IsAllowed (plan : Plan) (k sub : ℕ) (sent : Sent) : Type 0 where
+  pub port : Contains plan.ports sent.port
+  pub over : sent.port.vl.0 ≡ (link_plan_at plan.links k).id.0
+  pub its : sent.port.sub ≡ sub
+  pub some : 1 ≤ length sent.bytes
+  pub most : length sent.bytes ≤ greatest_message
+
+-- the messages of one port among those of a sub-VL, in order
+abbrev pub messages_of : ℕ → List Sent → List (List ℕ)
+messages_of port accepted = map (λ (sent : Sent). sent.bytes)
+    (filter (λ (sent : Sent). nat_eq sent.port.id.0 port) accepted)
+
+-- each message of each sub-VL is of one of its ports
+abbrev pub AreAllowed : Plan → Accepted → Type 0
+AreAllowed plan accepted = (k s : ℕ) → k < length plan.links → s < (link_plan_at plan.links k).sub_vls
+    → All (IsAllowed plan k s) (accepted k s)
