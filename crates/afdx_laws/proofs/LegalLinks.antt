@@ -54,7 +54,7 @@ handed_is plan accepted net handed k sub legal inside index =
     }
 
 -- a link's frames are twins
-twins_are : (plan : Plan) (accepted : Accepted) (a b : List Entry) (vl : ℕ) → IsLegal plan accepted a b
+pub twins_are : (plan : Plan) (accepted : Accepted) (a b : List Entry) (vl : ℕ) → IsLegal plan accepted a b
     → AreTwins twin_of (frames_of vl a) (frames_of vl b)
 twins_are plan accepted a b vl legal = elim (cases_lt (length a) (length b)) [
   | inl shorter ↦ twins_by_a (frames_of vl a) (frames_of vl b) (own_of plan.links B vl b legal.on_b.known)

@@ -15,10 +15,12 @@ pub mod HandedLoss
 pub mod WorkedMessage
 pub mod LinkFrames
 pub mod LegalLinks
+pub mod WholeHanded
 pub mod Spent
 pub mod Sizes
 pub mod LegalSpacing
 pub mod WorkedDemo
+pub mod WorkedWhole
 pub mod WorkedMoments
 pub mod WorkedNumbers
 pub mod WorkedPieces

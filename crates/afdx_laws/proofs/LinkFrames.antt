@@ -56,7 +56,7 @@ told_is sub es =
     ∙ ap (map blanked) (sym (with_map (λ (e : Entry). sub_in e.frame) sub_in frame_of_entry sub (λ e. refl) es))
 
 -- a link's frames of entries for another network
-frames_side : (net : Net) (vl : ℕ) (es : List Entry) → frames_of vl (map (side net) es) ≡ map (twin_of net) (frames_of vl es)
+pub frames_side : (net : Net) (vl : ℕ) (es : List Entry) → frames_of vl (map (side net) es) ≡ map (twin_of net) (frames_of vl es)
 frames_side net vl es =
     ap (map frame_of_entry) (with_map (λ (e : Entry). link_in e.frame) (λ (e : Entry). link_in e.frame) (side net) vl
     (λ e. twin_link net e.frame) es)

@@ -125,7 +125,7 @@ unfolding checksum addresses header_front internet_header link_header udp_header
 one_twins = record { b_shorter = λ h. refl; a_shorter = λ h. refl }
 
 -- the message may be sent
-one_allowed : IsAllowed demo_plan 0 0 one_byte
+pub one_allowed : IsAllowed demo_plan 0 0 one_byte
 one_allowed = record { port = (0, omega arith, refl); over = refl; its = refl; some = omega arith; most = omega arith }
 
 -- each network carries its frame

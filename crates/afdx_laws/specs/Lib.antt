@@ -10,7 +10,9 @@ pub mod Messages
 pub mod Handed
 pub mod WorkedDelivery
 pub mod Plans
+pub mod WholeLists
 pub mod WorkedPlan
+pub mod WorkedWhole
 pub mod WorkedSkew
 pub mod WorkedReceiving
 pub mod WorkedOrder

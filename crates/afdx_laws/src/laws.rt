@@ -18,7 +18,9 @@ ghost use Rattle.afdx_laws.specs.WorkedOrder.{FirstIsGiven};
 ghost use Rattle.afdx_laws.specs.WorkedPlan.{OneIsLegal};
 ghost use Rattle.afdx_laws.specs.WorkedPolicing.{PolicesThree, SpendsAll, DropsTheEarly, PassesTwo};
 ghost use Rattle.afdx_laws.specs.WorkedReceiving.{AcceptsEachOnce, StreamArrives, ClashesPast254};
+ghost use Rattle.afdx_laws.specs.WholeLists.{OwnListsArrive};
 ghost use Rattle.afdx_laws.specs.WorkedSkew.{ComesInTime};
+ghost use Rattle.afdx_laws.specs.WorkedWhole.{OneIsWhole};
 
 /// A switch that polices a link by its gap, its greatest frame and a jitter, by bytes or by frames,
 /// drops no frame of a link that keeps its gap, whatever each frame is delayed by on its way, up to
@@ -215,4 +217,19 @@ pub fn legal_despite_loss()
 /// That the delay stays below the jitter is a premise, and nothing is said of the queues of the switch.
 pub fn legal_passes()
     ensures { LegalPasses }
+{}
+
+/// For each link and sub-VL of a valid plan: where all that was accepted was handed over legally, and
+/// one network carried all of the link, the receiver's messages are the ports' own lists, each message
+/// once and in order.
+///
+/// Its premises at the transmitting end are what the calls of `afdx_tx` tell: `Emitter::gather`
+/// (`gathered`: what was accepted of each port is its own list), `Draining::poll` (`accepted`: that stays
+/// so), `Draining::is_done`, and `Draining::into_networks` (`legal`, `allowed`). Those at the other end are
+/// `legal_arrive`'s.
+pub fn own_lists_arrive()
+    ensures arrive { OwnListsArrive }
+
+    // the demonstration configuration, with one message
+    ensures worked { OneIsWhole }
 {}

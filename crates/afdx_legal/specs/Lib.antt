@@ -1,3 +1,4 @@
 pub mod Streams
 pub mod Legal
 pub mod Allowed
+pub mod Done

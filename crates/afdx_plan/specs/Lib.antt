@@ -6,3 +6,4 @@ pub mod Flows
 pub mod Config
 pub mod Demo
 pub mod PlanFaults
+pub mod Places

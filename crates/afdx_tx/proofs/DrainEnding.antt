@@ -22,7 +22,8 @@ use Rattle.vl_link.proofs.PaceOfStream.{stream_more, stream_same}
 use Rattle.afdx_legal.specs.Streams.{latest, link_stream, sub_stream, told}
 use Rattle.afdx_legal.specs.Legal.{Accepted}
 use Rattle.afdx_legal.proofs.LongerStream.{latest_push, with_push_in, with_push_out}
-use Rattle.afdx_tx.specs.Drain.{Owes, Drains, DrainsAt, IsDrained, pace_in, accepted_view}
+use Rattle.afdx_legal.specs.Done.{Owes}
+use Rattle.afdx_tx.specs.Drain.{Drains, DrainsAt, IsDrained, pace_in, accepted_view}
 use Rattle.afdx_tx.specs.DrainEnds.{owed, stream_at, owed_at, AreApartBy, AreDrained, DrainEnds}
 
 -- the fragments of the accepted messages of a sub-VL

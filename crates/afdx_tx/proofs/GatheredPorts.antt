@@ -6,7 +6,7 @@ use Rattle.subvl_queue.specs.Messages.{part_of}
 use Rattle.subvl_queue.specs.Views.{SenderView}
 use Rattle.vl_link.specs.Links.{LinkState, held_at, link_at}
 use Rattle.afdx_tx.specs.Emitter.{Tx, AreLinksOf, HaveOwnItems, queues_in}
-use Rattle.afdx_tx.specs.Sending.{link_place}
+use Rattle.afdx_plan.specs.Places.{link_place}
 use Rattle.vl_link.specs.Seen.{known_of}
 use Rattle.afdx_tx.specs.Ports.{PortView, BelongsTo, AreOpenedWith, index_of}
 use Rattle.vl_link.specs.Room.{RoomView}

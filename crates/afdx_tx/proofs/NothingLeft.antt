@@ -9,7 +9,8 @@ use Rattle.vl_link.specs.Seen.{Seen, receiving, gathered, IsKnownWhole, TellsDra
 use Rattle.vl_link.specs.Links.{Held, LinkState, held_at, link_at, sub_fragments, taken_by}
 use Rattle.vl_link.specs.Kept.{IsKept}
 use Rattle.afdx_tx.specs.Emitter.{IsSound}
-use Rattle.afdx_tx.specs.Drain.{AreGathered, accepted_in, Owes, IsReleased, IsLinkDone, IsAllDone}
+use Rattle.afdx_legal.specs.Done.{Owes, IsReleased, IsLinkDone, IsAllDone}
+use Rattle.afdx_tx.specs.Drain.{AreGathered, accepted_in}
 use Rattle.vl_link.specs.LinkDone.{TellsSubDone, HasSubLeft, TellsLinkDone}
 use Rattle.afdx_tx.specs.Done.{TellsAllDone}
 use Rattle.vl_link.proofs.LinkTurn.{IsOwn}

@@ -13,7 +13,8 @@ use Rattle.afdx_legal.specs.Streams.{told_of}
 use Rattle.vl_link.specs.Links.{Held, LinkState, held_at, GoesOn, Starts, Asks, sent_of, sent_by, taken_by, sub_fragments}
 use Rattle.vl_link.specs.Kept.{IsLinkTied}
 use Rattle.vl_link.specs.Seen.{known_of}
-use Rattle.afdx_tx.specs.Drain.{accepted_by, IsReleased, Owes}
+use Rattle.afdx_legal.specs.Done.{IsReleased, Owes}
+use Rattle.afdx_tx.specs.Drain.{accepted_by}
 use Rattle.vl_link.proofs.FragmentsLeft.{fragments_some}
 use Rattle.vl_link.proofs.LinkTurn.{IsOwn}
 

@@ -10,7 +10,7 @@ use Rattle.afdx_plan.specs.declared.port_plan.PortPlan.{PortPlan}
 use Rattle.afdx_plan.specs.Plan.{SendsOver}
 use Rattle.afdx_plan.specs.Config.{Plan, IsPlan, HasLink, link_plan_at}
 use Rattle.vl_link.specs.Links.{no_link_plan}
-use Rattle.afdx_tx.specs.Sending.{link_place}
+use Rattle.afdx_plan.specs.Places.{link_place}
 
 -- whether a link is the port's
 abbrev is_its : PortPlan → LinkPlan → Bool

@@ -13,13 +13,13 @@ use Rattle.afdx_plan.specs.declared.port_plan.PortPlan.{PortPlan}
 use Rattle.afdx_plan.specs.Config.{Plan, IsPlan, link_plan_at, port_plan_at}
 use Rattle.afdx_frame.specs.Fragments.{Sent}
 use Rattle.subvl_queue.specs.Messages.{IsItem, AreItems, part_of}
-use Rattle.afdx_legal.specs.Allowed.{IsAllowed, AreAllowed, messages_of}
+use Rattle.afdx_legal.specs.Allowed.{IsAllowed, AreAllowed, messages_of, accepted_of}
 use Rattle.vl_link.specs.Seen.{taken_of, known_of}
 use Rattle.vl_link.specs.Links.{LinkState, held_at, link_at, sent_of, sent_by}
 use Rattle.vl_link.proofs.QueueLooks.{items_taken}
 use Rattle.afdx_tx.specs.Emitter.{Tx, AreLinksOf, HaveOwnItems, taken_in, ports_of_sub}
-use Rattle.afdx_tx.specs.Drain.{accepted_by, accepted_in}
-use Rattle.afdx_tx.specs.Sending.{link_place}
+use Rattle.afdx_tx.specs.Drain.{accepted_in}
+use Rattle.afdx_plan.specs.Places.{link_place}
 use Rattle.afdx_tx.specs.Ports.{index_of}
 use Rattle.afdx_tx.specs.Gathering.{held_for}
 use Rattle.afdx_tx.proofs.OwnPorts.{both_true}
@@ -194,7 +194,7 @@ own_index config place id valid lt its =
 pub own_messages : (tx : Tx) (place : ℕ) (own : List (List ℕ)) → IsPlan tx.plan → AreLinksOf tx.plan tx.links
     → HaveOwnItems tx.links → place < length tx.plan.ports
     → part_of (index_of tx.plan.ports place) (known_of (held_for tx (port_plan_at tx.plan.ports place)).seen) ≡ own
-    → messages_of (port_plan_at tx.plan.ports place).id.0 (accepted_by (held_for tx (port_plan_at tx.plan.ports place))) ≡ own
+    → accepted_of tx.plan (accepted_in tx.links) place ≡ own
 own_messages tx place own valid of items lt part =
     let port = port_plan_at tx.plan.ports place in
     let k = link_place tx.plan port in

@@ -11,7 +11,7 @@ use Rattle.afdx_plan.specs.Plan.{SendsOver}
 use Rattle.subvl_queue.specs.Views.{QueueName, SenderView}
 use Rattle.afdx_tx.specs.Emitter.{ports_of_sub}
 use Rattle.afdx_tx.specs.Ports.{index_of, queue_at, IsFreshSender, IsFreshPort}
-use Rattle.afdx_tx.specs.Sending.{link_place}
+use Rattle.afdx_plan.specs.Places.{link_place}
 use Rattle.vl_link.specs.Room.{RoomView}
 use Rattle.vl_link.specs.Room.{no_room, room_in}
 use Rattle.afdx_tx.specs.Rooms.{rooms_of, room_at, Holds, AreRooms, fresh_for}

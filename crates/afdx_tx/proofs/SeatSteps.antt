@@ -8,7 +8,7 @@ use Rattle.std.proofs.lemmas.List.Sorted.{Contains-permutation, IsPermutation-sy
 use Rattle.afdx_plan.specs.declared.port_plan.PortPlan.{PortPlan}
 use Rattle.afdx_plan.specs.Config.{Plan, port_plan_at}
 use Rattle.subvl_queue.specs.Views.{QueueName, SenderView}
-use Rattle.afdx_tx.specs.Sending.{link_place}
+use Rattle.afdx_plan.specs.Places.{link_place}
 use Rattle.afdx_tx.specs.Ports.{PortView, HasOwnMessages, HasPlace, BelongsTo, queue_at, index_of}
 use Rattle.vl_link.specs.Room.{RoomView}
 use Rattle.vl_link.specs.Room.{room_in}

@@ -1,19 +1,18 @@
 -- Sending what is left, once all that was accepted is known: told by the plan, the accepted lists and
 -- what was handed over, whatever was taken from the queues.
-use Rattle.std.specs.Prelude.{ℕ, ◌≡◌, ◌<◌, List, [], ◌++◌, length}
+use Rattle.std.specs.Prelude.{ℕ, ◌<◌, List, length}
 use Rattle.afdx_plan.specs.Config.{Plan, link_plan_at}
 use Rattle.afdx_plan.specs.Plan.{bag_micros}
-use Rattle.afdx_plan.specs.Room.{room_of}
 use Rattle.afdx_plan.specs.declared.link_plan.LinkPlan.{LinkPlan}
-use Rattle.afdx_frame.specs.declared.net.Net.TheVariants.{A}
-use Rattle.afdx_frame.specs.Fragments.{Sent, fragments}
+use Rattle.afdx_frame.specs.Fragments.{Sent}
 use Rattle.redundant_mux.specs.Entry.{Entry}
 use Rattle.redundant_mux.specs.Lines.{Lines, log}
 use Rattle.vl_shaper.specs.Pace.{Pace}
 use Rattle.vl_link.specs.declared.served.Served.{Served}
 use Rattle.vl_link.specs.Seen.{IsKnownWhole, known_of}
-use Rattle.afdx_legal.specs.Streams.{link_stream, told_of}
+use Rattle.afdx_legal.specs.Streams.{link_stream}
 use Rattle.afdx_legal.specs.Legal.{Accepted}
+use Rattle.afdx_legal.specs.Done.{IsReleased, Owes}
 use Rattle.vl_link.specs.Links.{Held, LinkState, held_at, link_at, sent_by, pace_of}
 use Rattle.vl_link.specs.Turn.{TurnView, Turn, AreTurns, BreaksOff}
 
@@ -29,30 +28,6 @@ accepted_by held = sent_by held.ports (known_of held.seen)
 -- the accepted list of each sub-VL
 abbrev pub accepted_in : List LinkState → Accepted
 accepted_in links k s = accepted_by (held_at (link_at links k).subs s)
-
--- The accepted messages of a sub-VL are wholly released: their fragments are its stream, the sequence
--- numbers left open.
-abbrev pub IsReleased : ℕ → LinkPlan → (ℕ → List Sent) → List Entry → ℕ → Type 0
-IsReleased end_system link accepted log sub =
-    fragments end_system (room_of link.lmax) A (accepted sub) ≡ told_of link.id.0 sub log
-
--- an accepted message of a sub-VL isn't wholly released: its stream is shorter than their fragments
-pub record Owes (end_system : ℕ) (link : LinkPlan) (accepted : ℕ → List Sent)
-    (log : List Entry) (sub : ℕ) : Type 0 where
-  pub left : List (List ℕ)
-  pub some : left ≡ [] → ⊥
-  pub ahead : fragments end_system (room_of link.lmax) A (accepted sub)
-      ≡ told_of link.id.0 sub log ++ left
-
--- every accepted message of a link is wholly released
-abbrev pub IsLinkDone : ℕ → LinkPlan → (ℕ → List Sent) → List Entry → Type 0
-IsLinkDone end_system link accepted log = (s : ℕ) → s < link.sub_vls
-    → IsReleased end_system link accepted log s
-
--- every fragment of every accepted message was taken by at least one network
-abbrev pub IsAllDone : Plan → Accepted → List Entry → Type 0
-IsAllDone plan accepted log = (k : ℕ) → k < length plan.links
-    → IsLinkDone plan.end_system (link_plan_at plan.links k) (accepted k) log
 
 -- the regulation of a link of the plan, read off its stream
 abbrev pub pace_in : LinkPlan → List Entry → Pace

@@ -11,7 +11,8 @@ use Rattle.redundant_mux.specs.Lines.{Lines, log}
 use Rattle.vl_shaper.specs.Pace.{IsLater}
 use Rattle.afdx_legal.specs.Streams.{link_stream, sub_stream, told, latest}
 use Rattle.afdx_legal.specs.Legal.{Accepted}
-use Rattle.afdx_tx.specs.Drain.{IsAllDone, IsDrained}
+use Rattle.afdx_legal.specs.Done.{IsAllDone}
+use Rattle.afdx_tx.specs.Drain.{IsDrained}
 
 -- how many fragments of the accepted messages of a link's first so many sub-VLs its stream lacks
 abbrev pub owed : ℕ → LinkPlan → (ℕ → List Sent) → List Entry → ℕ → ℕ

@@ -4,13 +4,13 @@ use Rattle.afdx_plan.specs.Config.{Plan, link_plan_at, port_plan_at}
 use Rattle.afdx_plan.specs.declared.port_plan.PortPlan.{PortPlan}
 use Rattle.subvl_queue.specs.Messages.{part_of}
 use Rattle.subvl_queue.specs.Views.{SenderView}
-use Rattle.afdx_legal.specs.Allowed.{messages_of}
+use Rattle.afdx_legal.specs.Allowed.{accepted_of}
 use Rattle.vl_link.specs.Seen.{known_of}
 use Rattle.vl_link.specs.Links.{Held, LinkState, held_at, link_at}
 use Rattle.afdx_tx.specs.Emitter.{Tx}
-use Rattle.afdx_tx.specs.Sending.{link_place}
+use Rattle.afdx_plan.specs.Places.{link_place}
 use Rattle.afdx_tx.specs.Ports.{PortView, HasOwnMessages, index_of}
-use Rattle.afdx_tx.specs.Drain.{accepted_by}
+use Rattle.afdx_tx.specs.Drain.{accepted_in}
 use Rattle.vl_link.specs.Room.{RoomView}
 use Rattle.afdx_tx.specs.Rooms.{rooms_of, room_at}
 use Rattle.vl_link.specs.LinkGathering.{BecomesWhole, GathersLink, AreFullSubs}
@@ -59,8 +59,7 @@ pub record HasOwnPart (tx : Tx) (ports : List PortView) (place : ℕ) : Type 0 w
   pub messages : HasOwnMessages port
   pub part : part_of (index_of tx.plan.ports place)
       (known_of (held_for tx (port_plan_at tx.plan.ports place)).seen) ≡ port.sender.own
-  pub accepted : messages_of (port_plan_at tx.plan.ports place).id.0
-      (accepted_by (held_for tx (port_plan_at tx.plan.ports place))) ≡ port.sender.own
+  pub accepted : accepted_of tx.plan (accepted_in tx.links) place ≡ port.sender.own
 
 -- a sub-VL but for its queue, whose accepted messages are known whole
 pub record IsGatheredSub (old new : Held) : Type 0 where

@@ -8,7 +8,7 @@ use Rattle.subvl_queue.specs.declared.refused.Why.{Why}
 use Rattle.subvl_queue.specs.declared.refused.Why.TheVariants.{Closed as QueueClosed, Exhausted as QueueExhausted, Full as QueueFull}
 use Rattle.afdx_tx.specs.declared.fault.Refusal.{Refusal}
 use Rattle.afdx_tx.specs.declared.fault.Refusal.TheVariants.{Empty, TooLong, Closed, Exhausted, Full}
-use Rattle.afdx_tx.specs.Sending.{link_place}
+use Rattle.afdx_plan.specs.Places.{link_place}
 use Rattle.afdx_tx.specs.Emitter.{Tx, queues_in, ports_of_sub}
 
 -- A port: its place in the configuration, what the configuration says of it, and its sender.

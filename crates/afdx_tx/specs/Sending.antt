@@ -1,14 +1,8 @@
 -- What a port takes.
-use Rattle.std.specs.Prelude.{ℕ, ◌==◌, nat_lt, nat_eq, unwrap_or, if◌then◌else◌, position, Option, Some, None}
-use Rattle.afdx_plan.specs.Config.{Plan}
-use Rattle.afdx_plan.specs.declared.link_plan.LinkPlan.{LinkPlan}
+use Rattle.std.specs.Prelude.{ℕ, nat_lt, nat_eq, if◌then◌else◌, Option, Some, None}
 use Rattle.afdx_plan.specs.declared.port_plan.PortPlan.{PortPlan}
 use Rattle.afdx_tx.specs.declared.fault.Refusal.{Refusal}
 use Rattle.afdx_tx.specs.declared.fault.Refusal.TheVariants.{Empty, TooLong}
-
--- the place of a port's link in the plan
-abbrev pub link_place : Plan → PortPlan → ℕ
-link_place plan port = unwrap_or (position (λ (link : LinkPlan). link.id.0 == port.vl.0) plan.links) 0
 
 -- Why a port doesn't take a message of so many bytes, whatever its queue holds: first that it has
 -- none, then that it is over the port's greatest message.

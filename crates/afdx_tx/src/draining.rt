@@ -32,7 +32,8 @@ impl<A: Network + Drop, B: Network + Drop> Draining<A, B> {
     ghost use Rattle.afdx_legal.specs.Legal.{IsLegal};
     ghost use Rattle.afdx_legal.specs.Allowed.{AreAllowed};
     ghost use Rattle.afdx_tx.specs.Report.{Polls};
-    ghost use Rattle.afdx_tx.specs.Drain.{AreGathered, IsAllDone, IsDrained, IsDrainCutShort, accepted_in};
+    ghost use Rattle.afdx_legal.specs.Done.{IsAllDone};
+    ghost use Rattle.afdx_tx.specs.Drain.{AreGathered, IsDrained, IsDrainCutShort, accepted_in};
 
     /// Over links whose queues are all gathered.
     pub(crate) fn over(inner: Transmitter<A, B>) -> Draining<A, B>

@@ -2,7 +2,7 @@
 ghost use Rattle.std.specs.Prelude.{◌≡◌, ◌<◌, length};
 ghost use Rattle.afdx_plan.specs.Config.{HasLink, IsPlan, link_plan_at, port_plan_at};
 ghost use Rattle.afdx_plan.specs.Plan.{IsPort, SendsOver};
-ghost use Rattle.afdx_tx.specs.Sending.{link_place};
+ghost use Rattle.afdx_plan.specs.Places.{link_place};
 
 use afdx_plan::{Config, PortPlan};
 

@@ -130,7 +130,8 @@ impl<A: Network + Drop, B: Network + Drop> Transmitter<A, B> {
     ghost use Rattle.afdx_tx.specs.Run.{IsRun, IsCutShort};
     ghost use Rattle.afdx_tx.specs.Report.{Polls};
     ghost use Rattle.afdx_tx.specs.Emitter.{Tx, IsFreshTx, AreFreshLinks, AreLinksOf, AreTied, HaveOwnItems, IsSamePlan, taken_in};
-    ghost use Rattle.afdx_tx.specs.Drain.{AreGathered, IsAllDone, accepted_in};
+    ghost use Rattle.afdx_legal.specs.Done.{IsAllDone};
+    ghost use Rattle.afdx_tx.specs.Drain.{AreGathered, accepted_in};
     ghost use Rattle.afdx_tx.specs.Emitter.{AreReceiving, queues_in};
     ghost use Rattle.afdx_tx.specs.Rooms.{AreRooms, senders_for};
     ghost use Rattle.afdx_tx.specs.Gathering.{GathersLinks, HasShape};

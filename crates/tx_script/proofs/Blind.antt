@@ -13,7 +13,7 @@ use Rattle.vl_link.specs.declared.served.Served.TheVariants.{Nothing as DidNothi
 use Rattle.vl_link.specs.Turn.{AreTurns}
 use Rattle.afdx_legal.specs.Streams.{latest, link_stream}
 use Rattle.afdx_tx.specs.Emitter.{ports_of_sub}
-use Rattle.afdx_tx.specs.Sending.{link_place}
+use Rattle.afdx_plan.specs.Places.{link_place}
 use Rattle.redundant_mux.proofs.MirroredLines.{fresh_lines, fresh_log}
 use Rattle.tx_script.specs.EndSystem.{EndSystem, Progress, no_progress, HasTurnAt, HasPolled}
 use Rattle.script_lines.specs.Lines.{after_feed}

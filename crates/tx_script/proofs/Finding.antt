@@ -20,7 +20,7 @@ use Rattle.vl_link.specs.Seen.{Seen, receiving, gathered, taken_of, ports_of}
 use Rattle.vl_link.specs.Seen.{known_of}
 use Rattle.vl_link.specs.Links.{no_link_plan, nothing_held, no_link, Held, LinkState, held_at, link_at, sent_of, sent_by}
 use Rattle.afdx_tx.specs.Emitter.{Tx, ports_of_sub}
-use Rattle.afdx_tx.specs.Sending.{link_place}
+use Rattle.afdx_plan.specs.Places.{link_place}
 use Rattle.afdx_tx.specs.Ports.{PortView, LacksPlace, index_of}
 use Rattle.vl_link.specs.LinkGathering.{BecomesWhole}
 use Rattle.afdx_tx.specs.Gathering.{IsGatheredSub, IsGatheredLink, IsGatheredTx, HasOwnPart, held_for}

@@ -7,7 +7,8 @@ use Rattle.afdx_frame.specs.Fragments.{Sent}
 use Rattle.afdx_tx.specs.declared.fault.Refusal.{Refusal as SendRefusal}
 use Rattle.afdx_tx.specs.declared.fault.Refusal.TheVariants as Why
 use Rattle.afdx_tx.specs.Emitter.{ports_of_sub}
-use Rattle.afdx_tx.specs.Sending.{length_refusal, link_place}
+use Rattle.afdx_plan.specs.Places.{link_place}
+use Rattle.afdx_tx.specs.Sending.{length_refusal}
 use Rattle.tx_script.specs.EndSystem.{EndSystem, HasPolled, fresh, handed_b}
 use Rattle.script_lines.specs.Meaning.{meaning_of}
 use Rattle.transcript.specs.Summary.{counted}

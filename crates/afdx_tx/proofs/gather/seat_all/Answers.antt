@@ -4,7 +4,7 @@ use Rattle.afdx_plan.specs.declared.port_plan.PortPlan.{PortPlan}
 use Rattle.afdx_plan.specs.Config.{Plan, IsPlan, port_plan_at}
 use Rattle.subvl_queue.specs.Views.{SenderView}
 use Rattle.afdx_tx.specs.Emitter.{queues_in}
-use Rattle.afdx_tx.specs.Sending.{link_place}
+use Rattle.afdx_plan.specs.Places.{link_place}
 use Rattle.vl_link.specs.Room.{RoomView}
 use Rattle.afdx_tx.specs.Rooms.{rooms_of, room_at, senders_for}
 use Rattle.vl_link.specs.Room.{room_in}

@@ -1,7 +1,8 @@
 use Rattle.std.proofs.Common.{◌≡◌, true, subst}
 use Rattle.redundant_mux.specs.Lines.{log}
 use Rattle.afdx_tx.specs.Emitter.{Tx}
-use Rattle.afdx_tx.specs.Drain.{IsAllDone, accepted_in}
+use Rattle.afdx_legal.specs.Done.{IsAllDone}
+use Rattle.afdx_tx.specs.Drain.{accepted_in}
 use Rattle.afdx_tx.proofs.draining.Draining.is_done.Goals as goal
 
 pub returns : goal.returns

@@ -2,7 +2,8 @@ use Rattle.std.proofs.Common.{List, ◌≡◌, true, sym, subst}
 use Rattle.redundant_mux.specs.Lines.{log}
 use Rattle.vl_link.specs.Links.{LinkState}
 use Rattle.afdx_tx.specs.Emitter.{Tx}
-use Rattle.afdx_tx.specs.Drain.{AreGathered, IsAllDone, accepted_in}
+use Rattle.afdx_legal.specs.Done.{IsAllDone}
+use Rattle.afdx_tx.specs.Drain.{AreGathered, accepted_in}
 use Rattle.afdx_tx.specs.Done.{TellsAllDone}
 use Rattle.afdx_tx.proofs.NothingLeft.{all_done}
 use Rattle.afdx_tx.proofs.transmitter.Transmitter.is_done.Goals as goal

@@ -1,0 +1,34 @@
+-- Whether every fragment of every accepted message was handed over.
+use Rattle.std.specs.Prelude.{ℕ, ◌≡◌, ◌<◌, List, [], ◌++◌, length}
+use Rattle.afdx_plan.specs.Config.{Plan, link_plan_at}
+use Rattle.afdx_plan.specs.Room.{room_of}
+use Rattle.afdx_plan.specs.declared.link_plan.LinkPlan.{LinkPlan}
+use Rattle.afdx_frame.specs.declared.net.Net.TheVariants.{A}
+use Rattle.afdx_frame.specs.Fragments.{Sent, fragments}
+use Rattle.redundant_mux.specs.Entry.{Entry}
+use Rattle.afdx_legal.specs.Streams.{told_of}
+use Rattle.afdx_legal.specs.Legal.{Accepted}
+
+-- The accepted messages of a sub-VL are wholly released: their fragments are its stream, the sequence
+-- numbers left open.
+abbrev pub IsReleased : ℕ → LinkPlan → (ℕ → List Sent) → List Entry → ℕ → Type 0
+IsReleased end_system link accepted log sub =
+    fragments end_system (room_of link.lmax) A (accepted sub) ≡ told_of link.id.0 sub log
+
+-- an accepted message of a sub-VL isn't wholly released: its stream is shorter than their fragments
+pub record Owes (end_system : ℕ) (link : LinkPlan) (accepted : ℕ → List Sent)
+    (log : List Entry) (sub : ℕ) : Type 0 where
+  pub left : List (List ℕ)
+  pub some : left ≡ [] → ⊥
+  pub ahead : fragments end_system (room_of link.lmax) A (accepted sub)
+      ≡ told_of link.id.0 sub log ++ left
+
+-- every accepted message of a link is wholly released
+abbrev pub IsLinkDone : ℕ → LinkPlan → (ℕ → List Sent) → List Entry → Type 0
+IsLinkDone end_system link accepted log = (s : ℕ) → s < link.sub_vls
+    → IsReleased end_system link accepted log s
+
+-- every fragment of every accepted message was taken by at least one network
+abbrev pub IsAllDone : Plan → Accepted → List Entry → Type 0
+IsAllDone plan accepted log = (k : ℕ) → k < length plan.links
+    → IsLinkDone plan.end_system (link_plan_at plan.links k) (accepted k) log
