@@ -2,8 +2,8 @@
 use Rattle.std.proofs.Common.{◌≡◌, ◌≤◌, List, [], ◌∷◌, length, map, ◌+◌, ℕ, refl, ap, ◌∙◌, arith}
 use Rattle.std.proofs.lemmas.List.{length-append}
 use Rattle.std.proofs.lemmas.List.Elements.{All-cons, All-nil}
-use Rattle.afdx_plan.specs.Plan.{IsPort}
 use Rattle.afdx_plan.specs.Demo.{demo_port}
+use Rattle.afdx_plan.proofs.DemoPlan.{demo_port_is}
 use Rattle.afdx_frame.specs.declared.net.Net.{Net}
 use Rattle.afdx_frame.specs.declared.net.Net.TheVariants.{A, B}
 use Rattle.afdx_frame.specs.Checksum.{checksum}
@@ -73,20 +73,7 @@ are_twins : AreTwins twin_of (both_frames A) (both_frames B)
 unfolding checksum addresses header_front internet_header link_header udp_header datagram unnumbered
 are_twins = record { b_shorter = λ h. refl; a_shorter = λ h. refl }
 
--- the demonstration port is one
-pub demo_port_is : IsPort demo_port
-demo_port_is = record {
-  id = omega arith;
-  vl = omega arith;
-  sub = omega arith;
-  partition = omega arith;
-  source = (omega arith, omega arith);
-  destination = (omega arith, omega arith);
-  max = (omega arith, omega arith);
-  unicast = tt;
-}
-
--- it may send the message
+-- the demonstration port may send the message
 demo_sends : IsSent 0 (record { port = demo_port; bytes = bytes_41 })
 demo_sends =
     let size : length bytes_41 ≡ 41 = refl in

@@ -12,7 +12,8 @@ use Rattle.afdx_legal.specs.Done.{IsReleased, IsAllDone}
 use Rattle.afdx_laws.specs.Networks.{most_carried}
 use Rattle.afdx_laws.specs.Handed.{longer}
 use Rattle.afdx_laws.specs.Plans.{frames_of}
-use Rattle.afdx_laws.specs.WorkedPlan.{one_byte, one_byte_accepted, two_arrivals}
+use Rattle.afdx_legal.specs.WorkedMessage.{one_byte, one_byte_accepted}
+use Rattle.afdx_laws.specs.WorkedPlan.{two_arrivals}
 use Rattle.afdx_laws.specs.WorkedWhole.{OneIsWhole, one_own, one_lines}
 use Rattle.afdx_laws.proofs.WorkedDemo.{one_is_legal, one_allowed}
 

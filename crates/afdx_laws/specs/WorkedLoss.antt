@@ -15,7 +15,8 @@ use Rattle.afdx_laws.specs.Handed.{AreHanded, longer}
 use Rattle.afdx_legal.specs.Allowed.{IsAllowed}
 use Rattle.afdx_laws.specs.Plans.{frames_of}
 use Rattle.afdx_laws.specs.WorkedDelivery.{bytes_41, one_accepted, both_frames}
-use Rattle.afdx_laws.specs.WorkedPlan.{one_byte_accepted, one_entry}
+use Rattle.afdx_legal.specs.WorkedMessage.{one_byte_accepted}
+use Rattle.afdx_laws.specs.WorkedPlan.{one_entry}
 
 -- network A repeats the first of two frames and loses the second
 abbrev pub second_lost : List (Net × ℕ)

@@ -3,16 +3,14 @@
 use Rattle.std.specs.Prelude.{◌≡◌, ℕ, List, [], ◌∷◌, map, All}
 use Rattle.std.specs.List.{AllZip}
 use Rattle.afdx_plan.specs.Config.{IsPlan}
-use Rattle.afdx_plan.specs.Demo.{demo_plan, demo_port}
+use Rattle.afdx_plan.specs.Demo.{demo_plan}
 use Rattle.afdx_frame.specs.declared.net.Net.{Net}
 use Rattle.afdx_frame.specs.declared.net.Net.TheVariants.{A, B}
-use Rattle.afdx_frame.specs.Cutting.{piece_at}
-use Rattle.afdx_frame.specs.Frame.{frame_of}
 use Rattle.afdx_frame.specs.Header.{number_in}
-use Rattle.afdx_frame.specs.Fragments.{Sent}
-use Rattle.redundant_mux.specs.Entry.{Entry, entry}
+use Rattle.redundant_mux.specs.Entry.{Entry}
 use Rattle.afdx_legal.specs.Streams.{link_stream}
-use Rattle.afdx_legal.specs.Legal.{Accepted, IsLegal}
+use Rattle.afdx_legal.specs.Legal.{IsLegal}
+use Rattle.afdx_legal.specs.WorkedMessage.{one_byte_accepted, one_frame, one_entry_at}
 use Rattle.afdx_laws.specs.Handed.{AreCarriedOf}
 use Rattle.afdx_laws.specs.Policer.{Passage, by_bytes, arrival, full, passed}
 use Rattle.afdx_laws.specs.Spacing.{IsOnItsWay}
@@ -22,21 +20,9 @@ use Rattle.afdx_legal.specs.Allowed.{IsAllowed}
 use Rattle.afdx_laws.specs.Plans.{frames_of, rule_at}
 use Rattle.afdx_laws.specs.WorkedDelivery.{plain_receiver}
 
--- the message
-abbrev pub one_byte : Sent
-one_byte = record { port = demo_port; bytes = 1 ∷ [] }
-
--- the accepted messages of the one sub-VL
-abbrev pub one_byte_accepted : Accepted
-one_byte_accepted k sub = one_byte ∷ []
-
--- its frame for a network
-abbrev pub one_frame : Net → List ℕ
-one_frame net = frame_of 1 demo_port (1 ∷ []) 0 (piece_at 1479 9 0) net 0
-
 -- what was handed to the network
 abbrev pub one_entry : Net → List Entry
-one_entry net = entry 0 (one_frame net) ∷ []
+one_entry net = one_entry_at 0 net
 
 -- what comes from both
 abbrev pub two_arrivals : List (Net × List ℕ)

@@ -15,7 +15,8 @@ use Rattle.afdx_laws.specs.Handed.{AreCarriedOf, longer}
 use Rattle.afdx_laws.specs.Plans.{frames_of}
 use Rattle.afdx_laws.specs.WholeLists.{AreWhole}
 use Rattle.afdx_laws.specs.WorkedDelivery.{plain_receiver}
-use Rattle.afdx_laws.specs.WorkedPlan.{one_byte_accepted, one_entry, two_arrivals}
+use Rattle.afdx_legal.specs.WorkedMessage.{one_byte_accepted}
+use Rattle.afdx_laws.specs.WorkedPlan.{one_entry, two_arrivals}
 
 -- the one port's own list
 abbrev pub one_own : ℕ → List (List ℕ)

@@ -2,3 +2,4 @@ pub mod Streams
 pub mod Legal
 pub mod Allowed
 pub mod Done
+pub mod WorkedMessage

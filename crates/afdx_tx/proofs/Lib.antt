@@ -17,3 +17,4 @@ pub mod PortMessages
 pub mod GatheredPorts
 pub mod PollingLinks
 pub mod DrainEnding
+pub mod WorkedDrain

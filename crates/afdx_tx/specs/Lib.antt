@@ -9,3 +9,4 @@ pub mod Drain
 pub mod Gathering
 pub mod Done
 pub mod DrainEnds
+pub mod WorkedDrain

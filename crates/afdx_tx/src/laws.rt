@@ -1,5 +1,6 @@
 //! Laws of the definitions. Their functions do nothing: the contract is the law.
 ghost use Rattle.afdx_tx.specs.DrainEnds.{DrainEnds};
+ghost use Rattle.afdx_tx.specs.WorkedDrain.{DrainsOne};
 
 /// A drain comes to its end: polls that lie apart by the greatest gap of the plan, the first of them
 /// that long after every release, send all that is left, where they are more than each link owes
@@ -7,5 +8,8 @@ ghost use Rattle.afdx_tx.specs.DrainEnds.{DrainEnds};
 ///
 /// That no poll loses the last network is a premise; `Draining::poll` tells it by its report.
 pub fn drain_ends()
-    ensures { DrainEnds }
+    ensures ends { DrainEnds }
+
+    // one message, which the first of two polls sends
+    ensures worked { DrainsOne }
 {}

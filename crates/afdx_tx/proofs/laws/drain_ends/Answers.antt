@@ -1,5 +1,9 @@
 use Rattle.afdx_tx.proofs.DrainEnding.{drain_ends_holds}
+use Rattle.afdx_tx.proofs.WorkedDrain.{drains_one}
 use Rattle.afdx_tx.proofs.laws.drain_ends.Goals as goal
 
-pub returns : goal.returns
-returns c = drain_ends_holds
+pub returns-clause-ends : goal.returns-clause-ends
+returns-clause-ends c = drain_ends_holds
+
+pub returns-clause-worked : goal.returns-clause-worked
+returns-clause-worked c = drains_one
