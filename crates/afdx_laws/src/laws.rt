@@ -31,7 +31,7 @@ ghost use Rattle.afdx_laws.specs.WorkedWhole.{OneIsWhole};
 pub fn none_dropped()
     ensures passed { NoneDropped }
 
-    // three frames, one of them late, and three that come too early
+    // three frames, one of them late, and three of which the last comes too early
     ensures worked { PolicesThree }
 {}
 
@@ -189,7 +189,8 @@ pub fn handed_despite_loss()
 ///
 /// What the emitter hands over is legal (`afdx_legal`, `IsLegal`): with that, this says what the calls of
 /// the emitter mean at the receiving end. That each network carries a beginning of a link's frames and
-/// that the two are near are premises, and that accepted messages are such as `Emitter::send` accepts.
+/// that the two are near are premises, and that accepted messages are such as a port accepts
+/// (`TxPort::send` of afdx_tx).
 /// It doesn't say when a message comes.
 pub fn legal_arrive()
     ensures arrive { LegalArrive }
