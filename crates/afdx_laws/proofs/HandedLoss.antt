@@ -9,7 +9,7 @@ use Rattle.afdx_frame.specs.Twin.{twin_of}
 use Rattle.afdx_frame.specs.Fragments.{Sent}
 use Rattle.afdx_frame.proofs.Twins.{twin_twice}
 use Rattle.afdx_laws.specs.Receiver.{begin, received, carried}
-use Rattle.afdx_laws.specs.Loss.{AreClose, next_alone, frame_at, frames_at}
+use Rattle.afdx_laws.specs.Loss.{AreWithin, AreClose, next_alone, frame_at, frames_at}
 use Rattle.afdx_laws.specs.Messages.{messages_in, IsSending, AreFirst}
 use Rattle.afdx_laws.specs.Handed.{AreHanded, longer, HandedDespiteLoss}
 use Rattle.afdx_laws.proofs.Arriving.{despite_loss_holds}
@@ -17,13 +17,13 @@ use Rattle.afdx_laws.proofs.HandedOver.{own_twins, longer_a, longer_b, sending_a
 
 -- the frames that come of a list, and of its twins
 same_frames : (xs : List (List ℕ)) (came : List (Net × ℕ)) (whole : Net) (farthest carries : ℕ)
-    → AreClose whole (length xs) farthest carries came → frames_at (map (twin_of A) xs) came ≡ frames_at xs came
+    → AreWithin whole (length xs) farthest carries came → frames_at (map (twin_of A) xs) came ≡ frames_at xs came
 same_frames xs [] whole farthest carries close = refl
 same_frames xs (e ∷ came) whole farthest carries close =
     let one : frame_at (map (twin_of A) xs) e.0 e.1 ≡ frame_at xs e.0 e.1 =
-    ap (twin_of e.0) (get_or-map (twin_of A) xs e.1 [] [] close.0) ∙ twin_twice e.0 A (get_or xs e.1 []) in
+    ap (twin_of e.0) (get_or-map (twin_of A) xs e.1 [] [] close.0.inside) ∙ twin_twice e.0 A (get_or xs e.1 []) in
     ap (λ (f : List ℕ). (e.0, f) ∷ frames_at (map (twin_of A) xs) came) one
-    ∙ ap (λ (fs : List (Net × List ℕ)). (e.0, frame_at xs e.0 e.1) ∷ fs) (same_frames xs came whole _ _ close.5)
+    ∙ ap (λ (fs : List (Net × List ℕ)). (e.0, frame_at xs e.0 e.1) ∷ fs) (same_frames xs came whole _ _ close.1)
 
 -- the longer list, as network A has it, is sent
 sending_longer : (end_system room sub : ℕ) (accepted : List Sent) (a b : List (List ℕ))
@@ -46,7 +46,7 @@ handed_despite_loss_holds end_system room sub check whole accepted a b came hand
     let close_stream : AreClose whole (length stream) 0 0 came =
     subst (λ (n : ℕ). AreClose whole n 0 0 came) (sym (length-map all (twin_of A))) close in
     let first = despite_loss_holds end_system room sub check whole accepted stream came sending some close_stream in
-    let frames : frames_at stream came ≡ frames_at all came = same_frames all came whole 0 0 close in
+    let frames : frames_at stream came ≡ frames_at all came = same_frames all came whole 0 0 close.within in
     same_first end_system room sub accepted (take count stream) (take count all)
     (messages_in sub (received number_in (next_alone check) begin (frames_at all came))) (same_count sub count all)
     (subst (λ (fs : List (Net × List ℕ)). AreFirst end_system room sub accepted (take count stream)

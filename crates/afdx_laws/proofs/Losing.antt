@@ -8,10 +8,10 @@ use Rattle.afdx_frame.specs.declared.net.Net.{Net}
 use Rattle.afdx_frame.specs.declared.net.Net.TheVariants.{A, B}
 use Rattle.afdx_frame.specs.Twin.{twin_of}
 use Rattle.afdx_legal.specs.Streams.{IsNumbered}
-use Rattle.afdx_laws.specs.Receiver.{Tolerance, State, begin, is_accepted, is_valid, is_ahead, received, carried, with_seen, with_accepted, seen_on}
+use Rattle.afdx_laws.specs.Receiver.{Tolerance, State, other, begin, is_accepted, is_valid, is_ahead, received, carried, with_seen, with_accepted, seen_on}
 use Rattle.afdx_frame.specs.Header.{number_in}
 use Rattle.afdx_laws.specs.Networks.{IsLong}
-use Rattle.afdx_laws.specs.Loss.{same_net, AreClose, frame_at, LossMasked, LossNotMasked, NumbersClash}
+use Rattle.afdx_laws.specs.Loss.{same_net, AreWithin, StartsFirst, AreClose, BeginsFirst, frame_at, LossMasked, FirstComes, MaskedFromFirst, LossNotMasked, NumbersClash}
 use Rattle.afdx_laws.proofs.NumberLemmas.{last, new_next, valid_next, old_copy, old_is_ahead, next_is, differ}
 use Rattle.afdx_laws.proofs.Receiving.{IsPlaced, grows}
 use Rattle.afdx_laws.proofs.Arrivals.{placed}
@@ -102,27 +102,29 @@ pub record Masks {F : Type 0} (h : F → F) (stream got : List F) (c reach : ℕ
 masks : {F : Type 0} (number : F → ℕ) (h : F → F) (stream : List F) (frame : Net → ℕ → F)
     (check : ℕ) (whole : Net) (es : List (Net × ℕ)) (state : State) (high b c : ℕ)
     → 1 ≤ check → ((net : Net) (i : ℕ) → i < length stream → IsPlaced number h stream i (frame net i))
-    → AreClose whole (length stream) high b es → seen_on whole state ≡ last b → state.accepted ≡ last c → b ≤ c
+    → AreWithin whole (length stream) high b es → (high ≡ 0 → StartsFirst es)
+    → seen_on whole state ≡ last b → state.accepted ≡ last c → b ≤ c
     → c ≤ high → (high ≡ 0) ⊎ (1 ≤ c)
     → Masks h stream (received number (record { check = check; window = 1 }) state
     (map (λ (e : Net × ℕ). (e.0, frame e.0 e.1)) es)) c (b + length (carried whole es))
-masks number h stream frame check whole [] state high b c some each close seen took behind within begun = record {
+masks number h stream frame check whole [] state high b c some each close first seen took behind within begun = record {
   many = c;
   reaches = omega arith;
   are = append-nil (take c stream);
 }
 masks {F = F} number h stream frame check whole
-    ((net, i) ∷ es) state high b c some each close seen took behind within begun =
+    ((net, i) ∷ es) state high b c some each close first seen took behind within begun =
     let tolerance : Tolerance = record { check = check; window = 1 } in
-    let is = each net i close.0 in
+    let here = close.0 in
+    let is = each net i here.inside in
     let f : F = frame net i in
     let rest : List (Net × F) = map (λ (e : Net × ℕ). (e.0, frame e.0 e.1)) es in
-    let near = close.1 in
-    let far = close.2 in
+    let near = here.near in
+    let far = here.ahead in
     let number_is : number f ≡ sequence_number i = is.1 in
     let after : State = with_seen net (number f) state in
     let seen_next : seen_on whole after ≡ last (cond (same_net whole net) (b + 1) b) =
-    ap (λ (n : ℕ). seen_on whole (with_seen net n state)) number_is ∙ seen_after whole net b i state seen close.4 in
+    ap (λ (n : ℕ). seen_on whole (with_seen net n state)) number_is ∙ seen_after whole net b i state seen here.in_order in
     let total = count_whole whole net i b es in
     elim (cases_Bool (is_accepted tolerance state net (number f))) [
       | inl takes ↦
@@ -131,11 +133,11 @@ masks {F = F} number h stream frame check whole
           let new : is_ahead 1 (last c) (sequence_number i) ≡ true =
           sym (ap (λ (o : Option ℕ). is_ahead 1 o (number f)) took ∙ ap (is_ahead 1 (last c)) number_is)
           ∙ parts.1 in
-          let next : i ≡ c = is_next c i high near within (omega arith) close.3 begun new in
+          let next : i ≡ c = is_next c i high near within (omega arith) first begun new in
           let taken : (with_accepted (number f) after).accepted ≡ last (suc c) = ap Some number_is
           ∙ ap (λ (k : ℕ). last (suc k)) next in
           let more = masks number h stream frame check whole es (with_accepted (number f) after) (max high (i + 1))
-          (cond (same_net whole net) (b + 1) b) (suc c) some each close.5
+          (cond (same_net whole net) (b + 1) b) (suc c) some each close.1 (λ none. absurd (omega arith))
           (seen_accepted whole (number f) after ∙ seen_next) taken (grown_le_suc (same_net whole net) b c behind)
           (omega arith) (inr (omega arith)) in
           let step : received number tolerance state ((net, f) ∷ rest) ≡ f ∷ received number tolerance
@@ -155,7 +157,7 @@ masks {F = F} number h stream frame check whole
             | inl less ↦ less
             | inr equal ↦
                 let c_is : c ≡ b = omega arith in
-                let i_is : i ≡ b = close.4 own in
+                let i_is : i ≡ b = here.in_order own in
                 let v : is_valid check (seen_on net state) (number f) ≡ true =
                 ap (λ (o : Option ℕ). is_valid check o (number f)) (seen_own whole net state own ∙ seen)
                 ∙ ap (is_valid check (last b)) (number_is ∙ ap sequence_number i_is)
@@ -169,7 +171,7 @@ masks {F = F} number h stream frame check whole
             | inr yet ↦ yet
             | inl none ↦
                 let c_is : c ≡ 0 = omega arith in
-                let i_is : i ≡ 0 = close.3 none in
+                let i_is : i ≡ 0 = first none in
                 let n_is : number f ≡ 0 = number_is ∙ ap sequence_number i_is in
                 let v : is_valid check (seen_on net state) (number f) ≡ true =
                 ap (is_valid check (seen_on net state)) n_is in
@@ -178,7 +180,7 @@ masks {F = F} number h stream frame check whole
                 absurd (one_answer (and_from _ _ v a) drops)
           ] in
           let more = masks number h stream frame check whole es after (max high (i + 1))
-          (cond (same_net whole net) (b + 1) b) c some each close.5
+          (cond (same_net whole net) (b + 1) b) c some each close.1 (λ none. absurd (omega arith))
           seen_next (accepted_seen net (number f) state ∙ took)
           (grown_le (same_net whole net) b c behind own_behind) (omega arith) (inr started) in
           let step : received number tolerance state ((net, f) ∷ rest) ≡ received number tolerance after rest =
@@ -202,7 +204,8 @@ loss_masked_holds whole check stream came some frames close =
     let close_map : AreClose whole (length (map (twin_of A) stream)) 0 0 came =
     subst (λ (n : ℕ). AreClose whole n 0 0 came) (sym (length-map stream (twin_of A))) close in
     let m = masks number_in (twin_of A) (map (twin_of A) stream)
-    (frame_at stream) check whole came begin 0 0 0 some each close_map (begun whole) refl (omega arith)
+    (frame_at stream) check whole came begin 0 0 0 some each close_map.within close_map.first
+    (begun whole) refl (omega arith)
     (omega arith) (inl refl) in
     let reach = m.reaches in
     (m.many, omega arith, m.are)
@@ -219,6 +222,31 @@ loss_masked_holds whole check stream came some frames close =
         let ln = length-map stream (twin_of net) in
         placed net stream i (frame_at stream net i) long numbered (omega arith)
         (sym (get_or-map (twin_of net) stream i [] (frame_at stream net i) (omega arith)))
+
+-- a network that begins with the first frame, where the frame that comes is its own
+own_first : (net : Net) (i : ℕ) (es : List (Net × ℕ)) → BeginsFirst net ((net, i) ∷ es) → i ≡ 0
+own_first A i es begins = begins i (carried A es) refl
+own_first B i es begins = begins i (carried B es) refl
+
+-- the first frame to come is of the whole network or of the other
+starts : (whole : Net) (n : ℕ) (came : List (Net × ℕ)) → AreWithin whole n 0 0 came → BeginsFirst (other whole) came
+    → StartsFirst came
+starts whole n [] within begins = tt
+starts A n ((A, i) ∷ es) within begins = within.0.in_order refl
+starts B n ((B, i) ∷ es) within begins = within.0.in_order refl
+starts A n ((B, i) ∷ es) within begins = own_first B i es begins
+starts B n ((A, i) ∷ es) within begins = own_first A i es begins
+
+-- where both networks begin with the first frame, it comes first
+pub first_comes_holds : FirstComes
+first_comes_holds whole n came within begins =
+    record { within = within; first = λ none. starts whole n came within begins }
+
+-- so a loss is masked
+pub masked_from_first_holds : MaskedFromFirst
+masked_from_first_holds whole check stream came some frames within begins =
+    loss_masked_holds whole check stream came some frames
+    (first_comes_holds whole (length stream) came within begins)
 
 -- both runs, by computation
 pub loss_not_masked_holds : LossNotMasked

@@ -1,5 +1,5 @@
 -- The worked losses, by computation.
-use Rattle.std.proofs.Common.{◌≡◌, ℕ, ◌+◌, max, Bool, true, false, not, ◌&&◌, ◌||◌, nat_eq, nat_lt, nat_le, cond, List, [], ◌∷◌, length, map, take, refl, sym, subst}
+use Rattle.std.proofs.Common.{◌≡◌, ◌≢◌, ℕ, zero, suc, ◌+◌, max, Bool, true, false, not, ◌&&◌, ◌||◌, nat_eq, nat_lt, nat_le, cond, List, [], ◌∷◌, length, map, take, refl, ap, sym, ◌∙◌, subst, arith}
 use Rattle.std.proofs.lemmas.Bool.{and_parts, false≢true, eqb-true, eq-eqb, leb-true, ltb-true}
 use Rattle.afdx_frame.specs.declared.net.Net.{Net}
 use Rattle.afdx_frame.specs.declared.net.Net.TheVariants.{A, B}
@@ -8,53 +8,59 @@ use Rattle.afdx_frame.specs.Frame.{addresses, header_front, internet_header, lin
 use Rattle.afdx_frame.specs.Header.{number_in}
 use Rattle.afdx_frame.specs.Twin.{twin_of}
 use Rattle.afdx_laws.specs.Receiver.{begin, received}
-use Rattle.afdx_laws.specs.Loss.{AreClose, same_net, next_alone, frames_at, one_lost}
-use Rattle.afdx_laws.specs.WorkedDelivery.{bytes_41, both_frames}
-use Rattle.afdx_laws.specs.WorkedLoss.{second_lost, only_lost, messages_despite, longer_frames, longer_of_plan, MasksOneLoss, ComesDespiteLoss, HandedDespiteOneLoss, LegalDespiteOneLoss}
+use Rattle.afdx_laws.specs.Loss.{AreWithin, StartsFirst, AreClose, IsMasked, BeginsFirst, same_net, next_alone, frames_at, one_lost}
+use Rattle.afdx_laws.specs.WorkedDelivery.{bytes_41, back_frame, both_frames}
+use Rattle.afdx_laws.specs.WorkedLoss.{second_lost, first_lost, first_of_three, only_lost, messages_despite, longer_frames, longer_of_plan, MasksOneLoss, NeedsTheFirst, BeginsOnBoth, ComesDespiteLoss, HandedDespiteOneLoss, LegalDespiteOneLoss}
+use Rattle.afdx_laws.proofs.ListLemmas.{cons_parts}
 use Rattle.afdx_laws.proofs.WorkedDemo.{one_is_legal}
 use Rattle.afdx_laws.proofs.WorkedMessage.{stream_of, both_handed}
 use Rattle.afdx_laws.proofs.HandedOver.{sending_a}
 
--- what AreClose says of a run, as a test
-abbrev closes : Net → ℕ → ℕ → ℕ → List (Net × ℕ) → Bool
-closes whole n farthest carries [] = true
-closes whole n farthest carries (e ∷ es) = nat_lt e.1 n
+-- what AreWithin says of a run, as a test
+abbrev lies_within : Net → ℕ → ℕ → ℕ → List (Net × ℕ) → Bool
+lies_within whole n farthest carries [] = true
+lies_within whole n farthest carries (e ∷ es) = nat_lt e.1 n
     && (nat_le farthest (e.1 + 254)
     && (nat_le e.1 (carries + 254)
-    && ((not (nat_eq farthest 0) || nat_eq e.1 0)
     && ((not (same_net whole e.0) || nat_eq e.1 carries)
-    && closes whole n (max farthest (e.1 + 1)) (cond (same_net whole e.0) (carries + 1) carries) es))))
+    && lies_within whole n (max farthest (e.1 + 1)) (cond (same_net whole e.0) (carries + 1) carries) es)))
 
 -- a test that another one implies
 implied : (x y : Bool) → (not x || y) ≡ true → x ≡ true → y ≡ true
 implied true y test is = test
 implied false y test is = absurd (false≢true is)
 
--- a run is close where the test says so
-close_by_test : (came : List (Net × ℕ)) (whole : Net) (n farthest carries : ℕ)
-    → closes whole n farthest carries came ≡ true → AreClose whole n farthest carries came
-close_by_test [] whole n farthest carries test = tt
-close_by_test (e ∷ es) whole n farthest carries test =
+-- frames are near to each other where the test says so
+within_by_test : (came : List (Net × ℕ)) (whole : Net) (n farthest carries : ℕ)
+    → lies_within whole n farthest carries came ≡ true → AreWithin whole n farthest carries came
+within_by_test [] whole n farthest carries test = tt
+within_by_test (e ∷ es) whole n farthest carries test =
     let inside = and_parts (nat_lt e.1 n) _ test in
     let near = and_parts (nat_le farthest (e.1 + 254)) _ inside.1 in
-    let behind = and_parts (nat_le e.1 (carries + 254)) _ near.1 in
-    let first = and_parts (not (nat_eq farthest 0) || nat_eq e.1 0) _ behind.1 in
-    let own = and_parts (not (same_net whole e.0) || nat_eq e.1 carries) _ first.1 in (
-      ltb-true e.1 n inside.0,
-      leb-true farthest (e.1 + 254) near.0,
-      leb-true e.1 (carries + 254) behind.0,
-      (λ none. eqb-true e.1 0 (implied (nat_eq farthest 0) (nat_eq e.1 0) first.0 (eq-eqb farthest 0 none))),
-      (λ same. eqb-true e.1 carries (implied (same_net whole e.0) (nat_eq e.1 carries) own.0 same)),
-      close_by_test es whole n (max farthest (e.1 + 1)) (cond (same_net whole e.0) (carries + 1) carries) own.1,
+    let ahead = and_parts (nat_le e.1 (carries + 254)) _ near.1 in
+    let own = and_parts (not (same_net whole e.0) || nat_eq e.1 carries) _ ahead.1 in (
+      record {
+        inside = ltb-true e.1 n inside.0;
+        near = leb-true farthest (e.1 + 254) near.0;
+        ahead = leb-true e.1 (carries + 254) ahead.0;
+        in_order = λ same. eqb-true e.1 carries (implied (same_net whole e.0) (nat_eq e.1 carries) own.0 same);
+      },
+      within_by_test es whole n (max farthest (e.1 + 1)) (cond (same_net whole e.0) (carries + 1) carries) own.1,
     )
+
+-- they are close where the first of the stream comes first
+close_by_test : (came : List (Net × ℕ)) (whole : Net) (n : ℕ)
+    → lies_within whole n 0 0 came ≡ true → StartsFirst came → AreClose whole n 0 0 came
+close_by_test came whole n test starts =
+    record { within = within_by_test came whole n 0 0 test; first = λ none. starts }
 
 -- network A loses the second of three numbers, and network B carries all
 one_lost_is_close : AreClose B 3 0 0 one_lost
-one_lost_is_close = close_by_test one_lost B 3 0 0 refl
+one_lost_is_close = close_by_test one_lost B 3 refl refl
 
 -- the frames of a message come close to each other
 second_is_close : AreClose B 2 0 0 second_lost
-second_is_close = close_by_test second_lost B 2 0 0 refl
+second_is_close = close_by_test second_lost B 2 refl refl
 
 -- both frames are accepted
 both_masked : map (twin_of A) (received number_in (next_alone 1) begin (frames_at (both_frames A) second_lost))
@@ -70,6 +76,67 @@ masks_one_loss = record {
   stream = stream_of A;
   close = second_is_close;
   masked = both_masked;
+}
+
+-- the second frame of two alone is accepted, where it comes first
+second_alone : map (twin_of A) (received number_in (next_alone 1) begin (frames_at (both_frames A) first_lost))
+    ≡ back_frame A ∷ []
+unfolding checksum addresses header_front internet_header link_header udp_header datagram unnumbered
+second_alone = refl
+
+-- the number of the first of some frames
+abbrev first_number : List (List ℕ) → ℕ
+first_number [] = 2
+first_number (frame ∷ later) = number_in frame
+
+-- the second frame's number is neither that of no frame nor the first one's
+second_number : first_number (back_frame A ∷ []) ≡ 1
+unfolding checksum addresses header_front internet_header link_header udp_header datagram unnumbered
+second_number = refl
+
+-- how the stream's beginnings begin
+first_numbers : (many : ℕ) → first_number (take many (map (twin_of A) (both_frames A))) ≢ 1
+unfolding checksum addresses header_front internet_header link_header udp_header datagram unnumbered
+first_numbers zero is = absurd (omega arith)
+first_numbers (suc many) is = absurd (omega arith)
+
+-- the stream's beginnings don't begin with its second frame
+no_beginning : (many : ℕ) → back_frame A ∷ [] ≡ take many (map (twin_of A) (both_frames A)) → ⊥
+no_beginning many is = first_numbers many (sym (ap first_number is) ∙ second_number)
+
+-- so nothing is masked
+first_not_masked : IsMasked B 1 (both_frames A) first_lost → ⊥
+first_not_masked masked = no_beginning masked.0 (sym second_alone ∙ masked.2)
+
+-- the stream's first frame doesn't come first
+not_close : (n i : ℕ) (es : List (Net × ℕ)) → AreClose B n 0 0 ((A, suc i) ∷ es) → ⊥
+not_close n i es close = let first = close.first refl in absurd (omega arith)
+
+-- the row of the first frame
+pub needs_the_first : NeedsTheFirst
+needs_the_first = record {
+  stream = stream_of A;
+  within = within_by_test first_lost B 2 0 0 refl;
+  close = not_close 2 0 ((B, 0) ∷ (B, 1) ∷ []);
+  masked = first_not_masked;
+  three = not_close 3 0 ((B, 0) ∷ (B, 1) ∷ (B, 2) ∷ []);
+  numbers = refl;
+}
+
+-- what network A carries begins with the first frame
+begins_with_it : BeginsFirst A second_lost
+begins_with_it place later is = sym (cons_parts is).0
+
+-- the row of networks that begin with it
+pub begins_on_both : BeginsOnBoth
+begins_on_both = record {
+  stream = stream_of A;
+  within = second_is_close.within;
+  begins = begins_with_it;
+  close = second_is_close;
+  masked = both_masked;
+  later = λ begins. let first = begins 1 [] refl in absurd (omega arith);
+  dropped = second_alone;
 }
 
 -- the message of a stream
@@ -107,7 +174,7 @@ one_longer = refl
 
 -- it comes
 only_is_close : AreClose B (length longer_of_plan) 0 0 only_lost
-only_is_close = subst (λ (n : ℕ). AreClose B n 0 0 only_lost) (sym one_longer) (close_by_test only_lost B 1 0 0 refl)
+only_is_close = subst (λ (n : ℕ). AreClose B n 0 0 only_lost) (sym one_longer) (close_by_test only_lost B 1 refl refl)
 
 -- the message of a plan
 plan_message : messages_despite longer_of_plan only_lost ≡ (1 ∷ []) ∷ []

@@ -5,7 +5,7 @@ use Rattle.afdx_frame.specs.declared.net.Net.{Net}
 use Rattle.afdx_frame.specs.declared.net.Net.TheVariants.{A, B}
 use Rattle.afdx_frame.specs.Header.{number_in}
 use Rattle.afdx_frame.specs.Twin.{twin_of}
-use Rattle.afdx_laws.specs.Receiver.{Tolerance, begin, is_accepted, received, carried}
+use Rattle.afdx_laws.specs.Receiver.{Tolerance, other, begin, is_accepted, received, carried}
 use Rattle.afdx_laws.specs.Networks.{IsStream}
 
 -- the two networks are one
@@ -15,17 +15,30 @@ same_net B B = true
 same_net A B = false
 same_net B A = false
 
--- Frames of a stream of n come, each told by its network and its place in the stream. The whole
--- network carries every frame, in order. Each frame lies less than 255 places from the farthest that
--- came before it, and from what the whole network carried; the first of all is the stream's first.
-abbrev pub AreClose : Net → ℕ → ℕ → ℕ → List (Net × ℕ) → Type 0
-AreClose whole n farthest carries [] = Unit {0}
-AreClose whole n farthest carries (e ∷ es) = (e.1 < n)
-    × (farthest ≤ e.1 + 254)
-    × (e.1 ≤ carries + 254)
-    × (farthest ≡ 0 → e.1 ≡ 0)
-    × (same_net whole e.0 ≡ true → e.1 ≡ carries)
-    × AreClose whole n (max farthest (e.1 + 1)) (cond (same_net whole e.0) (carries + 1) carries) es
+-- A frame that comes, told by its network and its place in a stream of n. It lies less than 255 places
+-- from the farthest that came before it, and from what the whole network carried, which carries every
+-- frame, in order.
+pub record IsWithin (whole : Net) (n farthest carries : ℕ) (e : Net × ℕ) : Type 0 where
+  pub inside : e.1 < n
+  pub near : farthest ≤ e.1 + 254
+  pub ahead : e.1 ≤ carries + 254
+  pub in_order : same_net whole e.0 ≡ true → e.1 ≡ carries
+
+-- so each frame that comes
+abbrev pub AreWithin : Net → ℕ → ℕ → ℕ → List (Net × ℕ) → Type 0
+AreWithin whole n farthest carries [] = Unit {0}
+AreWithin whole n farthest carries (e ∷ es) = IsWithin whole n farthest carries e
+    × AreWithin whole n (max farthest (e.1 + 1)) (cond (same_net whole e.0) (carries + 1) carries) es
+
+-- the first frame to come, if any does, is the first of the stream
+abbrev pub StartsFirst : List (Net × ℕ) → Type 0
+StartsFirst [] = Unit {0}
+StartsFirst (e ∷ es) = e.1 ≡ 0
+
+-- Frames come near to each other, and where none came before them the stream's first comes first.
+pub record AreClose (whole : Net) (n farthest carries : ℕ) (came : List (Net × ℕ)) : Type 0 where
+  pub within : AreWithin whole n farthest carries came
+  pub first : farthest ≡ 0 → StartsFirst came
 
 -- the frame at a place, as a network carries it
 abbrev pub frame_at : List (List ℕ) → Net → ℕ → List ℕ
@@ -41,13 +54,34 @@ next_alone check = record { check = check; window = 1 }
 
 -- A receiver for which the next number alone is new accepts each frame once, in order, at least as
 -- far as the whole network carried them.
-abbrev pub LossMasked : Type 0
-LossMasked = (whole : Net) (check : ℕ) (stream : List (List ℕ)) (came : List (Net × ℕ)) → 1 ≤ check
-    → IsStream stream → AreClose whole (length stream) 0 0 came
-    → (many : ℕ)
+abbrev pub IsMasked : Net → ℕ → List (List ℕ) → List (Net × ℕ) → Type 0
+IsMasked whole check stream came = (many : ℕ)
     × (length (carried whole came) ≤ many)
     × (map (twin_of A) (received number_in (next_alone check) begin (frames_at stream came))
     ≡ take many (map (twin_of A) stream))
+
+-- It does where the frames come near to each other, the stream's first before all others.
+abbrev pub LossMasked : Type 0
+LossMasked = (whole : Net) (check : ℕ) (stream : List (List ℕ)) (came : List (Net × ℕ)) → 1 ≤ check
+    → IsStream stream → AreClose whole (length stream) 0 0 came
+    → IsMasked whole check stream came
+
+-- what a network carries, if anything, begins with the first frame of the stream
+abbrev pub BeginsFirst : Net → List (Net × ℕ) → Type 0
+BeginsFirst net came = (place : ℕ) (later : List ℕ) → carried net came ≡ place ∷ later → place ≡ 0
+
+-- The stream's first frame comes before all others where both networks begin with it. The whole one
+-- does, as it carries every frame.
+abbrev pub FirstComes : Type 0
+FirstComes = (whole : Net) (n : ℕ) (came : List (Net × ℕ)) → AreWithin whole n 0 0 came
+    → BeginsFirst (other whole) came → AreClose whole n 0 0 came
+
+-- So a receiver that starts with the stream masks a loss where both networks begin with the first frame.
+abbrev pub MaskedFromFirst : Type 0
+MaskedFromFirst = (whole : Net) (check : ℕ) (stream : List (List ℕ)) (came : List (Net × ℕ))
+    → 1 ≤ check → IsStream stream
+    → AreWithin whole (length stream) 0 0 came → BeginsFirst (other whole) came
+    → IsMasked whole check stream came
 
 -- numbers that come: network A, which is ahead, loses 1
 abbrev pub one_lost : List (Net × ℕ)

@@ -9,18 +9,26 @@ use Rattle.afdx_frame.specs.Twin.{twin_of}
 use Rattle.afdx_legal.specs.Legal.{IsLegal}
 use Rattle.afdx_laws.specs.Receiver.{begin, received, carried}
 use Rattle.afdx_laws.specs.Networks.{IsStream}
-use Rattle.afdx_laws.specs.Loss.{AreClose, next_alone, frames_at, one_lost}
+use Rattle.afdx_laws.specs.Loss.{AreWithin, AreClose, IsMasked, BeginsFirst, next_alone, frames_at, one_lost}
 use Rattle.afdx_laws.specs.Messages.{messages_in, IsSending, AreFirst}
 use Rattle.afdx_laws.specs.Handed.{AreHanded, longer}
 use Rattle.afdx_legal.specs.Allowed.{IsAllowed}
 use Rattle.afdx_laws.specs.Plans.{frames_of}
-use Rattle.afdx_laws.specs.WorkedDelivery.{bytes_41, one_accepted, both_frames}
+use Rattle.afdx_laws.specs.WorkedDelivery.{bytes_41, one_accepted, back_frame, both_frames}
 use Rattle.afdx_legal.specs.WorkedMessage.{one_byte_accepted}
 use Rattle.afdx_laws.specs.WorkedPlan.{one_entry}
 
 -- network A repeats the first of two frames and loses the second
 abbrev pub second_lost : List (Net × ℕ)
 second_lost = (A, 0) ∷ (A, 0) ∷ (B, 0) ∷ (B, 1) ∷ []
+
+-- network A loses the first of two frames, and its second comes before all others
+abbrev pub first_lost : List (Net × ℕ)
+first_lost = (A, 1) ∷ (B, 0) ∷ (B, 1) ∷ []
+
+-- the same, of three frames
+abbrev pub first_of_three : List (Net × ℕ)
+first_of_three = (A, 1) ∷ (B, 0) ∷ (B, 1) ∷ (B, 2) ∷ []
 
 -- network A loses the only frame
 abbrev pub only_lost : List (Net × ℕ)
@@ -48,6 +56,31 @@ pub record MasksOneLoss : Type 0 where
   pub masked :
       map (twin_of A) (received number_in (next_alone 1) begin (frames_at (both_frames A) second_lost))
       ≡ take 2 (map (twin_of A) (both_frames A))
+
+-- Where network A loses the first frame and its second comes before all others, they don't meet it, for
+-- that reason alone, and the first is never accepted.
+pub record NeedsTheFirst : Type 0 where
+  pub stream : IsStream (both_frames A)
+  pub within : AreWithin B (length (both_frames A)) 0 0 first_lost
+  pub close : AreClose B (length (both_frames A)) 0 0 first_lost → ⊥
+  pub masked : IsMasked B 1 (both_frames A) first_lost → ⊥
+  pub three : AreClose B 3 0 0 first_of_three → ⊥
+  pub numbers : received (λ (n : ℕ). n) (next_alone 1) begin first_of_three ≡ 1 ∷ 2 ∷ []
+
+-- Both networks begin with the first frame, where network A repeats it and loses the second: all are
+-- accepted. Where it begins with the second they don't, and the first is dropped.
+pub record BeginsOnBoth : Type 0 where
+  pub stream : IsStream (both_frames A)
+  pub within : AreWithin B (length (both_frames A)) 0 0 second_lost
+  pub begins : BeginsFirst A second_lost
+  pub close : AreClose B (length (both_frames A)) 0 0 second_lost
+  pub masked :
+      map (twin_of A) (received number_in (next_alone 1) begin (frames_at (both_frames A) second_lost))
+      ≡ take 2 (map (twin_of A) (both_frames A))
+  pub later : BeginsFirst A first_lost → ⊥
+  pub dropped :
+      map (twin_of A) (received number_in (next_alone 1) begin (frames_at (both_frames A) first_lost))
+      ≡ back_frame A ∷ []
 
 -- A stream's message of two frames comes.
 pub record ComesDespiteLoss : Type 0 where

@@ -5,7 +5,7 @@
 //! that begins anew with number 0, or of a receiver's timer for frames that come late (SkewMax).
 ghost use Rattle.afdx_laws.specs.Delivery.{InOrder};
 ghost use Rattle.afdx_laws.specs.Handed.{HandedArrive, HandedDespiteLoss};
-ghost use Rattle.afdx_laws.specs.Loss.{LossMasked, LossNotMasked, NumbersClash};
+ghost use Rattle.afdx_laws.specs.Loss.{FirstComes, LossMasked, LossNotMasked, MaskedFromFirst, NumbersClash};
 ghost use Rattle.afdx_laws.specs.Messages.{DespiteLoss, MessagesArrive};
 ghost use Rattle.afdx_laws.specs.Networks.{ExactlyOnce};
 ghost use Rattle.afdx_laws.specs.Plans.{LegalArrive, LegalDespiteLoss, LegalPasses};
@@ -13,7 +13,8 @@ ghost use Rattle.afdx_laws.specs.Policer.{EarlyDropped, NoMorePasses, NoneDroppe
 ghost use Rattle.afdx_laws.specs.Skew.{SkewIsNear};
 ghost use Rattle.afdx_laws.specs.Spacing.{StreamPasses};
 ghost use Rattle.afdx_laws.specs.WorkedDelivery.{OneMessageArrives};
-ghost use Rattle.afdx_laws.specs.WorkedLoss.{MasksOneLoss, ComesDespiteLoss, HandedDespiteOneLoss, LegalDespiteOneLoss};
+ghost use Rattle.afdx_laws.specs.WorkedLoss.{MasksOneLoss, NeedsTheFirst, BeginsOnBoth};
+ghost use Rattle.afdx_laws.specs.WorkedLoss.{ComesDespiteLoss, HandedDespiteOneLoss, LegalDespiteOneLoss};
 ghost use Rattle.afdx_laws.specs.WorkedOrder.{FirstIsGiven};
 ghost use Rattle.afdx_laws.specs.WorkedPlan.{OneIsLegal};
 ghost use Rattle.afdx_laws.specs.WorkedPolicing.{PolicesThree, SpendsAll, DropsTheEarly, PassesTwo};
@@ -83,13 +84,33 @@ pub fn exactly_once()
 /// A receiver for which the next number alone is new accepts each frame once and in order although
 /// one network loses, repeats and reorders frames, where the other carries them all.
 ///
-/// The two are less than 255 frames apart. Nothing is said for the time after the whole network stopped:
-/// then a frame that the other one loses holds up the receiver until the numbers come round.
+/// The two are less than 255 frames apart, and the first frame to come from either is the stream's first
+/// (`first` in `AreClose`): see `both_begin`. Without that a receiver accepts a later frame first, and takes
+/// those before it for old copies. Nothing is said for the time after the whole network stopped: then a
+/// frame that the other one loses holds up the receiver until the numbers come round.
 pub fn loss_masked()
     ensures masked { LossMasked }
 
     // network A loses a frame, and network B carries all
     ensures worked { MasksOneLoss }
+
+    // network A loses the first frame and is ahead: all premises hold but that one, and a frame is lost
+    ensures needed { NeedsTheFirst }
+{}
+
+/// Where both networks begin with a stream's first frame, it comes before all others, as `loss_masked` and
+/// the laws above it ask for: a receiver that starts with the stream masks what one network loses later.
+///
+/// The network that carries every frame begins with the first; that the other does is the premise. So the
+/// transmitter's user sends nothing before the receivers run and both networks carry frames, and neither
+/// network may lose a link's first frame and then be ahead. Nothing is said of a receiver that starts later.
+pub fn both_begin()
+    ensures close { FirstComes }
+
+    ensures masked { MaskedFromFirst }
+
+    // network A begins with the first frame and loses the second; where it loses the first, a frame is lost
+    ensures worked { BeginsOnBoth }
 {}
 
 /// A receiver for which the next two numbers are new drops the good copy of a frame that the network
@@ -150,7 +171,8 @@ pub fn messages_arrive()
 /// A receiver's messages of a sub-VL are the first accepted ones although one network loses, repeats and
 /// reorders frames, where the other carries them all and the next number alone is new to the receiver.
 ///
-/// What `loss_masked` doesn't say isn't said here.
+/// The stream's first frame comes before all others (`first` in `AreClose`, see `both_begin`). What
+/// `loss_masked` doesn't say isn't said here.
 pub fn despite_loss()
     ensures arrive { DespiteLoss }
 
@@ -175,7 +197,8 @@ pub fn handed_arrive()
 /// over a link, although one of them loses, repeats and reorders frames, where the other carries all of
 /// them and the next number alone is new to the receiver.
 ///
-/// What `loss_masked` doesn't say isn't said here.
+/// The stream's first frame comes before all others (`first` in `AreClose`, see `both_begin`). What
+/// `loss_masked` doesn't say isn't said here.
 pub fn handed_despite_loss()
     ensures arrive { HandedDespiteLoss }
 
@@ -203,7 +226,8 @@ pub fn legal_arrive()
 /// are the first accepted ones although one network loses, repeats and reorders frames, where the other
 /// carries all frames of the link and the next number alone is new to the receiver.
 ///
-/// What `loss_masked` doesn't say isn't said here.
+/// The stream's first frame comes before all others (`first` in `AreClose`, see `both_begin`). What
+/// `loss_masked` doesn't say isn't said here.
 pub fn legal_despite_loss()
     ensures arrive { LegalDespiteLoss }
 
