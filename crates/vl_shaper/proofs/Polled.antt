@@ -4,9 +4,11 @@ use Rattle.std.specs.Prelude.{Option, Some, None}
 use Rattle.std.proofs.lemmas.Bool.{and_from, le-leb, cases_lt, cases_eq, eq-eqb, ne_eqb}
 use Rattle.std.proofs.lemmas.Nat.{mul-le}
 use Rattle.std.proofs.lemmas.List.Sums.{sum_by-cons}
-use Rattle.vl_shaper.specs.Choices.{Choice}
-use Rattle.vl_shaper.specs.Polls.{Poll, IsServed, AreServed, ArePolled, latest_poll, moment_after, served_after, is_of, HasAtPolls, released_by, PolledInTime}
-use Rattle.vl_shaper.proofs.OneEach.{back, back_lt, turn_lt, ahead, further, not_x}
+use Rattle.vl_shaper.specs.Choices.{Choice, next_turn, IsChosen}
+use Rattle.vl_shaper.specs.Pace.{is_due, turn_of, IsLater}
+use Rattle.vl_shaper.specs.declared.shaper.Stamp.{Stamp}
+use Rattle.vl_shaper.specs.Polls.{Poll, IsServed, AreServed, ArePolled, latest_poll, last_after, is_of, HasAtPolls, released_by, PolledInTime}
+use Rattle.vl_shaper.proofs.OneEach.{back, back_lt, turn_cases, turn_lt, ahead, further, not_x}
 use Rattle.vl_shaper.proofs.Waits.{back_self, one_more_round}
 
 -- what a poll adds to the count
@@ -40,16 +42,51 @@ by_release : (o : Option ℕ) → (o ≡ None) ⊎ ((chosen : ℕ) × (o ≡ Som
 by_release None = inl refl
 by_release (Some chosen) = inr (chosen, refl)
 
+-- two answers of a test
+both : {t : Bool} → t ≡ true → t ≡ false → ⊥
+both is isnt = cc
+
+-- a link is due a gap after a moment that isn't before its last release
+due_then : (gap before moment : ℕ) (last : Option Stamp) → IsLater last before → before + gap ≤ moment
+    → is_due gap last moment ≡ true
+due_then gap before moment None after late = refl
+due_then gap before moment (Some l) after late = le-leb gap (moment - l.at) (omega arith)
+
 -- a poll that released none, though a sub-VL had something, came before the link was due
-not_due : (gap subs before l x : ℕ) (p : Poll) → x < subs → IsServed gap subs before l p None → p.has x ≡ true
-    → p.at < before + gap
-not_due gap subs before l x p xl idle had = elim (cases_lt p.at (before + gap)) [
+not_due : (gap subs before x : ℕ) (last : Option Stamp) (p : Poll) → x < subs → IsLater last before
+    → IsServed gap subs last p None → p.has x ≡ true → p.at < before + gap
+not_due gap subs before x last p xl after idle had = elim (cases_lt p.at (before + gap)) [
   | inl early ↦ early
-  | inr due ↦ absurd (both (p.has x) had (idle due x xl))
+  | inr due ↦ absurd (both had (idle (due_then gap before p.at last after due) x xl))
 ]
-  where
-    both : (t : Bool) → t ≡ true → t ≡ false → ⊥
-    both t a b = cc
+
+-- behind a release the sub-VLs are asked in cyclic order
+behind_release : (subs : ℕ) (l : Stamp) (c : Choice) → IsChosen subs (turn_of subs (Some l)) c
+    → IsChosen subs (next_turn subs l.sub) c
+behind_release subs l c ch = record {
+  turn = ch.turn;
+  within = ch.within;
+  is = ch.is;
+  had = ch.had;
+  before = ch.before;
+}
+
+-- at first they are asked from 0 on, as behind a release of the last of them
+from_0 : (subs k : ℕ) → k < subs → next_turn subs (subs - 1) k ≡ k
+from_0 subs k lt = elim (turn_cases subs (subs - 1) k (omega arith) lt) [
+  | inl t ↦ let t0 = t.0 in absurd (omega arith)
+  | inr t ↦ let t1 = t.1 in omega arith
+]
+
+-- so they are where the link released nothing
+at_first : (subs : ℕ) (c : Choice) → IsChosen subs (turn_of subs None) c → IsChosen subs (next_turn subs (subs - 1)) c
+at_first subs c ch = record {
+  turn = ch.turn;
+  within = ch.within;
+  is = ch.is ∙ sym (from_0 subs ch.turn ch.within);
+  had = ch.had;
+  before = λ k h. let w = ch.within in ap c.has (from_0 subs k (omega arith)) ∙ ch.before k h;
+}
 
 -- a number less none
 less_none : (n : ℕ) → n - 0 ≡ n
@@ -60,20 +97,22 @@ less_one : (n : ℕ) → suc n - 1 ≡ n
 less_one n = omega arith
 
 -- from any poll on: there is still a round for each turn but what is left of the first
-in_time : (polls : List Poll) (subs x l f gap late before polled moment : ℕ) → x < subs → l < subs → 1 ≤ gap
-    → AreServed gap subs before l polls → ArePolled late polled polls → HasAtPolls x f polls
+in_time : (polls : List Poll) (subs x l f gap late before polled moment : ℕ) (last : Option Stamp)
+    → x < subs → l < subs → 1 ≤ gap → IsLater last before
+    → ((c : Choice) → IsChosen subs (turn_of subs last) c → IsChosen subs (next_turn subs l) c)
+    → AreServed gap subs last polls → ArePolled late polled polls → HasAtPolls x f polls
     → polled < before + gap
     → (1 ≤ f → before + (subs * f - back subs x l) * (gap + late) ≤ moment)
     → moment ≤ latest_poll polled polls
     → f ≤ released_by x moment polls
-in_time polls subs x l zero gap late before polled moment xl ll some served paced has near enough reach = omega arith
-in_time [] subs x l (suc f) gap late before polled moment xl ll some served paced has near enough reach =
+in_time polls subs x l zero gap late before polled moment last xl ll some after order served paced has near enough reach = omega arith
+in_time [] subs x l (suc f) gap late before polled moment last xl ll some after order served paced has near enough reach =
     let b = back_lt subs x l xl ll in
     let m = one_more_round subs f in
     let e = enough (omega arith) in
     let p = one_pause 0 (subs * suc f - back subs x l) (gap + late) (omega arith) in
     absurd (omega arith)
-in_time (p ∷ ps) subs x l (suc f) gap late before polled moment xl ll some served paced has near enough reach =
+in_time (p ∷ ps) subs x l (suc f) gap late before polled moment last xl ll some after order served paced has near enough reach =
     let pause : ℕ = gap + late in
     let had : p.has x ≡ true = has.0 (omega arith) in
     let step = paced.0 in
@@ -83,25 +122,26 @@ in_time (p ∷ ps) subs x l (suc f) gap late before polled moment xl ll some ser
     let one = one_pause 0 (subs * suc f - back subs x l) pause (omega arith) in
     elim (by_release p.released) [
       | inl is ↦
-          let idle : IsServed gap subs before l p None = subst (IsServed gap subs before l p) is served.0 in
-          let early : p.at < before + gap = not_due gap subs before l x p xl idle had in
-          let rest_served : AreServed gap subs before l ps =
-          subst (λ (o : Option ℕ). AreServed gap subs (moment_after before p.at o) (served_after l o) ps) is served.1 in
+          let idle : IsServed gap subs last p None = subst (IsServed gap subs last p) is served.0 in
+          let early : p.at < before + gap = not_due gap subs before x last p xl after idle had in
+          let rest_served : AreServed gap subs last ps =
+          subst (λ (o : Option ℕ). AreServed gap subs (last_after last p.at o) ps) is served.1 in
           let left : suc f - cond (is_of x p.released) 1 0 ≡ suc f =
           ap (λ (o : Option ℕ). suc f - cond (is_of x o) 1 0) is ∙ less_none (suc f) in
           let rest : suc f ≤ released_by x moment ps =
-          in_time ps subs x l (suc f) gap late before p.at moment xl ll some rest_served paced.1
+          in_time ps subs x l (suc f) gap late before p.at moment last xl ll some after order rest_served paced.1
           (subst (λ (n : ℕ). HasAtPolls x n ps) left has.1) early enough reach in
           let more = no_less x moment p ps in
           omega arith
       | inr (chosen, is) ↦
-          let made : IsServed gap subs before l p (Some chosen) = subst (IsServed gap subs before l p) is served.0 in
-          let due = made.0 in
-          let ch = made.1 in
+          let c : Choice = record { has = p.has; sub = chosen } in
+          let stamp : Stamp = record { at = p.at; sub = chosen } in
+          let made : IsServed gap subs last p (Some chosen) = subst (IsServed gap subs last p) is served.0 in
+          let ch = order c made.1 in
           let w : ch.turn < subs = ch.within in
           let below : chosen < subs = subst (λ (n : ℕ). n < subs) (sym ch.is) (turn_lt subs l ch.turn ll w) in
-          let rest_served : AreServed gap subs p.at chosen ps =
-          subst (λ (o : Option ℕ). AreServed gap subs (moment_after before p.at o) (served_after l o) ps) is served.1 in
+          let rest_served : AreServed gap subs (Some stamp) ps =
+          subst (λ (o : Option ℕ). AreServed gap subs (last_after last p.at o) ps) is served.1 in
           elim (cases_eq chosen x) [
             | inl own ↦
                 let mine : is_of x p.released ≡ true = ap (is_of x) is ∙ eq-eqb chosen x own in
@@ -110,12 +150,12 @@ in_time (p ∷ ps) subs x l (suc f) gap late before polled moment xl ll some ser
                 let none : back subs x chosen ≡ 0 = ap (back subs x) own ∙ back_self subs x xl in
                 let fewer = one_pause (subs * f - back subs x chosen) (subs * suc f - back subs x l) pause (omega arith) in
                 let rest : f ≤ released_by x moment ps =
-                in_time ps subs x chosen f gap late p.at p.at moment xl below some rest_served paced.1
+                in_time ps subs x chosen f gap late p.at p.at moment (Some stamp) xl below some (omega arith)
+                (behind_release subs stamp) rest_served paced.1
                 (subst (λ (n : ℕ). HasAtPolls x n ps) left has.1) (omega arith) (λ h. omega arith) reach in
                 let count = counts x moment p ps (omega arith) mine in
                 omega arith
             | inr ne ↦
-                let c : Choice = record { has = p.has; sub = chosen } in
                 let before_x = ahead subs x l ch.turn xl ll w (not_x subs x l c ch had ne) in
                 let far : back subs x l < back subs x chosen =
                 subst (λ (n : ℕ). back subs x l < back subs x n) (sym ch.is) (further subs x l ch.turn xl ll w before_x) in
@@ -125,16 +165,32 @@ in_time (p ∷ ps) subs x l (suc f) gap late before polled moment xl ll some ser
                 let back_c = back_lt subs x chosen xl below in
                 let fewer = one_pause (subs * suc f - back subs x chosen) (subs * suc f - back subs x l) pause (omega arith) in
                 let rest : suc f ≤ released_by x moment ps =
-                in_time ps subs x chosen (suc f) gap late p.at p.at moment xl below some rest_served paced.1
+                in_time ps subs x chosen (suc f) gap late p.at p.at moment (Some stamp) xl below some (omega arith)
+                (behind_release subs stamp) rest_served paced.1
                 (subst (λ (n : ℕ). HasAtPolls x n ps) left has.1) (omega arith) (λ h. omega arith) reach in
                 let more = no_less x moment p ps in
                 omega arith
           ]
     ]
 
+-- the law, from a moment of acceptance behind which the sub-VL lies
+accepted_in_time : (polls : List Poll) (subs x l f gap late accepted : ℕ) (last : Option Stamp)
+    → x < subs → l < subs → 1 ≤ gap → IsLater last accepted
+    → ((c : Choice) → IsChosen subs (turn_of subs last) c → IsChosen subs (next_turn subs l) c)
+    → AreServed gap subs last polls → ArePolled late accepted polls → HasAtPolls x f polls
+    → accepted + subs * f * (gap + late) ≤ latest_poll accepted polls
+    → f ≤ released_by x (accepted + subs * f * (gap + late)) polls
+accepted_in_time polls subs x l f gap late accepted last xl ll some after order served paced has reach =
+    in_time polls subs x l f gap late accepted accepted _ last xl ll some after order served paced has (omega arith)
+    (λ h. let m = mul-le (subs * f - back subs x l) (gap + late) (subs * f) (gap + late) (omega arith) (omega arith) in
+    omega arith)
+    reach
+
 -- the law
 pub polled_in_time_holds : PolledInTime
-polled_in_time_holds subs x last q f gap late start polls xl ll some served paced has reach =
-    in_time polls subs x last (q + f) gap late start start _ xl ll some served paced has (omega arith)
-    (λ h. let m = mul-le (subs * (q + f) - back subs x last) (gap + late) (subs * (q + f)) (gap + late) (omega arith) (omega arith) in omega arith)
-    reach
+polled_in_time_holds subs x q f gap late accepted None polls xl some below after served paced has reach =
+    accepted_in_time polls subs x (subs - 1) (q + f) gap late accepted None xl (omega arith) some after
+    (at_first subs) served paced has reach
+polled_in_time_holds subs x q f gap late accepted (Some l) polls xl some below after served paced has reach =
+    accepted_in_time polls subs x l.sub (q + f) gap late accepted (Some l) xl below some after
+    (behind_release subs l) served paced has reach

@@ -4,7 +4,7 @@ use Rattle.vl_shaper.specs.Choices.{next_turn, IsChosen}
 use Rattle.vl_shaper.specs.WorkedWait.{WaitsFourChoices, busy_release}
 
 -- the next sub-VL in cyclic order is chosen
-next_chosen : (last sub moment : ℕ) → sub ≡ next_turn 2 last 0 → IsChosen 2 last (busy_release moment sub).choice
+next_chosen : (last sub moment : ℕ) → sub ≡ next_turn 2 last 0 → IsChosen 2 (next_turn 2 last) (busy_release moment sub).choice
 next_chosen last sub moment is = record {
   turn = 0;
   within = omega arith;

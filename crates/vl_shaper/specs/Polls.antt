@@ -1,6 +1,8 @@
 -- How long a message waits in its link, by the polls of the link.
 use Rattle.std.specs.Prelude.{ℕ, ◌≡◌, ◌+◌, ◌-◌, ◌*◌, ◌<◌, ◌≤◌, Bool, true, false, nat_eq, nat_le, ◌&&◌, cond, count_by, Option, Some, None, List, [], ◌∷◌}
 use Rattle.vl_shaper.specs.Choices.{IsChosen}
+use Rattle.vl_shaper.specs.Pace.{is_due, turn_of, IsBelow, IsLater}
+use Rattle.vl_shaper.specs.declared.shaper.Stamp.{Stamp}
 
 -- a poll of a link: its moment, which sub-VLs have something, and of which one a frame is released, if
 -- any is
@@ -10,36 +12,30 @@ pub record Poll : Type 0 where
   pub released : Option ℕ
 
 -- At a poll no frame is released where the link isn't due, or where no sub-VL has something. Else one
--- is, of the first sub-VL in cyclic order that has something.
-abbrev pub IsServed : ℕ → ℕ → ℕ → ℕ → Poll → Option ℕ → Type 0
-IsServed gap subs before last poll None =
-    before + gap ≤ poll.at → (sub : ℕ) → sub < subs → poll.has sub ≡ false
-IsServed gap subs before last poll (Some chosen) = (before + gap ≤ poll.at)
-    × IsChosen subs last (record { has = poll.has; sub = chosen })
+-- is, of the first sub-VL that has something, in the order in which they are asked.
+abbrev pub IsServed : ℕ → ℕ → Option Stamp → Poll → Option ℕ → Type 0
+IsServed gap subs last poll None =
+    is_due gap last poll.at ≡ true → (sub : ℕ) → sub < subs → poll.has sub ≡ false
+IsServed gap subs last poll (Some chosen) = (is_due gap last poll.at ≡ true)
+    × IsChosen subs (turn_of subs last) (record { has = poll.has; sub = chosen })
 
--- the moment of the last release, after a poll
-abbrev pub moment_after : ℕ → ℕ → Option ℕ → ℕ
-moment_after before at None = before
-moment_after before at (Some chosen) = at
+-- the last release, after a poll
+abbrev pub last_after : Option Stamp → ℕ → Option ℕ → Option Stamp
+last_after last moment None = last
+last_after last moment (Some chosen) = Some (record { at = moment; sub = chosen })
 
--- the sub-VL that was served last, after a poll
-abbrev pub served_after : ℕ → Option ℕ → ℕ
-served_after last None = last
-served_after last (Some chosen) = chosen
+-- so at each of these polls, behind the last release, if there was one
+abbrev pub AreServed : ℕ → ℕ → Option Stamp → List Poll → Type 0
+AreServed gap subs last [] = Unit {0}
+AreServed gap subs last (poll ∷ polls) = IsServed gap subs last poll poll.released
+    × AreServed gap subs (last_after last poll.at poll.released) polls
 
--- so at each of these polls, behind a release at this moment, of this sub-VL
-abbrev pub AreServed : ℕ → ℕ → ℕ → ℕ → List Poll → Type 0
-AreServed gap subs before last [] = Unit {0}
-AreServed gap subs before last (poll ∷ polls) = IsServed gap subs before last poll poll.released
-    × AreServed gap subs (moment_after before poll.at poll.released)
-    (served_after last poll.released) polls
-
--- each poll follows the one before it, or the start, within the lateness
+-- each poll follows the one before it, or the acceptance, within the lateness
 abbrev pub ArePolled : ℕ → ℕ → List Poll → Type 0
 ArePolled late before [] = Unit {0}
 ArePolled late before (poll ∷ polls) = (poll.at ≤ before + late) × ArePolled late poll.at polls
 
--- the moment of the last poll, or the start
+-- the moment of the last poll, or that of the acceptance
 abbrev pub latest_poll : ℕ → List Poll → ℕ
 latest_poll before [] = before
 latest_poll before (poll ∷ polls) = latest_poll poll.at polls
@@ -61,14 +57,16 @@ released_by x moment polls =
     count_by (λ (poll : Poll). nat_le poll.at moment && is_of x poll.released) polls
 
 -- A message of so many fragments, behind so many of its own sub-VL, on a link that is polled within
--- the lateness, is wholly released by a moment that can be computed beforehand: so many rounds of the
--- sub-VLs, each release a gap and a lateness.
+-- the lateness from its acceptance on, is wholly released by a moment that can be computed then: so
+-- many rounds of the sub-VLs, each release a gap and a lateness. It doesn't matter whether the link
+-- is due then, or released anything before.
 abbrev pub PolledInTime : Type 0
-PolledInTime = (subs x last queued fragments gap late start : ℕ) (polls : List Poll)
-    → x < subs → last < subs → 1 ≤ gap
-    → AreServed gap subs start last polls
-    → ArePolled late start polls
+PolledInTime = (subs x queued fragments gap late accepted : ℕ) (last : Option Stamp)
+    (polls : List Poll) → x < subs → 1 ≤ gap
+    → IsBelow subs last → IsLater last accepted
+    → AreServed gap subs last polls
+    → ArePolled late accepted polls
     → HasAtPolls x (queued + fragments) polls
-    → start + subs * (queued + fragments) * (gap + late) ≤ latest_poll start polls
+    → accepted + subs * (queued + fragments) * (gap + late) ≤ latest_poll accepted polls
     → queued + fragments
-    ≤ released_by x (start + subs * (queued + fragments) * (gap + late)) polls
+    ≤ released_by x (accepted + subs * (queued + fragments) * (gap + late)) polls

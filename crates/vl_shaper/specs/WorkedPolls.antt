@@ -1,11 +1,25 @@
--- Worked polls of a link of two sub-VLs that always have something, with a gap of 1,000 microseconds and
--- polls up to 600 apart. Sub-VL 0 was served at the moment 0, and has a message of one fragment.
-use Rattle.std.specs.Prelude.{ℕ, ◌≡◌, ◌+◌, ◌*◌, ◌≤◌, Option, Some, None, List, [], ◌∷◌, true}
+-- Worked polls of a link of two sub-VLs, with a gap of 1,000 microseconds and polls up to 600 apart.
+-- Sub-VL 0 has a message of one fragment.
+use Rattle.std.specs.Prelude.{ℕ, ◌≡◌, ◌+◌, ◌*◌, ◌≤◌, true, false, nat_eq, Option, Some, None, List, [], ◌∷◌}
+use Rattle.vl_shaper.specs.Pace.{IsBelow, IsLater}
+use Rattle.vl_shaper.specs.declared.shaper.Stamp.{Stamp}
 use Rattle.vl_shaper.specs.Polls.{Poll, AreServed, ArePolled, HasAtPolls, latest_poll, released_by}
 
 -- a poll at which every sub-VL has something
 abbrev pub busy_poll : ℕ → Option ℕ → Poll
 busy_poll moment chosen = record { at = moment; has = λ sub. true; released = chosen }
+
+-- one at which sub-VL 0 alone has
+abbrev pub own_poll : ℕ → Option ℕ → Poll
+own_poll moment chosen = record { at = moment; has = λ sub. nat_eq sub 0; released = chosen }
+
+-- one at which none has
+abbrev pub idle_poll : ℕ → Poll
+idle_poll moment = record { at = moment; has = λ sub. false; released = None }
+
+-- sub-VL 0 was served at the moment 0
+abbrev pub served_at_0 : Option Stamp
+served_at_0 = Some (record { at = 0; sub = 0 })
 
 -- the link is due at the second, the fourth and the sixth
 abbrev pub six_polls : List Poll
@@ -17,10 +31,49 @@ six_polls = busy_poll 500 None
     ∷ busy_poll 3300 (Some 1)
     ∷ []
 
--- They meet what the law asks for, and the fragment is released by 3,200.
+-- Accepted at that moment, they meet what the law asks for, and the fragment is released by 3,200.
 pub record ServesInTime : Type 0 where
-  pub served : AreServed 1000 2 0 0 six_polls
+  pub below : IsBelow 2 served_at_0
+  pub later : IsLater served_at_0 0
+  pub served : AreServed 1000 2 served_at_0 six_polls
   pub polled : ArePolled 600 0 six_polls
   pub had : HasAtPolls 0 1 six_polls
   pub reached : 0 + 2 * 1 * (1000 + 600) ≤ latest_poll 0 six_polls
   pub released : released_by 0 (0 + 2 * 1 * (1000 + 600)) six_polls ≡ 1
+
+-- the link has nothing but the message, and is due all the time before it
+abbrev pub polls_from_5000 : List Poll
+polls_from_5000 = own_poll 5400 (Some 0)
+    ∷ idle_poll 6000
+    ∷ idle_poll 6600
+    ∷ idle_poll 7200
+    ∷ idle_poll 7800
+    ∷ idle_poll 8400
+    ∷ []
+
+-- Accepted at 5,000 on a link that is due, since nothing was released yet or since sub-VL 0 was served
+-- at 0: they meet what the law asks for, and the fragment is released at the next poll.
+pub record ReleasesAtOnce : Type 0 where
+  pub below : IsBelow 2 served_at_0
+  pub later : IsLater served_at_0 5000
+  pub served : AreServed 1000 2 served_at_0 polls_from_5000
+  pub served_first : AreServed 1000 2 None polls_from_5000
+  pub polled : ArePolled 600 5000 polls_from_5000
+  pub had : HasAtPolls 0 1 polls_from_5000
+  pub reached : 5000 + 2 * 1 * (1000 + 600) ≤ latest_poll 5000 polls_from_5000
+  pub released : released_by 0 (5000 + 2 * 1 * (1000 + 600)) polls_from_5000 ≡ 1
+  pub at_once : released_by 0 5400 polls_from_5000 ≡ 1
+
+-- the third comes too late
+abbrev pub late_polls : List Poll
+late_polls = busy_poll 500 None ∷ busy_poll 1100 (Some 1) ∷ busy_poll 3300 (Some 0) ∷ []
+
+-- Accepted at 0, they meet all but the lateness, and the fragment isn't released by 3,200.
+pub record PolledTooLate : Type 0 where
+  pub below : IsBelow 2 served_at_0
+  pub later : IsLater served_at_0 0
+  pub served : AreServed 1000 2 served_at_0 late_polls
+  pub polled : ArePolled 600 0 late_polls → ⊥
+  pub had : HasAtPolls 0 1 late_polls
+  pub reached : 0 + 2 * 1 * (1000 + 600) ≤ latest_poll 0 late_polls
+  pub released : 1 ≤ released_by 0 (0 + 2 * 1 * (1000 + 600)) late_polls → ⊥

@@ -3,7 +3,7 @@ ghost use Rattle.vl_shaper.specs.Choices.{OneEach};
 ghost use Rattle.vl_shaper.specs.InTime.{InTime};
 ghost use Rattle.vl_shaper.specs.Latency.{BoundIsMet, QueuedMessage};
 ghost use Rattle.vl_shaper.specs.Polls.{PolledInTime};
-ghost use Rattle.vl_shaper.specs.WorkedPolls.{ServesInTime};
+ghost use Rattle.vl_shaper.specs.WorkedPolls.{PolledTooLate, ReleasesAtOnce, ServesInTime};
 ghost use Rattle.vl_shaper.specs.WorkedWait.{WaitsFourChoices};
 
 /// Between two neighbouring choices of a sub-VL that had something at each choice between them,
@@ -40,15 +40,22 @@ pub fn in_time()
     ensures worked { WaitsFourChoices }
 {}
 
-/// By the polls of the link: where each poll follows the one before it within the lateness, the message
-/// is wholly released s (q + f) (gap + late) after the start at the latest.
+/// By the polls of the link: where each poll follows the one before it within the lateness, from the
+/// acceptance of the message on, it is wholly released s (q + f) (gap + late) after its acceptance at the
+/// latest.
 ///
-/// The start is the moment of a release, or any moment from which the link's gap is counted. That polls
-/// come until then is a premise, and that the message's sub-VL has something at each of them until it is
-/// wholly released. Nothing is said of the time that the networks take.
+/// The link may have released a frame before, or none, and may be due or not when the message is accepted.
+/// That polls come until then is a premise, and that the message's sub-VL has something at each of them
+/// until it is wholly released. Nothing is said of the time that the networks take.
 pub fn polled_in_time()
     ensures bound { PolledInTime }
 
     // six polls, three of which find the link due
     ensures worked { ServesInTime }
+
+    // a message that is accepted on an idle link goes at the next poll
+    ensures idle { ReleasesAtOnce }
+
+    // one poll comes too late, and so does the message
+    ensures late { PolledTooLate }
 {}
