@@ -3,13 +3,17 @@ ghost use Rattle.vl_shaper.specs.Choices.{OneEach};
 ghost use Rattle.vl_shaper.specs.InTime.{InTime};
 ghost use Rattle.vl_shaper.specs.Latency.{BoundIsMet, QueuedMessage};
 ghost use Rattle.vl_shaper.specs.Polls.{PolledInTime};
+ghost use Rattle.vl_shaper.specs.WorkedChoices.{ChoosesOneEach, LeavesOneBehind, WaitsBehindOne};
 ghost use Rattle.vl_shaper.specs.WorkedPolls.{PolledTooLate, ReleasesAtOnce, ServesInTime};
-ghost use Rattle.vl_shaper.specs.WorkedWait.{WaitsFourChoices};
+ghost use Rattle.vl_shaper.specs.WorkedWait.{ReleasesTooLate, WaitsFourChoices};
 
 /// Between two neighbouring choices of a sub-VL that had something at each choice between them,
 /// each other sub-VL is chosen at most once.
 pub fn one_each()
-    ensures { OneEach }
+    ensures each { OneEach }
+
+    // two choices while a sub-VL is passed over, and four while it has nothing
+    ensures worked { ChoosesOneEach }
 {}
 
 /// A message of f fragments, behind q fragments of its own sub-VL, on a link of s sub-VLs, is wholly
@@ -18,13 +22,19 @@ pub fn one_each()
 /// A choice is a poll at which the link was due and some sub-VL had something. That the message's
 /// own sub-VL had something until then is a premise, and so is that such polls happen.
 pub fn queued_message()
-    ensures { QueuedMessage }
+    ensures released { QueuedMessage }
+
+    // two fragments and two sub-VLs: four choices, of which three are too few
+    ensures worked { WaitsBehindOne }
 {}
 
 /// One choice fewer is not enough, on any link and for any number of fragments, where all sub-VLs have
 /// something all the while.
 pub fn bound_is_met()
-    ensures { BoundIsMet }
+    ensures met { BoundIsMet }
+
+    // three choices for two fragments and two sub-VLs
+    ensures worked { LeavesOneBehind }
 {}
 
 /// By the clock, in the unit of the gap: the message is wholly released s (q + f) (gap + late) after
@@ -36,8 +46,11 @@ pub fn bound_is_met()
 pub fn in_time()
     ensures bound { InTime }
 
-    // a worked run meets the premises
+    // four choices, the last of them within the bound
     ensures worked { WaitsFourChoices }
+
+    // the last comes too late, and so does the message
+    ensures late { ReleasesTooLate }
 {}
 
 /// By the polls of the link: where each poll follows the one before it within the lateness, from the

@@ -1,0 +1,60 @@
+-- Worked choices among a link's sub-VLs.
+use Rattle.std.specs.Prelude.{ℕ, ◌≡◌, ◌+◌, ◌*◌, ◌<◌, ◌≤◌, true, nat_eq, List, [], ◌∷◌, length}
+use Rattle.vl_shaper.specs.Choices.{Choice, AreChosen, IsPassedOver}
+use Rattle.vl_shaper.specs.Latency.{turns_of, HasUntil}
+
+-- a choice at which every sub-VL had something
+abbrev pub busy_choice : ℕ → Choice
+busy_choice chosen = record { has = λ sub. true; sub = chosen }
+
+-- one at which sub-VL 1 alone had
+abbrev pub lone_choice : Choice
+lone_choice = record { has = λ sub. nat_eq sub 1; sub = 1 }
+
+-- choices after sub-VL 0 was served, on a link of three
+abbrev pub both_others : List Choice
+both_others = busy_choice 1 ∷ busy_choice 2 ∷ []
+
+-- and where it has nothing
+abbrev pub lone_choices : List Choice
+lone_choices = lone_choice ∷ lone_choice ∷ lone_choice ∷ lone_choice ∷ []
+
+-- While sub-VL 0 is passed over, sub-VL 1 is chosen once. Where it has nothing it isn't passed over, and
+-- sub-VL 1 is chosen again and again.
+pub record ChoosesOneEach : Type 0 where
+  pub chosen : AreChosen 3 0 both_others
+  pub passed : IsPassedOver 0 both_others
+  pub once : turns_of 1 both_others ≡ 1
+  pub lone : AreChosen 3 0 lone_choices
+  pub idle : IsPassedOver 0 lone_choices → ⊥
+  pub often : turns_of 1 lone_choices ≡ 4
+
+-- choices after sub-VL 0 was served, on a link of two
+abbrev pub three_choices : List Choice
+three_choices = busy_choice 1 ∷ busy_choice 0 ∷ busy_choice 1 ∷ []
+
+-- and one more
+abbrev pub four_choices : List Choice
+four_choices = busy_choice 1 ∷ busy_choice 0 ∷ busy_choice 1 ∷ busy_choice 0 ∷ []
+
+-- A message of one fragment of sub-VL 0, behind one that was queued, is released with the fourth choice.
+-- Three are too few, and so are four where the sub-VL had nothing.
+pub record WaitsBehindOne : Type 0 where
+  pub chosen : AreChosen 2 0 four_choices
+  pub had : HasUntil 0 (1 + 1) four_choices
+  pub rounds : 2 * (1 + 1) ≤ length four_choices
+  pub released : 1 + 1 ≤ turns_of 0 four_choices
+  pub short : 2 * (1 + 1) ≤ length three_choices → ⊥
+  pub left : 1 + 1 ≤ turns_of 0 three_choices → ⊥
+  pub lone : AreChosen 2 0 lone_choices
+  pub idle : HasUntil 0 (1 + 1) lone_choices → ⊥
+  pub none : 1 + 1 ≤ turns_of 0 lone_choices → ⊥
+
+-- Three choices, one fewer than the rounds of two fragments, leave one behind. For no fragment there is
+-- no such list.
+pub record LeavesOneBehind : Type 0 where
+  pub chosen : AreChosen 2 0 three_choices
+  pub had : HasUntil 0 2 three_choices
+  pub fewer : length three_choices + 1 ≡ 2 * 2
+  pub left : turns_of 0 three_choices < 2
+  pub none : (choices : List Choice) → length choices + 1 ≡ 2 * 0 → ⊥
