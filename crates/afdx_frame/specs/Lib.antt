@@ -9,3 +9,5 @@ pub mod ReadBack
 pub mod Fragments
 pub mod Reassembly
 pub mod WorkedReassembly
+pub mod WorkedCutting
+pub mod WorkedFragments
