@@ -1,12 +1,12 @@
 -- Frames that are near by the clock are near by their count.
 use Rattle.std.proofs.Common.{◌≡◌, ℕ, zero, suc, ◌+◌, ◌-◌, ◌*◌, ◌/◌, ◌≤◌, ◌<◌, inl, inr, List, [], ◌∷◌, ◌++◌, length, refl, ap, ◌∙◌, subst, arith}
 use Rattle.std.proofs.lemmas.Bool.{cases_lt}
-use Rattle.std.proofs.lemmas.Nat.{le-div}
+use Rattle.std.proofs.lemmas.Nat.{div_below, le-div}
 use Rattle.std.proofs.lemmas.List.{append_assoc, length-append}
 use Rattle.afdx_frame.specs.declared.net.Net.{Net}
 use Rattle.afdx_frame.specs.declared.net.Net.TheVariants.{A, B}
-use Rattle.afdx_laws.specs.Receiver.{other, carried}
-use Rattle.afdx_laws.specs.Skew.{SkewIsNear}
+use Rattle.afdx_laws.specs.Receiver.{Tolerance, IsFitFor, other, carried}
+use Rattle.afdx_laws.specs.Skew.{frames_behind, SkewIsNear, SkewIsFit}
 
 -- where a network's frame number k came
 record Found {F : Type 0} (net : Net) (k : ℕ) (xs : List (Net × F)) : Type 0 where
@@ -83,3 +83,23 @@ skew_is_near_holds gap delay released at arrivals some apart forward delivered b
           let few : b - 1 - i ≤ delay / gap = le-div (b - 1 - i) delay gap some (omega arith) in
           omega arith
     ]
+
+-- a receiver that bears these frames bears the delay
+fit_delay : (gap delay : ℕ) (tolerance : Tolerance) → 1 ≤ gap → IsFitFor (frames_behind gap delay) tolerance
+    → delay < (255 - tolerance.window) * gap
+fit_delay gap delay tolerance some fit = elim (cases_lt delay ((255 - tolerance.window) * gap)) [
+  | inl less ↦ less
+  | inr long ↦
+      let apart = fit.apart in
+      let many : 255 - tolerance.window ≤ delay / gap = le-div (255 - tolerance.window) delay gap some long in
+      absurd (omega arith)
+]
+
+-- the law of the delay
+pub skew_is_fit_holds : SkewIsFit
+skew_is_fit_holds gap delay tolerance some checks opens = (
+  fit_delay gap delay tolerance some,
+  λ less.
+      let few : delay / gap < 255 - tolerance.window = div_below delay gap (255 - tolerance.window) some less in
+      record { checks = checks; opens = opens; apart = omega arith },
+)

@@ -1,6 +1,6 @@
 -- The worked losses, by computation.
 use Rattle.std.proofs.Common.{◌≡◌, ◌≢◌, ℕ, zero, suc, ◌+◌, max, Bool, true, false, not, ◌&&◌, ◌||◌, nat_eq, nat_lt, nat_le, cond, List, [], ◌∷◌, length, map, take, refl, ap, sym, ◌∙◌, subst, arith}
-use Rattle.std.proofs.lemmas.Bool.{and_parts, false≢true, eqb-true, eq-eqb, leb-true, ltb-true}
+use Rattle.std.proofs.lemmas.Bool.{and_parts, false≢true, eqb-true, leb-true, ltb-true}
 use Rattle.afdx_frame.specs.declared.net.Net.{Net}
 use Rattle.afdx_frame.specs.declared.net.Net.TheVariants.{A, B}
 use Rattle.afdx_frame.specs.Checksum.{checksum}
@@ -10,7 +10,7 @@ use Rattle.afdx_frame.specs.Twin.{twin_of}
 use Rattle.afdx_laws.specs.Receiver.{begin, received}
 use Rattle.afdx_laws.specs.Loss.{AreWithin, StartsFirst, AreClose, IsMasked, BeginsFirst, same_net, next_alone, frames_at, one_lost}
 use Rattle.afdx_laws.specs.WorkedDelivery.{bytes_41, back_frame, both_frames}
-use Rattle.afdx_laws.specs.WorkedLoss.{second_lost, first_lost, first_of_three, only_lost, messages_despite, longer_frames, longer_of_plan, MasksOneLoss, NeedsTheFirst, BeginsOnBoth, ComesDespiteLoss, HandedDespiteOneLoss, LegalDespiteOneLoss}
+use Rattle.afdx_laws.specs.WorkedLoss.{second_lost, first_lost, only_lost, messages_despite, longer_frames, longer_of_plan, MasksOneLoss, NeedsTheFirst, BeginsOnBoth, ComesDespiteLoss, HandedDespiteOneLoss, LegalDespiteOneLoss}
 use Rattle.afdx_laws.proofs.ListLemmas.{cons_parts}
 use Rattle.afdx_laws.proofs.WorkedDemo.{one_is_legal}
 use Rattle.afdx_laws.proofs.WorkedMessage.{stream_of, both_handed}

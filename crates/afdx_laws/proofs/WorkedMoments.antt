@@ -7,7 +7,7 @@ use Rattle.afdx_laws.specs.Receiver.{carried, IsNear}
 use Rattle.afdx_laws.specs.Skew.{IsDelivered}
 use Rattle.afdx_laws.proofs.ListLemmas.{cons_parts}
 use Rattle.afdx_laws.proofs.WorkedMessage.{few_are_near}
-use Rattle.afdx_laws.specs.WorkedSkew.{released_at, arrival_of, both_copies, ComesInTime}
+use Rattle.afdx_laws.specs.WorkedSkew.{released_at, arrival_of, both_copies, ComesInTime, BearsUnder254}
 
 -- each copy comes in time
 both_delivered : IsDelivered 400 released_at arrival_of both_copies
@@ -38,4 +38,15 @@ comes_in_time = record {
   near =
       few_are_near 1 both_copies (omega arith);
   exact = no_nearer;
+}
+
+-- the row of the longest delay
+pub bears_under_254 : BearsUnder254
+bears_under_254 = record {
+  under = omega arith;
+  most = refl;
+  fit = record { checks = omega arith; opens = omega arith; apart = omega arith };
+  over = λ less. absurd (omega arith);
+  more = refl;
+  unfit = λ fit. let apart = fit.apart in absurd (omega arith);
 }

@@ -1,7 +1,7 @@
 -- How near the two networks are, by the clock.
-use Rattle.std.specs.Prelude.{◌≡◌, ℕ, ◌+◌, ◌/◌, ◌≤◌, List, ◌∷◌, ◌++◌, length}
+use Rattle.std.specs.Prelude.{◌≡◌, ℕ, ◌+◌, ◌-◌, ◌*◌, ◌/◌, ◌≤◌, ◌<◌, ◌↔◌, List, ◌∷◌, ◌++◌, length}
 use Rattle.afdx_frame.specs.declared.net.Net.{Net}
-use Rattle.afdx_laws.specs.Receiver.{carried, IsNear}
+use Rattle.afdx_laws.specs.Receiver.{Tolerance, IsFitFor, carried, IsNear}
 
 -- Arrival k comes at the moment `at k`. Each network delivers frame i at its release or later, and at
 -- most `delay` later.
@@ -24,3 +24,10 @@ SkewIsNear = (gap delay : ℕ) (released at : ℕ → ℕ) (arrivals : List (Net
     → ((k : ℕ) → at k ≤ at (k + 1))
     → IsDelivered delay released at arrivals
     → IsNear (frames_behind gap delay) arrivals
+
+-- So a receiver bears a delay under so many gaps as its window leaves of 255, and no longer one: under
+-- 254 gaps where the next number alone is new.
+abbrev pub SkewIsFit : Type 0
+SkewIsFit = (gap delay : ℕ) (tolerance : Tolerance) → 1 ≤ gap
+    → 1 ≤ tolerance.check → 1 ≤ tolerance.window
+    → IsFitFor (frames_behind gap delay) tolerance ↔ (delay < (255 - tolerance.window) * gap)

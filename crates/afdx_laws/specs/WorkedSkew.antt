@@ -1,10 +1,11 @@
 -- A worked skew: frames are released a millisecond apart, and each network delivers within 400
 -- microseconds.
-use Rattle.std.specs.Prelude.{ℕ, ◌+◌, ◌*◌, ◌≤◌, List, [], ◌∷◌}
+use Rattle.std.specs.Prelude.{◌≡◌, ℕ, ◌+◌, ◌-◌, ◌*◌, ◌≤◌, ◌<◌, List, [], ◌∷◌}
 use Rattle.afdx_frame.specs.declared.net.Net.{Net}
 use Rattle.afdx_frame.specs.declared.net.Net.TheVariants.{A, B}
-use Rattle.afdx_laws.specs.Receiver.{IsNear}
+use Rattle.afdx_laws.specs.Receiver.{IsFitFor, IsNear}
 use Rattle.afdx_laws.specs.Skew.{IsDelivered, frames_behind}
+use Rattle.afdx_laws.specs.WorkedDelivery.{plain_receiver}
 
 -- the release of a frame
 abbrev pub released_at : ℕ → ℕ
@@ -25,3 +26,13 @@ pub record ComesInTime : Type 0 where
   pub delivered : IsDelivered 400 released_at arrival_of both_copies
   pub near : IsNear (frames_behind 1000 400) both_copies
   pub exact : IsNear 0 both_copies → ⊥
+
+-- A delay of a microsecond less than 254 milliseconds is borne, where the next number alone is new: the
+-- networks are 254 frames apart at most. With 254 milliseconds they may be 255 apart, and it isn't.
+pub record BearsUnder254 : Type 0 where
+  pub under : 253999 < (255 - plain_receiver.window) * 1000
+  pub most : frames_behind 1000 253999 ≡ 254
+  pub fit : IsFitFor (frames_behind 1000 253999) plain_receiver
+  pub over : 254000 < (255 - plain_receiver.window) * 1000 → ⊥
+  pub more : frames_behind 1000 254000 ≡ 255
+  pub unfit : IsFitFor (frames_behind 1000 254000) plain_receiver → ⊥

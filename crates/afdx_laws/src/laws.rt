@@ -10,7 +10,7 @@ ghost use Rattle.afdx_laws.specs.Messages.{DespiteLoss, MessagesArrive};
 ghost use Rattle.afdx_laws.specs.Networks.{ExactlyOnce};
 ghost use Rattle.afdx_laws.specs.Plans.{LegalArrive, LegalDespiteLoss, LegalPasses};
 ghost use Rattle.afdx_laws.specs.Policer.{EarlyDropped, NoMorePasses, NoneDropped};
-ghost use Rattle.afdx_laws.specs.Skew.{SkewIsNear};
+ghost use Rattle.afdx_laws.specs.Skew.{SkewIsFit, SkewIsNear};
 ghost use Rattle.afdx_laws.specs.Spacing.{StreamPasses};
 ghost use Rattle.afdx_laws.specs.WorkedDelivery.{OneMessageArrives};
 ghost use Rattle.afdx_laws.specs.WorkedLoss.{MasksOneLoss, NeedsTheFirst, BeginsOnBoth};
@@ -20,7 +20,7 @@ ghost use Rattle.afdx_laws.specs.WorkedPlan.{OneIsLegal};
 ghost use Rattle.afdx_laws.specs.WorkedPolicing.{PolicesThree, SpendsAll, DropsTheEarly, PassesTwo};
 ghost use Rattle.afdx_laws.specs.WorkedReceiving.{AcceptsEachOnce, StreamArrives, ClashesPast254};
 ghost use Rattle.afdx_laws.specs.WholeLists.{OwnListsArrive};
-ghost use Rattle.afdx_laws.specs.WorkedSkew.{ComesInTime};
+ghost use Rattle.afdx_laws.specs.WorkedSkew.{BearsUnder254, ComesInTime};
 ghost use Rattle.afdx_laws.specs.WorkedWhole.{OneIsWhole};
 
 /// A switch that polices a link by its gap, its greatest frame and a jitter, by bytes or by frames,
@@ -136,12 +136,20 @@ pub fn numbers_clash()
 /// Networks that deliver each frame within a delay of its release are never further apart than
 /// 1 + delay / gap frames, so that a receiver's bound on the lag is one on the delay.
 ///
+/// A receiver bears them just where the delay is under 255 less its window gaps: under 254 gaps where the
+/// next number alone is new, and under 253 where the next two are.
+///
 /// That each network delivers all frames in order, and none before its release, are premises.
 pub fn skew_is_near()
     ensures near { SkewIsNear }
 
+    ensures fit { SkewIsFit }
+
     // a frame that comes from both networks
     ensures worked { ComesInTime }
+
+    // a delay of a microsecond under 254 gaps, and one of 254
+    ensures longest { BearsUnder254 }
 {}
 
 /// Of the fragments of several sub-VLs, each sub-VL's own in order, the first datagrams of each are
