@@ -2,7 +2,8 @@
 //!
 //! That a switch or a receiver works as it is defined in specs/ is a premise of each, and so is that the
 //! networks deliver what is said. None says anything of frames that both networks lose, of a transmitter
-//! that begins anew with number 0, or of a receiver's timer for frames that come late (SkewMax).
+//! that begins anew with number 0, of a receiver that starts later than the stream, or of its timer for
+//! frames that come late (SkewMax).
 ghost use Rattle.afdx_laws.specs.Delivery.{InOrder};
 ghost use Rattle.afdx_laws.specs.Handed.{HandedArrive, HandedDespiteLoss};
 ghost use Rattle.afdx_laws.specs.Loss.{FirstComes, LossMasked, LossNotMasked, MaskedFromFirst, NumbersClash};
@@ -103,7 +104,7 @@ pub fn loss_masked()
 ///
 /// The network that carries every frame begins with the first; that the other does is the premise. So the
 /// transmitter's user sends nothing before the receivers run and both networks carry frames, and neither
-/// network may lose a link's first frame and then be ahead. Nothing is said of a receiver that starts later.
+/// network may lose a link's first frame and then be ahead.
 pub fn both_begin()
     ensures close { FirstComes }
 
