@@ -2,27 +2,14 @@
 //! transcripts, and reports on configurations.
 #![tactic(auto)]
 
-mod check;
-mod failure;
-mod reading;
-mod report;
-mod status;
-#[cfg(test)]
-mod tests;
-mod told;
-mod words;
-
 use afdx_plan::demo_config;
-use failure::Failure;
-use reading::read_plan;
-use status::{End, status_of};
+use bench_words::{Words, read_words, tell_words};
+use plan_report::{End, Failure, check, read_plan, status_of};
 use std::fs::File;
 use std::io::{self, BufWriter, Write};
 use std::process::ExitCode;
 use std::sync::Wait;
-use told::tell_words;
 use tx_script::{RunFault, run_script};
-use words::{Words, read_words};
 
 /// Opens a file that a word names.
 fn open(rt: &HostRuntime, path: &str) -> Result<File, Failure> {
@@ -53,7 +40,7 @@ fn obey<T: Wait, W: Write>(
             ran.map(End::Ran).map_err(Failure::Run)
         }
         Words::Check { config } => {
-            check::check(alloc, open(rt, config.as_str())?, writer)?;
+            check(alloc, open(rt, config.as_str())?, writer)?;
             Ok(End::Told)
         }
         Words::Storm => Err(Failure::Storm),

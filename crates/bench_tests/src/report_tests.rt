@@ -1,0 +1,110 @@
+use crate::helpers::{REPORT, TEXT, assert_check};
+use afdx_plan::ConfigFault;
+use plan_report::{Failure, check};
+use std::alloc::{AllocError, Global};
+use std::process::Abort;
+use std::test::Fail;
+
+// Two links, the higher identifier first, and a port on each, in the other order
+const TWO_LINKS: &str = "[end_system]
+id = 65535
+[[vl]]
+id = 7
+bag_ms = 128
+lmax = 64
+sub_vls = 4
+capacity = 256
+[[vl]]
+id = 0
+bag_ms = 2
+lmax = 1518
+sub_vls = 1
+capacity = 1
+[[port]]
+id = 3
+vl = 0
+sub = 0
+partition = 31
+kind = \"sampling\"
+source = 1
+destination = 65535
+max = 1471
+dest_ip = \"10.255.0.10\"
+[[port]]
+id = 2
+vl = 7
+sub = 3
+partition = 0
+kind = \"queuing\"
+source = 65535
+destination = 1
+max = 1
+";
+
+// Its report.
+const REPORT_OF_TWO_LINKS: &str = "end system 65535
+link 7: bag 128 ms, lmax 64, sub-VLs 4, capacity 256
+link 0: bag 2 ms, lmax 1518, sub-VLs 1, capacity 1
+port 3: link 0 sub 0, partition 31, sampling, 1 to 65535, max 1471, 10.255.0.10
+port 2: link 7 sub 3, partition 0, queuing, 65535 to 1, max 1, multicast
+jitter 169760 ns, limit 500000
+";
+
+#[test]
+fn a_report_has_a_line_for_each_link_and_each_port(rt: HostRuntime) {
+    for (text, wanted) in [(TEXT, REPORT), (TWO_LINKS, REPORT_OF_TWO_LINKS)] {
+        assert_check(&rt, rt.alloc(), text.as_bytes(), Ok(()), wanted);
+    }
+}
+
+// The demonstration with links 2 to 4 too, of which the last has this greatest frame.
+fn four_links(alloc: Global, last: u16) -> Result<String, AllocError> {
+    let mut text = TEXT.to_string(alloc)?;
+    for (id, lmax) in [(2, 1518), (3, 1518), (4, last)] {
+        push_link(&mut text, id, lmax)?;
+    }
+    Ok(text)
+}
+
+fn push_link(text: &mut String, id: u16, lmax: u16) -> Result<(), AllocError> {
+    writeln!(
+        text,
+        "[[vl]]\nid = {id}\nbag_ms = 1\nlmax = {lmax}\nsub_vls = 1\ncapacity = 2"
+    )
+}
+
+// Asserts the end of the report on a configuration.
+fn assert_last_line<T: Abort>(rt: &T, alloc: Global, text: &str, line: &str) {
+    let mut report = Vec::new(alloc);
+    assert_eq!(rt; check(alloc, text.as_bytes(), &mut report), Ok(()));
+    assert!(rt; report.as_slice().ends_with(line.as_bytes()), "{line}");
+}
+
+#[test]
+fn a_jitter_over_500_000_nanoseconds_is_exceeded(rt: HostRuntime) -> Result<(), Fail> {
+    let lines = [
+        (1518, "\njitter 532160 ns, limit 500000, exceeded\n"),
+        (1117, "\njitter 500080 ns, limit 500000, exceeded\n"),
+        (1116, "\njitter 500000 ns, limit 500000\n"),
+    ];
+    for (last, line) in lines {
+        let text = four_links(rt.alloc(), last)?;
+        assert_last_line(&rt, rt.alloc(), text.as_str(), line);
+    }
+    Ok(())
+}
+
+#[test]
+fn nothing_is_written_of_a_text_that_is_refused(rt: HostRuntime) -> Result<(), Fail> {
+    let gap_of_3 = TEXT.replace(rt.alloc(), "bag_ms = 1", "bag_ms = 3")?;
+    let texts = [
+        ("", ConfigFault::MissingKey),
+        ("=", ConfigFault::Toml),
+        (gap_of_3.as_str(), ConfigFault::BadBag),
+    ];
+    for (text, fault) in texts {
+        let refused = Err(Failure::Config(fault));
+        assert_check(&rt, rt.alloc(), text.as_bytes(), refused, "");
+    }
+    Ok(())
+}

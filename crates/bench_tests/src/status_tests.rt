@@ -1,0 +1,87 @@
+use afdx_plan::ConfigFault;
+use plan_report::{End, Failure, status_of};
+use script_lines::LineFault;
+use std::alloc::Global;
+use std::process::Abort;
+use transcript::{RunFault, Summary};
+
+// The ends of the program, and their statuses.
+const ENDS: [(End, u8); 13] = [
+    (End::Told, 0),
+    (
+        End::Ran(Summary {
+            accepted: 1,
+            refused: 0,
+            frames: 1,
+        }),
+        0,
+    ),
+    (
+        End::Ran(Summary {
+            accepted: 1,
+            refused: 1,
+            frames: 1,
+        }),
+        3,
+    ),
+    (End::WordsRefused, 2),
+    (End::Failed(Failure::Storm), 2),
+    (End::Failed(Failure::Config(ConfigFault::Toml)), 2),
+    (End::Failed(Failure::Config(ConfigFault::Limit)), 2),
+    (End::Failed(Failure::Config(ConfigFault::Memory)), 4),
+    (
+        End::Failed(Failure::Run(RunFault::Line {
+            line: 2,
+            fault: LineFault::Number,
+        })),
+        2,
+    ),
+    (End::Failed(Failure::Run(RunFault::Lines)), 2),
+    (End::Failed(Failure::Run(RunFault::Read)), 4),
+    (End::Failed(Failure::Run(RunFault::Write)), 4),
+    (End::Failed(Failure::Run(RunFault::Memory)), 4),
+];
+
+#[test]
+fn the_status_tells_how_the_program_ended(rt: HostRuntime) {
+    for (end, status) in ENDS {
+        assert_eq!(rt; status_of(&end), status, "{end:?}");
+    }
+}
+
+// The texts of failures.
+const TEXTS: [(Failure, &str); 7] = [
+    (
+        Failure::Config(ConfigFault::SharedUnicast),
+        "configuration refused: 13 SharedUnicast",
+    ),
+    (Failure::Config(ConfigFault::Memory), "out of memory"),
+    (
+        Failure::Run(RunFault::Line {
+            line: 7,
+            fault: LineFault::Number,
+        }),
+        "script line 7: 2 Number",
+    ),
+    (
+        Failure::Run(RunFault::Lines),
+        "script refused: too many lines",
+    ),
+    (Failure::Run(RunFault::Read), "read failed"),
+    (Failure::Run(RunFault::Write), "write failed"),
+    (Failure::Run(RunFault::Memory), "out of memory"),
+];
+
+fn assert_text<T: Abort>(rt: &T, alloc: Global, failure: Failure, wanted: &str) {
+    match format!(in alloc; "{failure}") {
+        Ok(text) => assert_eq!(rt; text.as_str(), wanted),
+        Err(_) => assert!(rt; false, "{wanted}"),
+    }
+}
+
+#[test]
+fn a_failure_has_its_text(rt: HostRuntime) {
+    for (failure, wanted) in TEXTS {
+        assert_text(&rt, rt.alloc(), failure, wanted);
+    }
+}

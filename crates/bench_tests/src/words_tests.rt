@@ -1,0 +1,90 @@
+use bench_words::{Words, parse, tell_words};
+use clap::Error;
+use plan_report::End;
+use std::alloc::{AllocError, Global};
+use std::process::Abort;
+
+// The words of a line that is split at its blanks, behind the program's name.
+fn words_of(alloc: Global, line: &str) -> Result<Vec<String>, AllocError> {
+    let mut words = Vec::new(alloc);
+    words.push("afdx_bench".to_string(alloc)?)?;
+    for word in line.split_whitespace() {
+        words.push(word.to_string(alloc)?)?;
+    }
+    Ok(words)
+}
+
+fn parsed(alloc: Global, line: &str) -> Result<Words, Error> {
+    let words = words_of(alloc, line)?;
+    parse(alloc, words.as_slice())
+}
+
+// Asserts what the words of a line ask for.
+fn assert_asks<T: Abort>(rt: &T, alloc: Global, line: &str, wanted: &str) {
+    let Ok(words) = parsed(alloc, line) else {
+        assert!(rt; false, "{line}");
+        return;
+    };
+    match format!(in alloc; "{words:?}") {
+        Ok(text) => assert_eq!(rt; text.as_str(), wanted),
+        Err(_) => assert!(rt; false, "{line}"),
+    }
+}
+
+const COMMANDS: [(&str, &str); 5] = [
+    ("", "Script"),
+    ("check a.toml", "Check { config: \"a.toml\" }"),
+    (
+        "run a.toml b.txt",
+        "Run { config: \"a.toml\", script: \"b.txt\" }",
+    ),
+    ("storm a.toml --messages 65535 --turns 1000000000", "Storm"),
+    ("storm --turns 1 --messages 1 a.toml", "Storm"),
+];
+
+#[test]
+fn each_command_has_its_words(rt: HostRuntime) {
+    for (line, wanted) in COMMANDS {
+        assert_asks(&rt, rt.alloc(), line, wanted);
+    }
+}
+
+// Asserts how the program ends at a line whose words ask for no command.
+fn assert_ends<T: Abort + Print + Eprint>(rt: &T, alloc: Global, line: &str, end: End) {
+    match parsed(alloc, line) {
+        Ok(words) => assert!(rt; false, "{line}: {words:?}"),
+        Err(error) => assert_eq!(rt; tell_words(rt, &error), end, "{line}"),
+    }
+}
+
+const OTHER_WORDS: [&str; 15] = [
+    "help",
+    "chekc a.toml",
+    "check",
+    "check a.toml b.txt",
+    "check --all a.toml",
+    "run a.toml",
+    "run a.toml b.txt c.txt",
+    "storm a.toml",
+    "storm a.toml --messages 1",
+    "storm a.toml --messages 0 --turns 1",
+    "storm a.toml --messages 65536 --turns 1",
+    "storm a.toml --messages 1 --turns 0",
+    "storm a.toml --messages 1 --turns 1000000001",
+    "storm a.toml --messages x --turns 1",
+    "--version",
+];
+
+#[test]
+fn other_words_are_refused(rt: HostRuntime) {
+    for line in OTHER_WORDS {
+        assert_ends(&rt, rt.alloc(), line, End::WordsRefused);
+    }
+}
+
+#[test]
+fn help_is_told(rt: HostRuntime) {
+    for line in ["--help", "-h", "check --help", "run -h", "storm --help"] {
+        assert_ends(&rt, rt.alloc(), line, End::Told);
+    }
+}

@@ -1,0 +1,26 @@
+//! What is told of the words.
+ghost use Rattle.clap.specs.Values.{kind_of};
+ghost use Rattle.bench_words.specs.Told.{EndsWords};
+
+use clap::Error;
+use clap::error::ErrorKind;
+use plan_report::{End, Failure};
+use transcript::RunFault;
+
+/// Prints what there is to tell of the words, where no command is to be done: help to standard
+/// output, and what is wrong with them to standard error.
+pub fn tell_words<R: Print + Eprint>(rt: &R, error: &Error) -> End
+    ensures { EndsWords (kind_of error.now) result }
+{
+    match error.kind() {
+        ErrorKind::OutOfMemory => End::Failed(Failure::Run(RunFault::Memory)),
+        ErrorKind::DisplayHelp | ErrorKind::DisplayVersion => match error.print(rt) {
+            Ok(()) => End::Told,
+            Err(_) => End::Failed(Failure::Run(RunFault::Write)),
+        },
+        _ => {
+            let _told = error.print(rt);
+            End::WordsRefused
+        }
+    }
+}

@@ -1,0 +1,23 @@
+-- What the text of a configuration gives.
+use Rattle.std.specs.Prelude.{◌≢◌, ℕ, List, Option, ⊤}
+use Rattle.std.specs.Io.KnownBytes.{Appends}
+use Rattle.plan_report.specs.Report.{report_of}
+use Rattle.plan_report.specs.declared.failure.Failure.{Failure}
+use Rattle.plan_report.specs.declared.failure.Failure.TheVariants.{Config, Run}
+use Rattle.afdx_plan.specs.Config.{Plan}
+use Rattle.afdx_config.specs.Faults.{IsPlanOf, IsLeastFault}
+use Rattle.afdx_plan.specs.declared.fault.ConfigFault.TheVariants.{Memory}
+use Rattle.transcript.specs.declared.run_fault.RunFault.TheVariants as Ran
+
+-- a text is refused for its fault of the least number; memory or the reading of it may fail
+abbrev pub IsRefusal : List ℕ → Failure → Type 0
+IsRefusal text (Config fault) = fault ≢ Memory → IsLeastFault text fault
+IsRefusal text (Run Ran.Read) = ⊤
+IsRefusal text (Run Ran.Memory) = ⊤
+IsRefusal text _ = ⊥
+
+-- the report of the plan of a text was written
+pub record Reports (text : List ℕ) (old new : Option (List ℕ)) : Type 0 where
+  pub plan : Plan
+  pub is_plan : IsPlanOf text plan
+  pub wrote : Appends old new (report_of plan)

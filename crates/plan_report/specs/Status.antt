@@ -1,0 +1,32 @@
+-- How the program ends.
+use Rattle.std.specs.Prelude.{ℕ, nat_eq, if◌then◌else◌}
+use Rattle.plan_report.specs.declared.failure.Failure.{Failure}
+use Rattle.plan_report.specs.declared.failure.Failure.TheVariants.{Config, Run, Storm}
+use Rattle.plan_report.specs.declared.status.End.{End}
+use Rattle.plan_report.specs.declared.status.End.TheVariants.{Told, Ran, WordsRefused, Failed}
+use Rattle.afdx_plan.specs.declared.fault.ConfigFault.TheVariants as Plan
+use Rattle.transcript.specs.declared.run_fault.RunFault.{RunFault}
+use Rattle.transcript.specs.declared.run_fault.RunFault.TheVariants.{Line, Lines, Read, Write, Memory}
+
+-- 2 where the script has a fault, and 4 where memory or a stream failed
+abbrev pub run_status : RunFault → ℕ
+run_status (Line line fault) = 2
+run_status Lines = 2
+run_status Read = 4
+run_status Write = 4
+run_status Memory = 4
+
+-- 2 where the configuration has a fault, or the command isn't there
+abbrev pub failure_status : Failure → ℕ
+failure_status (Config Plan.Memory) = 4
+failure_status (Config _) = 2
+failure_status (Run fault) = run_status fault
+failure_status Storm = 2
+
+-- 0 where all that was asked for was done, 3 where lines of the script were refused, and 2 where
+-- the words were
+abbrev pub exit_status : End → ℕ
+exit_status Told = 0
+exit_status (Ran summary) = if nat_eq summary.refused 0 then 0 else 3
+exit_status WordsRefused = 2
+exit_status (Failed failure) = failure_status failure

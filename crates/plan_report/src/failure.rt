@@ -1,0 +1,31 @@
+//! Why a command ends early.
+use afdx_plan::ConfigFault;
+use std::error::Error;
+use std::fmt;
+use transcript::RunFault;
+
+/// Why a command ends before its work is done. Its text is what standard error is told.
+#[derive(Clone, Copy, Debug, PartialEq, Eq)]
+pub enum Failure {
+    /// The configuration was refused.
+    Config(ConfigFault),
+    /// The script has a fault; or, in any command, memory, reading or writing failed.
+    Run(RunFault),
+    /// The command isn't there yet.
+    Storm,
+}
+
+impl fmt::Display for Failure {
+    fn fmt<W: fmt::Write>(&self, f: &mut fmt::Formatter<W>) -> fmt::Result {
+        match self {
+            Failure::Config(ConfigFault::Memory) => write!(f, "{}", RunFault::Memory),
+            Failure::Config(fault) => {
+                write!(f, "configuration refused: {} {fault}", fault.number())
+            }
+            Failure::Run(fault) => write!(f, "{fault}"),
+            Failure::Storm => write!(f, "storm refused: the command isn't there yet"),
+        }
+    }
+}
+
+impl Error for Failure {}

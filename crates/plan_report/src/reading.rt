@@ -1,0 +1,55 @@
+//! Reading the plan of an end system.
+ghost use Rattle.std.specs.Prelude.{◌≡◌, ◌≤◌, ◌⊎◌, IfOk, IfErr, IfSome, vec_len};
+ghost use Rattle.plan_report.specs.Reading.{IsRefusal};
+ghost use Rattle.afdx_config.specs.Faults.{IsPlanOf};
+
+use crate::failure::Failure;
+use afdx_config::read_config;
+use afdx_plan::Config;
+use std::alloc::Global;
+use std::io::{self, Read};
+use transcript::RunFault;
+
+/// The most bytes of a configuration's text, comments and all: some four hundred times what the
+/// greatest plan takes.
+pub const TEXT_LIMIT: u64 = 16_777_216;
+
+/// Reads a configuration: the plan of all bytes that a reader has left. A reader that fails, or has
+/// more than `TEXT_LIMIT` bytes, is told as `Read`.
+pub fn read_plan<R: Read + Drop>(alloc: Global, reader: R) -> Result<Config, Failure>
+    ensures plan { IfOk result (λ config. IfSome (R.remaining reader) (λ text.
+        IsPlanOf text config)) }
+    ensures refused { IfErr result (λ failure. IfSome (R.remaining reader) (λ text.
+        IsRefusal text failure)) }
+{
+    let text = read_text(alloc, reader)?;
+    read_config(alloc, text.as_slice()).map_err(Failure::Config)
+}
+
+/// All bytes that a reader has left.
+fn read_text<R: Read + Drop>(alloc: Global, reader: R) -> Result<Vec<u8>, Failure>
+    ensures whole { IfOk result (λ text. IfSome (R.remaining reader) (λ bytes.
+        text.items ≡ bytes)) }
+    ensures limit { IfOk result (λ text. vec_len text ≤ TEXT_LIMIT) }
+    ensures failed { IfErr result (λ failure.
+        (failure ≡ Failure.Run RunFault.Read) ⊎ (failure ≡ Failure.Run RunFault.Memory)) }
+{
+    let mut text = Vec::new(alloc);
+    let mut reader = reader.take(TEXT_LIMIT + 1);
+    match reader.read_to_end(&mut text) {
+        Ok(_) => {
+            if text.len() as u64 <= TEXT_LIMIT {
+                Ok(text)
+            } else {
+                Err(Failure::Run(RunFault::Read))
+            }
+        }
+        Err(error) => {
+            if error.kind() == io::ErrorKind::OutOfMemory {
+                Err(Failure::Run(RunFault::Memory))
+            } else {
+                Err(Failure::Run(RunFault::Read))
+            }
+        }
+    }
+}

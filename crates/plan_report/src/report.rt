@@ -1,0 +1,172 @@
+//! The report on a plan.
+ghost use Rattle.std.specs.Prelude.{◌≡◌, OnOk, flat_map};
+ghost use Rattle.std.specs.Io.KnownBytes.{Appends};
+ghost use Rattle.plan_report.specs.Report.{kind_name as name_of_kind, end_system_line, report_of};
+ghost use Rattle.plan_report.specs.Report.{pace_text, queues_text, link_line};
+ghost use Rattle.plan_report.specs.Report.{way_text, flow_text, destination_text, port_line};
+ghost use Rattle.plan_report.specs.Report.{jitter_text, verdict_text, jitter_line};
+
+use afdx_plan::{Config, Kind, LinkPlan, PortPlan, jitter_ns};
+use std::io::{self, Write};
+use std::net::Ipv4Addr;
+
+/// The jitter, in nanoseconds, over which a report says that it is exceeded.
+const JITTER_LIMIT: u64 = 500_000;
+
+/// Writes the report on a plan: a line for the end system, one for each link and one for each port,
+/// in the order of the text, and one for the jitter.
+pub fn write_report<W: Write>(writer: &mut W, config: &Config) -> io::Result<()>
+    ensures { OnOk result (Appends (W.contents writer.old) (W.contents writer.new)
+        (report_of config.now)) }
+{
+    write_end_system(writer, config.end_system())?;
+    write_links(writer, config.links())?;
+    write_ports(writer, config.ports())?;
+    write_jitter(writer, jitter_ns(config))
+}
+
+#[tactic(auto, unfolding(crate::specs::Report::end_system_line))]
+fn write_end_system<W: Write>(writer: &mut W, id: u16) -> io::Result<()>
+    ensures { OnOk result (Appends (W.contents writer.old) (W.contents writer.new)
+        (end_system_line id)) }
+{
+    writeln!(writer, "end system {id}")
+}
+
+fn write_links<W: Write>(writer: &mut W, links: &[LinkPlan]) -> io::Result<()>
+    ensures { OnOk result (Appends (W.contents writer.old) (W.contents writer.new)
+        (flat_map link_line links.now)) }
+{
+    for link in links {
+        write_link(writer, link)?;
+    }
+    Ok(())
+}
+
+#[tactic(auto, unfolding(crate::specs::Report::link_line))]
+fn write_link<W: Write>(writer: &mut W, link: &LinkPlan) -> io::Result<()>
+    ensures { OnOk result (Appends (W.contents writer.old) (W.contents writer.new)
+        (link_line link.now)) }
+{
+    write_pace(writer, link)?;
+    write_queues(writer, link)
+}
+
+#[tactic(auto, unfolding(crate::specs::Report::pace_text))]
+fn write_pace<W: Write>(writer: &mut W, link: &LinkPlan) -> io::Result<()>
+    ensures { OnOk result (Appends (W.contents writer.old) (W.contents writer.new)
+        (pace_text link.now)) }
+{
+    let id = link.id.0;
+    let gap = link.bag.ms();
+    let lmax = link.lmax.bytes();
+    write!(writer, "link {id}: bag {gap} ms, lmax {lmax}")
+}
+
+#[tactic(auto, unfolding(crate::specs::Report::queues_text))]
+fn write_queues<W: Write>(writer: &mut W, link: &LinkPlan) -> io::Result<()>
+    ensures { OnOk result (Appends (W.contents writer.old) (W.contents writer.new)
+        (queues_text link.now)) }
+{
+    let sub_vls = link.sub_vls;
+    let capacity = link.capacity;
+    writeln!(writer, ", sub-VLs {sub_vls}, capacity {capacity}")
+}
+
+fn write_ports<W: Write>(writer: &mut W, ports: &[PortPlan]) -> io::Result<()>
+    ensures { OnOk result (Appends (W.contents writer.old) (W.contents writer.new)
+        (flat_map port_line ports.now)) }
+{
+    for port in ports {
+        write_port(writer, port)?;
+    }
+    Ok(())
+}
+
+#[tactic(auto, unfolding(crate::specs::Report::port_line))]
+fn write_port<W: Write>(writer: &mut W, port: &PortPlan) -> io::Result<()>
+    ensures { OnOk result (Appends (W.contents writer.old) (W.contents writer.new)
+        (port_line port.now)) }
+{
+    write_way(writer, port)?;
+    write_flow(writer, port)?;
+    writer.write_all(b", ")?;
+    write_destination(writer, port.unicast)?;
+    writer.write_all(b"\n")
+}
+
+#[tactic(auto, unfolding(crate::specs::Report::way_text))]
+fn write_way<W: Write>(writer: &mut W, port: &PortPlan) -> io::Result<()>
+    ensures { OnOk result (Appends (W.contents writer.old) (W.contents writer.new)
+        (way_text port.now)) }
+{
+    let id = port.id.0;
+    let link = port.vl.0;
+    let sub = port.sub;
+    let partition = port.partition;
+    write!(
+        writer,
+        "port {id}: link {link} sub {sub}, partition {partition}"
+    )
+}
+
+#[tactic(auto, unfolding(crate::specs::Report::flow_text))]
+fn write_flow<W: Write>(writer: &mut W, port: &PortPlan) -> io::Result<()>
+    ensures { OnOk result (Appends (W.contents writer.old) (W.contents writer.new)
+        (flow_text port.now)) }
+{
+    let kind = kind_name(port.kind);
+    let source = port.source;
+    let destination = port.destination;
+    let max = port.max;
+    write!(writer, ", {kind}, {source} to {destination}, max {max}")
+}
+
+#[tactic(auto, unfolding(crate::specs::Report::destination_text))]
+fn write_destination<W: Write>(writer: &mut W, unicast: Option<[u8; 4]>) -> io::Result<()>
+    ensures { OnOk result (Appends (W.contents writer.old) (W.contents writer.new)
+        (destination_text unicast)) }
+{
+    match unicast {
+        Some(address) => write!(writer, "{}", Ipv4Addr::from(address)),
+        None => writer.write_all(b"multicast"),
+    }
+}
+
+fn kind_name(kind: Kind) -> &'static str
+    ensures { result.now ≡ name_of_kind kind }
+{
+    match kind {
+        Kind::Sampling => "sampling",
+        Kind::Queuing => "queuing",
+    }
+}
+
+#[tactic(auto, unfolding(crate::specs::Report::jitter_line))]
+fn write_jitter<W: Write>(writer: &mut W, jitter: u64) -> io::Result<()>
+    ensures { OnOk result (Appends (W.contents writer.old) (W.contents writer.new)
+        (jitter_line jitter)) }
+{
+    write_nanoseconds(writer, jitter)?;
+    write_verdict(writer, jitter)
+}
+
+#[tactic(auto, unfolding(crate::specs::Report::jitter_text))]
+fn write_nanoseconds<W: Write>(writer: &mut W, jitter: u64) -> io::Result<()>
+    ensures { OnOk result (Appends (W.contents writer.old) (W.contents writer.new)
+        (jitter_text jitter)) }
+{
+    write!(writer, "jitter {jitter} ns, limit {JITTER_LIMIT}")
+}
+
+#[tactic(auto, unfolding(crate::specs::Report::verdict_text))]
+fn write_verdict<W: Write>(writer: &mut W, jitter: u64) -> io::Result<()>
+    ensures { OnOk result (Appends (W.contents writer.old) (W.contents writer.new)
+        (verdict_text jitter)) }
+{
+    if jitter > JITTER_LIMIT {
+        writer.write_all(b", exceeded\n")
+    } else {
+        writer.write_all(b"\n")
+    }
+}
