@@ -1,10 +1,12 @@
 //! Tests of frames: pieces, fields, twins, readers.
-ghost use Rattle.std.specs.Prelude.{◌≡◌};
-ghost use Rattle.afdx_plan.specs.Plan.{IsPort};
+ghost use Rattle.std.specs.Prelude.{◌≡◌, ◌<◌, ◌≤◌, IfOk};
+ghost use Rattle.afdx_plan.specs.Plan.{IsPort, SendsOver};
+ghost use Rattle.afdx_frame.specs.Cutting.{SameMessage};
 
 use afdx_frame::{Cut, Frame, Net, ident_of, more_of, offset_of, sn_of, sub_of, twin, vl_of};
 use afdx_plan::{Bag, Kind, LinkPlan, Lmax, PortId, PortPlan, VlId};
 use std::alloc::{AllocError, Global};
+use std::process::Abort;
 use std::test::Fail;
 
 // the MAC addresses and the type of each frame below: link 1, end system 1, network A
@@ -33,13 +35,19 @@ fn frame_with(
     Ok(frame)
 }
 
-/// A UDP header and a message of so many bytes `aa`.
-fn datagram(alloc: Global, header: &[u8; 8], len: usize) -> Result<Vec<u8>, AllocError> {
-    let mut datagram = header.to_vec(alloc)?;
+/// A frame of network A whose piece is what is given and then so many bytes `aa`.
+fn frame_of_aa(
+    alloc: Global,
+    header: &[u8; 20],
+    begin: &[u8],
+    len: usize,
+    number: u8,
+) -> Result<Vec<u8>, AllocError> {
+    let mut piece = begin.to_vec(alloc)?;
     for _ in 0..len {
-        datagram.push(0xaa)?;
+        piece.push(0xaa)?;
     }
-    Ok(datagram)
+    frame_with(alloc, header, &piece, number)
 }
 
 /// Link 1 with greatest frames of so many bytes and so many sub-VLs.
@@ -104,110 +112,151 @@ fn the_twin_differs_in_the_interface_alone(rt: HostRuntime) -> Result<(), Fail> 
     Ok(())
 }
 
+/// A message of so many bytes `aa` of the demonstration port.
+fn cut_of_aa(alloc: Global, len: usize) -> Result<Cut, AllocError>
+    requires some { 1 ≤ len }
+    requires most { len ≤ 8192 }
+    ensures vl { IfOk result (λ cut. cut.port.vl ≡ record { 0 = 1 }) }
+    ensures sub { IfOk result (λ cut. cut.port.sub ≡ 0) }
+{
+    let message = vec![in alloc; 0xaau8; len]?;
+    Ok(Cut::new(message, 0, &demo_port()))
+}
+
+/// Asserts that the next frame of a message for network A is this one, and whether it is the last.
+fn assert_next(
+    rt: &impl Abort,
+    cut: &mut Cut,
+    link: &LinkPlan,
+    number: u8,
+    wanted: &[u8],
+    is_last: bool,
+)
+    requires { SendsOver cut.old.port link.now }
+    ensures { SameMessage cut.old cut.new }
+{
+    let frame = cut.next_frame(link, 1, number, Net::A).unwrap_or_default();
+    assert_eq!(rt; frame.as_slice(), wanted);
+    assert_eq!(rt; cut.is_done(), is_last);
+}
+
+/// Asserts that a message of so many bytes `aa` goes out as these two frames and no more.
+fn assert_two_frames(
+    rt: &impl Abort,
+    alloc: Global,
+    len: usize,
+    lmax: Lmax,
+    first: &[u8],
+    second: &[u8],
+)
+    requires some { 1 ≤ len }
+    requires most { len ≤ 8192 }
+{
+    let link = link(lmax, 1);
+    let mut cut = cut_of_aa(alloc, len).expect(rt, "memory");
+    assert_next(rt, &mut cut, &link, 0, first, false);
+    assert_next(rt, &mut cut, &link, 1, second, true);
+    assert!(rt; cut.next_frame(&link, 1, 2, Net::A).is_none());
+}
+
 #[test]
 fn a_message_of_1471_bytes_fills_one_frame(rt: HostRuntime) -> Result<(), Fail> {
-    let alloc = rt.alloc();
-    let message = vec![in alloc; 0xaau8; 1471]?;
-    let mut cut = Cut::new(message, 0, &demo_port());
-    let frame = cut
-        .next_frame(&link(Lmax::new(1518), 1), 1, 0, Net::A)
-        .unwrap_or_default();
     let header =
         b"\x45\x00\x05\xdb\x00\x00\x00\x00\x01\x11\xc8\x30\x0a\x00\x01\x01\xe0\xe0\x00\x01";
-    let piece = datagram(alloc, b"\x03\xe8\x07\xd0\x05\xc7\x00\x00", 1471)?;
-    let expected = frame_with(alloc, header, &piece, 0)?;
+    let udp = b"\x03\xe8\x07\xd0\x05\xc7\x00\x00";
+    let expected = frame_of_aa(rt.alloc(), header, udp, 1471, 0)?;
     assert_eq!(rt; expected.len(), 1514);
-    assert_eq!(rt; frame.as_slice(), expected.as_slice());
-    assert!(rt; cut.is_done());
+    let mut cut = cut_of_aa(rt.alloc(), 1471)?;
+    let link = link(Lmax::new(1518), 1);
+    assert_next(&rt, &mut cut, &link, 0, &expected, true);
     Ok(())
 }
 
 #[test]
 fn a_message_of_1472_bytes_is_two_frames(rt: HostRuntime) -> Result<(), Fail> {
-    let alloc = rt.alloc();
-    let message = vec![in alloc; 0xaau8; 1472]?;
-    let mut cut = Cut::new(message, 0, &demo_port());
-    let link = link(Lmax::new(1518), 1);
-    let first = cut.next_frame(&link, 1, 0, Net::A).unwrap_or_default();
     let header =
         b"\x45\x00\x05\xd4\x00\x00\x20\x00\x01\x11\xa8\x37\x0a\x00\x01\x01\xe0\xe0\x00\x01";
-    let piece = datagram(alloc, b"\x03\xe8\x07\xd0\x05\xc8\x00\x00", 1464)?;
-    let expected = frame_with(alloc, header, &piece, 0)?;
-    assert_eq!(rt; expected.len(), 1507);
-    assert_eq!(rt; first.as_slice(), expected.as_slice());
-    assert!(rt; !cut.is_done());
-    let second = cut.next_frame(&link, 1, 1, Net::A).unwrap_or_default();
+    let udp = b"\x03\xe8\x07\xd0\x05\xc8\x00\x00";
+    let first = frame_of_aa(rt.alloc(), header, udp, 1464, 0)?;
+    assert_eq!(rt; first.len(), 1507);
     let header =
         b"\x45\x00\x00\x1c\x00\x00\x00\xb8\x01\x11\xcd\x37\x0a\x00\x01\x01\xe0\xe0\x00\x01";
-    let expected = frame_with(alloc, header, &[0xaa; 8], 1)?;
-    assert_eq!(rt; expected.len(), 60);
-    assert_eq!(rt; second.as_slice(), expected.as_slice());
-    assert!(rt; cut.is_done());
-    assert!(rt; cut.next_frame(&link, 1, 2, Net::A).is_none());
+    let second = frame_of_aa(rt.alloc(), header, b"", 8, 1)?;
+    assert_eq!(rt; second.len(), 60);
+    assert_two_frames(&rt, rt.alloc(), 1472, Lmax::new(1518), &first, &second);
     Ok(())
 }
 
 #[test]
 fn the_last_piece_may_be_longer_than_a_step(rt: HostRuntime) -> Result<(), Fail> {
-    let alloc = rt.alloc();
-    let message = vec![in alloc; 0xaau8; 41]?;
-    let mut cut = Cut::new(message, 0, &demo_port());
-    let link = link(Lmax::new(64), 1);
-    let first = cut.next_frame(&link, 1, 0, Net::A).unwrap_or_default();
     let header =
         b"\x45\x00\x00\x2c\x00\x00\x20\x00\x01\x11\xad\xdf\x0a\x00\x01\x01\xe0\xe0\x00\x01";
-    let piece = datagram(alloc, b"\x03\xe8\x07\xd0\x00\x31\x00\x00", 16)?;
-    let expected = frame_with(alloc, header, &piece, 0)?;
-    assert_eq!(rt; first.as_slice(), expected.as_slice());
-    let second = cut.next_frame(&link, 1, 1, Net::A).unwrap_or_default();
+    let udp = b"\x03\xe8\x07\xd0\x00\x31\x00\x00";
+    let first = frame_of_aa(rt.alloc(), header, udp, 16, 0)?;
     let header =
         b"\x45\x00\x00\x2d\x00\x00\x00\x03\x01\x11\xcd\xdb\x0a\x00\x01\x01\xe0\xe0\x00\x01";
-    let expected = frame_with(alloc, header, &[0xaa; 25], 1)?;
-    assert_eq!(rt; second.as_slice(), expected.as_slice());
-    assert!(rt; cut.is_done());
+    let second = frame_of_aa(rt.alloc(), header, b"", 25, 1)?;
+    assert_two_frames(&rt, rt.alloc(), 41, Lmax::new(64), &first, &second);
     Ok(())
+}
+
+/// Asserts of the next frame of a message its total length, its piece's offset, and whether more
+/// pieces follow.
+fn assert_piece(
+    rt: &impl Abort,
+    cut: &mut Cut,
+    link: &LinkPlan,
+    number: u8,
+    total_length: u8,
+    offset: u16,
+    more: bool,
+)
+    requires { SendsOver cut.old.port link.now }
+    ensures { SameMessage cut.old cut.new }
+{
+    let frame = cut.next_frame(link, 1, number, Net::A).unwrap_or_default();
+    assert_eq!(rt; frame.get(16..18), Some([0, total_length].as_slice()));
+    assert_eq!(rt; offset_of(&frame), Some(offset));
+    assert_eq!(rt; more_of(&frame), Some(more));
+    assert_eq!(rt; cut.is_done(), !more);
 }
 
 #[test]
 fn frames_of_64_bytes_hold_pieces_of_25(rt: HostRuntime) -> Result<(), Fail> {
     let link = link(Lmax::new(64), 1);
     // a datagram of 25 bytes is sent whole
-    let mut cut = Cut::new(vec![in rt.alloc(); 0xaau8; 17]?, 0, &demo_port());
-    let whole = cut.next_frame(&link, 1, 0, Net::A).unwrap_or_default();
-    assert_eq!(rt; whole.get(16..18), Some([0u8, 45].as_slice()));
-    assert_eq!(rt;
-        (offset_of(&whole), more_of(&whole)),
-        (Some(0), Some(false))
-    );
-    assert!(rt; cut.is_done());
+    let mut cut = cut_of_aa(rt.alloc(), 17)?;
+    assert_piece(&rt, &mut cut, &link, 0, 45, 0, false);
     // one of 26 is cut at 24
-    let mut cut = Cut::new(vec![in rt.alloc(); 0xaau8; 18]?, 0, &demo_port());
-    let first = cut.next_frame(&link, 1, 0, Net::A).unwrap_or_default();
-    assert_eq!(rt; first.get(16..18), Some([0u8, 44].as_slice()));
-    assert_eq!(rt; (offset_of(&first), more_of(&first)), (Some(0), Some(true)));
-    assert!(rt; !cut.is_done());
-    let last = cut.next_frame(&link, 1, 1, Net::A).unwrap_or_default();
-    assert_eq!(rt; last.get(16..18), Some([0u8, 22].as_slice()));
-    assert_eq!(rt; (offset_of(&last), more_of(&last)), (Some(3), Some(false)));
-    assert!(rt; cut.is_done());
+    let mut cut = cut_of_aa(rt.alloc(), 18)?;
+    assert_piece(&rt, &mut cut, &link, 0, 44, 0, true);
+    assert_piece(&rt, &mut cut, &link, 1, 22, 3, false);
     Ok(())
+}
+
+/// The first frame of the message 01 of a port at a place, for network A.
+fn first_frame(alloc: Global, port: &PortPlan, place: u64, sub_vls: u8) -> Result<Frame, AllocError>
+    requires port { IsPort port.now }
+    requires vl { port.now.vl ≡ record { 0 = 1 } }
+    requires sub { port.now.sub < sub_vls }
+    requires sub_vls { sub_vls ≤ 4 }
+{
+    let mut cut = Cut::new([1u8].to_vec(alloc)?, place, port);
+    let link = link(Lmax::new(1518), sub_vls);
+    Ok(cut.next_frame(&link, 1, 0, Net::A).unwrap_or_default())
 }
 
 #[test]
 fn a_unicast_port_s_frame_keeps_the_link_s_mac_address(rt: HostRuntime) -> Result<(), Fail> {
-    let alloc = rt.alloc();
     let port = PortPlan {
         unicast: Some([10, 0, 2, 1]),
         ..demo_port()
     };
-    let mut cut = Cut::new([1u8].to_vec(alloc)?, 0, &port);
-    let frame = cut
-        .next_frame(&link(Lmax::new(1518), 1), 1, 0, Net::A)
-        .unwrap_or_default();
+    let frame = first_frame(rt.alloc(), &port, 0, 1)?;
     let header =
         b"\x45\x00\x00\x1d\x00\x00\x00\x00\x01\x11\xa2\xcf\x0a\x00\x01\x01\x0a\x00\x02\x01";
     let piece = b"\x03\xe8\x07\xd0\x00\x09\x00\x00\x01";
-    let expected = frame_with(alloc, header, piece, 0)?;
+    let expected = frame_with(rt.alloc(), header, piece, 0)?;
     assert_eq!(rt; frame.as_slice(), expected.as_slice());
     assert_eq!(rt; vl_of(&frame), Some(VlId(1)));
     Ok(())
@@ -220,14 +269,53 @@ fn identifications_tell_the_place_and_the_sub_vl(rt: HostRuntime) -> Result<(), 
         ..demo_port()
     };
     for (place, identification) in [(0u64, 3u16), (1, 7), (16_384, 3)] {
-        let mut cut = Cut::new([1u8].to_vec(rt.alloc())?, place, &port);
-        let frame = cut
-            .next_frame(&link(Lmax::new(1518), 4), 1, 0, Net::A)
-            .unwrap_or_default();
+        let frame = first_frame(rt.alloc(), &port, place, 4)?;
         assert_eq!(rt; ident_of(&frame), Some(identification));
         assert_eq!(rt; sub_of(&frame), Some(3));
     }
     Ok(())
+}
+
+/// What each reader gives.
+#[derive(Clone, Copy, Debug, PartialEq, Eq)]
+struct Fields {
+    vl: Option<VlId>,
+    sub: Option<u8>,
+    number: Option<u8>,
+    ident: Option<u16>,
+    offset: Option<u16>,
+    more: Option<bool>,
+}
+
+/// What the readers give of `FIRST_FRAME`.
+const FIRST_FIELDS: Fields = Fields {
+    vl: Some(VlId(1)),
+    sub: Some(0),
+    number: Some(0),
+    ident: Some(0),
+    offset: Some(0),
+    more: Some(false),
+};
+
+/// What they give of bytes that are no frame.
+const NO_FIELDS: Fields = Fields {
+    vl: None,
+    sub: None,
+    number: None,
+    ident: None,
+    offset: None,
+    more: None,
+};
+
+fn fields_of(bytes: &[u8]) -> Fields {
+    Fields {
+        vl: vl_of(bytes),
+        sub: sub_of(bytes),
+        number: sn_of(bytes),
+        ident: ident_of(bytes),
+        offset: offset_of(bytes),
+        more: more_of(bytes),
+    }
 }
 
 #[test]
@@ -235,12 +323,12 @@ fn the_readers_give_the_fields_of_a_last_fragment(rt: HostRuntime) -> Result<(),
     let header =
         b"\x45\x00\x00\x1c\x00\x00\x00\xb8\x01\x11\xcd\x37\x0a\x00\x01\x01\xe0\xe0\x00\x01";
     let frame = frame_with(rt.alloc(), header, &[0xaa; 8], 1)?;
-    assert_eq!(rt; vl_of(&frame), Some(VlId(1)));
-    assert_eq!(rt; sub_of(&frame), Some(0));
-    assert_eq!(rt; sn_of(&frame), Some(1));
-    assert_eq!(rt; ident_of(&frame), Some(0));
-    assert_eq!(rt; offset_of(&frame), Some(184));
-    assert_eq!(rt; more_of(&frame), Some(false));
+    let wanted = Fields {
+        number: Some(1),
+        offset: Some(184),
+        ..FIRST_FIELDS
+    };
+    assert_eq!(rt; fields_of(&frame), wanted);
     Ok(())
 }
 
@@ -252,16 +340,15 @@ fn a_flipped_bit_is_read_only_in_the_piece_and_the_number(rt: HostRuntime) {
             bytes[place] ^= 1 << bit;
             // the piece lies at 34 to 42, its padding at 43 to 58, and the number at 59
             let is_read = (place >= 34 && place <= 42) || place == 59;
-            assert_eq!(rt; vl_of(&bytes), is_read.then_some(VlId(1)), "{place}, {bit}");
-            assert_eq!(rt; sub_of(&bytes), is_read.then_some(0), "{place}, {bit}");
-            assert_eq!(rt;
-                sn_of(&bytes),
-                is_read.then_some(bytes[59]),
-                "{place}, {bit}"
-            );
-            assert_eq!(rt; ident_of(&bytes), is_read.then_some(0), "{place}, {bit}");
-            assert_eq!(rt; offset_of(&bytes), is_read.then_some(0), "{place}, {bit}");
-            assert_eq!(rt; more_of(&bytes), is_read.then_some(false), "{place}, {bit}");
+            let wanted = if is_read {
+                Fields {
+                    number: Some(bytes[59]),
+                    ..FIRST_FIELDS
+                }
+            } else {
+                NO_FIELDS
+            };
+            assert_eq!(rt; fields_of(&bytes), wanted, "{place}, {bit}");
         }
     }
 }

@@ -5,7 +5,7 @@ ghost use Rattle.afdx_frame.specs.declared.net.Net.TheVariants.{A as ForA};
 
 use afdx_frame::Frame;
 use redundant_mux::{BothDown, HandFault, MemNetwork, Mux, Network, Standing};
-use std::test::Fail;
+use std::process::Abort;
 
 // A message of one byte on virtual link 1, for network A and for network B.
 const FOR_A: [u8; 60] = [
@@ -32,70 +32,77 @@ fn frame_for_a() -> Frame
     frame
 }
 
+// Hands the frame to the networks that stand. A test that calls this has a short proof, since it
+// keeps no frame and learns nothing of the networks.
+fn hand(mux: &mut Mux<MemNetwork, MemNetwork>, at: u64) -> Result<Standing, BothDown> {
+    mux.hand(at, &frame_for_a())
+}
+
+// Asserts how many frames a network was handed, and how often it failed.
+fn assert_counts(rt: &impl Abort, network: &MemNetwork, handed: usize, failures: u64) {
+    assert_eq!(rt; network.handed().len(), handed);
+    assert_eq!(rt; network.failures(), failures);
+}
+
+// Asserts what a network was handed at a place, and at which moment.
+fn assert_handed(rt: &impl Abort, network: &MemNetwork, place: usize, at: u64, frame: &[u8]) {
+    let handed = network.handed();
+    assert!(rt; place < handed.len());
+    assert_eq!(rt; handed[place].at, at);
+    assert_eq!(rt; handed[place].frame.as_slice(), frame);
+}
+
 #[test]
-fn both_networks_keep_a_frame_that_differs_in_byte_11_alone(rt: HostRuntime) -> Result<(), Fail> {
+fn both_networks_keep_a_frame_that_differs_in_byte_11_alone(rt: HostRuntime) {
     let alloc = rt.alloc();
     let mut mux = Mux::new(MemNetwork::new(alloc), MemNetwork::new(alloc));
-    let standing = mux.hand(7, &frame_for_a());
+    let standing = hand(&mut mux, 7);
     assert_eq!(rt; standing, Ok(Standing { a: true, b: true }));
     let (a, b) = mux.into_networks();
-    for (network, frame) in [(a, FOR_A), (b, FOR_B)] {
-        let handed = network.handed();
-        assert_eq!(rt; handed.len(), 1);
-        assert_eq!(rt; handed[0].at, 7);
-        assert_eq!(rt; handed[0].frame.as_slice(), frame.as_slice());
-        assert_eq!(rt; network.failures(), 0);
-    }
-    Ok(())
+    assert_counts(&rt, &a, 1, 0);
+    assert_handed(&rt, &a, 0, 7, &FOR_A);
+    assert_counts(&rt, &b, 1, 0);
+    assert_handed(&rt, &b, 0, 7, &FOR_B);
 }
 
 #[test]
-fn a_network_that_fails_at_its_second_hand_gets_nothing_more(rt: HostRuntime) -> Result<(), Fail> {
+fn a_network_that_fails_at_its_second_hand_gets_nothing_more(rt: HostRuntime) {
     let alloc = rt.alloc();
     let mut mux = Mux::new(MemNetwork::failing_at(alloc, 2), MemNetwork::new(alloc));
-    let frame = frame_for_a();
-    assert_eq!(rt; mux.hand(0, &frame), Ok(Standing { a: true, b: true }));
-    assert_eq!(rt; mux.hand(1, &frame), Ok(Standing { a: false, b: true }));
-    assert_eq!(rt; mux.hand(2, &frame), Ok(Standing { a: false, b: true }));
+    assert_eq!(rt; hand(&mut mux, 0), Ok(Standing { a: true, b: true }));
+    assert_eq!(rt; hand(&mut mux, 1), Ok(Standing { a: false, b: true }));
+    assert_eq!(rt; hand(&mut mux, 2), Ok(Standing { a: false, b: true }));
     assert_eq!(rt; mux.standing(), Standing { a: false, b: true });
     let (a, b) = mux.into_networks();
-    assert_eq!(rt; (a.handed().len(), a.failures()), (1, 1));
-    assert_eq!(rt; (b.handed().len(), b.failures()), (3, 0));
-    Ok(())
+    assert_counts(&rt, &a, 1, 1);
+    assert_counts(&rt, &b, 3, 0);
 }
 
 #[test]
-fn a_hand_after_both_failed_answers_both_down(rt: HostRuntime) -> Result<(), Fail> {
+fn a_hand_after_both_failed_answers_both_down(rt: HostRuntime) {
     let alloc = rt.alloc();
     let mut mux = Mux::new(
         MemNetwork::failing_at(alloc, 2),
         MemNetwork::failing_at(alloc, 1),
     );
-    let frame = frame_for_a();
-    assert_eq!(rt; mux.hand(0, &frame), Ok(Standing { a: true, b: false }));
-    assert_eq!(rt; mux.hand(1, &frame), Ok(Standing { a: false, b: false }));
-    assert_eq!(rt; mux.hand(2, &frame), Err(BothDown));
+    assert_eq!(rt; hand(&mut mux, 0), Ok(Standing { a: true, b: false }));
+    assert_eq!(rt; hand(&mut mux, 1), Ok(Standing { a: false, b: false }));
+    assert_eq!(rt; hand(&mut mux, 2), Err(BothDown));
     let (a, b) = mux.into_networks();
-    assert_eq!(rt; (a.handed().len(), a.failures()), (1, 1));
-    assert_eq!(rt; (b.handed().len(), b.failures()), (0, 1));
-    Ok(())
+    assert_counts(&rt, &a, 1, 1);
+    assert_counts(&rt, &b, 0, 1);
 }
 
 #[test]
-fn a_network_takes_frames_before_and_behind_the_hand_that_is_to_fail(
-    rt: HostRuntime,
-) -> Result<(), Fail> {
+fn a_network_takes_frames_before_and_behind_the_hand_that_is_to_fail(rt: HostRuntime) {
     let mut network = MemNetwork::failing_at(rt.alloc(), 2);
-    assert_eq!(rt; network.hand(10, &[1, 2]), Ok(()));
-    assert_eq!(rt; network.hand(20, &[3]), Err(HandFault));
-    assert_eq!(rt; network.hand(30, &[]), Ok(()));
-    let handed = network.handed();
-    assert_eq!(rt; handed.len(), 2);
-    assert_eq!(rt;
-        (handed[0].at, handed[0].frame.as_slice()),
-        (10, [1, 2].as_slice())
-    );
-    assert_eq!(rt; (handed[1].at, handed[1].frame.len()), (30, 0));
-    assert_eq!(rt; network.failures(), 1);
-    Ok(())
+    let first = network.hand(10, &[1, 2]);
+    let second = network.hand(20, &[3]);
+    let third = network.hand(30, &[]);
+    assert_eq!(rt; first, Ok(()));
+    assert_eq!(rt; second, Err(HandFault));
+    assert_eq!(rt; third, Ok(()));
+    assert_counts(&rt, &network, 2, 1);
+    assert_handed(&rt, &network, 0, 10, &[1, 2]);
+    assert_handed(&rt, &network, 1, 30, &[]);
 }

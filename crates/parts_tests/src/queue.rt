@@ -1,29 +1,31 @@
 //! Tests of a queue on one thread.
-ghost use Rattle.std.specs.Prelude.{◌≡◌, ◌∷◌, [], IfOk};
+ghost use Rattle.std.specs.Prelude.{◌≡◌, ◌^◌, ◌≤◌, ◌∷◌, [], IfOk};
 ghost use Rattle.subvl_queue.specs.Views.{AreOf};
 
 use std::alloc::{AllocError, Global};
+use std::fmt::InlineText;
 use std::process::Abort;
 use std::sync::Wait;
 use std::test::Fail;
 use subvl_queue::{Gathered, Item, Receiver, Sender, Why, make};
 
-// Sends a message of two bytes. Why it was refused, if it was; then it came back.
-fn send<R: Wait + Abort>(
+// Sends a message of two bytes, and asserts why it was refused, if it was; then it came back. A test
+// that calls this has a short proof, since it keeps no message.
+fn assert_sent<R: Wait + Abort>(
     rt: &R,
     alloc: Global,
     sender: &mut Sender,
-    first: u8,
-    second: u8,
-) -> Result<Option<Why>, AllocError>
+    message: [u8; 2],
+    wanted: Option<Why>,
+)
     ensures { sender.new.queue ≡ sender.old.queue }
 {
-    let bytes = vec![in alloc; first, second]?;
+    let bytes = Vec::from_array(alloc, message).expect(rt, "memory");
     match sender.send(rt, bytes) {
-        Ok(()) => Ok(None),
+        Ok(()) => assert_eq!(rt; None, wanted),
         Err(refused) => {
-            assert_eq!(rt; refused.bytes.as_slice(), [first, second].as_slice());
-            Ok(Some(refused.why))
+            assert_eq!(rt; refused.bytes.as_slice(), message.as_slice());
+            assert_eq!(rt; Some(refused.why), wanted);
         }
     }
 }
@@ -35,12 +37,15 @@ fn shown(item: Item) -> Option<[u8; 3]> {
     Some([item.port, first, second])
 }
 
-// Takes the next message, shown.
-fn take<R: Wait>(rt: &R, receiver: &mut Receiver) -> Option<[u8; 3]>
+// Takes the next message, and asserts what it is, if there is one.
+fn assert_taken<R: Wait + Abort>(rt: &R, receiver: &mut Receiver, wanted: Option<[u8; 3]>)
     ensures { receiver.new.queue ≡ receiver.old.queue }
 {
-    let item = receiver.take(rt)?;
-    shown(item)
+    let taken = match receiver.take(rt) {
+        Some(item) => shown(item),
+        None => None,
+    };
+    assert_eq!(rt; taken, wanted);
 }
 
 // Takes the next message that is left, shown.
@@ -49,36 +54,33 @@ fn take_left(gathered: &mut Gathered) -> Option<[u8; 3]> {
     shown(item)
 }
 
+// A queue of one sender.
+fn open_one(alloc: Global, capacity: usize, calls: u64) -> Result<(Receiver, Sender), AllocError>
+    requires some { 1 ≤ capacity }
+    requires capacity { capacity ≤ 256 }
+    requires some_calls { 1 ≤ calls }
+    requires calls { calls ≤ 2 ^ 40 }
+{
+    let (receiver, mut senders) = make(alloc, capacity, 1, calls)?;
+    let sender = senders.pop().ok_or(AllocError)?;
+    Ok((receiver, sender))
+}
+
 #[test]
 fn a_queue_of_two_takes_two_messages_and_gives_them_in_order(rt: HostRuntime) -> Result<(), Fail> {
     let alloc = rt.alloc();
-    let (mut receiver, mut senders) = make(alloc, 2, 1, 10)?;
-    let mut sender = senders.pop().ok_or(AllocError)?;
+    let (mut receiver, mut sender) = open_one(alloc, 2, 10)?;
     assert_eq!(rt; sender.index(), 0);
-    assert_eq!(rt; take(&rt, &mut receiver), None);
-    assert_eq!(rt; send(&rt, alloc, &mut sender, 1, 10)?, None);
-    assert_eq!(rt; send(&rt, alloc, &mut sender, 2, 20)?, None);
-    assert_eq!(rt; send(&rt, alloc, &mut sender, 3, 30)?, Some(Why::Full));
-    assert_eq!(rt; take(&rt, &mut receiver), Some([0, 1, 10]));
-    assert_eq!(rt; send(&rt, alloc, &mut sender, 4, 40)?, None);
-    assert_eq!(rt; take(&rt, &mut receiver), Some([0, 2, 20]));
-    assert_eq!(rt; take(&rt, &mut receiver), Some([0, 4, 40]));
-    assert_eq!(rt; take(&rt, &mut receiver), None);
+    assert_taken(&rt, &mut receiver, None);
+    assert_sent(&rt, alloc, &mut sender, [1, 10], None);
+    assert_sent(&rt, alloc, &mut sender, [2, 20], None);
+    assert_sent(&rt, alloc, &mut sender, [3, 30], Some(Why::Full));
+    assert_taken(&rt, &mut receiver, Some([0, 1, 10]));
+    assert_sent(&rt, alloc, &mut sender, [4, 40], None);
+    assert_taken(&rt, &mut receiver, Some([0, 2, 20]));
+    assert_taken(&rt, &mut receiver, Some([0, 4, 40]));
+    assert_taken(&rt, &mut receiver, None);
     assert_eq!(rt; sender.accepted(), 3);
-    Ok(())
-}
-
-// Sends three messages through each of two senders, in turn.
-fn interleave<R: Wait + Abort>(
-    rt: &R,
-    alloc: Global,
-    first: &mut Sender,
-    second: &mut Sender,
-) -> Result<(), AllocError> {
-    for number in 0..3 {
-        assert_eq!(rt; send(rt, alloc, first, 7, number)?, None);
-        assert_eq!(rt; send(rt, alloc, second, 9, number)?, None);
-    }
     Ok(())
 }
 
@@ -86,12 +88,15 @@ fn interleave<R: Wait + Abort>(
 fn each_senders_messages_keep_their_order(rt: HostRuntime) -> Result<(), Fail> {
     let alloc = rt.alloc();
     let (mut receiver, mut first, mut second) = open_two(alloc)?;
-    interleave(&rt, alloc, &mut first, &mut second)?;
     for number in 0..3 {
-        assert_eq!(rt; take(&rt, &mut receiver), Some([0, 7, number]));
-        assert_eq!(rt; take(&rt, &mut receiver), Some([1, 9, number]));
+        assert_sent(&rt, alloc, &mut first, [7, number], None);
+        assert_sent(&rt, alloc, &mut second, [9, number], None);
     }
-    assert_eq!(rt; take(&rt, &mut receiver), None);
+    for number in 0..3 {
+        assert_taken(&rt, &mut receiver, Some([0, 7, number]));
+        assert_taken(&rt, &mut receiver, Some([1, 9, number]));
+    }
+    assert_taken(&rt, &mut receiver, None);
     Ok(())
 }
 
@@ -148,34 +153,30 @@ fn open_two(alloc: Global) -> Result<(Receiver, Sender, Sender), AllocError>
     Ok((receiver, first, second))
 }
 
-// Two messages of the first sender and one of the second, of which the first is taken.
-fn send_three_take_one<R: Wait + Abort>(
-    rt: &R,
-    alloc: Global,
-    receiver: &mut Receiver,
-    first: &mut Sender,
-    second: &mut Sender,
-) -> Result<(), AllocError>
-    ensures receiver { receiver.new.queue ≡ receiver.old.queue }
-    ensures first { first.new.queue ≡ first.old.queue }
-    ensures second { second.new.queue ≡ second.old.queue }
+// Gathers the senders, each of which is there.
+fn gather<R: Wait>(rt: &R, receiver: Receiver, senders: Vec<Sender>) -> Result<Gathered, AllocError>
+    requires { AreOf receiver.queue senders.items }
 {
-    assert_eq!(rt; send(rt, alloc, first, 5, 1)?, None);
-    assert_eq!(rt; send(rt, alloc, second, 6, 1)?, None);
-    assert_eq!(rt; send(rt, alloc, first, 5, 2)?, None);
-    assert_eq!(rt; take(rt, receiver), Some([0, 5, 1]));
-    Ok(())
+    receiver.gather(rt, senders).ok().ok_or(AllocError)
+}
+
+// Two messages of the first sender and one of the second, of which the first is taken. Then all
+// ends are gathered, the second sender first, and not by itself.
+fn send_three_take_one<R: Wait + Abort>(rt: &R, alloc: Global) -> Result<Gathered, AllocError> {
+    let (mut receiver, mut first, mut second) = open_two(alloc)?;
+    assert_sent(rt, alloc, &mut first, [5, 1], None);
+    assert_sent(rt, alloc, &mut second, [6, 1], None);
+    assert_sent(rt, alloc, &mut first, [5, 2], None);
+    assert_taken(rt, &mut receiver, Some([0, 5, 1]));
+    let (receiver, second) = gather_alone(rt, alloc, receiver, second)?;
+    assert_eq!(rt; second.index(), 1);
+    let both = two(alloc, second, first)?;
+    gather(rt, receiver, both)
 }
 
 #[test]
 fn gathering_needs_every_sender_in_any_order(rt: HostRuntime) -> Result<(), Fail> {
-    let alloc = rt.alloc();
-    let (mut receiver, mut first, mut second) = open_two(alloc)?;
-    send_three_take_one(&rt, alloc, &mut receiver, &mut first, &mut second)?;
-    let (receiver, second) = gather_alone(&rt, alloc, receiver, second)?;
-    assert_eq!(rt; second.index(), 1);
-    let both = two(alloc, second, first)?;
-    let mut gathered = receiver.gather(&rt, both).ok().ok_or(AllocError)?;
+    let mut gathered = send_three_take_one(&rt, rt.alloc())?;
     assert!(rt; !gathered.is_drained());
     assert_eq!(rt; take_left(&mut gathered), Some([1, 6, 1]));
     assert_eq!(rt; take_left(&mut gathered), Some([0, 5, 2]));
@@ -188,14 +189,13 @@ fn gathering_needs_every_sender_in_any_order(rt: HostRuntime) -> Result<(), Fail
 #[test]
 fn the_fourth_ask_of_three_is_exhausted(rt: HostRuntime) -> Result<(), Fail> {
     let alloc = rt.alloc();
-    let (mut receiver, mut senders) = make(alloc, 1, 1, 3)?;
-    let mut sender = senders.pop().ok_or(AllocError)?;
-    assert_eq!(rt; send(&rt, alloc, &mut sender, 1, 0)?, None);
-    assert_eq!(rt; send(&rt, alloc, &mut sender, 2, 0)?, Some(Why::Full));
-    assert_eq!(rt; send(&rt, alloc, &mut sender, 3, 0)?, Some(Why::Full));
-    assert_eq!(rt; take(&rt, &mut receiver), Some([0, 1, 0]));
-    assert_eq!(rt; send(&rt, alloc, &mut sender, 4, 0)?, Some(Why::Exhausted));
-    assert_eq!(rt; take(&rt, &mut receiver), None);
+    let (mut receiver, mut sender) = open_one(alloc, 1, 3)?;
+    assert_sent(&rt, alloc, &mut sender, [1, 0], None);
+    assert_sent(&rt, alloc, &mut sender, [2, 0], Some(Why::Full));
+    assert_sent(&rt, alloc, &mut sender, [3, 0], Some(Why::Full));
+    assert_taken(&rt, &mut receiver, Some([0, 1, 0]));
+    assert_sent(&rt, alloc, &mut sender, [4, 0], Some(Why::Exhausted));
+    assert_taken(&rt, &mut receiver, None);
     assert_eq!(rt; sender.accepted(), 1);
     Ok(())
 }
@@ -205,12 +205,11 @@ fn a_queue_whose_receiver_is_gone_is_closed_until_the_calls_are_used_up(
     rt: HostRuntime,
 ) -> Result<(), Fail> {
     let alloc = rt.alloc();
-    let (receiver, mut senders) = make(alloc, 2, 1, 2)?;
-    let mut sender = senders.pop().ok_or(AllocError)?;
-    assert_eq!(rt; send(&rt, alloc, &mut sender, 1, 0)?, None);
+    let (receiver, mut sender) = open_one(alloc, 2, 2)?;
+    assert_sent(&rt, alloc, &mut sender, [1, 0], None);
     drop(receiver);
-    assert_eq!(rt; send(&rt, alloc, &mut sender, 2, 0)?, Some(Why::Closed));
-    assert_eq!(rt; send(&rt, alloc, &mut sender, 3, 0)?, Some(Why::Exhausted));
+    assert_sent(&rt, alloc, &mut sender, [2, 0], Some(Why::Closed));
+    assert_sent(&rt, alloc, &mut sender, [3, 0], Some(Why::Exhausted));
     assert_eq!(rt; sender.accepted(), 1);
     Ok(())
 }
@@ -224,14 +223,17 @@ fn a_queue_without_senders_is_gathered_at_once(rt: HostRuntime) -> Result<(), Fa
     Ok(())
 }
 
+// Why a queue refuses a message, its number and its name.
+const REFUSALS: [(Why, u8, &str); 3] = [
+    (Why::Closed, 1, "Closed"),
+    (Why::Exhausted, 2, "Exhausted"),
+    (Why::Full, 3, "Full"),
+];
+
 #[test]
-fn refusals_are_named(rt: HostRuntime) -> Result<(), Fail> {
-    for (why, name) in [
-        (Why::Closed, "Closed"),
-        (Why::Exhausted, "Exhausted"),
-        (Why::Full, "Full"),
-    ] {
-        assert_eq!(rt; format!(in rt.alloc(); "{why}")?.as_str(), name);
+fn each_refusal_has_its_number_and_its_name(rt: HostRuntime) {
+    for (why, number, name) in REFUSALS {
+        assert_eq!(rt; why as u8, number, "{name}");
+        assert_eq!(rt; InlineText::<16>::of(why).as_str(), name);
     }
-    Ok(())
 }
