@@ -1,6 +1,8 @@
 use afdx_config::read_config;
 use afdx_plan::{ConfigFault, demo_config, jitter_ns};
-use std::alloc::Global;
+use std::alloc::{AllocError, Global};
+use std::fmt::Write;
+use std::process::Abort;
 use std::test::Fail;
 
 // the text of the demonstration configuration
@@ -25,108 +27,144 @@ destination = 2000
 max = 8192
 ";
 
-// its link and its port once more
+// its head, its link and its port once more
+const HEAD: &str = "[end_system]\nid = 1\n";
+
 const LINK: &str = "[[vl]]\nid = 1\nbag_ms = 1\nlmax = 1518\nsub_vls = 1\ncapacity = 2\n";
 
 const PORT: &str =
     "[[port]]\nid = 10\nvl = 1\nsub = 0\npartition = 1\nkind = \"queuing\"\nsource = 1000\ndestination = 2000\nmax = 8192\n";
 
+/// Texts, one behind the other.
+fn joined(alloc: Global, parts: &[&str]) -> Result<String, AllocError> {
+    let mut text = String::new(alloc);
+    for part in parts {
+        text.push_str(part)?;
+    }
+    Ok(text)
+}
+
 /// The number of the fault of a text, or 0.
-fn fault_of(alloc: Global, text: &str) -> u8 {
-    match read_config(alloc, text.as_bytes()) {
+fn fault_of(alloc: Global, text: &[u8]) -> u8 {
+    match read_config(alloc, text) {
         Ok(_) => 0,
         Err(fault) => fault.number(),
     }
 }
 
-#[test]
-fn the_text_of_the_demonstration_is_its_plan(rt: HostRuntime) -> Result<(), Fail> {
-    let read = read_config(rt.alloc(), TEXT.as_bytes())?;
-    let demo = demo_config(rt.alloc())?;
+/// Asserts the number of the fault of a text, or 0. A test that calls this has a short proof, since
+/// it learns nothing of the answer.
+fn assert_fault(rt: &impl Abort, alloc: Global, text: &str, number: u8) {
+    assert_eq!(rt; fault_of(alloc, text.as_bytes()), number, "{text}");
+}
+
+/// The same of texts, one behind the other.
+fn assert_joined(rt: &impl Abort, alloc: Global, parts: &[&str], number: u8) {
+    let text = joined(alloc, parts).expect(rt, "memory");
+    assert_fault(rt, alloc, &text, number);
+}
+
+/// The same of a text with a change.
+fn assert_changed(rt: &impl Abort, alloc: Global, text: &str, old: &str, new: &str, number: u8) {
+    let changed = text.replace(alloc, old, new).expect(rt, "memory");
+    assert_fault(rt, alloc, &changed, number);
+}
+
+/// Asserts that a text is the plan of the demonstration.
+fn assert_demo(rt: &impl Abort, alloc: Global, text: &str) {
+    let read = read_config(alloc, text.as_bytes()).expect(rt, "a plan");
+    let demo = demo_config(alloc).expect(rt, "memory");
     assert_eq!(rt; read.end_system(), demo.end_system());
     assert_eq!(rt; read.links(), demo.links());
     assert_eq!(rt; read.ports(), demo.ports());
-    Ok(())
 }
 
 #[test]
-fn a_text_with_one_change_has_its_fault(rt: HostRuntime) -> Result<(), Fail> {
-    let alloc = rt.alloc();
-    let changes: [(&str, &str, u8); 20] = [
-        (" = 8192", " =", 1),
-        ("id = 1\n", "id = 99999999999999999999\n", 1),
-        ("lmax = 1518\n", "", 2),
-        ("[end_system]\nid = 1\n", "", 2),
-        ("capacity = 2", "capacity = 2\nspeed = 1", 3),
-        ("[end_system]", "version = 1\n[end_system]", 3),
-        ("[end_system]\nid = 1", "[end_system]\nid = \"1\"", 4),
-        ("max = 8192", "max = 8192.0", 4),
-        ("lmax = 1518", "lmax = 63", 5),
-        ("sub_vls = 1", "sub_vls = 5", 5),
-        ("sub = 0", "sub = 4", 5),
-        ("source = 1000", "source = 0", 5),
-        ("max = 8192", "max = 8193", 5),
-        ("\"queuing\"", "\"Queuing\"", 5),
-        ("id = 10", "id = -1", 5),
-        ("bag_ms = 1", "bag_ms = 3", 6),
-        ("\nvl = 1\n", "\nvl = 9\n", 9),
-        ("sub = 0", "sub = 1", 10),
-        ("capacity = 2", "capacity = 256", 0),
-        ("capacity = 2", "capacity = 257", 5),
-    ];
-    for (old, new, number) in changes {
-        let text = TEXT.replace(alloc, old, new)?;
-        assert_eq!(rt; fault_of(alloc, text.as_str()), number, "{new}");
+fn the_text_of_the_demonstration_is_its_plan(rt: HostRuntime) {
+    assert_demo(&rt, rt.alloc(), TEXT);
+}
+
+// A text, what is put in its place, and the number of the fault then, or 0.
+const CHANGES: [(&str, &str, u8); 20] = [
+    (" = 8192", " =", 1),
+    ("id = 1\n", "id = 99999999999999999999\n", 1),
+    ("lmax = 1518\n", "", 2),
+    ("[end_system]\nid = 1\n", "", 2),
+    ("capacity = 2", "capacity = 2\nspeed = 1", 3),
+    ("[end_system]", "version = 1\n[end_system]", 3),
+    ("[end_system]\nid = 1", "[end_system]\nid = \"1\"", 4),
+    ("max = 8192", "max = 8192.0", 4),
+    ("lmax = 1518", "lmax = 63", 5),
+    ("sub_vls = 1", "sub_vls = 5", 5),
+    ("sub = 0", "sub = 4", 5),
+    ("source = 1000", "source = 0", 5),
+    ("max = 8192", "max = 8193", 5),
+    ("\"queuing\"", "\"Queuing\"", 5),
+    ("id = 10", "id = -1", 5),
+    ("bag_ms = 1", "bag_ms = 3", 6),
+    ("\nvl = 1\n", "\nvl = 9\n", 9),
+    ("sub = 0", "sub = 1", 10),
+    ("capacity = 2", "capacity = 256", 0),
+    ("capacity = 2", "capacity = 257", 5),
+];
+
+#[test]
+fn a_text_with_one_change_has_its_fault(rt: HostRuntime) {
+    for (old, new, number) in CHANGES {
+        assert_changed(&rt, rt.alloc(), TEXT, old, new, number);
     }
-    Ok(())
 }
 
 #[test]
 fn a_sampling_port_s_message_fits_into_one_frame(rt: HostRuntime) -> Result<(), Fail> {
-    let alloc = rt.alloc();
-    let sampling = TEXT.replace(alloc, "queuing", "sampling")?;
+    let sampling = TEXT.replace(rt.alloc(), "queuing", "sampling")?;
     for (max, number) in [("max = 1471", 0), ("max = 1472", 11)] {
-        let text = sampling.replace(alloc, "max = 8192", max)?;
-        assert_eq!(rt; fault_of(alloc, text.as_str()), number, "{max}");
+        assert_changed(&rt, rt.alloc(), &sampling, "max = 8192", max, number);
     }
     Ok(())
 }
 
 #[test]
 fn tables_that_stand_twice_have_the_fault_of_the_least_number(rt: HostRuntime) -> Result<(), Fail> {
-    let alloc = rt.alloc();
-    let two_links = format!(in alloc; "{TEXT}{LINK}")?;
-    assert_eq!(rt; fault_of(alloc, two_links.as_str()), 7);
-    let bad_second = LINK.replace(alloc, "bag_ms = 1", "bag_ms = 3")?;
-    let bad_second = format!(in alloc; "{TEXT}{bad_second}")?;
-    assert_eq!(rt; fault_of(alloc, bad_second.as_str()), 6);
-    let two_ports = format!(in alloc; "{TEXT}{PORT}")?;
-    assert_eq!(rt; fault_of(alloc, two_ports.as_str()), 8);
-    let same_flow = PORT.replace(alloc, "id = 10", "id = 11")?;
-    let same_flow = format!(in alloc; "{TEXT}{same_flow}")?;
-    assert_eq!(rt; fault_of(alloc, same_flow.as_str()), 12);
+    assert_joined(&rt, rt.alloc(), &[TEXT, LINK], 7);
+    let bad_second = LINK.replace(rt.alloc(), "bag_ms = 1", "bag_ms = 3")?;
+    assert_joined(&rt, rt.alloc(), &[TEXT, &bad_second], 6);
+    assert_joined(&rt, rt.alloc(), &[TEXT, PORT], 8);
+    let same_flow = PORT.replace(rt.alloc(), "id = 10", "id = 11")?;
+    assert_joined(&rt, rt.alloc(), &[TEXT, &same_flow], 12);
+    Ok(())
+}
+
+// lines that a port may end with
+const ADDRESS: &str = "dest_ip = \"10.0.2.1\"\n";
+
+const OTHER_ADDRESS: &str = "dest_ip = \"10.0.2.2\"\n";
+
+#[test]
+fn a_port_may_have_a_unicast_address(rt: HostRuntime) -> Result<(), Fail> {
+    let unicast = joined(rt.alloc(), &[TEXT, ADDRESS])?;
+    let read = read_config(rt.alloc(), unicast.as_bytes())?;
+    assert_eq!(rt; read.ports().len(), 1);
+    assert_eq!(rt; read.ports()[0].unicast, Some([10, 0, 2, 1]));
     Ok(())
 }
 
 #[test]
 fn one_unicast_address_of_a_partition_is_of_one_link(rt: HostRuntime) -> Result<(), Fail> {
-    let alloc = rt.alloc();
-    let unicast = TEXT.replace(alloc, "max = 8192", "max = 8192\ndest_ip = \"10.0.2.1\"")?;
-    let read = read_config(alloc, unicast.as_bytes())?;
-    assert_eq!(rt; read.ports().len(), 1);
-    assert_eq!(rt; read.ports()[0].unicast, Some([10, 0, 2, 1]));
-    let link = LINK.replace(alloc, "id = 1", "id = 2")?;
-    let port = PORT.replace(alloc, "id = 10\nvl = 1", "id = 11\nvl = 2")?;
-    let other = format!(in alloc; "{unicast}{link}{port}dest_ip = \"10.0.2.2\"\n")?;
-    assert_eq!(rt; fault_of(alloc, other.as_str()), 0);
-    let shared = format!(in alloc; "{unicast}{link}{port}dest_ip = \"10.0.2.1\"\n")?;
-    assert_eq!(rt; fault_of(alloc, shared.as_str()), 13);
+    let link = LINK.replace(rt.alloc(), "id = 1", "id = 2")?;
+    let port = PORT.replace(rt.alloc(), "id = 10\nvl = 1", "id = 11\nvl = 2")?;
+    assert_joined(
+        &rt,
+        rt.alloc(),
+        &[TEXT, ADDRESS, &link, &port, OTHER_ADDRESS],
+        0,
+    );
+    assert_joined(&rt, rt.alloc(), &[TEXT, ADDRESS, &link, &port, ADDRESS], 13);
     Ok(())
 }
 
 #[test]
-fn an_address_is_four_numbers_of_which_the_first_is_10(rt: HostRuntime) -> Result<(), Fail> {
-    let alloc = rt.alloc();
+fn an_address_is_four_numbers_of_which_the_first_is_10(rt: HostRuntime) {
     let texts = [
         "11.0.2.1",
         "10.0.2",
@@ -137,36 +175,38 @@ fn an_address_is_four_numbers_of_which_the_first_is_10(rt: HostRuntime) -> Resul
         "",
     ];
     for text in texts {
-        let text = format!(in alloc; "{TEXT}dest_ip = \"{text}\"\n")?;
-        assert_eq!(rt; fault_of(alloc, text.as_str()), 5, "{text}");
+        assert_joined(&rt, rt.alloc(), &[TEXT, "dest_ip = \"", text, "\"\n"], 5);
     }
-    Ok(())
+}
+
+/// Puts a link behind, as that of the demonstration but for its identifier.
+fn push_link(text: &mut String, id: u8) -> Result<(), AllocError> {
+    writeln!(text, "[[vl]]\nid = {id}")?;
+    text.push_str("bag_ms = 1\nlmax = 1518\nsub_vls = 1\ncapacity = 2\n")
+}
+
+/// The text of the demonstration with links up to this identifier.
+fn text_with_links(alloc: Global, last: u8) -> Result<String, AllocError> {
+    let mut text = TEXT.to_string(alloc)?;
+    for id in 2..=last {
+        push_link(&mut text, id)?;
+    }
+    Ok(text)
 }
 
 #[test]
 fn a_plan_may_be_past_its_limits(rt: HostRuntime) -> Result<(), Fail> {
-    let alloc = rt.alloc();
-    let mut text = TEXT.to_string(alloc)?;
-    for id in 2..65u8 {
-        let id = format!(in alloc; "id = {id}")?;
-        let link = LINK.replace(alloc, "id = 1", id.as_str())?;
-        text.push_str(link.as_str())?;
-    }
-    assert_eq!(rt; fault_of(alloc, text.as_str()), 0);
-    let link = LINK.replace(alloc, "id = 1", "id = 65")?;
-    text.push_str(link.as_str())?;
-    assert_eq!(rt; fault_of(alloc, text.as_str()), 14);
-    let no_port = format!(in alloc; "port = []\n[end_system]\nid = 1\n{LINK}")?;
-    assert_eq!(rt; fault_of(alloc, no_port.as_str()), 14);
+    let most = text_with_links(rt.alloc(), 64)?;
+    assert_fault(&rt, rt.alloc(), &most, 0);
+    let over = text_with_links(rt.alloc(), 65)?;
+    assert_fault(&rt, rt.alloc(), &over, 14);
+    assert_joined(&rt, rt.alloc(), &["port = []\n", HEAD, LINK], 14);
     Ok(())
 }
 
 #[test]
-fn no_link_at_all_is_first_seen_at_the_port(rt: HostRuntime) -> Result<(), Fail> {
-    let alloc = rt.alloc();
-    let text = format!(in alloc; "vl = []\n[end_system]\nid = 1\n{PORT}")?;
-    assert_eq!(rt; fault_of(alloc, text.as_str()), 9);
-    Ok(())
+fn no_link_at_all_is_first_seen_at_the_port(rt: HostRuntime) {
+    assert_joined(&rt, rt.alloc(), &["vl = []\n", HEAD, PORT], 9);
 }
 
 #[test]
@@ -181,10 +221,7 @@ fn bytes_that_are_no_text_are_no_toml(rt: HostRuntime) {
 fn a_prefix_of_the_text_is_read_only_within_its_last_number(rt: HostRuntime) {
     let bytes = TEXT.as_bytes();
     for len in 0..=bytes.len() {
-        let number = match read_config(rt.alloc(), &bytes[..len]) {
-            Ok(_) => 0,
-            Err(fault) => fault.number(),
-        };
+        let number = fault_of(rt.alloc(), &bytes[..len]);
         // 8, 81, 819 and 8192 are messages' greatest lengths, and the last line may lack its end
         if len + 5 > bytes.len() {
             assert_eq!(rt; number, 0, "at {len}");
@@ -194,73 +231,59 @@ fn a_prefix_of_the_text_is_read_only_within_its_last_number(rt: HostRuntime) {
     }
 }
 
+// What is changed at a link and at a port, so that each has a fault, and the number of the lesser
+// one.
+const PAIRS: [((&str, &str), (&str, &str), u8); 8] = [
+    (
+        ("lmax = 1518", "lmax = 63"),
+        ("max = 8192", "max = 8192\nspeed = 1"),
+        3,
+    ),
+    (
+        ("lmax = 1518", "lmax = 1518\nspeed = 1"),
+        ("max = 8192", "max = 0"),
+        3,
+    ),
+    (("lmax = 1518", "lmax = \"1518\""), ("max = 8192", ""), 2),
+    (("lmax = 1518", ""), ("max = 8192", "max = \"8192\""), 2),
+    (("bag_ms = 1", "bag_ms = 3"), ("sub = 0", "sub = 4"), 5),
+    (("bag_ms = 1", "bag_ms = 3"), ("sub = 0", "sub = 1"), 6),
+    (
+        ("sub_vls = 1", "sub_vls = 5"),
+        ("\nvl = 1\n", "\nvl = 9\n"),
+        5,
+    ),
+    (("lmax = 1518", "lmax = true"), ("max = 8192", "max ="), 1),
+];
+
+/// Asserts the number of the fault of a link and a port with a change each, in either order.
+fn assert_pair(rt: &impl Abort, alloc: Global, link: (&str, &str), port: (&str, &str), number: u8) {
+    let link = LINK.replace(alloc, link.0, link.1).expect(rt, "memory");
+    let port = PORT.replace(alloc, port.0, port.1).expect(rt, "memory");
+    assert_joined(rt, alloc, &[HEAD, &link, &port], number);
+    assert_joined(rt, alloc, &[&port, &link, HEAD], number);
+}
+
 #[test]
-fn the_fault_of_the_least_number_is_answered_in_either_order(rt: HostRuntime) -> Result<(), Fail> {
-    let alloc = rt.alloc();
-    // a link and a port with a fault each, and the number of the lesser one
-    let pairs = [
-        (
-            "lmax = 1518",
-            "lmax = 63",
-            "max = 8192",
-            "max = 8192\nspeed = 1",
-            3,
-        ),
-        (
-            "lmax = 1518",
-            "lmax = 1518\nspeed = 1",
-            "max = 8192",
-            "max = 0",
-            3,
-        ),
-        ("lmax = 1518", "lmax = \"1518\"", "max = 8192", "", 2),
-        ("lmax = 1518", "", "max = 8192", "max = \"8192\"", 2),
-        ("bag_ms = 1", "bag_ms = 3", "sub = 0", "sub = 4", 5),
-        ("bag_ms = 1", "bag_ms = 3", "sub = 0", "sub = 1", 6),
-        ("sub_vls = 1", "sub_vls = 5", "\nvl = 1\n", "\nvl = 9\n", 5),
-        ("lmax = 1518", "lmax = true", "max = 8192", "max =", 1),
-    ];
-    for (link, bad_link, port, bad_port, number) in pairs {
-        let link = LINK.replace(alloc, link, bad_link)?;
-        let port = PORT.replace(alloc, port, bad_port)?;
-        let before = format!(in alloc; "[end_system]\nid = 1\n{link}{port}")?;
-        let behind = format!(in alloc; "{port}{link}[end_system]\nid = 1\n")?;
-        assert_eq!(rt;
-            fault_of(alloc, before.as_str()),
-            number,
-            "{bad_link} before {bad_port}"
-        );
-        assert_eq!(rt;
-            fault_of(alloc, behind.as_str()),
-            number,
-            "{bad_link} behind {bad_port}"
-        );
+fn the_fault_of_the_least_number_is_answered_in_either_order(rt: HostRuntime) {
+    for (link, port, number) in PAIRS {
+        assert_pair(&rt, rt.alloc(), link, port, number);
     }
-    Ok(())
 }
 
 #[test]
 fn faults_of_a_plan_are_answered_in_either_order(rt: HostRuntime) -> Result<(), Fail> {
-    let alloc = rt.alloc();
-    let twice = format!(in alloc; "[end_system]\nid = 1\n{LINK}{PORT}{PORT}{LINK}")?;
-    assert_eq!(rt; fault_of(alloc, twice.as_str()), 7);
-    let lost = PORT.replace(alloc, "id = 10\nvl = 1", "id = 11\nvl = 9")?;
-    let no_sub = PORT.replace(
-        alloc,
-        "id = 10\nvl = 1\nsub = 0",
-        "id = 12\nvl = 1\nsub = 1",
-    )?;
-    let before = format!(in alloc; "{TEXT}{lost}{no_sub}")?;
-    let behind = format!(in alloc; "{TEXT}{no_sub}{lost}")?;
-    assert_eq!(rt; fault_of(alloc, before.as_str()), 9);
-    assert_eq!(rt; fault_of(alloc, behind.as_str()), 9);
+    assert_joined(&rt, rt.alloc(), &[HEAD, LINK, PORT, PORT, LINK], 7);
+    let lost = PORT.replace(rt.alloc(), "id = 10\nvl = 1", "id = 11\nvl = 9")?;
+    let (old, new) = ("id = 10\nvl = 1\nsub = 0", "id = 12\nvl = 1\nsub = 1");
+    let no_sub = PORT.replace(rt.alloc(), old, new)?;
+    assert_joined(&rt, rt.alloc(), &[TEXT, &lost, &no_sub], 9);
+    assert_joined(&rt, rt.alloc(), &[TEXT, &no_sub, &lost], 9);
     Ok(())
 }
 
 #[test]
 fn blanks_line_ends_and_comments_say_nothing(rt: HostRuntime) -> Result<(), Fail> {
-    let alloc = rt.alloc();
-    let demo = demo_config(alloc)?;
     let changes = [
         (" = ", "\t=\t"),
         (" = ", "="),
@@ -269,52 +292,51 @@ fn blanks_line_ends_and_comments_say_nothing(rt: HostRuntime) -> Result<(), Fail
         ("\n\n", "\n"),
     ];
     for (old, new) in changes {
-        let text = TEXT.replace(alloc, old, new)?;
-        let read = read_config(alloc, text.as_bytes())?;
-        assert_eq!(rt; read.links(), demo.links());
-        assert_eq!(rt; read.ports(), demo.ports());
+        let text = TEXT.replace(rt.alloc(), old, new)?;
+        assert_demo(&rt, rt.alloc(), &text);
     }
+    Ok(())
+}
+
+#[test]
+fn blanks_and_comments_may_stand_at_the_end(rt: HostRuntime) {
     for end in ["# note", "# note\n", "\n\n\t \n", "  # note\r\n"] {
-        let text = format!(in alloc; "{TEXT}{end}")?;
-        assert_eq!(rt; fault_of(alloc, text.as_str()), 0, "{end}");
+        assert_joined(&rt, rt.alloc(), &[TEXT, end], 0);
     }
-    Ok(())
+}
+
+// The same as `CHANGES`, of values that are no whole numbers, stand twice or are past a range.
+const VALUES: [(&str, &str, u8); 19] = [
+    ("id = 10\n", "id = 10\nid = 10\n", 1),
+    ("lmax = 1518", "lmax = 1518\nlmax = 64", 1),
+    ("[end_system]", "[end_system]\n[end_system]", 1),
+    ("lmax = 1518", "lmax = 1518.0", 4),
+    ("lmax = 1518", "lmax = 1.518e3", 4),
+    ("lmax = 1518", "lmax = inf", 4),
+    ("lmax = 1518", "lmax = true", 4),
+    ("lmax = 1518", "lmax = 1979-05-27", 4),
+    ("lmax = 1518", "lmax = [1518]", 4),
+    ("lmax = 1518", "lmax = 0x5ee", 0),
+    ("lmax = 1518", "lmax = 1_518", 0),
+    ("lmax = 1518", "lmax = 01518", 1),
+    ("capacity = 2", "capacity = 4294967298", 5),
+    ("capacity = 2", "capacity = 9223372036854775807", 5),
+    ("capacity = 2", "capacity = -9223372036854775808", 5),
+    ("capacity = 2", "capacity = 9223372036854775808", 1),
+    ("bag_ms = 1", "bag_ms = 9223372036854775807", 6),
+    ("kind = \"queuing\"", "kind = 1", 4),
+    ("kind = \"queuing\"", "kind = \"\"", 5),
+];
+
+#[test]
+fn a_value_is_a_whole_number_that_stands_once(rt: HostRuntime) {
+    for (old, new, number) in VALUES {
+        assert_changed(&rt, rt.alloc(), TEXT, old, new, number);
+    }
 }
 
 #[test]
-fn a_value_is_a_whole_number_that_stands_once(rt: HostRuntime) -> Result<(), Fail> {
-    let alloc = rt.alloc();
-    let changes = [
-        ("id = 10\n", "id = 10\nid = 10\n", 1),
-        ("lmax = 1518", "lmax = 1518\nlmax = 64", 1),
-        ("[end_system]", "[end_system]\n[end_system]", 1),
-        ("lmax = 1518", "lmax = 1518.0", 4),
-        ("lmax = 1518", "lmax = 1.518e3", 4),
-        ("lmax = 1518", "lmax = inf", 4),
-        ("lmax = 1518", "lmax = true", 4),
-        ("lmax = 1518", "lmax = 1979-05-27", 4),
-        ("lmax = 1518", "lmax = [1518]", 4),
-        ("lmax = 1518", "lmax = 0x5ee", 0),
-        ("lmax = 1518", "lmax = 1_518", 0),
-        ("lmax = 1518", "lmax = 01518", 1),
-        ("capacity = 2", "capacity = 4294967298", 5),
-        ("capacity = 2", "capacity = 9223372036854775807", 5),
-        ("capacity = 2", "capacity = -9223372036854775808", 5),
-        ("capacity = 2", "capacity = 9223372036854775808", 1),
-        ("bag_ms = 1", "bag_ms = 9223372036854775807", 6),
-        ("kind = \"queuing\"", "kind = 1", 4),
-        ("kind = \"queuing\"", "kind = \"\"", 5),
-    ];
-    for (old, new, number) in changes {
-        let text = TEXT.replace(alloc, old, new)?;
-        assert_eq!(rt; fault_of(alloc, text.as_str()), number, "{new}");
-    }
-    Ok(())
-}
-
-#[test]
-fn sections_have_their_kinds(rt: HostRuntime) -> Result<(), Fail> {
-    let alloc = rt.alloc();
+fn sections_have_their_kinds(rt: HostRuntime) {
     let texts = [
         ("", 2),
         ("\n", 2),
@@ -326,85 +348,86 @@ fn sections_have_their_kinds(rt: HostRuntime) -> Result<(), Fail> {
         ("vl = []\nport = []\nmore = 1\n[end_system]\nid = 1\n", 3),
     ];
     for (text, number) in texts {
-        assert_eq!(rt; fault_of(alloc, text), number, "{text}");
+        assert_fault(&rt, rt.alloc(), text, number);
     }
-    let no_port = format!(in alloc; "[end_system]\nid = 1\n{LINK}")?;
-    assert_eq!(rt; fault_of(alloc, no_port.as_str()), 2);
-    Ok(())
+    assert_joined(&rt, rt.alloc(), &[HEAD, LINK], 2);
 }
 
 #[test]
 fn a_text_that_ends_behind_a_sign_is_no_toml(rt: HostRuntime) -> Result<(), Fail> {
     let (before, _rest) = TEXT.split_once("lmax =").ok_or("no such key")?;
-    let cut = format!(in rt.alloc(); "{before}lmax =")?;
-    assert_eq!(rt; fault_of(rt.alloc(), cut.as_str()), 1);
+    assert_joined(&rt, rt.alloc(), &[before, "lmax ="], 1);
     Ok(())
+}
+
+/// So many bytes at random, and the state behind them.
+fn random_bytes(alloc: Global, state: u64, count: usize) -> Result<(Vec<u8>, u64), AllocError> {
+    let mut bytes = Vec::new(alloc);
+    let mut state = state;
+    for _ in 0..count {
+        state ^= state << 13;
+        state ^= state >> 7;
+        state ^= state << 17;
+        bytes.push((state % 256) as u8)?;
+    }
+    Ok((bytes, state))
 }
 
 #[test]
 fn bytes_at_random_are_no_toml(rt: HostRuntime) -> Result<(), Fail> {
     let mut state = 1u64;
     for count in 1..100usize {
-        let mut bytes = Vec::new(rt.alloc());
-        for _ in 0..8 * count {
-            state ^= state << 13;
-            state ^= state >> 7;
-            state ^= state << 17;
-            bytes.push((state % 256) as u8)?;
-        }
-        let fault = read_config(rt.alloc(), bytes.as_slice()).err();
-        assert_eq!(rt; fault, Some(ConfigFault::Toml), "at {count}");
+        let (bytes, next) = random_bytes(rt.alloc(), state, 8 * count)?;
+        state = next;
+        assert_eq!(rt; fault_of(rt.alloc(), &bytes), 1, "at {count}");
     }
     Ok(())
 }
 
+/// Puts a port behind, as that of the demonstration but for these values.
+fn push_port(text: &mut String, id: u16, sub: u16, source: u16) -> Result<(), AllocError> {
+    writeln!(
+        text,
+        "[[port]]\nid = {id}\nvl = 1\nsub = {sub}\nsource = {source}"
+    )?;
+    text.push_str("partition = 1\nkind = \"queuing\"\ndestination = 2000\nmax = 8192\n")
+}
+
+/// A plan of one link with 64 ports on each sub-VL.
+fn most_ports(alloc: Global) -> Result<String, AllocError> {
+    let mut text = TEXT.replace(alloc, "sub_vls = 1", "sub_vls = 4")?;
+    for id in 1..256u16 {
+        push_port(&mut text, 100 + id, id / 64, 1000 + id)?;
+    }
+    Ok(text)
+}
+
 #[test]
 fn ports_may_be_past_their_limits(rt: HostRuntime) -> Result<(), Fail> {
-    let alloc = rt.alloc();
-    let mut text = TEXT.replace(alloc, "sub_vls = 1", "sub_vls = 4")?;
-    // 64 ports on each sub-VL
-    for id in 1..256u16 {
-        let flow = format!(in alloc; "id = {}\nvl = 1\nsub = {}", 100 + id, id / 64)?;
-        let port = PORT.replace(alloc, "id = 10\nvl = 1\nsub = 0", flow.as_str())?;
-        let source = format!(in alloc; "source = {}", 1000 + id)?;
-        let port = port.replace(alloc, "source = 1000", source.as_str())?;
-        text.push_str(port.as_str())?;
-    }
-    let read = read_config(alloc, text.as_bytes())?;
+    let text = most_ports(rt.alloc())?;
+    let read = read_config(rt.alloc(), text.as_bytes())?;
     assert_eq!(rt; read.ports().len(), 256);
-    let one_more = PORT.replace(alloc, "id = 10\nvl = 1", "id = 11\nvl = 2")?;
-    let link = LINK.replace(alloc, "id = 1", "id = 2")?;
-    let over = format!(in alloc; "{text}{link}{one_more}")?;
-    assert_eq!(rt; fault_of(alloc, over.as_str()), 14);
+    let one_more = PORT.replace(rt.alloc(), "id = 10\nvl = 1", "id = 11\nvl = 2")?;
+    let link = LINK.replace(rt.alloc(), "id = 1", "id = 2")?;
+    assert_joined(&rt, rt.alloc(), &[&text, &link, &one_more], 14);
     Ok(())
 }
 
 #[test]
 fn a_sub_vl_has_64_ports_at_most(rt: HostRuntime) -> Result<(), Fail> {
-    let alloc = rt.alloc();
-    let mut text = TEXT.to_string(alloc)?;
+    let mut text = TEXT.to_string(rt.alloc())?;
     for id in 11..75u16 {
-        assert_eq!(rt; fault_of(alloc, text.as_str()), 0, "before {id}");
-        let name = format!(in alloc; "id = {id}")?;
-        let source = format!(in alloc; "source = {}", 1000 + id)?;
-        let port = PORT.replace(alloc, "id = 10", name.as_str())?;
-        let port = port.replace(alloc, "source = 1000", source.as_str())?;
-        text.push_str(port.as_str())?;
+        assert_eq!(rt; fault_of(rt.alloc(), text.as_bytes()), 0, "before {id}");
+        push_port(&mut text, id, 0, 1000 + id)?;
     }
-    assert_eq!(rt; fault_of(alloc, text.as_str()), 14);
+    assert_fault(&rt, rt.alloc(), &text, 14);
     Ok(())
 }
 
 #[test]
 fn four_links_of_the_greatest_frame_have_a_jitter_of_532_160(rt: HostRuntime) -> Result<(), Fail> {
-    let alloc = rt.alloc();
-    let mut text = TEXT.to_string(alloc)?;
-    for id in 2..5u8 {
-        let id = format!(in alloc; "id = {id}")?;
-        let link = LINK.replace(alloc, "id = 1", id.as_str())?;
-        text.push_str(link.as_str())?;
-    }
-    let config = read_config(alloc, text.as_bytes())?;
+    let text = text_with_links(rt.alloc(), 4)?;
+    let config = read_config(rt.alloc(), text.as_bytes())?;
     assert_eq!(rt; jitter_ns(&config), 532_160);
     Ok(())
 }
