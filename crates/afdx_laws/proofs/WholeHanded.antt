@@ -9,7 +9,7 @@ use Rattle.afdx_frame.specs.Fragments.{Sent, blanked, fragments}
 use Rattle.afdx_frame.specs.Header.{sub_in}
 use Rattle.afdx_frame.specs.Twin.{twin_of}
 use Rattle.afdx_frame.proofs.Twins.{twin_sub}
-use Rattle.redundant_mux.specs.Lines.{Lines, log, side}
+use Rattle.redundant_mux.specs.Lines.{Lines, lines_of, log, side}
 use Rattle.afdx_legal.specs.Streams.{those_with, link_stream}
 use Rattle.afdx_legal.specs.Legal.{Accepted, IsLegal, AreTwins}
 use Rattle.afdx_legal.specs.Allowed.{messages_of}
@@ -94,18 +94,20 @@ all_handed plan accepted lines k sub legal released =
 
 -- the law
 pub own_lists_arrive_holds : OwnListsArrive
-own_lists_arrive_holds plan accepted own lines valid legal allowed owned done k sub inside index lag tolerance arrivals fit carry whole =
+own_lists_arrive_holds plan own a b valid handed k sub inside index lag tolerance arrivals fit carry whole =
+    let accepted = handed.accepted in
+    let lines = lines_of a b 0 0 true true in
     let vl = id_at plan k in
     let frames = longer (frames_of vl lines.a) (frames_of vl lines.b) in
     let sent = accepted k sub in
-    let first = legal_arrive_holds plan accepted lines.a lines.b valid legal k sub inside index (allowed k sub inside index)
+    let first = legal_arrive_holds plan accepted a b valid handed.legal k sub inside index (handed.allowed k sub inside index)
     lag tolerance arrivals fit carry in
-    let came : take (most_carried arrivals) (longer (frames_of (id_at plan k) lines.a) (frames_of (id_at plan k) lines.b))
-    ≡ longer (frames_of (id_at plan k) lines.a) (frames_of (id_at plan k) lines.b) =
+    let came : take (most_carried arrivals) (longer (frames_of (id_at plan k) a) (frames_of (id_at plan k) b))
+    ≡ longer (frames_of (id_at plan k) a) (frames_of (id_at plan k) b) =
     take_all (most_carried arrivals) frames whole in
-    let handed = all_handed plan accepted lines k sub legal (done k inside sub index) in
-    let all_sent : take (length (accepted k sub)) (accepted k sub) ≡ accepted k sub = take_all (length sent) sent (omega arith) in
-    let many : length (accepted k sub) ≤ first.many = first.all (length sent) (omega arith)
+    let all = all_handed plan accepted lines k sub handed.legal (handed.done k inside sub index) in
+    let all_sent : take (length (handed.accepted k sub)) (handed.accepted k sub) ≡ handed.accepted k sub = take_all (length sent) sent (omega arith) in
+    let many : length (handed.accepted k sub) ≤ first.many = first.all (length sent) (omega arith)
     (let here = ap (many_of sub) came in
     let there = ap (λ (xs : List Sent). length (fragments plan.end_system (piece_room plan k) A xs)) all_sent in omega arith) in
     record {
@@ -115,5 +117,5 @@ own_lists_arrive_holds plan accepted own lines valid legal allowed owned done k 
           ap (λ (n : ℕ). messages_of (port_plan_at plan.ports place).id.0 (accepted n sub)) (sym on.link)
           ∙ ap (λ (n : ℕ). messages_of (port_plan_at plan.ports place).id.0
           (accepted (link_place plan (port_plan_at plan.ports place)) n)) (sym on.its)
-          ∙ owned place on.within;
+          ∙ handed.are_own place on.within;
     }

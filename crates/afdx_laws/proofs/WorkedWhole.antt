@@ -2,19 +2,20 @@
 use Rattle.std.proofs.Common.{◌≡◌, zero, suc, ◌≤◌, [], ◌∷◌, length, refl, arith}
 use Rattle.std.proofs.lemmas.List.Elements.{All-cons, All-nil}
 use Rattle.afdx_plan.specs.Demo.{demo_plan, demo_link}
+use Rattle.afdx_frame.specs.declared.net.Net.TheVariants.{A, B}
 use Rattle.afdx_frame.specs.Checksum.{checksum}
 use Rattle.afdx_frame.specs.Cutting.{cutting}
 use Rattle.afdx_frame.specs.Fragments.{fragments_at}
 use Rattle.afdx_frame.specs.Frame.{addresses, header_front, internet_header, link_header, udp_header, datagram, unnumbered}
 use Rattle.redundant_mux.specs.Lines.{log}
 use Rattle.afdx_legal.specs.Allowed.{IsAllowed, AreAllowed, AreOwn}
-use Rattle.afdx_legal.specs.Done.{IsReleased, IsAllDone}
+use Rattle.afdx_legal.specs.Done.{IsReleased, IsAllDone, longer_list}
 use Rattle.afdx_laws.specs.Networks.{most_carried}
 use Rattle.afdx_laws.specs.Handed.{longer}
 use Rattle.afdx_laws.specs.Plans.{frames_of}
 use Rattle.afdx_legal.specs.WorkedMessage.{one_byte, one_byte_accepted}
-use Rattle.afdx_laws.specs.WorkedPlan.{two_arrivals}
-use Rattle.afdx_laws.specs.WorkedWhole.{OneIsWhole, one_own, one_lines}
+use Rattle.afdx_laws.specs.WorkedPlan.{one_entry, two_arrivals}
+use Rattle.afdx_laws.specs.WorkedWhole.{OneIsWhole, one_own}
 use Rattle.afdx_laws.proofs.WorkedDemo.{one_is_legal, one_allowed}
 
 -- the message is of the one port
@@ -29,30 +30,33 @@ each_own zero within = refl
 each_own (suc place) within = absurd (omega arith)
 
 -- its fragment was handed over
-released : IsReleased 1 demo_link (one_byte_accepted 0) (log one_lines) 0
+released : IsReleased 1 demo_link (one_byte_accepted 0) (longer_list (one_entry A) (one_entry B)) 0
 unfolding log checksum addresses header_front internet_header link_header udp_header datagram unnumbered cutting fragments_at
 released = refl
 
-all_done : IsAllDone demo_plan one_byte_accepted (log one_lines)
+all_done : IsAllDone demo_plan one_byte_accepted (longer_list (one_entry A) (one_entry B))
 all_done zero inside zero index = released
 all_done zero inside (suc sub) index = absurd (omega arith)
 all_done (suc k) inside sub index = absurd (omega arith)
 
 -- and came
-all_came : length (longer (frames_of 1 one_lines.a) (frames_of 1 one_lines.b)) ≤ most_carried two_arrivals
+all_came : length (longer (frames_of 1 (one_entry A)) (frames_of 1 (one_entry B))) ≤ most_carried two_arrivals
 unfolding checksum addresses header_front internet_header link_header udp_header datagram unnumbered
 all_came =
-    let handed : length (longer (frames_of 1 one_lines.a) (frames_of 1 one_lines.b)) ≡ 1 = refl in
+    let handed : length (longer (frames_of 1 (one_entry A)) (frames_of 1 (one_entry B))) ≡ 1 = refl in
     let came : most_carried two_arrivals ≡ 1 = refl in omega arith
 
 -- the row
 pub one_is_whole : OneIsWhole
 one_is_whole = record {
   valid = one_is_legal.valid;
-  legal = one_is_legal.legal;
-  allowed = each_allowed;
-  own = each_own;
-  done = all_done;
+  handed = record {
+    accepted = one_byte_accepted;
+    legal = one_is_legal.legal;
+    allowed = each_allowed;
+    are_own = each_own;
+    done = all_done;
+  };
   fit = record { checks = omega arith; opens = omega arith; apart = omega arith };
   carry = one_is_legal.carry;
   all = all_came;

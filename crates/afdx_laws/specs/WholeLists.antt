@@ -5,10 +5,9 @@ use Rattle.afdx_plan.specs.Places.{link_place}
 use Rattle.afdx_frame.specs.declared.net.Net.{Net}
 use Rattle.afdx_frame.specs.Header.{number_in}
 use Rattle.afdx_frame.specs.Fragments.{Sent}
-use Rattle.redundant_mux.specs.Lines.{Lines, log}
-use Rattle.afdx_legal.specs.Legal.{Accepted, IsLegal}
-use Rattle.afdx_legal.specs.Allowed.{AreAllowed, AreOwn, messages_of}
-use Rattle.afdx_legal.specs.Done.{IsAllDone}
+use Rattle.redundant_mux.specs.Entry.{Entry}
+use Rattle.afdx_legal.specs.Allowed.{messages_of}
+use Rattle.afdx_legal.specs.Done.{IsHandedWhole}
 use Rattle.afdx_laws.specs.Receiver.{Tolerance, IsFitFor, begin, received}
 use Rattle.afdx_laws.specs.Networks.{most_carried}
 use Rattle.afdx_laws.specs.Messages.{messages_in}
@@ -29,17 +28,15 @@ pub record AreWhole (plan : Plan) (k sub : ℕ) (own : ℕ → List (List ℕ)) 
   pub ports : (place : ℕ) → IsOn plan k sub place
       → messages_of (port_plan_at plan.ports place).id.0 sent ≡ own place
 
--- All that was accepted of a plan's ports was handed over legally, and of what was handed over of a link
--- one network carried everything, near to the other. Then the receiver's messages of each sub-VL are its
--- ports' own lists.
+-- All that was accepted of a plan's ports was handed over, and of what was handed over of a link one
+-- network carried everything, near to the other. Then the receiver's messages of each sub-VL are its ports'
+-- own lists.
 abbrev pub OwnListsArrive : Type 0
-OwnListsArrive = (plan : Plan) (accepted : Accepted) (own : ℕ → List (List ℕ)) (lines : Lines)
-    → IsPlan plan → IsLegal plan accepted lines.a lines.b → AreAllowed plan accepted
-    → AreOwn plan accepted own → IsAllDone plan accepted (log lines)
+OwnListsArrive = (plan : Plan) (own : ℕ → List (List ℕ)) (a b : List Entry)
+    → IsPlan plan → IsHandedWhole plan own a b
     → (k sub : ℕ) → k < length plan.links → sub < (link_plan_at plan.links k).sub_vls
     → (lag : ℕ) (tolerance : Tolerance) (arrivals : List (Net × List ℕ))
     → IsFitFor lag tolerance
-    → AreCarriedOf lag (frames_of (id_at plan k) lines.a) (frames_of (id_at plan k) lines.b) arrivals
-    → length (longer (frames_of (id_at plan k) lines.a) (frames_of (id_at plan k) lines.b))
-    ≤ most_carried arrivals
+    → AreCarriedOf lag (frames_of (id_at plan k) a) (frames_of (id_at plan k) b) arrivals
+    → length (longer (frames_of (id_at plan k) a) (frames_of (id_at plan k) b)) ≤ most_carried arrivals
     → AreWhole plan k sub own (messages_in sub (received number_in tolerance begin arrivals))

@@ -257,10 +257,10 @@ pub fn legal_passes()
 /// one network carried all of the link, the receiver's messages are the ports' own lists, each message
 /// once and in order.
 ///
-/// Its premises at the transmitting end are what the calls of `afdx_tx` tell: `Emitter::gather`
-/// (`gathered`: what was accepted of each port is its own list), `Draining::poll` (`accepted`: that stays
-/// so), `Draining::is_done`, and `Draining::into_networks` (`legal`, `allowed`). Those at the other end are
-/// `legal_arrive`'s.
+/// What was handed over (`afdx_legal`, `IsHandedWhole`) is what the calls of `afdx_tx` tell:
+/// `Emitter::gather` (`gathered`: what was accepted of each port is its own list), `Draining::poll`
+/// (`accepted`: that stays so), `Draining::is_done`, and `Draining::into_networks` (`legal`, `allowed`).
+/// A test of `afdx_tests` joins them. The premises at the other end are those of `legal_arrive`.
 pub fn own_lists_arrive()
     ensures arrive { OwnListsArrive }
 
