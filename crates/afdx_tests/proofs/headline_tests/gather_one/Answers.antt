@@ -1,0 +1,23 @@
+use Rattle.std.proofs.Common.{◌≡◌, ◌<◌, List, [], ◌∷◌, length, All, refl, ap, ◌∙◌, sym, subst}
+use Rattle.std.proofs.lemmas.List.Elements.{All-contains, All-cons, All-nil}
+use Rattle.afdx_plan.specs.Config.{Plan}
+use Rattle.afdx_legal.specs.Allowed.{AreOwn}
+use Rattle.afdx_tx.specs.Drain.{accepted_in}
+use Rattle.afdx_tx.specs.Emitter.{Tx}
+use Rattle.afdx_tx.specs.Ports.{PortView}
+use Rattle.afdx_tx.specs.Gathering.{IsGatheredTx}
+use Rattle.afdx_tests.proofs.headline_tests.gather_one.Goals as goal
+
+-- what was accepted of the one port that was gathered
+own_one : (tx draining : Tx) (ports : List PortView) (port : PortView) → ports ≡ port ∷ [] → IsGatheredTx tx ports draining
+    → AreOwn draining.plan (accepted_in draining.links) (λ place. port.sender.own)
+own_one tx draining ports port e gathered place lt =
+    let own = gathered.own place (subst (λ (plan : Plan). place < length plan.ports) gathered.plan lt) in
+    let all : All (λ (p : PortView). p ≡ port) ports =
+    subst (λ ps. All (λ (p : PortView). p ≡ port) ps) (sym e)
+    (All-cons (λ (p : PortView). p ≡ port) port [] refl (All-nil (λ (p : PortView). p ≡ port))) in
+    let is : own.port ≡ port = All-contains (λ (p : PortView). p ≡ port) ports own.port all own.inside in
+    own.accepted ∙ ap (λ (p : PortView). p.sender.own) is
+
+pub returns-in-Ok-clause-own : goal.returns-in-Ok-clause-own
+returns-in-Ok-clause-own g c = own_one c.args.tx c.in-Ok.draining _ c.args.port (c.in_ok-ports.ensures.items) c.in-Ok.ensures.gathered

@@ -1,0 +1,51 @@
+use Rattle.std.proofs.Common.{ℕ, ◌≡◌, ◌∙◌, List, [], ◌∷◌, ◌++◌, refl, ap, sym, subst}
+use Rattle.afdx_plan.specs.Config.{Plan}
+use Rattle.afdx_plan.specs.Demo.{demo_plan}
+use Rattle.redundant_mux.specs.Entry.{Entry}
+use Rattle.redundant_mux.specs.Lines.{Lines, log}
+use Rattle.afdx_legal.specs.Legal.{Accepted, IsLegal}
+use Rattle.afdx_legal.specs.Allowed.{AreAllowed, AreOwn}
+use Rattle.afdx_legal.specs.Done.{IsAllDone, IsHandedWhole, longer_list}
+use Rattle.afdx_tx.specs.Drain.{accepted_in}
+use Rattle.afdx_tx.specs.Ports.{PortView}
+use Rattle.afdx_tests.specs.Headline.{after_two, two_messages}
+use Rattle.afdx_tests.proofs.headline_tests.hand_whole.Goals as goal
+
+-- the longer of two lists is told by the lists alone
+log_is : (lines : Lines) → log lines ≡ longer_list lines.a lines.b
+unfolding log
+log_is lines = refl
+
+-- what was handed over in the end
+whole : (plan : Plan) (accepted : Accepted) (own : ℕ → List (List ℕ)) (lines : Lines) (a b : List Entry) → plan ≡ demo_plan
+    → a ≡ lines.a → b ≡ lines.b → IsLegal plan accepted lines.a lines.b → AreAllowed plan accepted → AreOwn plan accepted own
+    → IsAllDone plan accepted (log lines) → IsHandedWhole demo_plan own a b
+whole plan accepted own lines a b demo at_a at_b legal allowed owned done =
+    subst (λ p. IsHandedWhole p own a b) demo
+    (subst (λ xs. IsHandedWhole plan own xs b) (sym at_a)
+    (subst (λ ys. IsHandedWhole plan own lines.a ys) (sym at_b)
+    (record {
+      accepted = accepted;
+      legal = legal;
+      allowed = allowed;
+      are_own = owned;
+      done = subst (IsAllDone plan accepted) (log_is lines) done;
+    })))
+
+-- what a port that was unused has sent
+two_own : (port back : PortView) → port.sender.own ≡ [] → back ≡ after_two port → back.sender.own ≡ two_messages
+two_own port back fresh is =
+    ap (λ (p : PortView). p.sender.own) is ∙ ap (λ own. (own ++ (1 ∷ []) ∷ []) ++ (2 ∷ []) ∷ []) fresh
+
+pub returns : goal.returns
+returns g c =
+    let gathered = c.in_ok-draining.draining in
+    let drained = c.in_ok-draining-2.draining in
+    let plan = c.in_ok-draining-2.ensures.plan ∙ c.in_ok-draining.ensures.plan ∙ c.in_ok-port.ensures.plan ∙ c.in_ok-tx.ensures.plan in
+    let own = two_own c.in_ok-tx.port c.in_ok-port.port c.in_ok-tx.ensures.port.fresh c.in_ok-port.ensures.port in
+    whole drained.plan (accepted_in drained.links) (λ place. two_messages) drained.lines _ _ plan c.into_networks.ensures.a
+    c.into_networks.ensures.b c.into_networks.ensures.legal c.into_networks.ensures.allowed
+    (subst (λ p. AreOwn p (accepted_in drained.links) (λ place. two_messages)) (sym c.in_ok-draining-2.ensures.plan)
+    (subst (λ (xs : Accepted). AreOwn gathered.plan xs (λ place. two_messages)) (sym c.in_ok-draining-2.ensures.accepted)
+    (subst (λ ms. AreOwn gathered.plan (accepted_in gathered.links) (λ place. ms)) own c.in_ok-draining.ensures.own)))
+    c.in_ok-draining-2.ensures.done

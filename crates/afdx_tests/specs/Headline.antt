@@ -1,0 +1,18 @@
+-- What one port sends from a thread of its own.
+use Rattle.std.specs.Prelude.{ℕ, ◌≡◌, List, [], ◌∷◌}
+use Rattle.subvl_queue.specs.Views.{sent}
+use Rattle.afdx_tx.specs.Emitter.{Tx}
+use Rattle.afdx_tx.specs.Ports.{PortView, IsPortOfTx}
+
+-- a port after it sent two messages of one byte
+abbrev pub after_two : PortView → PortView
+after_two port = record port { sender = sent (sent port.sender (1 ∷ [])) (2 ∷ []) }
+
+-- its own list, where it had sent nothing before
+abbrev pub two_messages : List (List ℕ)
+two_messages = (1 ∷ []) ∷ (2 ∷ []) ∷ []
+
+-- a port of an emitter, of which nothing was accepted yet
+pub record IsUnused (tx : Tx) (port : PortView) : Type 0 where
+  pub of : IsPortOfTx tx port
+  pub fresh : port.sender.own ≡ []
