@@ -1,8 +1,10 @@
 //! Tests of sending what is left.
 ghost use Rattle.std.specs.Prelude.{◌≡◌, []};
 
-use crate::testing::{NEITHER, numbered, open_demo, send_taken};
-use afdx_tx::{Draining, PollFault, Report};
+use crate::testing::{
+    BOTH, NEITHER, assert_both_down, assert_drained, assert_handed, numbered, open_demo, send_taken,
+};
+use afdx_tx::Draining;
 use redundant_mux::MemNetwork;
 use std::alloc::Global;
 use std::process::Abort;
@@ -36,44 +38,19 @@ fn gather_two<R: Abort + Wait>(
     }
 }
 
-/// Polls at a moment that isn't before the last one.
-fn poll_at<R: Abort + Wait>(
-    rt: &R,
-    draining: &mut Draining<MemNetwork, MemNetwork>,
-    now: u64,
-) -> Result<Report, PollFault> {
-    assert!(rt; draining.now() <= now);
-    draining.poll(rt, now)
-}
-
-/// Polls while some network stands.
-fn poll_alive<R: Abort + Wait>(
-    rt: &R,
-    draining: &mut Draining<MemNetwork, MemNetwork>,
-    now: u64,
-) -> Report {
-    poll_at(rt, draining, now).expect(rt, "some network stands")
-}
-
 #[test]
 fn what_is_left_goes_out_after_the_port_came_back(rt: HostRuntime) -> Result<(), Fail> {
     let alloc = rt.alloc();
     let a = MemNetwork::new(alloc);
     let b = MemNetwork::new(alloc);
     let mut draining = gather_two(&rt, alloc, a, b)?;
-    let first = poll_alive(&rt, &mut draining, 0);
-    assert_eq!(rt; draining.is_done(), false);
-    let second = poll_alive(&rt, &mut draining, 1_000);
-    assert_eq!(rt; draining.is_done(), true);
-    let third = poll_alive(&rt, &mut draining, 2_000);
-    assert_eq!(rt; draining.is_done(), true);
+    assert_drained(&rt, &mut draining, 0, &[numbered(0)], BOTH, false);
+    assert_drained(&rt, &mut draining, 1_000, &[numbered(1)], BOTH, true);
+    assert_drained(&rt, &mut draining, 2_000, &[], BOTH, true);
     assert_eq!(rt; draining.now(), 2_000);
-    assert_eq!(rt; first.released.as_slice(), [numbered(0)].as_slice());
-    assert_eq!(rt; second.released.as_slice(), [numbered(1)].as_slice());
-    assert_eq!(rt; third.released.len(), 0);
     let (a, b) = draining.into_networks();
-    assert_eq!(rt; a.handed().len(), 2);
-    assert_eq!(rt; b.handed().len(), 2);
+    assert_handed(&rt, &a, 2);
+    assert_handed(&rt, &b, 2);
     Ok(())
 }
 
@@ -83,15 +60,12 @@ fn a_lost_frame_is_never_done(rt: HostRuntime) -> Result<(), Fail> {
     let a = MemNetwork::failing_at(alloc, 2);
     let b = MemNetwork::failing_at(alloc, 2);
     let mut draining = gather_two(&rt, alloc, a, b)?;
-    let first = poll_alive(&rt, &mut draining, 0);
-    let second = poll_alive(&rt, &mut draining, 1_000);
-    assert_eq!(rt; draining.is_done(), false);
-    let third = poll_at(&rt, &mut draining, 2_000);
-    assert_eq!(rt; third.err(), Some(PollFault::BothDown));
+    assert_drained(&rt, &mut draining, 0, &[numbered(0)], BOTH, false);
+    assert_drained(&rt, &mut draining, 1_000, &[], NEITHER, false);
+    assert!(rt; draining.now() <= 2_000);
+    let third = draining.poll(&rt, 2_000);
+    assert_both_down(&rt, third);
     assert_eq!(rt; draining.is_done(), false);
     assert_eq!(rt; draining.now(), 1_000);
-    assert_eq!(rt; first.released.as_slice(), [numbered(0)].as_slice());
-    assert_eq!(rt; second.released.len(), 0);
-    assert_eq!(rt; second.standing, NEITHER);
     Ok(())
 }

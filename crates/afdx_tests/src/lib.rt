@@ -4,6 +4,8 @@
 #[cfg(test)]
 mod draining_tests;
 #[cfg(test)]
+mod fault_tests;
+#[cfg(test)]
 mod headline_tests;
 #[cfg(test)]
 mod library_call;

@@ -2,7 +2,15 @@
 use afdx_plan::demo_config;
 use afdx_tx::open_tx;
 use redundant_mux::MemNetwork;
+use std::process::Abort;
 use std::test::Fail;
+
+/// Asserts that a network was handed one frame, with the message in it.
+fn assert_hello(rt: &impl Abort, network: &MemNetwork) {
+    let handed = network.handed();
+    assert_eq!(rt; handed.len(), 1);
+    assert_eq!(rt; handed[0].frame.get(42..47), Some(b"hello".as_slice()));
+}
 
 #[test]
 fn one_message_from_its_port_to_both_networks(rt: HostRuntime) -> Result<(), Fail> {
@@ -17,12 +25,9 @@ fn one_message_from_its_port_to_both_networks(rt: HostRuntime) -> Result<(), Fai
     }
     assert_eq!(rt; emitter.now(), 0);
     let report = emitter.poll(&rt, 0)?;
-    let (a, _) = emitter.into_networks();
+    let (a, b) = emitter.into_networks();
     assert_eq!(rt; report.released.len(), 1);
-    assert_eq!(rt; a.handed().len(), 1);
-    assert_eq!(rt;
-        a.handed()[0].frame.as_slice()[42..47],
-        *b"hello".as_slice()
-    );
+    assert_hello(&rt, &a);
+    assert_hello(&rt, &b);
     Ok(())
 }

@@ -3,7 +3,7 @@ ghost use Rattle.std.specs.Prelude.{◌≡◌, ◌<◌, ◌≤◌, [], length, m
 ghost use Rattle.arrayvec.specs.ArrayVec.{array_vec_len};
 ghost use Rattle.redundant_mux.specs.Entry.{entry};
 
-use crate::testing::{NEITHER, open_one, poll_alive, poll_at, send_taken};
+use crate::testing::{assert_handed, assert_poll, numbered, open_one, poll_at, send_taken};
 use afdx_config::read_config;
 use afdx_frame::Frame;
 use afdx_plan::Config;
@@ -49,58 +49,37 @@ fn open_six<A: Network + Drop, B: Network + Drop>(
 
 /// Asserts what the poll with this number, counted from 1, answers where A fails at hand `k` and B at
 /// hand `m`: a release while one of them stands, nothing where the last one fails, and then `BothDown`.
-fn assert_answer(rt: &impl Abort, turn: u64, k: u64, m: u64, answer: Result<Report, PollFault>) {
+fn assert_answer(rt: &impl Abort, turn: u8, k: u8, m: u8, answer: Result<Report, PollFault>) {
     let last = k.max(m);
-    match answer {
-        Ok(report) => {
-            assert!(rt; turn <= last);
-            let standing = if turn < last {
-                Standing {
-                    a: turn < k,
-                    b: turn < m,
-                }
-            } else {
-                NEITHER
-            };
-            assert_eq!(rt; report.standing, standing, "at poll {turn} of {k}, {m}");
-            assert_eq!(rt;
-                report.released.len() == 1,
-                turn < last,
-                "at poll {turn} of {k}, {m}"
-            );
-            assert_eq!(rt;
-                report.released.is_empty(),
-                turn == last,
-                "at poll {turn} of {k}, {m}"
-            );
-        }
-        Err(PollFault::BothDown) => assert!(rt; last < turn),
-    }
-}
-
-/// Asserts that the frames of so many polls were handed over, with their moments and numbers.
-fn assert_handed(rt: &impl Abort, network: &MemNetwork, many: u64) {
-    let handed = network.handed();
-    assert_eq!(rt; handed.len() as u64, many);
-    for (entry, place) in handed.iter().zip(0..7u8) {
-        assert_eq!(rt; entry.at, 1_000 * u64::from(place));
-        assert_eq!(rt; entry.frame.last(), Some(&place));
-    }
+    let standing = Standing {
+        a: turn < k,
+        b: turn < m,
+    };
+    let wanted = if turn <= last {
+        Some((usize::from(turn < last), standing))
+    } else {
+        None
+    };
+    let told = match answer {
+        Ok(report) => Some((report.released.len(), report.standing)),
+        Err(PollFault::BothDown) => None,
+    };
+    assert_eq!(rt; told, wanted, "at poll {turn} of {k}, {m}");
 }
 
 /// A run of six polls where A fails at hand `k` and B at hand `m`.
-fn run_failing<R: Abort + Wait>(rt: &R, alloc: Global, k: u64, m: u64) -> Result<(), Fail>
+fn run_failing<R: Abort + Wait>(rt: &R, alloc: Global, k: u8, m: u8) -> Result<(), Fail>
     requires { (1 ≤ k) × (1 ≤ m) }
 {
-    let a = MemNetwork::failing_at(alloc, k);
-    let b = MemNetwork::failing_at(alloc, m);
+    let a = MemNetwork::failing_at(alloc, u64::from(k));
+    let b = MemNetwork::failing_at(alloc, u64::from(m));
     let (mut tx, mut port) = open_six(alloc, a, b)?;
     send_six(rt, alloc, &mut port);
-    for turn in 1..=6u64 {
-        let answer = poll_at(rt, &mut tx, 1_000 * (turn - 1));
+    for turn in 1..=6u8 {
+        let answer = poll_at(rt, &mut tx, 1_000 * u64::from(turn - 1));
         assert_answer(rt, turn, k, m, answer);
     }
-    assert_eq!(rt; tx.now(), 1_000 * (k.max(m).min(6) - 1));
+    assert_eq!(rt; tx.now(), 1_000 * u64::from(k.max(m).min(6) - 1));
     let (a, b) = tx.into_networks();
     assert_handed(rt, &a, k - 1);
     assert_handed(rt, &b, m - 1);
@@ -168,6 +147,20 @@ fn empty_shelf() -> Shelf
     }
 }
 
+/// Asserts the moment and the number of a frame that a shelf keeps.
+fn assert_kept(rt: &impl Abort, kept: &Kept, place: u8) {
+    assert_eq!(rt; kept.at, 1_000 * u64::from(place));
+    assert_eq!(rt; kept.frame.last(), Some(&place));
+}
+
+/// Asserts that a shelf keeps the first two frames, and failed once.
+fn assert_full(rt: &impl Abort, shelf: &Shelf) {
+    assert_eq!(rt; shelf.kept.len(), 2);
+    assert_kept(rt, &shelf.kept[0], 0);
+    assert_kept(rt, &shelf.kept[1], 1);
+    assert_eq!(rt; shelf.failures, 1);
+}
+
 #[test]
 fn a_network_without_memory_fails_where_it_is_full_and_the_other_goes_on(
     rt: HostRuntime,
@@ -175,23 +168,16 @@ fn a_network_without_memory_fails_where_it_is_full_and_the_other_goes_on(
     let alloc = rt.alloc();
     let (mut tx, mut port) = open_six(alloc, empty_shelf(), MemNetwork::new(alloc))?;
     send_six(&rt, alloc, &mut port);
-    for turn in 1..=6u64 {
-        let report = poll_alive(&rt, &mut tx, 1_000 * (turn - 1));
-        assert_eq!(rt; report.released.len(), 1);
-        assert_eq!(rt;
-            report.standing,
-            Standing {
-                a: turn < 3,
-                b: true
-            }
-        );
+    for number in 0..6u8 {
+        let standing = Standing {
+            a: number < 2,
+            b: true,
+        };
+        let now = 1_000 * u64::from(number);
+        assert_poll(&rt, &mut tx, now, &[numbered(number)], standing);
     }
     let (a, b) = tx.into_networks();
-    assert_eq!(rt; (a.kept.len(), a.failures), (2, 1));
+    assert_full(&rt, &a);
     assert_handed(&rt, &b, 6);
-    for (kept, place) in a.kept.iter().zip(0..2u8) {
-        assert_eq!(rt; kept.at, 1_000 * u64::from(place));
-        assert_eq!(rt; kept.frame.last(), Some(&place));
-    }
     Ok(())
 }

@@ -2,7 +2,7 @@
 ghost use Rattle.std.specs.Prelude.{◌≡◌, IfOk};
 ghost use Rattle.afdx_tx.specs.Ports.{IsPortOfTx, AreOpenedWith};
 
-use crate::testing::{open, poll_alive, send_taken};
+use crate::testing::{BOTH, assert_drained, assert_poll, numbered, open, send_taken};
 use afdx_config::read_config;
 use afdx_plan::PortId;
 use afdx_tx::{Draining, Emitter, Refusal, TxPort};
@@ -154,8 +154,7 @@ fn send_poll_and_gather<R: Abort + Wait>(rt: &R, alloc: Global) -> Result<Drain,
     let (mut tx, mut first, mut second) = open_pair(alloc)?;
     send_taken(rt, alloc, &mut first, &[1, 2]);
     send_taken(rt, alloc, &mut second, &[3]);
-    let report = poll_alive(rt, &mut tx, 0);
-    assert_eq!(rt; report.released.len(), 1);
+    assert_poll(rt, &mut tx, 0, &[numbered(0)], BOTH);
     gather_pair(rt, alloc, tx, first, second)
 }
 
@@ -164,8 +163,6 @@ fn what_was_accepted_goes_out_after_the_ports_are_gathered(rt: HostRuntime) -> R
     let mut draining = send_poll_and_gather(&rt, rt.alloc())?;
     assert_eq!(rt; draining.is_done(), false);
     assert_eq!(rt; draining.now(), 0);
-    let report = draining.poll(&rt, 1_000).expect(&rt, "some network stands");
-    assert_eq!(rt; report.released.len(), 1);
-    assert_eq!(rt; draining.is_done(), true);
+    assert_drained(&rt, &mut draining, 1_000, &[numbered(1)], BOTH, true);
     Ok(())
 }

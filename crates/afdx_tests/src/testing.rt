@@ -4,9 +4,9 @@ ghost use Rattle.afdx_tx.specs.Emitter.{Tx};
 ghost use Rattle.afdx_tx.specs.Ports.{PortView, IsPortOfTx, AreOpenedWith};
 
 use afdx_plan::{Config, VlId, demo_config};
-use afdx_tx::{Emitter, PollFault, Release, Report, TxPort, open_tx};
-use redundant_mux::{MemNetwork, Network, Standing};
-use std::alloc::Global;
+use afdx_tx::{Draining, Emitter, PollFault, Release, Report, TxPort, open_tx};
+use redundant_mux::{Handed, MemNetwork, Network, Standing};
+use std::alloc::{AllocError, Global};
 use std::process::Abort;
 use std::sync::Wait;
 use std::test::Fail;
@@ -28,10 +28,8 @@ pub(crate) fn open<A: Network + Drop, B: Network + Drop>(
     requires b_new { B.failures b ≡ 0 }
     ensures { IfOk result (λ opened. AreOpenedWith opened.0 opened.1.items) }
 {
-    match open_tx(alloc, config, a, b) {
-        Ok(opened) => Ok(opened),
-        Err(_) => Err(Fail::from("no memory")),
-    }
+    let opened = open_tx(alloc, config, a, b).ok().ok_or(AllocError)?;
+    Ok(opened)
 }
 
 /// The same of a configuration with one port.
@@ -89,15 +87,72 @@ pub(crate) fn poll_at<R: Abort + Wait, A: Network + Drop, B: Network + Drop>(
     tx.poll(rt, now)
 }
 
-/// Polls while some network stands. A port of the emitter stays its own.
-pub(crate) fn poll_alive<R: Abort + Wait, A: Network + Drop, B: Network + Drop>(
+/// Polls while some network stands, and asserts what was released and which networks stand then. A
+/// port of the emitter stays its own. A test that calls this has a short proof, since it keeps no
+/// report.
+pub(crate) fn assert_poll<R: Abort + Wait, A: Network + Drop, B: Network + Drop>(
     rt: &R,
     tx: &mut Emitter<A, B>,
     now: u64,
-) -> Report
+    released: &[Release],
+    standing: Standing,
+)
     ensures { (port : PortView) → IsPortOfTx tx.old port → IsPortOfTx tx.new port }
 {
-    poll_at(rt, tx, now).expect(rt, "some network stands")
+    let answer = poll_at(rt, tx, now);
+    assert_report(rt, answer, released, standing);
+}
+
+/// Polls for what is left while some network stands, and asserts the same, and whether
+/// all was sent.
+pub(crate) fn assert_drained<R: Abort + Wait>(
+    rt: &R,
+    draining: &mut Draining<MemNetwork, MemNetwork>,
+    now: u64,
+    released: &[Release],
+    standing: Standing,
+    is_done: bool,
+) {
+    assert!(rt; draining.now() <= now);
+    let answer = draining.poll(rt, now);
+    assert_report(rt, answer, released, standing);
+    assert_eq!(rt; draining.is_done(), is_done);
+}
+
+/// Asserts what a poll released, and which networks stood then.
+pub(crate) fn assert_report(
+    rt: &impl Abort,
+    answer: Result<Report, PollFault>,
+    released: &[Release],
+    standing: Standing,
+) {
+    match answer {
+        Ok(report) => {
+            assert_eq!(rt; report.released.as_slice(), released);
+            assert_eq!(rt; report.standing, standing);
+        }
+        Err(PollFault::BothDown) => panic!(rt; "some network stands"),
+    }
+}
+
+/// Asserts that a poll did nothing, since both networks were down.
+pub(crate) fn assert_both_down(rt: &impl Abort, answer: Result<Report, PollFault>) {
+    assert_eq!(rt; answer.err(), Some(PollFault::BothDown));
+}
+
+/// Asserts that a frame was handed over at this place of polls that are a gap of 1 ms apart.
+fn assert_entry(rt: &impl Abort, entry: &Handed, place: u8) {
+    assert_eq!(rt; entry.at, 1_000 * u64::from(place));
+    assert_eq!(rt; entry.frame.last(), Some(&place));
+}
+
+/// Asserts that the frames of so many polls were handed over, with their moments and numbers.
+pub(crate) fn assert_handed(rt: &impl Abort, network: &MemNetwork, many: u8) {
+    let handed = network.handed();
+    assert_eq!(rt; handed.len(), usize::from(many));
+    for place in 0..many {
+        assert_entry(rt, &handed[usize::from(place)], place);
+    }
 }
 
 /// The release of the first sub-VL of link 1 with this number.

@@ -1,6 +1,8 @@
 //! Tests of the demonstration configuration.
-use crate::testing::{BOTH, NEITHER, numbered, open_demo, poll_alive, poll_at, send_taken};
-use afdx_tx::PollFault;
+use crate::testing::{
+    BOTH, NEITHER, assert_both_down, assert_handed, assert_poll, numbered, open_demo, poll_at,
+    send_taken,
+};
 use redundant_mux::{MemNetwork, Standing};
 use std::process::Abort;
 use std::test::Fail;
@@ -22,6 +24,14 @@ const FOR_B: [u8; 60] = [
 
 const ONLY_B: Standing = Standing { a: false, b: true };
 
+/// Asserts that a network was handed this frame alone, at moment 0.
+fn assert_first(rt: &impl Abort, network: &MemNetwork, frame: &[u8]) {
+    let handed = network.handed();
+    assert_eq!(rt; handed.len(), 1);
+    assert_eq!(rt; handed[0].at, 0);
+    assert_eq!(rt; handed[0].frame.as_slice(), frame);
+}
+
 #[test]
 fn a_message_of_one_byte_goes_out_as_one_frame_on_each_network(
     rt: HostRuntime,
@@ -29,16 +39,10 @@ fn a_message_of_one_byte_goes_out_as_one_frame_on_each_network(
     let alloc = rt.alloc();
     let (mut tx, mut port) = open_demo(alloc, MemNetwork::new(alloc), MemNetwork::new(alloc))?;
     send_taken(&rt, alloc, &mut port, &[1]);
-    let report = poll_alive(&rt, &mut tx, 0);
-    assert_eq!(rt; report.released.as_slice(), [numbered(0)].as_slice());
-    assert_eq!(rt; report.standing, BOTH);
+    assert_poll(&rt, &mut tx, 0, &[numbered(0)], BOTH);
     let (a, b) = tx.into_networks();
-    for (network, frame) in [(a, FOR_A), (b, FOR_B)] {
-        let handed = network.handed();
-        assert_eq!(rt; handed.len(), 1);
-        assert_eq!(rt; handed[0].at, 0);
-        assert_eq!(rt; handed[0].frame.as_slice(), frame.as_slice());
-    }
+    assert_first(&rt, &a, &FOR_A);
+    assert_first(&rt, &b, &FOR_B);
     Ok(())
 }
 
@@ -48,23 +52,15 @@ fn a_link_releases_nothing_before_its_gap_is_over(rt: HostRuntime) -> Result<(),
     let (mut tx, mut port) = open_demo(alloc, MemNetwork::new(alloc), MemNetwork::new(alloc))?;
     send_taken(&rt, alloc, &mut port, &[1]);
     send_taken(&rt, alloc, &mut port, &[2]);
-    let first = poll_alive(&rt, &mut tx, 0);
-    let early = poll_alive(&rt, &mut tx, 999);
-    let second = poll_alive(&rt, &mut tx, 1_000);
-    assert_eq!(rt; first.released.as_slice(), [numbered(0)].as_slice());
-    assert_eq!(rt; early.released.len(), 0);
-    assert_eq!(rt; second.released.as_slice(), [numbered(1)].as_slice());
+    assert_poll(&rt, &mut tx, 0, &[numbered(0)], BOTH);
+    assert_poll(&rt, &mut tx, 999, &[], BOTH);
+    assert_poll(&rt, &mut tx, 1_000, &[numbered(1)], BOTH);
     Ok(())
 }
 
-/// Asserts that these numbers were handed over, in this order.
-fn assert_numbers(rt: &impl Abort, network: &MemNetwork, numbers: &[u8]) {
-    let handed = network.handed();
-    assert_eq!(rt; handed.len(), numbers.len());
-    for (entry, number) in handed.iter().zip(numbers) {
-        assert_eq!(rt; entry.frame.last(), Some(number));
-    }
-}
+// Which networks stand after each of the polls that release a frame, where A fails at its third hand
+// and B at its sixth.
+const STANDING: [Standing; 5] = [BOTH, BOTH, ONLY_B, ONLY_B, ONLY_B];
 
 #[test]
 fn a_network_that_fails_is_given_up_and_after_both_a_poll_does_nothing(
@@ -75,23 +71,17 @@ fn a_network_that_fails_is_given_up_and_after_both_a_poll_does_nothing(
     let b = MemNetwork::failing_at(alloc, 6);
     let (mut tx, mut port) = open_demo(alloc, a, b)?;
     send_taken(&rt, alloc, &mut port, &[1]);
-    for (number, standing) in [BOTH, BOTH, ONLY_B, ONLY_B, ONLY_B].iter().enumerate() {
+    for (number, standing) in (0..5u8).zip(STANDING) {
         send_taken(&rt, alloc, &mut port, &[2]);
-        let report = poll_alive(&rt, &mut tx, 1_000 * number as u64);
-        assert_eq!(rt;
-            report.released.as_slice(),
-            [numbered(number as u8)].as_slice()
-        );
-        assert_eq!(rt; report.standing, *standing);
+        let now = 1_000 * u64::from(number);
+        assert_poll(&rt, &mut tx, now, &[numbered(number)], standing);
     }
-    let last = poll_alive(&rt, &mut tx, 5_000);
-    assert_eq!(rt; last.released.len(), 0);
-    assert_eq!(rt; last.standing, NEITHER);
+    assert_poll(&rt, &mut tx, 5_000, &[], NEITHER);
     let after = poll_at(&rt, &mut tx, 6_000);
-    assert_eq!(rt; after.err(), Some(PollFault::BothDown));
+    assert_both_down(&rt, after);
     assert_eq!(rt; tx.now(), 5_000);
     let (a, b) = tx.into_networks();
-    assert_numbers(&rt, &a, &[0, 1]);
-    assert_numbers(&rt, &b, &[0, 1, 2, 3, 4]);
+    assert_handed(&rt, &a, 2);
+    assert_handed(&rt, &b, 5);
     Ok(())
 }
