@@ -114,8 +114,8 @@ own_lists_arrive_holds plan own a b valid handed k sub inside index lag toleranc
       sent = sent;
       are = first.are ∙ take_all first.many (map (λ (s : Sent). s.bytes) sent) (omega (arith, length-map sent (λ (s : Sent). s.bytes)));
       ports = λ place on.
-          ap (λ (n : ℕ). messages_of (port_plan_at plan.ports place).id.0 (accepted n sub)) (sym on.link)
-          ∙ ap (λ (n : ℕ). messages_of (port_plan_at plan.ports place).id.0
+          ap (λ (n : ℕ). messages_of (port_plan_at plan.ports place) (accepted n sub)) (sym on.link)
+          ∙ ap (λ (n : ℕ). messages_of (port_plan_at plan.ports place)
           (accepted (link_place plan (port_plan_at plan.ports place)) n)) (sym on.its)
           ∙ handed.are_own place on.within;
     }

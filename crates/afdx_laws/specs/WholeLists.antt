@@ -22,11 +22,11 @@ pub record IsOn (plan : Plan) (k sub place : ℕ) : Type 0 where
 
 -- A sub-VL's messages are all those that its ports had accepted: of each port its own list, in order
 -- and each once.
-pub record AreWhole (plan : Plan) (k sub : ℕ) (own : ℕ → List (List ℕ)) (messages : List (List ℕ)) : Type 0 where
+pub record AreOwnLists (plan : Plan) (k sub : ℕ) (own : ℕ → List (List ℕ)) (messages : List (List ℕ)) : Type 0 where
   pub sent : List Sent
   pub are : messages ≡ map (λ (s : Sent). s.bytes) sent
   pub ports : (place : ℕ) → IsOn plan k sub place
-      → messages_of (port_plan_at plan.ports place).id.0 sent ≡ own place
+      → messages_of (port_plan_at plan.ports place) sent ≡ own place
 
 -- All that was accepted of a plan's ports was handed over, and of what was handed over of a link one
 -- network carried everything, near to the other. Then the receiver's messages of each sub-VL are its ports'
@@ -39,4 +39,4 @@ OwnListsArrive = (plan : Plan) (own : ℕ → List (List ℕ)) (a b : List Entry
     → IsFitFor lag tolerance
     → AreCarriedOf lag (frames_of (id_at plan k) a) (frames_of (id_at plan k) b) arrivals
     → length (longer (frames_of (id_at plan k) a) (frames_of (id_at plan k) b)) ≤ most_carried arrivals
-    → AreWhole plan k sub own (messages_in sub (received number_in tolerance begin arrivals))
+    → AreOwnLists plan k sub own (messages_in sub (received number_in tolerance begin arrivals))

@@ -10,7 +10,7 @@ use Rattle.afdx_laws.specs.Networks.{most_carried}
 use Rattle.afdx_laws.specs.Messages.{messages_in}
 use Rattle.afdx_laws.specs.Handed.{AreCarriedOf, longer}
 use Rattle.afdx_laws.specs.Plans.{frames_of}
-use Rattle.afdx_laws.specs.WholeLists.{AreWhole}
+use Rattle.afdx_laws.specs.WholeLists.{AreOwnLists}
 use Rattle.afdx_laws.specs.WorkedDelivery.{plain_receiver}
 use Rattle.afdx_laws.specs.WorkedPlan.{one_entry, two_arrivals}
 
@@ -25,4 +25,4 @@ pub record OneIsWhole : Type 0 where
   pub fit : IsFitFor 1 plain_receiver
   pub carry : AreCarriedOf 1 (frames_of 1 (one_entry A)) (frames_of 1 (one_entry B)) two_arrivals
   pub all : length (longer (frames_of 1 (one_entry A)) (frames_of 1 (one_entry B))) ≤ most_carried two_arrivals
-  pub whole : AreWhole demo_plan 0 0 one_own (messages_in 0 (received number_in plain_receiver begin two_arrivals))
+  pub whole : AreOwnLists demo_plan 0 0 one_own (messages_in 0 (received number_in plain_receiver begin two_arrivals))

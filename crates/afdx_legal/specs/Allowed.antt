@@ -1,7 +1,8 @@
 -- What the messages of the accepted lists are.
-use Rattle.std.specs.Prelude.{ℕ, ◌≡◌, ◌≤◌, ◌<◌, nat_eq, List, length, map, filter, All, Contains}
+use Rattle.std.specs.Prelude.{ℕ, ◌≡◌, ◌≤◌, ◌<◌, nat_eq, if◌then◌else◌, List, [], ◌∷◌, length, All, Contains}
 use Rattle.afdx_plan.specs.Config.{Plan, link_plan_at, port_plan_at}
 use Rattle.afdx_plan.specs.Places.{link_place}
+use Rattle.afdx_plan.specs.declared.port_plan.PortPlan.{PortPlan}
 use Rattle.afdx_frame.specs.Fragments.{Sent}
 use Rattle.afdx_frame.specs.Roles.{greatest_message}
 use Rattle.afdx_legal.specs.Legal.{Accepted}
@@ -19,16 +20,18 @@ abbrev pub AreAllowed : Plan → Accepted → Type 0
 AreAllowed plan accepted = (k s : ℕ) → k < length plan.links → s < (link_plan_at plan.links k).sub_vls
     → All (IsAllowed plan k s) (accepted k s)
 
--- the messages of one port among those of a sub-VL, in order
-abbrev pub messages_of : ℕ → List Sent → List (List ℕ)
-messages_of port accepted = map (λ (sent : Sent). sent.bytes)
-    (filter (λ (sent : Sent). nat_eq sent.port.id.0 port) accepted)
+-- the messages of a port among these, in their order
+abbrev pub messages_of : PortPlan → List Sent → List (List ℕ)
+messages_of port [] = []
+messages_of port (sent ∷ more) =
+    if nat_eq sent.port.id.0 port.id.0 then sent.bytes ∷ messages_of port more
+    else messages_of port more
 
 -- what was accepted of the port at a place in the plan
-abbrev pub accepted_of : Plan → Accepted → ℕ → List (List ℕ)
-accepted_of plan accepted place = messages_of (port_plan_at plan.ports place).id.0
+abbrev pub port_messages : Plan → Accepted → ℕ → List (List ℕ)
+port_messages plan accepted place = messages_of (port_plan_at plan.ports place)
     (accepted (link_place plan (port_plan_at plan.ports place)) (port_plan_at plan.ports place).sub)
 
 -- what was accepted of each port is its own list
 abbrev pub AreOwn : Plan → Accepted → (ℕ → List (List ℕ)) → Type 0
-AreOwn plan accepted own = (place : ℕ) → place < length plan.ports → accepted_of plan accepted place ≡ own place
+AreOwn plan accepted own = (place : ℕ) → place < length plan.ports → port_messages plan accepted place ≡ own place

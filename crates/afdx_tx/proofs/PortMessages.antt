@@ -1,5 +1,5 @@
 -- What a sub-VL accepted of each of its ports.
-use Rattle.std.proofs.Common.{ℕ, zero, suc, ◌≡◌, ◌≢◌, ◌<◌, List, [], ◌∷◌, Bool, true, false, ◌&&◌, ◌≤◌, cond, nat_eq, filter, length, take, map, get_or, arith, refl, ap, ◌∙◌, sym, subst, ⊎_elim}
+use Rattle.std.proofs.Common.{ℕ, zero, suc, ◌≡◌, ◌≢◌, ◌<◌, List, [], ◌∷◌, Bool, true, false, ◌&&◌, ◌≤◌, cond, nat_eq, filter, length, take, get_or, arith, refl, ap, ◌∙◌, sym, subst, ⊎_elim}
 use Rattle.std.specs.Prelude.{All, Contains, ◌==◌}
 use Rattle.std.specs.List.{AllPairs}
 use Rattle.std.proofs.lemmas.Bool.{cases_eq, cases_lt, eq-eqb, ne_eqb, eqb-true}
@@ -11,9 +11,8 @@ use Rattle.afdx_plan.specs.declared.identifiers.VlId.{VlId}
 use Rattle.afdx_plan.specs.declared.link_plan.LinkPlan.{LinkPlan}
 use Rattle.afdx_plan.specs.declared.port_plan.PortPlan.{PortPlan}
 use Rattle.afdx_plan.specs.Config.{Plan, IsPlan, link_plan_at, port_plan_at}
-use Rattle.afdx_frame.specs.Fragments.{Sent}
 use Rattle.subvl_queue.specs.Messages.{IsItem, AreItems, part_of}
-use Rattle.afdx_legal.specs.Allowed.{IsAllowed, AreAllowed, messages_of, accepted_of}
+use Rattle.afdx_legal.specs.Allowed.{IsAllowed, AreAllowed, messages_of, port_messages}
 use Rattle.vl_link.specs.Seen.{taken_of, known_of}
 use Rattle.vl_link.specs.Links.{LinkState, held_at, link_at, sent_of, sent_by}
 use Rattle.vl_link.proofs.QueueLooks.{items_taken}
@@ -155,25 +154,16 @@ is_index ports apart index id lt own i ilt = ⊎_elim
     (cases_lt i index))))
     (cases_eq i index)
 
--- one message more is of the port, or of another one
-part_more : (s t : Bool) (sent : Sent) (xs : List (List ℕ)) (ys : List Sent) → s ≡ t
-    → xs ≡ map (λ (m : Sent). m.bytes) ys
-    → cond s (sent.bytes ∷ xs) xs ≡ map (λ (m : Sent). m.bytes) (cond t (sent ∷ ys) ys)
-part_more true true sent xs ys e is = ap (λ (ms : List (List ℕ)). sent.bytes ∷ ms) is
-part_more false false sent xs ys e is = is
-part_more true false sent xs ys e is = absurd (let no : true ≡ false = e in cc)
-part_more false true sent xs ys e is = absurd (let no : false ≡ true = e in cc)
-
 -- so a sender's part of the items is the messages of its port
-part_is : (ports : List PortPlan) (index id : ℕ) (items : List (ℕ × List ℕ))
-    → ((i : ℕ) → i < length ports → (i == index) ≡ nat_eq (port_plan_at ports i).id.0 id) → AreItems (length ports) items
-    → part_of index items ≡ messages_of id (sent_by ports items)
-part_is ports index id [] same all = refl
-part_is ports index id (item ∷ items) same all =
+part_is : (ports : List PortPlan) (index : ℕ) (port : PortPlan) (items : List (ℕ × List ℕ))
+    → ((i : ℕ) → i < length ports → (i == index) ≡ nat_eq (port_plan_at ports i).id.0 port.id.0) → AreItems (length ports) items
+    → part_of index items ≡ messages_of port (sent_by ports items)
+part_is ports index port [] same all = refl
+part_is ports index port (item ∷ items) same all =
     let is = All-head (IsItem (length ports)) item items all in
-    part_more (item.0 == index) (nat_eq (port_plan_at ports item.0).id.0 id) (sent_of ports item) (part_of index items)
-    (filter (λ (m : Sent). nat_eq m.port.id.0 id) (sent_by ports items)) (same item.0 is.port)
-    (part_is ports index id items same (All-tail (IsItem (length ports)) item items all))
+    let rest = part_is ports index port items same (All-tail (IsItem (length ports)) item items all) in
+    ap (λ (b : Bool). cond b (item.1 ∷ part_of index items) (part_of index items)) (same item.0 is.port)
+    ∙ ap (λ ms. cond (nat_eq (port_plan_at ports item.0).id.0 port.id.0) (item.1 ∷ ms) ms) rest
 
 -- a port among those of its sub-VL
 own_index : (config : Plan) (place id : ℕ) → IsPlan config → place < length config.ports
@@ -194,7 +184,7 @@ own_index config place id valid lt its =
 pub own_messages : (tx : Tx) (place : ℕ) (own : List (List ℕ)) → IsPlan tx.plan → AreLinksOf tx.plan tx.links
     → HaveOwnItems tx.links → place < length tx.plan.ports
     → part_of (index_of tx.plan.ports place) (known_of (held_for tx (port_plan_at tx.plan.ports place)).seen) ≡ own
-    → accepted_of tx.plan (accepted_in tx.links) place ≡ own
+    → port_messages tx.plan (accepted_in tx.links) place ≡ own
 own_messages tx place own valid of items lt part =
     let port = port_plan_at tx.plan.ports place in
     let k = link_place tx.plan port in
@@ -205,7 +195,7 @@ own_messages tx place own valid of items lt part =
     let mine = ports_of_sub tx.plan.ports port.vl.0 port.sub in
     let ports : (held_for tx port).ports ≡ mine = ports_are tx.plan tx.links of k port.sub link sub
     ∙ ap (λ (id : VlId). ports_of_sub tx.plan.ports id.0 port.sub) linked.1.id in
-    ap (λ ps. messages_of port.id.0 (sent_by ps known)) ports
-    ∙ sym (part_is mine (index_of tx.plan.ports place) port.id.0 known (own_index tx.plan place port.id.0 valid lt refl)
+    ap (λ ps. messages_of port (sent_by ps known)) ports
+    ∙ sym (part_is mine (index_of tx.plan.ports place) port known (own_index tx.plan place port.id.0 valid lt refl)
     (subst (λ ps. AreItems (length ps) known) ports (items k port.sub link sub)))
     ∙ part

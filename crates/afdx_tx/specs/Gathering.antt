@@ -4,7 +4,7 @@ use Rattle.afdx_plan.specs.Config.{Plan, link_plan_at, port_plan_at}
 use Rattle.afdx_plan.specs.declared.port_plan.PortPlan.{PortPlan}
 use Rattle.subvl_queue.specs.Messages.{part_of}
 use Rattle.subvl_queue.specs.Views.{SenderView}
-use Rattle.afdx_legal.specs.Allowed.{accepted_of}
+use Rattle.afdx_legal.specs.Allowed.{port_messages}
 use Rattle.vl_link.specs.Seen.{known_of}
 use Rattle.vl_link.specs.Links.{Held, LinkState, held_at, link_at}
 use Rattle.afdx_tx.specs.Emitter.{Tx}
@@ -59,7 +59,7 @@ pub record HasOwnPart (tx : Tx) (ports : List PortView) (place : ℕ) : Type 0 w
   pub messages : HasOwnMessages port
   pub part : part_of (index_of tx.plan.ports place)
       (known_of (held_for tx (port_plan_at tx.plan.ports place)).seen) ≡ port.sender.own
-  pub accepted : accepted_of tx.plan (accepted_in tx.links) place ≡ port.sender.own
+  pub accepted : port_messages tx.plan (accepted_in tx.links) place ≡ port.sender.own
 
 -- a sub-VL but for its queue, whose accepted messages are known whole
 pub record IsGatheredSub (old new : Held) : Type 0 where

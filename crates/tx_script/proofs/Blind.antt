@@ -19,7 +19,8 @@ use Rattle.tx_script.specs.EndSystem.{EndSystem, Progress, no_progress, HasTurnA
 use Rattle.script_lines.specs.Lines.{after_feed}
 use Rattle.script_lines.specs.Meaning.{meaning_of}
 use Rattle.tx_script.specs.Play.{Answer, leaves, left_by, sent_to, place_of, IsAnswer, IsPolled, AreAnswers, takes, closes, fills}
-use Rattle.tx_script.specs.Play.{AnsweredLine, Play, play, play_line, start, outcome_of, after, FindsFirst, messages_of}
+use Rattle.afdx_legal.specs.Allowed.{messages_of}
+use Rattle.tx_script.specs.Play.{AnsweredLine, Play, play, play_line, start, outcome_of, after, FindsFirst}
 use Rattle.tx_script.specs.Run.{LinesThen}
 use Rattle.transcript.specs.Transcript.{note_of}
 use Rattle.script_lines.specs.declared.line.Line.{Line}

@@ -28,7 +28,8 @@ use Rattle.afdx_tx.proofs.PortLink.{found, found_over}
 use Rattle.tx_script.specs.AtBench.{AtBench, IsAtHand, Matches, GaveFirst}
 use Rattle.tx_script.specs.EndSystem.{Progress}
 use Rattle.tx_script.specs.Matching.{IsPlannedSub, IsPlannedLink}
-use Rattle.tx_script.specs.Play.{Play, FindsFirst, messages_of, found_beside}
+use Rattle.afdx_legal.specs.Allowed.{messages_of}
+use Rattle.tx_script.specs.Play.{Play, FindsFirst, found_beside}
 use Rattle.tx_script.proofs.SubPorts.{IsPassing, filter_at, filter_from}
 
 -- the plan of a port behind the last

@@ -8,6 +8,7 @@ use Rattle.afdx_tx.specs.declared.fault.Refusal.{Refusal as SendRefusal}
 use Rattle.afdx_tx.specs.declared.fault.Refusal.TheVariants as Why
 use Rattle.afdx_tx.specs.Emitter.{ports_of_sub}
 use Rattle.afdx_plan.specs.Places.{link_place}
+use Rattle.afdx_legal.specs.Allowed.{messages_of}
 use Rattle.afdx_tx.specs.Sending.{length_refusal}
 use Rattle.tx_script.specs.EndSystem.{EndSystem, HasPolled, fresh, handed_b}
 use Rattle.script_lines.specs.Meaning.{meaning_of}
@@ -152,13 +153,6 @@ AreAnswers st (turn ∷ turns) =
 -- the whole text: the notes, the lines of network A and then those of B
 abbrev pub transcript : Play → List ℕ
 transcript st = st.notes ++ streams st.es.log (handed_b st.es)
-
--- the messages of a port among these, in their order
-abbrev pub messages_of : PortPlan → List Sent → List (List ℕ)
-messages_of port [] = []
-messages_of port (sent ∷ more) =
-    if nat_eq sent.port.id.0 port.id.0 then sent.bytes ∷ messages_of port more
-    else messages_of port more
 
 -- the messages that looks found of the sub-VL of a port
 abbrev pub found_beside : EndSystem → PortPlan → List Sent
