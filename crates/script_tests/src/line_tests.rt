@@ -1,6 +1,8 @@
 use script_lines::{Bytes, Line, LineFault, Message, Next, ReadFault, next_line, read_line};
-use std::alloc::Global;
+use std::alloc::{AllocError, Global};
+use std::fmt::{InlineText, Write};
 use std::io::{self, Read};
+use std::process::Abort;
 use std::test::Fail;
 
 fn says_send(alloc: Global, line: &[u8], port: u16, message: &[u8]) -> bool {
@@ -64,39 +66,74 @@ fn blank_lines_and_notes_say_nothing(rt: HostRuntime) -> Result<(), Fail> {
     Ok(())
 }
 
+// Asserts the number and the name of the fault of a line.
+fn assert_fault(rt: &impl Abort, alloc: Global, line: &str, wanted: &str) {
+    let fault = fault_of(alloc, line.as_bytes()).expect(rt, "a fault");
+    let number = fault.number();
+    let mut told = InlineText::<16>::new();
+    assert!(rt; write!(told, "{number} {fault}").is_ok());
+    assert_eq!(rt; told.as_str(), wanted, "at {line}");
+}
+
+// Lines, and the number and the name of the fault of each.
+const LINES: [(&str, &str); 24] = [
+    ("sand 10 01", "1 Word"),
+    ("send", "1 Word"),
+    ("send 10", "1 Word"),
+    ("send x", "1 Word"),
+    ("at", "1 Word"),
+    ("Send 10 01", "1 Word"),
+    ("sendd 10 01", "1 Word"),
+    ("close 1 0", "1 Word"),
+    ("at x", "2 Number"),
+    ("at +1", "2 Number"),
+    ("at -1", "2 Number"),
+    ("at 1x", "2 Number"),
+    ("send 65536 01", "2 Number"),
+    ("send - 0g 01", "2 Number"),
+    ("at 18446744073709551616 0", "2 Number"),
+    ("at 100000000000000000000000", "2 Number"),
+    ("send 10 0g", "3 Hex"),
+    ("send 10 012", "3 Hex"),
+    ("send 10 0x01", "3 Hex"),
+    ("send 10 --", "3 Hex"),
+    ("send 10 0g 01", "3 Hex"),
+    ("at 0 0", "4 Extra"),
+    ("send 10 01 02", "4 Extra"),
+    ("send 10 - # note", "4 Extra"),
+];
+
 #[test]
-fn a_fault_has_its_number_and_its_name(rt: HostRuntime) -> Result<(), Fail> {
-    let lines: [(&str, &str); 24] = [
-        ("sand 10 01", "1 Word"),
-        ("send", "1 Word"),
-        ("send 10", "1 Word"),
-        ("send x", "1 Word"),
-        ("at", "1 Word"),
-        ("Send 10 01", "1 Word"),
-        ("sendd 10 01", "1 Word"),
-        ("close 1 0", "1 Word"),
-        ("at x", "2 Number"),
-        ("at +1", "2 Number"),
-        ("at -1", "2 Number"),
-        ("at 1x", "2 Number"),
-        ("send 65536 01", "2 Number"),
-        ("send - 0g 01", "2 Number"),
-        ("at 18446744073709551616 0", "2 Number"),
-        ("at 100000000000000000000000", "2 Number"),
-        ("send 10 0g", "3 Hex"),
-        ("send 10 012", "3 Hex"),
-        ("send 10 0x01", "3 Hex"),
-        ("send 10 --", "3 Hex"),
-        ("send 10 0g 01", "3 Hex"),
-        ("at 0 0", "4 Extra"),
-        ("send 10 01 02", "4 Extra"),
-        ("send 10 - # note", "4 Extra"),
-    ];
-    for (line, wanted) in lines {
-        let fault = fault_of(rt.alloc(), line.as_bytes()).ok_or("no fault")?;
-        let number = fault.number();
-        let told = format!(in rt.alloc(); "{number} {fault}")?;
-        assert_eq!(rt; told.as_str(), wanted, "at {line}");
+fn a_fault_has_its_number_and_its_name(rt: HostRuntime) {
+    for (line, wanted) in LINES {
+        assert_fault(&rt, rt.alloc(), line, wanted);
+    }
+}
+
+// Each fault of a line, its number and its name.
+const FAULTS: [(LineFault, u8, &str); 6] = [
+    (LineFault::Word, 1, "Word"),
+    (LineFault::Number, 2, "Number"),
+    (LineFault::Hex, 3, "Hex"),
+    (LineFault::Extra, 4, "Extra"),
+    (LineFault::Long, 5, "Long"),
+    (LineFault::Memory, 6, "Memory"),
+];
+
+#[test]
+fn each_fault_of_a_line_has_its_number_and_its_name(rt: HostRuntime) {
+    for (fault, number, name) in FAULTS {
+        assert_eq!(rt; fault.number(), number, "{name}");
+        assert_eq!(rt; InlineText::<16>::of(fault).as_str(), name);
+    }
+}
+
+#[test]
+fn a_failure_to_read_a_line_has_its_name(rt: HostRuntime) -> Result<(), Fail> {
+    for (fault, name) in [(ReadFault::Read, "Read"), (ReadFault::Memory, "Memory")] {
+        let mut text = InlineText::<16>::new();
+        write!(text, "{fault:?}")?;
+        assert_eq!(rt; text.as_str(), name);
     }
     Ok(())
 }
@@ -112,33 +149,50 @@ fn a_line_of_20_001_bytes_is_long(rt: HostRuntime) -> Result<(), Fail> {
     Ok(())
 }
 
+// Asserts the next line of a reader. A test that calls this has a short proof, since it learns nothing
+// of the reader.
+fn assert_line<R: Read + Drop>(
+    rt: &impl Abort,
+    bytes: &mut Bytes<R>,
+    line: &mut Vec<u8>,
+    wanted: &[u8],
+) {
+    assert_eq!(rt; next_line(bytes, line), Ok(Next::Line));
+    assert_eq!(rt; line.as_slice(), wanted);
+}
+
 #[test]
-fn lines_lose_their_ends(rt: HostRuntime) -> Result<(), Fail> {
+fn lines_lose_their_ends(rt: HostRuntime) {
     let mut bytes = Bytes::new(b"at 0\r\n\nat\r 1\r\r\n\r\nat 2\r".as_slice());
     let mut line = Vec::new(rt.alloc());
     let lines: [&[u8]; 5] = [b"at 0", b"", b"at\r 1\r", b"", b"at 2\r"];
     for wanted in lines {
-        assert_eq!(rt; next_line(&mut bytes, &mut line), Ok(Next::Line));
-        assert_eq!(rt; line.as_slice(), wanted);
+        assert_line(&rt, &mut bytes, &mut line, wanted);
     }
     assert_eq!(rt; next_line(&mut bytes, &mut line), Ok(Next::End));
-    Ok(())
+}
+
+// So many blanks, and an end behind them.
+fn blanks(alloc: Global, len: usize, end: &[u8]) -> Result<Vec<u8>, AllocError> {
+    let mut text = vec![in alloc; b' '; len]?;
+    text.extend_from_slice(end)?;
+    Ok(text)
+}
+
+// What a text begins with.
+fn first_line(text: &[u8], line: &mut Vec<u8>) -> Result<Next, ReadFault> {
+    next_line(&mut Bytes::new(text), line)
 }
 
 #[test]
 fn a_line_ends_within_20_000_bytes(rt: HostRuntime) -> Result<(), Fail> {
-    let mut text = vec![in rt.alloc(); b' '; 20_000]?;
-    text.extend_from_slice(b"\r\n")?;
     let mut line = Vec::new(rt.alloc());
-    let mut bytes = Bytes::new(text.as_slice());
-    assert_eq!(rt; next_line(&mut bytes, &mut line), Ok(Next::Line));
+    let text = blanks(rt.alloc(), 20_000, b"\r\n")?;
+    assert_eq!(rt; first_line(&text, &mut line), Ok(Next::Line));
     assert_eq!(rt; line.len(), 20_000);
     for end in [b"\r\n".as_slice(), b"\n".as_slice(), b"".as_slice()] {
-        text.truncate(20_000);
-        text.push(b' ')?;
-        text.extend_from_slice(end)?;
-        let mut bytes = Bytes::new(text.as_slice());
-        assert_eq!(rt; next_line(&mut bytes, &mut line), Ok(Next::Long));
+        let text = blanks(rt.alloc(), 20_001, end)?;
+        assert_eq!(rt; first_line(&text, &mut line), Ok(Next::Long));
     }
     Ok(())
 }
@@ -162,16 +216,14 @@ impl Read for Interrupted<'_> {
 }
 
 #[test]
-fn an_interruption_is_a_failure_to_read(rt: HostRuntime) -> Result<(), Fail> {
+fn an_interruption_is_a_failure_to_read(rt: HostRuntime) {
     let mut bytes = Bytes::new(Interrupted {
         text: b"at 1000\nat 20",
         interrupted: false,
     });
     let mut line = Vec::new(rt.alloc());
-    assert_eq!(rt; next_line(&mut bytes, &mut line), Ok(Next::Line));
-    assert_eq!(rt; line.as_slice(), b"at 1000".as_slice());
+    assert_line(&rt, &mut bytes, &mut line, b"at 1000");
     assert_eq!(rt; next_line(&mut bytes, &mut line), Err(ReadFault::Read));
-    Ok(())
 }
 
 #[test]

@@ -70,9 +70,8 @@ fn a_reader_that_fails_at_any_byte_ends_the_run_there(rt: HostRuntime) -> Result
     for bytes in 0..=LATE.len() {
         let wanted = late_text(rt.alloc(), bytes)?;
         let reader = Broken(&LATE.as_bytes()[..bytes]);
-        let (told, text) = transcript(&rt, rt.alloc(), reader);
-        assert_eq!(rt; told, Err(RunFault::Read), "at {bytes}");
-        assert_eq!(rt; text.as_slice(), wanted.as_bytes(), "at {bytes}");
+        let told = Err(RunFault::Read);
+        assert_run(&rt, rt.alloc(), reader, told, wanted.as_bytes());
     }
     Ok(())
 }

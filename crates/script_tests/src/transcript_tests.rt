@@ -1,6 +1,7 @@
 use crate::helpers::at_line;
 use redundant_mux::Network;
 use script_lines::LineFault;
+use std::fmt::InlineText;
 use std::test::Fail;
 use tx_script::{FrameLog, Outcome, Refusal, RunFault, Summary, write_note, write_streams};
 
@@ -36,36 +37,34 @@ const FIRST: [u8; 60] = [
 ];
 
 #[test]
-fn the_frames_of_a_come_before_those_of_b(rt: HostRuntime) -> Result<(), Fail> {
+fn the_frames_of_a_come_before_those_of_b(rt: HostRuntime) {
     let mut for_a = FrameLog::new(rt.alloc());
-    for_a.hand(0, &FIRST).map_err(|_| "no memory")?;
-    for_a.hand(u64::MAX, &[0xab]).map_err(|_| "no memory")?;
+    assert!(rt; for_a.hand(0, &FIRST).is_ok());
+    assert!(rt; for_a.hand(u64::MAX, &[0xab]).is_ok());
     let mut twin = FIRST;
     twin[11] = 0x40;
     let mut for_b = FrameLog::new(rt.alloc());
-    for_b.hand(0, &twin).map_err(|_| "no memory")?;
+    assert!(rt; for_b.hand(0, &twin).is_ok());
     let mut text = Vec::new(rt.alloc());
-    write_streams(&mut text, &for_a, &for_b)?;
+    assert_eq!(rt; write_streams(&mut text, &for_a, &for_b), Ok(()));
     let wanted = "A 0 03000000000102000000012008004500001d000000000111cdee0a000101e0e0000103e807d\
                   000090000010000000000000000000000000000000000\n\
                   A 18446744073709551615 ab\n\
                   B 0 03000000000102000000014008004500001d000000000111cdee0a000101e0e0000103e807d\
                   000090000010000000000000000000000000000000000\n";
     assert_eq!(rt; text.as_slice(), wanted.as_bytes());
-    Ok(())
 }
 
 #[test]
-fn a_full_writer_is_a_failure_to_write(rt: HostRuntime) -> Result<(), Fail> {
+fn a_full_writer_is_a_failure_to_write(rt: HostRuntime) {
     let none = FrameLog::new(rt.alloc());
     let mut one = FrameLog::new(rt.alloc());
-    one.hand(0, &FIRST).map_err(|_| "no memory")?;
+    assert!(rt; one.hand(0, &FIRST).is_ok());
     let mut room = [0u8; 60];
     let mut text = room.as_mut_slice();
     assert_eq!(rt; write_streams(&mut text, &none, &one), Err(RunFault::Write));
     let refused = Outcome::Refused(Refusal::Full);
     assert_eq!(rt; write_note(&mut text, 1, refused), Err(RunFault::Write));
-    Ok(())
 }
 
 #[test]
@@ -80,18 +79,52 @@ fn a_summary_counts_what_became_of_lines(rt: HostRuntime) -> Result<(), Fail> {
     Ok(())
 }
 
+// Why a line is refused while running, and the name that a note has of it.
+const REFUSALS: [(Refusal, &str); 6] = [
+    (Refusal::Empty, "Empty"),
+    (Refusal::TooLong, "TooLong"),
+    (Refusal::Closed, "Closed"),
+    (Refusal::Full, "Full"),
+    (Refusal::NoPort, "NoPort"),
+    (Refusal::TimeBack, "TimeBack"),
+];
+
 #[test]
-fn a_run_fault_tells_its_text(rt: HostRuntime) -> Result<(), Fail> {
-    let faults: [(RunFault, &str); 5] = [
-        (at_line(2, LineFault::Hex), "script line 2: 3 Hex"),
-        (RunFault::Lines, "script refused: too many lines"),
-        (RunFault::Read, "read failed"),
-        (RunFault::Write, "write failed"),
-        (RunFault::Memory, "out of memory"),
-    ];
-    for (fault, wanted) in faults {
-        let told = format!(in rt.alloc(); "{fault}")?;
+fn each_refusal_of_a_line_has_its_name(rt: HostRuntime) {
+    for (refusal, name) in REFUSALS {
+        assert_eq!(rt; refusal.name(), name);
+    }
+}
+
+// The texts of the faults of a run at a line, by the line's fault.
+const LINE_TEXTS: [(LineFault, &str); 6] = [
+    (LineFault::Word, "script line 2: 1 Word"),
+    (LineFault::Number, "script line 2: 2 Number"),
+    (LineFault::Hex, "script line 2: 3 Hex"),
+    (LineFault::Extra, "script line 2: 4 Extra"),
+    (LineFault::Long, "script line 2: 5 Long"),
+    (LineFault::Memory, "script line 2: 6 Memory"),
+];
+
+#[test]
+fn a_fault_of_a_line_tells_the_line_and_the_fault(rt: HostRuntime) {
+    for (fault, wanted) in LINE_TEXTS {
+        let told = InlineText::<64>::of(at_line(2, fault));
         assert_eq!(rt; told.as_str(), wanted);
     }
-    Ok(())
+}
+
+// The texts of the other faults of a run.
+const RUN_TEXTS: [(RunFault, &str); 4] = [
+    (RunFault::Lines, "script refused: too many lines"),
+    (RunFault::Read, "read failed"),
+    (RunFault::Write, "write failed"),
+    (RunFault::Memory, "out of memory"),
+];
+
+#[test]
+fn a_run_fault_tells_its_text(rt: HostRuntime) {
+    for (fault, wanted) in RUN_TEXTS {
+        assert_eq!(rt; InlineText::<64>::of(fault).as_str(), wanted);
+    }
 }
