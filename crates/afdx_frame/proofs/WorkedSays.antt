@@ -1,7 +1,6 @@
 -- The worked fragments, by computation.
 use Rattle.std.proofs.Common.{◌≡◌, ℕ, ◌≤◌, inl, List, [], ◌∷◌, ◌++◌, length, map, get_or, slice_index, refl, ap, arith}
-use Rattle.afdx_plan.specs.Demo.{demo_port}
-use Rattle.afdx_plan.specs.Plan.{IsPort}
+use Rattle.afdx_plan.proofs.DemoPlan.{demo_port_is}
 use Rattle.afdx_frame.specs.declared.net.Net.TheVariants.{A, B}
 use Rattle.afdx_frame.specs.Checksum.{checksum}
 use Rattle.afdx_frame.specs.Cutting.{cutting, piece_at, pieces_left}
@@ -34,19 +33,6 @@ turns_one_frame = record {
   on_a = long_on_a;
   on_b = long_on_b;
   other = λ same. let b = ap (λ (f : List ℕ). slice_index f 11) same in absurd (omega (arith, long_on_a, long_on_b));
-}
-
--- the demonstration port is one
-port_is : IsPort demo_port
-port_is = record {
-  id = omega arith;
-  vl = omega arith;
-  sub = omega arith;
-  partition = omega arith;
-  source = (omega arith, omega arith);
-  destination = (omega arith, omega arith);
-  max = (omega arith, omega arith);
-  unicast = tt;
 }
 
 -- the second piece is one
@@ -108,7 +94,7 @@ none_said says = let t : 21 ≤ 20 = says.frame.internet.total in absurd (omega 
 -- the row of a frame's fields
 pub says_its_fields : SaysItsFields
 says_its_fields = record {
-  port = port_is;
+  port = demo_port_is;
   most = omega arith;
   piece = piece_is;
   says = long_says;
