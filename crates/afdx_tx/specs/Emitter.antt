@@ -11,6 +11,7 @@ use Rattle.redundant_mux.specs.Lines.{Lines, log, is_alive, IsMirrored}
 use Rattle.vl_shaper.specs.Pace.{IsLater}
 use Rattle.subvl_queue.specs.Views.{QueueName, new_receiver}
 use Rattle.vl_link.specs.declared.sub_vl.SubVl.{SubVl}
+use Rattle.status_board.specs.History.{zeros}
 use Rattle.vl_link.specs.Seen.{receiving, queue_of, IsReceiving}
 use Rattle.afdx_legal.specs.Legal.{Accepted, AreKnown}
 use Rattle.vl_link.specs.Links.{Held, LinkState, held_at, link_at, taken_by, HasOwnItems, IsLinkOfPlan, IsSameLink}
@@ -87,6 +88,7 @@ pub record IsFreshLink (own : ℕ) (ports : List PortPlan) (link : LinkPlan)
   }
   pub subs : AreFreshSubs own ports link state.subs link.sub_vls
   pub lost : state.lost ≡ false
+  pub counts : state.counts ≡ zeros
 
 -- each link keeps that
 abbrev pub AreKept : List LinkState → List Entry → Type 0

@@ -4,6 +4,7 @@ pub mod QueueLooks
 pub mod SubInStep
 pub mod SubKept
 pub mod PaceOfStream
+pub mod OneMore
 pub mod ChosenSub
 pub mod TurnLaws
 pub mod LinkTurn
