@@ -2,6 +2,7 @@ pub mod PollTurns
 pub mod ToldReleases
 pub mod LegalLists
 pub mod SoundEmitter
+pub mod Publishing
 pub mod FreshEmitter
 pub mod PortLink
 pub mod OwedFragments

@@ -35,7 +35,7 @@ pub are_after-push : (n : ℕ) (es : List Stamped) (e : Stamped) → AreAfter n 
 are_after-push n [] e all is = (is, tt)
 are_after-push n (x ∷ es) e all is = (all.0, are_after-push n es e all.1 is)
 
-falls_not_same : (a : Counts) → NoFieldFalls a a
+pub falls_not_same : (a : Counts) → NoFieldFalls a a
 falls_not_same a = record {
   frames = le_refl _;
   bytes = le_refl _;
@@ -43,7 +43,7 @@ falls_not_same a = record {
   last = le_refl _;
 }
 
-falls_not_through : (a b c : Counts) → NoFieldFalls a b → NoFieldFalls b c → NoFieldFalls a c
+pub falls_not_through : (a b c : Counts) → NoFieldFalls a b → NoFieldFalls b c → NoFieldFalls a c
 falls_not_through a b c p q = record {
   frames = le_trans p.frames q.frames;
   bytes = le_trans p.bytes q.bytes;
