@@ -25,4 +25,3 @@ pub mod WorkedMoments
 pub mod WorkedNumbers
 pub mod WorkedPieces
 pub mod WorkedLosses
-pub mod WorkedCounts

@@ -17,5 +17,3 @@ pub mod WorkedSkew
 pub mod WorkedReceiving
 pub mod WorkedOrder
 pub mod WorkedLoss
-pub mod Counted
-pub mod WorkedCounts

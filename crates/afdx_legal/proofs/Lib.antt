@@ -1,3 +1,2 @@
 pub mod StreamLemmas
 pub mod LongerStream
-pub mod CountingLemmas

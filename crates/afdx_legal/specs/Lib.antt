@@ -3,4 +3,3 @@ pub mod Legal
 pub mod Allowed
 pub mod Done
 pub mod WorkedMessage
-pub mod Counting

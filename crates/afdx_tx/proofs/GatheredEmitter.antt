@@ -104,7 +104,6 @@ kept_same old rooms new log g own kept =
             behind = behind_same (held_at old.subs b.sub) _ (held_at new.subs b.sub)
                 (sub_stream b.sub (link_stream old.plan.id.0 log)) (g.subs.each b.sub (within b.sub b.within)) b.behind;
           };
-      counted = kept.counted;
     })
 
 -- the links keep what their fields keep

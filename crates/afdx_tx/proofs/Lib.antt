@@ -2,7 +2,6 @@ pub mod PollTurns
 pub mod ToldReleases
 pub mod LegalLists
 pub mod SoundEmitter
-pub mod Publishing
 pub mod FreshEmitter
 pub mod PortLink
 pub mod OwedFragments

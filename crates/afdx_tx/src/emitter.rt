@@ -7,13 +7,12 @@ use crate::report::Report;
 use crate::transmitter::Transmitter;
 use afdx_plan::Config;
 use redundant_mux::Network;
-use status_board::Board;
 use std::marker::Model;
 use std::sync::Wait;
 use vl_link::{Link, LinkRooms};
 
 /// Sends what ports hand over, on two networks. Contracts see its plan, its links, what was handed
-/// to the networks, the moment of the last poll, and what was published.
+/// to the networks, and the moment of the last poll.
 #[derive(Drop)]
 pub struct Emitter<A: Network + Drop, B: Network + Drop> {
     inner: Transmitter<A, B>,
@@ -33,7 +32,7 @@ impl<A: Network + Drop, B: Network + Drop> Model for Emitter<A, B> {
 }
 
 impl<A: Network + Drop, B: Network + Drop> Emitter<A, B> {
-    ghost use Rattle.std.specs.Prelude.{◌≡◌, ◌≤◌, ◌↔◌, ℕ, [], true, false, length, IsErr, OnErr, OnOk, IfOk, IfErr};
+    ghost use Rattle.std.specs.Prelude.{◌≡◌, ◌≤◌, ◌↔◌, [], true, false, length, IsErr, OnErr, OnOk, IfOk, IfErr};
     ghost use Rattle.afdx_plan.specs.Config.{IsPlan};
     ghost use Rattle.redundant_mux.specs.Lines.{BothEndure, is_alive, log, IsMirrored};
     ghost use Rattle.afdx_legal.specs.Legal.{IsLegal};
@@ -42,21 +41,17 @@ impl<A: Network + Drop, B: Network + Drop> Emitter<A, B> {
     ghost use Rattle.afdx_tx.specs.Run.{IsRun, IsCutShort};
     ghost use Rattle.afdx_tx.specs.Report.{Polls};
     ghost use Rattle.afdx_tx.specs.Emitter.{Tx, IsFreshTx, AreFreshLinks, AreTied, taken_in, queues_in};
-    ghost use Rattle.status_board.specs.Views.{published};
-    ghost use Rattle.afdx_tx.specs.Publishing.{Publishes};
     ghost use Rattle.afdx_tx.specs.Ports.{AreOpenedWith, LacksPlace};
     ghost use Rattle.afdx_tx.specs.Rooms.{AreReserved};
     ghost use Rattle.afdx_tx.specs.Gathering.{IsGatheredTx};
 
-    /// Over fresh links of a configuration, networks that were handed nothing, and a board of the
-    /// links on which nothing was published.
+    /// Over fresh links of a configuration, and networks that were handed nothing.
     pub(crate) fn over(
         config: Config,
         links: Vec<Link>,
         rooms: Vec<LinkRooms>,
         a: A,
         b: B,
-        board: Board,
     ) -> Emitter<A, B>
         requires valid { IsPlan config }
         requires fresh { AreFreshLinks config links.items (length config.links) }
@@ -65,14 +60,11 @@ impl<A: Network + Drop, B: Network + Drop> Emitter<A, B> {
         requires b_empty { B.handed b ≡ [] }
         requires a_new { A.failures a ≡ 0 }
         requires b_new { B.failures b ≡ 0 }
-        requires board { length board ≡ length config.links }
-        requires unpublished { (link : ℕ) → (published board link).history ≡ [] }
         ensures fresh { IsFreshTx config result }
         ensures links { result.links ≡ links.items }
-        ensures board { result.board ≡ board }
     {
         Emitter {
-            inner: Transmitter::over(config, links, a, b, board),
+            inner: Transmitter::over(config, links, a, b),
             rooms,
         }
     }
@@ -116,7 +108,6 @@ impl<A: Network + Drop, B: Network + Drop> Emitter<A, B> {
         ensures allowed { AreAllowed self.new.plan (taken_in self.new.links) }
         ensures tied { AreTied self.new.links (log self.new.lines) }
         ensures plan { self.new.plan ≡ self.old.plan }
-        ensures board { self.new.board ≡ self.old.board }
         ensures queues { queues_in self.new.links ≡ queues_in self.old.links }
         ensures mirrored { IsMirrored self.new.lines }
         ensures endure { BothEndure self.old.lines self.new.lines }
@@ -129,15 +120,6 @@ impl<A: Network + Drop, B: Network + Drop> Emitter<A, B> {
             IsCutShort now self.old.links self.new.links self.old.lines self.new.lines) }
     {
         self.inner.poll(rt, now)
-    }
-
-    /// Publishes the counts of each link, once, in the order of the configuration: those of its stream
-    /// in the longer handed list, which were kept as the frames went out. It may wait for a monitor that
-    /// is in the middle of a reading. It takes no memory.
-    pub fn publish<R: Wait>(&mut self, rt: &R)
-        ensures { Publishes self.old self.new }
-    {
-        self.inner.publish(rt);
     }
 
     /// Takes all ports back, in any order, so that what they had accepted is known whole and can be

@@ -4,7 +4,6 @@ ghost use Rattle.afdx_plan.specs.Config.{IsPlan};
 ghost use Rattle.afdx_plan.specs.Plan.{IsLink};
 ghost use Rattle.afdx_tx.specs.Emitter.{IsFreshSub, IsFreshLink, IsFreshTx, AreFreshLinks, ports_of_sub, queues_in};
 ghost use Rattle.afdx_tx.specs.Ports.{ArePortsOf, AreFreshPorts, AreOpenedWith};
-ghost use Rattle.status_board.specs.Views.{links_of, AreNew};
 ghost use Rattle.afdx_tx.specs.Rooms.{IsFreshRoom, AreFreshRooms, AreRooms, AreReserved, fresh_for};
 
 use crate::emitter::Emitter;
@@ -13,7 +12,6 @@ use crate::port::TxPort;
 use crate::routing::{link_of, port_at};
 use afdx_plan::{Config, LinkPlan, PortPlan};
 use redundant_mux::Network;
-use status_board::{Board, Monitor, open_board};
 use std::alloc::{AllocError, Global};
 use subvl_queue::make;
 use vl_link::{Link, LinkRooms, Room, Sub, SubVl};
@@ -137,45 +135,36 @@ struct Parts {
     links: Vec<Link>,
     rooms: Vec<LinkRooms>,
     ports: Vec<TxPort>,
-    board: Board,
-    monitor: Monitor,
 }
 
-/// All that an emitter of a configuration needs, its ports, and the monitor of its links.
+/// All that an emitter of a configuration needs, and its ports.
 fn open_parts(alloc: Global, config: &Config) -> Result<Parts, AllocError>
     ensures fresh { IfOk result
         (λ parts. AreFreshLinks config.now parts.links.items (length config.now.links)) }
     ensures rooms { IfOk result (λ parts. AreReserved config.now parts.rooms.items) }
     ensures ports { IfOk result
         (λ parts. ArePortsOf config.now (queues_in parts.links.items) parts.ports.items) }
-    ensures board { IfOk result (λ parts. length parts.board ≡ length config.now.links) }
-    ensures monitor { IfOk result (λ parts. links_of parts.monitor ≡ length config.now.links) }
-    ensures new { IfOk result (λ parts. AreNew parts.board parts.monitor) }
     ensures valid { IsPlan config.now }
 {
     let (links, mut rooms) = open_links(alloc, config)?;
     let ports = hand_out(alloc, config, &links, &mut rooms)?;
-    let (board, monitor) = open_board(alloc, config.links().len())?;
     Ok(Parts {
         links,
         rooms,
         ports,
-        board,
-        monitor,
     })
 }
 
 /// Opens an emitter for a configuration over two networks that were handed nothing and have not
-/// failed, its ports, in the order of the configuration, and the monitor that reads how far each of
-/// its links has come, by their places in the configuration. It makes all the room that sending,
-/// polling, publishing and gathering take. Nothing is accepted or published yet, both networks stand,
-/// and each port may ask 2^40 times. Where memory is refused, all comes back as it was.
+/// failed, and its ports, in the order of the configuration. It makes all the room that sending,
+/// polling and gathering take. Nothing is accepted yet, both networks stand, and each port may ask
+/// 2^40 times. Where memory is refused, all comes back as it was.
 pub fn open_tx<A: Network + Drop, B: Network + Drop>(
     alloc: Global,
     config: Config,
     a: A,
     b: B,
-) -> Result<(Emitter<A, B>, Vec<TxPort>, Monitor), OpenFault<A, B>>
+) -> Result<(Emitter<A, B>, Vec<TxPort>), OpenFault<A, B>>
     requires a_empty { A.handed a ≡ [] }
     requires b_empty { B.handed b ≡ [] }
     requires a_new { A.failures a ≡ 0 }
@@ -183,9 +172,6 @@ pub fn open_tx<A: Network + Drop, B: Network + Drop>(
     ensures fresh { IfOk result (λ opened. IsFreshTx config opened.0) }
     ensures ports { IfOk result (λ opened. AreFreshPorts opened.0 opened.1.items) }
     ensures opened { IfOk result (λ opened. AreOpenedWith opened.0 opened.1.items) }
-    ensures board { IfOk result (λ opened. length opened.0.board ≡ length config.links) }
-    ensures monitor { IfOk result (λ opened. links_of opened.2 ≡ length config.links) }
-    ensures new { IfOk result (λ opened. AreNew opened.0.board opened.2) }
     ensures config { IfErr result (λ fault. fault.config ≡ config) }
     ensures a { IfErr result (λ fault. fault.a ≡ a) }
     ensures b { IfErr result (λ fault. fault.b ≡ b) }
@@ -196,11 +182,8 @@ pub fn open_tx<A: Network + Drop, B: Network + Drop>(
                 links,
                 rooms,
                 ports,
-                board,
-                monitor,
             } = parts;
-            let emitter = Emitter::over(config, links, rooms, a, b, board);
-            Ok((emitter, ports, monitor))
+            Ok((Emitter::over(config, links, rooms, a, b), ports))
         }
         Err(_) => Err(OpenFault { config, a, b }),
     }

@@ -8,7 +8,6 @@ ghost use Rattle.afdx_tx.specs.Run.{IsRun, IsCutShort};
 ghost use Rattle.afdx_tx.specs.Report.{IsTold, turn_release};
 ghost use Rattle.afdx_tx.specs.Emitter.{plans, AreApart, AreLinks, AreKept, AreWhole, AreServedBy};
 ghost use Rattle.afdx_tx.specs.Serving.{IsSteady};
-ghost use Rattle.afdx_tx.specs.Publishing.{Reaches, PublishesCounts};
 ghost use Rattle.afdx_tx.specs.Done.{TellsAllDone};
 ghost use Rattle.afdx_tx.specs.Gathering.{AreFull, GathersLinks};
 
@@ -18,7 +17,6 @@ use afdx_frame::Frame;
 use afdx_plan::{Config, VlId};
 use arrayvec::ArrayVec;
 use redundant_mux::{Mux, Network};
-use status_board::Board;
 use std::marker::Model;
 use std::sync::Wait;
 use vl_link::{Link, LinkRooms, Served, some_stands};
@@ -96,19 +94,8 @@ fn gather_all<R: Wait>(rt: &R, links: &mut [Link], mut rooms: Vec<LinkRooms>)
     }
 }
 
-/// Publishes the counts of each link on a board.
-fn publish_all<R: Wait>(rt: &R, links: &[Link], board: &mut Board)
-    requires { Reaches links.now board.old }
-    ensures counts { PublishesCounts links.now board.old board.new }
-    ensures reaches { Reaches links.now board.new }
-{
-    for link in 0..links.len() {
-        board.publish(rt, link, links[link].counts());
-    }
-}
-
 /// Sends what is taken from the queues of its sub-VLs, on two networks. Contracts see its plan, its
-/// links, what was handed to the networks, the moment of the last poll, and what was published.
+/// links, what was handed to the networks, and the moment of the last poll.
 #[derive(Drop)]
 pub struct Transmitter<A: Network + Drop, B: Network + Drop> {
     config: Config,
@@ -117,12 +104,10 @@ pub struct Transmitter<A: Network + Drop, B: Network + Drop> {
     // Where each frame is made.
     frame: Frame,
     moment: u64,
-    board: Board,
 }
 
 impl<A: Network + Drop, B: Network + Drop> Model for Transmitter<A, B> {
     ghost use Rattle.afdx_tx.specs.Emitter.{Tx, IsSound};
-    ghost use Rattle.afdx_tx.specs.Publishing.{Reaches};
 
     ghost Value = { Tx };
 
@@ -131,16 +116,13 @@ impl<A: Network + Drop, B: Network + Drop> Model for Transmitter<A, B> {
       links = e.links.items;
       lines = e.mux;
       moment = e.moment;
-      board = e.board;
     } };
 
-    ghost invariant = { λ e. IsSound e.config e.links.items e.mux e.moment
-        × Reaches e.links.items e.board };
+    ghost invariant = { λ e. IsSound e.config e.links.items e.mux e.moment };
 }
 
 impl<A: Network + Drop, B: Network + Drop> Transmitter<A, B> {
-    ghost use Rattle.std.specs.Prelude.{◌≡◌, ◌≤◌, ◌↔◌, ℕ, [], true, false, length, IsTrue, IsErr, OnErr, OnOk, IfOk};
-    ghost use Rattle.status_board.specs.Views.{published};
+    ghost use Rattle.std.specs.Prelude.{◌≡◌, ◌≤◌, ◌↔◌, [], true, false, length, IsTrue, IsErr, OnErr, OnOk, IfOk};
     ghost use Rattle.afdx_plan.specs.Config.{IsPlan};
     ghost use Rattle.redundant_mux.specs.Lines.{BothEndure, is_alive, log, IsMirrored};
     ghost use Rattle.afdx_legal.specs.Legal.{IsLegal};
@@ -148,27 +130,22 @@ impl<A: Network + Drop, B: Network + Drop> Transmitter<A, B> {
     ghost use Rattle.afdx_tx.specs.Run.{IsRun, IsCutShort};
     ghost use Rattle.afdx_tx.specs.Report.{Polls};
     ghost use Rattle.afdx_tx.specs.Emitter.{Tx, IsFreshTx, AreFreshLinks, AreLinksOf, AreTied, HaveOwnItems, IsSamePlan, taken_in};
-    ghost use Rattle.afdx_tx.specs.Publishing.{Publishes};
     ghost use Rattle.afdx_legal.specs.Done.{IsAllDone};
     ghost use Rattle.afdx_tx.specs.Drain.{AreGathered, accepted_in};
     ghost use Rattle.afdx_tx.specs.Emitter.{AreReceiving, queues_in};
     ghost use Rattle.afdx_tx.specs.Rooms.{AreRooms, senders_for};
     ghost use Rattle.afdx_tx.specs.Gathering.{GathersLinks, HasShape};
 
-    /// Over fresh links of a configuration, networks that were handed nothing, and a board of the
-    /// links on which nothing was published.
-    pub fn over(config: Config, links: Vec<Link>, a: A, b: B, board: Board) -> Transmitter<A, B>
+    /// Over fresh links of a configuration, and networks that were handed nothing.
+    pub fn over(config: Config, links: Vec<Link>, a: A, b: B) -> Transmitter<A, B>
         requires valid { IsPlan config }
         requires fresh { AreFreshLinks config links.items (length config.links) }
         requires a_empty { A.handed a ≡ [] }
         requires b_empty { B.handed b ≡ [] }
         requires a_new { A.failures a ≡ 0 }
         requires b_new { B.failures b ≡ 0 }
-        requires board { length board ≡ length config.links }
-        requires unpublished { (link : ℕ) → (published board link).history ≡ [] }
         ensures fresh { IsFreshTx config result }
         ensures links { result.links ≡ links.items }
-        ensures board { result.board ≡ board }
     {
         Transmitter {
             config,
@@ -176,7 +153,6 @@ impl<A: Network + Drop, B: Network + Drop> Transmitter<A, B> {
             mux: Mux::new(a, b),
             frame: Frame::new(),
             moment: 0,
-            board,
         }
     }
 
@@ -219,7 +195,6 @@ impl<A: Network + Drop, B: Network + Drop> Transmitter<A, B> {
             mux,
             frame: _,
             moment: _,
-            board: _,
         } = self;
         mux.into_networks()
     }
@@ -235,7 +210,6 @@ impl<A: Network + Drop, B: Network + Drop> Transmitter<A, B> {
         ensures accepted { AreAllowed self.new.plan (accepted_in self.new.links) }
         ensures tied { AreTied self.new.links (log self.new.lines) }
         ensures plan { self.new.plan ≡ self.old.plan }
-        ensures board { self.new.board ≡ self.old.board }
         ensures same { IsSamePlan self.old.links self.new.links }
         ensures of_plan { AreLinksOf self.old.plan self.old.links }
         ensures mirrored { IsMirrored self.new.lines }
@@ -267,13 +241,6 @@ impl<A: Network + Drop, B: Network + Drop> Transmitter<A, B> {
         })
     }
 
-    /// Publishes the counts of each link, once, in the order of the configuration.
-    pub fn publish<R: Wait>(&mut self, rt: &R)
-        ensures { Publishes self.old self.new }
-    {
-        publish_all(rt, &self.links, &mut self.board);
-    }
-
     /// Gathers the queue of each sub-VL with the senders in its room, which are all that it has.
     pub fn gather<R: Wait>(&mut self, rt: &R, rooms: Vec<LinkRooms>)
         requires receiving { AreReceiving self.old.links }
@@ -282,7 +249,6 @@ impl<A: Network + Drop, B: Network + Drop> Transmitter<A, B> {
         ensures plan { self.new.plan ≡ self.old.plan }
         ensures lines { self.new.lines ≡ self.old.lines }
         ensures moment { self.new.moment ≡ self.old.moment }
-        ensures board { self.new.board ≡ self.old.board }
         ensures links { GathersLinks self.old.links rooms.items self.new.links }
         ensures shape { HasShape self.old.plan self.old.links }
         ensures ports { AreLinksOf self.new.plan self.new.links }

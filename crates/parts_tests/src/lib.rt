@@ -2,10 +2,6 @@
 #![tactic(auto)]
 
 #[cfg(test)]
-mod board;
-#[cfg(test)]
-mod board_threads;
-#[cfg(test)]
 mod frame;
 #[cfg(test)]
 mod mux;

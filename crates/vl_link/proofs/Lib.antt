@@ -4,7 +4,6 @@ pub mod QueueLooks
 pub mod SubInStep
 pub mod SubKept
 pub mod PaceOfStream
-pub mod OneMore
 pub mod ChosenSub
 pub mod TurnLaws
 pub mod LinkTurn

@@ -1,7 +1,6 @@
 //! One turn of a virtual link: its sub-VLs, their queues, and the frame that goes out.
 #![tactic(auto)]
 
-mod count;
 mod link;
 mod queue;
 mod room;

@@ -29,7 +29,6 @@ returns-clause-gathered g c =
       plan = c.gather.ensures.plan;
       lines = c.gather.ensures.lines;
       moment = c.gather.ensures.moment;
-      board = c.gather.ensures.board;
       count = links.count;
       links = λ k lt. link_gathered (link_at tx.links k) (rooms_of c.seat_all.new.rooms k) (link_at new.links k) (links.each k lt);
       own = λ place lt. own_part tx new c.args.ports.items c.seat_all.new.rooms place valid c.gather.ensures.shape links

@@ -5,8 +5,6 @@ use Rattle.vl_link.specs.Links.{LinkState}
 use Rattle.afdx_tx.specs.Emitter.{Tx, IsSound, AreReceiving, queues_in}
 use Rattle.afdx_tx.specs.Rooms.{AreRooms, senders_for}
 use Rattle.afdx_tx.specs.Gathering.{AreFull, GathersLinks, HasShape}
-use Rattle.afdx_tx.specs.Publishing.{Reaches}
-use Rattle.afdx_tx.proofs.Publishing.{reaches_gathered}
 use Rattle.afdx_tx.proofs.SoundEmitter.{sound_legal}
 use Rattle.afdx_tx.proofs.GatheredEmitter.{gathered_sound, shape_of, full_of}
 use Rattle.afdx_tx.proofs.PortMessages.{accepted_allowed}
@@ -20,7 +18,7 @@ gather_all-requires g c =
     let may = subst (λ (t : Tx). AreReceiving t.links) (sym c.self.view_is) c.requires.receiving in
     record {
       full = subst (λ (ls : List LinkState). AreFull ls c.args.rooms.items) (sym c.deref_mut.ensures.value)
-          (full_of c.self.inside.config c.self.inside.links.items c.args.rooms.items c.self.invariant.0.of_plan may full);
+          (full_of c.self.inside.config c.self.inside.links.items c.args.rooms.items c.self.invariant.of_plan may full);
     }
 
 -- the links that the transmitter then has
@@ -41,15 +39,10 @@ sound : (g : Given.Over) (c : goal.After-self-1 g)
 sound g c =
     subst (λ (ls : List LinkState). IsSound c.self.inside.config ls c.self.inside.mux c.self.inside.moment) (sym (links_are g c))
     (gathered_sound c.self.inside.config c.self.inside.links.items c.args.rooms.items c.gather_all.new.links c.self.inside.mux
-    c.self.inside.moment (gathers g c) c.self.invariant.0)
+    c.self.inside.moment (gathers g c) c.self.invariant)
 
 pub invariant_of-self : goal.invariant_of-self
-invariant_of-self g c = (
-  sound g c,
-  subst (λ (ls : List LinkState). Reaches ls c.self.inside.board) (sym (links_are g c))
-      (reaches_gathered c.self.inside.links.items c.args.rooms.items c.gather_all.new.links c.self.inside.board (gathers g c)
-      c.self.invariant.1),
-)
+invariant_of-self g c = sound g c
 
 pub returns-clause-legal : goal.returns-clause-legal
 returns-clause-legal g c =
@@ -59,7 +52,7 @@ returns-clause-legal g c =
 pub returns-clause-shape : goal.returns-clause-shape
 returns-clause-shape g c =
     subst (λ (t : Tx). HasShape t.plan t.links) c.self.view_is
-    (shape_of c.self.inside.config c.self.inside.links.items c.self.invariant.0.of_plan)
+    (shape_of c.self.inside.config c.self.inside.links.items c.self.invariant.of_plan)
 
 pub returns-clause-ports : goal.returns-clause-ports
 returns-clause-ports g c = (sound g c).of_plan
