@@ -8,7 +8,6 @@ use plan_report::{End, Failure, check, read_plan, status_of};
 use std::fs::File;
 use std::io::{self, BufWriter, Write};
 use std::process::ExitCode;
-use std::sync::Wait;
 use tx_script::{RunFault, run_script};
 
 /// Opens a file that a word names.
@@ -19,11 +18,9 @@ fn open(rt: &HostRuntime, path: &str) -> Result<File, Failure> {
     })
 }
 
-/// Does what the words ask for. The configuration is read before the script is opened. The queues of
-/// a script wait by `waits`.
-fn obey<T: Wait, W: Write>(
+/// Does what the words ask for. The configuration is read before the script is opened.
+fn obey<W: Write>(
     rt: &HostRuntime,
-    waits: &T,
     words: Words,
     writer: &mut W,
 ) -> Result<End, Failure> {
@@ -31,12 +28,12 @@ fn obey<T: Wait, W: Write>(
     match words {
         Words::Script => {
             let config = demo_config(alloc).map_err(Failure::Config)?;
-            let ran = run_script(waits, alloc, config, rt.stdin(), writer);
+            let ran = run_script(alloc, config, rt.stdin(), writer);
             ran.map(End::Ran).map_err(Failure::Run)
         }
         Words::Run { config, script } => {
             let config = read_plan(alloc, open(rt, config.as_str())?)?;
-            let ran = run_script(waits, alloc, config, open(rt, script.as_str())?, writer);
+            let ran = run_script(alloc, config, open(rt, script.as_str())?, writer);
             ran.map(End::Ran).map_err(Failure::Run)
         }
         Words::Check { config } => {
@@ -48,10 +45,10 @@ fn obey<T: Wait, W: Write>(
 }
 
 /// Does what the words ask for, and writes what the output still holds.
-fn run<T: Wait>(rt: &HostRuntime, waits: &T, words: Words) -> Result<End, Failure> {
+fn run(rt: &HostRuntime, words: Words) -> Result<End, Failure> {
     let writer = BufWriter::new(rt.alloc(), io::writer(rt));
     let mut writer = writer.map_err(|_| Failure::Run(RunFault::Memory))?;
-    let end = obey(rt, waits, words, &mut writer);
+    let end = obey(rt, words, &mut writer);
     match writer.flush() {
         Ok(()) => end,
         Err(_) => Err(Failure::Run(RunFault::Write)),
@@ -60,7 +57,7 @@ fn run<T: Wait>(rt: &HostRuntime, waits: &T, words: Words) -> Result<End, Failur
 
 fn main(rt: HostRuntime) -> ExitCode {
     let end = match read_words(&rt) {
-        Ok(words) => run(&rt, &rt, words).unwrap_or_else(End::Failed),
+        Ok(words) => run(&rt, words).unwrap_or_else(End::Failed),
         Err(error) => tell_words(&rt, &error),
     };
     if let End::Failed(failure) = &end {

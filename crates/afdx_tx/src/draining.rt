@@ -5,7 +5,6 @@ use crate::transmitter::Transmitter;
 use afdx_plan::Config;
 use redundant_mux::Network;
 use std::marker::Model;
-use std::sync::Wait;
 
 /// Sends what is left in the queues after their ports were gathered, on two networks. What was
 /// accepted doesn't change any more. Contracts see its plan, its links, what was handed to the
@@ -84,7 +83,7 @@ impl<A: Network + Drop, B: Network + Drop> Draining<A, B> {
     /// until the last network fails. A due link with an accepted message that isn't wholly released
     /// releases exactly one frame (ARINC 664 Part 7, bandwidth allocation gap). After `BothDown`
     /// nothing has changed. Its body asks for no memory.
-    pub fn poll<R: Wait>(&mut self, rt: &R, now: u64) -> Result<Report, PollFault>
+    pub fn poll(&mut self, now: u64) -> Result<Report, PollFault>
         requires { self.old.moment ≤ now }
         ensures both_down { IsErr result ↔ (is_alive self.old.lines ≡ false) }
         ensures unchanged { OnErr result (self.new ≡ self.old) }
@@ -104,6 +103,6 @@ impl<A: Network + Drop, B: Network + Drop> Draining<A, B> {
             IsDrainCutShort now self.old.plan (accepted_in self.old.links)
             self.old.lines self.new.lines) }
     {
-        self.inner.poll(rt, now)
+        self.inner.poll(now)
     }
 }

@@ -8,7 +8,6 @@ use crate::transmitter::Transmitter;
 use afdx_plan::Config;
 use redundant_mux::Network;
 use std::marker::Model;
-use std::sync::Wait;
 use vl_link::{Link, LinkRooms};
 
 /// Sends what ports hand over, on two networks. Contracts see its plan, its links, what was handed
@@ -100,7 +99,7 @@ impl<A: Network + Drop, B: Network + Drop> Emitter<A, B> {
     /// until the last network fails. A due link with something to send releases exactly one frame
     /// (ARINC 664 Part 7, bandwidth allocation gap). After `BothDown` nothing has changed. It may
     /// wait for a port that is in the middle of a send. Its body asks for no memory.
-    pub fn poll<R: Wait>(&mut self, rt: &R, now: u64) -> Result<Report, PollFault>
+    pub fn poll(&mut self, now: u64) -> Result<Report, PollFault>
         requires { self.old.moment ≤ now }
         ensures both_down { IsErr result ↔ (is_alive self.old.lines ≡ false) }
         ensures unchanged { OnErr result (self.new ≡ self.old) }
@@ -119,16 +118,15 @@ impl<A: Network + Drop, B: Network + Drop> Emitter<A, B> {
             (is_alive self.new.lines ≡ false →
             IsCutShort now self.old.links self.new.links self.old.lines self.new.lines) }
     {
-        self.inner.poll(rt, now)
+        self.inner.poll(now)
     }
 
     /// Takes all ports back, in any order, so that what they had accepted is known whole and can be
     /// sent to its end. Refused exactly where a port of the configuration isn't in the list; then
     /// both come back as they were. It may wait for a port's last message to be ready. Its
     /// body asks for no memory.
-    pub fn gather<R: Wait>(
+    pub fn gather(
         self,
-        rt: &R,
         ports: Vec<TxPort>,
     ) -> Result<Draining<A, B>, (Emitter<A, B>, Vec<TxPort>)>
         requires opened { AreOpenedWith self ports.items }
@@ -149,7 +147,7 @@ impl<A: Network + Drop, B: Network + Drop> Emitter<A, B> {
             mut rooms,
         } = self;
         seat_all(&inner, &mut rooms, ports);
-        inner.gather(rt, rooms);
+        inner.gather(rooms);
         Ok(Draining::over(inner))
     }
 }

@@ -6,7 +6,6 @@ ghost use Rattle.afdx_tx.specs.Sending.{length_refusal};
 use crate::fault::{Refusal, SendFault};
 use afdx_plan::{PortId, PortPlan};
 use std::marker::Model;
-use std::sync::Wait;
 use subvl_queue::{Refused, Sender, Why};
 
 /// Why a port doesn't take a message of so many bytes, whatever its queue holds.
@@ -109,7 +108,7 @@ impl TxPort {
     /// no bytes, it is over the port's greatest message, or its queue refused it. Where the length
     /// is refused nothing has changed; otherwise only how often the port asked. The call may wait
     /// for a poll that is in the middle of a take. Its body asks for no memory.
-    pub fn send<R: Wait>(&mut self, rt: &R, bytes: Vec<u8>) -> Result<(), SendFault>
+    pub fn send(&mut self, bytes: Vec<u8>) -> Result<(), SendFault>
         ensures accepted { IfOk result (λ _. Accepts self.old bytes.items self.new) }
         ensures sendable { IfOk result (λ _. MaySend self.old.plan (length bytes.items)) }
         ensures open { IfOk result (λ _. self.old.sender.asks < self.old.sender.calls) }
@@ -120,7 +119,7 @@ impl TxPort {
         if let Some(why) = length_refusal(&self.plan, bytes.len()) {
             return Err(SendFault { why, bytes });
         }
-        match self.sender.send(rt, bytes) {
+        match self.sender.send(bytes) {
             Ok(()) => Ok(()),
             Err(refused) => Err(handed_back(refused)),
         }

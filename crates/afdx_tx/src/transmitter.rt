@@ -18,7 +18,6 @@ use afdx_plan::{Config, VlId};
 use arrayvec::ArrayVec;
 use redundant_mux::{Mux, Network};
 use std::marker::Model;
-use std::sync::Wait;
 use vl_link::{Link, LinkRooms, Served, some_stands};
 
 /// Adds what a turn released.
@@ -32,8 +31,7 @@ fn note(released: &mut ArrayVec<Release, 64>, vl: VlId, did: &Served)
 }
 
 /// Gives each link its turn, in order, until the last network fails.
-fn serve_all<R: Wait, A: Network + Drop, B: Network + Drop>(
-    rt: &R,
+fn serve_all<A: Network + Drop, B: Network + Drop>(
     links: &mut [Link],
     frame: &mut Frame,
     mux: &mut Mux<A, B>,
@@ -61,7 +59,7 @@ fn serve_all<R: Wait, A: Network + Drop, B: Network + Drop>(
     for link in links.iter_mut() {
         // Most links aren't due at most polls: that costs a comparison.
         if link.is_due(now) {
-            let did = link.serve(rt, frame, mux, now);
+            let did = link.serve(frame, mux, now);
             note(released, link.id(), &did);
             if did.is_lost() {
                 return;
@@ -84,13 +82,13 @@ fn all_done(links: &[Link]) -> bool
 
 /// Gathers the queue of each sub-VL with the senders in its room, which are all that it has.
 // From the last, since taking from the end of a list needs no memory.
-fn gather_all<R: Wait>(rt: &R, links: &mut [Link], mut rooms: Vec<LinkRooms>)
+fn gather_all(links: &mut [Link], mut rooms: Vec<LinkRooms>)
     requires full { AreFull links.old rooms.items }
     ensures { GathersLinks links.old rooms.items links.new }
 {
     while let Some(own) = rooms.pop() {
         let link = &mut links[rooms.len()];
-        link.gather(rt, own);
+        link.gather(own);
     }
 }
 
@@ -201,7 +199,7 @@ impl<A: Network + Drop, B: Network + Drop> Transmitter<A, B> {
 
     /// Gives each link its turn at a moment, in microseconds, in the order of the configuration,
     /// until the last network fails. After `BothDown` nothing has changed.
-    pub fn poll<R: Wait>(&mut self, rt: &R, now: u64) -> Result<Report, PollFault>
+    pub fn poll(&mut self, now: u64) -> Result<Report, PollFault>
         requires { self.old.moment ≤ now }
         ensures both_down { IsErr result ↔ (is_alive self.old.lines ≡ false) }
         ensures unchanged { OnErr result (self.new ≡ self.old) }
@@ -228,7 +226,6 @@ impl<A: Network + Drop, B: Network + Drop> Transmitter<A, B> {
         self.moment = now;
         let mut released = ArrayVec::new();
         serve_all(
-            rt,
             &mut self.links,
             &mut self.frame,
             &mut self.mux,
@@ -242,7 +239,7 @@ impl<A: Network + Drop, B: Network + Drop> Transmitter<A, B> {
     }
 
     /// Gathers the queue of each sub-VL with the senders in its room, which are all that it has.
-    pub fn gather<R: Wait>(&mut self, rt: &R, rooms: Vec<LinkRooms>)
+    pub fn gather(&mut self, rooms: Vec<LinkRooms>)
         requires receiving { AreReceiving self.old.links }
         requires full { AreRooms self.old.plan rooms.items (length self.old.plan.ports)
             (senders_for (queues_in self.old.links)) }
@@ -256,6 +253,6 @@ impl<A: Network + Drop, B: Network + Drop> Transmitter<A, B> {
         ensures legal { IsLegal self.new.plan (taken_in self.new.links) self.new.lines.a self.new.lines.b }
         ensures accepted { AreAllowed self.new.plan (accepted_in self.new.links) }
     {
-        gather_all(rt, &mut self.links, rooms);
+        gather_all(&mut self.links, rooms);
     }
 }

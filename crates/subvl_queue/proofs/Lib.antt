@@ -1,9 +1,9 @@
+pub mod Totals
+pub mod Cells
+pub mod Owned
+pub mod Moves
+pub mod Seats
+pub mod Bytes
+pub mod Senders
+pub mod Options
 pub mod Parts
-pub mod Passes
-pub mod Sending
-pub mod Counting
-pub mod Receiving
-pub mod Seating
-pub mod Whole
-pub mod Ends
-pub mod Together

@@ -1,5 +1,8 @@
 pub mod Messages
-pub mod Rule
+pub mod Queue
+pub mod Start
+pub mod Steps
+pub mod Sends
+pub mod Bytes
 pub mod Views
-pub mod Names
-pub mod Kept
+pub mod Gathers

@@ -1,34 +1,41 @@
 -- What contracts see of the ends of a queue. A message stands with its sender's index, as a pair of the index and the bytes.
-use Rattle.std.specs.Prelude.{◌≡◌, ℕ, ◌+◌, ◌<◌, ◌≤◌, Bool, true, false, List, [], ◌∷◌, ◌++◌, length, slice_index_or}
+use Rattle.std.specs.Prelude.{◌≡◌, ℕ, ◌+◌, ◌==◌, ◌<◌, ◌≤◌, if◌then◌else◌, Bool, true, false, ◌⊎◌, List, [], ◌∷◌, ◌++◌, length, slice_index_or, Option, Some, None}
 use Rattle.atomic_table.specs.Seated.{TableId}
-use Rattle.atomic_table.specs.declared.badge.Badge.{Badge}
-use Rattle.crossbeam_channel.specs.declared.flavors.array.Key.{Key}
-use Rattle.crossbeam_channel.specs.Fifo.{Held}
+use Rattle.subvl_queue.specs.declared.item.Message.{Message}
 use Rattle.subvl_queue.specs.declared.refused.Why.{Why}
 use Rattle.subvl_queue.specs.declared.refused.Why.TheVariants.{Closed, Exhausted, Full}
+use Rattle.subvl_queue.specs.declared.view.View.{View}
 use Rattle.subvl_queue.specs.Messages.{IsMessage, part_of}
-use Rattle.subvl_queue.specs.Rule.{EndsWith}
+use Rattle.subvl_queue.specs.Bytes.{sent_by}
+use Rattle.subvl_queue.specs.Steps.{Reached}
 
 -- which queue an end belongs to; callers only compare names
 abbrev pub QueueName : Type 0
-QueueName = TableId × Badge (Key (ℕ × List ℕ))
+QueueName = TableId
 
--- a sender: its own messages that were accepted, in order, and how often it asked, of `calls`
+-- A sender: how often it asked, of `calls`, and whether the last ask found no room; how often it glanced, and whether it
+-- last found the queue closed; its own messages that were accepted, in order, and their places among all that were.
 pub record SenderView : Type 0 where
   pub queue : QueueName
   pub capacity : ℕ
   pub port : ℕ
   pub calls : ℕ
   pub asks : ℕ
+  pub full : Bool
+  pub glances : ℕ
+  pub shut : Bool
   pub own : List (List ℕ)
+  pub places : List ℕ
 
--- a receiver: how often it looked, and what it took, in order
+-- a receiver: how often it looked, whether the last look found a message, what it took, in order, and the total of its close
 pub record ReceiverView : Type 0 where
   pub queue : QueueName
   pub capacity : ℕ
   pub ports : ℕ
   pub looks : ℕ
+  pub found : Bool
   pub taken : List (ℕ × List ℕ)
+  pub total : Option ℕ
 
 -- all ends in one hand: what was taken, and what was accepted and not taken yet
 pub record GatheredView : Type 0 where
@@ -44,7 +51,11 @@ new_sender queue capacity calls port = record {
   port = port;
   calls = calls;
   asks = 0;
+  full = false;
+  glances = 0;
+  shut = false;
   own = [];
+  places = [];
 }
 
 -- a receiver that did not look yet
@@ -54,34 +65,62 @@ new_receiver queue capacity ports = record {
   capacity = capacity;
   ports = ports;
   looks = 0;
+  found = false;
   taken = [];
+  total = None;
 }
 
--- after an ask that was refused
-abbrev pub asked : SenderView → SenderView
-asked s = record s { asks = s.asks + 1 }
+-- after a glance, which found the queue closed or not
+abbrev pub glanced : SenderView → Bool → SenderView
+glanced s shut = record s { glances = s.glances + 1; shut = shut }
 
--- after a message was accepted
-abbrev pub sent : SenderView → List ℕ → SenderView
-sent s bytes = record s { asks = s.asks + 1; own = s.own ++ bytes ∷ [] }
+-- after an ask, which found no room or some
+abbrev pub asked : SenderView → Bool → SenderView
+asked s full = record s { asks = s.asks + 1; full = full }
 
--- at one moment of the call the queue held as many messages as its capacity, and this sender's were the last that it sent
-abbrev pub WasFull : SenderView → Type 0
-WasFull s = Held s.capacity (λ items. EndsWith s.own (part_of s.port items))
+-- after a message was accepted at this place
+abbrev pub sent : SenderView → ℕ → List ℕ → SenderView
+sent s place bytes = record s {
+  asks = s.asks + 1;
+  full = false;
+  glances = s.glances + 1;
+  shut = false;
+  own = s.own ++ bytes ∷ [];
+  places = s.places ++ place ∷ [];
+}
 
--- why a message was refused, and what that leaves of the sender
+-- the message was accepted, at the place that was drawn for it
+abbrev pub IsSent : SenderView → List ℕ → SenderView → Type 0
+IsSent s bytes t = (s.asks < s.calls) × ((place : ℕ) × (t ≡ sent s place bytes))
+
+-- After this sender's glance there was a moment of the queue at which the messages that it held and the asks that were
+-- under way were as many as its capacity.
+pub record WasFull (s : SenderView) : Type 0 where
+  pub moment : View Message
+  pub port : moment.port ≡ s.port
+  pub asks : moment.asks ≡ s.asks
+  pub glances : moment.glances ≡ s.glances + 1
+  pub own : sent_by moment.own ≡ s.own
+  pub reached : Reached s.capacity moment
+
+-- Why a message was refused, and what that leaves of the sender. It is closed where the glance found it closed, or where the
+-- place that was drawn came too late.
 abbrev pub IsRefused : SenderView → Why → SenderView → Type 0
-IsRefused s Closed t = (s.asks < s.calls) × (t ≡ asked s)
-IsRefused s Exhausted t = (s.asks ≡ s.calls) × (t ≡ s)
-IsRefused s Full t = (s.asks < s.calls) × (t ≡ asked s) × WasFull s
+IsRefused s Closed t = (t ≡ glanced s true) ⊎ ((s.asks < s.calls) × (t ≡ asked (glanced s true) false))
+IsRefused s Exhausted t = (s.asks ≡ s.calls) × (t ≡ glanced s false)
+IsRefused s Full t = (s.asks < s.calls) × (t ≡ asked (glanced s false) true)
 
 -- after a look that gave a message
 abbrev pub after_take : ReceiverView → ℕ × List ℕ → ReceiverView
-after_take r item = record r { looks = r.looks + 1; taken = r.taken ++ item ∷ [] }
+after_take r item = record r { looks = r.looks + 1; found = true; taken = r.taken ++ item ∷ [] }
 
 -- after a look that found nothing ready
 abbrev pub looked : ReceiverView → ReceiverView
-looked r = record r { looks = r.looks + 1 }
+looked r = record r { looks = r.looks + 1; found = false }
+
+-- after the first close
+abbrev pub closed : ReceiverView → ℕ → ReceiverView
+closed r total = record r { total = Some total }
 
 -- all messages that were accepted, in the order in which they are taken
 abbrev pub accepted_of : GatheredView → List (ℕ × List ℕ)
@@ -107,11 +146,19 @@ LacksOne ports senders = (p : ℕ) × (p < ports) × (HasPort senders p → ⊥)
 abbrev pub AreOf : QueueName → List SenderView → Type 0
 AreOf queue senders = (k : ℕ) (d : SenderView) → k < length senders → (slice_index_or senders k d).queue ≡ queue
 
--- the accepted messages: each sender's part of them is its own list, and there is nothing else among them
+-- the places of the messages of one sender, in a list whose first place is n
+abbrev pub places_from : (n port : ℕ) → List (ℕ × List ℕ) → List ℕ
+places_from n port [] = []
+places_from n port (item ∷ items) =
+    if item.0 == port then n ∷ places_from (n + 1) port items else places_from (n + 1) port items
+
+-- The accepted messages: each sender's part of them is its own list, at its places, and there is nothing else among them.
 pub record IsWhole (ports : ℕ) (senders : List SenderView) (accepted : List (ℕ × List ℕ)) : Type 0 where
   pub every : HasEvery ports senders
   pub parts : (k : ℕ) (d : SenderView) → k < length senders →
       part_of (slice_index_or senders k d).port accepted ≡ (slice_index_or senders k d).own
+  pub places : (k : ℕ) (d : SenderView) → k < length senders →
+      places_from 0 (slice_index_or senders k d).port accepted ≡ (slice_index_or senders k d).places
   pub no_more : (p : ℕ) → ports ≤ p → part_of p accepted ≡ []
 
 -- whether nothing is left; what is left begins with a message

@@ -1,52 +1,67 @@
 //! All ends of a queue in one hand.
-ghost use Rattle.std.specs.Prelude.{◌≡◌, ◌^◌, ◌<◌, ◌≤◌, [], ◌∷◌, ◌++◌, length, IfSome, IfNone};
-ghost use Rattle.crossbeam_channel.specs.Claims.{view};
-ghost use Rattle.subvl_queue.specs.Kept.{IsGathered};
-ghost use Rattle.subvl_queue.specs.Messages.{IsMessage, before};
+ghost use Rattle.std.specs.Prelude.{◌≡◌, ◌^◌, ◌<◌, ◌≤◌, [], ◌∷◌, ◌++◌, take, drop, length, Some, IfSome, IfNone};
+ghost use Rattle.subvl_queue.specs.declared.view.Role.TheVariants.{Receiver as AsReceiver};
+ghost use Rattle.subvl_queue.specs.Messages.{IsMessage};
+ghost use Rattle.subvl_queue.specs.Queue.{RestsAs};
+ghost use Rattle.subvl_queue.specs.Bytes.{items_of};
+ghost use Rattle.subvl_queue.specs.Gathers.{IsGathered, whole};
 ghost use Rattle.subvl_queue.specs.Views.{TellsLeft};
 
 use crate::item::Item;
-use crate::rule::Knowing;
-use std::collections::VecDeque;
+use crate::receiver::fetch;
+use crate::ring::{Knowing, Ring};
 use std::marker::Model;
+use std::sync::Arc;
 
 /// All ends of a queue, so that its accepted messages are known whole. Contracts see how many
 /// senders the queue has, what was taken, and what was accepted and not taken yet.
 #[derive(Drop)]
 pub struct Gathered {
-    pass: Knowing,
-    left: VecDeque<Item>,
+    ring: Arc<Ring>,
+    seat: Knowing,
+    taken: u64,
+    total: u64,
 }
 
 impl Model for Gathered {
-    ghost use Rattle.crossbeam_channel.specs.Claims as claims;
-    ghost use Rattle.subvl_queue.specs.Kept.{IsGathered};
-    ghost use Rattle.subvl_queue.specs.Messages.{before};
+    ghost use Rattle.std.specs.Prelude.{drop};
+    ghost use Rattle.subvl_queue.specs.declared.view.Role.TheVariants.{Receiver as AsReceiver};
+    ghost use Rattle.subvl_queue.specs.Queue.{RestsAs};
+    ghost use Rattle.subvl_queue.specs.Bytes.{items_of};
+    ghost use Rattle.subvl_queue.specs.Gathers.{IsGathered, whole};
     ghost use Rattle.subvl_queue.specs.Views.{GatheredView};
 
     ghost Value = { GatheredView };
 
     ghost view = { λ g. record {
-      ports = (claims.view g.pass).made;
-      taken = before (claims.view g.pass).got g.left.items;
-      left = g.left.items;
+      ports = g.seat.me.0.made;
+      taken = items_of g.seat.me.0.taken;
+      left = items_of (drop g.taken (whole g.seat.me.0));
     } };
 
-    ghost invariant = { λ g. IsGathered g.left.items (claims.view g.pass) };
+    ghost invariant = { λ g. RestsAs g.ring.value.table.shared.table_id AsReceiver g.seat
+        × IsGathered g.taken g.total g.seat.me.0 };
 }
 
 impl Gathered {
-    // What was got, and the end of it that is left.
-    pub(crate) fn new(pass: Knowing, left: VecDeque<Item>) -> Gathered
-        requires { IsGathered left.items (view pass) }
-        ensures ports { result.ports ≡ (view pass).made }
-        ensures taken { result.taken ≡ before (view pass).got left.items }
-        ensures left { result.left ≡ left.items }
+    // What was taken, and the list that it begins.
+    pub(crate) fn new(ring: Arc<Ring>, seat: Knowing, taken: u64, total: u64) -> Gathered
+        requires seat { RestsAs ring.value.table.shared.table_id AsReceiver seat }
+        requires knows { IsGathered taken total seat.me.0 }
+        ensures ports { result.ports ≡ seat.me.0.made }
+        ensures taken { result.taken ≡ items_of seat.me.0.taken }
+        ensures left { result.left ≡ items_of (drop taken (whole seat.me.0)) }
     {
-        Gathered { pass, left }
+        Gathered {
+            ring,
+            seat,
+            taken,
+            total,
+        }
     }
 
     /// Takes the next accepted message, and none exactly where all were taken.
+    #[inline(always)]
     pub fn take(&mut self) -> Option<Item>
         ensures none { IfNone result (self.old.left ≡ []) }
         ensures unchanged { IfNone result (self.new ≡ self.old) }
@@ -57,14 +72,17 @@ impl Gathered {
         ensures message { IfSome result (λ item. IsMessage item.1) }
         ensures few { length self.new.taken ≤ 2 ^ 46 }
     {
-        let item = self.left.pop_front()?;
-        Some(item)
+        let (port, message) = fetch(&self.ring, &mut self.seat, &mut self.taken)?;
+        Some(Item {
+            port,
+            bytes: message.bytes,
+        })
     }
 
     /// Whether all accepted messages were taken.
     pub fn is_drained(&self) -> bool
         ensures { TellsLeft result self.now.left }
     {
-        self.left.is_empty()
+        self.taken == self.total
     }
 }

@@ -1,4 +1,6 @@
 //! What goes through a queue.
+ghost use Rattle.subvl_queue.specs.Messages.{IsMessage};
+
 use std::marker::Model;
 
 /// A message of 1 to 8,192 bytes, and the index of its sender. Contracts see the two as a pair.
@@ -14,4 +16,11 @@ impl Model for Item {
     ghost Value = { ℕ × List ℕ };
 
     ghost view = { λ i. (i.port, i.bytes.items) };
+}
+
+/// The bytes of a message, as a slot holds them.
+#[derive(Drop)]
+pub struct Message {
+    pub bytes: Vec<u8>,
+    ghost sound: { IsMessage bytes.items },
 }

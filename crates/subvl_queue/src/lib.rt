@@ -1,4 +1,5 @@
-//! The queue of one sub-VL: senders that may go to threads of their own, and one receiver.
+//! The queue of one sub-VL: senders that may go to threads of their own, and one receiver. It has no
+//! lock, and no call on it waits.
 #![tactic(auto)]
 
 mod gathered;
@@ -7,8 +8,10 @@ mod item;
 mod making;
 mod receiver;
 mod refused;
+mod ring;
 mod rule;
 mod sender;
+mod view;
 
 pub use gathered::Gathered;
 pub use item::Item;

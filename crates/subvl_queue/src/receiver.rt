@@ -1,115 +1,142 @@
 //! The receiving end of a queue.
-ghost use Rattle.std.specs.Prelude.{◌≡◌, ◌^◌, ◌<◌, ◌≤◌, [], length, IfOk, IfErr, IfSome, IfNone};
-ghost use Rattle.std.specs.VecDeque.{deque_capacity};
-ghost use Rattle.crossbeam_channel.specs.Claims.{view, IsSeatAt};
-ghost use Rattle.crossbeam_channel.specs.Ends.{sends_on, receives_on, ruled_capacity};
+ghost use Rattle.std.specs.Prelude.{◌≡◌, ◌+◌, ◌^◌, ◌<◌, ◌≤◌, [], length, IfOk, IfErr, IfSome, IfNone, None, Some, false};
+ghost use mathlib.Core.Option.{some};
+ghost use lib.ListN.{get_elem?};
+ghost use Rattle.subvl_queue.specs.declared.view.Role.TheVariants.{Receiver as AsReceiver};
 ghost use Rattle.subvl_queue.specs.Messages.{IsMessage, AreItems};
-ghost use Rattle.subvl_queue.specs.Rule.{receiver};
-ghost use Rattle.subvl_queue.specs.Names.{name_of};
-ghost use Rattle.subvl_queue.specs.Views.{new_receiver, after_take, looked, accepted_of, LacksOne, AreOf, IsWhole};
+ghost use Rattle.subvl_queue.specs.Queue.{IsOn, RestsAs};
+ghost use Rattle.subvl_queue.specs.Start.{made_view};
+ghost use Rattle.subvl_queue.specs.Steps.{Finds, looked as looked_at, freed_of, holding, IfWhole};
+ghost use Rattle.subvl_queue.specs.Views.{new_receiver, after_take, looked, closed, accepted_of, LacksOne, AreOf, IsWhole};
 
 use crate::gathered::Gathered;
-use crate::gathering::{drain, has_every, join_all};
+use crate::gathering::{has_every, take_in_all};
 use crate::item::Item;
-use crate::rule::{Knowing, Looks, ReceivingEnd, SendingEnd, Taken};
+use crate::ring::{Knowing, Parcel, Ring};
 use crate::sender::Sender;
-use std::collections::VecDeque;
 use std::marker::Model;
-use std::sync::Wait;
+use std::sync::Arc;
+
+/// The steps of one take.
+pub fn fetch(ring: &Ring, seat: &mut Knowing, taken: &mut u64) -> Option<Parcel>
+    requires seat { RestsAs ring.now.table.shared.table_id AsReceiver seat.old }
+    requires taken { (taken.old ≡ length seat.old.me.0.taken) × (taken.old ≤ 2 ^ 46) }
+    ensures seat { IsOn ring.now.table.shared.table_id seat.new × (seat.new.me.1 ≡ []) }
+    ensures some { IfSome result
+        (λ x. seat.new.me.0 ≡ freed_of (holding seat.old.me.0 taken.old x) x) }
+    ensures few { IfSome result (λ _. (taken.old < 2 ^ 46) × (taken.new ≡ taken.old + 1)) }
+    ensures port { IfSome result (λ x. x.0 < seat.old.me.0.made) }
+    ensures below { IfSome result (λ _. IfSome seat.old.me.0.total (λ t. taken.old < t)) }
+    ensures listed { IfSome result (λ x. IfWhole seat.old.me.0.all
+        (λ l. (taken.old < length l) × (get_elem? l taken.old ≡ some x))) }
+    ensures none { IfNone result (seat.new.me.0 ≡ looked_at seat.old.me.0 false) }
+    ensures unchanged { IfNone result (taken.new ≡ taken.old) }
+    ensures ended { IfNone result (IfWhole seat.old.me.0.all (λ l. length l ≤ taken.old)) }
+{
+    let place = *taken;
+    if !ring.look(seat, place) {
+        return None;
+    }
+    let parcel = ring.free(seat, place);
+    *taken += 1;
+    Some(parcel)
+}
 
 /// The receiver of a queue. Contracts see its queue and the queue's capacity, how many senders the
-/// queue has, how often it looked, and what it took.
-// It keeps a sending end too, by which its pass is split and takes others in, and room for all
-// messages that the channel can hold.
+/// queue has, how often it looked, what it last found and what it took, and the total of its close.
 #[derive(Drop)]
 pub struct Receiver {
-    tx: SendingEnd,
-    rx: ReceivingEnd,
-    pass: Knowing,
+    ring: Arc<Ring>,
+    seat: Knowing,
     ports: usize,
-    room: VecDeque<Item>,
+    taken: u64,
+    total: Option<u64>,
 }
 
 impl Model for Receiver {
-    ghost use Rattle.std.specs.Prelude.{◌≡◌};
-    ghost use Rattle.std.specs.VecDeque.{deque_capacity};
+    ghost use Rattle.std.specs.Prelude.{◌≡◌, ◌^◌, ◌≤◌, [], length, None, IfSome};
+    ghost use Rattle.subvl_queue.specs.declared.view.Role.TheVariants.{Receiver as AsReceiver};
+    ghost use Rattle.subvl_queue.specs.Queue.{RestsAs};
+    ghost use Rattle.subvl_queue.specs.Bytes.{items_of};
     ghost use Rattle.subvl_queue.specs.Views.{ReceiverView};
-    ghost use Rattle.crossbeam_channel.specs.Claims as claims;
-    ghost use Rattle.crossbeam_channel.specs.Ends.{sends_on, receives_on, ruled_capacity};
-    ghost use Rattle.subvl_queue.specs.Kept.{IsReceiver};
 
     ghost Value = { ReceiverView };
 
     ghost view = { λ r. record {
-      queue = (r.pass.table_id, r.pass.me.0.of);
-      capacity = ruled_capacity (sends_on r.tx);
+      queue = r.seat.table_id;
+      capacity = r.ring.value.capacity;
       ports = r.ports;
-      looks = (claims.view r.pass).looks;
-      taken = (claims.view r.pass).got;
+      looks = r.seat.me.0.looks;
+      found = r.seat.me.0.found;
+      taken = items_of r.seat.me.0.taken;
+      total = r.total;
     } };
 
-    ghost invariant = { λ r. claims.IsSeatAt (sends_on r.tx) r.pass × (receives_on r.rx ≡ sends_on r.tx)
-        × IsReceiver (ruled_capacity (sends_on r.tx)) r.ports (deque_capacity r.room) r.room.items (claims.view r.pass) };
+    ghost invariant = { λ r. RestsAs r.ring.value.table.shared.table_id AsReceiver r.seat
+        × (r.seat.me.0.made ≡ r.ports) × (r.ports ≤ 64) × (r.taken ≡ length r.seat.me.0.taken) × (r.taken ≤ 2 ^ 46)
+        × (r.seat.me.0.total ≡ r.total) × IfSome r.total (λ t. r.taken ≤ t)
+        × (r.seat.me.0.joined ≡ []) × (r.seat.me.0.all ≡ None) };
 }
 
 impl Receiver {
     // A receiver that did not look yet.
-    pub(crate) fn new(
-        tx: SendingEnd,
-        rx: ReceivingEnd,
-        pass: Knowing,
-        ports: usize,
-        room: VecDeque<Item>,
-    ) -> Receiver
-        requires seat { IsSeatAt (sends_on tx) pass }
-        requires ends { receives_on rx ≡ sends_on tx }
-        requires knows { view pass ≡ receiver (ruled_capacity (sends_on tx)) ports [] [] 0 }
+    pub(crate) fn new(ring: Arc<Ring>, seat: Knowing, ports: usize) -> Receiver
+        requires seat { IsOn ring.value.table.shared.table_id seat }
+        requires fresh { seat.me ≡ (made_view ports, []) }
         requires ports { ports ≤ 64 }
-        requires empty { room.items ≡ [] }
-        requires room { ruled_capacity (sends_on tx) ≤ deque_capacity room }
-        ensures { result ≡ new_receiver (name_of pass) (ruled_capacity (sends_on tx)) ports }
+        ensures { result ≡ new_receiver seat.table_id ring.value.capacity ports }
     {
         Receiver {
-            tx,
-            rx,
-            pass,
+            ring,
+            seat,
             ports,
-            room,
+            taken: 0,
+            total: None,
         }
     }
 
-    /// Takes the next message, where one is ready. Either way it has looked once more. The call may
-    /// wait for a sender that is in the middle of a send.
+    /// Takes the message of the next place, where it is ready. Either way it has looked once more.
     #[inline(always)]
-    pub fn take<R: Wait>(&mut self, rt: &R) -> Option<Item>
+    pub fn take(&mut self) -> Option<Item>
         ensures none { IfNone result (self.new ≡ looked self.old) }
         ensures some { IfSome result (λ item. self.new ≡ after_take self.old item) }
         ensures port { IfSome result (λ item. item.0 < self.old.ports) }
         ensures message { IfSome result (λ item. IsMessage item.1) }
         ensures few { length self.new.taken ≤ 2 ^ 46 }
+        ensures within { IfSome self.old.total (λ t. length self.new.taken ≤ t) }
     {
-        match self.rx.try_recv_as::<Taken, R>(rt, &mut self.pass) {
-            Ok(item) => Some(item),
-            Err(_) => {
-                self.tx.another::<Looks>(&mut self.pass);
-                None
-            }
+        let (port, message) = fetch(&self.ring, &mut self.seat, &mut self.taken)?;
+        Some(Item {
+            port,
+            bytes: message.bytes,
+        })
+    }
+
+    /// Closes the queue, and says how many messages were accepted. No message is accepted from then
+    /// on, and each later close says the same.
+    pub fn close(&mut self) -> u64
+        ensures first { self.old.total ≡ None → self.new ≡ closed self.old result }
+        ensures again { self.old.total ≡ None → length self.old.taken ≤ result }
+        ensures total { IfSome self.old.total (λ t. result ≡ t) }
+        ensures unchanged { IfSome self.old.total (λ _. self.new ≡ self.old) }
+    {
+        if let Some(total) = self.total {
+            return total;
         }
+        let total = self.ring.close(&mut self.seat);
+        self.total = Some(total);
+        total
     }
 
     /// Takes all ends of the queue together, in any order of the senders, or hands both back as
-    /// they were where a sender is missing. From then on the accepted messages are known whole, and
-    /// no call on them waits. This one may wait for a sender's last send to be ready.
-    pub fn gather<R: Wait>(
-        self,
-        rt: &R,
-        senders: Vec<Sender>,
-    ) -> Result<Gathered, (Receiver, Vec<Sender>)>
+    /// they were where a sender is missing. From then on the accepted messages are known whole.
+    pub fn gather(self, senders: Vec<Sender>) -> Result<Gathered, (Receiver, Vec<Sender>)>
         requires together { AreOf self.queue senders.items }
         ensures taken { IfOk result (λ g. g.taken ≡ self.taken) }
         ensures ports { IfOk result (λ g. g.ports ≡ self.ports) }
         ensures whole { IfOk result (λ g. IsWhole self.ports senders.items (accepted_of g)) }
         ensures items { IfOk result (λ g. AreItems self.ports (accepted_of g)) }
+        ensures total { IfOk result (λ g. IfSome self.total (λ t. t ≡ length (accepted_of g))) }
         ensures few { IfOk result (λ g. length (accepted_of g) ≤ 2 ^ 46) }
         ensures within { IfOk result (λ g. length g.left ≤ self.capacity) }
         ensures receiver_back { IfErr result (λ back. back.0 ≡ self) }
@@ -120,14 +147,18 @@ impl Receiver {
             return Err((self, senders));
         }
         let Receiver {
-            tx,
-            rx,
-            mut pass,
+            ring,
+            mut seat,
             ports: _,
-            mut room,
+            taken,
+            total,
         } = self;
-        join_all(&tx, &mut pass, senders);
-        drain(rt, &tx, &rx, &mut pass, &mut room);
-        Ok(Gathered::new(pass, room))
+        take_in_all(&ring, &mut seat, senders);
+        let drawn = ring.gather(&mut seat);
+        let total = match total {
+            Some(total) => total,
+            None => drawn,
+        };
+        Ok(Gathered::new(ring, seat, taken, total))
     }
 }

@@ -1,16 +1,16 @@
 //! Why a queue did not take a message.
 use thiserror::Error;
 
-/// Why a queue did not take a message, the first of Exhausted, Closed and Full that was found.
+/// Why a queue did not take a message, the first of Closed, Exhausted and Full that was found.
 #[derive(Clone, Copy, Debug, PartialEq, Eq, Error)]
 pub enum Why {
-    /// The receiver is gone. The sender has asked once more.
+    /// The queue is closed. The sender has asked once more where it was closed after its glance.
     #[error("Closed")]
     Closed = 1,
-    /// The sender has asked as often as it may. It is as it was.
+    /// The queue was open, and the sender has asked as often as it may.
     #[error("Exhausted")]
     Exhausted = 2,
-    /// The queue held as many messages as its capacity. The sender has asked once more.
+    /// The queue was open, and had no room. The sender has asked once more.
     #[error("Full")]
     Full = 3,
 }

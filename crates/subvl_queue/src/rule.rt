@@ -1,140 +1,105 @@
-//! The rule of the channel: what was received and then what is held, filtered by port, is what each
-//! sender has sent.
-ghost use Rattle.std.specs.Prelude.{ℕ};
+//! The rule, and what each step tells. These types are for the proofs alone.
+ghost use Rattle.std.specs.Prelude.{Option, None, length};
+ghost use Rattle.subvl_queue.specs.Steps.{asks, gives_back, draws, readies, looks, frees, glances_at, closes, gathers, one_made, with_joined};
 
-use crate::item::Item;
-use crossbeam_channel::protocol::{Join, Lesson, Outcome, Protocol, Split};
-use crossbeam_channel::{Pass, RuledReceiver, RuledSender};
-use std::alloc::Global;
-use std::collections::LinkedList;
+use crate::view::View;
+use atomic_table::{Join, Play, Split, TableRule};
 use std::marker::{Brand, PhantomData};
 
-/// What an end of the channel knows.
-pub type Knowing = Pass<Item, View>;
+pub struct Rule;
 
-/// The sending end of the channel.
-pub type SendingEnd = RuledSender<Item, View, Fair, Global>;
+impl<T> TableRule<Option<(u8, T)>, View<T>, ()> for Rule {
+    ghost use Rattle.subvl_queue.specs.Queue.{Queue};
+    ghost use Rattle.subvl_queue.specs.Start.{first_view};
 
-/// The receiving end of the channel.
-pub type ReceivingEnd = RuledReceiver<Item, View, Fair, Global>;
+    ghost holds = { λ _. Queue };
 
-/// What a pass knows. No value of it is made.
-// `own` is what this sender has sent. `made` is the number of senders so far, `got` what was
-// received, `joined` the lists of the senders that came back, and `looks` how often the receiver
-// has looked.
-pub struct View {
-    pub sends: bool,
-    pub gets: bool,
-    pub capacity: u64,
-    pub port: u64,
-    pub own: LinkedList<LinkedList<u8>>,
-    pub made: u64,
-    pub got: LinkedList<Item>,
-    pub joined: LinkedList<(u64, LinkedList<LinkedList<u8>>)>,
-    pub looks: u64,
+    ghost first = { λ _. first_view };
 }
 
-/// The rule.
-pub struct Fair;
-
-impl Protocol<Item, View> for Fair {
-    ghost use Rattle.std.specs.Prelude.{[]};
-    ghost use Rattle.subvl_queue.specs.Rule.{Delivers, receiver};
-
-    ghost holds = { Delivers };
-
-    ghost first = { receiver 0 0 [] [] 0 };
+// What a send will write, for the proof alone.
+pub(crate) trait Said<X> {
+    ghost item: { Option X };
 }
 
-/// The capacity of a channel, for the proof alone.
-pub trait Bound {
-    ghost bound: { ℕ };
+impl<X> Said<X> for Brand {
+    ghost item = { None };
 }
 
-impl Bound for Brand {
-    ghost bound = { 0 };
+pub(crate) struct Ask;
+
+impl<T> Play<Option<(u8, T)>, View<T>> for Ask {
+    ghost then = { asks };
 }
 
-/// Before the first sender is made, the receiver learns the capacity.
-pub struct Measures<J> {
-    bound: PhantomData<J>,
+pub(crate) struct GiveBack;
+
+impl<T> Play<Option<(u8, T)>, View<T>> for GiveBack {
+    ghost then = { gives_back };
 }
 
-impl<J: Bound> Split<View> for Measures<J> {
-    ghost use Rattle.std.specs.Prelude.{[]};
-    ghost use Rattle.subvl_queue.specs.Rule.{receiver, nobody};
-
-    ghost left = { λ v. receiver J.bound 0 [] [] 0 };
-
-    ghost right = { λ v. nobody };
+pub(crate) struct Draw<W> {
+    marker: PhantomData<W>,
 }
 
-/// The receiver makes the next sender.
-pub struct Makes;
-
-impl Split<View> for Makes {
-    ghost use Rattle.std.specs.Prelude.{[], ◌+◌};
-    ghost use Rattle.subvl_queue.specs.Rule.{receiver, sender};
-
-    ghost left = { λ v. receiver v.capacity (v.made + 1) v.got [] v.looks };
-
-    ghost right = { λ v. sender v.capacity v.made [] };
+impl<T, W: Said<(u8, T)>> Play<Option<(u8, T)>, View<T>> for Draw<W> {
+    ghost then = { draws W.item };
 }
 
-/// The receiver counts a look that found nothing.
-pub struct Looks;
+pub(crate) struct Ready;
 
-impl Split<View> for Looks {
-    ghost use Rattle.std.specs.Prelude.{◌+◌};
-    ghost use Rattle.subvl_queue.specs.Rule.{receiver, nobody};
-
-    ghost left = { λ v. receiver v.capacity v.made v.got v.joined (v.looks + 1) };
-
-    ghost right = { λ v. nobody };
+impl<T> Play<Option<(u8, T)>, View<T>> for Ready {
+    ghost then = { readies };
 }
 
-/// The receiver takes a sender in.
-pub struct Gathers;
+pub(crate) struct Look;
 
-impl Join<View> for Gathers {
-    ghost use Rattle.std.specs.Prelude.{◌∷◌};
-    ghost use Rattle.subvl_queue.specs.Rule.{receiver, nobody};
-
-    ghost both = { λ v w. receiver v.capacity v.made v.got ((w.port, w.own) ∷ v.joined) v.looks };
-
-    ghost spent = { nobody };
+impl<T> Play<Option<(u8, T)>, View<T>> for Look {
+    ghost then = { λ st m r n. looks (length m.0.taken) st m r n };
 }
 
-/// A message goes in.
-pub struct Sent;
+pub(crate) struct Freed;
 
-impl Outcome<Item, View> for Sent {
-    ghost use Rattle.std.specs.Prelude.{◌≡◌, [], ◌∷◌, ◌++◌};
-    ghost use Rattle.subvl_queue.specs.Rule.{sender};
-
-    ghost then = { λ v m w. w ≡ sender v.capacity v.port (v.own ++ m.1 ∷ []) };
+impl<T> Play<Option<(u8, T)>, View<T>> for Freed {
+    ghost then = { frees };
 }
 
-// A sender's messages that the channel holds are the last that it sent.
-impl Lesson<Item, View> for Sent {
-    ghost use Rattle.subvl_queue.specs.Rule.{EndsWith};
-    ghost use Rattle.subvl_queue.specs.Messages.{part_of};
+pub(crate) struct Glance;
 
-    ghost fact = { λ v items. EndsWith v.own (part_of v.port items) };
+impl<T> Play<Option<(u8, T)>, View<T>> for Glance {
+    ghost then = { glances_at };
 }
 
-/// A message comes out.
-pub struct Taken;
+pub(crate) struct Close;
 
-impl Outcome<Item, View> for Taken {
-    ghost use Rattle.subvl_queue.specs.Rule.{Takes};
-
-    ghost then = { Takes };
+impl<T> Play<Option<(u8, T)>, View<T>> for Close {
+    ghost then = { closes };
 }
 
-// What came back of each sender that was taken in, and that no other port has a message.
-impl Lesson<Item, View> for Taken {
-    ghost use Rattle.subvl_queue.specs.Rule.{Settled};
+pub(crate) struct Gather;
 
-    ghost fact = { λ v items. Settled v.capacity v.made v.joined v.got items };
+impl<T> Play<Option<(u8, T)>, View<T>> for Gather {
+    ghost then = { gathers };
+}
+
+pub(crate) struct Make;
+
+impl<T> Split<View<T>> for Make {
+    ghost use Rattle.subvl_queue.specs.Start.{new_sender};
+    ghost use Rattle.subvl_queue.specs.Steps.{one_made};
+
+    ghost left = { one_made };
+
+    ghost right = { λ v. new_sender v.made };
+}
+
+pub(crate) struct TakeIn;
+
+impl<T> Join<View<T>> for TakeIn {
+    ghost use Rattle.subvl_queue.specs.Start.{spent_view};
+    ghost use Rattle.subvl_queue.specs.Steps.{with_joined};
+
+    ghost both = { with_joined };
+
+    ghost spent = { spent_view };
 }

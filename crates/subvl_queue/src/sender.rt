@@ -1,25 +1,88 @@
 //! The sending ends of a queue.
-ghost use Rattle.std.specs.Prelude.{◌≡◌, ◌+◌, ◌^◌, ◌<◌, ◌≤◌, [], ◌∷◌, ◌++◌, length, IfOk, IfErr};
-ghost use Rattle.crossbeam_channel.specs.Claims.{view, IsSeatAt};
-ghost use Rattle.crossbeam_channel.specs.Ends.{sends_on, ruled_capacity};
+ghost use Rattle.std.specs.Prelude.{◌≡◌, ◌^◌, ◌<◌, ◌≤◌, [], length, IfOk, IfErr, false};
+ghost use Rattle.subvl_queue.specs.declared.view.Role.TheVariants.{Sender as AsSender};
+ghost use Rattle.subvl_queue.specs.declared.refused.Why.TheVariants as Whys;
 ghost use Rattle.subvl_queue.specs.Messages.{most_bytes};
-ghost use Rattle.subvl_queue.specs.Rule.{sender};
-ghost use Rattle.subvl_queue.specs.Names.{name_of};
-ghost use Rattle.subvl_queue.specs.Views.{new_sender, sent, IsRefused};
+ghost use Rattle.subvl_queue.specs.Queue.{IsOn, RestsAs};
+ghost use Rattle.subvl_queue.specs.Start.{new_sender as new_seat};
+ghost use Rattle.subvl_queue.specs.Steps.{Reached, glanced};
+ghost use Rattle.subvl_queue.specs.Sends.{accepted_at, RefusedBy};
+ghost use Rattle.subvl_queue.specs.Bytes.{sent_by, places_of};
+ghost use Rattle.subvl_queue.specs.Views.{new_sender, IsSent, IsRefused, WasFull};
 
-use crate::item::Item;
+use crate::item::Message;
 use crate::refused::{Refused, Why};
-use crate::rule::{Knowing, SendingEnd, Sent};
-use crossbeam_channel::TrySendError;
+use crate::ring::{CLOSED, Knowing, Ring};
 use std::marker::Model;
-use std::sync::Wait;
+use std::sync::Arc;
 
-/// A sender of a queue. Contracts see its queue and the queue's capacity, its index, how often it
-/// asked and may ask, and its own messages that were accepted.
+// The steps of one send.
+fn offer<F: FnOnce()>(
+    ring: &Ring,
+    seat: &mut Knowing,
+    port: u8,
+    asks: &mut u64,
+    calls: u64,
+    message: Message,
+    pause: F,
+) -> Result<(), Refused>
+where
+    F: Drop,
+    requires seat { RestsAs ring.now.table.shared.table_id AsSender seat.old }
+    requires port { seat.old.me.0.port ≡ port }
+    requires asks { seat.old.me.0.asks ≡ asks.old }
+    requires calls { (asks.old ≤ calls) × (calls ≤ 2 ^ 40) }
+    requires pause { F.pre pause }
+    ensures seat { IsOn ring.now.table.shared.table_id seat.new × (seat.new.me.1 ≡ []) }
+    ensures asks { (seat.new.me.0.asks ≡ asks.new) × (asks.new ≤ calls) }
+    ensures ok { IfOk result (λ _. (seat.old.me.0.asks < calls)
+        × ((place : _) × (seat.new.me.0 ≡ accepted_at seat.old.me.0 place message))) }
+    ensures paused { IfOk result (λ _. F.post pause tt) }
+    ensures back { IfErr result (λ e. e.bytes ≡ message.bytes) }
+    ensures refused { IfErr result (λ e. RefusedBy calls seat.old.me.0 seat.new.me.0 e.why) }
+    ensures full { IfErr result
+        (λ e. e.why ≡ Whys.Full → Reached ring.now.capacity (glanced seat.old.me.0 false)) }
+{
+    if ring.glance(seat) {
+        return Err(refused(Why::Closed, message));
+    }
+    if *asks == calls {
+        return Err(refused(Why::Exhausted, message));
+    }
+    *asks += 1;
+    if !ring.ask(seat) {
+        ring.give_back(seat);
+        return Err(refused(Why::Full, message));
+    }
+    let parcel = (port, message);
+    let place = ring.draw(seat, &parcel);
+    if place >= CLOSED {
+        ring.give_back(seat);
+        return Err(refused(Why::Closed, parcel.1));
+    }
+    pause();
+    ring.ready(seat, place, parcel);
+    Ok(())
+}
+
+// The message goes back.
+fn refused(why: Why, message: Message) -> Refused
+    ensures why { result.why ≡ why }
+    ensures bytes { result.bytes ≡ message.bytes }
+{
+    Refused {
+        why,
+        bytes: message.bytes,
+    }
+}
+
+/// A sender of a queue, which may go to a thread of its own. Contracts see its queue and the queue's
+/// capacity, its index, how often it asked and may ask, what it last found, and its own messages
+/// that were accepted, with their places.
 #[derive(Drop)]
 pub struct Sender {
-    end: SendingEnd,
-    pass: Knowing,
+    ring: Arc<Ring>,
+    seat: Knowing,
     port: u8,
     calls: u64,
     asks: u64,
@@ -27,37 +90,43 @@ pub struct Sender {
 }
 
 impl Model for Sender {
+    ghost use Rattle.std.specs.Prelude.{◌≡◌, ◌^◌, ◌≤◌, length};
+    ghost use Rattle.subvl_queue.specs.declared.view.Role.TheVariants.{Sender as AsSender};
+    ghost use Rattle.subvl_queue.specs.Queue.{RestsAs};
+    ghost use Rattle.subvl_queue.specs.Bytes.{sent_by, places_of};
     ghost use Rattle.subvl_queue.specs.Views.{SenderView};
-    ghost use Rattle.crossbeam_channel.specs.Claims as claims;
-    ghost use Rattle.crossbeam_channel.specs.Ends.{sends_on, ruled_capacity};
-    ghost use Rattle.subvl_queue.specs.Kept.{IsSender};
 
     ghost Value = { SenderView };
 
     ghost view = { λ s. record {
-      queue = (s.pass.table_id, s.pass.me.0.of);
-      capacity = ruled_capacity (sends_on s.end);
+      queue = s.seat.table_id;
+      capacity = s.ring.value.capacity;
       port = s.port;
       calls = s.calls;
       asks = s.asks;
-      own = (claims.view s.pass).own;
+      full = s.seat.me.0.full;
+      glances = s.seat.me.0.glances;
+      shut = s.seat.me.0.shut;
+      own = sent_by s.seat.me.0.own;
+      places = places_of s.seat.me.0.own;
     } };
 
-    ghost invariant = { λ s. claims.IsSeatAt (sends_on s.end) s.pass
-        × IsSender (ruled_capacity (sends_on s.end)) s.port s.calls s.asks s.accepted (claims.view s.pass) };
+    ghost invariant = { λ s. RestsAs s.ring.value.table.shared.table_id AsSender s.seat
+        × (s.seat.me.0.port ≡ s.port) × (s.seat.me.0.asks ≡ s.asks) × (s.asks ≤ s.calls) × (s.calls ≤ 2 ^ 40)
+        × (s.accepted ≡ length s.seat.me.0.own) × (s.accepted ≤ s.asks) };
 }
 
 impl Sender {
     // A sender that did not ask yet.
-    pub(crate) fn new(end: SendingEnd, pass: Knowing, port: u8, calls: u64) -> Sender
-        requires seat { IsSeatAt (sends_on end) pass }
-        requires knows { view pass ≡ sender (ruled_capacity (sends_on end)) port [] }
+    pub(crate) fn new(ring: Arc<Ring>, seat: Knowing, port: u8, calls: u64) -> Sender
+        requires seat { IsOn ring.value.table.shared.table_id seat }
+        requires fresh { seat.me ≡ (new_seat port, []) }
         requires calls { calls ≤ 2 ^ 40 }
-        ensures { result ≡ new_sender (name_of pass) (ruled_capacity (sends_on end)) calls port }
+        ensures { result ≡ new_sender seat.table_id ring.value.capacity calls port }
     {
         Sender {
-            end,
-            pass,
+            ring,
+            seat,
             port,
             calls,
             asks: 0,
@@ -65,37 +134,50 @@ impl Sender {
         }
     }
 
-    /// Puts a message of 1 to 8,192 bytes at the end of the queue, or hands it back. A message that
-    /// is refused isn't accepted, and `Why` says what it leaves. The call may wait for a receiver
-    /// that is in the middle of a take.
+    /// Accepts a message of 1 to 8,192 bytes at the next place of the queue, or hands it back. A
+    /// message that is refused isn't accepted, and `Why` says what it leaves.
     #[inline(always)]
-    pub fn send<R: Wait>(&mut self, rt: &R, bytes: Vec<u8>) -> Result<(), Refused>
+    pub fn send(&mut self, bytes: Vec<u8>) -> Result<(), Refused>
         requires some { 1 ≤ length bytes.items }
         requires most { length bytes.items ≤ most_bytes }
-        ensures ok { IfOk result (λ _. self.new ≡ sent self.old bytes.items) }
-        ensures asks { IfOk result (λ _. self.old.asks < self.old.calls) }
+        ensures ok { IfOk result (λ _. IsSent self.old bytes.items self.new) }
         ensures back { IfErr result (λ e. e.bytes.items ≡ bytes.items) }
         ensures refused { IfErr result (λ e. IsRefused self.old e.why self.new) }
+        ensures full { IfErr result (λ e. e.why ≡ Whys.Full → WasFull self.old) }
     {
-        if self.asks == self.calls {
-            return Err(Refused {
-                why: Why::Exhausted,
-                bytes,
-            });
+        self.send_with(bytes, || {})
+    }
+
+    /// As `send`. Where the message is accepted, `pause` runs before it is ready to be taken. Where
+    /// it is refused, `pause` doesn't run.
+    #[inline(always)]
+    pub fn send_with<F: FnOnce()>(&mut self, bytes: Vec<u8>, pause: F) -> Result<(), Refused>
+    where
+        F: Drop,
+        requires some { 1 ≤ length bytes.items }
+        requires most { length bytes.items ≤ most_bytes }
+        requires pause { F.pre pause }
+        ensures ok { IfOk result (λ _. IsSent self.old bytes.items self.new) }
+        ensures paused { IfOk result (λ _. F.post pause tt) }
+        ensures back { IfErr result (λ e. e.bytes.items ≡ bytes.items) }
+        ensures refused { IfErr result (λ e. IsRefused self.old e.why self.new) }
+        ensures full { IfErr result (λ e. e.why ≡ Whys.Full → WasFull self.old) }
+    {
+        let message = Message { bytes };
+        let answer = offer(
+            &self.ring,
+            &mut self.seat,
+            self.port,
+            &mut self.asks,
+            self.calls,
+            message,
+            pause,
+        );
+        if let Err(refused) = answer {
+            return Err(refused);
         }
-        self.asks += 1;
-        let item = Item {
-            port: self.port,
-            bytes,
-        };
-        match self.end.try_send_as::<Sent, R>(rt, &mut self.pass, item) {
-            Ok(()) => {
-                self.accepted += 1;
-                Ok(())
-            }
-            Err(TrySendError::Full(item)) => Err(refused(Why::Full, item)),
-            Err(e) => Err(refused(Why::Closed, e.into_inner())),
-        }
+        self.accepted += 1;
+        Ok(())
     }
 
     /// Its index among the senders of its queue.
@@ -113,31 +195,13 @@ impl Sender {
         self.accepted
     }
 
-    // What its pass knows, for the receiver to take in, and its end of the channel.
-    pub(crate) fn into_ends(self) -> (SendingEnd, Knowing)
-        ensures seat { IsSeatAt (sends_on result.0) result.1 }
-        ensures knows { view result.1 ≡ sender self.capacity self.port self.own }
-        ensures name { name_of result.1 ≡ self.queue }
+    // Its seat, for the receiver to take in.
+    pub(crate) fn into_seat(self) -> Knowing
+        ensures seat { RestsAs self.queue AsSender result }
+        ensures port { result.me.0.port ≡ self.port }
+        ensures own { sent_by result.me.0.own ≡ self.own }
+        ensures places { places_of result.me.0.own ≡ self.places }
     {
-        let Sender {
-            end,
-            pass,
-            port: _,
-            calls: _,
-            asks: _,
-            accepted: _,
-        } = self;
-        (end, pass)
-    }
-}
-
-// The message goes back.
-fn refused(why: Why, item: Item) -> Refused
-    ensures why { result.why ≡ why }
-    ensures bytes { result.bytes.items ≡ item.1 }
-{
-    Refused {
-        why,
-        bytes: item.bytes,
+        self.seat
     }
 }

@@ -1,11 +1,11 @@
 -- Obeying a line that sends a message.
-use Rattle.std.proofs.Common.{ℕ, ◌≡◌, ◌≢◌, ◌≤◌, ◌<◌, ◌+◌, ◌==◌, Bool, if◌then◌else◌, nat_lt, List, []}
+use Rattle.std.proofs.Common.{ℕ, ◌≡◌, ◌≢◌, ◌≤◌, ◌<◌, ◌+◌, ◌==◌, Bool, true, false, ⊎_elim, if◌then◌else◌, nat_lt, List, []}
 use Rattle.std.proofs.Common.{length, set, get_or, refl, ap, ◌∙◌, sym, subst, arith, Option, Some, None}
 use Rattle.std.proofs.lemmas.Bool.{eq-eqb, ne_eqb, lt-ltb, le-ltb}
 use Rattle.std.proofs.lemmas.List.Quantifiers.{position-Some}
 use Rattle.afdx_plan.specs.Config.{Plan, port_plan_at}
 use Rattle.afdx_plan.specs.declared.port_plan.PortPlan.{PortPlan}
-use Rattle.subvl_queue.specs.Views.{SenderView, asked, sent}
+use Rattle.subvl_queue.specs.Views.{SenderView, asked, glanced}
 use Rattle.afdx_tx.specs.declared.fault.Refusal.{Refusal as SendRefusal}
 use Rattle.afdx_tx.specs.declared.fault.Refusal.TheVariants as Why
 use Rattle.afdx_tx.specs.Emitter.{Tx}
@@ -67,10 +67,20 @@ unsent_same old new e = record {
   asks = let same : new.sender.asks ≡ old.sender.asks = ap (λ (p : PortView). p.sender.asks) e in omega arith;
 }
 
--- its queue was asked
-unsent_asked : (old new : PortView) → new ≡ record old { sender = new.sender } → new.sender ≡ asked old.sender
-    → IsUnsent old new
-unsent_asked old new e s = record {
+-- its queue was glanced at
+unsent_glanced : (old new : PortView) (shut : Bool) → new ≡ record old { sender = new.sender }
+    → new.sender ≡ glanced old.sender shut → IsUnsent old new
+unsent_glanced old new shut e s = record {
+  same = same_by old new new.sender e (ap (λ (sender : SenderView). sender.queue) s)
+      (ap (λ (sender : SenderView). sender.port) s) (ap (λ (sender : SenderView). sender.calls) s);
+  own = ap (λ (sender : SenderView). sender.own) s;
+  asks = let same : new.sender.asks ≡ old.sender.asks = ap (λ (sender : SenderView). sender.asks) s in omega arith;
+}
+
+-- and asked
+unsent_asked : (old new : PortView) (shut full : Bool) → new ≡ record old { sender = new.sender }
+    → new.sender ≡ asked (glanced old.sender shut) full → IsUnsent old new
+unsent_asked old new shut full e s = record {
   same = same_by old new new.sender e (ap (λ (sender : SenderView). sender.queue) s)
       (ap (λ (sender : SenderView). sender.port) s) (ap (λ (sender : SenderView). sender.calls) s);
   own = ap (λ (sender : SenderView). sender.own) s;
@@ -82,9 +92,11 @@ unsent : (old new : PortView) (size : ℕ) (why : SendRefusal) → why ≢ Why.E
     → IsUnsent old new
 unsent old new size Why.Empty some r = unsent_same old new r.1
 unsent old new size Why.TooLong some r = unsent_same old new r.1
-unsent old new size Why.Closed some r = unsent_asked old new r.same r.queue.1
+unsent old new size Why.Closed some r = ⊎_elim
+    (λ (e : new.sender ≡ glanced old.sender true). unsent_glanced old new true r.same e)
+    (λ e. unsent_asked old new true false r.same e.1) r.queue
 unsent old new size Why.Exhausted some r = absurd (some refl)
-unsent old new size Why.Full some r = unsent_asked old new r.same r.queue.1
+unsent old new size Why.Full some r = unsent_asked old new false true r.0.same r.0.queue.1
 
 -- the plan of the port at a place
 plan_here : (tx : Tx) (ports : List PortView) (place : ℕ) (d : PortView) → IsAtHand tx ports → place < length ports
@@ -126,7 +138,7 @@ send_taken accepted es tx ports id place d new bytes h found lt may accepts m = 
   matches = record {
     emitter = m.emitter;
     own = subst (λ (more : Messages). HaveSent more (set ports place new)) (sym more_accepted)
-        (have_sent accepted ports place d new bytes lt (ap (λ (p : PortView). p.sender.own) accepts) m.own);
+        (have_sent accepted ports place d new bytes lt (ap (λ (s : SenderView). s.own) accepts.0.1.1) m.own);
   };
 }
   where
@@ -182,7 +194,7 @@ refusal_passed old new size Why.Empty some r = ap (λ (w : Option SendRefusal). 
 refusal_passed old new size Why.TooLong some r = ap (λ (w : Option SendRefusal). passed_on w fills) (long_refused old.plan size r.0)
 refusal_passed old new size Why.Closed some r = ap (λ (w : Option SendRefusal). passed_on w closes) (may_pass old.plan size r.may)
 refusal_passed old new size Why.Exhausted some r = absurd (some refl)
-refusal_passed old new size Why.Full some r = ap (λ (w : Option SendRefusal). passed_on w fills) (may_pass old.plan size r.may)
+refusal_passed old new size Why.Full some r = ap (λ (w : Option SendRefusal). passed_on w fills) (may_pass old.plan size r.0.may)
 
 -- A message that its port refused.
 send_refused : (accepted : Messages) (es : EndSystem) (tx : Tx) (ports : List PortView) (id place : ℕ) (d new : PortView)
@@ -227,7 +239,10 @@ sent_at tx ports id place port new bytes outcome config at h plan asked some her
 pub sends_same : (old new : PortView) (bytes : List ℕ) (outcome : Outcome) → Sends old bytes new outcome
     → IsSamePort old new
 sends_same old new bytes Became.Quiet h = absurd h
-sends_same old new bytes Became.Accepted h = same_by old new (sent old.sender bytes) h.1 refl refl refl
+sends_same old new bytes Became.Accepted h =
+    let sender = h.1.0.1.1 in
+    same_by old new new.sender h.1.1 (ap (λ (s : SenderView). s.queue) sender) (ap (λ (s : SenderView). s.port) sender)
+    (ap (λ (s : SenderView). s.calls) sender)
 sends_same old new bytes (Became.Refused refusal) h = (unsent old new (length bytes) h.why h.some h.refuses).same
 sends_same old new bytes (Became.Released frames) h = absurd h
 
@@ -236,7 +251,7 @@ pub sends_asks : (old new : PortView) (bytes : List ℕ) (outcome : Outcome) →
     → new.sender.asks ≤ old.sender.asks + 1
 sends_asks old new bytes Became.Quiet h = absurd h
 sends_asks old new bytes Became.Accepted h =
-    let more : new.sender.asks ≡ old.sender.asks + 1 = ap (λ (p : PortView). p.sender.asks) h.1 in omega arith
+    let more : new.sender.asks ≡ old.sender.asks + 1 = ap (λ (s : SenderView). s.asks) h.1.0.1.1 in omega arith
 sends_asks old new bytes (Became.Refused refusal) h = (unsent old new (length bytes) h.why h.some h.refuses).asks
 sends_asks old new bytes (Became.Released frames) h = absurd h
 

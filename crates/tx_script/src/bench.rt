@@ -14,7 +14,6 @@ use afdx_tx::{Emitter, TxPort, open_tx};
 use script_lines::{Line, Message};
 use std::alloc::Global;
 use std::marker::Model;
-use std::sync::Wait;
 use transcript::{FrameLog, Outcome, Refusal, RunFault};
 
 /// The emitter of a script, over two networks in memory, and its ports in the order of the
@@ -55,14 +54,14 @@ impl Bench {
 
     /// The two networks, with what was handed to them. All ports are gathered first, which shows
     /// that what was taken is the first of what they sent.
-    pub fn into_networks<R: Wait>(self, rt: &R) -> (FrameLog, FrameLog)
+    pub fn into_networks(self) -> (FrameLog, FrameLog)
         ensures a { result.0.handed ≡ self.tx.lines.a }
         ensures b { result.1.handed ≡ self.tx.lines.b }
         ensures hand { IsAtHand self.tx self.ports }
         ensures first { GaveFirst self.tx self.ports }
     {
         let Bench { emitter, ports } = self;
-        match emitter.gather(rt, ports) {
+        match emitter.gather(ports) {
             Ok(draining) => draining.into_networks(),
             Err(_) => unreachable!(),
         }
@@ -84,32 +83,32 @@ fn refused_for(why: afdx_tx::Refusal) -> Refusal
 }
 
 /// Gives a port a message. A script has fewer lines than a port may ask, so that none is exhausted.
-fn send_message<R: Wait>(rt: &R, port: &mut TxPort, message: Message) -> Outcome
+fn send_message(port: &mut TxPort, message: Message) -> Outcome
     requires calls { port.old.sender.calls ≡ most_calls }
     requires asks { port.old.sender.asks ≤ LINES_LIMIT }
     ensures { Sends port.old message port.new result }
 {
-    match port.send(rt, message.into_vec()) {
+    match port.send(message.into_vec()) {
         Ok(()) => Outcome::Accepted,
         Err(fault) => Outcome::Refused(refused_for(fault.why)),
     }
 }
 
 /// A message of a port, by its identifier.
-fn obey_send<R: Wait>(rt: &R, bench: &mut Bench, port: u16, bytes: Message) -> Outcome
+fn obey_send(bench: &mut Bench, port: u16, bytes: Message) -> Outcome
     requires { HaveAsked LINES_LIMIT bench.old.ports }
     ensures ok { ObeysFor (Said.Send port bytes) bench.old bench.new result }
     ensures few { HasFew result }
     ensures asked { (count : ℕ) → HaveAsked count bench.old.ports → HaveAsked (count + 1) bench.new.ports }
 {
     match bench.emitter.config().port_index(PortId(port)) {
-        Some(place) => send_message(rt, &mut bench.ports[place], bytes),
+        Some(place) => send_message(&mut bench.ports[place], bytes),
         None => Outcome::Refused(Refusal::NoPort),
     }
 }
 
 /// A poll at a moment. A network in memory fails only for memory.
-fn obey_at<R: Wait>(rt: &R, bench: &mut Bench, moment: u64) -> Result<Outcome, RunFault>
+fn obey_at(bench: &mut Bench, moment: u64) -> Result<Outcome, RunFault>
     ensures ok { IfOk result (λ outcome. ObeysFor (Said.At moment) bench.old bench.new outcome) }
     ensures few { IfOk result (λ outcome. HasFew outcome) }
     ensures err { IfErr result (λ fault. fault ≡ RunFault.Memory) }
@@ -118,7 +117,7 @@ fn obey_at<R: Wait>(rt: &R, bench: &mut Bench, moment: u64) -> Result<Outcome, R
     if moment < bench.emitter.now() {
         return Ok(Outcome::Refused(Refusal::TimeBack));
     }
-    match bench.emitter.poll(rt, moment) {
+    match bench.emitter.poll(moment) {
         Ok(report) => {
             if report.standing.a && report.standing.b {
                 Ok(Outcome::Released(report.released.len() as u64))
@@ -131,7 +130,7 @@ fn obey_at<R: Wait>(rt: &R, bench: &mut Bench, moment: u64) -> Result<Outcome, R
 }
 
 /// Does what a line says. The only fault is Memory, and then nothing is said of the emitter.
-pub fn obey<R: Wait>(rt: &R, bench: &mut Bench, line: Line) -> Result<Outcome, RunFault>
+pub fn obey(bench: &mut Bench, line: Line) -> Result<Outcome, RunFault>
     requires { HaveAsked LINES_LIMIT bench.old.ports }
     ensures ok { IfOk result (λ outcome. ObeysFor line bench.old bench.new outcome) }
     ensures few { IfOk result (λ outcome. HasFew outcome) }
@@ -139,8 +138,8 @@ pub fn obey<R: Wait>(rt: &R, bench: &mut Bench, line: Line) -> Result<Outcome, R
     ensures asked { (count : ℕ) → HaveAsked count bench.old.ports → HaveAsked (count + 1) bench.new.ports }
 {
     match line {
-        Line::Send { port, bytes } => Ok(obey_send(rt, bench, port, bytes)),
-        Line::At(moment) => obey_at(rt, bench, moment),
+        Line::Send { port, bytes } => Ok(obey_send(bench, port, bytes)),
+        Line::At(moment) => obey_at(bench, moment),
         Line::Nothing => Ok(Outcome::Quiet),
     }
 }

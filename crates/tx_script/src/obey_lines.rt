@@ -7,7 +7,6 @@ use crate::bench::{Bench, obey};
 use script_lines::{Bytes, Line, LineFault, Next, ReadFault, next_line, read_line};
 use std::alloc::Global;
 use std::io::{Read, Write};
-use std::sync::Wait;
 use transcript::{RunFault, Summary, write_note};
 
 /// How many lines a script may have.
@@ -46,8 +45,7 @@ fn next_said<R: Read + Drop>(
 }
 
 /// Obeys the lines of a reader at a fresh bench, and writes their notes.
-pub fn obey_lines<T: Wait, R: Read + Drop, W: Write>(
-    rt: &T,
+pub fn obey_lines<R: Read + Drop, W: Write>(
     alloc: Global,
     bytes: &mut Bytes<R>,
     bench: &mut Bench,
@@ -67,7 +65,7 @@ pub fn obey_lines<T: Wait, R: Read + Drop, W: Write>(
         let Some(said) = next_said(alloc, bytes, &mut text, count + 1)? else {
             return Ok(sums);
         };
-        let outcome = obey(rt, bench, said)?;
+        let outcome = obey(bench, said)?;
         write_note(writer, count + 1, outcome)?;
         sums = sums.count(outcome);
     }

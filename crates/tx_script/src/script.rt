@@ -12,29 +12,28 @@ use afdx_plan::Config;
 use script_lines::Bytes;
 use std::alloc::Global;
 use std::io::{Read, Write};
-use std::sync::Wait;
 use transcript::{RunFault, Summary, write_streams};
 
 /// Writes what was handed to the two networks of a bench.
-fn write_handed<T: Wait, W: Write>(rt: &T, writer: &mut W, bench: Bench) -> Result<(), RunFault>
+fn write_handed<W: Write>(writer: &mut W, bench: Bench) -> Result<(), RunFault>
     ensures ok { OnOk result (Appends (W.contents writer.old) (W.contents writer.new)
         (streams bench.tx.lines.a bench.tx.lines.b)) }
     ensures err { IfErr result (λ fault. fault ≡ RunFault.Write) }
     ensures hand { IsAtHand bench.tx bench.ports }
     ensures first { GaveFirst bench.tx bench.ports }
 {
-    let (a, b) = bench.into_networks(rt);
+    let (a, b) = bench.into_networks();
     write_streams(writer, &a, &b)
 }
 
 /// Writes the streams after a fault, unless it ends the writing. The fault of the run.
-fn end_early<T: Wait, W: Write>(rt: &T, writer: &mut W, bench: Bench, fault: RunFault) -> RunFault
+fn end_early<W: Write>(writer: &mut W, bench: Bench, fault: RunFault) -> RunFault
     ensures { EndsEarly fault bench (W.contents writer.old) (W.contents writer.new) result }
 {
     if fault.ends_writing() {
         return fault;
     }
-    match write_handed(rt, writer, bench) {
+    match write_handed(writer, bench) {
         Ok(()) => fault,
         Err(_) => RunFault::Write,
     }
@@ -47,8 +46,7 @@ fn end_early<T: Wait, W: Write>(rt: &T, writer: &mut W, bench: Bench, fault: Run
 /// A line's fault, `Lines` and `Read` end the run there: the lines before it were run, and their
 /// notes and frames are written. After `Write`, when the writer failed, and after `Memory` nothing
 /// more is written; what was written before `Memory` begins the transcript of lines that were run.
-pub fn run_script<T: Wait, R: Read + Drop, W: Write>(
-    rt: &T,
+pub fn run_script<R: Read + Drop, W: Write>(
     alloc: Global,
     config: Config,
     reader: R,
@@ -61,11 +59,11 @@ pub fn run_script<T: Wait, R: Read + Drop, W: Write>(
         return Err(RunFault::Memory);
     };
     let mut bytes = Bytes::new(reader);
-    match obey_lines(rt, alloc, &mut bytes, &mut bench, writer) {
+    match obey_lines(alloc, &mut bytes, &mut bench, writer) {
         Ok(summary) => {
-            write_handed(rt, writer, bench)?;
+            write_handed(writer, bench)?;
             Ok(summary)
         }
-        Err(fault) => Err(end_early(rt, writer, bench, fault)),
+        Err(fault) => Err(end_early(writer, bench, fault)),
     }
 }

@@ -15,11 +15,10 @@ use afdx_frame::Frame;
 use afdx_plan::{LinkPlan, VlId};
 use redundant_mux::{Mux, Network, Standing};
 use std::marker::Model;
-use std::sync::Wait;
 use vl_shaper::Shaper;
 
 /// The sub-VL that is to be served, whose next message is then being sent.
-fn choose<R: Wait>(rt: &R, shaper: &Shaper, subs: &mut [Sub]) -> Option<u8>
+fn choose(shaper: &Shaper, subs: &mut [Sub]) -> Option<u8>
     requires { length subs.old ≡ shaper.now.sub_vls }
     ensures chosen { IfSome result (λ sub. IsPicked shaper.now subs.old sub subs.new) }
     ensures below { IfSome result (λ sub. sub < length subs.old) }
@@ -28,7 +27,7 @@ fn choose<R: Wait>(rt: &R, shaper: &Shaper, subs: &mut [Sub]) -> Option<u8>
     for k in 0..shaper.sub_vls() {
         let sub = shaper.turn(k);
         let asked = &mut subs[sub as usize];
-        if asked.ready(rt) {
+        if asked.ready() {
             return Some(sub);
         }
     }
@@ -82,8 +81,7 @@ fn send_next<A: Network + Drop, B: Network + Drop>(
 }
 
 /// One turn of the parts of a link that is due.
-fn serve_due<R: Wait, A: Network + Drop, B: Network + Drop>(
-    rt: &R,
+fn serve_due<A: Network + Drop, B: Network + Drop>(
     plan: &LinkPlan,
     shaper: &mut Shaper,
     subs: &mut [Sub],
@@ -107,7 +105,7 @@ fn serve_due<R: Wait, A: Network + Drop, B: Network + Drop>(
     ensures same { AreSameSubs subs.old subs.new }
     ensures endure { BothEndure mux.old mux.new }
 {
-    match choose(rt, shaper, subs) {
+    match choose(shaper, subs) {
         None => Served::Nothing,
         Some(sub) => {
             let chosen = &mut subs[sub as usize];
@@ -133,13 +131,13 @@ fn subs_done(subs: &[Sub]) -> bool
 
 /// Gathers the queue of each sub-VL with the senders in its room, which are all that it has.
 // From the last, since taking from the end of a list needs no memory.
-fn gather_subs<R: Wait>(rt: &R, subs: &mut [Sub], mut rooms: Vec<Room>)
+fn gather_subs(subs: &mut [Sub], mut rooms: Vec<Room>)
     requires full { AreFullSubs subs.old rooms.items }
     ensures { GathersSubs subs.old rooms.items subs.new }
 {
     while let Some(room) = rooms.pop() {
         let sub = &mut subs[rooms.len()];
-        sub.gather(rt, room.into_senders());
+        sub.gather(room.into_senders());
     }
 }
 
@@ -237,9 +235,8 @@ impl Link {
 
     /// One turn of the link at a moment, in microseconds, at which it is due. The frame is made in a
     /// kept buffer.
-    pub fn serve<R: Wait, A: Network + Drop, B: Network + Drop>(
+    pub fn serve<A: Network + Drop, B: Network + Drop>(
         &mut self,
-        rt: &R,
         frame: &mut Frame,
         mux: &mut Mux<A, B>,
         now: u64,
@@ -258,7 +255,6 @@ impl Link {
         ensures endure { BothEndure mux.old mux.new }
     {
         let did = serve_due(
-            rt,
             &self.plan,
             &mut self.shaper,
             &mut self.subs,
@@ -271,10 +267,10 @@ impl Link {
     }
 
     /// Gathers the queue of each sub-VL with the senders in its room, which are all that it has.
-    pub fn gather<R: Wait>(&mut self, rt: &R, rooms: LinkRooms)
+    pub fn gather(&mut self, rooms: LinkRooms)
         requires full { AreFullSubs self.old.subs rooms }
         ensures { GathersLink self.old rooms self.new }
     {
-        gather_subs(rt, &mut self.subs, rooms.into_rooms());
+        gather_subs(&mut self.subs, rooms.into_rooms());
     }
 }

@@ -5,7 +5,6 @@ ghost use Rattle.vl_link.specs.Seen.{receiving, gathered, ports_of, FindsNothing
 
 use std::marker::Model;
 use std::mem::replace;
-use std::sync::Wait;
 use subvl_queue::{Gathered, Item, Receiver, Sender};
 
 /// The ends of a queue that are at hand.
@@ -50,13 +49,13 @@ impl Queue {
 
     /// The next message, where one is ready. It may wait for a port that is in the middle of a send,
     /// where ports send.
-    pub fn take<R: Wait>(&mut self, rt: &R) -> Option<Item>
+    pub fn take(&mut self) -> Option<Item>
         ensures none { IfNone result (FindsNothing self.old self.new) }
         ensures some { IfSome result (λ item. Finds self.old item self.new) }
         ensures item { IfSome result (IsItem (ports_of self.old)) }
     {
         match &mut self.end {
-            End::Receiving(receiver) => receiver.take(rt),
+            End::Receiving(receiver) => receiver.take(),
             End::Gathered(all) => all.take(),
             End::Empty => None,
         }
@@ -75,12 +74,12 @@ impl Queue {
 
     /// Gathers the ends of the queue, with these senders, which are all that it has. It may wait for
     /// a port's last message to be ready.
-    pub fn gather<R: Wait>(&mut self, rt: &R, senders: Vec<Sender>)
+    pub fn gather(&mut self, senders: Vec<Sender>)
         requires full { IsFull self.old senders.items }
         ensures { Gathers self.old senders.items self.new }
     {
         match replace(&mut self.end, End::Empty) {
-            End::Receiving(receiver) => match receiver.gather(rt, senders) {
+            End::Receiving(receiver) => match receiver.gather(senders) {
                 Ok(all) => self.end = End::Gathered(all),
                 Err(_) => unreachable!(),
             },

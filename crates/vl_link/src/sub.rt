@@ -11,7 +11,6 @@ use crate::sub_vl::SubVl;
 use afdx_frame::{Cut, Frame, Net};
 use afdx_plan::PortPlan;
 use std::marker::Model;
-use std::sync::Wait;
 use subvl_queue::{Item, Receiver, Sender};
 
 /// A sub-VL. Contracts see its ports, the fragments left of the message that is being sent, and its
@@ -81,13 +80,13 @@ impl Sub {
 
     /// Whether there is something to send, which is then being sent. The queue is looked into only
     /// where no message is being sent.
-    pub fn ready<R: Wait>(&mut self, rt: &R) -> bool
+    pub fn ready(&mut self) -> bool
         ensures { Asks result self.old self.new }
     {
         if is_cutting(&self.of, &self.sending) {
             return true;
         }
-        match self.queue.take(rt) {
+        match self.queue.take() {
             None => false,
             Some(item) => {
                 let Item { port, bytes } = item;
@@ -128,11 +127,11 @@ impl Sub {
     }
 
     /// Gathers its queue with these senders, which are all that it has.
-    pub fn gather<R: Wait>(&mut self, rt: &R, senders: Vec<Sender>)
+    pub fn gather(&mut self, senders: Vec<Sender>)
         requires full { IsFullSub self.old senders.items }
         ensures { GathersSub self.old senders.items self.new }
     {
-        self.queue.gather(rt, senders);
+        self.queue.gather(senders);
     }
 }
 

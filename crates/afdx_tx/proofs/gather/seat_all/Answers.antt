@@ -78,3 +78,8 @@ loop-place-preserved g c =
       back = λ q has. old.back q (left_inside c.loop-place.ports.items c.take_port-port.new.ports.items port q
           c.take_port-port.ensures.rest has);
     }
+
+pub returns-clause-seats : goal.returns-clause-seats
+returns-clause-seats g c = λ place lt. c.loop-place.invariant.seats place
+    (let over = c.loop-place-test.false in omega (arith, lt, ap length c.ports-place-end.ensures.plan,
+    ap (λ (p : Plan). length p.ports) c.config-config.ensures))

@@ -6,7 +6,7 @@ use Rattle.vl_link.proofs.FromLast.{FromLast, last_is, step}
 use Rattle.afdx_tx.proofs.transmitter.gather_all.Goals as goal
 
 pub gather-requires : goal.gather-requires
-gather-requires g c =
+gather-requires c =
     let rest = c.pop.new.self.items in
     let n : c.len.result ≡ length c.pop.new.self.items = omega (arith, c.len.ensures) in
     let last = last_is no_link [] GathersLink c.args.links.now c.args.rooms.items c.loop-own.links rest
@@ -22,7 +22,7 @@ gather-requires g c =
     }
 
 pub loop-own-preserved : goal.loop-own-preserved
-loop-own-preserved g c =
+loop-own-preserved c =
     let rest = c.pop.new.self.items in
     let n : c.len.result ≡ length c.pop.new.self.items = omega (arith, c.len.ensures) in
     let last = last_is no_link [] GathersLink c.args.links.now c.args.rooms.items c.loop-own.links rest

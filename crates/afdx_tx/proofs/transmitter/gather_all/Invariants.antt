@@ -5,7 +5,7 @@ use Rattle.vl_link.proofs.FromLast.{FromLast}
 use Rattle.afdx_tx.proofs.transmitter.gather_all.Given as goal
 
 abbrev pub invariant-loop-own : goal.invariant-loop-own
-invariant-loop-own g l = FromLast no_link [] GathersLink l.initial.links l.initial.rooms.items l.links l.rooms.items
+invariant-loop-own l = FromLast no_link [] GathersLink l.initial.links l.initial.rooms.items l.links l.rooms.items
 
 abbrev pub decreases-loop-own : goal.decreases-loop-own
-decreases-loop-own g l = vec_len l.rooms
+decreases-loop-own l = vec_len l.rooms

@@ -1,4 +1,4 @@
-use Rattle.subvl_queue.proofs.Whole.{none_there}
+use Rattle.subvl_queue.proofs.Senders.{none_there}
 use Rattle.subvl_queue.proofs.gathering.has_port.Goals as goal
 
 pub returns : goal.returns

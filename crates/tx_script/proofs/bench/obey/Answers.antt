@@ -3,5 +3,5 @@ use Rattle.tx_script.specs.Play.{takes}
 use Rattle.tx_script.proofs.bench.obey.Goals as goal
 
 pub returns-in-Nothing-clause-ok : goal.returns-in-Nothing-clause-ok
-returns-in-Nothing-clause-ok g c =
+returns-in-Nothing-clause-ok c =
     rw c.in-Nothing.is (λ accepted es m. record { answer = takes; may = tt; is = refl; matches = m })

@@ -28,7 +28,7 @@ poll_obeys es new moment released accepted on polls many m = record {
 }
 
 pub returns-clause-ok : goal.returns-clause-ok
-returns-clause-ok g c = elim c.match-poll.branch [
+returns-clause-ok c = elim c.match-poll.branch [
   | in-Ok+then-report+then-report-2 w ↦ rw w.result-is (λ accepted es m.
       let a : c.poll.new.self.lines.a_stands ≡ true = sym w.in-Ok.ensures.told.a_stands ∙ w.if-report.true in
       let b : c.poll.new.self.lines.b_stands ≡ true = sym w.in-Ok.ensures.told.b_stands ∙ w.if-report-2.true in

@@ -2,4 +2,4 @@ use Rattle.vl_link.specs.Links.{PassedOver}
 use Rattle.vl_link.proofs.link.choose.Given as goal
 
 abbrev pub invariant-loop-k : goal.invariant-loop-k
-invariant-loop-k g l = PassedOver l.fn.shaper l.fn.subs l.subs l.k
+invariant-loop-k l = PassedOver l.fn.shaper l.fn.subs l.subs l.k

@@ -13,7 +13,7 @@ abbrev its : Held → RoomView → Held → Type 0
 its old room new = GathersSub old room.senders new
 
 pub gather-requires : goal.gather-requires
-gather-requires g c =
+gather-requires c =
     let rest = c.pop.new.self.items in
     let n : c.len.result ≡ length c.pop.new.self.items = omega (arith, c.len.ensures) in
     let last = last_is nothing_held no_room its c.args.subs.now c.args.rooms.items c.loop-room.subs rest
@@ -31,7 +31,7 @@ gather-requires g c =
     }
 
 pub loop-room-preserved : goal.loop-room-preserved
-loop-room-preserved g c =
+loop-room-preserved c =
     let rest = c.pop.new.self.items in
     let n : c.len.result ≡ length c.pop.new.self.items = omega (arith, c.len.ensures) in
     let last = last_is nothing_held no_room its c.args.subs.now c.args.rooms.items c.loop-room.subs rest

@@ -7,8 +7,8 @@ use Rattle.vl_link.proofs.FromLast.{FromLast}
 use Rattle.vl_link.proofs.link.gather_subs.Given as goal
 
 abbrev pub invariant-loop-room : goal.invariant-loop-room
-invariant-loop-room g l = FromLast nothing_held no_room (λ (old : Held) (room : RoomView) (new : Held). GathersSub old room.senders new)
+invariant-loop-room l = FromLast nothing_held no_room (λ (old : Held) (room : RoomView) (new : Held). GathersSub old room.senders new)
     l.initial.subs l.initial.rooms.items l.subs l.rooms.items
 
 abbrev pub decreases-loop-room : goal.decreases-loop-room
-decreases-loop-room g l = vec_len l.rooms
+decreases-loop-room l = vec_len l.rooms

@@ -1,21 +1,24 @@
-use Rattle.std.proofs.Common.{[], ◌∷◌, ap, sym}
-use Rattle.crossbeam_channel.specs.Claims.{view}
-use Rattle.subvl_queue.specs.Messages.{IsItem}
-use Rattle.subvl_queue.specs.Views.{GatheredView}
-use Rattle.subvl_queue.proofs.Ends.{before_whole, first_left}
+use Rattle.std.proofs.Common.{rules, ◌≡◌, ℕ, ◌<◌, length, sym, ap, ◌∙◌}
+use mathlib.Core.Option.{some}
+use lib.ListN.{get_elem?}
+use Rattle.subvl_queue.specs.declared.item.Message.{Message}
+use Rattle.subvl_queue.specs.Gathers.{whole}
+use Rattle.subvl_queue.proofs.Senders.{if_listed, goes_on, leaves}
 use Rattle.subvl_queue.proofs.gathered.Gathered.take.Goals as goal
 
 pub invariant_of-self-2 : goal.invariant_of-self-2
-invariant_of-self-2 c = record {
-  whole = before_whole (view c.self.inside.pass).got c.self.inside.left.items (c.in_ok-item.item ∷ []) c.pop_front.new.self.items
-      c.self.invariant.whole c.in_ok-item.ensures.items;
-  items = c.self.invariant.items;
-  few = c.self.invariant.few;
-}
+invariant_of-self-2 c =
+    let kept = c.self.invariant in
+    let v = c.self.inside.seat.me.0 in
+    let x : ℕ × Message = (c.in_ok-port.port, c.in_ok-port.message) in
+    let got = c.in_ok-port.ensures in
+    let at = if_listed (whole v) (λ l. (c.self.inside.taken < length l) × (get_elem? l c.self.inside.taken ≡ some x)) v.all kept.1.all got.listed in
+    ((search rules, got.seat.1, ap (λ u. u.role) got.some ∙ kept.0.2, ap (λ u. u.stage) got.some), goes_on _ _ _ v _ x kept.1 got.some at got.few.1)
 
-pub returns-clause-port : goal.returns-clause-port
-returns-clause-port c = rw (ap (λ (g : GatheredView). g.ports) (sym c.self.view_is))
-    (first_left (IsItem _) _ _ _ c.in_ok-item.item c.self.invariant.whole c.in_ok-item.ensures.items c.self.invariant.items).port
-
-pub returns-clause-message : goal.returns-clause-message
-returns-clause-message c = (first_left (IsItem _) _ _ _ c.in_ok-item.item c.self.invariant.whole c.in_ok-item.ensures.items c.self.invariant.items).message
+pub returns-clause-some : goal.returns-clause-some
+returns-clause-some c =
+    let v = c.self.inside.seat.me.0 in
+    let x : ℕ × Message = (c.in_ok-port.port, c.in_ok-port.message) in
+    let got = c.in_ok-port.ensures in
+    let at = if_listed (whole v) (λ l. (c.self.inside.taken < length l) × (get_elem? l c.self.inside.taken ≡ some x)) v.all c.self.invariant.1.all got.listed in
+    ap (λ g. g.left) (sym c.self.view_is) ∙ leaves c.self.inside.taken c.fetch.new.taken v c.fetch.new.seat.me.0 x got.some at.1 got.few.1

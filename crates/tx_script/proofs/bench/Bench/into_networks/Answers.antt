@@ -4,9 +4,9 @@ use Rattle.tx_script.proofs.Finding.{none_missing, gave_first}
 use Rattle.tx_script.proofs.bench.Bench.into_networks.Goals as goal
 
 pub unreachable-requires : goal.unreachable-requires
-unreachable-requires g c = none_missing c.self.inside.emitter c.self.inside.ports.items c.self.invariant c.in-Err.ensures.missing
+unreachable-requires c = none_missing c.self.inside.emitter c.self.inside.ports.items c.self.invariant c.in-Err.ensures.missing
 
 pub returns-clause-first : goal.returns-clause-first
-returns-clause-first g c =
+returns-clause-first c =
     subst (λ (bench : AtBench). GaveFirst bench.tx bench.ports) c.self.view_is
     (gave_first c.self.inside.emitter c.in-Ok.draining c.self.inside.ports.items c.self.invariant c.in-Ok.ensures.gathered)

@@ -3,7 +3,7 @@ use Rattle.vl_link.proofs.QueueLooks.{items_whole}
 use Rattle.vl_link.proofs.sub.Sub.gather.Goals as goal
 
 pub returns : goal.returns
-returns g c =
+returns c =
     rw (← c.self.view_is) (record {
       same = refl;
       gathers = c.gather.ensures;

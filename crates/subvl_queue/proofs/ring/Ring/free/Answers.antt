@@ -1,0 +1,23 @@
+use Rattle.std.proofs.Common.{rules, ◌%◌, ◌∷◌, [], Some, None, sym, ap, ◌∙◌}
+use Rattle.atomic_table.specs.Table.{rest}
+use Rattle.subvl_queue.proofs.Moves.{frees_ok}
+use Rattle.subvl_queue.proofs.ring.Ring.free.Goals as goal
+
+pub exchange-requires : goal.exchange-requires
+exchange-requires c =
+    let item = c.requires.slot.0 in
+    let held = c.requires.slot.1 in
+    (c.requires.seat, (Some item, held ∙ (λ k. (sym c.slot_of-slot.ensures.0 k, Some item) ∷ rest (sym held k))))
+
+pub fetch_add-requires : goal.fetch_add-requires
+fetch_add-requires c =
+    let held = c.requires.slot.1 in
+    let view = c.requires.view in
+    let place = c.requires.place in
+    let me = c.exchange.ensures.3 in
+    let capacity = c.args.self.now.sized.1 in (
+      search rules,
+      search rules,
+      frees_ok _ _ _ (ap (λ m. m.0.role) me ∙ view.0) (ap (λ m. m.0.stage) me ∙ view.1)
+          (ap (λ m. m.1) me ∙ (λ k. (c.slot_of-slot.ensures.0 k, None) ∷ rest (held k)) ∙ (λ k. (sym place k % sym capacity k, None) ∷ []) ∙ (λ k. ((sym me k).0.at % c.args.self.now.table.shared.table_id.slots, None) ∷ [])),
+    )

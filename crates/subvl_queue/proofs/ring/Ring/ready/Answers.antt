@@ -1,0 +1,24 @@
+use Rattle.std.proofs.Common.{rules, ◌%◌, ◌∷◌, None, sym, ap, ◌∙◌, arith}
+use Rattle.atomic_table.specs.Table.{rest}
+use Rattle.subvl_queue.proofs.Moves.{readies_ok}
+use Rattle.subvl_queue.proofs.ring.Ring.ready.Goals as goal
+
+pub exchange-requires : goal.exchange-requires
+exchange-requires c =
+    let slot = c.requires.slot in
+    (c.requires.seat.0, (None, slot ∙ (λ k. (sym c.slot_of-slot.ensures.0 k, None) ∷ rest (sym slot k))))
+
+pub store-requires : goal.store-requires
+store-requires c =
+    let held = c.requires.slot in
+    let view = c.requires.view in
+    let item = c.requires.item in
+    let me = c.exchange.ensures.3 in
+    let capacity = c.args.self.now.sized.1 in
+    let slot = c.slot_of-slot.ensures.0 ∙ (λ k. sym item.0 k % sym capacity k) ∙ ap (λ m. m.0.at % c.args.self.now.table.shared.table_id.slots) (sym me) in
+    let at = ap (λ m. m.0.at) me ∙ item.0 in (
+      search rules,
+      search rules,
+      readies_ok _ _ _ _ _ (ap (λ m. m.0.role) me ∙ view.0) (ap (λ m. m.0.stage) me ∙ view.1)
+          (ap (λ m. m.1) me ∙ (λ k. (slot k, (sym item.1 ∙ ap (λ m. m.0.item) (sym me)) k) ∷ rest (held k))) (omega arith) (omega arith),
+    )

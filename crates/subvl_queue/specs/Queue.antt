@@ -1,0 +1,198 @@
+-- The rule of the table of a queue.
+-- Word 0 is the room: 2 ^ 32 and the capacity, less the held messages and the asks in hand. Word 1 is the number of accepted messages. Word i + 2 is 0 or one more than the last place that was made ready in the slot i.
+use Rattle.std.specs.Prelude.{◌≡◌, ℕ, suc, ◌+◌, ◌-◌, ◌*◌, ◌%◌, ◌^◌, ◌<◌, ◌≤◌, eqb, cond, Bool, true, false, List, [], ◌∷◌, length, take, slice_index_or, Option, Some, None}
+use mathlib.Core.Option.{some}
+use mathlib.Core.Option as maybe
+use lib.ListN.{get_elem?}
+use Rattle.atomic_table.specs.Table.{State}
+use Rattle.atomic_table.specs.Seated.{TableId}
+use Rattle.atomic_table.specs.declared.shared.Seat.{Seat}
+use Rattle.subvl_queue.specs.declared.view.View.{View}
+use Rattle.subvl_queue.specs.declared.view.Role.{Role}
+use Rattle.subvl_queue.specs.declared.view.Role.TheVariants.{Sender, Receiver, Spent}
+use Rattle.subvl_queue.specs.declared.view.Stage.{Stage}
+use Rattle.subvl_queue.specs.declared.view.Stage.TheVariants.{Idle, Asked, Refused, Drew, Late, Holding}
+
+-- the messages of the port k, each with its place, in a list whose first place is n
+abbrev pub owned : {T : Type 0} → ℕ → ℕ → List (ℕ × T) → List (ℕ × T)
+owned k n [] = []
+owned k n (x ∷ xs) = cond (eqb x.0 k) ((n, x.1) ∷ owned k (suc n) xs) (owned k (suc n) xs)
+
+abbrev pub total : {A : Type 0} → (A → ℕ) → List A → ℕ
+total f [] = 0
+total f (x ∷ xs) = f x + total f xs
+
+-- an ask that met neither an accept nor an undo
+abbrev pub hand_of : Stage → ℕ
+hand_of Idle = 0
+hand_of Asked = 1
+hand_of Refused = 1
+hand_of Drew = 0
+hand_of Late = 1
+hand_of Holding = 0
+
+-- an ask in hand that found room
+abbrev pub room_of : Stage → ℕ
+room_of Idle = 0
+room_of Asked = 1
+room_of Refused = 0
+room_of Drew = 0
+room_of Late = 1
+room_of Holding = 0
+
+-- an ask in hand that has not drawn
+abbrev pub wait_of : Stage → ℕ
+wait_of Idle = 0
+wait_of Asked = 1
+wait_of Refused = 1
+wait_of Drew = 0
+wait_of Late = 0
+wait_of Holding = 0
+
+-- the asks that a seat may have made and may still make
+abbrev pub budget_of : ℕ → ℕ → Role → ℕ
+budget_of asks made Sender = 2 ^ 40
+budget_of asks made Receiver = asks + (64 - made) * 2 ^ 40
+budget_of asks made Spent = 0
+
+-- bit 63 of the tail
+abbrev pub shut_bit : Bool → ℕ
+shut_bit true = 2 ^ 63
+shut_bit false = 0
+
+abbrev pub Busy : Stage → Type 0
+Busy Idle = ⊥
+Busy Asked = ⊥
+Busy Refused = ⊥
+Busy Drew = Unit {0}
+Busy Late = ⊥
+Busy Holding = Unit {0}
+
+-- the slot of a place: not yet drawn, drawn by a seat, ready, or held by the receiver's seat
+pub data Phase : Type 0 where
+  free : Phase
+  writing : ℕ → Phase
+  full : Phase
+  reading : ℕ → Phase
+
+-- the place that a slot is at, and how far it is
+abbrev pub Cell : Type 0
+Cell = ℕ × Phase
+
+-- 0, or the seat that holds the cell's slot, and 1
+abbrev pub holder : Phase → ℕ
+holder free = 0
+holder (writing j) = suc j
+holder full = 0
+holder (reading j) = suc j
+
+abbrev pub shown : ℕ → ℕ → Phase → ℕ
+shown n p free = suc p - n
+shown n p (writing j) = suc p - n
+shown n p full = suc p
+shown n p (reading j) = suc p
+
+-- the receiver has the total exactly where the queue is closed
+abbrev pub Totals : Bool → ℕ → Option ℕ → Type 0
+Totals closed n None = closed ≡ false
+Totals closed n (Some t) = (closed ≡ true) × (t ≡ n)
+
+module _ {T : Type 0} where
+  abbrev pub in_hand : View T → ℕ
+  in_hand v = hand_of v.stage
+
+  abbrev pub in_room : View T → ℕ
+  in_room v = room_of v.stage
+
+  abbrev pub waiting : View T → ℕ
+  waiting v = wait_of v.stage
+
+  abbrev pub asked : View T → ℕ
+  asked v = v.asks
+
+  abbrev pub budget : View T → ℕ
+  budget v = budget_of v.asks v.made v.role
+
+  module _ (freed : ℕ) (log : List (ℕ × T)) (homes : List (maybe.Option (Option (ℕ × T)))) (i p : ℕ) where
+    abbrev pub InPhase : Phase → Type 0
+    InPhase free = (length log ≤ p) × (get_elem? homes i ≡ some (some None))
+    InPhase (writing j) = (freed ≤ p) × (p < length log)
+    InPhase full = (freed ≤ p) × (p < length log) × ((x : ℕ × T) × (get_elem? log p ≡ some x) × (get_elem? homes i ≡ some (some (Some x))))
+    InPhase (reading j) = (p ≡ freed) × (p < length log) × (j ≡ 0)
+
+  pub record CellOk (n freed : ℕ) (log : List (ℕ × T)) (words : List ℕ) (homes : List (maybe.Option (Option (ℕ × T)))) (i : ℕ) (c : Cell) : Type 0 where
+    pub shows : slice_index_or words (i + 2) 0 ≡ shown n c.0 c.1
+    pub lies : c.0 % n ≡ i
+    pub early : c.0 < freed + n
+    pub late : length log ≤ c.0 + n
+    pub phase : InPhase freed log homes i c.0 c.1
+
+  -- the slot that a seat has, of the place `at`, with the item that was accepted there
+  abbrev pub Has : List (ℕ × T) → Cell → Phase → ℕ → Option (ℕ × T) → Type 0
+  Has log c phase at item = (c ≡ (at, phase)) × ((x : ℕ × T) × (item ≡ Some x) × (get_elem? log at ≡ some x))
+
+  module _ (freed : ℕ) (log : List (ℕ × T)) (j : ℕ) (c : Cell) (at : ℕ) (item : Option (ℕ × T)) where
+    abbrev pub Knows : Stage → Type 0
+    Knows Idle = Unit {0}
+    Knows Asked = Unit {0}
+    Knows Refused = Unit {0}
+    Knows Drew = Has log c (writing j) at item
+    Knows Late = Unit {0}
+    Knows Holding = Has log c (reading j) at item × (at ≡ freed)
+
+  -- Seat 0 is the receiver's, and seat k + 1 that of the port k
+  module _ (seats freed : ℕ) (log : List (ℕ × T)) (j : ℕ) (v : View T) where
+    abbrev pub Fits : Role → Type 0
+    Fits Sender = (j ≡ suc v.port) × (v.own ≡ owned v.port 0 log) × (v.asks ≤ 2 ^ 40)
+    Fits Receiver = (j ≡ 0) × (v.taken ≡ take freed log) × (length v.taken ≡ freed) × (seats ≡ suc v.made)
+    Fits Spent = (v.asks ≡ 0) × (v.stage ≡ Idle)
+
+  abbrev pub Gone : List (View T) → ℕ → Type 0
+  Gone views j = (d : View T) → get_elem? views j ≡ some d → d.role ≡ Spent
+
+  -- each joined list is that port's part of the log, and its sender is gone
+  abbrev pub Joined : List (ℕ × T) → List (View T) → List (ℕ × List (ℕ × T)) → Type 0
+  Joined log views joined = (i k : ℕ) (l : List (ℕ × T)) → get_elem? joined i ≡ some (k, l) → (l ≡ owned k 0 log) × Gone views (suc k)
+
+  -- the receiver has the log itself only where all senders are gone
+  abbrev pub Whole : List (ℕ × T) → List (View T) → Option (List (ℕ × T)) → Type 0
+  Whole log views None = Unit {0}
+  Whole log views (Some l) = (l ≡ log) × ((j : ℕ) → Gone views (suc j))
+
+  abbrev pub Gathers : Bool → List (ℕ × T) → List (View T) → View T → Type 0
+  Gathers closed log views u = Totals closed (length log) u.total × Joined log views u.joined × Whole log views u.all
+
+  pub record Queue (s : State (Option (ℕ × T)) (View T)) : Type 0 where
+    pub log : List (ℕ × T)
+    pub freed : ℕ
+    -- places that were drawn after the close
+    pub late : ℕ
+    pub closed : Bool
+    pub cells : ℕ → Cell
+    pub some_slot : 0 < length s.homes
+    pub few_slots : length s.homes ≤ 256
+    pub wide : length s.words ≡ length s.homes + 2
+    pub few_seats : length s.views ≤ 65
+    pub behind : freed ≤ length log
+    -- held messages and asks that found room are within the capacity
+    pub within : length log + total in_room s.views ≤ freed + length s.homes
+    pub room_is : slice_index_or s.words 0 0 + length log + total in_hand s.views ≡ 2 ^ 32 + length s.homes + freed
+    pub tail_is : slice_index_or s.words 1 0 ≡ length log + late + shut_bit closed
+    pub none_late : closed ≡ false → late ≡ 0
+    pub counted : length log + late + total waiting s.views ≤ total asked s.views
+    pub budgeted : total budget s.views ≤ 64 * 2 ^ 40
+    pub each_cell : (i : ℕ) → i < length s.homes → CellOk (length s.homes) freed log s.words s.homes i (cells i)
+    pub each_seat : (j : ℕ) (v : View T) → get_elem? s.views j ≡ some v → Fits (length s.views) freed log j v v.role
+    pub each_hand : (j : ℕ) (v : View T) → get_elem? s.views j ≡ some v → Knows freed log j (cells (v.at % length s.homes)) v.at v.item v.stage
+    -- a port with no sender has no message
+    pub unmade : (k : ℕ) → length s.views ≤ suc k → owned k 0 log ≡ []
+    pub gathered : (u : View T) → get_elem? s.views 0 ≡ some u → Gathers closed log s.views u
+    pub busy : (i j : ℕ) → i < length s.homes → holder (cells i).1 ≡ suc j → (v : View T) × (get_elem? s.views j ≡ some v) × Busy v.stage × (v.at ≡ (cells i).0)
+
+-- the seat is one of the table's
+abbrev pub IsOn : {T : Type 0} → TableId → Seat (Option (ℕ × T)) (View T) → Type 0
+IsOn z seat = seat.table_id ≡ z
+
+-- the seat is the table's, in this role, between calls: no slot is held, no ask is under way
+abbrev pub RestsAs : {T : Type 0} → TableId → Role → Seat (Option (ℕ × T)) (View T) → Type 0
+RestsAs z role seat = IsOn z seat × (seat.me.1 ≡ []) × (seat.me.0.role ≡ role) × (seat.me.0.stage ≡ Idle)

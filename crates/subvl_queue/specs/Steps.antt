@@ -1,0 +1,112 @@
+-- What each step tells its caller.
+use Rattle.std.specs.Prelude.{◌≡◌, ◌≢◌, ℕ, suc, ◌+◌, ◌-◌, ◌%◌, ◌^◌, ◌<◌, ◌≤◌, Bool, true, false, List, [], ◌∷◌, ◌++◌, length, take, Option, Some, None}
+use mathlib.Core.Option.{some}
+use lib.ListN.{get_elem?}
+use Rattle.atomic_table.specs.Table.{State, Me, Step}
+use Rattle.subvl_queue.specs.Queue.{owned, total, in_hand, Queue}
+use Rattle.subvl_queue.specs.declared.view.View.{View}
+use Rattle.subvl_queue.specs.declared.view.Stage.{Stage}
+use Rattle.subvl_queue.specs.declared.view.Stage.TheVariants.{Idle, Asked, Refused, Drew, Late, Holding}
+
+abbrev pub Seated : Type 0 → Type 0
+Seated T = Me (Option (ℕ × T)) (View T)
+
+module _ {T : Type 0} where
+  abbrev pub with_ask : View T → Stage → Bool → View T
+  with_ask v st b = record v { asks = v.asks + 1; stage = st; full = b }
+
+  abbrev pub idle : View T → View T
+  idle v = record v { stage = Idle }
+
+  abbrev pub drawn : View T → ℕ → ℕ × T → View T
+  drawn v t x = record v { stage = Drew; at = t; item = Some x; own = v.own ++ (t, x.1) ∷ []; full = false }
+
+  abbrev pub lated : View T → View T
+  lated v = record v { stage = Late; shut = true }
+
+  abbrev pub glanced : View T → Bool → View T
+  glanced v b = record v { glances = v.glances + 1; shut = b }
+
+  abbrev pub closed_at : View T → ℕ → View T
+  closed_at v t = record v { total = Some t }
+
+  abbrev pub one_made : View T → View T
+  one_made v = record v { made = v.made + 1 }
+
+  abbrev pub with_joined : View T → View T → View T
+  with_joined v w = record v { asks = v.asks + w.asks; joined = v.joined ++ (w.port, w.own) ∷ [] }
+
+  abbrev pub with_all : View T → List (ℕ × T) → View T
+  with_all v l = record v { all = Some l }
+
+  abbrev pub looked : View T → Bool → View T
+  looked v b = record v { looks = v.looks + 1; found = b }
+
+  abbrev pub holding : View T → ℕ → ℕ × T → View T
+  holding v p x = record v { looks = v.looks + 1; found = true; stage = Holding; at = p; item = Some x }
+
+  abbrev pub freed_of : View T → ℕ × T → View T
+  freed_of v x = record v { stage = Idle; taken = v.taken ++ x ∷ [] }
+
+  -- at some moment, with this view, the held messages and the asks in hand reached the capacity
+  abbrev pub Reached : ℕ → View T → Type 0
+  Reached c v = (s : State (Option (ℕ × T)) (View T)) × (q : Queue s) × (id : ℕ) × (get_elem? s.views id ≡ some v) × (length s.homes ≡ c) × (c ≤ (length q.log - q.freed) + total in_hand s.views)
+
+  -- room was found exactly where the word was over 2 ^ 32
+  abbrev pub asks : Step (Option (ℕ × T)) → Seated T → ℕ → Seated T → Type 0
+  asks st m r m' = (m'.1 ≡ m.1) × (2 ^ 32 < r → m'.0 ≡ with_ask m.0 Asked false) × (r ≤ 2 ^ 32 → (m'.0 ≡ with_ask m.0 Refused true) × Reached st.slots m.0)
+
+  abbrev pub gives_back : Step (Option (ℕ × T)) → Seated T → ℕ → Seated T → Type 0
+  gives_back st m r m' = (m'.1 ≡ m.1) × (m'.0 ≡ idle m.0)
+
+  -- bit 63 says that the queue is closed
+  abbrev pub draws : Option (ℕ × T) → Step (Option (ℕ × T)) → Seated T → ℕ → Seated T → Type 0
+  draws said st m r m' =
+      (r < 2 ^ 63 → (x : ℕ × T) × (said ≡ Some x) × (m'.0 ≡ drawn m.0 r x) × (m'.1 ≡ (r % st.slots, None) ∷ []))
+      × (2 ^ 63 ≤ r → (m'.0 ≡ lated m.0) × (m'.1 ≡ []))
+
+  abbrev pub readies : Step (Option (ℕ × T)) → Seated T → ℕ → Seated T → Type 0
+  readies st m r m' = (m'.1 ≡ []) × (m'.0 ≡ idle m.0)
+
+  -- where the receiver has the whole list
+  abbrev pub IfWhole : Option (List (ℕ × T)) → (List (ℕ × T) → Type 0) → Type 0
+  IfWhole None F = Unit {0}
+  IfWhole (Some l) F = F l
+
+  -- the item x is ready at the place p, and its slot is taken
+  pub record Finds (slots p : ℕ) (m m' : Seated T) (x : ℕ × T) : Type 0 where
+    pub few : p < 2 ^ 46
+    pub port : x.0 < m.0.made
+    pub below : (t : ℕ) → m.0.total ≡ Some t → p < t
+    pub holds : m' ≡ (holding m.0 p x, (p % slots, Some x) ∷ [])
+    pub listed : IfWhole m.0.all (λ l. (p < length l) × (get_elem? l p ≡ some x))
+
+  -- nothing is ready at the place p
+  abbrev pub Misses : ℕ → Seated T → Seated T → Type 0
+  Misses p m m' = (m' ≡ (looked m.0 false, [])) × IfWhole m.0.all (λ l. length l ≤ p)
+
+  abbrev pub looks : ℕ → Step (Option (ℕ × T)) → Seated T → ℕ → Seated T → Type 0
+  looks p st m r m' = (r ≡ suc p → (x : ℕ × T) × Finds st.slots p m m' x) × (r ≢ suc p → Misses p m m')
+
+  abbrev pub frees : Step (Option (ℕ × T)) → Seated T → ℕ → Seated T → Type 0
+  frees st m r m' = (m'.1 ≡ []) × ((x : ℕ × T) × (m.0.item ≡ Some x) × (m'.0 ≡ freed_of m.0 x))
+
+  abbrev pub glances_at : Step (Option (ℕ × T)) → Seated T → ℕ → Seated T → Type 0
+  glances_at st m r m' = (m'.1 ≡ m.1) × (r < 2 ^ 63 → m'.0 ≡ glanced m.0 false) × (2 ^ 63 ≤ r → m'.0 ≡ glanced m.0 true)
+
+  abbrev pub closes : Step (Option (ℕ × T)) → Seated T → ℕ → Seated T → Type 0
+  closes st m r m' = (m'.1 ≡ m.1) × (r < 2 ^ 63) × (length m.0.taken ≤ r) × (m'.0 ≡ closed_at m.0 r)
+
+  -- the list is that of all accepted messages, of which a receiver knows this, once every sender has joined
+  pub record IsLog (slots : ℕ) (v : View T) (l : List (ℕ × T)) : Type 0 where
+    pub begins : v.taken ≡ take (length v.taken) l
+    pub behind : length v.taken ≤ length l
+    pub within : length l ≤ length v.taken + slots
+    pub few : length l ≤ 2 ^ 46
+    pub parts : (i k : ℕ) (own : List (ℕ × T)) → get_elem? v.joined i ≡ some (k, own) → own ≡ owned k 0 l
+    pub no_more : (k : ℕ) → v.made ≤ k → owned k 0 l ≡ []
+    pub total_is : (t : ℕ) → v.total ≡ Some t → t ≡ length l
+
+  -- the log; where the queue was not closed, the word is its length
+  abbrev pub gathers : Step (Option (ℕ × T)) → Seated T → ℕ → Seated T → Type 0
+  gathers st m r m' = (m'.1 ≡ m.1) × ((l : List (ℕ × T)) × (m'.0 ≡ with_all m.0 l) × IsLog st.slots m.0 l × (m.0.total ≡ None → r ≡ length l))

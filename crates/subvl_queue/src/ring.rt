@@ -1,0 +1,212 @@
+//! The table of a queue, and each step on it.
+ghost use Rattle.std.specs.Prelude.{◌≡◌, ℕ, ◌+◌, ◌%◌, ◌^◌, ◌<◌, ◌≤◌, ◌⊎◌, [], ◌∷◌, false, Some, None, IsTrue, length, true};
+ghost use mathlib.Core.Option.{some};
+ghost use lib.ListN.{get_elem?};
+ghost use Rattle.subvl_queue.specs.declared.view.Role.TheVariants.{Sender, Receiver};
+ghost use Rattle.subvl_queue.specs.declared.view.Stage.TheVariants.{Idle, Asked, Refused, Drew, Late, Holding};
+ghost use Rattle.subvl_queue.specs.Queue.{IsOn, RestsAs};
+ghost use Rattle.subvl_queue.specs.Start.{new_sender};
+ghost use Rattle.subvl_queue.specs.Steps.{Reached, Finds, Misses, IsLog, with_ask, idle, drawn, lated, glanced, closed_at, one_made, with_joined, with_all, freed_of};
+
+use crate::item::Message;
+use crate::rule::{
+    Ask, Close, Draw, Freed, Gather, GiveBack, Glance, Look, Make, Ready, Rule, Said, TakeIn,
+};
+use crate::view::View;
+use atomic_table::{Seat, Table};
+use std::alloc::Global;
+use std::marker::Brand;
+
+/// The word of the room.
+pub const ROOM: usize = 0;
+
+/// The word of the places that were drawn.
+pub const TAIL: usize = 1;
+
+/// The first of the words that say which places are ready.
+pub const READY: usize = 2;
+
+/// There is room where the room's word is over this.
+pub const NO_ROOM: u64 = 1 << 32;
+
+/// The bit of the tail that says that the queue is closed.
+pub const CLOSED: u64 = 1 << 63;
+
+/// A message and the index of its sender.
+pub type Parcel = (u8, Message);
+
+/// A slot of the table.
+pub type Slot = Option<Parcel>;
+
+/// A seat at the table, and what it knows.
+pub type Knowing = Seat<Slot, View<Message>>;
+
+/// The table of a queue.
+#[derive(Drop)]
+pub struct Ring {
+    pub table: Table<Slot, View<Message>, (), Rule, Global>,
+    pub capacity: usize,
+    ghost sized: { (table.shared.table_id.words ≡ capacity + 2) × (table.shared.table_id.slots ≡ capacity) × (0 < capacity) },
+}
+
+impl Ring {
+    /// Asks for room, and says whether there was some.
+    pub fn ask(&self, seat: &mut Knowing) -> bool
+        requires seat { RestsAs self.now.table.shared.table_id Sender seat.old }
+        requires asks { seat.old.me.0.asks < 2 ^ 40 }
+        ensures seat { IsOn self.now.table.shared.table_id seat.new × (seat.new.me.1 ≡ []) }
+        ensures found { IsTrue result → seat.new.me.0 ≡ with_ask seat.old.me.0 Asked false }
+        ensures none { result ≡ false → seat.new.me.0 ≡ with_ask seat.old.me.0 Refused true }
+        ensures full { result ≡ false → Reached self.now.capacity seat.old.me.0 }
+    {
+        self.table.shared.fetch_sub::<Ask>(seat, ROOM, 1) > NO_ROOM
+    }
+
+    /// Gives back an ask that found no room, or that came too late.
+    pub fn give_back(&self, seat: &mut Knowing)
+        requires seat { IsOn self.now.table.shared.table_id seat.old × (seat.old.me.1 ≡ []) }
+        requires role { seat.old.me.0.role ≡ Sender }
+        requires stage { (seat.old.me.0.stage ≡ Refused) ⊎ (seat.old.me.0.stage ≡ Late) }
+        ensures seat { IsOn self.now.table.shared.table_id seat.new × (seat.new.me.1 ≡ []) }
+        ensures view { seat.new.me.0 ≡ idle seat.old.me.0 }
+    {
+        self.table.shared.fetch_add::<GiveBack>(seat, ROOM, 1);
+    }
+
+    fn draw_as<W: Said<Parcel>>(&self, seat: &mut Knowing, parcel: &Parcel) -> u64
+        requires said { (W.item ≡ Some parcel.now) × (parcel.now.0 ≡ seat.old.me.0.port) }
+        requires seat { IsOn self.now.table.shared.table_id seat.old × (seat.old.me.1 ≡ []) }
+        requires view { (seat.old.me.0.role ≡ Sender) × (seat.old.me.0.stage ≡ Asked) }
+        ensures seat { IsOn self.now.table.shared.table_id seat.new }
+        ensures drawn { result < 2 ^ 63 → seat.new.me ≡
+            (drawn seat.old.me.0 result parcel.now, (result % self.now.capacity, None) ∷ []) }
+        ensures late { 2 ^ 63 ≤ result → seat.new.me ≡ (lated seat.old.me.0, []) }
+    {
+        self.table.shared.fetch_add::<Draw<W>>(seat, TAIL, 1)
+    }
+
+    /// Draws a place for the parcel. It is accepted there, and its slot is taken, unless the queue is
+    /// closed.
+    pub fn draw(&self, seat: &mut Knowing, parcel: &Parcel) -> u64
+        requires port { parcel.now.0 ≡ seat.old.me.0.port }
+        requires seat { IsOn self.now.table.shared.table_id seat.old × (seat.old.me.1 ≡ []) }
+        requires view { (seat.old.me.0.role ≡ Sender) × (seat.old.me.0.stage ≡ Asked) }
+        ensures seat { IsOn self.now.table.shared.table_id seat.new }
+        ensures drawn { result < 2 ^ 63 → seat.new.me ≡
+            (drawn seat.old.me.0 result parcel.now, (result % self.now.capacity, None) ∷ []) }
+        ensures late { 2 ^ 63 ≤ result → seat.new.me ≡ (lated seat.old.me.0, []) }
+    {
+        self.draw_as::<Brand>(seat, parcel)
+    }
+
+    fn slot_of(&self, place: u64) -> usize
+        ensures { (result ≡ place % self.now.capacity) × (result < self.now.capacity) }
+    {
+        (place % self.capacity as u64) as usize
+    }
+
+    /// Puts the parcel into the slot of the place that was drawn for it, and makes it ready.
+    pub fn ready(&self, seat: &mut Knowing, place: u64, parcel: Parcel)
+        requires seat { IsOn self.now.table.shared.table_id seat.old × (place < 2 ^ 63) }
+        requires slot { seat.old.me.1 ≡ (place % self.now.capacity, None) ∷ [] }
+        requires view { (seat.old.me.0.role ≡ Sender) × (seat.old.me.0.stage ≡ Drew) }
+        requires item { (seat.old.me.0.at ≡ place) × (seat.old.me.0.item ≡ Some parcel) }
+        ensures seat { IsOn self.now.table.shared.table_id seat.new }
+        ensures view { seat.new.me ≡ (idle seat.old.me.0, []) }
+    {
+        let slot = self.slot_of(place);
+        match self.table.shared.exchange(seat, slot, Some(parcel)) {
+            None => {}
+            Some(_) => unreachable!(),
+        }
+        self.table
+            .shared
+            .store::<Ready>(seat, READY + slot, place + 1);
+    }
+
+    /// Looks whether the place after those that were taken is ready. Then its slot is taken.
+    pub fn look(&self, seat: &mut Knowing, place: u64) -> bool
+        requires seat { RestsAs self.now.table.shared.table_id Receiver seat.old }
+        requires place { (place ≡ length seat.old.me.0.taken) × (place < 2 ^ 63) }
+        ensures seat { IsOn self.now.table.shared.table_id seat.new }
+        ensures found { IsTrue result → (x : _) × Finds self.now.capacity place seat.old.me seat.new.me x }
+        ensures none { result ≡ false → Misses place seat.old.me seat.new.me }
+    {
+        let slot = self.slot_of(place);
+        self.table.shared.load::<Look>(seat, READY + slot) == place + 1
+    }
+
+    /// Takes the parcel out of the slot of the place, and gives the slot back.
+    pub fn free(&self, seat: &mut Knowing, place: u64) -> Parcel
+        requires seat { IsOn self.now.table.shared.table_id seat.old }
+        requires slot { (x : _) × (seat.old.me.1 ≡ (place % self.now.capacity, Some x) ∷ [])
+            × (seat.old.me.0.item ≡ Some x) }
+        requires view { (seat.old.me.0.role ≡ Receiver) × (seat.old.me.0.stage ≡ Holding) }
+        requires place { seat.old.me.0.at ≡ place }
+        ensures seat { IsOn self.now.table.shared.table_id seat.new }
+        ensures item { seat.old.me.0.item ≡ Some result }
+        ensures view { seat.new.me ≡ (freed_of seat.old.me.0 result, []) }
+    {
+        let slot = self.slot_of(place);
+        let parcel = self.table.shared.exchange(seat, slot, None).unwrap();
+        self.table.shared.fetch_add::<Freed>(seat, ROOM, 1);
+        parcel
+    }
+
+    /// Glances whether the queue is closed.
+    pub fn glance(&self, seat: &mut Knowing) -> bool
+        requires { RestsAs self.now.table.shared.table_id Sender seat.old }
+        ensures seat { IsOn self.now.table.shared.table_id seat.new }
+        ensures view { seat.new.me ≡ (glanced seat.old.me.0 result, []) }
+    {
+        self.table.shared.load::<Glance>(seat, TAIL) >= CLOSED
+    }
+
+    /// Closes the queue, and says how many messages were accepted.
+    pub fn close(&self, seat: &mut Knowing) -> u64
+        requires seat { RestsAs self.now.table.shared.table_id Receiver seat.old }
+        requires open { seat.old.me.0.total ≡ None }
+        ensures seat { IsOn self.now.table.shared.table_id seat.new }
+        ensures view { seat.new.me ≡ (closed_at seat.old.me.0 result, []) }
+        ensures taken { length seat.old.me.0.taken ≤ result }
+    {
+        self.table.shared.fetch_or::<Close>(seat, TAIL, CLOSED)
+    }
+
+    /// All that was accepted, once each sender has joined. Where the queue was not closed, the result
+    /// is how many they are.
+    pub fn gather(&self, seat: &mut Knowing) -> u64
+        requires seat { RestsAs self.now.table.shared.table_id Receiver seat.old }
+        requires every { (k : ℕ) → k < seat.old.me.0.made →
+            (i : ℕ) × (l : _) × (get_elem? seat.old.me.0.joined i ≡ some (k, l)) }
+        ensures seat { IsOn self.now.table.shared.table_id seat.new × (seat.new.me.1 ≡ []) }
+        ensures log { (l : _) × (seat.new.me.0 ≡ with_all seat.old.me.0 l)
+            × IsLog self.now.capacity seat.old.me.0 l × (seat.old.me.0.total ≡ None → result ≡ length l) }
+    {
+        self.table.shared.load::<Gather>(seat, TAIL)
+    }
+
+    /// The seat of the next sender.
+    pub fn make_sender(&self, seat: &mut Knowing) -> Knowing
+        requires seat { RestsAs self.now.table.shared.table_id Receiver seat.old }
+        requires made { seat.old.me.0.made < 64 }
+        requires first { (seat.old.me.0.joined ≡ []) × (seat.old.me.0.all ≡ None) }
+        ensures seat { IsOn self.now.table.shared.table_id seat.new }
+        ensures view { seat.new.me ≡ (one_made seat.old.me.0, []) }
+        ensures sender { IsOn self.now.table.shared.table_id result }
+        ensures fresh { result.me ≡ (new_sender seat.old.me.0.made, []) }
+    {
+        self.table.shared.split_seat::<Make>(seat)
+    }
+
+    /// Takes in a sender's seat, and what it knows.
+    pub fn take_in(&self, seat: &mut Knowing, other: Knowing)
+        requires seat { RestsAs self.now.table.shared.table_id Receiver seat.old }
+        requires all { seat.old.me.0.all ≡ None }
+        requires other { RestsAs self.now.table.shared.table_id Sender other }
+        ensures seat { IsOn self.now.table.shared.table_id seat.new }
+        ensures view { seat.new.me ≡ (with_joined seat.old.me.0 other.me.0, []) }
+    {
+        self.table.shared.join_seat::<TakeIn>(seat, other);
+    }
+}
