@@ -8,11 +8,10 @@ use afdx_tx::Draining;
 use redundant_mux::MemNetwork;
 use std::alloc::Global;
 use std::process::Abort;
-use std::sync::Wait;
 use std::test::Fail;
 
 /// Two messages of one byte are taken, and the port comes back, at first without it.
-fn gather_two<R: Abort + Wait>(
+fn gather_two<R: Abort>(
     rt: &R,
     alloc: Global,
     a: MemNetwork,
@@ -27,12 +26,12 @@ fn gather_two<R: Abort + Wait>(
     send_taken(rt, alloc, &mut port, &[1]);
     send_taken(rt, alloc, &mut port, &[2]);
     let ports = vec![in alloc; port]?;
-    let (tx, none) = match tx.gather(rt, Vec::new(alloc)) {
+    let (tx, none) = match tx.gather(Vec::new(alloc)) {
         Ok(_) => return Err(Fail::from("gathered without its port")),
         Err(back) => back,
     };
     assert_eq!(rt; none.len(), 0);
-    match tx.gather(rt, ports) {
+    match tx.gather(ports) {
         Ok(draining) => Ok(draining),
         Err(_) => Err(Fail::from("its port is there")),
     }
@@ -63,7 +62,7 @@ fn a_lost_frame_is_never_done(rt: HostRuntime) -> Result<(), Fail> {
     assert_drained(&rt, &mut draining, 0, &[numbered(0)], BOTH, false);
     assert_drained(&rt, &mut draining, 1_000, &[], NEITHER, false);
     assert!(rt; draining.now() <= 2_000);
-    let third = draining.poll(&rt, 2_000);
+    let third = draining.poll(2_000);
     assert_both_down(&rt, third);
     assert_eq!(rt; draining.is_done(), false);
     assert_eq!(rt; draining.now(), 1_000);

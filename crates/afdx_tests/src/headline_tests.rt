@@ -8,7 +8,7 @@ ghost use Rattle.afdx_legal.specs.Done.{IsAllDone, IsHandedWhole};
 ghost use Rattle.afdx_tx.specs.Drain.{accepted_in};
 ghost use Rattle.afdx_tx.specs.Emitter.{queues_in};
 ghost use Rattle.afdx_tx.specs.Ports.{Accepts, IsPortOfTx};
-ghost use Rattle.afdx_tests.specs.Headline.{IsUnused, after_two, two_messages};
+ghost use Rattle.afdx_tests.specs.Headline.{IsUnused, SentTwo, two_messages};
 
 use afdx_plan::demo_config;
 use afdx_tx::{Draining, Emitter, TxPort, open_tx};
@@ -16,7 +16,6 @@ use redundant_mux::MemNetwork;
 use std::alloc::Global;
 use std::process::Abort;
 use std::snapshot::Snapshot;
-use std::sync::Wait;
 use std::test::Fail;
 use std::thread;
 use std::thread::{Promise, Threads};
@@ -35,10 +34,10 @@ struct SendsTwo {
 }
 
 impl Promise<Option<TxPort>> for SendsTwo {
-    ghost use Rattle.std.specs.Prelude.{◌≡◌, IfSome};
-    ghost use Rattle.afdx_tests.specs.Headline.{after_two};
+    ghost use Rattle.std.specs.Prelude.{IfSome};
+    ghost use Rattle.afdx_tests.specs.Headline.{SentTwo};
 
-    ghost kept_by = { λ p r. IfSome r (λ port. port ≡ after_two p.of.value) };
+    ghost kept_by = { λ p r. IfSome r (SentTwo p.of.value) };
 }
 
 // The demonstration configuration over two networks, and its one port.
@@ -62,36 +61,36 @@ fn open_unused(alloc: Global) -> Result<(Tx, TxPort), Fail>
 }
 
 // Sends a message of one byte.
-fn send_byte<R: Wait>(rt: &R, alloc: Global, port: &mut TxPort, byte: u8) -> Option<()>
+fn send_byte(alloc: Global, port: &mut TxPort, byte: u8) -> Option<()>
     ensures { IfSome result (λ _. Accepts port.old (byte ∷ []) port.new) }
 {
     let message = vec![in alloc; byte].ok()?;
-    port.send(rt, message).ok()
+    port.send(message).ok()
 }
 
 // Sends two messages. The port, if both were accepted.
-fn send_two<R: Wait>(rt: &R, alloc: Global, mut port: TxPort) -> Option<TxPort>
-    ensures { IfSome result (λ back. back ≡ after_two port) }
+fn send_two(alloc: Global, mut port: TxPort) -> Option<TxPort>
+    ensures { IfSome result (SentTwo port) }
 {
-    send_byte(rt, alloc, &mut port, 1)?;
-    send_byte(rt, alloc, &mut port, 2)?;
+    send_byte(alloc, &mut port, 1)?;
+    send_byte(alloc, &mut port, 2)?;
     Some(port)
 }
 
 // Polls a few times, a gap apart, while the port sends.
-fn poll_meanwhile<R: Wait + Abort>(rt: &R, tx: &mut Tx)
+fn poll_meanwhile<R: Abort>(rt: &R, tx: &mut Tx)
     ensures plan { tx.new.plan ≡ tx.old.plan }
     ensures queues { queues_in tx.new.links ≡ queues_in tx.old.links }
 {
     for _turn in 0..3 {
         let now = tx.now().saturating_add(GAP);
-        tx.poll(rt, now).expect(rt, "both networks stand");
+        tx.poll(now).expect(rt, "both networks stand");
         thread::yield_now();
     }
 }
 
 // The port sends in a thread of its own, while the emitter is polled, and comes back.
-fn send_beside<R: Threads + Wait + Abort + Copy + Send + 'static>(
+fn send_beside<R: Threads + Abort + Copy + Send + 'static>(
     rt: R,
     alloc: Global,
     tx: &mut Tx,
@@ -99,12 +98,12 @@ fn send_beside<R: Threads + Wait + Abort + Copy + Send + 'static>(
 ) -> Result<TxPort, Fail>
     ensures plan { IfOk result (λ _. tx.new.plan ≡ tx.old.plan) }
     ensures queues { IfOk result (λ _. queues_in tx.new.links ≡ queues_in tx.old.links) }
-    ensures port { IfOk result (λ back. back ≡ after_two port) }
+    ensures port { IfOk result (SentTwo port) }
 {
     let promise = SendsTwo {
         of: Snapshot::of(&port),
     };
-    let worker = thread::spawn_with(&rt, promise, move || send_two(&rt, alloc, port))?;
+    let worker = thread::spawn_with(&rt, promise, move || send_two(alloc, port))?;
     poll_meanwhile(&rt, tx);
     match worker.join(&rt) {
         Some(back) => Ok(back),
@@ -113,21 +112,21 @@ fn send_beside<R: Threads + Wait + Abort + Copy + Send + 'static>(
 }
 
 // Gathers the one port. What was accepted of it is its own list.
-fn gather_one<R: Wait>(rt: &R, alloc: Global, tx: Tx, port: TxPort) -> Result<Drain, Fail>
+fn gather_one(alloc: Global, tx: Tx, port: TxPort) -> Result<Drain, Fail>
     requires { IsPortOfTx tx port }
     ensures plan { IfOk result (λ draining. draining.plan ≡ tx.plan) }
     ensures own { IfOk result (λ draining. AreOwn draining.plan
         (accepted_in draining.links) (λ place. port.sender.own)) }
 {
     let ports = Vec::from_array(alloc, [port])?;
-    match tx.gather(rt, ports) {
+    match tx.gather(ports) {
         Ok(draining) => Ok(draining),
         Err(_) => Err(Fail::from("the port is there")),
     }
 }
 
 // Polls, a gap apart, until all was released.
-fn drain_whole<R: Wait + Abort>(rt: &R, mut draining: Drain) -> Result<Drain, Fail>
+fn drain_whole<R: Abort>(rt: &R, mut draining: Drain) -> Result<Drain, Fail>
     ensures plan { IfOk result (λ drained. drained.plan ≡ draining.plan) }
     ensures accepted { IfOk result (λ drained.
         accepted_in drained.links ≡ accepted_in draining.links) }
@@ -139,13 +138,13 @@ fn drain_whole<R: Wait + Abort>(rt: &R, mut draining: Drain) -> Result<Drain, Fa
             return Ok(draining);
         }
         let now = draining.now().saturating_add(GAP);
-        draining.poll(rt, now).expect(rt, "both networks stand");
+        draining.poll(now).expect(rt, "both networks stand");
     }
     Err(Fail::from("two polls send two frames"))
 }
 
 // The two networks once all that the port had accepted from its thread was handed to them.
-fn hand_whole<R: Threads + Wait + Abort + Copy + Send + 'static>(
+fn hand_whole<R: Threads + Abort + Copy + Send + 'static>(
     rt: R,
     alloc: Global,
 ) -> Result<(MemNetwork, MemNetwork), Fail>
@@ -154,7 +153,7 @@ fn hand_whole<R: Threads + Wait + Abort + Copy + Send + 'static>(
 {
     let (mut tx, port) = open_unused(alloc)?;
     let port = send_beside(rt, alloc, &mut tx, port)?;
-    let draining = gather_one(&rt, alloc, tx, port)?;
+    let draining = gather_one(alloc, tx, port)?;
     let draining = drain_whole(&rt, draining)?;
     Ok(draining.into_networks())
 }

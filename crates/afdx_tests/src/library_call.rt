@@ -21,10 +21,10 @@ fn one_message_from_its_port_to_both_networks(rt: HostRuntime) -> Result<(), Fai
     };
     for port in ports.iter_mut() {
         let message = b"hello".as_slice().to_vec(alloc)?;
-        assert!(rt; port.send(&rt, message).is_ok());
+        assert!(rt; port.send(message).is_ok());
     }
     assert_eq!(rt; emitter.now(), 0);
-    let report = emitter.poll(&rt, 0)?;
+    let report = emitter.poll(0)?;
     let (a, b) = emitter.into_networks();
     assert_eq!(rt; report.released.len(), 1);
     assert_hello(&rt, &a);

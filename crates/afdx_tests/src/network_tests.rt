@@ -13,7 +13,6 @@ use redundant_mux::{HandFault, MemNetwork, Network, Standing};
 use std::alloc::Global;
 use std::default::Default;
 use std::process::Abort;
-use std::sync::Wait;
 use std::test::Fail;
 
 // One link with room for six messages, and one port.
@@ -27,7 +26,7 @@ fn six(alloc: Global) -> Result<Config, Fail> {
 }
 
 /// Sends six messages of one byte, which are taken.
-fn send_six<R: Abort + Wait>(rt: &R, alloc: Global, port: &mut TxPort) {
+fn send_six<R: Abort>(rt: &R, alloc: Global, port: &mut TxPort) {
     for byte in 1..=6u8 {
         send_taken(rt, alloc, port, &[byte]);
     }
@@ -68,7 +67,7 @@ fn assert_answer(rt: &impl Abort, turn: u8, k: u8, m: u8, answer: Result<Report,
 }
 
 /// A run of six polls where A fails at hand `k` and B at hand `m`.
-fn run_failing<R: Abort + Wait>(rt: &R, alloc: Global, k: u8, m: u8) -> Result<(), Fail>
+fn run_failing<R: Abort>(rt: &R, alloc: Global, k: u8, m: u8) -> Result<(), Fail>
     requires { (1 ≤ k) × (1 ≤ m) }
 {
     let a = MemNetwork::failing_at(alloc, u64::from(k));

@@ -9,7 +9,6 @@ use afdx_tx::{Draining, Emitter, Refusal, TxPort};
 use redundant_mux::MemNetwork;
 use std::alloc::Global;
 use std::process::Abort;
-use std::sync::Wait;
 use std::test::Fail;
 
 // One sub-VL with room for two messages, and two ports on it, of 100 bytes and of 4.
@@ -73,7 +72,7 @@ fn open_pair(alloc: Global) -> Result<(Tx, TxPort, TxPort), Fail>
 }
 
 /// Asserts that a message is refused, and comes back.
-fn assert_refused<R: Abort + Wait>(
+fn assert_refused<R: Abort>(
     rt: &R,
     alloc: Global,
     port: &mut TxPort,
@@ -81,7 +80,7 @@ fn assert_refused<R: Abort + Wait>(
     why: Refusal,
 ) {
     let message = bytes.to_vec(alloc).expect(rt, "memory");
-    match port.send(rt, message) {
+    match port.send(message) {
         Ok(()) => panic!(rt; "taken"),
         Err(fault) => {
             assert_eq!(rt; fault.why, why);
@@ -103,26 +102,26 @@ fn a_message_that_is_refused_comes_back(rt: HostRuntime) -> Result<(), Fail> {
     assert_refused(&rt, alloc, &mut first, &[9], Refusal::Full);
     assert_eq!(rt; first.accepted(), 1);
     assert_eq!(rt; second.accepted(), 1);
+    // the queue is there as long as one of its ends is, and stays full
     drop(tx);
-    assert_refused(&rt, alloc, &mut first, &[9], Refusal::Closed);
+    assert_refused(&rt, alloc, &mut first, &[9], Refusal::Full);
     Ok(())
 }
 
 /// Ports of an emitter, of which one is missing. Both come back.
-fn gather_too_few<R: Wait>(rt: &R, tx: Tx, ports: Vec<TxPort>) -> Result<(Tx, Vec<TxPort>), Fail>
+fn gather_too_few(tx: Tx, ports: Vec<TxPort>) -> Result<(Tx, Vec<TxPort>), Fail>
     requires opened { AreOpenedWith tx ports.items }
     ensures tx { IfOk result (λ back. back.0 ≡ tx) }
     ensures ports { IfOk result (λ back. back.1 ≡ ports) }
 {
-    match tx.gather(rt, ports) {
+    match tx.gather(ports) {
         Ok(_) => Err(Fail::from("gathered with a port missing")),
         Err(back) => Ok(back),
     }
 }
 
 /// Both ports of an emitter, the second one first.
-fn gather_pair<R: Wait>(
-    rt: &R,
+fn gather_pair(
     alloc: Global,
     tx: Tx,
     first: TxPort,
@@ -132,7 +131,7 @@ fn gather_pair<R: Wait>(
     requires second { IsPortOfTx tx second }
 {
     let ports = vec![in alloc; second, first]?;
-    match tx.gather(rt, ports) {
+    match tx.gather(ports) {
         Ok(draining) => Ok(draining),
         Err(_) => Err(Fail::from("each port is there")),
     }
@@ -142,20 +141,20 @@ fn gather_pair<R: Wait>(
 fn ports_are_gathered_in_any_order_and_not_with_one_missing(rt: HostRuntime) -> Result<(), Fail> {
     let alloc = rt.alloc();
     let (tx, first, second) = open_pair(alloc)?;
-    let (tx, none) = gather_too_few(&rt, tx, Vec::new(alloc))?;
+    let (tx, none) = gather_too_few(tx, Vec::new(alloc))?;
     assert_eq!(rt; none.len(), 0);
-    let draining = gather_pair(&rt, alloc, tx, first, second)?;
+    let draining = gather_pair(alloc, tx, first, second)?;
     assert_eq!(rt; draining.now(), 0);
     Ok(())
 }
 
 /// Both ports send, one message goes out, and the ports come back.
-fn send_poll_and_gather<R: Abort + Wait>(rt: &R, alloc: Global) -> Result<Drain, Fail> {
+fn send_poll_and_gather<R: Abort>(rt: &R, alloc: Global) -> Result<Drain, Fail> {
     let (mut tx, mut first, mut second) = open_pair(alloc)?;
     send_taken(rt, alloc, &mut first, &[1, 2]);
     send_taken(rt, alloc, &mut second, &[3]);
     assert_poll(rt, &mut tx, 0, &[numbered(0)], BOTH);
-    gather_pair(rt, alloc, tx, first, second)
+    gather_pair(alloc, tx, first, second)
 }
 
 #[test]

@@ -8,7 +8,6 @@ use afdx_tx::{Draining, Emitter, PollFault, Release, Report, TxPort, open_tx};
 use redundant_mux::{Handed, MemNetwork, Network, Standing};
 use std::alloc::{AllocError, Global};
 use std::process::Abort;
-use std::sync::Wait;
 use std::test::Fail;
 
 pub(crate) const BOTH: Standing = Standing { a: true, b: true };
@@ -68,15 +67,15 @@ pub(crate) fn open_demo(
 }
 
 /// Sends a message, which is taken. The port stays one of its emitter.
-pub(crate) fn send_taken<R: Abort + Wait>(rt: &R, alloc: Global, port: &mut TxPort, bytes: &[u8])
+pub(crate) fn send_taken<R: Abort>(rt: &R, alloc: Global, port: &mut TxPort, bytes: &[u8])
     ensures { (tx : Tx) → IsPortOfTx tx port.old → IsPortOfTx tx port.new }
 {
     let message = bytes.to_vec(alloc).expect(rt, "memory");
-    port.send(rt, message).expect(rt, "taken");
+    port.send(message).expect(rt, "taken");
 }
 
 /// Polls at a moment that isn't before the last one. A port of the emitter stays its own.
-pub(crate) fn poll_at<R: Abort + Wait, A: Network + Drop, B: Network + Drop>(
+pub(crate) fn poll_at<R: Abort, A: Network + Drop, B: Network + Drop>(
     rt: &R,
     tx: &mut Emitter<A, B>,
     now: u64,
@@ -84,13 +83,13 @@ pub(crate) fn poll_at<R: Abort + Wait, A: Network + Drop, B: Network + Drop>(
     ensures { (port : PortView) → IsPortOfTx tx.old port → IsPortOfTx tx.new port }
 {
     assert!(rt; tx.now() <= now);
-    tx.poll(rt, now)
+    tx.poll(now)
 }
 
 /// Polls while some network stands, and asserts what was released and which networks stand then. A
 /// port of the emitter stays its own. A test that calls this has a short proof, since it keeps no
 /// report.
-pub(crate) fn assert_poll<R: Abort + Wait, A: Network + Drop, B: Network + Drop>(
+pub(crate) fn assert_poll<R: Abort, A: Network + Drop, B: Network + Drop>(
     rt: &R,
     tx: &mut Emitter<A, B>,
     now: u64,
@@ -105,7 +104,7 @@ pub(crate) fn assert_poll<R: Abort + Wait, A: Network + Drop, B: Network + Drop>
 
 /// Polls for what is left while some network stands, and asserts the same, and whether
 /// all was sent.
-pub(crate) fn assert_drained<R: Abort + Wait>(
+pub(crate) fn assert_drained<R: Abort>(
     rt: &R,
     draining: &mut Draining<MemNetwork, MemNetwork>,
     now: u64,
@@ -114,7 +113,7 @@ pub(crate) fn assert_drained<R: Abort + Wait>(
     is_done: bool,
 ) {
     assert!(rt; draining.now() <= now);
-    let answer = draining.poll(rt, now);
+    let answer = draining.poll(now);
     assert_report(rt, answer, released, standing);
     assert_eq!(rt; draining.is_done(), is_done);
 }

@@ -11,7 +11,6 @@ use redundant_mux::MemNetwork;
 use std::alloc::{AllocError, Global};
 use std::process::Abort;
 use std::snapshot::Snapshot;
-use std::sync::Wait;
 use std::test::Fail;
 use std::thread;
 use std::thread::{Promise, PromisedHandle, Threads, join_promised};
@@ -77,12 +76,12 @@ fn open_plan(
 }
 
 // Sends a message, and again after Full. Whether it was accepted.
-fn send_one<R: Wait>(rt: &R, port: &mut TxPort, bytes: Vec<u8>) -> bool
+fn send_one(port: &mut TxPort, bytes: Vec<u8>) -> bool
     ensures { (tx : Tx) → IsPortOfTx tx port.old → IsPortOfTx tx port.new }
 {
     let mut next = bytes;
     for _turn in 0..TURNS {
-        match port.send(rt, next) {
+        match port.send(next) {
             Ok(()) => return true,
             Err(
                 SendFault {
@@ -101,13 +100,13 @@ fn send_one<R: Wait>(rt: &R, port: &mut TxPort, bytes: Vec<u8>) -> bool
 
 // Sends the port's identifier with each number below `messages`, from 0 on. The port, if all were
 // accepted.
-fn send_all<R: Wait>(rt: &R, alloc: Global, mut port: TxPort, messages: u8) -> Option<TxPort>
+fn send_all(alloc: Global, mut port: TxPort, messages: u8) -> Option<TxPort>
     ensures { IfSome result (λ back. (tx : Tx) → IsPortOfTx tx port → IsPortOfTx tx back) }
 {
     let name = u8::try_from(port.id().0).ok()?;
     for number in 0..messages {
         let bytes = vec![in alloc; name, number].ok()?;
-        if !send_one(rt, &mut port, bytes) {
+        if !send_one(&mut port, bytes) {
             return None;
         }
     }
@@ -115,7 +114,7 @@ fn send_all<R: Wait>(rt: &R, alloc: Global, mut port: TxPort, messages: u8) -> O
 }
 
 // Each port sends in a thread of its own.
-fn start_all<R: Threads + Wait + Copy + Send + 'static>(
+fn start_all<R: Threads + Copy + Send + 'static>(
     rt: R,
     alloc: Global,
     ports: Vec<TxPort>,
@@ -131,7 +130,7 @@ fn start_all<R: Threads + Wait + Copy + Send + 'static>(
         let worker = thread::spawn_with(
             &rt,
             promise,
-            move || send_all(&rt, alloc, port, messages),
+            move || send_all(alloc, port, messages),
         )?;
         workers.push(worker)?;
     }
@@ -164,7 +163,7 @@ fn join_all<R: Threads>(
 }
 
 // Polls, a gap apart, until so many frames were released, while the ports send.
-fn poll_some<R: Wait + Abort>(rt: &R, tx: &mut Emitter<MemNetwork, MemNetwork>, count: usize)
+fn poll_some<R: Abort>(rt: &R, tx: &mut Emitter<MemNetwork, MemNetwork>, count: usize)
     ensures plan { tx.new.plan ≡ tx.old.plan }
     ensures queues { queues_in tx.new.links ≡ queues_in tx.old.links }
 {
@@ -174,7 +173,7 @@ fn poll_some<R: Wait + Abort>(rt: &R, tx: &mut Emitter<MemNetwork, MemNetwork>, 
             return;
         }
         let now = tx.now().saturating_add(GAP);
-        let report = tx.poll(rt, now).expect(rt, "both networks stand");
+        let report = tx.poll(now).expect(rt, "both networks stand");
         match report.released.len() {
             0 => thread::yield_now(),
             released => left = left.saturating_sub(released),
@@ -183,13 +182,13 @@ fn poll_some<R: Wait + Abort>(rt: &R, tx: &mut Emitter<MemNetwork, MemNetwork>, 
 }
 
 // Polls, a gap apart, until all was released, and no more often than so many times.
-fn drain<R: Wait + Abort>(rt: &R, draining: &mut Draining<MemNetwork, MemNetwork>, count: usize) {
+fn drain<R: Abort>(rt: &R, draining: &mut Draining<MemNetwork, MemNetwork>, count: usize) {
     for _turn in 0..count {
         if draining.is_done() {
             return;
         }
         let now = draining.now().saturating_add(GAP);
-        draining.poll(rt, now).expect(rt, "both networks stand");
+        draining.poll(now).expect(rt, "both networks stand");
     }
 }
 
@@ -223,7 +222,7 @@ fn check_frames(rt: &impl Abort, network: &MemNetwork, messages: u8) {
 
 // Each port sends so many messages from a thread of its own, while the emitter is polled. All ports
 // come back, and no more messages are left than the capacity.
-fn gather_from_threads<R: Threads + Wait + Abort + Copy + Send + 'static>(
+fn gather_from_threads<R: Threads + Abort + Copy + Send + 'static>(
     rt: R,
     alloc: Global,
     capacity: usize,
@@ -236,7 +235,7 @@ fn gather_from_threads<R: Threads + Wait + Abort + Copy + Send + 'static>(
     poll_some(&rt, &mut tx, count.saturating_sub(capacity));
     let ports = join_all(&rt, alloc, workers)?;
     check_accepted(&rt, &ports, messages);
-    match tx.gather(&rt, ports) {
+    match tx.gather(ports) {
         Ok(draining) => Ok(draining),
         Err(_) => Err(Fail::from("each port is there")),
     }
@@ -251,7 +250,7 @@ fn check_accepted(rt: &impl Abort, ports: &[TxPort], messages: u8) {
 
 // After all ports came back from their threads, and what was left is sent, both networks have every
 // message.
-fn send_from_threads<R: Threads + Wait + Abort + Copy + Send + 'static>(
+fn send_from_threads<R: Threads + Abort + Copy + Send + 'static>(
     rt: R,
     alloc: Global,
     capacity: usize,

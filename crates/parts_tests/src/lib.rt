@@ -6,8 +6,4 @@ mod frame;
 #[cfg(test)]
 mod mux;
 #[cfg(test)]
-mod queue;
-#[cfg(test)]
-mod queue_threads;
-#[cfg(test)]
 mod shaper;

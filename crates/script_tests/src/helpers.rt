@@ -4,49 +4,45 @@ use afdx_plan::demo_config;
 use std::alloc::{AllocError, Global};
 use std::io::{Read, Write};
 use std::process::Abort;
-use std::sync::Wait;
 use tx_script::{LineFault, RunFault, Summary, run_script};
 
 // A script over the demonstration configuration: port 10 on virtual link 1, of one sub-VL with room
 // for two messages.
-pub fn run<T: Wait, R: Read + Drop, W: Write>(
-    rt: &T,
+pub fn run<R: Read + Drop, W: Write>(
     alloc: Global,
     script: R,
     text: &mut W,
 ) -> Result<Summary, RunFault> {
     let config = demo_config(alloc).map_err(|_| RunFault::Memory)?;
-    run_script(rt, alloc, config, script, text)
+    run_script(alloc, config, script, text)
 }
 
 // What it comes to, and what is written of it.
-pub fn transcript<T: Wait, R: Read + Drop>(
-    rt: &T,
+pub fn transcript<R: Read + Drop>(
     alloc: Global,
     script: R,
 ) -> (Result<Summary, RunFault>, Vec<u8>) {
     let mut text = Vec::new(alloc);
-    let told = run(rt, alloc, script, &mut text);
+    let told = run(alloc, script, &mut text);
     (told, text)
 }
 
 // Asserts what a script over the demonstration configuration comes to, and what is written of it. A
 // test that calls this has a short proof, since it keeps no writer of its own.
-pub fn assert_run<T: Wait + Abort, R: Read + Drop>(
+pub fn assert_run<T: Abort, R: Read + Drop>(
     rt: &T,
     alloc: Global,
     script: R,
     wanted: Result<Summary, RunFault>,
     wanted_text: &[u8],
 ) {
-    let (told, text) = transcript(rt, alloc, script);
+    let (told, text) = transcript(alloc, script);
     assert_eq!(rt; told, wanted);
     assert_eq!(rt; text.as_slice(), wanted_text);
 }
 
 // A script over a configuration, by its text, and what is written of it.
-pub fn transcript_over<T: Wait>(
-    rt: &T,
+pub fn transcript_over(
     alloc: Global,
     plan: &str,
     script: &str,
@@ -55,12 +51,12 @@ pub fn transcript_over<T: Wait>(
     let Ok(config) = read_config(alloc, plan.as_bytes()) else {
         return (Err(RunFault::Memory), text);
     };
-    let told = run_script(rt, alloc, config, script.as_bytes(), &mut text);
+    let told = run_script(alloc, config, script.as_bytes(), &mut text);
     (told, text)
 }
 
 // Asserts what a script over a configuration comes to, and what is written of it.
-pub fn assert_run_over<T: Wait + Abort>(
+pub fn assert_run_over<T: Abort>(
     rt: &T,
     alloc: Global,
     plan: &str,
@@ -68,7 +64,7 @@ pub fn assert_run_over<T: Wait + Abort>(
     wanted: Summary,
     wanted_text: &str,
 ) {
-    let (told, text) = transcript_over(rt, alloc, plan, script);
+    let (told, text) = transcript_over(alloc, plan, script);
     assert_eq!(rt; told, Ok(wanted));
     assert_eq!(rt; text.as_slice(), wanted_text.as_bytes());
 }

@@ -292,7 +292,7 @@ fn the_greatest_plan_sends_all_that_its_queues_hold_in_the_order_of_its_links(
     let plan = greatest_plan(rt.alloc())?;
     let script = greatest_script(rt.alloc())?;
     let wanted = greatest_transcript(rt.alloc())?;
-    let (told, text) = transcript_over(&rt, rt.alloc(), &plan, &script);
+    let (told, text) = transcript_over(rt.alloc(), &plan, &script);
     assert_eq!(rt; told, Ok(sums(65_536, 256, 65_536)));
     assert!(rt; text.as_slice() == wanted.as_bytes());
     Ok(())

@@ -3,7 +3,6 @@ use crate::helpers::{
 };
 use std::alloc::{AllocError, Global};
 use std::io::{self, Read, Write};
-use std::sync::Wait;
 use std::test::Fail;
 use tx_script::{LineFault, RunFault, Summary};
 
@@ -22,7 +21,7 @@ fn a_message_goes_out_on_both_networks(rt: HostRuntime) {
 #[test]
 fn nothing_is_written_where_nothing_was_sent(rt: HostRuntime) {
     for (script, accepted) in [("", 0), ("at 0\n", 0), ("send 10 01\n", 1)] {
-        let (told, text) = transcript(&rt, rt.alloc(), script.as_bytes());
+        let (told, text) = transcript(rt.alloc(), script.as_bytes());
         assert_eq!(rt; told, Ok(sums(accepted, 0, 0)), "at {script}");
         assert_eq!(rt; text.len(), 0, "at {script}");
     }
@@ -39,7 +38,7 @@ fn a_message_of_1_471_bytes_fills_one_frame(rt: HostRuntime) -> Result<(), Fail>
         "00\nB 0 0300000000010200000001400800450005db",
     ];
     let wanted = joined(rt.alloc(), &parts)?;
-    let (told, text) = transcript(&rt, rt.alloc(), script.as_bytes());
+    let (told, text) = transcript(rt.alloc(), script.as_bytes());
     assert_eq!(rt; told, Ok(sums(1, 0, 1)));
     assert_eq!(rt; text.len(), 2 * (4 + 2 * 1_514 + 1));
     assert!(rt; text.as_slice().starts_with(wanted.as_bytes()));
@@ -203,21 +202,20 @@ fn notes_and_frames_so_far_are_written_after_a_fault(rt: HostRuntime) -> Result<
 }
 
 // A script over a writer with room for so many bytes.
-fn run_within<T: Wait>(
-    rt: &T,
+fn run_within(
     alloc: Global,
     size: usize,
     script: &[u8],
 ) -> Result<Summary, RunFault> {
     let mut room = vec![in alloc; 0u8; size].map_err(|_| RunFault::Memory)?;
     let mut text = room.as_mut_slice();
-    run(rt, alloc, script, &mut text)
+    run(alloc, script, &mut text)
 }
 
 #[test]
 fn a_writer_that_fails_ends_the_run(rt: HostRuntime) {
     for size in [10, 30, 200] {
-        let told = run_within(&rt, rt.alloc(), size, b"send 99 01\nsend 10 01\nat 0\n");
+        let told = run_within(rt.alloc(), size, b"send 99 01\nsend 10 01\nat 0\n");
         assert_eq!(rt; told, Err(RunFault::Write), "at {size}");
     }
 }

@@ -1,7 +1,6 @@
 use crate::helpers::{FIRST, Small, assert_run, at_line, expected, run, sums, transcript};
 use std::alloc::{AllocError, Global};
 use std::io::{self, Read, Write};
-use std::sync::Wait;
 use std::test::Fail;
 use tx_script::{LineFault, RunFault, Summary};
 
@@ -97,21 +96,21 @@ impl Write for Limited {
 }
 
 // What a script comes to over a writer that takes so many writes, and how many of them are left.
-fn run_limited<T: Wait>(rt: &T, alloc: Global, left: u32) -> (Result<Summary, RunFault>, u32) {
+fn run_limited(alloc: Global, left: u32) -> (Result<Summary, RunFault>, u32) {
     let script = b"send 99 01\nsend 10 01\nat 0\nat 5\nat 0\n";
     let mut writer = Limited { left };
-    let told = run(rt, alloc, script.as_slice(), &mut writer);
+    let told = run(alloc, script.as_slice(), &mut writer);
     (told, writer.left)
 }
 
 #[test]
 fn a_writer_that_fails_at_any_write_ends_the_run(rt: HostRuntime) {
-    let (told, unused) = run_limited(&rt, rt.alloc(), 1_000);
+    let (told, unused) = run_limited(rt.alloc(), 1_000);
     assert_eq!(rt; told, Ok(sums(1, 2, 1)));
     let writes = 1_000u32.saturating_sub(unused);
     assert!(rt; writes > 4);
     for left in 0..writes {
-        let (told, left_over) = run_limited(&rt, rt.alloc(), left);
+        let (told, left_over) = run_limited(rt.alloc(), left);
         assert_eq!(rt; told, Err(RunFault::Write), "at {left}");
         assert_eq!(rt; left_over, 0, "at {left}");
     }
@@ -178,7 +177,7 @@ fn each_prefix_of_a_script_has_its_fault_or_none(rt: HostRuntime) -> Result<(), 
     let script = "send 10 01\nat 0\n";
     for bytes in 0..=script.len() {
         let wanted = prefix_text(rt.alloc(), bytes)?;
-        let (told, text) = transcript(&rt, rt.alloc(), &script.as_bytes()[..bytes]);
+        let (told, text) = transcript(rt.alloc(), &script.as_bytes()[..bytes]);
         assert_eq!(rt; told.err(), prefix_fault(bytes), "at {bytes}");
         assert_eq!(rt; text.as_slice(), wanted.as_bytes(), "at {bytes}");
     }

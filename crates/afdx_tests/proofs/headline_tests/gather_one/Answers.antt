@@ -20,4 +20,4 @@ own_one tx draining ports port e gathered place lt =
     own.accepted ∙ ap (λ (p : PortView). p.sender.own) is
 
 pub returns-in-Ok-clause-own : goal.returns-in-Ok-clause-own
-returns-in-Ok-clause-own g c = own_one c.args.tx c.in-Ok.draining _ c.args.port (c.in_ok-ports.ensures.items) c.in-Ok.ensures.gathered
+returns-in-Ok-clause-own c = own_one c.args.tx c.in-Ok.draining _ c.args.port (c.in_ok-ports.ensures.items) c.in-Ok.ensures.gathered

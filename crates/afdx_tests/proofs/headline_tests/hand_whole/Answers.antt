@@ -8,7 +8,7 @@ use Rattle.afdx_legal.specs.Allowed.{AreAllowed, AreOwn}
 use Rattle.afdx_legal.specs.Done.{IsAllDone, IsHandedWhole, longer_list}
 use Rattle.afdx_tx.specs.Drain.{accepted_in}
 use Rattle.afdx_tx.specs.Ports.{PortView}
-use Rattle.afdx_tests.specs.Headline.{after_two, two_messages}
+use Rattle.afdx_tests.specs.Headline.{SentTwo, two_messages}
 use Rattle.afdx_tests.proofs.headline_tests.hand_whole.Goals as goal
 
 -- the longer of two lists is told by the lists alone
@@ -33,9 +33,8 @@ whole plan accepted own lines a b demo at_a at_b legal allowed owned done =
     })))
 
 -- what a port that was unused has sent
-two_own : (port back : PortView) → port.sender.own ≡ [] → back ≡ after_two port → back.sender.own ≡ two_messages
-two_own port back fresh is =
-    ap (λ (p : PortView). p.sender.own) is ∙ ap (λ own. (own ++ (1 ∷ []) ∷ []) ++ (2 ∷ []) ∷ []) fresh
+two_own : (port back : PortView) → port.sender.own ≡ [] → SentTwo port back → back.sender.own ≡ two_messages
+two_own port back fresh is = is.own ∙ ap (λ own. (own ++ (1 ∷ []) ∷ []) ++ (2 ∷ []) ∷ []) fresh
 
 pub returns : goal.returns
 returns g c =

@@ -10,7 +10,7 @@ both P x y p q (suc zero) d lt = q
 both P x y p q (suc (suc k)) d lt = absurd (omega arith)
 
 pub gather-requires : goal.gather-requires
-gather-requires g c = record {
+gather-requires c = record {
   opened = subst (λ (ports : List PortView). All (IsPortOfTx c.args.tx) ports) (sym c.in_ok-ports.ensures.items)
       (both (IsPortOfTx c.args.tx) c.args.second c.args.first c.requires.second c.requires.first);
 }

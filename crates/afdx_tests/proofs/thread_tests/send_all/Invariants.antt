@@ -3,4 +3,4 @@ use Rattle.afdx_tx.specs.Ports.{IsPortOfTx}
 use Rattle.afdx_tests.proofs.thread_tests.send_all.Given as goal
 
 abbrev pub invariant-loop-number : goal.invariant-loop-number
-invariant-loop-number g l = (tx : Tx) → IsPortOfTx tx l.fn.port → IsPortOfTx tx l.port
+invariant-loop-number l = (tx : Tx) → IsPortOfTx tx l.fn.port → IsPortOfTx tx l.port

@@ -3,4 +3,4 @@ use Rattle.afdx_tx.specs.Ports.{IsPortOfTx}
 use Rattle.afdx_tests.proofs.thread_tests.send_one.Given as goal
 
 abbrev pub invariant-loop-turn : goal.invariant-loop-turn
-invariant-loop-turn g l = (tx : Tx) → IsPortOfTx tx l.fn.port → IsPortOfTx tx l.port
+invariant-loop-turn l = (tx : Tx) → IsPortOfTx tx l.fn.port → IsPortOfTx tx l.port

@@ -1,5 +1,5 @@
 use Rattle.std.proofs.Common.{length}
-use Rattle.parts_tests.proofs.queue_threads.take_rest.Given as goal
+use Rattle.queue_tests.proofs.threads.take_rest.Given as goal
 
 abbrev pub decreases-loop-item : goal.decreases-loop-item
 decreases-loop-item l = length l.gathered.left

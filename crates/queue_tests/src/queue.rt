@@ -1,70 +1,12 @@
 //! Tests of a queue on one thread.
-ghost use Rattle.std.specs.Prelude.{◌≡◌, ◌^◌, ◌≤◌, ◌∷◌, [], IfOk};
-ghost use Rattle.subvl_queue.specs.Views.{AreOf};
+ghost use Rattle.std.specs.Prelude.{◌≡◌, IfOk};
 
+use crate::helpers::{assert_sent, assert_taken, gather, one, open_one, open_two, take_left, two};
+use subvl_queue::{Gathered, Receiver, Sender, Why, make};
 use std::alloc::{AllocError, Global};
 use std::fmt::InlineText;
 use std::process::Abort;
-use std::sync::Wait;
 use std::test::Fail;
-use subvl_queue::{Gathered, Item, Receiver, Sender, Why, make};
-
-// Sends a message of two bytes, and asserts why it was refused, if it was; then it came back. A test
-// that calls this has a short proof, since it keeps no message.
-fn assert_sent<R: Wait + Abort>(
-    rt: &R,
-    alloc: Global,
-    sender: &mut Sender,
-    message: [u8; 2],
-    wanted: Option<Why>,
-)
-    ensures { sender.new.queue ≡ sender.old.queue }
-{
-    let bytes = Vec::from_array(alloc, message).expect(rt, "memory");
-    match sender.send(rt, bytes) {
-        Ok(()) => assert_eq!(rt; None, wanted),
-        Err(refused) => {
-            assert_eq!(rt; refused.bytes.as_slice(), message.as_slice());
-            assert_eq!(rt; Some(refused.why), wanted);
-        }
-    }
-}
-
-// An item's port and its two bytes.
-fn shown(item: Item) -> Option<[u8; 3]> {
-    let first = *item.bytes.first()?;
-    let second = *item.bytes.get(1)?;
-    Some([item.port, first, second])
-}
-
-// Takes the next message, and asserts what it is, if there is one.
-fn assert_taken<R: Wait + Abort>(rt: &R, receiver: &mut Receiver, wanted: Option<[u8; 3]>)
-    ensures { receiver.new.queue ≡ receiver.old.queue }
-{
-    let taken = match receiver.take(rt) {
-        Some(item) => shown(item),
-        None => None,
-    };
-    assert_eq!(rt; taken, wanted);
-}
-
-// Takes the next message that is left, shown.
-fn take_left(gathered: &mut Gathered) -> Option<[u8; 3]> {
-    let item = gathered.take()?;
-    shown(item)
-}
-
-// A queue of one sender.
-fn open_one(alloc: Global, capacity: usize, calls: u64) -> Result<(Receiver, Sender), AllocError>
-    requires some { 1 ≤ capacity }
-    requires capacity { capacity ≤ 256 }
-    requires some_calls { 1 ≤ calls }
-    requires calls { calls ≤ 2 ^ 40 }
-{
-    let (receiver, mut senders) = make(alloc, capacity, 1, calls)?;
-    let sender = senders.pop().ok_or(AllocError)?;
-    Ok((receiver, sender))
-}
 
 #[test]
 fn a_queue_of_two_takes_two_messages_and_gives_them_in_order(rt: HostRuntime) -> Result<(), Fail> {
@@ -85,6 +27,21 @@ fn a_queue_of_two_takes_two_messages_and_gives_them_in_order(rt: HostRuntime) ->
 }
 
 #[test]
+fn a_ring_of_three_places_gives_each_message_of_three_turns(rt: HostRuntime) -> Result<(), Fail> {
+    let alloc = rt.alloc();
+    let (mut receiver, mut sender) = open_one(alloc, 3, 10)?;
+    for number in 0..4 {
+        assert_sent(&rt, alloc, &mut sender, [number, 1], None);
+        assert_sent(&rt, alloc, &mut sender, [number, 2], None);
+        assert_taken(&rt, &mut receiver, Some([0, number, 1]));
+        assert_taken(&rt, &mut receiver, Some([0, number, 2]));
+        assert_taken(&rt, &mut receiver, None);
+    }
+    assert_eq!(rt; sender.accepted(), 8);
+    Ok(())
+}
+
+#[test]
 fn each_senders_messages_keep_their_order(rt: HostRuntime) -> Result<(), Fail> {
     let alloc = rt.alloc();
     let (mut receiver, mut first, mut second) = open_two(alloc)?;
@@ -100,29 +57,8 @@ fn each_senders_messages_keep_their_order(rt: HostRuntime) -> Result<(), Fail> {
     Ok(())
 }
 
-// The senders in a list, in this order.
-fn two(alloc: Global, first: Sender, second: Sender) -> Result<Vec<Sender>, AllocError>
-    requires { second.queue ≡ first.queue }
-    ensures { IfOk result (λ senders. AreOf first.queue senders.items) }
-{
-    let mut senders = Vec::new(alloc);
-    senders.push(first)?;
-    senders.push(second)?;
-    Ok(senders)
-}
-
-// The sender alone in a list.
-fn one(alloc: Global, sender: Sender) -> Result<Vec<Sender>, AllocError>
-    ensures is { IfOk result (λ senders. senders.items ≡ sender ∷ []) }
-    ensures queue { IfOk result (λ senders. AreOf sender.queue senders.items) }
-{
-    let mut senders = Vec::new(alloc);
-    senders.push(sender)?;
-    Ok(senders)
-}
-
 // Gathers one of two senders, which is refused. Both come back.
-fn gather_alone<R: Wait + Abort>(
+fn gather_alone<R: Abort>(
     rt: &R,
     alloc: Global,
     receiver: Receiver,
@@ -133,7 +69,7 @@ fn gather_alone<R: Wait + Abort>(
     ensures sender { IfOk result (λ r. r.1.queue ≡ receiver.queue) }
 {
     let alone = one(alloc, sender)?;
-    match receiver.gather(rt, alone) {
+    match receiver.gather(alone) {
         Ok(_) => panic!(rt; "a sender is missing"),
         Err((receiver, mut back)) => {
             let sender = back.pop().ok_or(AllocError)?;
@@ -142,27 +78,9 @@ fn gather_alone<R: Wait + Abort>(
     }
 }
 
-// A queue for eight messages of two senders.
-fn open_two(alloc: Global) -> Result<(Receiver, Sender, Sender), AllocError>
-    ensures first { IfOk result (λ r. r.1.queue ≡ r.0.queue) }
-    ensures second { IfOk result (λ r. r.2.queue ≡ r.0.queue) }
-{
-    let (receiver, mut senders) = make(alloc, 8, 2, 10)?;
-    let second = senders.pop().ok_or(AllocError)?;
-    let first = senders.pop().ok_or(AllocError)?;
-    Ok((receiver, first, second))
-}
-
-// Gathers the senders, each of which is there.
-fn gather<R: Wait>(rt: &R, receiver: Receiver, senders: Vec<Sender>) -> Result<Gathered, AllocError>
-    requires { AreOf receiver.queue senders.items }
-{
-    receiver.gather(rt, senders).ok().ok_or(AllocError)
-}
-
 // Two messages of the first sender and one of the second, of which the first is taken. Then all
 // ends are gathered, the second sender first, and not by itself.
-fn send_three_take_one<R: Wait + Abort>(rt: &R, alloc: Global) -> Result<Gathered, AllocError> {
+fn send_three_take_one<R: Abort>(rt: &R, alloc: Global) -> Result<Gathered, AllocError> {
     let (mut receiver, mut first, mut second) = open_two(alloc)?;
     assert_sent(rt, alloc, &mut first, [5, 1], None);
     assert_sent(rt, alloc, &mut second, [6, 1], None);
@@ -171,7 +89,7 @@ fn send_three_take_one<R: Wait + Abort>(rt: &R, alloc: Global) -> Result<Gathere
     let (receiver, second) = gather_alone(rt, alloc, receiver, second)?;
     assert_eq!(rt; second.index(), 1);
     let both = two(alloc, second, first)?;
-    gather(rt, receiver, both)
+    gather(receiver, both)
 }
 
 #[test]
@@ -186,38 +104,66 @@ fn gathering_needs_every_sender_in_any_order(rt: HostRuntime) -> Result<(), Fail
     Ok(())
 }
 
+// Gathers with no sender, which is refused. The receiver comes back.
+fn gather_none<R: Abort>(rt: &R, alloc: Global, receiver: Receiver) -> Result<Receiver, AllocError>
+    ensures { IfOk result (λ r. r.queue ≡ receiver.queue) }
+{
+    match receiver.gather(Vec::new(alloc)) {
+        Ok(_) => panic!(rt; "a sender is missing"),
+        Err((receiver, none)) => {
+            assert_eq!(rt; none.len(), 0);
+            Ok(receiver)
+        }
+    }
+}
+
 #[test]
-fn the_fourth_ask_of_three_is_exhausted(rt: HostRuntime) -> Result<(), Fail> {
+fn two_calls_of_one_place_are_ok_and_full_and_then_exhausted(rt: HostRuntime) -> Result<(), Fail> {
     let alloc = rt.alloc();
-    let (mut receiver, mut sender) = open_one(alloc, 1, 3)?;
+    let (mut receiver, mut sender) = open_one(alloc, 1, 2)?;
     assert_sent(&rt, alloc, &mut sender, [1, 0], None);
     assert_sent(&rt, alloc, &mut sender, [2, 0], Some(Why::Full));
-    assert_sent(&rt, alloc, &mut sender, [3, 0], Some(Why::Full));
+    assert_sent(&rt, alloc, &mut sender, [3, 0], Some(Why::Exhausted));
     assert_taken(&rt, &mut receiver, Some([0, 1, 0]));
     assert_sent(&rt, alloc, &mut sender, [4, 0], Some(Why::Exhausted));
-    assert_taken(&rt, &mut receiver, None);
     assert_eq!(rt; sender.accepted(), 1);
+    let receiver = gather_none(&rt, alloc, receiver)?;
+    let mut gathered = gather(receiver, one(alloc, sender)?)?;
+    assert_eq!(rt; take_left(&mut gathered), None);
     Ok(())
 }
 
 #[test]
-fn a_queue_whose_receiver_is_gone_is_closed_until_the_calls_are_used_up(
+fn a_sender_goes_on_without_its_receiver_until_there_is_no_room(
     rt: HostRuntime,
 ) -> Result<(), Fail> {
     let alloc = rt.alloc();
-    let (receiver, mut sender) = open_one(alloc, 2, 2)?;
+    let (receiver, mut sender) = open_one(alloc, 2, 4)?;
     assert_sent(&rt, alloc, &mut sender, [1, 0], None);
     drop(receiver);
-    assert_sent(&rt, alloc, &mut sender, [2, 0], Some(Why::Closed));
-    assert_sent(&rt, alloc, &mut sender, [3, 0], Some(Why::Exhausted));
-    assert_eq!(rt; sender.accepted(), 1);
+    assert_sent(&rt, alloc, &mut sender, [2, 0], None);
+    assert_sent(&rt, alloc, &mut sender, [3, 0], Some(Why::Full));
+    assert_sent(&rt, alloc, &mut sender, [4, 0], Some(Why::Full));
+    assert_sent(&rt, alloc, &mut sender, [5, 0], Some(Why::Exhausted));
+    assert_eq!(rt; sender.accepted(), 2);
+    Ok(())
+}
+
+#[test]
+fn a_receiver_goes_on_without_its_senders(rt: HostRuntime) -> Result<(), Fail> {
+    let alloc = rt.alloc();
+    let (mut receiver, mut sender) = open_one(alloc, 2, 4)?;
+    assert_sent(&rt, alloc, &mut sender, [1, 0], None);
+    drop(sender);
+    assert_taken(&rt, &mut receiver, Some([0, 1, 0]));
+    assert_taken(&rt, &mut receiver, None);
     Ok(())
 }
 
 #[test]
 fn a_queue_without_senders_is_gathered_at_once(rt: HostRuntime) -> Result<(), Fail> {
     let (receiver, senders) = make(rt.alloc(), 256, 0, 1)?;
-    let mut gathered = receiver.gather(&rt, senders).ok().ok_or(AllocError)?;
+    let mut gathered = receiver.gather(senders).ok().ok_or(AllocError)?;
     assert!(rt; gathered.is_drained());
     assert_eq!(rt; take_left(&mut gathered), None);
     Ok(())

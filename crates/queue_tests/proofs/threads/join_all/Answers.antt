@@ -3,8 +3,8 @@ use Rattle.std.proofs.Math.ListN as base
 use Rattle.std.proofs.lemmas.List.{get_or-map}
 use Rattle.std.specs.declared.thread.PromisedHandle.{PromisedHandle}
 use Rattle.subvl_queue.specs.Views.{SenderView}
-use Rattle.parts_tests.specs.declared.queue_threads.ComesBack.{ComesBack}
-use Rattle.parts_tests.proofs.queue_threads.join_all.Goals as goal
+use Rattle.queue_tests.specs.declared.threads.ComesBack.{ComesBack}
+use Rattle.queue_tests.proofs.threads.join_all.Goals as goal
 
 abbrev Worker : Type 0
 Worker = PromisedHandle (Option SenderView) ComesBack

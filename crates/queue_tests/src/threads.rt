@@ -2,14 +2,13 @@
 ghost use Rattle.std.specs.Prelude.{◌≡◌, ℕ, ◌<◌, ◌≤◌, ◌++◌, length, map, slice_index_or, Some, IfOk, IfSome};
 ghost use Rattle.subvl_queue.specs.Views.{SenderView};
 
+use subvl_queue::{Gathered, Item, Receiver, Refused, Sender, Why, make};
 use std::alloc::{AllocError, Global};
 use std::process::Abort;
 use std::snapshot::Snapshot;
-use std::sync::Wait;
 use std::test::Fail;
 use std::thread;
 use std::thread::{Promise, PromisedHandle, Threads, join_promised};
-use subvl_queue::{Gathered, Item, Receiver, Refused, Sender, Why, make};
 
 // How many messages each sender sends.
 const MESSAGES: u8 = 100;
@@ -32,13 +31,13 @@ impl Promise<Option<Sender>> for ComesBack {
 type Worker = PromisedHandle<Option<Sender>, ComesBack>;
 
 // Sends a message, and again after Full. Whether it was accepted.
-fn send_one<R: Wait>(rt: &R, sender: &mut Sender, bytes: Vec<u8>) -> bool
+fn send_one(sender: &mut Sender, bytes: Vec<u8>) -> bool
     requires { length bytes.items ≡ 2 }
     ensures { sender.new.queue ≡ sender.old.queue }
 {
     let mut next = bytes;
     for _turn in 0..TURNS {
-        match sender.send(rt, next) {
+        match sender.send(next) {
             Ok(()) => return true,
             Err(
                 Refused {
@@ -61,23 +60,23 @@ fn message(alloc: Global, port: u8, number: u8) -> Result<Vec<u8>, AllocError>
     Ok(vec![in alloc; port, number]?)
 }
 
-// Sends the sender's index with each number, from 0 on. The sender, if all were accepted.
-fn send_all<R: Wait>(rt: &R, alloc: Global, mut sender: Sender) -> Option<Sender>
+// Sends the sender's index with each number, from 0 on, until one is refused for good.
+fn send_all(alloc: Global, mut sender: Sender) -> Option<Sender>
     ensures { IfSome result (λ s. s.queue ≡ sender.queue) }
 {
     let port = sender.index() as u8;
     for number in 0..MESSAGES {
         let bytes = message(alloc, port, number).ok()?;
-        if !send_one(rt, &mut sender, bytes) {
-            return None;
+        if !send_one(&mut sender, bytes) {
+            return Some(sender);
         }
     }
     Some(sender)
 }
 
 // Each sender sends in a thread of its own.
-fn start_all<R: Threads + Wait + Copy + Send + 'static>(
-    rt: R,
+fn start_all<R: Threads>(
+    rt: &R,
     alloc: Global,
     senders: Vec<Sender>,
 ) -> Result<Vec<Worker>, AllocError>
@@ -88,7 +87,7 @@ fn start_all<R: Threads + Wait + Copy + Send + 'static>(
         let promise = ComesBack {
             of: Snapshot::of(&sender),
         };
-        let worker = thread::spawn_with(&rt, promise, move || send_all(&rt, alloc, sender))?;
+        let worker = thread::spawn_with(rt, promise, move || send_all(alloc, sender))?;
         workers.push(worker)?;
     }
     Ok(workers)
@@ -121,19 +120,14 @@ fn join_all<R: Threads>(
 }
 
 // Takes so many messages, while the senders run.
-fn take_some<R: Wait>(
-    rt: &R,
-    receiver: &mut Receiver,
-    into: &mut Vec<Item>,
-    count: usize,
-) -> Result<(), AllocError>
+fn take_some(receiver: &mut Receiver, into: &mut Vec<Item>, count: usize) -> Result<(), AllocError>
     ensures { receiver.new.queue ≡ receiver.old.queue }
 {
     for _turn in 0..TURNS {
         if into.len() >= count {
             return Ok(());
         }
-        match receiver.take(rt) {
+        match receiver.take() {
             Some(item) => into.push(item)?,
             None => thread::yield_now(),
         }
@@ -167,8 +161,8 @@ fn check_items<R: Abort>(
 }
 
 // A thread for each sender; all messages arrive, each sender's in its order.
-fn send_from_threads<R: Threads + Wait + Abort + Copy + Send + 'static>(
-    rt: R,
+fn send_from_threads<R: Threads + Abort>(
+    rt: &R,
     alloc: Global,
     capacity: usize,
     ports: usize,
@@ -181,30 +175,64 @@ fn send_from_threads<R: Threads + Wait + Abort + Copy + Send + 'static>(
     let (mut receiver, senders) = make(alloc, capacity, ports, 1 << 40)?;
     let workers = start_all(rt, alloc, senders)?;
     let mut items = Vec::new(alloc);
-    take_some(
-        &rt,
-        &mut receiver,
-        &mut items,
-        count.saturating_sub(capacity),
-    )?;
-    let senders = join_all(&rt, alloc, workers)?;
+    take_some(&mut receiver, &mut items, count.saturating_sub(capacity))?;
+    let senders = join_all(rt, alloc, workers)?;
     for sender in senders.as_slice() {
         assert_eq!(rt; sender.accepted(), u64::from(MESSAGES));
     }
-    let gathered = receiver.gather(&rt, senders).ok().ok_or(AllocError)?;
+    let gathered = receiver.gather(senders).ok().ok_or(AllocError)?;
     take_rest(gathered, &mut items)?;
     assert_eq!(rt; items.len(), count);
-    check_items(&rt, alloc, items.as_slice(), ports)
+    check_items(rt, alloc, items.as_slice(), ports)
+}
+
+// How many messages the senders say that were accepted.
+fn accepted_by(senders: &[Sender]) -> u64 {
+    let mut sum = 0u64;
+    for sender in senders {
+        sum = sum.saturating_add(sender.accepted());
+    }
+    sum
+}
+
+// Sixteen threads send when the queue is closed. The total is the sum of what they were told, and
+// each message of it arrives.
+fn close_while_threads_send<R: Threads + Abort>(rt: &R, alloc: Global) -> Result<(), AllocError> {
+    let (mut receiver, senders) = make(alloc, 4, 16, 1 << 40)?;
+    let workers = start_all(rt, alloc, senders)?;
+    let mut items = Vec::new(alloc);
+    take_some(&mut receiver, &mut items, 200)?;
+    let total = close(&mut receiver);
+    let senders = join_all(rt, alloc, workers)?;
+    assert_eq!(rt; accepted_by(senders.as_slice()), total);
+    let gathered = receiver.gather(senders).ok().ok_or(AllocError)?;
+    take_rest(gathered, &mut items)?;
+    assert_eq!(rt; items.len() as u64, total);
+    assert!(rt; total >= 200 && total <= 204);
+    check_items(rt, alloc, items.as_slice(), 16)
+}
+
+// Closes the queue. The total.
+fn close(receiver: &mut Receiver) -> u64
+    ensures { receiver.new.queue ≡ receiver.old.queue }
+{
+    receiver.close()
+}
+
+#[test]
+fn a_close_while_threads_send_tells_what_they_sent(rt: HostRuntime) -> Result<(), Fail> {
+    close_while_threads_send(&rt, rt.alloc())?;
+    Ok(())
 }
 
 #[test]
 fn sixteen_threads_send_through_one_place(rt: HostRuntime) -> Result<(), Fail> {
-    send_from_threads(rt, rt.alloc(), 1, 16)?;
+    send_from_threads(&rt, rt.alloc(), 1, 16)?;
     Ok(())
 }
 
 #[test]
 fn sixty_four_threads_send_through_256_places(rt: HostRuntime) -> Result<(), Fail> {
-    send_from_threads(rt, rt.alloc(), 256, 64)?;
+    send_from_threads(&rt, rt.alloc(), 256, 64)?;
     Ok(())
 }
