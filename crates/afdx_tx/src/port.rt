@@ -106,8 +106,8 @@ impl TxPort {
 
     /// Puts a message at the end of the queue of its sub-VL, or hands it back and says why: it has
     /// no bytes, it is over the port's greatest message, or its queue refused it. Where the length
-    /// is refused nothing has changed; otherwise only how often the port asked. The call may wait
-    /// for a poll that is in the middle of a take. Its body asks for no memory.
+    /// is refused nothing has changed; otherwise only how often the port asked, and what it found.
+    /// The call waits for nobody. Its body asks for no memory.
     pub fn send(&mut self, bytes: Vec<u8>) -> Result<(), SendFault>
         ensures accepted { IfOk result (λ _. Accepts self.old bytes.items self.new) }
         ensures sendable { IfOk result (λ _. MaySend self.old.plan (length bytes.items)) }
@@ -116,10 +116,27 @@ impl TxPort {
         ensures refused { IfErr result
             (λ fault. Refuses self.old (length bytes.items) fault.why self.new) }
     {
+        self.send_with(bytes, || {})
+    }
+
+    /// As `send`. Where the message is accepted, `pause` runs before it can be taken. Where it is
+    /// refused, `pause` doesn't run.
+    pub fn send_with<F: FnOnce()>(&mut self, bytes: Vec<u8>, pause: F) -> Result<(), SendFault>
+    where
+        F: Drop,
+        requires { F.pre pause }
+        ensures accepted { IfOk result (λ _. Accepts self.old bytes.items self.new) }
+        ensures sendable { IfOk result (λ _. MaySend self.old.plan (length bytes.items)) }
+        ensures open { IfOk result (λ _. self.old.sender.asks < self.old.sender.calls) }
+        ensures paused { IfOk result (λ _. F.post pause tt) }
+        ensures back { IfErr result (λ fault. fault.bytes.items ≡ bytes.items) }
+        ensures refused { IfErr result
+            (λ fault. Refuses self.old (length bytes.items) fault.why self.new) }
+    {
         if let Some(why) = length_refusal(&self.plan, bytes.len()) {
             return Err(SendFault { why, bytes });
         }
-        match self.sender.send(bytes) {
+        match self.sender.send_with(bytes, pause) {
             Ok(()) => Ok(()),
             Err(refused) => Err(handed_back(refused)),
         }
