@@ -19,11 +19,7 @@ fn open(rt: &HostRuntime, path: &str) -> Result<File, Failure> {
 }
 
 /// Does what the words ask for. The configuration is read before the script is opened.
-fn obey<W: Write>(
-    rt: &HostRuntime,
-    words: Words,
-    writer: &mut W,
-) -> Result<End, Failure> {
+fn obey<W: Write>(rt: &HostRuntime, words: Words, writer: &mut W) -> Result<End, Failure> {
     let alloc = rt.alloc();
     match words {
         Words::Script => {

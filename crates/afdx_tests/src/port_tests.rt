@@ -72,13 +72,7 @@ fn open_pair(alloc: Global) -> Result<(Tx, TxPort, TxPort), Fail>
 }
 
 /// Asserts that a message is refused, and comes back.
-fn assert_refused<R: Abort>(
-    rt: &R,
-    alloc: Global,
-    port: &mut TxPort,
-    bytes: &[u8],
-    why: Refusal,
-) {
+fn assert_refused<R: Abort>(rt: &R, alloc: Global, port: &mut TxPort, bytes: &[u8], why: Refusal) {
     let message = bytes.to_vec(alloc).expect(rt, "memory");
     match port.send(message) {
         Ok(()) => panic!(rt; "taken"),
@@ -121,12 +115,7 @@ fn gather_too_few(tx: Tx, ports: Vec<TxPort>) -> Result<(Tx, Vec<TxPort>), Fail>
 }
 
 /// Both ports of an emitter, the second one first.
-fn gather_pair(
-    alloc: Global,
-    tx: Tx,
-    first: TxPort,
-    second: TxPort,
-) -> Result<Drain, Fail>
+fn gather_pair(alloc: Global, tx: Tx, first: TxPort, second: TxPort) -> Result<Drain, Fail>
     requires first { IsPortOfTx tx first }
     requires second { IsPortOfTx tx second }
 {

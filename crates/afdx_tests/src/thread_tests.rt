@@ -127,11 +127,7 @@ fn start_all<R: Threads + Copy + Send + 'static>(
         let promise = ComesBack {
             of: Snapshot::of(&port),
         };
-        let worker = thread::spawn_with(
-            &rt,
-            promise,
-            move || send_all(alloc, port, messages),
-        )?;
+        let worker = thread::spawn_with(&rt, promise, move || send_all(alloc, port, messages))?;
         workers.push(worker)?;
     }
     Ok(workers)

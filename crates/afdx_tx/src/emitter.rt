@@ -97,8 +97,8 @@ impl<A: Network + Drop, B: Network + Drop> Emitter<A, B> {
 
     /// Gives each link its turn at a moment, in microseconds, in the order of the configuration,
     /// until the last network fails. A due link with something to send releases exactly one frame
-    /// (ARINC 664 Part 7, bandwidth allocation gap). After `BothDown` nothing has changed. It may
-    /// wait for a port that is in the middle of a send. Its body asks for no memory.
+    /// (ARINC 664 Part 7, bandwidth allocation gap). After `BothDown` nothing has changed. It
+    /// waits for nobody, and its body asks for no memory.
     pub fn poll(&mut self, now: u64) -> Result<Report, PollFault>
         requires { self.old.moment ≤ now }
         ensures both_down { IsErr result ↔ (is_alive self.old.lines ≡ false) }
@@ -123,12 +123,8 @@ impl<A: Network + Drop, B: Network + Drop> Emitter<A, B> {
 
     /// Takes all ports back, in any order, so that what they had accepted is known whole and can be
     /// sent to its end. Refused exactly where a port of the configuration isn't in the list; then
-    /// both come back as they were. It may wait for a port's last message to be ready. Its
-    /// body asks for no memory.
-    pub fn gather(
-        self,
-        ports: Vec<TxPort>,
-    ) -> Result<Draining<A, B>, (Emitter<A, B>, Vec<TxPort>)>
+    /// both come back as they were. It waits for nobody, and its body asks for no memory.
+    pub fn gather(self, ports: Vec<TxPort>) -> Result<Draining<A, B>, (Emitter<A, B>, Vec<TxPort>)>
         requires opened { AreOpenedWith self ports.items }
         ensures gathered { IfOk result (λ draining. IsGatheredTx self ports.items draining) }
         ensures legal { IfOk result (λ draining. IsLegal draining.plan

@@ -4,10 +4,10 @@ ghost use Rattle.std.specs.Prelude.{◌≡◌};
 use crate::helpers::{
     assert_closed, assert_sent, assert_taken, gather, message, one, open_one, take_left,
 };
-use subvl_queue::{Receiver, Sender, Why};
 use std::alloc::Global;
 use std::process::Abort;
 use std::test::Fail;
+use subvl_queue::{Receiver, Sender, Why};
 
 #[test]
 fn a_close_tells_what_was_accepted_and_lets_no_more_in(rt: HostRuntime) -> Result<(), Fail> {

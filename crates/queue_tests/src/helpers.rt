@@ -2,9 +2,9 @@
 ghost use Rattle.std.specs.Prelude.{◌≡◌, ◌^◌, ◌≤◌, ◌∷◌, [], length, IfOk};
 ghost use Rattle.subvl_queue.specs.Views.{AreOf};
 
-use subvl_queue::{Gathered, Item, Receiver, Sender, Why, make};
 use std::alloc::{AllocError, Global};
 use std::process::Abort;
+use subvl_queue::{Gathered, Item, Receiver, Sender, Why, make};
 
 /// A message of two bytes.
 pub fn message(alloc: Global, bytes: [u8; 2]) -> Result<Vec<u8>, AllocError>

@@ -1,11 +1,11 @@
 //! Tests of a sender that is held in its pause, in a thread of its own.
 use crate::helpers::{assert_sent, assert_taken, message, open_one};
-use subvl_queue::{Receiver, Sender};
 use std::alloc::{AllocError, Global};
 use std::process::Abort;
 use std::test::Fail;
 use std::thread;
 use std::thread::Threads;
+use subvl_queue::{Receiver, Sender};
 
 // How often a thread looks for what another sends.
 const TURNS: u64 = 100_000_000;

@@ -2,11 +2,11 @@
 ghost use Rattle.std.specs.Prelude.{◌≡◌, IfOk};
 
 use crate::helpers::{assert_sent, assert_taken, gather, one, open_one, open_two, take_left, two};
-use subvl_queue::{Gathered, Receiver, Sender, Why, make};
 use std::alloc::{AllocError, Global};
 use std::fmt::InlineText;
 use std::process::Abort;
 use std::test::Fail;
+use subvl_queue::{Gathered, Receiver, Sender, Why, make};
 
 #[test]
 fn a_queue_of_two_takes_two_messages_and_gives_them_in_order(rt: HostRuntime) -> Result<(), Fail> {

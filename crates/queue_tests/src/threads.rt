@@ -2,13 +2,13 @@
 ghost use Rattle.std.specs.Prelude.{◌≡◌, ℕ, ◌<◌, ◌≤◌, ◌++◌, length, map, slice_index_or, Some, IfOk, IfSome};
 ghost use Rattle.subvl_queue.specs.Views.{SenderView};
 
-use subvl_queue::{Gathered, Item, Receiver, Refused, Sender, Why, make};
 use std::alloc::{AllocError, Global};
 use std::process::Abort;
 use std::snapshot::Snapshot;
 use std::test::Fail;
 use std::thread;
 use std::thread::{Promise, PromisedHandle, Threads, join_promised};
+use subvl_queue::{Gathered, Item, Receiver, Refused, Sender, Why, make};
 
 // How many messages each sender sends.
 const MESSAGES: u8 = 100;

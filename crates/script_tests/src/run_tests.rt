@@ -202,11 +202,7 @@ fn notes_and_frames_so_far_are_written_after_a_fault(rt: HostRuntime) -> Result<
 }
 
 // A script over a writer with room for so many bytes.
-fn run_within(
-    alloc: Global,
-    size: usize,
-    script: &[u8],
-) -> Result<Summary, RunFault> {
+fn run_within(alloc: Global, size: usize, script: &[u8]) -> Result<Summary, RunFault> {
     let mut room = vec![in alloc; 0u8; size].map_err(|_| RunFault::Memory)?;
     let mut text = room.as_mut_slice();
     run(alloc, script, &mut text)

@@ -47,8 +47,7 @@ impl Queue {
         }
     }
 
-    /// The next message, where one is ready. It may wait for a port that is in the middle of a send,
-    /// where ports send.
+    /// The next message, where one is ready. It waits for nobody.
     pub fn take(&mut self) -> Option<Item>
         ensures none { IfNone result (FindsNothing self.old self.new) }
         ensures some { IfSome result (λ item. Finds self.old item self.new) }
@@ -72,8 +71,8 @@ impl Queue {
         }
     }
 
-    /// Gathers the ends of the queue, with these senders, which are all that it has. It may wait for
-    /// a port's last message to be ready.
+    /// Gathers the ends of the queue, with these senders, which are all that it has. It waits for
+    /// nobody.
     pub fn gather(&mut self, senders: Vec<Sender>)
         requires full { IsFull self.old senders.items }
         ensures { Gathers self.old senders.items self.new }

@@ -81,5 +81,9 @@ loop-place-preserved g c =
 
 pub returns-clause-seats : goal.returns-clause-seats
 returns-clause-seats g c = λ place lt. c.loop-place.invariant.seats place
-    (let over = c.loop-place-test.false in omega (arith, lt, ap length c.ports-place-end.ensures.plan,
-    ap (λ (p : Plan). length p.ports) c.config-config.ensures))
+    (let over = c.loop-place-test.false in omega (
+      arith,
+      lt,
+      ap length c.ports-place-end.ensures.plan,
+      ap (λ (p : Plan). length p.ports) c.config-config.ensures,
+    ))
