@@ -20,19 +20,23 @@ sent_length (x ∷ l) = ap suc (sent_length l)
 pub part_is : (k n : ℕ) (l : List (ℕ × Message)) → sent_by (owned k n l) ≡ part_of k (items_of l)
 part_is k n [] = refl
 part_is k n (x ∷ l) = let r = part_is k (suc n) l in
-    elim (eqb x.0 k) as (λ b. sent_by (cond b ((n, x.1) ∷ owned k (suc n) l) (owned k (suc n) l)) ≡ (if b then x.1.bytes.items ∷ part_of k (items_of l) else part_of k (items_of l)))
+    elim (eqb x.0 k) as (λ b. sent_by (cond b ((n, x.1) ∷ owned k (suc n) l) (owned k (suc n) l)) ≡
+    (if b then x.1.bytes.items ∷ part_of k (items_of l) else part_of k (items_of l)))
     [ true ↦ ap (λ (z : List (List ℕ)). x.1.bytes.items ∷ z) r | false ↦ r ]
 
 -- and its places
 pub places_are : (k n : ℕ) (l : List (ℕ × Message)) → places_of (owned k n l) ≡ places_from n k (items_of l)
 places_are k n [] = refl
-places_are k n (x ∷ l) = let r : places_of (owned k (suc n) l) ≡ places_from (n + 1) k (items_of l) = places_are k (suc n) l ∙ ap (λ (m : ℕ). places_from m k (items_of l)) (let e : suc n ≡ n + 1 = omega arith in e) in
-    elim (eqb x.0 k) as (λ b. places_of (cond b ((n, x.1) ∷ owned k (suc n) l) (owned k (suc n) l)) ≡ (if b then n ∷ places_from (n + 1) k (items_of l) else places_from (n + 1) k (items_of l)))
+places_are k n (x ∷ l) = let r : places_of (owned k (suc n) l) ≡ places_from (n + 1) k (items_of l) = places_are k (suc n) l
+    ∙ ap (λ (m : ℕ). places_from m k (items_of l)) (let e : suc n ≡ n + 1 = omega arith in e) in
+    elim (eqb x.0 k) as (λ b. places_of (cond b ((n, x.1) ∷ owned k (suc n) l) (owned k (suc n) l)) ≡
+    (if b then n ∷ places_from (n + 1) k (items_of l) else places_from (n + 1) k (items_of l)))
     [ true ↦ ap (λ (z : List ℕ). n ∷ z) r | false ↦ r ]
 
 rest_none : (k n : ℕ) (x : ℕ × Message) (l : List (ℕ × Message)) → owned k n (x ∷ l) ≡ [] → (x.0 ≢ k) × (owned k (suc n) l ≡ [])
 rest_none k n x l e = elim (ℕ_discrete x.0 k) [
-  | yes is ↦ absurd (let first : (n, x.1) ∷ owned k (suc n) l ≡ [] = sym (ap (λ (b : Bool). cond b ((n, x.1) ∷ owned k (suc n) l) (owned k (suc n) l)) (eq-eqb x.0 k is)) ∙ e in cc)
+  | yes is ↦ absurd (let first : (n, x.1) ∷ owned k (suc n) l ≡ [] = sym
+      (ap (λ (b : Bool). cond b ((n, x.1) ∷ owned k (suc n) l) (owned k (suc n) l)) (eq-eqb x.0 k is)) ∙ e in cc)
   | no not ↦ (not, sym (ap (λ (b : Bool). cond b ((n, x.1) ∷ owned k (suc n) l) (owned k (suc n) l)) (ne_eqb x.0 k not)) ∙ e)
 ]
 
@@ -58,7 +62,8 @@ tells zero total [] le is = subst (λ (b : Bool). TellsLeft b []) (sym (eq-eqb 0
 tells zero total (x ∷ l) le is = subst (λ (b : Bool). TellsLeft b (items_of (x ∷ l))) (sym (ne_eqb 0 total (λ e. omega arith))) x.1.sound
 tells (suc n) total [] le is = absurd (omega arith)
 tells (suc n) zero (x ∷ l) le is = absurd (omega arith)
-tells (suc n) (suc total) (x ∷ l) le is = subst (λ (b : Bool). TellsLeft b (items_of (drop n l))) (same_next n total) (tells n total l (omega arith) (omega arith))
+tells (suc n) (suc total) (x ∷ l) le is = subst (λ (b : Bool). TellsLeft b (items_of (drop n l))) (same_next n total)
+    (tells n total l (omega arith) (omega arith))
 
 pub items_append : (l k : List (ℕ × Message)) → items_of l ++ items_of k ≡ items_of (l ++ k)
 items_append [] k = refl

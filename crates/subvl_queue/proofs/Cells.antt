@@ -48,7 +48,8 @@ placed (y ∷ ys) zero a e = omega arith
 placed (y ∷ ys) (suc j) a e = let z = placed ys j a e in omega arith
 
 module _ {T : Type 0} where
-  phase_stays : (t t' : ℕ) (log log' : List (ℕ × T)) (homes homes' : Homes T) (j p : ℕ) → length log ≤ length log' → (length log ≤ p → length log' ≤ p) → (t ≤ p → t' ≤ p) → (p ≡ t → p ≡ t')
+  phase_stays : (t t' : ℕ) (log log' : List (ℕ × T)) (homes homes' : Homes T) (j p : ℕ) → length log ≤ length log'
+      → (length log ≤ p → length log' ≤ p) → (t ≤ p → t' ≤ p) → (p ≡ t → p ≡ t')
       → Longer log log' → get_elem? homes' j ≡ get_elem? homes j → (ph : Phase) → InPhase t log homes j p ph → InPhase t' log' homes' j p ph
   phase_stays t t' log log' homes homes' j p a c d f more same free k = (c k.0, same ∙ k.1)
   phase_stays t t' log log' homes homes' j p a c d f more same (writing o) k = let l = k.1 in (d k.0, omega arith)
@@ -57,7 +58,8 @@ module _ {T : Type 0} where
 
   cell_stays : (n t t' : ℕ) (log log' : List (ℕ × T)) (words words' : List ℕ) (homes homes' : Homes T) (j : ℕ) (c : Cell) → length log ≤ length log' → t ≤ t'
       → ((q : ℕ) → q % n ≡ j → length log ≤ q → length log' ≤ q) → ((q : ℕ) → q % n ≡ j → t ≤ q → t' ≤ q) → ((q : ℕ) → q % n ≡ j → q ≡ t → q ≡ t')
-      → Longer log log' → get_or words' (j + 2) 0 ≡ get_or words (j + 2) 0 → get_elem? homes' j ≡ get_elem? homes j → CellOk n t log words homes j c → CellOk n t' log' words' homes' j c
+      → Longer log log' → get_or words' (j + 2) 0 ≡ get_or words (j + 2) 0 → get_elem? homes' j ≡ get_elem? homes j → CellOk n t log words homes j c
+      → CellOk n t' log' words' homes' j c
   cell_stays n t t' log log' words words' homes homes' j c a b hq tq rq more word home k = let p : ℕ = c.0 in let l : p < t + n = k.early in
       record {
         shows = word ∙ k.shows;
@@ -67,11 +69,13 @@ module _ {T : Type 0} where
         phase = phase_stays t t' log log' homes homes' j p a (hq p k.lies) (tq p k.lies) (rq p k.lies) more home c.1 k.phase;
       }
 
-  has_stays : (log log' : List (ℕ × T)) (c c' : Cell) (ph : Phase) (at : ℕ) (item : Option (ℕ × T)) → Longer log log' → Path Cell c' c → Has log c ph at item → Has log' c' ph at item
+  has_stays : (log log' : List (ℕ × T)) (c c' : Cell) (ph : Phase) (at : ℕ) (item : Option (ℕ × T)) → Longer log log' → Path Cell c' c
+      → Has log c ph at item → Has log' c' ph at item
   has_stays log log' c c' ph at item more same k = (same ∙ k.0, (k.1.0, k.1.1, more at k.1.0 k.1.2))
 
   -- what a seat knows of its own slot stays
-  knows_stays : (t t' : ℕ) (log log' : List (ℕ × T)) (j : ℕ) (c c' : Cell) (at : ℕ) (item : Option (ℕ × T)) → Longer log log' → (holder c.1 ≡ suc j → Path Cell c' c) → (Path Cell c (at, reading j) → t' ≡ t)
+  knows_stays : (t t' : ℕ) (log log' : List (ℕ × T)) (j : ℕ) (c c' : Cell) (at : ℕ) (item : Option (ℕ × T)) → Longer log log'
+      → (holder c.1 ≡ suc j → Path Cell c' c) → (Path Cell c (at, reading j) → t' ≡ t)
       → (st : Stage) → Knows t log j c at item st → Knows t' log' j c' at item st
   knows_stays t t' log log' j c c' at item more same keep Idle k = tt
   knows_stays t t' log log' j c c' at item more same keep Asked k = tt
@@ -104,50 +108,84 @@ module _ {T : Type 0} where
         other (sym (r.each_cell i near).lies ∙ ap (λ (z : ℕ). z % n) (sym b.3 ∙ ap (λ (z : View T). z.at) is))
 
     pub gone_stays : (id j : ℕ) (v w : View T) → get_elem? s.views id ≡ some v → w.role ≡ v.role → Gone s.views j → Gone (set s.views id w) j
-    gone_stays id j v w at same gone d e = ⊎_elim (λ (t : (j ≡ id) × (w ≡ d)). ap (λ (z : View T). z.role) (sym t.1) ∙ same ∙ gone v (ap (get_elem? s.views) t.0 ∙ at))
+    gone_stays id j v w at same gone d e = ⊎_elim (λ (t : (j ≡ id) × (w ≡ d)). ap (λ (z : View T). z.role) (sym t.1) ∙ same
+        ∙ gone v (ap (get_elem? s.views) t.0 ∙ at))
         (λ (t : (j ≢ id) × (get_elem? s.views j ≡ some d)). gone d t.1) (at_set s.views id j w d e)
 
-    whole_stays : (id : ℕ) (v w : View T) (log' : List (ℕ × T)) → get_elem? s.views id ≡ some v → w.role ≡ v.role → (o : Option (List (ℕ × T))) → Whole log' s.views o → Whole log' (set s.views id w) o
+    whole_stays : (id : ℕ) (v w : View T) (log' : List (ℕ × T)) → get_elem? s.views id ≡ some v → w.role ≡ v.role → (o : Option (List (ℕ × T)))
+        → Whole log' s.views o → Whole log' (set s.views id w) o
     whole_stays id v w log' at same None k = tt
     whole_stays id v w log' at same (Some l) k = (k.0, λ j. gone_stays id (suc j) v w at same (k.1 j))
 
-    pub roles_stay : (closed' : Bool) (log' : List (ℕ × T)) (id : ℕ) (v w u : View T) → get_elem? s.views id ≡ some v → w.role ≡ v.role → Gathers closed' log' s.views u → Gathers closed' log' (set s.views id w) u
-    roles_stay closed' log' id v w u at same g = (g.0, (λ i k l e. let x = g.1 i k l e in (x.0, gone_stays id (suc k) v w at same x.1)), whole_stays id v w log' at same u.all g.2)
+    pub roles_stay : (closed' : Bool) (log' : List (ℕ × T)) (id : ℕ) (v w u : View T) → get_elem? s.views id ≡ some v → w.role ≡ v.role
+        → Gathers closed' log' s.views u → Gathers closed' log' (set s.views id w) u
+    roles_stay closed' log' id v w u at same g = (
+      g.0,
+      (λ i k l e. let x = g.1 i k l e in (x.0, gone_stays id (suc k) v w at same x.1)),
+      whole_stays id v w log' at same u.all g.2,
+    )
 
     -- what the receiver has gathered stays where the stepping seat keeps its role and its own share of it
-    pub gathers_stay : (closed' : Bool) (log' : List (ℕ × T)) (id : ℕ) (v w : View T) → get_elem? s.views id ≡ some v → w.role ≡ v.role → w.total ≡ v.total → w.joined ≡ v.joined → w.all ≡ v.all
-        → ((u : View T) → get_elem? s.views 0 ≡ some u → Gathers r.closed r.log s.views u → Gathers closed' log' s.views u) → (u : View T) → get_elem? (set s.views id w) 0 ≡ some u → Gathers closed' log' (set s.views id w) u
+    pub gathers_stay : (closed' : Bool) (log' : List (ℕ × T)) (id : ℕ) (v w : View T) → get_elem? s.views id ≡ some v → w.role ≡ v.role
+        → w.total ≡ v.total → w.joined ≡ v.joined → w.all ≡ v.all
+        → ((u : View T) → get_elem? s.views 0 ≡ some u → Gathers r.closed r.log s.views u → Gathers closed' log' s.views u) → (u : View T)
+        → get_elem? (set s.views id w) 0 ≡ some u → Gathers closed' log' (set s.views id w) u
     gathers_stay closed' log' id v w at same t0 j0 a0 goes u e = ⊎_elim
-        (λ (t : (0 ≡ id) × (w ≡ u)). let at0 = ap (get_elem? s.views) t.0 ∙ at in let g = roles_stay closed' log' id v w v at same (goes v at0 (r.gathered v at0)) in
-        subst (Gathers closed' log' (set s.views id w)) t.1 (subst (λ (z : Option ℕ × List (ℕ × List (ℕ × T)) × Option (List (ℕ × T))). Totals closed' (length log') z.0 × Joined log' (set s.views id w) z.1 × Whole log' (set s.views id w) z.2) (λ k. (sym t0 k, sym j0 k, sym a0 k)) g))
-        (λ (t : (0 ≢ id) × (get_elem? s.views 0 ≡ some u)). roles_stay closed' log' id v w u at same (goes u t.1 (r.gathered u t.1))) (at_set s.views id 0 w u e)
+        (λ (t : (0 ≡ id) × (w ≡ u)). let at0 = ap (get_elem? s.views) t.0 ∙ at in
+        let g = roles_stay closed' log' id v w v at same (goes v at0 (r.gathered v at0)) in
+        subst (Gathers closed' log' (set s.views id w)) t.1 (subst
+        (λ (z : Option ℕ × List (ℕ × List (ℕ × T)) × Option (List (ℕ × T))). Totals closed' (length log') z.0 × Joined log' (set s.views id w) z.1
+        × Whole log' (set s.views id w) z.2) (λ k. (sym t0 k, sym j0 k, sym a0 k)) g))
+        (λ (t : (0 ≢ id) × (get_elem? s.views 0 ≡ some u)). roles_stay closed' log' id v w u at same (goes u t.1 (r.gathered u t.1)))
+        (at_set s.views id 0 w u e)
 
-    pub moved : (k x i id freed' : ℕ) (log' : List (ℕ × T)) (c' : Cell) (homes' : Homes T) (v w : View T) → get_elem? s.views id ≡ some v → i < n → length homes' ≡ n
-        → get_or (set s.words k x) 0 0 + length log' + total in_hand (set s.views id w) ≡ 2 ^ 32 + n + freed' → get_or (set s.words k x) 1 0 ≡ length log' + r.late + shut_bit r.closed
-        → length log' + total in_room (set s.views id w) ≤ freed' + n → length log' + r.late + total waiting (set s.views id w) ≤ total asked (set s.views id w) → total budget (set s.views id w) ≤ 64 * 2 ^ 40
-        → ((u : View T) → get_elem? (set s.views id w) 0 ≡ some u → Gathers r.closed log' (set s.views id w) u) → ((q : ℕ) → length s.views ≤ suc q → owned q 0 log' ≡ [])
+    pub moved : (k x i id freed' : ℕ) (log' : List (ℕ × T)) (c' : Cell) (homes' : Homes T) (v w : View T) → get_elem? s.views id ≡ some v → i < n
+        → length homes' ≡ n
+        → get_or (set s.words k x) 0 0 + length log' + total in_hand (set s.views id w) ≡ 2 ^ 32 + n + freed'
+        → get_or (set s.words k x) 1 0 ≡ length log' + r.late + shut_bit r.closed
+        → length log' + total in_room (set s.views id w) ≤ freed' + n
+        → length log' + r.late + total waiting (set s.views id w) ≤ total asked (set s.views id w) → total budget (set s.views id w) ≤ 64 * 2 ^ 40
+        → ((u : View T) → get_elem? (set s.views id w) 0 ≡ some u → Gathers r.closed log' (set s.views id w) u)
+        → ((q : ℕ) → length s.views ≤ suc q → owned q 0 log' ≡ [])
         → freed' ≤ length log' → length r.log ≤ length log' → r.freed ≤ freed' → (id ≢ 0 → freed' ≡ r.freed)
-        → ((q : ℕ) → q % n ≢ i → length r.log ≤ q → length log' ≤ q) → ((q : ℕ) → q % n ≢ i → r.freed ≤ q → freed' ≤ q) → ((q : ℕ) → q % n ≢ i → q ≡ r.freed → q ≡ freed') → Longer r.log log'
+        → ((q : ℕ) → q % n ≢ i → length r.log ≤ q → length log' ≤ q) → ((q : ℕ) → q % n ≢ i → r.freed ≤ q → freed' ≤ q)
+        → ((q : ℕ) → q % n ≢ i → q ≡ r.freed → q ≡ freed') → Longer r.log log'
         → ((j : ℕ) → j ≢ i → j + 2 ≢ k) → ((j : ℕ) → j ≢ i → get_elem? homes' j ≡ get_elem? s.homes j) → CellOk n freed' log' (set s.words k x) homes' i c'
-        → ((j : ℕ) → j ≢ id → holder (r.cells i).1 ≢ suc j) → ((j : ℕ) → holder c'.1 ≡ suc j → (j ≡ id) × Busy w.stage × (w.at ≡ c'.0)) → ((q : ℕ) → q < n → q ≢ i → holder (r.cells q).1 ≢ suc id)
+        → ((j : ℕ) → j ≢ id → holder (r.cells i).1 ≢ suc j) → ((j : ℕ) → holder c'.1 ≡ suc j → (j ≡ id) × Busy w.stage × (w.at ≡ c'.0))
+        → ((q : ℕ) → q < n → q ≢ i → holder (r.cells q).1 ≢ suc id)
         → Fits (length s.views) freed' log' id w w.role → Knows freed' log' id (put r.cells i c' (w.at % n)) w.at w.item w.stage
         → ((j : ℕ) (d : View T) → j ≢ id → get_elem? s.views j ≡ some d → Fits (length s.views) freed' log' j d d.role)
         → Queue record { words = set s.words k x; homes = homes'; views = set s.views id w }
-    moved k x i id freed' log' c' homes' v w at near as_long room tail within counted budgeted gathered unmade behind a b keep hq tq rq more apart home here loose mine single fit knew others =
+    moved k x i id freed' log' c' homes' v w at near as_long room tail within counted budgeted gathered unmade behind a b keep hq tq rq more apart
+        home here loose mine single fit knew others =
         let words' : List ℕ = set s.words k x in let cells' : ℕ → Cell = put r.cells i c' in let views' : List (View T) = set s.views id w in
         let seats : length views' ≡ length s.views = length-set s.views id w in
-        let cells_ok : (j : ℕ) → j < n → CellOk n freed' log' words' homes' j (cells' j) = λ j l. at_put r.cells i c' (CellOk n freed' log' words' homes') j here (λ other.
-        cell_stays n r.freed freed' r.log log' s.words words' s.homes homes' j (r.cells j) a b (λ q e. hq q (λ is. other (sym e ∙ is))) (λ q e. tq q (λ is. other (sym e ∙ is))) (λ q e. rq q (λ is. other (sym e ∙ is))) more
+        let cells_ok : (j : ℕ) → j < n → CellOk n freed' log' words' homes' j (cells' j) = λ j l. at_put r.cells i c'
+        (CellOk n freed' log' words' homes') j here (λ other.
+        cell_stays n r.freed freed' r.log log' s.words words' s.homes homes' j (r.cells j) a b (λ q e. hq q (λ is. other (sym e ∙ is)))
+        (λ q e. tq q (λ is. other (sym e ∙ is))) (λ q e. rq q (λ is. other (sym e ∙ is))) more
         (get_or-set_other s.words k (j + 2) x 0 (apart j other)) (home j other) (r.each_cell j l)) in
         let knew_all : (j : ℕ) (d : View T) → get_elem? views' j ≡ some d → Knows freed' log' j (cells' (d.at % n)) d.at d.item d.stage = λ j d e.
-        ⊎_elim (λ (t : (j ≡ id) × (w ≡ d)). subst (λ (y : ℕ × View T). Knows freed' log' y.0 (cells' (y.1.at % n)) y.1.at y.1.item y.1.stage) (λ q. (sym t.0 q, t.1 q)) knew)
-        (λ (t : (j ≢ id) × (get_elem? s.views j ≡ some d)). let ci = r.cells (d.at % n) in knows_stays r.freed freed' r.log log' j ci (cells' (d.at % n)) d.at d.item more
-        (λ held. at_put r.cells i c' (λ q y. q ≡ d.at % n → Path Cell y (r.cells (d.at % n))) (d.at % n) (λ is. absurd (loose j t.0 (ap (λ (q : ℕ). holder (r.cells q).1) is ∙ held))) (λ _ _. refl) refl)
-        (λ is. let ok = r.each_cell (d.at % n) (mod-lt d.at r.some_slot) in let zero_seat : j ≡ 0 = (subst (λ (z : Cell). InPhase r.freed r.log s.homes (d.at % n) z.0 z.1) is ok.phase).2 in keep (λ e. t.0 (zero_seat ∙ sym e)))
+        ⊎_elim (λ (t : (j ≡ id) × (w ≡ d)). subst (λ (y : ℕ × View T). Knows freed' log' y.0 (cells' (y.1.at % n)) y.1.at y.1.item y.1.stage)
+        (λ q. (sym t.0 q, t.1 q)) knew)
+        (λ (t : (j ≢ id) × (get_elem? s.views j ≡ some d)). let ci = r.cells (d.at % n) in
+        knows_stays r.freed freed' r.log log' j ci (cells' (d.at % n)) d.at d.item more
+        (λ held. at_put r.cells i c' (λ q y. q ≡ d.at % n → Path Cell y (r.cells (d.at % n))) (d.at % n)
+        (λ is. absurd (loose j t.0 (ap (λ (q : ℕ). holder (r.cells q).1) is ∙ held))) (λ _ _. refl) refl)
+        (λ is. let ok = r.each_cell (d.at % n) (mod-lt d.at r.some_slot) in
+        let zero_seat : j ≡ 0 = (subst (λ (z : Cell). InPhase r.freed r.log s.homes (d.at % n) z.0 z.1) is ok.phase).2 in
+        keep (λ e. t.0 (zero_seat ∙ sym e)))
         d.stage (r.each_hand j d t.1)) (at_set s.views id j w d e) in
-        let busy' : (q j : ℕ) → q < n → holder (cells' q).1 ≡ suc j → (u : View T) × (get_elem? views' j ≡ some u) × Busy u.stage × (u.at ≡ (cells' q).0) = λ q j l.
+        let busy' : (q j : ℕ) → q < n → holder (cells' q).1 ≡ suc j
+        → (u : View T) × (get_elem? views' j ≡ some u) × Busy u.stage × (u.at ≡ (cells' q).0) = λ q j l.
         at_put r.cells i c' (λ z y. z ≡ q → holder y.1 ≡ suc j → (u : View T) × (get_elem? views' j ≡ some u) × Busy u.stage × (u.at ≡ y.0)) q
-        (λ _ held. let m = mine j held in (w, subst (λ (z : ℕ). get_elem? views' z ≡ some w) (sym m.0) (set_here s.views id w (placed s.views id v at)), m.1, m.2))
+        (λ _ held. let m = mine j held in (
+          w,
+          subst (λ (z : ℕ). get_elem? views' z ≡ some w) (sym m.0)
+              (set_here s.views id w (placed s.views id v at)),
+          m.1,
+          m.2,
+        ))
         (λ other _ held. let u = r.busy q j l held in (u.0, set_else s.views id j w (λ e. single q l other (held ∙ ap suc e)) ∙ u.1, u.2, u.3)) refl in
         record {
           log = log';
@@ -172,6 +210,8 @@ module _ {T : Type 0} where
           each_seat = subst (λ (m : ℕ). (j : ℕ) (d : View T) → get_elem? views' j ≡ some d → Fits m freed' log' j d d.role) (sym seats) (λ j d e.
               ⊎_elim (λ (t : (j ≡ id) × (w ≡ d)). subst (λ (y : ℕ × View T). Fits (length s.views) freed' log' y.0 y.1 y.1.role) (λ q. (sym t.0 q, t.1 q)) fit)
               (λ (t : (j ≢ id) × (get_elem? s.views j ≡ some d)). others j d t.0 t.1) (at_set s.views id j w d e));
-          each_hand = subst (λ (m : ℕ). (j : ℕ) (d : View T) → get_elem? views' j ≡ some d → Knows freed' log' j (cells' (d.at % m)) d.at d.item d.stage) (sym as_long) knew_all;
-          busy = subst (λ (m : ℕ). (q j : ℕ) → q < m → holder (cells' q).1 ≡ suc j → (u : View T) × (get_elem? views' j ≡ some u) × Busy u.stage × (u.at ≡ (cells' q).0)) (sym as_long) busy';
+          each_hand = subst (λ (m : ℕ). (j : ℕ) (d : View T) → get_elem? views' j ≡ some d
+              → Knows freed' log' j (cells' (d.at % m)) d.at d.item d.stage) (sym as_long) knew_all;
+          busy = subst (λ (m : ℕ). (q j : ℕ) → q < m → holder (cells' q).1 ≡ suc j
+              → (u : View T) × (get_elem? views' j ≡ some u) × Busy u.stage × (u.at ≡ (cells' q).0)) (sym as_long) busy';
         }

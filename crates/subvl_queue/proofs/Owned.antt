@@ -7,14 +7,17 @@ use Rattle.subvl_queue.specs.Queue.{owned}
 module _ {T : Type 0} where
   pub owned_mine : (k n : ℕ) (l : List (ℕ × T)) (x : ℕ × T) → x.0 ≡ k → owned k n (l ++ x ∷ []) ≡ owned k n l ++ (n + length l, x.1) ∷ []
   owned_mine k n [] x e = let z : n ≡ n + 0 = omega arith in ap (λ (b : Bool). cond b ((n, x.1) ∷ []) []) (eq-eqb x.0 k e) ∙ ap (λ (m : ℕ). (m, x.1) ∷ []) z
-  owned_mine k n (y ∷ l) x e = let r = owned_mine k (suc n) l x e in let z : suc n + length l ≡ n + length (y ∷ l) = omega arith in let r' = r ∙ ap (λ (m : ℕ). owned k (suc n) l ++ (m, x.1) ∷ []) z in
-      elim (eqb y.0 k) as (λ b. cond b ((n, y.1) ∷ owned k (suc n) (l ++ x ∷ [])) (owned k (suc n) (l ++ x ∷ [])) ≡ cond b ((n, y.1) ∷ owned k (suc n) l) (owned k (suc n) l) ++ (n + length (y ∷ l), x.1) ∷ [])
+  owned_mine k n (y ∷ l) x e = let r = owned_mine k (suc n) l x e in
+      let z : suc n + length l ≡ n + length (y ∷ l) = omega arith in let r' = r ∙ ap (λ (m : ℕ). owned k (suc n) l ++ (m, x.1) ∷ []) z in
+      elim (eqb y.0 k) as (λ b. cond b ((n, y.1) ∷ owned k (suc n) (l ++ x ∷ [])) (owned k (suc n) (l ++ x ∷ [])) ≡ cond b
+      ((n, y.1) ∷ owned k (suc n) l) (owned k (suc n) l) ++ (n + length (y ∷ l), x.1) ∷ [])
       [ true ↦ ap (λ (zs : List (ℕ × T)). (n, y.1) ∷ zs) r' | false ↦ r' ]
 
   pub owned_other : (k n : ℕ) (l : List (ℕ × T)) (x : ℕ × T) → x.0 ≢ k → owned k n (l ++ x ∷ []) ≡ owned k n l
   owned_other k n [] x e = ap (λ (b : Bool). cond b ((n, x.1) ∷ []) []) (ne_eqb x.0 k e)
   owned_other k n (y ∷ l) x e = let r = owned_other k (suc n) l x e in
-      elim (eqb y.0 k) as (λ b. cond b ((n, y.1) ∷ owned k (suc n) (l ++ x ∷ [])) (owned k (suc n) (l ++ x ∷ [])) ≡ cond b ((n, y.1) ∷ owned k (suc n) l) (owned k (suc n) l))
+      elim (eqb y.0 k) as (λ b. cond b ((n, y.1) ∷ owned k (suc n) (l ++ x ∷ [])) (owned k (suc n) (l ++ x ∷ [])) ≡ cond b
+      ((n, y.1) ∷ owned k (suc n) l) (owned k (suc n) l))
       [ true ↦ ap (λ (zs : List (ℕ × T)). (n, y.1) ∷ zs) r | false ↦ r ]
 
   -- a message in the list is one of its port
@@ -22,7 +25,8 @@ module _ {T : Type 0} where
   owned_at k n [] i x at is none' = some-ne-none x (sym at)
   owned_at k n (y ∷ l) zero x at is none' =
       let here : y.0 ≡ k = ap (λ (z : ℕ × T). z.0) (some-injective y x at) ∙ is in
-      let first : owned k n (y ∷ l) ≡ (n, y.1) ∷ owned k (suc n) l = ap (λ (b : Bool). cond b ((n, y.1) ∷ owned k (suc n) l) (owned k (suc n) l)) (eq-eqb y.0 k here) in
+      let first : owned k n (y ∷ l) ≡ (n, y.1) ∷ owned k (suc n) l = ap (λ (b : Bool). cond b ((n, y.1) ∷ owned k (suc n) l) (owned k (suc n) l))
+      (eq-eqb y.0 k here) in
       let e : (n, y.1) ∷ owned k (suc n) l ≡ [] = sym first ∙ none' in
       cc
   owned_at k n (y ∷ l) (suc i) x at is none' = owned_at k (suc n) l i x at is (later (eqb y.0 k) none')

@@ -24,7 +24,8 @@ none_there [] n p le away h = omega (arith, h.1)
 none_there (s ∷ ss) n p le away h = let lt = h.1 in away h.0 s (omega arith) (h.2 s)
 
 -- the sender that stands at k
-pub standing : (senders : List SenderView) (k : ℕ) → k < length senders → (s : SenderView) × (get_elem? senders k ≡ some s) × ((d : SenderView) → get_or senders k d ≡ s)
+pub standing : (senders : List SenderView) (k : ℕ) → k < length senders
+    → (s : SenderView) × (get_elem? senders k ≡ some s) × ((d : SenderView) → get_or senders k d ≡ s)
 standing [] k lt = absurd (omega arith)
 standing (s ∷ ss) zero lt = (s, refl, λ d. refl)
 standing (s ∷ ss) (suc k) lt = standing ss k (omega arith)
@@ -50,7 +51,8 @@ every_in v senders ports each every k lt =
 pub is_whole : (slots ports : ℕ) (v : View Message) (senders : List SenderView) (l : List (ℕ × Message)) → EachIn v senders → HasEvery ports senders
     → IsLog slots v l → v.made ≡ ports → IsWhole ports senders (items_of l)
 is_whole slots ports v senders l each every log made =
-    let at : (k : ℕ) (d : SenderView) → k < length senders → (s : SenderView) × (get_or senders k d ≡ s) × (sent_by (owned s.port 0 l) ≡ s.own) × (places_of (owned s.port 0 l) ≡ s.places) =
+    let at : (k : ℕ) (d : SenderView) → k < length senders → (s : SenderView) × (get_or senders k d ≡ s) × (sent_by (owned s.port 0 l) ≡ s.own)
+    × (places_of (owned s.port 0 l) ≡ s.places) =
     λ k d lt. (
     let here = standing senders k lt in
     let joined = each k here.0 here.1 in
@@ -60,7 +62,8 @@ is_whole slots ports v senders l each every log made =
     record {
       every = every;
       parts = λ k d lt. (let s = at k d lt in subst (λ (z : SenderView). part_of z.port (items_of l) ≡ z.own) (sym s.1) (sym (part_is s.0.port 0 l) ∙ s.2));
-      places = λ k d lt. (let s = at k d lt in subst (λ (z : SenderView). places_from 0 z.port (items_of l) ≡ z.places) (sym s.1) (sym (places_are s.0.port 0 l) ∙ s.3));
+      places = λ k d lt. (let s = at k d lt in subst (λ (z : SenderView). places_from 0 z.port (items_of l) ≡ z.places) (sym s.1)
+          (sym (places_are s.0.port 0 l) ∙ s.3));
       no_more = λ p le. sym (part_is p 0 l) ∙ ap sent_by (log.no_more p (subst (λ (n : ℕ). n ≤ p) (sym made) le));
     }
 

@@ -50,7 +50,9 @@ module _ {T : Type 0} where
 
 pub one_less : (x : ℕ) → 0 < x → x < 18446744073709551616 → (x + (2 ^ 64 - 1)) % 2 ^ 64 ≡ x - 1
 one_less zero pos small = absurd (omega arith)
-one_less (suc x) pos small = let e : suc x + (2 ^ 64 - 1) ≡ x + 2 ^ 64 = omega arith in let f : x ≡ suc x - 1 = omega arith in ap (λ (z : ℕ). z % 2 ^ 64) e ∙ add-mod_right x (2 ^ 64) ∙ mod-eq_of_lt (let g : x < 2 ^ 64 = omega arith in g) ∙ f
+one_less (suc x) pos small = let e : suc x + (2 ^ 64 - 1) ≡ x + 2 ^ 64 = omega arith in
+    let f : x ≡ suc x - 1 = omega arith in ap (λ (z : ℕ). z % 2 ^ 64) e ∙ add-mod_right x (2 ^ 64)
+    ∙ mod-eq_of_lt (let g : x < 2 ^ 64 = omega arith in g) ∙ f
 
 pub one_more : (x : ℕ) → x + 1 < 18446744073709551616 → (x + 1) % 2 ^ 64 ≡ x + 1
 one_more x small = mod-eq_of_lt (let g : x + 1 < 2 ^ 64 = omega arith in g)

@@ -1,5 +1,7 @@
 -- The rule of the table of a queue.
--- Word 0 is the room: 2 ^ 32 and the capacity, less the held messages and the asks in hand. Word 1 is the number of accepted messages. Word i + 2 is 0 or one more than the last place that was made ready in the slot i.
+-- Word 0 is the room: 2 ^ 32 and the capacity, less the held messages and the asks in hand. Word 1 is the number of accepted
+-- messages and of late places, and its bit 63 says that the queue is closed. Word i + 2 is 0, or one more than the last place
+-- that was made ready in the slot i.
 use Rattle.std.specs.Prelude.{◌≡◌, ℕ, suc, ◌+◌, ◌-◌, ◌*◌, ◌%◌, ◌^◌, ◌<◌, ◌≤◌, eqb, cond, Bool, true, false, List, [], ◌∷◌, length, take, slice_index_or, Option, Some, None}
 use mathlib.Core.Option.{some}
 use mathlib.Core.Option as maybe
@@ -117,10 +119,12 @@ module _ {T : Type 0} where
     abbrev pub InPhase : Phase → Type 0
     InPhase free = (length log ≤ p) × (get_elem? homes i ≡ some (some None))
     InPhase (writing j) = (freed ≤ p) × (p < length log)
-    InPhase full = (freed ≤ p) × (p < length log) × ((x : ℕ × T) × (get_elem? log p ≡ some x) × (get_elem? homes i ≡ some (some (Some x))))
+    InPhase full = (freed ≤ p) × (p < length log)
+        × ((x : ℕ × T) × (get_elem? log p ≡ some x) × (get_elem? homes i ≡ some (some (Some x))))
     InPhase (reading j) = (p ≡ freed) × (p < length log) × (j ≡ 0)
 
-  pub record CellOk (n freed : ℕ) (log : List (ℕ × T)) (words : List ℕ) (homes : List (maybe.Option (Option (ℕ × T)))) (i : ℕ) (c : Cell) : Type 0 where
+  pub record CellOk (n freed : ℕ) (log : List (ℕ × T)) (words : List ℕ) (homes : List (maybe.Option (Option (ℕ × T))))
+      (i : ℕ) (c : Cell) : Type 0 where
     pub shows : slice_index_or words (i + 2) 0 ≡ shown n c.0 c.1
     pub lies : c.0 % n ≡ i
     pub early : c.0 < freed + n
@@ -181,13 +185,17 @@ module _ {T : Type 0} where
     pub none_late : closed ≡ false → late ≡ 0
     pub counted : length log + late + total waiting s.views ≤ total asked s.views
     pub budgeted : total budget s.views ≤ 64 * 2 ^ 40
-    pub each_cell : (i : ℕ) → i < length s.homes → CellOk (length s.homes) freed log s.words s.homes i (cells i)
-    pub each_seat : (j : ℕ) (v : View T) → get_elem? s.views j ≡ some v → Fits (length s.views) freed log j v v.role
-    pub each_hand : (j : ℕ) (v : View T) → get_elem? s.views j ≡ some v → Knows freed log j (cells (v.at % length s.homes)) v.at v.item v.stage
+    pub each_cell : (i : ℕ) → i < length s.homes →
+        CellOk (length s.homes) freed log s.words s.homes i (cells i)
+    pub each_seat : (j : ℕ) (v : View T) → get_elem? s.views j ≡ some v →
+        Fits (length s.views) freed log j v v.role
+    pub each_hand : (j : ℕ) (v : View T) → get_elem? s.views j ≡ some v →
+        Knows freed log j (cells (v.at % length s.homes)) v.at v.item v.stage
     -- a port with no sender has no message
     pub unmade : (k : ℕ) → length s.views ≤ suc k → owned k 0 log ≡ []
     pub gathered : (u : View T) → get_elem? s.views 0 ≡ some u → Gathers closed log s.views u
-    pub busy : (i j : ℕ) → i < length s.homes → holder (cells i).1 ≡ suc j → (v : View T) × (get_elem? s.views j ≡ some v) × Busy v.stage × (v.at ≡ (cells i).0)
+    pub busy : (i j : ℕ) → i < length s.homes → holder (cells i).1 ≡ suc j →
+        (v : View T) × (get_elem? s.views j ≡ some v) × Busy v.stage × (v.at ≡ (cells i).0)
 
 -- the seat is one of the table's
 abbrev pub IsOn : {T : Type 0} → TableId → Seat (Option (ℕ × T)) (View T) → Type 0

@@ -50,11 +50,13 @@ module _ {T : Type 0} where
 
   -- at some moment, with this view, the held messages and the asks in hand reached the capacity
   abbrev pub Reached : ℕ → View T → Type 0
-  Reached c v = (s : State (Option (ℕ × T)) (View T)) × (q : Queue s) × (id : ℕ) × (get_elem? s.views id ≡ some v) × (length s.homes ≡ c) × (c ≤ (length q.log - q.freed) + total in_hand s.views)
+  Reached c v = (s : State (Option (ℕ × T)) (View T)) × (q : Queue s) × (id : ℕ) × (get_elem? s.views id ≡ some v)
+      × (length s.homes ≡ c) × (c ≤ (length q.log - q.freed) + total in_hand s.views)
 
   -- room was found exactly where the word was over 2 ^ 32
   abbrev pub asks : Step (Option (ℕ × T)) → Seated T → ℕ → Seated T → Type 0
-  asks st m r m' = (m'.1 ≡ m.1) × (2 ^ 32 < r → m'.0 ≡ with_ask m.0 Asked false) × (r ≤ 2 ^ 32 → (m'.0 ≡ with_ask m.0 Refused true) × Reached st.slots m.0)
+  asks st m r m' = (m'.1 ≡ m.1) × (2 ^ 32 < r → m'.0 ≡ with_ask m.0 Asked false)
+      × (r ≤ 2 ^ 32 → (m'.0 ≡ with_ask m.0 Refused true) × Reached st.slots m.0)
 
   abbrev pub gives_back : Step (Option (ℕ × T)) → Seated T → ℕ → Seated T → Type 0
   gives_back st m r m' = (m'.1 ≡ m.1) × (m'.0 ≡ idle m.0)
@@ -109,4 +111,5 @@ module _ {T : Type 0} where
 
   -- the log; where the queue was not closed, the word is its length
   abbrev pub gathers : Step (Option (ℕ × T)) → Seated T → ℕ → Seated T → Type 0
-  gathers st m r m' = (m'.1 ≡ m.1) × ((l : List (ℕ × T)) × (m'.0 ≡ with_all m.0 l) × IsLog st.slots m.0 l × (m.0.total ≡ None → r ≡ length l))
+  gathers st m r m' = (m'.1 ≡ m.1)
+      × ((l : List (ℕ × T)) × (m'.0 ≡ with_all m.0 l) × IsLog st.slots m.0 l × (m.0.total ≡ None → r ≡ length l))

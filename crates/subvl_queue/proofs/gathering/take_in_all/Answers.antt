@@ -49,11 +49,20 @@ loop-sender-preserved c =
     let me : c.take_in.new.seat.me.0 ≡ with_joined v w = ap (λ m. m.0) c.take_in.ensures.view in
     record {
       seat = (c.take_in.ensures.seat, ap (λ m. m.1) c.take_in.ensures.view);
-      same = (ap (λ m. m.role) me ∙ same.0, ap (λ m. m.stage) me ∙ same.1, ap (λ m. m.made) me ∙ same.2, ap (λ m. m.taken) me ∙ same.3, ap (λ m. m.total) me ∙ same.4, ap (λ m. m.all) me ∙ same.5);
+      same = (
+        ap (λ m. m.role) me ∙ same.0,
+        ap (λ m. m.stage) me ∙ same.1,
+        ap (λ m. m.made) me ∙ same.2,
+        ap (λ m. m.taken) me
+            ∙ same.3,
+        ap (λ m. m.total) me ∙ same.4,
+        ap (λ m. m.all) me ∙ same.5,
+      );
       together = λ i s e. old.together i s (ap (λ z. get_elem? z i) pop ∙ at_longer rest (x ∷ []) i s e);
       each = λ i s e. ⊎_elim
           (λ there. ⊎_elim inl
-          (λ is. inr (subst (λ m. IsIn m s) (sym me) (enters v w s (own.port ∙ ap (λ z. z.port) is) (own.own ∙ ap (λ z. z.own) is) (own.places ∙ ap (λ z. z.places) is))))
+          (λ is. inr (subst (λ m. IsIn m s) (sym me) (enters v w s (own.port ∙ ap (λ z. z.port) is) (own.own ∙ ap (λ z. z.own) is)
+          (own.places ∙ ap (λ z. z.places) is))))
           (at_snoc rest x s i (sym (ap (λ z. get_elem? z i) pop) ∙ there)))
           (λ k. inr (subst (λ m. IsIn m s) (sym me) (stays v w s k))) (old.each i s e);
     }

@@ -22,6 +22,7 @@ loop-port-preserved c =
       count = rw (c.push_reserved.ensures.items) (omega (arith, old.count, length-append c.loop-port.senders.items (c.new-sender.result ∷ [])));
       len = search rules;
       room = search rules;
-      senders = rw c.push_reserved.ensures.items (λ k d lt. next_row _ _ d (new_sender c.make_sender.new.seat.table_id c.args.capacity c.args.calls) c.loop-port.port old.count
+      senders = rw c.push_reserved.ensures.items (λ k d lt. next_row _ _ d
+          (new_sender c.make_sender.new.seat.table_id c.args.capacity c.args.calls) c.loop-port.port old.count
           (search rules) (search rules) k lt);
     }

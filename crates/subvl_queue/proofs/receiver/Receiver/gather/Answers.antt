@@ -19,7 +19,8 @@ gather-drawn-requires-clause-every c =
     let every : HasEvery c.self.inside.ports c.args.senders.items =
     subst (λ (y : List SenderView). HasEvery c.self.inside.ports y) c.as_slice.ensures.value c.if-not-has_every.ensures in
     let made = c.take_in_all.ensures.unchanged.2 ∙ c.self.invariant.1 in
-    λ k lt. every_in c.take_in_all.new.seat.me.0 c.args.senders.items c.self.inside.ports c.take_in_all.ensures.senders every k (subst (λ (n : ℕ). k < n) made lt)
+    λ k lt. every_in c.take_in_all.new.seat.me.0 c.args.senders.items c.self.inside.ports c.take_in_all.ensures.senders every k
+    (subst (λ (n : ℕ). k < n) made lt)
 
 pub returns-clause-whole : goal.returns-clause-whole
 returns-clause-whole c =
@@ -34,7 +35,10 @@ returns-clause-whole c =
     let taken = c.new.ensures.taken ∙ ap (λ (u : View Message). items_of u.taken) log.1 in
     let left = c.new.ensures.left ∙ ap (λ (u : View Message). items_of (drop c.self.inside.taken (all_of u))) log.1 in
     subst (λ (y : ℕ × List (ℕ × List ℕ)). IsWhole y.0 c.args.senders.items y.1)
-    (λ k. (ap (λ (r : ReceiverView). r.ports) c.self.view_is k, (sym (accepted_is _ c.self.inside.taken v log.0 log.2 counted) ∙ (λ j. sym taken j ++ sym left j)) k)) whole
+    (λ k. (
+      ap (λ (r : ReceiverView). r.ports) c.self.view_is k,
+      (sym (accepted_is _ c.self.inside.taken v log.0 log.2 counted) ∙ (λ j. sym taken j ++ sym left j)) k,
+    )) whole
 
 pub returns-clause-items : goal.returns-clause-items
 returns-clause-items c =
@@ -48,4 +52,7 @@ returns-clause-items c =
     let taken = c.new.ensures.taken ∙ ap (λ (u : View Message). items_of u.taken) log.1 in
     let left = c.new.ensures.left ∙ ap (λ (u : View Message). items_of (drop c.self.inside.taken (all_of u))) log.1 in
     subst (λ (y : ℕ × List (ℕ × List ℕ)). AreItems y.0 y.1)
-    (λ k. (ap (λ (r : ReceiverView). r.ports) c.self.view_is k, (sym (accepted_is _ c.self.inside.taken v log.0 log.2 counted) ∙ (λ j. sym taken j ++ sym left j)) k)) items
+    (λ k. (
+      ap (λ (r : ReceiverView). r.ports) c.self.view_is k,
+      (sym (accepted_is _ c.self.inside.taken v log.0 log.2 counted) ∙ (λ j. sym taken j ++ sym left j)) k,
+    )) items

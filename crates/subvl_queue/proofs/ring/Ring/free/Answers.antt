@@ -19,5 +19,6 @@ fetch_add-requires c =
       search rules,
       search rules,
       frees_ok _ _ _ (ap (λ m. m.0.role) me ∙ view.0) (ap (λ m. m.0.stage) me ∙ view.1)
-          (ap (λ m. m.1) me ∙ (λ k. (c.slot_of-slot.ensures.0 k, None) ∷ rest (held k)) ∙ (λ k. (sym place k % sym capacity k, None) ∷ []) ∙ (λ k. ((sym me k).0.at % c.args.self.now.table.shared.table_id.slots, None) ∷ [])),
+          (ap (λ m. m.1) me ∙ (λ k. (c.slot_of-slot.ensures.0 k, None) ∷ rest (held k)) ∙ (λ k. (sym place k % sym capacity k, None) ∷ [])
+          ∙ (λ k. ((sym me k).0.at % c.args.self.now.table.shared.table_id.slots, None) ∷ [])),
     )
