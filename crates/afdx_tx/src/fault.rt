@@ -13,13 +13,16 @@ pub enum Refusal {
     /// The message is over the port's greatest message. The port is as it was.
     #[error("TooLong")]
     TooLong = 2,
-    /// The emitter is gone. The port has asked once more.
+    /// The queue is closed, which no call of an emitter does yet: a port whose emitter is gone is
+    /// accepted until there is no room. The port has asked once more where the queue was closed
+    /// after its glance.
     #[error("Closed")]
     Closed = 3,
-    /// The port has asked as often as it may. It is as it was.
+    /// The queue was open, and the port has asked as often as it may. It has asked no more.
     #[error("Exhausted")]
     Exhausted = 4,
-    /// The queue held as many messages as its capacity. The port has asked once more.
+    /// The queue was open, and had no room: messages in it and asks under way were as many as its
+    /// capacity. The port has asked once more.
     #[error("Full")]
     Full = 5,
 }
