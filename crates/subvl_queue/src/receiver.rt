@@ -116,7 +116,7 @@ impl Receiver {
     /// on, and each later close says the same.
     pub fn close(&mut self) -> u64
         ensures first { self.old.total ≡ None → self.new ≡ closed self.old result }
-        ensures again { self.old.total ≡ None → length self.old.taken ≤ result }
+        ensures behind { length self.old.taken ≤ result }
         ensures total { IfSome self.old.total (λ t. result ≡ t) }
         ensures unchanged { IfSome self.old.total (λ _. self.new ≡ self.old) }
     {

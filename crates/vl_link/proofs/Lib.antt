@@ -1,6 +1,7 @@
 pub mod FragmentsLeft
 pub mod Choosing
 pub mod QueueLooks
+pub mod Closing
 pub mod SubInStep
 pub mod SubKept
 pub mod PaceOfStream

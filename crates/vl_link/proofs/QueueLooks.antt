@@ -19,12 +19,12 @@ taken_finds (gathered g) message new f = ap taken_of f.2
 
 -- a queue in which nothing was found is the same
 pub same_nothing : (old new : Seen) → FindsNothing old new → IsSameQueue old new
-same_nothing (receiving r) new f = subst (IsSameQueue (receiving r)) (sym f) (refl, refl, refl)
+same_nothing (receiving r) new f = subst (IsSameQueue (receiving r)) (sym f) (refl, refl, refl, refl)
 same_nothing (gathered g) new f = subst (IsSameQueue (gathered g)) (sym f.1) (refl, refl)
 
 -- and so is one from which a message was taken
 pub same_finds : (old : Seen) (message : ℕ × List ℕ) (new : Seen) → Finds old message new → IsSameQueue old new
-same_finds (receiving r) message new f = subst (IsSameQueue (receiving r)) (sym f) (refl, refl, refl)
+same_finds (receiving r) message new f = subst (IsSameQueue (receiving r)) (sym f) (refl, refl, refl, refl)
 same_finds (gathered g) message new f = subst (IsSameQueue (gathered g)) (sym f.2) (
   refl,
   append_assoc g.taken (message ∷ []) f.0 ∙ ap (λ (left : List (ℕ × List ℕ)). g.taken ++ left) (sym f.1),
@@ -60,12 +60,12 @@ items_taken n (gathered g) items = λ k d lt.
 
 -- a queue is the same as itself
 pub same_here : (seen : Seen) → IsSameQueue seen seen
-same_here (receiving r) = (refl, refl, refl)
+same_here (receiving r) = (refl, refl, refl, refl)
 same_here (gathered g) = (refl, refl)
 
 -- the same over two steps
 pub same_on : (a b c : Seen) → IsSameQueue a b → IsSameQueue b c → IsSameQueue a c
-same_on (receiving a) (receiving b) (receiving c) p q = (q.0 ∙ p.0, q.1 ∙ p.1, q.2 ∙ p.2)
+same_on (receiving a) (receiving b) (receiving c) p q = (q.0 ∙ p.0, q.1 ∙ p.1, q.2 ∙ p.2, q.3 ∙ p.3)
 same_on (gathered a) (gathered b) (gathered c) p q = (q.0 ∙ p.0, q.1 ∙ p.1)
 same_on (receiving a) (gathered b) c p q = absurd p
 same_on (gathered a) (receiving b) c p q = absurd p

@@ -7,3 +7,4 @@ pub mod Room
 pub mod Kept
 pub mod LinkDone
 pub mod LinkGathering
+pub mod Closing

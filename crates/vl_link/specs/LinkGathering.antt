@@ -1,5 +1,5 @@
 -- The senders of a link come back.
-use Rattle.std.specs.Prelude.{ℕ, ◌≡◌, ◌<◌, List, length, slice_index_or, Some}
+use Rattle.std.specs.Prelude.{ℕ, ◌≡◌, ◌<◌, List, length, slice_index_or, Some, IfSome}
 use Rattle.subvl_queue.specs.Messages.{AreItems}
 use Rattle.subvl_queue.specs.Views.{SenderView, HasEvery, IsWhole, accepted_of}
 use Rattle.vl_link.specs.Seen.{Seen, receiving, gathered, ports_of, queue_of, IsReceiving}
@@ -9,10 +9,12 @@ use Rattle.vl_link.specs.Room.{RoomView}
 use Rattle.vl_link.specs.Room.{room_in}
 
 -- The same queue, whose accepted messages are known whole from now on: those that were taken, and
--- what is left. Each is of one of its ports.
+-- what is left. Each is of one of its ports, and where the queue was closed, they are as many as the
+-- total that was told.
 abbrev pub BecomesWhole : (old new : Seen) → Type 0
 BecomesWhole (receiving old) (gathered new) =
     (new.taken ≡ old.taken) × (new.ports ≡ old.ports) × AreItems old.ports (accepted_of new)
+    × IfSome old.total (λ total. total ≡ length (accepted_of new))
 BecomesWhole (receiving old) (receiving new) = ⊥
 BecomesWhole (gathered old) (receiving new) = ⊥
 BecomesWhole (gathered old) (gathered new) = ⊥

@@ -61,11 +61,12 @@ TellsDrained false (receiving r) = Unit {0}
 TellsDrained true (gathered g) = g.left ≡ []
 TellsDrained false (gathered g) = g.left ≡ [] → ⊥
 
--- The same queue, of which more may have been taken. Where its accepted messages are known whole,
--- they are the same.
+-- The same queue, closed or not as before, of which more may have been taken. Where its accepted
+-- messages are known whole, they are the same.
 abbrev pub IsSameQueue : (old new : Seen) → Type 0
 IsSameQueue (receiving old) (receiving new) =
     (new.queue ≡ old.queue) × (new.capacity ≡ old.capacity) × (new.ports ≡ old.ports)
+    × (new.total ≡ old.total)
 IsSameQueue (gathered old) (gathered new) =
     (new.ports ≡ old.ports) × (accepted_of new ≡ accepted_of old)
 IsSameQueue (receiving old) (gathered new) = ⊥

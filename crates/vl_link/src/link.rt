@@ -179,6 +179,10 @@ impl Link {
     ghost use Rattle.vl_link.specs.Turn.{is_lost};
     ghost use Rattle.vl_link.specs.LinkDone.{TellsLinkDone};
     ghost use Rattle.vl_link.specs.LinkGathering.{AreFullSubs, GathersLink};
+    ghost use Rattle.std.specs.Prelude.{◌<◌};
+    ghost use Rattle.vl_link.specs.Seen.{IsReceiving};
+    ghost use Rattle.vl_link.specs.Links.{held_at};
+    ghost use Rattle.vl_link.specs.Closing.{ClosesLink};
 
     /// A link of these sub-VLs, those of its plan. Nothing was released yet.
     pub fn new(end_system: u16, plan: LinkPlan, subs: Vec<Sub>) -> Link
@@ -264,6 +268,15 @@ impl Link {
         );
         self.lost = self.lost || did.is_lost();
         did
+    }
+
+    /// Closes the queue of one of its sub-VLs, and says how many messages were accepted, for good.
+    pub fn close(&mut self, sub: u8) -> u64
+        requires within { sub < length self.old.subs }
+        requires receiving { IsReceiving (held_at self.old.subs sub).seen }
+        ensures { ClosesLink self.old sub result self.new }
+    {
+        self.subs[sub as usize].close()
     }
 
     /// Gathers the queue of each sub-VL with the senders in its room, which are all that it has.

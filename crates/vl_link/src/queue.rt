@@ -37,6 +37,8 @@ impl Queue {
     ghost use Rattle.subvl_queue.specs.Messages.{IsItem};
     ghost use Rattle.vl_link.specs.Seen.{receiving, gathered, nothing_seen, ports_of, FindsNothing, Finds, TellsDrained};
     ghost use Rattle.vl_link.specs.LinkGathering.{IsFull, Gathers};
+    ghost use Rattle.vl_link.specs.Seen.{IsReceiving};
+    ghost use Rattle.vl_link.specs.Closing.{Closes};
 
     /// The queue of a receiver, whose ports may send.
     pub fn new(receiver: Receiver) -> Queue
@@ -68,6 +70,18 @@ impl Queue {
             End::Receiving(_) => false,
             End::Gathered(all) => all.is_drained(),
             End::Empty => true,
+        }
+    }
+
+    /// Closes the queue, and says how many messages were accepted. None is accepted from then on, and
+    /// each later close says the same. It waits for nobody.
+    pub fn close(&mut self) -> u64
+        requires receiving { IsReceiving self.old }
+        ensures { Closes self.old result self.new }
+    {
+        match &mut self.end {
+            End::Receiving(receiver) => receiver.close(),
+            _ => unreachable!(),
         }
     }
 

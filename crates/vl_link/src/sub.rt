@@ -48,6 +48,8 @@ impl Sub {
     ghost use Rattle.vl_link.specs.LinkDone.{TellsSubDone};
     ghost use Rattle.vl_link.specs.Subs.{IsPortOf};
     ghost use Rattle.vl_link.specs.LinkGathering.{IsFullSub, GathersSub};
+    ghost use Rattle.vl_link.specs.Seen.{IsReceiving};
+    ghost use Rattle.vl_link.specs.Closing.{ClosesSub};
 
     /// A sub-VL of these ports, over a queue with a sender for each. Nothing was taken yet.
     pub fn new(of: SubVl, ports: Vec<PortPlan>, receiver: Receiver) -> Sub
@@ -124,6 +126,14 @@ impl Sub {
                 }
             }
         }
+    }
+
+    /// Closes its queue, and says how many messages were accepted, for good.
+    pub fn close(&mut self) -> u64
+        requires receiving { IsReceiving self.old.seen }
+        ensures { ClosesSub self.old result self.new }
+    {
+        self.queue.close()
     }
 
     /// Gathers its queue with these senders, which are all that it has.
