@@ -13,6 +13,7 @@ pub mod FreshRooms
 pub mod OwnPorts
 pub mod SeatSteps
 pub mod GatheredEmitter
+pub mod ClosedEmitter
 pub mod PortMessages
 pub mod GatheredPorts
 pub mod PollingLinks

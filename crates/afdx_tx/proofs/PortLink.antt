@@ -12,9 +12,13 @@ use Rattle.afdx_plan.specs.Config.{Plan, IsPlan, HasLink, link_plan_at}
 use Rattle.vl_link.specs.Links.{no_link_plan}
 use Rattle.afdx_plan.specs.Places.{link_place}
 
+-- whether a link has this identifier
+abbrev has_id : ℕ → LinkPlan → Bool
+has_id vl link = link.id.0 == vl
+
 -- whether a link is the port's
 abbrev is_its : PortPlan → LinkPlan → Bool
-is_its port link = link.id.0 == port.vl.0
+is_its port link = has_id port.vl.0 link
 
 -- an element that passes stands behind fewer than all that don't
 passes_short : (p : LinkPlan → Bool) (xs : List LinkPlan) (k : ℕ) (d : LinkPlan) → k < length xs
@@ -30,22 +34,32 @@ passes_short p (x ∷ xs) (suc k) d lt passes =
     at true rest = omega arith
     at false rest = omega arith
 
+-- where no link is found, none has the identifier
+pub none_has : (links : List LinkPlan) (vl k : ℕ) → position (has_id vl) links ≡ None → k < length links
+    → (link_plan_at links k).id.0 ≡ vl → ⊥
+none_has links vl k none within id =
+    let passes : has_id vl (link_plan_at links k) ≡ true = eq-eqb _ _ id in
+    let short = passes_short (has_id vl) links k no_link_plan within passes in
+    let here : position (has_id vl) links ≡ Some (prefix_len (λ x. not (has_id vl x)) links) =
+    ap (λ (b : Bool). cond b (Some (prefix_len (λ x. not (has_id vl x)) links)) None) (lt-ltb _ _ short) in
+    let e : None ≡ Some (prefix_len (λ x. not (has_id vl x)) links) = sym none ∙ here in cc
+
+-- a link that is found has the identifier
+pub found_at : (links : List LinkPlan) (vl k : ℕ) → position (has_id vl) links ≡ Some k
+    → (k < length links) × ((link_plan_at links k).id.0 ≡ vl)
+found_at links vl k e =
+    let some = position-Some (has_id vl) links k no_link_plan e in
+    (some.0, eqb-true _ _ some.1)
+
 -- the link of a port is found
 pub found : (links : List LinkPlan) (port : PortPlan) → HasLink links port → position (is_its port) links ≡ None → ⊥
-found links port has none =
-    let passes : is_its port (link_plan_at links has.at) ≡ true = eq-eqb _ _ (ap (λ (id : VlId). id.0) has.over.id) in
-    let short = passes_short (is_its port) links has.at no_link_plan has.within passes in
-    let here : position (is_its port) links ≡ Some (prefix_len (λ x. not (is_its port x)) links) =
-    ap (λ (b : Bool). cond b (Some (prefix_len (λ x. not (is_its port x)) links)) None) (lt-ltb _ _ short) in
-    let e : None ≡ Some (prefix_len (λ x. not (is_its port x)) links) = sym none ∙ here in cc
+found links port has none = none_has links port.vl.0 has.at none has.within (ap (λ (id : VlId). id.0) has.over.id)
 
 -- and it is the port's
 pub found_id : (links : List LinkPlan) (port : PortPlan) (k : ℕ) → position (is_its port) links ≡ Some k
     → (link_plan_at links k).id ≡ port.vl
 found_id links port k e =
-    let some = position-Some (is_its port) links k no_link_plan e in
-    let same : (link_plan_at links k).id.0 ≡ port.vl.0 = eqb-true _ _ some.1 in
-    let made = λ (n : ℕ). let v : VlId = record { 0 = n } in v in ap made same
+    let made = λ (n : ℕ). let v : VlId = record { 0 = n } in v in ap made (found_at links port.vl.0 k e).1
 
 -- a valid plan has one link with an identifier
 pub found_over : (plan : Plan) (port : PortPlan) (k : ℕ) → IsPlan plan → HasLink plan.links port

@@ -121,28 +121,37 @@ receiving_still old new same r k s klt slt =
     let t : s < length (link_at old k).subs = omega (arith, on.count) in
     still_receiving (held_at (link_at old k).subs s).seen (held_at (link_at new k).subs s).seen (on.subs s).queue (r k s o t)
 
--- the queues of a link stay the same
-same_link_queues : (old new : LinkState) → IsSameLink old new → link_queues new ≡ link_queues old
-same_link_queues old new p =
+-- the queues of a link are the same where the queue of each sub-VL is
+pub alike_link_queues : (old new : LinkState) → length new.subs ≡ length old.subs
+    → ((s : ℕ) → s < length old.subs → held_queue (held_at new.subs s) ≡ held_queue (held_at old.subs s))
+    → link_queues new ≡ link_queues old
+alike_link_queues old new count each =
     let here = length-map new.subs held_queue in
     let there = length-map old.subs held_queue in
-    ext_get_or None (link_queues new) (link_queues old) (here ∙ p.count ∙ sym there)
+    ext_get_or None (link_queues new) (link_queues old) (here ∙ count ∙ sym there)
     (λ s lt.
     let n : s < length new.subs = omega (arith, here) in
-    let o : s < length old.subs = omega (arith, p.count) in
+    let o : s < length old.subs = omega arith in
     get_or-map held_queue new.subs s nothing_held None n
-    ∙ same_name (held_at old.subs s).seen (held_at new.subs s).seen (p.subs s).queue
+    ∙ each s o
     ∙ sym (get_or-map held_queue old.subs s nothing_held None o))
 
--- the queues of all links do
-pub same_queues : (old new : List LinkState) → IsSamePlan old new → queues_in new ≡ queues_in old
-same_queues old new p =
+-- and those of all links where the queues of each link are
+pub alike_queues : (old new : List LinkState) → length new ≡ length old
+    → ((k : ℕ) → k < length old → link_queues (link_at new k) ≡ link_queues (link_at old k)) → queues_in new ≡ queues_in old
+alike_queues old new count each =
     let here = length-map new link_queues in
     let there = length-map old link_queues in
-    ext_get_or [] (queues_in new) (queues_in old) (here ∙ p.count ∙ sym there)
+    ext_get_or [] (queues_in new) (queues_in old) (here ∙ count ∙ sym there)
     (λ k lt.
     let n : k < length new = omega (arith, here) in
-    let o : k < length old = omega (arith, p.count) in
+    let o : k < length old = omega arith in
     get_or-map link_queues new k no_link [] n
-    ∙ same_link_queues (link_at old k) (link_at new k) (p.each k o)
+    ∙ each k o
     ∙ sym (get_or-map link_queues old k no_link [] o))
+
+-- the queues of all links stay the same
+pub same_queues : (old new : List LinkState) → IsSamePlan old new → queues_in new ≡ queues_in old
+same_queues old new p = alike_queues old new p.count
+    (λ k lt. let link = p.each k lt in alike_link_queues (link_at old k) (link_at new k) link.count
+    (λ s slt. same_name (held_at (link_at old k).subs s).seen (held_at (link_at new k).subs s).seen (link.subs s).queue))

@@ -7,6 +7,7 @@ pub mod Ports
 pub mod Rooms
 pub mod Drain
 pub mod Gathering
+pub mod Closing
 pub mod Done
 pub mod DrainEnds
 pub mod WorkedDrain

@@ -1,11 +1,11 @@
 //! The emitter, while ports send.
 use crate::draining::Draining;
-use crate::fault::PollFault;
+use crate::fault::{NoSuchSub, PollFault};
 use crate::gather::{has_every_place, seat_all};
 use crate::port::TxPort;
 use crate::report::Report;
 use crate::transmitter::Transmitter;
-use afdx_plan::Config;
+use afdx_plan::{Config, VlId};
 use redundant_mux::Network;
 use std::marker::Model;
 use vl_link::{Link, LinkRooms};
@@ -43,6 +43,7 @@ impl<A: Network + Drop, B: Network + Drop> Emitter<A, B> {
     ghost use Rattle.afdx_tx.specs.Ports.{AreOpenedWith, LacksPlace};
     ghost use Rattle.afdx_tx.specs.Rooms.{AreReserved};
     ghost use Rattle.afdx_tx.specs.Gathering.{IsGatheredTx};
+    ghost use Rattle.afdx_tx.specs.Closing.{LacksSub, ClosesTx};
 
     /// Over fresh links of a configuration, and networks that were handed nothing.
     pub(crate) fn over(
@@ -119,6 +120,23 @@ impl<A: Network + Drop, B: Network + Drop> Emitter<A, B> {
             IsCutShort now self.old.links self.new.links self.old.lines self.new.lines) }
     {
         self.inner.poll(now)
+    }
+
+    /// Closes a sub-VL, by its link and its index there, and says how many messages of its ports were
+    /// accepted. None is accepted from then on: each later close says the same, and so many are known
+    /// once the ports are gathered. Those that were accepted still go out. Refused exactly where the
+    /// configuration has no such sub-VL; then nothing has changed. It waits for nobody, and its body
+    /// asks for no memory.
+    pub fn close(&mut self, vl: VlId, sub: u8) -> Result<u64, NoSuchSub>
+        ensures missing { IsErr result ↔ LacksSub self.old.plan vl.0 sub }
+        ensures unchanged { OnErr result (self.new ≡ self.old) }
+        ensures closed { IfOk result (λ total. ClosesTx self.old vl.0 sub total self.new) }
+        ensures plan { self.new.plan ≡ self.old.plan }
+        ensures lines { self.new.lines ≡ self.old.lines }
+        ensures moment { self.new.moment ≡ self.old.moment }
+        ensures queues { queues_in self.new.links ≡ queues_in self.old.links }
+    {
+        self.inner.close(vl, sub)
     }
 
     /// Takes all ports back, in any order, so that what they had accepted is known whole and can be

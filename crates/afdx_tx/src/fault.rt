@@ -13,9 +13,9 @@ pub enum Refusal {
     /// The message is over the port's greatest message. The port is as it was.
     #[error("TooLong")]
     TooLong = 2,
-    /// The queue is closed, which no call of an emitter does yet: a port whose emitter is gone is
-    /// accepted until there is no room. The port has asked once more where the queue was closed
-    /// after its glance.
+    /// The queue is closed, by `Emitter::close`. The port has asked once more where the queue was
+    /// closed after its glance. A port whose emitter is gone, and whose queue is open, is accepted
+    /// until there is no room.
     #[error("Closed")]
     Closed = 3,
     /// The queue was open, and the port has asked as often as it may. It has asked no more.
@@ -41,6 +41,11 @@ pub enum PollFault {
     #[error("BothDown")]
     BothDown = 1,
 }
+
+/// The configuration has no such sub-VL. The emitter is as it was before the call.
+#[derive(Clone, Copy, Debug, PartialEq, Eq, Error)]
+#[error("NoSuchSub")]
+pub struct NoSuchSub;
 
 /// Memory was refused. What was handed in comes back as it was.
 #[derive(Drop)]

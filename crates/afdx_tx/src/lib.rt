@@ -2,6 +2,7 @@
 //! out as numbered, spaced frames on two networks.
 #![tactic(auto)]
 
+mod closing;
 mod draining;
 mod emitter;
 mod fault;
@@ -15,7 +16,7 @@ mod transmitter;
 
 pub use draining::Draining;
 pub use emitter::Emitter;
-pub use fault::{OpenFault, PollFault, Refusal, SendFault};
+pub use fault::{NoSuchSub, OpenFault, PollFault, Refusal, SendFault};
 pub use open::open_tx;
 pub use port::TxPort;
 pub use report::{Release, Report};

@@ -11,7 +11,8 @@ ghost use Rattle.afdx_tx.specs.Serving.{IsSteady};
 ghost use Rattle.afdx_tx.specs.Done.{TellsAllDone};
 ghost use Rattle.afdx_tx.specs.Gathering.{AreFull, GathersLinks};
 
-use crate::fault::PollFault;
+use crate::closing::place_of;
+use crate::fault::{NoSuchSub, PollFault};
 use crate::report::{Release, Report};
 use afdx_frame::Frame;
 use afdx_plan::{Config, VlId};
@@ -133,6 +134,7 @@ impl<A: Network + Drop, B: Network + Drop> Transmitter<A, B> {
     ghost use Rattle.afdx_tx.specs.Emitter.{AreReceiving, queues_in};
     ghost use Rattle.afdx_tx.specs.Rooms.{AreRooms, senders_for};
     ghost use Rattle.afdx_tx.specs.Gathering.{GathersLinks, HasShape};
+    ghost use Rattle.afdx_tx.specs.Closing.{LacksSub, ClosesTx};
 
     /// Over fresh links of a configuration, and networks that were handed nothing.
     pub fn over(config: Config, links: Vec<Link>, a: A, b: B) -> Transmitter<A, B>
@@ -236,6 +238,19 @@ impl<A: Network + Drop, B: Network + Drop> Transmitter<A, B> {
             released,
             standing: self.mux.standing(),
         })
+    }
+
+    /// Closes the queue of a sub-VL, and says how many messages were accepted, for good.
+    pub fn close(&mut self, vl: VlId, sub: u8) -> Result<u64, NoSuchSub>
+        requires receiving { AreReceiving self.old.links }
+        ensures missing { IsErr result ↔ LacksSub self.old.plan vl.0 sub }
+        ensures unchanged { OnErr result (self.new ≡ self.old) }
+        ensures closed { IfOk result (λ total. ClosesTx self.old vl.0 sub total self.new) }
+    {
+        match place_of(&self.config, vl, sub) {
+            None => Err(NoSuchSub),
+            Some(place) => Ok(self.links[place].close(sub)),
+        }
     }
 
     /// Gathers the queue of each sub-VL with the senders in its room, which are all that it has.
