@@ -1,5 +1,5 @@
 //! Tests of the names of refusals.
-use afdx_tx::{PollFault, Refusal};
+use afdx_tx::{NoSuchSub, PollFault, Refusal};
 use std::fmt::InlineText;
 
 // Why a port refuses a message, its number and its name.
@@ -26,4 +26,9 @@ fn the_fault_of_a_poll_has_its_number_and_its_name(rt: HostRuntime) {
         InlineText::<16>::of(PollFault::BothDown).as_str(),
         "BothDown"
     );
+}
+
+#[test]
+fn the_fault_of_a_close_has_its_name(rt: HostRuntime) {
+    assert_eq!(rt; InlineText::<16>::of(NoSuchSub).as_str(), "NoSuchSub");
 }

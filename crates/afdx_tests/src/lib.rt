@@ -2,6 +2,10 @@
 #![tactic(auto)]
 
 #[cfg(test)]
+mod closing_tests;
+#[cfg(test)]
+mod closing_threads;
+#[cfg(test)]
 mod draining_tests;
 #[cfg(test)]
 mod fault_tests;
@@ -11,6 +15,8 @@ mod headline_tests;
 mod library_call;
 #[cfg(test)]
 mod network_tests;
+#[cfg(test)]
+mod pausing_tests;
 #[cfg(test)]
 mod port_tests;
 #[cfg(test)]

@@ -2,7 +2,9 @@
 ghost use Rattle.std.specs.Prelude.{◌≡◌, IfOk};
 ghost use Rattle.afdx_tx.specs.Ports.{IsPortOfTx, AreOpenedWith};
 
-use crate::testing::{BOTH, assert_drained, assert_poll, numbered, open, send_taken};
+use crate::testing::{
+    BOTH, assert_drained, assert_poll, assert_refused, numbered, open, send_taken,
+};
 use afdx_config::read_config;
 use afdx_plan::PortId;
 use afdx_tx::{Draining, Emitter, Refusal, TxPort};
@@ -69,18 +71,6 @@ fn open_pair(alloc: Global) -> Result<(Tx, TxPort, TxPort), Fail>
     let (tx, ports) = open(alloc, config, a, b)?;
     let (first, second) = take_two(&tx, ports)?;
     Ok((tx, first, second))
-}
-
-/// Asserts that a message is refused, and comes back.
-fn assert_refused<R: Abort>(rt: &R, alloc: Global, port: &mut TxPort, bytes: &[u8], why: Refusal) {
-    let message = bytes.to_vec(alloc).expect(rt, "memory");
-    match port.send(message) {
-        Ok(()) => panic!(rt; "taken"),
-        Err(fault) => {
-            assert_eq!(rt; fault.why, why);
-            assert_eq!(rt; fault.bytes.as_slice(), bytes);
-        }
-    }
 }
 
 #[test]

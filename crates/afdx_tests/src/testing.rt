@@ -4,7 +4,7 @@ ghost use Rattle.afdx_tx.specs.Emitter.{Tx};
 ghost use Rattle.afdx_tx.specs.Ports.{PortView, IsPortOfTx, AreOpenedWith};
 
 use afdx_plan::{Config, VlId, demo_config};
-use afdx_tx::{Draining, Emitter, PollFault, Release, Report, TxPort, open_tx};
+use afdx_tx::{Draining, Emitter, NoSuchSub, PollFault, Refusal, Release, Report, TxPort, open_tx};
 use redundant_mux::{Handed, MemNetwork, Network, Standing};
 use std::alloc::{AllocError, Global};
 use std::process::Abort;
@@ -72,6 +72,39 @@ pub(crate) fn send_taken<R: Abort>(rt: &R, alloc: Global, port: &mut TxPort, byt
 {
     let message = bytes.to_vec(alloc).expect(rt, "memory");
     port.send(message).expect(rt, "taken");
+}
+
+/// Asserts that a message is refused, and comes back. The port stays one of its emitter.
+pub(crate) fn assert_refused<R: Abort>(
+    rt: &R,
+    alloc: Global,
+    port: &mut TxPort,
+    bytes: &[u8],
+    why: Refusal,
+)
+    ensures { (tx : Tx) → IsPortOfTx tx port.old → IsPortOfTx tx port.new }
+{
+    let message = bytes.to_vec(alloc).expect(rt, "memory");
+    match port.send(message) {
+        Ok(()) => panic!(rt; "taken"),
+        Err(fault) => {
+            assert_eq!(rt; fault.why, why);
+            assert_eq!(rt; fault.bytes.as_slice(), bytes);
+        }
+    }
+}
+
+/// Closes a sub-VL, and asserts the answer. A port of the emitter stays its own.
+pub(crate) fn assert_closed<R: Abort, A: Network + Drop, B: Network + Drop>(
+    rt: &R,
+    tx: &mut Emitter<A, B>,
+    vl: u16,
+    sub: u8,
+    answer: Result<u64, NoSuchSub>,
+)
+    ensures { (port : PortView) → IsPortOfTx tx.old port → IsPortOfTx tx.new port }
+{
+    assert_eq!(rt; tx.close(VlId(vl), sub), answer);
 }
 
 /// Polls at a moment that isn't before the last one. A port of the emitter stays its own.

@@ -16,7 +16,7 @@ use std::thread;
 use std::thread::{Promise, PromisedHandle, Threads, join_promised};
 
 // How many ports the link has, two on each of its two sub-VLs.
-const PORTS: u8 = 4;
+pub(crate) const PORTS: u8 = 4;
 
 // How often a message is sent again after Full, and how often the emitter is polled meanwhile.
 const TURNS: u64 = 100_000_000;
@@ -26,7 +26,7 @@ const GAP: u64 = 1_000;
 
 // The port that comes back, if one does, is of the same emitter as the one that was given.
 #[derive(Drop)]
-struct ComesBack {
+pub(crate) struct ComesBack {
     of: Snapshot<TxPort>,
 }
 
@@ -39,7 +39,7 @@ impl Promise<Option<TxPort>> for ComesBack {
         (λ port. (tx : Tx) → IsPortOfTx tx p.of.value → IsPortOfTx tx port) };
 }
 
-type Worker = PromisedHandle<Option<TxPort>, ComesBack>;
+pub(crate) type Worker = PromisedHandle<Option<TxPort>, ComesBack>;
 
 // End system 1 with one link of two sub-VLs with room for so many messages. Ports 1 to 4 are of
 // partitions 1 to 4, the first two on sub-VL 0.
@@ -60,7 +60,7 @@ fn plan(alloc: Global, capacity: usize) -> Result<Config, Fail> {
 }
 
 // The emitter of that plan over two networks that were handed nothing, and its ports.
-fn open_plan(
+pub(crate) fn open_plan(
     alloc: Global,
     capacity: usize,
 ) -> Result<(Emitter<MemNetwork, MemNetwork>, Vec<TxPort>), Fail>
@@ -98,8 +98,8 @@ fn send_one(port: &mut TxPort, bytes: Vec<u8>) -> bool
     false
 }
 
-// Sends the port's identifier with each number below `messages`, from 0 on. The port, if all were
-// accepted.
+// Sends the port's identifier with each number below `messages`, from 0 on, until one is refused for
+// good.
 fn send_all(alloc: Global, mut port: TxPort, messages: u8) -> Option<TxPort>
     ensures { IfSome result (λ back. (tx : Tx) → IsPortOfTx tx port → IsPortOfTx tx back) }
 {
@@ -107,14 +107,14 @@ fn send_all(alloc: Global, mut port: TxPort, messages: u8) -> Option<TxPort>
     for number in 0..messages {
         let bytes = vec![in alloc; name, number].ok()?;
         if !send_one(&mut port, bytes) {
-            return None;
+            return Some(port);
         }
     }
     Some(port)
 }
 
 // Each port sends in a thread of its own.
-fn start_all<R: Threads + Copy + Send + 'static>(
+pub(crate) fn start_all<R: Threads + Copy + Send + 'static>(
     rt: R,
     alloc: Global,
     ports: Vec<TxPort>,
@@ -145,7 +145,7 @@ fn all_back(alloc: Global, ended: Vec<Option<TxPort>>) -> Result<Vec<TxPort>, Al
 }
 
 // Joins the workers. The ports that came back are of the same emitter as those that were given.
-fn join_all<R: Threads>(
+pub(crate) fn join_all<R: Threads>(
     rt: &R,
     alloc: Global,
     workers: Vec<Worker>,
@@ -159,7 +159,7 @@ fn join_all<R: Threads>(
 }
 
 // Polls, a gap apart, until so many frames were released, while the ports send.
-fn poll_some<R: Abort>(rt: &R, tx: &mut Emitter<MemNetwork, MemNetwork>, count: usize)
+pub(crate) fn poll_some<R: Abort>(rt: &R, tx: &mut Emitter<MemNetwork, MemNetwork>, count: usize)
     ensures plan { tx.new.plan ≡ tx.old.plan }
     ensures queues { queues_in tx.new.links ≡ queues_in tx.old.links }
 {
@@ -178,7 +178,11 @@ fn poll_some<R: Abort>(rt: &R, tx: &mut Emitter<MemNetwork, MemNetwork>, count: 
 }
 
 // Polls, a gap apart, until all was released, and no more often than so many times.
-fn drain<R: Abort>(rt: &R, draining: &mut Draining<MemNetwork, MemNetwork>, count: usize) {
+pub(crate) fn drain<R: Abort>(
+    rt: &R,
+    draining: &mut Draining<MemNetwork, MemNetwork>,
+    count: usize,
+) {
     for _turn in 0..count {
         if draining.is_done() {
             return;
@@ -189,7 +193,7 @@ fn drain<R: Abort>(rt: &R, draining: &mut Draining<MemNetwork, MemNetwork>, coun
 }
 
 // The number of the frame at a place of a link's stream: 0, 1 to 255, 1 and so on.
-fn number_at(place: usize) -> usize {
+pub(crate) fn number_at(place: usize) -> usize {
     match place.checked_sub(1) {
         Some(before) => before % 255 + 1,
         None => 0,

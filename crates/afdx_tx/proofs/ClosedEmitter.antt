@@ -1,9 +1,8 @@
 -- An emitter of which a sub-VL was closed is as sound as it was.
-use Rattle.std.proofs.Common.{ℕ, ◌≡◌, ◌≢◌, ◌<◌, ◌≤◌, ◌++◌, List, length, set, Option, arith, refl, ap, ◌∙◌, sym, subst, ⊎_elim, Result, Ok, Err, OnErr, IfOk}
+use Rattle.std.proofs.Common.{ℕ, ◌≡◌, ◌≢◌, ◌<◌, ◌≤◌, ◌++◌, List, length, set, arith, refl, ap, ◌∙◌, sym, subst, ⊎_elim, Result, Ok, Err, OnErr, IfOk}
 use Rattle.std.proofs.lemmas.Bool.{cases_eq, cases_lt}
 use Rattle.std.proofs.lemmas.List.{ext_get_or, length-set, get_or-set_same, get_or-set_other, get_or_past}
 use Rattle.afdx_plan.specs.declared.identifiers.VlId.{VlId}
-use Rattle.afdx_plan.specs.declared.link_plan.LinkPlan.{LinkPlan}
 use Rattle.afdx_plan.specs.declared.port_plan.PortPlan.{PortPlan}
 use Rattle.afdx_plan.specs.Config.{Plan, IsPlan, link_plan_at}
 use Rattle.afdx_plan.specs.Room.{room_of}
@@ -13,19 +12,17 @@ use Rattle.redundant_mux.specs.Entry.{Entry}
 use Rattle.redundant_mux.specs.Lines.{Lines, log}
 use Rattle.vl_shaper.specs.Pace.{IsLater}
 use Rattle.subvl_queue.specs.Messages.{AreItems}
-use Rattle.subvl_queue.specs.Views.{QueueName}
 use Rattle.afdx_legal.specs.Streams.{told, link_stream, sub_stream, told_of, IsPrefixOf}
 use Rattle.vl_link.specs.declared.sub_vl.SubVl.{SubVl}
-use Rattle.vl_link.specs.Seen.{taken_of, known_of, queue_of, IsReceiving}
+use Rattle.vl_link.specs.Seen.{taken_of, known_of, queue_of}
 use Rattle.vl_link.specs.Links.{Held, LinkState, held_at, link_at, no_link, no_link_plan, nothing_held, HasOwnItems, IsLinkOfPlan, sent_by, taken_by, sub_fragments}
 use Rattle.vl_link.specs.Kept.{IsKept, IsTied, IsBehind}
 use Rattle.vl_link.specs.Closing.{ClosesSub, ClosesLink}
-use Rattle.vl_link.proofs.Closing.{closes_taken, closes_known, closes_name, closes_receiving}
-use Rattle.afdx_tx.specs.Emitter.{Tx, plans, AreLinks, AreLinksOf, AreReceiving, IsSound, ports_of_sub, queues_in}
-use Rattle.afdx_tx.specs.Closing.{IsSubAt, LacksSub, ClosesTx}
+use Rattle.vl_link.proofs.Closing.{closes_taken, closes_known, closes_name}
+use Rattle.afdx_tx.specs.Emitter.{Tx, plans, AreLinksOf, IsSound, ports_of_sub, queues_in}
+use Rattle.afdx_tx.specs.Closing.{LacksSub, ClosesTx}
 use Rattle.afdx_tx.proofs.PollTurns.{plan_at_is, plans_length}
-use Rattle.afdx_tx.proofs.SoundEmitter.{plan_is, count_is, alike_link_queues, alike_queues}
-use Rattle.afdx_tx.proofs.PortLink.{none_has, found_at}
+use Rattle.afdx_tx.proofs.SoundEmitter.{alike_link_queues, alike_queues}
 
 -- a sub-VL but for whether its queue is closed
 pub record KeepsSub (old new : Held) : Type 0 where
@@ -35,7 +32,6 @@ pub record KeepsSub (old new : Held) : Type 0 where
   pub taken : taken_of new.seen ≡ taken_of old.seen
   pub known : known_of new.seen ≡ known_of old.seen
   pub name : queue_of new.seen ≡ queue_of old.seen
-  pub receiving : IsReceiving old.seen → IsReceiving new.seen
 
 keeps_here : (held : Held) → KeepsSub held held
 keeps_here held = record {
@@ -45,7 +41,6 @@ keeps_here held = record {
   taken = refl;
   known = refl;
   name = refl;
-  receiving = λ r. r;
 }
 
 keeps_closed : (old : Held) (total : ℕ) (new : Held) → ClosesSub old total new → KeepsSub old new
@@ -56,7 +51,6 @@ keeps_closed old total new c = record {
   taken = closes_taken old.seen total new.seen c.queue;
   known = closes_known old.seen total new.seen c.queue;
   name = closes_name old.seen total new.seen c.queue;
-  receiving = λ _. closes_receiving old.seen total new.seen c.queue;
 }
 
 -- a link but for whether the queues of its sub-VLs are closed
@@ -209,14 +203,6 @@ closed_sound config old new lines moment g s =
           let sub : t < length (link_at old k).subs = omega (arith, link.count) in
           items_same (held_at (link_at old k).subs t) (held_at (link_at new k).subs t) (link.each t sub) (s.items k t below sub);
     }
-
--- the ports of every queue are at large still
-receiving_same : (old new : List LinkState) → KeepLinks old new → AreReceiving old → AreReceiving new
-receiving_same old new g may k s lt slt =
-    let below : k < length old = omega (arith, g.count) in
-    let link = g.each k below in
-    let sub : s < length (link_at old k).subs = omega (arith, link.count) in
-    (link.each s sub).receiving (may k s below sub)
 
 -- the queues have their names
 queues_same : (old new : List LinkState) → KeepLinks old new → queues_in new ≡ queues_in old

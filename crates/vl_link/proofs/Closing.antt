@@ -3,7 +3,7 @@ use Rattle.std.proofs.Common.{ℕ, ◌≡◌, ◌∙◌, ◌%◌, List, length, 
 use Rattle.afdx_plan.specs.declared.port_plan.PortPlan.{PortPlan}
 use Rattle.afdx_frame.specs.Cutting.{Cutting}
 use Rattle.vl_link.specs.declared.sub_vl.SubVl.{SubVl}
-use Rattle.vl_link.specs.Seen.{Seen, receiving, gathered, taken_of, known_of, ports_of, queue_of, IsReceiving}
+use Rattle.vl_link.specs.Seen.{Seen, receiving, gathered, taken_of, known_of, ports_of, queue_of}
 use Rattle.vl_link.specs.Subs.{IsSub}
 use Rattle.vl_link.specs.Closing.{Closes}
 
@@ -26,11 +26,6 @@ closes_ports (gathered old) total new c = absurd c
 pub closes_name : (old : Seen) (total : ℕ) (new : Seen) → Closes old total new → queue_of new ≡ queue_of old
 closes_name (receiving old) total new c = ap queue_of c.0
 closes_name (gathered old) total new c = absurd c
-
--- its receiver stays at hand
-pub closes_receiving : (old : Seen) (total : ℕ) (new : Seen) → Closes old total new → IsReceiving new
-closes_receiving (receiving old) total new c = subst IsReceiving (sym c.0) tt
-closes_receiving (gathered old) total new c = absurd c
 
 -- a sub-VL keeps what its fields keep
 pub kept_closes : (of : SubVl) (ports : List PortPlan) (sending : Option Cutting) (old : Seen) (total : ℕ) (new : Seen)
