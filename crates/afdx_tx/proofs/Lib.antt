@@ -14,6 +14,7 @@ pub mod OwnPorts
 pub mod SeatSteps
 pub mod GatheredEmitter
 pub mod ClosedEmitter
+pub mod ClosedTotals
 pub mod PortMessages
 pub mod GatheredPorts
 pub mod PollingLinks

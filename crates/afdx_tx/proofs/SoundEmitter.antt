@@ -1,6 +1,7 @@
 -- An emitter after its links had their turns.
-use Rattle.std.proofs.Common.{ℕ, ◌≡◌, ◌<◌, List, [], true, length, arith, ap, ◌∙◌, sym, subst, None}
-use Rattle.std.proofs.lemmas.List.{ext_get_or, get_or-map, length-map}
+use Rattle.std.proofs.Common.{ℕ, ◌≡◌, ◌<◌, List, [], true, length, arith, ap, ◌∙◌, sym, subst, None, ◌≤◌, ⊎_elim}
+use Rattle.std.proofs.lemmas.Bool.{cases_lt}
+use Rattle.std.proofs.lemmas.List.{ext_get_or, get_or-map, get_or_past, length-map}
 use Rattle.afdx_plan.specs.declared.link_plan.LinkPlan.{LinkPlan}
 use Rattle.afdx_plan.specs.Config.{Plan, IsPlan, link_plan_at}
 use Rattle.afdx_plan.specs.Plan.{bag_micros}
@@ -11,11 +12,12 @@ use Rattle.redundant_mux.specs.Lines.{Lines, log, is_alive, IsMirrored}
 use Rattle.afdx_legal.specs.Streams.{link_stream, told_of, entry_number, IsNumbered, IsSpaced, IsPrefixOf}
 use Rattle.afdx_legal.specs.Legal.{AreKnown, IsLegal}
 use Rattle.vl_link.specs.Links.{LinkState, link_at, no_link, held_at, nothing_held, no_link_plan}
-use Rattle.afdx_tx.specs.Emitter.{plans, AreLinks, AreApart, AreLinksOf, AreWhole, AreReceiving, HaveOwnItems, IsSamePlan, IsSound, taken_in, held_queue, link_queues, queues_in, ports_of_sub}
+use Rattle.afdx_tx.specs.Emitter.{plans, AreLinks, AreApart, AreLinksOf, AreWhole, AreReceiving, HaveOwnItems, IsSamePlan, IsSound, taken_in, held_queue, link_queues, queues_in, total_in, ports_of_sub}
 use Rattle.afdx_tx.specs.Serving.{IsSteady}
 use Rattle.afdx_tx.proofs.LegalLists.{legal_of}
 use Rattle.afdx_tx.proofs.PollTurns.{plan_at_is, plans_length}
-use Rattle.vl_link.proofs.QueueLooks.{still_receiving, same_name}
+use Rattle.vl_link.specs.Seen.{total_of}
+use Rattle.vl_link.proofs.QueueLooks.{still_receiving, same_name, same_total}
 
 -- the plans stay the same
 pub same_plans : (old new : List LinkState) → IsSamePlan old new → plans new ≡ plans old
@@ -149,6 +151,16 @@ alike_queues old new count each =
     get_or-map link_queues new k no_link [] n
     ∙ each k o
     ∙ sym (get_or-map link_queues old k no_link [] o))
+
+-- a sub-VL is closed or not as before
+pub same_totals : (old new : List LinkState) → IsSamePlan old new → (k s : ℕ) → total_in new k s ≡ total_in old k s
+same_totals old new p k s = ⊎_elim
+    (λ (lt : k < length old). same_total (held_at (link_at old k).subs s).seen (held_at (link_at new k).subs s).seen
+    ((p.each k lt).subs s).queue)
+    (λ (past : length old ≤ k).
+    let none : length new ≤ k = omega (arith, p.count) in
+    ap (λ (l : LinkState). total_of (held_at l.subs s).seen) (get_or_past new k no_link none ∙ sym (get_or_past old k no_link past)))
+    (cases_lt k (length old))
 
 -- the queues of all links stay the same
 pub same_queues : (old new : List LinkState) → IsSamePlan old new → queues_in new ≡ queues_in old

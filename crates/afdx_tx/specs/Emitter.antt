@@ -11,7 +11,7 @@ use Rattle.redundant_mux.specs.Lines.{Lines, log, is_alive, IsMirrored}
 use Rattle.vl_shaper.specs.Pace.{IsLater}
 use Rattle.subvl_queue.specs.Views.{QueueName, new_receiver}
 use Rattle.vl_link.specs.declared.sub_vl.SubVl.{SubVl}
-use Rattle.vl_link.specs.Seen.{receiving, queue_of, IsReceiving}
+use Rattle.vl_link.specs.Seen.{receiving, queue_of, total_of, IsReceiving}
 use Rattle.afdx_legal.specs.Legal.{Accepted, AreKnown}
 use Rattle.vl_link.specs.Links.{Held, LinkState, held_at, link_at, taken_by, HasOwnItems, IsLinkOfPlan, IsSameLink}
 use Rattle.vl_link.specs.Kept.{IsLinkTied, IsKept}
@@ -142,6 +142,10 @@ link_queues link = map held_queue link.subs
 -- the queues of each link
 abbrev pub queues_in : List LinkState → List (List (Option QueueName))
 queues_in links = map link_queues links
+
+-- the total of a sub-VL that was closed
+abbrev pub total_in : List LinkState → ℕ → ℕ → Option ℕ
+total_in links k s = total_of (held_at (link_at links k).subs s).seen
 
 -- the links, their plans, sub-VLs and queues are the same
 pub record IsSamePlan (old new : List LinkState) : Type 0 where

@@ -31,7 +31,7 @@ impl<A: Network + Drop, B: Network + Drop> Model for Emitter<A, B> {
 }
 
 impl<A: Network + Drop, B: Network + Drop> Emitter<A, B> {
-    ghost use Rattle.std.specs.Prelude.{◌≡◌, ◌≤◌, ◌↔◌, [], true, false, length, IsErr, OnErr, OnOk, IfOk, IfErr};
+    ghost use Rattle.std.specs.Prelude.{◌≡◌, ℕ, ◌≤◌, ◌↔◌, [], true, false, length, IsErr, OnErr, OnOk, IfOk, IfErr};
     ghost use Rattle.afdx_plan.specs.Config.{IsPlan};
     ghost use Rattle.redundant_mux.specs.Lines.{BothEndure, is_alive, log, IsMirrored};
     ghost use Rattle.afdx_legal.specs.Legal.{IsLegal};
@@ -39,7 +39,7 @@ impl<A: Network + Drop, B: Network + Drop> Emitter<A, B> {
     ghost use Rattle.afdx_tx.specs.Drain.{accepted_in};
     ghost use Rattle.afdx_tx.specs.Run.{IsRun, IsCutShort};
     ghost use Rattle.afdx_tx.specs.Report.{Polls};
-    ghost use Rattle.afdx_tx.specs.Emitter.{Tx, IsFreshTx, AreFreshLinks, AreTied, taken_in, queues_in};
+    ghost use Rattle.afdx_tx.specs.Emitter.{Tx, IsFreshTx, AreFreshLinks, AreTied, taken_in, queues_in, total_in};
     ghost use Rattle.afdx_tx.specs.Ports.{AreOpenedWith, LacksPlace};
     ghost use Rattle.afdx_tx.specs.Rooms.{AreReserved};
     ghost use Rattle.afdx_tx.specs.Gathering.{IsGatheredTx};
@@ -109,6 +109,7 @@ impl<A: Network + Drop, B: Network + Drop> Emitter<A, B> {
         ensures tied { AreTied self.new.links (log self.new.lines) }
         ensures plan { self.new.plan ≡ self.old.plan }
         ensures queues { queues_in self.new.links ≡ queues_in self.old.links }
+        ensures totals { (k s : ℕ) → total_in self.new.links k s ≡ total_in self.old.links k s }
         ensures mirrored { IsMirrored self.new.lines }
         ensures endure { BothEndure self.old.lines self.new.lines }
         ensures told { IfOk result (λ report. Polls now self.old report self.new) }

@@ -4,7 +4,7 @@ use Rattle.std.proofs.lemmas.List.{append_assoc, length-append, get_or_append_le
 use Rattle.std.proofs.lemmas.List.Elements.{All-push}
 use Rattle.subvl_queue.specs.Messages.{IsItem, AreItems}
 use Rattle.vl_link.specs.LinkGathering.{BecomesWhole}
-use Rattle.vl_link.specs.Seen.{Seen, receiving, gathered, taken_of, known_of, ports_of, queue_of, FindsNothing, Finds, IsReceiving, IsSameQueue}
+use Rattle.vl_link.specs.Seen.{Seen, receiving, gathered, taken_of, known_of, ports_of, queue_of, total_of, FindsNothing, Finds, IsReceiving, IsSameQueue}
 
 -- nothing more was taken where nothing was found
 pub taken_nothing : (old new : Seen) → FindsNothing old new → taken_of new ≡ taken_of old
@@ -85,6 +85,13 @@ same_name (receiving r) (receiving s) e = ap Some e.0
 same_name (gathered g) (gathered h) e = refl
 same_name (receiving r) (gathered h) e = absurd e
 same_name (gathered g) (receiving s) e = absurd e
+
+-- and is closed or not as before
+pub same_total : (old new : Seen) → IsSameQueue old new → total_of new ≡ total_of old
+same_total (receiving r) (receiving s) e = e.3
+same_total (gathered g) (gathered h) e = refl
+same_total (receiving r) (gathered h) e = absurd e
+same_total (gathered g) (receiving s) e = absurd e
 
 -- while ports may send, they may send on
 pub still_receiving : (old new : Seen) → IsSameQueue old new → IsReceiving old → IsReceiving new

@@ -23,6 +23,11 @@ abbrev pub queue_of : Seen → Option QueueName
 queue_of (receiving r) = Some r.queue
 queue_of (gathered g) = None
 
+-- the total that a close told of a queue whose receiver is at hand
+abbrev pub total_of : Seen → Option ℕ
+total_of (receiving r) = r.total
+total_of (gathered g) = None
+
 -- ports may still send
 abbrev pub IsReceiving : Seen → Type 0
 IsReceiving (receiving r) = Unit {0}

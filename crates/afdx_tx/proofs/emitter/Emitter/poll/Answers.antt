@@ -1,12 +1,12 @@
-use Rattle.std.proofs.Common.{◌≡◌, true, false, IfOk, OnOk, sym, subst}
+use Rattle.std.proofs.Common.{ℕ, ◌≡◌, true, false, IfOk, OnOk, sym, subst}
 use Rattle.afdx_plan.specs.Config.{Plan}
 use Rattle.redundant_mux.specs.Lines.{BothEndure, is_alive}
 use Rattle.afdx_tx.specs.declared.report.Report.{Report}
-use Rattle.afdx_tx.specs.Emitter.{Tx, queues_in}
+use Rattle.afdx_tx.specs.Emitter.{Tx, queues_in, total_in}
 use Rattle.afdx_tx.specs.Report.{Polls}
 use Rattle.afdx_tx.specs.Rooms.{AreReserved}
 use Rattle.afdx_tx.specs.Run.{IsRun, IsCutShort}
-use Rattle.afdx_tx.proofs.SoundEmitter.{receiving_still, same_queues}
+use Rattle.afdx_tx.proofs.SoundEmitter.{receiving_still, same_queues, same_totals}
 use Rattle.afdx_tx.proofs.emitter.Emitter.poll.Goals as goal
 
 pub invariant_of-self : goal.invariant_of-self
@@ -19,6 +19,11 @@ pub returns-clause-queues : goal.returns-clause-queues
 returns-clause-queues g c =
     subst (λ (t : Tx). queues_in c.poll.new.self.links ≡ queues_in t.links) c.self.view_is
     (same_queues c.self.inside.inner.links c.poll.new.self.links c.poll.ensures.same)
+
+pub returns-clause-totals : goal.returns-clause-totals
+returns-clause-totals g c =
+    subst (λ (t : Tx). (k s : ℕ) → total_in c.poll.new.self.links k s ≡ total_in t.links k s) c.self.view_is
+    (same_totals c.self.inside.inner.links c.poll.new.self.links c.poll.ensures.same)
 
 pub returns-clause-told : goal.returns-clause-told
 returns-clause-told g c =

@@ -1,0 +1,61 @@
+-- The total of a sub-VL that was closed is how many messages it accepted.
+use Rattle.std.proofs.Common.{ℕ, ◌≡◌, ◌<◌, ◌≤◌, List, length, ap, ◌∙◌, sym, subst, ⊎_elim, Option, Some, None, IfSome}
+use Rattle.std.proofs.lemmas.Bool.{cases_lt}
+use Rattle.std.proofs.lemmas.List.{get_or_past, length-map}
+use Rattle.subvl_queue.specs.Views.{accepted_of}
+use Rattle.vl_link.specs.Seen.{Seen, receiving, gathered, known_of, total_of}
+use Rattle.vl_link.specs.Links.{Held, LinkState, held_at, link_at, no_link, nothing_held, sent_of}
+use Rattle.vl_link.specs.Closing.{Closes}
+use Rattle.vl_link.specs.LinkGathering.{BecomesWhole}
+use Rattle.afdx_tx.specs.Emitter.{Tx, total_in}
+use Rattle.afdx_tx.specs.Ports.{PortView}
+use Rattle.afdx_tx.specs.Drain.{accepted_in}
+use Rattle.afdx_tx.specs.Closing.{ClosesTx}
+use Rattle.afdx_tx.specs.Gathering.{IsGatheredTx}
+
+-- a sub-VL that was closed shows its total
+pub closes_total : (old : Tx) (vl sub total : ℕ) (new : Tx) (c : ClosesTx old vl sub total new)
+    → total_in new.links c.place sub ≡ Some total
+closes_total old vl sub total new c =
+    closed_total (held_at (link_at old.links c.place).subs sub).seen total (held_at (link_at new.links c.place).subs sub).seen
+    c.closes.closes.queue
+  where
+    closed_total : (before : Seen) (total : ℕ) (after : Seen) → Closes before total after → total_of after ≡ Some total
+    closed_total (receiving before) total after c = ap total_of c.0
+    closed_total (gathered before) total after c = absurd c
+
+-- what shows a total is a sub-VL of the emitter
+shown_within : (links : List LinkState) (k s total : ℕ) → total_in links k s ≡ Some total
+    → (k < length links) × (s < length (link_at links k).subs)
+shown_within links k s total shown = (
+  ⊎_elim
+      (λ (lt : k < length links). lt)
+      (λ (past : length links ≤ k).
+      let none : total_in links k s ≡ None = ap (λ (l : LinkState). total_of (held_at l.subs s).seen) (get_or_past links k no_link past) in
+      absurd (let e : None ≡ Some total = sym none ∙ shown in cc))
+      (cases_lt k (length links)),
+  ⊎_elim
+      (λ (lt : s < length (link_at links k).subs). lt)
+      (λ (past : length (link_at links k).subs ≤ s).
+      let none : total_in links k s ≡ None = ap (λ (h : Held). total_of h.seen) (get_or_past (link_at links k).subs s nothing_held past) in
+      absurd (let e : None ≡ Some total = sym none ∙ shown in cc))
+      (cases_lt s (length (link_at links k).subs)),
+)
+
+-- the total of a queue is how many messages are known of it once it is gathered
+whole_total : (old new : Seen) (total : ℕ) → BecomesWhole old new → total_of old ≡ Some total → length (known_of new) ≡ total
+whole_total (receiving old) (gathered new) total b shown =
+    sym (subst (λ (o : Option ℕ). IfSome o (λ (t : ℕ). t ≡ length (accepted_of new))) shown b.3)
+whole_total (receiving old) (receiving new) total b shown = absurd b
+whole_total (gathered old) (gathered new) total b shown = absurd b
+whole_total (gathered old) (receiving new) total b shown = absurd b
+
+-- the total of a sub-VL is how many messages it accepted, known whole once the ports are gathered
+pub total_whole : (old : Tx) (ports : List PortView) (new : Tx) (k s total : ℕ) → IsGatheredTx old ports new
+    → total_in old.links k s ≡ Some total → length (accepted_in new.links k s) ≡ total
+total_whole old ports new k s total g shown =
+    let within = shown_within old.links k s total shown in
+    let after = held_at (link_at new.links k).subs s in
+    let sub = (g.links k within.0).each s within.1 in
+    length-map (known_of after.seen) (sent_of after.ports)
+    ∙ whole_total (held_at (link_at old.links k).subs s).seen after.seen total sub.queue shown
