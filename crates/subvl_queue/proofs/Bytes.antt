@@ -5,22 +5,22 @@ use Rattle.std.proofs.lemmas.List.Elements.{All-cons, All-nil}
 use Rattle.subvl_queue.specs.declared.item.Message.{Message}
 use Rattle.subvl_queue.specs.Messages.{IsItem, AreItems, part_of}
 use Rattle.subvl_queue.specs.Queue.{owned}
-use Rattle.subvl_queue.specs.Bytes.{items_of, sent_by, places_of}
+use Rattle.subvl_queue.specs.Bytes.{items_of, own_of, places_of}
 use Rattle.subvl_queue.specs.Views.{places_from, TellsLeft}
 
 pub length_of : (l : List (ℕ × Message)) → length (items_of l) ≡ length l
 length_of [] = refl
 length_of (x ∷ l) = ap suc (length_of l)
 
-pub sent_length : (l : List (ℕ × Message)) → length (sent_by l) ≡ length l
+pub sent_length : (l : List (ℕ × Message)) → length (own_of l) ≡ length l
 sent_length [] = refl
 sent_length (x ∷ l) = ap suc (sent_length l)
 
 -- a port's part of the messages
-pub part_is : (k n : ℕ) (l : List (ℕ × Message)) → sent_by (owned k n l) ≡ part_of k (items_of l)
+pub part_is : (k n : ℕ) (l : List (ℕ × Message)) → own_of (owned k n l) ≡ part_of k (items_of l)
 part_is k n [] = refl
 part_is k n (x ∷ l) = let r = part_is k (suc n) l in
-    elim (eqb x.0 k) as (λ b. sent_by (cond b ((n, x.1) ∷ owned k (suc n) l) (owned k (suc n) l)) ≡
+    elim (eqb x.0 k) as (λ b. own_of (cond b ((n, x.1) ∷ owned k (suc n) l) (owned k (suc n) l)) ≡
     (if b then x.1.bytes.items ∷ part_of k (items_of l) else part_of k (items_of l)))
     [ true ↦ ap (λ (z : List (List ℕ)). x.1.bytes.items ∷ z) r | false ↦ r ]
 

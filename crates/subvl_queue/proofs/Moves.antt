@@ -16,7 +16,7 @@ use Rattle.subvl_queue.specs.declared.view.Role.{Role}
 use Rattle.subvl_queue.specs.declared.view.Role.TheVariants.{Sender, Receiver, Spent}
 use Rattle.subvl_queue.specs.declared.view.Stage.{Stage}
 use Rattle.subvl_queue.specs.declared.view.Stage.TheVariants.{Idle, Asked, Refused, Drew, Late, Holding}
-use Rattle.subvl_queue.specs.Queue.{owned, total, hand_of, room_of, wait_of, budget_of, shut_bit, in_hand, in_room, waiting, asked, budget, Totals, Gone, Whole, Gathers, Busy, Phase, free, writing, full, reading, Cell, holder, shown, InPhase, CellOk, Knows, Fits, Queue}
+use Rattle.subvl_queue.specs.Queue.{owned, total, hand_of, found_of, wait_of, budget_of, shut_bit, in_hand, in_room, waiting, asked, budget, Totals, Gone, Whole, Gathers, Busy, Phase, free, writing, full, reading, Cell, holder, shown, InPhase, CellOk, Knows, Fits, Queue}
 use Rattle.subvl_queue.specs.Steps.{Seated, with_ask, idle, drawn, looked, holding, freed_of, lated, glanced, closed_at, with_all, IfWhole, asks, gives_back, draws, readies, looks, frees, glances_at, closes, gathers}
 use Rattle.subvl_queue.proofs.Totals.{total_set, hands_small, rooms_small, total_le, one_less, one_more}
 use Rattle.subvl_queue.proofs.Owned.{owned_mine, owned_other, owned_at, take_next}
@@ -146,11 +146,11 @@ module _ {T : Type 0} where
       let wait0 : waiting me.0 ≡ 0 = ap wait_of was in
       let less : x' ≡ x - 1 = one_less x (omega arith) small in
       let hand0 : in_hand me.0 ≡ 0 = ap hand_of was in
-      let room0 : in_room me.0 ≡ 0 = ap room_of was in let ws : ℕ = length s.words in let long : ws ≡ m + 2 = r.wide in
+      let room0 : in_room me.0 ≡ 0 = ap found_of was in let ws : ℕ = length s.words in let long : ws ≡ m + 2 = r.wide in
       let went : (st : Stage) (b : Bool) → hand_of st ≡ 1 → wait_of st ≡ 1 → (Knows r.freed r.log id (r.cells (me.0.at % m)) me.0.at me.0.item st)
-      → L + R + room_of st ≤ r.freed + m → Queue (stepped s 0 x' id me.1 (with_ask me.0 st b) keeps) = λ st b one one' knew fits'.
+      → L + R + found_of st ≤ r.freed + m → Queue (stepped s 0 x' id me.1 (with_ask me.0 st b) keeps) = λ st b one one' knew fits'.
       let w = with_ask me.0 st b in let th : total in_hand (set s.views id w) + in_hand me.0 ≡ H + hand_of st = total_set in_hand s.views id me.0 w at in
-      let tr : total in_room (set s.views id w) + in_room me.0 ≡ R + room_of st = total_set in_room s.views id me.0 w at in
+      let tr : total in_room (set s.views id w) + in_room me.0 ≡ R + found_of st = total_set in_room s.views id me.0 w at in
       let ta : total asked (set s.views id w) + me.0.asks ≡ A + (me.0.asks + 1) = total_set asked s.views id me.0 w at in
       let tw : total waiting (set s.views id w) + waiting me.0 ≡ W + wait_of st = total_set waiting s.views id me.0 w at in
       let tb : total budget (set s.views id w) + budget me.0 ≡ B + budget w = total_set budget s.views id me.0 w at in
@@ -167,7 +167,7 @@ module _ {T : Type 0} where
       go : Dec (suc (2 ^ 32) ≤ get_or s.words 0 0)
           → ((st : Stage) (b : Bool) → hand_of st ≡ 1 → wait_of st ≡ 1
           → (Knows r.freed r.log id (r.cells (me.0.at % length s.homes)) me.0.at me.0.item st)
-          → length r.log + total in_room s.views + room_of st ≤ r.freed + length s.homes
+          → length r.log + total in_room s.views + found_of st ≤ r.freed + length s.homes
           → Queue (stepped s 0 ((get_or s.words 0 0 + (2 ^ 64 - 1)) % 2 ^ 64) id me.1 (with_ask me.0 st b) keeps))
           → get_or s.words 0 0 + length r.log + total in_hand s.views ≡ 2 ^ 32 + length s.homes + r.freed
           → length r.log + total in_room s.views ≤ r.freed + length s.homes → total in_room s.views ≤ total in_hand s.views
@@ -278,7 +278,7 @@ module _ {T : Type 0} where
       let budgeted : B ≤ 64 * 2 ^ 40 = r.budgeted in let behind : F ≤ L = r.behind in let bound : L + r.late + W ≤ 64 * 2 ^ 40 = few_drawn s r in
       let hand1 : in_hand me.0 ≡ 1 = ap hand_of was in
       let wait1 : waiting me.0 ≡ 1 = ap wait_of was in
-      let room1 : in_room me.0 ≡ 1 = ap room_of was in let ws : ℕ = length s.words in let long : ws ≡ m + 2 = r.wide in
+      let room1 : in_room me.0 ≡ 1 = ap found_of was in let ws : ℕ = length s.words in let long : ws ≡ m + 2 = r.wide in
       let w = drawn me.0 L x in let log' = r.log ++ x ∷ [] in let longer : length log' ≡ L + 1 = length-append r.log (x ∷ []) in
       let th : total in_hand (set s.views id w) + in_hand me.0 ≡ H + 0 = total_set in_hand s.views id me.0 w at in
       let tr : total in_room (set s.views id w) + in_room me.0 ≡ R + 0 = total_set in_room s.views id me.0 w at in
@@ -339,7 +339,7 @@ module _ {T : Type 0} where
       let budgeted : B ≤ 64 * 2 ^ 40 = r.budgeted in let bound : L + r.late + W ≤ 64 * 2 ^ 40 = few_drawn s r in
       let w = lated me.0 in
       let hand1 : in_hand me.0 ≡ 1 = ap hand_of was in
-      let room1 : in_room me.0 ≡ 1 = ap room_of was in
+      let room1 : in_room me.0 ≡ 1 = ap found_of was in
       let wait1 : waiting me.0 ≡ 1 = ap wait_of was in let ws : ℕ = length s.words in let long : ws ≡ m + 2 = r.wide in
       let th : total in_hand (set s.views id w) + in_hand me.0 ≡ H + 1 = total_set in_hand s.views id me.0 w at in
       let tr : total in_room (set s.views id w) + in_room me.0 ≡ R + 1 = total_set in_room s.views id me.0 w at in
@@ -368,8 +368,8 @@ module _ {T : Type 0} where
 
   module _ (s : St T) (r : Queue s) (id : ℕ) (me : Seated T) where
     -- the same totals after a step that leaves no ask in hand and no more asks
-    still : (w : View T) → get_elem? s.views id ≡ some me.0 → hand_of me.0.stage ≡ 0 → room_of me.0.stage ≡ 0 → wait_of me.0.stage ≡ 0
-        → hand_of w.stage ≡ 0 → room_of w.stage ≡ 0 → wait_of w.stage ≡ 0 → w.asks ≡ me.0.asks → budget w ≡ budget me.0
+    still : (w : View T) → get_elem? s.views id ≡ some me.0 → hand_of me.0.stage ≡ 0 → found_of me.0.stage ≡ 0 → wait_of me.0.stage ≡ 0
+        → hand_of w.stage ≡ 0 → found_of w.stage ≡ 0 → wait_of w.stage ≡ 0 → w.asks ≡ me.0.asks → budget w ≡ budget me.0
         → (total in_hand (set s.views id w) ≡ total in_hand s.views) × (total in_room (set s.views id w) ≡ total in_room s.views)
         × (total waiting (set s.views id w) ≡ total waiting s.views) × (total asked (set s.views id w) ≡ total asked s.views)
         × (total budget (set s.views id w) ≡ total budget s.views)
@@ -394,7 +394,7 @@ module _ {T : Type 0} where
       let mine = kn.0 in
       let ok = subst (CellOk m F r.log s.words s.homes i) mine (r.each_cell i near) in let slot : p % n ≡ i = ap (λ (z : ℕ). p % z) (sym wide) in
       let is_k : k ≡ i + 2 = word ∙ ap (λ (z : ℕ). z + 2) slot in
-      let w = idle me.0 in let same = still s r id me w at (ap hand_of was) (ap room_of was) (ap wait_of was) refl refl refl refl refl in
+      let w = idle me.0 in let same = still s r id me w at (ap hand_of was) (ap found_of was) (ap wait_of was) refl refl refl refl refl in
       let keep0 : get_or (set s.words k new) 0 0 ≡ get_or s.words 0 0 = get_or-set_other s.words k 0 new 0 (λ e. omega arith) in
       let keep1 : get_or (set s.words k new) 1 0 ≡ get_or s.words 1 0 = get_or-set_other s.words k 1 new 0 (λ e. omega arith) in
       let long : length s.words ≡ m + 2 = r.wide in
@@ -484,7 +484,7 @@ module _ {T : Type 0} where
       dite (ℕ_discrete y (suc p))
       (λ hit. let rd = found hit in
       let x = rd.3.0 in
-      let w = holding me.0 p x in let same = still s r id me w at (ap hand_of was) (ap room_of was) (ap wait_of was) refl refl refl refl refl in
+      let w = holding me.0 p x in let same = still s r id me w at (ap hand_of was) (ap found_of was) (ap wait_of was) refl refl refl refl refl in
       let keep0 : get_or (set s.words k y) 0 0 ≡ get_or s.words 0 0 = get_or-set_other s.words k 0 y 0 (λ e. omega arith) in
       let keep1 : get_or (set s.words k y) 1 0 ≡ get_or s.words 1 0 = get_or-set_other s.words k 1 y 0 (λ e. omega arith) in
       let long : length s.words ≡ m + 2 = r.wide in
@@ -529,7 +529,7 @@ module _ {T : Type 0} where
         ),
       ))
       (λ miss. let w = looked me.0 false in
-      let same = still s r id me w at (ap hand_of was) (ap room_of was) (ap wait_of was) (ap hand_of was) (ap room_of was)
+      let same = still s r id me w at (ap hand_of was) (ap found_of was) (ap wait_of was) (ap hand_of was) (ap found_of was)
       (ap wait_of was) refl refl in
       let h = same.0 in
       let room = r.room_is in
@@ -561,7 +561,7 @@ module _ {T : Type 0} where
       let room : y + L + H ≡ 2 ^ 32 + m + F = r.room_is in let within = r.within in let more : y' ≡ y + 1 = one_more y (omega arith) in
       let f = fits s r id me.0 Receiver at is in
       let w = freed_of me.0 x in
-      let same = still s r id me w at (ap hand_of was) (ap room_of was) (ap wait_of was) refl refl refl refl refl in
+      let same = still s r id me w at (ap hand_of was) (ap found_of was) (ap wait_of was) refl refl refl refl refl in
       let h = same.0 in
       let counted = r.counted in let tr = same.1 in let tw = same.2 in let ta = same.3 in let tb = same.4 in let budgeted = r.budgeted in
       let long : length s.words ≡ m + 2 = r.wide in
@@ -608,7 +608,7 @@ module _ {T : Type 0} where
     where
       went : (b : Bool) → Queue (stepped s 1 (get_or s.words 1 0) id me.1 (glanced me.0 b) keeps)
       went b = let w = glanced me.0 b in
-          let same = still s r id me w at (ap hand_of was) (ap room_of was) (ap wait_of was) (ap hand_of was) (ap room_of was)
+          let same = still s r id me w at (ap hand_of was) (ap found_of was) (ap wait_of was) (ap hand_of was) (ap found_of was)
           (ap wait_of was) refl refl in
           let h = same.0 in
           let room = r.room_is in
@@ -637,7 +637,7 @@ module _ {T : Type 0} where
       let bound : L + r.late + W ≤ 64 * 2 ^ 40 = few_drawn s r in
       let more : y' ≡ 2 ^ 63 + y = or_shifted_r 1 63 y (let b : y < 2 ^ 63 = omega arith in b) in
       let w = closed_at me.0 y in
-      let same = still s r id me w at (ap hand_of was) (ap room_of was) (ap wait_of was) (ap hand_of was) (ap room_of was)
+      let same = still s r id me w at (ap hand_of was) (ap found_of was) (ap wait_of was) (ap hand_of was) (ap found_of was)
       (ap wait_of was) refl refl in
       let h = same.0 in
       let room = r.room_is in
@@ -676,7 +676,7 @@ module _ {T : Type 0} where
       let at0 : get_elem? s.views 0 ≡ some me.0 = ap (get_elem? s.views) (sym f.0) ∙ at in let g = r.gathered me.0 at0 in let behind : r.freed ≤ L = r.behind in
       let gone : (j : ℕ) → Gone s.views (suc j) = λ j d e. let b : suc j < length s.views = placed s.views (suc j) d e in
       let c : length s.views ≡ suc me.0.made = f.3 in let x = every j (omega arith) in (g.1 x.0 j x.1 x.2).1 d e in
-      let same = still s r id me w at (ap hand_of was) (ap room_of was) (ap wait_of was) (ap hand_of was) (ap room_of was) (ap wait_of was) refl refl in
+      let same = still s r id me w at (ap hand_of was) (ap found_of was) (ap wait_of was) (ap hand_of was) (ap found_of was) (ap wait_of was) refl refl in
       let h = same.0 in
       let room = r.room_is in
       let within = r.within in

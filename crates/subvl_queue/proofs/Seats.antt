@@ -10,8 +10,8 @@ use Rattle.subvl_queue.specs.declared.view.View.{View}
 use Rattle.subvl_queue.specs.declared.view.Role.{Role}
 use Rattle.subvl_queue.specs.declared.view.Role.TheVariants.{Sender, Receiver, Spent}
 use Rattle.subvl_queue.specs.declared.view.Stage.TheVariants.{Idle}
-use Rattle.subvl_queue.specs.Queue.{owned, total, hand_of, room_of, wait_of, budget_of, in_hand, in_room, waiting, asked, budget, Gone, Whole, Gathers, Busy, free, Knows, Fits, Queue}
-use Rattle.subvl_queue.specs.Start.{first_view, new_sender, spent_view}
+use Rattle.subvl_queue.specs.Queue.{owned, total, hand_of, found_of, wait_of, budget_of, in_hand, in_room, waiting, asked, budget, Gone, Whole, Gathers, Busy, free, Knows, Fits, Queue}
+use Rattle.subvl_queue.specs.Start.{first_view, new_seat, spent_view}
 use Rattle.subvl_queue.specs.Steps.{one_made, with_joined}
 use Rattle.subvl_queue.proofs.Totals.{total_set, total_end}
 use Rattle.subvl_queue.proofs.Cells.{fits, holds_none, placed}
@@ -69,9 +69,9 @@ module _ {T : Type 0} where
   fits_more m freed log j d ne Spent f = f
 
   pub splits_ok : (id : ℕ) (v : View T) → v.role ≡ Receiver → v.stage ≡ Idle → v.made < 64 → v.joined ≡ [] → v.all ≡ None
-      → Splits Queue id v (one_made v) (new_sender v.made)
+      → Splits Queue id v (one_made v) (new_seat v.made)
   splits_ok id v is was few none_joined none_all s r at = let l = one_made v in
-      let k = new_sender {T = T} v.made in
+      let k = new_seat {T = T} v.made in
       let vs = set s.views id l in let vs' = vs ++ k ∷ [] in let f = fits s r id v Receiver at is in let n : ℕ = length s.homes in
       let long : length vs ≡ length s.views = length-set s.views id l in
       let longer : length vs' ≡ length vs + 1 = length-append vs (k ∷ []) in let seats : length s.views ≡ suc v.made = f.3 in
@@ -165,7 +165,7 @@ module _ {T : Type 0} where
       let hw : in_hand w ≡ 0 = ap hand_of rests in
       let r1 : total in_room vs + in_room v ≡ R + in_room v = total_set in_room s.views id v u at in
       let r2 : total in_room vs' + in_room w ≡ total in_room vs + 0 = total_set in_room vs other w k at' in
-      let rw' : in_room w ≡ 0 = ap room_of rests in
+      let rw' : in_room w ≡ 0 = ap found_of rests in
       let w1 : total waiting vs + waiting v ≡ W + waiting v = total_set waiting s.views id v u at in
       let w2 : total waiting vs' + waiting w ≡ total waiting vs + 0 = total_set waiting vs other w k at' in
       let ww : waiting w ≡ 0 = ap wait_of rests in

@@ -1,18 +1,19 @@
 -- The list of the senders, and what the receiver has of it.
 use Rattle.std.proofs.Common.{◌≡◌, ℕ, zero, suc, ◌+◌, ◌<◌, ◌≤◌, List, [], ◌∷◌, ◌++◌, length, take, drop, get_or, sym, refl, ap, ◌∙◌, subst, arith, length-append}
 use Rattle.std.proofs.lemmas.List.{take-append-drop}
-use Rattle.std.specs.Prelude.{Option, Some}
+use Rattle.std.proofs.lemmas.List.Elements.{All-contains, Contains-append_right}
+use Rattle.std.specs.Prelude.{map, All, Contains, Option, Some}
 use Rattle.atomic_table.proofs.Lists.{drop_at}
 use mathlib.Core.Option.{some, some-injective}
 use lib.ListN.{get_elem?}
 use Rattle.subvl_queue.specs.declared.item.Message.{Message}
 use Rattle.subvl_queue.specs.declared.view.View.{View}
-use Rattle.subvl_queue.specs.Bytes.{items_of, sent_by, places_of}
-use Rattle.subvl_queue.specs.Gathers.{EachIn, IsGathered, whole}
+use Rattle.subvl_queue.specs.Bytes.{items_of, own_of, places_of}
+use Rattle.subvl_queue.specs.Gathers.{IsGathered, whole, brought_of, back_of}
 use Rattle.subvl_queue.specs.Messages.{part_of}
 use Rattle.subvl_queue.specs.Queue.{owned}
 use Rattle.subvl_queue.specs.Steps.{IsLog, IfWhole, with_all, holding, freed_of}
-use Rattle.subvl_queue.specs.Views.{QueueName, SenderView, HasPort, HasEvery, AreOf, IsWhole, places_from}
+use Rattle.subvl_queue.specs.Views.{SenderView, Brought, HasPort, HasEvery, IsBack, AreBack, IsWhole, places_from, brought_by, brought_by_all}
 use Rattle.subvl_queue.proofs.Bytes.{part_is, places_are, items_append}
 use Rattle.subvl_queue.proofs.Cells.{placed}
 use Rattle.subvl_queue.proofs.Owned.{take_next}
@@ -23,48 +24,69 @@ pub none_there : (senders : List SenderView) (n p : ℕ) → length senders ≤ 
 none_there [] n p le away h = omega (arith, h.1)
 none_there (s ∷ ss) n p le away h = let lt = h.1 in away h.0 s (omega arith) (h.2 s)
 
--- the sender that stands at k
-pub standing : (senders : List SenderView) (k : ℕ) → k < length senders
-    → (s : SenderView) × (get_elem? senders k ≡ some s) × ((d : SenderView) → get_or senders k d ≡ s)
-standing [] k lt = absurd (omega arith)
-standing (s ∷ ss) zero lt = (s, refl, λ d. refl)
-standing (s ∷ ss) (suc k) lt = standing ss k (omega arith)
+found : (joined : List (ℕ × List (ℕ × Message))) (b : Brought) (k : ℕ) → k < length (map brought_of joined) → get_or (map brought_of joined) k b ≡ b
+    → (i : ℕ) × (p : ℕ) × (l : List (ℕ × Message)) × (get_elem? joined i ≡ some (p, l)) × (brought_of (p, l) ≡ b)
+found [] b k lt e = absurd (omega arith)
+found (x ∷ xs) b zero lt e = (zero, x.0, x.1, refl, e)
+found (x ∷ xs) b (suc k) lt e = let r = found xs b k (omega arith) e in (suc r.0, r.1, r.2, r.3, r.4)
 
--- all are of the queue
-pub are_of : (z : QueueName) (senders : List SenderView) → AreOf z senders → (i : ℕ) (s : SenderView) → get_elem? senders i ≡ some s → s.queue ≡ z
-are_of z senders all i s at =
-    let here = standing senders i (placed senders i s at) in
-    let same : here.0 ≡ s = some-injective here.0 s (sym here.1 ∙ at) in
-    ap (λ (d : SenderView). d.queue) (sym same ∙ sym (here.2 s)) ∙ all i s (placed senders i s at)
+-- where what was brought stands among the joined lists
+pub joined_at : (joined : List (ℕ × List (ℕ × Message))) (b : Brought) → Contains (map brought_of joined) b
+    → (i : ℕ) × (p : ℕ) × (l : List (ℕ × Message)) × (get_elem? joined i ≡ some (p, l)) × (brought_of (p, l) ≡ b)
+joined_at joined b inside = found joined b inside.0 inside.1 inside.2
 
--- the receiver has the list of each port
-pub every_in : (v : View Message) (senders : List SenderView) (ports : ℕ) → EachIn v senders → HasEvery ports senders
-    → (k : ℕ) → k < ports → (i : ℕ) × (l : List (ℕ × Message)) × (get_elem? v.joined i ≡ some (k, l))
-every_in v senders ports each every k lt =
-    let there = every k lt in
-    let here = standing senders there.0 there.1 in
-    let port : here.0.port ≡ k = ap (λ (d : SenderView). d.port) (sym (here.2 here.0)) ∙ there.2 here.0 in
-    let joined = each there.0 here.0 here.1 in
-    (joined.0, joined.1, joined.2 ∙ ap (λ (p : ℕ). some (p, joined.1)) port)
+-- the sender of a port that is back has joined
+pub joined_for : (v : View Message) (ports : ℕ) → AreBack ports (back_of v) → (k : ℕ) → k < ports
+    → (i : ℕ) × (l : List (ℕ × Message)) × (get_elem? v.joined i ≡ some (k, l))
+joined_for v ports every k lt = let there = every k lt in let at = joined_at v.joined there.0 there.1 in
+    (at.0, at.2, at.3 ∙ ap (λ (p : ℕ). some (p, at.2)) (ap (λ (b : Brought). b.port) at.4 ∙ there.2))
 
--- the log is the whole of what these senders sent
-pub is_whole : (slots ports : ℕ) (v : View Message) (senders : List SenderView) (l : List (ℕ × Message)) → EachIn v senders → HasEvery ports senders
-    → IsLog slots v l → v.made ≡ ports → IsWhole ports senders (items_of l)
-is_whole slots ports v senders l each every log made =
-    let at : (k : ℕ) (d : SenderView) → k < length senders → (s : SenderView) × (get_or senders k d ≡ s) × (sent_by (owned s.port 0 l) ≡ s.own)
-    × (places_of (owned s.port 0 l) ≡ s.places) =
-    λ k d lt. (
-    let here = standing senders k lt in
-    let joined = each k here.0 here.1 in
-    let list : joined.1 ≡ owned here.0.port 0 l = log.parts joined.0 here.0.port joined.1 joined.2 in
-    (here.0, here.2 d, ap sent_by (sym list) ∙ joined.3, ap places_of (sym list) ∙ joined.4)
+-- the sender of a port in the list brings its part
+brought_has : (senders : List SenderView) (p k : ℕ) → k < length senders → ((d : SenderView) → (get_or senders k d).port ≡ p)
+    → IsBack (brought_by_all senders) p
+brought_has [] p k lt is = absurd (omega arith)
+brought_has (s ∷ ss) p zero lt is = (brought_by s, (0, omega arith, refl), is s)
+brought_has (s ∷ ss) p (suc k) lt is = let r = brought_has ss p k (omega arith) is in
+    (r.0, Contains-append_right (brought_by s ∷ []) (brought_by_all ss) r.0 r.1, r.2)
+
+pub all_brought : (senders : List SenderView) (ports : ℕ) → HasEvery ports senders → AreBack ports (brought_by_all senders)
+all_brought senders ports every p lt = let there = every p lt in brought_has senders p there.0 there.1 there.2
+
+-- who is back among some is back among more
+pub back_among : (few more : List Brought) (ports : ℕ) → All (Contains more) few → AreBack ports few → AreBack ports more
+back_among few more ports all every p lt = let there = every p lt in (there.0, All-contains (Contains more) few there.0 all there.1, there.2)
+
+-- what is whole by more senders is whole by some, if no port is missing
+pub whole_by : (few more : List Brought) (ports : ℕ) (l : List (ℕ × List ℕ)) → All (Contains more) few → AreBack ports few → IsWhole ports more l
+    → IsWhole ports few l
+whole_by few more ports l all every known = record {
+  every = every;
+  parts = λ b inside. known.parts b (All-contains (Contains more) few b all inside);
+  places = λ b inside. known.places b (All-contains (Contains more) few b all inside);
+  no_more = known.no_more;
+}
+
+-- where nothing was brought, none has joined
+pub none_joined : (v : View Message) → back_of v ≡ [] → v.joined ≡ []
+none_joined v none = elim v.joined as (λ l. map brought_of l ≡ [] → l ≡ []) [ [] ↦ λ e. refl | x ∷ xs ↦ λ e. absurd (cc) ] none
+
+-- the log is the whole of what the senders that are back had accepted
+pub is_whole : (slots ports : ℕ) (v : View Message) (l : List (ℕ × Message)) → AreBack ports (back_of v) → IsLog slots v l → v.made ≡ ports
+    → IsWhole ports (back_of v) (items_of l)
+is_whole slots ports v l every log made =
+    let at : (b : Brought) → Contains (back_of v) b → (own_of (owned b.port 0 l) ≡ b.own) × (places_of (owned b.port 0 l) ≡ b.places) =
+    λ b inside. (
+    let there = joined_at v.joined b inside in
+    let list : there.2 ≡ owned there.1 0 l = log.parts there.0 there.1 there.2 there.3 in (
+      ap (λ (d : Brought). own_of (owned d.port 0 l)) (sym there.4) ∙ ap own_of (sym list) ∙ ap (λ (d : Brought). d.own) there.4,
+      ap (λ (d : Brought). places_of (owned d.port 0 l)) (sym there.4) ∙ ap places_of (sym list) ∙ ap (λ (d : Brought). d.places) there.4,
+    )
     ) in
     record {
       every = every;
-      parts = λ k d lt. (let s = at k d lt in subst (λ (z : SenderView). part_of z.port (items_of l) ≡ z.own) (sym s.1) (sym (part_is s.0.port 0 l) ∙ s.2));
-      places = λ k d lt. (let s = at k d lt in subst (λ (z : SenderView). places_from 0 z.port (items_of l) ≡ z.places) (sym s.1)
-          (sym (places_are s.0.port 0 l) ∙ s.3));
-      no_more = λ p le. sym (part_is p 0 l) ∙ ap sent_by (log.no_more p (subst (λ (n : ℕ). n ≤ p) (sym made) le));
+      parts = λ b inside. sym (part_is b.port 0 l) ∙ (at b inside).0;
+      places = λ b inside. sym (places_are b.port 0 l) ∙ (at b inside).1;
+      no_more = λ p le. sym (part_is p 0 l) ∙ ap own_of (log.no_more p (subst (λ (n : ℕ). n ≤ p) (sym made) le));
     }
 
 -- what was taken and what is left are the log

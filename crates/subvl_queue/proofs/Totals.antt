@@ -6,7 +6,7 @@ use lib.ListN.{get_elem?}
 use Rattle.subvl_queue.specs.declared.view.View.{View}
 use Rattle.subvl_queue.specs.declared.view.Stage.{Stage}
 use Rattle.subvl_queue.specs.declared.view.Stage.TheVariants.{Idle, Asked, Refused, Drew, Late, Holding}
-use Rattle.subvl_queue.specs.Queue.{total, hand_of, room_of, in_hand, in_room}
+use Rattle.subvl_queue.specs.Queue.{total, hand_of, found_of, in_hand, in_room}
 
 -- the total after a change of one member
 pub total_set : {A : Type 0} (f : A → ℕ) (l : List A) (j : ℕ) (v w : A) → get_elem? l j ≡ some v → total f (set l j w) + f v ≡ total f l + f w
@@ -26,7 +26,7 @@ hand_small Drew = omega arith
 hand_small Late = omega arith
 hand_small Holding = omega arith
 
-room_small : (st : Stage) → room_of st ≤ hand_of st
+room_small : (st : Stage) → found_of st ≤ hand_of st
 room_small Idle = omega arith
 room_small Asked = omega arith
 room_small Refused = omega arith

@@ -7,8 +7,8 @@ abbrev pub items_of : List (ℕ × Message) → List (ℕ × List ℕ)
 items_of = map (λ x. (x.0, x.1.bytes.items))
 
 -- the messages of a sender's list, without their places
-abbrev pub sent_by : List (ℕ × Message) → List (List ℕ)
-sent_by = map (λ x. x.1.bytes.items)
+abbrev pub own_of : List (ℕ × Message) → List (List ℕ)
+own_of = map (λ x. x.1.bytes.items)
 
 -- the places of a sender's list
 abbrev pub places_of : List (ℕ × Message) → List ℕ

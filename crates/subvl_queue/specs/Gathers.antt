@@ -1,23 +1,17 @@
--- What taking in the senders leaves.
-use Rattle.std.specs.Prelude.{◌≡◌, ℕ, ◌^◌, ◌≤◌, List, [], take, length, Option, Some, None}
-use mathlib.Core.Option.{some}
-use lib.ListN.{get_elem?}
+-- What taking back the senders leaves.
+use Rattle.std.specs.Prelude.{◌≡◌, ℕ, ◌^◌, ◌≤◌, List, [], take, length, map, Option, Some, None}
 use Rattle.subvl_queue.specs.declared.item.Message.{Message}
 use Rattle.subvl_queue.specs.declared.view.View.{View}
-use Rattle.subvl_queue.specs.Bytes.{sent_by, places_of}
-use Rattle.subvl_queue.specs.Views.{SenderView}
+use Rattle.subvl_queue.specs.Bytes.{own_of, places_of}
+use Rattle.subvl_queue.specs.Views.{Brought}
 
--- nothing but the joined lists and the asks has changed
-abbrev pub SameBut : {T : Type 0} → View T → View T → Type 0
-SameBut v w = (w.role ≡ v.role) × (w.stage ≡ v.stage) × (w.made ≡ v.made) × (w.taken ≡ v.taken) × (w.total ≡ v.total) × (w.all ≡ v.all)
+-- what a sender brought whose list has joined
+abbrev pub brought_of : ℕ × List (ℕ × Message) → Brought
+brought_of b = record { port = b.0; own = own_of b.1; places = places_of b.1 }
 
--- the sender's list has joined
-abbrev pub IsIn : View Message → SenderView → Type 0
-IsIn v s = (q : ℕ) × (l : List (ℕ × Message)) × (get_elem? v.joined q ≡ some (s.port, l)) × (sent_by l ≡ s.own) × (places_of l ≡ s.places)
-
--- each sender's list has joined
-abbrev pub EachIn : View Message → List SenderView → Type 0
-EachIn v senders = (i : ℕ) (s : SenderView) → get_elem? senders i ≡ some s → IsIn v s
+-- what the joined senders brought
+abbrev pub back_of : View Message → List Brought
+back_of v = map brought_of v.joined
 
 -- the gathered list
 abbrev pub listed : {T : Type 0} → Option (List (ℕ × T)) → List (ℕ × T)

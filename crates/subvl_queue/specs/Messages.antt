@@ -1,5 +1,5 @@
 -- Messages in a queue. Each stands with the index of its sender, as a pair of the index and the bytes.
-use Rattle.std.specs.Prelude.{ℕ, ◌==◌, ◌-◌, ◌^◌, ◌<◌, ◌≤◌, take, length, if◌then◌else◌, List, [], ◌∷◌, All}
+use Rattle.std.specs.Prelude.{ℕ, ◌==◌, ◌^◌, ◌<◌, ◌≤◌, length, if◌then◌else◌, List, [], ◌∷◌, All}
 
 -- the most bytes of a message
 abbrev pub most_bytes : ℕ
@@ -22,15 +22,7 @@ AreItems ports items = All (IsItem ports) items
 abbrev pub most_calls : ℕ
 most_calls = 2 ^ 40
 
--- the greatest number of messages of 64 senders
-abbrev pub most_items : ℕ
-most_items = 2 ^ 46
-
 -- the bytes of those that are of one sender, in order
 abbrev pub part_of : ℕ → List (ℕ × List ℕ) → List (List ℕ)
 part_of port [] = []
 part_of port (item ∷ items) = if item.0 == port then item.1 ∷ part_of port items else part_of port items
-
--- what stands before the end `left` of a list
-abbrev pub before : List (ℕ × List ℕ) → List (ℕ × List ℕ) → List (ℕ × List ℕ)
-before all left = take (length all - length left) all

@@ -34,13 +34,13 @@ hand_of Late = 1
 hand_of Holding = 0
 
 -- an ask in hand that found room
-abbrev pub room_of : Stage → ℕ
-room_of Idle = 0
-room_of Asked = 1
-room_of Refused = 0
-room_of Drew = 0
-room_of Late = 1
-room_of Holding = 0
+abbrev pub found_of : Stage → ℕ
+found_of Idle = 0
+found_of Asked = 1
+found_of Refused = 0
+found_of Drew = 0
+found_of Late = 1
+found_of Holding = 0
 
 -- an ask in hand that has not drawn
 abbrev pub wait_of : Stage → ℕ
@@ -104,7 +104,7 @@ module _ {T : Type 0} where
   in_hand v = hand_of v.stage
 
   abbrev pub in_room : View T → ℕ
-  in_room v = room_of v.stage
+  in_room v = found_of v.stage
 
   abbrev pub waiting : View T → ℕ
   waiting v = wait_of v.stage
@@ -198,9 +198,9 @@ module _ {T : Type 0} where
         (v : View T) × (get_elem? s.views j ≡ some v) × Busy v.stage × (v.at ≡ (cells i).0)
 
 -- the seat is one of the table's
-abbrev pub IsOn : {T : Type 0} → TableId → Seat (Option (ℕ × T)) (View T) → Type 0
-IsOn z seat = seat.table_id ≡ z
+abbrev pub IsAtTable : {T : Type 0} → TableId → Seat (Option (ℕ × T)) (View T) → Type 0
+IsAtTable z seat = seat.table_id ≡ z
 
 -- the seat is the table's, in this role, between calls: no slot is held, no ask is under way
 abbrev pub RestsAs : {T : Type 0} → TableId → Role → Seat (Option (ℕ × T)) (View T) → Type 0
-RestsAs z role seat = IsOn z seat × (seat.me.1 ≡ []) × (seat.me.0.role ≡ role) × (seat.me.0.stage ≡ Idle)
+RestsAs z role seat = IsAtTable z seat × (seat.me.1 ≡ []) × (seat.me.0.role ≡ role) × (seat.me.0.stage ≡ Idle)

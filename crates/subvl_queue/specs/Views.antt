@@ -1,12 +1,12 @@
 -- What contracts see of the ends of a queue. A message stands with its sender's index, as a pair of the index and the bytes.
-use Rattle.std.specs.Prelude.{◌≡◌, ℕ, ◌+◌, ◌==◌, ◌<◌, ◌≤◌, if◌then◌else◌, Bool, true, false, ◌⊎◌, List, [], ◌∷◌, ◌++◌, length, slice_index_or, Option, Some, None}
+use Rattle.std.specs.Prelude.{◌≡◌, ℕ, ◌+◌, ◌==◌, ◌<◌, ◌≤◌, if◌then◌else◌, Bool, true, false, ◌⊎◌, List, [], ◌∷◌, ◌++◌, length, map, slice_index_or, Contains, Option, Some, None}
 use Rattle.atomic_table.specs.Seated.{TableId}
 use Rattle.subvl_queue.specs.declared.item.Message.{Message}
 use Rattle.subvl_queue.specs.declared.refused.Why.{Why}
 use Rattle.subvl_queue.specs.declared.refused.Why.TheVariants.{Closed, Exhausted, Full}
 use Rattle.subvl_queue.specs.declared.view.View.{View}
 use Rattle.subvl_queue.specs.Messages.{IsMessage, part_of}
-use Rattle.subvl_queue.specs.Bytes.{sent_by}
+use Rattle.subvl_queue.specs.Bytes.{own_of}
 use Rattle.subvl_queue.specs.Steps.{Reached}
 
 -- which queue an end belongs to; callers only compare names
@@ -27,7 +27,14 @@ pub record SenderView : Type 0 where
   pub own : List (List ℕ)
   pub places : List ℕ
 
--- a receiver: how often it looked, whether the last look found a message, what it took, in order, and the total of its close
+-- what a sender brings back: its index, its own messages that were accepted, and their places among all that were
+pub record Brought : Type 0 where
+  pub port : ℕ
+  pub own : List (List ℕ)
+  pub places : List ℕ
+
+-- A receiver: how many senders its queue has; how often it looked, and whether the last look found a message; what it took,
+-- in order; the total of its close; what the senders brought that it has taken back.
 pub record ReceiverView : Type 0 where
   pub queue : QueueName
   pub capacity : ℕ
@@ -36,6 +43,7 @@ pub record ReceiverView : Type 0 where
   pub found : Bool
   pub taken : List (ℕ × List ℕ)
   pub total : Option ℕ
+  pub back : List Brought
 
 -- all ends in one hand: what was taken, and what was accepted and not taken yet
 pub record GatheredView : Type 0 where
@@ -68,6 +76,7 @@ new_receiver queue capacity ports = record {
   found = false;
   taken = [];
   total = None;
+  back = [];
 }
 
 -- after a glance, which found the queue closed or not
@@ -90,8 +99,8 @@ sent s place bytes = record s {
 }
 
 -- the message was accepted, at the place that was drawn for it
-abbrev pub IsSent : SenderView → List ℕ → SenderView → Type 0
-IsSent s bytes t = (s.asks < s.calls) × ((place : ℕ) × (t ≡ sent s place bytes))
+abbrev pub IsPlaced : SenderView → List ℕ → SenderView → Type 0
+IsPlaced s bytes t = (s.asks < s.calls) × ((place : ℕ) × (t ≡ sent s place bytes))
 
 -- After this sender's glance there was a moment of the queue at which the messages that it held and the asks that were
 -- under way were as many as its capacity.
@@ -100,7 +109,7 @@ pub record WasFull (s : SenderView) : Type 0 where
   pub port : moment.port ≡ s.port
   pub asks : moment.asks ≡ s.asks
   pub glances : moment.glances ≡ s.glances + 1
-  pub own : sent_by moment.own ≡ s.own
+  pub own : own_of moment.own ≡ s.own
   pub reached : Reached s.capacity moment
 
 -- Why a message was refused, and what that leaves of the sender. It is closed where the glance found it closed, or where the
@@ -126,9 +135,21 @@ closed r total = record r { total = Some total }
 abbrev pub accepted_of : GatheredView → List (ℕ × List ℕ)
 accepted_of g = g.taken ++ g.left
 
--- what a sender brings back
-abbrev pub brought_by : SenderView → ℕ × List (List ℕ)
-brought_by s = (s.port, s.own)
+-- what a sender brings
+abbrev pub brought_by : SenderView → Brought
+brought_by s = record { port = s.port; own = s.own; places = s.places }
+
+-- what each of these senders brings
+abbrev pub brought_by_all : List SenderView → List Brought
+brought_by_all = map brought_by
+
+-- after a sender was made
+abbrev pub one_more : ReceiverView → ReceiverView
+one_more r = record r { ports = r.ports + 1 }
+
+-- after a sender was taken back
+abbrev pub taken_back : ReceiverView → SenderView → ReceiverView
+taken_back r s = record r { back = r.back ++ brought_by s ∷ [] }
 
 -- a sender of this port is in the list
 abbrev pub HasPort : List SenderView → ℕ → Type 0
@@ -152,13 +173,20 @@ places_from n port [] = []
 places_from n port (item ∷ items) =
     if item.0 == port then n ∷ places_from (n + 1) port items else places_from (n + 1) port items
 
--- The accepted messages: each sender's part of them is its own list, at its places, and there is nothing else among them.
-pub record IsWhole (ports : ℕ) (senders : List SenderView) (accepted : List (ℕ × List ℕ)) : Type 0 where
-  pub every : HasEvery ports senders
-  pub parts : (k : ℕ) (d : SenderView) → k < length senders →
-      part_of (slice_index_or senders k d).port accepted ≡ (slice_index_or senders k d).own
-  pub places : (k : ℕ) (d : SenderView) → k < length senders →
-      places_from 0 (slice_index_or senders k d).port accepted ≡ (slice_index_or senders k d).places
+-- the sender of this port is back
+abbrev pub IsBack : List Brought → ℕ → Type 0
+IsBack back p = (b : Brought) × Contains back b × (b.port ≡ p)
+
+-- each sender of the queue is back
+abbrev pub AreBack : ℕ → List Brought → Type 0
+AreBack ports back = (p : ℕ) → p < ports → IsBack back p
+
+-- The accepted messages: the part of each sender that is back is its own list, at its places, and there is nothing else
+-- among them.
+pub record IsWhole (ports : ℕ) (back : List Brought) (accepted : List (ℕ × List ℕ)) : Type 0 where
+  pub every : AreBack ports back
+  pub parts : (b : Brought) → Contains back b → part_of b.port accepted ≡ b.own
+  pub places : (b : Brought) → Contains back b → places_from 0 b.port accepted ≡ b.places
   pub no_more : (p : ℕ) → ports ≤ p → part_of p accepted ≡ []
 
 -- whether nothing is left; what is left begins with a message

@@ -1,11 +1,8 @@
 //! The ends of a queue come together.
-ghost use Rattle.std.specs.Prelude.{◌≡◌, MatchBool, None, []};
-ghost use Rattle.subvl_queue.specs.declared.view.Role.TheVariants.{Receiver as AsReceiver};
-ghost use Rattle.subvl_queue.specs.Queue.{IsOn, RestsAs};
-ghost use Rattle.subvl_queue.specs.Gathers.{SameBut, EachIn};
-ghost use Rattle.subvl_queue.specs.Views.{HasPort, HasEvery, LacksOne, AreOf};
+ghost use Rattle.std.specs.Prelude.{◌≡◌, MatchBool, All, Contains};
+ghost use Rattle.subvl_queue.specs.Views.{HasPort, HasEvery, LacksOne, AreOf, brought_by_all};
 
-use crate::ring::{Knowing, Ring};
+use crate::receiver::Receiver;
 use crate::sender::Sender;
 
 // Whether a sender of the port is there.
@@ -32,16 +29,13 @@ pub fn has_every(senders: &[Sender], ports: usize) -> bool
     true
 }
 
-/// The receiver takes in what each sender knows.
-pub fn take_in_all(ring: &Ring, seat: &mut Knowing, mut senders: Vec<Sender>)
-    requires seat { RestsAs ring.now.table.shared.table_id AsReceiver seat.old }
-    requires all { seat.old.me.0.all ≡ None }
-    requires together { AreOf ring.now.table.shared.table_id senders.items }
-    ensures seat { IsOn ring.now.table.shared.table_id seat.new × (seat.new.me.1 ≡ []) }
-    ensures unchanged { SameBut seat.old.me.0 seat.new.me.0 }
-    ensures senders { EachIn seat.new.me.0 senders.items }
+/// The receiver takes each sender back.
+pub fn take_all_back(receiver: &mut Receiver, mut senders: Vec<Sender>)
+    requires together { AreOf receiver.old.queue senders.items }
+    ensures same { receiver.new ≡ record receiver.old { back = receiver.new.back } }
+    ensures back { All (Contains receiver.new.back) (brought_by_all senders.items) }
 {
     while let Some(sender) = senders.pop() {
-        ring.take_in(seat, sender.into_seat());
+        receiver.take_back(sender);
     }
 }

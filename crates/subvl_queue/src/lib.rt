@@ -15,7 +15,7 @@ mod view;
 
 pub use gathered::Gathered;
 pub use item::Item;
-pub use making::make;
+pub use making::{make, open_queue};
 pub use receiver::Receiver;
 pub use refused::{Refused, Why};
 pub use sender::Sender;

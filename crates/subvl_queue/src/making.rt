@@ -1,6 +1,6 @@
 //! A queue is made.
 ghost use Rattle.std.specs.Prelude.{◌≡◌, ℕ, ◌^◌, ◌<◌, ◌≤◌, [], length, IfOk, slice_index_or};
-ghost use Rattle.subvl_queue.specs.Queue.{IsOn};
+ghost use Rattle.subvl_queue.specs.Queue.{IsAtTable};
 ghost use Rattle.subvl_queue.specs.Start.{first_view};
 ghost use Rattle.subvl_queue.specs.Views.{SenderView, new_sender, new_receiver};
 
@@ -31,14 +31,23 @@ pub fn make(
     ensures senders { IfOk result (λ r. (k : ℕ) (d : SenderView) → k < ports →
         slice_index_or r.1.items k d ≡ new_sender r.0.queue capacity calls k) }
 {
-    let (ring, mut seat) = empty_ring(alloc, capacity)?;
+    let mut receiver = open_queue(alloc, capacity)?;
     let mut senders = Vec::with_capacity(alloc, ports)?;
-    for port in 0..ports {
-        let shared = Arc::try_clone(&ring)?;
-        let sender = Sender::new(shared, ring.make_sender(&mut seat), port as u8, calls);
-        senders.push_reserved(sender);
+    for _port in 0..ports {
+        senders.push_reserved(receiver.new_sender(calls)?);
     }
-    Ok((Receiver::new(ring, seat, ports), senders))
+    Ok((receiver, senders))
+}
+
+/// A queue for `capacity` messages, 1 to 256, that has no sender yet. All memory that it ever needs
+/// besides its messages is asked for here; where some is refused, what was had is given back.
+pub fn open_queue(alloc: Global, capacity: usize) -> Result<Receiver, AllocError>
+    requires some { 1 ≤ capacity }
+    requires capacity { capacity ≤ 256 }
+    ensures { IfOk result (λ r. r ≡ new_receiver r.queue capacity 0) }
+{
+    let (ring, seat) = empty_ring(alloc, capacity)?;
+    Ok(Receiver::new(ring, seat))
 }
 
 // The table of a queue that is empty.
@@ -46,7 +55,7 @@ fn empty_ring(alloc: Global, capacity: usize) -> Result<(Arc<Ring>, Knowing), Al
     requires some { 1 ≤ capacity }
     requires capacity { capacity ≤ 256 }
     ensures capacity { IfOk result (λ r. r.0.value.capacity ≡ capacity) }
-    ensures seat { IfOk result (λ r. IsOn r.0.value.table.shared.table_id r.1) }
+    ensures seat { IfOk result (λ r. IsAtTable r.0.value.table.shared.table_id r.1) }
     ensures fresh { IfOk result (λ r. r.1.me ≡ (first_view, [])) }
 {
     let mut words = Vec::from_elem(alloc, 0u64, capacity + 2)?;

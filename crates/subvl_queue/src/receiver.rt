@@ -4,16 +4,17 @@ ghost use mathlib.Core.Option.{some};
 ghost use lib.ListN.{get_elem?};
 ghost use Rattle.subvl_queue.specs.declared.view.Role.TheVariants.{Receiver as AsReceiver};
 ghost use Rattle.subvl_queue.specs.Messages.{IsMessage, AreItems};
-ghost use Rattle.subvl_queue.specs.Queue.{IsOn, RestsAs};
-ghost use Rattle.subvl_queue.specs.Start.{made_view};
+ghost use Rattle.subvl_queue.specs.Queue.{IsAtTable, RestsAs};
+ghost use Rattle.subvl_queue.specs.Start.{first_view};
 ghost use Rattle.subvl_queue.specs.Steps.{Finds, looked as looked_at, freed_of, holding, IfWhole};
-ghost use Rattle.subvl_queue.specs.Views.{new_receiver, after_take, looked, closed, accepted_of, LacksOne, AreOf, IsWhole};
+ghost use Rattle.subvl_queue.specs.Views.{new_receiver, new_sender, one_more, after_take, looked, closed, taken_back, accepted_of, brought_by_all, AreBack, LacksOne, AreOf, IsWhole};
 
 use crate::gathered::Gathered;
-use crate::gathering::{has_every, take_in_all};
+use crate::gathering::{has_every, take_all_back};
 use crate::item::Item;
 use crate::ring::{Knowing, Parcel, Ring};
 use crate::sender::Sender;
+use std::alloc::AllocError;
 use std::marker::Model;
 use std::sync::Arc;
 
@@ -21,7 +22,7 @@ use std::sync::Arc;
 pub fn fetch(ring: &Ring, seat: &mut Knowing, taken: &mut u64) -> Option<Parcel>
     requires seat { RestsAs ring.now.table.shared.table_id AsReceiver seat.old }
     requires taken { (taken.old ≡ length seat.old.me.0.taken) × (taken.old ≤ 2 ^ 46) }
-    ensures seat { IsOn ring.now.table.shared.table_id seat.new × (seat.new.me.1 ≡ []) }
+    ensures seat { IsAtTable ring.now.table.shared.table_id seat.new × (seat.new.me.1 ≡ []) }
     ensures some { IfSome result
         (λ x. seat.new.me.0 ≡ freed_of (holding seat.old.me.0 taken.old x) x) }
     ensures few { IfSome result (λ _. (taken.old < 2 ^ 46) × (taken.new ≡ taken.old + 1)) }
@@ -43,7 +44,8 @@ pub fn fetch(ring: &Ring, seat: &mut Knowing, taken: &mut u64) -> Option<Parcel>
 }
 
 /// The receiver of a queue. Contracts see its queue and the queue's capacity, how many senders the
-/// queue has, how often it looked, what it last found and what it took, and the total of its close.
+/// queue has, how often it looked, what it last found and what it took, the total of its close, and
+/// what the senders brought that it has taken back.
 #[derive(Drop)]
 pub struct Receiver {
     ring: Arc<Ring>,
@@ -58,6 +60,7 @@ impl Model for Receiver {
     ghost use Rattle.subvl_queue.specs.declared.view.Role.TheVariants.{Receiver as AsReceiver};
     ghost use Rattle.subvl_queue.specs.Queue.{RestsAs};
     ghost use Rattle.subvl_queue.specs.Bytes.{items_of};
+    ghost use Rattle.subvl_queue.specs.Gathers.{back_of};
     ghost use Rattle.subvl_queue.specs.Views.{ReceiverView};
 
     ghost Value = { ReceiverView };
@@ -70,29 +73,48 @@ impl Model for Receiver {
       found = r.seat.me.0.found;
       taken = items_of r.seat.me.0.taken;
       total = r.total;
+      back = back_of r.seat.me.0;
     } };
 
     ghost invariant = { λ r. RestsAs r.ring.value.table.shared.table_id AsReceiver r.seat
         × (r.seat.me.0.made ≡ r.ports) × (r.ports ≤ 64) × (r.taken ≡ length r.seat.me.0.taken) × (r.taken ≤ 2 ^ 46)
         × (r.seat.me.0.total ≡ r.total) × IfSome r.total (λ t. r.taken ≤ t)
-        × (r.seat.me.0.joined ≡ []) × (r.seat.me.0.all ≡ None) };
+        × (r.seat.me.0.all ≡ None) };
 }
 
 impl Receiver {
-    // A receiver that did not look yet.
-    pub(crate) fn new(ring: Arc<Ring>, seat: Knowing, ports: usize) -> Receiver
-        requires seat { IsOn ring.value.table.shared.table_id seat }
-        requires fresh { seat.me ≡ (made_view ports, []) }
-        requires ports { ports ≤ 64 }
-        ensures { result ≡ new_receiver seat.table_id ring.value.capacity ports }
+    // A receiver that did not look yet, of a queue without senders.
+    pub(crate) fn new(ring: Arc<Ring>, seat: Knowing) -> Receiver
+        requires seat { IsAtTable ring.value.table.shared.table_id seat }
+        requires fresh { seat.me ≡ (first_view, []) }
+        ensures { result ≡ new_receiver seat.table_id ring.value.capacity 0 }
     {
         Receiver {
             ring,
             seat,
-            ports,
+            ports: 0,
             taken: 0,
             total: None,
         }
+    }
+
+    /// One more sender, with the next index. A queue has at most 64, and gives no more once one was
+    /// taken back. It may ask `calls` times, at most 2^40. Where memory is refused nothing has
+    /// changed.
+    pub fn new_sender(&mut self, calls: u64) -> Result<Sender, AllocError>
+        requires few { self.old.ports < 64 }
+        requires none_back { self.old.back ≡ [] }
+        requires calls { calls ≤ 2 ^ 40 }
+        ensures sender { IfOk result (λ sender. sender ≡
+            new_sender self.old.queue self.old.capacity calls self.old.ports) }
+        ensures one_more { IfOk result (λ _. self.new ≡ one_more self.old) }
+        ensures unchanged { IfErr result (λ _. self.new ≡ self.old) }
+    {
+        let ring = Arc::try_clone(&self.ring)?;
+        let seat = self.ring.make_sender(&mut self.seat);
+        let port = self.ports as u8;
+        self.ports += 1;
+        Ok(Sender::new(ring, seat, port, calls))
     }
 
     /// Takes the message of the next place, where it is ready. Either way it has looked once more.
@@ -128,13 +150,49 @@ impl Receiver {
         total
     }
 
+    /// Takes a sender of the queue back, with what it had accepted.
+    pub fn take_back(&mut self, sender: Sender)
+        requires { sender.queue ≡ self.old.queue }
+        ensures { self.new ≡ taken_back self.old sender }
+    {
+        self.ring.take_in(&mut self.seat, sender.into_seat());
+    }
+
+    /// All ends of the queue together, once each sender is back. From then on the accepted messages
+    /// are known whole.
+    pub fn into_gathered(self) -> Gathered
+        requires every { AreBack self.ports self.back }
+        ensures taken { result.taken ≡ self.taken }
+        ensures ports { result.ports ≡ self.ports }
+        ensures whole { IsWhole self.ports self.back (accepted_of result) }
+        ensures items { AreItems self.ports (accepted_of result) }
+        ensures total { IfSome self.total (λ t. t ≡ length (accepted_of result)) }
+        ensures few { length (accepted_of result) ≤ 2 ^ 46 }
+        ensures within { length result.left ≤ self.capacity }
+    {
+        let Receiver {
+            ring,
+            mut seat,
+            ports: _,
+            taken,
+            total,
+        } = self;
+        let drawn = ring.gather(&mut seat);
+        let total = match total {
+            Some(total) => total,
+            None => drawn,
+        };
+        Gathered::new(ring, seat, taken, total)
+    }
+
     /// Takes all ends of the queue together, in any order of the senders, or hands both back as
     /// they were where a sender is missing. From then on the accepted messages are known whole.
     pub fn gather(self, senders: Vec<Sender>) -> Result<Gathered, (Receiver, Vec<Sender>)>
         requires together { AreOf self.queue senders.items }
         ensures taken { IfOk result (λ g. g.taken ≡ self.taken) }
         ensures ports { IfOk result (λ g. g.ports ≡ self.ports) }
-        ensures whole { IfOk result (λ g. IsWhole self.ports senders.items (accepted_of g)) }
+        ensures whole { IfOk result (λ g.
+            IsWhole self.ports (brought_by_all senders.items) (accepted_of g)) }
         ensures items { IfOk result (λ g. AreItems self.ports (accepted_of g)) }
         ensures total { IfOk result (λ g. IfSome self.total (λ t. t ≡ length (accepted_of g))) }
         ensures few { IfOk result (λ g. length (accepted_of g) ≤ 2 ^ 46) }
@@ -146,19 +204,8 @@ impl Receiver {
         if !has_every(senders.as_slice(), self.ports) {
             return Err((self, senders));
         }
-        let Receiver {
-            ring,
-            mut seat,
-            ports: _,
-            taken,
-            total,
-        } = self;
-        take_in_all(&ring, &mut seat, senders);
-        let drawn = ring.gather(&mut seat);
-        let total = match total {
-            Some(total) => total,
-            None => drawn,
-        };
-        Ok(Gathered::new(ring, seat, taken, total))
+        let mut receiver = self;
+        take_all_back(&mut receiver, senders);
+        Ok(receiver.into_gathered())
     }
 }

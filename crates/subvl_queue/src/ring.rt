@@ -4,8 +4,8 @@ ghost use mathlib.Core.Option.{some};
 ghost use lib.ListN.{get_elem?};
 ghost use Rattle.subvl_queue.specs.declared.view.Role.TheVariants.{Sender, Receiver};
 ghost use Rattle.subvl_queue.specs.declared.view.Stage.TheVariants.{Idle, Asked, Refused, Drew, Late, Holding};
-ghost use Rattle.subvl_queue.specs.Queue.{IsOn, RestsAs};
-ghost use Rattle.subvl_queue.specs.Start.{new_sender};
+ghost use Rattle.subvl_queue.specs.Queue.{IsAtTable, RestsAs};
+ghost use Rattle.subvl_queue.specs.Start.{new_seat};
 ghost use Rattle.subvl_queue.specs.Steps.{Reached, Finds, Misses, IsLog, with_ask, idle, drawn, lated, glanced, closed_at, one_made, with_joined, with_all, freed_of};
 
 use crate::item::Message;
@@ -54,7 +54,7 @@ impl Ring {
     pub fn ask(&self, seat: &mut Knowing) -> bool
         requires seat { RestsAs self.now.table.shared.table_id Sender seat.old }
         requires asks { seat.old.me.0.asks < 2 ^ 40 }
-        ensures seat { IsOn self.now.table.shared.table_id seat.new × (seat.new.me.1 ≡ []) }
+        ensures seat { IsAtTable self.now.table.shared.table_id seat.new × (seat.new.me.1 ≡ []) }
         ensures found { IsTrue result → seat.new.me.0 ≡ with_ask seat.old.me.0 Asked false }
         ensures none { result ≡ false → seat.new.me.0 ≡ with_ask seat.old.me.0 Refused true }
         ensures full { result ≡ false → Reached self.now.capacity seat.old.me.0 }
@@ -64,10 +64,10 @@ impl Ring {
 
     /// Gives back an ask that found no room, or that came too late.
     pub fn give_back(&self, seat: &mut Knowing)
-        requires seat { IsOn self.now.table.shared.table_id seat.old × (seat.old.me.1 ≡ []) }
+        requires seat { IsAtTable self.now.table.shared.table_id seat.old × (seat.old.me.1 ≡ []) }
         requires role { seat.old.me.0.role ≡ Sender }
         requires stage { (seat.old.me.0.stage ≡ Refused) ⊎ (seat.old.me.0.stage ≡ Late) }
-        ensures seat { IsOn self.now.table.shared.table_id seat.new × (seat.new.me.1 ≡ []) }
+        ensures seat { IsAtTable self.now.table.shared.table_id seat.new × (seat.new.me.1 ≡ []) }
         ensures view { seat.new.me.0 ≡ idle seat.old.me.0 }
     {
         self.table.shared.fetch_add::<GiveBack>(seat, ROOM, 1);
@@ -75,9 +75,9 @@ impl Ring {
 
     fn draw_as<W: Said<Parcel>>(&self, seat: &mut Knowing, parcel: &Parcel) -> u64
         requires said { (W.item ≡ Some parcel.now) × (parcel.now.0 ≡ seat.old.me.0.port) }
-        requires seat { IsOn self.now.table.shared.table_id seat.old × (seat.old.me.1 ≡ []) }
+        requires seat { IsAtTable self.now.table.shared.table_id seat.old × (seat.old.me.1 ≡ []) }
         requires view { (seat.old.me.0.role ≡ Sender) × (seat.old.me.0.stage ≡ Asked) }
-        ensures seat { IsOn self.now.table.shared.table_id seat.new }
+        ensures seat { IsAtTable self.now.table.shared.table_id seat.new }
         ensures drawn { result < 2 ^ 63 → seat.new.me ≡
             (drawn seat.old.me.0 result parcel.now, (result % self.now.capacity, None) ∷ []) }
         ensures late { 2 ^ 63 ≤ result → seat.new.me ≡ (lated seat.old.me.0, []) }
@@ -89,9 +89,9 @@ impl Ring {
     /// closed.
     pub fn draw(&self, seat: &mut Knowing, parcel: &Parcel) -> u64
         requires port { parcel.now.0 ≡ seat.old.me.0.port }
-        requires seat { IsOn self.now.table.shared.table_id seat.old × (seat.old.me.1 ≡ []) }
+        requires seat { IsAtTable self.now.table.shared.table_id seat.old × (seat.old.me.1 ≡ []) }
         requires view { (seat.old.me.0.role ≡ Sender) × (seat.old.me.0.stage ≡ Asked) }
-        ensures seat { IsOn self.now.table.shared.table_id seat.new }
+        ensures seat { IsAtTable self.now.table.shared.table_id seat.new }
         ensures drawn { result < 2 ^ 63 → seat.new.me ≡
             (drawn seat.old.me.0 result parcel.now, (result % self.now.capacity, None) ∷ []) }
         ensures late { 2 ^ 63 ≤ result → seat.new.me ≡ (lated seat.old.me.0, []) }
@@ -107,11 +107,11 @@ impl Ring {
 
     /// Puts the parcel into the slot of the place that was drawn for it, and makes it ready.
     pub fn ready(&self, seat: &mut Knowing, place: u64, parcel: Parcel)
-        requires seat { IsOn self.now.table.shared.table_id seat.old × (place < 2 ^ 63) }
+        requires seat { IsAtTable self.now.table.shared.table_id seat.old × (place < 2 ^ 63) }
         requires slot { seat.old.me.1 ≡ (place % self.now.capacity, None) ∷ [] }
         requires view { (seat.old.me.0.role ≡ Sender) × (seat.old.me.0.stage ≡ Drew) }
         requires item { (seat.old.me.0.at ≡ place) × (seat.old.me.0.item ≡ Some parcel) }
-        ensures seat { IsOn self.now.table.shared.table_id seat.new }
+        ensures seat { IsAtTable self.now.table.shared.table_id seat.new }
         ensures view { seat.new.me ≡ (idle seat.old.me.0, []) }
     {
         let slot = self.slot_of(place);
@@ -128,7 +128,7 @@ impl Ring {
     pub fn look(&self, seat: &mut Knowing, place: u64) -> bool
         requires seat { RestsAs self.now.table.shared.table_id Receiver seat.old }
         requires place { (place ≡ length seat.old.me.0.taken) × (place < 2 ^ 63) }
-        ensures seat { IsOn self.now.table.shared.table_id seat.new }
+        ensures seat { IsAtTable self.now.table.shared.table_id seat.new }
         ensures found { IsTrue result → (x : _) × Finds self.now.capacity place seat.old.me seat.new.me x }
         ensures none { result ≡ false → Misses place seat.old.me seat.new.me }
     {
@@ -138,12 +138,12 @@ impl Ring {
 
     /// Takes the parcel out of the slot of the place, and gives the slot back.
     pub fn free(&self, seat: &mut Knowing, place: u64) -> Parcel
-        requires seat { IsOn self.now.table.shared.table_id seat.old }
+        requires seat { IsAtTable self.now.table.shared.table_id seat.old }
         requires slot { (x : _) × (seat.old.me.1 ≡ (place % self.now.capacity, Some x) ∷ [])
             × (seat.old.me.0.item ≡ Some x) }
         requires view { (seat.old.me.0.role ≡ Receiver) × (seat.old.me.0.stage ≡ Holding) }
         requires place { seat.old.me.0.at ≡ place }
-        ensures seat { IsOn self.now.table.shared.table_id seat.new }
+        ensures seat { IsAtTable self.now.table.shared.table_id seat.new }
         ensures item { seat.old.me.0.item ≡ Some result }
         ensures view { seat.new.me ≡ (freed_of seat.old.me.0 result, []) }
     {
@@ -156,7 +156,7 @@ impl Ring {
     /// Glances whether the queue is closed.
     pub fn glance(&self, seat: &mut Knowing) -> bool
         requires { RestsAs self.now.table.shared.table_id Sender seat.old }
-        ensures seat { IsOn self.now.table.shared.table_id seat.new }
+        ensures seat { IsAtTable self.now.table.shared.table_id seat.new }
         ensures view { seat.new.me ≡ (glanced seat.old.me.0 result, []) }
     {
         self.table.shared.load::<Glance>(seat, TAIL) >= CLOSED
@@ -166,7 +166,7 @@ impl Ring {
     pub fn close(&self, seat: &mut Knowing) -> u64
         requires seat { RestsAs self.now.table.shared.table_id Receiver seat.old }
         requires open { seat.old.me.0.total ≡ None }
-        ensures seat { IsOn self.now.table.shared.table_id seat.new }
+        ensures seat { IsAtTable self.now.table.shared.table_id seat.new }
         ensures view { seat.new.me ≡ (closed_at seat.old.me.0 result, []) }
         ensures taken { length seat.old.me.0.taken ≤ result }
     {
@@ -179,7 +179,7 @@ impl Ring {
         requires seat { RestsAs self.now.table.shared.table_id Receiver seat.old }
         requires every { (k : ℕ) → k < seat.old.me.0.made →
             (i : ℕ) × (l : _) × (get_elem? seat.old.me.0.joined i ≡ some (k, l)) }
-        ensures seat { IsOn self.now.table.shared.table_id seat.new × (seat.new.me.1 ≡ []) }
+        ensures seat { IsAtTable self.now.table.shared.table_id seat.new × (seat.new.me.1 ≡ []) }
         ensures log { (l : _) × (seat.new.me.0 ≡ with_all seat.old.me.0 l)
             × IsLog self.now.capacity seat.old.me.0 l × (seat.old.me.0.total ≡ None → result ≡ length l) }
     {
@@ -191,10 +191,10 @@ impl Ring {
         requires seat { RestsAs self.now.table.shared.table_id Receiver seat.old }
         requires made { seat.old.me.0.made < 64 }
         requires first { (seat.old.me.0.joined ≡ []) × (seat.old.me.0.all ≡ None) }
-        ensures seat { IsOn self.now.table.shared.table_id seat.new }
+        ensures seat { IsAtTable self.now.table.shared.table_id seat.new }
         ensures view { seat.new.me ≡ (one_made seat.old.me.0, []) }
-        ensures sender { IsOn self.now.table.shared.table_id result }
-        ensures fresh { result.me ≡ (new_sender seat.old.me.0.made, []) }
+        ensures sender { IsAtTable self.now.table.shared.table_id result }
+        ensures fresh { result.me ≡ (new_seat seat.old.me.0.made, []) }
     {
         self.table.shared.split_seat::<Make>(seat)
     }
@@ -204,7 +204,7 @@ impl Ring {
         requires seat { RestsAs self.now.table.shared.table_id Receiver seat.old }
         requires all { seat.old.me.0.all ≡ None }
         requires other { RestsAs self.now.table.shared.table_id Sender other }
-        ensures seat { IsOn self.now.table.shared.table_id seat.new }
+        ensures seat { IsAtTable self.now.table.shared.table_id seat.new }
         ensures view { seat.new.me ≡ (with_joined seat.old.me.0 other.me.0, []) }
     {
         self.table.shared.join_seat::<TakeIn>(seat, other);

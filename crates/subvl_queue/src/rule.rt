@@ -85,12 +85,12 @@ impl<T> Play<Option<(u8, T)>, View<T>> for Gather {
 pub(crate) struct Make;
 
 impl<T> Split<View<T>> for Make {
-    ghost use Rattle.subvl_queue.specs.Start.{new_sender};
+    ghost use Rattle.subvl_queue.specs.Start.{new_seat};
     ghost use Rattle.subvl_queue.specs.Steps.{one_made};
 
     ghost left = { one_made };
 
-    ghost right = { λ v. new_sender v.made };
+    ghost right = { λ v. new_seat v.made };
 }
 
 pub(crate) struct TakeIn;

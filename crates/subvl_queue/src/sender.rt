@@ -3,12 +3,12 @@ ghost use Rattle.std.specs.Prelude.{◌≡◌, ◌^◌, ◌<◌, ◌≤◌, [], 
 ghost use Rattle.subvl_queue.specs.declared.view.Role.TheVariants.{Sender as AsSender};
 ghost use Rattle.subvl_queue.specs.declared.refused.Why.TheVariants as Whys;
 ghost use Rattle.subvl_queue.specs.Messages.{most_bytes};
-ghost use Rattle.subvl_queue.specs.Queue.{IsOn, RestsAs};
-ghost use Rattle.subvl_queue.specs.Start.{new_sender as new_seat};
+ghost use Rattle.subvl_queue.specs.Queue.{IsAtTable, RestsAs};
+ghost use Rattle.subvl_queue.specs.Start.{new_seat};
 ghost use Rattle.subvl_queue.specs.Steps.{Reached, glanced};
 ghost use Rattle.subvl_queue.specs.Sends.{accepted_at, RefusedBy};
-ghost use Rattle.subvl_queue.specs.Bytes.{sent_by, places_of};
-ghost use Rattle.subvl_queue.specs.Views.{new_sender, IsSent, IsRefused, WasFull};
+ghost use Rattle.subvl_queue.specs.Bytes.{own_of, places_of};
+ghost use Rattle.subvl_queue.specs.Views.{new_sender, IsPlaced, IsRefused, WasFull};
 
 use crate::item::Message;
 use crate::refused::{Refused, Why};
@@ -33,7 +33,7 @@ where
     requires asks { seat.old.me.0.asks ≡ asks.old }
     requires calls { (asks.old ≤ calls) × (calls ≤ 2 ^ 40) }
     requires pause { F.pre pause }
-    ensures seat { IsOn ring.now.table.shared.table_id seat.new × (seat.new.me.1 ≡ []) }
+    ensures seat { IsAtTable ring.now.table.shared.table_id seat.new × (seat.new.me.1 ≡ []) }
     ensures asks { (seat.new.me.0.asks ≡ asks.new) × (asks.new ≤ calls) }
     ensures ok { IfOk result (λ _. (seat.old.me.0.asks < calls)
         × ((place : _) × (seat.new.me.0 ≡ accepted_at seat.old.me.0 place message))) }
@@ -93,7 +93,7 @@ impl Model for Sender {
     ghost use Rattle.std.specs.Prelude.{◌≡◌, ◌^◌, ◌≤◌, length};
     ghost use Rattle.subvl_queue.specs.declared.view.Role.TheVariants.{Sender as AsSender};
     ghost use Rattle.subvl_queue.specs.Queue.{RestsAs};
-    ghost use Rattle.subvl_queue.specs.Bytes.{sent_by, places_of};
+    ghost use Rattle.subvl_queue.specs.Bytes.{own_of, places_of};
     ghost use Rattle.subvl_queue.specs.Views.{SenderView};
 
     ghost Value = { SenderView };
@@ -107,7 +107,7 @@ impl Model for Sender {
       full = s.seat.me.0.full;
       glances = s.seat.me.0.glances;
       shut = s.seat.me.0.shut;
-      own = sent_by s.seat.me.0.own;
+      own = own_of s.seat.me.0.own;
       places = places_of s.seat.me.0.own;
     } };
 
@@ -119,7 +119,7 @@ impl Model for Sender {
 impl Sender {
     // A sender that did not ask yet.
     pub(crate) fn new(ring: Arc<Ring>, seat: Knowing, port: u8, calls: u64) -> Sender
-        requires seat { IsOn ring.value.table.shared.table_id seat }
+        requires seat { IsAtTable ring.value.table.shared.table_id seat }
         requires fresh { seat.me ≡ (new_seat port, []) }
         requires calls { calls ≤ 2 ^ 40 }
         ensures { result ≡ new_sender seat.table_id ring.value.capacity calls port }
@@ -140,7 +140,7 @@ impl Sender {
     pub fn send(&mut self, bytes: Vec<u8>) -> Result<(), Refused>
         requires some { 1 ≤ length bytes.items }
         requires most { length bytes.items ≤ most_bytes }
-        ensures ok { IfOk result (λ _. IsSent self.old bytes.items self.new) }
+        ensures ok { IfOk result (λ _. IsPlaced self.old bytes.items self.new) }
         ensures back { IfErr result (λ e. e.bytes.items ≡ bytes.items) }
         ensures refused { IfErr result (λ e. IsRefused self.old e.why self.new) }
         ensures full { IfErr result (λ e. e.why ≡ Whys.Full → WasFull self.old) }
@@ -157,7 +157,7 @@ impl Sender {
         requires some { 1 ≤ length bytes.items }
         requires most { length bytes.items ≤ most_bytes }
         requires pause { F.pre pause }
-        ensures ok { IfOk result (λ _. IsSent self.old bytes.items self.new) }
+        ensures ok { IfOk result (λ _. IsPlaced self.old bytes.items self.new) }
         ensures paused { IfOk result (λ _. F.post pause tt) }
         ensures back { IfErr result (λ e. e.bytes.items ≡ bytes.items) }
         ensures refused { IfErr result (λ e. IsRefused self.old e.why self.new) }
@@ -199,7 +199,7 @@ impl Sender {
     pub(crate) fn into_seat(self) -> Knowing
         ensures seat { RestsAs self.queue AsSender result }
         ensures port { result.me.0.port ≡ self.port }
-        ensures own { sent_by result.me.0.own ≡ self.own }
+        ensures own { own_of result.me.0.own ≡ self.own }
         ensures places { places_of result.me.0.own ≡ self.places }
     {
         self.seat
