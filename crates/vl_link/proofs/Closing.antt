@@ -1,5 +1,5 @@
 -- A queue that was closed is the same but for its total.
-use Rattle.std.proofs.Common.{ℕ, ◌≡◌, ◌∙◌, ◌%◌, List, length, Option, ap, sym}
+use Rattle.std.proofs.Common.{ℕ, ◌≡◌, ◌≤◌, ◌∙◌, ◌%◌, List, length, Option, ap, sym, subst}
 use Rattle.afdx_plan.specs.declared.port_plan.PortPlan.{PortPlan}
 use Rattle.afdx_frame.specs.Cutting.{Cutting}
 use Rattle.vl_link.specs.declared.sub_vl.SubVl.{SubVl}
@@ -33,7 +33,7 @@ pub kept_closes : (of : SubVl) (ports : List PortPlan) (sending : Option Cutting
 kept_closes of ports sending old total new place h c = record {
   link = h.link;
   senders = h.senders;
-  count = h.count ∙ sym (closes_ports old total new c);
+  count = subst (λ (n : ℕ). n ≤ length ports) (sym (closes_ports old total new c)) h.count;
   sending_is = h.sending_is;
   place = h.place ∙ ap (λ (taken : List (ℕ × List ℕ)). length taken % 16384) (sym (closes_taken old total new c));
 }

@@ -8,5 +8,4 @@ pub mod PaceOfStream
 pub mod ChosenSub
 pub mod TurnLaws
 pub mod LinkTurn
-pub mod FromLast
 pub mod Standing

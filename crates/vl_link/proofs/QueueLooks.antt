@@ -1,7 +1,7 @@
 -- A queue after a look into it.
-use Rattle.std.proofs.Common.{ℕ, ◌≡◌, ◌∙◌, List, [], ◌∷◌, ◌++◌, Some, arith, refl, ap, sym, subst}
+use Rattle.std.proofs.Common.{ℕ, ◌≡◌, ◌≤◌, ◌∙◌, List, [], ◌∷◌, ◌++◌, Some, arith, refl, ap, sym, subst}
 use Rattle.std.proofs.lemmas.List.{append_assoc, length-append, get_or_append_left}
-use Rattle.std.proofs.lemmas.List.Elements.{All-push}
+use Rattle.std.proofs.lemmas.List.Elements.{All-push, All-weaker}
 use Rattle.subvl_queue.specs.Messages.{IsItem, AreItems}
 use Rattle.vl_link.specs.LinkGathering.{BecomesWhole}
 use Rattle.vl_link.specs.Seen.{Seen, receiving, gathered, taken_of, known_of, ports_of, queue_of, total_of, FindsNothing, Finds, IsReceiving, IsSameQueue}
@@ -45,9 +45,14 @@ items_finds n (gathered g) message new f item items =
     (subst (AreItems n) (sym (append_assoc g.taken (message ∷ []) f.0
     ∙ ap (λ (left : List (ℕ × List ℕ)). g.taken ++ left) (sym f.1))) items)
 
+-- a message of a port is one of more ports
+pub item_of_more : (few many : ℕ) (item : ℕ × List ℕ) → few ≤ many → IsItem few item → IsItem many item
+item_of_more few many item le own = record { port = (let below = own.port in omega arith); message = own.message }
+
 -- what is known of a queue that was gathered is of its ports
-pub items_whole : (n : ℕ) (old new : Seen) → n ≡ ports_of old → BecomesWhole old new → AreItems n (known_of new)
-items_whole n (receiving old) (gathered new) many b = subst (λ (m : ℕ). AreItems m (known_of (gathered new))) (sym many) b.2
+pub items_whole : (n : ℕ) (old new : Seen) → ports_of old ≤ n → BecomesWhole old new → AreItems n (known_of new)
+items_whole n (receiving old) (gathered new) many b =
+    All-weaker (IsItem old.ports) (IsItem n) (λ item own. item_of_more old.ports n item many own) (known_of (gathered new)) b.2
 items_whole n (receiving old) (receiving new) many b = absurd b
 items_whole n (gathered old) (gathered new) many b = absurd b
 items_whole n (gathered old) (receiving new) many b = absurd b

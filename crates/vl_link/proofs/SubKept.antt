@@ -1,5 +1,5 @@
 -- What the fields of a sub-VL keep over a look into its queue.
-use Rattle.std.proofs.Common.{ℕ, ◌≡◌, ◌∙◌, ◌+◌, ◌%◌, List, [], ◌∷◌, length, Option, Some, ap, sym, arith}
+use Rattle.std.proofs.Common.{ℕ, ◌≡◌, ◌≤◌, ◌∙◌, ◌+◌, ◌%◌, List, [], ◌∷◌, length, Option, Some, ap, sym, subst, arith}
 use Rattle.std.proofs.lemmas.List.{length-append}
 use Rattle.afdx_plan.specs.declared.port_plan.PortPlan.{PortPlan}
 use Rattle.afdx_frame.specs.Cutting.{Cutting}
@@ -14,7 +14,7 @@ pub kept_nothing : (of : SubVl) (ports : List PortPlan) (sending : Option Cuttin
 kept_nothing of ports sending old new place h none = record {
   link = h.link;
   senders = h.senders;
-  count = h.count ∙ sym (same_ports old new (same_nothing old new none));
+  count = subst (λ (n : ℕ). n ≤ length ports) (sym (same_ports old new (same_nothing old new none))) h.count;
   sending_is = h.sending_is;
   place = h.place ∙ ap (λ (taken : List (ℕ × List ℕ)). length taken % 16384) (sym (taken_nothing old new none));
 }
@@ -26,7 +26,7 @@ pub kept_finds : (of : SubVl) (ports : List PortPlan) (sending : Option Cutting)
 kept_finds of ports sending cut old new place message h finds own = record {
   link = h.link;
   senders = h.senders;
-  count = h.count ∙ sym (same_ports old new (same_finds old message new finds));
+  count = subst (λ (n : ℕ). n ≤ length ports) (sym (same_ports old new (same_finds old message new finds))) h.count;
   sending_is = own;
   place =
       let taken = taken_finds old message new finds in

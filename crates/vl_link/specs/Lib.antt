@@ -3,8 +3,8 @@ pub mod QueueEnds
 pub mod Turn
 pub mod Links
 pub mod Subs
-pub mod Room
 pub mod Kept
 pub mod LinkDone
+pub mod LinkSenders
 pub mod LinkGathering
 pub mod Closing

@@ -1,12 +1,10 @@
--- The senders of a link come back.
-use Rattle.std.specs.Prelude.{ℕ, ◌≡◌, ◌<◌, List, length, slice_index_or, Some, IfSome}
+-- The queues of a link are gathered.
+use Rattle.std.specs.Prelude.{ℕ, ◌≡◌, ◌<◌, List, length, IfSome}
 use Rattle.subvl_queue.specs.Messages.{AreItems}
-use Rattle.subvl_queue.specs.Views.{SenderView, HasEvery, IsWhole, accepted_of}
-use Rattle.vl_link.specs.Seen.{Seen, receiving, gathered, ports_of, queue_of, IsReceiving}
-use Rattle.vl_link.specs.Seen.{known_of}
+use Rattle.subvl_queue.specs.Views.{AreBack, IsWhole, accepted_of}
+use Rattle.vl_link.specs.Seen.{Seen, receiving, gathered, ports_of, known_of, IsReceiving}
 use Rattle.vl_link.specs.Links.{Held, LinkState, held_at, HasOwnItems}
-use Rattle.vl_link.specs.Room.{RoomView}
-use Rattle.vl_link.specs.Room.{room_in}
+use Rattle.vl_link.specs.LinkSenders.{back_of}
 
 -- The same queue, whose accepted messages are known whole from now on: those that were taken, and
 -- what is left. Each is of one of its ports, and where the queue was closed, they are as many as the
@@ -19,43 +17,37 @@ BecomesWhole (receiving old) (receiving new) = ⊥
 BecomesWhole (gathered old) (receiving new) = ⊥
 BecomesWhole (gathered old) (gathered new) = ⊥
 
--- the ends of a queue come together, and each sender's part of the messages is its own list
-pub record Gathers (old : Seen) (senders : List SenderView) (new : Seen) : Type 0 where
+-- the ends of a queue come together, and the part of each sender is its own list
+pub record Gathers (old new : Seen) : Type 0 where
   pub queue : BecomesWhole old new
-  pub whole : IsWhole (ports_of old) senders (known_of new)
+  pub whole : IsWhole (ports_of old) (back_of old) (known_of new)
 
--- the ports of a queue may still send, and every sender of it is there, and no other
-pub record IsFull (seen : Seen) (senders : List SenderView) : Type 0 where
+-- every sender of a queue is back
+pub record IsFull (seen : Seen) : Type 0 where
   pub receiving : IsReceiving seen
-  pub every : HasEvery (ports_of seen) senders
-  pub together : (k : ℕ) (d : SenderView) → k < length senders
-      → queue_of seen ≡ Some (slice_index_or senders k d).queue
+  pub every : AreBack (ports_of seen) (back_of seen)
 
--- the same of a sub-VL, which has as many senders as ports
-pub record IsFullSub (held : Held) (senders : List SenderView) : Type 0 where
+-- the sender of each port of a sub-VL is back
+pub record IsFullSub (held : Held) : Type 0 where
   pub receiving : IsReceiving held.seen
-  pub every : HasEvery (length held.ports) senders
-  pub together : (k : ℕ) (d : SenderView) → k < length senders
-      → queue_of held.seen ≡ Some (slice_index_or senders k d).queue
+  pub every : AreBack (length held.ports) (back_of held.seen)
 
 -- a sub-VL but for its queue, which is gathered, and whose messages are of its ports
-pub record GathersSub (old : Held) (senders : List SenderView) (new : Held) : Type 0 where
+pub record GathersSub (old new : Held) : Type 0 where
   pub same : new ≡ record old { seen = new.seen }
-  pub gathers : Gathers old.seen senders new.seen
+  pub gathers : Gathers old.seen new.seen
   pub items : HasOwnItems new
 
 -- the sub-VLs of a link
-pub record GathersSubs (old : List Held) (rooms : List RoomView) (new : List Held) : Type 0 where
+pub record GathersSubs (old new : List Held) : Type 0 where
   pub count : length new ≡ length old
-  pub each : (s : ℕ) → s < length old
-      → GathersSub (held_at old s) (room_in rooms s).senders (held_at new s)
+  pub each : (s : ℕ) → s < length old → GathersSub (held_at old s) (held_at new s)
 
 -- a link
-pub record GathersLink (old : LinkState) (rooms : List RoomView) (new : LinkState) : Type 0 where
+pub record GathersLink (old new : LinkState) : Type 0 where
   pub same : new ≡ record old { subs = new.subs }
-  pub subs : GathersSubs old.subs rooms new.subs
+  pub subs : GathersSubs old.subs new.subs
 
--- the room of each sub-VL of a link has all of its senders
-pub record AreFullSubs (subs : List Held) (rooms : List RoomView) : Type 0 where
-  pub count : length rooms ≡ length subs
-  pub each : (s : ℕ) → s < length subs → IsFullSub (held_at subs s) (room_in rooms s).senders
+-- the sender of each port of a link's sub-VLs is back
+abbrev pub AreFullSubs : List Held → Type 0
+AreFullSubs subs = (s : ℕ) → s < length subs → IsFullSub (held_at subs s)

@@ -1,5 +1,5 @@
 -- What the fields of a sub-VL keep.
-use Rattle.std.specs.Prelude.{ℕ, ◌≡◌, ◌%◌, List, length, All, Option, IfSome}
+use Rattle.std.specs.Prelude.{ℕ, ◌≡◌, ◌≤◌, ◌%◌, List, length, All, Option, IfSome}
 use Rattle.afdx_plan.specs.Plan.{IsLink, IsPort, SendsOver}
 use Rattle.afdx_plan.specs.declared.port_plan.PortPlan.{PortPlan}
 use Rattle.afdx_frame.specs.Cutting.{Cutting}
@@ -17,12 +17,12 @@ pub record IsCutOf (owner : SubVl) (cut : Cutting) : Type 0 where
   pub over : SendsOver cut.port owner.link
   pub of_sub : cut.port.sub ≡ owner.sub
 
--- The ports are of this sub-VL, and the queue has a sender for each. The next message's place counts
+-- The ports are of this sub-VL, and the queue has no more senders. The next message's place counts
 -- those that were taken, modulo 16,384.
 pub record IsSub (owner : SubVl) (ports : List PortPlan) (sending : Option Cutting)
     (seen : Seen) (next : ℕ) : Type 0 where
   pub link : IsLink owner.link
   pub senders : All (IsPortOf owner) ports
-  pub count : length ports ≡ ports_of seen
+  pub count : ports_of seen ≤ length ports
   pub sending_is : IfSome sending (IsCutOf owner)
   pub place : next ≡ length (taken_of seen) % 16384

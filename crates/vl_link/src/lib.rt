@@ -3,13 +3,11 @@
 
 mod link;
 mod queue;
-mod room;
 mod served;
 mod sub;
 mod sub_vl;
 
 pub use link::{Link, some_stands};
-pub use room::{LinkRooms, Room};
 pub use served::Served;
 pub use sub::Sub;
 pub use sub_vl::SubVl;

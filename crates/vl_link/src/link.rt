@@ -8,13 +8,14 @@ ghost use Rattle.vl_link.specs.Links.{pace_of, AreSubsOf, IsSameSub, AreSameSubs
 ghost use Rattle.vl_link.specs.LinkDone.{TellsSubsDone};
 ghost use Rattle.vl_link.specs.LinkGathering.{AreFullSubs, GathersSubs};
 
-use crate::room::{LinkRooms, Room};
 use crate::served::Served;
 use crate::sub::Sub;
 use afdx_frame::Frame;
 use afdx_plan::{LinkPlan, VlId};
 use redundant_mux::{Mux, Network, Standing};
+use std::alloc::AllocError;
 use std::marker::Model;
+use subvl_queue::Sender;
 use vl_shaper::Shaper;
 
 /// The sub-VL that is to be served, whose next message is then being sent.
@@ -129,15 +130,13 @@ fn subs_done(subs: &[Sub]) -> bool
     true
 }
 
-/// Gathers the queue of each sub-VL with the senders in its room, which are all that it has.
-// From the last, since taking from the end of a list needs no memory.
-fn gather_subs(subs: &mut [Sub], mut rooms: Vec<Room>)
-    requires full { AreFullSubs subs.old rooms.items }
-    ensures { GathersSubs subs.old rooms.items subs.new }
+/// Gathers the queue of each sub-VL, all of whose senders are back.
+fn gather_subs(subs: &mut [Sub])
+    requires full { AreFullSubs subs.old }
+    ensures { GathersSubs subs.old subs.new }
 {
-    while let Some(room) = rooms.pop() {
-        let sub = &mut subs[rooms.len()];
-        sub.gather(room.into_senders());
+    for sub in subs.iter_mut() {
+        sub.gather();
     }
 }
 
@@ -179,8 +178,10 @@ impl Link {
     ghost use Rattle.vl_link.specs.Turn.{is_lost};
     ghost use Rattle.vl_link.specs.LinkDone.{TellsLinkDone};
     ghost use Rattle.vl_link.specs.LinkGathering.{AreFullSubs, GathersLink};
-    ghost use Rattle.std.specs.Prelude.{◌<◌};
-    ghost use Rattle.vl_link.specs.Seen.{IsReceiving};
+    ghost use Rattle.std.specs.Prelude.{◌<◌, ◌≤◌, Some, IfOk, IfErr};
+    ghost use Rattle.subvl_queue.specs.Messages.{most_calls};
+    ghost use Rattle.vl_link.specs.Seen.{IsReceiving, queue_of};
+    ghost use Rattle.vl_link.specs.LinkSenders.{LacksSender, LinkMakesSender, LinkTakesBack};
     ghost use Rattle.vl_link.specs.Links.{held_at};
     ghost use Rattle.vl_link.specs.Closing.{ClosesLink};
 
@@ -279,11 +280,32 @@ impl Link {
         self.subs[sub as usize].close()
     }
 
-    /// Gathers the queue of each sub-VL with the senders in its room, which are all that it has.
-    pub fn gather(&mut self, rooms: LinkRooms)
-        requires full { AreFullSubs self.old.subs rooms }
-        ensures { GathersLink self.old rooms self.new }
+    /// The sender of the next port of a sub-VL, which may ask `calls` times. Where memory is refused
+    /// nothing has changed.
+    pub fn new_sender(&mut self, sub: u8, calls: u64) -> Result<Sender, AllocError>
+        requires within { sub < length self.old.subs }
+        requires lacks { LacksSender (held_at self.old.subs sub) }
+        requires calls { calls ≤ most_calls }
+        ensures sender { IfOk result (λ sender. LinkMakesSender self.old sub calls sender self.new) }
+        ensures unchanged { IfErr result (λ _. self.new ≡ self.old) }
     {
-        gather_subs(&mut self.subs, rooms.into_rooms());
+        self.subs[sub as usize].new_sender(calls)
+    }
+
+    /// Takes a sender of a sub-VL's queue back.
+    pub fn take_back(&mut self, sub: u8, sender: Sender)
+        requires within { sub < length self.old.subs }
+        requires own { queue_of (held_at self.old.subs sub).seen ≡ Some sender.queue }
+        ensures { LinkTakesBack self.old sub sender self.new }
+    {
+        self.subs[sub as usize].take_back(sender);
+    }
+
+    /// Gathers the queue of each sub-VL, all of whose senders are back.
+    pub fn gather(&mut self)
+        requires full { AreFullSubs self.old.subs }
+        ensures { GathersLink self.old self.new }
+    {
+        gather_subs(&mut self.subs);
     }
 }

@@ -3,6 +3,7 @@ ghost use Rattle.std.specs.Prelude.{IfSome, IfNone};
 ghost use Rattle.subvl_queue.specs.Messages.{IsItem};
 ghost use Rattle.vl_link.specs.Seen.{receiving, gathered, ports_of, FindsNothing, Finds, TellsDrained};
 
+use std::alloc::AllocError;
 use std::marker::Model;
 use std::mem::replace;
 use subvl_queue::{Gathered, Item, Receiver, Sender};
@@ -33,11 +34,12 @@ impl Model for Queue {
 }
 
 impl Queue {
-    ghost use Rattle.std.specs.Prelude.{◌≡◌, IfSome, IfNone};
-    ghost use Rattle.subvl_queue.specs.Messages.{IsItem};
+    ghost use Rattle.std.specs.Prelude.{◌≡◌, ◌≤◌, Some, IfSome, IfNone, IfOk, IfErr};
+    ghost use Rattle.subvl_queue.specs.Messages.{IsItem, most_calls};
     ghost use Rattle.vl_link.specs.Seen.{receiving, gathered, nothing_seen, ports_of, FindsNothing, Finds, TellsDrained};
     ghost use Rattle.vl_link.specs.LinkGathering.{IsFull, Gathers};
-    ghost use Rattle.vl_link.specs.Seen.{IsReceiving};
+    ghost use Rattle.vl_link.specs.Seen.{IsReceiving, queue_of};
+    ghost use Rattle.vl_link.specs.LinkSenders.{MayHaveMore, MakesSender, TakesBack};
     ghost use Rattle.vl_link.specs.Closing.{Closes};
 
     /// The queue of a receiver, whose ports may send.
@@ -85,17 +87,38 @@ impl Queue {
         }
     }
 
-    /// Gathers the ends of the queue, with these senders, which are all that it has. It waits for
-    /// nobody.
-    pub fn gather(&mut self, senders: Vec<Sender>)
-        requires full { IsFull self.old senders.items }
-        ensures { Gathers self.old senders.items self.new }
+    /// One more sender, with the next index, which may ask `calls` times. Where memory is refused
+    /// nothing has changed.
+    pub fn new_sender(&mut self, calls: u64) -> Result<Sender, AllocError>
+        requires more { MayHaveMore self.old }
+        requires calls { calls ≤ most_calls }
+        ensures sender { IfOk result (λ sender. MakesSender self.old calls sender self.new) }
+        ensures unchanged { IfErr result (λ _. self.new ≡ self.old) }
+    {
+        match &mut self.end {
+            End::Receiving(receiver) => receiver.new_sender(calls),
+            _ => unreachable!(),
+        }
+    }
+
+    /// Takes a sender of the queue back.
+    pub fn take_back(&mut self, sender: Sender)
+        requires own { queue_of self.old ≡ Some sender.queue }
+        ensures { TakesBack self.old sender self.new }
+    {
+        match &mut self.end {
+            End::Receiving(receiver) => receiver.take_back(sender),
+            _ => unreachable!(),
+        }
+    }
+
+    /// Gathers the ends of the queue, all of whose senders are back. It waits for nobody.
+    pub fn gather(&mut self)
+        requires full { IsFull self.old }
+        ensures { Gathers self.old self.new }
     {
         match replace(&mut self.end, End::Empty) {
-            End::Receiving(receiver) => match receiver.gather(senders) {
-                Ok(all) => self.end = End::Gathered(all),
-                Err(_) => unreachable!(),
-            },
+            End::Receiving(receiver) => self.end = End::Gathered(receiver.into_gathered()),
             _ => unreachable!(),
         }
     }

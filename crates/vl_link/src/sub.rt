@@ -1,5 +1,5 @@
 //! A sub-VL: the queue of its messages, and one that is being sent.
-ghost use Rattle.std.specs.Prelude.{◌≡◌, ◌≢◌, [], ◌∷◌, length, All};
+ghost use Rattle.std.specs.Prelude.{◌≡◌, ◌≢◌, ◌≤◌, [], ◌∷◌, length, All, Some, IfOk, IfErr};
 ghost use Rattle.afdx_plan.specs.Plan.{IsLink};
 ghost use Rattle.afdx_frame.specs.declared.net.Net.TheVariants.{A as ForA};
 ghost use Rattle.afdx_frame.specs.Fragments.{blanked};
@@ -10,6 +10,7 @@ use crate::queue::Queue;
 use crate::sub_vl::SubVl;
 use afdx_frame::{Cut, Frame, Net};
 use afdx_plan::PortPlan;
+use std::alloc::AllocError;
 use std::marker::Model;
 use subvl_queue::{Item, Receiver, Sender};
 
@@ -48,14 +49,16 @@ impl Sub {
     ghost use Rattle.vl_link.specs.LinkDone.{TellsSubDone};
     ghost use Rattle.vl_link.specs.Subs.{IsPortOf};
     ghost use Rattle.vl_link.specs.LinkGathering.{IsFullSub, GathersSub};
-    ghost use Rattle.vl_link.specs.Seen.{IsReceiving};
+    ghost use Rattle.subvl_queue.specs.Messages.{most_calls};
+    ghost use Rattle.vl_link.specs.Seen.{IsReceiving, queue_of};
+    ghost use Rattle.vl_link.specs.LinkSenders.{LacksSender, SubMakesSender, SubTakesBack};
     ghost use Rattle.vl_link.specs.Closing.{ClosesSub};
 
-    /// A sub-VL of these ports, over a queue with a sender for each. Nothing was taken yet.
+    /// A sub-VL of these ports, over a queue with no more senders. Nothing was taken yet.
     pub fn new(of: SubVl, ports: Vec<PortPlan>, receiver: Receiver) -> Sub
         requires link { IsLink of.link }
         requires ports { All (IsPortOf of) ports.items }
-        requires count { length ports.items ≡ receiver.ports }
+        requires count { receiver.ports ≤ length ports.items }
         requires fresh { receiver.taken ≡ [] }
         ensures { result ≡ record {
           of = of;
@@ -136,12 +139,31 @@ impl Sub {
         self.queue.close()
     }
 
-    /// Gathers its queue with these senders, which are all that it has.
-    pub fn gather(&mut self, senders: Vec<Sender>)
-        requires full { IsFullSub self.old senders.items }
-        ensures { GathersSub self.old senders.items self.new }
+    /// The sender of its next port, which may ask `calls` times. Where memory is refused nothing has
+    /// changed.
+    pub fn new_sender(&mut self, calls: u64) -> Result<Sender, AllocError>
+        requires lacks { LacksSender self.old }
+        requires calls { calls ≤ most_calls }
+        ensures sender { IfOk result (λ sender. SubMakesSender self.old calls sender self.new) }
+        ensures unchanged { IfErr result (λ _. self.new ≡ self.old) }
     {
-        self.queue.gather(senders);
+        self.queue.new_sender(calls)
+    }
+
+    /// Takes a sender of its queue back.
+    pub fn take_back(&mut self, sender: Sender)
+        requires own { queue_of self.old.seen ≡ Some sender.queue }
+        ensures { SubTakesBack self.old sender self.new }
+    {
+        self.queue.take_back(sender);
+    }
+
+    /// Gathers its queue, all of whose senders are back.
+    pub fn gather(&mut self)
+        requires full { IsFullSub self.old }
+        ensures { GathersSub self.old self.new }
+    {
+        self.queue.gather();
     }
 }
 

@@ -7,12 +7,12 @@ use Rattle.afdx_plan.specs.declared.port_plan.PortPlan.{PortPlan}
 use Rattle.afdx_frame.specs.Cutting.{Cutting}
 use Rattle.afdx_frame.specs.declared.net.Net.TheVariants.{A}
 use Rattle.afdx_frame.proofs.Twins.{fragments_again}
-use Rattle.subvl_queue.specs.Messages.{IsItem}
 use Rattle.vl_link.specs.declared.sub_vl.SubVl.{SubVl}
 use Rattle.vl_link.specs.Seen.{taken_of}
 use Rattle.vl_link.specs.Links.{TellsCutting, left_of, message_fragments, sent_of}
 use Rattle.vl_link.specs.Subs.{IsPortOf, IsCutOf}
 use Rattle.vl_link.proofs.FragmentsLeft.{fragments_some}
+use Rattle.vl_link.proofs.QueueLooks.{item_of_more}
 use Rattle.vl_link.proofs.SubKept.{kept_nothing, kept_finds}
 use Rattle.vl_link.proofs.sub.Sub.ready.Goals as goal
 
@@ -21,7 +21,7 @@ has_port : (c : goal.After-self-in-Some-1) → c.from.result < length c.self.ins
 has_port c =
     let bytes : (c.item.inside.port, c.item.inside.bytes.items) ≡ c.in-Some.item = c.item.view_is in
     let place : c.from.result ≡ c.in-Some.item.0 = c.from.ensures ∙ ap (λ (i : ℕ × List ℕ). i.0) bytes in
-    let port = c.in-Some.ensures.item.port in omega (arith, c.self.invariant.count)
+    let port = c.in-Some.ensures.item.port in let count = c.self.invariant.count in omega arith
 
 -- so what is cut is of this sub-VL
 own : (c : goal.After-self-in-Some-1) → IsCutOf c.self.inside.of c.new.result
@@ -65,7 +65,7 @@ returns-in-Some c =
     (sent_of c.self.inside.ports.items c.in-Some.item) in
     rw (← c.self.view_is) (inr (record {
       message = c.in-Some.item;
-      item = subst (λ (n : ℕ). IsItem n c.in-Some.item) (sym c.self.invariant.count) c.in-Some.ensures.item;
+      item = item_of_more _ _ c.in-Some.item c.self.invariant.count c.in-Some.ensures.item;
       whole = is_whole c.self.inside.of c.self.inside.sending _ c.if-is_cutting.false c.is_cutting.ensures;
       finds = c.in-Some.ensures.some;
       left = left;

@@ -1,0 +1,8 @@
+use Rattle.std.proofs.Common.{List, sym, ap, ◌∙◌, subst}
+use Rattle.vl_link.specs.Links.{Held, LinkState}
+use Rattle.vl_link.specs.LinkGathering.{AreFullSubs}
+use Rattle.vl_link.proofs.link.Link.gather.Goals as goal
+
+pub gather_subs-requires : goal.gather_subs-requires
+gather_subs-requires c =
+    record { full = subst AreFullSubs (ap (λ (l : LinkState). l.subs) (sym c.self.view_is) ∙ sym c.deref_mut.ensures.value) c.requires.full }
