@@ -17,12 +17,12 @@ use Rattle.vl_link.specs.declared.sub_vl.SubVl.{SubVl}
 use Rattle.vl_link.specs.Seen.{Seen, taken_of, known_of}
 use Rattle.subvl_queue.specs.Messages.{IsItem, AreItems}
 use Rattle.vl_link.specs.Links.{Held, LinkState, link_at, no_link, held_at, no_link_plan, HasOwnItems, IsLinkOfPlan, sub_fragments, sent_by, taken_by}
-use Rattle.afdx_tx.specs.Emitter.{IsFreshSub, IsFreshLink, AreFreshLinks, AreLinksOf, plans, ports_of_sub, IsSound}
+use Rattle.afdx_tx.specs.Emitter.{IsOpenedSub, IsOpenedLink, AreFreshLinks, AreLinksOf, plans, ports_of_sub, IsSound}
 use Rattle.vl_link.specs.Kept.{IsKept, IsTied}
 use Rattle.afdx_tx.proofs.PollTurns.{plan_at_is, plans_length}
 
 -- the sub-VLs of a fresh link are those of its plan
-fresh_own : (own : ℕ) (ports : List PortPlan) (plan : LinkPlan) (link : LinkState) → IsFreshLink own ports plan link
+fresh_own : (own : ℕ) (ports : List PortPlan) (plan : LinkPlan) (link : LinkState) → IsOpenedLink own ports ports plan link
     → IsLinkOfPlan link.end_system link.plan link.pace link.subs
 fresh_own own ports plan link f =
     let pace = f.pace in
@@ -38,20 +38,20 @@ fresh_own own ports plan link f =
     }
 
 -- a fresh sub-VL took nothing
-fresh_taken : (own : SubVl) (senders : List PortPlan) (held : Held) → IsFreshSub own senders held → taken_by held ≡ []
-fresh_taken own senders held f = ap (λ (seen : Seen). sent_by held.ports (taken_of seen)) f.seen
+fresh_taken : (own : SubVl) (senders : List PortPlan) (many : ℕ) (held : Held) → IsOpenedSub own senders many held → taken_by held ≡ []
+fresh_taken own senders many held f = ap (λ (seen : Seen). sent_by held.ports (taken_of seen)) f.seen
 
 -- so nothing of other ports
-fresh_items : (own : SubVl) (senders : List PortPlan) (held : Held) → IsFreshSub own senders held → HasOwnItems held
-fresh_items own senders held f =
+fresh_items : (own : SubVl) (senders : List PortPlan) (many : ℕ) (held : Held) → IsOpenedSub own senders many held → HasOwnItems held
+fresh_items own senders many held f =
     subst (AreItems (length held.ports)) (sym (ap known_of f.seen)) (All-nil (IsItem (length held.ports)))
 
 -- and is tied to an empty stream
-fresh_tied : (own : SubVl) (senders : List PortPlan) (held : Held) → IsFreshSub own senders held → IsTied held []
-fresh_tied own senders held f = ap (sub_fragments held.of 0) (fresh_taken own senders held f) ∙ sym f.left
+fresh_tied : (own : SubVl) (senders : List PortPlan) (many : ℕ) (held : Held) → IsOpenedSub own senders many held → IsTied held []
+fresh_tied own senders many held f = ap (sub_fragments held.of 0) (fresh_taken own senders many held f) ∙ sym f.left
 
 -- a fresh link keeps what links keep, of an empty log
-fresh_kept : (own : ℕ) (ports : List PortPlan) (plan : LinkPlan) (link : LinkState) → IsFreshLink own ports plan link
+fresh_kept : (own : ℕ) (ports : List PortPlan) (plan : LinkPlan) (link : LinkState) → IsOpenedLink own ports ports plan link
     → IsKept link []
 fresh_kept own ports plan link f =
     record {
@@ -66,7 +66,7 @@ fresh_kept own ports plan link f =
           (sym (ap (λ (p : Pace). p.sub_vls) f.pace));
       tied = λ _ s lt.
           let below : s < plan.sub_vls = subst (λ (p : LinkPlan). s < p.sub_vls) f.plan lt in
-          fresh_tied _ _ (held_at link.subs s) (f.subs.each s below);
+          fresh_tied _ _ _ (held_at link.subs s) (f.subs.each s below);
       behind = λ (l : link.lost ≡ true). absurd (let e : link.lost ≡ false = f.lost in cc);
     }
 
@@ -75,7 +75,7 @@ fresh_later : (pace : Pace) → pace.last ≡ None → IsLater pace.last 0
 fresh_later pace e = subst (λ (last : Option Stamp). IsLater last 0) (sym e) tt
 
 -- the plans of fresh links are those of the configuration
-fresh_plans : (config : Plan) (links : List LinkState) → AreFreshLinks config links (length config.links)
+fresh_plans : (config : Plan) (links : List LinkState) → AreFreshLinks config links
     → plans links ≡ config.links
 fresh_plans config links f = ext_get_or no_link_plan (plans links) config.links (plans_length links ∙ f.count)
     (λ k lt. let here : k < length links = omega (arith, plans_length links) in
@@ -83,7 +83,7 @@ fresh_plans config links f = ext_get_or no_link_plan (plans links) config.links 
     plan_at_is links k here ∙ (f.each k there).plan)
 
 -- fresh links are those of the configuration
-fresh_of : (config : Plan) (links : List LinkState) → AreFreshLinks config links (length config.links)
+fresh_of : (config : Plan) (links : List LinkState) → AreFreshLinks config links
     → AreLinksOf config links
 fresh_of config links f =
     record {
@@ -94,13 +94,13 @@ fresh_of config links f =
       ports = λ k s lt slt.
           let fresh = f.each k (omega (arith, f.count)) in
           let below : s < (link_plan_at config.links k).sub_vls = omega (arith, fresh.subs.count) in
-          (fresh.subs.each s below).ports
+          (fresh.subs.each s below).ports_are
           ∙ ap (λ (p : LinkPlan). ports_of_sub config.ports p.id.0 s) (sym fresh.plan);
     }
 
 -- a fresh emitter is sound
 pub fresh_sound : (config : Plan) (links : List LinkState) → IsPlan config
-    → AreFreshLinks config links (length config.links) → IsSound config links fresh_lines 0
+    → AreFreshLinks config links → IsSound config links fresh_lines 0
 fresh_sound config links valid f =
     record {
       valid = valid;
@@ -114,24 +114,5 @@ fresh_sound config links valid f =
       whole = λ _ k lt. (f.each k (omega (arith, f.count))).lost;
       items = λ k s lt slt.
           let subs = (f.each k (omega (arith, f.count))).subs in
-          fresh_items _ _ (held_at (link_at links k).subs s) (subs.each s (omega (arith, subs.count)));
-    }
-
--- one fresh link more
-pub fresh_push : (config : Plan) (links : List LinkState) (n : ℕ) (new : LinkState)
-    → AreFreshLinks config links n → IsFreshLink config.end_system config.ports (link_plan_at config.links n) new
-    → AreFreshLinks config (links ++ new ∷ []) (n + 1)
-fresh_push config links n new f fresh =
-    record {
-      count = let size = f.count in omega (arith, length-append links (new ∷ []));
-      each = λ k lt. ⊎_elim
-          (λ (below : k < n). subst (IsFreshLink config.end_system config.ports (link_plan_at config.links k))
-          (sym (get_or_append_left links (new ∷ []) no_link k (let size = f.count in omega arith)))
-          (f.each k below))
-          (λ (last : n ≤ k).
-          let e : k ≡ n = omega arith in
-          subst (λ (j : ℕ). IsFreshLink config.end_system config.ports (link_plan_at config.links j) (link_at (links ++ new ∷ []) j)) (sym e)
-          (subst (IsFreshLink config.end_system config.ports (link_plan_at config.links n))
-          (sym (get_or_push links new no_link n f.count)) fresh))
-          (cases_lt k n);
+          fresh_items _ _ _ (held_at (link_at links k).subs s) (subs.each s (omega (arith, subs.count)));
     }

@@ -1,68 +1,121 @@
 -- What was accepted of each port that came back.
 use Rattle.std.proofs.Common.{ℕ, ◌≡◌, ◌<◌, List, length, arith, ap, ◌∙◌, sym, subst}
+use Rattle.std.specs.Prelude.{Contains}
 use Rattle.std.proofs.lemmas.List.Elements.{All-contains}
+use Rattle.afdx_plan.specs.declared.port_plan.PortPlan.{PortPlan}
 use Rattle.afdx_plan.specs.Config.{Plan, IsPlan, port_plan_at}
-use Rattle.subvl_queue.specs.Messages.{part_of}
-use Rattle.subvl_queue.specs.Views.{SenderView}
-use Rattle.vl_link.specs.Links.{LinkState, held_at, link_at}
-use Rattle.afdx_tx.specs.Emitter.{Tx, AreLinksOf, HaveOwnItems, queues_in}
 use Rattle.afdx_plan.specs.Places.{link_place}
-use Rattle.vl_link.specs.Seen.{known_of}
-use Rattle.afdx_tx.specs.Ports.{PortView, BelongsTo, AreOpenedWith, index_of}
-use Rattle.vl_link.specs.Room.{RoomView}
-use Rattle.afdx_tx.specs.Rooms.{room_at}
-use Rattle.vl_link.specs.LinkGathering.{GathersLink}
-use Rattle.afdx_tx.specs.Gathering.{GathersLinks, IsGatheredLink, HasShape, HasSeat, HasOwnPart, held_for}
+use Rattle.subvl_queue.specs.Messages.{part_of}
+use Rattle.subvl_queue.specs.Views.{brought_by}
+use Rattle.vl_link.specs.Seen.{known_of, IsKnownWhole, receiving, gathered, Seen}
+use Rattle.vl_link.specs.Links.{Held, LinkState, held_at, link_at}
+use Rattle.vl_link.specs.LinkSenders.{back_of}
+use Rattle.vl_link.specs.LinkGathering.{BecomesWhole}
+use Rattle.redundant_mux.specs.Lines.{Lines}
+use Rattle.afdx_tx.specs.Emitter.{Tx, AreLinksOf, HaveOwnItems, IsSound, queues_in}
+use Rattle.afdx_tx.specs.Ports.{PortView, BelongsTo, AreOpenedWith, HasPlace, HasEveryPlace, index_of}
+use Rattle.afdx_tx.specs.Drain.{AreGathered}
+use Rattle.afdx_tx.specs.Gathering.{OnlyTakeBack, IsTakenBack, GathersLinks, GathersPorts, IsGatheredLink, IsGatheredTx, HasShape, HasOwnPart, held_for}
 use Rattle.afdx_tx.proofs.PortLink.{link_within}
 use Rattle.afdx_tx.proofs.PortMessages.{own_messages}
+use Rattle.afdx_tx.proofs.KeptLinks.{kept_sound}
+use Rattle.afdx_tx.proofs.TakenBack.{whole_from, back_kept}
+use Rattle.afdx_tx.proofs.GatheredEmitter.{gathered_kept, shape_of}
 
--- a gathered link is the one that it was, but for its queues
-pub link_gathered : (old : LinkState) (rooms : List RoomView) (new : LinkState) → GathersLink old rooms new
-    → IsGatheredLink old new
-link_gathered old rooms new g =
+-- a gathered link is the one that it was before senders came back, but for its queues
+pub link_gathered : (old mid new : List LinkState) (k : ℕ) → k < length mid → OnlyTakeBack old mid → GathersLinks mid new
+    → IsGatheredLink (link_at old k) (link_at new k)
+link_gathered old mid new k lt takes gathers =
+    let g = gathers.each k lt in
     record {
-      same = g.same;
-      count = g.subs.count;
-      each = λ s lt. let sub = g.subs.each s lt in record { same = sub.same; queue = sub.gathers.queue };
+      same = g.same ∙ ap (λ (l : LinkState). record l { subs = (link_at new k).subs }) (takes.links k);
+      count = g.subs.count ∙ takes.subs k;
+      each = λ s slt. let sub = g.subs.each s (omega (arith, takes.subs k)) in
+          record {
+            same = sub.same ∙ ap (λ (h : Held). record h { seen = (held_at (link_at new k).subs s).seen }) (takes.helds k s);
+            queue = whole_from _ _ _ (takes.queues k s) sub.gathers.queue;
+          };
     }
 
+-- a queue that became whole is known whole
+is_known : (old new : Seen) → BecomesWhole old new → IsKnownWhole new
+is_known (receiving old) (gathered new) whole = tt
+is_known (receiving old) (receiving new) whole = absurd whole
+is_known (gathered old) (gathered new) whole = absurd whole
+is_known (gathered old) (receiving new) whole = absurd whole
+
+-- every queue is gathered
+pub all_gathered : (mid new : List LinkState) → GathersLinks mid new → AreGathered new
+all_gathered mid new g k s lt slt =
+    let below : k < length mid = omega (arith, g.count) in
+    let link = g.each k below in
+    let sub : s < length (link_at mid k).subs = omega (arith, link.subs.count) in
+    is_known _ _ (link.subs.each s sub).gathers.queue
+
 -- of the port at a place its sub-VL accepted its own list
-pub own_part : (tx new : Tx) (ports : List PortView) (rooms : List (List RoomView)) (place : ℕ) → IsPlan tx.plan
-    → HasShape tx.plan tx.links → GathersLinks tx.links rooms new.links → new.plan ≡ tx.plan → AreLinksOf new.plan new.links
-    → HaveOwnItems new.links → AreOpenedWith tx ports → place < length tx.plan.ports → HasSeat tx.plan ports rooms place
+pub own_part : (tx new : Tx) (mid : List LinkState) (ports : List PortView) (place : ℕ) → IsPlan tx.plan
+    → HasShape tx.plan tx.links → OnlyTakeBack tx.links mid → GathersLinks mid new.links → new.plan ≡ tx.plan
+    → AreLinksOf new.plan new.links → HaveOwnItems new.links → AreOpenedWith tx ports → place < length tx.plan.ports
+    → HasPlace ports place → ((port : PortView) → Contains ports port → IsTakenBack tx.plan mid port)
     → HasOwnPart new ports place
-own_part tx new ports rooms place valid shape g same of items opened lt seat =
+own_part tx new mid ports place valid shape takes g same of items opened lt has back =
     let port = port_plan_at tx.plan.ports place in
     let k = link_place tx.plan port in
     let s = port.sub in
     let linked = link_within tx.plan port valid (valid.linked place _ lt) in
-    let link : link_place tx.plan (port_plan_at tx.plan.ports place) < length tx.links =
-    let below = linked.0 in omega (arith, shape.count) in
-    let sub : (port_plan_at tx.plan.ports place).sub < length (link_at tx.links (link_place tx.plan (port_plan_at tx.plan.ports place))).subs =
-    let below = linked.1.sub in omega (arith, shape.subs k linked.0) in
+    let link : link_place tx.plan (port_plan_at tx.plan.ports place) < length mid =
+    let below = linked.0 in omega (arith, shape.count, takes.count) in
+    let sub : (port_plan_at tx.plan.ports place).sub < length (link_at mid (link_place tx.plan (port_plan_at tx.plan.ports place))).subs =
+    let below = linked.1.sub in omega (arith, shape.subs k linked.0, takes.subs k) in
     let gathered = (g.each k link).subs.each s sub in
-    let senders = (room_at rooms k s).senders in
     let index = index_of tx.plan.ports place in
     let known = known_of (held_at (link_at new.links k).subs s).seen in
-    let sender = seat.sender seat.port.sender in
-    let own = All-contains (BelongsTo tx.plan (queues_in tx.links)) ports seat.port opened seat.inside in
-    let at : seat.port.sender.port ≡ index_of tx.plan.ports place = own.index ∙ ap (index_of tx.plan.ports) seat.at in
-    let part : part_of index known ≡ seat.port.sender.own =
-    ap (λ (p : ℕ). part_of p known) (sym at)
-    ∙ ap (λ (x : SenderView). part_of x.port known) (sym sender)
-    ∙ gathered.gathers.whole.parts index seat.port.sender seat.within
-    ∙ ap (λ (x : SenderView). x.own) sender in
+    let own = All-contains (BelongsTo tx.plan (queues_in tx.links)) ports has.port opened has.inside in
+    let plan : has.port.plan ≡ port_plan_at tx.plan.ports place = own.plan ∙ ap (port_plan_at tx.plan.ports) has.at in
+    let at : has.port.sender.port ≡ index_of tx.plan.ports place = own.index ∙ ap (index_of tx.plan.ports) has.at in
+    let came = back has.port has.inside in
+    let inside : Contains (back_of (held_at (link_at mid (link_place tx.plan (port_plan_at tx.plan.ports place))).subs
+    (port_plan_at tx.plan.ports place).sub).seen) (brought_by has.port.sender) =
+    subst (λ (p : PortPlan). Contains (back_of (held_at (link_at mid (link_place tx.plan p)).subs p.sub).seen) (brought_by has.port.sender))
+    plan came.back in
+    let part : part_of index known ≡ has.port.sender.own =
+    ap (λ (p : ℕ). part_of p known) (sym at) ∙ gathered.gathers.whole.parts (brought_by has.port.sender) inside in
     let moved : part_of (index_of new.plan.ports place) (known_of (held_for new (port_plan_at new.plan.ports place)).seen)
-    ≡ seat.port.sender.own =
+    ≡ has.port.sender.own =
     subst (λ (config : Plan). part_of (index_of config.ports place)
     (known_of (held_at (link_at new.links (link_place config (port_plan_at config.ports place))).subs
-    (port_plan_at config.ports place).sub).seen) ≡ seat.port.sender.own) (sym same) part in
+    (port_plan_at config.ports place).sub).seen) ≡ has.port.sender.own) (sym same) part in
     record {
-      port = seat.port;
-      inside = seat.inside;
-      at = seat.at;
-      messages = seat.messages;
+      port = has.port;
+      inside = has.inside;
+      at = has.at;
+      messages = came.messages;
       part = moved;
-      accepted = own_messages new place seat.port.sender.own (subst IsPlan (sym same) valid) of items
+      accepted = own_messages new place has.port.sender.own (subst IsPlan (sym same) valid) of items
           (subst (λ (config : Plan). place < length config.ports) (sym same) lt) moved;
+    }
+
+-- the emitter is as sound as it was
+pub gathers_sound : (config : Plan) (old : List LinkState) (ports : List PortView) (new : List LinkState) (lines : Lines) (moment : ℕ)
+    → GathersPorts config old ports new → IsSound config old lines moment → IsSound config new lines moment
+gathers_sound config old ports new lines moment g sound =
+    kept_sound config g.mid new lines moment (gathered_kept g.mid new g.gathers)
+    (kept_sound config old g.mid lines moment (back_kept old g.mid g.takes) sound)
+
+-- and of each port its own list is what was accepted
+pub gathers_tx : (old new : Tx) (ports : List PortView) → GathersPorts old.plan old.links ports new.links
+    → new ≡ record old { links = new.links } → IsSound old.plan old.links old.lines old.moment
+    → IsSound new.plan new.links new.lines new.moment → AreOpenedWith old ports
+    → HasEveryPlace (length old.plan.ports) ports → IsGatheredTx old ports new
+gathers_tx old new ports g same sound after opened every =
+    let shape = shape_of old.plan old.links sound.of_plan in
+    record {
+      plan = ap (λ (t : Tx). t.plan) same;
+      lines = ap (λ (t : Tx). t.lines) same;
+      moment = ap (λ (t : Tx). t.moment) same;
+      count = g.gathers.count ∙ g.takes.count;
+      links = λ k lt. link_gathered old.links g.mid new.links k (omega (arith, g.takes.count)) g.takes g.gathers;
+      own = λ place lt. own_part old new g.mid ports place sound.valid shape g.takes g.gathers (ap (λ (t : Tx). t.plan) same)
+          after.of_plan after.items opened lt (every place lt)
+          (λ port has. All-contains (IsTakenBack old.plan g.mid) ports port g.back has);
     }

@@ -58,24 +58,24 @@ pub record AreLinksOf (config : Plan) (links : List LinkState) : Type 0 where
       → (held_at (link_at links k).subs s).ports
       ≡ ports_of_sub config.ports (link_at links k).plan.id.0 s
 
--- nothing of a sub-VL was sent or taken yet, and its queue was not looked into
-pub record IsFreshSub (own : SubVl) (senders : List PortPlan) (held : Held) : Type 0 where
+-- Nothing of a sub-VL was sent or taken yet, and its queue, which was not looked into, has so many senders.
+pub record IsOpenedSub (own : SubVl) (ports : List PortPlan) (senders : ℕ) (held : Held) : Type 0 where
   pub of : held.of ≡ own
-  pub ports : held.ports ≡ senders
+  pub ports_are : held.ports ≡ ports
   pub left : held.left ≡ []
   pub queue : QueueName
-  pub seen : held.seen ≡ receiving (new_receiver queue own.link.capacity (length senders))
+  pub seen : held.seen ≡ receiving (new_receiver queue own.link.capacity senders)
 
--- so many sub-VLs of a link, nothing of which was sent or taken yet
-pub record AreFreshSubs (end_system : ℕ) (ports : List PortPlan) (link : LinkPlan)
+-- so many sub-VLs of a link, nothing of which was sent or taken yet, with senders for these first ports
+pub record AreOpenedSubs (end_system : ℕ) (ports first : List PortPlan) (link : LinkPlan)
     (subs : List Held) (many : ℕ) : Type 0 where
   pub count : length subs ≡ many
   pub each : (s : ℕ) → s < many
-      → IsFreshSub (record { end_system = end_system; link = link; sub = s })
-      (ports_of_sub ports link.id.0 s) (held_at subs s)
+      → IsOpenedSub (record { end_system = end_system; link = link; sub = s })
+      (ports_of_sub ports link.id.0 s) (length (ports_of_sub first link.id.0 s)) (held_at subs s)
 
--- nothing of a link was taken or released yet
-pub record IsFreshLink (own : ℕ) (ports : List PortPlan) (link : LinkPlan)
+-- nothing of a link was taken or released yet, and it has senders for these first ports
+pub record IsOpenedLink (own : ℕ) (ports first : List PortPlan) (link : LinkPlan)
     (state : LinkState) : Type 0 where
   pub end_system : state.end_system ≡ own
   pub plan : state.plan ≡ link
@@ -85,7 +85,7 @@ pub record IsFreshLink (own : ℕ) (ports : List PortPlan) (link : LinkPlan)
     last = None;
     next = sequence_number 0;
   }
-  pub subs : AreFreshSubs own ports link state.subs link.sub_vls
+  pub subs : AreOpenedSubs own ports first link state.subs link.sub_vls
   pub lost : state.lost ≡ false
 
 -- each link keeps that
@@ -152,17 +152,21 @@ pub record IsSamePlan (old new : List LinkState) : Type 0 where
   pub count : length new ≡ length old
   pub each : (k : ℕ) → k < length old → IsSameLink (link_at old k) (link_at new k)
 
--- the first links of a plan, nothing of which was taken or released yet
-pub record AreFreshLinks (config : Plan) (links : List LinkState) (many : ℕ) : Type 0 where
+-- the first links of a plan, nothing of which was taken or released yet, with senders for these first ports
+pub record AreOpenedLinks (config : Plan) (first : List PortPlan) (links : List LinkState) (many : ℕ) : Type 0 where
   pub count : length links ≡ many
   pub each : (k : ℕ) → k < many
-      → IsFreshLink config.end_system config.ports (link_plan_at config.links k)
+      → IsOpenedLink config.end_system config.ports first (link_plan_at config.links k)
       (link_at links k)
+
+-- the links of a plan, nothing of which was taken or released yet, with a sender for each port
+abbrev pub AreFreshLinks : Plan → List LinkState → Type 0
+AreFreshLinks config links = AreOpenedLinks config config.ports links (length config.links)
 
 -- nothing was taken, handed over or polled yet, and both networks stand
 pub record IsFreshTx (config : Plan) (tx : Tx) : Type 0 where
   pub plan : tx.plan ≡ config
-  pub links : AreFreshLinks config tx.links (length config.links)
+  pub links : AreFreshLinks config tx.links
   pub a : tx.lines.a ≡ []
   pub b : tx.lines.b ≡ []
   pub a_stands : tx.lines.a_stands ≡ true

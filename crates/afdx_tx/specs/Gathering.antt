@@ -1,50 +1,62 @@
 -- The ports of an emitter come back.
-use Rattle.std.specs.Prelude.{ℕ, ◌≡◌, ◌<◌, List, length, slice_index_or, Contains}
+use Rattle.std.specs.Prelude.{ℕ, ◌≡◌, ◌<◌, List, length, All, Contains}
 use Rattle.afdx_plan.specs.Config.{Plan, link_plan_at, port_plan_at}
 use Rattle.afdx_plan.specs.declared.port_plan.PortPlan.{PortPlan}
 use Rattle.subvl_queue.specs.Messages.{part_of}
-use Rattle.subvl_queue.specs.Views.{SenderView}
+use Rattle.subvl_queue.specs.Views.{brought_by}
 use Rattle.afdx_legal.specs.Allowed.{port_messages}
-use Rattle.vl_link.specs.Seen.{known_of}
+use Rattle.vl_link.specs.Seen.{Seen, receiving, gathered, known_of}
 use Rattle.vl_link.specs.Links.{Held, LinkState, held_at, link_at}
 use Rattle.afdx_tx.specs.Emitter.{Tx}
 use Rattle.afdx_plan.specs.Places.{link_place}
 use Rattle.afdx_tx.specs.Ports.{PortView, HasOwnMessages, index_of}
 use Rattle.afdx_tx.specs.Drain.{accepted_in}
-use Rattle.vl_link.specs.Room.{RoomView}
-use Rattle.afdx_tx.specs.Rooms.{rooms_of, room_at}
+use Rattle.vl_link.specs.LinkSenders.{back_of}
 use Rattle.vl_link.specs.LinkGathering.{BecomesWhole, GathersLink, AreFullSubs}
 
--- the links
-pub record GathersLinks (old : List LinkState) (rooms : List (List RoomView))
-    (new : List LinkState) : Type 0 where
-  pub count : length new ≡ length old
-  pub each : (k : ℕ) → k < length old
-      → GathersLink (link_at old k) (rooms_of rooms k) (link_at new k)
+-- a queue but for the senders that it took back
+abbrev pub OnlyTakesBack : (old new : Seen) → Type 0
+OnlyTakesBack (receiving old) (receiving new) = new ≡ record old { back = new.back }
+OnlyTakesBack (gathered old) (gathered new) = new ≡ old
+OnlyTakesBack (receiving old) (gathered new) = ⊥
+OnlyTakesBack (gathered old) (receiving new) = ⊥
 
--- the room of each sub-VL has all of its senders
-pub record AreFull (links : List LinkState) (rooms : List (List RoomView)) : Type 0 where
-  pub count : length rooms ≡ length links
-  pub each : (k : ℕ) → k < length links → AreFullSubs (link_at links k).subs (rooms_of rooms k)
+-- links but for the senders that their queues took back
+pub record OnlyTakeBack (old new : List LinkState) : Type 0 where
+  pub count : length new ≡ length old
+  pub links : (k : ℕ) → link_at new k ≡ record (link_at old k) { subs = (link_at new k).subs }
+  pub subs : (k : ℕ) → length (link_at new k).subs ≡ length (link_at old k).subs
+  pub helds : (k s : ℕ) → held_at (link_at new k).subs s
+      ≡ record (held_at (link_at old k).subs s) { seen = (held_at (link_at new k).subs s).seen }
+  pub queues : (k s : ℕ) → OnlyTakesBack (held_at (link_at old k).subs s).seen (held_at (link_at new k).subs s).seen
+
+-- the queue of a port's sub-VL took its sender back, with messages that the port may send
+pub record IsTakenBack (config : Plan) (links : List LinkState) (port : PortView) : Type 0 where
+  pub messages : HasOwnMessages port
+  pub back : Contains (back_of (held_at (link_at links (link_place config port.plan)).subs port.plan.sub).seen)
+      (brought_by port.sender)
+
+-- the sender of each port is back
+abbrev pub AreFull : List LinkState → Type 0
+AreFull links = (k : ℕ) → k < length links → AreFullSubs (link_at links k).subs
+
+-- the queues of the links are gathered
+pub record GathersLinks (old new : List LinkState) : Type 0 where
+  pub count : length new ≡ length old
+  pub each : (k : ℕ) → k < length old → GathersLink (link_at old k) (link_at new k)
+
+-- the queues of the ports' sub-VLs took all their senders back, and then all queues are gathered
+pub record GathersPorts (config : Plan) (old : List LinkState) (ports : List PortView) (new : List LinkState) : Type 0 where
+  pub mid : List LinkState
+  pub takes : OnlyTakeBack old mid
+  pub back : All (IsTakenBack config mid) ports
+  pub gathers : GathersLinks mid new
 
 -- as many links as a configuration has, each with as many sub-VLs
 pub record HasShape (config : Plan) (links : List LinkState) : Type 0 where
   pub count : length links ≡ length config.links
   pub subs : (k : ℕ) → k < length config.links
       → length (link_at links k).subs ≡ (link_plan_at config.links k).sub_vls
-
--- the sender of the port at a place stands in the room of its sub-VL, at its index
-pub record HasSeat (config : Plan) (ports : List PortView) (rooms : List (List RoomView))
-    (place : ℕ) : Type 0 where
-  pub port : PortView
-  pub inside : Contains ports port
-  pub at : port.place ≡ place
-  pub messages : HasOwnMessages port
-  pub within : index_of config.ports place < length (room_at rooms
-      (link_place config (port_plan_at config.ports place)) (port_plan_at config.ports place).sub).senders
-  pub sender : (d : SenderView) → slice_index_or (room_at rooms
-      (link_place config (port_plan_at config.ports place)) (port_plan_at config.ports place).sub).senders
-      (index_of config.ports place) d ≡ port.sender
 
 -- the sub-VL of a port
 abbrev pub held_for : Tx → PortPlan → Held

@@ -4,7 +4,6 @@ pub mod Emitter
 pub mod Sending
 pub mod Serving
 pub mod Ports
-pub mod Rooms
 pub mod Drain
 pub mod Gathering
 pub mod Closing

@@ -3,7 +3,7 @@ use Rattle.std.specs.Prelude.{ℕ, ◌≡◌, ◌<◌, ◌≤◌, List, [], leng
 use Rattle.afdx_plan.specs.Config.{Plan, link_plan_at, port_plan_at}
 use Rattle.afdx_plan.specs.declared.port_plan.PortPlan.{PortPlan}
 use Rattle.subvl_queue.specs.Messages.{most_calls}
-use Rattle.subvl_queue.specs.Views.{QueueName, SenderView, new_sender, IsSent, IsRefused, WasFull}
+use Rattle.subvl_queue.specs.Views.{QueueName, SenderView, new_sender, IsPlaced, IsRefused, WasFull}
 use Rattle.subvl_queue.specs.declared.refused.Why.{Why}
 use Rattle.subvl_queue.specs.declared.refused.Why.TheVariants.{Closed as QueueClosed, Exhausted as QueueExhausted, Full as QueueFull}
 use Rattle.afdx_tx.specs.declared.fault.Refusal.{Refusal}
@@ -28,7 +28,7 @@ HasOwnMessages port = All (λ (bytes : List ℕ). MaySend port.plan (length byte
 
 -- a message was accepted: it is the last of the port's own
 abbrev pub Accepts : PortView → List ℕ → PortView → Type 0
-Accepts old bytes new = IsSent old.sender bytes new.sender × (new ≡ record old { sender = new.sender })
+Accepts old bytes new = IsPlaced old.sender bytes new.sender × (new ≡ record old { sender = new.sender })
 
 -- a message that the port may send was refused by its queue
 pub record QueueRefuses (old : PortView) (size : ℕ) (why : Why) (new : PortView) : Type 0 where

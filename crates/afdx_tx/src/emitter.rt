@@ -1,33 +1,30 @@
 //! The emitter, while ports send.
 use crate::draining::Draining;
 use crate::fault::{NoSuchSub, PollFault};
-use crate::gather::{has_every_place, seat_all};
+use crate::gather::has_every_place;
 use crate::port::TxPort;
 use crate::report::Report;
 use crate::transmitter::Transmitter;
 use afdx_plan::{Config, VlId};
 use redundant_mux::Network;
 use std::marker::Model;
-use vl_link::{Link, LinkRooms};
+use vl_link::Link;
 
 /// Sends what ports hand over, on two networks. Contracts see its plan, its links, what was handed
 /// to the networks, and the moment of the last poll.
 #[derive(Drop)]
 pub struct Emitter<A: Network + Drop, B: Network + Drop> {
     inner: Transmitter<A, B>,
-    // Where the ports' senders go when they come back.
-    rooms: Vec<LinkRooms>,
 }
 
 impl<A: Network + Drop, B: Network + Drop> Model for Emitter<A, B> {
     ghost use Rattle.afdx_tx.specs.Emitter.{Tx, AreReceiving};
-    ghost use Rattle.afdx_tx.specs.Rooms.{AreReserved};
 
     ghost Value = { Tx };
 
     ghost view = { λ e. e.inner };
 
-    ghost invariant = { λ e. AreReceiving e.inner.links × AreReserved e.inner.plan e.rooms.items };
+    ghost invariant = { λ e. AreReceiving e.inner.links };
 }
 
 impl<A: Network + Drop, B: Network + Drop> Emitter<A, B> {
@@ -41,21 +38,13 @@ impl<A: Network + Drop, B: Network + Drop> Emitter<A, B> {
     ghost use Rattle.afdx_tx.specs.Report.{Polls};
     ghost use Rattle.afdx_tx.specs.Emitter.{Tx, IsFreshTx, AreFreshLinks, AreTied, taken_in, queues_in, total_in};
     ghost use Rattle.afdx_tx.specs.Ports.{AreOpenedWith, LacksPlace};
-    ghost use Rattle.afdx_tx.specs.Rooms.{AreReserved};
     ghost use Rattle.afdx_tx.specs.Gathering.{IsGatheredTx};
     ghost use Rattle.afdx_tx.specs.Closing.{LacksSub, ClosesTx};
 
     /// Over fresh links of a configuration, and networks that were handed nothing.
-    pub(crate) fn over(
-        config: Config,
-        links: Vec<Link>,
-        rooms: Vec<LinkRooms>,
-        a: A,
-        b: B,
-    ) -> Emitter<A, B>
+    pub(crate) fn over(config: Config, links: Vec<Link>, a: A, b: B) -> Emitter<A, B>
         requires valid { IsPlan config }
-        requires fresh { AreFreshLinks config links.items (length config.links) }
-        requires rooms { AreReserved config rooms.items }
+        requires fresh { AreFreshLinks config links.items }
         requires a_empty { A.handed a ≡ [] }
         requires b_empty { B.handed b ≡ [] }
         requires a_new { A.failures a ≡ 0 }
@@ -65,7 +54,6 @@ impl<A: Network + Drop, B: Network + Drop> Emitter<A, B> {
     {
         Emitter {
             inner: Transmitter::over(config, links, a, b),
-            rooms,
         }
     }
 
@@ -92,7 +80,7 @@ impl<A: Network + Drop, B: Network + Drop> Emitter<A, B> {
         ensures legal { IsLegal self.plan (taken_in self.links) self.lines.a self.lines.b }
         ensures allowed { AreAllowed self.plan (taken_in self.links) }
     {
-        let Emitter { inner, rooms: _ } = self;
+        let Emitter { inner } = self;
         inner.into_networks()
     }
 
@@ -157,12 +145,8 @@ impl<A: Network + Drop, B: Network + Drop> Emitter<A, B> {
         if !has_every_place(ports.as_slice(), self.config().ports().len()) {
             return Err((self, ports));
         }
-        let Emitter {
-            mut inner,
-            mut rooms,
-        } = self;
-        seat_all(&inner, &mut rooms, ports);
-        inner.gather(rooms);
+        let Emitter { mut inner } = self;
+        inner.gather(ports);
         Ok(Draining::over(inner))
     }
 }

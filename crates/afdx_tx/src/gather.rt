@@ -1,16 +1,14 @@
 //! The ports of an emitter come back.
-ghost use Rattle.std.specs.Prelude.{◌≡◌, ℕ, ◌<◌, ◌∷◌, length, slice_index_or, MatchBool, MatchOption};
-ghost use Rattle.std.specs.List.Sorted.{IsPermutation};
-ghost use Rattle.afdx_tx.specs.Emitter.{queues_in};
-ghost use Rattle.afdx_tx.specs.Ports.{HasPlace, HasEveryPlace, LacksPlace, PortView, AreOpenedWith};
-ghost use Rattle.afdx_tx.specs.Rooms.{AreRooms, AreReserved, senders_for};
-ghost use Rattle.afdx_tx.specs.Gathering.{HasSeat};
+ghost use Rattle.std.specs.Prelude.{◌≡◌, ◌<◌, length, slice_index_or, All, MatchBool, MatchOption};
+ghost use Rattle.afdx_plan.specs.Config.{IsPlan};
+ghost use Rattle.afdx_tx.specs.Emitter.{AreLinksOf, AreReceiving, queues_in};
+ghost use Rattle.afdx_tx.specs.Ports.{HasPlace, HasEveryPlace, LacksPlace, PortView, BelongsTo};
+ghost use Rattle.afdx_tx.specs.Gathering.{OnlyTakeBack, IsTakenBack, AreFull, GathersLinks, GathersPorts};
 
 use crate::port::TxPort;
 use crate::routing::{link_of, port_at};
-use crate::transmitter::Transmitter;
-use redundant_mux::Network;
-use vl_link::LinkRooms;
+use afdx_plan::Config;
+use vl_link::Link;
 
 // The index of the port of a place in a list.
 fn position_of(ports: &[TxPort], place: usize) -> Option<usize>
@@ -37,38 +35,40 @@ pub fn has_every_place(ports: &[TxPort], many: usize) -> bool
     true
 }
 
-// Takes the port of a place out of a list.
-fn take_port(ports: &mut Vec<TxPort>, place: usize) -> TxPort
-    requires { HasPlace ports.old.items place }
-    ensures at { result.place ≡ place }
-    ensures rest { IsPermutation ports.old.items (result ∷ ports.new.items) }
+// The queue of each port's sub-VL takes its sender back.
+fn take_back_all(config: &Config, links: &mut [Link], mut ports: Vec<TxPort>)
+    requires of_plan { AreLinksOf config.now links.old }
+    requires opened { All (BelongsTo config.now (queues_in links.old)) ports.items }
+    ensures same { OnlyTakeBack links.old links.new }
+    ensures back { All (IsTakenBack config.now links.new) ports.items }
 {
-    match position_of(ports.as_slice(), place) {
-        Some(at) => ports.swap_remove(at),
-        None => unreachable!(),
+    while let Some(port) = ports.pop() {
+        let plan = port_at(config, port.place());
+        let link = link_of(config, &plan);
+        links[link].take_back(plan.sub, port.into_sender());
     }
 }
 
-/// Puts the sender of each port of an emitter into the room of its sub-VL, in the order of the
-/// configuration.
-pub fn seat_all<A: Network + Drop, B: Network + Drop>(
-    tx: &Transmitter<A, B>,
-    rooms: &mut [LinkRooms],
-    mut ports: Vec<TxPort>,
-)
-    requires reserved { AreReserved tx.now.plan rooms.old }
-    requires opened { AreOpenedWith tx.now ports.items }
-    requires every { HasEveryPlace (length tx.now.plan.ports) ports.items }
-    ensures rooms { AreRooms tx.now.plan rooms.new (length tx.now.plan.ports)
-        (senders_for (queues_in tx.now.links)) }
-    ensures seats { (place : ℕ) → place < length tx.now.plan.ports →
-        HasSeat tx.now.plan ports.items rooms.new place }
+// Gathers the queue of each sub-VL, all of whose senders are back.
+fn gather_all(links: &mut [Link])
+    requires full { AreFull links.old }
+    ensures { GathersLinks links.old links.new }
 {
-    let config = tx.config();
-    for place in 0..config.ports().len() {
-        let plan = port_at(config, place);
-        let port = take_port(&mut ports, place);
-        let link = link_of(config, &plan);
-        rooms[link].put(usize::from(plan.sub), port.into_sender());
+    for link in links.iter_mut() {
+        link.gather();
     }
+}
+
+/// Takes the ports of a configuration back, which are all that it has, and gathers the queue of each
+/// sub-VL.
+pub fn gather_links(config: &Config, links: &mut [Link], ports: Vec<TxPort>)
+    requires valid { IsPlan config.now }
+    requires of_plan { AreLinksOf config.now links.old }
+    requires receiving { AreReceiving links.old }
+    requires opened { All (BelongsTo config.now (queues_in links.old)) ports.items }
+    requires every { HasEveryPlace (length config.now.ports) ports.items }
+    ensures { GathersPorts config.now links.old ports.items links.new }
+{
+    take_back_all(config, links, ports);
+    gather_all(links);
 }

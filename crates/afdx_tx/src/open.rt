@@ -2,9 +2,8 @@
 ghost use Rattle.std.specs.Prelude.{◌≡◌, ◌<◌, ◌&&◌, [], length, nat_eq, IfOk, IfErr};
 ghost use Rattle.afdx_plan.specs.Config.{IsPlan};
 ghost use Rattle.afdx_plan.specs.Plan.{IsLink};
-ghost use Rattle.afdx_tx.specs.Emitter.{IsFreshSub, IsFreshLink, IsFreshTx, AreFreshLinks, ports_of_sub, queues_in};
+ghost use Rattle.afdx_tx.specs.Emitter.{IsOpenedSub, IsOpenedLink, AreOpenedLinks, AreFreshLinks, IsFreshTx, ports_of_sub, queues_in};
 ghost use Rattle.afdx_tx.specs.Ports.{ArePortsOf, AreFreshPorts, AreOpenedWith};
-ghost use Rattle.afdx_tx.specs.Rooms.{IsFreshRoom, AreFreshRooms, AreRooms, AreReserved, fresh_for};
 
 use crate::emitter::Emitter;
 use crate::fault::OpenFault;
@@ -13,8 +12,8 @@ use crate::routing::{link_of, port_at};
 use afdx_plan::{Config, LinkPlan, PortPlan};
 use redundant_mux::Network;
 use std::alloc::{AllocError, Global};
-use subvl_queue::make;
-use vl_link::{Link, LinkRooms, Room, Sub, SubVl};
+use subvl_queue::open_queue;
+use vl_link::{Link, Sub, SubVl};
 
 /// How often a port may ask: 2^40 times.
 const CALLS: u64 = 1_099_511_627_776;
@@ -40,119 +39,77 @@ fn ports_of(alloc: Global, ports: &[PortPlan], of: &SubVl) -> Result<Vec<PortPla
     Ok(own)
 }
 
-/// A sub-VL of a configuration, and the senders of its ports, in their order.
-fn open_sub(alloc: Global, config: &Config, of: SubVl) -> Result<(Sub, Room), AllocError>
+/// A sub-VL of a configuration, whose ports have no senders yet.
+fn open_sub(alloc: Global, config: &Config, of: SubVl) -> Result<Sub, AllocError>
     requires link { IsLink of.link }
     requires sub { of.sub < of.link.sub_vls }
-    ensures fresh { IfOk result (λ opened. IsFreshSub of
-        (ports_of_sub config.now.ports of.link.id.0 of.sub) opened.0) }
-    ensures room { IfOk result (λ opened. IsFreshRoom of.link.capacity
-        (length (ports_of_sub config.now.ports of.link.id.0 of.sub)) opened.0 opened.1) }
+    ensures { IfOk result
+        (λ sub. IsOpenedSub of (ports_of_sub config.now.ports of.link.id.0 of.sub) 0 sub) }
 {
     let ports = ports_of(alloc, config.ports(), &of)?;
-    let (receiver, senders) = make(alloc, of.link.capacity, ports.len(), CALLS)?;
-    Ok((Sub::new(of, ports, receiver), Room::new(senders)))
+    let receiver = open_queue(alloc, of.link.capacity)?;
+    Ok(Sub::new(of, ports, receiver))
 }
 
-/// A link of a configuration, and the senders of its ports.
-fn open_link(
-    alloc: Global,
-    config: &Config,
-    plan: &LinkPlan,
-) -> Result<(Link, LinkRooms), AllocError>
+/// A link of a configuration, whose ports have no senders yet.
+fn open_link(alloc: Global, config: &Config, plan: &LinkPlan) -> Result<Link, AllocError>
     requires { IsLink plan.now }
-    ensures fresh { IfOk result (λ opened.
-        IsFreshLink config.now.end_system config.now.ports plan.now opened.0) }
-    ensures rooms { IfOk result (λ opened. AreFreshRooms config.now.ports plan.now
-        opened.0.subs opened.1 plan.now.sub_vls) }
+    ensures { IfOk result
+        (λ link. IsOpenedLink config.now.end_system config.now.ports [] plan.now link) }
 {
     let mut subs = Vec::with_capacity(alloc, plan.sub_vls as usize)?;
-    let mut rooms = Vec::with_capacity(alloc, plan.sub_vls as usize)?;
     for sub in 0..plan.sub_vls {
         let of = SubVl {
             end_system: config.end_system(),
             link: *plan,
             sub,
         };
-        let (opened, room) = open_sub(alloc, config, of)?;
-        subs.push(opened)?;
-        rooms.push(room)?;
+        subs.push(open_sub(alloc, config, of)?)?;
     }
-    Ok((
-        Link::new(config.end_system(), *plan, subs),
-        LinkRooms::new(rooms),
-    ))
+    Ok(Link::new(config.end_system(), *plan, subs))
 }
 
-/// The links of a configuration, and the senders of all ports.
-fn open_links(alloc: Global, config: &Config) -> Result<(Vec<Link>, Vec<LinkRooms>), AllocError>
-    ensures fresh { IfOk result
-        (λ opened. AreFreshLinks config.now opened.0.items (length config.now.links)) }
-    ensures rooms { IfOk result (λ opened. AreRooms config.now opened.1.items
-        (length config.now.ports) (fresh_for config.now (queues_in opened.0.items))) }
+/// The links of a configuration, whose ports have no senders yet.
+fn open_links(alloc: Global, config: &Config) -> Result<Vec<Link>, AllocError>
+    ensures opened { IfOk result
+        (λ links. AreOpenedLinks config.now [] links.items (length config.now.links)) }
     ensures valid { IsPlan config.now }
 {
     let plans = config.links();
     let mut links = Vec::with_capacity(alloc, plans.len())?;
-    let mut rooms = Vec::with_capacity(alloc, plans.len())?;
     for plan in plans {
-        let (link, own) = open_link(alloc, config, plan)?;
-        links.push(link)?;
-        rooms.push(own)?;
+        links.push(open_link(alloc, config, plan)?)?;
     }
-    Ok((links, rooms))
+    Ok(links)
 }
 
-/// The ports of a configuration, in its order, with their senders, whose rooms are then empty.
-// From the last, since each room gives its last sender first.
-fn hand_out(
-    alloc: Global,
-    config: &Config,
-    links: &[Link],
-    rooms: &mut [LinkRooms],
-) -> Result<Vec<TxPort>, AllocError>
-    requires full { AreRooms config.now rooms.old (length config.now.ports)
-        (fresh_for config.now (queues_in links.now)) }
+/// The ports of a configuration, in its order, each with a sender of the queue of its sub-VL.
+fn open_ports(alloc: Global, config: &Config, links: &mut [Link]) -> Result<Vec<TxPort>, AllocError>
+    requires opened { AreOpenedLinks config.now [] links.old (length config.now.links) }
+    ensures links { IfOk result (λ _. AreFreshLinks config.now links.new) }
     ensures ports { IfOk result
-        (λ ports. ArePortsOf config.now (queues_in links.now) ports.items) }
-    ensures empty { IfOk result (λ _. AreRooms config.now rooms.new 0
-        (fresh_for config.now (queues_in links.now))) }
+        (λ ports. ArePortsOf config.now (queues_in links.new) ports.items) }
 {
-    let _links = links;
     let mut ports = Vec::with_capacity(alloc, config.ports().len())?;
-    for place in (0..config.ports().len()).rev() {
+    for place in 0..config.ports().len() {
         let plan = port_at(config, place);
         let link = link_of(config, &plan);
-        let sender = rooms[link].take(usize::from(plan.sub));
+        let sender = links[link].new_sender(plan.sub, CALLS)?;
         ports.push(TxPort::new(plan, place, sender))?;
     }
-    ports.reverse();
     Ok(ports)
 }
 
-/// What an emitter is made of.
-struct Parts {
-    links: Vec<Link>,
-    rooms: Vec<LinkRooms>,
-    ports: Vec<TxPort>,
-}
-
-/// All that an emitter of a configuration needs, and its ports.
-fn open_parts(alloc: Global, config: &Config) -> Result<Parts, AllocError>
-    ensures fresh { IfOk result
-        (λ parts. AreFreshLinks config.now parts.links.items (length config.now.links)) }
-    ensures rooms { IfOk result (λ parts. AreReserved config.now parts.rooms.items) }
+/// The links of a configuration, and its ports.
+fn open_parts(alloc: Global, config: &Config) -> Result<(Vec<Link>, Vec<TxPort>), AllocError>
+    ensures links { IfOk result (λ parts. AreFreshLinks config.now parts.0.items) }
     ensures ports { IfOk result
-        (λ parts. ArePortsOf config.now (queues_in parts.links.items) parts.ports.items) }
+        (λ parts. ArePortsOf config.now (queues_in parts.0.items) parts.1.items) }
     ensures valid { IsPlan config.now }
 {
-    let (links, mut rooms) = open_links(alloc, config)?;
-    let ports = hand_out(alloc, config, &links, &mut rooms)?;
-    Ok(Parts {
-        links,
-        rooms,
-        ports,
-    })
+    let mut links = open_links(alloc, config)?;
+    let ports = open_ports(alloc, config, &mut links)?;
+    Ok((links, ports))
 }
 
 /// Opens an emitter for a configuration over two networks that were handed nothing and have not
@@ -177,14 +134,7 @@ pub fn open_tx<A: Network + Drop, B: Network + Drop>(
     ensures b { IfErr result (λ fault. fault.b ≡ b) }
 {
     match open_parts(alloc, &config) {
-        Ok(parts) => {
-            let Parts {
-                links,
-                rooms,
-                ports,
-            } = parts;
-            Ok((Emitter::over(config, links, rooms, a, b), ports))
-        }
+        Ok((links, ports)) => Ok((Emitter::over(config, links, a, b), ports)),
         Err(_) => Err(OpenFault { config, a, b }),
     }
 }

@@ -9,17 +9,18 @@ ghost use Rattle.afdx_tx.specs.Report.{IsTold, turn_release};
 ghost use Rattle.afdx_tx.specs.Emitter.{plans, AreApart, AreLinks, AreKept, AreWhole, AreServedBy};
 ghost use Rattle.afdx_tx.specs.Serving.{IsSteady};
 ghost use Rattle.afdx_tx.specs.Done.{TellsAllDone};
-ghost use Rattle.afdx_tx.specs.Gathering.{AreFull, GathersLinks};
 
 use crate::closing::place_of;
 use crate::fault::{NoSuchSub, PollFault};
+use crate::gather::gather_links;
+use crate::port::TxPort;
 use crate::report::{Release, Report};
 use afdx_frame::Frame;
 use afdx_plan::{Config, VlId};
 use arrayvec::ArrayVec;
 use redundant_mux::{Mux, Network};
 use std::marker::Model;
-use vl_link::{Link, LinkRooms, Served, some_stands};
+use vl_link::{Link, Served, some_stands};
 
 /// Adds what a turn released.
 fn note(released: &mut ArrayVec<Release, 64>, vl: VlId, did: &Served)
@@ -81,18 +82,6 @@ fn all_done(links: &[Link]) -> bool
     true
 }
 
-/// Gathers the queue of each sub-VL with the senders in its room, which are all that it has.
-// From the last, since taking from the end of a list needs no memory.
-fn gather_all(links: &mut [Link], mut rooms: Vec<LinkRooms>)
-    requires full { AreFull links.old rooms.items }
-    ensures { GathersLinks links.old rooms.items links.new }
-{
-    while let Some(own) = rooms.pop() {
-        let link = &mut links[rooms.len()];
-        link.gather(own);
-    }
-}
-
 /// Sends what is taken from the queues of its sub-VLs, on two networks. Contracts see its plan, its
 /// links, what was handed to the networks, and the moment of the last poll.
 #[derive(Drop)]
@@ -131,15 +120,15 @@ impl<A: Network + Drop, B: Network + Drop> Transmitter<A, B> {
     ghost use Rattle.afdx_tx.specs.Emitter.{Tx, IsFreshTx, AreFreshLinks, AreLinksOf, AreTied, HaveOwnItems, IsSamePlan, taken_in};
     ghost use Rattle.afdx_legal.specs.Done.{IsAllDone};
     ghost use Rattle.afdx_tx.specs.Drain.{AreGathered, accepted_in};
-    ghost use Rattle.afdx_tx.specs.Emitter.{AreReceiving, queues_in};
-    ghost use Rattle.afdx_tx.specs.Rooms.{AreRooms, senders_for};
-    ghost use Rattle.afdx_tx.specs.Gathering.{GathersLinks, HasShape};
+    ghost use Rattle.afdx_tx.specs.Emitter.{AreReceiving};
+    ghost use Rattle.afdx_tx.specs.Ports.{AreOpenedWith, HasEveryPlace};
+    ghost use Rattle.afdx_tx.specs.Gathering.{IsGatheredTx};
     ghost use Rattle.afdx_tx.specs.Closing.{LacksSub, ClosesTx};
 
     /// Over fresh links of a configuration, and networks that were handed nothing.
     pub fn over(config: Config, links: Vec<Link>, a: A, b: B) -> Transmitter<A, B>
         requires valid { IsPlan config }
-        requires fresh { AreFreshLinks config links.items (length config.links) }
+        requires fresh { AreFreshLinks config links.items }
         requires a_empty { A.handed a ≡ [] }
         requires b_empty { B.handed b ≡ [] }
         requires a_new { A.failures a ≡ 0 }
@@ -253,21 +242,17 @@ impl<A: Network + Drop, B: Network + Drop> Transmitter<A, B> {
         }
     }
 
-    /// Gathers the queue of each sub-VL with the senders in its room, which are all that it has.
-    pub fn gather(&mut self, rooms: Vec<LinkRooms>)
+    /// Takes the ports back, which are all that the configuration has, and gathers the queue of each
+    /// sub-VL.
+    pub fn gather(&mut self, ports: Vec<TxPort>)
         requires receiving { AreReceiving self.old.links }
-        requires full { AreRooms self.old.plan rooms.items (length self.old.plan.ports)
-            (senders_for (queues_in self.old.links)) }
-        ensures plan { self.new.plan ≡ self.old.plan }
-        ensures lines { self.new.lines ≡ self.old.lines }
-        ensures moment { self.new.moment ≡ self.old.moment }
-        ensures links { GathersLinks self.old.links rooms.items self.new.links }
-        ensures shape { HasShape self.old.plan self.old.links }
-        ensures ports { AreLinksOf self.new.plan self.new.links }
-        ensures items { HaveOwnItems self.new.links }
+        requires opened { AreOpenedWith self.old ports.items }
+        requires every { HasEveryPlace (length self.old.plan.ports) ports.items }
+        ensures gathered { IsGatheredTx self.old ports.items self.new }
+        ensures all { AreGathered self.new.links }
         ensures legal { IsLegal self.new.plan (taken_in self.new.links) self.new.lines.a self.new.lines.b }
         ensures accepted { AreAllowed self.new.plan (accepted_in self.new.links) }
     {
-        gather_all(&mut self.links, rooms);
+        gather_links(&self.config, &mut self.links, ports);
     }
 }

@@ -1,19 +1,14 @@
-use Rattle.std.proofs.Common.{ℕ, ◌≡◌, true, false, IfOk, OnOk, sym, subst}
-use Rattle.afdx_plan.specs.Config.{Plan}
+use Rattle.std.proofs.Common.{ℕ, ◌≡◌, true, false, IfOk, OnOk, subst}
 use Rattle.redundant_mux.specs.Lines.{BothEndure, is_alive}
 use Rattle.afdx_tx.specs.declared.report.Report.{Report}
 use Rattle.afdx_tx.specs.Emitter.{Tx, queues_in, total_in}
 use Rattle.afdx_tx.specs.Report.{Polls}
-use Rattle.afdx_tx.specs.Rooms.{AreReserved}
 use Rattle.afdx_tx.specs.Run.{IsRun, IsCutShort}
 use Rattle.afdx_tx.proofs.SoundEmitter.{receiving_still, same_queues, same_totals}
 use Rattle.afdx_tx.proofs.emitter.Emitter.poll.Goals as goal
 
 pub invariant_of-self : goal.invariant_of-self
-invariant_of-self g c = (
-  receiving_still c.self.inside.inner.links c.poll.new.self.links c.poll.ensures.same c.self.invariant.0,
-  subst (λ (plan : Plan). AreReserved plan c.self.inside.rooms.items) (sym c.poll.ensures.plan) c.self.invariant.1,
-)
+invariant_of-self g c = receiving_still c.self.inside.inner.links c.poll.new.self.links c.poll.ensures.same c.self.invariant
 
 pub returns-clause-queues : goal.returns-clause-queues
 returns-clause-queues g c =

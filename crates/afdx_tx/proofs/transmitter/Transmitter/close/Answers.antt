@@ -3,7 +3,8 @@ use Rattle.std.proofs.lemmas.List.{get_or_default}
 use Rattle.vl_link.specs.Links.{LinkState, link_at, no_link}
 use Rattle.vl_link.specs.Closing.{ClosesLink}
 use Rattle.afdx_tx.proofs.SoundEmitter.{count_is}
-use Rattle.afdx_tx.proofs.ClosedEmitter.{links_closed, closed_sound}
+use Rattle.afdx_tx.proofs.KeptLinks.{kept_sound}
+use Rattle.afdx_tx.proofs.ClosedEmitter.{links_closed, closed_kept}
 use Rattle.afdx_tx.proofs.transmitter.Transmitter.close.Goals as goal
 
 pub invariant_of-self : goal.invariant_of-self
@@ -14,7 +15,7 @@ invariant_of-self g c =
     let below = at.within in omega (arith, count_is c.self.inside.config c.self.inside.links.items c.self.invariant.of_plan) in
     let here : c.index_mut.result.now ≡ link_at c.self.inside.links.items c.in-Some.place =
     c.index_mut.ensures.value ∙ get_or_default links c.in-Some.place c.index_mut.result.now no_link within in
-    closed_sound c.self.inside.config links _ c.self.inside.mux c.self.inside.moment
-    (links_closed links c.in-Some.place c.args.sub c.close.result c.close.new.self
-    (subst (λ (l : LinkState). ClosesLink l c.args.sub c.close.result c.close.new.self) here c.close.ensures) within)
+    kept_sound c.self.inside.config links _ c.self.inside.mux c.self.inside.moment
+    (closed_kept links _ (links_closed links c.in-Some.place c.args.sub c.close.result c.close.new.self
+    (subst (λ (l : LinkState). ClosesLink l c.args.sub c.close.result c.close.new.self) here c.close.ensures) within))
     c.self.invariant

@@ -1,0 +1,18 @@
+use Rattle.afdx_tx.proofs.TakenBack.{full_back}
+use Rattle.afdx_tx.proofs.gather.gather_links.Goals as goal
+
+pub gather_all-requires : goal.gather_all-requires
+gather_all-requires c =
+    let r = c.requires in
+    record {
+      full = full_back c.args.config.now c.args.links.now c.take_back_all.new.links c.args.ports.items r.valid r.of_plan r.receiving
+          c.take_back_all.ensures.same r.opened r.every c.take_back_all.ensures.back;
+    }
+
+pub returns : goal.returns
+returns c = record {
+  mid = c.take_back_all.new.links;
+  takes = c.take_back_all.ensures.same;
+  back = c.take_back_all.ensures.back;
+  gathers = c.gather_all.ensures;
+}
