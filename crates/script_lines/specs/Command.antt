@@ -22,6 +22,10 @@ is_send word = bytes_eq word (codes "send")
 unfoldable pub is_at : List ℕ → Bool
 is_at word = bytes_eq word (codes "at")
 
+-- the word `close`
+unfoldable pub is_close : List ℕ → Bool
+is_close word = bytes_eq word (codes "close")
+
 -- the port that a word names, by its identifier
 abbrev pub port_number : List ℕ → Option ℕ
 port_number word = number_of 65535 word
@@ -29,6 +33,14 @@ port_number word = number_of 65535 word
 -- the moment that a word names, in microseconds
 abbrev pub moment_of : List ℕ → Option ℕ
 moment_of word = number_of 18446744073709551615 word
+
+-- the virtual link that a word names, by its identifier
+abbrev pub link_number : List ℕ → Option ℕ
+link_number word = number_of 65535 word
+
+-- the sub-VL that a word names, by its index
+abbrev pub sub_number : List ℕ → Option ℕ
+sub_number word = number_of 255 word
 
 -- the bytes of a text that was decoded
 abbrev pub decoded : {E : Type 0} → Result (List ℕ) E → Option (List ℕ)

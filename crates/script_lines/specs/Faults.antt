@@ -1,7 +1,7 @@
 -- The faults of a line.
-use Rattle.std.specs.Prelude.{◌≡◌, ℕ, ◌<◌, Bool, true, false, ◌&&◌, nat_lt, if◌then◌else◌, ◌+◌, is_none, List, [], ◌∷◌, length, Option, Some, None}
+use Rattle.std.specs.Prelude.{◌≡◌, ℕ, ◌<◌, Bool, true, false, ◌&&◌, ◌||◌, nat_lt, if◌then◌else◌, ◌+◌, is_none, List, [], ◌∷◌, length, Option, Some, None}
 use Rattle.std.specs.Option.{option_map_or}
-use Rattle.script_lines.specs.Command.{command_of, is_send, is_at, port_number, moment_of, message_of}
+use Rattle.script_lines.specs.Command.{command_of, is_send, is_at, is_close, port_number, moment_of, link_number, sub_number, message_of}
 use Rattle.script_lines.specs.declared.line_text.TheConstants.{LINE_LIMIT}
 use Rattle.script_lines.specs.declared.line_fault.LineFault.{LineFault}
 use Rattle.script_lines.specs.declared.line_fault.LineFault.TheVariants.{Word, Number, Hex, Extra, Long, Memory}
@@ -17,17 +17,28 @@ line_fault_number Memory = 6
 
 -- how many words the form of a first word has
 abbrev pub form_len : List ℕ → Option ℕ
-form_len word = if is_send word then Some 3 else if is_at word then Some 2 else None
+form_len word =
+    if is_send word then Some 3
+    else if is_at word then Some 2
+    else if is_close word then Some 3
+    else None
 
 -- a first word that has no form, or fewer words than its form has
 abbrev pub lacks_word : List (List ℕ) → Bool
 lacks_word [] = false
 lacks_word (w ∷ ws) = option_map_or (λ n. nat_lt (length ws + 1) n) (form_len w) true
 
--- a port or a moment that is no number in its range
+-- behind a link, a sub-VL that is no number in its range
+abbrev pub has_bad_sub : List (List ℕ) → Bool
+has_bad_sub [] = false
+has_bad_sub (s ∷ ws) = is_none (sub_number s)
+
+-- a port, a moment, a link or a sub-VL that is no number in its range
 abbrev pub has_bad_number : List (List ℕ) → Bool
 has_bad_number (w ∷ n ∷ ws) =
-    if is_send w then is_none (port_number n) else is_at w && is_none (moment_of n)
+    if is_send w then is_none (port_number n)
+    else if is_at w then is_none (moment_of n)
+    else is_close w && (is_none (link_number n) || has_bad_sub ws)
 has_bad_number _ = false
 
 -- a message that is not hexadecimal
@@ -84,3 +95,11 @@ at_fault (n ∷ ws) =
     else if nat_lt 0 (length ws) then Some Extra
     else None
 at_fault _ = Some Word
+
+-- the first fault of the words behind `close`
+abbrev pub close_fault : List (List ℕ) → Option LineFault
+close_fault (n ∷ s ∷ ws) =
+    if is_none (link_number n) || is_none (sub_number s) then Some Number
+    else if nat_lt 0 (length ws) then Some Extra
+    else None
+close_fault _ = Some Word

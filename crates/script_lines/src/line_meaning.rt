@@ -1,8 +1,8 @@
 //! Reading a line.
 ghost use Rattle.std.specs.Prelude.{◌≡◌, ◌≢◌, ◌==◌, ◌⊎◌, None, Some, IfOk, IfErr, slice_index};
-ghost use Rattle.script_lines.specs.Command.{is_send as is_send_word, is_at as is_at_word, message_of};
-ghost use Rattle.script_lines.specs.Faults.{IsFirstFault, IsFaultless, send_fault, at_fault};
-ghost use Rattle.script_lines.specs.Meaning.{meaning_of, IsSaidSend, IsSaidAt};
+ghost use Rattle.script_lines.specs.Command.{is_send as is_send_word, is_at as is_at_word, is_close as is_close_word, message_of};
+ghost use Rattle.script_lines.specs.Faults.{IsFirstFault, IsFaultless, send_fault, at_fault, close_fault};
+ghost use Rattle.script_lines.specs.Meaning.{meaning_of, IsSaidSend, IsSaidAt, IsSaidClose};
 ghost use Rattle.script_lines.specs.Words.{words_of};
 
 use crate::line::Line;
@@ -33,7 +33,10 @@ pub fn read_line(alloc: Global, line: &[u8]) -> Result<Line, LineFault>
         return read_send(alloc, rest);
     }
     if is_at(word) {
-        read_at(rest)
+        return read_at(rest);
+    }
+    if is_close(word) {
+        read_close(rest)
     } else {
         Err(LineFault::Word)
     }
@@ -57,6 +60,13 @@ fn is_at(word: &[u8]) -> bool
     ensures { result ≡ is_at_word word.now }
 {
     word == b"at".as_slice()
+}
+
+#[tactic(auto, unfolding(crate::specs::Command::is_close))]
+fn is_close(word: &[u8]) -> bool
+    ensures { result ≡ is_close_word word.now }
+{
+    word == b"close".as_slice()
 }
 
 // What the words behind `send` say.
@@ -118,6 +128,33 @@ fn read_at(rest: &[u8]) -> Result<Line, LineFault>
     };
     match next_word(rest) {
         None => Ok(Line::At(moment)),
+        Some(_) => Err(LineFault::Extra),
+    }
+}
+
+// What the words behind `close` say.
+#[tactic(auto, using(crate::proofs::MeaningLemmas::close_rules))]
+fn read_close(rest: &[u8]) -> Result<Line, LineFault>
+    ensures ok { IfOk result (IsSaidClose (words_of rest.now)) }
+    ensures fault { IfErr result (λ fault. close_fault (words_of rest.now) ≡ Some fault) }
+{
+    let Some((vl, rest)) = next_word(rest) else {
+        return Err(LineFault::Word);
+    };
+    let Some((sub, rest)) = next_word(rest) else {
+        return Err(LineFault::Word);
+    };
+    let Some(vl) = number(vl, 65_535) else {
+        return Err(LineFault::Number);
+    };
+    let Some(sub) = number(sub, 255) else {
+        return Err(LineFault::Number);
+    };
+    match next_word(rest) {
+        None => Ok(Line::Close {
+            vl: vl as u16,
+            sub: sub as u8,
+        }),
         Some(_) => Err(LineFault::Extra),
     }
 }

@@ -6,9 +6,9 @@ use Rattle.afdx_frame.specs.declared.net.Net.TheVariants.{A, B}
 use Rattle.hex.specs.Hex.{encode_lower}
 use Rattle.redundant_mux.specs.Entry.{Entry}
 use Rattle.transcript.specs.declared.outcome.Outcome.{Outcome}
-use Rattle.transcript.specs.declared.outcome.Outcome.TheVariants.{Refused}
+use Rattle.transcript.specs.declared.outcome.Outcome.TheVariants as Became
 use Rattle.transcript.specs.declared.refusal.Refusal.{Refusal}
-use Rattle.transcript.specs.declared.refusal.Refusal.TheVariants.{Empty, TooLong, Closed, Full, NoPort, TimeBack}
+use Rattle.transcript.specs.declared.refusal.Refusal.TheVariants.{Empty, TooLong, Closed, Full, NoPort, NoSub, TimeBack}
 use Rattle.transcript.specs.declared.run_fault.RunFault.{RunFault}
 use Rattle.transcript.specs.declared.run_fault.RunFault.TheVariants.{Write, Memory}
 
@@ -19,15 +19,21 @@ refusal_name TooLong = codes "TooLong"
 refusal_name Closed = codes "Closed"
 refusal_name Full = codes "Full"
 refusal_name NoPort = codes "NoPort"
+refusal_name NoSub = codes "NoSub"
 refusal_name TimeBack = codes "TimeBack"
 
 -- the note on a line that was refused
 abbrev pub refused_note : ℕ → List ℕ → List ℕ
 refused_note line name = codes "line " ++ decimal line ++ codes ": refused " ++ name ++ 10 ∷ []
 
+-- the note on a line that closed a sub-VL, which accepted so many messages in all
+abbrev pub closed_note : ℕ → ℕ → List ℕ
+closed_note line total = codes "line " ++ decimal line ++ codes ": closed " ++ decimal total ++ 10 ∷ []
+
 -- what is written of a line when it was run
 unfoldable pub note_of : ℕ → Outcome → List ℕ
-note_of line (Refused refusal) = refused_note line (refusal_name refusal)
+note_of line (Became.Refused refusal) = refused_note line (refusal_name refusal)
+note_of line (Became.Closed total) = closed_note line total
 note_of line _ = []
 
 -- a network's name

@@ -15,6 +15,8 @@ pub enum Refusal {
     Full,
     /// No port has this identifier.
     NoPort,
+    /// No virtual link has this identifier, or the link has no sub-VL of this index.
+    NoSub,
     /// The moment lies before the last one.
     TimeBack,
 }
@@ -30,6 +32,7 @@ impl Refusal {
             Refusal::Closed => "Closed",
             Refusal::Full => "Full",
             Refusal::NoPort => "NoPort",
+            Refusal::NoSub => "NoSub",
             Refusal::TimeBack => "TimeBack",
         }
     }

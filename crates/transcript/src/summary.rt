@@ -25,7 +25,7 @@ impl Summary {
     {
         let mut sums = self;
         match outcome {
-            Outcome::Quiet => {}
+            Outcome::Quiet | Outcome::Closed(_) => {}
             Outcome::Accepted => sums.accepted += 1,
             Outcome::Refused(_) => sums.refused += 1,
             Outcome::Released(frames) => sums.frames += frames,
