@@ -19,6 +19,13 @@ fn says_at(alloc: Global, line: &[u8], moment: u64) -> bool {
     }
 }
 
+fn says_close(alloc: Global, line: &[u8], vl: u16, sub: u8) -> bool {
+    match read_line(alloc, line) {
+        Ok(Line::Close { vl: read, sub: index }) => read == vl && index == sub,
+        _ => false,
+    }
+}
+
 fn says_nothing(alloc: Global, line: &[u8]) -> bool {
     match read_line(alloc, line) {
         Ok(Line::Nothing) => true,
@@ -57,6 +64,13 @@ fn an_at_has_a_moment(rt: HostRuntime) -> Result<(), Fail> {
 }
 
 #[test]
+fn a_close_has_a_link_and_a_sub_vl(rt: HostRuntime) -> Result<(), Fail> {
+    assert!(rt; says_close(rt.alloc(), b"close 1 0", 1, 0));
+    assert!(rt; says_close(rt.alloc(), b"\tclose\t 00065535 \t000255\t", 65_535, 255));
+    Ok(())
+}
+
+#[test]
 fn blank_lines_and_notes_say_nothing(rt: HostRuntime) -> Result<(), Fail> {
     let blanks = vec![in rt.alloc(); b' '; 20_000]?;
     let lines: [&[u8]; 5] = [b"", b" \t ", b"# note", b" #send 10 0g", &blanks];
@@ -76,7 +90,7 @@ fn assert_fault(rt: &impl Abort, alloc: Global, line: &str, wanted: &str) {
 }
 
 // Lines, and the number and the name of the fault of each.
-const LINES: [(&str, &str); 24] = [
+const LINES: [(&str, &str); 37] = [
     ("sand 10 01", "1 Word"),
     ("send", "1 Word"),
     ("send 10", "1 Word"),
@@ -84,7 +98,11 @@ const LINES: [(&str, &str); 24] = [
     ("at", "1 Word"),
     ("Send 10 01", "1 Word"),
     ("sendd 10 01", "1 Word"),
-    ("close 1 0", "1 Word"),
+    ("close", "1 Word"),
+    ("close 1", "1 Word"),
+    ("close x", "1 Word"),
+    ("closed 1 0", "1 Word"),
+    ("Close 1 0", "1 Word"),
     ("at x", "2 Number"),
     ("at +1", "2 Number"),
     ("at -1", "2 Number"),
@@ -93,6 +111,13 @@ const LINES: [(&str, &str); 24] = [
     ("send - 0g 01", "2 Number"),
     ("at 18446744073709551616 0", "2 Number"),
     ("at 100000000000000000000000", "2 Number"),
+    ("close x 0", "2 Number"),
+    ("close 1 x", "2 Number"),
+    ("close 1 -", "2 Number"),
+    ("close 65536 0", "2 Number"),
+    ("close 70000 0", "2 Number"),
+    ("close 1 256", "2 Number"),
+    ("close 1 256 0", "2 Number"),
     ("send 10 0g", "3 Hex"),
     ("send 10 012", "3 Hex"),
     ("send 10 0x01", "3 Hex"),
@@ -100,6 +125,8 @@ const LINES: [(&str, &str); 24] = [
     ("send 10 0g 01", "3 Hex"),
     ("at 0 0", "4 Extra"),
     ("send 10 01 02", "4 Extra"),
+    ("close 1 0 0", "4 Extra"),
+    ("close 1 0 # note", "4 Extra"),
     ("send 10 - # note", "4 Extra"),
 ];
 

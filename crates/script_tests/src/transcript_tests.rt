@@ -6,8 +6,8 @@ use std::test::Fail;
 use tx_script::{FrameLog, Outcome, Refusal, RunFault, Summary, write_note, write_streams};
 
 #[test]
-fn a_note_tells_the_line_and_the_refusal(rt: HostRuntime) -> Result<(), Fail> {
-    let outcomes: [(u64, Outcome); 8] = [
+fn a_note_tells_the_line_and_the_refusal_or_the_total(rt: HostRuntime) -> Result<(), Fail> {
+    let outcomes: [(u64, Outcome); 11] = [
         (1, Outcome::Refused(Refusal::Empty)),
         (2, Outcome::Quiet),
         (3, Outcome::Refused(Refusal::TooLong)),
@@ -16,6 +16,9 @@ fn a_note_tells_the_line_and_the_refusal(rt: HostRuntime) -> Result<(), Fail> {
         (6, Outcome::Released(2)),
         (999_999, Outcome::Refused(Refusal::NoPort)),
         (1_000_000, Outcome::Refused(Refusal::TimeBack)),
+        (7, Outcome::Closed(0)),
+        (8, Outcome::Refused(Refusal::NoSub)),
+        (1_000_000, Outcome::Closed(u64::MAX)),
     ];
     let mut text = Vec::new(rt.alloc());
     for (line, outcome) in outcomes {
@@ -23,7 +26,9 @@ fn a_note_tells_the_line_and_the_refusal(rt: HostRuntime) -> Result<(), Fail> {
     }
     let wanted = "line 1: refused Empty\nline 3: refused TooLong\n\
                   line 5: refused Full\nline 999999: refused NoPort\n\
-                  line 1000000: refused TimeBack\n";
+                  line 1000000: refused TimeBack\n\
+                  line 7: closed 0\nline 8: refused NoSub\n\
+                  line 1000000: closed 18446744073709551615\n";
     assert_eq!(rt; text.as_slice(), wanted.as_bytes());
     Ok(())
 }
@@ -76,16 +81,18 @@ fn a_summary_counts_what_became_of_lines(rt: HostRuntime) -> Result<(), Fail> {
     };
     let one = none.count(Outcome::Released(2));
     assert_eq!(rt; (one.accepted, one.refused, one.frames), (0, 0, 2));
+    assert_eq!(rt; one.count(Outcome::Closed(3)), one);
     Ok(())
 }
 
 // Why a line is refused while running, and the name that a note has of it.
-const REFUSALS: [(Refusal, &str); 6] = [
+const REFUSALS: [(Refusal, &str); 7] = [
     (Refusal::Empty, "Empty"),
     (Refusal::TooLong, "TooLong"),
     (Refusal::Closed, "Closed"),
     (Refusal::Full, "Full"),
     (Refusal::NoPort, "NoPort"),
+    (Refusal::NoSub, "NoSub"),
     (Refusal::TimeBack, "TimeBack"),
 ];
 
