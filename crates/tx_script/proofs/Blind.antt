@@ -18,13 +18,16 @@ use Rattle.redundant_mux.proofs.MirroredLines.{fresh_lines, fresh_log}
 use Rattle.tx_script.specs.EndSystem.{EndSystem, Progress, no_progress, HasTurnAt, HasPolled}
 use Rattle.script_lines.specs.Lines.{after_feed}
 use Rattle.script_lines.specs.Meaning.{meaning_of}
-use Rattle.tx_script.specs.Play.{Answer, leaves, left_by, sent_to, place_of, IsAnswer, IsPolled, AreAnswers, takes, closes, fills}
+use Rattle.tx_script.specs.Play.{Answer, leaves, left_by, sent_to, place_of, IsAnswer, IsPolled, AreAnswers, takes, closes, fills, tells}
+use Rattle.tx_script.specs.Play.{Messages, accepted_with, accepted_after, closed_at, link_of}
 use Rattle.afdx_legal.specs.Allowed.{messages_of}
 use Rattle.tx_script.specs.Play.{AnsweredLine, Play, play, play_line, start, outcome_of, after, FindsFirst}
 use Rattle.tx_script.specs.Run.{LinesThen}
+use Rattle.afdx_tx.specs.Closing.{IsSubAt}
+use Rattle.tx_script.specs.Totals.{IsTotal, AreTotals, accepted_on}
 use Rattle.transcript.specs.Transcript.{note_of}
 use Rattle.script_lines.specs.declared.line.Line.{Line}
-use Rattle.script_lines.specs.declared.line.Line.TheVariants.{Send, At, Nothing}
+use Rattle.script_lines.specs.declared.line.Line.TheVariants.{Send, At, Close, Nothing}
 use Rattle.transcript.specs.declared.outcome.Outcome.TheVariants.{Refused, Released}
 use Rattle.transcript.specs.declared.refusal.Refusal.TheVariants.{TimeBack}
 
@@ -96,6 +99,7 @@ blind_may : (said : Line) (answer : Answer) (es other : EndSystem) → IsIdle es
     → IsAnswer other said (blind_answer other said answer)
 blind_may (Send port bytes) answer es other h = tt
 blind_may Nothing answer es other h = tt
+blind_may (Close vl sub) answer es other h = tt
 blind_may (At now) answer es other h = λ later. idle_polls now es other h
 
 -- after a line it is so still
@@ -103,6 +107,7 @@ after_idle : (said : Line) (answer : Answer) (es other : EndSystem) → IsAnswer
     → IsIdle (after es said answer) (after other said (blind_answer other said answer))
 after_idle (Send port bytes) answer es other may h = h
 after_idle Nothing answer es other may h = h
+after_idle (Close vl sub) answer es other may h = h
 after_idle (At now) answer es other may h =
     subst (λ (moment : ℕ). IsIdle (if nat_lt now es.moment then es else left_by es answer)
     (if nat_lt now moment then other else idle_at other now)) (sym h.moment) (by (nat_lt now es.moment) refl)
@@ -112,6 +117,7 @@ after_idle (At now) answer es other may h =
     left takes p = absurd p
     left closes p = absurd p
     left fills p = absurd p
+    left (tells total) p = absurd p
 
     by : (early : Bool) → nat_lt now es.moment ≡ early → IsIdle (if early then es else left_by es answer)
         (if early then other else idle_at other now)
@@ -132,15 +138,30 @@ same_note : (line : ℕ) (said : Line) (answer : Answer) (es other : EndSystem) 
 same_note line (Send port bytes) answer es other h =
     ap (λ (plan : Plan). note_of line (sent_to plan (place_of plan port) bytes answer)) h.plan
 same_note line Nothing answer es other h = refl
+same_note line (Close vl sub) answer es other h =
+    ap (λ (plan : Plan). note_of line (closed_at plan (link_of plan vl) sub answer)) h.plan
 same_note line (At now) answer es other h =
     ap (λ (moment : ℕ). note_of line (if nat_lt now moment then Refused TimeBack
     else Released (length other.log - length other.log))) h.moment
     ∙ note_at (nat_lt now es.moment) line (length other.log - length other.log)
     (length (left_by es answer).log - length es.log)
 
+-- the same messages are accepted
+same_accepted : (said : Line) (answer : Answer) (es other : EndSystem) (accepted given : Messages) → IsIdle es other
+    → given ≡ accepted
+    → accepted_after other said (blind_answer other said answer) given ≡ accepted_after es said answer accepted
+same_accepted (Send port bytes) answer es other accepted given h is =
+    ap (λ (plan : Plan). accepted_with (place_of plan port) bytes (sent_to plan (place_of plan port) bytes answer) given) h.plan
+    ∙ ap (λ (messages : Messages). accepted_with (place_of es.plan port) bytes
+    (sent_to es.plan (place_of es.plan port) bytes answer) messages) is
+same_accepted (At now) answer es other accepted given h is = is
+same_accepted (Close vl sub) answer es other accepted given h is = is
+same_accepted Nothing answer es other accepted given h is = is
+
 -- two runs that noted the same, of which the second took nothing from queues
 pub record IsBlindOf (st other : Play) : Type 0 where
   pub idle : IsIdle st.es other.es
+  pub accepted : other.accepted ≡ st.accepted
   pub count : other.count ≡ st.count
   pub notes : other.notes ≡ st.notes
 
@@ -149,6 +170,7 @@ blind_more : (turn : AnsweredLine) (st other : Play) → IsAnswer st.es (meaning
     → IsBlindOf (play_line turn st) (play_line (blind_turn other.es turn) other)
 blind_more turn st other may h = record {
   idle = after_idle (meaning_of turn.line) turn.answer st.es other.es may h.idle;
+  accepted = same_accepted (meaning_of turn.line) turn.answer st.es other.es st.accepted other.accepted h.idle h.accepted;
   count = ap (λ (count : ℕ). count + 1) h.count;
   notes = ap (λ (notes : List ℕ). notes
       ++ note_of (other.count + 1) (outcome_of other.es (meaning_of turn.line) (blind_answer other.es (meaning_of turn.line) turn.answer))) h.notes
@@ -169,6 +191,7 @@ blind_play (turn ∷ turns) st other may h =
 pub blind_start : (plan : Plan) → IsBlindOf (start plan) (start plan)
 blind_start plan = record {
   idle = record { plan = refl; moment = refl; subs = λ k s. refl; log = refl };
+  accepted = refl;
   count = refl;
   notes = refl;
 }
@@ -215,3 +238,23 @@ blind_finds st other h = record {
   where
     none : (k s : ℕ) → (other.es.subs k s).taken ≡ []
     none k s = ap (λ (progress : Progress). progress.taken) (h.idle.subs k s)
+
+-- what a close tells is the same
+total_blind : (said : Line) (answer : Answer) (es : EndSystem) (st other : Play) → IsBlindOf st other → IsTotal st said answer
+    → IsTotal other said (blind_answer es said answer)
+total_blind (Send port bytes) answer es st other is total = tt
+total_blind (At now) answer es st other is total = tt
+total_blind Nothing answer es st other is total = tt
+total_blind (Close vl sub) answer es st other is total = λ place at.
+    total place (subst (λ (plan : Plan). IsSubAt plan vl sub place) is.idle.plan at)
+    ∙ ap (λ (plan : Plan). accepted_on plan st.accepted vl sub) (sym is.idle.plan)
+    ∙ ap (λ (accepted : Messages). accepted_on other.es.plan accepted vl sub) (sym is.accepted)
+
+-- So closes tell the same totals.
+pub blind_totals : (st other : Play) → IsBlindOf st other → (before : Play) (turns : List AnsweredLine) → AreTotals st turns
+    → AreTotals other (blind before turns)
+blind_totals st other is before [] all = tt
+blind_totals st other is before (turn ∷ turns) all = (
+  total_blind (meaning_of turn.line) turn.answer before.es st other is all.0,
+  blind_totals st other is (play_line (blind_turn before.es turn) before) turns all.1,
+)

@@ -5,24 +5,26 @@ use Rattle.std.specs.Prelude.{IfSome, Result, Ok, Err, ◌⊎◌, ⊤}
 use Rattle.std.specs.Io.KnownBytes.{Appends, Keeps}
 use Rattle.std.proofs.KnownBytes.{Appends-nil, Appends-trans, Appends-kept, Keeps-refl}
 use Rattle.afdx_plan.specs.Config.{Plan}
-use Rattle.tx_script.specs.AtBench.{AtBench}
+use Rattle.tx_script.specs.AtBench.{AtBench, GaveTotals}
 use Rattle.tx_script.specs.Play.{Play, play, start, transcript}
 use Rattle.tx_script.specs.Run.{HasRun, HasBegun, Ends, Leaves}
-use Rattle.tx_script.specs.Running.{Running, Stops, Writes, EndsEarly}
+use Rattle.tx_script.specs.Running.{Running, Halted, Stops, Writes, EndsEarly}
 use Rattle.transcript.specs.Transcript.{streams, ends_writing}
 use Rattle.transcript.specs.declared.run_fault.RunFault.{RunFault}
 use Rattle.transcript.specs.declared.run_fault.RunFault.TheVariants as Fault
 use Rattle.transcript.specs.declared.summary.Summary.{Summary as Sums}
 use Rattle.tx_script.proofs.Blind.{blind_start, blind_finds}
 use Rattle.tx_script.proofs.Finding.{finds_first}
+use Rattle.tx_script.proofs.RunLemmas.{has_begun}
+use Rattle.tx_script.proofs.Told.{totals_told}
 
 -- what is known of the lines that were run is known at the end
-ends_more : (Ran More : List ℕ → ℕ → Sums → Type 0) (Begun : Type 0)
-    → ((rest : List ℕ) (count : ℕ) (sums : Sums) → Ran rest count sums → More rest count sums)
-    → (result : Result Sums RunFault) → Ends Ran Begun result → Ends More Begun result
-ends_more Ran More Begun more (Ok sums) h =
+ends_more : (Ran More : List ℕ → ℕ → Sums → Type 0) (Halts Begun : Type 0)
+    → ((rest : List ℕ) (count : ℕ) (sums : Sums) → Ran rest count sums → More rest count sums) → (Halts → Begun)
+    → (result : Result Sums RunFault) → Ends Ran Halts result → Ends More Begun result
+ends_more Ran More Halts Begun more begun (Ok sums) h =
     record { count = h.count; ran = more [] h.count sums h.ran; few = h.few }
-ends_more Ran More Begun more (Err (Fault.Line number fault)) h = record {
+ends_more Ran More Halts Begun more begun (Err (Fault.Line number fault)) h = record {
   rest = h.rest;
   count = h.count;
   sums = h.sums;
@@ -32,12 +34,12 @@ ends_more Ran More Begun more (Err (Fault.Line number fault)) h = record {
   few = h.few;
   first = h.first;
 }
-ends_more Ran More Begun more (Err Fault.Lines) h =
+ends_more Ran More Halts Begun more begun (Err Fault.Lines) h =
     record { rest = h.rest; sums = h.sums; ran = more h.rest _ h.sums h.ran; some = h.some }
-ends_more Ran More Begun more (Err Fault.Read) h =
+ends_more Ran More Halts Begun more begun (Err Fault.Read) h =
     record { rest = h.rest; count = h.count; sums = h.sums; ran = more h.rest h.count h.sums h.ran; few = h.few }
-ends_more Ran More Begun more (Err Fault.Write) h = tt
-ends_more Ran More Begun more (Err Fault.Memory) h = h
+ends_more Ran More Halts Begun more begun (Err Fault.Write) h = tt
+ends_more Ran More Halts Begun more begun (Err Fault.Memory) h = begun h
 
 -- the streams follow the notes
 has_run : (plan : Plan) (text : List ℕ) (old mid fin : Option (List ℕ)) (bench : AtBench) (rest : List ℕ) (count : ℕ)
@@ -53,6 +55,7 @@ has_run plan text old mid fin bench rest count sums ran wrote =
       lines = ran.lines;
       answers = ran.answers;
       finds = finds_first st bench wrote.hand wrote.first ran.matches;
+      totals = totals_told st bench.tx bench.ports ran.matches.emitter.plan ran.matches.own wrote.totals ran.turns ran.told;
       count_is = ran.count_is;
       sums_are = ran.sums_are;
       wrote =
@@ -66,8 +69,9 @@ ends_written : (plan : Plan) (text : List ℕ) (old mid fin : Option (List ℕ))
     → Stops plan text old mid bench result → Writes bench mid fin
     → Ends (HasRun plan text old fin) (HasBegun plan text old mid) result
 ends_written plan text old mid fin bench result stops wrote =
-    ends_more (Running plan text old mid bench) (HasRun plan text old fin) (HasBegun plan text old mid)
-    (λ rest count sums ran. has_run plan text old mid fin bench rest count sums ran wrote) result stops
+    ends_more (Running plan text old mid bench) (HasRun plan text old fin) (Halted plan text old mid bench)
+    (HasBegun plan text old mid) (λ rest count sums ran. has_run plan text old mid fin bench rest count sums ran wrote)
+    (λ halted. has_begun plan text old mid bench halted wrote.totals) result stops
 
 -- nothing more was written
 begun_kept : (plan : Plan) (text : List ℕ) (old mid fin : Option (List ℕ)) → HasBegun plan text old mid
@@ -80,6 +84,7 @@ begun_kept plan text old mid fin b kept = record {
   lines = b.lines;
   answers = b.answers;
   finds = b.finds;
+  totals = b.totals;
   begins = b.begins;
   wrote = Appends-kept old mid fin b.written b.wrote kept;
 }
@@ -93,12 +98,12 @@ told_or_write plan text old mid fin bench fault told leaves (inr (is, wrote)) = 
 
 -- nothing more is written after this fault
 pub ends_silent : (bench : AtBench) (bytes : Option (List ℕ)) (fault : RunFault) → ends_writing fault ≡ true
-    → EndsEarly fault bench bytes bytes fault
-ends_silent bench bytes Fault.Memory ends = (refl, Keeps-refl bytes)
-ends_silent bench bytes Fault.Write ends = refl
-ends_silent bench bytes (Fault.Line number fault) ends = absurd (false≢true ends)
-ends_silent bench bytes Fault.Lines ends = absurd (false≢true ends)
-ends_silent bench bytes Fault.Read ends = absurd (false≢true ends)
+    → GaveTotals bench.tx bench.ports → EndsEarly fault bench bytes bytes fault
+ends_silent bench bytes Fault.Memory ends gave = (refl, Keeps-refl bytes, gave)
+ends_silent bench bytes Fault.Write ends gave = refl
+ends_silent bench bytes (Fault.Line number fault) ends gave = absurd (false≢true ends)
+ends_silent bench bytes Fault.Lines ends gave = absurd (false≢true ends)
+ends_silent bench bytes Fault.Read ends gave = absurd (false≢true ends)
 
 -- the streams were written after this fault
 pub ends_told : (bench : AtBench) (old new : Option (List ℕ)) (fault : RunFault) → ends_writing fault ≡ false
@@ -122,8 +127,8 @@ ends_failed bench old new Fault.Read goes = inl refl
 early : (plan : Plan) (text : List ℕ) (old mid fin : Option (List ℕ)) (bench : AtBench) (fault told : RunFault)
     → Stops plan text old mid bench (Err fault) → EndsEarly fault bench mid fin told
     → Leaves plan text old fin (Err told)
-early plan text old mid fin bench Fault.Memory told stops (is, kept) =
-    rw is (begun_kept plan text old mid fin stops kept)
+early plan text old mid fin bench Fault.Memory told stops (is, kept, gave) =
+    rw is (begun_kept plan text old mid fin (has_begun plan text old mid bench stops gave) kept)
 early plan text old mid fin bench Fault.Write told stops is = rw is tt
 early plan text old mid fin bench (Fault.Line number fault) told stops w =
     told_or_write plan text old mid fin bench (Fault.Line number fault) told
@@ -181,6 +186,7 @@ leaves_none plan (Some text) old = record {
   lines = refl;
   answers = tt;
   finds = blind_finds (start plan) (start plan) (blind_start plan);
+  totals = tt;
   begins = refl;
   wrote = Appends-nil old;
 }

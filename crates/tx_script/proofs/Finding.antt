@@ -30,6 +30,7 @@ use Rattle.tx_script.specs.EndSystem.{Progress}
 use Rattle.tx_script.specs.Matching.{IsPlannedSub, IsPlannedLink}
 use Rattle.afdx_legal.specs.Allowed.{messages_of}
 use Rattle.tx_script.specs.Play.{Play, FindsFirst, found_beside}
+use Rattle.tx_script.specs.Totals.{is_on}
 use Rattle.tx_script.proofs.SubPorts.{IsPassing, filter_at, filter_from}
 
 -- the plan of a port behind the last
@@ -72,11 +73,11 @@ all_first {X} P (x ∷ xs) ys h = each (all_first P xs ys (λ j e less. h (suc j
     each rest (suc k) d lt = rest k d (omega arith)
 
 -- the link of a port of a valid plan
-record HasOwnLink (plan : Plan) (port : PortPlan) : Type 0 where
-  within : link_place plan port < length plan.links
-  over : SendsOver port (link_plan_at plan.links (link_place plan port))
+pub record HasOwnLink (plan : Plan) (port : PortPlan) : Type 0 where
+  pub within : link_place plan port < length plan.links
+  pub over : SendsOver port (link_plan_at plan.links (link_place plan port))
 
-own_link : (plan : Plan) (port : PortPlan) → IsPlan plan → HasLink plan.links port → HasOwnLink plan port
+pub own_link : (plan : Plan) (port : PortPlan) → IsPlan plan → HasLink plan.links port → HasOwnLink plan port
 own_link plan port valid has = by (position (λ (link : LinkPlan). link.id.0 == port.vl.0) plan.links) refl
   where
     by : (place : Option ℕ) → position (λ (link : LinkPlan). link.id.0 == port.vl.0) plan.links ≡ place → HasOwnLink plan port
@@ -117,6 +118,18 @@ known_at tx drain ports k s g = ⊎_elim
     ))
     (cases_lt k (length tx.links))
 
+-- A port that was gathered is the one at its place.
+pub own_port : (tx drain : Tx) (ports : List PortView) (place : ℕ) (d : PortView) → IsAtHand tx ports
+    → place < length tx.plan.ports → (part : HasOwnPart drain ports place) → get_or ports place d ≡ part.port
+own_port tx drain ports place d h lt part =
+    let stands : (get_or ports part.inside.0 part.port).place ≡ part.inside.0 =
+    h.placed part.inside.0 part.port part.inside.1 in
+    let here : part.inside.0 ≡ place =
+    sym stands ∙ ap (λ (p : PortView). p.place) part.inside.2 ∙ part.at in
+    let inside : place < length ports = let many = h.many in omega arith in
+    get_or_default ports place d part.port inside
+    ∙ ap (λ (k : ℕ). get_or ports k part.port) (sym here) ∙ part.inside.2
+
 -- What queues gave is the first of what their ports sent, where the ports are gathered.
 pub gave_first : (tx drain : Tx) (ports : List PortView) → IsAtHand tx ports → IsGatheredTx tx ports drain
     → GaveFirst tx ports
@@ -141,14 +154,7 @@ gave_first tx drain ports h g = record { own = own; first = first }
         ≡ part_of (index_of tx.plan.ports place) (taken_of (held_for tx (port_plan_at tx.plan.ports place)).seen) ++ more)
     first place d lt =
         let part : HasOwnPart drain ports place = g.own place lt in
-        let stands : (get_or ports part.inside.0 part.port).place ≡ part.inside.0 =
-        h.placed part.inside.0 part.port part.inside.1 in
-        let here : part.inside.0 ≡ place =
-        sym stands ∙ ap (λ (p : PortView). p.place) part.inside.2 ∙ part.at in
-        let inside : place < length ports = let many = h.many in omega arith in
-        let is : get_or ports place d ≡ part.port =
-        get_or_default ports place d part.port inside
-        ∙ ap (λ (k : ℕ). get_or ports k part.port) (sym here) ∙ part.inside.2 in
+        let is : get_or ports place d ≡ part.port = own_port tx drain ports place d h lt part in
         let known = known_at tx drain ports (link_place tx.plan (port_plan_at tx.plan.ports place)) (port_plan_at tx.plan.ports place).sub g in (
           part_of (index_of tx.plan.ports place) known.0,
           ap (λ (p : PortView). p.sender.own) is ∙ sym part.part
@@ -180,10 +186,6 @@ messages_part senders port i is apart (item ∷ items) below =
         ∙ sym (eq-eqb item.0 i e))
         (λ (ne : item.0 ≢ i). ne_eqb _ _ (λ e. ne (apart item.0 inside e)) ∙ sym (ne_eqb item.0 i ne))
         (cases_eq item.0 i)
-
--- the ports of a sub-VL
-abbrev is_on : ℕ → ℕ → PortPlan → Bool
-is_on vl sub port = nat_eq port.vl.0 vl && nat_eq port.sub sub
 
 -- a port is one of its sub-VL
 on_own : (port : PortPlan) → is_on port.vl.0 port.sub port ≡ true

@@ -8,3 +8,7 @@ mod AtHand
 mod Blind
 mod SubPorts
 mod Finding
+mod Told
+mod Totals
+mod KeptTotals
+mod Closing

@@ -135,6 +135,7 @@ send_taken accepted es tx ports id place d new bytes h found lt may accepts m = 
   answer = takes;
   may = tt;
   is = sym outcome;
+  told = tt;
   matches = record {
     emitter = m.emitter;
     own = subst (λ (more : Messages). HaveSent more (set ports place new)) (sym more_accepted)
@@ -167,6 +168,7 @@ refused_by accepted es bench id bytes answer why is m = record {
   answer = answer;
   may = tt;
   is = sym is;
+  told = tt;
   matches = subst (λ (same : Messages). Matches same es bench)
       (sym (ap (λ (o : Outcome). accepted_with (place_of es.plan id) bytes o accepted) is
       ∙ not_taken (place_of es.plan id) bytes why accepted)) m;
@@ -245,6 +247,7 @@ sends_same old new bytes Became.Accepted h =
     (ap (λ (s : SenderView). s.calls) sender)
 sends_same old new bytes (Became.Refused refusal) h = (unsent old new (length bytes) h.why h.some h.refuses).same
 sends_same old new bytes (Became.Released frames) h = absurd h
+sends_same old new bytes (Became.Closed total) h = absurd h
 
 -- It asked once more at most.
 pub sends_asks : (old new : PortView) (bytes : List ℕ) (outcome : Outcome) → Sends old bytes new outcome
@@ -254,6 +257,7 @@ sends_asks old new bytes Became.Accepted h =
     let more : new.sender.asks ≡ old.sender.asks + 1 = ap (λ (s : SenderView). s.asks) h.1.0.1.1 in omega arith
 sends_asks old new bytes (Became.Refused refusal) h = (unsent old new (length bytes) h.why h.some h.refuses).asks
 sends_asks old new bytes (Became.Released frames) h = absurd h
+sends_asks old new bytes (Became.Closed total) h = absurd h
 
 -- A message for the port at a place.
 pub sends_obeys : (accepted : Messages) (es : EndSystem) (tx : Tx) (ports : List PortView) (id place : ℕ) (d new : PortView)
@@ -266,3 +270,4 @@ sends_obeys accepted es tx ports id place d new bytes Became.Accepted h found lt
 sends_obeys accepted es tx ports id place d new bytes (Became.Refused refusal) h found lt sends m =
     rw sends.named (send_refused accepted es tx ports id place d new bytes sends.why h found lt sends.some sends.refuses m)
 sends_obeys accepted es tx ports id place d new bytes (Became.Released frames) h found lt sends m = absurd sends
+sends_obeys accepted es tx ports id place d new bytes (Became.Closed total) h found lt sends m = absurd sends

@@ -1,8 +1,8 @@
 -- An emitter with its ports, as a run of a script has them at hand.
-use Rattle.std.specs.Prelude.{ℕ, ◌≡◌, ◌≢◌, ◌≤◌, ◌<◌, ◌++◌, List, length, slice_index_or, All}
+use Rattle.std.specs.Prelude.{ℕ, ◌≡◌, ◌≢◌, ◌≤◌, ◌<◌, ◌++◌, List, [], ◌∷◌, length, slice_index_or, All, Option, Some, None}
 use Rattle.afdx_plan.specs.Config.{Plan, IsPlan, port_plan_at}
 use Rattle.subvl_queue.specs.Messages.{most_calls, part_of}
-use Rattle.vl_link.specs.Seen.{taken_of, ports_of}
+use Rattle.vl_link.specs.Seen.{Seen, receiving, gathered, taken_of, ports_of}
 use Rattle.vl_link.specs.Links.{held_at, link_at}
 use Rattle.afdx_tx.specs.Emitter.{Tx, IsFreshTx}
 use Rattle.afdx_tx.specs.Gathering.{held_for}
@@ -11,8 +11,12 @@ use Rattle.afdx_tx.specs.declared.fault.Refusal.{Refusal as SendRefusal}
 use Rattle.afdx_tx.specs.declared.fault.Refusal.TheVariants as Why
 use Rattle.tx_script.specs.EndSystem.{EndSystem}
 use Rattle.tx_script.specs.Matching.{MatchesTx}
-use Rattle.tx_script.specs.Play.{Answer, IsAnswer, Messages, outcome_of, after, accepted_after, script_refusal}
+use Rattle.tx_script.specs.Play.{Answer, AnsweredLine, IsAnswer, Messages, outcome_of, after, accepted_after, script_refusal, told_by}
+use Rattle.afdx_tx.specs.Closing.{IsSubAt}
+use Rattle.tx_script.specs.Totals.{accepted_on}
+use Rattle.script_lines.specs.Meaning.{meaning_of}
 use Rattle.script_lines.specs.declared.line.Line.{Line}
+use Rattle.script_lines.specs.declared.line.Line.TheVariants.{Close}
 use Rattle.transcript.specs.declared.outcome.Outcome.{Outcome}
 use Rattle.transcript.specs.declared.outcome.Outcome.TheVariants as Became
 use Rattle.transcript.specs.declared.refusal.Refusal.{Refusal}
@@ -64,12 +68,39 @@ Sends old bytes new Became.Accepted = MaySend old.plan (length bytes) × Accepts
 Sends old bytes new (Became.Refused refusal) = RefusesAs old (length bytes) refusal new
 Sends old bytes new outcome = ⊥
 
+-- the total with which a queue was closed
+abbrev pub total_of : Seen → Option ℕ
+total_of (receiving r) = r.total
+total_of (gathered g) = None
+
+-- the total of the sub-VL of this index, of the link at a place
+abbrev pub total_at : Tx → (place sub : ℕ) → Option ℕ
+total_at tx place sub = total_of (held_at (link_at tx.links place).subs sub).seen
+
+-- the plan is the same, and what was closed stays closed with the same total
+pub record KeepsTotals (old new : Tx) : Type 0 where
+  pub plan : new.plan ≡ old.plan
+  pub totals : (place sub total : ℕ) → total_at old place sub ≡ Some total
+      → total_at new place sub ≡ Some total
+
+-- the total that a close told is that of its sub-VL's queue
+abbrev pub IsTold : Tx → Line → Answer → Type 0
+IsTold tx (Close vl sub) answer = (place : ℕ) → IsSubAt tx.plan vl sub place
+    → total_at tx place sub ≡ Some (told_by answer)
+IsTold tx _ answer = Unit {0}
+
+-- the same of the closes among some lines
+abbrev pub AreTold : Tx → List AnsweredLine → Type 0
+AreTold tx [] = Unit {0}
+AreTold tx (turn ∷ turns) = IsTold tx (meaning_of turn.line) turn.answer × AreTold tx turns
+
 -- a line was obeyed, at a bench that matches these
 pub record Obeys (line : Line) (accepted : Messages) (es : EndSystem) (bench : AtBench)
     (outcome : Outcome) : Type 0 where
   pub answer : Answer
   pub may : IsAnswer es line answer
   pub is : outcome ≡ outcome_of es line answer
+  pub told : IsTold bench.tx line answer
   pub matches : Matches (accepted_after es line answer accepted) (after es line answer) bench
 
 -- the same, whatever the bench matched before
@@ -88,3 +119,9 @@ pub record GaveFirst (tx : Tx) (ports : List PortView) : Type 0 where
       × ((slice_index_or ports place d).sender.own
       ≡ part_of (index_of tx.plan.ports place)
       (taken_of (held_for tx (port_plan_at tx.plan.ports place)).seen) ++ more)
+
+-- the total with which a sub-VL was closed is how many messages its ports sent that were accepted
+abbrev pub GaveTotals : Tx → List PortView → Type 0
+GaveTotals tx ports = (accepted : Messages) → HaveSent accepted ports
+    → (vl sub place total : ℕ) → IsSubAt tx.plan vl sub place → total_at tx place sub ≡ Some total
+    → total ≡ accepted_on tx.plan accepted vl sub

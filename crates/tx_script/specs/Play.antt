@@ -2,6 +2,7 @@
 use Rattle.std.specs.Prelude.{◌≡◌, ◌<◌, ◌≤◌, ℕ, ◌+◌, ◌-◌, nat_lt, nat_eq, ◌==◌, if◌then◌else◌, List, []}
 use Rattle.std.specs.Prelude.{◌∷◌, ◌++◌, length, position, All, Contains, Option, Some, None}
 use Rattle.afdx_plan.specs.Config.{Plan, port_plan_at, link_plan_at}
+use Rattle.afdx_plan.specs.declared.link_plan.LinkPlan.{LinkPlan}
 use Rattle.afdx_plan.specs.declared.port_plan.PortPlan.{PortPlan}
 use Rattle.afdx_frame.specs.Fragments.{Sent}
 use Rattle.afdx_tx.specs.declared.fault.Refusal.{Refusal as SendRefusal}
@@ -15,31 +16,39 @@ use Rattle.script_lines.specs.Meaning.{meaning_of}
 use Rattle.transcript.specs.Summary.{counted}
 use Rattle.transcript.specs.Transcript.{note_of, streams}
 use Rattle.script_lines.specs.declared.line.Line.{Line}
-use Rattle.script_lines.specs.declared.line.Line.TheVariants.{Send, At, Nothing}
+use Rattle.script_lines.specs.declared.line.Line.TheVariants.{Send, At, Close, Nothing}
 use Rattle.transcript.specs.declared.refusal.Refusal.{Refusal}
-use Rattle.transcript.specs.declared.refusal.Refusal.TheVariants.{Empty, TooLong, Closed, Full, NoPort, TimeBack}
+use Rattle.transcript.specs.declared.refusal.Refusal.TheVariants.{Empty, TooLong, Closed, Full, NoPort, NoSub, TimeBack}
 use Rattle.transcript.specs.declared.outcome.Outcome.{Outcome}
 use Rattle.transcript.specs.declared.outcome.Outcome.TheVariants as Became
 use Rattle.transcript.specs.declared.summary.Summary.{Summary as Sums}
 
--- a queue takes a message, is closed or is full, or a poll leaves the end system so
+-- a queue takes a message, is closed or is full, a poll leaves the end system so, or a close tells its
+-- total
 pub data Answer : Type 0 where
   takes : Answer
   closes : Answer
   fills : Answer
   leaves : EndSystem → Answer
+  tells : ℕ → Answer
 
 -- the end system that a poll leaves; the same where the answer is no poll's
 abbrev pub left_by : EndSystem → Answer → EndSystem
 left_by es (leaves new) = new
 left_by es _ = es
 
+-- the total that a close tells; 0 where the answer is no close's
+abbrev pub told_by : Answer → ℕ
+told_by (tells total) = total
+told_by _ = 0
+
 -- a poll at this moment leaves the end system so
 abbrev pub IsPolled : ℕ → EndSystem → Answer → Type 0
 IsPolled now es (leaves new) = HasPolled now es new
 IsPolled now es _ = ⊥
 
--- What may be answered to a line. A queue may take a message, be closed or be full.
+-- What may be answered to a line. A queue may take a message, be closed or be full, and a close may
+-- tell any total: what the totals are is known at the end of a run.
 abbrev pub IsAnswer : EndSystem → Line → Answer → Type 0
 IsAnswer es (At moment) answer = es.moment ≤ moment → IsPolled moment es answer
 IsAnswer es _ answer = Unit {0}
@@ -71,12 +80,24 @@ sent_to plan None bytes answer = Became.Refused NoPort
 sent_to plan (Some place) bytes answer =
     passed_on (length_refusal (port_plan_at plan.ports place) (length bytes)) answer
 
+-- the place of a link in the plan, by its identifier
+abbrev pub link_of : Plan → ℕ → Option ℕ
+link_of plan id = position (λ (link : LinkPlan). link.id.0 == id) plan.links
+
+-- what becomes of the close of a sub-VL of the link at a place
+abbrev pub closed_at : Plan → Option ℕ → ℕ → Answer → Outcome
+closed_at plan None sub answer = Became.Refused NoSub
+closed_at plan (Some place) sub answer =
+    if nat_lt sub (link_plan_at plan.links place).sub_vls then Became.Closed (told_by answer)
+    else Became.Refused NoSub
+
 -- what becomes of a line
 abbrev pub outcome_of : EndSystem → Line → Answer → Outcome
 outcome_of es (Send port bytes) answer = sent_to es.plan (place_of es.plan port) bytes answer
 outcome_of es (At moment) answer =
     if nat_lt moment es.moment then Became.Refused TimeBack
     else Became.Released (length (left_by es answer).log - length es.log)
+outcome_of es (Close vl sub) answer = closed_at es.plan (link_of es.plan vl) sub answer
 outcome_of es Nothing answer = Became.Quiet
 
 -- the end system after it

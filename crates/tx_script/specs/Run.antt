@@ -5,6 +5,7 @@ use Rattle.afdx_plan.specs.Config.{Plan}
 use Rattle.script_lines.specs.Faults.{IsFirstFault, IsFaultless}
 use Rattle.script_lines.specs.Lines.{first_line, after_feed}
 use Rattle.tx_script.specs.Play.{AnsweredLine, play, start, transcript, AreAnswers, FindsFirst}
+use Rattle.tx_script.specs.Totals.{AreTotals}
 use Rattle.script_lines.specs.declared.line_fault.LineFault.{LineFault}
 use Rattle.transcript.specs.declared.run_fault.RunFault.{RunFault}
 use Rattle.transcript.specs.declared.run_fault.RunFault.TheVariants.{Line, Lines, Read, Write, Memory}
@@ -30,6 +31,7 @@ pub record HasRun (plan : Plan) (text : List ℕ) (old new : Option (List ℕ)) 
   pub lines : LinesThen text turns rest
   pub answers : AreAnswers (start plan) turns
   pub finds : FindsFirst (play (start plan) turns)
+  pub totals : AreTotals (play (start plan) turns) turns
   pub count_is : (play (start plan) turns).count ≡ count
   pub sums_are : (play (start plan) turns).summary ≡ sums
   pub wrote : Appends old new (transcript (play (start plan) turns))
@@ -43,6 +45,7 @@ pub record HasBegun (plan : Plan) (text : List ℕ) (old new : Option (List ℕ)
   pub lines : LinesThen text turns rest
   pub answers : AreAnswers (start plan) turns
   pub finds : FindsFirst (play (start plan) turns)
+  pub totals : AreTotals (play (start plan) turns) turns
   pub begins : transcript (play (start plan) turns) ≡ written ++ unwritten
   pub wrote : Appends old new written
 

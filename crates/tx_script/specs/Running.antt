@@ -2,12 +2,12 @@
 use Rattle.std.specs.Prelude.{◌≡◌, ℕ, ◌<◌, List, [], length, Option, Some, None, Result, Ok, Err, ⊤, ◌⊎◌}
 use Rattle.std.specs.Io.KnownBytes.{Appends, Keeps}
 use Rattle.afdx_plan.specs.Config.{Plan}
-use Rattle.tx_script.specs.AtBench.{AtBench, IsAtHand, Matches, GaveFirst}
+use Rattle.tx_script.specs.AtBench.{AtBench, IsAtHand, Matches, HaveSent, AreTold, GaveFirst, GaveTotals}
 use Rattle.script_lines.specs.Faults.{IsFirstFault}
 use Rattle.script_lines.specs.Lines.{first_line, after_feed}
 use Rattle.script_lines.specs.Meaning.{meaning_of}
 use Rattle.tx_script.specs.Play.{AnsweredLine, play, start, AreAnswers}
-use Rattle.tx_script.specs.Run.{BeginsWith, LinesThen, HasBegun, Ends}
+use Rattle.tx_script.specs.Run.{BeginsWith, LinesThen, Ends}
 use Rattle.transcript.specs.Transcript.{streams}
 use Rattle.script_lines.specs.declared.line.Line.{Line as Said}
 use Rattle.script_lines.specs.declared.line_fault.LineFault.{LineFault}
@@ -46,28 +46,43 @@ pub record Running (plan : Plan) (text : List ℕ) (old new : Option (List ℕ))
   pub lines : LinesThen text turns rest
   pub answers : AreAnswers (start plan) turns
   pub matches : Matches (play (start plan) turns).accepted (play (start plan) turns).es bench
+  pub told : AreTold bench.tx turns
   pub count_is : (play (start plan) turns).count ≡ count
   pub sums_are : (play (start plan) turns).summary ≡ sums
+  pub wrote : Appends old new (play (start plan) turns).notes
+
+-- Some lines of a text were run, and their notes are written; then memory was refused. The ports sent
+-- what was accepted, and the queues that were closed have the totals that were told.
+pub record Halted (plan : Plan) (text : List ℕ) (old new : Option (List ℕ)) (bench : AtBench) : Type 0 where
+  pub turns : List AnsweredLine
+  pub rest : List ℕ
+  pub lines : LinesThen text turns rest
+  pub answers : AreAnswers (start plan) turns
+  pub planned : bench.tx.plan ≡ (play (start plan) turns).es.plan
+  pub own : HaveSent (play (start plan) turns).accepted bench.ports
+  pub told : AreTold bench.tx turns
   pub wrote : Appends old new (play (start plan) turns).notes
 
 -- what the lines of a text leave, by their end, whose notes alone are written
 abbrev pub Stops : Plan → List ℕ → (old new : Option (List ℕ)) → AtBench → Result Sums RunFault → Type 0
 Stops plan text old new bench result =
-    Ends (Running plan text old new bench) (HasBegun plan text old new) result
+    Ends (Running plan text old new bench) (Halted plan text old new bench) result
 
 -- what a fault of a line is for the run
 abbrev pub run_fault_of : ℕ → LineFault → RunFault
 run_fault_of line OutOfMemory = Memory
 run_fault_of line fault = Line line fault
 
--- what was handed over at a bench is written, and what was taken is known
+-- what was handed over at a bench is written, and what was taken and the totals are known
 pub record Writes (bench : AtBench) (old new : Option (List ℕ)) : Type 0 where
   pub wrote : Appends old new (streams bench.tx.lines.a bench.tx.lines.b)
   pub hand : IsAtHand bench.tx bench.ports
   pub first : GaveFirst bench.tx bench.ports
+  pub totals : GaveTotals bench.tx bench.ports
 
 -- what is written after a fault, and the fault that is told
 abbrev pub EndsEarly : RunFault → AtBench → (old new : Option (List ℕ)) → (told : RunFault) → Type 0
-EndsEarly Memory bench old new told = (told ≡ Memory) × Keeps old new
+EndsEarly Memory bench old new told =
+    (told ≡ Memory) × Keeps old new × GaveTotals bench.tx bench.ports
 EndsEarly Write bench old new told = told ≡ Write
 EndsEarly fault bench old new told = (told ≡ Write) ⊎ ((told ≡ fault) × Writes bench old new)

@@ -5,11 +5,11 @@ ghost use Rattle.script_lines.specs.declared.line.Line.TheVariants as Said;
 ghost use Rattle.transcript.specs.declared.run_fault.RunFault.TheVariants as RunFault;
 ghost use Rattle.tx_script.specs.declared.obey_lines.TheConstants.{LINES_LIMIT};
 ghost use Rattle.subvl_queue.specs.Messages.{most_calls};
-ghost use Rattle.tx_script.specs.AtBench.{ObeysFor, HaveAsked, Sends};
+ghost use Rattle.tx_script.specs.AtBench.{ObeysFor, HaveAsked, Sends, KeepsTotals};
 ghost use Rattle.tx_script.specs.Play.{script_refusal};
 ghost use Rattle.transcript.specs.Summary.{HasFew};
 
-use afdx_plan::{Config, PortId};
+use afdx_plan::{Config, PortId, VlId};
 use afdx_tx::{Emitter, TxPort, open_tx};
 use script_lines::{Line, Message};
 use std::alloc::Global;
@@ -37,7 +37,7 @@ impl Model for Bench {
 impl Bench {
     ghost use Rattle.std.specs.Prelude.{◌≡◌, IfOk, IfErr};
     ghost use Rattle.transcript.specs.declared.run_fault.RunFault.TheVariants as RunFault;
-    ghost use Rattle.tx_script.specs.AtBench.{IsAtHand, IsFreshBench, GaveFirst};
+    ghost use Rattle.tx_script.specs.AtBench.{IsAtHand, IsFreshBench, GaveFirst, GaveTotals};
 
     /// A bench at which nothing was done. The only fault is Memory.
     pub fn open(alloc: Global, config: Config) -> Result<Bench, RunFault>
@@ -53,12 +53,14 @@ impl Bench {
     }
 
     /// The two networks, with what was handed to them. All ports are gathered first, which shows
-    /// that what was taken is the first of what they sent.
+    /// that what was taken is the first of what they sent, and that the total of a closed sub-VL is
+    /// how many messages they sent.
     pub fn into_networks(self) -> (FrameLog, FrameLog)
         ensures a { result.0.handed ≡ self.tx.lines.a }
         ensures b { result.1.handed ≡ self.tx.lines.b }
         ensures hand { IsAtHand self.tx self.ports }
         ensures first { GaveFirst self.tx self.ports }
+        ensures totals { GaveTotals self.tx self.ports }
     {
         let Bench { emitter, ports } = self;
         match emitter.gather(ports) {
@@ -100,6 +102,7 @@ fn obey_send(bench: &mut Bench, port: u16, bytes: Message) -> Outcome
     ensures ok { ObeysFor (Said.Send port bytes) bench.old bench.new result }
     ensures few { HasFew result }
     ensures asked { (count : ℕ) → HaveAsked count bench.old.ports → HaveAsked (count + 1) bench.new.ports }
+    ensures kept { KeepsTotals bench.old.tx bench.new.tx }
 {
     match bench.emitter.config().port_index(PortId(port)) {
         Some(place) => send_message(&mut bench.ports[place], bytes),
@@ -113,6 +116,7 @@ fn obey_at(bench: &mut Bench, moment: u64) -> Result<Outcome, RunFault>
     ensures few { IfOk result (λ outcome. HasFew outcome) }
     ensures err { IfErr result (λ fault. fault ≡ RunFault.Memory) }
     ensures ports { bench.new.ports ≡ bench.old.ports }
+    ensures kept { KeepsTotals bench.old.tx bench.new.tx }
 {
     if moment < bench.emitter.now() {
         return Ok(Outcome::Refused(Refusal::TimeBack));
@@ -129,17 +133,34 @@ fn obey_at(bench: &mut Bench, moment: u64) -> Result<Outcome, RunFault>
     }
 }
 
-/// Does what a line says. The only fault is Memory, and then nothing is said of the emitter.
+/// The close of a sub-VL, by the identifier of its link and its index.
+fn obey_close(bench: &mut Bench, vl: u16, sub: u8) -> Outcome
+    ensures ok { ObeysFor (Said.Close vl sub) bench.old bench.new result }
+    ensures few { HasFew result }
+    ensures ports { bench.new.ports ≡ bench.old.ports }
+    ensures kept { KeepsTotals bench.old.tx bench.new.tx }
+{
+    match bench.emitter.close(VlId(vl), sub) {
+        Ok(total) => Outcome::Closed(total),
+        Err(_) => Outcome::Refused(Refusal::NoSub),
+    }
+}
+
+/// Does what a line says. The only fault is Memory, and then nothing more is said of the emitter than
+/// that closed sub-VLs stay closed, and of the ports that they sent nothing more.
 pub fn obey(bench: &mut Bench, line: Line) -> Result<Outcome, RunFault>
     requires { HaveAsked LINES_LIMIT bench.old.ports }
     ensures ok { IfOk result (λ outcome. ObeysFor line bench.old bench.new outcome) }
     ensures few { IfOk result (λ outcome. HasFew outcome) }
     ensures err { IfErr result (λ fault. fault ≡ RunFault.Memory) }
+    ensures unsent { IfErr result (λ _. bench.new.ports ≡ bench.old.ports) }
     ensures asked { (count : ℕ) → HaveAsked count bench.old.ports → HaveAsked (count + 1) bench.new.ports }
+    ensures kept { KeepsTotals bench.old.tx bench.new.tx }
 {
     match line {
         Line::Send { port, bytes } => Ok(obey_send(bench, port, bytes)),
         Line::At(moment) => obey_at(bench, moment),
+        Line::Close { vl, sub } => Ok(obey_close(bench, vl, sub)),
         Line::Nothing => Ok(Outcome::Quiet),
     }
 }

@@ -1,7 +1,7 @@
 //! Running a script.
 ghost use Rattle.std.specs.Prelude.{◌≡◌, IfSome, IfErr, OnOk};
 ghost use Rattle.std.specs.Io.KnownBytes.{Appends};
-ghost use Rattle.tx_script.specs.AtBench.{IsAtHand, GaveFirst};
+ghost use Rattle.tx_script.specs.AtBench.{IsAtHand, GaveFirst, GaveTotals};
 ghost use Rattle.tx_script.specs.Run.{Leaves};
 ghost use Rattle.tx_script.specs.Running.{EndsEarly};
 ghost use Rattle.transcript.specs.Transcript.{streams};
@@ -21,16 +21,19 @@ fn write_handed<W: Write>(writer: &mut W, bench: Bench) -> Result<(), RunFault>
     ensures err { IfErr result (λ fault. fault ≡ RunFault.Write) }
     ensures hand { IsAtHand bench.tx bench.ports }
     ensures first { GaveFirst bench.tx bench.ports }
+    ensures totals { GaveTotals bench.tx bench.ports }
 {
     let (a, b) = bench.into_networks();
     write_streams(writer, &a, &b)
 }
 
-/// Writes the streams after a fault, unless it ends the writing. The fault of the run.
+/// Writes the streams after a fault, unless it ends the writing. The fault of the run. The ports are
+/// gathered whatever the fault, since the totals that were noted are known by that alone.
 fn end_early<W: Write>(writer: &mut W, bench: Bench, fault: RunFault) -> RunFault
     ensures { EndsEarly fault bench (W.contents writer.old) (W.contents writer.new) result }
 {
     if fault.ends_writing() {
+        let _networks = bench.into_networks();
         return fault;
     }
     match write_handed(writer, bench) {
@@ -40,8 +43,8 @@ fn end_early<W: Write>(writer: &mut W, bench: Bench, fault: RunFault) -> RunFaul
 }
 
 /// Runs a script over a configuration and two networks in memory, and writes its transcript: the
-/// notes on lines that were refused, in their order, then the frames that were handed to network A,
-/// then those handed to B. A script has at most 1,000,000 lines of at most 20,000 bytes each.
+/// notes on lines that were refused or closed a sub-VL, in their order, then the frames that were
+/// handed to network A, then those handed to B. A script has at most 1,000,000 lines of at most 20,000 bytes each.
 ///
 /// A line's fault, `Lines` and `Read` end the run there: the lines before it were run, and their
 /// notes and frames are written. After `Write`, when the writer failed, and after `Memory` nothing

@@ -3,12 +3,14 @@ use Rattle.std.proofs.lemmas.Bool.{le-ltb}
 use Rattle.redundant_mux.specs.Lines.{is_alive, log}
 use Rattle.tx_script.specs.EndSystem.{EndSystem, HasPolled}
 use Rattle.tx_script.specs.Play.{Messages, leaves}
-use Rattle.tx_script.specs.AtBench.{AtBench, Matches, Obeys}
+use Rattle.tx_script.specs.AtBench.{AtBench, Matches, Obeys, KeepsTotals}
 use Rattle.script_lines.specs.declared.line.Line.TheVariants.{At}
 use Rattle.transcript.specs.declared.outcome.Outcome.TheVariants.{Released, Refused}
 use Rattle.transcript.specs.declared.refusal.Refusal.TheVariants.{TimeBack}
 use Rattle.tx_script.proofs.Polling.{left_at, polled_matches, left_matches}
 use Rattle.tx_script.proofs.Matched.{released_many}
+use Rattle.tx_script.proofs.KeptTotals.{polled_totals}
+use Rattle.tx_script.proofs.Told.{keeps_same}
 use Rattle.tx_script.proofs.bench.obey_at.Goals as goal
 use Rattle.tx_script.proofs.bench.obey_at.Goals.{in-Ok+then-report+then-report-2, in-Ok+else-report, else-report-via-then-report+else-report-2}
 use Rattle.tx_script.proofs.bench.obey_at.Goals.{else-report-via-else-report, in-Err}
@@ -21,6 +23,7 @@ poll_obeys : (es : EndSystem) (new : AtBench) (moment released : ℕ) (accepted 
 poll_obeys es new moment released accepted on polls many m = record {
   answer = leaves (left_at es moment new.tx);
   may = λ later. polls;
+  told = tt;
   is = ap Released many
       ∙ sym (ap (λ (b : Bool). if b then Refused TimeBack else Released (length (log new.tx.lines) - length es.log)) on);
   matches = subst (λ (e : EndSystem). Matches accepted e new)
@@ -53,3 +56,13 @@ returns-clause-ok c = elim c.match-poll.branch [
   ]
   | in-Err w ↦ rw w.result-is tt
 ]
+
+pub returns-clause-kept : goal.returns-clause-kept
+returns-clause-kept c = subst (λ (bench : AtBench). KeepsTotals bench.tx c.poll.new.self) c.bench.view_is
+    (elim c.match-poll.branch [
+      | in-Ok+then-report+then-report-2 w ↦ polled_totals c.bench.inside.emitter c.poll.new.self c.args.moment
+          w.in-Ok.ensures.plan w.in-Ok.ensures.run w.in-Ok.ensures.cut_short
+      | in-Ok+else-report w ↦ polled_totals c.bench.inside.emitter c.poll.new.self c.args.moment
+          w.in-Ok.ensures.plan w.in-Ok.ensures.run w.in-Ok.ensures.cut_short
+      | in-Err w ↦ keeps_same c.bench.inside.emitter c.poll.new.self w.in-Err.ensures.unchanged
+    ])

@@ -4,12 +4,14 @@ use Rattle.tx_script.proofs.script.end_early.Goals as goal
 
 pub returns-then-ends_writing : goal.returns-then-ends_writing
 returns-then-ends_writing g c = ends_silent _ _ _ (sym c.ends_writing.ensures ∙ c.if-ends_writing.true)
+    c.into_networks-networks.ensures.totals
 
 pub returns-in-Ok : goal.returns-in-Ok
 returns-in-Ok g c = ends_told _ _ _ c.args.fault (sym c.ends_writing.ensures ∙ c.if-ends_writing.false) (record {
   wrote = c.in-Ok.ensures.ok;
   hand = c.in-Ok.ensures.hand;
   first = c.in-Ok.ensures.first;
+  totals = c.in-Ok.ensures.totals;
 })
 
 pub returns-in-Err : goal.returns-in-Err

@@ -18,6 +18,7 @@ returns-in-Ok-obey_lines g c =
       wrote = (c.in_ok-write_handed-in-Ok-obey_lines).ensures.ok;
       hand = (c.in_ok-write_handed-in-Ok-obey_lines).ensures.hand;
       first = (c.in_ok-write_handed-in-Ok-obey_lines).ensures.first;
+      totals = (c.in_ok-write_handed-in-Ok-obey_lines).ensures.totals;
     })
 
 pub returns : goal.returns

@@ -1,0 +1,205 @@
+-- A sub-VL is closed: the end system that matches stays the same.
+use Rattle.std.proofs.Common.{ℕ, ◌≡◌, ◌≢◌, ◌<◌, ◌≤◌, ◌==◌, List, length, set, get_or, Bool, true, false, if◌then◌else◌, nat_lt, arith, refl, ap, ◌∙◌, sym, subst, inl, inr, ⊎_elim, Option, Some, None}
+use Rattle.std.specs.Prelude.{◌⊎◌, IfSome, position}
+use Rattle.std.proofs.lemmas.Bool.{cases_eq, cases_lt, lt-ltb, le-ltb}
+use Rattle.std.proofs.lemmas.List.{get_or-set_same, get_or-set_other, get_or_past}
+use Rattle.afdx_plan.specs.Config.{Plan, IsPlan, link_plan_at}
+use Rattle.afdx_plan.specs.declared.identifiers.VlId.{VlId}
+use Rattle.afdx_plan.specs.declared.link_plan.LinkPlan.{LinkPlan}
+use Rattle.afdx_plan.specs.declared.port_plan.PortPlan.{PortPlan}
+use Rattle.redundant_mux.specs.Lines.{Lines}
+use Rattle.vl_link.specs.Closing.{Closes, ClosesSub, ClosesLink}
+use Rattle.vl_link.specs.Links.{Held, LinkState, held_at, link_at, no_link, nothing_held, sent_by}
+use Rattle.vl_link.specs.Seen.{Seen, receiving, gathered, ports_of, taken_of}
+use Rattle.vl_link.proofs.Closing.{closes_ports, closes_taken}
+use Rattle.afdx_tx.specs.Closing.{IsSubAt, LacksSub, ClosesTx}
+use Rattle.afdx_tx.specs.Emitter.{Tx, queues_in, ports_of_sub}
+use Rattle.afdx_tx.specs.Ports.{PortView, AreOpenedWith, BelongsTo}
+use Rattle.afdx_tx.proofs.PortLink.{none_has, found_at}
+use Rattle.afdx_tx.proofs.ClosedEmitter.{KeepsLink, KeepLinks, closes_links}
+use Rattle.script_lines.specs.declared.line.Line.TheVariants.{Close}
+use Rattle.transcript.specs.declared.outcome.Outcome.{Outcome}
+use Rattle.transcript.specs.declared.outcome.Outcome.TheVariants as Became
+use Rattle.transcript.specs.declared.refusal.Refusal.TheVariants.{NoSub}
+use Rattle.tx_script.specs.AtBench.{AtBench, IsAtHand, Matches, Obeys, total_of, total_at, KeepsTotals}
+use Rattle.tx_script.specs.EndSystem.{EndSystem, Progress}
+use Rattle.tx_script.specs.Matching.{IsPlannedSub, IsPlannedLink, progress_of, MatchesLines, MatchesTx}
+use Rattle.tx_script.specs.Play.{Answer, Messages, tells, told_by, fills, closed_at, link_of, outcome_of}
+
+-- a sub-VL is as it was, but for the total of its queue
+record IsShut (old : Held) (new : Held) : Type 0 where
+  same : new ≡ record old { seen = new.seen }
+  ports : ports_of new.seen ≡ ports_of old.seen
+  taken : taken_of new.seen ≡ taken_of old.seen
+  total : (t : ℕ) → total_of old.seen ≡ Some t → total_of new.seen ≡ Some t
+
+shut_here : (held : Held) → IsShut held held
+shut_here held = record { same = refl; ports = refl; taken = refl; total = λ t is. is }
+
+-- a queue that is closed again has the same total
+closed_total : (old : Seen) (total : ℕ) (new : Seen) → Closes old total new → total_of new ≡ Some total
+closed_total (receiving r) total new c = ap total_of c.0
+closed_total (gathered g) total new c = absurd c
+
+closed_again : (old : Seen) (total : ℕ) (new : Seen) (t : ℕ) → Closes old total new → total_of old ≡ Some t → total_of new ≡ Some t
+closed_again (receiving r) total new t c is =
+    let before : total ≡ t = subst (λ (known : Option ℕ). IfSome known (λ n. total ≡ n)) is c.2 in
+    ap total_of c.0 ∙ ap (λ (n : ℕ). Some n) before
+closed_again (gathered g) total new t c is = absurd c
+
+shut_closed : (old : Held) (total : ℕ) (new : Held) → ClosesSub old total new → IsShut old new
+shut_closed old total new c = record {
+  same = c.same;
+  ports = closes_ports old.seen total new.seen c.queue;
+  taken = closes_taken old.seen total new.seen c.queue;
+  total = λ t is. closed_again old.seen total new.seen t c.queue is;
+}
+
+-- the sub-VLs of the link at a place
+links_shut : (old : Tx) (vl sub total : ℕ) (new : Tx) → ClosesTx old vl sub total new → (k s : ℕ)
+    → IsShut (held_at (link_at old.links k).subs s) (held_at (link_at new.links k).subs s)
+links_shut old vl sub total new c k s = ⊎_elim
+    (λ (here : k ≡ c.place). subst (λ (i : ℕ). IsShut (held_at (link_at old.links i).subs s) (held_at (link_at new.links i).subs s))
+    (sym here) (⊎_elim
+    (λ (its : s ≡ sub). subst (λ (i : ℕ). IsShut (held_at (link_at old.links c.place).subs i) (held_at (link_at new.links c.place).subs i))
+    (sym its) (shut_closed _ total _ c.closes.closes))
+    (λ (other : s ≢ sub). subst (IsShut (held_at (link_at old.links c.place).subs s))
+    (sym (ap (λ (link : LinkState). held_at link.subs s) c.closes.same
+    ∙ get_or-set_other (link_at old.links c.place).subs sub s (held_at (link_at new.links c.place).subs sub) nothing_held other))
+    (shut_here (held_at (link_at old.links c.place).subs s)))
+    (cases_eq s sub)))
+    (λ (other : k ≢ c.place). subst (λ (link : LinkState). IsShut (held_at (link_at old.links k).subs s) (held_at link.subs s))
+    (sym (ap (λ (tx : Tx). link_at tx.links k) c.same
+    ∙ get_or-set_other old.links c.place k (link_at new.links c.place) no_link other))
+    (shut_here (held_at (link_at old.links k).subs s)))
+    (cases_eq k c.place)
+
+-- What was closed before keeps its total.
+pub closes_keeps : (old : Tx) (vl sub total : ℕ) (new : Tx) → ClosesTx old vl sub total new → KeepsTotals old new
+closes_keeps old vl sub total new c = record {
+  plan = ap (λ (tx : Tx). tx.plan) c.same;
+  totals = λ k s t is. (links_shut old vl sub total new c k s).total t is;
+}
+
+-- a sub-VL has taken and left the same
+shut_progress : (old new : Held) → IsShut old new → progress_of new ≡ progress_of old
+shut_progress old new h =
+    ap progress_of h.same
+    ∙ ap (λ (items : List (ℕ × List ℕ)). let made : Progress =
+    record { taken = sent_by old.ports items; left = old.left } in made) h.taken
+
+-- a link is still the planned one
+shut_planned : (own : ℕ) (planned : LinkPlan) (ports : List PortPlan) (old new : LinkState) → KeepsLink old new
+    → ((s : ℕ) → IsShut (held_at old.subs s) (held_at new.subs s)) → IsPlannedLink own planned ports old
+    → IsPlannedLink own planned ports new
+shut_planned own planned ports old new keeps shut m = record {
+  plan = ap (λ (link : LinkState). link.plan) keeps.same ∙ m.plan;
+  gap = ap (λ (link : LinkState). link.pace.gap) keeps.same ∙ m.gap;
+  sub_vls = ap (λ (link : LinkState). link.pace.sub_vls) keeps.same ∙ m.sub_vls;
+  count = keeps.count ∙ m.count;
+  each = λ s lt.
+      let before : IsPlannedSub (record { end_system = own; link = planned; sub = s }) (ports_of_sub ports planned.id.0 s)
+      (held_at old.subs s) = m.each s lt in
+      record {
+        of = ap (λ (held : Held). held.of) (shut s).same ∙ before.of;
+        ports = ap (λ (held : Held). held.ports) (shut s).same ∙ before.ports;
+        queue = (shut s).ports ∙ before.queue;
+      };
+}
+
+-- the emitter matches as before
+closes_matches : (es : EndSystem) (old : Tx) (vl sub total : ℕ) (new : Tx) → ClosesTx old vl sub total new → MatchesTx es old
+    → MatchesTx es new
+closes_matches es old vl sub total new c m = record {
+  plan = ap (λ (tx : Tx). tx.plan) c.same ∙ m.plan;
+  count = links.count ∙ m.count;
+  planned = λ k lt.
+      shut_planned es.plan.end_system (link_plan_at es.plan.links k) es.plan.ports (link_at old.links k) (link_at new.links k)
+      (links.each k (let count = m.count in omega arith)) (λ s. links_shut old vl sub total new c k s) (m.planned k lt);
+  subs = λ k s lt. m.subs k s lt ∙ sym (shut_progress _ _ (links_shut old vl sub total new c k s));
+  lines = subst (MatchesLines es.log) (sym (ap (λ (tx : Tx). tx.lines) c.same)) m.lines;
+  moment = ap (λ (tx : Tx). tx.moment) c.same ∙ m.moment;
+}
+  where
+    links : KeepLinks old.links new.links
+    links = closes_links old vl sub total new c
+
+-- one link of a valid plan has an identifier
+same_place : (plan : Plan) (vl sub place k : ℕ) → IsPlan plan → IsSubAt plan vl sub place → k < length plan.links
+    → (link_plan_at plan.links k).id.0 ≡ vl → k ≡ place
+same_place plan vl sub place k valid at lt id =
+    valid.links_apart k place lt at.within (ap (λ (n : ℕ). let made : VlId = record { 0 = n } in made) (id ∙ sym at.id))
+
+-- the total that was answered is that of the queue of the sub-VL
+closes_told : (old : Tx) (vl sub total : ℕ) (new : Tx) → IsPlan old.plan → ClosesTx old vl sub total new → (place : ℕ)
+    → IsSubAt new.plan vl sub place → total_at new place sub ≡ Some total
+closes_told old vl sub total new valid c place at =
+    let here : IsSubAt old.plan vl sub place = subst (λ (plan : Plan). IsSubAt plan vl sub place) (ap (λ (tx : Tx). tx.plan) c.same) at in
+    ap (λ (k : ℕ). total_at new k sub) (same_place old.plan vl sub c.place place valid c.at here.within here.id)
+    ∙ closed_total _ total _ c.closes.closes.queue
+
+-- what becomes of the close of a sub-VL that is there
+closed_there : (plan : Plan) (vl sub place total : ℕ) → IsPlan plan → IsSubAt plan vl sub place
+    → closed_at plan (link_of plan vl) sub (tells total) ≡ Became.Closed total
+closed_there plan vl sub place total valid at = by (link_of plan vl) refl
+  where
+    by : (found : Option ℕ) → link_of plan vl ≡ found → closed_at plan found sub (tells total) ≡ Became.Closed total
+    by None e = absurd (none_has plan.links vl place e at.within at.id)
+    by (Some k) e =
+        let some = found_at plan.links vl k e in
+        let is : k ≡ place = same_place plan vl sub place k valid at some.0 some.1 in
+        let below : sub < (link_plan_at plan.links k).sub_vls =
+        subst (λ (i : ℕ). sub < (link_plan_at plan.links i).sub_vls) (sym is) at.below in
+        ap (λ (b : Bool). if b then Became.Closed total else Became.Refused NoSub) (lt-ltb sub _ below)
+
+-- and of one that isn't
+closed_nowhere : (plan : Plan) (vl sub : ℕ) (answer : Answer) → LacksSub plan vl sub
+    → closed_at plan (link_of plan vl) sub answer ≡ Became.Refused NoSub
+closed_nowhere plan vl sub answer lacks = by (link_of plan vl) refl
+  where
+    by : (found : Option ℕ) → link_of plan vl ≡ found → closed_at plan found sub answer ≡ Became.Refused NoSub
+    by None e = refl
+    by (Some k) e =
+        let some = found_at plan.links vl k e in ⊎_elim
+        (λ (below : sub < (link_plan_at plan.links k).sub_vls).
+        absurd (lacks k (record { within = some.0; id = some.1; below = below })))
+        (λ (past : (link_plan_at plan.links k).sub_vls ≤ sub).
+        ap (λ (b : Bool). if b then Became.Closed (told_by answer) else Became.Refused NoSub)
+        (le-ltb sub (link_plan_at plan.links k).sub_vls past))
+        (cases_lt sub (link_plan_at plan.links k).sub_vls)
+
+-- The close of a sub-VL that is there.
+pub close_obeys : (accepted : Messages) (es : EndSystem) (old : Tx) (ports : List PortView) (vl sub total : ℕ) (new : Tx)
+    → IsAtHand old ports → ClosesTx old vl sub total new → Matches accepted es (record { tx = old; ports = ports })
+    → Obeys (Close vl sub) accepted es (record { tx = new; ports = ports }) (Became.Closed total)
+close_obeys accepted es old ports vl sub total new h c m = record {
+  answer = tells total;
+  may = tt;
+  is = sym (ap (λ (plan : Plan). closed_at plan (link_of plan vl) sub (tells total)) (sym m.emitter.plan)
+      ∙ closed_there old.plan vl sub c.place total h.valid c.at);
+  told = closes_told old vl sub total new h.valid c;
+  matches = record { emitter = closes_matches es old vl sub total new c m.emitter; own = m.own };
+}
+
+-- The close of one that isn't.
+pub lack_obeys : (accepted : Messages) (es : EndSystem) (bench : AtBench) (vl sub : ℕ) → LacksSub bench.tx.plan vl sub
+    → Matches accepted es bench → Obeys (Close vl sub) accepted es bench (Became.Refused NoSub)
+lack_obeys accepted es bench vl sub lacks m = record {
+  answer = fills;
+  may = tt;
+  is = sym (ap (λ (plan : Plan). closed_at plan (link_of plan vl) sub fills) (sym m.emitter.plan)
+      ∙ closed_nowhere bench.tx.plan vl sub fills lacks);
+  told = λ place at. absurd (lacks place at);
+  matches = m;
+}
+
+-- The ports stay at hand.
+pub close_at_hand : (old new : Tx) (ports : List PortView) → new.plan ≡ old.plan → queues_in new.links ≡ queues_in old.links
+    → IsAtHand old ports → IsAtHand new ports
+close_at_hand old new ports plan queues h = record {
+  valid = subst IsPlan (sym plan) h.valid;
+  many = h.many ∙ ap (λ (config : Plan). length config.ports) (sym plan);
+  opened = λ k d lt. rw (plan, queues) (h.opened k d lt);
+  placed = h.placed;
+  calls = h.calls;
+}

@@ -1,0 +1,63 @@
+-- The totals that closes told, while lines are run and at the end.
+use Rattle.std.proofs.Common.{ℕ, ◌≡◌, ◌++◌, List, [], ◌∷◌, ap, ◌∙◌, sym, subst, refl, Some}
+use Rattle.afdx_plan.specs.Config.{Plan}
+use Rattle.afdx_tx.specs.Emitter.{Tx}
+use Rattle.afdx_tx.specs.Ports.{PortView}
+use Rattle.script_lines.specs.Meaning.{meaning_of}
+use Rattle.script_lines.specs.declared.line.Line.{Line}
+use Rattle.script_lines.specs.declared.line.Line.TheVariants.{Send, At, Close, Nothing}
+use Rattle.tx_script.specs.AtBench.{total_at, KeepsTotals, IsTold, AreTold, HaveSent, GaveTotals}
+use Rattle.tx_script.specs.Play.{Answer, AnsweredLine, Messages, Play, told_by}
+use Rattle.afdx_tx.specs.Closing.{IsSubAt}
+use Rattle.tx_script.specs.Totals.{accepted_on, IsTotal, AreTotals}
+
+-- an emitter keeps its totals
+pub keeps_same : (old new : Tx) → new ≡ old → KeepsTotals old new
+keeps_same old new same = record {
+  plan = ap (λ (tx : Tx). tx.plan) same;
+  totals = λ place sub total is. ap (λ (tx : Tx). total_at tx place sub) same ∙ is;
+}
+
+-- what a close told stays told
+told_still : (said : Line) (answer : Answer) (old new : Tx) → KeepsTotals old new → IsTold old said answer → IsTold new said answer
+told_still (Send port bytes) answer old new keeps told = tt
+told_still (At now) answer old new keeps told = tt
+told_still Nothing answer old new keeps told = tt
+told_still (Close vl sub) answer old new keeps told = λ place at.
+    keeps.totals place sub (told_by answer) (told place (subst (λ (plan : Plan). IsSubAt plan vl sub place) keeps.plan at))
+
+pub are_told_still : (old new : Tx) (turns : List AnsweredLine) → KeepsTotals old new → AreTold old turns → AreTold new turns
+are_told_still old new [] keeps told = tt
+are_told_still old new (turn ∷ turns) keeps told = (
+  told_still (meaning_of turn.line) turn.answer old new keeps told.0,
+  are_told_still old new turns keeps told.1,
+)
+
+-- and one more line
+pub told_more : (old new : Tx) (turns : List AnsweredLine) (turn : AnsweredLine) → KeepsTotals old new → AreTold old turns
+    → IsTold new (meaning_of turn.line) turn.answer → AreTold new (turns ++ turn ∷ [])
+told_more old new [] turn keeps told more = (more, tt)
+told_more old new (first ∷ turns) turn keeps told more = (
+  told_still (meaning_of first.line) first.answer old new keeps told.0,
+  told_more old new turns turn keeps told.1 more,
+)
+
+-- what a close told is its total, once the ports are gathered
+total_told : (st : Play) (tx : Tx) (ports : List PortView) → tx.plan ≡ st.es.plan → HaveSent st.accepted ports
+    → GaveTotals tx ports → (said : Line) (answer : Answer) → IsTold tx said answer → IsTotal st said answer
+total_told st tx ports plan sent gave (Send port bytes) answer told = tt
+total_told st tx ports plan sent gave (At now) answer told = tt
+total_told st tx ports plan sent gave Nothing answer told = tt
+total_told st tx ports plan sent gave (Close vl sub) answer told = λ place at.
+    let here : IsSubAt tx.plan vl sub place = subst (λ (config : Plan). IsSubAt config vl sub place) (sym plan) at in
+    gave st.accepted sent vl sub place (told_by answer) here (told place here)
+    ∙ ap (λ (config : Plan). accepted_on config st.accepted vl sub) plan
+
+-- All closes told their totals.
+pub totals_told : (st : Play) (tx : Tx) (ports : List PortView) → tx.plan ≡ st.es.plan → HaveSent st.accepted ports
+    → GaveTotals tx ports → (turns : List AnsweredLine) → AreTold tx turns → AreTotals st turns
+totals_told st tx ports plan sent gave [] told = tt
+totals_told st tx ports plan sent gave (turn ∷ turns) told = (
+  total_told st tx ports plan sent gave (meaning_of turn.line) turn.answer told.0,
+  totals_told st tx ports plan sent gave turns told.1,
+)
