@@ -19,9 +19,9 @@ fn says_at(alloc: Global, line: &[u8], moment: u64) -> bool {
     }
 }
 
-fn says_close(alloc: Global, line: &[u8], vl: u16, sub: u8) -> bool {
+fn says_close(alloc: Global, line: &[u8], wanted: (u16, u8)) -> bool {
     match read_line(alloc, line) {
-        Ok(Line::Close { vl: read, sub: index }) => read == vl && index == sub,
+        Ok(Line::Close { vl, sub }) => vl == wanted.0 && sub == wanted.1,
         _ => false,
     }
 }
@@ -65,8 +65,8 @@ fn an_at_has_a_moment(rt: HostRuntime) -> Result<(), Fail> {
 
 #[test]
 fn a_close_has_a_link_and_a_sub_vl(rt: HostRuntime) -> Result<(), Fail> {
-    assert!(rt; says_close(rt.alloc(), b"close 1 0", 1, 0));
-    assert!(rt; says_close(rt.alloc(), b"\tclose\t 00065535 \t000255\t", 65_535, 255));
+    assert!(rt; says_close(rt.alloc(), b"close 1 0", (1, 0)));
+    assert!(rt; says_close(rt.alloc(), b"\tclose\t 00065535 \t000255\t", (65_535, 255)));
     Ok(())
 }
 

@@ -122,7 +122,7 @@ fn a_link_that_is_polled_late_does_not_catch_up(rt: HostRuntime) -> Result<(), F
 
 // What two sub-VLs of a link with frames of 64 bytes send in turn: a message of 60 bytes, which is
 // three pieces, and two of one byte.
-const IN_TURN: [Frame<'static>; 5] = [
+pub const IN_TURN: [Frame<'static>; 5] = [
     Frame {
         at: 0,
         header: "4500002c000020000111addf0a000101e0e00001",
@@ -161,7 +161,7 @@ const IN_TURN: [Frame<'static>; 5] = [
 ];
 
 // Their configuration.
-fn plan_in_turn(alloc: Global) -> Result<String, AllocError> {
+pub fn plan_in_turn(alloc: Global) -> Result<String, AllocError> {
     let link = "[[vl]]\nid = 1\nbag_ms = 1\nlmax = 64\nsub_vls = 2\ncapacity = 2\n";
     let first = "[[port]]\nid = 20\nvl = 1\nsub = 0\nsource = 1000\n";
     let second = "[[port]]\nid = 21\nvl = 1\nsub = 1\nsource = 1001\n";

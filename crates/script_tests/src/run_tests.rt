@@ -148,7 +148,7 @@ fn second_line(alloc: Global, line: &[u8]) -> Result<Vec<u8>, AllocError> {
 #[test]
 fn a_fault_tells_its_line(rt: HostRuntime) -> Result<(), Fail> {
     let long = vec![in rt.alloc(); b' '; 20_001]?;
-    let lines: [(&[u8], LineFault); 8] = [
+    let lines: [(&[u8], LineFault); 14] = [
         (b"sand 10 01", LineFault::Word),
         (b"send 10", LineFault::Word),
         (b"at x", LineFault::Number),
@@ -156,6 +156,12 @@ fn a_fault_tells_its_line(rt: HostRuntime) -> Result<(), Fail> {
         (b"send 10 0g", LineFault::Hex),
         (b"send 10 012", LineFault::Hex),
         (b"at 0 0", LineFault::Extra),
+        (b"close", LineFault::Word),
+        (b"close 1", LineFault::Word),
+        (b"close x 0", LineFault::Number),
+        (b"close 70000 0", LineFault::Number),
+        (b"close 1 256", LineFault::Number),
+        (b"close 1 0 0", LineFault::Extra),
         (&long, LineFault::Long),
     ];
     for (line, fault) in lines {

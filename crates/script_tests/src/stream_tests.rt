@@ -97,7 +97,7 @@ impl Write for Limited {
 
 // What a script comes to over a writer that takes so many writes, and how many of them are left.
 fn run_limited(alloc: Global, left: u32) -> (Result<Summary, RunFault>, u32) {
-    let script = b"send 99 01\nsend 10 01\nat 0\nat 5\nat 0\n";
+    let script = b"send 99 01\nsend 10 01\nat 0\nat 5\nclose 1 0\nat 0\n";
     let mut writer = Limited { left };
     let told = run(alloc, script.as_slice(), &mut writer);
     (told, writer.left)

@@ -162,14 +162,14 @@ counted plan k sub (sent ∷ more) valid all =
     omega arith
 
 -- a total is that of a sub-VL that is there
-record HasTotal (tx : Tx) (place sub total : ℕ) : Type 0 where
+record IsThere (tx : Tx) (place sub : ℕ) : Type 0 where
   link : place < length tx.links
   below : sub < length (link_at tx.links place).subs
 
-total_there : (tx : Tx) (place sub total : ℕ) → total_at tx place sub ≡ Some total → HasTotal tx place sub total
+total_there : (tx : Tx) (place sub total : ℕ) → total_at tx place sub ≡ Some total → IsThere tx place sub
 total_there tx place sub total is = ⊎_elim
     (λ (link : place < length tx.links). ⊎_elim
-    (λ (below : sub < length (link_at tx.links place).subs). let made : HasTotal tx place sub total = record { link = link; below = below } in made)
+    (λ (below : sub < length (link_at tx.links place).subs). let made : IsThere tx place sub = record { link = link; below = below } in made)
     (λ (past : length (link_at tx.links place).subs ≤ sub).
     let none : None ≡ Some total = sym (ap (λ (held : Held). total_of held.seen)
     (get_or_past (link_at tx.links place).subs sub nothing_held past)) ∙ is in cc)
@@ -190,7 +190,7 @@ whole_total (gathered g) (gathered h) total b is = absurd b
 gathered_total : (tx drain : Tx) (ports : List PortView) (place sub total : ℕ) → IsGatheredTx tx ports drain
     → total_at tx place sub ≡ Some total → total ≡ length (accepted_in drain.links place sub)
 gathered_total tx drain ports place sub total g is =
-    let there : HasTotal tx place sub total = total_there tx place sub total is in
+    let there : IsThere tx place sub = total_there tx place sub total is in
     let link : IsGatheredLink (link_at tx.links place) (link_at drain.links place) = g.links place there.link in
     let held : IsGatheredSub (held_at (link_at tx.links place).subs sub) (held_at (link_at drain.links place).subs sub) =
     link.each sub there.below in
