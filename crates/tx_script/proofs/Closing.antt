@@ -1,30 +1,28 @@
 -- A sub-VL is closed: the end system that matches stays the same.
-use Rattle.std.proofs.Common.{ℕ, ◌≡◌, ◌≢◌, ◌<◌, ◌≤◌, ◌==◌, List, length, set, get_or, Bool, true, false, if◌then◌else◌, nat_lt, arith, refl, ap, ◌∙◌, sym, subst, inl, inr, ⊎_elim, Option, Some, None}
-use Rattle.std.specs.Prelude.{◌⊎◌, IfSome, position}
+use Rattle.std.proofs.Common.{ℕ, ◌≡◌, ◌≢◌, ◌<◌, ◌≤◌, List, length, Bool, if◌then◌else◌, arith, refl, ap, ◌∙◌, sym, subst, ⊎_elim, Option, Some, None}
+use Rattle.std.specs.Prelude.{IfSome}
 use Rattle.std.proofs.lemmas.Bool.{cases_eq, cases_lt, lt-ltb, le-ltb}
-use Rattle.std.proofs.lemmas.List.{get_or-set_same, get_or-set_other, get_or_past}
+use Rattle.std.proofs.lemmas.List.{get_or-set_other}
 use Rattle.afdx_plan.specs.Config.{Plan, IsPlan, link_plan_at}
 use Rattle.afdx_plan.specs.declared.identifiers.VlId.{VlId}
 use Rattle.afdx_plan.specs.declared.link_plan.LinkPlan.{LinkPlan}
 use Rattle.afdx_plan.specs.declared.port_plan.PortPlan.{PortPlan}
-use Rattle.redundant_mux.specs.Lines.{Lines}
-use Rattle.vl_link.specs.Closing.{Closes, ClosesSub, ClosesLink}
+use Rattle.vl_link.specs.Closing.{Closes, ClosesSub}
 use Rattle.vl_link.specs.Links.{Held, LinkState, held_at, link_at, no_link, nothing_held, sent_by}
 use Rattle.vl_link.specs.Seen.{Seen, receiving, gathered, ports_of, taken_of}
 use Rattle.vl_link.proofs.Closing.{closes_ports, closes_taken}
 use Rattle.afdx_tx.specs.Closing.{IsSubAt, LacksSub, ClosesTx}
-use Rattle.afdx_tx.specs.Emitter.{Tx, queues_in, ports_of_sub}
-use Rattle.afdx_tx.specs.Ports.{PortView, AreOpenedWith, BelongsTo}
+use Rattle.afdx_tx.specs.Emitter.{Tx, ports_of_sub}
+use Rattle.afdx_tx.specs.Ports.{PortView}
 use Rattle.afdx_tx.proofs.PortLink.{none_has, found_at}
 use Rattle.afdx_tx.proofs.ClosedEmitter.{KeepsLink, KeepLinks, closes_links}
 use Rattle.script_lines.specs.declared.line.Line.TheVariants.{Close}
-use Rattle.transcript.specs.declared.outcome.Outcome.{Outcome}
 use Rattle.transcript.specs.declared.outcome.Outcome.TheVariants as Became
 use Rattle.transcript.specs.declared.refusal.Refusal.TheVariants.{NoSub}
 use Rattle.tx_script.specs.AtBench.{AtBench, IsAtHand, Matches, Obeys, total_of, total_at, KeepsTotals}
 use Rattle.tx_script.specs.EndSystem.{EndSystem, Progress}
 use Rattle.tx_script.specs.Matching.{IsPlannedSub, IsPlannedLink, progress_of, MatchesLines, MatchesTx}
-use Rattle.tx_script.specs.Play.{Answer, Messages, tells, told_by, fills, closed_at, link_of, outcome_of}
+use Rattle.tx_script.specs.Play.{Answer, Messages, tells, told_by, fills, closed_at, link_of}
 
 -- a sub-VL is as it was, but for the total of its queue
 record IsShut (old : Held) (new : Held) : Type 0 where
@@ -191,15 +189,4 @@ lack_obeys accepted es bench vl sub lacks m = record {
       ∙ closed_nowhere bench.tx.plan vl sub fills lacks);
   told = λ place at. absurd (lacks place at);
   matches = m;
-}
-
--- The ports stay at hand.
-pub close_at_hand : (old new : Tx) (ports : List PortView) → new.plan ≡ old.plan → queues_in new.links ≡ queues_in old.links
-    → IsAtHand old ports → IsAtHand new ports
-close_at_hand old new ports plan queues h = record {
-  valid = subst IsPlan (sym plan) h.valid;
-  many = h.many ∙ ap (λ (config : Plan). length config.ports) (sym plan);
-  opened = λ k d lt. rw (plan, queues) (h.opened k d lt);
-  placed = h.placed;
-  calls = h.calls;
 }

@@ -1,5 +1,5 @@
 -- A poll leaves closed what was closed, with the same totals.
-use Rattle.std.proofs.Common.{ℕ, ◌≡◌, ◌≢◌, ◌+◌, ◌-◌, ◌<◌, ◌≤◌, List, length, get_or, Bool, true, false, arith, refl, ap, ◌∙◌, sym, subst, ⊎_elim, Option, Some, None}
+use Rattle.std.proofs.Common.{ℕ, ◌≡◌, ◌≢◌, ◌+◌, ◌-◌, ◌<◌, ◌≤◌, List, length, get_or, Bool, true, false, arith, refl, ap, ◌∙◌, sym, subst, ⊎_elim, Some, None}
 use Rattle.std.proofs.lemmas.Bool.{cases_lt, cases_eq}
 use Rattle.std.proofs.lemmas.List.{get_or_past, get_or-drop}
 use Rattle.redundant_mux.specs.Lines.{Lines, is_alive}
@@ -8,7 +8,7 @@ use Rattle.vl_link.specs.Seen.{Seen, receiving, gathered, IsSameQueue}
 use Rattle.vl_link.proofs.TurnLaws.{turns_each}
 use Rattle.afdx_tx.specs.Emitter.{Tx}
 use Rattle.afdx_tx.specs.Run.{IsTurnAt, IsRun, IsCutShort}
-use Rattle.tx_script.specs.AtBench.{total_of, total_at, KeepsTotals}
+use Rattle.tx_script.specs.AtBench.{total_of, KeepsTotals}
 
 -- a queue that is the same has the same total
 same_total : (old new : Seen) → IsSameQueue old new → total_of new ≡ total_of old

@@ -4,7 +4,7 @@ use Rattle.std.specs.Io.KnownBytes.{Appends}
 use Rattle.std.proofs.KnownBytes.{Appends-trans}
 use Rattle.afdx_plan.specs.Config.{Plan}
 use Rattle.script_lines.specs.Lines.{after_feed}
-use Rattle.tx_script.specs.AtBench.{AtBench, Matches, ObeysFor, Obeys, KeepsTotals, AreTold}
+use Rattle.tx_script.specs.AtBench.{AtBench, Matches, ObeysFor, Obeys, KeepsTotals}
 use Rattle.tx_script.proofs.Told.{told_more}
 use Rattle.script_lines.specs.Meaning.{meaning_of}
 use Rattle.tx_script.specs.Play.{AnsweredLine, Play, play, play_line, start, outcome_of, IsAnswer, AreAnswers}

@@ -1,5 +1,5 @@
 -- The totals that closes told, while lines are run and at the end.
-use Rattle.std.proofs.Common.{ℕ, ◌≡◌, ◌++◌, List, [], ◌∷◌, ap, ◌∙◌, sym, subst, refl, Some}
+use Rattle.std.proofs.Common.{◌≡◌, ◌++◌, List, [], ◌∷◌, ap, ◌∙◌, sym, subst}
 use Rattle.afdx_plan.specs.Config.{Plan}
 use Rattle.afdx_tx.specs.Emitter.{Tx}
 use Rattle.afdx_tx.specs.Ports.{PortView}
@@ -7,7 +7,7 @@ use Rattle.script_lines.specs.Meaning.{meaning_of}
 use Rattle.script_lines.specs.declared.line.Line.{Line}
 use Rattle.script_lines.specs.declared.line.Line.TheVariants.{Send, At, Close, Nothing}
 use Rattle.tx_script.specs.AtBench.{total_at, KeepsTotals, IsTold, AreTold, HaveSent, GaveTotals}
-use Rattle.tx_script.specs.Play.{Answer, AnsweredLine, Messages, Play, told_by}
+use Rattle.tx_script.specs.Play.{Answer, AnsweredLine, Play, told_by}
 use Rattle.afdx_tx.specs.Closing.{IsSubAt}
 use Rattle.tx_script.specs.Totals.{accepted_on, IsTotal, AreTotals}
 
