@@ -9,17 +9,17 @@ use Rattle.afdx_plan.specs.declared.link_plan.LinkPlan.{LinkPlan}
 use Rattle.afdx_plan.specs.declared.port_plan.PortPlan.{PortPlan}
 use Rattle.vl_link.specs.Closing.{Closes, ClosesSub}
 use Rattle.vl_link.specs.Links.{Held, LinkState, held_at, link_at, no_link, nothing_held, sent_by}
-use Rattle.vl_link.specs.Seen.{Seen, receiving, gathered, ports_of, taken_of}
+use Rattle.vl_link.specs.Seen.{Seen, receiving, gathered, ports_of, taken_of, total_of}
 use Rattle.vl_link.proofs.Closing.{closes_ports, closes_taken}
 use Rattle.afdx_tx.specs.Closing.{IsSubAt, LacksSub, ClosesTx}
-use Rattle.afdx_tx.specs.Emitter.{Tx, ports_of_sub}
+use Rattle.afdx_tx.specs.Emitter.{Tx, ports_of_sub, total_in}
 use Rattle.afdx_tx.specs.Ports.{PortView}
 use Rattle.afdx_tx.proofs.PortLink.{none_has, found_at}
 use Rattle.afdx_tx.proofs.ClosedEmitter.{KeepsLink, KeepLinks, closes_links}
 use Rattle.script_lines.specs.declared.line.Line.TheVariants.{Close}
 use Rattle.transcript.specs.declared.outcome.Outcome.TheVariants as Became
 use Rattle.transcript.specs.declared.refusal.Refusal.TheVariants.{NoSub}
-use Rattle.tx_script.specs.AtBench.{AtBench, IsAtHand, Matches, Obeys, total_of, total_at, KeepsTotals}
+use Rattle.tx_script.specs.AtBench.{AtBench, IsAtHand, Matches, Obeys, KeepsTotals}
 use Rattle.tx_script.specs.EndSystem.{EndSystem, Progress}
 use Rattle.tx_script.specs.Matching.{IsPlannedSub, IsPlannedLink, progress_of, MatchesLines, MatchesTx}
 use Rattle.tx_script.specs.Play.{Answer, Messages, tells, told_by, fills, closed_at, link_of}
@@ -130,10 +130,10 @@ same_place plan vl sub place k valid at lt id =
 
 -- the total that was answered is that of the queue of the sub-VL
 closes_told : (old : Tx) (vl sub total : ℕ) (new : Tx) → IsPlan old.plan → ClosesTx old vl sub total new → (place : ℕ)
-    → IsSubAt new.plan vl sub place → total_at new place sub ≡ Some total
+    → IsSubAt new.plan vl sub place → total_in new.links place sub ≡ Some total
 closes_told old vl sub total new valid c place at =
     let here : IsSubAt old.plan vl sub place = subst (λ (plan : Plan). IsSubAt plan vl sub place) (ap (λ (tx : Tx). tx.plan) c.same) at in
-    ap (λ (k : ℕ). total_at new k sub) (same_place old.plan vl sub c.place place valid c.at here.within here.id)
+    ap (λ (k : ℕ). total_in new.links k sub) (same_place old.plan vl sub c.place place valid c.at here.within here.id)
     ∙ closed_total _ total _ c.closes.closes.queue
 
 -- what becomes of the close of a sub-VL that is there

@@ -10,5 +10,4 @@ mod SubPorts
 mod Finding
 mod Told
 mod Totals
-mod KeptTotals
 mod Closing

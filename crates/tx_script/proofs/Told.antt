@@ -1,12 +1,12 @@
 -- The totals that closes told, while lines are run and at the end.
 use Rattle.std.proofs.Common.{◌≡◌, ◌++◌, List, [], ◌∷◌, ap, ◌∙◌, sym, subst}
 use Rattle.afdx_plan.specs.Config.{Plan}
-use Rattle.afdx_tx.specs.Emitter.{Tx}
+use Rattle.afdx_tx.specs.Emitter.{Tx, total_in}
 use Rattle.afdx_tx.specs.Ports.{PortView}
 use Rattle.script_lines.specs.Meaning.{meaning_of}
 use Rattle.script_lines.specs.declared.line.Line.{Line}
 use Rattle.script_lines.specs.declared.line.Line.TheVariants.{Send, At, Close, Nothing}
-use Rattle.tx_script.specs.AtBench.{total_at, KeepsTotals, IsTold, AreTold, HaveSent, GaveTotals}
+use Rattle.tx_script.specs.AtBench.{KeepsTotals, IsTold, AreTold, HaveSent, GaveTotals}
 use Rattle.tx_script.specs.Play.{Answer, AnsweredLine, Play, told_by}
 use Rattle.afdx_tx.specs.Closing.{IsSubAt}
 use Rattle.tx_script.specs.Totals.{accepted_on, IsTotal, AreTotals}
@@ -15,7 +15,7 @@ use Rattle.tx_script.specs.Totals.{accepted_on, IsTotal, AreTotals}
 pub keeps_same : (old new : Tx) → new ≡ old → KeepsTotals old new
 keeps_same old new same = record {
   plan = ap (λ (tx : Tx). tx.plan) same;
-  totals = λ place sub total is. ap (λ (tx : Tx). total_at tx place sub) same ∙ is;
+  totals = λ place sub total is. ap (λ (tx : Tx). total_in tx.links place sub) same ∙ is;
 }
 
 -- what a close told stays told

@@ -14,12 +14,12 @@ use Rattle.subvl_queue.specs.Views.{accepted_of}
 use Rattle.afdx_legal.specs.Allowed.{IsAllowed, AreAllowed, messages_of}
 use Rattle.vl_link.specs.LinkGathering.{BecomesWhole}
 use Rattle.vl_link.specs.Links.{Held, LinkState, held_at, link_at, no_link, nothing_held, sent_of}
-use Rattle.vl_link.specs.Seen.{Seen, receiving, gathered, known_of}
+use Rattle.vl_link.specs.Seen.{Seen, receiving, gathered, known_of, total_of}
 use Rattle.afdx_tx.specs.Drain.{accepted_in}
-use Rattle.afdx_tx.specs.Emitter.{Tx}
+use Rattle.afdx_tx.specs.Emitter.{Tx, total_in}
 use Rattle.afdx_tx.specs.Gathering.{IsGatheredTx, IsGatheredLink, IsGatheredSub, HasOwnPart}
 use Rattle.afdx_tx.specs.Ports.{PortView}
-use Rattle.tx_script.specs.AtBench.{IsAtHand, HaveSent, total_of, total_at, GaveTotals}
+use Rattle.tx_script.specs.AtBench.{IsAtHand, HaveSent, GaveTotals}
 use Rattle.tx_script.specs.Play.{Messages}
 use Rattle.afdx_tx.specs.Closing.{IsSubAt}
 use Rattle.tx_script.specs.Totals.{is_on, accepted_among, accepted_on}
@@ -166,7 +166,7 @@ record IsThere (tx : Tx) (place sub : ℕ) : Type 0 where
   link : place < length tx.links
   below : sub < length (link_at tx.links place).subs
 
-total_there : (tx : Tx) (place sub total : ℕ) → total_at tx place sub ≡ Some total → IsThere tx place sub
+total_there : (tx : Tx) (place sub total : ℕ) → total_in tx.links place sub ≡ Some total → IsThere tx place sub
 total_there tx place sub total is = ⊎_elim
     (λ (link : place < length tx.links). ⊎_elim
     (λ (below : sub < length (link_at tx.links place).subs). let made : IsThere tx place sub = record { link = link; below = below } in made)
@@ -188,7 +188,7 @@ whole_total (gathered g) (receiving s) total b is = absurd b
 whole_total (gathered g) (gathered h) total b is = absurd b
 
 gathered_total : (tx drain : Tx) (ports : List PortView) (place sub total : ℕ) → IsGatheredTx tx ports drain
-    → total_at tx place sub ≡ Some total → total ≡ length (accepted_in drain.links place sub)
+    → total_in tx.links place sub ≡ Some total → total ≡ length (accepted_in drain.links place sub)
 gathered_total tx drain ports place sub total g is =
     let there : IsThere tx place sub = total_there tx place sub total is in
     let link : IsGatheredLink (link_at tx.links place) (link_at drain.links place) = g.links place there.link in

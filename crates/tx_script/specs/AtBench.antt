@@ -1,10 +1,10 @@
 -- An emitter with its ports, as a run of a script has them at hand.
-use Rattle.std.specs.Prelude.{ℕ, ◌≡◌, ◌≢◌, ◌≤◌, ◌<◌, ◌++◌, List, [], ◌∷◌, length, slice_index_or, All, Option, Some, None}
+use Rattle.std.specs.Prelude.{ℕ, ◌≡◌, ◌≢◌, ◌≤◌, ◌<◌, ◌++◌, List, [], ◌∷◌, length, slice_index_or, All, Some}
 use Rattle.afdx_plan.specs.Config.{Plan, IsPlan, port_plan_at}
 use Rattle.subvl_queue.specs.Messages.{most_calls, part_of}
-use Rattle.vl_link.specs.Seen.{Seen, receiving, gathered, taken_of, ports_of}
+use Rattle.vl_link.specs.Seen.{taken_of, ports_of}
 use Rattle.vl_link.specs.Links.{held_at, link_at}
-use Rattle.afdx_tx.specs.Emitter.{Tx, IsFreshTx}
+use Rattle.afdx_tx.specs.Emitter.{Tx, IsFreshTx, total_in}
 use Rattle.afdx_tx.specs.Gathering.{held_for}
 use Rattle.afdx_tx.specs.Ports.{PortView, AreOpenedWith, AreFreshPorts, MaySend, Accepts, Refuses, index_of}
 use Rattle.afdx_tx.specs.declared.fault.Refusal.{Refusal as SendRefusal}
@@ -68,25 +68,16 @@ Sends old bytes new Became.Accepted = MaySend old.plan (length bytes) × Accepts
 Sends old bytes new (Became.Refused refusal) = RefusesAs old (length bytes) refusal new
 Sends old bytes new outcome = ⊥
 
--- the total with which a queue was closed
-abbrev pub total_of : Seen → Option ℕ
-total_of (receiving r) = r.total
-total_of (gathered g) = None
-
--- the total of the sub-VL of this index, of the link at a place
-abbrev pub total_at : Tx → (place sub : ℕ) → Option ℕ
-total_at tx place sub = total_of (held_at (link_at tx.links place).subs sub).seen
-
 -- the plan is the same, and what was closed stays closed with the same total
 pub record KeepsTotals (old new : Tx) : Type 0 where
   pub plan : new.plan ≡ old.plan
-  pub totals : (place sub total : ℕ) → total_at old place sub ≡ Some total
-      → total_at new place sub ≡ Some total
+  pub totals : (place sub total : ℕ) → total_in old.links place sub ≡ Some total
+      → total_in new.links place sub ≡ Some total
 
 -- the total that a close told is that of its sub-VL's queue
 abbrev pub IsTold : Tx → Line → Answer → Type 0
 IsTold tx (Close vl sub) answer = (place : ℕ) → IsSubAt tx.plan vl sub place
-    → total_at tx place sub ≡ Some (told_by answer)
+    → total_in tx.links place sub ≡ Some (told_by answer)
 IsTold tx _ answer = Unit {0}
 
 -- the same of the closes among some lines
@@ -123,5 +114,5 @@ pub record GaveFirst (tx : Tx) (ports : List PortView) : Type 0 where
 -- the total with which a sub-VL was closed is how many messages its ports sent that were accepted
 abbrev pub GaveTotals : Tx → List PortView → Type 0
 GaveTotals tx ports = (accepted : Messages) → HaveSent accepted ports
-    → (vl sub place total : ℕ) → IsSubAt tx.plan vl sub place → total_at tx place sub ≡ Some total
+    → (vl sub place total : ℕ) → IsSubAt tx.plan vl sub place → total_in tx.links place sub ≡ Some total
     → total ≡ accepted_on tx.plan accepted vl sub

@@ -9,8 +9,6 @@ use Rattle.transcript.specs.declared.outcome.Outcome.TheVariants.{Released, Refu
 use Rattle.transcript.specs.declared.refusal.Refusal.TheVariants.{TimeBack}
 use Rattle.tx_script.proofs.Polling.{left_at, polled_matches, left_matches}
 use Rattle.tx_script.proofs.Matched.{released_many}
-use Rattle.tx_script.proofs.KeptTotals.{polled_totals}
-use Rattle.tx_script.proofs.Told.{keeps_same}
 use Rattle.tx_script.proofs.bench.obey_at.Goals as goal
 use Rattle.tx_script.proofs.bench.obey_at.Goals.{in-Ok+then-report+then-report-2, in-Ok+else-report, else-report-via-then-report+else-report-2}
 use Rattle.tx_script.proofs.bench.obey_at.Goals.{else-report-via-else-report, in-Err}
@@ -58,11 +56,7 @@ returns-clause-ok c = elim c.match-poll.branch [
 ]
 
 pub returns-clause-kept : goal.returns-clause-kept
-returns-clause-kept c = subst (λ (bench : AtBench). KeepsTotals bench.tx c.poll.new.self) c.bench.view_is
-    (elim c.match-poll.branch [
-      | in-Ok+then-report+then-report-2 w ↦ polled_totals c.bench.inside.emitter c.poll.new.self c.args.moment
-          w.in-Ok.ensures.plan w.in-Ok.ensures.run w.in-Ok.ensures.cut_short
-      | in-Ok+else-report w ↦ polled_totals c.bench.inside.emitter c.poll.new.self c.args.moment
-          w.in-Ok.ensures.plan w.in-Ok.ensures.run w.in-Ok.ensures.cut_short
-      | in-Err w ↦ keeps_same c.bench.inside.emitter c.poll.new.self w.in-Err.ensures.unchanged
-    ])
+returns-clause-kept c = subst (λ (bench : AtBench). KeepsTotals bench.tx c.poll.new.self) c.bench.view_is (record {
+  plan = c.poll.ensures.plan;
+  totals = λ k s total is. c.poll.ensures.totals k s ∙ is;
+})
