@@ -86,17 +86,20 @@ lacks_at plan vl sub place valid within id few other at =
     subst (λ (k : ℕ). sub < (link_plan_at plan.links k).sub_vls) same at.below in
     omega arith
 
--- the links of an emitter but for a queue that is closed
-pub closes_links : (old : Tx) (vl sub total : ℕ) (new : Tx) → ClosesTx old vl sub total new → ClosedLinks old.links new.links
-closes_links old vl sub total new c =
-    let within : c.place < length old.links = ⊎_elim (λ (lt : c.place < length old.links). lt)
+-- the link whose sub-VL was closed is one of the emitter's
+pub closes_within : (old : Tx) (vl sub total : ℕ) (new : Tx) (c : ClosesTx old vl sub total new) → c.place < length old.links
+closes_within old vl sub total new c = ⊎_elim (λ (lt : c.place < length old.links). lt)
     (λ (past : length old.links ≤ c.place).
     let none : link_at old.links c.place ≡ no_link = get_or_past old.links c.place no_link past in
     let below : sub < length (link_at old.links c.place).subs = c.closes.within in
     absurd (omega (arith, ap (λ (l : LinkState). length l.subs) none)))
-    (cases_lt c.place (length old.links)) in
+    (cases_lt c.place (length old.links))
+
+-- the links of an emitter but for a queue that is closed
+pub closes_links : (old : Tx) (vl sub total : ℕ) (new : Tx) → ClosesTx old vl sub total new → ClosedLinks old.links new.links
+closes_links old vl sub total new c =
     subst (ClosedLinks old.links) (sym (ap (λ (t : Tx). t.links) c.same))
-    (links_closed old.links c.place sub total (link_at new.links c.place) c.closes within)
+    (links_closed old.links c.place sub total (link_at new.links c.place) c.closes (closes_within old vl sub total new c))
 
 -- whether a sub-VL was closed or refused, the queues have their names
 pub answered_queues : {E : Type 0} (answer : Result ℕ E) (old : Tx) (vl sub : ℕ) (new : Tx) → OnErr answer (new ≡ old)

@@ -1,21 +1,22 @@
 -- A sub-VL is closed: the end system that matches stays the same.
-use Rattle.std.proofs.Common.{ℕ, ◌≡◌, ◌≢◌, ◌<◌, ◌≤◌, List, length, Bool, if◌then◌else◌, arith, refl, ap, ◌∙◌, sym, subst, ⊎_elim, Option, Some, None}
+use Rattle.std.proofs.Common.{ℕ, ◌≡◌, ◌<◌, ◌≤◌, List, length, Bool, if◌then◌else◌, arith, refl, ap, ◌∙◌, sym, subst, ⊎_elim, Option, Some, None}
 use Rattle.std.specs.Prelude.{IfSome}
-use Rattle.std.proofs.lemmas.Bool.{cases_eq, cases_lt, lt-ltb, le-ltb}
-use Rattle.std.proofs.lemmas.List.{get_or-set_other}
+use Rattle.std.proofs.lemmas.Bool.{cases_lt, lt-ltb, le-ltb}
 use Rattle.afdx_plan.specs.Config.{Plan, IsPlan, link_plan_at}
 use Rattle.afdx_plan.specs.declared.identifiers.VlId.{VlId}
 use Rattle.afdx_plan.specs.declared.link_plan.LinkPlan.{LinkPlan}
 use Rattle.afdx_plan.specs.declared.port_plan.PortPlan.{PortPlan}
 use Rattle.vl_link.specs.Closing.{Closes, ClosesSub}
-use Rattle.vl_link.specs.Links.{Held, LinkState, held_at, link_at, no_link, nothing_held, sent_by}
+use Rattle.vl_link.specs.Links.{Held, LinkState, held_at, link_at, sent_by}
 use Rattle.vl_link.specs.Seen.{Seen, receiving, gathered, ports_of, taken_of, total_of}
 use Rattle.vl_link.proofs.Closing.{closes_ports, closes_taken}
 use Rattle.afdx_tx.specs.Closing.{IsSubAt, LacksSub, ClosesTx}
 use Rattle.afdx_tx.specs.Emitter.{Tx, ports_of_sub, total_in}
 use Rattle.afdx_tx.specs.Ports.{PortView}
 use Rattle.afdx_tx.proofs.PortLink.{none_has, found_at}
-use Rattle.afdx_tx.proofs.ClosedEmitter.{KeepsLink, KeepLinks, closes_links}
+use Rattle.afdx_tx.proofs.KeptLinks.{KeepsLink, KeepLinks}
+use Rattle.afdx_tx.proofs.OneSub.{one_each}
+use Rattle.afdx_tx.proofs.ClosedEmitter.{closes_within, closes_links, closed_kept}
 use Rattle.script_lines.specs.declared.line.Line.TheVariants.{Close}
 use Rattle.transcript.specs.declared.outcome.Outcome.TheVariants as Became
 use Rattle.transcript.specs.declared.refusal.Refusal.TheVariants.{NoSub}
@@ -56,21 +57,11 @@ shut_closed old total new c = record {
 -- the sub-VLs of the link at a place
 links_shut : (old : Tx) (vl sub total : ℕ) (new : Tx) → ClosesTx old vl sub total new → (k s : ℕ)
     → IsShut (held_at (link_at old.links k).subs s) (held_at (link_at new.links k).subs s)
-links_shut old vl sub total new c k s = ⊎_elim
-    (λ (here : k ≡ c.place). subst (λ (i : ℕ). IsShut (held_at (link_at old.links i).subs s) (held_at (link_at new.links i).subs s))
-    (sym here) (⊎_elim
-    (λ (its : s ≡ sub). subst (λ (i : ℕ). IsShut (held_at (link_at old.links c.place).subs i) (held_at (link_at new.links c.place).subs i))
-    (sym its) (shut_closed _ total _ c.closes.closes))
-    (λ (other : s ≢ sub). subst (IsShut (held_at (link_at old.links c.place).subs s))
-    (sym (ap (λ (link : LinkState). held_at link.subs s) c.closes.same
-    ∙ get_or-set_other (link_at old.links c.place).subs sub s (held_at (link_at new.links c.place).subs sub) nothing_held other))
-    (shut_here (held_at (link_at old.links c.place).subs s)))
-    (cases_eq s sub)))
-    (λ (other : k ≢ c.place). subst (λ (link : LinkState). IsShut (held_at (link_at old.links k).subs s) (held_at link.subs s))
-    (sym (ap (λ (tx : Tx). link_at tx.links k) c.same
-    ∙ get_or-set_other old.links c.place k (link_at new.links c.place) no_link other))
-    (shut_here (held_at (link_at old.links k).subs s)))
-    (cases_eq k c.place)
+links_shut old vl sub total new c k s =
+    subst (λ (links : List LinkState). IsShut (held_at (link_at old.links k).subs s) (held_at (link_at links k).subs s))
+    (sym (ap (λ (tx : Tx). tx.links) c.same))
+    (one_each old.links c.place sub (link_at new.links c.place) (closes_within old vl sub total new c) c.closes.same IsShut shut_here
+    (shut_closed _ total _ c.closes.closes) k s)
 
 -- What was closed before keeps its total.
 pub closes_keeps : (old : Tx) (vl sub total : ℕ) (new : Tx) → ClosesTx old vl sub total new → KeepsTotals old new
@@ -120,7 +111,7 @@ closes_matches es old vl sub total new c m = record {
 }
   where
     links : KeepLinks old.links new.links
-    links = closes_links old vl sub total new c
+    links = closed_kept old.links new.links (closes_links old vl sub total new c)
 
 -- one link of a valid plan has an identifier
 same_place : (plan : Plan) (vl sub place k : ℕ) → IsPlan plan → IsSubAt plan vl sub place → k < length plan.links

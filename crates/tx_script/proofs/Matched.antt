@@ -14,7 +14,7 @@ use Rattle.afdx_tx.specs.declared.report.Release.{Release}
 use Rattle.vl_link.specs.declared.sub_vl.SubVl.{SubVl}
 use Rattle.vl_link.specs.Seen.{Seen, taken_of, ports_of}
 use Rattle.vl_link.specs.Links.{Held, LinkState, held_at, nothing_held, link_at, sent_by, taken_by}
-use Rattle.afdx_tx.specs.Emitter.{Tx, IsFreshTx, IsFreshLink, IsFreshSub, ports_of_sub}
+use Rattle.afdx_tx.specs.Emitter.{Tx, IsFreshTx, IsOpenedLink, IsOpenedSub, ports_of_sub}
 use Rattle.afdx_tx.specs.Report.{IsTold, release_of}
 use Rattle.tx_script.specs.EndSystem.{Progress, no_progress, fresh}
 use Rattle.tx_script.specs.Matching.{IsPlannedLink, progress_of, MatchesLines, MatchesTx}
@@ -32,32 +32,32 @@ released_many before after old new now released was is told =
     omega arith
 
 -- nothing was taken of a sub-VL, and nothing is left
-sub_fresh : (own : SubVl) (senders : List PortPlan) (held : Held) → IsFreshSub own senders held → no_progress ≡ progress_of held
-sub_fresh own senders held f =
+sub_fresh : (own : SubVl) (senders : List PortPlan) (many : ℕ) (held : Held) → IsOpenedSub own senders many held → no_progress ≡ progress_of held
+sub_fresh own senders many held f =
     ap (λ (sent : List Sent). let made : Progress = record { taken = sent; left = [] } in made)
     (sym (ap (λ (seen : Seen). sent_by held.ports (taken_of seen)) f.seen))
     ∙ ap (λ (left : List (List ℕ)). let made : Progress = record { taken = taken_by held; left = left } in made) (sym f.left)
 
 -- a fresh link is the planned one
 link_fresh : (own : ℕ) (ports : List PortPlan) (planned : LinkPlan) (link : LinkState)
-    → IsFreshLink own ports planned link → IsPlannedLink own planned ports link
+    → IsOpenedLink own ports ports planned link → IsPlannedLink own planned ports link
 link_fresh own ports planned link f = record {
   plan = f.plan;
   gap = ap (λ (p : Pace). p.gap) f.pace;
   sub_vls = ap (λ (p : Pace). p.sub_vls) f.pace;
   count = f.subs.count;
   each = λ s lt.
-      let sub : IsFreshSub (record { end_system = own; link = planned; sub = s }) (ports_of_sub ports planned.id.0 s)
-      (held_at link.subs s) = f.subs.each s lt in
-      record { of = sub.of; ports = sub.ports; queue = ap ports_of sub.seen };
+      let sub : IsOpenedSub (record { end_system = own; link = planned; sub = s }) (ports_of_sub ports planned.id.0 s)
+      (length (ports_of_sub ports planned.id.0 s)) (held_at link.subs s) = f.subs.each s lt in
+      record { of = sub.of; ports = sub.ports_are; queue = ap ports_of sub.seen };
 }
 
 -- whatever the index
 each_fresh : (own : ℕ) (ports : List PortPlan) (planned : LinkPlan) (link : LinkState)
-    → IsFreshLink own ports planned link → (s : ℕ) → no_progress ≡ progress_of (held_at link.subs s)
+    → IsOpenedLink own ports ports planned link → (s : ℕ) → no_progress ≡ progress_of (held_at link.subs s)
 each_fresh own ports planned link f s = ⊎_elim
     (λ (lt : s < length link.subs).
-    sub_fresh (record { end_system = own; link = planned; sub = s }) (ports_of_sub ports planned.id.0 s) (held_at link.subs s)
+    sub_fresh (record { end_system = own; link = planned; sub = s }) (ports_of_sub ports planned.id.0 s) _ (held_at link.subs s)
     (f.subs.each s (let count = f.subs.count in omega arith)))
     (λ (past : length link.subs ≤ s). ap progress_of (sym (get_or_past link.subs s nothing_held past)))
     (cases_lt s (length link.subs))
