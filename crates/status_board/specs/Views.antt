@@ -1,0 +1,61 @@
+-- What contracts see of the ends of a board.
+use Rattle.std.specs.Prelude.{◌≡◌, ℕ, ◌+◌, List, [], ◌∷◌, ◌++◌, length, slice_index_or}
+use Rattle.atomic_table.specs.Seated.{TableId}
+use Rattle.status_board.specs.declared.counts.Counts.{Counts}
+use Rattle.status_board.specs.History.{NoFieldFalls, value_of, IsRising, StartsWith}
+
+-- a link's cell, whose name callers only compare, and its history
+pub record Published : Type 0 where
+  pub cell : TableId
+  pub history : List Counts
+
+-- a link's cell, what was seen of its history, and by how many loads
+pub record Seen : Type 0 where
+  pub cell : TableId
+  pub history : List Counts
+  pub loads : ℕ
+
+-- the name of no cell
+abbrev pub no_cell : TableId
+no_cell = record { words = 0; slots = 0; views_name = 0; atom = 0; block = 0; offset = 0; slot_names = [] }
+
+-- what was published of a link
+abbrev pub published : List Published → ℕ → Published
+published board link = slice_index_or board link (record { cell = no_cell; history = [] })
+
+-- what was seen of a link
+abbrev pub seen : List Seen → ℕ → Seen
+seen monitor link = slice_index_or monitor link (record { cell = no_cell; history = []; loads = 0 })
+
+-- the value of a link's history
+abbrev pub last_of : List Published → ℕ → Counts
+last_of board link = value_of (published board link).history
+
+-- how many links a monitor reads
+abbrev pub links_of : List Seen → ℕ
+links_of monitor = length monitor
+
+-- with an entry more
+abbrev pub with_entry : Published → Counts → Published
+with_entry link counts = record link { history = link.history ++ counts ∷ [] }
+
+-- A reading: one load more. What it found is, whole, the value of a history that begins with all that was seen
+-- before, and is seen now; so no field falls from one reading to the next.
+pub record IsReading (before : Seen) (found : Counts) (after : Seen) : Type 0 where
+  pub cell : after.cell ≡ before.cell
+  pub loads : after.loads ≡ before.loads + 1
+  pub begins : StartsWith after.history before.history
+  pub rising : IsRising after.history
+  pub value : found ≡ value_of after.history
+  pub above : NoFieldFalls (value_of before.history) found
+
+-- both ends of a link are of one cell, of which nothing was published and nothing seen
+pub record IsNew (written : Published) (read : Seen) : Type 0 where
+  pub cell : written.cell ≡ read.cell
+  pub unpublished : written.history ≡ []
+  pub unseen : read.history ≡ []
+  pub unread : read.loads ≡ 0
+
+-- so it is of each link
+abbrev pub AreNew : List Published → List Seen → Type 0
+AreNew board monitor = (link : ℕ) → IsNew (published board link) (seen monitor link)

@@ -1,0 +1,42 @@
+//! What is counted of a virtual link.
+ghost use Rattle.std.specs.Prelude.{[], ◌∷◌};
+
+use crossbeam_utils::atomic::Words;
+
+/// What was sent of a virtual link: the frames that a network took at least, the sum of their lengths,
+/// the messages whose last frame is among them, and the moment of the last of them in microseconds,
+/// 0 before the first.
+#[derive(Clone, Copy, Debug, PartialEq, Eq)]
+pub struct Counts {
+    pub frames: u64,
+    pub bytes: u64,
+    pub messages: u64,
+    pub last: u64,
+}
+
+impl Counts {
+    /// Of a link that has sent nothing.
+    pub const ZERO: Counts = Counts {
+        frames: 0,
+        bytes: 0,
+        messages: 0,
+        last: 0,
+    };
+}
+
+impl Words<4> for Counts {
+    ghost words = { λ c. c.frames ∷ c.bytes ∷ c.messages ∷ c.last ∷ [] };
+
+    fn to_words(self) -> [u64; 4] {
+        [self.frames, self.bytes, self.messages, self.last]
+    }
+
+    fn from_words(bits: &[u64; 4]) -> Counts {
+        Counts {
+            frames: bits[0],
+            bytes: bits[1],
+            messages: bits[2],
+            last: bits[3],
+        }
+    }
+}

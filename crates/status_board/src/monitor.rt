@@ -1,0 +1,39 @@
+//! The end of the board that reads.
+ghost use Rattle.std.specs.Prelude.{◌≡◌, ◌<◌, slice_set};
+ghost use Rattle.status_board.specs.Views.{seen, links_of, IsReading};
+
+use crate::counts::Counts;
+use crate::reader::Reader;
+use std::marker::Model;
+use std::sync::Wait;
+
+/// The end of the board that reads, in any thread. Contracts see the cell of each link, what was seen
+/// of its history, and how many loads were made.
+#[derive(Drop)]
+pub struct Monitor {
+    pub(crate) links: Vec<Reader>,
+}
+
+impl Model for Monitor {
+    ghost use Rattle.std.specs.Prelude.{List};
+    ghost use Rattle.status_board.specs.Views.{Seen};
+
+    ghost Value = { List Seen };
+
+    ghost view = { λ m. m.links.items };
+}
+
+impl Monitor {
+    /// Reads a link by one load: the value of its history as far as it was published, which begins with
+    /// all that this monitor had seen before. All zeros before the first entry. It may wait for an entry
+    /// that is being published on this link. It takes no memory.
+    #[inline(always)]
+    pub fn read<R: Wait>(&mut self, rt: &R, link: usize) -> Counts
+        requires { link < links_of self.old }
+        ensures reading { IsReading (seen self.old link) result (seen self.new link) }
+        ensures others { self.new ≡ slice_set self.old link (seen self.new link) }
+        ensures links { links_of self.new ≡ links_of self.old }
+    {
+        self.links[link].read(rt)
+    }
+}

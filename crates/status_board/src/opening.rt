@@ -1,0 +1,44 @@
+//! A board is opened.
+ghost use Rattle.std.specs.Prelude.{◌≡◌, length, IfOk};
+ghost use Rattle.status_board.specs.Views.{links_of, AreNew, IsNew};
+
+use crate::board::Board;
+use crate::counts::Counts;
+use crate::monitor::Monitor;
+use crate::reader::Reader;
+use crate::rule::{Cell, Makes};
+use crate::writer::Writer;
+use std::alloc::{AllocError, Global};
+use std::sync::Arc;
+
+/// A board of so many links on which nothing was published, and the monitor that reads it and has seen
+/// nothing. All memory that its ends need is asked for here.
+pub fn open_board(alloc: Global, links: usize) -> Result<(Board, Monitor), AllocError>
+    ensures board { IfOk result (λ r. length r.0 ≡ links) }
+    ensures monitor { IfOk result (λ r. links_of r.1 ≡ links) }
+    ensures new { IfOk result (λ r. AreNew r.0 r.1) }
+{
+    let mut writers = Vec::with_capacity(alloc, links)?;
+    let mut readers = Vec::with_capacity(alloc, links)?;
+    for _ in 0..links {
+        let (writer, reader) = open_link(alloc)?;
+        writers.push(writer)?;
+        readers.push(reader)?;
+    }
+    Ok((Board { links: writers }, Monitor { links: readers }))
+}
+
+// The two ends of one link's cell.
+fn open_link(alloc: Global) -> Result<(Writer, Reader), AllocError>
+    ensures { IfOk result (λ r. IsNew r.0 r.1) }
+{
+    let (cell, mut pass) = Cell::ruled(alloc, Counts::ZERO)?;
+    let reading = cell.split_pass::<Makes>(&mut pass);
+    let cell = Arc::new(alloc, cell)?;
+    let other = Arc::try_clone(&cell)?;
+    let reader = Reader {
+        cell: other,
+        pass: reading,
+    };
+    Ok((Writer { cell, pass }, reader))
+}

@@ -1,0 +1,45 @@
+//! The end of a link's cell that reads.
+ghost use Rattle.status_board.specs.Views.{IsReading};
+
+use crate::cell::read;
+use crate::counts::Counts;
+use crate::rule::{Cell, Knowing};
+use std::marker::Model;
+use std::sync::{Arc, Wait};
+
+/// The end that reads. Contracts see its cell, what it has seen of the history, and how many loads it
+/// has made.
+#[derive(Drop)]
+pub struct Reader {
+    pub(crate) cell: Arc<Cell>,
+    pub(crate) pass: Knowing,
+}
+
+impl Model for Reader {
+    ghost use Rattle.std.specs.Prelude.{◌≡◌, true};
+    ghost use Rattle.std.specs.Arc.{arc_value};
+    ghost use Rattle.crossbeam_utils.specs.Seq.{cell_view};
+    ghost use Rattle.status_board.specs.Rule.{counts_of};
+    ghost use Rattle.status_board.specs.Views.{Seen};
+
+    ghost Value = { Seen };
+
+    ghost view = { λ r. record {
+      cell = r.pass.table_id;
+      history = counts_of (cell_view r.pass).history;
+      loads = (cell_view r.pass).loads;
+    } };
+
+    ghost invariant = { λ r. (r.pass.table_id ≡ (arc_value r.cell).table.shared.table_id)
+        × ((cell_view r.pass).reads ≡ true) };
+}
+
+impl Reader {
+    /// Takes one load, and answers what it found.
+    #[inline(always)]
+    pub fn read<R: Wait>(&mut self, rt: &R) -> Counts
+        ensures { IsReading self.old result self.new }
+    {
+        read(rt, &self.cell, &mut self.pass)
+    }
+}

@@ -1,0 +1,99 @@
+//! The rule of a link's cell: it holds the value of one history, which the writer knows whole, and the
+//! monitor as far as it was published before its last load.
+use crate::counts::Counts;
+use atomic_table::{Join, Split};
+use crossbeam_utils::atomic::seq_cell::{Pass, RuledSeqCell};
+use crossbeam_utils::rule::{Outcome, Protocol};
+use std::collections::LinkedList;
+
+/// The cell of a link.
+pub type Cell = RuledSeqCell<Counts, View, History, 4>;
+
+/// What an end of the cell knows.
+pub type Knowing = Pass<Counts, View>;
+
+/// An entry of the history, with the number of loads that the monitor had made before it. No value of
+/// it is made.
+pub struct Stamped {
+    pub counts: Counts,
+    pub loads: u64,
+}
+
+/// What a pass knows. No value of it is made.
+// `history` is what it knows of the history, `loads` the number of its loads, and `heard` what another
+// pass told it of the history.
+pub struct View {
+    pub writes: bool,
+    pub reads: bool,
+    pub history: LinkedList<Stamped>,
+    pub loads: u64,
+    pub heard: LinkedList<Stamped>,
+}
+
+/// The rule.
+pub struct History;
+
+impl Protocol<Counts, View> for History {
+    ghost use Rattle.status_board.specs.Rule.{Keeps, opener};
+
+    ghost holds = { Keeps };
+
+    ghost first = { opener };
+}
+
+/// The writer publishes an entry.
+pub struct Publishes;
+
+impl Outcome<Counts, View> for Publishes {
+    ghost use Rattle.status_board.specs.Rule.{Adds};
+
+    ghost then = { Adds };
+}
+
+/// The monitor loads.
+pub struct Loads;
+
+impl Outcome<Counts, View> for Loads {
+    ghost use Rattle.status_board.specs.Rule.{Finds};
+
+    ghost then = { Finds };
+}
+
+/// The writer compares what it heard with what it published.
+pub struct Compares;
+
+impl Outcome<Counts, View> for Compares {
+    ghost use Rattle.status_board.specs.Rule.{Agrees};
+
+    ghost then = { Agrees };
+}
+
+/// The writer makes the monitor.
+pub struct Makes;
+
+impl Split<View> for Makes {
+    ghost use Rattle.status_board.specs.Rule.{without_reading, as_monitor};
+
+    ghost left = { without_reading };
+
+    ghost right = { as_monitor };
+}
+
+/// The monitor tells what it has seen, and the writer hears it.
+pub struct Tells;
+
+impl Split<View> for Tells {
+    ghost use Rattle.status_board.specs.Rule.{as_told};
+
+    ghost left = { λ v. v };
+
+    ghost right = { as_told };
+}
+
+impl Join<View> for Tells {
+    ghost use Rattle.status_board.specs.Rule.{hearing, nobody};
+
+    ghost both = { hearing };
+
+    ghost spent = { nobody };
+}
