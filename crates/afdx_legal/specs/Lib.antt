@@ -3,3 +3,4 @@ pub mod Legal
 pub mod Allowed
 pub mod Done
 pub mod WorkedMessage
+pub mod Counting

@@ -5,6 +5,7 @@ pub mod Closing
 pub mod SubInStep
 pub mod SubKept
 pub mod PaceOfStream
+pub mod OneMore
 pub mod ChosenSub
 pub mod TurnLaws
 pub mod LinkTurn

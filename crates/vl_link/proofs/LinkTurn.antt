@@ -15,6 +15,7 @@ use Rattle.vl_shaper.specs.Pace.{Pace, IsLater}
 use Rattle.vl_link.specs.declared.served.Served.{Served}
 use Rattle.vl_link.specs.declared.served.Served.TheVariants.{Nothing, Released, Lost}
 use Rattle.vl_link.specs.declared.sub_vl.SubVl.{SubVl}
+use Rattle.afdx_legal.specs.Counting.{counts_in}
 use Rattle.afdx_legal.specs.Streams.{latest, link_stream, sub_stream, told, told_of, entry_number, IsNumbered, IsSpaced, IsApart, IsPrefixOf}
 use Rattle.vl_link.specs.Turn.{TurnView, IsChoice, Releases, Loses, is_lost}
 use Rattle.vl_link.specs.Links.{Held, LinkState, held_at, Passes, GivesFrame, held_view, Serves, Follows, IsSameLink, IsLinkOfPlan, pace_of, sub_fragments, taken_by}
@@ -33,6 +34,7 @@ pub record Turned (now : ℕ) (link new : LinkState) (lines after : Lines) (did 
   pub later : IsLater link.pace.last now
   pub whole : link.lost ≡ false
   pub lost : new.lost ≡ is_lost did
+  pub counted : new.counts ≡ counts_in (link_stream new.plan.id.0 (log after))
 
 -- a link is one of its plan
 abbrev pub IsOwn : LinkState → Type 0
@@ -61,8 +63,8 @@ kept_of : (link new : LinkState) (H : List Entry) → IsSameLink link new
     → IsTied (held_at new.subs s) (sub_stream s (link_stream link.plan.id.0 H)))
     → (new.lost ≡ true → (s : ℕ) × (s < link.plan.sub_vls)
     × IsBehind (held_at new.subs s) (sub_stream s (link_stream link.plan.id.0 H)))
-    → IsKept new H
-kept_of link new H same numbered spaced prefixes paced tied behind =
+    → new.counts ≡ counts_in (link_stream new.plan.id.0 H) → IsKept new H
+kept_of link new H same numbered spaced prefixes paced tied behind counted =
     let many : new.plan.sub_vls ≡ link.plan.sub_vls = ap (λ (p : LinkPlan). p.sub_vls) same.plan in
     record {
       numbered = subst (λ (p : LinkPlan). IsNumbered entry_number 0 (link_stream p.id.0 H)) (sym same.plan) numbered;
@@ -87,6 +89,7 @@ kept_of link new H same numbered spaced prefixes paced tied behind =
             behind = subst (λ (p : LinkPlan). IsBehind (held_at new.subs b.0) (sub_stream b.0 (link_stream p.id.0 H)))
                 (sym same.plan) b.2;
           };
+      counted = counted;
     }
 
 -- a prefix, by the sub-VL that it is of
@@ -185,7 +188,8 @@ kept_turn now Nothing link new lines after t own k =
     (λ _. subst (λ (H : List Entry). new.pace ≡ pace_of new.pace.gap new.pace.sub_vls (link_stream new.plan.id.0 H))
     (sym same) t.paced)
     (λ _. tied)
-    (λ (l : new.lost ≡ true). absurd (let e : new.lost ≡ false = t.lost in cc)))
+    (λ (l : new.lost ≡ true). absurd (let e : new.lost ≡ false = t.lost in cc))
+    (subst (λ (H : List Entry). new.counts ≡ counts_in (link_stream new.plan.id.0 H)) (sym same) t.counted))
 kept_turn now (Released sub number) link new lines after t own k =
     let at = t.serves.2 in
     let more = stream_more link.plan.id.0 now sub number at.frame lines after at.of at.enters in
@@ -207,6 +211,7 @@ kept_turn now (Released sub number) link new lines after t own k =
     (λ _. t.paced)
     (λ _. tied)
     (λ (l : new.lost ≡ true). absurd (let e : new.lost ≡ false = t.lost in cc))
+    t.counted
 kept_turn now Lost link new lines after t own k =
     let at = t.serves.1 in
     let below : at.sub < link.plan.sub_vls =
@@ -229,7 +234,8 @@ kept_turn now Lost link new lines after t own k =
         some = λ none. let e : [] ≡ blanked at.frame ∷ (held_at new.subs at.sub).left = sym none ∙ g.gives.next in cc;
         ahead = gave_shown at.frame g.mid (held_at new.subs at.sub) g.gives ∙ mid;
       },
-    )))
+    ))
+    (subst (λ (H : List Entry). new.counts ≡ counts_in (link_stream new.plan.id.0 H)) at.same t.counted))
 
 -- another link's stream
 pub other_stream : (now vl : ℕ) (did : Served) (link new : LinkState) (lines after : Lines)
@@ -261,6 +267,7 @@ kept_stream other H J e k =
             within = b.within;
             behind = subst (λ (S : List Entry). IsBehind (held_at other.subs b.sub) (sub_stream b.sub S)) (sym e) b.behind;
           };
+      counted = k.counted ∙ ap counts_in (sym e);
     }
 
 -- the sub-VL that released a frame is one of its link's

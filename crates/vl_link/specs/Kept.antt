@@ -5,6 +5,7 @@ use Rattle.afdx_frame.specs.declared.net.Net.TheVariants.{A}
 use Rattle.afdx_frame.specs.Fragments.{fragments}
 use Rattle.redundant_mux.specs.Entry.{Entry}
 use Rattle.redundant_mux.specs.Lines.{log}
+use Rattle.afdx_legal.specs.Counting.{counts_in}
 use Rattle.afdx_legal.specs.Streams.{link_stream, sub_stream, told, told_of, entry_number, IsNumbered, IsSpaced, IsPrefixOf}
 use Rattle.vl_link.specs.Links.{Held, LinkState, held_at, taken_by, sub_fragments, pace_of}
 
@@ -33,7 +34,7 @@ IsLinkTied link log = (s : ℕ) → s < link.plan.sub_vls
 
 -- A link's stream is numbered and spaced, and each sub-VL's is a prefix of the fragments of the
 -- messages that it took. Where no frame was lost, its regulation is where the stream is, and each
--- sub-VL is tied to its own. Where one was, some sub-VL stays behind.
+-- sub-VL is tied to its own. Where one was, some sub-VL stays behind. Its counts are those of its stream.
 pub record IsKept (link : LinkState) (log : List Entry) : Type 0 where
   pub numbered : IsNumbered entry_number 0 (link_stream link.plan.id.0 log)
   pub spaced : IsSpaced link.pace.gap None (link_stream link.plan.id.0 log)
@@ -44,3 +45,4 @@ pub record IsKept (link : LinkState) (log : List Entry) : Type 0 where
       → link.pace ≡ pace_of link.pace.gap link.pace.sub_vls (link_stream link.plan.id.0 log)
   pub tied : link.lost ≡ false → IsLinkTied link log
   pub behind : link.lost ≡ true → IsSubBehind link log
+  pub counted : link.counts ≡ counts_in (link_stream link.plan.id.0 log)

@@ -18,6 +18,8 @@ use Rattle.vl_link.specs.Turn.{TurnView, IsChoice, Turn}
 use Rattle.vl_link.specs.declared.served.Served.{Served}
 use Rattle.vl_link.specs.declared.served.Served.TheVariants.{Nothing, Released, Lost}
 use Rattle.vl_link.specs.declared.sub_vl.SubVl.{SubVl}
+use Rattle.status_board.specs.declared.counts.Counts.{Counts}
+use Rattle.status_board.specs.History.{zeros}
 use Rattle.afdx_legal.specs.Streams.{link_stream, latest}
 use Rattle.vl_link.specs.Seen.{Seen, taken_of, known_of, nothing_seen, FindsNothing, Finds, IsSameQueue}
 
@@ -128,14 +130,15 @@ pub record PassedOver (pace : Pace) (old new : List Held) (asked : ℕ) : Type 0
   pub others : (s : ℕ) → ((k : ℕ) → k < asked → turn_of pace.sub_vls pace.last k ≡ s → ⊥)
       → held_at new s ≡ held_at old s
 
--- A link: its plan, its regulation, its sub-VLs, and whether a frame of it was lost with the last
--- network.
+-- A link: its plan, its regulation, its sub-VLs, whether a frame of it was lost with the last
+-- network, and the counts of what it sent.
 pub record LinkState : Type 0 where
   pub end_system : ℕ
   pub plan : LinkPlan
   pub pace : Pace
   pub subs : List Held
   pub lost : Bool
+  pub counts : Counts
 
 -- the link at a place behind the last
 abbrev pub no_link : LinkState
@@ -145,6 +148,7 @@ no_link = record {
   pace = record { gap = 0; sub_vls = 0; last = None; next = 0 };
   subs = [];
   lost = false;
+  counts = zeros;
 }
 
 -- the link at a place

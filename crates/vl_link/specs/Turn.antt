@@ -1,8 +1,8 @@
 -- One turn of a virtual link, by what is known of its sub-VLs, and the turns of links in order.
-use Rattle.std.specs.Prelude.{ℕ, zero, suc, ◌≡◌, ◌⊎◌, ◌+◌, ◌<◌, ◌≤◌, List, [], ◌∷◌, ◌++◌, Bool, true, false}
+use Rattle.std.specs.Prelude.{ℕ, zero, suc, ◌≡◌, ◌⊎◌, ◌+◌, ◌<◌, ◌≤◌, List, [], ◌∷◌, ◌++◌, Bool, true, false, length}
 use Rattle.afdx_frame.specs.declared.net.Net.TheVariants.{A}
 use Rattle.afdx_frame.specs.Header.{IsFrameOf}
-use Rattle.redundant_mux.specs.Entry.{entry}
+use Rattle.redundant_mux.specs.Entry.{Entry, entry}
 use Rattle.redundant_mux.specs.Lines.{Lines, is_alive, log}
 use Rattle.vl_shaper.specs.Pace.{Pace, is_due, turn_of}
 use Rattle.vl_link.specs.declared.served.Served.{Served}
@@ -67,6 +67,18 @@ abbrev pub is_lost : Served → Bool
 is_lost Nothing = false
 is_lost (Released sub number) = false
 is_lost Lost = true
+
+-- what a turn adds to the stream of its link: the frame that it released
+abbrev pub entered : ℕ → Served → List ℕ → List Entry
+entered now Nothing frame = []
+entered now (Released sub number) frame = entry now frame ∷ []
+entered now Lost frame = []
+
+-- a frame that was released has its two headers whole, as far as the offset of the fragment
+abbrev pub HasHeaders : Served → List ℕ → Type 0
+HasHeaders Nothing frame = Unit {0}
+HasHeaders (Released sub number) frame = 22 ≤ length frame
+HasHeaders Lost frame = Unit {0}
 
 -- so many links have their turns in order, from a place on, and the last network isn't lost
 abbrev pub AreTurns : (ℕ → (lines after : Lines) → Served → Type 0) → (k many : ℕ)

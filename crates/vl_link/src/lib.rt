@@ -1,6 +1,7 @@
 //! One turn of a virtual link: its sub-VLs, their queues, and the frame that goes out.
 #![tactic(auto)]
 
+mod count;
 mod link;
 mod queue;
 mod served;

@@ -1,18 +1,24 @@
 //! A link: its sub-VLs in turn.
-ghost use Rattle.std.specs.Prelude.{◌≡◌, ◌≢◌, ℕ, ◌+◌, ◌<◌, [], true, false, ◌||◌, Some, length, IfSome, IfNone};
+ghost use Rattle.std.specs.Prelude.{◌≡◌, ◌≢◌, ℕ, ◌+◌, ◌<◌, ◌≤◌, [], ◌∷◌, ◌++◌, true, false, ◌||◌, Some, length, IfSome, IfNone};
 ghost use Rattle.afdx_plan.specs.Numbers.{sequence_number};
 ghost use Rattle.vl_shaper.specs.Pace.{IsLater, is_due};
 ghost use Rattle.redundant_mux.specs.Lines.{BothEndure, is_alive, log};
 ghost use Rattle.afdx_legal.specs.Streams.{link_stream};
+ghost use Rattle.redundant_mux.specs.Entry.{entry};
+ghost use Rattle.afdx_frame.specs.declared.net.Net.TheVariants.{A as ForA};
+ghost use Rattle.afdx_frame.specs.Header.{IsFrameOf};
 ghost use Rattle.vl_link.specs.Links.{pace_of, AreSubsOf, IsSameSub, AreSameSubs, Serves, Follows, SendsNext, FailsNext, IsPicked, PassedOver};
+ghost use Rattle.vl_link.specs.Turn.{entered, HasHeaders};
 ghost use Rattle.vl_link.specs.LinkDone.{TellsSubsDone};
 ghost use Rattle.vl_link.specs.LinkGathering.{AreFullSubs, GathersSubs};
 
+use crate::count::counts_after;
 use crate::served::Served;
 use crate::sub::Sub;
 use afdx_frame::Frame;
 use afdx_plan::{LinkPlan, VlId};
 use redundant_mux::{Mux, Network, Standing};
+use status_board::Counts;
 use std::alloc::AllocError;
 use std::marker::Model;
 use subvl_queue::Sender;
@@ -59,6 +65,10 @@ fn send_next<A: Network + Drop, B: Network + Drop>(
     ensures released { IfSome result
         (λ number. SendsNext now number sub.old sub.new mux.old mux.new) }
     ensures lost { IfNone result (FailsNext sub.old sub.new mux.old mux.new) }
+    ensures frame { IfSome result
+        (λ number. IsFrameOf sub.old.of.link.id.0 sub.old.of.sub number ForA frame.new.items) }
+    ensures enters { IfSome result
+        (λ _. log mux.new ≡ log mux.old ++ entry now frame.new.items ∷ []) }
     ensures same { IsSameSub sub.old sub.new }
     ensures next { (i : ℕ) → shaper.old.next ≡ sequence_number i →
         shaper.new.next ≡ sequence_number (i + 1) }
@@ -100,6 +110,9 @@ fn serve_due<A: Network + Drop, B: Network + Drop>(
     ensures serves { Serves now plan.now.id.0 shaper.old
         subs.old subs.new mux.old mux.new result }
     ensures paced { Follows plan.now.id.0 shaper.new mux.new result }
+    ensures entered { link_stream plan.now.id.0 (log mux.new)
+        ≡ link_stream plan.now.id.0 (log mux.old) ++ entered now result frame.new.items }
+    ensures headers { HasHeaders result frame.new.items }
     ensures later { IsLater shaper.new.last now }
     ensures gap { shaper.new.gap ≡ shaper.old.gap }
     ensures sub_vls { shaper.new.sub_vls ≡ shaper.old.sub_vls }
@@ -141,7 +154,7 @@ fn gather_subs(subs: &mut [Sub])
 }
 
 /// A virtual link: its sub-VLs and its regulation. Contracts see its plan, its regulation, its
-/// sub-VLs, and whether a frame of it was lost with the last network.
+/// sub-VLs, whether a frame of it was lost with the last network, and the counts of what it sent.
 #[derive(Drop)]
 pub struct Link {
     end_system: u16,
@@ -149,6 +162,7 @@ pub struct Link {
     shaper: Shaper,
     subs: Vec<Sub>,
     lost: bool,
+    counts: Counts,
 }
 
 impl Model for Link {
@@ -162,6 +176,7 @@ impl Model for Link {
       pace = l.shaper;
       subs = l.subs.items;
       lost = l.lost;
+      counts = l.counts;
     } };
 
     ghost invariant = { λ l. IsLinkOfPlan l.end_system l.plan l.shaper l.subs.items };
@@ -174,6 +189,8 @@ impl Link {
     ghost use Rattle.vl_shaper.specs.Pace.{IsLater, is_due};
     ghost use Rattle.redundant_mux.specs.Lines.{BothEndure, is_alive, log};
     ghost use Rattle.afdx_legal.specs.Streams.{link_stream};
+    ghost use Rattle.afdx_legal.specs.Counting.{counts_in};
+    ghost use Rattle.status_board.specs.History.{zeros};
     ghost use Rattle.vl_link.specs.Links.{LinkState, AreNamed, Serves, Follows, IsSameLink, pace_of};
     ghost use Rattle.vl_link.specs.Turn.{is_lost};
     ghost use Rattle.vl_link.specs.LinkDone.{TellsLinkDone};
@@ -201,6 +218,7 @@ impl Link {
           };
           subs = subs.items;
           lost = false;
+          counts = zeros;
         } }
     {
         Link {
@@ -209,6 +227,7 @@ impl Link {
             shaper: Shaper::new(plan.bag, plan.sub_vls),
             subs,
             lost: false,
+            counts: Counts::ZERO,
         }
     }
 
@@ -217,6 +236,13 @@ impl Link {
         ensures { result ≡ self.now.plan.id }
     {
         self.plan.id
+    }
+
+    /// What was sent of it.
+    pub fn counts(&self) -> Counts
+        ensures { result ≡ self.now.counts }
+    {
+        self.counts
     }
 
     /// Whether it has lost no frame, and no sub-VL has anything left.
@@ -251,9 +277,11 @@ impl Link {
         requires alive { is_alive mux.old ≡ true }
         requires paced { self.old.pace ≡ pace_of self.old.pace.gap self.old.pace.sub_vls
             (link_stream self.old.plan.id.0 (log mux.old)) }
+        requires counted { self.old.counts ≡ counts_in (link_stream self.old.plan.id.0 (log mux.old)) }
         ensures serves { Serves now self.old.plan.id.0 self.old.pace
             self.old.subs self.new.subs mux.old mux.new result }
         ensures paced { Follows self.new.plan.id.0 self.new.pace mux.new result }
+        ensures counted { self.new.counts ≡ counts_in (link_stream self.new.plan.id.0 (log mux.new)) }
         ensures later { IsLater self.new.pace.last now }
         ensures same { IsSameLink self.old self.new }
         ensures lost { self.new.lost ≡ (self.old.lost || is_lost result) }
@@ -268,6 +296,7 @@ impl Link {
             now,
         );
         self.lost = self.lost || did.is_lost();
+        self.counts = counts_after(&self.counts, &did, now, frame);
         did
     }
 

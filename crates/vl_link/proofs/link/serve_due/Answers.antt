@@ -1,8 +1,11 @@
-use Rattle.std.proofs.Common.{ℕ, Some, ◌∙◌, ap, refl, inr}
+use Rattle.std.proofs.Common.{ℕ, get_or, Some, ◌∙◌, ap, subst, refl, inr}
+use Rattle.afdx_plan.specs.declared.link_plan.LinkPlan.{LinkPlan}
+use Rattle.afdx_frame.specs.declared.net.Net.TheVariants.{A}
+use Rattle.afdx_frame.specs.Header.{IsFrameOf}
 use Rattle.redundant_mux.proofs.Enduring.{both_none}
 use Rattle.vl_link.proofs.SubInStep.{passed_same}
 use Rattle.vl_link.proofs.ChosenSub.{chosen_left, item_of, set_same, releases_at, loses_at, none_has}
-use Rattle.vl_link.proofs.PaceOfStream.{follows_more}
+use Rattle.vl_link.proofs.PaceOfStream.{follows_more, stream_more}
 use Rattle.vl_link.proofs.link.serve_due.Goals as goal
 
 pub send_next-requires-clause-something : goal.send_next-requires-clause-something
@@ -52,3 +55,11 @@ returns-in-None-send_next-clause-paced g c = tt
 
 pub returns-in-None-clause-endure : goal.returns-in-None-clause-endure
 returns-in-None-clause-endure g c = both_none c.args.mux.now
+
+pub returns-in-Some-send_next-clause-entered : goal.returns-in-Some-send_next-clause-entered
+returns-in-Some-send_next-clause-entered g c =
+    let own = item_of _ c.args.plan.now _ _ _ c.index-subs-sub.result c.in-Some.ensures.chosen c.requires.named in
+    let of = subst (λ (p : LinkPlan). IsFrameOf p.id.0 (get_or c.choose.new.subs c.in-Some.sub c.index-subs-sub.result).of.sub
+    c.in-Some-send_next.number A c.send_next.new.frame.items) own.0 c.in-Some-send_next.ensures.frame in
+    stream_more c.args.plan.now.id.0 c.args.now (get_or c.choose.new.subs c.in-Some.sub c.index-subs-sub.result).of.sub
+    c.in-Some-send_next.number c.send_next.new.frame.items c.args.mux.now c.send_next.new.mux of c.in-Some-send_next.ensures.enters

@@ -1,8 +1,11 @@
-use Rattle.std.proofs.Common.{◌≡◌, ◌∙◌, ◌||◌, List, Bool, true, false, ap, sym, subst}
+use Rattle.std.proofs.Common.{ℕ, ◌≡◌, ◌++◌, ◌∙◌, ◌||◌, List, Bool, true, false, length, refl, ap, sym, subst}
 use Rattle.std.proofs.lemmas.List.{with_items_is}
 use Rattle.std.specs.Vec.{with_items}
-use Rattle.vl_link.specs.Links.{Held, LinkState, Serves}
-use Rattle.vl_link.specs.Turn.{is_lost}
+use Rattle.vl_link.specs.Links.{Held, LinkState, Serves, AreSameSubs, IsSameLink}
+use Rattle.redundant_mux.specs.Lines.{log}
+use Rattle.afdx_legal.specs.Streams.{link_stream}
+use Rattle.afdx_legal.specs.Counting.{counts_in}
+use Rattle.vl_link.specs.Turn.{is_lost, entered}
 use Rattle.vl_link.proofs.link.Link.serve.Goals as goal
 use Rattle.vl_link.proofs.link.Link.serve.Goals.{then-self, else-self}
 
@@ -32,3 +35,32 @@ returns-clause-lost g c =
           ap (λ (b : Bool). b || did) (sym w.if-self.false ∙ held) in
           cc
     ]
+
+pub returns-clause-counted : goal.returns-clause-counted
+returns-clause-counted g c =
+    let vl = c.self.inside.plan.id.0 in
+    let before = subst (λ (l : LinkState). l.counts ≡ counts_in (link_stream l.plan.id.0 (log c.args.mux.now))) (sym c.self.view_is)
+    c.requires.counted in
+    c.counts_after-self-inside.ensures (link_stream vl (log c.args.mux.now)) before
+    ∙ ap (λ (frame : List ℕ). counts_in (link_stream vl (log c.args.mux.now) ++ entered c.args.now c.serve_due-did.result frame))
+    c.deref.ensures.0
+    ∙ ap counts_in (sym c.serve_due-did.ensures.entered)
+
+-- a link that stays the one that it was, by what it was
+link_is : (old inside new : LinkState) → inside ≡ old → IsSameLink inside new → IsSameLink old new
+link_is old inside new is same = subst (λ (l : LinkState). IsSameLink l new) is same
+
+pub returns-clause-same : goal.returns-clause-same
+returns-clause-same g c =
+    let is : (with_items c.self.inside.subs c.serve_due-did.new.subs).items ≡ c.serve_due-did.new.subs =
+    with_items_is c.self.inside.subs c.serve_due-did.new.subs (c.serve_due-did.auto.subs ∙ c.deref_mut.ensures.len) in
+    let did = c.serve_due-did.ensures in
+    link_is _ _ _ c.self.view_is (record {
+      end_system = refl;
+      plan = refl;
+      gap = did.gap;
+      sub_vls = did.sub_vls;
+      count = ap length is ∙ c.serve_due-did.auto.subs ∙ ap length c.deref_mut.ensures.value;
+      subs = subst (λ (xs : List Held). AreSameSubs c.self.inside.subs.items xs) (sym is)
+          (subst (λ (xs : List Held). AreSameSubs xs c.serve_due-did.new.subs) c.deref_mut.ensures.value did.same);
+    })

@@ -1,0 +1,37 @@
+-- What was sent of a link, counted in its stream: read out of what was handed over alone.
+use Rattle.std.specs.Prelude.{ℕ, ◌-◌, ◌^◌, List, [], ◌∷◌, Bool, nat_lt, min, length, filter}
+use Rattle.std.specs.List.{sum_by}
+use Rattle.afdx_frame.specs.Profile.{fragment_field}
+use Rattle.afdx_frame.specs.Roles.{more_fragments}
+use Rattle.redundant_mux.specs.Entry.{Entry}
+use Rattle.status_board.specs.declared.counts.Counts.{Counts}
+
+-- a count stays at the greatest number of 64 bits once it is there
+abbrev pub capped : ℕ → ℕ
+capped n = min n (2 ^ 64 - 1)
+
+-- the sum of the lengths of the frames, with their sequence numbers
+abbrev pub bytes_in : List Entry → ℕ
+bytes_in stream = sum_by (λ (e : Entry). length e.frame) stream
+
+-- whether a frame is the last of its message: no more fragments follow (RFC 791, 3.1)
+abbrev pub ends_message : Entry → Bool
+ends_message e = nat_lt (fragment_field e.frame) more_fragments
+
+-- the messages whose last frame is among them
+abbrev pub messages_in : List Entry → ℕ
+messages_in stream = length (filter ends_message stream)
+
+-- the moment of the last entry, or this one where there is none
+abbrev pub moment_after : ℕ → List Entry → ℕ
+moment_after at [] = at
+moment_after at (e ∷ es) = moment_after e.at es
+
+-- the counts of a stream
+abbrev pub counts_in : List Entry → Counts
+counts_in stream = record {
+  frames = capped (length stream);
+  bytes = capped (bytes_in stream);
+  messages = capped (messages_in stream);
+  last = moment_after 0 stream;
+}
