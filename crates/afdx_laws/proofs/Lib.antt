@@ -25,3 +25,4 @@ pub mod WorkedMoments
 pub mod WorkedNumbers
 pub mod WorkedPieces
 pub mod WorkedLosses
+pub mod WorkedCounts

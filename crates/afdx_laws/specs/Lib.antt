@@ -17,3 +17,5 @@ pub mod WorkedSkew
 pub mod WorkedReceiving
 pub mod WorkedOrder
 pub mod WorkedLoss
+pub mod Counted
+pub mod WorkedCounts

@@ -4,6 +4,7 @@
 //! networks deliver what is said. None says anything of frames that both networks lose, of a transmitter
 //! that begins anew with number 0, of a receiver that starts later than the stream, or of its timer for
 //! frames that come late (SkewMax).
+ghost use Rattle.afdx_laws.specs.Counted.{CountsRise};
 ghost use Rattle.afdx_laws.specs.Delivery.{InOrder};
 ghost use Rattle.afdx_laws.specs.Handed.{HandedArrive, HandedDespiteLoss};
 ghost use Rattle.afdx_laws.specs.Loss.{FirstComes, LossMasked, LossNotMasked, MaskedFromFirst, NumbersClash};
@@ -13,6 +14,7 @@ ghost use Rattle.afdx_laws.specs.Plans.{LegalArrive, LegalDespiteLoss, LegalPass
 ghost use Rattle.afdx_laws.specs.Policer.{EarlyDropped, NoMorePasses, NoneDropped};
 ghost use Rattle.afdx_laws.specs.Skew.{SkewIsFit, SkewIsNear};
 ghost use Rattle.afdx_laws.specs.Spacing.{StreamPasses};
+ghost use Rattle.afdx_laws.specs.WorkedCounts.{CountsTwo};
 ghost use Rattle.afdx_laws.specs.WorkedDelivery.{OneMessageArrives};
 ghost use Rattle.afdx_laws.specs.WorkedLoss.{MasksOneLoss, NeedsTheFirst, BeginsOnBoth};
 ghost use Rattle.afdx_laws.specs.WorkedLoss.{ComesDespiteLoss, HandedDespiteOneLoss, LegalDespiteOneLoss};
@@ -266,4 +268,16 @@ pub fn own_lists_arrive()
 
     // the demonstration configuration, with one message
     ensures worked { OneIsWhole }
+{}
+
+/// The counts of a link's stream (frames, bytes, whole messages, the moment of the last frame) don't
+/// fall as the stream grows.
+///
+/// That the stream is spaced is a premise: legal handing over has it. Each count stays at the greatest
+/// number of 64 bits once it is there.
+pub fn counts_rise()
+    ensures rise { CountsRise }
+
+    // a message in two frames, counted with the second; and moments that go back
+    ensures worked { CountsTwo }
 {}
