@@ -68,6 +68,7 @@ fresh_kept own ports plan link f =
           let below : s < plan.sub_vls = subst (λ (p : LinkPlan). s < p.sub_vls) f.plan lt in
           fresh_tied _ _ _ (held_at link.subs s) (f.subs.each s below);
       behind = λ (l : link.lost ≡ true). absurd (let e : link.lost ≡ false = f.lost in cc);
+      counted = f.counts;
     }
 
 -- a link that released nothing was not served after moment 0

@@ -18,6 +18,9 @@ use Rattle.afdx_tx.specs.Drain.{AreGathered}
 use Rattle.afdx_tx.specs.Gathering.{OnlyTakeBack, IsTakenBack, GathersLinks, GathersPorts, IsGatheredLink, IsGatheredTx, HasShape, HasOwnPart, held_for}
 use Rattle.afdx_tx.proofs.PortLink.{link_within}
 use Rattle.afdx_tx.proofs.PortMessages.{own_messages}
+use Rattle.status_board.specs.Views.{Published}
+use Rattle.afdx_tx.specs.Publishing.{Reaches}
+use Rattle.afdx_tx.proofs.Publishing.{reaches_kept}
 use Rattle.afdx_tx.proofs.KeptLinks.{kept_sound}
 use Rattle.afdx_tx.proofs.TakenBack.{whole_from, back_kept}
 use Rattle.afdx_tx.proofs.GatheredEmitter.{gathered_kept, shape_of}
@@ -102,6 +105,12 @@ gathers_sound config old ports new lines moment g sound =
     kept_sound config g.mid new lines moment (gathered_kept g.mid new g.gathers)
     (kept_sound config old g.mid lines moment (back_kept old g.mid g.takes) sound)
 
+-- and what was published stays below what is counted
+pub gathers_reaches : (config : Plan) (old : List LinkState) (ports : List PortView) (new : List LinkState) (board : List Published)
+    → GathersPorts config old ports new → Reaches old board → Reaches new board
+gathers_reaches config old ports new board g r =
+    reaches_kept g.mid new board (gathered_kept g.mid new g.gathers) (reaches_kept old g.mid board (back_kept old g.mid g.takes) r)
+
 -- and of each port its own list is what was accepted
 pub gathers_tx : (old new : Tx) (ports : List PortView) → GathersPorts old.plan old.links ports new.links
     → new ≡ record old { links = new.links } → IsSound old.plan old.links old.lines old.moment
@@ -113,6 +122,7 @@ gathers_tx old new ports g same sound after opened every =
       plan = ap (λ (t : Tx). t.plan) same;
       lines = ap (λ (t : Tx). t.lines) same;
       moment = ap (λ (t : Tx). t.moment) same;
+      board = ap (λ (t : Tx). t.board) same;
       count = g.gathers.count ∙ g.takes.count;
       links = λ k lt. link_gathered old.links g.mid new.links k (omega (arith, g.takes.count)) g.takes g.gathers;
       own = λ place lt. own_part old new g.mid ports place sound.valid shape g.takes g.gathers (ap (λ (t : Tx). t.plan) same)

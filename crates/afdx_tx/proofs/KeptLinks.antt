@@ -88,6 +88,7 @@ kept_same old new log g own kept =
             behind = behind_same (held_at old.subs b.sub) (held_at new.subs b.sub)
                 (sub_stream b.sub (link_stream old.plan.id.0 log)) (g.each b.sub (within b.sub b.within)) b.behind;
           };
+      counted = kept.counted;
     })
 
 -- the plans of the links are the same

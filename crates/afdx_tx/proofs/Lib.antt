@@ -4,6 +4,7 @@ pub mod LegalLists
 pub mod SoundEmitter
 pub mod KeptLinks
 pub mod OneSub
+pub mod Publishing
 pub mod FreshEmitter
 pub mod PortLink
 pub mod OwedFragments

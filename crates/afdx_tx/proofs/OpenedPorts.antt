@@ -134,6 +134,7 @@ recount own ports first more link state opened same = record {
         (ports_of_sub ports link.id.0 t) n (held_at state.subs t)) (sym (same t lt)) (opened.subs.each t lt);
   };
   lost = opened.lost;
+  counts = opened.counts;
 }
 
 -- the link of the next port, whose sender was made
@@ -169,6 +170,7 @@ link_more config old place k s calls sender new at opened makes =
             (cases_eq t s);
       };
       lost = ap (λ (l : LinkState). l.lost) makes.same ∙ opened.lost;
+      counts = ap (λ (l : LinkState). l.counts) makes.same ∙ opened.counts;
     }
 
 -- all links, of which one made the sender of the next port

@@ -11,6 +11,8 @@ use Rattle.redundant_mux.specs.Lines.{Lines, log, is_alive}
 use Rattle.vl_shaper.specs.Pace.{Pace, IsLater}
 use Rattle.vl_link.specs.declared.served.Served.{Served}
 use Rattle.vl_link.specs.declared.served.Served.TheVariants.{Nothing, Released, Lost}
+use Rattle.afdx_legal.specs.Counting.{counts_in}
+use Rattle.afdx_legal.specs.Streams.{link_stream}
 use Rattle.afdx_legal.specs.Legal.{IsKnown, AreKnown}
 use Rattle.vl_link.specs.Links.{LinkState, link_at, held_at, no_link, no_link_plan, Serves, Follows, IsSameLink}
 use Rattle.vl_link.specs.Turn.{AreTurns, is_lost}
@@ -36,8 +38,9 @@ pub turned_at : (now i : ℕ) (links : List LinkState) (item new : LinkState) (l
     → item ≡ link_at links i → i < length links → AreServedBy now links → AreWhole links
     → Serves now item.plan.id.0 item.pace item.subs new.subs lines after did → Follows new.plan.id.0 new.pace after did
     → IsSameLink item new → new.lost ≡ (item.lost || is_lost did)
+    → new.counts ≡ counts_in (link_stream new.plan.id.0 (log after))
     → Turned now (link_at links i) new lines after did
-turned_at now i links item new lines after did is lt later whole serves paced same lost =
+turned_at now i links item new lines after did is lt later whole serves paced same lost counted =
     let kept : item.lost ≡ false = ap (λ (l : LinkState). l.lost) is ∙ whole i lt in
     subst (λ (l : LinkState). Turned now l new lines after did) is (record {
       serves = serves;
@@ -46,6 +49,7 @@ turned_at now i links item new lines after did is lt later whole serves paced sa
       later = subst (λ (l : LinkState). IsLater l.pace.last now) (sym is) (later i lt);
       whole = kept;
       lost = lost ∙ ap (λ (b : Bool). b || is_lost did) kept;
+      counted = counted;
     })
 
 -- a network stands after a turn that lost none

@@ -88,6 +88,7 @@ idle_turn now link lines early later whole kept = record {
   later = later;
   whole = whole;
   lost = whole;
+  counted = kept.counted;
 }
 
 -- one more link isn't due

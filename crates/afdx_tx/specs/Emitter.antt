@@ -11,18 +11,21 @@ use Rattle.redundant_mux.specs.Lines.{Lines, log, is_alive, IsMirrored}
 use Rattle.vl_shaper.specs.Pace.{IsLater}
 use Rattle.subvl_queue.specs.Views.{QueueName, new_receiver}
 use Rattle.vl_link.specs.declared.sub_vl.SubVl.{SubVl}
+use Rattle.status_board.specs.History.{zeros}
+use Rattle.status_board.specs.Views.{Published}
 use Rattle.vl_link.specs.Seen.{receiving, queue_of, total_of, IsReceiving}
 use Rattle.afdx_legal.specs.Legal.{Accepted, AreKnown}
 use Rattle.vl_link.specs.Links.{Held, LinkState, held_at, link_at, taken_by, HasOwnItems, IsLinkOfPlan, IsSameLink}
 use Rattle.vl_link.specs.Kept.{IsLinkTied, IsKept}
 
--- An emitter: its plan, its links in the order of the plan, what was handed over, and the moment of
--- the last poll.
+-- An emitter: its plan, its links in the order of the plan, what was handed over, the moment of the
+-- last poll, and what was published of each link.
 pub record Tx : Type 0 where
   pub plan : Plan
   pub links : List LinkState
   pub lines : Lines
   pub moment : ℕ
+  pub board : List Published
 
 -- the plans of links
 abbrev pub plan_of_link : LinkState → LinkPlan
@@ -87,6 +90,7 @@ pub record IsOpenedLink (own : ℕ) (ports first : List PortPlan) (link : LinkPl
   }
   pub subs : AreOpenedSubs own ports first link state.subs link.sub_vls
   pub lost : state.lost ≡ false
+  pub counts : state.counts ≡ zeros
 
 -- each link keeps that
 abbrev pub AreKept : List LinkState → List Entry → Type 0

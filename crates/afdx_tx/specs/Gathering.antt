@@ -90,6 +90,7 @@ pub record IsGatheredTx (old : Tx) (ports : List PortView) (new : Tx) : Type 0 w
   pub plan : new.plan ≡ old.plan
   pub lines : new.lines ≡ old.lines
   pub moment : new.moment ≡ old.moment
+  pub board : new.board ≡ old.board
   pub count : length new.links ≡ length old.links
   pub links : (k : ℕ) → k < length old.links → IsGatheredLink (link_at old.links k) (link_at new.links k)
   pub own : (place : ℕ) → place < length old.plan.ports → HasOwnPart new ports place

@@ -1,6 +1,7 @@
 pub mod Run
 pub mod Report
 pub mod Emitter
+pub mod Publishing
 pub mod Sending
 pub mod Serving
 pub mod Ports

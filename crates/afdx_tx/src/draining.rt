@@ -5,10 +5,11 @@ use crate::transmitter::Transmitter;
 use afdx_plan::Config;
 use redundant_mux::Network;
 use std::marker::Model;
+use std::sync::Wait;
 
 /// Sends what is left in the queues after their ports were gathered, on two networks. What was
 /// accepted doesn't change any more. Contracts see its plan, its links, what was handed to the
-/// networks, and the moment of the last poll.
+/// networks, the moment of the last poll, and what was published.
 #[derive(Drop)]
 pub struct Draining<A: Network + Drop, B: Network + Drop> {
     inner: Transmitter<A, B>,
@@ -31,6 +32,7 @@ impl<A: Network + Drop, B: Network + Drop> Draining<A, B> {
     ghost use Rattle.afdx_legal.specs.Legal.{IsLegal};
     ghost use Rattle.afdx_legal.specs.Allowed.{AreAllowed};
     ghost use Rattle.afdx_tx.specs.Report.{Polls};
+    ghost use Rattle.afdx_tx.specs.Publishing.{Publishes};
     ghost use Rattle.afdx_legal.specs.Done.{IsAllDone};
     ghost use Rattle.afdx_tx.specs.Drain.{AreGathered, IsDrained, IsDrainCutShort, accepted_in};
 
@@ -91,6 +93,7 @@ impl<A: Network + Drop, B: Network + Drop> Draining<A, B> {
             self.new.lines.a self.new.lines.b }
         ensures allowed { AreAllowed self.new.plan (accepted_in self.new.links) }
         ensures plan { self.new.plan ≡ self.old.plan }
+        ensures board { self.new.board ≡ self.old.board }
         ensures accepted { accepted_in self.new.links ≡ accepted_in self.old.links }
         ensures mirrored { IsMirrored self.new.lines }
         ensures endure { BothEndure self.old.lines self.new.lines }
@@ -104,5 +107,14 @@ impl<A: Network + Drop, B: Network + Drop> Draining<A, B> {
             self.old.lines self.new.lines) }
     {
         self.inner.poll(now)
+    }
+
+    /// Publishes the counts of each link, once, in the order of the configuration: those of its stream
+    /// in the longer handed list, which were kept as the frames went out. It may wait for a monitor that
+    /// is in the middle of a reading. It takes no memory.
+    pub fn publish<R: Wait>(&mut self, rt: &R)
+        ensures { Publishes self.old self.new }
+    {
+        self.inner.publish(rt);
     }
 }

@@ -7,11 +7,13 @@ use crate::report::Report;
 use crate::transmitter::Transmitter;
 use afdx_plan::{Config, VlId};
 use redundant_mux::Network;
+use status_board::Board;
 use std::marker::Model;
+use std::sync::Wait;
 use vl_link::Link;
 
 /// Sends what ports hand over, on two networks. Contracts see its plan, its links, what was handed
-/// to the networks, and the moment of the last poll.
+/// to the networks, the moment of the last poll, and what was published.
 #[derive(Drop)]
 pub struct Emitter<A: Network + Drop, B: Network + Drop> {
     inner: Transmitter<A, B>,
@@ -37,23 +39,35 @@ impl<A: Network + Drop, B: Network + Drop> Emitter<A, B> {
     ghost use Rattle.afdx_tx.specs.Run.{IsRun, IsCutShort};
     ghost use Rattle.afdx_tx.specs.Report.{Polls};
     ghost use Rattle.afdx_tx.specs.Emitter.{Tx, IsFreshTx, AreFreshLinks, AreTied, taken_in, queues_in, total_in};
+    ghost use Rattle.status_board.specs.Views.{published};
+    ghost use Rattle.afdx_tx.specs.Publishing.{Publishes};
     ghost use Rattle.afdx_tx.specs.Ports.{AreOpenedWith, LacksPlace};
     ghost use Rattle.afdx_tx.specs.Gathering.{IsGatheredTx};
     ghost use Rattle.afdx_tx.specs.Closing.{LacksSub, ClosesTx};
 
-    /// Over fresh links of a configuration, and networks that were handed nothing.
-    pub(crate) fn over(config: Config, links: Vec<Link>, a: A, b: B) -> Emitter<A, B>
+    /// Over fresh links of a configuration, networks that were handed nothing, and a board of the
+    /// links on which nothing was published.
+    pub(crate) fn over(
+        config: Config,
+        links: Vec<Link>,
+        a: A,
+        b: B,
+        board: Board,
+    ) -> Emitter<A, B>
         requires valid { IsPlan config }
         requires fresh { AreFreshLinks config links.items }
         requires a_empty { A.handed a ≡ [] }
         requires b_empty { B.handed b ≡ [] }
         requires a_new { A.failures a ≡ 0 }
         requires b_new { B.failures b ≡ 0 }
+        requires board { length board ≡ length config.links }
+        requires unpublished { (link : ℕ) → (published board link).history ≡ [] }
         ensures fresh { IsFreshTx config result }
         ensures links { result.links ≡ links.items }
+        ensures board { result.board ≡ board }
     {
         Emitter {
-            inner: Transmitter::over(config, links, a, b),
+            inner: Transmitter::over(config, links, a, b, board),
         }
     }
 
@@ -96,6 +110,7 @@ impl<A: Network + Drop, B: Network + Drop> Emitter<A, B> {
         ensures allowed { AreAllowed self.new.plan (taken_in self.new.links) }
         ensures tied { AreTied self.new.links (log self.new.lines) }
         ensures plan { self.new.plan ≡ self.old.plan }
+        ensures board { self.new.board ≡ self.old.board }
         ensures queues { queues_in self.new.links ≡ queues_in self.old.links }
         ensures totals { (k s : ℕ) → total_in self.new.links k s ≡ total_in self.old.links k s }
         ensures mirrored { IsMirrored self.new.lines }
@@ -126,6 +141,15 @@ impl<A: Network + Drop, B: Network + Drop> Emitter<A, B> {
         ensures queues { queues_in self.new.links ≡ queues_in self.old.links }
     {
         self.inner.close(vl, sub)
+    }
+
+    /// Publishes the counts of each link, once, in the order of the configuration: those of its stream
+    /// in the longer handed list, which were kept as the frames went out. It may wait for a monitor that
+    /// is in the middle of a reading. It takes no memory.
+    pub fn publish<R: Wait>(&mut self, rt: &R)
+        ensures { Publishes self.old self.new }
+    {
+        self.inner.publish(rt);
     }
 
     /// Takes all ports back, in any order, so that what they had accepted is known whole and can be

@@ -4,6 +4,7 @@ ghost use Rattle.afdx_plan.specs.Config.{IsPlan};
 ghost use Rattle.afdx_plan.specs.Plan.{IsLink};
 ghost use Rattle.afdx_tx.specs.Emitter.{IsOpenedSub, IsOpenedLink, AreOpenedLinks, AreFreshLinks, IsFreshTx, ports_of_sub, queues_in};
 ghost use Rattle.afdx_tx.specs.Ports.{ArePortsOf, AreFreshPorts, AreOpenedWith};
+ghost use Rattle.status_board.specs.Views.{links_of, AreNew};
 
 use crate::emitter::Emitter;
 use crate::fault::OpenFault;
@@ -11,6 +12,7 @@ use crate::port::TxPort;
 use crate::routing::{link_of, port_at};
 use afdx_plan::{Config, LinkPlan, PortPlan};
 use redundant_mux::Network;
+use status_board::{Board, Monitor, open_board};
 use std::alloc::{AllocError, Global};
 use subvl_queue::open_queue;
 use vl_link::{Link, Sub, SubVl};
@@ -100,28 +102,46 @@ fn open_ports(alloc: Global, config: &Config, links: &mut [Link]) -> Result<Vec<
     Ok(ports)
 }
 
-/// The links of a configuration, and its ports.
-fn open_parts(alloc: Global, config: &Config) -> Result<(Vec<Link>, Vec<TxPort>), AllocError>
-    ensures links { IfOk result (λ parts. AreFreshLinks config.now parts.0.items) }
+/// What an emitter is made of.
+struct Parts {
+    links: Vec<Link>,
+    ports: Vec<TxPort>,
+    board: Board,
+    monitor: Monitor,
+}
+
+/// All that an emitter of a configuration needs, its ports, and the monitor of its links.
+fn open_parts(alloc: Global, config: &Config) -> Result<Parts, AllocError>
+    ensures links { IfOk result (λ parts. AreFreshLinks config.now parts.links.items) }
     ensures ports { IfOk result
-        (λ parts. ArePortsOf config.now (queues_in parts.0.items) parts.1.items) }
+        (λ parts. ArePortsOf config.now (queues_in parts.links.items) parts.ports.items) }
+    ensures board { IfOk result (λ parts. length parts.board ≡ length config.now.links) }
+    ensures monitor { IfOk result (λ parts. links_of parts.monitor ≡ length config.now.links) }
+    ensures new { IfOk result (λ parts. AreNew parts.board parts.monitor) }
     ensures valid { IsPlan config.now }
 {
     let mut links = open_links(alloc, config)?;
     let ports = open_ports(alloc, config, &mut links)?;
-    Ok((links, ports))
+    let (board, monitor) = open_board(alloc, config.links().len())?;
+    Ok(Parts {
+        links,
+        ports,
+        board,
+        monitor,
+    })
 }
 
 /// Opens an emitter for a configuration over two networks that were handed nothing and have not
-/// failed, and its ports, in the order of the configuration. It makes all the room that sending,
-/// polling and gathering take. Nothing is accepted yet, both networks stand, and each port may ask
-/// 2^40 times. Where memory is refused, all comes back as it was.
+/// failed, its ports, in the order of the configuration, and the monitor that reads how far each of
+/// its links has come, by their places in the configuration. It makes all the room that sending,
+/// polling, publishing and gathering take. Nothing is accepted or published yet, both networks stand,
+/// and each port may ask 2^40 times. Where memory is refused, all comes back as it was.
 pub fn open_tx<A: Network + Drop, B: Network + Drop>(
     alloc: Global,
     config: Config,
     a: A,
     b: B,
-) -> Result<(Emitter<A, B>, Vec<TxPort>), OpenFault<A, B>>
+) -> Result<(Emitter<A, B>, Vec<TxPort>, Monitor), OpenFault<A, B>>
     requires a_empty { A.handed a ≡ [] }
     requires b_empty { B.handed b ≡ [] }
     requires a_new { A.failures a ≡ 0 }
@@ -129,12 +149,24 @@ pub fn open_tx<A: Network + Drop, B: Network + Drop>(
     ensures fresh { IfOk result (λ opened. IsFreshTx config opened.0) }
     ensures ports { IfOk result (λ opened. AreFreshPorts opened.0 opened.1.items) }
     ensures opened { IfOk result (λ opened. AreOpenedWith opened.0 opened.1.items) }
+    ensures board { IfOk result (λ opened. length opened.0.board ≡ length config.links) }
+    ensures monitor { IfOk result (λ opened. links_of opened.2 ≡ length config.links) }
+    ensures new { IfOk result (λ opened. AreNew opened.0.board opened.2) }
     ensures config { IfErr result (λ fault. fault.config ≡ config) }
     ensures a { IfErr result (λ fault. fault.a ≡ a) }
     ensures b { IfErr result (λ fault. fault.b ≡ b) }
 {
     match open_parts(alloc, &config) {
-        Ok((links, ports)) => Ok((Emitter::over(config, links, a, b), ports)),
+        Ok(parts) => {
+            let Parts {
+                links,
+                ports,
+                board,
+                monitor,
+            } = parts;
+            let emitter = Emitter::over(config, links, a, b, board);
+            Ok((emitter, ports, monitor))
+        }
         Err(_) => Err(OpenFault { config, a, b }),
     }
 }

@@ -8,6 +8,7 @@ ghost use Rattle.afdx_tx.specs.Run.{IsRun, IsCutShort};
 ghost use Rattle.afdx_tx.specs.Report.{IsTold, turn_release};
 ghost use Rattle.afdx_tx.specs.Emitter.{plans, AreApart, AreLinks, AreKept, AreWhole, AreServedBy};
 ghost use Rattle.afdx_tx.specs.Serving.{IsSteady};
+ghost use Rattle.afdx_tx.specs.Publishing.{Reaches, PublishesCounts};
 ghost use Rattle.afdx_tx.specs.Done.{TellsAllDone};
 
 use crate::closing::place_of;
@@ -19,7 +20,9 @@ use afdx_frame::Frame;
 use afdx_plan::{Config, VlId};
 use arrayvec::ArrayVec;
 use redundant_mux::{Mux, Network};
+use status_board::Board;
 use std::marker::Model;
+use std::sync::Wait;
 use vl_link::{Link, Served, some_stands};
 
 /// Adds what a turn released.
@@ -82,8 +85,19 @@ fn all_done(links: &[Link]) -> bool
     true
 }
 
+/// Publishes the counts of each link on a board.
+fn publish_all<R: Wait>(rt: &R, links: &[Link], board: &mut Board)
+    requires { Reaches links.now board.old }
+    ensures counts { PublishesCounts links.now board.old board.new }
+    ensures reaches { Reaches links.now board.new }
+{
+    for link in 0..links.len() {
+        board.publish(rt, link, links[link].counts());
+    }
+}
+
 /// Sends what is taken from the queues of its sub-VLs, on two networks. Contracts see its plan, its
-/// links, what was handed to the networks, and the moment of the last poll.
+/// links, what was handed to the networks, the moment of the last poll, and what was published.
 #[derive(Drop)]
 pub struct Transmitter<A: Network + Drop, B: Network + Drop> {
     config: Config,
@@ -92,10 +106,12 @@ pub struct Transmitter<A: Network + Drop, B: Network + Drop> {
     // Where each frame is made.
     frame: Frame,
     moment: u64,
+    board: Board,
 }
 
 impl<A: Network + Drop, B: Network + Drop> Model for Transmitter<A, B> {
     ghost use Rattle.afdx_tx.specs.Emitter.{Tx, IsSound};
+    ghost use Rattle.afdx_tx.specs.Publishing.{Reaches};
 
     ghost Value = { Tx };
 
@@ -104,13 +120,16 @@ impl<A: Network + Drop, B: Network + Drop> Model for Transmitter<A, B> {
       links = e.links.items;
       lines = e.mux;
       moment = e.moment;
+      board = e.board;
     } };
 
-    ghost invariant = { λ e. IsSound e.config e.links.items e.mux e.moment };
+    ghost invariant = { λ e. IsSound e.config e.links.items e.mux e.moment
+        × Reaches e.links.items e.board };
 }
 
 impl<A: Network + Drop, B: Network + Drop> Transmitter<A, B> {
-    ghost use Rattle.std.specs.Prelude.{◌≡◌, ◌≤◌, ◌↔◌, [], true, false, length, IsTrue, IsErr, OnErr, OnOk, IfOk};
+    ghost use Rattle.std.specs.Prelude.{◌≡◌, ◌≤◌, ◌↔◌, ℕ, [], true, false, length, IsTrue, IsErr, OnErr, OnOk, IfOk};
+    ghost use Rattle.status_board.specs.Views.{published};
     ghost use Rattle.afdx_plan.specs.Config.{IsPlan};
     ghost use Rattle.redundant_mux.specs.Lines.{BothEndure, is_alive, log, IsMirrored};
     ghost use Rattle.afdx_legal.specs.Legal.{IsLegal};
@@ -118,6 +137,7 @@ impl<A: Network + Drop, B: Network + Drop> Transmitter<A, B> {
     ghost use Rattle.afdx_tx.specs.Run.{IsRun, IsCutShort};
     ghost use Rattle.afdx_tx.specs.Report.{Polls};
     ghost use Rattle.afdx_tx.specs.Emitter.{Tx, IsFreshTx, AreFreshLinks, AreLinksOf, AreTied, HaveOwnItems, IsSamePlan, taken_in};
+    ghost use Rattle.afdx_tx.specs.Publishing.{Publishes};
     ghost use Rattle.afdx_legal.specs.Done.{IsAllDone};
     ghost use Rattle.afdx_tx.specs.Drain.{AreGathered, accepted_in};
     ghost use Rattle.afdx_tx.specs.Emitter.{AreReceiving};
@@ -125,16 +145,20 @@ impl<A: Network + Drop, B: Network + Drop> Transmitter<A, B> {
     ghost use Rattle.afdx_tx.specs.Gathering.{IsGatheredTx};
     ghost use Rattle.afdx_tx.specs.Closing.{LacksSub, ClosesTx};
 
-    /// Over fresh links of a configuration, and networks that were handed nothing.
-    pub fn over(config: Config, links: Vec<Link>, a: A, b: B) -> Transmitter<A, B>
+    /// Over fresh links of a configuration, networks that were handed nothing, and a board of the
+    /// links on which nothing was published.
+    pub fn over(config: Config, links: Vec<Link>, a: A, b: B, board: Board) -> Transmitter<A, B>
         requires valid { IsPlan config }
         requires fresh { AreFreshLinks config links.items }
         requires a_empty { A.handed a ≡ [] }
         requires b_empty { B.handed b ≡ [] }
         requires a_new { A.failures a ≡ 0 }
         requires b_new { B.failures b ≡ 0 }
+        requires board { length board ≡ length config.links }
+        requires unpublished { (link : ℕ) → (published board link).history ≡ [] }
         ensures fresh { IsFreshTx config result }
         ensures links { result.links ≡ links.items }
+        ensures board { result.board ≡ board }
     {
         Transmitter {
             config,
@@ -142,6 +166,7 @@ impl<A: Network + Drop, B: Network + Drop> Transmitter<A, B> {
             mux: Mux::new(a, b),
             frame: Frame::new(),
             moment: 0,
+            board,
         }
     }
 
@@ -184,6 +209,7 @@ impl<A: Network + Drop, B: Network + Drop> Transmitter<A, B> {
             mux,
             frame: _,
             moment: _,
+            board: _,
         } = self;
         mux.into_networks()
     }
@@ -199,6 +225,7 @@ impl<A: Network + Drop, B: Network + Drop> Transmitter<A, B> {
         ensures accepted { AreAllowed self.new.plan (accepted_in self.new.links) }
         ensures tied { AreTied self.new.links (log self.new.lines) }
         ensures plan { self.new.plan ≡ self.old.plan }
+        ensures board { self.new.board ≡ self.old.board }
         ensures same { IsSamePlan self.old.links self.new.links }
         ensures of_plan { AreLinksOf self.old.plan self.old.links }
         ensures mirrored { IsMirrored self.new.lines }
@@ -240,6 +267,13 @@ impl<A: Network + Drop, B: Network + Drop> Transmitter<A, B> {
             None => Err(NoSuchSub),
             Some(place) => Ok(self.links[place].close(sub)),
         }
+    }
+
+    /// Publishes the counts of each link, once, in the order of the configuration.
+    pub fn publish<R: Wait>(&mut self, rt: &R)
+        ensures { Publishes self.old self.new }
+    {
+        publish_all(rt, &self.links, &mut self.board);
     }
 
     /// Takes the ports back, which are all that the configuration has, and gathers the queue of each

@@ -47,7 +47,7 @@ impl Bench {
         let a = FrameLog::new(alloc);
         let b = FrameLog::new(alloc);
         match open_tx(alloc, config, a, b) {
-            Ok((emitter, ports)) => Ok(Bench { emitter, ports }),
+            Ok((emitter, ports, _monitor)) => Ok(Bench { emitter, ports }),
             Err(_) => Err(RunFault::Memory),
         }
     }

@@ -53,7 +53,7 @@ loop-link-preserved g c =
       | then-is_due+else-is_lost w ↦
           let e = w.serve-did.ensures in
           let turned : Turned c.args.now (link_at links i) w.serve-did.new.self c.loop-link.mux w.serve-did.new.mux w.serve-did.result =
-          turned_at _ _ links _ _ _ _ _ (asked g c) lt p.serving.steady.later p.serving.whole e.serves e.paced e.same e.lost in
+          turned_at _ _ links _ _ _ _ _ (asked g c) lt p.serving.steady.later p.serving.whole e.serves e.paced e.same e.lost e.counted in
           let names : w.note.new.released.items ≡ c.loop-link.released.items
           ++ turn_release (link_at links i).plan.id w.serve-did.result =
           w.note.ensures ∙ ap (λ (v : VlId). c.loop-link.released.items ++ turn_release v w.serve-did.result)
@@ -82,7 +82,7 @@ turned_here g c lt =
     let e = c.serve-did.ensures in
     turned_at _ _ c.loop-link.links _ _ _ _ _
     (get_or_default c.loop-link.links c.loop-link.link-index c.link-item.result no_link lt) lt s.steady.later s.whole
-    e.serves e.paced e.same e.lost
+    e.serves e.paced e.same e.lost e.counted
 
 pub returns-then-is_lost-clause-steady : goal.returns-then-is_lost-clause-steady
 returns-then-is_lost-clause-steady g c =

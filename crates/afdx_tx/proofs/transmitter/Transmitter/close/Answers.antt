@@ -4,6 +4,7 @@ use Rattle.vl_link.specs.Links.{LinkState, link_at, no_link}
 use Rattle.vl_link.specs.Closing.{ClosesLink}
 use Rattle.afdx_tx.proofs.SoundEmitter.{count_is}
 use Rattle.afdx_tx.proofs.KeptLinks.{kept_sound}
+use Rattle.afdx_tx.proofs.Publishing.{reaches_kept}
 use Rattle.afdx_tx.proofs.ClosedEmitter.{links_closed, closed_kept}
 use Rattle.afdx_tx.proofs.transmitter.Transmitter.close.Goals as goal
 
@@ -12,10 +13,12 @@ invariant_of-self g c =
     let links = c.self.inside.links.items in
     let at = c.in-Some.ensures.some in
     let within : c.in-Some.place < length c.self.inside.links.items =
-    let below = at.within in omega (arith, count_is c.self.inside.config c.self.inside.links.items c.self.invariant.of_plan) in
+    let below = at.within in omega (arith, count_is c.self.inside.config c.self.inside.links.items c.self.invariant.0.of_plan) in
     let here : c.index_mut.result.now ≡ link_at c.self.inside.links.items c.in-Some.place =
     c.index_mut.ensures.value ∙ get_or_default links c.in-Some.place c.index_mut.result.now no_link within in
-    kept_sound c.self.inside.config links _ c.self.inside.mux c.self.inside.moment
-    (closed_kept links _ (links_closed links c.in-Some.place c.args.sub c.close.result c.close.new.self
-    (subst (λ (l : LinkState). ClosesLink l c.args.sub c.close.result c.close.new.self) here c.close.ensures) within))
-    c.self.invariant
+    let kept = closed_kept links _ (links_closed links c.in-Some.place c.args.sub c.close.result c.close.new.self
+    (subst (λ (l : LinkState). ClosesLink l c.args.sub c.close.result c.close.new.self) here c.close.ensures) within) in
+    (
+      kept_sound c.self.inside.config links _ c.self.inside.mux c.self.inside.moment kept c.self.invariant.0,
+      reaches_kept links _ c.self.inside.board kept c.self.invariant.1,
+    )

@@ -7,14 +7,15 @@ use Rattle.afdx_tx.specs.Emitter.{Tx, IsSound, AreLinksOf, AreReceiving, queues_
 use Rattle.afdx_tx.specs.Drain.{AreGathered}
 use Rattle.afdx_tx.specs.Ports.{AreOpenedWith, HasEveryPlace, BelongsTo}
 use Rattle.afdx_tx.specs.Gathering.{GathersPorts, IsGatheredTx}
+use Rattle.afdx_tx.specs.Publishing.{Reaches}
 use Rattle.afdx_tx.proofs.SoundEmitter.{sound_legal}
 use Rattle.afdx_tx.proofs.PortMessages.{accepted_allowed}
-use Rattle.afdx_tx.proofs.GatheredPorts.{gathers_sound, gathers_tx, all_gathered}
+use Rattle.afdx_tx.proofs.GatheredPorts.{gathers_sound, gathers_reaches, gathers_tx, all_gathered}
 use Rattle.afdx_tx.proofs.transmitter.Transmitter.gather.Given
 use Rattle.afdx_tx.proofs.transmitter.Transmitter.gather.Goals as goal
 
 pub gather_links-requires-clause-of_plan : goal.gather_links-requires-clause-of_plan
-gather_links-requires-clause-of_plan g c = subst (AreLinksOf c.self.inside.config) (sym c.deref_mut.ensures.value) c.self.invariant.of_plan
+gather_links-requires-clause-of_plan g c = subst (AreLinksOf c.self.inside.config) (sym c.deref_mut.ensures.value) c.self.invariant.0.of_plan
 
 pub gather_links-requires-clause-receiving : goal.gather_links-requires-clause-receiving
 gather_links-requires-clause-receiving g c =
@@ -48,10 +49,15 @@ sound : (g : Given.Over) (c : goal.After-self-1 g)
 sound g c =
     subst (λ (ls : List LinkState). IsSound c.self.inside.config ls c.self.inside.mux c.self.inside.moment) (sym (links_are g c))
     (gathers_sound c.self.inside.config c.self.inside.links.items c.args.ports.items c.gather_links.new.links c.self.inside.mux
-    c.self.inside.moment (gathers g c) c.self.invariant)
+    c.self.inside.moment (gathers g c) c.self.invariant.0)
 
 pub invariant_of-self : goal.invariant_of-self
-invariant_of-self g c = sound g c
+invariant_of-self g c = (
+  sound g c,
+  subst (λ (ls : List LinkState). Reaches ls c.self.inside.board) (sym (links_are g c))
+      (gathers_reaches c.self.inside.config c.self.inside.links.items c.args.ports.items c.gather_links.new.links c.self.inside.board
+      (gathers g c) c.self.invariant.1),
+)
 
 -- what the transmitter was, and what it is
 abbrev was : (g : Given.Over) (c : goal.After-self-1 g) → Tx
@@ -60,6 +66,7 @@ was g c = record {
   links = c.self.inside.links.items;
   lines = c.self.inside.mux;
   moment = c.self.inside.moment;
+  board = c.self.inside.board;
 }
 
 abbrev is : (g : Given.Over) (c : goal.After-self-1 g) → Tx
@@ -68,6 +75,7 @@ is g c = record {
   links = (with_items c.self.inside.links c.gather_links.new.links).items;
   lines = c.self.inside.mux;
   moment = c.self.inside.moment;
+  board = c.self.inside.board;
 }
 
 pub returns-clause-gathered : goal.returns-clause-gathered
@@ -80,7 +88,7 @@ returns-clause-gathered g c =
     (with_items c.self.inside.links c.gather_links.new.links).items =
     subst (GathersPorts c.self.inside.config c.self.inside.links.items c.args.ports.items) (sym (links_are g c)) (gathers g c) in
     let gathered : IsGatheredTx (was g c) c.args.ports.items (is g c) =
-    gathers_tx (was g c) (is g c) c.args.ports.items done refl c.self.invariant (sound g c) opened every in
+    gathers_tx (was g c) (is g c) c.args.ports.items done refl c.self.invariant.0 (sound g c) opened every in
     subst (λ (t : Tx). IsGatheredTx t c.args.ports.items (is g c)) c.self.view_is gathered
 
 pub returns-clause-all : goal.returns-clause-all

@@ -14,6 +14,6 @@ returns g c =
     let links = c.self.inside.links.items in
     subst (λ (t : Tx). (done ≡ true → IsAllDone t.plan (accepted_in t.links) (log t.lines))
     × (IsAllDone t.plan (accepted_in t.links) (log t.lines) → done ≡ true)) c.self.view_is
-    (all_done done c.self.inside.config links c.self.inside.mux c.self.inside.moment c.self.invariant
+    (all_done done c.self.inside.config links c.self.inside.mux c.self.inside.moment c.self.invariant.0
     (subst (λ (t : Tx). AreGathered t.links) (sym c.self.view_is) c.requires)
     (subst (λ (ls : List LinkState). TellsAllDone done ls) c.deref.ensures.value c.all_done.ensures))

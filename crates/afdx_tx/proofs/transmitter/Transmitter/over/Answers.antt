@@ -1,10 +1,13 @@
-use Rattle.std.proofs.Common.{sym, subst}
+use Rattle.std.proofs.Common.{◌∙◌, sym, subst}
 use Rattle.redundant_mux.specs.Lines.{Lines}
 use Rattle.afdx_tx.specs.Emitter.{IsSound}
+use Rattle.afdx_tx.proofs.Publishing.{reaches_none}
 use Rattle.afdx_tx.proofs.FreshEmitter.{fresh_sound}
 use Rattle.afdx_tx.proofs.transmitter.Transmitter.over.Goals as goal
 
 pub invariant_of-result : goal.invariant_of-result
-invariant_of-result g c =
-    subst (λ (lines : Lines). IsSound c.args.config c.args.links.items lines 0) (sym c.new.ensures)
-    (fresh_sound c.args.config c.args.links.items c.requires.valid c.requires.fresh)
+invariant_of-result g c = (
+  subst (λ (lines : Lines). IsSound c.args.config c.args.links.items lines 0) (sym c.new.ensures)
+      (fresh_sound c.args.config c.args.links.items c.requires.valid c.requires.fresh),
+  reaches_none c.args.links.items c.args.board (c.requires.board ∙ sym c.requires.fresh.count) c.requires.unpublished,
+)

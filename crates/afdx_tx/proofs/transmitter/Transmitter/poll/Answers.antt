@@ -1,7 +1,7 @@
 use Rattle.std.proofs.Common.{◌≡◌, ◌∙◌, true, false, refl, sym, List, subst}
 use Rattle.std.proofs.lemmas.List.{with_items_is}
 use Rattle.std.specs.Vec.{with_items}
-use Rattle.redundant_mux.specs.Lines.{BothEndure, is_alive}
+use Rattle.redundant_mux.specs.Lines.{BothEndure, is_alive, log}
 use Rattle.redundant_mux.proofs.Enduring.{both_none}
 use Rattle.vl_link.specs.Links.{LinkState}
 use Rattle.vl_link.proofs.Standing.{alive_is}
@@ -9,9 +9,11 @@ use Rattle.afdx_legal.specs.Legal.{IsLegal}
 use Rattle.afdx_legal.specs.Allowed.{AreAllowed}
 use Rattle.afdx_tx.specs.Emitter.{Tx, AreApart, IsSound, taken_in}
 use Rattle.afdx_tx.specs.Drain.{accepted_in}
+use Rattle.afdx_tx.specs.Publishing.{Reaches}
 use Rattle.afdx_tx.specs.Report.{IsTold}
 use Rattle.afdx_tx.specs.Run.{IsRun, IsCutShort}
 use Rattle.afdx_tx.specs.Serving.{IsSteady}
+use Rattle.afdx_tx.proofs.Publishing.{reaches_on}
 use Rattle.afdx_tx.proofs.SoundEmitter.{links_apart, sound_after, sound_legal}
 use Rattle.afdx_tx.proofs.PortMessages.{taken_allowed, accepted_allowed}
 use Rattle.afdx_tx.proofs.transmitter.Transmitter.poll.Given
@@ -20,7 +22,7 @@ use Rattle.afdx_tx.proofs.transmitter.Transmitter.poll.Goals as goal
 pub serve_all-requires-clause-apart : goal.serve_all-requires-clause-apart
 serve_all-requires-clause-apart g c =
     subst AreApart (sym c.deref_mut.ensures.value)
-    (links_apart c.self.inside.config c.self.inside.links.items c.self.invariant.valid c.self.invariant.of_plan)
+    (links_apart c.self.inside.config c.self.inside.links.items c.self.invariant.0.valid c.self.invariant.0.of_plan)
 
 -- the links that the transmitter then has
 links_are : (g : Given.Over) (c : goal.After-standing-2 g)
@@ -40,10 +42,17 @@ sound : (g : Given.Over) (c : goal.After-standing-2 g)
 sound g c =
     subst (λ (ls : List LinkState). IsSound c.self.inside.config ls c.serve_all.new.mux c.args.now) (sym (links_are g c))
     (sound_after c.self.inside.config c.self.inside.links.items c.serve_all.new.links c.serve_all.new.mux c.args.now
-    c.self.invariant.valid c.self.invariant.of_plan c.self.invariant.items (steady g c) c.standing-2.ensures.mirrored c.serve_all.ensures.whole)
+    c.self.invariant.0.valid c.self.invariant.0.of_plan c.self.invariant.0.items (steady g c) c.standing-2.ensures.mirrored c.serve_all.ensures.whole)
 
 pub invariant_of-self : goal.invariant_of-self
-invariant_of-self g c = sound g c
+invariant_of-self g c =
+    let told = c.serve_all.ensures.told in
+    let kept = steady g c in (
+      sound g c,
+      subst (λ (ls : List LinkState). Reaches ls c.self.inside.board) (sym (links_are g c))
+          (reaches_on c.self.inside.links.items c.serve_all.new.links c.self.inside.board (log c.self.inside.mux) told.entries
+          (log c.serve_all.new.mux) kept.same told.grown c.self.invariant.0.kept kept.kept c.self.invariant.1),
+    )
 
 pub returns-clause-legal : goal.returns-clause-legal
 returns-clause-legal g c =
@@ -63,12 +72,12 @@ returns-clause-accepted g c =
 pub returns-then-not-some_stands-clause-taken : goal.returns-then-not-some_stands-clause-taken
 returns-then-not-some_stands-clause-taken g c =
     subst (λ (t : Tx). AreAllowed t.plan (taken_in t.links)) c.self.view_is
-    (taken_allowed c.self.inside.config c.self.inside.links.items c.self.invariant.of_plan c.self.invariant.items)
+    (taken_allowed c.self.inside.config c.self.inside.links.items c.self.invariant.0.of_plan c.self.invariant.0.items)
 
 pub returns-then-not-some_stands-clause-accepted : goal.returns-then-not-some_stands-clause-accepted
 returns-then-not-some_stands-clause-accepted g c =
     subst (λ (t : Tx). AreAllowed t.plan (accepted_in t.links)) c.self.view_is
-    (accepted_allowed c.self.inside.config c.self.inside.links.items c.self.invariant.of_plan c.self.invariant.items)
+    (accepted_allowed c.self.inside.config c.self.inside.links.items c.self.invariant.0.of_plan c.self.invariant.0.items)
 
 pub returns-clause-tied : goal.returns-clause-tied
 returns-clause-tied g c = λ k lt whole. ((sound g c).kept k lt).tied whole
@@ -76,7 +85,7 @@ returns-clause-tied g c = λ k lt whole. ((sound g c).kept k lt).tied whole
 pub returns-then-not-some_stands-clause-legal : goal.returns-then-not-some_stands-clause-legal
 returns-then-not-some_stands-clause-legal g c =
     subst (λ (t : Tx). IsLegal t.plan (taken_in t.links) t.lines.a t.lines.b) c.self.view_is
-    (sound_legal c.self.inside.config c.self.inside.links.items c.self.inside.mux c.self.inside.moment c.self.invariant)
+    (sound_legal c.self.inside.config c.self.inside.links.items c.self.inside.mux c.self.inside.moment c.self.invariant.0)
 
 pub returns-clause-run : goal.returns-clause-run
 returns-clause-run g c = λ alive.

@@ -1,0 +1,35 @@
+-- The counts of the links are published.
+use Rattle.std.specs.Prelude.{ℕ, ◌≡◌, ◌<◌, List, length}
+use Rattle.afdx_plan.specs.Config.{link_plan_at}
+use Rattle.redundant_mux.specs.Lines.{log}
+use Rattle.status_board.specs.declared.counts.Counts.{Counts}
+use Rattle.status_board.specs.History.{NoFieldFalls}
+use Rattle.status_board.specs.Views.{Published, published, last_of, with_entry}
+use Rattle.afdx_legal.specs.Streams.{link_stream}
+use Rattle.afdx_legal.specs.Counting.{counts_in}
+use Rattle.vl_link.specs.Links.{LinkState, link_at}
+use Rattle.afdx_tx.specs.Emitter.{Tx}
+
+-- a board has these links, and no count of a link falls from what was published last of it
+pub record Reaches (links : List LinkState) (board : List Published) : Type 0 where
+  pub count : length board ≡ length links
+  pub each : (k : ℕ) → k < length links → NoFieldFalls (last_of board k) (link_at links k).counts
+
+-- the counts of each link were published, once
+pub record PublishesCounts (links : List LinkState) (old new : List Published) : Type 0 where
+  pub count : length new ≡ length old
+  pub each : (k : ℕ) → k < length links
+      → published new k ≡ with_entry (published old k) (link_at links k).counts
+
+-- the counts of the stream of the link at a place, in the longer handed list
+abbrev pub counts_at : Tx → ℕ → Counts
+counts_at tx k = counts_in (link_stream (link_plan_at tx.plan.links k).id.0 (log tx.lines))
+
+-- An emitter but for its board, which has one entry more of each link, in the order of the plan: the
+-- counts of the link's stream in the longer handed list. No field of it falls.
+pub record Publishes (old new : Tx) : Type 0 where
+  pub same : new ≡ record old { board = new.board }
+  pub count : length new.board ≡ length old.board
+  pub each : (k : ℕ) → k < length old.plan.links
+      → published new.board k ≡ with_entry (published old.board k) (counts_at old k)
+  pub rises : (k : ℕ) → k < length old.plan.links → NoFieldFalls (last_of old.board k) (counts_at old k)
