@@ -52,7 +52,7 @@ fn open_unused(alloc: Global) -> Result<(Tx, TxPort), Fail>
         MemNetwork::new(alloc),
         MemNetwork::new(alloc),
     ) {
-        Ok((tx, mut ports)) => match ports.pop() {
+        Ok((tx, mut ports, _monitor)) => match ports.pop() {
             Some(port) => Ok((tx, port)),
             None => Err(Fail::from("no port")),
         },

@@ -2,6 +2,8 @@
 #![tactic(auto)]
 
 #[cfg(test)]
+mod board_tests;
+#[cfg(test)]
 mod closing_tests;
 #[cfg(test)]
 mod closing_threads;
@@ -25,3 +27,5 @@ mod testing;
 mod tests;
 #[cfg(test)]
 mod thread_tests;
+#[cfg(test)]
+mod watcher_tests;

@@ -16,7 +16,7 @@ fn assert_hello(rt: &impl Abort, network: &MemNetwork) {
 fn one_message_from_its_port_to_both_networks(rt: HostRuntime) -> Result<(), Fail> {
     let alloc = rt.alloc();
     let (a, b) = (MemNetwork::new(alloc), MemNetwork::new(alloc));
-    let Ok((mut emitter, mut ports)) = open_tx(alloc, demo_config(alloc)?, a, b) else {
+    let Ok((mut emitter, mut ports, mut monitor)) = open_tx(alloc, demo_config(alloc)?, a, b) else {
         return Err(Fail::from("out of memory"));
     };
     for port in ports.iter_mut() {
@@ -25,6 +25,8 @@ fn one_message_from_its_port_to_both_networks(rt: HostRuntime) -> Result<(), Fai
     }
     assert_eq!(rt; emitter.now(), 0);
     let report = emitter.poll(0)?;
+    emitter.publish(&rt);
+    assert_eq!(rt; monitor.read(&rt, 0).frames, 1);
     let (a, b) = emitter.into_networks();
     assert_eq!(rt; report.released.len(), 1);
     assert_hello(&rt, &a);

@@ -21,12 +21,13 @@ const SIX: &str = "[end_system]\nid = 1\n\
                    [[port]]\nid = 10\nvl = 1\nsub = 0\npartition = 1\nkind = \"queuing\"\n\
                    source = 1000\ndestination = 2000\nmax = 8192\n";
 
-fn six(alloc: Global) -> Result<Config, Fail> {
+/// The plan of that text.
+pub(crate) fn six(alloc: Global) -> Result<Config, Fail> {
     read_config(alloc, SIX.as_bytes()).map_err(|_| Fail::from("a valid plan"))
 }
 
 /// Sends six messages of one byte, which are taken.
-fn send_six<R: Abort>(rt: &R, alloc: Global, port: &mut TxPort) {
+pub(crate) fn send_six<R: Abort>(rt: &R, alloc: Global, port: &mut TxPort) {
     for byte in 1..=6u8 {
         send_taken(rt, alloc, port, &[byte]);
     }

@@ -27,8 +27,8 @@ pub(crate) fn open<A: Network + Drop, B: Network + Drop>(
     requires b_new { B.failures b ≡ 0 }
     ensures { IfOk result (λ opened. AreOpenedWith opened.0 opened.1.items) }
 {
-    let opened = open_tx(alloc, config, a, b).ok().ok_or(AllocError)?;
-    Ok(opened)
+    let (tx, ports, _monitor) = open_tx(alloc, config, a, b).ok().ok_or(AllocError)?;
+    Ok((tx, ports))
 }
 
 /// The same of a configuration with one port.

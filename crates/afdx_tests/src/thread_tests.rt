@@ -1,16 +1,18 @@
 //! Tests of ports that send from threads of their own.
-ghost use Rattle.std.specs.Prelude.{◌≡◌, [], map, Some, IfOk, IfSome};
+ghost use Rattle.std.specs.Prelude.{◌≡◌, ◌<◌, [], map, Some, IfOk, IfSome};
+ghost use Rattle.status_board.specs.Views.{links_of};
 ghost use Rattle.afdx_tx.specs.Emitter.{Tx, queues_in};
 ghost use Rattle.afdx_tx.specs.Ports.{IsPortOfTx, AreOpenedWith};
 
-use crate::testing::open;
 use afdx_config::read_config;
 use afdx_plan::Config;
-use afdx_tx::{Draining, Emitter, Refusal, SendFault, TxPort};
+use afdx_tx::{Draining, Emitter, Refusal, SendFault, TxPort, open_tx};
 use redundant_mux::MemNetwork;
+use status_board::{Counts, Monitor};
 use std::alloc::{AllocError, Global};
 use std::process::Abort;
 use std::snapshot::Snapshot;
+use std::sync::Wait;
 use std::test::Fail;
 use std::thread;
 use std::thread::{Promise, PromisedHandle, Threads, join_promised};
@@ -59,20 +61,20 @@ fn plan(alloc: Global, capacity: usize) -> Result<Config, Fail> {
     read_config(alloc, text.as_bytes()).map_err(|_| Fail::from("a valid plan"))
 }
 
-// The emitter of that plan over two networks that were handed nothing, and its ports.
+// The emitter of that plan over two networks that were handed nothing, its ports and its monitor.
 pub(crate) fn open_plan(
     alloc: Global,
     capacity: usize,
-) -> Result<(Emitter<MemNetwork, MemNetwork>, Vec<TxPort>), Fail>
-    ensures { IfOk result (λ opened. AreOpenedWith opened.0 opened.1.items) }
+) -> Result<(Emitter<MemNetwork, MemNetwork>, Vec<TxPort>, Monitor), Fail>
+    ensures opened { IfOk result (λ opened. AreOpenedWith opened.0 opened.1.items) }
+    ensures monitor { IfOk result (λ opened. 0 < links_of opened.2) }
 {
     let config = plan(alloc, capacity)?;
-    open(
-        alloc,
-        config,
-        MemNetwork::new(alloc),
-        MemNetwork::new(alloc),
-    )
+    if config.links().is_empty() {
+        return Err(Fail::from("no link"));
+    }
+    let (a, b) = (MemNetwork::new(alloc), MemNetwork::new(alloc));
+    open_tx(alloc, config, a, b).map_err(|_| Fail::from("no memory"))
 }
 
 // Sends a message, and again after Full. Whether it was accepted.
@@ -227,8 +229,10 @@ fn gather_from_threads<R: Threads + Abort + Copy + Send + 'static>(
     alloc: Global,
     capacity: usize,
     messages: u8,
-) -> Result<Draining<MemNetwork, MemNetwork>, Fail> {
-    let (mut tx, ports) = open_plan(alloc, capacity)?;
+) -> Result<(Draining<MemNetwork, MemNetwork>, Monitor), Fail>
+    ensures { IfOk result (λ gathered. 0 < links_of gathered.1) }
+{
+    let (mut tx, ports, monitor) = open_plan(alloc, capacity)?;
     let workers = start_all(rt, alloc, ports, messages)?;
     // What is left then has room in any one queue, so each port can send its last message.
     let count = usize::from(PORTS) * usize::from(messages);
@@ -236,7 +240,7 @@ fn gather_from_threads<R: Threads + Abort + Copy + Send + 'static>(
     let ports = join_all(&rt, alloc, workers)?;
     check_accepted(&rt, &ports, messages);
     match tx.gather(ports) {
-        Ok(draining) => Ok(draining),
+        Ok(draining) => Ok((draining, monitor)),
         Err(_) => Err(Fail::from("each port is there")),
     }
 }
@@ -248,17 +252,35 @@ fn check_accepted(rt: &impl Abort, ports: &[TxPort], messages: u8) {
     }
 }
 
+// The monitor reads a frame of 60 bytes for each message.
+fn check_counts<R: Abort + Wait>(rt: &R, monitor: &mut Monitor, messages: u8)
+    requires { 0 < links_of monitor.old }
+{
+    let sent = u64::from(PORTS) * u64::from(messages);
+    let Counts {
+        frames,
+        bytes,
+        messages,
+        last: _,
+    } = monitor.read(rt, 0);
+    assert_eq!(rt; frames, sent);
+    assert_eq!(rt; bytes, 60 * sent);
+    assert_eq!(rt; messages, sent);
+}
+
 // After all ports came back from their threads, and what was left is sent, both networks have every
-// message.
-fn send_from_threads<R: Threads + Abort + Copy + Send + 'static>(
+// message, and the monitor reads so many.
+fn send_from_threads<R: Threads + Abort + Wait + Copy + Send + 'static>(
     rt: R,
     alloc: Global,
     capacity: usize,
     messages: u8,
 ) -> Result<(), Fail> {
-    let mut draining = gather_from_threads(rt, alloc, capacity, messages)?;
+    let (mut draining, mut monitor) = gather_from_threads(rt, alloc, capacity, messages)?;
     drain(&rt, &mut draining, capacity);
     assert_eq!(rt; draining.is_done(), true);
+    draining.publish(&rt);
+    check_counts(&rt, &mut monitor, messages);
     let (a, b) = draining.into_networks();
     check_frames(&rt, &a, messages);
     check_frames(&rt, &b, messages);

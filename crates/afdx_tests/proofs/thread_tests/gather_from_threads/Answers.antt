@@ -15,7 +15,7 @@ gather-requires g c = record {
       let value : Worker → PortView = λ h. h.promise.of.value in
       let workers : List Worker = c.in_ok-workers.workers.items in
       let started : AreOpenedWith tx (map value workers) =
-      subst (λ (l : List PortView). AreOpenedWith tx l) (sym c.in_ok-workers.ensures) c.in_ok-tx.ensures in
+      subst (λ (l : List PortView). AreOpenedWith tx l) (sym c.in_ok-workers.ensures) c.in_ok-tx.ensures.opened in
       let port : PortView = get_or c.in_ok-ports.ports.items k d in
       let back : BelongsTo tx.plan (queues_in tx.links) port = c.in_ok-ports.ensures tx started k d lt in
       let planned : BelongsTo c.poll_some.new.tx.plan (queues_in tx.links) port =

@@ -1,0 +1,78 @@
+//! A test of an emitter whose counts are read in a thread of its own.
+ghost use Rattle.std.specs.Prelude.{◌<◌, IfOk};
+ghost use Rattle.status_board.specs.Views.{links_of};
+
+use crate::board_tests::{Opened, open_demo_watched};
+use crate::testing::{poll_at, send_taken};
+use afdx_tx::{Emitter, TxPort};
+use redundant_mux::MemNetwork;
+use status_board::{Counts, Monitor};
+use std::alloc::Global;
+use std::process::Abort;
+use std::sync::Wait;
+use std::test::Fail;
+use std::thread;
+
+// How often the emitter is polled, and publishes.
+const POLLS: u64 = 10_000;
+
+// The bytes of each frame, and the gap of the link in microseconds.
+const FRAME: u64 = 60;
+
+const GAP: u64 = 1_000;
+
+// Whether the counts are of one entry: each frame has a message of its own, a gap after the one before.
+fn is_whole(found: &Counts) -> bool {
+    found.messages == found.frames
+        && found.frames.checked_mul(FRAME) == Some(found.bytes)
+        && found.frames.saturating_sub(1).checked_mul(GAP) == Some(found.last)
+}
+
+// Reads until all frames are counted. Whether each reading was whole, and none behind the one before.
+fn watch<R: Wait>(rt: &R, mut monitor: Monitor) -> bool
+    requires { 0 < links_of monitor }
+{
+    let mut frames = 0;
+    for _ in rt.forever() {
+        let found = monitor.read(rt, 0);
+        if !is_whole(&found) || found.frames < frames {
+            return false;
+        }
+        if found.frames == POLLS {
+            return true;
+        }
+        frames = found.frames;
+        thread::yield_now();
+    }
+    unreachable!()
+}
+
+// Sends a message, polls and publishes, again and again.
+fn send_and_publish<R: Abort + Wait>(
+    rt: &R,
+    alloc: Global,
+    tx: &mut Emitter<MemNetwork, MemNetwork>,
+    port: &mut TxPort,
+) {
+    for turn in 0..POLLS {
+        send_taken(rt, alloc, port, &[7]);
+        let report = poll_at(rt, tx, turn * GAP).expect(rt, "both networks stand");
+        assert_eq!(rt; report.released.len(), 1);
+        tx.publish(rt);
+    }
+}
+
+#[test]
+fn a_watcher_reads_whole_counts_while_the_emitter_polls_and_publishes(
+    rt: HostRuntime,
+) -> Result<(), Fail> {
+    let Opened {
+        mut tx,
+        mut port,
+        monitor,
+    } = open_demo_watched(rt.alloc())?;
+    let watcher = thread::spawn(&rt, move || watch(&rt, monitor))?;
+    send_and_publish(&rt, rt.alloc(), &mut tx, &mut port);
+    assert!(rt; watcher.join(&rt));
+    Ok(())
+}
