@@ -2,6 +2,10 @@
 #![tactic(auto)]
 
 #[cfg(test)]
+mod board;
+#[cfg(test)]
+mod board_threads;
+#[cfg(test)]
 mod frame;
 #[cfg(test)]
 mod mux;
