@@ -24,12 +24,7 @@ pub(crate) struct Opened {
 }
 
 // A configuration with one port over two networks.
-fn open_watched(
-    alloc: Global,
-    config: Config,
-    a: MemNetwork,
-    b: MemNetwork,
-) -> Result<Opened, Fail>
+fn open_watched(alloc: Global, config: Config, a: MemNetwork, b: MemNetwork) -> Result<Opened, Fail>
     requires a_empty { a.handed ≡ [] }
     requires b_empty { b.handed ≡ [] }
     requires a_new { a.failures ≡ 0 }
