@@ -1,12 +1,12 @@
 //! The headline over a port's own list: the port sends from a thread of its own and comes back, and
 //! what it had accepted is what both networks were handed.
-ghost use Rattle.std.specs.Prelude.{◌≡◌, ◌∷◌, [], IfOk, IfSome};
+ghost use Rattle.std.specs.Prelude.{◌≡◌, ℕ, ◌∷◌, [], IfOk, IfSome};
 ghost use Rattle.afdx_plan.specs.Demo.{demo_plan};
 ghost use Rattle.redundant_mux.specs.Lines.{log};
 ghost use Rattle.afdx_legal.specs.Allowed.{AreOwn};
 ghost use Rattle.afdx_legal.specs.Done.{IsAllDone, IsHandedWhole};
 ghost use Rattle.afdx_tx.specs.Drain.{accepted_in};
-ghost use Rattle.afdx_tx.specs.Emitter.{queues_in};
+ghost use Rattle.afdx_tx.specs.Emitter.{queues_in, total_in};
 ghost use Rattle.afdx_tx.specs.Ports.{Accepts, IsPortOfTx};
 ghost use Rattle.afdx_tests.specs.Headline.{IsUnused, SentTwo, two_messages};
 
@@ -23,9 +23,9 @@ use std::thread::{Promise, Threads};
 // The gap of the link, in microseconds.
 const GAP: u64 = 1_000;
 
-type Tx = Emitter<MemNetwork, MemNetwork>;
+pub(crate) type Tx = Emitter<MemNetwork, MemNetwork>;
 
-type Drain = Draining<MemNetwork, MemNetwork>;
+pub(crate) type Drain = Draining<MemNetwork, MemNetwork>;
 
 // The port that comes back, if it does, is the one that was given after it sent two messages.
 #[derive(Drop)]
@@ -78,9 +78,10 @@ fn send_two(alloc: Global, mut port: TxPort) -> Option<TxPort>
 }
 
 // Polls a few times, a gap apart, while the port sends.
-fn poll_meanwhile<R: Abort>(rt: &R, tx: &mut Tx)
+pub(crate) fn poll_meanwhile<R: Abort>(rt: &R, tx: &mut Tx)
     ensures plan { tx.new.plan ≡ tx.old.plan }
     ensures queues { queues_in tx.new.links ≡ queues_in tx.old.links }
+    ensures totals { (k s : ℕ) → total_in tx.new.links k s ≡ total_in tx.old.links k s }
 {
     for _turn in 0..3 {
         let now = tx.now().saturating_add(GAP);
