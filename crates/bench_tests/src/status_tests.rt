@@ -6,7 +6,7 @@ use std::process::Abort;
 use transcript::{RunFault, Summary};
 
 // The ends of the program, and their statuses.
-const ENDS: [(End, u8); 13] = [
+const ENDS: [(End, u8); 14] = [
     (End::Told, 0),
     (
         End::Ran(Summary {
@@ -21,6 +21,14 @@ const ENDS: [(End, u8); 13] = [
             accepted: 1,
             refused: 1,
             frames: 1,
+        }),
+        3,
+    ),
+    (
+        End::Ran(Summary {
+            accepted: 2,
+            refused: 2,
+            frames: 2,
         }),
         3,
     ),

@@ -4,6 +4,7 @@ use Rattle.afdx_plan.specs.Config.{Plan, IsPlan, port_plan_at}
 use Rattle.subvl_queue.specs.Messages.{most_calls, part_of}
 use Rattle.vl_link.specs.Seen.{taken_of, ports_of}
 use Rattle.vl_link.specs.Links.{held_at, link_at}
+use Rattle.afdx_tx.specs.Closing.{IsSubAt}
 use Rattle.afdx_tx.specs.Emitter.{Tx, IsFreshTx, total_in}
 use Rattle.afdx_tx.specs.Gathering.{held_for}
 use Rattle.afdx_tx.specs.Ports.{PortView, AreOpenedWith, AreFreshPorts, MaySend, Accepts, Refuses, index_of}
@@ -12,7 +13,6 @@ use Rattle.afdx_tx.specs.declared.fault.Refusal.TheVariants as Why
 use Rattle.tx_script.specs.EndSystem.{EndSystem}
 use Rattle.tx_script.specs.Matching.{MatchesTx}
 use Rattle.tx_script.specs.Play.{Answer, AnsweredLine, IsAnswer, Messages, outcome_of, after, accepted_after, script_refusal, told_by}
-use Rattle.afdx_tx.specs.Closing.{IsSubAt}
 use Rattle.tx_script.specs.Totals.{accepted_on}
 use Rattle.script_lines.specs.Meaning.{meaning_of}
 use Rattle.script_lines.specs.declared.line.Line.{Line}
@@ -111,7 +111,7 @@ pub record GaveFirst (tx : Tx) (ports : List PortView) : Type 0 where
       ≡ part_of (index_of tx.plan.ports place)
       (taken_of (held_for tx (port_plan_at tx.plan.ports place)).seen) ++ more)
 
--- the total with which a sub-VL was closed is how many messages its ports sent that were accepted
+-- the total with which a sub-VL was closed is how many messages of its ports were accepted
 abbrev pub GaveTotals : Tx → List PortView → Type 0
 GaveTotals tx ports = (accepted : Messages) → HaveSent accepted ports
     → (vl sub place total : ℕ) → IsSubAt tx.plan vl sub place → total_in tx.links place sub ≡ Some total

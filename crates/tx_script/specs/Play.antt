@@ -47,8 +47,8 @@ abbrev pub IsPolled : ℕ → EndSystem → Answer → Type 0
 IsPolled now es (leaves new) = HasPolled now es new
 IsPolled now es _ = ⊥
 
--- What may be answered to a line. A queue may take a message, be closed or be full, and a close may
--- tell any total: what the totals are is known at the end of a run.
+-- What may be answered to a line. A queue may take a message, be closed or be full. What a close
+-- tells is asked at the end of a run (`AreTotals`).
 abbrev pub IsAnswer : EndSystem → Line → Answer → Type 0
 IsAnswer es (At moment) answer = es.moment ≤ moment → IsPolled moment es answer
 IsAnswer es _ answer = Unit {0}

@@ -12,7 +12,7 @@ use Rattle.tx_script.specs.Play.{Answer, AnsweredLine, Messages, Play, told_by}
 abbrev pub is_on : ℕ → ℕ → PortPlan → Bool
 is_on vl sub port = nat_eq port.vl.0 vl && nat_eq port.sub sub
 
--- how many messages of the first ports of a plan were accepted on a sub-VL
+-- how many messages of the first so many ports of a plan were accepted on a sub-VL
 abbrev pub accepted_among : Plan → Messages → (vl sub many : ℕ) → ℕ
 accepted_among plan accepted vl sub zero = 0
 accepted_among plan accepted vl sub (suc k) =

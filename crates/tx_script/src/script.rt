@@ -28,7 +28,7 @@ fn write_handed<W: Write>(writer: &mut W, bench: Bench) -> Result<(), RunFault>
 }
 
 /// Writes the streams after a fault, unless it ends the writing. The fault of the run. The ports are
-/// gathered whatever the fault, since the totals that were noted are known by that alone.
+/// gathered whatever the fault: that alone tells what the totals are that were noted.
 fn end_early<W: Write>(writer: &mut W, bench: Bench, fault: RunFault) -> RunFault
     ensures { EndsEarly fault bench (W.contents writer.old) (W.contents writer.new) result }
 {
@@ -44,7 +44,8 @@ fn end_early<W: Write>(writer: &mut W, bench: Bench, fault: RunFault) -> RunFaul
 
 /// Runs a script over a configuration and two networks in memory, and writes its transcript: the
 /// notes on lines that were refused or closed a sub-VL, in their order, then the frames that were
-/// handed to network A, then those handed to B. A script has at most 1,000,000 lines of at most 20,000 bytes each.
+/// handed to network A, then those handed to B. A script has at most 1,000,000 lines of at most
+/// 20,000 bytes each.
 ///
 /// A line's fault, `Lines` and `Read` end the run there: the lines before it were run, and their
 /// notes and frames are written. After `Write`, when the writer failed, and after `Memory` nothing
