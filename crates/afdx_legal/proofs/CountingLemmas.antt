@@ -7,7 +7,7 @@ use Rattle.redundant_mux.specs.Entry.{Entry}
 use Rattle.vl_shaper.specs.declared.shaper.Stamp.{Stamp}
 use Rattle.status_board.specs.History.{NoFieldFalls}
 use Rattle.afdx_legal.specs.Streams.{stamp_of, IsSpaced}
-use Rattle.afdx_legal.specs.Counting.{capped, bytes_in, ends_message, messages_in, moment_after, counts_in}
+use Rattle.afdx_legal.specs.Counting.{capped, bytes_in, ends_message, messages_ended, moment_after, counts_in}
 
 capped_mono : (m n : ℕ) → m ≤ n → capped m ≤ capped n
 capped_mono m n up = le-min (le_trans (min-le_left m (2 ^ 64 - 1)) up) (min-le_right m (2 ^ 64 - 1))
@@ -16,9 +16,9 @@ bytes_more : (stream more : List Entry) → bytes_in stream ≤ bytes_in (stream
 bytes_more stream more =
     let both = sum_by-append (λ (e : Entry). length e.frame) stream more in omega arith
 
-messages_more : (stream more : List Entry) → messages_in stream ≤ messages_in (stream ++ more)
+messages_more : (stream more : List Entry) → messages_ended stream ≤ messages_ended (stream ++ more)
 messages_more stream more =
-    let both : messages_in (stream ++ more) ≡ messages_in stream + messages_in more =
+    let both : messages_ended (stream ++ more) ≡ messages_ended stream + messages_ended more =
     ap length (filter-append ends_message stream more)
     ∙ length-append (filter ends_message stream) (filter ends_message more) in
     omega arith

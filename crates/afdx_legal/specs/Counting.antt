@@ -19,8 +19,8 @@ abbrev pub ends_message : Entry → Bool
 ends_message e = nat_lt (fragment_field e.frame) more_fragments
 
 -- the messages whose last frame is among them
-abbrev pub messages_in : List Entry → ℕ
-messages_in stream = length (filter ends_message stream)
+abbrev pub messages_ended : List Entry → ℕ
+messages_ended stream = length (filter ends_message stream)
 
 -- the moment of the last entry, or this one where there is none
 abbrev pub moment_after : ℕ → List Entry → ℕ
@@ -32,6 +32,6 @@ abbrev pub counts_in : List Entry → Counts
 counts_in stream = record {
   frames = capped (length stream);
   bytes = capped (bytes_in stream);
-  messages = capped (messages_in stream);
+  messages = capped (messages_ended stream);
   last = moment_after 0 stream;
 }

@@ -1,6 +1,6 @@
 -- A board grows link by link.
 use Rattle.std.proofs.Common.{◌≡◌, ◌≢◌, ℕ, zero, suc, ◌⊎◌, inl, inr, List, [], ◌∷◌, ◌++◌, length, get_or, refl, sym, ap, ◌∙◌, subst, ⊎_elim, arith}
-use Rattle.status_board.specs.Views.{Published, Seen, published, seen, no_cell, IsNew, AreNew}
+use Rattle.status_board.specs.Views.{Published, Watched, published, seen, no_cell, IsNew, AreNew}
 
 -- the element at k of a list that has one more: an old one, or the new one
 abbrev IsOldOrNew : {A : Type 0} → A → A → List A → ℕ → Type 0
@@ -16,16 +16,16 @@ push_at d x (y ∷ xs) (suc k) = ⊎_elim (λ e. let n = e.0 in inl ((λ h. n (o
 abbrev no_published : Published
 no_published = record { cell = no_cell; history = [] }
 
-abbrev no_seen : Seen
+abbrev no_seen : Watched
 no_seen = record { cell = no_cell; history = []; loads = 0 }
 
 -- a new link joins both ends of a new board
-pub new-push : (board : List Published) (monitor : List Seen) (written : Published) (read : Seen)
+pub new-push : (board : List Published) (monitor : List Watched) (written : Published) (read : Watched)
     → length board ≡ length monitor → IsNew written read → AreNew board monitor
     → AreNew (board ++ written ∷ []) (monitor ++ read ∷ [])
 new-push board monitor written read even new all k = each (push_at no_published written board k) (push_at no_seen read monitor k)
   where
-    Both : Published × Seen → Type 0
+    Both : Published × Watched → Type 0
     Both p = IsNew p.0 p.1
 
     each : IsOldOrNew no_published written board k → IsOldOrNew no_seen read monitor k

@@ -8,7 +8,7 @@ use Rattle.status_board.specs.declared.counts.Counts.{Counts}
 use Rattle.status_board.specs.declared.rule.Stamped.{Stamped}
 use Rattle.status_board.specs.declared.rule.View.{View}
 use Rattle.status_board.specs.History.{NoFieldFalls, value_of, IsRising, StartsWith, zeros}
-use Rattle.status_board.specs.Rule.{stamped, counts_of, opener, Fits, Keeps, Adds, Finds, Agrees, without_reading, as_monitor, as_told, hearing, nobody}
+use Rattle.status_board.specs.Rule.{stamped, counts_of, opener, Fits, KeepsHistory, Adds, FindsEntry, Agrees, without_reading, as_monitor, as_told, hearing, nobody}
 use Rattle.status_board.proofs.Histories.{last_or-push, rises-push, starts_same, starts_more, starts_none, counts_of-append, are_after-push}
 
 off : false ≡ true → ⊥
@@ -43,7 +43,7 @@ views_push P views w others mine j u e =
     (at_end views w u j e)
 
 -- the first pass of a cell fits
-pub begins : Keeps zeros (opener ∷ [])
+pub begins : KeepsHistory zeros (opener ∷ [])
 begins = record {
   writer = 0;
   monitor = 0;
@@ -71,7 +71,7 @@ begins = record {
     one (suc by) v e = absurd (some-ne-none v (sym e))
 
 pub publishes : (by : ℕ) (v : View) (c : Counts) → v.writes ≡ true → v.reads ≡ false
-    → NoFieldFalls (value_of (counts_of v.history)) c → Turns Keeps by v (λ _. c) Adds
+    → NoFieldFalls (value_of (counts_of v.history)) c → Turns KeepsHistory by v (λ _. c) Adds
 publishes by v c is blind rise x views k at =
     let mine = (k.each by v at).as_writer is in
     let e : Stamped = stamped c k.loads in
@@ -86,7 +86,7 @@ publishes by v c is blind rise x views k at =
       knows = ([], sym same ∙ sym (append-nil w.history));
       heard = starts_more k.history v.heard (e ∷ []) (k.each by v at).heard;
     } in
-    let kept : Keeps c (set views by w) = record {
+    let kept : KeepsHistory c (set views by w) = record {
       writer = k.writer;
       monitor = k.monitor;
       loads = k.loads;
@@ -108,7 +108,7 @@ publishes by v c is blind rise x views k at =
     } in
     (w, kept, record { loads = k.loads; is = refl })
 
-pub reads : (by : ℕ) (v : View) → v.reads ≡ true → Turns Keeps by v (λ x. x) Finds
+pub reads : (by : ℕ) (v : View) → v.reads ≡ true → Turns KeepsHistory by v (λ x. x) FindsEntry
 reads by v is x views k at =
     let mine = k.each by v at in
     let role = mine.as_monitor is in
@@ -119,7 +119,7 @@ reads by v is x views k at =
       knows = starts_same k.history;
       heard = mine.heard;
     } in
-    let kept : Keeps x (set views by w) = record {
+    let kept : KeepsHistory x (set views by w) = record {
       writer = k.writer;
       monitor = k.monitor;
       loads = k.loads + 1;
@@ -139,7 +139,7 @@ reads by v is x views k at =
           })
           fits;
     } in
-    let found : Finds v x x w = record {
+    let found : FindsEntry v x x w = record {
       writes = refl;
       reads = refl;
       loads = refl;
@@ -151,9 +151,9 @@ reads by v is x views k at =
     (w, kept, found)
 
 -- the same history, and other views
-keeps_views : (x : Counts) (views views' : List View) (k : Keeps x views) (monitor : ℕ)
+keeps_views : (x : Counts) (views views' : List View) (k : KeepsHistory x views) (monitor : ℕ)
     → ((j : ℕ) (u : View) → get_elem? views' j ≡ some u → Fits k.writer monitor k.loads k.history k.seen j u)
-    → Keeps x views'
+    → KeepsHistory x views'
 keeps_views x views views' k monitor each = record {
   writer = k.writer;
   monitor = monitor;
@@ -168,7 +168,7 @@ keeps_views x views views' k monitor each = record {
   each = each;
 }
 
-pub parts : (by : ℕ) (v : View) → v.reads ≡ true → Forks Keeps by v (without_reading v) (as_monitor v)
+pub parts : (by : ℕ) (v : View) → v.reads ≡ true → Forks KeepsHistory by v (without_reading v) (as_monitor v)
 parts by v is x views k at =
     let left : View = without_reading v in
     let right : View = as_monitor v in
@@ -210,7 +210,7 @@ no_part writer monitor loads history seen by v mute blind knows heard = record {
   heard = heard;
 }
 
-pub tells : (by : ℕ) (v : View) → Forks Keeps by v v (as_told v)
+pub tells : (by : ℕ) (v : View) → Forks KeepsHistory by v v (as_told v)
 tells by v x views k at =
     let P = Fits k.writer k.monitor k.loads k.history k.seen in
     let own = k.each by v at in
@@ -219,7 +219,7 @@ tells by v x views k at =
     keeps_views x views (set views by v ++ as_told v ∷ []) k k.monitor
     (views_push P (set views by v) (as_told v) (λ j u _ at_j. k.each j u (subst (λ l. get_elem? l j ≡ some u) (set_again views by v at) at_j)) told)
 
-pub hears : (by : ℕ) (v : View) (other : ℕ) (u : View) → Merges Keeps by v other u (hearing v u) nobody
+pub hears : (by : ℕ) (v : View) (other : ℕ) (u : View) → Merges KeepsHistory by v other u (hearing v u) nobody
 hears by v other u x views k at apart there =
     let P = Fits k.writer k.monitor k.loads k.history k.seen in
     let w : View = hearing v u in
@@ -239,7 +239,7 @@ hears by v other u x views k at apart there =
     keeps_views x views (set (set views by w) other nobody) k k.monitor
     (views_set P (set views by w) other nobody (λ j y _ e. first j y e) spent)
 
-pub compares : (by : ℕ) (v : View) → v.writes ≡ true → Turns Keeps by v (λ x. x) Agrees
+pub compares : (by : ℕ) (v : View) → v.writes ≡ true → Turns KeepsHistory by v (λ x. x) Agrees
 compares by v is x views k at =
     let mine = k.each by v at in
     let whole = (mine.as_writer is).whole in (

@@ -44,7 +44,7 @@ module _ (writer monitor loads : ℕ) (history seen : List Stamped) where
 
 -- The cell holds the value of one history. The monitor has seen all that was published before its last load: each
 -- entry that it has not seen came after just the loads that it has made.
-pub record Keeps (value : Counts) (views : List View) : Type 0 where
+pub record KeepsHistory (value : Counts) (views : List View) : Type 0 where
   pub writer : ℕ
   pub monitor : ℕ
   pub loads : ℕ
@@ -63,7 +63,7 @@ pub record Adds (old : View) (before published : Counts) (new : View) : Type 0 w
   pub is : new ≡ record old { history = old.history ++ stamped published loads ∷ [] }
 
 -- one load more, which found the value of a history that begins with all that was seen, and is seen now
-pub record Finds (old : View) (before found : Counts) (new : View) : Type 0 where
+pub record FindsEntry (old : View) (before found : Counts) (new : View) : Type 0 where
   pub writes : new.writes ≡ old.writes
   pub reads : new.reads ≡ old.reads
   pub loads : new.loads ≡ old.loads + 1

@@ -10,7 +10,7 @@ pub record Published : Type 0 where
   pub history : List Counts
 
 -- a link's cell, what was seen of its history, and by how many loads
-pub record Seen : Type 0 where
+pub record Watched : Type 0 where
   pub cell : TableId
   pub history : List Counts
   pub loads : ℕ
@@ -24,7 +24,7 @@ abbrev pub published : List Published → ℕ → Published
 published board link = slice_index_or board link (record { cell = no_cell; history = [] })
 
 -- what was seen of a link
-abbrev pub seen : List Seen → ℕ → Seen
+abbrev pub seen : List Watched → ℕ → Watched
 seen monitor link = slice_index_or monitor link (record { cell = no_cell; history = []; loads = 0 })
 
 -- the value of a link's history
@@ -32,7 +32,7 @@ abbrev pub last_of : List Published → ℕ → Counts
 last_of board link = value_of (published board link).history
 
 -- how many links a monitor reads
-abbrev pub links_of : List Seen → ℕ
+abbrev pub links_of : List Watched → ℕ
 links_of monitor = length monitor
 
 -- with an entry more
@@ -41,7 +41,7 @@ with_entry link counts = record link { history = link.history ++ counts ∷ [] }
 
 -- A reading: one load more. What it found is, whole, the value of a history that begins with all that was seen
 -- before, and is seen now; so no field falls from one reading to the next.
-pub record IsReading (before : Seen) (found : Counts) (after : Seen) : Type 0 where
+pub record IsReading (before : Watched) (found : Counts) (after : Watched) : Type 0 where
   pub cell : after.cell ≡ before.cell
   pub loads : after.loads ≡ before.loads + 1
   pub begins : StartsWith after.history before.history
@@ -50,12 +50,12 @@ pub record IsReading (before : Seen) (found : Counts) (after : Seen) : Type 0 wh
   pub above : NoFieldFalls (value_of before.history) found
 
 -- both ends of a link are of one cell, of which nothing was published and nothing seen
-pub record IsNew (written : Published) (read : Seen) : Type 0 where
+pub record IsNew (written : Published) (read : Watched) : Type 0 where
   pub cell : written.cell ≡ read.cell
   pub unpublished : written.history ≡ []
   pub unseen : read.history ≡ []
   pub unread : read.loads ≡ 0
 
 -- so it is of each link
-abbrev pub AreNew : List Published → List Seen → Type 0
+abbrev pub AreNew : List Published → List Watched → Type 0
 AreNew board monitor = (link : ℕ) → IsNew (published board link) (seen monitor link)

@@ -16,9 +16,9 @@ pub struct Monitor {
 
 impl Model for Monitor {
     ghost use Rattle.std.specs.Prelude.{List};
-    ghost use Rattle.status_board.specs.Views.{Seen};
+    ghost use Rattle.status_board.specs.Views.{Watched};
 
-    ghost Value = { List Seen };
+    ghost Value = { List Watched };
 
     ghost view = { λ m. m.links.items };
 }

@@ -20,9 +20,9 @@ impl Model for Reader {
     ghost use Rattle.std.specs.Arc.{arc_value};
     ghost use Rattle.crossbeam_utils.specs.Seq.{cell_view};
     ghost use Rattle.status_board.specs.Rule.{counts_of};
-    ghost use Rattle.status_board.specs.Views.{Seen};
+    ghost use Rattle.status_board.specs.Views.{Watched};
 
-    ghost Value = { Seen };
+    ghost Value = { Watched };
 
     ghost view = { λ r. record {
       cell = r.pass.table_id;

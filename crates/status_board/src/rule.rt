@@ -34,9 +34,9 @@ pub struct View {
 pub struct History;
 
 impl Protocol<Counts, View> for History {
-    ghost use Rattle.status_board.specs.Rule.{Keeps, opener};
+    ghost use Rattle.status_board.specs.Rule.{KeepsHistory, opener};
 
-    ghost holds = { Keeps };
+    ghost holds = { KeepsHistory };
 
     ghost first = { opener };
 }
@@ -54,9 +54,9 @@ impl Outcome<Counts, View> for Publishes {
 pub struct Loads;
 
 impl Outcome<Counts, View> for Loads {
-    ghost use Rattle.status_board.specs.Rule.{Finds};
+    ghost use Rattle.status_board.specs.Rule.{FindsEntry};
 
-    ghost then = { Finds };
+    ghost then = { FindsEntry };
 }
 
 /// The writer compares what it heard with what it published.

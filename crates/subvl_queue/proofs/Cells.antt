@@ -13,7 +13,7 @@ use Rattle.subvl_queue.specs.declared.view.View.{View}
 use Rattle.subvl_queue.specs.declared.view.Role.{Role}
 use Rattle.subvl_queue.specs.declared.view.Stage.{Stage}
 use Rattle.subvl_queue.specs.declared.view.Stage.TheVariants.{Idle, Asked, Refused, Drew, Late, Holding}
-use Rattle.subvl_queue.specs.Queue.{owned, total, in_hand, in_room, waiting, asked, budget, shut_bit, Gone, Totals, Joined, Whole, Gathers, Busy, Phase, free, writing, full, reading, Cell, holder, InPhase, CellOk, Has, Knows, Fits, Queue}
+use Rattle.subvl_queue.specs.Queue.{owned, total, in_hand, in_room, waiting, asks_of, budget, shut_bit, Gone, Totals, Joined, Whole, Collects, Busy, Phase, free, writing, full, reading, Cell, holder, InPhase, CellOk, Has, Knows, Fits, Queue}
 
 abbrev pick : {P : Type 0} → Dec P → Cell → Cell → Cell
 pick (yes _) a b = a
@@ -118,7 +118,7 @@ module _ {T : Type 0} where
     whole_stays id v w log' at same (Some l) k = (k.0, λ j. gone_stays id (suc j) v w at same (k.1 j))
 
     pub roles_stay : (closed' : Bool) (log' : List (ℕ × T)) (id : ℕ) (v w u : View T) → get_elem? s.views id ≡ some v → w.role ≡ v.role
-        → Gathers closed' log' s.views u → Gathers closed' log' (set s.views id w) u
+        → Collects closed' log' s.views u → Collects closed' log' (set s.views id w) u
     roles_stay closed' log' id v w u at same g = (
       g.0,
       (λ i k l e. let x = g.1 i k l e in (x.0, gone_stays id (suc k) v w at same x.1)),
@@ -128,12 +128,12 @@ module _ {T : Type 0} where
     -- what the receiver has gathered stays where the stepping seat keeps its role and its own share of it
     pub gathers_stay : (closed' : Bool) (log' : List (ℕ × T)) (id : ℕ) (v w : View T) → get_elem? s.views id ≡ some v → w.role ≡ v.role
         → w.total ≡ v.total → w.joined ≡ v.joined → w.all ≡ v.all
-        → ((u : View T) → get_elem? s.views 0 ≡ some u → Gathers r.closed r.log s.views u → Gathers closed' log' s.views u) → (u : View T)
-        → get_elem? (set s.views id w) 0 ≡ some u → Gathers closed' log' (set s.views id w) u
+        → ((u : View T) → get_elem? s.views 0 ≡ some u → Collects r.closed r.log s.views u → Collects closed' log' s.views u) → (u : View T)
+        → get_elem? (set s.views id w) 0 ≡ some u → Collects closed' log' (set s.views id w) u
     gathers_stay closed' log' id v w at same t0 j0 a0 goes u e = ⊎_elim
         (λ (t : (0 ≡ id) × (w ≡ u)). let at0 = ap (get_elem? s.views) t.0 ∙ at in
         let g = roles_stay closed' log' id v w v at same (goes v at0 (r.gathered v at0)) in
-        subst (Gathers closed' log' (set s.views id w)) t.1 (subst
+        subst (Collects closed' log' (set s.views id w)) t.1 (subst
         (λ (z : Option ℕ × List (ℕ × List (ℕ × T)) × Option (List (ℕ × T))). Totals closed' (length log') z.0 × Joined log' (set s.views id w) z.1
         × Whole log' (set s.views id w) z.2) (λ k. (sym t0 k, sym j0 k, sym a0 k)) g))
         (λ (t : (0 ≢ id) × (get_elem? s.views 0 ≡ some u)). roles_stay closed' log' id v w u at same (goes u t.1 (r.gathered u t.1)))
@@ -144,8 +144,8 @@ module _ {T : Type 0} where
         → get_or (set s.words k x) 0 0 + length log' + total in_hand (set s.views id w) ≡ 2 ^ 32 + n + freed'
         → get_or (set s.words k x) 1 0 ≡ length log' + r.late + shut_bit r.closed
         → length log' + total in_room (set s.views id w) ≤ freed' + n
-        → length log' + r.late + total waiting (set s.views id w) ≤ total asked (set s.views id w) → total budget (set s.views id w) ≤ 64 * 2 ^ 40
-        → ((u : View T) → get_elem? (set s.views id w) 0 ≡ some u → Gathers r.closed log' (set s.views id w) u)
+        → length log' + r.late + total waiting (set s.views id w) ≤ total asks_of (set s.views id w) → total budget (set s.views id w) ≤ 64 * 2 ^ 40
+        → ((u : View T) → get_elem? (set s.views id w) 0 ≡ some u → Collects r.closed log' (set s.views id w) u)
         → ((q : ℕ) → length s.views ≤ suc q → owned q 0 log' ≡ [])
         → freed' ≤ length log' → length r.log ≤ length log' → r.freed ≤ freed' → (id ≢ 0 → freed' ≡ r.freed)
         → ((q : ℕ) → q % n ≢ i → length r.log ≤ q → length log' ≤ q) → ((q : ℕ) → q % n ≢ i → r.freed ≤ q → freed' ≤ q)

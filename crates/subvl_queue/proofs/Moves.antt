@@ -16,8 +16,8 @@ use Rattle.subvl_queue.specs.declared.view.Role.{Role}
 use Rattle.subvl_queue.specs.declared.view.Role.TheVariants.{Sender, Receiver, Spent}
 use Rattle.subvl_queue.specs.declared.view.Stage.{Stage}
 use Rattle.subvl_queue.specs.declared.view.Stage.TheVariants.{Idle, Asked, Refused, Drew, Late, Holding}
-use Rattle.subvl_queue.specs.Queue.{owned, total, hand_of, found_of, wait_of, budget_of, shut_bit, in_hand, in_room, waiting, asked, budget, Totals, Gone, Whole, Gathers, Busy, Phase, free, writing, full, reading, Cell, holder, shown, InPhase, CellOk, Knows, Fits, Queue}
-use Rattle.subvl_queue.specs.Steps.{Seated, with_ask, idle, drawn, looked, holding, freed_of, lated, glanced, closed_at, with_all, IfWhole, asks, gives_back, draws, readies, looks, frees, glances_at, closes, gathers}
+use Rattle.subvl_queue.specs.Queue.{owned, total, hand_of, found_of, wait_of, budget_of, shut_bit, in_hand, in_room, waiting, asks_of, budget, Totals, Gone, Whole, Collects, Busy, Phase, free, writing, full, reading, Cell, holder, shown, InPhase, CellOk, Knows, Fits, Queue}
+use Rattle.subvl_queue.specs.Steps.{Seated, with_ask, idle, drawn, with_look, holding, freed_of, lated, with_glance, with_total, with_all, IfWhole, asks, gives_back, draws, readies, looks, frees, glances_at, closes, gathers}
 use Rattle.subvl_queue.proofs.Totals.{total_set, hands_small, rooms_small, total_le, one_less, one_more}
 use Rattle.subvl_queue.proofs.Owned.{owned_mine, owned_other, owned_at, take_next}
 use lib.Bits.{or_shifted_r}
@@ -78,8 +78,8 @@ module _ {T : Type 0} where
       → get_or words' 1 0 ≡ length r.log + late' + shut_bit closed' → (closed' ≡ false → late' ≡ 0)
       → ((i : ℕ) → get_or words' (i + 2) 0 ≡ get_or s.words (i + 2) 0)
       → length r.log + total in_room (set s.views id w) ≤ r.freed + length s.homes
-      → length r.log + late' + total waiting (set s.views id w) ≤ total asked (set s.views id w) → total budget (set s.views id w) ≤ 64 * 2 ^ 40
-      → ((u : View T) → get_elem? (set s.views id w) 0 ≡ some u → Gathers closed' r.log (set s.views id w) u)
+      → length r.log + late' + total waiting (set s.views id w) ≤ total asks_of (set s.views id w) → total budget (set s.views id w) ≤ 64 * 2 ^ 40
+      → ((u : View T) → get_elem? (set s.views id w) 0 ≡ some u → Collects closed' r.log (set s.views id w) u)
       → Fits (length s.views) r.freed r.log id w w.role → Knows r.freed r.log id (r.cells (w.at % length s.homes)) w.at w.item w.stage
       → Queue record { words = words'; homes = s.homes; views = set s.views id w }
   quiet s r words' id late' closed' v w at calm wide room tail open' ready within counted budgeted gathered' fit knew = let views' =
@@ -137,7 +137,7 @@ module _ {T : Type 0} where
       → Allows Queue n id me 0 (λ x. (x + (2 ^ 64 - 1)) % 2 ^ 64) (asks (step n 0 1 0 none) me)
   asks_ok n id me is was few s r wide at small = let x : ℕ = get_or s.words 0 0 in
       let x' : ℕ = (x + (2 ^ 64 - 1)) % 2 ^ 64 in let m : ℕ = length s.homes in let L : ℕ = length r.log in
-      let H : ℕ = total in_hand s.views in let R : ℕ = total in_room s.views in let A : ℕ = total asked s.views in
+      let H : ℕ = total in_hand s.views in let R : ℕ = total in_room s.views in let A : ℕ = total asks_of s.views in
       let h1 : H ≤ length s.views = hands_small s.views in let h2 : length s.views ≤ 65 = r.few_seats in let h3 : R ≤ H = rooms_small s.views in
       let W : ℕ = total waiting s.views in
       let B : ℕ = total budget s.views in
@@ -151,7 +151,7 @@ module _ {T : Type 0} where
       → L + R + found_of st ≤ r.freed + m → Queue (stepped s 0 x' id me.1 (with_ask me.0 st b) keeps) = λ st b one one' knew fits'.
       let w = with_ask me.0 st b in let th : total in_hand (set s.views id w) + in_hand me.0 ≡ H + hand_of st = total_set in_hand s.views id me.0 w at in
       let tr : total in_room (set s.views id w) + in_room me.0 ≡ R + found_of st = total_set in_room s.views id me.0 w at in
-      let ta : total asked (set s.views id w) + me.0.asks ≡ A + (me.0.asks + 1) = total_set asked s.views id me.0 w at in
+      let ta : total asks_of (set s.views id w) + me.0.asks ≡ A + (me.0.asks + 1) = total_set asks_of s.views id me.0 w at in
       let tw : total waiting (set s.views id w) + waiting me.0 ≡ W + wait_of st = total_set waiting s.views id me.0 w at in
       let tb : total budget (set s.views id w) + budget me.0 ≡ B + budget w = total_set budget s.views id me.0 w at in
       let b0 : budget me.0 ≡ 2 ^ 40 = ap (budget_of me.0.asks me.0.made) is in
@@ -194,7 +194,7 @@ module _ {T : Type 0} where
       let x' : ℕ = (x + 1) % 2 ^ 64 in let m : ℕ = length s.homes in let L : ℕ = length r.log in
       let H : ℕ = total in_hand s.views in
       let R : ℕ = total in_room s.views in
-      let A : ℕ = total asked s.views in
+      let A : ℕ = total asks_of s.views in
       let W : ℕ = total waiting s.views in
       let B : ℕ = total budget s.views in let few : m ≤ 256 = r.few_slots in let behind : r.freed ≤ L = r.behind in
       let room : x + L + H ≡ 2 ^ 32 + m + r.freed = r.room_is in
@@ -203,7 +203,7 @@ module _ {T : Type 0} where
       let hand1 : in_hand me.0 ≡ 1 = ⊎_elim (ap hand_of) (ap hand_of) was in let ws : ℕ = length s.words in let long : ws ≡ m + 2 = r.wide in
       let w = idle me.0 in let th : total in_hand (set s.views id w) + in_hand me.0 ≡ H + 0 = total_set in_hand s.views id me.0 w at in
       let tr : total in_room (set s.views id w) + in_room me.0 ≡ R + 0 = total_set in_room s.views id me.0 w at in
-      let ta : total asked (set s.views id w) + me.0.asks ≡ A + me.0.asks = total_set asked s.views id me.0 w at in
+      let ta : total asks_of (set s.views id w) + me.0.asks ≡ A + me.0.asks = total_set asks_of s.views id me.0 w at in
       let tw : total waiting (set s.views id w) + waiting me.0 ≡ W + 0 = total_set waiting s.views id me.0 w at in
       let tb : total budget (set s.views id w) + budget me.0 ≡ B + budget me.0 = total_set budget s.views id me.0 w at in
       let same : get_or (set s.words 0 x') 0 0 ≡ x' = get_or-set_same s.words 0 x' 0 (omega arith) in (
@@ -236,7 +236,7 @@ module _ {T : Type 0} where
   asks_by_role seats freed log j v Spent f = let z = f.0 in omega arith
 
   pub few_drawn : (s : St T) (r : Queue s) → length r.log + r.late + total waiting s.views ≤ 64 * 2 ^ 40
-  few_drawn s r = let a : total asked s.views ≤ total budget s.views = total_le asked budget s.views
+  few_drawn s r = let a : total asks_of s.views ≤ total budget s.views = total_le asks_of budget s.views
       (λ j v e. asks_by_role _ _ _ j v v.role (r.each_seat j v e)) in let b = r.budgeted in let c = r.counted in omega arith
 
   -- a message of another port leaves what a seat knows of the log
@@ -254,7 +254,7 @@ module _ {T : Type 0} where
 
   -- an open queue whose sender is there has no total yet, and no joined list of that sender
   grows : (closed : Bool) (log : List (ℕ × T)) (views : List (View T)) (x : ℕ × T) (port : ℕ) → closed ≡ false → x.0 ≡ port
-      → (Gone views (suc port) → ⊥) → (u : View T) → Gathers closed log views u → Gathers closed (log ++ x ∷ []) views u
+      → (Gone views (suc port) → ⊥) → (u : View T) → Collects closed log views u → Collects closed (log ++ x ∷ []) views u
   grows closed log views x port e said here u g = (
     totals_open closed (length log) (length (log ++ x ∷ [])) e u.total g.0,
     (λ i k l at. let j = g.1 i k l at in (j.0 ∙ sym (owned_other k 0 log x (λ is. here (subst (λ (z : ℕ). Gone views (suc z)) (sym is ∙ said) j.1))), j.1)),
@@ -270,7 +270,7 @@ module _ {T : Type 0} where
       let y' : ℕ = (y + 1) % 2 ^ 64 in let m : ℕ = length s.homes in let L : ℕ = length r.log in let F : ℕ = r.freed in
       let tail_is : y ≡ L + r.late + shut_bit r.closed = r.tail_is in
       let tail : y ≡ L = omega arith in
-      let H : ℕ = total in_hand s.views in let R : ℕ = total in_room s.views in let A : ℕ = total asked s.views in let pos : 0 < m = r.some_slot in
+      let H : ℕ = total in_hand s.views in let R : ℕ = total in_room s.views in let A : ℕ = total asks_of s.views in let pos : 0 < m = r.some_slot in
       let within : L + R ≤ F + m = r.within in
       let W : ℕ = total waiting s.views in
       let B : ℕ = total budget s.views in
@@ -282,7 +282,7 @@ module _ {T : Type 0} where
       let w = drawn me.0 L x in let log' = r.log ++ x ∷ [] in let longer : length log' ≡ L + 1 = length-append r.log (x ∷ []) in
       let th : total in_hand (set s.views id w) + in_hand me.0 ≡ H + 0 = total_set in_hand s.views id me.0 w at in
       let tr : total in_room (set s.views id w) + in_room me.0 ≡ R + 0 = total_set in_room s.views id me.0 w at in
-      let ta : total asked (set s.views id w) + me.0.asks ≡ A + me.0.asks = total_set asked s.views id me.0 w at in
+      let ta : total asks_of (set s.views id w) + me.0.asks ≡ A + me.0.asks = total_set asks_of s.views id me.0 w at in
       let tw : total waiting (set s.views id w) + waiting me.0 ≡ W + 0 = total_set waiting s.views id me.0 w at in
       let tb : total budget (set s.views id w) + budget me.0 ≡ B + budget me.0 = total_set budget s.views id me.0 w at in
       let more : y' ≡ y + 1 = one_more y (omega arith) in
@@ -332,7 +332,7 @@ module _ {T : Type 0} where
       let bit : shut_bit r.closed ≡ 2 ^ 63 = ap shut_bit shut in
       let tail : y ≡ L + r.late + shut_bit r.closed = r.tail_is in
       let H : ℕ = total in_hand s.views in
-      let R : ℕ = total in_room s.views in let A : ℕ = total asked s.views in let W : ℕ = total waiting s.views in let B : ℕ = total budget s.views in
+      let R : ℕ = total in_room s.views in let A : ℕ = total asks_of s.views in let W : ℕ = total waiting s.views in let B : ℕ = total budget s.views in
       let room : get_or s.words 0 0 + L + H ≡ 2 ^ 32 + m + r.freed = r.room_is in
       let within : L + R ≤ r.freed + m = r.within in
       let counted : L + r.late + W ≤ A = r.counted in
@@ -343,7 +343,7 @@ module _ {T : Type 0} where
       let wait1 : waiting me.0 ≡ 1 = ap wait_of was in let ws : ℕ = length s.words in let long : ws ≡ m + 2 = r.wide in
       let th : total in_hand (set s.views id w) + in_hand me.0 ≡ H + 1 = total_set in_hand s.views id me.0 w at in
       let tr : total in_room (set s.views id w) + in_room me.0 ≡ R + 1 = total_set in_room s.views id me.0 w at in
-      let ta : total asked (set s.views id w) + me.0.asks ≡ A + me.0.asks = total_set asked s.views id me.0 w at in
+      let ta : total asks_of (set s.views id w) + me.0.asks ≡ A + me.0.asks = total_set asks_of s.views id me.0 w at in
       let tw : total waiting (set s.views id w) + waiting me.0 ≡ W + 0 = total_set waiting s.views id me.0 w at in
       let tb : total budget (set s.views id w) + budget me.0 ≡ B + budget me.0 = total_set budget s.views id me.0 w at in
       let more : y' ≡ y + 1 = one_more y (omega arith) in
@@ -371,13 +371,13 @@ module _ {T : Type 0} where
     still : (w : View T) → get_elem? s.views id ≡ some me.0 → hand_of me.0.stage ≡ 0 → found_of me.0.stage ≡ 0 → wait_of me.0.stage ≡ 0
         → hand_of w.stage ≡ 0 → found_of w.stage ≡ 0 → wait_of w.stage ≡ 0 → w.asks ≡ me.0.asks → budget w ≡ budget me.0
         → (total in_hand (set s.views id w) ≡ total in_hand s.views) × (total in_room (set s.views id w) ≡ total in_room s.views)
-        × (total waiting (set s.views id w) ≡ total waiting s.views) × (total asked (set s.views id w) ≡ total asked s.views)
+        × (total waiting (set s.views id w) ≡ total waiting s.views) × (total asks_of (set s.views id w) ≡ total asks_of s.views)
         × (total budget (set s.views id w) ≡ total budget s.views)
     still w at a b z c d y e g = let th : total in_hand (set s.views id w) + in_hand me.0 ≡ total in_hand s.views + in_hand w =
         total_set in_hand s.views id me.0 w at in
         let tr : total in_room (set s.views id w) + in_room me.0 ≡ total in_room s.views + in_room w = total_set in_room s.views id me.0 w at in
         let tw : total waiting (set s.views id w) + waiting me.0 ≡ total waiting s.views + waiting w = total_set waiting s.views id me.0 w at in
-        let ta : total asked (set s.views id w) + me.0.asks ≡ total asked s.views + w.asks = total_set asked s.views id me.0 w at in
+        let ta : total asks_of (set s.views id w) + me.0.asks ≡ total asks_of s.views + w.asks = total_set asks_of s.views id me.0 w at in
         let tb : total budget (set s.views id w) + budget me.0 ≡ total budget s.views + budget w = total_set budget s.views id me.0 w at in
         let a' : in_hand me.0 ≡ 0 = a in
         let b' : in_room me.0 ≡ 0 = b in
@@ -528,7 +528,7 @@ module _ {T : Type 0} where
           λ miss. absurd (miss hit),
         ),
       ))
-      (λ miss. let w = looked me.0 false in
+      (λ miss. let w = with_look me.0 false in
       let same = still s r id me w at (ap hand_of was) (ap found_of was) (ap wait_of was) (ap hand_of was) (ap found_of was)
       (ap wait_of was) refl refl in
       let h = same.0 in
@@ -606,8 +606,8 @@ module _ {T : Type 0} where
   pub glances_ok : (n id : ℕ) (me : Seated T) → me.0.role ≡ Sender → me.0.stage ≡ Idle → Allows Queue n id me 1 (λ x. x) (glances_at (step n 1 0 0 none) me)
   glances_ok n id me is was s r wide at small = go (dec_le (2 ^ 63) (get_or s.words 1 0))
     where
-      went : (b : Bool) → Queue (stepped s 1 (get_or s.words 1 0) id me.1 (glanced me.0 b) keeps)
-      went b = let w = glanced me.0 b in
+      went : (b : Bool) → Queue (stepped s 1 (get_or s.words 1 0) id me.1 (with_glance me.0 b) keeps)
+      went b = let w = with_glance me.0 b in
           let same = still s r id me w at (ap hand_of was) (ap found_of was) (ap wait_of was) (ap hand_of was) (ap found_of was)
           (ap wait_of was) refl refl in
           let h = same.0 in
@@ -621,8 +621,8 @@ module _ {T : Type 0} where
           (subst (Knows r.freed r.log id (r.cells (me.0.at % length s.homes)) me.0.at me.0.item) (sym was) tt))
 
       go : Dec (2 ^ 63 ≤ get_or s.words 1 0) → Goes s 1 id me (glances_at (step n 1 0 0 none) me) (get_or s.words 1 0)
-      go (yes d) = (glanced me.0 true, keeps, tt, went true, (refl, (λ lt. absurd (omega arith)), λ _. refl))
-      go (no d) = (glanced me.0 false, keeps, tt, went false, (refl, (λ _. refl), λ ge. absurd (d ge)))
+      go (yes d) = (with_glance me.0 true, keeps, tt, went true, (refl, (λ lt. absurd (omega arith)), λ _. refl))
+      go (no d) = (with_glance me.0 false, keeps, tt, went false, (refl, (λ _. refl), λ ge. absurd (d ge)))
 
   -- the first close
   pub closes_ok : (n id : ℕ) (me : Seated T) → me.0.role ≡ Receiver → me.0.stage ≡ Idle → me.0.total ≡ None
@@ -636,7 +636,7 @@ module _ {T : Type 0} where
       let W : ℕ = total waiting s.views in
       let bound : L + r.late + W ≤ 64 * 2 ^ 40 = few_drawn s r in
       let more : y' ≡ 2 ^ 63 + y = or_shifted_r 1 63 y (let b : y < 2 ^ 63 = omega arith in b) in
-      let w = closed_at me.0 y in
+      let w = with_total me.0 y in
       let same = still s r id me w at (ap hand_of was) (ap found_of was) (ap wait_of was) (ap hand_of was) (ap found_of was)
       (ap wait_of was) refl refl in
       let h = same.0 in
@@ -656,7 +656,7 @@ module _ {T : Type 0} where
             (λ i. get_or-set_other s.words 1 (i + 2) y' 0 (λ e. omega arith)) (omega arith) (omega arith) (omega arith)
             (λ u e. let here : w ≡ u = maybe.some-injective w u
             (sym (ap (get_elem? (set s.views id w)) (sym f.0) ∙ set_here s.views id w (placed s.views id me.0 at)) ∙ e) in
-            let g' = roles_stay s r r.closed r.log id me.0 w me.0 at refl g in subst (Gathers true r.log (set s.views id w)) here ((refl, tail), g'.1, g'.2))
+            let g' = roles_stay s r r.closed r.log id me.0 w me.0 at refl g in subst (Collects true r.log (set s.views id w)) here ((refl, tail), g'.1, g'.2))
             (receives s r id me.0 w at is is refl refl) (subst (Knows r.freed r.log id (r.cells (me.0.at % m)) me.0.at me.0.item) (sym was) tt),
         (
           refl,
@@ -690,7 +690,7 @@ module _ {T : Type 0} where
             (λ u e. let here : w ≡ u = maybe.some-injective w u
             (sym (ap (get_elem? (set s.views id w)) (sym f.0) ∙ set_here s.views id w (placed s.views id me.0 at)) ∙ e) in
             let g' = roles_stay s r r.closed r.log id me.0 w me.0 at refl g in
-            subst (Gathers r.closed r.log (set s.views id w)) here (g'.0, g'.1, (refl, λ j. gone_stays s r id (suc j) me.0 w at refl (gone j))))
+            subst (Collects r.closed r.log (set s.views id w)) here (g'.0, g'.1, (refl, λ j. gone_stays s r id (suc j) me.0 w at refl (gone j))))
             (receives s r id me.0 w at is is refl refl) (subst (Knows r.freed r.log id (r.cells (me.0.at % m)) me.0.at me.0.item) (sym was) tt)),
         (
           refl,

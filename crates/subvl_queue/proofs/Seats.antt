@@ -10,7 +10,7 @@ use Rattle.subvl_queue.specs.declared.view.View.{View}
 use Rattle.subvl_queue.specs.declared.view.Role.{Role}
 use Rattle.subvl_queue.specs.declared.view.Role.TheVariants.{Sender, Receiver, Spent}
 use Rattle.subvl_queue.specs.declared.view.Stage.TheVariants.{Idle}
-use Rattle.subvl_queue.specs.Queue.{owned, total, hand_of, found_of, wait_of, budget_of, in_hand, in_room, waiting, asked, budget, Gone, Whole, Gathers, Busy, free, Knows, Fits, Queue}
+use Rattle.subvl_queue.specs.Queue.{owned, total, hand_of, found_of, wait_of, budget_of, in_hand, in_room, waiting, asks_of, budget, Gone, Whole, Collects, Busy, free, Knows, Fits, Queue}
 use Rattle.subvl_queue.specs.Start.{first_view, new_seat, spent_view}
 use Rattle.subvl_queue.specs.Steps.{one_made, with_joined}
 use Rattle.subvl_queue.proofs.Totals.{total_set, total_end}
@@ -57,7 +57,7 @@ module _ {T : Type 0} where
         each_seat = λ j v e. let o = only first_view v j e in subst (λ (d : View T). Fits 1 0 [] j d d.role) o.1 (o.0, refl, refl, refl);
         each_hand = λ j v e. let o = only first_view v j e in subst (λ (d : View T). Knows 0 [] j (d.at % n, free) d.at d.item d.stage) o.1 tt;
         unmade = λ k le. refl;
-        gathered = λ u e. let o = only first_view u 0 e in subst (Gathers false [] (first_view ∷ [])) o.1
+        gathered = λ u e. let o = only first_view u 0 e in subst (Collects false [] (first_view ∷ [])) o.1
             (refl, (λ i k l at. absurd (maybe.some-ne-none (k, l) (sym at))), tt);
         busy = λ i j near held. absurd (let h : 0 ≡ suc j = held in omega arith);
       }
@@ -76,15 +76,15 @@ module _ {T : Type 0} where
       let long : length vs ≡ length s.views = length-set s.views id l in
       let longer : length vs' ≡ length vs + 1 = length-append vs (k ∷ []) in let seats : length s.views ≡ suc v.made = f.3 in
       let H : ℕ = total in_hand s.views in
-      let R : ℕ = total in_room s.views in let A : ℕ = total asked s.views in let W : ℕ = total waiting s.views in let B : ℕ = total budget s.views in
+      let R : ℕ = total in_room s.views in let A : ℕ = total asks_of s.views in let W : ℕ = total waiting s.views in let B : ℕ = total budget s.views in
       let h1 : total in_hand vs + in_hand v ≡ H + in_hand v = total_set in_hand s.views id v l at in
       let h2 : total in_hand vs' ≡ total in_hand vs + 0 = total_end in_hand vs k in
       let r1 : total in_room vs + in_room v ≡ R + in_room v = total_set in_room s.views id v l at in
       let r2 : total in_room vs' ≡ total in_room vs + 0 = total_end in_room vs k in
       let w1 : total waiting vs + waiting v ≡ W + waiting v = total_set waiting s.views id v l at in
       let w2 : total waiting vs' ≡ total waiting vs + 0 = total_end waiting vs k in
-      let a1 : total asked vs + v.asks ≡ A + v.asks = total_set asked s.views id v l at in
-      let a2 : total asked vs' ≡ total asked vs + 0 = total_end asked vs k in
+      let a1 : total asks_of vs + v.asks ≡ A + v.asks = total_set asks_of s.views id v l at in
+      let a2 : total asks_of vs' ≡ total asks_of vs + 0 = total_end asks_of vs k in
       let b1 : total budget vs + budget v ≡ B + budget l = total_set budget s.views id v l at in
       let b2 : total budget vs' ≡ total budget vs + 2 ^ 40 = total_end budget vs k in
       let bv : budget v ≡ v.asks + (64 - v.made) * 2 ^ 40 = ap (budget_of v.asks v.made) is in
@@ -136,7 +136,7 @@ module _ {T : Type 0} where
         gathered = λ u e. let at0 : get_elem? s.views 0 ≡ some v = ap (get_elem? s.views) (sym f.0) ∙ at in let g = r.gathered v at0 in
             let here : l ≡ u = maybe.some-injective l u (sym (at_longer vs (k ∷ []) 0 l
             (ap (get_elem? vs) (sym f.0) ∙ set_here s.views id l (placed s.views id v at))) ∙ e) in
-            subst (Gathers r.closed r.log vs') here (
+            subst (Collects r.closed r.log vs') here (
               g.0,
               (λ i q y at'. absurd
                   (maybe.some-ne-none (q, y) (sym at' ∙ ap (λ (z : List (ℕ × List (ℕ × T))). get_elem? z i) none_joined))),
@@ -159,7 +159,7 @@ module _ {T : Type 0} where
       let long : length vs ≡ length s.views = length-set s.views id u in let long' : length vs' ≡ length s.views = length-set vs other k ∙ long in
       let at_old : get_elem? s.views other ≡ some w = sym (set_else s.views id other u two) ∙ at' in let h = fits s r other w Sender at_old sends in
       let H : ℕ = total in_hand s.views in
-      let R : ℕ = total in_room s.views in let A : ℕ = total asked s.views in let W : ℕ = total waiting s.views in let B : ℕ = total budget s.views in
+      let R : ℕ = total in_room s.views in let A : ℕ = total asks_of s.views in let W : ℕ = total waiting s.views in let B : ℕ = total budget s.views in
       let h1 : total in_hand vs + in_hand v ≡ H + in_hand v = total_set in_hand s.views id v u at in
       let h2 : total in_hand vs' + in_hand w ≡ total in_hand vs + 0 = total_set in_hand vs other w k at' in
       let hw : in_hand w ≡ 0 = ap hand_of rests in
@@ -169,8 +169,8 @@ module _ {T : Type 0} where
       let w1 : total waiting vs + waiting v ≡ W + waiting v = total_set waiting s.views id v u at in
       let w2 : total waiting vs' + waiting w ≡ total waiting vs + 0 = total_set waiting vs other w k at' in
       let ww : waiting w ≡ 0 = ap wait_of rests in
-      let a1 : total asked vs + v.asks ≡ A + (v.asks + w.asks) = total_set asked s.views id v u at in
-      let a2 : total asked vs' + w.asks ≡ total asked vs + 0 = total_set asked vs other w k at' in
+      let a1 : total asks_of vs + v.asks ≡ A + (v.asks + w.asks) = total_set asks_of s.views id v u at in
+      let a2 : total asks_of vs' + w.asks ≡ total asks_of vs + 0 = total_set asks_of vs other w k at' in
       let b1 : total budget vs + budget v ≡ B + budget u = total_set budget s.views id v u at in
       let b2 : total budget vs' + budget w ≡ total budget vs + 0 = total_set budget vs other w k at' in
       let bw : budget w ≡ 2 ^ 40 = ap (budget_of w.asks w.made) sends in
@@ -212,7 +212,7 @@ module _ {T : Type 0} where
             (λ _ _ e'. r.each_hand j d e');
         unmade = λ q le. r.unmade q (subst (λ (m : ℕ). m ≤ suc q) long' le);
         gathered = λ d e. let at0 : get_elem? s.views 0 ≡ some v = ap (get_elem? s.views) (sym f.0) ∙ at in let g = r.gathered v at0 in
-            look 0 d e (λ q y. q ≡ 0 → Gathers r.closed r.log vs' y) (λ z. absurd (let a = h.0 in omega arith))
+            look 0 d e (λ q y. q ≡ 0 → Collects r.closed r.log vs' y) (λ z. absurd (let a = h.0 in omega arith))
             (λ _. (
               g.0,
               (λ i q l e'. ⊎_elim (λ (old : get_elem? v.joined i ≡ some (q, l)). let x = g.1 i q l old in (x.0, gone q x.1))

@@ -9,7 +9,7 @@ use lib.ListN.{get_elem?}
 use Rattle.subvl_queue.specs.declared.item.Message.{Message}
 use Rattle.subvl_queue.specs.declared.view.View.{View}
 use Rattle.subvl_queue.specs.Bytes.{items_of, own_of, places_of}
-use Rattle.subvl_queue.specs.Gathers.{IsGathered, whole, brought_of, back_of}
+use Rattle.subvl_queue.specs.Gathers.{IsGathered, whole, brought_of, brought_back}
 use Rattle.subvl_queue.specs.Messages.{part_of}
 use Rattle.subvl_queue.specs.Queue.{owned}
 use Rattle.subvl_queue.specs.Steps.{IsLog, IfWhole, with_all, holding, freed_of}
@@ -36,7 +36,7 @@ pub joined_at : (joined : List (ℕ × List (ℕ × Message))) (b : Brought) →
 joined_at joined b inside = found joined b inside.0 inside.1 inside.2
 
 -- the sender of a port that is back has joined
-pub joined_for : (v : View Message) (ports : ℕ) → AreBack ports (back_of v) → (k : ℕ) → k < ports
+pub joined_for : (v : View Message) (ports : ℕ) → AreBack ports (brought_back v) → (k : ℕ) → k < ports
     → (i : ℕ) × (l : List (ℕ × Message)) × (get_elem? v.joined i ≡ some (k, l))
 joined_for v ports every k lt = let there = every k lt in let at = joined_at v.joined there.0 there.1 in
     (at.0, at.2, at.3 ∙ ap (λ (p : ℕ). some (p, at.2)) (ap (λ (b : Brought). b.port) at.4 ∙ there.2))
@@ -67,14 +67,14 @@ whole_by few more ports l all every known = record {
 }
 
 -- where nothing was brought, none has joined
-pub none_joined : (v : View Message) → back_of v ≡ [] → v.joined ≡ []
+pub none_joined : (v : View Message) → brought_back v ≡ [] → v.joined ≡ []
 none_joined v none = elim v.joined as (λ l. map brought_of l ≡ [] → l ≡ []) [ [] ↦ λ e. refl | x ∷ xs ↦ λ e. absurd (cc) ] none
 
 -- the log is the whole of what the senders that are back had accepted
-pub is_whole : (slots ports : ℕ) (v : View Message) (l : List (ℕ × Message)) → AreBack ports (back_of v) → IsLog slots v l → v.made ≡ ports
-    → IsWhole ports (back_of v) (items_of l)
+pub is_whole : (slots ports : ℕ) (v : View Message) (l : List (ℕ × Message)) → AreBack ports (brought_back v) → IsLog slots v l → v.made ≡ ports
+    → IsWhole ports (brought_back v) (items_of l)
 is_whole slots ports v l every log made =
-    let at : (b : Brought) → Contains (back_of v) b → (own_of (owned b.port 0 l) ≡ b.own) × (places_of (owned b.port 0 l) ≡ b.places) =
+    let at : (b : Brought) → Contains (brought_back v) b → (own_of (owned b.port 0 l) ≡ b.own) × (places_of (owned b.port 0 l) ≡ b.places) =
     λ b inside. (
     let there = joined_at v.joined b inside in
     let list : there.2 ≡ owned there.1 0 l = log.parts there.0 there.1 there.2 there.3 in (

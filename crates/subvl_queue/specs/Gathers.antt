@@ -10,8 +10,8 @@ abbrev pub brought_of : ℕ × List (ℕ × Message) → Brought
 brought_of b = record { port = b.0; own = own_of b.1; places = places_of b.1 }
 
 -- what the joined senders brought
-abbrev pub back_of : View Message → List Brought
-back_of v = map brought_of v.joined
+abbrev pub brought_back : View Message → List Brought
+brought_back v = map brought_of v.joined
 
 -- the gathered list
 abbrev pub listed : {T : Type 0} → Option (List (ℕ × T)) → List (ℕ × T)

@@ -109,8 +109,8 @@ module _ {T : Type 0} where
   abbrev pub waiting : View T → ℕ
   waiting v = wait_of v.stage
 
-  abbrev pub asked : View T → ℕ
-  asked v = v.asks
+  abbrev pub asks_of : View T → ℕ
+  asks_of v = v.asks
 
   abbrev pub budget : View T → ℕ
   budget v = budget_of v.asks v.made v.role
@@ -163,8 +163,8 @@ module _ {T : Type 0} where
   Whole log views None = Unit {0}
   Whole log views (Some l) = (l ≡ log) × ((j : ℕ) → Gone views (suc j))
 
-  abbrev pub Gathers : Bool → List (ℕ × T) → List (View T) → View T → Type 0
-  Gathers closed log views u = Totals closed (length log) u.total × Joined log views u.joined × Whole log views u.all
+  abbrev pub Collects : Bool → List (ℕ × T) → List (View T) → View T → Type 0
+  Collects closed log views u = Totals closed (length log) u.total × Joined log views u.joined × Whole log views u.all
 
   pub record Queue (s : State (Option (ℕ × T)) (View T)) : Type 0 where
     pub log : List (ℕ × T)
@@ -183,7 +183,7 @@ module _ {T : Type 0} where
     pub room_is : slice_index_or s.words 0 0 + length log + total in_hand s.views ≡ 2 ^ 32 + length s.homes + freed
     pub tail_is : slice_index_or s.words 1 0 ≡ length log + late + shut_bit closed
     pub none_late : closed ≡ false → late ≡ 0
-    pub counted : length log + late + total waiting s.views ≤ total asked s.views
+    pub counted : length log + late + total waiting s.views ≤ total asks_of s.views
     pub budgeted : total budget s.views ≤ 64 * 2 ^ 40
     pub each_cell : (i : ℕ) → i < length s.homes →
         CellOk (length s.homes) freed log s.words s.homes i (cells i)
@@ -193,7 +193,7 @@ module _ {T : Type 0} where
         Knows freed log j (cells (v.at % length s.homes)) v.at v.item v.stage
     -- a port with no sender has no message
     pub unmade : (k : ℕ) → length s.views ≤ suc k → owned k 0 log ≡ []
-    pub gathered : (u : View T) → get_elem? s.views 0 ≡ some u → Gathers closed log s.views u
+    pub gathered : (u : View T) → get_elem? s.views 0 ≡ some u → Collects closed log s.views u
     pub busy : (i j : ℕ) → i < length s.homes → holder (cells i).1 ≡ suc j →
         (v : View T) × (get_elem? s.views j ≡ some v) × Busy v.stage × (v.at ≡ (cells i).0)
 

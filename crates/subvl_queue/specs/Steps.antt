@@ -24,11 +24,11 @@ module _ {T : Type 0} where
   abbrev pub lated : View T → View T
   lated v = record v { stage = Late; shut = true }
 
-  abbrev pub glanced : View T → Bool → View T
-  glanced v b = record v { glances = v.glances + 1; shut = b }
+  abbrev pub with_glance : View T → Bool → View T
+  with_glance v b = record v { glances = v.glances + 1; shut = b }
 
-  abbrev pub closed_at : View T → ℕ → View T
-  closed_at v t = record v { total = Some t }
+  abbrev pub with_total : View T → ℕ → View T
+  with_total v t = record v { total = Some t }
 
   abbrev pub one_made : View T → View T
   one_made v = record v { made = v.made + 1 }
@@ -39,8 +39,8 @@ module _ {T : Type 0} where
   abbrev pub with_all : View T → List (ℕ × T) → View T
   with_all v l = record v { all = Some l }
 
-  abbrev pub looked : View T → Bool → View T
-  looked v b = record v { looks = v.looks + 1; found = b }
+  abbrev pub with_look : View T → Bool → View T
+  with_look v b = record v { looks = v.looks + 1; found = b }
 
   abbrev pub holding : View T → ℕ → ℕ × T → View T
   holding v p x = record v { looks = v.looks + 1; found = true; stage = Holding; at = p; item = Some x }
@@ -85,7 +85,7 @@ module _ {T : Type 0} where
 
   -- nothing is ready at the place p
   abbrev pub Misses : ℕ → Seated T → Seated T → Type 0
-  Misses p m m' = (m' ≡ (looked m.0 false, [])) × IfWhole m.0.all (λ l. length l ≤ p)
+  Misses p m m' = (m' ≡ (with_look m.0 false, [])) × IfWhole m.0.all (λ l. length l ≤ p)
 
   abbrev pub looks : ℕ → Step (Option (ℕ × T)) → Seated T → ℕ → Seated T → Type 0
   looks p st m r m' = (r ≡ suc p → (x : ℕ × T) × Finds st.slots p m m' x) × (r ≢ suc p → Misses p m m')
@@ -94,10 +94,10 @@ module _ {T : Type 0} where
   frees st m r m' = (m'.1 ≡ []) × ((x : ℕ × T) × (m.0.item ≡ Some x) × (m'.0 ≡ freed_of m.0 x))
 
   abbrev pub glances_at : Step (Option (ℕ × T)) → Seated T → ℕ → Seated T → Type 0
-  glances_at st m r m' = (m'.1 ≡ m.1) × (r < 2 ^ 63 → m'.0 ≡ glanced m.0 false) × (2 ^ 63 ≤ r → m'.0 ≡ glanced m.0 true)
+  glances_at st m r m' = (m'.1 ≡ m.1) × (r < 2 ^ 63 → m'.0 ≡ with_glance m.0 false) × (2 ^ 63 ≤ r → m'.0 ≡ with_glance m.0 true)
 
   abbrev pub closes : Step (Option (ℕ × T)) → Seated T → ℕ → Seated T → Type 0
-  closes st m r m' = (m'.1 ≡ m.1) × (r < 2 ^ 63) × (length m.0.taken ≤ r) × (m'.0 ≡ closed_at m.0 r)
+  closes st m r m' = (m'.1 ≡ m.1) × (r < 2 ^ 63) × (length m.0.taken ≤ r) × (m'.0 ≡ with_total m.0 r)
 
   -- the list is that of all accepted messages, of which a receiver knows this, once every sender has joined
   pub record IsLog (slots : ℕ) (v : View T) (l : List (ℕ × T)) : Type 0 where

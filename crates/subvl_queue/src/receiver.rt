@@ -6,7 +6,7 @@ ghost use Rattle.subvl_queue.specs.declared.view.Role.TheVariants.{Receiver as A
 ghost use Rattle.subvl_queue.specs.Messages.{IsMessage, AreItems};
 ghost use Rattle.subvl_queue.specs.Queue.{IsAtTable, RestsAs};
 ghost use Rattle.subvl_queue.specs.Start.{first_view};
-ghost use Rattle.subvl_queue.specs.Steps.{Finds, looked as looked_at, freed_of, holding, IfWhole};
+ghost use Rattle.subvl_queue.specs.Steps.{Finds, with_look, freed_of, holding, IfWhole};
 ghost use Rattle.subvl_queue.specs.Views.{new_receiver, new_sender, one_more, after_take, looked, closed, taken_back, accepted_of, brought_by_all, AreBack, LacksOne, AreOf, IsWhole};
 
 use crate::gathered::Gathered;
@@ -30,7 +30,7 @@ pub fn fetch(ring: &Ring, seat: &mut Knowing, taken: &mut u64) -> Option<Parcel>
     ensures below { IfSome result (λ _. IfSome seat.old.me.0.total (λ t. taken.old < t)) }
     ensures listed { IfSome result (λ x. IfWhole seat.old.me.0.all
         (λ l. (taken.old < length l) × (get_elem? l taken.old ≡ some x))) }
-    ensures none { IfNone result (seat.new.me.0 ≡ looked_at seat.old.me.0 false) }
+    ensures none { IfNone result (seat.new.me.0 ≡ with_look seat.old.me.0 false) }
     ensures unchanged { IfNone result (taken.new ≡ taken.old) }
     ensures ended { IfNone result (IfWhole seat.old.me.0.all (λ l. length l ≤ taken.old)) }
 {
@@ -60,7 +60,7 @@ impl Model for Receiver {
     ghost use Rattle.subvl_queue.specs.declared.view.Role.TheVariants.{Receiver as AsReceiver};
     ghost use Rattle.subvl_queue.specs.Queue.{RestsAs};
     ghost use Rattle.subvl_queue.specs.Bytes.{items_of};
-    ghost use Rattle.subvl_queue.specs.Gathers.{back_of};
+    ghost use Rattle.subvl_queue.specs.Gathers.{brought_back};
     ghost use Rattle.subvl_queue.specs.Views.{ReceiverView};
 
     ghost Value = { ReceiverView };
@@ -73,7 +73,7 @@ impl Model for Receiver {
       found = r.seat.me.0.found;
       taken = items_of r.seat.me.0.taken;
       total = r.total;
-      back = back_of r.seat.me.0;
+      back = brought_back r.seat.me.0;
     } };
 
     ghost invariant = { λ r. RestsAs r.ring.value.table.shared.table_id AsReceiver r.seat

@@ -6,7 +6,7 @@ ghost use Rattle.subvl_queue.specs.declared.view.Role.TheVariants.{Sender, Recei
 ghost use Rattle.subvl_queue.specs.declared.view.Stage.TheVariants.{Idle, Asked, Refused, Drew, Late, Holding};
 ghost use Rattle.subvl_queue.specs.Queue.{IsAtTable, RestsAs};
 ghost use Rattle.subvl_queue.specs.Start.{new_seat};
-ghost use Rattle.subvl_queue.specs.Steps.{Reached, Finds, Misses, IsLog, with_ask, idle, drawn, lated, glanced, closed_at, one_made, with_joined, with_all, freed_of};
+ghost use Rattle.subvl_queue.specs.Steps.{Reached, Finds, Misses, IsLog, with_ask, idle, drawn, lated, with_glance, with_total, one_made, with_joined, with_all, freed_of};
 
 use crate::item::Message;
 use crate::rule::{
@@ -157,7 +157,7 @@ impl Ring {
     pub fn glance(&self, seat: &mut Knowing) -> bool
         requires { RestsAs self.now.table.shared.table_id Sender seat.old }
         ensures seat { IsAtTable self.now.table.shared.table_id seat.new }
-        ensures view { seat.new.me ≡ (glanced seat.old.me.0 result, []) }
+        ensures view { seat.new.me ≡ (with_glance seat.old.me.0 result, []) }
     {
         self.table.shared.load::<Glance>(seat, TAIL) >= CLOSED
     }
@@ -167,7 +167,7 @@ impl Ring {
         requires seat { RestsAs self.now.table.shared.table_id Receiver seat.old }
         requires open { seat.old.me.0.total ≡ None }
         ensures seat { IsAtTable self.now.table.shared.table_id seat.new }
-        ensures view { seat.new.me ≡ (closed_at seat.old.me.0 result, []) }
+        ensures view { seat.new.me ≡ (with_total seat.old.me.0 result, []) }
         ensures taken { length seat.old.me.0.taken ≤ result }
     {
         self.table.shared.fetch_or::<Close>(seat, TAIL, CLOSED)

@@ -5,7 +5,7 @@ ghost use Rattle.subvl_queue.specs.declared.refused.Why.TheVariants as Whys;
 ghost use Rattle.subvl_queue.specs.Messages.{most_bytes};
 ghost use Rattle.subvl_queue.specs.Queue.{IsAtTable, RestsAs};
 ghost use Rattle.subvl_queue.specs.Start.{new_seat};
-ghost use Rattle.subvl_queue.specs.Steps.{Reached, glanced};
+ghost use Rattle.subvl_queue.specs.Steps.{Reached, with_glance};
 ghost use Rattle.subvl_queue.specs.Sends.{accepted_at, RefusedBy};
 ghost use Rattle.subvl_queue.specs.Bytes.{own_of, places_of};
 ghost use Rattle.subvl_queue.specs.Views.{new_sender, IsPlaced, IsRefused, WasFull};
@@ -41,7 +41,7 @@ where
     ensures back { IfErr result (λ e. e.bytes ≡ message.bytes) }
     ensures refused { IfErr result (λ e. RefusedBy calls seat.old.me.0 seat.new.me.0 e.why) }
     ensures full { IfErr result
-        (λ e. e.why ≡ Whys.Full → Reached ring.now.capacity (glanced seat.old.me.0 false)) }
+        (λ e. e.why ≡ Whys.Full → Reached ring.now.capacity (with_glance seat.old.me.0 false)) }
 {
     if ring.glance(seat) {
         return Err(refused(Why::Closed, message));

@@ -6,7 +6,7 @@ use Rattle.afdx_tx.specs.Ports.{PortView}
 use Rattle.script_lines.specs.Meaning.{meaning_of}
 use Rattle.script_lines.specs.declared.line.Line.{Line}
 use Rattle.script_lines.specs.declared.line.Line.TheVariants.{Send, At, Close, Nothing}
-use Rattle.tx_script.specs.AtBench.{KeepsTotals, IsTold, AreTold, HaveSent, GaveTotals}
+use Rattle.tx_script.specs.AtBench.{KeepsTotals, TellsTotal, AreTold, HaveSent, GaveTotals}
 use Rattle.tx_script.specs.Play.{Answer, AnsweredLine, Play, told_by}
 use Rattle.afdx_tx.specs.Closing.{IsSubAt}
 use Rattle.tx_script.specs.Totals.{accepted_on, IsTotal, AreTotals}
@@ -19,7 +19,7 @@ keeps_same old new same = record {
 }
 
 -- what a close told stays told
-told_still : (said : Line) (answer : Answer) (old new : Tx) → KeepsTotals old new → IsTold old said answer → IsTold new said answer
+told_still : (said : Line) (answer : Answer) (old new : Tx) → KeepsTotals old new → TellsTotal old said answer → TellsTotal new said answer
 told_still (Send port bytes) answer old new keeps told = tt
 told_still (At now) answer old new keeps told = tt
 told_still Nothing answer old new keeps told = tt
@@ -35,7 +35,7 @@ are_told_still old new (turn ∷ turns) keeps told = (
 
 -- and one more line
 pub told_more : (old new : Tx) (turns : List AnsweredLine) (turn : AnsweredLine) → KeepsTotals old new → AreTold old turns
-    → IsTold new (meaning_of turn.line) turn.answer → AreTold new (turns ++ turn ∷ [])
+    → TellsTotal new (meaning_of turn.line) turn.answer → AreTold new (turns ++ turn ∷ [])
 told_more old new [] turn keeps told more = (more, tt)
 told_more old new (first ∷ turns) turn keeps told more = (
   told_still (meaning_of first.line) first.answer old new keeps told.0,
@@ -44,7 +44,7 @@ told_more old new (first ∷ turns) turn keeps told more = (
 
 -- what a close told is its total, once the ports are gathered
 total_told : (st : Play) (tx : Tx) (ports : List PortView) → tx.plan ≡ st.es.plan → HaveSent st.accepted ports
-    → GaveTotals tx ports → (said : Line) (answer : Answer) → IsTold tx said answer → IsTotal st said answer
+    → GaveTotals tx ports → (said : Line) (answer : Answer) → TellsTotal tx said answer → IsTotal st said answer
 total_told st tx ports plan sent gave (Send port bytes) answer told = tt
 total_told st tx ports plan sent gave (At now) answer told = tt
 total_told st tx ports plan sent gave Nothing answer told = tt

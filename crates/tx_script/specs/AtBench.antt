@@ -75,15 +75,15 @@ pub record KeepsTotals (old new : Tx) : Type 0 where
       → total_in new.links place sub ≡ Some total
 
 -- the total that a close told is that of its sub-VL's queue
-abbrev pub IsTold : Tx → Line → Answer → Type 0
-IsTold tx (Close vl sub) answer = (place : ℕ) → IsSubAt tx.plan vl sub place
+abbrev pub TellsTotal : Tx → Line → Answer → Type 0
+TellsTotal tx (Close vl sub) answer = (place : ℕ) → IsSubAt tx.plan vl sub place
     → total_in tx.links place sub ≡ Some (told_by answer)
-IsTold tx _ answer = Unit {0}
+TellsTotal tx _ answer = Unit {0}
 
 -- the same of the closes among some lines
 abbrev pub AreTold : Tx → List AnsweredLine → Type 0
 AreTold tx [] = Unit {0}
-AreTold tx (turn ∷ turns) = IsTold tx (meaning_of turn.line) turn.answer × AreTold tx turns
+AreTold tx (turn ∷ turns) = TellsTotal tx (meaning_of turn.line) turn.answer × AreTold tx turns
 
 -- a line was obeyed, at a bench that matches these
 pub record Obeys (line : Line) (accepted : Messages) (es : EndSystem) (bench : AtBench)
@@ -91,7 +91,7 @@ pub record Obeys (line : Line) (accepted : Messages) (es : EndSystem) (bench : A
   pub answer : Answer
   pub may : IsAnswer es line answer
   pub is : outcome ≡ outcome_of es line answer
-  pub told : IsTold bench.tx line answer
+  pub told : TellsTotal bench.tx line answer
   pub matches : Matches (accepted_after es line answer accepted) (after es line answer) bench
 
 -- the same, whatever the bench matched before

@@ -6,7 +6,7 @@ use Rattle.afdx_frame.specs.Profile.{fragment_field}
 use Rattle.afdx_frame.specs.Roles.{more_fragments}
 use Rattle.redundant_mux.specs.Entry.{Entry, entry}
 use Rattle.status_board.specs.declared.counts.Counts.{Counts}
-use Rattle.afdx_legal.specs.Counting.{capped, bytes_in, ends_message, messages_in, moment_after, counts_in}
+use Rattle.afdx_legal.specs.Counting.{capped, bytes_in, ends_message, messages_ended, moment_after, counts_in}
 
 -- counting on from a count
 capped_more : (m k : ℕ) → min (capped m + k) (2 ^ 64 - 1) ≡ capped (m + k)
@@ -23,11 +23,11 @@ one_ended : (e : Entry) (ends : Bool) → length (cond ends (e ∷ []) []) ≡ c
 one_ended e true = refl
 one_ended e false = refl
 
-messages_push : (stream : List Entry) (e : Entry) → messages_in (stream ++ e ∷ []) ≡ messages_in stream + ended e
+messages_push : (stream : List Entry) (e : Entry) → messages_ended (stream ++ e ∷ []) ≡ messages_ended stream + ended e
 messages_push stream e =
     ap length (filter-append ends_message stream (e ∷ []))
     ∙ length-append (filter ends_message stream) (filter ends_message (e ∷ []))
-    ∙ ap (λ (n : ℕ). messages_in stream + n) (one_ended e (ends_message e))
+    ∙ ap (λ (n : ℕ). messages_ended stream + n) (one_ended e (ends_message e))
 
 moment_push : (at : ℕ) (stream : List Entry) (e : Entry) → moment_after at (stream ++ e ∷ []) ≡ e.at
 moment_push at [] e = refl
@@ -46,7 +46,7 @@ one_more counts next at frame frames bytes messages last stream is = λ i. recor
   bytes = (bytes ∙ ap (λ (c : Counts). min (c.bytes + length frame) (2 ^ 64 - 1)) is ∙ capped_more (bytes_in stream) (length frame)
       ∙ ap capped (sym (bytes_push stream (entry at frame)))) i;
   messages = (messages ∙ ap (λ (c : Counts). min (c.messages + ended (entry at frame)) (2 ^ 64 - 1)) is
-      ∙ capped_more (messages_in stream) (ended (entry at frame))
+      ∙ capped_more (messages_ended stream) (ended (entry at frame))
       ∙ ap capped (sym (messages_push stream (entry at frame)))) i;
   last = (last ∙ sym (moment_push 0 stream (entry at frame))) i;
 }

@@ -2,7 +2,7 @@ use Rattle.std.proofs.Common.{◌≡◌, ℕ, ◌<◌, ◌≤◌, List, ◌++◌
 use Rattle.subvl_queue.specs.declared.item.Message.{Message}
 use Rattle.subvl_queue.specs.declared.view.View.{View}
 use Rattle.subvl_queue.specs.Bytes.{items_of}
-use Rattle.subvl_queue.specs.Gathers.{back_of, whole as all_of}
+use Rattle.subvl_queue.specs.Gathers.{brought_back, whole as all_of}
 use Rattle.subvl_queue.specs.Messages.{AreItems}
 use Rattle.subvl_queue.specs.Views.{ReceiverView, Brought, AreBack, IsWhole}
 use Rattle.subvl_queue.proofs.Bytes.{are_items}
@@ -11,7 +11,7 @@ use Rattle.subvl_queue.proofs.receiver.Receiver.into_gathered.Goals as goal
 
 pub gather-drawn-requires-clause-every : goal.gather-drawn-requires-clause-every
 gather-drawn-requires-clause-every c =
-    let every : AreBack c.self.inside.ports (back_of c.self.inside.seat.me.0) =
+    let every : AreBack c.self.inside.ports (brought_back c.self.inside.seat.me.0) =
     subst (λ (r : ReceiverView). AreBack r.ports r.back) (sym c.self.view_is) c.requires.every in
     λ k lt. joined_for c.self.inside.seat.me.0 c.self.inside.ports every k (subst (λ (n : ℕ). k < n) c.self.invariant.1 lt)
 
@@ -20,7 +20,7 @@ returns-clause-whole c =
     let kept = c.self.invariant in
     let v = c.self.inside.seat.me.0 in
     let log = c.gather-drawn.ensures.log in
-    let every : AreBack c.self.inside.ports (back_of v) = subst (λ (r : ReceiverView). AreBack r.ports r.back) (sym c.self.view_is) c.requires.every in
+    let every : AreBack c.self.inside.ports (brought_back v) = subst (λ (r : ReceiverView). AreBack r.ports r.back) (sym c.self.view_is) c.requires.every in
     let whole = is_whole _ c.self.inside.ports v log.0 every log.2 kept.1 in
     let taken = c.new.ensures.taken ∙ ap (λ (u : View Message). items_of u.taken) log.1 in
     let left = c.new.ensures.left ∙ ap (λ (u : View Message). items_of (drop c.self.inside.taken (all_of u))) log.1 in

@@ -1,12 +1,12 @@
 use Rattle.std.proofs.Common.{subst, ap, ◌∙◌, ◌+◌, false}
-use Rattle.subvl_queue.specs.Steps.{Reached, glanced}
+use Rattle.subvl_queue.specs.Steps.{Reached, with_glance}
 use Rattle.subvl_queue.proofs.sender.Sender.send_with.Goals as goal
 
 pub returns-in-Err-clause-full : goal.returns-in-Err-clause-full
 returns-in-Err-clause-full g c = λ full.
     let inv = c.self.invariant in
     let is = c.self.view_is in
-    let v = glanced c.self.inside.seat.me.0 false in
+    let v = with_glance c.self.inside.seat.me.0 false in
     record {
       moment = v;
       port = inv.1 ∙ ap (λ s. s.port) is;
