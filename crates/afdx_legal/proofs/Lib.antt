@@ -1,3 +1,4 @@
 pub mod StreamLemmas
 pub mod LongerStream
 pub mod CountingLemmas
+pub mod TurnsOfFront

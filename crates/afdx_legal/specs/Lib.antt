@@ -4,3 +4,5 @@ pub mod Allowed
 pub mod Done
 pub mod WorkedMessage
 pub mod Counting
+pub mod Turns
+pub mod WorkedTurns
