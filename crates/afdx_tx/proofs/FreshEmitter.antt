@@ -58,6 +58,7 @@ fresh_kept own ports plan link f =
       numbered = tt;
       spaced = tt;
       prefixes = λ s lt. (_, refl);
+      chosen = tt;
       paced = λ _.
           f.pace
           ∙ ap (λ (g : ℕ). record { gap = g; sub_vls = plan.sub_vls; last = None; next = sequence_number 0 })

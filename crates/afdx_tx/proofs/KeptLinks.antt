@@ -78,6 +78,7 @@ kept_same old new log g own kept =
       prefixes = λ s lt. subst (λ taken. IsPrefixOf (told_of old.plan.id.0 s log)
           (fragments old.end_system (room_of old.plan.lmax) A taken))
           (sym (taken_by_same (held_at old.subs s) (held_at new.subs s) (g.each s (within s lt)))) (kept.prefixes s lt);
+      chosen = kept.chosen;
       paced = kept.paced;
       tied = λ whole s lt. tied_same (held_at old.subs s) (held_at new.subs s)
           (sub_stream s (link_stream old.plan.id.0 log)) (g.each s (within s lt)) (kept.tied whole s lt);

@@ -31,11 +31,11 @@ known_whole links net H known =
     All-weaker (λ (e : Entry). IsKnown links net e.frame) IsLongEntry (λ e is. is.size) H (known_all links net H known)
 
 -- a link's entries in two lists
-link_append : (vl : ℕ) (xs ys : List Entry) → link_stream vl (xs ++ ys) ≡ link_stream vl xs ++ link_stream vl ys
+pub link_append : (vl : ℕ) (xs ys : List Entry) → link_stream vl (xs ++ ys) ≡ link_stream vl xs ++ link_stream vl ys
 link_append vl xs ys = with_append (λ (e : Entry). link_in e.frame) vl xs ys
 
 -- the stream of a link, turned to a network
-link_side : (net : Net) (vl : ℕ) (H : List Entry)
+pub link_side : (net : Net) (vl : ℕ) (H : List Entry)
     → link_stream vl (map (side net) H) ≡ map (side net) (link_stream vl H)
 link_side net vl H = with_map _ (λ (e : Entry). link_in e.frame) (side net) vl (λ e. twin_link net e.frame) H
 

@@ -2,6 +2,7 @@ pub mod PollTurns
 pub mod ToldReleases
 pub mod LegalLists
 pub mod SoundEmitter
+pub mod TurnsKept
 pub mod KeptLinks
 pub mod OneSub
 pub mod Publishing

@@ -20,7 +20,7 @@ use Rattle.afdx_tx.specs.Run.{IsTurn, IsTurnAt, IsCutShort}
 use Rattle.afdx_tx.specs.Emitter.{plan_of_link, plans, AreApart, AreServedBy, AreWhole, IsSamePlan}
 use Rattle.vl_link.specs.Kept.{IsKept}
 use Rattle.afdx_tx.specs.Serving.{IsSteady, IsServing}
-use Rattle.vl_link.proofs.LinkTurn.{Turned, IsOwn, link_turn, kept_turn, other_stream, kept_stream, released_below}
+use Rattle.vl_link.proofs.LinkTurn.{Turned, IsOwn, HasItems, link_turn, kept_turn, other_stream, kept_stream, released_below}
 use Rattle.vl_link.proofs.TurnLaws.{turns_seen, turns_push}
 use Rattle.vl_link.proofs.SubInStep.{same_sub_on}
 
@@ -162,11 +162,14 @@ steady_more now i old links lines after new did s apart lt t later =
       each = λ k klt. at_each (λ j l. IsOwn l) links i new lt
           (link_turn now (link_at links i) new lines after did t own) (λ j jlt ne. s.each j jlt) k (omega arith);
       kept = λ k klt. at_each (λ j l. IsKept l (log after)) links i new lt
-          (kept_turn now did (link_at links i) new lines after t own (s.kept i lt))
+          (kept_turn now did (link_at links i) new lines after t own (λ r rlt. s.items i r lt rlt) (s.kept i lt))
           (λ j jlt ne. kept_stream (link_at links j) (log lines) (log after) (other j jlt ne) (s.kept j jlt))
           k (omega arith);
       later = λ k klt. at_each (λ j l. IsLater l.pace.last now) links i new lt later (λ j jlt ne. s.later j jlt) k (omega arith);
       known = known_after now i old did links new lines after s.same lt own t s.known;
+      items = λ k r klt rlt. at_each (λ j l. HasItems l) links i new lt
+          (λ q qlt. (t.same.subs q).items (s.items i q lt (omega (arith, t.same.count))))
+          (λ j jlt ne q qlt. s.items j q jlt qlt) k (omega arith) r rlt;
     }
 
 -- the turn of the link that was set

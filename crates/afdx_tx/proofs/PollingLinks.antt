@@ -14,7 +14,7 @@ use Rattle.vl_link.specs.Kept.{IsKept}
 use Rattle.vl_link.proofs.LinkTurn.{Turned}
 use Rattle.vl_link.proofs.SubInStep.{same_sub_here}
 use Rattle.afdx_tx.specs.declared.report.Release.{Release}
-use Rattle.afdx_tx.specs.Emitter.{plans, AreApart, AreLinks, AreKept, AreServedBy, AreWhole}
+use Rattle.afdx_tx.specs.Emitter.{plans, AreApart, AreLinks, AreKept, AreServedBy, AreWhole, HaveOwnItems}
 use Rattle.afdx_tx.specs.Report.{turn_release}
 use Rattle.afdx_tx.specs.Serving.{IsPolling}
 use Rattle.afdx_tx.proofs.PollTurns.{serving_more}
@@ -34,8 +34,8 @@ same_link link = record {
 -- no link had its turn yet
 pub polling_none : (now : ℕ) (links : List LinkState) (lines : Lines) (released : List Release) → released ≡ []
     → AreLinks links → AreKept links (log lines) → AreServedBy now links → AreKnown (plans links) A (log lines)
-    → is_alive lines ≡ true → AreWhole links → IsPolling now 0 links links lines lines released
-polling_none now links lines released none each kept later known alive whole = record {
+    → HaveOwnItems links → is_alive lines ≡ true → AreWhole links → IsPolling now 0 links links lines lines released
+polling_none now links lines released none each kept later known items alive whole = record {
   serving = record {
     steady = record {
       same = record { count = refl; each = λ k lt. same_link (link_at links k) };
@@ -43,6 +43,7 @@ polling_none now links lines released none each kept later known alive whole = r
       kept = kept;
       later = later;
       known = known;
+      items = items;
     };
     turns = refl;
     rest = refl;

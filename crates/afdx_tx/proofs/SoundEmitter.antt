@@ -12,7 +12,7 @@ use Rattle.redundant_mux.specs.Lines.{Lines, log, is_alive, IsMirrored}
 use Rattle.afdx_legal.specs.Streams.{link_stream, told_of, entry_number, IsNumbered, IsSpaced, IsPrefixOf}
 use Rattle.afdx_legal.specs.Legal.{AreKnown, IsLegal}
 use Rattle.vl_link.specs.Links.{LinkState, link_at, no_link, held_at, nothing_held, no_link_plan}
-use Rattle.afdx_tx.specs.Emitter.{plans, AreLinks, AreApart, AreLinksOf, AreWhole, AreReceiving, HaveOwnItems, IsSamePlan, IsSound, taken_in, held_queue, link_queues, queues_in, total_in, ports_of_sub}
+use Rattle.afdx_tx.specs.Emitter.{plans, AreLinks, AreApart, AreLinksOf, AreWhole, AreReceiving, IsSamePlan, IsSound, taken_in, held_queue, link_queues, queues_in, total_in, ports_of_sub}
 use Rattle.afdx_tx.specs.Serving.{IsSteady}
 use Rattle.afdx_tx.proofs.LegalLists.{legal_of}
 use Rattle.afdx_tx.proofs.PollTurns.{plan_at_is, plans_length}
@@ -63,18 +63,11 @@ links_after config old new of same each =
           ∙ ap (λ (p : LinkPlan). ports_of_sub config.ports p.id.0 s) (sym on.plan);
     }
 
--- what was taken from the queues stays of their ports
-items_after : (old new : List LinkState) → IsSamePlan old new → HaveOwnItems old → HaveOwnItems new
-items_after old new same items k s lt slt =
-    let o : k < length old = omega (arith, same.count) in
-    let on = same.each k o in
-    (on.subs s).items (items k s o (omega (arith, on.count)))
-
 -- the emitter stays sound
 pub sound_after : (config : Plan) (old new : List LinkState) (lines : Lines) (now : ℕ) → IsPlan config
-    → AreLinksOf config old → HaveOwnItems old → IsSteady now old new lines → IsMirrored lines
+    → AreLinksOf config old → IsSteady now old new lines → IsMirrored lines
     → (is_alive lines ≡ true → AreWhole new) → IsSound config new lines now
-sound_after config old new lines now valid of items s mirrored whole =
+sound_after config old new lines now valid of s mirrored whole =
     record {
       valid = valid;
       of_plan = links_after config old new of s.same s.each;
@@ -83,7 +76,7 @@ sound_after config old new lines now valid of items s mirrored whole =
       mirrored = mirrored;
       known = subst (λ (ps : List LinkPlan). AreKnown ps A (log lines)) of.each_plan s.known;
       whole = whole;
-      items = items_after old new s.same items;
+      items = s.items;
     }
 
 -- what was handed over is legal for the messages that were taken

@@ -8,7 +8,7 @@ use Rattle.vl_link.specs.Links.{LinkState}
 use Rattle.vl_link.specs.Turn.{AreTurns}
 use Rattle.afdx_tx.specs.Run.{IsTurnAt}
 use Rattle.afdx_tx.specs.Report.{IsTold}
-use Rattle.afdx_tx.specs.Emitter.{plans, AreLinks, AreKept, AreWhole, AreServedBy, IsSamePlan}
+use Rattle.afdx_tx.specs.Emitter.{plans, AreLinks, AreKept, AreWhole, AreServedBy, HaveOwnItems, IsSamePlan}
 
 -- what every turn keeps
 pub record IsSteady (now : ℕ) (old links : List LinkState) (lines : Lines) : Type 0 where
@@ -17,6 +17,7 @@ pub record IsSteady (now : ℕ) (old links : List LinkState) (lines : Lines) : T
   pub kept : AreKept links (log lines)
   pub later : AreServedBy now links
   pub known : AreKnown (plans old) A (log lines)
+  pub items : HaveOwnItems links
 
 -- the first i links had their turns
 pub record IsServing (now i : ℕ) (old links : List LinkState) (before lines : Lines) : Type 0 where

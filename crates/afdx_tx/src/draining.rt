@@ -31,6 +31,7 @@ impl<A: Network + Drop, B: Network + Drop> Draining<A, B> {
     ghost use Rattle.redundant_mux.specs.Lines.{BothEndure, is_alive, log, IsMirrored};
     ghost use Rattle.afdx_legal.specs.Legal.{IsLegal};
     ghost use Rattle.afdx_legal.specs.Allowed.{AreAllowed};
+    ghost use Rattle.afdx_legal.specs.Turns.{TakeTurns};
     ghost use Rattle.afdx_tx.specs.Report.{Polls};
     ghost use Rattle.afdx_tx.specs.Publishing.{Publishes};
     ghost use Rattle.afdx_legal.specs.Done.{IsAllDone};
@@ -75,6 +76,7 @@ impl<A: Network + Drop, B: Network + Drop> Draining<A, B> {
         ensures a_failures { A.failures result.0 ≡ self.lines.a_failures }
         ensures b_failures { B.failures result.1 ≡ self.lines.b_failures }
         ensures legal { IsLegal self.plan (accepted_in self.links) self.lines.a self.lines.b }
+        ensures turns { TakeTurns self.plan self.lines.a self.lines.b }
         ensures allowed { AreAllowed self.plan (accepted_in self.links) }
     {
         let Draining { inner } = self;
@@ -91,6 +93,7 @@ impl<A: Network + Drop, B: Network + Drop> Draining<A, B> {
         ensures unchanged { OnErr result (self.new ≡ self.old) }
         ensures legal { IsLegal self.new.plan (accepted_in self.new.links)
             self.new.lines.a self.new.lines.b }
+        ensures turns { TakeTurns self.new.plan self.new.lines.a self.new.lines.b }
         ensures allowed { AreAllowed self.new.plan (accepted_in self.new.links) }
         ensures plan { self.new.plan ≡ self.old.plan }
         ensures board { self.new.board ≡ self.old.board }

@@ -35,6 +35,7 @@ impl<A: Network + Drop, B: Network + Drop> Emitter<A, B> {
     ghost use Rattle.redundant_mux.specs.Lines.{BothEndure, is_alive, log, IsMirrored};
     ghost use Rattle.afdx_legal.specs.Legal.{IsLegal};
     ghost use Rattle.afdx_legal.specs.Allowed.{AreAllowed};
+    ghost use Rattle.afdx_legal.specs.Turns.{TakeTurns};
     ghost use Rattle.afdx_tx.specs.Drain.{accepted_in};
     ghost use Rattle.afdx_tx.specs.Run.{IsRun, IsCutShort};
     ghost use Rattle.afdx_tx.specs.Report.{Polls};
@@ -92,6 +93,7 @@ impl<A: Network + Drop, B: Network + Drop> Emitter<A, B> {
         ensures a_failures { A.failures result.0 ≡ self.lines.a_failures }
         ensures b_failures { B.failures result.1 ≡ self.lines.b_failures }
         ensures legal { IsLegal self.plan (taken_in self.links) self.lines.a self.lines.b }
+        ensures turns { TakeTurns self.plan self.lines.a self.lines.b }
         ensures allowed { AreAllowed self.plan (taken_in self.links) }
     {
         let Emitter { inner } = self;
@@ -107,6 +109,7 @@ impl<A: Network + Drop, B: Network + Drop> Emitter<A, B> {
         ensures both_down { IsErr result ↔ (is_alive self.old.lines ≡ false) }
         ensures unchanged { OnErr result (self.new ≡ self.old) }
         ensures legal { IsLegal self.new.plan (taken_in self.new.links) self.new.lines.a self.new.lines.b }
+        ensures turns { TakeTurns self.new.plan self.new.lines.a self.new.lines.b }
         ensures allowed { AreAllowed self.new.plan (taken_in self.new.links) }
         ensures tied { AreTied self.new.links (log self.new.lines) }
         ensures plan { self.new.plan ≡ self.old.plan }
@@ -160,6 +163,8 @@ impl<A: Network + Drop, B: Network + Drop> Emitter<A, B> {
         ensures gathered { IfOk result (λ draining. IsGatheredTx self ports.items draining) }
         ensures legal { IfOk result (λ draining. IsLegal draining.plan
             (taken_in draining.links) draining.lines.a draining.lines.b) }
+        ensures turns { IfOk result (λ draining.
+            TakeTurns draining.plan draining.lines.a draining.lines.b) }
         ensures allowed { IfOk result (λ draining.
             AreAllowed draining.plan (accepted_in draining.links)) }
         ensures emitter_back { IfErr result (λ back. back.0 ≡ self) }

@@ -6,7 +6,7 @@ ghost use Rattle.redundant_mux.specs.Lines.{BothEndure, is_alive, log, IsMirrore
 ghost use Rattle.afdx_legal.specs.Legal.{AreKnown};
 ghost use Rattle.afdx_tx.specs.Run.{IsRun, IsCutShort};
 ghost use Rattle.afdx_tx.specs.Report.{IsTold, turn_release};
-ghost use Rattle.afdx_tx.specs.Emitter.{plans, AreApart, AreLinks, AreKept, AreWhole, AreServedBy};
+ghost use Rattle.afdx_tx.specs.Emitter.{plans, AreApart, AreLinks, AreKept, AreWhole, AreServedBy, HaveOwnItems};
 ghost use Rattle.afdx_tx.specs.Serving.{IsSteady};
 ghost use Rattle.afdx_tx.specs.Publishing.{Reaches, PublishesCounts};
 ghost use Rattle.afdx_tx.specs.Done.{TellsAllDone};
@@ -52,6 +52,7 @@ fn serve_all<A: Network + Drop, B: Network + Drop>(
     requires alive { is_alive mux.old ≡ true }
     requires whole { AreWhole links.old }
     requires known { AreKnown (plans links.old) ForA (log mux.old) }
+    requires items { HaveOwnItems links.old }
     ensures steady { IsSteady now links.old links.new mux.new }
     ensures run { is_alive mux.new ≡ true →
         IsRun now links.old links.new mux.old mux.new }
@@ -134,6 +135,7 @@ impl<A: Network + Drop, B: Network + Drop> Transmitter<A, B> {
     ghost use Rattle.redundant_mux.specs.Lines.{BothEndure, is_alive, log, IsMirrored};
     ghost use Rattle.afdx_legal.specs.Legal.{IsLegal};
     ghost use Rattle.afdx_legal.specs.Allowed.{AreAllowed};
+    ghost use Rattle.afdx_legal.specs.Turns.{TakeTurns};
     ghost use Rattle.afdx_tx.specs.Run.{IsRun, IsCutShort};
     ghost use Rattle.afdx_tx.specs.Report.{Polls};
     ghost use Rattle.afdx_tx.specs.Emitter.{Tx, IsFreshTx, AreFreshLinks, AreLinksOf, AreTied, HaveOwnItems, IsSamePlan, taken_in};
@@ -200,6 +202,7 @@ impl<A: Network + Drop, B: Network + Drop> Transmitter<A, B> {
         ensures a_failures { A.failures result.0 ≡ self.lines.a_failures }
         ensures b_failures { B.failures result.1 ≡ self.lines.b_failures }
         ensures legal { IsLegal self.plan (taken_in self.links) self.lines.a self.lines.b }
+        ensures turns { TakeTurns self.plan self.lines.a self.lines.b }
         ensures taken { AreAllowed self.plan (taken_in self.links) }
         ensures accepted { AreAllowed self.plan (accepted_in self.links) }
     {
@@ -221,6 +224,7 @@ impl<A: Network + Drop, B: Network + Drop> Transmitter<A, B> {
         ensures both_down { IsErr result ↔ (is_alive self.old.lines ≡ false) }
         ensures unchanged { OnErr result (self.new ≡ self.old) }
         ensures legal { IsLegal self.new.plan (taken_in self.new.links) self.new.lines.a self.new.lines.b }
+        ensures turns { TakeTurns self.new.plan self.new.lines.a self.new.lines.b }
         ensures taken { AreAllowed self.new.plan (taken_in self.new.links) }
         ensures accepted { AreAllowed self.new.plan (accepted_in self.new.links) }
         ensures tied { AreTied self.new.links (log self.new.lines) }
@@ -285,6 +289,7 @@ impl<A: Network + Drop, B: Network + Drop> Transmitter<A, B> {
         ensures gathered { IsGatheredTx self.old ports.items self.new }
         ensures all { AreGathered self.new.links }
         ensures legal { IsLegal self.new.plan (taken_in self.new.links) self.new.lines.a self.new.lines.b }
+        ensures turns { TakeTurns self.new.plan self.new.lines.a self.new.lines.b }
         ensures accepted { AreAllowed self.new.plan (accepted_in self.new.links) }
     {
         gather_links(&self.config, &mut self.links, ports);

@@ -10,3 +10,6 @@ pub mod ChosenSub
 pub mod TurnLaws
 pub mod LinkTurn
 pub mod Standing
+pub mod ShownTurns
+pub mod MessageEnds
+pub mod ChoiceShown

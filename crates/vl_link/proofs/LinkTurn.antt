@@ -1,5 +1,5 @@
 -- One turn of a link, against its stream.
-use Rattle.std.proofs.Common.{ℕ, ◌≡◌, ◌≢◌, ◌<◌, List, [], ◌∷◌, ◌++◌, true, false, arith, ap, ◌∙◌, sym, subst, inl, inr, ⊎_elim, Option, None}
+use Rattle.std.proofs.Common.{ℕ, ◌≡◌, ◌≢◌, ◌<◌, List, [], ◌∷◌, ◌++◌, length, true, false, arith, ap, ◌∙◌, sym, subst, inl, inr, ⊎_elim, Option, None}
 use Rattle.std.proofs.lemmas.Bool.{cases_eq}
 use Rattle.afdx_plan.specs.declared.link_plan.LinkPlan.{LinkPlan}
 use Rattle.afdx_plan.specs.Plan.{bag_micros}
@@ -18,8 +18,11 @@ use Rattle.vl_link.specs.declared.sub_vl.SubVl.{SubVl}
 use Rattle.afdx_legal.specs.Counting.{counts_in}
 use Rattle.afdx_legal.specs.Streams.{latest, link_stream, sub_stream, told, told_of, entry_number, IsNumbered, IsSpaced, IsApart, IsPrefixOf}
 use Rattle.vl_link.specs.Turn.{TurnView, IsChoice, Releases, Loses, is_lost}
-use Rattle.vl_link.specs.Links.{Held, LinkState, held_at, Passes, GivesFrame, held_view, Serves, Follows, IsSameLink, IsLinkOfPlan, pace_of, sub_fragments, taken_by}
+use Rattle.vl_link.specs.Links.{Held, LinkState, held_at, Passes, GivesFrame, held_view, Serves, Follows, HasOwnItems, IsSameLink, IsLinkOfPlan, pace_of, sub_fragments, taken_by}
 use Rattle.vl_link.specs.Kept.{IsKept, IsTied, IsBehind, IsLinkTied}
+use Rattle.vl_link.specs.Shown.{none_begun, ShowsChoices}
+use Rattle.vl_link.proofs.ShownTurns.{shows_push}
+use Rattle.vl_link.proofs.ChoiceShown.{choice_shown}
 use Rattle.vl_link.proofs.Choosing.{Moves}
 use Rattle.vl_link.proofs.TurnLaws.{choice_below, choice_other}
 use Rattle.vl_link.proofs.SubInStep.{tied_moves, tied_gave, prefix_of, shown, gave_shown}
@@ -40,6 +43,10 @@ pub record Turned (now : ℕ) (link new : LinkState) (lines after : Lines) (did 
 abbrev pub IsOwn : LinkState → Type 0
 IsOwn link = IsLinkOfPlan link.end_system link.plan link.pace link.subs
 
+-- what each of its sub-VLs took is of its ports
+abbrev pub HasItems : LinkState → Type 0
+HasItems link = (s : ℕ) → s < length link.subs → HasOwnItems (held_at link.subs s)
+
 -- the link stays one of its plan
 pub link_turn : (now : ℕ) (link new : LinkState) (lines after : Lines) (did : Served)
     → Turned now link new lines after did → IsOwn link → IsOwn new
@@ -58,13 +65,14 @@ kept_of : (link new : LinkState) (H : List Entry) → IsSameLink link new
     → IsNumbered entry_number 0 (link_stream link.plan.id.0 H) → IsSpaced link.pace.gap None (link_stream link.plan.id.0 H)
     → ((s : ℕ) → s < link.plan.sub_vls → IsPrefixOf (told_of link.plan.id.0 s H)
     (fragments link.end_system (room_of link.plan.lmax) A (taken_by (held_at new.subs s))))
+    → ShowsChoices link.pace.sub_vls None none_begun (link_stream link.plan.id.0 H)
     → (new.lost ≡ false → new.pace ≡ pace_of new.pace.gap new.pace.sub_vls (link_stream new.plan.id.0 H))
     → (new.lost ≡ false → (s : ℕ) → s < link.plan.sub_vls
     → IsTied (held_at new.subs s) (sub_stream s (link_stream link.plan.id.0 H)))
     → (new.lost ≡ true → (s : ℕ) × (s < link.plan.sub_vls)
     × IsBehind (held_at new.subs s) (sub_stream s (link_stream link.plan.id.0 H)))
     → new.counts ≡ counts_in (link_stream new.plan.id.0 H) → IsKept new H
-kept_of link new H same numbered spaced prefixes paced tied behind counted =
+kept_of link new H same numbered spaced prefixes chosen paced tied behind counted =
     let many : new.plan.sub_vls ≡ link.plan.sub_vls = ap (λ (p : LinkPlan). p.sub_vls) same.plan in
     record {
       numbered = subst (λ (p : LinkPlan). IsNumbered entry_number 0 (link_stream p.id.0 H)) (sym same.plan) numbered;
@@ -76,6 +84,8 @@ kept_of link new H same numbered spaced prefixes paced tied behind counted =
           (subst (λ (p : LinkPlan). IsPrefixOf (told_of p.id.0 s H)
           (fragments link.end_system (room_of p.lmax) A (taken_by (held_at new.subs s)))) (sym same.plan)
           (prefixes s (omega arith)));
+      chosen = subst (λ (p : LinkPlan). ShowsChoices new.pace.sub_vls None none_begun (link_stream p.id.0 H)) (sym same.plan)
+          (subst (λ (n : ℕ). ShowsChoices n None none_begun (link_stream link.plan.id.0 H)) (sym same.sub_vls) chosen);
       paced = paced;
       tied = λ whole s lt.
           subst (λ (p : LinkPlan). IsTied (held_at new.subs s) (sub_stream s (link_stream p.id.0 H)))
@@ -174,8 +184,8 @@ prefix_lost link news lines after at before s lt =
 
 -- a link that kept what links keep does after its turn
 pub kept_turn : (now : ℕ) (did : Served) (link new : LinkState) (lines after : Lines)
-    → Turned now link new lines after did → IsOwn link → IsKept link (log lines) → IsKept new (log after)
-kept_turn now Nothing link new lines after t own k =
+    → Turned now link new lines after did → IsOwn link → HasItems link → IsKept link (log lines) → IsKept new (log after)
+kept_turn now Nothing link new lines after t own items k =
     let same : log lines ≡ log after = ap log (sym t.serves.1) in
     let tied : (s : ℕ) → s < link.plan.sub_vls
     → IsTied (held_at new.subs s) (sub_stream s (link_stream link.plan.id.0 (log lines))) =
@@ -185,12 +195,13 @@ kept_turn now Nothing link new lines after t own k =
     subst (IsKept new) same (kept_of link new (log lines) t.same k.numbered k.spaced
     (λ s lt. prefix_at link s (held_at new.subs s) (log lines)
     ((t.same.subs s).of ∙ own.named s (omega (arith, own.count, own.sub_vls))) (tied s lt))
+    k.chosen
     (λ _. subst (λ (H : List Entry). new.pace ≡ pace_of new.pace.gap new.pace.sub_vls (link_stream new.plan.id.0 H))
     (sym same) t.paced)
     (λ _. tied)
     (λ (l : new.lost ≡ true). absurd (let e : new.lost ≡ false = t.lost in cc))
     (subst (λ (H : List Entry). new.counts ≡ counts_in (link_stream new.plan.id.0 H)) (sym same) t.counted))
-kept_turn now (Released sub number) link new lines after t own k =
+kept_turn now (Released sub number) link new lines after t own items k =
     let at = t.serves.2 in
     let more = stream_more link.plan.id.0 now sub number at.frame lines after at.of at.enters in
     let stream = link_stream link.plan.id.0 (log lines) in
@@ -208,11 +219,14 @@ kept_turn now (Released sub number) link new lines after t own k =
     (spaced_push link.pace.gap None stream (entry now at.frame) k.spaced apart))
     (λ s lt. prefix_at link s (held_at new.subs s) (log after)
     ((t.same.subs s).of ∙ own.named s (omega (arith, own.count, own.sub_vls))) (tied s lt))
+    (subst (ShowsChoices link.pace.sub_vls None none_begun) (sym more)
+    (shows_push link.pace.sub_vls None none_begun stream (entry now at.frame) k.chosen
+    (choice_shown now number link sub new.subs lines after at own (k.tied t.whole) items (ap (λ (x : Pace). x.last) paced) k.chosen)))
     (λ _. t.paced)
     (λ _. tied)
     (λ (l : new.lost ≡ true). absurd (let e : new.lost ≡ false = t.lost in cc))
     t.counted
-kept_turn now Lost link new lines after t own k =
+kept_turn now Lost link new lines after t own items k =
     let at = t.serves.1 in
     let below : at.sub < link.plan.sub_vls =
     omega (arith, choice_below link.pace _ _ _ at.sub at.choice, own.sub_vls) in
@@ -224,6 +238,7 @@ kept_turn now Lost link new lines after t own k =
     (λ s lt. subst (λ (o : SubVl). IsPrefixOf (told_of link.plan.id.0 s (log lines)) (sub_fragments o 0 (taken_by (held_at new.subs s))))
     ((t.same.subs s).of ∙ own.named s (omega (arith, own.count, own.sub_vls)))
     (prefix_lost link new.subs lines after at (k.tied t.whole) s lt))
+    k.chosen
     (λ (f : new.lost ≡ false). absurd (let e : new.lost ≡ true = t.lost in cc))
     (λ (f : new.lost ≡ false). absurd (let e : new.lost ≡ true = t.lost in cc))
     (λ _. (
@@ -258,6 +273,7 @@ kept_stream other H J e k =
           (λ (S : List Entry). IsPrefixOf (told (sub_stream s S))
           (fragments other.end_system (room_of other.plan.lmax) A (taken_by (held_at other.subs s)))) (sym e)
           (k.prefixes s lt);
+      chosen = subst (ShowsChoices other.pace.sub_vls None none_begun) (sym e) k.chosen;
       paced = λ w. k.paced w ∙ ap (pace_of other.pace.gap other.pace.sub_vls) (sym e);
       tied = λ w s lt. subst (λ (S : List Entry). IsTied (held_at other.subs s) (sub_stream s S)) (sym e) (k.tied w s lt);
       behind = λ l.

@@ -8,3 +8,4 @@ pub mod LinkDone
 pub mod LinkSenders
 pub mod LinkGathering
 pub mod Closing
+pub mod Shown

@@ -28,8 +28,8 @@ asked g c = get_or_default c.loop-link.links c.loop-link.link-index c.link-item.
 pub loop-link-init : goal.loop-link-init
 loop-link-init g c =
     let r = c.requires in
-    polling_none c.args.now c.args.links.now c.args.mux.now c.args.released.now.items r.none r.each r.kept r.later r.known r.alive
-    r.whole
+    polling_none c.args.now c.args.links.now c.args.mux.now c.args.released.now.items r.none r.each r.kept r.later r.known r.items
+    r.alive r.whole
 
 pub is_due-requires : goal.is_due-requires
 is_due-requires g c =

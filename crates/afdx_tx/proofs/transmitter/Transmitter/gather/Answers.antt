@@ -9,6 +9,7 @@ use Rattle.afdx_tx.specs.Ports.{AreOpenedWith, HasEveryPlace, BelongsTo}
 use Rattle.afdx_tx.specs.Gathering.{GathersPorts, IsGatheredTx}
 use Rattle.afdx_tx.specs.Publishing.{Reaches}
 use Rattle.afdx_tx.proofs.SoundEmitter.{sound_legal}
+use Rattle.afdx_tx.proofs.TurnsKept.{sound_turns}
 use Rattle.afdx_tx.proofs.PortMessages.{accepted_allowed}
 use Rattle.afdx_tx.proofs.GatheredPorts.{gathers_sound, gathers_reaches, gathers_tx, all_gathered}
 use Rattle.afdx_tx.proofs.transmitter.Transmitter.gather.Given
@@ -98,6 +99,11 @@ returns-clause-all g c =
 pub returns-clause-legal : goal.returns-clause-legal
 returns-clause-legal g c =
     sound_legal c.self.inside.config (with_items c.self.inside.links c.gather_links.new.links).items c.self.inside.mux
+    c.self.inside.moment (sound g c)
+
+pub returns-clause-turns : goal.returns-clause-turns
+returns-clause-turns g c =
+    sound_turns c.self.inside.config (with_items c.self.inside.links c.gather_links.new.links).items c.self.inside.mux
     c.self.inside.moment (sound g c)
 
 pub returns-clause-accepted : goal.returns-clause-accepted

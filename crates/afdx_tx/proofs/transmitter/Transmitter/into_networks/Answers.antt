@@ -1,9 +1,11 @@
 use Rattle.std.proofs.Common.{subst}
 use Rattle.afdx_legal.specs.Legal.{IsLegal}
 use Rattle.afdx_legal.specs.Allowed.{AreAllowed}
+use Rattle.afdx_legal.specs.Turns.{TakeTurns}
 use Rattle.afdx_tx.specs.Emitter.{Tx, taken_in}
 use Rattle.afdx_tx.specs.Drain.{accepted_in}
 use Rattle.afdx_tx.proofs.SoundEmitter.{sound_legal}
+use Rattle.afdx_tx.proofs.TurnsKept.{sound_turns}
 use Rattle.afdx_tx.proofs.PortMessages.{taken_allowed, accepted_allowed}
 use Rattle.afdx_tx.proofs.transmitter.Transmitter.into_networks.Goals as goal
 
@@ -11,6 +13,11 @@ pub returns-clause-legal : goal.returns-clause-legal
 returns-clause-legal g c =
     subst (λ (t : Tx). IsLegal t.plan (taken_in t.links) t.lines.a t.lines.b) c.self.view_is
     (sound_legal c.self.inside.config c.self.inside.links.items c.self.inside.mux c.self.inside.moment c.self.invariant.0)
+
+pub returns-clause-turns : goal.returns-clause-turns
+returns-clause-turns g c =
+    subst (λ (t : Tx). TakeTurns t.plan t.lines.a t.lines.b) c.self.view_is
+    (sound_turns c.self.inside.config c.self.inside.links.items c.self.inside.mux c.self.inside.moment c.self.invariant)
 
 pub returns-clause-taken : goal.returns-clause-taken
 returns-clause-taken g c =

@@ -7,7 +7,8 @@ use Rattle.vl_link.specs.Links.{LinkState}
 use Rattle.vl_link.proofs.Standing.{alive_is}
 use Rattle.afdx_legal.specs.Legal.{IsLegal}
 use Rattle.afdx_legal.specs.Allowed.{AreAllowed}
-use Rattle.afdx_tx.specs.Emitter.{Tx, AreApart, IsSound, taken_in}
+use Rattle.afdx_legal.specs.Turns.{TakeTurns}
+use Rattle.afdx_tx.specs.Emitter.{Tx, AreApart, HaveOwnItems, IsSound, taken_in}
 use Rattle.afdx_tx.specs.Drain.{accepted_in}
 use Rattle.afdx_tx.specs.Publishing.{Reaches}
 use Rattle.afdx_tx.specs.Report.{IsTold}
@@ -15,6 +16,7 @@ use Rattle.afdx_tx.specs.Run.{IsRun, IsCutShort}
 use Rattle.afdx_tx.specs.Serving.{IsSteady}
 use Rattle.afdx_tx.proofs.Publishing.{reaches_on}
 use Rattle.afdx_tx.proofs.SoundEmitter.{links_apart, sound_after, sound_legal}
+use Rattle.afdx_tx.proofs.TurnsKept.{sound_turns}
 use Rattle.afdx_tx.proofs.PortMessages.{taken_allowed, accepted_allowed}
 use Rattle.afdx_tx.proofs.transmitter.Transmitter.poll.Given
 use Rattle.afdx_tx.proofs.transmitter.Transmitter.poll.Goals as goal
@@ -42,7 +44,7 @@ sound : (g : Given.Over) (c : goal.After-standing-2 g)
 sound g c =
     subst (λ (ls : List LinkState). IsSound c.self.inside.config ls c.serve_all.new.mux c.args.now) (sym (links_are g c))
     (sound_after c.self.inside.config c.self.inside.links.items c.serve_all.new.links c.serve_all.new.mux c.args.now
-    c.self.invariant.0.valid c.self.invariant.0.of_plan c.self.invariant.0.items (steady g c) c.standing-2.ensures.mirrored c.serve_all.ensures.whole)
+    c.self.invariant.0.valid c.self.invariant.0.of_plan (steady g c) c.standing-2.ensures.mirrored c.serve_all.ensures.whole)
 
 pub invariant_of-self : goal.invariant_of-self
 invariant_of-self g c =
@@ -58,6 +60,19 @@ pub returns-clause-legal : goal.returns-clause-legal
 returns-clause-legal g c =
     sound_legal c.self.inside.config (with_items c.self.inside.links c.serve_all.new.links).items c.serve_all.new.mux c.args.now
     (sound g c)
+
+pub serve_all-requires-clause-items : goal.serve_all-requires-clause-items
+serve_all-requires-clause-items g c = subst HaveOwnItems (sym c.deref_mut.ensures.value) c.self.invariant.items
+
+pub returns-clause-turns : goal.returns-clause-turns
+returns-clause-turns g c =
+    sound_turns c.self.inside.config (with_items c.self.inside.links c.serve_all.new.links).items c.serve_all.new.mux c.args.now
+    (sound g c)
+
+pub returns-then-not-some_stands-clause-turns : goal.returns-then-not-some_stands-clause-turns
+returns-then-not-some_stands-clause-turns g c =
+    subst (λ (t : Tx). TakeTurns t.plan t.lines.a t.lines.b) c.self.view_is
+    (sound_turns c.self.inside.config c.self.inside.links.items c.self.inside.mux c.self.inside.moment c.self.invariant)
 
 pub returns-clause-taken : goal.returns-clause-taken
 returns-clause-taken g c =

@@ -1,0 +1,114 @@
+-- A stream that shows choices takes turns.
+use Rattle.std.proofs.Common.{ℕ, ◌≡◌, ◌≢◌, ◌+◌, ◌<◌, ◌≤◌, List, [], ◌∷◌, ◌++◌, Bool, true, false, cond, eqb, length, arith, refl, ap, ◌∙◌, sym, subst, ⊎_elim, Option, Some, None}
+use Rattle.std.specs.Prelude.{count_by}
+use Rattle.std.proofs.lemmas.List.Sums.{sum_by-cons}
+use Rattle.std.proofs.lemmas.Bool.{cases_eq, eq-eqb, ne_eqb}
+use Rattle.afdx_frame.specs.Header.{sub_in}
+use Rattle.redundant_mux.specs.Entry.{Entry}
+use Rattle.vl_shaper.specs.Choices.{Choice, IsChosen, AreChosen, IsPassedOver}
+use Rattle.vl_shaper.specs.Pace.{turn_of, IsBelow}
+use Rattle.vl_shaper.specs.declared.shaper.Stamp.{Stamp}
+use Rattle.vl_shaper.proofs.OneEach.{turn_cases, one_each_holds}
+use Rattle.vl_shaper.proofs.Turns.{turn_below}
+use Rattle.afdx_legal.specs.Streams.{stamp_of, latest, sub_stream}
+use Rattle.afdx_legal.specs.Turns.{more_in, before_next, TakesTurns}
+use Rattle.vl_link.specs.Shown.{begun_after, begun_by, shown_choice, ShowsChoices}
+
+-- the chosen sub-VL is one of the link's
+pub chosen_below : (subs : ℕ) (last : Option Stamp) (begun : ℕ → Bool) (sub : ℕ)
+    → IsChosen subs (turn_of subs last) (shown_choice begun sub) → sub < subs
+chosen_below subs last begun sub c =
+    subst (λ (n : ℕ). n < subs) (sym c.is) (turn_below subs last c.turn c.within)
+
+-- so is the one of the last entry
+pub last_below : (subs : ℕ) (last : Option Stamp) (begun : ℕ → Bool) (S : List Entry) → IsBelow subs last
+    → ShowsChoices subs last begun S → IsBelow subs (latest last S)
+last_below subs last begun [] below h = below
+last_below subs last begun (e ∷ es) below h =
+    last_below subs (Some (stamp_of e)) (begun_after begun e) es (chosen_below subs last begun (sub_in e.frame) h.0) h.1
+
+-- one more choice is shown
+pub shows_push : (subs : ℕ) (last : Option Stamp) (begun : ℕ → Bool) (S : List Entry) (e : Entry)
+    → ShowsChoices subs last begun S
+    → IsChosen subs (turn_of subs (latest last S)) (shown_choice (begun_by begun S) (sub_in e.frame))
+    → ShowsChoices subs last begun (S ++ e ∷ [])
+shows_push subs last begun [] e h c = (c, tt)
+shows_push subs last begun (x ∷ xs) e h c = (h.0, shows_push subs (Some (stamp_of x)) (begun_after begun x) xs e h.1 c)
+
+-- no two turns are of one sub-VL
+pub turns_differ : (subs : ℕ) (last : Option Stamp) (j k : ℕ) → IsBelow subs last → j < subs → k < subs
+    → turn_of subs last j ≡ turn_of subs last k → j ≡ k
+turns_differ subs None j k below jl kl e = e
+turns_differ subs (Some last) j k below jl kl e = ⊎_elim
+    (λ t. let t0 = t.0 in let t1 = t.1 in ⊎_elim
+    (λ u. let u0 = u.0 in let u1 = u.1 in omega arith)
+    (λ u. let u0 = u.0 in let u1 = u.1 in omega arith) (turn_cases subs last.sub k below kl))
+    (λ t. let t0 = t.0 in let t1 = t.1 in ⊎_elim
+    (λ u. let u0 = u.0 in let u1 = u.1 in omega arith)
+    (λ u. let u0 = u.0 in let u1 = u.1 in omega arith) (turn_cases subs last.sub k below kl))
+    (turn_cases subs last.sub j below jl)
+
+-- the choices that the entries before the next one of a sub-VL show
+record ShowsPassed (subs last x y : ℕ) (entries : List Entry) : Type 0 where
+  choices : List Choice
+  chosen : AreChosen subs last choices
+  passed : IsPassedOver x choices
+  count : count_by (λ (c : Choice). eqb c.sub y) choices ≡ length (sub_stream y entries)
+
+-- one entry and one choice more
+count_more : (y : ℕ) (c : Choice) (cs : List Choice) (e : Entry) (es : List Entry) → c.sub ≡ sub_in e.frame
+    → count_by (λ (d : Choice). eqb d.sub y) cs ≡ length (sub_stream y es)
+    → count_by (λ (d : Choice). eqb d.sub y) (c ∷ cs) ≡ length (sub_stream y (e ∷ es))
+count_more y c cs e es q h =
+    sum_by-cons (λ (d : Choice). cond (eqb d.sub y) 1 0) c cs
+    ∙ ap (λ (n : ℕ). cond (eqb n y) 1 0 + count_by (λ (d : Choice). eqb d.sub y) cs) q
+    ∙ ap (λ (n : ℕ). cond (eqb (sub_in e.frame) y) 1 0 + n) h
+    ∙ one (eqb (sub_in e.frame) y)
+  where
+    one : (t : Bool) → cond t 1 0 + length (sub_stream y es) ≡ length (cond t (e ∷ sub_stream y es) (sub_stream y es))
+    one true = omega arith
+    one false = omega arith
+
+-- no entry before the next one of a sub-VL that comes at once
+shows_none : (subs last x y : ℕ) → ShowsPassed subs last x y []
+shows_none subs last x y = record { choices = []; chosen = tt; passed = tt; count = refl }
+
+-- a sub-VL of which a message is begun had something when another was chosen
+has_begun : (begun : ℕ → Bool) (sub x : ℕ) → sub ≢ x → begun x ≡ true → (shown_choice begun sub).has x ≡ true
+has_begun begun sub x ne is = ap (λ (t : Bool). cond t true (begun x)) (ne_eqb x sub (λ e. ne (sym e))) ∙ is
+
+-- the entries before the next one of a sub-VL of which a message is begun
+shows_passed : (subs x y : ℕ) (last : Stamp) (begun : ℕ → Bool) (S : List Entry) → begun x ≡ true
+    → ShowsChoices subs (Some last) begun S → ShowsPassed subs last.sub x y (before_next x S)
+shows_passed subs x y last begun [] is h = shows_none subs last.sub x y
+shows_passed subs x y last begun (e ∷ es) is h = ⊎_elim
+    (λ (q : sub_in e.frame ≡ x). subst (λ (t : Bool). ShowsPassed subs last.sub x y (cond t [] (e ∷ before_next x es)))
+    (sym (eq-eqb _ _ q)) (shows_none subs last.sub x y))
+    (λ (ne : sub_in e.frame ≢ x).
+    let still : begun_after begun e x ≡ true = ap (λ (t : Bool). cond t (more_in e.frame) (begun x)) (ne_eqb _ _ ne) ∙ is in
+    let r : ShowsPassed subs (sub_in e.frame) x y (before_next x es) =
+    shows_passed subs x y (stamp_of e) (begun_after begun e) es still h.1 in
+    subst (λ (t : Bool). ShowsPassed subs last.sub x y (cond t [] (e ∷ before_next x es))) (sym (ne_eqb _ _ ne))
+    (record {
+      choices = shown_choice begun (sub_in e.frame) ∷ r.choices;
+      chosen = (h.0, r.chosen);
+      passed = (has_begun begun (sub_in e.frame) x ne is, ne, r.passed);
+      count = count_more y (shown_choice begun (sub_in e.frame)) r.choices e (before_next x es) refl r.count;
+    }))
+    (cases_eq (sub_in e.frame) x)
+
+-- The turn law follows from the choices.
+pub takes_turns : (subs : ℕ) (last : Option Stamp) (begun : ℕ → Bool) (S : List Entry)
+    → ShowsChoices subs last begun S → TakesTurns S
+takes_turns subs last begun [] h = tt
+takes_turns subs last begun (e ∷ es) h = (
+  λ more other.
+      let x : ℕ = sub_in e.frame in
+      let on : begun_after begun e (sub_in e.frame) ≡ true =
+      ap (λ (t : Bool). cond t (more_in e.frame) (begun (sub_in e.frame))) (eq-eqb (sub_in e.frame) (sub_in e.frame) refl) ∙ more in
+      let s : ShowsPassed subs (sub_in e.frame) (sub_in e.frame) other (before_next (sub_in e.frame) es) =
+      shows_passed subs (sub_in e.frame) other (stamp_of e) (begun_after begun e) es on h.1 in
+      subst (λ (n : ℕ). n ≤ 1) s.count
+      (one_each_holds subs (sub_in e.frame) other s.choices (chosen_below subs last begun (sub_in e.frame) h.0) s.chosen s.passed),
+  takes_turns subs (Some (stamp_of e)) (begun_after begun e) es h.1,
+)
