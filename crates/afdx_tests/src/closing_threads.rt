@@ -59,7 +59,7 @@ fn close_while_ports_send<R: Threads + Abort + Copy + Send + 'static>(
     rt: R,
     alloc: Global,
 ) -> Result<(u64, Drain), Fail> {
-    let (mut tx, ports) = open_plan(alloc, CAPACITY)?;
+    let (mut tx, ports, _monitor) = open_plan(alloc, CAPACITY)?;
     let workers = start_all(rt, alloc, ports, MESSAGES)?;
     let totals = close_both(&rt, &mut tx);
     let ports = join_all(&rt, alloc, workers)?;

@@ -17,7 +17,7 @@ returns-clause-legal g c =
 pub returns-clause-turns : goal.returns-clause-turns
 returns-clause-turns g c =
     subst (λ (t : Tx). TakeTurns t.plan t.lines.a t.lines.b) c.self.view_is
-    (sound_turns c.self.inside.config c.self.inside.links.items c.self.inside.mux c.self.inside.moment c.self.invariant)
+    (sound_turns c.self.inside.config c.self.inside.links.items c.self.inside.mux c.self.inside.moment c.self.invariant.0)
 
 pub returns-clause-taken : goal.returns-clause-taken
 returns-clause-taken g c =

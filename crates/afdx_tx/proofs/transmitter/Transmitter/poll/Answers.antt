@@ -62,7 +62,7 @@ returns-clause-legal g c =
     (sound g c)
 
 pub serve_all-requires-clause-items : goal.serve_all-requires-clause-items
-serve_all-requires-clause-items g c = subst HaveOwnItems (sym c.deref_mut.ensures.value) c.self.invariant.items
+serve_all-requires-clause-items g c = subst HaveOwnItems (sym c.deref_mut.ensures.value) c.self.invariant.0.items
 
 pub returns-clause-turns : goal.returns-clause-turns
 returns-clause-turns g c =
@@ -72,7 +72,7 @@ returns-clause-turns g c =
 pub returns-then-not-some_stands-clause-turns : goal.returns-then-not-some_stands-clause-turns
 returns-then-not-some_stands-clause-turns g c =
     subst (λ (t : Tx). TakeTurns t.plan t.lines.a t.lines.b) c.self.view_is
-    (sound_turns c.self.inside.config c.self.inside.links.items c.self.inside.mux c.self.inside.moment c.self.invariant)
+    (sound_turns c.self.inside.config c.self.inside.links.items c.self.inside.mux c.self.inside.moment c.self.invariant.0)
 
 pub returns-clause-taken : goal.returns-clause-taken
 returns-clause-taken g c =
