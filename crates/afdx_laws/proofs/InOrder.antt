@@ -13,12 +13,12 @@ use Rattle.afdx_laws.proofs.ListLemmas.{cons_parts, nil_begins}
 use Rattle.afdx_laws.specs.Delivery.{with_buffer, kept_in, given, delivered, of_sub, keyed, sent_from, InOrder}
 
 -- a change of one buffer keeps them the same
-same_with : (sub key : ℕ) (b : Buffer) (xs ys : ℕ → Buffer) → ((k : ℕ) → k % 4 ≡ sub → xs k ≡ ys k)
+pub same_with : (sub key : ℕ) (b : Buffer) (xs ys : ℕ → Buffer) → ((k : ℕ) → k % 4 ≡ sub → xs k ≡ ys k)
     → (k : ℕ) → k % 4 ≡ sub → with_buffer key b xs k ≡ with_buffer key b ys k
 same_with sub key b xs ys same k is = ap (λ (c : Buffer). cond (nat_eq k key) b c) (same k is)
 
 -- a change of another sub-VL's buffer doesn't matter
-other_with : (sub key : ℕ) (b : Buffer) (xs ys : ℕ → Buffer) → nat_eq (key % 4) sub ≡ false
+pub other_with : (sub key : ℕ) (b : Buffer) (xs ys : ℕ → Buffer) → nat_eq (key % 4) sub ≡ false
     → ((k : ℕ) → k % 4 ≡ sub → xs k ≡ ys k) → (k : ℕ) → k % 4 ≡ sub → with_buffer key b xs k ≡ ys k
 other_with sub key b xs ys isnt same k is = elim (cases_eq k key) [
   | inl e ↦ let t : nat_eq (key % 4) sub ≡ true = eq-eqb (key % 4) sub (ap (λ (n : ℕ). n % 4) (sym e) ∙ is) in
@@ -83,21 +83,21 @@ is_block : (room : ℕ) (d : List ℕ) → 1 ≤ length d → IsBlock (fragments
 is_block room d some = block_some d (cutting room (length d)) (cutting_some room (length d) some)
 
 -- one fragment more
-put_more : (fs : List Fragment) (b : Buffer) (f : Fragment) → put_all b (fs ++ f ∷ []) ≡ put (put_all b fs) f
+pub put_more : (fs : List Fragment) (b : Buffer) (f : Fragment) → put_all b (fs ++ f ∷ []) ≡ put (put_all b fs) f
 put_more [] b f = refl
 put_more (g ∷ fs) b f = put_more fs (put b g) f
 
 -- all fragments of a datagram give it
-whole : (room : ℕ) (d : List ℕ) → 8 ≤ room → 1 ≤ length d
+pub whole : (room : ℕ) (d : List ℕ) → 8 ≤ room → 1 ≤ length d
     → datagram_in (put_all empty (fragments_of room d)) ≡ Some d
 whole room d least some = any_order_holds room d (fragments_of room d) least some (λ f. ((λ c. c), (λ c. c)))
 
 -- a fragment with the flag tells no length
-not_yet : (b : Buffer) (f : Fragment) → f.more ≡ true → b.total ≡ None → (put b f).total ≡ None
+pub not_yet : (b : Buffer) (f : Fragment) → f.more ≡ true → b.total ≡ None → (put b f).total ≡ None
 not_yet b f more none = rw more none
 
 -- without a length nothing is given
-nothing_yet : (b : Buffer) → b.total ≡ None → datagram_in b ≡ None
+pub nothing_yet : (b : Buffer) → b.total ≡ None → datagram_in b ≡ None
 nothing_yet b none = ap (bytes_to b.byte_at) none
 
 -- what is delivered from a place on, where some fragments of a datagram came already
@@ -127,21 +127,21 @@ step_some buffers key f es b d is some =
     ∙ ap (λ (o : Option (List ℕ)). given key o (delivered (with_buffer key (kept_in b o) buffers) es)) some
 
 -- what a state keeps: this datagram's buffer holds what came of it, each other buffer is empty
-abbrev HoldsSoFar : ℕ → ℕ → (ℕ → Buffer) → List Fragment → Type 0
+abbrev pub HoldsSoFar : ℕ → ℕ → (ℕ → Buffer) → List Fragment → Type 0
 HoldsSoFar sub key buffers done = (buffers key ≡ put_all empty done)
     × ((k : ℕ) → k % 4 ≡ sub → (k ≡ key → ⊥) → buffers k ≡ empty)
 
 -- the buffer that was changed
-with_same : (key : ℕ) (b : Buffer) (buffers : ℕ → Buffer) → with_buffer key b buffers key ≡ b
+pub with_same : (key : ℕ) (b : Buffer) (buffers : ℕ → Buffer) → with_buffer key b buffers key ≡ b
 with_same key b buffers = ap (λ (t : Bool). cond t b (buffers key)) (eq-eqb key key refl)
 
 -- each other one
-with_else : (key k : ℕ) (b : Buffer) (buffers : ℕ → Buffer) → (k ≡ key → ⊥)
+pub with_else : (key k : ℕ) (b : Buffer) (buffers : ℕ → Buffer) → (k ≡ key → ⊥)
     → with_buffer key b buffers k ≡ buffers k
 with_else key k b buffers ne = ap (λ (t : Bool). cond t b (buffers k)) (ne_eqb k key ne)
 
 -- after a datagram all buffers of its sub-VL are empty
-all_empty : (sub key : ℕ) (buffers : ℕ → Buffer) → ((k : ℕ) → k % 4 ≡ sub → (k ≡ key → ⊥) → buffers k ≡ empty)
+pub all_empty : (sub key : ℕ) (buffers : ℕ → Buffer) → ((k : ℕ) → k % 4 ≡ sub → (k ≡ key → ⊥) → buffers k ≡ empty)
     → (k : ℕ) → k % 4 ≡ sub → with_buffer key empty buffers k ≡ empty
 all_empty sub key buffers others k is = elim (cases_eq k key) [
   | inl e ↦ ap (with_buffer key empty buffers) e ∙ with_same key empty buffers
@@ -149,15 +149,15 @@ all_empty sub key buffers others k is = elim (cases_eq k key) [
 ]
 
 -- an identification tells its sub-VL
-ident_sub : (place sub : ℕ) → sub < 4 → identification place sub % 4 ≡ sub
+pub ident_sub : (place sub : ℕ) → sub < 4 → identification place sub % 4 ≡ sub
 ident_sub place sub small = omega arith
 
 -- the first fragment of a datagram, and those behind it
-record Begins (fs : List Fragment) : Type 0 where
-  first : Fragment
-  behind : List Fragment
-  is : fs ≡ first ∷ behind
-  block : IsBlock (first ∷ behind)
+pub record Begins (fs : List Fragment) : Type 0 where
+  pub first : Fragment
+  pub behind : List Fragment
+  pub is : fs ≡ first ∷ behind
+  pub block : IsBlock (first ∷ behind)
 
 -- a block has a first fragment
 begins_with : (fs : List Fragment) → IsBlock fs → Begins fs
@@ -165,7 +165,7 @@ begins_with [] b = absurd b
 begins_with (f ∷ fs) b = record { first = f; behind = fs; is = refl; block = b }
 
 -- so have the fragments of a datagram
-begins : (room : ℕ) (d : List ℕ) → 1 ≤ length d → Begins (fragments_of room d)
+pub begins : (room : ℕ) (d : List ℕ) → 1 ≤ length d → Begins (fragments_of room d)
 begins room d some = begins_with (fragments_of room d) (is_block room d some)
 
 -- the last fragment of a datagram gives it

@@ -24,9 +24,9 @@ use Rattle.afdx_laws.proofs.Sizes.{IsShort, short_messages}
 use Rattle.afdx_laws.proofs.Spaced.{stream_passes_holds}
 
 -- an entry of one of so many sub-VLs, with a frame that has all fields
-record IsOfSubs (subs : ℕ) (e : Entry) : Type 0 where
-  long : IsLong e.frame
-  of_sub : sub_in e.frame < subs
+pub record IsOfSubs (subs : ℕ) (e : Entry) : Type 0 where
+  pub long : IsLong e.frame
+  pub of_sub : sub_in e.frame < subs
 
 -- identifiers of links are the same where their numbers are
 same_id : (x y : VlId) → x.0 ≡ y.0 → x ≡ y
@@ -45,7 +45,7 @@ known_within plan net k e valid inside known on =
     }
 
 -- so are all of its stream
-stream_within : (plan : Plan) (net : Net) (k : ℕ) (es : List Entry) → IsPlan plan → k < length plan.links
+pub stream_within : (plan : Plan) (net : Net) (k : ℕ) (es : List Entry) → IsPlan plan → k < length plan.links
     → AreKnown plan.links net es → All (IsOfSubs (link_plan_at plan.links k).sub_vls) (link_stream (id_at plan k) es)
 stream_within plan net k [] valid inside known = All-nil (IsOfSubs (link_plan_at plan.links k).sub_vls)
 stream_within plan net k (e ∷ es) valid inside known =

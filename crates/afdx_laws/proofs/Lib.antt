@@ -26,3 +26,5 @@ pub mod WorkedNumbers
 pub mod WorkedPieces
 pub mod WorkedLosses
 pub mod WorkedCounts
+pub mod NextFragment
+pub mod OneBuffer

@@ -19,3 +19,7 @@ pub mod WorkedOrder
 pub mod WorkedLoss
 pub mod Counted
 pub mod WorkedCounts
+pub mod NextFragment
+pub mod WorkedNextFragment
+pub mod Buffers
+pub mod WorkedBuffers

@@ -5,19 +5,24 @@
 //! that begins anew with number 0, of a receiver that starts later than the stream, or of its timer for
 //! frames that come late (SkewMax).
 ghost use Rattle.afdx_laws.specs.Counted.{CountsRise};
+ghost use Rattle.afdx_legal.specs.WorkedTurns.{TurnsAreTold};
+ghost use Rattle.afdx_laws.specs.Buffers.{OneBuffer};
 ghost use Rattle.afdx_laws.specs.Delivery.{InOrder};
 ghost use Rattle.afdx_laws.specs.Handed.{HandedArrive, HandedDespiteLoss};
 ghost use Rattle.afdx_laws.specs.Loss.{FirstComes, LossMasked, LossNotMasked, MaskedFromFirst, NumbersClash};
 ghost use Rattle.afdx_laws.specs.Messages.{DespiteLoss, MessagesArrive};
 ghost use Rattle.afdx_laws.specs.Networks.{ExactlyOnce};
+ghost use Rattle.afdx_laws.specs.NextFragment.{NextInARound, NextInPlan, NextInTime, NextPolledInTime};
 ghost use Rattle.afdx_laws.specs.Plans.{LegalArrive, LegalDespiteLoss, LegalPasses};
 ghost use Rattle.afdx_laws.specs.Policer.{EarlyDropped, NoMorePasses, NoneDropped};
 ghost use Rattle.afdx_laws.specs.Skew.{SkewIsFit, SkewIsNear};
 ghost use Rattle.afdx_laws.specs.Spacing.{StreamPasses};
 ghost use Rattle.afdx_laws.specs.WorkedCounts.{CountsTwo};
+ghost use Rattle.afdx_laws.specs.WorkedBuffers.{HoldsTheSecond};
 ghost use Rattle.afdx_laws.specs.WorkedDelivery.{OneMessageArrives};
 ghost use Rattle.afdx_laws.specs.WorkedLoss.{MasksOneLoss, NeedsTheFirst, BeginsOnBoth};
 ghost use Rattle.afdx_laws.specs.WorkedLoss.{ComesDespiteLoss, HandedDespiteOneLoss, LegalDespiteOneLoss};
+ghost use Rattle.afdx_laws.specs.WorkedNextFragment.{LieTwoGapsApart};
 ghost use Rattle.afdx_laws.specs.WorkedOrder.{FirstIsGiven};
 ghost use Rattle.afdx_laws.specs.WorkedPlan.{OneIsLegal};
 ghost use Rattle.afdx_laws.specs.WorkedPolicing.{PolicesThree, SpendsAll, DropsTheEarly, PassesTwo};
@@ -280,4 +285,37 @@ pub fn counts_rise()
 
     // a message in two frames, counted with the second; and moments that go back
     ensures worked { CountsTwo }
+{}
+
+/// Where the sub-VLs of a link take turns, the next fragment of a message is one of the link's next
+/// frames, as many as the link has sub-VLs: however long the messages of the others are.
+///
+/// What the emitter hands over is so (`turns` of both polls, of `gather` and of both `into_networks`). By the
+/// clock it comes after as many BAGs, each with the lateness of a poll: where the link releases a frame in
+/// each such time while the fragment waits (`time`), or by the polls of the link, each of which finds it
+/// waiting (`polled`). `longest_wait` is that bound for a whole configuration. That polls come, and how late,
+/// is a premise. Nothing is said of frames that no network took.
+pub fn next_fragment()
+    ensures round { NextInARound }
+    ensures time { NextInTime }
+    ensures polled { NextPolledInTime }
+    ensures plan { NextInPlan }
+
+    // three streams of two sub-VLs, of which one doesn't take turns
+    ensures told { TurnsAreTold }
+
+    // two fragments that lie as far apart as they may
+    ensures worked { LieTwoGapsApart }
+{}
+
+/// A receiver that reassembles the messages of a link needs one buffer for each of its sub-VLs, and never
+/// holds fragments of two datagrams of one sub-VL: a bound on its memory.
+///
+/// The premises are those of `in_order`: each sub-VL's fragments come in order, none lost and none twice.
+/// So a buffer of the greatest datagram, 8,200 bytes, for each sub-VL is enough.
+pub fn one_buffer()
+    ensures one { OneBuffer }
+
+    // of two datagrams of a sub-VL one is held, with 8 bytes, while the other was given
+    ensures worked { HoldsTheSecond }
 {}

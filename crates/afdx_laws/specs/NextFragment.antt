@@ -1,0 +1,74 @@
+-- How far two neighbouring fragments of a message lie apart, where the sub-VLs of their link take turns.
+use Rattle.std.specs.Prelude.{◌≡◌, ◌≢◌, ℕ, ◌+◌, ◌*◌, ◌≤◌, ◌<◌, max, true, Some, List, [], ◌∷◌, ◌++◌, length, All}
+use Rattle.afdx_plan.specs.Config.{Plan, IsPlan, link_plan_at}
+use Rattle.afdx_plan.specs.Plan.{bag_micros}
+use Rattle.afdx_plan.specs.declared.link_plan.LinkPlan.{LinkPlan}
+use Rattle.afdx_frame.specs.declared.net.Net.{Net}
+use Rattle.afdx_frame.specs.Header.{sub_in}
+use Rattle.redundant_mux.specs.Entry.{Entry}
+use Rattle.vl_shaper.specs.Polls.{Poll, AreServed, ArePolled, latest_poll, HasAtPolls, released_by}
+use Rattle.afdx_legal.specs.Streams.{link_stream}
+use Rattle.afdx_legal.specs.Legal.{Accepted, IsLegalOn}
+use Rattle.afdx_legal.specs.Turns.{more_in, TakesTurns, TakeTurnsOn}
+use Rattle.afdx_laws.specs.Plans.{id_at}
+
+-- In a stream, an entry behind which more fragments of its message are to come, the entries of other
+-- sub-VLs that follow, and then the next entry of its own.
+pub record AreNeighbours (stream : List Entry) (first : Entry) (between : List Entry) (next : Entry) : Type 0 where
+  pub before : List Entry
+  pub after : List Entry
+  pub is : stream ≡ before ++ (first ∷ (between ++ next ∷ after))
+  pub more : more_in first.frame ≡ true
+  pub others : All (λ (e : Entry). sub_in e.frame ≢ sub_in first.frame) between
+  pub its : sub_in next.frame ≡ sub_in first.frame
+
+-- an entry of one of so many sub-VLs
+abbrev pub IsOfOneOf : ℕ → Entry → Type 0
+IsOfOneOf subs e = sub_in e.frame < subs
+
+-- The next fragment is one of the next entries of the link, as many as the link has sub-VLs.
+abbrev pub NextInARound : Type 0
+NextInARound = (subs : ℕ) (stream : List Entry) (first : Entry) (between : List Entry) (next : Entry)
+    → TakesTurns stream → All (IsOfOneOf subs) stream → AreNeighbours stream first between next
+    → length between + 1 ≤ subs
+
+-- each entry follows the one before it, or a moment, within a time
+abbrev pub FollowWithin : ℕ → ℕ → List Entry → Type 0
+FollowWithin most before [] = Unit {0}
+FollowWithin most before (e ∷ es) = (e.at ≤ before + most) × FollowWithin most e.at es
+
+-- So it comes after as many BAGs and latenesses, where the link releases a frame in each while it waits.
+abbrev pub NextInTime : Type 0
+NextInTime = (subs gap late : ℕ) (stream : List Entry) (first : Entry) (between : List Entry) (next : Entry)
+    → TakesTurns stream → All (IsOfOneOf subs) stream → AreNeighbours stream first between next
+    → FollowWithin (gap + late) first.at (between ++ next ∷ [])
+    → next.at ≤ first.at + subs * (gap + late)
+
+-- The same by the polls of the link: from the release of a fragment on each poll follows the one before
+-- it within the lateness, and finds the next fragment waiting until it is released.
+abbrev pub NextPolledInTime : Type 0
+NextPolledInTime = (subs x gap late released : ℕ) (polls : List Poll) → x < subs → 1 ≤ gap
+    → AreServed gap subs (Some (record { at = released; sub = x })) polls
+    → ArePolled late released polls
+    → HasAtPolls x 1 polls
+    → released + subs * (gap + late) ≤ latest_poll released polls
+    → 1 ≤ released_by x (released + subs * (gap + late)) polls
+
+-- the longest that two neighbouring fragments of a message lie apart on a link, where polls are so late
+-- at most, in microseconds
+abbrev pub link_wait : ℕ → LinkPlan → ℕ
+link_wait late link = link.sub_vls * (bag_micros link.bag + late)
+
+-- on any of these links
+abbrev pub longest_wait : ℕ → List LinkPlan → ℕ
+longest_wait late [] = 0
+longest_wait late (link ∷ links) = max (link_wait late link) (longest_wait late links)
+
+-- That number bounds it for a whole configuration, in what was handed over to a network.
+abbrev pub NextInPlan : Type 0
+NextInPlan = (plan : Plan) (accepted : Accepted) (net : Net) (handed : List Entry) (late k : ℕ)
+    (first : Entry) (between : List Entry) (next : Entry)
+    → IsPlan plan → IsLegalOn plan accepted net handed → TakeTurnsOn plan handed → k < length plan.links
+    → AreNeighbours (link_stream (id_at plan k) handed) first between next
+    → FollowWithin (bag_micros (link_plan_at plan.links k).bag + late) first.at (between ++ next ∷ [])
+    → next.at ≤ first.at + longest_wait late plan.links
