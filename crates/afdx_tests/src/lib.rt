@@ -28,4 +28,6 @@ mod tests;
 #[cfg(test)]
 mod thread_tests;
 #[cfg(test)]
+mod turn_tests;
+#[cfg(test)]
 mod watcher_tests;

@@ -1,0 +1,214 @@
+//! The sub-VLs of a link take turns: what the networks were handed, under the law that the emitter
+//! promises of it, and read frame by frame.
+ghost use Rattle.std.specs.Prelude.{◌≡◌, IfOk};
+ghost use Rattle.afdx_legal.specs.Turns.{TakeTurns};
+
+use afdx_config::read_config;
+use afdx_frame::{ident_of, sn_of, sub_of};
+use afdx_plan::Config;
+use afdx_tx::{Emitter, TxPort, open_tx};
+use redundant_mux::{Handed, MemNetwork};
+use std::alloc::Global;
+use std::process::Abort;
+use std::test::Fail;
+
+// The gap of the links, in microseconds.
+const GAP: u64 = 1_000;
+
+type Tx = Emitter<MemNetwork, MemNetwork>;
+
+// A link of two sub-VLs with a port on each, and one of four. A piece has at most 25 bytes.
+const TWO: &str = "[end_system]
+id = 1
+[[vl]]
+id = 1
+bag_ms = 1
+lmax = 64
+sub_vls = 2
+capacity = 2
+[[port]]
+id = 20
+vl = 1
+sub = 0
+partition = 1
+kind = \"queuing\"
+source = 1000
+destination = 2000
+max = 8192
+[[port]]
+id = 21
+vl = 1
+sub = 1
+partition = 1
+kind = \"queuing\"
+source = 1001
+destination = 2000
+max = 8192
+";
+
+const FOUR: &str = "[end_system]
+id = 1
+[[vl]]
+id = 1
+bag_ms = 1
+lmax = 64
+sub_vls = 4
+capacity = 2
+[[port]]
+id = 30
+vl = 1
+sub = 0
+partition = 1
+kind = \"queuing\"
+source = 1000
+destination = 2000
+max = 8192
+[[port]]
+id = 31
+vl = 1
+sub = 1
+partition = 1
+kind = \"queuing\"
+source = 1001
+destination = 2000
+max = 8192
+[[port]]
+id = 32
+vl = 1
+sub = 2
+partition = 1
+kind = \"queuing\"
+source = 1002
+destination = 2000
+max = 8192
+[[port]]
+id = 33
+vl = 1
+sub = 3
+partition = 1
+kind = \"queuing\"
+source = 1003
+destination = 2000
+max = 8192
+";
+
+// Opened over two networks.
+fn open_over(alloc: Global, config: Config) -> Result<(Tx, Vec<TxPort>), Fail>
+    ensures { IfOk result (λ opened. opened.0.plan ≡ config) }
+{
+    match open_tx(
+        alloc,
+        config,
+        MemNetwork::new(alloc),
+        MemNetwork::new(alloc),
+    ) {
+        Ok(opened) => Ok(opened),
+        Err(_) => Err(Fail::from("out of memory")),
+    }
+}
+
+// Sends one message.
+fn send_bytes<R: Abort>(rt: &R, alloc: Global, port: &mut TxPort, bytes: &[u8]) {
+    let message = bytes.to_vec(alloc).expect(rt, "memory");
+    port.send(message).expect(rt, "taken");
+}
+
+// The first port sends 60 bytes, which are three pieces, and each other two messages of one byte.
+fn send_all<R: Abort>(rt: &R, alloc: Global, ports: &mut [TxPort]) {
+    for (place, port) in ports.iter_mut().enumerate() {
+        if place == 0 {
+            send_bytes(rt, alloc, port, &[0xaa; 60]);
+        } else {
+            send_bytes(rt, alloc, port, &[1]);
+            send_bytes(rt, alloc, port, &[2]);
+        }
+    }
+}
+
+// Polls at once, and so many times more, a gap apart.
+fn poll_on<R: Abort>(rt: &R, tx: &mut Tx, more: u32)
+    ensures { tx.new.plan ≡ tx.old.plan }
+{
+    let first = tx.now();
+    tx.poll(first).expect(rt, "both networks stand");
+    for _turn in 0..more {
+        let now = tx.now().saturating_add(GAP);
+        tx.poll(now).expect(rt, "both networks stand");
+    }
+}
+
+// The two networks after these polls. On both, the sub-VLs of each link of the configuration took turns.
+fn hand_in_turn<R: Abort>(
+    rt: &R,
+    alloc: Global,
+    config: Config,
+    more: u32,
+) -> Result<(MemNetwork, MemNetwork), Fail>
+    ensures { IfOk result
+        (λ networks. TakeTurns config networks.0.handed networks.1.handed) }
+{
+    let (mut tx, mut ports) = open_over(alloc, config)?;
+    send_all(rt, alloc, &mut ports);
+    poll_on(rt, &mut tx, more);
+    Ok(tx.into_networks())
+}
+
+// A frame was handed over at its place in the row, with its sub-VL and its identification.
+fn assert_entry(rt: &impl Abort, entry: &Handed, place: u8, wanted: (u8, u16)) {
+    let (sub, ident) = wanted;
+    let frame = entry.frame.as_slice();
+    assert_eq!(rt; entry.at, GAP * u64::from(place));
+    assert_eq!(rt; sub_of(frame), Some(sub));
+    assert_eq!(rt; ident_of(frame), Some(ident));
+    assert_eq!(rt; sn_of(frame), Some(place));
+}
+
+// A network was handed these frames, a gap apart, by their sub-VLs and identifications.
+fn assert_row(rt: &impl Abort, network: &MemNetwork, row: &[(u8, u16)]) {
+    let handed = network.handed();
+    assert_eq!(rt; handed.len(), row.len());
+    let mut place = 0u8;
+    for (entry, wanted) in handed.iter().zip(row) {
+        assert_entry(rt, entry, place, *wanted);
+        place = place.saturating_add(1);
+    }
+}
+
+// What both networks were handed of a configuration, polled once and so many times more.
+fn assert_turns<R: Abort>(
+    rt: &R,
+    alloc: Global,
+    text: &str,
+    more: u32,
+    row: &[(u8, u16)],
+) -> Result<(), Fail> {
+    let Ok(config) = read_config(alloc, text.as_bytes()) else {
+        return Err(Fail::from("the configuration is valid"));
+    };
+    let (a, b) = hand_in_turn(rt, alloc, config, more)?;
+    assert_row(rt, &a, row);
+    assert_row(rt, &b, row);
+    Ok(())
+}
+
+#[test]
+fn two_sub_vls_take_turns_by_pieces(rt: HostRuntime) -> Result<(), Fail> {
+    let row = [(0, 0), (1, 1), (0, 0), (1, 5), (0, 0)];
+    assert_turns(&rt, rt.alloc(), TWO, 4, &row)
+}
+
+#[test]
+fn four_sub_vls_take_turns_by_pieces(rt: HostRuntime) -> Result<(), Fail> {
+    let row = [
+        (0, 0),
+        (1, 1),
+        (2, 2),
+        (3, 3),
+        (0, 0),
+        (1, 5),
+        (2, 6),
+        (3, 7),
+        (0, 0),
+    ];
+    assert_turns(&rt, rt.alloc(), FOUR, 8, &row)
+}
