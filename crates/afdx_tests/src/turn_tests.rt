@@ -102,7 +102,7 @@ fn open_over(alloc: Global, config: Config) -> Result<(Tx, Vec<TxPort>), Fail>
         MemNetwork::new(alloc),
         MemNetwork::new(alloc),
     ) {
-        Ok(opened) => Ok(opened),
+        Ok((tx, ports, _monitor)) => Ok((tx, ports)),
         Err(_) => Err(Fail::from("out of memory")),
     }
 }

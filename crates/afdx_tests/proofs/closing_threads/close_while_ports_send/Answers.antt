@@ -22,7 +22,7 @@ gather-requires g c =
     let value : Worker → PortView = λ h. h.promise.of.value in
     let workers : List Worker = c.in_ok-workers.workers.items in
     let started : AreOpenedWith c.in_ok-tx.tx (map value workers) =
-    subst (λ (l : List PortView). AreOpenedWith tx l) (sym c.in_ok-workers.ensures) c.in_ok-tx.ensures in
+    subst (λ (l : List PortView). AreOpenedWith tx l) (sym c.in_ok-workers.ensures) c.in_ok-tx.ensures.opened in
     record {
       opened = opened_still tx c.close.new.tx c.in_ok-ports.ports.items (c.close.ensures.plan ∙ c.close_both-totals.ensures.plan)
           (c.close.ensures.queues ∙ c.close_both-totals.ensures.queues) (c.in_ok-ports.ensures tx started);
