@@ -48,13 +48,7 @@ impl<A: Network + Drop, B: Network + Drop> Emitter<A, B> {
 
     /// Over fresh links of a configuration, networks that were handed nothing, and a board of the
     /// links on which nothing was published.
-    pub(crate) fn over(
-        config: Config,
-        links: Vec<Link>,
-        a: A,
-        b: B,
-        board: Board,
-    ) -> Emitter<A, B>
+    pub(crate) fn over(config: Config, links: Vec<Link>, a: A, b: B, board: Board) -> Emitter<A, B>
         requires valid { IsPlan config }
         requires fresh { AreFreshLinks config links.items }
         requires a_empty { A.handed a ≡ [] }

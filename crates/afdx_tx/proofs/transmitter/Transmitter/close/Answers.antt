@@ -17,8 +17,7 @@ invariant_of-self g c =
     let here : c.index_mut.result.now ≡ link_at c.self.inside.links.items c.in-Some.place =
     c.index_mut.ensures.value ∙ get_or_default links c.in-Some.place c.index_mut.result.now no_link within in
     let kept = closed_kept links _ (links_closed links c.in-Some.place c.args.sub c.close.result c.close.new.self
-    (subst (λ (l : LinkState). ClosesLink l c.args.sub c.close.result c.close.new.self) here c.close.ensures) within) in
-    (
+    (subst (λ (l : LinkState). ClosesLink l c.args.sub c.close.result c.close.new.self) here c.close.ensures) within) in (
       kept_sound c.self.inside.config links _ c.self.inside.mux c.self.inside.moment kept c.self.invariant.0,
       reaches_kept links _ c.self.inside.board kept c.self.invariant.1,
     )
