@@ -17,6 +17,7 @@ use std::marker::Model;
 use std::sync::Arc;
 
 // The steps of one send.
+#[inline(always)]
 fn offer<F: FnOnce()>(
     ring: &Ring,
     seat: &mut Knowing,
