@@ -1,0 +1,88 @@
+-- The ports of an emitter, once each of them sent its messages.
+use Rattle.std.proofs.Common.{◌≡◌, ◌∙◌, ℕ, zero, suc, ◌+◌, ◌*◌, ◌<◌, List, [], ◌∷◌, ◌++◌, length, map, get_or, Option, Some, refl, ap, sym, subst, arith}
+use Rattle.std.specs.List.{sum_by}
+use Rattle.std.proofs.lemmas.List.{get_or-map, length-map, length-append}
+use Rattle.std.proofs.lemmas.List.Elements.{Contains-get_or}
+use Rattle.std.proofs.lemmas.List.Sums.{sum_by-cons}
+use Rattle.afdx_plan.specs.Config.{Plan, port_plan_at}
+use Rattle.subvl_queue.specs.Views.{QueueName, SenderView}
+use Rattle.afdx_tx.specs.Emitter.{Tx, queues_in}
+use Rattle.afdx_tx.specs.Ports.{PortView, BelongsTo, AreOpenedWith, AreFreshPorts, HasEveryPlace, index_of, queue_for}
+use Rattle.storm.specs.Messages.{message, messages_to, own_messages}
+use Rattle.storm.specs.Workers.{Named, named, sent_all, IsSpent, AreSpent}
+
+-- a port that is the same but for its own messages belongs to the same configuration and queues
+same_port : (config : Plan) (queues : List (List (Option QueueName))) (old new : PortView) → new.place ≡ old.place → new.plan ≡ old.plan
+    → new.sender.queue ≡ old.sender.queue → new.sender.port ≡ old.sender.port → BelongsTo config queues old → BelongsTo config queues new
+same_port config queues old new place plan queue index own = record {
+  within = subst (λ (k : ℕ). k < length config.ports) (sym place) own.within;
+  plan = plan ∙ own.plan ∙ ap (λ k. port_plan_at config.ports k) (sym place);
+  queue = ap (λ p. queue_for config queues p) plan ∙ own.queue ∙ ap (λ q. Some q) (sym queue);
+  index = index ∙ own.index ∙ ap (λ k. index_of config.ports k) (sym place);
+}
+
+-- a fresh port that sent its messages
+spent_port : (old new : Tx) (n k : ℕ) (before after : PortView) → new.plan ≡ old.plan → queues_in new.links ≡ queues_in old.links
+    → before.place ≡ k → before.plan ≡ port_plan_at old.plan.ports k → before.sender.own ≡ [] → BelongsTo old.plan (queues_in old.links) before
+    → named after ≡ sent_all n before → IsSpent new n k after
+spent_port old new n k before after plan queues place at own of e =
+    let same : BelongsTo old.plan (queues_in old.links) after =
+    same_port old.plan (queues_in old.links) before after (ap (λ (x : Named). x.place) e) (ap (λ (x : Named). x.plan) e)
+    (ap (λ (x : Named). x.queue) e) (ap (λ (x : Named). x.index) e) of in
+    let messages : after.sender.own ≡ own_messages old.plan n k =
+    ap (λ (x : Named). x.own) e ∙ ap (λ ms. ms ++ messages_to before.plan.id.0 n) own ∙ ap (λ p. messages_to p.id.0 n) at in
+    record {
+      of = subst (λ (p : Plan). BelongsTo p (queues_in new.links) after) (sym plan) (subst (λ q. BelongsTo old.plan q after) (sym queues) same);
+      at = ap (λ (x : Named). x.place) e ∙ place;
+      own = subst (λ (p : Plan). after.sender.own ≡ own_messages p n k) (sym plan) messages;
+    }
+
+-- once each port of a fresh emitter sent its messages
+pub spent : (old new : Tx) (n : ℕ) (before after : List PortView) → new.plan ≡ old.plan → queues_in new.links ≡ queues_in old.links
+    → AreFreshPorts old before → AreOpenedWith old before → map named after ≡ map (sent_all n) before → AreSpent new n after
+spent old new n before after plan queues fresh opened same =
+    let many : length after ≡ length before = sym (length-map after named) ∙ ap length same ∙ length-map before (sent_all n) in
+    record {
+      count = many ∙ fresh.count ∙ ap (λ (p : Plan). length p.ports) (sym plan);
+      each = λ k d lt.
+          let below : k < length before = omega arith in
+          let is = fresh.each k d (omega (arith, fresh.count)) in
+          let e : named (get_or after k d) ≡ sent_all n (get_or before k d) =
+          sym (get_or-map named after k d (named d) lt) ∙ ap (λ l. get_or l k (named d)) same
+          ∙ get_or-map (sent_all n) before k d (named d) below in
+          spent_port old new n k (get_or before k d) (get_or after k d) plan queues is.at is.plan
+          (ap (λ (s : SenderView). s.own) is.sender.is) (opened k d below) e;
+    }
+
+-- so none is missing
+pub every_place : (tx : Tx) (n : ℕ) (ports : List PortView) → AreSpent tx n ports → HasEveryPlace (length tx.plan.ports) ports
+every_place tx n [] spent place lt = absurd (omega (arith, spent.count))
+every_place tx n (port ∷ more) spent place lt =
+    let below : place < length (port ∷ more) = omega (arith, spent.count) in
+    record {
+      port = get_or (port ∷ more) place port;
+      inside = Contains-get_or (port ∷ more) place port below;
+      at = (spent.each place port below).at;
+    }
+
+-- as many messages as the number of the last
+pub length-messages : (id n : ℕ) → length (messages_to id n) ≡ n
+length-messages id zero = refl
+length-messages id (suc n) =
+    omega (arith, length-messages id n, length-append (messages_to id n) (message id (n + 1) ∷ []))
+
+sum_same : (f : PortView → ℕ) (m : ℕ) (ports : List PortView) → ((k : ℕ) (d : PortView) → k < length ports → f (get_or ports k d) ≡ m)
+    → sum_by f ports ≡ length ports * m
+sum_same f m [] each = omega arith
+sum_same f m (port ∷ more) each =
+    let rest = sum_same f m more (λ k d lt. each (suc k) d (omega (arith, lt))) in
+    let first : f port ≡ m = each 0 port (omega arith) in
+    sum_by-cons f port more ∙ omega (arith, rest, first)
+
+-- all of them
+pub sum_spent : (tx : Tx) (n : ℕ) (ports : List PortView) → AreSpent tx n ports
+    → sum_by (λ (port : PortView). length port.sender.own) ports ≡ length tx.plan.ports * n
+sum_spent tx n ports spent =
+    sum_same (λ (port : PortView). length port.sender.own) n ports
+    (λ k d lt. ap length (spent.each k d lt).own ∙ length-messages (port_plan_at tx.plan.ports k).id.0 n)
+    ∙ ap (λ m. m * n) spent.count

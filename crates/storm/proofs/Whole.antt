@@ -1,0 +1,52 @@
+-- What was handed over, once the ports of a storm are gathered and all is sent.
+use Rattle.std.proofs.Common.{◌≡◌, ◌∙◌, ℕ, ◌<◌, List, length, All, refl, ap, sym, subst}
+use Rattle.std.proofs.lemmas.List.Elements.{All-contains}
+use Rattle.afdx_plan.specs.Config.{Plan}
+use Rattle.redundant_mux.specs.Entry.{Entry}
+use Rattle.redundant_mux.specs.Lines.{Lines, log}
+use Rattle.afdx_legal.specs.Legal.{Accepted, IsLegal}
+use Rattle.afdx_legal.specs.Allowed.{AreAllowed, AreOwn}
+use Rattle.afdx_legal.specs.Done.{IsAllDone, IsHandedWhole, longer_list}
+use Rattle.afdx_tx.specs.Drain.{accepted_in}
+use Rattle.afdx_tx.specs.Emitter.{Tx}
+use Rattle.afdx_tx.specs.Gathering.{IsGatheredTx}
+use Rattle.afdx_tx.specs.Ports.{PortView}
+use Rattle.storm.specs.Messages.{own_messages}
+use Rattle.storm.specs.Workers.{AreSpent}
+
+-- the longer of two lists is told by the lists alone
+log_is : (lines : Lines) → log lines ≡ longer_list lines.a lines.b
+unfolding log
+log_is lines = refl
+
+-- what was accepted of each port is its own list
+gathered_own : (tx gathered : Tx) (n : ℕ) (ports : List PortView) → AreSpent tx n ports → IsGatheredTx tx ports gathered
+    → AreOwn gathered.plan (accepted_in gathered.links) (own_messages tx.plan n)
+gathered_own tx gathered n ports spent g place lt =
+    let P : PortView → Type 0 = λ port. port.sender.own ≡ own_messages tx.plan n port.place in
+    let own = g.own place (subst (λ (plan : Plan). place < length plan.ports) g.plan lt) in
+    let all : All P ports = λ k d below. (spent.each k d below).own ∙ ap (own_messages tx.plan n) (sym (spent.each k d below).at) in
+    own.accepted ∙ All-contains P ports own.port all own.inside ∙ ap (own_messages tx.plan n) own.at
+
+-- what the networks were handed in the end
+pub handed_whole : (tx gathered drained : Tx) (n : ℕ) (ports : List PortView) (a b : List Entry) → AreSpent tx n ports
+    → IsGatheredTx tx ports gathered → drained.plan ≡ gathered.plan → accepted_in drained.links ≡ accepted_in gathered.links
+    → IsAllDone drained.plan (accepted_in drained.links) (log drained.lines)
+    → IsLegal drained.plan (accepted_in drained.links) drained.lines.a drained.lines.b
+    → AreAllowed drained.plan (accepted_in drained.links) → a ≡ drained.lines.a → b ≡ drained.lines.b
+    → IsHandedWhole tx.plan (own_messages tx.plan n) a b
+handed_whole tx gathered drained n ports a b spent g plan accepted done legal allowed at_a at_b =
+    let own = own_messages tx.plan n in
+    let owned : AreOwn drained.plan (accepted_in drained.links) own =
+    subst (λ (p : Plan). AreOwn p (accepted_in drained.links) own) (sym plan)
+    (subst (λ (xs : Accepted). AreOwn gathered.plan xs own) (sym accepted) (gathered_own tx gathered n ports spent g)) in
+    subst (λ (p : Plan). IsHandedWhole p own a b) (plan ∙ g.plan)
+    (subst (λ xs. IsHandedWhole drained.plan own xs b) (sym at_a)
+    (subst (λ ys. IsHandedWhole drained.plan own drained.lines.a ys) (sym at_b)
+    (record {
+      accepted = accepted_in drained.links;
+      legal = legal;
+      allowed = allowed;
+      are_own = owned;
+      done = subst (IsAllDone drained.plan (accepted_in drained.links)) (log_is drained.lines) done;
+    })))

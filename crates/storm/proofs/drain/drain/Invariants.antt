@@ -1,0 +1,10 @@
+use Rattle.std.proofs.Common.{◌≡◌, ◌+◌, ◌*◌, ◌≤◌}
+use Rattle.afdx_tx.specs.Drain.{accepted_in}
+use Rattle.storm.proofs.drain.drain.Given as goal
+
+abbrev pub invariant-loop-turn : goal.invariant-loop-turn
+invariant-loop-turn g l = record {
+  plan : l.draining.plan ≡ l.fn.draining.plan;
+  accepted : accepted_in l.draining.links ≡ accepted_in l.fn.draining.links;
+  moment : l.draining.moment ≤ (l.first + l.turn) * 128000;
+}

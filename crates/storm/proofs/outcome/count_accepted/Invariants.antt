@@ -1,0 +1,7 @@
+use Rattle.std.proofs.Common.{◌≡◌, length, take}
+use Rattle.std.specs.List.{sum_by}
+use Rattle.afdx_tx.specs.Ports.{PortView}
+use Rattle.storm.proofs.outcome.count_accepted.Given as goal
+
+abbrev pub invariant-loop-port : goal.invariant-loop-port
+invariant-loop-port l = l.accepted ≡ sum_by (λ (port : PortView). length port.sender.own) (take l.port-index l.ports)

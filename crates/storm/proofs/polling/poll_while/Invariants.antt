@@ -1,0 +1,10 @@
+use Rattle.std.proofs.Common.{◌≡◌, ◌*◌, ◌≤◌}
+use Rattle.afdx_tx.specs.Emitter.{queues_in}
+use Rattle.storm.proofs.polling.poll_while.Given as goal
+
+abbrev pub invariant-loop-poll : goal.invariant-loop-poll
+invariant-loop-poll g l = record {
+  plan : l.tx.plan ≡ l.fn.tx.plan;
+  queues : queues_in l.tx.links ≡ queues_in l.fn.tx.links;
+  moment : l.tx.moment ≤ l.poll * 128000;
+}

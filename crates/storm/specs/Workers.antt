@@ -1,0 +1,43 @@
+-- What a worker does to its port.
+use Rattle.std.specs.Prelude.{ℕ, ◌≡◌, ◌<◌, List, ◌++◌, length, slice_index_or}
+use Rattle.afdx_plan.specs.declared.port_plan.PortPlan.{PortPlan}
+use Rattle.subvl_queue.specs.Views.{QueueName}
+use Rattle.afdx_tx.specs.Emitter.{Tx}
+use Rattle.afdx_tx.specs.Ports.{PortView, IsPortOfTx}
+use Rattle.storm.specs.Messages.{messages_to, own_messages}
+
+-- what a port is, and its own messages: all of it but how often it asked, and what it found
+pub record Named : Type 0 where
+  pub place : ℕ
+  pub plan : PortPlan
+  pub queue : QueueName
+  pub index : ℕ
+  pub own : List (List ℕ)
+
+abbrev pub named : PortView → Named
+named port = record {
+  place = port.place;
+  plan = port.plan;
+  queue = port.sender.queue;
+  index = port.sender.port;
+  own = port.sender.own;
+}
+
+-- a port with these messages more of its own
+abbrev pub with_more : PortView → List (List ℕ) → Named
+with_more port more = record (named port) { own = port.sender.own ++ more }
+
+-- a port that sent its messages 1 to n more
+abbrev pub sent_all : ℕ → PortView → Named
+sent_all n port = with_more port (messages_to port.plan.id.0 n)
+
+-- the port of an emitter at a place, which sent its messages 1 to n and nothing else
+pub record IsSpent (tx : Tx) (n place : ℕ) (port : PortView) : Type 0 where
+  pub of : IsPortOfTx tx port
+  pub at : port.place ≡ place
+  pub own : port.sender.own ≡ own_messages tx.plan n place
+
+-- all ports of an emitter, in the order of its plan, each of which sent its messages 1 to n and nothing else
+pub record AreSpent (tx : Tx) (n : ℕ) (ports : List PortView) : Type 0 where
+  pub count : length ports ≡ length tx.plan.ports
+  pub each : (k : ℕ) (d : PortView) → k < length ports → IsSpent tx n k (slice_index_or ports k d)

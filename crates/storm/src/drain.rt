@@ -1,0 +1,80 @@
+//! After the joins: the ports are gathered, and what is left is sent.
+ghost use Rattle.std.specs.Prelude.{◌≡◌, ◌*◌, ◌≤◌, length, IfOk};
+ghost use Rattle.redundant_mux.specs.Lines.{log};
+ghost use Rattle.afdx_legal.specs.Allowed.{AreOwn};
+ghost use Rattle.afdx_legal.specs.Done.{IsAllDone};
+ghost use Rattle.afdx_tx.specs.Drain.{accepted_in};
+ghost use Rattle.afdx_tx.specs.Ports.{AreOpenedWith, HasEveryPlace};
+ghost use Rattle.afdx_tx.specs.Gathering.{IsGatheredTx};
+
+use crate::fault::Stop;
+use crate::polling::STEP;
+use afdx_tx::{Draining, Emitter, TxPort};
+use redundant_mux::Network;
+use std::sync::Wait;
+
+/// Gathers all ports. None is missing.
+pub(crate) fn gather_all<A: Network + Drop, B: Network + Drop>(
+    tx: Emitter<A, B>,
+    ports: Vec<TxPort>,
+) -> Draining<A, B>
+    requires opened { AreOpenedWith tx ports.items }
+    requires every { HasEveryPlace (length tx.plan.ports) ports.items }
+    ensures { IsGatheredTx tx ports.items result }
+{
+    match tx.gather(ports) {
+        Ok(draining) => draining,
+        Err(_) => unreachable!(),
+    }
+}
+
+/// Polls and publishes. Whether a network stands.
+fn drain_once<A: Network + Drop, B: Network + Drop, R: Wait>(
+    rt: &R,
+    draining: &mut Draining<A, B>,
+    now: u64,
+) -> bool
+    requires { draining.old.moment ≤ now }
+    ensures plan { draining.new.plan ≡ draining.old.plan }
+    ensures accepted { accepted_in draining.new.links ≡ accepted_in draining.old.links }
+    ensures moment { draining.new.moment ≤ now }
+{
+    let Ok(report) = draining.poll(now) else {
+        return false;
+    };
+    draining.publish(rt);
+    report.standing.a || report.standing.b
+}
+
+/// Polls on from a poll of that number, at most so many times, until all that was accepted is handed
+/// over.
+pub(crate) fn drain<A: Network + Drop, B: Network + Drop, R: Wait>(
+    rt: &R,
+    draining: Draining<A, B>,
+    first: u64,
+    turns: u64,
+) -> Result<Draining<A, B>, Stop>
+    requires moment { draining.moment ≤ first * STEP }
+    requires first { first ≤ 1000000000 }
+    requires turns { turns ≤ 1000000000 }
+    ensures plan { IfOk result (λ drained. drained.plan ≡ draining.plan) }
+    ensures accepted { IfOk result (λ drained.
+        accepted_in drained.links ≡ accepted_in draining.links) }
+    ensures done { IfOk result (λ drained. IsAllDone drained.plan
+        (accepted_in drained.links) (log drained.lines)) }
+{
+    let mut draining = draining;
+    for turn in 0..turns {
+        if draining.is_done() {
+            return Ok(draining);
+        }
+        if !drain_once(rt, &mut draining, (first + turn) * STEP) {
+            return Err(Stop::Memory);
+        }
+    }
+    if draining.is_done() {
+        Ok(draining)
+    } else {
+        Err(Stop::Turns)
+    }
+}

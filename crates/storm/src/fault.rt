@@ -1,0 +1,54 @@
+//! Why a storm gives no report.
+ghost use Rattle.std.specs.Prelude.{◌≡◌, ◌≢◌};
+ghost use Rattle.storm.specs.declared.fault.Stop.TheVariants.{Memory as OutOfMemory};
+
+use std::alloc::{AllocError, AllocFailed};
+use thiserror::Error;
+
+/// Why a storm gives no report. `Short` comes before `Memory`, and `Memory` before `Turns`. Its text is
+/// what a program tells of it.
+#[derive(Clone, Copy, Debug, PartialEq, Eq, Error)]
+pub enum StormFault {
+    /// A port's greatest message is below 6 bytes. No thread was started.
+    #[error("storm refused: a port's max is below 6")]
+    Short = 1,
+    /// A worker used up its sends or was ended by the gate, or the drain used up its polls.
+    #[error("turns used up")]
+    Turns = 2,
+    /// Memory was refused, a thread couldn't be started, or both networks failed.
+    #[error("out of memory")]
+    Memory = 3,
+}
+
+/// Why a storm that was begun stops early.
+#[derive(Clone, Copy, Debug, PartialEq, Eq)]
+pub(crate) enum Stop {
+    Memory,
+    Turns,
+}
+
+impl From<AllocError> for Stop {
+    ghost from_gives = { λ _ stop. stop ≡ OutOfMemory };
+
+    fn from(_error: AllocError) -> Stop {
+        Stop::Memory
+    }
+}
+
+impl<T: Drop> From<AllocFailed<T>> for Stop {
+    ghost from_gives = { λ _ stop. stop ≡ OutOfMemory };
+
+    fn from(_error: AllocFailed<T>) -> Stop {
+        Stop::Memory
+    }
+}
+
+/// The fault that a stop is told as.
+pub(crate) fn fault_of(stop: Stop) -> StormFault
+    ensures { result ≢ StormFault.Short }
+{
+    match stop {
+        Stop::Memory => StormFault::Memory,
+        Stop::Turns => StormFault::Turns,
+    }
+}

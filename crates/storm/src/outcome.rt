@@ -1,0 +1,163 @@
+//! What comes of a storm, over any two networks.
+ghost use Rattle.std.specs.Prelude.{◌≡◌, ◌*◌, ◌≤◌, ◌<◌, ◌^◌, [], length, false, vec_len, IfOk};
+ghost use Rattle.std.specs.List.{sum_by};
+ghost use Rattle.status_board.specs.Views.{links_of};
+ghost use Rattle.afdx_legal.specs.Done.{IsHandedWhole};
+ghost use Rattle.afdx_tx.specs.Emitter.{IsFreshTx};
+ghost use Rattle.afdx_tx.specs.Ports.{AreFreshPorts, AreOpenedWith};
+ghost use Rattle.storm.specs.Messages.{own_messages};
+ghost use Rattle.storm.specs.Workers.{AreSpent};
+
+use crate::drain::{drain, gather_all};
+use crate::fault::Stop;
+use crate::gate::Gate;
+use crate::load::Load;
+use crate::polling::STEP;
+use crate::run::{Joined, Opened, run_threads};
+use afdx_plan::Config;
+use afdx_tx::{TxPort, open_tx};
+use redundant_mux::Network;
+use status_board::{Counts, Monitor};
+use std::alloc::{AllocError, Global};
+use std::sync::Wait;
+use std::thread::Threads;
+
+/// How many messages were accepted, the last reading of each link, whether a count was seen to fall, and
+/// the networks.
+#[derive(Drop)]
+pub(crate) struct Outcome<A: Network + Drop, B: Network + Drop> {
+    pub accepted: u64,
+    pub links: Vec<Counts>,
+    pub back: bool,
+    pub a: A,
+    pub b: B,
+}
+
+/// How many messages of these ports were accepted.
+fn count_accepted(ports: &[TxPort]) -> u64
+    requires { sum_by (λ port. length port.sender.own) ports.now < 2 ^ 64 }
+    ensures { result ≡ sum_by (λ port. length port.sender.own) ports.now }
+{
+    let mut accepted = 0;
+    for port in ports {
+        accepted += port.accepted();
+    }
+    accepted
+}
+
+/// A reading of each link.
+fn read_links<R: Wait>(
+    rt: &R,
+    alloc: Global,
+    monitor: &mut Monitor,
+    links: usize,
+) -> Result<Vec<Counts>, AllocError>
+    requires { links_of monitor.old ≡ links }
+    ensures { IfOk result (λ counts. vec_len counts ≡ links) }
+{
+    let mut counts = Vec::with_capacity(alloc, links)?;
+    for link in 0..links {
+        counts.push(monitor.read(rt, link))?;
+    }
+    Ok(counts)
+}
+
+/// Gathers the ports, sends what is left, and reads what came of it all.
+fn finish<A: Network + Drop, B: Network + Drop, R: Wait>(
+    rt: &R,
+    alloc: Global,
+    joined: Joined<A, B>,
+    load: Load,
+) -> Result<Outcome<A, B>, Stop>
+    requires ports { AreSpent joined.tx load.messages joined.ports.items }
+    requires links { links_of joined.monitor ≡ length joined.tx.plan.links }
+    requires polls { joined.polls ≤ 1000000000 }
+    requires moment { joined.tx.moment ≤ joined.polls * STEP }
+    requires messages { load.messages < 65536 }
+    requires turns { load.turns ≤ 1000000000 }
+    requires back { joined.back ≡ false }
+    ensures whole { IfOk result (λ outcome. IsHandedWhole joined.tx.plan
+        (own_messages joined.tx.plan load.messages) (A.handed outcome.a) (B.handed outcome.b)) }
+    ensures accepted { IfOk result (λ outcome.
+        outcome.accepted ≡ length joined.tx.plan.ports * load.messages) }
+    ensures links { IfOk result (λ outcome.
+        vec_len outcome.links ≡ length joined.tx.plan.links) }
+    ensures back { IfOk result (λ outcome. outcome.back ≡ false) }
+{
+    let Joined {
+        tx,
+        ports,
+        mut monitor,
+        polls,
+        back,
+    } = joined;
+    let count = tx.config().links().len();
+    let accepted = count_accepted(ports.as_slice());
+    let draining = gather_all(tx, ports);
+    let draining = drain(rt, draining, polls, load.turns)?;
+    let links = read_links(rt, alloc, &mut monitor, count)?;
+    let (a, b) = draining.into_networks();
+    Ok(Outcome {
+        accepted,
+        links,
+        back,
+        a,
+        b,
+    })
+}
+
+/// An emitter over two networks that were handed nothing and have not failed.
+fn open<A: Network + Drop, B: Network + Drop>(
+    alloc: Global,
+    config: Config,
+    a: A,
+    b: B,
+) -> Result<Opened<A, B>, Stop>
+    requires a_empty { A.handed a ≡ [] }
+    requires b_empty { B.handed b ≡ [] }
+    requires a_new { A.failures a ≡ 0 }
+    requires b_new { B.failures b ≡ 0 }
+    ensures fresh { IfOk result (λ opened. IsFreshTx config opened.tx) }
+    ensures ports { IfOk result (λ opened. AreFreshPorts opened.tx opened.ports.items) }
+    ensures opened { IfOk result (λ opened. AreOpenedWith opened.tx opened.ports.items) }
+    ensures links { IfOk result (λ opened. links_of opened.monitor ≡ length config.links) }
+{
+    match open_tx(alloc, config, a, b) {
+        Ok((tx, ports, monitor)) => Ok(Opened { tx, ports, monitor }),
+        Err(_) => Err(Stop::Memory),
+    }
+}
+
+/// Opens an emitter over two networks, has each of its ports send its messages from a thread of its
+/// own while it is polled, and sends all to its end.
+pub(crate) fn run_storm<A, B, G, R>(
+    rt: &R,
+    alloc: Global,
+    config: Config,
+    a: A,
+    b: B,
+    load: Load,
+    gate: &G,
+) -> Result<Outcome<A, B>, Stop>
+where
+    A: Network + Drop,
+    B: Network + Drop,
+    G: Gate + Sync,
+    R: Threads + Wait + Sync,
+    requires a_empty { A.handed a ≡ [] }
+    requires b_empty { B.handed b ≡ [] }
+    requires a_new { A.failures a ≡ 0 }
+    requires b_new { B.failures b ≡ 0 }
+    requires messages { load.messages < 65536 }
+    requires turns { load.turns ≤ 1000000000 }
+    ensures whole { IfOk result (λ outcome. IsHandedWhole config
+        (own_messages config load.messages) (A.handed outcome.a) (B.handed outcome.b)) }
+    ensures accepted { IfOk result (λ outcome.
+        outcome.accepted ≡ length config.ports * load.messages) }
+    ensures links { IfOk result (λ outcome. vec_len outcome.links ≡ length config.links) }
+    ensures back { IfOk result (λ outcome. outcome.back ≡ false) }
+{
+    let opened = open(alloc, config, a, b)?;
+    let joined = run_threads(rt, alloc, opened, load, gate)?;
+    finish(rt, alloc, joined, load)
+}

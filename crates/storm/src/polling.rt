@@ -1,0 +1,60 @@
+//! The main thread's part while workers run.
+ghost use Rattle.std.specs.Prelude.{◌≡◌, ◌*◌, ◌≤◌, IfSome};
+ghost use Rattle.afdx_tx.specs.Emitter.{queues_in};
+
+use afdx_tx::Emitter;
+use redundant_mux::Network;
+use std::sync::Wait;
+use std::sync::atomic::{AtomicU64, Ordering};
+use std::thread;
+
+/// From one poll to the next, in microseconds: the greatest gap of a link, so that each poll finds every
+/// link due.
+pub(crate) const STEP: u64 = 128_000;
+
+/// Polls and publishes. Whether a network stands.
+fn poll_once<A: Network + Drop, B: Network + Drop, R: Wait>(
+    rt: &R,
+    tx: &mut Emitter<A, B>,
+    now: u64,
+) -> bool
+    requires { tx.old.moment ≤ now }
+    ensures plan { tx.new.plan ≡ tx.old.plan }
+    ensures queues { queues_in tx.new.links ≡ queues_in tx.old.links }
+    ensures moment { tx.new.moment ≤ now }
+{
+    let Ok(report) = tx.poll(now) else {
+        return false;
+    };
+    tx.publish(rt);
+    if report.released.is_empty() {
+        thread::yield_now();
+    }
+    report.standing.a || report.standing.b
+}
+
+/// Polls and publishes while workers run, at most so many times. How many times that was; none where no
+/// network stands any more.
+pub(crate) fn poll_while<A: Network + Drop, B: Network + Drop, R: Wait>(
+    rt: &R,
+    tx: &mut Emitter<A, B>,
+    running: &AtomicU64,
+    turns: u64,
+) -> Option<u64>
+    requires first { tx.old.moment ≡ 0 }
+    requires turns { turns ≤ 1000000000 }
+    ensures plan { tx.new.plan ≡ tx.old.plan }
+    ensures queues { queues_in tx.new.links ≡ queues_in tx.old.links }
+    ensures most { IfSome result (λ polls. polls ≤ turns) }
+    ensures moment { IfSome result (λ polls. tx.new.moment ≤ polls * STEP) }
+{
+    for poll in 0..turns {
+        if running.load(Ordering::SeqCst) == 0 {
+            return Some(poll);
+        }
+        if !poll_once(rt, tx, poll * STEP) {
+            return None;
+        }
+    }
+    Some(turns)
+}

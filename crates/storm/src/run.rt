@@ -1,0 +1,139 @@
+//! The threads of a storm, from the first start to the last join.
+ghost use Rattle.std.specs.Prelude.{◌≡◌, ◌*◌, ◌≤◌, length, false, IfOk};
+ghost use Rattle.status_board.specs.Views.{links_of};
+ghost use Rattle.afdx_tx.specs.Ports.{AreFreshPorts, AreOpenedWith};
+ghost use Rattle.storm.specs.Workers.{AreSpent};
+
+use crate::fault::Stop;
+use crate::gate::Gate;
+use crate::load::Load;
+use crate::polling::{STEP, poll_while};
+use crate::start::{join_workers, start_workers};
+use crate::watcher::start_watcher;
+use afdx_tx::{Emitter, TxPort};
+use redundant_mux::Network;
+use status_board::Monitor;
+use std::alloc::Global;
+use std::sync::Wait;
+use std::sync::atomic::AtomicU64;
+use std::thread;
+use std::thread::{Scope, Threads};
+
+/// An emitter, its ports and its monitor.
+#[derive(Drop)]
+pub(crate) struct Opened<A: Network + Drop, B: Network + Drop> {
+    pub tx: Emitter<A, B>,
+    pub ports: Vec<TxPort>,
+    pub monitor: Monitor,
+}
+
+/// The same once all threads are joined, with how often the emitter was polled, and whether a count was
+/// seen to fall.
+#[derive(Drop)]
+pub(crate) struct Joined<A: Network + Drop, B: Network + Drop> {
+    pub tx: Emitter<A, B>,
+    pub ports: Vec<TxPort>,
+    pub monitor: Monitor,
+    pub polls: u64,
+    pub back: bool,
+}
+
+/// Starts the watcher and the workers, polls while these run, and joins all.
+fn run_in_scope<'s, E: 's, A, B, G, R>(
+    scope: &'s Scope<'s, E>,
+    rt: &'s R,
+    alloc: Global,
+    opened: Opened<A, B>,
+    load: Load,
+    gate: &'s G,
+    running: &'s AtomicU64,
+) -> Result<Joined<A, B>, Stop>
+where
+    A: Network + Drop,
+    B: Network + Drop,
+    G: Gate + Sync,
+    R: Threads + Wait + Sync,
+    requires first { opened.tx.moment ≡ 0 }
+    requires fresh { AreFreshPorts opened.tx opened.ports.items }
+    requires opened { AreOpenedWith opened.tx opened.ports.items }
+    requires links { links_of opened.monitor ≡ length opened.tx.plan.links }
+    requires turns { load.turns ≤ 1000000000 }
+    ensures plan { IfOk result (λ joined. joined.tx.plan ≡ opened.tx.plan) }
+    ensures ports { IfOk result (λ joined. AreSpent joined.tx load.messages joined.ports.items) }
+    ensures links { IfOk result (λ joined.
+        links_of joined.monitor ≡ length joined.tx.plan.links) }
+    ensures polls { IfOk result (λ joined. joined.polls ≤ load.turns) }
+    ensures moment { IfOk result (λ joined. joined.tx.moment ≤ joined.polls * STEP) }
+    ensures back { IfOk result (λ joined. joined.back ≡ false) }
+{
+    let Opened {
+        mut tx,
+        ports,
+        monitor,
+    } = opened;
+    let links = tx.config().links().len();
+    let watching = start_watcher(scope, rt, monitor, links, load.messages)?;
+    let started = start_workers(scope, alloc, ports, load, gate, running);
+    // Where not all were started, those that were are polled for too: so they come to their end.
+    let polls = poll_while(rt, &mut tx, running, load.turns);
+    let ended = join_workers(rt, alloc, started?);
+    let (monitor, back) = watching.join(rt);
+    let polls = polls.ok_or(Stop::Memory)?;
+    Ok(Joined {
+        tx,
+        ports: ended?,
+        monitor,
+        polls,
+        back,
+    })
+}
+
+/// Sends from all ports at once, each in a thread of its own, while this thread polls and another one
+/// reads the board.
+pub(crate) fn run_threads<A, B, G, R>(
+    rt: &R,
+    alloc: Global,
+    opened: Opened<A, B>,
+    load: Load,
+    gate: &G,
+) -> Result<Joined<A, B>, Stop>
+where
+    A: Network + Drop,
+    B: Network + Drop,
+    G: Gate + Sync,
+    R: Threads + Wait + Sync,
+    requires first { opened.tx.moment ≡ 0 }
+    requires fresh { AreFreshPorts opened.tx opened.ports.items }
+    requires opened { AreOpenedWith opened.tx opened.ports.items }
+    requires links { links_of opened.monitor ≡ length opened.tx.plan.links }
+    requires turns { load.turns ≤ 1000000000 }
+    ensures plan { IfOk result (λ joined. joined.tx.plan ≡ opened.tx.plan) }
+    ensures ports { IfOk result (λ joined. AreSpent joined.tx load.messages joined.ports.items) }
+    ensures links { IfOk result (λ joined.
+        links_of joined.monitor ≡ length joined.tx.plan.links) }
+    ensures polls { IfOk result (λ joined. joined.polls ≤ load.turns) }
+    ensures moment { IfOk result (λ joined. joined.tx.moment ≤ joined.polls * STEP) }
+    ensures back { IfOk result (λ joined. joined.back ≡ false) }
+{
+    let counter = AtomicU64::new(0);
+    let running = &counter;
+    thread::scope(
+        thread::scope_env(),
+        rt,
+        move |scope| -> Result<Joined<A, B>, Stop>
+            requires first { opened.tx.moment ≡ 0 }
+            requires fresh { AreFreshPorts opened.tx opened.ports.items }
+            requires opened { AreOpenedWith opened.tx opened.ports.items }
+            requires links { links_of opened.monitor ≡ length opened.tx.plan.links }
+            requires turns { load.turns ≤ 1000000000 }
+            ensures plan { IfOk result (λ joined. joined.tx.plan ≡ opened.tx.plan) }
+            ensures ports { IfOk result (λ joined.
+                AreSpent joined.tx load.messages joined.ports.items) }
+            ensures links { IfOk result (λ joined.
+                links_of joined.monitor ≡ length joined.tx.plan.links) }
+            ensures polls { IfOk result (λ joined. joined.polls ≤ load.turns) }
+            ensures moment { IfOk result (λ joined. joined.tx.moment ≤ joined.polls * STEP) }
+            ensures back { IfOk result (λ joined. joined.back ≡ false) }
+        { run_in_scope(scope, rt, alloc, opened, load, gate, running) },
+    )
+}

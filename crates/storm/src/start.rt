@@ -1,0 +1,132 @@
+//! Workers in threads of their own, each started with the promise of its port's own list.
+ghost use Rattle.std.specs.Prelude.{◌≡◌, ◌↔◌, ◌⊎◌, OnOk, IfOk, map};
+ghost use Rattle.storm.specs.Workers.{named, sent_all};
+
+use crate::fault::Stop;
+use crate::gate::Gate;
+use crate::load::Load;
+use crate::worker::work;
+use afdx_tx::TxPort;
+use std::alloc::Global;
+use std::snapshot::Snapshot;
+use std::sync::atomic::{AtomicU64, Ordering};
+use std::thread::{Promise, PromisedHandle, Scope, Threads};
+
+/// A worker gives its port back. Where it ended well, the port sent all its messages, and is otherwise
+/// the one that it was.
+#[derive(Drop)]
+pub(crate) struct SendsAll {
+    pub before: Snapshot<TxPort>,
+    pub messages: u32,
+}
+
+impl Promise<(TxPort, Result<(), Stop>)> for SendsAll {
+    ghost use Rattle.std.specs.Prelude.{◌≡◌, OnOk};
+    ghost use Rattle.storm.specs.Workers.{named, sent_all};
+
+    ghost kept_by = { λ p r. OnOk r.1 (named r.0 ≡ sent_all p.messages p.before.value) };
+}
+
+pub(crate) type Worker = PromisedHandle<(TxPort, Result<(), Stop>), SendsAll>;
+
+/// What a worker's thread does. It counts itself out.
+fn run_worker<G: Gate>(
+    alloc: Global,
+    port: TxPort,
+    worker: usize,
+    load: Load,
+    gate: &G,
+    running: &AtomicU64,
+) -> (TxPort, Result<(), Stop>)
+    ensures { OnOk result.1 (named result.0 ≡ sent_all load.messages port) }
+{
+    let mut port = port;
+    let ended = work(alloc, &mut port, worker, load, gate);
+    running.fetch_sub(1, Ordering::SeqCst);
+    (port, ended)
+}
+
+/// Starts a worker, which is counted in before it runs.
+fn start_worker<'s, E: 's, G: Gate + Sync>(
+    scope: &'s Scope<'s, E>,
+    alloc: Global,
+    port: TxPort,
+    worker: usize,
+    load: Load,
+    gate: &'s G,
+    running: &'s AtomicU64,
+) -> Result<Worker, Stop>
+    ensures port { IfOk result (λ started. started.promise.before.value ≡ port) }
+    ensures messages { IfOk result (λ started. started.promise.messages ≡ load.messages) }
+{
+    let promise = SendsAll {
+        before: Snapshot::of(&port),
+        messages: load.messages,
+    };
+    running.fetch_add(1, Ordering::SeqCst);
+    let body = move || run_worker(alloc, port, worker, load, gate, running);
+    match scope.spawn_with(promise, body) {
+        Ok(started) => Ok(started),
+        Err(_) => {
+            running.fetch_sub(1, Ordering::SeqCst);
+            Err(Stop::Memory)
+        }
+    }
+}
+
+/// Starts a worker for each port, in their order. Where one can't be started, no more are.
+pub(crate) fn start_workers<'s, E: 's, G: Gate + Sync>(
+    scope: &'s Scope<'s, E>,
+    alloc: Global,
+    ports: Vec<TxPort>,
+    load: Load,
+    gate: &'s G,
+    running: &'s AtomicU64,
+) -> Result<Vec<Worker>, Stop>
+    ensures { IfOk result (λ workers.
+        map (λ w. sent_all w.promise.messages w.promise.before.value) workers.items
+        ≡ map (sent_all load.messages) ports.items) }
+{
+    let mut workers = Vec::with_capacity(alloc, ports.len())?;
+    for port in ports {
+        let worker = workers.len();
+        let started = start_worker(scope, alloc, port, worker, load, gate, running)?;
+        workers.push(started)?;
+    }
+    Ok(workers)
+}
+
+/// Joins the workers. Their ports, in order, where all ended well.
+pub(crate) fn join_workers<R: Threads>(
+    rt: &R,
+    alloc: Global,
+    workers: Vec<Worker>,
+) -> Result<Vec<TxPort>, Stop>
+    ensures { IfOk result (λ ports. map named ports.items
+        ≡ map (λ w. sent_all w.promise.messages w.promise.before.value) workers.items) }
+{
+    let mut ports = Vec::with_capacity(alloc, workers.len())?;
+    let mut worst = None;
+    for worker in workers {
+        let (port, ended) = worker.join(rt);
+        worst = worse(worst, ended);
+        ports.push(port)?;
+    }
+    match worst {
+        None => Ok(ports),
+        Some(stop) => Err(stop),
+    }
+}
+
+/// Why some worker ended early, of those before and this one. Want of memory comes before turns.
+fn worse(worst: Option<Stop>, ended: Result<(), Stop>) -> Option<Stop>
+    ensures none { result ≡ None ↔ ((worst ≡ None) × (ended ≡ Ok tt)) }
+    ensures memory { result ≡ Some Stop.Memory
+        ↔ ((worst ≡ Some Stop.Memory) ⊎ (ended ≡ Err Stop.Memory)) }
+{
+    match ended {
+        Ok(()) => worst,
+        Err(Stop::Memory) => Some(Stop::Memory),
+        Err(Stop::Turns) => Some(worst.unwrap_or(Stop::Turns)),
+    }
+}
