@@ -1,0 +1,13 @@
+//! Tests of storms over whole end systems.
+#![tactic(auto)]
+
+#[cfg(test)]
+mod failing_tests;
+#[cfg(test)]
+mod gates;
+#[cfg(test)]
+mod great_tests;
+#[cfg(test)]
+mod plans;
+#[cfg(test)]
+mod storm_tests;

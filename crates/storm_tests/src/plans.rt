@@ -1,0 +1,62 @@
+//! The configurations that tests of storms share.
+use afdx_config::read_config;
+use afdx_plan::Config;
+use std::alloc::{AllocError, Global};
+use std::test::Fail;
+
+// How many ports the small plan has, two on each of the two sub-VLs of its one link.
+pub(crate) const PORTS: u8 = 4;
+
+fn push_port(text: &mut String, id: u16, vl: u16, sub: u16, max: u16) -> Result<(), AllocError> {
+    let partition = id % 32;
+    writeln!(
+        text,
+        "[[port]]\nid = {id}\nvl = {vl}\nsub = {sub}\npartition = {partition}\n\
+         kind = \"queuing\"\nsource = 1000\ndestination = 2000\nmax = {max}"
+    )
+}
+
+// End system 1 with one link of two sub-VLs with room for so many messages. Ports 1 to 4 are of
+// partitions 1 to 4, the first two on sub-VL 0. Port 3 sends messages of at most so many bytes.
+fn small_text(alloc: Global, capacity: u16, max: u16) -> Result<String, AllocError> {
+    let mut text = format!(in alloc;
+        "[end_system]\nid = 1\n\
+         [[vl]]\nid = 1\nbag_ms = 1\nlmax = 1518\nsub_vls = 2\ncapacity = {capacity}\n"
+    )?;
+    push_port(&mut text, 1, 1, 0, 64)?;
+    push_port(&mut text, 2, 1, 0, 64)?;
+    push_port(&mut text, 3, 1, 1, max)?;
+    push_port(&mut text, 4, 1, 1, 64)?;
+    Ok(text)
+}
+
+// The plan of that text.
+pub(crate) fn small_plan(alloc: Global, capacity: u16, max: u16) -> Result<Config, Fail> {
+    let text = small_text(alloc, capacity, max)?;
+    read_config(alloc, text.as_bytes()).map_err(|_| Fail::from("a valid plan"))
+}
+
+// How many links the great plan has, with a sub-VL for each of four ports.
+pub(crate) const LINKS: u16 = 64;
+
+fn great_text(alloc: Global, capacity: u16) -> Result<String, AllocError> {
+    let mut text = format!(in alloc; "[end_system]\nid = 1\n")?;
+    for vl in 0..LINKS {
+        writeln!(
+            text,
+            "[[vl]]\nid = {vl}\nbag_ms = 1\nlmax = 64\nsub_vls = 4\ncapacity = {capacity}"
+        )?;
+    }
+    for vl in 0..LINKS {
+        for sub in 0..4 {
+            push_port(&mut text, 4 * vl + sub, vl, sub, 6)?;
+        }
+    }
+    Ok(text)
+}
+
+// The greatest plan: 256 ports on 64 links, each on a sub-VL of its own with room for so many messages.
+pub(crate) fn great_plan(alloc: Global, capacity: u16) -> Result<Config, Fail> {
+    let text = great_text(alloc, capacity)?;
+    read_config(alloc, text.as_bytes()).map_err(|_| Fail::from("a valid plan"))
+}
