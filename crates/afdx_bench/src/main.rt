@@ -1,6 +1,8 @@
 //! The bench of a transmitting end system: runs scripts over two networks in memory and prints their
-//! transcripts, and reports on configurations.
+//! transcripts, reports on configurations, and throws storms of messages at an end system.
 #![tactic(auto)]
+
+ghost use Rattle.bench_words.specs.Words.{IsInRange};
 
 use afdx_plan::demo_config;
 use bench_words::{Words, read_words, tell_words};
@@ -8,6 +10,10 @@ use plan_report::{End, Failure, check, read_plan, status_of};
 use std::fs::File;
 use std::io::{self, BufWriter, Write};
 use std::process::ExitCode;
+use std::sync::Wait;
+use std::thread::Threads;
+use storm::OpenGate;
+use storm_report::bench_storm;
 use tx_script::{RunFault, run_script};
 
 /// Opens a file that a word names.
@@ -18,8 +24,16 @@ fn open(rt: &HostRuntime, path: &str) -> Result<File, Failure> {
     })
 }
 
-/// Does what the words ask for. The configuration is read before the script is opened.
-fn obey<W: Write>(rt: &HostRuntime, words: Words, writer: &mut W) -> Result<End, Failure> {
+/// Does what the words ask for. The configuration is read before the script is opened. The runtime comes
+/// a second time for threads, since only a bound lets a function start them.
+fn obey<W: Write, T: Threads + Wait + Sync>(
+    rt: &HostRuntime,
+    threads: &T,
+    words: Words,
+    writer: &mut W,
+) -> Result<End, Failure>
+    requires { IsInRange words }
+{
     let alloc = rt.alloc();
     match words {
         Words::Script => {
@@ -36,15 +50,29 @@ fn obey<W: Write>(rt: &HostRuntime, words: Words, writer: &mut W) -> Result<End,
             check(alloc, open(rt, config.as_str())?, writer)?;
             Ok(End::Told)
         }
-        Words::Storm => Err(Failure::Storm),
+        Words::Storm {
+            config,
+            messages,
+            turns,
+        } => {
+            let text = open(rt, config.as_str())?;
+            bench_storm(threads, alloc, text, writer, messages, turns, &OpenGate)?;
+            Ok(End::Told)
+        }
     }
 }
 
 /// Does what the words ask for, and writes what the output still holds.
-fn run(rt: &HostRuntime, words: Words) -> Result<End, Failure> {
+fn run<T: Threads + Wait + Sync>(
+    rt: &HostRuntime,
+    threads: &T,
+    words: Words,
+) -> Result<End, Failure>
+    requires { IsInRange words }
+{
     let writer = BufWriter::new(rt.alloc(), io::writer(rt));
     let mut writer = writer.map_err(|_| Failure::Run(RunFault::Memory))?;
-    let end = obey(rt, words, &mut writer);
+    let end = obey(rt, threads, words, &mut writer);
     match writer.flush() {
         Ok(()) => end,
         Err(_) => Err(Failure::Run(RunFault::Write)),
@@ -53,7 +81,7 @@ fn run(rt: &HostRuntime, words: Words) -> Result<End, Failure> {
 
 fn main(rt: HostRuntime) -> ExitCode {
     let end = match read_words(&rt) {
-        Ok(words) => run(&rt, words).unwrap_or_else(End::Failed),
+        Ok(words) => run(&rt, &rt, words).unwrap_or_else(End::Failed),
         Err(error) => tell_words(&rt, &error),
     };
     if let End::Failed(failure) = &end {

@@ -6,7 +6,7 @@ use std::process::Abort;
 use transcript::{RunFault, Summary};
 
 // The ends of the program, and their statuses.
-const ENDS: [(End, u8); 14] = [
+const ENDS: [(End, u8); 15] = [
     (End::Told, 0),
     (
         End::Ran(Summary {
@@ -33,7 +33,8 @@ const ENDS: [(End, u8); 14] = [
         3,
     ),
     (End::WordsRefused, 2),
-    (End::Failed(Failure::Storm), 2),
+    (End::Failed(Failure::Short), 2),
+    (End::Failed(Failure::Turns), 5),
     (End::Failed(Failure::Config(ConfigFault::Toml)), 2),
     (End::Failed(Failure::Config(ConfigFault::Limit)), 2),
     (End::Failed(Failure::Config(ConfigFault::Memory)), 4),
@@ -58,7 +59,7 @@ fn the_status_tells_how_the_program_ended(rt: HostRuntime) {
 }
 
 // The texts of failures.
-const TEXTS: [(Failure, &str); 7] = [
+const TEXTS: [(Failure, &str); 9] = [
     (
         Failure::Config(ConfigFault::SharedUnicast),
         "configuration refused: 13 SharedUnicast",
@@ -75,6 +76,8 @@ const TEXTS: [(Failure, &str); 7] = [
         Failure::Run(RunFault::Lines),
         "script refused: too many lines",
     ),
+    (Failure::Short, "storm refused: a port's max is below 6"),
+    (Failure::Turns, "turns used up"),
     (Failure::Run(RunFault::Read), "read failed"),
     (Failure::Run(RunFault::Write), "write failed"),
     (Failure::Run(RunFault::Memory), "out of memory"),

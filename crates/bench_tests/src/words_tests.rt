@@ -38,8 +38,14 @@ const COMMANDS: [(&str, &str); 5] = [
         "run a.toml b.txt",
         "Run { config: \"a.toml\", script: \"b.txt\" }",
     ),
-    ("storm a.toml --messages 65535 --turns 1000000000", "Storm"),
-    ("storm --turns 1 --messages 1 a.toml", "Storm"),
+    (
+        "storm a.toml --messages 65535 --turns 1000000000",
+        "Storm { config: \"a.toml\", messages: 65535, turns: 1000000000 }",
+    ),
+    (
+        "storm --turns 1 --messages 2 a.toml",
+        "Storm { config: \"a.toml\", messages: 2, turns: 1 }",
+    ),
 ];
 
 #[test]

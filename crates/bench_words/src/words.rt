@@ -1,4 +1,7 @@
 //! The words of the command line.
+ghost use Rattle.std.specs.Prelude.{◌≤◌, IfOk, IfSome};
+ghost use Rattle.bench_words.specs.Words.{IsInRange};
+
 use clap::error::ErrorKind;
 use clap::{Arg, ArgAction, ArgMatches, Command, Error, value_parser};
 use std::alloc::{AllocError, Global};
@@ -11,16 +14,33 @@ pub enum Words {
     /// No word: a script from standard input, over the demonstration configuration.
     Script,
     /// `run <config> <script>`
-    Run { config: String, script: String },
+    Run {
+        config: String,
+        script: String,
+    },
     /// `check <config>`
-    Check { config: String },
+    Check {
+        config: String,
+    },
     /// `storm <config> --messages <n> --turns <t>`
-    Storm,
+    Storm {
+        config: String,
+        messages: u32,
+        turns: u64,
+    },
 }
+
+/// The most messages that each port may be asked to send.
+const MESSAGES_LIMIT: u32 = 65_535;
+
+/// The most turns that a thread may have.
+const TURNS_LIMIT: u64 = 1_000_000_000;
 
 /// The words that the program was started with, or what is to be told of them: help that was asked
 /// for, which words are wrong, or that memory was refused.
-pub fn read_words<R: Env + AllocGlobal>(rt: &R) -> Result<Words, Error> {
+pub fn read_words<R: Env + AllocGlobal>(rt: &R) -> Result<Words, Error>
+    ensures { IfOk result IsInRange }
+{
     let alloc = rt.alloc();
     match std::env::args(rt) {
         Ok(words) => {
@@ -40,7 +60,9 @@ fn unread(alloc: Global, error: &io::Error) -> Result<Error, AllocError> {
 }
 
 /// What a command line says. Its first word, the program's name, is passed over.
-pub fn parse<'a>(alloc: Global, words: &'a [String]) -> Result<Words, Error> {
+pub fn parse<'a>(alloc: Global, words: &'a [String]) -> Result<Words, Error>
+    ensures { IfOk result IsInRange }
+{
     let matches = command(alloc)?.try_get_matches_from(words)?;
     match matches.subcommand() {
         Some(("run", inner)) => Ok(Words::Run {
@@ -50,8 +72,50 @@ pub fn parse<'a>(alloc: Global, words: &'a [String]) -> Result<Words, Error> {
         Some(("check", inner)) => Ok(Words::Check {
             config: path(alloc, inner, "config")?,
         }),
-        Some(_) => Ok(Words::Storm),
+        Some((_, inner)) => storm_words(alloc, inner),
         None => Ok(Words::Script),
+    }
+}
+
+/// The words of `storm`.
+fn storm_words(alloc: Global, matches: &ArgMatches<'_>) -> Result<Words, Error>
+    ensures { IfOk result IsInRange }
+{
+    match (messages_of(matches), turns_of(matches)) {
+        (Some(messages), Some(turns)) => Ok(Words::Storm {
+            config: path(alloc, matches, "config")?,
+            messages,
+            turns,
+        }),
+        // Such numbers were refused before, by their ranges.
+        _ => {
+            let text = "a number is out of its range";
+            Err(command(alloc)?.error(ErrorKind::InvalidValue, text)?)
+        }
+    }
+}
+
+/// How many messages each port is to send.
+fn messages_of(matches: &ArgMatches<'_>) -> Option<u32>
+    ensures { IfSome result (λ messages. (1 ≤ messages) × (messages ≤ MESSAGES_LIMIT)) }
+{
+    let messages = matches.get_str("messages")?.parse::<u32>().ok()?;
+    if 1 <= messages && messages <= MESSAGES_LIMIT {
+        Some(messages)
+    } else {
+        None
+    }
+}
+
+/// How often each thread may try.
+fn turns_of(matches: &ArgMatches<'_>) -> Option<u64>
+    ensures { IfSome result (λ turns. (1 ≤ turns) × (turns ≤ TURNS_LIMIT)) }
+{
+    let turns = matches.get_str("turns")?.parse::<u64>().ok()?;
+    if 1 <= turns && turns <= TURNS_LIMIT {
+        Some(turns)
+    } else {
+        None
     }
 }
 
@@ -99,7 +163,7 @@ fn storm_command<'a>(alloc: Global) -> Result<Command<'a>, AllocError> {
         .value_parser(value_parser!(u64).range(1..1_000_000_001))
         .help("How often each thread may try");
     Command::new(alloc, "storm")
-        .about("Is refused: the command isn't there yet")
+        .about("Has all ports of a configuration send at once, and prints what came of it")
         .arg(file(alloc, "config").help("The file of the configuration"))?
         .arg(messages)?
         .arg(turns)

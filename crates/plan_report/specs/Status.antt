@@ -1,7 +1,7 @@
 -- How the program ends.
 use Rattle.std.specs.Prelude.{ℕ, nat_eq, if◌then◌else◌}
 use Rattle.plan_report.specs.declared.failure.Failure.{Failure}
-use Rattle.plan_report.specs.declared.failure.Failure.TheVariants.{Config, Run, Storm}
+use Rattle.plan_report.specs.declared.failure.Failure.TheVariants.{Config, Run, Short, Turns}
 use Rattle.plan_report.specs.declared.status.End.{End}
 use Rattle.plan_report.specs.declared.status.End.TheVariants.{Told, Ran, WordsRefused, Failed}
 use Rattle.afdx_plan.specs.declared.fault.ConfigFault.TheVariants as Plan
@@ -16,12 +16,13 @@ run_status Read = 4
 run_status Write = 4
 run_status Memory = 4
 
--- 2 where the configuration has a fault, or the command isn't there
+-- 2 where the configuration has a fault or a port that a storm can't use, and 5 where a storm used up its turns
 abbrev pub failure_status : Failure → ℕ
 failure_status (Config Plan.Memory) = 4
 failure_status (Config _) = 2
 failure_status (Run fault) = run_status fault
-failure_status Storm = 2
+failure_status Short = 2
+failure_status Turns = 5
 
 -- 0 where all that was asked for was done, 3 where lines of the script were refused, and 2 where
 -- the words were

@@ -11,8 +11,10 @@ pub enum Failure {
     Config(ConfigFault),
     /// The script has a fault; or, in any command, memory, reading or writing failed.
     Run(RunFault),
-    /// The command isn't there yet.
-    Storm,
+    /// A port of the configuration can't send a storm's messages.
+    Short,
+    /// A storm used up its turns.
+    Turns,
 }
 
 impl fmt::Display for Failure {
@@ -23,7 +25,8 @@ impl fmt::Display for Failure {
                 write!(f, "configuration refused: {} {fault}", fault.number())
             }
             Failure::Run(fault) => write!(f, "{fault}"),
-            Failure::Storm => write!(f, "storm refused: the command isn't there yet"),
+            Failure::Short => write!(f, "storm refused: a port's max is below 6"),
+            Failure::Turns => write!(f, "turns used up"),
         }
     }
 }

@@ -11,4 +11,4 @@ pub use checking::check;
 pub use failure::Failure;
 pub use reading::{TEXT_LIMIT, read_plan};
 pub use report::write_report;
-pub use status::{DONE, End, FAILED, LINES_REFUSED, REFUSED, status_of};
+pub use status::{DONE, End, FAILED, LINES_REFUSED, REFUSED, USED_UP, status_of};

@@ -18,10 +18,13 @@ pub const LINES_REFUSED: u8 = 3;
 /// Memory, reading or writing failed.
 pub const FAILED: u8 = 4;
 
+/// A storm used up its turns.
+pub const USED_UP: u8 = 5;
+
 /// How the program ends.
 #[derive(Clone, Copy, Debug, PartialEq, Eq)]
 pub enum End {
-    /// Help, or the report of a plan, was written.
+    /// Help, or what a command tells of a configuration, was written.
     Told,
     /// The script was run to its end.
     Ran(Summary),
@@ -51,7 +54,8 @@ fn failure_status(failure: &Failure) -> u8
         Failure::Config(ConfigFault::Memory) => FAILED,
         Failure::Config(_) => REFUSED,
         Failure::Run(fault) => run_status(fault),
-        Failure::Storm => REFUSED,
+        Failure::Short => REFUSED,
+        Failure::Turns => USED_UP,
     }
 }
 

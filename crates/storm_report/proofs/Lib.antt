@@ -1,0 +1,2 @@
+pub mod TotalsLemmas
+pub mod StormLemmas

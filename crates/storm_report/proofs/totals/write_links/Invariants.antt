@@ -1,0 +1,7 @@
+use Rattle.std.specs.Io.KnownBytes.{Appends}
+use Rattle.storm_report.specs.Totals.{link_lines_to}
+use Rattle.storm_report.proofs.totals.write_links.Given as goal
+
+abbrev pub invariant-loop-place : goal.invariant-loop-place
+invariant-loop-place g l =
+    Appends (g.W.Write.contents l.initial.writer) (g.W.Write.contents l.writer) (link_lines_to l.links l.counts l.place)

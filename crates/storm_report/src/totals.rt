@@ -1,0 +1,85 @@
+//! What is told of a storm.
+ghost use Rattle.std.specs.Prelude.{◌≡◌, length, OnOk};
+ghost use Rattle.std.specs.Io.KnownBytes.{Appends};
+ghost use Rattle.storm_report.specs.Totals.{accepted_line, link_line, link_lines_to, networks_line, watcher_line, totals_of};
+
+use afdx_plan::{LinkPlan, VlId};
+use status_board::Counts;
+use std::io::{self, Write};
+use storm::StormReport;
+
+/// Writes what came of a storm over these links, in the order of their plan: how many messages were
+/// accepted, the counts of each link, whether both networks were handed the same, and whether a count
+/// was seen to fall.
+pub fn write_totals<W: Write>(
+    writer: &mut W,
+    links: &[LinkPlan],
+    report: &StormReport,
+) -> io::Result<()>
+    requires { length report.now.links.items ≡ length links.now }
+    ensures { OnOk result (Appends (W.contents writer.old) (W.contents writer.new)
+        (totals_of links.now report.now)) }
+{
+    write_accepted(writer, report.accepted)?;
+    write_links(writer, links, report.links.as_slice())?;
+    write_networks(writer, report.equal)?;
+    write_watcher(writer, report.back)
+}
+
+#[tactic(auto, unfolding(crate::specs::Totals::accepted_line))]
+fn write_accepted<W: Write>(writer: &mut W, accepted: u64) -> io::Result<()>
+    ensures { OnOk result (Appends (W.contents writer.old) (W.contents writer.new)
+        (accepted_line accepted)) }
+{
+    writeln!(writer, "accepted {accepted}")
+}
+
+fn write_links<W: Write>(writer: &mut W, links: &[LinkPlan], counts: &[Counts]) -> io::Result<()>
+    requires { length counts.now ≡ length links.now }
+    ensures { OnOk result (Appends (W.contents writer.old) (W.contents writer.new)
+        (link_lines_to links.now counts.now (length links.now))) }
+{
+    for place in 0..links.len() {
+        write_link(writer, links[place].id, &counts[place])?;
+    }
+    Ok(())
+}
+
+#[tactic(auto, unfolding(crate::specs::Totals::link_line))]
+fn write_link<W: Write>(writer: &mut W, id: VlId, counts: &Counts) -> io::Result<()>
+    ensures { OnOk result (Appends (W.contents writer.old) (W.contents writer.new)
+        (link_line id.0 counts.now)) }
+{
+    let link = id.0;
+    let frames = counts.frames;
+    let bytes = counts.bytes;
+    let messages = counts.messages;
+    writeln!(
+        writer,
+        "link {link}: frames {frames}, bytes {bytes}, messages {messages}"
+    )
+}
+
+#[tactic(auto, unfolding(crate::specs::Totals::networks_line))]
+fn write_networks<W: Write>(writer: &mut W, equal: bool) -> io::Result<()>
+    ensures { OnOk result (Appends (W.contents writer.old) (W.contents writer.new)
+        (networks_line equal)) }
+{
+    if equal {
+        writer.write_all(b"networks equal\n")
+    } else {
+        writer.write_all(b"networks differ\n")
+    }
+}
+
+#[tactic(auto, unfolding(crate::specs::Totals::watcher_line))]
+fn write_watcher<W: Write>(writer: &mut W, back: bool) -> io::Result<()>
+    ensures { OnOk result (Appends (W.contents writer.old) (W.contents writer.new)
+        (watcher_line back)) }
+{
+    if back {
+        writer.write_all(b"watcher back\n")
+    } else {
+        writer.write_all(b"watcher never back\n")
+    }
+}
