@@ -5,33 +5,46 @@ ghost use Rattle.afdx_tests.specs.Closing.{HasAccepted};
 
 use crate::headline_tests::{Drain, Tx, poll_meanwhile};
 use crate::testing::{
-    BOTH, assert_closed, assert_handed, assert_poll, assert_refused, numbered, open_demo,
-    send_taken,
+    assert_closed, assert_handed, assert_none, assert_one, assert_refused, numbered,
+    open_demo_standing, send_taken,
 };
 use afdx_plan::VlId;
 use afdx_tx::{NoSuchSub, Refusal, TxPort};
-use redundant_mux::MemNetwork;
 use std::alloc::Global;
 use std::process::Abort;
 use std::test::Fail;
+
+// Sends two messages, for which there is room.
+fn send_two<R: Abort>(rt: &R, alloc: Global, port: &mut TxPort) {
+    send_taken(rt, alloc, port, &[1]);
+    send_taken(rt, alloc, port, &[2]);
+}
+
+// Closes the sub-VL twice, after two messages, which fill it. What comes then is refused as closed.
+fn close_twice<R: Abort>(rt: &R, alloc: Global, tx: &mut Tx, port: &mut TxPort) {
+    assert_refused(rt, alloc, port, &[3], Refusal::Full);
+    assert_closed(rt, tx, 1, 0, Ok(2));
+    assert_refused(rt, alloc, port, &[3], Refusal::Closed);
+    assert_closed(rt, tx, 1, 0, Ok(2));
+}
+
+// The two messages of the closed sub-VL go out, and what comes meanwhile is refused.
+fn send_what_was_accepted<R: Abort>(rt: &R, alloc: Global, tx: &mut Tx, port: &mut TxPort) {
+    assert_one(rt, tx, 0, numbered(0));
+    assert_refused(rt, alloc, port, &[3], Refusal::Closed);
+    assert_one(rt, tx, 1_000, numbered(1));
+    assert_none(rt, tx, 2_000);
+}
 
 #[test]
 fn a_closed_sub_vl_refuses_what_comes_and_sends_what_it_accepted(
     rt: HostRuntime,
 ) -> Result<(), Fail> {
     let alloc = rt.alloc();
-    let (mut tx, mut port) = open_demo(alloc, MemNetwork::new(alloc), MemNetwork::new(alloc))?;
-    send_taken(&rt, alloc, &mut port, &[1]);
-    send_taken(&rt, alloc, &mut port, &[2]);
-    // there is no room either
-    assert_refused(&rt, alloc, &mut port, &[3], Refusal::Full);
-    assert_closed(&rt, &mut tx, 1, 0, Ok(2));
-    assert_refused(&rt, alloc, &mut port, &[3], Refusal::Closed);
-    assert_closed(&rt, &mut tx, 1, 0, Ok(2));
-    assert_poll(&rt, &mut tx, 0, &[numbered(0)], BOTH);
-    assert_refused(&rt, alloc, &mut port, &[3], Refusal::Closed);
-    assert_poll(&rt, &mut tx, 1_000, &[numbered(1)], BOTH);
-    assert_poll(&rt, &mut tx, 2_000, &[], BOTH);
+    let (mut tx, mut port) = open_demo_standing(alloc)?;
+    send_two(&rt, alloc, &mut port);
+    close_twice(&rt, alloc, &mut tx, &mut port);
+    send_what_was_accepted(&rt, alloc, &mut tx, &mut port);
     assert_closed(&rt, &mut tx, 1, 0, Ok(2));
     assert_eq!(rt; port.accepted(), 2);
     let (a, b) = tx.into_networks();
@@ -43,27 +56,30 @@ fn a_closed_sub_vl_refuses_what_comes_and_sends_what_it_accepted(
 #[test]
 fn a_sub_vl_that_is_closed_first_accepts_none(rt: HostRuntime) -> Result<(), Fail> {
     let alloc = rt.alloc();
-    let (mut tx, mut port) = open_demo(alloc, MemNetwork::new(alloc), MemNetwork::new(alloc))?;
+    let (mut tx, mut port) = open_demo_standing(alloc)?;
     assert_closed(&rt, &mut tx, 1, 0, Ok(0));
     assert_refused(&rt, alloc, &mut port, &[1], Refusal::Closed);
-    assert_poll(&rt, &mut tx, 0, &[], BOTH);
+    assert_none(&rt, &mut tx, 0);
     Ok(())
+}
+
+// No sub-VL is closed where its link is not there, or its index is not, or neither is.
+fn assert_not_closed<R: Abort>(rt: &R, tx: &mut Tx) {
+    for (link, sub) in [(2, 1), (2, 0), (1, 1), (1, 255)] {
+        assert_closed(rt, tx, link, sub, Err(NoSuchSub));
+    }
 }
 
 #[test]
 fn a_sub_vl_that_is_not_there_is_not_closed(rt: HostRuntime) -> Result<(), Fail> {
     let alloc = rt.alloc();
-    let (mut tx, mut port) = open_demo(alloc, MemNetwork::new(alloc), MemNetwork::new(alloc))?;
+    let (mut tx, mut port) = open_demo_standing(alloc)?;
     send_taken(&rt, alloc, &mut port, &[1]);
-    assert_poll(&rt, &mut tx, 1_000, &[numbered(0)], BOTH);
-    // neither its link nor its index is there, or the index is not
-    assert_closed(&rt, &mut tx, 2, 1, Err(NoSuchSub));
-    assert_closed(&rt, &mut tx, 2, 0, Err(NoSuchSub));
-    assert_closed(&rt, &mut tx, 1, 1, Err(NoSuchSub));
-    assert_closed(&rt, &mut tx, 1, 255, Err(NoSuchSub));
+    assert_one(&rt, &mut tx, 1_000, numbered(0));
+    assert_not_closed(&rt, &mut tx);
     assert_eq!(rt; tx.now(), 1_000);
     send_taken(&rt, alloc, &mut port, &[2]);
-    assert_poll(&rt, &mut tx, 2_000, &[numbered(1)], BOTH);
+    assert_one(&rt, &mut tx, 2_000, numbered(1));
     Ok(())
 }
 
@@ -92,7 +108,7 @@ fn close_poll_and_gather<R: Abort>(
 #[test]
 fn what_a_close_told_is_what_is_known_in_the_end(rt: HostRuntime) -> Result<(), Fail> {
     let alloc = rt.alloc();
-    let (tx, mut port) = open_demo(alloc, MemNetwork::new(alloc), MemNetwork::new(alloc))?;
+    let (tx, mut port) = open_demo_standing(alloc)?;
     send_taken(&rt, alloc, &mut port, &[1]);
     send_taken(&rt, alloc, &mut port, &[2]);
     let (total, draining) = close_poll_and_gather(&rt, alloc, tx, port)?;

@@ -2,7 +2,8 @@
 ghost use Rattle.std.specs.Prelude.{◌≡◌, []};
 
 use crate::testing::{
-    BOTH, NEITHER, assert_both_down, assert_drained, assert_handed, numbered, open_demo, send_taken,
+    BOTH, NEITHER, assert_both_down, assert_drained, assert_handed, assert_left, drain_at,
+    numbered, open_demo, send_taken,
 };
 use afdx_tx::Draining;
 use redundant_mux::MemNetwork;
@@ -61,10 +62,8 @@ fn a_lost_frame_is_never_done(rt: HostRuntime) -> Result<(), Fail> {
     let mut draining = gather_two(&rt, alloc, a, b)?;
     assert_drained(&rt, &mut draining, 0, &[numbered(0)], BOTH, false);
     assert_drained(&rt, &mut draining, 1_000, &[], NEITHER, false);
-    assert!(rt; draining.now() <= 2_000);
-    let third = draining.poll(2_000);
+    let third = drain_at(&rt, &mut draining, 2_000);
     assert_both_down(&rt, third);
-    assert_eq!(rt; draining.is_done(), false);
-    assert_eq!(rt; draining.now(), 1_000);
+    assert_left(&rt, &draining, 1_000, false);
     Ok(())
 }

@@ -1,7 +1,9 @@
 //! Tests of a port that is in its pause while others send.
 ghost use Rattle.std.specs.Prelude.{IfOk};
 
-use crate::testing::{BOTH, assert_closed, assert_poll, assert_refused, open, send_taken};
+use crate::testing::{
+    TWO_SUB_VLS, assert_closed, assert_none, assert_one, assert_refused, open_standing, send_taken,
+};
 use afdx_config::read_config;
 use afdx_plan::VlId;
 use afdx_tx::{Emitter, Refusal, Release, TxPort};
@@ -10,41 +12,8 @@ use std::alloc::{AllocError, Global};
 use std::process::Abort;
 use std::test::Fail;
 use std::thread;
-use std::thread::Threads;
+use std::thread::{JoinHandle, Threads};
 use subvl_queue::{Receiver, Sender, make};
-
-// End system 1 with one link of two sub-VLs, each with room for two messages. Port 20 is on sub-VL 0,
-// and port 21 on sub-VL 1.
-const TWO_SUB_VLS: &str = "[end_system]
-id = 1
-
-[[vl]]
-id = 1
-bag_ms = 1
-lmax = 64
-sub_vls = 2
-capacity = 2
-
-[[port]]
-id = 20
-vl = 1
-sub = 0
-partition = 1
-kind = \"queuing\"
-source = 1000
-destination = 2000
-max = 8192
-
-[[port]]
-id = 21
-vl = 1
-sub = 1
-partition = 1
-kind = \"queuing\"
-source = 1001
-destination = 2000
-max = 8192
-";
 
 // How often a thread looks for what another sends.
 const TURNS: u64 = 100_000_000;
@@ -53,9 +22,7 @@ type Tx = Emitter<MemNetwork, MemNetwork>;
 
 // The emitter of that plan, and its ports on sub-VL 0 and sub-VL 1.
 fn open_apart(alloc: Global) -> Result<(Tx, TxPort, TxPort), Fail> {
-    let config = read_config(alloc, TWO_SUB_VLS.as_bytes())?;
-    let (a, b) = (MemNetwork::new(alloc), MemNetwork::new(alloc));
-    let (tx, mut ports) = open(alloc, config, a, b)?;
+    let (tx, mut ports) = open_standing(alloc, read_config(alloc, TWO_SUB_VLS.as_bytes())?)?;
     match (ports.pop(), ports.pop()) {
         (Some(second), Some(first)) => Ok((tx, first, second)),
         _ => Err(Fail::from("two ports")),
@@ -82,7 +49,7 @@ fn send_around<R: Abort>(
     let bytes = vec![in alloc; 1u8]?;
     let sent = first.send_with(bytes, || {
         send_taken(rt, alloc, second, &[2]);
-        assert_poll(rt, tx, 0, &[release(1, 0)], BOTH);
+        assert_one(rt, tx, 0, release(1, 0));
     });
     assert!(rt; sent.is_ok());
     Ok(())
@@ -93,36 +60,40 @@ fn another_sub_vl_releases_in_the_pause_of_a_port(rt: HostRuntime) -> Result<(),
     let alloc = rt.alloc();
     let (mut tx, mut first, mut second) = open_apart(alloc)?;
     send_around(&rt, alloc, &mut tx, &mut first, &mut second)?;
-    assert_poll(&rt, &mut tx, 1_000, &[release(0, 1)], BOTH);
+    assert_one(&rt, &mut tx, 1_000, release(0, 1));
     Ok(())
 }
 
-// A port sends, and in its pause its sub-VL is closed. What the close told.
+// A port sends, and in its pause its sub-VL is closed. The close counts the message.
 fn close_in_the_pause<R: Abort>(
     rt: &R,
     alloc: Global,
     tx: &mut Tx,
     port: &mut TxPort,
-) -> Result<Option<u64>, AllocError> {
+) -> Result<(), AllocError> {
     let bytes = vec![in alloc; 1u8]?;
     let mut told = None;
     let sent = port.send_with(bytes, || told = tx.close(VlId(1), 0).ok());
     assert!(rt; sent.is_ok());
-    Ok(told)
+    assert_eq!(rt; told, Some(1));
+    Ok(())
+}
+
+// The message of the closed sub-VL goes out, and one of the other sub-VL, which is open.
+fn send_both<R: Abort>(rt: &R, alloc: Global, tx: &mut Tx, second: &mut TxPort) {
+    send_taken(rt, alloc, second, &[2]);
+    assert_one(rt, tx, 0, release(0, 0));
+    assert_one(rt, tx, 1_000, release(1, 1));
 }
 
 #[test]
 fn a_close_in_the_pause_of_a_port_counts_its_message(rt: HostRuntime) -> Result<(), Fail> {
     let alloc = rt.alloc();
     let (mut tx, mut first, mut second) = open_apart(alloc)?;
-    let told = close_in_the_pause(&rt, alloc, &mut tx, &mut first)?;
-    assert_eq!(rt; told, Some(1));
+    close_in_the_pause(&rt, alloc, &mut tx, &mut first)?;
     assert_refused(&rt, alloc, &mut first, &[3], Refusal::Closed);
     assert_closed(&rt, &mut tx, 1, 0, Ok(1));
-    // the other sub-VL is open
-    send_taken(&rt, alloc, &mut second, &[2]);
-    assert_poll(&rt, &mut tx, 0, &[release(0, 0)], BOTH);
-    assert_poll(&rt, &mut tx, 1_000, &[release(1, 1)], BOTH);
+    send_both(&rt, alloc, &mut tx, &mut second);
     assert_closed(&rt, &mut tx, 1, 1, Ok(1));
     Ok(())
 }
@@ -168,20 +139,35 @@ fn send_held(alloc: Global, mut port: TxPort, mut here: Sender, mut go: Receiver
     }
 }
 
+// A port that is held in its pause, in a thread of its own, and what lets it go on.
+fn hold<R: Threads + Abort>(
+    rt: &R,
+    alloc: Global,
+    port: TxPort,
+) -> Result<(JoinHandle<bool>, Sender), Fail> {
+    let (mut here, says_here) = word(alloc)?;
+    let (go, says_go) = word(alloc)?;
+    let worker = thread::spawn(rt, move || send_held(alloc, port, says_here, go))?;
+    assert!(rt; hear(&mut here));
+    Ok((worker, says_go))
+}
+
+// The second sub-VL releases what its port sends, and the first, whose port is held, does not.
+fn release_second<R: Abort>(rt: &R, alloc: Global, tx: &mut Tx, second: &mut TxPort) {
+    send_taken(rt, alloc, second, &[2]);
+    assert_one(rt, tx, 0, release(1, 0));
+    assert_none(rt, tx, 1_000);
+}
+
 // While the port of one sub-VL is held in its pause, in a thread of its own, the other sub-VL releases,
 // and the first does not. Then the first releases.
 fn hold_one_of_two<R: Threads + Abort>(rt: &R, alloc: Global) -> Result<(), Fail> {
     let (mut tx, first, mut second) = open_apart(alloc)?;
-    let (mut here, says_here) = word(alloc)?;
-    let (go, mut says_go) = word(alloc)?;
-    let worker = thread::spawn(rt, move || send_held(alloc, first, says_here, go))?;
-    assert!(rt; hear(&mut here));
-    send_taken(rt, alloc, &mut second, &[2]);
-    assert_poll(rt, &mut tx, 0, &[release(1, 0)], BOTH);
-    assert_poll(rt, &mut tx, 1_000, &[], BOTH);
+    let (worker, mut says_go) = hold(rt, alloc, first)?;
+    release_second(rt, alloc, &mut tx, &mut second);
     assert!(rt; say(alloc, &mut says_go));
     assert!(rt; worker.join(rt));
-    assert_poll(rt, &mut tx, 1_000, &[release(0, 1)], BOTH);
+    assert_one(rt, &mut tx, 1_000, release(0, 1));
     Ok(())
 }
 

@@ -3,7 +3,8 @@ ghost use Rattle.std.specs.Prelude.{◌≡◌, IfOk};
 ghost use Rattle.afdx_tx.specs.Ports.{IsPortOfTx, AreOpenedWith};
 
 use crate::testing::{
-    BOTH, assert_drained, assert_poll, assert_refused, numbered, open, send_taken,
+    BOTH, assert_drained, assert_left, assert_poll, assert_refused, numbered, open_standing,
+    send_taken,
 };
 use afdx_config::read_config;
 use afdx_plan::PortId;
@@ -66,11 +67,18 @@ fn open_pair(alloc: Global) -> Result<(Tx, TxPort, TxPort), Fail>
     ensures first { IfOk result (λ opened. IsPortOfTx opened.0 opened.1) }
     ensures second { IfOk result (λ opened. IsPortOfTx opened.0 opened.2) }
 {
-    let config = read_config(alloc, TWO_PORTS.as_bytes())?;
-    let (a, b) = (MemNetwork::new(alloc), MemNetwork::new(alloc));
-    let (tx, ports) = open(alloc, config, a, b)?;
+    let (tx, ports) = open_standing(alloc, read_config(alloc, TWO_PORTS.as_bytes())?)?;
     let (first, second) = take_two(&tx, ports)?;
     Ok((tx, first, second))
+}
+
+/// Both ports send as much as they may, which fills the queue. What is less or more is refused.
+fn fill<R: Abort>(rt: &R, alloc: Global, first: &mut TxPort, second: &mut TxPort) {
+    assert_refused(rt, alloc, first, &[0; 0], Refusal::Empty);
+    assert_refused(rt, alloc, second, &[7; 5], Refusal::TooLong);
+    send_taken(rt, alloc, second, &[7; 4]);
+    send_taken(rt, alloc, first, &[8; 100]);
+    assert_refused(rt, alloc, first, &[9], Refusal::Full);
 }
 
 #[test]
@@ -79,11 +87,7 @@ fn a_message_that_is_refused_comes_back(rt: HostRuntime) -> Result<(), Fail> {
     let (tx, mut first, mut second) = open_pair(alloc)?;
     assert_eq!(rt; first.id(), PortId(10));
     assert_eq!(rt; second.id(), PortId(20));
-    assert_refused(&rt, alloc, &mut first, &[0; 0], Refusal::Empty);
-    assert_refused(&rt, alloc, &mut second, &[7; 5], Refusal::TooLong);
-    send_taken(&rt, alloc, &mut second, &[7; 4]);
-    send_taken(&rt, alloc, &mut first, &[8; 100]);
-    assert_refused(&rt, alloc, &mut first, &[9], Refusal::Full);
+    fill(&rt, alloc, &mut first, &mut second);
     assert_eq!(rt; first.accepted(), 1);
     assert_eq!(rt; second.accepted(), 1);
     // the queue is there as long as one of its ends is, and stays full
@@ -139,8 +143,7 @@ fn send_poll_and_gather<R: Abort>(rt: &R, alloc: Global) -> Result<Drain, Fail> 
 #[test]
 fn what_was_accepted_goes_out_after_the_ports_are_gathered(rt: HostRuntime) -> Result<(), Fail> {
     let mut draining = send_poll_and_gather(&rt, rt.alloc())?;
-    assert_eq!(rt; draining.is_done(), false);
-    assert_eq!(rt; draining.now(), 0);
+    assert_left(&rt, &draining, 0, false);
     assert_drained(&rt, &mut draining, 1_000, &[numbered(1)], BOTH, true);
     Ok(())
 }

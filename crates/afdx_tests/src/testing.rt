@@ -6,13 +6,46 @@ ghost use Rattle.afdx_tx.specs.Ports.{PortView, IsPortOfTx, AreOpenedWith};
 use afdx_plan::{Config, VlId, demo_config};
 use afdx_tx::{Draining, Emitter, NoSuchSub, PollFault, Refusal, Release, Report, TxPort, open_tx};
 use redundant_mux::{Handed, MemNetwork, Network, Standing};
-use std::alloc::{AllocError, Global};
+use std::alloc::Global;
 use std::process::Abort;
 use std::test::Fail;
 
 pub(crate) const BOTH: Standing = Standing { a: true, b: true };
 
 pub(crate) const NEITHER: Standing = Standing { a: false, b: false };
+
+/// End system 1 with one link of two sub-VLs, each with room for two messages. Port 20 is on sub-VL 0,
+/// and port 21 on sub-VL 1. A piece has at most 25 bytes.
+pub(crate) const TWO_SUB_VLS: &str = "[end_system]
+id = 1
+
+[[vl]]
+id = 1
+bag_ms = 1
+lmax = 64
+sub_vls = 2
+capacity = 2
+
+[[port]]
+id = 20
+vl = 1
+sub = 0
+partition = 1
+kind = \"queuing\"
+source = 1000
+destination = 2000
+max = 8192
+
+[[port]]
+id = 21
+vl = 1
+sub = 1
+partition = 1
+kind = \"queuing\"
+source = 1001
+destination = 2000
+max = 8192
+";
 
 /// An emitter of a configuration over two networks that were handed nothing, and its ports.
 pub(crate) fn open<A: Network + Drop, B: Network + Drop>(
@@ -25,10 +58,29 @@ pub(crate) fn open<A: Network + Drop, B: Network + Drop>(
     requires b_empty { B.handed b ≡ [] }
     requires a_new { A.failures a ≡ 0 }
     requires b_new { B.failures b ≡ 0 }
-    ensures { IfOk result (λ opened. AreOpenedWith opened.0 opened.1.items) }
+    ensures plan { IfOk result (λ opened. opened.0.plan ≡ config) }
+    ensures ports { IfOk result (λ opened. AreOpenedWith opened.0 opened.1.items) }
 {
-    let (tx, ports, _monitor) = open_tx(alloc, config, a, b).ok().ok_or(AllocError)?;
-    Ok((tx, ports))
+    match open_tx(alloc, config, a, b) {
+        Ok((tx, ports, _monitor)) => Ok((tx, ports)),
+        Err(_) => Err(Fail::from("no memory")),
+    }
+}
+
+/// The same over two networks that don't fail.
+pub(crate) fn open_standing(
+    alloc: Global,
+    config: Config,
+) -> Result<(Emitter<MemNetwork, MemNetwork>, Vec<TxPort>), Fail>
+    ensures plan { IfOk result (λ opened. opened.0.plan ≡ config) }
+    ensures ports { IfOk result (λ opened. AreOpenedWith opened.0 opened.1.items) }
+{
+    open(
+        alloc,
+        config,
+        MemNetwork::new(alloc),
+        MemNetwork::new(alloc),
+    )
 }
 
 /// The same of a configuration with one port.
@@ -66,6 +118,15 @@ pub(crate) fn open_demo(
     open_one(alloc, demo_config(alloc)?, a, b)
 }
 
+/// The same over two networks that don't fail.
+pub(crate) fn open_demo_standing(
+    alloc: Global,
+) -> Result<(Emitter<MemNetwork, MemNetwork>, TxPort), Fail>
+    ensures { IfOk result (λ opened. IsPortOfTx opened.0 opened.1) }
+{
+    open_demo(alloc, MemNetwork::new(alloc), MemNetwork::new(alloc))
+}
+
 /// Sends a message, which is taken. The port stays one of its emitter.
 pub(crate) fn send_taken<R: Abort>(rt: &R, alloc: Global, port: &mut TxPort, bytes: &[u8])
     ensures { (tx : Tx) → IsPortOfTx tx port.old → IsPortOfTx tx port.new }
@@ -94,16 +155,14 @@ pub(crate) fn assert_refused<R: Abort>(
     }
 }
 
-/// Closes a sub-VL, and asserts the answer. A port of the emitter stays its own.
+/// Closes a sub-VL, and asserts the answer.
 pub(crate) fn assert_closed<R: Abort, A: Network + Drop, B: Network + Drop>(
     rt: &R,
     tx: &mut Emitter<A, B>,
     vl: u16,
     sub: u8,
     answer: Result<u64, NoSuchSub>,
-)
-    ensures { (port : PortView) → IsPortOfTx tx.old port → IsPortOfTx tx.new port }
-{
+) {
     assert_eq!(rt; tx.close(VlId(vl), sub), answer);
 }
 
@@ -135,6 +194,21 @@ pub(crate) fn assert_poll<R: Abort, A: Network + Drop, B: Network + Drop>(
     assert_report(rt, answer, released, standing);
 }
 
+/// Polls while both networks stand, and asserts that this frame alone was released.
+pub(crate) fn assert_one<R: Abort>(
+    rt: &R,
+    tx: &mut Emitter<MemNetwork, MemNetwork>,
+    now: u64,
+    release: Release,
+) {
+    assert_poll(rt, tx, now, &[release], BOTH);
+}
+
+/// Polls while both networks stand, and asserts that nothing was released.
+pub(crate) fn assert_none<R: Abort>(rt: &R, tx: &mut Emitter<MemNetwork, MemNetwork>, now: u64) {
+    assert_poll(rt, tx, now, &[], BOTH);
+}
+
 /// Polls for what is left while some network stands, and asserts the same, and whether
 /// all was sent.
 pub(crate) fn assert_drained<R: Abort>(
@@ -145,9 +219,29 @@ pub(crate) fn assert_drained<R: Abort>(
     standing: Standing,
     is_done: bool,
 ) {
-    assert!(rt; draining.now() <= now);
-    let answer = draining.poll(now);
+    let answer = drain_at(rt, draining, now);
     assert_report(rt, answer, released, standing);
+    assert_eq!(rt; draining.is_done(), is_done);
+}
+
+/// Polls for what is left, at a moment that isn't before the last one.
+pub(crate) fn drain_at<R: Abort>(
+    rt: &R,
+    draining: &mut Draining<MemNetwork, MemNetwork>,
+    now: u64,
+) -> Result<Report, PollFault> {
+    assert!(rt; draining.now() <= now);
+    draining.poll(now)
+}
+
+/// Asserts the moment of the last poll for what is left, and whether all was sent.
+pub(crate) fn assert_left(
+    rt: &impl Abort,
+    draining: &Draining<MemNetwork, MemNetwork>,
+    now: u64,
+    is_done: bool,
+) {
+    assert_eq!(rt; draining.now(), now);
     assert_eq!(rt; draining.is_done(), is_done);
 }
 

@@ -1,7 +1,7 @@
 //! Tests of the demonstration configuration.
 use crate::testing::{
-    BOTH, NEITHER, assert_both_down, assert_handed, assert_poll, numbered, open_demo, poll_at,
-    send_taken,
+    BOTH, NEITHER, assert_both_down, assert_handed, assert_none, assert_one, assert_poll, numbered,
+    open_demo, open_demo_standing, poll_at, send_taken,
 };
 use redundant_mux::{MemNetwork, Standing};
 use std::process::Abort;
@@ -37,9 +37,9 @@ fn a_message_of_one_byte_goes_out_as_one_frame_on_each_network(
     rt: HostRuntime,
 ) -> Result<(), Fail> {
     let alloc = rt.alloc();
-    let (mut tx, mut port) = open_demo(alloc, MemNetwork::new(alloc), MemNetwork::new(alloc))?;
+    let (mut tx, mut port) = open_demo_standing(alloc)?;
     send_taken(&rt, alloc, &mut port, &[1]);
-    assert_poll(&rt, &mut tx, 0, &[numbered(0)], BOTH);
+    assert_one(&rt, &mut tx, 0, numbered(0));
     let (a, b) = tx.into_networks();
     assert_first(&rt, &a, &FOR_A);
     assert_first(&rt, &b, &FOR_B);
@@ -49,12 +49,12 @@ fn a_message_of_one_byte_goes_out_as_one_frame_on_each_network(
 #[test]
 fn a_link_releases_nothing_before_its_gap_is_over(rt: HostRuntime) -> Result<(), Fail> {
     let alloc = rt.alloc();
-    let (mut tx, mut port) = open_demo(alloc, MemNetwork::new(alloc), MemNetwork::new(alloc))?;
+    let (mut tx, mut port) = open_demo_standing(alloc)?;
     send_taken(&rt, alloc, &mut port, &[1]);
     send_taken(&rt, alloc, &mut port, &[2]);
-    assert_poll(&rt, &mut tx, 0, &[numbered(0)], BOTH);
-    assert_poll(&rt, &mut tx, 999, &[], BOTH);
-    assert_poll(&rt, &mut tx, 1_000, &[numbered(1)], BOTH);
+    assert_one(&rt, &mut tx, 0, numbered(0));
+    assert_none(&rt, &mut tx, 999);
+    assert_one(&rt, &mut tx, 1_000, numbered(1));
     Ok(())
 }
 

@@ -62,7 +62,7 @@ fn plan(alloc: Global, capacity: usize) -> Result<Config, Fail> {
 }
 
 // The emitter of that plan over two networks that were handed nothing, its ports and its monitor.
-pub(crate) fn open_plan(
+fn open_plan(
     alloc: Global,
     capacity: usize,
 ) -> Result<(Emitter<MemNetwork, MemNetwork>, Vec<TxPort>, Monitor), Fail>
@@ -116,7 +116,7 @@ fn send_all(alloc: Global, mut port: TxPort, messages: u8) -> Option<TxPort>
 }
 
 // Each port sends in a thread of its own.
-pub(crate) fn start_all<R: Threads + Copy + Send + 'static>(
+fn start_all<R: Threads + Copy + Send + 'static>(
     rt: R,
     alloc: Global,
     ports: Vec<TxPort>,
@@ -133,6 +133,22 @@ pub(crate) fn start_all<R: Threads + Copy + Send + 'static>(
         workers.push(worker)?;
     }
     Ok(workers)
+}
+
+// An emitter, the threads from which its ports send, and its monitor.
+pub(crate) fn open_and_start<R: Threads + Copy + Send + 'static>(
+    rt: R,
+    alloc: Global,
+    capacity: usize,
+    messages: u8,
+) -> Result<(Emitter<MemNetwork, MemNetwork>, Vec<Worker>, Monitor), Fail>
+    ensures opened { IfOk result (λ started.
+        AreOpenedWith started.0 (map (λ h. h.promise.of.value) started.1.items)) }
+    ensures monitor { IfOk result (λ started. 0 < links_of started.2) }
+{
+    let (tx, ports, monitor) = open_plan(alloc, capacity)?;
+    let workers = start_all(rt, alloc, ports, messages)?;
+    Ok((tx, workers, monitor))
 }
 
 // The ports, if all came back.
@@ -195,31 +211,59 @@ pub(crate) fn drain<R: Abort>(
 }
 
 // The number of the frame at a place of a link's stream: 0, 1 to 255, 1 and so on.
-pub(crate) fn number_at(place: usize) -> usize {
+fn number_at(place: usize) -> usize {
     match place.checked_sub(1) {
         Some(before) => before % 255 + 1,
         None => 0,
     }
 }
 
-// Each port's messages were handed over whole, in its order, and each frame has the number of its
-// place. A frame's partition names its port.
-fn check_frames(rt: &impl Abort, network: &MemNetwork, messages: u8) {
-    let handed = network.handed();
-    assert_eq!(rt; handed.len(), usize::from(PORTS) * usize::from(messages));
-    let mut next = [0u8; 4];
-    for (place, entry) in handed.iter().enumerate() {
-        let frame = entry.frame.as_slice();
-        assert_eq!(rt; frame.len(), 60);
-        let port = frame[29];
-        assert!(rt; 1 <= port && port <= PORTS);
-        let number = next[usize::from(port - 1)];
-        assert!(rt; number < messages);
-        assert_eq!(rt; &frame[42..44], [port, number].as_slice());
-        assert_eq!(rt; usize::from(frame[59]), number_at(place));
-        next[usize::from(port - 1)] = number + 1;
+// A frame has the number of its place, and the next message of its port, whose number is below
+// `messages`. The frame's partition names the port.
+fn check_frame(
+    rt: &impl Abort,
+    frame: &[u8],
+    place: usize,
+    next: &mut [u8; PORTS as usize],
+    messages: u8,
+) {
+    assert_eq!(rt; frame.len(), 60);
+    assert_eq!(rt;
+        frame.get(59).copied().map(usize::from),
+        Some(number_at(place))
+    );
+    let port = frame.get(29).copied().expect(rt, "a partition");
+    assert!(rt; 1 <= port);
+    let number = next
+        .get_mut(usize::from(port.saturating_sub(1)))
+        .expect(rt, "a port's partition");
+    assert!(rt; *number < messages);
+    assert_eq!(rt; frame.get(42..44), Some([port, *number].as_slice()));
+    *number = number.saturating_add(1);
+}
+
+// Each port's messages were handed over in its order, with numbers below `messages`, and each frame has
+// the number of its place. How many messages of each port were handed over.
+pub(crate) fn check_frames(
+    rt: &impl Abort,
+    network: &MemNetwork,
+    messages: u8,
+) -> [u8; PORTS as usize] {
+    let mut next = [0u8; PORTS as usize];
+    for (place, entry) in network.handed().iter().enumerate() {
+        check_frame(rt, entry.frame.as_slice(), place, &mut next, messages);
     }
-    assert_eq!(rt; next, [messages; 4]);
+    next
+}
+
+// Each port's messages were all handed over, and no more.
+fn check_whole(rt: &impl Abort, network: &MemNetwork, messages: u8) {
+    let many = usize::from(PORTS) * usize::from(messages);
+    assert_eq!(rt; network.handed().len(), many);
+    assert_eq!(rt;
+        check_frames(rt, network, messages),
+        [messages; PORTS as usize]
+    );
 }
 
 // Each port sends so many messages from a thread of its own, while the emitter is polled. All ports
@@ -232,8 +276,7 @@ fn gather_from_threads<R: Threads + Abort + Copy + Send + 'static>(
 ) -> Result<(Draining<MemNetwork, MemNetwork>, Monitor), Fail>
     ensures { IfOk result (λ gathered. 0 < links_of gathered.1) }
 {
-    let (mut tx, ports, monitor) = open_plan(alloc, capacity)?;
-    let workers = start_all(rt, alloc, ports, messages)?;
+    let (mut tx, workers, monitor) = open_and_start(rt, alloc, capacity, messages)?;
     // What is left then has room in any one queue, so each port can send its last message.
     let count = usize::from(PORTS) * usize::from(messages);
     poll_some(&rt, &mut tx, count.saturating_sub(capacity));
@@ -282,8 +325,8 @@ fn send_from_threads<R: Threads + Abort + Wait + Copy + Send + 'static>(
     draining.publish(&rt);
     check_counts(&rt, &mut monitor, messages);
     let (a, b) = draining.into_networks();
-    check_frames(&rt, &a, messages);
-    check_frames(&rt, &b, messages);
+    check_whole(&rt, &a, messages);
+    check_whole(&rt, &b, messages);
     Ok(())
 }
 

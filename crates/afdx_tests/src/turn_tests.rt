@@ -3,10 +3,11 @@
 ghost use Rattle.std.specs.Prelude.{◌≡◌, IfOk};
 ghost use Rattle.afdx_legal.specs.Turns.{TakeTurns};
 
+use crate::testing::{TWO_SUB_VLS, open_standing, send_taken};
 use afdx_config::read_config;
 use afdx_frame::{ident_of, sn_of, sub_of};
 use afdx_plan::Config;
-use afdx_tx::{Emitter, TxPort, open_tx};
+use afdx_tx::{Emitter, TxPort};
 use redundant_mux::{Handed, MemNetwork};
 use std::alloc::Global;
 use std::process::Abort;
@@ -17,35 +18,7 @@ const GAP: u64 = 1_000;
 
 type Tx = Emitter<MemNetwork, MemNetwork>;
 
-// A link of two sub-VLs with a port on each, and one of four. A piece has at most 25 bytes.
-const TWO: &str = "[end_system]
-id = 1
-[[vl]]
-id = 1
-bag_ms = 1
-lmax = 64
-sub_vls = 2
-capacity = 2
-[[port]]
-id = 20
-vl = 1
-sub = 0
-partition = 1
-kind = \"queuing\"
-source = 1000
-destination = 2000
-max = 8192
-[[port]]
-id = 21
-vl = 1
-sub = 1
-partition = 1
-kind = \"queuing\"
-source = 1001
-destination = 2000
-max = 8192
-";
-
+// A link of four sub-VLs with a port on each. A piece has at most 25 bytes.
 const FOUR: &str = "[end_system]
 id = 1
 [[vl]]
@@ -92,35 +65,14 @@ destination = 2000
 max = 8192
 ";
 
-// Opened over two networks.
-fn open_over(alloc: Global, config: Config) -> Result<(Tx, Vec<TxPort>), Fail>
-    ensures { IfOk result (λ opened. opened.0.plan ≡ config) }
-{
-    match open_tx(
-        alloc,
-        config,
-        MemNetwork::new(alloc),
-        MemNetwork::new(alloc),
-    ) {
-        Ok((tx, ports, _monitor)) => Ok((tx, ports)),
-        Err(_) => Err(Fail::from("out of memory")),
-    }
-}
-
-// Sends one message.
-fn send_bytes<R: Abort>(rt: &R, alloc: Global, port: &mut TxPort, bytes: &[u8]) {
-    let message = bytes.to_vec(alloc).expect(rt, "memory");
-    port.send(message).expect(rt, "taken");
-}
-
 // The first port sends 60 bytes, which are three pieces, and each other two messages of one byte.
 fn send_all<R: Abort>(rt: &R, alloc: Global, ports: &mut [TxPort]) {
     for (place, port) in ports.iter_mut().enumerate() {
         if place == 0 {
-            send_bytes(rt, alloc, port, &[0xaa; 60]);
+            send_taken(rt, alloc, port, &[0xaa; 60]);
         } else {
-            send_bytes(rt, alloc, port, &[1]);
-            send_bytes(rt, alloc, port, &[2]);
+            send_taken(rt, alloc, port, &[1]);
+            send_taken(rt, alloc, port, &[2]);
         }
     }
 }
@@ -147,7 +99,7 @@ fn hand_in_turn<R: Abort>(
     ensures { IfOk result
         (λ networks. TakeTurns config networks.0.handed networks.1.handed) }
 {
-    let (mut tx, mut ports) = open_over(alloc, config)?;
+    let (mut tx, mut ports) = open_standing(alloc, config)?;
     send_all(rt, alloc, &mut ports);
     poll_on(rt, &mut tx, more);
     Ok(tx.into_networks())
@@ -194,7 +146,7 @@ fn assert_turns<R: Abort>(
 #[test]
 fn two_sub_vls_take_turns_by_pieces(rt: HostRuntime) -> Result<(), Fail> {
     let row = [(0, 0), (1, 1), (0, 0), (1, 5), (0, 0)];
-    assert_turns(&rt, rt.alloc(), TWO, 4, &row)
+    assert_turns(&rt, rt.alloc(), TWO_SUB_VLS, 4, &row)
 }
 
 #[test]

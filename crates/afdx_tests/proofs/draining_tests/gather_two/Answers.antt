@@ -1,5 +1,6 @@
 use Rattle.std.proofs.Common.{zero, suc, List, [], ◌∷◌, sym, subst, arith}
 use Rattle.std.specs.Prelude.{All}
+use Rattle.std.proofs.lemmas.List.Elements.{All-nil}
 use Rattle.afdx_tx.specs.Emitter.{Tx}
 use Rattle.afdx_tx.specs.Ports.{PortView, IsPortOfTx}
 use Rattle.afdx_tests.proofs.draining_tests.gather_two.Goals as goal
@@ -18,3 +19,17 @@ gather-requires-2 g c =
       opened = subst (λ (ports : List PortView). All (IsPortOfTx c.in-Err.back.0) ports) (sym c.in_ok-ports.ensures.items)
           (alone (IsPortOfTx c.in-Err.back.0) port (subst (λ (t : Tx). IsPortOfTx t port) (sym c.in-Err.ensures.emitter_back) one));
     }
+
+pub open_demo-requires : goal.open_demo-requires
+open_demo-requires g c = record {
+  a_empty = c.requires.a_empty;
+  b_empty = c.requires.b_empty;
+  a_new = c.requires.a_new;
+  b_new = c.requires.b_new;
+}
+
+pub gather-requires : goal.gather-requires
+gather-requires g c = record {
+  opened = subst (λ (ports : List PortView). All (IsPortOfTx c.in_ok-tx.tx) ports) (sym c.new.ensures.items)
+      (All-nil (IsPortOfTx c.in_ok-tx.tx));
+}

@@ -4,7 +4,7 @@ use Rattle.afdx_plan.specs.Config.{Plan}
 use Rattle.afdx_legal.specs.Allowed.{AreOwn}
 use Rattle.afdx_tx.specs.Drain.{accepted_in}
 use Rattle.afdx_tx.specs.Emitter.{Tx}
-use Rattle.afdx_tx.specs.Ports.{PortView}
+use Rattle.afdx_tx.specs.Ports.{PortView, IsPortOfTx}
 use Rattle.afdx_tx.specs.Gathering.{IsGatheredTx}
 use Rattle.afdx_tests.proofs.headline_tests.gather_one.Goals as goal
 
@@ -21,3 +21,12 @@ own_one tx draining ports port e gathered place lt =
 
 pub returns-in-Ok-clause-own : goal.returns-in-Ok-clause-own
 returns-in-Ok-clause-own c = own_one c.args.tx c.in-Ok.draining _ c.args.port (c.in_ok-ports.ensures.items) c.in-Ok.ensures.gathered
+
+pub gather-requires : goal.gather-requires
+gather-requires c = record {
+  opened = subst (λ (ports : List PortView). All (IsPortOfTx c.args.tx) ports) (sym c.in_ok-ports.ensures.items)
+      (All-cons (IsPortOfTx c.args.tx) c.args.port [] c.requires (All-nil (IsPortOfTx c.args.tx)));
+}
+
+pub returns-in-Ok-clause-plan : goal.returns-in-Ok-clause-plan
+returns-in-Ok-clause-plan c = c.in-Ok.ensures.gathered.plan

@@ -1,0 +1,14 @@
+use Rattle.std.proofs.Common.{ap}
+use Rattle.redundant_mux.specs.Memory.{Memory}
+use Rattle.afdx_tests.proofs.testing.open_demo_standing.Goals as goal
+
+pub open_demo-requires : goal.open_demo-requires
+open_demo-requires c = record {
+  a_empty = ap (λ (m : Memory). m.handed) c.new.ensures;
+  b_empty = ap (λ (m : Memory). m.handed) c.new-2.ensures;
+  a_new = ap (λ (m : Memory). m.failures) c.new.ensures;
+  b_new = ap (λ (m : Memory). m.failures) c.new-2.ensures;
+}
+
+pub returns : goal.returns
+returns c = c.open_demo.ensures
