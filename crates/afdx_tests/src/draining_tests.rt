@@ -1,9 +1,10 @@
 //! Tests of sending what is left.
 ghost use Rattle.std.specs.Prelude.{◌≡◌, []};
 
+use crate::headline_tests::gather_one;
 use crate::testing::{
     BOTH, NEITHER, assert_both_down, assert_drained, assert_handed, assert_left, drain_at,
-    numbered, open_demo, send_taken,
+    gather_too_few, numbered, open_demo, send_taken,
 };
 use afdx_tx::Draining;
 use redundant_mux::MemNetwork;
@@ -26,16 +27,9 @@ fn gather_two<R: Abort>(
     let (tx, mut port) = open_demo(alloc, a, b)?;
     send_taken(rt, alloc, &mut port, &[1]);
     send_taken(rt, alloc, &mut port, &[2]);
-    let ports = vec![in alloc; port]?;
-    let (tx, none) = match tx.gather(Vec::new(alloc)) {
-        Ok(_) => return Err(Fail::from("gathered without its port")),
-        Err(back) => back,
-    };
+    let (tx, none) = gather_too_few(tx, Vec::new(alloc))?;
     assert_eq!(rt; none.len(), 0);
-    match tx.gather(ports) {
-        Ok(draining) => Ok(draining),
-        Err(_) => Err(Fail::from("its port is there")),
-    }
+    gather_one(alloc, tx, port)
 }
 
 #[test]

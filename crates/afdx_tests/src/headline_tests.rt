@@ -113,7 +113,7 @@ fn send_beside<R: Threads + Abort + Copy + Send + 'static>(
 }
 
 // Gathers the one port. What was accepted of it is its own list.
-fn gather_one(alloc: Global, tx: Tx, port: TxPort) -> Result<Drain, Fail>
+pub(crate) fn gather_one(alloc: Global, tx: Tx, port: TxPort) -> Result<Drain, Fail>
     requires { IsPortOfTx tx port }
     ensures plan { IfOk result (λ draining. draining.plan ≡ tx.plan) }
     ensures own { IfOk result (λ draining. AreOwn draining.plan

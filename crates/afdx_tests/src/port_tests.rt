@@ -3,8 +3,8 @@ ghost use Rattle.std.specs.Prelude.{◌≡◌, IfOk};
 ghost use Rattle.afdx_tx.specs.Ports.{IsPortOfTx, AreOpenedWith};
 
 use crate::testing::{
-    BOTH, assert_drained, assert_left, assert_poll, assert_refused, numbered, open_standing,
-    send_taken,
+    BOTH, assert_drained, assert_left, assert_poll, assert_refused, gather_too_few, numbered,
+    open_standing, send_taken,
 };
 use afdx_config::read_config;
 use afdx_plan::PortId;
@@ -94,18 +94,6 @@ fn a_message_that_is_refused_comes_back(rt: HostRuntime) -> Result<(), Fail> {
     drop(tx);
     assert_refused(&rt, alloc, &mut first, &[9], Refusal::Full);
     Ok(())
-}
-
-/// Ports of an emitter, of which one is missing. Both come back.
-fn gather_too_few(tx: Tx, ports: Vec<TxPort>) -> Result<(Tx, Vec<TxPort>), Fail>
-    requires opened { AreOpenedWith tx ports.items }
-    ensures tx { IfOk result (λ back. back.0 ≡ tx) }
-    ensures ports { IfOk result (λ back. back.1 ≡ ports) }
-{
-    match tx.gather(ports) {
-        Ok(_) => Err(Fail::from("gathered with a port missing")),
-        Err(back) => Ok(back),
-    }
 }
 
 /// Both ports of an emitter, the second one first.

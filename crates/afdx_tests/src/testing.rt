@@ -245,6 +245,21 @@ pub(crate) fn assert_left(
     assert_eq!(rt; draining.is_done(), is_done);
 }
 
+/// Ports of an emitter, of which one is missing. Both come back.
+pub(crate) fn gather_too_few(
+    tx: Emitter<MemNetwork, MemNetwork>,
+    ports: Vec<TxPort>,
+) -> Result<(Emitter<MemNetwork, MemNetwork>, Vec<TxPort>), Fail>
+    requires opened { AreOpenedWith tx ports.items }
+    ensures tx { IfOk result (λ back. back.0 ≡ tx) }
+    ensures ports { IfOk result (λ back. back.1 ≡ ports) }
+{
+    match tx.gather(ports) {
+        Ok(_) => Err(Fail::from("gathered with a port missing")),
+        Err(back) => Ok(back),
+    }
+}
+
 /// Asserts what a poll released, and which networks stood then.
 pub(crate) fn assert_report(
     rt: &impl Abort,

@@ -258,7 +258,7 @@ pub(crate) fn check_frames(
 
 // Each port's messages were all handed over, and no more.
 fn check_whole(rt: &impl Abort, network: &MemNetwork, messages: u8) {
-    let many = usize::from(PORTS) * usize::from(messages);
+    let many = usize::from(PORTS).saturating_mul(usize::from(messages));
     assert_eq!(rt; network.handed().len(), many);
     assert_eq!(rt;
         check_frames(rt, network, messages),
@@ -278,7 +278,7 @@ fn gather_from_threads<R: Threads + Abort + Copy + Send + 'static>(
 {
     let (mut tx, workers, monitor) = open_and_start(rt, alloc, capacity, messages)?;
     // What is left then has room in any one queue, so each port can send its last message.
-    let count = usize::from(PORTS) * usize::from(messages);
+    let count = usize::from(PORTS).saturating_mul(usize::from(messages));
     poll_some(&rt, &mut tx, count.saturating_sub(capacity));
     let ports = join_all(&rt, alloc, workers)?;
     check_accepted(&rt, &ports, messages);
@@ -299,7 +299,7 @@ fn check_accepted(rt: &impl Abort, ports: &[TxPort], messages: u8) {
 fn check_counts<R: Abort + Wait>(rt: &R, monitor: &mut Monitor, messages: u8)
     requires { 0 < links_of monitor.old }
 {
-    let sent = u64::from(PORTS) * u64::from(messages);
+    let sent = u64::from(PORTS).saturating_mul(u64::from(messages));
     let Counts {
         frames,
         bytes,
@@ -307,7 +307,7 @@ fn check_counts<R: Abort + Wait>(rt: &R, monitor: &mut Monitor, messages: u8)
         last: _,
     } = monitor.read(rt, 0);
     assert_eq!(rt; frames, sent);
-    assert_eq!(rt; bytes, 60 * sent);
+    assert_eq!(rt; bytes, sent.saturating_mul(60));
     assert_eq!(rt; messages, sent);
 }
 
