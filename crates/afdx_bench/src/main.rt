@@ -8,12 +8,12 @@ use afdx_plan::demo_config;
 use bench_words::{Words, read_words, tell_words};
 use plan_report::{End, Failure, check, read_plan, status_of};
 use std::fs::File;
-use std::io::{self, BufWriter, Write};
+use std::io::{self, BufWriter, IsTerminal, Write};
 use std::process::ExitCode;
 use std::sync::Wait;
 use std::thread::Threads;
 use storm::OpenGate;
-use storm_report::bench_storm;
+use storm_report::{Progress, bench_storm};
 use tx_script::{RunFault, run_script};
 
 /// Opens a file that a word names.
@@ -22,6 +22,15 @@ fn open(rt: &HostRuntime, path: &str) -> Result<File, Failure> {
         io::ErrorKind::OutOfMemory => Failure::Run(RunFault::Memory),
         _ => Failure::Run(RunFault::Read),
     })
+}
+
+/// What tells of a storm on standard error, where that is a terminal.
+fn progress_of(rt: &HostRuntime, messages: u32) -> Option<Progress<'_, HostRuntime>> {
+    if rt.stderr().is_terminal() {
+        Progress::begin(rt, messages).ok()
+    } else {
+        None
+    }
 }
 
 /// Does what the words ask for. The configuration is read before the script is opened. The runtime comes
@@ -56,7 +65,14 @@ fn obey<W: Write, T: Threads + Wait + Sync>(
             turns,
         } => {
             let text = open(rt, config.as_str())?;
-            bench_storm(threads, alloc, text, writer, messages, turns, &OpenGate)?;
+            match progress_of(rt, messages) {
+                Some(gate) => {
+                    let ended = bench_storm(threads, alloc, text, writer, messages, turns, &gate);
+                    gate.end();
+                    ended?;
+                }
+                None => bench_storm(threads, alloc, text, writer, messages, turns, &OpenGate)?,
+            }
             Ok(End::Told)
         }
     }

@@ -8,6 +8,7 @@ ghost use Rattle.afdx_tx.specs.Ports.{AreOpenedWith, HasEveryPlace};
 ghost use Rattle.afdx_tx.specs.Gathering.{IsGatheredTx};
 
 use crate::fault::Stop;
+use crate::gate::Gate;
 use crate::polling::STEP;
 use afdx_tx::{Draining, Emitter, TxPort};
 use redundant_mux::Network;
@@ -29,9 +30,10 @@ pub(crate) fn gather_all<A: Network + Drop, B: Network + Drop>(
 }
 
 /// Polls and publishes. Whether a network stands.
-fn drain_once<A: Network + Drop, B: Network + Drop, R: Wait>(
+fn drain_once<A: Network + Drop, B: Network + Drop, G: Gate, R: Wait>(
     rt: &R,
     draining: &mut Draining<A, B>,
+    gate: &G,
     now: u64,
 ) -> bool
     requires { draining.old.moment ≤ now }
@@ -43,14 +45,16 @@ fn drain_once<A: Network + Drop, B: Network + Drop, R: Wait>(
         return false;
     };
     draining.publish(rt);
+    gate.polled(report.released.len());
     report.standing.a || report.standing.b
 }
 
 /// Polls on from a poll of that number, at most so many times, until all that was accepted is handed
 /// over.
-pub(crate) fn drain<A: Network + Drop, B: Network + Drop, R: Wait>(
+pub(crate) fn drain<A: Network + Drop, B: Network + Drop, G: Gate, R: Wait>(
     rt: &R,
     draining: Draining<A, B>,
+    gate: &G,
     first: u64,
     turns: u64,
 ) -> Result<Draining<A, B>, Stop>
@@ -68,7 +72,7 @@ pub(crate) fn drain<A: Network + Drop, B: Network + Drop, R: Wait>(
         if draining.is_done() {
             return Ok(draining);
         }
-        if !drain_once(rt, &mut draining, (first + turn) * STEP) {
+        if !drain_once(rt, &mut draining, gate, (first + turn) * STEP) {
             return Err(Stop::Memory);
         }
     }

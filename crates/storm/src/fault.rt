@@ -1,22 +1,22 @@
 //! Why a storm gives no report.
-ghost use Rattle.std.specs.Prelude.{◌≡◌, ◌≢◌};
+ghost use Rattle.std.specs.Prelude.{◌≡◌, ◌≢◌, ◌↔◌};
 ghost use Rattle.storm.specs.declared.fault.Stop.TheVariants.{Memory as OutOfMemory};
 
 use std::alloc::{AllocError, AllocFailed};
 use thiserror::Error;
 
 /// Why a storm gives no report. `Short` comes before `Memory`, and `Memory` before `Turns`. Its text is
-/// what a program tells of it.
+/// its name.
 #[derive(Clone, Copy, Debug, PartialEq, Eq, Error)]
 pub enum StormFault {
     /// A port's greatest message is below 6 bytes. No thread was started.
-    #[error("storm refused: a port's max is below 6")]
+    #[error("Short")]
     Short = 1,
     /// A worker used up its sends or was ended by the gate, or the drain used up its polls.
-    #[error("turns used up")]
+    #[error("Turns")]
     Turns = 2,
     /// Memory was refused, a thread couldn't be started, or both networks failed.
-    #[error("out of memory")]
+    #[error("Memory")]
     Memory = 3,
 }
 
@@ -45,7 +45,8 @@ impl<T: Drop> From<AllocFailed<T>> for Stop {
 
 /// The fault that a stop is told as.
 pub(crate) fn fault_of(stop: Stop) -> StormFault
-    ensures { result ≢ StormFault.Short }
+    ensures short { result ≢ StormFault.Short }
+    ensures memory { (result ≡ StormFault.Memory) ↔ (stop ≡ OutOfMemory) }
 {
     match stop {
         Stop::Memory => StormFault::Memory,

@@ -1,13 +1,16 @@
-//! What may hold a worker back, or end it.
+//! What may hold a worker back, or end it, and is told how far a storm has come.
 
-/// What each worker asks before a message and tells after it. Workers are counted from 0 in the order
-/// of the configuration's ports, and the messages of each from 1.
+/// What each worker asks before a message and tells after it, and what the main thread tells. Workers
+/// are counted from 0 in the order of the configuration's ports, and the messages of each from 1.
 pub trait Gate {
     /// Asked before a message is first sent. It may take its time; false ends the worker.
     fn enter(&self, worker: usize, call: u32) -> bool;
 
     /// Told after a message was accepted.
     fn answered(&self, worker: usize, call: u32);
+
+    /// Told by the main thread after a poll, with how many frames it released.
+    fn polled(&self, _frames: usize) {}
 }
 
 /// A gate that is always open.

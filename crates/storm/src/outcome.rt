@@ -63,11 +63,12 @@ fn read_links<R: Wait>(
 }
 
 /// Gathers the ports, sends what is left, and reads what came of it all.
-fn finish<A: Network + Drop, B: Network + Drop, R: Wait>(
+fn finish<A: Network + Drop, B: Network + Drop, G: Gate, R: Wait>(
     rt: &R,
     alloc: Global,
     joined: Joined<A, B>,
     load: Load,
+    gate: &G,
 ) -> Result<Outcome<A, B>, Stop>
     requires ports { AreSpent joined.tx load.messages joined.ports.items }
     requires links { links_of joined.monitor ≡ length joined.tx.plan.links }
@@ -94,7 +95,7 @@ fn finish<A: Network + Drop, B: Network + Drop, R: Wait>(
     let count = tx.config().links().len();
     let accepted = count_accepted(ports.as_slice());
     let draining = gather_all(tx, ports);
-    let draining = drain(rt, draining, polls, load.turns)?;
+    let draining = drain(rt, draining, gate, polls, load.turns)?;
     let links = read_links(rt, alloc, &mut monitor, count)?;
     let (a, b) = draining.into_networks();
     Ok(Outcome {
@@ -159,5 +160,5 @@ where
 {
     let opened = open(alloc, config, a, b)?;
     let joined = run_threads(rt, alloc, opened, load, gate)?;
-    finish(rt, alloc, joined, load)
+    finish(rt, alloc, joined, load, gate)
 }

@@ -2,6 +2,7 @@
 ghost use Rattle.std.specs.Prelude.{◌≡◌, ◌*◌, ◌≤◌, IfSome};
 ghost use Rattle.afdx_tx.specs.Emitter.{queues_in};
 
+use crate::gate::Gate;
 use afdx_tx::Emitter;
 use redundant_mux::Network;
 use std::sync::Wait;
@@ -13,9 +14,10 @@ use std::thread;
 pub(crate) const STEP: u64 = 128_000;
 
 /// Polls and publishes. Whether a network stands.
-fn poll_once<A: Network + Drop, B: Network + Drop, R: Wait>(
+fn poll_once<A: Network + Drop, B: Network + Drop, G: Gate, R: Wait>(
     rt: &R,
     tx: &mut Emitter<A, B>,
+    gate: &G,
     now: u64,
 ) -> bool
     requires { tx.old.moment ≤ now }
@@ -27,6 +29,7 @@ fn poll_once<A: Network + Drop, B: Network + Drop, R: Wait>(
         return false;
     };
     tx.publish(rt);
+    gate.polled(report.released.len());
     if report.released.is_empty() {
         thread::yield_now();
     }
@@ -35,9 +38,10 @@ fn poll_once<A: Network + Drop, B: Network + Drop, R: Wait>(
 
 /// Polls and publishes while workers run, at most so many times. How many times that was; none where no
 /// network stands any more.
-pub(crate) fn poll_while<A: Network + Drop, B: Network + Drop, R: Wait>(
+pub(crate) fn poll_while<A: Network + Drop, B: Network + Drop, G: Gate, R: Wait>(
     rt: &R,
     tx: &mut Emitter<A, B>,
+    gate: &G,
     running: &AtomicU64,
     turns: u64,
 ) -> Option<u64>
@@ -52,7 +56,7 @@ pub(crate) fn poll_while<A: Network + Drop, B: Network + Drop, R: Wait>(
         if running.load(Ordering::SeqCst) == 0 {
             return Some(poll);
         }
-        if !poll_once(rt, tx, poll * STEP) {
+        if !poll_once(rt, tx, gate, poll * STEP) {
             return None;
         }
     }

@@ -75,7 +75,7 @@ where
     let watching = start_watcher(scope, rt, monitor, links, load.messages)?;
     let started = start_workers(scope, alloc, ports, load, gate, running);
     // Where not all were started, those that were are polled for too: so they come to their end.
-    let polls = poll_while(rt, &mut tx, running, load.turns);
+    let polls = poll_while(rt, &mut tx, gate, running, load.turns);
     let ended = join_workers(rt, alloc, started?);
     let (monitor, back) = watching.join(rt);
     let polls = polls.ok_or(Stop::Memory)?;

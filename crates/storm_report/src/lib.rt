@@ -2,7 +2,9 @@
 #![tactic(auto)]
 
 mod command;
+mod progress;
 mod totals;
 
 pub use command::bench_storm;
+pub use progress::Progress;
 pub use totals::write_totals;

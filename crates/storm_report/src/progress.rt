@@ -1,0 +1,80 @@
+//! How far a storm has come, told on a terminal.
+use std::io::{self, Eprint};
+use std::sync::atomic::{AtomicU64, Ordering};
+use std::time::{Clock, Instant};
+use storm::Gate;
+
+/// A gate that is always open. On standard error it tells how many messages were accepted, of those of
+/// all workers that have begun, and how many frames were released: at most once in each tenth of a
+/// second.
+#[derive(Drop)]
+pub struct Progress<'a, R: Clock + Eprint> {
+    rt: &'a R,
+    begun: Instant,
+    messages: u32,
+    workers: AtomicU64,
+    accepted: AtomicU64,
+    frames: AtomicU64,
+    // The tenth of a second in which it told last, counted from the beginning.
+    told: AtomicU64,
+}
+
+impl<'a, R: Clock + Eprint> Progress<'a, R> {
+    /// Of a storm that begins now, in which each port sends so many messages.
+    pub fn begin(rt: &'a R, messages: u32) -> io::Result<Progress<'a, R>> {
+        Ok(Progress {
+            rt,
+            begun: Instant::now(rt)?,
+            messages,
+            workers: AtomicU64::new(0),
+            accepted: AtomicU64::new(0),
+            frames: AtomicU64::new(0),
+            told: AtomicU64::new(0),
+        })
+    }
+
+    /// Ends the line, where anything was told.
+    pub fn end(&self) {
+        if self.told.load(Ordering::SeqCst) > 0 {
+            let _told = eprintln!(self.rt; "");
+        }
+    }
+
+    /// Whether this is a tenth of a second in which nothing was told yet.
+    fn is_due(&self) -> bool {
+        let Ok(passed) = self.begun.elapsed(self.rt) else {
+            return false;
+        };
+        let tenths = u64::from(passed.subsec_millis() / 100);
+        let tenth = passed.as_secs().saturating_mul(10).saturating_add(tenths);
+        let is_due = tenth > self.told.load(Ordering::SeqCst);
+        if is_due {
+            self.told.store(tenth, Ordering::SeqCst);
+        }
+        is_due
+    }
+}
+
+impl<R: Clock + Eprint> Gate for Progress<'_, R> {
+    fn enter(&self, _worker: usize, call: u32) -> bool {
+        if call == 1 {
+            self.workers.fetch_add(1, Ordering::SeqCst);
+        }
+        true
+    }
+
+    fn answered(&self, _worker: usize, _call: u32) {
+        self.accepted.fetch_add(1, Ordering::SeqCst);
+    }
+
+    fn polled(&self, frames: usize) {
+        self.frames.fetch_add(frames as u64, Ordering::SeqCst);
+        if self.is_due() {
+            let messages = u64::from(self.messages);
+            let all = self.workers.load(Ordering::SeqCst).saturating_mul(messages);
+            let accepted = self.accepted.load(Ordering::SeqCst);
+            let frames = self.frames.load(Ordering::SeqCst);
+            let _told = eprint!(self.rt; "\raccepted {accepted} of {all}, frames {frames}");
+        }
+    }
+}
