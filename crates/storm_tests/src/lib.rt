@@ -11,3 +11,5 @@ mod great_tests;
 mod plans;
 #[cfg(test)]
 mod storm_tests;
+#[cfg(test)]
+mod text_tests;

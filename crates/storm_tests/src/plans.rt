@@ -18,7 +18,7 @@ fn push_port(text: &mut String, id: u16, vl: u16, sub: u16, max: u16) -> Result<
 
 // End system 1 with one link of two sub-VLs with room for so many messages. Ports 1 to 4 are of
 // partitions 1 to 4, the first two on sub-VL 0. Port 3 sends messages of at most so many bytes.
-fn small_text(alloc: Global, capacity: u16, max: u16) -> Result<String, AllocError> {
+pub(crate) fn small_text(alloc: Global, capacity: u16, max: u16) -> Result<String, AllocError> {
     let mut text = format!(in alloc;
         "[end_system]\nid = 1\n\
          [[vl]]\nid = 1\nbag_ms = 1\nlmax = 1518\nsub_vls = 2\ncapacity = {capacity}\n"

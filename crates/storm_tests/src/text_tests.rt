@@ -1,0 +1,128 @@
+//! What the command tells of storms.
+ghost use Rattle.std.specs.Prelude.{◌≡◌, ◌≤◌, ◌+◌, IfOk, length};
+
+use crate::plans::small_text;
+use afdx_plan::{Bag, LinkPlan, Lmax, VlId};
+use plan_report::Failure;
+use redundant_mux::MemNetwork;
+use status_board::Counts;
+use std::alloc::{AllocError, Global};
+use std::process::Abort;
+use std::sync::Wait;
+use std::test::Fail;
+use std::thread::Threads;
+use storm::{OpenGate, StormReport};
+use storm_report::{bench_storm, write_totals};
+use transcript::RunFault;
+
+// Asserts what the command comes to over a text, and what is written of it.
+fn assert_told<R: Abort + Threads + Wait + Sync>(
+    rt: &R,
+    alloc: Global,
+    text: &str,
+    turns: u64,
+    wanted: Result<(), Failure>,
+    wanted_text: &str,
+)
+    requires { (1 ≤ turns) × (turns ≤ 1000000000) }
+{
+    let mut told = Vec::new(alloc);
+    let ended = bench_storm(rt, alloc, text.as_bytes(), &mut told, 100, turns, &OpenGate);
+    assert_eq!(rt; ended, wanted);
+    assert_eq!(rt; told.as_slice(), wanted_text.as_bytes());
+}
+
+const REPORT: &str = "accepted 400
+link 1: frames 400, bytes 24000, messages 400
+networks equal
+watcher never back
+";
+
+#[test]
+fn a_storm_is_told_in_four_lines(rt: HostRuntime) -> Result<(), Fail> {
+    let text = small_text(rt.alloc(), 256, 64)?;
+    assert_told(&rt, rt.alloc(), text.as_str(), 1_000, Ok(()), REPORT);
+    Ok(())
+}
+
+#[test]
+fn nothing_is_written_of_a_storm_that_is_refused(rt: HostRuntime) -> Result<(), Fail> {
+    let long = small_text(rt.alloc(), 256, 64)?;
+    let short = small_text(rt.alloc(), 256, 5)?;
+    assert_told(&rt, rt.alloc(), long.as_str(), 1, Err(Failure::Turns), "");
+    assert_told(
+        &rt,
+        rt.alloc(),
+        short.as_str(),
+        1_000,
+        Err(Failure::Short),
+        "",
+    );
+    Ok(())
+}
+
+#[test]
+fn a_writer_without_room_is_told(rt: HostRuntime) -> Result<(), Fail> {
+    let text = small_text(rt.alloc(), 256, 64)?;
+    let mut room = [0u8; 60];
+    let mut writer: &mut [u8] = &mut room;
+    let ended = bench_storm(
+        &rt,
+        rt.alloc(),
+        text.as_bytes(),
+        &mut writer,
+        100,
+        1_000,
+        &OpenGate,
+    );
+    assert_eq!(rt; ended, Err(Failure::Run(RunFault::Write)));
+    Ok(())
+}
+
+// A report on two links, of networks that differ, in which a count fell.
+fn bad_report(alloc: Global) -> Result<StormReport, AllocError>
+    ensures { IfOk result (λ report. length report.links.items ≡ 2) }
+{
+    let counts = Counts {
+        frames: 1,
+        bytes: 60,
+        messages: 2,
+        last: 7,
+    };
+    Ok(StormReport {
+        accepted: 3,
+        links: vec![in alloc; Counts::ZERO, counts]?,
+        equal: false,
+        back: true,
+        a: MemNetwork::new(alloc),
+        b: MemNetwork::new(alloc),
+    })
+}
+
+// A link with this identifier.
+fn link(id: u16) -> LinkPlan {
+    LinkPlan {
+        id: VlId(id),
+        bag: Bag::Ms1,
+        lmax: Lmax::new(64),
+        sub_vls: 1,
+        capacity: 1,
+    }
+}
+
+const BAD_REPORT: &str = "accepted 3
+link 65535: frames 0, bytes 0, messages 0
+link 4: frames 1, bytes 60, messages 2
+networks differ
+watcher back
+";
+
+#[test]
+fn networks_that_differ_and_a_count_that_fell_are_told(rt: HostRuntime) -> Result<(), Fail> {
+    let report = bad_report(rt.alloc())?;
+    let links = [link(65535), link(4)];
+    let mut told = Vec::new(rt.alloc());
+    write_totals(&mut told, &links, &report)?;
+    assert_eq!(rt; told.as_slice(), BAD_REPORT.as_bytes());
+    Ok(())
+}
