@@ -10,7 +10,8 @@ pub loop-sender-init : goal.loop-sender-init
 loop-sender-init c = record {
   same = refl;
   together = c.requires.together;
-  each = All-weaker (Contains c.args.senders.items) (λ s. Contains c.args.senders.items s ⊎ Contains c.args.receiver.now.back (brought_by s)) (λ s h. inl h) c.args.senders.items
+  each = All-weaker (Contains c.args.senders.items)
+      (λ s. Contains c.args.senders.items s ⊎ Contains c.args.receiver.now.back (brought_by s)) (λ s h. inl h) c.args.senders.items
       (All-contains_itself c.args.senders.items);
 }
 
@@ -19,7 +20,8 @@ all_but : (queue : QueueName) (rest senders : List SenderView) (x : SenderView) 
 all_but queue rest senders x is all k d lt =
     ap (λ (s : SenderView). s.queue) (sym (get_or_append_left rest (x ∷ []) d k lt))
     ∙ subst (λ (l : List SenderView). (get_or l k d).queue ≡ queue) is
-    (all k d (subst (λ (l : List SenderView). k < length l) (sym is) (let e : length (rest ++ x ∷ []) ≡ length rest + 1 = length-append rest (x ∷ []) in omega arith)))
+    (all k d (subst (λ (l : List SenderView). k < length l) (sym is)
+    (let e : length (rest ++ x ∷ []) ≡ length rest + 1 = length-append rest (x ∷ []) in omega arith)))
 
 last_of : (queue : QueueName) (rest senders : List SenderView) (x : SenderView) → senders ≡ rest ++ x ∷ [] → AreOf queue senders → x.queue ≡ queue
 last_of queue rest senders x is all =

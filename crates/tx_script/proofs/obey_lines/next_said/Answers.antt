@@ -1,4 +1,5 @@
-use Rattle.std.proofs.Common.{rules}
+use Rattle.std.proofs.Common.{rules, arith}
+use Rattle.std.proofs.lemmas.Grind.{common_steps}
 use Rattle.tx_script.proofs.obey_lines.next_said.Goals as goal
 
 pub returns-in-Ok-End : goal.returns-in-Ok-End
@@ -15,3 +16,6 @@ returns-in-Ok g c = search rules
 
 pub returns-in-Err : goal.returns-in-Err
 returns-in-Err g c = search rules
+
+pub returns-in-Ok-Long : goal.returns-in-Ok-Long
+returns-in-Ok-Long g c = grind (arith, common_steps)

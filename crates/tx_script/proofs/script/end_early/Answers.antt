@@ -1,10 +1,10 @@
-use Rattle.std.proofs.Common.{sym, ◌∙◌}
+use Rattle.std.proofs.Common.{sym, ◌∙◌, rules}
 use Rattle.tx_script.proofs.EndLemmas.{ends_silent, ends_told, ends_failed}
 use Rattle.tx_script.proofs.script.end_early.Goals as goal
 
 pub returns-then-ends_writing : goal.returns-then-ends_writing
 returns-then-ends_writing g c = ends_silent _ _ _ (sym c.ends_writing.ensures ∙ c.if-ends_writing.true)
-    c.into_networks-networks.ensures.totals
+    (search rules)
 
 pub returns-in-Ok : goal.returns-in-Ok
 returns-in-Ok g c = ends_told _ _ _ c.args.fault (sym c.ends_writing.ensures ∙ c.if-ends_writing.false) (record {
