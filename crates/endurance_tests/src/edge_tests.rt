@@ -1,0 +1,125 @@
+//! Tests of the last moments that there are.
+ghost use Rattle.std.specs.Prelude.{◌≤◌};
+ghost use Rattle.afdx_tx.specs.Ports.{PortView, IsPortOfTx};
+
+use crate::testing::{
+    BOTH, Drain, assert_report, drain_at, gather_one, open_demo, poll_at, send_taken,
+};
+use afdx_tx::Emitter;
+use redundant_mux::MemNetwork;
+use std::alloc::Global;
+use std::process::Abort;
+use std::test::Fail;
+
+const LAST: u64 = u64::MAX;
+
+// A poll: its moment, and the number of the frame that it releases.
+type Poll = (u64, Option<u8>);
+
+// Polls of a link with a gap of 1,000 us and two messages.
+const RUNS: [[Poll; 3]; 8] = [
+    // The first poll at the last moment releases; the link is never due again.
+    [(LAST, Some(0)), (LAST, None), (LAST, None)],
+    // The gap ends past the last moment.
+    [(LAST - 500, Some(0)), (LAST, None), (LAST, None)],
+    [(LAST - 999, Some(0)), (LAST - 1, None), (LAST, None)],
+    // It ends with the last moment.
+    [(LAST - 1_000, Some(0)), (LAST, Some(1)), (LAST, None)],
+    [(LAST - 1_000, Some(0)), (LAST - 1, None), (LAST, Some(1))],
+    // It ends just before.
+    [(LAST - 1_001, Some(0)), (LAST - 1, Some(1)), (LAST, None)],
+    // The same moment twice.
+    [
+        (LAST - 1_000, Some(0)),
+        (LAST - 1_000, None),
+        (LAST, Some(1)),
+    ],
+    // From the first moment to the last.
+    [(0, Some(0)), (0, None), (LAST, Some(1))],
+];
+
+// Polls while the port sends. The port stays one of its emitter.
+fn poll_first<R: Abort>(rt: &R, tx: &mut Emitter<MemNetwork, MemNetwork>, polls: &[Poll])
+    ensures { (port : PortView) → IsPortOfTx tx.old port → IsPortOfTx tx.new port }
+{
+    for (now, number) in polls {
+        let answer = poll_at(rt, tx, *now);
+        assert_report(rt, answer, *number, BOTH);
+        assert_eq!(rt; tx.now(), *now);
+    }
+}
+
+// Polls for what is left.
+fn poll_rest<R: Abort>(rt: &R, draining: &mut Drain, polls: &[Poll]) {
+    for (now, number) in polls {
+        let answer = drain_at(rt, draining, *now);
+        assert_report(rt, answer, *number, BOTH);
+        assert_eq!(rt; draining.now(), *now);
+    }
+}
+
+// What is left of two messages when the port comes back after these polls.
+fn gather_after<R: Abort>(rt: &R, alloc: Global, polls: &[Poll]) -> Result<Drain, Fail> {
+    let (a, b) = (MemNetwork::new(alloc), MemNetwork::new(alloc));
+    let (mut tx, mut port, _monitor) = open_demo(alloc, a, b)?;
+    send_taken(rt, alloc, &mut port, &[1]);
+    send_taken(rt, alloc, &mut port, &[2]);
+    poll_first(rt, &mut tx, polls);
+    gather_one(alloc, tx, port)
+}
+
+// How many of the polls release a frame.
+fn count_released(polls: &[Poll]) -> usize {
+    let mut count = 0usize;
+    for (_now, number) in polls {
+        if number.is_some() {
+            count = count.saturating_add(1);
+        }
+    }
+    count
+}
+
+// Asserts that a network was handed a frame at each moment at which one was released, with its number.
+fn assert_moments(rt: &impl Abort, network: &MemNetwork, polls: &[Poll]) {
+    let mut entries = network.handed().iter();
+    for (now, number) in polls {
+        if let Some(number) = number {
+            let entry = entries.next().expect(rt, "a frame");
+            assert_eq!(rt; entry.at, *now);
+            assert_eq!(rt; entry.frame.last(), Some(number));
+        }
+    }
+    assert!(rt; entries.next().is_none());
+}
+
+// A run, in which the port comes back after so many polls.
+fn run_polls<R: Abort>(rt: &R, alloc: Global, polls: &[Poll; 3], before: usize) -> Result<(), Fail>
+    requires { before ≤ 3 }
+{
+    let (first, rest) = polls.as_slice().split_at(before);
+    let mut draining = gather_after(rt, alloc, first)?;
+    poll_rest(rt, &mut draining, rest);
+    assert_eq!(rt; draining.is_done(), count_released(polls) == 2);
+    let (a, b) = draining.into_networks();
+    assert_moments(rt, &a, polls);
+    assert_moments(rt, &b, polls);
+    Ok(())
+}
+
+#[test]
+fn no_gap_runs_over_the_last_moment_while_ports_send(rt: HostRuntime) -> Result<(), Fail> {
+    for polls in RUNS {
+        run_polls(&rt, rt.alloc(), &polls, 3)?;
+    }
+    Ok(())
+}
+
+#[test]
+fn no_gap_runs_over_the_last_moment_in_the_drain(rt: HostRuntime) -> Result<(), Fail> {
+    for polls in RUNS {
+        run_polls(&rt, rt.alloc(), &polls, 0)?;
+        run_polls(&rt, rt.alloc(), &polls, 1)?;
+        run_polls(&rt, rt.alloc(), &polls, 2)?;
+    }
+    Ok(())
+}

@@ -1,0 +1,70 @@
+//! A test of a long run.
+ghost use Rattle.std.specs.Prelude.{◌≡◌, ◌<◌};
+ghost use Rattle.status_board.specs.Views.{links_of};
+
+use crate::gauge::{FRAME, GAP, Gauge, Seen};
+use crate::testing::{BOTH, assert_report, open_demo, poll_at, send_taken};
+use afdx_tx::{Emitter, TxPort};
+use status_board::{Counts, Monitor};
+use std::alloc::Global;
+use std::process::Abort;
+use std::sync::Wait;
+use std::test::Fail;
+
+// How many messages go through the link.
+const MESSAGES: u64 = 1_000_000;
+
+type Tx = Emitter<Gauge, Gauge>;
+
+// The sequence number of the frame at a place of the run.
+fn number_at(place: u64) -> u8 {
+    match place.checked_sub(1) {
+        Some(before) => (before % 255 + 1) as u8,
+        None => 0,
+    }
+}
+
+// The message at a place of the run is sent, goes out at once, a gap after the one before, and is
+// published.
+fn send_one<R: Abort + Wait>(rt: &R, alloc: Global, tx: &mut Tx, port: &mut TxPort, place: u64) {
+    send_taken(rt, alloc, port, place.to_be_bytes().as_slice());
+    let answer = poll_at(rt, tx, GAP.saturating_mul(place));
+    assert_report(rt, answer, Some(number_at(place)), BOTH);
+    tx.publish(rt);
+}
+
+// Asserts that a network saw all messages. The sequence number that comes next is that of place
+// 1,000,000, and the identification that comes next is 4,000,000 modulo 65,536.
+fn assert_seen(rt: &impl Abort, seen: Seen) {
+    assert_eq!(rt; seen.frames, MESSAGES);
+    assert_eq!(rt; seen.number, 145);
+    assert_eq!(rt; seen.identification, 2_304);
+}
+
+// Asserts that the monitor reads a frame for each message.
+fn assert_counts<R: Abort + Wait>(rt: &R, monitor: &mut Monitor)
+    requires { 0 < links_of monitor.old }
+{
+    let counts = Counts {
+        frames: MESSAGES,
+        bytes: MESSAGES * FRAME as u64,
+        messages: MESSAGES,
+        last: GAP * (MESSAGES - 1),
+    };
+    assert_eq!(rt; monitor.read(rt, 0), counts);
+}
+
+#[test]
+fn a_million_messages_keep_number_gap_and_twin(rt: HostRuntime) -> Result<(), Fail> {
+    let alloc = rt.alloc();
+    let (mut tx, mut port, mut monitor) = open_demo(alloc, Gauge::new(0x20), Gauge::new(0x40))?;
+    for place in 0..MESSAGES {
+        send_one(&rt, alloc, &mut tx, &mut port, place);
+    }
+    assert_counts(&rt, &mut monitor);
+    let (a, b) = tx.into_networks();
+    assert_seen(&rt, a.seen());
+    assert_eq!(rt; a.seen(), b.seen());
+    assert_eq!(rt; port.accepted(), MESSAGES);
+    Ok(())
+}
