@@ -91,7 +91,14 @@ impl Gauge {
         }
     }
 
-    /// What it has seen.
+    /// How often it failed.
+    pub(crate) fn failures(&self) -> u64
+        ensures { result ≡ self.now.failures }
+    {
+        self.failures
+    }
+
+    /// What it has seen of the frames that it took.
     pub(crate) fn seen(&self) -> Seen {
         Seen {
             frames: self.frames,

@@ -8,6 +8,8 @@ mod failing_tests;
 #[cfg(test)]
 mod gauge;
 #[cfg(test)]
+mod gauge_tests;
+#[cfg(test)]
 mod long_tests;
 #[cfg(test)]
 mod testing;
