@@ -42,19 +42,21 @@ const RUNS: [[Poll; 3]; 8] = [
 fn poll_first<R: Abort>(rt: &R, tx: &mut Emitter<MemNetwork, MemNetwork>, polls: &[Poll])
     ensures { (port : PortView) → IsPortOfTx tx.old port → IsPortOfTx tx.new port }
 {
-    for (now, number) in polls {
-        let answer = poll_at(rt, tx, *now);
-        assert_report(rt, answer, *number, BOTH);
-        assert_eq!(rt; tx.now(), *now);
+    for poll in polls {
+        let (now, number) = *poll;
+        let answer = poll_at(rt, tx, now);
+        assert_report(rt, answer, number, BOTH);
+        assert_eq!(rt; tx.now(), now);
     }
 }
 
 // Polls for what is left.
 fn poll_rest<R: Abort>(rt: &R, draining: &mut Drain, polls: &[Poll]) {
-    for (now, number) in polls {
-        let answer = drain_at(rt, draining, *now);
-        assert_report(rt, answer, *number, BOTH);
-        assert_eq!(rt; draining.now(), *now);
+    for poll in polls {
+        let (now, number) = *poll;
+        let answer = drain_at(rt, draining, now);
+        assert_report(rt, answer, number, BOTH);
+        assert_eq!(rt; draining.now(), now);
     }
 }
 
@@ -71,25 +73,32 @@ fn gather_after<R: Abort>(rt: &R, alloc: Global, polls: &[Poll]) -> Result<Drain
 // How many of the polls release a frame.
 fn count_released(polls: &[Poll]) -> usize {
     let mut count = 0usize;
-    for (_now, number) in polls {
-        if number.is_some() {
+    for poll in polls {
+        if poll.1.is_some() {
             count = count.saturating_add(1);
         }
     }
     count
 }
 
-// Asserts that a network was handed a frame at each moment at which one was released, with its number.
+// Asserts that the frame with this number was handed over at this moment.
+fn assert_entry(rt: &impl Abort, network: &MemNetwork, now: u64, number: u8) {
+    let entry = network
+        .handed()
+        .get(usize::from(number))
+        .expect(rt, "a frame");
+    assert_eq!(rt; entry.at, now);
+    assert_eq!(rt; entry.frame.last(), Some(&number));
+}
+
+// Asserts that a network was handed a frame at each moment at which one was released, and no other.
 fn assert_moments(rt: &impl Abort, network: &MemNetwork, polls: &[Poll]) {
-    let mut entries = network.handed().iter();
-    for (now, number) in polls {
-        if let Some(number) = number {
-            let entry = entries.next().expect(rt, "a frame");
-            assert_eq!(rt; entry.at, *now);
-            assert_eq!(rt; entry.frame.last(), Some(number));
+    assert_eq!(rt; network.handed().len(), count_released(polls));
+    for poll in polls {
+        if let (now, Some(number)) = *poll {
+            assert_entry(rt, network, now, number);
         }
     }
-    assert!(rt; entries.next().is_none());
 }
 
 // A run, in which the port comes back after so many polls.

@@ -1,10 +1,10 @@
 //! Tests of networks that fail while what is left is sent.
-ghost use Rattle.std.specs.Prelude.{◌≡◌, ◌≤◌, [], IfOk};
+ghost use Rattle.std.specs.Prelude.{◌≤◌};
 ghost use Rattle.afdx_tx.specs.Ports.{PortView, IsPortOfTx};
 
 use crate::testing::{Drain, assert_report, drain_at, gather_one, open_demo, poll_at, send_taken};
 use afdx_tx::{Emitter, PollFault, Report, TxPort};
-use redundant_mux::{Handed, MemNetwork, Standing};
+use redundant_mux::{MemNetwork, Standing};
 use std::alloc::Global;
 use std::process::Abort;
 use std::test::Fail;
@@ -41,23 +41,23 @@ impl Failing {
 
 // Asserts what the poll with this number, counted from 1, answers: a frame while one network stands and
 // frames are left, nothing where the last network fails and where none are left, and then `BothDown`.
-fn assert_answer(rt: &impl Abort, turn: u8, failing: Failing, answer: Result<Report, PollFault>)
-    requires { 1 ≤ turn }
-{
+fn assert_answer(rt: &impl Abort, turn: u8, failing: Failing, answer: Result<Report, PollFault>) {
     if turn > failing.last() {
         assert_eq!(rt; answer.err(), Some(PollFault::BothDown));
         return;
     }
     let is_released = turn <= FRAMES && turn < failing.last();
-    let number = if is_released { Some(turn - 1) } else { None };
+    let number = if is_released {
+        turn.checked_sub(1)
+    } else {
+        None
+    };
     assert_report(rt, answer, number, failing.standing(turn.min(FRAMES)));
 }
 
 // The moment of a poll, a gap after the one before.
-fn moment_of(turn: u8) -> u64
-    requires { 1 ≤ turn }
-{
-    1_000 * u64::from(turn - 1)
+fn moment_of(turn: u8) -> u64 {
+    1_000 * u64::from(turn.saturating_sub(1))
 }
 
 // The first polls, before the port comes back. The port stays one of its emitter.
@@ -91,23 +91,28 @@ fn gather_after<R: Abort>(
     gather_one(alloc, tx, port)
 }
 
-// A poll for what is left, and asserts what it answers, whether all was sent, and the moment of the last
-// poll that didn't answer `BothDown`.
-fn assert_drain<R: Abort>(rt: &R, draining: &mut Drain, failing: Failing, turn: u8)
-    requires { 1 ≤ turn }
-{
+// A poll for what is left, and asserts what it answers.
+fn assert_poll<R: Abort>(rt: &R, draining: &mut Drain, failing: Failing, turn: u8) {
     let answer = drain_at(rt, draining, moment_of(turn));
     assert_answer(rt, turn, failing, answer);
-    let is_done = turn >= FRAMES && failing.is_survived();
-    assert_eq!(rt; draining.is_done(), is_done);
-    assert_eq!(rt; draining.now(), moment_of(turn.min(failing.last()).max(1)));
 }
 
-// The lengths of the frames: of each message a piece of 1,472 bytes, and one of 8 in the least frame.
-const LENGTHS: [usize; FRAMES as usize] = [1_507, 60, 1_507, 60];
+// Asserts whether all was sent after so many polls, and the moment of the last one that didn't answer
+// `BothDown`.
+fn assert_left(rt: &impl Abort, draining: &Drain, failing: Failing, turn: u8) {
+    let is_done = turn >= FRAMES && failing.is_survived();
+    assert_eq!(rt; draining.is_done(), is_done);
+    assert_eq!(rt; draining.now(), moment_of(turn.min(failing.last())));
+}
 
-// Asserts that a frame was handed over at this place.
-fn assert_entry(rt: &impl Abort, entry: &Handed, place: u8, length: usize) {
+// Asserts that a frame was handed over at this place: of each message a piece of 1,472 bytes, and then
+// one of 8 in the least frame.
+fn assert_entry(rt: &impl Abort, network: &MemNetwork, place: u8) {
+    let length = if place % 2 == 0 { 1_507 } else { 60 };
+    let entry = network
+        .handed()
+        .get(usize::from(place))
+        .expect(rt, "a frame");
     assert_eq!(rt; entry.at, 1_000 * u64::from(place));
     assert_eq!(rt; entry.frame.len(), length);
     assert_eq!(rt; entry.frame.last(), Some(&place));
@@ -115,12 +120,10 @@ fn assert_entry(rt: &impl Abort, entry: &Handed, place: u8, length: usize) {
 
 // Asserts that a network keeps the frames before the hand at which it fails.
 fn assert_kept(rt: &impl Abort, network: &MemNetwork, fails_at: u8) {
-    assert_eq!(rt;
-        network.handed().len(),
-        usize::from(fails_at.saturating_sub(1))
-    );
-    for ((entry, place), length) in network.handed().iter().zip(0..FRAMES).zip(LENGTHS) {
-        assert_entry(rt, entry, place, length);
+    let many = fails_at.saturating_sub(1);
+    assert_eq!(rt; network.handed().len(), usize::from(many));
+    for place in 0..many {
+        assert_entry(rt, network, place);
     }
 }
 
@@ -130,7 +133,8 @@ fn drain_failing<R: Abort>(rt: &R, alloc: Global, failing: Failing, turns: u8) -
 {
     let mut draining = gather_after(rt, alloc, failing, turns)?;
     for turn in turns + 1..=5 {
-        assert_drain(rt, &mut draining, failing, turn);
+        assert_poll(rt, &mut draining, failing, turn);
+        assert_left(rt, &draining, failing, turn);
     }
     let (a, b) = draining.into_networks();
     assert_kept(rt, &a, failing.a);

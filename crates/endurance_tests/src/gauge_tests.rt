@@ -25,7 +25,9 @@ fn takes(gauge: &mut Gauge, handed: &Handed) -> bool {
 
 // The first three frames of a run.
 const FIRST: Handed = (0, 0x20, 0, 0, 0);
+
 const SECOND: Handed = (GAP, 0x20, 4, 1, 1);
+
 const THIRD: Handed = (2 * GAP, 0x20, 8, 2, 2);
 
 // What is not the second one.

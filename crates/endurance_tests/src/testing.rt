@@ -33,7 +33,10 @@ fn open_all<A: Network + Drop, B: Network + Drop>(
     if config.links().is_empty() {
         return Err(Fail::from("no link"));
     }
-    open_tx(alloc, config, a, b).map_err(|_| Fail::from("no memory"))
+    match open_tx(alloc, config, a, b) {
+        Ok(opened) => Ok(opened),
+        Err(_) => Err(Fail::from("no memory")),
+    }
 }
 
 /// An emitter of the demonstration configuration over two networks that were handed nothing, its one
