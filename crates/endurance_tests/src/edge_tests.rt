@@ -3,7 +3,7 @@ ghost use Rattle.std.specs.Prelude.{◌≤◌};
 ghost use Rattle.afdx_tx.specs.Ports.{PortView, IsPortOfTx};
 
 use crate::testing::{
-    BOTH, Drain, assert_report, drain_at, gather_one, open_demo, poll_at, send_taken,
+    BOTH, Drain, assert_entry, assert_report, drain_at, gather_one, open_demo, poll_at, send_taken,
 };
 use afdx_tx::Emitter;
 use redundant_mux::MemNetwork;
@@ -81,22 +81,12 @@ fn count_released(polls: &[Poll]) -> usize {
     count
 }
 
-// Asserts that the frame with this number was handed over at this moment.
-fn assert_entry(rt: &impl Abort, network: &MemNetwork, now: u64, number: u8) {
-    let entry = network
-        .handed()
-        .get(usize::from(number))
-        .expect(rt, "a frame");
-    assert_eq!(rt; entry.at, now);
-    assert_eq!(rt; entry.frame.last(), Some(&number));
-}
-
 // Asserts that a network was handed a frame at each moment at which one was released, and no other.
 fn assert_moments(rt: &impl Abort, network: &MemNetwork, polls: &[Poll]) {
     assert_eq!(rt; network.handed().len(), count_released(polls));
     for poll in polls {
         if let (now, Some(number)) = *poll {
-            assert_entry(rt, network, now, number);
+            assert_entry(rt, network, number, now, 60);
         }
     }
 }
@@ -108,6 +98,7 @@ fn run_polls<R: Abort>(rt: &R, alloc: Global, polls: &[Poll; 3], before: usize) 
     let (first, rest) = polls.as_slice().split_at(before);
     let mut draining = gather_after(rt, alloc, first)?;
     poll_rest(rt, &mut draining, rest);
+    assert_eq!(rt; draining.now(), polls[2].0);
     assert_eq!(rt; draining.is_done(), count_released(polls) == 2);
     let (a, b) = draining.into_networks();
     assert_moments(rt, &a, polls);

@@ -2,7 +2,9 @@
 ghost use Rattle.std.specs.Prelude.{◌≤◌};
 ghost use Rattle.afdx_tx.specs.Ports.{PortView, IsPortOfTx};
 
-use crate::testing::{Drain, assert_report, drain_at, gather_one, open_demo, poll_at, send_taken};
+use crate::testing::{
+    Drain, assert_entry, assert_report, drain_at, gather_one, open_demo, poll_at, send_taken,
+};
 use afdx_tx::{Emitter, PollFault, Report, TxPort};
 use redundant_mux::{MemNetwork, Standing};
 use std::alloc::Global;
@@ -105,17 +107,10 @@ fn assert_left(rt: &impl Abort, draining: &Drain, failing: Failing, turn: u8) {
     assert_eq!(rt; draining.now(), moment_of(turn.min(failing.last())));
 }
 
-// Asserts that a frame was handed over at this place: of each message a piece of 1,472 bytes, and then
-// one of 8 in the least frame.
-fn assert_entry(rt: &impl Abort, network: &MemNetwork, place: u8) {
-    let length = if place % 2 == 0 { 1_507 } else { 60 };
-    let entry = network
-        .handed()
-        .get(usize::from(place))
-        .expect(rt, "a frame");
-    assert_eq!(rt; entry.at, 1_000 * u64::from(place));
-    assert_eq!(rt; entry.frame.len(), length);
-    assert_eq!(rt; entry.frame.last(), Some(&place));
+// The length of the frame at a place: of each message a piece of 1,472 bytes, and then one of 8 in the
+// least frame.
+fn length_at(place: u8) -> usize {
+    if place % 2 == 0 { 1_507 } else { 60 }
 }
 
 // Asserts that a network keeps the frames before the hand at which it fails.
@@ -123,7 +118,13 @@ fn assert_kept(rt: &impl Abort, network: &MemNetwork, fails_at: u8) {
     let many = fails_at.saturating_sub(1);
     assert_eq!(rt; network.handed().len(), usize::from(many));
     for place in 0..many {
-        assert_entry(rt, network, place);
+        assert_entry(
+            rt,
+            network,
+            place,
+            1_000 * u64::from(place),
+            length_at(place),
+        );
     }
 }
 

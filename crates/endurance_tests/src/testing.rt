@@ -136,3 +136,21 @@ fn assert_released(rt: &impl Abort, released: &[Release], number: Option<u8>) {
         None => assert_eq!(rt; released.len(), 0),
     }
 }
+
+/// Asserts that a network was handed the frame with this number, at this moment and of this length, as
+/// the one at that place.
+pub(crate) fn assert_entry(
+    rt: &impl Abort,
+    network: &MemNetwork,
+    number: u8,
+    at: u64,
+    length: usize,
+) {
+    let entry = network
+        .handed()
+        .get(usize::from(number))
+        .expect(rt, "a frame");
+    assert_eq!(rt; entry.at, at);
+    assert_eq!(rt; entry.frame.len(), length);
+    assert_eq!(rt; entry.frame.last(), Some(&number));
+}
