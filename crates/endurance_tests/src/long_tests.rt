@@ -1,5 +1,5 @@
 //! A test of a long run.
-ghost use Rattle.std.specs.Prelude.{◌≡◌, ◌<◌};
+ghost use Rattle.std.specs.Prelude.{◌<◌};
 ghost use Rattle.status_board.specs.Views.{links_of};
 
 use crate::gauge::{FRAME, GAP, Gauge, Seen};
