@@ -1,0 +1,96 @@
+//! What calls of the library answer where memory is refused: a case for each word. A call that is refused
+//! prints its fault, and is made once more. Without a word all cases are run.
+#![tactic(auto)]
+
+mod boards;
+mod configs;
+mod hands;
+mod lines;
+mod opening;
+mod parts;
+mod polls;
+mod queues;
+mod quiet;
+mod scripts;
+mod shelf;
+mod storms;
+mod trouble;
+
+use crate::trouble::Trouble;
+use std::alloc::Global;
+use std::io::{self, Write};
+use std::process::ExitCode;
+use std::sync::Wait;
+use std::thread::Threads;
+
+/// The words that name cases, in the order in which all are run.
+const CASES: [&str; 11] = [
+    "read_config",
+    "demo_config",
+    "make",
+    "open_tx",
+    "open_board",
+    "read_line",
+    "run_script",
+    "hand",
+    "storm",
+    "quiet",
+    "parts",
+];
+
+/// Runs the case that a word names.
+fn run_case<W: Write, R: Threads + Wait + Sync>(
+    rt: &R,
+    alloc: Global,
+    out: &mut W,
+    word: &str,
+) -> Result<(), Trouble> {
+    match word {
+        "read_config" => configs::read(alloc, out),
+        "demo_config" => configs::demo(alloc, out),
+        "make" => queues::make_one(alloc, out),
+        "open_tx" => opening::open(alloc, out),
+        "open_board" => boards::open(rt, alloc, out),
+        "read_line" => lines::read(alloc, out),
+        "run_script" => scripts::run(alloc, out),
+        "hand" => hands::hand(alloc, out),
+        "storm" => storms::throw(rt, alloc, out),
+        "quiet" => quiet::send(rt, alloc, out),
+        "parts" => parts::call(rt, alloc, out),
+        _ => Err(Trouble::NoCase),
+    }
+}
+
+/// Runs all cases, each behind a line that names it.
+fn run_all<W: Write, R: Threads + Wait + Sync>(
+    rt: &R,
+    alloc: Global,
+    out: &mut W,
+) -> Result<(), Trouble> {
+    for word in CASES {
+        writeln!(out, "== {word}")?;
+        run_case(rt, alloc, out, word)?;
+    }
+    Ok(())
+}
+
+/// Runs the case that the first word of the command line names, or all.
+fn run<T: Threads + Wait + Sync>(rt: &HostRuntime, threads: &T) -> Result<(), Trouble> {
+    let mut out = io::writer(rt);
+    let mut words = std::env::args(rt).map_err(|_| Trouble::Unprepared)?;
+    let _program = words.next();
+    match words.next() {
+        Some(word) => run_case(threads, rt.alloc(), &mut out, word.as_str()),
+        None => run_all(threads, rt.alloc(), &mut out),
+    }
+}
+
+fn main(rt: HostRuntime) -> ExitCode {
+    match run(&rt, &rt) {
+        Ok(()) => ExitCode::SUCCESS,
+        Err(trouble) => {
+            let _told = eprintln!(rt; "{trouble}");
+            ExitCode::from(trouble.status())
+        }
+    }
+}

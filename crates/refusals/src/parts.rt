@@ -1,0 +1,173 @@
+//! The parts of an end system, which take no memory once a queue and a board are made.
+ghost use Rattle.std.specs.Prelude.{◌≡◌, ◌<◌, ◌≤◌, length};
+ghost use Rattle.afdx_frame.specs.Twin.{twin_of};
+ghost use Rattle.afdx_frame.specs.declared.net.Net.TheVariants.{A as ForA};
+ghost use Rattle.subvl_queue.specs.Views.{AreOf};
+
+use crate::boards::publish_told;
+use crate::configs::prepared;
+use crate::polls::message;
+use crate::queues::{send_told, take_left, take_told};
+use crate::quiet::tell_fields;
+use crate::shelf::empty_shelf;
+use crate::trouble::Trouble;
+use afdx_frame::{Cut, Frame, Net, twin};
+use afdx_plan::{Bag, Config, jitter_ns};
+use redundant_mux::Mux;
+use status_board::open_board;
+use std::alloc::Global;
+use std::io::Write;
+use std::sync::Wait;
+use subvl_queue::{Receiver, Sender, make};
+use vl_shaper::Shaper;
+
+/// Whether something is so, in a word.
+fn told(is_so: bool) -> &'static str {
+    if is_so { "yes" } else { "no" }
+}
+
+/// Takes a message out of a queue, closes it, and gathers its sender.
+fn use_queue<W: Write>(
+    out: &mut W,
+    mut receiver: Receiver,
+    mut senders: Vec<Sender>,
+    first: Vec<u8>,
+    second: Vec<u8>,
+    third: Vec<u8>,
+) -> Result<(), Trouble>
+    requires { AreOf receiver.queue senders.items }
+{
+    if senders.len() != 1 {
+        return Err(Trouble::Missing);
+    }
+    send_told(out, &mut senders[0], first)?;
+    send_told(out, &mut senders[0], second)?;
+    take_told(out, &mut receiver)?;
+    writeln!(out, "closed {}", receiver.close())?;
+    send_told(out, &mut senders[0], third)?;
+    match receiver.gather(senders) {
+        Ok(gathered) => take_left(out, gathered),
+        Err(_) => Err(Trouble::Missing),
+    }
+}
+
+/// Stamps a release, and tells which sub-VL is asked first and whether the link is due.
+fn use_shaper<W: Write>(out: &mut W) -> Result<(), Trouble> {
+    let mut shaper = Shaper::new(Bag::Ms1, 2);
+    let first = shaper.turn(0);
+    let number = shaper.stamp(0, 0);
+    let next = shaper.turn(0);
+    let (early, late) = (told(shaper.due(999)), told(shaper.due(1_000)));
+    writeln!(out, "asks {first}, number {number}, asks {next}")?;
+    writeln!(out, "due at 999: {early}, at 1000: {late}")?;
+    Ok(())
+}
+
+/// The demonstration port's message of the byte 01, for network A.
+const FOR_A: [u8; 60] = [
+    0x03, 0x00, 0x00, 0x00, 0x00, 0x01, 0x02, 0x00, 0x00, 0x00, 0x01, 0x20, 0x08, 0x00, 0x45, 0x00,
+    0x00, 0x1d, 0x00, 0x00, 0x00, 0x00, 0x01, 0x11, 0xcd, 0xee, 0x0a, 0x00, 0x01, 0x01, 0xe0, 0xe0,
+    0x00, 0x01, 0x03, 0xe8, 0x07, 0xd0, 0x00, 0x09, 0x00, 0x00, 0x01, 0x00, 0x00, 0x00, 0x00, 0x00,
+    0x00, 0x00, 0x00, 0x00, 0x00, 0x00, 0x00, 0x00, 0x00, 0x00, 0x00, 0x00,
+];
+
+fn frame_for_a() -> Frame
+    ensures { twin_of ForA result.items ≡ result.items }
+{
+    let mut frame = Frame::new();
+    if frame.try_extend_from_slice(&FOR_A).is_err() {
+        unreachable!();
+    }
+    frame
+}
+
+/// Hands a frame to two networks, of which B takes none.
+fn use_mux<W: Write>(out: &mut W) -> Result<(), Trouble> {
+    let mut mux = Mux::new(empty_shelf(4), empty_shelf(0));
+    let frame = frame_for_a();
+    match mux.hand(7, &frame) {
+        Ok(standing) => {
+            let (a, b) = (told(standing.a), told(standing.b));
+            writeln!(out, "A stands: {a}, B stands: {b}")?;
+        }
+        Err(_) => writeln!(out, "both down")?,
+    }
+    let (a, b) = mux.into_networks();
+    let (a_kept, b_failures) = (a.kept.len(), b.failures);
+    writeln!(out, "A kept {a_kept}, B failed {b_failures}")?;
+    Ok(())
+}
+
+/// Cuts a message of the first port of a configuration into two frames, and tells the second, for each
+/// network.
+fn use_cut<W: Write>(out: &mut W, config: &Config, message: Vec<u8>) -> Result<(), Trouble> {
+    if config.ports().is_empty() || config.links().is_empty() {
+        return Err(Trouble::Missing);
+    }
+    let (port, link) = (config.ports()[0], config.links()[0]);
+    let is_over = link.id == port.vl && port.sub < link.sub_vls;
+    if !is_over || message.is_empty() || message.len() > 8_192 {
+        return Err(Trouble::Missing);
+    }
+    let mut cut = Cut::new(message, 0, &port);
+    let _first = cut.next_frame(&link, 1, 0, Net::A);
+    let second = cut.next_frame(&link, 1, 1, Net::A).unwrap_or_default();
+    writeln!(out, "all given: {}", told(cut.is_done()))?;
+    tell_fields(out, second.as_slice())?;
+    tell_fields(out, twin(&second, Net::B).as_slice())
+}
+
+/// Tells what a configuration says.
+fn use_plan<W: Write>(out: &mut W, config: &Config) -> Result<(), Trouble> {
+    for link in config.links() {
+        let place = config.link_index(link.id).unwrap_or(64);
+        let (gap, most) = (link.bag.micros(), link.lmax.bytes());
+        let room = link.lmax.room();
+        writeln!(out, "link at {place}: gap {gap}, lmax {most}, room {room}")?;
+    }
+    for port in config.ports() {
+        let place = config.port_index(port.id).unwrap_or(256);
+        writeln!(out, "port at {place}")?;
+    }
+    writeln!(out, "jitter {}", jitter_ns(config))?;
+    Ok(())
+}
+
+/// The messages of a queue, each of one byte, and a longer one.
+#[derive(Drop)]
+struct Messages {
+    first: Vec<u8>,
+    second: Vec<u8>,
+    third: Vec<u8>,
+    long: Vec<u8>,
+}
+
+fn make_messages(alloc: Global) -> Result<Messages, Trouble> {
+    Ok(Messages {
+        first: message(alloc, 1)?,
+        second: message(alloc, 2)?,
+        third: message(alloc, 3)?,
+        long: vec![in alloc; 0xaau8; 1_472]?,
+    })
+}
+
+/// Makes a queue, a board and messages, and calls the parts. What is printed behind `made` takes no
+/// memory.
+pub fn call<W: Write, R: Wait>(rt: &R, alloc: Global, out: &mut W) -> Result<(), Trouble> {
+    let config = prepared(alloc)?;
+    let Messages {
+        first,
+        second,
+        third,
+        long,
+    } = make_messages(alloc)?;
+    let (receiver, senders) = make(alloc, 2, 1, 8)?;
+    let (board, monitor) = open_board(alloc, 1)?;
+    writeln!(out, "made")?;
+    use_queue(out, receiver, senders, first, second, third)?;
+    publish_told(rt, out, board, monitor)?;
+    use_shaper(out)?;
+    use_mux(out)?;
+    use_cut(out, &config, long)?;
+    use_plan(out, &config)
+}

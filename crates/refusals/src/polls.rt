@@ -1,0 +1,63 @@
+//! Polls that are told.
+ghost use Rattle.std.specs.Prelude.{◌≡◌, OnOk};
+ghost use Rattle.afdx_tx.specs.Emitter.{Tx};
+ghost use Rattle.afdx_tx.specs.Ports.{PortView, IsPortOfTx};
+
+use crate::trouble::Trouble;
+use afdx_tx::{Emitter, PollFault, Report, TxPort};
+use redundant_mux::Network;
+use std::alloc::Global;
+use std::io::Write;
+
+/// Whether a network stands, in a word.
+fn state(stands: bool) -> &'static str {
+    if stands { "stands" } else { "down" }
+}
+
+/// Tells what a poll released, and which networks stand then.
+pub fn tell_report<W: Write>(
+    out: &mut W,
+    now: u64,
+    answer: Result<Report, PollFault>,
+) -> Result<(), Trouble> {
+    match answer {
+        Ok(report) => {
+            let released = report.released.len();
+            let (a, b) = (state(report.standing.a), state(report.standing.b));
+            writeln!(out, "poll {now}: released {released}, A {a}, B {b}")?;
+        }
+        Err(fault) => writeln!(out, "poll {now}: {fault}")?,
+    }
+    Ok(())
+}
+
+/// Polls at a moment that isn't before the last one, and tells what came of it.
+pub fn poll_told<W: Write, A: Network + Drop, B: Network + Drop>(
+    out: &mut W,
+    tx: &mut Emitter<A, B>,
+    now: u64,
+) -> Result<(), Trouble>
+    ensures { OnOk result ((port : PortView) → IsPortOfTx tx.old port → IsPortOfTx tx.new port) }
+{
+    if now < tx.now() {
+        return Err(Trouble::Missing);
+    }
+    let answer = tx.poll(now);
+    tell_report(out, now, answer)
+}
+
+/// Sends a message, and tells how it is refused, if it is. The port stays one of its emitter.
+pub fn send_told<W: Write>(out: &mut W, port: &mut TxPort, message: Vec<u8>) -> Result<(), Trouble>
+    ensures { (tx : Tx) → IsPortOfTx tx port.old → IsPortOfTx tx port.new }
+{
+    match port.send(message) {
+        Ok(()) => writeln!(out, "send: Ok")?,
+        Err(fault) => writeln!(out, "send: {}", fault.why)?,
+    }
+    Ok(())
+}
+
+/// A message of one byte.
+pub fn message(alloc: Global, byte: u8) -> Result<Vec<u8>, Trouble> {
+    Ok(vec![in alloc; byte]?)
+}

@@ -1,0 +1,126 @@
+//! A queue that is made.
+ghost use Rattle.std.specs.Prelude.{◌≡◌};
+ghost use Rattle.subvl_queue.specs.Views.{AreOf};
+
+use crate::polls::message;
+use crate::trouble::Trouble;
+use std::alloc::Global;
+use std::io::Write;
+use subvl_queue::{Gathered, Receiver, Sender, make};
+
+/// The greatest message of a queue.
+const GREATEST: usize = 8_192;
+
+/// Sends a message, and tells why it is refused, if it is.
+pub fn send_told<W: Write>(
+    out: &mut W,
+    sender: &mut Sender,
+    message: Vec<u8>,
+) -> Result<(), Trouble>
+    ensures { sender.new.queue ≡ sender.old.queue }
+{
+    if message.is_empty() || message.len() > GREATEST {
+        return Err(Trouble::Missing);
+    }
+    match sender.send(message) {
+        Ok(()) => writeln!(out, "send: Ok")?,
+        Err(refused) => writeln!(out, "send: {}", refused.why)?,
+    }
+    Ok(())
+}
+
+/// Takes the next message, and tells its bytes, if there is one.
+pub fn take_told<W: Write>(out: &mut W, receiver: &mut Receiver) -> Result<(), Trouble>
+    ensures { receiver.new.queue ≡ receiver.old.queue }
+{
+    match receiver.take() {
+        Some(item) => writeln!(out, "take: {} {:?}", item.port, item.bytes.as_slice())?,
+        None => writeln!(out, "take: None")?,
+    }
+    Ok(())
+}
+
+/// Gathers a sender, and tells what is left.
+fn gather_told<W: Write>(
+    out: &mut W,
+    receiver: Receiver,
+    senders: Vec<Sender>,
+) -> Result<(), Trouble>
+    requires { AreOf receiver.queue senders.items }
+{
+    let Ok(gathered) = receiver.gather(senders) else {
+        return Err(Trouble::Missing);
+    };
+    take_left(out, gathered)
+}
+
+/// Takes the next message of a gathered queue, and tells its bytes, if there is one.
+pub fn take_left<W: Write>(out: &mut W, mut gathered: Gathered) -> Result<(), Trouble> {
+    match gathered.take() {
+        Some(item) => writeln!(out, "left: {} {:?}", item.port, item.bytes.as_slice())?,
+        None => writeln!(out, "left: None")?,
+    }
+    Ok(())
+}
+
+/// Four messages of one byte.
+#[derive(Drop)]
+struct Four {
+    first: Vec<u8>,
+    second: Vec<u8>,
+    third: Vec<u8>,
+    fourth: Vec<u8>,
+}
+
+/// Sends more messages than have room, and more than may be asked for.
+fn send_four<W: Write>(
+    out: &mut W,
+    receiver: &mut Receiver,
+    sender: &mut Sender,
+    messages: Four,
+) -> Result<(), Trouble>
+    ensures receiver { receiver.new.queue ≡ receiver.old.queue }
+    ensures sender { sender.new.queue ≡ sender.old.queue }
+{
+    send_told(out, sender, messages.first)?;
+    send_told(out, sender, messages.second)?;
+    send_told(out, sender, messages.third)?;
+    take_told(out, receiver)?;
+    send_told(out, sender, messages.fourth)?;
+    writeln!(out, "accepted {}", sender.accepted())?;
+    Ok(())
+}
+
+/// Uses a queue of one place and one sender.
+fn answer<W: Write>(
+    out: &mut W,
+    mut receiver: Receiver,
+    mut senders: Vec<Sender>,
+    messages: Four,
+) -> Result<(), Trouble>
+    requires { AreOf receiver.queue senders.items }
+{
+    if senders.len() != 1 {
+        return Err(Trouble::Missing);
+    }
+    send_four(out, &mut receiver, &mut senders[0], messages)?;
+    gather_told(out, receiver, senders)
+}
+
+/// Makes a queue of one place, whose sender may ask twice; once more where memory was refused.
+pub fn make_one<W: Write>(alloc: Global, out: &mut W) -> Result<(), Trouble> {
+    let messages = Four {
+        first: message(alloc, 1)?,
+        second: message(alloc, 2)?,
+        third: message(alloc, 3)?,
+        fourth: message(alloc, 4)?,
+    };
+    if let Ok((receiver, senders)) = make(alloc, 1, 1, 2) {
+        return answer(out, receiver, senders, messages);
+    }
+    writeln!(out, "refused AllocError")?;
+    match make(alloc, 1, 1, 2) {
+        Ok((receiver, senders)) => answer(out, receiver, senders, messages),
+        Err(_) => Err(Trouble::Twice),
+    }
+}

@@ -1,0 +1,186 @@
+//! An emitter that takes no memory once it is opened.
+ghost use Rattle.std.specs.Prelude.{◌≡◌, ◌<◌, IfOk, OnOk};
+ghost use Rattle.status_board.specs.Views.{links_of};
+ghost use Rattle.afdx_tx.specs.Ports.{PortView, IsPortOfTx};
+
+use crate::boards::tell_counts;
+use crate::configs::prepared;
+use crate::polls::{message, poll_told, send_told, tell_report};
+use crate::shelf::{Shelf, empty_shelf};
+use crate::trouble::Trouble;
+use afdx_frame::{ident_of, more_of, offset_of, sn_of, sub_of, vl_of};
+use afdx_plan::VlId;
+use afdx_tx::{Draining, Emitter, TxPort, open_tx};
+use status_board::Monitor;
+use std::alloc::Global;
+use std::io::Write;
+use std::sync::Wait;
+
+/// What is opened, with the one port taken out of the list of ports.
+#[derive(Drop)]
+struct Opened {
+    tx: Emitter<Shelf, Shelf>,
+    port: TxPort,
+    others: Vec<TxPort>,
+    monitor: Monitor,
+}
+
+/// Opens the demonstration configuration over networks that take no memory.
+fn open(alloc: Global) -> Result<Opened, Trouble>
+    ensures port { IfOk result (λ opened. IsPortOfTx opened.tx opened.port) }
+    ensures monitor { IfOk result (λ opened. 0 < links_of opened.monitor) }
+{
+    let config = prepared(alloc)?;
+    if config.links().is_empty() {
+        return Err(Trouble::Missing);
+    }
+    match open_tx(alloc, config, empty_shelf(4), empty_shelf(4)) {
+        Ok((tx, mut others, monitor)) => match others.pop() {
+            Some(port) => Ok(Opened {
+                tx,
+                port,
+                others,
+                monitor,
+            }),
+            None => Err(Trouble::Missing),
+        },
+        Err(_) => Err(Trouble::NotOpened),
+    }
+}
+
+/// Sends a message, and polls twice.
+fn send_and_poll<W: Write>(
+    out: &mut W,
+    tx: &mut Emitter<Shelf, Shelf>,
+    port: &mut TxPort,
+    message: Vec<u8>,
+) -> Result<(), Trouble>
+    ensures { OnOk result (IsPortOfTx tx.old port.old → IsPortOfTx tx.new port.new) }
+{
+    send_told(out, port, message)?;
+    poll_told(out, tx, 0)?;
+    poll_told(out, tx, 1_000)
+}
+
+/// Publishes, and reads the board.
+fn publish_and_read<W: Write, R: Wait>(
+    rt: &R,
+    out: &mut W,
+    tx: &mut Emitter<Shelf, Shelf>,
+    monitor: &mut Monitor,
+) -> Result<(), Trouble>
+    requires { 0 < links_of monitor.old }
+    ensures { tx.new ≡ record tx.old { board = tx.new.board } }
+{
+    tx.publish(rt);
+    tell_counts(out, monitor.read(rt, 0))
+}
+
+/// Closes the one sub-VL, and tells how many messages were accepted.
+fn close_told<W: Write>(out: &mut W, tx: &mut Emitter<Shelf, Shelf>) -> Result<(), Trouble>
+    ensures { OnOk result ((port : PortView) → IsPortOfTx tx.old port → IsPortOfTx tx.new port) }
+{
+    match tx.close(VlId(1), 0) {
+        Ok(total) => writeln!(out, "closed {total}")?,
+        Err(fault) => writeln!(out, "{fault}")?,
+    }
+    Ok(())
+}
+
+/// Gathers the one port, in the list that it came out of.
+fn gather(
+    tx: Emitter<Shelf, Shelf>,
+    others: Vec<TxPort>,
+    port: TxPort,
+) -> Result<Draining<Shelf, Shelf>, Trouble>
+    requires { IsPortOfTx tx port }
+{
+    let mut ports = others;
+    ports.clear();
+    ports.push(port)?;
+    match tx.gather(ports) {
+        Ok(draining) => Ok(draining),
+        Err(_) => Err(Trouble::Missing),
+    }
+}
+
+/// Polls for what is left, publishes and ends.
+fn drain<W: Write, R: Wait>(
+    rt: &R,
+    out: &mut W,
+    mut draining: Draining<Shelf, Shelf>,
+) -> Result<(Shelf, Shelf), Trouble> {
+    if 2_000 < draining.now() {
+        return Err(Trouble::Missing);
+    }
+    let answer = draining.poll(2_000);
+    tell_report(out, 2_000, answer)?;
+    draining.publish(rt);
+    let done = if draining.is_done() {
+        "done"
+    } else {
+        "not done"
+    };
+    writeln!(out, "{done}")?;
+    Ok(draining.into_networks())
+}
+
+/// Tells the fields of a frame.
+pub fn tell_fields<W: Write>(out: &mut W, frame: &[u8]) -> Result<(), Trouble> {
+    let (vl, sub, number) = (vl_of(frame), sub_of(frame), sn_of(frame));
+    let (ident, offset, more) = (ident_of(frame), offset_of(frame), more_of(frame));
+    let vl = vl.map_or(0, |id| id.0);
+    let (sub, number) = (sub.unwrap_or(255), number.unwrap_or(255));
+    let (ident, offset) = (ident.unwrap_or(65_535), offset.unwrap_or(65_535));
+    let more = if more == Some(true) { "more" } else { "last" };
+    let length = frame.len();
+    writeln!(out, "{length} bytes, link {vl} sub {sub}, number {number}")?;
+    writeln!(out, "message {ident}, offset {offset}, {more}")?;
+    Ok(())
+}
+
+/// Tells what a network was handed.
+fn tell_shelf<W: Write>(out: &mut W, name: &str, shelf: &Shelf) -> Result<(), Trouble> {
+    for kept in shelf.kept.as_slice() {
+        writeln!(out, "{name} {}", kept.at)?;
+        tell_fields(out, kept.frame.as_slice())?;
+    }
+    Ok(())
+}
+
+/// Sends, polls, publishes, reads, sends once more, closes and gathers.
+fn use_all<W: Write, R: Wait>(
+    rt: &R,
+    out: &mut W,
+    opened: Opened,
+    long: Vec<u8>,
+    short: Vec<u8>,
+) -> Result<(), Trouble>
+    requires port { IsPortOfTx opened.tx opened.port }
+    requires monitor { 0 < links_of opened.monitor }
+{
+    let Opened {
+        mut tx,
+        mut port,
+        others,
+        mut monitor,
+    } = opened;
+    send_and_poll(out, &mut tx, &mut port, long)?;
+    publish_and_read(rt, out, &mut tx, &mut monitor)?;
+    send_told(out, &mut port, short)?;
+    close_told(out, &mut tx)?;
+    let draining = gather(tx, others, port)?;
+    let (a, b) = drain(rt, out, draining)?;
+    tell_shelf(out, "A", &a)?;
+    tell_shelf(out, "B", &b)
+}
+
+/// Sends a message of two frames, and one that is left to the drain. Both are made before the emitter is
+/// opened. What is printed behind `opened` takes no memory.
+pub fn send<W: Write, R: Wait>(rt: &R, alloc: Global, out: &mut W) -> Result<(), Trouble> {
+    let long = vec![in alloc; 0xaau8; 1_472]?;
+    let short = message(alloc, 1)?;
+    let opened = open(alloc)?;
+    writeln!(out, "opened")?;
+    use_all(rt, out, opened, long, short)
+}
