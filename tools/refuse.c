@@ -1,0 +1,110 @@
+/* Refuses requests for memory, or for a thread, of a program that this is preloaded into.
+ *
+ * REFUSE_FROM  the number, counted from 1, of the first request that is refused; 0 refuses none
+ * REFUSE_MANY  how many requests are refused from there on; 0 refuses all
+ * REFUSE_COUNT a file of eight bytes, in which the number of requests is kept while the program runs
+ *
+ * Requests are counted from the start of the program on, those of all its threads together. What the
+ * loader asks for before is neither counted nor refused. */
+#define _GNU_SOURCE
+#include <dlfcn.h>
+#include <errno.h>
+#include <fcntl.h>
+#include <pthread.h>
+#include <stdatomic.h>
+#include <stdint.h>
+#include <stdlib.h>
+#include <sys/mman.h>
+#include <unistd.h>
+
+extern void *__libc_malloc(size_t);
+extern void *__libc_calloc(size_t, size_t);
+extern void *__libc_realloc(void *, size_t);
+extern void *__libc_memalign(size_t, size_t);
+
+static _Atomic uint64_t *requests;
+static uint64_t from;
+static uint64_t many;
+
+typedef int start_thread(pthread_t *, const pthread_attr_t *, void *(*)(void *), void *);
+static start_thread *start;
+
+static uint64_t number_in(const char *name) {
+    const char *text = getenv(name);
+    return text ? strtoull(text, NULL, 10) : 0;
+}
+
+/* The file is mapped, so that the count stands there however the program ends. */
+__attribute__((constructor)) static void begin(void) {
+    const char *path = getenv("REFUSE_COUNT");
+    int file = path ? open(path, O_RDWR | O_CLOEXEC) : -1;
+    if (file < 0) {
+        _exit(99);
+    }
+    void *page = mmap(NULL, sizeof *requests, PROT_READ | PROT_WRITE, MAP_SHARED, file, 0);
+    close(file);
+    if (page == MAP_FAILED) {
+        _exit(99);
+    }
+    from = number_in("REFUSE_FROM");
+    many = number_in("REFUSE_MANY");
+    start = (start_thread *)dlsym(RTLD_NEXT, "pthread_create");
+    if (!start) {
+        _exit(99);
+    }
+    requests = page;
+}
+
+static int is_refused(void) {
+    if (!requests) {
+        return 0;
+    }
+    uint64_t number = atomic_fetch_add(requests, 1) + 1;
+    if (!from || number < from || (many && number - from >= many)) {
+        return 0;
+    }
+    errno = ENOMEM;
+    return 1;
+}
+
+void *malloc(size_t size) {
+    return is_refused() ? NULL : __libc_malloc(size);
+}
+
+void *calloc(size_t count, size_t size) {
+    return is_refused() ? NULL : __libc_calloc(count, size);
+}
+
+void *realloc(void *old, size_t size) {
+    return is_refused() ? NULL : __libc_realloc(old, size);
+}
+
+void *reallocarray(void *old, size_t count, size_t size) {
+    size_t whole;
+    if (__builtin_mul_overflow(count, size, &whole)) {
+        errno = ENOMEM;
+        return NULL;
+    }
+    return realloc(old, whole);
+}
+
+void *memalign(size_t alignment, size_t size) {
+    return is_refused() ? NULL : __libc_memalign(alignment, size);
+}
+
+void *aligned_alloc(size_t alignment, size_t size) {
+    return memalign(alignment, size);
+}
+
+int posix_memalign(void **made, size_t alignment, size_t size) {
+    void *memory = memalign(alignment, size);
+    if (!memory) {
+        return ENOMEM;
+    }
+    *made = memory;
+    return 0;
+}
+
+int pthread_create(pthread_t *made, const pthread_attr_t *how, void *(*run)(void *), void *with) {
+    return is_refused() ? EAGAIN : start(made, how, run, with);
+}
