@@ -2,6 +2,8 @@
 #![tactic(auto)]
 
 #[cfg(test)]
+mod damage_tests;
+#[cfg(test)]
 mod plan_tests;
 #[cfg(test)]
 mod read_tests;

@@ -6,7 +6,7 @@ use std::process::Abort;
 use std::test::Fail;
 
 // the text of the demonstration configuration
-const TEXT: &str = "[end_system]
+pub const TEXT: &str = "[end_system]
 id = 1
 
 [[vl]]

@@ -1,0 +1,204 @@
+use crate::read_tests::TEXT;
+use afdx_config::read_config;
+use afdx_plan::{Config, Kind, LinkPlan, PortPlan, VlId};
+use std::alloc::{AllocError, Global};
+use std::process::Abort;
+
+/// Whether a link's values are in their ranges.
+fn is_link(link: &LinkPlan) -> bool {
+    let lmax = link.lmax.bytes();
+    (64..=1518).contains(&lmax)
+        && (1..=4).contains(&link.sub_vls)
+        && (1..=256).contains(&link.capacity)
+}
+
+/// Whether a port's values are in their ranges, over its link.
+fn is_port(port: &PortPlan, link: &LinkPlan) -> bool {
+    port.vl == link.id
+        && port.sub < link.sub_vls
+        && port.partition <= 31
+        && port.source > 0
+        && port.destination > 0
+        && (1..=8192).contains(&port.max)
+}
+
+/// Asserts that a plan has one link and one port with values in their ranges.
+fn assert_in_ranges(rt: &impl Abort, plan: &Config) {
+    assert_eq!(rt; plan.links().len(), 1);
+    assert_eq!(rt; plan.ports().len(), 1);
+    let link = &plan.links()[0];
+    assert!(rt; is_link(link), "{link:?}");
+    let port = &plan.ports()[0];
+    assert!(rt; is_port(port, link), "{port:?}");
+}
+
+/// The number of the fault of a text, or 0 where it is a plan, which is then asserted to be one.
+fn fault_of_checked(rt: &impl Abort, alloc: Global, text: &[u8]) -> u8 {
+    match read_config(alloc, text) {
+        Ok(plan) => {
+            assert_in_ranges(rt, &plan);
+            0
+        }
+        Err(fault) => fault.number(),
+    }
+}
+
+/// The text of the demonstration with another byte at a place.
+fn damaged(alloc: Global, place: usize, byte: u8) -> Result<Vec<u8>, AllocError> {
+    let mut text = TEXT.as_bytes().to_vec(alloc)?;
+    if let Some(old) = text.get_mut(place) {
+        *old = byte;
+    }
+    Ok(text)
+}
+
+/// Asserts the fault, as a digit, of the text with this byte at each place in turn.
+fn assert_damage(rt: &impl Abort, alloc: Global, byte: u8, faults: &str) {
+    assert_eq!(rt; faults.len(), TEXT.len());
+    for (place, digit) in faults.as_bytes().iter().enumerate() {
+        let text = damaged(alloc, place, byte).expect(rt, "memory");
+        let number = fault_of_checked(rt, alloc, &text);
+        assert_eq!(rt;
+            number,
+            digit.saturating_sub(b'0'),
+            "{byte:#04x} at {place}"
+        );
+    }
+}
+
+#[test]
+fn each_byte_replaced_gives_a_plan_or_the_fault_of_another_reader(rt: HostRuntime) {
+    for (byte, faults) in DAMAGES {
+        assert_damage(&rt, rt.alloc(), byte, faults);
+    }
+}
+
+// The greatest message of each prefix that is a plan, by how many bytes it lacks.
+const CUTS: [(usize, usize); 5] = [(4, 8), (3, 81), (2, 819), (1, 8192), (0, 8192)];
+
+/// The text of the demonstration without so many bytes at its end.
+fn cut_by(lacking: usize) -> &'static [u8] {
+    let text = TEXT.as_bytes();
+    &text[..text.len().saturating_sub(lacking)]
+}
+
+/// Asserts that a text is the demonstration's plan but for its port's greatest message.
+fn assert_greatest(rt: &impl Abort, alloc: Global, text: &[u8], max: usize) {
+    let plan = read_config(alloc, text).expect(rt, "a plan");
+    assert_in_ranges(rt, &plan);
+    assert_eq!(rt; plan.links()[0].id, VlId(1));
+    let port = &plan.ports()[0];
+    assert_eq!(rt;
+        (port.kind, port.source, port.max),
+        (Kind::Queuing, 1000, max)
+    );
+}
+
+#[test]
+fn a_prefix_that_is_a_plan_has_the_greatest_message_of_its_digits(rt: HostRuntime) {
+    for (lacking, max) in CUTS {
+        assert_greatest(&rt, rt.alloc(), cut_by(lacking), max);
+    }
+}
+
+// A byte, and the number of the fault, or 0, that the demonstration's text has with this byte in
+// place of each of its bytes in turn: of its head, its link and its port. They were found by Python's
+// `tomllib` and the rules of `docs/configuration.md`. Where the byte stood there already, it is 0.
+const DAMAGES: [(u8, &str); 16] = [
+    (
+        0x00,
+        "111111111111111111111\
+         111111111111111111111111111111111111111111111111111111111111111\
+         11111111111111111111111111111111111111111111111111111111111111111111111111111111111111111111111111111111111",
+    ),
+    (
+        b'\n',
+        "111111111111021111100\
+         111111021111102111111111021111111110021111111111021111111111100\
+         11111111021111100211111021111110211111111111102111111111111111021111111111100211111111111111110021111111100",
+    ),
+    (
+        b' ',
+        "121111111121122010100\
+         112211122010112111120101121120100110121111120101121111112010100\
+         11211211122010001220101121201011211111112010112112010155555551121111201011101211111111120101110121201001100",
+    ),
+    (
+        b'"',
+        "111111111111111111111\
+         111111111111111111111111111111111111111111111111111111111111111\
+         11111111111111111111111111111111111111111111111111111011111110111111111111111111111111111111111111111111111",
+    ),
+    (
+        b'#',
+        "211111111111221111101\
+         111111221111122111111111221111111550221111111111221111111111101\
+         11111111221111102211111221111112211111111111122111111155555551221111111110002211111111111111000221111110000",
+    ),
+    (
+        b'-',
+        "122222222221122215111\
+         112211122215112222222161122222155111122222222151122222222215111\
+         11222211122215011222151122221011222222222215112222211155555551122222221511111222222222222151111122221551111",
+    ),
+    (
+        b'.',
+        "112222222211111111111\
+         111111111111111222211111112211111441112222211111112222221111111\
+         11122111111111111111111112111111122222221111111221111155555551112222111114411122222222211111441112111114411",
+    ),
+    (
+        b'0',
+        "122222222221122211001\
+         112211122211912222222116122222111000122222222115122222222211501\
+         11222211122211101222119122221101222222222211012222211155555551122222221110001222222222222111000122221110005",
+    ),
+    (
+        b'9',
+        "122222222221122210001\
+         112211122219912222222166122222155555122222222155122222222210001\
+         11222211122210001222199122221551222222222215012222211155555551122222221500001222222222222150000122221555055",
+    ),
+    (
+        b'=',
+        "111111111111111101111\
+         111111111101111111111011111111011111111111111011111111111101111\
+         11111111111101111111011111110111111111111101111111101155555551111111110111111111111111111011111111110111111",
+    ),
+    (
+        b'[',
+        "011111111111111111111\
+         001111111111111111111111111111111111111111111111111111111111111\
+         00111111111111111111111111111111111111111111111111111155555551111111111111111111111111111111111111111111111",
+    ),
+    (
+        b']',
+        "111111111110111111111\
+         111100111111111111111111111111111111111111111111111111111111111\
+         11111100111111111111111111111111111111111111111111111155555551111111111111111111111111111111111111111111111",
+    ),
+    (
+        b'a',
+        "122222222221122211111\
+         112211122211112022222111122022111111122222222111120202222211111\
+         11222211122211111222111122221111202222222211112222211155555551122222221111111222222022222111111120221111111",
+    ),
+    (
+        0x7f,
+        "111111111111111111111\
+         111111111111111111111111111111111111111111111111111111111111111\
+         11111111111111111111111111111111111111111111111111111111111111111111111111111111111111111111111111111111111",
+    ),
+    (
+        0x80,
+        "111111111111111111111\
+         111111111111111111111111111111111111111111111111111111111111111\
+         11111111111111111111111111111111111111111111111111111111111111111111111111111111111111111111111111111111111",
+    ),
+    (
+        0xff,
+        "111111111111111111111\
+         111111111111111111111111111111111111111111111111111111111111111\
+         11111111111111111111111111111111111111111111111111111111111111111111111111111111111111111111111111111111111",
+    ),
+];
