@@ -1,6 +1,7 @@
 use crate::helpers::{FIRST, Small, assert_run, at_line, expected, run, sums, transcript};
 use std::alloc::{AllocError, Global};
 use std::io::{self, Read, Write};
+use std::process::Abort;
 use std::test::Fail;
 use tx_script::{LineFault, RunFault, Summary};
 
@@ -26,67 +27,96 @@ fn late_text(alloc: Global, bytes: usize) -> Result<String, AllocError> {
     Ok(text)
 }
 
-// Gives one byte a call.
+// Gives so many bytes a call at most.
 #[derive(Drop)]
-struct Single<'a>(&'a [u8]);
+struct Short<'a> {
+    left: &'a [u8],
+    most: usize,
+}
 
-impl Read for Single<'_> {
+impl Read for Short<'_> {
     fn read(&mut self, buf: &mut [u8]) -> io::Result<usize> {
-        let len = buf.len().min(1);
-        self.0.read(&mut buf[..len])
+        let len = buf.len().min(self.most);
+        self.left.read(&mut buf[..len])
     }
 }
 
 #[test]
-fn a_reader_may_give_one_byte_a_call(rt: HostRuntime) -> Result<(), Fail> {
+fn a_reader_may_give_few_bytes_a_call(rt: HostRuntime) -> Result<(), Fail> {
     let wanted = late_text(rt.alloc(), LATE.len())?;
-    let reader = Single(LATE.as_bytes());
-    assert_run(
-        &rt,
-        rt.alloc(),
-        reader,
-        Ok(sums(2, 1, 1)),
-        wanted.as_bytes(),
-    );
-    Ok(())
-}
-
-// Fails at the end of its text.
-#[derive(Drop)]
-struct Broken<'a>(&'a [u8]);
-
-impl Read for Broken<'_> {
-    fn read(&mut self, buf: &mut [u8]) -> io::Result<usize> {
-        if self.0.is_empty() {
-            return Err(io::Error::from(io::ErrorKind::Other));
-        }
-        self.0.read(buf)
-    }
-}
-
-#[test]
-fn a_reader_that_fails_at_any_byte_ends_the_run_there(rt: HostRuntime) -> Result<(), Fail> {
-    for bytes in 0..=LATE.len() {
-        let wanted = late_text(rt.alloc(), bytes)?;
-        let reader = Broken(&LATE.as_bytes()[..bytes]);
-        let told = Err(RunFault::Read);
+    for most in [1, 2, 3, LATE.len()] {
+        let left = LATE.as_bytes();
+        let told = Ok(sums(2, 1, 1));
+        let reader = Short { left, most };
         assert_run(&rt, rt.alloc(), reader, told, wanted.as_bytes());
     }
     Ok(())
 }
 
-// Takes so many writes, and then fails.
+// Fails once, between two parts of its text.
+#[derive(Drop)]
+struct Broken<'a> {
+    before: &'a [u8],
+    failure: Option<io::ErrorKind>,
+    behind: &'a [u8],
+}
+
+impl Read for Broken<'_> {
+    fn read(&mut self, buf: &mut [u8]) -> io::Result<usize> {
+        if !self.before.is_empty() {
+            return self.before.read(buf);
+        }
+        match self.failure.take() {
+            Some(kind) => Err(io::Error::from(kind)),
+            None => self.behind.read(buf),
+        }
+    }
+}
+
+// Asserts that a reader which fails at any byte of `LATE` ends the run there, though it would go on.
+fn assert_broken<T: Abort>(rt: &T, alloc: Global, kind: io::ErrorKind) {
+    for bytes in 0..=LATE.len() {
+        let wanted = late_text(alloc, bytes).expect(rt, "memory");
+        let (before, behind) = LATE.as_bytes().split_at(bytes);
+        let failure = Some(kind);
+        let reader = Broken {
+            before,
+            failure,
+            behind,
+        };
+        assert_run(rt, alloc, reader, Err(RunFault::Read), wanted.as_bytes());
+    }
+}
+
+#[test]
+fn a_reader_that_fails_at_any_byte_ends_the_run_there(rt: HostRuntime) {
+    let kinds = [
+        io::ErrorKind::Other,
+        io::ErrorKind::Interrupted,
+        io::ErrorKind::WouldBlock,
+        io::ErrorKind::UnexpectedEof,
+    ];
+    for kind in kinds {
+        assert_broken(&rt, rt.alloc(), kind);
+    }
+}
+
+// Takes so many writes, and then fails at each. It keeps what it took, and how often it failed.
 #[derive(Drop)]
 struct Limited {
     left: u32,
+    text: Vec<u8>,
+    failures: u32,
 }
 
 impl Write for Limited {
     fn write(&mut self, buf: &[u8]) -> io::Result<usize> {
         if self.left == 0 {
+            self.failures = self.failures.saturating_add(1);
             return Err(io::Error::from(io::ErrorKind::Other));
         }
         self.left -= 1;
+        self.text.extend_from_slice(buf)?;
         Ok(buf.len())
     }
 
@@ -95,25 +125,45 @@ impl Write for Limited {
     }
 }
 
-// What a script comes to over a writer that takes so many writes, and how many of them are left.
-fn run_limited(alloc: Global, left: u32) -> (Result<Summary, RunFault>, u32) {
-    let script = b"send 99 01\nsend 10 01\nat 0\nat 5\nclose 1 0\nat 0\n";
-    let mut writer = Limited { left };
-    let told = run(alloc, script.as_slice(), &mut writer);
-    (told, writer.left)
+// What a script comes to over a writer that takes so many writes, and the writer.
+fn run_limited(alloc: Global, script: &str, left: u32) -> (Result<Summary, RunFault>, Limited) {
+    let mut writer = Limited {
+        left,
+        text: Vec::new(alloc),
+        failures: 0,
+    };
+    let told = run(alloc, script.as_bytes(), &mut writer);
+    (told, writer)
+}
+
+// How many writes a script's run makes.
+fn writes_of<T: Abort>(rt: &T, alloc: Global, script: &str, wanted: Summary) -> u32 {
+    let (told, writer) = run_limited(alloc, script, 1_000);
+    assert_eq!(rt; told, Ok(wanted));
+    1_000u32.saturating_sub(writer.left)
+}
+
+// Asserts that a writer which fails at any write of a script's run ends it, and is asked no more.
+fn assert_limited<T: Abort>(rt: &T, alloc: Global, script: &str, wanted: Summary) {
+    let (_, whole) = transcript(alloc, script.as_bytes());
+    let writes = writes_of(rt, alloc, script, wanted);
+    assert!(rt; writes > 4);
+    for left in 0..writes {
+        let (told, writer) = run_limited(alloc, script, left);
+        assert_eq!(rt; told, Err(RunFault::Write), "at {left}");
+        assert_eq!(rt; (writer.left, writer.failures), (0, 1), "at {left}");
+        assert!(rt;
+            whole.as_slice().starts_with(writer.text.as_slice()),
+            "at {left}"
+        );
+    }
 }
 
 #[test]
 fn a_writer_that_fails_at_any_write_ends_the_run(rt: HostRuntime) {
-    let (told, unused) = run_limited(rt.alloc(), 1_000);
-    assert_eq!(rt; told, Ok(sums(1, 2, 1)));
-    let writes = 1_000u32.saturating_sub(unused);
-    assert!(rt; writes > 4);
-    for left in 0..writes {
-        let (told, left_over) = run_limited(rt.alloc(), left);
-        assert_eq!(rt; told, Err(RunFault::Write), "at {left}");
-        assert_eq!(rt; left_over, 0, "at {left}");
-    }
+    let closing = "send 99 01\nsend 10 01\nat 0\nat 5\nclose 1 0\nat 0\n";
+    assert_limited(&rt, rt.alloc(), closing, sums(1, 2, 1));
+    assert_limited(&rt, rt.alloc(), LATE, sums(2, 1, 1));
 }
 
 #[test]
@@ -182,4 +232,36 @@ fn each_prefix_of_a_script_has_its_fault_or_none(rt: HostRuntime) -> Result<(), 
         assert_eq!(rt; text.as_slice(), wanted.as_bytes(), "at {bytes}");
     }
     Ok(())
+}
+
+// A line of so many blanks behind two lines that send a message, and so many bytes of a third one.
+fn long_line(alloc: Global, blanks: usize, end: &[u8]) -> Result<Vec<u8>, AllocError> {
+    let mut script = b"send 10 01\nat 0\n".as_slice().to_vec(alloc)?;
+    let line = vec![in alloc; b' '; blanks]?;
+    script.extend_from_slice(&line)?;
+    script.extend_from_slice(end)?;
+    Ok(script)
+}
+
+// Asserts what a run with such a line comes to, once the first message went out.
+fn assert_long<T: Abort>(
+    rt: &T,
+    alloc: Global,
+    blanks: usize,
+    end: &[u8],
+    told: Result<Summary, RunFault>,
+) {
+    let wanted = first_at(alloc, 0).expect(rt, "memory");
+    let script = long_line(alloc, blanks, end).expect(rt, "memory");
+    assert_run(rt, alloc, script.as_slice(), told, wanted.as_bytes());
+}
+
+#[test]
+fn a_line_past_its_limit_ends_the_run_whether_or_not_it_ends(rt: HostRuntime) {
+    let long = Err(at_line(3, LineFault::Long));
+    let ends: [&[u8]; 4] = [b"", b"\n", b"\r\n", b"at 1000\nat 2000\n"];
+    for end in ends {
+        assert_long(&rt, rt.alloc(), 20_001, end, long);
+    }
+    assert_long(&rt, rt.alloc(), 20_000, b"", Ok(sums(1, 0, 1)));
 }
