@@ -1,11 +1,12 @@
 #!/usr/bin/env python3
-"""Refuses each request for memory of the built programs in turn, and closes their standard output early.
+"""Refuses requests for memory of the built programs and tests, and closes the programs' standard output early.
 
     python3 tools/refusals.py
 
 It runs what `rt ci` has built, the programs `refusals` and `afdx_bench` as each compiler makes them, with
 `tools/refuse.c` preloaded: a run for each request for memory or for a thread, which is refused, until a run
-makes fewer requests. Each run has to end as is promised, with no signal. The last line is
+makes fewer requests. Each run has to end as is promised, with no signal. Of each test the first requests
+are refused in turn, and others among the rest (`refusals_tests.py`). The last line is
 'N passed, M failed', and the exit status 0 exactly where nothing failed.
 """
 import os
@@ -19,6 +20,7 @@ from concurrent.futures import ThreadPoolExecutor
 
 # (no compiled copy is left beside the scripts)
 sys.dont_write_bytecode = True
+from refusals_tests import check_tests
 from refusals_wanted import CASES, COMMANDS, DEMO, LONG, SCRIPT, closed_commands
 
 ROOT = os.path.dirname(os.path.dirname(os.path.abspath(__file__)))
@@ -154,10 +156,19 @@ def check_closed(bench, program, build, words):
     return is_well
 
 
-def built(name):
-    """What each compiler has made of a program, by the compiler's name. LLVM makes each."""
-    paths = {build: f"{ROOT}/crates/{name}/out/{name}{ending}" for build, ending in BUILDS.items()}
+def built(name, tests=""):
+    """What each compiler has made of a program, or of a crate's tests, by the compiler's name. LLVM makes each."""
+    paths = {build: f"{ROOT}/crates/{name}/out/{name}{tests}{ending}" for build, ending in BUILDS.items()}
     return {build: path for build, path in paths.items() if build == "LLVM" or os.path.isfile(path)}
+
+
+def crates_with_tests():
+    """The crates that have tests, by name."""
+    every = sorted(os.listdir(f"{ROOT}/crates"))
+    tested = [name for name in every if os.path.isfile(f"{ROOT}/crates/{name}/out/{name}_tests")]
+    if not tested:
+        raise OSError("no crate's tests are built")
+    return tested
 
 
 def main():
@@ -180,6 +191,9 @@ def check_all():
         for build, program in built("afdx_bench").items():
             results += [check_case(bench, program, build, case) for case in COMMANDS]
             results += [check_closed(bench, program, build, words) for words in closed_commands()]
+        for name in crates_with_tests():
+            folder = f"{ROOT}/crates/{name}"
+            results += [check_tests(bench, folder, *it[::-1]) for it in built(name, "_tests").items()]
     return results
 
 

@@ -1,0 +1,77 @@
+"""Refuses requests for memory of the built tests: the first ones of each test, and others spread over the rest.
+
+Most tests say nothing of memory, so what is promised of these runs is that each comes to its end as a test does: it
+passes, it fails with a fault that it says, or it stops at an assertion of its own. None ends in another way.
+"""
+import os
+import re
+import signal
+import subprocess
+import time
+from concurrent.futures import ThreadPoolExecutor
+
+# How many requests of a test are refused, and for how many seconds at most, if none but the first took as long.
+FIRST, SPREAD = 16, 16
+SECONDS = 1.5
+# More than any test asks for.
+NONE = 2**62
+
+
+def names_of(program):
+    """The tests of a crate, by name."""
+    listed = subprocess.run([program, "--list"], capture_output=True, text=True, timeout=60, check=True)
+    return re.findall(r"(?m)^(\S+): test$", listed.stdout)
+
+
+def numbers_of(requests, seconds):
+    """Which of so many requests are refused, of a test that takes so many seconds."""
+    many = min(FIRST + SPREAD, max(int(SECONDS / seconds), 2))
+    first = min(many - many // 2, requests)
+    rest = min(many - first, requests - first)
+    return [*range(1, first + 1), *(first + 1 + (requests - first) * it // rest for it in range(rest))]
+
+
+def is_assertion(folder, ran):
+    """Whether a run stopped at an assertion of the tests in this folder. That is by `abort`, once it has said where."""
+    at = re.search(r"\ntest stopped at (src/\S+\.rt):(\d+):\d+\n\Z", ran.out)
+    if ran.status != -signal.SIGABRT or not at or not os.path.isfile(f"{folder}/{at[1]}"):
+        return False
+    with open(f"{folder}/{at[1]}", encoding="utf-8") as file:
+        line = file.read().split("\n")[int(at[2]) - 1]
+    return bool(re.search(r"\bassert(_eq|_ne)?!|\.(expect|unwrap)(_err)?\(|\bpanic!", line))
+
+
+def has_ended(folder, ran):
+    """Whether the test passed, failed with a fault, or stopped at an assertion."""
+    passed = ran.status == 0 and ran.out.endswith("test result: ok\n")
+    failed = ran.status == 101 and "the test failed: its result gives status" in ran.err
+    return passed or failed or is_assertion(folder, ran)
+
+
+def faults_of(bench, folder, program, name):
+    """Runs of a test that didn't end as promised, as texts, and how many requests of it were refused."""
+    begun = time.monotonic()
+    whole = bench.run(program, [name], b"", NONE, 1)
+    if whole.status:
+        return [f"{name} with all memory: {whole}"], 0
+    numbers = numbers_of(whole.requests, time.monotonic() - begun)
+    runs = [(number, bench.run(program, [name], b"", number, 1)) for number in numbers]
+    return [f"{name}, request {number} refused: {ran}" for number, ran in runs if not has_ended(folder, ran)], len(numbers)
+
+
+def check_tests(bench, folder, program, build):
+    """Refuses requests of each test of the crate in this folder, tells what came of it, and says whether all is as promised."""
+    try:
+        names = names_of(program)
+        with ThreadPoolExecutor(len(os.sched_getaffinity(0))) as pool:
+            each = list(pool.map(lambda name: faults_of(bench, folder, program, name), names))
+        faults, refused = [it for found, _ in each for it in found], sum(many for _, many in each)
+    except (OSError, subprocess.SubprocessError) as error:
+        faults, refused = [str(error)], 0
+    if not faults and not refused:
+        faults = ["no request was refused"]
+    told = f"{refused} requests of {len(names) if refused else 0} tests refused"
+    print(f"tests of {os.path.basename(folder)} by {build}: {'FAILED' if faults else 'ok'}: {told}", flush=True)
+    for fault in faults[:8]:
+        print(f"    {fault[:600]}", flush=True)
+    return not faults
