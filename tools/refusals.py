@@ -46,10 +46,10 @@ class Ran:
         return f"{told}, standard output {self.out!r}, standard error {self.err!r}"
 
 
-def started(program, words, **how):
+def started(program, words, timeout=60, **how):
     """A run of a program under its own name, whichever compiler made it."""
     name = os.path.basename(program).partition(".")[0]
-    return subprocess.run([name, *words], executable=program, timeout=60, check=False, **how)
+    return subprocess.run([name, *words], executable=program, timeout=timeout, check=False, **how)
 
 
 def compiler():
@@ -70,14 +70,14 @@ class Bench:
             with open(f"{room}/{name}", "w", encoding="utf-8") as file:
                 file.write(text)
 
-    def run(self, program, words, given, number, many):
+    def run(self, program, words, given, number, many, timeout=60):
         """Runs a program, of which the request with this number is refused, and so many in all; 0: all later ones."""
         with tempfile.NamedTemporaryFile(dir=self.room) as count:
             count.write(bytes(8))
             count.flush()
             refuse = {"REFUSE_FROM": str(number), "REFUSE_MANY": str(many), "REFUSE_COUNT": count.name}
             how = {"cwd": self.room, "env": {"LD_PRELOAD": self.library, **refuse}, "input": given}
-            ran = started(program, words, capture_output=True, **how)
+            ran = started(program, words, timeout, capture_output=True, **how)
             count.seek(0)
             (requests,) = struct.unpack("=Q", count.read(8))
         out, err = ran.stdout.decode(errors="replace"), ran.stderr.decode(errors="replace")

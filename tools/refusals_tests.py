@@ -1,7 +1,9 @@
 """Refuses requests for memory of the built tests: the first ones of each test, and others spread over the rest.
 
 Most tests say nothing of memory, so what is promised of these runs is that each comes to its end as a test does: it
-passes, it fails with a fault that it says, or it stops at an assertion of its own. None ends in another way.
+passes, it fails with a fault that it says, or it stops at an assertion of its own. None ends in another way. Where
+one of its threads fails, the others may wait for it for the many turns that they have: such a test is given up after
+a while, and what came of its later requests isn't tried.
 """
 import os
 import re
@@ -13,6 +15,8 @@ from concurrent.futures import ThreadPoolExecutor
 # How many requests of a test are refused, and for how many seconds at most, if none but the first took as long.
 FIRST, SPREAD = 16, 16
 SECONDS = 1.5
+# How long a run may take.
+LATE = 3
 # More than any test asks for.
 NONE = 2**62
 
@@ -48,15 +52,25 @@ def has_ended(folder, ran):
     return passed or failed or is_assertion(folder, ran)
 
 
+def runs_of(bench, program, name, numbers):
+    """The runs of a test, by the number of the request that is refused; nothing behind one that takes too long."""
+    for number in numbers:
+        try:
+            yield number, bench.run(program, [name], b"", number, 1, LATE)
+        except subprocess.TimeoutExpired:
+            return
+
+
 def faults_of(bench, folder, program, name):
-    """Runs of a test that didn't end as promised, as texts, and how many requests of it were refused."""
+    """Runs of a test that didn't end as promised, as texts; how many requests were refused; whether it was given up."""
     begun = time.monotonic()
     whole = bench.run(program, [name], b"", NONE, 1)
     if whole.status:
-        return [f"{name} with all memory: {whole}"], 0
+        return [f"{name} with all memory: {whole}"], 0, False
     numbers = numbers_of(whole.requests, time.monotonic() - begun)
-    runs = [(number, bench.run(program, [name], b"", number, 1)) for number in numbers]
-    return [f"{name}, request {number} refused: {ran}" for number, ran in runs if not has_ended(folder, ran)], len(numbers)
+    runs = list(runs_of(bench, program, name, numbers))
+    faults = [f"{name}, request {number} refused: {ran}" for number, ran in runs if not has_ended(folder, ran)]
+    return faults, len(runs), len(runs) < len(numbers)
 
 
 def check_tests(bench, folder, program, build):
@@ -65,12 +79,13 @@ def check_tests(bench, folder, program, build):
         names = names_of(program)
         with ThreadPoolExecutor(len(os.sched_getaffinity(0))) as pool:
             each = list(pool.map(lambda name: faults_of(bench, folder, program, name), names))
-        faults, refused = [it for found, _ in each for it in found], sum(many for _, many in each)
+        faults, refused = [it for found, _, _ in each for it in found], sum(many for _, many, _ in each)
+        late = sum(is_late for _, _, is_late in each)
     except (OSError, subprocess.SubprocessError) as error:
-        faults, refused = [str(error)], 0
+        names, faults, refused, late = [], [str(error)], 0, 0
     if not faults and not refused:
         faults = ["no request was refused"]
-    told = f"{refused} requests of {len(names) if refused else 0} tests refused"
+    told = f"{refused} requests of {len(names)} tests refused, {late} tests given up"
     print(f"tests of {os.path.basename(folder)} by {build}: {'FAILED' if faults else 'ok'}: {told}", flush=True)
     for fault in faults[:8]:
         print(f"    {fault[:600]}", flush=True)

@@ -1,4 +1,5 @@
 use Rattle.std.proofs.Common.{◌≡◌, ℕ, ◌+◌, ◌-◌, ◌≤◌, List, ◌++◌, take, drop, length, replicate, ap, sym, ◌∙◌, arith}
+use Rattle.std.proofs.lemmas.Grind.{common_steps}
 use Rattle.std.proofs.lemmas.List.{append-nil}
 use Rattle.arrayvec.specs.ArrayVec.{ArrayVec}
 use Rattle.arrayvec.proofs.ArrayVecLemmas.{items-with_items}
@@ -33,3 +34,6 @@ returns-clause-items c =
           ∙ sym (append-nil (take at was ++ bytes))
           ∙ ap (λ (k : ℕ). take at was ++ bytes ++ replicate k 0) (sym none)
     ]
+
+pub returns-clause-reaches : goal.returns-clause-reaches
+returns-clause-reaches c = grind (arith, common_steps)

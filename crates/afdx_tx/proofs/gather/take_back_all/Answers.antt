@@ -130,3 +130,6 @@ returns-clause-back c =
     All-weaker _ (IsTakenBack c.args.config.now c.loop-port.links)
     (λ p. ⊎_elim (λ there. absurd (let none_there = subst (λ (l : List PortView). Contains l p) none there in let lt = none_there.1 in omega arith))
     (λ back. back)) c.args.ports.items c.loop-port.invariant.each
+
+pub returns-clause-same : goal.returns-clause-same
+returns-clause-same c = search rules

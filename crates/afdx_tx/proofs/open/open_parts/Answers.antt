@@ -1,4 +1,5 @@
-use Rattle.std.proofs.Common.{rules}
+use Rattle.std.proofs.Common.{rules, arith}
+use Rattle.std.proofs.lemmas.Grind.{common_steps}
 use Rattle.afdx_tx.proofs.open.open_parts.Goals as goal
 
 pub returns-in_err-links-clause-links : goal.returns-in_err-links-clause-links
@@ -66,3 +67,9 @@ returns-clause-new c = search rules
 
 pub returns-clause-valid : goal.returns-clause-valid
 returns-clause-valid c = search rules
+
+pub returns-clause-links : goal.returns-clause-links
+returns-clause-links c = grind (arith, common_steps)
+
+pub returns-clause-ports : goal.returns-clause-ports
+returns-clause-ports c = grind (arith, common_steps)

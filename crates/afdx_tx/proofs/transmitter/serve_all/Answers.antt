@@ -1,4 +1,4 @@
-use Rattle.std.proofs.Common.{◌++◌, ◌≡◌, ◌<◌, ◌∙◌, ap, sym, length, subst, get_or, arith, false}
+use Rattle.std.proofs.Common.{◌++◌, ◌≡◌, ◌<◌, ◌∙◌, ap, sym, length, subst, get_or, arith, false, rules}
 use Rattle.std.proofs.lemmas.List.{get_or_default, set-get_or}
 use Rattle.redundant_mux.proofs.Enduring.{both_on}
 use Rattle.afdx_plan.specs.declared.identifiers.VlId.{VlId}
@@ -104,3 +104,30 @@ returns-then-is_lost-clause-cut_short g c = λ _.
 pub returns-then-is_lost-clause-endure : goal.returns-then-is_lost-clause-endure
 returns-then-is_lost-clause-endure g c =
     both_on c.args.mux.now c.loop-link.mux c.serve-did.new.mux c.loop-link.invariant.endure c.serve-did.ensures.endure
+
+pub returns-then-is_lost-clause-run : goal.returns-then-is_lost-clause-run
+returns-then-is_lost-clause-run g c = search rules
+
+pub returns-then-is_lost-clause-whole : goal.returns-then-is_lost-clause-whole
+returns-then-is_lost-clause-whole g c = search rules
+
+pub returns-then-is_lost-clause-told : goal.returns-then-is_lost-clause-told
+returns-then-is_lost-clause-told g c = search rules
+
+pub returns-clause-steady : goal.returns-clause-steady
+returns-clause-steady g c = search rules
+
+pub returns-clause-run : goal.returns-clause-run
+returns-clause-run g c = search rules
+
+pub returns-clause-cut_short : goal.returns-clause-cut_short
+returns-clause-cut_short g c = search rules
+
+pub returns-clause-whole : goal.returns-clause-whole
+returns-clause-whole g c = search rules
+
+pub returns-clause-told : goal.returns-clause-told
+returns-clause-told g c = search rules
+
+pub returns-clause-endure : goal.returns-clause-endure
+returns-clause-endure g c = search rules

@@ -1,4 +1,4 @@
-use Rattle.std.proofs.Common.{◌≡◌, ◌∙◌, ◌↔◌, false, IsErr, OnErr, IfOk, ap, subst}
+use Rattle.std.proofs.Common.{◌≡◌, ◌∙◌, ◌↔◌, false, IsErr, OnErr, IfOk, ap, subst, rules}
 use Rattle.redundant_mux.specs.Lines.{BothEndure, is_alive}
 use Rattle.afdx_tx.specs.declared.report.Report.{Report}
 use Rattle.afdx_tx.specs.Emitter.{Tx}
@@ -55,3 +55,18 @@ returns-clause-told g c =
 pub returns-clause-endure : goal.returns-clause-endure
 returns-clause-endure g c =
     subst (λ (t : Tx). BothEndure t.lines c.poll.new.self.lines) c.self.view_is c.poll.ensures.endure
+
+pub returns-clause-turns : goal.returns-clause-turns
+returns-clause-turns g c = search rules
+
+pub returns-clause-allowed : goal.returns-clause-allowed
+returns-clause-allowed g c = search rules
+
+pub returns-clause-plan : goal.returns-clause-plan
+returns-clause-plan g c = search rules
+
+pub returns-clause-board : goal.returns-clause-board
+returns-clause-board g c = search rules
+
+pub returns-clause-mirrored : goal.returns-clause-mirrored
+returns-clause-mirrored g c = search rules

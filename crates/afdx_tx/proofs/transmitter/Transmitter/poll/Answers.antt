@@ -1,4 +1,5 @@
-use Rattle.std.proofs.Common.{◌≡◌, ◌∙◌, true, false, refl, sym, List, subst}
+use Rattle.std.proofs.Common.{◌≡◌, ◌∙◌, true, false, refl, sym, List, subst, arith, rules}
+use Rattle.std.proofs.lemmas.Grind.{common_steps}
 use Rattle.std.proofs.lemmas.List.{with_items_is}
 use Rattle.std.specs.Vec.{with_items}
 use Rattle.redundant_mux.specs.Lines.{BothEndure, is_alive, log}
@@ -156,3 +157,42 @@ returns-clause-endure g c =
 
 pub returns-then-not-some_stands-clause-endure : goal.returns-then-not-some_stands-clause-endure
 returns-then-not-some_stands-clause-endure g c = both_none c.args.self.now.lines
+
+pub returns-then-not-some_stands-clause-tied : goal.returns-then-not-some_stands-clause-tied
+returns-then-not-some_stands-clause-tied g c = search rules
+
+pub returns-then-not-some_stands-clause-plan : goal.returns-then-not-some_stands-clause-plan
+returns-then-not-some_stands-clause-plan g c = search rules
+
+pub returns-then-not-some_stands-clause-board : goal.returns-then-not-some_stands-clause-board
+returns-then-not-some_stands-clause-board g c = search rules
+
+pub returns-then-not-some_stands-clause-same : goal.returns-then-not-some_stands-clause-same
+returns-then-not-some_stands-clause-same g c = search rules
+
+pub returns-then-not-some_stands-clause-of_plan : goal.returns-then-not-some_stands-clause-of_plan
+returns-then-not-some_stands-clause-of_plan g c = search rules
+
+pub returns-then-not-some_stands-clause-told : goal.returns-then-not-some_stands-clause-told
+returns-then-not-some_stands-clause-told g c = search rules
+
+pub returns-then-not-some_stands-clause-run : goal.returns-then-not-some_stands-clause-run
+returns-then-not-some_stands-clause-run g c = search rules
+
+pub returns-clause-unchanged : goal.returns-clause-unchanged
+returns-clause-unchanged g c = search rules
+
+pub returns-clause-plan : goal.returns-clause-plan
+returns-clause-plan g c = search rules
+
+pub returns-clause-board : goal.returns-clause-board
+returns-clause-board g c = search rules
+
+pub returns-clause-same : goal.returns-clause-same
+returns-clause-same g c = grind (arith, common_steps)
+
+pub returns-clause-of_plan : goal.returns-clause-of_plan
+returns-clause-of_plan g c = search rules
+
+pub returns-clause-mirrored : goal.returns-clause-mirrored
+returns-clause-mirrored g c = search rules

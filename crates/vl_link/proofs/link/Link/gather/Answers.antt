@@ -1,4 +1,5 @@
-use Rattle.std.proofs.Common.{List, sym, ap, ◌∙◌, subst}
+use Rattle.std.proofs.Common.{List, sym, ap, ◌∙◌, subst, arith}
+use Rattle.std.proofs.lemmas.Grind.{common_steps}
 use Rattle.vl_link.specs.Links.{Held, LinkState}
 use Rattle.vl_link.specs.LinkGathering.{AreFullSubs}
 use Rattle.vl_link.proofs.link.Link.gather.Goals as goal
@@ -6,3 +7,6 @@ use Rattle.vl_link.proofs.link.Link.gather.Goals as goal
 pub gather_subs-requires : goal.gather_subs-requires
 gather_subs-requires c =
     record { full = subst AreFullSubs (ap (λ (l : LinkState). l.subs) (sym c.self.view_is) ∙ sym c.deref_mut.ensures.value) c.requires.full }
+
+pub returns : goal.returns
+returns c = grind (arith, common_steps)
