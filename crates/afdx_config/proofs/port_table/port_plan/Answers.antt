@@ -1,4 +1,4 @@
-use Rattle.std.proofs.Common.{codes, lit<}
+use Rattle.std.proofs.Common.{codes, lit<, rules}
 use Rattle.toml.specs.View.{table_view}
 use Rattle.afdx_plan.specs.declared.fault.ConfigFault.TheVariants.{OutOfRange}
 use Rattle.afdx_plan.specs.declared.limits.TheConstants.{MESSAGE_LIMIT}
@@ -18,3 +18,6 @@ number-requires-7-clause-inside c =
 pub returns-clause-value : goal.returns-clause-value
 unfolding port_of
 returns-clause-value c = cc
+
+pub returns-clause-ranges : goal.returns-clause-ranges
+returns-clause-ranges c = search rules
