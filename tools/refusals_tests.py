@@ -61,13 +61,18 @@ def runs_of(bench, program, name, numbers):
             return
 
 
-def faults_of(bench, folder, program, name):
-    """Runs of a test that didn't end as promised, as texts; how many requests were refused; whether it was given up."""
+def whole_run(bench, program, name):
+    """A test's run with all memory, and how many seconds it took."""
     begun = time.monotonic()
     whole = bench.run(program, [name], b"", NONE, 1)
+    return whole, time.monotonic() - begun
+
+
+def faults_of(bench, folder, program, name, whole, seconds):
+    """Runs of a test that didn't end as promised, as texts; how many requests were refused; whether it was given up."""
     if whole.status:
         return [f"{name} with all memory: {whole}"], 0, False
-    numbers = numbers_of(whole.requests, time.monotonic() - begun)
+    numbers = numbers_of(whole.requests, seconds)
     runs = list(runs_of(bench, program, name, numbers))
     faults = [f"{name}, request {number} refused: {ran}" for number, ran in runs if not has_ended(folder, ran)]
     return faults, len(runs), len(runs) < len(numbers)
@@ -77,8 +82,10 @@ def check_tests(bench, folder, program, build):
     """Refuses requests of each test of the crate in this folder, tells what came of it, and says whether all is as promised."""
     try:
         names = names_of(program)
+        # (one after the other: a test may start many threads, and have so many turns for them)
+        wholes = [whole_run(bench, program, name) for name in names]
         with ThreadPoolExecutor(len(os.sched_getaffinity(0))) as pool:
-            each = list(pool.map(lambda name: faults_of(bench, folder, program, name), names))
+            each = list(pool.map(lambda it: faults_of(bench, folder, program, it[0], *it[1]), zip(names, wholes)))
         faults, refused = [it for found, _, _ in each for it in found], sum(many for _, many, _ in each)
         late = sum(is_late for _, _, is_late in each)
     except (OSError, subprocess.SubprocessError) as error:

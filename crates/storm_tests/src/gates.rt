@@ -1,5 +1,6 @@
 //! Gates that tests of storms share.
 use std::sync::atomic::{AtomicU64, Ordering};
+use std::thread;
 use storm::Gate;
 
 // How often a worker looks whether all are there.
@@ -31,6 +32,8 @@ impl Gate for Meeting {
             if self.entered.load(Ordering::SeqCst) == self.workers {
                 return true;
             }
+            // (those that are still to enter have the processor meanwhile)
+            thread::yield_now();
         }
         false
     }
