@@ -5,8 +5,8 @@ use Rattle.std.specs.Option.{option_map_or}
 use Rattle.toml.specs.Data.{Members}
 use Rattle.toml.specs.View.{table_view}
 use Rattle.afdx_plan.specs.declared.fault.ConfigFault.{ConfigFault}
-use Rattle.afdx_config.specs.Document.{values_show}
-use Rattle.afdx_config.specs.Format.{end_fields, link_fields, port_fields}
+use Rattle.afdx_config.specs.Document.{is_version_2, values_show}
+use Rattle.afdx_config.specs.Format.{end_fields, link_fields, port_fields_of}
 use Rattle.afdx_config.specs.Tables.{table_shows}
 use Rattle.afdx_config.specs.Views.{AreSectionsOf, sections_show}
 use Rattle.afdx_config.specs.declared.sections.Sections.{Sections}
@@ -35,5 +35,5 @@ shown_in fault doc s are = four _ _ _ _ _ _ _ _ refl
     ∙ ap (λ o. option_map_or (table_shows fault end_fields) o false) are.end_is)
     (sym (list_any-map (table_shows fault link_fields) (λ t. table_view t.now) s.links.items)
     ∙ ap (list_any (table_shows fault link_fields)) are.links_are)
-    (sym (list_any-map (table_shows fault port_fields) (λ t. table_view t.now) s.ports.items)
-    ∙ ap (list_any (table_shows fault port_fields)) are.ports_are)
+    (sym (list_any-map (table_shows fault (port_fields_of (is_version_2 doc))) (λ t. table_view t.now) s.ports.items)
+    ∙ ap (list_any (table_shows fault (port_fields_of (is_version_2 doc)))) are.ports_are)

@@ -1,8 +1,8 @@
 -- The format of a configuration: the keys of its tables, and what stands under them.
-use Rattle.std.specs.Prelude.{codes, ℕ, List, [], ◌∷◌, Bool, true, false}
+use Rattle.std.specs.Prelude.{codes, ℕ, List, [], ◌∷◌, ◌++◌, Bool, true, false}
 use Rattle.afdx_plan.specs.declared.limits.TheConstants.{CAPACITY_LIMIT, MESSAGE_LIMIT}
 use Rattle.afdx_config.specs.declared.format.Content.{Content}
-use Rattle.afdx_config.specs.declared.format.Content.TheVariants.{Whole, Gap, PortKind, Address, Section, Rows}
+use Rattle.afdx_config.specs.declared.format.Content.TheVariants.{Whole, Gap, PortKind, Address, Checksum, Section, Rows}
 
 -- a key of a table, whether it must stand there, and what may stand under it
 pub record Field : Type 0 where
@@ -20,7 +20,8 @@ optional name what = record { key = name; is_needed = false; content = what }
 
 -- the top of the text
 abbrev pub document_fields : List Field
-document_fields = needed (codes "end_system") Section
+document_fields = optional (codes "version") (Whole 1 2)
+    ∷ needed (codes "end_system") Section
     ∷ needed (codes "vl") Rows
     ∷ needed (codes "port") Rows
     ∷ []
@@ -38,7 +39,7 @@ link_fields = needed (codes "id") (Whole 0 65535)
     ∷ needed (codes "capacity") (Whole 1 CAPACITY_LIMIT)
     ∷ []
 
--- the table of a port
+-- the table of a port in version 1
 abbrev pub port_fields : List Field
 port_fields = needed (codes "id") (Whole 0 65535)
     ∷ needed (codes "vl") (Whole 0 65535)
@@ -50,3 +51,8 @@ port_fields = needed (codes "id") (Whole 0 65535)
     ∷ needed (codes "max") (Whole 1 MESSAGE_LIMIT)
     ∷ optional (codes "dest_ip") Address
     ∷ []
+
+-- the table of a port, where the text is of version 2 and where it isn't
+abbrev pub port_fields_of : Bool → List Field
+port_fields_of false = port_fields
+port_fields_of true = port_fields ++ optional (codes "checksum") Checksum ∷ []

@@ -8,9 +8,10 @@ use Rattle.afdx_plan.specs.declared.link_plan.LinkPlan.{LinkPlan}
 use Rattle.afdx_plan.specs.declared.port_plan.PortPlan.{PortPlan}
 use Rattle.afdx_plan.specs.declared.bag.Bag.TheVariants.{Ms1}
 use Rattle.afdx_plan.specs.declared.identifiers.Kind.TheVariants.{Sampling}
+use Rattle.afdx_plan.specs.declared.identifiers.UdpSum.TheVariants.{Omitted}
 use Rattle.afdx_config.specs.Entries.{whole_at, text_at, number_at}
 use Rattle.afdx_config.specs.Document.{section_at, rows_at}
-use Rattle.afdx_config.specs.Values.{bag_of, kind_of, address_of}
+use Rattle.afdx_config.specs.Values.{bag_of, kind_of, address_of, checksum_of}
 use Rattle.afdx_plan.specs.Config.{Plan}
 
 -- the link of a table
@@ -35,6 +36,7 @@ port_of members = record {
   destination = number_at (codes "destination") members;
   max = number_at (codes "max") members;
   unicast = option_and_then address_of (text_at (codes "dest_ip") members);
+  checksum = unwrap_or (option_and_then checksum_of (text_at (codes "checksum") members)) Omitted;
 }
 
 -- the plan of a document: its links and ports in the order of the text

@@ -8,6 +8,8 @@ use Rattle.afdx_plan.specs.declared.bag.Bag.{Bag}
 use Rattle.afdx_plan.specs.declared.bag.Bag.TheVariants.{Ms1, Ms2, Ms4, Ms8, Ms16, Ms32, Ms64, Ms128}
 use Rattle.afdx_plan.specs.declared.identifiers.Kind.{Kind}
 use Rattle.afdx_plan.specs.declared.identifiers.Kind.TheVariants.{Sampling, Queuing}
+use Rattle.afdx_plan.specs.declared.identifiers.UdpSum.{UdpSum}
+use Rattle.afdx_plan.specs.declared.identifiers.UdpSum.TheVariants.{Omitted, Generated}
 
 -- the gap of a number of milliseconds
 unfoldable pub bag_of : ℤ → Option Bag
@@ -28,6 +30,13 @@ unfoldable pub kind_of : List ℕ → Option Kind
 kind_of text =
     if bytes_eq text (codes "sampling") then Some Sampling
     else if bytes_eq text (codes "queuing") then Some Queuing
+    else None
+
+-- the checksum that a text names
+unfoldable pub checksum_of : List ℕ → Option UdpSum
+checksum_of text =
+    if bytes_eq text (codes "none") then Some Omitted
+    else if bytes_eq text (codes "udp") then Some Generated
     else None
 
 -- the numbers between the dots of a text

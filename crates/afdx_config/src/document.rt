@@ -1,15 +1,16 @@
 //! The faults that the values of a document show.
-ghost use Rattle.std.specs.Prelude.{◌≡◌, false, find};
+ghost use Rattle.std.specs.Prelude.{◌≡◌, false, find, map};
 ghost use Rattle.std.specs.Option.{option_map_or};
 ghost use Rattle.toml.specs.View.{table_view};
-ghost use Rattle.afdx_config.specs.Document.{values_show};
-ghost use Rattle.afdx_config.specs.Format.{end_fields};
+ghost use Rattle.afdx_config.specs.Document.{is_version_2, values_show};
+ghost use Rattle.afdx_config.specs.Format.{end_fields, port_fields_of};
 ghost use Rattle.afdx_config.specs.Tables.{table_shows};
-ghost use Rattle.afdx_config.specs.Views.{AreSectionsOf, sections_show};
+ghost use Rattle.afdx_config.specs.Views.{AreSectionsOf, field_of, sections_show};
 ghost use Rattle.afdx_config.specs.Faults.{shows, value_faults};
 
+use crate::entries::whole_number;
 use crate::fields::{some_table_shows, table_shows};
-use crate::format::{DOCUMENT, END, LINK, PORT};
+use crate::format::{DOCUMENT, END, Field, LINK, PORT};
 use crate::sections::Sections;
 use afdx_plan::ConfigFault;
 use toml::Table;
@@ -24,13 +25,34 @@ fn end_shows(fault: ConfigFault, end: Option<&Table>) -> bool
     }
 }
 
+/// The text is of version 2.
+fn is_version_2(document: &Table) -> bool
+    ensures { result ≡ is_version_2 (table_view document.now) }
+{
+    match whole_number(document, "version") {
+        Some(version) => version == 2,
+        None => false,
+    }
+}
+
+/// The keys of a port's table in the version of the text.
+fn port_fields(document: &Table) -> &'static [Field]
+    ensures { map field_of result.now ≡ port_fields_of (is_version_2 (table_view document.now)) }
+{
+    if is_version_2(document) {
+        &PORT
+    } else {
+        &PORT[..PORT.len() - 1]
+    }
+}
+
 fn sections_show(fault: ConfigFault, document: &Table, sections: &Sections<'_>) -> bool
     ensures { result ≡ sections_show fault (table_view document.now) sections.now }
 {
     let at_top = table_shows(fault, document, &DOCUMENT);
     let in_end = end_shows(fault, sections.end);
     let in_links = some_table_shows(fault, sections.links.as_slice(), &LINK);
-    let in_ports = some_table_shows(fault, sections.ports.as_slice(), &PORT);
+    let in_ports = some_table_shows(fault, sections.ports.as_slice(), port_fields(document));
     at_top | in_end | in_links | in_ports
 }
 

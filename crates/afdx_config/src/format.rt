@@ -2,13 +2,15 @@
 use afdx_plan::{CAPACITY_LIMIT, MESSAGE_LIMIT};
 
 /// What may stand under a key: a whole number from a least to a greatest one, the milliseconds of
-/// a gap, the name of a kind of port, a unicast address, a table, or an array of tables.
+/// a gap, the name of a kind of port, a unicast address, the name of a UDP checksum, a table, or an
+/// array of tables.
 #[derive(Clone, Copy)]
 pub(crate) enum Content {
     Whole(u16, u16),
     Gap,
     PortKind,
     Address,
+    Checksum,
     Section,
     Rows,
 }
@@ -22,7 +24,8 @@ const NEEDED: bool = true;
 const OPTIONAL: bool = false;
 
 /// The top of the text.
-pub(crate) const DOCUMENT: [Field; 3] = [
+pub(crate) const DOCUMENT: [Field; 4] = [
+    Field("version", OPTIONAL, Content::Whole(1, 2)),
     Field("end_system", NEEDED, Content::Section),
     Field("vl", NEEDED, Content::Rows),
     Field("port", NEEDED, Content::Rows),
@@ -40,8 +43,8 @@ pub(crate) const LINK: [Field; 5] = [
     Field("capacity", NEEDED, Content::Whole(1, CAPACITY_LIMIT as u16)),
 ];
 
-/// The table of a port.
-pub(crate) const PORT: [Field; 9] = [
+/// The table of a port in version 2. In version 1 it has no checksum, which is the last of them.
+pub(crate) const PORT: [Field; 10] = [
     Field("id", NEEDED, Content::Whole(0, 65535)),
     Field("vl", NEEDED, Content::Whole(0, 65535)),
     Field("sub", NEEDED, Content::Whole(0, 3)),
@@ -51,4 +54,5 @@ pub(crate) const PORT: [Field; 9] = [
     Field("destination", NEEDED, Content::Whole(1, 65535)),
     Field("max", NEEDED, Content::Whole(1, MESSAGE_LIMIT as u16)),
     Field("dest_ip", OPTIONAL, Content::Address),
+    Field("checksum", OPTIONAL, Content::Checksum),
 ];

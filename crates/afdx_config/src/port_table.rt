@@ -2,17 +2,18 @@
 ghost use Rattle.std.specs.Prelude.{◌≡◌, map, All, IfOk, IfSome, codes, unwrap_or, option_and_then};
 ghost use Rattle.toml.specs.View.{table_view};
 ghost use Rattle.afdx_plan.specs.declared.identifiers.Kind.TheVariants.{Sampling};
+ghost use Rattle.afdx_plan.specs.declared.identifiers.UdpSum.TheVariants.{Omitted};
 ghost use Rattle.afdx_plan.specs.Plan.{IsPort, IsUnicast};
 ghost use Rattle.afdx_config.specs.Entries.{text_at};
 ghost use Rattle.afdx_config.specs.Format.{port_fields};
 ghost use Rattle.afdx_config.specs.PlanOf.{port_of};
-ghost use Rattle.afdx_config.specs.Values.{address_of, kind_of};
+ghost use Rattle.afdx_config.specs.Values.{address_of, checksum_of, kind_of};
 ghost use Rattle.afdx_config.specs.Views.{IsSoundTable};
 
 use crate::address::unicast_address;
 use crate::entries::{number, text};
-use crate::values::kind_named;
-use afdx_plan::{Kind, MESSAGE_LIMIT, PortId, PortPlan, VlId};
+use crate::values::{checksum_named, kind_named};
+use afdx_plan::{Kind, MESSAGE_LIMIT, PortId, PortPlan, UdpSum, VlId};
 use std::alloc::{AllocError, Global};
 use toml::Table;
 
@@ -41,6 +42,19 @@ fn unicast(table: &Table) -> Option<[u8; 4]>
     }
 }
 
+/// The checksum that stands in a table; none where the table doesn't say.
+fn checksum(table: &Table) -> UdpSum
+    ensures { result ≡ unwrap_or
+        (option_and_then checksum_of (text_at (codes "checksum") (table_view table.now)))
+        Omitted }
+{
+    let checksum = match text(table, "checksum") {
+        Some(name) => checksum_named(name),
+        None => None,
+    };
+    checksum.unwrap_or(UdpSum::Omitted)
+}
+
 /// The port of a table without fault.
 #[tactic(auto, unfolding(crate::specs::PlanOf::port_of))]
 fn port_plan(table: &Table) -> PortPlan
@@ -58,6 +72,7 @@ fn port_plan(table: &Table) -> PortPlan
         destination: number(table, "destination", 1, 65535),
         max: usize::from(number(table, "max", 1, MESSAGE_LIMIT as u16)),
         unicast: unicast(table),
+        checksum: checksum(table),
     }
 }
 

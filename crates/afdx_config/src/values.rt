@@ -1,8 +1,8 @@
 //! Values of a plan, as a text writes them.
 ghost use Rattle.std.specs.Prelude.{◌≡◌};
-ghost use Rattle.afdx_config.specs.Values.{bag_of, kind_of};
+ghost use Rattle.afdx_config.specs.Values.{bag_of, kind_of, checksum_of};
 
-use afdx_plan::{Bag, Kind};
+use afdx_plan::{Bag, Kind, UdpSum};
 
 /// The gap of a number of milliseconds, where it is one.
 #[tactic(auto, unfolding(crate::specs::Values::bag_of))]
@@ -31,6 +31,20 @@ pub(crate) fn kind_named(text: &str) -> Option<Kind>
         Some(Kind::Sampling)
     } else if text == "queuing" {
         Some(Kind::Queuing)
+    } else {
+        None
+    }
+}
+
+/// The checksum that a text names.
+#[tactic(auto, unfolding(crate::specs::Values::checksum_of))]
+pub(crate) fn checksum_named(text: &str) -> Option<UdpSum>
+    ensures { result ≡ checksum_of text.now }
+{
+    if text == "none" {
+        Some(UdpSum::Omitted)
+    } else if text == "udp" {
+        Some(UdpSum::Generated)
     } else {
         None
     }

@@ -11,3 +11,5 @@ pub mod Reassembly
 pub mod WorkedReassembly
 pub mod WorkedCutting
 pub mod WorkedFragments
+pub mod UdpCheck
+pub mod WorkedUdp

@@ -2,6 +2,7 @@
 use Rattle.std.specs.Prelude.{◌≡◌, ℕ, ◌-◌, ◌<◌, ◌≤◌, List, length, get_or, count_by, nat_eq, ◌&&◌, Some, None, All, Contains}
 use Rattle.afdx_plan.specs.declared.bag.Bag.TheVariants.{Ms1}
 use Rattle.afdx_plan.specs.declared.identifiers.Kind.TheVariants.{Sampling, Queuing}
+use Rattle.afdx_plan.specs.declared.identifiers.UdpSum.TheVariants.{Omitted}
 use Rattle.afdx_plan.specs.declared.link_plan.LinkPlan.{LinkPlan}
 use Rattle.afdx_plan.specs.declared.port_plan.PortPlan.{PortPlan}
 use Rattle.afdx_plan.specs.declared.limits.TheConstants.{LINKS_LIMIT, PORTS_LIMIT, SUB_PORTS_LIMIT}
@@ -44,6 +45,7 @@ port_plan_at ports k = get_or ports k (record {
   destination = 0;
   max = 0;
   unicast = None;
+  checksum = Omitted;
 })
 
 -- a port sends over the link at a place, on one of its sub-VLs

@@ -2,6 +2,7 @@
 use Rattle.std.specs.Prelude.{[], ◌∷◌, None}
 use Rattle.afdx_plan.specs.declared.bag.Bag.TheVariants.{Ms1}
 use Rattle.afdx_plan.specs.declared.identifiers.Kind.TheVariants.{Queuing}
+use Rattle.afdx_plan.specs.declared.identifiers.UdpSum.TheVariants.{Omitted}
 use Rattle.afdx_plan.specs.declared.link_plan.LinkPlan.{LinkPlan}
 use Rattle.afdx_plan.specs.declared.port_plan.PortPlan.{PortPlan}
 use Rattle.afdx_plan.specs.Config.{Plan}
@@ -16,7 +17,8 @@ demo_link = record {
   capacity = 2;
 }
 
--- port 10 of partition 1 sends messages of up to 8,192 bytes over it, to its multicast address
+-- port 10 of partition 1 sends messages of up to 8,192 bytes over it, to its multicast address and without
+-- a UDP checksum
 abbrev pub demo_port : PortPlan
 demo_port = record {
   id = record { 0 = 10 };
@@ -28,6 +30,7 @@ demo_port = record {
   destination = 2000;
   max = 8192;
   unicast = None;
+  checksum = Omitted;
 }
 
 -- both, in end system 1

@@ -5,7 +5,7 @@ ghost use Rattle.afdx_plan.specs.Demo.{demo_link, demo_port, demo_plan};
 use crate::bag::Bag;
 use crate::config::Config;
 use crate::fault::ConfigFault;
-use crate::identifiers::{Kind, PortId, VlId};
+use crate::identifiers::{Kind, PortId, UdpSum, VlId};
 use crate::link_plan::LinkPlan;
 use crate::lmax::Lmax;
 use crate::port_plan::PortPlan;
@@ -49,5 +49,6 @@ fn demo_port() -> PortPlan
         destination: 2000,
         max: 8192,
         unicast: None,
+        checksum: UdpSum::Omitted,
     }
 }

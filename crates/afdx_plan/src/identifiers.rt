@@ -1,4 +1,4 @@
-//! The identifiers of virtual links and ports, and the kinds of ports.
+//! The identifiers of virtual links and ports, the kinds of ports, and what their datagrams carry as checksum.
 /// The 16-bit identifier of a virtual link.
 #[derive(Clone, Copy, Debug, PartialEq, Eq)]
 pub struct VlId(pub u16);
@@ -13,4 +13,12 @@ pub struct PortId(pub u16);
 pub enum Kind {
     Sampling,
     Queuing,
+}
+
+/// What stands in the checksum field of a port's datagrams (RFC 768): zero, which says that there is
+/// none, or the checksum.
+#[derive(Clone, Copy, Debug, PartialEq, Eq)]
+pub enum UdpSum {
+    Omitted,
+    Generated,
 }

@@ -18,7 +18,7 @@ pub use bag::Bag;
 pub use config::Config;
 pub use demo::demo_config;
 pub use fault::ConfigFault;
-pub use identifiers::{Kind, PortId, VlId};
+pub use identifiers::{Kind, PortId, UdpSum, VlId};
 pub use jitter::jitter_ns;
 pub use limits::{CAPACITY_LIMIT, LINKS_LIMIT, MESSAGE_LIMIT, PORTS_LIMIT, SUB_PORTS_LIMIT};
 pub use link_plan::LinkPlan;

@@ -1,5 +1,5 @@
 //! A port of a plan.
-use crate::identifiers::{Kind, PortId, VlId};
+use crate::identifiers::{Kind, PortId, UdpSum, VlId};
 
 /// What the plan says of a port.
 #[derive(Clone, Copy, Debug, PartialEq, Eq)]
@@ -18,4 +18,6 @@ pub struct PortPlan {
     pub max: usize,
     // the destination in 10.0.0.0/8; with none it is the link's multicast address
     pub unicast: Option<[u8; 4]>,
+    // what stands in the checksum field of its datagrams
+    pub checksum: UdpSum,
 }

@@ -50,6 +50,26 @@ port 2: link 7 sub 3, partition 0, queuing, 65535 to 1, max 1, multicast
 jitter 169760 ns, limit 500000
 ";
 
+// The demonstration in version 2: whether its port has a checksum, and its line then.
+const CHECKSUMS: [(&str, &str); 3] = [
+    ("", "max 8192, multicast\n"),
+    ("checksum = \"none\"\n", "max 8192, multicast\n"),
+    (
+        "checksum = \"udp\"\n",
+        "max 8192, multicast, checksum udp\n",
+    ),
+];
+
+#[test]
+fn the_line_of_a_port_with_checksums_says_so(rt: HostRuntime) -> Result<(), Fail> {
+    for (checksum, line) in CHECKSUMS {
+        let text = format!(in rt.alloc(); "version = 2\n{TEXT}{checksum}")?;
+        let wanted = REPORT.replace(rt.alloc(), "max 8192, multicast\n", line)?;
+        assert_check(&rt, rt.alloc(), text.as_bytes(), Ok(()), &wanted);
+    }
+    Ok(())
+}
+
 #[test]
 fn a_report_has_a_line_for_each_link_and_each_port(rt: HostRuntime) {
     for (text, wanted) in [(TEXT, REPORT), (TWO_LINKS, REPORT_OF_TWO_LINKS)] {

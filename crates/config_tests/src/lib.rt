@@ -7,3 +7,5 @@ mod damage_tests;
 mod plan_tests;
 #[cfg(test)]
 mod read_tests;
+#[cfg(test)]
+mod version_tests;

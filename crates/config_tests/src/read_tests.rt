@@ -36,7 +36,7 @@ const PORT: &str =
     "[[port]]\nid = 10\nvl = 1\nsub = 0\npartition = 1\nkind = \"queuing\"\nsource = 1000\ndestination = 2000\nmax = 8192\n";
 
 /// Texts, one behind the other.
-fn joined(alloc: Global, parts: &[&str]) -> Result<String, AllocError> {
+pub fn joined(alloc: Global, parts: &[&str]) -> Result<String, AllocError> {
     let mut text = String::new(alloc);
     for part in parts {
         text.push_str(part)?;
@@ -54,7 +54,7 @@ fn fault_of(alloc: Global, text: &[u8]) -> u8 {
 
 /// Asserts the number of the fault of a text, or 0. A test that calls this has a short proof, since
 /// it learns nothing of the answer.
-fn assert_fault(rt: &impl Abort, alloc: Global, text: &str, number: u8) {
+pub fn assert_fault(rt: &impl Abort, alloc: Global, text: &str, number: u8) {
     assert_eq!(rt; fault_of(alloc, text.as_bytes()), number, "{text}");
 }
 
@@ -71,7 +71,7 @@ fn assert_changed(rt: &impl Abort, alloc: Global, text: &str, old: &str, new: &s
 }
 
 /// Asserts that a text is the plan of the demonstration.
-fn assert_demo(rt: &impl Abort, alloc: Global, text: &str) {
+pub fn assert_demo(rt: &impl Abort, alloc: Global, text: &str) {
     let read = read_config(alloc, text.as_bytes()).expect(rt, "a plan");
     let demo = demo_config(alloc).expect(rt, "memory");
     assert_eq!(rt; read.end_system(), demo.end_system());
@@ -91,7 +91,7 @@ const CHANGES: [(&str, &str, u8); 20] = [
     ("lmax = 1518\n", "", 2),
     ("[end_system]\nid = 1\n", "", 2),
     ("capacity = 2", "capacity = 2\nspeed = 1", 3),
-    ("[end_system]", "version = 1\n[end_system]", 3),
+    ("[end_system]", "versions = 1\n[end_system]", 3),
     ("[end_system]\nid = 1", "[end_system]\nid = \"1\"", 4),
     ("max = 8192", "max = 8192.0", 4),
     ("lmax = 1518", "lmax = 63", 5),

@@ -4,7 +4,7 @@ ghost use Rattle.afdx_plan.specs.Plan.{IsPort, SendsOver};
 ghost use Rattle.afdx_frame.specs.Cutting.{SameMessage};
 
 use afdx_frame::{Cut, Frame, Net, ident_of, more_of, offset_of, sn_of, sub_of, twin, vl_of};
-use afdx_plan::{Bag, Kind, LinkPlan, Lmax, PortId, PortPlan, VlId};
+use afdx_plan::{Bag, Kind, LinkPlan, Lmax, PortId, PortPlan, UdpSum, VlId};
 use std::alloc::{AllocError, Global};
 use std::process::Abort;
 use std::test::Fail;
@@ -51,7 +51,7 @@ fn frame_of_aa(
 }
 
 /// Link 1 with greatest frames of so many bytes and so many sub-VLs.
-fn link(lmax: Lmax, sub_vls: u8) -> LinkPlan
+pub fn link(lmax: Lmax, sub_vls: u8) -> LinkPlan
     ensures id { result.id ≡ record { 0 = 1 } }
     ensures lmax { result.lmax ≡ lmax }
     ensures sub_vls { result.sub_vls ≡ sub_vls }
@@ -66,7 +66,7 @@ fn link(lmax: Lmax, sub_vls: u8) -> LinkPlan
 }
 
 /// The demonstration port, which sends over link 1.
-fn demo_port() -> PortPlan
+pub fn demo_port() -> PortPlan
     ensures port { IsPort result }
     ensures vl { result.vl ≡ record { 0 = 1 } }
     ensures sub { result.sub ≡ 0 }
@@ -82,6 +82,7 @@ fn demo_port() -> PortPlan
         destination: 2000,
         max: 8192,
         unicast: None,
+        checksum: UdpSum::Omitted,
     }
 }
 

@@ -6,6 +6,8 @@ mod board;
 #[cfg(test)]
 mod board_threads;
 #[cfg(test)]
+mod checksum;
+#[cfg(test)]
 mod frame;
 #[cfg(test)]
 mod mux;

@@ -5,6 +5,8 @@ use Rattle.afdx_plan.specs.Config.{Plan}
 use Rattle.afdx_plan.specs.Plan.{bag_ms, jitter_of}
 use Rattle.afdx_plan.specs.declared.identifiers.Kind.{Kind}
 use Rattle.afdx_plan.specs.declared.identifiers.Kind.TheVariants.{Sampling, Queuing}
+use Rattle.afdx_plan.specs.declared.identifiers.UdpSum.{UdpSum}
+use Rattle.afdx_plan.specs.declared.identifiers.UdpSum.TheVariants.{Omitted, Generated}
 use Rattle.afdx_plan.specs.declared.link_plan.LinkPlan.{LinkPlan}
 use Rattle.afdx_plan.specs.declared.port_plan.PortPlan.{PortPlan}
 
@@ -46,10 +48,15 @@ unfoldable pub flow_text : PortPlan → List ℕ
 flow_text port = codes ", " ++ kind_name port.kind ++ codes ", " ++ decimal port.source
     ++ codes " to " ++ decimal port.destination ++ codes ", max " ++ decimal port.max
 
+-- whether its datagrams carry a checksum: nothing is said of one that doesn't
+abbrev pub checksum_text : UdpSum → List ℕ
+checksum_text Omitted = []
+checksum_text Generated = codes ", checksum udp"
+
 -- a port
 unfoldable pub port_line : PortPlan → List ℕ
 port_line port = way_text port ++ flow_text port ++ codes ", " ++ destination_text port.unicast
-    ++ 10 ∷ []
+    ++ checksum_text port.checksum ++ 10 ∷ []
 
 -- the jitter in nanoseconds, beside the most that the report calls good
 unfoldable pub jitter_text : ℕ → List ℕ

@@ -1,12 +1,13 @@
 //! The report on a plan.
 ghost use Rattle.std.specs.Prelude.{◌≡◌, OnOk, flat_map};
 ghost use Rattle.std.specs.Io.KnownBytes.{Appends};
-ghost use Rattle.plan_report.specs.Report.{kind_name as name_of_kind, end_system_line, report_of};
+ghost use Rattle.plan_report.specs.Report.{kind_name as name_of_kind, checksum_text as text_of_checksum};
+ghost use Rattle.plan_report.specs.Report.{end_system_line, report_of};
 ghost use Rattle.plan_report.specs.Report.{pace_text, queues_text, link_line};
 ghost use Rattle.plan_report.specs.Report.{way_text, flow_text, destination_text, port_line};
 ghost use Rattle.plan_report.specs.Report.{jitter_text, verdict_text, jitter_line};
 
-use afdx_plan::{Config, Kind, LinkPlan, PortPlan, jitter_ns};
+use afdx_plan::{Config, Kind, LinkPlan, PortPlan, UdpSum, jitter_ns};
 use std::io::{self, Write};
 use std::net::Ipv4Addr;
 
@@ -92,7 +93,8 @@ fn write_port<W: Write>(writer: &mut W, port: &PortPlan) -> io::Result<()>
     write_flow(writer, port)?;
     writer.write_all(b", ")?;
     write_destination(writer, port.unicast)?;
-    writer.write_all(b"\n")
+    let checksum = checksum_text(port.checksum);
+    writeln!(writer, "{checksum}")
 }
 
 #[tactic(auto, unfolding(crate::specs::Report::way_text))]
@@ -139,6 +141,15 @@ fn kind_name(kind: Kind) -> &'static str
     match kind {
         Kind::Sampling => "sampling",
         Kind::Queuing => "queuing",
+    }
+}
+
+fn checksum_text(checksum: UdpSum) -> &'static str
+    ensures { result.now ≡ text_of_checksum checksum }
+{
+    match checksum {
+        UdpSum::Omitted => "",
+        UdpSum::Generated => ", checksum udp",
     }
 }
 

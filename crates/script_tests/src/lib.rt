@@ -2,6 +2,8 @@
 #![tactic(auto)]
 
 #[cfg(test)]
+mod checksum_tests;
+#[cfg(test)]
 mod close_tests;
 #[cfg(test)]
 mod helpers;

@@ -7,13 +7,13 @@ use std::test::Fail;
 
 // The parts of a configuration's text: its head, the link and the port of the demonstration, and
 // what the ports below have in common.
-const HEAD: &str = "[end_system]\nid = 1\n";
+pub const HEAD: &str = "[end_system]\nid = 1\n";
 
-const DEMO_LINK: &str = "[[vl]]\nid = 1\nbag_ms = 1\nlmax = 1518\nsub_vls = 1\ncapacity = 2\n";
+pub const DEMO_LINK: &str = "[[vl]]\nid = 1\nbag_ms = 1\nlmax = 1518\nsub_vls = 1\ncapacity = 2\n";
 
-const DEMO_PORT: &str = "[[port]]\nid = 10\nvl = 1\nsub = 0\nsource = 1000\n";
+pub const DEMO_PORT: &str = "[[port]]\nid = 10\nvl = 1\nsub = 0\nsource = 1000\n";
 
-const PORT_REST: &str = "partition = 1\nkind = \"queuing\"\ndestination = 2000\nmax = 8192\n";
+pub const PORT_REST: &str = "partition = 1\nkind = \"queuing\"\ndestination = 2000\nmax = 8192\n";
 
 // The text of a configuration of one link, given without its identifier, with the demonstration's
 // port, behind whose keys something may stand.
@@ -46,15 +46,15 @@ const THIRD: Frame<'static> = Frame {
 };
 
 // A message of 1,472 bytes, and two polls.
-fn long_send(alloc: Global) -> Result<String, AllocError> {
+pub fn long_send(alloc: Global) -> Result<String, AllocError> {
     let message = repeated(alloc, "aa", 1_472)?;
     joined(alloc, &["send 10 ", &message, "\nat 0\nat 1000\n"])
 }
 
-// Its two frames.
-fn long_frames(alloc: Global) -> Result<String, AllocError> {
+// Its two frames, behind a UDP header.
+pub fn long_frames(alloc: Global, udp_header: &str) -> Result<String, AllocError> {
     let message = repeated(alloc, "aa", 1_464)?;
-    let piece = joined(alloc, &["03e807d005c80000", &message])?;
+    let piece = joined(alloc, &[udp_header, &message])?;
     let frames = [
         Frame {
             at: 0,
@@ -78,7 +78,7 @@ fn long_frames(alloc: Global) -> Result<String, AllocError> {
 fn a_message_past_one_frame_goes_out_as_two(rt: HostRuntime) -> Result<(), Fail> {
     let plan = plan_with(rt.alloc(), DEMO_LINK, "")?;
     let script = long_send(rt.alloc())?;
-    let wanted = long_frames(rt.alloc())?;
+    let wanted = long_frames(rt.alloc(), "03e807d005c80000")?;
     assert_run_over(&rt, rt.alloc(), &plan, &script, sums(1, 0, 2), &wanted);
     Ok(())
 }

@@ -1,0 +1,113 @@
+-- A generated checksum passes the receiver's check, and a changed word fails it.
+use Rattle.std.proofs.Common.{◌≡◌, ◌≢◌, ℕ, zero, suc, ◌+◌, ◌*◌, ◌%◌, ◌≤◌, ◌⊎◌, inl, inr, List, [], ◌∷◌, ◌++◌, length, refl, ap, sym, ◌∙◌, subst, arith}
+use Rattle.std.proofs.lemmas.List.{length-append}
+use Rattle.afdx_plan.specs.declared.identifiers.UdpSum.TheVariants.{Generated}
+use Rattle.afdx_plan.specs.declared.port_plan.PortPlan.{PortPlan}
+use Rattle.afdx_plan.specs.Address.{two_bytes}
+use Rattle.afdx_frame.specs.Checksum.{OneUdpChecksum, word_sum, udp_checksum}
+use Rattle.afdx_frame.specs.Frame.{addresses, datagram, datagram_len, pseudo_sum, udp_field, udp_front, udp_header, udp_sum}
+use Rattle.afdx_frame.specs.UdpCheck.{PassesUdpCheck, ChecksumsPass, ReassembledPass, IsWordChanged, ChangedWordsFail}
+use Rattle.afdx_frame.proofs.Buffers.{any_order_holds}
+use Rattle.afdx_frame.proofs.Datagram.{length-udp_header}
+
+-- one number closes a sum
+pub one_udp_checksum : OneUdpChecksum
+unfolding udp_checksum
+one_udp_checksum sum = (
+  record { some = omega arith; range = omega arith; multiple = omega arith },
+  λ c is. let s = is.some in let r = is.range in let m =
+      is.multiple in omega arith,
+)
+
+-- the words of whole words and what follows them
+pub word_sum-append : (words : ℕ) (xs ys : List ℕ) → length xs ≡ 2 * words → word_sum (xs ++ ys) ≡ word_sum xs + word_sum ys
+word_sum-append words [] ys whole = omega arith
+word_sum-append words (a ∷ []) ys whole = absurd (omega (arith, whole))
+word_sum-append zero (a ∷ b ∷ xs) ys whole = absurd (omega (arith, whole))
+word_sum-append (suc words) (a ∷ b ∷ xs) ys whole =
+    let later = word_sum-append words xs ys (omega (arith, whole)) in omega (arith, later)
+
+-- the header adds its checksum to the words before it
+header_sum : (end_system : ℕ) (port : PortPlan) (message : List ℕ) → port.checksum ≡ Generated
+    → word_sum (udp_header end_system port message)
+    ≡ word_sum (udp_front port message) + udp_checksum (udp_sum end_system port message)
+unfolding udp_header
+header_sum end_system port message generated =
+    let range = (one_udp_checksum (udp_sum end_system port message)).0.range in
+    ap (λ kind. word_sum (udp_front port message ++ two_bytes (udp_field kind (udp_sum end_system port message)))) generated
+    ∙ omega (arith, range)
+
+-- the datagram adds it to the words of the header and the message
+datagram_sum : (end_system : ℕ) (port : PortPlan) (message : List ℕ) → port.checksum ≡ Generated
+    → word_sum (datagram end_system port message)
+    ≡ word_sum (udp_front port message) + udp_checksum (udp_sum end_system port message) + word_sum message
+unfolding datagram
+datagram_sum end_system port message generated =
+    let header = header_sum end_system port message generated in
+    let both = word_sum-append 4 (udp_header end_system port message) message (length-udp_header end_system port message) in
+    omega (arith, header, both)
+
+-- how long the datagram is
+length-datagram : (end_system : ℕ) (port : PortPlan) (message : List ℕ)
+    → length (datagram end_system port message) ≡ datagram_len message
+unfolding datagram
+length-datagram end_system port message =
+    length-append (udp_header end_system port message) message
+    ∙ ap (λ n. n + length message) (length-udp_header end_system port message)
+
+-- so a receiver's sum is the sender's with its checksum, and passes
+pub checksums_pass : ChecksumsPass
+unfolding udp_sum
+checksums_pass end_system port message generated =
+    let words = datagram_sum end_system port message generated in
+    let len = length-datagram end_system port message in
+    let closes = (one_udp_checksum (udp_sum end_system port message)).0.multiple in
+    omega (arith, words, len, closes)
+
+-- also put together of its fragments
+pub reassembled_pass : ReassembledPass
+reassembled_pass end_system port message room came generated least all =
+    let len = length-datagram end_system port message in (
+      datagram end_system port message,
+      any_order_holds room (datagram end_system port message) came least (omega (arith, len)) all,
+      checksums_pass end_system port message generated,
+    )
+
+-- a word and what follows it
+word_then : (word rest : List ℕ) → (length word ≡ 2) ⊎ ((length word ≡ 1) × (rest ≡ []))
+    → word_sum (word ++ rest) ≡ word_sum word + word_sum rest
+word_then word rest (inl two) = word_sum-append 1 word rest two
+word_then (a ∷ []) [] (inr one) = omega arith
+word_then [] rest (inr one) = absurd (let none = one.0 in omega arith)
+word_then (a ∷ b ∷ word) rest (inr one) = absurd (let none = one.0 in omega arith)
+word_then (a ∷ []) (b ∷ rest) (inr one) = absurd (let none = ap length one.1 in omega (arith, none))
+
+-- the words of a list around one of them
+around : (words : ℕ) (front word rest : List ℕ) → length front ≡ 2 * words
+    → (length word ≡ 2) ⊎ ((length word ≡ 1) × (rest ≡ []))
+    → word_sum (front ++ (word ++ rest)) ≡ word_sum front + (word_sum word + word_sum rest)
+around words front word rest whole one =
+    let both = word_sum-append words front (word ++ rest) whole in
+    let last = word_then word rest one in omega (arith, both, last)
+
+-- a word of the same length stands where the old one stood
+stands_too : (old new rest : List ℕ) → length new ≡ length old → (length old ≡ 2) ⊎ ((length old ≡ 1) × (rest ≡ []))
+    → (length new ≡ 2) ⊎ ((length new ≡ 1) × (rest ≡ []))
+stands_too old new rest same (inl two) = inl (same ∙ two)
+stands_too old new rest same (inr one) = inr ((same ∙ one.0), one.1)
+
+-- how long a list is around a word
+long_around : (front word rest : List ℕ) → length (front ++ (word ++ rest)) ≡ length front + (length word + length rest)
+long_around front word rest =
+    length-append front (word ++ rest) ∙ ap (λ n. length front + n) (length-append word rest)
+
+-- so another remainder of one word is another one of the sum
+pub changed_words_fail : ChangedWordsFail
+changed_words_fail ends before after passes changed still =
+    let b = ap word_sum changed.before_is ∙ around changed.words changed.front changed.old changed.rest changed.in_words changed.one_word in
+    let a = ap word_sum changed.after_is ∙ around changed.words changed.front changed.new changed.rest changed.in_words
+    (stands_too changed.old changed.new changed.rest changed.as_long changed.one_word) in
+    let lb = ap length changed.before_is ∙ long_around changed.front changed.old changed.rest in
+    let la = ap length changed.after_is ∙ long_around changed.front changed.new changed.rest in
+    let same = changed.as_long in
+    changed.other (omega (arith, b, a, lb, la, same, passes, still))

@@ -1,0 +1,64 @@
+//! Tests of the versions of a text, and of the checksums of ports in version 2.
+use crate::read_tests::{TEXT, assert_demo, assert_fault, joined};
+use afdx_config::{UdpSum, read_config};
+use std::process::Abort;
+use std::test::Fail;
+
+#[test]
+fn a_text_of_either_version_is_the_plan_of_the_demonstration(rt: HostRuntime) -> Result<(), Fail> {
+    for version in ["version = 1\n", "version = 2\n"] {
+        let text = joined(rt.alloc(), &[version, TEXT])?;
+        assert_demo(&rt, rt.alloc(), &text);
+    }
+    Ok(())
+}
+
+// What stands before the demonstration's text, what stands at the end of its port, and the number of
+// the fault then, or 0.
+const VERSIONS: [(&str, &str, u8); 20] = [
+    ("version = 2\n", "checksum = \"none\"\n", 0),
+    ("version = 2\n", "checksum = \"udp\"\n", 0),
+    ("version = 3\n", "", 5),
+    ("version = 0\n", "", 5),
+    ("version = -2\n", "", 5),
+    ("version = 9223372036854775807\n", "", 5),
+    ("version = \"2\"\n", "", 4),
+    ("version = 2.0\n", "", 4),
+    ("version = [2]\n", "", 4),
+    ("", "checksum = \"udp\"\n", 3),
+    ("", "checksum = \"none\"\n", 3),
+    ("version = 1\n", "checksum = \"udp\"\n", 3),
+    ("version = 3\n", "checksum = \"udp\"\n", 3),
+    ("version = \"2\"\n", "checksum = \"udp\"\n", 3),
+    ("version = 2\nchecksum = \"udp\"\n", "", 3),
+    ("version = 2\n", "version = 2\n", 3),
+    ("version = 2\n", "checksum = \"crc\"\n", 5),
+    ("version = 2\n", "checksum = \"UDP\"\n", 5),
+    ("version = 2\n", "checksum = 1\n", 4),
+    ("version = 2\n", "checksum = true\n", 4),
+];
+
+#[test]
+fn a_checksum_is_a_key_of_version_2_alone(rt: HostRuntime) -> Result<(), Fail> {
+    for (before, behind, number) in VERSIONS {
+        let text = joined(rt.alloc(), &[before, TEXT, behind])?;
+        assert_fault(&rt, rt.alloc(), &text, number);
+    }
+    Ok(())
+}
+
+#[test]
+fn a_port_has_the_checksum_that_its_table_names(rt: HostRuntime) -> Result<(), Fail> {
+    let named = [
+        ("", UdpSum::Omitted),
+        ("checksum = \"none\"\n", UdpSum::Omitted),
+        ("checksum = \"udp\"\n", UdpSum::Generated),
+    ];
+    for (behind, checksum) in named {
+        let text = joined(rt.alloc(), &["version = 2\n", TEXT, behind])?;
+        let read = read_config(rt.alloc(), text.as_bytes())?;
+        assert_eq!(rt; read.ports().len(), 1);
+        assert_eq!(rt; read.ports()[0].checksum, checksum);
+    }
+    Ok(())
+}

@@ -1,0 +1,166 @@
+//! Tests of the UDP checksum, against a receiver that puts the pieces of a message together and takes
+//! the sum over all words at once.
+ghost use Rattle.std.specs.Prelude.{◌≡◌, ◌≤◌, length};
+ghost use Rattle.afdx_plan.specs.Plan.{IsPort, SendsOver};
+
+use crate::frame::{demo_port, link};
+use afdx_frame::{Cut, Frame, Net};
+use afdx_plan::{LinkPlan, Lmax, PortPlan, UdpSum};
+use std::alloc::{AllocError, Global};
+use std::process::Abort;
+use std::test::Fail;
+
+/// The demonstration port, with checksums.
+fn summing_port() -> PortPlan
+    ensures port { IsPort result }
+    ensures vl { result.vl ≡ record { 0 = 1 } }
+    ensures sub { result.sub ≡ 0 }
+{
+    PortPlan {
+        checksum: UdpSum::Generated,
+        ..demo_port()
+    }
+}
+
+/// The sum of the 16-bit words of bytes; an odd last byte is the high half of its word.
+fn words_of(bytes: &[u8]) -> u32 {
+    let mut sum = 0u32;
+    for (place, byte) in bytes.iter().enumerate() {
+        let byte = u32::from(*byte);
+        sum = sum.wrapping_add(if place % 2 == 0 { 256 * byte } else { byte });
+    }
+    sum
+}
+
+/// What a receiver has of a message: the addresses of its frames, and its datagram.
+#[derive(Drop)]
+struct Received {
+    addresses: Vec<u8>,
+    datagram: Vec<u8>,
+}
+
+impl Received {
+    /// The receiver's sum: over pseudo header and datagram, modulo 65,535.
+    fn sum(&self) -> u32 {
+        let pseudo = words_of(&self.addresses)
+            .wrapping_add(17)
+            .wrapping_add(self.datagram.len() as u32);
+        words_of(&self.datagram).wrapping_add(pseudo) % 65535
+    }
+
+    /// The checksum field.
+    fn field(&self) -> Option<&[u8]> {
+        self.datagram.get(6..8)
+    }
+
+    /// All but that field.
+    fn others(&self) -> (Option<&[u8]>, Option<&[u8]>) {
+        (self.datagram.get(..6), self.datagram.get(8..))
+    }
+}
+
+/// What a frame carries of a datagram.
+fn piece_of(frame: &Frame) -> &[u8] {
+    let total = match frame.get(16..18) {
+        Some([high, low]) => 256 * usize::from(*high) + usize::from(*low),
+        _ => 0,
+    };
+    frame.get(34..14 + total).unwrap_or(&[])
+}
+
+/// Puts together what the frames of a message carry, of which there are 100 at most.
+fn put_together(alloc: Global, cut: &mut Cut, link: &LinkPlan) -> Result<Received, AllocError>
+    requires { SendsOver cut.old.port link.now }
+{
+    let mut received = Received {
+        addresses: Vec::new(alloc),
+        datagram: Vec::new(alloc),
+    };
+    for number in 0..100u8 {
+        let Some(frame) = cut.next_frame(link, 1, number, Net::A) else {
+            break;
+        };
+        received.addresses = frame.get(26..34).unwrap_or(&[]).to_vec(alloc)?;
+        received.datagram.extend_from_slice(piece_of(&frame))?;
+    }
+    Ok(received)
+}
+
+/// What a receiver has of a message of a port, over frames of so many bytes at most.
+fn received(
+    alloc: Global,
+    port: &PortPlan,
+    lmax: Lmax,
+    message: &[u8],
+) -> Result<Received, AllocError>
+    requires port { IsPort port.now }
+    requires vl { port.now.vl ≡ record { 0 = 1 } }
+    requires sub { port.now.sub ≡ 0 }
+    requires some { 1 ≤ length message.now }
+    requires most { length message.now ≤ 8192 }
+{
+    let mut cut = Cut::new(message.to_vec(alloc)?, 0, port);
+    put_together(alloc, &mut cut, &link(lmax, 1))
+}
+
+/// Asserts that a message passes a receiver's check where its port has checksums, is never told as
+/// one without, and is otherwise what it is without.
+fn assert_checked(rt: &impl Abort, alloc: Global, lmax: Lmax, message: &[u8])
+    requires some { 1 ≤ length message.now }
+    requires most { length message.now ≤ 8192 }
+{
+    let plain = received(alloc, &demo_port(), lmax, message).expect(rt, "memory");
+    let summed = received(alloc, &summing_port(), lmax, message).expect(rt, "memory");
+    assert_eq!(rt; plain.datagram.get(8..), Some(message));
+    assert_eq!(rt; plain.field(), Some([0, 0].as_slice()));
+    assert_eq!(rt; summed.others(), plain.others());
+    assert_ne!(rt; summed.field(), plain.field());
+    assert_eq!(rt; summed.sum(), 0);
+}
+
+/// Asserts the same of a message of so many bytes, over the shortest and the longest frames.
+fn assert_len(rt: &impl Abort, alloc: Global, len: u16)
+    requires some { 1 ≤ len }
+    requires most { len ≤ 8192 }
+{
+    let mut message = vec![in alloc; 0xa5u8; len as usize].expect(rt, "memory");
+    for (place, byte) in message.iter_mut().enumerate() {
+        *byte = (place as u8).wrapping_mul(37).wrapping_add(len as u8);
+    }
+    assert_checked(rt, alloc, Lmax::new(64), &message);
+    assert_checked(rt, alloc, Lmax::new(1518), &message);
+}
+
+#[test]
+fn messages_of_1_to_40_bytes_pass(rt: HostRuntime) {
+    for len in 1..=40 {
+        assert_len(&rt, rt.alloc(), len);
+    }
+}
+
+#[test]
+fn messages_at_the_edge_of_a_frame_pass(rt: HostRuntime) {
+    // a frame of 1,518 bytes carries 1,471 bytes of a message, and 1,464 where more follow
+    for len in 1463..=1474 {
+        assert_len(&rt, rt.alloc(), len);
+    }
+}
+
+#[test]
+fn each_message_of_two_bytes_passes(rt: HostRuntime) {
+    for high in 0..=255u8 {
+        for low in 0..=255u8 {
+            assert_checked(&rt, rt.alloc(), Lmax::new(1518), &[high, low]);
+        }
+    }
+}
+
+#[test]
+fn a_computed_zero_is_sent_as_65_535(rt: HostRuntime) -> Result<(), Fail> {
+    let lmax = Lmax::new(1518);
+    for (message, field) in [([0x08, 0x40], [0xff, 0xff]), ([0x08, 0x41], [0xff, 0xfe])] {
+        let received = received(rt.alloc(), &summing_port(), lmax, &message)?;
+        assert_eq!(rt; received.field(), Some(field.as_slice()));
+    }
+    Ok(())
+}

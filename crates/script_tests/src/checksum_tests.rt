@@ -1,0 +1,78 @@
+//! Tests of frames with UDP checksums, from the text of a configuration to the lines of both networks.
+use crate::helpers::{Frame, assert_run_over, frame_lines, joined, sums};
+use crate::plan_tests::{DEMO_LINK, DEMO_PORT, HEAD, PORT_REST, long_frames, long_send};
+use std::alloc::{AllocError, Global};
+use std::test::Fail;
+
+// The demonstration's text in version 2, with what its port says of its checksum.
+fn plan_with(alloc: Global, checksum: &str) -> Result<String, AllocError> {
+    joined(
+        alloc,
+        &[
+            "version = 2\n",
+            HEAD,
+            DEMO_LINK,
+            DEMO_PORT,
+            PORT_REST,
+            checksum,
+        ],
+    )
+}
+
+const WITH: &str = "checksum = \"udp\"\n";
+
+const FIRST: Frame<'static> = Frame {
+    at: 0,
+    header: "4500001d000000000111cdee0a000101e0e00001",
+    piece: "03e807d00009074201",
+    padding: 16,
+    number: 0,
+};
+
+#[test]
+fn a_datagram_carries_its_checksum(rt: HostRuntime) -> Result<(), Fail> {
+    let plan = plan_with(rt.alloc(), WITH)?;
+    let wanted = frame_lines(rt.alloc(), &[FIRST])?;
+    let script = "send 10 01\nat 0\n";
+    assert_run_over(&rt, rt.alloc(), &plan, script, sums(1, 0, 1), &wanted);
+    Ok(())
+}
+
+#[test]
+fn a_port_without_carries_zero(rt: HostRuntime) -> Result<(), Fail> {
+    let frame = Frame {
+        piece: "03e807d00009000001",
+        ..FIRST
+    };
+    let wanted = frame_lines(rt.alloc(), &[frame])?;
+    let script = "send 10 01\nat 0\n";
+    for checksum in ["", "checksum = \"none\"\n"] {
+        let plan = plan_with(rt.alloc(), checksum)?;
+        assert_run_over(&rt, rt.alloc(), &plan, script, sums(1, 0, 1), &wanted);
+    }
+    Ok(())
+}
+
+#[test]
+fn a_computed_zero_is_sent_as_ffff(rt: HostRuntime) -> Result<(), Fail> {
+    let plan = plan_with(rt.alloc(), WITH)?;
+    let frame = Frame {
+        header: "4500001e000000000111cded0a000101e0e00001",
+        piece: "03e807d0000affff0840",
+        padding: 15,
+        ..FIRST
+    };
+    let wanted = frame_lines(rt.alloc(), &[frame])?;
+    let script = "send 10 0840\nat 0\n";
+    assert_run_over(&rt, rt.alloc(), &plan, script, sums(1, 0, 1), &wanted);
+    Ok(())
+}
+
+#[test]
+fn the_first_of_two_frames_carries_the_checksum_of_both(rt: HostRuntime) -> Result<(), Fail> {
+    let plan = plan_with(rt.alloc(), WITH)?;
+    let script = long_send(rt.alloc())?;
+    let wanted = long_frames(rt.alloc(), "03e807d005c85219")?;
+    assert_run_over(&rt, rt.alloc(), &plan, &script, sums(1, 0, 2), &wanted);
+    Ok(())
+}
