@@ -42,20 +42,24 @@ struct Received {
 impl Received {
     /// The receiver's sum: over pseudo header and datagram, modulo 65,535.
     fn sum(&self) -> u32 {
-        let pseudo = words_of(&self.addresses)
-            .wrapping_add(17)
-            .wrapping_add(self.datagram.len() as u32);
+        let len = u32::try_from(self.datagram.len()).unwrap_or(0);
+        let pseudo = words_of(&self.addresses).wrapping_add(17).wrapping_add(len);
         words_of(&self.datagram).wrapping_add(pseudo) % 65535
     }
 
-    /// The checksum field.
-    fn field(&self) -> Option<&[u8]> {
-        self.datagram.get(6..8)
+    /// The UDP header before its checksum.
+    fn front(&self) -> &[u8] {
+        self.datagram.get(..6).unwrap_or(&[])
     }
 
-    /// All but that field.
-    fn others(&self) -> (Option<&[u8]>, Option<&[u8]>) {
-        (self.datagram.get(..6), self.datagram.get(8..))
+    /// The checksum field.
+    fn field(&self) -> &[u8] {
+        self.datagram.get(6..8).unwrap_or(&[])
+    }
+
+    /// The message.
+    fn message(&self) -> &[u8] {
+        self.datagram.get(8..).unwrap_or(&[])
     }
 }
 
@@ -87,7 +91,7 @@ fn put_together(alloc: Global, cut: &mut Cut, link: &LinkPlan) -> Result<Receive
 }
 
 /// What a receiver has of a message of a port, over frames of so many bytes at most.
-fn received(
+fn receive(
     alloc: Global,
     port: &PortPlan,
     lmax: Lmax,
@@ -109,11 +113,12 @@ fn assert_checked(rt: &impl Abort, alloc: Global, lmax: Lmax, message: &[u8])
     requires some { 1 ≤ length message.now }
     requires most { length message.now ≤ 8192 }
 {
-    let plain = received(alloc, &demo_port(), lmax, message).expect(rt, "memory");
-    let summed = received(alloc, &summing_port(), lmax, message).expect(rt, "memory");
-    assert_eq!(rt; plain.datagram.get(8..), Some(message));
-    assert_eq!(rt; plain.field(), Some([0, 0].as_slice()));
-    assert_eq!(rt; summed.others(), plain.others());
+    let plain = receive(alloc, &demo_port(), lmax, message).expect(rt, "memory");
+    let summed = receive(alloc, &summing_port(), lmax, message).expect(rt, "memory");
+    assert_eq!(rt; plain.message(), message);
+    assert_eq!(rt; plain.field(), [0, 0].as_slice());
+    assert_eq!(rt; summed.message(), message);
+    assert_eq!(rt; summed.front(), plain.front());
     assert_ne!(rt; summed.field(), plain.field());
     assert_eq!(rt; summed.sum(), 0);
 }
@@ -124,8 +129,10 @@ fn assert_len(rt: &impl Abort, alloc: Global, len: u16)
     requires most { len ≤ 8192 }
 {
     let mut message = vec![in alloc; 0xa5u8; len as usize].expect(rt, "memory");
-    for (place, byte) in message.iter_mut().enumerate() {
-        *byte = (place as u8).wrapping_mul(37).wrapping_add(len as u8);
+    let mut next = 0xa5u8;
+    for byte in message.iter_mut() {
+        *byte = next;
+        next = next.wrapping_mul(37).wrapping_add(91);
     }
     assert_checked(rt, alloc, Lmax::new(64), &message);
     assert_checked(rt, alloc, Lmax::new(1518), &message);
@@ -159,8 +166,8 @@ fn each_message_of_two_bytes_passes(rt: HostRuntime) {
 fn a_computed_zero_is_sent_as_65_535(rt: HostRuntime) -> Result<(), Fail> {
     let lmax = Lmax::new(1518);
     for (message, field) in [([0x08, 0x40], [0xff, 0xff]), ([0x08, 0x41], [0xff, 0xfe])] {
-        let received = received(rt.alloc(), &summing_port(), lmax, &message)?;
-        assert_eq!(rt; received.field(), Some(field.as_slice()));
+        let received = receive(rt.alloc(), &summing_port(), lmax, &message)?;
+        assert_eq!(rt; received.field(), field.as_slice());
     }
     Ok(())
 }
