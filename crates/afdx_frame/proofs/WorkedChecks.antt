@@ -1,5 +1,5 @@
 -- The worked UDP checksums, by computation.
-use Rattle.std.proofs.Common.{◌≡◌, ℕ, ◌+◌, ◌%◌, inr, List, [], ◌∷◌, refl, arith}
+use Rattle.std.proofs.Common.{inr, [], ◌∷◌, refl, arith}
 use Rattle.afdx_frame.specs.Checksum.{udp_checksum}
 use Rattle.afdx_frame.specs.Frame.{addresses, datagram, udp_header, udp_sum}
 use Rattle.afdx_frame.specs.UdpCheck.{IsWordChanged}
