@@ -5,7 +5,7 @@ use Rattle.std.specs.Option.{option_map_or}
 use Rattle.toml.specs.Data.{Members, get_member, as_array, as_table}
 use Rattle.afdx_plan.specs.declared.fault.ConfigFault.{ConfigFault}
 use Rattle.afdx_config.specs.Entries.{number_at, tables_among}
-use Rattle.afdx_config.specs.Format.{document_fields, end_fields, link_fields, port_fields_of}
+use Rattle.afdx_config.specs.Format.{document_fields, end_fields, link_fields, port_fields, fields_in}
 use Rattle.afdx_config.specs.Tables.{table_shows}
 
 -- the tables of the array under a key
@@ -25,7 +25,9 @@ is_version_2 document = number_at (codes "version") document == 2
 unfoldable pub values_show : ConfigFault → Members → Bool
 values_show fault document = table_shows fault document_fields document
     || option_map_or (table_shows fault end_fields) (section_at (codes "end_system") document) false
-    || list_any (table_shows fault link_fields) (rows_at (codes "vl") document)
     || list_any
-    (table_shows fault (port_fields_of (is_version_2 document)))
+    (table_shows fault (fields_in (is_version_2 document) link_fields))
+    (rows_at (codes "vl") document)
+    || list_any
+    (table_shows fault (fields_in (is_version_2 document) port_fields))
     (rows_at (codes "port") document)

@@ -1,8 +1,8 @@
 -- The format of a configuration: the keys of its tables, and what stands under them.
-use Rattle.std.specs.Prelude.{codes, ℕ, List, [], ◌∷◌, ◌++◌, Bool, true, false}
+use Rattle.std.specs.Prelude.{codes, ℕ, ◌-◌, List, [], ◌∷◌, length, take, Bool, true, false}
 use Rattle.afdx_plan.specs.declared.limits.TheConstants.{CAPACITY_LIMIT, MESSAGE_LIMIT}
 use Rattle.afdx_config.specs.declared.format.Content.{Content}
-use Rattle.afdx_config.specs.declared.format.Content.TheVariants.{Whole, Gap, PortKind, Address, Checksum, Section, Rows}
+use Rattle.afdx_config.specs.declared.format.Content.TheVariants.{Whole, Gap, Networks, PortKind, Address, Checksum, Section, Rows}
 
 -- a key of a table, whether it must stand there, and what may stand under it
 pub record Field : Type 0 where
@@ -30,16 +30,17 @@ document_fields = optional (codes "version") (Whole 1 2)
 abbrev pub end_fields : List Field
 end_fields = needed (codes "id") (Whole 0 65535) ∷ []
 
--- the table of a link
+-- the table of a link in version 2; in version 1 it has no networks, which is the last of them
 abbrev pub link_fields : List Field
 link_fields = needed (codes "id") (Whole 0 65535)
     ∷ needed (codes "bag_ms") Gap
     ∷ needed (codes "lmax") (Whole 64 1518)
     ∷ needed (codes "sub_vls") (Whole 1 4)
     ∷ needed (codes "capacity") (Whole 1 CAPACITY_LIMIT)
+    ∷ optional (codes "networks") Networks
     ∷ []
 
--- the table of a port in version 1
+-- the table of a port in version 2; in version 1 it has no checksum, which is the last of them
 abbrev pub port_fields : List Field
 port_fields = needed (codes "id") (Whole 0 65535)
     ∷ needed (codes "vl") (Whole 0 65535)
@@ -50,9 +51,10 @@ port_fields = needed (codes "id") (Whole 0 65535)
     ∷ needed (codes "destination") (Whole 1 65535)
     ∷ needed (codes "max") (Whole 1 MESSAGE_LIMIT)
     ∷ optional (codes "dest_ip") Address
+    ∷ optional (codes "checksum") Checksum
     ∷ []
 
--- the table of a port, where the text is of version 2 and where it isn't
-abbrev pub port_fields_of : Bool → List Field
-port_fields_of false = port_fields
-port_fields_of true = port_fields ++ optional (codes "checksum") Checksum ∷ []
+-- the keys of such a table, where the text is of version 2 and where it isn't
+abbrev pub fields_in : Bool → List Field → List Field
+fields_in true fields = fields
+fields_in false fields = take (length fields - 1) fields

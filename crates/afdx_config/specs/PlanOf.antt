@@ -9,9 +9,10 @@ use Rattle.afdx_plan.specs.declared.port_plan.PortPlan.{PortPlan}
 use Rattle.afdx_plan.specs.declared.bag.Bag.TheVariants.{Ms1}
 use Rattle.afdx_plan.specs.declared.identifiers.Kind.TheVariants.{Sampling}
 use Rattle.afdx_plan.specs.declared.identifiers.UdpSum.TheVariants.{Omitted}
+use Rattle.afdx_plan.specs.declared.networks.Networks.TheVariants.{Both}
 use Rattle.afdx_config.specs.Entries.{whole_at, text_at, number_at}
 use Rattle.afdx_config.specs.Document.{section_at, rows_at}
-use Rattle.afdx_config.specs.Values.{bag_of, kind_of, address_of, checksum_of}
+use Rattle.afdx_config.specs.Values.{bag_of, networks_of, kind_of, address_of, checksum_of}
 use Rattle.afdx_plan.specs.Config.{Plan}
 
 -- the link of a table
@@ -22,6 +23,7 @@ link_of members = record {
   lmax = number_at (codes "lmax") members;
   sub_vls = number_at (codes "sub_vls") members;
   capacity = number_at (codes "capacity") members;
+  networks = unwrap_or (option_and_then networks_of (text_at (codes "networks") members)) Both;
 }
 
 -- the port of a table

@@ -6,9 +6,9 @@ use Rattle.toml.specs.Data.{Data, Items, no_items, item, Members, get_member, as
 use Rattle.afdx_plan.specs.declared.fault.ConfigFault.{ConfigFault}
 use Rattle.afdx_plan.specs.declared.fault.ConfigFault.TheVariants.{MissingKey, UnknownKey, WrongKind, OutOfRange, BadBag}
 use Rattle.afdx_config.specs.declared.format.Content.{Content}
-use Rattle.afdx_config.specs.declared.format.Content.TheVariants.{Whole, Gap, PortKind, Address, Checksum, Section, Rows}
+use Rattle.afdx_config.specs.declared.format.Content.TheVariants.{Whole, Gap, Networks, PortKind, Address, Checksum, Section, Rows}
 use Rattle.afdx_config.specs.Entries.{lies_outside, has_key_besides}
-use Rattle.afdx_config.specs.Values.{bag_of, kind_of, address_of, checksum_of}
+use Rattle.afdx_config.specs.Values.{bag_of, networks_of, kind_of, address_of, checksum_of}
 use Rattle.afdx_config.specs.Format.{Field}
 
 -- an item isn't a table
@@ -20,6 +20,7 @@ has_other_item (item d ds) = is_none (as_table d) || has_other_item ds
 abbrev pub is_of_other_kind : Content → Data → Bool
 is_of_other_kind (Whole least most) value = is_none (as_integer value)
 is_of_other_kind Gap value = is_none (as_integer value)
+is_of_other_kind Networks value = is_none (as_str value)
 is_of_other_kind PortKind value = is_none (as_str value)
 is_of_other_kind Address value = is_none (as_str value)
 is_of_other_kind Checksum value = is_none (as_str value)
@@ -30,6 +31,7 @@ is_of_other_kind Rows value = option_map_or has_other_item (as_array value) true
 abbrev pub is_outside : Content → Data → Bool
 is_outside (Whole least most) value =
     option_map_or (lies_outside least most) (as_integer value) false
+is_outside Networks value = option_map_or (λ t. is_none (networks_of t)) (as_str value) false
 is_outside PortKind value = option_map_or (λ t. is_none (kind_of t)) (as_str value) false
 is_outside Address value = option_map_or (λ t. is_none (address_of t)) (as_str value) false
 is_outside Checksum value = option_map_or (λ t. is_none (checksum_of t)) (as_str value) false

@@ -10,6 +10,8 @@ use Rattle.afdx_plan.specs.declared.identifiers.Kind.{Kind}
 use Rattle.afdx_plan.specs.declared.identifiers.Kind.TheVariants.{Sampling, Queuing}
 use Rattle.afdx_plan.specs.declared.identifiers.UdpSum.{UdpSum}
 use Rattle.afdx_plan.specs.declared.identifiers.UdpSum.TheVariants.{Omitted, Generated}
+use Rattle.afdx_plan.specs.declared.networks.Networks.{Networks}
+use Rattle.afdx_plan.specs.declared.networks.Networks.TheVariants.{Both, OnlyA, OnlyB}
 
 -- the gap of a number of milliseconds
 unfoldable pub bag_of : ℤ → Option Bag
@@ -23,6 +25,14 @@ bag_of (pos n) =
     else if n == 32 then Some Ms32
     else if n == 64 then Some Ms64
     else if n == 128 then Some Ms128
+    else None
+
+-- the networks that a text names
+unfoldable pub networks_of : List ℕ → Option Networks
+networks_of text =
+    if bytes_eq text (codes "both") then Some Both
+    else if bytes_eq text (codes "a") then Some OnlyA
+    else if bytes_eq text (codes "b") then Some OnlyB
     else None
 
 -- the kind that a text names

@@ -8,7 +8,7 @@ use Rattle.afdx_plan.specs.declared.fault.ConfigFault.{ConfigFault}
 use Rattle.afdx_plan.specs.declared.fault.ConfigFault.TheVariants.{MissingKey, WrongKind, OutOfRange, BadBag}
 use Rattle.afdx_plan.specs.Config.{Plan, plan_of_parts}
 use Rattle.afdx_config.specs.Document.{section_at, rows_at, is_version_2}
-use Rattle.afdx_config.specs.Format.{Field, document_fields, end_fields, link_fields, port_fields, port_fields_of}
+use Rattle.afdx_config.specs.Format.{Field, document_fields, end_fields, link_fields, port_fields, fields_in}
 use Rattle.afdx_config.specs.Tables.{table_shows}
 use Rattle.afdx_config.specs.declared.format.Field.{Field as Written}
 use Rattle.afdx_config.specs.declared.sections.Sections.{Sections}
@@ -33,9 +33,11 @@ pub record AreSectionsOf (document : Members) (sections : Sections) : Type 0 whe
 abbrev pub sections_show : ConfigFault → Members → Sections → Bool
 sections_show fault document sections = table_shows fault document_fields document
     || option_map_or (λ t. table_shows fault end_fields (table_view t.now)) sections.end false
-    || list_any (λ t. table_shows fault link_fields (table_view t.now)) sections.links.items
     || list_any
-    (λ t. table_shows fault (port_fields_of (is_version_2 document)) (table_view t.now))
+    (λ t. table_shows fault (fields_in (is_version_2 document) link_fields) (table_view t.now))
+    sections.links.items
+    || list_any
+    (λ t. table_shows fault (fields_in (is_version_2 document) port_fields) (table_view t.now))
     sections.ports.items
 
 -- a table without fault
@@ -45,11 +47,11 @@ pub record IsSoundTable (fields : List Field) (members : Members) : Type 0 where
   pub inside : table_shows OutOfRange fields members ≡ false
   pub gaps : table_shows BadBag fields members ≡ false
 
--- each of the tables is without fault; a port's in the keys that it has in both versions
+-- each of the tables is without fault; a link's and a port's in the keys that it has in both versions
 pub record AreSound (sections : Sections) : Type 0 where
   pub end_sound : ForSome sections.end (λ t. IsSoundTable end_fields (table_view t.now))
-  pub links_sound : All (λ r. IsSoundTable link_fields (table_view r.now)) sections.links.items
-  pub ports_sound : All (λ r. IsSoundTable port_fields (table_view r.now)) sections.ports.items
+  pub links_sound : All (λ r. IsSoundTable (fields_in false link_fields) (table_view r.now)) sections.links.items
+  pub ports_sound : All (λ r. IsSoundTable (fields_in false port_fields) (table_view r.now)) sections.ports.items
 
 -- the plan of parts that weren't judged as a whole
 abbrev pub plan_in : Parts → Plan

@@ -3,7 +3,7 @@ ghost use Rattle.std.specs.Prelude.{◌≡◌, false, find, map};
 ghost use Rattle.std.specs.Option.{option_map_or};
 ghost use Rattle.toml.specs.View.{table_view};
 ghost use Rattle.afdx_config.specs.Document.{is_version_2, values_show};
-ghost use Rattle.afdx_config.specs.Format.{end_fields, port_fields_of};
+ghost use Rattle.afdx_config.specs.Format.{end_fields, fields_in};
 ghost use Rattle.afdx_config.specs.Tables.{table_shows};
 ghost use Rattle.afdx_config.specs.Views.{AreSectionsOf, field_of, sections_show};
 ghost use Rattle.afdx_config.specs.Faults.{shows, value_faults};
@@ -35,14 +35,15 @@ fn is_version_2(document: &Table) -> bool
     }
 }
 
-/// The keys of a port's table in the version of the text.
-fn port_fields(document: &Table) -> &'static [Field]
-    ensures { map field_of result.now ≡ port_fields_of (is_version_2 (table_view document.now)) }
+/// The keys of a table in the version of the text, of those that it has in version 2.
+fn fields_in<'a>(document: &Table, fields: &'a [Field]) -> &'a [Field]
+    ensures { map field_of result.now
+        ≡ fields_in (is_version_2 (table_view document.now)) (map field_of fields.now) }
 {
     if is_version_2(document) {
-        &PORT
+        fields
     } else {
-        &PORT[..PORT.len() - 1]
+        &fields[..fields.len().saturating_sub(1)]
     }
 }
 
@@ -51,8 +52,10 @@ fn sections_show(fault: ConfigFault, document: &Table, sections: &Sections<'_>) 
 {
     let at_top = table_shows(fault, document, &DOCUMENT);
     let in_end = end_shows(fault, sections.end);
-    let in_links = some_table_shows(fault, sections.links.as_slice(), &LINK);
-    let in_ports = some_table_shows(fault, sections.ports.as_slice(), port_fields(document));
+    let links = sections.links.as_slice();
+    let in_links = some_table_shows(fault, links, fields_in(document, &LINK));
+    let ports = sections.ports.as_slice();
+    let in_ports = some_table_shows(fault, ports, fields_in(document, &PORT));
     at_top | in_end | in_links | in_ports
 }
 

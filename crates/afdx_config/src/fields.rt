@@ -11,7 +11,7 @@ ghost use Rattle.afdx_config.specs.Views.{field_of};
 use crate::address::unicast_address;
 use crate::entries::value_at;
 use crate::format::{Content, Field};
-use crate::values::{bag_of_ms, checksum_named, kind_named};
+use crate::values::{bag_of_ms, checksum_named, kind_named, networks_named};
 use afdx_plan::ConfigFault;
 use toml::{Table, Value};
 
@@ -34,7 +34,9 @@ fn is_of_other_kind(content: Content, value: &Value) -> bool
 {
     match content {
         Content::Whole(_, _) | Content::Gap => !value.is_integer(),
-        Content::PortKind | Content::Address | Content::Checksum => !value.is_str(),
+        Content::Networks | Content::PortKind | Content::Address | Content::Checksum => {
+            !value.is_str()
+        }
         Content::Section => !value.is_table(),
         Content::Rows => match value.as_array() {
             Some(values) => holds_other_item(values.as_slice()),
@@ -56,6 +58,10 @@ fn is_outside(content: Content, value: &Value) -> bool
     match content {
         Content::Whole(least, most) => match value.as_integer() {
             Some(number) => lies_outside(least, most, number),
+            None => false,
+        },
+        Content::Networks => match value.as_str() {
+            Some(name) => networks_named(name).is_none(),
             None => false,
         },
         Content::PortKind => match value.as_str() {

@@ -2,12 +2,13 @@
 use afdx_plan::{CAPACITY_LIMIT, MESSAGE_LIMIT};
 
 /// What may stand under a key: a whole number from a least to a greatest one, the milliseconds of
-/// a gap, the name of a kind of port, a unicast address, the name of a UDP checksum, a table, or an
-/// array of tables.
+/// a gap, the name of a link's networks or of a kind of port, a unicast address, the name of a UDP
+/// checksum, a table, or an array of tables.
 #[derive(Clone, Copy)]
 pub(crate) enum Content {
     Whole(u16, u16),
     Gap,
+    Networks,
     PortKind,
     Address,
     Checksum,
@@ -34,13 +35,14 @@ pub(crate) const DOCUMENT: [Field; 4] = [
 /// The table of the end system.
 pub(crate) const END: [Field; 1] = [Field("id", NEEDED, Content::Whole(0, 65535))];
 
-/// The table of a link.
-pub(crate) const LINK: [Field; 5] = [
+/// The table of a link in version 2. In version 1 it has no networks, which is the last of them.
+pub(crate) const LINK: [Field; 6] = [
     Field("id", NEEDED, Content::Whole(0, 65535)),
     Field("bag_ms", NEEDED, Content::Gap),
     Field("lmax", NEEDED, Content::Whole(64, 1518)),
     Field("sub_vls", NEEDED, Content::Whole(1, 4)),
     Field("capacity", NEEDED, Content::Whole(1, CAPACITY_LIMIT as u16)),
+    Field("networks", OPTIONAL, Content::Networks),
 ];
 
 /// The table of a port in version 2. In version 1 it has no checksum, which is the last of them.

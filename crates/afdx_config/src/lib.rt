@@ -16,6 +16,6 @@ mod values;
 
 pub use afdx_plan::{
     Bag, CAPACITY_LIMIT, Config, ConfigFault, Kind, LINKS_LIMIT, LinkPlan, Lmax, MESSAGE_LIMIT,
-    PORTS_LIMIT, PortId, PortPlan, SUB_PORTS_LIMIT, UdpSum, VlId, demo_config, jitter_ns,
+    Networks, PORTS_LIMIT, PortId, PortPlan, SUB_PORTS_LIMIT, UdpSum, VlId, demo_config, jitter_ns,
 };
 pub use read::read_config;

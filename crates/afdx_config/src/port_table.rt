@@ -1,11 +1,11 @@
 //! The table of a port.
-ghost use Rattle.std.specs.Prelude.{◌≡◌, map, All, IfOk, IfSome, codes, unwrap_or, option_and_then};
+ghost use Rattle.std.specs.Prelude.{◌≡◌, false, map, All, IfOk, IfSome, codes, unwrap_or, option_and_then};
 ghost use Rattle.toml.specs.View.{table_view};
 ghost use Rattle.afdx_plan.specs.declared.identifiers.Kind.TheVariants.{Sampling};
 ghost use Rattle.afdx_plan.specs.declared.identifiers.UdpSum.TheVariants.{Omitted};
 ghost use Rattle.afdx_plan.specs.Plan.{IsPort, IsUnicast};
 ghost use Rattle.afdx_config.specs.Entries.{text_at};
-ghost use Rattle.afdx_config.specs.Format.{port_fields};
+ghost use Rattle.afdx_config.specs.Format.{port_fields, fields_in};
 ghost use Rattle.afdx_config.specs.PlanOf.{port_of};
 ghost use Rattle.afdx_config.specs.Values.{address_of, checksum_of, kind_of};
 ghost use Rattle.afdx_config.specs.Views.{IsSoundTable};
@@ -58,7 +58,7 @@ fn checksum(table: &Table) -> UdpSum
 /// The port of a table without fault.
 #[tactic(auto, unfolding(crate::specs::PlanOf::port_of))]
 fn port_plan(table: &Table) -> PortPlan
-    requires { IsSoundTable port_fields (table_view table.now) }
+    requires { IsSoundTable (fields_in false port_fields) (table_view table.now) }
     ensures value { result ≡ port_of (table_view table.now) }
     ensures ranges { IsPort result }
 {
@@ -78,7 +78,7 @@ fn port_plan(table: &Table) -> PortPlan
 
 /// The ports of tables without fault, in their order.
 pub(crate) fn port_plans(alloc: Global, tables: &[&Table]) -> Result<Vec<PortPlan>, AllocError>
-    requires { All (λ t. IsSoundTable port_fields (table_view t.now)) tables.now }
+    requires { All (λ t. IsSoundTable (fields_in false port_fields) (table_view t.now)) tables.now }
     ensures value { IfOk result (λ ports.
         ports.items ≡ map (λ t. port_of (table_view t.now)) tables.now) }
     ensures ranges { IfOk result (λ ports. All IsPort ports.items) }

@@ -1,8 +1,8 @@
 //! Values of a plan, as a text writes them.
 ghost use Rattle.std.specs.Prelude.{◌≡◌};
-ghost use Rattle.afdx_config.specs.Values.{bag_of, kind_of, checksum_of};
+ghost use Rattle.afdx_config.specs.Values.{bag_of, networks_of, kind_of, checksum_of};
 
-use afdx_plan::{Bag, Kind, UdpSum};
+use afdx_plan::{Bag, Kind, Networks, UdpSum};
 
 /// The gap of a number of milliseconds, where it is one.
 #[tactic(auto, unfolding(crate::specs::Values::bag_of))]
@@ -19,6 +19,22 @@ pub(crate) fn bag_of_ms(number: i64) -> Option<Bag>
         64 => Some(Bag::Ms64),
         128 => Some(Bag::Ms128),
         _ => None,
+    }
+}
+
+/// The networks that a text names.
+#[tactic(auto, unfolding(crate::specs::Values::networks_of))]
+pub(crate) fn networks_named(text: &str) -> Option<Networks>
+    ensures { result ≡ networks_of text.now }
+{
+    if text == "both" {
+        Some(Networks::Both)
+    } else if text == "a" {
+        Some(Networks::OnlyA)
+    } else if text == "b" {
+        Some(Networks::OnlyB)
+    } else {
+        None
     }
 }
 

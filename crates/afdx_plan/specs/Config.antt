@@ -4,6 +4,7 @@ use Rattle.afdx_plan.specs.declared.bag.Bag.TheVariants.{Ms1}
 use Rattle.afdx_plan.specs.declared.identifiers.Kind.TheVariants.{Sampling, Queuing}
 use Rattle.afdx_plan.specs.declared.identifiers.UdpSum.TheVariants.{Omitted}
 use Rattle.afdx_plan.specs.declared.link_plan.LinkPlan.{LinkPlan}
+use Rattle.afdx_plan.specs.declared.networks.Networks.TheVariants.{Both}
 use Rattle.afdx_plan.specs.declared.port_plan.PortPlan.{PortPlan}
 use Rattle.afdx_plan.specs.declared.limits.TheConstants.{LINKS_LIMIT, PORTS_LIMIT, SUB_PORTS_LIMIT}
 use Rattle.afdx_plan.specs.Address.{destination_address}
@@ -31,6 +32,7 @@ link_plan_at links k = get_or links k (record {
   lmax = 64;
   sub_vls = 0;
   capacity = 0;
+  networks = Both;
 })
 
 -- the port at a place; past the end a plan that no port has

@@ -4,10 +4,11 @@ use Rattle.afdx_plan.specs.declared.bag.Bag.TheVariants.{Ms1}
 use Rattle.afdx_plan.specs.declared.identifiers.Kind.TheVariants.{Queuing}
 use Rattle.afdx_plan.specs.declared.identifiers.UdpSum.TheVariants.{Omitted}
 use Rattle.afdx_plan.specs.declared.link_plan.LinkPlan.{LinkPlan}
+use Rattle.afdx_plan.specs.declared.networks.Networks.TheVariants.{Both}
 use Rattle.afdx_plan.specs.declared.port_plan.PortPlan.{PortPlan}
 use Rattle.afdx_plan.specs.Config.{Plan}
 
--- link 1 releases a frame a millisecond at most, and its one queue holds two messages
+-- link 1 releases a frame a millisecond at most, on both networks, and its one queue holds two messages
 abbrev pub demo_link : LinkPlan
 demo_link = record {
   id = record { 0 = 1 };
@@ -15,6 +16,7 @@ demo_link = record {
   lmax = 1518;
   sub_vls = 1;
   capacity = 2;
+  networks = Both;
 }
 
 -- port 10 of partition 1 sends messages of up to 8,192 bytes over it, to its multicast address and without

@@ -2,6 +2,7 @@ pub mod Room
 pub mod Plan
 pub mod Address
 pub mod Numbers
+pub mod Networks
 pub mod Flows
 pub mod Config
 pub mod Demo

@@ -8,6 +8,7 @@ use crate::fault::ConfigFault;
 use crate::identifiers::{Kind, PortId, UdpSum, VlId};
 use crate::link_plan::LinkPlan;
 use crate::lmax::Lmax;
+use crate::networks::Networks;
 use crate::port_plan::PortPlan;
 use std::alloc::Global;
 
@@ -32,6 +33,7 @@ fn demo_link() -> LinkPlan
         lmax: Lmax::new(1518),
         sub_vls: 1,
         capacity: 2,
+        networks: Networks::Both,
     }
 }
 

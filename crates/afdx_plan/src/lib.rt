@@ -11,6 +11,7 @@ pub mod laws;
 mod limits;
 mod link_plan;
 mod lmax;
+mod networks;
 mod plan_faults;
 mod port_plan;
 
@@ -23,4 +24,5 @@ pub use jitter::jitter_ns;
 pub use limits::{CAPACITY_LIMIT, LINKS_LIMIT, MESSAGE_LIMIT, PORTS_LIMIT, SUB_PORTS_LIMIT};
 pub use link_plan::LinkPlan;
 pub use lmax::Lmax;
+pub use networks::Networks;
 pub use port_plan::PortPlan;

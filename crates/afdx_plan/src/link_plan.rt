@@ -2,6 +2,7 @@
 use crate::bag::Bag;
 use crate::identifiers::VlId;
 use crate::lmax::Lmax;
+use crate::networks::Networks;
 
 /// What the plan says of a virtual link.
 #[derive(Clone, Copy, Debug, PartialEq, Eq)]
@@ -13,4 +14,6 @@ pub struct LinkPlan {
     pub sub_vls: u8,
     // of each sub-VL's queue, in messages: 1 to 256
     pub capacity: usize,
+    // which networks carry it
+    pub networks: Networks,
 }

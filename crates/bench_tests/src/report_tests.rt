@@ -70,6 +70,47 @@ fn the_line_of_a_port_with_checksums_says_so(rt: HostRuntime) -> Result<(), Fail
     Ok(())
 }
 
+// The demonstration in version 2: the networks of its link, and the end of its line then.
+const NETWORKS: [(&str, &str); 4] = [
+    ("", "capacity 2\n"),
+    ("networks = \"both\"\n", "capacity 2\n"),
+    ("networks = \"a\"\n", "capacity 2, network A\n"),
+    ("networks = \"b\"\n", "capacity 2, network B\n"),
+];
+
+#[test]
+fn the_line_of_a_link_on_one_network_says_so(rt: HostRuntime) -> Result<(), Fail> {
+    for (networks, line) in NETWORKS {
+        let text = format!(in rt.alloc(); "version = 2\n{TEXT}")?;
+        let link = format!(in rt.alloc(); "capacity = 2\n{networks}")?;
+        let text = text.replace(rt.alloc(), "capacity = 2\n", &link)?;
+        let wanted = REPORT.replace(rt.alloc(), "capacity 2\n", line)?;
+        assert_check(&rt, rt.alloc(), text.as_bytes(), Ok(()), &wanted);
+    }
+    Ok(())
+}
+
+// Each line tells of its own link: the first is on B, the second on A.
+#[test]
+fn links_on_one_network_each_are_told_apart(rt: HostRuntime) -> Result<(), Fail> {
+    let text = format!(in rt.alloc(); "version = 2\n{TWO_LINKS}")?
+        .replace(
+            rt.alloc(),
+            "capacity = 256\n",
+            "capacity = 256\nnetworks = \"b\"\n",
+        )?
+        .replace(
+            rt.alloc(),
+            "capacity = 1\n",
+            "capacity = 1\nnetworks = \"a\"\n",
+        )?;
+    let wanted = REPORT_OF_TWO_LINKS
+        .replace(rt.alloc(), "capacity 256\n", "capacity 256, network B\n")?
+        .replace(rt.alloc(), "capacity 1\n", "capacity 1, network A\n")?;
+    assert_check(&rt, rt.alloc(), text.as_bytes(), Ok(()), &wanted);
+    Ok(())
+}
+
 #[test]
 fn a_report_has_a_line_for_each_link_and_each_port(rt: HostRuntime) {
     for (text, wanted) in [(TEXT, REPORT), (TWO_LINKS, REPORT_OF_TWO_LINKS)] {

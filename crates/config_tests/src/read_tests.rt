@@ -28,11 +28,11 @@ max = 8192
 ";
 
 // its head, its link and its port once more
-const HEAD: &str = "[end_system]\nid = 1\n";
+pub const HEAD: &str = "[end_system]\nid = 1\n";
 
-const LINK: &str = "[[vl]]\nid = 1\nbag_ms = 1\nlmax = 1518\nsub_vls = 1\ncapacity = 2\n";
+pub const LINK: &str = "[[vl]]\nid = 1\nbag_ms = 1\nlmax = 1518\nsub_vls = 1\ncapacity = 2\n";
 
-const PORT: &str =
+pub const PORT: &str =
     "[[port]]\nid = 10\nvl = 1\nsub = 0\npartition = 1\nkind = \"queuing\"\nsource = 1000\ndestination = 2000\nmax = 8192\n";
 
 /// Texts, one behind the other.

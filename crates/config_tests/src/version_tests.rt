@@ -1,6 +1,6 @@
-//! Tests of the versions of a text, and of the checksums of ports in version 2.
-use crate::read_tests::{TEXT, assert_demo, assert_fault, joined};
-use afdx_config::{UdpSum, read_config};
+//! Tests of the versions of a text, and of the checksums of ports and the networks of links in version 2.
+use crate::read_tests::{HEAD, LINK, PORT, TEXT, assert_demo, assert_fault, joined};
+use afdx_config::{Networks, UdpSum, read_config};
 use std::process::Abort;
 use std::test::Fail;
 
@@ -59,6 +59,52 @@ fn a_port_has_the_checksum_that_its_table_names(rt: HostRuntime) -> Result<(), F
         let read = read_config(rt.alloc(), text.as_bytes())?;
         assert_eq!(rt; read.ports().len(), 1);
         assert_eq!(rt; read.ports()[0].checksum, checksum);
+    }
+    Ok(())
+}
+
+// What stands before the demonstration's text, what stands at the end of its link, and the number of
+// the fault then, or 0.
+const NETWORKS: [(&str, &str, u8); 15] = [
+    ("version = 2\n", "networks = \"both\"\n", 0),
+    ("version = 2\n", "networks = \"a\"\n", 0),
+    ("version = 2\n", "networks = \"b\"\n", 0),
+    ("", "networks = \"a\"\n", 3),
+    ("", "networks = \"both\"\n", 3),
+    ("version = 1\n", "networks = \"a\"\n", 3),
+    ("version = 3\n", "networks = \"a\"\n", 3),
+    ("version = 2\nnetworks = \"a\"\n", "", 3),
+    ("version = 2\n", "checksum = \"udp\"\n", 3),
+    ("version = 2\n", "networks = \"c\"\n", 5),
+    ("version = 2\n", "networks = \"A\"\n", 5),
+    ("version = 2\n", "networks = \"ab\"\n", 5),
+    ("version = 2\n", "networks = \"\"\n", 5),
+    ("version = 2\n", "networks = 1\n", 4),
+    ("version = 2\n", "networks = [\"a\", \"b\"]\n", 4),
+];
+
+#[test]
+fn networks_are_a_key_of_version_2_alone(rt: HostRuntime) -> Result<(), Fail> {
+    for (before, behind, number) in NETWORKS {
+        let text = joined(rt.alloc(), &[before, HEAD, LINK, behind, PORT])?;
+        assert_fault(&rt, rt.alloc(), &text, number);
+    }
+    Ok(())
+}
+
+#[test]
+fn a_link_is_on_the_networks_that_its_table_names(rt: HostRuntime) -> Result<(), Fail> {
+    let named = [
+        ("", Networks::Both),
+        ("networks = \"both\"\n", Networks::Both),
+        ("networks = \"a\"\n", Networks::OnlyA),
+        ("networks = \"b\"\n", Networks::OnlyB),
+    ];
+    for (behind, networks) in named {
+        let text = joined(rt.alloc(), &["version = 2\n", HEAD, LINK, behind, PORT])?;
+        let read = read_config(rt.alloc(), text.as_bytes())?;
+        assert_eq!(rt; read.links().len(), 1);
+        assert_eq!(rt; read.links()[0].networks, networks);
     }
     Ok(())
 }

@@ -8,6 +8,8 @@ use Rattle.afdx_plan.specs.declared.identifiers.Kind.TheVariants.{Sampling, Queu
 use Rattle.afdx_plan.specs.declared.identifiers.UdpSum.{UdpSum}
 use Rattle.afdx_plan.specs.declared.identifiers.UdpSum.TheVariants.{Omitted, Generated}
 use Rattle.afdx_plan.specs.declared.link_plan.LinkPlan.{LinkPlan}
+use Rattle.afdx_plan.specs.declared.networks.Networks.{Networks}
+use Rattle.afdx_plan.specs.declared.networks.Networks.TheVariants.{Both, OnlyA, OnlyB}
 use Rattle.afdx_plan.specs.declared.port_plan.PortPlan.{PortPlan}
 
 -- the end system
@@ -22,11 +24,17 @@ pace_text link = codes "link " ++ decimal link.id.0 ++ codes ": bag " ++ decimal
 -- a virtual link's queues
 unfoldable pub queues_text : LinkPlan → List ℕ
 queues_text link = codes ", sub-VLs " ++ decimal link.sub_vls ++ codes ", capacity "
-    ++ decimal link.capacity ++ 10 ∷ []
+    ++ decimal link.capacity
+
+-- which networks carry a virtual link: nothing is said of one on both
+abbrev pub networks_text : Networks → List ℕ
+networks_text Both = []
+networks_text OnlyA = codes ", network A"
+networks_text OnlyB = codes ", network B"
 
 -- a virtual link
 unfoldable pub link_line : LinkPlan → List ℕ
-link_line link = pace_text link ++ queues_text link
+link_line link = pace_text link ++ queues_text link ++ networks_text link.networks ++ 10 ∷ []
 
 -- a kind of ports
 abbrev pub kind_name : Kind → List ℕ

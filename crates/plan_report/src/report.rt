@@ -2,12 +2,13 @@
 ghost use Rattle.std.specs.Prelude.{◌≡◌, OnOk, flat_map};
 ghost use Rattle.std.specs.Io.KnownBytes.{Appends};
 ghost use Rattle.plan_report.specs.Report.{kind_name as name_of_kind, checksum_text as text_of_checksum};
+ghost use Rattle.plan_report.specs.Report.{networks_text as text_of_networks};
 ghost use Rattle.plan_report.specs.Report.{end_system_line, report_of};
 ghost use Rattle.plan_report.specs.Report.{pace_text, queues_text, link_line};
 ghost use Rattle.plan_report.specs.Report.{way_text, flow_text, destination_text, port_line};
 ghost use Rattle.plan_report.specs.Report.{jitter_text, verdict_text, jitter_line};
 
-use afdx_plan::{Config, Kind, LinkPlan, PortPlan, UdpSum, jitter_ns};
+use afdx_plan::{Config, Kind, LinkPlan, Networks, PortPlan, UdpSum, jitter_ns};
 use std::io::{self, Write};
 use std::net::Ipv4Addr;
 
@@ -50,7 +51,9 @@ fn write_link<W: Write>(writer: &mut W, link: &LinkPlan) -> io::Result<()>
         (link_line link.now)) }
 {
     write_pace(writer, link)?;
-    write_queues(writer, link)
+    write_queues(writer, link)?;
+    let networks = networks_text(link.networks);
+    writeln!(writer, "{networks}")
 }
 
 #[tactic(auto, unfolding(crate::specs::Report::pace_text))]
@@ -71,7 +74,17 @@ fn write_queues<W: Write>(writer: &mut W, link: &LinkPlan) -> io::Result<()>
 {
     let sub_vls = link.sub_vls;
     let capacity = link.capacity;
-    writeln!(writer, ", sub-VLs {sub_vls}, capacity {capacity}")
+    write!(writer, ", sub-VLs {sub_vls}, capacity {capacity}")
+}
+
+fn networks_text(networks: Networks) -> &'static str
+    ensures { result.now ≡ text_of_networks networks }
+{
+    match networks {
+        Networks::Both => "",
+        Networks::OnlyA => ", network A",
+        Networks::OnlyB => ", network B",
+    }
 }
 
 fn write_ports<W: Write>(writer: &mut W, ports: &[PortPlan]) -> io::Result<()>

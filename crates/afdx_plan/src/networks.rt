@@ -1,0 +1,37 @@
+//! Which networks carry a virtual link.
+/// The networks that carry a virtual link: both of them, or one alone.
+#[derive(Clone, Copy, Debug, PartialEq, Eq)]
+pub enum Networks {
+    Both,
+    OnlyA,
+    OnlyB,
+}
+
+impl Networks {
+    ghost use Rattle.std.specs.Prelude.{◌≡◌};
+    ghost use Rattle.afdx_plan.specs.Networks.{names_a, names_b};
+
+    /// Whether network A is one of them.
+    #[inline(always)]
+    pub fn names_a(self) -> bool
+        ensures { result ≡ names_a self }
+    {
+        match self {
+            Networks::Both => true,
+            Networks::OnlyA => true,
+            Networks::OnlyB => false,
+        }
+    }
+
+    /// Whether network B is one of them.
+    #[inline(always)]
+    pub fn names_b(self) -> bool
+        ensures { result ≡ names_b self }
+    {
+        match self {
+            Networks::Both => true,
+            Networks::OnlyA => false,
+            Networks::OnlyB => true,
+        }
+    }
+}
