@@ -1,8 +1,9 @@
 //! A network that keeps no frame, and takes the right ones alone.
 ghost use Rattle.std.specs.Prelude.{◌≡◌, []};
+ghost use Rattle.redundant_mux.specs.Logged.{entries_of};
 
-use crate::trail::Trail;
-use redundant_mux::{HandFault, Network};
+use afdx_plan::Networks;
+use redundant_mux::{HandFault, Network, Trail};
 
 /// The gap of the link, in microseconds.
 pub(crate) const GAP: u64 = 1_000;
@@ -76,7 +77,7 @@ fn digest_frame(digest: u64, at: u64, frame: &[u8]) -> u64 {
 impl Gauge {
     /// One with this interface identifier, that was handed nothing.
     pub(crate) fn new(interface: u8) -> Gauge
-        ensures empty { result.trail.handed ≡ [] }
+        ensures empty { entries_of result.trail.logged ≡ [] }
         ensures new { result.failures ≡ 0 }
     {
         Gauge {
@@ -128,7 +129,7 @@ impl Gauge {
 }
 
 impl Network for Gauge {
-    ghost handed = { λ g. g.trail.handed };
+    ghost handed = { λ g. entries_of g.trail.logged };
 
     ghost failures = { λ g. g.failures };
 
@@ -142,7 +143,8 @@ impl Network for Gauge {
         self.identification = self.identification.wrapping_add(4);
         self.last = Some(at);
         self.digest = digest_frame(self.digest, at, frame);
-        self.trail = Trail::with(&self.trail, &at, frame);
+        // Its own list alone is told, so the networks that it names are indifferent.
+        self.trail = Trail::with(&self.trail, &Networks::Both, &at, frame);
         Ok(())
     }
 }

@@ -13,5 +13,3 @@ mod gauge_tests;
 mod long_tests;
 #[cfg(test)]
 mod testing;
-#[cfg(test)]
-mod trail;

@@ -4,7 +4,7 @@ ghost use Rattle.afdx_plan.specs.Plan.{IsPort, SendsOver};
 ghost use Rattle.afdx_frame.specs.Cutting.{SameMessage};
 
 use afdx_frame::{Cut, Frame, Net, ident_of, more_of, offset_of, sn_of, sub_of, twin, vl_of};
-use afdx_plan::{Bag, Kind, LinkPlan, Lmax, PortId, PortPlan, UdpSum, VlId};
+use afdx_plan::{Bag, Kind, LinkPlan, Lmax, Networks, PortId, PortPlan, UdpSum, VlId};
 use std::alloc::{AllocError, Global};
 use std::process::Abort;
 use std::test::Fail;
@@ -62,6 +62,7 @@ pub fn link(lmax: Lmax, sub_vls: u8) -> LinkPlan
         lmax,
         sub_vls,
         capacity: 2,
+        networks: Networks::Both,
     }
 }
 

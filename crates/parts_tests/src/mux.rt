@@ -4,6 +4,7 @@ ghost use Rattle.afdx_frame.specs.Twin.{twin_of};
 ghost use Rattle.afdx_frame.specs.declared.net.Net.TheVariants.{A as ForA};
 
 use afdx_frame::Frame;
+use afdx_plan::Networks;
 use redundant_mux::{BothDown, HandFault, MemNetwork, Mux, Network, Standing};
 use std::process::Abort;
 
@@ -32,10 +33,19 @@ fn frame_for_a() -> Frame
     frame
 }
 
-// Hands the frame to the networks that stand. A test that calls this has a short proof, since it
-// keeps no frame and learns nothing of the networks.
+// Hands the frame to those of these networks that stand. A test that calls this has a short proof, since
+// it keeps no frame and learns nothing of the networks.
+fn hand_for(
+    mux: &mut Mux<MemNetwork, MemNetwork>,
+    at: u64,
+    networks: Networks,
+) -> Result<Standing, BothDown> {
+    mux.hand(at, &frame_for_a(), networks)
+}
+
+// Hands it to both.
 fn hand(mux: &mut Mux<MemNetwork, MemNetwork>, at: u64) -> Result<Standing, BothDown> {
-    mux.hand(at, &frame_for_a())
+    hand_for(mux, at, Networks::Both)
 }
 
 // Asserts how many frames a network was handed, and how often it failed.
@@ -91,6 +101,25 @@ fn a_hand_after_both_failed_answers_both_down(rt: HostRuntime) {
     let (a, b) = mux.into_networks();
     assert_counts(&rt, &a, 1, 1);
     assert_counts(&rt, &b, 0, 1);
+}
+
+#[test]
+fn a_frame_for_one_network_goes_to_it_alone_and_nowhere_where_it_is_down(rt: HostRuntime) {
+    let alloc = rt.alloc();
+    let mut mux = Mux::new(MemNetwork::failing_at(alloc, 2), MemNetwork::new(alloc));
+    let both = Standing { a: true, b: true };
+    let only_b = Standing { a: false, b: true };
+    assert_eq!(rt; hand_for(&mut mux, 0, Networks::OnlyA), Ok(both));
+    assert_eq!(rt; hand_for(&mut mux, 1, Networks::OnlyB), Ok(both));
+    assert_eq!(rt; hand_for(&mut mux, 2, Networks::OnlyA), Ok(only_b));
+    assert_eq!(rt; hand_for(&mut mux, 3, Networks::OnlyA), Ok(only_b));
+    assert!(rt; !mux.stands_for(Networks::OnlyA));
+    assert!(rt; mux.stands_for(Networks::Both));
+    let (a, b) = mux.into_networks();
+    assert_counts(&rt, &a, 1, 1);
+    assert_handed(&rt, &a, 0, 0, &FOR_A);
+    assert_counts(&rt, &b, 1, 0);
+    assert_handed(&rt, &b, 0, 1, &FOR_B);
 }
 
 #[test]

@@ -1,8 +1,10 @@
 -- Networks through some hands.
-use Rattle.std.proofs.Common.{ℕ, ◌≡◌, List, Bool, true, false, refl, sym, ◌∙◌, inl, inr, arith}
-use Rattle.std.proofs.lemmas.Bool.{cases_Bool, both_ways}
+use Rattle.std.proofs.Common.{ℕ, ◌≡◌, List, Bool, true, false, ◌&&◌, ◌||◌, refl, ap, sym, ◌∙◌, inl, inr, ⊎_elim, arith}
+use Rattle.std.proofs.lemmas.Bool.{cases_Bool, both_ways, and_parts, or_cases}
+use Rattle.afdx_plan.specs.declared.networks.Networks.{Networks}
+use Rattle.afdx_plan.specs.Networks.{names_a, names_b}
 use Rattle.redundant_mux.specs.Entry.{Entry}
-use Rattle.redundant_mux.specs.Lines.{Lines, Handing, Endures, BothEndure}
+use Rattle.redundant_mux.specs.Lines.{Lines, Handing, Endures, BothEndure, stands_for}
 
 -- through none
 endures_none : (s : Bool) (h : List Entry) (f : ℕ) → Endures s s h h f f
@@ -14,27 +16,33 @@ endures_none s h f = record {
 }
 
 -- through one
-endures_hand : (e : Entry) (stood stands : Bool) (old new : List Entry) (f g : ℕ)
-    → Handing e stood stands old new f g → Endures stood stands old new f g
-endures_hand e true true old new f g p = record {
+endures_hand : (named : Bool) (e : Entry) (stood stands : Bool) (old new : List Entry) (f g : ℕ)
+    → Handing named e stood stands old new f g → Endures stood stands old new f g
+endures_hand false e stood stands old new f g p = record {
+  stays = ((λ up. (sym p.0 ∙ up, p.2)), (λ both. p.0 ∙ both.0));
+  least = omega (arith, p.2);
+  most = omega (arith, p.2);
+  down = λ _. (p.1, p.2);
+}
+endures_hand true e true true old new f g p = record {
   stays = ((λ _. (refl, p.1)), (λ _. refl));
   least = omega (arith, p.1);
   most = omega (arith, p.1);
   down = λ no. absurd (both_ways true no refl);
 }
-endures_hand e true false old new f g p = record {
+endures_hand true e true false old new f g p = record {
   stays = ((λ up. absurd (both_ways false refl up)), (λ both. absurd (omega (arith, both.1, p.1))));
   least = omega (arith, p.1);
   most = omega (arith, p.1);
   down = λ no. absurd (both_ways true no refl);
 }
-endures_hand e false false old new f g p = record {
+endures_hand true e false false old new f g p = record {
   stays = ((λ up. absurd (both_ways false refl up)), (λ both. both.0));
   least = omega (arith, p.1);
   most = omega (arith, p.1);
   down = λ _. p;
 }
-endures_hand e false true old new f g p = absurd p
+endures_hand true e false true old new f g p = absurd p
 
 -- through some, and then some more
 endures_on : (s m t : Bool) (h i j : List Entry) (f g k : ℕ) → Endures s m h i f g → Endures m t i j g k → Endures s t h j f k
@@ -64,13 +72,13 @@ both_none lines = record {
 }
 
 -- both through one
-pub both_hands : (before after : Lines) (e f : Entry)
-    → Handing e before.a_stands after.a_stands before.a after.a before.a_failures after.a_failures
-    → Handing f before.b_stands after.b_stands before.b after.b before.b_failures after.b_failures
+pub both_hands : (before after : Lines) (for_a for_b : Bool) (e f : Entry)
+    → Handing for_a e before.a_stands after.a_stands before.a after.a before.a_failures after.a_failures
+    → Handing for_b f before.b_stands after.b_stands before.b after.b before.b_failures after.b_failures
     → BothEndure before after
-both_hands before after e f p q = record {
-  a = endures_hand e _ _ _ _ _ _ p;
-  b = endures_hand f _ _ _ _ _ _ q;
+both_hands before after for_a for_b e f p q = record {
+  a = endures_hand for_a e _ _ _ _ _ _ p;
+  b = endures_hand for_b f _ _ _ _ _ _ q;
 }
 
 -- both through some, and then some more
@@ -79,3 +87,22 @@ both_on before mid after p q = record {
   a = endures_on _ _ _ _ _ _ _ _ _ p.a q.a;
   b = endures_on _ _ _ _ _ _ _ _ _ p.b q.b;
 }
+
+-- a network that stands at the end stood before
+pub stood_before : (before after : Lines) (networks : Networks) → BothEndure before after → stands_for networks after ≡ true
+    → stands_for networks before ≡ true
+stood_before before after networks p some = ⊎_elim
+    (λ (x : (names_a networks && after.a_stands) ≡ true).
+    let both = and_parts (names_a networks) after.a_stands x in
+    ap (λ (t : Bool). (t && before.a_stands) || (names_b networks && before.b_stands)) both.0
+    ∙ ap (λ (t : Bool). t || (names_b networks && before.b_stands)) (p.a.stays.0 both.1).0)
+    (λ (y : (names_b networks && after.b_stands) ≡ true).
+    let both = and_parts (names_b networks) after.b_stands y in
+    ap (λ (t : Bool). (names_a networks && before.a_stands) || (t && before.b_stands)) both.0
+    ∙ ap (λ (t : Bool). (names_a networks && before.a_stands) || t) (p.b.stays.0 both.1).0
+    ∙ or_true (names_a networks && before.a_stands))
+    (or_cases (names_a networks && after.a_stands) (names_b networks && after.b_stands) some)
+  where
+    or_true : (t : Bool) → (t || true) ≡ true
+    or_true true = refl
+    or_true false = refl

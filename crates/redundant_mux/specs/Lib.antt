@@ -1,3 +1,4 @@
 pub mod Entry
 pub mod Memory
+pub mod Logged
 pub mod Lines

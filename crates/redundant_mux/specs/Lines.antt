@@ -1,11 +1,14 @@
 -- What was handed to two networks, and which of them still stand.
-use Rattle.std.specs.Prelude.{ℕ, ◌≡◌, ◌⊎◌, ◌↔◌, ◌+◌, ◌≤◌, List, [], ◌∷◌, ◌++◌, Bool, true, false, ◌||◌, if◌then◌else◌, nat_lt, length, map, take}
-use Rattle.afdx_frame.specs.Twin.{twin_of}
+use Rattle.std.specs.Prelude.{ℕ, ◌≡◌, ◌⊎◌, ◌↔◌, ◌+◌, ◌≤◌, List, [], ◌∷◌, ◌++◌, Bool, true, false, ◌&&◌, ◌||◌, All}
+use Rattle.afdx_plan.specs.declared.networks.Networks.{Networks}
+use Rattle.afdx_plan.specs.Networks.{names_a, names_b}
 use Rattle.afdx_frame.specs.declared.net.Net.{Net}
 use Rattle.afdx_frame.specs.declared.net.Net.TheVariants.{A, B}
 use Rattle.redundant_mux.specs.Entry.{Entry}
+use Rattle.redundant_mux.specs.Logged.{Logged, entries_of, only, side, sent_to}
 
--- the two handed lists, the failures of each network, and whether it stands
+-- The two handed lists, the failures of each network, and whether it stands; and in order what at least
+-- one of them took.
 pub record Lines : Type 0 where
   pub a : List Entry
   pub b : List Entry
@@ -13,22 +16,25 @@ pub record Lines : Type 0 where
   pub b_failures : ℕ
   pub a_stands : Bool
   pub b_stands : Bool
+  pub logged : List Logged
 
 -- the lines of two networks
-abbrev pub lines_of : (a b : List Entry) (a_failures b_failures : ℕ) (a_stands b_stands : Bool) → Lines
-lines_of a b f g s t =
-    record { a = a; b = b; a_failures = f; b_failures = g; a_stands = s; b_stands = t }
+abbrev pub lines_of : (a b : List Entry) (a_failures b_failures : ℕ) (a_stands b_stands : Bool) (logged : List Logged) → Lines
+lines_of a b f g s t logged =
+    record { a = a; b = b; a_failures = f; b_failures = g; a_stands = s; b_stands = t; logged = logged }
 
--- One network when an entry is handed over, by whether it stood before and stands afterwards.
-abbrev pub Handing : (handed : Entry) (stood stands : Bool) (old new : List Entry) (failures_old failures_new : ℕ) → Type 0
+-- One network when an entry is handed over, by whether it is named, and whether it stood before and stands afterwards.
+abbrev pub Handing : (named : Bool) (handed : Entry) (stood stands : Bool) (old new : List Entry) (failures_old failures_new : ℕ) → Type 0
+-- it isn't meant
+Handing false handed stood stands old new f g = (stands ≡ stood) × (new ≡ old) × (g ≡ f)
 -- it takes the entry
-Handing handed true true old new f g = (new ≡ old ++ handed ∷ []) × (g ≡ f)
+Handing true handed true true old new f g = (new ≡ old ++ handed ∷ []) × (g ≡ f)
 -- its hand failed
-Handing handed true false old new f g = (new ≡ old) × (g ≡ f + 1)
+Handing true handed true false old new f g = (new ≡ old) × (g ≡ f + 1)
 -- it was down, and gets nothing
-Handing handed false false old new f g = (new ≡ old) × (g ≡ f)
+Handing true handed false false old new f g = (new ≡ old) × (g ≡ f)
 -- it doesn't come back
-Handing handed false true old new f g = ⊥
+Handing true handed false true old new f g = ⊥
 
 -- One network through some hands: it stands afterwards exactly where it stood and none of them failed;
 -- at most one fails; and while it is down it gets nothing.
@@ -43,36 +49,41 @@ pub record BothEndure (before after : Lines) : Type 0 where
   pub a : Endures before.a_stands after.a_stands before.a after.a before.a_failures after.a_failures
   pub b : Endures before.b_stands after.b_stands before.b after.b before.b_failures after.b_failures
 
+-- some of these networks stands, by whether each does
+abbrev pub some_of : Networks → (a b : Bool) → Bool
+some_of networks a b = (names_a networks && a) || (names_b networks && b)
+
+-- some network that is named stands
+abbrev pub stands_for : Networks → Lines → Bool
+stands_for networks lines = some_of networks lines.a_stands lines.b_stands
+
 -- some network stands
 abbrev pub is_alive : Lines → Bool
 is_alive lines = lines.a_stands || lines.b_stands
 
--- the entry for a network
-abbrev pub side : Net → Entry → Entry
-side net e = record { at = e.at; frame = twin_of net e.frame }
-
--- the longer handed list, its frames for network A
+-- what at least one network took, in order, its frames for network A
 unfoldable pub log : Lines → List Entry
-log lines = map (side A) (if nat_lt (length lines.a) (length lines.b) then lines.b else lines.a)
+log lines = entries_of lines.logged
 
--- One network's list is the twins of a prefix of the log, of all of it where the network stands.
-pub record Keeps (net : Net) (stands : Bool) (handed log : List Entry) : Type 0 where
-  pub within : length handed ≤ length log
-  pub front : handed ≡ map (side net) (take (length handed) log)
-  pub all : stands ≡ true → length handed ≡ length log
+-- One network's list is what it gets of a beginning of what was logged, of all of it where the network
+-- stands. What it missed isn't for it alone.
+pub record Keeps (net : Net) (stands : Bool) (handed : List Entry) (logged : List Logged) : Type 0 where
+  pub seen : List Logged
+  pub missed : List Logged
+  pub whole : logged ≡ seen ++ missed
+  pub got : handed ≡ sent_to net seen
+  pub shared : All (λ (l : Logged). l.networks ≡ only net → ⊥) missed
+  pub all : stands ≡ true → missed ≡ []
 
--- The two lists are twins of prefixes of one log, and one of them of all of it.
-pub record Mirrors (log : List Entry) (lines : Lines) : Type 0 where
-  pub first : Keeps A lines.a_stands lines.a log
-  pub second : Keeps B lines.b_stands lines.b log
-  pub for_a : map (side A) log ≡ log
-  pub one : (length lines.a ≡ length log) ⊎ (length lines.b ≡ length log)
-
-abbrev pub IsMirrored : Lines → Type 0
-IsMirrored lines = Mirrors (log lines) lines
+-- Both lists are so, and one of the networks missed nothing.
+pub record IsMirrored (lines : Lines) : Type 0 where
+  pub first : Keeps A lines.a_stands lines.a lines.logged
+  pub second : Keeps B lines.b_stands lines.b lines.logged
+  pub one : (first.missed ≡ []) ⊎ (second.missed ≡ [])
+  pub for_a : All (λ (l : Logged). side A l.entry ≡ l.entry) lines.logged
 
 -- What holds of two networks that are given up at their first failure: one that stands has not
--- failed, and their lists mirror one log.
+-- failed, and their lists mirror what was logged.
 pub record AreInStep (lines : Lines) : Type 0 where
   pub a_unfailed : lines.a_stands ≡ true → lines.a_failures ≡ 0
   pub b_unfailed : lines.b_stands ≡ true → lines.b_failures ≡ 0

@@ -1,12 +1,16 @@
 //! One frame for two networks.
 ghost use Rattle.std.specs.Prelude.{◌≡◌, ℕ, ◌≤◌, ◌↔◌, [], ◌∷◌, ◌++◌, true, false, length, IsErr, OnErr, IfOk};
+ghost use Rattle.afdx_plan.specs.Networks.{names_a, names_b};
 ghost use Rattle.afdx_frame.specs.Twin.{twin_of};
 ghost use Rattle.afdx_frame.specs.declared.net.Net.TheVariants.{A as ForA, B as ForB};
 ghost use Rattle.redundant_mux.specs.Entry.{entry};
-ghost use Rattle.redundant_mux.specs.Lines.{Handing, BothEndure, is_alive, log, IsMirrored};
+ghost use Rattle.redundant_mux.specs.Logged.{logged_for};
+ghost use Rattle.redundant_mux.specs.Lines.{Handing, BothEndure, some_of, stands_for, IsMirrored};
 
 use crate::network::Network;
+use crate::trail::Trail;
 use afdx_frame::{Frame, GREATEST_FRAME, Net, make_twin};
+use afdx_plan::Networks;
 use std::marker::Model;
 
 /// Both networks were down.
@@ -20,8 +24,18 @@ pub struct Standing {
     pub b: bool,
 }
 
+impl Standing {
+    /// Whether some of these networks stands.
+    #[inline(always)]
+    fn has_one_of(&self, networks: Networks) -> bool
+        ensures { result ≡ some_of networks self.now.a self.now.b }
+    {
+        networks.names_a() && self.a || networks.names_b() && self.b
+    }
+}
+
 /// Two networks, each of which is given up for good at its first failure. Contracts see what was
-/// handed to them, their failures, and which of them stand.
+/// handed to them, their failures, which of them stand, and in order what at least one of them took.
 #[derive(Drop)]
 pub struct Mux<A: Network + Drop, B: Network + Drop> {
     a: A,
@@ -29,6 +43,8 @@ pub struct Mux<A: Network + Drop, B: Network + Drop> {
     standing: Standing,
     // Where B's twin of a frame is made.
     twin: [u8; GREATEST_FRAME],
+    // What at least one network took, for proofs alone.
+    trail: Trail,
 }
 
 impl<A: Network + Drop, B: Network + Drop> Model for Mux<A, B> {
@@ -37,46 +53,67 @@ impl<A: Network + Drop, B: Network + Drop> Model for Mux<A, B> {
     ghost Value = { Lines };
 
     ghost view = { λ m. lines_of (A.handed m.a) (B.handed m.b) (A.failures m.a) (B.failures m.b)
-        m.standing.a m.standing.b };
+        m.standing.a m.standing.b m.trail.logged };
 
     ghost invariant = { λ m. AreInStep (lines_of (A.handed m.a) (B.handed m.b) (A.failures m.a)
-        (B.failures m.b) m.standing.a m.standing.b) };
+        (B.failures m.b) m.standing.a m.standing.b m.trail.logged) };
 }
 
-/// Hands a network that stands a frame, once. It is down for good where it fails.
+/// Hands a network that is named and stands a frame, once. It is down for good where it fails.
 #[inline(always)]
-fn hand_to<N: Network + Drop>(network: &mut N, stands: &mut bool, at: u64, frame: &[u8])
+fn hand_to<N: Network + Drop>(
+    network: &mut N,
+    stands: &mut bool,
+    named: bool,
+    at: u64,
+    frame: &[u8],
+)
     requires short { length frame.now ≤ GREATEST_FRAME }
     requires unfailed { stands.old ≡ true → N.failures network.old ≡ 0 }
-    ensures handing { Handing (entry at frame.now) stands.old stands.new
+    ensures handing { Handing named (entry at frame.now) stands.old stands.new
         (N.handed network.old) (N.handed network.new)
         (N.failures network.old) (N.failures network.new) }
     ensures unfailed { stands.new ≡ true → N.failures network.new ≡ 0 }
 {
-    *stands = *stands && network.hand(at, frame).is_ok();
+    if named {
+        *stands = *stands && network.hand(at, frame).is_ok();
+    }
 }
 
-/// Hands a network that stands the twin for B of a frame for A, which is made in a buffer.
+/// Hands a network that is named and stands the twin for B of a frame for A, which is made in a buffer.
 #[inline(always)]
 fn hand_twin<N: Network + Drop>(
     network: &mut N,
     stands: &mut bool,
+    named: bool,
     buffer: &mut [u8; GREATEST_FRAME],
     at: u64,
     frame: &[u8],
 )
     requires short { length frame.now ≤ GREATEST_FRAME }
     requires unfailed { stands.old ≡ true → N.failures network.old ≡ 0 }
-    ensures handing { Handing (entry at (twin_of ForB frame.now)) stands.old stands.new
+    ensures handing { Handing named (entry at (twin_of ForB frame.now)) stands.old stands.new
         (N.handed network.old) (N.handed network.new)
         (N.failures network.old) (N.failures network.new) }
     ensures unfailed { stands.new ≡ true → N.failures network.new ≡ 0 }
 {
-    if *stands {
+    if named && *stands {
         let twin = &mut buffer[..frame.len()];
         twin.copy_from_slice(frame);
         make_twin(twin, Net::B);
-        hand_to(network, stands, at, twin);
+        hand_to(network, stands, true, at, twin);
+    }
+}
+
+/// Notes an entry that some network took.
+#[inline(always)]
+fn note(trail: &mut Trail, taken: bool, networks: Networks, at: u64, frame: &[u8])
+    ensures taken { taken ≡ true → trail.new.logged ≡
+        trail.old.logged ++ logged_for networks (entry at frame.now) ∷ [] }
+    ensures lost { taken ≡ false → trail.new.logged ≡ trail.old.logged }
+{
+    if taken {
+        *trail = Trail::with(trail, &networks, &at, frame);
     }
 }
 
@@ -94,6 +131,7 @@ impl<A: Network + Drop, B: Network + Drop> Mux<A, B> {
           b_failures = 0;
           a_stands = true;
           b_stands = true;
+          logged = [];
         } }
     {
         Mux {
@@ -101,6 +139,7 @@ impl<A: Network + Drop, B: Network + Drop> Mux<A, B> {
             b,
             standing: Standing { a: true, b: true },
             twin: [0; GREATEST_FRAME],
+            trail: Trail::new(),
         }
     }
 
@@ -111,6 +150,14 @@ impl<A: Network + Drop, B: Network + Drop> Mux<A, B> {
         ensures mirrored { IsMirrored self.now }
     {
         self.standing
+    }
+
+    /// Whether some network that is named stands.
+    #[inline(always)]
+    pub fn stands_for(&self, networks: Networks) -> bool
+        ensures { result ≡ stands_for networks self.now }
+    {
+        self.standing.has_one_of(networks)
     }
 
     /// The networks, with what was handed to them.
@@ -126,26 +173,28 @@ impl<A: Network + Drop, B: Network + Drop> Mux<A, B> {
             b,
             standing: _,
             twin: _,
+            trail: _,
         } = self;
         (a, b)
     }
 
-    /// Hands each standing network its twin of a frame for A, at a moment in microseconds, once. A
-    /// network that fails is down for good. Which networks stand afterwards: those that took it.
-    /// `BothDown` where both were down before, and then nothing has changed.
-    pub fn hand(&mut self, at: u64, frame: &Frame) -> Result<Standing, BothDown>
+    /// Hands each network that is named and stands its twin of a frame for A, at a moment in
+    /// microseconds, once. A network that fails is down for good. Answers which networks stand
+    /// afterwards; where no network that is named stood, nothing has changed. `BothDown` where both
+    /// were down before, and then nothing has changed.
+    pub fn hand(&mut self, at: u64, frame: &Frame, networks: Networks) -> Result<Standing, BothDown>
         requires { twin_of ForA frame.now.items ≡ frame.now.items }
         ensures down { IsErr result ↔ ((self.old.a_stands ≡ false) × (self.old.b_stands ≡ false)) }
         ensures err { OnErr result (self.new ≡ self.old) }
-        ensures a { Handing (entry at (twin_of ForA frame.now.items))
+        ensures a { Handing (names_a networks) (entry at (twin_of ForA frame.now.items))
             self.old.a_stands self.new.a_stands
             self.old.a self.new.a self.old.a_failures self.new.a_failures }
-        ensures b { Handing (entry at (twin_of ForB frame.now.items))
+        ensures b { Handing (names_b networks) (entry at (twin_of ForB frame.now.items))
             self.old.b_stands self.new.b_stands
             self.old.b self.new.b self.old.b_failures self.new.b_failures }
-        ensures enters { is_alive self.new ≡ true →
-            log self.new ≡ log self.old ++ entry at frame.now.items ∷ [] }
-        ensures lost { is_alive self.new ≡ false → log self.new ≡ log self.old }
+        ensures enters { stands_for networks self.new ≡ true →
+            self.new.logged ≡ self.old.logged ++ logged_for networks (entry at frame.now.items) ∷ [] }
+        ensures lost { stands_for networks self.new ≡ false → self.new.logged ≡ self.old.logged }
         ensures endure { BothEndure self.old self.new }
         ensures mirrored { IsMirrored self.new }
         ensures a_stands { IfOk result (λ standing. standing.a ≡ self.new.a_stands) }
@@ -154,8 +203,19 @@ impl<A: Network + Drop, B: Network + Drop> Mux<A, B> {
         if !self.standing.a && !self.standing.b {
             return Err(BothDown);
         }
-        hand_to(&mut self.a, &mut self.standing.a, at, frame);
-        hand_twin(&mut self.b, &mut self.standing.b, &mut self.twin, at, frame);
+        let named_a = networks.names_a();
+        let named_b = networks.names_b();
+        hand_to(&mut self.a, &mut self.standing.a, named_a, at, frame);
+        hand_twin(
+            &mut self.b,
+            &mut self.standing.b,
+            named_b,
+            &mut self.twin,
+            at,
+            frame,
+        );
+        let taken = self.standing.has_one_of(networks);
+        note(&mut self.trail, taken, networks, at, frame);
         Ok(self.standing)
     }
 }

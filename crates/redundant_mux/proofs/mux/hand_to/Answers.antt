@@ -12,3 +12,9 @@ returns-else-stands-clause-handing g c = search rules
 
 pub returns-else-stands-clause-unfailed : goal.returns-else-stands-clause-unfailed
 returns-else-stands-clause-unfailed g c = search rules
+
+pub returns-else-named-clause-handing : goal.returns-else-named-clause-handing
+returns-else-named-clause-handing g c = search rules
+
+pub returns-else-named-clause-unfailed : goal.returns-else-named-clause-unfailed
+returns-else-named-clause-unfailed g c = search rules

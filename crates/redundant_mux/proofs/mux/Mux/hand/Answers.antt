@@ -1,40 +1,88 @@
-use Rattle.std.proofs.Common.{ap}
+use Rattle.std.proofs.Common.{ap, rules}
 use Rattle.redundant_mux.specs.Entry.{entry}
-use Rattle.redundant_mux.specs.Lines.{lines_of}
+use Rattle.redundant_mux.specs.Lines.{lines_of, IsMirrored}
 use Rattle.redundant_mux.proofs.Enduring.{both_hands}
-use Rattle.redundant_mux.proofs.MirroredLines.{HandedOn, handed_on}
+use Rattle.redundant_mux.proofs.MirroredLines.{handed_on}
 use Rattle.redundant_mux.proofs.mux.Mux.hand.Given
 use Rattle.redundant_mux.proofs.mux.Mux.hand.Goals as goal
 
 -- what the hand leaves
 left : (g : Given.Over) (c : goal.After-result-1 g)
-    → HandedOn c.args.self.now
-    (lines_of (g.A.Network.handed c.hand_to.new.network) (g.B.Network.handed c.hand_twin.new.network)
+    → IsMirrored (lines_of (g.A.Network.handed c.hand_to.new.network) (g.B.Network.handed c.hand_twin.new.network)
     (g.A.Network.failures c.hand_to.new.network) (g.B.Network.failures c.hand_twin.new.network)
-    c.hand_to.new.stands c.hand_twin.new.stands)
-    (entry c.args.at c.args.frame.now.items)
+    c.hand_to.new.stands c.hand_twin.new.stands c.note.new.trail.logged)
 left g c =
     let for_a = ap (entry c.args.at) c.requires in
-    let a = rw c.deref.ensures.0 at c.hand_to.ensures.handing in
-    let b = rw c.deref-2.ensures.0 at c.hand_twin.ensures.handing in
-    rw (← c.self.view_is) (handed_on _ _ _ c.self.invariant.mirrored for_a a b)
+    let a = rw (c.names_a-named_a.ensures, c.deref.ensures.0) at c.hand_to.ensures.handing in
+    let b = rw (c.names_b-named_b.ensures, c.deref-2.ensures.0) at c.hand_twin.ensures.handing in
+    handed_on _ _ c.args.networks (entry c.args.at c.args.frame.now.items) c.self.invariant.mirrored for_a a b
+    (rw (c.has_one_of-taken.ensures, c.deref-3.ensures.0) at c.note.ensures.taken)
+    (rw (c.has_one_of-taken.ensures) at c.note.ensures.lost)
 
 pub invariant_of-self : goal.invariant_of-self
 invariant_of-self g c = record {
   a_unfailed = c.hand_to.ensures.unfailed;
   b_unfailed = c.hand_twin.ensures.unfailed;
-  mirrored = (left g c).mirrored;
+  mirrored = left g c;
 }
 
-pub returns-clause-enters : goal.returns-clause-enters
-returns-clause-enters g c = (left g c).enters
-
-pub returns-clause-lost : goal.returns-clause-lost
-returns-clause-lost g c = (left g c).lost
-
 pub returns-clause-mirrored : goal.returns-clause-mirrored
-returns-clause-mirrored g c = (left g c).mirrored
+returns-clause-mirrored g c = left g c
 
 pub returns-clause-endure : goal.returns-clause-endure
 returns-clause-endure g c =
-    rw (← c.self.view_is) (both_hands _ _ _ _ c.hand_to.ensures.handing c.hand_twin.ensures.handing)
+    rw (← c.self.view_is) (both_hands _ _ _ _ _ _ c.hand_to.ensures.handing c.hand_twin.ensures.handing)
+
+pub returns-then-not-self-2-clause-down : goal.returns-then-not-self-2-clause-down
+returns-then-not-self-2-clause-down g c = search rules
+
+pub returns-then-not-self-2-clause-err : goal.returns-then-not-self-2-clause-err
+returns-then-not-self-2-clause-err g c = search rules
+
+pub returns-then-not-self-2-clause-a : goal.returns-then-not-self-2-clause-a
+returns-then-not-self-2-clause-a g c = search rules
+
+pub returns-then-not-self-2-clause-b : goal.returns-then-not-self-2-clause-b
+returns-then-not-self-2-clause-b g c = search rules
+
+pub returns-then-not-self-2-clause-enters : goal.returns-then-not-self-2-clause-enters
+returns-then-not-self-2-clause-enters g c = search rules
+
+pub returns-then-not-self-2-clause-lost : goal.returns-then-not-self-2-clause-lost
+returns-then-not-self-2-clause-lost g c = search rules
+
+pub returns-then-not-self-2-clause-endure : goal.returns-then-not-self-2-clause-endure
+returns-then-not-self-2-clause-endure g c = search rules
+
+pub returns-then-not-self-2-clause-mirrored : goal.returns-then-not-self-2-clause-mirrored
+returns-then-not-self-2-clause-mirrored g c = search rules
+
+pub returns-then-not-self-2-clause-a_stands : goal.returns-then-not-self-2-clause-a_stands
+returns-then-not-self-2-clause-a_stands g c = search rules
+
+pub returns-then-not-self-2-clause-b_stands : goal.returns-then-not-self-2-clause-b_stands
+returns-then-not-self-2-clause-b_stands g c = search rules
+
+pub returns-clause-down : goal.returns-clause-down
+returns-clause-down g c = search rules
+
+pub returns-clause-err : goal.returns-clause-err
+returns-clause-err g c = search rules
+
+pub returns-clause-a : goal.returns-clause-a
+returns-clause-a g c = search rules
+
+pub returns-clause-b : goal.returns-clause-b
+returns-clause-b g c = search rules
+
+pub returns-clause-enters : goal.returns-clause-enters
+returns-clause-enters g c = search rules
+
+pub returns-clause-lost : goal.returns-clause-lost
+returns-clause-lost g c = search rules
+
+pub returns-clause-a_stands : goal.returns-clause-a_stands
+returns-clause-a_stands g c = search rules
+
+pub returns-clause-b_stands : goal.returns-clause-b_stands
+returns-clause-b_stands g c = search rules

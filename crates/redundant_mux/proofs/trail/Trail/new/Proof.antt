@@ -21,11 +21,11 @@ use denote.Triple.Entry.{on_entry, alive}
 use denote.Triple.Spec.{Meets, triple_of}
 use denote.Triple.Table.{entered}
 use denote.Triple.Walked.{says, Stays, walk_of, Walks, ends_at, walked, walk_Meets}
-use Rattle.endurance_tests.specs.contracts.trail.Trail.new.Key.{name as key}
-use Rattle.endurance_tests.specs.contracts.trail.Trail.new as f
-use Rattle.endurance_tests.proofs.trail.Trail.new.Statement as stated
-use Rattle.endurance_tests.proofs.trail.Trail.new.Code as code
-use Rattle.endurance_tests.specs.contracts.trail.Trail as made
+use Rattle.redundant_mux.specs.contracts.trail.Trail.new.Key.{name as key}
+use Rattle.redundant_mux.specs.contracts.trail.Trail.new as f
+use Rattle.redundant_mux.proofs.trail.Trail.new.Statement as stated
+use Rattle.redundant_mux.proofs.trail.Trail.new.Code as code
+use Rattle.redundant_mux.specs.contracts.trail.Trail as made
 
 abbrev stayed : Stays (f.ended).signature.params (f.ended).kept
 stayed = tt
@@ -43,8 +43,8 @@ module _ {M : Type 1} {𝓤 : Ura M} (𝓛 : Logic 𝓤) (mem : Memory → SProp
       qed 𝓛 (raw (alive 𝓛 f.signature tt tt) ∷ ‵ (owns [] tt tt) ∷ []) ∵ enter ! C Λ code.function [] _ $
       alloc_all ! (λ l. pass_all ! refl tt $ sets ! (agg ! (no_more !)) refl (tt, tt) $
       returns ! (look_at ! 0 refl) $ free_all ! refl $
-      suffices ! _ (ends_at 𝓛 f.ended stayed (f.clauses 𝓛 mem run) bound (vstruct vnil) (record { handed = [] }) tt tt) $
-      says ! refl $ pure_i ! (made.the_row.own_val (record { handed = [] }) (vstruct vnil ∷ [])) ((λ vss. (tt, tt)), tt) ((tt, (refl, tt)), tt) $
+      suffices ! _ (ends_at 𝓛 f.ended stayed (f.clauses 𝓛 mem run) bound (vstruct vnil) (record { logged = [] }) tt tt) $
+      says ! refl $ pure_i ! (made.the_row.own_val (record { logged = [] }) (vstruct vnil ∷ [])) ((λ vss. (tt, tt)), tt) ((tt, (refl, tt)), tt) $
       move ! (1 ∷ 2 ∷ 0 ∷ []) $ done !)
 
   walks : Walks 𝓛 f.ended stayed (WpFn 𝓤 H C Λ code.function) (f.clauses 𝓛 mem run)

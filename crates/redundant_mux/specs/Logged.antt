@@ -1,0 +1,39 @@
+-- What was handed over to two networks, in order.
+use Rattle.std.specs.Prelude.{List, Bool, map, filter}
+use Rattle.afdx_plan.specs.declared.networks.Networks.{Networks}
+use Rattle.afdx_plan.specs.declared.networks.Networks.TheVariants.{OnlyA, OnlyB}
+use Rattle.afdx_plan.specs.Networks.{names_a, names_b}
+use Rattle.afdx_frame.specs.declared.net.Net.{Net}
+use Rattle.afdx_frame.specs.declared.net.Net.TheVariants.{A, B}
+use Rattle.afdx_frame.specs.Twin.{twin_of}
+use Rattle.redundant_mux.specs.Entry.{Entry}
+
+-- an entry with the networks that it is for, its frame that for network A
+pub record Logged : Type 0 where
+  pub networks : Networks
+  pub entry : Entry
+
+abbrev pub logged_for : Networks → Entry → Logged
+logged_for networks e = record { networks = networks; entry = e }
+
+-- the entries
+abbrev pub entries_of : List Logged → List Entry
+entries_of logged = map (λ (l : Logged). l.entry) logged
+
+-- whether a network is one of those named
+abbrev pub names : Net → Networks → Bool
+names A networks = names_a networks
+names B networks = names_b networks
+
+-- the one network
+abbrev pub only : Net → Networks
+only A = OnlyA
+only B = OnlyB
+
+-- the entry for a network
+abbrev pub side : Net → Entry → Entry
+side net e = record { at = e.at; frame = twin_of net e.frame }
+
+-- of these, what a network gets
+abbrev pub sent_to : Net → List Logged → List Entry
+sent_to net logged = map (side net) (entries_of (filter (λ (l : Logged). names net l.networks) logged))
