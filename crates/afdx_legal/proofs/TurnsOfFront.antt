@@ -5,7 +5,7 @@ use Rattle.afdx_frame.specs.Header.{sub_in}
 use Rattle.afdx_frame.specs.Roles.{more_fragments}
 use Rattle.afdx_frame.proofs.Twins.{twin_sub, twin_word}
 use Rattle.redundant_mux.specs.Entry.{Entry}
-use Rattle.redundant_mux.specs.Lines.{side}
+use Rattle.redundant_mux.specs.Logged.{side}
 use Rattle.afdx_legal.specs.Streams.{sub_stream}
 use Rattle.afdx_legal.specs.Turns.{more_in, before_next, TakesTurns}
 

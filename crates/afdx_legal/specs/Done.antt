@@ -1,15 +1,15 @@
 -- Whether all that was accepted was handed over.
-use Rattle.std.specs.Prelude.{ℕ, ◌≡◌, ◌<◌, List, [], ◌++◌, length, true}
+use Rattle.std.specs.Prelude.{ℕ, ◌≡◌, ◌<◌, List, [], ◌++◌, length}
 use Rattle.afdx_plan.specs.Config.{Plan, link_plan_at}
 use Rattle.afdx_plan.specs.Room.{room_of}
 use Rattle.afdx_plan.specs.declared.link_plan.LinkPlan.{LinkPlan}
 use Rattle.afdx_frame.specs.declared.net.Net.TheVariants.{A}
 use Rattle.afdx_frame.specs.Fragments.{Sent, fragments}
 use Rattle.redundant_mux.specs.Entry.{Entry}
-use Rattle.redundant_mux.specs.Lines.{lines_of, log}
 use Rattle.afdx_legal.specs.Streams.{told_of}
 use Rattle.afdx_legal.specs.Legal.{Accepted, IsLegal}
 use Rattle.afdx_legal.specs.Allowed.{AreAllowed, AreOwn}
+use Rattle.afdx_legal.specs.Own.{AreOwnStreams}
 
 -- The accepted messages of a sub-VL are wholly released: their fragments are its stream, the sequence
 -- numbers left open.
@@ -35,15 +35,13 @@ abbrev pub IsAllDone : Plan → Accepted → List Entry → Type 0
 IsAllDone plan accepted log = (k : ℕ) → k < length plan.links
     → IsLinkDone plan.end_system (link_plan_at plan.links k) (accepted k) log
 
--- the longer of two handed lists
-abbrev pub longer_list : (a b : List Entry) → List Entry
-longer_list a b = log (lines_of a b 0 0 true true)
-
 -- All that was accepted of the ports of a plan, of each its own list, was handed over legally, every
--- fragment of it, and nothing else.
+-- fragment of it, and nothing else: by a log of which each link's stream is the longer of its two.
 pub record IsHandedWhole (plan : Plan) (own : ℕ → List (List ℕ)) (a b : List Entry) : Type 0 where
   pub accepted : Accepted
   pub legal : IsLegal plan accepted a b
   pub allowed : AreAllowed plan accepted
   pub are_own : AreOwn plan accepted own
-  pub done : IsAllDone plan accepted (longer_list a b)
+  pub log : List Entry
+  pub streams : AreOwnStreams plan log a b
+  pub done : IsAllDone plan accepted log

@@ -1,8 +1,10 @@
 -- Legal handing over: of a plan, the accepted lists and two handed lists, and nothing else. Who checks the
 -- headline reads this crate, and what it stands on.
-use Rattle.std.specs.Prelude.{ℕ, ◌≡◌, ◌≤◌, ◌<◌, List, [], ◌∷◌, length, map, take, slice_index, None}
+use Rattle.std.specs.Prelude.{ℕ, ◌≡◌, ◌≤◌, ◌<◌, List, [], ◌∷◌, Bool, false, ◌&&◌, nat_eq, length, map, take, filter, slice_index, None}
+use Rattle.std.specs.List.{list_any}
 use Rattle.afdx_plan.specs.Config.{Plan, link_plan_at}
 use Rattle.afdx_plan.specs.Plan.{bag_micros}
+use Rattle.afdx_plan.specs.Networks.{is_both}
 use Rattle.afdx_plan.specs.Room.{room_of}
 use Rattle.afdx_plan.specs.declared.link_plan.LinkPlan.{LinkPlan}
 use Rattle.afdx_frame.specs.declared.net.Net.{Net}
@@ -11,7 +13,7 @@ use Rattle.afdx_frame.specs.Frame.{interface_byte}
 use Rattle.afdx_frame.specs.Header.{link_in, sub_in}
 use Rattle.afdx_frame.specs.Fragments.{Sent, fragments}
 use Rattle.redundant_mux.specs.Entry.{Entry}
-use Rattle.redundant_mux.specs.Lines.{side}
+use Rattle.redundant_mux.specs.Logged.{names, side}
 use Rattle.afdx_legal.specs.Streams.{link_stream, told_of, entry_number, IsNumbered, IsSpaced, IsPrefixOf}
 
 -- The accepted list of each sub-VL, by the place of its link in the plan and its index.
@@ -32,11 +34,14 @@ abbrev pub AreKnown : List LinkPlan → Net → List Entry → Type 0
 AreKnown links net [] = Unit {0}
 AreKnown links net (e ∷ es) = IsKnown links net e.frame × AreKnown links net es
 
--- What was handed to one network. Every frame is known; each sub-VL's stream is a prefix of the
--- fragments of its accepted messages; each link's stream is numbered and spaced.
+-- What was handed to one network. Every frame is known, and none is of a link that the network doesn't
+-- carry; each sub-VL's stream is a prefix of the fragments of its accepted messages; each link's stream is
+-- numbered and spaced.
 pub record IsLegalOn (plan : Plan) (accepted : Accepted)
     (net : Net) (handed : List Entry) : Type 0 where
   pub known : AreKnown plan.links net handed
+  pub carried : (k : ℕ) → k < length plan.links → names net (link_plan_at plan.links k).networks ≡ false
+      → link_stream (link_plan_at plan.links k).id.0 handed ≡ []
   pub prefixes : (k s : ℕ) → k < length plan.links → s < (link_plan_at plan.links k).sub_vls
       → IsPrefixOf (told_of (link_plan_at plan.links k).id.0 s handed)
       (fragments plan.end_system (room_of (link_plan_at plan.links k).lmax) net (accepted k s))
@@ -46,13 +51,22 @@ pub record IsLegalOn (plan : Plan) (accepted : Accepted)
       → IsSpaced (bag_micros (link_plan_at plan.links k).bag) None
       (link_stream (link_plan_at plan.links k).id.0 handed)
 
+-- whether a link with this identifier is on both networks
+abbrev pub is_on_both : List LinkPlan → ℕ → Bool
+is_on_both links vl = list_any (λ (link : LinkPlan). nat_eq link.id.0 vl && is_both link.networks) links
+
+-- the entries of links on both networks
+abbrev pub on_both : List LinkPlan → List Entry → List Entry
+on_both links handed = filter (λ (e : Entry). is_on_both links (link_in e.frame)) handed
+
 -- the shorter list is the twins of a prefix of the longer, where each is turned to its network
 pub record AreTwins {F : Type 0} (turn : Net → F → F) (a b : List F) : Type 0 where
   pub b_shorter : length b ≤ length a → b ≡ map (turn B) (take (length b) a)
   pub a_shorter : length a ≤ length b → a ≡ map (turn A) (take (length a) b)
 
--- what was handed to the two networks is legal for the accepted lists
+-- What was handed to the two networks is legal for the accepted lists. Of links on both, what was handed to
+-- the one is twins of what was handed to the other.
 pub record IsLegal (plan : Plan) (accepted : Accepted) (a b : List Entry) : Type 0 where
   pub on_a : IsLegalOn plan accepted A a
   pub on_b : IsLegalOn plan accepted B b
-  pub twins : AreTwins side a b
+  pub twins : AreTwins side (on_both plan.links a) (on_both plan.links b)

@@ -1,6 +1,7 @@
 pub mod Streams
 pub mod Legal
 pub mod Allowed
+pub mod Own
 pub mod Done
 pub mod WorkedMessage
 pub mod Counting

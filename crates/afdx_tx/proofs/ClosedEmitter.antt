@@ -11,7 +11,7 @@ use Rattle.vl_link.specs.Links.{Held, LinkState, held_at, link_at, no_link}
 use Rattle.vl_link.specs.Closing.{ClosesSub, ClosesLink}
 use Rattle.vl_link.proofs.Closing.{closes_taken, closes_known, closes_name}
 use Rattle.afdx_tx.specs.Emitter.{Tx, queues_in}
-use Rattle.afdx_tx.specs.Closing.{IsSubAt, LacksSub, ClosesTx}
+use Rattle.afdx_tx.specs.Closing.{LacksSub, ClosesTx}
 use Rattle.afdx_tx.proofs.SoundEmitter.{alike_link_queues, alike_queues}
 use Rattle.afdx_tx.proofs.KeptLinks.{KeepsSub, KeepLinks}
 use Rattle.afdx_tx.proofs.OneSub.{one_link, one_count, one_each}

@@ -1,5 +1,5 @@
 -- Each poll of a drain that finds a link due sends one of its frames, until it owes none.
-use Rattle.std.proofs.Common.{ℕ, zero, suc, ◌≡◌, ◌≢◌, ◌⊎◌, ◌+◌, ◌-◌, ◌<◌, ◌≤◌, List, [], ◌∷◌, ◌++◌, true, false, length, arith, refl, ap, ◌∙◌, sym, subst, Option, Some, None, inl, inr, ⊎_elim}
+use Rattle.std.proofs.Common.{ℕ, zero, suc, ◌≡◌, ◌≢◌, ◌⊎◌, ◌+◌, ◌-◌, ◌<◌, ◌≤◌, List, [], ◌∷◌, ◌++◌, Bool, true, ◌&&◌, length, arith, refl, ap, ◌∙◌, sym, subst, Option, Some, None, inl, inr, ⊎_elim}
 use Rattle.std.proofs.lemmas.Bool.{both_ways, cases_eq, le-leb}
 use Rattle.std.proofs.lemmas.List.{length-append, length-map, length_push}
 use Rattle.afdx_plan.specs.declared.identifiers.VlId.{VlId}
@@ -11,13 +11,15 @@ use Rattle.afdx_frame.specs.declared.net.Net.TheVariants.{A}
 use Rattle.afdx_frame.specs.Header.{sub_in}
 use Rattle.afdx_frame.specs.Fragments.{Sent, blanked, fragments}
 use Rattle.redundant_mux.specs.Entry.{Entry, entry}
-use Rattle.redundant_mux.specs.Lines.{Lines, log}
+use Rattle.redundant_mux.specs.Lines.{Lines, BothEndure, stands_for, log}
+use Rattle.redundant_mux.proofs.Enduring.{both_none, both_on, stood_before}
+use Rattle.redundant_mux.proofs.MirroredLines.{log_same}
 use Rattle.vl_shaper.specs.declared.shaper.Stamp.{Stamp}
 use Rattle.vl_shaper.specs.Pace.{IsLater, is_due}
 use Rattle.vl_link.specs.declared.served.Served.{Served}
 use Rattle.vl_link.specs.declared.served.Served.TheVariants.{Nothing, Released, Lost}
-use Rattle.vl_link.specs.Turn.{AreTurns, is_lost}
-use Rattle.vl_link.proofs.TurnLaws.{choice_below}
+use Rattle.vl_link.specs.Turn.{AreTurns}
+use Rattle.vl_link.proofs.TurnLaws.{choice_below, turn_endures, turns_endure}
 use Rattle.vl_link.proofs.PaceOfStream.{stream_more, stream_same}
 use Rattle.afdx_legal.specs.Streams.{latest, link_stream, sub_stream, told}
 use Rattle.afdx_legal.specs.Legal.{Accepted}
@@ -49,21 +51,25 @@ abbrev Comes : (now end_system : ℕ) (link : LinkPlan) (accepted : ℕ → List
 Comes now end_system link accepted S T =
     ((T ≡ S) × HasAll end_system link accepted S) ⊎ Gains now end_system link accepted S T
 
+-- both hold
+and_true : {x y : Bool} → x ≡ true → y ≡ true → (x && y) ≡ true
+and_true {y = y} e f = ap (λ (t : Bool). t && y) e ∙ f
+
 -- a list with an end is longer than the list
 longer : (xs ys zs : List (List ℕ)) → (zs ≡ [] → ⊥) → xs ≡ ys ++ zs → length ys < length xs
 longer xs ys [] some e = absurd (some refl)
 longer xs ys (z ∷ zs) some e = omega (arith, ap length e, length-append ys (z ∷ zs))
 
--- the turn of the link itself
+-- the turn of the link itself, where a network that carries it stands afterwards
 own_turn : (now end_system : ℕ) (link : LinkPlan) (accepted : ℕ → List Sent) (lines after : Lines) (did : Served)
     → is_due (bag_micros link.bag) (latest None (link_stream link.id.0 (log lines))) now ≡ true
-    → Drains now end_system link accepted lines after did → is_lost did ≡ false
+    → Drains now end_system link accepted lines after did → stands_for link.networks after ≡ true
     → Comes now end_system link accepted (link_stream link.id.0 (log lines)) (link_stream link.id.0 (log after))
-own_turn now end_system link accepted lines after Nothing due t kept = ⊎_elim
-    (λ early. absurd (both_ways _ early.0 due))
+own_turn now end_system link accepted lines after Nothing due t stands = ⊎_elim
+    (λ early. absurd (both_ways _ early.0 (and_true due (subst (λ (l : Lines). stands_for link.networks l ≡ true) t.1 stands))))
     (λ none. inl (ap (λ (l : Lines). link_stream link.id.0 (log l)) t.1, none.1.each))
     t.0
-own_turn now end_system link accepted lines after (Released sub number) due t kept =
+own_turn now end_system link accepted lines after (Released sub number) due t stands =
     let r = t.2 in
     let view = accepted_view end_system link accepted (log lines) in
     let owes : Owes end_system link accepted (log lines) sub = r.choice.chosen in
@@ -73,20 +79,29 @@ own_turn now end_system link accepted lines after (Released sub number) due t ke
       short = longer _ _ owes.left owes.some owes.ahead;
       frame = r.frame;
       of = r.of.of_sub;
-      stream = stream_more link.id.0 now sub number r.frame lines after r.of r.enters;
+      stream = stream_more link.id.0 now sub number link.networks r.frame lines after r.of r.enters;
     })
-own_turn now end_system link accepted lines after Lost due t kept = absurd (both_ways true kept refl)
+own_turn now end_system link accepted lines after Lost due t stands = absurd (both_ways _ t.1.down stands)
 
 -- the turn of another link
 other_turn : (now end_system : ℕ) (link : LinkPlan) (accepted : ℕ → List Sent) (lines after : Lines) (did : Served) (vl : ℕ)
-    → link.id.0 ≢ vl → Drains now end_system link accepted lines after did → is_lost did ≡ false
+    → link.id.0 ≢ vl → Drains now end_system link accepted lines after did
     → link_stream vl (log after) ≡ link_stream vl (log lines)
-other_turn now end_system link accepted lines after Nothing vl ne t kept =
+other_turn now end_system link accepted lines after Nothing vl ne t =
     ap (λ (l : Lines). link_stream vl (log l)) t.1
-other_turn now end_system link accepted lines after (Released sub number) vl ne t kept =
+other_turn now end_system link accepted lines after (Released sub number) vl ne t =
     let r = t.2 in
-    stream_same link.id.0 vl now sub number r.frame lines after r.of r.enters ne
-other_turn now end_system link accepted lines after Lost vl ne t kept = absurd (both_ways true kept refl)
+    stream_same link.id.0 vl now sub number link.networks r.frame lines after r.of r.enters ne
+other_turn now end_system link accepted lines after Lost vl ne t =
+    ap (link_stream vl) (log_same lines after t.1.same)
+
+-- a network that is down after turns was down before them, or failed
+drains_endure : (now : ℕ) (plan : Plan) (accepted : Accepted) (i many : ℕ) (lines after : Lines)
+    → AreTurns (DrainsAt now plan accepted) i many lines after → BothEndure lines after
+drains_endure now plan accepted i many lines after t =
+    turns_endure (DrainsAt now plan accepted) i many lines after
+    (λ k before behind did turn. turn_endures now (link_plan_at plan.links k) (pace_in (link_plan_at plan.links k) (log before))
+    (accepted_view plan.end_system (link_plan_at plan.links k) (accepted k) (log before)) before behind did turn) t
 
 -- the link at a place differs from another
 abbrev IsOther : Plan → ℕ → ℕ → Type 0
@@ -99,9 +114,9 @@ other_turns : (now : ℕ) (plan : Plan) (accepted : Accepted) (k i many : ℕ) (
     → stream_at plan k after ≡ stream_at plan k lines
 other_turns now plan accepted k i zero lines after ne t = ap (stream_at plan k) t
 other_turns now plan accepted k i (suc many) lines after ne t =
-    other_turns now plan accepted k (i + 1) many t.0 after (λ j le lt. ne j (omega arith) (omega arith)) t.4
+    other_turns now plan accepted k (i + 1) many t.0 after (λ j le lt. ne j (omega arith) (omega arith)) t.3
     ∙ other_turn now plan.end_system (link_plan_at plan.links i) (accepted i) lines t.0 t.1 (link_plan_at plan.links k).id.0
-    (ne i (omega arith) (omega arith)) t.2 t.3
+    (ne i (omega arith) (omega arith)) t.2
 
 -- what the poll does to the stream of the link at a place
 abbrev ComesAt : ℕ → Plan → Accepted → ℕ → (S T : List Entry) → Type 0
@@ -111,28 +126,33 @@ ComesAt now plan accepted k S T = Comes now plan.end_system (link_plan_at plan.l
 abbrev IsDueBy : ℕ → Plan → ℕ → List Entry → Type 0
 IsDueBy now plan k S = is_due (bag_micros (link_plan_at plan.links k).bag) (latest None S) now ≡ true
 
+-- a network that carries the link at a place stands
+abbrev StandsAt : Plan → ℕ → Lines → Type 0
+StandsAt plan k lines = stands_for (link_plan_at plan.links k).networks lines ≡ true
+
 -- the turns of all links, that of the link among them
 turns_come : (now : ℕ) (plan : Plan) (accepted : Accepted) (k i many : ℕ) (lines after : Lines)
     → i ≤ k → k < i + many
     → ((j : ℕ) → j < i + many → (j ≡ k → ⊥) → IsOther plan k j)
     → IsDueBy now plan k (stream_at plan k lines)
-    → AreTurns (DrainsAt now plan accepted) i many lines after
+    → AreTurns (DrainsAt now plan accepted) i many lines after → StandsAt plan k after
     → ComesAt now plan accepted k (stream_at plan k lines) (stream_at plan k after)
-turns_come now plan accepted k i zero lines after le lt ne due t = absurd (omega arith)
-turns_come now plan accepted k i (suc many) lines after le lt ne due t = ⊎_elim
+turns_come now plan accepted k i zero lines after le lt ne due t stands = absurd (omega arith)
+turns_come now plan accepted k i (suc many) lines after le lt ne due t stands = ⊎_elim
     (λ (here : i ≡ k).
     let own = own_turn now plan.end_system (link_plan_at plan.links k) (accepted k) lines t.0 t.1 due
-    (subst (λ (j : ℕ). DrainsAt now plan accepted j lines t.0 t.1) here t.2) t.3 in
+    (subst (λ (j : ℕ). DrainsAt now plan accepted j lines t.0 t.1) here t.2)
+    (stood_before t.0 after (link_plan_at plan.links k).networks (drains_endure now plan accepted (i + 1) many t.0 after t.3) stands) in
     let rest = other_turns now plan accepted k (i + 1) many t.0 after
-    (λ j jle jlt. ne j (omega arith) (λ e. absurd (omega (arith, e, here)))) t.4 in
+    (λ j jle jlt. ne j (omega arith) (λ e. absurd (omega (arith, e, here)))) t.3 in
     subst (ComesAt now plan accepted k (stream_at plan k lines)) (sym rest) own)
     (λ (later : i ≡ k → ⊥).
     let same = other_turn now plan.end_system (link_plan_at plan.links i) (accepted i) lines t.0 t.1
-    (link_plan_at plan.links k).id.0 (ne i (omega arith) later) t.2 t.3 in
+    (link_plan_at plan.links k).id.0 (ne i (omega arith) later) t.2 in
     let further : i + 1 ≤ k = omega (arith, le, later) in
     subst (λ (S : List Entry). ComesAt now plan accepted k S (stream_at plan k after)) same
     (turns_come now plan accepted k (i + 1) many t.0 after further (omega arith) (λ j jlt. ne j (omega arith))
-    (subst (IsDueBy now plan k) (sym same) due) t.4))
+    (subst (IsDueBy now plan k) (sym same) due) t.3 stands))
     (cases_eq i k)
 
 -- no two links of a valid plan have one identifier
@@ -144,11 +164,11 @@ others plan k valid lt j jlt ne e =
 
 -- what a poll does to the stream of a link that is due
 poll_comes : (now : ℕ) (plan : Plan) (accepted : Accepted) (k : ℕ) (lines after : Lines) → IsPlan plan → k < length plan.links
-    → IsDueBy now plan k (stream_at plan k lines) → IsDrained now plan accepted lines after
+    → IsDueBy now plan k (stream_at plan k lines) → IsDrained now plan accepted lines after → StandsAt plan k after
     → ComesAt now plan accepted k (stream_at plan k lines) (stream_at plan k after)
-poll_comes now plan accepted k lines after valid lt due t =
+poll_comes now plan accepted k lines after valid lt due t stands =
     turns_come now plan accepted k 0 (length plan.links) lines after (omega arith) (omega arith)
-    (λ j jlt ne. others plan k valid lt j (omega arith) ne) due t
+    (λ j jlt ne. others plan k valid lt j (omega arith) ne) due t stands
 
 -- a gap after a moment that isn't before the last release
 due_by : (bag gap before now : ℕ) (last : Option Stamp) → bag ≤ gap → before + gap ≤ now → IsLater last before
@@ -226,40 +246,50 @@ none_gained now end_system link accepted S T all g =
 abbrev HasAllAt : Plan → Accepted → ℕ → List Entry → Type 0
 HasAllAt plan accepted k S = HasAll plan.end_system (link_plan_at plan.links k) (accepted k) S
 
+-- a network that is down after polls was down before them, or failed
+drained_endure : (plan : Plan) (accepted : Accepted) (moments : List ℕ) (lines after : Lines)
+    → AreDrained plan accepted moments lines after → BothEndure lines after
+drained_endure plan accepted [] lines after p = subst (BothEndure lines) (sym p) (both_none lines)
+drained_endure plan accepted (now ∷ moments) lines after p =
+    both_on lines p.0 after (drains_endure now plan accepted 0 (length plan.links) lines p.0 p.1)
+    (drained_endure plan accepted moments p.0 after p.2)
+
 -- a link that has all keeps it
 stays : (plan : Plan) (accepted : Accepted) (k : ℕ) (moments : List ℕ) (lines after : Lines) (start gap : ℕ)
     → IsPlan plan → k < length plan.links → bag_micros (link_plan_at plan.links k).bag ≤ gap
     → IsLater (latest None (stream_at plan k lines)) start
-    → AreApartBy gap start moments → AreDrained plan accepted moments lines after
+    → AreApartBy gap start moments → AreDrained plan accepted moments lines after → StandsAt plan k after
     → HasAllAt plan accepted k (stream_at plan k lines) → HasAllAt plan accepted k (stream_at plan k after)
-stays plan accepted k [] lines after start gap valid lt small later apart p all =
+stays plan accepted k [] lines after start gap valid lt small later apart p stands all =
     subst (λ (l : Lines). HasAllAt plan accepted k (stream_at plan k l)) (sym p) all
-stays plan accepted k (now ∷ moments) lines after start gap valid lt small later apart p all = ⊎_elim
+stays plan accepted k (now ∷ moments) lines after start gap valid lt small later apart p stands all = ⊎_elim
     (λ still. stays plan accepted k moments p.0 after now gap valid lt small
     (subst (λ (S : List Entry). IsLater (latest None S) now) (sym still.0) (later_on _ start now (omega (arith, apart.0)) later))
-    apart.1 p.2 (subst (HasAllAt plan accepted k) (sym still.0) all))
+    apart.1 p.2 stands (subst (HasAllAt plan accepted k) (sym still.0) all))
     (λ g. absurd (none_gained now plan.end_system (link_plan_at plan.links k) (accepted k) _ _ all g))
-    (poll_comes now plan accepted k lines p.0 valid lt (due_by _ gap start now _ small apart.0 later) p.1)
+    (poll_comes now plan accepted k lines p.0 valid lt (due_by _ gap start now _ small apart.0 later) p.1
+    (stood_before p.0 after (link_plan_at plan.links k).networks (drained_endure plan accepted moments p.0 after p.2) stands))
 
 -- a link has all after more polls than it owes frames
 ends : (plan : Plan) (accepted : Accepted) (k : ℕ) (moments : List ℕ) (lines after : Lines) (start gap : ℕ)
     → IsPlan plan → k < length plan.links → bag_micros (link_plan_at plan.links k).bag ≤ gap
     → IsLater (latest None (stream_at plan k lines)) start
-    → AreApartBy gap start moments → AreDrained plan accepted moments lines after
+    → AreApartBy gap start moments → AreDrained plan accepted moments lines after → StandsAt plan k after
     → owed_at plan accepted k lines < length moments
     → HasAllAt plan accepted k (stream_at plan k after)
-ends plan accepted k [] lines after start gap valid lt small later apart p few = absurd (omega arith)
-ends plan accepted k (now ∷ moments) lines after start gap valid lt small later apart p few = ⊎_elim
+ends plan accepted k [] lines after start gap valid lt small later apart p stands few = absurd (omega arith)
+ends plan accepted k (now ∷ moments) lines after start gap valid lt small later apart p stands few = ⊎_elim
     (λ still. stays plan accepted k moments p.0 after now gap valid lt small
     (subst (λ (S : List Entry). IsLater (latest None S) now) (sym still.0) (later_on _ start now (omega (arith, apart.0)) later))
-    apart.1 p.2 (subst (HasAllAt plan accepted k) (sym still.0) still.1))
+    apart.1 p.2 stands (subst (HasAllAt plan accepted k) (sym still.0) still.1))
     (λ g.
     let less = one_less now plan.end_system (link_plan_at plan.links k) (accepted k) _ _ g (link_plan_at plan.links k).sub_vls g.within in
     ends plan accepted k moments p.0 after now gap valid lt small
-    (gained_later now plan.end_system (link_plan_at plan.links k) (accepted k) _ _ g) apart.1 p.2 (omega (arith, less, few)))
-    (poll_comes now plan accepted k lines p.0 valid lt (due_by _ gap start now _ small apart.0 later) p.1)
+    (gained_later now plan.end_system (link_plan_at plan.links k) (accepted k) _ _ g) apart.1 p.2 stands (omega (arith, less, few)))
+    (poll_comes now plan accepted k lines p.0 valid lt (due_by _ gap start now _ small apart.0 later) p.1
+    (stood_before p.0 after (link_plan_at plan.links k).networks (drained_endure plan accepted moments p.0 after p.2) stands))
 
 -- so have all links
 pub drain_ends_holds : DrainEnds
-drain_ends_holds plan accepted moments lines after start gap valid later small apart p few = λ k lt.
-    ends plan accepted k moments lines after start gap valid lt (small k lt) (later k lt) apart p (few k lt)
+drain_ends_holds plan accepted moments lines after start gap valid later small apart p stand few = λ k lt.
+    ends plan accepted k moments lines after start gap valid lt (small k lt) (later k lt) apart p (stand k lt) (few k lt)

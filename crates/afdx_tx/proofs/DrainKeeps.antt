@@ -93,6 +93,7 @@ legal_on : (plan : Plan) (links : List LinkState) (net : Net) (handed : List Ent
     → IsLegalOn plan (taken_in links) net handed → IsLegalOn plan (accepted_in links) net handed
 legal_on plan links net handed l = record {
   known = l.known;
+  carried = l.carried;
   prefixes = λ k s lt slt. prefix_grown (told_of (link_plan_at plan.links k).id.0 s handed) plan.end_system
       (room_of (link_plan_at plan.links k).lmax) net links k s (l.prefixes k s lt slt);
   numbered = l.numbered;

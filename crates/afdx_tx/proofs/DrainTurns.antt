@@ -1,5 +1,6 @@
 -- The turns of links whose accepted messages are known whole.
 use Rattle.std.proofs.Common.{ℕ, ◌≡◌, ◌<◌, ◌≤◌, List, length, arith, ap, ◌∙◌, sym, subst}
+use Rattle.std.proofs.lemmas.Bool.{and_parts}
 use Rattle.afdx_plan.specs.Config.{Plan}
 use Rattle.afdx_plan.specs.Plan.{bag_micros}
 use Rattle.afdx_plan.specs.declared.link_plan.LinkPlan.{LinkPlan}
@@ -7,14 +8,13 @@ use Rattle.redundant_mux.specs.Entry.{Entry}
 use Rattle.redundant_mux.specs.Lines.{Lines, log}
 use Rattle.vl_shaper.specs.Pace.{Pace}
 use Rattle.vl_link.specs.declared.served.Served.{Served}
-use Rattle.vl_link.specs.declared.served.Served.TheVariants.{Lost}
 use Rattle.vl_link.specs.Seen.{IsKnownWhole}
 use Rattle.vl_link.specs.Turn.{AreTurns}
 use Rattle.afdx_legal.specs.Streams.{link_stream}
 use Rattle.vl_link.specs.Links.{Held, LinkState, held_at, link_at, held_view, Serves, pace_of}
-use Rattle.afdx_tx.specs.Run.{IsTurn, IsTurnAt, IsRun, IsCutShort}
+use Rattle.afdx_tx.specs.Run.{IsTurn, IsTurnAt, IsRun}
 use Rattle.afdx_tx.specs.Emitter.{AreLinksOf}
-use Rattle.afdx_tx.specs.Drain.{AreGathered, accepted_in, accepted_view, pace_in, Drains, DrainsAt, IsDrained, IsDrainCutShort}
+use Rattle.afdx_tx.specs.Drain.{AreGathered, accepted_in, accepted_view, pace_in, Drains, DrainsAt, IsDrained}
 use Rattle.vl_link.proofs.LinkTurn.{IsOwn}
 use Rattle.vl_link.proofs.TurnLaws.{IsSeenIn, turn_seen, turns_seen}
 use Rattle.afdx_tx.proofs.SoundEmitter.{plan_is, count_is}
@@ -51,12 +51,13 @@ drain_turn : (now end_system : ℕ) (link new : LinkState) (lines after : Lines)
     → Drains now end_system link.plan (lists_of link.subs) lines after did
 drain_turn now end_system link new lines after did e own g t =
     subst (λ (n : ℕ). Drains now n link.plan (lists_of link.subs) lines after did) e
-    (turn_seen now link.plan.id.0 (pace_in link.plan (log lines)) (held_view link.subs new.subs)
+    (turn_seen now link.plan (pace_in link.plan (log lines)) (held_view link.subs new.subs)
     (accepted_view link.end_system link.plan (lists_of link.subs) (log lines)) lines after did
-    (accepted_seen link.end_system link.plan (log lines) link.subs new.subs
+    (λ s rests. tt)
+    (λ may. accepted_seen link.end_system link.plan (log lines) link.subs new.subs
     (λ s lt. let within : s < length link.subs = omega (arith, own.count, own.sub_vls) in
-    stands_of link (log lines) s own t.tied within (g s within)))
-    (subst (λ (p : Pace). Serves now link.plan.id.0 p link.subs new.subs lines after did) (pace_is link (log lines) own) t.serves))
+    stands_of link (log lines) s own (t.tied (and_parts _ _ may).1) within (g s within)))
+    (subst (λ (p : Pace). Serves now link.plan p link.subs new.subs lines after did) (pace_is link (log lines) own) t.serves))
 
 -- the turn of the link at a place
 drains_at : (now : ℕ) (config : Plan) (links news : List LinkState) → AreLinksOf config links → AreGathered links
@@ -77,7 +78,7 @@ drained now config links news many lines after of g le r =
     turns_seen (IsTurnAt now links news) (DrainsAt now config (accepted_in links)) 0 many lines after
     (λ k from lt before behind did t. drains_at now config links news of g k (omega arith) before behind did t) r
 
--- a poll in which a network stood to the end
+-- a poll
 pub run_drained : (now : ℕ) (config : Plan) (links news : List LinkState) (lines after : Lines)
     → AreLinksOf config links → AreGathered links → IsRun now links news lines after
     → IsDrained now config (accepted_in links) lines after
@@ -85,15 +86,3 @@ run_drained now config links news lines after of g r =
     let many : length links ≡ length config.links = omega (arith, count_is config links of) in
     subst (λ (n : ℕ). AreTurns (DrainsAt now config (accepted_in links)) 0 n lines after) many
     (drained now config links news (length links) lines after of g (omega arith) r.turns)
-
--- a poll in which the last network was lost
-pub cut_drained : (now : ℕ) (config : Plan) (links news : List LinkState) (lines after : Lines)
-    → AreLinksOf config links → AreGathered links → IsCutShort now links news lines after
-    → IsDrainCutShort now config (accepted_in links) lines after
-cut_drained now config links news lines after of g c = record {
-  at = c.cut.at;
-  within = omega (arith, c.cut.within, count_is config links of);
-  mid = c.cut.mid;
-  before = drained now config links news c.cut.at lines c.cut.mid of g (let lt = c.cut.within in omega arith) c.cut.before;
-  turn = drains_at now config links news of g c.cut.at c.cut.within c.cut.mid after Lost c.cut.turn;
-}

@@ -1,7 +1,6 @@
 -- An emitter of which nothing was asked yet.
-use Rattle.std.proofs.Common.{ℕ, ◌≡◌, ◌+◌, ◌<◌, ◌≤◌, List, [], ◌∷◌, ◌++◌, true, false, length, arith, refl, ap, ◌∙◌, sym, subst, ⊎_elim, Option, None}
-use Rattle.std.proofs.lemmas.List.{ext_get_or, length-append, get_or_append_left, get_or_push}
-use Rattle.std.proofs.lemmas.Bool.{cases_lt}
+use Rattle.std.proofs.Common.{ℕ, ◌≡◌, ◌<◌, List, [], true, false, length, arith, refl, ap, ◌∙◌, sym, subst, Option, None}
+use Rattle.std.proofs.lemmas.List.{ext_get_or}
 use Rattle.std.proofs.lemmas.List.Elements.{All-nil}
 use Rattle.afdx_plan.specs.declared.link_plan.LinkPlan.{LinkPlan}
 use Rattle.afdx_plan.specs.declared.port_plan.PortPlan.{PortPlan}
@@ -9,6 +8,8 @@ use Rattle.afdx_plan.specs.Config.{Plan, IsPlan, link_plan_at}
 use Rattle.afdx_plan.specs.Plan.{bag_micros}
 use Rattle.afdx_plan.specs.Numbers.{sequence_number}
 use Rattle.afdx_frame.specs.declared.net.Net.TheVariants.{A}
+use Rattle.afdx_frame.specs.Header.{link_in}
+use Rattle.redundant_mux.specs.Logged.{Logged}
 use Rattle.redundant_mux.proofs.MirroredLines.{fresh_lines, fresh_log, fresh_in_step}
 use Rattle.vl_shaper.specs.Pace.{Pace, IsLater}
 use Rattle.vl_shaper.specs.declared.shaper.Stamp.{Stamp}
@@ -16,7 +17,7 @@ use Rattle.afdx_legal.specs.Legal.{AreKnown}
 use Rattle.vl_link.specs.declared.sub_vl.SubVl.{SubVl}
 use Rattle.vl_link.specs.Seen.{Seen, taken_of, known_of}
 use Rattle.subvl_queue.specs.Messages.{IsItem, AreItems}
-use Rattle.vl_link.specs.Links.{Held, LinkState, link_at, no_link, held_at, no_link_plan, HasOwnItems, IsLinkOfPlan, sub_fragments, sent_by, taken_by}
+use Rattle.vl_link.specs.Links.{Held, LinkState, link_at, held_at, no_link_plan, HasOwnItems, IsLinkOfPlan, sub_fragments, sent_by, taken_by}
 use Rattle.afdx_tx.specs.Emitter.{IsOpenedSub, IsOpenedLink, AreFreshLinks, AreLinksOf, plans, ports_of_sub, IsSound}
 use Rattle.vl_link.specs.Kept.{IsKept, IsTied}
 use Rattle.afdx_tx.proofs.PollTurns.{plan_at_is, plans_length}
@@ -113,7 +114,9 @@ fresh_sound config links valid f =
       later = λ k lt. fresh_later (link_at links k).pace (ap (λ (p : Pace). p.last) (f.each k (omega (arith, f.count))).pace);
       mirrored = fresh_in_step.mirrored;
       known = subst (AreKnown config.links A) (sym fresh_log) tt;
-      whole = λ _ k lt. (f.each k (omega (arith, f.count))).lost;
+      carried = λ k lt. All-nil (λ (l : Logged). link_in l.entry.frame ≡ (link_plan_at config.links k).id.0
+          → l.networks ≡ (link_plan_at config.links k).networks);
+      whole = λ k lt stands. (f.each k (omega (arith, f.count))).lost;
       items = λ k s lt slt.
           let subs = (f.each k (omega (arith, f.count))).subs in
           fresh_items _ _ _ (held_at (link_at links k).subs s) (subs.each s (omega (arith, subs.count)));

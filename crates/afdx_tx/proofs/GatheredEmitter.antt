@@ -1,5 +1,5 @@
 -- An emitter whose queues were gathered is as sound as it was.
-use Rattle.std.proofs.Common.{ℕ, ◌≡◌, ◌<◌, List, length, arith, ap, ◌∙◌, sym}
+use Rattle.std.proofs.Common.{◌≡◌, ◌<◌, List, length, arith, ap, ◌∙◌, sym}
 use Rattle.afdx_plan.specs.declared.link_plan.LinkPlan.{LinkPlan}
 use Rattle.afdx_plan.specs.Config.{Plan}
 use Rattle.vl_link.specs.Seen.{Seen, receiving, gathered, taken_of}

@@ -1,5 +1,5 @@
 -- Links of which the queues alone have changed, and from which nothing more was taken.
-use Rattle.std.proofs.Common.{ℕ, ◌≡◌, ◌<◌, ◌++◌, List, length, arith, ap, ◌∙◌, sym, subst}
+use Rattle.std.proofs.Common.{ℕ, ◌≡◌, ◌<◌, ◌++◌, List, true, length, arith, ap, ◌∙◌, sym, subst}
 use Rattle.std.proofs.lemmas.List.{ext_get_or}
 use Rattle.afdx_plan.specs.declared.port_plan.PortPlan.{PortPlan}
 use Rattle.afdx_plan.specs.Config.{Plan}
@@ -7,7 +7,7 @@ use Rattle.afdx_plan.specs.Room.{room_of}
 use Rattle.afdx_frame.specs.declared.net.Net.TheVariants.{A}
 use Rattle.afdx_frame.specs.Fragments.{fragments}
 use Rattle.redundant_mux.specs.Entry.{Entry}
-use Rattle.redundant_mux.specs.Lines.{Lines, log}
+use Rattle.redundant_mux.specs.Lines.{Lines, stands_for, log}
 use Rattle.vl_shaper.specs.Pace.{IsLater}
 use Rattle.afdx_legal.specs.Streams.{told, link_stream, sub_stream, told_of, IsPrefixOf}
 use Rattle.vl_link.specs.declared.sub_vl.SubVl.{SubVl}
@@ -131,8 +131,10 @@ kept_sound config old new lines moment g s =
           subst (λ (l : LinkState). IsLater l.pace.last moment) (sym (g.each k below).same) (s.later k below);
       mirrored = s.mirrored;
       known = s.known;
-      whole = λ alive k lt. let below : k < length old = omega (arith, g.count) in
-          ap (λ (l : LinkState). l.lost) (g.each k below).same ∙ s.whole alive k below;
+      carried = s.carried;
+      whole = λ k lt stands. let below : k < length old = omega (arith, g.count) in
+          ap (λ (l : LinkState). l.lost) (g.each k below).same
+          ∙ s.whole k below (subst (λ (l : LinkState). stands_for l.plan.networks lines ≡ true) (g.each k below).same stands);
       items = λ k t klt tlt. let below : k < length old = omega (arith, g.count) in
           let link = g.each k below in
           let sub : t < length (link_at old k).subs = omega (arith, link.count) in

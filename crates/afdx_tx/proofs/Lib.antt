@@ -1,5 +1,8 @@
 pub mod PollTurns
 pub mod ToldReleases
+pub mod HandedFronts
+pub mod OwnStreams
+pub mod BothTwins
 pub mod LegalLists
 pub mod SoundEmitter
 pub mod TurnsKept

@@ -1,5 +1,5 @@
 -- Links, nothing of which was taken yet, whose ports are given their senders.
-use Rattle.std.proofs.Common.{ℕ, ◌≡◌, ◌≢◌, ◌+◌, ◌<◌, ◌≤◌, ◌^◌, List, [], ◌∷◌, ◌++◌, true, false, length, map, take, get_or, set, arith, refl, ap, ◌∙◌, sym, subst, ⊎_elim, below_more, Option, Some, None}
+use Rattle.std.proofs.Common.{ℕ, ◌≡◌, ◌≢◌, ◌+◌, ◌<◌, List, [], ◌∷◌, ◌++◌, false, length, map, take, get_or, set, arith, refl, ap, ◌∙◌, sym, subst, ⊎_elim, below_more, Option, Some, None}
 use Rattle.std.proofs.lemmas.Bool.{cases_eq}
 use Rattle.std.proofs.lemmas.List.{length-append, get_or_append_left, get_or_push, get_or-set_same, get_or-set_other, length-set}
 use Rattle.std.proofs.Math.ListN.{get_or-map}
@@ -8,7 +8,7 @@ use Rattle.afdx_plan.specs.declared.port_plan.PortPlan.{PortPlan}
 use Rattle.afdx_plan.specs.Config.{Plan, IsPlan, link_plan_at, port_plan_at}
 use Rattle.afdx_plan.specs.Places.{link_place}
 use Rattle.subvl_queue.specs.Messages.{most_calls}
-use Rattle.subvl_queue.specs.Views.{QueueName, SenderView, new_receiver, new_sender, one_more}
+use Rattle.subvl_queue.specs.Views.{QueueName, SenderView, new_receiver, new_sender}
 use Rattle.vl_link.specs.declared.sub_vl.SubVl.{SubVl}
 use Rattle.vl_link.specs.Seen.{Seen, receiving, gathered, queue_of, ports_of}
 use Rattle.vl_link.specs.Links.{Held, LinkState, held_at, link_at, nothing_held, no_link}

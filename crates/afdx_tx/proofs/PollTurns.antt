@@ -1,47 +1,63 @@
 -- One more link of a poll has had its turn.
-use Rattle.std.proofs.Common.{ℕ, suc, ◌≡◌, ◌≢◌, ◌+◌, ◌<◌, List, [], ◌∷◌, ◌++◌, ◌||◌, Bool, true, false, length, drop, set, get_or, arith, ap, ◌∙◌, sym, subst, ⊎_elim}
+use Rattle.std.proofs.Common.{ℕ, suc, ◌≡◌, ◌≢◌, ◌+◌, ◌<◌, List, [], ◌∷◌, ◌++◌, ◌||◌, Bool, true, false, length, drop, set, get_or, arith, refl, ap, ◌∙◌, sym, subst, inl, inr, ⊎_elim}
 use Rattle.std.proofs.lemmas.List.{length-set, get_or-set_same, get_or-set_other, get_or-drop, drop-drop, drop-set-lt, get_or-map, length-map}
-use Rattle.std.proofs.lemmas.Bool.{cases_eq}
+use Rattle.std.proofs.lemmas.Bool.{cases_eq, cases_Bool, both_ways}
+use Rattle.std.proofs.lemmas.List.Elements.{All-push}
 use Rattle.afdx_plan.specs.declared.identifiers.VlId.{VlId}
 use Rattle.afdx_plan.specs.declared.link_plan.LinkPlan.{LinkPlan}
 use Rattle.afdx_plan.specs.Config.{link_plan_at}
 use Rattle.afdx_frame.specs.declared.net.Net.TheVariants.{A}
+use Rattle.afdx_frame.specs.Header.{link_in}
 use Rattle.redundant_mux.specs.Entry.{Entry, entry}
-use Rattle.redundant_mux.specs.Lines.{Lines, log, is_alive}
+use Rattle.redundant_mux.specs.Logged.{Logged, logged_for}
+use Rattle.redundant_mux.specs.Lines.{Lines, BothEndure, stands_for, log}
+use Rattle.redundant_mux.proofs.Enduring.{stood_before}
+use Rattle.redundant_mux.proofs.MirroredLines.{log_more, log_same}
 use Rattle.vl_shaper.specs.Pace.{Pace, IsLater}
 use Rattle.vl_link.specs.declared.served.Served.{Served}
 use Rattle.vl_link.specs.declared.served.Served.TheVariants.{Nothing, Released, Lost}
 use Rattle.afdx_legal.specs.Counting.{counts_in}
 use Rattle.afdx_legal.specs.Streams.{link_stream}
 use Rattle.afdx_legal.specs.Legal.{IsKnown, AreKnown}
-use Rattle.vl_link.specs.Links.{LinkState, link_at, held_at, no_link, no_link_plan, Serves, Follows, IsSameLink}
-use Rattle.vl_link.specs.Turn.{AreTurns, is_lost}
-use Rattle.afdx_tx.specs.Run.{IsTurn, IsTurnAt, IsCutShort}
-use Rattle.afdx_tx.specs.Emitter.{plan_of_link, plans, AreApart, AreServedBy, AreWhole, IsSamePlan}
+use Rattle.vl_link.specs.Links.{LinkState, link_at, held_at, no_link, no_link_plan, held_view, pace_of, Serves, Follows, IsSameLink}
+use Rattle.vl_link.specs.Turn.{AreTurns, is_lost, may_release}
+use Rattle.afdx_tx.specs.Run.{IsTurn, IsTurnAt}
+use Rattle.afdx_tx.specs.Emitter.{plan_of_link, plans, AreApart, AreCarried, AreServedBy, IsSamePlan}
 use Rattle.vl_link.specs.Kept.{IsKept}
 use Rattle.afdx_tx.specs.Serving.{IsSteady, IsServing}
 use Rattle.vl_link.proofs.LinkTurn.{Turned, IsOwn, HasItems, link_turn, kept_turn, other_stream, kept_stream, released_below}
-use Rattle.vl_link.proofs.TurnLaws.{turns_seen, turns_push}
-use Rattle.vl_link.proofs.SubInStep.{same_sub_on}
+use Rattle.vl_link.proofs.TurnLaws.{turns_seen, turns_push, turn_endures, may_not}
+use Rattle.vl_link.proofs.SubInStep.{same_sub_on, same_sub_here}
+
+-- a link is the one that it is
+pub same_link : (link : LinkState) → IsSameLink link link
+same_link link = record {
+  end_system = refl;
+  plan = refl;
+  gap = refl;
+  sub_vls = refl;
+  count = refl;
+  subs = λ s. same_sub_here (held_at link.subs s) (held_at link.subs s) refl;
+}
 
 -- the turn, with the regulation read off the stream
 turn_shown : (now : ℕ) (did : Served) (link new : LinkState) (lines after : Lines)
     → Turned now link new lines after did → IsKept link (log lines) → IsTurn now link new lines after did
 turn_shown now did link new lines after t k = record {
   same = t.same;
-  tied = k.tied t.whole;
-  serves = subst (λ (p : Pace). Serves now link.plan.id.0 p link.subs new.subs lines after did) (k.paced t.whole) t.serves;
+  tied = λ _. k.tied t.whole;
+  serves = subst (λ (p : Pace). Serves now link.plan p link.subs new.subs lines after did) (k.paced t.whole) t.serves;
 }
 
 -- what serving one of the links came to, as its turn at its place
 pub turned_at : (now i : ℕ) (links : List LinkState) (item new : LinkState) (lines after : Lines) (did : Served)
-    → item ≡ link_at links i → i < length links → AreServedBy now links → AreWhole links
-    → Serves now item.plan.id.0 item.pace item.subs new.subs lines after did → Follows new.plan.id.0 new.pace after did
+    → item ≡ link_at links i → i < length links → AreServedBy now links → (link_at links i).lost ≡ false
+    → Serves now item.plan item.pace item.subs new.subs lines after did → Follows new.plan.id.0 new.pace after did
     → IsSameLink item new → new.lost ≡ (item.lost || is_lost did)
     → new.counts ≡ counts_in (link_stream new.plan.id.0 (log after))
     → Turned now (link_at links i) new lines after did
 turned_at now i links item new lines after did is lt later whole serves paced same lost counted =
-    let kept : item.lost ≡ false = ap (λ (l : LinkState). l.lost) is ∙ whole i lt in
+    let kept : item.lost ≡ false = ap (λ (l : LinkState). l.lost) is ∙ whole in
     subst (λ (l : LinkState). Turned now l new lines after did) is (record {
       serves = serves;
       paced = paced;
@@ -52,13 +68,21 @@ turned_at now i links item new lines after did is lt later whole serves paced sa
       counted = counted;
     })
 
--- a network stands after a turn that lost none
-alive_after : (now : ℕ) (did : Served) (link new : LinkState) (lines after : Lines)
-    → Turned now link new lines after did → is_lost did ≡ false → is_alive lines ≡ true
-    → is_alive after ≡ true
-alive_after now Nothing link new lines after t k a = ap is_alive t.serves.1 ∙ a
-alive_after now (Released sub number) link new lines after t k a = t.serves.2.alive
-alive_after now Lost link new lines after t k a = absurd (let e : true ≡ false = k in cc)
+-- a link that lost a frame has no network any more
+whole_after : (now : ℕ) (did : Served) (link new : LinkState) (lines after : Lines)
+    → Turned now link new lines after did → stands_for new.plan.networks after ≡ true → new.lost ≡ false
+whole_after now Nothing link new lines after t stands = t.lost
+whole_after now (Released sub number) link new lines after t stands = t.lost
+whole_after now Lost link new lines after t stands =
+    let here : stands_for link.plan.networks after ≡ true =
+    subst (λ (p : LinkPlan). stands_for p.networks after ≡ true) t.same.plan stands in
+    absurd (both_ways _ t.serves.1.down here)
+
+-- a turn gives up networks for good
+endure_of : (now : ℕ) (did : Served) (link new : LinkState) (lines after : Lines)
+    → Turned now link new lines after did → BothEndure lines after
+endure_of now did link new lines after t =
+    turn_endures now link.plan link.pace (held_view link.subs new.subs) lines after did t.serves
 
 -- a fact of each link, where one was set
 pub at_each : (P : ℕ → LinkState → Type 0) (links : List LinkState) (i : ℕ) (new : LinkState)
@@ -130,7 +154,8 @@ known_after now i old (Released sub number) links new lines after same lt own t 
     let plan : link_plan_at (plans old) i ≡ (link_at links i).plan = plan_at_is old i il ∙ sym (same.each i il).plan in
     let below : sub < (link_at links i).plan.sub_vls = released_below now number (link_at links i) _ sub lines after r own in
     let many : (link_plan_at (plans old) i).sub_vls ≡ (link_at links i).plan.sub_vls = ap (λ (p : LinkPlan). p.sub_vls) plan in
-    subst (AreKnown (plans old) A) (sym r.enters) (known_push (plans old) (log lines) (entry now r.frame) h (record {
+    subst (AreKnown (plans old) A) (sym (log_more lines after (logged_for (link_at links i).plan.networks (entry now r.frame)) r.enters))
+    (known_push (plans old) (log lines) (entry now r.frame) h (record {
       size = r.of.size;
       k = i;
       within = omega (arith, plans_length old);
@@ -138,7 +163,39 @@ known_after now i old (Released sub number) links new lines after same lt own t 
       of_sub = omega (arith, r.of.of_sub);
       interface = r.of.interface;
     }))
-known_after now i old Lost links new lines after same lt own t h = subst (AreKnown (plans old) A) (sym t.serves.1.same) h
+known_after now i old Lost links new lines after same lt own t h =
+    subst (AreKnown (plans old) A) (sym (log_same lines after t.serves.1.same)) h
+
+-- a frame of a link that is logged for its networks
+carried_push : (old links : List LinkState) (i : ℕ) (logged : List Logged) (e : Entry) → AreApart old → IsSamePlan old links
+    → i < length links → link_in e.frame ≡ (link_at links i).plan.id.0 → AreCarried (plans old) logged
+    → AreCarried (plans old) (logged ++ logged_for (link_at links i).plan.networks e ∷ [])
+carried_push old links i logged e apart same lt own h k klt =
+    let il : i < length old = omega (arith, same.count) in
+    let kl : k < length old = omega (arith, plans_length old) in
+    let P = λ (l : Logged). link_in l.entry.frame ≡ (link_plan_at (plans old) k).id.0 → l.networks ≡ (link_plan_at (plans old) k).networks in
+    let here : (link_at links i).plan ≡ link_plan_at (plans old) i = (same.each i il).plan ∙ sym (plan_at_is old i il) in
+    All-push P logged (logged_for (link_at links i).plan.networks e) (h k klt) (λ of.
+    let made = λ (n : ℕ). let v : VlId = record { 0 = n } in v in
+    let ids : (link_at old i).plan.id ≡ (link_at old k).plan.id =
+    ap (λ (p : LinkPlan). p.id) (sym (same.each i il).plan) ∙ ap made (sym own ∙ of)
+    ∙ ap (λ (p : LinkPlan). p.id) (plan_at_is old k kl) in
+    ap (λ (p : LinkPlan). p.networks) here
+    ∙ ap (λ (j : ℕ). (link_plan_at (plans old) j).networks) (apart i k il kl ids))
+
+-- what was logged is carried by the networks of its links after a turn
+carried_after : (now i : ℕ) (old : List LinkState) (did : Served) (links : List LinkState) (new : LinkState) (lines after : Lines)
+    → AreApart old → IsSamePlan old links → i < length links
+    → Turned now (link_at links i) new lines after did → AreCarried (plans old) lines.logged
+    → AreCarried (plans old) after.logged
+carried_after now i old Nothing links new lines after apart same lt t h =
+    subst (λ (x : Lines). AreCarried (plans old) x.logged) (sym t.serves.1) h
+carried_after now i old (Released sub number) links new lines after apart same lt t h =
+    let r = t.serves.2 in
+    subst (AreCarried (plans old)) (sym r.enters)
+    (carried_push old links i lines.logged (entry now r.frame) apart same lt r.of.link h)
+carried_after now i old Lost links new lines after apart same lt t h =
+    subst (AreCarried (plans old)) (sym t.serves.1.same) h
 
 -- every turn keeps what turns keep
 pub steady_more : (now i : ℕ) (old links : List LinkState) (lines after : Lines) (new : LinkState) (did : Served)
@@ -167,6 +224,7 @@ steady_more now i old links lines after new did s apart lt t later =
           k (omega arith);
       later = λ k klt. at_each (λ j l. IsLater l.pace.last now) links i new lt later (λ j jlt ne. s.later j jlt) k (omega arith);
       known = known_after now i old did links new lines after s.same lt own t s.known;
+      carried = carried_after now i old did links new lines after apart s.same lt t s.carried;
       items = λ k r klt rlt. at_each (λ j l. HasItems l) links i new lt
           (λ q qlt. (t.same.subs q).items (s.items i q lt (omega (arith, t.same.count))))
           (λ j jlt ne q qlt. s.items j q jlt qlt) k (omega arith) r rlt;
@@ -189,12 +247,12 @@ turns_before now old links i new before lines r =
     (λ k le lt mid behind did t. subst (λ (l : LinkState). IsTurn now (link_at old k) l mid behind did)
     (sym (get_or-set_other links i k new no_link (λ e. absurd (omega arith)))) t) r
 
--- one more link had its turn, and a network stands
+-- one more link had its turn
 pub serving_more : (now i : ℕ) (old links : List LinkState) (before lines after : Lines) (new : LinkState) (did : Served)
     → IsServing now i old links before lines → AreApart old → i < length links
-    → Turned now (link_at links i) new lines after did → is_lost did ≡ false
+    → Turned now (link_at links i) new lines after did
     → IsLater new.pace.last now → IsServing now (i + 1) old (set links i new) before after
-serving_more now i old links before lines after new did s apart lt t kept later =
+serving_more now i old links before lines after new did s apart lt t later =
     let il : i < length old = omega (arith, s.steady.same.count) in
     let len : length (set links i new) ≡ length links = length-set links i new in
     let here : link_at links i ≡ link_at old i = same_rest links old i s.rest in
@@ -207,30 +265,50 @@ serving_more now i old links before lines after new did s apart lt t kept later 
           subst (λ (n : ℕ). AreTurns (IsTurnAt now old (set links i new)) 0 n before after) (sym more)
           (turns_push (IsTurnAt now old (set links i new)) 0 i before lines after did
           (turns_before now old links i new before lines s.turns)
-          (subst (λ (n : ℕ). IsTurnAt now old (set links i new) n lines after did) (omega arith) turn) kept);
+          (subst (λ (n : ℕ). IsTurnAt now old (set links i new) n lines after did) (omega arith) turn));
       rest = drop-set-lt (i + 1) links i new (omega arith) ∙ sym (drop-drop 1 i links) ∙ ap (drop 1) s.rest ∙ drop-drop 1 i old;
-      alive = alive_after now did (link_at links i) new lines after t kept s.alive;
-      whole = λ k klt. at_each (λ j l. l.lost ≡ false) links i new lt (t.lost ∙ kept) (λ j jlt ne. s.whole j jlt) k (omega arith);
+      whole = λ k klt. at_each (λ j l. stands_for l.plan.networks after ≡ true → l.lost ≡ false) links i new lt
+          (whole_after now did (link_at links i) new lines after t)
+          (λ j jlt ne stands. s.whole j jlt (stood_before lines after (link_at links j).plan.networks
+          (endure_of now did (link_at links i) new lines after t) stands))
+          k (omega arith);
     }
 
--- the link at which the last network was lost
-pub cut_at : (now i : ℕ) (old links : List LinkState) (before lines after : Lines) (new : LinkState) (did : Served)
-    → IsServing now i old links before lines → i < length links → is_lost did ≡ true
-    → Turned now (link_at links i) new lines after did → IsCutShort now old (set links i new) before after
-cut_at now i old links before lines after new Lost s lt e t =
-    let il : i < length old = omega (arith, s.steady.same.count) in
+-- the turn of a link that may not release a frame
+idle_turn : (now : ℕ) (link : LinkState) (lines : Lines) → may_release now link.plan link.pace lines ≡ false
+    → (stands_for link.plan.networks lines ≡ true → link.lost ≡ false) → IsKept link (log lines)
+    → IsTurn now link link lines lines Nothing
+idle_turn now link lines may_not_now whole kept = record {
+  same = same_link link;
+  tied = λ stands. kept.tied (whole stands);
+  serves = (inl (idle, λ s. refl), refl);
+}
+  where
+    stream_pace : Pace
+    stream_pace = pace_of link.pace.gap link.pace.sub_vls (link_stream link.plan.id.0 (log lines))
+
+    idle : may_release now link.plan stream_pace lines ≡ false
+    idle = elim (cases_Bool (stands_for link.plan.networks lines)) [
+      | inl stands ↦ subst (λ (p : Pace). may_release now link.plan p lines ≡ false) (kept.paced (whole stands)) may_not_now
+      | inr down ↦ may_not now link.plan stream_pace lines down
+    ]
+
+-- one more link may not release a frame
+pub serving_on : (now i : ℕ) (old links : List LinkState) (before lines : Lines)
+    → IsServing now i old links before lines → i < length links
+    → may_release now (link_at links i).plan (link_at links i).pace lines ≡ false
+    → IsServing now (i + 1) old links before lines
+serving_on now i old links before lines s lt may_not_now =
     let here : link_at links i ≡ link_at old i = same_rest links old i s.rest in
+    let turn : IsTurnAt now old links i lines lines Nothing =
+    subst (λ (l : LinkState). IsTurn now l (link_at links i) lines lines Nothing) here
+    (idle_turn now (link_at links i) lines may_not_now (s.whole i lt) (s.steady.kept i lt)) in
     record {
-      count = length-set links i new ∙ s.steady.same.count;
-      cut = record {
-        at = i;
-        within = il;
-        mid = lines;
-        before = turns_before now old links i new before lines s.turns;
-        turn = turn_at now Lost old links i new lines after il lt here
-            (turn_shown now Lost (link_at links i) new lines after t (s.steady.kept i lt));
-      };
-      rest = drop-set-lt (i + 1) links i new (omega arith) ∙ sym (drop-drop 1 i links) ∙ ap (drop 1) s.rest ∙ drop-drop 1 i old;
+      steady = s.steady;
+      turns = let more : i + 1 ≡ suc i = omega arith in
+          subst (λ (n : ℕ). AreTurns (IsTurnAt now old links) 0 n before lines) (sym more)
+          (turns_push (IsTurnAt now old links) 0 i before lines lines Nothing s.turns
+          (subst (λ (n : ℕ). IsTurnAt now old links n lines lines Nothing) (omega arith) turn));
+      rest = sym (drop-drop 1 i links) ∙ ap (drop 1) s.rest ∙ drop-drop 1 i old;
+      whole = s.whole;
     }
-cut_at now i old links before lines after new Nothing s lt e t = absurd (let k : false ≡ true = e in cc)
-cut_at now i old links before lines after new (Released sub number) s lt e t = absurd (let k : false ≡ true = e in cc)

@@ -1,5 +1,5 @@
 -- An emitter after its links had their turns.
-use Rattle.std.proofs.Common.{ℕ, ◌≡◌, ◌<◌, List, [], true, length, arith, ap, ◌∙◌, sym, subst, None, ◌≤◌, ⊎_elim}
+use Rattle.std.proofs.Common.{ℕ, ◌≡◌, ◌<◌, List, [], length, arith, ap, ◌∙◌, sym, subst, None, ◌≤◌, ⊎_elim}
 use Rattle.std.proofs.lemmas.Bool.{cases_lt}
 use Rattle.std.proofs.lemmas.List.{ext_get_or, get_or-map, get_or_past, length-map}
 use Rattle.afdx_plan.specs.declared.link_plan.LinkPlan.{LinkPlan}
@@ -8,13 +8,16 @@ use Rattle.afdx_plan.specs.Plan.{bag_micros}
 use Rattle.afdx_plan.specs.Room.{room_of}
 use Rattle.afdx_frame.specs.declared.net.Net.TheVariants.{A}
 use Rattle.afdx_frame.specs.Fragments.{fragments}
-use Rattle.redundant_mux.specs.Lines.{Lines, log, is_alive, IsMirrored}
+use Rattle.redundant_mux.specs.Lines.{Lines, log, IsMirrored}
 use Rattle.afdx_legal.specs.Streams.{link_stream, told_of, entry_number, IsNumbered, IsSpaced, IsPrefixOf}
 use Rattle.afdx_legal.specs.Legal.{AreKnown, IsLegal}
+use Rattle.afdx_legal.specs.Counting.{counts_in}
+use Rattle.afdx_legal.specs.Own.{own_stream, AreOwnStreams}
 use Rattle.vl_link.specs.Links.{LinkState, link_at, no_link, held_at, nothing_held, no_link_plan}
-use Rattle.afdx_tx.specs.Emitter.{plans, AreLinks, AreApart, AreLinksOf, AreWhole, AreReceiving, IsSamePlan, IsSound, taken_in, held_queue, link_queues, queues_in, total_in, ports_of_sub}
+use Rattle.afdx_tx.specs.Emitter.{plans, AreLinks, AreApart, AreLinksOf, AreCarried, AreWhole, AreReceiving, IsSamePlan, IsSound, taken_in, held_queue, link_queues, queues_in, total_in, ports_of_sub}
 use Rattle.afdx_tx.specs.Serving.{IsSteady}
 use Rattle.afdx_tx.proofs.LegalLists.{legal_of}
+use Rattle.afdx_tx.proofs.OwnStreams.{own_streams}
 use Rattle.afdx_tx.proofs.PollTurns.{plan_at_is, plans_length}
 use Rattle.vl_link.specs.Seen.{total_of}
 use Rattle.vl_link.proofs.QueueLooks.{still_receiving, same_name, same_total}
@@ -66,7 +69,7 @@ links_after config old new of same each =
 -- the emitter stays sound
 pub sound_after : (config : Plan) (old new : List LinkState) (lines : Lines) (now : ℕ) → IsPlan config
     → AreLinksOf config old → IsSteady now old new lines → IsMirrored lines
-    → (is_alive lines ≡ true → AreWhole new) → IsSound config new lines now
+    → AreWhole new lines → IsSound config new lines now
 sound_after config old new lines now valid of s mirrored whole =
     record {
       valid = valid;
@@ -75,6 +78,7 @@ sound_after config old new lines now valid of s mirrored whole =
       later = s.later;
       mirrored = mirrored;
       known = subst (λ (ps : List LinkPlan). AreKnown ps A (log lines)) of.each_plan s.known;
+      carried = subst (λ (ps : List LinkPlan). AreCarried ps lines.logged) of.each_plan s.carried;
       whole = whole;
       items = s.items;
     }
@@ -85,7 +89,7 @@ pub sound_legal : (config : Plan) (links : List LinkState) (lines : Lines) (mome
 sound_legal config links lines moment s =
     let of = s.of_plan in
     let n = count_is config links of in
-    legal_of config (taken_in links) lines s.mirrored (record {
+    legal_of config (taken_in links) lines s.valid s.mirrored s.carried (record {
       known = s.known;
       numbered = λ k klt.
           let lt : k < length links = omega arith in
@@ -107,6 +111,20 @@ sound_legal config links lines moment s =
           (fragments e (room_of (link_at links k).plan.lmax) A (taken_in links k t))) (of.end_system k lt)
           ((s.kept k lt).prefixes t below));
     })
+
+-- each link's stream is the longer of its own two
+pub sound_streams : (config : Plan) (links : List LinkState) (lines : Lines) (moment : ℕ)
+    → IsSound config links lines moment → AreOwnStreams config (log lines) lines.a lines.b
+sound_streams config links lines moment s = own_streams config lines s.mirrored s.carried
+
+-- the counts of each link are those of its own stream
+pub sound_counts : (config : Plan) (links : List LinkState) (lines : Lines) (moment : ℕ)
+    → IsSound config links lines moment → (k : ℕ) → k < length links
+    → (link_at links k).counts ≡ counts_in (own_stream (link_plan_at config.links k).id.0 lines.a lines.b)
+sound_counts config links lines moment s k lt =
+    (s.kept k lt).counted
+    ∙ ap (λ (p : LinkPlan). counts_in (link_stream p.id.0 (log lines))) (sym (plan_is config links s.of_plan k lt))
+    ∙ ap counts_in (sound_streams config links lines moment s k (omega (arith, count_is config links s.of_plan)))
 
 -- the ports of every queue may send on
 pub receiving_still : (old new : List LinkState) → IsSamePlan old new → AreReceiving old → AreReceiving new

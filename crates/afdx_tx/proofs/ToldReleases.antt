@@ -4,7 +4,9 @@ use Rattle.std.proofs.lemmas.List.{map-append, append-nil, append_assoc, length-
 use Rattle.afdx_plan.specs.declared.identifiers.VlId.{VlId}
 use Rattle.afdx_frame.specs.Header.{sub_in, number_in}
 use Rattle.redundant_mux.specs.Entry.{Entry, entry}
+use Rattle.redundant_mux.specs.Logged.{logged_for}
 use Rattle.redundant_mux.specs.Lines.{Lines, log}
+use Rattle.redundant_mux.proofs.MirroredLines.{log_more, log_same}
 use Rattle.vl_link.specs.declared.served.Served.{Served}
 use Rattle.vl_link.specs.declared.served.Served.TheVariants.{Nothing, Released, Lost}
 use Rattle.afdx_tx.specs.declared.report.Release.{Release}
@@ -34,7 +36,7 @@ told_more now (Released sub number) link new rs before lines after t h =
     ∙ ap (λ (x : ℕ). record { vl = link.plan.id; sub = sub; number = x }) r.of.carries in
     record {
       entries = h.entries ++ entry now r.frame ∷ [];
-      grown = r.enters ∙ ap (λ (x : List Entry). x ++ entry now r.frame ∷ []) h.grown
+      grown = log_more lines after (logged_for link.plan.networks (entry now r.frame)) r.enters ∙ ap (λ (x : List Entry). x ++ entry now r.frame ∷ []) h.grown
           ∙ append_assoc (log before) h.entries (entry now r.frame ∷ []);
       named = map-append release_of h.entries (entry now r.frame ∷ [])
           ∙ ap (λ (x : List Release). x ++ release_of (entry now r.frame) ∷ []) h.named
@@ -43,7 +45,8 @@ told_more now (Released sub number) link new rs before lines after t h =
           ∙ ap (λ (x : List ℕ). x ++ now ∷ []) h.moments
           ∙ sym (map-append (λ (x : Entry). now) h.entries (entry now r.frame ∷ []));
     }
-told_more now Lost link new rs before lines after t h = told_same now rs before lines after t.serves.1.same h
+told_more now Lost link new rs before lines after t h =
+    told_same now rs before lines after (log_same lines after t.serves.1.same) h
 
 -- one turn releases one frame at most
 pub few_released : (vl : VlId) (did : Served) (rs : List Release) (i : ℕ) → length rs ≤ i

@@ -1,5 +1,5 @@
 -- The worked drain, by computation.
-use Rattle.std.proofs.Common.{◌≡◌, ℕ, zero, suc, ◌<◌, ◌≤◌, [], ◌∷◌, length, None, refl, arith, inr}
+use Rattle.std.proofs.Common.{◌≡◌, ℕ, zero, suc, ◌<◌, ◌≤◌, [], ◌∷◌, length, true, false, None, refl, arith, inr}
 use Rattle.afdx_plan.specs.Config.{link_plan_at}
 use Rattle.afdx_plan.specs.Demo.{demo_plan, demo_link}
 use Rattle.afdx_plan.specs.Plan.{bag_micros}
@@ -9,7 +9,7 @@ use Rattle.afdx_frame.specs.Cutting.{cutting}
 use Rattle.afdx_frame.specs.declared.net.Net.TheVariants.{A}
 use Rattle.afdx_frame.specs.Fragments.{fragments_at, blanked}
 use Rattle.afdx_frame.specs.Frame.{addresses, header_front, internet_header, link_header, udp_header, datagram, unnumbered}
-use Rattle.redundant_mux.specs.Lines.{log}
+use Rattle.redundant_mux.specs.Lines.{stands_for, log}
 use Rattle.vl_shaper.specs.Pace.{IsLater}
 use Rattle.afdx_legal.specs.Streams.{latest}
 use Rattle.afdx_legal.specs.Done.{IsReleased, Owes, IsAllDone}
@@ -53,7 +53,11 @@ first_turn = (
       interface = refl;
     };
     enters = refl;
-    alive = refl;
+    stands = refl;
+    endure = record {
+      a = record { stays = ((λ up. (refl, refl)), (λ both. refl)); least = omega arith; most = omega arith; down = λ (no : true ≡ false). cc };
+      b = record { stays = ((λ up. (refl, refl)), (λ both. refl)); least = omega arith; most = omega arith; down = λ (no : true ≡ false). cc };
+    };
   },
 )
 
@@ -68,10 +72,10 @@ second_turn = (inr (refl, record { each = none; others = λ s le. tt }), refl)
 
 -- a poll is the turn of the one link
 first_poll : IsDrained 1000 demo_plan one_byte_accepted no_lines one_line
-first_poll = (one_line, Released 0 0, first_turn, refl, refl)
+first_poll = (one_line, Released 0 0, first_turn, refl)
 
 second_poll : IsDrained 2000 demo_plan one_byte_accepted one_line one_line
-second_poll = (one_line, Nothing, second_turn, refl, refl)
+second_poll = (one_line, Nothing, second_turn, refl)
 
 -- nothing was released before
 fresh : (k : ℕ) → k < 1 → IsLater (latest None (stream_at demo_plan k no_lines)) 0
@@ -89,6 +93,11 @@ unfolding log checksum addresses header_front internet_header link_header udp_he
 one_owed zero lt = let owed : owed_at demo_plan one_byte_accepted 0 no_lines ≡ 1 = refl in omega arith
 one_owed (suc k) lt = absurd (omega arith)
 
+-- both networks stand
+one_stands : (k : ℕ) → k < 1 → stands_for (link_plan_at demo_plan.links k).networks one_line ≡ true
+one_stands zero lt = refl
+one_stands (suc k) lt = absurd (omega arith)
+
 -- and then none
 all_done : IsAllDone demo_plan one_byte_accepted (log one_line)
 all_done zero inside zero index = released
@@ -103,6 +112,7 @@ drains_one = record {
   gap = one_gap;
   apart = (omega arith, (omega arith, tt));
   drained = (one_line, first_poll, (one_line, second_poll, refl));
+  stand = one_stands;
   owed = one_owed;
   done = all_done;
 }

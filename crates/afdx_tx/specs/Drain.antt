@@ -14,7 +14,7 @@ use Rattle.afdx_legal.specs.Streams.{link_stream}
 use Rattle.afdx_legal.specs.Legal.{Accepted}
 use Rattle.afdx_legal.specs.Done.{IsReleased, Owes}
 use Rattle.vl_link.specs.Links.{Held, LinkState, held_at, link_at, sent_by, pace_of}
-use Rattle.vl_link.specs.Turn.{TurnView, Turn, AreTurns, BreaksOff}
+use Rattle.vl_link.specs.Turn.{TurnView, Turn, AreTurns}
 
 -- every queue is gathered
 abbrev pub AreGathered : List LinkState → Type 0
@@ -44,7 +44,7 @@ accepted_view end_system link accepted log = record {
 -- one turn of a link, by its accepted lists
 abbrev pub Drains : ℕ → ℕ → LinkPlan → (ℕ → List Sent) → (lines after : Lines) → Served → Type 0
 Drains now end_system link accepted lines after did =
-    Turn now link.id.0 (pace_in link (log lines))
+    Turn now link (pace_in link (log lines))
     (accepted_view end_system link accepted (log lines)) lines after did
 
 -- one turn of the link of a plan at a place
@@ -52,12 +52,7 @@ abbrev pub DrainsAt : ℕ → Plan → Accepted → ℕ → (lines after : Lines
 DrainsAt now plan accepted k lines after did =
     Drains now plan.end_system (link_plan_at plan.links k) (accepted k) lines after did
 
--- The links of a plan have their turns in order, and the last network isn't lost.
+-- The links of a plan have their turns in order.
 abbrev pub IsDrained : ℕ → Plan → Accepted → (lines after : Lines) → Type 0
 IsDrained now plan accepted lines after =
     AreTurns (DrainsAt now plan accepted) 0 (length plan.links) lines after
-
--- At one link the last network is lost, and the links behind it have no turn.
-abbrev pub IsDrainCutShort : ℕ → Plan → Accepted → (lines after : Lines) → Type 0
-IsDrainCutShort now plan accepted lines after =
-    BreaksOff (DrainsAt now plan accepted) (length plan.links) lines after

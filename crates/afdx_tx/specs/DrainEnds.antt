@@ -1,5 +1,5 @@
--- A drain comes to its end: by how many polls, over networks that don't fail.
-use Rattle.std.specs.Prelude.{ℕ, zero, suc, ◌≡◌, ◌+◌, ◌-◌, ◌<◌, ◌≤◌, List, [], ◌∷◌, length, None}
+-- A drain comes to its end: by how many polls, where a network that carries each link stands.
+use Rattle.std.specs.Prelude.{ℕ, zero, suc, ◌≡◌, ◌+◌, ◌-◌, ◌<◌, ◌≤◌, List, [], ◌∷◌, length, true, None}
 use Rattle.afdx_plan.specs.Config.{Plan, IsPlan, link_plan_at}
 use Rattle.afdx_plan.specs.Plan.{bag_micros}
 use Rattle.afdx_plan.specs.Room.{room_of}
@@ -7,7 +7,7 @@ use Rattle.afdx_plan.specs.declared.link_plan.LinkPlan.{LinkPlan}
 use Rattle.afdx_frame.specs.declared.net.Net.TheVariants.{A}
 use Rattle.afdx_frame.specs.Fragments.{Sent, fragments}
 use Rattle.redundant_mux.specs.Entry.{Entry}
-use Rattle.redundant_mux.specs.Lines.{Lines, log}
+use Rattle.redundant_mux.specs.Lines.{Lines, stands_for, log}
 use Rattle.vl_shaper.specs.Pace.{IsLater}
 use Rattle.afdx_legal.specs.Streams.{link_stream, sub_stream, told, latest}
 use Rattle.afdx_legal.specs.Legal.{Accepted}
@@ -34,14 +34,15 @@ abbrev pub AreApartBy : ℕ → ℕ → List ℕ → Type 0
 AreApartBy gap before [] = Unit {0}
 AreApartBy gap before (now ∷ moments) = (before + gap ≤ now) × AreApartBy gap now moments
 
--- polls of a drain at these moments, in none of which the last network fails
+-- polls of a drain at these moments
 abbrev pub AreDrained : Plan → Accepted → List ℕ → (lines after : Lines) → Type 0
 AreDrained plan accepted [] lines after = after ≡ lines
 AreDrained plan accepted (now ∷ moments) lines after =
     (mid : Lines) × IsDrained now plan accepted lines mid × AreDrained plan accepted moments mid after
 
 -- Polls that lie apart by the greatest gap of the plan, the first of them that long after every
--- release, send all that is left, where they are more than each link owes.
+-- release, send all that is left, where they are more than each link owes and a network that carries it
+-- stands afterwards.
 abbrev pub DrainEnds : Type 0
 DrainEnds = (plan : Plan) (accepted : Accepted) (moments : List ℕ) (lines after : Lines) (start gap : ℕ)
     → IsPlan plan
@@ -49,5 +50,6 @@ DrainEnds = (plan : Plan) (accepted : Accepted) (moments : List ℕ) (lines afte
     → ((k : ℕ) → k < length plan.links → bag_micros (link_plan_at plan.links k).bag ≤ gap)
     → AreApartBy gap start moments
     → AreDrained plan accepted moments lines after
+    → ((k : ℕ) → k < length plan.links → stands_for (link_plan_at plan.links k).networks after ≡ true)
     → ((k : ℕ) → k < length plan.links → owed_at plan accepted k lines < length moments)
     → IsAllDone plan accepted (log after)

@@ -1,13 +1,15 @@
 -- An emitter, as contracts see it.
-use Rattle.std.specs.Prelude.{ℕ, ◌≡◌, ◌<◌, ◌&&◌, List, [], length, map, filter, true, false, nat_eq, Option, None}
+use Rattle.std.specs.Prelude.{ℕ, ◌≡◌, ◌<◌, ◌&&◌, List, [], length, map, filter, true, false, nat_eq, Option, None, All}
 use Rattle.afdx_plan.specs.Config.{Plan, link_plan_at, IsPlan}
 use Rattle.afdx_plan.specs.Plan.{bag_micros}
 use Rattle.afdx_plan.specs.declared.link_plan.LinkPlan.{LinkPlan}
 use Rattle.afdx_plan.specs.declared.port_plan.PortPlan.{PortPlan}
 use Rattle.afdx_plan.specs.Numbers.{sequence_number}
 use Rattle.afdx_frame.specs.declared.net.Net.TheVariants.{A}
+use Rattle.afdx_frame.specs.Header.{link_in}
 use Rattle.redundant_mux.specs.Entry.{Entry}
-use Rattle.redundant_mux.specs.Lines.{Lines, log, is_alive, IsMirrored}
+use Rattle.redundant_mux.specs.Logged.{Logged}
+use Rattle.redundant_mux.specs.Lines.{Lines, log, stands_for, IsMirrored}
 use Rattle.vl_shaper.specs.Pace.{IsLater}
 use Rattle.subvl_queue.specs.Views.{QueueName, new_receiver}
 use Rattle.vl_link.specs.declared.sub_vl.SubVl.{SubVl}
@@ -96,9 +98,16 @@ pub record IsOpenedLink (own : ℕ) (ports first : List PortPlan) (link : LinkPl
 abbrev pub AreKept : List LinkState → List Entry → Type 0
 AreKept links log = (k : ℕ) → k < length links → IsKept (link_at links k) log
 
--- no link lost a frame
-abbrev pub AreWhole : List LinkState → Type 0
-AreWhole links = (k : ℕ) → k < length links → (link_at links k).lost ≡ false
+-- no link lost a frame that is carried by a network that stands
+abbrev pub AreWhole : List LinkState → Lines → Type 0
+AreWhole links lines = (k : ℕ) → k < length links → stands_for (link_at links k).plan.networks lines ≡ true
+    → (link_at links k).lost ≡ false
+
+-- each frame of a link of the plan was logged for the networks that carry the link
+abbrev pub AreCarried : List LinkPlan → List Logged → Type 0
+AreCarried links logged = (k : ℕ) → k < length links
+    → All (λ (l : Logged). link_in l.entry.frame ≡ (link_plan_at links k).id.0
+    → l.networks ≡ (link_plan_at links k).networks) logged
 
 -- no link was served after this moment
 abbrev pub AreServedBy : ℕ → List LinkState → Type 0
@@ -118,7 +127,8 @@ pub record IsSound (config : Plan) (links : List LinkState)
   pub later : AreServedBy moment links
   pub mirrored : IsMirrored lines
   pub known : AreKnown config.links A (log lines)
-  pub whole : is_alive lines ≡ true → AreWhole links
+  pub carried : AreCarried config.links lines.logged
+  pub whole : AreWhole links lines
   pub items : HaveOwnItems links
 
 -- each link that lost no frame is tied to its streams
@@ -175,4 +185,5 @@ pub record IsFreshTx (config : Plan) (tx : Tx) : Type 0 where
   pub b : tx.lines.b ≡ []
   pub a_stands : tx.lines.a_stands ≡ true
   pub b_stands : tx.lines.b_stands ≡ true
+  pub logged : tx.lines.logged ≡ []
   pub moment : tx.moment ≡ 0

@@ -1,11 +1,10 @@
 -- The counts of the links are published.
 use Rattle.std.specs.Prelude.{ℕ, ◌≡◌, ◌<◌, List, length}
 use Rattle.afdx_plan.specs.Config.{link_plan_at}
-use Rattle.redundant_mux.specs.Lines.{log}
 use Rattle.status_board.specs.declared.counts.Counts.{Counts}
 use Rattle.status_board.specs.History.{NoFieldFalls}
 use Rattle.status_board.specs.Views.{Published, published, last_of, with_entry}
-use Rattle.afdx_legal.specs.Streams.{link_stream}
+use Rattle.afdx_legal.specs.Own.{own_stream}
 use Rattle.afdx_legal.specs.Counting.{counts_in}
 use Rattle.vl_link.specs.Links.{LinkState, link_at}
 use Rattle.afdx_tx.specs.Emitter.{Tx}
@@ -21,12 +20,12 @@ pub record PublishesCounts (links : List LinkState) (old new : List Published) :
   pub each : (k : ℕ) → k < length links
       → published new k ≡ with_entry (published old k) (link_at links k).counts
 
--- the counts of the stream of the link at a place, in the longer handed list
+-- the counts of the own stream of the link at a place, the longer of its two
 abbrev pub counts_at : Tx → ℕ → Counts
-counts_at tx k = counts_in (link_stream (link_plan_at tx.plan.links k).id.0 (log tx.lines))
+counts_at tx k = counts_in (own_stream (link_plan_at tx.plan.links k).id.0 tx.lines.a tx.lines.b)
 
 -- An emitter but for its board, which has one entry more of each link, in the order of the plan: the
--- counts of the link's stream in the longer handed list. No field of it falls.
+-- counts of the link's own stream. No field of it falls.
 pub record Publishes (old new : Tx) : Type 0 where
   pub same : new ≡ record old { board = new.board }
   pub count : length new.board ≡ length old.board

@@ -24,7 +24,7 @@ turn_release vl Nothing = []
 turn_release vl (Released sub number) = record { vl = vl; sub = sub; number = number } ∷ []
 turn_release vl Lost = []
 
--- The releases name the new entries of the longer handed list, in order, all of this moment.
+-- The releases name the new entries of the log, in order, all of this moment.
 pub record IsTold (now : ℕ) (released : List Release) (before lines : Lines) : Type 0 where
   pub entries : List Entry
   pub grown : log lines ≡ log before ++ entries

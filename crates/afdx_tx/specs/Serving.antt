@@ -1,14 +1,14 @@
 -- What the turns of a poll keep, up to some link.
-use Rattle.std.specs.Prelude.{ℕ, ◌≡◌, ◌≤◌, List, length, drop, true}
+use Rattle.std.specs.Prelude.{ℕ, ◌≡◌, ◌≤◌, List, length, drop}
 use Rattle.afdx_frame.specs.declared.net.Net.TheVariants.{A}
-use Rattle.redundant_mux.specs.Lines.{Lines, BothEndure, log, is_alive}
+use Rattle.redundant_mux.specs.Lines.{Lines, BothEndure, log}
 use Rattle.afdx_tx.specs.declared.report.Release.{Release}
 use Rattle.afdx_legal.specs.Legal.{AreKnown}
 use Rattle.vl_link.specs.Links.{LinkState}
 use Rattle.vl_link.specs.Turn.{AreTurns}
 use Rattle.afdx_tx.specs.Run.{IsTurnAt}
 use Rattle.afdx_tx.specs.Report.{IsTold}
-use Rattle.afdx_tx.specs.Emitter.{plans, AreLinks, AreKept, AreWhole, AreServedBy, HaveOwnItems, IsSamePlan}
+use Rattle.afdx_tx.specs.Emitter.{plans, AreLinks, AreKept, AreCarried, AreWhole, AreServedBy, HaveOwnItems, IsSamePlan}
 
 -- what every turn keeps
 pub record IsSteady (now : ℕ) (old links : List LinkState) (lines : Lines) : Type 0 where
@@ -17,6 +17,7 @@ pub record IsSteady (now : ℕ) (old links : List LinkState) (lines : Lines) : T
   pub kept : AreKept links (log lines)
   pub later : AreServedBy now links
   pub known : AreKnown (plans old) A (log lines)
+  pub carried : AreCarried (plans old) lines.logged
   pub items : HaveOwnItems links
 
 -- the first i links had their turns
@@ -24,8 +25,7 @@ pub record IsServing (now i : ℕ) (old links : List LinkState) (before lines : 
   pub steady : IsSteady now old links lines
   pub turns : AreTurns (IsTurnAt now old links) 0 i before lines
   pub rest : drop i links ≡ drop i old
-  pub alive : is_alive lines ≡ true
-  pub whole : AreWhole links
+  pub whole : AreWhole links lines
 
 -- the first i links had their turns, at most so many releases are told, and a network is down only
 -- where it was or failed

@@ -35,7 +35,8 @@ impl<A: Network + Drop, B: Network + Drop> Draining<A, B> {
     ghost use Rattle.afdx_tx.specs.Report.{Polls};
     ghost use Rattle.afdx_tx.specs.Publishing.{Publishes};
     ghost use Rattle.afdx_legal.specs.Done.{IsAllDone};
-    ghost use Rattle.afdx_tx.specs.Drain.{AreGathered, IsDrained, IsDrainCutShort, accepted_in};
+    ghost use Rattle.afdx_tx.specs.Drain.{AreGathered, IsDrained, accepted_in};
+    ghost use Rattle.afdx_legal.specs.Own.{AreOwnStreams};
 
     /// Over links whose queues are all gathered.
     pub(crate) fn over(inner: Transmitter<A, B>) -> Draining<A, B>
@@ -61,10 +62,12 @@ impl<A: Network + Drop, B: Network + Drop> Draining<A, B> {
     }
 
     /// Whether every fragment of every accepted message was taken by at least one network. Once a
-    /// frame was lost with the last network it stays false.
+    /// frame was lost with the last network that carries its link it stays false.
     pub fn is_done(&self) -> bool
-        ensures { IsTrue result ↔ IsAllDone self.now.plan
+        ensures done { IsTrue result ↔ IsAllDone self.now.plan
             (accepted_in self.now.links) (log self.now.lines) }
+        ensures streams { AreOwnStreams self.now.plan (log self.now.lines)
+            self.now.lines.a self.now.lines.b }
     {
         self.inner.is_done()
     }
@@ -83,10 +86,11 @@ impl<A: Network + Drop, B: Network + Drop> Draining<A, B> {
         inner.into_networks()
     }
 
-    /// Gives each link its turn at a moment, in microseconds, in the order of the configuration,
-    /// until the last network fails. A due link with an accepted message that isn't wholly released
-    /// releases exactly one frame (ARINC 664 Part 7, bandwidth allocation gap). After `BothDown`
-    /// nothing has changed. Its body asks for no memory.
+    /// Gives each link its turn at a moment, in microseconds, in the order of the configuration. A due
+    /// link with an accepted message that isn't wholly released releases exactly one frame (ARINC 664
+    /// Part 7, bandwidth allocation gap), unless the last network that carries it fails with that frame.
+    /// A link of whose networks none stands isn't looked at. After `BothDown` nothing has changed. Its
+    /// body asks for no memory.
     pub fn poll(&mut self, now: u64) -> Result<Report, PollFault>
         requires { self.old.moment ≤ now }
         ensures both_down { IsErr result ↔ (is_alive self.old.lines ≡ false) }
@@ -99,22 +103,19 @@ impl<A: Network + Drop, B: Network + Drop> Draining<A, B> {
         ensures board { self.new.board ≡ self.old.board }
         ensures accepted { accepted_in self.new.links ≡ accepted_in self.old.links }
         ensures mirrored { IsMirrored self.new.lines }
+        ensures streams { AreOwnStreams self.new.plan (log self.new.lines)
+            self.new.lines.a self.new.lines.b }
         ensures endure { BothEndure self.old.lines self.new.lines }
         ensures told { IfOk result (λ report. Polls now self.old report self.new) }
         ensures run { OnOk result
-            (is_alive self.new.lines ≡ true →
-            IsDrained now self.old.plan (accepted_in self.old.links) self.old.lines self.new.lines) }
-        ensures cut_short { OnOk result
-            (is_alive self.new.lines ≡ false →
-            IsDrainCutShort now self.old.plan (accepted_in self.old.links)
-            self.old.lines self.new.lines) }
+            (IsDrained now self.old.plan (accepted_in self.old.links) self.old.lines self.new.lines) }
     {
         self.inner.poll(now)
     }
 
-    /// Publishes the counts of each link, once, in the order of the configuration: those of its stream
-    /// in the longer handed list, which were kept as the frames went out. It may wait for a monitor that
-    /// is in the middle of a reading. It takes no memory.
+    /// Publishes the counts of each link, once, in the order of the configuration: those of the longer of
+    /// its two streams, which were kept as the frames went out. It may wait for a monitor that is in the
+    /// middle of a reading. It takes no memory.
     pub fn publish<R: Wait>(&mut self, rt: &R)
         ensures { Publishes self.old self.new }
     {

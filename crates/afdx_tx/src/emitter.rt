@@ -37,7 +37,8 @@ impl<A: Network + Drop, B: Network + Drop> Emitter<A, B> {
     ghost use Rattle.afdx_legal.specs.Allowed.{AreAllowed};
     ghost use Rattle.afdx_legal.specs.Turns.{TakeTurns};
     ghost use Rattle.afdx_tx.specs.Drain.{accepted_in};
-    ghost use Rattle.afdx_tx.specs.Run.{IsRun, IsCutShort};
+    ghost use Rattle.afdx_tx.specs.Run.{IsRun};
+    ghost use Rattle.afdx_legal.specs.Own.{AreOwnStreams};
     ghost use Rattle.afdx_tx.specs.Report.{Polls};
     ghost use Rattle.afdx_tx.specs.Emitter.{Tx, IsFreshTx, AreFreshLinks, AreTied, taken_in, queues_in, total_in};
     ghost use Rattle.status_board.specs.Views.{published};
@@ -94,10 +95,11 @@ impl<A: Network + Drop, B: Network + Drop> Emitter<A, B> {
         inner.into_networks()
     }
 
-    /// Gives each link its turn at a moment, in microseconds, in the order of the configuration,
-    /// until the last network fails. A due link with something to send releases exactly one frame
-    /// (ARINC 664 Part 7, bandwidth allocation gap). After `BothDown` nothing has changed. It
-    /// waits for nobody, and its body asks for no memory.
+    /// Gives each link its turn at a moment, in microseconds, in the order of the configuration. A due
+    /// link with something to send releases exactly one frame (ARINC 664 Part 7, bandwidth allocation
+    /// gap), unless the last network that carries it fails with that frame. A link of whose networks none
+    /// stands isn't looked at. After `BothDown` nothing has changed. It waits for nobody, and its body
+    /// asks for no memory.
     pub fn poll(&mut self, now: u64) -> Result<Report, PollFault>
         requires { self.old.moment ≤ now }
         ensures both_down { IsErr result ↔ (is_alive self.old.lines ≡ false) }
@@ -111,14 +113,12 @@ impl<A: Network + Drop, B: Network + Drop> Emitter<A, B> {
         ensures queues { queues_in self.new.links ≡ queues_in self.old.links }
         ensures totals { (k s : ℕ) → total_in self.new.links k s ≡ total_in self.old.links k s }
         ensures mirrored { IsMirrored self.new.lines }
+        ensures streams { AreOwnStreams self.new.plan (log self.new.lines)
+            self.new.lines.a self.new.lines.b }
         ensures endure { BothEndure self.old.lines self.new.lines }
         ensures told { IfOk result (λ report. Polls now self.old report self.new) }
         ensures run { OnOk result
-            (is_alive self.new.lines ≡ true →
-            IsRun now self.old.links self.new.links self.old.lines self.new.lines) }
-        ensures cut_short { OnOk result
-            (is_alive self.new.lines ≡ false →
-            IsCutShort now self.old.links self.new.links self.old.lines self.new.lines) }
+            (IsRun now self.old.links self.new.links self.old.lines self.new.lines) }
     {
         self.inner.poll(now)
     }
@@ -140,9 +140,9 @@ impl<A: Network + Drop, B: Network + Drop> Emitter<A, B> {
         self.inner.close(vl, sub)
     }
 
-    /// Publishes the counts of each link, once, in the order of the configuration: those of its stream
-    /// in the longer handed list, which were kept as the frames went out. It may wait for a monitor that
-    /// is in the middle of a reading. It takes no memory.
+    /// Publishes the counts of each link, once, in the order of the configuration: those of the longer of
+    /// its two streams, which were kept as the frames went out. It may wait for a monitor that is in the
+    /// middle of a reading. It takes no memory.
     pub fn publish<R: Wait>(&mut self, rt: &R)
         ensures { Publishes self.old self.new }
     {

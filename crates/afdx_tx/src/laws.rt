@@ -6,7 +6,8 @@ ghost use Rattle.afdx_tx.specs.WorkedDrain.{DrainsOne};
 /// that long after every release, send all that is left, where they are more than each link owes
 /// frames. `Draining::is_done` is then true.
 ///
-/// That no poll loses the last network is a premise; `Draining::poll` tells it by its report.
+/// That a network that carries each link stands after them is a premise; `Draining::poll` tells it by
+/// its report.
 pub fn drain_ends()
     ensures ends { DrainEnds }
 

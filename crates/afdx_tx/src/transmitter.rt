@@ -2,11 +2,11 @@
 ghost use Rattle.std.specs.Prelude.{◌≡◌, ◌<◌, ◌≤◌, ◌++◌, [], true, false, length};
 ghost use Rattle.arrayvec.specs.ArrayVec.{array_vec_len};
 ghost use Rattle.afdx_frame.specs.declared.net.Net.TheVariants.{A as ForA};
-ghost use Rattle.redundant_mux.specs.Lines.{BothEndure, is_alive, log, IsMirrored};
+ghost use Rattle.redundant_mux.specs.Lines.{BothEndure, log};
 ghost use Rattle.afdx_legal.specs.Legal.{AreKnown};
-ghost use Rattle.afdx_tx.specs.Run.{IsRun, IsCutShort};
+ghost use Rattle.afdx_tx.specs.Run.{IsRun};
 ghost use Rattle.afdx_tx.specs.Report.{IsTold, turn_release};
-ghost use Rattle.afdx_tx.specs.Emitter.{plans, AreApart, AreLinks, AreKept, AreWhole, AreServedBy, HaveOwnItems};
+ghost use Rattle.afdx_tx.specs.Emitter.{plans, AreApart, AreLinks, AreKept, AreCarried, AreWhole, AreServedBy, HaveOwnItems};
 ghost use Rattle.afdx_tx.specs.Serving.{IsSteady};
 ghost use Rattle.afdx_tx.specs.Publishing.{Reaches, PublishesCounts};
 ghost use Rattle.afdx_tx.specs.Done.{TellsAllDone};
@@ -17,13 +17,13 @@ use crate::gather::gather_links;
 use crate::port::TxPort;
 use crate::report::{Release, Report};
 use afdx_frame::Frame;
-use afdx_plan::{Config, VlId};
+use afdx_plan::{Config, Networks, VlId};
 use arrayvec::ArrayVec;
 use redundant_mux::{Mux, Network};
 use status_board::Board;
 use std::marker::Model;
 use std::sync::Wait;
-use vl_link::{Link, Served, some_stands};
+use vl_link::{Link, Served};
 
 /// Adds what a turn released.
 fn note(released: &mut ArrayVec<Release, 64>, vl: VlId, did: &Served)
@@ -35,7 +35,7 @@ fn note(released: &mut ArrayVec<Release, 64>, vl: VlId, did: &Served)
     }
 }
 
-/// Gives each link its turn, in order, until the last network fails.
+/// Gives each link its turn, in order.
 fn serve_all<A: Network + Drop, B: Network + Drop>(
     links: &mut [Link],
     frame: &mut Frame,
@@ -49,27 +49,20 @@ fn serve_all<A: Network + Drop, B: Network + Drop>(
     requires apart { AreApart links.old }
     requires kept { AreKept links.old (log mux.old) }
     requires later { AreServedBy now links.old }
-    requires alive { is_alive mux.old ≡ true }
-    requires whole { AreWhole links.old }
+    requires whole { AreWhole links.old mux.old }
     requires known { AreKnown (plans links.old) ForA (log mux.old) }
+    requires carried { AreCarried (plans links.old) mux.old.logged }
     requires items { HaveOwnItems links.old }
     ensures steady { IsSteady now links.old links.new mux.new }
-    ensures run { is_alive mux.new ≡ true →
-        IsRun now links.old links.new mux.old mux.new }
-    ensures cut_short { is_alive mux.new ≡ false →
-        IsCutShort now links.old links.new mux.old mux.new }
-    ensures whole { is_alive mux.new ≡ true → AreWhole links.new }
+    ensures run { IsRun now links.old links.new mux.old mux.new }
+    ensures whole { AreWhole links.new mux.new }
     ensures told { IsTold now released.new.items mux.old mux.new }
     ensures endure { BothEndure mux.old mux.new }
 {
     for link in links.iter_mut() {
-        // Most links aren't due at most polls: that costs a comparison.
-        if link.is_due(now) {
+        if link.may_release(mux, now) {
             let did = link.serve(frame, mux, now);
             note(released, link.id(), &did);
-            if did.is_lost() {
-                return;
-            }
         }
     }
 }
@@ -133,10 +126,11 @@ impl<A: Network + Drop, B: Network + Drop> Transmitter<A, B> {
     ghost use Rattle.status_board.specs.Views.{published};
     ghost use Rattle.afdx_plan.specs.Config.{IsPlan};
     ghost use Rattle.redundant_mux.specs.Lines.{BothEndure, is_alive, log, IsMirrored};
+    ghost use Rattle.afdx_legal.specs.Own.{AreOwnStreams};
     ghost use Rattle.afdx_legal.specs.Legal.{IsLegal};
     ghost use Rattle.afdx_legal.specs.Allowed.{AreAllowed};
     ghost use Rattle.afdx_legal.specs.Turns.{TakeTurns};
-    ghost use Rattle.afdx_tx.specs.Run.{IsRun, IsCutShort};
+    ghost use Rattle.afdx_tx.specs.Run.{IsRun};
     ghost use Rattle.afdx_tx.specs.Report.{Polls};
     ghost use Rattle.afdx_tx.specs.Emitter.{Tx, IsFreshTx, AreFreshLinks, AreLinksOf, AreTied, HaveOwnItems, IsSamePlan, taken_in};
     ghost use Rattle.afdx_tx.specs.Publishing.{Publishes};
@@ -189,8 +183,10 @@ impl<A: Network + Drop, B: Network + Drop> Transmitter<A, B> {
     /// Whether every fragment of every accepted message was taken by at least one network.
     pub fn is_done(&self) -> bool
         requires { AreGathered self.now.links }
-        ensures { IsTrue result ↔ IsAllDone self.now.plan
+        ensures done { IsTrue result ↔ IsAllDone self.now.plan
             (accepted_in self.now.links) (log self.now.lines) }
+        ensures streams { AreOwnStreams self.now.plan (log self.now.lines)
+            self.now.lines.a self.now.lines.b }
     {
         all_done(&self.links)
     }
@@ -217,8 +213,8 @@ impl<A: Network + Drop, B: Network + Drop> Transmitter<A, B> {
         mux.into_networks()
     }
 
-    /// Gives each link its turn at a moment, in microseconds, in the order of the configuration,
-    /// until the last network fails. After `BothDown` nothing has changed.
+    /// Gives each link its turn at a moment, in microseconds, in the order of the configuration. After
+    /// `BothDown` nothing has changed.
     pub fn poll(&mut self, now: u64) -> Result<Report, PollFault>
         requires { self.old.moment ≤ now }
         ensures both_down { IsErr result ↔ (is_alive self.old.lines ≡ false) }
@@ -233,16 +229,14 @@ impl<A: Network + Drop, B: Network + Drop> Transmitter<A, B> {
         ensures same { IsSamePlan self.old.links self.new.links }
         ensures of_plan { AreLinksOf self.old.plan self.old.links }
         ensures mirrored { IsMirrored self.new.lines }
+        ensures streams { AreOwnStreams self.new.plan (log self.new.lines)
+            self.new.lines.a self.new.lines.b }
         ensures endure { BothEndure self.old.lines self.new.lines }
         ensures told { IfOk result (λ report. Polls now self.old report self.new) }
         ensures run { OnOk result
-            (is_alive self.new.lines ≡ true →
-            IsRun now self.old.links self.new.links self.old.lines self.new.lines) }
-        ensures cut_short { OnOk result
-            (is_alive self.new.lines ≡ false →
-            IsCutShort now self.old.links self.new.links self.old.lines self.new.lines) }
+            (IsRun now self.old.links self.new.links self.old.lines self.new.lines) }
     {
-        if !some_stands(&self.mux.standing()) {
+        if !self.mux.stands_for(Networks::Both) {
             return Err(PollFault::BothDown);
         }
         self.moment = now;

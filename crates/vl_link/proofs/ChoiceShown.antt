@@ -41,7 +41,7 @@ passed_whole link new log s tied lt items p =
 
 -- The released frame is of the sub-VL that was chosen, as its link's stream shows it.
 pub choice_shown : (now number : ℕ) (link : LinkState) (sub : ℕ) (news : List Held) (lines after : Lines)
-    (at : Releases now link.plan.id.0 link.pace (held_view link.subs news) sub number lines after)
+    (at : Releases now link.plan link.pace (held_view link.subs news) sub number lines after)
     → IsLinkOfPlan link.end_system link.plan link.pace link.subs → IsLinkTied link (log lines)
     → ((s : ℕ) → s < length link.subs → HasOwnItems (held_at link.subs s))
     → link.pace.last ≡ latest None (link_stream link.plan.id.0 (log lines))

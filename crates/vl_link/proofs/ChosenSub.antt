@@ -1,9 +1,11 @@
 -- A chosen sub-VL that became another.
-use Rattle.std.proofs.Common.{ℕ, ◌≡◌, ◌≢◌, ◌<◌, List, set, get_or, arith, ap, ◌∙◌, sym, subst, ⊎_elim, []}
+use Rattle.std.proofs.Common.{ℕ, ◌≡◌, ◌≢◌, ◌<◌, ◌∷◌, ◌++◌, List, true, false, set, get_or, arith, ap, ◌∙◌, sym, subst, ⊎_elim, []}
 use Rattle.std.proofs.lemmas.List.{get_or_default, get_or-set_other}
 use Rattle.std.proofs.lemmas.Bool.{cases_eq}
 use Rattle.afdx_plan.specs.declared.link_plan.LinkPlan.{LinkPlan}
-use Rattle.redundant_mux.specs.Lines.{Lines}
+use Rattle.redundant_mux.specs.Entry.{entry}
+use Rattle.redundant_mux.specs.Logged.{logged_for}
+use Rattle.redundant_mux.specs.Lines.{Lines, BothEndure, stands_for}
 use Rattle.vl_shaper.specs.Pace.{Pace}
 use Rattle.vl_link.specs.declared.sub_vl.SubVl.{SubVl}
 use Rattle.vl_link.specs.Links.{Held, held_at, nothing_held, Passes, Gives, GivesFrame, IsPicked, PassedOver, AreSubsOf, IsSameSub, AreSameSubs, SendsNext, FailsNext, held_view}
@@ -83,8 +85,8 @@ chosen_gives pace old sub mid h frame c g = record {
 -- a link that chose it released its frame
 pub releases_at : (now number : ℕ) (plan : LinkPlan) (pace : Pace) (old : List Held) (sub : ℕ) (mid : List Held) (d h : Held) (lines after : Lines)
     → IsPicked pace old sub mid → AreSubsOf plan old → SendsNext now number (get_or mid sub d) h lines after
-    → Releases now plan.id.0 pace (held_view old (set mid sub h)) sub number lines after
-releases_at now number plan pace old sub mid d h lines after c n r =
+    → BothEndure lines after → Releases now plan pace (held_view old (set mid sub h)) sub number lines after
+releases_at now number plan pace old sub mid d h lines after c n r endure =
     let own = item_of pace plan old sub mid d c n in
     record {
       frame = r.frame;
@@ -92,22 +94,25 @@ releases_at now number plan pace old sub mid d h lines after c n r =
           (subst (λ (x : Held). Gives x r.frame h) (item_is pace old sub mid d c) r.gives);
       of = subst (λ (i : ℕ). IsFrameOf plan.id.0 i number A r.frame) own.1
           (subst (λ (p : LinkPlan). IsFrameOf p.id.0 (get_or mid sub d).of.sub number A r.frame) own.0 r.of);
-      enters = r.enters;
-      alive = r.alive;
+      enters = subst (λ (p : LinkPlan). after.logged ≡ lines.logged ++ logged_for p.networks (entry now r.frame) ∷ []) own.0 r.enters;
+      stands = subst (λ (p : LinkPlan). stands_for p.networks after ≡ true) own.0 r.stands;
+      endure = endure;
     }
 
 -- a link that chose it lost its frame
-pub loses_at : (pace : Pace) (old : List Held) (sub : ℕ) (mid : List Held) (d h : Held) (lines after : Lines)
-    → IsPicked pace old sub mid → FailsNext (get_or mid sub d) h lines after
-    → Loses pace (held_view old (set mid sub h)) lines after
-loses_at pace old sub mid d h lines after c r =
+pub loses_at : (plan : LinkPlan) (pace : Pace) (old : List Held) (sub : ℕ) (mid : List Held) (d h : Held) (lines after : Lines)
+    → IsPicked pace old sub mid → AreSubsOf plan old → FailsNext (get_or mid sub d) h lines after
+    → BothEndure lines after → Loses plan pace (held_view old (set mid sub h)) lines after
+loses_at plan pace old sub mid d h lines after c n r endure =
+    let own = item_of pace plan old sub mid d c n in
     record {
       sub = sub;
       frame = r.frame;
       choice = chosen_gives pace old sub mid h r.frame c
           (subst (λ (x : Held). Gives x r.frame h) (item_is pace old sub mid d c) r.gives);
       same = r.same;
-      down = r.down;
+      down = subst (λ (p : LinkPlan). stands_for p.networks after ≡ false) own.0 r.down;
+      endure = endure;
     }
 
 -- where all were passed over, none has anything

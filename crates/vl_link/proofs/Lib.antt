@@ -9,7 +9,6 @@ pub mod OneMore
 pub mod ChosenSub
 pub mod TurnLaws
 pub mod LinkTurn
-pub mod Standing
 pub mod ShownTurns
 pub mod MessageEnds
 pub mod ChoiceShown

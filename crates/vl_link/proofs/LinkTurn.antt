@@ -1,6 +1,6 @@
 -- One turn of a link, against its stream.
 use Rattle.std.proofs.Common.{ℕ, ◌≡◌, ◌≢◌, ◌<◌, List, [], ◌∷◌, ◌++◌, length, true, false, arith, ap, ◌∙◌, sym, subst, inl, inr, ⊎_elim, Option, None}
-use Rattle.std.proofs.lemmas.Bool.{cases_eq}
+use Rattle.std.proofs.lemmas.Bool.{cases_eq, and_parts}
 use Rattle.afdx_plan.specs.declared.link_plan.LinkPlan.{LinkPlan}
 use Rattle.afdx_plan.specs.Plan.{bag_micros}
 use Rattle.afdx_plan.specs.Room.{room_of}
@@ -10,6 +10,7 @@ use Rattle.afdx_frame.specs.Header.{sub_in}
 use Rattle.afdx_frame.specs.Fragments.{blanked, fragments}
 use Rattle.redundant_mux.specs.Entry.{Entry, entry}
 use Rattle.redundant_mux.specs.Lines.{Lines, log}
+use Rattle.redundant_mux.proofs.MirroredLines.{log_same}
 use Rattle.vl_shaper.specs.declared.shaper.Stamp.{Stamp}
 use Rattle.vl_shaper.specs.Pace.{Pace, IsLater}
 use Rattle.vl_link.specs.declared.served.Served.{Served}
@@ -31,7 +32,7 @@ use Rattle.vl_link.proofs.PaceOfStream.{stream_more, stream_same}
 
 -- a turn of a link that was where its stream is
 pub record Turned (now : ℕ) (link new : LinkState) (lines after : Lines) (did : Served) : Type 0 where
-  pub serves : Serves now link.plan.id.0 link.pace link.subs new.subs lines after did
+  pub serves : Serves now link.plan link.pace link.subs new.subs lines after did
   pub paced : Follows new.plan.id.0 new.pace after did
   pub same : IsSameLink link new
   pub later : IsLater link.pace.last now
@@ -112,9 +113,9 @@ prefix_at link s held H of t =
     (prefix_of held (sub_stream s (link_stream link.plan.id.0 H)) t)
 
 -- what happened to each sub-VL in a turn that did nothing
-moves_nothing : (now vl : ℕ) (pace : Pace) (old new : List Held) (lines after : Lines)
-    → Serves now vl pace old new lines after Nothing → (s : ℕ) → s < pace.sub_vls → Moves (held_at old s) (held_at new s)
-moves_nothing now vl pace old new lines after v s lt = ⊎_elim
+moves_nothing : (now : ℕ) (plan : LinkPlan) (pace : Pace) (old new : List Held) (lines after : Lines)
+    → Serves now plan pace old new lines after Nothing → (s : ℕ) → s < pace.sub_vls → Moves (held_at old s) (held_at new s)
+moves_nothing now plan pace old new lines after v s lt = ⊎_elim
     (λ h. inr (inr (h.1 s)))
     (λ h. inl (h.1.each s lt))
     v.0
@@ -136,7 +137,7 @@ shows_tied old new frame stream g t = tied_moves old g.mid stream (inr (inl g.as
 
 -- each sub-VL's stream after the frame of the chosen one entered
 tied_released : (now number : ℕ) (link : LinkState) (sub : ℕ) (news : List Held) (lines after : Lines)
-    (at : Releases now link.plan.id.0 link.pace (held_view link.subs news) sub number lines after)
+    (at : Releases now link.plan link.pace (held_view link.subs news) sub number lines after)
     → IsLinkTied link (log lines) → (s : ℕ) → s < link.plan.sub_vls
     → IsTied (held_at news s) (sub_stream s (link_stream link.plan.id.0 (log after)))
 tied_released now number link sub news lines after at before s lt =
@@ -144,7 +145,7 @@ tied_released now number link sub news lines after at before s lt =
     let stream = link_stream link.plan.id.0 (log lines) in
     let mine : sub_in at.frame ≡ sub = at.of.of_sub in
     let more : link_stream link.plan.id.0 (log after) ≡ link_stream link.plan.id.0 (log lines) ++ entry now at.frame ∷ [] =
-    stream_more link.plan.id.0 now sub number at.frame lines after at.of at.enters in
+    stream_more link.plan.id.0 now sub number link.plan.networks at.frame lines after at.of at.enters in
     ⊎_elim
     (λ (same : s ≡ sub).
     let below : sub < link.plan.sub_vls = omega arith in
@@ -166,7 +167,7 @@ tied_released now number link sub news lines after at before s lt =
 
 -- each sub-VL's stream begins the fragments of what it took, where a frame of the chosen one was lost
 prefix_lost : (link : LinkState) (news : List Held) (lines after : Lines)
-    (at : Loses link.pace (held_view link.subs news) lines after)
+    (at : Loses link.plan link.pace (held_view link.subs news) lines after)
     → IsLinkTied link (log lines) → (s : ℕ) → s < link.plan.sub_vls
     → IsPrefixOf (told (sub_stream s (link_stream link.plan.id.0 (log lines)))) (shown (held_at news s))
 prefix_lost link news lines after at before s lt =
@@ -190,7 +191,7 @@ kept_turn now Nothing link new lines after t own items k =
     let tied : (s : ℕ) → s < link.plan.sub_vls
     → IsTied (held_at new.subs s) (sub_stream s (link_stream link.plan.id.0 (log lines))) =
     λ s lt. tied_moves (held_at link.subs s) (held_at new.subs s) _
-    (moves_nothing now link.plan.id.0 link.pace link.subs new.subs lines after t.serves s (omega (arith, own.sub_vls)))
+    (moves_nothing now link.plan link.pace link.subs new.subs lines after t.serves s (omega (arith, own.sub_vls)))
     (k.tied t.whole s lt) in
     subst (IsKept new) same (kept_of link new (log lines) t.same k.numbered k.spaced
     (λ s lt. prefix_at link s (held_at new.subs s) (log lines)
@@ -203,12 +204,12 @@ kept_turn now Nothing link new lines after t own items k =
     (subst (λ (H : List Entry). new.counts ≡ counts_in (link_stream new.plan.id.0 H)) (sym same) t.counted))
 kept_turn now (Released sub number) link new lines after t own items k =
     let at = t.serves.2 in
-    let more = stream_more link.plan.id.0 now sub number at.frame lines after at.of at.enters in
+    let more = stream_more link.plan.id.0 now sub number link.plan.networks at.frame lines after at.of at.enters in
     let stream = link_stream link.plan.id.0 (log lines) in
     let paced : link.pace ≡ pace_of link.pace.gap link.pace.sub_vls (link_stream link.plan.id.0 (log lines)) = k.paced t.whole in
     let apart : IsApart link.pace.gap (latest None (link_stream link.plan.id.0 (log lines))) now =
     subst (λ (o : Option Stamp). IsApart link.pace.gap o now) (ap (λ (x : Pace). x.last) paced)
-    (due_apart link.pace.gap link.pace.last now t.later t.serves.0) in
+    (due_apart link.pace.gap link.pace.last now t.later (and_parts _ _ t.serves.0).0) in
     let tied : (s : ℕ) → s < link.plan.sub_vls
     → IsTied (held_at new.subs s) (sub_stream s (link_stream link.plan.id.0 (log after))) =
     tied_released now number link sub new.subs lines after at (k.tied t.whole) in
@@ -234,7 +235,8 @@ kept_turn now Lost link new lines after t own items k =
     let stream = sub_stream at.sub (link_stream link.plan.id.0 (log lines)) in
     let mid : IsTied g.mid (sub_stream at.sub (link_stream link.plan.id.0 (log lines))) =
     shows_tied (held_at link.subs at.sub) (held_at new.subs at.sub) at.frame stream g (k.tied t.whole at.sub below) in
-    subst (IsKept new) (sym at.same) (kept_of link new (log lines) t.same k.numbered k.spaced
+    let same : log after ≡ log lines = log_same lines after at.same in
+    subst (IsKept new) (sym same) (kept_of link new (log lines) t.same k.numbered k.spaced
     (λ s lt. subst (λ (o : SubVl). IsPrefixOf (told_of link.plan.id.0 s (log lines)) (sub_fragments o 0 (taken_by (held_at new.subs s))))
     ((t.same.subs s).of ∙ own.named s (omega (arith, own.count, own.sub_vls)))
     (prefix_lost link new.subs lines after at (k.tied t.whole) s lt))
@@ -250,7 +252,7 @@ kept_turn now Lost link new lines after t own items k =
         ahead = gave_shown at.frame g.mid (held_at new.subs at.sub) g.gives ∙ mid;
       },
     ))
-    (subst (λ (H : List Entry). new.counts ≡ counts_in (link_stream new.plan.id.0 H)) at.same t.counted))
+    (subst (λ (H : List Entry). new.counts ≡ counts_in (link_stream new.plan.id.0 H)) same t.counted))
 
 -- another link's stream
 pub other_stream : (now vl : ℕ) (did : Served) (link new : LinkState) (lines after : Lines)
@@ -259,8 +261,8 @@ pub other_stream : (now vl : ℕ) (did : Served) (link new : LinkState) (lines a
 other_stream now vl Nothing link new lines after t own ne = ap (λ (x : Lines). link_stream vl (log x)) t.serves.1
 other_stream now vl (Released sub number) link new lines after t own ne =
     let at = t.serves.2 in
-    stream_same link.plan.id.0 vl now sub number at.frame lines after at.of at.enters ne
-other_stream now vl Lost link new lines after t own ne = ap (link_stream vl) t.serves.1.same
+    stream_same link.plan.id.0 vl now sub number link.plan.networks at.frame lines after at.of at.enters ne
+other_stream now vl Lost link new lines after t own ne = ap (link_stream vl) (log_same lines after t.serves.1.same)
 
 -- a link whose stream is the same keeps what it kept
 pub kept_stream : (other : LinkState) (H J : List Entry)
@@ -288,6 +290,6 @@ kept_stream other H J e k =
 
 -- the sub-VL that released a frame is one of its link's
 pub released_below : (now number : ℕ) (link : LinkState) (view : TurnView) (sub : ℕ) (lines after : Lines)
-    → Releases now link.plan.id.0 link.pace view sub number lines after → IsOwn link → sub < link.plan.sub_vls
+    → Releases now link.plan link.pace view sub number lines after → IsOwn link → sub < link.plan.sub_vls
 released_below now number link view sub lines after at own =
     omega (arith, choice_below link.pace _ _ _ sub at.choice, own.sub_vls)

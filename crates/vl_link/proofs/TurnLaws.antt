@@ -1,11 +1,13 @@
 -- A turn of a link, whatever is known of its sub-VLs.
-use Rattle.std.proofs.Common.{ℕ, zero, suc, ◌≡◌, ◌≢◌, ◌⊎◌, ◌+◌, ◌<◌, ◌≤◌, List, false, arith, refl, ap, ◌∙◌, sym, subst, inl, inr, ⊎_elim}
+use Rattle.std.proofs.Common.{ℕ, zero, suc, ◌≡◌, ◌≢◌, ◌⊎◌, ◌+◌, ◌<◌, ◌≤◌, ◌&&◌, List, Bool, true, false, arith, refl, ap, ◌∙◌, sym, subst, inl, inr, ⊎_elim}
 use Rattle.std.proofs.lemmas.Bool.{cases_eq, cases_lt}
-use Rattle.redundant_mux.specs.Lines.{Lines}
-use Rattle.vl_shaper.specs.Pace.{Pace, turn_of}
+use Rattle.afdx_plan.specs.declared.link_plan.LinkPlan.{LinkPlan}
+use Rattle.redundant_mux.specs.Lines.{Lines, BothEndure, stands_for}
+use Rattle.redundant_mux.proofs.Enduring.{both_none, both_on}
+use Rattle.vl_shaper.specs.Pace.{Pace, turn_of, is_due}
 use Rattle.vl_link.specs.declared.served.Served.{Served}
 use Rattle.vl_link.specs.declared.served.Served.TheVariants.{Nothing, Released, Lost}
-use Rattle.vl_link.specs.Turn.{TurnView, IsChoice, Turn, AreTurns, is_lost}
+use Rattle.vl_link.specs.Turn.{TurnView, IsChoice, Turn, AreTurns, may_release}
 use Rattle.vl_link.proofs.Choosing.{met}
 use Rattle.vl_shaper.proofs.Turns.{turn_below}
 
@@ -48,37 +50,71 @@ choice_seen pace view other frame sub i c = record {
   others = λ s not. i.rests s (c.others s not);
 }
 
--- A turn in one view is one in another that knows no more.
-pub turn_seen : (now vl : ℕ) (pace : Pace) (view other : TurnView) (lines after : Lines) (did : Served) → IsSeenIn pace view other
-    → Turn now vl pace view lines after did → Turn now vl pace other lines after did
-turn_seen now vl pace view other lines after Nothing i t = (
+-- A turn in one view is one in another that knows no more: of those that weren't asked, and of the others
+-- where the link may release a frame.
+pub turn_seen : (now : ℕ) (plan : LinkPlan) (pace : Pace) (view other : TurnView) (lines after : Lines) (did : Served)
+    → ((s : ℕ) → view.rests s → other.rests s) → (may_release now plan pace lines ≡ true → IsSeenIn pace view other)
+    → Turn now plan pace view lines after did → Turn now plan pace other lines after did
+turn_seen now plan pace view other lines after Nothing rests seen t = (
   ⊎_elim
-      (λ h. inl (h.0, λ s. i.rests s (h.1 s)))
-      (λ h. inr (h.0, record { each = λ s lt. i.lacks s lt (h.1.each s lt); others = λ s past. i.rests s (h.1.others s past) }))
+      (λ h. inl (h.0, λ s. rests s (h.1 s)))
+      (λ h. inr (
+        h.0,
+        record {
+          each = λ s lt. (seen h.0).lacks s lt (h.1.each s lt);
+          others = λ s past. rests s (h.1.others s past);
+        },
+      ))
       t.0,
   t.1,
 )
-turn_seen now vl pace view other lines after (Released sub number) i t = (
+turn_seen now plan pace view other lines after (Released sub number) rests seen t = (
   t.0,
   t.1,
   record {
     frame = t.2.frame;
-    choice = choice_seen pace view other t.2.frame sub i t.2.choice;
+    choice = choice_seen pace view other t.2.frame sub (seen t.0) t.2.choice;
     of = t.2.of;
     enters = t.2.enters;
-    alive = t.2.alive;
+    stands = t.2.stands;
+    endure = t.2.endure;
   },
 )
-turn_seen now vl pace view other lines after Lost i t = (
+turn_seen now plan pace view other lines after Lost rests seen t = (
   t.0,
   record {
     sub = t.1.sub;
     frame = t.1.frame;
-    choice = choice_seen pace view other t.1.frame t.1.sub i t.1.choice;
+    choice = choice_seen pace view other t.1.frame t.1.sub (seen t.0) t.1.choice;
     same = t.1.same;
     down = t.1.down;
+    endure = t.1.endure;
   },
 )
+
+-- A network that is down after a turn was down before it, or failed.
+pub turn_endures : (now : ℕ) (plan : LinkPlan) (pace : Pace) (view : TurnView) (lines after : Lines) (did : Served)
+    → Turn now plan pace view lines after did → BothEndure lines after
+turn_endures now plan pace view lines after Nothing t = subst (BothEndure lines) (sym t.1) (both_none lines)
+turn_endures now plan pace view lines after (Released sub number) t = t.2.endure
+turn_endures now plan pace view lines after Lost t = t.1.endure
+
+-- so through turns
+pub turns_endure : (P : ℕ → Lines → Lines → Served → Type 0) (k many : ℕ) (lines after : Lines)
+    → ((i : ℕ) (before behind : Lines) (did : Served) → P i before behind did → BothEndure before behind)
+    → AreTurns P k many lines after → BothEndure lines after
+turns_endure P k zero lines after f r = subst (BothEndure lines) (sym r) (both_none lines)
+turns_endure P k (suc many) lines after f r =
+    both_on lines r.0 after (f k lines r.0 r.1 r.2) (turns_endure P (k + 1) many r.0 after f r.3)
+
+-- no turn of a link of whose networks none stands releases anything
+pub may_not : (now : ℕ) (plan : LinkPlan) (pace : Pace) (lines : Lines) → stands_for plan.networks lines ≡ false
+    → may_release now plan pace lines ≡ false
+may_not now plan pace lines down = ap (λ (t : Bool). is_due pace.gap pace.last now && t) down ∙ and_false (is_due pace.gap pace.last now)
+  where
+    and_false : (t : Bool) → (t && false) ≡ false
+    and_false true = refl
+    and_false false = refl
 
 -- Turns of one kind are turns of another.
 pub turns_seen : (P Q : ℕ → Lines → Lines → Served → Type 0) (k many : ℕ) (lines after : Lines)
@@ -89,29 +125,26 @@ turns_seen P Q k (suc many) lines after f r = (
   r.0,
   r.1,
   f k (omega arith) (omega arith) lines r.0 r.1 r.2,
-  r.3,
-  turns_seen P Q (k + 1) many r.0 after (λ i le lt. f i (omega arith) (omega arith)) r.4,
+  turns_seen P Q (k + 1) many r.0 after (λ i le lt. f i (omega arith) (omega arith)) r.3,
 )
 
 -- One turn more behind them.
 pub turns_push : (P : ℕ → Lines → Lines → Served → Type 0) (k many : ℕ) (lines mid after : Lines) (did : Served)
-    → AreTurns P k many lines mid → P (k + many) mid after did → is_lost did ≡ false
+    → AreTurns P k many lines mid → P (k + many) mid after did
     → AreTurns P k (suc many) lines after
-turns_push P k zero lines mid after did r t kept =
+turns_push P k zero lines mid after did r t =
     let at : k + 0 ≡ k = omega arith in (
       after,
       did,
       subst (λ (l : Lines). P k l after did) r (subst (λ (i : ℕ). P i mid after did) at t),
-      kept,
       refl,
     )
-turns_push P k (suc many) lines mid after did r t kept =
+turns_push P k (suc many) lines mid after did r t =
     let at : k + suc many ≡ k + 1 + many = omega arith in (
       r.0,
       r.1,
       r.2,
-      r.3,
-      turns_push P (k + 1) many r.0 mid after did r.4 (subst (λ (i : ℕ). P i mid after did) at t) kept,
+      turns_push P (k + 1) many r.0 mid after did r.3 (subst (λ (i : ℕ). P i mid after did) at t),
     )
 
 -- What each turn shows holds at each place.
@@ -121,5 +154,5 @@ pub turns_each : (P : ℕ → Lines → Lines → Served → Type 0) (Q : ℕ �
 turns_each P Q k zero lines after f r i le lt = absurd (omega arith)
 turns_each P Q k (suc many) lines after f r i le lt = ⊎_elim
     (λ (e : i ≡ k). subst Q (sym e) (f k lines r.0 r.1 r.2))
-    (λ (ne : i ≢ k). turns_each P Q (k + 1) many r.0 after f r.4 i (omega arith) (omega arith))
+    (λ (ne : i ≢ k). turns_each P Q (k + 1) many r.0 after f r.3 i (omega arith) (omega arith))
     (cases_eq i k)

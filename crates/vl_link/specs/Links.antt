@@ -11,7 +11,8 @@ use Rattle.afdx_frame.specs.Header.{IsFrameOf}
 use Rattle.afdx_frame.specs.Cutting.{Cutting}
 use Rattle.afdx_frame.specs.Fragments.{Sent, blanked, fragments_at, fragments_from, fragments_left}
 use Rattle.redundant_mux.specs.Entry.{Entry, entry}
-use Rattle.redundant_mux.specs.Lines.{Lines, is_alive, log}
+use Rattle.redundant_mux.specs.Logged.{logged_for}
+use Rattle.redundant_mux.specs.Lines.{Lines, stands_for, log}
 use Rattle.subvl_queue.specs.Messages.{IsItem, AreItems}
 use Rattle.vl_shaper.specs.Pace.{Pace, turn_of}
 use Rattle.vl_link.specs.Turn.{TurnView, IsChoice, Turn}
@@ -131,7 +132,7 @@ pub record PassedOver (pace : Pace) (old new : List Held) (asked : ℕ) : Type 0
       → held_at new s ≡ held_at old s
 
 -- A link: its plan, its regulation, its sub-VLs, whether a frame of it was lost with the last
--- network, and the counts of what it sent.
+-- network that carries it, and the counts of what it sent.
 pub record LinkState : Type 0 where
   pub end_system : ℕ
   pub plan : LinkPlan
@@ -197,20 +198,20 @@ pub record Gives (old : Held) (frame : List ℕ) (new : Held) : Type 0 where
   pub next : old.left ≡ blanked frame ∷ new.left
   pub same : new ≡ record old { left = new.left }
 
--- at least one network took the frame of a sub-VL
+-- at least one network that carries its link took the frame of a sub-VL
 pub record SendsNext (now number : ℕ) (old new : Held) (lines after : Lines) : Type 0 where
   pub frame : List ℕ
-  pub enters : log after ≡ log lines ++ entry now frame ∷ []
+  pub enters : after.logged ≡ lines.logged ++ logged_for old.of.link.networks (entry now frame) ∷ []
   pub of : IsFrameOf old.of.link.id.0 old.of.sub number A frame
   pub gives : Gives old frame new
-  pub alive : is_alive after ≡ true
+  pub stands : stands_for old.of.link.networks after ≡ true
 
--- the last network that stood failed, and with it the frame of a sub-VL
+-- the last network that carries its link failed, and with it the frame of a sub-VL
 pub record FailsNext (old new : Held) (lines after : Lines) : Type 0 where
   pub frame : List ℕ
   pub gives : Gives old frame new
-  pub same : log after ≡ log lines
-  pub down : is_alive after ≡ false
+  pub same : after.logged ≡ lines.logged
+  pub down : stands_for old.of.link.networks after ≡ false
 
 -- a sub-VL had something when it was asked, and gave its next frame
 pub record GivesFrame (old : Held) (frame : List ℕ) (new : Held) : Type 0 where
@@ -227,8 +228,8 @@ held_view old new = record {
 }
 
 -- One turn of a link, whose sub-VLs are asked by looks into their queues.
-abbrev pub Serves : ℕ → ℕ → Pace → (old new : List Held) → (lines after : Lines) → Served → Type 0
-Serves now vl pace old new lines after did = Turn now vl pace (held_view old new) lines after did
+abbrev pub Serves : ℕ → LinkPlan → Pace → (old new : List Held) → (lines after : Lines) → Served → Type 0
+Serves now plan pace old new lines after did = Turn now plan pace (held_view old new) lines after did
 
 -- where no frame was lost, the regulation is again where the stream is
 abbrev pub Follows : ℕ → Pace → Lines → Served → Type 0

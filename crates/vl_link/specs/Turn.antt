@@ -1,9 +1,11 @@
 -- One turn of a virtual link, by what is known of its sub-VLs, and the turns of links in order.
-use Rattle.std.specs.Prelude.{ℕ, zero, suc, ◌≡◌, ◌⊎◌, ◌+◌, ◌<◌, ◌≤◌, List, [], ◌∷◌, ◌++◌, Bool, true, false, length}
+use Rattle.std.specs.Prelude.{ℕ, zero, suc, ◌≡◌, ◌⊎◌, ◌+◌, ◌<◌, ◌≤◌, List, [], ◌∷◌, ◌++◌, Bool, true, false, ◌&&◌, length}
+use Rattle.afdx_plan.specs.declared.link_plan.LinkPlan.{LinkPlan}
 use Rattle.afdx_frame.specs.declared.net.Net.TheVariants.{A}
 use Rattle.afdx_frame.specs.Header.{IsFrameOf}
 use Rattle.redundant_mux.specs.Entry.{Entry, entry}
-use Rattle.redundant_mux.specs.Lines.{Lines, is_alive, log}
+use Rattle.redundant_mux.specs.Logged.{logged_for}
+use Rattle.redundant_mux.specs.Lines.{Lines, BothEndure, stands_for}
 use Rattle.vl_shaper.specs.Pace.{Pace, is_due, turn_of}
 use Rattle.vl_link.specs.declared.served.Served.{Served}
 use Rattle.vl_link.specs.declared.served.Served.TheVariants.{Nothing, Released, Lost}
@@ -30,39 +32,45 @@ pub record NoneHas (pace : Pace) (lacks rests : ℕ → Type 0) : Type 0 where
   pub each : (s : ℕ) → s < pace.sub_vls → lacks s
   pub others : (s : ℕ) → pace.sub_vls ≤ s → rests s
 
--- the sub-VL that was chosen gave a frame with this number, and a network took it
-pub record Releases (now vl : ℕ) (pace : Pace) (view : TurnView) (sub number : ℕ)
+-- a link may release a frame: it is due, and a network that carries it stands
+abbrev pub may_release : ℕ → LinkPlan → Pace → Lines → Bool
+may_release now plan pace lines = is_due pace.gap pace.last now && stands_for plan.networks lines
+
+-- the sub-VL that was chosen gave a frame with this number, and a network that carries the link took it
+pub record Releases (now : ℕ) (plan : LinkPlan) (pace : Pace) (view : TurnView) (sub number : ℕ)
     (lines after : Lines) : Type 0 where
   pub frame : List ℕ
   pub choice : IsChoice pace (λ s. view.gives s frame) view.lacks view.rests sub
-  pub of : IsFrameOf vl sub number A frame
-  pub enters : log after ≡ log lines ++ entry now frame ∷ []
-  pub alive : is_alive after ≡ true
+  pub of : IsFrameOf plan.id.0 sub number A frame
+  pub enters : after.logged ≡ lines.logged ++ logged_for plan.networks (entry now frame) ∷ []
+  pub stands : stands_for plan.networks after ≡ true
+  pub endure : BothEndure lines after
 
--- the last network that stood failed with the frame of the sub-VL that was chosen
-pub record Loses (pace : Pace) (view : TurnView) (lines after : Lines) : Type 0 where
+-- the last network that carries the link failed with the frame of the sub-VL that was chosen
+pub record Loses (plan : LinkPlan) (pace : Pace) (view : TurnView) (lines after : Lines) : Type 0 where
   pub sub : ℕ
   pub frame : List ℕ
   pub choice : IsChoice pace (λ s. view.gives s frame) view.lacks view.rests sub
-  pub same : log after ≡ log lines
-  pub down : is_alive after ≡ false
+  pub same : after.logged ≡ lines.logged
+  pub down : stands_for plan.networks after ≡ false
+  pub endure : BothEndure lines after
 
--- One turn of a link, by what it did. It releases nothing where it isn't due, or no sub-VL has
--- anything; where it is due and some sub-VL has something it releases one frame, now, with the
--- next number, unless the last network fails.
-abbrev pub Turn : ℕ → ℕ → Pace → TurnView → (lines after : Lines) → Served → Type 0
-Turn now vl pace view lines after Nothing =
-    (((is_due pace.gap pace.last now ≡ false) × ((s : ℕ) → view.rests s))
-    ⊎ ((is_due pace.gap pace.last now ≡ true) × NoneHas pace view.lacks view.rests))
+-- One turn of a link, by what it did. It releases nothing where it isn't due or no network that carries it
+-- stands, and then no sub-VL is asked; or where no sub-VL has anything. Where it may and some sub-VL has
+-- something it releases one frame, now, with the next number, unless the last network that carries it fails.
+abbrev pub Turn : ℕ → LinkPlan → Pace → TurnView → (lines after : Lines) → Served → Type 0
+Turn now plan pace view lines after Nothing =
+    (((may_release now plan pace lines ≡ false) × ((s : ℕ) → view.rests s))
+    ⊎ ((may_release now plan pace lines ≡ true) × NoneHas pace view.lacks view.rests))
     × (after ≡ lines)
-Turn now vl pace view lines after (Released sub number) =
-    (is_due pace.gap pace.last now ≡ true)
+Turn now plan pace view lines after (Released sub number) =
+    (may_release now plan pace lines ≡ true)
     × (number ≡ pace.next)
-    × Releases now vl pace view sub number lines after
-Turn now vl pace view lines after Lost =
-    (is_due pace.gap pace.last now ≡ true) × Loses pace view lines after
+    × Releases now plan pace view sub number lines after
+Turn now plan pace view lines after Lost =
+    (may_release now plan pace lines ≡ true) × Loses plan pace view lines after
 
--- whether a turn lost the last network
+-- whether a turn lost a frame with the last network that carries its link
 abbrev pub is_lost : Served → Bool
 is_lost Nothing = false
 is_lost (Released sub number) = false
@@ -80,7 +88,7 @@ HasHeaders Nothing frame = Unit {0}
 HasHeaders (Released sub number) frame = 22 ≤ length frame
 HasHeaders Lost frame = Unit {0}
 
--- so many links have their turns in order, from a place on, and the last network isn't lost
+-- so many links have their turns in order, from a place on
 abbrev pub AreTurns : (ℕ → (lines after : Lines) → Served → Type 0) → (k many : ℕ)
     → (lines after : Lines) → Type 0
 AreTurns IsTurn k zero lines after = after ≡ lines
@@ -88,14 +96,4 @@ AreTurns IsTurn k (suc many) lines after =
     (mid : Lines)
     × (did : Served)
     × IsTurn k lines mid did
-    × (is_lost did ≡ false)
     × AreTurns IsTurn (k + 1) many mid after
-
--- at one of so many links the last network is lost, and the links behind it have no turn
-pub record BreaksOff (IsTurn : ℕ → (lines after : Lines) → Served → Type 0) (many : ℕ)
-    (lines after : Lines) : Type 0 where
-  pub at : ℕ
-  pub within : at < many
-  pub mid : Lines
-  pub before : AreTurns IsTurn 0 at lines mid
-  pub turn : IsTurn at mid after Lost

@@ -8,7 +8,7 @@ mod served;
 mod sub;
 mod sub_vl;
 
-pub use link::{Link, some_stands};
+pub use link::Link;
 pub use served::Served;
 pub use sub::Sub;
 pub use sub_vl::SubVl;

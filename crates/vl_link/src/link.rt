@@ -1,14 +1,14 @@
 //! A link: its sub-VLs in turn.
-ghost use Rattle.std.specs.Prelude.{◌≡◌, ◌≢◌, ℕ, ◌+◌, ◌<◌, ◌≤◌, [], ◌∷◌, ◌++◌, true, false, ◌||◌, Some, length, IfSome, IfNone};
+ghost use Rattle.std.specs.Prelude.{◌≡◌, ◌≢◌, ℕ, ◌+◌, ◌<◌, ◌≤◌, [], ◌∷◌, ◌++◌, true, false, Some, length, IfSome, IfNone};
 ghost use Rattle.afdx_plan.specs.Numbers.{sequence_number};
 ghost use Rattle.vl_shaper.specs.Pace.{IsLater, is_due};
-ghost use Rattle.redundant_mux.specs.Lines.{BothEndure, is_alive, log};
+ghost use Rattle.redundant_mux.specs.Lines.{BothEndure, log};
 ghost use Rattle.afdx_legal.specs.Streams.{link_stream};
 ghost use Rattle.redundant_mux.specs.Entry.{entry};
 ghost use Rattle.afdx_frame.specs.declared.net.Net.TheVariants.{A as ForA};
 ghost use Rattle.afdx_frame.specs.Header.{IsFrameOf};
 ghost use Rattle.vl_link.specs.Links.{pace_of, AreSubsOf, IsSameSub, AreSameSubs, Serves, Follows, SendsNext, FailsNext, IsPicked, PassedOver};
-ghost use Rattle.vl_link.specs.Turn.{entered, HasHeaders};
+ghost use Rattle.vl_link.specs.Turn.{entered, may_release, HasHeaders};
 ghost use Rattle.vl_link.specs.LinkDone.{TellsSubsDone};
 ghost use Rattle.vl_link.specs.LinkGathering.{AreFullSubs, GathersSubs};
 
@@ -17,7 +17,7 @@ use crate::served::Served;
 use crate::sub::Sub;
 use afdx_frame::Frame;
 use afdx_plan::{LinkPlan, VlId};
-use redundant_mux::{Mux, Network, Standing};
+use redundant_mux::{Mux, Network};
 use status_board::Counts;
 use std::alloc::AllocError;
 use std::marker::Model;
@@ -41,14 +41,8 @@ fn choose(shaper: &Shaper, subs: &mut [Sub]) -> Option<u8>
     None
 }
 
-/// Whether some network stands.
-pub fn some_stands(standing: &Standing) -> bool
-    ensures { result ≡ (standing.now.a || standing.now.b) }
-{
-    standing.a || standing.b
-}
-
-/// Sends the next frame of a sub-VL, and answers its number. None: no network stands any more.
+/// Sends the next frame of a sub-VL, and answers its number. None: no network that carries its link
+/// stands any more.
 fn send_next<A: Network + Drop, B: Network + Drop>(
     shaper: &mut Shaper,
     sub: &mut Sub,
@@ -60,7 +54,6 @@ fn send_next<A: Network + Drop, B: Network + Drop>(
     requires below { sub.old.of.sub < shaper.old.sub_vls }
     requires later { IsLater shaper.old.last now }
     requires due { is_due shaper.old.gap shaper.old.last now ≡ true }
-    requires alive { is_alive mux.old ≡ true }
     ensures number { IfSome result (λ number. number ≡ shaper.old.next) }
     ensures released { IfSome result
         (λ number. SendsNext now number sub.old sub.new mux.old mux.new) }
@@ -77,21 +70,19 @@ fn send_next<A: Network + Drop, B: Network + Drop>(
     ensures sub_vls { shaper.new.sub_vls ≡ shaper.old.sub_vls }
     ensures endure { BothEndure mux.old mux.new }
 {
+    let networks = sub.networks();
     let number = shaper.stamp(now, sub.index());
     sub.write_next(number, frame);
-    match mux.hand(now, frame) {
-        Ok(standing) => {
-            if some_stands(&standing) {
-                Some(number)
-            } else {
-                None
-            }
-        }
-        Err(_) => None,
+    // Where both networks are down, none stands for the link either.
+    let _standing = mux.hand(now, frame, networks);
+    if mux.stands_for(networks) {
+        Some(number)
+    } else {
+        None
     }
 }
 
-/// One turn of the parts of a link that is due.
+/// One turn of the parts of a link that may release a frame.
 fn serve_due<A: Network + Drop, B: Network + Drop>(
     plan: &LinkPlan,
     shaper: &mut Shaper,
@@ -103,11 +94,10 @@ fn serve_due<A: Network + Drop, B: Network + Drop>(
     requires count { length subs.old ≡ shaper.old.sub_vls }
     requires named { AreSubsOf plan.now subs.old }
     requires later { IsLater shaper.old.last now }
-    requires due { is_due shaper.old.gap shaper.old.last now ≡ true }
-    requires alive { is_alive mux.old ≡ true }
+    requires may { may_release now plan.now shaper.old mux.old ≡ true }
     requires paced { shaper.old ≡ pace_of shaper.old.gap shaper.old.sub_vls
         (link_stream plan.now.id.0 (log mux.old)) }
-    ensures serves { Serves now plan.now.id.0 shaper.old
+    ensures serves { Serves now plan.now shaper.old
         subs.old subs.new mux.old mux.new result }
     ensures paced { Follows plan.now.id.0 shaper.new mux.new result }
     ensures entered { link_stream plan.now.id.0 (log mux.new)
@@ -154,7 +144,8 @@ fn gather_subs(subs: &mut [Sub])
 }
 
 /// A virtual link: its sub-VLs and its regulation. Contracts see its plan, its regulation, its
-/// sub-VLs, whether a frame of it was lost with the last network, and the counts of what it sent.
+/// sub-VLs, whether a frame of it was lost with the last network that carries it, and the counts of
+/// what it sent.
 #[derive(Drop)]
 pub struct Link {
     end_system: u16,
@@ -186,13 +177,13 @@ impl Link {
     ghost use Rattle.std.specs.Prelude.{◌≡◌, ℕ, ◌||◌, length, true, false, None};
     ghost use Rattle.afdx_plan.specs.Numbers.{sequence_number};
     ghost use Rattle.afdx_plan.specs.Plan.{IsLink, bag_micros};
-    ghost use Rattle.vl_shaper.specs.Pace.{IsLater, is_due};
-    ghost use Rattle.redundant_mux.specs.Lines.{BothEndure, is_alive, log};
+    ghost use Rattle.vl_shaper.specs.Pace.{IsLater};
+    ghost use Rattle.redundant_mux.specs.Lines.{BothEndure, log};
     ghost use Rattle.afdx_legal.specs.Streams.{link_stream};
     ghost use Rattle.afdx_legal.specs.Counting.{counts_in};
     ghost use Rattle.status_board.specs.History.{zeros};
     ghost use Rattle.vl_link.specs.Links.{LinkState, AreNamed, Serves, Follows, IsSameLink, pace_of};
-    ghost use Rattle.vl_link.specs.Turn.{is_lost};
+    ghost use Rattle.vl_link.specs.Turn.{is_lost, may_release};
     ghost use Rattle.vl_link.specs.LinkDone.{TellsLinkDone};
     ghost use Rattle.vl_link.specs.LinkGathering.{AreFullSubs, GathersLink};
     ghost use Rattle.std.specs.Prelude.{◌<◌, ◌≤◌, Some, IfOk, IfErr};
@@ -255,17 +246,23 @@ impl Link {
         subs_done(&self.subs)
     }
 
-    /// Whether it may release a frame at a moment, in microseconds.
+    /// Whether it may release a frame at a moment, in microseconds: it is due, and a network that carries
+    /// it stands.
     #[inline(always)]
-    pub fn is_due(&self, now: u64) -> bool
+    pub fn may_release<A: Network + Drop, B: Network + Drop>(
+        &self,
+        mux: &Mux<A, B>,
+        now: u64,
+    ) -> bool
         requires { IsLater self.now.pace.last now }
-        ensures { result ≡ is_due self.now.pace.gap self.now.pace.last now }
+        ensures { result ≡ may_release now self.now.plan self.now.pace mux.now }
     {
-        self.shaper.due(now)
+        // Most links aren't due at most polls: that costs a comparison.
+        self.shaper.due(now) && mux.stands_for(self.plan.networks)
     }
 
-    /// One turn of the link at a moment, in microseconds, at which it is due. The frame is made in a
-    /// kept buffer.
+    /// One turn of the link at a moment, in microseconds, at which it may release a frame. The frame is
+    /// made in a kept buffer.
     pub fn serve<A: Network + Drop, B: Network + Drop>(
         &mut self,
         frame: &mut Frame,
@@ -273,12 +270,11 @@ impl Link {
         now: u64,
     ) -> Served
         requires later { IsLater self.old.pace.last now }
-        requires due { is_due self.old.pace.gap self.old.pace.last now ≡ true }
-        requires alive { is_alive mux.old ≡ true }
+        requires may { may_release now self.old.plan self.old.pace mux.old ≡ true }
         requires paced { self.old.pace ≡ pace_of self.old.pace.gap self.old.pace.sub_vls
             (link_stream self.old.plan.id.0 (log mux.old)) }
         requires counted { self.old.counts ≡ counts_in (link_stream self.old.plan.id.0 (log mux.old)) }
-        ensures serves { Serves now self.old.plan.id.0 self.old.pace
+        ensures serves { Serves now self.old.plan self.old.pace
             self.old.subs self.new.subs mux.old mux.new result }
         ensures paced { Follows self.new.plan.id.0 self.new.pace mux.new result }
         ensures counted { self.new.counts ≡ counts_in (link_stream self.new.plan.id.0 (log mux.new)) }

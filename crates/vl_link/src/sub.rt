@@ -9,7 +9,7 @@ ghost use Rattle.vl_link.specs.Links.{left_of, TellsCutting};
 use crate::queue::Queue;
 use crate::sub_vl::SubVl;
 use afdx_frame::{Cut, Frame, Net};
-use afdx_plan::PortPlan;
+use afdx_plan::{Networks, PortPlan};
 use std::alloc::AllocError;
 use std::marker::Model;
 use subvl_queue::{Item, Receiver, Sender};
@@ -81,6 +81,13 @@ impl Sub {
         ensures { result ≡ self.now.of.sub }
     {
         self.of.sub
+    }
+
+    /// The networks that carry its link.
+    pub fn networks(&self) -> Networks
+        ensures { result ≡ self.now.of.link.networks }
+    {
+        self.of.link.networks
     }
 
     /// Whether there is something to send, which is then being sent. The queue is looked into only

@@ -1,4 +1,4 @@
-use Rattle.std.proofs.Common.{ℕ, ◌≡◌, ◌+◌, ◌<◌, length, get_or, set, arith, ◌∙◌, sym, subst, below_more, rules}
+use Rattle.std.proofs.Common.{◌≡◌, ◌<◌, length, get_or, arith, ◌∙◌, sym, subst, below_more, rules}
 use Rattle.std.proofs.lemmas.List.{get_or_default, get_or-set_same, get_or-set_other, length-set}
 use Rattle.vl_link.specs.Links.{LinkState, link_at, no_link}
 use Rattle.vl_link.specs.LinkGathering.{AreFullSubs, GathersLink}

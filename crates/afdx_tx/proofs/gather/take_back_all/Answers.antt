@@ -1,4 +1,4 @@
-use Rattle.std.proofs.Common.{rules, refl, ℕ, ◌≡◌, ◌<◌, ◌⊎◌, inl, inr, ⊎_elim, List, [], ◌∷◌, ◌++◌, length, set, arith, ap, ◌∙◌, sym, subst, Option, Some}
+use Rattle.std.proofs.Common.{rules, ℕ, ◌≡◌, ◌<◌, ◌⊎◌, inl, inr, ⊎_elim, List, [], ◌∷◌, ◌++◌, length, set, arith, ap, ◌∙◌, sym, subst, Option, Some}
 use Rattle.std.specs.Prelude.{All, Contains}
 use Rattle.std.proofs.lemmas.List.{get_or_default}
 use Rattle.std.proofs.lemmas.List.Elements.{All-weaker, All-contains, All-contains_itself, Contains-push, Contains-push_cases, Contains-append_left}
@@ -9,7 +9,7 @@ use Rattle.subvl_queue.specs.Views.{QueueName, SenderView}
 use Rattle.vl_link.specs.Seen.{queue_of}
 use Rattle.vl_link.specs.Links.{LinkState, held_at, link_at, no_link}
 use Rattle.vl_link.specs.LinkSenders.{LinkTakesBack}
-use Rattle.afdx_tx.specs.Emitter.{AreLinksOf, queues_in}
+use Rattle.afdx_tx.specs.Emitter.{queues_in}
 use Rattle.afdx_tx.specs.Ports.{PortView, BelongsTo, HasOwnMessages, queue_for, queue_at}
 use Rattle.afdx_tx.specs.Gathering.{OnlyTakeBack, IsTakenBack}
 use Rattle.afdx_tx.proofs.SoundEmitter.{count_is}

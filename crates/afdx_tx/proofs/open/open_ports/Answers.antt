@@ -1,4 +1,4 @@
-use Rattle.std.proofs.Common.{ℕ, ◌≡◌, ◌+◌, ◌<◌, List, [], ◌∷◌, ◌++◌, length, take, get_or, refl, arith, ap, ◌∙◌, sym, subst, below_more, rules}
+use Rattle.std.proofs.Common.{ℕ, ◌≡◌, ◌<◌, List, [], ◌∷◌, ◌++◌, length, take, get_or, refl, arith, ap, ◌∙◌, sym, subst, below_more, rules}
 use Rattle.std.proofs.lemmas.List.{get_or_default, get_or_append_left, get_or_push, length-append}
 use Rattle.std.proofs.Math.Seq.{take-length}
 use Rattle.afdx_plan.specs.declared.port_plan.PortPlan.{PortPlan}
@@ -6,7 +6,7 @@ use Rattle.subvl_queue.specs.Messages.{most_calls}
 use Rattle.vl_link.specs.Links.{LinkState, link_at, held_at, no_link}
 use Rattle.vl_link.specs.LinkSenders.{LacksSender, LinkMakesSender}
 use Rattle.afdx_tx.specs.Emitter.{queues_in, AreOpenedLinks}
-use Rattle.afdx_tx.specs.Ports.{PortView, IsFreshPort, ArePortsOf}
+use Rattle.afdx_tx.specs.Ports.{PortView, IsFreshPort}
 use Rattle.afdx_tx.proofs.PortSeats.{IsAt, place_at}
 use Rattle.afdx_tx.proofs.OpenedPorts.{lacks_at, opened_more, names_more, fresh_port}
 use Rattle.afdx_tx.proofs.open.open_ports.Goals as goal

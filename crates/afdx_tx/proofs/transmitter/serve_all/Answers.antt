@@ -1,26 +1,29 @@
-use Rattle.std.proofs.Common.{◌++◌, ◌≡◌, ◌<◌, ◌∙◌, ap, sym, length, subst, get_or, arith, false, rules}
+use Rattle.std.proofs.Common.{◌++◌, ◌≡◌, ◌<◌, ◌∙◌, ap, sym, length, subst, get_or, arith, true, false, rules}
+use Rattle.std.proofs.lemmas.Bool.{and_parts}
 use Rattle.std.proofs.lemmas.List.{get_or_default, set-get_or}
-use Rattle.redundant_mux.proofs.Enduring.{both_on}
 use Rattle.afdx_plan.specs.declared.identifiers.VlId.{VlId}
 use Rattle.afdx_plan.specs.declared.link_plan.LinkPlan.{LinkPlan}
-use Rattle.vl_shaper.specs.Pace.{IsLater, is_due}
-use Rattle.vl_link.specs.Links.{LinkState, link_at, no_link}
+use Rattle.vl_shaper.specs.Pace.{IsLater}
+use Rattle.redundant_mux.specs.Lines.{log}
+use Rattle.afdx_legal.specs.Streams.{link_stream}
+use Rattle.vl_link.specs.Links.{LinkState, link_at, no_link, pace_of}
+use Rattle.vl_link.specs.Turn.{may_release}
 use Rattle.vl_link.proofs.LinkTurn.{Turned}
 use Rattle.afdx_tx.specs.declared.report.Release.{Release}
 use Rattle.afdx_tx.specs.Report.{turn_release}
 use Rattle.arrayvec.specs.ArrayVec.{ArrayVec}
-use Rattle.afdx_tx.proofs.PollTurns.{turned_at, steady_more, cut_at}
+use Rattle.afdx_tx.proofs.PollTurns.{turned_at}
 use Rattle.afdx_tx.proofs.PollingLinks.{polling_none, polling_is, polling_more, polling_on}
 use Rattle.afdx_tx.proofs.transmitter.serve_all.Given
 use Rattle.afdx_tx.proofs.transmitter.serve_all.Goals as goal
-use Rattle.afdx_tx.proofs.transmitter.serve_all.Goals.{then-is_due+else-is_lost, else-is_due}
+use Rattle.afdx_tx.proofs.transmitter.serve_all.Goals.{then-may_release, else-may_release}
 
 -- the place is one of a link
-within : (g : Given.Over) (c : goal.Joined-is_due g) → c.loop-link.link-index < length c.loop-link.links
+within : (g : Given.Over) (c : goal.Joined-may_release g) → c.loop-link.link-index < length c.loop-link.links
 within g c = let q = c.loop-link.invariant.serving.steady.same.count in let r = c.loop-link-test.true in omega arith
 
 -- the link that was asked is the one at that place
-asked : (g : Given.Over) (c : goal.Joined-is_due g)
+asked : (g : Given.Over) (c : goal.Joined-may_release g)
     → get_or c.loop-link.links c.loop-link.link-index c.link-item.result
     ≡ link_at c.loop-link.links c.loop-link.link-index
 asked g c = get_or_default c.loop-link.links c.loop-link.link-index c.link-item.result no_link (within g c)
@@ -28,11 +31,11 @@ asked g c = get_or_default c.loop-link.links c.loop-link.link-index c.link-item.
 pub loop-link-init : goal.loop-link-init
 loop-link-init g c =
     let r = c.requires in
-    polling_none c.args.now c.args.links.now c.args.mux.now c.args.released.now.items r.none r.each r.kept r.later r.known r.items
-    r.alive r.whole
+    polling_none c.args.now c.args.links.now c.args.mux.now c.args.released.now.items r.none r.each r.kept r.later r.known r.carried
+    r.items r.whole
 
-pub is_due-requires : goal.is_due-requires
-is_due-requires g c =
+pub may_release-requires : goal.may_release-requires
+may_release-requires g c =
     let s = c.loop-link.invariant.serving.steady in
     let lt : c.loop-link.link-index < length c.loop-link.links =
     let q = s.same.count in let r = c.loop-link-test.true in omega arith in
@@ -40,8 +43,21 @@ is_due-requires g c =
     (sym (get_or_default c.loop-link.links c.loop-link.link-index c.link-item.result no_link lt))
     (s.later c.loop-link.link-index lt)
 
-pub serve-did-requires-clause-due : goal.serve-did-requires-clause-due
-serve-did-requires-clause-due g c = sym c.is_due.ensures ∙ c.if-is_due.true
+pub serve-did-requires-clause-may : goal.serve-did-requires-clause-may
+serve-did-requires-clause-may g c = sym c.may_release.ensures ∙ c.if-may_release.true
+
+pub serve-did-requires-clause-paced : goal.serve-did-requires-clause-paced
+serve-did-requires-clause-paced g c =
+    let s = c.loop-link.invariant.serving in
+    let i = c.loop-link.link-index in
+    let lt : c.loop-link.link-index < length c.loop-link.links =
+    let q = s.steady.same.count in let r = c.loop-link-test.true in omega arith in
+    let is = get_or_default c.loop-link.links i c.link-item.result no_link lt in
+    let may : may_release c.args.now (link_at c.loop-link.links i).plan (link_at c.loop-link.links i).pace c.loop-link.mux ≡ true =
+    subst (λ (l : LinkState). may_release c.args.now l.plan l.pace c.loop-link.mux ≡ true) is
+    (sym c.may_release.ensures ∙ c.if-may_release.true) in
+    subst (λ (l : LinkState). l.pace ≡ pace_of l.pace.gap l.pace.sub_vls (link_stream l.plan.id.0 (log c.loop-link.mux))) (sym is)
+    ((s.steady.kept i lt).paced (s.whole i lt (and_parts _ _ may).1))
 
 pub loop-link-preserved : goal.loop-link-preserved
 loop-link-preserved g c =
@@ -49,11 +65,15 @@ loop-link-preserved g c =
     let i = c.loop-link.link-index in
     let p = c.loop-link.invariant in
     let lt = within g c in
-    elim c.if-is_due.branch [
-      | then-is_due+else-is_lost w ↦
+    elim c.if-may_release.branch [
+      | then-may_release w ↦
           let e = w.serve-did.ensures in
+          let may : may_release c.args.now (link_at links i).plan (link_at links i).pace c.loop-link.mux ≡ true =
+          subst (λ (l : LinkState). may_release c.args.now l.plan l.pace c.loop-link.mux ≡ true) (asked g c)
+          (sym c.may_release.ensures ∙ w.if-may_release.true) in
           let turned : Turned c.args.now (link_at links i) w.serve-did.new.self c.loop-link.mux w.serve-did.new.mux w.serve-did.result =
-          turned_at _ _ links _ _ _ _ _ (asked g c) lt p.serving.steady.later p.serving.whole e.serves e.paced e.same e.lost e.counted in
+          turned_at _ _ links _ _ _ _ _ (asked g c) lt p.serving.steady.later (p.serving.whole i lt (and_parts _ _ may).1)
+          e.serves e.paced e.same e.lost e.counted in
           let names : w.note.new.released.items ≡ c.loop-link.released.items
           ++ turn_release (link_at links i).plan.id w.serve-did.result =
           w.note.ensures ∙ ap (λ (v : VlId). c.loop-link.released.items ++ turn_release v w.serve-did.result)
@@ -61,67 +81,21 @@ loop-link-preserved g c =
           polling_is _ _ _ _ _ _ _ _ _ _ w.links-is w.mux-is
           (ap (λ (v : ArrayVec Release). v.items) w.released-is ∙ names)
           (polling_more c.args.now i c.args.links.now links c.args.mux.now c.loop-link.mux w.serve-did.new.mux
-          w.serve-did.new.self w.serve-did.result c.loop-link.released.items p c.requires.apart lt turned
-          (sym w.is_lost.ensures ∙ w.if-is_lost.false) e.later e.endure)
-      | else-is_due w ↦
-          let early : is_due (link_at links i).pace.gap (link_at links i).pace.last c.args.now ≡ false =
-          subst (λ (l : LinkState). is_due l.pace.gap l.pace.last c.args.now ≡ false) (asked g c)
-          (sym c.is_due.ensures ∙ w.if-is_due.false) in
+          w.serve-did.new.self w.serve-did.result c.loop-link.released.items p c.requires.apart lt turned e.later e.endure)
+      | else-may_release w ↦
+          let no : may_release c.args.now (link_at links i).plan (link_at links i).pace c.loop-link.mux ≡ false =
+          subst (λ (l : LinkState). may_release c.args.now l.plan l.pace c.loop-link.mux ≡ false) (asked g c)
+          (sym c.may_release.ensures ∙ w.if-may_release.false) in
           polling_is _ _ _ _ _ _ _ _ _ _ (w.links-is ∙ set-get_or links i c.link-item.result) w.mux-is
           (ap (λ (v : ArrayVec Release). v.items) w.released-is)
-          (polling_on c.args.now i c.args.links.now links c.args.mux.now c.loop-link.mux c.loop-link.released.items p
-          c.requires.apart lt early)
+          (polling_on c.args.now i c.args.links.now links c.args.mux.now c.loop-link.mux c.loop-link.released.items p lt no)
     ]
-
--- the link at which the last network was lost had its turn
-turned_here : (g : Given.Over) (c : goal.Then-is_lost g) → c.loop-link.link-index < length c.loop-link.links
-    → Turned c.args.now (link_at c.loop-link.links c.loop-link.link-index)
-    c.serve-did.new.self c.loop-link.mux c.serve-did.new.mux c.serve-did.result
-turned_here g c lt =
-    let s = c.loop-link.invariant.serving in
-    let e = c.serve-did.ensures in
-    turned_at _ _ c.loop-link.links _ _ _ _ _
-    (get_or_default c.loop-link.links c.loop-link.link-index c.link-item.result no_link lt) lt s.steady.later s.whole
-    e.serves e.paced e.same e.lost e.counted
-
-pub returns-then-is_lost-clause-steady : goal.returns-then-is_lost-clause-steady
-returns-then-is_lost-clause-steady g c =
-    let s = c.loop-link.invariant.serving.steady in
-    let lt : c.loop-link.link-index < length c.loop-link.links =
-    let q = s.same.count in let r = c.loop-link-test.true in omega arith in
-    steady_more c.args.now c.loop-link.link-index c.args.links.now c.loop-link.links c.loop-link.mux c.serve-did.new.mux
-    c.serve-did.new.self c.serve-did.result s c.requires.apart lt (turned_here g c lt) c.serve-did.ensures.later
-
-pub returns-then-is_lost-clause-cut_short : goal.returns-then-is_lost-clause-cut_short
-returns-then-is_lost-clause-cut_short g c = λ _.
-    let s = c.loop-link.invariant.serving in
-    let lt : c.loop-link.link-index < length c.loop-link.links =
-    let q = s.steady.same.count in let r = c.loop-link-test.true in omega arith in
-    cut_at c.args.now c.loop-link.link-index c.args.links.now c.loop-link.links c.args.mux.now c.loop-link.mux
-    c.serve-did.new.mux c.serve-did.new.self c.serve-did.result s lt (sym c.is_lost.ensures ∙ c.if-is_lost.true)
-    (turned_here g c lt)
-
-pub returns-then-is_lost-clause-endure : goal.returns-then-is_lost-clause-endure
-returns-then-is_lost-clause-endure g c =
-    both_on c.args.mux.now c.loop-link.mux c.serve-did.new.mux c.loop-link.invariant.endure c.serve-did.ensures.endure
-
-pub returns-then-is_lost-clause-run : goal.returns-then-is_lost-clause-run
-returns-then-is_lost-clause-run g c = search rules
-
-pub returns-then-is_lost-clause-whole : goal.returns-then-is_lost-clause-whole
-returns-then-is_lost-clause-whole g c = search rules
-
-pub returns-then-is_lost-clause-told : goal.returns-then-is_lost-clause-told
-returns-then-is_lost-clause-told g c = search rules
 
 pub returns-clause-steady : goal.returns-clause-steady
 returns-clause-steady g c = search rules
 
 pub returns-clause-run : goal.returns-clause-run
 returns-clause-run g c = search rules
-
-pub returns-clause-cut_short : goal.returns-clause-cut_short
-returns-clause-cut_short g c = search rules
 
 pub returns-clause-whole : goal.returns-clause-whole
 returns-clause-whole g c = search rules

@@ -3,9 +3,9 @@ use Rattle.redundant_mux.specs.Lines.{BothEndure, is_alive}
 use Rattle.afdx_tx.specs.declared.report.Report.{Report}
 use Rattle.afdx_tx.specs.Emitter.{Tx}
 use Rattle.afdx_tx.specs.Report.{Polls}
-use Rattle.afdx_tx.specs.Drain.{IsDrained, IsDrainCutShort, accepted_in}
+use Rattle.afdx_tx.specs.Drain.{IsDrained, accepted_in}
 use Rattle.afdx_tx.proofs.DrainKeeps.{gathered_still, accepted_same, legal_accepted, on_ok}
-use Rattle.afdx_tx.proofs.DrainTurns.{run_drained, cut_drained}
+use Rattle.afdx_tx.proofs.DrainTurns.{run_drained}
 use Rattle.afdx_tx.proofs.draining.Draining.poll.Goals as goal
 
 pub invariant_of-self : goal.invariant_of-self
@@ -25,19 +25,13 @@ pub returns-clause-run : goal.returns-clause-run
 returns-clause-run g c =
     let inner = c.self.inside.inner in
     on_ok c.poll.result _ _
-    (λ h alive. subst (λ (d : Tx). IsDrained c.args.now d.plan (accepted_in d.links) d.lines c.poll.new.self.lines) c.self.view_is
+    (λ run. subst (λ (d : Tx). IsDrained c.args.now d.plan (accepted_in d.links) d.lines c.poll.new.self.lines) c.self.view_is
     (run_drained c.args.now inner.plan inner.links c.poll.new.self.links inner.lines c.poll.new.self.lines
-    c.poll.ensures.of_plan c.self.invariant (h alive)))
+    c.poll.ensures.of_plan c.self.invariant run))
     c.poll.ensures.run
 
-pub returns-clause-cut_short : goal.returns-clause-cut_short
-returns-clause-cut_short g c =
-    let inner = c.self.inside.inner in
-    on_ok c.poll.result _ _
-    (λ h down. subst (λ (d : Tx). IsDrainCutShort c.args.now d.plan (accepted_in d.links) d.lines c.poll.new.self.lines) c.self.view_is
-    (cut_drained c.args.now inner.plan inner.links c.poll.new.self.links inner.lines c.poll.new.self.lines
-    c.poll.ensures.of_plan c.self.invariant (h down)))
-    c.poll.ensures.cut_short
+pub returns-clause-streams : goal.returns-clause-streams
+returns-clause-streams g c = search rules
 
 pub returns-clause-both_down : goal.returns-clause-both_down
 returns-clause-both_down g c =

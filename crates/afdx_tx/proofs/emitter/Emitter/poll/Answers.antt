@@ -1,9 +1,9 @@
-use Rattle.std.proofs.Common.{ℕ, ◌≡◌, true, false, IfOk, OnOk, subst, rules}
-use Rattle.redundant_mux.specs.Lines.{BothEndure, is_alive}
+use Rattle.std.proofs.Common.{ℕ, ◌≡◌, IfOk, OnOk, subst, rules}
+use Rattle.redundant_mux.specs.Lines.{BothEndure}
 use Rattle.afdx_tx.specs.declared.report.Report.{Report}
 use Rattle.afdx_tx.specs.Emitter.{Tx, queues_in, total_in}
 use Rattle.afdx_tx.specs.Report.{Polls}
-use Rattle.afdx_tx.specs.Run.{IsRun, IsCutShort}
+use Rattle.afdx_tx.specs.Run.{IsRun}
 use Rattle.afdx_tx.proofs.SoundEmitter.{receiving_still, same_queues, same_totals}
 use Rattle.afdx_tx.proofs.emitter.Emitter.poll.Goals as goal
 
@@ -27,13 +27,11 @@ returns-clause-told g c =
 
 pub returns-clause-run : goal.returns-clause-run
 returns-clause-run g c =
-    subst (λ (t : Tx). OnOk c.poll.result (is_alive c.poll.new.self.lines ≡ true
-    → IsRun c.args.now t.links c.poll.new.self.links t.lines c.poll.new.self.lines)) c.self.view_is c.poll.ensures.run
+    subst (λ (t : Tx). OnOk c.poll.result (IsRun c.args.now t.links c.poll.new.self.links t.lines c.poll.new.self.lines))
+    c.self.view_is c.poll.ensures.run
 
-pub returns-clause-cut_short : goal.returns-clause-cut_short
-returns-clause-cut_short g c =
-    subst (λ (t : Tx). OnOk c.poll.result (is_alive c.poll.new.self.lines ≡ false
-    → IsCutShort c.args.now t.links c.poll.new.self.links t.lines c.poll.new.self.lines)) c.self.view_is c.poll.ensures.cut_short
+pub returns-clause-streams : goal.returns-clause-streams
+returns-clause-streams g c = search rules
 
 pub returns-clause-endure : goal.returns-clause-endure
 returns-clause-endure g c =

@@ -5,18 +5,19 @@ use Rattle.std.specs.Vec.{with_items}
 use Rattle.redundant_mux.specs.Lines.{BothEndure, is_alive, log}
 use Rattle.redundant_mux.proofs.Enduring.{both_none}
 use Rattle.vl_link.specs.Links.{LinkState}
-use Rattle.vl_link.proofs.Standing.{alive_is}
+use Rattle.afdx_plan.specs.declared.link_plan.LinkPlan.{LinkPlan}
+use Rattle.afdx_legal.specs.Own.{AreOwnStreams}
 use Rattle.afdx_legal.specs.Legal.{IsLegal}
 use Rattle.afdx_legal.specs.Allowed.{AreAllowed}
 use Rattle.afdx_legal.specs.Turns.{TakeTurns}
-use Rattle.afdx_tx.specs.Emitter.{Tx, AreApart, HaveOwnItems, IsSound, taken_in}
+use Rattle.afdx_tx.specs.Emitter.{Tx, plans, AreApart, AreCarried, AreWhole, HaveOwnItems, IsSound, taken_in}
 use Rattle.afdx_tx.specs.Drain.{accepted_in}
 use Rattle.afdx_tx.specs.Publishing.{Reaches}
 use Rattle.afdx_tx.specs.Report.{IsTold}
-use Rattle.afdx_tx.specs.Run.{IsRun, IsCutShort}
+use Rattle.afdx_tx.specs.Run.{IsRun}
 use Rattle.afdx_tx.specs.Serving.{IsSteady}
 use Rattle.afdx_tx.proofs.Publishing.{reaches_on}
-use Rattle.afdx_tx.proofs.SoundEmitter.{links_apart, sound_after, sound_legal}
+use Rattle.afdx_tx.proofs.SoundEmitter.{links_apart, sound_after, sound_legal, sound_streams}
 use Rattle.afdx_tx.proofs.TurnsKept.{sound_turns}
 use Rattle.afdx_tx.proofs.PortMessages.{taken_allowed, accepted_allowed}
 use Rattle.afdx_tx.proofs.transmitter.Transmitter.poll.Given
@@ -28,24 +29,24 @@ serve_all-requires-clause-apart g c =
     (links_apart c.self.inside.config c.self.inside.links.items c.self.invariant.0.valid c.self.invariant.0.of_plan)
 
 -- the links that the transmitter then has
-links_are : (g : Given.Over) (c : goal.After-standing-2 g)
+links_are : (g : Given.Over) (c : goal.After-standing g)
     → (with_items c.self.inside.links c.serve_all.new.links).items ≡ c.serve_all.new.links
 links_are g c = with_items_is c.self.inside.links c.serve_all.new.links
     (c.serve_all.ensures.steady.same.count ∙ c.deref_mut.ensures.len)
 
 -- what the turns kept, over the links that it had
-steady : (g : Given.Over) (c : goal.After-standing-2 g)
+steady : (g : Given.Over) (c : goal.After-standing g)
     → IsSteady c.args.now c.self.inside.links.items c.serve_all.new.links c.serve_all.new.mux
 steady g c = subst (λ (ls : List LinkState). IsSteady c.args.now ls c.serve_all.new.links c.serve_all.new.mux)
     c.deref_mut.ensures.value c.serve_all.ensures.steady
 
 -- the transmitter that a poll leaves is sound
-sound : (g : Given.Over) (c : goal.After-standing-2 g)
+sound : (g : Given.Over) (c : goal.After-standing g)
     → IsSound c.self.inside.config (with_items c.self.inside.links c.serve_all.new.links).items c.serve_all.new.mux c.args.now
 sound g c =
     subst (λ (ls : List LinkState). IsSound c.self.inside.config ls c.serve_all.new.mux c.args.now) (sym (links_are g c))
     (sound_after c.self.inside.config c.self.inside.links.items c.serve_all.new.links c.serve_all.new.mux c.args.now
-    c.self.invariant.0.valid c.self.invariant.0.of_plan (steady g c) c.standing-2.ensures.mirrored c.serve_all.ensures.whole)
+    c.self.invariant.0.valid c.self.invariant.0.of_plan (steady g c) c.standing.ensures.mirrored c.serve_all.ensures.whole)
 
 pub invariant_of-self : goal.invariant_of-self
 invariant_of-self g c =
@@ -70,8 +71,8 @@ returns-clause-turns g c =
     sound_turns c.self.inside.config (with_items c.self.inside.links c.serve_all.new.links).items c.serve_all.new.mux c.args.now
     (sound g c)
 
-pub returns-then-not-some_stands-clause-turns : goal.returns-then-not-some_stands-clause-turns
-returns-then-not-some_stands-clause-turns g c =
+pub returns-then-not-stands_for-clause-turns : goal.returns-then-not-stands_for-clause-turns
+returns-then-not-stands_for-clause-turns g c =
     subst (λ (t : Tx). TakeTurns t.plan t.lines.a t.lines.b) c.self.view_is
     (sound_turns c.self.inside.config c.self.inside.links.items c.self.inside.mux c.self.inside.moment c.self.invariant.0)
 
@@ -85,99 +86,104 @@ returns-clause-accepted g c =
     accepted_allowed c.self.inside.config (with_items c.self.inside.links c.serve_all.new.links).items (sound g c).of_plan
     (sound g c).items
 
-pub returns-then-not-some_stands-clause-taken : goal.returns-then-not-some_stands-clause-taken
-returns-then-not-some_stands-clause-taken g c =
+pub returns-then-not-stands_for-clause-taken : goal.returns-then-not-stands_for-clause-taken
+returns-then-not-stands_for-clause-taken g c =
     subst (λ (t : Tx). AreAllowed t.plan (taken_in t.links)) c.self.view_is
     (taken_allowed c.self.inside.config c.self.inside.links.items c.self.invariant.0.of_plan c.self.invariant.0.items)
 
-pub returns-then-not-some_stands-clause-accepted : goal.returns-then-not-some_stands-clause-accepted
-returns-then-not-some_stands-clause-accepted g c =
+pub returns-then-not-stands_for-clause-accepted : goal.returns-then-not-stands_for-clause-accepted
+returns-then-not-stands_for-clause-accepted g c =
     subst (λ (t : Tx). AreAllowed t.plan (accepted_in t.links)) c.self.view_is
     (accepted_allowed c.self.inside.config c.self.inside.links.items c.self.invariant.0.of_plan c.self.invariant.0.items)
 
 pub returns-clause-tied : goal.returns-clause-tied
 returns-clause-tied g c = λ k lt whole. ((sound g c).kept k lt).tied whole
 
-pub returns-then-not-some_stands-clause-legal : goal.returns-then-not-some_stands-clause-legal
-returns-then-not-some_stands-clause-legal g c =
+pub returns-then-not-stands_for-clause-legal : goal.returns-then-not-stands_for-clause-legal
+returns-then-not-stands_for-clause-legal g c =
     subst (λ (t : Tx). IsLegal t.plan (taken_in t.links) t.lines.a t.lines.b) c.self.view_is
     (sound_legal c.self.inside.config c.self.inside.links.items c.self.inside.mux c.self.inside.moment c.self.invariant.0)
 
 pub returns-clause-run : goal.returns-clause-run
-returns-clause-run g c = λ alive.
+returns-clause-run g c =
     subst (λ (t : Tx). IsRun c.args.now t.links (with_items c.self.inside.links c.serve_all.new.links).items t.lines
     c.serve_all.new.mux) c.self.view_is
     (subst (λ (ls : List LinkState). IsRun c.args.now c.self.inside.links.items ls c.self.inside.mux c.serve_all.new.mux)
     (sym (links_are g c))
     (subst (λ (ls : List LinkState). IsRun c.args.now ls c.serve_all.new.links c.self.inside.mux c.serve_all.new.mux)
-    c.deref_mut.ensures.value (c.serve_all.ensures.run alive)))
+    c.deref_mut.ensures.value c.serve_all.ensures.run))
 
-pub returns-clause-cut_short : goal.returns-clause-cut_short
-returns-clause-cut_short g c = λ down.
-    subst (λ (t : Tx). IsCutShort c.args.now t.links (with_items c.self.inside.links c.serve_all.new.links).items t.lines
-    c.serve_all.new.mux) c.self.view_is
-    (subst (λ (ls : List LinkState). IsCutShort c.args.now c.self.inside.links.items ls c.self.inside.mux c.serve_all.new.mux)
-    (sym (links_are g c))
-    (subst (λ (ls : List LinkState). IsCutShort c.args.now ls c.serve_all.new.links c.self.inside.mux c.serve_all.new.mux)
-    c.deref_mut.ensures.value (c.serve_all.ensures.cut_short down)))
+pub serve_all-requires-clause-whole : goal.serve_all-requires-clause-whole
+serve_all-requires-clause-whole g c =
+    subst (λ (ls : List LinkState). AreWhole ls c.self.inside.mux) (sym c.deref_mut.ensures.value) c.self.invariant.0.whole
 
-pub serve_all-requires-clause-alive : goal.serve_all-requires-clause-alive
-serve_all-requires-clause-alive g c =
-    alive_is c.self.inside.mux _ _ _ true c.standing.ensures.a c.standing.ensures.b c.some_stands.ensures c.if-not-some_stands.false
+pub serve_all-requires-clause-carried : goal.serve_all-requires-clause-carried
+serve_all-requires-clause-carried g c =
+    subst (λ (ls : List LinkState). AreCarried (plans ls) c.self.inside.mux.logged) (sym c.deref_mut.ensures.value)
+    (subst (λ (ps : List LinkPlan). AreCarried ps c.self.inside.mux.logged) (sym c.self.invariant.0.of_plan.each_plan)
+    c.self.invariant.0.carried)
+
+pub returns-clause-streams : goal.returns-clause-streams
+returns-clause-streams g c =
+    sound_streams c.self.inside.config (with_items c.self.inside.links c.serve_all.new.links).items c.serve_all.new.mux c.args.now
+    (sound g c)
+
+pub returns-then-not-stands_for-clause-streams : goal.returns-then-not-stands_for-clause-streams
+returns-then-not-stands_for-clause-streams g c =
+    subst (λ (t : Tx). AreOwnStreams t.plan (log t.lines) t.lines.a t.lines.b) c.self.view_is
+    (sound_streams c.self.inside.config c.self.inside.links.items c.self.inside.mux c.self.inside.moment c.self.invariant.0)
 
 pub returns-clause-both_down : goal.returns-clause-both_down
 returns-clause-both_down g c =
     let up : is_alive c.args.self.now.lines ≡ true = subst (λ (t : Tx). is_alive t.lines ≡ true) c.self.view_is
-    (alive_is c.self.inside.mux _ _ _ true c.standing.ensures.a c.standing.ensures.b c.some_stands.ensures
-    c.if-not-some_stands.false) in
+    (sym c.stands_for.ensures ∙ c.if-not-stands_for.false) in
     (λ (no : false ≡ true). cc, λ (down : is_alive c.args.self.now.lines ≡ false). sym down ∙ up)
 
-pub returns-then-not-some_stands-clause-both_down : goal.returns-then-not-some_stands-clause-both_down
-returns-then-not-some_stands-clause-both_down g c =
+pub returns-then-not-stands_for-clause-both_down : goal.returns-then-not-stands_for-clause-both_down
+returns-then-not-stands_for-clause-both_down g c =
     let down : is_alive c.args.self.now.lines ≡ false = subst (λ (t : Tx). is_alive t.lines ≡ false) c.self.view_is
-    (alive_is c.self.inside.mux _ _ _ false c.standing.ensures.a c.standing.ensures.b c.some_stands.ensures
-    c.if-not-some_stands.true) in
+    (sym c.stands_for.ensures ∙ c.if-not-stands_for.true) in
     (λ _. down, λ _. refl)
 
-pub returns-then-not-some_stands-clause-unchanged : goal.returns-then-not-some_stands-clause-unchanged
-returns-then-not-some_stands-clause-unchanged g c = refl
+pub returns-then-not-stands_for-clause-unchanged : goal.returns-then-not-stands_for-clause-unchanged
+returns-then-not-stands_for-clause-unchanged g c = refl
 
 pub returns-clause-told : goal.returns-clause-told
 returns-clause-told g c = record {
   moment = refl;
   released = subst (λ (t : Tx). IsTold c.args.now c.serve_all.new.released.items t.lines c.serve_all.new.mux) c.self.view_is
       c.serve_all.ensures.told;
-  a_stands = c.standing-2.ensures.a;
-  b_stands = c.standing-2.ensures.b;
+  a_stands = c.standing.ensures.a;
+  b_stands = c.standing.ensures.b;
 }
 
 pub returns-clause-endure : goal.returns-clause-endure
 returns-clause-endure g c =
     subst (λ (t : Tx). BothEndure t.lines c.serve_all.new.mux) c.self.view_is c.serve_all.ensures.endure
 
-pub returns-then-not-some_stands-clause-endure : goal.returns-then-not-some_stands-clause-endure
-returns-then-not-some_stands-clause-endure g c = both_none c.args.self.now.lines
+pub returns-then-not-stands_for-clause-endure : goal.returns-then-not-stands_for-clause-endure
+returns-then-not-stands_for-clause-endure g c = both_none c.args.self.now.lines
 
-pub returns-then-not-some_stands-clause-tied : goal.returns-then-not-some_stands-clause-tied
-returns-then-not-some_stands-clause-tied g c = search rules
+pub returns-then-not-stands_for-clause-tied : goal.returns-then-not-stands_for-clause-tied
+returns-then-not-stands_for-clause-tied g c = search rules
 
-pub returns-then-not-some_stands-clause-plan : goal.returns-then-not-some_stands-clause-plan
-returns-then-not-some_stands-clause-plan g c = search rules
+pub returns-then-not-stands_for-clause-plan : goal.returns-then-not-stands_for-clause-plan
+returns-then-not-stands_for-clause-plan g c = search rules
 
-pub returns-then-not-some_stands-clause-board : goal.returns-then-not-some_stands-clause-board
-returns-then-not-some_stands-clause-board g c = search rules
+pub returns-then-not-stands_for-clause-board : goal.returns-then-not-stands_for-clause-board
+returns-then-not-stands_for-clause-board g c = search rules
 
-pub returns-then-not-some_stands-clause-same : goal.returns-then-not-some_stands-clause-same
-returns-then-not-some_stands-clause-same g c = search rules
+pub returns-then-not-stands_for-clause-same : goal.returns-then-not-stands_for-clause-same
+returns-then-not-stands_for-clause-same g c = search rules
 
-pub returns-then-not-some_stands-clause-of_plan : goal.returns-then-not-some_stands-clause-of_plan
-returns-then-not-some_stands-clause-of_plan g c = search rules
+pub returns-then-not-stands_for-clause-of_plan : goal.returns-then-not-stands_for-clause-of_plan
+returns-then-not-stands_for-clause-of_plan g c = search rules
 
-pub returns-then-not-some_stands-clause-told : goal.returns-then-not-some_stands-clause-told
-returns-then-not-some_stands-clause-told g c = search rules
+pub returns-then-not-stands_for-clause-told : goal.returns-then-not-stands_for-clause-told
+returns-then-not-stands_for-clause-told g c = search rules
 
-pub returns-then-not-some_stands-clause-run : goal.returns-then-not-some_stands-clause-run
-returns-then-not-some_stands-clause-run g c = search rules
+pub returns-then-not-stands_for-clause-run : goal.returns-then-not-stands_for-clause-run
+returns-then-not-stands_for-clause-run g c = search rules
 
 pub returns-clause-unchanged : goal.returns-clause-unchanged
 returns-clause-unchanged g c = search rules

@@ -1,6 +1,6 @@
-use Rattle.std.proofs.Common.{List, sym, ap, ◌∙◌, subst, arith}
+use Rattle.std.proofs.Common.{sym, ap, ◌∙◌, subst, arith}
 use Rattle.std.proofs.lemmas.Grind.{common_steps}
-use Rattle.vl_link.specs.Links.{Held, LinkState}
+use Rattle.vl_link.specs.Links.{LinkState}
 use Rattle.vl_link.specs.LinkGathering.{AreFullSubs}
 use Rattle.vl_link.proofs.link.Link.gather.Goals as goal
 

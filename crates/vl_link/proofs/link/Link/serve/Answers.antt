@@ -14,11 +14,11 @@ returns-clause-serves g c =
     let news : List Held = (with_items c.self.inside.subs c.serve_due-did.new.subs).items in
     let is : (with_items c.self.inside.subs c.serve_due-did.new.subs).items ≡ c.serve_due-did.new.subs =
     with_items_is c.self.inside.subs c.serve_due-did.new.subs (c.serve_due-did.auto.subs ∙ c.deref_mut.ensures.len) in
-    subst (λ (l : LinkState). Serves c.args.now l.plan.id.0 l.pace l.subs news c.args.mux.now c.serve_due-did.new.mux c.serve_due-did.result)
+    subst (λ (l : LinkState). Serves c.args.now l.plan l.pace l.subs news c.args.mux.now c.serve_due-did.new.mux c.serve_due-did.result)
     c.self.view_is
-    (subst (λ (xs : List Held). Serves c.args.now c.self.inside.plan.id.0 c.self.inside.shaper c.self.inside.subs.items xs
+    (subst (λ (xs : List Held). Serves c.args.now c.self.inside.plan c.self.inside.shaper c.self.inside.subs.items xs
     c.args.mux.now c.serve_due-did.new.mux c.serve_due-did.result) (sym is)
-    (subst (λ (xs : List Held). Serves c.args.now c.self.inside.plan.id.0 c.self.inside.shaper xs c.serve_due-did.new.subs
+    (subst (λ (xs : List Held). Serves c.args.now c.self.inside.plan c.self.inside.shaper xs c.serve_due-did.new.subs
     c.args.mux.now c.serve_due-did.new.mux c.serve_due-did.result) c.deref_mut.ensures.value c.serve_due-did.ensures.serves))
 
 pub returns-clause-lost : goal.returns-clause-lost

@@ -1,4 +1,4 @@
-use Rattle.std.proofs.Common.{◌≡◌, ◌∙◌, sym, ap, subst}
+use Rattle.std.proofs.Common.{sym, subst}
 use Rattle.vl_link.specs.declared.queue.End.{End}
 use Rattle.vl_link.specs.Seen.{receiving}
 use Rattle.vl_link.specs.QueueEnds.{seen_of}

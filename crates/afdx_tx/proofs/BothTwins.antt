@@ -1,0 +1,134 @@
+-- Of links on both networks, what was handed to the one is twins of what was handed to the other.
+use Rattle.std.proofs.Common.{ℕ, ◌≡◌, ◌≤◌, List, [], ◌∷◌, ◌++◌, Bool, true, false, cond, length, map, take, arith, refl, ap, ◌∙◌, sym, subst}
+use Rattle.std.specs.Prelude.{All}
+use Rattle.std.proofs.lemmas.Bool.{and_parts}
+use Rattle.std.proofs.lemmas.List.{length-map, take_all, take-append-le, take-map}
+use Rattle.std.proofs.lemmas.List.Elements.{All-tail, All-cons, All-nil, filter-append}
+use Rattle.afdx_plan.specs.declared.link_plan.LinkPlan.{LinkPlan}
+use Rattle.afdx_plan.specs.declared.networks.Networks.{Networks}
+use Rattle.afdx_plan.specs.Networks.{names_a, names_b, is_both}
+use Rattle.afdx_plan.specs.Config.{Plan, IsPlan, link_plan_at}
+use Rattle.afdx_frame.specs.declared.net.Net.{Net}
+use Rattle.afdx_frame.specs.declared.net.Net.TheVariants.{A, B}
+use Rattle.afdx_frame.specs.Header.{link_in}
+use Rattle.afdx_frame.proofs.Twins.{twin_link}
+use Rattle.redundant_mux.specs.Entry.{Entry}
+use Rattle.redundant_mux.specs.Logged.{Logged, entries_of, names, side, sent_to}
+use Rattle.redundant_mux.specs.Lines.{Lines, log, IsMirrored}
+use Rattle.afdx_legal.specs.Legal.{AreKnown, is_on_both, on_both, AreTwins}
+use Rattle.afdx_legal.proofs.OnBoth.{on_both_is}
+use Rattle.afdx_tx.specs.Emitter.{AreCarried}
+use Rattle.afdx_tx.proofs.HandedFronts.{sent_in, sent_out, all_front, log_parts}
+use Rattle.afdx_tx.proofs.OwnStreams.{sides}
+
+-- an entry is of a link on both where it was logged for both
+abbrev IsPlanned : List LinkPlan → Logged → Type 0
+IsPlanned links l = is_on_both links (link_in l.entry.frame) ≡ is_both l.networks
+
+-- known entries that are carried by their links' networks are so
+planned : (plan : Plan) (ls : List Logged) → IsPlan plan → AreKnown plan.links A (entries_of ls)
+    → AreCarried plan.links ls → All (IsPlanned plan.links) ls
+planned plan [] valid known carried = All-nil (IsPlanned plan.links)
+planned plan (l ∷ ls) valid known carried =
+    let k = known.0.k in
+    let within = known.0.within in
+    All-cons (IsPlanned plan.links) l ls
+    (ap (is_on_both plan.links) known.0.link ∙ on_both_is plan k valid within
+    ∙ ap is_both (sym (carried k within 0 l (omega arith) known.0.link)))
+    (planned plan ls valid known.1 (λ j jlt. All-tail (λ (m : Logged). link_in m.entry.frame ≡ (link_plan_at plan.links j).id.0
+    → m.networks ≡ (link_plan_at plan.links j).networks) l ls (carried j jlt)))
+
+-- so those that were logged
+logged_planned : (plan : Plan) (lines : Lines) → IsPlan plan → AreCarried plan.links lines.logged
+    → AreKnown plan.links A (log lines) → All (IsPlanned plan.links) lines.logged
+unfolding log
+logged_planned plan lines valid carried known = planned plan lines.logged valid known carried
+
+-- what is for both is for each
+both_names : (net : Net) (networks : Networks) → is_both networks ≡ true → names net networks ≡ true
+both_names A networks is = (and_parts (names_a networks) (names_b networks) is).0
+both_names B networks is = (and_parts (names_a networks) (names_b networks) is).1
+
+-- of links on both, what a network was handed is the twins of what was logged
+both_sent : (links : List LinkPlan) (net : Net) (ls : List Logged) → All (IsPlanned links) ls
+    → on_both links (sent_to net ls) ≡ map (side net) (on_both links (entries_of ls))
+both_sent links net [] own = refl
+both_sent links net (l ∷ ls) own =
+    by_both (both_sent links net ls (All-tail (IsPlanned links) l ls own)) (is_both l.networks) refl (names net l.networks) refl
+  where
+    here : is_on_both links (link_in l.entry.frame) ≡ is_both l.networks
+    here = own 0 l (omega arith)
+
+    head : (e : Entry) (es : List Entry) (t : Bool) → is_on_both links (link_in e.frame) ≡ t
+        → on_both links (e ∷ es) ≡ cond t (e ∷ on_both links es) (on_both links es)
+    head e es t is = ap (λ (b : Bool). cond b (e ∷ on_both links es) (on_both links es)) is
+
+    turned : is_on_both links (link_in (side net l.entry).frame) ≡ is_on_both links (link_in l.entry.frame)
+    turned = ap (is_on_both links) (twin_link net l.entry.frame)
+
+    by_both : on_both links (sent_to net ls) ≡ map (side net) (on_both links (entries_of ls))
+        → (t : Bool) → is_both l.networks ≡ t → (n : Bool) → names net l.networks ≡ n
+        → on_both links (sent_to net (l ∷ ls)) ≡ map (side net) (on_both links (entries_of (l ∷ ls)))
+    by_both rest true is n named =
+        ap (on_both links) (sent_in net l ls (both_names net l.networks is))
+        ∙ head (side net l.entry) (sent_to net ls) true (turned ∙ here ∙ is)
+        ∙ ap (λ (es : List Entry). side net l.entry ∷ es) rest
+        ∙ sym (ap (map (side net)) (head l.entry (entries_of ls) true (here ∙ is)))
+    by_both rest false isnt true named =
+        ap (on_both links) (sent_in net l ls named)
+        ∙ head (side net l.entry) (sent_to net ls) false (turned ∙ here ∙ isnt)
+        ∙ rest
+        ∙ sym (ap (map (side net)) (head l.entry (entries_of ls) false (here ∙ isnt)))
+    by_both rest false isnt false named =
+        ap (on_both links) (sent_out net l ls named)
+        ∙ rest
+        ∙ sym (ap (map (side net)) (head l.entry (entries_of ls) false (here ∙ isnt)))
+
+-- a list that another begins: what is taken of the one is the other
+taken_front : (xs ys zs ws : List Entry) → xs ++ ys ≡ zs ++ ws → length zs ≤ length xs → take (length zs) xs ≡ zs
+taken_front xs ys zs ws same le =
+    sym (take-append-le (length zs) xs ys le) ∙ ap (take (length zs)) same ∙ take-append-le (length zs) zs ws (omega arith)
+    ∙ take_all (length zs) zs (omega arith)
+
+-- twins of two fronts of one list
+front_twins : (xs ys zs ws : List Entry) → xs ++ ys ≡ zs ++ ws → AreTwins side (map (side A) xs) (map (side B) zs)
+front_twins xs ys zs ws same = record {
+  b_shorter = λ le. shorter B A zs xs (taken_front xs ys zs ws same (omega (arith, le, length-map xs (side A), length-map zs (side B))));
+  a_shorter = λ le. shorter A B xs zs (taken_front zs ws xs ys (sym same) (omega (arith, le, length-map xs (side A), length-map zs (side B))));
+}
+  where
+    shorter : (net other : Net) (front whole : List Entry) → take (length front) whole ≡ front
+        → map (side net) front ≡ map (side net) (take (length (map (side net) front)) (map (side other) whole))
+    shorter net other front whole is = sym (
+        ap (λ (n : ℕ). map (side net) (take n (map (side other) whole))) (length-map front (side net))
+        ∙ ap (map (side net)) (take-map (side other) (length front) whole)
+        ∙ sides net other (take (length front) whole)
+        ∙ ap (map (side net)) is)
+
+-- the entries of links on both, in two lists
+both_append : (links : List LinkPlan) (xs ys : List Entry) → on_both links (xs ++ ys) ≡ on_both links xs ++ on_both links ys
+both_append links xs ys = filter-append (λ (e : Entry). is_on_both links (link_in e.frame)) xs ys
+
+-- What was handed to the two networks of links on both is twins.
+pub both_twins : (plan : Plan) (lines : Lines) → IsPlan plan → IsMirrored lines → AreCarried plan.links lines.logged
+    → AreKnown plan.links A (log lines) → AreTwins side (on_both plan.links lines.a) (on_both plan.links lines.b)
+both_twins plan lines valid m carried known =
+    subst (λ (a : List Entry). AreTwins side a (on_both plan.links lines.b)) (sym for_a)
+    (subst (AreTwins side (map (side A) (on_both plan.links (entries_of m.first.seen)))) (sym for_b)
+    (front_twins (on_both plan.links (entries_of m.first.seen)) (on_both plan.links (entries_of m.first.missed))
+    (on_both plan.links (entries_of m.second.seen)) (on_both plan.links (entries_of m.second.missed))
+    (sym (both_append plan.links (entries_of m.first.seen) (entries_of m.first.missed))
+    ∙ ap (on_both plan.links) (sym (log_parts lines m.first.seen m.first.missed m.first.whole)
+    ∙ log_parts lines m.second.seen m.second.missed m.second.whole)
+    ∙ both_append plan.links (entries_of m.second.seen) (entries_of m.second.missed))))
+  where
+    all : All (IsPlanned plan.links) lines.logged
+    all = logged_planned plan lines valid carried known
+
+    for_a : on_both plan.links lines.a ≡ map (side A) (on_both plan.links (entries_of m.first.seen))
+    for_a = ap (on_both plan.links) m.first.got ∙ both_sent plan.links A m.first.seen
+        (all_front (IsPlanned plan.links) m.first.seen m.first.missed (subst (λ (ls : List Logged). All (IsPlanned plan.links) ls) m.first.whole all))
+
+    for_b : on_both plan.links lines.b ≡ map (side B) (on_both plan.links (entries_of m.second.seen))
+    for_b = ap (on_both plan.links) m.second.got ∙ both_sent plan.links B m.second.seen
+        (all_front (IsPlanned plan.links) m.second.seen m.second.missed (subst (λ (ls : List Logged). All (IsPlanned plan.links) ls) m.second.whole all))

@@ -1,0 +1,124 @@
+-- Each link's stream of the log is the longer of its own two.
+use Rattle.std.proofs.Common.{ℕ, ◌≡◌, ◌⊎◌, ◌<◌, ◌≤◌, List, [], ◌∷◌, ◌++◌, Bool, cond, length, map, arith, refl, ap, ◌∙◌, sym, inl, inr, ⊎_elim}
+use Rattle.std.specs.Prelude.{All}
+use Rattle.std.proofs.lemmas.Bool.{cases_lt, lt-ltb, le-ltb}
+use Rattle.std.proofs.lemmas.List.{append-nil, length-append, length-map, nil_from_length}
+use Rattle.std.proofs.lemmas.List.Elements.{All-tail}
+use Rattle.afdx_plan.specs.declared.networks.Networks.{Networks}
+use Rattle.afdx_plan.specs.declared.networks.Networks.TheVariants.{Both, OnlyA, OnlyB}
+use Rattle.afdx_plan.specs.Config.{Plan, link_plan_at}
+use Rattle.afdx_frame.specs.declared.net.Net.{Net}
+use Rattle.afdx_frame.specs.declared.net.Net.TheVariants.{A, B}
+use Rattle.afdx_frame.proofs.Twins.{twin_twice}
+use Rattle.redundant_mux.specs.Entry.{Entry, entry}
+use Rattle.redundant_mux.specs.Logged.{Logged, entries_of, side}
+use Rattle.redundant_mux.specs.Lines.{Lines, log, IsMirrored}
+use Rattle.afdx_legal.specs.Streams.{link_stream}
+use Rattle.afdx_legal.specs.Own.{longer, own_stream, AreOwnStreams}
+use Rattle.afdx_tx.specs.Emitter.{AreCarried}
+use Rattle.afdx_tx.proofs.HandedFronts.{IsFor, IsFront, link_side, named_front, named_behind, unnamed_front, whole_alone}
+
+-- twins of twins
+pub sides : (net other : Net) (H : List Entry) → map (side net) (map (side other) H) ≡ map (side net) H
+sides net other [] = refl
+sides net other (e ∷ es) =
+    ap (λ (f : List ℕ). entry e.at f ∷ map (side net) (map (side other) es)) (twin_twice net other e.frame)
+    ∙ ap (λ x. side net e ∷ x) (sides net other es)
+
+-- entries for network A are those that they are
+for_a_entries : (ls : List Logged) → All (λ (l : Logged). side A l.entry ≡ l.entry) ls
+    → map (side A) (entries_of ls) ≡ entries_of ls
+for_a_entries [] h = refl
+for_a_entries (l ∷ ls) h =
+    ap (λ (e : Entry). e ∷ map (side A) (entries_of ls)) (h 0 l (omega arith))
+    ∙ ap (λ (es : List Entry). l.entry ∷ es) (for_a_entries ls (All-tail (λ (m : Logged). side A m.entry ≡ m.entry) l ls h))
+
+-- so are those of the log
+log_for_a : (lines : Lines) → IsMirrored lines → map (side A) (log lines) ≡ log lines
+unfolding log
+log_for_a lines m = for_a_entries lines.logged m.for_a
+
+-- and of a link's stream of it
+stream_for_a : (lines : Lines) (vl : ℕ) → IsMirrored lines
+    → map (side A) (link_stream vl (log lines)) ≡ link_stream vl (log lines)
+stream_for_a lines vl m = sym (link_side A vl (log lines)) ∙ ap (link_stream vl) (log_for_a lines m)
+
+-- a list and nothing behind it
+only_front : (xs ys S : List Entry) → S ≡ xs ++ ys → ys ≡ [] → xs ≡ S
+only_front xs ys S is none = sym (is ∙ ap (λ (x : List Entry). xs ++ x) none ∙ append-nil xs)
+
+-- Of two fronts of a stream, of which one is all of it, the longer is the stream.
+longer_is : (S a b : List Entry) → map (side A) S ≡ S → (f : IsFront A S a) → (g : IsFront B S b)
+    → (f.behind ≡ []) ⊎ (g.behind ≡ []) → map (side A) (longer a b) ≡ S
+longer_is S a b own f g one = ⊎_elim
+    (λ (lt : length a < length b).
+    let all : g.front ≡ S = only_front g.front g.behind S g.is (⊎_elim
+    (λ none. nil_from_length g.behind (omega (
+      arith,
+      lt,
+      la,
+      lb,
+      ap length none,
+      ap length f.is,
+      ap length g.is,
+      length-append f.front f.behind,
+      length-append g.front g.behind,
+    )))
+    (λ none. none) one) in
+    ap (λ (t : Bool). map (side A) (cond t b a)) (lt-ltb _ _ lt) ∙ ap (map (side A)) g.got ∙ sides A B g.front
+    ∙ ap (map (side A)) all ∙ own)
+    (λ (le : length b ≤ length a).
+    let all : f.front ≡ S = only_front f.front f.behind S f.is (⊎_elim
+    (λ none. none)
+    (λ none. nil_from_length f.behind (omega (
+      arith,
+      le,
+      la,
+      lb,
+      ap length none,
+      ap length f.is,
+      ap length g.is,
+      length-append f.front f.behind,
+      length-append g.front g.behind,
+    ))) one) in
+    ap (λ (t : Bool). map (side A) (cond t b a)) (le-ltb _ _ le) ∙ ap (map (side A)) f.got ∙ sides A A f.front
+    ∙ ap (map (side A)) all ∙ own)
+    (cases_lt (length a) (length b))
+  where
+    la : length a ≡ length f.front
+    la = ap length f.got ∙ length-map f.front (side A)
+
+    lb : length b ≡ length g.front
+    lb = ap length g.got ∙ length-map g.front (side B)
+
+-- the stream of one link
+own_of : (lines : Lines) (vl : ℕ) (networks : Networks) → IsMirrored lines → All (IsFor vl networks) lines.logged
+    → link_stream vl (log lines) ≡ own_stream vl lines.a lines.b
+own_of lines vl Both m own =
+    let f = named_front A lines.a_stands lines.a lines vl Both m.first own refl in
+    let g = named_front B lines.b_stands lines.b lines vl Both m.second own refl in
+    sym (longer_is (link_stream vl (log lines)) (link_stream vl lines.a) (link_stream vl lines.b) (stream_for_a lines vl m) f g
+    (⊎_elim
+    (λ none. inl (named_behind A lines.a_stands lines.a lines vl Both m.first own refl
+    ∙ ap (λ (ls : List Logged). link_stream vl (entries_of ls)) none))
+    (λ none. inr (named_behind B lines.b_stands lines.b lines vl Both m.second own refl
+    ∙ ap (λ (ls : List Logged). link_stream vl (entries_of ls)) none))
+    m.one))
+own_of lines vl OnlyA m own =
+    let f = named_front A lines.a_stands lines.a lines vl OnlyA m.first own refl in
+    let g = unnamed_front B lines.b_stands lines.b lines vl OnlyA m.second own refl in
+    sym (longer_is (link_stream vl (log lines)) (link_stream vl lines.a) (link_stream vl lines.b) (stream_for_a lines vl m) f g
+    (inl (named_behind A lines.a_stands lines.a lines vl OnlyA m.first own refl
+    ∙ whole_alone A lines.a_stands lines.a lines vl OnlyA m.first own refl)))
+own_of lines vl OnlyB m own =
+    let f = unnamed_front A lines.a_stands lines.a lines vl OnlyB m.first own refl in
+    let g = named_front B lines.b_stands lines.b lines vl OnlyB m.second own refl in
+    sym (longer_is (link_stream vl (log lines)) (link_stream vl lines.a) (link_stream vl lines.b) (stream_for_a lines vl m) f g
+    (inr (named_behind B lines.b_stands lines.b lines vl OnlyB m.second own refl
+    ∙ whole_alone B lines.b_stands lines.b lines vl OnlyB m.second own refl)))
+
+-- Each link of a plan's is so.
+pub own_streams : (plan : Plan) (lines : Lines) → IsMirrored lines → AreCarried plan.links lines.logged
+    → AreOwnStreams plan (log lines) lines.a lines.b
+own_streams plan lines m carried k lt =
+    own_of lines (link_plan_at plan.links k).id.0 (link_plan_at plan.links k).networks m (carried k lt)

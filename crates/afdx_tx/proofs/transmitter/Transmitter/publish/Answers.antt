@@ -1,0 +1,46 @@
+use Rattle.std.proofs.Common.{◌<◌, List, length, refl, ap, ◌∙◌, subst, arith}
+use Rattle.status_board.specs.History.{NoFieldFalls}
+use Rattle.status_board.specs.Views.{Published, published, last_of, with_entry}
+use Rattle.vl_link.specs.Links.{LinkState}
+use Rattle.afdx_tx.specs.Emitter.{Tx, IsSound}
+use Rattle.afdx_tx.specs.Publishing.{Reaches, PublishesCounts, Publishes}
+use Rattle.afdx_tx.proofs.SoundEmitter.{count_is, sound_counts}
+use Rattle.afdx_tx.proofs.transmitter.Transmitter.publish.Goals as goal
+
+-- what was published of a sound transmitter's links are the counts of their own streams
+publishes : (old : Tx) (board : List Published) → IsSound old.plan old.links old.lines old.moment → Reaches old.links old.board
+    → PublishesCounts old.links old.board board → Publishes old (record old { board = board })
+publishes old board sound reaches p =
+    let count = count_is old.plan old.links sound.of_plan in
+    record {
+      same = refl;
+      count = p.count;
+      each = λ k lt.
+          let here : k < length old.links = omega arith in
+          p.each k here
+          ∙ ap (with_entry (published old.board k)) (sound_counts old.plan old.links old.lines old.moment sound k here);
+      rises = λ k lt.
+          let here : k < length old.links = omega arith in
+          subst (NoFieldFalls (last_of old.board k)) (sound_counts old.plan old.links old.lines old.moment sound k here)
+          (reaches.each k here);
+    }
+
+pub returns : goal.returns
+returns g c =
+    let inside = c.self.inside in
+    subst (λ (t : Tx). Publishes t (record {
+      plan = c.self.inside.config;
+      links = c.self.inside.links.items;
+      lines = c.self.inside.mux;
+      moment = c.self.inside.moment;
+      board = c.publish_all.new.board;
+    })) c.self.view_is
+    (publishes (record {
+      plan = inside.config;
+      links = inside.links.items;
+      lines = inside.mux;
+      moment = inside.moment;
+      board = inside.board;
+    }) c.publish_all.new.board c.self.invariant.0 c.self.invariant.1
+    (subst (λ (ls : List LinkState). PublishesCounts ls inside.board c.publish_all.new.board) c.deref.ensures.value
+    c.publish_all.ensures.counts))
