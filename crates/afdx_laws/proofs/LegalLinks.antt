@@ -1,22 +1,21 @@
 -- Each link of a plan, by what was handed over legally.
-use Rattle.std.proofs.Common.{ℕ, ◌<◌, inl, inr, List, ◌++◌, length, ap, sym, ◌∙◌, arith}
+use Rattle.std.proofs.Common.{ℕ, ◌<◌, List, ◌++◌, length, ap, sym, ◌∙◌, arith}
 use Rattle.std.specs.Prelude.{All}
-use Rattle.std.proofs.lemmas.Bool.{cases_lt}
 use Rattle.std.proofs.lemmas.List.Elements.{All-contains, All-weaker}
 use Rattle.afdx_plan.specs.Config.{Plan, IsPlan, link_plan_at}
 use Rattle.afdx_plan.specs.Plan.{IsLink, IsPort}
 use Rattle.afdx_frame.specs.declared.net.Net.{Net}
 use Rattle.afdx_frame.specs.declared.net.Net.TheVariants.{A, B}
-use Rattle.afdx_frame.specs.Twin.{twin_of}
 use Rattle.afdx_frame.specs.Fragments.{Sent}
 use Rattle.redundant_mux.specs.Entry.{Entry}
 use Rattle.afdx_legal.specs.Streams.{link_stream}
-use Rattle.afdx_legal.specs.Legal.{Accepted, IsLegalOn, AreTwins, IsLegal}
+use Rattle.afdx_legal.specs.Legal.{Accepted, IsLegalOn, IsLegal}
 use Rattle.afdx_laws.specs.Messages.{IsSent, IsLinkOf}
 use Rattle.afdx_laws.specs.Handed.{IsHanded, AreHanded}
 use Rattle.afdx_legal.specs.Allowed.{IsAllowed}
 use Rattle.afdx_laws.specs.Plans.{id_at, piece_room, frames_of, LegalArrive, LegalDespiteLoss}
-use Rattle.afdx_laws.proofs.LinkFrames.{long_of, own_of, numbered_of, told_is, frames_front, twins_by_a, twins_by_b}
+use Rattle.afdx_laws.proofs.LinkFrames.{long_of, own_of, numbered_of, told_is}
+use Rattle.afdx_laws.proofs.LegalTwins.{twins_are}
 use Rattle.afdx_laws.proofs.HandedOver.{handed_arrive_holds}
 use Rattle.afdx_laws.proofs.HandedLoss.{handed_despite_loss_holds}
 
@@ -53,16 +52,6 @@ handed_is plan accepted net handed k sub legal inside index =
       first = (first.0, ap (λ (fs : List (List ℕ)). fs ++ first.0) (sym told) ∙ first.1);
     }
 
--- a link's frames are twins
-pub twins_are : (plan : Plan) (accepted : Accepted) (a b : List Entry) (vl : ℕ) → IsLegal plan accepted a b
-    → AreTwins twin_of (frames_of vl a) (frames_of vl b)
-twins_are plan accepted a b vl legal = elim (cases_lt (length a) (length b)) [
-  | inl shorter ↦ twins_by_a (frames_of vl a) (frames_of vl b) (own_of plan.links B vl b legal.on_b.known)
-      (frames_front A vl b a (legal.twins.a_shorter (omega arith)))
-  | inr as_long ↦ twins_by_b (frames_of vl a) (frames_of vl b) (own_of plan.links A vl a legal.on_a.known)
-      (frames_front B vl a b (legal.twins.b_shorter (omega arith)))
-]
-
 -- so a link's frames were handed to both networks
 are_handed : (plan : Plan) (accepted : Accepted) (a b : List Entry) (k sub : ℕ) → IsPlan plan → IsLegal plan accepted a b
     → k < length plan.links → sub < (link_plan_at plan.links k).sub_vls → All (IsAllowed plan k sub) (accepted k sub)
@@ -76,7 +65,7 @@ are_handed plan accepted a b k sub valid legal inside index allowed =
       sent = All-weaker (IsAllowed plan k sub) (IsSent sub) (λ sent is. sent_is plan k sub sent valid is) (accepted k sub) allowed;
       on_a = handed_is plan accepted A a k sub legal.on_a inside index;
       on_b = handed_is plan accepted B b k sub legal.on_b inside index;
-      twins = twins_are plan accepted a b (id_at plan k) legal;
+      twins = twins_are plan accepted a b k valid legal inside;
     }
 
 -- the law
@@ -88,7 +77,7 @@ legal_arrive_holds plan accepted a b valid legal k sub inside index allowed lag 
 
 -- the law despite loss
 pub legal_despite_loss_holds : LegalDespiteLoss
-legal_despite_loss_holds plan accepted a b valid legal k sub inside index allowed check whole came some close =
+legal_despite_loss_holds plan accepted a b valid legal k sub inside index allowed both check whole came some close =
     handed_despite_loss_holds plan.end_system (piece_room plan k) sub check whole (accepted k sub)
     (frames_of (id_at plan k) a) (frames_of (id_at plan k) b) came
     (are_handed plan accepted a b k sub valid legal inside index allowed) some close

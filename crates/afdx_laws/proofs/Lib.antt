@@ -14,13 +14,17 @@ pub mod HandedOver
 pub mod HandedLoss
 pub mod WorkedMessage
 pub mod LinkFrames
+pub mod LegalTwins
 pub mod LegalLinks
 pub mod WholeHanded
+pub mod OneNetwork
+pub mod AllOnBoth
 pub mod Spent
 pub mod Sizes
 pub mod LegalSpacing
 pub mod WorkedDemo
 pub mod WorkedWhole
+pub mod WorkedNetworks
 pub mod WorkedMoments
 pub mod WorkedNumbers
 pub mod WorkedPieces

@@ -2,7 +2,7 @@
 use Rattle.std.proofs.Common.{◌≡◌, ℕ, ◌≤◌, nat_eq, List, ◌++◌, length, map, take, drop, refl, ap, sym, ◌∙◌, arith}
 use Rattle.std.specs.Prelude.{All}
 use Rattle.std.proofs.Math.Seq.{take-append_seam}
-use Rattle.std.proofs.lemmas.List.{map-append, take-append-drop, length-map, length-take, take_all}
+use Rattle.std.proofs.lemmas.List.{take-append-drop, length-map, length-take, take_all, take-map}
 use Rattle.std.proofs.lemmas.List.Elements.{All-weaker, All-map, All-filter}
 use Rattle.std.proofs.lemmas.Simd.{map-map}
 use Rattle.afdx_plan.specs.declared.link_plan.LinkPlan.{LinkPlan}
@@ -13,7 +13,7 @@ use Rattle.afdx_frame.specs.Header.{link_in, sub_in, number_in}
 use Rattle.afdx_frame.specs.Twin.{twin_of}
 use Rattle.afdx_frame.proofs.Twins.{twin_same, twin_link}
 use Rattle.redundant_mux.specs.Entry.{Entry}
-use Rattle.redundant_mux.specs.Lines.{side}
+use Rattle.redundant_mux.specs.Logged.{side}
 use Rattle.afdx_legal.specs.Streams.{those_with, link_stream, sub_stream, told, entry_number, IsNumbered}
 use Rattle.afdx_legal.specs.Legal.{IsKnown, AreKnown, AreTwins}
 use Rattle.afdx_legal.proofs.StreamLemmas.{known_all, with_append, with_map, numbered_map}
@@ -55,37 +55,46 @@ told_is sub es =
     sym (map-map blanked frame_of_entry (sub_stream sub es))
     ∙ ap (map blanked) (sym (with_map (λ (e : Entry). sub_in e.frame) sub_in frame_of_entry sub (λ e. refl) es))
 
--- a link's frames of entries for another network
-pub frames_side : (net : Net) (vl : ℕ) (es : List Entry) → frames_of vl (map (side net) es) ≡ map (twin_of net) (frames_of vl es)
-frames_side net vl es =
-    ap (map frame_of_entry) (with_map (λ (e : Entry). link_in e.frame) (λ (e : Entry). link_in e.frame) (side net) vl
-    (λ e. twin_link net e.frame) es)
-    ∙ map-map frame_of_entry (side net) (link_stream vl es)
-    ∙ sym (map-map (twin_of net) frame_of_entry (link_stream vl es))
+-- the frames of entries for another network
+pub frames_side : (net : Net) (es : List Entry) → map frame_of_entry (map (side net) es) ≡ map (twin_of net) (map frame_of_entry es)
+frames_side net es = map-map frame_of_entry (side net) es ∙ sym (map-map (twin_of net) frame_of_entry es)
 
--- a link's frames in the first entries are its first frames
-frames_take : (vl n : ℕ) (es : List Entry)
-    → frames_of vl (take n es) ≡ take (length (frames_of vl (take n es))) (frames_of vl es)
-frames_take vl n es =
-    let front : List (List ℕ) = frames_of vl (take n es) in
-    let back : List (List ℕ) = frames_of vl (drop n es) in
-    let whole : frames_of vl es ≡ front ++ back =
-    ap (frames_of vl) (sym (take-append-drop n es))
-    ∙ ap (map frame_of_entry) (with_append (λ (e : Entry). link_in e.frame) vl (take n es) (drop n es))
-    ∙ map-append frame_of_entry (link_stream vl (take n es)) (link_stream vl (drop n es)) in
+-- a link's entries of entries for another network
+pub stream_side : (net : Net) (vl : ℕ) (es : List Entry) → link_stream vl (map (side net) es) ≡ map (side net) (link_stream vl es)
+stream_side net vl es = with_map (λ (e : Entry). link_in e.frame) (λ (e : Entry). link_in e.frame) (side net) vl
+    (λ e. twin_link net e.frame) es
+
+-- a link's entries in the first entries are its first
+stream_take : (vl n : ℕ) (es : List Entry)
+    → link_stream vl (take n es) ≡ take (length (link_stream vl (take n es))) (link_stream vl es)
+stream_take vl n es =
+    let front : List Entry = link_stream vl (take n es) in
+    let back : List Entry = link_stream vl (drop n es) in
+    let whole : link_stream vl es ≡ front ++ back =
+    ap (link_stream vl) (sym (take-append-drop n es))
+    ∙ with_append (λ (e : Entry). link_in e.frame) vl (take n es) (drop n es) in
     sym (ap (take (length front)) whole ∙ take-append_seam front back)
 
--- twins of the first entries have a link's frames as twins of its first
+-- twins of the first entries have a link's entries as twins of its first
+pub stream_front : (net : Net) (vl : ℕ) (longer shorter : List Entry) → shorter ≡ map (side net) (take (length shorter) longer)
+    → link_stream vl shorter ≡ map (side net) (take (length (link_stream vl shorter)) (link_stream vl longer))
+stream_front net vl longer shorter is =
+    let n : ℕ = length shorter in
+    let turned : link_stream vl shorter ≡ map (side net) (link_stream vl (take n longer)) =
+    ap (link_stream vl) is ∙ stream_side net vl (take n longer) in
+    let count : length (link_stream vl (take n longer)) ≡ length (link_stream vl shorter) =
+    sym (ap length turned ∙ length-map (link_stream vl (take n longer)) (side net)) in
+    turned ∙ ap (map (side net)) (stream_take vl n longer ∙ ap (λ (m : ℕ). take m (link_stream vl longer)) count)
+
+-- and its frames as twins of its first frames
 pub frames_front : (net : Net) (vl : ℕ) (longer shorter : List Entry) → shorter ≡ map (side net) (take (length shorter) longer)
     → frames_of vl shorter ≡ map (twin_of net) (take (length (frames_of vl shorter)) (frames_of vl longer))
 frames_front net vl longer shorter is =
-    let n : ℕ = length shorter in
-    let turned : frames_of vl shorter ≡ map (twin_of net) (frames_of vl (take n longer)) =
-    ap (frames_of vl) is ∙ frames_side net vl (take n longer) in
-    let count : length (frames_of vl (take n longer)) ≡ length (frames_of vl shorter) =
-    sym (ap length turned ∙ length-map (frames_of vl (take n longer)) (twin_of net)) in
-    turned ∙ ap (map (twin_of net)) (frames_take vl n longer
-    ∙ ap (λ (m : ℕ). take m (frames_of vl longer)) count)
+    let n : ℕ = length (link_stream vl shorter) in
+    ap (map frame_of_entry) (stream_front net vl longer shorter is)
+    ∙ frames_side net (take n (link_stream vl longer))
+    ∙ ap (map (twin_of net)) (sym (take-map frame_of_entry n (link_stream vl longer))
+    ∙ ap (λ (m : ℕ). take m (frames_of vl longer)) (sym (length-map (link_stream vl shorter) frame_of_entry)))
 
 -- where twins of the first of a network's own frames are as many, these are their twins in turn
 turned_back : (first second : Net) (xs ys : List (List ℕ)) → All (IsOfNet first) xs

@@ -187,6 +187,7 @@ legal_despite_one_loss = record {
   valid = one_is_legal.valid;
   legal = one_is_legal.legal;
   allowed = one_is_legal.allowed;
+  networks = refl;
   close = only_is_close;
   message = plan_message;
   first = record { many = 1; are = plan_message; all = λ j few enough. few };

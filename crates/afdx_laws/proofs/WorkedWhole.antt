@@ -7,9 +7,9 @@ use Rattle.afdx_frame.specs.Checksum.{checksum}
 use Rattle.afdx_frame.specs.Cutting.{cutting}
 use Rattle.afdx_frame.specs.Fragments.{fragments_at}
 use Rattle.afdx_frame.specs.Frame.{addresses, header_front, internet_header, link_header, udp_header, datagram, unnumbered}
-use Rattle.redundant_mux.specs.Lines.{log}
 use Rattle.afdx_legal.specs.Allowed.{IsAllowed, AreAllowed, AreOwn}
-use Rattle.afdx_legal.specs.Done.{IsReleased, IsAllDone, longer_list}
+use Rattle.afdx_legal.specs.Own.{AreOwnStreams}
+use Rattle.afdx_legal.specs.Done.{IsReleased, IsAllDone}
 use Rattle.afdx_laws.specs.Networks.{most_carried}
 use Rattle.afdx_laws.specs.Handed.{longer}
 use Rattle.afdx_laws.specs.Plans.{frames_of}
@@ -29,12 +29,18 @@ each_own : AreOwn demo_plan one_byte_accepted one_own
 each_own zero within = refl
 each_own (suc place) within = absurd (omega arith)
 
+-- what was handed to network A is the link's own stream
+own_streams : AreOwnStreams demo_plan (one_entry A) (one_entry A) (one_entry B)
+unfolding checksum addresses header_front internet_header link_header udp_header datagram unnumbered
+own_streams zero inside = refl
+own_streams (suc k) inside = absurd (omega arith)
+
 -- its fragment was handed over
-released : IsReleased 1 demo_link (one_byte_accepted 0) (longer_list (one_entry A) (one_entry B)) 0
-unfolding log checksum addresses header_front internet_header link_header udp_header datagram unnumbered cutting fragments_at
+released : IsReleased 1 demo_link (one_byte_accepted 0) (one_entry A) 0
+unfolding checksum addresses header_front internet_header link_header udp_header datagram unnumbered cutting fragments_at
 released = refl
 
-all_done : IsAllDone demo_plan one_byte_accepted (longer_list (one_entry A) (one_entry B))
+all_done : IsAllDone demo_plan one_byte_accepted (one_entry A)
 all_done zero inside zero index = released
 all_done zero inside (suc sub) index = absurd (omega arith)
 all_done (suc k) inside sub index = absurd (omega arith)
@@ -55,6 +61,8 @@ one_is_whole = record {
     legal = one_is_legal.legal;
     allowed = each_allowed;
     are_own = each_own;
+    log = one_entry A;
+    streams = own_streams;
     done = all_done;
   };
   fit = record { checks = omega arith; opens = omega arith; apart = omega arith };

@@ -10,8 +10,11 @@ pub mod Messages
 pub mod Handed
 pub mod WorkedDelivery
 pub mod Plans
+pub mod OneNetwork
+pub mod AllOnBoth
 pub mod WholeLists
 pub mod WorkedPlan
+pub mod WorkedNetworks
 pub mod WorkedWhole
 pub mod WorkedSkew
 pub mod WorkedReceiving

@@ -5,6 +5,7 @@ use Rattle.std.specs.List.{AllZip}
 use Rattle.afdx_plan.specs.Config.{Plan, IsPlan, link_plan_at}
 use Rattle.afdx_plan.specs.Plan.{bag_micros}
 use Rattle.afdx_plan.specs.Room.{room_of}
+use Rattle.afdx_plan.specs.declared.networks.Networks.TheVariants.{Both}
 use Rattle.afdx_frame.specs.declared.net.Net.{Net}
 use Rattle.afdx_frame.specs.Header.{number_in}
 use Rattle.redundant_mux.specs.Entry.{Entry}
@@ -33,7 +34,8 @@ frames_of vl handed = map (λ (e : Entry). e.frame) (link_stream vl handed)
 
 -- Of what was handed over legally, for a valid plan, each network carries some beginning of a link's
 -- frames, near to the other. Then the receiver's messages of each sub-VL are the first of its accepted
--- messages, in order and each once, and all whose fragments one network carried.
+-- messages, in order and each once, and all whose fragments one network carried. Of a link on one network
+-- nothing comes from the other, which was handed none of its frames.
 abbrev pub LegalArrive : Type 0
 LegalArrive = (plan : Plan) (accepted : Accepted) (a b : List Entry)
     → IsPlan plan → IsLegal plan accepted a b
@@ -46,13 +48,14 @@ LegalArrive = (plan : Plan) (accepted : Accepted) (a b : List Entry)
     (take (most_carried arrivals) (longer (frames_of (id_at plan k) a) (frames_of (id_at plan k) b)))
     (messages_in sub (received number_in tolerance begin arrivals))
 
--- They are so although one network loses, repeats and reorders frames, where the other carries all of
--- the link that was handed over and the next number alone is new to the receiver.
+-- Of a link on both networks they are so although one network loses, repeats and reorders frames, where
+-- the other carries all of the link that was handed over and the next number alone is new to the receiver.
 abbrev pub LegalDespiteLoss : Type 0
 LegalDespiteLoss = (plan : Plan) (accepted : Accepted) (a b : List Entry)
     → IsPlan plan → IsLegal plan accepted a b
     → (k sub : ℕ) → k < length plan.links → sub < (link_plan_at plan.links k).sub_vls
     → All (IsAllowed plan k sub) (accepted k sub)
+    → (link_plan_at plan.links k).networks ≡ Both
     → (check : ℕ) (whole : Net) (came : List (Net × ℕ)) → 1 ≤ check
     → AreClose whole
     (length (longer (frames_of (id_at plan k) a) (frames_of (id_at plan k) b))) 0 0 came

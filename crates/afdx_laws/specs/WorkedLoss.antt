@@ -1,7 +1,8 @@
 -- Worked losses: network B carries every frame, and network A doesn't.
 use Rattle.std.specs.Prelude.{◌≡◌, ℕ, List, [], ◌∷◌, length, map, take, All}
-use Rattle.afdx_plan.specs.Config.{IsPlan}
+use Rattle.afdx_plan.specs.Config.{IsPlan, link_plan_at}
 use Rattle.afdx_plan.specs.Demo.{demo_plan}
+use Rattle.afdx_plan.specs.declared.networks.Networks.TheVariants.{Both}
 use Rattle.afdx_frame.specs.declared.net.Net.{Net}
 use Rattle.afdx_frame.specs.declared.net.Net.TheVariants.{A, B}
 use Rattle.afdx_frame.specs.Header.{number_in}
@@ -103,6 +104,7 @@ pub record LegalDespiteOneLoss : Type 0 where
   pub valid : IsPlan demo_plan
   pub legal : IsLegal demo_plan one_byte_accepted (one_entry A) (one_entry B)
   pub allowed : All (IsAllowed demo_plan 0 0) (one_byte_accepted 0 0)
+  pub networks : (link_plan_at demo_plan.links 0).networks ≡ Both
   pub close : AreClose B (length longer_of_plan) 0 0 only_lost
   pub message : messages_despite longer_of_plan only_lost ≡ (1 ∷ []) ∷ []
   pub first : AreFirst 1 1479 0 (one_byte_accepted 0 0)

@@ -1,9 +1,10 @@
 //! Laws of the definitions. Their functions do nothing: the contract is the law.
 //!
 //! That a switch or a receiver works as it is defined in specs/ is a premise of each, and so is that the
-//! networks deliver what is said. None says anything of frames that both networks lose, of a transmitter
-//! that begins anew with number 0, of a receiver that starts later than the stream, or of its timer for
-//! frames that come late (SkewMax).
+//! networks deliver what is said. None says anything of frames that no network delivers (both, or the one
+//! that a link is on), of a transmitter that begins anew with number 0, of a receiver that starts later than
+//! the stream, or of its timer for frames that come late (SkewMax).
+ghost use Rattle.afdx_laws.specs.AllOnBoth.{AllOnBoth};
 ghost use Rattle.afdx_laws.specs.Counted.{CountsRise};
 ghost use Rattle.afdx_legal.specs.WorkedTurns.{TurnsAreTold};
 ghost use Rattle.afdx_laws.specs.Buffers.{OneBuffer};
@@ -13,6 +14,7 @@ ghost use Rattle.afdx_laws.specs.Loss.{FirstComes, LossMasked, LossNotMasked, Ma
 ghost use Rattle.afdx_laws.specs.Messages.{DespiteLoss, MessagesArrive};
 ghost use Rattle.afdx_laws.specs.Networks.{ExactlyOnce};
 ghost use Rattle.afdx_laws.specs.NextFragment.{NextInARound, NextInPlan, NextInTime, NextPolledInTime};
+ghost use Rattle.afdx_laws.specs.OneNetwork.{OneNetworkArrives};
 ghost use Rattle.afdx_laws.specs.Plans.{LegalArrive, LegalDespiteLoss, LegalPasses};
 ghost use Rattle.afdx_laws.specs.Policer.{EarlyDropped, NoMorePasses, NoneDropped};
 ghost use Rattle.afdx_laws.specs.Skew.{SkewIsFit, SkewIsNear};
@@ -22,6 +24,7 @@ ghost use Rattle.afdx_laws.specs.WorkedBuffers.{HoldsTheSecond};
 ghost use Rattle.afdx_laws.specs.WorkedDelivery.{OneMessageArrives};
 ghost use Rattle.afdx_laws.specs.WorkedLoss.{MasksOneLoss, NeedsTheFirst, BeginsOnBoth};
 ghost use Rattle.afdx_laws.specs.WorkedLoss.{ComesDespiteLoss, HandedDespiteOneLoss, LegalDespiteOneLoss};
+ghost use Rattle.afdx_laws.specs.WorkedNetworks.{AreTwinsOfOne, ComesFromOne};
 ghost use Rattle.afdx_laws.specs.WorkedNextFragment.{LieTwoGapsApart};
 ghost use Rattle.afdx_laws.specs.WorkedOrder.{FirstIsGiven};
 ghost use Rattle.afdx_laws.specs.WorkedPlan.{OneIsLegal};
@@ -198,7 +201,7 @@ pub fn despite_loss()
 
 /// A receiver's messages of a sub-VL are the first accepted ones, by what was handed to the two networks
 /// over a link: two lists, twins as far as both go, numbered, and of the sub-VL the first fragments of its
-/// accepted messages.
+/// accepted messages. Of a link on one network the other list is empty.
 ///
 /// It reads identification, offset, flags, total length and number of each frame. That its addresses,
 /// its ports and its checksum are right, other laws say (`afdx_frame::laws::each_frame_says`).
@@ -213,8 +216,9 @@ pub fn handed_arrive()
 /// over a link, although one of them loses, repeats and reorders frames, where the other carries all of
 /// them and the next number alone is new to the receiver.
 ///
-/// The stream's first frame comes before all others (`first` in `AreClose`, see `both_begin`). What
-/// `loss_masked` doesn't say isn't said here.
+/// It speaks of a link on both networks: the one makes good what the other loses. The stream's first frame
+/// comes before all others (`first` in `AreClose`, see `both_begin`). What `loss_masked` doesn't say isn't
+/// said here.
 pub fn handed_despite_loss()
     ensures arrive { HandedDespiteLoss }
 
@@ -229,7 +233,8 @@ pub fn handed_despite_loss()
 /// What the emitter hands over is legal (`afdx_legal`, `IsLegal`): with that, this says what the calls of
 /// the emitter mean at the receiving end. That each network carries a beginning of a link's frames and
 /// that the two are near are premises, and that accepted messages are such as a port accepts
-/// (`TxPort::send` of afdx_tx).
+/// (`TxPort::send` of afdx_tx). It speaks of every link: of one on one network alone nothing comes from the
+/// other network, and then `one_network_arrives` says it without the two being near.
 /// It doesn't say when a message comes.
 pub fn legal_arrive()
     ensures arrive { LegalArrive }
@@ -238,11 +243,13 @@ pub fn legal_arrive()
     ensures worked { OneIsLegal }
 {}
 
-/// For each link and sub-VL of a valid plan: from what was handed over legally, the receiver's messages
-/// are the first accepted ones although one network loses, repeats and reorders frames, where the other
-/// carries all frames of the link and the next number alone is new to the receiver.
+/// For each link on both networks, and each sub-VL of it, of a valid plan: from what was handed over
+/// legally, the receiver's messages are the first accepted ones although one network loses, repeats and
+/// reorders frames, where the other carries all frames of the link and the next number alone is new to the
+/// receiver.
 ///
-/// The stream's first frame comes before all others (`first` in `AreClose`, see `both_begin`). What
+/// That the link is on both networks is a premise: on one alone nothing makes good what it loses. The
+/// stream's first frame comes before all others (`first` in `AreClose`, see `both_begin`). What
 /// `loss_masked` doesn't say isn't said here.
 pub fn legal_despite_loss()
     ensures arrive { LegalDespiteLoss }
@@ -251,9 +258,9 @@ pub fn legal_despite_loss()
     ensures worked { LegalDespiteOneLoss }
 {}
 
-/// For each link of a valid plan: of what was handed over legally to a network, a switch that polices
-/// the link by its gap and its greatest frame drops none, whatever each frame is delayed by on its way,
-/// up to the jitter that the switch allows.
+/// For each link of a valid plan, on both networks or on one: of what was handed over legally to a network,
+/// a switch that polices the link by its gap and its greatest frame drops none, whatever each frame is
+/// delayed by on its way, up to the jitter that the switch allows.
 ///
 /// That the delay stays below the jitter is a premise, and nothing is said of the queues of the switch.
 pub fn legal_passes()
@@ -267,12 +274,41 @@ pub fn legal_passes()
 /// What was handed over (`afdx_legal`, `IsHandedWhole`) is what the calls of `afdx_tx` tell:
 /// `Emitter::gather` (`gathered`: what was accepted of each port is its own list), `Draining::poll`
 /// (`accepted`: that stays so), `Draining::is_done`, and `Draining::into_networks` (`legal`, `allowed`).
-/// A test of `afdx_tests` joins them. The premises at the other end are those of `legal_arrive`.
+/// A test of `afdx_tests` joins them. The premises at the other end are those of `legal_arrive`, and it
+/// speaks of every link as that does: of a link on one network it is that network that carried all.
 pub fn own_lists_arrive()
     ensures arrive { OwnListsArrive }
 
     // the demonstration configuration, with one message
     ensures worked { OneIsWhole }
+{}
+
+/// For each link of a valid plan that is on one network alone, and each sub-VL of it: from what was handed
+/// over legally, the receiver's messages are the first accepted ones, each once and in order, and among
+/// them all whose fragments came.
+///
+/// That the network carries a beginning of the link's frames, in order, is a premise. How near two networks
+/// are is none: the other one was handed no frame of the link. Nothing is said of a network that loses a
+/// frame and goes on, since no other makes it good. It doesn't say when a message comes.
+pub fn one_network_arrives()
+    ensures arrive { OneNetworkArrives }
+
+    // the demonstration configuration, its link on network A alone, with one message; one whose first frame
+    // is lost doesn't come
+    ensures worked { ComesFromOne }
+{}
+
+/// In a plan whose links are all on both networks, what was handed over legally to the one network is twins
+/// of all that was handed to the other, and each link's own stream is its stream in the longer list.
+///
+/// So there what `afdx_legal` says of each link (`twins` in `IsLegal`, `own_stream`) is said of the two lists
+/// as they are. Nothing is said of a plan that has a link on one network: there a list may be the longer one
+/// and have fewer frames of a link.
+pub fn all_on_both()
+    ensures twins { AllOnBoth }
+
+    // the demonstration configuration; with its link on network A alone, nothing is left of the list
+    ensures worked { AreTwinsOfOne }
 {}
 
 /// The counts of a link's stream (frames, bytes, whole messages, the moment of the last frame) don't

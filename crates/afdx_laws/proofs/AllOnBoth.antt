@@ -1,0 +1,102 @@
+-- Where all links are on both networks nothing is cut, and each link's own stream is in the longer list.
+use Rattle.std.proofs.Common.{◌≡◌, ℕ, ◌≤◌, ◌<◌, ◌&&◌, inl, inr, Bool, true, nat_eq, cond, List, [], ◌∷◌, length, map, take, refl, ap, sym, ◌∙◌, subst, arith}
+use Rattle.std.specs.Prelude.{All}
+use Rattle.std.proofs.lemmas.Bool.{cases_lt, and_from, eq-eqb, lt-ltb, le-ltb}
+use Rattle.std.proofs.lemmas.List.{length-map, length-take, take_all}
+use Rattle.std.proofs.lemmas.List.Folds.{list_any_at}
+use Rattle.afdx_plan.specs.Config.{link_plan_at}
+use Rattle.afdx_plan.specs.Networks.{is_both}
+use Rattle.afdx_plan.specs.declared.link_plan.LinkPlan.{LinkPlan}
+use Rattle.afdx_frame.specs.declared.net.Net.{Net}
+use Rattle.afdx_frame.specs.declared.net.Net.TheVariants.{A, B}
+use Rattle.afdx_frame.specs.Header.{link_in}
+use Rattle.afdx_frame.proofs.Twins.{twin_twice}
+use Rattle.redundant_mux.specs.Entry.{Entry, entry}
+use Rattle.redundant_mux.specs.Logged.{side}
+use Rattle.afdx_legal.specs.Streams.{link_stream}
+use Rattle.afdx_legal.specs.Legal.{IsKnown, AreKnown, is_on_both, on_both, AreTwins}
+use Rattle.afdx_legal.specs.Own.{longer, own_stream}
+use Rattle.afdx_laws.specs.Plans.{id_at}
+use Rattle.afdx_laws.specs.AllOnBoth.{IsOnBoth, AllOnBoth}
+use Rattle.afdx_laws.proofs.LinkFrames.{stream_side, stream_front}
+
+-- the link of a known frame is on both
+known_on_both : (links : List LinkPlan) (net : Net) (frame : List ℕ) → All IsOnBoth links → IsKnown links net frame
+    → is_on_both links (link_in frame) ≡ true
+known_on_both links net frame all known =
+    list_any_at (λ (link : LinkPlan). nat_eq link.id.0 (link_in frame) && is_both link.networks) links known.k
+    (link_plan_at [] 0) known.within
+    (and_from (nat_eq (link_plan_at links known.k).id.0 (link_in frame)) (is_both (link_plan_at links known.k).networks)
+    (eq-eqb (link_plan_at links known.k).id.0 (link_in frame) (sym known.link))
+    (ap is_both (all known.k (link_plan_at [] 0) known.within)))
+
+-- so nothing is cut
+none_cut : (links : List LinkPlan) (net : Net) (es : List Entry) → All IsOnBoth links → AreKnown links net es
+    → on_both links es ≡ es
+none_cut links net [] all known = refl
+none_cut links net (e ∷ es) all known =
+    ap (λ (t : Bool). cond t (e ∷ on_both links es) (on_both links es)) (known_on_both links net e.frame all known.0)
+    ∙ ap (λ (ds : List Entry). e ∷ ds) (none_cut links net es all known.1)
+
+-- entries that are turned twice
+side_side : (net other : Net) (es : List Entry) → map (side net) (map (side other) es) ≡ map (side net) es
+side_side net other [] = refl
+side_side net other (e ∷ es) =
+    ap (λ (f : List ℕ). entry e.at f ∷ map (side net) (map (side other) es)) (twin_twice net other e.frame)
+    ∙ ap (λ (ds : List Entry). side net e ∷ ds) (side_side net other es)
+
+-- a list of twins of the first entries is no longer
+no_longer : (net : Net) (whole front : List Entry) → front ≡ map (side net) (take (length front) whole)
+    → length front ≤ length whole
+no_longer net whole front is =
+    let count = ap length is ∙ length-map (take (length front) whole) (side net) in
+    let taken = length-take (length front) whole in omega arith
+
+-- where the first list is as long, a link's own stream is in it
+own_in_a : (vl : ℕ) (a b : List Entry) → length b ≤ length a → AreTwins side a b
+    → own_stream vl a b ≡ link_stream vl (map (side A) (longer a b))
+own_in_a vl a b as_long twins =
+    let front = stream_front B vl a b (twins.b_shorter as_long) in
+    let less = no_longer B (link_stream vl a) (link_stream vl b) front in
+    ap (λ (t : Bool). map (side A) (cond t (link_stream vl b) (link_stream vl a)))
+    (le-ltb (length (link_stream vl a)) (length (link_stream vl b)) less)
+    ∙ sym (stream_side A vl a)
+    ∙ ap (λ (t : Bool). link_stream vl (map (side A) (cond t b a))) (sym (le-ltb (length a) (length b) as_long))
+
+-- and else in the second
+own_in_b : (vl : ℕ) (a b : List Entry) → length a < length b → AreTwins side a b
+    → own_stream vl a b ≡ link_stream vl (map (side A) (longer a b))
+own_in_b vl a b shorter twins =
+    mine ∙ sym (stream_side A vl b)
+    ∙ ap (λ (t : Bool). link_stream vl (map (side A) (cond t b a))) (sym (lt-ltb (length a) (length b) shorter))
+  where
+    front : link_stream vl a ≡ map (side A) (take (length (link_stream vl a)) (link_stream vl b))
+    front = stream_front A vl b a (twins.a_shorter (omega arith))
+
+    mine : own_stream vl a b ≡ map (side A) (link_stream vl b)
+    mine = elim (cases_lt (length (link_stream vl a)) (length (link_stream vl b))) [
+      | inl less ↦ ap (λ (t : Bool). map (side A) (cond t (link_stream vl b) (link_stream vl a)))
+          (lt-ltb (length (link_stream vl a)) (length (link_stream vl b)) less)
+      | inr as_many ↦ ap (λ (t : Bool). map (side A) (cond t (link_stream vl b) (link_stream vl a)))
+          (le-ltb (length (link_stream vl a)) (length (link_stream vl b)) as_many)
+          ∙ ap (map (side A)) (front
+          ∙ ap (map (side A)) (take_all (length (link_stream vl a)) (link_stream vl b) as_many))
+          ∙ side_side A A (link_stream vl b)
+    ]
+
+-- the law
+pub all_on_both_holds : AllOnBoth
+all_on_both_holds plan accepted a b all legal =
+    let all_a : on_both plan.links a ≡ a = none_cut plan.links A a all legal.on_a.known in
+    let all_b : on_both plan.links b ≡ b = none_cut plan.links B b all legal.on_b.known in
+    let twins : AreTwins side a b = subst (λ (xs : List Entry). AreTwins side xs b) all_a
+    (subst (λ (ys : List Entry). AreTwins side (on_both plan.links a) ys) all_b legal.twins) in
+    record {
+      all_a = all_a;
+      all_b = all_b;
+      twins = twins;
+      own = λ k inside. elim (cases_lt (length a) (length b)) [
+        | inl shorter ↦ own_in_b (id_at plan k) a b shorter twins
+        | inr as_long ↦ own_in_a (id_at plan k) a b as_long twins
+      ];
+    }
