@@ -133,10 +133,19 @@ fn push_frame(text: &mut String, net: (&str, &str), frame: &Frame) -> Result<(),
 
 // The lines of A, and then those of B.
 pub fn frame_lines(alloc: Global, frames: &[Frame]) -> Result<String, AllocError> {
+    lines_on(alloc, &NETS, frames)
+}
+
+// The lines of these networks, one behind the other.
+pub fn lines_on(
+    alloc: Global,
+    nets: &[(&str, &str)],
+    frames: &[Frame],
+) -> Result<String, AllocError> {
     let mut text = String::new(alloc);
-    for net in NETS {
+    for net in nets {
         for frame in frames {
-            push_frame(&mut text, net, frame)?;
+            push_frame(&mut text, *net, frame)?;
         }
     }
     Ok(text)

@@ -10,6 +10,8 @@ mod helpers;
 #[cfg(test)]
 mod line_tests;
 #[cfg(test)]
+mod one_network_tests;
+#[cfg(test)]
 mod plan_tests;
 #[cfg(test)]
 mod run_tests;

@@ -1,17 +1,20 @@
 -- The same lines, with looks that find nothing: what is noted is the same.
-use Rattle.std.proofs.Common.{ℕ, zero, suc, ◌≡◌, ◌+◌, ◌-◌, ◌++◌, List, [], ◌∷◌, Bool, true, false, if◌then◌else◌}
+use Rattle.std.proofs.Common.{ℕ, zero, suc, ◌≡◌, ◌+◌, ◌-◌, ◌++◌, List, [], ◌∷◌, Bool, true, false, ◌&&◌, if◌then◌else◌}
 use Rattle.std.proofs.Common.{nat_lt, length, arith, refl, ap, ◌∙◌, sym, subst, inr, ltb-false, None}
 use Rattle.std.specs.Prelude.{All, Contains}
 use Rattle.afdx_plan.specs.Config.{Plan, link_plan_at, port_plan_at}
 use Rattle.afdx_plan.specs.Plan.{bag_micros}
 use Rattle.afdx_plan.specs.declared.link_plan.LinkPlan.{LinkPlan}
+use Rattle.afdx_plan.specs.declared.networks.Networks.{Networks}
+use Rattle.afdx_plan.specs.declared.networks.Networks.TheVariants.{Both, OnlyA, OnlyB}
 use Rattle.afdx_frame.specs.Fragments.{Sent}
 use Rattle.redundant_mux.specs.Entry.{Entry}
-use Rattle.redundant_mux.specs.Lines.{log}
+use Rattle.redundant_mux.specs.Lines.{stands_for, log}
 use Rattle.vl_shaper.specs.Pace.{is_due}
 use Rattle.vl_link.specs.declared.served.Served.TheVariants.{Nothing as DidNothing}
-use Rattle.vl_link.specs.Turn.{AreTurns}
+use Rattle.vl_link.specs.Turn.{AreTurns, may_release}
 use Rattle.afdx_legal.specs.Streams.{latest, link_stream}
+use Rattle.afdx_tx.specs.Drain.{pace_in}
 use Rattle.afdx_tx.specs.Emitter.{ports_of_sub}
 use Rattle.afdx_plan.specs.Places.{link_place}
 use Rattle.redundant_mux.proofs.MirroredLines.{fresh_lines, fresh_log}
@@ -42,11 +45,18 @@ pub record IsIdle (es other : EndSystem) : Type 0 where
 abbrev idle_at : EndSystem → ℕ → EndSystem
 idle_at other now = record other { moment = now }
 
--- a link of which nothing was released is due
-due_first : (now : ℕ) (plan : LinkPlan)
-    → is_due (bag_micros plan.bag) (latest None (link_stream plan.id.0 (log fresh_lines))) now ≡ true
-due_first now plan = ap (λ (H : List Entry).
-    is_due (bag_micros plan.bag) (latest None (link_stream plan.id.0 H)) now) fresh_log
+-- where both networks stand, one that carries a link stands
+all_stand : (networks : Networks) → stands_for networks fresh_lines ≡ true
+all_stand Both = refl
+all_stand OnlyA = refl
+all_stand OnlyB = refl
+
+-- a link of which nothing was released may release a frame
+may_first : (now : ℕ) (plan : LinkPlan) → may_release now plan (pace_in plan (log fresh_lines)) fresh_lines ≡ true
+may_first now plan =
+    let due : is_due (bag_micros plan.bag) (latest None (link_stream plan.id.0 (log fresh_lines))) now ≡ true =
+    ap (λ (H : List Entry). is_due (bag_micros plan.bag) (latest None (link_stream plan.id.0 H)) now) fresh_log in
+    ap (λ (b : Bool). b && stands_for plan.networks fresh_lines) due ∙ all_stand plan.networks
 
 -- links of which nothing was taken release nothing
 idle_turns : (now : ℕ) (other : EndSystem) → ((k s : ℕ) → other.subs k s ≡ no_progress) → (k many : ℕ)
@@ -57,7 +67,7 @@ idle_turns now other none k (suc many) = (
   DidNothing,
   (
     inr (
-      due_first now (link_plan_at other.plan.links k),
+      may_first now (link_plan_at other.plan.links k),
       record {
         each = λ s lt. (ap (λ (progress : Progress). progress.left) (none k s), refl);
         others = λ s past. refl;
@@ -65,7 +75,6 @@ idle_turns now other none k (suc many) = (
     ),
     refl,
   ),
-  refl,
   idle_turns now other none (k + 1) many,
 )
 
@@ -76,9 +85,11 @@ idle_polls now es other h = record {
   moment = refl;
   lines = fresh_lines;
   after = fresh_lines;
-  was = fresh_log ∙ sym h.log;
-  is = fresh_log ∙ sym h.log;
+  was = sym h.log;
+  is = sym h.log;
   turns = idle_turns now other h.subs 0 (length other.plan.links);
+  a_stands = refl;
+  b_stands = refl;
 }
 
 -- the answer to a line where looks find nothing

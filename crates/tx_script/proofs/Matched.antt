@@ -1,14 +1,13 @@
 -- An emitter that matches plain lists: at the beginning, and after a poll.
-use Rattle.std.proofs.Common.{ℕ, ◌≡◌, ◌+◌, ◌-◌, ◌<◌, ◌≤◌, List, [], length, map, arith, true, if◌then◌else◌, nat_lt, ap, ◌∙◌, sym, ⊎_elim}
+use Rattle.std.proofs.Common.{ℕ, ◌≡◌, ◌+◌, ◌-◌, ◌<◌, ◌≤◌, List, [], length, arith, ap, ◌∙◌, sym, ⊎_elim}
 use Rattle.std.proofs.lemmas.Bool.{cases_lt}
 use Rattle.std.proofs.lemmas.List.{length-append, length-map, get_or_past}
 use Rattle.afdx_frame.specs.Fragments.{Sent}
 use Rattle.afdx_plan.specs.Config.{Plan, link_plan_at}
 use Rattle.afdx_plan.specs.declared.link_plan.LinkPlan.{LinkPlan}
 use Rattle.afdx_plan.specs.declared.port_plan.PortPlan.{PortPlan}
-use Rattle.afdx_frame.specs.declared.net.Net.TheVariants.{A}
-use Rattle.redundant_mux.specs.Entry.{Entry}
-use Rattle.redundant_mux.specs.Lines.{Lines, log, side}
+use Rattle.redundant_mux.specs.Logged.{Logged}
+use Rattle.redundant_mux.specs.Lines.{Lines, log}
 use Rattle.vl_shaper.specs.Pace.{Pace}
 use Rattle.afdx_tx.specs.declared.report.Release.{Release}
 use Rattle.vl_link.specs.declared.sub_vl.SubVl.{SubVl}
@@ -19,16 +18,21 @@ use Rattle.afdx_tx.specs.Report.{IsTold, release_of}
 use Rattle.tx_script.specs.EndSystem.{Progress, no_progress, fresh}
 use Rattle.tx_script.specs.Matching.{IsPlannedLink, progress_of, MatchesLines, MatchesTx}
 
+-- so many entries as were logged
+log_many : (lines : Lines) → length (log lines) ≡ length lines.logged
+unfolding log
+log_many lines = length-map lines.logged (λ (l : Logged). l.entry)
+
 -- A poll released as many frames as its report names.
-pub released_many : (before after : List Entry) (old new : Tx) (now : ℕ) (released : List Release)
-    → log old.lines ≡ before → log new.lines ≡ after
+pub released_many : (before after : List Logged) (old new : Tx) (now : ℕ) (released : List Release)
+    → old.lines.logged ≡ before → new.lines.logged ≡ after
     → IsTold now released old.lines new.lines → length released ≡ length after - length before
 released_many before after old new now released was is told =
     let named : length released ≡ length told.entries = ap length (sym told.named) ∙ length-map told.entries release_of in
     let grown : length (log new.lines) ≡ length (log old.lines) + length told.entries =
     ap length told.grown ∙ length-append (log old.lines) told.entries in
-    let old_size : length (log old.lines) ≡ length before = ap length was in
-    let new_size : length (log new.lines) ≡ length after = ap length is in
+    let old_size : length (log old.lines) ≡ length before = log_many old.lines ∙ ap length was in
+    let new_size : length (log new.lines) ≡ length after = log_many new.lines ∙ ap length is in
     omega arith
 
 -- nothing was taken of a sub-VL, and nothing is left
@@ -63,17 +67,8 @@ each_fresh own ports planned link f s = ⊎_elim
     (cases_lt s (length link.subs))
 
 -- nothing was handed over
-lines_fresh : (lines : Lines) → lines.a ≡ [] → lines.b ≡ [] → lines.a_stands ≡ true → lines.b_stands ≡ true
-    → MatchesLines [] lines
-unfolding log
-lines_fresh lines a b for_a for_b = record {
-  is = ap (λ (xs : List Entry). map (side A) (if nat_lt (length xs) (length lines.b) then lines.b else xs)) a
-      ∙ ap (λ (xs : List Entry). map (side A) (if nat_lt 0 (length xs) then xs else [])) b;
-  a = a;
-  b = b;
-  for_a = for_a;
-  for_b = for_b;
-}
+lines_fresh : (plan : Plan) (tx : Tx) → IsFreshTx plan tx → MatchesLines [] tx.lines
+lines_fresh plan tx f = record { is = f.logged; a = f.a; b = f.b; for_a = f.a_stands; for_b = f.b_stands }
 
 -- An emitter to which nothing was sent.
 pub fresh_matches : (plan : Plan) (tx : Tx) → IsFreshTx plan tx → MatchesTx (fresh plan) tx
@@ -82,6 +77,6 @@ fresh_matches plan tx f = record {
   count = f.links.count;
   planned = λ k lt. link_fresh plan.end_system plan.ports (link_plan_at plan.links k) (link_at tx.links k) (f.links.each k lt);
   subs = λ k s lt. each_fresh plan.end_system plan.ports (link_plan_at plan.links k) (link_at tx.links k) (f.links.each k lt) s;
-  lines = lines_fresh tx.lines f.a f.b f.a_stands f.b_stands;
+  lines = lines_fresh plan tx f;
   moment = f.moment;
 }

@@ -1,6 +1,6 @@
 -- A poll of an emitter, over what was taken of its sub-VLs and what is left.
-use Rattle.std.proofs.Common.{ℕ, ◌≡◌, ◌<◌, List, [], ◌∷◌, ◌++◌, Bool, true, length, map, take, arith, refl, ap, ◌∙◌, sym, subst, inl, inr, ⊎_elim}
-use Rattle.std.proofs.lemmas.List.{length-map, map-append, take_all}
+use Rattle.std.proofs.Common.{ℕ, ◌≡◌, ◌<◌, List, [], ◌∷◌, ◌++◌, Bool, true, length, arith, refl, ap, ◌∙◌, sym, subst, inl, inr, ⊎_elim}
+use Rattle.std.proofs.lemmas.List.{length-map, map-append, append-nil}
 use Rattle.afdx_plan.specs.Config.{link_plan_at}
 use Rattle.afdx_plan.specs.Plan.{bag_micros}
 use Rattle.afdx_plan.specs.declared.link_plan.LinkPlan.{LinkPlan}
@@ -9,7 +9,8 @@ use Rattle.afdx_frame.specs.declared.net.Net.{Net}
 use Rattle.afdx_frame.specs.declared.net.Net.TheVariants.{A, B}
 use Rattle.afdx_frame.specs.Fragments.{Sent}
 use Rattle.redundant_mux.specs.Entry.{Entry}
-use Rattle.redundant_mux.specs.Lines.{Lines, side, log, Keeps, IsMirrored}
+use Rattle.redundant_mux.specs.Logged.{Logged, sent_to}
+use Rattle.redundant_mux.specs.Lines.{Lines, log, Keeps, IsMirrored}
 use Rattle.vl_shaper.specs.Pace.{Pace}
 use Rattle.afdx_legal.specs.Streams.{link_stream}
 use Rattle.vl_link.specs.declared.served.Served.{Served}
@@ -90,13 +91,13 @@ plain_seen own plan pace subs news old new named was is = record {
 -- the regulation is that of the plan
 planned_turn : (now own : ℕ) (plan : LinkPlan) (ports : List PortPlan) (link new : LinkState) (lines after : Lines) (did : Served)
     → IsPlannedLink own plan ports link → IsTurn now link new lines after did
-    → Serves now plan.id.0 (pace_in plan (log lines)) link.subs new.subs lines after did
+    → Serves now plan (pace_in plan (log lines)) link.subs new.subs lines after did
 planned_turn now own plan ports link new lines after did m t =
-    subst (λ (n : ℕ). Serves now plan.id.0 (pace_of (bag_micros plan.bag) n (link_stream plan.id.0 (log lines)))
+    subst (λ (n : ℕ). Serves now plan (pace_of (bag_micros plan.bag) n (link_stream plan.id.0 (log lines)))
     link.subs new.subs lines after did) m.sub_vls
-    (subst (λ (g : ℕ). Serves now plan.id.0 (pace_of g link.pace.sub_vls (link_stream plan.id.0 (log lines)))
+    (subst (λ (g : ℕ). Serves now plan (pace_of g link.pace.sub_vls (link_stream plan.id.0 (log lines)))
     link.subs new.subs lines after did) m.gap
-    (subst (λ (p : LinkPlan). Serves now p.id.0 (pace_of link.pace.gap link.pace.sub_vls (link_stream p.id.0 (log lines)))
+    (subst (λ (p : LinkPlan). Serves now p (pace_of link.pace.gap link.pace.sub_vls (link_stream p.id.0 (log lines)))
     link.subs new.subs lines after did) m.plan t.serves))
 
 -- one turn of a planned link
@@ -105,10 +106,10 @@ turn_plain : (now own : ℕ) (plan : LinkPlan) (ports : List PortPlan) (link new
     → ((s : ℕ) → old s ≡ progress_of (held_at link.subs s)) → ((s : ℕ) → next s ≡ progress_of (held_at new.subs s))
     → IsTurn now link new lines after did → HasTurn now own plan old next lines after did
 turn_plain now own plan ports link new lines after did old next m was is t =
-    turn_seen now plan.id.0 (pace_in plan (log lines)) (held_view link.subs new.subs) (progress_view own plan old next)
-    lines after did
-    (plain_seen own plan (pace_in plan (log lines)) link.subs new.subs old next (λ s lt. (m.each s lt).of) was is)
-    (planned_turn now own plan ports link new lines after did m t)
+    let seen : IsSeenIn (pace_in plan (log lines)) (held_view link.subs new.subs) (progress_view own plan old next) =
+    plain_seen own plan (pace_in plan (log lines)) link.subs new.subs old next (λ s lt. (m.each s lt).of) was is in
+    turn_seen now plan (pace_in plan (log lines)) (held_view link.subs new.subs) (progress_view own plan old next)
+    lines after did seen.rests (λ _. seen) (planned_turn now own plan ports link new lines after did m t)
 
 -- a link that is the same is still the planned one
 still_planned : (own : ℕ) (plan : LinkPlan) (ports : List PortPlan) (link new : LinkState) → IsSameLink link new
@@ -130,33 +131,36 @@ still_planned own plan ports link new same m = record {
 
 -- what both networks hold where both stand
 mirrored_lines : (lines : Lines) → IsMirrored lines → lines.a_stands ≡ true → lines.b_stands ≡ true
-    → MatchesLines (log lines) lines
+    → MatchesLines lines.logged lines
 mirrored_lines lines m a b = record {
   is = refl;
-  a = all_kept A lines.a_stands lines.a (log lines) m.first a ∙ m.for_a;
-  b = all_kept B lines.b_stands lines.b (log lines) m.second b;
+  a = all_kept A lines.a_stands lines.a lines.logged m.first a;
+  b = all_kept B lines.b_stands lines.b lines.logged m.second b;
   for_a = a;
   for_b = b;
 }
   where
-    all_kept : (net : Net) (stands : Bool) (handed H : List Entry) → Keeps net stands handed H → stands ≡ true
-        → handed ≡ map (side net) H
-    all_kept net stands handed H k e =
-        k.front ∙ ap (λ (n : ℕ). map (side net) (take n H)) (k.all e) ∙ ap (map (side net)) (take_all (length H) H (omega arith))
+    all_kept : (net : Net) (stands : Bool) (handed : List Entry) (logged : List Logged) → Keeps net stands handed logged
+        → stands ≡ true → handed ≡ sent_to net logged
+    all_kept net stands handed logged k e =
+        let seen : logged ≡ k.seen =
+        k.whole ∙ ap (λ (missed : List Logged). k.seen ++ missed) (k.all e) ∙ append-nil k.seen in
+        k.got ∙ ap (sent_to net) (sym seen)
 
 -- the end system that matches an emitter after a poll
 abbrev pub left_at : EndSystem → ℕ → Tx → EndSystem
 left_at es now new = record {
   plan = es.plan;
   subs = λ k s. progress_of (held_at (link_at new.links k).subs s);
-  log = log new.lines;
+  log = new.lines.logged;
   moment = now;
 }
 
--- A poll of an emitter is one of the end system that it matches.
+-- A poll of an emitter is one of the end system that it matches, where both networks stand.
 pub polled_matches : (es : EndSystem) (old new : Tx) (now : ℕ) → MatchesTx es old
-    → IsRun now old.links new.links old.lines new.lines → HasPolled now es (left_at es now new)
-polled_matches es old new now m run = record {
+    → IsRun now old.links new.links old.lines new.lines
+    → new.lines.a_stands ≡ true → new.lines.b_stands ≡ true → HasPolled now es (left_at es now new)
+polled_matches es old new now m run a b = record {
   plan = refl;
   moment = refl;
   lines = old.lines;
@@ -171,6 +175,8 @@ polled_matches es old new now m run = record {
       before behind did (es.subs k) (λ s. progress_of (held_at (link_at new.links k).subs s)) (m.planned k within)
       (λ s. m.subs k s within) (λ s. refl) t)
       run.turns);
+  a_stands = a;
+  b_stands = b;
 }
 
 -- And leaves one that it matches, where both networks stand.

@@ -4,8 +4,9 @@ use Rattle.std.specs.Prelude.{IfSome, Ok, Err}
 use Rattle.std.specs.Io.KnownBytes.{Appends, Consumes}
 use Rattle.std.proofs.KnownBytes.{Appends-nil}
 use Rattle.afdx_plan.specs.Config.{Plan}
+use Rattle.afdx_frame.specs.declared.net.Net.TheVariants.{A, B}
 use Rattle.tx_script.specs.AtBench.{AtBench, IsFreshBench, ObeysFor, KeepsTotals, HaveSent, GaveTotals}
-use Rattle.tx_script.specs.EndSystem.{handed_b}
+use Rattle.tx_script.specs.EndSystem.{handed}
 use Rattle.script_lines.specs.Lines.{first_line}
 use Rattle.script_lines.specs.Meaning.{meaning_of}
 use Rattle.tx_script.specs.Play.{Play, play, start}
@@ -148,13 +149,13 @@ has_begun plan text old new bench ran gave =
       turns = blind (start plan) ran.turns;
       rest = ran.rest;
       written = st.notes;
-      unwritten = streams other.es.log (handed_b other.es);
+      unwritten = streams (handed A other.es) (handed B other.es);
       lines = blind_lines text (start plan) ran.turns ran.rest ran.lines;
       answers = blind_answers plan ran.turns ran.answers;
       finds = blind_finds st other is;
       totals = blind_totals st other is (start plan) ran.turns
           (totals_told st bench.tx bench.ports ran.planned ran.own gave ran.turns ran.told);
-      begins = ap (λ (notes : List ℕ). notes ++ streams other.es.log (handed_b other.es)) is.notes;
+      begins = ap (λ (notes : List ℕ). notes ++ streams (handed A other.es) (handed B other.es)) is.notes;
       wrote = ran.wrote;
     }
 

@@ -1,11 +1,12 @@
 -- An end system as a transcript knows it: what was taken of each sub-VL and what is left, no queue.
-use Rattle.std.specs.Prelude.{ℕ, ◌≡◌, ◌⊎◌, List, [], ◌∷◌, ◌++◌, length, map}
+use Rattle.std.specs.Prelude.{ℕ, ◌≡◌, ◌⊎◌, List, [], ◌∷◌, ◌++◌, length, true}
 use Rattle.afdx_plan.specs.Config.{Plan, link_plan_at}
 use Rattle.afdx_plan.specs.declared.link_plan.LinkPlan.{LinkPlan}
-use Rattle.afdx_frame.specs.declared.net.Net.TheVariants.{B}
+use Rattle.afdx_frame.specs.declared.net.Net.{Net}
 use Rattle.afdx_frame.specs.Fragments.{Sent, blanked}
 use Rattle.redundant_mux.specs.Entry.{Entry}
-use Rattle.redundant_mux.specs.Lines.{Lines, side, log as log_of}
+use Rattle.redundant_mux.specs.Logged.{Logged, sent_to}
+use Rattle.redundant_mux.specs.Lines.{Lines, log as log_of}
 use Rattle.vl_link.specs.declared.served.Served.{Served}
 use Rattle.vl_link.specs.declared.sub_vl.SubVl.{SubVl}
 use Rattle.vl_link.specs.Turn.{TurnView, Turn, AreTurns}
@@ -17,12 +18,12 @@ pub record Progress : Type 0 where
   pub taken : List Sent
   pub left : List (List ℕ)
 
--- The plan, the sub-VLs by the place of their link and their index, what was handed to network A, and
--- the moment of the last poll.
+-- The plan, the sub-VLs by the place of their link and their index, what was handed over, each frame with
+-- the networks that it is for, and the moment of the last poll.
 pub record EndSystem : Type 0 where
   pub plan : Plan
   pub subs : ℕ → ℕ → Progress
-  pub log : List Entry
+  pub log : List Logged
   pub moment : ℕ
 
 -- a message was found, and is now being sent
@@ -57,7 +58,7 @@ progress_view end_system link old new = record {
 -- one turn of the link of a plan, from its sub-VLs to others
 abbrev pub HasTurn : ℕ → ℕ → LinkPlan → (old new : ℕ → Progress) → (lines after : Lines) → Served → Type 0
 HasTurn now end_system link old new lines after did =
-    Turn now link.id.0 (pace_in link (log_of lines)) (progress_view end_system link old new)
+    Turn now link (pace_in link (log_of lines)) (progress_view end_system link old new)
     lines after did
 
 -- one turn of the link at a place
@@ -66,15 +67,17 @@ HasTurnAt now old new k lines after did =
     HasTurn now old.plan.end_system (link_plan_at old.plan.links k) (old.subs k) (new.subs k)
     lines after did
 
--- a poll: the links have their turns in order, and the last network isn't lost
+-- A poll: the links have their turns in order. Both networks stand afterwards, so that no turn lost a frame.
 pub record HasPolled (now : ℕ) (old new : EndSystem) : Type 0 where
   pub plan : new.plan ≡ old.plan
   pub moment : new.moment ≡ now
   pub lines : Lines
   pub after : Lines
-  pub was : log_of lines ≡ old.log
-  pub is : log_of after ≡ new.log
+  pub was : lines.logged ≡ old.log
+  pub is : after.logged ≡ new.log
   pub turns : AreTurns (HasTurnAt now old new) 0 (length old.plan.links) lines after
+  pub a_stands : after.a_stands ≡ true
+  pub b_stands : after.b_stands ≡ true
 
 -- nothing was sent
 abbrev pub no_progress : Progress
@@ -84,6 +87,6 @@ no_progress = record { taken = []; left = [] }
 abbrev pub fresh : Plan → EndSystem
 fresh plan = record { plan = plan; subs = λ k s. no_progress; log = []; moment = 0 }
 
--- what was handed to network B
-abbrev pub handed_b : EndSystem → List Entry
-handed_b es = map (side B) es.log
+-- what was handed to a network
+abbrev pub handed : Net → EndSystem → List Entry
+handed net es = sent_to net es.log

@@ -1,12 +1,12 @@
 -- An emitter whose messages and frames are those of an end system as a transcript knows it.
-use Rattle.std.specs.Prelude.{ℕ, ◌≡◌, ◌<◌, List, length, map, true}
+use Rattle.std.specs.Prelude.{ℕ, ◌≡◌, ◌<◌, List, length, true}
 use Rattle.afdx_plan.specs.Config.{link_plan_at}
 use Rattle.afdx_plan.specs.Plan.{bag_micros}
 use Rattle.afdx_plan.specs.declared.link_plan.LinkPlan.{LinkPlan}
 use Rattle.afdx_plan.specs.declared.port_plan.PortPlan.{PortPlan}
-use Rattle.afdx_frame.specs.declared.net.Net.TheVariants.{B}
-use Rattle.redundant_mux.specs.Entry.{Entry}
-use Rattle.redundant_mux.specs.Lines.{Lines, side, log as log_of}
+use Rattle.afdx_frame.specs.declared.net.Net.TheVariants.{A, B}
+use Rattle.redundant_mux.specs.Logged.{Logged, sent_to}
+use Rattle.redundant_mux.specs.Lines.{Lines}
 use Rattle.vl_link.specs.declared.sub_vl.SubVl.{SubVl}
 use Rattle.vl_link.specs.Seen.{ports_of}
 use Rattle.vl_link.specs.Links.{Held, LinkState, held_at, link_at, taken_by}
@@ -33,11 +33,11 @@ pub record IsPlannedLink (own : ℕ) (planned : LinkPlan) (ports : List PortPlan
 abbrev pub progress_of : Held → Progress
 progress_of held = record { taken = taken_by held; left = held.left }
 
--- both networks stand, and hold what was handed over
-pub record MatchesLines (log : List Entry) (lines : Lines) : Type 0 where
-  pub is : log_of lines ≡ log
-  pub a : lines.a ≡ log
-  pub b : lines.b ≡ map (side B) log
+-- both networks stand, and each holds what was handed over for it
+pub record MatchesLines (log : List Logged) (lines : Lines) : Type 0 where
+  pub is : lines.logged ≡ log
+  pub a : lines.a ≡ sent_to A log
+  pub b : lines.b ≡ sent_to B log
   pub for_a : lines.a_stands ≡ true
   pub for_b : lines.b_stands ≡ true
 

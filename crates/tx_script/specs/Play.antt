@@ -4,6 +4,7 @@ use Rattle.std.specs.Prelude.{◌∷◌, ◌++◌, length, position, All, Contai
 use Rattle.afdx_plan.specs.Config.{Plan, port_plan_at, link_plan_at}
 use Rattle.afdx_plan.specs.declared.link_plan.LinkPlan.{LinkPlan}
 use Rattle.afdx_plan.specs.declared.port_plan.PortPlan.{PortPlan}
+use Rattle.afdx_frame.specs.declared.net.Net.TheVariants.{A, B}
 use Rattle.afdx_frame.specs.Fragments.{Sent}
 use Rattle.afdx_tx.specs.declared.fault.Refusal.{Refusal as SendRefusal}
 use Rattle.afdx_tx.specs.declared.fault.Refusal.TheVariants as Why
@@ -11,7 +12,7 @@ use Rattle.afdx_tx.specs.Emitter.{ports_of_sub}
 use Rattle.afdx_plan.specs.Places.{link_place}
 use Rattle.afdx_legal.specs.Allowed.{messages_of}
 use Rattle.afdx_tx.specs.Sending.{length_refusal}
-use Rattle.tx_script.specs.EndSystem.{EndSystem, HasPolled, fresh, handed_b}
+use Rattle.tx_script.specs.EndSystem.{EndSystem, HasPolled, fresh, handed}
 use Rattle.script_lines.specs.Meaning.{meaning_of}
 use Rattle.transcript.specs.Summary.{counted}
 use Rattle.transcript.specs.Transcript.{note_of, streams}
@@ -171,9 +172,9 @@ AreAnswers st [] = Unit {0}
 AreAnswers st (turn ∷ turns) =
     IsAnswer st.es (meaning_of turn.line) turn.answer × AreAnswers (play_line turn st) turns
 
--- the whole text: the notes, the lines of network A and then those of B
+-- the whole text: the notes, the lines of what was handed to network A and then those of B
 abbrev pub transcript : Play → List ℕ
-transcript st = st.notes ++ streams st.es.log (handed_b st.es)
+transcript st = st.notes ++ streams (handed A st.es) (handed B st.es)
 
 -- the messages that looks found of the sub-VL of a port
 abbrev pub found_beside : EndSystem → PortPlan → List Sent

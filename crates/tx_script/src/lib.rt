@@ -19,7 +19,8 @@
 //!
 //! Behind them stand the frames that were handed to network A, in their order, and then those that were
 //! handed to B, each with its moment and its bytes in hexadecimal, from the destination MAC address to
-//! the sequence number. What is still queued at the end of the script isn't sent.
+//! the sequence number. Each frame is written on the networks that its link names. What is still queued
+//! at the end of the script isn't sent.
 //!
 //! # An example
 //!

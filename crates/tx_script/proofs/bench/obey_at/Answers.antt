@@ -1,6 +1,5 @@
-use Rattle.std.proofs.Common.{◌≡◌, ℕ, Bool, true, false, ap, sym, ◌∙◌, subst, if◌then◌else◌, nat_lt, arith, ◌||◌, ◌-◌, length, refl, rules}
+use Rattle.std.proofs.Common.{◌≡◌, ℕ, Bool, true, false, ap, sym, ◌∙◌, subst, if◌then◌else◌, nat_lt, arith, ◌-◌, length, refl, rules}
 use Rattle.std.proofs.lemmas.Bool.{le-ltb}
-use Rattle.redundant_mux.specs.Lines.{is_alive, log}
 use Rattle.tx_script.specs.EndSystem.{EndSystem, HasPolled}
 use Rattle.tx_script.specs.Play.{Messages, leaves}
 use Rattle.tx_script.specs.AtBench.{AtBench, Matches, Obeys, KeepsTotals}
@@ -16,14 +15,14 @@ use Rattle.tx_script.proofs.bench.obey_at.Goals.{else-report-via-else-report, in
 -- a poll at a moment that is not before the last one
 poll_obeys : (es : EndSystem) (new : AtBench) (moment released : ℕ) (accepted : Messages)
     → nat_lt moment es.moment ≡ false → HasPolled moment es (left_at es moment new.tx)
-    → released ≡ length (log new.tx.lines) - length es.log → Matches accepted (left_at es moment new.tx) new
+    → released ≡ length new.tx.lines.logged - length es.log → Matches accepted (left_at es moment new.tx) new
     → Obeys (At moment) accepted es new (Released released)
 poll_obeys es new moment released accepted on polls many m = record {
   answer = leaves (left_at es moment new.tx);
   may = λ later. polls;
   told = tt;
   is = ap Released many
-      ∙ sym (ap (λ (b : Bool). if b then Refused TimeBack else Released (length (log new.tx.lines) - length es.log)) on);
+      ∙ sym (ap (λ (b : Bool). if b then Refused TimeBack else Released (length new.tx.lines.logged - length es.log)) on);
   matches = subst (λ (e : EndSystem). Matches accepted e new)
       (sym (ap (λ (b : Bool). if b then es else left_at es moment new.tx) on)) m;
 }
@@ -33,19 +32,18 @@ returns-clause-ok c = elim c.match-poll.branch [
   | in-Ok+then-report+then-report-2 w ↦ rw w.result-is (λ accepted es m.
       let a : c.poll.new.self.lines.a_stands ≡ true = sym w.in-Ok.ensures.told.a_stands ∙ w.if-report.true in
       let b : c.poll.new.self.lines.b_stands ≡ true = sym w.in-Ok.ensures.told.b_stands ∙ w.if-report-2.true in
-      let alive : is_alive c.poll.new.self.lines ≡ true = ap (λ (x : Bool). x || c.poll.new.self.lines.b_stands) a in
       let before : Matches accepted es (record { tx = c.bench.inside.emitter; ports = c.bench.inside.ports.items }) =
       subst (Matches accepted es) (sym c.bench.view_is) m in
-      let run = w.in-Ok.ensures.run alive in
+      let run = w.in-Ok.ensures.run in
       let left = left_matches es c.bench.inside.emitter c.poll.new.self c.args.moment before.emitter run
       w.in-Ok.ensures.mirrored a b w.in-Ok.ensures.plan w.in-Ok.ensures.told.moment in
-      let many = released_many es.log (log c.poll.new.self.lines) c.bench.inside.emitter c.poll.new.self c.args.moment
+      let many = released_many es.log c.poll.new.self.lines.logged c.bench.inside.emitter c.poll.new.self c.args.moment
       w.in-Ok.report.released.items before.emitter.lines.is refl w.in-Ok.ensures.told.released in
       let early : nat_lt c.args.moment es.moment ≡ false =
       le-ltb c.args.moment es.moment
       (let now = c.now.ensures in let last = before.emitter.moment in let on = c.if-moment-now.false in omega arith) in
       poll_obeys es (record { tx = c.poll.new.self; ports = c.bench.inside.ports.items }) c.args.moment w.len.result
-      accepted early (polled_matches es c.bench.inside.emitter c.poll.new.self c.args.moment before.emitter run)
+      accepted early (polled_matches es c.bench.inside.emitter c.poll.new.self c.args.moment before.emitter run a b)
       (w.len.ensures.value ∙ many)
       (record { emitter = left; own = before.own }))
   | in-Ok+else-report w ↦ elim w.else-report.branch [
