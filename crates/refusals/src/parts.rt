@@ -12,7 +12,7 @@ use crate::quiet::tell_fields;
 use crate::shelf::empty_shelf;
 use crate::trouble::Trouble;
 use afdx_frame::{Cut, Frame, Net, twin};
-use afdx_plan::{Bag, Config, jitter_ns};
+use afdx_plan::{Bag, Config, Networks, jitter_ns};
 use redundant_mux::Mux;
 use status_board::open_board;
 use std::alloc::Global;
@@ -85,7 +85,7 @@ fn frame_for_a() -> Frame
 fn use_mux<W: Write>(out: &mut W) -> Result<(), Trouble> {
     let mut mux = Mux::new(empty_shelf(4), empty_shelf(0));
     let frame = frame_for_a();
-    match mux.hand(7, &frame) {
+    match mux.hand(7, &frame, Networks::Both) {
         Ok(standing) => {
             let (a, b) = (told(standing.a), told(standing.b));
             writeln!(out, "A stands: {a}, B stands: {b}")?;

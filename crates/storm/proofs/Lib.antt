@@ -1,2 +1,3 @@
+pub mod OnBoth
 pub mod Spent
 pub mod Whole

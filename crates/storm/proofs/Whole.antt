@@ -1,23 +1,19 @@
 -- What was handed over, once the ports of a storm are gathered and all is sent.
-use Rattle.std.proofs.Common.{◌≡◌, ◌∙◌, ℕ, ◌<◌, List, length, All, refl, ap, sym, subst}
+use Rattle.std.proofs.Common.{◌≡◌, ◌∙◌, ℕ, ◌<◌, List, length, All, ap, sym, subst}
 use Rattle.std.proofs.lemmas.List.Elements.{All-contains}
 use Rattle.afdx_plan.specs.Config.{Plan}
 use Rattle.redundant_mux.specs.Entry.{Entry}
-use Rattle.redundant_mux.specs.Lines.{Lines, log}
+use Rattle.redundant_mux.specs.Lines.{log}
 use Rattle.afdx_legal.specs.Legal.{Accepted, IsLegal}
 use Rattle.afdx_legal.specs.Allowed.{AreAllowed, AreOwn}
-use Rattle.afdx_legal.specs.Done.{IsAllDone, IsHandedWhole, longer_list}
+use Rattle.afdx_legal.specs.Done.{IsAllDone, IsHandedWhole}
+use Rattle.afdx_legal.specs.Own.{AreOwnStreams}
 use Rattle.afdx_tx.specs.Drain.{accepted_in}
 use Rattle.afdx_tx.specs.Emitter.{Tx}
 use Rattle.afdx_tx.specs.Gathering.{IsGatheredTx}
 use Rattle.afdx_tx.specs.Ports.{PortView}
 use Rattle.storm.specs.Messages.{own_messages}
 use Rattle.storm.specs.Workers.{AreSpent}
-
--- the longer of two lists is told by the lists alone
-log_is : (lines : Lines) → log lines ≡ longer_list lines.a lines.b
-unfolding log
-log_is lines = refl
 
 -- what was accepted of each port is its own list
 gathered_own : (tx gathered : Tx) (n : ℕ) (ports : List PortView) → AreSpent tx n ports → IsGatheredTx tx ports gathered
@@ -32,10 +28,11 @@ gathered_own tx gathered n ports spent g place lt =
 pub handed_whole : (tx gathered drained : Tx) (n : ℕ) (ports : List PortView) (a b : List Entry) → AreSpent tx n ports
     → IsGatheredTx tx ports gathered → drained.plan ≡ gathered.plan → accepted_in drained.links ≡ accepted_in gathered.links
     → IsAllDone drained.plan (accepted_in drained.links) (log drained.lines)
+    → AreOwnStreams drained.plan (log drained.lines) drained.lines.a drained.lines.b
     → IsLegal drained.plan (accepted_in drained.links) drained.lines.a drained.lines.b
     → AreAllowed drained.plan (accepted_in drained.links) → a ≡ drained.lines.a → b ≡ drained.lines.b
     → IsHandedWhole tx.plan (own_messages tx.plan n) a b
-handed_whole tx gathered drained n ports a b spent g plan accepted done legal allowed at_a at_b =
+handed_whole tx gathered drained n ports a b spent g plan accepted done streams legal allowed at_a at_b =
     let own = own_messages tx.plan n in
     let owned : AreOwn drained.plan (accepted_in drained.links) own =
     subst (λ (p : Plan). AreOwn p (accepted_in drained.links) own) (sym plan)
@@ -48,5 +45,7 @@ handed_whole tx gathered drained n ports a b spent g plan accepted done legal al
       legal = legal;
       allowed = allowed;
       are_own = owned;
-      done = subst (IsAllDone drained.plan (accepted_in drained.links)) (log_is drained.lines) done;
+      log = log drained.lines;
+      streams = streams;
+      done = done;
     })))

@@ -3,6 +3,7 @@ ghost use Rattle.std.specs.Prelude.{◌≡◌, ◌*◌, ◌≤◌, length, IfOk}
 ghost use Rattle.redundant_mux.specs.Lines.{log};
 ghost use Rattle.afdx_legal.specs.Allowed.{AreOwn};
 ghost use Rattle.afdx_legal.specs.Done.{IsAllDone};
+ghost use Rattle.afdx_legal.specs.Own.{AreOwnStreams};
 ghost use Rattle.afdx_tx.specs.Drain.{accepted_in};
 ghost use Rattle.afdx_tx.specs.Ports.{AreOpenedWith, HasEveryPlace};
 ghost use Rattle.afdx_tx.specs.Gathering.{IsGatheredTx};
@@ -66,6 +67,8 @@ pub(crate) fn drain<A: Network + Drop, B: Network + Drop, G: Gate, R: Wait>(
         accepted_in drained.links ≡ accepted_in draining.links) }
     ensures done { IfOk result (λ drained. IsAllDone drained.plan
         (accepted_in drained.links) (log drained.lines)) }
+    ensures streams { IfOk result (λ drained. AreOwnStreams drained.plan
+        (log drained.lines) drained.lines.a drained.lines.b) }
 {
     let mut draining = draining;
     for turn in 0..turns {

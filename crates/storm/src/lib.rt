@@ -2,6 +2,7 @@
 //! is polled and another thread reads the counts of its links.
 #![tactic(auto)]
 
+mod both;
 mod drain;
 mod fault;
 mod gate;

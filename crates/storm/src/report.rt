@@ -1,12 +1,13 @@
 //! The storm, and its report.
 ghost use Rattle.std.specs.Prelude.{◌≡◌, ◌↔◌, ◌*◌, ◌≤◌, ◌<◌, [], length, map, IsTrue, false, vec_len, IfOk};
 ghost use Rattle.afdx_frame.specs.declared.net.Net.TheVariants.{B as ForB};
-ghost use Rattle.redundant_mux.specs.Lines.{side};
+ghost use Rattle.redundant_mux.specs.Logged.{side};
 ghost use Rattle.afdx_legal.specs.Done.{IsHandedWhole};
-ghost use Rattle.afdx_legal.specs.Legal.{AreTwins};
+ghost use Rattle.afdx_legal.specs.Legal.{on_both};
 ghost use Rattle.storm.specs.Answers.{HasShortPort, IsShort, IsSomeShort};
 ghost use Rattle.storm.specs.Messages.{own_messages};
 
+use crate::both::{KeptLinks, are_equal};
 use crate::fault::{StormFault, fault_of};
 use crate::gate::Gate;
 use crate::load::Load;
@@ -26,7 +27,8 @@ pub struct StormReport {
     pub accepted: u64,
     /// A reading of each link, in the order of the configuration, once all was sent.
     pub links: Vec<Counts>,
-    /// Whether both networks were handed the same frames, each its twins, at the same moments.
+    /// Whether over the links that both networks carry they were handed the same frames, each its twins,
+    /// at the same moments.
     pub equal: bool,
     /// Whether a count of a link was seen to fall.
     pub back: bool,
@@ -40,14 +42,6 @@ fn has_short_port(ports: &[PortPlan]) -> bool
     ensures { IsTrue result ↔ IsSomeShort ports.now }
 {
     ports.iter().any(|port| port.max < MESSAGE_BYTES)
-}
-
-/// Whether two lists, one of which is the twins of a beginning of the other, are twins entry by entry.
-fn are_equal(a: &MemNetwork, b: &MemNetwork) -> bool
-    requires { AreTwins side a.now.handed b.now.handed }
-    ensures { IsTrue result ↔ (b.now.handed ≡ map (side ForB) a.now.handed) }
-{
-    a.handed().len() == b.handed().len()
 }
 
 /// `storm` over two networks in memory that were handed nothing and have not failed.
@@ -74,18 +68,20 @@ pub fn storm_over<G: Gate + Sync, R: Threads + Wait + Sync>(
         report.accepted ≡ length config.ports * messages) }
     ensures links { IfOk result (λ report. vec_len report.links ≡ length config.links) }
     ensures equal { IfOk result (λ report. IsTrue report.equal
-        ↔ (report.b.handed ≡ map (side ForB) report.a.handed)) }
+        ↔ (on_both config.links report.b.handed
+        ≡ map (side ForB) (on_both config.links report.a.handed))) }
     ensures back { IfOk result (λ report. report.back ≡ false) }
 {
     if has_short_port(config.ports()) {
         return Err(StormFault::Short);
     }
+    let kept = KeptLinks::of(config.links());
     let load = Load { messages, turns };
     let outcome = run_storm(rt, alloc, config, a, b, load, gate).map_err(fault_of)?;
     Ok(StormReport {
         accepted: outcome.accepted,
         links: outcome.links,
-        equal: are_equal(&outcome.a, &outcome.b),
+        equal: are_equal(kept.as_slice(), &outcome.a, &outcome.b),
         back: outcome.back,
         a: outcome.a,
         b: outcome.b,
@@ -99,7 +95,8 @@ pub fn storm_over<G: Gate + Sync, R: Threads + Wait + Sync>(
 /// and this thread may poll `turns` times while they run, and as often once more after them.
 ///
 /// Where it answers, all that the ports sent was handed over legally, every fragment of it, and nothing
-/// else.
+/// else. What is left of a link that one network alone carries is never sent once that network failed:
+/// while the other one stands, the turns are used up.
 pub fn storm<G: Gate + Sync, R: Threads + Wait + Sync>(
     rt: &R,
     alloc: Global,
@@ -117,7 +114,8 @@ pub fn storm<G: Gate + Sync, R: Threads + Wait + Sync>(
         report.accepted ≡ length config.ports * messages) }
     ensures links { IfOk result (λ report. vec_len report.links ≡ length config.links) }
     ensures equal { IfOk result (λ report. IsTrue report.equal
-        ↔ (report.b.handed ≡ map (side ForB) report.a.handed)) }
+        ↔ (on_both config.links report.b.handed
+        ≡ map (side ForB) (on_both config.links report.a.handed))) }
     ensures back { IfOk result (λ report. report.back ≡ false) }
 {
     let (a, b) = (MemNetwork::new(alloc), MemNetwork::new(alloc));

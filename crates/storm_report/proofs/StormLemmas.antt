@@ -6,8 +6,9 @@ use Rattle.afdx_plan.specs.declared.link_plan.LinkPlan.{LinkPlan}
 use Rattle.afdx_config.specs.Faults.{IsPlanOf}
 use Rattle.afdx_frame.specs.declared.net.Net.TheVariants.{B}
 use Rattle.redundant_mux.specs.Entry.{Entry}
-use Rattle.redundant_mux.specs.Lines.{side}
+use Rattle.redundant_mux.specs.Logged.{side}
 use Rattle.afdx_legal.specs.Done.{IsHandedWhole}
+use Rattle.afdx_legal.specs.Legal.{on_both}
 use Rattle.status_board.specs.declared.counts.Counts.{Counts}
 use Rattle.storm.specs.Answers.{HasShortPort}
 use Rattle.storm.specs.Messages.{own_messages}
@@ -19,7 +20,8 @@ use Rattle.storm_report.specs.Totals.{totals_text}
 -- what was written of a storm that came to its end
 pub reports_storm : (remaining : Option (List ℕ)) (plan : Plan) (n : ℕ) (a b : List Entry) (equal back : Bool) (counts : List Counts)
     (links : List LinkPlan) (accepted : ℕ) (old new : Option (List ℕ)) → IfSome remaining (λ text. IsPlanOf text plan)
-    → (HasShortPort plan → ⊥) → IsHandedWhole plan (own_messages plan n) a b → (IsTrue equal ↔ (b ≡ map (side B) a))
+    → (HasShortPort plan → ⊥) → IsHandedWhole plan (own_messages plan n) a b
+    → (IsTrue equal ↔ (on_both plan.links b ≡ map (side B) (on_both plan.links a)))
     → length counts ≡ length plan.links → accepted ≡ length plan.ports * n → back ≡ false → links ≡ plan.links
     → Appends old new (totals_text links accepted counts equal back)
     → IfSome remaining (λ text. ReportsStorm text n old new)

@@ -6,8 +6,9 @@ use Rattle.afdx_plan.specs.declared.fault.ConfigFault.TheVariants as Plans
 use Rattle.afdx_config.specs.Faults.{IsPlanOf, IsLeastFault}
 use Rattle.afdx_frame.specs.declared.net.Net.TheVariants.{B}
 use Rattle.redundant_mux.specs.Entry.{Entry}
-use Rattle.redundant_mux.specs.Lines.{side}
+use Rattle.redundant_mux.specs.Logged.{side}
 use Rattle.afdx_legal.specs.Done.{IsHandedWhole}
+use Rattle.afdx_legal.specs.Legal.{on_both}
 use Rattle.status_board.specs.declared.counts.Counts.{Counts}
 use Rattle.transcript.specs.declared.run_fault.RunFault.TheVariants as Ran
 use Rattle.plan_report.specs.declared.failure.Failure.{Failure}
@@ -42,9 +43,9 @@ IsStormRefusal text (Failures.Run Ran.Memory) = ⊤
 IsStormRefusal text _ = ⊥
 
 -- What was written of a storm over the plan of a text, each of whose ports sent its messages 1 to n: that
--- all of them were accepted, that the networks are equal exactly where what they were handed is twins entry by
--- entry, and that no count was seen to fall. All that was sent was handed over legally, every fragment of it, and nothing
--- else.
+-- all of them were accepted, that the networks are equal exactly where what they were handed of links on both is
+-- twins entry by entry, and that no count was seen to fall. All that was sent was handed over legally, every fragment of
+-- it, and nothing else.
 pub record ReportsStorm (text : List ℕ) (n : ℕ) (old new : Option (List ℕ)) : Type 0 where
   pub plan : Plan
   pub is_plan : IsPlanOf text plan
@@ -53,7 +54,7 @@ pub record ReportsStorm (text : List ℕ) (n : ℕ) (old new : Option (List ℕ)
   pub b : List Entry
   pub whole : IsHandedWhole plan (own_messages plan n) a b
   pub equal : Bool
-  pub twins : IsTrue equal ↔ (b ≡ map (side B) a)
+  pub twins : IsTrue equal ↔ (on_both plan.links b ≡ map (side B) (on_both plan.links a))
   pub counts : List Counts
   pub count : length counts ≡ length plan.links
   pub wrote : Appends old new (totals_text plan.links (length plan.ports * n) counts equal false)

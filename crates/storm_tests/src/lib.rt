@@ -8,6 +8,8 @@ mod gates;
 #[cfg(test)]
 mod great_tests;
 #[cfg(test)]
+mod one_network_tests;
+#[cfg(test)]
 mod plans;
 #[cfg(test)]
 mod storm_tests;

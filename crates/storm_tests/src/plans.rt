@@ -36,6 +36,26 @@ pub(crate) fn small_plan(alloc: Global, capacity: u16, max: u16) -> Result<Confi
     read_config(alloc, text.as_bytes()).map_err(|_| Fail::from("a valid plan"))
 }
 
+// End system 1 with link 1 on both networks and link 2 on network A alone, with one port each.
+fn text_with_link_on_a(alloc: Global) -> Result<String, AllocError> {
+    let mut text = format!(in alloc; "version = 2\n[end_system]\nid = 1\n")?;
+    for (id, networks) in [(1, "both"), (2, "a")] {
+        writeln!(
+            text,
+            "[[vl]]\nid = {id}\nbag_ms = 1\nlmax = 64\nsub_vls = 1\ncapacity = 16\nnetworks = \"{networks}\""
+        )?;
+    }
+    push_port(&mut text, 1, 1, 0, 6)?;
+    push_port(&mut text, 2, 2, 0, 6)?;
+    Ok(text)
+}
+
+// The plan of that text.
+pub(crate) fn plan_with_link_on_a(alloc: Global) -> Result<Config, Fail> {
+    let text = text_with_link_on_a(alloc)?;
+    read_config(alloc, text.as_bytes()).map_err(|_| Fail::from("a valid plan"))
+}
+
 // How many links the great plan has, with a sub-VL for each of four ports.
 pub(crate) const LINKS: u16 = 64;
 

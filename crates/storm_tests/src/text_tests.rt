@@ -2,7 +2,7 @@
 ghost use Rattle.std.specs.Prelude.{◌≡◌, ◌≤◌, ◌+◌, IfOk, length};
 
 use crate::plans::small_text;
-use afdx_plan::{Bag, LinkPlan, Lmax, VlId};
+use afdx_plan::{Bag, LinkPlan, Lmax, Networks, VlId};
 use plan_report::Failure;
 use redundant_mux::MemNetwork;
 use status_board::Counts;
@@ -107,6 +107,7 @@ fn link(id: u16) -> LinkPlan {
         lmax: Lmax::new(64),
         sub_vls: 1,
         capacity: 1,
+        networks: Networks::Both,
     }
 }
 

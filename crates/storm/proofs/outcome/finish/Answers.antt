@@ -24,8 +24,8 @@ returns-clause-whole g c =
     let joined = c.args.joined in
     handed_whole joined.tx c.gather_all-draining.result c.in_ok-draining.draining c.args.load.messages joined.ports.items _ _
     c.requires.ports c.gather_all-draining.ensures c.in_ok-draining.ensures.plan c.in_ok-draining.ensures.accepted
-    c.in_ok-draining.ensures.done c.into_networks-a.ensures.legal c.into_networks-a.ensures.allowed
-    c.into_networks-a.ensures.a c.into_networks-a.ensures.b
+    c.in_ok-draining.ensures.done c.in_ok-draining.ensures.streams c.into_networks-a.ensures.legal
+    c.into_networks-a.ensures.allowed c.into_networks-a.ensures.a c.into_networks-a.ensures.b
 
 pub returns-clause-accepted : goal.returns-clause-accepted
 returns-clause-accepted g c =

@@ -1,6 +1,6 @@
 use Rattle.std.proofs.Common.{arith}
 use Rattle.std.proofs.lemmas.Grind.{common_steps}
-use Rattle.storm.proofs.report.are_equal.Goals as goal
+use Rattle.storm.proofs.both.KeptLinks.of.Goals as goal
 
 pub returns : goal.returns
 returns c = grind (arith, common_steps)

@@ -1,0 +1,14 @@
+use Rattle.std.proofs.Common.{length, arith, sym, subst, ◌≤◌, List, ℕ}
+use Rattle.std.proofs.lemmas.Grind.{common_steps}
+use Rattle.storm.proofs.OnBoth.{has_link, count_more}
+use Rattle.storm.proofs.both.count_on_both.Goals as goal
+
+pub link_of-requires : goal.link_of-requires
+link_of-requires c =
+    subst (λ (frame : List ℕ). 6 ≤ length frame) (sym c.deref.ensures.0)
+    (has_link c.args.handed.now c.loop-one.one-index c.one-item.result c.loop-one-test.true c.one-item.is c.requires)
+
+pub loop-one-preserved : goal.loop-one-preserved
+loop-one-preserved c =
+    let more = count_more c.args.links.now c.args.handed.now c.loop-one.one-index c.one-item.result c.loop-one-test.true c.one-item.is in
+    grind (arith, common_steps, more)

@@ -1,0 +1,11 @@
+use Rattle.std.proofs.Common.{◌&&◌, nat_eq, rules, tests}
+use Rattle.std.proofs.lemmas.Iterator.{YieldsList-from_slice}
+use Rattle.std.proofs.lemmas.Iterator.Search.{any_from_yields_List}
+use Rattle.afdx_plan.specs.Networks.{is_both}
+use Rattle.afdx_plan.specs.declared.link_plan.LinkPlan.{LinkPlan}
+use Rattle.storm.proofs.both.is_on_both.Goals as goal
+
+pub returns : goal.returns
+returns c =
+    any_from_yields_List (λ (link : LinkPlan). nat_eq link.id.0 c.args.vl.0 && is_both link.networks) _ _ _ c.any.ensures.ran
+    (YieldsList-from_slice c.args.links.now cc) (λ x b q k. search (rules, tests))

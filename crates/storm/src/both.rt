@@ -1,0 +1,94 @@
+//! Whether two networks were handed the same over the links that both carry.
+ghost use Rattle.std.specs.Prelude.{◌≡◌, ◌↔◌, ◌≤◌, length, map, IsTrue, All};
+ghost use Rattle.afdx_frame.specs.Header.{link_in};
+ghost use Rattle.afdx_frame.specs.declared.net.Net.TheVariants.{A as ForA, B as ForB};
+ghost use Rattle.redundant_mux.specs.Logged.{side};
+ghost use Rattle.redundant_mux.specs.Memory.{entries};
+ghost use Rattle.afdx_legal.specs.Legal.{AreKnown, AreTwins, is_on_both, on_both};
+
+use afdx_plan::{LINKS_LIMIT, LinkPlan, VlId};
+use redundant_mux::{Handed, MemNetwork};
+use std::marker::Model;
+
+/// The links of a configuration, which outlive it. Contracts see their list.
+#[derive(Drop)]
+pub(crate) struct KeptLinks {
+    // The first so many are the links.
+    places: [LinkPlan; LINKS_LIMIT],
+    count: usize,
+}
+
+impl Model for KeptLinks {
+    ghost use Rattle.std.specs.Prelude.{◌≤◌, List, take};
+    ghost use Rattle.afdx_plan.specs.declared.limits.TheConstants.{LINKS_LIMIT};
+    ghost use Rattle.afdx_plan.specs.declared.link_plan.LinkPlan.{LinkPlan};
+
+    ghost Value = { List LinkPlan };
+
+    ghost view = { λ kept. take kept.count kept.places };
+
+    ghost invariant = { λ kept. kept.count ≤ LINKS_LIMIT };
+}
+
+impl KeptLinks {
+    /// These links. The places behind them hold the first one again.
+    pub(crate) fn of(links: &[LinkPlan]) -> KeptLinks
+        requires some { 1 ≤ length links.now }
+        requires most { length links.now ≤ LINKS_LIMIT }
+        ensures { result ≡ links.now }
+    {
+        let count = links.len();
+        let mut places = [links[0]; LINKS_LIMIT];
+        places[..count].copy_from_slice(links);
+        KeptLinks { places, count }
+    }
+
+    /// The links.
+    pub(crate) fn as_slice(&self) -> &[LinkPlan]
+        ensures { result.now ≡ self.now }
+    {
+        &self.places[..self.count]
+    }
+}
+
+/// Whether both networks carry the link with an identifier.
+fn is_on_both(links: &[LinkPlan], vl: VlId) -> bool
+    ensures { result ≡ is_on_both links.now vl.0 }
+{
+    links.iter().any(|link| link.id.0 == vl.0 && link.networks.names_a() && link.networks.names_b())
+}
+
+/// The link of a frame, from its destination MAC address.
+fn link_of(frame: &[u8]) -> VlId
+    requires { 6 ≤ length frame.now }
+    ensures { result.0 ≡ link_in frame.now }
+{
+    VlId(256 * u16::from(frame[4]) + u16::from(frame[5]))
+}
+
+/// How many of these frames are of links that both networks carry.
+fn count_on_both(links: &[LinkPlan], handed: &[Handed]) -> usize
+    requires { All (λ e. 6 ≤ length e.frame) (entries handed.now) }
+    ensures { result ≡ length (on_both links.now (entries handed.now)) }
+{
+    let mut count = 0;
+    for one in handed {
+        if is_on_both(links, link_of(&one.frame)) {
+            count += 1;
+        }
+    }
+    count
+}
+
+/// Whether two networks were handed twins, entry by entry, over the links that both carry. What the one
+/// was handed over these is the twins of a beginning of what the other was.
+pub(crate) fn are_equal(links: &[LinkPlan], a: &MemNetwork, b: &MemNetwork) -> bool
+    requires known_a { AreKnown links.now ForA a.now.handed }
+    requires known_b { AreKnown links.now ForB b.now.handed }
+    requires twins { AreTwins side (on_both links.now a.now.handed)
+        (on_both links.now b.now.handed) }
+    ensures { IsTrue result ↔ (on_both links.now b.now.handed
+        ≡ map (side ForB) (on_both links.now a.now.handed)) }
+{
+    count_on_both(links, a.handed()) == count_on_both(links, b.handed())
+}
