@@ -5,6 +5,7 @@ ghost use Rattle.afdx_plan.specs.Demo.{demo_plan};
 ghost use Rattle.redundant_mux.specs.Lines.{log};
 ghost use Rattle.afdx_legal.specs.Allowed.{AreOwn};
 ghost use Rattle.afdx_legal.specs.Done.{IsAllDone, IsHandedWhole};
+ghost use Rattle.afdx_legal.specs.Own.{AreOwnStreams};
 ghost use Rattle.afdx_tx.specs.Drain.{accepted_in};
 ghost use Rattle.afdx_tx.specs.Emitter.{queues_in, total_in};
 ghost use Rattle.afdx_tx.specs.Ports.{Accepts, IsPortOfTx};
@@ -133,6 +134,8 @@ fn drain_whole<R: Abort>(rt: &R, mut draining: Drain) -> Result<Drain, Fail>
         accepted_in drained.links ≡ accepted_in draining.links) }
     ensures done { IfOk result (λ drained. IsAllDone drained.plan
         (accepted_in drained.links) (log drained.lines)) }
+    ensures streams { IfOk result (λ drained. AreOwnStreams drained.plan
+        (log drained.lines) drained.lines.a drained.lines.b) }
 {
     for _turn in 0..3 {
         if draining.is_done() {

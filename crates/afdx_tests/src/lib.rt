@@ -16,7 +16,13 @@ mod headline_tests;
 #[cfg(test)]
 mod library_call;
 #[cfg(test)]
+mod list_model;
+#[cfg(test)]
+mod mixed_tests;
+#[cfg(test)]
 mod network_tests;
+#[cfg(test)]
+mod one_network_tests;
 #[cfg(test)]
 mod pausing_tests;
 #[cfg(test)]

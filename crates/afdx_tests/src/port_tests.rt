@@ -51,7 +51,7 @@ type Tx = Emitter<MemNetwork, MemNetwork>;
 type Drain = Draining<MemNetwork, MemNetwork>;
 
 /// Each of the two ports of an emitter.
-fn take_two(tx: &Tx, mut ports: Vec<TxPort>) -> Result<(TxPort, TxPort), Fail>
+pub(crate) fn take_two(tx: &Tx, mut ports: Vec<TxPort>) -> Result<(TxPort, TxPort), Fail>
     requires { AreOpenedWith tx.now ports.items }
     ensures first { IfOk result (λ two. IsPortOfTx tx.now two.0) }
     ensures second { IfOk result (λ two. IsPortOfTx tx.now two.1) }
@@ -97,7 +97,12 @@ fn a_message_that_is_refused_comes_back(rt: HostRuntime) -> Result<(), Fail> {
 }
 
 /// Both ports of an emitter, the second one first.
-fn gather_pair(alloc: Global, tx: Tx, first: TxPort, second: TxPort) -> Result<Drain, Fail>
+pub(crate) fn gather_pair(
+    alloc: Global,
+    tx: Tx,
+    first: TxPort,
+    second: TxPort,
+) -> Result<Drain, Fail>
     requires first { IsPortOfTx tx first }
     requires second { IsPortOfTx tx second }
 {

@@ -1,26 +1,22 @@
-use Rattle.std.proofs.Common.{ℕ, ◌≡◌, ◌∙◌, List, [], ◌∷◌, ◌++◌, refl, ap, sym, subst}
+use Rattle.std.proofs.Common.{ℕ, ◌≡◌, ◌∙◌, List, [], ◌∷◌, ◌++◌, ap, sym, subst}
 use Rattle.afdx_plan.specs.Config.{Plan}
 use Rattle.afdx_plan.specs.Demo.{demo_plan}
 use Rattle.redundant_mux.specs.Entry.{Entry}
 use Rattle.redundant_mux.specs.Lines.{Lines, log}
 use Rattle.afdx_legal.specs.Legal.{Accepted, IsLegal}
 use Rattle.afdx_legal.specs.Allowed.{AreAllowed, AreOwn}
-use Rattle.afdx_legal.specs.Done.{IsAllDone, IsHandedWhole, longer_list}
+use Rattle.afdx_legal.specs.Done.{IsAllDone, IsHandedWhole}
+use Rattle.afdx_legal.specs.Own.{AreOwnStreams}
 use Rattle.afdx_tx.specs.Drain.{accepted_in}
 use Rattle.afdx_tx.specs.Ports.{PortView}
 use Rattle.afdx_tests.specs.Headline.{SentTwo, two_messages}
 use Rattle.afdx_tests.proofs.headline_tests.hand_whole.Goals as goal
 
--- the longer of two lists is told by the lists alone
-log_is : (lines : Lines) → log lines ≡ longer_list lines.a lines.b
-unfolding log
-log_is lines = refl
-
 -- what was handed over in the end
 whole : (plan : Plan) (accepted : Accepted) (own : ℕ → List (List ℕ)) (lines : Lines) (a b : List Entry) → plan ≡ demo_plan
     → a ≡ lines.a → b ≡ lines.b → IsLegal plan accepted lines.a lines.b → AreAllowed plan accepted → AreOwn plan accepted own
-    → IsAllDone plan accepted (log lines) → IsHandedWhole demo_plan own a b
-whole plan accepted own lines a b demo at_a at_b legal allowed owned done =
+    → IsAllDone plan accepted (log lines) → AreOwnStreams plan (log lines) lines.a lines.b → IsHandedWhole demo_plan own a b
+whole plan accepted own lines a b demo at_a at_b legal allowed owned done streams =
     subst (λ p. IsHandedWhole p own a b) demo
     (subst (λ xs. IsHandedWhole plan own xs b) (sym at_a)
     (subst (λ ys. IsHandedWhole plan own lines.a ys) (sym at_b)
@@ -29,7 +25,9 @@ whole plan accepted own lines a b demo at_a at_b legal allowed owned done =
       legal = legal;
       allowed = allowed;
       are_own = owned;
-      done = subst (IsAllDone plan accepted) (log_is lines) done;
+      log = log lines;
+      streams = streams;
+      done = done;
     })))
 
 -- what a port that was unused has sent
@@ -47,4 +45,4 @@ returns g c =
     (subst (λ p. AreOwn p (accepted_in drained.links) (λ place. two_messages)) (sym c.in_ok-draining-2.ensures.plan)
     (subst (λ (xs : Accepted). AreOwn gathered.plan xs (λ place. two_messages)) (sym c.in_ok-draining-2.ensures.accepted)
     (subst (λ ms. AreOwn gathered.plan (accepted_in gathered.links) (λ place. ms)) own c.in_ok-draining.ensures.own)))
-    c.in_ok-draining-2.ensures.done
+    c.in_ok-draining-2.ensures.done c.in_ok-draining-2.ensures.streams

@@ -1,0 +1,227 @@
+//! Tests of links of which some are on both networks and some on one, against lists.
+use crate::list_model::{ListLink, ListNetwork, ListSystem, Seen};
+use crate::testing::{open, poll_at, send_taken};
+use afdx_config::read_config;
+use afdx_frame::{sn_of, vl_of};
+use afdx_plan::Networks;
+use afdx_tx::{Emitter, PollFault, Release, Report, TxPort};
+use redundant_mux::{Handed, MemNetwork, Standing};
+use std::alloc::{AllocError, Global};
+use std::process::Abort;
+use std::test::Fail;
+
+// The gap of the links, in microseconds.
+const GAP: u64 = 1_000;
+
+// How often each run is polled: once more than any link has messages.
+const POLLS: u8 = 6;
+
+type Tx = Emitter<MemNetwork, MemNetwork>;
+
+// The name of these networks in a configuration.
+fn name_of(networks: Networks) -> &'static str {
+    match networks {
+        Networks::Both => "both",
+        Networks::OnlyA => "a",
+        Networks::OnlyB => "b",
+    }
+}
+
+// The table of a link.
+fn link_text(alloc: Global, link: &ListLink) -> Result<String, AllocError> {
+    format!(in alloc;
+        "[[vl]]\nid = {}\nbag_ms = 1\nlmax = 64\nsub_vls = 1\ncapacity = 6\nnetworks = \"{}\"\n",
+        link.vl,
+        name_of(link.networks)
+    )
+}
+
+// The table of its port.
+fn port_text(alloc: Global, link: &ListLink) -> Result<String, AllocError> {
+    format!(in alloc;
+        "[[port]]\nid = {}\nvl = {}\nsub = 0\npartition = 1\nkind = \"queuing\"\n\
+        source = 1000\ndestination = 2000\nmax = 8192\n",
+        link.vl, link.vl
+    )
+}
+
+// A configuration of these links, with a port on each.
+fn config_text(alloc: Global, links: &[ListLink]) -> Result<String, AllocError> {
+    let mut text = String::new(alloc);
+    text.push_str("version = 2\n[end_system]\nid = 1\n")?;
+    for link in links {
+        text.push_str(&link_text(alloc, link)?)?;
+        text.push_str(&port_text(alloc, link)?)?;
+    }
+    Ok(text)
+}
+
+// Each port sends as many messages of one byte as its link is to have.
+fn send_each<R: Abort>(rt: &R, alloc: Global, ports: &mut [TxPort], links: &[ListLink]) {
+    for (port, link) in ports.iter_mut().zip(links) {
+        for byte in 0..link.left {
+            send_taken(rt, alloc, port, &[byte]);
+        }
+    }
+}
+
+// A poll answers what the lists do.
+fn assert_same(
+    rt: &impl Abort,
+    answer: Result<Report, PollFault>,
+    wanted: Option<Vec<Release>>,
+    standing: Standing,
+) {
+    match (answer, wanted) {
+        (Ok(report), Some(released)) => {
+            assert_eq!(rt; report.released.as_slice(), released.as_slice());
+            assert_eq!(rt; report.standing, standing);
+        }
+        (Err(PollFault::BothDown), None) => (),
+        _ => panic!(rt; "both networks down, or not"),
+    }
+}
+
+// Polls a gap apart.
+fn poll_all<R: Abort>(
+    rt: &R,
+    alloc: Global,
+    tx: &mut Tx,
+    lists: &mut ListSystem,
+) -> Result<(), AllocError> {
+    for turn in 0..POLLS {
+        let now = GAP * u64::from(turn);
+        let answer = poll_at(rt, tx, now);
+        let wanted = lists.poll(alloc, now)?;
+        let standing = Standing {
+            a: lists.a.stands,
+            b: lists.b.stands,
+        };
+        assert_same(rt, answer, wanted, standing);
+    }
+    Ok(())
+}
+
+// What is seen of a frame that was handed over.
+fn seen_of(handed: &Handed) -> Option<Seen> {
+    let frame = handed.frame.as_slice();
+    let vl = vl_of(frame)?.0;
+    let number = sn_of(frame)?;
+    Some(Seen {
+        at: handed.at,
+        vl,
+        number,
+    })
+}
+
+// A network was handed what the list has.
+fn assert_list(rt: &impl Abort, network: &MemNetwork, list: &ListNetwork) {
+    assert_eq!(rt; network.handed().len(), list.taken.len());
+    for (handed, seen) in network.handed().iter().zip(list.taken.iter()) {
+        assert_eq!(rt; seen_of(handed), Some(*seen));
+    }
+}
+
+// A run over these links, where A fails at hand `k` and B at hand `m`, counted from 1.
+fn run<R: Abort>(rt: &R, alloc: Global, links: Vec<ListLink>, k: u8, m: u8) -> Result<(), Fail> {
+    let text = config_text(alloc, links.as_slice())?;
+    let Ok(config) = read_config(alloc, text.as_bytes()) else {
+        return Err(Fail::from("the configuration is valid"));
+    };
+    let a = MemNetwork::failing_at(alloc, u64::from(k));
+    let b = MemNetwork::failing_at(alloc, u64::from(m));
+    let (mut tx, mut ports) = open(alloc, config, a, b)?;
+    send_each(rt, alloc, &mut ports, links.as_slice());
+    let mut lists = ListSystem {
+        links,
+        a: ListNetwork::new(alloc, k),
+        b: ListNetwork::new(alloc, m),
+    };
+    poll_all(rt, alloc, &mut tx, &mut lists)?;
+    let (a, b) = tx.into_networks();
+    assert_list(rt, &a, &lists.a);
+    assert_list(rt, &b, &lists.b);
+    Ok(())
+}
+
+// A link with so many messages.
+fn link(vl: u16, networks: Networks, left: u8) -> ListLink {
+    ListLink {
+        vl,
+        networks,
+        left,
+        number: 0,
+    }
+}
+
+// Three links: on A, on B and on both. Each network is to take at most six frames.
+#[test]
+fn links_on_a_on_b_and_on_both_whenever_both_networks_fail(rt: HostRuntime) -> Result<(), Fail> {
+    let alloc = rt.alloc();
+    for k in 1..=7u8 {
+        for m in 1..=7u8 {
+            let mut links = Vec::new(alloc);
+            links.push(link(1, Networks::OnlyA, 3))?;
+            links.push(link(2, Networks::OnlyB, 3))?;
+            links.push(link(3, Networks::Both, 3))?;
+            run(&rt, alloc, links, k, m)?;
+        }
+    }
+    Ok(())
+}
+
+// The next number of a run that looks random (xorshift, 64 bits).
+fn shuffled(state: u64) -> u64 {
+    let first = state ^ (state << 13);
+    let second = first ^ (first >> 7);
+    second ^ (second << 17)
+}
+
+// Networks by a number.
+fn some_networks(number: u64) -> Networks {
+    match number % 3 {
+        0 => Networks::Both,
+        1 => Networks::OnlyA,
+        _ => Networks::OnlyB,
+    }
+}
+
+// A number below 6, and one from 1 to 12.
+fn below_6(number: u64) -> u8 {
+    u8::try_from(number % 6).unwrap_or(0)
+}
+
+fn up_to_12(number: u64) -> u8 {
+    u8::try_from(number % 12).unwrap_or(0).saturating_add(1)
+}
+
+// As many links as a plan of this number has, one to five.
+fn some_links(alloc: Global, seed: u64) -> Result<Vec<ListLink>, AllocError> {
+    let mut links = Vec::new(alloc);
+    let mut state = seed;
+    for vl in 1..=5u16 {
+        if u64::from(vl) <= 1 + seed % 5 {
+            state = shuffled(state);
+            let networks = some_networks(state / 64);
+            links.push(link(vl, networks, below_6(state / 1_024)))?;
+        }
+    }
+    Ok(links)
+}
+
+#[test]
+fn plans_that_look_random_are_as_lists_say(rt: HostRuntime) -> Result<(), Fail> {
+    let mut state = 0x2545_f491_4f6c_dd1du64;
+    for _plan in 0..150 {
+        state = shuffled(state);
+        let links = some_links(rt.alloc(), state)?;
+        run(
+            &rt,
+            rt.alloc(),
+            links,
+            up_to_12(state / 4_096),
+            up_to_12(state / 65_536),
+        )?;
+    }
+    Ok(())
+}
