@@ -160,6 +160,22 @@ impl<A: Network + Drop, B: Network + Drop> Mux<A, B> {
         self.standing.has_one_of(networks)
     }
 
+    /// Network A, with what was handed to it so far.
+    pub fn network_a(&self) -> &A
+        ensures handed { A.handed result.now ≡ self.now.a }
+        ensures failures { A.failures result.now ≡ self.now.a_failures }
+    {
+        &self.a
+    }
+
+    /// Network B, with what was handed to it so far.
+    pub fn network_b(&self) -> &B
+        ensures handed { B.handed result.now ≡ self.now.b }
+        ensures failures { B.failures result.now ≡ self.now.b_failures }
+    {
+        &self.b
+    }
+
     /// The networks, with what was handed to them.
     pub fn into_networks(self) -> (A, B)
         ensures a { A.handed result.0 ≡ self.a }
