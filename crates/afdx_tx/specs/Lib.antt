@@ -2,6 +2,7 @@ pub mod Run
 pub mod Report
 pub mod Emitter
 pub mod Publishing
+pub mod Naming
 pub mod Sending
 pub mod Serving
 pub mod Ports

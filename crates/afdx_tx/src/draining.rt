@@ -2,8 +2,9 @@
 use crate::fault::PollFault;
 use crate::report::Report;
 use crate::transmitter::Transmitter;
-use afdx_plan::Config;
+use afdx_plan::{Config, VlId};
 use redundant_mux::Network;
+use status_board::Counts;
 use std::marker::Model;
 use std::sync::Wait;
 
@@ -27,16 +28,18 @@ impl<A: Network + Drop, B: Network + Drop> Model for Draining<A, B> {
 }
 
 impl<A: Network + Drop, B: Network + Drop> Draining<A, B> {
-    ghost use Rattle.std.specs.Prelude.{◌≡◌, ◌≤◌, ◌↔◌, true, false, IsTrue, IsErr, OnErr, OnOk, IfOk};
+    ghost use Rattle.std.specs.Prelude.{◌≡◌, ℕ, ◌≤◌, ◌↔◌, true, false, IsTrue, IsNone, IsErr, OnErr, OnOk, IfOk, IfSome};
     ghost use Rattle.redundant_mux.specs.Lines.{BothEndure, is_alive, log, IsMirrored};
     ghost use Rattle.afdx_legal.specs.Legal.{IsLegal};
     ghost use Rattle.afdx_legal.specs.Allowed.{AreAllowed};
     ghost use Rattle.afdx_legal.specs.Turns.{TakeTurns};
     ghost use Rattle.afdx_tx.specs.Report.{Polls};
-    ghost use Rattle.afdx_tx.specs.Publishing.{Publishes};
+    ghost use Rattle.afdx_tx.specs.Naming.{IsLinkAt, LacksLink};
+    ghost use Rattle.afdx_tx.specs.Publishing.{Publishes, counts_at};
     ghost use Rattle.afdx_legal.specs.Done.{IsAllDone};
     ghost use Rattle.afdx_tx.specs.Drain.{AreGathered, IsDrained, accepted_in};
-    ghost use Rattle.afdx_legal.specs.Own.{AreOwnStreams};
+    ghost use Rattle.afdx_legal.specs.Own.{own_stream, AreOwnStreams};
+    ghost use Rattle.afdx_legal.specs.Counting.{counts_in};
 
     /// Over links whose queues are all gathered.
     pub(crate) fn over(inner: Transmitter<A, B>) -> Draining<A, B>
@@ -70,6 +73,36 @@ impl<A: Network + Drop, B: Network + Drop> Draining<A, B> {
             self.now.lines.a self.now.lines.b }
     {
         self.inner.is_done()
+    }
+
+    /// Network A, with what was handed to it so far.
+    pub fn network_a(&self) -> &A
+        ensures handed { A.handed result.now ≡ self.now.lines.a }
+        ensures failures { A.failures result.now ≡ self.now.lines.a_failures }
+    {
+        self.inner.network_a()
+    }
+
+    /// Network B, with what was handed to it so far.
+    pub fn network_b(&self) -> &B
+        ensures handed { B.handed result.now ≡ self.now.lines.b }
+        ensures failures { B.failures result.now ≡ self.now.lines.b_failures }
+    {
+        self.inner.network_b()
+    }
+
+    /// The counts of a link, by its identifier, as `publish` would publish them now: of the longer of its
+    /// two streams the frames, the sum of their lengths in bytes, the messages whose last frame is among
+    /// them, and the moment of the last frame in microseconds, 0 where there is none. `None` exactly
+    /// where the configuration has no such link. It reads no board, waits for nobody and takes no memory.
+    pub fn counts(&self, vl: VlId) -> Option<Counts>
+        ensures missing { IsNone result ↔ LacksLink self.now.plan vl.0 }
+        ensures counts { IfSome result (λ counts.
+            counts ≡ counts_in (own_stream vl.0 self.now.lines.a self.now.lines.b)) }
+        ensures as_published { IfSome result (λ counts. (place : ℕ) →
+            IsLinkAt self.now.plan vl.0 place → counts ≡ counts_at self.now place) }
+    {
+        self.inner.counts(vl)
     }
 
     /// The two networks, with what was handed to them.

@@ -20,7 +20,7 @@ use afdx_frame::Frame;
 use afdx_plan::{Config, Networks, VlId};
 use arrayvec::ArrayVec;
 use redundant_mux::{Mux, Network};
-use status_board::Board;
+use status_board::{Board, Counts};
 use std::marker::Model;
 use std::sync::Wait;
 use vl_link::{Link, Served};
@@ -122,18 +122,20 @@ impl<A: Network + Drop, B: Network + Drop> Model for Transmitter<A, B> {
 }
 
 impl<A: Network + Drop, B: Network + Drop> Transmitter<A, B> {
-    ghost use Rattle.std.specs.Prelude.{◌≡◌, ◌≤◌, ◌↔◌, ℕ, [], true, false, length, IsTrue, IsErr, OnErr, OnOk, IfOk};
+    ghost use Rattle.std.specs.Prelude.{◌≡◌, ◌≤◌, ◌↔◌, ℕ, [], true, false, length, IsTrue, IsNone, IsErr, OnErr, OnOk, IfOk, IfSome};
     ghost use Rattle.status_board.specs.Views.{published};
     ghost use Rattle.afdx_plan.specs.Config.{IsPlan};
     ghost use Rattle.redundant_mux.specs.Lines.{BothEndure, is_alive, log, IsMirrored};
-    ghost use Rattle.afdx_legal.specs.Own.{AreOwnStreams};
+    ghost use Rattle.afdx_legal.specs.Own.{own_stream, AreOwnStreams};
+    ghost use Rattle.afdx_legal.specs.Counting.{counts_in};
     ghost use Rattle.afdx_legal.specs.Legal.{IsLegal};
     ghost use Rattle.afdx_legal.specs.Allowed.{AreAllowed};
     ghost use Rattle.afdx_legal.specs.Turns.{TakeTurns};
     ghost use Rattle.afdx_tx.specs.Run.{IsRun};
     ghost use Rattle.afdx_tx.specs.Report.{Polls};
     ghost use Rattle.afdx_tx.specs.Emitter.{Tx, IsFreshTx, AreFreshLinks, AreLinksOf, AreTied, HaveOwnItems, IsSamePlan, taken_in};
-    ghost use Rattle.afdx_tx.specs.Publishing.{Publishes};
+    ghost use Rattle.afdx_tx.specs.Naming.{IsLinkAt, LacksLink};
+    ghost use Rattle.afdx_tx.specs.Publishing.{Publishes, counts_at};
     ghost use Rattle.afdx_legal.specs.Done.{IsAllDone};
     ghost use Rattle.afdx_tx.specs.Drain.{AreGathered, accepted_in};
     ghost use Rattle.afdx_tx.specs.Emitter.{AreReceiving};
@@ -189,6 +191,34 @@ impl<A: Network + Drop, B: Network + Drop> Transmitter<A, B> {
             self.now.lines.a self.now.lines.b }
     {
         all_done(&self.links)
+    }
+
+    /// Network A, with what was handed to it so far.
+    pub fn network_a(&self) -> &A
+        ensures handed { A.handed result.now ≡ self.now.lines.a }
+        ensures failures { A.failures result.now ≡ self.now.lines.a_failures }
+    {
+        self.mux.network_a()
+    }
+
+    /// Network B, with what was handed to it so far.
+    pub fn network_b(&self) -> &B
+        ensures handed { B.handed result.now ≡ self.now.lines.b }
+        ensures failures { B.failures result.now ≡ self.now.lines.b_failures }
+    {
+        self.mux.network_b()
+    }
+
+    /// The counts of a link, by its identifier, as they would be published now.
+    pub fn counts(&self, vl: VlId) -> Option<Counts>
+        ensures missing { IsNone result ↔ LacksLink self.now.plan vl.0 }
+        ensures counts { IfSome result (λ counts.
+            counts ≡ counts_in (own_stream vl.0 self.now.lines.a self.now.lines.b)) }
+        ensures as_published { IfSome result (λ counts. (place : ℕ) →
+            IsLinkAt self.now.plan vl.0 place → counts ≡ counts_at self.now place) }
+    {
+        let place = self.config.link_index(vl)?;
+        Some(self.links[place].counts())
     }
 
     /// The two networks, with what was handed to them.
