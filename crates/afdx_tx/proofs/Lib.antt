@@ -11,6 +11,7 @@ pub mod OneSub
 pub mod Publishing
 pub mod FreshEmitter
 pub mod PortLink
+pub mod NamedLinks
 pub mod OwedFragments
 pub mod DrainTurns
 pub mod DrainKeeps
