@@ -28,6 +28,8 @@ mod pausing_tests;
 #[cfg(test)]
 mod port_tests;
 #[cfg(test)]
+mod showing_tests;
+#[cfg(test)]
 mod testing;
 #[cfg(test)]
 mod tests;

@@ -2,6 +2,7 @@
 //! one sub-VL, and its messages have one frame each.
 use afdx_plan::{Networks, VlId};
 use afdx_tx::Release;
+use status_board::Counts;
 use std::alloc::{AllocError, Global};
 
 /// A frame as a list keeps it: its moment in microseconds, its link and its sequence number.
@@ -43,6 +44,19 @@ impl ListNetwork {
             self.taken.push(frame)?;
         }
         Ok(self.stands)
+    }
+
+    // How many frames of a link it took, and the moment of the last, 0 where there is none.
+    fn taken_of(&self, vl: u16) -> (u64, u64) {
+        let mut frames = 0u64;
+        let mut last = 0;
+        for seen in &self.taken {
+            if seen.vl == vl {
+                frames = frames.saturating_add(1);
+                last = seen.at;
+            }
+        }
+        (frames, last)
     }
 }
 
@@ -112,5 +126,18 @@ impl ListSystem {
             }
         }
         Ok(Some(released))
+    }
+
+    /// The counts of a link, of the network that took more of it: frames of 60 bytes, a message each.
+    pub(crate) fn counts(&self, vl: u16) -> Counts {
+        let (on_a, last_on_a) = self.a.taken_of(vl);
+        let (on_b, last_on_b) = self.b.taken_of(vl);
+        let frames = on_a.max(on_b);
+        Counts {
+            frames,
+            bytes: frames.saturating_mul(60),
+            messages: frames,
+            last: last_on_a.max(last_on_b),
+        }
     }
 }

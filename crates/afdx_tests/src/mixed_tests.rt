@@ -3,7 +3,7 @@ use crate::list_model::{ListLink, ListNetwork, ListSystem, Seen};
 use crate::testing::{open, poll_at, send_taken};
 use afdx_config::read_config;
 use afdx_frame::{sn_of, vl_of};
-use afdx_plan::Networks;
+use afdx_plan::{Config, Networks, VlId};
 use afdx_tx::{Emitter, PollFault, Release, Report, TxPort};
 use redundant_mux::{Handed, MemNetwork, Standing};
 use std::alloc::{AllocError, Global};
@@ -56,6 +56,12 @@ fn config_text(alloc: Global, links: &[ListLink]) -> Result<String, AllocError> 
     Ok(text)
 }
 
+/// The plan of that text.
+pub(crate) fn config_of(alloc: Global, links: &[ListLink]) -> Result<Config, Fail> {
+    let text = config_text(alloc, links)?;
+    read_config(alloc, text.as_bytes()).map_err(|_| Fail::from("a valid plan"))
+}
+
 // Each port sends as many messages of one byte as its link is to have.
 fn send_each<R: Abort>(rt: &R, alloc: Global, ports: &mut [TxPort], links: &[ListLink]) {
     for (port, link) in ports.iter_mut().zip(links) {
@@ -82,26 +88,6 @@ fn assert_same(
     }
 }
 
-// Polls a gap apart.
-fn poll_all<R: Abort>(
-    rt: &R,
-    alloc: Global,
-    tx: &mut Tx,
-    lists: &mut ListSystem,
-) -> Result<(), AllocError> {
-    for turn in 0..POLLS {
-        let now = GAP * u64::from(turn);
-        let answer = poll_at(rt, tx, now);
-        let wanted = lists.poll(alloc, now)?;
-        let standing = Standing {
-            a: lists.a.stands,
-            b: lists.b.stands,
-        };
-        assert_same(rt, answer, wanted, standing);
-    }
-    Ok(())
-}
-
 // What is seen of a frame that was handed over.
 fn seen_of(handed: &Handed) -> Option<Seen> {
     let frame = handed.frame.as_slice();
@@ -122,12 +108,40 @@ fn assert_list(rt: &impl Abort, network: &MemNetwork, list: &ListNetwork) {
     }
 }
 
+// The emitter shows the networks as the lists have them, and the counts of each link.
+fn assert_shown(rt: &impl Abort, tx: &Tx, lists: &ListSystem) {
+    assert_list(rt, tx.network_a(), &lists.a);
+    assert_list(rt, tx.network_b(), &lists.b);
+    for link in &lists.links {
+        assert_eq!(rt; tx.counts(VlId(link.vl)), Some(lists.counts(link.vl)));
+    }
+    assert_eq!(rt; tx.counts(VlId(9)), None);
+}
+
+// Polls a gap apart.
+fn poll_all<R: Abort>(
+    rt: &R,
+    alloc: Global,
+    tx: &mut Tx,
+    lists: &mut ListSystem,
+) -> Result<(), AllocError> {
+    for turn in 0..POLLS {
+        let now = GAP * u64::from(turn);
+        let answer = poll_at(rt, tx, now);
+        let wanted = lists.poll(alloc, now)?;
+        let standing = Standing {
+            a: lists.a.stands,
+            b: lists.b.stands,
+        };
+        assert_same(rt, answer, wanted, standing);
+        assert_shown(rt, tx, lists);
+    }
+    Ok(())
+}
+
 // A run over these links, where A fails at hand `k` and B at hand `m`, counted from 1.
 fn run<R: Abort>(rt: &R, alloc: Global, links: Vec<ListLink>, k: u8, m: u8) -> Result<(), Fail> {
-    let text = config_text(alloc, links.as_slice())?;
-    let Ok(config) = read_config(alloc, text.as_bytes()) else {
-        return Err(Fail::from("the configuration is valid"));
-    };
+    let config = config_of(alloc, links.as_slice())?;
     let a = MemNetwork::failing_at(alloc, u64::from(k));
     let b = MemNetwork::failing_at(alloc, u64::from(m));
     let (mut tx, mut ports) = open(alloc, config, a, b)?;
@@ -138,14 +152,15 @@ fn run<R: Abort>(rt: &R, alloc: Global, links: Vec<ListLink>, k: u8, m: u8) -> R
         b: ListNetwork::new(alloc, m),
     };
     poll_all(rt, alloc, &mut tx, &mut lists)?;
+    assert_shown(rt, &tx, &lists);
     let (a, b) = tx.into_networks();
     assert_list(rt, &a, &lists.a);
     assert_list(rt, &b, &lists.b);
     Ok(())
 }
 
-// A link with so many messages.
-fn link(vl: u16, networks: Networks, left: u8) -> ListLink {
+/// A link with so many messages.
+pub(crate) fn link(vl: u16, networks: Networks, left: u8) -> ListLink {
     ListLink {
         vl,
         networks,

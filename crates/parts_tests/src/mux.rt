@@ -123,6 +123,28 @@ fn a_frame_for_one_network_goes_to_it_alone_and_nowhere_where_it_is_down(rt: Hos
 }
 
 #[test]
+fn each_network_is_seen_with_what_was_handed_to_it_so_far(rt: HostRuntime) {
+    let alloc = rt.alloc();
+    let mut mux = Mux::new(
+        MemNetwork::failing_at(alloc, 3),
+        MemNetwork::failing_at(alloc, 2),
+    );
+    assert_counts(&rt, mux.network_a(), 0, 0);
+    assert_counts(&rt, mux.network_b(), 0, 0);
+    assert_eq!(rt; hand(&mut mux, 7), Ok(Standing { a: true, b: true }));
+    assert_handed(&rt, mux.network_a(), 0, 7, &FOR_A);
+    assert_handed(&rt, mux.network_b(), 0, 7, &FOR_B);
+    assert_eq!(rt; hand(&mut mux, 8), Ok(Standing { a: true, b: false }));
+    assert_counts(&rt, mux.network_a(), 2, 0);
+    assert_counts(&rt, mux.network_b(), 1, 1);
+    assert_eq!(rt; hand(&mut mux, 9), Ok(Standing { a: false, b: false }));
+    assert_eq!(rt; hand(&mut mux, 10), Err(BothDown));
+    assert_counts(&rt, mux.network_a(), 2, 1);
+    assert_counts(&rt, mux.network_b(), 1, 1);
+    assert_handed(&rt, mux.network_a(), 1, 8, &FOR_A);
+}
+
+#[test]
 fn a_network_takes_frames_before_and_behind_the_hand_that_is_to_fail(rt: HostRuntime) {
     let mut network = MemNetwork::failing_at(rt.alloc(), 2);
     let first = network.hand(10, &[1, 2]);
