@@ -1,3 +1,4 @@
 pub mod FrameLog
+pub mod LogFrames
 pub mod Summary
 pub mod Transcript

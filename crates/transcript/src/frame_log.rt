@@ -6,6 +6,7 @@ ghost use Rattle.transcript.specs.FrameLog.{AreInLog, spelled};
 ghost use Rattle.transcript.specs.Transcript.{frame_lines};
 
 use crate::frames::write_frames;
+use crate::log_frames::LogFrames;
 use afdx_frame::{GREATEST_FRAME, Net};
 use redundant_mux::{HandFault, Network};
 use std::alloc::Global;
@@ -59,6 +60,13 @@ impl FrameLog {
             (frame_lines net self.now.handed)) }
     {
         write_frames(writer, net, &self.marks, &self.bytes)
+    }
+
+    /// The frames that were handed over, in their order.
+    pub fn frames(&self) -> LogFrames<'_>
+        ensures { result ≡ self.now.handed }
+    {
+        LogFrames::new(&self.marks, &self.bytes)
     }
 }
 

@@ -4,6 +4,7 @@
 
 mod frame_log;
 mod frames;
+mod log_frames;
 mod notes;
 mod outcome;
 mod refusal;
@@ -12,6 +13,7 @@ mod summary;
 
 pub use frame_log::FrameLog;
 pub use frames::write_streams;
+pub use log_frames::LogFrames;
 pub use notes::write_note;
 pub use outcome::Outcome;
 pub use refusal::Refusal;
