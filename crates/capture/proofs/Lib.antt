@@ -1,0 +1,4 @@
+mod Orders
+mod Packets
+mod ReadBacks
+mod Reading

@@ -1,0 +1,57 @@
+-- The frames of two networks in order, one after the other.
+use Rattle.std.proofs.Common.{◌≡◌, ℕ, Bool, true, false, List, [], ◌∷◌, ◌++◌, map, refl}
+use Rattle.std.specs.Prelude.{nat_lt, if◌then◌else◌}
+use Rattle.afdx_frame.specs.declared.net.Net.{Net}
+use Rattle.afdx_frame.specs.declared.net.Net.TheVariants.{A, B}
+use Rattle.redundant_mux.specs.Entry.{Entry}
+use Rattle.capture.specs.Order.{Captured, on, earlier, not_earlier, in_order, next_net}
+
+-- a frame of A comes next, by the test of the two moments
+a_first : (t : Bool) (a b : Entry) (xs bs es rest : List Entry) → A ≡ (if t then B else A)
+    → map (on B) (if t then b ∷ es else []) ++ on A a ∷ in_order xs (if t then rest else b ∷ bs)
+    ≡ on A a ∷ in_order xs (b ∷ bs)
+a_first true a b xs bs es rest net = cc
+a_first false a b xs bs es rest net = refl
+
+-- a frame of B does
+b_first : (t : Bool) (a b : Entry) (xs bs : List Entry) → B ≡ (if t then B else A)
+    → map (on B) (if t then b ∷ earlier a.at bs else []) ++ on A a ∷ in_order xs (if t then not_earlier a.at bs else b ∷ bs)
+    ≡ on B b ∷ (map (on B) (earlier a.at bs) ++ on A a ∷ in_order xs (not_earlier a.at bs))
+b_first true a b xs bs net = refl
+b_first false a b xs bs net = cc
+
+-- where a frame of A comes next it is the first
+pub order_a : (xs bs rest : List Entry) (e : Entry) → A ≡ next_net xs bs → xs ≡ e ∷ rest
+    → in_order xs bs ≡ on A e ∷ in_order rest bs
+unfolding in_order
+order_a [] bs rest e net is = cc
+order_a (a ∷ xs) [] rest e net is = cc
+order_a (a ∷ xs) (b ∷ bs) rest e net is =
+    let first : in_order (a ∷ xs) (b ∷ bs) ≡ on A a ∷ in_order xs (b ∷ bs) =
+    a_first (nat_lt b.at a.at) a b xs bs (earlier a.at bs) (not_earlier a.at bs) net in cc
+
+-- and so is one of B
+pub order_b : (xs bs rest : List Entry) (e : Entry) → B ≡ next_net xs bs → bs ≡ e ∷ rest
+    → in_order xs bs ≡ on B e ∷ in_order xs rest
+unfolding in_order
+order_b xs [] rest e net is = cc
+order_b [] (b ∷ bs) rest e net is = cc
+order_b (a ∷ xs) (b ∷ bs) rest e net is =
+    let first : in_order (a ∷ xs) (b ∷ bs) ≡ on B b ∷ in_order (a ∷ xs) bs =
+    b_first (nat_lt b.at a.at) a b xs bs net in cc
+
+-- a frame of A comes next only where there is one
+pub some_a : (xs bs : List Entry) → A ≡ next_net xs bs → xs ≡ [] → ⊥
+some_a [] bs net is = cc
+some_a (a ∷ xs) bs net is = cc
+
+-- where one of B comes next and there is none, all are given
+pub order_none : (xs bs : List Entry) → B ≡ next_net xs bs → bs ≡ [] → in_order xs bs ≡ []
+unfolding in_order
+order_none [] [] net is = refl
+order_none (a ∷ xs) [] net is = cc
+order_none xs (b ∷ bs) net is = cc
+
+-- the same of what is left then
+pub order_left : (xs bs new : List Entry) → B ≡ next_net xs bs → bs ≡ [] → new ≡ [] → in_order xs new ≡ []
+order_left xs bs new net is none = rw none (rw is at (order_none xs bs net is))

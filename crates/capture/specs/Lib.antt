@@ -1,0 +1,6 @@
+pub mod Capture
+pub mod InOrder
+pub mod Order
+pub mod ReadBack
+pub mod Reader
+pub mod Worked

@@ -1,0 +1,13 @@
+//! Laws of the definitions. Their functions do nothing: the contract is the law.
+ghost use Rattle.capture.specs.ReadBack.{ReadsBack};
+ghost use Rattle.capture.specs.Worked.{ReadsTwoFrames};
+
+/// A reader takes what is written for a capture, and has of each interface the frames of its network,
+/// in their order, with their moments: whatever frames of at most 1,514 bytes they are, handed over at
+/// whatever moments of 64 bits.
+pub fn reads_back()
+    ensures back { ReadsBack }
+
+    // a frame of 5 bytes on network A, and an earlier one of 4 bytes on B
+    ensures worked { ReadsTwoFrames }
+{}

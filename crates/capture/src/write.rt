@@ -1,0 +1,136 @@
+//! Writing a capture.
+ghost use Rattle.std.specs.Prelude.{◌≡◌, ◌≤◌, [], ◌∷◌, length, OnOk};
+ghost use Rattle.std.specs.Io.KnownBytes.{Appends};
+ghost use Rattle.capture.specs.Capture.{capture_bytes, header_blocks, section_block, interface_block, packet_block, packet_front, filled, fill, word, interface_of};
+ghost use Rattle.capture.specs.InOrder.{shown};
+
+use crate::in_order::{InOrder, Packet};
+use afdx_frame::{GREATEST_FRAME, Net};
+use byteorder::{LittleEndian, WriteBytesExt};
+use std::io::{self, Write};
+use transcript::FrameLog;
+
+// The section header block: its type, its length, the number that tells the order of bytes, version 1.0,
+// a section of unknown length, and the length of the block again.
+const SECTION: [u8; 28] = [
+    0x0a, 0x0d, 0x0d, 0x0a, 28, 0, 0, 0, 0x4d, 0x3c, 0x2b, 0x1a, 1, 0, 0, 0, 0xff, 0xff, 0xff,
+    0xff, 0xff, 0xff, 0xff, 0xff, 28, 0, 0, 0,
+];
+
+// The type of an enhanced packet block.
+const ENHANCED_PACKET: u32 = 6;
+
+// One more than the greatest number of 32 bits.
+const WORD: u64 = 0x1_0000_0000;
+
+// What fills a frame up.
+const ZEROES: [u8; 3] = [0; 3];
+
+/// Writes what two networks were handed as a capture in the pcapng format: a section header, an
+/// interface for each network, and then a packet for each frame, with its moment in microseconds. The
+/// earlier frame comes first, and at one moment A's. Where the writer failed, a part of the capture may
+/// have been written.
+pub fn write_capture<W: Write>(writer: &mut W, a: &FrameLog, b: &FrameLog) -> io::Result<()>
+    ensures { OnOk result (Appends (W.contents writer.old) (W.contents writer.new)
+        (capture_bytes a.now.handed b.now.handed)) }
+{
+    write_header(writer)?;
+    for packet in InOrder::new(a, b) {
+        write_packet(writer, packet)?;
+    }
+    Ok(())
+}
+
+/// Writes the section header and the interfaces of the two networks.
+#[tactic(auto, unfolding(crate::specs::Capture::header_blocks))]
+fn write_header<W: Write>(writer: &mut W) -> io::Result<()>
+    ensures { OnOk result (Appends (W.contents writer.old) (W.contents writer.new) header_blocks) }
+{
+    write_section(writer)?;
+    write_interface(writer, b'A')?;
+    write_interface(writer, b'B')
+}
+
+/// Writes the section header.
+#[tactic(auto, unfolding(crate::specs::Capture::section_block, crate::specs::Capture::word, crate::specs::Capture::half))]
+fn write_section<W: Write>(writer: &mut W) -> io::Result<()>
+    ensures { OnOk result (Appends (W.contents writer.old) (W.contents writer.new) section_block) }
+{
+    writer.write_all(&SECTION)
+}
+
+/// Writes the interface of a network, whose name has one letter: the type of the block, its length, the
+/// link type of Ethernet, the longest frame, the option of the name, the end of the options, and the
+/// length of the block again.
+#[tactic(auto, unfolding(crate::specs::Capture::interface_block, crate::specs::Capture::word, crate::specs::Capture::half))]
+fn write_interface<W: Write>(writer: &mut W, name: u8) -> io::Result<()>
+    ensures { OnOk result (Appends (W.contents writer.old) (W.contents writer.new)
+        (interface_block (name ∷ []))) }
+{
+    writer.write_all(&[
+        1, 0, 0, 0, 32, 0, 0, 0, 1, 0, 0, 0, 0xea, 0x05, 0, 0, 2, 0, 1, 0, name, 0, 0, 0, 0, 0, 0,
+        0, 32, 0, 0, 0,
+    ])
+}
+
+/// Writes the packet of a frame.
+fn write_packet<W: Write>(writer: &mut W, packet: Packet<'_>) -> io::Result<()>
+    requires { length packet.frame.now ≤ GREATEST_FRAME }
+    ensures { OnOk result (Appends (W.contents writer.old) (W.contents writer.new)
+        (packet_block (shown packet.entry))) }
+{
+    let len = packet.frame.len();
+    let whole = 32 + (len + fill_of(len)) as u32;
+    write_front(writer, packet.net, packet.at, len as u32, whole)?;
+    write_filled(writer, packet.frame)?;
+    write_word(writer, whole)?;
+    Ok(())
+}
+
+/// Writes what stands before the bytes of a frame of this length, in a block of this length.
+fn write_front<W: Write>(writer: &mut W, net: Net, at: u64, len: u32, whole: u32) -> io::Result<()>
+    ensures { OnOk result (Appends (W.contents writer.old) (W.contents writer.new)
+        (packet_front (interface_of net) at len whole)) }
+{
+    write_word(writer, ENHANCED_PACKET)?;
+    write_word(writer, whole)?;
+    write_word(writer, interface(net))?;
+    write_word(writer, (at / WORD) as u32)?;
+    write_word(writer, (at % WORD) as u32)?;
+    write_word(writer, len)?;
+    write_word(writer, len)
+}
+
+/// Writes bytes, and zeroes up to a multiple of 4.
+fn write_filled<W: Write>(writer: &mut W, bytes: &[u8]) -> io::Result<()>
+    ensures { OnOk result (Appends (W.contents writer.old) (W.contents writer.new) (filled bytes.now)) }
+{
+    writer.write_all(bytes)?;
+    writer.write_all(&ZEROES[..fill_of(bytes.len())])
+}
+
+/// Writes a number of 32 bits.
+#[tactic(auto, unfolding(crate::specs::Capture::word))]
+fn write_word<W: Write>(writer: &mut W, number: u32) -> io::Result<()>
+    ensures { OnOk result (Appends (W.contents writer.old) (W.contents writer.new) (word number)) }
+{
+    writer.write_u32::<LittleEndian>(number)
+}
+
+/// How many zeroes fill so many bytes up to a multiple of 4.
+fn fill_of(len: usize) -> usize
+    ensures value { result ≡ fill len }
+    ensures most { result ≤ 3 }
+{
+    (4 - len % 4) % 4
+}
+
+/// The number of a network's interface.
+fn interface(net: Net) -> u32
+    ensures { result ≡ interface_of net }
+{
+    match net {
+        Net::A => 0,
+        Net::B => 1,
+    }
+}
