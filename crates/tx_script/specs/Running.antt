@@ -8,10 +8,13 @@ use Rattle.script_lines.specs.Lines.{first_line, after_feed}
 use Rattle.script_lines.specs.Meaning.{meaning_of}
 use Rattle.tx_script.specs.Play.{AnsweredLine, play, start, AreAnswers}
 use Rattle.tx_script.specs.Run.{BeginsWith, LinesThen, Ends}
+use Rattle.transcript.specs.FrameLog.{FrameLog}
 use Rattle.transcript.specs.Transcript.{streams}
 use Rattle.script_lines.specs.declared.line.Line.{Line as Said}
 use Rattle.script_lines.specs.declared.line_fault.LineFault.{LineFault}
 use Rattle.script_lines.specs.declared.line_fault.LineFault.TheVariants.{Memory as OutOfMemory}
+use Rattle.tx_script.specs.declared.played.Played.{Played}
+use Rattle.tx_script.specs.declared.played.Played.TheVariants.{Whole, Broken}
 use Rattle.transcript.specs.declared.run_fault.RunFault.{RunFault}
 use Rattle.transcript.specs.declared.run_fault.RunFault.TheVariants.{Line, Lines, Read, Write, Memory}
 use Rattle.transcript.specs.declared.summary.Summary.{Summary as Sums}
@@ -80,9 +83,22 @@ pub record Writes (bench : AtBench) (old new : Option (List ℕ)) : Type 0 where
   pub first : GaveFirst bench.tx bench.ports
   pub totals : GaveTotals bench.tx bench.ports
 
--- what is written after a fault, and the fault that is told
-abbrev pub EndsEarly : RunFault → AtBench → (old new : Option (List ℕ)) → (told : RunFault) → Type 0
-EndsEarly Memory bench old new told =
-    (told ≡ Memory) × Keeps old new × GaveTotals bench.tx bench.ports
-EndsEarly Write bench old new told = told ≡ Write
-EndsEarly fault bench old new told = (told ≡ Write) ⊎ ((told ≡ fault) × Writes bench old new)
+-- two networks hold what was handed over at a bench
+abbrev pub HoldsHanded : AtBench → FrameLog × FrameLog → Type 0
+HoldsHanded bench networks =
+    (networks.0.handed ≡ bench.tx.lines.a) × (networks.1.handed ≡ bench.tx.lines.b)
+
+-- the streams were written after a fault, and the networks are given back
+pub record EndsWhole (fault : RunFault) (bench : AtBench) (old new : Option (List ℕ)) (played : Played) : Type 0 where
+  pub a : FrameLog
+  pub b : FrameLog
+  pub is : played ≡ Whole (Err fault) a b
+  pub holds : HoldsHanded bench (a, b)
+  pub writes : Writes bench old new
+
+-- what is written after a fault, and what is told then
+abbrev pub EndsEarly : RunFault → AtBench → (old new : Option (List ℕ)) → (played : Played) → Type 0
+EndsEarly Memory bench old new played =
+    (played ≡ Broken Memory) × Keeps old new × GaveTotals bench.tx bench.ports
+EndsEarly Write bench old new played = played ≡ Broken Write
+EndsEarly fault bench old new played = (played ≡ Broken Write) ⊎ EndsWhole fault bench old new played

@@ -64,8 +64,10 @@
 
 mod bench;
 mod obey_lines;
+mod played;
 mod script;
 
-pub use script::run_script;
+pub use played::Played;
+pub use script::{play_script, run_script};
 pub use script_lines::{Line, LineFault, Message, read_line};
 pub use transcript::{FrameLog, Outcome, Refusal, RunFault, Summary, write_note, write_streams};

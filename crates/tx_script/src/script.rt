@@ -1,44 +1,79 @@
 //! Running a script.
-ghost use Rattle.std.specs.Prelude.{◌≡◌, IfSome, IfErr, OnOk};
+ghost use Rattle.std.specs.Prelude.{◌≡◌, IfSome, IfOk, IfErr, OnOk};
 ghost use Rattle.std.specs.Io.KnownBytes.{Appends};
 ghost use Rattle.tx_script.specs.AtBench.{IsAtHand, GaveFirst, GaveTotals};
 ghost use Rattle.tx_script.specs.Run.{Leaves};
-ghost use Rattle.tx_script.specs.Running.{EndsEarly};
+ghost use Rattle.tx_script.specs.Played.{Plays};
+ghost use Rattle.tx_script.specs.Running.{HoldsHanded, EndsEarly};
 ghost use Rattle.transcript.specs.Transcript.{streams};
 
 use crate::bench::Bench;
 use crate::obey_lines::obey_lines;
+use crate::played::Played;
 use afdx_plan::Config;
 use script_lines::Bytes;
 use std::alloc::Global;
 use std::io::{Read, Write};
-use transcript::{RunFault, Summary, write_streams};
+use transcript::{FrameLog, RunFault, Summary, write_streams};
 
-/// Writes what was handed to the two networks of a bench.
-fn write_handed<W: Write>(writer: &mut W, bench: Bench) -> Result<(), RunFault>
+/// Writes what was handed to the two networks of a bench, which are given back.
+fn write_handed<W: Write>(writer: &mut W, bench: Bench) -> Result<(FrameLog, FrameLog), RunFault>
     ensures ok { OnOk result (Appends (W.contents writer.old) (W.contents writer.new)
         (streams bench.tx.lines.a bench.tx.lines.b)) }
+    ensures networks { IfOk result (HoldsHanded bench) }
     ensures err { IfErr result (λ fault. fault ≡ RunFault.Write) }
     ensures hand { IsAtHand bench.tx bench.ports }
     ensures first { GaveFirst bench.tx bench.ports }
     ensures totals { GaveTotals bench.tx bench.ports }
 {
     let (a, b) = bench.into_networks();
-    write_streams(writer, &a, &b)
+    write_streams(writer, &a, &b)?;
+    let networks = (a, b);
+    Ok(networks)
 }
 
-/// Writes the streams after a fault, unless it ends the writing. The fault of the run. The ports are
-/// gathered whatever the fault: that alone tells what the totals are that were noted.
-fn end_early<W: Write>(writer: &mut W, bench: Bench, fault: RunFault) -> RunFault
+/// Writes the streams after a fault, unless it ends the writing. The ports are gathered whatever the
+/// fault: that alone tells what the totals are that were noted.
+fn end_early<W: Write>(writer: &mut W, bench: Bench, fault: RunFault) -> Played
     ensures { EndsEarly fault bench (W.contents writer.old) (W.contents writer.new) result }
 {
     if fault.ends_writing() {
         let _networks = bench.into_networks();
-        return fault;
+        return Played::Broken(fault);
     }
     match write_handed(writer, bench) {
-        Ok(()) => fault,
-        Err(_) => RunFault::Write,
+        Ok((a, b)) => {
+            let ended = Err(fault);
+            Played::Whole { ended, a, b }
+        }
+        Err(_) => Played::Broken(RunFault::Write),
+    }
+}
+
+/// Runs a script as `run_script` does, and gives back what the two networks were handed, too, where
+/// the transcript is written whole.
+pub fn play_script<R: Read + Drop, W: Write>(
+    alloc: Global,
+    config: Config,
+    reader: R,
+    writer: &mut W,
+) -> Played
+    ensures { IfSome (R.remaining reader) (λ text. Plays config text
+        (W.contents writer.old) (W.contents writer.new) result) }
+{
+    let Ok(mut bench) = Bench::open(alloc, config) else {
+        return Played::Broken(RunFault::Memory);
+    };
+    let mut bytes = Bytes::new(reader);
+    match obey_lines(alloc, &mut bytes, &mut bench, writer) {
+        Ok(summary) => match write_handed(writer, bench) {
+            Ok((a, b)) => {
+                let ended = Ok(summary);
+                Played::Whole { ended, a, b }
+            }
+            Err(fault) => Played::Broken(fault),
+        },
+        Err(fault) => end_early(writer, bench, fault),
     }
 }
 
@@ -59,15 +94,8 @@ pub fn run_script<R: Read + Drop, W: Write>(
     ensures { IfSome (R.remaining reader) (λ text. Leaves config text
         (W.contents writer.old) (W.contents writer.new) result) }
 {
-    let Ok(mut bench) = Bench::open(alloc, config) else {
-        return Err(RunFault::Memory);
-    };
-    let mut bytes = Bytes::new(reader);
-    match obey_lines(alloc, &mut bytes, &mut bench, writer) {
-        Ok(summary) => {
-            write_handed(writer, bench)?;
-            Ok(summary)
-        }
-        Err(fault) => Err(end_early(writer, bench, fault)),
+    match play_script(alloc, config, reader, writer) {
+        Played::Whole { ended, .. } => ended,
+        Played::Broken(fault) => Err(fault),
     }
 }
