@@ -1,3 +1,4 @@
+mod InTimes
 mod Orders
 mod Packets
 mod ReadBacks

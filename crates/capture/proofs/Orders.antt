@@ -1,10 +1,9 @@
 -- The frames of two networks in order, one after the other.
-use Rattle.std.proofs.Common.{◌≡◌, ℕ, Bool, true, false, List, [], ◌∷◌, ◌++◌, map, refl}
+use Rattle.std.proofs.Common.{◌≡◌, Bool, true, false, List, [], ◌∷◌, ◌++◌, map, refl}
 use Rattle.std.specs.Prelude.{nat_lt, if◌then◌else◌}
-use Rattle.afdx_frame.specs.declared.net.Net.{Net}
 use Rattle.afdx_frame.specs.declared.net.Net.TheVariants.{A, B}
 use Rattle.redundant_mux.specs.Entry.{Entry}
-use Rattle.capture.specs.Order.{Captured, on, earlier, not_earlier, in_order, next_net}
+use Rattle.capture.specs.Order.{on, earlier, not_earlier, in_order, next_net}
 
 -- a frame of A comes next, by the test of the two moments
 a_first : (t : Bool) (a b : Entry) (xs bs es rest : List Entry) → A ≡ (if t then B else A)

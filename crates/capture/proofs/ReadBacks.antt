@@ -1,15 +1,15 @@
 -- What was written is read back.
-use Rattle.std.proofs.Common.{eqb, ◌≡◌, ℕ, zero, suc, ◌+◌, ◌-◌, ◌%◌, ◌^◌, ◌≤◌, ◌<◌, Bool, true, false, List, [], ◌∷◌, ◌++◌, map, length, Option, Some, None, refl, sym, ap, ◌∙◌, append_assoc, append-nil, length-append, arith}
+use Rattle.std.proofs.Common.{eqb, ◌≡◌, ℕ, zero, suc, ◌+◌, ◌%◌, ◌^◌, ◌≤◌, ◌<◌, Bool, true, false, List, [], ◌∷◌, ◌++◌, map, length, Option, Some, None, refl, sym, ap, ◌∙◌, append_assoc, append-nil, length-append, arith}
 use Rattle.std.specs.Prelude.{codes, All, nat_lt, if◌then◌else◌}
 use Rattle.std.proofs.lemmas.List.{map-append}
 use Rattle.std.proofs.lemmas.List.Elements.{All-head, All-tail}
 use Rattle.afdx_frame.specs.declared.net.Net.{Net}
 use Rattle.afdx_frame.specs.declared.net.Net.TheVariants.{A, B}
 use Rattle.redundant_mux.specs.Entry.{Entry}
-use Rattle.capture.specs.Capture.{word, half, fill, block, section_block, section_body, interface_block, interface_body, interface_of, packet_body, packet_block, packet_blocks, header_blocks, capture_bytes}
+use Rattle.capture.specs.Capture.{word, half, fill, block, section_block, section_body, interface_block, interface_body, interface_of, packet_body, packet_block, packet_blocks, header_blocks}
 use Rattle.capture.specs.Order.{Captured, on, earlier, not_earlier, in_order}
-use Rattle.capture.specs.ReadBack.{Fits, frames_on, Tells, ReadsBack}
-use Rattle.capture.specs.Reader.{Block, Capture, Packet, then_read, first_block, is_section, with_block, with_packet, with_blocks, read_capture}
+use Rattle.capture.specs.ReadBack.{Fits, frames_on, ReadsBack}
+use Rattle.capture.specs.Reader.{Block, Capture, Packet, then_read, first_block, is_section, with_block, with_blocks, read_capture}
 use Rattle.capture.proofs.Packets.{length-packet_body}
 use Rattle.capture.proofs.Reading.{block_read, packet_read}
 

@@ -3,6 +3,7 @@ use Rattle.std.specs.Prelude.{codes, ◌≡◌, ◌++◌, List, ℕ, [], ◌∷�
 use Rattle.afdx_frame.specs.declared.net.Net.TheVariants.{A, B}
 use Rattle.redundant_mux.specs.Entry.{Entry, entry}
 use Rattle.capture.specs.Capture.{packet_blocks, capture_bytes}
+use Rattle.capture.specs.InTime.{RiseFrom, captured_moments}
 use Rattle.capture.specs.Order.{on, in_order}
 use Rattle.capture.specs.Reader.{read_capture}
 
@@ -30,3 +31,8 @@ pub record ReadsTwoFrames : Type 0 where
         names = codes "A" ∷ codes "B" ∷ [];
         packets = record { interface = 1; entry = on_b } ∷ record { interface = 0; entry = on_a } ∷ [];
       })
+
+-- the moments of the capture rise, and those of the two lists one behind the other don't
+pub record RiseInTwoFrames : Type 0 where
+  pub rise : RiseFrom 0 (captured_moments (in_order (on_a ∷ []) (on_b ∷ [])))
+  pub fall : RiseFrom 0 (captured_moments (on A on_a ∷ on B on_b ∷ [])) → ⊥

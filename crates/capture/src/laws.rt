@@ -1,6 +1,7 @@
 //! Laws of the definitions. Their functions do nothing: the contract is the law.
+ghost use Rattle.capture.specs.InTime.{IsInTime};
 ghost use Rattle.capture.specs.ReadBack.{ReadsBack};
-ghost use Rattle.capture.specs.Worked.{ReadsTwoFrames};
+ghost use Rattle.capture.specs.Worked.{ReadsTwoFrames, RiseInTwoFrames};
 
 /// A reader takes what is written for a capture, and has of each interface the frames of its network,
 /// in their order, with their moments: whatever frames of at most 1,514 bytes they are, handed over at
@@ -10,4 +11,12 @@ pub fn reads_back()
 
     // a frame of 5 bytes on network A, and an earlier one of 4 bytes on B
     ensures worked { ReadsTwoFrames }
+{}
+
+/// Where the moments of each network's frames rise, or stay, so do those of the capture.
+pub fn in_time()
+    ensures time { IsInTime }
+
+    // a frame at 3 microseconds on network B before one at 4,294,967,298 on A, which was handed over first
+    ensures worked { RiseInTwoFrames }
 {}

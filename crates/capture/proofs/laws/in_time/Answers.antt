@@ -1,0 +1,14 @@
+use Rattle.std.proofs.Common.{arith}
+use Rattle.capture.specs.Order.{in_order}
+use Rattle.capture.proofs.InTimes.{in_time}
+use Rattle.capture.proofs.laws.in_time.Goals as goal
+
+pub returns-clause-time : goal.returns-clause-time
+returns-clause-time c = in_time
+
+pub returns-clause-worked : goal.returns-clause-worked
+unfolding in_order
+returns-clause-worked c = record {
+  rise = (omega arith, (omega arith, tt));
+  fall = λ rises. let falls = rises.1.0 in omega arith;
+}
