@@ -1,0 +1,5 @@
+//! Tests of captures.
+#![tactic(auto)]
+
+#[cfg(test)]
+mod bytes_tests;
