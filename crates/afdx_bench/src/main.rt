@@ -4,8 +4,9 @@
 
 ghost use Rattle.bench_words.specs.Words.{IsInRange};
 
-use afdx_plan::demo_config;
+use afdx_plan::{Config, demo_config};
 use bench_words::{Words, read_words, tell_words};
+use capture::write_capture;
 use plan_report::{End, Failure, check, read_plan, status_of};
 use std::fs::File;
 use std::io::{self, BufWriter, IsTerminal, Write};
@@ -14,7 +15,7 @@ use std::sync::Wait;
 use std::thread::Threads;
 use storm::OpenGate;
 use storm_report::{Progress, bench_storm};
-use tx_script::{RunFault, run_script};
+use tx_script::{Played, RunFault, play_script, run_script};
 
 /// Opens a file that a word names.
 fn open(rt: &HostRuntime, path: &str) -> Result<File, Failure> {
@@ -22,6 +23,43 @@ fn open(rt: &HostRuntime, path: &str) -> Result<File, Failure> {
         io::ErrorKind::OutOfMemory => Failure::Run(RunFault::Memory),
         _ => Failure::Run(RunFault::Read),
     })
+}
+
+/// Makes a file that a word names, or empties it.
+fn create(rt: &HostRuntime, path: &str) -> Result<File, Failure> {
+    File::create(rt, path).map_err(|error| match error.kind() {
+        io::ErrorKind::OutOfMemory => Failure::Run(RunFault::Memory),
+        _ => Failure::Run(RunFault::Write),
+    })
+}
+
+/// What becomes of a run whose output could not be written.
+fn unwritten(_error: io::Error) -> Failure {
+    Failure::Run(RunFault::Write)
+}
+
+/// Runs a script, and then writes what both networks were handed to a file that a word names. The file
+/// is made before the run, and stays empty where the transcript could not be written or memory was
+/// refused.
+fn run_captured<W: Write>(
+    rt: &HostRuntime,
+    config: Config,
+    script: File,
+    path: &str,
+    writer: &mut W,
+) -> Result<End, Failure> {
+    let alloc = rt.alloc();
+    let file = BufWriter::new(alloc, create(rt, path)?);
+    let mut output = file.map_err(|_| Failure::Run(RunFault::Memory))?;
+    match play_script(alloc, config, script, writer) {
+        Played::Whole { ended, a, b } => {
+            writer.flush().map_err(unwritten)?;
+            write_capture(&mut output, &a, &b).map_err(unwritten)?;
+            output.flush().map_err(unwritten)?;
+            ended.map(End::Ran).map_err(Failure::Run)
+        }
+        Played::Broken(fault) => Err(Failure::Run(fault)),
+    }
 }
 
 /// What tells of a storm on standard error, where that is a terminal.
@@ -50,10 +88,20 @@ fn obey<W: Write, T: Threads + Wait + Sync>(
             let ran = run_script(alloc, config, rt.stdin(), writer);
             ran.map(End::Ran).map_err(Failure::Run)
         }
-        Words::Run { config, script } => {
+        Words::Run {
+            config,
+            script,
+            capture,
+        } => {
             let config = read_plan(alloc, open(rt, config.as_str())?)?;
-            let ran = run_script(alloc, config, open(rt, script.as_str())?, writer);
-            ran.map(End::Ran).map_err(Failure::Run)
+            let script = open(rt, script.as_str())?;
+            match capture {
+                Some(path) => run_captured(rt, config, script, path.as_str(), writer),
+                None => {
+                    let ran = run_script(alloc, config, script, writer);
+                    ran.map(End::Ran).map_err(Failure::Run)
+                }
+            }
         }
         Words::Check { config } => {
             check(alloc, open(rt, config.as_str())?, writer)?;

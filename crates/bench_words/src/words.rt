@@ -13,10 +13,11 @@ use std::rt::Env;
 pub enum Words {
     /// No word: a script from standard input, over the demonstration configuration.
     Script,
-    /// `run <config> <script>`
+    /// `run <config> <script>`, and where a capture is to be written `--capture <file>`
     Run {
         config: String,
         script: String,
+        capture: Option<String>,
     },
     /// `check <config>`
     Check {
@@ -68,6 +69,7 @@ pub fn parse<'a>(alloc: Global, words: &'a [String]) -> Result<Words, Error>
         Some(("run", inner)) => Ok(Words::Run {
             config: path(alloc, inner, "config")?,
             script: path(alloc, inner, "script")?,
+            capture: given_path(alloc, inner, "capture")?,
         }),
         Some(("check", inner)) => Ok(Words::Check {
             config: path(alloc, inner, "config")?,
@@ -124,6 +126,18 @@ fn path(alloc: Global, matches: &ArgMatches<'_>, id: &str) -> Result<String, All
     String::from_str(alloc, matches.get_str(id).unwrap_or(""))
 }
 
+/// The path that a word gives, where there is one.
+fn given_path(
+    alloc: Global,
+    matches: &ArgMatches<'_>,
+    id: &str,
+) -> Result<Option<String>, AllocError> {
+    match matches.get_str(id) {
+        Some(word) => Ok(Some(String::from_str(alloc, word)?)),
+        None => Ok(None),
+    }
+}
+
 /// All command lines of the program.
 fn command<'a>(alloc: Global) -> Result<Command<'a>, AllocError> {
     Command::new(alloc, "afdx_bench")
@@ -137,10 +151,16 @@ fn command<'a>(alloc: Global) -> Result<Command<'a>, AllocError> {
 }
 
 fn run_command<'a>(alloc: Global) -> Result<Command<'a>, AllocError> {
+    let capture = Arg::new(alloc, "capture")
+        .long("capture")
+        .action(ArgAction::Set)
+        .value_name("file")
+        .help("Also writes what both networks were handed to a file in the pcapng format");
     Command::new(alloc, "run")
         .about("Runs a script over a configuration and prints what both networks were handed")
         .arg(file(alloc, "config").help("The file of the configuration"))?
-        .arg(file(alloc, "script").help("The file of the script"))
+        .arg(file(alloc, "script").help("The file of the script"))?
+        .arg(capture)
 }
 
 fn check_command<'a>(alloc: Global) -> Result<Command<'a>, AllocError> {
