@@ -31,12 +31,20 @@ fn assert_asks<T: Abort>(rt: &T, alloc: Global, line: &str, wanted: &str) {
     }
 }
 
-const COMMANDS: [(&str, &str); 5] = [
+const COMMANDS: [(&str, &str); 7] = [
     ("", "Script"),
     ("check a.toml", "Check { config: \"a.toml\" }"),
     (
         "run a.toml b.txt",
-        "Run { config: \"a.toml\", script: \"b.txt\" }",
+        "Run { config: \"a.toml\", script: \"b.txt\", capture: None }",
+    ),
+    (
+        "run a.toml b.txt --capture c.pcapng",
+        "Run { config: \"a.toml\", script: \"b.txt\", capture: Some(\"c.pcapng\") }",
+    ),
+    (
+        "run --capture=c.pcapng a.toml b.txt",
+        "Run { config: \"a.toml\", script: \"b.txt\", capture: Some(\"c.pcapng\") }",
     ),
     (
         "storm a.toml --messages 65535 --turns 1000000000",
@@ -63,7 +71,7 @@ fn assert_ends<T: Abort + Print + Eprint>(rt: &T, alloc: Global, line: &str, end
     }
 }
 
-const OTHER_WORDS: [&str; 15] = [
+const OTHER_WORDS: [&str; 18] = [
     "help",
     "chekc a.toml",
     "check",
@@ -71,6 +79,9 @@ const OTHER_WORDS: [&str; 15] = [
     "check --all a.toml",
     "run a.toml",
     "run a.toml b.txt c.txt",
+    "run a.toml b.txt --capture",
+    "run a.toml b.txt --capture c --capture d",
+    "check a.toml --capture c.pcapng",
     "storm a.toml",
     "storm a.toml --messages 1",
     "storm a.toml --messages 0 --turns 1",
