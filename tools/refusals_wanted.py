@@ -223,6 +223,7 @@ def command(words, text, given=b"", others=None, many=1, status=0, err=""):
 
 RUN = ["run", "plan.toml", "script.txt"]
 LONG_RUN = ["run", "plan.toml", "long.txt"]
+CAPTURED = [*RUN, "--capture", "frames.pcapng"]
 CHECK = ["check", "plan.toml"]
 STORM = ["storm", "plan.toml", "--messages", "2", "--turns", "1000"]
 HELP = ["--help"]
@@ -257,6 +258,7 @@ def commands(many):
         command([], ONE_FRAME, given=SCRIPT.encode(), many=many),
         command(CHECK, REPORT, many=many),
         command(RUN, ONE_FRAME, many=many),
+        command(CAPTURED, ONE_FRAME, many=many),
         command(STORM, TOTALS, others=others, many=many),
         command(HELP, HELP_TEXT, many=many),
         command(WRONG, "", many=many, status=2, err=WRONG_TEXT),
@@ -268,4 +270,4 @@ COMMANDS = [*commands(1), command(LONG_RUN, LONG_FRAMES), *commands(0)]
 
 def closed_commands():
     """The commands whose standard output is closed early."""
-    return [RUN, LONG_RUN, CHECK, STORM, HELP]
+    return [RUN, LONG_RUN, CAPTURED, CHECK, STORM, HELP]

@@ -1,0 +1,166 @@
+#!/usr/bin/env python3
+"""Runs scripts with captures, and reads those by a reader of its own.
+
+    python3 tools/captures.py
+
+It runs what `rt ci` has built, the program `afdx_bench` as each compiler makes it, with `run .. --capture ..`,
+and looks at each capture with `tools/pcapng.py`. The last line is 'N passed, M failed', and the exit status
+0 exactly where nothing failed.
+"""
+import os
+import subprocess
+import sys
+import tempfile
+
+# (no compiled copy is left beside the scripts)
+sys.dont_write_bytecode = True
+import pcapng
+from refusals import ROOT, built, started
+from refusals_wanted import DEMO, ONE_FRAME, SCRIPT
+
+# Two links, of which the second is on network B alone.
+TWO = DEMO.replace("capacity = 2", "capacity = 100") + """
+[[vl]]
+id = 2
+bag_ms = 2
+lmax = 1518
+sub_vls = 1
+capacity = 100
+networks = "b"
+
+[[port]]
+id = 20
+vl = 2
+sub = 0
+partition = 1
+kind = "queuing"
+source = 1000
+destination = 2000
+max = 8192
+"""
+TWO = TWO.replace("[end_system]", "version = 2\n\n[end_system]", 1)
+# Messages of one and of six frames, and polls up to moments of 33 bits.
+LONG = "".join(
+    f"send 10 {'5a' * (1 + 977 * place % 8192)}\nsend 20 {place:02x}\n" for place in range(40)
+) + "".join(f"at {at}\n" for at in range(0, 600_000, 500)) + "at 4294967299\nat 8589934592\n"
+FAULTY = SCRIPT + "at x\n"
+EMPTY = 28 + 2 * 32
+
+
+class Room:
+    """A folder with the files of a run."""
+
+    def __init__(self, folder):
+        self.folder = folder
+        files = {"demo.toml": DEMO, "two.toml": TWO, "short.txt": SCRIPT, "long.txt": LONG, "faulty.txt": FAULTY}
+        for name, text in files.items():
+            with open(f"{folder}/{name}", "w", encoding="utf-8") as file:
+                file.write(text)
+
+    def run(self, program, *words):
+        return started(program, ["run", *words], cwd=self.folder, capture_output=True, text=True)
+
+    def read(self, name):
+        with open(f"{self.folder}/{name}", "rb") as file:
+            return file.read()
+
+    def is_capture_of(self, name, transcript):
+        """Whether a reader takes a capture, whose packets are the lines of a transcript."""
+        with open(f"{self.folder}/transcript", "w", encoding="utf-8") as file:
+            file.write(transcript)
+        try:
+            return all(pcapng.checks(f"{self.folder}/{name}", f"{self.folder}/transcript", shows=False))
+        except pcapng.Malformed as fault:
+            print(fault)
+            return False
+
+
+def captured(room, program, config, script):
+    """A run with a capture tells what it tells without one, and its capture has the frames that it prints."""
+    plain = room.run(program, config, script)
+    ran = room.run(program, config, script, "--capture", "frames.pcapng")
+    same = (ran.returncode, ran.stdout, ran.stderr) == (plain.returncode, plain.stdout, plain.stderr)
+    return same and room.is_capture_of("frames.pcapng", plain.stdout)
+
+
+def ends(ran, status, err, out=""):
+    return (ran.returncode, ran.stdout, ran.stderr) == (status, out, err)
+
+
+def short_run(room, program):
+    return captured(room, program, "demo.toml", "short.txt")
+
+
+def long_run(room, program):
+    """Frames of two links, fragments among them, and moments of 33 bits."""
+    is_well = captured(room, program, "two.toml", "long.txt")
+    packets = pcapng.Capture(room.read("frames.pcapng")).packets
+    return is_well and len(packets) > 200 and any(packet.data[20] & 0x20 for packet in packets)
+
+
+def faulty_line(room, program):
+    """What was handed over before a line's fault is captured."""
+    return captured(room, program, "demo.toml", "faulty.txt") and len(room.read("frames.pcapng")) > EMPTY
+
+
+def emptied(room, program):
+    """A longer file that is there is replaced."""
+    with open(f"{room.folder}/old.pcapng", "wb") as file:
+        file.write(bytes(100_000))
+    ran = room.run(program, "demo.toml", "short.txt", "--capture", "old.pcapng")
+    return ends(ran, 0, "", ONE_FRAME) and room.is_capture_of("old.pcapng", ONE_FRAME)
+
+
+def full_disk(room, program):
+    ran = room.run(program, "demo.toml", "short.txt", "--capture", "/dev/full")
+    return ends(ran, 4, "write failed\n", ONE_FRAME)
+
+
+def no_folder(room, program):
+    """Nothing is run where the capture can't be made."""
+    ran = room.run(program, "demo.toml", "short.txt", "--capture", "nowhere/frames.pcapng")
+    return ends(ran, 4, "write failed\n")
+
+
+def no_script(room, program):
+    """The script is opened before the capture is made."""
+    ran = room.run(program, "demo.toml", "none.txt", "--capture", "unmade.pcapng")
+    return ends(ran, 4, "read failed\n") and not os.path.exists(f"{room.folder}/unmade.pcapng")
+
+
+def refused_plan(room, program):
+    """So is the configuration, which is read before."""
+    ran = room.run(program, "short.txt", "short.txt", "--capture", "unmade.pcapng")
+    return ran.returncode == 2 and not os.path.exists(f"{room.folder}/unmade.pcapng")
+
+
+def wrong_words(room, program):
+    """A file has to be named, and one alone."""
+    words = [["--capture"], ["--capture", "a", "--capture", "b"]]
+    runs = [room.run(program, "demo.toml", "short.txt", *it) for it in words]
+    return all(ran.returncode == 2 and not ran.stdout and ran.stderr for ran in runs)
+
+
+CASES = [short_run, long_run, faulty_line, emptied, full_disk, no_folder, no_script, refused_plan, wrong_words]
+
+
+def check(case, build, program):
+    """Tells what came of a case, and says whether it is as promised."""
+    try:
+        with tempfile.TemporaryDirectory(prefix="captures-") as folder:
+            is_well = case(Room(folder), program)
+    except (OSError, subprocess.TimeoutExpired) as error:
+        print(error)
+        is_well = False
+    print(f"{case.__name__} by {build}: {'ok' if is_well else 'FAILED'}", flush=True)
+    return is_well
+
+
+def main():
+    results = [check(case, *it) for it in built("afdx_bench").items() for case in CASES]
+    print(f"{sum(results)} passed, {results.count(False)} failed")
+    return 1 if False in results else 0
+
+
+if __name__ == "__main__":
+    sys.exit(main())
