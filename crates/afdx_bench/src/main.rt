@@ -17,6 +17,9 @@ use storm::OpenGate;
 use storm_report::{Progress, bench_storm};
 use tx_script::{Played, RunFault, play_script, run_script};
 
+// How many bytes of a capture are written at a time, at most.
+const CAPTURE_BUFFER: usize = 65_536;
+
 /// Opens a file that a word names.
 fn open(rt: &HostRuntime, path: &str) -> Result<File, Failure> {
     File::open(rt, path).map_err(|error| match error.kind() {
@@ -49,7 +52,7 @@ fn run_captured<W: Write>(
     writer: &mut W,
 ) -> Result<End, Failure> {
     let alloc = rt.alloc();
-    let file = BufWriter::new(alloc, create(rt, path)?);
+    let file = BufWriter::with_capacity(alloc, CAPTURE_BUFFER, create(rt, path)?);
     let mut output = file.map_err(|_| Failure::Run(RunFault::Memory))?;
     match play_script(alloc, config, script, writer) {
         Played::Whole { ended, a, b } => {

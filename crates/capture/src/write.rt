@@ -17,9 +17,6 @@ const SECTION: [u8; 28] = [
     0xff, 0xff, 0xff, 0xff, 0xff, 28, 0, 0, 0,
 ];
 
-// The type of an enhanced packet block.
-const ENHANCED_PACKET: u32 = 6;
-
 // One more than the greatest number of 32 bits.
 const WORD: u64 = 0x1_0000_0000;
 
@@ -88,17 +85,21 @@ fn write_packet<W: Write>(writer: &mut W, packet: Packet<'_>) -> io::Result<()>
 }
 
 /// Writes what stands before the bytes of a frame of this length, in a block of this length.
+#[tactic(auto, unfolding(crate::specs::Capture::word))]
 fn write_front<W: Write>(writer: &mut W, net: Net, at: u64, len: u32, whole: u32) -> io::Result<()>
     ensures { OnOk result (Appends (W.contents writer.old) (W.contents writer.new)
         (packet_front (interface_of net) at len whole)) }
 {
-    write_word(writer, ENHANCED_PACKET)?;
-    write_word(writer, whole)?;
-    write_word(writer, interface(net))?;
-    write_word(writer, (at / WORD) as u32)?;
-    write_word(writer, (at % WORD) as u32)?;
-    write_word(writer, len)?;
-    write_word(writer, len)
+    let [w0, w1, w2, w3] = whole.to_le_bytes();
+    let [i0, i1, i2, i3] = interface(net).to_le_bytes();
+    let [h0, h1, h2, h3] = ((at / WORD) as u32).to_le_bytes();
+    let [l0, l1, l2, l3] = ((at % WORD) as u32).to_le_bytes();
+    let [n0, n1, n2, n3] = len.to_le_bytes();
+    // the type of an enhanced packet block is 6
+    writer.write_all(&[
+        6, 0, 0, 0, w0, w1, w2, w3, i0, i1, i2, i3, h0, h1, h2, h3, l0, l1, l2, l3, n0, n1, n2, n3,
+        n0, n1, n2, n3,
+    ])
 }
 
 /// Writes bytes, and zeroes up to a multiple of 4.
