@@ -1,7 +1,7 @@
 -- How a run ends once its streams are written.
 use Rattle.std.proofs.Common.{◌≡◌, ◌∙◌, ℕ, true, false, inl, inr, List, [], ◌++◌, Option, Some, None, refl, sym, subst}
 use Rattle.std.proofs.lemmas.Bool.{false≢true}
-use Rattle.std.specs.Prelude.{IfSome, Result, Ok, Err, ◌⊎◌, ⊤}
+use Rattle.std.specs.Prelude.{IfSome, Result, Ok, Err, ◌⊎◌}
 use Rattle.std.specs.Io.KnownBytes.{Appends, Keeps}
 use Rattle.std.proofs.KnownBytes.{Appends-nil, Appends-trans, Appends-kept, Keeps-refl}
 use Rattle.afdx_plan.specs.Config.{Plan}

@@ -1,4 +1,4 @@
-use Rattle.tx_script.proofs.EndLemmas.{plays_early, plays_ok, plays_write, plays_none}
+use Rattle.tx_script.proofs.EndLemmas.{plays_early, plays_ok, plays_none}
 use Rattle.tx_script.proofs.script.play_script.Goals as goal
 
 pub returns-in_default : goal.returns-in_default
