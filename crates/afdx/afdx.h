@@ -1,0 +1,176 @@
+/* The proved transmitting AFDX end system (ARINC 664 Part 7), for C.
+
+   Link: cc program.c libafdx.a liblibc_c.a (of the Rattle kit's folder c/).
+
+   An end system is opened from the text of a configuration. Its ports may each go to a thread of their own, where they
+   send. One thread polls with the present moment and then copies the frames of that poll out, those for network A and
+   those for network B, from the destination MAC address to the sequence number, without the frame check sequence. Where
+   all ports have come back, the end system sends what is left and tells when it is done.
+
+   Every call answers 0 or a number below, and after any other number than 0 nothing has changed but for what is said
+   beside it. Numbers are in the order in which the call looks: the first that holds is answered.
+
+   What a caller owes, since no call can tell it:
+   - a handle is all zeroes before it is first given to afdx_open or afdx_port_of, and is changed by calls alone: it is not
+     copied, and not written;
+   - one call at a time on a handle. Different handles may be used by different threads at the same time; a handle goes
+     from one thread to another as any data does, by a lock or by a thread's start or end;
+   - pointers lead to as many bytes as are told, and aren't NULL, even for 0 bytes; nobody else writes there meanwhile,
+     and what is written through lies apart from what is read;
+   - a port is given back to the end system that it was taken from;
+   - malloc, realloc and free come from one allocator. No call is made from a signal handler or in the forked child of a
+     process with threads.
+   A call after afdx_free, a port asked for twice, a moment that goes back, an unknown identifier and a buffer that is too
+   small are told by their numbers. */
+#ifndef AFDX_H
+#define AFDX_H
+
+#include <stddef.h>
+#include <stdint.h>
+
+#ifdef __cplusplus
+extern "C" {
+#endif
+
+/* An end system: sending while its ports are out, or draining once it has gathered them. {0} is one that isn't open. */
+typedef struct {
+    void *at;
+    uint8_t held;
+} afdx_end_system;
+
+/* A port of an end system. {0} is none. */
+typedef struct {
+    void *at;
+    uint8_t held;
+} afdx_port;
+
+/* What was sent of a virtual link. */
+typedef struct {
+    uint64_t frames;   /* those that at least one network took */
+    uint64_t bytes;    /* the sum of their lengths */
+    uint64_t messages; /* those whose last frame is among them */
+    uint64_t last;     /* the moment of the last frame in microseconds, 0 before the first */
+} afdx_counts;
+
+/* The networks. */
+enum { AFDX_A = 0, AFDX_B = 1 };
+
+/* Which networks stand, as bits of what afdx_poll writes. */
+enum { AFDX_A_STANDS = 1, AFDX_B_STANDS = 2 };
+
+/* The greatest frame in bytes, and the most frames of a network that one poll makes: one of each virtual link. */
+enum { AFDX_GREATEST_FRAME = 1514, AFDX_MOST_FRAMES = 64 };
+
+/* Why a configuration is refused by afdx_open: the fault of the least number, as docs/configuration.md tells them. */
+enum {
+    AFDX_CONFIG_TOML = 1,
+    AFDX_CONFIG_MISSING_KEY = 2,
+    AFDX_CONFIG_UNKNOWN_KEY = 3,
+    AFDX_CONFIG_WRONG_KIND = 4,
+    AFDX_CONFIG_OUT_OF_RANGE = 5,
+    AFDX_CONFIG_BAD_BAG = 6,
+    AFDX_CONFIG_DUPLICATE_VL = 7,
+    AFDX_CONFIG_DUPLICATE_PORT = 8,
+    AFDX_CONFIG_NO_SUCH_VL = 9,
+    AFDX_CONFIG_NO_SUCH_SUB = 10,
+    AFDX_CONFIG_SAMPLING_TOO_LONG = 11,
+    AFDX_CONFIG_SAME_FLOW = 12,
+    AFDX_CONFIG_SHARED_UNICAST = 13,
+    AFDX_CONFIG_LIMIT = 14,
+    AFDX_MEMORY = 15 /* memory was refused */
+};
+
+/* Why a message is refused by afdx_send. AFDX_MEMORY: memory for the copy was refused. */
+enum { AFDX_EMPTY = 1, AFDX_TOO_LONG = 2, AFDX_CLOSED = 3, AFDX_EXHAUSTED = 4, AFDX_FULL = 5 };
+
+/* Why a poll does nothing: both networks were down already. */
+enum { AFDX_BOTH_DOWN = 1 };
+
+/* Misuse, of any call. */
+enum {
+    AFDX_NOT_HELD = 32,     /* the handle holds nothing: not opened, or freed, or given back */
+    AFDX_WRONG_HANDLE = 33, /* it holds a port where an end system is wanted, or the other way round */
+    AFDX_HELD = 34,         /* a handle that is to be filled holds something */
+    AFDX_TIME_BACK = 35,    /* the moment is before that of an earlier poll */
+    AFDX_NO_PORT = 36,      /* no such identifier, or the port was taken already */
+    AFDX_NO_SUB = 37,       /* no such virtual link, or no such sub-VL of it */
+    AFDX_NO_LINK = 38,      /* no such virtual link */
+    AFDX_NO_NETWORK = 39,   /* neither AFDX_A nor AFDX_B */
+    AFDX_NO_FRAME = 40,     /* the last poll made fewer frames for this network */
+    AFDX_SMALL_BUFFER = 41, /* the frame has more bytes than the buffer */
+    AFDX_PORT_MISSING = 42, /* a port of the configuration is out */
+    AFDX_GATHERED = 43,     /* the ports were gathered: nothing is taken, given back, closed or gathered any more */
+    AFDX_NOT_GATHERED = 44  /* the ports weren't gathered yet */
+};
+
+/* Opens an end system from the text of a configuration, `length` bytes, which are copied. It makes all the room that
+   polling, closing and gathering take. Refused: AFDX_HELD; or the number of the fault, 1 to 15. After a refusal the
+   handle is as it was. */
+uint8_t afdx_open(afdx_end_system *out, const uint8_t *text, size_t length);
+
+/* Takes the port with an identifier, once. It may go to a thread of its own. Refused: AFDX_HELD (of `out`),
+   AFDX_NOT_HELD, AFDX_WRONG_HANDLE, AFDX_GATHERED, AFDX_NO_PORT, AFDX_MEMORY (the port can be taken later). */
+uint8_t afdx_port_of(afdx_end_system *it, uint16_t id, afdx_port *out);
+
+/* Copies a message in, at the end of the queue of the port's sub-VL. By the thread that has the port. It waits for
+   nobody. Refused: AFDX_NOT_HELD, AFDX_WRONG_HANDLE; AFDX_MEMORY; AFDX_EMPTY, AFDX_TOO_LONG, AFDX_CLOSED,
+   AFDX_EXHAUSTED (the port has asked 2^40 times), AFDX_FULL: try again after a poll. */
+uint8_t afdx_send(afdx_port *port, const uint8_t *message, size_t length);
+
+/* How many messages of a port were accepted. By the thread that has the port. Refused: AFDX_NOT_HELD, AFDX_WRONG_HANDLE;
+   then nothing is written. */
+uint8_t afdx_accepted(afdx_port *port, uint64_t *count);
+
+/* Gives each virtual link its turn at a moment in microseconds: one that is due and has something to send makes exactly
+   one frame. Writes which networks stand afterwards. The frames of the poll before are gone. By one thread at a time, as
+   all calls on an end system; it waits for nobody and asks for no memory. Refused: AFDX_NOT_HELD, AFDX_WRONG_HANDLE,
+   AFDX_TIME_BACK, AFDX_BOTH_DOWN (standing is written as 0); then the frames of the poll before are still there. */
+uint8_t afdx_poll(afdx_end_system *it, uint64_t now, uint8_t *standing);
+
+/* How many frames the last poll made for a network. Refused: AFDX_NOT_HELD, AFDX_WRONG_HANDLE, AFDX_NO_NETWORK; then
+   nothing is written. */
+uint8_t afdx_frames(afdx_end_system *it, uint8_t network, size_t *count);
+
+/* Copies frame k, from 0, that the last poll made for a network into a buffer, and writes how many bytes it has: at most
+   AFDX_GREATEST_FRAME. Nothing behind those is written. Refused: AFDX_NOT_HELD, AFDX_WRONG_HANDLE, AFDX_NO_NETWORK,
+   AFDX_NO_FRAME, AFDX_SMALL_BUFFER; then nothing is written. */
+uint8_t afdx_frame(afdx_end_system *it, uint8_t network, size_t k, uint8_t *buffer, size_t size, size_t *length);
+
+/* A network failed: the next frame that is handed to it fails, and it is given up for good. Refused: AFDX_NOT_HELD,
+   AFDX_WRONG_HANDLE, AFDX_NO_NETWORK. */
+uint8_t afdx_fail(afdx_end_system *it, uint8_t network);
+
+/* Closes a sub-VL: no message is accepted from then on; those that were still go out. Writes how many were accepted in
+   all; a later close writes the same. Refused: AFDX_NOT_HELD, AFDX_WRONG_HANDLE, AFDX_GATHERED, AFDX_NO_SUB; then nothing
+   is written. */
+uint8_t afdx_close(afdx_end_system *it, uint16_t vl, uint8_t sub, uint64_t *total);
+
+/* What was sent of a virtual link so far. Refused: AFDX_NOT_HELD, AFDX_WRONG_HANDLE, AFDX_NO_LINK; then nothing is
+   written. */
+uint8_t afdx_link_counts(afdx_end_system *it, uint16_t vl, afdx_counts *counts);
+
+/* Gives a port back to the end system that it was taken from. It can be taken again. Its handle holds nothing then.
+   Refused: AFDX_NOT_HELD, AFDX_WRONG_HANDLE (of either), AFDX_GATHERED. */
+uint8_t afdx_give_back(afdx_end_system *it, afdx_port *port);
+
+/* Gathers the ports, all of which were given back or never taken: what they had accepted is known whole, and each later
+   poll sends what is left of it. Refused: AFDX_NOT_HELD, AFDX_WRONG_HANDLE, AFDX_GATHERED, AFDX_PORT_MISSING. */
+uint8_t afdx_gather(afdx_end_system *it);
+
+/* Whether every fragment of every accepted message was taken by at least one network: writes 1 or 0. Once a frame was
+   lost with the last network that carries its link it stays 0. Refused: AFDX_NOT_HELD, AFDX_WRONG_HANDLE,
+   AFDX_NOT_GATHERED; then nothing is written. */
+uint8_t afdx_is_done(afdx_end_system *it, uint8_t *done);
+
+/* Gives back what belongs to an end system; its handle holds nothing then. Ports that are out stay usable: their sends
+   are accepted up to the room that is left, and then AFDX_FULL. Refused: AFDX_NOT_HELD, AFDX_WRONG_HANDLE. */
+uint8_t afdx_free(afdx_end_system *it);
+
+/* Gives back what belongs to a port; its handle holds nothing then. What it sent still goes out, but the end system can't
+   be gathered any more. Refused: AFDX_NOT_HELD, AFDX_WRONG_HANDLE. */
+uint8_t afdx_free_port(afdx_port *port);
+
+#ifdef __cplusplus
+}
+#endif
+#endif

@@ -1,0 +1,4 @@
+pub mod AsBox
+pub mod BothOk
+pub mod EndPorts
+pub mod FewFrames

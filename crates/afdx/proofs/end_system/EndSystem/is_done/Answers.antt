@@ -1,0 +1,18 @@
+use Rattle.std.proofs.Common.{◌≡◌, sym, subst, ◌∙◌, true, false, arith}
+use Rattle.redundant_mux.specs.Lines.{log}
+use Rattle.afdx_legal.specs.Done.{IsAllDone}
+use Rattle.afdx_tx.specs.Drain.{accepted_in}
+use Rattle.afdx.specs.declared.stage.Stage.{Stage}
+use Rattle.afdx.specs.Stages.{tx_of}
+use Rattle.afdx.specs.EndSystem.{IsAllSent}
+use Rattle.afdx.proofs.end_system.EndSystem.is_done.Goals as goal
+
+pub returns-else-is_done-clause-done : goal.returns-else-is_done-clause-done
+returns-else-is_done-clause-done c = λ fine. (
+  (λ one. absurd (omega (arith, one))),
+  (λ all.
+    let sent : IsAllDone c.in-Draining.draining.plan (accepted_in c.in-Draining.draining.links) (log c.in-Draining.draining.lines) =
+        subst (λ (stage : Stage). IsAllDone (tx_of stage).plan (accepted_in (tx_of stage).links) (log (tx_of stage).lines)) c.in-Draining.is
+        (subst IsAllSent (sym c.self.view_is) all) in
+    absurd (let no : false ≡ true = sym c.if-is_done.false ∙ c.is_done.ensures.done.1 sent in cc)),
+)

@@ -1,0 +1,17 @@
+use Rattle.std.proofs.Common.{◌≡◌, ◌≤◌, ◌∙◌, Bool, length, sym, ap, subst, vec_capacity}
+use Rattle.afdx.specs.Stages.{tx_of}
+use Rattle.afdx.specs.EndSystem.{end_view, IsEndSystem}
+use Rattle.afdx.specs.contracts.end_system.EndSystem.{the_view}
+use Rattle.afdx.proofs.FewFrames.{poll_keeps}
+use Rattle.afdx.proofs.end_system.EndSystem.poll.Goals as goal
+
+pub invariant_of-self-2 : goal.invariant_of-self-2
+invariant_of-self-2 c =
+    let own = c.self.inside in
+    let a = c.count-a_before.result in
+    let b = c.count-b_before.result in
+    subst (λ (gathered : Bool). IsEndSystem (end_view gathered (tx_of c.poll.new.self) own.ports.items (vec_capacity own.ports) a b))
+    (sym c.in-Ok.ensures.stage)
+    (poll_keeps (the_view own) (tx_of c.poll.new.self) a b c.args.now c.in-Ok.report c.self.invariant c.in-Ok.ensures.polled
+    (subst (λ n. n ≤ 64) c.len.ensures.value c.if-prove.false)
+    (c.count-a_before.ensures ∙ ap length c.network.ensures) (c.count-b_before.ensures ∙ ap length c.network-2.ensures))

@@ -1,0 +1,32 @@
+-- What the numbers of the header mean.
+use Rattle.std.specs.Prelude.{ℕ, List, Bool, true, false, Option, Some, None, nat_eq, if◌then◌else◌}
+use Rattle.afdx_frame.specs.declared.net.Net.{Net}
+use Rattle.afdx_frame.specs.declared.net.Net.TheVariants.{A, B}
+use Rattle.redundant_mux.specs.Entry.{Entry}
+use Rattle.redundant_mux.specs.Lines.{Lines}
+use Rattle.afdx_tx.specs.declared.fault.Refusal.{Refusal}
+use Rattle.afdx_tx.specs.declared.fault.Refusal.TheVariants.{Empty, TooLong, Closed, Exhausted, Full}
+
+-- the network with a number
+abbrev pub net_of : ℕ → Option Net
+net_of number = if nat_eq number 0 then Some A else if nat_eq number 1 then Some B else None
+
+-- what was handed to a network
+abbrev pub line_of : Net → Lines → List Entry
+line_of A lines = lines.a
+line_of B lines = lines.b
+
+-- the number of a refusal
+abbrev pub refusal_number : Refusal → ℕ
+refusal_number Empty = 1
+refusal_number TooLong = 2
+refusal_number Closed = 3
+refusal_number Exhausted = 4
+refusal_number Full = 5
+
+-- which networks stand, as bits: 1 for A and 2 for B
+abbrev pub standing_bits : (a b : Bool) → ℕ
+standing_bits false false = 0
+standing_bits true false = 1
+standing_bits false true = 2
+standing_bits true true = 3

@@ -1,0 +1,50 @@
+-- A poll, while ports send and once they are gathered.
+use Rattle.std.specs.Prelude.{ℕ, ◌≡◌, List, Bool, true, false}
+use Rattle.redundant_mux.specs.Lines.{BothEndure, IsMirrored, log}
+use Rattle.afdx_legal.specs.Legal.{Accepted, IsLegal}
+use Rattle.afdx_legal.specs.Allowed.{AreAllowed}
+use Rattle.afdx_legal.specs.Turns.{TakeTurns}
+use Rattle.afdx_legal.specs.Own.{AreOwnStreams}
+use Rattle.vl_link.specs.Links.{LinkState}
+use Rattle.afdx_tx.specs.Emitter.{Tx, AreTied, taken_in, queues_in, total_in}
+use Rattle.afdx_tx.specs.Drain.{IsDrained, accepted_in}
+use Rattle.afdx_tx.specs.Run.{IsRun}
+use Rattle.afdx_tx.specs.Report.{Polls}
+use Rattle.afdx_tx.specs.declared.report.Report.{Report}
+
+-- the messages that are known: those that were taken, and once the ports are gathered all that were accepted
+abbrev pub known_in : Bool → List LinkState → Accepted
+known_in false links = taken_in links
+known_in true links = accepted_in links
+
+-- the links have their turns in order
+abbrev pub Runs : Bool → ℕ → (old new : Tx) → Type 0
+Runs false now old new = IsRun now old.links new.links old.lines new.lines
+Runs true now old new = IsDrained now old.plan (accepted_in old.links) old.lines new.lines
+
+-- what is still to send while ports send: the links are tied to their streams, and the queues and the totals of
+-- those that were closed stay
+pub record KeepsQueues (old new : Tx) : Type 0 where
+  pub tied : AreTied new.links (log new.lines)
+  pub queues : queues_in new.links ≡ queues_in old.links
+  pub totals : (k s : ℕ) → total_in new.links k s ≡ total_in old.links k s
+
+-- what is still to send: once the ports are gathered what was accepted stays
+abbrev pub KeepsMessages : Bool → (old new : Tx) → Type 0
+KeepsMessages false old new = KeepsQueues old new
+KeepsMessages true old new = accepted_in new.links ≡ accepted_in old.links
+
+-- A poll at a moment: what it tells, that all that was handed over so far is legal and takes turns, and that the
+-- links had their turns.
+pub record PollsTx (gathered : Bool) (now : ℕ) (old : Tx) (report : Report) (new : Tx) : Type 0 where
+  pub told : Polls now old report new
+  pub run : Runs gathered now old new
+  pub legal : IsLegal new.plan (known_in gathered new.links) new.lines.a new.lines.b
+  pub turns : TakeTurns new.plan new.lines.a new.lines.b
+  pub allowed : AreAllowed new.plan (known_in gathered new.links)
+  pub mirrored : IsMirrored new.lines
+  pub streams : AreOwnStreams new.plan (log new.lines) new.lines.a new.lines.b
+  pub endure : BothEndure old.lines new.lines
+  pub plan : new.plan ≡ old.plan
+  pub board : new.board ≡ old.board
+  pub messages : KeepsMessages gathered old new

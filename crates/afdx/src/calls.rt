@@ -1,0 +1,462 @@
+//! What C calls, as `afdx.h` tells it. Each call takes what a handle owns out of it, and puts it back.
+ghost use Rattle.std.specs.Prelude.{◌≡◌, ◌≢◌, ◌⊎◌, ◌↔◌, ◌<◌, ◌≤◌, ◌++◌, ℕ, None, Some, IsSome, IsNone, IsSomeAnd, IsTrue, true, false, length, drop, position};
+ghost use Rattle.redundant_mux.specs.Lines.{is_alive};
+ghost use Rattle.afdx_config.specs.Faults.{IsLeastFault};
+ghost use Rattle.afdx_plan.specs.declared.fault.ConfigFault.{ConfigFault};
+ghost use Rattle.afdx_plan.specs.declared.fault.ConfigFault.TheVariants.{Memory};
+ghost use Rattle.afdx_plan.specs.PlanFaults.{fault_number};
+ghost use Rattle.afdx_tx.specs.declared.fault.Refusal.{Refusal};
+ghost use Rattle.afdx_tx.specs.Ports.{PortView, IsPortOfTx, Accepts, Refuses, LacksPlace};
+ghost use Rattle.afdx_tx.specs.Closing.{LacksSub};
+ghost use Rattle.afdx_tx.specs.Naming.{LacksLink};
+ghost use Rattle.afdx.specs.Numbers.{net_of, refusal_number, standing_bits};
+ghost use Rattle.afdx.specs.EndSystem.{EndView, has_id, made_for, made_at, PollsEnd, ClosesEnd, GathersEnd, GivesBack, TakesPort, IsAllSent, IsOpened};
+ghost use Rattle.afdx_legal.specs.Counting.{counts_in};
+ghost use Rattle.afdx_legal.specs.Own.{own_stream};
+ghost use Rattle.afdx.specs.Counted.{AreCountsOf};
+ghost use Rattle.afdx.specs.Held.{end_of, port_of, HoldsNothing, HoldsSame, EndDoes, PortDoes};
+
+use crate::answer::{
+    BOTH_DOWN, DONE, GATHERED, HELD, MEMORY, NO_FRAME, NO_LINK, NO_NETWORK, NO_PORT, NO_SUB,
+    NOT_GATHERED, NOT_HELD, PORT_MISSING, SMALL_BUFFER, TIME_BACK, WRONG_HANDLE, net_of,
+};
+use crate::counts::LinkCounts;
+use crate::handle::Handle;
+use crate::home::Home;
+use crate::opening::open_end_system;
+use crate::ports::gather;
+use crate::sending::send;
+use crate::taking::{give_in, take_port};
+use std::alloc::Global;
+use std::mem;
+
+/// Opens an end system from the text of a configuration.
+#[unsafe(no_mangle)]
+pub extern "C" fn afdx_open(alloc: Global, out: &mut Handle, text: &[u8]) -> u8
+    ensures held { (result ≡ HELD) ↔ IsSome out.old.kept.home }
+    ensures opened { result ≡ DONE → IsSomeAnd (end_of out.new.kept.home) (IsOpened text.now) }
+    ensures fault { result ≢ DONE → result ≢ HELD → (fault : ConfigFault) × (result ≡ fault_number fault)
+        × (fault ≢ Memory → IsLeastFault text.now fault) }
+    ensures refused { result ≢ DONE → out.new.kept.home ≡ out.old.kept.home }
+{
+    if !out.is_empty() {
+        return HELD;
+    }
+    let end_system = match open_end_system(alloc, text) {
+        Ok(end_system) => end_system,
+        Err(fault) => return fault.number(),
+    };
+    match Box::new(alloc, Home::EndSystem(end_system)) {
+        Ok(home) => {
+            out.put(home);
+            DONE
+        }
+        Err(_) => MEMORY,
+    }
+}
+
+/// Takes the port with an identifier, once.
+#[unsafe(no_mangle)]
+pub extern "C" fn afdx_port_of(alloc: Global, it: &mut Handle, id: u16, out: &mut Handle) -> u8
+    ensures held { (result ≡ HELD) ↔ IsSome out.old.kept.home }
+    ensures not_held { (result ≡ NOT_HELD) ↔
+        (IsNone out.old.kept.home × HoldsNothing it.old.kept.home) }
+    ensures wrong_handle { (result ≡ WRONG_HANDLE) ↔
+        (IsNone out.old.kept.home × IsSome (port_of it.old.kept.home)) }
+    ensures gathered { (result ≡ GATHERED) ↔ (IsNone out.old.kept.home
+        × IsSomeAnd (end_of it.old.kept.home) (λ end. end.gathered ≡ true)) }
+    ensures no_port { (result ≡ NO_PORT) ↔ (IsNone out.old.kept.home
+        × IsSomeAnd (end_of it.old.kept.home) (λ end.
+        (end.gathered ≡ false) × (position (has_id id) end.ports ≡ None))) }
+    ensures taken { result ≡ DONE → IsSomeAnd (port_of out.new.kept.home) (λ port.
+        EndDoes it.old.kept.home it.new.kept.home (λ old new. TakesPort old id port new)) }
+    ensures refused { result ≢ DONE → HoldsSame it.old.kept.home it.new.kept.home }
+    ensures left { result ≢ DONE → out.new.kept.home ≡ out.old.kept.home }
+{
+    if !out.is_empty() {
+        return HELD;
+    }
+    let Some(mut home) = it.take() else {
+        return NOT_HELD;
+    };
+    let taken = match &mut *home {
+        Home::EndSystem(end_system) => take_port(alloc, end_system, id),
+        Home::Port(_) => Err(WRONG_HANDLE),
+        Home::Nothing => Err(NOT_HELD),
+    };
+    it.put(home);
+    match taken {
+        Ok(port) => {
+            out.put(port);
+            DONE
+        }
+        Err(number) => number,
+    }
+}
+
+/// Copies a message in, at the end of the queue of the port's sub-VL.
+#[unsafe(no_mangle)]
+pub extern "C" fn afdx_send(alloc: Global, port: &mut Handle, message: &[u8]) -> u8
+    ensures not_held { (result ≡ NOT_HELD) ↔ HoldsNothing port.old.kept.home }
+    ensures wrong_handle { (result ≡ WRONG_HANDLE) ↔ IsSome (end_of port.old.kept.home) }
+    ensures accepted { result ≡ DONE → PortDoes port.old.kept.home port.new.kept.home
+        (λ old new. Accepts old message.now new) }
+    ensures refused { (why : Refusal) → result ≡ refusal_number why
+        → PortDoes port.old.kept.home port.new.kept.home (λ old new. Refuses old (length message.now) why new) }
+    ensures unsent { result ≡ MEMORY → HoldsSame port.old.kept.home port.new.kept.home }
+    ensures misused { 32 ≤ result → HoldsSame port.old.kept.home port.new.kept.home }
+{
+    let Some(mut home) = port.take() else {
+        return NOT_HELD;
+    };
+    let answer = match &mut *home {
+        Home::EndSystem(_) => WRONG_HANDLE,
+        Home::Port(own) => send(alloc, own, message),
+        Home::Nothing => NOT_HELD,
+    };
+    port.put(home);
+    answer
+}
+
+/// How many messages of a port were accepted.
+#[unsafe(no_mangle)]
+pub extern "C" fn afdx_accepted(port: &mut Handle, count: &mut u64) -> u8
+    ensures not_held { (result ≡ NOT_HELD) ↔ HoldsNothing port.old.kept.home }
+    ensures wrong_handle { (result ≡ WRONG_HANDLE) ↔ IsSome (end_of port.old.kept.home) }
+    ensures counted { result ≡ DONE → IsSomeAnd (port_of port.old.kept.home) (λ own.
+        count.new ≡ length own.sender.own) }
+    ensures same { HoldsSame port.old.kept.home port.new.kept.home }
+    ensures unwritten { result ≢ DONE → count.new ≡ count.old }
+{
+    let Some(home) = port.take() else {
+        return NOT_HELD;
+    };
+    let answer = match &*home {
+        Home::EndSystem(_) => WRONG_HANDLE,
+        Home::Port(own) => {
+            *count = own.accepted();
+            DONE
+        }
+        Home::Nothing => NOT_HELD,
+    };
+    port.put(home);
+    answer
+}
+
+/// Gives each virtual link its turn at a moment in microseconds, and tells which networks stand.
+#[unsafe(no_mangle)]
+pub extern "C" fn afdx_poll(it: &mut Handle, now: u64, standing: &mut u8) -> u8
+    ensures not_held { (result ≡ NOT_HELD) ↔ HoldsNothing it.old.kept.home }
+    ensures wrong_handle { (result ≡ WRONG_HANDLE) ↔ IsSome (port_of it.old.kept.home) }
+    ensures time_back { (result ≡ TIME_BACK) ↔
+        IsSomeAnd (end_of it.old.kept.home) (λ end. now < end.tx.moment) }
+    ensures both_down { (result ≡ BOTH_DOWN) ↔ IsSomeAnd (end_of it.old.kept.home)
+        (λ end. (end.tx.moment ≤ now) × (is_alive end.tx.lines ≡ false)) }
+    ensures polled { result ≡ DONE → EndDoes it.old.kept.home it.new.kept.home (PollsEnd now) }
+    ensures stand { result ≡ DONE → IsSomeAnd (end_of it.new.kept.home) (λ end.
+        standing.new ≡ standing_bits end.tx.lines.a_stands end.tx.lines.b_stands) }
+    ensures refused { result ≢ DONE → HoldsSame it.old.kept.home it.new.kept.home }
+    ensures none_stands { result ≡ BOTH_DOWN → standing.new ≡ 0 }
+    ensures unwritten { result ≢ DONE → result ≢ BOTH_DOWN → standing.new ≡ standing.old }
+{
+    let Some(mut home) = it.take() else {
+        return NOT_HELD;
+    };
+    let answer = match &mut *home {
+        Home::EndSystem(end_system) => end_system.poll(now, standing),
+        Home::Port(_) => WRONG_HANDLE,
+        Home::Nothing => NOT_HELD,
+    };
+    it.put(home);
+    answer
+}
+
+/// How many frames the last poll made for a network.
+#[unsafe(no_mangle)]
+pub extern "C" fn afdx_frames(it: &mut Handle, network: u8, count: &mut usize) -> u8
+    ensures not_held { (result ≡ NOT_HELD) ↔ HoldsNothing it.old.kept.home }
+    ensures wrong_handle { (result ≡ WRONG_HANDLE) ↔ IsSome (port_of it.old.kept.home) }
+    ensures no_network { (result ≡ NO_NETWORK) ↔
+        (IsSome (end_of it.old.kept.home) × IsNone (net_of network)) }
+    ensures counted { result ≡ DONE → IsSomeAnd (end_of it.old.kept.home) (λ end.
+        IsSomeAnd (net_of network) (λ net. count.new ≡ made_for net end)) }
+    ensures same { HoldsSame it.old.kept.home it.new.kept.home }
+    ensures unwritten { result ≢ DONE → count.new ≡ count.old }
+{
+    let Some(home) = it.take() else {
+        return NOT_HELD;
+    };
+    let answer = match &*home {
+        Home::EndSystem(end_system) => match net_of(network) {
+            Some(net) => {
+                *count = end_system.frames(net);
+                DONE
+            }
+            None => NO_NETWORK,
+        },
+        Home::Port(_) => WRONG_HANDLE,
+        Home::Nothing => NOT_HELD,
+    };
+    it.put(home);
+    answer
+}
+
+/// Copies frame `k`, from 0, that the last poll made for a network into a buffer, and writes how many
+/// bytes it has.
+#[unsafe(no_mangle)]
+pub extern "C" fn afdx_frame(
+    it: &mut Handle,
+    network: u8,
+    k: usize,
+    buffer: &mut [u8],
+    size: &mut usize,
+) -> u8
+    ensures not_held { (result ≡ NOT_HELD) ↔ HoldsNothing it.old.kept.home }
+    ensures wrong_handle { (result ≡ WRONG_HANDLE) ↔ IsSome (port_of it.old.kept.home) }
+    ensures no_network { (result ≡ NO_NETWORK) ↔
+        (IsSome (end_of it.old.kept.home) × IsNone (net_of network)) }
+    ensures no_frame { (result ≡ NO_FRAME) ↔ IsSomeAnd (end_of it.old.kept.home) (λ end.
+        IsSomeAnd (net_of network) (λ net. made_for net end ≤ k)) }
+    ensures small { (result ≡ SMALL_BUFFER) ↔ IsSomeAnd (end_of it.old.kept.home) (λ end.
+        IsSomeAnd (net_of network) (λ net.
+        (k < made_for net end) × (length buffer.old < length (made_at net k end)))) }
+    ensures copied { result ≡ DONE → IsSomeAnd (end_of it.old.kept.home) (λ end.
+        IsSomeAnd (net_of network) (λ net. buffer.new ≡
+        made_at net k end ++ drop (length (made_at net k end)) buffer.old)) }
+    ensures size { result ≡ DONE → IsSomeAnd (end_of it.old.kept.home) (λ end.
+        IsSomeAnd (net_of network) (λ net. size.new ≡ length (made_at net k end))) }
+    ensures same { HoldsSame it.old.kept.home it.new.kept.home }
+    ensures unwritten { result ≢ DONE → (buffer.new ≡ buffer.old) × (size.new ≡ size.old) }
+{
+    let Some(home) = it.take() else {
+        return NOT_HELD;
+    };
+    let answer = match &*home {
+        Home::EndSystem(end_system) => match net_of(network) {
+            Some(net) => end_system.frame(net, k, buffer, size),
+            None => NO_NETWORK,
+        },
+        Home::Port(_) => WRONG_HANDLE,
+        Home::Nothing => NOT_HELD,
+    };
+    it.put(home);
+    answer
+}
+
+/// Makes a network fail at the next frame that is handed to it.
+#[unsafe(no_mangle)]
+pub extern "C" fn afdx_fail(it: &mut Handle, network: u8) -> u8
+    ensures not_held { (result ≡ NOT_HELD) ↔ HoldsNothing it.old.kept.home }
+    ensures wrong_handle { (result ≡ WRONG_HANDLE) ↔ IsSome (port_of it.old.kept.home) }
+    ensures no_network { (result ≡ NO_NETWORK) ↔
+        (IsSome (end_of it.old.kept.home) × IsNone (net_of network)) }
+    ensures same { HoldsSame it.old.kept.home it.new.kept.home }
+{
+    let Some(home) = it.take() else {
+        return NOT_HELD;
+    };
+    let answer = match &*home {
+        Home::EndSystem(end_system) => match net_of(network) {
+            Some(net) => {
+                end_system.fail(net);
+                DONE
+            }
+            None => NO_NETWORK,
+        },
+        Home::Port(_) => WRONG_HANDLE,
+        Home::Nothing => NOT_HELD,
+    };
+    it.put(home);
+    answer
+}
+
+/// Closes a sub-VL, and writes how many messages were accepted in all.
+#[unsafe(no_mangle)]
+pub extern "C" fn afdx_close(it: &mut Handle, vl: u16, sub: u8, total: &mut u64) -> u8
+    ensures not_held { (result ≡ NOT_HELD) ↔ HoldsNothing it.old.kept.home }
+    ensures wrong_handle { (result ≡ WRONG_HANDLE) ↔ IsSome (port_of it.old.kept.home) }
+    ensures gathered { (result ≡ GATHERED) ↔
+        IsSomeAnd (end_of it.old.kept.home) (λ end. end.gathered ≡ true) }
+    ensures no_sub { (result ≡ NO_SUB) ↔ IsSomeAnd (end_of it.old.kept.home) (λ end.
+        (end.gathered ≡ false) × LacksSub end.tx.plan vl sub) }
+    ensures closed { result ≡ DONE → EndDoes it.old.kept.home it.new.kept.home
+        (λ old new. ClosesEnd old vl sub total.new new) }
+    ensures refused { result ≢ DONE → HoldsSame it.old.kept.home it.new.kept.home }
+    ensures unwritten { result ≢ DONE → total.new ≡ total.old }
+{
+    let Some(mut home) = it.take() else {
+        return NOT_HELD;
+    };
+    let answer = match &mut *home {
+        Home::EndSystem(end_system) => end_system.close(vl, sub, total),
+        Home::Port(_) => WRONG_HANDLE,
+        Home::Nothing => NOT_HELD,
+    };
+    it.put(home);
+    answer
+}
+
+/// What was sent of a virtual link so far.
+#[unsafe(no_mangle)]
+pub extern "C" fn afdx_link_counts(it: &mut Handle, vl: u16, counts: &mut LinkCounts) -> u8
+    ensures not_held { (result ≡ NOT_HELD) ↔ HoldsNothing it.old.kept.home }
+    ensures wrong_handle { (result ≡ WRONG_HANDLE) ↔ IsSome (port_of it.old.kept.home) }
+    ensures no_link { (result ≡ NO_LINK) ↔
+        IsSomeAnd (end_of it.old.kept.home) (λ end. LacksLink end.tx.plan vl) }
+    ensures counted { result ≡ DONE → IsSomeAnd (end_of it.old.kept.home) (λ end.
+        AreCountsOf (counts_in (own_stream vl end.tx.lines.a end.tx.lines.b)) counts.new) }
+    ensures same { HoldsSame it.old.kept.home it.new.kept.home }
+    ensures unwritten { result ≢ DONE → counts.new ≡ counts.old }
+{
+    let Some(home) = it.take() else {
+        return NOT_HELD;
+    };
+    let answer = match &*home {
+        Home::EndSystem(end_system) => match end_system.counts(vl) {
+            Ok(sent) => {
+                *counts = LinkCounts {
+                    frames: sent.frames,
+                    bytes: sent.bytes,
+                    messages: sent.messages,
+                    last: sent.last,
+                };
+                DONE
+            }
+            Err(number) => number,
+        },
+        Home::Port(_) => WRONG_HANDLE,
+        Home::Nothing => NOT_HELD,
+    };
+    it.put(home);
+    answer
+}
+
+/// Whether every fragment of every accepted message was taken by at least one network: writes 1 or 0.
+#[unsafe(no_mangle)]
+pub extern "C" fn afdx_is_done(it: &mut Handle, done: &mut u8) -> u8
+    ensures not_held { (result ≡ NOT_HELD) ↔ HoldsNothing it.old.kept.home }
+    ensures wrong_handle { (result ≡ WRONG_HANDLE) ↔ IsSome (port_of it.old.kept.home) }
+    ensures not_gathered { (result ≡ NOT_GATHERED) ↔
+        IsSomeAnd (end_of it.old.kept.home) (λ end. end.gathered ≡ false) }
+    ensures done { result ≡ DONE → IsSomeAnd (end_of it.old.kept.home) (λ end.
+        (done.new ≡ 1) ↔ IsAllSent end) }
+    ensures flag { result ≡ DONE → done.new ≤ 1 }
+    ensures same { HoldsSame it.old.kept.home it.new.kept.home }
+    ensures unwritten { result ≢ DONE → done.new ≡ done.old }
+{
+    let Some(home) = it.take() else {
+        return NOT_HELD;
+    };
+    let answer = match &*home {
+        Home::EndSystem(end_system) => end_system.is_done(done),
+        Home::Port(_) => WRONG_HANDLE,
+        Home::Nothing => NOT_HELD,
+    };
+    it.put(home);
+    answer
+}
+
+/// Gives back what belongs to an end system.
+#[unsafe(no_mangle)]
+pub extern "C" fn afdx_free(it: &mut Handle) -> u8
+    ensures not_held { (result ≡ NOT_HELD) ↔ HoldsNothing it.old.kept.home }
+    ensures wrong_handle { (result ≡ WRONG_HANDLE) ↔ IsSome (port_of it.old.kept.home) }
+    ensures freed { result ≡ DONE → IsNone it.new.kept.home }
+    ensures refused { result ≢ DONE → HoldsSame it.old.kept.home it.new.kept.home }
+{
+    let Some(home) = it.take() else {
+        return NOT_HELD;
+    };
+    match &*home {
+        Home::EndSystem(_) => DONE,
+        Home::Port(_) => {
+            it.put(home);
+            WRONG_HANDLE
+        }
+        Home::Nothing => NOT_HELD,
+    }
+}
+
+/// Gives back what belongs to a port.
+#[unsafe(no_mangle)]
+pub extern "C" fn afdx_free_port(port: &mut Handle) -> u8
+    ensures not_held { (result ≡ NOT_HELD) ↔ HoldsNothing port.old.kept.home }
+    ensures wrong_handle { (result ≡ WRONG_HANDLE) ↔ IsSome (end_of port.old.kept.home) }
+    ensures freed { result ≡ DONE → IsNone port.new.kept.home }
+    ensures refused { result ≢ DONE → HoldsSame port.old.kept.home port.new.kept.home }
+{
+    let Some(home) = port.take() else {
+        return NOT_HELD;
+    };
+    match &*home {
+        Home::EndSystem(_) => {
+            port.put(home);
+            WRONG_HANDLE
+        }
+        Home::Port(_) => DONE,
+        Home::Nothing => NOT_HELD,
+    }
+}
+
+/// Gives a port back to the end system that it was taken from. Its handle holds nothing then.
+#[unsafe(no_mangle)]
+pub extern "C" fn afdx_give_back(it: &mut Handle, port: &mut Handle) -> u8
+    requires own { (end : EndView) → (own : PortView) → end_of it.old.kept.home ≡ Some end
+        → port_of port.old.kept.home ≡ Some own → end.gathered ≡ false → IsPortOfTx end.tx own }
+    ensures not_held { (result ≡ NOT_HELD) ↔
+        (HoldsNothing it.old.kept.home ⊎ HoldsNothing port.old.kept.home) }
+    ensures gathered { (result ≡ GATHERED) ↔ (IsSome (port_of port.old.kept.home)
+        × IsSomeAnd (end_of it.old.kept.home) (λ end. end.gathered ≡ true)) }
+    ensures given { result ≡ DONE → IsSomeAnd (port_of port.old.kept.home) (λ own.
+        EndDoes it.old.kept.home it.new.kept.home (λ old new. GivesBack old own new)) }
+    ensures none { result ≡ DONE → port.new.kept.home ≡ None }
+    ensures refused { result ≢ DONE → HoldsSame it.old.kept.home it.new.kept.home }
+    ensures kept { result ≢ DONE → HoldsSame port.old.kept.home port.new.kept.home }
+{
+    let Some(mut home) = it.take() else {
+        return NOT_HELD;
+    };
+    let Some(mut theirs) = port.take() else {
+        it.put(home);
+        return NOT_HELD;
+    };
+    let answer = give_in(&mut home, &mut theirs);
+    it.put(home);
+    if answer == DONE {
+        drop(theirs);
+    } else {
+        port.put(theirs);
+    }
+    answer
+}
+
+/// Gathers the ports, all of which are here.
+#[unsafe(no_mangle)]
+pub extern "C" fn afdx_gather(alloc: Global, it: &mut Handle) -> u8
+    ensures not_held { (result ≡ NOT_HELD) ↔ HoldsNothing it.old.kept.home }
+    ensures wrong_handle { (result ≡ WRONG_HANDLE) ↔ IsSome (port_of it.old.kept.home) }
+    ensures gathered { (result ≡ GATHERED) ↔
+        IsSomeAnd (end_of it.old.kept.home) (λ end. end.gathered ≡ true) }
+    ensures missing { (result ≡ PORT_MISSING) ↔ IsSomeAnd (end_of it.old.kept.home) (λ end.
+        (end.gathered ≡ false) × LacksPlace (length end.tx.plan.ports) end.ports) }
+    ensures gathers { result ≡ DONE → EndDoes it.old.kept.home it.new.kept.home GathersEnd }
+    ensures refused { result ≢ DONE → HoldsSame it.old.kept.home it.new.kept.home }
+{
+    let Some(mut home) = it.take() else {
+        return NOT_HELD;
+    };
+    let answer = match mem::replace(&mut *home, Home::Nothing) {
+        Home::EndSystem(end_system) => {
+            let (gathered, answer) = gather(alloc, end_system);
+            *home = Home::EndSystem(gathered);
+            answer
+        }
+        Home::Port(port) => {
+            *home = Home::Port(port);
+            WRONG_HANDLE
+        }
+        Home::Nothing => NOT_HELD,
+    };
+    it.put(home);
+    answer
+}

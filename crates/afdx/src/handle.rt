@@ -1,0 +1,81 @@
+//! What C holds by pointer: a home, or nothing.
+ghost use Rattle.std.specs.Prelude.{◌≡◌, ◌<◌, Option, Some, None, IsSome, IsNone, is_none, MatchOption};
+
+use crate::home::Home;
+use crate::seal::Sealed;
+use std::alloc::Global;
+use std::mem;
+
+/// A home, or nothing. In C all bytes zero is a handle of nothing.
+#[repr(C)]
+#[derive(Drop)]
+pub struct Handle {
+    pub kept: Sealed,
+    held: u8,
+    alloc: Global,
+    ghost nothing: { held ≡ 0 → IsNone kept.home },
+    ghost something: { 0 < held → IsSome kept.home },
+}
+
+impl Handle {
+    /// A handle of nothing.
+    fn empty(alloc: Global) -> Handle
+        ensures { result.kept.home ≡ None }
+    {
+        Handle {
+            kept: Sealed::empty(alloc),
+            held: 0,
+            alloc,
+        }
+    }
+
+    /// A handle of a home.
+    fn of(alloc: Global, home: Box<Home>) -> Handle
+        ensures { result.kept.home ≡ Some home.value }
+    {
+        Handle {
+            kept: Sealed::of(home),
+            held: 1,
+            alloc,
+        }
+    }
+
+    /// The home, where there is one.
+    fn into_home(self) -> Option<Box<Home>>
+        ensures { MatchOption result (self.kept.home ≡ None) (λ home. self.kept.home ≡ Some home.value) }
+    {
+        let Handle {
+            kept,
+            held,
+            alloc: _,
+        } = self;
+        if held == 0 {
+            None
+        } else {
+            Some(kept.into_box())
+        }
+    }
+
+    /// Whether it holds nothing.
+    pub fn is_empty(&self) -> bool
+        ensures { result ≡ is_none self.now.kept.home }
+    {
+        self.held == 0
+    }
+
+    /// Takes the home out, and leaves nothing.
+    pub fn take(&mut self) -> Option<Box<Home>>
+        ensures taken { MatchOption result (self.old.kept.home ≡ None) (λ home. self.old.kept.home ≡ Some home.value) }
+        ensures left { self.new.kept.home ≡ None }
+    {
+        mem::replace(self, Handle::empty(self.alloc)).into_home()
+    }
+
+    /// Puts a home in.
+    pub fn put(&mut self, home: Box<Home>)
+        requires { self.old.kept.home ≡ None }
+        ensures { self.new.kept.home ≡ Some home.value }
+    {
+        *self = Handle::of(self.alloc, home);
+    }
+}
