@@ -18,6 +18,7 @@
    - pointers lead to as many bytes as are told, and aren't NULL, even for 0 bytes; nobody else writes there meanwhile,
      and what is written through lies apart from what is read;
    - a port is given back to the end system that it was taken from;
+   - the two handles of one call are two;
    - malloc, realloc and free come from one allocator. No call is made from a signal handler or in the forked child of a
      process with threads.
    A call after afdx_free, a port asked for twice, a moment that goes back, an unknown identifier and a buffer that is too
@@ -92,7 +93,7 @@ enum {
     AFDX_WRONG_HANDLE = 33, /* it holds a port where an end system is wanted, or the other way round */
     AFDX_HELD = 34,         /* a handle that is to be filled holds something */
     AFDX_TIME_BACK = 35,    /* the moment is before that of an earlier poll */
-    AFDX_NO_PORT = 36,      /* no such identifier, or the port was taken already */
+    AFDX_NO_PORT = 36,      /* no such identifier, or the port was taken already; or a port that isn't of the end system */
     AFDX_NO_SUB = 37,       /* no such virtual link, or no such sub-VL of it */
     AFDX_NO_LINK = 38,      /* no such virtual link */
     AFDX_NO_NETWORK = 39,   /* neither AFDX_A nor AFDX_B */
@@ -149,8 +150,9 @@ uint8_t afdx_close(afdx_end_system *it, uint16_t vl, uint8_t sub, uint64_t *tota
    written. */
 uint8_t afdx_link_counts(afdx_end_system *it, uint16_t vl, afdx_counts *counts);
 
-/* Gives a port back to the end system that it was taken from. It can be taken again. Its handle holds nothing then.
-   Refused: AFDX_NOT_HELD, AFDX_WRONG_HANDLE (of either), AFDX_GATHERED. */
+/* Gives a port back to the end system that it was taken from. It can be taken again. Its handle holds nothing then. It asks
+   for no memory. Refused: AFDX_NOT_HELD, AFDX_WRONG_HANDLE (of either), AFDX_GATHERED, AFDX_NO_PORT (the end system has
+   as many ports as it can have, so this isn't one of its own). */
 uint8_t afdx_give_back(afdx_end_system *it, afdx_port *port);
 
 /* Gathers the ports, all of which were given back or never taken: what they had accepted is known whole, and each later

@@ -1,5 +1,5 @@
 -- What a handle holds, by kind.
-use Rattle.std.specs.Prelude.{◌≡◌, Option, Some, None, IsNone, IsSomeAnd}
+use Rattle.std.specs.Prelude.{◌≡◌, ◌⊎◌, Option, Some, None, IsNone, IsSome, IsSomeAnd}
 use Rattle.afdx_tx.specs.Ports.{PortView}
 use Rattle.afdx.specs.EndSystem.{EndView}
 use Rattle.afdx.specs.declared.home.Home.{Home}
@@ -22,6 +22,10 @@ port_of (Some is.Nothing) = None
 -- neither
 abbrev pub HoldsNothing : Option Home → Type 0
 HoldsNothing held = IsNone (end_of held) × IsNone (port_of held)
+
+-- one of them
+abbrev pub HoldsOne : Option Home → Type 0
+HoldsOne held = IsSome (end_of held) ⊎ IsSome (port_of held)
 
 -- the same end system, the same port or neither
 abbrev pub HoldsSame : Option Home → Option Home → Type 0

@@ -1,5 +1,5 @@
 -- What the numbers of the header mean.
-use Rattle.std.specs.Prelude.{ℕ, List, Bool, true, false, Option, Some, None, nat_eq, if◌then◌else◌}
+use Rattle.std.specs.Prelude.{ℕ, ◌≡◌, ◌⊎◌, List, [], ◌∷◌, Bool, true, false, Option, Some, None, nat_eq, if◌then◌else◌}
 use Rattle.afdx_frame.specs.declared.net.Net.{Net}
 use Rattle.afdx_frame.specs.declared.net.Net.TheVariants.{A, B}
 use Rattle.redundant_mux.specs.Entry.{Entry}
@@ -30,3 +30,8 @@ standing_bits false false = 0
 standing_bits true false = 1
 standing_bits false true = 2
 standing_bits true true = 3
+
+-- a number is one of these
+abbrev pub IsOneOf : ℕ → List ℕ → Type 0
+IsOneOf number [] = ⊥
+IsOneOf number (first ∷ rest) = (number ≡ first) ⊎ IsOneOf number rest

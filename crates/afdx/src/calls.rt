@@ -1,5 +1,5 @@
 //! What C calls, as `afdx.h` tells it. Each call takes what a handle owns out of it, and puts it back.
-ghost use Rattle.std.specs.Prelude.{◌≡◌, ◌≢◌, ◌⊎◌, ◌↔◌, ◌<◌, ◌≤◌, ◌++◌, ℕ, None, Some, IsSome, IsNone, IsSomeAnd, IsTrue, true, false, length, drop, position};
+ghost use Rattle.std.specs.Prelude.{◌≡◌, ◌≢◌, ◌⊎◌, ◌↔◌, ◌<◌, ◌≤◌, ◌++◌, [], ◌∷◌, ℕ, None, Some, IsSome, IsNone, IsSomeAnd, IsTrue, true, false, length, drop, position};
 ghost use Rattle.redundant_mux.specs.Lines.{is_alive};
 ghost use Rattle.afdx_config.specs.Faults.{IsLeastFault};
 ghost use Rattle.afdx_plan.specs.declared.fault.ConfigFault.{ConfigFault};
@@ -9,12 +9,12 @@ ghost use Rattle.afdx_tx.specs.declared.fault.Refusal.{Refusal};
 ghost use Rattle.afdx_tx.specs.Ports.{PortView, IsPortOfTx, Accepts, Refuses, LacksPlace};
 ghost use Rattle.afdx_tx.specs.Closing.{LacksSub};
 ghost use Rattle.afdx_tx.specs.Naming.{LacksLink};
-ghost use Rattle.afdx.specs.Numbers.{net_of, refusal_number, standing_bits};
+ghost use Rattle.afdx.specs.Numbers.{IsOneOf, net_of, refusal_number, standing_bits};
 ghost use Rattle.afdx.specs.EndSystem.{EndView, has_id, made_for, made_at, PollsEnd, ClosesEnd, GathersEnd, GivesBack, TakesPort, IsAllSent, IsOpened};
 ghost use Rattle.afdx_legal.specs.Counting.{counts_in};
 ghost use Rattle.afdx_legal.specs.Own.{own_stream};
 ghost use Rattle.afdx.specs.Counted.{AreCountsOf};
-ghost use Rattle.afdx.specs.Held.{end_of, port_of, HoldsNothing, HoldsSame, EndDoes, PortDoes};
+ghost use Rattle.afdx.specs.Held.{end_of, port_of, HoldsNothing, HoldsOne, HoldsSame, EndDoes, PortDoes};
 
 use crate::answer::{
     BOTH_DOWN, DONE, GATHERED, HELD, MEMORY, NO_FRAME, NO_LINK, NO_NETWORK, NO_PORT, NO_SUB,
@@ -58,6 +58,8 @@ pub extern "C" fn afdx_open(alloc: Global, out: &mut Handle, text: &[u8]) -> u8
 /// Takes the port with an identifier, once.
 #[unsafe(no_mangle)]
 pub extern "C" fn afdx_port_of(alloc: Global, it: &mut Handle, id: u16, out: &mut Handle) -> u8
+    ensures answers { IsOneOf result
+        (DONE ∷ HELD ∷ NOT_HELD ∷ WRONG_HANDLE ∷ GATHERED ∷ NO_PORT ∷ MEMORY ∷ []) }
     ensures held { (result ≡ HELD) ↔ IsSome out.old.kept.home }
     ensures not_held { (result ≡ NOT_HELD) ↔
         (IsNone out.old.kept.home × HoldsNothing it.old.kept.home) }
@@ -97,6 +99,7 @@ pub extern "C" fn afdx_port_of(alloc: Global, it: &mut Handle, id: u16, out: &mu
 /// Copies a message in, at the end of the queue of the port's sub-VL.
 #[unsafe(no_mangle)]
 pub extern "C" fn afdx_send(alloc: Global, port: &mut Handle, message: &[u8]) -> u8
+    ensures answers { (result ≤ 5) ⊎ IsOneOf result (MEMORY ∷ NOT_HELD ∷ WRONG_HANDLE ∷ []) }
     ensures not_held { (result ≡ NOT_HELD) ↔ HoldsNothing port.old.kept.home }
     ensures wrong_handle { (result ≡ WRONG_HANDLE) ↔ IsSome (end_of port.old.kept.home) }
     ensures accepted { result ≡ DONE → PortDoes port.old.kept.home port.new.kept.home
@@ -121,6 +124,8 @@ pub extern "C" fn afdx_send(alloc: Global, port: &mut Handle, message: &[u8]) ->
 /// How many messages of a port were accepted.
 #[unsafe(no_mangle)]
 pub extern "C" fn afdx_accepted(port: &mut Handle, count: &mut u64) -> u8
+    ensures answers { IsOneOf result
+        (DONE ∷ NOT_HELD ∷ WRONG_HANDLE ∷ []) }
     ensures not_held { (result ≡ NOT_HELD) ↔ HoldsNothing port.old.kept.home }
     ensures wrong_handle { (result ≡ WRONG_HANDLE) ↔ IsSome (end_of port.old.kept.home) }
     ensures counted { result ≡ DONE → IsSomeAnd (port_of port.old.kept.home) (λ own.
@@ -146,6 +151,8 @@ pub extern "C" fn afdx_accepted(port: &mut Handle, count: &mut u64) -> u8
 /// Gives each virtual link its turn at a moment in microseconds, and tells which networks stand.
 #[unsafe(no_mangle)]
 pub extern "C" fn afdx_poll(it: &mut Handle, now: u64, standing: &mut u8) -> u8
+    ensures answers { IsOneOf result
+        (DONE ∷ NOT_HELD ∷ WRONG_HANDLE ∷ TIME_BACK ∷ BOTH_DOWN ∷ []) }
     ensures not_held { (result ≡ NOT_HELD) ↔ HoldsNothing it.old.kept.home }
     ensures wrong_handle { (result ≡ WRONG_HANDLE) ↔ IsSome (port_of it.old.kept.home) }
     ensures time_back { (result ≡ TIME_BACK) ↔
@@ -174,6 +181,8 @@ pub extern "C" fn afdx_poll(it: &mut Handle, now: u64, standing: &mut u8) -> u8
 /// How many frames the last poll made for a network.
 #[unsafe(no_mangle)]
 pub extern "C" fn afdx_frames(it: &mut Handle, network: u8, count: &mut usize) -> u8
+    ensures answers { IsOneOf result
+        (DONE ∷ NOT_HELD ∷ WRONG_HANDLE ∷ NO_NETWORK ∷ []) }
     ensures not_held { (result ≡ NOT_HELD) ↔ HoldsNothing it.old.kept.home }
     ensures wrong_handle { (result ≡ WRONG_HANDLE) ↔ IsSome (port_of it.old.kept.home) }
     ensures no_network { (result ≡ NO_NETWORK) ↔
@@ -211,6 +220,8 @@ pub extern "C" fn afdx_frame(
     buffer: &mut [u8],
     size: &mut usize,
 ) -> u8
+    ensures answers { IsOneOf result
+        (DONE ∷ NOT_HELD ∷ WRONG_HANDLE ∷ NO_NETWORK ∷ NO_FRAME ∷ SMALL_BUFFER ∷ []) }
     ensures not_held { (result ≡ NOT_HELD) ↔ HoldsNothing it.old.kept.home }
     ensures wrong_handle { (result ≡ WRONG_HANDLE) ↔ IsSome (port_of it.old.kept.home) }
     ensures no_network { (result ≡ NO_NETWORK) ↔
@@ -246,6 +257,8 @@ pub extern "C" fn afdx_frame(
 /// Makes a network fail at the next frame that is handed to it.
 #[unsafe(no_mangle)]
 pub extern "C" fn afdx_fail(it: &mut Handle, network: u8) -> u8
+    ensures answers { IsOneOf result
+        (DONE ∷ NOT_HELD ∷ WRONG_HANDLE ∷ NO_NETWORK ∷ []) }
     ensures not_held { (result ≡ NOT_HELD) ↔ HoldsNothing it.old.kept.home }
     ensures wrong_handle { (result ≡ WRONG_HANDLE) ↔ IsSome (port_of it.old.kept.home) }
     ensures no_network { (result ≡ NO_NETWORK) ↔
@@ -273,6 +286,8 @@ pub extern "C" fn afdx_fail(it: &mut Handle, network: u8) -> u8
 /// Closes a sub-VL, and writes how many messages were accepted in all.
 #[unsafe(no_mangle)]
 pub extern "C" fn afdx_close(it: &mut Handle, vl: u16, sub: u8, total: &mut u64) -> u8
+    ensures answers { IsOneOf result
+        (DONE ∷ NOT_HELD ∷ WRONG_HANDLE ∷ GATHERED ∷ NO_SUB ∷ []) }
     ensures not_held { (result ≡ NOT_HELD) ↔ HoldsNothing it.old.kept.home }
     ensures wrong_handle { (result ≡ WRONG_HANDLE) ↔ IsSome (port_of it.old.kept.home) }
     ensures gathered { (result ≡ GATHERED) ↔
@@ -299,6 +314,8 @@ pub extern "C" fn afdx_close(it: &mut Handle, vl: u16, sub: u8, total: &mut u64)
 /// What was sent of a virtual link so far.
 #[unsafe(no_mangle)]
 pub extern "C" fn afdx_link_counts(it: &mut Handle, vl: u16, counts: &mut LinkCounts) -> u8
+    ensures answers { IsOneOf result
+        (DONE ∷ NOT_HELD ∷ WRONG_HANDLE ∷ NO_LINK ∷ []) }
     ensures not_held { (result ≡ NOT_HELD) ↔ HoldsNothing it.old.kept.home }
     ensures wrong_handle { (result ≡ WRONG_HANDLE) ↔ IsSome (port_of it.old.kept.home) }
     ensures no_link { (result ≡ NO_LINK) ↔
@@ -334,6 +351,8 @@ pub extern "C" fn afdx_link_counts(it: &mut Handle, vl: u16, counts: &mut LinkCo
 /// Whether every fragment of every accepted message was taken by at least one network: writes 1 or 0.
 #[unsafe(no_mangle)]
 pub extern "C" fn afdx_is_done(it: &mut Handle, done: &mut u8) -> u8
+    ensures answers { IsOneOf result
+        (DONE ∷ NOT_HELD ∷ WRONG_HANDLE ∷ NOT_GATHERED ∷ []) }
     ensures not_held { (result ≡ NOT_HELD) ↔ HoldsNothing it.old.kept.home }
     ensures wrong_handle { (result ≡ WRONG_HANDLE) ↔ IsSome (port_of it.old.kept.home) }
     ensures not_gathered { (result ≡ NOT_GATHERED) ↔
@@ -359,6 +378,8 @@ pub extern "C" fn afdx_is_done(it: &mut Handle, done: &mut u8) -> u8
 /// Gives back what belongs to an end system.
 #[unsafe(no_mangle)]
 pub extern "C" fn afdx_free(it: &mut Handle) -> u8
+    ensures answers { IsOneOf result
+        (DONE ∷ NOT_HELD ∷ WRONG_HANDLE ∷ []) }
     ensures not_held { (result ≡ NOT_HELD) ↔ HoldsNothing it.old.kept.home }
     ensures wrong_handle { (result ≡ WRONG_HANDLE) ↔ IsSome (port_of it.old.kept.home) }
     ensures freed { result ≡ DONE → IsNone it.new.kept.home }
@@ -380,6 +401,8 @@ pub extern "C" fn afdx_free(it: &mut Handle) -> u8
 /// Gives back what belongs to a port.
 #[unsafe(no_mangle)]
 pub extern "C" fn afdx_free_port(port: &mut Handle) -> u8
+    ensures answers { IsOneOf result
+        (DONE ∷ NOT_HELD ∷ WRONG_HANDLE ∷ []) }
     ensures not_held { (result ≡ NOT_HELD) ↔ HoldsNothing port.old.kept.home }
     ensures wrong_handle { (result ≡ WRONG_HANDLE) ↔ IsSome (end_of port.old.kept.home) }
     ensures freed { result ≡ DONE → IsNone port.new.kept.home }
@@ -403,8 +426,15 @@ pub extern "C" fn afdx_free_port(port: &mut Handle) -> u8
 pub extern "C" fn afdx_give_back(it: &mut Handle, port: &mut Handle) -> u8
     requires own { (end : EndView) → (own : PortView) → end_of it.old.kept.home ≡ Some end
         → port_of port.old.kept.home ≡ Some own → end.gathered ≡ false → IsPortOfTx end.tx own }
+    ensures answers { IsOneOf result
+        (DONE ∷ NOT_HELD ∷ WRONG_HANDLE ∷ GATHERED ∷ NO_PORT ∷ []) }
     ensures not_held { (result ≡ NOT_HELD) ↔
         (HoldsNothing it.old.kept.home ⊎ HoldsNothing port.old.kept.home) }
+    ensures wrong_handle { (result ≡ WRONG_HANDLE) ↔
+        ((IsSome (port_of it.old.kept.home) × HoldsOne port.old.kept.home)
+        ⊎ (IsSome (end_of it.old.kept.home) × IsSome (end_of port.old.kept.home))) }
+    ensures foreign { result ≡ NO_PORT → IsSomeAnd (end_of it.old.kept.home) (λ end.
+        end.room ≡ length end.ports) }
     ensures gathered { (result ≡ GATHERED) ↔ (IsSome (port_of port.old.kept.home)
         × IsSomeAnd (end_of it.old.kept.home) (λ end. end.gathered ≡ true)) }
     ensures given { result ≡ DONE → IsSomeAnd (port_of port.old.kept.home) (λ own.
@@ -433,6 +463,8 @@ pub extern "C" fn afdx_give_back(it: &mut Handle, port: &mut Handle) -> u8
 /// Gathers the ports, all of which are here.
 #[unsafe(no_mangle)]
 pub extern "C" fn afdx_gather(alloc: Global, it: &mut Handle) -> u8
+    ensures answers { IsOneOf result
+        (DONE ∷ NOT_HELD ∷ WRONG_HANDLE ∷ GATHERED ∷ PORT_MISSING ∷ []) }
     ensures not_held { (result ≡ NOT_HELD) ↔ HoldsNothing it.old.kept.home }
     ensures wrong_handle { (result ≡ WRONG_HANDLE) ↔ IsSome (port_of it.old.kept.home) }
     ensures gathered { (result ≡ GATHERED) ↔

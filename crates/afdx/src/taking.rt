@@ -1,8 +1,9 @@
 //! A port that is to have a handle of its own.
-ghost use Rattle.std.specs.Prelude.{◌≡◌, ◌≢◌, ◌⊎◌, ◌↔◌, None, Some, true, false, position, IfErr, IfOk, OnErr, OnOk, IsSome, IsSomeAnd};
+ghost use Rattle.std.specs.Prelude.{◌≡◌, ◌≢◌, ◌⊎◌, ◌↔◌, [], ◌∷◌, None, Some, true, false, length, position, IfErr, IfOk, OnErr, OnOk, IsSome, IsSomeAnd};
 ghost use Rattle.afdx_tx.specs.Ports.{PortView, IsPortOfTx};
 ghost use Rattle.afdx.specs.EndSystem.{EndView, has_id, TakesPort, GivesBack};
-ghost use Rattle.afdx.specs.Held.{end_of, port_of, HoldsNothing, HoldsSame, EndDoes};
+ghost use Rattle.afdx.specs.Held.{end_of, port_of, HoldsNothing, HoldsOne, HoldsSame, EndDoes};
+ghost use Rattle.afdx.specs.Numbers.{IsOneOf};
 
 use crate::answer::{DONE, GATHERED, MEMORY, NO_PORT, NOT_HELD, WRONG_HANDLE};
 use crate::end_system::EndSystem;
@@ -49,6 +50,13 @@ pub fn give_in(home: &mut Home, theirs: &mut Home) -> u8
         → port_of (Some theirs.old) ≡ Some own → end.gathered ≡ false → IsPortOfTx end.tx own }
     ensures not_held { (result ≡ NOT_HELD) ↔
         (HoldsNothing (Some home.old) ⊎ HoldsNothing (Some theirs.old)) }
+    ensures wrong_handle { (result ≡ WRONG_HANDLE) ↔
+        ((IsSome (port_of (Some home.old)) × HoldsOne (Some theirs.old))
+        ⊎ (IsSome (end_of (Some home.old)) × IsSome (end_of (Some theirs.old)))) }
+    ensures foreign { result ≡ NO_PORT → IsSomeAnd (end_of (Some home.old)) (λ end.
+        end.room ≡ length end.ports) }
+    ensures answers { IsOneOf result
+        (DONE ∷ NOT_HELD ∷ WRONG_HANDLE ∷ GATHERED ∷ NO_PORT ∷ []) }
     ensures gathered { (result ≡ GATHERED) ↔ (IsSome (port_of (Some theirs.old))
         × IsSomeAnd (end_of (Some home.old)) (λ end. end.gathered ≡ true)) }
     ensures given { result ≡ DONE → IsSomeAnd (port_of (Some theirs.old)) (λ own.
