@@ -20,19 +20,19 @@ pub keeps_next : (slots : List Kept) (count : ℕ) (handed : List Entry) (kept :
 keeps_next slots count handed kept e keeps is =
     let slot : count % 64 < length slots = subst (λ n. count % 64 < n) (sym keeps.room) (mod_below count 64 (lit< tt)) in
     let goal : (number : ℕ) (other : Kept) → Type 0 = λ number other.
-        entry_of (get_or (set slots (count % 64) kept) (number % 64) other) ≡ entry_at (handed ++ e ∷ []) number in
+    entry_of (get_or (set slots (count % 64) kept) (number % 64) other) ≡ entry_at (handed ++ e ∷ []) number in
     let last : (other : Kept) → goal count other = λ other.
-        ap entry_of (get_or-set_same slots (count % 64) kept other slot) ∙ is
-        ∙ sym (get_or_push handed e (entry 0 []) count (sym keeps.counted)) in
+    ap entry_of (get_or-set_same slots (count % 64) kept other slot) ∙ is
+    ∙ sym (get_or_push handed e (entry 0 []) count (sym keeps.counted)) in
     let before : (number : ℕ) (other : Kept) → number < count → count < number + 64 → goal number other = λ number other below near.
-        ap entry_of (get_or-set_other slots (count % 64) (number % 64) kept other (other_slot number count below near))
-        ∙ keeps.each number other (record { below = below; late = omega (arith, near) })
-        ∙ sym (get_or_append_left handed (e ∷ []) (entry 0 []) number (subst (λ n. number < n) keeps.counted below)) in
+    ap entry_of (get_or-set_other slots (count % 64) (number % 64) kept other (other_slot number count below near))
+    ∙ keeps.each number other (record { below = below; late = omega (arith, near) })
+    ∙ sym (get_or_append_left handed (e ∷ []) (entry 0 []) number (subst (λ n. number < n) keeps.counted below)) in
     record {
       room = length-set slots (count % 64) kept ∙ keeps.room;
       counted = ap (λ n. n + 1) keeps.counted ∙ sym (length_push handed e);
       each = λ number other among. elim (cases_eq number count) [
-          inl same ↦ subst (λ n. goal n other) (sym same) (last other)
+        | inl same ↦ subst (λ n. goal n other) (sym same) (last other)
         | inr differ ↦ before number other (omega (arith, among.below, differ)) (omega (arith, among.late))
       ];
     }
