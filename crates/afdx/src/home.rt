@@ -9,3 +9,10 @@ pub enum Home {
     Port(TxPort),
     Nothing,
 }
+
+// What moves to another thread has to be proved to be `Send`: C may move a handle, and what it owns.
+fn needs_send<T: Send>(_it: &T) {}
+
+fn home_is_send(it: &Home) {
+    needs_send(it);
+}

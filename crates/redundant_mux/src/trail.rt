@@ -19,6 +19,9 @@ impl Model for Trail {
     ghost also_owns = { λ _. ftrue };
 }
 
+// SAFETY: it owns nothing (proofs/trail/Trail/TheSendSync).
+unsafe impl Send for Trail {}
+
 impl Trail {
     /// Of no frame.
     pub fn new() -> Trail
