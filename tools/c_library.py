@@ -153,7 +153,7 @@ def script_of(words, last):
         port, messages, size = [*map(int, word.split(":")), 1, 1][:3] if ":" in word else (int(word), 1, 1)
         for k in range(messages):
             lines.append(f"send {port} {bytes((k + 1 + i) % 256 for i in range(size)).hex()}")
-    return "\n".join([*lines, *(f"at {now}" for now in range(0, last + 1, 1000))]) + "\n"
+    return "\n".join([*lines, *(f"at {moment}" for moment in range(0, last + 1, 1000))]) + "\n"
 
 
 def try_dump(tries, name, program, config, words):

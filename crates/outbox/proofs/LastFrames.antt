@@ -1,11 +1,11 @@
 -- The last frames stay in the slots of their numbers when one more comes.
-use Rattle.std.proofs.Common.{ℕ, ◌≡◌, ◌<◌, ◌≤◌, ◌+◌, ◌%◌, List, [], ◌∷◌, ◌++◌, length, sym, ap, ◌∙◌, subst, arith, inl, inr, lit<}
-use Rattle.std.specs.Prelude.{get_or, set, ◌⊎◌}
+use Rattle.std.proofs.Common.{ℕ, ◌≡◌, ◌<◌, ◌+◌, ◌%◌, List, [], ◌∷◌, ◌++◌, length, sym, ap, ◌∙◌, subst, arith, inl, inr, lit<}
+use Rattle.std.specs.Prelude.{get_or, set}
 use Rattle.std.proofs.lemmas.Bool.{cases_eq}
 use Rattle.std.proofs.lemmas.Nat.{div-add-mod', mod_below}
 use Rattle.std.proofs.lemmas.List.{length-set, length_push, get_or-set_same, get_or-set_other, get_or_append_left, get_or_push}
 use Rattle.redundant_mux.specs.Entry.{Entry, entry}
-use Rattle.outbox.specs.View.{entry_at, IsAmongLast}
+use Rattle.outbox.specs.View.{entry_at}
 use Rattle.outbox.specs.Last.{entry_of, KeepsLast}
 use Rattle.outbox.specs.declared.outbox.Kept.{Kept}
 
