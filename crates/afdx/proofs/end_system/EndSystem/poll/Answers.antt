@@ -1,4 +1,4 @@
-use Rattle.std.proofs.Common.{◌≡◌, ◌≤◌, ◌∙◌, Bool, length, sym, ap, subst, vec_capacity}
+use Rattle.std.proofs.Common.{◌≤◌, ◌∙◌, Bool, length, sym, ap, subst, vec_capacity}
 use Rattle.afdx.specs.Stages.{tx_of}
 use Rattle.afdx.specs.EndSystem.{end_view, IsEndSystem}
 use Rattle.afdx.specs.contracts.end_system.EndSystem.{the_view}

@@ -1,4 +1,4 @@
-use Rattle.std.proofs.Common.{ℕ, sym, subst, IfOk, true, false}
+use Rattle.std.proofs.Common.{sym, subst, IfOk, true, false}
 use Rattle.afdx_tx.specs.Report.{Polls}
 use Rattle.afdx_tx.specs.declared.report.Report.{Report}
 use Rattle.afdx.specs.declared.stage.Stage.{Stage}
