@@ -1,0 +1,62 @@
+use Rattle.std.proofs.Common.{rules}
+use Rattle.afdx.proofs.calls.afdx_close.Goals as goal
+
+pub take-requires : goal.take-requires
+take-requires c = search rules
+
+pub returns-in_default-clause-answers : goal.returns-in_default-clause-answers
+returns-in_default-clause-answers c = search rules
+
+pub returns-in_default-clause-not_held : goal.returns-in_default-clause-not_held
+returns-in_default-clause-not_held c = search rules
+
+pub returns-in_default-clause-wrong_handle : goal.returns-in_default-clause-wrong_handle
+returns-in_default-clause-wrong_handle c = search rules
+
+pub returns-in_default-clause-gathered : goal.returns-in_default-clause-gathered
+returns-in_default-clause-gathered c = search rules
+
+pub returns-in_default-clause-no_sub : goal.returns-in_default-clause-no_sub
+returns-in_default-clause-no_sub c = search rules
+
+pub returns-in_default-clause-closed : goal.returns-in_default-clause-closed
+returns-in_default-clause-closed c = search rules
+
+pub returns-in_default-clause-refused : goal.returns-in_default-clause-refused
+returns-in_default-clause-refused c = search rules
+
+pub returns-in_default-clause-unwritten : goal.returns-in_default-clause-unwritten
+returns-in_default-clause-unwritten c = search rules
+
+pub deref_mut-requires : goal.deref_mut-requires
+deref_mut-requires c κs = search rules
+
+pub close-answer-requires : goal.close-answer-requires
+close-answer-requires c = search rules
+
+pub put-requires : goal.put-requires
+put-requires c = search rules
+
+pub returns-clause-answers : goal.returns-clause-answers
+returns-clause-answers c = search rules
+
+pub returns-clause-not_held : goal.returns-clause-not_held
+returns-clause-not_held c = search rules
+
+pub returns-clause-wrong_handle : goal.returns-clause-wrong_handle
+returns-clause-wrong_handle c = search rules
+
+pub returns-clause-gathered : goal.returns-clause-gathered
+returns-clause-gathered c = search rules
+
+pub returns-clause-no_sub : goal.returns-clause-no_sub
+returns-clause-no_sub c = search rules
+
+pub returns-clause-closed : goal.returns-clause-closed
+returns-clause-closed c = search rules
+
+pub returns-clause-refused : goal.returns-clause-refused
+returns-clause-refused c = search rules
+
+pub returns-clause-unwritten : goal.returns-clause-unwritten
+returns-clause-unwritten c = search rules

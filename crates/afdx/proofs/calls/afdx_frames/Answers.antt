@@ -1,0 +1,59 @@
+use Rattle.std.proofs.Common.{rules}
+use Rattle.afdx.proofs.calls.afdx_frames.Goals as goal
+
+pub take-requires : goal.take-requires
+take-requires c = search rules
+
+pub returns-in_default-clause-answers : goal.returns-in_default-clause-answers
+returns-in_default-clause-answers c = search rules
+
+pub returns-in_default-clause-not_held : goal.returns-in_default-clause-not_held
+returns-in_default-clause-not_held c = search rules
+
+pub returns-in_default-clause-wrong_handle : goal.returns-in_default-clause-wrong_handle
+returns-in_default-clause-wrong_handle c = search rules
+
+pub returns-in_default-clause-no_network : goal.returns-in_default-clause-no_network
+returns-in_default-clause-no_network c = search rules
+
+pub returns-in_default-clause-counted : goal.returns-in_default-clause-counted
+returns-in_default-clause-counted c = search rules
+
+pub returns-in_default-clause-same : goal.returns-in_default-clause-same
+returns-in_default-clause-same c = search rules
+
+pub returns-in_default-clause-unwritten : goal.returns-in_default-clause-unwritten
+returns-in_default-clause-unwritten c = search rules
+
+pub deref-requires : goal.deref-requires
+deref-requires c κs = search rules
+
+pub net_of-requires : goal.net_of-requires
+net_of-requires c = search rules
+
+pub frames-requires : goal.frames-requires
+frames-requires c = search rules
+
+pub put-requires : goal.put-requires
+put-requires c = search rules
+
+pub returns-clause-answers : goal.returns-clause-answers
+returns-clause-answers c = search rules
+
+pub returns-clause-not_held : goal.returns-clause-not_held
+returns-clause-not_held c = search rules
+
+pub returns-clause-wrong_handle : goal.returns-clause-wrong_handle
+returns-clause-wrong_handle c = search rules
+
+pub returns-clause-no_network : goal.returns-clause-no_network
+returns-clause-no_network c = search rules
+
+pub returns-clause-counted : goal.returns-clause-counted
+returns-clause-counted c = search rules
+
+pub returns-clause-same : goal.returns-clause-same
+returns-clause-same c = search rules
+
+pub returns-clause-unwritten : goal.returns-clause-unwritten
+returns-clause-unwritten c = search rules
