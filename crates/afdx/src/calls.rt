@@ -9,24 +9,18 @@ ghost use Rattle.afdx_tx.specs.declared.fault.Refusal.{Refusal};
 ghost use Rattle.afdx_tx.specs.Ports.{PortView, IsPortOfTx, Accepts, Refuses, LacksPlace};
 ghost use Rattle.afdx_tx.specs.Closing.{LacksSub};
 ghost use Rattle.afdx_tx.specs.Naming.{LacksLink};
-ghost use Rattle.afdx.specs.Numbers.{IsOneOf, net_of, refusal_number, standing_bits};
-ghost use Rattle.afdx.specs.EndSystem.{EndView, has_id, made_for, made_at, PollsEnd, ClosesEnd, GathersEnd, GivesBack, TakesPort, IsAllSent, IsOpened};
+ghost use Rattle.afdx_handle.specs.Numbers.{IsOneOf, net_of, refusal_number, standing_bits};
+ghost use Rattle.afdx_handle.specs.EndSystem.{EndView, has_id, made_for, made_at, PollsEnd, ClosesEnd, GathersEnd, GivesBack, TakesPort, IsAllSent, IsOpened};
 ghost use Rattle.afdx_legal.specs.Counting.{counts_in};
 ghost use Rattle.afdx_legal.specs.Own.{own_stream};
-ghost use Rattle.afdx.specs.Counted.{AreCountsOf};
-ghost use Rattle.afdx.specs.Held.{end_of, port_of, HoldsNothing, HoldsOne, HoldsSame, EndDoes, PortDoes};
+ghost use Rattle.afdx_handle.specs.Counted.{AreCountsOf};
+ghost use Rattle.afdx_handle.specs.Held.{end_of, port_of, HoldsNothing, HoldsOne, HoldsSame, EndDoes, PortDoes};
 
-use crate::answer::{
+use afdx_handle::answer::{
     BOTH_DOWN, DONE, GATHERED, HELD, MEMORY, NO_FRAME, NO_LINK, NO_NETWORK, NO_PORT, NO_SUB,
     NOT_GATHERED, NOT_HELD, PORT_MISSING, SMALL_BUFFER, TIME_BACK, WRONG_HANDLE, net_of,
 };
-use crate::counts::LinkCounts;
-use crate::handle::Handle;
-use crate::home::Home;
-use crate::opening::open_end_system;
-use crate::ports::gather;
-use crate::sending::send;
-use crate::taking::{give_in, take_port};
+use afdx_handle::{Handle, Home, LinkCounts, gather, give_in, open_end_system, send, take_port};
 use std::alloc::Global;
 use std::mem;
 

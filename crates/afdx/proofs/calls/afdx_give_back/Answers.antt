@@ -1,6 +1,6 @@
 use Rattle.std.proofs.Common.{rules, Option, Some, sym, ap, ◌∙◌}
-use Rattle.afdx.specs.declared.home.Home.{Home}
-use Rattle.afdx.specs.Held.{end_of, port_of}
+use Rattle.afdx_handle.specs.declared.home.Home.{Home}
+use Rattle.afdx_handle.specs.Held.{end_of, port_of}
 use Rattle.afdx.proofs.calls.afdx_give_back.Goals as goal
 
 pub give_in-answer-requires : goal.give_in-answer-requires

@@ -1,8 +1,8 @@
 use Rattle.std.proofs.Common.{rules, ℕ, ◌≡◌, ◌↔◌, Option, Some, sym, ap, subst, ◌∙◌, arith}
 use Rattle.std.specs.Prelude.{IsSomeAnd}
-use Rattle.afdx.specs.declared.home.Home.{Home}
-use Rattle.afdx.specs.EndSystem.{EndView, IsAllSent}
-use Rattle.afdx.specs.Held.{end_of}
+use Rattle.afdx_handle.specs.declared.home.Home.{Home}
+use Rattle.afdx_handle.specs.EndSystem.{EndView, IsAllSent}
+use Rattle.afdx_handle.specs.Held.{end_of}
 use Rattle.afdx.proofs.calls.afdx_is_done.Goals.{in-EndSystem, in-Port, in-Nothing}
 use Rattle.afdx.proofs.calls.afdx_is_done.Goals as goal
 

@@ -1,0 +1,110 @@
+-- What contracts see of an end system, and what each of its calls does.
+use Rattle.std.specs.Prelude.{ℕ, ◌≡◌, ◌≤◌, ◌+◌, ◌-◌, List, [], ◌∷◌, ◌++◌, length, Bool, true, false, nat_eq, IsPermutation}
+use Rattle.afdx_frame.specs.declared.net.Net.{Net}
+use Rattle.afdx_frame.specs.declared.net.Net.TheVariants.{A, B}
+use Rattle.outbox.specs.View.{entry_at}
+use Rattle.redundant_mux.specs.Lines.{log, IsMirrored}
+use Rattle.afdx_legal.specs.Done.{IsAllDone}
+use Rattle.afdx_plan.specs.Config.{Plan}
+use Rattle.afdx_config.specs.Faults.{IsPlanOf}
+use Rattle.afdx_tx.specs.Emitter.{Tx, IsFreshTx}
+use Rattle.afdx_tx.specs.Drain.{accepted_in}
+use Rattle.afdx_tx.specs.Ports.{PortView, IsPortOfTx, AreOpenedWith, AreFreshPorts}
+use Rattle.afdx_tx.specs.Closing.{ClosesTx}
+use Rattle.afdx_tx.specs.Gathering.{IsGatheredTx}
+use Rattle.afdx_tx.specs.declared.report.Report.{Report}
+use Rattle.afdx_handle.specs.Numbers.{line_of}
+use Rattle.afdx_handle.specs.Polling.{PollsTx}
+
+-- An end system: whether its ports are gathered, its emitter, the ports that are here and room for how many, and how
+-- many frames each network was handed before the last poll.
+pub record EndView : Type 0 where
+  pub gathered : Bool
+  pub tx : Tx
+  pub ports : List PortView
+  pub room : ℕ
+  pub a_before : ℕ
+  pub b_before : ℕ
+
+-- an end system of these
+abbrev pub end_view : Bool → Tx → List PortView → ℕ → ℕ → ℕ → EndView
+end_view gathered tx ports room a_before b_before = record {
+  gathered = gathered;
+  tx = tx;
+  ports = ports;
+  room = room;
+  a_before = a_before;
+  b_before = b_before;
+}
+
+-- how many frames a network was handed before the last poll
+abbrev pub before_of : Net → EndView → ℕ
+before_of A it = it.a_before
+before_of B it = it.b_before
+
+-- how many frames the last poll made for a network
+abbrev pub made_for : Net → EndView → ℕ
+made_for net it = length (line_of net it.tx.lines) - before_of net it
+
+-- frame k that the last poll made for a network
+abbrev pub made_at : Net → ℕ → EndView → List ℕ
+made_at net k it = (entry_at (line_of net it.tx.lines) (before_of net it + k)).frame
+
+-- every fragment of every accepted message was taken by at least one network
+abbrev pub IsAllSent : EndView → Type 0
+IsAllSent it = IsAllDone it.tx.plan (accepted_in it.tx.links) (log it.tx.lines)
+
+-- what every end system keeps: the ports that are here are its emitter's, and a poll makes at most 64 frames for a
+-- network
+pub record IsEndSystem (it : EndView) : Type 0 where
+  pub mirrored : IsMirrored it.tx.lines
+  pub own : it.gathered ≡ false → AreOpenedWith it.tx it.ports
+  pub few_a : length it.tx.lines.a ≤ it.a_before + 64
+  pub few_b : length it.tx.lines.b ≤ it.b_before + 64
+
+-- A poll: the frames that it makes for a network are those behind the ones that were handed over before.
+pub record PollsEnd (now : ℕ) (old new : EndView) : Type 0 where
+  pub report : Report
+  pub polls : PollsTx old.gathered now old.tx report new.tx
+  pub gathered : new.gathered ≡ old.gathered
+  pub ports : new.ports ≡ old.ports
+  pub room : new.room ≡ old.room
+  pub a_before : new.a_before ≡ length old.tx.lines.a
+  pub b_before : new.b_before ≡ length old.tx.lines.b
+
+-- an end system but for its emitter, of which a sub-VL is closed with this total
+pub record ClosesEnd (old : EndView) (vl sub total : ℕ) (new : EndView) : Type 0 where
+  pub same : new ≡ record old { tx = new.tx }
+  pub closes : ClosesTx old.tx vl sub total new.tx
+
+-- The ports, all of which are here, are gathered.
+pub record GathersEnd (old new : EndView) : Type 0 where
+  pub gathered : new.gathered ≡ true
+  pub tx : IsGatheredTx old.tx old.ports new.tx
+  pub a_before : new.a_before ≡ old.a_before
+  pub b_before : new.b_before ≡ old.b_before
+
+-- the port with this identifier is one of these
+abbrev pub has_id : ℕ → PortView → Bool
+has_id id port = nat_eq port.plan.id.0 id
+
+-- A port with this identifier is taken out of those that are here. It is one of the emitter's.
+pub record TakesPort (old : EndView) (id : ℕ) (port : PortView) (new : EndView) : Type 0 where
+  pub named : port.plan.id.0 ≡ id
+  pub ports : IsPermutation old.ports (port ∷ new.ports)
+  pub same : new ≡ record old { ports = new.ports }
+  pub own : old.gathered ≡ false → IsPortOfTx old.tx port
+
+-- a port is put to those that are here
+pub record GivesBack (old : EndView) (port : PortView) (new : EndView) : Type 0 where
+  pub same : new ≡ record old { ports = old.ports ++ port ∷ []; room = new.room }
+
+-- An end system of a text: nothing was accepted, polled or handed over yet, and all its ports are here.
+pub record IsOpened (text : List ℕ) (it : EndView) : Type 0 where
+  pub plan : Plan
+  pub of : IsPlanOf text plan
+  pub fresh : IsFreshTx plan it.tx
+  pub ports : AreFreshPorts it.tx it.ports
+  pub sending : it.gathered ≡ false
+  pub a_before : it.a_before ≡ 0
+  pub b_before : it.b_before ≡ 0

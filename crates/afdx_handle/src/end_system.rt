@@ -1,0 +1,198 @@
+//! An end system, as a handle owns it.
+ghost use Rattle.std.specs.Prelude.{◌≡◌, ℕ, length};
+
+use crate::answer::{
+    BOTH_DOWN, DONE, GATHERED, NO_FRAME, NO_LINK, NO_SUB, NOT_GATHERED, SMALL_BUFFER, TIME_BACK,
+    standing_bits,
+};
+use crate::stage::Stage;
+use afdx_frame::Net;
+use afdx_plan::VlId;
+use afdx_tx::TxPort;
+use outbox::ROOM;
+use status_board::Counts;
+use std::alloc::Global;
+use std::marker::Model;
+use std::sync::Arc;
+use std::sync::atomic::{AtomicBool, Ordering};
+
+/// What is kept of a network: how many frames it was handed before the last poll, and the flag by which
+/// it is made to fail.
+#[derive(Drop)]
+pub struct Side {
+    pub before: u64,
+    pub fails: Arc<AtomicBool, Global>,
+}
+
+/// An end system: its emitter, the ports that are here, and what is kept of its networks.
+#[derive(Drop)]
+pub struct EndSystem {
+    pub stage: Stage,
+    pub ports: Vec<TxPort>,
+    pub a: Side,
+    pub b: Side,
+}
+
+impl Model for EndSystem {
+    ghost use Rattle.std.specs.Prelude.{vec_capacity};
+    ghost use Rattle.afdx_handle.specs.Stages.{tx_of, is_gathered};
+    ghost use Rattle.afdx_handle.specs.EndSystem.{EndView, IsEndSystem, end_view};
+
+    ghost Value = { EndView };
+
+    ghost view = { λ e. end_view (is_gathered e.stage) (tx_of e.stage) e.ports.items (vec_capacity e.ports) e.a.before e.b.before };
+
+    ghost invariant = { λ e. IsEndSystem (end_view (is_gathered e.stage) (tx_of e.stage) e.ports.items (vec_capacity e.ports) e.a.before e.b.before) };
+}
+
+impl EndSystem {
+    ghost use Rattle.std.specs.Prelude.{◌≡◌, ◌≢◌, ◌<◌, ◌≤◌, ◌+◌, ◌++◌, ◌⊎◌, ◌↔◌, false, true, length, drop, IsErr, IfErr, IfOk};
+    ghost use Rattle.redundant_mux.specs.Lines.{is_alive};
+    ghost use Rattle.afdx_tx.specs.Closing.{LacksSub};
+    ghost use Rattle.afdx_tx.specs.Naming.{LacksLink};
+    ghost use Rattle.afdx_legal.specs.Counting.{counts_in};
+    ghost use Rattle.afdx_legal.specs.Own.{own_stream};
+    ghost use Rattle.afdx_handle.specs.Numbers.{line_of, standing_bits};
+    ghost use Rattle.afdx_handle.specs.EndSystem.{PollsEnd, ClosesEnd, before_of, made_for, made_at, IsAllSent};
+
+    /// Gives each link its turn at a moment, in microseconds, and tells which networks stand afterwards,
+    /// as bits. `TIME_BACK` where the moment is before that of an earlier poll; `BOTH_DOWN`, with no
+    /// bits, where both networks were down. Then nothing has changed.
+    pub fn poll(&mut self, now: u64, standing: &mut u8) -> u8
+        ensures answers { (result ≡ DONE) ⊎ ((result ≡ TIME_BACK) ⊎ (result ≡ BOTH_DOWN)) }
+        ensures time_back { (result ≡ TIME_BACK) ↔ (now < self.old.tx.moment) }
+        ensures both_down { (result ≡ BOTH_DOWN) ↔
+            ((self.old.tx.moment ≤ now) × (is_alive self.old.tx.lines ≡ false)) }
+        ensures polled { result ≡ DONE → PollsEnd now self.old self.new }
+        ensures stand { result ≡ DONE → standing.new ≡
+            standing_bits self.new.tx.lines.a_stands self.new.tx.lines.b_stands }
+        ensures refused { result ≢ DONE → self.new ≡ self.old }
+        ensures none_stands { result ≡ BOTH_DOWN → standing.new ≡ 0 }
+        ensures unwritten { result ≡ TIME_BACK → standing.new ≡ standing.old }
+    {
+        if now < self.stage.now() {
+            return TIME_BACK;
+        }
+        let a_before = self.stage.network(Net::A).count();
+        let b_before = self.stage.network(Net::B).count();
+        let Ok(report) = self.stage.poll(now) else {
+            *standing = 0;
+            return BOTH_DOWN;
+        };
+        prove!(report.released.len() <= ROOM);
+        self.a.before = a_before;
+        self.b.before = b_before;
+        *standing = standing_bits(report.standing);
+        DONE
+    }
+
+    /// The number of the first frame that the last poll made for a network, and the number behind its last.
+    fn numbers(&self, net: Net) -> (u64, u64)
+        ensures first { result.0 ≡ before_of net self.now }
+        ensures end { result.1 ≡ length (line_of net self.now.tx.lines) }
+        ensures few { result.1 ≤ result.0 + 64 }
+    {
+        match net {
+            Net::A => (self.a.before, self.stage.network(Net::A).count()),
+            Net::B => (self.b.before, self.stage.network(Net::B).count()),
+        }
+    }
+
+    /// How many frames the last poll made for a network.
+    pub fn frames(&self, net: Net) -> usize
+        ensures { result ≡ made_for net self.now }
+    {
+        let (first, end) = self.numbers(net);
+        end.saturating_sub(first) as usize
+    }
+
+    /// Copies frame `k`, from 0, that the last poll made for a network into a buffer, and tells how many
+    /// bytes it has. `NO_FRAME` where the poll made fewer frames, `SMALL_BUFFER` where the frame has more
+    /// bytes than the buffer: then nothing is written.
+    pub fn frame(&self, net: Net, k: usize, buffer: &mut [u8], size: &mut usize) -> u8
+        ensures answers { (result ≡ DONE) ⊎ ((result ≡ NO_FRAME) ⊎ (result ≡ SMALL_BUFFER)) }
+        ensures no_frame { (result ≡ NO_FRAME) ↔ (made_for net self.now ≤ k) }
+        ensures small { (result ≡ SMALL_BUFFER) ↔
+            ((k < made_for net self.now) × (length buffer.old < length (made_at net k self.now))) }
+        ensures copied { result ≡ DONE → buffer.new ≡
+            made_at net k self.now ++ drop (length (made_at net k self.now)) buffer.old }
+        ensures size { result ≡ DONE → size.new ≡ length (made_at net k self.now) }
+        ensures unwritten { result ≢ DONE → (buffer.new ≡ buffer.old) × (size.new ≡ size.old) }
+    {
+        let (first, end) = self.numbers(net);
+        if k as u64 >= end.saturating_sub(first) {
+            return NO_FRAME;
+        }
+        let Some(kept) = self.stage.network(net).frame(first + k as u64) else {
+            unreachable!();
+        };
+        let bytes = kept.frame.as_slice();
+        if buffer.len() < bytes.len() {
+            return SMALL_BUFFER;
+        }
+        buffer[..bytes.len()].copy_from_slice(bytes);
+        *size = bytes.len();
+        DONE
+    }
+
+    /// Makes a network fail from now on, which shows at the next frame for it.
+    pub fn fail(&self, net: Net) {
+        let side = match net {
+            Net::A => &self.a,
+            Net::B => &self.b,
+        };
+        side.fails.store(true, Ordering::SeqCst);
+    }
+
+    /// The counts of a link, by its identifier.
+    pub fn counts(&self, vl: u16) -> Result<Counts, u8>
+        ensures no_link { IsErr result ↔ LacksLink self.now.tx.plan vl }
+        ensures number { IfErr result (λ number. number ≡ NO_LINK) }
+        ensures counts { IfOk result (λ counts.
+            counts ≡ counts_in (own_stream vl self.now.tx.lines.a self.now.tx.lines.b)) }
+    {
+        match self.stage.counts(VlId(vl)) {
+            Some(counts) => Ok(counts),
+            None => Err(NO_LINK),
+        }
+    }
+
+    /// Closes a sub-VL, by its link and its index there, and says how many messages were accepted in all.
+    /// `GATHERED` where the ports were gathered, `NO_SUB` where there is no such sub-VL: then nothing has
+    /// changed.
+    pub fn close(&mut self, vl: u16, sub: u8, total: &mut u64) -> u8
+        ensures answers { (result ≡ DONE) ⊎ ((result ≡ GATHERED) ⊎ (result ≡ NO_SUB)) }
+        ensures gathered { (result ≡ GATHERED) ↔ (self.old.gathered ≡ true) }
+        ensures no_sub { (result ≡ NO_SUB) ↔
+            ((self.old.gathered ≡ false) × LacksSub self.old.tx.plan vl sub) }
+        ensures closed { result ≡ DONE → ClosesEnd self.old vl sub total.new self.new }
+        ensures refused { result ≢ DONE → (self.new ≡ self.old) × (total.new ≡ total.old) }
+    {
+        let Stage::Sending(emitter) = &mut self.stage else {
+            return GATHERED;
+        };
+        match emitter.close(VlId(vl), sub) {
+            Ok(count) => {
+                *total = count;
+                DONE
+            }
+            Err(_) => NO_SUB,
+        }
+    }
+
+    /// Whether every fragment of every accepted message was taken by at least one network: writes 1 or 0.
+    /// `NOT_GATHERED` where the ports weren't gathered yet; then nothing is written.
+    pub fn is_done(&self, done: &mut u8) -> u8
+        ensures answers { (result ≡ DONE) ⊎ (result ≡ NOT_GATHERED) }
+        ensures not_gathered { (result ≡ NOT_GATHERED) ↔ (self.now.gathered ≡ false) }
+        ensures done { result ≡ DONE → ((done.new ≡ 1) ↔ IsAllSent self.now) }
+        ensures flag { result ≡ DONE → done.new ≤ 1 }
+        ensures unwritten { result ≢ DONE → done.new ≡ done.old }
+    {
+        let Stage::Draining(draining) = &self.stage else {
+            return NOT_GATHERED;
+        };
+        *done = if draining.is_done() { 1 } else { 0 };
+        DONE
+    }
+}

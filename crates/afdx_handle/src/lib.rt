@@ -1,0 +1,26 @@
+//! What the library for C holds behind its handles: end systems and ports, and what its calls do with
+//! them. Each number that is answered is one of `afdx.h`.
+#![tactic(auto)]
+
+pub mod answer;
+mod counts;
+mod end_system;
+mod handle;
+mod home;
+mod opening;
+mod ports;
+mod seal;
+mod sending;
+mod stage;
+mod taking;
+
+pub use counts::LinkCounts;
+pub use end_system::{EndSystem, Side};
+pub use handle::Handle;
+pub use home::Home;
+pub use opening::open_end_system;
+pub use ports::gather;
+pub use seal::Sealed;
+pub use sending::send;
+pub use stage::Stage;
+pub use taking::{give_in, take_port};

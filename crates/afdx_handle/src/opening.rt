@@ -1,0 +1,47 @@
+//! Opening an end system.
+ghost use Rattle.std.specs.Prelude.{◌≡◌, ◌≢◌, [], IfOk, IfErr};
+ghost use Rattle.afdx_config.specs.Faults.{IsLeastFault};
+ghost use Rattle.afdx_handle.specs.EndSystem.{IsOpened};
+
+use crate::end_system::{EndSystem, Side};
+use crate::stage::Stage;
+use afdx_config::{ConfigFault, read_config};
+use afdx_tx::open_tx;
+use outbox::Outbox;
+use std::alloc::{AllocError, Global};
+use std::sync::Arc;
+use std::sync::atomic::AtomicBool;
+
+/// An outbox that was handed nothing, and the flag by which it is made to fail.
+fn make_outbox(alloc: Global) -> Result<(Outbox, Side), AllocError>
+    ensures outbox { IfOk result (λ made. made.0 ≡ record { handed = []; failures = 0 }) }
+    ensures side { IfOk result (λ made. made.1.before ≡ 0) }
+{
+    let Ok(fails) = Arc::new(alloc, AtomicBool::new(false)) else {
+        return Err(AllocError);
+    };
+    let theirs = Arc::try_clone(&fails)?;
+    let outbox = Outbox::new(alloc, theirs)?;
+    Ok((outbox, Side { before: 0, fails }))
+}
+
+/// An end system of a configuration, with all its ports. It makes all the room that polling, closing and
+/// gathering take. Refused with the fault of the least number, or with `Memory` where memory was refused.
+pub fn open_end_system(alloc: Global, text: &[u8]) -> Result<EndSystem, ConfigFault>
+    ensures opened { IfOk result (IsOpened text.now) }
+    ensures fault { IfErr result (λ fault.
+        fault ≢ ConfigFault.Memory → IsLeastFault text.now fault) }
+{
+    let config = read_config(alloc, text)?;
+    let Ok((outbox_a, a)) = make_outbox(alloc) else {
+        return Err(ConfigFault::Memory);
+    };
+    let Ok((outbox_b, b)) = make_outbox(alloc) else {
+        return Err(ConfigFault::Memory);
+    };
+    let Ok((emitter, ports, _monitor)) = open_tx(alloc, config, outbox_a, outbox_b) else {
+        return Err(ConfigFault::Memory);
+    };
+    let stage = Stage::Sending(emitter);
+    Ok(EndSystem { stage, ports, a, b })
+}

@@ -1,0 +1,75 @@
+//! The emitter of an end system, while its ports send and once they are gathered.
+ghost use Rattle.std.specs.Prelude.{◌≡◌, ℕ};
+
+use afdx_frame::Net;
+use afdx_plan::VlId;
+use afdx_tx::{Draining, Emitter, PollFault, Report};
+use outbox::Outbox;
+use status_board::Counts;
+
+/// An emitter over two outboxes, while its ports send, or once they are gathered.
+#[derive(Drop)]
+pub enum Stage {
+    Sending(Emitter<Outbox, Outbox>),
+    Draining(Draining<Outbox, Outbox>),
+}
+
+impl Stage {
+    ghost use Rattle.std.specs.Prelude.{◌≡◌, ◌≤◌, ◌↔◌, false, true, IsErr, OnErr, IfOk, IsNone, IfSome};
+    ghost use Rattle.redundant_mux.specs.Lines.{is_alive};
+    ghost use Rattle.afdx_tx.specs.Naming.{LacksLink};
+    ghost use Rattle.afdx_legal.specs.Counting.{counts_in};
+    ghost use Rattle.afdx_legal.specs.Own.{own_stream};
+    ghost use Rattle.afdx_handle.specs.Numbers.{line_of};
+    ghost use Rattle.afdx_handle.specs.Stages.{tx_of, is_gathered};
+    ghost use Rattle.afdx_handle.specs.Polling.{PollsTx};
+
+    /// The moment of the last poll, in microseconds.
+    pub fn now(&self) -> u64
+        ensures { result ≡ (tx_of self.now).moment }
+    {
+        match self {
+            Stage::Sending(emitter) => emitter.now(),
+            Stage::Draining(draining) => draining.now(),
+        }
+    }
+
+    /// A network, with what was handed to it.
+    pub fn network(&self, net: Net) -> &Outbox
+        ensures { result.now.handed ≡ line_of net (tx_of self.now).lines }
+    {
+        match (self, net) {
+            (Stage::Sending(emitter), Net::A) => emitter.network_a(),
+            (Stage::Sending(emitter), Net::B) => emitter.network_b(),
+            (Stage::Draining(draining), Net::A) => draining.network_a(),
+            (Stage::Draining(draining), Net::B) => draining.network_b(),
+        }
+    }
+
+    /// The counts of a link, by its identifier.
+    pub fn counts(&self, vl: VlId) -> Option<Counts>
+        ensures missing { IsNone result ↔ LacksLink (tx_of self.now).plan vl.0 }
+        ensures counts { IfSome result (λ counts.
+            counts ≡ counts_in (own_stream vl.0 (tx_of self.now).lines.a (tx_of self.now).lines.b)) }
+    {
+        match self {
+            Stage::Sending(emitter) => emitter.counts(vl),
+            Stage::Draining(draining) => draining.counts(vl),
+        }
+    }
+
+    /// Gives each link its turn at a moment, in microseconds. After an error nothing has changed.
+    pub fn poll(&mut self, now: u64) -> Result<Report, PollFault>
+        requires { (tx_of self.old).moment ≤ now }
+        ensures both_down { IsErr result ↔ (is_alive (tx_of self.old).lines ≡ false) }
+        ensures unchanged { OnErr result (self.new ≡ self.old) }
+        ensures stage { is_gathered self.new ≡ is_gathered self.old }
+        ensures polled { IfOk result (λ report.
+            PollsTx (is_gathered self.old) now (tx_of self.old) report (tx_of self.new)) }
+    {
+        match self {
+            Stage::Sending(emitter) => emitter.poll(now),
+            Stage::Draining(draining) => draining.poll(now),
+        }
+    }
+}

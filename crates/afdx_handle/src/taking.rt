@@ -1,0 +1,90 @@
+//! A port that is to have a handle of its own.
+ghost use Rattle.std.specs.Prelude.{◌≡◌, ◌≢◌, ◌⊎◌, ◌↔◌, [], ◌∷◌, None, Some, true, false, length, position, IfErr, IfOk, OnErr, OnOk, IsSome, IsSomeAnd};
+ghost use Rattle.afdx_tx.specs.Ports.{PortView, IsPortOfTx};
+ghost use Rattle.afdx_handle.specs.EndSystem.{EndView, has_id, TakesPort, GivesBack};
+ghost use Rattle.afdx_handle.specs.Held.{end_of, port_of, HoldsNothing, HoldsOne, HoldsSame, EndDoes};
+ghost use Rattle.afdx_handle.specs.Numbers.{IsOneOf};
+
+use crate::answer::{DONE, GATHERED, MEMORY, NO_PORT, NOT_HELD, WRONG_HANDLE};
+use crate::end_system::EndSystem;
+use crate::home::Home;
+use crate::ports::{give_back, position_of, take_at};
+use crate::stage::Stage;
+use std::alloc::Global;
+use std::mem;
+
+/// Takes the port with an identifier out, in a box for which memory is asked first. `GATHERED` where the
+/// ports were gathered, `NO_PORT` where none with this identifier is here, and `MEMORY`: then nothing has
+/// changed.
+pub fn take_port(alloc: Global, it: &mut EndSystem, id: u16) -> Result<Box<Home>, u8>
+    ensures numbers { IfErr result (λ number.
+        (number ≡ GATHERED) ⊎ ((number ≡ NO_PORT) ⊎ (number ≡ MEMORY))) }
+    ensures gathered { IfErr result (λ number. (number ≡ GATHERED) ↔ (it.old.gathered ≡ true)) }
+    ensures no_port { IfErr result (λ number. (number ≡ NO_PORT) ↔
+        ((it.old.gathered ≡ false) × (position (has_id id) it.old.ports ≡ None))) }
+    ensures sending { OnOk result (it.old.gathered ≡ false) }
+    ensures here { OnOk result (IsSome (position (has_id id) it.old.ports)) }
+    ensures taken { IfOk result (λ home. IsSomeAnd (port_of (Some home.value)) (λ port.
+        TakesPort it.old id port it.new)) }
+    ensures refused { OnErr result (it.new ≡ it.old) }
+{
+    if let Stage::Draining(_) = &it.stage {
+        return Err(GATHERED);
+    }
+    let Some(at) = position_of(&it.ports, id) else {
+        return Err(NO_PORT);
+    };
+    let Ok(mut home) = Box::new(alloc, Home::Nothing) else {
+        return Err(MEMORY);
+    };
+    *home = Home::Port(take_at(it, id, at));
+    Ok(home)
+}
+
+/// Puts the port that a home is to the ports of the end system that another is; that home is nothing then.
+/// `NOT_HELD` where one of them is nothing, `WRONG_HANDLE` where one is of the other kind, `GATHERED` where
+/// the ports were gathered, and `NO_PORT` where there is room for no port more, so that it isn't of this
+/// end system: then nothing has changed.
+pub fn give_in(home: &mut Home, theirs: &mut Home) -> u8
+    requires own { (end : EndView) → (own : PortView) → end_of (Some home.old) ≡ Some end
+        → port_of (Some theirs.old) ≡ Some own → end.gathered ≡ false → IsPortOfTx end.tx own }
+    ensures not_held { (result ≡ NOT_HELD) ↔
+        (HoldsNothing (Some home.old) ⊎ HoldsNothing (Some theirs.old)) }
+    ensures wrong_handle { (result ≡ WRONG_HANDLE) ↔
+        ((IsSome (port_of (Some home.old)) × HoldsOne (Some theirs.old))
+        ⊎ (IsSome (end_of (Some home.old)) × IsSome (end_of (Some theirs.old)))) }
+    ensures foreign { result ≡ NO_PORT → IsSomeAnd (end_of (Some home.old)) (λ end.
+        end.room ≡ length end.ports) }
+    ensures answers { IsOneOf result
+        (DONE ∷ NOT_HELD ∷ WRONG_HANDLE ∷ GATHERED ∷ NO_PORT ∷ []) }
+    ensures gathered { (result ≡ GATHERED) ↔ (IsSome (port_of (Some theirs.old))
+        × IsSomeAnd (end_of (Some home.old)) (λ end. end.gathered ≡ true)) }
+    ensures given { result ≡ DONE → IsSomeAnd (port_of (Some theirs.old)) (λ own.
+        EndDoes (Some home.old) (Some home.new) (λ old new. GivesBack old own new)) }
+    ensures refused { result ≢ DONE → HoldsSame (Some home.old) (Some home.new) }
+    ensures kept { result ≢ DONE → HoldsSame (Some theirs.old) (Some theirs.new) }
+{
+    if let Home::Nothing = home {
+        return NOT_HELD;
+    }
+    match mem::replace(theirs, Home::Nothing) {
+        Home::Nothing => NOT_HELD,
+        Home::EndSystem(end_system) => {
+            *theirs = Home::EndSystem(end_system);
+            WRONG_HANDLE
+        }
+        Home::Port(port) => {
+            let Home::EndSystem(end_system) = home else {
+                *theirs = Home::Port(port);
+                return WRONG_HANDLE;
+            };
+            match give_back(end_system, port) {
+                Ok(()) => DONE,
+                Err((port, number)) => {
+                    *theirs = Home::Port(port);
+                    number
+                }
+            }
+        }
+    }
+}
