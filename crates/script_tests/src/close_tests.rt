@@ -1,10 +1,9 @@
 use crate::helpers::{
-    FIRST, Small, assert_run, assert_run_over, at_line, expected, frame_lines, joined, repeated,
-    sums,
+    FIRST, Small, assert_run, assert_run_over, assert_sent, at_line, expected, frame_lines, joined,
+    repeated, sums,
 };
 use crate::plan_tests::{IN_TURN, plan_in_turn};
 use std::alloc::{AllocError, Global};
-use std::test::Fail;
 use tx_script::LineFault;
 
 // The message 02, a gap behind the first one.
@@ -17,19 +16,18 @@ const SECOND: Small = Small {
 };
 
 #[test]
-fn a_closed_sub_vl_sends_what_it_accepted_and_takes_no_more(rt: HostRuntime) -> Result<(), Fail> {
+fn a_closed_sub_vl_sends_what_it_accepted_and_takes_no_more(rt: HostRuntime) {
     let notes =
         "line 3: closed 2\nline 4: refused Closed\nline 5: closed 2\nline 6: refused NoSub\n";
-    let wanted = expected(rt.alloc(), notes, &[FIRST, SECOND])?;
     let scripts = [
         "send 10 01\nsend 10 02\nclose 1 0\nsend 10 03\nclose 1 0\nclose 1 1\nat 0\nat 1000\n",
         "send 10 01\nsend 10 02\n\tclose\t001 \t000 \nsend 10 03\nclose 01 0\r\n close 1  255\nat 0\nat 1000",
     ];
     for script in scripts {
         let told = Ok(sums(2, 2, 2));
-        assert_run(&rt, rt.alloc(), script.as_bytes(), told, wanted.as_bytes());
+        let sent = [FIRST, SECOND];
+        assert_sent(&rt, rt.alloc(), script.as_bytes(), told, notes, &sent);
     }
-    Ok(())
 }
 
 // The demonstration's configuration, whose link has two sub-VLs.
@@ -39,39 +37,28 @@ const TWO_SUB_VLS: &str = "[end_system]\nid = 1\n\
     source = 1000\ndestination = 2000\nmax = 8192\n";
 
 #[test]
-fn a_sub_vl_that_no_port_sends_on_closes_with_0(rt: HostRuntime) -> Result<(), Fail> {
-    let wanted = expected(rt.alloc(), "line 1: closed 0\n", &[FIRST])?;
+fn a_sub_vl_that_no_port_sends_on_closes_with_0(rt: HostRuntime) {
+    let wanted = expected(rt.alloc(), "line 1: closed 0\n", &[FIRST]).expect(&rt, "memory");
     let script = "close 1 1\nsend 10 01\nat 0\n";
     assert_run_over(&rt, rt.alloc(), TWO_SUB_VLS, script, sums(1, 0, 1), &wanted);
-    Ok(())
 }
 
 #[test]
-fn a_sub_vl_that_is_not_there_is_not_closed(rt: HostRuntime) -> Result<(), Fail> {
+fn a_sub_vl_that_is_not_there_is_not_closed(rt: HostRuntime) {
     let notes = "line 1: refused NoSub\nline 2: refused NoSub\nline 3: refused NoSub\n\
                  line 4: refused NoSub\n";
-    let wanted = expected(rt.alloc(), notes, &[FIRST])?;
+    let wanted = expected(rt.alloc(), notes, &[FIRST]).expect(&rt, "memory");
     let script = "close 0 0\nclose 2 0\nclose 1 2\nclose 65535 255\nsend 10 01\nat 0\n";
     assert_run_over(&rt, rt.alloc(), TWO_SUB_VLS, script, sums(1, 4, 1), &wanted);
-    Ok(())
 }
 
 #[test]
-fn a_total_counts_messages_that_went_out_too(rt: HostRuntime) -> Result<(), Fail> {
-    let wanted = expected(
-        rt.alloc(),
-        "line 4: closed 2\nline 6: closed 2\n",
-        &[FIRST, SECOND],
-    )?;
+fn a_total_counts_messages_that_went_out_too(rt: HostRuntime) {
+    let notes = "line 4: closed 2\nline 6: closed 2\n";
     let script = b"send 10 01\nat 0\nsend 10 02\nclose 1 0\nat 1000\nclose 1 0\nat 2000\n";
-    assert_run(
-        &rt,
-        rt.alloc(),
-        script.as_slice(),
-        Ok(sums(2, 0, 2)),
-        wanted.as_bytes(),
-    );
-    Ok(())
+    let told = Ok(sums(2, 0, 2));
+    let sent = [FIRST, SECOND];
+    assert_sent(&rt, rt.alloc(), script.as_slice(), told, notes, &sent);
 }
 
 // A message of three pieces, of which one goes out before its sub-VL is closed. The other sub-VL is
@@ -94,14 +81,11 @@ fn text_of_two_closes(alloc: Global) -> Result<String, AllocError> {
 }
 
 #[test]
-fn a_message_that_is_being_sent_goes_out_whole_from_a_closed_sub_vl(
-    rt: HostRuntime,
-) -> Result<(), Fail> {
-    let plan = plan_in_turn(rt.alloc())?;
-    let script = script_of_two_closes(rt.alloc())?;
-    let wanted = text_of_two_closes(rt.alloc())?;
+fn a_message_that_is_being_sent_goes_out_whole_from_a_closed_sub_vl(rt: HostRuntime) {
+    let plan = plan_in_turn(rt.alloc()).expect(&rt, "memory");
+    let script = script_of_two_closes(rt.alloc()).expect(&rt, "memory");
+    let wanted = text_of_two_closes(rt.alloc()).expect(&rt, "memory");
     assert_run_over(&rt, rt.alloc(), &plan, &script, sums(3, 2, 5), &wanted);
-    Ok(())
 }
 
 #[test]

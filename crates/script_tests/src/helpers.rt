@@ -2,9 +2,26 @@
 use afdx_config::read_config;
 use afdx_plan::demo_config;
 use std::alloc::{AllocError, Global};
+use std::fmt::{Debug, Display};
 use std::io::{Read, Write};
 use std::process::Abort;
 use tx_script::{LineFault, RunFault, Summary, run_script};
+
+// Asserts that two values are the same. A test that calls this has a short proof, since an assertion
+// of its own is long to prove.
+pub fn assert_same<T: Abort, V: PartialEq + Debug + Copy>(rt: &T, told: V, wanted: V) {
+    assert_eq!(rt; told, wanted);
+}
+
+// Asserts that two values are the same, and tells the place where they are not.
+pub fn assert_same_at<T: Abort, V: PartialEq + Debug + Copy, P: Display + Copy>(
+    rt: &T,
+    told: V,
+    wanted: V,
+    place: P,
+) {
+    assert_eq!(rt; told, wanted, "at {place}");
+}
 
 // A script over the demonstration configuration: port 10 on virtual link 1, of one sub-VL with room
 // for two messages.
@@ -37,8 +54,8 @@ pub fn assert_run<T: Abort, R: Read + Drop>(
     wanted_text: &[u8],
 ) {
     let (told, text) = transcript(alloc, script);
-    assert_eq!(rt; told, wanted);
-    assert_eq!(rt; text.as_slice(), wanted_text);
+    assert_same(rt, told, wanted);
+    assert_same(rt, text.as_slice(), wanted_text);
 }
 
 // A script over a configuration, by its text, and what is written of it.
@@ -65,8 +82,21 @@ pub fn assert_run_over<T: Abort>(
     wanted_text: &str,
 ) {
     let (told, text) = transcript_over(alloc, plan, script);
-    assert_eq!(rt; told, Ok(wanted));
-    assert_eq!(rt; text.as_slice(), wanted_text.as_bytes());
+    assert_same(rt, told, Ok(wanted));
+    assert_same(rt, text.as_slice(), wanted_text.as_bytes());
+}
+
+// Asserts what a script over a configuration comes to, and which frames both networks are handed.
+pub fn assert_frames<T: Abort>(
+    rt: &T,
+    alloc: Global,
+    plan: &str,
+    script: &str,
+    wanted: Summary,
+    frames: &[Frame],
+) {
+    let lines = frame_lines(alloc, frames).expect(rt, "memory");
+    assert_run_over(rt, alloc, plan, script, wanted, &lines);
 }
 
 // Texts, one behind the other.
@@ -113,17 +143,17 @@ pub struct Frame<'a> {
     pub number: u8,
 }
 
+// What a line on a network begins with: a moment, and the Ethernet header of a virtual link.
+fn push_head(text: &mut String, net: (&str, &str), at: u64, vl: u16) -> Result<(), AllocError> {
+    let (name, byte_11) = net;
+    write!(text, "{name} {at} 03000000{vl:04x}0200000001{byte_11}0800")
+}
+
 // Its line on a network.
 fn push_frame(text: &mut String, net: (&str, &str), frame: &Frame) -> Result<(), AllocError> {
-    let (name, byte_11) = net;
-    let Frame {
-        at,
-        header,
-        piece,
-        ..
-    } = frame;
-    write!(text, "{name} {at} 0300000000010200000001{byte_11}0800")?;
-    write!(text, "{header}{piece}")?;
+    push_head(text, net, frame.at, 1)?;
+    text.push_str(frame.header)?;
+    text.push_str(frame.piece)?;
     for _ in 0..frame.padding {
         text.push_str("00")?;
     }
@@ -171,40 +201,54 @@ pub const FIRST: Small = Small {
     number: 0,
 };
 
-// Its line on a network.
-fn push_small(
-    alloc: Global,
+// Its line on a network, of a virtual link and from a UDP port.
+pub fn push_small(
     text: &mut String,
     net: (&str, &str),
+    flow: (u16, u16),
     small: &Small,
 ) -> Result<(), AllocError> {
+    let (vl, source) = flow;
+    push_head(text, net, small.at, vl)?;
     let Small {
-        at,
         ident,
         checksum,
         byte,
         number,
+        ..
     } = small;
-    let header = format!(in alloc; "4500001d{ident:04x}00000111{checksum:04x}0a000101e0e00001")?;
-    let piece = format!(in alloc; "03e807d000090000{byte:02x}")?;
-    let frame = Frame {
-        at: *at,
-        header: &header,
-        piece: &piece,
-        padding: 16,
-        number: *number,
-    };
-    push_frame(text, net, &frame)
+    write!(
+        text,
+        "4500001d{ident:04x}00000111{checksum:04x}0a000101e0e0{vl:04x}"
+    )?;
+    writeln!(
+        text,
+        "{source:04x}07d000090000{byte:02x}00000000000000000000000000000000{number:02x}"
+    )
 }
 
 // The notes, the lines of A, and then those of B.
 pub fn expected(alloc: Global, notes: &str, smalls: &[Small]) -> Result<String, AllocError> {
     let mut text = String::new(alloc);
     text.push_str(notes)?;
-    for net in NETS {
+    for net in &NETS {
         for small in smalls {
-            push_small(alloc, &mut text, net, small)?;
+            push_small(&mut text, *net, (1, 1000), small)?;
         }
     }
     Ok(text)
+}
+
+// Asserts what a script over the demonstration configuration comes to, its notes, and which messages
+// both networks are handed.
+pub fn assert_sent<T: Abort, R: Read + Drop>(
+    rt: &T,
+    alloc: Global,
+    script: R,
+    wanted: Result<Summary, RunFault>,
+    notes: &str,
+    smalls: &[Small],
+) {
+    let text = expected(alloc, notes, smalls).expect(rt, "memory");
+    assert_run(rt, alloc, script, wanted, text.as_bytes());
 }

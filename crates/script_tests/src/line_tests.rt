@@ -1,9 +1,9 @@
+use crate::helpers::{assert_same, assert_same_at};
 use script_lines::{Bytes, Line, LineFault, Message, Next, ReadFault, next_line, read_line};
 use std::alloc::{AllocError, Global};
 use std::fmt::{InlineText, Write};
 use std::io::{self, Read};
 use std::process::Abort;
-use std::test::Fail;
 
 fn says_send(alloc: Global, line: &[u8], port: u16, message: &[u8]) -> bool {
     match read_line(alloc, line) {
@@ -41,7 +41,7 @@ fn fault_of(alloc: Global, line: &[u8]) -> Option<LineFault> {
 }
 
 #[test]
-fn a_send_has_a_port_and_a_message(rt: HostRuntime) -> Result<(), Fail> {
+fn a_send_has_a_port_and_a_message(rt: HostRuntime) {
     let alloc = rt.alloc();
     assert!(rt; says_send(alloc, b"send 10 01", 10, &[1]));
     assert!(rt; says_send(alloc, b"send 10 -", 10, &[]));
@@ -53,31 +53,27 @@ fn a_send_has_a_port_and_a_message(rt: HostRuntime) -> Result<(), Fail> {
             &[0, 255, 172, 224]
         )
     );
-    Ok(())
 }
 
 #[test]
-fn an_at_has_a_moment(rt: HostRuntime) -> Result<(), Fail> {
+fn an_at_has_a_moment(rt: HostRuntime) {
     assert!(rt; says_at(rt.alloc(), b"at 0", 0));
     assert!(rt; says_at(rt.alloc(), b"  at\t018446744073709551615\t", u64::MAX));
-    Ok(())
 }
 
 #[test]
-fn a_close_has_a_link_and_a_sub_vl(rt: HostRuntime) -> Result<(), Fail> {
+fn a_close_has_a_link_and_a_sub_vl(rt: HostRuntime) {
     assert!(rt; says_close(rt.alloc(), b"close 1 0", (1, 0)));
     assert!(rt; says_close(rt.alloc(), b"\tclose\t 00065535 \t000255\t", (65_535, 255)));
-    Ok(())
 }
 
 #[test]
-fn blank_lines_and_notes_say_nothing(rt: HostRuntime) -> Result<(), Fail> {
-    let blanks = vec![in rt.alloc(); b' '; 20_000]?;
+fn blank_lines_and_notes_say_nothing(rt: HostRuntime) {
+    let blanks = vec![in rt.alloc(); b' '; 20_000].expect(&rt, "memory");
     let lines: [&[u8]; 5] = [b"", b" \t ", b"# note", b" #send 10 0g", &blanks];
     for line in lines {
         assert!(rt; says_nothing(rt.alloc(), line));
     }
-    Ok(())
 }
 
 // Asserts the number and the name of the fault of a line.
@@ -85,8 +81,8 @@ fn assert_fault(rt: &impl Abort, alloc: Global, line: &str, wanted: &str) {
     let fault = fault_of(alloc, line.as_bytes()).expect(rt, "a fault");
     let number = fault.number();
     let mut told = InlineText::<16>::new();
-    assert!(rt; write!(told, "{number} {fault}").is_ok());
-    assert_eq!(rt; told.as_str(), wanted, "at {line}");
+    write!(told, "{number} {fault}").expect(rt, "room");
+    assert_same_at(rt, told.as_str(), wanted, line);
 }
 
 // Lines, and the number and the name of the fault of each.
@@ -132,7 +128,7 @@ const LINES: [(&str, &str); 37] = [
 
 #[test]
 fn a_fault_has_its_number_and_its_name(rt: HostRuntime) {
-    for (line, wanted) in LINES {
+    for &(line, wanted) in &LINES {
         assert_fault(&rt, rt.alloc(), line, wanted);
     }
 }
@@ -149,31 +145,29 @@ const FAULTS: [(LineFault, u8, &str); 6] = [
 
 #[test]
 fn each_fault_of_a_line_has_its_number_and_its_name(rt: HostRuntime) {
-    for (fault, number, name) in FAULTS {
-        assert_eq!(rt; fault.number(), number, "{name}");
-        assert_eq!(rt; InlineText::<16>::of(fault).as_str(), name);
+    for &(fault, number, name) in &FAULTS {
+        assert_same_at(&rt, fault.number(), number, name);
+        assert_same(&rt, InlineText::<16>::of(fault).as_str(), name);
     }
 }
 
 #[test]
-fn a_failure_to_read_a_line_has_its_name(rt: HostRuntime) -> Result<(), Fail> {
+fn a_failure_to_read_a_line_has_its_name(rt: HostRuntime) {
     for (fault, name) in [(ReadFault::Read, "Read"), (ReadFault::Memory, "Memory")] {
         let mut text = InlineText::<16>::new();
-        write!(text, "{fault:?}")?;
-        assert_eq!(rt; text.as_str(), name);
+        write!(text, "{fault:?}").expect(&rt, "room");
+        assert_same(&rt, text.as_str(), name);
     }
-    Ok(())
 }
 
 #[test]
-fn a_line_of_20_001_bytes_is_long(rt: HostRuntime) -> Result<(), Fail> {
-    let mut line = vec![in rt.alloc(); b' '; 20_001]?;
-    assert_eq!(rt; fault_of(rt.alloc(), &line), Some(LineFault::Long));
+fn a_line_of_20_001_bytes_is_long(rt: HostRuntime) {
+    let mut line = vec![in rt.alloc(); b' '; 20_001].expect(&rt, "memory");
+    assert_same(&rt, fault_of(rt.alloc(), &line), Some(LineFault::Long));
     line[0] = b'#';
-    assert_eq!(rt; fault_of(rt.alloc(), &line), Some(LineFault::Long));
+    assert_same(&rt, fault_of(rt.alloc(), &line), Some(LineFault::Long));
     line[0] = b'x';
-    assert_eq!(rt; fault_of(rt.alloc(), &line), Some(LineFault::Long));
-    Ok(())
+    assert_same(&rt, fault_of(rt.alloc(), &line), Some(LineFault::Long));
 }
 
 // Asserts the next line of a reader. A test that calls this has a short proof, since it learns nothing
@@ -184,19 +178,18 @@ fn assert_line<R: Read + Drop>(
     line: &mut Vec<u8>,
     wanted: &[u8],
 ) {
-    assert_eq!(rt; next_line(bytes, line), Ok(Next::Line));
-    assert_eq!(rt; line.as_slice(), wanted);
+    assert_same(rt, next_line(bytes, line), Ok(Next::Line));
+    assert_same(rt, line.as_slice(), wanted);
 }
 
 #[test]
 fn lines_lose_their_ends(rt: HostRuntime) {
     let mut bytes = Bytes::new(b"at 0\r\n\nat\r 1\r\r\n\r\nat 2\r".as_slice());
     let mut line = Vec::new(rt.alloc());
-    let lines: [&[u8]; 5] = [b"at 0", b"", b"at\r 1\r", b"", b"at 2\r"];
-    for wanted in lines {
-        assert_line(&rt, &mut bytes, &mut line, wanted);
+    for wanted in ["at 0", "", "at\r 1\r", "", "at 2\r"] {
+        assert_line(&rt, &mut bytes, &mut line, wanted.as_bytes());
     }
-    assert_eq!(rt; next_line(&mut bytes, &mut line), Ok(Next::End));
+    assert_same(&rt, next_line(&mut bytes, &mut line), Ok(Next::End));
 }
 
 // So many blanks, and an end behind them.
@@ -212,16 +205,15 @@ fn first_line(text: &[u8], line: &mut Vec<u8>) -> Result<Next, ReadFault> {
 }
 
 #[test]
-fn a_line_ends_within_20_000_bytes(rt: HostRuntime) -> Result<(), Fail> {
+fn a_line_ends_within_20_000_bytes(rt: HostRuntime) {
     let mut line = Vec::new(rt.alloc());
-    let text = blanks(rt.alloc(), 20_000, b"\r\n")?;
-    assert_eq!(rt; first_line(&text, &mut line), Ok(Next::Line));
-    assert_eq!(rt; line.len(), 20_000);
-    for end in [b"\r\n".as_slice(), b"\n".as_slice(), b"".as_slice()] {
-        let text = blanks(rt.alloc(), 20_001, end)?;
-        assert_eq!(rt; first_line(&text, &mut line), Ok(Next::Long));
+    let text = blanks(rt.alloc(), 20_000, b"\r\n").expect(&rt, "memory");
+    assert_same(&rt, first_line(&text, &mut line), Ok(Next::Line));
+    assert_same(&rt, line.len(), 20_000);
+    for end in ["\r\n", "\n", ""] {
+        let text = blanks(rt.alloc(), 20_001, end.as_bytes()).expect(&rt, "memory");
+        assert_same(&rt, first_line(&text, &mut line), Ok(Next::Long));
     }
-    Ok(())
 }
 
 // Gives three bytes a call, and is interrupted at its end, once.
@@ -250,12 +242,12 @@ fn an_interruption_is_a_failure_to_read(rt: HostRuntime) {
     });
     let mut line = Vec::new(rt.alloc());
     assert_line(&rt, &mut bytes, &mut line, b"at 1000");
-    assert_eq!(rt; next_line(&mut bytes, &mut line), Err(ReadFault::Read));
+    assert_same(&rt, next_line(&mut bytes, &mut line), Err(ReadFault::Read));
 }
 
 #[test]
-fn a_message_gives_its_bytes_back(rt: HostRuntime) -> Result<(), Fail> {
-    let message = Message::new(Vec::from_array(rt.alloc(), [1u8, 2])?);
-    assert_eq!(rt; message.into_vec().as_slice(), [1, 2].as_slice());
-    Ok(())
+fn a_message_gives_its_bytes_back(rt: HostRuntime) {
+    let bytes = Vec::from_array(rt.alloc(), [1u8, 2]).expect(&rt, "memory");
+    let back = Message::new(bytes).into_vec();
+    assert_same(&rt, back.as_slice(), [1, 2].as_slice());
 }

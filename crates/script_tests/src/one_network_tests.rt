@@ -3,7 +3,6 @@ use crate::helpers::{Frame, NETS, assert_run_over, joined, lines_on, sums};
 use crate::plan_tests::{DEMO_LINK, DEMO_PORT, HEAD, PORT_REST};
 use std::alloc::{AllocError, Global};
 use std::process::Abort;
-use std::test::Fail;
 
 // The demonstration's text in version 2, with what its link says of its networks.
 fn plan_with(alloc: Global, networks: &str) -> Result<String, AllocError> {
@@ -29,29 +28,21 @@ const FIRST: Frame<'static> = Frame {
 };
 
 // A message of one byte over that link, whose frame these networks are handed.
-fn assert_nets<R: Abort>(
-    rt: &R,
-    alloc: Global,
-    networks: &str,
-    nets: &[(&str, &str)],
-) -> Result<(), AllocError> {
-    let plan = plan_with(alloc, networks)?;
-    let wanted = lines_on(alloc, nets, &[FIRST])?;
+fn assert_nets<R: Abort>(rt: &R, alloc: Global, networks: &str, nets: &[(&str, &str)]) {
+    let plan = plan_with(alloc, networks).expect(rt, "memory");
+    let wanted = lines_on(alloc, nets, &[FIRST]).expect(rt, "memory");
     let script = "send 10 01\nat 0\n";
     assert_run_over(rt, alloc, &plan, script, sums(1, 0, 1), &wanted);
-    Ok(())
 }
 
 #[test]
-fn a_link_on_one_network_is_handed_to_that_network_alone(rt: HostRuntime) -> Result<(), Fail> {
-    assert_nets(&rt, rt.alloc(), "networks = \"a\"\n", &NETS[..1])?;
-    assert_nets(&rt, rt.alloc(), "networks = \"b\"\n", &NETS[1..])?;
-    Ok(())
+fn a_link_on_one_network_is_handed_to_that_network_alone(rt: HostRuntime) {
+    assert_nets(&rt, rt.alloc(), "networks = \"a\"\n", &NETS[..1]);
+    assert_nets(&rt, rt.alloc(), "networks = \"b\"\n", &NETS[1..]);
 }
 
 #[test]
-fn a_link_on_both_is_handed_to_both(rt: HostRuntime) -> Result<(), Fail> {
-    assert_nets(&rt, rt.alloc(), "networks = \"both\"\n", &NETS)?;
-    assert_nets(&rt, rt.alloc(), "", &NETS)?;
-    Ok(())
+fn a_link_on_both_is_handed_to_both(rt: HostRuntime) {
+    assert_nets(&rt, rt.alloc(), "networks = \"both\"\n", &NETS);
+    assert_nets(&rt, rt.alloc(), "", &NETS);
 }

@@ -1,9 +1,10 @@
 use crate::helpers::{
-    Frame, NETS, assert_run_over, frame_lines, joined, repeated, sums, transcript_over,
+    Frame, NETS, Small, assert_frames, assert_run_over, assert_same, frame_lines, joined,
+    push_small, repeated, sums, transcript_over,
 };
 use std::alloc::{AllocError, Global};
 use std::io::Write;
-use std::test::Fail;
+use std::process::Abort;
 
 // The parts of a configuration's text: its head, the link and the port of the demonstration, and
 // what the ports below have in common.
@@ -75,49 +76,61 @@ pub fn long_frames(alloc: Global, udp_header: &str) -> Result<String, AllocError
 }
 
 #[test]
-fn a_message_past_one_frame_goes_out_as_two(rt: HostRuntime) -> Result<(), Fail> {
-    let plan = plan_with(rt.alloc(), DEMO_LINK, "")?;
-    let script = long_send(rt.alloc())?;
-    let wanted = long_frames(rt.alloc(), "03e807d005c80000")?;
+fn a_message_past_one_frame_goes_out_as_two(rt: HostRuntime) {
+    let plan = plan_with(rt.alloc(), DEMO_LINK, "").expect(&rt, "memory");
+    let script = long_send(rt.alloc()).expect(&rt, "memory");
+    let wanted = long_frames(rt.alloc(), "03e807d005c80000").expect(&rt, "memory");
     assert_run_over(&rt, rt.alloc(), &plan, &script, sums(1, 0, 2), &wanted);
-    Ok(())
+}
+
+// Asserts which frames both networks are handed, one of each message, of a script over the
+// configuration of a link, given with what stands behind its port.
+fn assert_each<R: Abort>(
+    rt: &R,
+    alloc: Global,
+    link: (&str, &str),
+    script: &str,
+    frames: &[Frame],
+) {
+    let plan = plan_with(alloc, link.0, link.1).expect(rt, "memory");
+    let many = frames.len() as u64;
+    assert_frames(rt, alloc, &plan, script, sums(many, 0, many), frames);
+}
+
+// The frame of the message 01 to a unicast address.
+const UNICAST: [Frame<'static>; 1] = [Frame {
+    header: "4500001d000000000111a2cf0a0001010a000201",
+    ..FIRST
+}];
+
+#[test]
+fn a_unicast_message_carries_its_destination_address(rt: HostRuntime) {
+    let link = (DEMO_LINK, "dest_ip = \"10.0.2.1\"\n");
+    assert_each(&rt, rt.alloc(), link, "send 10 01\nat 0\n", &UNICAST);
 }
 
 #[test]
-fn a_unicast_message_carries_its_destination_address(rt: HostRuntime) -> Result<(), Fail> {
-    let plan = plan_with(rt.alloc(), DEMO_LINK, "dest_ip = \"10.0.2.1\"\n")?;
-    let frame = Frame {
-        header: "4500001d000000000111a2cf0a0001010a000201",
-        ..FIRST
-    };
-    let wanted = frame_lines(rt.alloc(), &[frame])?;
-    let script = "send 10 01\nat 0\n";
-    assert_run_over(&rt, rt.alloc(), &plan, script, sums(1, 0, 1), &wanted);
-    Ok(())
-}
-
-#[test]
-fn a_link_releases_again_once_its_gap_is_over_and_not_before(rt: HostRuntime) -> Result<(), Fail> {
+fn a_link_releases_again_once_its_gap_is_over_and_not_before(rt: HostRuntime) {
     let link = "[[vl]]\nid = 1\nbag_ms = 2\nlmax = 1518\nsub_vls = 1\ncapacity = 2\n";
-    let plan = plan_with(rt.alloc(), link, "")?;
     let script = "send 10 01\nsend 10 02\nat 0\nat 1999\nat 2000\n";
-    let wanted = frame_lines(rt.alloc(), &[FIRST, SECOND])?;
-    assert_run_over(&rt, rt.alloc(), &plan, script, sums(2, 0, 2), &wanted);
-    Ok(())
+    assert_each(&rt, rt.alloc(), (link, ""), script, &[FIRST, SECOND]);
 }
 
-#[test]
-fn a_link_that_is_polled_late_does_not_catch_up(rt: HostRuntime) -> Result<(), Fail> {
-    let link = "[[vl]]\nid = 1\nbag_ms = 4\nlmax = 1518\nsub_vls = 1\ncapacity = 3\n";
-    let plan = plan_with(rt.alloc(), link, "")?;
-    let script = "send 10 01\nsend 10 02\nsend 10 03\nat 0\nat 7000\nat 8000\nat 11000\n";
-    let second = Frame {
+// The frames of three messages, of which the second goes out late.
+const POLLED_LATE: [Frame<'static>; 3] = [
+    FIRST,
+    Frame {
         at: 7_000,
         ..SECOND
-    };
-    let wanted = frame_lines(rt.alloc(), &[FIRST, second, THIRD])?;
-    assert_run_over(&rt, rt.alloc(), &plan, script, sums(3, 0, 3), &wanted);
-    Ok(())
+    },
+    THIRD,
+];
+
+#[test]
+fn a_link_that_is_polled_late_does_not_catch_up(rt: HostRuntime) {
+    let link = "[[vl]]\nid = 1\nbag_ms = 4\nlmax = 1518\nsub_vls = 1\ncapacity = 3\n";
+    let script = "send 10 01\nsend 10 02\nsend 10 03\nat 0\nat 7000\nat 8000\nat 11000\n";
+    assert_each(&rt, rt.alloc(), (link, ""), script, &POLLED_LATE);
 }
 
 // What two sub-VLs of a link with frames of 64 bytes send in turn: a message of 60 bytes, which is
@@ -176,12 +189,10 @@ fn script_in_turn(alloc: Global) -> Result<String, AllocError> {
 }
 
 #[test]
-fn two_sub_vls_send_piece_by_piece_in_turn(rt: HostRuntime) -> Result<(), Fail> {
-    let plan = plan_in_turn(rt.alloc())?;
-    let script = script_in_turn(rt.alloc())?;
-    let wanted = frame_lines(rt.alloc(), &IN_TURN)?;
-    assert_run_over(&rt, rt.alloc(), &plan, &script, sums(3, 0, 5), &wanted);
-    Ok(())
+fn two_sub_vls_send_piece_by_piece_in_turn(rt: HostRuntime) {
+    let plan = plan_in_turn(rt.alloc()).expect(&rt, "memory");
+    let script = script_in_turn(rt.alloc()).expect(&rt, "memory");
+    assert_frames(&rt, rt.alloc(), &plan, &script, sums(3, 0, 5), &IN_TURN);
 }
 
 // A link of the greatest plan, of four sub-VLs with room for 256 messages.
@@ -250,19 +261,14 @@ fn push_notes(text: &mut String) -> Result<(), AllocError> {
 // message k / 4 of sub-VL k % 4, and its identification is k. The header checksum goes down by one
 // for each one that the address and the identification go up.
 fn push_numbered(text: &mut String, net: (&str, &str), vl: u16, k: u16) -> Result<(), AllocError> {
-    let (name, byte_11) = net;
-    let at = 1_000 * u64::from(k);
-    let checksum = 0xcdefu16 - vl % 128 - k % 1024;
-    let source = 1000 + k % 4;
-    let message = k / 4 % 256;
-    let number = if k == 0 { 0 } else { (k - 1) % 255 + 1 };
-    write!(text, "{name} {at} 03000000{vl:04x}0200000001{byte_11}0800")?;
-    write!(
-        text,
-        "4500001d{k:04x}00000111{checksum:04x}0a000101e0e0{vl:04x}"
-    )?;
-    write!(text, "{source:04x}07d000090000{message:02x}")?;
-    writeln!(text, "00000000000000000000000000000000{number:02x}")
+    let small = Small {
+        at: 1_000 * u64::from(k),
+        ident: k,
+        checksum: 0xcdefu16 - vl % 128 - k % 1024,
+        byte: (k / 4 % 256) as u8,
+        number: if k == 0 { 0 } else { ((k - 1) % 255 + 1) as u8 },
+    };
+    push_small(text, net, (vl, 1000 + k % 4), &small)
 }
 
 // The lines of a network: at each poll one frame of each link, in the order of the plan.
@@ -279,21 +285,18 @@ fn push_polls(text: &mut String, net: (&str, &str)) -> Result<(), AllocError> {
 fn greatest_transcript(alloc: Global) -> Result<String, AllocError> {
     let mut text = String::new(alloc);
     push_notes(&mut text)?;
-    for net in NETS {
-        push_polls(&mut text, net)?;
+    for net in &NETS {
+        push_polls(&mut text, *net)?;
     }
     Ok(text)
 }
 
 #[test]
-fn the_greatest_plan_sends_all_that_its_queues_hold_in_the_order_of_its_links(
-    rt: HostRuntime,
-) -> Result<(), Fail> {
-    let plan = greatest_plan(rt.alloc())?;
-    let script = greatest_script(rt.alloc())?;
-    let wanted = greatest_transcript(rt.alloc())?;
+fn the_greatest_plan_sends_all_that_its_queues_hold_in_the_order_of_its_links(rt: HostRuntime) {
+    let plan = greatest_plan(rt.alloc()).expect(&rt, "memory");
+    let script = greatest_script(rt.alloc()).expect(&rt, "memory");
+    let wanted = greatest_transcript(rt.alloc()).expect(&rt, "memory");
     let (told, text) = transcript_over(rt.alloc(), &plan, &script);
-    assert_eq!(rt; told, Ok(sums(65_536, 256, 65_536)));
+    assert_same(&rt, told, Ok(sums(65_536, 256, 65_536)));
     assert!(rt; text.as_slice() == wanted.as_bytes());
-    Ok(())
 }

@@ -1,9 +1,10 @@
 use crate::helpers::{
-    FIRST, Small, assert_run, at_line, expected, joined, repeated, run, sums, transcript,
+    FIRST, Frame, Small, assert_run, assert_same, assert_same_at, assert_sent, at_line,
+    frame_lines, joined, repeated, run, sums, transcript,
 };
 use std::alloc::{AllocError, Global};
 use std::io::{self, Read, Write};
-use std::test::Fail;
+use std::process::Abort;
 use tx_script::{LineFault, RunFault, Summary};
 
 #[test]
@@ -22,27 +23,32 @@ fn a_message_goes_out_on_both_networks(rt: HostRuntime) {
 fn nothing_is_written_where_nothing_was_sent(rt: HostRuntime) {
     for (script, accepted) in [("", 0), ("at 0\n", 0), ("send 10 01\n", 1)] {
         let (told, text) = transcript(rt.alloc(), script.as_bytes());
-        assert_eq!(rt; told, Ok(sums(accepted, 0, 0)), "at {script}");
-        assert_eq!(rt; text.len(), 0, "at {script}");
+        assert_same_at(&rt, told, Ok(sums(accepted, 0, 0)), script);
+        assert_same_at(&rt, text.len(), 0, script);
     }
 }
 
+// The lines of the one frame that a message of 1,471 bytes goes out as.
+fn full_lines(alloc: Global, message: &str) -> Result<String, AllocError> {
+    let piece = joined(alloc, &["03e807d005c70000", message])?;
+    let frame = Frame {
+        at: 0,
+        header: "450005db000000000111c8300a000101e0e00001",
+        piece: &piece,
+        padding: 0,
+        number: 0,
+    };
+    frame_lines(alloc, &[frame])
+}
+
 #[test]
-fn a_message_of_1_471_bytes_fills_one_frame(rt: HostRuntime) -> Result<(), Fail> {
-    let message = repeated(rt.alloc(), "aa", 1_471)?;
-    let script = joined(rt.alloc(), &["send 10 ", &message, "\nat 0\n"])?;
-    let parts = [
-        "A 0 0300000000010200000001200800450005db000000000111c830",
-        "0a000101e0e0000103e807d005c70000",
-        &message,
-        "00\nB 0 0300000000010200000001400800450005db",
-    ];
-    let wanted = joined(rt.alloc(), &parts)?;
-    let (told, text) = transcript(rt.alloc(), script.as_bytes());
-    assert_eq!(rt; told, Ok(sums(1, 0, 1)));
-    assert_eq!(rt; text.len(), 2 * (4 + 2 * 1_514 + 1));
-    assert!(rt; text.as_slice().starts_with(wanted.as_bytes()));
-    Ok(())
+fn a_message_of_1_471_bytes_fills_one_frame(rt: HostRuntime) {
+    let message = repeated(rt.alloc(), "aa", 1_471).expect(&rt, "memory");
+    let script = joined(rt.alloc(), &["send 10 ", &message, "\nat 0\n"]).expect(&rt, "memory");
+    let wanted = full_lines(rt.alloc(), &message).expect(&rt, "memory");
+    assert_same(&rt, wanted.len(), 2 * (4 + 2 * 1_514 + 1));
+    let told = Ok(sums(1, 0, 1));
+    assert_run(&rt, rt.alloc(), script.as_bytes(), told, wanted.as_bytes());
 }
 
 // The frames of the messages 01, 02 and 03, a gap apart.
@@ -65,12 +71,11 @@ const THREE: [Small; 3] = [
 ];
 
 #[test]
-fn a_full_queue_refuses_a_message_until_a_frame_went_out(rt: HostRuntime) -> Result<(), Fail> {
+fn a_full_queue_refuses_a_message_until_a_frame_went_out(rt: HostRuntime) {
     let script = b"send 10 01\nsend 10 02\nsend 10 03\nat 0\nsend 10 03\nat 1000\nat 2000\n";
-    let wanted = expected(rt.alloc(), "line 3: refused Full\n", &THREE)?;
     let told = Ok(sums(3, 1, 3));
-    assert_run(&rt, rt.alloc(), script.as_slice(), told, wanted.as_bytes());
-    Ok(())
+    let notes = "line 3: refused Full\n";
+    assert_sent(&rt, rt.alloc(), script.as_slice(), told, notes, &THREE);
 }
 
 // An empty message, one that is too long, one of no port, and then one that is taken.
@@ -81,27 +86,25 @@ fn refused_sends(alloc: Global) -> Result<String, AllocError> {
 }
 
 #[test]
-fn a_refused_message_takes_no_identification(rt: HostRuntime) -> Result<(), Fail> {
-    let script = refused_sends(rt.alloc())?;
+fn a_refused_message_takes_no_identification(rt: HostRuntime) {
+    let script = refused_sends(rt.alloc()).expect(&rt, "memory");
     let notes = "line 1: refused Empty\nline 2: refused TooLong\nline 3: refused NoPort\n";
-    let wanted = expected(rt.alloc(), notes, &[Small { byte: 7, ..FIRST }])?;
+    let taken = Small { byte: 7, ..FIRST };
     let told = Ok(sums(1, 3, 1));
-    assert_run(&rt, rt.alloc(), script.as_bytes(), told, wanted.as_bytes());
-    Ok(())
+    assert_sent(&rt, rt.alloc(), script.as_bytes(), told, notes, &[taken]);
 }
 
 #[test]
-fn an_earlier_moment_is_refused_and_an_equal_one_is_not(rt: HostRuntime) -> Result<(), Fail> {
+fn an_earlier_moment_is_refused_and_an_equal_one_is_not(rt: HostRuntime) {
     let script =
         b"send 10 01\nsend 10 02\nat 18446744073709551615\nat 18446744073709551615\nat 5\n";
     let last = Small {
         at: u64::MAX,
         ..FIRST
     };
-    let wanted = expected(rt.alloc(), "line 5: refused TimeBack\n", &[last])?;
     let told = Ok(sums(2, 1, 1));
-    assert_run(&rt, rt.alloc(), script.as_slice(), told, wanted.as_bytes());
-    Ok(())
+    let notes = "line 5: refused TimeBack\n";
+    assert_sent(&rt, rt.alloc(), script.as_slice(), told, notes, &[last]);
 }
 
 // The message 01 and a poll, a gap apart, so often that the numbers begin again.
@@ -129,13 +132,11 @@ fn frames_to_256(alloc: Global) -> Result<Vec<Small>, AllocError> {
 }
 
 #[test]
-fn numbers_go_on_with_1_after_255(rt: HostRuntime) -> Result<(), Fail> {
-    let script = sends_to_256(rt.alloc())?;
-    let frames = frames_to_256(rt.alloc())?;
-    let wanted = expected(rt.alloc(), "", &frames)?;
+fn numbers_go_on_with_1_after_255(rt: HostRuntime) {
+    let script = sends_to_256(rt.alloc()).expect(&rt, "memory");
+    let frames = frames_to_256(rt.alloc()).expect(&rt, "memory");
     let told = Ok(sums(257, 0, 257));
-    assert_run(&rt, rt.alloc(), script.as_bytes(), told, wanted.as_bytes());
-    Ok(())
+    assert_sent(&rt, rt.alloc(), script.as_bytes(), told, "", &frames);
 }
 
 // A line behind one that sends a message.
@@ -145,36 +146,37 @@ fn second_line(alloc: Global, line: &[u8]) -> Result<Vec<u8>, AllocError> {
     Ok(script)
 }
 
+// Asserts the fault of such a line.
+fn assert_second<T: Abort>(rt: &T, alloc: Global, line: &[u8], fault: LineFault) {
+    let script = second_line(alloc, line).expect(rt, "memory");
+    let told = Err(at_line(2, fault));
+    assert_run(rt, alloc, script.as_slice(), told, b"");
+}
+
+// Lines, and the fault of each.
+const LINES: [(&str, LineFault); 13] = [
+    ("sand 10 01", LineFault::Word),
+    ("send 10", LineFault::Word),
+    ("at x", LineFault::Number),
+    ("send 65536 01", LineFault::Number),
+    ("send 10 0g", LineFault::Hex),
+    ("send 10 012", LineFault::Hex),
+    ("at 0 0", LineFault::Extra),
+    ("close", LineFault::Word),
+    ("close 1", LineFault::Word),
+    ("close x 0", LineFault::Number),
+    ("close 70000 0", LineFault::Number),
+    ("close 1 256", LineFault::Number),
+    ("close 1 0 0", LineFault::Extra),
+];
+
 #[test]
-fn a_fault_tells_its_line(rt: HostRuntime) -> Result<(), Fail> {
-    let long = vec![in rt.alloc(); b' '; 20_001]?;
-    let lines: [(&[u8], LineFault); 14] = [
-        (b"sand 10 01", LineFault::Word),
-        (b"send 10", LineFault::Word),
-        (b"at x", LineFault::Number),
-        (b"send 65536 01", LineFault::Number),
-        (b"send 10 0g", LineFault::Hex),
-        (b"send 10 012", LineFault::Hex),
-        (b"at 0 0", LineFault::Extra),
-        (b"close", LineFault::Word),
-        (b"close 1", LineFault::Word),
-        (b"close x 0", LineFault::Number),
-        (b"close 70000 0", LineFault::Number),
-        (b"close 1 256", LineFault::Number),
-        (b"close 1 0 0", LineFault::Extra),
-        (&long, LineFault::Long),
-    ];
-    for (line, fault) in lines {
-        let script = second_line(rt.alloc(), line)?;
-        assert_run(
-            &rt,
-            rt.alloc(),
-            script.as_slice(),
-            Err(at_line(2, fault)),
-            b"",
-        );
+fn a_fault_tells_its_line(rt: HostRuntime) {
+    for &(line, fault) in &LINES {
+        assert_second(&rt, rt.alloc(), line.as_bytes(), fault);
     }
-    Ok(())
+    let long = vec![in rt.alloc(); b' '; 20_001].expect(&rt, "memory");
+    assert_second(&rt, rt.alloc(), &long, LineFault::Long);
 }
 
 // Is interrupted at the end of its text.
@@ -191,20 +193,14 @@ impl Read for Interrupted<'_> {
 }
 
 #[test]
-fn notes_and_frames_so_far_are_written_after_a_fault(rt: HostRuntime) -> Result<(), Fail> {
+fn notes_and_frames_so_far_are_written_after_a_fault(rt: HostRuntime) {
     let script = b"\nsend 99 01\nsend 10 01\nat 0\nsend 10 02\nsend\nat 1000\n";
-    let wanted = expected(rt.alloc(), "line 2: refused NoPort\n", &[FIRST])?;
     let told = Err(at_line(6, LineFault::Word));
-    assert_run(&rt, rt.alloc(), script.as_slice(), told, wanted.as_bytes());
+    let notes = "line 2: refused NoPort\n";
+    assert_sent(&rt, rt.alloc(), script.as_slice(), told, notes, &[FIRST]);
     let reader = Interrupted(&script[..40]);
-    assert_run(
-        &rt,
-        rt.alloc(),
-        reader,
-        Err(RunFault::Read),
-        wanted.as_bytes(),
-    );
-    Ok(())
+    let told = Err(RunFault::Read);
+    assert_sent(&rt, rt.alloc(), reader, told, notes, &[FIRST]);
 }
 
 // A script over a writer with room for so many bytes.
@@ -218,21 +214,15 @@ fn run_within(alloc: Global, size: usize, script: &[u8]) -> Result<Summary, RunF
 fn a_writer_that_fails_ends_the_run(rt: HostRuntime) {
     for size in [10, 30, 200] {
         let told = run_within(rt.alloc(), size, b"send 99 01\nsend 10 01\nat 0\n");
-        assert_eq!(rt; told, Err(RunFault::Write), "at {size}");
+        assert_same_at(&rt, told, Err(RunFault::Write), size);
     }
 }
 
 #[test]
-fn a_script_has_1_000_000_lines_at_most(rt: HostRuntime) -> Result<(), Fail> {
-    let mut script = vec![in rt.alloc(); b'\n'; 1_000_000]?;
+fn a_script_has_1_000_000_lines_at_most(rt: HostRuntime) {
+    let mut script = vec![in rt.alloc(); b'\n'; 1_000_000].expect(&rt, "memory");
     assert_run(&rt, rt.alloc(), script.as_slice(), Ok(sums(0, 0, 0)), b"");
-    script.extend_from_slice(b"at x")?;
-    assert_run(
-        &rt,
-        rt.alloc(),
-        script.as_slice(),
-        Err(RunFault::Lines),
-        b"",
-    );
-    Ok(())
+    script.extend_from_slice(b"at x").expect(&rt, "memory");
+    let told = Err(RunFault::Lines);
+    assert_run(&rt, rt.alloc(), script.as_slice(), told, b"");
 }

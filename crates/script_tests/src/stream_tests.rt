@@ -1,8 +1,9 @@
-use crate::helpers::{FIRST, Small, assert_run, at_line, expected, run, sums, transcript};
+use crate::helpers::{
+    FIRST, Small, assert_run, assert_same, assert_same_at, at_line, expected, run, sums, transcript,
+};
 use std::alloc::{AllocError, Global};
 use std::io::{self, Read, Write};
 use std::process::Abort;
-use std::test::Fail;
 use tx_script::{LineFault, RunFault, Summary};
 
 // The lines of the first message, of the one byte 01, that went out at a moment.
@@ -14,17 +15,22 @@ fn first_at(alloc: Global, at: u64) -> Result<String, AllocError> {
 const LATE: &str = "send 10 01\nsend 10 02\nat 18446744073709551615\n\
     at 18446744073709551615\nat 5\n";
 
+// The message whose frame goes out.
+const LATE_FRAME: [Small; 1] = [Small {
+    at: u64::MAX,
+    ..FIRST
+}];
+
 // What is written of `LATE` where so many of its bytes were read: the frame once the third line was,
 // and a note once the last was.
 fn late_text(alloc: Global, bytes: usize) -> Result<String, AllocError> {
-    let mut text = String::new(alloc);
-    if bytes >= 75 {
-        text.push_str("line 5: refused TimeBack\n")?;
-    }
-    if bytes >= 46 {
-        text.push_str(&first_at(alloc, u64::MAX)?)?;
-    }
-    Ok(text)
+    let notes = if bytes >= 75 {
+        "line 5: refused TimeBack\n"
+    } else {
+        ""
+    };
+    let sent: &[Small] = if bytes >= 46 { &LATE_FRAME } else { &[] };
+    expected(alloc, notes, sent)
 }
 
 // Gives so many bytes a call at most.
@@ -42,15 +48,14 @@ impl Read for Short<'_> {
 }
 
 #[test]
-fn a_reader_may_give_few_bytes_a_call(rt: HostRuntime) -> Result<(), Fail> {
-    let wanted = late_text(rt.alloc(), LATE.len())?;
+fn a_reader_may_give_few_bytes_a_call(rt: HostRuntime) {
+    let wanted = late_text(rt.alloc(), LATE.len()).expect(&rt, "memory");
     for most in [1, 2, 3, LATE.len()] {
         let left = LATE.as_bytes();
         let told = Ok(sums(2, 1, 1));
         let reader = Short { left, most };
         assert_run(&rt, rt.alloc(), reader, told, wanted.as_bytes());
     }
-    Ok(())
 }
 
 // Fails once, between two parts of its text.
@@ -139,7 +144,7 @@ fn run_limited(alloc: Global, script: &str, left: u32) -> (Result<Summary, RunFa
 // How many writes a script's run makes.
 fn writes_of<T: Abort>(rt: &T, alloc: Global, script: &str, wanted: Summary) -> u32 {
     let (told, writer) = run_limited(alloc, script, 1_000);
-    assert_eq!(rt; told, Ok(wanted));
+    assert_same(rt, told, Ok(wanted));
     1_000u32.saturating_sub(writer.left)
 }
 
@@ -150,12 +155,10 @@ fn assert_limited<T: Abort>(rt: &T, alloc: Global, script: &str, wanted: Summary
     assert!(rt; writes > 4);
     for left in 0..writes {
         let (told, writer) = run_limited(alloc, script, left);
-        assert_eq!(rt; told, Err(RunFault::Write), "at {left}");
-        assert_eq!(rt; (writer.left, writer.failures), (0, 1), "at {left}");
-        assert!(rt;
-            whole.as_slice().starts_with(writer.text.as_slice()),
-            "at {left}"
-        );
+        assert_same_at(rt, told, Err(RunFault::Write), left);
+        assert_same_at(rt, (writer.left, writer.failures), (0, 1), left);
+        let begins = whole.as_slice().starts_with(writer.text.as_slice());
+        assert_same_at(rt, begins, true, left);
     }
 }
 
@@ -167,13 +170,12 @@ fn a_writer_that_fails_at_any_write_ends_the_run(rt: HostRuntime) {
 }
 
 #[test]
-fn lines_may_end_in_carriage_returns_and_have_many_blanks(rt: HostRuntime) -> Result<(), Fail> {
+fn lines_may_end_in_carriage_returns_and_have_many_blanks(rt: HostRuntime) {
     let script =
         b"\r\n  send\t10   01 \r\n\t\t# \x00\xff\xc3\xa9\r\n \t \r\n at \t 0\r\n   at     1000";
-    let wanted = first_at(rt.alloc(), 0)?;
+    let wanted = first_at(rt.alloc(), 0).expect(&rt, "memory");
     let told = Ok(sums(1, 0, 1));
     assert_run(&rt, rt.alloc(), script.as_slice(), told, wanted.as_bytes());
-    Ok(())
 }
 
 // A line behind two that send a message.
@@ -183,25 +185,31 @@ fn third_line(alloc: Global, line: &[u8]) -> Result<Vec<u8>, AllocError> {
     Ok(script)
 }
 
+// Asserts the fault of such a line, once the message went out.
+fn assert_third<T: Abort>(rt: &T, alloc: Global, line: &[u8], fault: LineFault) {
+    let wanted = first_at(alloc, 0).expect(rt, "memory");
+    let script = third_line(alloc, line).expect(rt, "memory");
+    let told = Err(at_line(3, fault));
+    assert_run(rt, alloc, script.as_slice(), told, wanted.as_bytes());
+}
+
+// Lines of odd bytes, and the fault of each.
+const ODD_LINES: [(&[u8], LineFault); 8] = [
+    (b"\x00", LineFault::Word),
+    (b"\xc3\xa9", LineFault::Word),
+    (b"\xff", LineFault::Word),
+    (b"at\x00 0", LineFault::Word),
+    (b"at 0\x00", LineFault::Number),
+    (b"at \xb2", LineFault::Number),
+    (b"send 10 0\x00", LineFault::Hex),
+    (b"send 10 \xff\xff", LineFault::Hex),
+];
+
 #[test]
-fn odd_bytes_are_no_words_and_no_numbers(rt: HostRuntime) -> Result<(), Fail> {
-    let lines: [(&[u8], LineFault); 8] = [
-        (b"\x00", LineFault::Word),
-        (b"\xc3\xa9", LineFault::Word),
-        (b"\xff", LineFault::Word),
-        (b"at\x00 0", LineFault::Word),
-        (b"at 0\x00", LineFault::Number),
-        (b"at \xb2", LineFault::Number),
-        (b"send 10 0\x00", LineFault::Hex),
-        (b"send 10 \xff\xff", LineFault::Hex),
-    ];
-    let wanted = first_at(rt.alloc(), 0)?;
-    for (line, fault) in lines {
-        let script = third_line(rt.alloc(), line)?;
-        let told = Err(at_line(3, fault));
-        assert_run(&rt, rt.alloc(), script.as_slice(), told, wanted.as_bytes());
+fn odd_bytes_are_no_words_and_no_numbers(rt: HostRuntime) {
+    for &(line, fault) in &ODD_LINES {
+        assert_third(&rt, rt.alloc(), line, fault);
     }
-    Ok(())
 }
 
 // What the first bytes of a script come to: a fault, and how many frames are written.
@@ -223,15 +231,14 @@ fn prefix_text(alloc: Global, bytes: usize) -> Result<String, AllocError> {
 }
 
 #[test]
-fn each_prefix_of_a_script_has_its_fault_or_none(rt: HostRuntime) -> Result<(), Fail> {
+fn each_prefix_of_a_script_has_its_fault_or_none(rt: HostRuntime) {
     let script = "send 10 01\nat 0\n";
     for bytes in 0..=script.len() {
-        let wanted = prefix_text(rt.alloc(), bytes)?;
+        let wanted = prefix_text(rt.alloc(), bytes).expect(&rt, "memory");
         let (told, text) = transcript(rt.alloc(), &script.as_bytes()[..bytes]);
-        assert_eq!(rt; told.err(), prefix_fault(bytes), "at {bytes}");
-        assert_eq!(rt; text.as_slice(), wanted.as_bytes(), "at {bytes}");
+        assert_same_at(&rt, told.err(), prefix_fault(bytes), bytes);
+        assert_same_at(&rt, text.as_slice(), wanted.as_bytes(), bytes);
     }
-    Ok(())
 }
 
 // A line of so many blanks behind two lines that send a message, and so many bytes of a third one.
@@ -259,9 +266,8 @@ fn assert_long<T: Abort>(
 #[test]
 fn a_line_past_its_limit_ends_the_run_whether_or_not_it_ends(rt: HostRuntime) {
     let long = Err(at_line(3, LineFault::Long));
-    let ends: [&[u8]; 4] = [b"", b"\n", b"\r\n", b"at 1000\nat 2000\n"];
-    for end in ends {
-        assert_long(&rt, rt.alloc(), 20_001, end, long);
+    for end in ["", "\n", "\r\n", "at 1000\nat 2000\n"] {
+        assert_long(&rt, rt.alloc(), 20_001, end.as_bytes(), long);
     }
     assert_long(&rt, rt.alloc(), 20_000, b"", Ok(sums(1, 0, 1)));
 }

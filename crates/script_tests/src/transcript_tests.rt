@@ -1,12 +1,11 @@
-use crate::helpers::at_line;
+use crate::helpers::{assert_same, at_line};
 use redundant_mux::Network;
 use script_lines::LineFault;
 use std::fmt::InlineText;
-use std::test::Fail;
 use tx_script::{FrameLog, Outcome, Refusal, RunFault, Summary, write_note, write_streams};
 
 #[test]
-fn a_note_tells_the_line_and_the_refusal_or_the_total(rt: HostRuntime) -> Result<(), Fail> {
+fn a_note_tells_the_line_and_the_refusal_or_the_total(rt: HostRuntime) {
     let outcomes: [(u64, Outcome); 11] = [
         (1, Outcome::Refused(Refusal::Empty)),
         (2, Outcome::Quiet),
@@ -22,15 +21,14 @@ fn a_note_tells_the_line_and_the_refusal_or_the_total(rt: HostRuntime) -> Result
     ];
     let mut text = Vec::new(rt.alloc());
     for (line, outcome) in outcomes {
-        write_note(&mut text, line, outcome)?;
+        write_note(&mut text, line, outcome).expect(&rt, "written");
     }
     let wanted = "line 1: refused Empty\nline 3: refused TooLong\n\
                   line 5: refused Full\nline 999999: refused NoPort\n\
                   line 1000000: refused TimeBack\n\
                   line 7: closed 0\nline 8: refused NoSub\n\
                   line 1000000: closed 18446744073709551615\n";
-    assert_eq!(rt; text.as_slice(), wanted.as_bytes());
-    Ok(())
+    assert_same(&rt, text.as_slice(), wanted.as_bytes());
 }
 
 // The frame of the message 01 in the demonstration configuration, for network A.
@@ -44,36 +42,37 @@ const FIRST: [u8; 60] = [
 #[test]
 fn the_frames_of_a_come_before_those_of_b(rt: HostRuntime) {
     let mut for_a = FrameLog::new(rt.alloc());
-    assert!(rt; for_a.hand(0, &FIRST).is_ok());
-    assert!(rt; for_a.hand(u64::MAX, &[0xab]).is_ok());
+    for_a.hand(0, &FIRST).expect(&rt, "memory");
+    for_a.hand(u64::MAX, &[0xab]).expect(&rt, "memory");
     let mut twin = FIRST;
     twin[11] = 0x40;
     let mut for_b = FrameLog::new(rt.alloc());
-    assert!(rt; for_b.hand(0, &twin).is_ok());
+    for_b.hand(0, &twin).expect(&rt, "memory");
     let mut text = Vec::new(rt.alloc());
-    assert_eq!(rt; write_streams(&mut text, &for_a, &for_b), Ok(()));
+    assert_same(&rt, write_streams(&mut text, &for_a, &for_b), Ok(()));
     let wanted = "A 0 03000000000102000000012008004500001d000000000111cdee0a000101e0e0000103e807d\
                   000090000010000000000000000000000000000000000\n\
                   A 18446744073709551615 ab\n\
                   B 0 03000000000102000000014008004500001d000000000111cdee0a000101e0e0000103e807d\
                   000090000010000000000000000000000000000000000\n";
-    assert_eq!(rt; text.as_slice(), wanted.as_bytes());
+    assert_same(&rt, text.as_slice(), wanted.as_bytes());
 }
 
 #[test]
 fn a_full_writer_is_a_failure_to_write(rt: HostRuntime) {
     let none = FrameLog::new(rt.alloc());
     let mut one = FrameLog::new(rt.alloc());
-    assert!(rt; one.hand(0, &FIRST).is_ok());
+    one.hand(0, &FIRST).expect(&rt, "memory");
     let mut room = [0u8; 60];
     let mut text = room.as_mut_slice();
-    assert_eq!(rt; write_streams(&mut text, &none, &one), Err(RunFault::Write));
+    let told = write_streams(&mut text, &none, &one);
+    assert_same(&rt, told, Err(RunFault::Write));
     let refused = Outcome::Refused(Refusal::Full);
-    assert_eq!(rt; write_note(&mut text, 1, refused), Err(RunFault::Write));
+    assert_same(&rt, write_note(&mut text, 1, refused), Err(RunFault::Write));
 }
 
 #[test]
-fn a_summary_counts_what_became_of_lines(rt: HostRuntime) -> Result<(), Fail> {
+fn a_summary_counts_what_became_of_lines(rt: HostRuntime) {
     let none = Summary {
         accepted: 0,
         refused: 0,
@@ -81,8 +80,7 @@ fn a_summary_counts_what_became_of_lines(rt: HostRuntime) -> Result<(), Fail> {
     };
     let one = none.count(Outcome::Released(2));
     assert_eq!(rt; (one.accepted, one.refused, one.frames), (0, 0, 2));
-    assert_eq!(rt; one.count(Outcome::Closed(3)), one);
-    Ok(())
+    assert_same(&rt, one.count(Outcome::Closed(3)), one);
 }
 
 // Why a line is refused while running, and the name that a note has of it.
@@ -98,8 +96,8 @@ const REFUSALS: [(Refusal, &str); 7] = [
 
 #[test]
 fn each_refusal_of_a_line_has_its_name(rt: HostRuntime) {
-    for (refusal, name) in REFUSALS {
-        assert_eq!(rt; refusal.name(), name);
+    for &(refusal, name) in &REFUSALS {
+        assert_same(&rt, refusal.name(), name);
     }
 }
 
@@ -115,9 +113,9 @@ const LINE_TEXTS: [(LineFault, &str); 6] = [
 
 #[test]
 fn a_fault_of_a_line_tells_the_line_and_the_fault(rt: HostRuntime) {
-    for (fault, wanted) in LINE_TEXTS {
+    for &(fault, wanted) in &LINE_TEXTS {
         let told = InlineText::<64>::of(at_line(2, fault));
-        assert_eq!(rt; told.as_str(), wanted);
+        assert_same(&rt, told.as_str(), wanted);
     }
 }
 
@@ -131,7 +129,7 @@ const RUN_TEXTS: [(RunFault, &str); 4] = [
 
 #[test]
 fn a_run_fault_tells_its_text(rt: HostRuntime) {
-    for (fault, wanted) in RUN_TEXTS {
-        assert_eq!(rt; InlineText::<64>::of(fault).as_str(), wanted);
+    for &(fault, wanted) in &RUN_TEXTS {
+        assert_same(&rt, InlineText::<64>::of(fault).as_str(), wanted);
     }
 }
