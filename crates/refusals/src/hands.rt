@@ -1,36 +1,34 @@
 //! Networks in memory that are handed frames.
 use crate::configs::prepared;
-use crate::polls::{message, poll_told, send_told};
+use crate::polls::{message, send_two_told};
 use crate::trouble::Trouble;
 use afdx_tx::{Emitter, TxPort, open_tx};
 use redundant_mux::MemNetwork;
 use std::alloc::Global;
 use std::io::Write;
 
-/// An emitter over two networks in memory, with its port and two messages.
+/// An emitter over two networks in memory, with its ports and two messages.
 #[derive(Drop)]
 struct Opened {
     tx: Emitter<MemNetwork, MemNetwork>,
-    port: TxPort,
+    ports: Vec<TxPort>,
     first: Vec<u8>,
     second: Vec<u8>,
 }
 
+/// Makes two messages and opens an emitter.
 fn open(alloc: Global) -> Result<Opened, Trouble> {
     let (first, second) = (message(alloc, 1)?, message(alloc, 2)?);
     let config = prepared(alloc)?;
     let (a, b) = (MemNetwork::new(alloc), MemNetwork::new(alloc));
-    let Ok((tx, mut ports, _monitor)) = open_tx(alloc, config, a, b) else {
-        return Err(Trouble::Unprepared);
-    };
-    match ports.pop() {
-        Some(port) => Ok(Opened {
+    match open_tx(alloc, config, a, b).ok() {
+        Some((tx, ports, _monitor)) => Ok(Opened {
             tx,
-            port,
+            ports,
             first,
             second,
         }),
-        None => Err(Trouble::Missing),
+        None => Err(Trouble::Unprepared),
     }
 }
 
@@ -41,29 +39,39 @@ fn tell<W: Write>(out: &mut W, name: &str, network: &MemNetwork) -> Result<(), T
     Ok(())
 }
 
+/// Tells what both networks were handed. Whether one of them failed.
+fn tell_both<W: Write>(out: &mut W, a: &MemNetwork, b: &MemNetwork) -> Result<bool, Trouble> {
+    tell(out, "A", a)?;
+    tell(out, "B", b)?;
+    Ok(a.failures() != 0 || b.failures() != 0)
+}
+
 /// Sends two messages. Whether a network failed.
 fn send_two<W: Write>(out: &mut W, opened: Opened) -> Result<bool, Trouble> {
     let Opened {
         mut tx,
-        mut port,
+        mut ports,
         first,
         second,
     } = opened;
-    send_told(out, &mut port, first)?;
-    send_told(out, &mut port, second)?;
-    poll_told(out, &mut tx, 0)?;
-    poll_told(out, &mut tx, 1_000)?;
+    let sent = send_two_told(out, &mut tx, &mut ports, first, second);
     let (a, b) = tx.into_networks();
-    tell(out, "A", &a)?;
-    tell(out, "B", &b)?;
-    Ok(a.failures() != 0 || b.failures() != 0)
+    match sent {
+        Ok(()) => tell_both(out, &a, &b),
+        Err(trouble) => Err(trouble),
+    }
 }
 
 /// Sends two messages, once more where memory was refused to a network.
 pub fn hand<W: Write>(alloc: Global, out: &mut W) -> Result<(), Trouble> {
-    let (first, second) = (open(alloc)?, open(alloc)?);
-    if send_two(out, first)? {
-        send_two(out, second)?;
+    let first = open(alloc)?;
+    let second = open(alloc)?;
+    let mut answer = send_two(out, first);
+    if let Ok(true) = answer {
+        answer = send_two(out, second);
+    } else {
+        drop(second);
     }
+    let _has_failed = answer?;
     Ok(())
 }

@@ -67,7 +67,7 @@ fn run_all<W: Write, R: Threads + Wait + Sync>(
     alloc: Global,
     out: &mut W,
 ) -> Result<(), Trouble> {
-    for word in CASES {
+    for word in CASES.iter() {
         writeln!(out, "== {word}")?;
         run_case(rt, alloc, out, word)?;
     }

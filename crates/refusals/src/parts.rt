@@ -7,7 +7,7 @@ ghost use Rattle.subvl_queue.specs.Views.{AreOf};
 use crate::boards::publish_told;
 use crate::configs::prepared;
 use crate::polls::message;
-use crate::queues::{send_told, take_left, take_told};
+use crate::queues::{gather_told, send_both, send_told, take_told};
 use crate::quiet::tell_fields;
 use crate::shelf::empty_shelf;
 use crate::trouble::Trouble;
@@ -26,29 +26,41 @@ fn told(is_so: bool) -> &'static str {
     if is_so { "yes" } else { "no" }
 }
 
+/// Sends two messages, takes one out of the queue, closes it, and sends a third.
+fn send_and_close<W: Write>(
+    out: &mut W,
+    receiver: &mut Receiver,
+    sender: &mut Sender,
+    messages: Three,
+) -> Result<(), Trouble>
+    ensures receiver { receiver.new.queue ≡ receiver.old.queue }
+    ensures sender { sender.new.queue ≡ sender.old.queue }
+{
+    let Three {
+        first,
+        second,
+        third,
+    } = messages;
+    send_both(out, sender, first, second)?;
+    take_told(out, receiver)?;
+    writeln!(out, "closed {}", receiver.close())?;
+    send_told(out, sender, third)
+}
+
 /// Takes a message out of a queue, closes it, and gathers its sender.
 fn use_queue<W: Write>(
     out: &mut W,
     mut receiver: Receiver,
     mut senders: Vec<Sender>,
-    first: Vec<u8>,
-    second: Vec<u8>,
-    third: Vec<u8>,
+    messages: Three,
 ) -> Result<(), Trouble>
     requires { AreOf receiver.queue senders.items }
 {
     if senders.len() != 1 {
         return Err(Trouble::Missing);
     }
-    send_told(out, &mut senders[0], first)?;
-    send_told(out, &mut senders[0], second)?;
-    take_told(out, &mut receiver)?;
-    writeln!(out, "closed {}", receiver.close())?;
-    send_told(out, &mut senders[0], third)?;
-    match receiver.gather(senders) {
-        Ok(gathered) => take_left(out, gathered),
-        Err(_) => Err(Trouble::Missing),
-    }
+    send_and_close(out, &mut receiver, &mut senders[0], messages)?;
+    gather_told(out, receiver, senders)
 }
 
 /// Stamps a release, and tells which sub-VL is asked first and whether the link is due.
@@ -58,8 +70,10 @@ fn use_shaper<W: Write>(out: &mut W) -> Result<(), Trouble> {
     let number = shaper.stamp(0, 0);
     let next = shaper.turn(0);
     let (early, late) = (told(shaper.due(999)), told(shaper.due(1_000)));
-    writeln!(out, "asks {first}, number {number}, asks {next}")?;
-    writeln!(out, "due at 999: {early}, at 1000: {late}")?;
+    writeln!(
+        out,
+        "asks {first}, number {number}, asks {next}\ndue at 999: {early}, at 1000: {late}"
+    )?;
     Ok(())
 }
 
@@ -109,10 +123,13 @@ fn use_cut<W: Write>(out: &mut W, config: &Config, message: Vec<u8>) -> Result<(
     if !is_over || message.is_empty() || message.len() > 8_192 {
         return Err(Trouble::Missing);
     }
-    let mut cut = Cut::new(message, 0, &port);
-    let _first = cut.next_frame(&link, 1, 0, Net::A);
-    let second = cut.next_frame(&link, 1, 1, Net::A).unwrap_or_default();
-    writeln!(out, "all given: {}", told(cut.is_done()))?;
+    let (second, is_done) = {
+        let mut cut = Cut::new(message, 0, &port);
+        let _first = cut.next_frame(&link, 1, 0, Net::A);
+        let second = cut.next_frame(&link, 1, 1, Net::A).unwrap_or_default();
+        (second, cut.is_done())
+    };
+    writeln!(out, "all given: {}", told(is_done))?;
     tell_fields(out, second.as_slice())?;
     tell_fields(out, twin(&second, Net::B).as_slice())
 }
@@ -133,41 +150,51 @@ fn use_plan<W: Write>(out: &mut W, config: &Config) -> Result<(), Trouble> {
     Ok(())
 }
 
-/// The messages of a queue, each of one byte, and a longer one.
+/// Uses what needs no queue and no board.
+fn use_rest<W: Write>(out: &mut W, config: &Config, long: Vec<u8>) -> Result<(), Trouble> {
+    use_shaper(out)?;
+    use_mux(out)?;
+    use_cut(out, config, long)?;
+    use_plan(out, config)
+}
+
+/// Three messages of a queue, each of one byte.
 #[derive(Drop)]
-struct Messages {
+struct Three {
     first: Vec<u8>,
     second: Vec<u8>,
     third: Vec<u8>,
-    long: Vec<u8>,
 }
 
-fn make_messages(alloc: Global) -> Result<Messages, Trouble> {
-    Ok(Messages {
+/// Makes the messages of a queue.
+fn make_three(alloc: Global) -> Result<Three, Trouble> {
+    Ok(Three {
         first: message(alloc, 1)?,
         second: message(alloc, 2)?,
         third: message(alloc, 3)?,
-        long: vec![in alloc; 0xaau8; 1_472]?,
     })
 }
 
-/// Makes a queue, a board and messages, and calls the parts. What is printed behind `made` takes no
+/// Makes messages, a queue and a board, and calls the parts. What is printed behind `made` takes no
 /// memory.
-pub fn call<W: Write, R: Wait>(rt: &R, alloc: Global, out: &mut W) -> Result<(), Trouble> {
-    let config = prepared(alloc)?;
-    let Messages {
-        first,
-        second,
-        third,
-        long,
-    } = make_messages(alloc)?;
+fn call_over<W: Write, R: Wait>(
+    rt: &R,
+    alloc: Global,
+    out: &mut W,
+    config: &Config,
+) -> Result<(), Trouble> {
+    let messages = make_three(alloc)?;
+    let long = vec![in alloc; 0xaau8; 1_472]?;
     let (receiver, senders) = make(alloc, 2, 1, 8)?;
     let (board, monitor) = open_board(alloc, 1)?;
     writeln!(out, "made")?;
-    use_queue(out, receiver, senders, first, second, third)?;
+    use_queue(out, receiver, senders, messages)?;
     publish_told(rt, out, board, monitor)?;
-    use_shaper(out)?;
-    use_mux(out)?;
-    use_cut(out, &config, long)?;
-    use_plan(out, &config)
+    use_rest(out, config, long)
+}
+
+/// Makes a configuration, and calls the parts over it.
+pub fn call<W: Write, R: Wait>(rt: &R, alloc: Global, out: &mut W) -> Result<(), Trouble> {
+    let config = prepared(alloc)?;
+    call_over(rt, alloc, out, &config)
 }

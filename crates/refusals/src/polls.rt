@@ -57,6 +57,23 @@ pub fn send_told<W: Write>(out: &mut W, port: &mut TxPort, message: Vec<u8>) -> 
     Ok(())
 }
 
+/// Sends two messages by the last port, and polls twice.
+pub fn send_two_told<W: Write, A: Network + Drop, B: Network + Drop>(
+    out: &mut W,
+    tx: &mut Emitter<A, B>,
+    ports: &mut [TxPort],
+    first: Vec<u8>,
+    second: Vec<u8>,
+) -> Result<(), Trouble> {
+    let Some(port) = ports.last_mut() else {
+        return Err(Trouble::Missing);
+    };
+    send_told(out, port, first)?;
+    send_told(out, port, second)?;
+    poll_told(out, tx, 0)?;
+    poll_told(out, tx, 1_000)
+}
+
 /// A message of one byte.
 pub fn message(alloc: Global, byte: u8) -> Result<Vec<u8>, Trouble> {
     Ok(vec![in alloc; byte]?)

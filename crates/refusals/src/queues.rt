@@ -41,21 +41,21 @@ pub fn take_told<W: Write>(out: &mut W, receiver: &mut Receiver) -> Result<(), T
 }
 
 /// Gathers a sender, and tells what is left.
-fn gather_told<W: Write>(
+pub fn gather_told<W: Write>(
     out: &mut W,
     receiver: Receiver,
     senders: Vec<Sender>,
 ) -> Result<(), Trouble>
     requires { AreOf receiver.queue senders.items }
 {
-    let Ok(gathered) = receiver.gather(senders) else {
-        return Err(Trouble::Missing);
-    };
-    take_left(out, gathered)
+    match receiver.gather(senders).ok() {
+        Some(gathered) => take_left(out, gathered),
+        None => Err(Trouble::Missing),
+    }
 }
 
 /// Takes the next message of a gathered queue, and tells its bytes, if there is one.
-pub fn take_left<W: Write>(out: &mut W, mut gathered: Gathered) -> Result<(), Trouble> {
+fn take_left<W: Write>(out: &mut W, mut gathered: Gathered) -> Result<(), Trouble> {
     match gathered.take() {
         Some(item) => writeln!(out, "left: {} {:?}", item.port, item.bytes.as_slice())?,
         None => writeln!(out, "left: None")?,
@@ -72,6 +72,19 @@ struct Four {
     fourth: Vec<u8>,
 }
 
+/// Sends two messages.
+pub fn send_both<W: Write>(
+    out: &mut W,
+    sender: &mut Sender,
+    first: Vec<u8>,
+    second: Vec<u8>,
+) -> Result<(), Trouble>
+    ensures { sender.new.queue ≡ sender.old.queue }
+{
+    send_told(out, sender, first)?;
+    send_told(out, sender, second)
+}
+
 /// Sends more messages than have room, and more than may be asked for.
 fn send_four<W: Write>(
     out: &mut W,
@@ -82,11 +95,16 @@ fn send_four<W: Write>(
     ensures receiver { receiver.new.queue ≡ receiver.old.queue }
     ensures sender { sender.new.queue ≡ sender.old.queue }
 {
-    send_told(out, sender, messages.first)?;
-    send_told(out, sender, messages.second)?;
-    send_told(out, sender, messages.third)?;
+    let Four {
+        first,
+        second,
+        third,
+        fourth,
+    } = messages;
+    send_both(out, sender, first, second)?;
+    send_told(out, sender, third)?;
     take_told(out, receiver)?;
-    send_told(out, sender, messages.fourth)?;
+    send_told(out, sender, fourth)?;
     writeln!(out, "accepted {}", sender.accepted())?;
     Ok(())
 }

@@ -16,7 +16,8 @@ use std::alloc::Global;
 use std::io::Write;
 use std::sync::Wait;
 
-/// What is opened, with the one port taken out of the list of ports.
+/// What is opened, with the one port taken out of the list of ports. It is large: a call of `drop`
+/// lets go of it in one step, where the end of a scope takes it apart field by field.
 #[derive(Drop)]
 struct Opened {
     tx: Emitter<Shelf, Shelf>,
@@ -35,16 +36,22 @@ fn open(alloc: Global) -> Result<Opened, Trouble>
         return Err(Trouble::Missing);
     }
     match open_tx(alloc, config, empty_shelf(4), empty_shelf(4)) {
-        Ok((tx, mut others, monitor)) => match others.pop() {
-            Some(port) => Ok(Opened {
+        Ok((tx, mut others, monitor)) => {
+            let Some(port) = others.pop() else {
+                drop(tx);
+                return Err(Trouble::Missing);
+            };
+            Ok(Opened {
                 tx,
                 port,
                 others,
                 monitor,
-            }),
-            None => Err(Trouble::Missing),
-        },
-        Err(_) => Err(Trouble::NotOpened),
+            })
+        }
+        Err(back) => {
+            drop(back);
+            Err(Trouble::NotOpened)
+        }
     }
 }
 
@@ -88,28 +95,33 @@ fn close_told<W: Write>(out: &mut W, tx: &mut Emitter<Shelf, Shelf>) -> Result<(
 }
 
 /// Gathers the one port, in the list that it came out of.
-fn gather(
-    tx: Emitter<Shelf, Shelf>,
-    others: Vec<TxPort>,
-    port: TxPort,
-) -> Result<Draining<Shelf, Shelf>, Trouble>
-    requires { IsPortOfTx tx port }
+fn gather(opened: Opened) -> Result<Draining<Shelf, Shelf>, Trouble>
+    requires { IsPortOfTx opened.tx opened.port }
 {
+    let Opened {
+        tx,
+        port,
+        others,
+        monitor: _monitor,
+    } = opened;
     let mut ports = others;
     ports.clear();
     ports.push(port)?;
     match tx.gather(ports) {
         Ok(draining) => Ok(draining),
-        Err(_) => Err(Trouble::Missing),
+        Err(back) => {
+            drop(back);
+            Err(Trouble::Missing)
+        }
     }
 }
 
-/// Polls for what is left, publishes and ends.
+/// Polls for what is left, and publishes.
 fn drain<W: Write, R: Wait>(
     rt: &R,
     out: &mut W,
-    mut draining: Draining<Shelf, Shelf>,
-) -> Result<(Shelf, Shelf), Trouble> {
+    draining: &mut Draining<Shelf, Shelf>,
+) -> Result<(), Trouble> {
     if 2_000 < draining.now() {
         return Err(Trouble::Missing);
     }
@@ -122,7 +134,7 @@ fn drain<W: Write, R: Wait>(
         "not done"
     };
     writeln!(out, "{done}")?;
-    Ok(draining.into_networks())
+    Ok(())
 }
 
 /// Tells the fields of a frame.
@@ -134,8 +146,11 @@ pub fn tell_fields<W: Write>(out: &mut W, frame: &[u8]) -> Result<(), Trouble> {
     let (ident, offset) = (ident.unwrap_or(65_535), offset.unwrap_or(65_535));
     let more = if more == Some(true) { "more" } else { "last" };
     let length = frame.len();
-    writeln!(out, "{length} bytes, link {vl} sub {sub}, number {number}")?;
-    writeln!(out, "message {ident}, offset {offset}, {more}")?;
+    writeln!(
+        out,
+        "{length} bytes, link {vl} sub {sub}, number {number}\n\
+        message {ident}, offset {offset}, {more}"
+    )?;
     Ok(())
 }
 
@@ -148,39 +163,54 @@ fn tell_shelf<W: Write>(out: &mut W, name: &str, shelf: &Shelf) -> Result<(), Tr
     Ok(())
 }
 
-/// Sends, polls, publishes, reads, sends once more, closes and gathers.
+/// Sends, polls, publishes, reads, sends once more and closes. What is printed behind `opened` takes no
+/// memory.
+fn use_opened<W: Write, R: Wait>(
+    rt: &R,
+    out: &mut W,
+    opened: &mut Opened,
+    long: Vec<u8>,
+    short: Vec<u8>,
+) -> Result<(), Trouble>
+    requires { 0 < links_of opened.old.monitor }
+    ensures { OnOk result (IsPortOfTx opened.old.tx opened.old.port
+        → IsPortOfTx opened.new.tx opened.new.port) }
+{
+    writeln!(out, "opened")?;
+    send_and_poll(out, &mut opened.tx, &mut opened.port, long)?;
+    publish_and_read(rt, out, &mut opened.tx, &mut opened.monitor)?;
+    send_told(out, &mut opened.port, short)?;
+    close_told(out, &mut opened.tx)
+}
+
+/// Uses what is opened, gathers, and tells what the networks were handed.
 fn use_all<W: Write, R: Wait>(
     rt: &R,
     out: &mut W,
-    opened: Opened,
+    mut opened: Opened,
     long: Vec<u8>,
     short: Vec<u8>,
 ) -> Result<(), Trouble>
     requires port { IsPortOfTx opened.tx opened.port }
     requires monitor { 0 < links_of opened.monitor }
 {
-    let Opened {
-        mut tx,
-        mut port,
-        others,
-        mut monitor,
-    } = opened;
-    send_and_poll(out, &mut tx, &mut port, long)?;
-    publish_and_read(rt, out, &mut tx, &mut monitor)?;
-    send_told(out, &mut port, short)?;
-    close_told(out, &mut tx)?;
-    let draining = gather(tx, others, port)?;
-    let (a, b) = drain(rt, out, draining)?;
+    if let Err(trouble) = use_opened(rt, out, &mut opened, long, short) {
+        drop(opened);
+        return Err(trouble);
+    }
+    let mut draining = gather(opened)?;
+    let drained = drain(rt, out, &mut draining);
+    let (a, b) = draining.into_networks();
+    drained?;
     tell_shelf(out, "A", &a)?;
     tell_shelf(out, "B", &b)
 }
 
 /// Sends a message of two frames, and one that is left to the drain. Both are made before the emitter is
-/// opened. What is printed behind `opened` takes no memory.
+/// opened.
 pub fn send<W: Write, R: Wait>(rt: &R, alloc: Global, out: &mut W) -> Result<(), Trouble> {
     let long = vec![in alloc; 0xaau8; 1_472]?;
     let short = message(alloc, 1)?;
     let opened = open(alloc)?;
-    writeln!(out, "opened")?;
     use_all(rt, out, opened, long, short)
 }
