@@ -1,4 +1,5 @@
-use Rattle.std.proofs.Common.{rules}
+use Rattle.std.proofs.Common.{rules, arith}
+use Rattle.std.proofs.lemmas.Grind.{common_steps}
 use Rattle.storm.proofs.worker.work.Goals as goal
 
 pub returns-then-not-enter : goal.returns-then-not-enter
@@ -12,3 +13,6 @@ returns-in_err-send_on g c = search rules
 
 pub returns : goal.returns
 returns g c = search rules
+
+pub loop-sent-preserved : goal.loop-sent-preserved
+loop-sent-preserved g c = grind (arith, common_steps)

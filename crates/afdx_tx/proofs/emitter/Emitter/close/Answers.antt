@@ -26,3 +26,9 @@ returns-clause-lines g c = search rules
 
 pub returns-clause-moment : goal.returns-clause-moment
 returns-clause-moment g c = search rules
+
+pub close-requires : goal.close-requires
+close-requires g c = search rules
+
+pub invariant_of-self : goal.invariant_of-self
+invariant_of-self g c = search rules

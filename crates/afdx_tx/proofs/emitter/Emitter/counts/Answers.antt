@@ -9,3 +9,6 @@ returns-clause-counts g c = search rules
 
 pub returns-clause-as_published : goal.returns-clause-as_published
 returns-clause-as_published g c = search rules
+
+pub counts-requires : goal.counts-requires
+counts-requires g c κs = search rules

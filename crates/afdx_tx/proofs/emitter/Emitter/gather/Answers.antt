@@ -25,3 +25,27 @@ returns-clause-ports_back g c = search rules
 
 pub returns-clause-missing : goal.returns-clause-missing
 returns-clause-missing g c = search rules
+
+pub as_slice-requires : goal.as_slice-requires
+as_slice-requires g c κs = search rules
+
+pub config-requires : goal.config-requires
+config-requires g c κs = search rules
+
+pub ports-requires : goal.ports-requires
+ports-requires g c = search rules
+
+pub has_every_place-requires : goal.has_every_place-requires
+has_every_place-requires g c = search rules
+
+pub gather-requires-clause-receiving : goal.gather-requires-clause-receiving
+gather-requires-clause-receiving g c = search rules
+
+pub gather-requires-clause-opened : goal.gather-requires-clause-opened
+gather-requires-clause-opened g c = search rules
+
+pub gather-requires-clause-every : goal.gather-requires-clause-every
+gather-requires-clause-every g c = search rules
+
+pub over-requires : goal.over-requires
+over-requires g c = search rules

@@ -9,6 +9,14 @@ use Rattle.afdx_tx.proofs.Publishing.{reaches_kept}
 use Rattle.afdx_tx.proofs.ClosedEmitter.{links_closed, closed_kept}
 use Rattle.afdx_tx.proofs.transmitter.Transmitter.close.Goals as goal
 
+pub place_of-requires : goal.place_of-requires
+place_of-requires g c = search rules
+
+pub index_mut-requires : goal.index_mut-requires
+index_mut-requires g c =
+    let below = c.in-Some.ensures.some.within in
+    omega (arith, count_is c.self.inside.config c.self.inside.links.items c.self.invariant.0.of_plan)
+
 pub invariant_of-self : goal.invariant_of-self
 invariant_of-self g c =
     let links = c.self.inside.links.items in

@@ -202,3 +202,33 @@ returns-clause-of_plan g c = search rules
 
 pub returns-clause-mirrored : goal.returns-clause-mirrored
 returns-clause-mirrored g c = search rules
+
+pub stands_for-requires : goal.stands_for-requires
+stands_for-requires g c κs = search rules
+
+pub returns-then-not-stands_for-clause-mirrored : goal.returns-then-not-stands_for-clause-mirrored
+returns-then-not-stands_for-clause-mirrored g c = search rules
+
+pub new-released-requires : goal.new-released-requires
+new-released-requires g c = search rules
+
+pub deref_mut-requires : goal.deref_mut-requires
+deref_mut-requires g c κs = search rules
+
+pub serve_all-requires-clause-none : goal.serve_all-requires-clause-none
+serve_all-requires-clause-none g c = search rules
+
+pub serve_all-requires-clause-each : goal.serve_all-requires-clause-each
+serve_all-requires-clause-each g c = search rules
+
+pub serve_all-requires-clause-kept : goal.serve_all-requires-clause-kept
+serve_all-requires-clause-kept g c = search rules
+
+pub serve_all-requires-clause-later : goal.serve_all-requires-clause-later
+serve_all-requires-clause-later g c = search rules
+
+pub serve_all-requires-clause-known : goal.serve_all-requires-clause-known
+serve_all-requires-clause-known g c = search rules
+
+pub standing-requires : goal.standing-requires
+standing-requires g c κs = search rules
