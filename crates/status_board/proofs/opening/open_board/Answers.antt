@@ -1,4 +1,5 @@
-use Rattle.std.proofs.Common.{rules}
+use Rattle.std.proofs.Common.{rules, arith}
+use Rattle.std.proofs.lemmas.Grind.{common_steps}
 use Rattle.status_board.proofs.opening.open_board.Goals as goal
 
 pub returns-in_err-writers-clause-board : goal.returns-in_err-writers-clause-board
@@ -54,3 +55,6 @@ returns-clause-monitor c = search rules
 
 pub returns-clause-new : goal.returns-clause-new
 returns-clause-new c = search rules
+
+pub loop-preserved : goal.loop-preserved
+loop-preserved c = grind (arith, common_steps)
