@@ -1,58 +1,20 @@
 //! Tests of an emitter that publishes how far its link has come.
-ghost use Rattle.std.specs.Prelude.{◌≡◌, ◌<◌, [], IfOk};
+ghost use Rattle.std.specs.Prelude.{◌≡◌, ◌<◌};
 ghost use Rattle.status_board.specs.Views.{links_of};
 
 use crate::network_tests::{send_six, six};
 use crate::testing::{
-    BOTH, NEITHER, assert_both_down, assert_report, numbered, poll_at, send_taken,
+    BOTH, NEITHER, OpenedOne, assert_both_down, assert_report, numbered, open_demo_standing,
+    open_one, poll_at, send_taken,
 };
-use afdx_plan::{Config, demo_config};
-use afdx_tx::{Emitter, Release, TxPort, open_tx};
+use afdx_tx::Release;
 use redundant_mux::{MemNetwork, Standing};
-use status_board::{Counts, Monitor};
-use std::alloc::Global;
+use status_board::Counts;
 use std::process::Abort;
 use std::sync::Wait;
-use std::test::Fail;
-
-/// What is opened: the emitter, its one port, and its monitor.
-#[derive(Drop)]
-pub(crate) struct Opened {
-    pub(crate) tx: Emitter<MemNetwork, MemNetwork>,
-    pub(crate) port: TxPort,
-    pub(crate) monitor: Monitor,
-}
-
-// A configuration with one port over two networks.
-fn open_watched(alloc: Global, config: Config, a: MemNetwork, b: MemNetwork) -> Result<Opened, Fail>
-    requires a_empty { a.handed ≡ [] }
-    requires b_empty { b.handed ≡ [] }
-    requires a_new { a.failures ≡ 0 }
-    requires b_new { b.failures ≡ 0 }
-    ensures { IfOk result (λ opened. 0 < links_of opened.monitor) }
-{
-    if config.links().is_empty() {
-        return Err(Fail::from("no link"));
-    }
-    match open_tx(alloc, config, a, b) {
-        Ok((tx, mut ports, monitor)) => match ports.pop() {
-            Some(port) => Ok(Opened { tx, port, monitor }),
-            None => Err(Fail::from("no port")),
-        },
-        Err(_) => Err(Fail::from("no memory")),
-    }
-}
-
-/// The demonstration configuration over two networks that don't fail.
-pub(crate) fn open_demo_watched(alloc: Global) -> Result<Opened, Fail>
-    ensures { IfOk result (λ opened. 0 < links_of opened.monitor) }
-{
-    let (a, b) = (MemNetwork::new(alloc), MemNetwork::new(alloc));
-    open_watched(alloc, demo_config(alloc)?, a, b)
-}
 
 // Publishes, and asserts what is read then, as often as one reads.
-fn assert_read<R: Abort + Wait>(rt: &R, opened: &mut Opened, counts: Counts)
+fn assert_read<R: Abort + Wait>(rt: &R, opened: &mut OpenedOne, counts: Counts)
     requires { 0 < links_of opened.old.monitor }
     ensures { links_of opened.new.monitor ≡ links_of opened.old.monitor }
 {
@@ -64,7 +26,7 @@ fn assert_read<R: Abort + Wait>(rt: &R, opened: &mut Opened, counts: Counts)
 // Polls, asserts what was released, publishes, and asserts what is read then.
 fn assert_turn<R: Abort + Wait>(
     rt: &R,
-    opened: &mut Opened,
+    opened: &mut OpenedOne,
     now: u64,
     released: &[Release],
     standing: Standing,
@@ -79,8 +41,8 @@ fn assert_turn<R: Abort + Wait>(
 }
 
 #[test]
-fn the_one_frame_of_a_message_of_one_byte_is_read(rt: HostRuntime) -> Result<(), Fail> {
-    let mut opened = open_demo_watched(rt.alloc())?;
+fn the_one_frame_of_a_message_of_one_byte_is_read(rt: HostRuntime) {
+    let mut opened = open_demo_standing(&rt, rt.alloc());
     assert_read(&rt, &mut opened, Counts::ZERO);
     send_taken(&rt, rt.alloc(), &mut opened.port, &[1]);
     assert_read(&rt, &mut opened, Counts::ZERO);
@@ -91,13 +53,12 @@ fn the_one_frame_of_a_message_of_one_byte_is_read(rt: HostRuntime) -> Result<(),
         last: 0,
     };
     assert_turn(&rt, &mut opened, 0, &[numbered(0)], BOTH, counts);
-    Ok(())
 }
 
 // 1,472 bytes are cut in two: frames of 14 + 20 + 1,472 + 1 bytes, and of 60, the least.
 #[test]
-fn a_message_in_two_frames_counts_with_its_last(rt: HostRuntime) -> Result<(), Fail> {
-    let mut opened = open_demo_watched(rt.alloc())?;
+fn a_message_in_two_frames_counts_with_its_last(rt: HostRuntime) {
+    let mut opened = open_demo_standing(&rt, rt.alloc());
     send_taken(&rt, rt.alloc(), &mut opened.port, &[0xaa; 1_472]);
     let first = Counts {
         frames: 1,
@@ -114,7 +75,6 @@ fn a_message_in_two_frames_counts_with_its_last(rt: HostRuntime) -> Result<(), F
     assert_turn(&rt, &mut opened, 0, &[numbered(0)], BOTH, first);
     assert_turn(&rt, &mut opened, 999, &[], BOTH, first);
     assert_turn(&rt, &mut opened, 1_000, &[numbered(1)], BOTH, both);
-    Ok(())
 }
 
 // The counts after so many frames of 60 bytes, a message each, a gap of 1 ms apart.
@@ -129,7 +89,7 @@ fn counts_of_short(frames: u8) -> Counts {
 }
 
 // Six messages while A fails at its third frame, and B, the last that stands, at its sixth.
-fn assert_failing<R: Abort + Wait>(rt: &R, opened: &mut Opened)
+fn assert_failing<R: Abort + Wait>(rt: &R, opened: &mut OpenedOne)
     requires { 0 < links_of opened.old.monitor }
     ensures { links_of opened.new.monitor ≡ links_of opened.old.monitor }
 {
@@ -145,15 +105,13 @@ fn assert_failing<R: Abort + Wait>(rt: &R, opened: &mut Opened)
 }
 
 #[test]
-fn frames_that_one_network_alone_took_count_and_those_that_none_took_do_not(
-    rt: HostRuntime,
-) -> Result<(), Fail> {
+fn frames_that_one_network_alone_took_count_and_those_that_none_took_do_not(rt: HostRuntime) {
     let alloc = rt.alloc();
     let (a, b) = (
         MemNetwork::failing_at(alloc, 3),
         MemNetwork::failing_at(alloc, 6),
     );
-    let mut opened = open_watched(alloc, six(alloc)?, a, b)?;
+    let mut opened = open_one(&rt, alloc, six(&rt, alloc), a, b);
     send_six(&rt, alloc, &mut opened.port);
     assert_failing(&rt, &mut opened);
     let counts = Counts {
@@ -166,5 +124,4 @@ fn frames_that_one_network_alone_took_count_and_those_that_none_took_do_not(
     let answer = poll_at(&rt, &mut opened.tx, 6_000);
     assert_both_down(&rt, answer);
     assert_read(&rt, &mut opened, counts);
-    Ok(())
 }

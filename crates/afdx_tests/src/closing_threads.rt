@@ -1,15 +1,16 @@
 //! Tests of closing sub-VLs whose ports send from threads of their own.
-ghost use Rattle.std.specs.Prelude.{◌≡◌, IfOk, map};
+ghost use Rattle.std.specs.Prelude.{◌≡◌, map};
 ghost use Rattle.afdx_tx.specs.Emitter.{queues_in};
 ghost use Rattle.afdx_tx.specs.Ports.{AreOpenedWith};
 
+use crate::closing_tests::Told;
+use crate::testing::{Sending, gather};
 use crate::thread_tests::{Worker, check_frames, drain, join_all, open_and_start, poll_some};
 use afdx_plan::VlId;
-use afdx_tx::{Draining, Emitter, TxPort};
+use afdx_tx::TxPort;
 use redundant_mux::MemNetwork;
 use std::alloc::Global;
 use std::process::Abort;
-use std::test::Fail;
 use std::thread::Threads;
 
 // How many messages each port would send.
@@ -21,12 +22,8 @@ const CAPACITY: usize = 2;
 // How many messages are left in both queues at most.
 const LEFT: usize = 2 * CAPACITY;
 
-type Tx = Emitter<MemNetwork, MemNetwork>;
-
-type Drain = Draining<MemNetwork, MemNetwork>;
-
 // Closes a sub-VL of the link. The total.
-fn close<R: Abort>(rt: &R, tx: &mut Tx, sub: u8) -> u64
+fn close<R: Abort>(rt: &R, tx: &mut Sending, sub: u8) -> u64
     ensures plan { tx.new.plan ≡ tx.old.plan }
     ensures queues { queues_in tx.new.links ≡ queues_in tx.old.links }
 {
@@ -34,7 +31,7 @@ fn close<R: Abort>(rt: &R, tx: &mut Tx, sub: u8) -> u64
 }
 
 // Closes sub-VL 0, polls on, and closes sub-VL 1, while the ports send. Their totals.
-fn close_both<R: Abort>(rt: &R, tx: &mut Tx) -> [u64; 2]
+fn close_both<R: Abort>(rt: &R, tx: &mut Sending) -> [u64; 2]
     ensures plan { tx.new.plan ≡ tx.old.plan }
     ensures queues { queues_in tx.new.links ≡ queues_in tx.old.links }
 {
@@ -72,17 +69,17 @@ fn check_totals(rt: &impl Abort, ports: &[TxPort], totals: [u64; 2]) -> u64 {
 fn close_and_join<R: Threads + Abort>(
     rt: &R,
     alloc: Global,
-    tx: &mut Tx,
+    tx: &mut Sending,
     workers: Vec<Worker>,
-) -> Result<(Vec<TxPort>, u64), Fail>
+) -> (Vec<TxPort>, u64)
     requires { AreOpenedWith tx.old (map (λ h. h.promise.of.value) workers.items) }
-    ensures { IfOk result (λ closed. AreOpenedWith tx.new closed.0.items) }
+    ensures { AreOpenedWith tx.new result.0.items }
 {
     let totals = close_both(rt, tx);
-    let ports = join_all(rt, alloc, workers)?;
+    let ports = join_all(rt, alloc, workers);
     let total = check_totals(rt, &ports, totals);
     assert_eq!(rt; close(rt, tx, 0), totals[0]);
-    Ok((ports, total))
+    (ports, total)
 }
 
 // Two sub-VLs are closed while their ports send from threads of their own, and the ports are gathered.
@@ -90,12 +87,13 @@ fn close_and_join<R: Threads + Abort>(
 fn close_while_ports_send<R: Threads + Abort + Copy + Send + 'static>(
     rt: R,
     alloc: Global,
-) -> Result<(u64, Drain), Fail> {
-    let (mut tx, workers, _monitor) = open_and_start(rt, alloc, CAPACITY, MESSAGES)?;
-    let (ports, total) = close_and_join(&rt, alloc, &mut tx, workers)?;
-    match tx.gather(ports) {
-        Ok(draining) => Ok((total, draining)),
-        Err(_) => Err(Fail::from("each port is there")),
+) -> Told {
+    let mut started = open_and_start(rt, alloc, CAPACITY, MESSAGES);
+    let workers = started.workers;
+    let (ports, total) = close_and_join(&rt, alloc, &mut started.tx, workers);
+    Told {
+        total,
+        draining: gather(&rt, started.tx, ports),
     }
 }
 
@@ -107,12 +105,11 @@ fn check_total(rt: &impl Abort, network: &MemNetwork, total: u64) {
 }
 
 #[test]
-fn a_close_while_ports_send_tells_what_is_sent_in_the_end(rt: HostRuntime) -> Result<(), Fail> {
-    let (total, mut draining) = close_while_ports_send(rt, rt.alloc())?;
-    drain(&rt, &mut draining, LEFT);
-    assert!(rt; draining.is_done());
-    let (a, b) = draining.into_networks();
-    check_total(&rt, &a, total);
-    check_total(&rt, &b, total);
-    Ok(())
+fn a_close_while_ports_send_tells_what_is_sent_in_the_end(rt: HostRuntime) {
+    let mut told = close_while_ports_send(rt, rt.alloc());
+    drain(&rt, &mut told.draining, LEFT);
+    assert!(rt; told.draining.is_done());
+    let (a, b) = told.draining.into_networks();
+    check_total(&rt, &a, told.total);
+    check_total(&rt, &b, told.total);
 }

@@ -1,22 +1,21 @@
 //! Tests of the names of refusals.
 use afdx_tx::{NoSuchSub, PollFault, Refusal};
 use std::fmt::InlineText;
+use std::process::Abort;
 
-// Why a port refuses a message, its number and its name.
-const REFUSALS: [(Refusal, u8, &str); 5] = [
-    (Refusal::Empty, 1, "Empty"),
-    (Refusal::TooLong, 2, "TooLong"),
-    (Refusal::Closed, 3, "Closed"),
-    (Refusal::Exhausted, 4, "Exhausted"),
-    (Refusal::Full, 5, "Full"),
-];
+// Asserts the number and the name of a reason why a port refuses a message.
+fn assert_named(rt: &impl Abort, refusal: Refusal, number: u8, name: &str) {
+    assert_eq!(rt; refusal as u8, number, "{name}");
+    assert_eq!(rt; InlineText::<16>::of(refusal).as_str(), name);
+}
 
 #[test]
 fn each_refusal_of_a_port_has_its_number_and_its_name(rt: HostRuntime) {
-    for (refusal, number, name) in REFUSALS {
-        assert_eq!(rt; refusal as u8, number, "{name}");
-        assert_eq!(rt; InlineText::<16>::of(refusal).as_str(), name);
-    }
+    assert_named(&rt, Refusal::Empty, 1, "Empty");
+    assert_named(&rt, Refusal::TooLong, 2, "TooLong");
+    assert_named(&rt, Refusal::Closed, 3, "Closed");
+    assert_named(&rt, Refusal::Exhausted, 4, "Exhausted");
+    assert_named(&rt, Refusal::Full, 5, "Full");
 }
 
 #[test]

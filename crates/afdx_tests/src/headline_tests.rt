@@ -1,6 +1,6 @@
 //! The headline over a port's own list: the port sends from a thread of its own and comes back, and
 //! what it had accepted is what both networks were handed.
-ghost use Rattle.std.specs.Prelude.{◌≡◌, ℕ, ◌∷◌, [], IfOk, IfSome};
+ghost use Rattle.std.specs.Prelude.{◌≡◌, ℕ, ◌∷◌, [], IfSome};
 ghost use Rattle.afdx_plan.specs.Demo.{demo_plan};
 ghost use Rattle.redundant_mux.specs.Lines.{log};
 ghost use Rattle.afdx_legal.specs.Allowed.{AreOwn};
@@ -11,22 +11,17 @@ ghost use Rattle.afdx_tx.specs.Emitter.{queues_in, total_in};
 ghost use Rattle.afdx_tx.specs.Ports.{Accepts, IsPortOfTx};
 ghost use Rattle.afdx_tests.specs.Headline.{IsUnused, SentTwo, two_messages};
 
-use afdx_plan::demo_config;
-use afdx_tx::{Draining, Emitter, TxPort, open_tx};
+use crate::testing::{Drain, Sending, gather, open_demo_standing};
+use afdx_tx::TxPort;
 use redundant_mux::MemNetwork;
 use std::alloc::Global;
 use std::process::Abort;
 use std::snapshot::Snapshot;
-use std::test::Fail;
 use std::thread;
 use std::thread::{Promise, Threads};
 
 // The gap of the link, in microseconds.
 const GAP: u64 = 1_000;
-
-pub(crate) type Tx = Emitter<MemNetwork, MemNetwork>;
-
-pub(crate) type Drain = Draining<MemNetwork, MemNetwork>;
 
 // The port that comes back, if it does, is the one that was given after it sent two messages.
 #[derive(Drop)]
@@ -39,26 +34,6 @@ impl Promise<Option<TxPort>> for SendsTwo {
     ghost use Rattle.afdx_tests.specs.Headline.{SentTwo};
 
     ghost kept_by = { λ p r. IfSome r (SentTwo p.of.value) };
-}
-
-// The demonstration configuration over two networks, and its one port.
-fn open_unused(alloc: Global) -> Result<(Tx, TxPort), Fail>
-    ensures plan { IfOk result (λ opened. opened.0.plan ≡ demo_plan) }
-    ensures port { IfOk result (λ opened. IsUnused opened.0 opened.1) }
-{
-    let config = demo_config(alloc)?;
-    match open_tx(
-        alloc,
-        config,
-        MemNetwork::new(alloc),
-        MemNetwork::new(alloc),
-    ) {
-        Ok((tx, mut ports, _monitor)) => match ports.pop() {
-            Some(port) => Ok((tx, port)),
-            None => Err(Fail::from("no port")),
-        },
-        Err(_) => Err(Fail::from("no memory")),
-    }
 }
 
 // Sends a message of one byte.
@@ -79,7 +54,7 @@ fn send_two(alloc: Global, mut port: TxPort) -> Option<TxPort>
 }
 
 // Polls a few times, a gap apart, while the port sends.
-pub(crate) fn poll_meanwhile<R: Abort>(rt: &R, tx: &mut Tx)
+pub(crate) fn poll_meanwhile<R: Abort>(rt: &R, tx: &mut Sending)
     ensures plan { tx.new.plan ≡ tx.old.plan }
     ensures queues { queues_in tx.new.links ≡ queues_in tx.old.links }
     ensures totals { (k s : ℕ) → total_in tx.new.links k s ≡ total_in tx.old.links k s }
@@ -95,71 +70,65 @@ pub(crate) fn poll_meanwhile<R: Abort>(rt: &R, tx: &mut Tx)
 fn send_beside<R: Threads + Abort + Copy + Send + 'static>(
     rt: R,
     alloc: Global,
-    tx: &mut Tx,
+    tx: &mut Sending,
     port: TxPort,
-) -> Result<TxPort, Fail>
-    ensures plan { IfOk result (λ _. tx.new.plan ≡ tx.old.plan) }
-    ensures queues { IfOk result (λ _. queues_in tx.new.links ≡ queues_in tx.old.links) }
-    ensures port { IfOk result (SentTwo port) }
+) -> TxPort
+    ensures plan { tx.new.plan ≡ tx.old.plan }
+    ensures queues { queues_in tx.new.links ≡ queues_in tx.old.links }
+    ensures port { SentTwo port result }
 {
     let promise = SendsTwo {
         of: Snapshot::of(&port),
     };
-    let worker = thread::spawn_with(&rt, promise, move || send_two(alloc, port))?;
+    let worker = thread::spawn_with(&rt, promise, move || send_two(alloc, port));
+    let worker = worker.expect(&rt, "a thread");
     poll_meanwhile(&rt, tx);
-    match worker.join(&rt) {
-        Some(back) => Ok(back),
-        None => Err(Fail::from("both messages have room")),
-    }
+    let back = worker.join(&rt);
+    back.expect(&rt, "both messages have room")
 }
 
 // Gathers the one port. What was accepted of it is its own list.
-pub(crate) fn gather_one(alloc: Global, tx: Tx, port: TxPort) -> Result<Drain, Fail>
+pub(crate) fn gather_one<R: Abort>(rt: &R, alloc: Global, tx: Sending, port: TxPort) -> Drain
     requires { IsPortOfTx tx port }
-    ensures plan { IfOk result (λ draining. draining.plan ≡ tx.plan) }
-    ensures own { IfOk result (λ draining. AreOwn draining.plan
-        (accepted_in draining.links) (λ place. port.sender.own)) }
+    ensures plan { result.plan ≡ tx.plan }
+    ensures own { AreOwn result.plan (accepted_in result.links) (λ place. port.sender.own) }
 {
-    let ports = Vec::from_array(alloc, [port])?;
-    match tx.gather(ports) {
-        Ok(draining) => Ok(draining),
-        Err(_) => Err(Fail::from("the port is there")),
-    }
+    let ports = Vec::from_array(alloc, [port]).expect(rt, "memory");
+    gather(rt, tx, ports)
 }
 
 // Polls, a gap apart, until all was released.
-fn drain_whole<R: Abort>(rt: &R, mut draining: Drain) -> Result<Drain, Fail>
-    ensures plan { IfOk result (λ drained. drained.plan ≡ draining.plan) }
-    ensures accepted { IfOk result (λ drained.
-        accepted_in drained.links ≡ accepted_in draining.links) }
-    ensures done { IfOk result (λ drained. IsAllDone drained.plan
-        (accepted_in drained.links) (log drained.lines)) }
-    ensures streams { IfOk result (λ drained. AreOwnStreams drained.plan
-        (log drained.lines) drained.lines.a drained.lines.b) }
+fn drain_whole<R: Abort>(rt: &R, draining: &mut Drain)
+    ensures plan { draining.new.plan ≡ draining.old.plan }
+    ensures accepted { accepted_in draining.new.links ≡ accepted_in draining.old.links }
+    ensures done { IsAllDone draining.new.plan
+        (accepted_in draining.new.links) (log draining.new.lines) }
+    ensures streams { AreOwnStreams draining.new.plan
+        (log draining.new.lines) draining.new.lines.a draining.new.lines.b }
 {
     for _turn in 0..3 {
         if draining.is_done() {
-            return Ok(draining);
+            return;
         }
         let now = draining.now().saturating_add(GAP);
         draining.poll(now).expect(rt, "both networks stand");
     }
-    Err(Fail::from("two polls send two frames"))
+    panic!(rt; "two polls send two frames")
 }
 
 // The two networks once all that the port had accepted from its thread was handed to them.
 fn hand_whole<R: Threads + Abort + Copy + Send + 'static>(
     rt: R,
     alloc: Global,
-) -> Result<(MemNetwork, MemNetwork), Fail>
-    ensures { IfOk result (λ networks. IsHandedWhole demo_plan (λ place. two_messages)
-        networks.0.handed networks.1.handed) }
+) -> (MemNetwork, MemNetwork)
+    ensures { IsHandedWhole demo_plan (λ place. two_messages) result.0.handed result.1.handed }
 {
-    let (mut tx, port) = open_unused(alloc)?;
-    let port = send_beside(rt, alloc, &mut tx, port)?;
-    let draining = gather_one(alloc, tx, port)?;
-    let draining = drain_whole(&rt, draining)?;
-    Ok(draining.into_networks())
+    let mut opened = open_demo_standing(&rt, alloc);
+    let port = opened.port;
+    let port = send_beside(rt, alloc, &mut opened.tx, port);
+    let mut draining = gather_one(&rt, alloc, opened.tx, port);
+    drain_whole(&rt, &mut draining);
+    draining.into_networks()
 }
 
 // A network was handed two frames, of the two messages in their order.
@@ -171,11 +140,8 @@ fn check_two(rt: &impl Abort, network: &MemNetwork) {
 }
 
 #[test]
-fn a_port_sends_from_its_thread_and_its_own_list_is_handed_over(
-    rt: HostRuntime,
-) -> Result<(), Fail> {
-    let (a, b) = hand_whole(rt, rt.alloc())?;
+fn a_port_sends_from_its_thread_and_its_own_list_is_handed_over(rt: HostRuntime) {
+    let (a, b) = hand_whole(rt, rt.alloc());
     check_two(&rt, &a);
     check_two(&rt, &b);
-    Ok(())
 }

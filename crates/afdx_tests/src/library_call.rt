@@ -1,6 +1,7 @@
 //! The call of the library that README.md shows.
+use crate::testing::Sending;
 use afdx_plan::demo_config;
-use afdx_tx::open_tx;
+use afdx_tx::{Report, open_tx};
 use redundant_mux::MemNetwork;
 use std::process::Abort;
 use std::test::Fail;
@@ -10,6 +11,18 @@ fn assert_hello(rt: &impl Abort, network: &MemNetwork) {
     let handed = network.handed();
     assert_eq!(rt; handed.len(), 1);
     assert_eq!(rt; handed[0].frame.get(42..47), Some(b"hello".as_slice()));
+}
+
+// Asserts that nothing was polled yet.
+fn assert_at_start(rt: &impl Abort, emitter: &Sending) {
+    assert_eq!(rt; emitter.now(), 0);
+}
+
+// Asserts that one frame was released, and that each network was handed it.
+fn assert_sent(rt: &impl Abort, report: &Report, a: &MemNetwork, b: &MemNetwork) {
+    assert_eq!(rt; report.released.len(), 1);
+    assert_hello(rt, a);
+    assert_hello(rt, b);
 }
 
 #[test]
@@ -23,13 +36,11 @@ fn one_message_from_its_port_to_both_networks(rt: HostRuntime) -> Result<(), Fai
         let message = b"hello".as_slice().to_vec(alloc)?;
         assert!(rt; port.send(message).is_ok());
     }
-    assert_eq!(rt; emitter.now(), 0);
+    assert_at_start(&rt, &emitter);
     let report = emitter.poll(0)?;
     emitter.publish(&rt);
     assert_eq!(rt; monitor.read(&rt, 0).frames, 1);
     let (a, b) = emitter.into_networks();
-    assert_eq!(rt; report.released.len(), 1);
-    assert_hello(&rt, &a);
-    assert_hello(&rt, &b);
+    assert_sent(&rt, &report, &a, &b);
     Ok(())
 }

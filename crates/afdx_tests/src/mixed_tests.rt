@@ -1,22 +1,19 @@
 //! Tests of links of which some are on both networks and some on one, against lists.
 use crate::list_model::{ListLink, ListNetwork, ListSystem, Seen};
-use crate::testing::{open, poll_at, send_taken};
+use crate::testing::{Sending, open, poll_at, send_taken};
 use afdx_config::read_config;
 use afdx_frame::{sn_of, vl_of};
 use afdx_plan::{Config, Networks, VlId};
-use afdx_tx::{Emitter, PollFault, Release, Report, TxPort};
+use afdx_tx::{PollFault, Release, Report, TxPort};
 use redundant_mux::{Handed, MemNetwork, Standing};
 use std::alloc::{AllocError, Global};
 use std::process::Abort;
-use std::test::Fail;
 
 // The gap of the links, in microseconds.
 const GAP: u64 = 1_000;
 
 // How often each run is polled: once more than any link has messages.
 const POLLS: u8 = 6;
-
-type Tx = Emitter<MemNetwork, MemNetwork>;
 
 // The name of these networks in a configuration.
 fn name_of(networks: Networks) -> &'static str {
@@ -57,9 +54,9 @@ fn config_text(alloc: Global, links: &[ListLink]) -> Result<String, AllocError> 
 }
 
 /// The plan of that text.
-pub(crate) fn config_of(alloc: Global, links: &[ListLink]) -> Result<Config, Fail> {
-    let text = config_text(alloc, links)?;
-    read_config(alloc, text.as_bytes()).map_err(|_| Fail::from("a valid plan"))
+pub(crate) fn config_of<R: Abort>(rt: &R, alloc: Global, links: &[ListLink]) -> Config {
+    let text = config_text(alloc, links).expect(rt, "memory");
+    read_config(alloc, text.as_bytes()).expect(rt, "a valid plan")
 }
 
 // Each port sends as many messages of one byte as its link is to have.
@@ -109,7 +106,7 @@ fn assert_list(rt: &impl Abort, network: &MemNetwork, list: &ListNetwork) {
 }
 
 // The emitter shows the networks as the lists have them, and the counts of each link.
-fn assert_shown(rt: &impl Abort, tx: &Tx, lists: &ListSystem) {
+fn assert_shown(rt: &impl Abort, tx: &Sending, lists: &ListSystem) {
     assert_list(rt, tx.network_a(), &lists.a);
     assert_list(rt, tx.network_b(), &lists.b);
     for link in &lists.links {
@@ -119,16 +116,11 @@ fn assert_shown(rt: &impl Abort, tx: &Tx, lists: &ListSystem) {
 }
 
 // Polls a gap apart.
-fn poll_all<R: Abort>(
-    rt: &R,
-    alloc: Global,
-    tx: &mut Tx,
-    lists: &mut ListSystem,
-) -> Result<(), AllocError> {
+fn poll_all<R: Abort>(rt: &R, alloc: Global, tx: &mut Sending, lists: &mut ListSystem) {
     for turn in 0..POLLS {
         let now = GAP * u64::from(turn);
         let answer = poll_at(rt, tx, now);
-        let wanted = lists.poll(alloc, now)?;
+        let wanted = lists.poll(alloc, now).expect(rt, "memory");
         let standing = Standing {
             a: lists.a.stands,
             b: lists.b.stands,
@@ -136,27 +128,25 @@ fn poll_all<R: Abort>(
         assert_same(rt, answer, wanted, standing);
         assert_shown(rt, tx, lists);
     }
-    Ok(())
 }
 
 // A run over these links, where A fails at hand `k` and B at hand `m`, counted from 1.
-fn run<R: Abort>(rt: &R, alloc: Global, links: Vec<ListLink>, k: u8, m: u8) -> Result<(), Fail> {
-    let config = config_of(alloc, links.as_slice())?;
+fn run<R: Abort>(rt: &R, alloc: Global, links: Vec<ListLink>, k: u8, m: u8) {
+    let config = config_of(rt, alloc, links.as_slice());
     let a = MemNetwork::failing_at(alloc, u64::from(k));
     let b = MemNetwork::failing_at(alloc, u64::from(m));
-    let (mut tx, mut ports) = open(alloc, config, a, b)?;
-    send_each(rt, alloc, &mut ports, links.as_slice());
+    let mut opened = open(rt, alloc, config, a, b);
+    send_each(rt, alloc, &mut opened.ports, links.as_slice());
     let mut lists = ListSystem {
         links,
         a: ListNetwork::new(alloc, k),
         b: ListNetwork::new(alloc, m),
     };
-    poll_all(rt, alloc, &mut tx, &mut lists)?;
-    assert_shown(rt, &tx, &lists);
-    let (a, b) = tx.into_networks();
+    poll_all(rt, alloc, &mut opened.tx, &mut lists);
+    assert_shown(rt, &opened.tx, &lists);
+    let (a, b) = opened.tx.into_networks();
     assert_list(rt, &a, &lists.a);
     assert_list(rt, &b, &lists.b);
-    Ok(())
 }
 
 /// A link with so many messages.
@@ -171,18 +161,19 @@ pub(crate) fn link(vl: u16, networks: Networks, left: u8) -> ListLink {
 
 // Three links: on A, on B and on both. Each network is to take at most six frames.
 #[test]
-fn links_on_a_on_b_and_on_both_whenever_both_networks_fail(rt: HostRuntime) -> Result<(), Fail> {
+fn links_on_a_on_b_and_on_both_whenever_both_networks_fail(rt: HostRuntime) {
     let alloc = rt.alloc();
     for k in 1..=7u8 {
         for m in 1..=7u8 {
-            let mut links = Vec::new(alloc);
-            links.push(link(1, Networks::OnlyA, 3))?;
-            links.push(link(2, Networks::OnlyB, 3))?;
-            links.push(link(3, Networks::Both, 3))?;
-            run(&rt, alloc, links, k, m)?;
+            let links = [
+                link(1, Networks::OnlyA, 3),
+                link(2, Networks::OnlyB, 3),
+                link(3, Networks::Both, 3),
+            ];
+            let links = Vec::from_array(alloc, links).expect(&rt, "memory");
+            run(&rt, alloc, links, k, m);
         }
     }
-    Ok(())
 }
 
 // The next number of a run that looks random (xorshift, 64 bits).
@@ -225,18 +216,17 @@ fn some_links(alloc: Global, seed: u64) -> Result<Vec<ListLink>, AllocError> {
 }
 
 #[test]
-fn plans_that_look_random_are_as_lists_say(rt: HostRuntime) -> Result<(), Fail> {
+fn plans_that_look_random_are_as_lists_say(rt: HostRuntime) {
     let mut state = 0x2545_f491_4f6c_dd1du64;
     for _plan in 0..150 {
         state = shuffled(state);
-        let links = some_links(rt.alloc(), state)?;
+        let links = some_links(rt.alloc(), state).expect(&rt, "memory");
         run(
             &rt,
             rt.alloc(),
             links,
             up_to_12(state / 4_096),
             up_to_12(state / 65_536),
-        )?;
+        );
     }
-    Ok(())
 }

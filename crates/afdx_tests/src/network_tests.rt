@@ -1,19 +1,20 @@
 //! Tests of networks that fail.
-ghost use Rattle.std.specs.Prelude.{◌≡◌, ◌<◌, ◌≤◌, [], length, map, IfOk};
+ghost use Rattle.std.specs.Prelude.{◌≡◌, ◌<◌, ◌≤◌, [], length, map};
 ghost use Rattle.arrayvec.specs.ArrayVec.{array_vec_len};
 ghost use Rattle.redundant_mux.specs.Entry.{entry};
 
-use crate::testing::{assert_handed, assert_poll, numbered, open_one, poll_at, send_taken};
+use crate::testing::{
+    Opened, assert_both_handed, assert_handed, assert_poll, numbered, open, poll_at, send_taken,
+};
 use afdx_config::read_config;
 use afdx_frame::Frame;
 use afdx_plan::Config;
-use afdx_tx::{Emitter, PollFault, Report, TxPort};
+use afdx_tx::{PollFault, Report, TxPort};
 use arrayvec::ArrayVec;
 use redundant_mux::{HandFault, MemNetwork, Network, Standing};
 use std::alloc::Global;
 use std::default::Default;
 use std::process::Abort;
-use std::test::Fail;
 
 // One link with room for six messages, and one port.
 const SIX: &str = "[end_system]\nid = 1\n\
@@ -22,8 +23,8 @@ const SIX: &str = "[end_system]\nid = 1\n\
                    source = 1000\ndestination = 2000\nmax = 8192\n";
 
 /// The plan of that text.
-pub(crate) fn six(alloc: Global) -> Result<Config, Fail> {
-    read_config(alloc, SIX.as_bytes()).map_err(|_| Fail::from("a valid plan"))
+pub(crate) fn six<R: Abort>(rt: &R, alloc: Global) -> Config {
+    read_config(alloc, SIX.as_bytes()).expect(rt, "a valid plan")
 }
 
 /// Sends six messages of one byte, which are taken.
@@ -33,18 +34,23 @@ pub(crate) fn send_six<R: Abort>(rt: &R, alloc: Global, port: &mut TxPort) {
     }
 }
 
-/// The emitter of one link and its port, over two networks that were handed nothing.
-fn open_six<A: Network + Drop, B: Network + Drop>(
+/// The emitter of one link, whose port sends six messages, over two networks that were handed nothing.
+fn open_six<R: Abort, A: Network + Drop, B: Network + Drop>(
+    rt: &R,
     alloc: Global,
     a: A,
     b: B,
-) -> Result<(Emitter<A, B>, TxPort), Fail>
+) -> Opened<A, B>
     requires a_empty { A.handed a ≡ [] }
     requires b_empty { B.handed b ≡ [] }
     requires a_new { A.failures a ≡ 0 }
     requires b_new { B.failures b ≡ 0 }
 {
-    open_one(alloc, six(alloc)?, a, b)
+    let mut opened = open(rt, alloc, six(rt, alloc), a, b);
+    for port in opened.ports.iter_mut() {
+        send_six(rt, alloc, port);
+    }
+    opened
 }
 
 /// Asserts what the poll with this number, counted from 1, answers where A fails at hand `k` and B at
@@ -68,34 +74,27 @@ fn assert_answer(rt: &impl Abort, turn: u8, k: u8, m: u8, answer: Result<Report,
 }
 
 /// A run of six polls where A fails at hand `k` and B at hand `m`.
-fn run_failing<R: Abort>(rt: &R, alloc: Global, k: u8, m: u8) -> Result<(), Fail>
+fn run_failing<R: Abort>(rt: &R, alloc: Global, k: u8, m: u8)
     requires { (1 ≤ k) × (1 ≤ m) }
 {
     let a = MemNetwork::failing_at(alloc, u64::from(k));
     let b = MemNetwork::failing_at(alloc, u64::from(m));
-    let (mut tx, mut port) = open_six(alloc, a, b)?;
-    send_six(rt, alloc, &mut port);
+    let mut opened = open_six(rt, alloc, a, b);
     for turn in 1..=6u8 {
-        let answer = poll_at(rt, &mut tx, 1_000 * u64::from(turn - 1));
+        let answer = poll_at(rt, &mut opened.tx, 1_000 * u64::from(turn - 1));
         assert_answer(rt, turn, k, m, answer);
     }
-    assert_eq!(rt; tx.now(), 1_000 * u64::from(k.max(m).min(6) - 1));
-    let (a, b) = tx.into_networks();
-    assert_handed(rt, &a, k - 1);
-    assert_handed(rt, &b, m - 1);
-    Ok(())
+    assert_eq!(rt; opened.tx.now(), 1_000 * u64::from(k.max(m).min(6) - 1));
+    assert_both_handed(rt, opened.tx, k - 1, m - 1);
 }
 
 #[test]
-fn each_network_keeps_the_frames_before_its_failure_whenever_both_fail(
-    rt: HostRuntime,
-) -> Result<(), Fail> {
+fn each_network_keeps_the_frames_before_its_failure_whenever_both_fail(rt: HostRuntime) {
     for k in 1..=7 {
         for m in 1..=7 {
-            run_failing(&rt, rt.alloc(), k, m)?;
+            run_failing(&rt, rt.alloc(), k, m);
         }
     }
-    Ok(())
 }
 
 /// A frame that was handed over, and its moment in microseconds.
@@ -162,22 +161,18 @@ fn assert_full(rt: &impl Abort, shelf: &Shelf) {
 }
 
 #[test]
-fn a_network_without_memory_fails_where_it_is_full_and_the_other_goes_on(
-    rt: HostRuntime,
-) -> Result<(), Fail> {
+fn a_network_without_memory_fails_where_it_is_full_and_the_other_goes_on(rt: HostRuntime) {
     let alloc = rt.alloc();
-    let (mut tx, mut port) = open_six(alloc, empty_shelf(), MemNetwork::new(alloc))?;
-    send_six(&rt, alloc, &mut port);
+    let mut opened = open_six(&rt, alloc, empty_shelf(), MemNetwork::new(alloc));
     for number in 0..6u8 {
         let standing = Standing {
             a: number < 2,
             b: true,
         };
         let now = 1_000 * u64::from(number);
-        assert_poll(&rt, &mut tx, now, &[numbered(number)], standing);
+        assert_poll(&rt, &mut opened.tx, now, &[numbered(number)], standing);
     }
-    let (a, b) = tx.into_networks();
+    let (a, b) = opened.tx.into_networks();
     assert_full(&rt, &a);
     assert_handed(&rt, &b, 6);
-    Ok(())
 }

@@ -1,16 +1,14 @@
 //! Tests of a port that is in its pause while others send.
-ghost use Rattle.std.specs.Prelude.{IfOk};
-
 use crate::testing::{
-    TWO_SUB_VLS, assert_closed, assert_none, assert_one, assert_refused, open_standing, send_taken,
+    OpenedTwo, Sending, TWO_SUB_VLS, assert_closed, assert_none, assert_one, assert_refused,
+    open_two, send_taken,
 };
 use afdx_config::read_config;
 use afdx_plan::VlId;
-use afdx_tx::{Emitter, Refusal, Release, TxPort};
+use afdx_tx::{Refusal, Release, TxPort};
 use redundant_mux::MemNetwork;
 use std::alloc::{AllocError, Global};
 use std::process::Abort;
-use std::test::Fail;
 use std::thread;
 use std::thread::{JoinHandle, Threads};
 use subvl_queue::{Receiver, Sender, make};
@@ -18,15 +16,16 @@ use subvl_queue::{Receiver, Sender, make};
 // How often a thread looks for what another sends.
 const TURNS: u64 = 100_000_000;
 
-type Tx = Emitter<MemNetwork, MemNetwork>;
-
 // The emitter of that plan, and its ports on sub-VL 0 and sub-VL 1.
-fn open_apart(alloc: Global) -> Result<(Tx, TxPort, TxPort), Fail> {
-    let (tx, mut ports) = open_standing(alloc, read_config(alloc, TWO_SUB_VLS.as_bytes())?)?;
-    match (ports.pop(), ports.pop()) {
-        (Some(second), Some(first)) => Ok((tx, first, second)),
-        _ => Err(Fail::from("two ports")),
-    }
+fn open_apart<R: Abort>(rt: &R, alloc: Global) -> OpenedTwo {
+    let config = read_config(alloc, TWO_SUB_VLS.as_bytes()).expect(rt, "a valid plan");
+    open_two(
+        rt,
+        alloc,
+        config,
+        MemNetwork::new(alloc),
+        MemNetwork::new(alloc),
+    )
 }
 
 // The release of a sub-VL of link 1 with this number.
@@ -42,60 +41,57 @@ fn release(sub: u8, number: u8) -> Release {
 fn send_around<R: Abort>(
     rt: &R,
     alloc: Global,
-    tx: &mut Tx,
+    tx: &mut Sending,
     first: &mut TxPort,
     second: &mut TxPort,
-) -> Result<(), AllocError> {
-    let bytes = vec![in alloc; 1u8]?;
+) {
+    let bytes = vec![in alloc; 1u8].expect(rt, "memory");
     let sent = first.send_with(bytes, || {
         send_taken(rt, alloc, second, &[2]);
         assert_one(rt, tx, 0, release(1, 0));
     });
     assert!(rt; sent.is_ok());
-    Ok(())
 }
 
 #[test]
-fn another_sub_vl_releases_in_the_pause_of_a_port(rt: HostRuntime) -> Result<(), Fail> {
+fn another_sub_vl_releases_in_the_pause_of_a_port(rt: HostRuntime) {
     let alloc = rt.alloc();
-    let (mut tx, mut first, mut second) = open_apart(alloc)?;
-    send_around(&rt, alloc, &mut tx, &mut first, &mut second)?;
-    assert_one(&rt, &mut tx, 1_000, release(0, 1));
-    Ok(())
+    let mut opened = open_apart(&rt, alloc);
+    send_around(
+        &rt,
+        alloc,
+        &mut opened.tx,
+        &mut opened.first,
+        &mut opened.second,
+    );
+    assert_one(&rt, &mut opened.tx, 1_000, release(0, 1));
 }
 
 // A port sends, and in its pause its sub-VL is closed. The close counts the message.
-fn close_in_the_pause<R: Abort>(
-    rt: &R,
-    alloc: Global,
-    tx: &mut Tx,
-    port: &mut TxPort,
-) -> Result<(), AllocError> {
-    let bytes = vec![in alloc; 1u8]?;
+fn close_in_the_pause<R: Abort>(rt: &R, alloc: Global, tx: &mut Sending, port: &mut TxPort) {
+    let bytes = vec![in alloc; 1u8].expect(rt, "memory");
     let mut told = None;
     let sent = port.send_with(bytes, || told = tx.close(VlId(1), 0).ok());
     assert!(rt; sent.is_ok());
     assert_eq!(rt; told, Some(1));
-    Ok(())
 }
 
 // The message of the closed sub-VL goes out, and one of the other sub-VL, which is open.
-fn send_both<R: Abort>(rt: &R, alloc: Global, tx: &mut Tx, second: &mut TxPort) {
+fn send_both<R: Abort>(rt: &R, alloc: Global, tx: &mut Sending, second: &mut TxPort) {
     send_taken(rt, alloc, second, &[2]);
     assert_one(rt, tx, 0, release(0, 0));
     assert_one(rt, tx, 1_000, release(1, 1));
 }
 
 #[test]
-fn a_close_in_the_pause_of_a_port_counts_its_message(rt: HostRuntime) -> Result<(), Fail> {
+fn a_close_in_the_pause_of_a_port_counts_its_message(rt: HostRuntime) {
     let alloc = rt.alloc();
-    let (mut tx, mut first, mut second) = open_apart(alloc)?;
-    close_in_the_pause(&rt, alloc, &mut tx, &mut first)?;
-    assert_refused(&rt, alloc, &mut first, &[3], Refusal::Closed);
-    assert_closed(&rt, &mut tx, 1, 0, Ok(1));
-    send_both(&rt, alloc, &mut tx, &mut second);
-    assert_closed(&rt, &mut tx, 1, 1, Ok(1));
-    Ok(())
+    let mut opened = open_apart(&rt, alloc);
+    close_in_the_pause(&rt, alloc, &mut opened.tx, &mut opened.first);
+    assert_refused(&rt, alloc, &mut opened.first, &[3], Refusal::Closed);
+    assert_closed(&rt, &mut opened.tx, 1, 0, Ok(1));
+    send_both(&rt, alloc, &mut opened.tx, &mut opened.second);
+    assert_closed(&rt, &mut opened.tx, 1, 1, Ok(1));
 }
 
 // One end says a word, once, and the other hears it.
@@ -139,39 +135,38 @@ fn send_held(alloc: Global, mut port: TxPort, mut here: Sender, mut go: Receiver
     }
 }
 
-// A port that is held in its pause, in a thread of its own, and what lets it go on.
-fn hold<R: Threads + Abort>(
-    rt: &R,
-    alloc: Global,
-    port: TxPort,
-) -> Result<(JoinHandle<bool>, Sender), Fail> {
-    let (mut here, says_here) = word(alloc)?;
-    let (go, says_go) = word(alloc)?;
-    let worker = thread::spawn(rt, move || send_held(alloc, port, says_here, go))?;
+/// A port that is held in its pause, in a thread of its own, and what lets it go on.
+#[derive(Drop)]
+struct Held {
+    worker: JoinHandle<bool>,
+    go: Sender,
+}
+
+// Holds a port in its pause.
+fn hold<R: Threads + Abort>(rt: &R, alloc: Global, port: TxPort) -> Held {
+    let (mut here, says_here) = word(alloc).expect(rt, "memory");
+    let (hears_go, go) = word(alloc).expect(rt, "memory");
+    let worker = thread::spawn(rt, move || send_held(alloc, port, says_here, hears_go));
+    let worker = worker.expect(rt, "a thread");
     assert!(rt; hear(&mut here));
-    Ok((worker, says_go))
+    Held { worker, go }
 }
 
 // The second sub-VL releases what its port sends, and the first, whose port is held, does not.
-fn release_second<R: Abort>(rt: &R, alloc: Global, tx: &mut Tx, second: &mut TxPort) {
+fn release_second<R: Abort>(rt: &R, alloc: Global, tx: &mut Sending, second: &mut TxPort) {
     send_taken(rt, alloc, second, &[2]);
     assert_one(rt, tx, 0, release(1, 0));
     assert_none(rt, tx, 1_000);
 }
 
-// While the port of one sub-VL is held in its pause, in a thread of its own, the other sub-VL releases,
-// and the first does not. Then the first releases.
-fn hold_one_of_two<R: Threads + Abort>(rt: &R, alloc: Global) -> Result<(), Fail> {
-    let (mut tx, first, mut second) = open_apart(alloc)?;
-    let (worker, mut says_go) = hold(rt, alloc, first)?;
-    release_second(rt, alloc, &mut tx, &mut second);
-    assert!(rt; say(alloc, &mut says_go));
-    assert!(rt; worker.join(rt));
-    assert_one(rt, &mut tx, 1_000, release(0, 1));
-    Ok(())
-}
-
 #[test]
-fn a_port_held_in_its_pause_holds_back_its_own_sub_vl_alone(rt: HostRuntime) -> Result<(), Fail> {
-    hold_one_of_two(&rt, rt.alloc())
+fn a_port_held_in_its_pause_holds_back_its_own_sub_vl_alone(rt: HostRuntime) {
+    // the other sub-VL releases meanwhile, and the first once its port may go on
+    let alloc = rt.alloc();
+    let mut opened = open_apart(&rt, alloc);
+    let mut held = hold(&rt, alloc, opened.first);
+    release_second(&rt, alloc, &mut opened.tx, &mut opened.second);
+    assert!(rt; say(alloc, &mut held.go));
+    assert!(rt; held.worker.join(&rt));
+    assert_one(&rt, &mut opened.tx, 1_000, release(0, 1));
 }

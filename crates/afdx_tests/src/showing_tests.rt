@@ -1,24 +1,23 @@
 //! Tests of what an emitter and a drain show of their networks and links, against what a monitor reads.
-ghost use Rattle.std.specs.Prelude.{◌≡◌, ◌≤◌, IfOk};
+ghost use Rattle.std.specs.Prelude.{◌≡◌, ◌≤◌};
 ghost use Rattle.afdx_tx.specs.Emitter.{Tx};
 ghost use Rattle.afdx_tx.specs.Ports.{IsPortOfTx};
 ghost use Rattle.status_board.specs.Views.{links_of};
 
 use crate::headline_tests::gather_one;
 use crate::mixed_tests::{config_of, link};
-use crate::port_tests::{gather_pair, take_two};
 use crate::testing::{
-    BOTH, assert_drained, assert_handed, assert_one, assert_poll, drain_at, numbered, open_demo,
-    open_demo_standing, poll_at, send_taken,
+    BOTH, Drain, Gathered, OpenedTwo, Sending, assert_counts, assert_drained, assert_handed,
+    assert_one, assert_poll, drain_at, gather_two, numbered, open_demo, open_demo_standing,
+    open_two, poll_at, send_taken,
 };
 use afdx_plan::{Networks, VlId};
-use afdx_tx::{Draining, Emitter, TxPort, open_tx};
+use afdx_tx::TxPort;
 use redundant_mux::{MemNetwork, Standing};
 use status_board::{Counts, Monitor};
 use std::alloc::Global;
 use std::process::Abort;
 use std::sync::Wait;
-use std::test::Fail;
 
 // The gap of the links, in microseconds.
 const GAP: u64 = 1_000;
@@ -27,19 +26,6 @@ const NETWORKS: [Networks; 3] = [Networks::Both, Networks::OnlyA, Networks::Only
 
 // The hand at which a network fails: its first, one in between, or none of those that come.
 const FAILING: [u64; 3] = [1, 3, 9];
-
-type Sending = Emitter<MemNetwork, MemNetwork>;
-
-type Drain = Draining<MemNetwork, MemNetwork>;
-
-/// What is opened: the emitter of links 1 and 2, their ports, and its monitor.
-#[derive(Drop)]
-struct Watched {
-    tx: Sending,
-    first: TxPort,
-    second: TxPort,
-    monitor: Monitor,
-}
 
 /// Which networks carry links 1 and 2, and at which hand, counted from 1, each network fails.
 #[derive(Clone, Copy)]
@@ -51,34 +37,25 @@ struct Setting {
 }
 
 // Links 1 and 2, with a port on each.
-fn open_watched(alloc: Global, setting: Setting) -> Result<Watched, Fail>
-    ensures first { IfOk result (λ opened. IsPortOfTx opened.tx opened.first) }
-    ensures second { IfOk result (λ opened. IsPortOfTx opened.tx opened.second) }
-    ensures links { IfOk result (λ opened. 2 ≤ links_of opened.monitor) }
+fn open_watched<R: Abort>(rt: &R, alloc: Global, setting: Setting) -> OpenedTwo
+    ensures first { IsPortOfTx result.tx result.first }
+    ensures second { IsPortOfTx result.tx result.second }
+    ensures links { 2 ≤ links_of result.monitor }
 {
     let links = [link(1, setting.first, 0), link(2, setting.second, 0)];
-    let config = config_of(alloc, &links)?;
-    if config.links().len() < 2 {
-        return Err(Fail::from("two links"));
-    }
+    let config = config_of(rt, alloc, &links);
+    assert!(rt; 2 <= config.links().len());
     let a = MemNetwork::failing_at(alloc, setting.a_fails);
     let b = MemNetwork::failing_at(alloc, setting.b_fails);
-    match open_tx(alloc, config, a, b) {
-        Ok((tx, ports, monitor)) => {
-            let (first, second) = take_two(&tx, ports)?;
-            Ok(Watched {
-                tx,
-                first,
-                second,
-                monitor,
-            })
-        }
-        Err(_) => Err(Fail::from("no memory")),
-    }
+    open_two(rt, alloc, config, a, b)
 }
 
-// Asserts that these counts of links 1 and 2 are what is read of them.
-fn assert_read<R: Abort + Wait>(rt: &R, monitor: &mut Monitor, counts: [Option<Counts>; 2])
+/// Asserts that these counts of links 1 and 2 are what is read of them.
+pub(crate) fn assert_read<R: Abort + Wait>(
+    rt: &R,
+    monitor: &mut Monitor,
+    counts: [Option<Counts>; 2],
+)
     requires { 2 ≤ links_of monitor.old }
     ensures { links_of monitor.new ≡ links_of monitor.old }
 {
@@ -119,58 +96,41 @@ fn send_both<R: Abort>(rt: &R, alloc: Global, port: &mut TxPort)
 }
 
 // Polls of an emitter, a gap apart, one more than a link has frames.
-fn run_sending<R: Abort + Wait>(rt: &R, alloc: Global, setting: Setting) -> Result<(), Fail> {
-    let Watched {
-        mut tx,
-        mut first,
-        mut second,
-        mut monitor,
-    } = open_watched(alloc, setting)?;
-    send_both(rt, alloc, &mut first);
-    send_both(rt, alloc, &mut second);
+fn run_sending<R: Abort + Wait>(rt: &R, alloc: Global, setting: Setting) {
+    let mut opened = open_watched(rt, alloc, setting);
+    send_both(rt, alloc, &mut opened.first);
+    send_both(rt, alloc, &mut opened.second);
     for turn in 0..4u64 {
-        assert_turn(rt, &mut tx, &mut monitor, GAP * turn);
+        assert_turn(rt, &mut opened.tx, &mut opened.monitor, GAP * turn);
     }
-    Ok(())
 }
 
 // A drain of which one poll of the emitter came before.
-fn gather_watched<R: Abort>(
-    rt: &R,
-    alloc: Global,
-    setting: Setting,
-) -> Result<(Drain, Monitor), Fail>
-    ensures { IfOk result (λ watched. 2 ≤ links_of watched.1) }
+fn gather_watched<R: Abort>(rt: &R, alloc: Global, setting: Setting) -> Gathered
+    ensures { 2 ≤ links_of result.monitor }
 {
-    let Watched {
-        mut tx,
-        mut first,
-        mut second,
-        monitor,
-    } = open_watched(alloc, setting)?;
-    send_both(rt, alloc, &mut first);
-    send_both(rt, alloc, &mut second);
-    let _ = poll_at(rt, &mut tx, 0);
-    let draining = gather_pair(alloc, tx, first, second)?;
-    Ok((draining, monitor))
+    let mut opened = open_watched(rt, alloc, setting);
+    send_both(rt, alloc, &mut opened.first);
+    send_both(rt, alloc, &mut opened.second);
+    let _ = poll_at(rt, &mut opened.tx, 0);
+    gather_two(rt, alloc, opened)
 }
 
 // Polls of a drain, the first at the moment of the emitter's.
-fn run_drain<R: Abort + Wait>(rt: &R, alloc: Global, setting: Setting) -> Result<(), Fail> {
-    let (mut draining, mut monitor) = gather_watched(rt, alloc, setting)?;
+fn run_drain<R: Abort + Wait>(rt: &R, alloc: Global, setting: Setting) {
+    let mut gathered = gather_watched(rt, alloc, setting);
     for turn in 0..4u64 {
-        assert_drain(rt, &mut draining, &mut monitor, GAP * turn);
+        assert_drain(
+            rt,
+            &mut gathered.draining,
+            &mut gathered.monitor,
+            GAP * turn,
+        );
     }
-    Ok(())
 }
 
 // Both, whenever each network fails.
-fn run_failing<R: Abort + Wait>(
-    rt: &R,
-    alloc: Global,
-    first: Networks,
-    second: Networks,
-) -> Result<(), Fail> {
+fn run_failing<R: Abort + Wait>(rt: &R, alloc: Global, first: Networks, second: Networks) {
     for a_fails in FAILING {
         for b_fails in FAILING {
             let setting = Setting {
@@ -179,48 +139,45 @@ fn run_failing<R: Abort + Wait>(
                 a_fails,
                 b_fails,
             };
-            run_sending(rt, alloc, setting)?;
-            run_drain(rt, alloc, setting)?;
+            run_sending(rt, alloc, setting);
+            run_drain(rt, alloc, setting);
         }
     }
-    Ok(())
 }
 
 #[test]
-fn counts_are_what_is_read_over_links_on_a_on_b_and_on_both(rt: HostRuntime) -> Result<(), Fail> {
+fn counts_are_what_is_read_over_links_on_a_on_b_and_on_both(rt: HostRuntime) {
     for first in NETWORKS {
         for second in NETWORKS {
-            run_failing(&rt, rt.alloc(), first, second)?;
+            run_failing(&rt, rt.alloc(), first, second);
         }
     }
-    Ok(())
 }
 
 // 1,472 bytes are cut in two: frames of 14 + 20 + 1,472 + 1 bytes, and of 60, the least.
 #[test]
-fn counts_grow_with_each_frame_though_nothing_is_published(rt: HostRuntime) -> Result<(), Fail> {
-    let (mut tx, mut port) = open_demo_standing(rt.alloc())?;
-    send_taken(&rt, rt.alloc(), &mut port, &[0xaa; 1_472]);
-    assert_eq!(rt; tx.counts(VlId(1)), Some(Counts::ZERO));
-    assert_one(&rt, &mut tx, 0, numbered(0));
+fn counts_grow_with_each_frame_though_nothing_is_published(rt: HostRuntime) {
+    let mut opened = open_demo_standing(&rt, rt.alloc());
+    send_taken(&rt, rt.alloc(), &mut opened.port, &[0xaa; 1_472]);
+    assert_counts(&rt, &opened.tx, 1, Some(Counts::ZERO));
+    assert_one(&rt, &mut opened.tx, 0, numbered(0));
     let first = Counts {
         frames: 1,
         bytes: 1_507,
         messages: 0,
         last: 0,
     };
-    assert_eq!(rt; tx.counts(VlId(1)), Some(first));
-    assert_one(&rt, &mut tx, 1_000, numbered(1));
+    assert_counts(&rt, &opened.tx, 1, Some(first));
+    assert_one(&rt, &mut opened.tx, 1_000, numbered(1));
     let both = Counts {
         frames: 2,
         bytes: 1_567,
         messages: 1,
         last: 1_000,
     };
-    assert_eq!(rt; tx.counts(VlId(1)), Some(both));
-    assert_eq!(rt; tx.counts(VlId(0)), None);
-    assert_eq!(rt; tx.counts(VlId(2)), None);
-    Ok(())
+    assert_counts(&rt, &opened.tx, 1, Some(both));
+    assert_counts(&rt, &opened.tx, 0, None);
+    assert_counts(&rt, &opened.tx, 2, None);
 }
 
 // Asserts that a network shows the frames of so many polls, and how often it failed.
@@ -230,24 +187,22 @@ fn assert_network(rt: &impl Abort, network: &MemNetwork, many: u8, failures: u64
 }
 
 // Two messages, of which the first goes out before the port comes back. B is to fail at the second.
-fn gather_between<R: Abort>(rt: &R, alloc: Global) -> Result<Drain, Fail> {
+fn gather_between<R: Abort>(rt: &R, alloc: Global) -> Drain {
     let (a, b) = (MemNetwork::new(alloc), MemNetwork::failing_at(alloc, 2));
-    let (mut tx, mut port) = open_demo(alloc, a, b)?;
-    send_taken(rt, alloc, &mut port, &[1]);
-    send_taken(rt, alloc, &mut port, &[2]);
-    assert_network(rt, tx.network_a(), 0, 0);
-    assert_network(rt, tx.network_b(), 0, 0);
-    assert_poll(rt, &mut tx, 0, &[numbered(0)], BOTH);
-    assert_network(rt, tx.network_a(), 1, 0);
-    assert_network(rt, tx.network_b(), 1, 0);
-    gather_one(alloc, tx, port)
+    let mut opened = open_demo(rt, alloc, a, b);
+    send_taken(rt, alloc, &mut opened.port, &[1]);
+    send_taken(rt, alloc, &mut opened.port, &[2]);
+    assert_network(rt, opened.tx.network_a(), 0, 0);
+    assert_network(rt, opened.tx.network_b(), 0, 0);
+    assert_poll(rt, &mut opened.tx, 0, &[numbered(0)], BOTH);
+    assert_network(rt, opened.tx.network_a(), 1, 0);
+    assert_network(rt, opened.tx.network_b(), 1, 0);
+    gather_one(rt, alloc, opened.tx, opened.port)
 }
 
 #[test]
-fn networks_are_seen_while_ports_send_and_while_what_is_left_goes_out(
-    rt: HostRuntime,
-) -> Result<(), Fail> {
-    let mut draining = gather_between(&rt, rt.alloc())?;
+fn networks_are_seen_while_ports_send_and_while_what_is_left_goes_out(rt: HostRuntime) {
+    let mut draining = gather_between(&rt, rt.alloc());
     assert_network(&rt, draining.network_a(), 1, 0);
     assert_network(&rt, draining.network_b(), 1, 0);
     let only_a = Standing { a: true, b: false };
@@ -257,5 +212,4 @@ fn networks_are_seen_while_ports_send_and_while_what_is_left_goes_out(
     let (a, b) = draining.into_networks();
     assert_network(&rt, &a, 2, 0);
     assert_network(&rt, &b, 1, 1);
-    Ok(())
 }

@@ -1,14 +1,22 @@
 //! What tests of this crate do again and again.
-ghost use Rattle.std.specs.Prelude.{◌≡◌, [], IfOk};
+ghost use Rattle.std.specs.Prelude.{◌≡◌, ◌<◌, [], length};
+ghost use Rattle.afdx_plan.specs.Demo.{demo_plan};
 ghost use Rattle.afdx_tx.specs.Emitter.{Tx};
-ghost use Rattle.afdx_tx.specs.Ports.{PortView, IsPortOfTx, AreOpenedWith};
+ghost use Rattle.afdx_tx.specs.Gathering.{IsGatheredTx};
+ghost use Rattle.afdx_tx.specs.Ports.{PortView, IsPortOfTx, AreOpenedWith, AreFreshPorts};
+ghost use Rattle.status_board.specs.Views.{links_of};
+ghost use Rattle.afdx_tests.specs.Headline.{IsUnused};
 
 use afdx_plan::{Config, VlId, demo_config};
 use afdx_tx::{Draining, Emitter, NoSuchSub, PollFault, Refusal, Release, Report, TxPort, open_tx};
 use redundant_mux::{Handed, MemNetwork, Network, Standing};
+use status_board::{Counts, Monitor};
 use std::alloc::Global;
 use std::process::Abort;
-use std::test::Fail;
+
+pub(crate) type Sending = Emitter<MemNetwork, MemNetwork>;
+
+pub(crate) type Drain = Draining<MemNetwork, MemNetwork>;
 
 pub(crate) const BOTH: Standing = Standing { a: true, b: true };
 
@@ -47,35 +55,66 @@ destination = 2000
 max = 8192
 ";
 
-/// An emitter of a configuration over two networks that were handed nothing, and its ports.
-pub(crate) fn open<A: Network + Drop, B: Network + Drop>(
+/// What is opened: an emitter, its ports, and its monitor.
+#[derive(Drop)]
+pub(crate) struct Opened<A: Network + Drop, B: Network + Drop> {
+    pub(crate) tx: Emitter<A, B>,
+    pub(crate) ports: Vec<TxPort>,
+    pub(crate) monitor: Monitor,
+}
+
+/// The same of a configuration with one port.
+#[derive(Drop)]
+pub(crate) struct OpenedOne {
+    pub(crate) tx: Sending,
+    pub(crate) port: TxPort,
+    pub(crate) monitor: Monitor,
+}
+
+/// The same of a configuration with two ports.
+#[derive(Drop)]
+pub(crate) struct OpenedTwo {
+    pub(crate) tx: Sending,
+    pub(crate) first: TxPort,
+    pub(crate) second: TxPort,
+    pub(crate) monitor: Monitor,
+}
+
+/// Opens a configuration over two networks that were handed nothing.
+pub(crate) fn open<R: Abort, A: Network + Drop, B: Network + Drop>(
+    rt: &R,
     alloc: Global,
     config: Config,
     a: A,
     b: B,
-) -> Result<(Emitter<A, B>, Vec<TxPort>), Fail>
+) -> Opened<A, B>
     requires a_empty { A.handed a ≡ [] }
     requires b_empty { B.handed b ≡ [] }
     requires a_new { A.failures a ≡ 0 }
     requires b_new { B.failures b ≡ 0 }
-    ensures plan { IfOk result (λ opened. opened.0.plan ≡ config) }
-    ensures ports { IfOk result (λ opened. AreOpenedWith opened.0 opened.1.items) }
+    ensures plan { result.tx.plan ≡ config }
+    ensures fresh { AreFreshPorts result.tx result.ports.items }
+    ensures ports { AreOpenedWith result.tx result.ports.items }
+    ensures links { links_of result.monitor ≡ length config.links }
 {
     match open_tx(alloc, config, a, b) {
-        Ok((tx, ports, _monitor)) => Ok((tx, ports)),
-        Err(_) => Err(Fail::from("no memory")),
+        Ok((tx, ports, monitor)) => Opened { tx, ports, monitor },
+        Err(_) => panic!(rt; "no memory"),
     }
 }
 
-/// The same over two networks that don't fail.
-pub(crate) fn open_standing(
+/// Opens a configuration over two networks that don't fail.
+pub(crate) fn open_standing<R: Abort>(
+    rt: &R,
     alloc: Global,
     config: Config,
-) -> Result<(Emitter<MemNetwork, MemNetwork>, Vec<TxPort>), Fail>
-    ensures plan { IfOk result (λ opened. opened.0.plan ≡ config) }
-    ensures ports { IfOk result (λ opened. AreOpenedWith opened.0 opened.1.items) }
+) -> Opened<MemNetwork, MemNetwork>
+    ensures plan { result.tx.plan ≡ config }
+    ensures ports { AreOpenedWith result.tx result.ports.items }
+    ensures links { links_of result.monitor ≡ length config.links }
 {
     open(
+        rt,
         alloc,
         config,
         MemNetwork::new(alloc),
@@ -83,48 +122,84 @@ pub(crate) fn open_standing(
     )
 }
 
-/// The same of a configuration with one port.
-pub(crate) fn open_one<A: Network + Drop, B: Network + Drop>(
+/// Opens a configuration with one port, and with a link.
+pub(crate) fn open_one<R: Abort>(
+    rt: &R,
     alloc: Global,
     config: Config,
-    a: A,
-    b: B,
-) -> Result<(Emitter<A, B>, TxPort), Fail>
-    requires a_empty { A.handed a ≡ [] }
-    requires b_empty { B.handed b ≡ [] }
-    requires a_new { A.failures a ≡ 0 }
-    requires b_new { B.failures b ≡ 0 }
-    ensures { IfOk result (λ opened. IsPortOfTx opened.0 opened.1) }
-{
-    let (tx, mut ports) = open(alloc, config, a, b)?;
-    match ports.pop() {
-        Some(port) => Ok((tx, port)),
-        None => Err(Fail::from("no port")),
-    }
-}
-
-/// The demonstration configuration over two networks, and its one port.
-pub(crate) fn open_demo(
-    alloc: Global,
     a: MemNetwork,
     b: MemNetwork,
-) -> Result<(Emitter<MemNetwork, MemNetwork>, TxPort), Fail>
+) -> OpenedOne
     requires a_empty { a.handed ≡ [] }
     requires b_empty { b.handed ≡ [] }
     requires a_new { a.failures ≡ 0 }
     requires b_new { b.failures ≡ 0 }
-    ensures { IfOk result (λ opened. IsPortOfTx opened.0 opened.1) }
+    ensures plan { result.tx.plan ≡ config }
+    ensures port { IsUnused result.tx result.port }
+    ensures links { 0 < links_of result.monitor }
 {
-    open_one(alloc, demo_config(alloc)?, a, b)
+    assert!(rt; !config.links().is_empty());
+    let Opened {
+        tx,
+        mut ports,
+        monitor,
+    } = open(rt, alloc, config, a, b);
+    let port = ports.pop().expect(rt, "a port");
+    OpenedOne { tx, port, monitor }
+}
+
+/// Opens a configuration with two ports.
+pub(crate) fn open_two<R: Abort>(
+    rt: &R,
+    alloc: Global,
+    config: Config,
+    a: MemNetwork,
+    b: MemNetwork,
+) -> OpenedTwo
+    requires a_empty { a.handed ≡ [] }
+    requires b_empty { b.handed ≡ [] }
+    requires a_new { a.failures ≡ 0 }
+    requires b_new { b.failures ≡ 0 }
+    ensures first { IsPortOfTx result.tx result.first }
+    ensures second { IsPortOfTx result.tx result.second }
+    ensures links { links_of result.monitor ≡ length config.links }
+{
+    let Opened {
+        tx,
+        mut ports,
+        monitor,
+    } = open(rt, alloc, config, a, b);
+    let second = ports.pop().expect(rt, "two ports");
+    let first = ports.pop().expect(rt, "two ports");
+    OpenedTwo {
+        tx,
+        first,
+        second,
+        monitor,
+    }
+}
+
+/// Opens the demonstration configuration, which has one port.
+pub(crate) fn open_demo<R: Abort>(rt: &R, alloc: Global, a: MemNetwork, b: MemNetwork) -> OpenedOne
+    requires a_empty { a.handed ≡ [] }
+    requires b_empty { b.handed ≡ [] }
+    requires a_new { a.failures ≡ 0 }
+    requires b_new { b.failures ≡ 0 }
+    ensures plan { result.tx.plan ≡ demo_plan }
+    ensures port { IsUnused result.tx result.port }
+    ensures links { 0 < links_of result.monitor }
+{
+    let config = demo_config(alloc).expect(rt, "memory");
+    open_one(rt, alloc, config, a, b)
 }
 
 /// The same over two networks that don't fail.
-pub(crate) fn open_demo_standing(
-    alloc: Global,
-) -> Result<(Emitter<MemNetwork, MemNetwork>, TxPort), Fail>
-    ensures { IfOk result (λ opened. IsPortOfTx opened.0 opened.1) }
+pub(crate) fn open_demo_standing<R: Abort>(rt: &R, alloc: Global) -> OpenedOne
+    ensures plan { result.tx.plan ≡ demo_plan }
+    ensures port { IsUnused result.tx result.port }
+    ensures links { 0 < links_of result.monitor }
 {
-    open_demo(alloc, MemNetwork::new(alloc), MemNetwork::new(alloc))
+    open_demo(rt, alloc, MemNetwork::new(alloc), MemNetwork::new(alloc))
 }
 
 /// Sends a message, which is taken. The port stays one of its emitter.
@@ -195,17 +270,12 @@ pub(crate) fn assert_poll<R: Abort, A: Network + Drop, B: Network + Drop>(
 }
 
 /// Polls while both networks stand, and asserts that this frame alone was released.
-pub(crate) fn assert_one<R: Abort>(
-    rt: &R,
-    tx: &mut Emitter<MemNetwork, MemNetwork>,
-    now: u64,
-    release: Release,
-) {
+pub(crate) fn assert_one<R: Abort>(rt: &R, tx: &mut Sending, now: u64, release: Release) {
     assert_poll(rt, tx, now, &[release], BOTH);
 }
 
 /// Polls while both networks stand, and asserts that nothing was released.
-pub(crate) fn assert_none<R: Abort>(rt: &R, tx: &mut Emitter<MemNetwork, MemNetwork>, now: u64) {
+pub(crate) fn assert_none<R: Abort>(rt: &R, tx: &mut Sending, now: u64) {
     assert_poll(rt, tx, now, &[], BOTH);
 }
 
@@ -213,7 +283,7 @@ pub(crate) fn assert_none<R: Abort>(rt: &R, tx: &mut Emitter<MemNetwork, MemNetw
 /// all was sent.
 pub(crate) fn assert_drained<R: Abort>(
     rt: &R,
-    draining: &mut Draining<MemNetwork, MemNetwork>,
+    draining: &mut Drain,
     now: u64,
     released: &[Release],
     standing: Standing,
@@ -227,7 +297,7 @@ pub(crate) fn assert_drained<R: Abort>(
 /// Polls for what is left, at a moment that isn't before the last one.
 pub(crate) fn drain_at<R: Abort>(
     rt: &R,
-    draining: &mut Draining<MemNetwork, MemNetwork>,
+    draining: &mut Drain,
     now: u64,
 ) -> Result<Report, PollFault> {
     assert!(rt; draining.now() <= now);
@@ -235,28 +305,52 @@ pub(crate) fn drain_at<R: Abort>(
 }
 
 /// Asserts the moment of the last poll for what is left, and whether all was sent.
-pub(crate) fn assert_left(
-    rt: &impl Abort,
-    draining: &Draining<MemNetwork, MemNetwork>,
-    now: u64,
-    is_done: bool,
-) {
+pub(crate) fn assert_left(rt: &impl Abort, draining: &Drain, now: u64, is_done: bool) {
     assert_eq!(rt; draining.now(), now);
     assert_eq!(rt; draining.is_done(), is_done);
 }
 
-/// Ports of an emitter, of which one is missing. Both come back.
-pub(crate) fn gather_too_few(
-    tx: Emitter<MemNetwork, MemNetwork>,
-    ports: Vec<TxPort>,
-) -> Result<(Emitter<MemNetwork, MemNetwork>, Vec<TxPort>), Fail>
+/// Gathers no port, which is refused where one is missing. The emitter comes back.
+pub(crate) fn gather_none<R: Abort>(rt: &R, alloc: Global, tx: Sending) -> Sending
+    ensures { result ≡ tx }
+{
+    match tx.gather(Vec::new(alloc)) {
+        Ok(_) => panic!(rt; "gathered with a port missing"),
+        Err((back, none)) => {
+            assert_eq!(rt; none.len(), 0);
+            back
+        }
+    }
+}
+
+/// Gathers all ports of an emitter.
+pub(crate) fn gather<R: Abort>(rt: &R, tx: Sending, ports: Vec<TxPort>) -> Drain
     requires opened { AreOpenedWith tx ports.items }
-    ensures tx { IfOk result (λ back. back.0 ≡ tx) }
-    ensures ports { IfOk result (λ back. back.1 ≡ ports) }
+    ensures { IsGatheredTx tx ports.items result }
 {
     match tx.gather(ports) {
-        Ok(_) => Err(Fail::from("gathered with a port missing")),
-        Err(back) => Ok(back),
+        Ok(draining) => draining,
+        Err(_) => panic!(rt; "each port is there"),
+    }
+}
+
+/// What is gathered: what is left to be sent, and the monitor.
+#[derive(Drop)]
+pub(crate) struct Gathered {
+    pub(crate) draining: Drain,
+    pub(crate) monitor: Monitor,
+}
+
+/// Gathers both ports of an emitter, the second one first.
+pub(crate) fn gather_two<R: Abort>(rt: &R, alloc: Global, opened: OpenedTwo) -> Gathered
+    requires first { IsPortOfTx opened.tx opened.first }
+    requires second { IsPortOfTx opened.tx opened.second }
+    ensures { links_of result.monitor ≡ links_of opened.monitor }
+{
+    let ports = Vec::from_array(alloc, [opened.second, opened.first]).expect(rt, "memory");
+    Gathered {
+        draining: gather(rt, opened.tx, ports),
+        monitor: opened.monitor,
     }
 }
 
@@ -294,6 +388,18 @@ pub(crate) fn assert_handed(rt: &impl Abort, network: &MemNetwork, many: u8) {
     for place in 0..many {
         assert_entry(rt, &handed[usize::from(place)], place);
     }
+}
+
+/// Asserts the same of both networks of an emitter.
+pub(crate) fn assert_both_handed<R: Abort>(rt: &R, tx: Sending, on_a: u8, on_b: u8) {
+    let (a, b) = tx.into_networks();
+    assert_handed(rt, &a, on_a);
+    assert_handed(rt, &b, on_b);
+}
+
+/// Asserts what an emitter counts of a link.
+pub(crate) fn assert_counts<R: Abort>(rt: &R, tx: &Sending, link: u16, counts: Option<Counts>) {
+    assert_eq!(rt; tx.counts(VlId(link)), counts);
 }
 
 /// The release of the first sub-VL of link 1 with this number.

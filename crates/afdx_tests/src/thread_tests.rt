@@ -4,16 +4,15 @@ ghost use Rattle.status_board.specs.Views.{links_of};
 ghost use Rattle.afdx_tx.specs.Emitter.{Tx, queues_in};
 ghost use Rattle.afdx_tx.specs.Ports.{IsPortOfTx, AreOpenedWith};
 
+use crate::testing::{Drain, Gathered, Sending, gather, open_standing};
 use afdx_config::read_config;
-use afdx_plan::Config;
-use afdx_tx::{Draining, Emitter, Refusal, SendFault, TxPort, open_tx};
+use afdx_tx::{Refusal, SendFault, TxPort};
 use redundant_mux::MemNetwork;
 use status_board::{Counts, Monitor};
 use std::alloc::{AllocError, Global};
 use std::process::Abort;
 use std::snapshot::Snapshot;
 use std::sync::Wait;
-use std::test::Fail;
 use std::thread;
 use std::thread::{Promise, PromisedHandle, Threads, join_promised};
 
@@ -45,7 +44,7 @@ pub(crate) type Worker = PromisedHandle<Option<TxPort>, ComesBack>;
 
 // End system 1 with one link of two sub-VLs with room for so many messages. Ports 1 to 4 are of
 // partitions 1 to 4, the first two on sub-VL 0.
-fn plan(alloc: Global, capacity: usize) -> Result<Config, Fail> {
+fn plan_text(alloc: Global, capacity: usize) -> Result<String, AllocError> {
     let mut text = format!(in alloc;
         "[end_system]\nid = 1\n\
          [[vl]]\nid = 1\nbag_ms = 1\nlmax = 1518\nsub_vls = 2\ncapacity = {capacity}\n"
@@ -58,23 +57,7 @@ fn plan(alloc: Global, capacity: usize) -> Result<Config, Fail> {
         )?;
         text.push_str(&lines)?;
     }
-    read_config(alloc, text.as_bytes()).map_err(|_| Fail::from("a valid plan"))
-}
-
-// The emitter of that plan over two networks that were handed nothing, its ports and its monitor.
-fn open_plan(
-    alloc: Global,
-    capacity: usize,
-) -> Result<(Emitter<MemNetwork, MemNetwork>, Vec<TxPort>, Monitor), Fail>
-    ensures opened { IfOk result (λ opened. AreOpenedWith opened.0 opened.1.items) }
-    ensures monitor { IfOk result (λ opened. 0 < links_of opened.2) }
-{
-    let config = plan(alloc, capacity)?;
-    if config.links().is_empty() {
-        return Err(Fail::from("no link"));
-    }
-    let (a, b) = (MemNetwork::new(alloc), MemNetwork::new(alloc));
-    open_tx(alloc, config, a, b).map_err(|_| Fail::from("no memory"))
+    Ok(text)
 }
 
 // Sends a message, and again after Full. Whether it was accepted.
@@ -116,39 +99,53 @@ fn send_all(alloc: Global, mut port: TxPort, messages: u8) -> Option<TxPort>
 }
 
 // Each port sends in a thread of its own.
-fn start_all<R: Threads + Copy + Send + 'static>(
+fn start_all<R: Threads + Abort + Copy + Send + 'static>(
     rt: R,
     alloc: Global,
     ports: Vec<TxPort>,
     messages: u8,
-) -> Result<Vec<Worker>, AllocError>
-    ensures { IfOk result (λ workers. map (λ h. h.promise.of.value) workers.items ≡ ports.items) }
+) -> Vec<Worker>
+    ensures { map (λ h. h.promise.of.value) result.items ≡ ports.items }
 {
     let mut workers = Vec::new(alloc);
     for port in ports {
         let promise = ComesBack {
             of: Snapshot::of(&port),
         };
-        let worker = thread::spawn_with(&rt, promise, move || send_all(alloc, port, messages))?;
-        workers.push(worker)?;
+        let worker = thread::spawn_with(&rt, promise, move || send_all(alloc, port, messages));
+        let worker = worker.expect(&rt, "a thread");
+        workers.push(worker).expect(&rt, "memory");
     }
-    Ok(workers)
+    workers
 }
 
-// An emitter, the threads from which its ports send, and its monitor.
-pub(crate) fn open_and_start<R: Threads + Copy + Send + 'static>(
+/// What is started: the emitter of that plan, the threads from which its ports send, and its monitor.
+#[derive(Drop)]
+pub(crate) struct Started {
+    pub(crate) tx: Sending,
+    pub(crate) workers: Vec<Worker>,
+    pub(crate) monitor: Monitor,
+}
+
+// Opens that plan over two networks that were handed nothing, and starts a thread for each port.
+pub(crate) fn open_and_start<R: Threads + Abort + Copy + Send + 'static>(
     rt: R,
     alloc: Global,
     capacity: usize,
     messages: u8,
-) -> Result<(Emitter<MemNetwork, MemNetwork>, Vec<Worker>, Monitor), Fail>
-    ensures opened { IfOk result (λ started.
-        AreOpenedWith started.0 (map (λ h. h.promise.of.value) started.1.items)) }
-    ensures monitor { IfOk result (λ started. 0 < links_of started.2) }
+) -> Started
+    ensures opened { AreOpenedWith result.tx (map (λ h. h.promise.of.value) result.workers.items) }
+    ensures monitor { 0 < links_of result.monitor }
 {
-    let (tx, ports, monitor) = open_plan(alloc, capacity)?;
-    let workers = start_all(rt, alloc, ports, messages)?;
-    Ok((tx, workers, monitor))
+    let text = plan_text(alloc, capacity).expect(&rt, "memory");
+    let config = read_config(alloc, text.as_bytes()).expect(&rt, "a valid plan");
+    assert!(rt; !config.links().is_empty());
+    let opened = open_standing(&rt, alloc, config);
+    Started {
+        tx: opened.tx,
+        workers: start_all(rt, alloc, opened.ports, messages),
+        monitor: opened.monitor,
+    }
 }
 
 // The ports, if all came back.
@@ -163,7 +160,7 @@ fn all_back(alloc: Global, ended: Vec<Option<TxPort>>) -> Result<Vec<TxPort>, Al
 }
 
 // Joins the workers. The ports that came back are of the same emitter as those that were given.
-pub(crate) fn join_all<R: Threads>(
+fn ports_back<R: Threads>(
     rt: &R,
     alloc: Global,
     workers: Vec<Worker>,
@@ -176,8 +173,20 @@ pub(crate) fn join_all<R: Threads>(
     Ok(ports)
 }
 
+// The same, where all came back.
+pub(crate) fn join_all<R: Threads + Abort>(
+    rt: &R,
+    alloc: Global,
+    workers: Vec<Worker>,
+) -> Vec<TxPort>
+    ensures { (tx : Tx) → AreOpenedWith tx (map (λ h. h.promise.of.value) workers.items)
+        → AreOpenedWith tx result.items }
+{
+    ports_back(rt, alloc, workers).expect(rt, "each port came back")
+}
+
 // Polls, a gap apart, until so many frames were released, while the ports send.
-pub(crate) fn poll_some<R: Abort>(rt: &R, tx: &mut Emitter<MemNetwork, MemNetwork>, count: usize)
+pub(crate) fn poll_some<R: Abort>(rt: &R, tx: &mut Sending, count: usize)
     ensures plan { tx.new.plan ≡ tx.old.plan }
     ensures queues { queues_in tx.new.links ≡ queues_in tx.old.links }
 {
@@ -196,11 +205,7 @@ pub(crate) fn poll_some<R: Abort>(rt: &R, tx: &mut Emitter<MemNetwork, MemNetwor
 }
 
 // Polls, a gap apart, until all was released, and no more often than so many times.
-pub(crate) fn drain<R: Abort>(
-    rt: &R,
-    draining: &mut Draining<MemNetwork, MemNetwork>,
-    count: usize,
-) {
+pub(crate) fn drain<R: Abort>(rt: &R, draining: &mut Drain, count: usize) {
     for _turn in 0..count {
         if draining.is_done() {
             return;
@@ -218,20 +223,16 @@ fn number_at(place: usize) -> usize {
     }
 }
 
-// A frame has the number of its place, and the next message of its port, whose number is below
-// `messages`. The frame's partition names the port.
-fn check_frame(
-    rt: &impl Abort,
-    frame: &[u8],
-    place: usize,
-    next: &mut [u8; PORTS as usize],
-    messages: u8,
-) {
+// A frame has the least length, and the number of its place.
+fn check_place(rt: &impl Abort, frame: &[u8], place: usize) {
     assert_eq!(rt; frame.len(), 60);
-    assert_eq!(rt;
-        frame.get(59).copied().map(usize::from),
-        Some(number_at(place))
-    );
+    let number = frame.last().copied().expect(rt, "a number");
+    assert_eq!(rt; usize::from(number), number_at(place));
+}
+
+// A frame has the next message of its port, whose number is below `messages`. The frame's partition
+// names the port.
+fn check_message(rt: &impl Abort, frame: &[u8], next: &mut [u8; PORTS as usize], messages: u8) {
     let port = frame.get(29).copied().expect(rt, "a partition");
     assert!(rt; 1 <= port);
     let number = next
@@ -251,7 +252,8 @@ pub(crate) fn check_frames(
 ) -> [u8; PORTS as usize] {
     let mut next = [0u8; PORTS as usize];
     for (place, entry) in network.handed().iter().enumerate() {
-        check_frame(rt, entry.frame.as_slice(), place, &mut next, messages);
+        check_place(rt, entry.frame.as_slice(), place);
+        check_message(rt, entry.frame.as_slice(), &mut next, messages);
     }
     next
 }
@@ -273,18 +275,18 @@ fn gather_from_threads<R: Threads + Abort + Copy + Send + 'static>(
     alloc: Global,
     capacity: usize,
     messages: u8,
-) -> Result<(Draining<MemNetwork, MemNetwork>, Monitor), Fail>
-    ensures { IfOk result (λ gathered. 0 < links_of gathered.1) }
+) -> Gathered
+    ensures { 0 < links_of result.monitor }
 {
-    let (mut tx, workers, monitor) = open_and_start(rt, alloc, capacity, messages)?;
+    let mut started = open_and_start(rt, alloc, capacity, messages);
     // What is left then has room in any one queue, so each port can send its last message.
     let count = usize::from(PORTS).saturating_mul(usize::from(messages));
-    poll_some(&rt, &mut tx, count.saturating_sub(capacity));
-    let ports = join_all(&rt, alloc, workers)?;
+    poll_some(&rt, &mut started.tx, count.saturating_sub(capacity));
+    let ports = join_all(&rt, alloc, started.workers);
     check_accepted(&rt, &ports, messages);
-    match tx.gather(ports) {
-        Ok(draining) => Ok((draining, monitor)),
-        Err(_) => Err(Fail::from("each port is there")),
+    Gathered {
+        draining: gather(&rt, started.tx, ports),
+        monitor: started.monitor,
     }
 }
 
@@ -318,24 +320,23 @@ fn send_from_threads<R: Threads + Abort + Wait + Copy + Send + 'static>(
     alloc: Global,
     capacity: usize,
     messages: u8,
-) -> Result<(), Fail> {
-    let (mut draining, mut monitor) = gather_from_threads(rt, alloc, capacity, messages)?;
-    drain(&rt, &mut draining, capacity);
-    assert_eq!(rt; draining.is_done(), true);
-    draining.publish(&rt);
-    check_counts(&rt, &mut monitor, messages);
-    let (a, b) = draining.into_networks();
+) {
+    let mut gathered = gather_from_threads(rt, alloc, capacity, messages);
+    drain(&rt, &mut gathered.draining, capacity);
+    assert_eq!(rt; gathered.draining.is_done(), true);
+    gathered.draining.publish(&rt);
+    check_counts(&rt, &mut gathered.monitor, messages);
+    let (a, b) = gathered.draining.into_networks();
     check_whole(&rt, &a, messages);
     check_whole(&rt, &b, messages);
-    Ok(())
 }
 
 #[test]
-fn four_ports_send_a_hundred_messages_each_from_threads(rt: HostRuntime) -> Result<(), Fail> {
-    send_from_threads(rt, rt.alloc(), 256, 100)
+fn four_ports_send_a_hundred_messages_each_from_threads(rt: HostRuntime) {
+    send_from_threads(rt, rt.alloc(), 256, 100);
 }
 
 #[test]
-fn four_threads_send_through_queues_with_room_for_two(rt: HostRuntime) -> Result<(), Fail> {
-    send_from_threads(rt, rt.alloc(), 2, 20)
+fn four_threads_send_through_queues_with_room_for_two(rt: HostRuntime) {
+    send_from_threads(rt, rt.alloc(), 2, 20);
 }

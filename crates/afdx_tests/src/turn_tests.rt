@@ -1,22 +1,19 @@
 //! The sub-VLs of a link take turns: what the networks were handed, under the law that the emitter
 //! promises of it, and read frame by frame.
-ghost use Rattle.std.specs.Prelude.{◌≡◌, IfOk};
+ghost use Rattle.std.specs.Prelude.{◌≡◌};
 ghost use Rattle.afdx_legal.specs.Turns.{TakeTurns};
 
-use crate::testing::{TWO_SUB_VLS, open_standing, send_taken};
+use crate::testing::{Sending, TWO_SUB_VLS, open_standing, send_taken};
 use afdx_config::read_config;
 use afdx_frame::{ident_of, sn_of, sub_of};
 use afdx_plan::Config;
-use afdx_tx::{Emitter, TxPort};
+use afdx_tx::TxPort;
 use redundant_mux::{Handed, MemNetwork};
 use std::alloc::Global;
 use std::process::Abort;
-use std::test::Fail;
 
 // The gap of the links, in microseconds.
 const GAP: u64 = 1_000;
-
-type Tx = Emitter<MemNetwork, MemNetwork>;
 
 // A link of four sub-VLs with a port on each. A piece has at most 25 bytes.
 const FOUR: &str = "[end_system]
@@ -78,7 +75,7 @@ fn send_all<R: Abort>(rt: &R, alloc: Global, ports: &mut [TxPort]) {
 }
 
 // Polls at once, and so many times more, a gap apart.
-fn poll_on<R: Abort>(rt: &R, tx: &mut Tx, more: u32)
+fn poll_on<R: Abort>(rt: &R, tx: &mut Sending, more: u32)
     ensures { tx.new.plan ≡ tx.old.plan }
 {
     let first = tx.now();
@@ -95,14 +92,13 @@ fn hand_in_turn<R: Abort>(
     alloc: Global,
     config: Config,
     more: u32,
-) -> Result<(MemNetwork, MemNetwork), Fail>
-    ensures { IfOk result
-        (λ networks. TakeTurns config networks.0.handed networks.1.handed) }
+) -> (MemNetwork, MemNetwork)
+    ensures { TakeTurns config result.0.handed result.1.handed }
 {
-    let (mut tx, mut ports) = open_standing(alloc, config)?;
-    send_all(rt, alloc, &mut ports);
-    poll_on(rt, &mut tx, more);
-    Ok(tx.into_networks())
+    let mut opened = open_standing(rt, alloc, config);
+    send_all(rt, alloc, &mut opened.ports);
+    poll_on(rt, &mut opened.tx, more);
+    opened.tx.into_networks()
 }
 
 // A frame was handed over at its place in the row, with its sub-VL and its identification.
@@ -127,30 +123,21 @@ fn assert_row(rt: &impl Abort, network: &MemNetwork, row: &[(u8, u16)]) {
 }
 
 // What both networks were handed of a configuration, polled once and so many times more.
-fn assert_turns<R: Abort>(
-    rt: &R,
-    alloc: Global,
-    text: &str,
-    more: u32,
-    row: &[(u8, u16)],
-) -> Result<(), Fail> {
-    let Ok(config) = read_config(alloc, text.as_bytes()) else {
-        return Err(Fail::from("the configuration is valid"));
-    };
-    let (a, b) = hand_in_turn(rt, alloc, config, more)?;
+fn assert_turns<R: Abort>(rt: &R, alloc: Global, text: &str, more: u32, row: &[(u8, u16)]) {
+    let config = read_config(alloc, text.as_bytes()).expect(rt, "the configuration is valid");
+    let (a, b) = hand_in_turn(rt, alloc, config, more);
     assert_row(rt, &a, row);
     assert_row(rt, &b, row);
-    Ok(())
 }
 
 #[test]
-fn two_sub_vls_take_turns_by_pieces(rt: HostRuntime) -> Result<(), Fail> {
+fn two_sub_vls_take_turns_by_pieces(rt: HostRuntime) {
     let row = [(0, 0), (1, 1), (0, 0), (1, 5), (0, 0)];
-    assert_turns(&rt, rt.alloc(), TWO_SUB_VLS, 4, &row)
+    assert_turns(&rt, rt.alloc(), TWO_SUB_VLS, 4, &row);
 }
 
 #[test]
-fn four_sub_vls_take_turns_by_pieces(rt: HostRuntime) -> Result<(), Fail> {
+fn four_sub_vls_take_turns_by_pieces(rt: HostRuntime) {
     let row = [
         (0, 0),
         (1, 1),
@@ -162,5 +149,5 @@ fn four_sub_vls_take_turns_by_pieces(rt: HostRuntime) -> Result<(), Fail> {
         (3, 7),
         (0, 0),
     ];
-    assert_turns(&rt, rt.alloc(), FOUR, 8, &row)
+    assert_turns(&rt, rt.alloc(), FOUR, 8, &row);
 }

@@ -1,16 +1,13 @@
 //! A test of an emitter whose counts are read in a thread of its own.
-ghost use Rattle.std.specs.Prelude.{◌<◌, IfOk};
+ghost use Rattle.std.specs.Prelude.{◌<◌};
 ghost use Rattle.status_board.specs.Views.{links_of};
 
-use crate::board_tests::{Opened, open_demo_watched};
-use crate::testing::{poll_at, send_taken};
-use afdx_tx::{Emitter, TxPort};
-use redundant_mux::MemNetwork;
+use crate::testing::{Sending, open_demo_standing, poll_at, send_taken};
+use afdx_tx::TxPort;
 use status_board::{Counts, Monitor};
 use std::alloc::Global;
 use std::process::Abort;
 use std::sync::Wait;
-use std::test::Fail;
 use std::thread;
 
 // How often the emitter is polled, and publishes.
@@ -48,12 +45,7 @@ fn watch<R: Wait>(rt: &R, mut monitor: Monitor) -> bool
 }
 
 // Sends a message, polls and publishes, again and again.
-fn send_and_publish<R: Abort + Wait>(
-    rt: &R,
-    alloc: Global,
-    tx: &mut Emitter<MemNetwork, MemNetwork>,
-    port: &mut TxPort,
-) {
+fn send_and_publish<R: Abort + Wait>(rt: &R, alloc: Global, tx: &mut Sending, port: &mut TxPort) {
     for turn in 0..POLLS {
         send_taken(rt, alloc, port, &[7]);
         let report = poll_at(rt, tx, turn * GAP).expect(rt, "both networks stand");
@@ -63,16 +55,10 @@ fn send_and_publish<R: Abort + Wait>(
 }
 
 #[test]
-fn a_watcher_reads_whole_counts_while_the_emitter_polls_and_publishes(
-    rt: HostRuntime,
-) -> Result<(), Fail> {
-    let Opened {
-        mut tx,
-        mut port,
-        monitor,
-    } = open_demo_watched(rt.alloc())?;
-    let watcher = thread::spawn(&rt, move || watch(&rt, monitor))?;
-    send_and_publish(&rt, rt.alloc(), &mut tx, &mut port);
+fn a_watcher_reads_whole_counts_while_the_emitter_polls_and_publishes(rt: HostRuntime) {
+    let mut opened = open_demo_standing(&rt, rt.alloc());
+    let monitor = opened.monitor;
+    let watcher = thread::spawn(&rt, move || watch(&rt, monitor)).expect(&rt, "a thread");
+    send_and_publish(&rt, rt.alloc(), &mut opened.tx, &mut opened.port);
     assert!(rt; watcher.join(&rt));
-    Ok(())
 }

@@ -2,8 +2,8 @@ use Rattle.std.proofs.Common.{◌∙◌, ◌<◌, ap, sym, subst}
 use Rattle.redundant_mux.specs.Memory.{Memory}
 use Rattle.afdx_tests.proofs.board_tests.frames_that_one_network_alone_took_count_and_those_that_none_took_do_not.Goals as goal
 
-pub open_watched-requires : goal.open_watched-requires
-open_watched-requires g c = record {
+pub open_one-opened-requires : goal.open_one-opened-requires
+open_one-opened-requires g c = record {
   a_empty = ap (λ (m : Memory). m.handed) c.failing_at-a.ensures;
   b_empty = ap (λ (m : Memory). m.handed) c.failing_at-b.ensures;
   a_new = ap (λ (m : Memory). m.failures) c.failing_at-a.ensures;
@@ -11,10 +11,10 @@ open_watched-requires g c = record {
 }
 
 pub assert_failing-requires : goal.assert_failing-requires
-assert_failing-requires g c = c.in_ok-opened.ensures
+assert_failing-requires g c = c.open_one-opened.ensures.links
 
 pub assert_turn-requires : goal.assert_turn-requires
-assert_turn-requires g c = subst (λ n. 0 < n) (sym c.assert_failing.ensures) c.in_ok-opened.ensures
+assert_turn-requires g c = subst (λ n. 0 < n) (sym c.assert_failing.ensures) c.open_one-opened.ensures.links
 
 pub assert_read-requires : goal.assert_read-requires
-assert_read-requires g c = subst (λ n. 0 < n) (sym (c.assert_turn.ensures ∙ c.assert_failing.ensures)) c.in_ok-opened.ensures
+assert_read-requires g c = subst (λ n. 0 < n) (sym (c.assert_turn.ensures ∙ c.assert_failing.ensures)) c.open_one-opened.ensures.links

@@ -1,4 +1,4 @@
-use Rattle.std.proofs.Common.{ℕ, zero, suc, ◌≡◌, ◌∙◌, List, [], ◌∷◌, sym, subst, arith}
+use Rattle.std.proofs.Common.{ℕ, Vec, Global, zero, suc, ◌≡◌, ◌∙◌, List, [], ◌∷◌, sym, subst, arith}
 use Rattle.std.specs.Prelude.{All, IfOk}
 use Rattle.afdx_plan.specs.Config.{Plan}
 use Rattle.afdx_tx.specs.Closing.{ClosesTx, IsSubAt}
@@ -29,21 +29,22 @@ alone old new port plan queues own zero d lt =
     (subst (λ q. BelongsTo old.plan q port) (sym queues) own)
 alone old new port plan queues own (suc k) d lt = absurd (omega arith)
 
-pub gather-requires : goal.gather-requires
-gather-requires g c =
+pub gather-draining-requires : goal.gather-draining-requires
+gather-draining-requires g c =
+    let tx = c.args.opened.tx in
     let polled = c.poll_meanwhile.new.tx in
-    let port = c.assert_refused-2.new.port in
-    let own : IsPortOfTx c.args.tx c.assert_refused-2.new.port =
-    c.assert_refused-2.ensures c.args.tx (c.assert_refused.ensures c.args.tx c.requires) in
+    let own : IsPortOfTx tx c.assert_refused-2.new.port =
+    c.assert_refused-2.ensures tx (c.assert_refused.ensures tx c.requires) in
     record {
-      opened = subst (λ (ports : List PortView). All (IsPortOfTx polled) ports) (sym c.in_ok-ports.ensures.items)
-          (alone c.args.tx polled port (c.poll_meanwhile.ensures.plan ∙ c.close.ensures.plan)
+      opened = subst (λ (ports : List PortView). All (IsPortOfTx polled) ports) (sym (subst (λ r. IfOk r (λ (v : Vec PortView Global). v.items ≡ c.assert_refused-2.new.port ∷ [])) c.expect-ports.ensures c.from_array.ensures.items))
+          (alone tx polled c.assert_refused-2.new.port (c.poll_meanwhile.ensures.plan ∙ c.close.ensures.plan)
           (c.poll_meanwhile.ensures.queues ∙ c.close.ensures.queues) own);
     }
 
-pub returns-in-Ok : goal.returns-in-Ok
-returns-in-Ok g c =
-    accepted_is c.args.tx c.close.new.self c.poll_meanwhile.new.tx c.in-Ok.draining c.in_ok-ports.ports.items 1 0
+pub returns : goal.returns
+returns g c =
+    let tx = c.args.opened.tx in
+    accepted_is tx c.close.new.self c.poll_meanwhile.new.tx c.gather-draining.result c.expect-ports.result.items 1 0
     c.expect-total.result
-    (subst (λ r. IfOk r (λ (total : ℕ). ClosesTx c.args.tx 1 0 total c.close.new.self)) c.expect-total.ensures c.close.ensures.closed)
-    c.close.ensures.plan c.poll_meanwhile.ensures.plan c.poll_meanwhile.ensures.totals c.in-Ok.ensures.gathered
+    (subst (λ r. IfOk r (λ (total : ℕ). ClosesTx tx 1 0 total c.close.new.self)) c.expect-total.ensures c.close.ensures.closed)
+    c.close.ensures.plan c.poll_meanwhile.ensures.plan c.poll_meanwhile.ensures.totals c.gather-draining.ensures

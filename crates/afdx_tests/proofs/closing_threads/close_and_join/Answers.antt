@@ -13,5 +13,5 @@ opened_still old new ports plan queues opened k d lt =
 
 pub returns : goal.returns
 returns g c =
-    opened_still c.args.tx.now c.close.new.tx c.in_ok-ports.ports.items (c.close.ensures.plan ∙ c.close_both-totals.ensures.plan)
-    (c.close.ensures.queues ∙ c.close_both-totals.ensures.queues) (c.in_ok-ports.ensures c.args.tx.now c.requires)
+    opened_still c.args.tx.now c.close.new.tx c.join_all-ports.result.items (c.close.ensures.plan ∙ c.close_both-totals.ensures.plan)
+    (c.close.ensures.queues ∙ c.close_both-totals.ensures.queues) (c.join_all-ports.ensures c.args.tx.now c.requires)

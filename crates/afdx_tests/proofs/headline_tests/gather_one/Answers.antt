@@ -1,5 +1,6 @@
-use Rattle.std.proofs.Common.{◌≡◌, ◌<◌, List, [], ◌∷◌, length, All, refl, ap, ◌∙◌, sym, subst}
+use Rattle.std.proofs.Common.{◌≡◌, ◌<◌, Vec, Global, List, [], ◌∷◌, length, All, refl, ap, ◌∙◌, sym, subst}
 use Rattle.std.proofs.lemmas.List.Elements.{All-contains, All-cons, All-nil}
+use Rattle.std.specs.Prelude.{IfOk}
 use Rattle.afdx_plan.specs.Config.{Plan}
 use Rattle.afdx_legal.specs.Allowed.{AreOwn}
 use Rattle.afdx_tx.specs.Drain.{accepted_in}
@@ -19,14 +20,17 @@ own_one tx draining ports port e gathered place lt =
     let is : own.port ≡ port = All-contains (λ (p : PortView). p ≡ port) ports own.port all own.inside in
     own.accepted ∙ ap (λ (p : PortView). p.sender.own) is
 
-pub returns-in-Ok-clause-own : goal.returns-in-Ok-clause-own
-returns-in-Ok-clause-own c = own_one c.args.tx c.in-Ok.draining _ c.args.port (c.in_ok-ports.ensures.items) c.in-Ok.ensures.gathered
-
 pub gather-requires : goal.gather-requires
-gather-requires c = record {
-  opened = subst (λ (ports : List PortView). All (IsPortOfTx c.args.tx) ports) (sym c.in_ok-ports.ensures.items)
+gather-requires g c = record {
+  opened = subst (λ (ports : List PortView). All (IsPortOfTx c.args.tx) ports)
+      (sym (subst (λ r. IfOk r (λ (v : Vec PortView Global). v.items ≡ c.args.port ∷ [])) c.expect-ports.ensures c.from_array.ensures.items))
       (All-cons (IsPortOfTx c.args.tx) c.args.port [] c.requires (All-nil (IsPortOfTx c.args.tx)));
 }
 
-pub returns-in-Ok-clause-plan : goal.returns-in-Ok-clause-plan
-returns-in-Ok-clause-plan c = c.in-Ok.ensures.gathered.plan
+pub returns : goal.returns
+returns g c =
+    let items = subst (λ r. IfOk r (λ (v : Vec PortView Global). v.items ≡ c.args.port ∷ [])) c.expect-ports.ensures c.from_array.ensures.items in
+    record {
+      plan = c.gather.ensures.plan;
+      own = own_one c.args.tx c.gather.result c.expect-ports.result.items c.args.port items c.gather.ensures;
+    }

@@ -8,7 +8,8 @@ use Rattle.afdx_legal.specs.Allowed.{AreAllowed, AreOwn}
 use Rattle.afdx_legal.specs.Done.{IsAllDone, IsHandedWhole}
 use Rattle.afdx_legal.specs.Own.{AreOwnStreams}
 use Rattle.afdx_tx.specs.Drain.{accepted_in}
-use Rattle.afdx_tx.specs.Ports.{PortView}
+use Rattle.afdx_tx.specs.Emitter.{queues_in}
+use Rattle.afdx_tx.specs.Ports.{PortView, BelongsTo}
 use Rattle.afdx_tests.specs.Headline.{SentTwo, two_messages}
 use Rattle.afdx_tests.proofs.headline_tests.hand_whole.Goals as goal
 
@@ -34,15 +35,25 @@ whole plan accepted own lines a b demo at_a at_b legal allowed owned done stream
 two_own : (port back : PortView) → port.sender.own ≡ [] → SentTwo port back → back.sender.own ≡ two_messages
 two_own port back fresh is = is.own ∙ ap (λ own. (own ++ (1 ∷ []) ∷ []) ++ (2 ∷ []) ∷ []) fresh
 
+pub gather_one-draining-requires : goal.gather_one-draining-requires
+gather_one-draining-requires g c =
+    let old = c.open_demo_standing-opened.result.tx in
+    let new = c.send_beside-port.new.tx in
+    let port = c.send_beside-port.result in
+    let own = c.send_beside-port.ensures.port.of old c.open_demo_standing-opened.ensures.port.of in
+    subst (λ (p : Plan). BelongsTo p (queues_in new.links) port) (sym c.send_beside-port.ensures.plan)
+    (subst (λ q. BelongsTo old.plan q port) (sym c.send_beside-port.ensures.queues) own)
+
 pub returns : goal.returns
 returns g c =
-    let gathered = c.in_ok-draining.draining in
-    let drained = c.in_ok-draining-2.draining in
-    let plan = c.in_ok-draining-2.ensures.plan ∙ c.in_ok-draining.ensures.plan ∙ c.in_ok-port.ensures.plan ∙ c.in_ok-tx.ensures.plan in
-    let own = two_own c.in_ok-tx.port c.in_ok-port.port c.in_ok-tx.ensures.port.fresh c.in_ok-port.ensures.port in
+    let opened = c.open_demo_standing-opened in
+    let gathered = c.gather_one-draining.result in
+    let drained = c.drain_whole.new.draining in
+    let plan = c.drain_whole.ensures.plan ∙ c.gather_one-draining.ensures.plan ∙ c.send_beside-port.ensures.plan ∙ opened.ensures.plan in
+    let own = two_own opened.result.port c.send_beside-port.result opened.ensures.port.fresh c.send_beside-port.ensures.port in
     whole drained.plan (accepted_in drained.links) (λ place. two_messages) drained.lines _ _ plan c.into_networks.ensures.a
     c.into_networks.ensures.b c.into_networks.ensures.legal c.into_networks.ensures.allowed
-    (subst (λ p. AreOwn p (accepted_in drained.links) (λ place. two_messages)) (sym c.in_ok-draining-2.ensures.plan)
-    (subst (λ (xs : Accepted). AreOwn gathered.plan xs (λ place. two_messages)) (sym c.in_ok-draining-2.ensures.accepted)
-    (subst (λ ms. AreOwn gathered.plan (accepted_in gathered.links) (λ place. ms)) own c.in_ok-draining.ensures.own)))
-    c.in_ok-draining-2.ensures.done c.in_ok-draining-2.ensures.streams
+    (subst (λ p. AreOwn p (accepted_in drained.links) (λ place. two_messages)) (sym c.drain_whole.ensures.plan)
+    (subst (λ (xs : Accepted). AreOwn gathered.plan xs (λ place. two_messages)) (sym c.drain_whole.ensures.accepted)
+    (subst (λ ms. AreOwn gathered.plan (accepted_in gathered.links) (λ place. ms)) own c.gather_one-draining.ensures.own)))
+    c.drain_whole.ensures.done c.drain_whole.ensures.streams

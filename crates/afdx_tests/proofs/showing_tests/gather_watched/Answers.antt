@@ -1,11 +1,13 @@
+use Rattle.std.proofs.Common.{◌≤◌, sym, subst}
 use Rattle.afdx_tests.proofs.showing_tests.gather_watched.Goals as goal
 
-pub gather_pair-requires-clause-first : goal.gather_pair-requires-clause-first
-gather_pair-requires-clause-first g c =
-    let port = c.send_both.new.port in
-    c.poll_at.ensures port (c.send_both.ensures c.in_ok-tx.field-0.tx c.in_ok-tx.ensures.first)
+pub gather_two-requires : goal.gather_two-requires
+gather_two-requires g c =
+    let opened = c.open_watched-opened in
+    record {
+      first = c.poll_at.ensures c.send_both.new.port (c.send_both.ensures opened.result.tx opened.ensures.first);
+      second = c.poll_at.ensures c.send_both-2.new.port (c.send_both-2.ensures opened.result.tx opened.ensures.second);
+    }
 
-pub gather_pair-requires-clause-second : goal.gather_pair-requires-clause-second
-gather_pair-requires-clause-second g c =
-    let port = c.send_both-2.new.port in
-    c.poll_at.ensures port (c.send_both-2.ensures c.in_ok-tx.field-0.tx c.in_ok-tx.ensures.second)
+pub returns : goal.returns
+returns g c = subst (λ n. 2 ≤ n) (sym c.gather_two.ensures) c.open_watched-opened.ensures.links

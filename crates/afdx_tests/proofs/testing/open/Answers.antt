@@ -8,8 +8,10 @@ open_tx-requires g c = record {
   b_new = c.requires.b_new;
 }
 
-pub returns-in-Ok : goal.returns-in-Ok
-returns-in-Ok g c = record {
+pub returns : goal.returns
+returns g c = record {
   plan = c.in-Ok.ensures.fresh.plan;
+  fresh = c.in-Ok.ensures.ports;
   ports = c.in-Ok.ensures.opened;
+  links = c.in-Ok.ensures.monitor;
 }

@@ -3,7 +3,7 @@ use Rattle.redundant_mux.specs.Memory.{Memory}
 use Rattle.afdx_tests.proofs.testing.open_standing.Goals as goal
 
 pub open-requires : goal.open-requires
-open-requires c = record {
+open-requires g c = record {
   a_empty = ap (λ (m : Memory). m.handed) c.new.ensures;
   b_empty = ap (λ (m : Memory). m.handed) c.new-2.ensures;
   a_new = ap (λ (m : Memory). m.failures) c.new.ensures;
@@ -11,7 +11,8 @@ open-requires c = record {
 }
 
 pub returns : goal.returns
-returns c = record {
+returns g c = record {
   plan = c.open.ensures.plan;
   ports = c.open.ensures.ports;
+  links = c.open.ensures.links;
 }

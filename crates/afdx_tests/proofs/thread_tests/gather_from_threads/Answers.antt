@@ -6,13 +6,13 @@ use Rattle.afdx_tests.proofs.thread_tests.gather_from_threads.Goals as goal
 pub gather-requires : goal.gather-requires
 gather-requires g c = record {
   opened = λ k d lt.
-      let tx : Tx = c.in_ok-tx.tx in
-      let port : PortView = get_or c.in_ok-ports.ports.items k d in
-      let back : BelongsTo tx.plan (queues_in tx.links) port = c.in_ok-ports.ensures tx c.in_ok-tx.ensures.opened k d lt in
+      let tx : Tx = c.open_and_start-started.result.tx in
+      let port : PortView = get_or c.join_all-ports.result.items k d in
+      let back : BelongsTo tx.plan (queues_in tx.links) port = c.join_all-ports.ensures tx c.open_and_start-started.ensures.opened k d lt in
       let planned : BelongsTo c.poll_some.new.tx.plan (queues_in tx.links) port =
       subst (λ p. BelongsTo p (queues_in tx.links) port) (sym c.poll_some.ensures.plan) back in
       subst (λ q. BelongsTo c.poll_some.new.tx.plan q port) (sym c.poll_some.ensures.queues) planned;
 }
 
-pub returns-in-Ok : goal.returns-in-Ok
-returns-in-Ok g c = c.in_ok-tx.ensures.monitor
+pub returns : goal.returns
+returns g c = c.open_and_start-started.ensures.monitor

@@ -1,0 +1,9 @@
+use Rattle.afdx_tests.proofs.testing.open_two.Goals as goal
+
+pub open-tx-requires : goal.open-tx-requires
+open-tx-requires g c = record {
+  a_empty = c.requires.a_empty;
+  b_empty = c.requires.b_empty;
+  a_new = c.requires.a_new;
+  b_new = c.requires.b_new;
+}
