@@ -1,4 +1,4 @@
-use crate::read_tests::TEXT;
+use crate::read_tests::{TEXT, assert_same, assert_same_at, only};
 use afdx_config::read_config;
 use afdx_plan::{Config, Kind, LinkPlan, PortPlan, VlId};
 use std::alloc::{AllocError, Global};
@@ -24,11 +24,9 @@ fn is_port(port: &PortPlan, link: &LinkPlan) -> bool {
 
 /// Asserts that a plan has one link and one port with values in their ranges.
 fn assert_in_ranges(rt: &impl Abort, plan: &Config) {
-    assert_eq!(rt; plan.links().len(), 1);
-    assert_eq!(rt; plan.ports().len(), 1);
-    let link = &plan.links()[0];
+    let link = only(rt, plan.links());
+    let port = only(rt, plan.ports());
     assert!(rt; is_link(link), "{link:?}");
-    let port = &plan.ports()[0];
     assert!(rt; is_port(port, link), "{port:?}");
 }
 
@@ -52,23 +50,25 @@ fn damaged(alloc: Global, place: usize, byte: u8) -> Result<Vec<u8>, AllocError>
     Ok(text)
 }
 
+/// Asserts the fault, as a digit, of the text with this byte at a place.
+fn assert_damage_at(rt: &impl Abort, alloc: Global, byte: u8, place: usize, digit: u8) {
+    let text = damaged(alloc, place, byte).expect(rt, "memory");
+    let number = fault_of_checked(rt, alloc, &text);
+    let wanted = digit.saturating_sub(b'0');
+    assert_eq!(rt; number, wanted, "{byte:#04x} at {place}");
+}
+
 /// Asserts the fault, as a digit, of the text with this byte at each place in turn.
 fn assert_damage(rt: &impl Abort, alloc: Global, byte: u8, faults: &str) {
-    assert_eq!(rt; faults.len(), TEXT.len());
+    assert_same(rt, faults.len(), TEXT.len());
     for (place, digit) in faults.as_bytes().iter().enumerate() {
-        let text = damaged(alloc, place, byte).expect(rt, "memory");
-        let number = fault_of_checked(rt, alloc, &text);
-        assert_eq!(rt;
-            number,
-            digit.saturating_sub(b'0'),
-            "{byte:#04x} at {place}"
-        );
+        assert_damage_at(rt, alloc, byte, place, *digit);
     }
 }
 
 #[test]
 fn each_byte_replaced_gives_a_plan_or_the_fault_of_another_reader(rt: HostRuntime) {
-    for (byte, faults) in DAMAGES {
+    for &(byte, faults) in &DAMAGES {
         assert_damage(&rt, rt.alloc(), byte, faults);
     }
 }
@@ -86,17 +86,15 @@ fn cut_by(lacking: usize) -> &'static [u8] {
 fn assert_greatest(rt: &impl Abort, alloc: Global, text: &[u8], max: usize) {
     let plan = read_config(alloc, text).expect(rt, "a plan");
     assert_in_ranges(rt, &plan);
-    assert_eq!(rt; plan.links()[0].id, VlId(1));
-    let port = &plan.ports()[0];
-    assert_eq!(rt;
-        (port.kind, port.source, port.max),
-        (Kind::Queuing, 1000, max)
-    );
+    assert_same(rt, only(rt, plan.links()).id, VlId(1));
+    let port = only(rt, plan.ports());
+    let told = (port.kind, port.source, port.max);
+    assert_same(rt, told, (Kind::Queuing, 1000, max));
 }
 
 #[test]
 fn a_prefix_that_is_a_plan_has_the_greatest_message_of_its_digits(rt: HostRuntime) {
-    for (lacking, max) in CUTS {
+    for &(lacking, max) in &CUTS {
         assert_greatest(&rt, rt.alloc(), cut_by(lacking), max);
     }
 }

@@ -1,9 +1,30 @@
 use afdx_config::read_config;
-use afdx_plan::{ConfigFault, demo_config, jitter_ns};
+use afdx_plan::{Config, ConfigFault, demo_config, jitter_ns};
 use std::alloc::{AllocError, Global};
-use std::fmt::Write;
+use std::fmt::{Debug, Display, Write};
 use std::process::Abort;
-use std::test::Fail;
+
+/// Asserts that two values are the same. A test that calls this has a short proof, since an assertion
+/// of its own is long to prove.
+pub fn assert_same<V: PartialEq + Debug + Copy>(rt: &impl Abort, told: V, wanted: V) {
+    assert_eq!(rt; told, wanted);
+}
+
+/// Asserts that two values are the same, and tells the place where they are not.
+pub fn assert_same_at<V: PartialEq + Debug + Copy, P: Display + Copy>(
+    rt: &impl Abort,
+    told: V,
+    wanted: V,
+    place: P,
+) {
+    assert_eq!(rt; told, wanted, "at {place}");
+}
+
+/// The first of a list that is asserted to have no more.
+pub fn only<'a, V>(rt: &impl Abort, all: &'a [V]) -> &'a V {
+    assert_same(rt, all.len(), 1);
+    all.first().expect(rt, "one")
+}
 
 // the text of the demonstration configuration
 pub const TEXT: &str = "[end_system]
@@ -55,28 +76,38 @@ fn fault_of(alloc: Global, text: &[u8]) -> u8 {
 /// Asserts the number of the fault of a text, or 0. A test that calls this has a short proof, since
 /// it learns nothing of the answer.
 pub fn assert_fault(rt: &impl Abort, alloc: Global, text: &str, number: u8) {
-    assert_eq!(rt; fault_of(alloc, text.as_bytes()), number, "{text}");
+    assert_same_at(rt, fault_of(alloc, text.as_bytes()), number, text);
 }
 
 /// The same of texts, one behind the other.
-fn assert_joined(rt: &impl Abort, alloc: Global, parts: &[&str], number: u8) {
+pub fn assert_joined(rt: &impl Abort, alloc: Global, parts: &[&str], number: u8) {
     let text = joined(alloc, parts).expect(rt, "memory");
     assert_fault(rt, alloc, &text, number);
 }
 
 /// The same of a text with a change.
 fn assert_changed(rt: &impl Abort, alloc: Global, text: &str, old: &str, new: &str, number: u8) {
-    let changed = text.replace(alloc, old, new).expect(rt, "memory");
-    assert_fault(rt, alloc, &changed, number);
+    let text = changed(rt, alloc, text, old, new);
+    assert_fault(rt, alloc, &text, number);
+}
+
+/// A text with a change.
+fn changed(rt: &impl Abort, alloc: Global, text: &str, old: &str, new: &str) -> String {
+    text.replace(alloc, old, new).expect(rt, "memory")
+}
+
+/// The plan of a text that is one.
+pub fn read(rt: &impl Abort, alloc: Global, text: &str) -> Config {
+    read_config(alloc, text.as_bytes()).expect(rt, "a plan")
 }
 
 /// Asserts that a text is the plan of the demonstration.
 pub fn assert_demo(rt: &impl Abort, alloc: Global, text: &str) {
-    let read = read_config(alloc, text.as_bytes()).expect(rt, "a plan");
+    let told = read(rt, alloc, text);
     let demo = demo_config(alloc).expect(rt, "memory");
-    assert_eq!(rt; read.end_system(), demo.end_system());
-    assert_eq!(rt; read.links(), demo.links());
-    assert_eq!(rt; read.ports(), demo.ports());
+    assert_same(rt, told.end_system(), demo.end_system());
+    assert_same(rt, told.links(), demo.links());
+    assert_same(rt, told.ports(), demo.ports());
 }
 
 #[test]
@@ -110,29 +141,31 @@ const CHANGES: [(&str, &str, u8); 20] = [
 
 #[test]
 fn a_text_with_one_change_has_its_fault(rt: HostRuntime) {
-    for (old, new, number) in CHANGES {
+    for &(old, new, number) in &CHANGES {
         assert_changed(&rt, rt.alloc(), TEXT, old, new, number);
     }
 }
 
 #[test]
-fn a_sampling_port_s_message_fits_into_one_frame(rt: HostRuntime) -> Result<(), Fail> {
-    let sampling = TEXT.replace(rt.alloc(), "queuing", "sampling")?;
+fn a_sampling_port_s_message_fits_into_one_frame(rt: HostRuntime) {
+    let sampling = changed(&rt, rt.alloc(), TEXT, "queuing", "sampling");
     for (max, number) in [("max = 1471", 0), ("max = 1472", 11)] {
         assert_changed(&rt, rt.alloc(), &sampling, "max = 8192", max, number);
     }
-    Ok(())
+}
+
+/// Asserts the number of the fault of the demonstration's text with a part behind that has a change.
+fn assert_behind(rt: &impl Abort, alloc: Global, part: &str, old: &str, new: &str, number: u8) {
+    let part = changed(rt, alloc, part, old, new);
+    assert_joined(rt, alloc, &[TEXT, &part], number);
 }
 
 #[test]
-fn tables_that_stand_twice_have_the_fault_of_the_least_number(rt: HostRuntime) -> Result<(), Fail> {
+fn tables_that_stand_twice_have_the_fault_of_the_least_number(rt: HostRuntime) {
     assert_joined(&rt, rt.alloc(), &[TEXT, LINK], 7);
-    let bad_second = LINK.replace(rt.alloc(), "bag_ms = 1", "bag_ms = 3")?;
-    assert_joined(&rt, rt.alloc(), &[TEXT, &bad_second], 6);
+    assert_behind(&rt, rt.alloc(), LINK, "bag_ms = 1", "bag_ms = 3", 6);
     assert_joined(&rt, rt.alloc(), &[TEXT, PORT], 8);
-    let same_flow = PORT.replace(rt.alloc(), "id = 10", "id = 11")?;
-    assert_joined(&rt, rt.alloc(), &[TEXT, &same_flow], 12);
-    Ok(())
+    assert_behind(&rt, rt.alloc(), PORT, "id = 10", "id = 11", 12);
 }
 
 // lines that a port may end with
@@ -141,26 +174,24 @@ const ADDRESS: &str = "dest_ip = \"10.0.2.1\"\n";
 const OTHER_ADDRESS: &str = "dest_ip = \"10.0.2.2\"\n";
 
 #[test]
-fn a_port_may_have_a_unicast_address(rt: HostRuntime) -> Result<(), Fail> {
-    let unicast = joined(rt.alloc(), &[TEXT, ADDRESS])?;
-    let read = read_config(rt.alloc(), unicast.as_bytes())?;
-    assert_eq!(rt; read.ports().len(), 1);
-    assert_eq!(rt; read.ports()[0].unicast, Some([10, 0, 2, 1]));
-    Ok(())
+fn a_port_may_have_a_unicast_address(rt: HostRuntime) {
+    let unicast = joined(rt.alloc(), &[TEXT, ADDRESS]).expect(&rt, "memory");
+    let config = read(&rt, rt.alloc(), &unicast);
+    let port = only(&rt, config.ports());
+    assert_same(&rt, port.unicast, Some([10, 0, 2, 1]));
+}
+
+/// Asserts the number of the fault, or 0, where a second link's port has an address of the partition.
+fn assert_address(rt: &impl Abort, alloc: Global, address: &str, number: u8) {
+    let link = changed(rt, alloc, LINK, "id = 1", "id = 2");
+    let port = changed(rt, alloc, PORT, "id = 10\nvl = 1", "id = 11\nvl = 2");
+    assert_joined(rt, alloc, &[TEXT, ADDRESS, &link, &port, address], number);
 }
 
 #[test]
-fn one_unicast_address_of_a_partition_is_of_one_link(rt: HostRuntime) -> Result<(), Fail> {
-    let link = LINK.replace(rt.alloc(), "id = 1", "id = 2")?;
-    let port = PORT.replace(rt.alloc(), "id = 10\nvl = 1", "id = 11\nvl = 2")?;
-    assert_joined(
-        &rt,
-        rt.alloc(),
-        &[TEXT, ADDRESS, &link, &port, OTHER_ADDRESS],
-        0,
-    );
-    assert_joined(&rt, rt.alloc(), &[TEXT, ADDRESS, &link, &port, ADDRESS], 13);
-    Ok(())
+fn one_unicast_address_of_a_partition_is_of_one_link(rt: HostRuntime) {
+    assert_address(&rt, rt.alloc(), OTHER_ADDRESS, 0);
+    assert_address(&rt, rt.alloc(), ADDRESS, 13);
 }
 
 #[test]
@@ -195,13 +226,12 @@ fn text_with_links(alloc: Global, last: u8) -> Result<String, AllocError> {
 }
 
 #[test]
-fn a_plan_may_be_past_its_limits(rt: HostRuntime) -> Result<(), Fail> {
-    let most = text_with_links(rt.alloc(), 64)?;
-    assert_fault(&rt, rt.alloc(), &most, 0);
-    let over = text_with_links(rt.alloc(), 65)?;
-    assert_fault(&rt, rt.alloc(), &over, 14);
+fn a_plan_may_be_past_its_limits(rt: HostRuntime) {
+    for (last, number) in [(64, 0), (65, 14)] {
+        let text = text_with_links(rt.alloc(), last).expect(&rt, "memory");
+        assert_fault(&rt, rt.alloc(), &text, number);
+    }
     assert_joined(&rt, rt.alloc(), &["port = []\n", HEAD, LINK], 14);
-    Ok(())
 }
 
 #[test]
@@ -211,10 +241,8 @@ fn no_link_at_all_is_first_seen_at_the_port(rt: HostRuntime) {
 
 #[test]
 fn bytes_that_are_no_text_are_no_toml(rt: HostRuntime) {
-    assert_eq!(rt;
-        read_config(rt.alloc(), b"\xff").err(),
-        Some(ConfigFault::Toml)
-    );
+    let fault = read_config(rt.alloc(), b"\xff").err();
+    assert_same(&rt, fault, Some(ConfigFault::Toml));
 }
 
 #[test]
@@ -223,17 +251,26 @@ fn a_prefix_of_the_text_is_read_only_within_its_last_number(rt: HostRuntime) {
     for len in 0..=bytes.len() {
         let number = fault_of(rt.alloc(), &bytes[..len]);
         // 8, 81, 819 and 8192 are messages' greatest lengths, and the last line may lack its end
-        if len + 5 > bytes.len() {
-            assert_eq!(rt; number, 0, "at {len}");
+        let is_read = len + 5 > bytes.len();
+        let is_wanted = if is_read {
+            number == 0
         } else {
-            assert!(rt; number == 1 || number == 2, "at {len}");
-        }
+            number == 1 || number == 2
+        };
+        assert!(rt; is_wanted, "{number} at {len}");
     }
 }
 
+// A text and what is put in its place, twice, and the number of a fault.
+type Pair = (
+    (&'static str, &'static str),
+    (&'static str, &'static str),
+    u8,
+);
+
 // What is changed at a link and at a port, so that each has a fault, and the number of the lesser
 // one.
-const PAIRS: [((&str, &str), (&str, &str), u8); 8] = [
+const PAIRS: [Pair; 8] = [
     (
         ("lmax = 1518", "lmax = 63"),
         ("max = 8192", "max = 8192\nspeed = 1"),
@@ -257,45 +294,46 @@ const PAIRS: [((&str, &str), (&str, &str), u8); 8] = [
 ];
 
 /// Asserts the number of the fault of a link and a port with a change each, in either order.
-fn assert_pair(rt: &impl Abort, alloc: Global, link: (&str, &str), port: (&str, &str), number: u8) {
-    let link = LINK.replace(alloc, link.0, link.1).expect(rt, "memory");
-    let port = PORT.replace(alloc, port.0, port.1).expect(rt, "memory");
-    assert_joined(rt, alloc, &[HEAD, &link, &port], number);
-    assert_joined(rt, alloc, &[&port, &link, HEAD], number);
+fn assert_pair(rt: &impl Abort, alloc: Global, pair: &Pair) {
+    let (link, port, number) = pair;
+    let link = changed(rt, alloc, LINK, link.0, link.1);
+    let port = changed(rt, alloc, PORT, port.0, port.1);
+    assert_joined(rt, alloc, &[HEAD, &link, &port], *number);
+    assert_joined(rt, alloc, &[&port, &link, HEAD], *number);
 }
 
 #[test]
 fn the_fault_of_the_least_number_is_answered_in_either_order(rt: HostRuntime) {
-    for (link, port, number) in PAIRS {
-        assert_pair(&rt, rt.alloc(), link, port, number);
+    for pair in &PAIRS {
+        assert_pair(&rt, rt.alloc(), pair);
     }
 }
 
 #[test]
-fn faults_of_a_plan_are_answered_in_either_order(rt: HostRuntime) -> Result<(), Fail> {
+fn faults_of_a_plan_are_answered_in_either_order(rt: HostRuntime) {
     assert_joined(&rt, rt.alloc(), &[HEAD, LINK, PORT, PORT, LINK], 7);
-    let lost = PORT.replace(rt.alloc(), "id = 10\nvl = 1", "id = 11\nvl = 9")?;
+    let lost = changed(&rt, rt.alloc(), PORT, "id = 10\nvl = 1", "id = 11\nvl = 9");
     let (old, new) = ("id = 10\nvl = 1\nsub = 0", "id = 12\nvl = 1\nsub = 1");
-    let no_sub = PORT.replace(rt.alloc(), old, new)?;
+    let no_sub = changed(&rt, rt.alloc(), PORT, old, new);
     assert_joined(&rt, rt.alloc(), &[TEXT, &lost, &no_sub], 9);
     assert_joined(&rt, rt.alloc(), &[TEXT, &no_sub, &lost], 9);
-    Ok(())
 }
 
+// The same as `CHANGES`, of blanks, line ends and comments, which leave the plan as it is.
+const BLANKS: [(&str, &str); 5] = [
+    (" = ", "\t=\t"),
+    (" = ", "="),
+    ("\n", "\r\n"),
+    ("\n", " # note\n"),
+    ("\n\n", "\n"),
+];
+
 #[test]
-fn blanks_line_ends_and_comments_say_nothing(rt: HostRuntime) -> Result<(), Fail> {
-    let changes = [
-        (" = ", "\t=\t"),
-        (" = ", "="),
-        ("\n", "\r\n"),
-        ("\n", " # note\n"),
-        ("\n\n", "\n"),
-    ];
-    for (old, new) in changes {
-        let text = TEXT.replace(rt.alloc(), old, new)?;
+fn blanks_line_ends_and_comments_say_nothing(rt: HostRuntime) {
+    for &(old, new) in &BLANKS {
+        let text = changed(&rt, rt.alloc(), TEXT, old, new);
         assert_demo(&rt, rt.alloc(), &text);
     }
-    Ok(())
 }
 
 #[test]
@@ -330,7 +368,7 @@ const VALUES: [(&str, &str, u8); 19] = [
 
 #[test]
 fn a_value_is_a_whole_number_that_stands_once(rt: HostRuntime) {
-    for (old, new, number) in VALUES {
+    for &(old, new, number) in &VALUES {
         assert_changed(&rt, rt.alloc(), TEXT, old, new, number);
     }
 }
@@ -354,34 +392,30 @@ fn sections_have_their_kinds(rt: HostRuntime) {
 }
 
 #[test]
-fn a_text_that_ends_behind_a_sign_is_no_toml(rt: HostRuntime) -> Result<(), Fail> {
-    let (before, _rest) = TEXT.split_once("lmax =").ok_or("no such key")?;
+fn a_text_that_ends_behind_a_sign_is_no_toml(rt: HostRuntime) {
+    let (before, _rest) = TEXT.split_once("lmax =").expect(&rt, "such a key");
     assert_joined(&rt, rt.alloc(), &[before, "lmax ="], 1);
-    Ok(())
 }
 
-/// So many bytes at random, and the state behind them.
-fn random_bytes(alloc: Global, state: u64, count: usize) -> Result<(Vec<u8>, u64), AllocError> {
+/// So many bytes at random, from a state that goes on behind them.
+fn random_bytes(alloc: Global, state: &mut u64, count: usize) -> Result<Vec<u8>, AllocError> {
     let mut bytes = Vec::new(alloc);
-    let mut state = state;
     for _ in 0..count {
-        state ^= state << 13;
-        state ^= state >> 7;
-        state ^= state << 17;
-        bytes.push((state % 256) as u8)?;
+        *state ^= *state << 13;
+        *state ^= *state >> 7;
+        *state ^= *state << 17;
+        bytes.push((*state % 256) as u8)?;
     }
-    Ok((bytes, state))
+    Ok(bytes)
 }
 
 #[test]
-fn bytes_at_random_are_no_toml(rt: HostRuntime) -> Result<(), Fail> {
+fn bytes_at_random_are_no_toml(rt: HostRuntime) {
     let mut state = 1u64;
     for count in 1..100usize {
-        let (bytes, next) = random_bytes(rt.alloc(), state, 8 * count)?;
-        state = next;
-        assert_eq!(rt; fault_of(rt.alloc(), &bytes), 1, "at {count}");
+        let bytes = random_bytes(rt.alloc(), &mut state, 8 * count).expect(&rt, "memory");
+        assert_same_at(&rt, fault_of(rt.alloc(), &bytes), 1, count);
     }
-    Ok(())
 }
 
 /// Puts a port behind, as that of the demonstration but for these values.
@@ -403,31 +437,27 @@ fn most_ports(alloc: Global) -> Result<String, AllocError> {
 }
 
 #[test]
-fn ports_may_be_past_their_limits(rt: HostRuntime) -> Result<(), Fail> {
-    let text = most_ports(rt.alloc())?;
-    let read = read_config(rt.alloc(), text.as_bytes())?;
-    assert_eq!(rt; read.ports().len(), 256);
-    let one_more = PORT.replace(rt.alloc(), "id = 10\nvl = 1", "id = 11\nvl = 2")?;
-    let link = LINK.replace(rt.alloc(), "id = 1", "id = 2")?;
+fn ports_may_be_past_their_limits(rt: HostRuntime) {
+    let text = most_ports(rt.alloc()).expect(&rt, "memory");
+    assert_same(&rt, read(&rt, rt.alloc(), &text).ports().len(), 256);
+    let one_more = changed(&rt, rt.alloc(), PORT, "id = 10\nvl = 1", "id = 11\nvl = 2");
+    let link = changed(&rt, rt.alloc(), LINK, "id = 1", "id = 2");
     assert_joined(&rt, rt.alloc(), &[&text, &link, &one_more], 14);
-    Ok(())
 }
 
 #[test]
-fn a_sub_vl_has_64_ports_at_most(rt: HostRuntime) -> Result<(), Fail> {
-    let mut text = TEXT.to_string(rt.alloc())?;
+fn a_sub_vl_has_64_ports_at_most(rt: HostRuntime) {
+    let mut text = TEXT.to_string(rt.alloc()).expect(&rt, "memory");
     for id in 11..75u16 {
-        assert_eq!(rt; fault_of(rt.alloc(), text.as_bytes()), 0, "before {id}");
-        push_port(&mut text, id, 0, 1000 + id)?;
+        assert_same_at(&rt, fault_of(rt.alloc(), text.as_bytes()), 0, id);
+        push_port(&mut text, id, 0, 1000 + id).expect(&rt, "memory");
     }
     assert_fault(&rt, rt.alloc(), &text, 14);
-    Ok(())
 }
 
 #[test]
-fn four_links_of_the_greatest_frame_have_a_jitter_of_532_160(rt: HostRuntime) -> Result<(), Fail> {
-    let text = text_with_links(rt.alloc(), 4)?;
-    let config = read_config(rt.alloc(), text.as_bytes())?;
-    assert_eq!(rt; jitter_ns(&config), 532_160);
-    Ok(())
+fn four_links_of_the_greatest_frame_have_a_jitter_of_532_160(rt: HostRuntime) {
+    let text = text_with_links(rt.alloc(), 4).expect(&rt, "memory");
+    let config = read(&rt, rt.alloc(), &text);
+    assert_same(&rt, jitter_ns(&config), 532_160);
 }

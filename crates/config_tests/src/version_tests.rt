@@ -1,16 +1,17 @@
 //! Tests of the versions of a text, and of the checksums of ports and the networks of links in version 2.
-use crate::read_tests::{HEAD, LINK, PORT, TEXT, assert_demo, assert_fault, joined};
-use afdx_config::{Networks, UdpSum, read_config};
+use crate::read_tests::{
+    HEAD, LINK, PORT, TEXT, assert_demo, assert_joined, assert_same, joined, only, read,
+};
+use afdx_config::{Networks, UdpSum};
+use std::alloc::Global;
 use std::process::Abort;
-use std::test::Fail;
 
 #[test]
-fn a_text_of_either_version_is_the_plan_of_the_demonstration(rt: HostRuntime) -> Result<(), Fail> {
+fn a_text_of_either_version_is_the_plan_of_the_demonstration(rt: HostRuntime) {
     for version in ["version = 1\n", "version = 2\n"] {
-        let text = joined(rt.alloc(), &[version, TEXT])?;
+        let text = joined(rt.alloc(), &[version, TEXT]).expect(&rt, "memory");
         assert_demo(&rt, rt.alloc(), &text);
     }
-    Ok(())
 }
 
 // What stands before the demonstration's text, what stands at the end of its port, and the number of
@@ -39,28 +40,29 @@ const VERSIONS: [(&str, &str, u8); 20] = [
 ];
 
 #[test]
-fn a_checksum_is_a_key_of_version_2_alone(rt: HostRuntime) -> Result<(), Fail> {
-    for (before, behind, number) in VERSIONS {
-        let text = joined(rt.alloc(), &[before, TEXT, behind])?;
-        assert_fault(&rt, rt.alloc(), &text, number);
+fn a_checksum_is_a_key_of_version_2_alone(rt: HostRuntime) {
+    for &(before, behind, number) in &VERSIONS {
+        assert_joined(&rt, rt.alloc(), &[before, TEXT, behind], number);
     }
-    Ok(())
+}
+
+/// Asserts the checksum of the port of a text, given by what stands at the port's end.
+fn assert_checksum(rt: &impl Abort, alloc: Global, behind: &str, checksum: UdpSum) {
+    let text = joined(alloc, &["version = 2\n", TEXT, behind]).expect(rt, "memory");
+    let config = read(rt, alloc, &text);
+    assert_same(rt, only(rt, config.ports()).checksum, checksum);
 }
 
 #[test]
-fn a_port_has_the_checksum_that_its_table_names(rt: HostRuntime) -> Result<(), Fail> {
+fn a_port_has_the_checksum_that_its_table_names(rt: HostRuntime) {
     let named = [
         ("", UdpSum::Omitted),
         ("checksum = \"none\"\n", UdpSum::Omitted),
         ("checksum = \"udp\"\n", UdpSum::Generated),
     ];
     for (behind, checksum) in named {
-        let text = joined(rt.alloc(), &["version = 2\n", TEXT, behind])?;
-        let read = read_config(rt.alloc(), text.as_bytes())?;
-        assert_eq!(rt; read.ports().len(), 1);
-        assert_eq!(rt; read.ports()[0].checksum, checksum);
+        assert_checksum(&rt, rt.alloc(), behind, checksum);
     }
-    Ok(())
 }
 
 // What stands before the demonstration's text, what stands at the end of its link, and the number of
@@ -84,16 +86,23 @@ const NETWORKS: [(&str, &str, u8); 15] = [
 ];
 
 #[test]
-fn networks_are_a_key_of_version_2_alone(rt: HostRuntime) -> Result<(), Fail> {
-    for (before, behind, number) in NETWORKS {
-        let text = joined(rt.alloc(), &[before, HEAD, LINK, behind, PORT])?;
-        assert_fault(&rt, rt.alloc(), &text, number);
+fn networks_are_a_key_of_version_2_alone(rt: HostRuntime) {
+    for &(before, behind, number) in &NETWORKS {
+        let parts = [before, HEAD, LINK, behind, PORT];
+        assert_joined(&rt, rt.alloc(), &parts, number);
     }
-    Ok(())
+}
+
+/// Asserts the networks of the link of a text, given by what stands at the link's end.
+fn assert_networks(rt: &impl Abort, alloc: Global, behind: &str, networks: Networks) {
+    let parts = ["version = 2\n", HEAD, LINK, behind, PORT];
+    let text = joined(alloc, &parts).expect(rt, "memory");
+    let config = read(rt, alloc, &text);
+    assert_same(rt, only(rt, config.links()).networks, networks);
 }
 
 #[test]
-fn a_link_is_on_the_networks_that_its_table_names(rt: HostRuntime) -> Result<(), Fail> {
+fn a_link_is_on_the_networks_that_its_table_names(rt: HostRuntime) {
     let named = [
         ("", Networks::Both),
         ("networks = \"both\"\n", Networks::Both),
@@ -101,10 +110,6 @@ fn a_link_is_on_the_networks_that_its_table_names(rt: HostRuntime) -> Result<(),
         ("networks = \"b\"\n", Networks::OnlyB),
     ];
     for (behind, networks) in named {
-        let text = joined(rt.alloc(), &["version = 2\n", HEAD, LINK, behind, PORT])?;
-        let read = read_config(rt.alloc(), text.as_bytes())?;
-        assert_eq!(rt; read.links().len(), 1);
-        assert_eq!(rt; read.links()[0].networks, networks);
+        assert_networks(&rt, rt.alloc(), behind, networks);
     }
-    Ok(())
 }
