@@ -20,9 +20,8 @@ use afdx_handle::answer::{
     BOTH_DOWN, DONE, GATHERED, HELD, MEMORY, NO_FRAME, NO_LINK, NO_NETWORK, NO_PORT, NO_SUB,
     NOT_GATHERED, NOT_HELD, PORT_MISSING, SMALL_BUFFER, TIME_BACK, WRONG_HANDLE, net_of,
 };
-use afdx_handle::{Handle, Home, LinkCounts, gather, give_in, open_end_system, send, take_port};
+use afdx_handle::{Handle, Home, LinkCounts, gather_in, give_in, open_home, send, take_port};
 use std::alloc::Global;
-use std::mem;
 
 /// Opens an end system from the text of a configuration.
 #[unsafe(no_mangle)]
@@ -36,16 +35,12 @@ pub extern "C" fn afdx_open(alloc: Global, out: &mut Handle, text: &[u8]) -> u8
     if !out.is_empty() {
         return HELD;
     }
-    let end_system = match open_end_system(alloc, text) {
-        Ok(end_system) => end_system,
-        Err(fault) => return fault.number(),
-    };
-    match Box::new(alloc, Home::EndSystem(end_system)) {
+    match open_home(alloc, text) {
         Ok(home) => {
             out.put(home);
             DONE
         }
-        Err(_) => MEMORY,
+        Err(fault) => fault.number(),
     }
 }
 
@@ -471,18 +466,7 @@ pub extern "C" fn afdx_gather(alloc: Global, it: &mut Handle) -> u8
     let Some(mut home) = it.take() else {
         return NOT_HELD;
     };
-    let answer = match mem::replace(&mut *home, Home::Nothing) {
-        Home::EndSystem(end_system) => {
-            let (gathered, answer) = gather(alloc, end_system);
-            *home = Home::EndSystem(gathered);
-            answer
-        }
-        Home::Port(port) => {
-            *home = Home::Port(port);
-            WRONG_HANDLE
-        }
-        Home::Nothing => NOT_HELD,
-    };
+    let answer = gather_in(alloc, &mut home);
     it.put(home);
     answer
 }

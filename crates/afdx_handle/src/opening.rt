@@ -1,9 +1,11 @@
 //! Opening an end system.
-ghost use Rattle.std.specs.Prelude.{◌≡◌, ◌≢◌, [], IfOk, IfErr};
+ghost use Rattle.std.specs.Prelude.{◌≡◌, ◌≢◌, [], Some, IfOk, IfErr, IsSomeAnd};
 ghost use Rattle.afdx_config.specs.Faults.{IsLeastFault};
 ghost use Rattle.afdx_handle.specs.EndSystem.{IsOpened};
+ghost use Rattle.afdx_handle.specs.Held.{end_of};
 
 use crate::end_system::{EndSystem, Side};
+use crate::home::Home;
 use crate::stage::Stage;
 use afdx_config::{ConfigFault, read_config};
 use afdx_tx::open_tx;
@@ -44,4 +46,19 @@ pub fn open_end_system(alloc: Global, text: &[u8]) -> Result<EndSystem, ConfigFa
     };
     let stage = Stage::Sending(emitter);
     Ok(EndSystem { stage, ports, a, b })
+}
+
+/// What a handle of an end system of a configuration owns. Refused as the opening of the end system is, and
+/// with `Memory` where memory for the box was refused.
+pub fn open_home(alloc: Global, text: &[u8]) -> Result<Box<Home>, ConfigFault>
+    ensures opened { IfOk result (λ home.
+        IsSomeAnd (end_of (Some home.value)) (IsOpened text.now)) }
+    ensures fault { IfErr result (λ fault.
+        fault ≢ ConfigFault.Memory → IsLeastFault text.now fault) }
+{
+    let end_system = open_end_system(alloc, text)?;
+    match Box::new(alloc, Home::EndSystem(end_system)).ok() {
+        Some(home) => Ok(home),
+        None => Err(ConfigFault::Memory),
+    }
 }

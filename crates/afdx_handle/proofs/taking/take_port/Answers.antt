@@ -37,158 +37,32 @@ returns-in_default-position_of-clause-taken c = search rules
 pub new-requires : goal.new-requires
 new-requires c κs = search rules
 
-pub drop-requires : goal.drop-requires
-drop-requires c κs = search rules
+pub returns-in_default-ok-clause-numbers : goal.returns-in_default-ok-clause-numbers
+returns-in_default-ok-clause-numbers c = search rules
 
-pub drop-requires-in_default-new : goal.drop-requires-in_default-new
-drop-requires-in_default-new c κs = search rules
+pub returns-in_default-ok-clause-gathered : goal.returns-in_default-ok-clause-gathered
+returns-in_default-ok-clause-gathered c = search rules
 
-pub drop-requires-in_default-new-2 : goal.drop-requires-in_default-new-2
-drop-requires-in_default-new-2 c κs = search rules
+pub returns-in_default-ok-clause-no_port : goal.returns-in_default-ok-clause-no_port
+returns-in_default-ok-clause-no_port c = search rules
 
-pub drop-requires-in_default-new-3 : goal.drop-requires-in_default-new-3
-drop-requires-in_default-new-3 c κs = search rules
+pub returns-in_default-ok-clause-sending : goal.returns-in_default-ok-clause-sending
+returns-in_default-ok-clause-sending c = search rules
 
-pub drop-requires-in_default-new-4 : goal.drop-requires-in_default-new-4
-drop-requires-in_default-new-4 c κs = search rules
+pub returns-in_default-ok-clause-here : goal.returns-in_default-ok-clause-here
+returns-in_default-ok-clause-here c = search rules
 
-pub drop-requires-in_default-new-5 : goal.drop-requires-in_default-new-5
-drop-requires-in_default-new-5 c κs = search rules
+pub returns-in_default-ok-clause-taken : goal.returns-in_default-ok-clause-taken
+returns-in_default-ok-clause-taken c = search rules
 
-pub drop-requires-in_default-new-6 : goal.drop-requires-in_default-new-6
-drop-requires-in_default-new-6 c κs = search rules
-
-pub drop-requires-in_default-new-7 : goal.drop-requires-in_default-new-7
-drop-requires-in_default-new-7 c κs = search rules
-
-pub drop-requires-in_default-new-8 : goal.drop-requires-in_default-new-8
-drop-requires-in_default-new-8 c κs = search rules
-
-pub drop-requires-in_default-new-2-2 : goal.drop-requires-in_default-new-2-2
-drop-requires-in_default-new-2-2 c κs = search rules
-
-pub drop-requires-in_default-new-2-3 : goal.drop-requires-in_default-new-2-3
-drop-requires-in_default-new-2-3 c κs = search rules
-
-pub drop-requires-in_default-new-2-4 : goal.drop-requires-in_default-new-2-4
-drop-requires-in_default-new-2-4 c κs = search rules
-
-pub drop-requires-in_default-new-2-5 : goal.drop-requires-in_default-new-2-5
-drop-requires-in_default-new-2-5 c κs = search rules
-
-pub drop-requires-in_default-new-2-6 : goal.drop-requires-in_default-new-2-6
-drop-requires-in_default-new-2-6 c κs = search rules
-
-pub drop-requires-in_default-new-2-7 : goal.drop-requires-in_default-new-2-7
-drop-requires-in_default-new-2-7 c κs = search rules
-
-pub drop-requires-in_default-new-2-8 : goal.drop-requires-in_default-new-2-8
-drop-requires-in_default-new-2-8 c κs = search rules
-
-pub drop-requires-in_default-new-9 : goal.drop-requires-in_default-new-9
-drop-requires-in_default-new-9 c κs = search rules
-
-pub drop-requires-in_default-new-3-2 : goal.drop-requires-in_default-new-3-2
-drop-requires-in_default-new-3-2 c κs = search rules
-
-pub drop-requires-in_default-new-3-3 : goal.drop-requires-in_default-new-3-3
-drop-requires-in_default-new-3-3 c κs = search rules
-
-pub drop-requires-in_default-new-10 : goal.drop-requires-in_default-new-10
-drop-requires-in_default-new-10 c κs = search rules
-
-pub drop-requires-in_default-new-4-2 : goal.drop-requires-in_default-new-4-2
-drop-requires-in_default-new-4-2 c κs = search rules
-
-pub returns-in_default-new-clause-numbers : goal.returns-in_default-new-clause-numbers
-returns-in_default-new-clause-numbers c = search rules
-
-pub returns-in_default-new-clause-gathered : goal.returns-in_default-new-clause-gathered
-returns-in_default-new-clause-gathered c = search rules
-
-pub returns-in_default-new-clause-no_port : goal.returns-in_default-new-clause-no_port
-returns-in_default-new-clause-no_port c = search rules
-
-pub returns-in_default-new-clause-sending : goal.returns-in_default-new-clause-sending
-returns-in_default-new-clause-sending c = search rules
-
-pub returns-in_default-new-clause-here : goal.returns-in_default-new-clause-here
-returns-in_default-new-clause-here c = search rules
-
-pub returns-in_default-new-clause-taken : goal.returns-in_default-new-clause-taken
-returns-in_default-new-clause-taken c = search rules
-
-pub returns-in_default-new-clause-refused : goal.returns-in_default-new-clause-refused
-returns-in_default-new-clause-refused c = search rules
+pub returns-in_default-ok-clause-refused : goal.returns-in_default-ok-clause-refused
+returns-in_default-ok-clause-refused c = search rules
 
 pub take_at-requires : goal.take_at-requires
 take_at-requires c = search rules
 
 pub deref_mut-requires : goal.deref_mut-requires
 deref_mut-requires c κs = search rules
-
-pub drop-deref_mut-requires : goal.drop-deref_mut-requires
-drop-deref_mut-requires c κs = search rules
-
-pub drop-deref_mut-requires-in-Ok : goal.drop-deref_mut-requires-in-Ok
-drop-deref_mut-requires-in-Ok c κs = search rules
-
-pub drop-deref_mut-requires-in-Ok-2 : goal.drop-deref_mut-requires-in-Ok-2
-drop-deref_mut-requires-in-Ok-2 c κs = search rules
-
-pub drop-deref_mut-requires-in-Ok-3 : goal.drop-deref_mut-requires-in-Ok-3
-drop-deref_mut-requires-in-Ok-3 c κs = search rules
-
-pub drop-deref_mut-requires-in-Ok-4 : goal.drop-deref_mut-requires-in-Ok-4
-drop-deref_mut-requires-in-Ok-4 c κs = search rules
-
-pub drop-deref_mut-requires-in-Ok-5 : goal.drop-deref_mut-requires-in-Ok-5
-drop-deref_mut-requires-in-Ok-5 c κs = search rules
-
-pub drop-deref_mut-requires-in-Ok-6 : goal.drop-deref_mut-requires-in-Ok-6
-drop-deref_mut-requires-in-Ok-6 c κs = search rules
-
-pub drop-deref_mut-requires-in-Ok-7 : goal.drop-deref_mut-requires-in-Ok-7
-drop-deref_mut-requires-in-Ok-7 c κs = search rules
-
-pub drop-requires-in-Ok : goal.drop-requires-in-Ok
-drop-requires-in-Ok c κs = search rules
-
-pub drop-requires-in-Ok-2 : goal.drop-requires-in-Ok-2
-drop-requires-in-Ok-2 c κs = search rules
-
-pub drop-requires-in-Ok-3 : goal.drop-requires-in-Ok-3
-drop-requires-in-Ok-3 c κs = search rules
-
-pub drop-requires-in-Ok-4 : goal.drop-requires-in-Ok-4
-drop-requires-in-Ok-4 c κs = search rules
-
-pub drop-requires-in-Ok-5 : goal.drop-requires-in-Ok-5
-drop-requires-in-Ok-5 c κs = search rules
-
-pub drop-requires-in-Ok-6 : goal.drop-requires-in-Ok-6
-drop-requires-in-Ok-6 c κs = search rules
-
-pub drop-requires-in-Ok-7 : goal.drop-requires-in-Ok-7
-drop-requires-in-Ok-7 c κs = search rules
-
-pub drop-requires-in-Ok-8 : goal.drop-requires-in-Ok-8
-drop-requires-in-Ok-8 c κs = search rules
-
-pub drop-deref_mut-requires-in-Ok-8 : goal.drop-deref_mut-requires-in-Ok-8
-drop-deref_mut-requires-in-Ok-8 c κs = search rules
-
-pub drop-deref_mut-requires-in-Ok-2-2 : goal.drop-deref_mut-requires-in-Ok-2-2
-drop-deref_mut-requires-in-Ok-2-2 c κs = search rules
-
-pub drop-deref_mut-requires-in-Ok-2-3 : goal.drop-deref_mut-requires-in-Ok-2-3
-drop-deref_mut-requires-in-Ok-2-3 c κs = search rules
-
-pub drop-requires-in-Ok-9 : goal.drop-requires-in-Ok-9
-drop-requires-in-Ok-9 c κs = search rules
-
-pub drop-requires-in-Ok-2-2 : goal.drop-requires-in-Ok-2-2
-drop-requires-in-Ok-2-2 c κs = search rules
 
 pub returns-clause-numbers : goal.returns-clause-numbers
 returns-clause-numbers c = search rules
@@ -210,3 +84,9 @@ returns-clause-taken c = search rules
 
 pub returns-clause-refused : goal.returns-clause-refused
 returns-clause-refused c = search rules
+
+pub ok-requires : goal.ok-requires
+ok-requires c κs = search rules
+
+pub fill-requires : goal.fill-requires
+fill-requires c = search rules
