@@ -261,51 +261,43 @@ fn a_prefix_of_the_text_is_read_only_within_its_last_number(rt: HostRuntime) {
     }
 }
 
-// A text and what is put in its place, twice, and the number of a fault.
-type Pair = (
-    (&'static str, &'static str),
-    (&'static str, &'static str),
-    u8,
-);
-
-// What is changed at a link and at a port, so that each has a fault, and the number of the lesser
-// one.
-const PAIRS: [Pair; 8] = [
+// A text of a link and what is put in its place, the same of a port, so that each has a fault, and the
+// number of the lesser one.
+const PAIRS: [(&str, &str, &str, &str, u8); 8] = [
     (
-        ("lmax = 1518", "lmax = 63"),
-        ("max = 8192", "max = 8192\nspeed = 1"),
+        "lmax = 1518",
+        "lmax = 63",
+        "max = 8192",
+        "max = 8192\nspeed = 1",
         3,
     ),
     (
-        ("lmax = 1518", "lmax = 1518\nspeed = 1"),
-        ("max = 8192", "max = 0"),
+        "lmax = 1518",
+        "lmax = 1518\nspeed = 1",
+        "max = 8192",
+        "max = 0",
         3,
     ),
-    (("lmax = 1518", "lmax = \"1518\""), ("max = 8192", ""), 2),
-    (("lmax = 1518", ""), ("max = 8192", "max = \"8192\""), 2),
-    (("bag_ms = 1", "bag_ms = 3"), ("sub = 0", "sub = 4"), 5),
-    (("bag_ms = 1", "bag_ms = 3"), ("sub = 0", "sub = 1"), 6),
-    (
-        ("sub_vls = 1", "sub_vls = 5"),
-        ("\nvl = 1\n", "\nvl = 9\n"),
-        5,
-    ),
-    (("lmax = 1518", "lmax = true"), ("max = 8192", "max ="), 1),
+    ("lmax = 1518", "lmax = \"1518\"", "max = 8192", "", 2),
+    ("lmax = 1518", "", "max = 8192", "max = \"8192\"", 2),
+    ("bag_ms = 1", "bag_ms = 3", "sub = 0", "sub = 4", 5),
+    ("bag_ms = 1", "bag_ms = 3", "sub = 0", "sub = 1", 6),
+    ("sub_vls = 1", "sub_vls = 5", "\nvl = 1\n", "\nvl = 9\n", 5),
+    ("lmax = 1518", "lmax = true", "max = 8192", "max =", 1),
 ];
 
 /// Asserts the number of the fault of a link and a port with a change each, in either order.
-fn assert_pair(rt: &impl Abort, alloc: Global, pair: &Pair) {
-    let (link, port, number) = pair;
+fn assert_pair(rt: &impl Abort, alloc: Global, link: (&str, &str), port: (&str, &str), number: u8) {
     let link = changed(rt, alloc, LINK, link.0, link.1);
     let port = changed(rt, alloc, PORT, port.0, port.1);
-    assert_joined(rt, alloc, &[HEAD, &link, &port], *number);
-    assert_joined(rt, alloc, &[&port, &link, HEAD], *number);
+    assert_joined(rt, alloc, &[HEAD, &link, &port], number);
+    assert_joined(rt, alloc, &[&port, &link, HEAD], number);
 }
 
 #[test]
 fn the_fault_of_the_least_number_is_answered_in_either_order(rt: HostRuntime) {
-    for pair in &PAIRS {
-        assert_pair(&rt, rt.alloc(), pair);
+    for &(link, new_link, port, new_port, number) in &PAIRS {
+        assert_pair(&rt, rt.alloc(), (link, new_link), (port, new_port), number);
     }
 }
 
