@@ -1,14 +1,14 @@
 //! Tests of a queue whose senders send from threads.
-ghost use Rattle.std.specs.Prelude.{◌≡◌, ℕ, ◌<◌, ◌≤◌, ◌++◌, length, map, slice_index_or, Some, IfOk, IfSome};
-ghost use Rattle.subvl_queue.specs.Views.{SenderView};
+ghost use Rattle.std.specs.Prelude.{◌≡◌, ℕ, ◌<◌, ◌≤◌, ◌++◌, length, map, slice_index_or, Some, IfOk, IfErr, IfSome};
+ghost use Rattle.subvl_queue.specs.Views.{AreOf, SenderView};
 
+use crate::helpers::{assert_same, gather, message, send, take, take_left};
 use std::alloc::{AllocError, Global};
 use std::process::Abort;
 use std::snapshot::Snapshot;
-use std::test::Fail;
 use std::thread;
 use std::thread::{Promise, PromisedHandle, Threads, join_promised};
-use subvl_queue::{Gathered, Item, Receiver, Refused, Sender, Why, make};
+use subvl_queue::{Item, Receiver, Refused, Sender, Why, make};
 
 // How many messages each sender sends.
 const MESSAGES: u8 = 100;
@@ -30,6 +30,24 @@ impl Promise<Option<Sender>> for ComesBack {
 
 type Worker = PromisedHandle<Option<Sender>, ComesBack>;
 
+// Sends a message. Whether it was accepted, or after Full the message, which came back.
+fn send_once(sender: &mut Sender, bytes: Vec<u8>) -> Result<bool, Vec<u8>>
+    requires { length bytes.items ≡ 2 }
+    ensures queue { sender.new.queue ≡ sender.old.queue }
+    ensures back { IfErr result (λ back. back.items ≡ bytes.items) }
+{
+    match send(sender, bytes) {
+        Ok(()) => Ok(true),
+        Err(
+            Refused {
+                why: Why::Full,
+                bytes,
+            },
+        ) => Err(bytes),
+        Err(_) => Ok(false),
+    }
+}
+
 // Sends a message, and again after Full. Whether it was accepted.
 fn send_one(sender: &mut Sender, bytes: Vec<u8>) -> bool
     requires { length bytes.items ≡ 2 }
@@ -37,27 +55,13 @@ fn send_one(sender: &mut Sender, bytes: Vec<u8>) -> bool
 {
     let mut next = bytes;
     for _turn in 0..TURNS {
-        match sender.send(next) {
-            Ok(()) => return true,
-            Err(
-                Refused {
-                    why: Why::Full,
-                    bytes,
-                },
-            ) => {
-                next = bytes;
-                thread::yield_now();
-            }
-            Err(_) => return false,
+        match send_once(sender, next) {
+            Ok(accepted) => return accepted,
+            Err(back) => next = back,
         }
+        thread::yield_now();
     }
     false
-}
-
-fn message(alloc: Global, port: u8, number: u8) -> Result<Vec<u8>, AllocError>
-    ensures { IfOk result (λ bytes. length bytes.items ≡ 2) }
-{
-    Ok(vec![in alloc; port, number]?)
 }
 
 // Sends the sender's index with each number, from 0 on, until one is refused for good.
@@ -66,7 +70,7 @@ fn send_all(alloc: Global, mut sender: Sender) -> Option<Sender>
 {
     let port = sender.index() as u8;
     for number in 0..MESSAGES {
-        let bytes = message(alloc, port, number).ok()?;
+        let bytes = message(alloc, [port, number]).ok()?;
         if !send_one(&mut sender, bytes) {
             return Some(sender);
         }
@@ -75,37 +79,35 @@ fn send_all(alloc: Global, mut sender: Sender) -> Option<Sender>
 }
 
 // Each sender sends in a thread of its own.
-fn start_all<R: Threads>(
-    rt: &R,
-    alloc: Global,
-    senders: Vec<Sender>,
-) -> Result<Vec<Worker>, AllocError>
-    ensures { IfOk result (λ workers. map (λ h. h.promise.of.value) workers.items ≡ senders.items) }
+fn start_all<R: Threads + Abort>(rt: &R, alloc: Global, senders: Vec<Sender>) -> Vec<Worker>
+    ensures { map (λ h. h.promise.of.value) result.items ≡ senders.items }
 {
     let mut workers = Vec::new(alloc);
     for sender in senders {
         let promise = ComesBack {
             of: Snapshot::of(&sender),
         };
-        let worker = thread::spawn_with(rt, promise, move || send_all(alloc, sender))?;
-        workers.push(worker)?;
+        let started = thread::spawn_with(rt, promise, move || send_all(alloc, sender));
+        let worker = started.expect(rt, "a thread");
+        workers.push(worker).expect(rt, "memory");
     }
-    Ok(workers)
+    workers
 }
 
-// The senders, if all came back.
-fn all_back(alloc: Global, ended: Vec<Option<Sender>>) -> Result<Vec<Sender>, AllocError>
-    ensures { IfOk result (λ senders. map Some senders.items ≡ ended.items) }
+// The senders, all of which came back.
+fn all_back<R: Abort>(rt: &R, alloc: Global, ended: Vec<Option<Sender>>) -> Vec<Sender>
+    ensures { map Some result.items ≡ ended.items }
 {
     let mut senders = Vec::new(alloc);
     for one in ended {
-        senders.push(one.ok_or(AllocError)?)?;
+        let sender = one.expect(rt, "a sender");
+        senders.push(sender).expect(rt, "memory");
     }
-    Ok(senders)
+    senders
 }
 
 // Joins the workers. Each sender came back of the queue that it was of.
-fn join_all<R: Threads>(
+fn join_all<R: Threads + Abort>(
     rt: &R,
     alloc: Global,
     workers: Vec<Worker>,
@@ -115,7 +117,7 @@ fn join_all<R: Threads>(
         (slice_index_or senders.items k e).queue ≡ (slice_index_or (map (λ h. h.promise.of.value) workers.items) k d).queue) }
 {
     let ended = join_promised(rt, workers)?;
-    let senders = all_back(alloc, ended)?;
+    let senders = all_back(rt, alloc, ended);
     Ok(senders)
 }
 
@@ -127,7 +129,7 @@ fn take_some(receiver: &mut Receiver, into: &mut Vec<Item>, count: usize) -> Res
         if into.len() >= count {
             return Ok(());
         }
-        match receiver.take() {
+        match take(receiver) {
             Some(item) => into.push(item)?,
             None => thread::yield_now(),
         }
@@ -135,29 +137,38 @@ fn take_some(receiver: &mut Receiver, into: &mut Vec<Item>, count: usize) -> Res
     Ok(())
 }
 
-// Takes what is left.
-fn take_rest(mut gathered: Gathered, into: &mut Vec<Item>) -> Result<(), AllocError> {
-    while let Some(item) = gathered.take() {
-        into.push(item)?;
+// Gathers the senders, and takes what is left.
+fn take_rest<R: Abort>(rt: &R, receiver: Receiver, senders: Vec<Sender>, into: &mut Vec<Item>)
+    requires { AreOf receiver.queue senders.items }
+{
+    let mut gathered = gather(rt, receiver, senders);
+    while let Some(item) = take_left(&mut gathered) {
+        into.push(item).expect(rt, "memory");
     }
-    Ok(())
+}
+
+// Asserts that an item has the next number of its sender, which then rises by one.
+fn check_item<R: Abort>(rt: &R, item: &Item, number: &mut u8) {
+    assert!(rt; *number < MESSAGES);
+    let wanted = [item.port, *number];
+    assert_same(rt, item.bytes.as_slice(), wanted.as_slice());
+    *number += 1;
 }
 
 // Each sender's numbers rise from 0 by one.
-fn check_items<R: Abort>(
-    rt: &R,
-    alloc: Global,
-    items: &[Item],
-    ports: usize,
-) -> Result<(), AllocError> {
-    let mut next = vec![in alloc; 0u8; ports]?;
+fn check_items<R: Abort>(rt: &R, alloc: Global, items: &[Item], ports: usize) {
+    let mut next = vec![in alloc; 0u8; ports].expect(rt, "memory");
     for item in items {
-        let number = next.get_mut(usize::from(item.port)).ok_or(AllocError)?;
-        assert!(rt; *number < MESSAGES);
-        assert_eq!(rt; item.bytes.as_slice(), [item.port, *number].as_slice());
-        *number += 1;
+        let number = next.get_mut(usize::from(item.port));
+        check_item(rt, item, number.expect(rt, "its port"));
     }
-    Ok(())
+}
+
+// Asserts that all messages of each sender were accepted.
+fn assert_all_accepted<R: Abort>(rt: &R, senders: &[Sender]) {
+    for sender in senders {
+        assert_same(rt, sender.accepted(), u64::from(MESSAGES));
+    }
 }
 
 // A thread for each sender; all messages arrive, each sender's in its order.
@@ -173,17 +184,15 @@ fn send_from_threads<R: Threads + Abort>(
 {
     let count = ports * usize::from(MESSAGES);
     let (mut receiver, senders) = make(alloc, capacity, ports, 1 << 40)?;
-    let workers = start_all(rt, alloc, senders)?;
+    let workers = start_all(rt, alloc, senders);
     let mut items = Vec::new(alloc);
-    take_some(&mut receiver, &mut items, count.saturating_sub(capacity))?;
+    take_some(&mut receiver, &mut items, count.saturating_sub(capacity)).expect(rt, "memory");
     let senders = join_all(rt, alloc, workers)?;
-    for sender in senders.as_slice() {
-        assert_eq!(rt; sender.accepted(), u64::from(MESSAGES));
-    }
-    let gathered = receiver.gather(senders).ok().ok_or(AllocError)?;
-    take_rest(gathered, &mut items)?;
-    assert_eq!(rt; items.len(), count);
-    check_items(rt, alloc, items.as_slice(), ports)
+    assert_all_accepted(rt, senders.as_slice());
+    take_rest(rt, receiver, senders, &mut items);
+    assert_same(rt, items.len(), count);
+    check_items(rt, alloc, items.as_slice(), ports);
+    Ok(())
 }
 
 // How many messages the senders say that were accepted.
@@ -199,17 +208,17 @@ fn accepted_by(senders: &[Sender]) -> u64 {
 // each message of it arrives.
 fn close_while_threads_send<R: Threads + Abort>(rt: &R, alloc: Global) -> Result<(), AllocError> {
     let (mut receiver, senders) = make(alloc, 4, 16, 1 << 40)?;
-    let workers = start_all(rt, alloc, senders)?;
+    let workers = start_all(rt, alloc, senders);
     let mut items = Vec::new(alloc);
-    take_some(&mut receiver, &mut items, 200)?;
+    take_some(&mut receiver, &mut items, 200).expect(rt, "memory");
     let total = close(&mut receiver);
     let senders = join_all(rt, alloc, workers)?;
-    assert_eq!(rt; accepted_by(senders.as_slice()), total);
-    let gathered = receiver.gather(senders).ok().ok_or(AllocError)?;
-    take_rest(gathered, &mut items)?;
-    assert_eq!(rt; items.len() as u64, total);
+    assert_same(rt, accepted_by(senders.as_slice()), total);
+    take_rest(rt, receiver, senders, &mut items);
+    assert_same(rt, items.len() as u64, total);
     assert!(rt; total >= 200 && total <= 204);
-    check_items(rt, alloc, items.as_slice(), 16)
+    check_items(rt, alloc, items.as_slice(), 16);
+    Ok(())
 }
 
 // Closes the queue. The total.
@@ -220,19 +229,16 @@ fn close(receiver: &mut Receiver) -> u64
 }
 
 #[test]
-fn a_close_while_threads_send_tells_what_they_sent(rt: HostRuntime) -> Result<(), Fail> {
-    close_while_threads_send(&rt, rt.alloc())?;
-    Ok(())
+fn a_close_while_threads_send_tells_what_they_sent(rt: HostRuntime) {
+    close_while_threads_send(&rt, rt.alloc()).expect(&rt, "memory");
 }
 
 #[test]
-fn sixteen_threads_send_through_one_place(rt: HostRuntime) -> Result<(), Fail> {
-    send_from_threads(&rt, rt.alloc(), 1, 16)?;
-    Ok(())
+fn sixteen_threads_send_through_one_place(rt: HostRuntime) {
+    send_from_threads(&rt, rt.alloc(), 1, 16).expect(&rt, "memory");
 }
 
 #[test]
-fn sixty_four_threads_send_through_256_places(rt: HostRuntime) -> Result<(), Fail> {
-    send_from_threads(&rt, rt.alloc(), 256, 64)?;
-    Ok(())
+fn sixty_four_threads_send_through_256_places(rt: HostRuntime) {
+    send_from_threads(&rt, rt.alloc(), 256, 64).expect(&rt, "memory");
 }

@@ -8,17 +8,15 @@ use Rattle.queue_tests.proofs.threads.send_from_threads.Goals as goal
 abbrev Worker : Type 0
 Worker = PromisedHandle (Option SenderView) ComesBack
 
-pub gather-requires : goal.gather-requires
-gather-requires g c = record {
-  together = λ k d lt.
-      let workers : List Worker = c.in_ok-workers.workers.items in
-      let value : Worker → SenderView = λ h. h.promise.of.value in
-      let back = c.in_ok-senders.ensures in
-      let started : map value workers ≡ c.in_ok-receiver.senders.items = c.in_ok-workers.ensures in
-      let many : length (map value workers) ≡ length c.in_ok-receiver.senders.items = ap length started in
-      let few : length (map value workers) ≡ length workers = length-map workers value in
-      let count = c.in_ok-receiver.ensures.count in
-      let old : get_or (map value workers) k d ≡ new_sender c.in_ok-receiver.receiver.queue c.args.capacity _ k =
-      ap (λ (l : List SenderView). get_or l k d) started ∙ c.in_ok-receiver.ensures.senders k d (omega (arith, lt, back.count, many, few, count)) in
-      back.queues k d d (omega (arith, lt, back.count)) ∙ ap (λ (s : SenderView). s.queue) old ∙ sym c.take_some.ensures;
-}
+pub take_rest-requires : goal.take_rest-requires
+take_rest-requires g c = λ k d lt.
+    let workers : List Worker = c.start_all-workers.result.items in
+    let value : Worker → SenderView = λ h. h.promise.of.value in
+    let back = c.in_ok-senders.ensures in
+    let started : map value workers ≡ c.in_ok-receiver.senders.items = c.start_all-workers.ensures in
+    let many : length (map value workers) ≡ length c.in_ok-receiver.senders.items = ap length started in
+    let few : length (map value workers) ≡ length workers = length-map workers value in
+    let count = c.in_ok-receiver.ensures.count in
+    let old : get_or (map value workers) k d ≡ new_sender c.in_ok-receiver.receiver.queue c.args.capacity _ k =
+    ap (λ (l : List SenderView). get_or l k d) started ∙ c.in_ok-receiver.ensures.senders k d (omega (arith, lt, back.count, many, few, count)) in
+    back.queues k d d (omega (arith, lt, back.count)) ∙ ap (λ (s : SenderView). s.queue) old ∙ sym c.take_some.ensures
