@@ -1,8 +1,35 @@
-//! The configurations that tests of storms share.
+//! The configurations and assertions that tests of storms share.
 use afdx_config::read_config;
 use afdx_plan::Config;
+use status_board::Counts;
 use std::alloc::{AllocError, Global};
-use std::test::Fail;
+use std::fmt::Debug;
+use std::process::Abort;
+use storm::StormReport;
+
+// Asserts that two values are the same. A test that calls this has a short proof, since an assertion
+// of its own is long to prove.
+pub(crate) fn assert_same<V: PartialEq + Debug + Copy>(rt: &impl Abort, told: V, wanted: V) {
+    assert_eq!(rt; told, wanted);
+}
+
+// Asserts how many frames the networks of a storm were handed.
+pub(crate) fn assert_handed(rt: &impl Abort, report: &StormReport, a: usize, b: usize) {
+    assert_same(rt, report.a.handed().len(), a);
+    assert_same(rt, report.b.handed().len(), b);
+}
+
+// What was counted of the one link that a report is asserted to be on.
+pub(crate) fn only_link(rt: &impl Abort, report: &StormReport) -> Counts {
+    assert_same(rt, report.links.len(), 1);
+    *report.links.first().expect(rt, "one")
+}
+
+// The plan of a text that is asserted to be one.
+fn plan_of(rt: &impl Abort, alloc: Global, text: Result<String, AllocError>) -> Config {
+    let text = text.expect(rt, "memory");
+    read_config(alloc, text.as_bytes()).expect(rt, "a valid plan")
+}
 
 // How many ports the small plan has, two on each of the two sub-VLs of its one link.
 pub(crate) const PORTS: u8 = 4;
@@ -23,17 +50,15 @@ pub(crate) fn small_text(alloc: Global, capacity: u16, max: u16) -> Result<Strin
         "[end_system]\nid = 1\n\
          [[vl]]\nid = 1\nbag_ms = 1\nlmax = 1518\nsub_vls = 2\ncapacity = {capacity}\n"
     )?;
-    push_port(&mut text, 1, 1, 0, 64)?;
-    push_port(&mut text, 2, 1, 0, 64)?;
-    push_port(&mut text, 3, 1, 1, max)?;
-    push_port(&mut text, 4, 1, 1, 64)?;
+    for (id, sub, max) in [(1, 0, 64), (2, 0, 64), (3, 1, max), (4, 1, 64)] {
+        push_port(&mut text, id, 1, sub, max)?;
+    }
     Ok(text)
 }
 
 // The plan of that text.
-pub(crate) fn small_plan(alloc: Global, capacity: u16, max: u16) -> Result<Config, Fail> {
-    let text = small_text(alloc, capacity, max)?;
-    read_config(alloc, text.as_bytes()).map_err(|_| Fail::from("a valid plan"))
+pub(crate) fn small_plan(rt: &impl Abort, alloc: Global, capacity: u16, max: u16) -> Config {
+    plan_of(rt, alloc, small_text(alloc, capacity, max))
 }
 
 // End system 1 with link 1 on both networks and link 2 on network A alone, with one port each.
@@ -45,15 +70,15 @@ fn text_with_link_on_a(alloc: Global) -> Result<String, AllocError> {
             "[[vl]]\nid = {id}\nbag_ms = 1\nlmax = 64\nsub_vls = 1\ncapacity = 16\nnetworks = \"{networks}\""
         )?;
     }
-    push_port(&mut text, 1, 1, 0, 6)?;
-    push_port(&mut text, 2, 2, 0, 6)?;
+    for id in [1, 2] {
+        push_port(&mut text, id, id, 0, 6)?;
+    }
     Ok(text)
 }
 
 // The plan of that text.
-pub(crate) fn plan_with_link_on_a(alloc: Global) -> Result<Config, Fail> {
-    let text = text_with_link_on_a(alloc)?;
-    read_config(alloc, text.as_bytes()).map_err(|_| Fail::from("a valid plan"))
+pub(crate) fn plan_with_link_on_a(rt: &impl Abort, alloc: Global) -> Config {
+    plan_of(rt, alloc, text_with_link_on_a(alloc))
 }
 
 // How many links the great plan has, with a sub-VL for each of four ports.
@@ -76,7 +101,6 @@ fn great_text(alloc: Global, capacity: u16) -> Result<String, AllocError> {
 }
 
 // The greatest plan: 256 ports on 64 links, each on a sub-VL of its own with room for so many messages.
-pub(crate) fn great_plan(alloc: Global, capacity: u16) -> Result<Config, Fail> {
-    let text = great_text(alloc, capacity)?;
-    read_config(alloc, text.as_bytes()).map_err(|_| Fail::from("a valid plan"))
+pub(crate) fn great_plan(rt: &impl Abort, alloc: Global, capacity: u16) -> Config {
+    plan_of(rt, alloc, great_text(alloc, capacity))
 }

@@ -1,7 +1,7 @@
 //! What the command tells of storms.
 ghost use Rattle.std.specs.Prelude.{◌≡◌, ◌≤◌, ◌+◌, IfOk, length};
 
-use crate::plans::small_text;
+use crate::plans::{assert_same, small_text};
 use afdx_plan::{Bag, LinkPlan, Lmax, Networks, VlId};
 use plan_report::Failure;
 use redundant_mux::MemNetwork;
@@ -9,27 +9,28 @@ use status_board::Counts;
 use std::alloc::{AllocError, Global};
 use std::process::Abort;
 use std::sync::Wait;
-use std::test::Fail;
 use std::thread::Threads;
 use storm::{OpenGate, StormReport};
 use storm_report::{bench_storm, write_totals};
 use transcript::RunFault;
 
-// Asserts what the command comes to over a text, and what is written of it.
+// Asserts what the command comes to over the small plan with this greatest message, and what is written
+// of it.
 fn assert_told<R: Abort + Threads + Wait + Sync>(
     rt: &R,
     alloc: Global,
-    text: &str,
+    max: u16,
     turns: u64,
     wanted: Result<(), Failure>,
     wanted_text: &str,
 )
     requires { (1 ≤ turns) × (turns ≤ 1000000000) }
 {
+    let text = small_text(alloc, 256, max).expect(rt, "memory");
     let mut told = Vec::new(alloc);
     let ended = bench_storm(rt, alloc, text.as_bytes(), &mut told, 100, turns, &OpenGate);
-    assert_eq!(rt; ended, wanted);
-    assert_eq!(rt; told.as_slice(), wanted_text.as_bytes());
+    assert_same(rt, ended, wanted);
+    assert_same(rt, told.as_slice(), wanted_text.as_bytes());
 }
 
 const REPORT: &str = "accepted 400
@@ -39,31 +40,19 @@ watcher never back
 ";
 
 #[test]
-fn a_storm_is_told_in_four_lines(rt: HostRuntime) -> Result<(), Fail> {
-    let text = small_text(rt.alloc(), 256, 64)?;
-    assert_told(&rt, rt.alloc(), text.as_str(), 1_000, Ok(()), REPORT);
-    Ok(())
+fn a_storm_is_told_in_four_lines(rt: HostRuntime) {
+    assert_told(&rt, rt.alloc(), 64, 1_000, Ok(()), REPORT);
 }
 
 #[test]
-fn nothing_is_written_of_a_storm_that_is_refused(rt: HostRuntime) -> Result<(), Fail> {
-    let long = small_text(rt.alloc(), 256, 64)?;
-    let short = small_text(rt.alloc(), 256, 5)?;
-    assert_told(&rt, rt.alloc(), long.as_str(), 1, Err(Failure::Turns), "");
-    assert_told(
-        &rt,
-        rt.alloc(),
-        short.as_str(),
-        1_000,
-        Err(Failure::Short),
-        "",
-    );
-    Ok(())
+fn nothing_is_written_of_a_storm_that_is_refused(rt: HostRuntime) {
+    assert_told(&rt, rt.alloc(), 64, 1, Err(Failure::Turns), "");
+    assert_told(&rt, rt.alloc(), 5, 1_000, Err(Failure::Short), "");
 }
 
 #[test]
-fn a_writer_without_room_is_told(rt: HostRuntime) -> Result<(), Fail> {
-    let text = small_text(rt.alloc(), 256, 64)?;
+fn a_writer_without_room_is_told(rt: HostRuntime) {
+    let text = small_text(rt.alloc(), 256, 64).expect(&rt, "memory");
     let mut room = [0u8; 60];
     let mut writer: &mut [u8] = &mut room;
     let ended = bench_storm(
@@ -75,8 +64,7 @@ fn a_writer_without_room_is_told(rt: HostRuntime) -> Result<(), Fail> {
         1_000,
         &OpenGate,
     );
-    assert_eq!(rt; ended, Err(Failure::Run(RunFault::Write)));
-    Ok(())
+    assert_same(&rt, ended, Err(Failure::Run(RunFault::Write)));
 }
 
 // A report on two links, of networks that differ, in which a count fell.
@@ -119,11 +107,10 @@ watcher back
 ";
 
 #[test]
-fn networks_that_differ_and_a_count_that_fell_are_told(rt: HostRuntime) -> Result<(), Fail> {
-    let report = bad_report(rt.alloc())?;
+fn networks_that_differ_and_a_count_that_fell_are_told(rt: HostRuntime) {
+    let report = bad_report(rt.alloc()).expect(&rt, "memory");
     let links = [link(65535), link(4)];
     let mut told = Vec::new(rt.alloc());
-    write_totals(&mut told, &links, &report)?;
-    assert_eq!(rt; told.as_slice(), BAD_REPORT.as_bytes());
-    Ok(())
+    write_totals(&mut told, &links, &report).expect(&rt, "memory");
+    assert_same(&rt, told.as_slice(), BAD_REPORT.as_bytes());
 }
