@@ -9,7 +9,7 @@ ghost use Rattle.afdx_legal.specs.Own.{AreOwnStreams};
 ghost use Rattle.afdx_tx.specs.Drain.{accepted_in};
 ghost use Rattle.afdx_tx.specs.Emitter.{queues_in, total_in};
 ghost use Rattle.afdx_tx.specs.Ports.{Accepts, IsPortOfTx};
-ghost use Rattle.afdx_tests.specs.Headline.{IsUnused, SentTwo, two_messages};
+ghost use Rattle.afdx_tests.specs.Headline.{SentTwo, two_messages};
 
 use crate::testing::{Drain, Sending, gather, open_demo_standing};
 use afdx_tx::TxPort;

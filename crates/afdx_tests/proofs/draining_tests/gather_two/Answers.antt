@@ -1,6 +1,6 @@
 use Rattle.std.proofs.Common.{sym, subst}
 use Rattle.afdx_tx.specs.Emitter.{Tx}
-use Rattle.afdx_tx.specs.Ports.{PortView, IsPortOfTx}
+use Rattle.afdx_tx.specs.Ports.{IsPortOfTx}
 use Rattle.afdx_tests.proofs.draining_tests.gather_two.Goals as goal
 
 pub open_demo-opened-requires : goal.open_demo-opened-requires
