@@ -1,8 +1,25 @@
 //! What tests of the program's parts share.
 use plan_report::{Failure, check};
 use std::alloc::Global;
+use std::fmt::Debug;
 use std::io::Read;
 use std::process::Abort;
+
+// Asserts that two values are the same. A test that calls this has a short proof, since an assertion
+// of its own is long to prove.
+pub fn assert_same<T: Abort, V: PartialEq + Debug + Copy>(rt: &T, told: V, wanted: V) {
+    assert_eq!(rt; told, wanted);
+}
+
+// Asserts that two values are the same, and tells the place where they are not.
+pub fn assert_same_at<T: Abort, V: PartialEq + Debug + Copy, P: Debug + Copy>(
+    rt: &T,
+    told: V,
+    wanted: V,
+    place: P,
+) {
+    assert_eq!(rt; told, wanted, "at {place:?}");
+}
 
 // The text of the demonstration configuration
 pub const TEXT: &str = "[end_system]
@@ -44,6 +61,6 @@ pub fn assert_check<T: Abort, R: Read + Drop>(
 ) {
     let mut report = Vec::new(alloc);
     let told = check(alloc, reader, &mut report);
-    assert_eq!(rt; told, wanted);
-    assert_eq!(rt; report.as_slice(), wanted_report.as_bytes());
+    assert_same(rt, told, wanted);
+    assert_same(rt, report.as_slice(), wanted_report.as_bytes());
 }

@@ -1,3 +1,4 @@
+use crate::helpers::{assert_same, assert_same_at};
 use afdx_plan::ConfigFault;
 use plan_report::{End, Failure, status_of};
 use script_lines::LineFault;
@@ -53,8 +54,8 @@ const ENDS: [(End, u8); 15] = [
 
 #[test]
 fn the_status_tells_how_the_program_ended(rt: HostRuntime) {
-    for (end, status) in ENDS {
-        assert_eq!(rt; status_of(&end), status, "{end:?}");
+    for &(end, status) in &ENDS {
+        assert_same_at(&rt, status_of(&end), status, end);
     }
 }
 
@@ -84,15 +85,13 @@ const TEXTS: [(Failure, &str); 9] = [
 ];
 
 fn assert_text<T: Abort>(rt: &T, alloc: Global, failure: Failure, wanted: &str) {
-    match format!(in alloc; "{failure}") {
-        Ok(text) => assert_eq!(rt; text.as_str(), wanted),
-        Err(_) => assert!(rt; false, "{wanted}"),
-    }
+    let text = format!(in alloc; "{failure}").expect(rt, wanted);
+    assert_same(rt, text.as_str(), wanted);
 }
 
 #[test]
 fn a_failure_has_its_text(rt: HostRuntime) {
-    for (failure, wanted) in TEXTS {
+    for &(failure, wanted) in &TEXTS {
         assert_text(&rt, rt.alloc(), failure, wanted);
     }
 }

@@ -1,9 +1,8 @@
-use crate::helpers::{REPORT, TEXT, assert_check};
+use crate::helpers::{REPORT, TEXT, assert_check, assert_same_at};
 use plan_report::{Failure, check};
 use std::alloc::Global;
 use std::io::{self, Read};
 use std::process::Abort;
-use std::test::Fail;
 use transcript::RunFault;
 
 // Fails, or is interrupted once, at the end of its text.
@@ -57,14 +56,13 @@ fn a_reader_without_end_is_left(rt: HostRuntime) {
 fn assert_no_room<T: Abort>(rt: &T, alloc: Global, mut room: &mut [u8]) {
     let size = room.len();
     let told = check(alloc, TEXT.as_bytes(), &mut room);
-    assert_eq!(rt; told, Err(Failure::Run(RunFault::Write)), "at {size}");
+    assert_same_at(rt, told, Err(Failure::Run(RunFault::Write)), size);
 }
 
 #[test]
-fn a_writer_that_fails_is_told(rt: HostRuntime) -> Result<(), Fail> {
+fn a_writer_that_fails_is_told(rt: HostRuntime) {
     for size in 0..REPORT.len() {
-        let mut room = vec![in rt.alloc(); 0u8; size]?;
+        let mut room = vec![in rt.alloc(); 0u8; size].expect(&rt, "memory");
         assert_no_room(&rt, rt.alloc(), room.as_mut_slice());
     }
-    Ok(())
 }

@@ -1,34 +1,31 @@
+use crate::helpers::{assert_same, assert_same_at};
 use bench_words::{Words, parse, tell_words};
 use clap::Error;
 use plan_report::End;
-use std::alloc::{AllocError, Global};
+use std::alloc::Global;
 use std::process::Abort;
 
-// The words of a line that is split at its blanks, behind the program's name.
-fn words_of(alloc: Global, line: &str) -> Result<Vec<String>, AllocError> {
-    let mut words = Vec::new(alloc);
-    words.push("afdx_bench".to_string(alloc)?)?;
-    for word in line.split_whitespace() {
-        words.push(word.to_string(alloc)?)?;
-    }
-    Ok(words)
+// One word more.
+fn push_word<T: Abort>(rt: &T, alloc: Global, words: &mut Vec<String>, word: &str) {
+    let word = word.to_string(alloc).expect(rt, "memory");
+    words.push(word).expect(rt, "memory");
 }
 
-fn parsed(alloc: Global, line: &str) -> Result<Words, Error> {
-    let words = words_of(alloc, line)?;
+// What the words of a line ask for. It is split at its blanks, behind the program's name.
+fn parsed<T: Abort>(rt: &T, alloc: Global, line: &str) -> Result<Words, Error> {
+    let mut words = Vec::new(alloc);
+    push_word(rt, alloc, &mut words, "afdx_bench");
+    for word in line.split_whitespace() {
+        push_word(rt, alloc, &mut words, word);
+    }
     parse(alloc, words.as_slice())
 }
 
 // Asserts what the words of a line ask for.
 fn assert_asks<T: Abort>(rt: &T, alloc: Global, line: &str, wanted: &str) {
-    let Ok(words) = parsed(alloc, line) else {
-        assert!(rt; false, "{line}");
-        return;
-    };
-    match format!(in alloc; "{words:?}") {
-        Ok(text) => assert_eq!(rt; text.as_str(), wanted),
-        Err(_) => assert!(rt; false, "{line}"),
-    }
+    let words = parsed(rt, alloc, line).ok().expect(rt, line);
+    let text = format!(in alloc; "{words:?}").expect(rt, line);
+    assert_same(rt, text.as_str(), wanted);
 }
 
 const COMMANDS: [(&str, &str); 7] = [
@@ -58,17 +55,15 @@ const COMMANDS: [(&str, &str); 7] = [
 
 #[test]
 fn each_command_has_its_words(rt: HostRuntime) {
-    for (line, wanted) in COMMANDS {
+    for &(line, wanted) in &COMMANDS {
         assert_asks(&rt, rt.alloc(), line, wanted);
     }
 }
 
 // Asserts how the program ends at a line whose words ask for no command.
 fn assert_ends<T: Abort + Print + Eprint>(rt: &T, alloc: Global, line: &str, end: End) {
-    match parsed(alloc, line) {
-        Ok(words) => assert!(rt; false, "{line}: {words:?}"),
-        Err(error) => assert_eq!(rt; tell_words(rt, &error), end, "{line}"),
-    }
+    let error = parsed(rt, alloc, line).err().expect(rt, line);
+    assert_same_at(rt, tell_words(rt, &error), end, line);
 }
 
 const OTHER_WORDS: [&str; 18] = [
@@ -94,7 +89,7 @@ const OTHER_WORDS: [&str; 18] = [
 
 #[test]
 fn other_words_are_refused(rt: HostRuntime) {
-    for line in OTHER_WORDS {
+    for &line in &OTHER_WORDS {
         assert_ends(&rt, rt.alloc(), line, End::WordsRefused);
     }
 }
