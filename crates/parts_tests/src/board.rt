@@ -1,6 +1,11 @@
 //! Tests of a status board on one thread.
-use status_board::{Counts, laws, open_board};
-use std::test::Fail;
+ghost use Rattle.std.specs.Prelude.{◌≡◌, ◌<◌};
+ghost use Rattle.status_board.specs.Views.{links_of};
+
+use crate::frame::assert_same;
+use status_board::{Counts, Monitor, laws, open_board};
+use std::process::Abort;
+use std::sync::Wait;
 
 // Of a link that has sent nothing.
 const NOTHING: Counts = Counts {
@@ -34,59 +39,62 @@ const GREATEST: Counts = Counts {
     last: u64::MAX - 3,
 };
 
-#[test]
-fn a_link_reads_zeros_and_then_what_was_published(rt: HostRuntime) -> Result<(), Fail> {
-    let (mut board, mut monitor) = open_board(rt.alloc(), 1)?;
-    assert_eq!(rt; monitor.read(&rt, 0), NOTHING);
-    board.publish(&rt, 0, ONE_FRAME);
-    assert_eq!(rt; monitor.read(&rt, 0), ONE_FRAME);
-    Ok(())
+// Asserts what is read of a link.
+fn assert_read<R: Wait + Abort>(rt: &R, monitor: &mut Monitor, link: usize, wanted: Counts)
+    requires { link < links_of monitor.old }
+    ensures { links_of monitor.new ≡ links_of monitor.old }
+{
+    assert_same(rt, monitor.read(rt, link), wanted);
 }
 
 #[test]
-fn the_last_entry_is_read_as_often_as_one_reads(rt: HostRuntime) -> Result<(), Fail> {
-    let (mut board, mut monitor) = open_board(rt.alloc(), 1)?;
+fn a_link_reads_zeros_and_then_what_was_published(rt: HostRuntime) {
+    let (mut board, mut monitor) = open_board(rt.alloc(), 1).expect(&rt, "memory");
+    assert_read(&rt, &mut monitor, 0, NOTHING);
+    board.publish(&rt, 0, ONE_FRAME);
+    assert_read(&rt, &mut monitor, 0, ONE_FRAME);
+}
+
+#[test]
+fn the_last_entry_is_read_as_often_as_one_reads(rt: HostRuntime) {
+    let (mut board, mut monitor) = open_board(rt.alloc(), 1).expect(&rt, "memory");
     board.publish(&rt, 0, ONE_FRAME);
     board.publish(&rt, 0, LATER);
-    assert_eq!(rt; monitor.read(&rt, 0), LATER);
-    assert_eq!(rt; monitor.read(&rt, 0), LATER);
+    assert_read(&rt, &mut monitor, 0, LATER);
+    assert_read(&rt, &mut monitor, 0, LATER);
     board.publish(&rt, 0, LATER);
-    assert_eq!(rt; monitor.read(&rt, 0), LATER);
+    assert_read(&rt, &mut monitor, 0, LATER);
     board.publish(&rt, 0, GREATEST);
-    assert_eq!(rt; monitor.read(&rt, 0), GREATEST);
-    Ok(())
+    assert_read(&rt, &mut monitor, 0, GREATEST);
 }
 
 #[test]
-fn each_link_has_its_own_counts(rt: HostRuntime) -> Result<(), Fail> {
-    let (mut board, mut monitor) = open_board(rt.alloc(), 3)?;
+fn each_link_has_its_own_counts(rt: HostRuntime) {
+    let (mut board, mut monitor) = open_board(rt.alloc(), 3).expect(&rt, "memory");
     board.publish(&rt, 0, ONE_FRAME);
     board.publish(&rt, 2, LATER);
-    assert_eq!(rt; monitor.read(&rt, 0), ONE_FRAME);
-    assert_eq!(rt; monitor.read(&rt, 1), NOTHING);
-    assert_eq!(rt; monitor.read(&rt, 2), LATER);
-    Ok(())
+    assert_read(&rt, &mut monitor, 0, ONE_FRAME);
+    assert_read(&rt, &mut monitor, 1, NOTHING);
+    assert_read(&rt, &mut monitor, 2, LATER);
 }
 
 #[test]
-fn what_was_seen_begins_what_was_published(rt: HostRuntime) -> Result<(), Fail> {
-    let (mut board, mut monitor) = open_board(rt.alloc(), 2)?;
+fn what_was_seen_begins_what_was_published(rt: HostRuntime) {
+    let (mut board, mut monitor) = open_board(rt.alloc(), 2).expect(&rt, "memory");
     laws::seen_begins(&rt, &mut board, &mut monitor, 1);
     board.publish(&rt, 1, ONE_FRAME);
-    assert_eq!(rt; monitor.read(&rt, 1), ONE_FRAME);
+    assert_same(&rt, monitor.read(&rt, 1), ONE_FRAME);
     board.publish(&rt, 1, LATER);
     laws::seen_begins(&rt, &mut board, &mut monitor, 1);
-    assert_eq!(rt; monitor.read(&rt, 1), LATER);
-    assert_eq!(rt; monitor.read(&rt, 0), NOTHING);
-    Ok(())
+    assert_same(&rt, monitor.read(&rt, 1), LATER);
+    assert_same(&rt, monitor.read(&rt, 0), NOTHING);
 }
 
 #[test]
-fn a_board_may_have_no_link_or_64(rt: HostRuntime) -> Result<(), Fail> {
-    let (_board, _monitor) = open_board(rt.alloc(), 0)?;
-    let (mut board, mut monitor) = open_board(rt.alloc(), 64)?;
+fn a_board_may_have_no_link_or_64(rt: HostRuntime) {
+    let (_board, _monitor) = open_board(rt.alloc(), 0).expect(&rt, "memory");
+    let (mut board, mut monitor) = open_board(rt.alloc(), 64).expect(&rt, "memory");
     board.publish(&rt, 63, LATER);
-    assert_eq!(rt; monitor.read(&rt, 63), LATER);
-    assert_eq!(rt; monitor.read(&rt, 62), NOTHING);
-    Ok(())
+    assert_read(&rt, &mut monitor, 63, LATER);
+    assert_read(&rt, &mut monitor, 62, NOTHING);
 }

@@ -3,9 +3,9 @@ ghost use Rattle.std.specs.Prelude.{◌≡◌, ◌*◌, ◌<◌, ◌≤◌, leng
 ghost use Rattle.status_board.specs.History.{zeros};
 ghost use Rattle.status_board.specs.Views.{last_of, links_of};
 
+use crate::frame::assert_same;
 use status_board::{Board, Counts, Monitor, open_board};
 use std::sync::Wait;
-use std::test::Fail;
 use std::thread;
 
 // How many entries are published.
@@ -70,10 +70,9 @@ fn publish_all<R: Wait>(rt: &R, board: &mut Board)
 }
 
 #[test]
-fn a_watcher_reads_whole_entries_while_they_are_published(rt: HostRuntime) -> Result<(), Fail> {
-    let (mut board, monitor) = open_board(rt.alloc(), 1)?;
-    let watcher = thread::spawn(&rt, move || watch(&rt, monitor))?;
+fn a_watcher_reads_whole_entries_while_they_are_published(rt: HostRuntime) {
+    let (mut board, monitor) = open_board(rt.alloc(), 1).expect(&rt, "memory");
+    let watcher = thread::spawn(&rt, move || watch(&rt, monitor)).expect(&rt, "a thread");
     publish_all(&rt, &mut board);
-    assert!(rt; watcher.join(&rt));
-    Ok(())
+    assert_same(&rt, watcher.join(&rt), true);
 }

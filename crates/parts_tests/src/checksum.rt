@@ -3,12 +3,11 @@
 ghost use Rattle.std.specs.Prelude.{◌≡◌, ◌≤◌, length};
 ghost use Rattle.afdx_plan.specs.Plan.{IsPort, SendsOver};
 
-use crate::frame::{demo_port, link};
+use crate::frame::{assert_same, demo_port, link};
 use afdx_frame::{Cut, Frame, Net};
 use afdx_plan::{LinkPlan, Lmax, PortPlan, UdpSum};
 use std::alloc::{AllocError, Global};
 use std::process::Abort;
-use std::test::Fail;
 
 /// The demonstration port, with checksums.
 fn summing_port() -> PortPlan
@@ -40,6 +39,12 @@ struct Received {
 }
 
 impl Received {
+    /// Adds what a frame carries of the datagram, and keeps the frame's addresses.
+    fn add(&mut self, alloc: Global, frame: &Frame) -> Result<(), AllocError> {
+        self.addresses = frame.get(26..34).unwrap_or(&[]).to_vec(alloc)?;
+        self.datagram.extend_from_slice(piece_of(frame))
+    }
+
     /// The receiver's sum: over pseudo header and datagram, modulo 65,535.
     fn sum(&self) -> u32 {
         let len = u32::try_from(self.datagram.len()).unwrap_or(0);
@@ -73,38 +78,38 @@ fn piece_of(frame: &Frame) -> &[u8] {
 }
 
 /// Puts together what the frames of a message carry, of which there are 100 at most.
-fn put_together(alloc: Global, cut: &mut Cut, link: &LinkPlan) -> Result<Received, AllocError>
+fn put_together(
+    received: &mut Received,
+    alloc: Global,
+    cut: &mut Cut,
+    link: &LinkPlan,
+) -> Result<(), AllocError>
     requires { SendsOver cut.old.port link.now }
 {
-    let mut received = Received {
-        addresses: Vec::new(alloc),
-        datagram: Vec::new(alloc),
-    };
     for number in 0..100u8 {
         let Some(frame) = cut.next_frame(link, 1, number, Net::A) else {
             break;
         };
-        received.addresses = frame.get(26..34).unwrap_or(&[]).to_vec(alloc)?;
-        received.datagram.extend_from_slice(piece_of(&frame))?;
+        received.add(alloc, &frame)?;
     }
-    Ok(received)
+    Ok(())
 }
 
 /// What a receiver has of a message of a port, over frames of so many bytes at most.
-fn receive(
-    alloc: Global,
-    port: &PortPlan,
-    lmax: Lmax,
-    message: &[u8],
-) -> Result<Received, AllocError>
+fn receive(rt: &impl Abort, alloc: Global, port: &PortPlan, lmax: Lmax, message: &[u8]) -> Received
     requires port { IsPort port.now }
     requires vl { port.now.vl ≡ record { 0 = 1 } }
     requires sub { port.now.sub ≡ 0 }
     requires some { 1 ≤ length message.now }
     requires most { length message.now ≤ 8192 }
 {
-    let mut cut = Cut::new(message.to_vec(alloc)?, 0, port);
-    put_together(alloc, &mut cut, &link(lmax, 1))
+    let mut cut = Cut::new(message.to_vec(alloc).expect(rt, "memory"), 0, port);
+    let mut received = Received {
+        addresses: Vec::new(alloc),
+        datagram: Vec::new(alloc),
+    };
+    put_together(&mut received, alloc, &mut cut, &link(lmax, 1)).expect(rt, "memory");
+    received
 }
 
 /// Asserts that a message passes a receiver's check where its port has checksums, is never told as
@@ -113,14 +118,14 @@ fn assert_checked(rt: &impl Abort, alloc: Global, lmax: Lmax, message: &[u8])
     requires some { 1 ≤ length message.now }
     requires most { length message.now ≤ 8192 }
 {
-    let plain = receive(alloc, &demo_port(), lmax, message).expect(rt, "memory");
-    let summed = receive(alloc, &summing_port(), lmax, message).expect(rt, "memory");
-    assert_eq!(rt; plain.message(), message);
-    assert_eq!(rt; plain.field(), [0, 0].as_slice());
-    assert_eq!(rt; summed.message(), message);
-    assert_eq!(rt; summed.front(), plain.front());
+    let plain = receive(rt, alloc, &demo_port(), lmax, message);
+    let summed = receive(rt, alloc, &summing_port(), lmax, message);
+    assert_same(rt, plain.message(), message);
+    assert_same(rt, plain.field(), [0, 0].as_slice());
+    assert_same(rt, summed.message(), message);
+    assert_same(rt, summed.front(), plain.front());
     assert_ne!(rt; summed.field(), plain.field());
-    assert_eq!(rt; summed.sum(), 0);
+    assert_same(rt, summed.sum(), 0);
 }
 
 /// Asserts the same of a message of so many bytes, over the shortest and the longest frames.
@@ -162,12 +167,15 @@ fn each_message_of_two_bytes_passes(rt: HostRuntime) {
     }
 }
 
-#[test]
-fn a_computed_zero_is_sent_as_65_535(rt: HostRuntime) -> Result<(), Fail> {
+/// Asserts the checksum field of a message.
+fn assert_field(rt: &impl Abort, alloc: Global, message: &[u8; 2], field: &[u8; 2]) {
     let lmax = Lmax::new(1518);
-    for (message, field) in [([0x08, 0x40], [0xff, 0xff]), ([0x08, 0x41], [0xff, 0xfe])] {
-        let received = receive(rt.alloc(), &summing_port(), lmax, &message)?;
-        assert_eq!(rt; received.field(), field.as_slice());
-    }
-    Ok(())
+    let received = receive(rt, alloc, &summing_port(), lmax, message);
+    assert_same(rt, received.field(), field.as_slice());
+}
+
+#[test]
+fn a_computed_zero_is_sent_as_65_535(rt: HostRuntime) {
+    assert_field(&rt, rt.alloc(), &[0x08, 0x40], &[0xff, 0xff]);
+    assert_field(&rt, rt.alloc(), &[0x08, 0x41], &[0xff, 0xfe]);
 }

@@ -1,13 +1,29 @@
 //! Tests of frames: pieces, fields, twins, readers.
-ghost use Rattle.std.specs.Prelude.{◌≡◌, ◌<◌, ◌≤◌, IfOk};
+ghost use Rattle.std.specs.Prelude.{◌≡◌, ◌<◌, ◌≤◌};
 ghost use Rattle.afdx_plan.specs.Plan.{IsPort, SendsOver};
 ghost use Rattle.afdx_frame.specs.Cutting.{SameMessage};
 
 use afdx_frame::{Cut, Frame, Net, ident_of, more_of, offset_of, sn_of, sub_of, twin, vl_of};
 use afdx_plan::{Bag, Kind, LinkPlan, Lmax, Networks, PortId, PortPlan, UdpSum, VlId};
 use std::alloc::{AllocError, Global};
+use std::fmt::Debug;
 use std::process::Abort;
-use std::test::Fail;
+
+/// Asserts that two values are the same. A test that calls this has a short proof, since an assertion
+/// of its own is long to prove.
+pub fn assert_same<V: PartialEq + Debug + Copy>(rt: &impl Abort, told: V, wanted: V) {
+    assert_eq!(rt; told, wanted);
+}
+
+/// Asserts that two values are the same, and tells the place where they are not.
+pub fn assert_same_at<V: PartialEq + Debug + Copy, P: Debug + Copy>(
+    rt: &impl Abort,
+    told: V,
+    wanted: V,
+    place: P,
+) {
+    assert_eq!(rt; told, wanted, "at {place:?}");
+}
 
 // the MAC addresses and the type of each frame below: link 1, end system 1, network A
 const LINK_HEADER: &[u8; 14] = b"\x03\x00\x00\x00\x00\x01\x02\x00\x00\x00\x01\x20\x08\x00";
@@ -18,36 +34,35 @@ const FIRST_FRAME: &[u8; 60] = b"\x03\x00\x00\x00\x00\x01\x02\x00\x00\x00\x01\x2
     \x03\xe8\x07\xd0\x00\x09\x00\x00\x01\
     \x00\x00\x00\x00\x00\x00\x00\x00\x00\x00\x00\x00\x00\x00\x00\x00\x00";
 
-/// A frame of network A from its internet header and its piece.
-fn frame_with(
-    alloc: Global,
+/// Appends a frame of network A, whose piece is what is given and then so many bytes `aa`.
+fn push_frame(
+    frame: &mut Vec<u8>,
     header: &[u8; 20],
-    piece: &[u8],
+    begin: &[u8],
+    len: usize,
     number: u8,
-) -> Result<Vec<u8>, AllocError> {
-    let mut frame = LINK_HEADER.to_vec(alloc)?;
+) -> Result<(), AllocError> {
+    frame.extend_from_slice(LINK_HEADER)?;
     frame.extend_from_slice(header)?;
-    frame.extend_from_slice(piece)?;
-    for _ in frame.len()..59 {
-        frame.push(0)?;
-    }
-    frame.push(number)?;
-    Ok(frame)
+    frame.extend_from_slice(begin)?;
+    let end = frame.len().saturating_add(len);
+    frame.resize(end, 0xaa)?;
+    frame.resize(end.max(59), 0)?;
+    frame.extend_from_slice(&[number])
 }
 
 /// A frame of network A whose piece is what is given and then so many bytes `aa`.
 fn frame_of_aa(
+    rt: &impl Abort,
     alloc: Global,
     header: &[u8; 20],
     begin: &[u8],
     len: usize,
     number: u8,
-) -> Result<Vec<u8>, AllocError> {
-    let mut piece = begin.to_vec(alloc)?;
-    for _ in 0..len {
-        piece.push(0xaa)?;
-    }
-    frame_with(alloc, header, &piece, number)
+) -> Vec<u8> {
+    let mut frame = Vec::new(alloc);
+    push_frame(&mut frame, header, begin, len, number).expect(rt, "memory");
+    frame
 }
 
 /// Link 1 with greatest frames of so many bytes and so many sub-VLs.
@@ -87,42 +102,44 @@ pub fn demo_port() -> PortPlan
     }
 }
 
-#[test]
-fn a_short_message_is_one_padded_frame(rt: HostRuntime) -> Result<(), Fail> {
-    let message = [1u8].to_vec(rt.alloc())?;
-    let mut cut = Cut::new(message, 0, &demo_port());
-    assert!(rt; !cut.is_done());
-    let frame = cut
-        .next_frame(&link(Lmax::new(1518), 1), 1, 0, Net::A)
-        .unwrap_or_default();
-    assert_eq!(rt; frame.as_slice(), FIRST_FRAME.as_slice());
-    assert!(rt; cut.is_done());
-    Ok(())
+/// The message 01 of a port at a place.
+fn cut_of_one(rt: &impl Abort, alloc: Global, port: &PortPlan, place: u64) -> Cut
+    requires { IsPort port.now }
+    ensures { result.port ≡ port.now }
+{
+    Cut::new([1u8].to_vec(alloc).expect(rt, "memory"), place, port)
 }
 
 #[test]
-fn the_twin_differs_in_the_interface_alone(rt: HostRuntime) -> Result<(), Fail> {
-    let message = [1u8].to_vec(rt.alloc())?;
-    let mut cut = Cut::new(message, 0, &demo_port());
+fn a_short_message_is_one_padded_frame(rt: HostRuntime) {
+    let mut cut = cut_of_one(&rt, rt.alloc(), &demo_port(), 0);
+    assert_same(&rt, cut.is_done(), false);
+    let link = link(Lmax::new(1518), 1);
+    assert_next(&rt, &mut cut, &link, 0, FIRST_FRAME, true);
+}
+
+#[test]
+fn the_twin_differs_in_the_interface_alone(rt: HostRuntime) {
+    let mut cut = cut_of_one(&rt, rt.alloc(), &demo_port(), 0);
     let mut frame = Frame::new();
     let was_left = cut.write_next(&link(Lmax::new(1518), 1), 1, 0, Net::B, &mut frame);
-    assert!(rt; was_left);
+    assert_same(&rt, was_left, true);
     let mut expected = *FIRST_FRAME;
     expected[11] = 0x40;
-    assert_eq!(rt; frame.as_slice(), expected.as_slice());
-    assert_eq!(rt; twin(&frame, Net::A).as_slice(), FIRST_FRAME.as_slice());
-    Ok(())
+    assert_same(&rt, frame.as_slice(), expected.as_slice());
+    let twin = twin(&frame, Net::A);
+    assert_same(&rt, twin.as_slice(), FIRST_FRAME.as_slice());
 }
 
 /// A message of so many bytes `aa` of the demonstration port.
-fn cut_of_aa(alloc: Global, len: usize) -> Result<Cut, AllocError>
+fn cut_of_aa(rt: &impl Abort, alloc: Global, len: usize) -> Cut
     requires some { 1 ≤ len }
     requires most { len ≤ 8192 }
-    ensures vl { IfOk result (λ cut. cut.port.vl ≡ record { 0 = 1 }) }
-    ensures sub { IfOk result (λ cut. cut.port.sub ≡ 0) }
+    ensures vl { result.port.vl ≡ record { 0 = 1 } }
+    ensures sub { result.port.sub ≡ 0 }
 {
-    let message = vec![in alloc; 0xaau8; len]?;
-    Ok(Cut::new(message, 0, &demo_port()))
+    let message = vec![in alloc; 0xaau8; len].expect(rt, "memory");
+    Cut::new(message, 0, &demo_port())
 }
 
 /// Asserts that the next frame of a message for network A is this one, and whether it is the last.
@@ -138,8 +155,8 @@ fn assert_next(
     ensures { SameMessage cut.old cut.new }
 {
     let frame = cut.next_frame(link, 1, number, Net::A).unwrap_or_default();
-    assert_eq!(rt; frame.as_slice(), wanted);
-    assert_eq!(rt; cut.is_done(), is_last);
+    assert_same(rt, frame.as_slice(), wanted);
+    assert_same(rt, cut.is_done(), is_last);
 }
 
 /// Asserts that a message of so many bytes `aa` goes out as these two frames and no more.
@@ -155,51 +172,48 @@ fn assert_two_frames(
     requires most { len ≤ 8192 }
 {
     let link = link(lmax, 1);
-    let mut cut = cut_of_aa(alloc, len).expect(rt, "memory");
+    let mut cut = cut_of_aa(rt, alloc, len);
     assert_next(rt, &mut cut, &link, 0, first, false);
     assert_next(rt, &mut cut, &link, 1, second, true);
-    assert!(rt; cut.next_frame(&link, 1, 2, Net::A).is_none());
+    assert_same(rt, cut.next_frame(&link, 1, 2, Net::A).is_none(), true);
 }
 
 #[test]
-fn a_message_of_1471_bytes_fills_one_frame(rt: HostRuntime) -> Result<(), Fail> {
+fn a_message_of_1471_bytes_fills_one_frame(rt: HostRuntime) {
     let header =
         b"\x45\x00\x05\xdb\x00\x00\x00\x00\x01\x11\xc8\x30\x0a\x00\x01\x01\xe0\xe0\x00\x01";
     let udp = b"\x03\xe8\x07\xd0\x05\xc7\x00\x00";
-    let expected = frame_of_aa(rt.alloc(), header, udp, 1471, 0)?;
-    assert_eq!(rt; expected.len(), 1514);
-    let mut cut = cut_of_aa(rt.alloc(), 1471)?;
+    let expected = frame_of_aa(&rt, rt.alloc(), header, udp, 1471, 0);
+    assert_same(&rt, expected.len(), 1514);
+    let mut cut = cut_of_aa(&rt, rt.alloc(), 1471);
     let link = link(Lmax::new(1518), 1);
     assert_next(&rt, &mut cut, &link, 0, &expected, true);
-    Ok(())
 }
 
 #[test]
-fn a_message_of_1472_bytes_is_two_frames(rt: HostRuntime) -> Result<(), Fail> {
+fn a_message_of_1472_bytes_is_two_frames(rt: HostRuntime) {
     let header =
         b"\x45\x00\x05\xd4\x00\x00\x20\x00\x01\x11\xa8\x37\x0a\x00\x01\x01\xe0\xe0\x00\x01";
     let udp = b"\x03\xe8\x07\xd0\x05\xc8\x00\x00";
-    let first = frame_of_aa(rt.alloc(), header, udp, 1464, 0)?;
-    assert_eq!(rt; first.len(), 1507);
+    let first = frame_of_aa(&rt, rt.alloc(), header, udp, 1464, 0);
+    assert_same(&rt, first.len(), 1507);
     let header =
         b"\x45\x00\x00\x1c\x00\x00\x00\xb8\x01\x11\xcd\x37\x0a\x00\x01\x01\xe0\xe0\x00\x01";
-    let second = frame_of_aa(rt.alloc(), header, b"", 8, 1)?;
-    assert_eq!(rt; second.len(), 60);
+    let second = frame_of_aa(&rt, rt.alloc(), header, b"", 8, 1);
+    assert_same(&rt, second.len(), 60);
     assert_two_frames(&rt, rt.alloc(), 1472, Lmax::new(1518), &first, &second);
-    Ok(())
 }
 
 #[test]
-fn the_last_piece_may_be_longer_than_a_step(rt: HostRuntime) -> Result<(), Fail> {
+fn the_last_piece_may_be_longer_than_a_step(rt: HostRuntime) {
     let header =
         b"\x45\x00\x00\x2c\x00\x00\x20\x00\x01\x11\xad\xdf\x0a\x00\x01\x01\xe0\xe0\x00\x01";
     let udp = b"\x03\xe8\x07\xd0\x00\x31\x00\x00";
-    let first = frame_of_aa(rt.alloc(), header, udp, 16, 0)?;
+    let first = frame_of_aa(&rt, rt.alloc(), header, udp, 16, 0);
     let header =
         b"\x45\x00\x00\x2d\x00\x00\x00\x03\x01\x11\xcd\xdb\x0a\x00\x01\x01\xe0\xe0\x00\x01";
-    let second = frame_of_aa(rt.alloc(), header, b"", 25, 1)?;
+    let second = frame_of_aa(&rt, rt.alloc(), header, b"", 25, 1);
     assert_two_frames(&rt, rt.alloc(), 41, Lmax::new(64), &first, &second);
-    Ok(())
 }
 
 /// Asserts of the next frame of a message its total length, its piece's offset, and whether more
@@ -217,65 +231,62 @@ fn assert_piece(
     ensures { SameMessage cut.old cut.new }
 {
     let frame = cut.next_frame(link, 1, number, Net::A).unwrap_or_default();
-    assert_eq!(rt; frame.get(16..18), Some([0, total_length].as_slice()));
-    assert_eq!(rt; offset_of(&frame), Some(offset));
-    assert_eq!(rt; more_of(&frame), Some(more));
-    assert_eq!(rt; cut.is_done(), !more);
+    assert_same(rt, frame.get(16..18), Some([0, total_length].as_slice()));
+    assert_same(rt, offset_of(&frame), Some(offset));
+    assert_same(rt, more_of(&frame), Some(more));
+    assert_same(rt, cut.is_done(), !more);
 }
 
 #[test]
-fn frames_of_64_bytes_hold_pieces_of_25(rt: HostRuntime) -> Result<(), Fail> {
+fn frames_of_64_bytes_hold_pieces_of_25(rt: HostRuntime) {
     let link = link(Lmax::new(64), 1);
     // a datagram of 25 bytes is sent whole
-    let mut cut = cut_of_aa(rt.alloc(), 17)?;
+    let mut cut = cut_of_aa(&rt, rt.alloc(), 17);
     assert_piece(&rt, &mut cut, &link, 0, 45, 0, false);
     // one of 26 is cut at 24
-    let mut cut = cut_of_aa(rt.alloc(), 18)?;
+    let mut cut = cut_of_aa(&rt, rt.alloc(), 18);
     assert_piece(&rt, &mut cut, &link, 0, 44, 0, true);
     assert_piece(&rt, &mut cut, &link, 1, 22, 3, false);
-    Ok(())
 }
 
 /// The first frame of the message 01 of a port at a place, for network A.
-fn first_frame(alloc: Global, port: &PortPlan, place: u64, sub_vls: u8) -> Result<Frame, AllocError>
+fn first_frame(rt: &impl Abort, alloc: Global, port: &PortPlan, place: u64, sub_vls: u8) -> Frame
     requires port { IsPort port.now }
     requires vl { port.now.vl ≡ record { 0 = 1 } }
     requires sub { port.now.sub < sub_vls }
     requires sub_vls { sub_vls ≤ 4 }
 {
-    let mut cut = Cut::new([1u8].to_vec(alloc)?, place, port);
+    let mut cut = cut_of_one(rt, alloc, port, place);
     let link = link(Lmax::new(1518), sub_vls);
-    Ok(cut.next_frame(&link, 1, 0, Net::A).unwrap_or_default())
+    cut.next_frame(&link, 1, 0, Net::A).unwrap_or_default()
 }
 
 #[test]
-fn a_unicast_port_s_frame_keeps_the_link_s_mac_address(rt: HostRuntime) -> Result<(), Fail> {
+fn a_unicast_port_s_frame_keeps_the_link_s_mac_address(rt: HostRuntime) {
     let port = PortPlan {
         unicast: Some([10, 0, 2, 1]),
         ..demo_port()
     };
-    let frame = first_frame(rt.alloc(), &port, 0, 1)?;
+    let frame = first_frame(&rt, rt.alloc(), &port, 0, 1);
     let header =
         b"\x45\x00\x00\x1d\x00\x00\x00\x00\x01\x11\xa2\xcf\x0a\x00\x01\x01\x0a\x00\x02\x01";
     let piece = b"\x03\xe8\x07\xd0\x00\x09\x00\x00\x01";
-    let expected = frame_with(rt.alloc(), header, piece, 0)?;
-    assert_eq!(rt; frame.as_slice(), expected.as_slice());
-    assert_eq!(rt; vl_of(&frame), Some(VlId(1)));
-    Ok(())
+    let expected = frame_of_aa(&rt, rt.alloc(), header, piece, 0, 0);
+    assert_same(&rt, frame.as_slice(), expected.as_slice());
+    assert_same(&rt, vl_of(&frame), Some(VlId(1)));
 }
 
 #[test]
-fn identifications_tell_the_place_and_the_sub_vl(rt: HostRuntime) -> Result<(), Fail> {
+fn identifications_tell_the_place_and_the_sub_vl(rt: HostRuntime) {
     let port = PortPlan {
         sub: 3,
         ..demo_port()
     };
     for (place, identification) in [(0u64, 3u16), (1, 7), (16_384, 3)] {
-        let frame = first_frame(rt.alloc(), &port, place, 4)?;
-        assert_eq!(rt; ident_of(&frame), Some(identification));
-        assert_eq!(rt; sub_of(&frame), Some(3));
+        let frame = first_frame(&rt, rt.alloc(), &port, place, 4);
+        assert_same(&rt, ident_of(&frame), Some(identification));
+        assert_same(&rt, sub_of(&frame), Some(3));
     }
-    Ok(())
 }
 
 /// What each reader gives.
@@ -321,17 +332,16 @@ fn fields_of(bytes: &[u8]) -> Fields {
 }
 
 #[test]
-fn the_readers_give_the_fields_of_a_last_fragment(rt: HostRuntime) -> Result<(), Fail> {
+fn the_readers_give_the_fields_of_a_last_fragment(rt: HostRuntime) {
     let header =
         b"\x45\x00\x00\x1c\x00\x00\x00\xb8\x01\x11\xcd\x37\x0a\x00\x01\x01\xe0\xe0\x00\x01";
-    let frame = frame_with(rt.alloc(), header, &[0xaa; 8], 1)?;
+    let frame = frame_of_aa(&rt, rt.alloc(), header, b"", 8, 1);
     let wanted = Fields {
         number: Some(1),
         offset: Some(184),
         ..FIRST_FIELDS
     };
-    assert_eq!(rt; fields_of(&frame), wanted);
-    Ok(())
+    assert_same(&rt, fields_of(&frame), wanted);
 }
 
 #[test]
@@ -350,16 +360,16 @@ fn a_flipped_bit_is_read_only_in_the_piece_and_the_number(rt: HostRuntime) {
             } else {
                 NO_FIELDS
             };
-            assert_eq!(rt; fields_of(&bytes), wanted, "{place}, {bit}");
+            assert_same_at(&rt, fields_of(&bytes), wanted, (place, bit));
         }
     }
 }
 
 #[test]
 fn a_frame_cut_short_or_padded_with_ones_is_no_frame(rt: HostRuntime) {
-    assert_eq!(rt; vl_of(&FIRST_FRAME[..59]), None);
+    assert_same(&rt, vl_of(&FIRST_FRAME[..59]), None);
     let mut padded = *FIRST_FRAME;
     padded[50] = 1;
-    assert_eq!(rt; vl_of(&padded), None);
-    assert_eq!(rt; more_of(&[]), None);
+    assert_same(&rt, vl_of(&padded), None);
+    assert_same(&rt, more_of(&[]), None);
 }

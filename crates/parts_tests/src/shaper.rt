@@ -1,35 +1,46 @@
 //! Tests of the regulation of a link.
+ghost use Rattle.std.specs.Prelude.{◌≡◌, true};
+
+use crate::frame::{assert_same, assert_same_at};
 use afdx_plan::Bag;
+use std::process::Abort;
 use vl_shaper::Shaper;
+
+// Asserts that a link is due, where what follows rests on it.
+fn assert_due(rt: &impl Abort, is_due: bool)
+    ensures { is_due ≡ true }
+{
+    assert!(rt; is_due);
+}
 
 #[test]
 fn a_link_is_due_again_one_gap_after_its_release_and_not_before(rt: HostRuntime) {
     let mut shaper = Shaper::new(Bag::Ms2, 1);
-    assert!(rt; shaper.due(0));
+    assert_due(&rt, shaper.due(0));
     shaper.stamp(0, 0);
-    assert!(rt; !shaper.due(0));
-    assert!(rt; !shaper.due(1_999));
-    assert!(rt; shaper.due(2_000));
-    assert!(rt; shaper.due(u64::MAX));
+    assert_same(&rt, shaper.due(0), false);
+    assert_same(&rt, shaper.due(1_999), false);
+    assert_due(&rt, shaper.due(2_000));
+    assert_due(&rt, shaper.due(u64::MAX));
 }
 
 #[test]
 fn a_link_that_is_served_late_does_not_catch_up(rt: HostRuntime) {
     let mut shaper = Shaper::new(Bag::Ms4, 1);
     shaper.stamp(0, 0);
-    assert!(rt; shaper.due(7_000));
+    assert_due(&rt, shaper.due(7_000));
     shaper.stamp(7_000, 0);
-    assert!(rt; !shaper.due(8_000));
-    assert!(rt; !shaper.due(10_999));
-    assert!(rt; shaper.due(11_000));
+    assert_same(&rt, shaper.due(8_000), false);
+    assert_same(&rt, shaper.due(10_999), false);
+    assert_due(&rt, shaper.due(11_000));
 }
 
 #[test]
 fn a_link_that_released_at_the_last_moment_is_not_due_again(rt: HostRuntime) {
     let mut shaper = Shaper::new(Bag::Ms1, 1);
-    assert!(rt; shaper.due(u64::MAX));
+    assert_due(&rt, shaper.due(u64::MAX));
     shaper.stamp(u64::MAX, 0);
-    assert!(rt; !shaper.due(u64::MAX));
+    assert_same(&rt, shaper.due(u64::MAX), false);
 }
 
 #[test]
@@ -40,22 +51,22 @@ fn the_numbers_are_0_then_1_to_255_then_1_again(rt: HostRuntime) {
             0..=255 => i as u8,
             _ => (i - 255) as u8,
         };
-        assert!(rt; shaper.due(1_000 * i));
-        assert_eq!(rt; shaper.stamp(1_000 * i, 0), number, "at release {i}");
+        assert_due(&rt, shaper.due(1_000 * i));
+        assert_same_at(&rt, shaper.stamp(1_000 * i, 0), number, i);
     }
 }
 
 #[test]
 fn sub_vls_are_asked_in_cyclic_order_behind_the_one_served_last(rt: HostRuntime) {
     let mut shaper = Shaper::new(Bag::Ms1, 4);
-    assert_eq!(rt; shaper.sub_vls(), 4);
+    assert_same(&rt, shaper.sub_vls(), 4);
     let first = [
         shaper.turn(0),
         shaper.turn(1),
         shaper.turn(2),
         shaper.turn(3),
     ];
-    assert_eq!(rt; first, [0, 1, 2, 3]);
+    assert_same(&rt, first, [0, 1, 2, 3]);
     shaper.stamp(0, 2);
     let next = [
         shaper.turn(0),
@@ -63,5 +74,5 @@ fn sub_vls_are_asked_in_cyclic_order_behind_the_one_served_last(rt: HostRuntime)
         shaper.turn(2),
         shaper.turn(3),
     ];
-    assert_eq!(rt; next, [3, 0, 1, 2]);
+    assert_same(&rt, next, [3, 0, 1, 2]);
 }
