@@ -134,7 +134,7 @@ def reasons(edits, ran):
     if ran.returncode != 1 or not lines[-1].startswith("logic=not-proved") or any(rt.unread(it, texts) for it in lines):
         return {}
     said = [it.groups() for it in map(VERDICT.fullmatch, lines) if it]
-    failed = [item for item, reading in said if reading != "proved" and not OF_OTHERS.match(reading)]
+    failed = [item for item, reading in said if not re.match(r"proved\b", reading) and not OF_OTHERS.match(reading)]
     found = {}
     for item in failed:
         of = [it for it in edits if it.turns(item)]
