@@ -1,7 +1,7 @@
 #!/usr/bin/env python3
 """Tries the wrong bodies, the edits `crates/NAME/must-fail/*.edit`: the prover must refuse each.
 
-    python3 tools/wrong_bodies.py [--edits CRATES] [NAME ...]
+    python3 tools/wrong_bodies.py [--edits CRATES] [--but] [NAME ...]
 
 `rt ci` tries each edit by a check of its own, most of which is the check's start: so this tries many in one check. It
 turns the bodies of several functions at once, of each function one, and an edit is refused where the very function
@@ -12,8 +12,10 @@ calls one that is not, one that is refused for names alone, one that turns more 
 check in which a function fails that none of them turns.
 
 It takes the libraries that `rt ci` has left, and the edits from the folders of the crates in CRATES, here where that is
-left out; NAME are the crates whose edits are tried, all where none is named. An edit that can't be applied or read
-fails. The last line is 'N passed, M failed', and the exit status 0 exactly where nothing failed.
+left out; NAME are the crates whose edits are tried, all where none is named, and with `--but` all others. That each
+crate is proved as it stands is for `rt ci` to say: where one is not, what is said here of its edits means nothing. An
+edit that can't be applied or read fails. The last line is 'N passed, M failed', and the exit status 0 exactly where
+nothing failed.
 """
 import argparse
 import contextlib
@@ -24,10 +26,12 @@ import os
 import re
 import shutil
 import sys
+import tempfile
 
 ROOT = os.path.dirname(os.path.dirname(os.path.abspath(__file__)))
 FUNCTION = re.compile(r"\s*(?:pub(?:\([^)]*\))?\s+)?(?:(?:const|unsafe|extern\s+\"C\")\s+)*fn\s+(\w+)")
 ATTRIBUTE = re.compile(r"\s*(?:#\[|///)")
+IMPL = re.compile(r"(?:unsafe )?impl(?:<.*?>)? (?:(\w+)(?:<.*>)? for )?(\w+)")
 VERDICT = re.compile(r"(?:fn|struct|enum|union|trait|impl|const|static) (\S+): (.+)")
 # What is told of an item for another's sake alone.
 OF_OTHERS = re.compile(r"no proof: it calls |not proved; it waits for the proof of ")
@@ -79,6 +83,13 @@ class Edit:
         """What no two edits of one check share."""
         return self.file, self.function
 
+    def item(self):
+        """The path of the function that it turns, as a check names it, below the crate."""
+        own = self.lines[self.begin].startswith(" ")
+        impls = filter(None, map(IMPL.match, reversed(self.lines[: self.begin]))) if own else ()
+        of = [f"{it[2]}{it[1] or ''}" for it in impls][:1]
+        return "::".join([*self.module(), *of, self.function])
+
     def module(self):
         """The path of the module whose file it is, without the crate's name."""
         path = self.file.removeprefix("src/").removesuffix(".rt").removesuffix("/mod")
@@ -116,13 +127,15 @@ def texts_of(edits):
 
 
 def batches_of(edits):
-    """The edits in as few checks as can be, each with one edit of a function at most, and about as many in each."""
+    """The edits in as few checks as can be, each with one edit of a function at most, and about as many in each. The
+    first, which the others begin with, turns only what all of them turn, so that none has to prove that anew."""
     of_function = {}
     for it in edits:
         of_function.setdefault(it.key() if it.function else it.path, []).append(it)
     batches = [[] for _ in range(max(map(len, of_function.values()), default=0))]
     for these in sorted(of_function.values(), key=len, reverse=True):
-        for batch, edit in zip(sorted(batches, key=len), these):
+        into = batches if len(these) == len(batches) else batches[1:]
+        for batch, edit in zip(sorted(into, key=len), these):
             batch.append(edit)
     return batches
 
@@ -131,7 +144,8 @@ def reasons(edits, ran):
     """Of each edit that a check of them all shows to be refused, by its name, the first error of its function."""
     lines = ran.stdout.rstrip("\n").split("\n")
     texts = {it.file for it in edits}
-    if ran.returncode != 1 or not lines[-1].startswith("logic=not-proved") or any(rt.unread(it, texts) for it in lines):
+    ended = ran.returncode == 1 and lines[-1].startswith(("logic=not-proved", "only="))
+    if not ended or any(rt.unread(it, texts) for it in lines):
         return {}
     said = [it.groups() for it in map(VERDICT.fullmatch, lines) if it]
     failed = [item for item, reading in said if not re.match(r"proved\b", reading) and not OF_OTHERS.match(reading)]
@@ -148,14 +162,13 @@ def reasons(edits, ran):
 
 @contextlib.contextmanager
 def over(room, number):
-    """A copy of what the crate's own check left, where there was one, for one more check to begin with."""
-    copy = f"{room}/{number}" if room else None
+    """A copy of what the crate's first check left, for one more check to begin with."""
+    copy = f"{room}/{number}"
     try:
-        if copy:
-            rt.linked(f"{room}/seed", copy)
+        rt.linked(f"{room}/seed", copy)
         yield copy
     finally:
-        shutil.rmtree(copy or "", ignore_errors=True)
+        shutil.rmtree(copy, ignore_errors=True)
 
 
 def told(results):
@@ -165,54 +178,66 @@ def told(results):
 
 
 def alone(edit, room, number):
-    """Tries an edit alone, over what the crate's own check left, and from nothing where that has no result."""
+    """Tries an edit alone, over what the crate's first check left, and from nothing where that has no result."""
     with over(room, number) as kept:
         found = rt.must_fail(edit.crate, edit.path, ["--jobs", "1"], kept)
-    if room and found[0] not in rt.SETTLED:
+    if found[0] not in rt.SETTLED:
         found = rt.must_fail(edit.crate, edit.path, ["--jobs", "1"])
     return found[0] in (rt.REFUSED, rt.AT_LIMIT), found[1]
 
 
-def tried(edits, room, number, jobs=1):
-    """Tries edits of one crate, in one check where it tells enough, and gives whether each was refused, and what to say."""
-    found, several = {}, [it for it in edits if it.function]
-    if len(several) > 1:
-        with over(room, number) as kept:
-            found = reasons(several, rt.checked(edits[0].crate, texts_of(several), ["--jobs", str(jobs)], kept))
+def together(edits, items, jobs, kept):
+    """Tries edits of one crate in one check of these functions, or of all where none is named, and gives what it tells:
+    of each edit that it shows to be refused, why."""
+    if not edits:
+        return {}
+    crate, texts, flags = edits[0].crate, texts_of(edits), ["--jobs", str(jobs)]
+    only = [word for it in sorted(items) for word in ("--only", it)]
+    ran = rt.checked(crate, texts, [*flags, *only], kept)
+    if only and ran.returncode == 2:
+        # (no function has such a name, as one of a trait with arguments)
+        ran = rt.checked(crate, texts, flags, kept)
+    return reasons(edits, ran)
+
+
+def tried(edits, found, room, number):
+    """Says of each edit what one check of them all found, or else what comes of it alone, and gives whether each was refused."""
     said = {name: (True, f"{name}: refused: {why[:160]}") for name, why in found.items()}
     return told([said.get(it.name) or alone(it, room, number) for it in edits])
 
 
 def add_tasks(tasks, crate, edits):
-    """Adds what tries a crate's edits: its own check, over what this leaves the others, and what ends them."""
+    """Adds what tries a crate's edits: a first check from nothing, those over what this leaves, and what ends them."""
     lines, needs, seed = crate.count(rb"\n"), rt.need(crate), (crate.name, "seed")
-    kept, batches = {}, batches_of(edits)
-    if len(batches) == 1:
-        # one check from nothing needs none before it
-        tasks[crate.name, "proof"] = ([], lines, needs, lambda _given, jobs: tried(edits, None, 0, jobs))
-        return
+    first, *others = batches_of(edits)
+    kept, results, several = {}, [], [it for it in edits if it.function]
+    # an edit that is tried alone has all of the crate checked, over all of it
+    items = {it.item() for it in several} if len(several) == len(edits) else {}
 
     def begin(_given, jobs):
-        room = rt.seeded(crate, ["--jobs", str(jobs)])
-        kept.update(rt.listing(f"{room}/seed") if room else {})
+        room = tempfile.mkdtemp(prefix=f"rt-edits-{os.getpid()}-")
+        rt.SEEDS.append(room)
+        os.mkdir(f"{room}/seed")
+        found = together([it for it in first if it.function], items, jobs, f"{room}/seed")
+        kept.update(rt.listing(f"{room}/seed"))
+        results.extend(tried(first, found, room, 0))
         return room
 
     def one(given, _jobs, batch, number):
-        if not given[seed]:
-            return told([(False, f"{it.name}: FAILED: its crate is not proved as it stands") for it in batch])
-        return tried(batch, given[seed], number)
+        several = [it for it in batch if it.function]
+        with over(given[seed], number) as copy:
+            found = together(several, {it.item() for it in several}, 1, copy)
+        return tried(batch, found, given[seed], number)
 
     def end(given, _jobs):
-        room = given[seed]
-        is_well = not room or rt.listing(f"{room}/seed") == kept
-        shutil.rmtree(room or "", ignore_errors=True)
-        return told([] if is_well else [(False, f"{crate.name}: FAILED: what its own check left was changed")])
+        is_well = rt.listing(f"{given[seed]}/seed") == kept
+        shutil.rmtree(given[seed], ignore_errors=True)
+        return results + told([] if is_well else [(False, f"{crate.name}: FAILED: what its first check left was changed")])
 
     tasks[seed] = ([], lines, needs, begin)
-    keys = []
-    for number, batch in enumerate(batches):
-        keys.append((crate.name, "edits", number))
-        tasks[keys[-1]] = ([seed], lines, rt.OVER * needs, lambda given, jobs, batch=batch, number=number: one(given, jobs, batch, number))
+    keys = [(crate.name, "edits", number) for number, _ in enumerate(others, 1)]
+    for key, batch in zip(keys, others):
+        tasks[key] = ([seed], lines, rt.OVER * needs, lambda given, jobs, batch=batch, number=key[2]: one(given, jobs, batch, number))
     tasks[crate.name, "end"] = ([seed, *keys], 0, 0, end)
 
 
@@ -227,6 +252,7 @@ def edits_of(crate, folder):
 def main():
     parser = argparse.ArgumentParser(description="Tries the wrong bodies: the prover must refuse each.")
     parser.add_argument("--edits", default=f"{ROOT}/crates", metavar="CRATES")
+    parser.add_argument("--but", action="store_true")
     parser.add_argument("names", nargs="*", metavar="NAME")
     given = parser.parse_args()
     folder = os.path.abspath(given.edits)
@@ -235,7 +261,8 @@ def main():
     rt.rtlib.Crate, rt.Crate.cuts_libraries = rt.Crate, True
     tasks, results = {}, []
     for crate in rt.rtlib.crates_below(f"{ROOT}/crates"):
-        good, bad = edits_of(crate, folder) if not given.names or crate.name in given.names else ([], [])
+        is_named = not given.names or (crate.name in given.names) != given.but
+        good, bad = edits_of(crate, folder) if is_named else ([], [])
         results += told([(False, f"{it.name}: FAILED: {it.fault}") for it in bad])
         if good:
             add_tasks(tasks, crate, good)

@@ -1,5 +1,0 @@
-//! Tests of captures.
-#![tactic(auto)]
-
-#[cfg(test)]
-mod bytes_tests;
