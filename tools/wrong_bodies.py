@@ -1,7 +1,7 @@
 #!/usr/bin/env python3
 """Tries the wrong bodies, the edits `crates/NAME/must-fail/*.edit`: the prover must refuse each.
 
-    python3 tools/wrong_bodies.py [--edits CRATES] [--but] [NAME ...]
+    python3 tools/wrong_bodies.py [--edits CRATES] [NAME ...]
 
 `rt ci` tries each edit by a check of its own, most of which is the check's start: so this tries many in one check. It
 turns the bodies of several functions at once, of each function one, and an edit is refused where the very function
@@ -12,10 +12,9 @@ calls one that is not, one that is refused for names alone, one that turns more 
 check in which a function fails that none of them turns.
 
 It takes the libraries that `rt ci` has left, and the edits from the folders of the crates in CRATES, here where that is
-left out; NAME are the crates whose edits are tried, all where none is named, and with `--but` all others. That each
-crate is proved as it stands is for `rt ci` to say: where one is not, what is said here of its edits means nothing. An
-edit that can't be applied or read fails. The last line is 'N passed, M failed', and the exit status 0 exactly where
-nothing failed.
+left out; NAME are the crates whose edits are tried, all where none is named. That each crate is proved as it stands is
+for `rt ci` to say: where one is not, what is said here of its edits means nothing. An edit that can't be applied or
+read fails. The last line is 'N passed, M failed', and the exit status 0 exactly where nothing failed.
 """
 import argparse
 import contextlib
@@ -252,7 +251,6 @@ def edits_of(crate, folder):
 def main():
     parser = argparse.ArgumentParser(description="Tries the wrong bodies: the prover must refuse each.")
     parser.add_argument("--edits", default=f"{ROOT}/crates", metavar="CRATES")
-    parser.add_argument("--but", action="store_true")
     parser.add_argument("names", nargs="*", metavar="NAME")
     given = parser.parse_args()
     folder = os.path.abspath(given.edits)
@@ -261,8 +259,7 @@ def main():
     rt.rtlib.Crate, rt.Crate.cuts_libraries = rt.Crate, True
     tasks, results = {}, []
     for crate in rt.rtlib.crates_below(f"{ROOT}/crates"):
-        is_named = not given.names or (crate.name in given.names) != given.but
-        good, bad = edits_of(crate, folder) if is_named else ([], [])
+        good, bad = edits_of(crate, folder) if not given.names or crate.name in given.names else ([], [])
         results += told([(False, f"{it.name}: FAILED: {it.fault}") for it in bad])
         if good:
             add_tasks(tasks, crate, good)

@@ -6,8 +6,6 @@ mod board_tests;
 #[cfg(test)]
 mod closing_tests;
 #[cfg(test)]
-mod closing_threads;
-#[cfg(test)]
 mod draining_tests;
 #[cfg(test)]
 mod fault_tests;
@@ -33,8 +31,6 @@ mod showing_tests;
 mod testing;
 #[cfg(test)]
 mod tests;
-#[cfg(test)]
-mod thread_tests;
 #[cfg(test)]
 mod turn_tests;
 #[cfg(test)]

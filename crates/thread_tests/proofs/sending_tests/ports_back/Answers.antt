@@ -4,8 +4,8 @@ use Rattle.std.proofs.lemmas.List.{get_or-map, length-map}
 use Rattle.std.specs.declared.thread.PromisedHandle.{PromisedHandle}
 use Rattle.afdx_tx.specs.Emitter.{Tx}
 use Rattle.afdx_tx.specs.Ports.{PortView, IsPortOfTx}
-use Rattle.afdx_tests.specs.declared.thread_tests.ComesBack.{ComesBack}
-use Rattle.afdx_tests.proofs.thread_tests.ports_back.Goals as goal
+use Rattle.thread_tests.specs.declared.sending_tests.ComesBack.{ComesBack}
+use Rattle.thread_tests.proofs.sending_tests.ports_back.Goals as goal
 
 abbrev Worker : Type 0
 Worker = PromisedHandle (Option PortView) ComesBack

@@ -1,6 +1,6 @@
 use Rattle.std.proofs.Common.{List, sym, subst}
 use Rattle.afdx_tx.specs.Ports.{PortView, AreOpenedWith}
-use Rattle.afdx_tests.proofs.thread_tests.open_and_start.Goals as goal
+use Rattle.thread_tests.proofs.sending_tests.open_and_start.Goals as goal
 
 pub returns-clause-opened : goal.returns-clause-opened
 returns-clause-opened g c =

@@ -4,7 +4,7 @@ ghost use Rattle.status_board.specs.Views.{links_of};
 ghost use Rattle.afdx_tx.specs.Emitter.{Tx, queues_in};
 ghost use Rattle.afdx_tx.specs.Ports.{IsPortOfTx, AreOpenedWith};
 
-use crate::testing::{Drain, Gathered, Sending, gather, open_standing};
+use crate::testing::{Drain, Sending, gather, open_standing};
 use afdx_config::read_config;
 use afdx_tx::{Refusal, SendFault, TxPort};
 use redundant_mux::MemNetwork;
@@ -266,6 +266,13 @@ fn check_whole(rt: &impl Abort, network: &MemNetwork, messages: u8) {
         check_frames(rt, network, messages),
         [messages; PORTS as usize]
     );
+}
+
+// What is gathered: what is left to be sent, and the monitor.
+#[derive(Drop)]
+struct Gathered {
+    draining: Drain,
+    monitor: Monitor,
 }
 
 // Each port sends so many messages from a thread of its own, while the emitter is polled. All ports

@@ -1,7 +1,7 @@
 use Rattle.std.proofs.Common.{get_or, sym, subst}
 use Rattle.afdx_tx.specs.Emitter.{Tx, queues_in}
 use Rattle.afdx_tx.specs.Ports.{PortView, BelongsTo}
-use Rattle.afdx_tests.proofs.thread_tests.gather_from_threads.Goals as goal
+use Rattle.thread_tests.proofs.sending_tests.gather_from_threads.Goals as goal
 
 pub gather-requires : goal.gather-requires
 gather-requires g c = record {

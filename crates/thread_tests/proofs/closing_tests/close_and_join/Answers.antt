@@ -2,7 +2,7 @@ use Rattle.std.proofs.Common.{◌≡◌, ◌∙◌, List, get_or, sym, subst}
 use Rattle.afdx_plan.specs.Config.{Plan}
 use Rattle.afdx_tx.specs.Emitter.{Tx, queues_in}
 use Rattle.afdx_tx.specs.Ports.{PortView, BelongsTo, AreOpenedWith}
-use Rattle.afdx_tests.proofs.closing_threads.close_and_join.Goals as goal
+use Rattle.thread_tests.proofs.closing_tests.close_and_join.Goals as goal
 
 -- an emitter of the same plan and queues has the same ports
 opened_still : (old new : Tx) (ports : List PortView) → new.plan ≡ old.plan → queues_in new.links ≡ queues_in old.links

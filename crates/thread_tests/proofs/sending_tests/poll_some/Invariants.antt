@@ -1,6 +1,6 @@
 use Rattle.std.proofs.Common.{◌≡◌}
 use Rattle.afdx_tx.specs.Emitter.{queues_in}
-use Rattle.afdx_tests.proofs.thread_tests.poll_some.Given as goal
+use Rattle.thread_tests.proofs.sending_tests.poll_some.Given as goal
 
 abbrev pub invariant-loop-turn : goal.invariant-loop-turn
 invariant-loop-turn g l = record {

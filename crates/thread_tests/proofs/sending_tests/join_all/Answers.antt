@@ -2,7 +2,7 @@ use Rattle.std.proofs.Common.{subst, map}
 use Rattle.std.specs.Prelude.{IfOk}
 use Rattle.afdx_tx.specs.Emitter.{Tx}
 use Rattle.afdx_tx.specs.Ports.{AreOpenedWith}
-use Rattle.afdx_tests.proofs.thread_tests.join_all.Goals as goal
+use Rattle.thread_tests.proofs.sending_tests.join_all.Goals as goal
 
 pub returns : goal.returns
 returns g c =

@@ -3,9 +3,8 @@ ghost use Rattle.std.specs.Prelude.{◌≡◌, map};
 ghost use Rattle.afdx_tx.specs.Emitter.{queues_in};
 ghost use Rattle.afdx_tx.specs.Ports.{AreOpenedWith};
 
-use crate::closing_tests::Told;
-use crate::testing::{Sending, gather};
-use crate::thread_tests::{Worker, check_frames, drain, join_all, open_and_start, poll_some};
+use crate::sending_tests::{Worker, check_frames, drain, join_all, open_and_start, poll_some};
+use crate::testing::{Drain, Sending, gather};
 use afdx_plan::VlId;
 use afdx_tx::TxPort;
 use redundant_mux::MemNetwork;
@@ -21,6 +20,13 @@ const CAPACITY: usize = 2;
 
 // How many messages are left in both queues at most.
 const LEFT: usize = 2 * CAPACITY;
+
+// What two closes told together, and what is left to be sent.
+#[derive(Drop)]
+struct Told {
+    total: u64,
+    draining: Drain,
+}
 
 // Closes a sub-VL of the link. The total.
 fn close<R: Abort>(rt: &R, tx: &mut Sending, sub: u8) -> u64

@@ -1,0 +1,9 @@
+//! Tests of emitters whose ports send from threads of their own.
+#![tactic(auto)]
+
+#[cfg(test)]
+mod closing_tests;
+#[cfg(test)]
+mod sending_tests;
+#[cfg(test)]
+mod testing;
