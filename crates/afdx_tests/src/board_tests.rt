@@ -4,8 +4,8 @@ ghost use Rattle.status_board.specs.Views.{links_of};
 
 use crate::network_tests::{send_six, six};
 use crate::testing::{
-    BOTH, NEITHER, OpenedOne, assert_both_down, assert_report, numbered, open_demo_standing,
-    open_one, poll_at, send_taken,
+    BOTH, NEITHER, OpenedOne, assert_both_down, assert_report, assert_same_counts, numbered,
+    open_demo_standing, open_one, poll_at, send_taken,
 };
 use afdx_tx::Release;
 use redundant_mux::{MemNetwork, Standing};
@@ -19,8 +19,8 @@ fn assert_read<R: Abort + Wait>(rt: &R, opened: &mut OpenedOne, counts: Counts)
     ensures { links_of opened.new.monitor ≡ links_of opened.old.monitor }
 {
     opened.tx.publish(rt);
-    assert_eq!(rt; opened.monitor.read(rt, 0), counts);
-    assert_eq!(rt; opened.monitor.read(rt, 0), counts);
+    assert_same_counts(rt, Some(opened.monitor.read(rt, 0)), Some(counts));
+    assert_same_counts(rt, Some(opened.monitor.read(rt, 0)), Some(counts));
 }
 
 // Polls, asserts what was released, publishes, and asserts what is read then.

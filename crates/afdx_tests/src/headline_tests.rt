@@ -11,7 +11,7 @@ ghost use Rattle.afdx_tx.specs.Emitter.{queues_in, total_in};
 ghost use Rattle.afdx_tx.specs.Ports.{Accepts, IsPortOfTx};
 ghost use Rattle.afdx_tests.specs.Headline.{SentTwo, two_messages};
 
-use crate::testing::{Drain, Sending, gather, open_demo_standing};
+use crate::testing::{Drain, Sending, assert_length, gather, open_demo_standing};
 use afdx_tx::TxPort;
 use redundant_mux::MemNetwork;
 use std::alloc::Global;
@@ -131,12 +131,17 @@ fn hand_whole<R: Threads + Abort + Copy + Send + 'static>(
     draining.into_networks()
 }
 
+// The first byte of the message of a frame.
+fn check_byte(rt: &impl Abort, frame: &[u8], byte: u8) {
+    assert_eq!(rt; frame.get(42), Some(&byte));
+}
+
 // A network was handed two frames, of the two messages in their order.
 fn check_two(rt: &impl Abort, network: &MemNetwork) {
     let handed = network.handed();
-    assert_eq!(rt; handed.len(), 2);
-    assert_eq!(rt; handed[0].frame.as_slice().get(42), Some(&1));
-    assert_eq!(rt; handed[1].frame.as_slice().get(42), Some(&2));
+    assert_length(rt, handed.len(), 2);
+    check_byte(rt, handed[0].frame.as_slice(), 1);
+    check_byte(rt, handed[1].frame.as_slice(), 2);
 }
 
 #[test]

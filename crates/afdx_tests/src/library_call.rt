@@ -1,5 +1,5 @@
 //! The call of the library that README.md shows.
-use crate::testing::Sending;
+use crate::testing::{Sending, assert_length};
 use afdx_plan::demo_config;
 use afdx_tx::{Report, open_tx};
 use redundant_mux::MemNetwork;
@@ -9,7 +9,7 @@ use std::test::Fail;
 /// Asserts that a network was handed one frame, with the message in it.
 fn assert_hello(rt: &impl Abort, network: &MemNetwork) {
     let handed = network.handed();
-    assert_eq!(rt; handed.len(), 1);
+    assert_length(rt, handed.len(), 1);
     assert_eq!(rt; handed[0].frame.get(42..47), Some(b"hello".as_slice()));
 }
 
@@ -20,7 +20,7 @@ fn assert_at_start(rt: &impl Abort, emitter: &Sending) {
 
 // Asserts that one frame was released, and that each network was handed it.
 fn assert_sent(rt: &impl Abort, report: &Report, a: &MemNetwork, b: &MemNetwork) {
-    assert_eq!(rt; report.released.len(), 1);
+    assert_length(rt, report.released.len(), 1);
     assert_hello(rt, a);
     assert_hello(rt, b);
 }

@@ -1,9 +1,11 @@
 //! Tests of links of which some are on both networks and some on one, against lists.
 use crate::list_model::{ListLink, ListNetwork, ListSystem, Seen};
-use crate::testing::{Sending, open, poll_at, send_taken};
+use crate::testing::{
+    Sending, assert_counts, assert_length, assert_told, open, poll_at, send_taken,
+};
 use afdx_config::read_config;
 use afdx_frame::{sn_of, vl_of};
-use afdx_plan::{Config, Networks, VlId};
+use afdx_plan::{Config, Networks};
 use afdx_tx::{PollFault, Release, Report, TxPort};
 use redundant_mux::{Handed, MemNetwork, Standing};
 use std::alloc::{AllocError, Global};
@@ -59,12 +61,17 @@ pub(crate) fn config_of<R: Abort>(rt: &R, alloc: Global, links: &[ListLink]) -> 
     read_config(alloc, text.as_bytes()).expect(rt, "a valid plan")
 }
 
+// A port sends so many messages of one byte.
+fn send_many<R: Abort>(rt: &R, alloc: Global, port: &mut TxPort, many: u8) {
+    for byte in 0..many {
+        send_taken(rt, alloc, port, &[byte]);
+    }
+}
+
 // Each port sends as many messages of one byte as its link is to have.
 fn send_each<R: Abort>(rt: &R, alloc: Global, ports: &mut [TxPort], links: &[ListLink]) {
     for (port, link) in ports.iter_mut().zip(links) {
-        for byte in 0..link.left {
-            send_taken(rt, alloc, port, &[byte]);
-        }
+        send_many(rt, alloc, port, link.left);
     }
 }
 
@@ -77,8 +84,7 @@ fn assert_same(
 ) {
     match (answer, wanted) {
         (Ok(report), Some(released)) => {
-            assert_eq!(rt; report.released.as_slice(), released.as_slice());
-            assert_eq!(rt; report.standing, standing);
+            assert_told(rt, &report, released.as_slice(), standing);
         }
         (Err(PollFault::BothDown), None) => (),
         _ => panic!(rt; "both networks down, or not"),
@@ -99,20 +105,20 @@ fn seen_of(handed: &Handed) -> Option<Seen> {
 
 // A network was handed what the list has.
 fn assert_list(rt: &impl Abort, network: &MemNetwork, list: &ListNetwork) {
-    assert_eq!(rt; network.handed().len(), list.taken.len());
+    assert_length(rt, network.handed().len(), list.taken.len());
     for (handed, seen) in network.handed().iter().zip(list.taken.iter()) {
         assert_eq!(rt; seen_of(handed), Some(*seen));
     }
 }
 
 // The emitter shows the networks as the lists have them, and the counts of each link.
-fn assert_shown(rt: &impl Abort, tx: &Sending, lists: &ListSystem) {
+fn assert_shown<R: Abort>(rt: &R, tx: &Sending, lists: &ListSystem) {
     assert_list(rt, tx.network_a(), &lists.a);
     assert_list(rt, tx.network_b(), &lists.b);
     for link in &lists.links {
-        assert_eq!(rt; tx.counts(VlId(link.vl)), Some(lists.counts(link.vl)));
+        assert_counts(rt, tx, link.vl, Some(lists.counts(link.vl)));
     }
-    assert_eq!(rt; tx.counts(VlId(9)), None);
+    assert_counts(rt, tx, 9, None);
 }
 
 // Polls a gap apart.

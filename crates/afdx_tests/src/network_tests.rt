@@ -4,7 +4,8 @@ ghost use Rattle.arrayvec.specs.ArrayVec.{array_vec_len};
 ghost use Rattle.redundant_mux.specs.Entry.{entry};
 
 use crate::testing::{
-    Opened, assert_both_handed, assert_handed, assert_poll, numbered, open, poll_at, send_taken,
+    Opened, assert_both_handed, assert_handed, assert_length, assert_moment, assert_number,
+    assert_poll, numbered, open, poll_at, send_taken,
 };
 use afdx_config::read_config;
 use afdx_frame::Frame;
@@ -53,23 +54,32 @@ fn open_six<R: Abort, A: Network + Drop, B: Network + Drop>(
     opened
 }
 
-/// Asserts what the poll with this number, counted from 1, answers where A fails at hand `k` and B at
-/// hand `m`: a release while one of them stands, nothing where the last one fails, and then `BothDown`.
-fn assert_answer(rt: &impl Abort, turn: u8, k: u8, m: u8, answer: Result<Report, PollFault>) {
+/// How many frames a poll released, and which networks stood then. None where both were down.
+fn told_of(answer: Result<Report, PollFault>) -> Option<(usize, Standing)> {
+    match answer {
+        Ok(report) => Some((report.released.len(), report.standing)),
+        Err(PollFault::BothDown) => None,
+    }
+}
+
+/// The same of the poll with this number, counted from 1, where A fails at hand `k` and B at hand `m`.
+fn wanted_of(turn: u8, k: u8, m: u8) -> Option<(usize, Standing)> {
     let last = k.max(m);
     let standing = Standing {
         a: turn < k,
         b: turn < m,
     };
-    let wanted = if turn <= last {
+    if turn <= last {
         Some((usize::from(turn < last), standing))
     } else {
         None
-    };
-    let told = match answer {
-        Ok(report) => Some((report.released.len(), report.standing)),
-        Err(PollFault::BothDown) => None,
-    };
+    }
+}
+
+/// Asserts what the poll with this number, counted from 1, answers where A fails at hand `k` and B at
+/// hand `m`: a release while one of them stands, nothing where the last one fails, and then `BothDown`.
+fn assert_answer(rt: &impl Abort, turn: u8, k: u8, m: u8, answer: Result<Report, PollFault>) {
+    let (told, wanted) = (told_of(answer), wanted_of(turn, k, m));
     assert_eq!(rt; told, wanted, "at poll {turn} of {k}, {m}");
 }
 
@@ -148,13 +158,13 @@ fn empty_shelf() -> Shelf
 
 /// Asserts the moment and the number of a frame that a shelf keeps.
 fn assert_kept(rt: &impl Abort, kept: &Kept, place: u8) {
-    assert_eq!(rt; kept.at, 1_000 * u64::from(place));
-    assert_eq!(rt; kept.frame.last(), Some(&place));
+    assert_moment(rt, kept.at, place);
+    assert_number(rt, kept.frame.as_slice(), place);
 }
 
 /// Asserts that a shelf keeps the first two frames, and failed once.
 fn assert_full(rt: &impl Abort, shelf: &Shelf) {
-    assert_eq!(rt; shelf.kept.len(), 2);
+    assert_length(rt, shelf.kept.len(), 2);
     assert_kept(rt, &shelf.kept[0], 0);
     assert_kept(rt, &shelf.kept[1], 1);
     assert_eq!(rt; shelf.failures, 1);

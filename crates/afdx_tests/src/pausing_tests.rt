@@ -1,12 +1,14 @@
 //! Tests of a port that is in its pause while others send.
+ghost use Rattle.std.specs.Prelude.{◌≤◌, length};
+ghost use Rattle.subvl_queue.specs.Messages.{most_bytes};
+
 use crate::testing::{
     OpenedTwo, Sending, TWO_SUB_VLS, assert_closed, assert_none, assert_one, assert_refused,
-    open_two, send_taken,
+    open_two_standing, send_taken,
 };
 use afdx_config::read_config;
 use afdx_plan::VlId;
 use afdx_tx::{Refusal, Release, TxPort};
-use redundant_mux::MemNetwork;
 use std::alloc::{AllocError, Global};
 use std::process::Abort;
 use std::thread;
@@ -19,13 +21,7 @@ const TURNS: u64 = 100_000_000;
 // The emitter of that plan, and its ports on sub-VL 0 and sub-VL 1.
 fn open_apart<R: Abort>(rt: &R, alloc: Global) -> OpenedTwo {
     let config = read_config(alloc, TWO_SUB_VLS.as_bytes()).expect(rt, "a valid plan");
-    open_two(
-        rt,
-        alloc,
-        config,
-        MemNetwork::new(alloc),
-        MemNetwork::new(alloc),
-    )
+    open_two_standing(rt, alloc, config)
 }
 
 // The release of a sub-VL of link 1 with this number.
@@ -37,6 +33,12 @@ fn release(sub: u8, number: u8) -> Release {
     }
 }
 
+// The second sub-VL releases what its port sends.
+fn send_second<R: Abort>(rt: &R, alloc: Global, tx: &mut Sending, second: &mut TxPort) {
+    send_taken(rt, alloc, second, &[2]);
+    assert_one(rt, tx, 0, release(1, 0));
+}
+
 // A port sends, and in its pause the port of the other sub-VL sends, whose message goes out.
 fn send_around<R: Abort>(
     rt: &R,
@@ -46,10 +48,7 @@ fn send_around<R: Abort>(
     second: &mut TxPort,
 ) {
     let bytes = vec![in alloc; 1u8].expect(rt, "memory");
-    let sent = first.send_with(bytes, || {
-        send_taken(rt, alloc, second, &[2]);
-        assert_one(rt, tx, 0, release(1, 0));
-    });
+    let sent = first.send_with(bytes, || send_second(rt, alloc, tx, second));
     assert!(rt; sent.is_ok());
 }
 
@@ -67,11 +66,16 @@ fn another_sub_vl_releases_in_the_pause_of_a_port(rt: HostRuntime) {
     assert_one(&rt, &mut opened.tx, 1_000, release(0, 1));
 }
 
+// Closes the first sub-VL. How many messages it accepted.
+fn close_first(tx: &mut Sending) -> Option<u64> {
+    tx.close(VlId(1), 0).ok()
+}
+
 // A port sends, and in its pause its sub-VL is closed. The close counts the message.
 fn close_in_the_pause<R: Abort>(rt: &R, alloc: Global, tx: &mut Sending, port: &mut TxPort) {
     let bytes = vec![in alloc; 1u8].expect(rt, "memory");
     let mut told = None;
-    let sent = port.send_with(bytes, || told = tx.close(VlId(1), 0).ok());
+    let sent = port.send_with(bytes, || told = close_first(tx));
     assert!(rt; sent.is_ok());
     assert_eq!(rt; told, Some(1));
 }
@@ -94,17 +98,30 @@ fn a_close_in_the_pause_of_a_port_counts_its_message(rt: HostRuntime) {
     assert_closed(&rt, &mut opened.tx, 1, 1, Ok(1));
 }
 
+// A queue of one message, and its one sender, which may send once.
+fn queue(alloc: Global) -> Result<(Receiver, Vec<Sender>), AllocError> {
+    make(alloc, 1, 1, 1)
+}
+
 // One end says a word, once, and the other hears it.
 fn word(alloc: Global) -> Result<(Receiver, Sender), AllocError> {
-    let (hears, mut says) = make(alloc, 1, 1, 1)?;
+    let (hears, mut says) = queue(alloc)?;
     let says = says.pop().ok_or(AllocError)?;
     Ok((hears, says))
+}
+
+// Sends a message. Whether it could.
+fn is_sent(says: &mut Sender, bytes: Vec<u8>) -> bool
+    requires some { 1 ≤ length bytes.items }
+    requires most { length bytes.items ≤ most_bytes }
+{
+    says.send(bytes).is_ok()
 }
 
 // Says the word. Whether it could.
 fn say(alloc: Global, says: &mut Sender) -> bool {
     match vec![in alloc; 0u8] {
-        Ok(bytes) => says.send(bytes).is_ok(),
+        Ok(bytes) => is_sent(says, bytes),
         Err(_) => false,
     }
 }
@@ -154,8 +171,7 @@ fn hold<R: Threads + Abort>(rt: &R, alloc: Global, port: TxPort) -> Held {
 
 // The second sub-VL releases what its port sends, and the first, whose port is held, does not.
 fn release_second<R: Abort>(rt: &R, alloc: Global, tx: &mut Sending, second: &mut TxPort) {
-    send_taken(rt, alloc, second, &[2]);
-    assert_one(rt, tx, 0, release(1, 0));
+    send_second(rt, alloc, tx, second);
     assert_none(rt, tx, 1_000);
 }
 

@@ -3,12 +3,11 @@ ghost use Rattle.afdx_tx.specs.Ports.{IsPortOfTx};
 
 use crate::testing::{
     BOTH, Gathered, OpenedTwo, assert_drained, assert_left, assert_poll, assert_refused,
-    gather_none, gather_two, numbered, open_two, send_taken,
+    gather_none, gather_two, numbered, open_two_standing, send_taken,
 };
 use afdx_config::read_config;
 use afdx_plan::PortId;
 use afdx_tx::{Refusal, TxPort};
-use redundant_mux::MemNetwork;
 use std::alloc::Global;
 use std::process::Abort;
 
@@ -50,13 +49,7 @@ fn open_pair<R: Abort>(rt: &R, alloc: Global) -> OpenedTwo
     ensures second { IsPortOfTx result.tx result.second }
 {
     let config = read_config(alloc, TWO_PORTS.as_bytes()).expect(rt, "a valid plan");
-    open_two(
-        rt,
-        alloc,
-        config,
-        MemNetwork::new(alloc),
-        MemNetwork::new(alloc),
-    )
+    open_two_standing(rt, alloc, config)
 }
 
 /// Both ports send as much as they may, which fills the queue. What is less or more is refused.

@@ -8,8 +8,8 @@ use crate::headline_tests::gather_one;
 use crate::mixed_tests::{config_of, link};
 use crate::testing::{
     BOTH, Drain, Gathered, OpenedTwo, Sending, assert_counts, assert_drained, assert_handed,
-    assert_one, assert_poll, drain_at, gather_two, numbered, open_demo, open_demo_standing,
-    open_two, poll_at, send_taken,
+    assert_one, assert_poll, assert_same_counts, drain_at, gather_two, numbered, open_demo,
+    open_demo_standing, open_two, poll_at, send_taken,
 };
 use afdx_plan::{Networks, VlId};
 use afdx_tx::TxPort;
@@ -59,8 +59,8 @@ pub(crate) fn assert_read<R: Abort + Wait>(
     requires { 2 ≤ links_of monitor.old }
     ensures { links_of monitor.new ≡ links_of monitor.old }
 {
-    assert_eq!(rt; counts[0], Some(monitor.read(rt, 0)));
-    assert_eq!(rt; counts[1], Some(monitor.read(rt, 1)));
+    assert_same_counts(rt, counts[0], Some(monitor.read(rt, 0)));
+    assert_same_counts(rt, counts[1], Some(monitor.read(rt, 1)));
 }
 
 // Polls, takes the counts, publishes, and asserts that the same is read.
@@ -70,7 +70,7 @@ fn assert_turn<R: Abort + Wait>(rt: &R, tx: &mut Sending, monitor: &mut Monitor,
 {
     let _ = poll_at(rt, tx, now);
     let counts = [tx.counts(VlId(1)), tx.counts(VlId(2))];
-    assert_eq!(rt; tx.counts(VlId(3)), None);
+    assert_counts(rt, tx, 3, None);
     tx.publish(rt);
     assert_read(rt, monitor, counts);
 }

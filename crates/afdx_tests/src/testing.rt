@@ -1,5 +1,5 @@
 //! What tests of this crate do again and again.
-ghost use Rattle.std.specs.Prelude.{◌≡◌, ◌<◌, [], length};
+ghost use Rattle.std.specs.Prelude.{◌≡◌, ◌<◌, [], ◌∷◌, length};
 ghost use Rattle.afdx_plan.specs.Demo.{demo_plan};
 ghost use Rattle.afdx_tx.specs.Emitter.{Tx};
 ghost use Rattle.afdx_tx.specs.Gathering.{IsGatheredTx};
@@ -8,7 +8,9 @@ ghost use Rattle.status_board.specs.Views.{links_of};
 ghost use Rattle.afdx_tests.specs.Headline.{IsUnused};
 
 use afdx_plan::{Config, VlId, demo_config};
-use afdx_tx::{Draining, Emitter, NoSuchSub, PollFault, Refusal, Release, Report, TxPort, open_tx};
+use afdx_tx::{
+    Draining, Emitter, NoSuchSub, PollFault, Refusal, Release, Report, SendFault, TxPort, open_tx,
+};
 use redundant_mux::{Handed, MemNetwork, Network, Standing};
 use status_board::{Counts, Monitor};
 use std::alloc::Global;
@@ -148,6 +150,14 @@ pub(crate) fn open_one<R: Abort>(
     OpenedOne { tx, port, monitor }
 }
 
+/// Takes the last port of a list. The others stay, each one of its emitter.
+fn take_port<R: Abort>(rt: &R, ports: &mut Vec<TxPort>) -> TxPort
+    ensures port { (tx : Tx) → AreOpenedWith tx ports.old.items → IsPortOfTx tx result }
+    ensures rest { (tx : Tx) → AreOpenedWith tx ports.old.items → AreOpenedWith tx ports.new.items }
+{
+    ports.pop().expect(rt, "two ports")
+}
+
 /// Opens a configuration with two ports.
 pub(crate) fn open_two<R: Abort>(
     rt: &R,
@@ -169,14 +179,28 @@ pub(crate) fn open_two<R: Abort>(
         mut ports,
         monitor,
     } = open(rt, alloc, config, a, b);
-    let second = ports.pop().expect(rt, "two ports");
-    let first = ports.pop().expect(rt, "two ports");
+    let second = take_port(rt, &mut ports);
+    let first = take_port(rt, &mut ports);
     OpenedTwo {
         tx,
         first,
         second,
         monitor,
     }
+}
+
+/// The same over two networks that don't fail.
+pub(crate) fn open_two_standing<R: Abort>(rt: &R, alloc: Global, config: Config) -> OpenedTwo
+    ensures first { IsPortOfTx result.tx result.first }
+    ensures second { IsPortOfTx result.tx result.second }
+{
+    open_two(
+        rt,
+        alloc,
+        config,
+        MemNetwork::new(alloc),
+        MemNetwork::new(alloc),
+    )
 }
 
 /// Opens the demonstration configuration, which has one port.
@@ -210,6 +234,24 @@ pub(crate) fn send_taken<R: Abort>(rt: &R, alloc: Global, port: &mut TxPort, byt
     port.send(message).expect(rt, "taken");
 }
 
+/// Asserts how many there are of something.
+pub(crate) fn assert_length(rt: &impl Abort, found: usize, wanted: usize)
+    ensures { found ≡ wanted }
+{
+    assert_eq!(rt; found, wanted);
+}
+
+/// Asserts that these are the bytes.
+pub(crate) fn assert_bytes(rt: &impl Abort, found: &[u8], bytes: &[u8]) {
+    assert_eq!(rt; found, bytes);
+}
+
+/// Asserts why a message was refused, and that it came back.
+fn assert_fault(rt: &impl Abort, fault: &SendFault, bytes: &[u8], why: Refusal) {
+    assert_eq!(rt; fault.why, why);
+    assert_bytes(rt, fault.bytes.as_slice(), bytes);
+}
+
 /// Asserts that a message is refused, and comes back. The port stays one of its emitter.
 pub(crate) fn assert_refused<R: Abort>(
     rt: &R,
@@ -223,10 +265,7 @@ pub(crate) fn assert_refused<R: Abort>(
     let message = bytes.to_vec(alloc).expect(rt, "memory");
     match port.send(message) {
         Ok(()) => panic!(rt; "taken"),
-        Err(fault) => {
-            assert_eq!(rt; fault.why, why);
-            assert_eq!(rt; fault.bytes.as_slice(), bytes);
-        }
+        Err(fault) => assert_fault(rt, &fault, bytes, why),
     }
 }
 
@@ -317,7 +356,7 @@ pub(crate) fn gather_none<R: Abort>(rt: &R, alloc: Global, tx: Sending) -> Sendi
     match tx.gather(Vec::new(alloc)) {
         Ok(_) => panic!(rt; "gathered with a port missing"),
         Err((back, none)) => {
-            assert_eq!(rt; none.len(), 0);
+            assert_length(rt, none.len(), 0);
             back
         }
     }
@@ -341,17 +380,35 @@ pub(crate) struct Gathered {
     pub(crate) monitor: Monitor,
 }
 
+/// Two ports in a list.
+fn listed<R: Abort>(rt: &R, alloc: Global, first: TxPort, second: TxPort) -> Vec<TxPort>
+    ensures { result.items ≡ first ∷ second ∷ [] }
+{
+    Vec::from_array(alloc, [first, second]).expect(rt, "memory")
+}
+
 /// Gathers both ports of an emitter, the second one first.
 pub(crate) fn gather_two<R: Abort>(rt: &R, alloc: Global, opened: OpenedTwo) -> Gathered
     requires first { IsPortOfTx opened.tx opened.first }
     requires second { IsPortOfTx opened.tx opened.second }
     ensures { links_of result.monitor ≡ links_of opened.monitor }
 {
-    let ports = Vec::from_array(alloc, [opened.second, opened.first]).expect(rt, "memory");
+    let ports = listed(rt, alloc, opened.second, opened.first);
     Gathered {
         draining: gather(rt, opened.tx, ports),
         monitor: opened.monitor,
     }
+}
+
+/// Asserts what a report tells.
+pub(crate) fn assert_told(
+    rt: &impl Abort,
+    report: &Report,
+    released: &[Release],
+    standing: Standing,
+) {
+    assert_eq!(rt; report.released.as_slice(), released);
+    assert_eq!(rt; report.standing, standing);
 }
 
 /// Asserts what a poll released, and which networks stood then.
@@ -362,10 +419,7 @@ pub(crate) fn assert_report(
     standing: Standing,
 ) {
     match answer {
-        Ok(report) => {
-            assert_eq!(rt; report.released.as_slice(), released);
-            assert_eq!(rt; report.standing, standing);
-        }
+        Ok(report) => assert_told(rt, &report, released, standing),
         Err(PollFault::BothDown) => panic!(rt; "some network stands"),
     }
 }
@@ -375,16 +429,26 @@ pub(crate) fn assert_both_down(rt: &impl Abort, answer: Result<Report, PollFault
     assert_eq!(rt; answer.err(), Some(PollFault::BothDown));
 }
 
+/// Asserts that this is the moment of a place of polls that are a gap of 1 ms apart.
+pub(crate) fn assert_moment(rt: &impl Abort, at: u64, place: u8) {
+    assert_eq!(rt; at, 1_000 * u64::from(place));
+}
+
+/// Asserts the last byte of a frame, which is its number.
+pub(crate) fn assert_number(rt: &impl Abort, frame: &[u8], number: u8) {
+    assert_eq!(rt; frame.last(), Some(&number));
+}
+
 /// Asserts that a frame was handed over at this place of polls that are a gap of 1 ms apart.
 fn assert_entry(rt: &impl Abort, entry: &Handed, place: u8) {
-    assert_eq!(rt; entry.at, 1_000 * u64::from(place));
-    assert_eq!(rt; entry.frame.last(), Some(&place));
+    assert_moment(rt, entry.at, place);
+    assert_number(rt, entry.frame.as_slice(), place);
 }
 
 /// Asserts that the frames of so many polls were handed over, with their moments and numbers.
 pub(crate) fn assert_handed(rt: &impl Abort, network: &MemNetwork, many: u8) {
     let handed = network.handed();
-    assert_eq!(rt; handed.len(), usize::from(many));
+    assert_length(rt, handed.len(), usize::from(many));
     for place in 0..many {
         assert_entry(rt, &handed[usize::from(place)], place);
     }
@@ -397,9 +461,14 @@ pub(crate) fn assert_both_handed<R: Abort>(rt: &R, tx: Sending, on_a: u8, on_b: 
     assert_handed(rt, &b, on_b);
 }
 
+/// Asserts that these are the counts.
+pub(crate) fn assert_same_counts(rt: &impl Abort, found: Option<Counts>, counts: Option<Counts>) {
+    assert_eq!(rt; found, counts);
+}
+
 /// Asserts what an emitter counts of a link.
 pub(crate) fn assert_counts<R: Abort>(rt: &R, tx: &Sending, link: u16, counts: Option<Counts>) {
-    assert_eq!(rt; tx.counts(VlId(link)), counts);
+    assert_same_counts(rt, tx.counts(VlId(link)), counts);
 }
 
 /// The release of the first sub-VL of link 1 with this number.

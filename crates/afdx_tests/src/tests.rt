@@ -1,7 +1,8 @@
 //! Tests of the demonstration configuration.
 use crate::testing::{
-    BOTH, NEITHER, OpenedOne, Sending, assert_both_down, assert_both_handed, assert_none,
-    assert_one, assert_poll, numbered, open_demo, open_demo_standing, poll_at, send_taken,
+    BOTH, NEITHER, OpenedOne, Sending, assert_both_down, assert_both_handed, assert_bytes,
+    assert_length, assert_moment, assert_none, assert_one, assert_poll, numbered, open_demo,
+    open_demo_standing, poll_at, send_taken,
 };
 use redundant_mux::{MemNetwork, Standing};
 use std::alloc::Global;
@@ -27,9 +28,9 @@ const ONLY_B: Standing = Standing { a: false, b: true };
 /// Asserts that a network was handed this frame alone, at moment 0.
 fn assert_first(rt: &impl Abort, network: &MemNetwork, frame: &[u8]) {
     let handed = network.handed();
-    assert_eq!(rt; handed.len(), 1);
-    assert_eq!(rt; handed[0].at, 0);
-    assert_eq!(rt; handed[0].frame.as_slice(), frame);
+    assert_length(rt, handed.len(), 1);
+    assert_moment(rt, handed[0].at, 0);
+    assert_bytes(rt, handed[0].frame.as_slice(), frame);
 }
 
 #[test]

@@ -3,7 +3,7 @@
 ghost use Rattle.std.specs.Prelude.{◌≡◌};
 ghost use Rattle.afdx_legal.specs.Turns.{TakeTurns};
 
-use crate::testing::{Sending, TWO_SUB_VLS, open_standing, send_taken};
+use crate::testing::{Sending, TWO_SUB_VLS, assert_moment, open_standing, send_taken};
 use afdx_config::read_config;
 use afdx_frame::{ident_of, sn_of, sub_of};
 use afdx_plan::Config;
@@ -105,7 +105,7 @@ fn hand_in_turn<R: Abort>(
 fn assert_entry(rt: &impl Abort, entry: &Handed, place: u8, wanted: (u8, u16)) {
     let (sub, ident) = wanted;
     let frame = entry.frame.as_slice();
-    assert_eq!(rt; entry.at, GAP * u64::from(place));
+    assert_moment(rt, entry.at, place);
     assert_eq!(rt; sub_of(frame), Some(sub));
     assert_eq!(rt; ident_of(frame), Some(ident));
     assert_eq!(rt; sn_of(frame), Some(place));

@@ -2,7 +2,7 @@
 ghost use Rattle.std.specs.Prelude.{◌<◌};
 ghost use Rattle.status_board.specs.Views.{links_of};
 
-use crate::testing::{Sending, open_demo_standing, poll_at, send_taken};
+use crate::testing::{Sending, assert_length, open_demo_standing, poll_at, send_taken};
 use afdx_tx::TxPort;
 use status_board::{Counts, Monitor};
 use std::alloc::Global;
@@ -44,12 +44,17 @@ fn watch<R: Wait>(rt: &R, mut monitor: Monitor) -> bool
     unreachable!()
 }
 
+// Sends a message, whose frame is released at this moment.
+fn send_and_poll<R: Abort>(rt: &R, alloc: Global, tx: &mut Sending, port: &mut TxPort, now: u64) {
+    send_taken(rt, alloc, port, &[7]);
+    let report = poll_at(rt, tx, now).expect(rt, "both networks stand");
+    assert_length(rt, report.released.len(), 1);
+}
+
 // Sends a message, polls and publishes, again and again.
 fn send_and_publish<R: Abort + Wait>(rt: &R, alloc: Global, tx: &mut Sending, port: &mut TxPort) {
     for turn in 0..POLLS {
-        send_taken(rt, alloc, port, &[7]);
-        let report = poll_at(rt, tx, turn * GAP).expect(rt, "both networks stand");
-        assert_eq!(rt; report.released.len(), 1);
+        send_and_poll(rt, alloc, tx, port, turn * GAP);
         tx.publish(rt);
     }
 }

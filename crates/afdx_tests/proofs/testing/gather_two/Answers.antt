@@ -1,5 +1,5 @@
-use Rattle.std.proofs.Common.{◌≡◌, zero, suc, List, Vec, Global, [], ◌∷◌, sym, subst, arith}
-use Rattle.std.specs.Prelude.{All, IfOk}
+use Rattle.std.proofs.Common.{zero, suc, List, [], ◌∷◌, sym, subst, arith}
+use Rattle.std.specs.Prelude.{All}
 use Rattle.afdx_tx.specs.Ports.{PortView, IsPortOfTx}
 use Rattle.afdx_tests.proofs.testing.gather_two.Goals as goal
 
@@ -12,10 +12,7 @@ both P x y p q (suc (suc k)) d lt = absurd (omega arith)
 pub gather-requires : goal.gather-requires
 gather-requires g c =
     let opened = c.args.opened in
-    let items : c.expect-ports.result.items ≡ opened.second ∷ opened.first ∷ [] =
-    subst (λ r. IfOk r (λ (v : Vec PortView Global). v.items ≡ opened.second ∷ opened.first ∷ [])) c.expect-ports.ensures
-    c.from_array.ensures.items in
     record {
-      opened = subst (λ (ports : List PortView). All (IsPortOfTx opened.tx) ports) (sym items)
+      opened = subst (λ (ports : List PortView). All (IsPortOfTx opened.tx) ports) (sym c.listed-ports.ensures)
           (both (IsPortOfTx opened.tx) opened.second opened.first c.requires.second c.requires.first);
     }
