@@ -8,13 +8,13 @@ turns the bodies of several functions at once, and an edit is refused where the 
 proved, for a reason of its own. That other bodies are turned beside it changes nothing in this: a function is proved
 from the contracts of what it calls, which no edit turns. Of a function that several edits turn the first one is tried
 where it stands, and each of the others in a copy of it, which stands behind it under a name of its own, with its
-contract and its proofs; one copy more has the body as it stands, and is to be proved. A method of a trait can't have
-copies, so each of its edits is tried where it stands, in a check of its own.
+contract and its proofs; one copy more has the body as it stands, and nothing may be wrong in it. A method of a trait
+can't have copies, so each of its edits is tried where it stands, in a check of its own.
 
 An edit of which such a check doesn't tell this, whatever else it tells, is tried alone, as `rt ci` tries it: one whose
 function is proved or only calls one that is not, one that is refused for names alone, one that turns more than one
-function, each of a function whose copy isn't proved as it stands, and all of a check in which a function fails that
-none of them turns.
+function, each in a copy where something is wrong in the copy with the body as it stands, and all of a check in which
+a function fails that none of them turns.
 
 It takes the libraries that `rt ci` has left, and the edits from the folders of the crates in CRATES, here where that is
 left out; NAME are the crates whose edits are tried, all where none is named. That each crate is proved as it stands is
