@@ -35,7 +35,7 @@ import tempfile
 ROOT = os.path.dirname(os.path.dirname(os.path.abspath(__file__)))
 FUNCTION = re.compile(r"\s*(?:pub(?:\([^)]*\))?\s+)?(?:(?:const|unsafe|extern\s+\"C\")\s+)*fn\s+(\w+)")
 ATTRIBUTE = re.compile(r"\s*(?:#\[|///)")
-IMPL = re.compile(r"(?:unsafe )?impl(?:<.*?>)? (?:(\w+)(?:<.*>)? for )?(\w+)")
+IMPL = re.compile(r"(?:unsafe )?impl(?:<.*?>)? (?:(\w+)(?:<(.*)>)? for )?(\w+)")
 VERDICT = re.compile(r"(?:fn|struct|enum|union|trait|impl|const|static) (\S+): (.+)")
 # What is told of an item for another's sake alone.
 OF_OTHERS = re.compile(r"no proof: it calls |not proved; it waits for the proof of ")
@@ -94,7 +94,7 @@ class Edit:
         return first, end + 1
 
     def impl(self):
-        """The trait and the type of the impl in which its function stands, if it is a method."""
+        """The trait, its arguments and the type of the impl in which its function stands, if it is a method."""
         own = self.lines[self.begin].startswith(" ")
         return next(filter(None, map(IMPL.match, reversed(self.lines[: self.begin]))), None) if own else None
 
@@ -106,7 +106,9 @@ class Edit:
     def item(self, name=None):
         """The path of the function that it turns, as a check names it, below the crate, or of a copy by its name."""
         impl = self.impl()
-        return "::".join([*self.module(), *([f"{impl[2]}{impl[1] or ''}"] if impl else []), name or self.function])
+        trait, given, of = impl.groups("") if impl else ("", "", "")
+        inside = "".join([of, trait, *re.findall(r"\w", given)])
+        return "::".join([*self.module(), *filter(None, [inside]), name or self.function])
 
     def shown_in(self):
         """What is to be checked where it is tried alone: its function, or what its line 'shown in:' names."""
@@ -120,9 +122,9 @@ class Body:
     """A body that a check tries: that of an edit, where it stands or in a copy of the function, or in a copy the one
     that the function has."""
 
-    def __init__(self, edit, copy="", is_own=False):
-        self.edit, self.is_copy, self.is_own = edit, bool(copy), is_own
-        self.name = f"{edit.function}{copy}"
+    def __init__(self, edit, suffix="", is_own=False):
+        self.edit, self.is_copy, self.is_own = edit, bool(suffix), is_own
+        self.name = f"{edit.function}{suffix}"
         # its lines in the file that is checked, counted from 1
         self.first = self.last = 0
 
