@@ -67,9 +67,10 @@ pub fn take(receiver: &mut Receiver) -> Option<Item>
 // An item's port and its two bytes.
 fn shown(taken: &Option<Item>) -> Option<[u8; 3]> {
     let item = taken.as_ref()?;
+    let port = u8::try_from(item.port).ok()?;
     let first = item.bytes.first()?;
     let second = item.bytes.get(1)?;
-    Some([item.port, *first, *second])
+    Some([port, *first, *second])
 }
 
 /// Takes the next message, and asserts what it is, if there is one.

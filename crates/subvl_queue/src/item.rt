@@ -6,7 +6,8 @@ use std::marker::Model;
 /// A message of 1 to 8,192 bytes, and the index of its sender. Contracts see the two as a pair.
 #[derive(Debug, Drop)]
 pub struct Item {
-    pub port: u8,
+    // A whole word, as the bytes' own are: behind a byte they would be moved in pieces that overlap.
+    pub port: usize,
     pub bytes: Vec<u8>,
 }
 
