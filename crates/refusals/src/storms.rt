@@ -1,7 +1,7 @@
 //! A storm of messages.
-use crate::trouble::Trouble;
 use afdx_config::read_config;
 use afdx_plan::{Config, LinkPlan};
+use refusal_cases::Trouble;
 use std::alloc::Global;
 use std::io::Write;
 use std::sync::Wait;
