@@ -4,18 +4,16 @@ use Rattle.std.proofs.lemmas.List.{take-append-drop}
 use Rattle.std.proofs.lemmas.List.Elements.{All-contains, Contains-append_right}
 use Rattle.std.specs.Prelude.{map, All, Contains, Option, Some}
 use Rattle.atomic_table.proofs.Lists.{drop_at}
-use mathlib.Core.Option.{some, some-injective}
+use mathlib.Core.Option.{some}
 use lib.ListN.{get_elem?}
 use Rattle.subvl_queue.specs.declared.item.Message.{Message}
 use Rattle.subvl_queue.specs.declared.view.View.{View}
 use Rattle.subvl_queue.specs.Bytes.{items_of, own_of, places_of}
 use Rattle.subvl_queue.specs.Gathers.{IsGathered, whole, brought_of, brought_back}
-use Rattle.subvl_queue.specs.Messages.{part_of}
 use Rattle.subvl_queue.specs.Queue.{owned}
 use Rattle.subvl_queue.specs.Steps.{IsLog, IfWhole, with_all, holding, freed_of}
-use Rattle.subvl_queue.specs.Views.{SenderView, Brought, HasPort, HasEvery, IsBack, AreBack, IsWhole, places_from, brought_by, brought_by_all}
+use Rattle.subvl_queue.specs.Views.{SenderView, Brought, HasPort, HasEvery, IsBack, AreBack, IsWhole, brought_by, brought_by_all}
 use Rattle.subvl_queue.proofs.Bytes.{part_is, places_are, items_append}
-use Rattle.subvl_queue.proofs.Cells.{placed}
 use Rattle.subvl_queue.proofs.Owned.{take_next}
 
 -- where none was found, no sender of the port is there

@@ -1,5 +1,5 @@
-use Rattle.std.proofs.Common.{rules, refl, ℕ, ◌+◌, ◌<◌, inl, inr, ⊎_elim, [], ◌∷◌, ◌++◌, List, length, get_or, sym, ap, ◌∙◌, subst, ◌≡◌, ◌⊎◌, arith, length-append}
-use Rattle.std.specs.Prelude.{All, Contains}
+use Rattle.std.proofs.Common.{rules, refl, ◌+◌, ◌<◌, inl, inr, ⊎_elim, [], ◌∷◌, ◌++◌, List, length, get_or, sym, ap, ◌∙◌, subst, ◌≡◌, ◌⊎◌, arith, length-append}
+use Rattle.std.specs.Prelude.{Contains}
 use Rattle.std.proofs.Math.Seq.{get_or-append_seam}
 use Rattle.std.proofs.lemmas.List.{get_or_append_left}
 use Rattle.std.proofs.lemmas.List.Elements.{All-weaker, All-map, All-contains_itself, Contains-push, Contains-push_cases, Contains-append_left}

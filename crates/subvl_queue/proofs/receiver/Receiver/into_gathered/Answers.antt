@@ -1,11 +1,11 @@
-use Rattle.std.proofs.Common.{◌≡◌, ℕ, ◌<◌, ◌≤◌, List, ◌++◌, length, drop, sym, ap, ◌∙◌, subst, arith, rules}
+use Rattle.std.proofs.Common.{ℕ, ◌<◌, ◌≤◌, List, ◌++◌, drop, sym, ap, ◌∙◌, subst, arith, rules}
 use Rattle.std.proofs.lemmas.Grind.{common_steps}
 use Rattle.subvl_queue.specs.declared.item.Message.{Message}
 use Rattle.subvl_queue.specs.declared.view.View.{View}
 use Rattle.subvl_queue.specs.Bytes.{items_of}
 use Rattle.subvl_queue.specs.Gathers.{brought_back, whole as all_of}
 use Rattle.subvl_queue.specs.Messages.{AreItems}
-use Rattle.subvl_queue.specs.Views.{ReceiverView, Brought, AreBack, IsWhole}
+use Rattle.subvl_queue.specs.Views.{ReceiverView, AreBack, IsWhole}
 use Rattle.subvl_queue.proofs.Bytes.{are_items}
 use Rattle.subvl_queue.proofs.Senders.{joined_for, is_whole, accepted_is}
 use Rattle.subvl_queue.proofs.receiver.Receiver.into_gathered.Goals as goal
