@@ -67,10 +67,9 @@ pub fn take(receiver: &mut Receiver) -> Option<Item>
 // An item's port and its two bytes.
 fn shown(taken: &Option<Item>) -> Option<[u8; 3]> {
     let item = taken.as_ref()?;
-    let port = u8::try_from(item.port).ok()?;
     let first = item.bytes.first()?;
     let second = item.bytes.get(1)?;
-    Some([port, *first, *second])
+    Some([item.port, *first, *second])
 }
 
 /// Takes the next message, and asserts what it is, if there is one.

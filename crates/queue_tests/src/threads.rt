@@ -150,8 +150,7 @@ fn take_rest<R: Abort>(rt: &R, receiver: Receiver, senders: Vec<Sender>, into: &
 // Asserts that an item has the next number of its sender, which then rises by one.
 fn check_item<R: Abort>(rt: &R, item: &Item, number: &mut u8) {
     assert!(rt; *number < MESSAGES);
-    let port = u8::try_from(item.port).expect(rt, "at most 64 senders");
-    let wanted = [port, *number];
+    let wanted = [item.port, *number];
     assert_same(rt, item.bytes.as_slice(), wanted.as_slice());
     *number += 1;
 }
@@ -160,7 +159,7 @@ fn check_item<R: Abort>(rt: &R, item: &Item, number: &mut u8) {
 fn check_items<R: Abort>(rt: &R, alloc: Global, items: &[Item], ports: usize) {
     let mut next = vec![in alloc; 0u8; ports].expect(rt, "memory");
     for item in items {
-        let number = next.get_mut(item.port);
+        let number = next.get_mut(usize::from(item.port));
         check_item(rt, item, number.expect(rt, "its port"));
     }
 }

@@ -6,8 +6,7 @@ use std::marker::Model;
 /// A message of 1 to 8,192 bytes, and the index of its sender. Contracts see the two as a pair.
 #[derive(Debug, Drop)]
 pub struct Item {
-    // A whole word, as the bytes' own are: behind a byte they would be moved in pieces that overlap.
-    pub port: usize,
+    pub port: u8,
     pub bytes: Vec<u8>,
 }
 

@@ -33,7 +33,7 @@ pub const NO_ROOM: u64 = 1 << 32;
 pub const CLOSED: u64 = 1 << 63;
 
 /// A message and the index of its sender.
-pub type Parcel = (usize, Message);
+pub type Parcel = (u8, Message);
 
 /// A slot of the table.
 pub type Slot = Option<Parcel>;

@@ -8,7 +8,7 @@ use std::marker::{Brand, PhantomData};
 
 pub struct Rule;
 
-impl<T> TableRule<Option<(usize, T)>, View<T>, ()> for Rule {
+impl<T> TableRule<Option<(u8, T)>, View<T>, ()> for Rule {
     ghost use Rattle.subvl_queue.specs.Queue.{Queue};
     ghost use Rattle.subvl_queue.specs.Start.{first_view};
 
@@ -28,13 +28,13 @@ impl<X> Said<X> for Brand {
 
 pub(crate) struct Ask;
 
-impl<T> Play<Option<(usize, T)>, View<T>> for Ask {
+impl<T> Play<Option<(u8, T)>, View<T>> for Ask {
     ghost then = { asks };
 }
 
 pub(crate) struct GiveBack;
 
-impl<T> Play<Option<(usize, T)>, View<T>> for GiveBack {
+impl<T> Play<Option<(u8, T)>, View<T>> for GiveBack {
     ghost then = { gives_back };
 }
 
@@ -42,43 +42,43 @@ pub(crate) struct Draw<W> {
     marker: PhantomData<W>,
 }
 
-impl<T, W: Said<(usize, T)>> Play<Option<(usize, T)>, View<T>> for Draw<W> {
+impl<T, W: Said<(u8, T)>> Play<Option<(u8, T)>, View<T>> for Draw<W> {
     ghost then = { draws W.item };
 }
 
 pub(crate) struct Ready;
 
-impl<T> Play<Option<(usize, T)>, View<T>> for Ready {
+impl<T> Play<Option<(u8, T)>, View<T>> for Ready {
     ghost then = { readies };
 }
 
 pub(crate) struct Look;
 
-impl<T> Play<Option<(usize, T)>, View<T>> for Look {
+impl<T> Play<Option<(u8, T)>, View<T>> for Look {
     ghost then = { λ st m r n. looks (length m.0.taken) st m r n };
 }
 
 pub(crate) struct Freed;
 
-impl<T> Play<Option<(usize, T)>, View<T>> for Freed {
+impl<T> Play<Option<(u8, T)>, View<T>> for Freed {
     ghost then = { frees };
 }
 
 pub(crate) struct Glance;
 
-impl<T> Play<Option<(usize, T)>, View<T>> for Glance {
+impl<T> Play<Option<(u8, T)>, View<T>> for Glance {
     ghost then = { glances_at };
 }
 
 pub(crate) struct Close;
 
-impl<T> Play<Option<(usize, T)>, View<T>> for Close {
+impl<T> Play<Option<(u8, T)>, View<T>> for Close {
     ghost then = { closes };
 }
 
 pub(crate) struct Gather;
 
-impl<T> Play<Option<(usize, T)>, View<T>> for Gather {
+impl<T> Play<Option<(u8, T)>, View<T>> for Gather {
     ghost then = { gathers };
 }
 

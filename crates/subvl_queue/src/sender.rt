@@ -55,7 +55,7 @@ where
         ring.give_back(seat);
         return Err(refused(Why::Full, message));
     }
-    let parcel = (usize::from(port), message);
+    let parcel = (port, message);
     let place = ring.draw(seat, &parcel);
     if place >= CLOSED {
         ring.give_back(seat);

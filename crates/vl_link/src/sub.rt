@@ -102,7 +102,7 @@ impl Sub {
             None => false,
             Some(item) => {
                 let Item { port, bytes } = item;
-                let sender = self.ports[port];
+                let sender = self.ports[usize::from(port)];
                 self.sending = Some(Cut::new(bytes, u64::from(self.place), &sender));
                 self.place = (self.place + 1) % 16384;
                 true

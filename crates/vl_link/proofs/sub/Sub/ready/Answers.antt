@@ -17,17 +17,17 @@ use Rattle.vl_link.proofs.SubKept.{kept_nothing, kept_finds}
 use Rattle.vl_link.proofs.sub.Sub.ready.Goals as goal
 
 -- the message's port is one of the sub-VL's
-has_port : (c : goal.After-self-in-Some-1) → c.item.inside.port < length c.self.inside.ports.items
+has_port : (c : goal.After-self-in-Some-1) → c.from.result < length c.self.inside.ports.items
 has_port c =
     let bytes : (c.item.inside.port, c.item.inside.bytes.items) ≡ c.in-Some.item = c.item.view_is in
-    let place : c.item.inside.port ≡ c.in-Some.item.0 = ap (λ (i : ℕ × List ℕ). i.0) bytes in
+    let place : c.from.result ≡ c.in-Some.item.0 = c.from.ensures ∙ ap (λ (i : ℕ × List ℕ). i.0) bytes in
     let port = c.in-Some.ensures.item.port in let count = c.self.invariant.count in omega arith
 
 -- so what is cut is of this sub-VL
 own : (c : goal.After-self-in-Some-1) → IsCutOf c.self.inside.of c.new.result
 own c =
     let port : IsPortOf c.self.inside.of c.index.result.now = subst (IsPortOf c.self.inside.of) (sym c.index.ensures)
-    (c.self.invariant.senders c.item.inside.port c.index.result.now (has_port c)) in
+    (c.self.invariant.senders c.from.result c.index.result.now (has_port c)) in
     let same : c.new.result.port ≡ c.index.result.now = c.new.ensures.message.0 in
     record {
       over = subst (λ (p : PortPlan). SendsOver p c.self.inside.of.link) (sym same) port.over;
@@ -39,10 +39,10 @@ cut_is : (c : goal.After-self-in-Some-1)
     → record { port = c.index.result.now; bytes = c.item.inside.bytes.items } ≡ sent_of c.self.inside.ports.items c.in-Some.item
 cut_is c =
     let bytes : (c.item.inside.port, c.item.inside.bytes.items) ≡ c.in-Some.item = c.item.view_is in
-    let place : c.item.inside.port ≡ c.in-Some.item.0 = ap (λ (i : ℕ × List ℕ). i.0) bytes in
-    let within : c.item.inside.port < length c.self.inside.ports.items = has_port c in
-    let sender : c.index.result.now ≡ port_plan_at c.self.inside.ports.items c.item.inside.port =
-    get_or_read c.self.inside.ports.items c.item.inside.port c.index.result.now within c.index.ensures (port_plan_at [] 0) in
+    let place : c.from.result ≡ c.in-Some.item.0 = c.from.ensures ∙ ap (λ (i : ℕ × List ℕ). i.0) bytes in
+    let within : c.from.result < length c.self.inside.ports.items = has_port c in
+    let sender : c.index.result.now ≡ port_plan_at c.self.inside.ports.items c.from.result =
+    get_or_read c.self.inside.ports.items c.from.result c.index.result.now within c.index.ensures (port_plan_at [] 0) in
     ap (λ (p : PortPlan). record { port = p; bytes = c.item.inside.bytes.items })
     (sender ∙ ap (port_plan_at c.self.inside.ports.items) place)
     ∙ ap (λ (i : ℕ × List ℕ). record { port = port_plan_at c.self.inside.ports.items c.in-Some.item.0; bytes = i.1 }) bytes
@@ -59,7 +59,7 @@ returns-in-Some c =
     ≡ message_fragments c.self.inside.of (length (taken_of c.self.inside.queue)) (sent_of c.self.inside.ports.items c.in-Some.item) =
     c.new.ensures.fragments of.end_system (room_of of.link.lmax) A
     ∙ ap (λ (place : ℕ). message_fragments c.self.inside.of place
-    (record { port = c.index.result.now; bytes = c.item.inside.bytes.items })) (c.from.ensures ∙ c.self.invariant.place)
+    (record { port = c.index.result.now; bytes = c.item.inside.bytes.items })) (c.from-in-Some.ensures ∙ c.self.invariant.place)
     ∙ ap (message_fragments c.self.inside.of (length (taken_of c.self.inside.queue) % 16384)) (cut_is c)
     ∙ fragments_again of.end_system (room_of of.link.lmax) A (length (taken_of c.self.inside.queue))
     (sent_of c.self.inside.ports.items c.in-Some.item) in
