@@ -1,9 +1,5 @@
-use Rattle.std.proofs.Common.{rules}
 use Rattle.afdx_config.proofs.SectionTests.{first_fields}
 use Rattle.afdx_config.proofs.document.fields_in.Goals as goal
-
-pub returns-then-is_version_2 : goal.returns-then-is_version_2
-returns-then-is_version_2 c = search rules
 
 pub returns-else-is_version_2 : goal.returns-else-is_version_2
 returns-else-is_version_2 c = first_fields _ _ _ c.if-is_version_2.ensures c.saturating_sub.ensures

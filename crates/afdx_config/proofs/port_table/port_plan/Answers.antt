@@ -1,4 +1,4 @@
-use Rattle.std.proofs.Common.{false, codes, lit<, rules}
+use Rattle.std.proofs.Common.{false, codes, lit<}
 use Rattle.toml.specs.View.{table_view}
 use Rattle.afdx_plan.specs.declared.fault.ConfigFault.TheVariants.{OutOfRange}
 use Rattle.afdx_plan.specs.declared.limits.TheConstants.{MESSAGE_LIMIT}
@@ -18,6 +18,3 @@ number-requires-7-clause-inside c =
 pub returns-clause-value : goal.returns-clause-value
 unfolding port_of
 returns-clause-value c = cc
-
-pub returns-clause-ranges : goal.returns-clause-ranges
-returns-clause-ranges c = search rules

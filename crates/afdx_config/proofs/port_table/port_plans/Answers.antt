@@ -1,4 +1,4 @@
-use Rattle.std.proofs.Common.{◌∙◌, ap, map, rules}
+use Rattle.std.proofs.Common.{◌∙◌, ap, map}
 use Rattle.std.proofs.lemmas.List.{take_all}
 use Rattle.toml.specs.View.{table_view}
 use Rattle.afdx_config.specs.PlanOf.{port_of}
@@ -7,12 +7,3 @@ use Rattle.afdx_config.proofs.port_table.port_plans.Goals as goal
 pub returns-clause-value : goal.returns-clause-value
 returns-clause-value c = c.loop-table.invariant.value
     ∙ ap (map (λ t. port_of (table_view t.now))) (take_all _ _ c.loop-table-test.false)
-
-pub returns-in_err-push-clause-value : goal.returns-in_err-push-clause-value
-returns-in_err-push-clause-value c = search rules
-
-pub returns-in_err-push-clause-ranges : goal.returns-in_err-push-clause-ranges
-returns-in_err-push-clause-ranges c = search rules
-
-pub returns-clause-ranges : goal.returns-clause-ranges
-returns-clause-ranges c = search rules

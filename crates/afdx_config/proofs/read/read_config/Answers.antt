@@ -1,4 +1,3 @@
-use Rattle.std.proofs.Common.{rules}
 use Rattle.afdx_config.proofs.LeastLemmas.{answer_ok, answer_err}
 use Rattle.afdx_config.proofs.read.read_config.Goals as goal
 
@@ -7,15 +6,3 @@ returns-in-Ok-clause-plan c = answer_ok _ _ _ c.in-Ok.ensures.ok c.read_document
 
 pub returns-in-Ok-clause-fault : goal.returns-in-Ok-clause-fault
 returns-in-Ok-clause-fault c = answer_err _ _ _ c.in-Ok.ensures.ok c.read_document.ensures.fault
-
-pub returns-then-is_memory-clause-plan : goal.returns-then-is_memory-clause-plan
-returns-then-is_memory-clause-plan c = search rules
-
-pub returns-then-is_memory-clause-fault : goal.returns-then-is_memory-clause-fault
-returns-then-is_memory-clause-fault c = search rules
-
-pub returns-else-is_memory-clause-plan : goal.returns-else-is_memory-clause-plan
-returns-else-is_memory-clause-plan c = search rules
-
-pub returns-else-is_memory-clause-fault : goal.returns-else-is_memory-clause-fault
-returns-else-is_memory-clause-fault c = search rules

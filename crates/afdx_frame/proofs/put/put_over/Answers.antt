@@ -1,15 +1,6 @@
-use Rattle.std.proofs.Common.{rules, arith}
+use Rattle.std.proofs.Common.{arith}
 use Rattle.std.proofs.lemmas.Grind.{common_steps}
 use Rattle.afdx_frame.proofs.put.put_over.Goals as goal
-
-pub returns-else-at-bytes-clause-reaches : goal.returns-else-at-bytes-clause-reaches
-returns-else-at-bytes-clause-reaches g c = search rules
-
-pub returns-else-at-bytes-clause-longer : goal.returns-else-at-bytes-clause-longer
-returns-else-at-bytes-clause-longer g c = search rules
-
-pub returns-else-at-bytes-clause-behind : goal.returns-else-at-bytes-clause-behind
-returns-else-at-bytes-clause-behind g c = search rules
 
 pub returns-then-at-bytes-clause-items : goal.returns-then-at-bytes-clause-items
 returns-then-at-bytes-clause-items g c = grind (arith, common_steps)

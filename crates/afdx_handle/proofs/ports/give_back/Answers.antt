@@ -1,4 +1,4 @@
-use Rattle.std.proofs.Common.{rules, ◌≡◌, sym, subst, false, vec_capacity}
+use Rattle.std.proofs.Common.{◌≡◌, sym, subst, false, vec_capacity}
 use Rattle.afdx_tx.specs.Ports.{IsPortOfTx}
 use Rattle.afdx_handle.specs.Stages.{is_gathered, tx_of}
 use Rattle.afdx_handle.specs.EndSystem.{EndView, end_view, GivesBack}
@@ -20,75 +20,3 @@ returns-clause-given c =
     c.it.view_is
     (gives (is_gathered own.stage) (tx_of own.stage) own.ports.items c.push.new.self.items (vec_capacity own.ports)
     (vec_capacity c.push.new.self) own.a.before own.b.before c.args.port c.in-Ok.ensures.items)
-
-pub returns-in-Draining-clause-given : goal.returns-in-Draining-clause-given
-returns-in-Draining-clause-given c = search rules
-
-pub returns-in-Draining-clause-refused : goal.returns-in-Draining-clause-refused
-returns-in-Draining-clause-refused c = search rules
-
-pub returns-in-Draining-clause-back : goal.returns-in-Draining-clause-back
-returns-in-Draining-clause-back c = search rules
-
-pub returns-in-Draining-clause-gathered : goal.returns-in-Draining-clause-gathered
-returns-in-Draining-clause-gathered c = search rules
-
-pub returns-in-Draining-clause-not_gathered : goal.returns-in-Draining-clause-not_gathered
-returns-in-Draining-clause-not_gathered c = search rules
-
-pub returns-in-Draining-clause-foreign : goal.returns-in-Draining-clause-foreign
-returns-in-Draining-clause-foreign c = search rules
-
-pub returns-in-Draining-clause-answers : goal.returns-in-Draining-clause-answers
-returns-in-Draining-clause-answers c = search rules
-
-pub len-requires : goal.len-requires
-len-requires c κs = search rules
-
-pub capacity-requires : goal.capacity-requires
-capacity-requires c κs = search rules
-
-pub returns-then-len-capacity-clause-given : goal.returns-then-len-capacity-clause-given
-returns-then-len-capacity-clause-given c = search rules
-
-pub returns-then-len-capacity-clause-refused : goal.returns-then-len-capacity-clause-refused
-returns-then-len-capacity-clause-refused c = search rules
-
-pub returns-then-len-capacity-clause-back : goal.returns-then-len-capacity-clause-back
-returns-then-len-capacity-clause-back c = search rules
-
-pub returns-then-len-capacity-clause-gathered : goal.returns-then-len-capacity-clause-gathered
-returns-then-len-capacity-clause-gathered c = search rules
-
-pub returns-then-len-capacity-clause-foreign : goal.returns-then-len-capacity-clause-foreign
-returns-then-len-capacity-clause-foreign c = search rules
-
-pub returns-then-len-capacity-clause-answers : goal.returns-then-len-capacity-clause-answers
-returns-then-len-capacity-clause-answers c = search rules
-
-pub push-requires : goal.push-requires
-push-requires c κs = search rules
-
-pub unreachable-requires : goal.unreachable-requires
-unreachable-requires c = search rules
-
-pub unreachable-unreachable : goal.unreachable-unreachable
-unreachable-unreachable c = search rules
-
-pub returns-clause-refused : goal.returns-clause-refused
-returns-clause-refused c = search rules
-
-pub returns-clause-back : goal.returns-clause-back
-returns-clause-back c = search rules
-
-pub returns-clause-gathered : goal.returns-clause-gathered
-returns-clause-gathered c = search rules
-
-pub returns-clause-not_gathered : goal.returns-clause-not_gathered
-returns-clause-not_gathered c = search rules
-
-pub returns-clause-foreign : goal.returns-clause-foreign
-returns-clause-foreign c = search rules
-
-pub returns-clause-answers : goal.returns-clause-answers
-returns-clause-answers c = search rules

@@ -1,4 +1,4 @@
-use Rattle.std.proofs.Common.{rules, ◌≡◌, sym, subst, Some, position, vec_capacity}
+use Rattle.std.proofs.Common.{◌≡◌, sym, subst, Some, position, vec_capacity, rules}
 use Rattle.std.proofs.lemmas.List.Quantifiers.{position-Some}
 use Rattle.afdx_handle.specs.Stages.{is_gathered, tx_of}
 use Rattle.afdx_handle.specs.EndSystem.{EndView, end_view, has_id, TakesPort}
@@ -18,8 +18,6 @@ returns c =
     (vec_capacity c.swap_remove.new.self) own.a.before own.b.before c.args.id c.args.at port c.it.invariant here.0 here.1
     c.swap_remove.ensures.value c.swap_remove.ensures.items c.swap_remove.ensures.capacity)
 
-pub swap_remove-requires : goal.swap_remove-requires
-swap_remove-requires c = search rules
-
+-- at half of its limits the search proves this only where it is asked for it
 pub invariant_of-it : goal.invariant_of-it
 invariant_of-it c = search rules

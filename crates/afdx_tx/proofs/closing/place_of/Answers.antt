@@ -1,4 +1,4 @@
-use Rattle.std.proofs.Common.{ℕ, ◌≡◌, ◌∙◌, ◌<◌, ◌≤◌, List, length, get_or, ap, sym, subst, rules}
+use Rattle.std.proofs.Common.{ℕ, ◌≡◌, ◌∙◌, ◌<◌, ◌≤◌, List, length, get_or, ap, sym, subst}
 use Rattle.std.proofs.lemmas.List.{get_or_default}
 use Rattle.afdx_plan.specs.declared.link_plan.LinkPlan.{LinkPlan}
 use Rattle.afdx_plan.specs.Config.{link_plan_at}
@@ -35,12 +35,3 @@ returns-else-sub-links-clause-none c =
     let here = read_at links c.links-links.result.now c.in-Some.place c.index-links-place.result c.links-links.ensures.plan there.0 in
     lacks_at c.args.config.now c.args.vl.0 c.args.sub c.in-Some.place c.links-links.ensures.valid there.0 there.1
     (subst (λ (link : LinkPlan). link.sub_vls ≤ c.args.sub) here c.if-sub-links.false)
-
-pub returns-in-None-clause-some : goal.returns-in-None-clause-some
-returns-in-None-clause-some c = search rules
-
-pub returns-then-sub-links-clause-none : goal.returns-then-sub-links-clause-none
-returns-then-sub-links-clause-none c = search rules
-
-pub returns-else-sub-links-clause-some : goal.returns-else-sub-links-clause-some
-returns-else-sub-links-clause-some c = search rules

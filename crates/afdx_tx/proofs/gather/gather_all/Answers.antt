@@ -1,4 +1,4 @@
-use Rattle.std.proofs.Common.{◌≡◌, ◌<◌, length, get_or, arith, ◌∙◌, sym, subst, below_more, rules}
+use Rattle.std.proofs.Common.{◌≡◌, ◌<◌, length, get_or, arith, ◌∙◌, sym, subst, below_more}
 use Rattle.std.proofs.lemmas.List.{get_or_default, get_or-set_same, get_or-set_other, length-set}
 use Rattle.vl_link.specs.Links.{LinkState, link_at, no_link}
 use Rattle.vl_link.specs.LinkGathering.{AreFullSubs, GathersLink}
@@ -31,6 +31,3 @@ loop-link-preserved c =
           (subst (λ (l : LinkState). GathersLink l c.gather.new.self) here c.gather.ensures));
       todo = λ k le. get_or-set_other c.loop-link.links i k c.gather.new.self no_link (λ e. omega arith) ∙ old.todo k (omega arith);
     }
-
-pub returns : goal.returns
-returns c = search rules

@@ -1,4 +1,4 @@
-use Rattle.std.proofs.Common.{ℕ, ◌≡◌, ◌<◌, List, [], ◌∷◌, true, false, length, get_or, Option, Some, None, MatchOption, is_some, below_more, arith, rules}
+use Rattle.std.proofs.Common.{ℕ, ◌≡◌, ◌<◌, List, [], ◌∷◌, true, false, length, get_or, Option, Some, None, MatchOption, is_some, below_more, arith}
 use Rattle.std.proofs.lemmas.List.Elements.{Contains-get_or}
 use Rattle.afdx_tx.specs.Ports.{PortView, HasPlace}
 use Rattle.afdx_tx.proofs.gather.has_every_place.Goals as goal
@@ -16,9 +16,3 @@ found (port ∷ ports) place (Some at) m e =
 pub loop-place-preserved : goal.loop-place-preserved
 loop-place-preserved c = below_more _ _ c.loop-place.invariant
     (found c.args.ports.now c.loop-place.place c.position_of.result c.position_of.ensures c.if-is_none.ensures)
-
-pub returns-then-is_none : goal.returns-then-is_none
-returns-then-is_none c = search rules
-
-pub returns : goal.returns
-returns c = search rules

@@ -130,30 +130,3 @@ returns-clause-back c =
     All-weaker _ (IsTakenBack c.args.config.now c.loop-port.links)
     (λ p. ⊎_elim (λ there. absurd (let none_there = subst (λ (l : List PortView). Contains l p) none there in let lt = none_there.1 in omega arith))
     (λ back. back)) c.args.ports.items c.loop-port.invariant.each
-
-pub returns-clause-same : goal.returns-clause-same
-returns-clause-same c = search rules
-
-pub pop-requires : goal.pop-requires
-pop-requires c κs = search rules
-
-pub place-requires : goal.place-requires
-place-requires c = search rules
-
-pub link_of-link-requires-clause-valid : goal.link_of-link-requires-clause-valid
-link_of-link-requires-clause-valid c = search rules
-
-pub link_of-link-requires-clause-linked : goal.link_of-link-requires-clause-linked
-link_of-link-requires-clause-linked c = search rules
-
-pub offset_bounds-links-link : goal.offset_bounds-links-link
-offset_bounds-links-link c = search rules
-
-pub into_sender-requires : goal.into_sender-requires
-into_sender-requires c = search rules
-
-pub loop-port-smaller : goal.loop-port-smaller
-loop-port-smaller c = search rules
-
-pub drop-ports-requires : goal.drop-ports-requires
-drop-ports-requires c κs = search rules

@@ -1,4 +1,4 @@
-use Rattle.std.proofs.Common.{◌≡◌, ◌+◌, ◌<◌, List, [], length, get_or, arith, ap, ◌∙◌, sym, subst, rules}
+use Rattle.std.proofs.Common.{◌≡◌, ◌+◌, ◌<◌, List, [], length, get_or, arith, ap, ◌∙◌, sym, subst}
 use Rattle.std.proofs.lemmas.List.{get_or_default}
 use Rattle.afdx_plan.specs.declared.link_plan.LinkPlan.{LinkPlan}
 use Rattle.afdx_plan.specs.Config.{link_plan_at}
@@ -21,27 +21,3 @@ loop-plan-preserved c =
     subst (λ (p : LinkPlan). IsOpenedLink config.end_system config.ports [] p c.in_ok-open_link.field-0) plan c.in_ok-open_link.ensures in
     subst (λ (links : List LinkState). AreOpenedLinks config [] links (k + 1)) (sym c.in_ok-push.ensures.items)
     (links_push config [] c.loop-plan.links.items k c.in_ok-open_link.field-0 c.loop-plan.invariant opened)
-
-pub returns-in_err-links-clause-opened : goal.returns-in_err-links-clause-opened
-returns-in_err-links-clause-opened c = search rules
-
-pub returns-in_err-links-clause-valid : goal.returns-in_err-links-clause-valid
-returns-in_err-links-clause-valid c = search rules
-
-pub returns-in_err-open_link-clause-opened : goal.returns-in_err-open_link-clause-opened
-returns-in_err-open_link-clause-opened c = search rules
-
-pub returns-in_err-open_link-clause-valid : goal.returns-in_err-open_link-clause-valid
-returns-in_err-open_link-clause-valid c = search rules
-
-pub returns-in_err-push-clause-opened : goal.returns-in_err-push-clause-opened
-returns-in_err-push-clause-opened c = search rules
-
-pub returns-in_err-push-clause-valid : goal.returns-in_err-push-clause-valid
-returns-in_err-push-clause-valid c = search rules
-
-pub returns-clause-opened : goal.returns-clause-opened
-returns-clause-opened c = search rules
-
-pub returns-clause-valid : goal.returns-clause-valid
-returns-clause-valid c = search rules

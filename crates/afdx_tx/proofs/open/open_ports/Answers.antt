@@ -1,4 +1,4 @@
-use Rattle.std.proofs.Common.{ℕ, ◌≡◌, ◌<◌, List, [], ◌∷◌, ◌++◌, length, take, get_or, refl, arith, ap, ◌∙◌, sym, subst, below_more, rules}
+use Rattle.std.proofs.Common.{ℕ, ◌≡◌, ◌<◌, List, [], ◌∷◌, ◌++◌, length, take, get_or, refl, arith, ap, ◌∙◌, sym, subst, below_more}
 use Rattle.std.proofs.lemmas.List.{get_or_default, get_or_append_left, get_or_push, length-append}
 use Rattle.std.proofs.Math.Seq.{take-length}
 use Rattle.afdx_plan.specs.declared.port_plan.PortPlan.{PortPlan}
@@ -79,21 +79,3 @@ returns-clause-ports c =
       count = c.loop-place.invariant.count ∙ all;
       each = λ k d lt. c.loop-place.invariant.each k d (subst (λ (n : ℕ). k < n) (sym all) lt);
     }
-
-pub returns-in_err-ports-clause-links : goal.returns-in_err-ports-clause-links
-returns-in_err-ports-clause-links c = search rules
-
-pub returns-in_err-ports-clause-ports : goal.returns-in_err-ports-clause-ports
-returns-in_err-ports-clause-ports c = search rules
-
-pub returns-in_err-sender-clause-links : goal.returns-in_err-sender-clause-links
-returns-in_err-sender-clause-links c = search rules
-
-pub returns-in_err-sender-clause-ports : goal.returns-in_err-sender-clause-ports
-returns-in_err-sender-clause-ports c = search rules
-
-pub returns-in_err-push-clause-links : goal.returns-in_err-push-clause-links
-returns-in_err-push-clause-links c = search rules
-
-pub returns-in_err-push-clause-ports : goal.returns-in_err-push-clause-ports
-returns-in_err-push-clause-ports c = search rules

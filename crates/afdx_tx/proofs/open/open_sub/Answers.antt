@@ -1,4 +1,4 @@
-use Rattle.std.proofs.Common.{List, All, ap, ◌∙◌, sym, subst, rules}
+use Rattle.std.proofs.Common.{List, All, ap, ◌∙◌, sym, subst}
 use Rattle.afdx_plan.specs.declared.port_plan.PortPlan.{PortPlan}
 use Rattle.vl_link.specs.Seen.{receiving}
 use Rattle.vl_link.specs.Links.{Held}
@@ -25,9 +25,3 @@ returns c =
       queue = c.in_ok-receiver.receiver.queue;
       seen = ap (λ (h : Held). h.seen) held ∙ ap receiving c.in_ok-receiver.ensures;
     }
-
-pub returns-in_err-ports : goal.returns-in_err-ports
-returns-in_err-ports c = search rules
-
-pub returns-in_err-receiver : goal.returns-in_err-receiver
-returns-in_err-receiver c = search rules

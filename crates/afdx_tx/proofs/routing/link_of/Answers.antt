@@ -1,4 +1,4 @@
-use Rattle.std.proofs.Common.{◌∙◌, sym, rules}
+use Rattle.std.proofs.Common.{◌∙◌, sym}
 use Rattle.afdx_tx.proofs.PortLink.{found, found_over}
 use Rattle.afdx_tx.proofs.routing.link_of.Goals as goal
 
@@ -9,9 +9,3 @@ pub returns-clause-over : goal.returns-clause-over
 returns-clause-over c =
     found_over c.args.config.now c.args.port.now c.in-Some.place c.requires.valid c.requires.linked
     (sym c.link_index.ensures ∙ c.in-Some.is)
-
-pub returns-clause-value : goal.returns-clause-value
-returns-clause-value c = search rules
-
-pub returns-clause-within : goal.returns-clause-within
-returns-clause-within c = search rules

@@ -1,4 +1,4 @@
-use Rattle.std.proofs.Common.{ℕ, ◌≡◌, length, arith, subst, rules}
+use Rattle.std.proofs.Common.{ℕ, ◌≡◌, length, arith, subst}
 use Rattle.afdx_tx.proofs.Publishing.{IsPublishing, publishing_all, reaches_all}
 use Rattle.afdx_tx.proofs.transmitter.publish_all.Goals as goal
 
@@ -10,6 +10,3 @@ returns-clause-reaches g c =
     reaches_all links c.args.board.now c.loop-link.board c.requires.count
     (publishing_all links c.args.board.now c.loop-link.board
     (subst (λ (many : ℕ). IsPublishing c.args.links.now c.args.board.now c.loop-link.board many) all c.loop-link.invariant))
-
-pub returns-clause-counts : goal.returns-clause-counts
-returns-clause-counts g c = search rules

@@ -1,4 +1,4 @@
-use Rattle.std.proofs.Common.{◌++◌, ◌≡◌, ◌<◌, ◌∙◌, ap, sym, length, subst, get_or, arith, true, false, rules}
+use Rattle.std.proofs.Common.{◌++◌, ◌≡◌, ◌<◌, ◌∙◌, ap, sym, length, subst, get_or, arith, true, false}
 use Rattle.std.proofs.lemmas.Bool.{and_parts}
 use Rattle.std.proofs.lemmas.List.{get_or_default, set-get_or}
 use Rattle.afdx_plan.specs.declared.identifiers.VlId.{VlId}
@@ -90,18 +90,3 @@ loop-link-preserved g c =
           (ap (λ (v : ArrayVec Release). v.items) w.released-is)
           (polling_on c.args.now i c.args.links.now links c.args.mux.now c.loop-link.mux c.loop-link.released.items p lt no)
     ]
-
-pub returns-clause-steady : goal.returns-clause-steady
-returns-clause-steady g c = search rules
-
-pub returns-clause-run : goal.returns-clause-run
-returns-clause-run g c = search rules
-
-pub returns-clause-whole : goal.returns-clause-whole
-returns-clause-whole g c = search rules
-
-pub returns-clause-told : goal.returns-clause-told
-returns-clause-told g c = search rules
-
-pub returns-clause-endure : goal.returns-clause-endure
-returns-clause-endure g c = search rules

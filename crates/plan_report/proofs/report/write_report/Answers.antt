@@ -1,4 +1,3 @@
-use Rattle.std.proofs.Common.{rules}
 use Rattle.std.proofs.lemmas.Result.{on_ok_weaker}
 use Rattle.plan_report.proofs.ReportLemmas.{report_whole}
 use Rattle.plan_report.proofs.report.write_report.Goals as goal
@@ -12,12 +11,3 @@ returns g c =
     (c.in_ok-write_end_system.ensures) (c.in_ok-write_links.ensures) (c.in_ok-write_ports.ensures)
     last)
     c.write_jitter.ensures
-
-pub returns-in_err-write_end_system : goal.returns-in_err-write_end_system
-returns-in_err-write_end_system g c = search rules
-
-pub returns-in_err-write_links : goal.returns-in_err-write_links
-returns-in_err-write_links g c = search rules
-
-pub returns-in_err-write_ports : goal.returns-in_err-write_ports
-returns-in_err-write_ports g c = search rules

@@ -1,4 +1,4 @@
-use Rattle.std.proofs.Common.{◌<◌, ◌≤◌, length, arith, rules}
+use Rattle.std.proofs.Common.{◌<◌, ◌≤◌, length, arith}
 use Rattle.std.proofs.lemmas.Grind.{common_steps}
 use Rattle.std.proofs.lemmas.Bool.Decides.{nat_tests}
 use Rattle.script_lines.proofs.LineLemmas.{read_plain, read_byte, eof_taken, eof_long, feed_taken, feed_long, byte_long}
@@ -55,35 +55,5 @@ loop-bytes-preserved g c =
     rw c.in_ok-push-in-Ok-Some-2.ensures.items
     (read_byte _ _ _ _ c.in-Ok-Some.field-0-0 read taken c.in-Ok-Some.field-0-0-test.1)
 
-pub returns-in_err-take_plain-clause-taken : goal.returns-in_err-take_plain-clause-taken
-returns-in_err-take_plain-clause-taken g c = search rules
-
-pub returns-in_err-take_plain-clause-long : goal.returns-in_err-take_plain-clause-long
-returns-in_err-take_plain-clause-long g c = search rules
-
-pub returns-in_err-take_plain-clause-ended : goal.returns-in_err-take_plain-clause-ended
-returns-in_err-take_plain-clause-ended g c = search rules
-
-pub returns-in-Err-clause-taken : goal.returns-in-Err-clause-taken
-returns-in-Err-clause-taken g c = search rules
-
-pub returns-in-Err-clause-long : goal.returns-in-Err-clause-long
-returns-in-Err-clause-long g c = search rules
-
-pub returns-in-Err-clause-ended : goal.returns-in-Err-clause-ended
-returns-in-Err-clause-ended g c = search rules
-
-pub returns-in-Ok-None-clause-taken : goal.returns-in-Ok-None-clause-taken
-returns-in-Ok-None-clause-taken g c = search rules
-
-pub returns-in-Ok-None-clause-long : goal.returns-in-Ok-None-clause-long
-returns-in-Ok-None-clause-long g c = search rules
-
 pub returns-in-Ok-None-clause-ended : goal.returns-in-Ok-None-clause-ended
 returns-in-Ok-None-clause-ended g c = grind (arith, common_steps)
-
-pub returns-in-Ok-Some-clause-taken : goal.returns-in-Ok-Some-clause-taken
-returns-in-Ok-Some-clause-taken g c = search rules
-
-pub returns-in-Ok-Some-clause-ended : goal.returns-in-Ok-Some-clause-ended
-returns-in-Ok-Some-clause-ended g c = search rules

@@ -1,4 +1,4 @@
-use Rattle.std.proofs.Common.{◌<◌, ◌∙◌, ◌+◌, ◌*◌, ◌-◌, sym, arith, get_or, rules}
+use Rattle.std.proofs.Common.{◌<◌, ◌∙◌, ◌+◌, ◌*◌, ◌-◌, sym, arith, get_or}
 use Rattle.script_lines.proofs.NumberLemmas.{number_none, number_some, too_great, read_on_end}
 use Rattle.script_lines.proofs.number.number.Goals as goal
 
@@ -13,15 +13,3 @@ pub returns-then-value-most-clause-value : goal.returns-then-value-most-clause-v
 returns-then-value-most-clause-value c =
     number_some c.args.most c.args.word.now c.loop-digit.value (sym c.if-not-is_numeral.ensures)
     (sym (read_on_end c.loop-digit.value c.args.word.now c.loop-digit.digit-index c.loop-digit-test.false) ∙ c.loop-digit.invariant) c.if-value-most.true
-
-pub returns-then-not-is_numeral-clause-most : goal.returns-then-not-is_numeral-clause-most
-returns-then-not-is_numeral-clause-most c = search rules
-
-pub returns-in-None-clause-most : goal.returns-in-None-clause-most
-returns-in-None-clause-most c = search rules
-
-pub returns-then-value-most-clause-most : goal.returns-then-value-most-clause-most
-returns-then-value-most-clause-most c = search rules
-
-pub returns-else-value-most-clause-most : goal.returns-else-value-most-clause-most
-returns-else-value-most-clause-most c = search rules

@@ -74,6 +74,3 @@ returns-clause-back c =
     (All-weaker _ (λ s. Contains c.loop-sender.receiver.back (brought_by s))
     (λ s. ⊎_elim (λ there. absurd (let none_there = subst (λ (l : List SenderView). Contains l s) none there in let lt = none_there.1 in omega arith))
     (λ back. back)) c.args.senders.items c.loop-sender.invariant.each)
-
-pub returns-clause-same : goal.returns-clause-same
-returns-clause-same c = search rules

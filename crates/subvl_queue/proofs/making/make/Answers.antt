@@ -40,39 +40,3 @@ loop-port-preserved c =
       senders = rw c.push_reserved.ensures.items (λ k d lt. rows_more c.loop-port.senders.items x d c.loop-port.receiver c.new_sender.new.self
           c.args.capacity c.args.calls c.loop-port._port old.count old.receiver got.one_more got.sender (λ j near. old.senders j d near) k lt);
     }
-
-pub returns-in_err-receiver-clause-receiver : goal.returns-in_err-receiver-clause-receiver
-returns-in_err-receiver-clause-receiver c = search rules
-
-pub returns-in_err-receiver-clause-count : goal.returns-in_err-receiver-clause-count
-returns-in_err-receiver-clause-count c = search rules
-
-pub returns-in_err-receiver-clause-senders : goal.returns-in_err-receiver-clause-senders
-returns-in_err-receiver-clause-senders c = search rules
-
-pub returns-in_err-senders-clause-receiver : goal.returns-in_err-senders-clause-receiver
-returns-in_err-senders-clause-receiver c = search rules
-
-pub returns-in_err-senders-clause-count : goal.returns-in_err-senders-clause-count
-returns-in_err-senders-clause-count c = search rules
-
-pub returns-in_err-senders-clause-senders : goal.returns-in_err-senders-clause-senders
-returns-in_err-senders-clause-senders c = search rules
-
-pub returns-in_err-new_sender-clause-receiver : goal.returns-in_err-new_sender-clause-receiver
-returns-in_err-new_sender-clause-receiver c = search rules
-
-pub returns-in_err-new_sender-clause-count : goal.returns-in_err-new_sender-clause-count
-returns-in_err-new_sender-clause-count c = search rules
-
-pub returns-in_err-new_sender-clause-senders : goal.returns-in_err-new_sender-clause-senders
-returns-in_err-new_sender-clause-senders c = search rules
-
-pub returns-clause-receiver : goal.returns-clause-receiver
-returns-clause-receiver c = search rules
-
-pub returns-clause-count : goal.returns-clause-count
-returns-clause-count c = search rules
-
-pub returns-clause-senders : goal.returns-clause-senders
-returns-clause-senders c = search rules

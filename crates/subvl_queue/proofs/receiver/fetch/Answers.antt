@@ -1,4 +1,4 @@
-use Rattle.std.proofs.Common.{◌<◌, refl, length, sym, ap, ◌∙◌, subst, ◌≡◌, rules}
+use Rattle.std.proofs.Common.{◌<◌, refl, length, sym, ap, ◌∙◌, subst, ◌≡◌}
 use mathlib.Core.Option.{some}
 use lib.ListN.{get_elem?}
 use Rattle.subvl_queue.specs.Steps.{holding, freed_of, IfWhole}
@@ -36,42 +36,3 @@ returns-clause-listed c =
     let found = c.look.ensures.found c.if-not-look.false in
     let same : found.0 ≡ c.free-parcel.result = ap (value_or found.0) (sym (ap (λ m. m.0.item) found.1.holds) ∙ c.free-parcel.ensures.item) in
     subst (λ x. IfWhole c.args.seat.now.me.0.all (λ l. (c.args.taken.now < length l) × (get_elem? l c.args.taken.now ≡ some x))) same found.1.listed
-
-pub returns-then-not-look-clause-seat : goal.returns-then-not-look-clause-seat
-returns-then-not-look-clause-seat c = search rules
-
-pub returns-then-not-look-clause-some : goal.returns-then-not-look-clause-some
-returns-then-not-look-clause-some c = search rules
-
-pub returns-then-not-look-clause-few : goal.returns-then-not-look-clause-few
-returns-then-not-look-clause-few c = search rules
-
-pub returns-then-not-look-clause-port : goal.returns-then-not-look-clause-port
-returns-then-not-look-clause-port c = search rules
-
-pub returns-then-not-look-clause-below : goal.returns-then-not-look-clause-below
-returns-then-not-look-clause-below c = search rules
-
-pub returns-then-not-look-clause-listed : goal.returns-then-not-look-clause-listed
-returns-then-not-look-clause-listed c = search rules
-
-pub returns-then-not-look-clause-none : goal.returns-then-not-look-clause-none
-returns-then-not-look-clause-none c = search rules
-
-pub returns-then-not-look-clause-unchanged : goal.returns-then-not-look-clause-unchanged
-returns-then-not-look-clause-unchanged c = search rules
-
-pub returns-then-not-look-clause-ended : goal.returns-then-not-look-clause-ended
-returns-then-not-look-clause-ended c = search rules
-
-pub returns-clause-seat : goal.returns-clause-seat
-returns-clause-seat c = search rules
-
-pub returns-clause-none : goal.returns-clause-none
-returns-clause-none c = search rules
-
-pub returns-clause-unchanged : goal.returns-clause-unchanged
-returns-clause-unchanged c = search rules
-
-pub returns-clause-ended : goal.returns-clause-ended
-returns-clause-ended c = search rules

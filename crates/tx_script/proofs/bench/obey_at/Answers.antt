@@ -1,4 +1,4 @@
-use Rattle.std.proofs.Common.{◌≡◌, ℕ, Bool, true, false, ap, sym, ◌∙◌, subst, if◌then◌else◌, nat_lt, arith, ◌-◌, length, refl, rules}
+use Rattle.std.proofs.Common.{◌≡◌, ℕ, Bool, true, false, ap, sym, ◌∙◌, subst, if◌then◌else◌, nat_lt, arith, ◌-◌, length, refl}
 use Rattle.std.proofs.lemmas.Bool.{le-ltb}
 use Rattle.tx_script.specs.EndSystem.{EndSystem, HasPolled}
 use Rattle.tx_script.specs.Play.{Messages, leaves}
@@ -58,27 +58,3 @@ returns-clause-kept c = subst (λ (bench : AtBench). KeepsTotals bench.tx c.poll
   plan = c.poll.ensures.plan;
   totals = λ k s total is. c.poll.ensures.totals k s ∙ is;
 })
-
-pub returns-then-moment-now-clause-ok : goal.returns-then-moment-now-clause-ok
-returns-then-moment-now-clause-ok c = search rules
-
-pub returns-then-moment-now-clause-few : goal.returns-then-moment-now-clause-few
-returns-then-moment-now-clause-few c = search rules
-
-pub returns-then-moment-now-clause-err : goal.returns-then-moment-now-clause-err
-returns-then-moment-now-clause-err c = search rules
-
-pub returns-then-moment-now-clause-ports : goal.returns-then-moment-now-clause-ports
-returns-then-moment-now-clause-ports c = search rules
-
-pub returns-then-moment-now-clause-kept : goal.returns-then-moment-now-clause-kept
-returns-then-moment-now-clause-kept c = search rules
-
-pub returns-clause-few : goal.returns-clause-few
-returns-clause-few c = search rules
-
-pub returns-clause-err : goal.returns-clause-err
-returns-clause-err c = search rules
-
-pub returns-clause-ports : goal.returns-clause-ports
-returns-clause-ports c = search rules

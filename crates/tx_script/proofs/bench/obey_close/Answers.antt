@@ -1,4 +1,4 @@
-use Rattle.std.proofs.Common.{refl, sym, subst, rules}
+use Rattle.std.proofs.Common.{refl, sym, subst}
 use Rattle.afdx_tx.specs.Emitter.{Tx}
 use Rattle.script_lines.specs.declared.line.Line.TheVariants.{Close}
 use Rattle.transcript.specs.declared.outcome.Outcome.TheVariants.{Refused}
@@ -27,9 +27,3 @@ returns-clause-kept c = subst (λ (bench : AtBench). KeepsTotals bench.tx c.clos
       | in-Ok w ↦ closes_keeps c.bench.inside.emitter c.args.vl c.args.sub w.in-Ok.total c.close.new.self w.in-Ok.ensures.closed
       | in-Err w ↦ keeps_same c.bench.inside.emitter c.close.new.self w.in-Err.ensures.unchanged
     ])
-
-pub returns-clause-few : goal.returns-clause-few
-returns-clause-few c = search rules
-
-pub returns-clause-ports : goal.returns-clause-ports
-returns-clause-ports c = search rules

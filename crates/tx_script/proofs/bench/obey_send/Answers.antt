@@ -1,4 +1,4 @@
-use Rattle.std.proofs.Common.{◌≡◌, ap, sym, ◌∙◌, subst, None, rules}
+use Rattle.std.proofs.Common.{◌≡◌, ap, sym, ◌∙◌, subst, None}
 use Rattle.afdx_plan.specs.Config.{Plan}
 use Rattle.tx_script.specs.AtBench.{AtBench, HaveAsked, Matches}
 use Rattle.tx_script.specs.Play.{place_of}
@@ -31,18 +31,3 @@ returns-in-None-clause-ok c = λ accepted es m.
     send_nowhere accepted es c.args.bench.now c.args.port c.args.bytes
     (subst (λ (bench : AtBench). place_of bench.tx.plan c.args.port ≡ None) c.bench.view_is
     (ap (λ (plan : Plan). place_of plan c.args.port) (sym c.config.ensures) ∙ sym c.port_index.ensures ∙ c.in-None.is)) m
-
-pub returns-in-Some-clause-few : goal.returns-in-Some-clause-few
-returns-in-Some-clause-few c = search rules
-
-pub returns-in-Some-clause-kept : goal.returns-in-Some-clause-kept
-returns-in-Some-clause-kept c = search rules
-
-pub returns-in-None-clause-few : goal.returns-in-None-clause-few
-returns-in-None-clause-few c = search rules
-
-pub returns-in-None-clause-asked : goal.returns-in-None-clause-asked
-returns-in-None-clause-asked c = search rules
-
-pub returns-in-None-clause-kept : goal.returns-in-None-clause-kept
-returns-in-None-clause-kept c = search rules

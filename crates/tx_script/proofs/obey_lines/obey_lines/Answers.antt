@@ -1,4 +1,4 @@
-use Rattle.std.proofs.Common.{◌≡◌, arith, rules}
+use Rattle.std.proofs.Common.{◌≡◌, arith}
 use Rattle.std.proofs.lemmas.Result.{err_from_is_err_and}
 use Rattle.tx_script.specs.declared.obey_lines.TheConstants.{LINES_LIMIT}
 use Rattle.tx_script.proofs.AtHand.{fresh_asked, asked_on}
@@ -47,15 +47,3 @@ returns-in-Ok-Some g c =
 
 pub obey-requires : goal.obey-requires
 obey-requires g c = asked_on c.loop-count.count _ _ (omega arith) c.loop-count.invariant.asked
-
-pub returns-in_default : goal.returns-in_default
-returns-in_default g c = search rules
-
-pub returns-in_err-write_note : goal.returns-in_err-write_note
-returns-in_err-write_note g c = search rules
-
-pub returns-in-Ok-None : goal.returns-in-Ok-None
-returns-in-Ok-None g c = search rules
-
-pub returns : goal.returns
-returns g c = search rules

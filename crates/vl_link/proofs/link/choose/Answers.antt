@@ -1,4 +1,4 @@
-use Rattle.std.proofs.Common.{◌<◌, length, arith, rules}
+use Rattle.std.proofs.Common.{◌<◌, length, arith}
 use Rattle.vl_link.proofs.Choosing.{passed_sub, chosen_sub}
 use Rattle.vl_link.proofs.link.choose.Goals as goal
 
@@ -17,18 +17,3 @@ loop-k-preserved c =
     omega (arith, c.turn-sub.ensures.below, c.requires, c.loop-k.auto.subs) in
     passed_sub _ _ _ c.loop-k.k c.turn-sub.result c.index-subs-sub.result c.ready.new.self c.ready.result c.turn-sub.ensures.turn
     c.if-ready.false c.loop-k.invariant c.turn-sub.ensures.apart kl lt c.ready.ensures
-
-pub returns-then-ready-clause-below : goal.returns-then-ready-clause-below
-returns-then-ready-clause-below c = search rules
-
-pub returns-then-ready-clause-none : goal.returns-then-ready-clause-none
-returns-then-ready-clause-none c = search rules
-
-pub returns-clause-chosen : goal.returns-clause-chosen
-returns-clause-chosen c = search rules
-
-pub returns-clause-below : goal.returns-clause-below
-returns-clause-below c = search rules
-
-pub returns-clause-none : goal.returns-clause-none
-returns-clause-none c = search rules

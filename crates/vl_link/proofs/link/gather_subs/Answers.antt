@@ -1,4 +1,4 @@
-use Rattle.std.proofs.Common.{◌≡◌, ◌<◌, length, get_or, arith, ◌∙◌, sym, subst, below_more, rules}
+use Rattle.std.proofs.Common.{◌≡◌, ◌<◌, length, get_or, arith, ◌∙◌, sym, subst, below_more}
 use Rattle.std.proofs.lemmas.List.{get_or_default, get_or-set_same, get_or-set_other, length-set}
 use Rattle.vl_link.specs.Links.{Held, held_at, nothing_held}
 use Rattle.vl_link.specs.LinkGathering.{IsFullSub, GathersSub}
@@ -31,6 +31,3 @@ loop-sub-preserved c =
           (subst (λ (h : Held). GathersSub h c.gather.new.self) here c.gather.ensures));
       todo = λ s le. get_or-set_other c.loop-sub.subs i s c.gather.new.self nothing_held (λ e. omega arith) ∙ old.todo s (omega arith);
     }
-
-pub returns : goal.returns
-returns c = search rules

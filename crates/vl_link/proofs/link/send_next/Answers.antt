@@ -1,4 +1,4 @@
-use Rattle.std.proofs.Common.{ℕ, ◌≡◌, ◌∙◌, [], ◌∷◌, ◌++◌, Some, true, false, ap, sym, subst, rules}
+use Rattle.std.proofs.Common.{ℕ, ◌≡◌, ◌∙◌, [], ◌∷◌, ◌++◌, Some, true, false, ap, sym, subst}
 use Rattle.afdx_plan.specs.declared.networks.Networks.{Networks}
 use Rattle.afdx_frame.specs.declared.net.Net.TheVariants.{A}
 use Rattle.afdx_frame.proofs.Twins.{twin_same}
@@ -51,24 +51,6 @@ pub returns-then-stands_for-clause-last : goal.returns-then-stands_for-clause-la
 returns-then-stands_for-clause-last g c =
     c.stamp-number.ensures.last ∙ ap (λ (s : ℕ). Some (record { at = c.args.now; sub = s })) c.index.ensures
 
-pub returns-then-stands_for-clause-number : goal.returns-then-stands_for-clause-number
-returns-then-stands_for-clause-number g c = search rules
-
-pub returns-then-stands_for-clause-frame : goal.returns-then-stands_for-clause-frame
-returns-then-stands_for-clause-frame g c = search rules
-
-pub returns-then-stands_for-clause-next : goal.returns-then-stands_for-clause-next
-returns-then-stands_for-clause-next g c = search rules
-
-pub returns-then-stands_for-clause-gap : goal.returns-then-stands_for-clause-gap
-returns-then-stands_for-clause-gap g c = search rules
-
-pub returns-then-stands_for-clause-sub_vls : goal.returns-then-stands_for-clause-sub_vls
-returns-then-stands_for-clause-sub_vls g c = search rules
-
-pub returns-then-stands_for-clause-endure : goal.returns-then-stands_for-clause-endure
-returns-then-stands_for-clause-endure g c = search rules
-
 pub returns-else-stands_for-clause-same : goal.returns-else-stands_for-clause-same
 returns-else-stands_for-clause-same g c =
     let e = c.write_next.ensures in
@@ -77,30 +59,3 @@ returns-else-stands_for-clause-same g c =
 pub returns-else-stands_for-clause-last : goal.returns-else-stands_for-clause-last
 returns-else-stands_for-clause-last g c =
     c.stamp-number.ensures.last ∙ ap (λ (s : ℕ). Some (record { at = c.args.now; sub = s })) c.index.ensures
-
-pub returns-else-stands_for-clause-number : goal.returns-else-stands_for-clause-number
-returns-else-stands_for-clause-number g c = search rules
-
-pub returns-else-stands_for-clause-frame : goal.returns-else-stands_for-clause-frame
-returns-else-stands_for-clause-frame g c = search rules
-
-pub returns-else-stands_for-clause-next : goal.returns-else-stands_for-clause-next
-returns-else-stands_for-clause-next g c = search rules
-
-pub returns-else-stands_for-clause-gap : goal.returns-else-stands_for-clause-gap
-returns-else-stands_for-clause-gap g c = search rules
-
-pub returns-else-stands_for-clause-sub_vls : goal.returns-else-stands_for-clause-sub_vls
-returns-else-stands_for-clause-sub_vls g c = search rules
-
-pub returns-else-stands_for-clause-endure : goal.returns-else-stands_for-clause-endure
-returns-else-stands_for-clause-endure g c = search rules
-
-pub returns-then-stands_for-clause-lost : goal.returns-then-stands_for-clause-lost
-returns-then-stands_for-clause-lost g c = search rules
-
-pub returns-else-stands_for-clause-released : goal.returns-else-stands_for-clause-released
-returns-else-stands_for-clause-released g c = search rules
-
-pub returns-else-stands_for-clause-enters : goal.returns-else-stands_for-clause-enters
-returns-else-stands_for-clause-enters g c = search rules

@@ -1,4 +1,4 @@
-use Rattle.std.proofs.Common.{ℕ, get_or, Some, ◌∙◌, ap, sym, subst, refl, inr, rules}
+use Rattle.std.proofs.Common.{ℕ, get_or, Some, ◌∙◌, ap, sym, subst, refl, inr}
 use Rattle.std.proofs.lemmas.Bool.{and_parts}
 use Rattle.afdx_plan.specs.declared.link_plan.LinkPlan.{LinkPlan}
 use Rattle.afdx_frame.specs.declared.net.Net.TheVariants.{A}
@@ -75,52 +75,7 @@ returns-in-Some-send_next-clause-entered g c =
     stream_entered c.args.plan.now.id.0 c.args.now (get_or c.choose.new.subs c.in-Some.sub c.index-subs-sub.result).of.sub
     c.in-Some-send_next.number c.send_next.new.frame.items c.args.mux.now c.send_next.new.mux of c.in-Some-send_next.ensures.enters
 
-pub returns-in-None-clause-entered : goal.returns-in-None-clause-entered
-returns-in-None-clause-entered g c = search rules
-
-pub returns-in-None-clause-headers : goal.returns-in-None-clause-headers
-returns-in-None-clause-headers g c = search rules
-
-pub returns-in-None-clause-later : goal.returns-in-None-clause-later
-returns-in-None-clause-later g c = search rules
-
-pub returns-in-None-clause-gap : goal.returns-in-None-clause-gap
-returns-in-None-clause-gap g c = search rules
-
-pub returns-in-None-clause-sub_vls : goal.returns-in-None-clause-sub_vls
-returns-in-None-clause-sub_vls g c = search rules
-
 pub returns-in-None-send_next-clause-entered : goal.returns-in-None-send_next-clause-entered
 returns-in-None-send_next-clause-entered g c =
     ap (link_stream c.args.plan.now.id.0) (log_same c.args.mux.now c.send_next.new.mux c.in-None-send_next.ensures.lost.same)
     ∙ sym (append-nil (link_stream c.args.plan.now.id.0 (log c.args.mux.now)))
-
-pub returns-in-None-send_next-clause-headers : goal.returns-in-None-send_next-clause-headers
-returns-in-None-send_next-clause-headers g c = search rules
-
-pub returns-in-None-send_next-clause-later : goal.returns-in-None-send_next-clause-later
-returns-in-None-send_next-clause-later g c = search rules
-
-pub returns-in-None-send_next-clause-gap : goal.returns-in-None-send_next-clause-gap
-returns-in-None-send_next-clause-gap g c = search rules
-
-pub returns-in-None-send_next-clause-sub_vls : goal.returns-in-None-send_next-clause-sub_vls
-returns-in-None-send_next-clause-sub_vls g c = search rules
-
-pub returns-in-None-send_next-clause-endure : goal.returns-in-None-send_next-clause-endure
-returns-in-None-send_next-clause-endure g c = search rules
-
-pub returns-in-Some-send_next-clause-headers : goal.returns-in-Some-send_next-clause-headers
-returns-in-Some-send_next-clause-headers g c = search rules
-
-pub returns-in-Some-send_next-clause-later : goal.returns-in-Some-send_next-clause-later
-returns-in-Some-send_next-clause-later g c = search rules
-
-pub returns-in-Some-send_next-clause-gap : goal.returns-in-Some-send_next-clause-gap
-returns-in-Some-send_next-clause-gap g c = search rules
-
-pub returns-in-Some-send_next-clause-sub_vls : goal.returns-in-Some-send_next-clause-sub_vls
-returns-in-Some-send_next-clause-sub_vls g c = search rules
-
-pub returns-in-Some-send_next-clause-endure : goal.returns-in-Some-send_next-clause-endure
-returns-in-Some-send_next-clause-endure g c = search rules

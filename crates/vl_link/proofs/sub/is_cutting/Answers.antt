@@ -1,4 +1,4 @@
-use Rattle.std.proofs.Common.{sym, subst, not, Option, rules}
+use Rattle.std.proofs.Common.{sym, subst, not, Option}
 use Rattle.afdx_frame.specs.Cutting.{Cutting}
 use Rattle.vl_link.specs.Links.{TellsCutting, left_of}
 use Rattle.vl_link.proofs.FragmentsLeft.{done_tells}
@@ -8,6 +8,3 @@ pub returns-in-Some : goal.returns-in-Some
 returns-in-Some c =
     subst (λ (sending : Option Cutting). TellsCutting (not c.is_done.result) (left_of c.args.of.now sending)) (sym c.in-Some.is)
     (done_tells c.args.of.now c.in-Some.cut c.is_done.result c.is_done.ensures)
-
-pub returns-in-None : goal.returns-in-None
-returns-in-None c = search rules

@@ -66,18 +66,3 @@ returns-clause-header c =
     (header_says c.args.end_system c.self.inside.port c.deref.result.now c.self.inside.place c.in-Some.piece
     c.args.net c.args.number c.self.invariant.port within) in
     λ _. subst (λ (cut : Cutting). IsFrameOf cut.port.vl.0 cut.port.sub c.args.number c.args.net c.write_frame.new.out.items) c.self.view_is says
-
-pub returns-in_default-clause-same : goal.returns-in_default-clause-same
-returns-in_default-clause-same c = search rules
-
-pub returns-in_default-clause-header : goal.returns-in_default-clause-header
-returns-in_default-clause-header c = search rules
-
-pub returns-in_default-clause-none : goal.returns-in_default-clause-none
-returns-in_default-clause-none c = search rules
-
-pub returns-clause-same : goal.returns-clause-same
-returns-clause-same c = search rules
-
-pub returns-clause-none : goal.returns-clause-none
-returns-clause-none c = search rules

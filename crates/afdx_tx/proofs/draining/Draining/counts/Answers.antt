@@ -1,11 +1,6 @@
 use Rattle.std.proofs.Common.{rules}
 use Rattle.afdx_tx.proofs.draining.Draining.counts.Goals as goal
 
-pub returns-clause-missing : goal.returns-clause-missing
-returns-clause-missing g c = search rules
-
-pub returns-clause-counts : goal.returns-clause-counts
-returns-clause-counts g c = search rules
-
+-- at half of its limits the search proves this only where it is asked for it
 pub returns-clause-as_published : goal.returns-clause-as_published
 returns-clause-as_published g c = search rules

@@ -1,4 +1,4 @@
-use Rattle.std.proofs.Common.{◌≡◌, ◌∙◌, ◌↔◌, false, IsErr, OnErr, IfOk, ap, subst, rules}
+use Rattle.std.proofs.Common.{◌≡◌, ◌∙◌, ◌↔◌, false, IsErr, OnErr, IfOk, ap, subst}
 use Rattle.redundant_mux.specs.Lines.{BothEndure, is_alive}
 use Rattle.afdx_tx.specs.declared.report.Report.{Report}
 use Rattle.afdx_tx.specs.Emitter.{Tx}
@@ -30,9 +30,6 @@ returns-clause-run g c =
     c.poll.ensures.of_plan c.self.invariant run))
     c.poll.ensures.run
 
-pub returns-clause-streams : goal.returns-clause-streams
-returns-clause-streams g c = search rules
-
 pub returns-clause-both_down : goal.returns-clause-both_down
 returns-clause-both_down g c =
     subst (λ (d : Tx). IsErr c.poll.result ↔ (is_alive d.lines ≡ false)) c.self.view_is c.poll.ensures.both_down
@@ -49,18 +46,3 @@ returns-clause-told g c =
 pub returns-clause-endure : goal.returns-clause-endure
 returns-clause-endure g c =
     subst (λ (t : Tx). BothEndure t.lines c.poll.new.self.lines) c.self.view_is c.poll.ensures.endure
-
-pub returns-clause-turns : goal.returns-clause-turns
-returns-clause-turns g c = search rules
-
-pub returns-clause-allowed : goal.returns-clause-allowed
-returns-clause-allowed g c = search rules
-
-pub returns-clause-plan : goal.returns-clause-plan
-returns-clause-plan g c = search rules
-
-pub returns-clause-board : goal.returns-clause-board
-returns-clause-board g c = search rules
-
-pub returns-clause-mirrored : goal.returns-clause-mirrored
-returns-clause-mirrored g c = search rules

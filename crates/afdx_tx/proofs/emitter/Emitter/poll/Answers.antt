@@ -1,4 +1,4 @@
-use Rattle.std.proofs.Common.{ℕ, ◌≡◌, IfOk, OnOk, subst, rules}
+use Rattle.std.proofs.Common.{ℕ, ◌≡◌, IfOk, OnOk, subst}
 use Rattle.redundant_mux.specs.Lines.{BothEndure}
 use Rattle.afdx_tx.specs.declared.report.Report.{Report}
 use Rattle.afdx_tx.specs.Emitter.{Tx, queues_in, total_in}
@@ -30,36 +30,6 @@ returns-clause-run g c =
     subst (λ (t : Tx). OnOk c.poll.result (IsRun c.args.now t.links c.poll.new.self.links t.lines c.poll.new.self.lines))
     c.self.view_is c.poll.ensures.run
 
-pub returns-clause-streams : goal.returns-clause-streams
-returns-clause-streams g c = search rules
-
 pub returns-clause-endure : goal.returns-clause-endure
 returns-clause-endure g c =
     subst (λ (t : Tx). BothEndure t.lines c.poll.new.self.lines) c.self.view_is c.poll.ensures.endure
-
-pub returns-clause-both_down : goal.returns-clause-both_down
-returns-clause-both_down g c = search rules
-
-pub returns-clause-unchanged : goal.returns-clause-unchanged
-returns-clause-unchanged g c = search rules
-
-pub returns-clause-legal : goal.returns-clause-legal
-returns-clause-legal g c = search rules
-
-pub returns-clause-turns : goal.returns-clause-turns
-returns-clause-turns g c = search rules
-
-pub returns-clause-allowed : goal.returns-clause-allowed
-returns-clause-allowed g c = search rules
-
-pub returns-clause-tied : goal.returns-clause-tied
-returns-clause-tied g c = search rules
-
-pub returns-clause-plan : goal.returns-clause-plan
-returns-clause-plan g c = search rules
-
-pub returns-clause-board : goal.returns-clause-board
-returns-clause-board g c = search rules
-
-pub returns-clause-mirrored : goal.returns-clause-mirrored
-returns-clause-mirrored g c = search rules

@@ -1,4 +1,4 @@
-use Rattle.std.proofs.Common.{◌≡◌, ◌∙◌, ◌<◌, ◌↔◌, length, arith, ap, sym, subst, Some, IsNone, is_some, rules}
+use Rattle.std.proofs.Common.{◌≡◌, ◌∙◌, ◌<◌, ◌↔◌, length, arith, ap, sym, subst, Some, IsNone, is_some}
 use Rattle.std.proofs.lemmas.List.{get_or_default}
 use Rattle.vl_link.specs.Links.{LinkState, link_at, no_link}
 use Rattle.afdx_legal.specs.Own.{own_stream}
@@ -56,9 +56,3 @@ pub returns-clause-as_published : goal.returns-clause-as_published
 returns-clause-as_published g c place at =
     subst (λ (t : Tx). IsLinkAt t.plan c.args.vl.0 place → c.counts.result ≡ counts_at t place) c.self.view_is
     (λ here. found g c ∙ sym (counts_named (seen g c) c.args.vl.0 place here)) at
-
-pub returns-in_err-place-clause-counts : goal.returns-in_err-place-clause-counts
-returns-in_err-place-clause-counts g c = search rules
-
-pub returns-in_err-place-clause-as_published : goal.returns-in_err-place-clause-as_published
-returns-in_err-place-clause-as_published g c = search rules

@@ -1,4 +1,4 @@
-use Rattle.std.proofs.Common.{refl, ◌≡◌, ◌∙◌, ap, sym, List, length, subst, rules}
+use Rattle.std.proofs.Common.{refl, ◌≡◌, ◌∙◌, ap, sym, List, length, subst}
 use Rattle.std.specs.Prelude.{All}
 use Rattle.std.specs.Vec.{with_items}
 use Rattle.std.proofs.lemmas.List.{with_items_is}
@@ -110,9 +110,3 @@ pub returns-clause-accepted : goal.returns-clause-accepted
 returns-clause-accepted g c =
     accepted_allowed c.self.inside.config (with_items c.self.inside.links c.gather_links.new.links).items (sound g c).of_plan
     (sound g c).items
-
-pub deref_mut-requires : goal.deref_mut-requires
-deref_mut-requires g c κs = search rules
-
-pub gather_links-requires-clause-valid : goal.gather_links-requires-clause-valid
-gather_links-requires-clause-valid g c = search rules

@@ -1,4 +1,4 @@
-use Rattle.std.proofs.Common.{subst, rules}
+use Rattle.std.proofs.Common.{subst}
 use Rattle.afdx_legal.specs.Legal.{IsLegal}
 use Rattle.afdx_legal.specs.Allowed.{AreAllowed}
 use Rattle.afdx_legal.specs.Turns.{TakeTurns}
@@ -28,15 +28,3 @@ pub returns-clause-accepted : goal.returns-clause-accepted
 returns-clause-accepted g c =
     subst (λ (t : Tx). AreAllowed t.plan (accepted_in t.links)) c.self.view_is
     (accepted_allowed c.self.inside.config c.self.inside.links.items c.self.invariant.0.of_plan c.self.invariant.0.items)
-
-pub returns-clause-a : goal.returns-clause-a
-returns-clause-a g c = search rules
-
-pub returns-clause-b : goal.returns-clause-b
-returns-clause-b g c = search rules
-
-pub returns-clause-a_failures : goal.returns-clause-a_failures
-returns-clause-a_failures g c = search rules
-
-pub returns-clause-b_failures : goal.returns-clause-b_failures
-returns-clause-b_failures g c = search rules

@@ -1,4 +1,4 @@
-use Rattle.std.proofs.Common.{◌∙◌, sym, subst, rules}
+use Rattle.std.proofs.Common.{◌∙◌, sym, subst}
 use Rattle.redundant_mux.specs.Lines.{Lines}
 use Rattle.afdx_tx.specs.Emitter.{IsSound}
 use Rattle.afdx_tx.proofs.Publishing.{reaches_none}
@@ -11,12 +11,3 @@ invariant_of-result g c = (
       (fresh_sound c.args.config c.args.links.items c.requires.valid c.requires.fresh),
   reaches_none c.args.links.items c.args.board (c.requires.board ∙ sym c.requires.fresh.count) c.requires.unpublished,
 )
-
-pub returns-clause-fresh : goal.returns-clause-fresh
-returns-clause-fresh g c = search rules
-
-pub returns-clause-links : goal.returns-clause-links
-returns-clause-links g c = search rules
-
-pub returns-clause-board : goal.returns-clause-board
-returns-clause-board g c = search rules

@@ -1,4 +1,4 @@
-use Rattle.std.proofs.Common.{◌≡◌, ◌∙◌, true, false, refl, sym, List, subst, arith, rules}
+use Rattle.std.proofs.Common.{◌≡◌, ◌∙◌, true, false, refl, sym, List, subst, arith}
 use Rattle.std.proofs.lemmas.Grind.{common_steps}
 use Rattle.std.proofs.lemmas.List.{with_items_is}
 use Rattle.std.specs.Vec.{with_items}
@@ -164,71 +164,5 @@ returns-clause-endure g c =
 pub returns-then-not-stands_for-clause-endure : goal.returns-then-not-stands_for-clause-endure
 returns-then-not-stands_for-clause-endure g c = both_none c.args.self.now.lines
 
-pub returns-then-not-stands_for-clause-tied : goal.returns-then-not-stands_for-clause-tied
-returns-then-not-stands_for-clause-tied g c = search rules
-
-pub returns-then-not-stands_for-clause-plan : goal.returns-then-not-stands_for-clause-plan
-returns-then-not-stands_for-clause-plan g c = search rules
-
-pub returns-then-not-stands_for-clause-board : goal.returns-then-not-stands_for-clause-board
-returns-then-not-stands_for-clause-board g c = search rules
-
-pub returns-then-not-stands_for-clause-same : goal.returns-then-not-stands_for-clause-same
-returns-then-not-stands_for-clause-same g c = search rules
-
-pub returns-then-not-stands_for-clause-of_plan : goal.returns-then-not-stands_for-clause-of_plan
-returns-then-not-stands_for-clause-of_plan g c = search rules
-
-pub returns-then-not-stands_for-clause-told : goal.returns-then-not-stands_for-clause-told
-returns-then-not-stands_for-clause-told g c = search rules
-
-pub returns-then-not-stands_for-clause-run : goal.returns-then-not-stands_for-clause-run
-returns-then-not-stands_for-clause-run g c = search rules
-
-pub returns-clause-unchanged : goal.returns-clause-unchanged
-returns-clause-unchanged g c = search rules
-
-pub returns-clause-plan : goal.returns-clause-plan
-returns-clause-plan g c = search rules
-
-pub returns-clause-board : goal.returns-clause-board
-returns-clause-board g c = search rules
-
 pub returns-clause-same : goal.returns-clause-same
 returns-clause-same g c = grind (arith, common_steps)
-
-pub returns-clause-of_plan : goal.returns-clause-of_plan
-returns-clause-of_plan g c = search rules
-
-pub returns-clause-mirrored : goal.returns-clause-mirrored
-returns-clause-mirrored g c = search rules
-
-pub stands_for-requires : goal.stands_for-requires
-stands_for-requires g c κs = search rules
-
-pub returns-then-not-stands_for-clause-mirrored : goal.returns-then-not-stands_for-clause-mirrored
-returns-then-not-stands_for-clause-mirrored g c = search rules
-
-pub new-released-requires : goal.new-released-requires
-new-released-requires g c = search rules
-
-pub deref_mut-requires : goal.deref_mut-requires
-deref_mut-requires g c κs = search rules
-
-pub serve_all-requires-clause-none : goal.serve_all-requires-clause-none
-serve_all-requires-clause-none g c = search rules
-
-pub serve_all-requires-clause-each : goal.serve_all-requires-clause-each
-serve_all-requires-clause-each g c = search rules
-
-pub serve_all-requires-clause-kept : goal.serve_all-requires-clause-kept
-serve_all-requires-clause-kept g c = search rules
-
-pub serve_all-requires-clause-later : goal.serve_all-requires-clause-later
-serve_all-requires-clause-later g c = search rules
-
-pub serve_all-requires-clause-known : goal.serve_all-requires-clause-known
-serve_all-requires-clause-known g c = search rules
-
-pub standing-requires : goal.standing-requires
-standing-requires g c κs = search rules

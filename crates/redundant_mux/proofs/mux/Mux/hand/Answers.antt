@@ -1,4 +1,4 @@
-use Rattle.std.proofs.Common.{ap, rules}
+use Rattle.std.proofs.Common.{ap}
 use Rattle.redundant_mux.specs.Entry.{entry}
 use Rattle.redundant_mux.specs.Lines.{lines_of, IsMirrored}
 use Rattle.redundant_mux.proofs.Enduring.{both_hands}
@@ -32,57 +32,3 @@ returns-clause-mirrored g c = left g c
 pub returns-clause-endure : goal.returns-clause-endure
 returns-clause-endure g c =
     rw (← c.self.view_is) (both_hands _ _ _ _ _ _ c.hand_to.ensures.handing c.hand_twin.ensures.handing)
-
-pub returns-then-not-self-2-clause-down : goal.returns-then-not-self-2-clause-down
-returns-then-not-self-2-clause-down g c = search rules
-
-pub returns-then-not-self-2-clause-err : goal.returns-then-not-self-2-clause-err
-returns-then-not-self-2-clause-err g c = search rules
-
-pub returns-then-not-self-2-clause-a : goal.returns-then-not-self-2-clause-a
-returns-then-not-self-2-clause-a g c = search rules
-
-pub returns-then-not-self-2-clause-b : goal.returns-then-not-self-2-clause-b
-returns-then-not-self-2-clause-b g c = search rules
-
-pub returns-then-not-self-2-clause-enters : goal.returns-then-not-self-2-clause-enters
-returns-then-not-self-2-clause-enters g c = search rules
-
-pub returns-then-not-self-2-clause-lost : goal.returns-then-not-self-2-clause-lost
-returns-then-not-self-2-clause-lost g c = search rules
-
-pub returns-then-not-self-2-clause-endure : goal.returns-then-not-self-2-clause-endure
-returns-then-not-self-2-clause-endure g c = search rules
-
-pub returns-then-not-self-2-clause-mirrored : goal.returns-then-not-self-2-clause-mirrored
-returns-then-not-self-2-clause-mirrored g c = search rules
-
-pub returns-then-not-self-2-clause-a_stands : goal.returns-then-not-self-2-clause-a_stands
-returns-then-not-self-2-clause-a_stands g c = search rules
-
-pub returns-then-not-self-2-clause-b_stands : goal.returns-then-not-self-2-clause-b_stands
-returns-then-not-self-2-clause-b_stands g c = search rules
-
-pub returns-clause-down : goal.returns-clause-down
-returns-clause-down g c = search rules
-
-pub returns-clause-err : goal.returns-clause-err
-returns-clause-err g c = search rules
-
-pub returns-clause-a : goal.returns-clause-a
-returns-clause-a g c = search rules
-
-pub returns-clause-b : goal.returns-clause-b
-returns-clause-b g c = search rules
-
-pub returns-clause-enters : goal.returns-clause-enters
-returns-clause-enters g c = search rules
-
-pub returns-clause-lost : goal.returns-clause-lost
-returns-clause-lost g c = search rules
-
-pub returns-clause-a_stands : goal.returns-clause-a_stands
-returns-clause-a_stands g c = search rules
-
-pub returns-clause-b_stands : goal.returns-clause-b_stands
-returns-clause-b_stands g c = search rules

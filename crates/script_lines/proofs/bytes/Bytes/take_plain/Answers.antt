@@ -1,4 +1,3 @@
-use Rattle.std.proofs.Common.{rules}
 use Rattle.script_lines.proofs.FeedLemmas.{before_takes, before_within}
 use Rattle.script_lines.proofs.bytes.Bytes.take_plain.Goals as goal
 
@@ -14,6 +13,3 @@ returns g c =
     before_takes c.self.inside.buffer c.self.inside.start c.self.inside.end c.until_feed-plain.result.now
     c.args.line.now.items c.extend_from_slice.new.self.items (g.R.Read.remaining c.self.inside.reader) c.args.self.now
     c.until_feed-plain.ensures c.self.view_is c.in_ok-extend_from_slice.ensures.items
-
-pub returns-in_err-extend_from_slice : goal.returns-in_err-extend_from_slice
-returns-in_err-extend_from_slice g c = search rules

@@ -27,44 +27,11 @@ returns-clause-some c =
 pub returns-in_err-port-clause-none : goal.returns-in_err-port-clause-none
 returns-in_err-port-clause-none c = grind (arith, common_steps)
 
-pub returns-in_err-port-clause-unchanged : goal.returns-in_err-port-clause-unchanged
-returns-in_err-port-clause-unchanged c = search rules
-
-pub returns-in_err-port-clause-some : goal.returns-in_err-port-clause-some
-returns-in_err-port-clause-some c = search rules
-
-pub returns-in_err-port-clause-taken : goal.returns-in_err-port-clause-taken
-returns-in_err-port-clause-taken c = search rules
-
-pub returns-in_err-port-clause-ports : goal.returns-in_err-port-clause-ports
-returns-in_err-port-clause-ports c = search rules
-
-pub returns-in_err-port-clause-port : goal.returns-in_err-port-clause-port
-returns-in_err-port-clause-port c = search rules
-
-pub returns-in_err-port-clause-message : goal.returns-in_err-port-clause-message
-returns-in_err-port-clause-message c = search rules
-
 pub returns-in_err-port-clause-few : goal.returns-in_err-port-clause-few
 returns-in_err-port-clause-few c = grind (arith, common_steps)
 
-pub returns-clause-none : goal.returns-clause-none
-returns-clause-none c = search rules
-
-pub returns-clause-unchanged : goal.returns-clause-unchanged
-returns-clause-unchanged c = search rules
-
 pub returns-clause-taken : goal.returns-clause-taken
 returns-clause-taken c = grind (arith, common_steps)
-
-pub returns-clause-ports : goal.returns-clause-ports
-returns-clause-ports c = search rules
-
-pub returns-clause-port : goal.returns-clause-port
-returns-clause-port c = search rules
-
-pub returns-clause-message : goal.returns-clause-message
-returns-clause-message c = search rules
 
 pub returns-clause-few : goal.returns-clause-few
 returns-clause-few c = grind (arith, common_steps)

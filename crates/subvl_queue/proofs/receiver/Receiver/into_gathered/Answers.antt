@@ -1,4 +1,4 @@
-use Rattle.std.proofs.Common.{ℕ, ◌<◌, ◌≤◌, List, ◌++◌, drop, sym, ap, ◌∙◌, subst, arith, rules}
+use Rattle.std.proofs.Common.{ℕ, ◌<◌, ◌≤◌, List, ◌++◌, drop, sym, ap, ◌∙◌, subst, arith}
 use Rattle.std.proofs.lemmas.Grind.{common_steps}
 use Rattle.subvl_queue.specs.declared.item.Message.{Message}
 use Rattle.subvl_queue.specs.declared.view.View.{View}
@@ -44,12 +44,6 @@ returns-clause-items c =
       ap (λ (r : ReceiverView). r.ports) c.self.view_is k,
       (sym (accepted_is _ c.self.inside.taken v log.0 log.2 kept.3) ∙ (λ j. sym taken j ++ sym left j)) k,
     )) items
-
-pub returns-clause-taken : goal.returns-clause-taken
-returns-clause-taken c = search rules
-
-pub returns-clause-ports : goal.returns-clause-ports
-returns-clause-ports c = search rules
 
 pub returns-clause-total : goal.returns-clause-total
 returns-clause-total c = grind (arith, common_steps)

@@ -15,6 +15,3 @@ returns-clause-none c = λ none. (c.fetch_sub.ensures.2.2 (ltb-false _ _ none)).
 
 pub returns-clause-full : goal.returns-clause-full
 returns-clause-full c = λ none. subst (λ n. Reached n c.args.seat.now.me.0) c.args.self.now.sized.1 (c.fetch_sub.ensures.2.2 (ltb-false _ _ none)).1
-
-pub returns-clause-seat : goal.returns-clause-seat
-returns-clause-seat c = search rules

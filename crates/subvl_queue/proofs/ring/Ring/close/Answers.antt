@@ -4,12 +4,3 @@ use Rattle.subvl_queue.proofs.ring.Ring.close.Goals as goal
 
 pub fetch_or-requires : goal.fetch_or-requires
 fetch_or-requires c = let seat = c.requires.seat in (search rules, search rules, closes_ok _ _ _ seat.2 seat.3 c.requires.open)
-
-pub returns-clause-seat : goal.returns-clause-seat
-returns-clause-seat c = search rules
-
-pub returns-clause-view : goal.returns-clause-view
-returns-clause-view c = search rules
-
-pub returns-clause-taken : goal.returns-clause-taken
-returns-clause-taken c = search rules

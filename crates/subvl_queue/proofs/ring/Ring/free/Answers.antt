@@ -22,12 +22,3 @@ fetch_add-requires c =
           (ap (λ m. m.1) me ∙ (λ k. (c.slot_of-slot.ensures.0 k, None) ∷ rest (held k)) ∙ (λ k. (sym place k % sym capacity k, None) ∷ [])
           ∙ (λ k. ((sym me k).0.at % c.args.self.now.table.shared.table_id.slots, None) ∷ [])),
     )
-
-pub returns-clause-seat : goal.returns-clause-seat
-returns-clause-seat c = search rules
-
-pub returns-clause-item : goal.returns-clause-item
-returns-clause-item c = search rules
-
-pub returns-clause-view : goal.returns-clause-view
-returns-clause-view c = search rules

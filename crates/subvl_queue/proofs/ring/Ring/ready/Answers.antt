@@ -22,9 +22,3 @@ store-requires c =
       readies_ok _ _ _ _ _ (ap (λ m. m.0.role) me ∙ view.0) (ap (λ m. m.0.stage) me ∙ view.1)
           (ap (λ m. m.1) me ∙ (λ k. (slot k, (sym item.1 ∙ ap (λ m. m.0.item) (sym me)) k) ∷ rest (held k))) (omega arith) (omega arith),
     )
-
-pub returns-clause-seat : goal.returns-clause-seat
-returns-clause-seat c = search rules
-
-pub returns-clause-view : goal.returns-clause-view
-returns-clause-view c = search rules

@@ -1,4 +1,4 @@
-use Rattle.std.proofs.Common.{subst, ap, ◌∙◌, ◌+◌, false, arith, rules}
+use Rattle.std.proofs.Common.{subst, ap, ◌∙◌, ◌+◌, false, arith}
 use Rattle.std.proofs.lemmas.Grind.{common_steps}
 use Rattle.subvl_queue.specs.Steps.{Reached, with_glance}
 use Rattle.subvl_queue.proofs.sender.Sender.send_with.Goals as goal
@@ -17,29 +17,5 @@ returns-in-Err-clause-full g c = λ full.
       reached = subst (λ n. Reached n v) (ap (λ r. r.capacity) c.deref.ensures ∙ ap (λ s. s.capacity) is) (c.in-Err.ensures.full full);
     }
 
-pub returns-in-Err-clause-ok : goal.returns-in-Err-clause-ok
-returns-in-Err-clause-ok g c = search rules
-
-pub returns-in-Err-clause-paused : goal.returns-in-Err-clause-paused
-returns-in-Err-clause-paused g c = search rules
-
-pub returns-in-Err-clause-back : goal.returns-in-Err-clause-back
-returns-in-Err-clause-back g c = search rules
-
-pub returns-in-Err-clause-refused : goal.returns-in-Err-clause-refused
-returns-in-Err-clause-refused g c = search rules
-
 pub returns-clause-ok : goal.returns-clause-ok
 returns-clause-ok g c = grind (arith, common_steps)
-
-pub returns-clause-paused : goal.returns-clause-paused
-returns-clause-paused g c = search rules
-
-pub returns-clause-back : goal.returns-clause-back
-returns-clause-back g c = search rules
-
-pub returns-clause-refused : goal.returns-clause-refused
-returns-clause-refused g c = search rules
-
-pub returns-clause-full : goal.returns-clause-full
-returns-clause-full g c = search rules

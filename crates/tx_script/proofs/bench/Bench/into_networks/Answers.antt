@@ -1,4 +1,4 @@
-use Rattle.std.proofs.Common.{subst, rules}
+use Rattle.std.proofs.Common.{subst}
 use Rattle.tx_script.specs.AtBench.{AtBench, GaveFirst, GaveTotals}
 use Rattle.tx_script.proofs.Finding.{none_missing, gave_first}
 use Rattle.tx_script.proofs.Totals.{gave_totals}
@@ -17,12 +17,3 @@ returns-clause-totals c =
     subst (λ (bench : AtBench). GaveTotals bench.tx bench.ports) c.self.view_is
     (gave_totals c.self.inside.emitter c.in-Ok.draining c.self.inside.ports.items c.self.invariant c.in-Ok.ensures.gathered
     c.in-Ok.ensures.allowed)
-
-pub returns-clause-a : goal.returns-clause-a
-returns-clause-a c = search rules
-
-pub returns-clause-b : goal.returns-clause-b
-returns-clause-b c = search rules
-
-pub returns-clause-hand : goal.returns-clause-hand
-returns-clause-hand c = search rules

@@ -1,4 +1,4 @@
-use Rattle.std.proofs.Common.{ℕ, ◌≡◌, ◌++◌, ◌∙◌, ◌||◌, List, Bool, true, false, length, refl, ap, sym, subst, rules}
+use Rattle.std.proofs.Common.{ℕ, ◌≡◌, ◌++◌, ◌∙◌, ◌||◌, List, Bool, true, false, length, refl, ap, sym, subst}
 use Rattle.std.proofs.lemmas.List.{with_items_is}
 use Rattle.std.specs.Vec.{with_items}
 use Rattle.vl_link.specs.Links.{Held, LinkState, Serves, AreSameSubs, IsSameLink}
@@ -64,12 +64,3 @@ returns-clause-same g c =
       subs = subst (λ (xs : List Held). AreSameSubs c.self.inside.subs.items xs) (sym is)
           (subst (λ (xs : List Held). AreSameSubs xs c.serve_due-did.new.subs) c.deref_mut.ensures.value did.same);
     })
-
-pub returns-clause-paced : goal.returns-clause-paced
-returns-clause-paced g c = search rules
-
-pub returns-clause-later : goal.returns-clause-later
-returns-clause-later g c = search rules
-
-pub returns-clause-endure : goal.returns-clause-endure
-returns-clause-endure g c = search rules

@@ -1,4 +1,4 @@
-use Rattle.std.proofs.Common.{ℕ, ◌≡◌, ◌∙◌, ◌%◌, ◌<◌, ap, sym, subst, refl, inr, arith, [], Bool, false, Some, Option, List, length, rules}
+use Rattle.std.proofs.Common.{ℕ, ◌≡◌, ◌∙◌, ◌%◌, ◌<◌, ap, sym, subst, refl, inr, arith, [], Bool, false, Some, Option, List, length}
 use Rattle.std.proofs.lemmas.List.{get_or_read}
 use Rattle.afdx_plan.specs.Config.{port_plan_at}
 use Rattle.afdx_plan.specs.Plan.{SendsOver}
@@ -88,6 +88,3 @@ returns-in-None c =
       nothing = c.in-None.ensures.none;
       same = refl;
     })
-
-pub returns-then-is_cutting : goal.returns-then-is_cutting
-returns-then-is_cutting c = search rules

@@ -1,8 +1,0 @@
-use Rattle.std.proofs.Common.{rules}
-use Rattle.afdx_frame.proofs.write.fragment_word.Goals as goal
-
-pub returns-clause-value : goal.returns-clause-value
-returns-clause-value c = search rules
-
-pub returns-clause-most : goal.returns-clause-most
-returns-clause-most c = search rules

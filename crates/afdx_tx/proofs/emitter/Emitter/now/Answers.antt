@@ -1,5 +1,0 @@
-use Rattle.std.proofs.Common.{rules}
-use Rattle.afdx_tx.proofs.emitter.Emitter.now.Goals as goal
-
-pub returns : goal.returns
-returns g c = search rules

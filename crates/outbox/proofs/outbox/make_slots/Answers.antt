@@ -1,5 +1,0 @@
-use Rattle.std.proofs.Common.{rules}
-use Rattle.outbox.proofs.outbox.make_slots.Goals as goal
-
-pub returns : goal.returns
-returns c = search rules

@@ -1,5 +1,0 @@
-use Rattle.std.proofs.Common.{rules}
-use Rattle.vl_link.proofs.sub.Sub.new.Goals as goal
-
-pub returns : goal.returns
-returns c = search rules
