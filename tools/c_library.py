@@ -5,8 +5,9 @@
 
 It takes what `rt ci` has left, the libraries of the crates and the program `afdx_bench`, and a C compiler: `CC`, or
 `cc`. `rt ci` proves the C library and doesn't build it, so it is built first, `crates/afdx/out/libafdx.a`, as `rt lib`
-builds it, but over these libraries: `rt lib` would prove all of them once more. The tests of the calls (`tools/c_calls.c`) and the example (`examples/c/example.c`) are compiled with all warnings
-as errors, once as they are and once with the address sanitizer, which tells of leaks too. What the example prints with
+builds it, but over these libraries: `rt lib` would prove all of them once more. A library that is there already is
+replaced. The tests of the calls (`tools/c_calls.c`) and the example (`examples/c/example.c`) are compiled with all
+warnings as errors, once as they are and once with the address sanitizer, which finds leaks too. What the example prints with
 `--dump` has to be what `afdx_bench run` prints of the same messages and moments. The last line is 'N passed, M failed',
 and the exit status 0 exactly where nothing failed.
 """
@@ -103,12 +104,14 @@ def build_words():
 
 
 def build_library(tries):
-    """Builds the library, where it isn't there. Whether it is there then."""
-    if not os.path.isfile(LIBRARY):
-        os.makedirs(os.path.dirname(LIBRARY), exist_ok=True)
-        ran = subprocess.run(build_words(), cwd=f"{ROOT}/crates/{CRATE}", capture_output=True, text=True, check=False)
-        tries.tell("building libafdx.a", None if ran.returncode == 0 else f"{ran.stdout[-2000:]}{ran.stderr[-2000:]}")
-    return os.path.isfile(LIBRARY)
+    """Builds the library anew, whatever stands there. Whether it could."""
+    os.makedirs(os.path.dirname(LIBRARY), exist_ok=True)
+    if os.path.exists(LIBRARY):
+        os.remove(LIBRARY)
+    ran = subprocess.run(build_words(), cwd=f"{ROOT}/crates/{CRATE}", capture_output=True, text=True, check=False)
+    is_built = ran.returncode == 0 and os.path.isfile(LIBRARY)
+    tries.tell("building libafdx.a", None if is_built else f"{ran.stdout[-2000:]}{ran.stderr[-2000:]}")
+    return is_built
 
 
 def compiled(tries, name, source, flags):

@@ -3,7 +3,7 @@
 Most tests say nothing of memory, so what is promised of these runs is that each comes to its end as a test does: it
 passes, it fails with a fault that it says, or it stops at an assertion of its own. None ends in another way. Where
 one of its threads fails, the others may wait for it for the many turns that they have: such a test is given up after
-a while, and what came of its later requests isn't tried.
+a while, and what came of its later requests isn't tried. Few tests of a crate may be given up.
 """
 import os
 import re
@@ -19,6 +19,11 @@ SECONDS = 1.5
 LATE = 3
 # More than any test asks for.
 NONE = 2**62
+
+
+def most_given_up(tests):
+    """How many of so many tests of a crate may be given up."""
+    return 2 + tests // 8
 
 
 def names_of(program):
@@ -92,6 +97,8 @@ def check_tests(bench, folder, program, build):
         names, faults, refused, late = [], [str(error)], 0, 0
     if not faults and not refused:
         faults = ["no request was refused"]
+    if late > most_given_up(len(names)):
+        faults.append(f"{late} tests were given up, of which {most_given_up(len(names))} may be")
     told = f"{refused} requests of {len(names)} tests refused, {late} tests given up"
     print(f"tests of {os.path.basename(folder)} by {build}: {'FAILED' if faults else 'ok'}: {told}", flush=True)
     for fault in faults[:8]:
