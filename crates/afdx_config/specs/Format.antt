@@ -1,6 +1,5 @@
 -- The format of a configuration: the keys of its tables, and what stands under them.
 use Rattle.std.specs.Prelude.{codes, ℕ, ◌-◌, List, [], ◌∷◌, length, take, Bool, true, false}
-use Rattle.afdx_plan.specs.declared.limits.TheConstants.{CAPACITY_LIMIT, MESSAGE_LIMIT}
 use Rattle.afdx_config.specs.declared.format.Content.{Content}
 use Rattle.afdx_config.specs.declared.format.Content.TheVariants.{Whole, Gap, Networks, PortKind, Address, Checksum, Section, Rows}
 
@@ -36,7 +35,7 @@ link_fields = needed (codes "id") (Whole 0 65535)
     ∷ needed (codes "bag_ms") Gap
     ∷ needed (codes "lmax") (Whole 64 1518)
     ∷ needed (codes "sub_vls") (Whole 1 4)
-    ∷ needed (codes "capacity") (Whole 1 CAPACITY_LIMIT)
+    ∷ needed (codes "capacity") (Whole 1 256)
     ∷ optional (codes "networks") Networks
     ∷ []
 
@@ -49,7 +48,7 @@ port_fields = needed (codes "id") (Whole 0 65535)
     ∷ needed (codes "kind") PortKind
     ∷ needed (codes "source") (Whole 1 65535)
     ∷ needed (codes "destination") (Whole 1 65535)
-    ∷ needed (codes "max") (Whole 1 MESSAGE_LIMIT)
+    ∷ needed (codes "max") (Whole 1 8192)
     ∷ optional (codes "dest_ip") Address
     ∷ optional (codes "checksum") Checksum
     ∷ []

@@ -6,7 +6,6 @@ use Rattle.afdx_plan.specs.declared.identifiers.UdpSum.TheVariants.{Omitted}
 use Rattle.afdx_plan.specs.declared.link_plan.LinkPlan.{LinkPlan}
 use Rattle.afdx_plan.specs.declared.networks.Networks.TheVariants.{Both}
 use Rattle.afdx_plan.specs.declared.port_plan.PortPlan.{PortPlan}
-use Rattle.afdx_plan.specs.declared.limits.TheConstants.{LINKS_LIMIT, PORTS_LIMIT, SUB_PORTS_LIMIT}
 use Rattle.afdx_plan.specs.Address.{destination_address}
 use Rattle.afdx_plan.specs.Plan.{IsLink, IsPort, SendsOver}
 
@@ -76,8 +75,8 @@ ports_on ports vl sub =
 -- a partition and a unicast address.
 pub record IsPlan (plan : Plan) : Type 0 where
   pub end_system : plan.end_system < 65536
-  pub links : (1 ≤ length plan.links) × (length plan.links ≤ LINKS_LIMIT)
-  pub ports : (1 ≤ length plan.ports) × (length plan.ports ≤ PORTS_LIMIT)
+  pub links : (1 ≤ length plan.links) × (length plan.links ≤ 64)
+  pub ports : (1 ≤ length plan.ports) × (length plan.ports ≤ 256)
   pub each_link : All IsLink plan.links
   pub each_port : All IsPort plan.ports
   pub links_apart : (i j : ℕ) → i < length plan.links → j < length plan.links
@@ -92,4 +91,4 @@ pub record IsPlan (plan : Plan) : Type 0 where
   pub unicasts_apart : (p q : PortPlan) → Contains plan.ports p → Contains plan.ports q
       → (address : List ℕ) → p.unicast ≡ Some address → q.unicast ≡ Some address
       → p.partition ≡ q.partition → p.vl ≡ q.vl
-  pub few_ports : (vl sub : ℕ) → ports_on plan.ports vl sub ≤ SUB_PORTS_LIMIT
+  pub few_ports : (vl sub : ℕ) → ports_on plan.ports vl sub ≤ 64

@@ -2,7 +2,6 @@
 use Rattle.std.specs.Prelude.{◌≡◌, ℕ, ◌+◌, ◌*◌, ◌<◌, ◌≤◌, List, length, slice_index, sum_by, IfSome}
 use Rattle.afdx_plan.specs.declared.bag.Bag.{Bag}
 use Rattle.afdx_plan.specs.declared.bag.Bag.TheVariants.{Ms1, Ms2, Ms4, Ms8, Ms16, Ms32, Ms64, Ms128}
-use Rattle.afdx_plan.specs.declared.limits.TheConstants.{CAPACITY_LIMIT, MESSAGE_LIMIT}
 use Rattle.afdx_plan.specs.declared.link_plan.LinkPlan.{LinkPlan}
 use Rattle.afdx_plan.specs.declared.port_plan.PortPlan.{PortPlan}
 
@@ -32,7 +31,7 @@ pub record IsLink (link : LinkPlan) : Type 0 where
   pub id : link.id.0 < 65536
   pub lmax : (64 ≤ link.lmax) × (link.lmax ≤ 1518)
   pub sub_vls : (1 ≤ link.sub_vls) × (link.sub_vls ≤ 4)
-  pub capacity : (1 ≤ link.capacity) × (link.capacity ≤ CAPACITY_LIMIT)
+  pub capacity : (1 ≤ link.capacity) × (link.capacity ≤ 256)
 
 -- what every port of a configuration keeps
 pub record IsPort (port : PortPlan) : Type 0 where
@@ -42,7 +41,7 @@ pub record IsPort (port : PortPlan) : Type 0 where
   pub partition : port.partition < 32
   pub source : (1 ≤ port.source) × (port.source < 65536)
   pub destination : (1 ≤ port.destination) × (port.destination < 65536)
-  pub max : (1 ≤ port.max) × (port.max ≤ MESSAGE_LIMIT)
+  pub max : (1 ≤ port.max) × (port.max ≤ 8192)
   pub unicast : IfSome port.unicast IsUnicast
 
 -- the port sends over this link

@@ -9,7 +9,6 @@ use Rattle.afdx_plan.specs.declared.identifiers.Kind.TheVariants.{Sampling, Queu
 use Rattle.afdx_plan.specs.Config.{Plan, IsPlan, ports_on}
 use Rattle.afdx_plan.specs.declared.fault.ConfigFault.{ConfigFault}
 use Rattle.afdx_plan.specs.declared.fault.ConfigFault.TheVariants.{Toml, MissingKey, UnknownKey, WrongKind, OutOfRange, BadBag, DuplicateVl, DuplicatePort, NoSuchVl, NoSuchSub, SamplingTooLong, SameFlow, SharedUnicast, Limit, Memory}
-use Rattle.afdx_plan.specs.declared.limits.TheConstants.{LINKS_LIMIT, PORTS_LIMIT, SUB_PORTS_LIMIT}
 
 -- the number of a fault
 abbrev pub fault_number : ConfigFault → ℕ
@@ -97,12 +96,12 @@ is_no_count most n = n == 0 || nat_lt most n
 
 -- the port's sub-VL has too many ports
 abbrev pub is_crowded : List PortPlan → PortPlan → Bool
-is_crowded ports port = nat_lt SUB_PORTS_LIMIT (ports_on ports port.vl.0 port.sub)
+is_crowded ports port = nat_lt 64 (ports_on ports port.vl.0 port.sub)
 
 -- the plan is past its limits
 abbrev pub is_past_limits : List LinkPlan → List PortPlan → Bool
-is_past_limits links ports = is_no_count LINKS_LIMIT (length links)
-    || is_no_count PORTS_LIMIT (length ports)
+is_past_limits links ports = is_no_count 64 (length links)
+    || is_no_count 256 (length ports)
     || list_any (is_crowded ports) ports
 
 -- links and ports show a fault of 7 to 14

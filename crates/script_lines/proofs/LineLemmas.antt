@@ -5,7 +5,6 @@ use Rattle.std.proofs.KnownBytes.{Consumes-trans}
 use Rattle.std.proofs.lemmas.List.{append-nil}
 use Rattle.std.proofs.lemmas.Bool.{ne_eqb}
 use Rattle.script_lines.specs.Lines.{before_feed, after_feed, has_feed, IsPlain, without_return, first_line, TakesPlain, TakesLine, BeginsLong}
-use Rattle.script_lines.specs.declared.line_text.TheConstants.{LINE_LIMIT}
 
 -- bytes with no line feed were taken
 pub record HasRead (old left : Option (List ℕ)) (line : List ℕ) : Type 0 where
@@ -80,7 +79,7 @@ line_feed items ns p =
 
 -- the last line was taken
 pub eof_taken : (old mid new : Option (List ℕ)) (items : List ℕ) → HasRead old mid items
-    → Consumes mid new [] → IsAtEnd new → 0 < length items → length items ≤ LINE_LIMIT
+    → Consumes mid new [] → IsAtEnd new → 0 < length items → length items ≤ 20000
     → TakesLine old new items
 eof_taken None mid new items h f a pos len = tt
 eof_taken (Some xs) None new items h f a pos len = absurd h.taken
@@ -95,7 +94,7 @@ eof_taken (Some xs) (Some ms) (Some ns) items h f a pos len =
 
 -- the last line is too long
 pub eof_long : (old mid new : Option (List ℕ)) (items : List ℕ) → HasRead old mid items
-    → Consumes mid new [] → IsAtEnd new → LINE_LIMIT < length items → BeginsLong old
+    → Consumes mid new [] → IsAtEnd new → 20000 < length items → BeginsLong old
 eof_long None mid new items h f a len = tt
 eof_long (Some xs) None new items h f a len = absurd h.taken
 eof_long (Some xs) (Some ms) None items h f a len = absurd f
@@ -109,7 +108,7 @@ whole_more xs ms ns items b a c = cc
 
 -- a line with its line feed was taken
 pub feed_taken : (old mid new : Option (List ℕ)) (items : List ℕ) → HasRead old mid items
-    → Consumes mid new (10 ∷ []) → length (without_return items) ≤ LINE_LIMIT
+    → Consumes mid new (10 ∷ []) → length (without_return items) ≤ 20000
     → TakesLine old new (without_return items)
 feed_taken None mid new items h f len = tt
 feed_taken (Some xs) None new items h f len = absurd h.taken
@@ -124,7 +123,7 @@ feed_taken (Some xs) (Some ms) (Some ns) items h f len =
 
 -- a line with its line feed is too long
 pub feed_long : (old mid new : Option (List ℕ)) (items : List ℕ) → HasRead old mid items
-    → Consumes mid new (10 ∷ []) → LINE_LIMIT < length (without_return items) → BeginsLong old
+    → Consumes mid new (10 ∷ []) → 20000 < length (without_return items) → BeginsLong old
 feed_long None mid new items h f len = tt
 feed_long (Some xs) None new items h f len = absurd h.taken
 feed_long (Some xs) (Some ms) None items h f len = absurd f
@@ -133,7 +132,7 @@ feed_long (Some xs) (Some ms) (Some ns) items h f len =
 
 -- a line is too long whose end was not yet seen
 pub byte_long : (old mid new : Option (List ℕ)) (items : List ℕ) (b : ℕ) → HasRead old mid items
-    → Consumes mid new (b ∷ []) → b ≢ 10 → LINE_LIMIT < length items → BeginsLong old
+    → Consumes mid new (b ∷ []) → b ≢ 10 → 20000 < length items → BeginsLong old
 byte_long None mid new items b h f other len = tt
 byte_long (Some xs) None new items b h f other len = absurd h.taken
 byte_long (Some xs) (Some ms) None items b h f other len = absurd f

@@ -2,7 +2,6 @@
 use Rattle.std.specs.Prelude.{◌≡◌, ℕ, ◌<◌, Bool, true, false, ◌&&◌, ◌||◌, nat_lt, if◌then◌else◌, ◌+◌, is_none, List, [], ◌∷◌, length, Option, Some, None}
 use Rattle.std.specs.Option.{option_map_or}
 use Rattle.script_lines.specs.Command.{command_of, is_send, is_at, is_close, port_number, moment_of, link_number, sub_number, message_of}
-use Rattle.script_lines.specs.declared.line_text.TheConstants.{LINE_LIMIT}
 use Rattle.script_lines.specs.declared.line_fault.LineFault.{LineFault}
 use Rattle.script_lines.specs.declared.line_fault.LineFault.TheVariants.{Word, Number, Hex, Extra, Long, Memory}
 
@@ -53,7 +52,7 @@ has_extra (w ∷ ws) = option_map_or (λ n. nat_lt n (length ws + 1)) (form_len 
 
 -- a line has a fault
 abbrev pub has_fault : LineFault → List ℕ → Bool
-has_fault Long line = nat_lt LINE_LIMIT (length line)
+has_fault Long line = nat_lt 20000 (length line)
 has_fault Word line = lacks_word (command_of line)
 has_fault Number line = has_bad_number (command_of line)
 has_fault Hex line = has_bad_hex (command_of line)

@@ -1,7 +1,6 @@
 -- The lines of a text. A line ends with a line feed (10); the last one may lack it.
 use Rattle.std.specs.Prelude.{◌≡◌, ℕ, ◌-◌, ◌<◌, ◌≤◌, ◌==◌, ◌&&◌, nat_lt, Bool, true, false, if◌then◌else◌, List, [], ◌∷◌, ◌++◌, length, take, slice_index, Option, IfSome, Some}
 use Rattle.std.specs.Io.KnownBytes.{Consumes}
-use Rattle.script_lines.specs.declared.line_text.TheConstants.{LINE_LIMIT}
 
 -- the bytes before the first line feed
 abbrev pub before_feed : List ℕ → List ℕ
@@ -44,7 +43,7 @@ first_line text = if has_feed text then without_return (before_feed text) else b
 pub record Splits (text line : List ℕ) (left : Option (List ℕ)) : Type 0 where
   pub some : 0 < length text
   pub first : line ≡ first_line text
-  pub short : length line ≤ LINE_LIMIT
+  pub short : length line ≤ 20000
   pub behind : left ≡ Some (after_feed text)
 
 -- the bytes that are known lose their first line, which is short enough
@@ -53,4 +52,4 @@ TakesLine old new line = IfSome old (λ text. Splits text line new)
 
 -- the first line of the bytes that are known is too long
 abbrev pub BeginsLong : Option (List ℕ) → Type 0
-BeginsLong old = IfSome old (λ text. LINE_LIMIT < length (first_line text))
+BeginsLong old = IfSome old (λ text. 20000 < length (first_line text))

@@ -19,7 +19,6 @@ use Rattle.transcript.specs.declared.outcome.Outcome.{Outcome}
 use Rattle.transcript.specs.declared.outcome.Outcome.TheVariants.{Quiet, Accepted, Refused, Released, Closed}
 use Rattle.transcript.specs.declared.run_fault.RunFault.{RunFault}
 use Rattle.transcript.specs.declared.run_fault.RunFault.TheVariants as Fault
-use Rattle.tx_script.specs.declared.obey_lines.TheConstants.{LINES_LIMIT}
 use Rattle.transcript.specs.declared.summary.Summary.{Summary as Sums}
 use Rattle.tx_script.proofs.Matched.{fresh_matches}
 use Rattle.tx_script.proofs.AtHand.{fresh_sent}
@@ -169,7 +168,7 @@ stop_memory plan (Some text) left old mid bench bench2 count sums goes ports kee
 
 -- the next line has a fault, or could not be read
 stop_known : (plan : Plan) (text : List ℕ) (new old mid : Option (List ℕ)) (bench : AtBench) (rest : List ℕ)
-    (count : ℕ) (sums : Sums) (fault : RunFault) → count < LINES_LIMIT
+    (count : ℕ) (sums : Sums) (fault : RunFault) → count < 1000000
     → Running plan text old mid bench rest count sums → ReadsLine rest new (count + 1) (Err fault)
     → Stops plan text old mid bench (Err fault)
 stop_known plan text new old mid bench rest count sums (Fault.Line number fault) few ran reads = record {
@@ -191,7 +190,7 @@ stop_known plan text new old mid bench rest count sums Fault.Memory few ran read
 
 -- the same where the reader's bytes may be unknown
 pub stop_fault : (plan : Plan) (bytes left new old mid : Option (List ℕ)) (bench : AtBench) (count : ℕ) (sums : Sums)
-    (fault : RunFault) → count < LINES_LIMIT
+    (fault : RunFault) → count < 1000000
     → IsRunning plan bytes left old mid bench count sums
     → IfSome left (λ known. ReadsLine known new (count + 1) (Err fault))
     → IfSome bytes (λ text. Stops plan text old mid bench (Err fault))
@@ -201,7 +200,7 @@ stop_fault plan (Some text) left new old mid bench count sums fault few goes rea
 
 -- there is a line too many
 pub stop_lines : (plan : Plan) (bytes left new old mid : Option (List ℕ)) (bench : AtBench) (count : ℕ) (sums : Sums)
-    (byte : ℕ) → count ≡ LINES_LIMIT
+    (byte : ℕ) → count ≡ 1000000
     → IsRunning plan bytes left old mid bench count sums → Consumes left new (byte ∷ [])
     → IfSome bytes (λ text. Stops plan text old mid bench (Err Fault.Lines))
 stop_lines plan None left new old mid bench count sums byte all goes taken = tt

@@ -9,7 +9,6 @@ use Rattle.tx_script.specs.Totals.{AreTotals}
 use Rattle.script_lines.specs.declared.line_fault.LineFault.{LineFault}
 use Rattle.transcript.specs.declared.run_fault.RunFault.{RunFault}
 use Rattle.transcript.specs.declared.run_fault.RunFault.TheVariants.{Line, Lines, Read, Write, Memory}
-use Rattle.tx_script.specs.declared.obey_lines.TheConstants.{LINES_LIMIT}
 use Rattle.transcript.specs.declared.summary.Summary.{Summary as Sums}
 
 -- a text begins with this line, which has no fault
@@ -53,7 +52,7 @@ pub record HasBegun (plan : Plan) (text : List ℕ) (old new : Option (List ℕ)
 pub record AtEnd (Ran : List ℕ → ℕ → Sums → Type 0) (sums : Sums) : Type 0 where
   pub count : ℕ
   pub ran : Ran [] count sums
-  pub few : count ≤ LINES_LIMIT
+  pub few : count ≤ 1000000
 
 -- the line behind those that were run has this number, and this is its first fault
 pub record AtFault (Ran : List ℕ → ℕ → Sums → Type 0) (number : ℕ) (fault : LineFault) : Type 0 where
@@ -63,14 +62,14 @@ pub record AtFault (Ran : List ℕ → ℕ → Sums → Type 0) (number : ℕ) (
   pub ran : Ran rest count sums
   pub some : 0 < length rest
   pub number_is : number ≡ count + 1
-  pub few : number ≤ LINES_LIMIT
+  pub few : number ≤ 1000000
   pub first : IsFirstFault (first_line rest) fault
 
 -- as many lines were run as a script may have, and there is one more
 pub record AtLimit (Ran : List ℕ → ℕ → Sums → Type 0) : Type 0 where
   pub rest : List ℕ
   pub sums : Sums
-  pub ran : Ran rest LINES_LIMIT sums
+  pub ran : Ran rest 1000000 sums
   pub some : 0 < length rest
 
 -- some lines were run, and the reader failed
@@ -79,7 +78,7 @@ pub record AtFailure (Ran : List ℕ → ℕ → Sums → Type 0) : Type 0 where
   pub count : ℕ
   pub sums : Sums
   pub ran : Ran rest count sums
-  pub few : count ≤ LINES_LIMIT
+  pub few : count ≤ 1000000
 
 -- the end of a run, by what is known of the lines that were run; where memory was refused this much
 -- is known, and nothing where the writer failed

@@ -2,7 +2,6 @@ use Rattle.std.proofs.Common.{◌<◌, ◌≤◌, length, arith}
 use Rattle.std.proofs.lemmas.Grind.{common_steps}
 use Rattle.std.proofs.lemmas.Bool.Decides.{nat_tests}
 use Rattle.script_lines.proofs.LineLemmas.{read_plain, read_byte, eof_taken, eof_long, feed_taken, feed_long, byte_long}
-use Rattle.script_lines.specs.declared.line_text.TheConstants.{LINE_LIMIT}
 use Rattle.script_lines.proofs.line_text.next_line.Goals as goal
 
 pub returns-in-Ok-None-2-clause-taken : goal.returns-in-Ok-None-2-clause-taken
@@ -27,7 +26,7 @@ returns-in-Ok-Some-eq10-clause-taken g c line =
     let some = rw c.in-Ok-Some-eq10.field-0-is at c.in-Ok-Some-eq10.ensures.taken in
     let taken = rw c.in-Ok-Some-eq10.field-0-0-test at some in
     let short = c.of_len-in-Ok-Some-eq10.ensures.line line in
-    let len : length c.drop_return.new.line.items ≤ LINE_LIMIT = omega (arith, short, c.len-in-Ok-Some-eq10.ensures) in
+    let len : length c.drop_return.new.line.items ≤ 20000 = omega (arith, short, c.len-in-Ok-Some-eq10.ensures) in
     rw c.drop_return.ensures (feed_taken _ _ _ _ (read_plain _ _ _ _ _ c.loop-bytes.invariant
     c.in_ok-take_plain.ensures) taken (rw c.drop_return.ensures at len))
 
@@ -36,7 +35,7 @@ returns-in-Ok-Some-eq10-clause-long g c line =
     let some = rw c.in-Ok-Some-eq10.field-0-is at c.in-Ok-Some-eq10.ensures.taken in
     let taken = rw c.in-Ok-Some-eq10.field-0-0-test at some in
     let long = c.of_len-in-Ok-Some-eq10.ensures.long line in
-    let len : LINE_LIMIT < length c.drop_return.new.line.items = omega (arith, long, c.len-in-Ok-Some-eq10.ensures) in
+    let len : 20000 < length c.drop_return.new.line.items = omega (arith, long, c.len-in-Ok-Some-eq10.ensures) in
     feed_long _ _ _ _ (read_plain _ _ _ _ _ c.loop-bytes.invariant c.in_ok-take_plain.ensures) taken (rw c.drop_return.ensures at len)
 
 pub returns-in-Ok-Some-eq10-clause-ended : goal.returns-in-Ok-Some-eq10-clause-ended

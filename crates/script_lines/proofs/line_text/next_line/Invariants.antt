@@ -1,5 +1,4 @@
 use Rattle.std.proofs.Common.{◌+◌, ◌-◌, length}
-use Rattle.script_lines.specs.declared.line_text.TheConstants.{LINE_LIMIT}
 use Rattle.script_lines.proofs.LineLemmas.{HasRead}
 use Rattle.script_lines.proofs.line_text.next_line.Given as goal
 
@@ -7,4 +6,4 @@ abbrev pub invariant-loop-bytes : goal.invariant-loop-bytes
 invariant-loop-bytes g l = HasRead l.initial.bytes l.bytes l.line.items
 
 abbrev pub decreases-loop-bytes : goal.decreases-loop-bytes
-decreases-loop-bytes g l = LINE_LIMIT + 2 - length l.line.items
+decreases-loop-bytes g l = 20000 + 2 - length l.line.items

@@ -1,6 +1,5 @@
 use Rattle.std.proofs.Common.{◌≡◌, arith}
 use Rattle.std.proofs.lemmas.Result.{err_from_is_err_and}
-use Rattle.tx_script.specs.declared.obey_lines.TheConstants.{LINES_LIMIT}
 use Rattle.tx_script.proofs.AtHand.{fresh_asked, asked_on}
 use Rattle.tx_script.proofs.RunLemmas.{running_none, running_turn, within_more, stop_memory, stop_fault, stop_lines}
 use Rattle.tx_script.proofs.obey_lines.obey_lines.Goals as goal
@@ -40,7 +39,7 @@ loop-count-preserved g c =
 
 pub returns-in-Ok-Some : goal.returns-in-Ok-Some
 returns-in-Ok-Some g c =
-    let all : c.loop-count.count ≡ LINES_LIMIT = omega arith in
+    let all : c.loop-count.count ≡ 1000000 = omega arith in
     let taken = rw c.in-Ok-Some.field-0-is at c.in-Ok-Some.ensures.taken in
     stop_lines _ _ c.loop-count.bytes c.next.new.self _ _ c.loop-count.bench c.loop-count.count
     c.loop-count.sums _ all c.loop-count.invariant.running taken
