@@ -98,6 +98,52 @@ fn a_close_in_the_pause_of_a_port_counts_its_message(rt: HostRuntime) {
     assert_closed(&rt, &mut opened.tx, 1, 1, Ok(1));
 }
 
+// Sends so many bytes, and asserts whether the pause ran, and why they were refused, if they were.
+fn assert_pause<R: Abort>(
+    rt: &R,
+    alloc: Global,
+    port: &mut TxPort,
+    size: usize,
+    wanted: (bool, Option<Refusal>),
+) {
+    let bytes = Vec::from_elem(alloc, 1u8, size).expect(rt, "memory");
+    let mut ran = false;
+    let why = match port.send_with(bytes, || ran = true) {
+        Ok(()) => None,
+        Err(fault) => Some(fault.why),
+    };
+    assert_eq!(rt; (ran, why), wanted);
+}
+
+#[test]
+fn a_pause_runs_where_a_port_accepts_alone(rt: HostRuntime) {
+    let alloc = rt.alloc();
+    let mut opened = open_apart(&rt, alloc);
+    let port = &mut opened.first;
+    assert_pause(&rt, alloc, port, 0, (false, Some(Refusal::Empty)));
+    assert_pause(&rt, alloc, port, 8193, (false, Some(Refusal::TooLong)));
+    assert_pause(&rt, alloc, port, 8192, (true, None));
+    assert_pause(&rt, alloc, port, 1, (true, None));
+    assert_pause(&rt, alloc, port, 1, (false, Some(Refusal::Full)));
+    assert_closed(&rt, &mut opened.tx, 1, 0, Ok(2));
+    assert_pause(&rt, alloc, port, 1, (false, Some(Refusal::Closed)));
+}
+
+// A port sends, and a poll in its pause finds nothing.
+fn poll_in_the_pause<R: Abort>(rt: &R, alloc: Global, tx: &mut Sending, port: &mut TxPort) {
+    let bytes = vec![in alloc; 1u8].expect(rt, "memory");
+    let sent = port.send_with(bytes, || assert_none(rt, tx, 0));
+    assert!(rt; sent.is_ok());
+}
+
+#[test]
+fn a_message_goes_out_after_the_pause_of_its_port(rt: HostRuntime) {
+    let alloc = rt.alloc();
+    let mut opened = open_apart(&rt, alloc);
+    poll_in_the_pause(&rt, alloc, &mut opened.tx, &mut opened.first);
+    assert_one(&rt, &mut opened.tx, 0, release(0, 0));
+}
+
 // A queue of one message, and its one sender, which may send once.
 fn queue(alloc: Global) -> Result<(Receiver, Vec<Sender>), AllocError> {
     make(alloc, 1, 1, 1)

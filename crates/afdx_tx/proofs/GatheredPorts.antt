@@ -6,7 +6,7 @@ use Rattle.afdx_plan.specs.declared.port_plan.PortPlan.{PortPlan}
 use Rattle.afdx_plan.specs.Config.{Plan, IsPlan, port_plan_at}
 use Rattle.afdx_plan.specs.Places.{link_place}
 use Rattle.subvl_queue.specs.Messages.{part_of}
-use Rattle.subvl_queue.specs.Views.{brought_by}
+use Rattle.subvl_queue.specs.Views.{StandAt, brought_by}
 use Rattle.vl_link.specs.Seen.{known_of, IsKnownWhole, receiving, gathered, Seen}
 use Rattle.vl_link.specs.Links.{Held, LinkState, held_at, link_at}
 use Rattle.vl_link.specs.LinkSenders.{back_of}
@@ -83,6 +83,8 @@ own_part tx new mid ports place valid shape takes g same of items opened lt has 
     plan came.back in
     let part : part_of index known ≡ has.port.sender.own =
     ap (λ (p : ℕ). part_of p known) (sym at) ∙ gathered.gathers.whole.parts (brought_by has.port.sender) inside in
+    let stand : StandAt known index has.port.sender.own has.port.sender.places =
+    subst (λ (p : ℕ). StandAt known p has.port.sender.own has.port.sender.places) at (gathered.gathers.whole.places (brought_by has.port.sender) inside) in
     let moved : part_of (index_of new.plan.ports place) (known_of (held_for new (port_plan_at new.plan.ports place)).seen)
     ≡ has.port.sender.own =
     subst (λ (config : Plan). part_of (index_of config.ports place)
@@ -94,6 +96,8 @@ own_part tx new mid ports place valid shape takes g same of items opened lt has 
       at = has.at;
       messages = came.messages;
       part = moved;
+      places = subst (λ (config : Plan). StandAt (known_of (held_at (link_at new.links (link_place config (port_plan_at config.ports place))).subs
+          (port_plan_at config.ports place).sub).seen) (index_of config.ports place) has.port.sender.own has.port.sender.places) (sym same) stand;
       accepted = own_messages new place has.port.sender.own (subst IsPlan (sym same) valid) of items
           (subst (λ (config : Plan). place < length config.ports) (sym same) lt) moved;
     }

@@ -3,7 +3,7 @@ use Rattle.std.specs.Prelude.{ℕ, ◌≡◌, ◌<◌, List, length, All, Contai
 use Rattle.afdx_plan.specs.Config.{Plan, link_plan_at, port_plan_at}
 use Rattle.afdx_plan.specs.declared.port_plan.PortPlan.{PortPlan}
 use Rattle.subvl_queue.specs.Messages.{part_of}
-use Rattle.subvl_queue.specs.Views.{brought_by}
+use Rattle.subvl_queue.specs.Views.{StandAt, brought_by}
 use Rattle.afdx_legal.specs.Allowed.{port_messages}
 use Rattle.vl_link.specs.Seen.{Seen, receiving, gathered, known_of}
 use Rattle.vl_link.specs.Links.{Held, LinkState, held_at, link_at}
@@ -62,8 +62,8 @@ pub record HasShape (config : Plan) (links : List LinkState) : Type 0 where
 abbrev pub held_for : Tx → PortPlan → Held
 held_for tx port = held_at (link_at tx.links (link_place tx.plan port)).subs port.sub
 
--- The port at a place is in a list, and what its sub-VL accepted of it is the port's own list, of
--- messages that it may send.
+-- The port at a place is in a list. What its sub-VL accepted of it is the port's own list, of messages
+-- that it may send. Among all that the sub-VL accepted, they stand at the places that its sends drew.
 pub record HasOwnPart (tx : Tx) (ports : List PortView) (place : ℕ) : Type 0 where
   pub port : PortView
   pub inside : Contains ports port
@@ -71,6 +71,8 @@ pub record HasOwnPart (tx : Tx) (ports : List PortView) (place : ℕ) : Type 0 w
   pub messages : HasOwnMessages port
   pub part : part_of (index_of tx.plan.ports place)
       (known_of (held_for tx (port_plan_at tx.plan.ports place)).seen) ≡ port.sender.own
+  pub places : StandAt (known_of (held_for tx (port_plan_at tx.plan.ports place)).seen)
+      (index_of tx.plan.ports place) port.sender.own port.sender.places
   pub accepted : port_messages tx.plan (accepted_in tx.links) place ≡ port.sender.own
 
 -- a sub-VL but for its queue, whose accepted messages are known whole

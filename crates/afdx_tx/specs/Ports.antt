@@ -3,7 +3,7 @@ use Rattle.std.specs.Prelude.{ℕ, ◌≡◌, ◌<◌, ◌≤◌, List, [], leng
 use Rattle.afdx_plan.specs.Config.{Plan, link_plan_at, port_plan_at}
 use Rattle.afdx_plan.specs.declared.port_plan.PortPlan.{PortPlan}
 use Rattle.subvl_queue.specs.Messages.{most_calls}
-use Rattle.subvl_queue.specs.Views.{QueueName, SenderView, new_sender, IsPlaced, IsRefused, WasFull}
+use Rattle.subvl_queue.specs.Views.{QueueName, SenderView, new_sender, IsPlaced, IsRefused}
 use Rattle.subvl_queue.specs.declared.refused.Why.{Why}
 use Rattle.subvl_queue.specs.declared.refused.Why.TheVariants.{Closed as QueueClosed, Exhausted as QueueExhausted, Full as QueueFull}
 use Rattle.afdx_tx.specs.declared.fault.Refusal.{Refusal}
@@ -42,7 +42,7 @@ Refuses old size Empty new = (size ≡ 0) × (new ≡ old)
 Refuses old size TooLong new = (old.plan.max < size) × (new ≡ old)
 Refuses old size Closed new = QueueRefuses old size QueueClosed new
 Refuses old size Exhausted new = QueueRefuses old size QueueExhausted new
-Refuses old size Full new = QueueRefuses old size QueueFull new × WasFull old.sender
+Refuses old size Full new = QueueRefuses old size QueueFull new
 
 -- the index of a port among those of its sub-VL, by its place in the configuration
 abbrev pub index_of : List PortPlan → ℕ → ℕ

@@ -6,7 +6,8 @@ use Rattle.subvl_queue.specs.declared.item.Message.{Message}
 use Rattle.subvl_queue.specs.Messages.{IsItem, AreItems, part_of}
 use Rattle.subvl_queue.specs.Queue.{owned}
 use Rattle.subvl_queue.specs.Bytes.{items_of, own_of, places_of}
-use Rattle.subvl_queue.specs.Views.{places_from, TellsLeft}
+use Rattle.subvl_queue.specs.Views.{TellsLeft}
+use Rattle.subvl_queue.proofs.Places.{places_from}
 
 pub length_of : (l : List (ℕ × Message)) → length (items_of l) ≡ length l
 length_of [] = refl

@@ -7,3 +7,4 @@ pub mod Bytes
 pub mod Senders
 pub mod Options
 pub mod Parts
+pub mod Places

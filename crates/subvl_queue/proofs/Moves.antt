@@ -147,9 +147,9 @@ module _ {T : Type 0} where
       let less : x' ≡ x - 1 = one_less x (omega arith) small in
       let hand0 : in_hand me.0 ≡ 0 = ap hand_of was in
       let room0 : in_room me.0 ≡ 0 = ap found_of was in let ws : ℕ = length s.words in let long : ws ≡ m + 2 = r.wide in
-      let went : (st : Stage) (b : Bool) → hand_of st ≡ 1 → wait_of st ≡ 1 → (Knows r.freed r.log id (r.cells (me.0.at % m)) me.0.at me.0.item st)
-      → L + R + found_of st ≤ r.freed + m → Queue (stepped s 0 x' id me.1 (with_ask me.0 st b) keeps) = λ st b one one' knew fits'.
-      let w = with_ask me.0 st b in let th : total in_hand (set s.views id w) + in_hand me.0 ≡ H + hand_of st = total_set in_hand s.views id me.0 w at in
+      let went : (st : Stage) (load : ℕ) → hand_of st ≡ 1 → wait_of st ≡ 1 → (Knows r.freed r.log id (r.cells (me.0.at % m)) me.0.at me.0.item st)
+      → L + R + found_of st ≤ r.freed + m → Queue (stepped s 0 x' id me.1 (with_ask me.0 st load) keeps) = λ st load one one' knew fits'.
+      let w = with_ask me.0 st load in let th : total in_hand (set s.views id w) + in_hand me.0 ≡ H + hand_of st = total_set in_hand s.views id me.0 w at in
       let tr : total in_room (set s.views id w) + in_room me.0 ≡ R + found_of st = total_set in_room s.views id me.0 w at in
       let ta : total asks_of (set s.views id w) + me.0.asks ≡ A + (me.0.asks + 1) = total_set asks_of s.views id me.0 w at in
       let tw : total waiting (set s.views id w) + waiting me.0 ≡ W + wait_of st = total_set waiting s.views id me.0 w at in
@@ -164,27 +164,34 @@ module _ {T : Type 0} where
       (sends s r id me.0 w at is is refl refl (omega arith)) knew in
       go (dec_le (suc (2 ^ 32)) x) went room within h3
     where
+      held : ℕ
+      held = (length r.log - r.freed) + total in_hand s.views
+
+      counted : get_or s.words 0 0 + held ≡ 2 ^ 32 + n
+      counted = let room : get_or s.words 0 0 + length r.log + total in_hand s.views ≡ 2 ^ 32 + length s.homes + r.freed = r.room_is in
+          let behind : r.freed ≤ length r.log = r.behind in let e : length s.homes ≡ n = wide in omega arith
+
       go : Dec (suc (2 ^ 32) ≤ get_or s.words 0 0)
-          → ((st : Stage) (b : Bool) → hand_of st ≡ 1 → wait_of st ≡ 1
+          → ((st : Stage) (load : ℕ) → hand_of st ≡ 1 → wait_of st ≡ 1
           → (Knows r.freed r.log id (r.cells (me.0.at % length s.homes)) me.0.at me.0.item st)
           → length r.log + total in_room s.views + found_of st ≤ r.freed + length s.homes
-          → Queue (stepped s 0 ((get_or s.words 0 0 + (2 ^ 64 - 1)) % 2 ^ 64) id me.1 (with_ask me.0 st b) keeps))
+          → Queue (stepped s 0 ((get_or s.words 0 0 + (2 ^ 64 - 1)) % 2 ^ 64) id me.1 (with_ask me.0 st load) keeps))
           → get_or s.words 0 0 + length r.log + total in_hand s.views ≡ 2 ^ 32 + length s.homes + r.freed
           → length r.log + total in_room s.views ≤ r.freed + length s.homes → total in_room s.views ≤ total in_hand s.views
           → Goes s 0 id me (asks (step n 0 1 0 none) me) ((get_or s.words 0 0 + (2 ^ 64 - 1)) % 2 ^ 64)
       go (yes d) went room within small' = (
-        with_ask me.0 Asked false,
+        with_ask me.0 Asked held,
         keeps,
         tt,
-        went Asked false refl refl tt (omega arith),
-        (refl, (λ _. refl), λ no. absurd (omega arith)),
+        went Asked held refl refl tt (omega arith),
+        (refl, counted, (λ _. refl), λ no. absurd (omega arith)),
       )
       go (no d) went room within small' = (
-        with_ask me.0 Refused true,
+        with_ask me.0 Refused held,
         keeps,
         tt,
-        went Refused true refl refl tt (omega arith),
-        (refl, (λ yes'. absurd (d (omega arith))), λ _. (refl, (s, r, id, at, wide, (let b : r.freed ≤ length r.log = r.behind in omega arith)))),
+        went Refused held refl refl tt (omega arith),
+        (refl, counted, (λ yes'. absurd (d (omega arith))), λ _. refl),
       )
 
   -- an ask without room, or one that drew late, is given back

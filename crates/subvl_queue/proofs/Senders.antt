@@ -15,6 +15,7 @@ use Rattle.subvl_queue.specs.Steps.{IsLog, IfWhole, with_all, holding, freed_of}
 use Rattle.subvl_queue.specs.Views.{SenderView, Brought, HasPort, HasEvery, IsBack, AreBack, IsWhole, brought_by, brought_by_all}
 use Rattle.subvl_queue.proofs.Bytes.{part_is, places_are, items_append}
 use Rattle.subvl_queue.proofs.Owned.{take_next}
+use Rattle.subvl_queue.proofs.Places.{stand_at}
 
 -- where none was found, no sender of the port is there
 pub none_there : (senders : List SenderView) (n p : ℕ) → length senders ≤ n → ((k : ℕ) (d : SenderView) → k < n → (get_or senders k d).port ≡ p → ⊥)
@@ -83,7 +84,8 @@ is_whole slots ports v l every log made =
     record {
       every = every;
       parts = λ b inside. sym (part_is b.port 0 l) ∙ (at b inside).0;
-      places = λ b inside. sym (places_are b.port 0 l) ∙ (at b inside).1;
+      places = λ b inside. stand_at (items_of l) b.port b.own b.places (sym (part_is b.port 0 l) ∙ (at b inside).0)
+          (sym (places_are b.port 0 l) ∙ (at b inside).1);
       no_more = λ p le. sym (part_is p 0 l) ∙ ap own_of (log.no_more p (subst (λ (n : ℕ). n ≤ p) (sym made) le));
     }
 

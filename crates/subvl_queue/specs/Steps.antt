@@ -1,9 +1,9 @@
 -- What each step tells its caller.
-use Rattle.std.specs.Prelude.{◌≡◌, ◌≢◌, ℕ, suc, ◌+◌, ◌-◌, ◌%◌, ◌^◌, ◌<◌, ◌≤◌, Bool, true, false, List, [], ◌∷◌, ◌++◌, length, take, Option, Some, None}
+use Rattle.std.specs.Prelude.{◌≡◌, ◌≢◌, ℕ, suc, ◌+◌, ◌%◌, ◌^◌, ◌<◌, ◌≤◌, Bool, true, false, List, [], ◌∷◌, ◌++◌, length, take, Option, Some, None}
 use mathlib.Core.Option.{some}
 use lib.ListN.{get_elem?}
-use Rattle.atomic_table.specs.Table.{State, Me, Step}
-use Rattle.subvl_queue.specs.Queue.{owned, total, in_hand, Queue}
+use Rattle.atomic_table.specs.Table.{Me, Step}
+use Rattle.subvl_queue.specs.Queue.{owned}
 use Rattle.subvl_queue.specs.declared.view.View.{View}
 use Rattle.subvl_queue.specs.declared.view.Stage.{Stage}
 use Rattle.subvl_queue.specs.declared.view.Stage.TheVariants.{Idle, Asked, Refused, Drew, Late, Holding}
@@ -12,14 +12,14 @@ abbrev pub Seated : Type 0 → Type 0
 Seated T = Me (Option (ℕ × T)) (View T)
 
 module _ {T : Type 0} where
-  abbrev pub with_ask : View T → Stage → Bool → View T
-  with_ask v st b = record v { asks = v.asks + 1; stage = st; full = b }
+  abbrev pub with_ask : View T → Stage → ℕ → View T
+  with_ask v st load = record v { asks = v.asks + 1; stage = st; load = load }
 
   abbrev pub idle : View T → View T
   idle v = record v { stage = Idle }
 
   abbrev pub drawn : View T → ℕ → ℕ × T → View T
-  drawn v t x = record v { stage = Drew; at = t; item = Some x; own = v.own ++ (t, x.1) ∷ []; full = false }
+  drawn v t x = record v { stage = Drew; at = t; item = Some x; own = v.own ++ (t, x.1) ∷ [] }
 
   abbrev pub lated : View T → View T
   lated v = record v { stage = Late; shut = true }
@@ -48,15 +48,11 @@ module _ {T : Type 0} where
   abbrev pub freed_of : View T → ℕ × T → View T
   freed_of v x = record v { stage = Idle; taken = v.taken ++ x ∷ [] }
 
-  -- at some moment, with this view, the held messages and the asks in hand reached the capacity
-  abbrev pub Reached : ℕ → View T → Type 0
-  Reached c v = (s : State (Option (ℕ × T)) (View T)) × (q : Queue s) × (id : ℕ) × (get_elem? s.views id ≡ some v)
-      × (length s.homes ≡ c) × (c ≤ (length q.log - q.freed) + total in_hand s.views)
-
-  -- room was found exactly where the word was over 2 ^ 32
+  -- The word that the ask read is 2 ^ 32 and the capacity, less the held messages and the asks in hand: `load` is how many
+  -- these were. Room was found exactly where the word was over 2 ^ 32.
   abbrev pub asks : Step (Option (ℕ × T)) → Seated T → ℕ → Seated T → Type 0
-  asks st m r m' = (m'.1 ≡ m.1) × (2 ^ 32 < r → m'.0 ≡ with_ask m.0 Asked false)
-      × (r ≤ 2 ^ 32 → (m'.0 ≡ with_ask m.0 Refused true) × Reached st.slots m.0)
+  asks st m r m' = (m'.1 ≡ m.1) × (r + m'.0.load ≡ 2 ^ 32 + st.slots)
+      × (2 ^ 32 < r → m'.0 ≡ with_ask m.0 Asked m'.0.load) × (r ≤ 2 ^ 32 → m'.0 ≡ with_ask m.0 Refused m'.0.load)
 
   abbrev pub gives_back : Step (Option (ℕ × T)) → Seated T → ℕ → Seated T → Type 0
   gives_back st m r m' = (m'.1 ≡ m.1) × (m'.0 ≡ idle m.0)

@@ -1,27 +1,24 @@
 -- What contracts see of the ends of a queue. A message stands with its sender's index, as a pair of the index and the bytes.
-use Rattle.std.specs.Prelude.{◌≡◌, ℕ, ◌+◌, ◌==◌, ◌<◌, ◌≤◌, if◌then◌else◌, Bool, true, false, ◌⊎◌, List, [], ◌∷◌, ◌++◌, length, map, slice_index_or, Contains, Option, Some, None}
+use Rattle.std.specs.Prelude.{◌≡◌, ℕ, ◌+◌, ◌<◌, ◌≤◌, Bool, true, false, ◌⊎◌, List, [], ◌∷◌, ◌++◌, length, map, get_or, slice_index_or, Contains, Option, Some, None}
 use Rattle.atomic_table.specs.Seated.{TableId}
-use Rattle.subvl_queue.specs.declared.item.Message.{Message}
 use Rattle.subvl_queue.specs.declared.refused.Why.{Why}
 use Rattle.subvl_queue.specs.declared.refused.Why.TheVariants.{Closed, Exhausted, Full}
-use Rattle.subvl_queue.specs.declared.view.View.{View}
 use Rattle.subvl_queue.specs.Messages.{IsMessage, part_of}
-use Rattle.subvl_queue.specs.Bytes.{own_of}
-use Rattle.subvl_queue.specs.Steps.{Reached}
 
 -- which queue an end belongs to; callers only compare names
 abbrev pub QueueName : Type 0
 QueueName = TableId
 
--- A sender: how often it asked, of `calls`, and whether the last ask found no room; how often it glanced, and whether it
--- last found the queue closed; its own messages that were accepted, in order, and their places among all that were.
+-- A sender: how often it asked, of `calls`, and how many messages the queue held and asks were in hand when it last did;
+-- how often it glanced, and whether it last found the queue closed; its own messages that were accepted, in order, and their
+-- places among all that were.
 pub record SenderView : Type 0 where
   pub queue : QueueName
   pub capacity : ℕ
   pub port : ℕ
   pub calls : ℕ
   pub asks : ℕ
-  pub full : Bool
+  pub load : ℕ
   pub glances : ℕ
   pub shut : Bool
   pub own : List (List ℕ)
@@ -59,7 +56,7 @@ new_sender queue capacity calls port = record {
   port = port;
   calls = calls;
   asks = 0;
-  full = false;
+  load = 0;
   glances = 0;
   shut = false;
   own = [];
@@ -83,41 +80,32 @@ new_receiver queue capacity ports = record {
 abbrev pub glanced : SenderView → Bool → SenderView
 glanced s shut = record s { glances = s.glances + 1; shut = shut }
 
--- after an ask, which found no room or some
-abbrev pub asked : SenderView → Bool → SenderView
-asked s full = record s { asks = s.asks + 1; full = full }
+-- after an ask, which found so many messages held and asks in hand
+abbrev pub asked : SenderView → ℕ → SenderView
+asked s load = record s { asks = s.asks + 1; load = load }
 
--- after a message was accepted at this place
-abbrev pub sent : SenderView → ℕ → List ℕ → SenderView
-sent s place bytes = record s {
+-- after an ask that found this load, and a message that was accepted at this place
+abbrev pub sent : SenderView → (load place : ℕ) → List ℕ → SenderView
+sent s load place bytes = record s {
   asks = s.asks + 1;
-  full = false;
+  load = load;
   glances = s.glances + 1;
   shut = false;
   own = s.own ++ bytes ∷ [];
   places = s.places ++ place ∷ [];
 }
 
--- the message was accepted, at the place that was drawn for it
+-- The message was accepted, at the place that was drawn for it. The call's own ask found the queue below its capacity.
 abbrev pub IsPlaced : SenderView → List ℕ → SenderView → Type 0
-IsPlaced s bytes t = (s.asks < s.calls) × ((place : ℕ) × (t ≡ sent s place bytes))
+IsPlaced s bytes t = (s.asks < s.calls) × (t.load < s.capacity) × ((place : ℕ) × (t ≡ sent s t.load place bytes))
 
--- After this sender's glance there was a moment of the queue at which the messages that it held and the asks that were
--- under way were as many as its capacity.
-pub record WasFull (s : SenderView) : Type 0 where
-  pub moment : View Message
-  pub port : moment.port ≡ s.port
-  pub asks : moment.asks ≡ s.asks
-  pub glances : moment.glances ≡ s.glances + 1
-  pub own : own_of moment.own ≡ s.own
-  pub reached : Reached s.capacity moment
-
--- Why a message was refused, and what that leaves of the sender. It is closed where the glance found it closed, or where the
--- place that was drawn came too late.
+-- Why a message was refused, and what that leaves of the sender. The queue is closed where the glance found it closed, or where
+-- the place that was drawn came too late. It is full where the call's own ask found as many messages held and asks in hand as
+-- its capacity.
 abbrev pub IsRefused : SenderView → Why → SenderView → Type 0
-IsRefused s Closed t = (t ≡ glanced s true) ⊎ ((s.asks < s.calls) × (t ≡ asked (glanced s true) false))
+IsRefused s Closed t = (t ≡ glanced s true) ⊎ ((s.asks < s.calls) × (t.load < s.capacity) × (t ≡ asked (glanced s true) t.load))
 IsRefused s Exhausted t = (s.asks ≡ s.calls) × (t ≡ glanced s false)
-IsRefused s Full t = (s.asks < s.calls) × (t ≡ asked (glanced s false) true)
+IsRefused s Full t = (s.asks < s.calls) × (s.capacity ≤ t.load) × (t ≡ asked (glanced s false) t.load)
 
 -- after a look that gave a message
 abbrev pub after_take : ReceiverView → ℕ × List ℕ → ReceiverView
@@ -167,11 +155,12 @@ LacksOne ports senders = (p : ℕ) × (p < ports) × (HasPort senders p → ⊥)
 abbrev pub AreOf : QueueName → List SenderView → Type 0
 AreOf queue senders = (k : ℕ) (d : SenderView) → k < length senders → (slice_index_or senders k d).queue ≡ queue
 
--- the places of the messages of one sender, in a list whose first place is n
-abbrev pub places_from : (n port : ℕ) → List (ℕ × List ℕ) → List ℕ
-places_from n port [] = []
-places_from n port (item ∷ items) =
-    if item.0 == port then n ∷ places_from (n + 1) port items else places_from (n + 1) port items
+-- The messages of a sender stand in a list at these places, which rise.
+pub record StandAt (list : List (ℕ × List ℕ)) (port : ℕ) (own : List (List ℕ)) (places : List ℕ) : Type 0 where
+  pub count : length places ≡ length own
+  pub within : (i : ℕ) → i < length own → get_or places i 0 < length list
+  pub rise : (i j : ℕ) → i < j → j < length own → get_or places i 0 < get_or places j 0
+  pub at : (i : ℕ) → i < length own → get_or list (get_or places i 0) (0, []) ≡ (port, get_or own i [])
 
 -- the sender of this port is back
 abbrev pub IsBack : List Brought → ℕ → Type 0
@@ -186,7 +175,7 @@ AreBack ports back = (p : ℕ) → p < ports → IsBack back p
 pub record IsWhole (ports : ℕ) (back : List Brought) (accepted : List (ℕ × List ℕ)) : Type 0 where
   pub every : AreBack ports back
   pub parts : (b : Brought) → Contains back b → part_of b.port accepted ≡ b.own
-  pub places : (b : Brought) → Contains back b → places_from 0 b.port accepted ≡ b.places
+  pub places : (b : Brought) → Contains back b → StandAt accepted b.port b.own b.places
   pub no_more : (p : ℕ) → ports ≤ p → part_of p accepted ≡ []
 
 -- whether nothing is left; what is left begins with a message

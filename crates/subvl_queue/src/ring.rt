@@ -6,7 +6,7 @@ ghost use Rattle.subvl_queue.specs.declared.view.Role.TheVariants.{Sender, Recei
 ghost use Rattle.subvl_queue.specs.declared.view.Stage.TheVariants.{Idle, Asked, Refused, Drew, Late, Holding};
 ghost use Rattle.subvl_queue.specs.Queue.{IsAtTable, RestsAs};
 ghost use Rattle.subvl_queue.specs.Start.{new_seat};
-ghost use Rattle.subvl_queue.specs.Steps.{Reached, Finds, Misses, IsLog, with_ask, idle, drawn, lated, with_glance, with_total, one_made, with_joined, with_all, freed_of};
+ghost use Rattle.subvl_queue.specs.Steps.{Finds, Misses, IsLog, with_ask, idle, drawn, lated, with_glance, with_total, one_made, with_joined, with_all, freed_of};
 
 use crate::item::Message;
 use crate::rule::{
@@ -50,14 +50,16 @@ pub struct Ring {
 }
 
 impl Ring {
-    /// Asks for room, and says whether there was some.
+    /// Asks for room, and says whether there was some: fewer messages held and asks in hand than the
+    /// capacity.
     pub fn ask(&self, seat: &mut Knowing) -> bool
         requires seat { RestsAs self.now.table.shared.table_id Sender seat.old }
         requires asks { seat.old.me.0.asks < 2 ^ 40 }
         ensures seat { IsAtTable self.now.table.shared.table_id seat.new × (seat.new.me.1 ≡ []) }
-        ensures found { IsTrue result → seat.new.me.0 ≡ with_ask seat.old.me.0 Asked false }
-        ensures none { result ≡ false → seat.new.me.0 ≡ with_ask seat.old.me.0 Refused true }
-        ensures full { result ≡ false → Reached self.now.capacity seat.old.me.0 }
+        ensures found { IsTrue result → seat.new.me.0 ≡ with_ask seat.old.me.0 Asked seat.new.me.0.load }
+        ensures room { IsTrue result → seat.new.me.0.load < self.now.capacity }
+        ensures none { result ≡ false → seat.new.me.0 ≡ with_ask seat.old.me.0 Refused seat.new.me.0.load }
+        ensures full { result ≡ false → self.now.capacity ≤ seat.new.me.0.load }
     {
         self.table.shared.fetch_sub::<Ask>(seat, ROOM, 1) > NO_ROOM
     }

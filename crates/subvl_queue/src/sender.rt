@@ -1,80 +1,59 @@
 //! The sending ends of a queue.
-ghost use Rattle.std.specs.Prelude.{◌≡◌, ◌^◌, ◌<◌, ◌≤◌, [], length, IfOk, IfErr, false};
+ghost use Rattle.std.specs.Prelude.{◌≡◌, ◌%◌, ◌^◌, ◌<◌, ◌≤◌, [], ◌∷◌, length, IfOk, IfErr, None};
 ghost use Rattle.subvl_queue.specs.declared.view.Role.TheVariants.{Sender as AsSender};
-ghost use Rattle.subvl_queue.specs.declared.refused.Why.TheVariants as Whys;
 ghost use Rattle.subvl_queue.specs.Messages.{most_bytes};
 ghost use Rattle.subvl_queue.specs.Queue.{IsAtTable, RestsAs};
 ghost use Rattle.subvl_queue.specs.Start.{new_seat};
-ghost use Rattle.subvl_queue.specs.Steps.{Reached, with_glance};
-ghost use Rattle.subvl_queue.specs.Sends.{accepted_at, RefusedBy};
+ghost use Rattle.subvl_queue.specs.Steps.{drawn};
+ghost use Rattle.subvl_queue.specs.Sends.{asked_with_room, RefusedBy};
 ghost use Rattle.subvl_queue.specs.Bytes.{own_of, places_of};
-ghost use Rattle.subvl_queue.specs.Views.{new_sender, IsPlaced, IsRefused, WasFull};
+ghost use Rattle.subvl_queue.specs.Views.{new_sender, IsPlaced, IsRefused};
 
 use crate::item::Message;
 use crate::refused::{Refused, Why};
-use crate::ring::{CLOSED, Knowing, Ring};
+use crate::ring::{CLOSED, Knowing, Parcel, Ring};
 use std::marker::Model;
 use std::sync::Arc;
 
-// The steps of one send.
+// The steps of one send up to its place: a glance at the close, an ask for room, and a place.
 #[inline(always)]
-fn offer<F: FnOnce()>(
+fn draw_place(
     ring: &Ring,
     seat: &mut Knowing,
-    port: u8,
     asks: &mut u64,
     calls: u64,
-    message: Message,
-    pause: F,
-) -> Result<(), Refused>
-where
-    F: Drop,
+    parcel: &Parcel,
+) -> Result<u64, Why>
     requires seat { RestsAs ring.now.table.shared.table_id AsSender seat.old }
-    requires port { seat.old.me.0.port ≡ port }
+    requires port { parcel.now.0 ≡ seat.old.me.0.port }
     requires asks { seat.old.me.0.asks ≡ asks.old }
     requires calls { (asks.old ≤ calls) × (calls ≤ 2 ^ 40) }
-    requires pause { F.pre pause }
-    ensures seat { IsAtTable ring.now.table.shared.table_id seat.new × (seat.new.me.1 ≡ []) }
+    ensures seat { IsAtTable ring.now.table.shared.table_id seat.new }
     ensures asks { (seat.new.me.0.asks ≡ asks.new) × (asks.new ≤ calls) }
-    ensures ok { IfOk result (λ _. (seat.old.me.0.asks < calls)
-        × ((place : _) × (seat.new.me.0 ≡ accepted_at seat.old.me.0 place message))) }
-    ensures paused { IfOk result (λ _. F.post pause tt) }
-    ensures back { IfErr result (λ e. e.bytes ≡ message.bytes) }
-    ensures refused { IfErr result (λ e. RefusedBy calls seat.old.me.0 seat.new.me.0 e.why) }
-    ensures full { IfErr result
-        (λ e. e.why ≡ Whys.Full → Reached ring.now.capacity (with_glance seat.old.me.0 false)) }
+    ensures room { IfOk result (λ _. (seat.old.me.0.asks < calls) × (seat.new.me.0.load < ring.now.capacity)) }
+    ensures place { IfOk result (λ place. place < 2 ^ 63) }
+    ensures drawn { IfOk result (λ place. seat.new.me ≡
+        (drawn (asked_with_room seat.old.me.0 seat.new.me.0.load) place parcel.now, (place % ring.now.capacity, None) ∷ [])) }
+    ensures free { IfErr result (λ _. seat.new.me.1 ≡ []) }
+    ensures refused { IfErr result (λ why. RefusedBy calls ring.now.capacity seat.old.me.0 seat.new.me.0 why) }
 {
     if ring.glance(seat) {
-        return Err(refused(Why::Closed, message));
+        return Err(Why::Closed);
     }
     if *asks == calls {
-        return Err(refused(Why::Exhausted, message));
+        return Err(Why::Exhausted);
     }
     *asks += 1;
     if !ring.ask(seat) {
         ring.give_back(seat);
-        return Err(refused(Why::Full, message));
+        return Err(Why::Full);
     }
-    let parcel = (port, message);
-    let place = ring.draw(seat, &parcel);
+    let place = ring.draw(seat, parcel);
     if place >= CLOSED {
         ring.give_back(seat);
-        return Err(refused(Why::Closed, parcel.1));
+        return Err(Why::Closed);
     }
-    pause();
-    ring.ready(seat, place, parcel);
-    Ok(())
-}
-
-// The message goes back.
-fn refused(why: Why, message: Message) -> Refused
-    ensures why { result.why ≡ why }
-    ensures bytes { result.bytes ≡ message.bytes }
-{
-    Refused {
-        why,
-        bytes: message.bytes,
-    }
+    Ok(place)
 }
 
 /// A sender of a queue, which may go to a thread of its own. Contracts see its queue and the queue's
@@ -105,7 +84,7 @@ impl Model for Sender {
       port = s.port;
       calls = s.calls;
       asks = s.asks;
-      full = s.seat.me.0.full;
+      load = s.seat.me.0.load;
       glances = s.seat.me.0.glances;
       shut = s.seat.me.0.shut;
       own = own_of s.seat.me.0.own;
@@ -144,7 +123,6 @@ impl Sender {
         ensures ok { IfOk result (λ _. IsPlaced self.old bytes.items self.new) }
         ensures back { IfErr result (λ e. e.bytes.items ≡ bytes.items) }
         ensures refused { IfErr result (λ e. IsRefused self.old e.why self.new) }
-        ensures full { IfErr result (λ e. e.why ≡ Whys.Full → WasFull self.old) }
     {
         self.send_with(bytes, || {})
     }
@@ -162,23 +140,26 @@ impl Sender {
         ensures paused { IfOk result (λ _. F.post pause tt) }
         ensures back { IfErr result (λ e. e.bytes.items ≡ bytes.items) }
         ensures refused { IfErr result (λ e. IsRefused self.old e.why self.new) }
-        ensures full { IfErr result (λ e. e.why ≡ Whys.Full → WasFull self.old) }
     {
-        let message = Message { bytes };
-        let answer = offer(
+        let parcel = (self.port, Message { bytes });
+        match draw_place(
             &self.ring,
             &mut self.seat,
-            self.port,
             &mut self.asks,
             self.calls,
-            message,
-            pause,
-        );
-        if let Err(refused) = answer {
-            return Err(refused);
+            &parcel,
+        ) {
+            Ok(place) => {
+                pause();
+                self.ring.ready(&mut self.seat, place, parcel);
+                self.accepted += 1;
+                Ok(())
+            }
+            Err(why) => Err(Refused {
+                why,
+                bytes: parcel.1.bytes,
+            }),
         }
-        self.accepted += 1;
-        Ok(())
     }
 
     /// Its index among the senders of its queue.

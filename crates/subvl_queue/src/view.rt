@@ -16,7 +16,8 @@ pub enum Stage {
     Holding,
 }
 
-// `own` has each accepted message with its place; `at` and `item` are of the slot in hand.
+// `own` has each accepted message with its place; `load` is how many messages were held and asks in
+// hand when the seat last asked; `at` and `item` are of the slot in hand.
 pub struct View<T> {
     pub role: Role,
     pub port: u64,
@@ -25,7 +26,7 @@ pub struct View<T> {
     pub stage: Stage,
     pub at: u64,
     pub item: Option<(u8, T)>,
-    pub full: bool,
+    pub load: u64,
     pub glances: u64,
     pub shut: bool,
     pub looks: u64,

@@ -78,9 +78,9 @@ unsent_glanced old new shut e s = record {
 }
 
 -- and asked
-unsent_asked : (old new : PortView) (shut full : Bool) → new ≡ record old { sender = new.sender }
-    → new.sender ≡ asked (glanced old.sender shut) full → IsUnsent old new
-unsent_asked old new shut full e s = record {
+unsent_asked : (old new : PortView) (shut : Bool) (load : ℕ) → new ≡ record old { sender = new.sender }
+    → new.sender ≡ asked (glanced old.sender shut) load → IsUnsent old new
+unsent_asked old new shut load e s = record {
   same = same_by old new new.sender e (ap (λ (sender : SenderView). sender.queue) s)
       (ap (λ (sender : SenderView). sender.port) s) (ap (λ (sender : SenderView). sender.calls) s);
   own = ap (λ (sender : SenderView). sender.own) s;
@@ -94,9 +94,9 @@ unsent old new size Why.Empty some r = unsent_same old new r.1
 unsent old new size Why.TooLong some r = unsent_same old new r.1
 unsent old new size Why.Closed some r = ⊎_elim
     (λ (e : new.sender ≡ glanced old.sender true). unsent_glanced old new true r.same e)
-    (λ e. unsent_asked old new true false r.same e.1) r.queue
+    (λ e. unsent_asked old new true new.sender.load r.same e.2) r.queue
 unsent old new size Why.Exhausted some r = absurd (some refl)
-unsent old new size Why.Full some r = unsent_asked old new false true r.0.same r.0.queue.1
+unsent old new size Why.Full some r = unsent_asked old new false new.sender.load r.same r.queue.2
 
 -- the plan of the port at a place
 plan_here : (tx : Tx) (ports : List PortView) (place : ℕ) (d : PortView) → IsAtHand tx ports → place < length ports
@@ -139,7 +139,7 @@ send_taken accepted es tx ports id place d new bytes h found lt may accepts m = 
   matches = record {
     emitter = m.emitter;
     own = subst (λ (more : Messages). HaveSent more (set ports place new)) (sym more_accepted)
-        (have_sent accepted ports place d new bytes lt (ap (λ (s : SenderView). s.own) accepts.0.1.1) m.own);
+        (have_sent accepted ports place d new bytes lt (ap (λ (s : SenderView). s.own) accepts.0.2.1) m.own);
   };
 }
   where
@@ -196,7 +196,7 @@ refusal_passed old new size Why.Empty some r = ap (λ (w : Option SendRefusal). 
 refusal_passed old new size Why.TooLong some r = ap (λ (w : Option SendRefusal). passed_on w fills) (long_refused old.plan size r.0)
 refusal_passed old new size Why.Closed some r = ap (λ (w : Option SendRefusal). passed_on w closes) (may_pass old.plan size r.may)
 refusal_passed old new size Why.Exhausted some r = absurd (some refl)
-refusal_passed old new size Why.Full some r = ap (λ (w : Option SendRefusal). passed_on w fills) (may_pass old.plan size r.0.may)
+refusal_passed old new size Why.Full some r = ap (λ (w : Option SendRefusal). passed_on w fills) (may_pass old.plan size r.may)
 
 -- A message that its port refused.
 send_refused : (accepted : Messages) (es : EndSystem) (tx : Tx) (ports : List PortView) (id place : ℕ) (d new : PortView)
@@ -242,7 +242,7 @@ pub sends_same : (old new : PortView) (bytes : List ℕ) (outcome : Outcome) →
     → IsSamePort old new
 sends_same old new bytes Became.Quiet h = absurd h
 sends_same old new bytes Became.Accepted h =
-    let sender = h.1.0.1.1 in
+    let sender = h.1.0.2.1 in
     same_by old new new.sender h.1.1 (ap (λ (s : SenderView). s.queue) sender) (ap (λ (s : SenderView). s.port) sender)
     (ap (λ (s : SenderView). s.calls) sender)
 sends_same old new bytes (Became.Refused refusal) h = (unsent old new (length bytes) h.why h.some h.refuses).same
@@ -254,7 +254,7 @@ pub sends_asks : (old new : PortView) (bytes : List ℕ) (outcome : Outcome) →
     → new.sender.asks ≤ old.sender.asks + 1
 sends_asks old new bytes Became.Quiet h = absurd h
 sends_asks old new bytes Became.Accepted h =
-    let more : new.sender.asks ≡ old.sender.asks + 1 = ap (λ (s : SenderView). s.asks) h.1.0.1.1 in omega arith
+    let more : new.sender.asks ≡ old.sender.asks + 1 = ap (λ (s : SenderView). s.asks) h.1.0.2.1 in omega arith
 sends_asks old new bytes (Became.Refused refusal) h = (unsent old new (length bytes) h.why h.some h.refuses).asks
 sends_asks old new bytes (Became.Released frames) h = absurd h
 sends_asks old new bytes (Became.Closed total) h = absurd h

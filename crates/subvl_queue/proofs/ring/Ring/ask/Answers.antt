@@ -1,6 +1,5 @@
-use Rattle.std.proofs.Common.{rules, subst}
+use Rattle.std.proofs.Common.{rules, arith}
 use Rattle.std.proofs.lemmas.Bool.{ltb-true, ltb-false}
-use Rattle.subvl_queue.specs.Steps.{Reached}
 use Rattle.subvl_queue.proofs.Moves.{asks_ok}
 use Rattle.subvl_queue.proofs.ring.Ring.ask.Goals as goal
 
@@ -8,10 +7,21 @@ pub fetch_sub-requires : goal.fetch_sub-requires
 fetch_sub-requires c = let seat = c.requires.seat in (search rules, search rules, asks_ok _ _ _ seat.2 seat.3 c.requires.asks)
 
 pub returns-clause-found : goal.returns-clause-found
-returns-clause-found c = λ found. c.fetch_sub.ensures.2.1 (ltb-true _ _ found)
+returns-clause-found c = λ found. c.fetch_sub.ensures.2.2 (ltb-true _ _ found)
+
+pub returns-clause-room : goal.returns-clause-room
+returns-clause-room c = λ found.
+    let over = ltb-true _ _ found in
+    let word = c.fetch_sub.ensures.2.1 in
+    let capacity = c.args.self.now.sized.1 in
+    omega arith
 
 pub returns-clause-none : goal.returns-clause-none
-returns-clause-none c = λ none. (c.fetch_sub.ensures.2.2 (ltb-false _ _ none)).0
+returns-clause-none c = λ none. c.fetch_sub.ensures.2.3 (ltb-false _ _ none)
 
 pub returns-clause-full : goal.returns-clause-full
-returns-clause-full c = λ none. subst (λ n. Reached n c.args.seat.now.me.0) c.args.self.now.sized.1 (c.fetch_sub.ensures.2.2 (ltb-false _ _ none)).1
+returns-clause-full c = λ none.
+    let under = ltb-false _ _ none in
+    let word = c.fetch_sub.ensures.2.1 in
+    let capacity = c.args.self.now.sized.1 in
+    omega arith
