@@ -21,6 +21,7 @@ use afdx_plan::{Config, Networks, VlId};
 use arrayvec::ArrayVec;
 use redundant_mux::{Mux, Network};
 use status_board::{Board, Counts};
+use std::boxed::BoxedSlice;
 use std::marker::Model;
 use std::sync::Wait;
 use vl_link::{Link, Served};
@@ -95,7 +96,7 @@ fn publish_all<R: Wait>(rt: &R, links: &[Link], board: &mut Board)
 #[derive(Drop)]
 pub struct Transmitter<A: Network + Drop, B: Network + Drop> {
     config: Config,
-    links: Vec<Link>,
+    links: BoxedSlice<Link>,
     mux: Mux<A, B>,
     // Where each frame is made.
     frame: Frame,
@@ -104,6 +105,7 @@ pub struct Transmitter<A: Network + Drop, B: Network + Drop> {
 }
 
 impl<A: Network + Drop, B: Network + Drop> Model for Transmitter<A, B> {
+    ghost use Rattle.std.specs.Box.{boxed_slice_items};
     ghost use Rattle.afdx_tx.specs.Emitter.{Tx, IsSound};
     ghost use Rattle.afdx_tx.specs.Publishing.{Reaches};
 
@@ -111,14 +113,14 @@ impl<A: Network + Drop, B: Network + Drop> Model for Transmitter<A, B> {
 
     ghost view = { λ e. record {
       plan = e.config;
-      links = e.links.items;
+      links = boxed_slice_items e.links;
       lines = e.mux;
       moment = e.moment;
       board = e.board;
     } };
 
-    ghost invariant = { λ e. IsSound e.config e.links.items e.mux e.moment
-        × Reaches e.links.items e.board };
+    ghost invariant = { λ e. IsSound e.config (boxed_slice_items e.links) e.mux e.moment
+        × Reaches (boxed_slice_items e.links) e.board };
 }
 
 impl<A: Network + Drop, B: Network + Drop> Transmitter<A, B> {
@@ -160,7 +162,7 @@ impl<A: Network + Drop, B: Network + Drop> Transmitter<A, B> {
     {
         Transmitter {
             config,
-            links,
+            links: links.into_boxed_slice(),
             mux: Mux::new(a, b),
             frame: Frame::new(),
             moment: 0,

@@ -7,6 +7,7 @@ use afdx_frame::{Frame, GREATEST_FRAME};
 use afdx_plan::Networks;
 use redundant_mux::{HandFault, Network, Trail};
 use std::alloc::{AllocError, Global};
+use std::boxed::BoxedSlice;
 use std::marker::Model;
 use std::sync::Arc;
 use std::sync::atomic::{AtomicBool, Ordering};
@@ -26,7 +27,7 @@ pub struct Kept {
 #[derive(Drop)]
 pub struct Outbox {
     // The frame with number n is in slot n modulo 64.
-    slots: Vec<Kept>,
+    slots: BoxedSlice<Kept>,
     count: u64,
     failures: u64,
     fails: Arc<AtomicBool, Global>,
@@ -35,6 +36,7 @@ pub struct Outbox {
 }
 
 impl Model for Outbox {
+    ghost use Rattle.std.specs.Box.{boxed_slice_items};
     ghost use Rattle.redundant_mux.specs.Logged.{entries_of};
     ghost use Rattle.outbox.specs.View.{OutboxView};
     ghost use Rattle.outbox.specs.Last.{KeepsLast};
@@ -46,7 +48,7 @@ impl Model for Outbox {
       failures = o.failures;
     } };
 
-    ghost invariant = { λ o. KeepsLast o.slots.items o.count (entries_of o.trail.logged) };
+    ghost invariant = { λ o. KeepsLast (boxed_slice_items o.slots) o.count (entries_of o.trail.logged) };
 }
 
 /// Slots for 64 frames.
@@ -86,7 +88,7 @@ impl Outbox {
         ensures { IfOk result (λ outbox. outbox ≡ record { handed = []; failures = 0 }) }
     {
         Ok(Outbox {
-            slots: make_slots(alloc)?,
+            slots: make_slots(alloc)?.into_boxed_slice(),
             count: 0,
             failures: 0,
             fails,

@@ -5,22 +5,24 @@ ghost use Rattle.status_board.specs.Views.{published, last_of, with_entry};
 
 use crate::counts::Counts;
 use crate::writer::Writer;
+use std::boxed::BoxedSlice;
 use std::marker::Model;
 use std::sync::Wait;
 
 /// The end of the board that publishes. Contracts see the cell of each link, and its history.
 #[derive(Drop)]
 pub struct Board {
-    pub(crate) links: Vec<Writer>,
+    pub(crate) links: BoxedSlice<Writer>,
 }
 
 impl Model for Board {
     ghost use Rattle.std.specs.Prelude.{List};
+    ghost use Rattle.std.specs.Box.{boxed_slice_items};
     ghost use Rattle.status_board.specs.Views.{Published};
 
     ghost Value = { List Published };
 
-    ghost view = { λ b. b.links.items };
+    ghost view = { λ b. boxed_slice_items b.links };
 }
 
 impl Board {

@@ -4,6 +4,7 @@ ghost use Rattle.status_board.specs.Views.{seen, links_of, IsReading};
 
 use crate::counts::Counts;
 use crate::reader::Reader;
+use std::boxed::BoxedSlice;
 use std::marker::Model;
 use std::sync::Wait;
 
@@ -11,16 +12,17 @@ use std::sync::Wait;
 /// of its history, and how many loads were made.
 #[derive(Drop)]
 pub struct Monitor {
-    pub(crate) links: Vec<Reader>,
+    pub(crate) links: BoxedSlice<Reader>,
 }
 
 impl Model for Monitor {
     ghost use Rattle.std.specs.Prelude.{List};
+    ghost use Rattle.std.specs.Box.{boxed_slice_items};
     ghost use Rattle.status_board.specs.Views.{Watched};
 
     ghost Value = { List Watched };
 
-    ghost view = { λ m. m.links.items };
+    ghost view = { λ m. boxed_slice_items m.links };
 }
 
 impl Monitor {

@@ -25,7 +25,13 @@ pub fn open_board(alloc: Global, links: usize) -> Result<(Board, Monitor), Alloc
         writers.push(writer)?;
         readers.push(reader)?;
     }
-    Ok((Board { links: writers }, Monitor { links: readers }))
+    let board = Board {
+        links: writers.into_boxed_slice(),
+    };
+    let monitor = Monitor {
+        links: readers.into_boxed_slice(),
+    };
+    Ok((board, monitor))
 }
 
 // The two ends of one link's cell.

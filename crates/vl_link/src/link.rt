@@ -20,6 +20,7 @@ use afdx_plan::{LinkPlan, VlId};
 use redundant_mux::{Mux, Network};
 use status_board::Counts;
 use std::alloc::AllocError;
+use std::boxed::BoxedSlice;
 use std::marker::Model;
 use subvl_queue::Sender;
 use vl_shaper::Shaper;
@@ -151,12 +152,13 @@ pub struct Link {
     end_system: u16,
     plan: LinkPlan,
     shaper: Shaper,
-    subs: Vec<Sub>,
+    subs: BoxedSlice<Sub>,
     lost: bool,
     counts: Counts,
 }
 
 impl Model for Link {
+    ghost use Rattle.std.specs.Box.{boxed_slice_items};
     ghost use Rattle.vl_link.specs.Links.{LinkState, IsLinkOfPlan};
 
     ghost Value = { LinkState };
@@ -165,12 +167,12 @@ impl Model for Link {
       end_system = l.end_system;
       plan = l.plan;
       pace = l.shaper;
-      subs = l.subs.items;
+      subs = boxed_slice_items l.subs;
       lost = l.lost;
       counts = l.counts;
     } };
 
-    ghost invariant = { λ l. IsLinkOfPlan l.end_system l.plan l.shaper l.subs.items };
+    ghost invariant = { λ l. IsLinkOfPlan l.end_system l.plan l.shaper (boxed_slice_items l.subs) };
 }
 
 impl Link {
@@ -216,7 +218,7 @@ impl Link {
             end_system,
             plan,
             shaper: Shaper::new(plan.bag, plan.sub_vls),
-            subs,
+            subs: subs.into_boxed_slice(),
             lost: false,
             counts: Counts::ZERO,
         }

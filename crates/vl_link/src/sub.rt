@@ -11,6 +11,7 @@ use crate::sub_vl::SubVl;
 use afdx_frame::{Cut, Frame, Net};
 use afdx_plan::{Networks, PortPlan};
 use std::alloc::AllocError;
+use std::boxed::BoxedSlice;
 use std::marker::Model;
 use subvl_queue::{Item, Receiver, Sender};
 
@@ -20,7 +21,7 @@ use subvl_queue::{Item, Receiver, Sender};
 pub struct Sub {
     of: SubVl,
     // In the order of the configuration; a message's port is an index into them.
-    ports: Vec<PortPlan>,
+    ports: BoxedSlice<PortPlan>,
     sending: Option<Cut>,
     queue: Queue,
     // The place of the next message, modulo 16,384.
@@ -28,6 +29,7 @@ pub struct Sub {
 }
 
 impl Model for Sub {
+    ghost use Rattle.std.specs.Box.{boxed_slice_items};
     ghost use Rattle.vl_link.specs.Links.{Held, left_of};
     ghost use Rattle.vl_link.specs.Subs.{IsSub};
 
@@ -35,12 +37,12 @@ impl Model for Sub {
 
     ghost view = { λ s. record {
       of = s.of;
-      ports = s.ports.items;
+      ports = boxed_slice_items s.ports;
       left = left_of s.of s.sending;
       seen = s.queue;
     } };
 
-    ghost invariant = { λ s. IsSub s.of s.ports.items s.sending s.queue s.place };
+    ghost invariant = { λ s. IsSub s.of (boxed_slice_items s.ports) s.sending s.queue s.place };
 }
 
 impl Sub {
@@ -69,7 +71,7 @@ impl Sub {
     {
         Sub {
             of,
-            ports,
+            ports: ports.into_boxed_slice(),
             sending: None,
             queue: Queue::new(receiver),
             place: 0,

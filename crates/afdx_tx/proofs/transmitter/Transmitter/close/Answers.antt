@@ -12,15 +12,15 @@ use Rattle.afdx_tx.proofs.transmitter.Transmitter.close.Goals as goal
 pub index_mut-requires : goal.index_mut-requires
 index_mut-requires g c =
     let below = c.in-Some.ensures.some.within in
-    omega (arith, count_is c.self.inside.config c.self.inside.links.items c.self.invariant.0.of_plan)
+    omega (arith, count_is c.self.inside.config c.self.inside.links.items.items c.self.invariant.0.of_plan)
 
 pub invariant_of-self : goal.invariant_of-self
 invariant_of-self g c =
-    let links = c.self.inside.links.items in
+    let links = c.self.inside.links.items.items in
     let at = c.in-Some.ensures.some in
-    let within : c.in-Some.place < length c.self.inside.links.items =
-    let below = at.within in omega (arith, count_is c.self.inside.config c.self.inside.links.items c.self.invariant.0.of_plan) in
-    let here : c.index_mut.result.now ≡ link_at c.self.inside.links.items c.in-Some.place =
+    let within : c.in-Some.place < length c.self.inside.links.items.items =
+    let below = at.within in omega (arith, count_is c.self.inside.config c.self.inside.links.items.items c.self.invariant.0.of_plan) in
+    let here : c.index_mut.result.now ≡ link_at c.self.inside.links.items.items c.in-Some.place =
     c.index_mut.ensures.value ∙ get_or_default links c.in-Some.place c.index_mut.result.now no_link within in
     let kept = closed_kept links _ (links_closed links c.in-Some.place c.args.sub c.close.result c.close.new.self
     (subst (λ (l : LinkState). ClosesLink l c.args.sub c.close.result c.close.new.self) here c.close.ensures) within) in (

@@ -15,7 +15,7 @@ use Rattle.afdx_tx.proofs.transmitter.Transmitter.counts.Goals as goal
 abbrev seen : (g : Given.Over) (c : goal.After-counts g) → Tx
 seen g c = record {
   plan = c.self.inside.config;
-  links = c.self.inside.links.items;
+  links = c.self.inside.links.items.items;
   lines = c.self.inside.mux;
   moment = c.self.inside.moment;
   board = c.self.inside.board;
@@ -29,11 +29,11 @@ there g c = named_at c.self.inside.config c.args.vl.0 c.in_ok-place.place (sym c
 found : (g : Given.Over) (c : goal.After-counts g)
     → c.counts.result ≡ counts_in (own_stream c.args.vl.0 c.self.inside.mux.a c.self.inside.mux.b)
 found g c =
-    let links = c.self.inside.links.items in
+    let links = c.self.inside.links.items.items in
     let at = there g c in
-    let within : c.in_ok-place.place < length c.self.inside.links.items =
-    let below = at.within in omega (arith, count_is c.self.inside.config c.self.inside.links.items c.self.invariant.0.of_plan) in
-    let here : c.index.result.now ≡ link_at c.self.inside.links.items c.in_ok-place.place =
+    let within : c.in_ok-place.place < length c.self.inside.links.items.items =
+    let below = at.within in omega (arith, count_is c.self.inside.config c.self.inside.links.items.items c.self.invariant.0.of_plan) in
+    let here : c.index.result.now ≡ link_at c.self.inside.links.items.items c.in_ok-place.place =
     c.index.ensures ∙ get_or_default links c.in_ok-place.place c.index.result.now no_link within in
     c.counts.ensures ∙ ap (λ (l : LinkState). l.counts) here
     ∙ counts_kept (seen g c) c.args.vl.0 c.in_ok-place.place c.self.invariant.0 at

@@ -34,29 +34,29 @@ gather_links-requires-clause-every g c =
 
 -- what gathering did, over the links that it had
 gathers : (g : Given.Over) (c : goal.After-self-1 g)
-    → GathersPorts c.self.inside.config c.self.inside.links.items c.args.ports.items c.gather_links.new.links
+    → GathersPorts c.self.inside.config c.self.inside.links.items.items c.args.ports.items c.gather_links.new.links
 gathers g c = subst (λ (ls : List LinkState). GathersPorts c.self.inside.config ls c.args.ports.items c.gather_links.new.links)
     c.deref_mut.ensures.value c.gather_links.ensures
 
 -- the links that the transmitter then has
 links_are : (g : Given.Over) (c : goal.After-self-1 g)
-    → (with_items c.self.inside.links c.gather_links.new.links).items ≡ c.gather_links.new.links
-links_are g c = with_items_is c.self.inside.links c.gather_links.new.links
+    → (with_items c.self.inside.links.items c.gather_links.new.links).items ≡ c.gather_links.new.links
+links_are g c = with_items_is c.self.inside.links.items c.gather_links.new.links
     (c.gather_links.ensures.gathers.count ∙ c.gather_links.ensures.takes.count ∙ c.deref_mut.ensures.len)
 
 -- the transmitter is as sound as it was
 sound : (g : Given.Over) (c : goal.After-self-1 g)
-    → IsSound c.self.inside.config (with_items c.self.inside.links c.gather_links.new.links).items c.self.inside.mux c.self.inside.moment
+    → IsSound c.self.inside.config (with_items c.self.inside.links.items c.gather_links.new.links).items c.self.inside.mux c.self.inside.moment
 sound g c =
     subst (λ (ls : List LinkState). IsSound c.self.inside.config ls c.self.inside.mux c.self.inside.moment) (sym (links_are g c))
-    (gathers_sound c.self.inside.config c.self.inside.links.items c.args.ports.items c.gather_links.new.links c.self.inside.mux
+    (gathers_sound c.self.inside.config c.self.inside.links.items.items c.args.ports.items c.gather_links.new.links c.self.inside.mux
     c.self.inside.moment (gathers g c) c.self.invariant.0)
 
 pub invariant_of-self : goal.invariant_of-self
 invariant_of-self g c = (
   sound g c,
   subst (λ (ls : List LinkState). Reaches ls c.self.inside.board) (sym (links_are g c))
-      (gathers_reaches c.self.inside.config c.self.inside.links.items c.args.ports.items c.gather_links.new.links c.self.inside.board
+      (gathers_reaches c.self.inside.config c.self.inside.links.items.items c.args.ports.items c.gather_links.new.links c.self.inside.board
       (gathers g c) c.self.invariant.1),
 )
 
@@ -64,7 +64,7 @@ invariant_of-self g c = (
 abbrev was : (g : Given.Over) (c : goal.After-self-1 g) → Tx
 was g c = record {
   plan = c.self.inside.config;
-  links = c.self.inside.links.items;
+  links = c.self.inside.links.items.items;
   lines = c.self.inside.mux;
   moment = c.self.inside.moment;
   board = c.self.inside.board;
@@ -73,7 +73,7 @@ was g c = record {
 abbrev is : (g : Given.Over) (c : goal.After-self-1 g) → Tx
 is g c = record {
   plan = c.self.inside.config;
-  links = (with_items c.self.inside.links c.gather_links.new.links).items;
+  links = (with_items c.self.inside.links.items c.gather_links.new.links).items;
   lines = c.self.inside.mux;
   moment = c.self.inside.moment;
   board = c.self.inside.board;
@@ -85,9 +85,9 @@ returns-clause-gathered g c =
     subst (λ (t : Tx). AreOpenedWith t c.args.ports.items) (sym c.self.view_is) c.requires.opened in
     let every : HasEveryPlace (length c.self.inside.config.ports) c.args.ports.items =
     subst (λ (t : Tx). HasEveryPlace (length t.plan.ports) c.args.ports.items) (sym c.self.view_is) c.requires.every in
-    let done : GathersPorts c.self.inside.config c.self.inside.links.items c.args.ports.items
-    (with_items c.self.inside.links c.gather_links.new.links).items =
-    subst (GathersPorts c.self.inside.config c.self.inside.links.items c.args.ports.items) (sym (links_are g c)) (gathers g c) in
+    let done : GathersPorts c.self.inside.config c.self.inside.links.items.items c.args.ports.items
+    (with_items c.self.inside.links.items c.gather_links.new.links).items =
+    subst (GathersPorts c.self.inside.config c.self.inside.links.items.items c.args.ports.items) (sym (links_are g c)) (gathers g c) in
     let gathered : IsGatheredTx (was g c) c.args.ports.items (is g c) =
     gathers_tx (was g c) (is g c) c.args.ports.items done refl c.self.invariant.0 (sound g c) opened every in
     subst (λ (t : Tx). IsGatheredTx t c.args.ports.items (is g c)) c.self.view_is gathered
@@ -98,15 +98,15 @@ returns-clause-all g c =
 
 pub returns-clause-legal : goal.returns-clause-legal
 returns-clause-legal g c =
-    sound_legal c.self.inside.config (with_items c.self.inside.links c.gather_links.new.links).items c.self.inside.mux
+    sound_legal c.self.inside.config (with_items c.self.inside.links.items c.gather_links.new.links).items c.self.inside.mux
     c.self.inside.moment (sound g c)
 
 pub returns-clause-turns : goal.returns-clause-turns
 returns-clause-turns g c =
-    sound_turns c.self.inside.config (with_items c.self.inside.links c.gather_links.new.links).items c.self.inside.mux
+    sound_turns c.self.inside.config (with_items c.self.inside.links.items c.gather_links.new.links).items c.self.inside.mux
     c.self.inside.moment (sound g c)
 
 pub returns-clause-accepted : goal.returns-clause-accepted
 returns-clause-accepted g c =
-    accepted_allowed c.self.inside.config (with_items c.self.inside.links c.gather_links.new.links).items (sound g c).of_plan
+    accepted_allowed c.self.inside.config (with_items c.self.inside.links.items c.gather_links.new.links).items (sound g c).of_plan
     (sound g c).items

@@ -13,7 +13,7 @@ use Rattle.afdx_tx.proofs.transmitter.Transmitter.is_done.Goals as goal
 pub returns-clause-done : goal.returns-clause-done
 returns-clause-done g c =
     let done = c.all_done.result in
-    let links = c.self.inside.links.items in
+    let links = c.self.inside.links.items.items in
     subst (λ (t : Tx). (done ≡ true → IsAllDone t.plan (accepted_in t.links) (log t.lines))
     × (IsAllDone t.plan (accepted_in t.links) (log t.lines) → done ≡ true)) c.self.view_is
     (all_done done c.self.inside.config links c.self.inside.mux c.self.inside.moment c.self.invariant.0
@@ -23,4 +23,4 @@ returns-clause-done g c =
 pub returns-clause-streams : goal.returns-clause-streams
 returns-clause-streams g c =
     subst (λ (t : Tx). AreOwnStreams t.plan (log t.lines) t.lines.a t.lines.b) c.self.view_is
-    (sound_streams c.self.inside.config c.self.inside.links.items c.self.inside.mux c.self.inside.moment c.self.invariant.0)
+    (sound_streams c.self.inside.config c.self.inside.links.items.items c.self.inside.mux c.self.inside.moment c.self.invariant.0)

@@ -26,26 +26,26 @@ use Rattle.afdx_tx.proofs.transmitter.Transmitter.poll.Goals as goal
 pub serve_all-requires-clause-apart : goal.serve_all-requires-clause-apart
 serve_all-requires-clause-apart g c =
     subst AreApart (sym c.deref_mut.ensures.value)
-    (links_apart c.self.inside.config c.self.inside.links.items c.self.invariant.0.valid c.self.invariant.0.of_plan)
+    (links_apart c.self.inside.config c.self.inside.links.items.items c.self.invariant.0.valid c.self.invariant.0.of_plan)
 
 -- the links that the transmitter then has
 links_are : (g : Given.Over) (c : goal.After-standing g)
-    → (with_items c.self.inside.links c.serve_all.new.links).items ≡ c.serve_all.new.links
-links_are g c = with_items_is c.self.inside.links c.serve_all.new.links
+    → (with_items c.self.inside.links.items c.serve_all.new.links).items ≡ c.serve_all.new.links
+links_are g c = with_items_is c.self.inside.links.items c.serve_all.new.links
     (c.serve_all.ensures.steady.same.count ∙ c.deref_mut.ensures.len)
 
 -- what the turns kept, over the links that it had
 steady : (g : Given.Over) (c : goal.After-standing g)
-    → IsSteady c.args.now c.self.inside.links.items c.serve_all.new.links c.serve_all.new.mux
+    → IsSteady c.args.now c.self.inside.links.items.items c.serve_all.new.links c.serve_all.new.mux
 steady g c = subst (λ (ls : List LinkState). IsSteady c.args.now ls c.serve_all.new.links c.serve_all.new.mux)
     c.deref_mut.ensures.value c.serve_all.ensures.steady
 
 -- the transmitter that a poll leaves is sound
 sound : (g : Given.Over) (c : goal.After-standing g)
-    → IsSound c.self.inside.config (with_items c.self.inside.links c.serve_all.new.links).items c.serve_all.new.mux c.args.now
+    → IsSound c.self.inside.config (with_items c.self.inside.links.items c.serve_all.new.links).items c.serve_all.new.mux c.args.now
 sound g c =
     subst (λ (ls : List LinkState). IsSound c.self.inside.config ls c.serve_all.new.mux c.args.now) (sym (links_are g c))
-    (sound_after c.self.inside.config c.self.inside.links.items c.serve_all.new.links c.serve_all.new.mux c.args.now
+    (sound_after c.self.inside.config c.self.inside.links.items.items c.serve_all.new.links c.serve_all.new.mux c.args.now
     c.self.invariant.0.valid c.self.invariant.0.of_plan (steady g c) c.standing.ensures.mirrored c.serve_all.ensures.whole)
 
 pub invariant_of-self : goal.invariant_of-self
@@ -54,13 +54,13 @@ invariant_of-self g c =
     let kept = steady g c in (
       sound g c,
       subst (λ (ls : List LinkState). Reaches ls c.self.inside.board) (sym (links_are g c))
-          (reaches_on c.self.inside.links.items c.serve_all.new.links c.self.inside.board (log c.self.inside.mux) told.entries
+          (reaches_on c.self.inside.links.items.items c.serve_all.new.links c.self.inside.board (log c.self.inside.mux) told.entries
           (log c.serve_all.new.mux) kept.same told.grown c.self.invariant.0.kept kept.kept c.self.invariant.1),
     )
 
 pub returns-clause-legal : goal.returns-clause-legal
 returns-clause-legal g c =
-    sound_legal c.self.inside.config (with_items c.self.inside.links c.serve_all.new.links).items c.serve_all.new.mux c.args.now
+    sound_legal c.self.inside.config (with_items c.self.inside.links.items c.serve_all.new.links).items c.serve_all.new.mux c.args.now
     (sound g c)
 
 pub serve_all-requires-clause-items : goal.serve_all-requires-clause-items
@@ -68,33 +68,33 @@ serve_all-requires-clause-items g c = subst HaveOwnItems (sym c.deref_mut.ensure
 
 pub returns-clause-turns : goal.returns-clause-turns
 returns-clause-turns g c =
-    sound_turns c.self.inside.config (with_items c.self.inside.links c.serve_all.new.links).items c.serve_all.new.mux c.args.now
+    sound_turns c.self.inside.config (with_items c.self.inside.links.items c.serve_all.new.links).items c.serve_all.new.mux c.args.now
     (sound g c)
 
 pub returns-then-not-stands_for-clause-turns : goal.returns-then-not-stands_for-clause-turns
 returns-then-not-stands_for-clause-turns g c =
     subst (λ (t : Tx). TakeTurns t.plan t.lines.a t.lines.b) c.self.view_is
-    (sound_turns c.self.inside.config c.self.inside.links.items c.self.inside.mux c.self.inside.moment c.self.invariant.0)
+    (sound_turns c.self.inside.config c.self.inside.links.items.items c.self.inside.mux c.self.inside.moment c.self.invariant.0)
 
 pub returns-clause-taken : goal.returns-clause-taken
 returns-clause-taken g c =
-    taken_allowed c.self.inside.config (with_items c.self.inside.links c.serve_all.new.links).items (sound g c).of_plan
+    taken_allowed c.self.inside.config (with_items c.self.inside.links.items c.serve_all.new.links).items (sound g c).of_plan
     (sound g c).items
 
 pub returns-clause-accepted : goal.returns-clause-accepted
 returns-clause-accepted g c =
-    accepted_allowed c.self.inside.config (with_items c.self.inside.links c.serve_all.new.links).items (sound g c).of_plan
+    accepted_allowed c.self.inside.config (with_items c.self.inside.links.items c.serve_all.new.links).items (sound g c).of_plan
     (sound g c).items
 
 pub returns-then-not-stands_for-clause-taken : goal.returns-then-not-stands_for-clause-taken
 returns-then-not-stands_for-clause-taken g c =
     subst (λ (t : Tx). AreAllowed t.plan (taken_in t.links)) c.self.view_is
-    (taken_allowed c.self.inside.config c.self.inside.links.items c.self.invariant.0.of_plan c.self.invariant.0.items)
+    (taken_allowed c.self.inside.config c.self.inside.links.items.items c.self.invariant.0.of_plan c.self.invariant.0.items)
 
 pub returns-then-not-stands_for-clause-accepted : goal.returns-then-not-stands_for-clause-accepted
 returns-then-not-stands_for-clause-accepted g c =
     subst (λ (t : Tx). AreAllowed t.plan (accepted_in t.links)) c.self.view_is
-    (accepted_allowed c.self.inside.config c.self.inside.links.items c.self.invariant.0.of_plan c.self.invariant.0.items)
+    (accepted_allowed c.self.inside.config c.self.inside.links.items.items c.self.invariant.0.of_plan c.self.invariant.0.items)
 
 pub returns-clause-tied : goal.returns-clause-tied
 returns-clause-tied g c = λ k lt whole. ((sound g c).kept k lt).tied whole
@@ -102,13 +102,13 @@ returns-clause-tied g c = λ k lt whole. ((sound g c).kept k lt).tied whole
 pub returns-then-not-stands_for-clause-legal : goal.returns-then-not-stands_for-clause-legal
 returns-then-not-stands_for-clause-legal g c =
     subst (λ (t : Tx). IsLegal t.plan (taken_in t.links) t.lines.a t.lines.b) c.self.view_is
-    (sound_legal c.self.inside.config c.self.inside.links.items c.self.inside.mux c.self.inside.moment c.self.invariant.0)
+    (sound_legal c.self.inside.config c.self.inside.links.items.items c.self.inside.mux c.self.inside.moment c.self.invariant.0)
 
 pub returns-clause-run : goal.returns-clause-run
 returns-clause-run g c =
-    subst (λ (t : Tx). IsRun c.args.now t.links (with_items c.self.inside.links c.serve_all.new.links).items t.lines
+    subst (λ (t : Tx). IsRun c.args.now t.links (with_items c.self.inside.links.items c.serve_all.new.links).items t.lines
     c.serve_all.new.mux) c.self.view_is
-    (subst (λ (ls : List LinkState). IsRun c.args.now c.self.inside.links.items ls c.self.inside.mux c.serve_all.new.mux)
+    (subst (λ (ls : List LinkState). IsRun c.args.now c.self.inside.links.items.items ls c.self.inside.mux c.serve_all.new.mux)
     (sym (links_are g c))
     (subst (λ (ls : List LinkState). IsRun c.args.now ls c.serve_all.new.links c.self.inside.mux c.serve_all.new.mux)
     c.deref_mut.ensures.value c.serve_all.ensures.run))
@@ -125,13 +125,13 @@ serve_all-requires-clause-carried g c =
 
 pub returns-clause-streams : goal.returns-clause-streams
 returns-clause-streams g c =
-    sound_streams c.self.inside.config (with_items c.self.inside.links c.serve_all.new.links).items c.serve_all.new.mux c.args.now
+    sound_streams c.self.inside.config (with_items c.self.inside.links.items c.serve_all.new.links).items c.serve_all.new.mux c.args.now
     (sound g c)
 
 pub returns-then-not-stands_for-clause-streams : goal.returns-then-not-stands_for-clause-streams
 returns-then-not-stands_for-clause-streams g c =
     subst (λ (t : Tx). AreOwnStreams t.plan (log t.lines) t.lines.a t.lines.b) c.self.view_is
-    (sound_streams c.self.inside.config c.self.inside.links.items c.self.inside.mux c.self.inside.moment c.self.invariant.0)
+    (sound_streams c.self.inside.config c.self.inside.links.items.items c.self.inside.mux c.self.inside.moment c.self.invariant.0)
 
 pub returns-clause-both_down : goal.returns-clause-both_down
 returns-clause-both_down g c =

@@ -30,14 +30,14 @@ returns g c =
     let inside = c.self.inside in
     subst (λ (t : Tx). Publishes t (record {
       plan = c.self.inside.config;
-      links = c.self.inside.links.items;
+      links = c.self.inside.links.items.items;
       lines = c.self.inside.mux;
       moment = c.self.inside.moment;
       board = c.publish_all.new.board;
     })) c.self.view_is
     (publishes (record {
       plan = inside.config;
-      links = inside.links.items;
+      links = inside.links.items.items;
       lines = inside.mux;
       moment = inside.moment;
       board = inside.board;

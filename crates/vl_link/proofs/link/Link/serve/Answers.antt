@@ -11,12 +11,12 @@ use Rattle.vl_link.proofs.link.Link.serve.Goals.{then-self, else-self}
 
 pub returns-clause-serves : goal.returns-clause-serves
 returns-clause-serves g c =
-    let news : List Held = (with_items c.self.inside.subs c.serve_due-did.new.subs).items in
-    let is : (with_items c.self.inside.subs c.serve_due-did.new.subs).items ≡ c.serve_due-did.new.subs =
-    with_items_is c.self.inside.subs c.serve_due-did.new.subs (c.serve_due-did.auto.subs ∙ c.deref_mut.ensures.len) in
+    let news : List Held = (with_items c.self.inside.subs.items c.serve_due-did.new.subs).items in
+    let is : (with_items c.self.inside.subs.items c.serve_due-did.new.subs).items ≡ c.serve_due-did.new.subs =
+    with_items_is c.self.inside.subs.items c.serve_due-did.new.subs (c.serve_due-did.auto.subs ∙ c.deref_mut.ensures.len) in
     subst (λ (l : LinkState). Serves c.args.now l.plan l.pace l.subs news c.args.mux.now c.serve_due-did.new.mux c.serve_due-did.result)
     c.self.view_is
-    (subst (λ (xs : List Held). Serves c.args.now c.self.inside.plan c.self.inside.shaper c.self.inside.subs.items xs
+    (subst (λ (xs : List Held). Serves c.args.now c.self.inside.plan c.self.inside.shaper c.self.inside.subs.items.items xs
     c.args.mux.now c.serve_due-did.new.mux c.serve_due-did.result) (sym is)
     (subst (λ (xs : List Held). Serves c.args.now c.self.inside.plan c.self.inside.shaper xs c.serve_due-did.new.subs
     c.args.mux.now c.serve_due-did.new.mux c.serve_due-did.result) c.deref_mut.ensures.value c.serve_due-did.ensures.serves))
@@ -52,8 +52,8 @@ link_is old inside new is same = subst (λ (l : LinkState). IsSameLink l new) is
 
 pub returns-clause-same : goal.returns-clause-same
 returns-clause-same g c =
-    let is : (with_items c.self.inside.subs c.serve_due-did.new.subs).items ≡ c.serve_due-did.new.subs =
-    with_items_is c.self.inside.subs c.serve_due-did.new.subs (c.serve_due-did.auto.subs ∙ c.deref_mut.ensures.len) in
+    let is : (with_items c.self.inside.subs.items c.serve_due-did.new.subs).items ≡ c.serve_due-did.new.subs =
+    with_items_is c.self.inside.subs.items c.serve_due-did.new.subs (c.serve_due-did.auto.subs ∙ c.deref_mut.ensures.len) in
     let did = c.serve_due-did.ensures in
     link_is _ _ _ c.self.view_is (record {
       end_system = refl;
@@ -61,6 +61,6 @@ returns-clause-same g c =
       gap = did.gap;
       sub_vls = did.sub_vls;
       count = ap length is ∙ c.serve_due-did.auto.subs ∙ ap length c.deref_mut.ensures.value;
-      subs = subst (λ (xs : List Held). AreSameSubs c.self.inside.subs.items xs) (sym is)
+      subs = subst (λ (xs : List Held). AreSameSubs c.self.inside.subs.items.items xs) (sym is)
           (subst (λ (xs : List Held). AreSameSubs xs c.serve_due-did.new.subs) c.deref_mut.ensures.value did.same);
     })

@@ -17,7 +17,7 @@ use Rattle.vl_link.proofs.SubKept.{kept_nothing, kept_finds}
 use Rattle.vl_link.proofs.sub.Sub.ready.Goals as goal
 
 -- the message's port is one of the sub-VL's
-has_port : (c : goal.After-self-in-Some-1) → c.from.result < length c.self.inside.ports.items
+has_port : (c : goal.After-self-in-Some-1) → c.from.result < length c.self.inside.ports.items.items
 has_port c =
     let bytes : (c.item.inside.port, c.item.inside.bytes.items) ≡ c.in-Some.item = c.item.view_is in
     let place : c.from.result ≡ c.in-Some.item.0 = c.from.ensures ∙ ap (λ (i : ℕ × List ℕ). i.0) bytes in
@@ -36,16 +36,16 @@ own c =
 
 -- the message that was cut is the one that was found
 cut_is : (c : goal.After-self-in-Some-1)
-    → record { port = c.index.result.now; bytes = c.item.inside.bytes.items } ≡ sent_of c.self.inside.ports.items c.in-Some.item
+    → record { port = c.index.result.now; bytes = c.item.inside.bytes.items } ≡ sent_of c.self.inside.ports.items.items c.in-Some.item
 cut_is c =
     let bytes : (c.item.inside.port, c.item.inside.bytes.items) ≡ c.in-Some.item = c.item.view_is in
     let place : c.from.result ≡ c.in-Some.item.0 = c.from.ensures ∙ ap (λ (i : ℕ × List ℕ). i.0) bytes in
-    let within : c.from.result < length c.self.inside.ports.items = has_port c in
-    let sender : c.index.result.now ≡ port_plan_at c.self.inside.ports.items c.from.result =
-    get_or_read c.self.inside.ports.items c.from.result c.index.result.now within c.index.ensures (port_plan_at [] 0) in
+    let within : c.from.result < length c.self.inside.ports.items.items = has_port c in
+    let sender : c.index.result.now ≡ port_plan_at c.self.inside.ports.items.items c.from.result =
+    get_or_read c.self.inside.ports.items.items c.from.result c.index.result.now within c.index.ensures (port_plan_at [] 0) in
     ap (λ (p : PortPlan). record { port = p; bytes = c.item.inside.bytes.items })
-    (sender ∙ ap (port_plan_at c.self.inside.ports.items) place)
-    ∙ ap (λ (i : ℕ × List ℕ). record { port = port_plan_at c.self.inside.ports.items c.in-Some.item.0; bytes = i.1 }) bytes
+    (sender ∙ ap (port_plan_at c.self.inside.ports.items.items) place)
+    ∙ ap (λ (i : ℕ × List ℕ). record { port = port_plan_at c.self.inside.ports.items.items c.in-Some.item.0; bytes = i.1 }) bytes
 
 -- no message was being sent
 is_whole : (of : SubVl) (sending : Option Cutting) (cutting : Bool)
@@ -56,13 +56,13 @@ pub returns-in-Some : goal.returns-in-Some
 returns-in-Some c =
     let of = c.self.inside.of in
     let left : left_of c.self.inside.of (Some c.new.result)
-    ≡ message_fragments c.self.inside.of (length (taken_of c.self.inside.queue)) (sent_of c.self.inside.ports.items c.in-Some.item) =
+    ≡ message_fragments c.self.inside.of (length (taken_of c.self.inside.queue)) (sent_of c.self.inside.ports.items.items c.in-Some.item) =
     c.new.ensures.fragments of.end_system (room_of of.link.lmax) A
     ∙ ap (λ (place : ℕ). message_fragments c.self.inside.of place
     (record { port = c.index.result.now; bytes = c.item.inside.bytes.items })) (c.from-in-Some.ensures ∙ c.self.invariant.place)
     ∙ ap (message_fragments c.self.inside.of (length (taken_of c.self.inside.queue) % 16384)) (cut_is c)
     ∙ fragments_again of.end_system (room_of of.link.lmax) A (length (taken_of c.self.inside.queue))
-    (sent_of c.self.inside.ports.items c.in-Some.item) in
+    (sent_of c.self.inside.ports.items.items c.in-Some.item) in
     rw (← c.self.view_is) (inr (record {
       message = c.in-Some.item;
       item = item_of_more _ _ c.in-Some.item c.self.invariant.count c.in-Some.ensures.item;
@@ -70,7 +70,7 @@ returns-in-Some c =
       finds = c.in-Some.ensures.some;
       left = left;
       some = λ none. fragments_some c.self.inside.of (length (taken_of c.self.inside.queue))
-          (sent_of c.self.inside.ports.items c.in-Some.item) (sym left ∙ none);
+          (sent_of c.self.inside.ports.items.items c.in-Some.item) (sym left ∙ none);
       of = refl;
       ports = refl;
     }))
