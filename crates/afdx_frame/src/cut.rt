@@ -1,5 +1,5 @@
 //! A message that is cut into frames, one piece per call.
-ghost use Rattle.std.specs.Prelude.{◌≡◌, ℕ, ◌+◌, ◌≤◌, ◌<◌, ◌-◌, ◌↔◌, length, [], ◌∷◌, List, IsTrue, true, false, MatchOption, vec_len};
+ghost use Rattle.std.specs.Prelude.{◌≡◌, ℕ, ◌+◌, ◌≤◌, ◌<◌, ◌-◌, ◌↔◌, length, [], ◌∷◌, List, IsTrue, true, false, MatchOption, vec_len, vec_capacity};
 ghost use Rattle.afdx_plan.specs.Plan.{IsPort, SendsOver};
 ghost use Rattle.afdx_plan.specs.Room.{room_of};
 ghost use Rattle.afdx_frame.specs.Frame.{frame_of};
@@ -17,7 +17,8 @@ use arrayvec::ArrayVec;
 use std::marker::Model;
 
 /// A message of a port at a place of its sub-VL, which is given frame by frame: the datagram's
-/// bytes before `start` were given. Its calls' bodies ask for no memory beyond the message.
+/// bytes before `start` were given. Its calls' bodies ask for no memory beyond the message, and the
+/// message's list doesn't grow.
 #[derive(Drop)]
 pub struct Cut {
     bytes: Vec<u8>,
@@ -27,6 +28,7 @@ pub struct Cut {
 }
 
 impl Model for Cut {
+    ghost use Rattle.std.specs.Prelude.{vec_capacity};
     ghost use Rattle.afdx_frame.specs.Cutting.{Cutting, IsCut};
 
     ghost Value = { Cutting };
@@ -35,6 +37,7 @@ impl Model for Cut {
       port = c.port;
       place = c.place;
       bytes = c.bytes.items;
+      capacity = vec_capacity c.bytes;
       start = c.start;
     } };
 
@@ -79,6 +82,7 @@ impl Cut {
         ensures message { (result.port ≡ port.now)
             × (result.place ≡ place)
             × (result.bytes ≡ bytes.items) }
+        ensures memory { result.capacity ≡ vec_capacity bytes }
         ensures pieces { (room : ℕ) →
             pieces_left room result ≡ pieces_from 0 (cutting room (8 + length bytes.items)) }
         ensures fragments { (end_system room : ℕ) (net : Network) →
@@ -119,6 +123,7 @@ impl Cut {
             result
             (pieces_left (room_of link.now.lmax) self.new) }
         ensures same { SameMessage self.old self.new }
+        ensures memory { self.new.capacity ≡ self.old.capacity }
         ensures fragments { MatchOption result
             (fragments_left end_system (room_of link.now.lmax) net self.old ≡ [])
             (λ frame. fragments_left end_system (room_of link.now.lmax) net self.old
@@ -151,6 +156,7 @@ impl Cut {
             (written result out.new)
             (pieces_left (room_of link.now.lmax) self.new) }
         ensures same { SameMessage self.old self.new }
+        ensures memory { self.new.capacity ≡ self.old.capacity }
         ensures fragments { MatchOption (written result out.new)
             (fragments_left end_system (room_of link.now.lmax) net self.old ≡ [])
             (λ frame. fragments_left end_system (room_of link.now.lmax) net self.old

@@ -1,4 +1,4 @@
-use Rattle.std.proofs.Common.{◌≡◌, ℕ, ◌+◌, ◌≤◌, List, length, arith, refl, ap, subst, ◌∙◌, rules}
+use Rattle.std.proofs.Common.{◌≡◌, ℕ, ◌+◌, ◌≤◌, List, length, arith, refl, ap, subst, ◌∙◌, rules, vec_capacity}
 use Rattle.afdx_plan.specs.Room.{room_of}
 use Rattle.afdx_frame.specs.declared.piece.Piece.{Piece}
 use Rattle.afdx_frame.specs.Frame.{frame_of}
@@ -17,8 +17,8 @@ frame_none c =
       port = c.self.inside.port;
       place = c.self.inside.place;
       bytes = c.self.inside.bytes.items;
-      start =
-          c.self.inside.start;
+      capacity = vec_capacity c.self.inside.bytes;
+      start = c.self.inside.start;
     }) (grind arith) in
     takes_none _ _ _ none none)
 
@@ -29,6 +29,7 @@ frame_some c =
     let port = c.self.inside.port in
     let place = c.self.inside.place in
     let start = c.self.inside.start in
+    let capacity = vec_capacity c.self.inside.bytes in
     let size : c.len.result ≡ length bytes = grind arith in
     let first : c.in-Some.piece ≡ piece_at room (8 + length bytes) start =
     c.in-Some.ensures.1 ∙ ap (λ (n : ℕ). piece_at n (8 + c.len.result) start) c.room-room.ensures.value
@@ -38,10 +39,10 @@ frame_some c =
     ∙ ap (λ (p : Piece). frame_of c.args.end_system port bytes place p c.args.net c.args.number) first in
     rw (← c.self.view_is) (
     takes_one _ _ _ _ _ _
-    (left_first room (record { port = port; place = place; bytes = bytes; start = start }) (omega arith)
+    (left_first room (record { port = port; place = place; bytes = bytes; capacity = capacity; start = start }) (omega arith)
     (omega (arith, c.in-Some.ensures.0)))
     frame
-    (ap (λ (p : Piece). pieces_left room (record { port = port; place = place; bytes = bytes; start = start + p.len })) first))
+    (ap (λ (p : Piece). pieces_left room (record { port = port; place = place; bytes = bytes; capacity = capacity; start = start + p.len })) first))
 
 pub returns-in_default-clause-frame : goal.returns-in_default-clause-frame
 returns-in_default-clause-frame c = frame_none c
