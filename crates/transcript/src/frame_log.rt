@@ -1,5 +1,5 @@
 //! A network that keeps what it is handed.
-ghost use Rattle.std.specs.Prelude.{◌≡◌, ◌+◌, ◌^◌, ◌<◌, ◌≤◌, [], ◌∷◌, ◌++◌, true, false, length, OnOk, OnErr};
+ghost use Rattle.std.specs.Prelude.{◌≡◌, ◌+◌, ◌^◌, ◌<◌, ◌≤◌, [], ◌∷◌, ◌++◌, true, false, length, OnOk, OnErr, vec_capacity};
 ghost use Rattle.std.specs.Io.KnownBytes.{Appends};
 ghost use Rattle.redundant_mux.specs.Entry.{entry};
 ghost use Rattle.transcript.specs.FrameLog.{AreInLog, spelled};
@@ -21,7 +21,7 @@ pub struct Mark {
 }
 
 /// A network that keeps what it is handed: the bytes of all frames one after the other. Contracts
-/// see what was handed to it, and its failures.
+/// see what was handed to it, for how many frames and bytes it has memory, and its failures.
 #[derive(Drop)]
 pub struct FrameLog {
     marks: Vec<Mark>,
@@ -30,12 +30,15 @@ pub struct FrameLog {
 }
 
 impl Model for FrameLog {
+    ghost use Rattle.std.specs.Prelude.{vec_capacity};
     ghost use Rattle.transcript.specs.FrameLog.{FrameLog, AreInLog, spelled};
 
     ghost Value = { FrameLog };
 
     ghost view = { λ l. record {
       handed = spelled l.marks.items l.bytes.items;
+      frames_capacity = vec_capacity l.marks;
+      bytes_capacity = vec_capacity l.bytes;
       failures = l.failures;
     } };
 
@@ -45,7 +48,12 @@ impl Model for FrameLog {
 impl FrameLog {
     /// A network that was handed nothing. A hand fails only where memory was refused.
     pub fn new(alloc: Global) -> FrameLog
-        ensures { result ≡ record { handed = []; failures = 0 } }
+        ensures { result ≡ record {
+          handed = [];
+          frames_capacity = 0;
+          bytes_capacity = 0;
+          failures = 0;
+        } }
     {
         FrameLog {
             marks: Vec::new(alloc),
@@ -71,14 +79,15 @@ impl FrameLog {
 }
 
 impl Network for FrameLog {
-    ghost use Rattle.transcript.specs.FrameLog.{FrameLog};
+    ghost use Rattle.transcript.specs.FrameLog.{FrameLog, LacksRoom};
 
     ghost handed = { λ l. l.handed };
 
     ghost failures = { λ l. l.failures };
 
-    /// Keeps the frame and its moment at the end. A hand for which memory is refused fails: what was
-    /// handed over is as it was, the failure is counted, and the next hand is tried like any other.
+    /// Keeps the frame and its moment at the end. A hand for which memory is refused fails, and no
+    /// other: what was handed over is as it was, the failure is counted, and the next hand is tried like
+    /// any other.
     fn hand(&mut self, at: u64, frame: &[u8]) -> Result<(), HandFault>
         requires short { length frame.now ≤ GREATEST_FRAME }
         requires few { self.old.failures + 1 < 2 ^ 64 }
@@ -86,6 +95,10 @@ impl Network for FrameLog {
         ensures ok_failures { OnOk result (self.new.failures ≡ self.old.failures) }
         ensures err { OnErr result (self.new.handed ≡ self.old.handed) }
         ensures err_failures { OnErr result (self.new.failures ≡ self.old.failures + 1) }
+
+        ensures only { OnErr result (LacksRoom self.old (length frame.now)) }
+        ensures frames_capacity { self.old.frames_capacity ≤ self.new.frames_capacity }
+        ensures bytes_capacity { self.old.bytes_capacity ≤ self.new.bytes_capacity }
     {
         if !keep(&mut self.marks, &mut self.bytes, at, frame) {
             self.failures += 1;
@@ -103,6 +116,10 @@ fn keep(marks: &mut Vec<Mark>, bytes: &mut Vec<u8>, at: u64, frame: &[u8]) -> bo
         ≡ spelled marks.old.items bytes.old.items ++ entry at frame.now ∷ [] }
     ensures same { result ≡ false →
         spelled marks.new.items bytes.new.items ≡ spelled marks.old.items bytes.old.items }
+    ensures full { result ≡ false → length marks.old.items < vec_capacity marks.old →
+        vec_capacity bytes.old < length bytes.old.items + length frame.now }
+    ensures marks_capacity { vec_capacity marks.old ≤ vec_capacity marks.new }
+    ensures bytes_capacity { vec_capacity bytes.old ≤ vec_capacity bytes.new }
     ensures after { AreInLog marks.new.items bytes.new.items }
 {
     let end = bytes.len();
