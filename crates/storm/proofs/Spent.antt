@@ -1,5 +1,5 @@
 -- The ports of an emitter, once each of them sent its messages.
-use Rattle.std.proofs.Common.{◌≡◌, ◌∙◌, ℕ, zero, suc, ◌+◌, ◌*◌, ◌<◌, List, [], ◌∷◌, ◌++◌, length, map, get_or, Option, Some, refl, ap, sym, subst, arith}
+use Rattle.std.proofs.Common.{◌≡◌, ◌∙◌, ℕ, zero, suc, ◌+◌, ◌*◌, ◌<◌, ◌≤◌, List, [], ◌∷◌, ◌++◌, length, map, get_or, Option, Some, refl, ap, sym, subst, arith}
 use Rattle.std.specs.List.{sum_by}
 use Rattle.std.proofs.lemmas.List.{get_or-map, length-map, length-append}
 use Rattle.std.proofs.lemmas.List.Elements.{Contains-get_or}
@@ -9,7 +9,7 @@ use Rattle.subvl_queue.specs.Views.{QueueName, SenderView}
 use Rattle.afdx_tx.specs.Emitter.{Tx, queues_in}
 use Rattle.afdx_tx.specs.Ports.{PortView, BelongsTo, AreOpenedWith, AreFreshPorts, HasEveryPlace, index_of, queue_for}
 use Rattle.storm.specs.Messages.{message, messages_to, own_messages}
-use Rattle.storm.specs.Workers.{Named, named, sent_all, IsSpent, AreSpent}
+use Rattle.storm.specs.Workers.{Named, named, sent_all, asked_by, asked_after, AreAtMost, IsSpent, AreSpent}
 
 -- a port that is the same but for its own messages belongs to the same configuration and queues
 same_port : (config : Plan) (queues : List (List (Option QueueName))) (old new : PortView) → new.place ≡ old.place → new.plan ≡ old.plan
@@ -22,10 +22,10 @@ same_port config queues old new place plan queue index own = record {
 }
 
 -- a fresh port that sent its messages
-spent_port : (old new : Tx) (n k : ℕ) (before after : PortView) → new.plan ≡ old.plan → queues_in new.links ≡ queues_in old.links
+spent_port : (old new : Tx) (n turns k : ℕ) (before after : PortView) → new.plan ≡ old.plan → queues_in new.links ≡ queues_in old.links
     → before.place ≡ k → before.plan ≡ port_plan_at old.plan.ports k → before.sender.own ≡ [] → BelongsTo old.plan (queues_in old.links) before
-    → named after ≡ sent_all n before → IsSpent new n k after
-spent_port old new n k before after plan queues place at own of e =
+    → named after ≡ sent_all n before → after.sender.asks ≤ turns → IsSpent new n turns k after
+spent_port old new n turns k before after plan queues place at own of e asks =
     let same : BelongsTo old.plan (queues_in old.links) after =
     same_port old.plan (queues_in old.links) before after (ap (λ (x : Named). x.place) e) (ap (λ (x : Named). x.plan) e)
     (ap (λ (x : Named). x.queue) e) (ap (λ (x : Named). x.index) e) of in
@@ -35,12 +35,27 @@ spent_port old new n k before after plan queues place at own of e =
       of = subst (λ (p : Plan). BelongsTo p (queues_in new.links) after) (sym plan) (subst (λ q. BelongsTo old.plan q after) (sym queues) same);
       at = ap (λ (x : Named). x.place) e ∙ place;
       own = subst (λ (p : Plan). after.sender.own ≡ own_messages p n k) (sym plan) messages;
+      asks = asks;
     }
 
+-- a port that asked at most once for each of its turns, since it was fresh
+asks_at : (before after : List PortView) (turns k : ℕ) (d : PortView) → length after ≡ length before → k < length after
+    → (get_or before k d).sender.asks ≡ 0 → AreAtMost (map asked_by after) (map (asked_after turns) before)
+    → (get_or after k d).sender.asks ≤ turns
+asks_at before after turns k d many lt none most =
+    let below : k < length before = omega arith in
+    let here : k < length (map asked_by after) = omega (arith, length-map after asked_by) in
+    let own : get_or (map asked_by after) k 0 ≡ (get_or after k d).sender.asks = get_or-map asked_by after k d 0 lt in
+    let old : get_or (map (asked_after turns) before) k 0 ≡ (get_or before k d).sender.asks + turns =
+    get_or-map (asked_after turns) before k d 0 below in
+    omega (arith, most k here, own, old)
+
 -- once each port of a fresh emitter sent its messages
-pub spent : (old new : Tx) (n : ℕ) (before after : List PortView) → new.plan ≡ old.plan → queues_in new.links ≡ queues_in old.links
-    → AreFreshPorts old before → AreOpenedWith old before → map named after ≡ map (sent_all n) before → AreSpent new n after
-spent old new n before after plan queues fresh opened same =
+pub spent : (old new : Tx) (n turns : ℕ) (before after : List PortView) → new.plan ≡ old.plan
+    → queues_in new.links ≡ queues_in old.links → AreFreshPorts old before → AreOpenedWith old before
+    → map named after ≡ map (sent_all n) before → AreAtMost (map asked_by after) (map (asked_after turns) before)
+    → AreSpent new n turns after
+spent old new n turns before after plan queues fresh opened same most =
     let many : length after ≡ length before = sym (length-map after named) ∙ ap length same ∙ length-map before (sent_all n) in
     record {
       count = many ∙ fresh.count ∙ ap (λ (p : Plan). length p.ports) (sym plan);
@@ -50,14 +65,15 @@ spent old new n before after plan queues fresh opened same =
           let e : named (get_or after k d) ≡ sent_all n (get_or before k d) =
           sym (get_or-map named after k d (named d) lt) ∙ ap (λ l. get_or l k (named d)) same
           ∙ get_or-map (sent_all n) before k d (named d) below in
-          spent_port old new n k (get_or before k d) (get_or after k d) plan queues is.at is.plan
-          (ap (λ (s : SenderView). s.own) is.sender.is) (opened k d below) e;
+          spent_port old new n turns k (get_or before k d) (get_or after k d) plan queues is.at is.plan
+          (ap (λ (s : SenderView). s.own) is.sender.is) (opened k d below) e
+          (asks_at before after turns k d many lt (ap (λ (s : SenderView). s.asks) is.sender.is) most);
     }
 
 -- so none is missing
-pub every_place : (tx : Tx) (n : ℕ) (ports : List PortView) → AreSpent tx n ports → HasEveryPlace (length tx.plan.ports) ports
-every_place tx n [] spent place lt = absurd (omega (arith, spent.count))
-every_place tx n (port ∷ more) spent place lt =
+pub every_place : (tx : Tx) (n turns : ℕ) (ports : List PortView) → AreSpent tx n turns ports → HasEveryPlace (length tx.plan.ports) ports
+every_place tx n turns [] spent place lt = absurd (omega (arith, spent.count))
+every_place tx n turns (port ∷ more) spent place lt =
     let below : place < length (port ∷ more) = omega (arith, spent.count) in
     record {
       port = get_or (port ∷ more) place port;
@@ -80,9 +96,9 @@ sum_same f m (port ∷ more) each =
     sum_by-cons f port more ∙ omega (arith, rest, first)
 
 -- all of them
-pub sum_spent : (tx : Tx) (n : ℕ) (ports : List PortView) → AreSpent tx n ports
+pub sum_spent : (tx : Tx) (n turns : ℕ) (ports : List PortView) → AreSpent tx n turns ports
     → sum_by (λ (port : PortView). length port.sender.own) ports ≡ length tx.plan.ports * n
-sum_spent tx n ports spent =
+sum_spent tx n turns ports spent =
     sum_same (λ (port : PortView). length port.sender.own) n ports
     (λ k d lt. ap length (spent.each k d lt).own ∙ length-messages (port_plan_at tx.plan.ports k).id.0 n)
     ∙ ap (λ m. m * n) spent.count

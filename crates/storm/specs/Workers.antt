@@ -1,5 +1,5 @@
 -- What a worker does to its port.
-use Rattle.std.specs.Prelude.{ℕ, ◌≡◌, ◌<◌, List, ◌++◌, length, slice_index_or}
+use Rattle.std.specs.Prelude.{ℕ, ◌≡◌, ◌+◌, ◌<◌, ◌≤◌, List, ◌++◌, length, slice_index, slice_index_or}
 use Rattle.afdx_plan.specs.declared.port_plan.PortPlan.{PortPlan}
 use Rattle.subvl_queue.specs.Views.{QueueName}
 use Rattle.afdx_tx.specs.Emitter.{Tx}
@@ -31,13 +31,28 @@ with_more port more = record (named port) { own = port.sender.own ++ more }
 abbrev pub sent_all : ℕ → PortView → Named
 sent_all n port = with_more port (messages_to port.plan.id.0 n)
 
--- the port of an emitter at a place, which sent its messages 1 to n and nothing else
-pub record IsSpent (tx : Tx) (n place : ℕ) (port : PortView) : Type 0 where
+-- how often a port asked
+abbrev pub asked_by : PortView → ℕ
+asked_by port = port.sender.asks
+
+-- how often a port asked once it used up so many turns, each for an ask
+abbrev pub asked_after : ℕ → PortView → ℕ
+asked_after turns port = port.sender.asks + turns
+
+-- no number of the first list is above the one at its place in the second
+abbrev pub AreAtMost : List ℕ → List ℕ → Type 0
+AreAtMost low high = (k : ℕ) → k < length low → slice_index low k ≤ slice_index high k
+
+-- The port of an emitter at a place, which sent its messages 1 to n and nothing else, and asked at most once for each of its
+-- turns.
+pub record IsSpent (tx : Tx) (n turns place : ℕ) (port : PortView) : Type 0 where
   pub of : IsPortOfTx tx port
   pub at : port.place ≡ place
   pub own : port.sender.own ≡ own_messages tx.plan n place
+  pub asks : port.sender.asks ≤ turns
 
--- all ports of an emitter, in the order of its plan, each of which sent its messages 1 to n and nothing else
-pub record AreSpent (tx : Tx) (n : ℕ) (ports : List PortView) : Type 0 where
+-- All ports of an emitter, in the order of its plan, each of which sent its messages 1 to n and nothing else, within its
+-- turns.
+pub record AreSpent (tx : Tx) (n turns : ℕ) (ports : List PortView) : Type 0 where
   pub count : length ports ≡ length tx.plan.ports
-  pub each : (k : ℕ) (d : PortView) → k < length ports → IsSpent tx n k (slice_index_or ports k d)
+  pub each : (k : ℕ) (d : PortView) → k < length ports → IsSpent tx n turns k (slice_index_or ports k d)

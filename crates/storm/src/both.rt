@@ -10,9 +10,10 @@ use afdx_plan::{LINKS_LIMIT, LinkPlan, VlId};
 use redundant_mux::{Handed, MemNetwork};
 use std::marker::Model;
 
-/// The links of a configuration, which outlive it. Contracts see their list.
+/// The links of a configuration, which outlive it, without memory of their own. Contracts see their
+/// list.
 #[derive(Drop)]
-pub(crate) struct KeptLinks {
+pub struct KeptLinks {
     // The first so many are the links.
     places: [LinkPlan; LINKS_LIMIT],
     count: usize,
@@ -32,7 +33,7 @@ impl Model for KeptLinks {
 
 impl KeptLinks {
     /// These links. The places behind them hold the first one again.
-    pub(crate) fn of(links: &[LinkPlan]) -> KeptLinks
+    pub fn of(links: &[LinkPlan]) -> KeptLinks
         requires some { 1 ≤ length links.now }
         requires most { length links.now ≤ LINKS_LIMIT }
         ensures { result ≡ links.now }
@@ -44,7 +45,7 @@ impl KeptLinks {
     }
 
     /// The links.
-    pub(crate) fn as_slice(&self) -> &[LinkPlan]
+    pub fn as_slice(&self) -> &[LinkPlan]
         ensures { result.now ≡ self.now }
     {
         &self.places[..self.count]

@@ -1,12 +1,14 @@
 //! After the joins: the ports are gathered, and what is left is sent.
 ghost use Rattle.std.specs.Prelude.{◌≡◌, ◌*◌, ◌≤◌, length, IfOk};
 ghost use Rattle.redundant_mux.specs.Lines.{log};
+ghost use Rattle.storm.specs.Cells.{cells_of};
 ghost use Rattle.afdx_legal.specs.Allowed.{AreOwn};
 ghost use Rattle.afdx_legal.specs.Done.{IsAllDone};
 ghost use Rattle.afdx_legal.specs.Own.{AreOwnStreams};
 ghost use Rattle.afdx_tx.specs.Drain.{accepted_in};
 ghost use Rattle.afdx_tx.specs.Ports.{AreOpenedWith, HasEveryPlace};
 ghost use Rattle.afdx_tx.specs.Gathering.{IsGatheredTx};
+ghost use Rattle.storm.specs.Shown.{IsShown};
 
 use crate::fault::Stop;
 use crate::gate::Gate;
@@ -37,10 +39,13 @@ fn drain_once<A: Network + Drop, B: Network + Drop, G: Gate, R: Wait>(
     gate: &G,
     now: u64,
 ) -> bool
-    requires { draining.old.moment ≤ now }
+    requires moment { draining.old.moment ≤ now }
+    requires shown { IsShown draining.old }
     ensures plan { draining.new.plan ≡ draining.old.plan }
     ensures accepted { accepted_in draining.new.links ≡ accepted_in draining.old.links }
     ensures moment { draining.new.moment ≤ now }
+    ensures shown { IsShown draining.new }
+    ensures cells { cells_of draining.new.board ≡ cells_of draining.old.board }
 {
     let Ok(report) = draining.poll(now) else {
         return false;
@@ -62,6 +67,7 @@ pub(crate) fn drain<A: Network + Drop, B: Network + Drop, G: Gate, R: Wait>(
     requires moment { draining.moment ≤ first * STEP }
     requires first { first ≤ 1000000000 }
     requires turns { turns ≤ 1000000000 }
+    requires shown { IsShown draining }
     ensures plan { IfOk result (λ drained. drained.plan ≡ draining.plan) }
     ensures accepted { IfOk result (λ drained.
         accepted_in drained.links ≡ accepted_in draining.links) }
@@ -69,6 +75,8 @@ pub(crate) fn drain<A: Network + Drop, B: Network + Drop, G: Gate, R: Wait>(
         (accepted_in drained.links) (log drained.lines)) }
     ensures streams { IfOk result (λ drained. AreOwnStreams drained.plan
         (log drained.lines) drained.lines.a drained.lines.b) }
+    ensures shown { IfOk result (λ drained. IsShown drained) }
+    ensures cells { IfOk result (λ drained. cells_of drained.board ≡ cells_of draining.board) }
 {
     let mut draining = draining;
     for turn in 0..turns {

@@ -1,7 +1,8 @@
 //! What may hold a worker back, or end it, and is told how far a storm has come.
 
-/// What each worker asks before a message and tells after it, and what the main thread tells. Workers
-/// are counted from 0 in the order of the configuration's ports, and the messages of each from 1.
+/// What each worker asks before a message and tells after it, and what the main thread and the watcher
+/// tell. Workers are counted from 0 in the order of the configuration's ports, and the messages of each
+/// from 1.
 pub trait Gate {
     /// Asked before a message is first sent. It may take its time; false ends the worker.
     fn enter(&self, worker: usize, call: u32) -> bool;
@@ -11,6 +12,9 @@ pub trait Gate {
 
     /// Told by the main thread after a poll, with how many frames it released.
     fn polled(&self, _frames: usize) {}
+
+    /// Told by the watcher after a reading, with the place of its link in the configuration.
+    fn watched(&self, _link: usize) {}
 }
 
 /// A gate that is always open.

@@ -16,6 +16,7 @@ mod start;
 mod watcher;
 mod worker;
 
+pub use both::KeptLinks;
 pub use fault::StormFault;
 pub use gate::{Gate, OpenGate};
 pub use report::{StormReport, storm, storm_over};

@@ -2,10 +2,12 @@
 ghost use Rattle.std.specs.Prelude.{◌≡◌, ◌*◌, ◌≤◌, ◌<◌, ◌^◌, [], length, false, vec_len, IfOk};
 ghost use Rattle.std.specs.List.{sum_by};
 ghost use Rattle.status_board.specs.Views.{links_of};
+ghost use Rattle.storm.specs.Cells.{cells_of, cells_read};
 ghost use Rattle.afdx_legal.specs.Done.{IsHandedWhole};
 ghost use Rattle.afdx_tx.specs.Emitter.{IsFreshTx};
 ghost use Rattle.afdx_tx.specs.Ports.{AreFreshPorts, AreOpenedWith};
 ghost use Rattle.storm.specs.Messages.{own_messages};
+ghost use Rattle.storm.specs.Shown.{IsShown};
 ghost use Rattle.storm.specs.Workers.{AreSpent};
 
 use crate::drain::{drain, gather_all};
@@ -70,7 +72,8 @@ fn finish<A: Network + Drop, B: Network + Drop, G: Gate, R: Wait>(
     load: Load,
     gate: &G,
 ) -> Result<Outcome<A, B>, Stop>
-    requires ports { AreSpent joined.tx load.messages joined.ports.items }
+    requires ports { AreSpent joined.tx load.messages load.turns joined.ports.items }
+    requires shown { IsShown joined.tx }
     requires links { links_of joined.monitor ≡ length joined.tx.plan.links }
     requires polls { joined.polls ≤ 1000000000 }
     requires moment { joined.tx.moment ≤ joined.polls * STEP }
@@ -122,6 +125,9 @@ fn open<A: Network + Drop, B: Network + Drop>(
     ensures ports { IfOk result (λ opened. AreFreshPorts opened.tx opened.ports.items) }
     ensures opened { IfOk result (λ opened. AreOpenedWith opened.tx opened.ports.items) }
     ensures links { IfOk result (λ opened. links_of opened.monitor ≡ length config.links) }
+    ensures shown { IfOk result (λ opened. IsShown opened.tx) }
+    ensures cells { IfOk result (λ opened.
+        cells_of opened.tx.board ≡ cells_read opened.monitor) }
 {
     match open_tx(alloc, config, a, b) {
         Ok((tx, ports, monitor)) => Ok(Opened { tx, ports, monitor }),

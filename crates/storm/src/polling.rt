@@ -1,6 +1,8 @@
 //! The main thread's part while workers run.
 ghost use Rattle.std.specs.Prelude.{◌≡◌, ◌*◌, ◌≤◌, IfSome};
+ghost use Rattle.storm.specs.Cells.{cells_of};
 ghost use Rattle.afdx_tx.specs.Emitter.{queues_in};
+ghost use Rattle.storm.specs.Shown.{IsShown};
 
 use crate::gate::Gate;
 use afdx_tx::Emitter;
@@ -20,10 +22,13 @@ fn poll_once<A: Network + Drop, B: Network + Drop, G: Gate, R: Wait>(
     gate: &G,
     now: u64,
 ) -> bool
-    requires { tx.old.moment ≤ now }
+    requires moment { tx.old.moment ≤ now }
+    requires shown { IsShown tx.old }
     ensures plan { tx.new.plan ≡ tx.old.plan }
     ensures queues { queues_in tx.new.links ≡ queues_in tx.old.links }
     ensures moment { tx.new.moment ≤ now }
+    ensures shown { IsShown tx.new }
+    ensures cells { cells_of tx.new.board ≡ cells_of tx.old.board }
 {
     let Ok(report) = tx.poll(now) else {
         return false;
@@ -46,11 +51,14 @@ pub(crate) fn poll_while<A: Network + Drop, B: Network + Drop, G: Gate, R: Wait>
     turns: u64,
 ) -> Option<u64>
     requires first { tx.old.moment ≡ 0 }
+    requires shown { IsShown tx.old }
     requires turns { turns ≤ 1000000000 }
     ensures plan { tx.new.plan ≡ tx.old.plan }
     ensures queues { queues_in tx.new.links ≡ queues_in tx.old.links }
     ensures most { IfSome result (λ polls. polls ≤ turns) }
     ensures moment { IfSome result (λ polls. tx.new.moment ≤ polls * STEP) }
+    ensures shown { IsShown tx.new }
+    ensures cells { cells_of tx.new.board ≡ cells_of tx.old.board }
 {
     for poll in 0..turns {
         if running.load(Ordering::SeqCst) == 0 {

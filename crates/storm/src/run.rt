@@ -1,7 +1,10 @@
 //! The threads of a storm, from the first start to the last join.
 ghost use Rattle.std.specs.Prelude.{◌≡◌, ◌*◌, ◌≤◌, length, false, IfOk};
 ghost use Rattle.status_board.specs.Views.{links_of};
+ghost use Rattle.storm.specs.Cells.{cells_of, cells_read};
 ghost use Rattle.afdx_tx.specs.Ports.{AreFreshPorts, AreOpenedWith};
+ghost use Rattle.storm.specs.Shown.{IsShown};
+ghost use Rattle.storm.specs.Watching.{ReadsEach};
 ghost use Rattle.storm.specs.Workers.{AreSpent};
 
 use crate::fault::Stop;
@@ -57,13 +60,21 @@ where
     requires fresh { AreFreshPorts opened.tx opened.ports.items }
     requires opened { AreOpenedWith opened.tx opened.ports.items }
     requires links { links_of opened.monitor ≡ length opened.tx.plan.links }
+    requires shown { IsShown opened.tx }
+    requires cells { cells_of opened.tx.board ≡ cells_read opened.monitor }
     requires turns { load.turns ≤ 1000000000 }
     ensures plan { IfOk result (λ joined. joined.tx.plan ≡ opened.tx.plan) }
-    ensures ports { IfOk result (λ joined. AreSpent joined.tx load.messages joined.ports.items) }
+    ensures ports { IfOk result (λ joined.
+        AreSpent joined.tx load.messages load.turns joined.ports.items) }
     ensures links { IfOk result (λ joined.
         links_of joined.monitor ≡ length joined.tx.plan.links) }
     ensures polls { IfOk result (λ joined. joined.polls ≤ load.turns) }
     ensures moment { IfOk result (λ joined. joined.tx.moment ≤ joined.polls * STEP) }
+    ensures shown { IfOk result (λ joined. IsShown joined.tx) }
+    ensures cells { IfOk result (λ joined.
+        cells_of joined.tx.board ≡ cells_read joined.monitor) }
+    ensures watched { IfOk result (λ joined.
+        ReadsEach opened.monitor joined.monitor load.messages) }
     ensures back { IfOk result (λ joined. joined.back ≡ false) }
 {
     let Opened {
@@ -72,7 +83,7 @@ where
         monitor,
     } = opened;
     let links = tx.config().links().len();
-    let watching = start_watcher(scope, rt, monitor, links, load.messages)?;
+    let watching = start_watcher(scope, rt, gate, monitor, links, load.messages)?;
     let started = start_workers(scope, alloc, ports, load, gate, running);
     // Where not all were started, those that were are polled for too: so they come to their end.
     let polls = poll_while(rt, &mut tx, gate, running, load.turns);
@@ -106,13 +117,21 @@ where
     requires fresh { AreFreshPorts opened.tx opened.ports.items }
     requires opened { AreOpenedWith opened.tx opened.ports.items }
     requires links { links_of opened.monitor ≡ length opened.tx.plan.links }
+    requires shown { IsShown opened.tx }
+    requires cells { cells_of opened.tx.board ≡ cells_read opened.monitor }
     requires turns { load.turns ≤ 1000000000 }
     ensures plan { IfOk result (λ joined. joined.tx.plan ≡ opened.tx.plan) }
-    ensures ports { IfOk result (λ joined. AreSpent joined.tx load.messages joined.ports.items) }
+    ensures ports { IfOk result (λ joined.
+        AreSpent joined.tx load.messages load.turns joined.ports.items) }
     ensures links { IfOk result (λ joined.
         links_of joined.monitor ≡ length joined.tx.plan.links) }
     ensures polls { IfOk result (λ joined. joined.polls ≤ load.turns) }
     ensures moment { IfOk result (λ joined. joined.tx.moment ≤ joined.polls * STEP) }
+    ensures shown { IfOk result (λ joined. IsShown joined.tx) }
+    ensures cells { IfOk result (λ joined.
+        cells_of joined.tx.board ≡ cells_read joined.monitor) }
+    ensures watched { IfOk result (λ joined.
+        ReadsEach opened.monitor joined.monitor load.messages) }
     ensures back { IfOk result (λ joined. joined.back ≡ false) }
 {
     let counter = AtomicU64::new(0);
@@ -125,14 +144,21 @@ where
             requires fresh { AreFreshPorts opened.tx opened.ports.items }
             requires opened { AreOpenedWith opened.tx opened.ports.items }
             requires links { links_of opened.monitor ≡ length opened.tx.plan.links }
+            requires shown { IsShown opened.tx }
+            requires cells { cells_of opened.tx.board ≡ cells_read opened.monitor }
             requires turns { load.turns ≤ 1000000000 }
             ensures plan { IfOk result (λ joined. joined.tx.plan ≡ opened.tx.plan) }
             ensures ports { IfOk result (λ joined.
-                AreSpent joined.tx load.messages joined.ports.items) }
+                AreSpent joined.tx load.messages load.turns joined.ports.items) }
             ensures links { IfOk result (λ joined.
                 links_of joined.monitor ≡ length joined.tx.plan.links) }
             ensures polls { IfOk result (λ joined. joined.polls ≤ load.turns) }
             ensures moment { IfOk result (λ joined. joined.tx.moment ≤ joined.polls * STEP) }
+            ensures shown { IfOk result (λ joined. IsShown joined.tx) }
+            ensures cells { IfOk result (λ joined.
+                cells_of joined.tx.board ≡ cells_read joined.monitor) }
+            ensures watched { IfOk result (λ joined.
+                ReadsEach opened.monitor joined.monitor load.messages) }
             ensures back { IfOk result (λ joined. joined.back ≡ false) }
         { run_in_scope(scope, rt, alloc, opened, load, gate, running) },
     )

@@ -1,6 +1,6 @@
 //! Workers in threads of their own, each started with the promise of its port's own list.
-ghost use Rattle.std.specs.Prelude.{◌≡◌, ◌↔◌, ◌⊎◌, OnOk, IfOk, map};
-ghost use Rattle.storm.specs.Workers.{named, sent_all};
+ghost use Rattle.std.specs.Prelude.{◌≡◌, ◌↔◌, ◌⊎◌, ◌≤◌, OnOk, IfOk, map};
+ghost use Rattle.storm.specs.Workers.{named, sent_all, asked_by, asked_after, AreAtMost};
 
 use crate::fault::Stop;
 use crate::gate::Gate;
@@ -12,19 +12,21 @@ use std::snapshot::Snapshot;
 use std::sync::atomic::{AtomicU64, Ordering};
 use std::thread::{Promise, PromisedHandle, Scope, Threads};
 
-/// A worker gives its port back. Where it ended well, the port sent all its messages, and is otherwise
-/// the one that it was.
+/// A worker gives its port back, which asked at most once for each turn. Where it ended well, the port
+/// sent all its messages, and is otherwise the one that it was.
 #[derive(Drop)]
 pub(crate) struct SendsAll {
     pub before: Snapshot<TxPort>,
     pub messages: u32,
+    pub turns: u64,
 }
 
 impl Promise<(TxPort, Result<(), Stop>)> for SendsAll {
-    ghost use Rattle.std.specs.Prelude.{◌≡◌, OnOk};
-    ghost use Rattle.storm.specs.Workers.{named, sent_all};
+    ghost use Rattle.std.specs.Prelude.{◌≡◌, ◌≤◌, OnOk};
+    ghost use Rattle.storm.specs.Workers.{named, sent_all, asked_by, asked_after};
 
-    ghost kept_by = { λ p r. OnOk r.1 (named r.0 ≡ sent_all p.messages p.before.value) };
+    ghost kept_by = { λ p r. OnOk r.1 (named r.0 ≡ sent_all p.messages p.before.value)
+        × (asked_by r.0 ≤ asked_after p.turns p.before.value) };
 }
 
 pub(crate) type Worker = PromisedHandle<(TxPort, Result<(), Stop>), SendsAll>;
@@ -38,7 +40,8 @@ fn run_worker<G: Gate>(
     gate: &G,
     running: &AtomicU64,
 ) -> (TxPort, Result<(), Stop>)
-    ensures { OnOk result.1 (named result.0 ≡ sent_all load.messages port) }
+    ensures sent { OnOk result.1 (named result.0 ≡ sent_all load.messages port) }
+    ensures asks { asked_by result.0 ≤ asked_after load.turns port }
 {
     let mut port = port;
     let ended = work(alloc, &mut port, worker, load, gate);
@@ -58,10 +61,12 @@ fn start_worker<'s, E: 's, G: Gate + Sync>(
 ) -> Result<Worker, Stop>
     ensures port { IfOk result (λ started. started.promise.before.value ≡ port) }
     ensures messages { IfOk result (λ started. started.promise.messages ≡ load.messages) }
+    ensures turns { IfOk result (λ started. started.promise.turns ≡ load.turns) }
 {
     let promise = SendsAll {
         before: Snapshot::of(&port),
         messages: load.messages,
+        turns: load.turns,
     };
     running.fetch_add(1, Ordering::SeqCst);
     let body = move || run_worker(alloc, port, worker, load, gate, running);
@@ -83,9 +88,12 @@ pub(crate) fn start_workers<'s, E: 's, G: Gate + Sync>(
     gate: &'s G,
     running: &'s AtomicU64,
 ) -> Result<Vec<Worker>, Stop>
-    ensures { IfOk result (λ workers.
+    ensures sent { IfOk result (λ workers.
         map (λ w. sent_all w.promise.messages w.promise.before.value) workers.items
         ≡ map (sent_all load.messages) ports.items) }
+    ensures asks { IfOk result (λ workers.
+        map (λ w. asked_after w.promise.turns w.promise.before.value) workers.items
+        ≡ map (asked_after load.turns) ports.items) }
 {
     let mut workers = Vec::with_capacity(alloc, ports.len())?;
     for port in ports {
@@ -102,8 +110,10 @@ pub(crate) fn join_workers<R: Threads>(
     alloc: Global,
     workers: Vec<Worker>,
 ) -> Result<Vec<TxPort>, Stop>
-    ensures { IfOk result (λ ports. map named ports.items
+    ensures sent { IfOk result (λ ports. map named ports.items
         ≡ map (λ w. sent_all w.promise.messages w.promise.before.value) workers.items) }
+    ensures asks { IfOk result (λ ports. AreAtMost (map asked_by ports.items)
+        (map (λ w. asked_after w.promise.turns w.promise.before.value) workers.items)) }
 {
     let mut ports = Vec::with_capacity(alloc, workers.len())?;
     let mut worst = None;

@@ -2,26 +2,32 @@
 ghost use Rattle.std.specs.Prelude.{◌≡◌, ◌<◌, false, IfOk, ◌↔◌};
 ghost use Rattle.status_board.specs.History.{NoFieldFalls};
 ghost use Rattle.status_board.specs.Views.{links_of};
+ghost use Rattle.storm.specs.Watching.{ReadsOnly, ReadsEach};
 
 use crate::fault::Stop;
+use crate::gate::Gate;
 use status_board::{Counts, Monitor};
+use std::snapshot::Snapshot;
 use std::sync::Wait;
 use std::thread::{Promise, PromisedHandle, Scope};
 
-/// The monitor comes back with all its links, and no count was seen to fall.
-#[derive(Clone, Copy)]
-pub(crate) struct NeverBack {
-    pub links: usize,
+/// The monitor comes back, each of whose links was read so many times, and no count was seen to fall.
+#[derive(Drop)]
+pub(crate) struct WatchesAll {
+    pub before: Snapshot<Monitor>,
+    pub times: u32,
 }
 
-impl Promise<(Monitor, bool)> for NeverBack {
+impl Promise<(Monitor, bool)> for WatchesAll {
     ghost use Rattle.std.specs.Prelude.{◌≡◌, false};
     ghost use Rattle.status_board.specs.Views.{links_of};
+    ghost use Rattle.storm.specs.Watching.{ReadsEach};
 
-    ghost kept_by = { λ p r. (links_of r.0 ≡ p.links) × (r.1 ≡ false) };
+    ghost kept_by = { λ p r. ReadsEach p.before.value r.0 p.times
+        × (links_of r.0 ≡ links_of p.before.value) × (r.1 ≡ false) };
 }
 
-pub(crate) type Watching = PromisedHandle<(Monitor, bool), NeverBack>;
+pub(crate) type Watching = PromisedHandle<(Monitor, bool), WatchesAll>;
 
 /// Whether a field of a later reading is below that of an earlier one.
 fn is_back(earlier: &Counts, later: &Counts) -> bool
@@ -33,9 +39,16 @@ fn is_back(earlier: &Counts, later: &Counts) -> bool
         || later.last < earlier.last
 }
 
-/// Reads a link so many times. Whether a count fell.
-fn watch_link<R: Wait>(rt: &R, monitor: &mut Monitor, link: usize, times: u32) -> bool
+/// Reads a link so many times, and tells the gate of each reading. Whether a count fell.
+fn watch_link<G: Gate, R: Wait>(
+    rt: &R,
+    gate: &G,
+    monitor: &mut Monitor,
+    link: usize,
+    times: u32,
+) -> bool
     requires { link < links_of monitor.old }
+    ensures reads { ReadsOnly monitor.old monitor.new link times }
     ensures links { links_of monitor.new ≡ links_of monitor.old }
     ensures back { result ≡ false }
 {
@@ -43,6 +56,7 @@ fn watch_link<R: Wait>(rt: &R, monitor: &mut Monitor, link: usize, times: u32) -
     let mut last = Counts::ZERO;
     for _ in 0..times {
         let found = monitor.read(rt, link);
+        gate.watched(link);
         back = back || is_back(&last, &found);
         last = found;
     }
@@ -50,35 +64,45 @@ fn watch_link<R: Wait>(rt: &R, monitor: &mut Monitor, link: usize, times: u32) -
 }
 
 /// Reads each link so many times, and gives the monitor back. Whether a count fell.
-fn watch<R: Wait>(rt: &R, monitor: Monitor, links: usize, times: u32) -> (Monitor, bool)
+fn watch<G: Gate, R: Wait>(
+    rt: &R,
+    gate: &G,
+    monitor: Monitor,
+    links: usize,
+    times: u32,
+) -> (Monitor, bool)
     requires { links_of monitor ≡ links }
+    ensures reads { ReadsEach monitor result.0 times }
     ensures links { links_of result.0 ≡ links }
     ensures back { result.1 ≡ false }
 {
     let mut monitor = monitor;
     let mut back = false;
     for link in 0..links {
-        let fell = watch_link(rt, &mut monitor, link, times);
+        let fell = watch_link(rt, gate, &mut monitor, link, times);
         back = back || fell;
     }
     (monitor, back)
 }
 
 /// Starts the thread that watches.
-pub(crate) fn start_watcher<'s, E: 's, R: Wait + Sync>(
+pub(crate) fn start_watcher<'s, E: 's, G: Gate + Sync, R: Wait + Sync>(
     scope: &'s Scope<'s, E>,
     rt: &'s R,
+    gate: &'s G,
     monitor: Monitor,
     links: usize,
     times: u32,
 ) -> Result<Watching, Stop>
     requires { links_of monitor ≡ links }
-    ensures { IfOk result (λ watching. watching.promise.links ≡ links) }
+    ensures before { IfOk result (λ watching. watching.promise.before.value ≡ monitor) }
+    ensures times { IfOk result (λ watching. watching.promise.times ≡ times) }
 {
-    match scope.spawn_with(
-        NeverBack { links },
-        move || watch(rt, monitor, links, times),
-    ) {
+    let promise = WatchesAll {
+        before: Snapshot::of(&monitor),
+        times,
+    };
+    match scope.spawn_with(promise, move || watch(rt, gate, monitor, links, times)) {
         Ok(watching) => Ok(watching),
         Err(_) => Err(Stop::Memory),
     }

@@ -1,6 +1,6 @@
 //! What one worker does.
-ghost use Rattle.std.specs.Prelude.{◌≡◌, [], ◌∷◌, OnOk};
-ghost use Rattle.storm.specs.Workers.{named, with_more, sent_all};
+ghost use Rattle.std.specs.Prelude.{◌≡◌, ◌≤◌, [], ◌∷◌, OnOk};
+ghost use Rattle.storm.specs.Workers.{named, with_more, sent_all, asked_by, asked_after};
 
 use crate::fault::Stop;
 use crate::gate::Gate;
@@ -13,7 +13,8 @@ use std::thread;
 /// Sends a message, and again after it was refused, which is where its queue is full. Each send is a
 /// turn.
 fn send_on(port: &mut TxPort, bytes: Vec<u8>, turns: &mut u64) -> Result<(), Stop>
-    ensures { OnOk result (named port.new ≡ with_more port.old (bytes.items ∷ [])) }
+    ensures sent { OnOk result (named port.new ≡ with_more port.old (bytes.items ∷ [])) }
+    ensures asks { asked_after turns.new port.new ≤ asked_after turns.old port.old }
 {
     let mut bytes = bytes;
     while *turns > 0 {
@@ -35,7 +36,8 @@ pub(crate) fn work<G: Gate>(
     load: Load,
     gate: &G,
 ) -> Result<(), Stop>
-    ensures { OnOk result (named port.new ≡ sent_all load.messages port.old) }
+    ensures sent { OnOk result (named port.new ≡ sent_all load.messages port.old) }
+    ensures asks { asked_by port.new ≤ asked_after load.turns port.old }
 {
     let mut turns = load.turns;
     for sent in 0..load.messages {

@@ -1,5 +1,7 @@
 use Rattle.std.proofs.Common.{◌≡◌, ◌+◌, ◌*◌, ◌≤◌}
+use Rattle.storm.specs.Cells.{cells_of}
 use Rattle.afdx_tx.specs.Drain.{accepted_in}
+use Rattle.storm.specs.Shown.{IsShown}
 use Rattle.storm.proofs.drain.drain.Given as goal
 
 abbrev pub invariant-loop-turn : goal.invariant-loop-turn
@@ -7,4 +9,6 @@ invariant-loop-turn g l = record {
   plan : l.draining.plan ≡ l.fn.draining.plan;
   accepted : accepted_in l.draining.links ≡ accepted_in l.fn.draining.links;
   moment : l.draining.moment ≤ (l.first + l.turn) * 128000;
+  shown : IsShown l.draining;
+  cells : cells_of l.draining.board ≡ cells_of l.fn.draining.board;
 }

@@ -1,5 +1,7 @@
 use Rattle.std.proofs.Common.{◌≡◌, ◌*◌, ◌≤◌}
+use Rattle.storm.specs.Cells.{cells_of}
 use Rattle.afdx_tx.specs.Emitter.{queues_in}
+use Rattle.storm.specs.Shown.{IsShown}
 use Rattle.storm.proofs.polling.poll_while.Given as goal
 
 abbrev pub invariant-loop-poll : goal.invariant-loop-poll
@@ -7,4 +9,6 @@ invariant-loop-poll g l = record {
   plan : l.tx.plan ≡ l.fn.tx.plan;
   queues : queues_in l.tx.links ≡ queues_in l.fn.tx.links;
   moment : l.tx.moment ≤ l.poll * 128000;
+  shown : IsShown l.tx;
+  cells : cells_of l.tx.board ≡ cells_of l.fn.tx.board;
 }

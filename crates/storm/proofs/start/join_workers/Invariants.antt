@@ -1,7 +1,10 @@
-use Rattle.std.proofs.Common.{◌≡◌, map, None}
-use Rattle.storm.specs.Workers.{named, sent_all}
+use Rattle.std.proofs.Common.{◌≡◌, map, length, None}
+use Rattle.storm.specs.Workers.{named, sent_all, asked_by, asked_after, AreAtMost}
 use Rattle.storm.proofs.start.join_workers.Given as goal
 
 abbrev pub invariant-loop-worker : goal.invariant-loop-worker
-invariant-loop-worker g l = l.worst ≡ None
-    → map named l.ports.items ≡ map (λ w. sent_all w.promise.messages w.promise.before.value) l.yielded
+invariant-loop-worker g l = record {
+  sent : l.worst ≡ None → map named l.ports.items ≡ map (λ w. sent_all w.promise.messages w.promise.before.value) l.yielded;
+  count : length l.ports.items ≡ length l.yielded;
+  asks : AreAtMost (map asked_by l.ports.items) (map (λ w. asked_after w.promise.turns w.promise.before.value) l.yielded);
+}

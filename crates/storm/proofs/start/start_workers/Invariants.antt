@@ -1,7 +1,9 @@
 use Rattle.std.proofs.Common.{◌≡◌, map}
-use Rattle.storm.specs.Workers.{sent_all}
+use Rattle.storm.specs.Workers.{sent_all, asked_after}
 use Rattle.storm.proofs.start.start_workers.Given as goal
 
 abbrev pub invariant-loop-port : goal.invariant-loop-port
-invariant-loop-port g l =
-    map (λ w. sent_all w.promise.messages w.promise.before.value) l.workers.items ≡ map (sent_all l.load.messages) l.yielded
+invariant-loop-port g l = record {
+  sent : map (λ w. sent_all w.promise.messages w.promise.before.value) l.workers.items ≡ map (sent_all l.load.messages) l.yielded;
+  asks : map (λ w. asked_after w.promise.turns w.promise.before.value) l.workers.items ≡ map (asked_after l.load.turns) l.yielded;
+}

@@ -1,0 +1,54 @@
+-- How often a worker's port asked.
+use Rattle.std.proofs.Common.{◌≡◌, ℕ, zero, suc, ◌+◌, ◌<◌, ◌≤◌, ◌⊎◌, List, [], ◌∷◌, ◌++◌, length, get_or, map, ap, sym, ◌∙◌, subst, ⊎_elim, arith}
+use Rattle.std.proofs.lemmas.List.{length-map, map-append}
+use Rattle.subvl_queue.specs.Views.{SenderView, IsPlaced, IsRefused}
+use Rattle.subvl_queue.specs.declared.refused.Why.{Why}
+use Rattle.subvl_queue.specs.declared.refused.Why.TheVariants as Queue
+use Rattle.afdx_tx.specs.declared.fault.Refusal.{Refusal}
+use Rattle.afdx_tx.specs.declared.fault.Refusal.TheVariants.{Empty, TooLong, Closed, Exhausted, Full}
+use Rattle.afdx_tx.specs.Ports.{PortView, Accepts, Refuses}
+use Rattle.storm.specs.Workers.{asked_by, AreAtMost}
+
+-- a send that is accepted asks once
+pub asks_accepted : (old new : PortView) (bytes : List ℕ) → Accepts old bytes new → new.sender.asks ≡ old.sender.asks + 1
+asks_accepted old new bytes done = ap (λ (s : SenderView). s.asks) done.0.1.1
+
+-- a queue that refuses was asked once at most
+asks_queue : (old new : SenderView) (why : Why) → IsRefused old why new → new.asks ≤ old.asks + 1
+asks_queue old new Queue.Closed r =
+    ⊎_elim
+    (λ e. let same = ap (λ (s : SenderView). s.asks) e in omega (arith, same))
+    (λ e. let once = ap (λ (s : SenderView). s.asks) e.1 in omega (arith, once))
+    r
+asks_queue old new Queue.Exhausted r = let same = ap (λ (s : SenderView). s.asks) r.1 in omega (arith, same)
+asks_queue old new Queue.Full r = let once = ap (λ (s : SenderView). s.asks) r.1 in omega (arith, once)
+
+-- so does one that is refused
+pub asks_refused : (old new : PortView) (size : ℕ) (why : Refusal) → Refuses old size why new
+    → new.sender.asks ≤ old.sender.asks + 1
+asks_refused old new size Empty r = let same = ap (λ (p : PortView). p.sender.asks) r.1 in omega (arith, same)
+asks_refused old new size TooLong r = let same = ap (λ (p : PortView). p.sender.asks) r.1 in omega (arith, same)
+asks_refused old new size Closed r = asks_queue old.sender new.sender Queue.Closed r.queue
+asks_refused old new size Exhausted r = asks_queue old.sender new.sender Queue.Exhausted r.queue
+asks_refused old new size Full r = asks_queue old.sender new.sender Queue.Full r.0.queue
+
+-- one number more, which isn't above the other
+pub at_most_push : (low high : List ℕ) (n m : ℕ) → length low ≡ length high → AreAtMost low high → n ≤ m
+    → (k : ℕ) → k < length (low ++ n ∷ []) → get_or (low ++ n ∷ []) k 0 ≤ get_or (high ++ m ∷ []) k 0
+at_most_push [] [] n m count all le zero lt = le
+at_most_push [] [] n m count all le (suc k) lt = absurd (omega arith)
+at_most_push [] (y ∷ high) n m count all le k lt = absurd (omega arith)
+at_most_push (x ∷ low) [] n m count all le k lt = absurd (omega arith)
+at_most_push (x ∷ low) (y ∷ high) n m count all le zero lt = all 0 (omega arith)
+at_most_push (x ∷ low) (y ∷ high) n m count all le (suc k) lt =
+    at_most_push low high n m (omega arith) (λ j below. all (suc j) (omega arith)) le k (omega arith)
+
+-- one port more, which asked no more often than it may
+pub asks_push : {W : Type 0} (f : W → ℕ) (ports : List PortView) (ws : List W) (port : PortView) (w : W)
+    → length ports ≡ length ws → AreAtMost (map asked_by ports) (map f ws) → asked_by port ≤ f w
+    → AreAtMost (map asked_by (ports ++ port ∷ [])) (map f (ws ++ w ∷ []))
+asks_push f ports ws port w count all le =
+    subst (λ (l : List ℕ). AreAtMost l (map f (ws ++ w ∷ []))) (sym (map-append asked_by ports (port ∷ [])))
+    (subst (λ (l : List ℕ). AreAtMost (map asked_by ports ++ asked_by port ∷ []) l) (sym (map-append f ws (w ∷ [])))
+    (at_most_push (map asked_by ports) (map f ws) (asked_by port) (f w)
+    (length-map ports asked_by ∙ count ∙ sym (length-map ws f)) all le))

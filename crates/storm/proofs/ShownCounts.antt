@@ -1,0 +1,70 @@
+-- What was published of the links of an emitter.
+use Rattle.std.proofs.Common.{◌≡◌, ◌∙◌, ℕ, ◌+◌, ◌<◌, List, [], length, refl, sym, ap, arith}
+use Rattle.afdx_plan.specs.Config.{Plan, link_plan_at}
+use Rattle.redundant_mux.specs.Entry.{Entry}
+use Rattle.redundant_mux.specs.Lines.{Lines}
+use Rattle.status_board.specs.declared.counts.Counts.{Counts}
+use Rattle.status_board.specs.History.{zeros, value_of}
+use Rattle.status_board.specs.Views.{Published, Watched, published, last_of, AreNew}
+use Rattle.storm.specs.Cells.{cells_of}
+use Rattle.storm.proofs.SameCells.{cells_same}
+use Rattle.status_board.proofs.Histories.{last_or-push}
+use Rattle.afdx_legal.specs.Own.{own_stream}
+use Rattle.afdx_legal.specs.Counting.{counts_in}
+use Rattle.afdx_tx.specs.Emitter.{Tx, IsFreshTx}
+use Rattle.afdx_tx.specs.Publishing.{Publishes, counts_at}
+use Rattle.storm.specs.Shown.{IsShown}
+
+-- the counts of links of the same plan, of which the same was handed over
+counts_same : (old new : Tx) (k : ℕ) → new.plan ≡ old.plan → new.lines ≡ old.lines → counts_at old k ≡ counts_at new k
+counts_same old new k plan lines =
+    ap (λ (p : Plan). counts_in (own_stream (link_plan_at p.links k).id.0 old.lines.a old.lines.b)) (sym plan)
+    ∙ ap (λ (l : Lines). counts_in (own_stream (link_plan_at new.plan.links k).id.0 l.a l.b)) (sym lines)
+
+links_same : (old new : Tx) → new.plan ≡ old.plan → length new.plan.links ≡ length old.plan.links
+links_same old new plan = ap (λ (p : Plan). length p.links) plan
+
+-- it stays while the plan, what was handed over and the board stay
+pub shown_same : (old new : Tx) → new.plan ≡ old.plan → new.lines ≡ old.lines → new.board ≡ old.board → IsShown old → IsShown new
+shown_same old new plan lines board s = record {
+  count = ap length board ∙ s.count ∙ sym (links_same old new plan);
+  each = λ k lt.
+      let here : k < length old.plan.links = omega (arith, links_same old new plan) in
+      ap (λ b. last_of b k) board ∙ s.each k here ∙ counts_same old new k plan lines;
+}
+
+-- publishing makes it so
+pub shown_published : (old mid new : Tx) → mid.plan ≡ old.plan → mid.board ≡ old.board → Publishes mid new → IsShown old → IsShown new
+shown_published old mid new plan board p s =
+    let same : new.plan ≡ mid.plan = ap (λ (t : Tx). t.plan) p.same in
+    let lines : new.lines ≡ mid.lines = ap (λ (t : Tx). t.lines) p.same in
+    record {
+      count = p.count ∙ ap length board ∙ s.count ∙ sym (links_same old mid plan) ∙ sym (links_same mid new same);
+      each = λ k lt.
+          let here : k < length mid.plan.links = omega (arith, links_same mid new same) in
+          ap (λ (w : Published). value_of w.history) (p.each k here)
+          ∙ last_or-push zeros (published mid.board k).history (counts_at mid k) ∙ counts_same mid new k same lines;
+    }
+
+-- and leaves the cells
+pub cells_published : (old mid new : Tx) → mid.plan ≡ old.plan → mid.board ≡ old.board → Publishes mid new → IsShown old
+    → cells_of new.board ≡ cells_of old.board
+cells_published old mid new plan board p s =
+    cells_same mid.board new.board p.count
+    (λ k lt.
+        let many : length mid.board ≡ length mid.plan.links = ap length board ∙ s.count ∙ sym (links_same old mid plan) in
+        ap (λ (w : Published). w.cell) (p.each k (omega arith)))
+    ∙ ap (λ b. cells_of b) board
+
+-- nothing is counted of the links of a fresh emitter, of which nothing was published
+pub shown_fresh : (config : Plan) (tx : Tx) (monitor : List Watched) → IsFreshTx config tx → AreNew tx.board monitor
+    → length tx.board ≡ length config.links → IsShown tx
+shown_fresh config tx monitor fresh new count = record {
+  count = count ∙ sym (ap (λ (p : Plan). length p.links) fresh.plan);
+  each = λ k _. ap (λ (h : List Counts). value_of h) (new k).unpublished ∙ sym (nothing k);
+}
+  where
+    nothing : (k : ℕ) → counts_at tx k ≡ zeros
+    nothing k =
+        ap (λ (es : List Entry). counts_in (own_stream (link_plan_at tx.plan.links k).id.0 es tx.lines.b)) fresh.a
+        ∙ ap (λ (es : List Entry). counts_in (own_stream (link_plan_at tx.plan.links k).id.0 [] es)) fresh.b
