@@ -10,7 +10,7 @@ use Rattle.afdx_frame.specs.Twin.{twin_of}
 use Rattle.afdx_frame.specs.Profile.{word_at}
 use Rattle.afdx_frame.specs.Fragments.{Sent, blanked, fragments}
 use Rattle.afdx_frame.specs.Reassembly.{Fragment, empty}
-use Rattle.afdx_legal.specs.Streams.{those_with}
+use Rattle.afdx_legal.specs.Streams.{those_with, IsPrefixOf}
 use Rattle.afdx_legal.proofs.StreamLemmas.{with_append}
 use Rattle.afdx_laws.specs.Receiver.{begin, received, carried}
 use Rattle.afdx_frame.specs.Header.{sub_in, number_in}
@@ -18,7 +18,8 @@ use Rattle.afdx_laws.specs.Networks.{IsLong, most_carried}
 use Rattle.afdx_laws.specs.Loss.{next_alone, frames_at}
 use Rattle.afdx_laws.proofs.Arrivals.{exactly_once_holds}
 use Rattle.afdx_laws.proofs.Losing.{loss_masked_holds}
-use Rattle.afdx_laws.specs.Delivery.{delivered, of_sub, sent_from}
+use Rattle.afdx_laws.specs.Delivery.{delivered, of_sub, sent_from, HasByte}
+use Rattle.afdx_laws.specs.Buffers.{HasUpTo}
 use Rattle.afdx_laws.specs.Messages.{fragment_in, messages_in, IsSent, IsSending, AreFirst, MessagesArrive, DespiteLoss}
 use Rattle.afdx_laws.proofs.InOrder.{in_order_holds}
 use Rattle.afdx_laws.proofs.Reading.{same_fragment, read_any, reads_all, reads_frames, of_sub_is, length-datagram, drop-datagram}
@@ -52,25 +53,44 @@ bytes_of end_system many accepted =
     ∙ map_same (λ (sent : Sent). drop 8 (datagram end_system sent.port sent.bytes))
     (λ (sent : Sent). sent.bytes) accepted (λ sent. drop-datagram end_system sent))
 
--- what is in frames that are the first of the stream's
-pub arrived : (end_system room sub count : ℕ) (accepted : List Sent) (stream got : List (List ℕ))
-    → IsSending end_system room sub accepted stream
-    → map (twin_of A) got ≡ take count (map (twin_of A) stream)
-    → AreFirst end_system room sub accepted (take count stream) (messages_in sub got)
-arrived end_system room sub count accepted stream got sending first_frames =
-    let small = sending.link.numbered in
-    let least = sending.link.least in
-    let greatest = sending.link.greatest in
-    let sent = sending.sent in
-    let prefix = sending.first in
-    let datagrams : List (List ℕ) = map (λ (s : Sent). datagram end_system s.port s.bytes) accepted in
+-- the datagrams of accepted messages
+abbrev pub datagrams_of : ℕ → List Sent → List (List ℕ)
+datagrams_of end_system accepted = map (λ (sent : Sent). datagram end_system sent.port sent.bytes) accepted
+
+-- each has a byte
+pub some_bytes : (end_system sub : ℕ) (accepted : List Sent) → All (IsSent sub) accepted
+    → All HasByte (datagrams_of end_system accepted)
+some_bytes end_system sub accepted sent =
+    All-map HasByte (λ (s : Sent). datagram end_system s.port s.bytes) accepted
+    (All-weaker (IsSent sub) (λ (s : Sent). 1 ≤ length (datagram end_system s.port s.bytes))
+    (λ s is. omega (arith, length-datagram end_system s)) accepted sent)
+
+-- and at most the header's eight and a message's 8,192
+pub few_bytes : (end_system sub : ℕ) (accepted : List Sent) → All (IsSent sub) accepted
+    → All (HasUpTo 8200) (datagrams_of end_system accepted)
+few_bytes end_system sub accepted sent =
+    All-map (HasUpTo 8200) (λ (s : Sent). datagram end_system s.port s.bytes) accepted
+    (All-weaker (IsSent sub) (λ (s : Sent). length (datagram end_system s.port s.bytes) ≤ 8200)
+    (λ s is. let most = is.most in omega (arith, length-datagram end_system s)) accepted sent)
+
+-- a sub-VL's fragments in frames that are the first of the stream's
+own_fragments : (sub count : ℕ) (stream got : List (List ℕ)) → map (twin_of A) got ≡ take count (map (twin_of A) stream)
+    → of_sub sub (map fragment_in got) ≡ map fragment_in (those_with sub_in sub (take count stream))
+own_fragments sub count stream got first_frames =
     let once : map (twin_of A) got ≡ map (twin_of A) (take count stream) = first_frames
     ∙ take-map (twin_of A) count stream in
-    let frags : map fragment_in got ≡ map fragment_in (take count stream) =
-    fragments_received got (take count stream) once in
-    let mine : of_sub sub (map fragment_in got) ≡ map fragment_in (those_with sub_in sub (take count stream)) =
-    ap (of_sub sub) frags ∙ of_sub_is sub (take count stream) in
-    let read = reads_all accepted end_system room sub 0 small least greatest sent in
+    ap (of_sub sub) (fragments_received got (take count stream) once) ∙ of_sub_is sub (take count stream)
+
+-- they are the first of its datagrams
+pub first_come : (end_system room sub count : ℕ) (accepted : List Sent) (stream got : List (List ℕ))
+    → IsSending end_system room sub accepted stream
+    → map (twin_of A) got ≡ take count (map (twin_of A) stream)
+    → IsPrefixOf (of_sub sub (map fragment_in got)) (sent_from room sub 0 (datagrams_of end_system accepted))
+first_come end_system room sub count accepted stream got sending first_frames =
+    let prefix = sending.first in
+    let mine = own_fragments sub count stream got first_frames in
+    let read = reads_all accepted end_system room sub 0 sending.link.numbered sending.link.least sending.link.greatest
+    sending.sent in
     let rest : List (List ℕ) = map blanked (those_with sub_in sub (drop count stream)) ++ prefix.0 in
     let split : fragments end_system room A accepted ≡ map blanked (those_with sub_in sub (take count stream)) ++ rest =
     sym prefix.1 ∙ ap (λ (xs : List (List ℕ)). map blanked xs ++ prefix.0) (sub_take sub count stream)
@@ -85,14 +105,26 @@ arrived end_system room sub count accepted stream got sending first_frames =
     (those_with sub_in sub (take count stream)) ++ map read_any rest =
     reads_frames (those_with sub_in sub (take count stream))
     (fragments end_system room A accepted) rest read.each long_sub split in
-    let came : sent_from room sub 0 datagrams ≡ of_sub sub (map fragment_in got) ++ map read_any rest =
+    let came : sent_from room sub 0 (datagrams_of end_system accepted) ≡ of_sub sub (map fragment_in got) ++ map read_any rest =
     sym read.are ∙ frames ∙ ap (λ (xs : List (ℕ × Fragment)). xs ++ map read_any rest) (sym mine) in
-    let some : All (λ (d : List ℕ). 1 ≤ length d) datagrams =
-    All-map (λ (d : List ℕ). 1 ≤ length d) (λ (s : Sent). datagram end_system s.port s.bytes) accepted
-    (All-weaker (IsSent sub) (λ (s : Sent). 1 ≤ length (datagram end_system s.port s.bytes))
-    (λ s is. omega (arith, length-datagram end_system s)) accepted sent) in
-    let ends = in_order_holds room sub datagrams (map fragment_in got) (omega arith) sending.index some
-    (map read_any rest, sym came) in
+    (map read_any rest, sym came)
+
+-- what is in frames that are the first of the stream's
+pub arrived : (end_system room sub count : ℕ) (accepted : List Sent) (stream got : List (List ℕ))
+    → IsSending end_system room sub accepted stream
+    → map (twin_of A) got ≡ take count (map (twin_of A) stream)
+    → AreFirst end_system room sub accepted (take count stream) (messages_in sub got)
+arrived end_system room sub count accepted stream got sending first_frames =
+    let small = sending.link.numbered in
+    let least = sending.link.least in
+    let greatest = sending.link.greatest in
+    let sent = sending.sent in
+    let datagrams : List (List ℕ) = datagrams_of end_system accepted in
+    let mine : of_sub sub (map fragment_in got) ≡ map fragment_in (those_with sub_in sub (take count stream)) =
+    own_fragments sub count stream got first_frames in
+    let ends = in_order_holds room sub datagrams (map fragment_in got) (omega arith)
+    (some_bytes end_system sub accepted sent)
+    (first_come end_system room sub count accepted stream got sending first_frames) in
     let out_is : messages_in sub got ≡ take ends.0 (map (λ (s : Sent). s.bytes) accepted) =
     sym (map-map (drop 8) (λ (e : ℕ × List ℕ). e.1) (of_sub sub (delivered (λ key. empty) (map fragment_in got))))
     ∙ ap (map (drop 8)) ends.1 ∙ bytes_of end_system ends.0 accepted in

@@ -16,7 +16,7 @@ use Rattle.afdx_laws.proofs.Arriving.{despite_loss_holds}
 use Rattle.afdx_laws.proofs.HandedOver.{own_twins, longer_a, longer_b, sending_a, sending_b, same_count, same_first}
 
 -- the frames that come of a list, and of its twins
-same_frames : (xs : List (List ℕ)) (came : List (Net × ℕ)) (whole : Net) (farthest carries : ℕ)
+pub same_frames : (xs : List (List ℕ)) (came : List (Net × ℕ)) (whole : Net) (farthest carries : ℕ)
     → AreWithin whole (length xs) farthest carries came → frames_at (map (twin_of A) xs) came ≡ frames_at xs came
 same_frames xs [] whole farthest carries close = refl
 same_frames xs (e ∷ came) whole farthest carries close =
@@ -26,7 +26,7 @@ same_frames xs (e ∷ came) whole farthest carries close =
     ∙ ap (λ (fs : List (Net × List ℕ)). (e.0, frame_at xs e.0 e.1) ∷ fs) (same_frames xs came whole _ _ close.1)
 
 -- the longer list, as network A has it, is sent
-sending_longer : (end_system room sub : ℕ) (accepted : List Sent) (a b : List (List ℕ))
+pub sending_longer : (end_system room sub : ℕ) (accepted : List Sent) (a b : List (List ℕ))
     → AreHanded end_system room sub accepted a b → IsSending end_system room sub accepted (map (twin_of A) (longer a b))
 sending_longer end_system room sub accepted a b handed = elim (cases_lt (length a) (length b)) [
   | inl shorter ↦ subst (λ (xs : List (List ℕ)). IsSending end_system room sub accepted xs)

@@ -88,7 +88,7 @@ turned end_system room sub accepted b p = (
 )
 
 -- what both networks carried of the longer list, as network A has it, where that is B's
-carried_of_b : (lag : ℕ) (a b : List (List ℕ)) (arrivals : List (Net × List ℕ)) → length a < length b
+pub carried_of_b : (lag : ℕ) (a b : List (List ℕ)) (arrivals : List (Net × List ℕ)) → length a < length b
     → All (IsOfNet B) b → AreTwins twin_of a b → AreCarriedOf lag a b arrivals → AreCarried lag (map (twin_of A) b) arrivals
 carried_of_b lag a b arrivals shorter own twins carry = record {
   on_a = prefix_trans (carried A arrivals) a (map (twin_of A) (map (twin_of A) b)) carry.on_a
@@ -101,7 +101,7 @@ carried_of_b lag a b arrivals shorter own twins carry = record {
 }
 
 -- and where it is A's
-carried_of_a : (lag : ℕ) (a b : List (List ℕ)) (arrivals : List (Net × List ℕ)) → length b ≤ length a
+pub carried_of_a : (lag : ℕ) (a b : List (List ℕ)) (arrivals : List (Net × List ℕ)) → length b ≤ length a
     → All (IsOfNet A) a → AreTwins twin_of a b → AreCarriedOf lag a b arrivals → AreCarried lag a arrivals
 carried_of_a lag a b arrivals as_long own twins carry = record {
   on_a = prefix_same (carried A arrivals) a (map (twin_of A) a) (sym (own_twins A a own)) carry.on_a;
@@ -141,7 +141,6 @@ pub sending_b : (end_system room sub : ℕ) (accepted : List Sent) (a b : List (
     → AreHanded end_system room sub accepted a b → IsSending end_system room sub accepted (map (twin_of A) b)
 sending_b end_system room sub accepted a b handed = record {
   link = handed.link;
-  index = handed.index;
   sent = handed.sent;
   frames = stream_twins A b handed.on_b.frames;
   first = turned end_system room sub accepted b handed.on_b.first;
@@ -152,7 +151,6 @@ pub sending_a : (end_system room sub : ℕ) (accepted : List Sent) (a b : List (
     → AreHanded end_system room sub accepted a b → IsSending end_system room sub accepted a
 sending_a end_system room sub accepted a b handed = record {
   link = handed.link;
-  index = handed.index;
   sent = handed.sent;
   frames = handed.on_a.frames;
   first = handed.on_a.first;

@@ -2,7 +2,7 @@
 use Rattle.std.proofs.Common.{◌≡◌, ℕ, zero, suc, ◌+◌, ◌%◌, ◌≤◌, ◌<◌, inl, inr, Bool, true, false, nat_eq, cond, List, [], ◌∷◌, ◌++◌, length, map, take, refl, ap, sym, ◌∙◌, subst, arith}
 use Rattle.std.specs.Prelude.{All, Option, Some, None}
 use Rattle.std.proofs.lemmas.Bool.Decides.{nat_tests}
-use Rattle.std.proofs.lemmas.Bool.{cases_eq, cases_Bool, eq-eqb, ne_eqb, eqb-true, false≢true}
+use Rattle.std.proofs.lemmas.Bool.{cases_eq, cases_lt, cases_Bool, eq-eqb, ne_eqb, eqb-true, false≢true}
 use Rattle.std.proofs.lemmas.List.{append_assoc}
 use Rattle.afdx_plan.specs.Numbers.{identification}
 use Rattle.afdx_frame.specs.Cutting.{cutting, pieces_from}
@@ -10,7 +10,8 @@ use Rattle.afdx_frame.proofs.CuttingLemmas.{cutting_some}
 use Rattle.afdx_frame.specs.Reassembly.{Fragment, Buffer, empty, put, put_all, bytes_to, datagram_in, fragment_of, fragments_of}
 use Rattle.afdx_frame.proofs.Buffers.{any_order_holds}
 use Rattle.afdx_laws.proofs.ListLemmas.{cons_parts, nil_begins}
-use Rattle.afdx_laws.specs.Delivery.{with_buffer, kept_in, given, delivered, of_sub, keyed, sent_from, InOrder}
+use Rattle.afdx_legal.specs.Streams.{IsPrefixOf}
+use Rattle.afdx_laws.specs.Delivery.{with_buffer, kept_in, given, delivered, of_sub, keyed, sent_from, HasByte, AreGiven, InOrder}
 
 -- a change of one buffer keeps them the same
 pub same_with : (sub key : ℕ) (b : Buffer) (xs ys : ℕ → Buffer) → ((k : ℕ) → k % 4 ≡ sub → xs k ≡ ys k)
@@ -271,15 +272,16 @@ goes ((key, g) ∷ came) room sub place buffers done f [] d
         ++ sent_from room sub (suc (suc place)) (take i later)) ≤ n) frags moved) in
         omega arith
 
--- the law
-pub in_order_holds : InOrder
-in_order_holds room sub [] came least small some (rest, begun) = (
+-- the law, of a sub-VL of a link
+in_order_below : (room sub : ℕ) (datagrams : List (List ℕ)) (came : List (ℕ × Fragment)) → 8 ≤ room → sub < 4
+    → All HasByte datagrams → IsPrefixOf (of_sub sub came) (sent_from room sub 0 datagrams) → AreGiven room sub datagrams came
+in_order_below room sub [] came least small some (rest, begun) = (
   0,
   ap (map (λ (e : ℕ × List ℕ). e.1)) (apart sub came (λ key. empty) (λ key. empty) (λ k h. refl)
       ∙ ap (delivered (λ key. empty)) (nil_begins (of_sub sub came) rest begun)),
   (λ j few enough. few),
 )
-in_order_holds room sub (d ∷ later) came least small some (rest, begun) =
+in_order_below room sub (d ∷ later) came least small some (rest, begun) =
     let block = begins room d (some 0 d (omega arith)) in
     let got = goes (of_sub sub came) room sub 0
     (λ key. empty) [] block.first block.behind d later rest least small some block.is block.block refl
@@ -303,3 +305,35 @@ in_order_holds room sub (d ∷ later) came least small some (rest, begun) =
     all_of (suc i) room sub n many d later first behind frags each few enough =
         each i (omega arith) (subst (λ (fs : List Fragment). length
         (keyed (identification 0 sub) fs ++ sent_from room sub 1 (take i later)) ≤ n) frags enough)
+
+-- no identification tells a sub-VL past the fourth
+pub none_past : {X : Type 0} (sub : ℕ) (es : List (ℕ × X)) → 4 ≤ sub → of_sub sub es ≡ []
+none_past sub [] past = refl
+none_past {X = X} sub (e ∷ es) past =
+    let other : e.0 % 4 ≡ sub → ⊥ = λ is. absurd (omega arith) in
+    ap (λ (t : Bool). cond t (e ∷ of_sub sub es) (of_sub sub es)) (ne_eqb (e.0 % 4) sub other) ∙ none_past sub es past
+
+-- and where no fragment came none of a datagram with a byte did
+none_sent : (j room sub : ℕ) (datagrams : List (List ℕ)) → All HasByte datagrams → j ≤ length datagrams
+    → length (sent_from room sub 0 (take j datagrams)) ≤ 0 → j ≤ 0
+none_sent zero room sub datagrams some few none = omega arith
+none_sent (suc i) room sub [] some few none = absurd (omega arith)
+none_sent (suc i) room sub (d ∷ later) some few none =
+    let block = begins room d (some 0 d (omega arith)) in
+    let more : length (keyed (identification 0 sub) (block.first ∷ block.behind) ++ sent_from room sub 1 (take i later)) ≤ 0 =
+    subst (λ (fs : List Fragment). length (keyed (identification 0 sub) fs ++ sent_from room sub 1 (take i later)) ≤ 0)
+    block.is none in
+    absurd (omega arith)
+
+-- the law
+pub in_order_holds : InOrder
+in_order_holds room sub datagrams came least some begun = elim (cases_lt sub 4) [
+  | inl small ↦ in_order_below room sub datagrams came least small some begun
+  | inr past ↦ (
+      0,
+      ap (map (λ (e : ℕ × List ℕ). e.1)) (none_past sub (delivered (λ key. empty) came) past),
+      (λ j few enough. none_sent j room sub datagrams some few
+          (subst (λ (es : List (ℕ × Fragment)). length (sent_from room sub 0 (take j datagrams)) ≤ length es)
+          (none_past sub came past) enough)),
+    )
+]

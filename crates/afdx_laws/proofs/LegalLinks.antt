@@ -53,20 +53,17 @@ handed_is plan accepted net handed k sub legal inside index =
     }
 
 -- so a link's frames were handed to both networks
-are_handed : (plan : Plan) (accepted : Accepted) (a b : List Entry) (k sub : ℕ) → IsPlan plan → IsLegal plan accepted a b
+pub are_handed : (plan : Plan) (accepted : Accepted) (a b : List Entry) (k sub : ℕ) → IsPlan plan → IsLegal plan accepted a b
     → k < length plan.links → sub < (link_plan_at plan.links k).sub_vls → All (IsAllowed plan k sub) (accepted k sub)
     → AreHanded plan.end_system (piece_room plan k) sub (accepted k sub)
     (frames_of (id_at plan k) a) (frames_of (id_at plan k) b)
-are_handed plan accepted a b k sub valid legal inside index allowed =
-    let few = (link_is plan k valid inside).sub_vls in
-    record {
-      link = room_is plan k valid inside;
-      index = omega arith;
-      sent = All-weaker (IsAllowed plan k sub) (IsSent sub) (λ sent is. sent_is plan k sub sent valid is) (accepted k sub) allowed;
-      on_a = handed_is plan accepted A a k sub legal.on_a inside index;
-      on_b = handed_is plan accepted B b k sub legal.on_b inside index;
-      twins = twins_are plan accepted a b k valid legal inside;
-    }
+are_handed plan accepted a b k sub valid legal inside index allowed = record {
+  link = room_is plan k valid inside;
+  sent = All-weaker (IsAllowed plan k sub) (IsSent sub) (λ sent is. sent_is plan k sub sent valid is) (accepted k sub) allowed;
+  on_a = handed_is plan accepted A a k sub legal.on_a inside index;
+  on_b = handed_is plan accepted B b k sub legal.on_b inside index;
+  twins = twins_are plan accepted a b k valid legal inside;
+}
 
 -- the law
 pub legal_arrive_holds : LegalArrive
@@ -77,7 +74,7 @@ legal_arrive_holds plan accepted a b valid legal k sub inside index allowed lag 
 
 -- the law despite loss
 pub legal_despite_loss_holds : LegalDespiteLoss
-legal_despite_loss_holds plan accepted a b valid legal k sub inside index allowed both check whole came some close =
+legal_despite_loss_holds plan accepted a b valid legal k sub inside index allowed check whole came some close =
     handed_despite_loss_holds plan.end_system (piece_room plan k) sub check whole (accepted k sub)
     (frames_of (id_at plan k) a) (frames_of (id_at plan k) b) came
     (are_handed plan accepted a b k sub valid legal inside index allowed) some close

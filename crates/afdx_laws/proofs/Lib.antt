@@ -30,5 +30,10 @@ pub mod WorkedNumbers
 pub mod WorkedPieces
 pub mod WorkedLosses
 pub mod WorkedCounts
+pub mod WorkedPairs
+pub mod WorkedPolls
 pub mod NextFragment
+pub mod BufferBytes
 pub mod OneBuffer
+pub mod NeededBuffers
+pub mod WorkedBuffers

@@ -157,7 +157,7 @@ next_polled_in_time subs x gap late released polls xl some served paced has reac
     subst (λ (n : ℕ). 1 ≤ released_by x (released + n * (gap + late)) polls) once law
 
 -- a link's number is one of those that the greatest is of
-wait_at : (late : ℕ) (links : List LinkPlan) (k : ℕ) → k < length links
+pub wait_at : (late : ℕ) (links : List LinkPlan) (k : ℕ) → k < length links
     → link_wait late (link_plan_at links k) ≤ longest_wait late links
 wait_at late [] k lt = absurd (omega arith)
 wait_at late (link ∷ links) zero lt = omega arith

@@ -1,15 +1,21 @@
 -- Fragments in order need one buffer for each sub-VL.
 use Rattle.std.proofs.Common.{◌≡◌, ℕ, suc, ◌%◌, ◌≤◌, ◌<◌, inl, inr, Bool, nat_eq, cond, List, [], ◌∷◌, ◌++◌, length, refl, ap, sym, ◌∙◌, subst, arith}
 use Rattle.std.specs.Prelude.{All, Option, Some, None}
-use Rattle.std.proofs.lemmas.Bool.{cases_Bool, eqb-true}
+use Rattle.std.proofs.lemmas.Bool.{cases_Bool, cases_lt, eqb-true}
 use Rattle.std.proofs.lemmas.List.{append_assoc}
 use Rattle.afdx_plan.specs.Numbers.{identification}
 use Rattle.afdx_frame.specs.Reassembly.{Fragment, Buffer, empty, put, put_all, datagram_in, fragments_of}
-use Rattle.afdx_laws.specs.Delivery.{with_buffer, kept_in, of_sub, keyed, sent_from}
-use Rattle.afdx_laws.specs.Buffers.{buffers_after, HoldsOne, OneBuffer}
-use Rattle.afdx_laws.specs.WorkedBuffers.{HoldsTheSecond}
-use Rattle.afdx_laws.proofs.ListLemmas.{cons_parts, nil_begins}
+use Rattle.afdx_legal.specs.Streams.{IsPrefixOf}
+use Rattle.afdx_laws.specs.Delivery.{with_buffer, kept_in, of_sub, keyed, sent_from, HasByte}
+use Rattle.afdx_laws.specs.Buffers.{buffers_after, OneBuffer}
+use Rattle.afdx_laws.proofs.ListLemmas.{cons_parts, nil_begins, all_front}
+use Rattle.afdx_laws.proofs.BufferBytes.{EndsBefore, sent_end, after_within}
 use Rattle.afdx_laws.proofs.InOrder.{same_with, other_with, IsBlock, put_more, whole, not_yet, nothing_yet, HoldsSoFar, with_same, with_else, all_empty, ident_sub, begins}
+
+-- of the buffers of a sub-VL all but one are empty
+record IsAlone (sub : ℕ) (buffers : ℕ → Buffer) : Type 0 where
+  pub key : ℕ
+  pub others : (k : ℕ) → k % 4 ≡ sub → (k ≡ key → ⊥) → buffers k ≡ empty
 
 -- a sub-VL's buffers are those of its fragments alone
 own_buffers : (sub : ℕ) (es : List (ℕ × Fragment)) (xs ys : ℕ → Buffer) → ((k : ℕ) → k % 4 ≡ sub → xs k ≡ ys k)
@@ -31,7 +37,7 @@ own_buffers sub (e ∷ es) xs ys same k is = elim (cases_Bool (nat_eq (e.0 % 4) 
 ]
 
 -- what holds of buffers that are the same for a sub-VL
-holds_as : (sub : ℕ) (xs ys : ℕ → Buffer) → ((k : ℕ) → k % 4 ≡ sub → xs k ≡ ys k) → HoldsOne sub ys → HoldsOne sub xs
+holds_as : (sub : ℕ) (xs ys : ℕ → Buffer) → ((k : ℕ) → k % 4 ≡ sub → xs k ≡ ys k) → IsAlone sub ys → IsAlone sub xs
 holds_as sub xs ys same h = record { key = h.key; others = λ k is ne. same k is ∙ h.others k is ne }
 
 -- a fragment that gives nothing, and one that gives a datagram
@@ -64,7 +70,7 @@ holds : (came : List (ℕ × Fragment)) (room sub place : ℕ) (buffers : ℕ �
     → fragments_of room d ≡ done ++ f ∷ todo → IsBlock (f ∷ todo)
     → (buffers (identification place sub)).total ≡ None → HoldsSoFar sub (identification place sub) buffers done
     → keyed (identification place sub) (f ∷ todo) ++ sent_from room sub (suc place) later ≡ came ++ rest
-    → HoldsOne sub (buffers_after buffers came)
+    → IsAlone sub (buffers_after buffers came)
 holds [] room sub place buffers done f todo d later rest least small some split block none so is =
     record { key = identification place sub; others = so.1 }
 holds ((key, g) ∷ came) room sub place buffers done f (next ∷ todo) d later rest least small some split block none so is =
@@ -73,7 +79,7 @@ holds ((key, g) ∷ came) room sub place buffers done f (next ∷ todo) d later 
     let b : Buffer = put (buffers k) f in
     let yet : b.total ≡ None = not_yet (buffers k) f block.0 none in
     let put_is : b ≡ put_all empty (done ++ f ∷ []) = ap (λ (c : Buffer). put c f) so.0 ∙ sym (put_more done empty f) in
-    subst (HoldsOne sub) (sym (after_none buffers (key, g) k f came heads.0 (nothing_yet b yet)))
+    subst (IsAlone sub) (sym (after_none buffers (key, g) k f came heads.0 (nothing_yet b yet)))
     (holds came room sub place (with_buffer k b buffers) (done ++ f ∷ []) next todo d later rest least small some
     (split ∙ sym (append_assoc done (f ∷ []) (next ∷ todo))) block.1
     (ap (λ (c : Buffer). c.total) (with_same k b buffers) ∙ yet)
@@ -84,8 +90,8 @@ holds ((key, g) ∷ came) room sub place buffers done f [] d [] rest least small
     let k : ℕ = identification place sub in
     let none_left : came ≡ [] = nil_begins came rest (sym heads.1) in
     let gives = gives_whole buffers k f room done d least (some 0 d (omega arith)) split so.0 in
-    subst (HoldsOne sub) (sym (after_some buffers (key, g) k f came d heads.0 gives))
-    (subst (λ (es : List (ℕ × Fragment)). HoldsOne sub (buffers_after (with_buffer k empty buffers) es)) (sym none_left)
+    subst (IsAlone sub) (sym (after_some buffers (key, g) k f came d heads.0 gives))
+    (subst (λ (es : List (ℕ × Fragment)). IsAlone sub (buffers_after (with_buffer k empty buffers) es)) (sym none_left)
     (record { key = k; others = λ m is_m ne. all_empty sub k buffers so.1 m is_m }))
 holds ((key, g) ∷ came) room sub place buffers done f [] d (e ∷ later) rest least small some split block none so is =
     let heads = cons_parts is in
@@ -95,21 +101,23 @@ holds ((key, g) ∷ came) room sub place buffers done f [] d (e ∷ later) rest 
     let block_e = begins room e (some 1 e (omega arith)) in
     let frags = block_e.is in
     let key_e : ℕ = identification (suc place) sub in
-    subst (HoldsOne sub) (sym (after_some buffers (key, g) k f came d heads.0 gives))
+    subst (IsAlone sub) (sym (after_some buffers (key, g) k f came d heads.0 gives))
     (holds came room sub (suc place) (with_buffer k empty buffers) [] block_e.first block_e.behind e later rest least small
     (λ i x h. some (suc i) x (omega arith))
     frags block_e.block (ap (λ (c : Buffer). c.total) (empties key_e (ident_sub (suc place) sub small)))
     (empties key_e (ident_sub (suc place) sub small), λ m is_m ne. empties m is_m)
     (ap (λ (fs : List Fragment). keyed key_e fs ++ sent_from room sub (suc (suc place)) later) (sym frags) ∙ heads.1))
 
--- the law
-pub one_buffer : OneBuffer
-one_buffer room sub [] came least small some (rest, begun) =
+-- all but one are empty, whatever came so far
+is_alone : (room sub : ℕ) (datagrams : List (List ℕ)) (came : List (ℕ × Fragment)) → 8 ≤ room → sub < 4
+    → All HasByte datagrams → IsPrefixOf (of_sub sub came) (sent_from room sub 0 datagrams)
+    → IsAlone sub (buffers_after (λ key. empty) came)
+is_alone room sub [] came least small some (rest, begun) =
     holds_as sub (buffers_after (λ key. empty) came) (λ key. empty)
     (λ k is. own_buffers sub came (λ key. empty) (λ key. empty) (λ j h. refl) k is
     ∙ ap (λ (es : List (ℕ × Fragment)). buffers_after (λ key. empty) es k) (nil_begins (of_sub sub came) rest begun))
     (record { key = 0; others = λ k is ne. refl })
-one_buffer room sub (d ∷ later) came least small some (rest, begun) =
+is_alone room sub (d ∷ later) came least small some (rest, begun) =
     let block = begins room d (some 0 d (omega arith)) in
     holds_as sub (buffers_after (λ key. empty) came) (buffers_after (λ key. empty) (of_sub sub came))
     (own_buffers sub came (λ key. empty) (λ key. empty) (λ j h. refl))
@@ -117,6 +125,26 @@ one_buffer room sub (d ∷ later) came least small some (rest, begun) =
     block.is block.block refl (refl, λ k h ne. refl)
     (ap (λ (fs : List Fragment). keyed (identification 0 sub) fs ++ sent_from room sub 1 later) (sym block.is) ∙ sym begun))
 
--- the worked row
-pub holds_the_second : HoldsTheSecond
-holds_the_second = record { first = refl; other = refl; second = refl; begun = refl; both = refl }
+-- no identification tells a sub-VL past the fourth
+alone : (room sub : ℕ) (datagrams : List (List ℕ)) (came : List (ℕ × Fragment)) → 8 ≤ room
+    → All HasByte datagrams → IsPrefixOf (of_sub sub came) (sent_from room sub 0 datagrams)
+    → IsAlone sub (buffers_after (λ key. empty) came)
+alone room sub datagrams came least some begun = elim (cases_lt sub 4) [
+  | inl small ↦ is_alone room sub datagrams came least small some begun
+  | inr past ↦ record { key = 0; others = λ k is ne. absurd (omega arith) }
+]
+
+-- the law
+pub one_buffer : OneBuffer
+one_buffer room sub most datagrams came least some fit begun =
+    let one = alone room sub datagrams came least some begun in
+    let ends : All (EndsBefore most) (of_sub sub came) =
+    all_front (EndsBefore most) (of_sub sub came) begun.0 (sent_from room sub 0 datagrams) begun.1
+    (sent_end datagrams room sub 0 most fit) in
+    record {
+      key = one.key;
+      others = one.others;
+      within = λ k is i past.
+          ap (λ (b : Buffer). b.byte_at i) (own_buffers sub came (λ key. empty) (λ key. empty) (λ j h. refl) k is)
+          ∙ after_within (of_sub sub came) most (λ key. empty) (λ j m h. refl) ends k i past;
+    }

@@ -2,7 +2,7 @@
 use Rattle.std.proofs.Common.{ℕ, ◌≡◌, ◌+◌, ◌-◌, ◌*◌, ◌<◌, ◌≤◌, inl, inr, List, [], ◌∷◌, refl, ap, sym, ◌∙◌, arith}
 use Rattle.std.proofs.lemmas.Bool.{cases_lt, le-leb, lt-leb}
 use Rattle.std.proofs.lemmas.List.Sums.{sum_by-cons}
-use Rattle.std.proofs.Math.Nat.{mul-add, min-le_right}
+use Rattle.std.proofs.Math.Nat.{mul-add, min-le_left, min-le_right}
 use Rattle.afdx_laws.specs.Policer.{Arrival, Rule, Account, Charge, limit, filled, paid, price, passed, cost, AreBetween, NoMorePasses}
 
 -- a frame that passes, and what passes behind it
@@ -56,9 +56,31 @@ spent charge rule credit start end (f ∷ later) between =
           omega arith
     ]
 
+-- nor more than the limit, and what filled: no more is on the account when the first frame comes
+spent_limit : (charge : Charge) (rule : Rule) (credit start end : ℕ) (frames : List Arrival) → AreBetween start end frames
+    → cost charge rule (passed charge rule (record { credit = credit; since = start }) frames)
+    ≤ limit rule + rule.lmax * (end - start)
+spent_limit charge rule credit start end [] between = omega arith
+spent_limit charge rule credit start end (f ∷ later) between =
+    let account : Account = record { credit = credit; since = start } in
+    let now : Account = filled rule account f.at in
+    let order = in_order f.at end later between.1 in
+    let whole = filled_over rule.lmax start f.at end between.0 order in
+    let most : now.credit ≤ limit rule = min-le_left (limit rule) (credit + rule.lmax * (f.at - start)) in
+    elim (cases_lt now.credit (price charge rule f)) [
+      | inl cannot ↦
+          let rest = spent charge rule now.credit f.at end later between.1 in
+          let same = one_dropped charge rule account f later cannot in
+          omega arith
+      | inr can ↦
+          let rest = spent charge rule (now.credit - price charge rule f) f.at end later between.1 in
+          let same = one_passed charge rule account f later can in
+          omega arith
+    ]
+
 -- the law
 pub no_more_passes_holds : NoMorePasses
-no_more_passes_holds charge rule credit start end frames small between =
-    let all = spent charge rule credit start end frames between in
+no_more_passes_holds charge rule credit start end frames between =
+    let all = spent_limit charge rule credit start end frames between in
     let whole = mul-add rule.lmax (rule.gap + rule.jitter) (end - start) in
     omega arith

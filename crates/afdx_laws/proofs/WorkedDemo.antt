@@ -39,7 +39,7 @@ abbrev its_link : Networks → ℕ → LinkPlan
 its_link carriers k = link_plan_at (demo_on carriers).links k
 
 -- the frame is known
-one_known : (carriers : Networks) (net : Net) → IsKnown (demo_on carriers).links net (one_frame net)
+pub one_known : (carriers : Networks) (net : Net) → IsKnown (demo_on carriers).links net (one_frame net)
 unfolding checksum addresses header_front internet_header link_header udp_header datagram unnumbered
 one_known carriers net = record {
   size = let size : length (one_frame net) ≡ 60 = refl in omega arith;

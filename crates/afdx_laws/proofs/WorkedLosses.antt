@@ -1,5 +1,5 @@
 -- The worked losses, by computation.
-use Rattle.std.proofs.Common.{◌≡◌, ◌≢◌, ℕ, zero, suc, ◌+◌, max, Bool, true, false, not, ◌&&◌, ◌||◌, nat_eq, nat_lt, nat_le, cond, List, [], ◌∷◌, length, map, take, refl, ap, sym, ◌∙◌, subst, arith}
+use Rattle.std.proofs.Common.{◌≡◌, ◌≢◌, ◌≤◌, ℕ, zero, suc, ◌+◌, max, Bool, true, false, not, ◌&&◌, ◌||◌, nat_eq, nat_lt, nat_le, cond, List, [], ◌∷◌, length, map, take, refl, ap, sym, ◌∙◌, subst, arith}
 use Rattle.std.proofs.lemmas.Bool.{and_parts, false≢true, eqb-true, leb-true, ltb-true}
 use Rattle.afdx_frame.specs.declared.net.Net.{Net}
 use Rattle.afdx_frame.specs.declared.net.Net.TheVariants.{A, B}
@@ -7,14 +7,17 @@ use Rattle.afdx_frame.specs.Checksum.{checksum}
 use Rattle.afdx_frame.specs.Frame.{addresses, header_front, internet_header, link_header, udp_header, datagram, unnumbered}
 use Rattle.afdx_frame.specs.Header.{number_in}
 use Rattle.afdx_frame.specs.Twin.{twin_of}
-use Rattle.afdx_laws.specs.Receiver.{begin, received}
+use Rattle.afdx_laws.specs.Receiver.{begin, received, carried}
+use Rattle.afdx_laws.specs.Messages.{messages_in}
 use Rattle.afdx_laws.specs.Loss.{AreWithin, StartsFirst, AreClose, IsMasked, BeginsFirst, same_net, next_alone, frames_at, one_lost}
-use Rattle.afdx_laws.specs.WorkedDelivery.{bytes_41, back_frame, both_frames}
-use Rattle.afdx_laws.specs.WorkedLoss.{second_lost, first_lost, only_lost, messages_despite, longer_frames, longer_of_plan, MasksOneLoss, NeedsTheFirst, BeginsOnBoth, ComesDespiteLoss, HandedDespiteOneLoss, LegalDespiteOneLoss}
+use Rattle.afdx_laws.specs.WorkedDelivery.{bytes_41, one_accepted, other_accepted, back_frame, both_frames}
+use Rattle.afdx_laws.specs.WorkedLoss.{second_lost, first_lost, only_lost, messages_despite, longer_frames, longer_of_plan, ArrivesDespite, HandedDespite, MasksOneLoss, NeedsTheFirst, BeginsOnBoth, ComesDespiteLoss, NeedsAWholeNetwork, HandedDespiteOneLoss, NeedsOneWhole, LegalDespiteOneLoss}
 use Rattle.afdx_laws.proofs.ListLemmas.{cons_parts}
 use Rattle.afdx_laws.proofs.WorkedDemo.{one_is_legal}
-use Rattle.afdx_laws.proofs.WorkedMessage.{stream_of, both_handed}
+use Rattle.afdx_laws.proofs.WorkedMessage.{stream_of, both_handed, another_sent, whole_lost, both_of_it}
 use Rattle.afdx_laws.proofs.HandedOver.{sending_a}
+use Rattle.afdx_laws.proofs.Arriving.{despite_loss_holds}
+use Rattle.afdx_laws.proofs.HandedLoss.{handed_despite_loss_holds}
 
 -- what AreWithin says of a run, as a test
 abbrev lies_within : Net → ℕ → ℕ → ℕ → List (Net × ℕ) → Bool
@@ -49,7 +52,7 @@ within_by_test (e ∷ es) whole n farthest carries test =
     )
 
 -- they are close where the first of the stream comes first
-close_by_test : (came : List (Net × ℕ)) (whole : Net) (n : ℕ)
+pub close_by_test : (came : List (Net × ℕ)) (whole : Net) (n : ℕ)
     → lies_within whole n 0 0 came ≡ true → StartsFirst came → AreClose whole n 0 0 came
 close_by_test came whole n test starts =
     record { within = within_by_test came whole n 0 0 test; first = λ none. starts }
@@ -153,6 +156,38 @@ comes_despite_loss = record {
   first = record { many = 1; are = stream_message; all = λ j few enough. few };
 }
 
+-- the second frame alone is accepted
+nothing_first : messages_in 0 (received number_in (next_alone 1) begin (frames_at (both_frames A) first_lost)) ≡ []
+unfolding checksum addresses header_front internet_header link_header udp_header datagram unnumbered
+nothing_first = refl
+
+-- where the check takes no number but 0 the first one alone is
+nothing_checked : messages_in 0 (received number_in (next_alone 0) begin (frames_at (both_frames A) second_lost)) ≡ []
+unfolding checksum addresses header_front internet_header link_header udp_header datagram unnumbered
+nothing_checked = refl
+
+-- nothing is less than one
+pub none_checks : 1 ≤ 0 → ⊥
+none_checks some = absurd (omega arith)
+
+-- the row of a stream that doesn't come
+pub needs_a_whole_network : NeedsAWholeNetwork
+needs_a_whole_network =
+    let sending = sending_a 1 25 0 one_accepted (both_frames A) (both_frames B) both_handed in
+    let other : ArrivesDespite other_accepted 1 second_lost → ⊥ =
+    another_sent (take (length (carried B second_lost)) (both_frames A)) _ stream_message in
+    record {
+      sending = sending;
+      close = second_is_close;
+      other = λ sending_other. other
+          (despite_loss_holds 1 25 0 1 B other_accepted (both_frames A) second_lost sending_other (omega arith) second_is_close);
+      other_arrives = other;
+      first = not_close 2 0 ((B, 0) ∷ (B, 1) ∷ []);
+      first_arrives = whole_lost (take (length (carried B first_lost)) (both_frames A)) _ both_of_it nothing_first;
+      check = none_checks;
+      check_arrives = whole_lost (take (length (carried B second_lost)) (both_frames A)) _ both_of_it nothing_checked;
+    }
+
 -- the message of what was handed over
 handed_message : messages_despite longer_frames second_lost ≡ bytes_41 ∷ []
 unfolding checksum addresses header_front internet_header link_header udp_header datagram unnumbered
@@ -166,6 +201,23 @@ handed_despite_one_loss = record {
   message = handed_message;
   first = record { many = 1; are = handed_message; all = λ j few enough. few };
 }
+
+-- the row of what was handed over and doesn't come
+pub needs_one_whole : NeedsOneWhole
+needs_one_whole =
+    let other : HandedDespite other_accepted 1 second_lost → ⊥ =
+    another_sent (take (length (carried B second_lost)) longer_frames) _ handed_message in
+    record {
+      handed = both_handed;
+      close = second_is_close;
+      other = λ handed. other (handed_despite_loss_holds 1 25 0 1 B other_accepted (both_frames A) (both_frames B)
+          second_lost handed (omega arith) second_is_close);
+      other_arrives = other;
+      first = not_close 2 0 ((B, 0) ∷ (B, 1) ∷ []);
+      first_arrives = whole_lost (take (length (carried B first_lost)) longer_frames) _ both_of_it nothing_first;
+      check = none_checks;
+      check_arrives = whole_lost (take (length (carried B second_lost)) longer_frames) _ both_of_it nothing_checked;
+    }
 
 -- one frame was handed over
 one_longer : length longer_of_plan ≡ 1
@@ -187,7 +239,6 @@ legal_despite_one_loss = record {
   valid = one_is_legal.valid;
   legal = one_is_legal.legal;
   allowed = one_is_legal.allowed;
-  networks = refl;
   close = only_is_close;
   message = plan_message;
   first = record { many = 1; are = plan_message; all = λ j few enough. few };

@@ -1,8 +1,20 @@
--- How many buffers a receiver needs to reassemble the messages of a link.
-use Rattle.std.specs.Prelude.{◌≡◌, ℕ, ◌%◌, ◌≤◌, ◌<◌, List, [], ◌∷◌, All}
+-- How many buffers a receiver needs to reassemble the messages of a link, and how large they are.
+use Rattle.std.specs.Prelude.{◌≡◌, ℕ, ◌%◌, ◌≤◌, ◌<◌, None, List, [], ◌∷◌, length, map, All}
+use Rattle.afdx_plan.specs.Config.{Plan, IsPlan, link_plan_at}
+use Rattle.afdx_frame.specs.declared.net.Net.{Net}
+use Rattle.afdx_frame.specs.Header.{number_in}
+use Rattle.afdx_frame.specs.Fragments.{Sent}
 use Rattle.afdx_frame.specs.Reassembly.{Fragment, Buffer, empty, put, datagram_in}
+use Rattle.redundant_mux.specs.Entry.{Entry}
 use Rattle.afdx_legal.specs.Streams.{IsPrefixOf}
+use Rattle.afdx_legal.specs.Legal.{Accepted, IsLegal}
+use Rattle.afdx_legal.specs.Allowed.{IsAllowed}
+use Rattle.afdx_laws.specs.Receiver.{Tolerance, IsFitFor, begin, received}
+use Rattle.afdx_laws.specs.Loss.{AreClose, next_alone, frames_at}
 use Rattle.afdx_laws.specs.Delivery.{with_buffer, kept_in, of_sub, sent_from, HasByte}
+use Rattle.afdx_laws.specs.Messages.{fragment_in}
+use Rattle.afdx_laws.specs.Handed.{AreHanded, AreCarriedOf, longer}
+use Rattle.afdx_laws.specs.Plans.{id_at, frames_of}
 
 -- the buffers after these fragments
 abbrev pub buffers_after : (ℕ → Buffer) → List (ℕ × Fragment) → ℕ → Buffer
@@ -10,15 +22,63 @@ buffers_after buffers [] = buffers
 buffers_after buffers (e ∷ es) = buffers_after (with_buffer e.0
     (kept_in (put (buffers e.0) e.1) (datagram_in (put (buffers e.0) e.1))) buffers) es
 
--- Of the buffers of a sub-VL, which is the identification modulo 4, all but one are empty.
-pub record HoldsOne (sub : ℕ) (buffers : ℕ → Buffer) : Type 0 where
+-- Of the buffers of a sub-VL, which is the identification modulo 4, all but one are empty, and none has a
+-- byte behind the first so many.
+pub record HoldsOne (sub most : ℕ) (buffers : ℕ → Buffer) : Type 0 where
   pub key : ℕ
   pub others : (k : ℕ) → k % 4 ≡ sub → (k ≡ key → ⊥) → buffers k ≡ empty
+  pub within : (k : ℕ) → k % 4 ≡ sub → (i : ℕ) → most ≤ i → (buffers k).byte_at i ≡ None
+
+-- a datagram has at most so many bytes
+abbrev pub HasUpTo : ℕ → List ℕ → Type 0
+HasUpTo most datagram = length datagram ≤ most
 
 -- Where the fragments that come of a sub-VL are the first of its datagrams' fragments, in order, among
--- fragments of other sub-VLs, one buffer is enough for it, whatever came so far.
+-- fragments of other sub-VLs, one buffer of the greatest datagram is enough for it, whatever came so far.
 abbrev pub OneBuffer : Type 0
-OneBuffer = (room sub : ℕ) (datagrams : List (List ℕ)) (came : List (ℕ × Fragment)) → 8 ≤ room → sub < 4
-    → All HasByte datagrams
+OneBuffer = (room sub most : ℕ) (datagrams : List (List ℕ)) (came : List (ℕ × Fragment)) → 8 ≤ room
+    → All HasByte datagrams → All (HasUpTo most) datagrams
     → IsPrefixOf (of_sub sub came) (sent_from room sub 0 datagrams)
-    → HoldsOne sub (buffers_after (λ key. empty) came)
+    → HoldsOne sub most (buffers_after (λ key. empty) came)
+
+-- the buffers of a receiver after these frames
+abbrev pub buffers_in : List (List ℕ) → ℕ → Buffer
+buffers_in frames = buffers_after (λ key. empty) (map fragment_in frames)
+
+-- one buffer of 8,200 bytes is enough for a sub-VL: the UDP header's 8 and a message's 8,192
+abbrev pub IsOneEnough : ℕ → List (List ℕ) → Type 0
+IsOneEnough sub frames = HoldsOne sub 8200 (buffers_in frames)
+
+-- It is enough for the frames that a receiver accepts, of what was handed to two networks over a link, where
+-- each carries some beginning of it and the two are near. So it is at any point: what came so far is such a
+-- beginning too.
+abbrev pub HandedNeedOne : Type 0
+HandedNeedOne = (end_system room sub lag : ℕ) (tolerance : Tolerance) (accepted : List Sent)
+    (a b : List (List ℕ)) (arrivals : List (Net × List ℕ))
+    → AreHanded end_system room sub accepted a b
+    → IsFitFor lag tolerance → AreCarriedOf lag a b arrivals
+    → IsOneEnough sub (received number_in tolerance begin arrivals)
+
+-- So it is for each link and sub-VL of a valid plan, of what was handed over legally.
+abbrev pub LegalNeedOne : Type 0
+LegalNeedOne = (plan : Plan) (accepted : Accepted) (a b : List Entry)
+    → IsPlan plan → IsLegal plan accepted a b
+    → (k sub : ℕ) → k < length plan.links → sub < (link_plan_at plan.links k).sub_vls
+    → All (IsAllowed plan k sub) (accepted k sub)
+    → (lag : ℕ) (tolerance : Tolerance) (arrivals : List (Net × List ℕ))
+    → IsFitFor lag tolerance
+    → AreCarriedOf lag (frames_of (id_at plan k) a) (frames_of (id_at plan k) b) arrivals
+    → IsOneEnough sub (received number_in tolerance begin arrivals)
+
+-- And so it is although one network loses, repeats and reorders frames, where the other carries them all and
+-- the next number alone is new to the receiver.
+abbrev pub LegalNeedOneDespite : Type 0
+LegalNeedOneDespite = (plan : Plan) (accepted : Accepted) (a b : List Entry)
+    → IsPlan plan → IsLegal plan accepted a b
+    → (k sub : ℕ) → k < length plan.links → sub < (link_plan_at plan.links k).sub_vls
+    → All (IsAllowed plan k sub) (accepted k sub)
+    → (check : ℕ) (whole : Net) (came : List (Net × ℕ)) → 1 ≤ check
+    → AreClose whole
+    (length (longer (frames_of (id_at plan k) a) (frames_of (id_at plan k) b))) 0 0 came
+    → IsOneEnough sub (received number_in (next_alone check) begin
+    (frames_at (longer (frames_of (id_at plan k) a) (frames_of (id_at plan k) b)) came))

@@ -1,5 +1,5 @@
 -- From the fragments of a link to the datagrams of its sub-VLs, at the receiving end.
-use Rattle.std.specs.Prelude.{◌≡◌, ℕ, suc, ◌%◌, ◌≤◌, ◌<◌, nat_eq, if◌then◌else◌, Option, Some, None, List, [], ◌∷◌, ◌++◌, length, map, take, All}
+use Rattle.std.specs.Prelude.{◌≡◌, ℕ, suc, ◌%◌, ◌≤◌, nat_eq, if◌then◌else◌, Option, Some, None, List, [], ◌∷◌, ◌++◌, length, map, take, All}
 use Rattle.afdx_plan.specs.Numbers.{identification}
 use Rattle.afdx_frame.specs.Reassembly.{Fragment, Buffer, empty, put, datagram_in, fragments_of}
 use Rattle.afdx_legal.specs.Streams.{those_with, IsPrefixOf}
@@ -45,15 +45,19 @@ sent_from room sub place (datagram ∷ later) =
 abbrev pub HasByte : List ℕ → Type 0
 HasByte datagram = 1 ≤ length datagram
 
--- Where the fragments that come of a sub-VL are the first of its datagrams' fragments, in order,
--- among fragments of other sub-VLs, its first datagrams are given: in order, each once, and all those
--- of which each fragment came.
-abbrev pub InOrder : Type 0
-InOrder = (room sub : ℕ) (datagrams : List (List ℕ)) (came : List (ℕ × Fragment)) → 8 ≤ room → sub < 4
-    → All HasByte datagrams
-    → IsPrefixOf (of_sub sub came) (sent_from room sub 0 datagrams)
-    → (many : ℕ)
+-- The first datagrams of a sub-VL are given: in order, each once, and all those of which each fragment
+-- came.
+abbrev pub AreGiven : (room sub : ℕ) → List (List ℕ) → List (ℕ × Fragment) → Type 0
+AreGiven room sub datagrams came = (many : ℕ)
     × (map (λ (e : ℕ × List ℕ). e.1) (of_sub sub (delivered (λ key. empty) came))
     ≡ take many datagrams)
     × ((j : ℕ) → j ≤ length datagrams
     → length (sent_from room sub 0 (take j datagrams)) ≤ length (of_sub sub came) → j ≤ many)
+
+-- They are where the fragments that come of the sub-VL are the first of its datagrams' fragments, in
+-- order, among fragments of other sub-VLs.
+abbrev pub InOrder : Type 0
+InOrder = (room sub : ℕ) (datagrams : List (List ℕ)) (came : List (ℕ × Fragment)) → 8 ≤ room
+    → All HasByte datagrams
+    → IsPrefixOf (of_sub sub came) (sent_from room sub 0 datagrams)
+    → AreGiven room sub datagrams came

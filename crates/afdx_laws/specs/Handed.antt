@@ -1,5 +1,5 @@
 -- From what was handed to two networks to the messages at the receiving end.
-use Rattle.std.specs.Prelude.{◌≡◌, ℕ, ◌≤◌, ◌<◌, nat_lt, if◌then◌else◌, List, length, map, take, All}
+use Rattle.std.specs.Prelude.{◌≡◌, ℕ, ◌≤◌, nat_lt, if◌then◌else◌, List, length, map, take, All}
 use Rattle.afdx_frame.specs.declared.net.Net.{Net}
 use Rattle.afdx_frame.specs.declared.net.Net.TheVariants.{A, B}
 use Rattle.afdx_frame.specs.Header.{sub_in, number_in}
@@ -30,7 +30,6 @@ longer a b = if nat_lt (length a) (length b) then b else a
 -- a link's frames were handed to both networks
 pub record AreHanded (end_system room sub : ℕ) (accepted : List Sent) (a b : List (List ℕ)) : Type 0 where
   pub link : IsLinkOf end_system room
-  pub index : sub < 4
   pub sent : All (IsSent sub) accepted
   pub on_a : IsHanded end_system room sub accepted A a
   pub on_b : IsHanded end_system room sub accepted B b

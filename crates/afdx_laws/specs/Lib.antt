@@ -14,6 +14,7 @@ pub mod OneNetwork
 pub mod AllOnBoth
 pub mod WholeLists
 pub mod WorkedPlan
+pub mod WorkedPair
 pub mod WorkedNetworks
 pub mod WorkedWhole
 pub mod WorkedSkew
@@ -24,5 +25,6 @@ pub mod Counted
 pub mod WorkedCounts
 pub mod NextFragment
 pub mod WorkedNextFragment
+pub mod WorkedPolled
 pub mod Buffers
 pub mod WorkedBuffers

@@ -46,7 +46,6 @@ pub record IsLinkOf (end_system room : ℕ) : Type 0 where
 -- Of a link's stream, a sub-VL's frames are the first fragments of its accepted messages.
 pub record IsSending (end_system room sub : ℕ) (accepted : List Sent) (stream : List (List ℕ)) : Type 0 where
   pub link : IsLinkOf end_system room
-  pub index : sub < 4
   pub sent : All (IsSent sub) accepted
   pub frames : IsStream stream
   pub first : IsPrefixOf (map blanked (those_with sub_in sub stream)) (fragments end_system room A accepted)

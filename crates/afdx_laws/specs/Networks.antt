@@ -27,11 +27,15 @@ pub record AreCarried (lag : ℕ) (stream : List (List ℕ)) (arrivals : List (N
 abbrev pub most_carried : List (Net × List ℕ) → ℕ
 most_carried arrivals = max (length (carried A arrivals)) (length (carried B arrivals))
 
--- However the two networks are interleaved, the receiver accepts each frame of the stream once, in
--- order, as far as one of them carried it. Frames are compared as network A has them.
+-- The receiver accepts each frame of the stream once, in order, as far as one network carried it. Frames
+-- are compared as network A has them.
+abbrev pub IsOnce : Tolerance → List (List ℕ) → List (Net × List ℕ) → Type 0
+IsOnce tolerance stream arrivals = map (twin_of A) (received number_in tolerance begin arrivals)
+    ≡ take (most_carried arrivals) (map (twin_of A) stream)
+
+-- It does, however the two networks are interleaved.
 abbrev pub ExactlyOnce : Type 0
 ExactlyOnce = (lag : ℕ) (tolerance : Tolerance) (stream : List (List ℕ))
     (arrivals : List (Net × List ℕ))
     → IsFitFor lag tolerance → IsStream stream → AreCarried lag stream arrivals
-    → map (twin_of A) (received number_in tolerance begin arrivals)
-    ≡ take (most_carried arrivals) (map (twin_of A) stream)
+    → IsOnce tolerance stream arrivals

@@ -5,7 +5,6 @@ use Rattle.std.specs.List.{AllZip}
 use Rattle.afdx_plan.specs.Config.{Plan, IsPlan, link_plan_at}
 use Rattle.afdx_plan.specs.Plan.{bag_micros}
 use Rattle.afdx_plan.specs.Room.{room_of}
-use Rattle.afdx_plan.specs.declared.networks.Networks.TheVariants.{Both}
 use Rattle.afdx_frame.specs.declared.net.Net.{Net}
 use Rattle.afdx_frame.specs.Header.{number_in}
 use Rattle.redundant_mux.specs.Entry.{Entry}
@@ -48,14 +47,13 @@ LegalArrive = (plan : Plan) (accepted : Accepted) (a b : List Entry)
     (take (most_carried arrivals) (longer (frames_of (id_at plan k) a) (frames_of (id_at plan k) b)))
     (messages_in sub (received number_in tolerance begin arrivals))
 
--- Of a link on both networks they are so although one network loses, repeats and reorders frames, where
--- the other carries all of the link that was handed over and the next number alone is new to the receiver.
+-- They are so although one network loses, repeats and reorders frames, where the other carries all of the
+-- link that was handed over and the next number alone is new to the receiver.
 abbrev pub LegalDespiteLoss : Type 0
 LegalDespiteLoss = (plan : Plan) (accepted : Accepted) (a b : List Entry)
     → IsPlan plan → IsLegal plan accepted a b
     → (k sub : ℕ) → k < length plan.links → sub < (link_plan_at plan.links k).sub_vls
     → All (IsAllowed plan k sub) (accepted k sub)
-    → (link_plan_at plan.links k).networks ≡ Both
     → (check : ℕ) (whole : Net) (came : List (Net × ℕ)) → 1 ≤ check
     → AreClose whole
     (length (longer (frames_of (id_at plan k) a) (frames_of (id_at plan k) b))) 0 0 came

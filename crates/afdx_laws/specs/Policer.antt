@@ -95,11 +95,11 @@ abbrev pub AreBetween : ℕ → ℕ → List Arrival → Type 0
 AreBetween start end [] = start ≤ end
 AreBetween start end (frame ∷ later) = (start ≤ frame.at) × AreBetween frame.at end later
 
--- It is no switch that lets all pass: whatever comes, what passes from one moment to another costs at
--- most lmax bytes for each gap between them, and lmax (1 + jitter / gap) more.
+-- It is no switch that lets all pass: whatever comes, and whatever is on the account, what passes from one
+-- moment to another costs at most lmax bytes for each gap between them, and lmax (1 + jitter / gap) more.
 abbrev pub NoMorePasses : Type 0
 NoMorePasses = (charge : Charge) (rule : Rule) (credit start end : ℕ) (frames : List Arrival)
-    → credit ≤ limit rule → AreBetween start end frames
+    → AreBetween start end frames
     → cost charge rule (passed charge rule (record { credit = credit; since = start }) frames)
     ≤ rule.lmax * (rule.gap + rule.jitter + (end - start))
 

@@ -22,6 +22,10 @@ bytes_41 = replicate 41 0xaa
 abbrev pub one_accepted : List Sent
 one_accepted = record { port = demo_port; bytes = bytes_41 } ∷ []
 
+-- another message, which isn't sent
+abbrev pub other_accepted : List Sent
+other_accepted = record { port = demo_port; bytes = replicate 41 0xbb } ∷ []
+
 -- its first frame, for a network: bytes 0 to 23 of the datagram
 abbrev pub front_frame : Net → List ℕ
 front_frame net = frame_of 1 demo_port bytes_41 0 (piece_at 25 49 0) net 0
@@ -42,9 +46,17 @@ four_arrivals = (A, front_frame A)
     ∷ (A, back_frame A)
     ∷ []
 
+-- network B loses the first frame and is ahead
+abbrev pub three_arrivals : List (Net × List ℕ)
+three_arrivals = (B, back_frame B) ∷ (A, front_frame A) ∷ (A, back_frame A) ∷ []
+
 -- the next number alone is new
 abbrev pub plain_receiver : Tolerance
 plain_receiver = next_alone 1
+
+-- no number is new but the first of all
+abbrev pub closed_receiver : Tolerance
+closed_receiver = record { check = 1; window = 0 }
 
 -- They meet what the laws of delivery ask for, the receiver accepts A's first frame and B's second,
 -- and has the message.
@@ -58,3 +70,22 @@ pub record OneMessageArrives : Type 0 where
   pub first : AreFirst 1 25 0 one_accepted
       (take (most_carried four_arrivals) (longer (both_frames A) (both_frames B)))
       (messages_in 0 (received number_in plain_receiver begin four_arrivals))
+
+-- what a receiver has of what was handed over is what the law of delivery says
+abbrev pub HandedArrives : List Sent → Tolerance → List (Net × List ℕ) → Type 0
+HandedArrives accepted tolerance arrivals = AreFirst 1 25 0 accepted
+    (take (most_carried arrivals) (longer (both_frames A) (both_frames B)))
+    (messages_in 0 (received number_in tolerance begin arrivals))
+
+-- Each premise is needed. Where another message was accepted, that one doesn't arrive; where no number is new
+-- to the receiver, or network B loses the first frame and is ahead, none does.
+pub record NeedsHanding : Type 0 where
+  pub fit : IsFitFor 3 plain_receiver
+  pub handed : AreHanded 1 25 0 one_accepted (both_frames A) (both_frames B)
+  pub carry : AreCarriedOf 3 (both_frames A) (both_frames B) four_arrivals
+  pub other : AreHanded 1 25 0 other_accepted (both_frames A) (both_frames B) → ⊥
+  pub other_arrives : HandedArrives other_accepted plain_receiver four_arrivals → ⊥
+  pub unfit : IsFitFor 3 closed_receiver → ⊥
+  pub unfit_arrives : HandedArrives one_accepted closed_receiver four_arrivals → ⊥
+  pub lost : AreCarriedOf 3 (both_frames A) (both_frames B) three_arrivals → ⊥
+  pub lost_arrives : HandedArrives one_accepted plain_receiver three_arrivals → ⊥

@@ -1,12 +1,12 @@
 -- Worked losses: network B carries every frame, and network A doesn't.
-use Rattle.std.specs.Prelude.{◌≡◌, ℕ, List, [], ◌∷◌, length, map, take, All}
-use Rattle.afdx_plan.specs.Config.{IsPlan, link_plan_at}
+use Rattle.std.specs.Prelude.{◌≡◌, ℕ, ◌≤◌, List, [], ◌∷◌, length, map, take, All}
+use Rattle.afdx_plan.specs.Config.{IsPlan}
 use Rattle.afdx_plan.specs.Demo.{demo_plan}
-use Rattle.afdx_plan.specs.declared.networks.Networks.TheVariants.{Both}
 use Rattle.afdx_frame.specs.declared.net.Net.{Net}
 use Rattle.afdx_frame.specs.declared.net.Net.TheVariants.{A, B}
 use Rattle.afdx_frame.specs.Header.{number_in}
 use Rattle.afdx_frame.specs.Twin.{twin_of}
+use Rattle.afdx_frame.specs.Fragments.{Sent}
 use Rattle.afdx_legal.specs.Legal.{IsLegal}
 use Rattle.afdx_laws.specs.Receiver.{begin, received, carried}
 use Rattle.afdx_laws.specs.Networks.{IsStream}
@@ -15,7 +15,7 @@ use Rattle.afdx_laws.specs.Messages.{messages_in, IsSending, AreFirst}
 use Rattle.afdx_laws.specs.Handed.{AreHanded, longer}
 use Rattle.afdx_legal.specs.Allowed.{IsAllowed}
 use Rattle.afdx_laws.specs.Plans.{frames_of}
-use Rattle.afdx_laws.specs.WorkedDelivery.{bytes_41, one_accepted, back_frame, both_frames}
+use Rattle.afdx_laws.specs.WorkedDelivery.{bytes_41, one_accepted, other_accepted, back_frame, both_frames}
 use Rattle.afdx_legal.specs.WorkedMessage.{one_byte_accepted}
 use Rattle.afdx_laws.specs.WorkedPlan.{one_entry}
 
@@ -91,6 +91,23 @@ pub record ComesDespiteLoss : Type 0 where
   pub first : AreFirst 1 25 0 one_accepted (take (length (carried B second_lost)) (both_frames A))
       (messages_despite (both_frames A) second_lost)
 
+-- what a receiver has of the worked delivery's stream is what the law says, despite these losses
+abbrev pub ArrivesDespite : List Sent → ℕ → List (Net × ℕ) → Type 0
+ArrivesDespite accepted check came = AreFirst 1 25 0 accepted (take (length (carried B came)) (both_frames A))
+    (messages_in 0 (received number_in (next_alone check) begin (frames_at (both_frames A) came)))
+
+-- Each premise is needed. Where another message was accepted, that one doesn't arrive. Where network A loses the
+-- first frame and is ahead, or the receiver's check takes no number but 0, none does.
+pub record NeedsAWholeNetwork : Type 0 where
+  pub sending : IsSending 1 25 0 one_accepted (both_frames A)
+  pub close : AreClose B (length (both_frames A)) 0 0 second_lost
+  pub other : IsSending 1 25 0 other_accepted (both_frames A) → ⊥
+  pub other_arrives : ArrivesDespite other_accepted 1 second_lost → ⊥
+  pub first : AreClose B (length (both_frames A)) 0 0 first_lost → ⊥
+  pub first_arrives : ArrivesDespite one_accepted 1 first_lost → ⊥
+  pub check : 1 ≤ 0 → ⊥
+  pub check_arrives : ArrivesDespite one_accepted 0 second_lost → ⊥
+
 -- So it does by what was handed to both networks.
 pub record HandedDespiteOneLoss : Type 0 where
   pub handed : AreHanded 1 25 0 one_accepted (both_frames A) (both_frames B)
@@ -99,12 +116,27 @@ pub record HandedDespiteOneLoss : Type 0 where
   pub first : AreFirst 1 25 0 one_accepted (take (length (carried B second_lost)) longer_frames)
       (messages_despite longer_frames second_lost)
 
+-- the same of what was handed to both networks
+abbrev pub HandedDespite : List Sent → ℕ → List (Net × ℕ) → Type 0
+HandedDespite accepted check came = AreFirst 1 25 0 accepted (take (length (carried B came)) longer_frames)
+    (messages_in 0 (received number_in (next_alone check) begin (frames_at longer_frames came)))
+
+-- And so is each premise needed there.
+pub record NeedsOneWhole : Type 0 where
+  pub handed : AreHanded 1 25 0 one_accepted (both_frames A) (both_frames B)
+  pub close : AreClose B (length longer_frames) 0 0 second_lost
+  pub other : AreHanded 1 25 0 other_accepted (both_frames A) (both_frames B) → ⊥
+  pub other_arrives : HandedDespite other_accepted 1 second_lost → ⊥
+  pub first : AreClose B (length longer_frames) 0 0 first_lost → ⊥
+  pub first_arrives : HandedDespite one_accepted 1 first_lost → ⊥
+  pub check : 1 ≤ 0 → ⊥
+  pub check_arrives : HandedDespite one_accepted 0 second_lost → ⊥
+
 -- And so does the one message of the worked plan.
 pub record LegalDespiteOneLoss : Type 0 where
   pub valid : IsPlan demo_plan
   pub legal : IsLegal demo_plan one_byte_accepted (one_entry A) (one_entry B)
   pub allowed : All (IsAllowed demo_plan 0 0) (one_byte_accepted 0 0)
-  pub networks : (link_plan_at demo_plan.links 0).networks ≡ Both
   pub close : AreClose B (length longer_of_plan) 0 0 only_lost
   pub message : messages_despite longer_of_plan only_lost ≡ (1 ∷ []) ∷ []
   pub first : AreFirst 1 1479 0 (one_byte_accepted 0 0)

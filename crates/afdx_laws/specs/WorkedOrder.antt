@@ -4,7 +4,7 @@ use Rattle.std.specs.Prelude.{◌≡◌, ℕ, ◌≤◌, true, false, List, [], 
 use Rattle.std.specs.List.{range_with_len}
 use Rattle.afdx_frame.specs.Reassembly.{Fragment, empty}
 use Rattle.afdx_legal.specs.Streams.{IsPrefixOf}
-use Rattle.afdx_laws.specs.Delivery.{HasByte, delivered, of_sub, sent_from}
+use Rattle.afdx_laws.specs.Delivery.{HasByte, delivered, of_sub, sent_from, AreGiven}
 
 -- the datagrams of sub-VL 0
 abbrev pub two_datagrams : List (List ℕ)
@@ -28,3 +28,30 @@ pub record FirstIsGiven : Type 0 where
       ≡ take 1 two_datagrams
   pub all : (j : ℕ) → j ≤ length two_datagrams
       → length (sent_from 8 0 0 (take j two_datagrams)) ≤ length (of_sub 0 five_fragments) → j ≤ 1
+
+-- the second datagram comes, and of the first nothing
+abbrev pub second_came : List (ℕ × Fragment)
+second_came = (4, record { offset = 0; more = true; bytes = range_with_len 21 8 })
+    ∷ (4, record { offset = 1; more = false; bytes = range_with_len 29 4 })
+    ∷ []
+
+-- a datagram of no byte, and one of a byte
+abbrev pub one_without_bytes : List (List ℕ)
+one_without_bytes = [] ∷ (7 ∷ []) ∷ []
+
+-- a datagram of 8 bytes
+abbrev pub eight_bytes : List (List ℕ)
+eight_bytes = range_with_len 1 8 ∷ []
+
+-- Where the first datagram is lost, the second is given and isn't the first. A datagram of no byte has no
+-- fragment, and isn't given. With room for 7 bytes no piece has a byte, and an empty datagram is given.
+pub record NeedsOrder : Type 0 where
+  pub some : All HasByte two_datagrams
+  pub lost : IsPrefixOf (of_sub 0 second_came) (sent_from 8 0 0 two_datagrams) → ⊥
+  pub lost_given : AreGiven 8 0 two_datagrams second_came → ⊥
+  pub none : All HasByte one_without_bytes → ⊥
+  pub none_first : IsPrefixOf (of_sub 0 (sent_from 8 0 0 one_without_bytes)) (sent_from 8 0 0 one_without_bytes)
+  pub none_given : AreGiven 8 0 one_without_bytes (sent_from 8 0 0 one_without_bytes) → ⊥
+  pub small_some : All HasByte eight_bytes
+  pub small_first : IsPrefixOf (of_sub 0 (sent_from 7 0 0 eight_bytes)) (sent_from 7 0 0 eight_bytes)
+  pub small_given : AreGiven 7 0 eight_bytes (sent_from 7 0 0 eight_bytes) → ⊥

@@ -38,14 +38,30 @@ pub record PolicesThree : Type 0 where
 abbrev pub four_greatest : List Arrival
 four_greatest = greatest_at 0 ∷ greatest_at 500 ∷ greatest_at 800 ∷ greatest_at 1800 ∷ []
 
--- From a full account on, the other three pass, and cost just as much as the rule allows.
+-- From a full account on, the other three pass, and cost just as much as the rule allows. With twice as much
+-- on the account no more pass.
 pub record SpendsAll : Type 0 where
-  pub small : (full worked_rule).credit ≤ limit worked_rule
   pub between : AreBetween 0 1800 four_greatest
   pub passes : passed by_bytes worked_rule (full worked_rule) four_greatest
       ≡ greatest_at 0 ∷ greatest_at 800 ∷ greatest_at 1800 ∷ []
   pub spends : cost by_bytes worked_rule (passed by_bytes worked_rule (full worked_rule) four_greatest)
       ≡ worked_rule.lmax * (worked_rule.gap + worked_rule.jitter + (1800 - 0))
+  pub twice : passed by_bytes worked_rule (record { credit = 2 * limit worked_rule; since = 0 }) four_greatest
+      ≡ greatest_at 0 ∷ greatest_at 800 ∷ greatest_at 1800 ∷ []
+
+-- greatest frames at moments that go back
+abbrev pub back_and_forth : List Arrival
+back_and_forth =
+    greatest_at 1000 ∷ greatest_at 0 ∷ greatest_at 1000 ∷ greatest_at 0 ∷ greatest_at 1000 ∷ []
+
+-- Where moments go back, the account fills again for the same time: three frames pass, and cost more than
+-- the rule allows.
+pub record NeedsRisingMoments : Type 0 where
+  pub between : AreBetween 0 1000 back_and_forth → ⊥
+  pub passes : passed by_bytes worked_rule (full worked_rule) back_and_forth
+      ≡ greatest_at 1000 ∷ greatest_at 1000 ∷ greatest_at 1000 ∷ []
+  pub spends : cost by_bytes worked_rule (passed by_bytes worked_rule (full worked_rule) back_and_forth)
+      ≤ worked_rule.lmax * (worked_rule.gap + worked_rule.jitter + (1000 - 0)) → ⊥
 
 -- what a switch is told that allows no jitter
 abbrev pub strict_rule : Rule
@@ -81,3 +97,47 @@ pub record PassesTwo : Type 0 where
       ≡ map arrival two_passages
   pub frames_pass : passed by_frames rule_around (full rule_around) (map arrival two_passages)
       ≡ map arrival two_passages
+
+-- the first comes a microsecond later than the jitter allows
+abbrev pub late_passages : List Passage
+late_passages = record { released = 0; arrived = 201; size = 84 }
+    ∷ record { released = 1000; arrived = 1000; size = 84 }
+    ∷ []
+
+-- the two frames half a gap apart, neither of them held up
+abbrev pub close_entries : List Entry
+close_entries = entry 0 (replicate 60 7) ∷ entry 500 (replicate 60 7) ∷ []
+
+abbrev pub close_passages : List Passage
+close_passages = record { released = 0; arrived = 0; size = 84 }
+    ∷ record { released = 500; arrived = 500; size = 84 }
+    ∷ []
+
+-- what the switch is told where the greatest frame is a byte smaller than those of the stream
+abbrev pub small_rule : Rule
+small_rule = record { gap = 1000; lmax = 63 + 20; jitter = 200 }
+
+-- both frames pass
+abbrev pub BothPass : Rule → List Passage → Type 0
+BothPass rule passages = passed by_bytes rule (full rule) (map arrival passages) ≡ map arrival passages
+
+-- Half a gap apart, the second frame is dropped.
+pub record NeedsTheGap : Type 0 where
+  pub spaced : IsSpaced 1000 None close_entries → ⊥
+  pub small : All (IsUpTo 64) close_entries
+  pub way : AllZip (IsOnItsWay 20 200) close_entries close_passages
+  pub pass : BothPass rule_around close_passages → ⊥
+
+-- So it is where the frames are a byte greater than the switch allows.
+pub record NeedsTheGreatest : Type 0 where
+  pub spaced : IsSpaced 1000 None two_entries
+  pub small : All (IsUpTo 63) two_entries → ⊥
+  pub way : AllZip (IsOnItsWay 20 200) two_entries two_passages
+  pub pass : BothPass small_rule two_passages → ⊥
+
+-- And where the first is a microsecond later than the jitter.
+pub record NeedsTheJitter : Type 0 where
+  pub spaced : IsSpaced 1000 None two_entries
+  pub small : All (IsUpTo 64) two_entries
+  pub way : AllZip (IsOnItsWay 20 200) two_entries late_passages → ⊥
+  pub pass : BothPass rule_around late_passages → ⊥

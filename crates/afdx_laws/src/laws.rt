@@ -1,13 +1,14 @@
-//! Laws of the definitions. Their functions do nothing: the contract is the law.
+//! Laws of a receiver, and of what an integrator reckons with. Their functions do nothing: the contract is the
+//! law. Those of a switch stand in `switching`.
 //!
-//! That a switch or a receiver works as it is defined in specs/ is a premise of each, and so is that the
-//! networks deliver what is said. None says anything of frames that no network delivers (both, or the one
+//! That a receiver works as it is defined in specs/ is a premise of each, and so is that the networks deliver
+//! what is said. None says anything of frames that no network delivers (both, or the one
 //! that a link is on), of a transmitter that begins anew with number 0, of a receiver that starts later than
 //! the stream, or of its timer for frames that come late (SkewMax).
 ghost use Rattle.afdx_laws.specs.AllOnBoth.{AllOnBoth};
 ghost use Rattle.afdx_laws.specs.Counted.{CountsRise};
 ghost use Rattle.afdx_legal.specs.WorkedTurns.{TurnsAreTold};
-ghost use Rattle.afdx_laws.specs.Buffers.{OneBuffer};
+ghost use Rattle.afdx_laws.specs.Buffers.{OneBuffer, HandedNeedOne, LegalNeedOne, LegalNeedOneDespite};
 ghost use Rattle.afdx_laws.specs.Delivery.{InOrder};
 ghost use Rattle.afdx_laws.specs.Handed.{HandedArrive, HandedDespiteLoss};
 ghost use Rattle.afdx_laws.specs.Loss.{FirstComes, LossMasked, LossNotMasked, MaskedFromFirst, NumbersClash};
@@ -15,69 +16,24 @@ ghost use Rattle.afdx_laws.specs.Messages.{DespiteLoss, MessagesArrive};
 ghost use Rattle.afdx_laws.specs.Networks.{ExactlyOnce};
 ghost use Rattle.afdx_laws.specs.NextFragment.{NextInARound, NextInPlan, NextInTime, NextPolledInTime};
 ghost use Rattle.afdx_laws.specs.OneNetwork.{OneNetworkArrives};
-ghost use Rattle.afdx_laws.specs.Plans.{LegalArrive, LegalDespiteLoss, LegalPasses};
-ghost use Rattle.afdx_laws.specs.Policer.{EarlyDropped, NoMorePasses, NoneDropped};
+ghost use Rattle.afdx_laws.specs.Plans.{LegalArrive, LegalDespiteLoss};
 ghost use Rattle.afdx_laws.specs.Skew.{SkewIsFit, SkewIsNear};
-ghost use Rattle.afdx_laws.specs.Spacing.{StreamPasses};
 ghost use Rattle.afdx_laws.specs.WorkedCounts.{CountsTwo};
-ghost use Rattle.afdx_laws.specs.WorkedBuffers.{HoldsTheSecond};
-ghost use Rattle.afdx_laws.specs.WorkedDelivery.{OneMessageArrives};
+ghost use Rattle.afdx_laws.specs.WorkedBuffers.{HoldsTheSecond, NeedsInTurn, HoldsAFrame};
+ghost use Rattle.afdx_laws.specs.WorkedDelivery.{OneMessageArrives, NeedsHanding};
 ghost use Rattle.afdx_laws.specs.WorkedLoss.{MasksOneLoss, NeedsTheFirst, BeginsOnBoth};
-ghost use Rattle.afdx_laws.specs.WorkedLoss.{ComesDespiteLoss, HandedDespiteOneLoss, LegalDespiteOneLoss};
+ghost use Rattle.afdx_laws.specs.WorkedLoss.{ComesDespiteLoss, NeedsAWholeNetwork, HandedDespiteOneLoss, NeedsOneWhole, LegalDespiteOneLoss};
 ghost use Rattle.afdx_laws.specs.WorkedNetworks.{AreTwinsOfOne, ComesFromOne};
 ghost use Rattle.afdx_laws.specs.WorkedNextFragment.{LieTwoGapsApart};
-ghost use Rattle.afdx_laws.specs.WorkedOrder.{FirstIsGiven};
+ghost use Rattle.afdx_laws.specs.WorkedOrder.{FirstIsGiven, NeedsOrder};
 ghost use Rattle.afdx_laws.specs.WorkedPlan.{OneIsLegal};
-ghost use Rattle.afdx_laws.specs.WorkedPolicing.{PolicesThree, SpendsAll, DropsTheEarly, PassesTwo};
-ghost use Rattle.afdx_laws.specs.WorkedReceiving.{AcceptsEachOnce, StreamArrives, ClashesPast254};
+ghost use Rattle.afdx_laws.specs.WorkedPair.{NeedsLegal, NeedsClose};
+ghost use Rattle.afdx_laws.specs.WorkedPolled.{PollsInTime, NeedsInTime};
+ghost use Rattle.afdx_laws.specs.WorkedReceiving.{AcceptsEachOnce, NeedsNumbers, NeedsBeginnings, NeedsALag};
+ghost use Rattle.afdx_laws.specs.WorkedReceiving.{StreamArrives, NeedsAStream, ClashesPast254};
 ghost use Rattle.afdx_laws.specs.WholeLists.{OwnListsArrive};
 ghost use Rattle.afdx_laws.specs.WorkedSkew.{BearsUnder254, ComesInTime};
-ghost use Rattle.afdx_laws.specs.WorkedWhole.{OneIsWhole};
-
-/// A switch that polices a link by its gap, its greatest frame and a jitter, by bytes or by frames,
-/// drops no frame of a link that keeps its gap, whatever each frame is delayed by on its way, up to
-/// the jitter.
-///
-/// One link alone. That frames are delayed by no more is a premise. Nothing is said of the queues of
-/// the switch.
-pub fn none_dropped()
-    ensures passed { NoneDropped }
-
-    // three frames, one of them late, and three of which the last comes too early
-    ensures worked { PolicesThree }
-{}
-
-/// Whatever comes, no more passes than the rule allows: what passes from one moment to another costs at
-/// most Lmax bytes for each gap between them, and Lmax (1 + jitter / gap) more.
-///
-/// Moments that don't go back are a premise. It doesn't say which frames pass.
-pub fn no_more_passes()
-    ensures paid { NoMorePasses }
-
-    // four greatest frames, one of them too early: the others spend all
-    ensures worked { SpendsAll }
-{}
-
-/// Of two greatest frames less than a gap apart a switch that allows no jitter drops the second.
-///
-/// It says nothing of smaller frames: charged by their bytes, two of them may pass at once.
-pub fn early_dropped()
-    ensures dropped { EarlyDropped }
-
-    // two greatest frames, a microsecond less than the gap apart, and a gap apart
-    ensures worked { DropsTheEarly }
-{}
-
-/// A switch drops no frame of a spaced stream of frames, whatever each is delayed by on its way, up to
-/// the jitter that the switch allows.
-///
-/// That the frames are no greater than Lmax and delayed by no more than the jitter are premises.
-pub fn stream_passes()
-    ensures passes { StreamPasses }
-
-    // two frames, of which one is late
-    ensures worked { PassesTwo }
-{}
+ghost use Rattle.afdx_laws.specs.WorkedWhole.{OneIsWhole, NeedsAll};
 
 /// A receiver accepts each frame of a link exactly once and in order, as far as one of the networks
 /// carried them, from any interleaving of what the two networks carried, as long as none is more
@@ -90,6 +46,11 @@ pub fn exactly_once()
 
     // two frames from both networks, and numbers that come round
     ensures worked { AcceptsEachOnce }
+
+    // two frames of one number; a network that loses the first; and one that is too far behind
+    ensures numbers { NeedsNumbers }
+    ensures beginnings { NeedsBeginnings }
+    ensures lag { NeedsALag }
 {}
 
 /// A receiver for which the next number alone is new accepts each frame once and in order although
@@ -173,6 +134,9 @@ pub fn in_order()
 
     // two datagrams, of which one comes whole, and another sub-VL's between them
     ensures worked { FirstIsGiven }
+
+    // the second datagram alone; a datagram of no byte; and room for 7 bytes
+    ensures needed { NeedsOrder }
 {}
 
 /// A receiver's messages of a sub-VL are the first of those that were accepted for it, each once and
@@ -185,6 +149,9 @@ pub fn messages_arrive()
 
     // a message of two frames
     ensures worked { StreamArrives }
+
+    // another message; a receiver for which no number is new; and a network that loses the first frame
+    ensures needed { NeedsAStream }
 {}
 
 /// A receiver's messages of a sub-VL are the first accepted ones although one network loses, repeats and
@@ -197,6 +164,9 @@ pub fn despite_loss()
 
     // network A repeats a message's first frame and loses its second
     ensures worked { ComesDespiteLoss }
+
+    // another message; network A loses the first frame and is ahead; and a check that takes no number but 0
+    ensures needed { NeedsAWholeNetwork }
 {}
 
 /// A receiver's messages of a sub-VL are the first accepted ones, by what was handed to the two networks
@@ -210,6 +180,9 @@ pub fn handed_arrive()
 
     // a message of two frames
     ensures worked { OneMessageArrives }
+
+    // another message; a receiver for which no number is new; and a network that loses the first frame
+    ensures needed { NeedsHanding }
 {}
 
 /// A receiver's messages of a sub-VL are the first accepted ones, by what was handed to the two networks
@@ -224,6 +197,9 @@ pub fn handed_despite_loss()
 
     // network A repeats a message's first frame and loses its second
     ensures worked { HandedDespiteOneLoss }
+
+    // another message; network A loses the first frame and is ahead; and a check that takes no number but 0
+    ensures needed { NeedsOneWhole }
 {}
 
 /// For each link and sub-VL of a valid plan: from what was handed over legally, the receiver's
@@ -241,30 +217,29 @@ pub fn legal_arrive()
 
     // the demonstration configuration, with one message
     ensures worked { OneIsLegal }
+
+    // two messages, accepted in another order; a receiver for which no number is new; and a network that loses
+    // the first frame
+    ensures needed { NeedsLegal }
 {}
 
-/// For each link on both networks, and each sub-VL of it, of a valid plan: from what was handed over
-/// legally, the receiver's messages are the first accepted ones although one network loses, repeats and
-/// reorders frames, where the other carries all frames of the link and the next number alone is new to the
-/// receiver.
+/// For each link and sub-VL of a valid plan: from what was handed over legally, the receiver's messages are
+/// the first accepted ones although one network loses, repeats and reorders frames, where the other carries
+/// all frames of the link and the next number alone is new to the receiver.
 ///
-/// That the link is on both networks is a premise: on one alone nothing makes good what it loses. The
-/// stream's first frame comes before all others (`first` in `AreClose`, see `both_begin`). What
-/// `loss_masked` doesn't say isn't said here.
+/// Of a link on one network that one is the network that carries all, and nothing comes from the other: there
+/// it says no more than `one_network_arrives`, since nothing makes good what that network loses. The stream's
+/// first frame comes before all others (`first` in `AreClose`, see `both_begin`). What `loss_masked` doesn't
+/// say isn't said here.
 pub fn legal_despite_loss()
     ensures arrive { LegalDespiteLoss }
 
     // the demonstration configuration, with one message that network A loses
     ensures worked { LegalDespiteOneLoss }
-{}
 
-/// For each link of a valid plan, on both networks or on one: of what was handed over legally to a network,
-/// a switch that polices the link by its gap and its greatest frame drops none, whatever each frame is
-/// delayed by on its way, up to the jitter that the switch allows.
-///
-/// That the delay stays below the jitter is a premise, and nothing is said of the queues of the switch.
-pub fn legal_passes()
-    ensures { LegalPasses }
+    // two messages, accepted in another order; network A loses the first frame and is ahead; and a check that
+    // takes no number but 0
+    ensures needed { NeedsClose }
 {}
 
 /// For each link and sub-VL of a valid plan: where all that was accepted was handed over legally, and
@@ -281,6 +256,9 @@ pub fn own_lists_arrive()
 
     // the demonstration configuration, with one message
     ensures worked { OneIsWhole }
+
+    // another list than the port's own; and a frame that both networks lose
+    ensures needed { NeedsAll }
 {}
 
 /// For each link of a valid plan that is on one network alone, and each sub-VL of it: from what was handed
@@ -342,16 +320,32 @@ pub fn next_fragment()
 
     // two fragments that lie as far apart as they may
     ensures worked { LieTwoGapsApart }
+
+    // six polls that release the fragment in time; and without each premise, polls that don't
+    ensures in_time { PollsInTime }
+    ensures needed { NeedsInTime }
 {}
 
-/// A receiver that reassembles the messages of a link needs one buffer for each of its sub-VLs, and never
-/// holds fragments of two datagrams of one sub-VL: a bound on its memory.
+/// A receiver that reassembles the messages of a link needs one buffer of 8,200 bytes for each of its sub-VLs:
+/// it never holds fragments of two datagrams of one sub-VL, nor a byte behind the first 8,200 of one. A bound
+/// on its memory.
 ///
-/// The premises are those of `in_order`: each sub-VL's fragments come in order, none lost and none twice.
-/// So a buffer of the greatest datagram, 8,200 bytes, for each sub-VL is enough.
+/// Of fragments alone (`one`) the premises are those of `in_order`, and the bound on the bytes is that on the
+/// datagrams: each sub-VL's fragments come in order, none lost and none twice. Of what was handed over
+/// (`handed`), for each link of a valid plan (`legal`), and although one network loses frames (`despite`), they
+/// are those of `handed_arrive`, `legal_arrive` and `legal_despite_loss`.
 pub fn one_buffer()
     ensures one { OneBuffer }
+    ensures handed { HandedNeedOne }
+    ensures legal { LegalNeedOne }
+    ensures despite { LegalNeedOneDespite }
 
     // of two datagrams of a sub-VL one is held, with 8 bytes, while the other was given
     ensures worked { HoldsTheSecond }
+
+    // two datagrams that are begun at once, and a buffer that is smaller than a datagram
+    ensures needed { NeedsInTurn }
+
+    // a frame of a message of two
+    ensures frame { HoldsAFrame }
 {}

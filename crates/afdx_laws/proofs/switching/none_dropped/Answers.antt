@@ -1,6 +1,6 @@
 use Rattle.afdx_laws.proofs.Credit.{none_dropped_holds}
 use Rattle.afdx_laws.proofs.WorkedPassages.{polices_three}
-use Rattle.afdx_laws.proofs.laws.none_dropped.Goals as goal
+use Rattle.afdx_laws.proofs.switching.none_dropped.Goals as goal
 
 pub returns-clause-passed : goal.returns-clause-passed
 returns-clause-passed c = none_dropped_holds
