@@ -1,4 +1,5 @@
-/* Each call of the C library, each number that it answers and what is there afterwards.
+/* Each call of the C library, each number that it answers and what is there afterwards: all but AFDX_EXHAUSTED, which
+   comes only after 2^40 sends of one port.
 
    tools/c_library.py builds and runs it. Requests for memory go through `__wrap_malloc` and `__wrap_realloc` below (by the
    linker's --wrap), which count them and refuse one where they are told to. A failed check is told by its line; the last
@@ -114,6 +115,12 @@ static uint8_t poll(afdx_end_system *it, uint64_t now) {
     return standing;
 }
 
+/* Copies a text of less than 4,000 bytes, with the first of an old part made new. */
+static void edit(char out[4096], const char *text, const char *old, const char *new) {
+    const char *at = strstr(text, old);
+    snprintf(out, 4096, "%.*s%s%s", (int)(at - text), text, new, at + strlen(old));
+}
+
 /* Configurations that are refused, with their numbers; a handle that isn't open stays so. */
 static void check_open(void) {
     static const struct { const char *text; uint8_t number; } rows[] = {
@@ -121,6 +128,7 @@ static void check_open(void) {
         {"\xff", AFDX_CONFIG_TOML},
         {"", AFDX_CONFIG_MISSING_KEY},
         {"version = 1\nversions = 2\n", AFDX_CONFIG_MISSING_KEY},
+        {"port = []\n[end_system]\nid = 1\n[[vl]]\nid = 1\nbag_ms = 1\nlmax = 64\nsub_vls = 1\ncapacity = 1\n", AFDX_CONFIG_LIMIT},
     };
     static const struct { const char *old, *new; uint8_t number; } edits[] = {
         {"lmax = 64", "lmax = 63", AFDX_CONFIG_OUT_OF_RANGE},
@@ -133,19 +141,23 @@ static void check_open(void) {
         {"vl = 1\n", "vl = 9\n", AFDX_CONFIG_NO_SUCH_VL},
         {"sub = 1\n", "sub = 2\n", AFDX_CONFIG_NO_SUCH_SUB},
         {"kind = \"queuing\"", "kind = \"sampling\"", AFDX_CONFIG_SAMPLING_TOO_LONG},
+        {"source = 1002", "source = 1001", AFDX_CONFIG_SAME_FLOW},
     };
     afdx_end_system it = {0};
+    char text[4096], shared[4096];
     for (size_t k = 0; k < sizeof rows / sizeof *rows; k++) {
         CHECK(open_text(&it, rows[k].text) == rows[k].number);
         CHECK(!it.held);
     }
     for (size_t k = 0; k < sizeof edits / sizeof *edits; k++) {
-        char text[4096];
-        const char *at = strstr(PLAN, edits[k].old);
-        snprintf(text, sizeof text, "%.*s%s%s", (int)(at - PLAN), PLAN, edits[k].new, at + strlen(edits[k].old));
+        edit(text, PLAN, edits[k].old, edits[k].new);
         CHECK(open_text(&it, text) == edits[k].number);
         CHECK(!it.held);
     }
+    /* ports of two links that send to one address */
+    edit(text, PLAN, "max = 8192\n", "max = 8192\ndest_ip = \"10.0.2.1\"\n");
+    edit(shared, text, "max = 40\n", "max = 40\ndest_ip = \"10.0.2.1\"\n");
+    CHECK(open_text(&it, shared) == AFDX_CONFIG_SHARED_UNICAST && !it.held);
     CHECK(open_text(&it, PLAN) == 0 && it.held);
     afdx_end_system before = it;
     CHECK(open_text(&it, PLAN) == AFDX_HELD);
@@ -211,6 +223,18 @@ static void check_handles(void) {
     CHECK(afdx_free_port(&all.ports[0]) == AFDX_NOT_HELD);
 }
 
+/* A port of another end system, where all of this one's are back: it is handed back, and can be used on. */
+static void check_foreign(struct opened *all) {
+    struct opened other = opened();
+    afdx_port before = other.ports[0];
+    for (int k = 0; k < 3; k++) CHECK(afdx_give_back(&all->it, &all->ports[k]) == 0);
+    CHECK(afdx_give_back(&all->it, &other.ports[0]) == AFDX_NO_PORT);
+    CHECK(other.ports[0].at == before.at && other.ports[0].held == before.held);
+    CHECK(send_bytes(&other.ports[0], 1) == 0 && poll(&other.it, 0) == 3 && frames(&other.it, AFDX_A) == 1);
+    CHECK(afdx_gather(&all->it) == 0);
+    let_go(&other);
+}
+
 static void check_ports(void) {
     struct opened all = opened();
     afdx_port more = {0}, before = all.ports[0];
@@ -227,6 +251,7 @@ static void check_ports(void) {
     CHECK(afdx_port_of(&all.it, 10, &all.ports[0]) == 0);
     uint64_t accepted = 0;
     CHECK(afdx_accepted(&all.ports[0], &accepted) == 0 && accepted == 1);
+    check_foreign(&all);
     let_go(&all);
 }
 
@@ -325,6 +350,21 @@ static void check_failing(void) {
     CHECK(afdx_gather(&all.it) == 0);
     CHECK(afdx_is_done(&all.it, &standing) == 0 && standing == 0);
     CHECK(afdx_poll(&all.it, 300000, &standing) == AFDX_BOTH_DOWN);
+    let_go(&all);
+}
+
+/* B fails alone: A goes on, and so do links on A. */
+static void check_failing_b(void) {
+    struct opened all = opened();
+    CHECK(send_bytes(&all.ports[0], 2000) == 0 && send_bytes(&all.ports[1], 1) == 0);
+    CHECK(afdx_fail(&all.it, AFDX_B) == 0);
+    CHECK(poll(&all.it, 0) == AFDX_A_STANDS);
+    CHECK(frames(&all.it, AFDX_A) == 2 && frames(&all.it, AFDX_B) == 0);
+    CHECK(send_bytes(&all.ports[2], 1) == 0);
+    CHECK(poll(&all.it, 2000) == AFDX_A_STANDS);
+    CHECK(frames(&all.it, AFDX_A) == 2 && frames(&all.it, AFDX_B) == 0);
+    afdx_counts counts;
+    CHECK(afdx_link_counts(&all.it, 1, &counts) == 0 && counts.frames == 2 && counts.messages == 1);
     let_go(&all);
 }
 
@@ -470,6 +510,16 @@ static void check_memory(void) {
     CHECK(atomic_load(&blocks) == before);
 }
 
+/* The copy that afdx_send makes is freed by the poll that takes the next message of the sub-VL. */
+static void check_copies(void) {
+    struct opened all = opened();
+    CHECK(send_bytes(&all.ports[0], 100) == 0 && send_bytes(&all.ports[0], 100) == 0);
+    long sent = atomic_load(&blocks);
+    CHECK(poll(&all.it, 0) == 3 && atomic_load(&blocks) == sent);
+    CHECK(poll(&all.it, 1000) == 3 && atomic_load(&blocks) == sent - 1);
+    let_go(&all);
+}
+
 /* Threads that send: each message begins with its number in four bytes. */
 enum { SENDERS = 4, MESSAGES = 5000 };
 
@@ -568,11 +618,13 @@ int main(void) {
     check_poll();
     check_frame();
     check_failing();
+    check_failing_b();
     check_counts();
     check_gather();
     check_orphans();
     check_many();
     check_memory();
+    check_copies();
     check_threads();
     printf("%u passed, %u failed\n", passed, failed);
     return failed != 0;

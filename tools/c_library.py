@@ -27,6 +27,8 @@ WARNINGS = ["-Wall", "-Wextra", "-Werror", "-Wpedantic", "-g", "-O2"]
 WRAPPED = ["-Wl,--wrap=malloc", "-Wl,--wrap=realloc", "-Wl,--wrap=free"]
 SANITIZER = ["-fsanitize=address"]
 COUNTED = re.compile(r"(\d+) passed, (\d+) failed")
+# What the header names and no test of the calls answers: how much there is at most, and what takes 2^40 sends.
+UNMET = {"AFDX_GREATEST_FRAME", "AFDX_MOST_FRAMES", "AFDX_EXHAUSTED"}
 
 # What the example is to send: a configuration, and the words for its ports. All messages have room before the first poll.
 SENDING = [
@@ -138,6 +140,17 @@ def try_header(tries):
         tries.tell(f"the header, {' '.join(flags)}", None if ran.returncode == 0 else ran.stderr)
 
 
+def try_names(tries):
+    """Each number that the header names is one that the tests of the calls look for."""
+    texts = []
+    for path in (f"{ROOT}/crates/afdx/afdx.h", f"{ROOT}/tools/c_calls.c"):
+        with open(path, encoding="utf-8") as file:
+            texts.append(re.sub(r"/\*.*?\*/", "", file.read(), flags=re.DOTALL))
+    named = set(re.findall(r"\b(AFDX_\w+) = ", texts[0]))
+    unmet = named - set(re.findall(r"\bAFDX_\w+\b", texts[1]))
+    tries.tell(f"{len(named)} numbers of the header", None if unmet == UNMET else f"not looked for: {sorted(unmet)}")
+
+
 def try_calls(tries, name, flags):
     """The tests of the calls, whose last line counts them."""
     path = compiled(tries, name, f"{ROOT}/tools/c_calls.c", [*WRAPPED, *flags])
@@ -208,6 +221,7 @@ def try_words(tries, name, program):
 
 def try_all(tries):
     try_header(tries)
+    try_names(tries)
     if not build_library(tries):
         return
     try_calls(tries, "c_calls", [])

@@ -114,7 +114,8 @@ uint8_t afdx_open(afdx_end_system *out, const uint8_t *text, size_t length);
 uint8_t afdx_port_of(afdx_end_system *it, uint16_t id, afdx_port *out);
 
 /* Copies a message in, at the end of the queue of the port's sub-VL. By the thread that has the port. It waits for
-   nobody. Refused: AFDX_NOT_HELD, AFDX_WRONG_HANDLE; AFDX_MEMORY; AFDX_EMPTY, AFDX_TOO_LONG, AFDX_CLOSED,
+   nobody, unless malloc does: it asks malloc for the copy, and a later afdx_poll frees it, so either of them may meet a
+   lock of the allocator. Refused: AFDX_NOT_HELD, AFDX_WRONG_HANDLE; AFDX_MEMORY; AFDX_EMPTY, AFDX_TOO_LONG, AFDX_CLOSED,
    AFDX_EXHAUSTED (the port has asked 2^40 times), AFDX_FULL: try again after a poll. */
 uint8_t afdx_send(afdx_port *port, const uint8_t *message, size_t length);
 
@@ -124,8 +125,9 @@ uint8_t afdx_accepted(afdx_port *port, uint64_t *count);
 
 /* Gives each virtual link its turn at a moment in microseconds: one that is due and has something to send makes exactly
    one frame. Writes which networks stand afterwards. The frames of the poll before are gone. By one thread at a time, as
-   all calls on an end system; it waits for nobody and asks for no memory. Refused: AFDX_NOT_HELD, AFDX_WRONG_HANDLE,
-   AFDX_TIME_BACK, AFDX_BOTH_DOWN (standing is written as 0); then the frames of the poll before are still there. */
+   all calls on an end system; it waits for nobody (but see afdx_send) and asks for no memory. Refused: AFDX_NOT_HELD,
+   AFDX_WRONG_HANDLE, AFDX_TIME_BACK, AFDX_BOTH_DOWN (standing is written as 0); then the frames of the poll before are
+   still there. */
 uint8_t afdx_poll(afdx_end_system *it, uint64_t now, uint8_t *standing);
 
 /* How many frames the last poll made for a network. Refused: AFDX_NOT_HELD, AFDX_WRONG_HANDLE, AFDX_NO_NETWORK; then
