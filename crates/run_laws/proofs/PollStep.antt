@@ -1,0 +1,242 @@
+-- What a poll of all links does to the stream of one of them.
+use Rattle.std.proofs.Common.{ℕ, zero, suc, ◌≡◌, ◌≢◌, ◌+◌, ◌<◌, ◌≤◌, List, ◌++◌, true, false, length, arith, ap, ◌∙◌, sym, subst, ⊎_elim}
+use Rattle.std.specs.Prelude.{All}
+use Rattle.std.proofs.lemmas.Bool.{cases_eq}
+use Rattle.std.proofs.lemmas.List.{append-nil}
+use Rattle.std.proofs.lemmas.List.Elements.{All-weaker}
+use Rattle.afdx_plan.specs.Config.{Plan, IsPlan, link_plan_at}
+use Rattle.afdx_plan.specs.Plan.{bag_micros}
+use Rattle.afdx_plan.specs.Room.{room_of}
+use Rattle.afdx_plan.specs.declared.identifiers.VlId.{VlId}
+use Rattle.afdx_plan.specs.declared.link_plan.LinkPlan.{LinkPlan}
+use Rattle.afdx_frame.specs.declared.net.Net.TheVariants.{A}
+use Rattle.afdx_frame.specs.Fragments.{Sent}
+use Rattle.redundant_mux.specs.Entry.{Entry}
+use Rattle.redundant_mux.specs.Lines.{Lines, BothEndure, stands_for, log}
+use Rattle.redundant_mux.proofs.Enduring.{stood_before}
+use Rattle.vl_link.specs.declared.served.Served.{Served}
+use Rattle.vl_link.specs.Turn.{AreTurns, Turn}
+use Rattle.vl_link.specs.Links.{Held, LinkState, held_at, link_at, taken_by, pace_of, held_view, Passes}
+use Rattle.vl_link.specs.Kept.{IsLinkTied}
+use Rattle.vl_link.specs.Shown.{none_begun, begun_by}
+use Rattle.vl_link.proofs.MessageEnds.{IsShort, not_begun}
+use Rattle.vl_link.proofs.TurnLaws.{turn_endures, turns_endure}
+use Rattle.afdx_legal.specs.Streams.{link_stream, sub_stream, told}
+use Rattle.afdx_legal.specs.Legal.{Accepted}
+use Rattle.afdx_legal.specs.Allowed.{IsAllowed, AreAllowed}
+use Rattle.afdx_legal.specs.Done.{IsReleased}
+use Rattle.afdx_tx.specs.Emitter.{Tx, taken_in}
+use Rattle.afdx_tx.specs.Run.{IsTurnAt}
+use Rattle.afdx_tx.specs.Drain.{DrainsAt, accepted_view, pace_in}
+use Rattle.afdx_tx.specs.DrainEnds.{stream_at}
+use Rattle.run_laws.specs.Runs.{IsPlanned, IsReady, EmitterPolls, DrainPolls}
+use Rattle.run_laws.proofs.LinkStep.{IsStep, own_step, other_turn}
+
+-- a network that carries the link at a place stands
+abbrev pub StandsAt : Plan → ℕ → Lines → Type 0
+StandsAt plan k lines = stands_for (link_plan_at plan.links k).networks lines ≡ true
+
+-- the gap and the number of sub-VLs of the link at a place
+abbrev pub gap_at : Plan → ℕ → ℕ
+gap_at plan k = bag_micros (link_plan_at plan.links k).bag
+
+abbrev pub subs_at : Plan → ℕ → ℕ
+subs_at plan k = (link_plan_at plan.links k).sub_vls
+
+-- what a poll does to the stream of the link at a place
+abbrev pub StepsAt : ℕ → Plan → ℕ → ℕ → (lines after : Lines) → Type 0
+StepsAt now plan k x lines after =
+    IsStep now (gap_at plan k) (subs_at plan k) x (stream_at plan k lines) (stream_at plan k after)
+
+-- What is known of the turns of a poll: the link's own makes a step, the others leave its stream, and each gives
+-- up networks for good.
+record AreSeen (now : ℕ) (plan : Plan) (k x many : ℕ) (P : ℕ → Lines → Lines → Served → Type 0) : Type 0 where
+  pub own : (lines after : Lines) (did : Served) → P k lines after did → StandsAt plan k after → StepsAt now plan k x lines after
+  pub others : (j : ℕ) → j < many → j ≢ k → (lines after : Lines) (did : Served) → P j lines after did
+      → stream_at plan k after ≡ stream_at plan k lines
+  pub endure : (j : ℕ) (lines after : Lines) (did : Served) → P j lines after did → BothEndure lines after
+
+-- the turns of other links
+others_keep : (now : ℕ) (plan : Plan) (k x all : ℕ) (P : ℕ → Lines → Lines → Served → Type 0) (i many : ℕ) (lines after : Lines)
+    → AreSeen now plan k x all P → k < i → i + many ≤ all → AreTurns P i many lines after
+    → stream_at plan k after ≡ stream_at plan k lines
+others_keep now plan k x all P i zero lines after seen past few t = ap (stream_at plan k) t
+others_keep now plan k x all P i (suc many) lines after seen past few t =
+    let differs : i ≢ k = λ e. absurd (omega (arith, e, past)) in
+    others_keep now plan k x all P (i + 1) many t.0 after seen (omega arith) (omega arith) t.3
+    ∙ seen.others i (omega arith) differs lines t.0 t.1 t.2
+
+-- the turns of all links, that of the link among them
+turns_step : (now : ℕ) (plan : Plan) (k x all : ℕ) (P : ℕ → Lines → Lines → Served → Type 0) (i many : ℕ) (lines after : Lines)
+    → AreSeen now plan k x all P → i ≤ k → k < i + many → i + many ≤ all
+    → AreTurns P i many lines after → StandsAt plan k after → StepsAt now plan k x lines after
+turns_step now plan k x all P i zero lines after seen le lt few t stands = absurd (omega arith)
+turns_step now plan k x all P i (suc many) lines after seen le lt few t stands = ⊎_elim
+    (λ (here : i ≡ k).
+    let stood : StandsAt plan k t.0 = stood_before t.0 after (link_plan_at plan.links k).networks
+    (turns_endure P (i + 1) many t.0 after seen.endure t.3) stands in
+    let own : StepsAt now plan k x lines t.0 =
+    seen.own lines t.0 t.1 (subst (λ (j : ℕ). P j lines t.0 t.1) here t.2) stood in
+    let rest : stream_at plan k after ≡ stream_at plan k t.0 =
+    others_keep now plan k x all P (i + 1) many t.0 after seen (omega (arith, here)) (omega arith) t.3 in
+    subst (IsStep now (gap_at plan k) (subs_at plan k) x (stream_at plan k lines)) (sym rest) own)
+    (λ (later : i ≢ k).
+    let same : stream_at plan k t.0 ≡ stream_at plan k lines = seen.others i (omega arith) later lines t.0 t.1 t.2 in
+    let further : i + 1 ≤ k = omega (arith, le, later) in
+    subst (λ (S : List Entry). IsStep now (gap_at plan k) (subs_at plan k) x S (stream_at plan k after)) same
+    (turns_step now plan k x all P (i + 1) many t.0 after seen further (omega arith) (omega arith) t.3 stands))
+    (cases_eq i k)
+
+-- no two links of a valid plan have one identifier
+apart : (plan : Plan) (j k : ℕ) → IsPlan plan → j < length plan.links → k < length plan.links → j ≢ k
+    → (link_plan_at plan.links j).id.0 ≢ (link_plan_at plan.links k).id.0
+apart plan j k valid jlt klt ne e =
+    let made = λ (n : ℕ). let v : VlId = record { 0 = n } in v in
+    ne (valid.links_apart j k jlt klt (ap made e))
+
+-- messages that ports may send have room in the offset
+short : (plan : Plan) (k s : ℕ) (messages : List Sent) → All (IsAllowed plan k s) messages → All IsShort messages
+short plan k s messages allowed =
+    All-weaker (IsAllowed plan k s) IsShort (λ sent is. is.most) messages allowed
+
+-- a sub-VL of an emitter's link that has nothing has no message begun
+passed : (link : LinkState) (new : Held) (log : List Entry) (s : ℕ) → IsLinkTied link log → s < link.plan.sub_vls
+    → All IsShort (taken_by (held_at link.subs s)) → Passes (held_at link.subs s) new
+    → begun_by none_begun (link_stream link.plan.id.0 log) s ≡ false
+passed link new log s tied lt few p =
+    let held = held_at link.subs s in
+    let stream = link_stream link.plan.id.0 log in
+    not_begun held.of.end_system (room_of held.of.link.lmax) A stream s (taken_by (held_at link.subs s)) few
+    (tied s lt ∙ ap (λ (left : List (List ℕ)). told (sub_stream s (link_stream link.plan.id.0 log)) ++ left) p.whole
+    ∙ append-nil (told (sub_stream s (link_stream link.plan.id.0 log))))
+
+-- the turn of the link at a place, by the plan
+planned_turn : (now : ℕ) (plan : Plan) (links news : List LinkState) (k : ℕ) (lines after : Lines) (did : Served)
+    → IsPlanned plan links k → IsTurnAt now links news k lines after did
+    → Turn now (link_plan_at plan.links k) (pace_of (gap_at plan k) (subs_at plan k) (stream_at plan k lines))
+    (held_view (link_at links k).subs (link_at news k).subs) lines after did
+planned_turn now plan links news k lines after did own t =
+    let view = held_view (link_at links k).subs (link_at news k).subs in
+    subst (λ (gap : ℕ). Turn now (link_plan_at plan.links k) (pace_of gap (subs_at plan k) (stream_at plan k lines))
+    view lines after did) own.gap
+    (subst (λ (subs : ℕ). Turn now (link_plan_at plan.links k) (pace_of (link_at links k).pace.gap subs (stream_at plan k lines))
+    view lines after did) own.sub_vls
+    (subst (λ (p : LinkPlan). Turn now p (pace_of (link_at links k).pace.gap (link_at links k).pace.sub_vls
+    (link_stream p.id.0 (log lines))) view lines after did) own.plan_is t.serves))
+
+-- where it may release a frame, a sub-VL that has nothing has no message begun
+planned_lacks : (now : ℕ) (plan : Plan) (links news : List LinkState) (k : ℕ) (lines after : Lines) (did : Served)
+    → IsPlanned plan links k → ((s : ℕ) → s < subs_at plan k → All IsShort (taken_in links k s))
+    → IsTurnAt now links news k lines after did → StandsAt plan k lines
+    → (s : ℕ) → s < subs_at plan k → Passes (held_at (link_at links k).subs s) (held_at (link_at news k).subs s)
+    → begun_by none_begun (stream_at plan k lines) s ≡ false
+planned_lacks now plan links news k lines after did own few t stands s lt p =
+    let link : LinkState = link_at links k in
+    let stood : stands_for (link_at links k).plan.networks lines ≡ true =
+    subst (λ (q : LinkPlan). stands_for q.networks lines ≡ true) (sym own.plan_is) stands in
+    let inside : s < (link_at links k).plan.sub_vls =
+    subst (λ (q : LinkPlan). s < q.sub_vls) (sym own.plan_is) lt in
+    subst (λ (q : LinkPlan). begun_by none_begun (link_stream q.id.0 (log lines)) s ≡ false) own.plan_is
+    (passed link (held_at (link_at news k).subs s) (log lines) s (t.tied stood) inside (few s lt) p)
+
+-- the turn of a link of an emitter gives up networks for good
+planned_endures : (now : ℕ) (links news : List LinkState) (j : ℕ) (lines after : Lines) (did : Served)
+    → IsTurnAt now links news j lines after did → BothEndure lines after
+planned_endures now links news j lines after did t =
+    turn_endures now (link_at links j).plan (pace_of (link_at links j).pace.gap (link_at links j).pace.sub_vls
+    (link_stream (link_at links j).plan.id.0 (log lines)))
+    (held_view (link_at links j).subs (link_at news j).subs) lines after did t.serves
+
+-- an emitter is ready, by its plan
+pub record IsReadyFor (plan : Plan) (tx : Tx) : Type 0 where
+  pub count : length tx.links ≡ length plan.links
+  pub links : (j : ℕ) → j < length plan.links → IsPlanned plan tx.links j
+  pub allowed : AreAllowed plan (taken_in tx.links)
+
+ready_for : (plan : Plan) (tx : Tx) → tx.plan ≡ plan → IsReady tx → IsReadyFor plan tx
+ready_for plan tx of ready = subst (λ (p : Plan). IsReadyFor p tx) of
+    (record { count = ready.count; links = ready.links; allowed = ready.allowed })
+
+-- the turns of a poll of an emitter
+emitter_seen : (now : ℕ) (plan : Plan) (old new : Tx) (k x : ℕ) → IsPlan plan → k < length plan.links
+    → ((j : ℕ) → j < length plan.links → IsPlanned plan old.links j)
+    → ((s : ℕ) → s < subs_at plan k → All IsShort (taken_in old.links k s))
+    → AreSeen now plan k x (length plan.links) (IsTurnAt now old.links new.links)
+emitter_seen now plan old new k x valid inside own few = record {
+  own = λ lines after did t stands. own_step now (gap_at plan k) (subs_at plan k) x (link_plan_at plan.links k)
+      (held_view (link_at old.links k).subs (link_at new.links k).subs) lines after did
+      (planned_lacks now plan old.links new.links k lines after did (own k inside) few t
+      (stood_before lines after (link_plan_at plan.links k).networks
+      (planned_endures now old.links new.links k lines after did t) stands))
+      (planned_turn now plan old.links new.links k lines after did (own k inside) t) stands;
+  others = λ j jlt ne lines after did t. other_turn now (link_plan_at plan.links j)
+      (pace_of (gap_at plan j) (subs_at plan j) (stream_at plan j lines))
+      (held_view (link_at old.links j).subs (link_at new.links j).subs) lines after did (link_plan_at plan.links k).id.0
+      (apart plan j k valid jlt inside ne)
+      (planned_turn now plan old.links new.links j lines after did (own j jlt) t);
+  endure = planned_endures now old.links new.links;
+}
+
+-- what a poll of an emitter does to the stream of a link
+pub emitter_step : (now : ℕ) (plan : Plan) (k x : ℕ) (lines after : Lines) → IsPlan plan → k < length plan.links
+    → EmitterPolls plan now lines after → StandsAt plan k after → StepsAt now plan k x lines after
+emitter_step now plan k x lines after valid inside p stands =
+    let ready : IsReadyFor plan p.old = ready_for plan p.old p.of p.ready in
+    let many : length p.old.links ≡ length plan.links = ready.count in
+    let turns : AreTurns (IsTurnAt now p.old.links p.new.links) 0 (length plan.links) p.old.lines p.new.lines =
+    subst (λ (n : ℕ). AreTurns (IsTurnAt now p.old.links p.new.links) 0 n p.old.lines p.new.lines) many p.run.turns in
+    let here : AreTurns (IsTurnAt now p.old.links p.new.links) 0 (length plan.links) lines after =
+    subst (λ (l : Lines). AreTurns (IsTurnAt now p.old.links p.new.links) 0 (length plan.links) l after) p.before
+    (subst (λ (l : Lines). AreTurns (IsTurnAt now p.old.links p.new.links) 0 (length plan.links) p.old.lines l) p.behind turns) in
+    turns_step now plan k x (length plan.links) (IsTurnAt now p.old.links p.new.links) 0 (length plan.links) lines after
+    (emitter_seen now plan p.old p.new k x valid inside ready.links (λ s lt. short plan k s (taken_in p.old.links k s) (ready.allowed k s inside lt)))
+    (omega arith) (omega arith) (omega arith) here stands
+
+-- the turn of a link of a drain gives up networks for good
+drain_endures : (now : ℕ) (plan : Plan) (accepted : Accepted) (j : ℕ) (lines after : Lines) (did : Served)
+    → DrainsAt now plan accepted j lines after did → BothEndure lines after
+drain_endures now plan accepted j lines after did t =
+    turn_endures now (link_plan_at plan.links j) (pace_in (link_plan_at plan.links j) (log lines))
+    (accepted_view plan.end_system (link_plan_at plan.links j) (accepted j) (log lines)) lines after did t
+
+-- a sub-VL that is wholly released has no message begun
+released_none : (plan : Plan) (accepted : Accepted) (k : ℕ) (lines : Lines) (s : ℕ) → All IsShort (accepted k s)
+    → IsReleased plan.end_system (link_plan_at plan.links k) (accepted k) (log lines) s
+    → begun_by none_begun (stream_at plan k lines) s ≡ false
+released_none plan accepted k lines s few released =
+    not_begun plan.end_system (room_of (link_plan_at plan.links k).lmax) A (stream_at plan k lines) s (accepted k s) few released
+
+-- the turns of a poll of a drain
+drain_seen : (now : ℕ) (plan : Plan) (accepted : Accepted) (k x : ℕ) → IsPlan plan → k < length plan.links
+    → ((s : ℕ) → s < subs_at plan k → All IsShort (accepted k s))
+    → AreSeen now plan k x (length plan.links) (DrainsAt now plan accepted)
+drain_seen now plan accepted k x valid inside few = record {
+  own = λ lines after did t stands. own_step now (gap_at plan k) (subs_at plan k) x (link_plan_at plan.links k)
+      (accepted_view plan.end_system (link_plan_at plan.links k) (accepted k) (log lines)) lines after did
+      (λ s lt released. released_none plan accepted k lines s (few s lt) released) t stands;
+  others = λ j jlt ne lines after did t. other_turn now (link_plan_at plan.links j)
+      (pace_in (link_plan_at plan.links j) (log lines))
+      (accepted_view plan.end_system (link_plan_at plan.links j) (accepted j) (log lines)) lines after did
+      (link_plan_at plan.links k).id.0 (apart plan j k valid jlt inside ne) t;
+  endure = drain_endures now plan accepted;
+}
+
+-- what a poll of a drain does to the stream of a link
+pub drain_step : (now : ℕ) (plan : Plan) (k x : ℕ) (lines after : Lines) → IsPlan plan → k < length plan.links
+    → DrainPolls plan now lines after → StandsAt plan k after → StepsAt now plan k x lines after
+drain_step now plan k x lines after valid inside p stands =
+    turns_step now plan k x (length plan.links) (DrainsAt now plan p.accepted) 0 (length plan.links) lines after
+    (drain_seen now plan p.accepted k x valid inside (λ s lt. short plan k s (p.accepted k s) (p.allowed k s inside lt)))
+    (omega arith) (omega arith) (omega arith) p.run stands
+
+-- networks that are down behind a poll were down before it, or failed
+pub emitter_endures : (now : ℕ) (plan : Plan) (lines after : Lines) → EmitterPolls plan now lines after → BothEndure lines after
+emitter_endures now plan lines after p =
+    subst (λ (l : Lines). BothEndure l after) p.before
+    (subst (λ (l : Lines). BothEndure p.old.lines l) p.behind
+    (turns_endure (IsTurnAt now p.old.links p.new.links) 0 (length p.old.links) p.old.lines p.new.lines
+    (planned_endures now p.old.links p.new.links) p.run.turns))
+
+pub drain_poll_endures : (now : ℕ) (plan : Plan) (lines after : Lines) → DrainPolls plan now lines after → BothEndure lines after
+drain_poll_endures now plan lines after p =
+    turns_endure (DrainsAt now plan p.accepted) 0 (length plan.links) lines after (drain_endures now plan p.accepted) p.run

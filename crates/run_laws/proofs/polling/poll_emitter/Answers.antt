@@ -1,0 +1,23 @@
+use Rattle.std.proofs.Common.{refl}
+use Rattle.std.proofs.lemmas.Result.{on_ok_weaker}
+use Rattle.run_laws.proofs.KeepReady.{kept_ready}
+use Rattle.run_laws.proofs.polling.poll_emitter.Goals as goal
+
+pub returns-clause-step : goal.returns-clause-step
+returns-clause-step g c = on_ok_weaker c.poll.result
+    (λ run. record {
+      old = c.args.emitter.now;
+      new = c.poll.new.self;
+      ready = c.requires.ready;
+      of = refl;
+      before = refl;
+      behind = refl;
+      run = run;
+    })
+    c.poll.ensures.run
+
+pub returns-clause-ready : goal.returns-clause-ready
+returns-clause-ready g c = on_ok_weaker c.poll.result
+    (λ run. kept_ready.polled c.args.now c.args.emitter.now c.poll.new.self c.requires.ready
+    c.poll.ensures.plan run c.poll.ensures.allowed)
+    c.poll.ensures.run

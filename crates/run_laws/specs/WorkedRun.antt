@@ -1,0 +1,61 @@
+-- A worked run: over the demonstration configuration with frames of up to 64 bytes, a message of two fragments is
+-- accepted, and its first frame is handed over at the moment 0. Two polls of a drain follow, a gap apart.
+use Rattle.std.specs.Prelude.{◌≡◌, ◌+◌, ◌≤◌, ◌<◌, true, [], ◌∷◌}
+use Rattle.afdx_plan.specs.Config.{Plan, IsPlan, link_plan_at}
+use Rattle.afdx_plan.specs.Demo.{demo_plan, demo_link}
+use Rattle.afdx_plan.specs.declared.link_plan.LinkPlan.{LinkPlan}
+use Rattle.afdx_plan.specs.declared.networks.Networks.TheVariants.{Both}
+use Rattle.afdx_frame.specs.declared.net.Net.TheVariants.{A, B}
+use Rattle.afdx_frame.specs.Header.{sub_in}
+use Rattle.redundant_mux.specs.Entry.{Entry, entry}
+use Rattle.redundant_mux.specs.Logged.{logged_for}
+use Rattle.redundant_mux.specs.Lines.{Lines, lines_of, stands_for}
+use Rattle.afdx_legal.specs.Legal.{Accepted}
+use Rattle.afdx_legal.specs.Turns.{more_in}
+use Rattle.afdx_tx.specs.DrainEnds.{stream_at}
+use Rattle.afdx_laws.specs.NextFragment.{link_wait}
+use Rattle.afdx_laws.specs.WorkedDelivery.{one_accepted, front_frame, back_frame}
+use Rattle.run_laws.specs.Runs.{AreRuns}
+use Rattle.run_laws.specs.NextInRun.{ComeWithin, latest_of, ComesBy}
+
+-- the link, and its configuration
+abbrev pub small_link : LinkPlan
+small_link = record demo_link { lmax = 64 }
+
+abbrev pub small_plan : Plan
+small_plan = record demo_plan { links = small_link ∷ [] }
+
+-- the accepted messages of its one sub-VL
+abbrev pub message_accepted : Accepted
+message_accepted k sub = one_accepted
+
+-- the first frame was handed to both networks
+abbrev pub front_line : Lines
+front_line = lines_of (entry 0 (front_frame A) ∷ []) (entry 0 (front_frame B) ∷ []) 0 0 true true
+    (logged_for Both (entry 0 (front_frame A)) ∷ [])
+
+-- and then the second, a gap later
+abbrev pub both_lines : Lines
+both_lines = lines_of (entry 0 (front_frame A) ∷ entry 1000 (back_frame A) ∷ [])
+    (entry 0 (front_frame B) ∷ entry 1000 (back_frame B) ∷ []) 0 0 true true
+    (logged_for Both (entry 0 (front_frame A)) ∷ logged_for Both (entry 1000 (back_frame A)) ∷ [])
+
+-- the first fragment
+abbrev pub front_entry : Entry
+front_entry = entry 0 (front_frame A)
+
+-- The run meets what the law asks for, with polls up to 1,000 microseconds apart, and the second fragment is
+-- released at 1,000, before the bound, 2,000. Without a poll the bound isn't reached, and it doesn't come.
+pub record ComesInRun : Type 0 where
+  pub valid : IsPlan small_plan
+  pub ends : stream_at small_plan 0 front_line ≡ front_entry ∷ []
+  pub more : more_in (front_frame A) ≡ true
+  pub below : sub_in (front_frame A) < small_link.sub_vls
+  pub runs : AreRuns small_plan (1000 ∷ 2000 ∷ []) front_line both_lines
+  pub stands : stands_for (link_plan_at small_plan.links 0).networks both_lines ≡ true
+  pub come : ComeWithin 1000 0 (1000 ∷ 2000 ∷ [])
+  pub reach : 0 + link_wait 1000 small_link ≤ latest_of 0 (1000 ∷ 2000 ∷ [])
+  pub next : ComesBy (stream_at small_plan 0 both_lines) front_entry (0 + link_wait 1000 small_link)
+  pub none : AreRuns small_plan [] front_line front_line
+  pub short : 0 + link_wait 1000 small_link ≤ latest_of 0 [] → ⊥
+  pub waits : ComesBy (stream_at small_plan 0 front_line) front_entry (0 + link_wait 1000 small_link) → ⊥
