@@ -4,7 +4,7 @@ use crate::report::Report;
 use crate::transmitter::Transmitter;
 use afdx_plan::{Config, VlId};
 use redundant_mux::Network;
-use status_board::Counts;
+use status_board::{Counts, Monitor};
 use std::marker::Model;
 use std::sync::Wait;
 
@@ -28,7 +28,7 @@ impl<A: Network + Drop, B: Network + Drop> Model for Draining<A, B> {
 }
 
 impl<A: Network + Drop, B: Network + Drop> Draining<A, B> {
-    ghost use Rattle.std.specs.Prelude.{◌≡◌, ℕ, ◌≤◌, ◌↔◌, true, false, IsTrue, IsNone, IsErr, OnErr, OnOk, IfOk, IfSome};
+    ghost use Rattle.std.specs.Prelude.{◌≡◌, ℕ, ◌<◌, ◌≤◌, ◌↔◌, true, false, length, slice_set, IsTrue, IsNone, IsErr, OnErr, OnOk, IfOk, IfSome};
     ghost use Rattle.redundant_mux.specs.Lines.{BothEndure, is_alive, log, IsMirrored};
     ghost use Rattle.afdx_legal.specs.Legal.{IsLegal};
     ghost use Rattle.afdx_legal.specs.Allowed.{AreAllowed};
@@ -40,6 +40,7 @@ impl<A: Network + Drop, B: Network + Drop> Draining<A, B> {
     ghost use Rattle.afdx_tx.specs.Drain.{AreGathered, IsDrained, accepted_in};
     ghost use Rattle.afdx_legal.specs.Own.{own_stream, AreOwnStreams};
     ghost use Rattle.afdx_legal.specs.Counting.{counts_in};
+    ghost use Rattle.status_board.specs.Views.{published, seen, last_of, links_of, IsReading};
 
     /// Over links whose queues are all gathered.
     pub(crate) fn over(inner: Transmitter<A, B>) -> Draining<A, B>
@@ -153,5 +154,21 @@ impl<A: Network + Drop, B: Network + Drop> Draining<A, B> {
         ensures { Publishes self.old self.new }
     {
         self.inner.publish(rt);
+    }
+
+    /// Reads a link by the monitor that was opened with the emitter, by the link's place in the
+    /// configuration, as `Monitor::read` does, by one load. Since both ends of the board are in hand it
+    /// finds what was published last of the link, all zeros before the first entry. It takes no memory.
+    pub fn read_last<R: Wait>(&mut self, rt: &R, monitor: &mut Monitor, link: usize) -> Counts
+        requires published { link < length self.old.board }
+        requires read { link < links_of monitor.old }
+        requires same { (published self.old.board link).cell ≡ (seen monitor.old link).cell }
+        ensures draining { self.new ≡ self.old }
+        ensures reading { IsReading (seen monitor.old link) result (seen monitor.new link) }
+        ensures others { monitor.new ≡ slice_set monitor.old link (seen monitor.new link) }
+        ensures links { links_of monitor.new ≡ links_of monitor.old }
+        ensures last { result ≡ last_of self.old.board link }
+    {
+        self.inner.read_last(rt, monitor, link)
     }
 }

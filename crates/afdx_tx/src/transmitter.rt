@@ -20,7 +20,7 @@ use afdx_frame::Frame;
 use afdx_plan::{Config, Networks, VlId};
 use arrayvec::ArrayVec;
 use redundant_mux::{Mux, Network};
-use status_board::{Board, Counts};
+use status_board::{Board, Counts, Monitor, laws};
 use std::boxed::BoxedSlice;
 use std::marker::Model;
 use std::sync::Wait;
@@ -124,8 +124,8 @@ impl<A: Network + Drop, B: Network + Drop> Model for Transmitter<A, B> {
 }
 
 impl<A: Network + Drop, B: Network + Drop> Transmitter<A, B> {
-    ghost use Rattle.std.specs.Prelude.{◌≡◌, ◌≤◌, ◌↔◌, ℕ, [], true, false, length, IsTrue, IsNone, IsErr, OnErr, OnOk, IfOk, IfSome};
-    ghost use Rattle.status_board.specs.Views.{published};
+    ghost use Rattle.std.specs.Prelude.{◌≡◌, ◌≤◌, ◌↔◌, ℕ, ◌<◌, [], true, false, length, slice_set, IsTrue, IsNone, IsErr, OnErr, OnOk, IfOk, IfSome};
+    ghost use Rattle.status_board.specs.Views.{published, seen, last_of, links_of, IsReading};
     ghost use Rattle.afdx_plan.specs.Config.{IsPlan};
     ghost use Rattle.redundant_mux.specs.Lines.{BothEndure, is_alive, log, IsMirrored};
     ghost use Rattle.afdx_legal.specs.Own.{own_stream, AreOwnStreams};
@@ -304,6 +304,20 @@ impl<A: Network + Drop, B: Network + Drop> Transmitter<A, B> {
         ensures { Publishes self.old self.new }
     {
         publish_all(rt, &self.links, &mut self.board);
+    }
+
+    /// Reads the link at a place by the monitor of the board: what was published of it last.
+    pub fn read_last<R: Wait>(&mut self, rt: &R, monitor: &mut Monitor, link: usize) -> Counts
+        requires published { link < length self.old.board }
+        requires read { link < links_of monitor.old }
+        requires same { (published self.old.board link).cell ≡ (seen monitor.old link).cell }
+        ensures tx { self.new ≡ self.old }
+        ensures reading { IsReading (seen monitor.old link) result (seen monitor.new link) }
+        ensures others { monitor.new ≡ slice_set monitor.old link (seen monitor.new link) }
+        ensures links { links_of monitor.new ≡ links_of monitor.old }
+        ensures last { result ≡ last_of self.old.board link }
+    {
+        laws::read_last(rt, &mut self.board, monitor, link)
     }
 
     /// Takes the ports back, which are all that the configuration has, and gathers the queue of each

@@ -1,5 +1,6 @@
 -- Histories that grow.
-use Rattle.std.proofs.Common.{◌≡◌, ℕ, List, [], ◌∷◌, ◌++◌, refl, sym, ap, ◌∙◌, subst, append-nil, append_assoc, le_refl, le_trans}
+use Rattle.std.proofs.Common.{◌≡◌, ℕ, ◌+◌, List, [], ◌∷◌, ◌++◌, refl, sym, ap, ◌∙◌, subst, append-nil, append_assoc, length, length-append, le_refl, le_trans, arith}
+use Rattle.std.proofs.lemmas.List.{nil_from_length}
 use Rattle.status_board.specs.declared.counts.Counts.{Counts}
 use Rattle.status_board.specs.declared.rule.Stamped.{Stamped}
 use Rattle.status_board.specs.History.{NoFieldFalls, last_or, RisesFrom, value_of, IsRising, StartsWith}
@@ -23,6 +24,13 @@ starts_more all first more s = (s.0 ++ more, ap (λ l. l ++ more) s.1 ∙ append
 
 pub starts_none : {A : Type 0} (all : List A) → StartsWith all []
 starts_none all = (all, refl)
+
+-- two lists, each of which begins with the other, are one
+pub starts_both : {A : Type 0} (xs ys : List A) → StartsWith xs ys → StartsWith ys xs → xs ≡ ys
+starts_both xs ys p q =
+    let longer : length xs ≡ length ys + length p.0 = ap length p.1 ∙ length-append ys p.0 in
+    let shorter : length ys ≡ length xs + length q.0 = ap length q.1 ∙ length-append xs q.0 in
+    p.1 ∙ ap (λ l. ys ++ l) (nil_from_length p.0 (omega arith)) ∙ append-nil ys
 
 pub counts_of-append : (xs ys : List Stamped) → counts_of (xs ++ ys) ≡ counts_of xs ++ counts_of ys
 counts_of-append [] ys = refl

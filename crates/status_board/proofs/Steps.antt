@@ -145,6 +145,7 @@ reads by v is x views k at =
       loads = refl;
       heard = refl;
       begins = mine.knows;
+      told = mine.heard;
       rising = k.rising;
       value = k.value_is;
     } in

@@ -62,13 +62,15 @@ pub record Adds (old : View) (before published : Counts) (new : View) : Type 0 w
   pub loads : ℕ
   pub is : new ≡ record old { history = old.history ++ stamped published loads ∷ [] }
 
--- one load more, which found the value of a history that begins with all that was seen, and is seen now
+-- One load more, which found the value of a history that is seen now. It begins with all that was seen, and with all
+-- that was heard.
 pub record FindsEntry (old : View) (before found : Counts) (new : View) : Type 0 where
   pub writes : new.writes ≡ old.writes
   pub reads : new.reads ≡ old.reads
   pub loads : new.loads ≡ old.loads + 1
   pub heard : new.heard ≡ old.heard
   pub begins : StartsWith new.history old.history
+  pub told : StartsWith new.history old.heard
   pub rising : IsRising (counts_of new.history)
   pub value : found ≡ value_of (counts_of new.history)
 

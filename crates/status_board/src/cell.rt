@@ -35,6 +35,8 @@ pub fn read<R: Wait>(rt: &R, cell: &Cell, pass: &mut Knowing) -> Counts
     ensures loads { (cell_view pass.new).loads ≡ (cell_view pass.old).loads + 1 }
     ensures seen { StartsWith (counts_of (cell_view pass.new).history)
         (counts_of (cell_view pass.old).history) }
+    ensures told { StartsWith (counts_of (cell_view pass.new).history)
+        (counts_of (cell_view pass.old).heard) }
     ensures rising { IsRising (counts_of (cell_view pass.new).history) }
     ensures value { result ≡ value_of (counts_of (cell_view pass.new).history) }
     ensures above { NoFieldFalls (value_of (counts_of (cell_view pass.old).history)) result }

@@ -1,9 +1,10 @@
 //! What holds of a board and its monitor together.
-ghost use Rattle.std.specs.Prelude.{◌≡◌, ◌<◌, length};
+ghost use Rattle.std.specs.Prelude.{◌≡◌, ◌<◌, length, slice_set};
 ghost use Rattle.status_board.specs.History.{StartsWith};
-ghost use Rattle.status_board.specs.Views.{published, seen, links_of};
+ghost use Rattle.status_board.specs.Views.{published, last_of, seen, links_of, IsReading};
 
 use crate::board::Board;
+use crate::counts::Counts;
 use crate::monitor::Monitor;
 use std::sync::Wait;
 
@@ -20,4 +21,22 @@ pub fn seen_begins<R: Wait>(rt: &R, board: &mut Board, monitor: &mut Monitor, li
     ensures begins { StartsWith (published board.old link).history (seen monitor.old link).history }
 {
     board.links[link].compare(rt, &mut monitor.links[link]);
+}
+
+/// Reads a link as `Monitor::read` does, with both ends in hand: by one load, which finds the entry that
+/// was published last, all zeros before the first.
+///
+/// Between two threads no call can say that, since there is no telling which came first.
+pub fn read_last<R: Wait>(rt: &R, board: &mut Board, monitor: &mut Monitor, link: usize) -> Counts
+    requires published { link < length board.old }
+    requires read { link < links_of monitor.old }
+    requires same { (published board.old link).cell ≡ (seen monitor.old link).cell }
+    ensures board { board.new ≡ board.old }
+    ensures reading { IsReading (seen monitor.old link) result (seen monitor.new link) }
+    ensures others { monitor.new ≡ slice_set monitor.old link (seen monitor.new link) }
+    ensures links { links_of monitor.new ≡ links_of monitor.old }
+    ensures whole { (seen monitor.new link).history ≡ (published board.old link).history }
+    ensures last { result ≡ last_of board.old link }
+{
+    board.links[link].read_last(rt, &mut monitor.links[link])
 }

@@ -1,9 +1,13 @@
 //! The end of a link's cell that reads.
+ghost use Rattle.std.specs.Prelude.{◌≡◌, []};
+ghost use Rattle.crossbeam_utils.specs.Seq.{cell_view};
+ghost use Rattle.status_board.specs.History.{StartsWith};
+ghost use Rattle.status_board.specs.Rule.{counts_of};
 ghost use Rattle.status_board.specs.Views.{IsReading};
 
 use crate::cell::read;
 use crate::counts::Counts;
-use crate::rule::{Cell, Knowing};
+use crate::rule::{Cell, Knowing, Tells};
 use std::marker::Model;
 use std::sync::{Arc, Wait};
 
@@ -41,5 +45,15 @@ impl Reader {
         ensures { IsReading self.old result self.new }
     {
         read(rt, &self.cell, &mut self.pass)
+    }
+
+    /// Takes one load, after it heard what another pass of the cell knows, and answers what it found.
+    pub fn read_told<R: Wait>(&mut self, rt: &R, told: Knowing) -> Counts
+        requires told { (told.table_id ≡ self.old.cell) × (told.me.1 ≡ []) }
+        ensures reading { IsReading self.old result self.new }
+        ensures begins { StartsWith self.new.history (counts_of (cell_view told).history) }
+    {
+        self.cell.join_pass::<Tells>(&mut self.pass, told);
+        read(rt, &*self.cell, &mut self.pass)
     }
 }

@@ -1,7 +1,7 @@
 //! The end of a link's cell that publishes.
 ghost use Rattle.std.specs.Prelude.{◌≡◌};
 ghost use Rattle.status_board.specs.History.{NoFieldFalls, value_of, StartsWith};
-ghost use Rattle.status_board.specs.Views.{with_entry};
+ghost use Rattle.status_board.specs.Views.{with_entry, IsReading};
 
 use crate::cell::publish;
 use crate::counts::Counts;
@@ -53,5 +53,18 @@ impl Writer {
         let told = self.cell.split_pass::<Tells>(&mut reader.pass);
         self.cell.join_pass::<Tells>(&mut self.pass, told);
         self.cell.load_as::<Compares, R>(rt, &mut self.pass);
+    }
+
+    /// A reader of the cell is told the whole history, and takes one load, which finds the last entry.
+    pub fn read_last<R: Wait>(&mut self, rt: &R, reader: &mut Reader) -> Counts
+        requires same { self.old.cell ≡ reader.old.cell }
+        ensures writer { self.new ≡ self.old }
+        ensures reading { IsReading reader.old result reader.new }
+        ensures whole { reader.new.history ≡ self.old.history }
+    {
+        let told = self.cell.split_pass::<Tells>(&mut self.pass);
+        let found = reader.read_told(rt, told);
+        self.compare(rt, reader);
+        found
     }
 }

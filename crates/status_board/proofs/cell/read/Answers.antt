@@ -13,6 +13,9 @@ load_as-requires g c = (search rules, (search rules, (c.requires.cell, reads _ _
 pub returns-clause-seen : goal.returns-clause-seen
 returns-clause-seen g c = counts_start _ _ c.load_as.ensures.rule.begins
 
+pub returns-clause-told : goal.returns-clause-told
+returns-clause-told g c = counts_start _ _ c.load_as.ensures.rule.told
+
 pub returns-clause-above : goal.returns-clause-above
 returns-clause-above g c =
     let found = c.load_as.ensures.rule in
