@@ -1,5 +1,7 @@
 -- What was published of the links of an emitter.
-use Rattle.std.proofs.Common.{◌≡◌, ◌∙◌, ℕ, ◌+◌, ◌<◌, List, [], length, refl, sym, ap, arith}
+use Rattle.std.proofs.Common.{◌≡◌, ◌∙◌, ℕ, ◌+◌, ◌<◌, List, [], ◌∷◌, ◌++◌, length, take, map, refl, sym, ap, add-one, arith}
+use Rattle.std.proofs.lemmas.List.{get_or-map, length-map}
+use Rattle.std.proofs.Math.Seq.{take-suc, take-length}
 use Rattle.afdx_plan.specs.Config.{Plan, link_plan_at}
 use Rattle.redundant_mux.specs.Entry.{Entry}
 use Rattle.redundant_mux.specs.Lines.{Lines}
@@ -13,7 +15,7 @@ use Rattle.afdx_legal.specs.Own.{own_stream}
 use Rattle.afdx_legal.specs.Counting.{counts_in}
 use Rattle.afdx_tx.specs.Emitter.{Tx, IsFreshTx}
 use Rattle.afdx_tx.specs.Publishing.{Publishes, counts_at}
-use Rattle.storm.specs.Shown.{IsShown}
+use Rattle.storm.specs.Shown.{IsShown, own_counts, all_counts}
 
 -- the counts of links of the same plan, of which the same was handed over
 counts_same : (old new : Tx) (k : ℕ) → new.plan ≡ old.plan → new.lines ≡ old.lines → counts_at old k ≡ counts_at new k
@@ -68,3 +70,30 @@ shown_fresh config tx monitor fresh new count = record {
     nothing k =
         ap (λ (es : List Entry). counts_in (own_stream (link_plan_at tx.plan.links k).id.0 es tx.lines.b)) fresh.a
         ∙ ap (λ (es : List Entry). counts_in (own_stream (link_plan_at tx.plan.links k).id.0 [] es)) fresh.b
+
+-- one reading more
+pub read_more : (tx : Tx) (k : ℕ) (counts : List Counts) (found : Counts) → IsShown tx → k < length tx.plan.links
+    → counts ≡ take k (all_counts tx.plan.links tx.lines.a tx.lines.b) → found ≡ last_of tx.board k
+    → counts ++ found ∷ [] ≡ take (k + 1) (all_counts tx.plan.links tx.lines.a tx.lines.b)
+read_more tx k counts found s lt is last =
+    let own = own_counts tx.lines.a tx.lines.b in
+    let all = all_counts tx.plan.links tx.lines.a tx.lines.b in
+    let there : k < length (all_counts tx.plan.links tx.lines.a tx.lines.b) =
+    omega (arith, length-map tx.plan.links (own_counts tx.lines.a tx.lines.b)) in
+    ap (λ (l : List Counts). l ++ found ∷ []) is
+    ∙ ap (λ (c : Counts). take k all ++ c ∷ []) (last ∙ s.each k lt ∙ sym (get_or-map own tx.plan.links k (link_plan_at [] 0) zeros lt))
+    ∙ sym (take-suc all k zeros there) ∙ ap (λ (n : ℕ). take n all) (sym (add-one k))
+-- all of them
+pub read_all : (tx : Tx) (k : ℕ) (counts : List Counts) → k ≡ length tx.plan.links
+    → counts ≡ take k (all_counts tx.plan.links tx.lines.a tx.lines.b)
+    → counts ≡ all_counts tx.plan.links tx.lines.a tx.lines.b
+read_all tx k counts end is =
+    let all = all_counts tx.plan.links tx.lines.a tx.lines.b in
+    is ∙ ap (λ (n : ℕ). take n all) (end ∙ sym (length-map tx.plan.links (own_counts tx.lines.a tx.lines.b))) ∙ take-length all
+
+-- the counts of links of the same plan, of which the same was handed over
+pub counts_kept : (old new : Plan) (a b a' b' : List Entry) (counts : List Counts) → counts ≡ all_counts new.links a b → new ≡ old
+    → a' ≡ a → b' ≡ b → counts ≡ all_counts old.links a' b'
+counts_kept old new a b a' b' counts is plan at_a at_b =
+    is ∙ ap (λ (p : Plan). all_counts p.links a b) plan ∙ ap (λ (es : List Entry). all_counts old.links es b) (sym at_a)
+    ∙ ap (λ (es : List Entry). all_counts old.links a' es) (sym at_b)

@@ -1,5 +1,5 @@
 //! What comes of a storm, over any two networks.
-ghost use Rattle.std.specs.Prelude.{◌≡◌, ◌*◌, ◌≤◌, ◌<◌, ◌^◌, [], length, false, vec_len, IfOk};
+ghost use Rattle.std.specs.Prelude.{◌≡◌, ◌*◌, ◌≤◌, ◌<◌, ◌^◌, [], length, false, IfOk};
 ghost use Rattle.std.specs.List.{sum_by};
 ghost use Rattle.status_board.specs.Views.{links_of};
 ghost use Rattle.storm.specs.Cells.{cells_of, cells_read};
@@ -7,7 +7,7 @@ ghost use Rattle.afdx_legal.specs.Done.{IsHandedWhole};
 ghost use Rattle.afdx_tx.specs.Emitter.{IsFreshTx};
 ghost use Rattle.afdx_tx.specs.Ports.{AreFreshPorts, AreOpenedWith};
 ghost use Rattle.storm.specs.Messages.{own_messages};
-ghost use Rattle.storm.specs.Shown.{IsShown};
+ghost use Rattle.storm.specs.Shown.{IsShown, all_counts};
 ghost use Rattle.storm.specs.Workers.{AreSpent};
 
 use crate::drain::{drain, gather_all};
@@ -17,7 +17,7 @@ use crate::load::Load;
 use crate::polling::STEP;
 use crate::run::{Joined, Opened, run_threads};
 use afdx_plan::Config;
-use afdx_tx::{TxPort, open_tx};
+use afdx_tx::{Draining, TxPort, open_tx};
 use redundant_mux::Network;
 use status_board::{Counts, Monitor};
 use std::alloc::{AllocError, Global};
@@ -47,19 +47,24 @@ fn count_accepted(ports: &[TxPort]) -> u64
     accepted
 }
 
-/// A reading of each link.
-fn read_links<R: Wait>(
+/// A reading of each link, in the order of the configuration: what was published of it last.
+fn read_links<A: Network + Drop, B: Network + Drop, R: Wait>(
     rt: &R,
     alloc: Global,
+    draining: &mut Draining<A, B>,
     monitor: &mut Monitor,
     links: usize,
 ) -> Result<Vec<Counts>, AllocError>
-    requires { links_of monitor.old ≡ links }
-    ensures { IfOk result (λ counts. vec_len counts ≡ links) }
+    requires links { links ≡ length draining.old.plan.links }
+    requires shown { IsShown draining.old }
+    requires cells { cells_of draining.old.board ≡ cells_read monitor.old }
+    ensures draining { draining.new ≡ draining.old }
+    ensures counts { IfOk result (λ counts. counts.items ≡ all_counts draining.old.plan.links
+        draining.old.lines.a draining.old.lines.b) }
 {
     let mut counts = Vec::with_capacity(alloc, links)?;
     for link in 0..links {
-        counts.push(monitor.read(rt, link))?;
+        counts.push(draining.read_last(rt, monitor, link))?;
     }
     Ok(counts)
 }
@@ -74,7 +79,7 @@ fn finish<A: Network + Drop, B: Network + Drop, G: Gate, R: Wait>(
 ) -> Result<Outcome<A, B>, Stop>
     requires ports { AreSpent joined.tx load.messages load.turns joined.ports.items }
     requires shown { IsShown joined.tx }
-    requires links { links_of joined.monitor ≡ length joined.tx.plan.links }
+    requires cells { cells_of joined.tx.board ≡ cells_read joined.monitor }
     requires polls { joined.polls ≤ 1000000000 }
     requires moment { joined.tx.moment ≤ joined.polls * STEP }
     requires messages { load.messages < 65536 }
@@ -84,8 +89,8 @@ fn finish<A: Network + Drop, B: Network + Drop, G: Gate, R: Wait>(
         (own_messages joined.tx.plan load.messages) (A.handed outcome.a) (B.handed outcome.b)) }
     ensures accepted { IfOk result (λ outcome.
         outcome.accepted ≡ length joined.tx.plan.ports * load.messages) }
-    ensures links { IfOk result (λ outcome.
-        vec_len outcome.links ≡ length joined.tx.plan.links) }
+    ensures links { IfOk result (λ outcome. outcome.links.items ≡ all_counts joined.tx.plan.links
+        (A.handed outcome.a) (B.handed outcome.b)) }
     ensures back { IfOk result (λ outcome. outcome.back ≡ false) }
 {
     let Joined {
@@ -98,8 +103,8 @@ fn finish<A: Network + Drop, B: Network + Drop, G: Gate, R: Wait>(
     let count = tx.config().links().len();
     let accepted = count_accepted(ports.as_slice());
     let draining = gather_all(tx, ports);
-    let draining = drain(rt, draining, gate, polls, load.turns)?;
-    let links = read_links(rt, alloc, &mut monitor, count)?;
+    let mut draining = drain(rt, draining, gate, polls, load.turns)?;
+    let links = read_links(rt, alloc, &mut draining, &mut monitor, count)?;
     let (a, b) = draining.into_networks();
     Ok(Outcome {
         accepted,
@@ -161,7 +166,8 @@ where
         (own_messages config load.messages) (A.handed outcome.a) (B.handed outcome.b)) }
     ensures accepted { IfOk result (λ outcome.
         outcome.accepted ≡ length config.ports * load.messages) }
-    ensures links { IfOk result (λ outcome. vec_len outcome.links ≡ length config.links) }
+    ensures links { IfOk result (λ outcome. outcome.links.items ≡ all_counts config.links
+        (A.handed outcome.a) (B.handed outcome.b)) }
     ensures back { IfOk result (λ outcome. outcome.back ≡ false) }
 {
     let opened = open(alloc, config, a, b)?;

@@ -1,11 +1,12 @@
 //! The storm, and its report.
-ghost use Rattle.std.specs.Prelude.{◌≡◌, ◌↔◌, ◌*◌, ◌≤◌, ◌<◌, [], length, map, IsTrue, false, vec_len, IfOk};
+ghost use Rattle.std.specs.Prelude.{◌≡◌, ◌↔◌, ◌*◌, ◌≤◌, ◌<◌, [], length, map, IsTrue, false, IfOk};
 ghost use Rattle.afdx_frame.specs.declared.net.Net.TheVariants.{B as ForB};
 ghost use Rattle.redundant_mux.specs.Logged.{side};
 ghost use Rattle.afdx_legal.specs.Done.{IsHandedWhole};
 ghost use Rattle.afdx_legal.specs.Legal.{on_both};
 ghost use Rattle.storm.specs.Answers.{HasShortPort, IsShort, IsSomeShort};
 ghost use Rattle.storm.specs.Messages.{own_messages};
+ghost use Rattle.storm.specs.Shown.{all_counts};
 
 use crate::both::{KeptLinks, are_equal};
 use crate::fault::{StormFault, fault_of};
@@ -25,7 +26,8 @@ use std::thread::Threads;
 pub struct StormReport {
     /// How many messages of all ports were accepted.
     pub accepted: u64,
-    /// A reading of each link, in the order of the configuration, once all was sent.
+    /// A reading of each link, in the order of the configuration, once all was sent: the counts of the
+    /// longer of the link's two streams.
     pub links: Vec<Counts>,
     /// Whether over the links that both networks carry they were handed the same frames, each its twins,
     /// at the same moments.
@@ -66,7 +68,8 @@ pub fn storm_over<G: Gate + Sync, R: Threads + Wait + Sync>(
         report.a.handed report.b.handed) }
     ensures accepted { IfOk result (λ report.
         report.accepted ≡ length config.ports * messages) }
-    ensures links { IfOk result (λ report. vec_len report.links ≡ length config.links) }
+    ensures links { IfOk result (λ report. report.links.items ≡ all_counts config.links
+        report.a.handed report.b.handed) }
     ensures equal { IfOk result (λ report. IsTrue report.equal
         ↔ (on_both config.links report.b.handed
         ≡ map (side ForB) (on_both config.links report.a.handed))) }
@@ -112,7 +115,8 @@ pub fn storm<G: Gate + Sync, R: Threads + Wait + Sync>(
         report.a.handed report.b.handed) }
     ensures accepted { IfOk result (λ report.
         report.accepted ≡ length config.ports * messages) }
-    ensures links { IfOk result (λ report. vec_len report.links ≡ length config.links) }
+    ensures links { IfOk result (λ report. report.links.items ≡ all_counts config.links
+        report.a.handed report.b.handed) }
     ensures equal { IfOk result (λ report. IsTrue report.equal
         ↔ (on_both config.links report.b.handed
         ≡ map (side ForB) (on_both config.links report.a.handed))) }

@@ -66,8 +66,6 @@ where
     ensures plan { IfOk result (λ joined. joined.tx.plan ≡ opened.tx.plan) }
     ensures ports { IfOk result (λ joined.
         AreSpent joined.tx load.messages load.turns joined.ports.items) }
-    ensures links { IfOk result (λ joined.
-        links_of joined.monitor ≡ length joined.tx.plan.links) }
     ensures polls { IfOk result (λ joined. joined.polls ≤ load.turns) }
     ensures moment { IfOk result (λ joined. joined.tx.moment ≤ joined.polls * STEP) }
     ensures shown { IfOk result (λ joined. IsShown joined.tx) }
@@ -123,8 +121,6 @@ where
     ensures plan { IfOk result (λ joined. joined.tx.plan ≡ opened.tx.plan) }
     ensures ports { IfOk result (λ joined.
         AreSpent joined.tx load.messages load.turns joined.ports.items) }
-    ensures links { IfOk result (λ joined.
-        links_of joined.monitor ≡ length joined.tx.plan.links) }
     ensures polls { IfOk result (λ joined. joined.polls ≤ load.turns) }
     ensures moment { IfOk result (λ joined. joined.tx.moment ≤ joined.polls * STEP) }
     ensures shown { IfOk result (λ joined. IsShown joined.tx) }
@@ -150,8 +146,6 @@ where
             ensures plan { IfOk result (λ joined. joined.tx.plan ≡ opened.tx.plan) }
             ensures ports { IfOk result (λ joined.
                 AreSpent joined.tx load.messages load.turns joined.ports.items) }
-            ensures links { IfOk result (λ joined.
-                links_of joined.monitor ≡ length joined.tx.plan.links) }
             ensures polls { IfOk result (λ joined. joined.polls ≤ load.turns) }
             ensures moment { IfOk result (λ joined. joined.tx.moment ≤ joined.polls * STEP) }
             ensures shown { IfOk result (λ joined. IsShown joined.tx) }

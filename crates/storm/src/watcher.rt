@@ -20,11 +20,9 @@ pub(crate) struct WatchesAll {
 
 impl Promise<(Monitor, bool)> for WatchesAll {
     ghost use Rattle.std.specs.Prelude.{◌≡◌, false};
-    ghost use Rattle.status_board.specs.Views.{links_of};
     ghost use Rattle.storm.specs.Watching.{ReadsEach};
 
-    ghost kept_by = { λ p r. ReadsEach p.before.value r.0 p.times
-        × (links_of r.0 ≡ links_of p.before.value) × (r.1 ≡ false) };
+    ghost kept_by = { λ p r. ReadsEach p.before.value r.0 p.times × (r.1 ≡ false) };
 }
 
 pub(crate) type Watching = PromisedHandle<(Monitor, bool), WatchesAll>;
@@ -73,7 +71,6 @@ fn watch<G: Gate, R: Wait>(
 ) -> (Monitor, bool)
     requires { links_of monitor ≡ links }
     ensures reads { ReadsEach monitor result.0 times }
-    ensures links { links_of result.0 ≡ links }
     ensures back { result.1 ≡ false }
 {
     let mut monitor = monitor;

@@ -9,7 +9,6 @@ use Rattle.redundant_mux.specs.Entry.{Entry}
 use Rattle.redundant_mux.specs.Logged.{side}
 use Rattle.afdx_legal.specs.Done.{IsHandedWhole}
 use Rattle.afdx_legal.specs.Legal.{on_both}
-use Rattle.status_board.specs.declared.counts.Counts.{Counts}
 use Rattle.transcript.specs.declared.run_fault.RunFault.TheVariants as Ran
 use Rattle.plan_report.specs.declared.failure.Failure.{Failure}
 use Rattle.plan_report.specs.declared.failure.Failure.TheVariants as Failures
@@ -17,6 +16,7 @@ use Rattle.storm.specs.declared.fault.StormFault.{StormFault}
 use Rattle.storm.specs.declared.fault.StormFault.TheVariants.{Short, Turns, Memory}
 use Rattle.storm.specs.Answers.{HasShortPort}
 use Rattle.storm.specs.Messages.{own_messages}
+use Rattle.storm.specs.Shown.{all_counts}
 use Rattle.storm_report.specs.Totals.{totals_text}
 
 -- the failure that a fault is told as
@@ -25,36 +25,45 @@ failure_of Short = Failures.Short
 failure_of Turns = Failures.Turns
 failure_of Memory = Failures.Run Ran.Memory
 
--- some port of the plan of a text is short
-pub record HasShort (text : List ℕ) : Type 0 where
+-- Why a storm over a plan ends early: for a short port, whatever else would stop it, and for another reason only where
+-- no port is short.
+abbrev pub IsPlanRefusal : Plan → Failure → Type 0
+IsPlanRefusal plan Failures.Short = HasShortPort plan
+IsPlanRefusal plan Failures.Turns = HasShortPort plan → ⊥
+IsPlanRefusal plan (Failures.Run Ran.Memory) = HasShortPort plan → ⊥
+IsPlanRefusal plan (Failures.Run Ran.Write) = HasShortPort plan → ⊥
+IsPlanRefusal plan _ = ⊥
+
+-- so it is of the plan of a text
+pub record IsTextRefusal (text : List ℕ) (failure : Failure) : Type 0 where
   pub plan : Plan
   pub is_plan : IsPlanOf text plan
-  pub short : HasShortPort plan
+  pub refusal : IsPlanRefusal plan failure
 
--- A text is refused for its fault of the least number, or for a short port of its plan. Turns may be used up,
--- memory, the reading of it and writing may fail.
+-- A text is refused for its fault of the least number, or for what ends a storm over its plan. Memory and the reading of it
+-- may fail.
 abbrev pub IsStormRefusal : List ℕ → Failure → Type 0
 IsStormRefusal text (Failures.Config fault) = fault ≢ Plans.Memory → IsLeastFault text fault
-IsStormRefusal text Failures.Short = HasShort text
-IsStormRefusal text Failures.Turns = ⊤
 IsStormRefusal text (Failures.Run Ran.Read) = ⊤
-IsStormRefusal text (Failures.Run Ran.Write) = ⊤
 IsStormRefusal text (Failures.Run Ran.Memory) = ⊤
-IsStormRefusal text _ = ⊥
+IsStormRefusal text failure = IsTextRefusal text failure
 
--- What was written of a storm over the plan of a text, each of whose ports sent its messages 1 to n: that
--- all of them were accepted, that the networks are equal exactly where what they were handed of links on both is
+-- What was written of a storm over a plan, each of whose ports sent its messages 1 to n: that all of them were accepted, the
+-- counts of each link's own stream, that the networks are equal exactly where what they were handed of links on both is
 -- twins entry by entry, and that no count was seen to fall. All that was sent was handed over legally, every fragment of
 -- it, and nothing else.
-pub record ReportsStorm (text : List ℕ) (n : ℕ) (old new : Option (List ℕ)) : Type 0 where
-  pub plan : Plan
-  pub is_plan : IsPlanOf text plan
-  pub long : HasShortPort plan → ⊥
+pub record ReportsPlan (plan : Plan) (n : ℕ) (old new : Option (List ℕ)) : Type 0 where
   pub a : List Entry
   pub b : List Entry
   pub whole : IsHandedWhole plan (own_messages plan n) a b
   pub equal : Bool
   pub twins : IsTrue equal ↔ (on_both plan.links b ≡ map (side B) (on_both plan.links a))
-  pub counts : List Counts
-  pub count : length counts ≡ length plan.links
-  pub wrote : Appends old new (totals_text plan.links (length plan.ports * n) counts equal false)
+  pub wrote : Appends old new
+      (totals_text plan.links (length plan.ports * n) (all_counts plan.links a b) equal false)
+
+-- so it is of the plan of a text, none of whose ports is short
+pub record ReportsStorm (text : List ℕ) (n : ℕ) (old new : Option (List ℕ)) : Type 0 where
+  pub plan : Plan
+  pub is_plan : IsPlanOf text plan
+  pub long : HasShortPort plan → ⊥
+  pub storm : ReportsPlan plan n old new

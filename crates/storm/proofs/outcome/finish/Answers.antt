@@ -1,8 +1,13 @@
-use Rattle.std.proofs.Common.{◌∙◌, ◌*◌, ◌<◌, ◌≤◌, ◌^◌, List, length, ap, sym, subst, arith}
+use Rattle.std.proofs.Common.{◌≡◌, ◌∙◌, ◌*◌, ◌<◌, ◌≤◌, ◌^◌, List, length, ap, sym, subst, arith}
 use Rattle.std.proofs.Math.Nat.{mul-le-mul_right}
 use Rattle.std.specs.List.{sum_by}
 use Rattle.afdx_plan.specs.Config.{IsPlan}
+use Rattle.afdx_legal.specs.Legal.{IsLegal}
+use Rattle.afdx_legal.specs.Allowed.{AreAllowed}
+use Rattle.afdx_tx.specs.Drain.{accepted_in}
+use Rattle.afdx_tx.specs.Emitter.{Tx}
 use Rattle.afdx_tx.specs.Ports.{PortView}
+use Rattle.storm.proofs.ShownCounts.{counts_kept}
 use Rattle.storm.proofs.Spent.{every_place, sum_spent}
 use Rattle.storm.proofs.Whole.{handed_whole}
 use Rattle.storm.proofs.outcome.finish.Goals as goal
@@ -22,10 +27,21 @@ gather_all-draining-requires-clause-every g c = every_place c.args.joined.tx c.a
 pub returns-clause-whole : goal.returns-clause-whole
 returns-clause-whole g c =
     let joined = c.args.joined in
+    let same : c.read_links.new.draining ≡ c.in_ok-draining.draining = c.read_links.ensures.draining in
     handed_whole joined.tx c.gather_all-draining.result c.in_ok-draining.draining c.args.load.messages c.args.load.turns joined.ports.items _ _
     c.requires.ports c.gather_all-draining.ensures c.in_ok-draining.ensures.plan c.in_ok-draining.ensures.accepted
-    c.in_ok-draining.ensures.done c.in_ok-draining.ensures.streams c.into_networks-a.ensures.legal
-    c.into_networks-a.ensures.allowed c.into_networks-a.ensures.a c.into_networks-a.ensures.b
+    c.in_ok-draining.ensures.done c.in_ok-draining.ensures.streams
+    (subst (λ (t : Tx). IsLegal t.plan (accepted_in t.links) t.lines.a t.lines.b) same c.into_networks-a.ensures.legal)
+    (subst (λ (t : Tx). AreAllowed t.plan (accepted_in t.links)) same c.into_networks-a.ensures.allowed)
+    (c.into_networks-a.ensures.a ∙ ap (λ (t : Tx). t.lines.a) same) (c.into_networks-a.ensures.b ∙ ap (λ (t : Tx). t.lines.b) same)
+
+pub returns-clause-links : goal.returns-clause-links
+returns-clause-links g c =
+    let same : c.read_links.new.draining ≡ c.in_ok-draining.draining = c.read_links.ensures.draining in
+    let drained = c.in_ok-draining.draining in
+    counts_kept c.args.joined.tx.plan drained.plan drained.lines.a drained.lines.b _ _ _ c.in_ok-links.ensures.counts
+    (c.in_ok-draining.ensures.plan ∙ c.gather_all-draining.ensures.plan)
+    (c.into_networks-a.ensures.a ∙ ap (λ (t : Tx). t.lines.a) same) (c.into_networks-a.ensures.b ∙ ap (λ (t : Tx). t.lines.b) same)
 
 pub returns-clause-accepted : goal.returns-clause-accepted
 returns-clause-accepted g c =

@@ -1,9 +1,11 @@
-use Rattle.std.proofs.Common.{◌≡◌, vec_len}
-use Rattle.status_board.specs.Views.{links_of}
+use Rattle.std.proofs.Common.{◌≡◌, take}
+use Rattle.storm.specs.Cells.{cells_read}
+use Rattle.storm.specs.Shown.{all_counts}
 use Rattle.storm.proofs.outcome.read_links.Given as goal
 
 abbrev pub invariant-loop-link : goal.invariant-loop-link
 invariant-loop-link g l = record {
-  links : links_of l.monitor ≡ l.links;
-  count : vec_len l.counts ≡ l.link;
+  draining : l.draining ≡ l.fn.draining;
+  cells : cells_read l.monitor ≡ cells_read l.fn.monitor;
+  counts : l.counts.items ≡ take l.link (all_counts l.fn.draining.plan.links l.fn.draining.lines.a l.fn.draining.lines.b);
 }
