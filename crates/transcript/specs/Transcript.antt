@@ -8,7 +8,7 @@ use Rattle.redundant_mux.specs.Entry.{Entry}
 use Rattle.transcript.specs.declared.outcome.Outcome.{Outcome}
 use Rattle.transcript.specs.declared.outcome.Outcome.TheVariants as Became
 use Rattle.transcript.specs.declared.refusal.Refusal.{Refusal}
-use Rattle.transcript.specs.declared.refusal.Refusal.TheVariants.{Empty, TooLong, Closed, Full, NoPort, NoSub, TimeBack}
+use Rattle.transcript.specs.declared.refusal.Refusal.TheVariants.{Empty, TooLong, Closed, Exhausted, Full, NoPort, NoSub, TimeBack}
 use Rattle.transcript.specs.declared.run_fault.RunFault.{RunFault}
 use Rattle.transcript.specs.declared.run_fault.RunFault.TheVariants.{Write, Memory}
 
@@ -17,6 +17,7 @@ abbrev pub refusal_name : Refusal → List ℕ
 refusal_name Empty = codes "Empty"
 refusal_name TooLong = codes "TooLong"
 refusal_name Closed = codes "Closed"
+refusal_name Exhausted = codes "Exhausted"
 refusal_name Full = codes "Full"
 refusal_name NoPort = codes "NoPort"
 refusal_name NoSub = codes "NoSub"

@@ -11,6 +11,8 @@ pub enum Refusal {
     TooLong,
     /// The port's queue is closed.
     Closed,
+    /// The port has asked its queue for room as often as it may.
+    Exhausted,
     /// The port's queue is full.
     Full,
     /// No port has this identifier.
@@ -30,6 +32,7 @@ impl Refusal {
             Refusal::Empty => "Empty",
             Refusal::TooLong => "TooLong",
             Refusal::Closed => "Closed",
+            Refusal::Exhausted => "Exhausted",
             Refusal::Full => "Full",
             Refusal::NoPort => "NoPort",
             Refusal::NoSub => "NoSub",

@@ -19,7 +19,7 @@ use Rattle.transcript.specs.Transcript.{note_of, streams}
 use Rattle.script_lines.specs.declared.line.Line.{Line}
 use Rattle.script_lines.specs.declared.line.Line.TheVariants.{Send, At, Close, Nothing}
 use Rattle.transcript.specs.declared.refusal.Refusal.{Refusal}
-use Rattle.transcript.specs.declared.refusal.Refusal.TheVariants.{Empty, TooLong, Closed, Full, NoPort, NoSub, TimeBack}
+use Rattle.transcript.specs.declared.refusal.Refusal.TheVariants.{Empty, TooLong, Closed, Exhausted, Full, NoPort, NoSub, TimeBack}
 use Rattle.transcript.specs.declared.outcome.Outcome.{Outcome}
 use Rattle.transcript.specs.declared.outcome.Outcome.TheVariants as Became
 use Rattle.transcript.specs.declared.summary.Summary.{Summary as Sums}
@@ -64,12 +64,13 @@ queued takes = Became.Accepted
 queued closes = Became.Refused Closed
 queued _ = Became.Refused Full
 
--- the name of a port's refusal; a script has fewer lines than a port may ask, so none is exhausted
+-- the name of a port's refusal
 abbrev pub script_refusal : SendRefusal → Refusal
 script_refusal Why.Empty = Empty
 script_refusal Why.TooLong = TooLong
 script_refusal Why.Closed = Closed
-script_refusal _ = Full
+script_refusal Why.Exhausted = Exhausted
+script_refusal Why.Full = Full
 
 abbrev pub passed_on : Option SendRefusal → Answer → Outcome
 passed_on (Some why) answer = Became.Refused (script_refusal why)

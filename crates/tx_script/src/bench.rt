@@ -1,6 +1,5 @@
 //! An emitter with its ports, and doing what a line says.
 ghost use Rattle.std.specs.Prelude.{◌≡◌, ◌≢◌, ◌≤◌, ℕ, ◌+◌, IfOk, IfErr};
-ghost use Rattle.afdx_tx.specs.declared.fault.Refusal.TheVariants as Why;
 ghost use Rattle.script_lines.specs.declared.line.Line.TheVariants as Said;
 ghost use Rattle.transcript.specs.declared.run_fault.RunFault.TheVariants as RunFault;
 ghost use Rattle.tx_script.specs.declared.obey_lines.TheConstants.{LINES_LIMIT};
@@ -72,14 +71,13 @@ impl Bench {
 
 /// What a port's refusal is called.
 fn refused_for(why: afdx_tx::Refusal) -> Refusal
-    requires { why ≢ Why.Exhausted }
     ensures { result ≡ script_refusal why }
 {
     match why {
         afdx_tx::Refusal::Empty => Refusal::Empty,
         afdx_tx::Refusal::TooLong => Refusal::TooLong,
         afdx_tx::Refusal::Closed => Refusal::Closed,
-        afdx_tx::Refusal::Exhausted => unreachable!(),
+        afdx_tx::Refusal::Exhausted => Refusal::Exhausted,
         afdx_tx::Refusal::Full => Refusal::Full,
     }
 }
