@@ -84,10 +84,11 @@ fn a_summary_counts_what_became_of_lines(rt: HostRuntime) {
 }
 
 // Why a line is refused while running, and the name that a note has of it.
-const REFUSALS: [(Refusal, &str); 7] = [
+const REFUSALS: [(Refusal, &str); 8] = [
     (Refusal::Empty, "Empty"),
     (Refusal::TooLong, "TooLong"),
     (Refusal::Closed, "Closed"),
+    (Refusal::Exhausted, "Exhausted"),
     (Refusal::Full, "Full"),
     (Refusal::NoPort, "NoPort"),
     (Refusal::NoSub, "NoSub"),
