@@ -1,13 +1,14 @@
 -- A sub-VL is closed: the end system that matches stays the same.
-use Rattle.std.proofs.Common.{ℕ, ◌≡◌, ◌<◌, ◌≤◌, List, length, Bool, if◌then◌else◌, arith, refl, ap, ◌∙◌, sym, subst, ⊎_elim, Option, Some, None}
+use Rattle.std.proofs.Common.{ℕ, ◌≡◌, ◌≢◌, ◌<◌, ◌≤◌, List, length, set, Bool, if◌then◌else◌, arith, refl, ap, ◌∙◌, sym, subst, ⊎_elim, Option, Some, None}
 use Rattle.std.specs.Prelude.{IfSome}
-use Rattle.std.proofs.lemmas.Bool.{cases_lt, lt-ltb, le-ltb}
+use Rattle.std.proofs.lemmas.Bool.{cases_eq, cases_lt, lt-ltb, le-ltb}
+use Rattle.std.proofs.lemmas.List.{get_or-set_same, get_or-set_other}
 use Rattle.afdx_plan.specs.Config.{Plan, IsPlan, link_plan_at}
 use Rattle.afdx_plan.specs.declared.identifiers.VlId.{VlId}
 use Rattle.afdx_plan.specs.declared.link_plan.LinkPlan.{LinkPlan}
 use Rattle.afdx_plan.specs.declared.port_plan.PortPlan.{PortPlan}
 use Rattle.vl_link.specs.Closing.{Closes, ClosesSub}
-use Rattle.vl_link.specs.Links.{Held, LinkState, held_at, link_at, sent_by}
+use Rattle.vl_link.specs.Links.{Held, LinkState, held_at, link_at, nothing_held, no_link, sent_by}
 use Rattle.vl_link.specs.Seen.{Seen, receiving, gathered, ports_of, taken_of, total_of}
 use Rattle.vl_link.proofs.Closing.{closes_ports, closes_taken}
 use Rattle.afdx_tx.specs.Closing.{IsSubAt, LacksSub, ClosesTx}
@@ -20,7 +21,7 @@ use Rattle.afdx_tx.proofs.ClosedEmitter.{closes_within, closes_links, closed_kep
 use Rattle.script_lines.specs.declared.line.Line.TheVariants.{Close}
 use Rattle.transcript.specs.declared.outcome.Outcome.TheVariants as Became
 use Rattle.transcript.specs.declared.refusal.Refusal.TheVariants.{NoSub}
-use Rattle.tx_script.specs.AtBench.{AtBench, IsAtHand, Matches, Obeys, KeepsTotals}
+use Rattle.tx_script.specs.AtBench.{AtBench, IsAtHand, Matches, Obeys, KeepsTotals, ClosesOnly}
 use Rattle.tx_script.specs.EndSystem.{EndSystem, Progress}
 use Rattle.tx_script.specs.Matching.{IsPlannedSub, IsPlannedLink, progress_of, MatchesLines, MatchesTx}
 use Rattle.tx_script.specs.Play.{Answer, Messages, tells, told_by, fills, closed_at, link_of}
@@ -69,6 +70,29 @@ closes_keeps old vl sub total new c = record {
   plan = ap (λ (tx : Tx). tx.plan) c.same;
   totals = λ k s t is. (links_shut old vl sub total new c k s).total t is;
 }
+
+-- No other queue is closed, and what was closed of them keeps its total.
+pub closes_only : (old : Tx) (vl sub total : ℕ) (new : Tx) → ClosesTx old vl sub total new → ClosesOnly (Close vl sub) old new
+closes_only old vl sub total new c = λ place other none.
+    let shut : LinkState = link_at new.links c.place in
+    let links : new.links ≡ set old.links c.place shut = ap (λ (tx : Tx). tx.links) c.same in
+    let within : c.place < length old.links = closes_within old vl sub total new c in
+    let here : place ≡ c.place → other ≢ sub → total_in (set old.links c.place shut) place other ≡ total_in old.links place other =
+    λ is ne. ap (λ (k : ℕ). total_in (set old.links c.place shut) k other) is
+    ∙ ap (λ (l : LinkState). total_of (held_at l.subs other).seen)
+    (get_or-set_same old.links c.place shut no_link within ∙ c.closes.same)
+    ∙ ap (λ (h : Held). total_of h.seen)
+    (get_or-set_other (link_at old.links c.place).subs sub other (held_at shut.subs sub) nothing_held ne)
+    ∙ ap (λ (k : ℕ). total_in old.links k other) (sym is) in
+    let each : total_in (set old.links c.place shut) place other ≡ total_in old.links place other = ⊎_elim
+    (λ (is : place ≡ c.place). ⊎_elim
+    (λ (its : other ≡ sub). absurd (none (subst (IsSubAt old.plan vl sub) (sym is) c.at, its)))
+    (λ (ne : other ≢ sub). here is ne)
+    (cases_eq other sub))
+    (λ (ne : place ≢ c.place). ap (λ (l : LinkState). total_of (held_at l.subs other).seen)
+    (get_or-set_other old.links c.place place shut no_link ne))
+    (cases_eq place c.place) in
+    ap (λ (ls : List LinkState). total_in ls place other) links ∙ each
 
 -- a sub-VL has taken and left the same
 shut_progress : (old new : Held) → IsShut old new → progress_of new ≡ progress_of old

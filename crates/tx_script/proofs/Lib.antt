@@ -9,5 +9,6 @@ mod Blind
 mod SubPorts
 mod Finding
 mod Told
+mod OpenQueues
 mod Totals
 mod Closing

@@ -4,8 +4,9 @@ use Rattle.std.specs.Io.KnownBytes.{Appends}
 use Rattle.std.proofs.KnownBytes.{Appends-trans}
 use Rattle.afdx_plan.specs.Config.{Plan}
 use Rattle.script_lines.specs.Lines.{after_feed}
-use Rattle.tx_script.specs.AtBench.{AtBench, Matches, ObeysFor, Obeys, KeepsTotals}
+use Rattle.tx_script.specs.AtBench.{AtBench, Matches, ObeysFor, Obeys, KeepsTotals, ClosesOnly}
 use Rattle.tx_script.proofs.Told.{told_more}
+use Rattle.tx_script.proofs.OpenQueues.{others_more}
 use Rattle.script_lines.specs.Meaning.{meaning_of}
 use Rattle.tx_script.specs.Play.{AnsweredLine, Play, play, play_line, start, outcome_of, IsAnswer, AreAnswers}
 use Rattle.tx_script.specs.Run.{BeginsWith, LinesThen}
@@ -39,9 +40,10 @@ lines_more text (first ∷ turns) rest turn lines begins =
 pub running_more : (plan : Plan) (text : List ℕ) (old mid fin : Option (List ℕ)) (bench new : AtBench) (rest : List ℕ)
     (count : ℕ) (sums : Sums) (line : List ℕ) (outcome : Outcome)
     → Running plan text old mid bench rest count sums → BeginsWith rest line
-    → ObeysFor (meaning_of line) bench new outcome → KeepsTotals bench.tx new.tx → Appends mid fin (note_of (count + 1) outcome)
+    → ObeysFor (meaning_of line) bench new outcome → KeepsTotals bench.tx new.tx → ClosesOnly (meaning_of line) bench.tx new.tx
+    → Appends mid fin (note_of (count + 1) outcome)
     → Running plan text old fin new (after_feed rest) (count + 1) (counted outcome sums)
-running_more plan text old mid fin bench new rest count sums line outcome ran begins obeys keeps wrote =
+running_more plan text old mid fin bench new rest count sums line outcome ran begins obeys keeps only wrote =
     let st : Play = play (start plan) ran.turns in
     let obeyed : Obeys (meaning_of line) st.accepted st.es new outcome =
     obeys st.accepted st.es ran.matches in
@@ -58,6 +60,7 @@ running_more plan text old mid fin bench new rest count sums line outcome ran be
       answers = answers_more (start plan) ran.turns turn ran.answers obeyed.may;
       matches = subst (λ (p : Play). Matches p.accepted p.es new) (sym more) obeyed.matches;
       told = told_more bench.tx new.tx ran.turns turn keeps ran.told obeyed.told;
+      others = others_more bench.tx new.tx ran.turns turn keeps only ran.others;
       count_is = ap (λ (p : Play). p.count) more ∙ ap (λ k. k + 1) ran.count_is;
       sums_are =
           ap (λ (p : Play). p.summary) more ∙ ap (λ (o : Outcome). counted o st.summary) same

@@ -5,7 +5,7 @@ use Rattle.std.specs.Io.KnownBytes.{Appends, Consumes}
 use Rattle.std.proofs.KnownBytes.{Appends-nil}
 use Rattle.afdx_plan.specs.Config.{Plan}
 use Rattle.afdx_frame.specs.declared.net.Net.TheVariants.{A, B}
-use Rattle.tx_script.specs.AtBench.{AtBench, IsFreshBench, ObeysFor, KeepsTotals, HaveSent, GaveTotals}
+use Rattle.tx_script.specs.AtBench.{AtBench, IsFreshBench, ObeysFor, KeepsTotals, SameTotals, ClosesOnly, HaveSent, GaveTotals}
 use Rattle.tx_script.specs.EndSystem.{handed}
 use Rattle.script_lines.specs.Lines.{first_line}
 use Rattle.script_lines.specs.Meaning.{meaning_of}
@@ -24,6 +24,7 @@ use Rattle.tx_script.proofs.Matched.{fresh_matches}
 use Rattle.tx_script.proofs.AtHand.{fresh_sent}
 use Rattle.tx_script.proofs.Blind.{blind, IsBlindOf, blind_run, blind_lines, blind_answers, blind_finds, blind_totals}
 use Rattle.tx_script.proofs.Told.{keeps_same, are_told_still, totals_told}
+use Rattle.tx_script.proofs.OpenQueues.{others_fresh, others_still}
 use Rattle.tx_script.proofs.PlayLemmas.{running_more}
 
 -- counts grow slowly
@@ -96,6 +97,7 @@ running_none plan (Some text) old bench is_fresh = record {
           own = fresh_sent bench.tx bench.ports is_fresh.ports;
         };
         told = tt;
+        others = others_fresh plan bench.tx is_fresh.tx;
         count_is = refl;
         sums_are = refl;
         wrote = Appends-nil old;
@@ -107,10 +109,10 @@ pub running_turn : (plan : Plan) (bytes left new old mid fin : Option (List ℕ)
     (sums : Sums) (said : Said) (outcome : Outcome)
     → IsRunning plan bytes left old mid bench count sums
     → IfSome left (λ known. ReadsLine known new (count + 1) (Ok (Some said))) → ObeysFor said bench bench2 outcome
-    → KeepsTotals bench.tx bench2.tx → Appends mid fin (note_of (count + 1) outcome)
+    → KeepsTotals bench.tx bench2.tx → ClosesOnly said bench.tx bench2.tx → Appends mid fin (note_of (count + 1) outcome)
     → IsRunning plan bytes new old fin bench2 (count + 1) (counted outcome sums)
-running_turn plan None left new old mid fin bench bench2 count sums said outcome goes reads obeys keeps wrote = tt
-running_turn plan (Some text) left new old mid fin bench bench2 count sums said outcome goes reads obeys keeps wrote =
+running_turn plan None left new old mid fin bench bench2 count sums said outcome goes reads obeys keeps only wrote = tt
+running_turn plan (Some text) left new old mid fin bench bench2 count sums said outcome goes reads obeys keeps only wrote =
     let says : SaysLine goes.rest new said = rw goes.left_is at reads in
     let obeyed : ObeysFor (meaning_of (first_line goes.rest)) bench bench2 outcome =
     subst (λ (s : Said). ObeysFor s bench bench2 outcome) says.said_is obeys in
@@ -119,14 +121,14 @@ running_turn plan (Some text) left new old mid fin bench bench2 count sums said 
       left_is = says.behind;
       ran =
           running_more plan text old mid fin bench bench2 goes.rest count sums (first_line goes.rest) outcome goes.ran
-          says.begins obeyed keeps wrote;
+          says.begins obeyed keeps (subst (λ (s : Said). ClosesOnly s bench.tx bench2.tx) says.said_is only) wrote;
     }
 
 -- memory was refused, and a bench knows still what was sent and the totals
 halted : (plan : Plan) (text : List ℕ) (old new : Option (List ℕ)) (bench bench2 : AtBench) (rest : List ℕ)
     (count : ℕ) (sums : Sums) → Running plan text old new bench rest count sums → bench2.ports ≡ bench.ports
-    → KeepsTotals bench.tx bench2.tx → Halted plan text old new bench2
-halted plan text old new bench bench2 rest count sums ran ports keeps = record {
+    → KeepsTotals bench.tx bench2.tx → SameTotals bench.tx bench2.tx → Halted plan text old new bench2
+halted plan text old new bench bench2 rest count sums ran ports keeps same = record {
   turns = ran.turns;
   rest = rest;
   lines = ran.lines;
@@ -134,6 +136,7 @@ halted plan text old new bench bench2 rest count sums ran ports keeps = record {
   planned = keeps.plan ∙ ran.matches.emitter.plan;
   own = subst (HaveSent (play (start plan) ran.turns).accepted) (sym ports) ran.matches.own;
   told = are_told_still bench.tx bench2.tx ran.turns keeps ran.told;
+  others = others_still bench.tx bench2.tx ran.turns keeps same ran.others;
   wrote = ran.wrote;
 }
 
@@ -161,10 +164,10 @@ has_begun plan text old new bench ran gave =
 -- memory was refused at a line
 pub stop_memory : (plan : Plan) (bytes left old mid : Option (List ℕ)) (bench bench2 : AtBench) (count : ℕ) (sums : Sums)
     → IsRunning plan bytes left old mid bench count sums → bench2.ports ≡ bench.ports → KeepsTotals bench.tx bench2.tx
-    → IfSome bytes (λ text. Halted plan text old mid bench2)
-stop_memory plan None left old mid bench bench2 count sums goes ports keeps = tt
-stop_memory plan (Some text) left old mid bench bench2 count sums goes ports keeps =
-    halted plan text old mid bench bench2 goes.rest count sums goes.ran ports keeps
+    → SameTotals bench.tx bench2.tx → IfSome bytes (λ text. Halted plan text old mid bench2)
+stop_memory plan None left old mid bench bench2 count sums goes ports keeps same = tt
+stop_memory plan (Some text) left old mid bench bench2 count sums goes ports keeps same =
+    halted plan text old mid bench bench2 goes.rest count sums goes.ran ports keeps same
 
 -- the next line has a fault, or could not be read
 stop_known : (plan : Plan) (text : List ℕ) (new old mid : Option (List ℕ)) (bench : AtBench) (rest : List ℕ)
@@ -186,7 +189,7 @@ stop_known plan text new old mid bench rest count sums Fault.Read few ran reads 
     record { rest = rest; count = count; sums = sums; ran = ran; few = omega arith }
 stop_known plan text new old mid bench rest count sums Fault.Write few ran reads = tt
 stop_known plan text new old mid bench rest count sums Fault.Memory few ran reads =
-    halted plan text old mid bench bench rest count sums ran refl (keeps_same bench.tx bench.tx refl)
+    halted plan text old mid bench bench rest count sums ran refl (keeps_same bench.tx bench.tx refl) (λ place sub. refl)
 
 -- the same where the reader's bytes may be unknown
 pub stop_fault : (plan : Plan) (bytes left new old mid : Option (List ℕ)) (bench : AtBench) (count : ℕ) (sums : Sums)

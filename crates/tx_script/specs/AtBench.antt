@@ -1,5 +1,5 @@
 -- An emitter with its ports, as a run of a script has them at hand.
-use Rattle.std.specs.Prelude.{ℕ, ◌≡◌, ◌≢◌, ◌≤◌, ◌<◌, ◌++◌, List, [], ◌∷◌, length, slice_index_or, All, Some}
+use Rattle.std.specs.Prelude.{ℕ, ◌≡◌, ◌≢◌, ◌≤◌, ◌<◌, ◌++◌, List, [], ◌∷◌, length, slice_index_or, All, Some, None}
 use Rattle.afdx_plan.specs.Config.{Plan, IsPlan, port_plan_at}
 use Rattle.subvl_queue.specs.Messages.{most_calls, part_of}
 use Rattle.vl_link.specs.Seen.{taken_of, ports_of}
@@ -73,6 +73,31 @@ pub record KeepsTotals (old new : Tx) : Type 0 where
   pub plan : new.plan ≡ old.plan
   pub totals : (place sub total : ℕ) → total_in old.links place sub ≡ Some total
       → total_in new.links place sub ≡ Some total
+
+-- the totals of all queues are the same
+abbrev pub SameTotals : (old new : Tx) → Type 0
+SameTotals old new = (place sub : ℕ) → total_in new.links place sub ≡ total_in old.links place sub
+
+-- a line closes the sub-VL of this index, of the link at this place
+abbrev pub ClosesAt : Plan → Line → (place sub : ℕ) → Type 0
+ClosesAt plan (Close vl closed) place sub = IsSubAt plan vl closed place × (sub ≡ closed)
+ClosesAt plan _ place sub = ⊥
+
+-- a line changes no total but that of the queue that it closes
+abbrev pub ClosesOnly : Line → (old new : Tx) → Type 0
+ClosesOnly line old new = (place sub : ℕ) → (ClosesAt old.plan line place sub → ⊥)
+    → total_in new.links place sub ≡ total_in old.links place sub
+
+-- none of these lines closes the sub-VL of this index, of the link at this place
+abbrev pub NoneCloses : Plan → List AnsweredLine → (place sub : ℕ) → Type 0
+NoneCloses plan [] place sub = Unit {0}
+NoneCloses plan (turn ∷ turns) place sub =
+    (ClosesAt plan (meaning_of turn.line) place sub → ⊥) × NoneCloses plan turns place sub
+
+-- no queue is closed but those that these lines close
+abbrev pub OthersAreOpen : Tx → List AnsweredLine → Type 0
+OthersAreOpen tx turns = (place sub : ℕ) → NoneCloses tx.plan turns place sub
+    → total_in tx.links place sub ≡ None
 
 -- the total that a close told is that of its sub-VL's queue
 abbrev pub TellsTotal : Tx → Line → Answer → Type 0

@@ -2,7 +2,7 @@
 use Rattle.std.specs.Prelude.{◌≡◌, ℕ, ◌<◌, List, [], length, Option, Some, None, Result, Ok, Err, ⊤, ◌⊎◌}
 use Rattle.std.specs.Io.KnownBytes.{Appends, Keeps}
 use Rattle.afdx_plan.specs.Config.{Plan}
-use Rattle.tx_script.specs.AtBench.{AtBench, IsAtHand, Matches, HaveSent, AreTold, GaveFirst, GaveTotals}
+use Rattle.tx_script.specs.AtBench.{AtBench, IsAtHand, Matches, HaveSent, AreTold, OthersAreOpen, GaveFirst, GaveTotals}
 use Rattle.script_lines.specs.Faults.{IsFirstFault}
 use Rattle.script_lines.specs.Lines.{first_line, after_feed}
 use Rattle.script_lines.specs.Meaning.{meaning_of}
@@ -50,12 +50,13 @@ pub record Running (plan : Plan) (text : List ℕ) (old new : Option (List ℕ))
   pub answers : AreAnswers (start plan) turns
   pub matches : Matches (play (start plan) turns).accepted (play (start plan) turns).es bench
   pub told : AreTold bench.tx turns
+  pub others : OthersAreOpen bench.tx turns
   pub count_is : (play (start plan) turns).count ≡ count
   pub sums_are : (play (start plan) turns).summary ≡ sums
   pub wrote : Appends old new (play (start plan) turns).notes
 
 -- Some lines of a text were run, and their notes are written; then memory was refused. The ports sent
--- what was accepted, and the queues that were closed have the totals that were told.
+-- what was accepted, the queues that were closed have the totals that were told, and no other is closed.
 pub record Halted (plan : Plan) (text : List ℕ) (old new : Option (List ℕ)) (bench : AtBench) : Type 0 where
   pub turns : List AnsweredLine
   pub rest : List ℕ
@@ -64,6 +65,7 @@ pub record Halted (plan : Plan) (text : List ℕ) (old new : Option (List ℕ)) 
   pub planned : bench.tx.plan ≡ (play (start plan) turns).es.plan
   pub own : HaveSent (play (start plan) turns).accepted bench.ports
   pub told : AreTold bench.tx turns
+  pub others : OthersAreOpen bench.tx turns
   pub wrote : Appends old new (play (start plan) turns).notes
 
 -- what the lines of a text leave, by their end, whose notes alone are written

@@ -4,7 +4,7 @@ ghost use Rattle.script_lines.specs.declared.line.Line.TheVariants as Said;
 ghost use Rattle.transcript.specs.declared.run_fault.RunFault.TheVariants as RunFault;
 ghost use Rattle.tx_script.specs.declared.obey_lines.TheConstants.{LINES_LIMIT};
 ghost use Rattle.subvl_queue.specs.Messages.{most_calls};
-ghost use Rattle.tx_script.specs.AtBench.{ObeysFor, HaveAsked, Sends, KeepsTotals};
+ghost use Rattle.tx_script.specs.AtBench.{ObeysFor, HaveAsked, Sends, KeepsTotals, SameTotals, ClosesOnly};
 ghost use Rattle.tx_script.specs.Play.{script_refusal};
 ghost use Rattle.transcript.specs.Summary.{HasFew};
 
@@ -101,6 +101,7 @@ fn obey_send(bench: &mut Bench, port: u16, bytes: Message) -> Outcome
     ensures few { HasFew result }
     ensures asked { (count : ℕ) → HaveAsked count bench.old.ports → HaveAsked (count + 1) bench.new.ports }
     ensures kept { KeepsTotals bench.old.tx bench.new.tx }
+    ensures others { SameTotals bench.old.tx bench.new.tx }
 {
     match bench.emitter.config().port_index(PortId(port)) {
         Some(place) => send_message(&mut bench.ports[place], bytes),
@@ -115,6 +116,7 @@ fn obey_at(bench: &mut Bench, moment: u64) -> Result<Outcome, RunFault>
     ensures err { IfErr result (λ fault. fault ≡ RunFault.Memory) }
     ensures ports { bench.new.ports ≡ bench.old.ports }
     ensures kept { KeepsTotals bench.old.tx bench.new.tx }
+    ensures others { SameTotals bench.old.tx bench.new.tx }
 {
     if moment < bench.emitter.now() {
         return Ok(Outcome::Refused(Refusal::TimeBack));
@@ -137,6 +139,7 @@ fn obey_close(bench: &mut Bench, vl: u16, sub: u8) -> Outcome
     ensures few { HasFew result }
     ensures ports { bench.new.ports ≡ bench.old.ports }
     ensures kept { KeepsTotals bench.old.tx bench.new.tx }
+    ensures others { ClosesOnly (Said.Close vl sub) bench.old.tx bench.new.tx }
 {
     match bench.emitter.close(VlId(vl), sub) {
         Ok(total) => Outcome::Closed(total),
@@ -145,15 +148,17 @@ fn obey_close(bench: &mut Bench, vl: u16, sub: u8) -> Outcome
 }
 
 /// Does what a line says. The only fault is Memory, and then nothing more is said of the emitter than
-/// that closed sub-VLs stay closed, and of the ports that they sent nothing more.
+/// that closed sub-VLs stay closed and the others open, and of the ports that they sent nothing more.
 pub fn obey(bench: &mut Bench, line: Line) -> Result<Outcome, RunFault>
     requires { HaveAsked LINES_LIMIT bench.old.ports }
     ensures ok { IfOk result (λ outcome. ObeysFor line bench.old bench.new outcome) }
     ensures few { IfOk result (λ outcome. HasFew outcome) }
     ensures err { IfErr result (λ fault. fault ≡ RunFault.Memory) }
     ensures unsent { IfErr result (λ _. bench.new.ports ≡ bench.old.ports) }
+    ensures unclosed { IfErr result (λ _. SameTotals bench.old.tx bench.new.tx) }
     ensures asked { (count : ℕ) → HaveAsked count bench.old.ports → HaveAsked (count + 1) bench.new.ports }
     ensures kept { KeepsTotals bench.old.tx bench.new.tx }
+    ensures others { ClosesOnly line bench.old.tx bench.new.tx }
 {
     match line {
         Line::Send { port, bytes } => Ok(obey_send(bench, port, bytes)),

@@ -2,7 +2,7 @@ use Rattle.std.proofs.Common.{◌≡◌, ℕ, Bool, true, false, ap, sym, ◌∙
 use Rattle.std.proofs.lemmas.Bool.{le-ltb}
 use Rattle.tx_script.specs.EndSystem.{EndSystem, HasPolled}
 use Rattle.tx_script.specs.Play.{Messages, leaves}
-use Rattle.tx_script.specs.AtBench.{AtBench, Matches, Obeys, KeepsTotals}
+use Rattle.tx_script.specs.AtBench.{AtBench, Matches, Obeys, KeepsTotals, SameTotals}
 use Rattle.script_lines.specs.declared.line.Line.TheVariants.{At}
 use Rattle.transcript.specs.declared.outcome.Outcome.TheVariants.{Released, Refused}
 use Rattle.transcript.specs.declared.refusal.Refusal.TheVariants.{TimeBack}
@@ -58,3 +58,6 @@ returns-clause-kept c = subst (λ (bench : AtBench). KeepsTotals bench.tx c.poll
   plan = c.poll.ensures.plan;
   totals = λ k s total is. c.poll.ensures.totals k s ∙ is;
 })
+
+pub returns-clause-others : goal.returns-clause-others
+returns-clause-others c = subst (λ (bench : AtBench). SameTotals bench.tx c.poll.new.self) c.bench.view_is (λ k s. c.poll.ensures.totals k s)

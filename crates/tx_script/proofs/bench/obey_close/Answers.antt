@@ -1,10 +1,10 @@
-use Rattle.std.proofs.Common.{refl, sym, subst}
-use Rattle.afdx_tx.specs.Emitter.{Tx}
+use Rattle.std.proofs.Common.{refl, ap, sym, subst}
+use Rattle.afdx_tx.specs.Emitter.{Tx, total_in}
 use Rattle.script_lines.specs.declared.line.Line.TheVariants.{Close}
 use Rattle.transcript.specs.declared.outcome.Outcome.TheVariants.{Refused}
 use Rattle.transcript.specs.declared.refusal.Refusal.TheVariants.{NoSub}
-use Rattle.tx_script.specs.AtBench.{AtBench, Matches, Obeys, KeepsTotals}
-use Rattle.tx_script.proofs.Closing.{close_obeys, lack_obeys, closes_keeps}
+use Rattle.tx_script.specs.AtBench.{AtBench, Matches, Obeys, KeepsTotals, ClosesOnly}
+use Rattle.tx_script.proofs.Closing.{close_obeys, lack_obeys, closes_keeps, closes_only}
 use Rattle.tx_script.proofs.Told.{keeps_same}
 use Rattle.tx_script.proofs.bench.obey_close.Goals as goal
 use Rattle.tx_script.proofs.bench.obey_close.Goals.{in-Ok, in-Err}
@@ -26,4 +26,11 @@ returns-clause-kept c = subst (λ (bench : AtBench). KeepsTotals bench.tx c.clos
     (elim c.match-close.branch [
       | in-Ok w ↦ closes_keeps c.bench.inside.emitter c.args.vl c.args.sub w.in-Ok.total c.close.new.self w.in-Ok.ensures.closed
       | in-Err w ↦ keeps_same c.bench.inside.emitter c.close.new.self w.in-Err.ensures.unchanged
+    ])
+
+pub returns-clause-others : goal.returns-clause-others
+returns-clause-others c = subst (λ (bench : AtBench). ClosesOnly (Close c.args.vl c.args.sub) bench.tx c.close.new.self) c.bench.view_is
+    (elim c.match-close.branch [
+      | in-Ok w ↦ closes_only c.bench.inside.emitter c.args.vl c.args.sub w.in-Ok.total c.close.new.self w.in-Ok.ensures.closed
+      | in-Err w ↦ λ place sub none. ap (λ (tx : Tx). total_in tx.links place sub) w.in-Err.ensures.unchanged
     ])

@@ -23,7 +23,8 @@ returns-in_err-outcome g c =
     err_from_is_err_and c.from_residual-in_err-outcome.result c.from_residual-in_err-outcome.ensures.1 in
     rw (told.1, told.2, c.in_err-outcome.ensures.err)
     (stop_memory _ _ c.loop-count.bytes _ _ c.loop-count.bench c.obey.new.bench
-    c.loop-count.count c.loop-count.sums c.loop-count.invariant.running c.in_err-outcome.ensures.unsent c.obey.ensures.kept)
+    c.loop-count.count c.loop-count.sums c.loop-count.invariant.running c.in_err-outcome.ensures.unsent c.obey.ensures.kept
+    c.in_err-outcome.ensures.unclosed)
 
 pub loop-count-preserved : goal.loop-count-preserved
 loop-count-preserved g c =
@@ -33,7 +34,8 @@ loop-count-preserved g c =
       running =
           running_turn _ _ c.loop-count.bytes c.next_said.new.bytes _ _ _ _ c.obey.new.bench c.loop-count.count
           c.loop-count.sums c.in-Some.said c.in_ok-outcome.outcome
-          c.loop-count.invariant.running reads c.in_ok-outcome.ensures.ok c.obey.ensures.kept c.in_ok-write_note.ensures.ok;
+          c.loop-count.invariant.running reads c.in_ok-outcome.ensures.ok c.obey.ensures.kept c.obey.ensures.others
+          c.in_ok-write_note.ensures.ok;
       within = within_more _ _ _ c.in_ok-outcome.ensures.few c.loop-count.invariant.within;
     })
 
