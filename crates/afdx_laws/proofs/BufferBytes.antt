@@ -1,4 +1,4 @@
--- No buffer has a byte behind those of the greatest datagram.
+-- No buffer has a byte after those of the greatest datagram.
 use Rattle.std.proofs.Common.{◌≡◌, ℕ, zero, suc, ◌+◌, ◌-◌, ◌≤◌, inl, inr, Bool, true, false, nat_eq, cond, List, [], ◌∷◌, length, map, drop, refl, ap, sym, ◌∙◌, subst, arith}
 use Rattle.std.specs.Prelude.{All, Option, Some, None, slice_index, ◌*◌}
 use Rattle.std.specs.List.{AllByRecursion}
@@ -38,7 +38,7 @@ cutting_lies : (room n : ℕ) → AllByRecursion (LiesBefore n) (pieces_from 0 (
 unfolding cutting
 cutting_lies room n = pieces_lie n room n 0 n (omega arith)
 
--- a fragment ends before so many bytes
+-- a fragment ends by byte `most`
 abbrev pub EndsBefore : ℕ → ℕ × Fragment → Type 0
 EndsBefore most e = end_of e.1 ≤ most
 
@@ -69,7 +69,7 @@ sent_end (d ∷ later) room sub place most fit =
     (cutting_lies room (length d)))
     (sent_end later room sub (suc place) most (λ k x h. fit (suc k) x (omega arith)))
 
--- a buffer has no byte behind the first so many
+-- a buffer has no byte after the first `most`
 abbrev pub HasNoneBehind : ℕ → Buffer → Type 0
 HasNoneBehind most b = (i : ℕ) → most ≤ i → b.byte_at i ≡ None
 

@@ -330,10 +330,10 @@ pub in_order_holds : InOrder
 in_order_holds room sub datagrams came least some begun = elim (cases_lt sub 4) [
   | inl small ↦ in_order_below room sub datagrams came least small some begun
   | inr past ↦ (
-      0,
-      ap (map (λ (e : ℕ × List ℕ). e.1)) (none_past sub (delivered (λ key. empty) came) past),
-      (λ j few enough. none_sent j room sub datagrams some few
-          (subst (λ (es : List (ℕ × Fragment)). length (sent_from room sub 0 (take j datagrams)) ≤ length es)
-          (none_past sub came past) enough)),
-    )
+    0,
+    ap (map (λ (e : ℕ × List ℕ). e.1)) (none_past sub (delivered (λ key. empty) came) past),
+    (λ j few enough. none_sent j room sub datagrams some few
+        (subst (λ (es : List (ℕ × Fragment)). length (sent_from room sub 0 (take j datagrams)) ≤ length es)
+        (none_past sub came past) enough)),
+  )
 ]

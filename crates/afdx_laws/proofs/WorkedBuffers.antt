@@ -40,7 +40,7 @@ two_hold one = elim (cases_eq one.key 0) [
   | inr other ↦ has_byte (buffers_after (λ key. empty) two_begun 0) 1 refl (one.others 0 refl (λ is. other (sym is)))
 ]
 
--- a byte lies behind the eighth
+-- a byte follows the eighth
 nine_hold : HoldsOne 0 8 (buffers_after (λ key. empty) two_of_three) → ⊥
 nine_hold one = some_byte ((buffers_after (λ key. empty) two_of_three 0).byte_at 8) 9 refl (one.within 0 refl 8 (omega arith))
 
@@ -77,7 +77,7 @@ last_held : (buffers_in (front_frame A ∷ []) 0).byte_at 23 ≡ Some 170
 unfolding checksum addresses header_front internet_header link_header udp_header datagram unnumbered
 last_held = refl
 
--- and none behind it
+-- and none after it
 none_held : (buffers_in (front_frame A ∷ []) 0).byte_at 24 ≡ None
 unfolding checksum addresses header_front internet_header link_header udp_header datagram unnumbered
 none_held = refl
@@ -91,7 +91,7 @@ all_given = refl
 pub holds_a_frame : HoldsAFrame
 holds_a_frame = record {
   last = last_held;
-  behind = none_held;
+  next = none_held;
   given = all_given;
   enough = handed_need_one 1 25 0 3 plain_receiver one_accepted (both_frames A) (both_frames B) four_arrivals
       both_handed one_message_arrives.fit one_message_arrives.carry;

@@ -23,13 +23,13 @@ buffers_after buffers (e ∷ es) = buffers_after (with_buffer e.0
     (kept_in (put (buffers e.0) e.1) (datagram_in (put (buffers e.0) e.1))) buffers) es
 
 -- Of the buffers of a sub-VL, which is the identification modulo 4, all but one are empty, and none has a
--- byte behind the first so many.
+-- byte after the first `most`.
 pub record HoldsOne (sub most : ℕ) (buffers : ℕ → Buffer) : Type 0 where
   pub key : ℕ
   pub others : (k : ℕ) → k % 4 ≡ sub → (k ≡ key → ⊥) → buffers k ≡ empty
   pub within : (k : ℕ) → k % 4 ≡ sub → (i : ℕ) → most ≤ i → (buffers k).byte_at i ≡ None
 
--- a datagram has at most so many bytes
+-- a datagram has at most `most` bytes
 abbrev pub HasUpTo : ℕ → List ℕ → Type 0
 HasUpTo most datagram = length datagram ≤ most
 

@@ -32,7 +32,7 @@ pub record HoldsTheSecond : Type 0 where
   pub begun : (buffers_after (λ key. empty) two_begun 0).byte_at 0 ≡ Some 1
   pub both : (buffers_after (λ key. empty) two_begun 4).byte_at 0 ≡ Some 21
 
--- Each premise is needed. Where two datagrams of one sub-VL are begun there is no prefix, and two buffers hold
+-- Each premise is needed. If two datagrams of one sub-VL are begun at once there is no prefix, and two buffers hold
 -- bytes; and a buffer of 8 bytes isn't enough for a datagram of 20.
 pub record NeedsInTurn : Type 0 where
   pub some : All HasByte two_datagrams
@@ -43,10 +43,10 @@ pub record NeedsInTurn : Type 0 where
   pub first : IsPrefixOf (of_sub 0 two_of_three) (sent_from 8 0 0 two_datagrams)
   pub small_hold : HoldsOne 0 8 (buffers_after (λ key. empty) two_of_three) → ⊥
 
--- The first frame of the worked delivery stands in a buffer with the 24 bytes of its fragment, and no other
+-- The first frame of the worked delivery fills a buffer with the 24 bytes of its fragment, and no other
 -- byte. With the second frame the message is given, and the buffer is empty.
 pub record HoldsAFrame : Type 0 where
   pub last : (buffers_in (front_frame A ∷ []) 0).byte_at 23 ≡ Some 170
-  pub behind : (buffers_in (front_frame A ∷ []) 0).byte_at 24 ≡ None
+  pub next : (buffers_in (front_frame A ∷ []) 0).byte_at 24 ≡ None
   pub given : buffers_in (front_frame A ∷ back_frame B ∷ []) 0 ≡ empty
   pub enough : IsOneEnough 0 (received number_in plain_receiver begin four_arrivals)

@@ -54,7 +54,7 @@ abbrev pub back_and_forth : List Arrival
 back_and_forth =
     greatest_at 1000 ∷ greatest_at 0 ∷ greatest_at 1000 ∷ greatest_at 0 ∷ greatest_at 1000 ∷ []
 
--- Where moments go back, the account fills again for the same time: three frames pass, and cost more than
+-- If moments go back, the account fills again for the same time: three frames pass, and cost more than
 -- the rule allows.
 pub record NeedsRisingMoments : Type 0 where
   pub between : AreBetween 0 1000 back_and_forth → ⊥
@@ -113,7 +113,7 @@ close_passages = record { released = 0; arrived = 0; size = 84 }
     ∷ record { released = 500; arrived = 500; size = 84 }
     ∷ []
 
--- what the switch is told where the greatest frame is a byte smaller than those of the stream
+-- the rule of a switch whose greatest frame is a byte smaller than those of the stream
 abbrev pub small_rule : Rule
 small_rule = record { gap = 1000; lmax = 63 + 20; jitter = 200 }
 

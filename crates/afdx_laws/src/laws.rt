@@ -327,7 +327,7 @@ pub fn next_fragment()
 {}
 
 /// A receiver that reassembles the messages of a link needs one buffer of 8,200 bytes for each of its sub-VLs:
-/// it never holds fragments of two datagrams of one sub-VL, nor a byte behind the first 8,200 of one. A bound
+/// it never holds fragments of two datagrams of one sub-VL, nor a byte after the first 8,200 of one. A bound
 /// on its memory.
 ///
 /// Of fragments alone (`one`) the premises are those of `in_order`, and the bound on the bytes is that on the

@@ -9,7 +9,7 @@ use Rattle.redundant_mux.specs.Entry.{Entry}
 use Rattle.vl_shaper.specs.Polls.{Poll, ArePolled, latest_poll, is_of, released_by}
 use Rattle.run_laws.specs.NextInRun.{ComeWithin, latest_of}
 
--- the entry that a poll released, if it released one, and those behind it
+-- the entry that a poll released, if it released one, and those after it
 abbrev pub ShowsOne : ℕ → Option ℕ → (added rest : List Entry) → Type 0
 ShowsOne now None added rest = added ≡ rest
 ShowsOne now (Some chosen) added rest =
@@ -20,16 +20,16 @@ abbrev pub Show : List Poll → List Entry → Type 0
 Show [] added = added ≡ []
 Show (p ∷ polls) added = (rest : List Entry) × ShowsOne p.at p.released added rest × Show polls rest
 
--- the moment of a poll
+-- the time of a poll
 abbrev pub at_of : Poll → ℕ
 at_of p = p.at
 
--- moments that don't go back
+-- times that don't go back
 abbrev pub Rise : ℕ → List Poll → Type 0
 Rise before [] = Unit {0}
 Rise before (p ∷ polls) = (before ≤ p.at) × Rise p.at polls
 
--- polls at moments that come within the lateness
+-- polls that come within the lateness
 pub rise_of : (late before : ℕ) (polls : List Poll) → ComeWithin late before (map at_of polls) → Rise before polls
 rise_of late before [] come = tt
 rise_of late before (p ∷ polls) come = (come.0, rise_of late p.at polls come.2)
@@ -56,7 +56,7 @@ adds_none x bound p polls none =
     zero_more : (n : ℕ) → 0 + n ≡ n
     zero_more n = omega arith
 
--- nothing is counted behind the bound
+-- nothing is counted after the bound
 late_none : (x bound before : ℕ) (polls : List Poll) → bound < before → Rise before polls → released_by x bound polls ≡ 0
 late_none x bound before [] past rise = refl
 late_none x bound before (p ∷ polls) past rise =
@@ -65,7 +65,7 @@ late_none x bound before (p ∷ polls) past rise =
     adds_none x bound p polls (ap (λ (t : Bool). t && is_of x p.released) (lt-leb p.at bound later))
     ∙ late_none x bound p.at polls later rise.1
 
--- the first entry of a sub-VL is among some, and was released by a moment
+-- the first entry of a sub-VL is among these, and was released by this time
 pub record IsFound (x bound : ℕ) (added : List Entry) : Type 0 where
   pub between : List Entry
   pub next : Entry
@@ -75,10 +75,10 @@ pub record IsFound (x bound : ℕ) (added : List Entry) : Type 0 where
   pub its : sub_in next.frame ≡ x
   pub soon : next.at ≤ bound
 
--- behind an entry of another sub-VL
-found_behind : (x bound : ℕ) (e : Entry) (added rest : List Entry) → added ≡ e ∷ rest → sub_in e.frame ≢ x
+-- after an entry of another sub-VL
+found_after : (x bound : ℕ) (e : Entry) (added rest : List Entry) → added ≡ e ∷ rest → sub_in e.frame ≢ x
     → IsFound x bound rest → IsFound x bound added
-found_behind x bound e added rest is ne found = record {
+found_after x bound e added rest is ne found = record {
   between = e ∷ found.between;
   next = found.next;
   later = found.later;
@@ -88,7 +88,7 @@ found_behind x bound e added rest is ne found = record {
   soon = found.soon;
 }
 
--- one that was released by a moment is found
+-- one that was released by this time is found
 pub finds : (polls : List Poll) (added : List Entry) (x bound before : ℕ) → Rise before polls → Show polls added
     → 1 ≤ released_by x bound polls → IsFound x bound added
 finds [] added x bound before rise show one = absurd (omega arith)
@@ -122,6 +122,6 @@ finds (p ∷ polls) added x bound before rise show one =
         let none : (nat_le p.at bound && is_of x p.released) ≡ false =
         and_right (nat_le p.at bound) (is_of x p.released) (ap (is_of x) is ∙ ne_eqb chosen x other) in
         let count : released_by x bound (p ∷ polls) ≡ released_by x bound polls = adds_none x bound p polls none in
-        found_behind x bound e added show.0 more (λ (mine : sub_in e.frame ≡ x). other (sym of ∙ mine))
+        found_after x bound e added show.0 more (λ (mine : sub_in e.frame ≡ x). other (sym of ∙ mine))
         (rest (subst (λ (n : ℕ). 1 ≤ n) count one)))
         (cases_eq chosen x)

@@ -63,7 +63,7 @@ polled now old new ready plan run allowed = by_own old.plan new plan (record {
     same k lt = turns_each (IsTurnAt now old.links new.links) (λ (i : ℕ). IsSameLink (link_at old.links i) (link_at new.links i))
         0 (length old.links) old.lines new.lines (λ i before behind did t. t.same) run.turns k (omega arith) (omega arith)
 
--- what a sub-VL took stays as it was where its queue is closed
+-- what a sub-VL took stays as it was when its queue is closed
 closed_taken : (old new : Held) → ClosedSub old new → taken_by new ≡ taken_by old
 closed_taken old new c =
     ap (λ (ports : List PortPlan). sent_by ports (taken_of new.seen)) c.keeps.ports

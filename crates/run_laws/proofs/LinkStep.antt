@@ -30,7 +30,7 @@ pub record IsStep (now gap subs x : ℕ) (S T : List Entry) : Type 0 where
   pub waits : begun_by none_begun S x ≡ true → has x ≡ true
   pub adds : Adds now released S T
 
--- a sub-VL that had something where another one didn't isn't that one
+-- two tests that fail together: one number is another, and this
 has_not : (s x : ℕ) (b : Bool) → (s ≡ x → b ≡ false) → (nat_eq s x && b) ≡ false
 has_not s x b not = ⊎_elim
     (λ (is : s ≡ x). and_right (nat_eq s x) b (not is))
@@ -75,7 +75,7 @@ first_at order sub n is = ⊎_elim
     (λ (none : (k : ℕ) → k < suc n → order k ≢ sub). absurd (none n (omega arith) is))
     (first_below order sub (suc n))
 
--- one turn of the link itself, where a network that carries it stands afterwards
+-- one turn of the link itself, if a network that carries it is up afterwards
 pub own_step : (now gap subs x : ℕ) (link : LinkPlan) (view : TurnView) (lines after : Lines) (did : Served)
     → ((s : ℕ) → s < subs → view.lacks s → begun_by none_begun (link_stream link.id.0 (log lines)) s ≡ false)
     → Turn now link (pace_of gap subs (link_stream link.id.0 (log lines))) view lines after did
@@ -109,21 +109,24 @@ own_step now gap subs x link view lines after (Released sub number) lacks t stan
     record {
       released = Some sub;
       has = λ s. (nat_eq s x && begun_by none_begun (link_stream link.id.0 (log lines)) x) || nat_eq s sub;
-      served = (may.0, record {
-        turn = first.turn;
-        within = omega arith;
-        is = sym first.is;
-        had = ap (λ (u : Bool). (nat_eq sub x && b) || u) (eq-eqb sub sub refl) ∙ or_true (nat_eq sub x && b);
-        before = λ k lt.
-            let s : ℕ = turn_of subs (latest None (link_stream link.id.0 (log lines))) k in
-            let early : k < subs = omega arith in
-            let below : turn_of subs (latest None (link_stream link.id.0 (log lines))) k < subs =
-            turn_below subs (latest None S) k early in
-            or_false (nat_eq s x && b) (nat_eq s sub)
-            (has_not s x b (λ is. subst (λ (y : ℕ). begun_by none_begun (link_stream link.id.0 (log lines)) y ≡ false) is
-            (lacks s below (r.choice.before k (omega arith)))))
-            (ne_eqb s sub (first.before k lt));
-      });
+      served = (
+        may.0,
+        record {
+          turn = first.turn;
+          within = omega arith;
+          is = sym first.is;
+          had = ap (λ (u : Bool). (nat_eq sub x && b) || u) (eq-eqb sub sub refl) ∙ or_true (nat_eq sub x && b);
+          before = λ k lt.
+              let s : ℕ = turn_of subs (latest None (link_stream link.id.0 (log lines))) k in
+              let early : k < subs = omega arith in
+              let below : turn_of subs (latest None (link_stream link.id.0 (log lines))) k < subs =
+              turn_below subs (latest None S) k early in
+              or_false (nat_eq s x && b) (nat_eq s sub)
+              (has_not s x b (λ is. subst (λ (y : ℕ). begun_by none_begun (link_stream link.id.0 (log lines)) y ≡ false) is
+              (lacks s below (r.choice.before k (omega arith)))))
+              (ne_eqb s sub (first.before k lt));
+        },
+      );
       waits = λ is. ap (λ (u : Bool). u || nat_eq x sub) (and_from (nat_eq x x) b (eq-eqb x x refl) is);
       adds = (
         r.frame,

@@ -32,7 +32,7 @@ use Rattle.afdx_tx.specs.DrainEnds.{stream_at}
 use Rattle.run_laws.specs.Runs.{IsPlanned, IsReady, EmitterPolls, DrainPolls}
 use Rattle.run_laws.proofs.LinkStep.{IsStep, own_step, other_turn}
 
--- a network that carries the link at a place stands
+-- a network that carries the link at a place is up
 abbrev pub StandsAt : Plan → ℕ → Lines → Type 0
 StandsAt plan k lines = stands_for (link_plan_at plan.links k).networks lines ≡ true
 
@@ -124,7 +124,7 @@ planned_turn now plan links news k lines after did own t =
     (subst (λ (p : LinkPlan). Turn now p (pace_of (link_at links k).pace.gap (link_at links k).pace.sub_vls
     (link_stream p.id.0 (log lines))) view lines after did) own.plan_is t.serves))
 
--- where it may release a frame, a sub-VL that has nothing has no message begun
+-- when it may release a frame, a sub-VL that has nothing has no message begun
 planned_lacks : (now : ℕ) (plan : Plan) (links news : List LinkState) (k : ℕ) (lines after : Lines) (did : Served)
     → IsPlanned plan links k → ((s : ℕ) → s < subs_at plan k → All IsShort (taken_in links k s))
     → IsTurnAt now links news k lines after did → StandsAt plan k lines
@@ -187,7 +187,7 @@ emitter_step now plan k x lines after valid inside p stands =
     subst (λ (n : ℕ). AreTurns (IsTurnAt now p.old.links p.new.links) 0 n p.old.lines p.new.lines) many p.run.turns in
     let here : AreTurns (IsTurnAt now p.old.links p.new.links) 0 (length plan.links) lines after =
     subst (λ (l : Lines). AreTurns (IsTurnAt now p.old.links p.new.links) 0 (length plan.links) l after) p.before
-    (subst (λ (l : Lines). AreTurns (IsTurnAt now p.old.links p.new.links) 0 (length plan.links) p.old.lines l) p.behind turns) in
+    (subst (λ (l : Lines). AreTurns (IsTurnAt now p.old.links p.new.links) 0 (length plan.links) p.old.lines l) p.afterwards turns) in
     turns_step now plan k x (length plan.links) (IsTurnAt now p.old.links p.new.links) 0 (length plan.links) lines after
     (emitter_seen now plan p.old p.new k x valid inside ready.links (λ s lt. short plan k s (taken_in p.old.links k s) (ready.allowed k s inside lt)))
     (omega arith) (omega arith) (omega arith) here stands
@@ -229,11 +229,11 @@ drain_step now plan k x lines after valid inside p stands =
     (drain_seen now plan p.accepted k x valid inside (λ s lt. short plan k s (p.accepted k s) (p.allowed k s inside lt)))
     (omega arith) (omega arith) (omega arith) p.run stands
 
--- networks that are down behind a poll were down before it, or failed
+-- networks that are down after a poll were down before it, or failed
 pub emitter_endures : (now : ℕ) (plan : Plan) (lines after : Lines) → EmitterPolls plan now lines after → BothEndure lines after
 emitter_endures now plan lines after p =
     subst (λ (l : Lines). BothEndure l after) p.before
-    (subst (λ (l : Lines). BothEndure p.old.lines l) p.behind
+    (subst (λ (l : Lines). BothEndure p.old.lines l) p.afterwards
     (turns_endure (IsTurnAt now p.old.links p.new.links) 0 (length p.old.links) p.old.lines p.new.lines
     (planned_endures now p.old.links p.new.links) p.run.turns))
 

@@ -26,7 +26,7 @@ use Rattle.run_laws.proofs.LinkStep.{Adds}
 use Rattle.run_laws.proofs.PollStep.{StandsAt, gap_at, subs_at, StepsAt, emitter_step, drain_step, emitter_endures, drain_poll_endures}
 use Rattle.run_laws.proofs.FoundEntry.{Show, at_of, IsFound, rise_of, polled_of, latest_is, finds}
 
--- whether a message of a sub-VL is begun, behind one entry more
+-- whether a message of a sub-VL is begun, after one more entry
 begun_push : (begun : ℕ → Bool) (S : List Entry) (e : Entry) (x : ℕ)
     → begun_by begun (S ++ e ∷ []) x ≡ begun_after (begun_by begun S) e x
 begun_push begun [] e x = refl
@@ -36,7 +36,7 @@ begun_push begun (d ∷ S) e x = begun_push (begun_after begun d) S e x
 abbrev poll_of : ℕ → (ℕ → Bool) → Option ℕ → Poll
 poll_of now has released = record { at = now; has = has; released = released }
 
--- Polls of a link at these moments, that find a fragment of a sub-VL waiting until so many of its frames are
+-- Polls of a link at these times, which find a fragment of a sub-VL waiting until `many` of its frames are
 -- released, and what they add to its stream.
 record HaveRun (gap subs x many : ℕ) (moments : List ℕ) (S T : List Entry) : Type 0 where
   pub polls : List Poll
@@ -47,15 +47,15 @@ record HaveRun (gap subs x many : ℕ) (moments : List ℕ) (S T : List Entry) :
   pub grown : T ≡ S ++ added
   pub show : Show polls added
 
--- the fragments that are still waited for, behind a poll
+-- the fragments that are still waited for, after a poll
 abbrev left : ℕ → ℕ → Option ℕ → ℕ
 left x many released = many - cond (is_of x released) 1 0
 
--- a message of a sub-VL is begun where one of its fragments is waited for
+-- a message of a sub-VL is begun while one of its fragments is waited for
 abbrev Waits : ℕ → ℕ → List Entry → Type 0
 Waits x many S = 1 ≤ many → begun_by none_begun S x ≡ true
 
--- so it is behind a poll
+-- so it is after a poll
 still_waits : (now x many : ℕ) (released : Option ℕ) (S M : List Entry) → many ≤ 1 → Waits x many S → Adds now released S M
     → Waits x (left x many released) M
 still_waits now x many None S M few begun same some =
@@ -111,7 +111,7 @@ step_of now plan k x lines after valid inside p stands = ⊎_elim
     (λ drain. drain_step now plan k x lines after valid inside drain stands)
     p
 
--- networks that are down behind polls were down before them, or failed
+-- networks that are down after polls were down before them, or failed
 runs_endure : (plan : Plan) (moments : List ℕ) (lines after : Lines) → AreRuns plan moments lines after → BothEndure lines after
 runs_endure plan [] lines after r = subst (BothEndure lines) (sym r) (both_none lines)
 runs_endure plan (now ∷ moments) lines after r =

@@ -143,7 +143,7 @@ front_stream : stream_at small_plan 0 front_line ≡ front_entry ∷ []
 unfolding log checksum addresses header_front internet_header link_header udp_header datagram unnumbered
 front_stream = refl
 
--- more fragments are to come behind the first
+-- more fragments follow the first
 front_more : more_in (front_frame A) ≡ true
 unfolding checksum addresses header_front internet_header link_header udp_header datagram unnumbered
 front_more = refl
@@ -153,13 +153,13 @@ front_below : sub_in (front_frame A) < 1
 unfolding checksum addresses header_front internet_header link_header udp_header datagram unnumbered
 front_below = let sub : sub_in (front_frame A) ≡ 0 = refl in omega arith
 
--- behind it alone nothing comes
+-- after it alone nothing comes
 alone : (bound : ℕ) (stream : List Entry) → stream ≡ front_entry ∷ [] → ComesBy stream front_entry bound → ⊥
 alone bound stream is comes =
     let one : length stream ≡ 1 = ap length is in
     let whole = ap length comes.are.is in
     let parts = length-append comes.are.before (front_entry ∷ (comes.between ++ comes.next ∷ comes.are.after)) in
-    let behind = length-append comes.between (comes.next ∷ comes.are.after) in
+    let rest = length-append comes.between (comes.next ∷ comes.are.after) in
     omega arith
 
 -- the row

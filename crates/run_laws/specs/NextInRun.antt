@@ -9,26 +9,26 @@ use Rattle.afdx_tx.specs.DrainEnds.{stream_at}
 use Rattle.afdx_laws.specs.NextFragment.{AreNeighbours, link_wait, longest_wait}
 use Rattle.run_laws.specs.Runs.{AreRuns}
 
--- each moment follows the one before it, or a start, and within the lateness
+-- each time follows the one before it, or a start, within the lateness
 abbrev pub ComeWithin : ℕ → ℕ → List ℕ → Type 0
 ComeWithin late before [] = Unit {0}
 ComeWithin late before (now ∷ moments) = (before ≤ now) × (now ≤ before + late) × ComeWithin late now moments
 
--- the last of some moments, or the start
+-- the last of these times, or the start
 abbrev pub latest_of : ℕ → List ℕ → ℕ
 latest_of before [] = before
 latest_of before (now ∷ moments) = latest_of now moments
 
--- The next fragment of a message is in a stream, behind an entry, and was released by a moment.
+-- The next fragment of a message follows an entry of a stream, and was released by this time.
 pub record ComesBy (stream : List Entry) (first : Entry) (bound : ℕ) : Type 0 where
   pub between : List Entry
   pub next : Entry
   pub are : AreNeighbours stream first between next
   pub soon : next.at ≤ bound
 
--- An entry behind which more fragments of its message are to come is the last of its link's stream. Polls follow,
--- the first of them within the lateness, and go on until the bound; a network that carries the link stands
--- behind them. Then the next fragment was released by the bound: the link's, and so the configuration's.
+-- The last entry of a link's stream has the flag of more fragments. Polls follow, the first of them within the
+-- lateness, and go on until the bound; after them a network that carries the link is up. Then the next fragment
+-- was released by the bound of the link, and so by that of the configuration.
 abbrev pub NextInRun : Type 0
 NextInRun = (plan : Plan) (moments : List ℕ) (lines after : Lines) (k late : ℕ) (earlier : List Entry) (first : Entry)
     → IsPlan plan → k < length plan.links

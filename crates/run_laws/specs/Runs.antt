@@ -32,14 +32,14 @@ pub record KeptReady : Type 0 where
   pub closed : (old new : Tx) (vl sub total : ℕ) → IsReady old → ClosesTx old vl sub total new → IsReady new
   pub published : (old new : Tx) → IsReady old → Publishes old new → IsReady new
 
--- a poll of a ready emitter of a plan, by what was handed over before it and behind it
+-- a poll of a ready emitter of a plan, by what was transmitted before it and after it
 pub record EmitterPolls (plan : Plan) (now : ℕ) (lines after : Lines) : Type 0 where
   pub old : Tx
   pub new : Tx
   pub ready : IsReady old
   pub of : old.plan ≡ plan
   pub before : old.lines ≡ lines
-  pub behind : new.lines ≡ after
+  pub afterwards : new.lines ≡ after
   pub run : IsRun now old.links new.links old.lines new.lines
 
 -- a poll of a drain of a plan
@@ -48,7 +48,7 @@ pub record DrainPolls (plan : Plan) (now : ℕ) (lines after : Lines) : Type 0 w
   pub allowed : AreAllowed plan accepted
   pub run : IsDrained now plan accepted lines after
 
--- polls at these moments, of an emitter or of its drain; between them nothing is handed over
+-- polls at these times, of an emitter or of its drain; between them nothing is transmitted
 abbrev pub AreRuns : Plan → List ℕ → (lines after : Lines) → Type 0
 AreRuns plan [] lines after = after ≡ lines
 AreRuns plan (now ∷ moments) lines after = (mid : Lines)

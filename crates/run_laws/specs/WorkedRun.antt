@@ -1,5 +1,5 @@
 -- A worked run: over the demonstration configuration with frames of up to 64 bytes, a message of two fragments is
--- accepted, and its first frame is handed over at the moment 0. Two polls of a drain follow, a gap apart.
+-- accepted, and its first frame is transmitted at time 0. Two polls of a drain follow, a gap apart.
 use Rattle.std.specs.Prelude.{◌≡◌, ◌+◌, ◌≤◌, ◌<◌, true, [], ◌∷◌}
 use Rattle.afdx_plan.specs.Config.{Plan, IsPlan, link_plan_at}
 use Rattle.afdx_plan.specs.Demo.{demo_plan, demo_link}
@@ -29,7 +29,7 @@ small_plan = record demo_plan { links = small_link ∷ [] }
 abbrev pub message_accepted : Accepted
 message_accepted k sub = one_accepted
 
--- the first frame was handed to both networks
+-- the first frame was transmitted on both networks
 abbrev pub front_line : Lines
 front_line = lines_of (entry 0 (front_frame A) ∷ []) (entry 0 (front_frame B) ∷ []) 0 0 true true
     (logged_for Both (entry 0 (front_frame A)) ∷ [])

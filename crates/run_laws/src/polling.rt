@@ -1,11 +1,11 @@
 //! A poll is a step of a run.
-use afdx_tx::{Draining, Emitter, PollFault, Report};
-use redundant_mux::Network;
-
 ghost use Rattle.std.specs.Prelude.{◌≡◌, ◌≤◌, ◌↔◌, false, IsErr, OnErr, OnOk, IfOk};
 ghost use Rattle.redundant_mux.specs.Lines.{is_alive};
 ghost use Rattle.afdx_tx.specs.Report.{Polls};
 ghost use Rattle.run_laws.specs.Runs.{IsReady, EmitterPolls, DrainPolls};
+
+use afdx_tx::{Draining, Emitter, PollFault, Report};
+use redundant_mux::Network;
 
 /// Polls an emitter that is ready, and leaves it ready: a step of a run, by the promises of `Emitter::poll` alone.
 pub fn poll_emitter<A: Network + Drop, B: Network + Drop>(

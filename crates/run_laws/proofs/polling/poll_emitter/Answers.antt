@@ -11,7 +11,7 @@ returns-clause-step g c = on_ok_weaker c.poll.result
       ready = c.requires.ready;
       of = refl;
       before = refl;
-      behind = refl;
+      afterwards = refl;
       run = run;
     })
     c.poll.ensures.run
