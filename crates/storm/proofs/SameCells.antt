@@ -30,9 +30,9 @@ pub cells_same : (old new : List Published) → length new ≡ length old
 cells_same old new count each =
     ext_get_or no_cell (cells_of new) (cells_of old) (length-map new written ∙ count ∙ sym (length-map old written))
     (λ k lt.
-        let here : k < length new = omega (arith, length-map new written) in
-        let there : k < length old = omega arith in
-        written_at new k here ∙ each k there ∙ sym (written_at old k there))
+    let here : k < length new = omega (arith, length-map new written) in
+    let there : k < length old = omega arith in
+    written_at new k here ∙ each k there ∙ sym (written_at old k there))
 
 -- both ends of a new board have the same cells
 pub cells_new : (board : List Published) (monitor : List Watched) → length board ≡ length monitor → AreNew board monitor
@@ -40,9 +40,9 @@ pub cells_new : (board : List Published) (monitor : List Watched) → length boa
 cells_new board monitor count new =
     ext_get_or no_cell (cells_of board) (cells_read monitor) (length-map board written ∙ count ∙ sym (length-map monitor read))
     (λ k lt.
-        let here : k < length board = omega (arith, length-map board written) in
-        let there : k < length monitor = omega arith in
-        written_at board k here ∙ (new k).cell ∙ sym (read_at monitor k there))
+    let here : k < length board = omega (arith, length-map board written) in
+    let there : k < length monitor = omega arith in
+    written_at board k here ∙ (new k).cell ∙ sym (read_at monitor k there))
 
 -- a monitor of a board reads as many links
 pub as_many : (board : List Published) (monitor : List Watched) → cells_of board ≡ cells_read monitor → length monitor ≡ length board

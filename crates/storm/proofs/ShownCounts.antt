@@ -54,8 +54,8 @@ pub cells_published : (old mid new : Tx) → mid.plan ≡ old.plan → mid.board
 cells_published old mid new plan board p s =
     cells_same mid.board new.board p.count
     (λ k lt.
-        let many : length mid.board ≡ length mid.plan.links = ap length board ∙ s.count ∙ sym (links_same old mid plan) in
-        ap (λ (w : Published). w.cell) (p.each k (omega arith)))
+    let many : length mid.board ≡ length mid.plan.links = ap length board ∙ s.count ∙ sym (links_same old mid plan) in
+    ap (λ (w : Published). w.cell) (p.each k (omega arith)))
     ∙ ap (λ b. cells_of b) board
 
 -- nothing is counted of the links of a fresh emitter, of which nothing was published
@@ -83,6 +83,7 @@ read_more tx k counts found s lt is last =
     ap (λ (l : List Counts). l ++ found ∷ []) is
     ∙ ap (λ (c : Counts). take k all ++ c ∷ []) (last ∙ s.each k lt ∙ sym (get_or-map own tx.plan.links k (link_plan_at [] 0) zeros lt))
     ∙ sym (take-suc all k zeros there) ∙ ap (λ (n : ℕ). take n all) (sym (add-one k))
+
 -- all of them
 pub read_all : (tx : Tx) (k : ℕ) (counts : List Counts) → k ≡ length tx.plan.links
     → counts ≡ take k (all_counts tx.plan.links tx.lines.a tx.lines.b)
