@@ -4,8 +4,8 @@ ghost use Rattle.status_board.specs.Views.{links_of};
 
 use crate::network_tests::{send_six, six};
 use crate::testing::{
-    BOTH, NEITHER, OpenedOne, assert_both_down, assert_report, assert_same_counts, numbered,
-    open_demo_standing, open_one, poll_at, send_taken,
+    BOTH, NEITHER, OpenedOne, Sending, assert_both_down, assert_both_handed, assert_report,
+    assert_same_counts, numbered, open_demo_standing, open_one, poll_at, send_taken,
 };
 use afdx_tx::Release;
 use redundant_mux::{MemNetwork, Standing};
@@ -104,6 +104,15 @@ fn assert_failing<R: Abort + Wait>(rt: &R, opened: &mut OpenedOne)
     }
 }
 
+// Asserts the moment of the last poll at which a network stood, and how many frames each network was
+// handed, those of the first polls.
+fn assert_end<R: Abort>(rt: &R, tx: Sending, now: u64, on_a: u8, on_b: u8) {
+    assert_eq!(rt; tx.now(), now);
+    assert_both_handed(rt, tx, on_a, on_b);
+}
+
+// The whole run: what is released and who stands at each poll, the counts, the moment, and what both
+// networks hold.
 #[test]
 fn frames_that_one_network_alone_took_count_and_those_that_none_took_do_not(rt: HostRuntime) {
     let alloc = rt.alloc();
@@ -124,4 +133,5 @@ fn frames_that_one_network_alone_took_count_and_those_that_none_took_do_not(rt: 
     let answer = poll_at(&rt, &mut opened.tx, 6_000);
     assert_both_down(&rt, answer);
     assert_read(&rt, &mut opened, counts);
+    assert_end(&rt, opened.tx, 5_000, 2, 5);
 }
