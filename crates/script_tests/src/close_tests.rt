@@ -1,8 +1,8 @@
 use crate::helpers::{
-    FIRST, Small, assert_run, assert_run_over, assert_sent, at_line, expected, frame_lines, joined,
-    repeated, sums,
+    FIRST, NETS, Small, assert_run, assert_run_over, assert_sent, at_line, expected, frame_lines,
+    joined, push_small, repeated, sums,
 };
-use crate::plan_tests::{IN_TURN, plan_in_turn};
+use crate::plan_tests::{HEAD, IN_TURN, PORT_REST, plan_in_turn};
 use std::alloc::{AllocError, Global};
 use tx_script::LineFault;
 
@@ -94,4 +94,84 @@ fn totals_so_far_are_written_after_a_fault(rt: HostRuntime) {
     let wanted = b"line 2: closed 1\nline 3: refused Closed\n";
     let script = b"send 10 01\nclose 1 0\nsend 10 02\nclose 1 0 1\nat 0\n";
     assert_run(&rt, rt.alloc(), script.as_slice(), told, wanted);
+}
+
+// Two links of two sub-VLs, and a port on each sub-VL.
+fn plan_of_two_links(alloc: Global) -> Result<String, AllocError> {
+    let rest = "bag_ms = 1\nlmax = 1518\nsub_vls = 2\ncapacity = 2\n";
+    let links = joined(
+        alloc,
+        &[HEAD, "[[vl]]\nid = 1\n", rest, "[[vl]]\nid = 2\n", rest],
+    )?;
+    let on_first = joined(
+        alloc,
+        &[
+            "[[port]]\nid = 10\nvl = 1\nsub = 0\nsource = 1000\n",
+            PORT_REST,
+            "[[port]]\nid = 11\nvl = 1\nsub = 1\nsource = 1001\n",
+            PORT_REST,
+        ],
+    )?;
+    let on_second = joined(
+        alloc,
+        &[
+            "[[port]]\nid = 20\nvl = 2\nsub = 0\nsource = 1000\n",
+            PORT_REST,
+            "[[port]]\nid = 21\nvl = 2\nsub = 1\nsource = 1001\n",
+            PORT_REST,
+        ],
+    )?;
+    joined(alloc, &[&links, &on_first, &on_second])
+}
+
+// A message of one byte that went out on a link: the link, the UDP port that it comes from, and the
+// moment, the identification, the byte and the number of its frame. The header checksum goes down by one
+// for each one that the link and the identification go up.
+fn on_link(
+    vl: u16,
+    source: u16,
+    at: u64,
+    ident: u16,
+    byte: u8,
+    number: u8,
+) -> ((u16, u16), Small) {
+    let small = Small {
+        at,
+        ident,
+        checksum: 0xcdefu16.wrapping_sub(vl).wrapping_sub(ident),
+        byte,
+        number,
+    };
+    ((vl, source), small)
+}
+
+// The notes, and what both links send on A, and then on B.
+fn text_of_two_links(alloc: Global, notes: &str) -> Result<String, AllocError> {
+    let sent = [
+        on_link(1, 1000, 0, 0, 1, 0),
+        on_link(2, 1000, 0, 0, 4, 0),
+        on_link(1, 1001, 1_000, 1, 3, 1),
+        on_link(2, 1001, 1_000, 1, 5, 1),
+        on_link(1, 1001, 2_000, 5, 8, 2),
+        on_link(2, 1000, 2_000, 4, 7, 2),
+    ];
+    let mut text = String::new(alloc);
+    text.push_str(notes)?;
+    for net in &NETS {
+        for message in &sent {
+            push_small(&mut text, *net, message.0, &message.1)?;
+        }
+    }
+    Ok(text)
+}
+
+#[test]
+fn a_close_closes_no_other_sub_vl_of_its_link_or_of_another(rt: HostRuntime) {
+    let plan = plan_of_two_links(rt.alloc()).expect(&rt, "memory");
+    let notes =
+        "line 2: closed 1\nline 3: refused Closed\nline 7: closed 1\nline 8: refused Closed\n";
+    let wanted = text_of_two_links(rt.alloc(), notes).expect(&rt, "memory");
+    let script = "send 10 01\nclose 1 0\nsend 10 02\nsend 11 03\nsend 20 04\nsend 21 05\n\
+                  close 2 1\nsend 21 06\nsend 20 07\nsend 11 08\nat 0\nat 1000\nat 2000\n";
+    assert_run_over(&rt, rt.alloc(), &plan, script, sums(6, 2, 6), &wanted);
 }
