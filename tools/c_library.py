@@ -35,6 +35,7 @@ SENDING = [
     ("demo.toml", ["10"]),
     ("demo.toml", ["10:2:8192"]),
     ("demo.toml", ["10:2:1472"]),
+    ("demo.toml", ["10:2:1471"]),  # frames of 1,514 bytes, the greatest
     ("wire.toml", ["10:4:1000", "11:4:4000", "12:4:600"]),
     ("wire.toml", ["12:3:153", "11:1:1"]),
     ("wire.toml", ["11:0:1"]),
