@@ -127,14 +127,7 @@ fn plan_of_two_links(alloc: Global) -> Result<String, AllocError> {
 // A message of one byte that went out on a link: the link, the UDP port that it comes from, and the
 // moment, the identification, the byte and the number of its frame. The header checksum goes down by one
 // for each one that the link and the identification go up.
-fn on_link(
-    vl: u16,
-    source: u16,
-    at: u64,
-    ident: u16,
-    byte: u8,
-    number: u8,
-) -> ((u16, u16), Small) {
+fn on_link(vl: u16, source: u16, at: u64, ident: u16, byte: u8, number: u8) -> ((u16, u16), Small) {
     let small = Small {
         at,
         ident,
