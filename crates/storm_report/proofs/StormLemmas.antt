@@ -1,6 +1,5 @@
 -- What the command `storm` tells of the text of a configuration.
-use Rattle.std.proofs.Common.{◌≡◌, ◌∙◌, ℕ, ◌*◌, List, Option, Some, None, Bool, false, IsTrue, ◌↔◌, IfSome, OnOk, IfErr, Result, Ok, Err, length, map, refl, sym, ap, subst}
-use Rattle.std.proofs.lemmas.List.{length-map}
+use Rattle.std.proofs.Common.{◌≡◌, ℕ, ◌*◌, List, Option, Some, None, Bool, false, IsTrue, ◌↔◌, IfSome, OnOk, IfErr, Result, Ok, Err, length, map, refl, subst}
 use Rattle.std.specs.Io.KnownBytes.{Appends}
 use Rattle.afdx_plan.specs.Config.{Plan}
 use Rattle.afdx_plan.specs.declared.link_plan.LinkPlan.{LinkPlan}
@@ -16,17 +15,11 @@ use Rattle.plan_report.specs.declared.failure.Failure.TheVariants as Failures
 use Rattle.transcript.specs.declared.run_fault.RunFault.TheVariants as Ran
 use Rattle.storm.specs.Answers.{HasShortPort}
 use Rattle.storm.specs.Messages.{own_messages}
-use Rattle.storm.specs.Shown.{own_counts, all_counts}
+use Rattle.storm.specs.Shown.{all_counts}
 use Rattle.storm.specs.declared.fault.StormFault.{StormFault}
 use Rattle.storm.specs.declared.fault.StormFault.TheVariants.{Short, Turns, Memory}
-use Rattle.storm_report.specs.Storms.{ReportsPlan, ReportsStorm, IsPlanRefusal, IsTextRefusal, IsStormRefusal, failure_of}
+use Rattle.storm_report.specs.Storms.{ReportsPlan, ReportsStorm, IsPlanRefusal, IsStormRefusal, failure_of}
 use Rattle.storm_report.specs.Totals.{totals_text}
-
--- each link has its counts
-pub as_many_counts : (counts : List Counts) (links own : List LinkPlan) (a b : List Entry) → counts ≡ all_counts links a b → own ≡ links
-    → length counts ≡ length own
-as_many_counts counts links own a b is same =
-    ap (λ (l : List Counts). length l) is ∙ length-map links (own_counts a b) ∙ sym (ap (λ (l : List LinkPlan). length l) same)
 
 -- what was written of a storm that came to its end
 pub reports_plan : (plan : Plan) (n : ℕ) (a b : List Entry) (equal back : Bool) (counts : List Counts)

@@ -52,7 +52,8 @@ fn throw_storm<W: Write, G: Gate + Sync, R: Threads + Wait + Sync>(
     requires messages { (1 ≤ messages) × (messages ≤ 65535) }
     requires turns { (1 ≤ turns) × (turns ≤ 1000000000) }
     ensures long { OnOk result (HasShortPort config → ⊥) }
-    ensures ok { OnOk result (ReportsPlan config messages (W.contents writer.old) (W.contents writer.new)) }
+    ensures ok { OnOk result
+        (ReportsPlan config messages (W.contents writer.old) (W.contents writer.new)) }
     ensures refused { IfErr result (λ failure. IsPlanRefusal config failure) }
     ensures unchanged { IfErr result (λ failure. failure ≢ Failure.Run RunFault.Write →
         Keeps (W.contents writer.old) (W.contents writer.new)) }
