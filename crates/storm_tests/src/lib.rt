@@ -15,3 +15,7 @@ mod plans;
 mod storm_tests;
 #[cfg(test)]
 mod text_tests;
+#[cfg(test)]
+mod turn_tests;
+#[cfg(test)]
+mod watching_tests;

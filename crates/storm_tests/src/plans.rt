@@ -81,6 +81,36 @@ pub(crate) fn plan_with_link_on_a(rt: &impl Abort, alloc: Global) -> Config {
     plan_of(rt, alloc, text_with_link_on_a(alloc))
 }
 
+// End system 1 with a link for each of these: its identifier, its gap in milliseconds, and how many ports
+// it has on its one sub-VL. Ports are numbered from 1.
+pub(crate) fn links_text(
+    alloc: Global,
+    links: &[(u16, u16, u16)],
+) -> Result<String, AllocError> {
+    let mut text = format!(in alloc; "[end_system]\nid = 1\n")?;
+    for link in links {
+        let (vl, gap, _ports) = *link;
+        writeln!(
+            text,
+            "[[vl]]\nid = {vl}\nbag_ms = {gap}\nlmax = 64\nsub_vls = 1\ncapacity = 256"
+        )?;
+    }
+    let mut id = 0u16;
+    for link in links {
+        let (vl, _gap, ports) = *link;
+        for _port in 0..ports {
+            id = id.saturating_add(1);
+            push_port(&mut text, id, vl, 0, 6)?;
+        }
+    }
+    Ok(text)
+}
+
+// The plan of that text.
+pub(crate) fn links_plan(rt: &impl Abort, alloc: Global, links: &[(u16, u16, u16)]) -> Config {
+    plan_of(rt, alloc, links_text(alloc, links))
+}
+
 // How many links the great plan has, with a sub-VL for each of four ports.
 pub(crate) const LINKS: u16 = 64;
 
