@@ -28,7 +28,7 @@ fn assert_asks<T: Abort>(rt: &T, alloc: Global, line: &str, wanted: &str) {
     assert_same(rt, text.as_str(), wanted);
 }
 
-const COMMANDS: [(&str, &str); 7] = [
+const COMMANDS: [(&str, &str); 8] = [
     ("", "Script"),
     ("check a.toml", "Check { config: \"a.toml\" }"),
     (
@@ -51,6 +51,10 @@ const COMMANDS: [(&str, &str); 7] = [
         "storm --turns 1 --messages 2 a.toml",
         "Storm { config: \"a.toml\", messages: 2, turns: 1 }",
     ),
+    (
+        "storm a.toml --messages 0065535 --turns=01",
+        "Storm { config: \"a.toml\", messages: 65535, turns: 1 }",
+    ),
 ];
 
 #[test]
@@ -66,7 +70,7 @@ fn assert_ends<T: Abort + Print + Eprint>(rt: &T, alloc: Global, line: &str, end
     assert_same_at(rt, tell_words(rt, &error), end, line);
 }
 
-const OTHER_WORDS: [&str; 18] = [
+const OTHER_WORDS: [&str; 25] = [
     "help",
     "chekc a.toml",
     "check",
@@ -84,6 +88,13 @@ const OTHER_WORDS: [&str; 18] = [
     "storm a.toml --messages 1 --turns 0",
     "storm a.toml --messages 1 --turns 1000000001",
     "storm a.toml --messages x --turns 1",
+    "storm a.toml --messages +5 --turns 1",
+    "storm a.toml --messages 5 --turns +1",
+    "storm a.toml --messages=-5 --turns 1",
+    "storm a.toml --messages -5 --turns 1",
+    "storm a.toml --messages= --turns 1",
+    "storm a.toml --messages 0x5 --turns 1",
+    "storm a.toml --messages 5 --turns 1_000",
     "--version",
 ];
 

@@ -1,9 +1,11 @@
 //! The words of the command line.
-ghost use Rattle.std.specs.Prelude.{◌≤◌, IfOk, IfSome};
+ghost use Rattle.std.specs.Prelude.{◌≡◌, ◌≤◌, ◌⊎◌, Some, None, IfOk, IfSome, IfNone};
+ghost use Rattle.script_lines.specs.Numbers.{number_of};
 ghost use Rattle.bench_words.specs.Words.{IsInRange};
 
 use clap::error::ErrorKind;
 use clap::{Arg, ArgAction, ArgMatches, Command, Error, value_parser};
+use script_lines::number;
 use std::alloc::{AllocError, Global};
 use std::io;
 use std::rt::Env;
@@ -89,9 +91,9 @@ fn storm_words(alloc: Global, matches: &ArgMatches<'_>) -> Result<Words, Error>
             messages,
             turns,
         }),
-        // Such numbers were refused before, by their ranges.
+        // clap has checked the ranges, but it accepts a plus sign.
         _ => {
-            let text = "a number is out of its range";
+            let text = "a number is written in decimal digits alone";
             Err(command(alloc)?.error(ErrorKind::InvalidValue, text)?)
         }
     }
@@ -101,23 +103,25 @@ fn storm_words(alloc: Global, matches: &ArgMatches<'_>) -> Result<Words, Error>
 fn messages_of(matches: &ArgMatches<'_>) -> Option<u32>
     ensures { IfSome result (λ messages. (1 ≤ messages) × (messages ≤ MESSAGES_LIMIT)) }
 {
-    let messages = matches.get_str("messages")?.parse::<u32>().ok()?;
-    if 1 <= messages && messages <= MESSAGES_LIMIT {
-        Some(messages)
-    } else {
-        None
-    }
+    let messages = count(matches.get_str("messages")?, u64::from(MESSAGES_LIMIT))?;
+    Some(messages as u32)
 }
 
 /// How often each thread may try.
 fn turns_of(matches: &ArgMatches<'_>) -> Option<u64>
     ensures { IfSome result (λ turns. (1 ≤ turns) × (turns ≤ TURNS_LIMIT)) }
 {
-    let turns = matches.get_str("turns")?.parse::<u64>().ok()?;
-    if 1 <= turns && turns <= TURNS_LIMIT {
-        Some(turns)
-    } else {
-        None
+    count(matches.get_str("turns")?, TURNS_LIMIT)
+}
+
+/// The number that a word writes in decimal digits alone, if it lies from 1 to `most`.
+fn count(word: &str, most: u64) -> Option<u64>
+    ensures some { IfSome result (λ n. (number_of most word.now ≡ Some n) × ((1 ≤ n) × (n ≤ most))) }
+    ensures none { IfNone result ((number_of most word.now ≡ None) ⊎ (number_of most word.now ≡ Some 0)) }
+{
+    match number(word.as_bytes(), most) {
+        Some(0) | None => None,
+        Some(n) => Some(n),
     }
 }
 

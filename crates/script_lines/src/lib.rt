@@ -2,15 +2,16 @@
 #![tactic(auto)]
 
 mod bytes;
+mod decimal;
 mod line;
 mod line_fault;
 mod line_meaning;
 mod line_text;
 mod line_words;
 mod message;
-mod number;
 
 pub use bytes::Bytes;
+pub use decimal::number;
 pub use line::Line;
 pub use line_fault::LineFault;
 pub use line_meaning::read_line;

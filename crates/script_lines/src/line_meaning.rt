@@ -5,12 +5,12 @@ ghost use Rattle.script_lines.specs.Faults.{IsFirstFault, IsFaultless, send_faul
 ghost use Rattle.script_lines.specs.Meaning.{meaning_of, IsSaidSend, IsSaidAt, IsSaidClose};
 ghost use Rattle.script_lines.specs.Words.{words_of};
 
+use crate::decimal::number;
 use crate::line::Line;
 use crate::line_fault::LineFault;
 use crate::line_text::LINE_LIMIT;
 use crate::line_words::next_word;
 use crate::message::Message;
-use crate::number::number;
 use std::alloc::Global;
 
 /// What a line says, which is given without its end. The fault that is told first, in the order
