@@ -2,6 +2,8 @@
 #![tactic(auto)]
 
 #[cfg(test)]
+mod halting_tests;
+#[cfg(test)]
 mod helpers;
 #[cfg(test)]
 mod report_tests;

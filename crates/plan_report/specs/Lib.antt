@@ -1,3 +1,4 @@
+pub mod Halting
 pub mod Reading
 pub mod Report
 pub mod Status

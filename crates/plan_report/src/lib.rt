@@ -3,12 +3,14 @@
 
 mod checking;
 mod failure;
+mod halting;
 mod reading;
 mod report;
 mod status;
 
 pub use checking::check;
 pub use failure::Failure;
+pub use halting::Halting;
 pub use reading::{TEXT_LIMIT, read_plan};
 pub use report::write_report;
 pub use status::{DONE, End, FAILED, LINES_REFUSED, REFUSED, USED_UP, status_of};

@@ -1,0 +1,107 @@
+//! A writer that leaves another one alone after that has failed.
+ghost use Rattle.std.specs.Prelude.{◌≡◌, length, false};
+ghost use Rattle.std.specs.IoError.{error_kind};
+ghost use Rattle.plan_report.specs.Halting.{is_failure as is_failure_kind, flush_fails, write_fails};
+
+use std::io::{self, ErrorKind, Write};
+use std::marker::Model;
+
+/// A writer over another one. After a write or a flush of that one failed, every call fails and leaves it
+/// alone. An interruption is no failure; a write that takes none of its bytes is one. Contracts see the other
+/// writer, and whether it failed.
+#[derive(Drop)]
+pub struct Halting<W: Write + Drop> {
+    writer: W,
+    failed: bool,
+}
+
+impl<W: Write + Drop> Model for Halting<W> {
+    ghost use Rattle.plan_report.specs.Halting.{HaltingView};
+
+    ghost Value = { HaltingView W };
+
+    ghost view = { λ h. record { writer = h.writer; failed = h.failed } };
+}
+
+impl<W: Write + Drop> Halting<W> {
+    /// A writer over one that has not failed.
+    pub fn new(writer: W) -> Halting<W>
+        ensures { result ≡ record { writer = writer; failed = false } }
+    {
+        Halting {
+            writer,
+            failed: false,
+        }
+    }
+}
+
+impl<W: Write + Drop> Write for Halting<W> {
+    ghost use Rattle.std.specs.Prelude.{◌≡◌, ◌||◌, true, length, IsErr};
+    ghost use Rattle.std.specs.Io.{WritesAtMost};
+    ghost use Rattle.std.specs.Io.KnownBytes.{Keeps, WriteAppends};
+    ghost use Rattle.plan_report.specs.Halting.{flush_fails, write_fails};
+
+    ghost contents = { λ h. W.contents h.writer };
+
+    /// Writes to the other writer, unless that has failed.
+    fn write(&mut self, buf: &[u8]) -> io::Result<usize>
+        ensures bound { WritesAtMost result buf.now }
+        ensures bytes { WriteAppends (W.contents self.old.writer) (W.contents self.new.writer)
+            result buf.now }
+        ensures halted { self.old.failed ≡ true → IsErr result × (self.new ≡ self.old) }
+        ensures failed { self.new.failed ≡ (self.old.failed || write_fails (length buf.now) result) }
+    {
+        if self.failed {
+            return Err(failed_before());
+        }
+        let written = self.writer.write(buf);
+        self.failed = write_failed(buf.len(), &written);
+        written
+    }
+
+    /// Flushes the other writer, unless that has failed.
+    fn flush(&mut self) -> io::Result<()>
+        ensures bytes { Keeps (W.contents self.old.writer) (W.contents self.new.writer) }
+        ensures halted { self.old.failed ≡ true → IsErr result × (self.new ≡ self.old) }
+        ensures failed { self.new.failed ≡ (self.old.failed || flush_fails result) }
+    {
+        if self.failed {
+            return Err(failed_before());
+        }
+        let flushed = self.writer.flush();
+        self.failed = flush_failed(&flushed);
+        flushed
+    }
+}
+
+/// The error of a call after the other writer has failed.
+fn failed_before() -> io::Error {
+    io::Error::new(ErrorKind::Other, "a write failed before")
+}
+
+/// Whether an error is more than an interruption.
+fn is_failure(error: &io::Error) -> bool
+    ensures { result ≡ is_failure_kind (error_kind error.now) }
+{
+    !matches!(error.kind(), ErrorKind::Interrupted)
+}
+
+/// Whether a flush failed.
+fn flush_failed(flushed: &io::Result<()>) -> bool
+    ensures { result ≡ flush_fails flushed.now }
+{
+    match flushed {
+        Ok(()) => false,
+        Err(error) => is_failure(error),
+    }
+}
+
+/// Whether a write of `size` bytes failed.
+fn write_failed(size: usize, written: &io::Result<usize>) -> bool
+    ensures { result ≡ write_fails size written.now }
+{
+    match written {
+        Ok(taken) => *taken == 0 && size > 0,
+        Err(error) => is_failure(error),
+    }
+}
