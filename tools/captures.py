@@ -54,11 +54,17 @@ class Room:
         self.folder = folder
         files = {"demo.toml": DEMO, "two.toml": TWO, "short.txt": SCRIPT, "long.txt": LONG, "faulty.txt": FAULTY}
         for name, text in files.items():
-            with open(f"{folder}/{name}", "w", encoding="utf-8") as file:
-                file.write(text)
+            self.write(name, text)
 
-    def run(self, program, *words):
-        return started(program, ["run", *words], cwd=self.folder, capture_output=True, text=True)
+    def start(self, program, *words, **how):
+        return started(program, words, cwd=self.folder, capture_output=True, text=True, **how)
+
+    def run(self, program, *words, **how):
+        return self.start(program, "run", *words, **how)
+
+    def write(self, name, text):
+        with open(f"{self.folder}/{name}", "w", encoding="utf-8") as file:
+            file.write(text)
 
     def read(self, name):
         with open(f"{self.folder}/{name}", "rb") as file:
@@ -66,8 +72,7 @@ class Room:
 
     def is_capture_of(self, name, transcript):
         """Whether a reader takes a capture, whose packets are the lines of a transcript."""
-        with open(f"{self.folder}/transcript", "w", encoding="utf-8") as file:
-            file.write(transcript)
+        self.write("transcript", transcript)
         try:
             return all(pcapng.checks(f"{self.folder}/{name}", f"{self.folder}/transcript", shows=False))
         except pcapng.Malformed as fault:
@@ -141,13 +146,59 @@ def wrong_words(room, program):
     return all(ran.returncode == 2 and not ran.stdout and ran.stderr for ran in runs)
 
 
+def closing(streams):
+    """What closes standard streams before a program begins."""
+    return lambda: [os.close(stream) for stream in streams]
+
+
+def closed_streams(room, program):
+    """A capture has no standard stream's number: nothing but its blocks is written to it."""
+    is_well = True
+    for closed in ([0], [2], [0, 2]):
+        ran = room.run(program, "demo.toml", "short.txt", "--capture", "frames.pcapng", preexec_fn=closing(closed))
+        is_well &= ends(ran, 0, "", ONE_FRAME) and room.is_capture_of("frames.pcapng", ONE_FRAME)
+    for closed in ([1], [0, 1], [1, 2], [0, 1, 2]):
+        ran = room.run(program, "demo.toml", "short.txt", "--capture", "frames.pcapng", preexec_fn=closing(closed))
+        is_well &= ends(ran, 4, "" if 2 in closed else "write failed\n") and room.read("frames.pcapng") == b""
+    return is_well
+
+
+def own_files(room, program):
+    """A capture that is the configuration or the script, by whatever name, is refused, and both are left."""
+    os.mkdir(f"{room.folder}/inner")
+    for name in ("demo.toml", "short.txt"):
+        os.link(f"{room.folder}/{name}", f"{room.folder}/inner/hard-{name}")
+        os.symlink(f"../{name}", f"{room.folder}/inner/soft-{name}")
+    names = [f"{way}{name}" for name in ("demo.toml", "short.txt") for way in ("", "./", "inner/../", "inner/hard-", "inner/soft-")]
+    names += [f"{room.folder}/{name}" for name in ("demo.toml", "short.txt")]
+    runs = [room.run(program, "demo.toml", "short.txt", "--capture", name) for name in names]
+    is_left = (room.read("demo.toml"), room.read("short.txt")) == (DEMO.encode(), SCRIPT.encode())
+    by_link = room.run(program, "inner/soft-demo.toml", "inner/hard-short.txt", "--capture", "short.txt")
+    return is_left and all(ends(ran, 4, "write failed\n") for ran in [*runs, by_link]) and len(room.read("short.txt")) > 0
+
+
+def own_stream(room, program):
+    """So is one that is the script on standard input."""
+    with open(f"{room.folder}/short.txt", encoding="utf-8") as script:
+        ran = room.run(program, "demo.toml", "/dev/stdin", "--capture", "short.txt", stdin=script)
+    return ends(ran, 4, "write failed\n") and room.read("short.txt") == SCRIPT.encode()
+
+
+def new_link(room, program):
+    """A link that leads nowhere is followed, and a file beside the inputs is no input."""
+    os.symlink("made.pcapng", f"{room.folder}/link")
+    ran = room.run(program, "demo.toml", "short.txt", "--capture", "link")
+    return ends(ran, 0, "", ONE_FRAME) and room.is_capture_of("made.pcapng", ONE_FRAME)
+
+
 CASES = [short_run, long_run, faulty_line, emptied, full_disk, no_folder, no_script, refused_plan, wrong_words]
+CASES += [closed_streams, own_files, own_stream, new_link]
 
 
 def check(case, build, program):
     """Tells what came of a case, and says whether it is as promised."""
     try:
-        with tempfile.TemporaryDirectory(prefix="captures-") as folder:
+        with tempfile.TemporaryDirectory(prefix="bench-") as folder:
             is_well = case(Room(folder), program)
     except (OSError, subprocess.TimeoutExpired) as error:
         print(error)
@@ -156,11 +207,11 @@ def check(case, build, program):
     return is_well
 
 
-def main():
-    results = [check(case, *it) for it in built("afdx_bench").items() for case in CASES]
+def main(cases):
+    results = [check(case, *it) for it in built("afdx_bench").items() for case in cases]
     print(f"{sum(results)} passed, {results.count(False)} failed")
     return 1 if False in results else 0
 
 
 if __name__ == "__main__":
-    sys.exit(main())
+    sys.exit(main(CASES))

@@ -1,12 +1,13 @@
 #!/usr/bin/env python3
-"""Refuses requests for memory of the built programs and tests, and closes the programs' standard output early.
+"""Refuses requests for memory of the built programs and tests, and writes of the program or its standard output.
 
     python3 tools/refusals.py
 
 It runs what `rt ci` has built, the programs `refusals` and `afdx_bench` as each compiler makes them, with
 `tools/refuse.c` preloaded: a run for each request for memory or for a thread, which is refused, until a run
 makes fewer requests. Each run has to end as is promised, with no signal. Of each test the first requests
-are refused in turn, and others among the rest (`refusals_tests.py`). The last line is
+are refused in turn, and others among the rest (`refusals_tests.py`). Likewise each write of the program fails
+once, and the program may try no other after it. The last line is
 'N passed, M failed', and the exit status 0 exactly where nothing failed.
 """
 import os
@@ -22,7 +23,7 @@ from pathlib import Path
 # (no compiled copy is left beside the scripts)
 sys.dont_write_bytecode = True
 from refusals_tests import check_tests
-from refusals_wanted import CASES, COMMANDS, DEMO, LONG, SCRIPT, closed_commands
+from refusals_wanted import CASES, COMMANDS, DEMO, LONG, SCRIPT, closed_commands, written_commands
 
 ROOT = os.path.dirname(os.path.dirname(os.path.abspath(__file__)))
 # The compilers, and how the name of what each makes ends. The second may leave a program to the first.
@@ -71,13 +72,14 @@ class Bench:
             with open(f"{room}/{name}", "w", encoding="utf-8") as file:
                 file.write(text)
 
-    def run(self, program, words, given, number, many, timeout=60):
-        """Runs a program, of which the request with this number is refused, and so many in all; 0: all later ones."""
+    def run(self, program, words, given, number, many, timeout=60, **more):
+        """Runs a program, of which the request with this number is refused, and so many in all; 0: all later ones.
+        `more` has what else its environment has."""
         with tempfile.NamedTemporaryFile(dir=self.room) as count:
             count.write(bytes(8))
             count.flush()
             refuse = {"REFUSE_FROM": str(number), "REFUSE_MANY": str(many), "REFUSE_COUNT": count.name}
-            how = {"cwd": self.room, "env": {"LD_PRELOAD": self.library, **refuse}, "input": given}
+            how = {"cwd": self.room, "env": {"LD_PRELOAD": self.library, **refuse, **more}, "input": given}
             ran = started(program, words, timeout, capture_output=True, **how)
             count.seek(0)
             (requests,) = struct.unpack("=Q", count.read(8))
@@ -157,6 +159,34 @@ def check_closed(bench, program, build, words):
     return is_well
 
 
+def write_faults(bench, program, words):
+    """Runs of a command, in each of which one write fails: what isn't as promised, as texts, and how many they were."""
+    faults = []
+    for number in range(1, LIMIT):
+        ran = bench.run(program, words, b"", number, 1, REFUSE_WRITES="1")
+        if not ran.is_refused:
+            faults += [] if ran.status == 0 and not ran.err else [f"no write was refused: {ran}"]
+            return faults, number - 1
+        is_last = ran.requests == number
+        if not is_last or (ran.status, ran.err) != (4, "write failed\n"):
+            faults.append(f"write {number} refused: {ran}")
+    raise RuntimeError(f"over {LIMIT} writes")
+
+
+def check_writes(bench, program, build, words):
+    """Whether a command tries no write after one that failed."""
+    try:
+        faults, refused = write_faults(bench, program, words)
+    except (OSError, RuntimeError, subprocess.TimeoutExpired) as error:
+        faults, refused = [str(error)], 0
+    if not faults and not refused:
+        faults = ["nothing was written"]
+    print(f"writes of {' '.join(words)} by {build}: {'FAILED' if faults else 'ok'}: {refused} refused", flush=True)
+    for fault in faults[:8]:
+        print(f"    {fault[:600]}", flush=True)
+    return not faults
+
+
 def built(name, tests=""):
     """What each compiler has made of a program, or of a crate's tests, by the compiler's name. LLVM makes each."""
     paths = {build: f"{ROOT}/crates/{name}/out/{name}{tests}{ending}" for build, ending in BUILDS.items()}
@@ -196,6 +226,7 @@ def check_all():
         for build, program in built("afdx_bench").items():
             results += [check_case(bench, program, build, case) for case in COMMANDS]
             results += [check_closed(bench, program, build, words) for words in closed_commands()]
+            results += [check_writes(bench, program, build, words) for words in written_commands()]
         for name in crates_with_tests():
             folder = f"{ROOT}/crates/{name}"
             results += [check_tests(bench, folder, *it[::-1]) for it in built(name, "_tests").items()]

@@ -271,3 +271,8 @@ COMMANDS = [*commands(1), command(LONG_RUN, LONG_FRAMES), *commands(0)]
 def closed_commands():
     """The commands whose standard output is closed early."""
     return [RUN, LONG_RUN, CAPTURED, CHECK, STORM, HELP]
+
+
+def written_commands():
+    """The commands whose writes are made to fail."""
+    return [*closed_commands(), [*LONG_RUN, "--capture", "frames.pcapng"]]

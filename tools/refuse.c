@@ -1,8 +1,10 @@
-/* Refuses requests for memory, or for a thread, of a program that this is preloaded into.
+/* Refuses requests for memory, or for a thread, of a program that this is preloaded into, or its writes.
  *
  * REFUSE_FROM  the number, counted from 1, of the first request that is refused; 0 refuses none
  * REFUSE_MANY  how many requests are refused from there on; 0 refuses all
  * REFUSE_COUNT a file of eight bytes, in which the number of requests is kept while the program runs
+ * REFUSE_WRITES where it is set, the requests that are counted and refused are the writes of the program, to all
+ *              but standard error: no room is left for one
  *
  * Requests are counted from the start of the program on, those of all its threads together. What the
  * loader asks for before is neither counted nor refused. */
@@ -25,9 +27,13 @@ extern void *__libc_memalign(size_t, size_t);
 static _Atomic uint64_t *requests;
 static uint64_t from;
 static uint64_t many;
+static int of_writes;
 
 typedef int start_thread(pthread_t *, const pthread_attr_t *, void *(*)(void *), void *);
 static start_thread *start;
+
+typedef ssize_t write_bytes(int, const void *, size_t);
+static write_bytes *give;
 
 static uint64_t number_in(const char *name) {
     const char *text = getenv(name);
@@ -48,23 +54,35 @@ __attribute__((constructor)) static void begin(void) {
     }
     from = number_in("REFUSE_FROM");
     many = number_in("REFUSE_MANY");
+    of_writes = getenv("REFUSE_WRITES") != NULL;
     start = (start_thread *)dlsym(RTLD_NEXT, "pthread_create");
-    if (!start) {
+    give = (write_bytes *)dlsym(RTLD_NEXT, "write");
+    if (!start || !give) {
         _exit(99);
     }
     requests = page;
 }
 
-static int is_refused(void) {
-    if (!requests) {
-        return 0;
-    }
+/* Whether one request more, which is counted, is refused. */
+static int is_next_refused(void) {
     uint64_t number = atomic_fetch_add(requests, 1) + 1;
-    if (!from || number < from || (many && number - from >= many)) {
+    return from && number >= from && (!many || number - from < many);
+}
+
+static int is_refused(void) {
+    if (!requests || of_writes || !is_next_refused()) {
         return 0;
     }
     errno = ENOMEM;
     return 1;
+}
+
+ssize_t write(int file, const void *bytes, size_t size) {
+    if (requests && of_writes && file != STDERR_FILENO && is_next_refused()) {
+        errno = ENOSPC;
+        return -1;
+    }
+    return give(file, bytes, size);
 }
 
 void *malloc(size_t size) {

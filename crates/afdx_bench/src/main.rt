@@ -4,10 +4,14 @@
 
 ghost use Rattle.bench_words.specs.Words.{IsInRange};
 
+mod files;
+
 use afdx_plan::{Config, demo_config};
 use bench_words::{Words, read_words, tell_words};
 use capture::write_capture;
-use plan_report::{End, Failure, check, read_plan, status_of};
+use files::{create, open, stand_in};
+use plan_report::{End, Failure, Halting, check, read_plan, status_of};
+use std::alloc::Global;
 use std::fs::File;
 use std::io::{self, BufWriter, IsTerminal, Write};
 use std::process::ExitCode;
@@ -20,39 +24,21 @@ use tx_script::{Played, RunFault, play_script, run_script};
 // How many bytes of a capture are written at a time, at most.
 const CAPTURE_BUFFER: usize = 65_536;
 
-/// Opens a file that a word names.
-fn open(rt: &HostRuntime, path: &str) -> Result<File, Failure> {
-    File::open(rt, path).map_err(|error| match error.kind() {
-        io::ErrorKind::OutOfMemory => Failure::Run(RunFault::Memory),
-        _ => Failure::Run(RunFault::Read),
-    })
-}
-
-/// Makes a file that a word names, or empties it.
-fn create(rt: &HostRuntime, path: &str) -> Result<File, Failure> {
-    File::create(rt, path).map_err(|error| match error.kind() {
-        io::ErrorKind::OutOfMemory => Failure::Run(RunFault::Memory),
-        _ => Failure::Run(RunFault::Write),
-    })
-}
-
 /// What becomes of a run whose output could not be written.
 fn unwritten(_error: io::Error) -> Failure {
     Failure::Run(RunFault::Write)
 }
 
-/// Runs a script, and then writes what both networks were handed to a file that a word names. The file
-/// is made before the run, and stays empty where the transcript could not be written or memory was
-/// refused.
+/// Runs a script, and then writes what both networks were handed to a file. The file stays empty if the
+/// transcript could not be written or memory was refused.
 fn run_captured<W: Write>(
-    rt: &HostRuntime,
+    alloc: Global,
     config: Config,
     script: File,
-    path: &str,
+    capture: File,
     writer: &mut W,
 ) -> Result<End, Failure> {
-    let alloc = rt.alloc();
-    let file = BufWriter::with_capacity(alloc, CAPTURE_BUFFER, create(rt, path)?);
+    let file = BufWriter::with_capacity(alloc, CAPTURE_BUFFER, Halting::new(capture));
     let mut output = file.map_err(|_| Failure::Run(RunFault::Memory))?;
     match play_script(alloc, config, script, writer) {
         Played::Whole { ended, a, b } => {
@@ -65,6 +51,31 @@ fn run_captured<W: Write>(
     }
 }
 
+/// Runs a script over a configuration, each by the path of its file. The configuration is read before the
+/// script is opened, and the file of a capture is made after that.
+fn run_files<W: Write>(
+    rt: &HostRuntime,
+    config: &str,
+    script: &str,
+    capture: Option<String>,
+    writer: &mut W,
+) -> Result<End, Failure> {
+    let alloc = rt.alloc();
+    let text = open(rt, config)?;
+    let config = read_plan(alloc, &text)?;
+    let script = open(rt, script)?;
+    match capture {
+        Some(path) => {
+            let file = create(rt, path.as_str(), &text, &script)?;
+            run_captured(alloc, config, script, file, writer)
+        }
+        None => {
+            let ran = run_script(alloc, config, script, writer);
+            ran.map(End::Ran).map_err(Failure::Run)
+        }
+    }
+}
+
 /// What tells of a storm on standard error, where that is a terminal.
 fn progress_of(rt: &HostRuntime, messages: u32) -> Option<Progress<'_, HostRuntime>> {
     if rt.stderr().is_terminal() {
@@ -74,8 +85,8 @@ fn progress_of(rt: &HostRuntime, messages: u32) -> Option<Progress<'_, HostRunti
     }
 }
 
-/// Does what the words ask for. The configuration is read before the script is opened. The runtime comes
-/// a second time for threads, since only a bound lets a function start them.
+/// Does what the words ask for. The runtime comes a second time for threads, since only a bound lets a
+/// function start them.
 fn obey<W: Write, T: Threads + Wait + Sync>(
     rt: &HostRuntime,
     threads: &T,
@@ -95,17 +106,7 @@ fn obey<W: Write, T: Threads + Wait + Sync>(
             config,
             script,
             capture,
-        } => {
-            let config = read_plan(alloc, open(rt, config.as_str())?)?;
-            let script = open(rt, script.as_str())?;
-            match capture {
-                Some(path) => run_captured(rt, config, script, path.as_str(), writer),
-                None => {
-                    let ran = run_script(alloc, config, script, writer);
-                    ran.map(End::Ran).map_err(Failure::Run)
-                }
-            }
-        }
+        } => run_files(rt, config.as_str(), script.as_str(), capture, writer),
         Words::Check { config } => {
             check(alloc, open(rt, config.as_str())?, writer)?;
             Ok(End::Told)
@@ -129,7 +130,8 @@ fn obey<W: Write, T: Threads + Wait + Sync>(
     }
 }
 
-/// Does what the words ask for, and writes what the output still holds.
+/// Does what the words ask for, and writes what the output still holds. After a write that failed there is
+/// no other.
 fn run<T: Threads + Wait + Sync>(
     rt: &HostRuntime,
     threads: &T,
@@ -137,7 +139,7 @@ fn run<T: Threads + Wait + Sync>(
 ) -> Result<End, Failure>
     requires { IsInRange words }
 {
-    let writer = BufWriter::new(rt.alloc(), io::writer(rt));
+    let writer = BufWriter::new(rt.alloc(), Halting::new(io::writer(rt)));
     let mut writer = writer.map_err(|_| Failure::Run(RunFault::Memory))?;
     let end = obey(rt, threads, words, &mut writer);
     match writer.flush() {
@@ -147,6 +149,7 @@ fn run<T: Threads + Wait + Sync>(
 }
 
 fn main(rt: HostRuntime) -> ExitCode {
+    let _stand_ins = [stand_in(&rt), stand_in(&rt), stand_in(&rt)];
     let end = match read_words(&rt) {
         Ok(words) => run(&rt, &rt, words).unwrap_or_else(End::Failed),
         Err(error) => tell_words(&rt, &error),
