@@ -44,7 +44,9 @@ fn failed(error: &io::Error, fault: RunFault) -> Failure {
 /// Whether a path leads to one of two open files.
 fn is_either(rt: &HostRuntime, path: &str, first: &File, second: &File) -> io::Result<bool> {
     match fs::metadata(rt, path) {
-        Ok(found) => Ok(is_same(&found, &first.metadata()?) || is_same(&found, &second.metadata()?)),
+        Ok(found) => Ok(
+            is_same(&found, &first.metadata()?) || is_same(&found, &second.metadata()?),
+        ),
         Err(error) if error.kind() == io::ErrorKind::NotFound => Ok(false),
         Err(error) => Err(error),
     }

@@ -145,11 +145,7 @@ impl Gate for Watched {
     fn answered(&self, _worker: usize, _call: u32) {}
 
     fn watched(&self, link: usize) {
-        let readings = if link == 0 {
-            &self.first
-        } else {
-            &self.second
-        };
+        let readings = if link == 0 { &self.first } else { &self.second };
         readings.fetch_add(1, Ordering::SeqCst);
     }
 }

@@ -83,10 +83,7 @@ pub(crate) fn plan_with_link_on_a(rt: &impl Abort, alloc: Global) -> Config {
 
 // End system 1 with a link for each of these: its identifier, its gap in milliseconds, and how many ports
 // it has on its one sub-VL. Ports are numbered from 1.
-pub(crate) fn links_text(
-    alloc: Global,
-    links: &[(u16, u16, u16)],
-) -> Result<String, AllocError> {
+pub(crate) fn links_text(alloc: Global, links: &[(u16, u16, u16)]) -> Result<String, AllocError> {
     let mut text = format!(in alloc; "[end_system]\nid = 1\n")?;
     for link in links {
         let (vl, gap, _ports) = *link;
