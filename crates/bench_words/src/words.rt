@@ -116,8 +116,10 @@ fn turns_of(matches: &ArgMatches<'_>) -> Option<u64>
 
 /// The number that a word writes in decimal digits alone, if it lies from 1 to `most`.
 fn count(word: &str, most: u64) -> Option<u64>
-    ensures some { IfSome result (λ n. (number_of most word.now ≡ Some n) × ((1 ≤ n) × (n ≤ most))) }
-    ensures none { IfNone result ((number_of most word.now ≡ None) ⊎ (number_of most word.now ≡ Some 0)) }
+    ensures some { IfSome result (λ n.
+        (number_of most word.now ≡ Some n) × ((1 ≤ n) × (n ≤ most))) }
+    ensures none { IfNone result
+        ((number_of most word.now ≡ None) ⊎ (number_of most word.now ≡ Some 0)) }
 {
     match number(word.as_bytes(), most) {
         Some(0) | None => None,

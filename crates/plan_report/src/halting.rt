@@ -49,7 +49,8 @@ impl<W: Write + Drop> Write for Halting<W> {
         ensures bytes { WriteAppends (W.contents self.old.writer) (W.contents self.new.writer)
             result buf.now }
         ensures halted { self.old.failed ≡ true → IsErr result × (self.new ≡ self.old) }
-        ensures failed { self.new.failed ≡ (self.old.failed || write_fails (length buf.now) result) }
+        ensures failed { self.new.failed
+            ≡ (self.old.failed || write_fails (length buf.now) result) }
     {
         if self.failed {
             return Err(failed_before());
