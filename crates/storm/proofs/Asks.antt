@@ -11,17 +11,17 @@ use Rattle.storm.specs.Workers.{asked_by, AreAtMost}
 
 -- a send that is accepted asks once
 pub asks_accepted : (old new : PortView) (bytes : List ℕ) → Accepts old bytes new → new.sender.asks ≡ old.sender.asks + 1
-asks_accepted old new bytes done = ap (λ (s : SenderView). s.asks) done.0.1.1
+asks_accepted old new bytes done = ap (λ (s : SenderView). s.asks) done.0.2.1
 
 -- a queue that refuses was asked once at most
 asks_queue : (old new : SenderView) (why : Why) → IsRefused old why new → new.asks ≤ old.asks + 1
 asks_queue old new Queue.Closed r =
     ⊎_elim
     (λ e. let same = ap (λ (s : SenderView). s.asks) e in omega (arith, same))
-    (λ e. let once = ap (λ (s : SenderView). s.asks) e.1 in omega (arith, once))
+    (λ e. let once = ap (λ (s : SenderView). s.asks) e.2 in omega (arith, once))
     r
 asks_queue old new Queue.Exhausted r = let same = ap (λ (s : SenderView). s.asks) r.1 in omega (arith, same)
-asks_queue old new Queue.Full r = let once = ap (λ (s : SenderView). s.asks) r.1 in omega (arith, once)
+asks_queue old new Queue.Full r = let once = ap (λ (s : SenderView). s.asks) r.2 in omega (arith, once)
 
 -- so does one that is refused
 pub asks_refused : (old new : PortView) (size : ℕ) (why : Refusal) → Refuses old size why new
@@ -30,7 +30,7 @@ asks_refused old new size Empty r = let same = ap (λ (p : PortView). p.sender.a
 asks_refused old new size TooLong r = let same = ap (λ (p : PortView). p.sender.asks) r.1 in omega (arith, same)
 asks_refused old new size Closed r = asks_queue old.sender new.sender Queue.Closed r.queue
 asks_refused old new size Exhausted r = asks_queue old.sender new.sender Queue.Exhausted r.queue
-asks_refused old new size Full r = asks_queue old.sender new.sender Queue.Full r.0.queue
+asks_refused old new size Full r = asks_queue old.sender new.sender Queue.Full r.queue
 
 -- one number more, which isn't above the other
 pub at_most_push : (low high : List ℕ) (n m : ℕ) → length low ≡ length high → AreAtMost low high → n ≤ m
