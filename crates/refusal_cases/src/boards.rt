@@ -3,6 +3,7 @@ ghost use Rattle.std.specs.Prelude.{◌≡◌, length};
 ghost use Rattle.status_board.specs.Views.{links_of, AreNew};
 
 use crate::trouble::Trouble;
+use status_board::laws::seen_begins;
 use status_board::{Board, Counts, Monitor, open_board};
 use std::alloc::Global;
 use std::io::Write;
@@ -29,6 +30,17 @@ pub fn tell_counts<W: Write>(out: &mut W, counts: Counts) -> Result<(), Trouble>
         "frames {frames}, bytes {bytes}, messages {messages}, last {last}"
     )?;
     Ok(())
+}
+
+/// Compares both ends of a new board of one link, which changes neither.
+pub fn compare_ends<R: Wait>(rt: &R, board: &mut Board, monitor: &mut Monitor)
+    requires board { length board.old ≡ 1 }
+    requires monitor { links_of monitor.old ≡ 1 }
+    requires new { AreNew board.old monitor.old }
+    ensures board { board.new ≡ board.old }
+    ensures monitor { monitor.new ≡ monitor.old }
+{
+    seen_begins(rt, board, monitor, 0);
 }
 
 /// Reads before the first entry and after it.

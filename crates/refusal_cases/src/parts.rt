@@ -4,22 +4,24 @@ ghost use Rattle.afdx_frame.specs.Twin.{twin_of};
 ghost use Rattle.afdx_frame.specs.declared.net.Net.TheVariants.{A as ForA};
 ghost use Rattle.subvl_queue.specs.Views.{AreOf};
 
-use crate::boards::publish_told;
+use crate::boards::{compare_ends, publish_told};
 use crate::configs::prepared;
 use crate::polls::message;
-use crate::queues::{gather_told, send_both, send_told, take_told};
+use crate::queues::{gather_told, send_paused_told, send_told, take_told};
 use crate::quiet::tell_fields;
-use crate::shelf::empty_shelf;
+use crate::shelf::{Shelf, empty_shelf};
 use crate::trouble::Trouble;
 use afdx_frame::{Cut, Frame, Net, twin};
+use afdx_plan::laws::flows_apart;
 use afdx_plan::{Bag, Config, Networks, jitter_ns};
-use redundant_mux::Mux;
+use redundant_mux::{MemNetwork, Mux};
 use status_board::open_board;
 use std::alloc::Global;
 use std::io::Write;
 use std::sync::Wait;
 use subvl_queue::{Receiver, Sender, make};
 use vl_shaper::Shaper;
+use vl_shaper::laws::one_each;
 
 /// Whether something is so, in a word.
 fn told(is_so: bool) -> &'static str {
@@ -41,10 +43,14 @@ fn send_and_close<W: Write>(
         second,
         third,
     } = messages;
-    send_both(out, sender, first, second)?;
+    send_told(out, sender, first)?;
+    send_paused_told(out, sender, second)?;
     take_told(out, receiver)?;
     writeln!(out, "closed {}", receiver.close())?;
-    send_told(out, sender, third)
+    send_told(out, sender, third)?;
+    let (index, accepted) = (sender.index(), sender.accepted());
+    writeln!(out, "sender {index} accepted {accepted}")?;
+    Ok(())
 }
 
 /// Takes a message out of a queue, closes it, and gathers its sender.
@@ -65,14 +71,17 @@ fn use_queue<W: Write>(
 
 /// Stamps a release, and tells which sub-VL is asked first and whether the link is due.
 fn use_shaper<W: Write>(out: &mut W) -> Result<(), Trouble> {
+    one_each();
     let mut shaper = Shaper::new(Bag::Ms1, 2);
+    let many = shaper.sub_vls();
     let first = shaper.turn(0);
     let number = shaper.stamp(0, 0);
     let next = shaper.turn(0);
     let (early, late) = (told(shaper.due(999)), told(shaper.due(1_000)));
     writeln!(
         out,
-        "asks {first}, number {number}, asks {next}\ndue at 999: {early}, at 1000: {late}"
+        "{many} sub-VLs: asks {first}, number {number}, asks {next}\n\
+        due at 999: {early}, at 1000: {late}"
     )?;
     Ok(())
 }
@@ -95,6 +104,20 @@ fn frame_for_a() -> Frame
     frame
 }
 
+/// Tells which networks of a mux stand, by each call that says so, and what each of them has.
+fn tell_mux<W: Write>(out: &mut W, mux: &Mux<Shelf, Shelf>) -> Result<(), Trouble> {
+    let standing = mux.standing();
+    let (a, b) = (told(standing.a), told(standing.b));
+    let (on_a, on_b) = (
+        told(mux.stands_for(Networks::OnlyA)),
+        told(mux.stands_for(Networks::OnlyB)),
+    );
+    writeln!(out, "A stands: {a} {on_a}, B stands: {b} {on_b}")?;
+    let (kept, failures) = (mux.network_a().kept.len(), mux.network_b().failures);
+    writeln!(out, "A keeps {kept}, B has failed {failures}")?;
+    Ok(())
+}
+
 /// Hands a frame to two networks, of which B takes none.
 fn use_mux<W: Write>(out: &mut W) -> Result<(), Trouble> {
     let mut mux = Mux::new(empty_shelf(4), empty_shelf(0));
@@ -106,9 +129,19 @@ fn use_mux<W: Write>(out: &mut W) -> Result<(), Trouble> {
         }
         Err(_) => writeln!(out, "both down")?,
     }
+    tell_mux(out, &mux)?;
     let (a, b) = mux.into_networks();
     let (a_kept, b_failures) = (a.kept.len(), b.failures);
     writeln!(out, "A kept {a_kept}, B failed {b_failures}")?;
+    Ok(())
+}
+
+/// Makes networks in memory, which are handed nothing.
+fn use_memory<W: Write>(alloc: Global, out: &mut W) -> Result<(), Trouble> {
+    let (fresh, failing) = (MemNetwork::new(alloc), MemNetwork::failing_at(alloc, 1));
+    let handed = fresh.handed().len() + failing.handed().len();
+    let (first, second) = (fresh.failures(), failing.failures());
+    writeln!(out, "handed {handed}, failures {first} and {second}")?;
     Ok(())
 }
 
@@ -125,7 +158,8 @@ fn use_cut<W: Write>(out: &mut W, config: &Config, message: Vec<u8>) -> Result<(
     }
     let (second, is_done) = {
         let mut cut = Cut::new(message, 0, &port);
-        let _first = cut.next_frame(&link, 1, 0, Net::A);
+        let mut first = Frame::new();
+        let _is_written = cut.write_next(&link, 1, 0, Net::A, &mut first);
         let second = cut.next_frame(&link, 1, 1, Net::A).unwrap_or_default();
         (second, cut.is_done())
     };
@@ -136,11 +170,16 @@ fn use_cut<W: Write>(out: &mut W, config: &Config, message: Vec<u8>) -> Result<(
 
 /// Tells what a configuration says.
 fn use_plan<W: Write>(out: &mut W, config: &Config) -> Result<(), Trouble> {
+    flows_apart(config);
+    writeln!(out, "end system {}", config.end_system())?;
     for link in config.links() {
         let place = config.link_index(link.id).unwrap_or(64);
-        let (gap, most) = (link.bag.micros(), link.lmax.bytes());
-        let room = link.lmax.room();
-        writeln!(out, "link at {place}: gap {gap}, lmax {most}, room {room}")?;
+        let (bag, gap) = (link.bag.ms(), link.bag.micros());
+        let (most, room) = (link.lmax.bytes(), link.lmax.room());
+        writeln!(
+            out,
+            "link at {place}: BAG {bag}, gap {gap}, lmax {most}, room {room}"
+        )?;
     }
     for port in config.ports() {
         let place = config.port_index(port.id).unwrap_or(256);
@@ -151,9 +190,15 @@ fn use_plan<W: Write>(out: &mut W, config: &Config) -> Result<(), Trouble> {
 }
 
 /// Uses what needs no queue and no board.
-fn use_rest<W: Write>(out: &mut W, config: &Config, long: Vec<u8>) -> Result<(), Trouble> {
+fn use_rest<W: Write>(
+    alloc: Global,
+    out: &mut W,
+    config: &Config,
+    long: Vec<u8>,
+) -> Result<(), Trouble> {
     use_shaper(out)?;
     use_mux(out)?;
+    use_memory(alloc, out)?;
     use_cut(out, config, long)?;
     use_plan(out, config)
 }
@@ -186,11 +231,12 @@ fn call_over<W: Write, R: Wait>(
     let messages = make_three(alloc)?;
     let long = vec![in alloc; 0xaau8; 1_472]?;
     let (receiver, senders) = make(alloc, 2, 1, 8)?;
-    let (board, monitor) = open_board(alloc, 1)?;
+    let (mut board, mut monitor) = open_board(alloc, 1)?;
     writeln!(out, "made")?;
     use_queue(out, receiver, senders, messages)?;
+    compare_ends(rt, &mut board, &mut monitor);
     publish_told(rt, out, board, monitor)?;
-    use_rest(out, config, long)
+    use_rest(alloc, out, config, long)
 }
 
 /// Makes a configuration, and calls the parts over it.

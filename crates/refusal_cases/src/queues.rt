@@ -29,6 +29,24 @@ pub fn send_told<W: Write>(
     Ok(())
 }
 
+/// Sends a message with a pause that does nothing, and tells why it is refused, if it is.
+pub fn send_paused_told<W: Write>(
+    out: &mut W,
+    sender: &mut Sender,
+    message: Vec<u8>,
+) -> Result<(), Trouble>
+    ensures { sender.new.queue ≡ sender.old.queue }
+{
+    if message.is_empty() || message.len() > GREATEST {
+        return Err(Trouble::Missing);
+    }
+    match sender.send_with(message, || {}) {
+        Ok(()) => writeln!(out, "send: Ok")?,
+        Err(refused) => writeln!(out, "send: {}", refused.why)?,
+    }
+    Ok(())
+}
+
 /// Takes the next message, and tells its bytes, if there is one.
 pub fn take_told<W: Write>(out: &mut W, receiver: &mut Receiver) -> Result<(), Trouble>
     ensures { receiver.new.queue ≡ receiver.old.queue }
@@ -60,6 +78,8 @@ fn take_left<W: Write>(out: &mut W, mut gathered: Gathered) -> Result<(), Troubl
         Some(item) => writeln!(out, "left: {} {:?}", item.port, item.bytes.as_slice())?,
         None => writeln!(out, "left: None")?,
     }
+    let drained = if gathered.is_drained() { "yes" } else { "no" };
+    writeln!(out, "drained: {drained}")?;
     Ok(())
 }
 

@@ -1,6 +1,7 @@
 //! An emitter that takes no memory once it is opened.
 ghost use Rattle.std.specs.Prelude.{◌≡◌, ◌<◌, IfOk, OnOk};
 ghost use Rattle.status_board.specs.Views.{links_of};
+ghost use Rattle.afdx_tx.specs.Emitter.{Tx};
 ghost use Rattle.afdx_tx.specs.Ports.{PortView, IsPortOfTx};
 
 use crate::boards::tell_counts;
@@ -53,6 +54,68 @@ fn open(alloc: Global) -> Result<Opened, Trouble>
             Err(Trouble::NotOpened)
         }
     }
+}
+
+/// Sends a message with a pause that does nothing, and tells how it is refused, if it is. The port stays
+/// one of its emitter.
+fn send_paused_told<W: Write>(
+    out: &mut W,
+    port: &mut TxPort,
+    message: Vec<u8>,
+) -> Result<(), Trouble>
+    ensures { (tx : Tx) → IsPortOfTx tx port.old → IsPortOfTx tx port.new }
+{
+    match port.send_with(message, || {}) {
+        Ok(()) => writeln!(out, "send: Ok")?,
+        Err(fault) => writeln!(out, "send: {}", fault.why)?,
+    }
+    Ok(())
+}
+
+/// Tells what a port is asked.
+fn tell_port<W: Write>(out: &mut W, port: &TxPort) -> Result<(), Trouble> {
+    let (id, accepted) = (port.id().0, port.accepted());
+    writeln!(out, "port {id} accepted {accepted}")?;
+    Ok(())
+}
+
+/// Tells what an emitter is asked between its polls.
+fn tell_emitter<W: Write>(out: &mut W, tx: &Emitter<Shelf, Shelf>) -> Result<(), Trouble> {
+    let (links, now) = (tx.config().links().len(), tx.now());
+    let (a, b) = (tx.network_a().kept.len(), tx.network_b().kept.len());
+    writeln!(out, "links {links}, now {now}, A has {a}, B has {b}")?;
+    match tx.counts(VlId(1)) {
+        Some(counts) => tell_counts(out, counts),
+        None => Err(Trouble::Missing),
+    }
+}
+
+/// Tells what an emitter is asked while it drains.
+fn tell_draining<W: Write>(out: &mut W, draining: &Draining<Shelf, Shelf>) -> Result<(), Trouble> {
+    let (links, now) = (draining.config().links().len(), draining.now());
+    let (a, b) = (
+        draining.network_a().kept.len(),
+        draining.network_b().kept.len(),
+    );
+    writeln!(out, "links {links}, now {now}, A has {a}, B has {b}")?;
+    match draining.counts(VlId(1)) {
+        Some(counts) => tell_counts(out, counts),
+        None => Err(Trouble::Missing),
+    }
+}
+
+/// Takes the networks back from an emitter that sent nothing.
+fn give_up<W: Write>(out: &mut W, opened: Opened) -> Result<(), Trouble> {
+    let Opened {
+        tx,
+        port: _port,
+        others: _others,
+        monitor: _monitor,
+    } = opened;
+    let (a, b) = tx.into_networks();
+    let (a, b) = (a.kept.len(), b.kept.len());
+    writeln!(out, "given up: A has {a}, B has {b}")?;
+    Ok(())
 }
 
 /// Sends a message, and polls twice.
@@ -128,6 +191,7 @@ fn drain<W: Write, R: Wait>(
     let answer = draining.poll(2_000);
     tell_report(out, 2_000, answer)?;
     draining.publish(rt);
+    tell_draining(out, draining)?;
     let done = if draining.is_done() {
         "done"
     } else {
@@ -179,7 +243,9 @@ fn use_opened<W: Write, R: Wait>(
     writeln!(out, "opened")?;
     send_and_poll(out, &mut opened.tx, &mut opened.port, long)?;
     publish_and_read(rt, out, &mut opened.tx, &mut opened.monitor)?;
-    send_told(out, &mut opened.port, short)?;
+    tell_emitter(out, &opened.tx)?;
+    send_paused_told(out, &mut opened.port, short)?;
+    tell_port(out, &opened.port)?;
     close_told(out, &mut opened.tx)
 }
 
@@ -207,10 +273,22 @@ fn use_all<W: Write, R: Wait>(
 }
 
 /// Sends a message of two frames, and one that is left to the drain. Both are made before the emitter is
-/// opened.
+/// opened, and so is another one, which sends nothing.
 pub fn send<W: Write, R: Wait>(rt: &R, alloc: Global, out: &mut W) -> Result<(), Trouble> {
     let long = vec![in alloc; 0xaau8; 1_472]?;
     let short = message(alloc, 1)?;
-    let opened = open(alloc)?;
-    use_all(rt, out, opened, long, short)
+    let spare = open(alloc)?;
+    match open(alloc) {
+        Ok(opened) => {
+            if let Err(trouble) = give_up(out, spare) {
+                drop(opened);
+                return Err(trouble);
+            }
+            use_all(rt, out, opened, long, short)
+        }
+        Err(trouble) => {
+            drop(spare);
+            Err(trouble)
+        }
+    }
 }
