@@ -13,7 +13,7 @@ use subvl_queue::{Item, Receiver, Refused, Sender, Why, make};
 // How many messages each sender sends.
 const MESSAGES: u8 = 100;
 
-// How often a message is sent again after Full, and how often the receiver looks.
+// How often each sender may try to send, and how often the receiver looks.
 const TURNS: u64 = 100_000_000;
 
 // The sender that comes back, if one does, is of the queue of the one that was given.
@@ -48,13 +48,14 @@ fn send_once(sender: &mut Sender, bytes: Vec<u8>) -> Result<bool, Vec<u8>>
     }
 }
 
-// Sends a message, and again after Full. Whether it was accepted.
-fn send_one(sender: &mut Sender, bytes: Vec<u8>) -> bool
+// Sends a message, and again after Full, where each try is a turn. Whether it was accepted.
+fn send_one(sender: &mut Sender, bytes: Vec<u8>, turns: &mut u64) -> bool
     requires { length bytes.items ≡ 2 }
     ensures { sender.new.queue ≡ sender.old.queue }
 {
     let mut next = bytes;
-    for _turn in 0..TURNS {
+    while *turns > 0 {
+        *turns -= 1;
         match send_once(sender, next) {
             Ok(accepted) => return accepted,
             Err(back) => next = back,
@@ -69,9 +70,10 @@ fn send_all(alloc: Global, mut sender: Sender) -> Option<Sender>
     ensures { IfSome result (λ s. s.queue ≡ sender.queue) }
 {
     let port = sender.index() as u8;
+    let mut turns = TURNS;
     for number in 0..MESSAGES {
         let bytes = message(alloc, [port, number]).ok()?;
-        if !send_one(&mut sender, bytes) {
+        if !send_one(&mut sender, bytes, &mut turns) {
             return Some(sender);
         }
     }

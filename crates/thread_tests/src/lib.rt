@@ -4,6 +4,8 @@
 #[cfg(test)]
 mod closing_tests;
 #[cfg(test)]
+mod publishing_tests;
+#[cfg(test)]
 mod sending_tests;
 #[cfg(test)]
 mod testing;

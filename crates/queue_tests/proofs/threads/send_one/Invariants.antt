@@ -1,8 +1,11 @@
 use Rattle.std.proofs.Common.{◌≡◌}
 use Rattle.queue_tests.proofs.threads.send_one.Given as goal
 
-abbrev pub invariant-loop-turn : goal.invariant-loop-turn
-invariant-loop-turn l = record {
+abbrev pub invariant-loop-turns : goal.invariant-loop-turns
+invariant-loop-turns l = record {
   queue : l.sender.queue ≡ l.fn.sender.queue;
   bytes : l.next.items ≡ l.fn.bytes.items;
 }
+
+abbrev pub decreases-loop-turns : goal.decreases-loop-turns
+decreases-loop-turns l = l.turns
