@@ -1,6 +1,6 @@
 -- A worked run: over the demonstration configuration with frames of up to 64 bytes, a message of two fragments is
 -- accepted, and its first frame is transmitted at time 0. Two polls of a drain follow, a gap apart.
-use Rattle.std.specs.Prelude.{◌≡◌, ◌+◌, ◌≤◌, ◌<◌, true, [], ◌∷◌}
+use Rattle.std.specs.Prelude.{false, ℕ, ◌≡◌, ◌+◌, ◌≤◌, ◌<◌, true, [], ◌∷◌}
 use Rattle.afdx_plan.specs.Config.{Plan, IsPlan, link_plan_at}
 use Rattle.afdx_plan.specs.Demo.{demo_plan, demo_link}
 use Rattle.afdx_plan.specs.declared.link_plan.LinkPlan.{LinkPlan}
@@ -34,28 +34,60 @@ abbrev pub front_line : Lines
 front_line = lines_of (entry 0 (front_frame A) ∷ []) (entry 0 (front_frame B) ∷ []) 0 0 true true
     (logged_for Both (entry 0 (front_frame A)) ∷ [])
 
--- and then the second, a gap later
+-- and then the second, at this time
+abbrev pub both_at : ℕ → Lines
+both_at now = lines_of (entry 0 (front_frame A) ∷ entry now (back_frame A) ∷ [])
+    (entry 0 (front_frame B) ∷ entry now (back_frame B) ∷ []) 0 0 true true
+    (logged_for Both (entry 0 (front_frame A)) ∷ logged_for Both (entry now (back_frame A)) ∷ [])
+
+-- a gap later
 abbrev pub both_lines : Lines
-both_lines = lines_of (entry 0 (front_frame A) ∷ entry 1000 (back_frame A) ∷ [])
-    (entry 0 (front_frame B) ∷ entry 1000 (back_frame B) ∷ []) 0 0 true true
-    (logged_for Both (entry 0 (front_frame A)) ∷ logged_for Both (entry 1000 (back_frame A)) ∷ [])
+both_lines = both_at 1000
+
+-- both networks failed with the second frame
+abbrev pub lost_line : Lines
+lost_line = lines_of (entry 0 (front_frame A) ∷ []) (entry 0 (front_frame B) ∷ []) 1 1 false false
+    (logged_for Both (entry 0 (front_frame A)) ∷ [])
 
 -- the first fragment
 abbrev pub front_entry : Entry
 front_entry = entry 0 (front_frame A)
 
--- The run meets what the law asks for, with polls up to 1,000 microseconds apart, and the second fragment is
--- released at 1,000, before the bound, 2,000. Without a poll the bound isn't reached, and it doesn't come.
+-- the second fragment is in the link's stream, by the bound of polls up to 1,000 microseconds apart, which is 2,000
+abbrev pub Comes : Lines → Type 0
+Comes lines = ComesBy (stream_at small_plan 0 lines) front_entry (0 + link_wait 1000 small_link)
+
+-- a network that carries the link is up
+abbrev pub IsUp : Lines → Type 0
+IsUp lines = stands_for (link_plan_at small_plan.links 0).networks lines ≡ true
+
+-- The run meets what the law asks for, and the second fragment is released at 1,000.
 pub record ComesInRun : Type 0 where
   pub valid : IsPlan small_plan
   pub ends : stream_at small_plan 0 front_line ≡ front_entry ∷ []
   pub more : more_in (front_frame A) ≡ true
   pub below : sub_in (front_frame A) < small_link.sub_vls
   pub runs : AreRuns small_plan (1000 ∷ 2000 ∷ []) front_line both_lines
-  pub stands : stands_for (link_plan_at small_plan.links 0).networks both_lines ≡ true
+  pub up : IsUp both_lines
   pub come : ComeWithin 1000 0 (1000 ∷ 2000 ∷ [])
   pub reach : 0 + link_wait 1000 small_link ≤ latest_of 0 (1000 ∷ 2000 ∷ [])
-  pub next : ComesBy (stream_at small_plan 0 both_lines) front_entry (0 + link_wait 1000 small_link)
+  pub next : Comes both_lines
+
+-- Each premise is needed. Without a poll the bound isn't reached, and the second fragment doesn't come. A poll that
+-- is late releases it after the bound. If both networks fail with its frame, it never comes.
+pub record NeedsARun : Type 0 where
   pub none : AreRuns small_plan [] front_line front_line
-  pub short : 0 + link_wait 1000 small_link ≤ latest_of 0 [] → ⊥
-  pub waits : ComesBy (stream_at small_plan 0 front_line) front_entry (0 + link_wait 1000 small_link) → ⊥
+  pub none_up : IsUp front_line
+  pub none_come : ComeWithin 1000 0 []
+  pub none_reach : 0 + link_wait 1000 small_link ≤ latest_of 0 [] → ⊥
+  pub none_next : Comes front_line → ⊥
+  pub late : AreRuns small_plan (5000 ∷ []) front_line (both_at 5000)
+  pub late_up : IsUp (both_at 5000)
+  pub late_come : ComeWithin 1000 0 (5000 ∷ []) → ⊥
+  pub late_reach : 0 + link_wait 1000 small_link ≤ latest_of 0 (5000 ∷ [])
+  pub late_next : Comes (both_at 5000) → ⊥
+  pub lost : AreRuns small_plan (1000 ∷ 2000 ∷ []) front_line lost_line
+  pub lost_up : IsUp lost_line → ⊥
+  pub lost_come : ComeWithin 1000 0 (1000 ∷ 2000 ∷ [])
+  pub lost_reach : 0 + link_wait 1000 small_link ≤ latest_of 0 (1000 ∷ 2000 ∷ [])
+  pub lost_next : Comes lost_line → ⊥
