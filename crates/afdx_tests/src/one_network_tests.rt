@@ -109,12 +109,7 @@ fn gather_behind_a<R: Abort + Wait>(rt: &R, alloc: Global) -> Gathered {
         messages: 1,
         last: 0,
     };
-    publish_and_read(
-        rt,
-        &mut opened.tx,
-        &mut opened.monitor,
-        [Counts::ZERO, one],
-    );
+    publish_and_read(rt, &mut opened.tx, &mut opened.monitor, [Counts::ZERO, one]);
     gather_two(rt, alloc, opened)
 }
 
