@@ -8,15 +8,14 @@ and looks at each capture with `tools/pcapng.py`. The last line is 'N passed, M 
 0 exactly where nothing failed.
 """
 import os
-import subprocess
 import sys
 import tempfile
 
 # (no compiled copy is left beside the scripts)
 sys.dont_write_bytecode = True
 import pcapng
-from refusals import ROOT, built, started
 from refusals_wanted import DEMO, ONE_FRAME, SCRIPT
+from trying import Tries, built, started
 
 # Two links, of which the second is on network B alone.
 TWO = DEMO.replace("capacity = 2", "capacity = 100") + """
@@ -195,22 +194,18 @@ CASES = [short_run, long_run, faulty_line, emptied, full_disk, no_folder, no_scr
 CASES += [closed_streams, own_files, own_stream, new_link]
 
 
-def check(case, build, program):
-    """Tells what came of a case, and says whether it is as promised."""
-    try:
-        with tempfile.TemporaryDirectory(prefix="bench-") as folder:
-            is_well = case(Room(folder), program)
-    except (OSError, subprocess.TimeoutExpired) as error:
-        print(error)
-        is_well = False
-    print(f"{case.__name__} by {build}: {'ok' if is_well else 'FAILED'}", flush=True)
-    return is_well
+def tried(case, program):
+    """What came of a case, in a folder of its own."""
+    with tempfile.TemporaryDirectory(prefix="bench-") as folder:
+        return [] if case(Room(folder), program) else ["not as promised"], ""
 
 
 def main(cases):
-    results = [check(case, *it) for it in built("afdx_bench").items() for case in cases]
-    print(f"{sum(results)} passed, {results.count(False)} failed")
-    return 1 if False in results else 0
+    tries = Tries()
+    for build, program in built("afdx_bench").items():
+        for case in cases:
+            tries.attempt(f"{case.__name__} by {build}", lambda: tried(case, program))
+    return tries.end()
 
 
 if __name__ == "__main__":

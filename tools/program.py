@@ -19,8 +19,8 @@ import tty
 # (no compiled copy is left beside the scripts)
 sys.dont_write_bytecode = True
 from captures import closing, ends, main
-from refusals import started
 from refusals_wanted import DEMO, HELP_TEXT, ONE_FRAME, REPORT, SCRIPT, TOTALS, WRONG_TEXT
+from trying import started
 
 # A line that is refused while running, and one that ends the run.
 FULL = "send 10 01\nsend 10 02\nsend 10 03\nat 0\n"

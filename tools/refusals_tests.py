@@ -73,7 +73,7 @@ def whole_run(bench, program, name):
     return whole, time.monotonic() - begun
 
 
-def faults_of(bench, folder, program, name, whole, seconds):
+def tried_test(bench, folder, program, name, whole, seconds):
     """Runs of a test that didn't end as promised, as texts; how many requests were refused; whether it was given up."""
     if whole.status:
         return [f"{name} with all memory: {whole}"], 0, False
@@ -83,24 +83,17 @@ def faults_of(bench, folder, program, name, whole, seconds):
     return faults, len(runs), len(runs) < len(numbers)
 
 
-def check_tests(bench, folder, program, build):
-    """Refuses requests of each test of the crate in this folder, tells what came of it, and says whether all is as promised."""
-    try:
-        names = names_of(program)
-        # (one after the other: a test may start many threads, and have so many turns for them)
-        wholes = [whole_run(bench, program, name) for name in names]
-        with ThreadPoolExecutor(len(os.sched_getaffinity(0))) as pool:
-            each = list(pool.map(lambda it: faults_of(bench, folder, program, it[0], *it[1]), zip(names, wholes)))
-        faults, refused = [it for found, _, _ in each for it in found], sum(many for _, many, _ in each)
-        late = sum(is_late for _, _, is_late in each)
-    except (OSError, subprocess.SubprocessError) as error:
-        names, faults, refused, late = [], [str(error)], 0, 0
+def tried_tests(bench, folder, program):
+    """Refuses requests of each test of the crate in this folder: what isn't as promised, and how many requests were refused."""
+    names = names_of(program)
+    # (one after the other: a test may start many threads, and have so many turns for them)
+    wholes = [whole_run(bench, program, name) for name in names]
+    with ThreadPoolExecutor(len(os.sched_getaffinity(0))) as pool:
+        each = list(pool.map(lambda it: tried_test(bench, folder, program, it[0], *it[1]), zip(names, wholes)))
+    faults, refused = [it for found, _, _ in each for it in found], sum(many for _, many, _ in each)
+    late = sum(is_late for _, _, is_late in each)
     if not faults and not refused:
         faults = ["no request was refused"]
     if late > most_given_up(len(names)):
         faults.append(f"{late} tests were given up, of which {most_given_up(len(names))} may be")
-    told = f"{refused} requests of {len(names)} tests refused, {late} tests given up"
-    print(f"tests of {os.path.basename(folder)} by {build}: {'FAILED' if faults else 'ok'}: {told}", flush=True)
-    for fault in faults[:8]:
-        print(f"    {fault[:600]}", flush=True)
-    return not faults
+    return faults, f"{refused} requests of {len(names)} tests refused, {late} tests given up"

@@ -1,0 +1,52 @@
+"""What the scripts that try built programs share: where these are, how one is started, how tries are shown and counted."""
+import os
+import shutil
+import subprocess
+
+ROOT = os.path.dirname(os.path.dirname(os.path.abspath(__file__)))
+# The compilers, and how the name of what each makes ends. The second may leave a program to the first.
+BUILDS = {"LLVM": "", "Rattle": ".by-rattle"}
+
+
+def compiler(variable="CC", names=("cc", "gcc", "clang")):
+    """The compiler that a variable names, or the first of these that is there; `None` where none is."""
+    return os.environ.get(variable) or next(filter(None, map(shutil.which, names)), None)
+
+
+def built(name, tests=""):
+    """What each compiler has made of a program, or of a crate's tests, by the compiler's name. LLVM makes each."""
+    paths = {build: f"{ROOT}/crates/{name}/out/{name}{tests}{ending}" for build, ending in BUILDS.items()}
+    return {build: path for build, path in paths.items() if build == "LLVM" or os.path.isfile(path)}
+
+
+def started(program, words, timeout=60, **how):
+    """A run of a program under its own name, whichever compiler made it."""
+    name = os.path.basename(program).partition(".")[0]
+    return subprocess.run([name, *words], executable=program, timeout=timeout, check=False, **how)
+
+
+class Tries:
+    """Counts what was tried, and how often it was as it has to be."""
+
+    def __init__(self):
+        self.passed, self.failed = 0, 0
+
+    def show(self, name, faults=(), more=""):
+        """Prints a try with the first of its faults, of which there are none where all is as it has to be."""
+        print(f"{name}: {'FAILED' if faults else 'ok'}{more and ': '}{more}", flush=True)
+        for fault in faults[:8]:
+            print(f"    {fault[:2000]}", flush=True)
+        self.passed, self.failed = self.passed + (not faults), self.failed + bool(faults)
+
+    def attempt(self, name, tried):
+        """Shows a try by what it returns, its faults and what is to be said of it, or by the error that stopped it."""
+        try:
+            faults, more = tried()
+        except (OSError, RuntimeError, subprocess.SubprocessError) as error:
+            faults, more = [str(error)], ""
+        self.show(name, faults, more)
+
+    def end(self):
+        """Prints the counts, and returns the exit status."""
+        print(f"{self.passed} passed, {self.failed} failed")
+        return 1 if self.failed or not self.passed else 0
