@@ -2,7 +2,7 @@
 use Rattle.std.specs.Prelude.{ℕ, ◌≡◌, ◌≤◌, ◌+◌, ◌-◌, List, [], ◌∷◌, ◌++◌, length, Bool, true, false, nat_eq, IsPermutation}
 use Rattle.afdx_frame.specs.declared.net.Net.{Net}
 use Rattle.afdx_frame.specs.declared.net.Net.TheVariants.{A, B}
-use Rattle.outbox.specs.View.{entry_at}
+use Rattle.redundant_mux.specs.Outbox.{entry_at}
 use Rattle.redundant_mux.specs.Lines.{log, IsMirrored}
 use Rattle.afdx_legal.specs.Done.{IsAllDone}
 use Rattle.afdx_plan.specs.Config.{Plan}

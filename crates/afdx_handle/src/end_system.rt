@@ -9,7 +9,7 @@ use crate::stage::Stage;
 use afdx_frame::Net;
 use afdx_plan::VlId;
 use afdx_tx::TxPort;
-use outbox::ROOM;
+use redundant_mux::ROOM;
 use status_board::Counts;
 use std::alloc::Global;
 use std::marker::Model;

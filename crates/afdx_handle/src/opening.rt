@@ -9,7 +9,7 @@ use crate::home::Home;
 use crate::stage::Stage;
 use afdx_config::{ConfigFault, read_config};
 use afdx_tx::open_tx;
-use outbox::Outbox;
+use redundant_mux::Outbox;
 use std::alloc::{AllocError, Global};
 use std::sync::Arc;
 use std::sync::atomic::AtomicBool;

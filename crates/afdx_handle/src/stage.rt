@@ -4,7 +4,7 @@ ghost use Rattle.std.specs.Prelude.{◌≡◌, ℕ};
 use afdx_frame::Net;
 use afdx_plan::VlId;
 use afdx_tx::{Draining, Emitter, PollFault, Report};
-use outbox::Outbox;
+use redundant_mux::Outbox;
 use status_board::Counts;
 
 /// An emitter over two outboxes, while its ports send, or once they are gathered.

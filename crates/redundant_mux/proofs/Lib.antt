@@ -1,2 +1,3 @@
 pub mod MirroredLines
 pub mod Enduring
+pub mod LastFrames

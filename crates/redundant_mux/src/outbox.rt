@@ -1,11 +1,13 @@
 //! A network that keeps the last frames that it was handed.
 ghost use Rattle.std.specs.Prelude.{◌≡◌, ◌+◌, ◌<◌, ◌≤◌, [], length, IfOk};
 ghost use Rattle.redundant_mux.specs.Entry.{entry};
-ghost use Rattle.outbox.specs.Last.{entry_of};
+ghost use Rattle.redundant_mux.specs.Memory.{entry_of};
 
+use crate::memory::Handed;
+use crate::network::{HandFault, Network};
+use crate::trail::Trail;
 use afdx_frame::{Frame, GREATEST_FRAME};
 use afdx_plan::Networks;
-use redundant_mux::{HandFault, Network, Trail};
 use std::alloc::{AllocError, Global};
 use std::boxed::BoxedSlice;
 use std::marker::Model;
@@ -15,19 +17,12 @@ use std::sync::atomic::{AtomicBool, Ordering};
 /// How many frames are kept: the most of one poll, one of each virtual link.
 pub const ROOM: usize = 64;
 
-/// A frame that was handed over, and its moment in microseconds.
-#[derive(Drop)]
-pub struct Kept {
-    pub at: u64,
-    pub frame: Frame,
-}
-
-/// A network that keeps the last 64 frames that it was handed, each under its number, and fails while
+/// A network that keeps the last 64 frames that it was handed, each under its number, and fails every `hand` while
 /// its flag is set. Contracts see all that was handed to it, and its failures.
 #[derive(Drop)]
 pub struct Outbox {
     // The frame with number n is in slot n modulo 64.
-    slots: BoxedSlice<Kept>,
+    slots: BoxedSlice<Handed>,
     count: u64,
     failures: u64,
     fails: Arc<AtomicBool, Global>,
@@ -38,8 +33,7 @@ pub struct Outbox {
 impl Model for Outbox {
     ghost use Rattle.std.specs.Box.{boxed_slice_items};
     ghost use Rattle.redundant_mux.specs.Logged.{entries_of};
-    ghost use Rattle.outbox.specs.View.{OutboxView};
-    ghost use Rattle.outbox.specs.Last.{KeepsLast};
+    ghost use Rattle.redundant_mux.specs.Outbox.{OutboxView, KeepsLast};
 
     ghost Value = { OutboxView };
 
@@ -52,12 +46,12 @@ impl Model for Outbox {
 }
 
 /// Slots for 64 frames.
-fn make_slots(alloc: Global) -> Result<Vec<Kept>, AllocError>
+fn make_slots(alloc: Global) -> Result<Vec<Handed>, AllocError>
     ensures { IfOk result (λ slots. length slots.items ≡ 64) }
 {
     let mut slots = Vec::with_capacity(alloc, ROOM)?;
     for _ in 0..ROOM {
-        slots.push(Kept {
+        slots.push(Handed {
             at: 0,
             frame: Frame::new(),
         })?;
@@ -66,7 +60,7 @@ fn make_slots(alloc: Global) -> Result<Vec<Kept>, AllocError>
 }
 
 /// Puts a frame in the place of another.
-fn fill(slot: &mut Kept, at: u64, frame: &[u8])
+fn fill(slot: &mut Handed, at: u64, frame: &[u8])
     requires { length frame.now ≤ GREATEST_FRAME }
     ensures { entry_of slot.new ≡ entry at frame.now }
 {
@@ -79,11 +73,11 @@ fn fill(slot: &mut Kept, at: u64, frame: &[u8])
 
 impl Outbox {
     ghost use Rattle.std.specs.Prelude.{◌≡◌, ◌↔◌, [], length, IsSome, IfSome, IfOk};
-    ghost use Rattle.outbox.specs.View.{IsAmongLast, entry_at};
-    ghost use Rattle.outbox.specs.Last.{entry_of};
+    ghost use Rattle.redundant_mux.specs.Outbox.{IsAmongLast, entry_at};
+    ghost use Rattle.redundant_mux.specs.Memory.{entry_of};
 
-    /// One that was handed nothing, with the flag while which is set it fails. It asks for all memory
-    /// that it ever takes.
+    /// An outbox that was handed nothing. It fails every `hand` while `fails` is set. It takes all the memory that
+    /// it ever needs.
     pub fn new(alloc: Global, fails: Arc<AtomicBool, Global>) -> Result<Outbox, AllocError>
         ensures { IfOk result (λ outbox. outbox ≡ record { handed = []; failures = 0 }) }
     {
@@ -105,7 +99,7 @@ impl Outbox {
 
     /// The frame with a number, counted from 0: `None` exactly where it isn't among the last 64 that
     /// were handed over.
-    pub fn frame(&self, number: u64) -> Option<&Kept>
+    pub fn frame(&self, number: u64) -> Option<&Handed>
         ensures some { IsSome result ↔ IsAmongLast (length self.now.handed) number }
         ensures frame { IfSome result (λ kept. entry_of kept.now ≡ entry_at self.now.handed number) }
     {
@@ -119,7 +113,7 @@ impl Outbox {
 impl Network for Outbox {
     ghost use Rattle.std.specs.Prelude.{◌≡◌, ◌+◌, ◌^◌, ◌<◌, ◌≤◌, [], ◌∷◌, ◌++◌, length, OnOk, OnErr};
     ghost use Rattle.redundant_mux.specs.Entry.{entry};
-    ghost use Rattle.outbox.specs.View.{OutboxView};
+    ghost use Rattle.redundant_mux.specs.Outbox.{OutboxView};
 
     ghost handed = { λ o. o.handed };
 
@@ -146,7 +140,7 @@ impl Network for Outbox {
             frame,
         );
         self.count += 1;
-        // Its own list alone is told, so the networks that it names are indifferent.
+        // Contracts read the entries alone, so any `Networks` will do.
         self.trail = Trail::with(&self.trail, &Networks::Both, &at, frame);
         Ok(())
     }

@@ -1,5 +1,5 @@
 use Rattle.std.proofs.Common.{◌≡◌, length}
-use Rattle.outbox.proofs.outbox.make_slots.Given as goal
+use Rattle.redundant_mux.proofs.outbox.make_slots.Given as goal
 
 abbrev pub invariant-loop : goal.invariant-loop
 invariant-loop l = length l.slots.items ≡ l.counter
