@@ -1,5 +1,5 @@
 -- Where all links are on both networks nothing is cut, and each link's own stream is in the longer list.
-use Rattle.std.proofs.Common.{◌≡◌, ℕ, ◌≤◌, ◌<◌, ◌&&◌, inl, inr, Bool, true, nat_eq, cond, List, [], ◌∷◌, length, map, take, refl, ap, sym, ◌∙◌, subst, arith}
+use Rattle.std.proofs.Common.{◌≡◌, ℕ, ◌≤◌, ◌<◌, ◌&&◌, inl, inr, true, nat_eq, List, [], ◌∷◌, length, map, take, refl, ap, sym, ◌∙◌, subst, arith}
 use Rattle.std.specs.Prelude.{All}
 use Rattle.std.proofs.lemmas.Bool.{cases_lt, and_from, eq-eqb, lt-ltb, le-ltb}
 use Rattle.std.proofs.lemmas.List.{length-map, length-take, take_all}
@@ -18,7 +18,9 @@ use Rattle.afdx_legal.specs.Legal.{IsKnown, AreKnown, is_on_both, on_both, AreTw
 use Rattle.afdx_legal.specs.Own.{longer, own_stream}
 use Rattle.afdx_laws.specs.Plans.{id_at}
 use Rattle.afdx_laws.specs.AllOnBoth.{IsOnBoth, AllOnBoth}
-use Rattle.afdx_laws.proofs.LinkFrames.{stream_side, stream_front}
+use Rattle.std.proofs.lemmas.Simd.{map-map}
+use Rattle.afdx_laws.proofs.ListLemmas.{map_same}
+use Rattle.afdx_laws.proofs.LegalLinks.{stream_side, stream_front}
 
 -- the link of a known frame is on both
 known_on_both : (links : List LinkPlan) (net : Net) (frame : List ℕ) → All IsOnBoth links → IsKnown links net frame
@@ -35,15 +37,13 @@ none_cut : (links : List LinkPlan) (net : Net) (es : List Entry) → All IsOnBot
     → on_both links es ≡ es
 none_cut links net [] all known = refl
 none_cut links net (e ∷ es) all known =
-    ap (λ (t : Bool). cond t (e ∷ on_both links es) (on_both links es)) (known_on_both links net e.frame all known.0)
-    ∙ ap (λ (ds : List Entry). e ∷ ds) (none_cut links net es all known.1)
+    rw (known_on_both links net e.frame all known.0)
+    (ap (λ (ds : List Entry). e ∷ ds) (none_cut links net es all known.1))
 
 -- entries that are turned twice
 side_side : (net other : Net) (es : List Entry) → map (side net) (map (side other) es) ≡ map (side net) es
-side_side net other [] = refl
-side_side net other (e ∷ es) =
-    ap (λ (f : List ℕ). entry e.at f ∷ map (side net) (map (side other) es)) (twin_twice net other e.frame)
-    ∙ ap (λ (ds : List Entry). side net e ∷ ds) (side_side net other es)
+side_side net other es = map-map (side net) (side other) es
+    ∙ map_same _ (side net) es (λ (e : Entry). ap (entry e.at) (twin_twice net other e.frame))
 
 -- a list of twins of the first entries is no longer
 no_longer : (net : Net) (whole front : List Entry) → front ≡ map (side net) (take (length front) whole)
@@ -58,31 +58,24 @@ own_in_a : (vl : ℕ) (a b : List Entry) → length b ≤ length a → AreTwins 
 own_in_a vl a b as_long twins =
     let front = stream_front B vl a b (twins.b_shorter as_long) in
     let less = no_longer B (link_stream vl a) (link_stream vl b) front in
-    ap (λ (t : Bool). map (side A) (cond t (link_stream vl b) (link_stream vl a)))
-    (le-ltb (length (link_stream vl a)) (length (link_stream vl b)) less)
-    ∙ sym (stream_side A vl a)
-    ∙ ap (λ (t : Bool). link_stream vl (map (side A) (cond t b a))) (sym (le-ltb (length a) (length b) as_long))
+    rw (le-ltb (length (link_stream vl a)) (length (link_stream vl b)) less, le-ltb (length a) (length b) as_long)
+    (sym (stream_side A vl a))
 
 -- and else in the second
 own_in_b : (vl : ℕ) (a b : List Entry) → length a < length b → AreTwins side a b
     → own_stream vl a b ≡ link_stream vl (map (side A) (longer a b))
-own_in_b vl a b shorter twins =
-    mine ∙ sym (stream_side A vl b)
-    ∙ ap (λ (t : Bool). link_stream vl (map (side A) (cond t b a))) (sym (lt-ltb (length a) (length b) shorter))
-  where
-    front : link_stream vl a ≡ map (side A) (take (length (link_stream vl a)) (link_stream vl b))
-    front = stream_front A vl b a (twins.a_shorter (omega arith))
-
-    mine : own_stream vl a b ≡ map (side A) (link_stream vl b)
-    mine = elim (cases_lt (length (link_stream vl a)) (length (link_stream vl b))) [
-      | inl less ↦ ap (λ (t : Bool). map (side A) (cond t (link_stream vl b) (link_stream vl a)))
-          (lt-ltb (length (link_stream vl a)) (length (link_stream vl b)) less)
-      | inr as_many ↦ ap (λ (t : Bool). map (side A) (cond t (link_stream vl b) (link_stream vl a)))
-          (le-ltb (length (link_stream vl a)) (length (link_stream vl b)) as_many)
-          ∙ ap (map (side A)) (front
-          ∙ ap (map (side A)) (take_all (length (link_stream vl a)) (link_stream vl b) as_many))
-          ∙ side_side A A (link_stream vl b)
-    ]
+own_in_b vl a b shorter twins = elim (cases_lt (length (link_stream vl a)) (length (link_stream vl b))) [
+  | inl less ↦ rw (
+    lt-ltb (length (link_stream vl a)) (length (link_stream vl b)) less,
+    lt-ltb (length a) (length b) shorter,
+  ) (sym (stream_side A vl b))
+  | inr as_many ↦ rw (
+    le-ltb (length (link_stream vl a)) (length (link_stream vl b)) as_many,
+    lt-ltb (length a) (length b) shorter,
+  ) (ap (map (side A)) (stream_front A vl b a (twins.a_shorter (omega arith))
+      ∙ ap (map (side A)) (take_all (length (link_stream vl a)) (link_stream vl b) as_many))
+      ∙ side_side A A (link_stream vl b) ∙ sym (stream_side A vl b))
+]
 
 -- the law
 pub all_on_both_holds : AllOnBoth

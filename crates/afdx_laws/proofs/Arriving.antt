@@ -1,5 +1,5 @@
 -- The receiver has the first of the accepted messages.
-use Rattle.std.proofs.Common.{◌≡◌, ℕ, ◌%◌, ◌≤◌, nat_eq, List, [], ◌∷◌, ◌++◌, length, map, take, drop, refl, ap, sym, ◌∙◌, arith}
+use Rattle.std.proofs.Common.{◌≡◌, ℕ, ◌%◌, ◌≤◌, nat_eq, List, ◌++◌, length, map, take, drop, ap, sym, ◌∙◌, arith}
 use Rattle.std.specs.Prelude.{All}
 use Rattle.std.proofs.lemmas.List.{append_assoc, map-append, take-append-drop, length-map, length-append, take-take, take-map}
 use Rattle.std.proofs.lemmas.Simd.{map-map}
@@ -16,18 +16,14 @@ use Rattle.afdx_laws.specs.Receiver.{begin, received, carried}
 use Rattle.afdx_frame.specs.Header.{sub_in, number_in}
 use Rattle.afdx_laws.specs.Networks.{IsLong, most_carried}
 use Rattle.afdx_laws.specs.Loss.{next_alone, frames_at}
-use Rattle.afdx_laws.proofs.Arrivals.{exactly_once_holds}
+use Rattle.afdx_laws.proofs.Receiving.{exactly_once_holds}
 use Rattle.afdx_laws.proofs.Losing.{loss_masked_holds}
 use Rattle.afdx_laws.specs.Delivery.{delivered, of_sub, sent_from, HasByte}
 use Rattle.afdx_laws.specs.Buffers.{HasUpTo}
 use Rattle.afdx_laws.specs.Messages.{fragment_in, messages_in, IsSent, IsSending, AreFirst, MessagesArrive, DespiteLoss}
+use Rattle.afdx_laws.proofs.ListLemmas.{map_same}
 use Rattle.afdx_laws.proofs.InOrder.{in_order_holds}
 use Rattle.afdx_laws.proofs.Reading.{same_fragment, read_any, reads_all, reads_frames, of_sub_is, length-datagram, drop-datagram}
-
--- functions that agree
-map_same : {X Y : Type 0} (f g : X → Y) (xs : List X) → ((x : X) → f x ≡ g x) → map f xs ≡ map g xs
-map_same f g [] same = refl
-map_same f g (x ∷ xs) same = ap (λ y. y ∷ map f xs) (same x) ∙ ap (λ ys. g x ∷ ys) (map_same f g xs same)
 
 -- the fragments that were received
 fragments_received : (got sent : List (List ℕ)) → map (twin_of A) got ≡ map (twin_of A) sent
@@ -76,74 +72,63 @@ few_bytes end_system sub accepted sent =
 -- a sub-VL's fragments in frames that are the first of the stream's
 own_fragments : (sub count : ℕ) (stream got : List (List ℕ)) → map (twin_of A) got ≡ take count (map (twin_of A) stream)
     → of_sub sub (map fragment_in got) ≡ map fragment_in (those_with sub_in sub (take count stream))
-own_fragments sub count stream got first_frames =
-    let once : map (twin_of A) got ≡ map (twin_of A) (take count stream) = first_frames
-    ∙ take-map (twin_of A) count stream in
-    ap (of_sub sub) (fragments_received got (take count stream) once) ∙ of_sub_is sub (take count stream)
+own_fragments sub count stream got first =
+    ap (of_sub sub) (fragments_received got (take count stream) (first ∙ take-map (twin_of A) count stream))
+    ∙ of_sub_is sub (take count stream)
 
 -- they are the first of its datagrams
 pub first_come : (end_system room sub count : ℕ) (accepted : List Sent) (stream got : List (List ℕ))
     → IsSending end_system room sub accepted stream
     → map (twin_of A) got ≡ take count (map (twin_of A) stream)
     → IsPrefixOf (of_sub sub (map fragment_in got)) (sent_from room sub 0 (datagrams_of end_system accepted))
-first_come end_system room sub count accepted stream got sending first_frames =
-    let prefix = sending.first in
-    let mine = own_fragments sub count stream got first_frames in
+first_come end_system room sub count accepted stream got sending first =
+    let front : List (List ℕ) = those_with sub_in sub (take count stream) in
+    let back : List (List ℕ) = those_with sub_in sub (drop count stream) in
     let read = reads_all accepted end_system room sub 0 sending.link.numbered sending.link.least sending.link.greatest
     sending.sent in
-    let rest : List (List ℕ) = map blanked (those_with sub_in sub (drop count stream)) ++ prefix.0 in
-    let split : fragments end_system room A accepted ≡ map blanked (those_with sub_in sub (take count stream)) ++ rest =
-    sym prefix.1 ∙ ap (λ (xs : List (List ℕ)). map blanked xs ++ prefix.0) (sub_take sub count stream)
-    ∙ ap (λ (xs : List (List ℕ)). xs ++ prefix.0)
-    (map-append blanked (those_with sub_in sub (take count stream)) (those_with sub_in sub (drop count stream)))
-    ∙ append_assoc (map blanked (those_with sub_in sub (take count stream)))
-    (map blanked (those_with sub_in sub (drop count stream))) prefix.0 in
-    let long_sub : All IsLong (those_with sub_in sub (take count stream)) =
-    All-filter (λ (f : List ℕ). nat_eq (word_at f 18 % 4) sub) IsLong (take count stream)
-    (All-take IsLong count stream sending.frames.long) in
-    let frames : map read_any (fragments end_system room A accepted) ≡ map fragment_in
-    (those_with sub_in sub (take count stream)) ++ map read_any rest =
-    reads_frames (those_with sub_in sub (take count stream))
-    (fragments end_system room A accepted) rest read.each long_sub split in
-    let came : sent_from room sub 0 (datagrams_of end_system accepted) ≡ of_sub sub (map fragment_in got) ++ map read_any rest =
-    sym read.are ∙ frames ∙ ap (λ (xs : List (ℕ × Fragment)). xs ++ map read_any rest) (sym mine) in
-    (map read_any rest, sym came)
+    let rest : List (List ℕ) = map blanked back ++ sending.first.0 in
+    let split : fragments end_system room A accepted
+    ≡ map blanked (those_with sub_in sub (take count stream))
+    ++ (map blanked (those_with sub_in sub (drop count stream)) ++ sending.first.0) =
+    sym sending.first.1 ∙ ap (λ (xs : List (List ℕ)). xs ++ sending.first.0)
+    (ap (map blanked) (sub_take sub count stream) ∙ map-append blanked front back)
+    ∙ append_assoc (map blanked front) (map blanked back) sending.first.0 in
+    let long : All IsLong (those_with sub_in sub (take count stream)) =
+    All-filter (λ (f : List ℕ). nat_eq (word_at f 18 % 4) sub)
+    IsLong (take count stream) (All-take IsLong count stream sending.frames.long) in (
+      map read_any rest,
+      ap (λ (xs : List (ℕ × Fragment)). xs ++ map read_any rest) (own_fragments sub count stream got first)
+          ∙ sym (reads_frames front (fragments end_system room A accepted) rest read.each long split) ∙ read.are,
+    )
 
 -- what is in frames that are the first of the stream's
 pub arrived : (end_system room sub count : ℕ) (accepted : List Sent) (stream got : List (List ℕ))
     → IsSending end_system room sub accepted stream
     → map (twin_of A) got ≡ take count (map (twin_of A) stream)
     → AreFirst end_system room sub accepted (take count stream) (messages_in sub got)
-arrived end_system room sub count accepted stream got sending first_frames =
-    let small = sending.link.numbered in
-    let least = sending.link.least in
-    let greatest = sending.link.greatest in
-    let sent = sending.sent in
+arrived end_system room sub count accepted stream got sending first =
     let datagrams : List (List ℕ) = datagrams_of end_system accepted in
-    let mine : of_sub sub (map fragment_in got) ≡ map fragment_in (those_with sub_in sub (take count stream)) =
-    own_fragments sub count stream got first_frames in
+    let least = sending.link.least in
     let ends = in_order_holds room sub datagrams (map fragment_in got) (omega arith)
-    (some_bytes end_system sub accepted sent)
-    (first_come end_system room sub count accepted stream got sending first_frames) in
-    let out_is : messages_in sub got ≡ take ends.0 (map (λ (s : Sent). s.bytes) accepted) =
-    sym (map-map (drop 8) (λ (e : ℕ × List ℕ). e.1) (of_sub sub (delivered (λ key. empty) (map fragment_in got))))
-    ∙ ap (map (drop 8)) ends.1 ∙ bytes_of end_system ends.0 accepted in
+    (some_bytes end_system sub accepted sending.sent)
+    (first_come end_system room sub count accepted stream got sending first) in
     record {
       many = ends.0;
-      are = out_is;
+      are = sym (map-map (drop 8) (λ (e : ℕ × List ℕ). e.1)
+          (of_sub sub (delivered (λ key. empty) (map fragment_in got))))
+          ∙ ap (map (drop 8)) ends.1 ∙ bytes_of end_system ends.0 accepted;
       all = λ j few enough.
-          let first = reads_all (take j accepted) end_system room sub 0 small least greatest
-          (All-take (IsSent sub) j accepted sent) in
-          let count_frags : length (fragments end_system room A (take j accepted)) ≡ length
-          (sent_from room sub 0 (map (λ (s : Sent). datagram end_system s.port s.bytes) (take j accepted))) =
-          sym (length-map (fragments end_system room A (take j accepted)) read_any) ∙ ap length first.are in
-          let of_taken : length (sent_from room sub 0 (take j datagrams)) ≡ length
-          (sent_from room sub 0 (map (λ (s : Sent). datagram end_system s.port s.bytes) (take j accepted))) =
-          ap (λ (ds : List (List ℕ)). length (sent_from room sub 0 ds))
-          (take-map (λ (s : Sent). datagram end_system s.port s.bytes) j accepted) in
-          let mine_count : length (of_sub sub (map fragment_in got)) ≡ length (those_with sub_in sub (take count stream)) =
-          ap length mine ∙ length-map (those_with sub_in sub (take count stream)) fragment_in in
-          let all_count : length datagrams ≡ length accepted =
+          let read = reads_all (take j accepted) end_system room sub 0 sending.link.numbered least sending.link.greatest
+          (All-take (IsSent sub) j accepted sending.sent) in
+          let fragments_are : length (fragments end_system room A (take j accepted))
+          ≡ length (sent_from room sub 0 (take j (datagrams_of end_system accepted))) =
+          sym (length-map (fragments end_system room A (take j accepted)) read_any) ∙ ap length read.are
+          ∙ sym (ap (λ (ds : List (List ℕ)). length (sent_from room sub 0 ds))
+          (take-map (λ (s : Sent). datagram end_system s.port s.bytes) j accepted)) in
+          let mine : length (of_sub sub (map fragment_in got)) ≡ length (those_with sub_in sub (take count stream)) =
+          ap length (own_fragments sub count stream got first)
+          ∙ length-map (those_with sub_in sub (take count stream)) fragment_in in
+          let all : length datagrams ≡ length accepted =
           length-map accepted (λ (s : Sent). datagram end_system s.port s.bytes) in
           ends.2 j (omega arith) (omega arith);
     }

@@ -1,5 +1,6 @@
--- Lists that are the same.
-use Rattle.std.proofs.Common.{◌≡◌, List, [], ◌∷◌, ◌++◌, length, refl, sym, subst}
+-- Lists that are the same, and what holds of the one place of a list.
+use Rattle.std.proofs.Common.{◌≡◌, ℕ, zero, suc, ◌<◌, false, nat_eq, List, [], ◌∷◌, ◌++◌, length, map, refl, ap, sym, ◌∙◌, subst, arith}
+use Rattle.std.proofs.lemmas.Bool.{eq-eqb, false≢true}
 use Rattle.std.specs.Prelude.{All}
 use Rattle.std.proofs.Math.Seq.{take-append_seam}
 use Rattle.std.proofs.lemmas.List.Elements.{All-take}
@@ -22,3 +23,23 @@ pub all_front : {X : Type 0} (P : X → Type 0) (xs rest ys : List X) → xs ++ 
 all_front {X = X} P xs rest ys is all =
     subst (λ (zs : List X). All P zs) (take-append_seam xs rest)
     (All-take P (length xs) (xs ++ rest) (subst (λ (zs : List X). All P zs) (sym is) all))
+
+-- functions that agree
+pub map_same : {X Y : Type 0} (f g : X → Y) (xs : List X) → ((x : X) → f x ≡ g x) → map f xs ≡ map g xs
+map_same f g [] same = refl
+map_same f g (x ∷ xs) same = ap (λ y. y ∷ map f xs) (same x) ∙ ap (λ ys. g x ∷ ys) (map_same f g xs same)
+
+-- lists of other lengths are others
+pub other_length : {X : Type 0} {xs ys : List X} → nat_eq (length xs) (length ys) ≡ false → xs ≡ ys → ⊥
+other_length other is = false≢true (sym other ∙ eq-eqb _ _ (ap length is))
+
+-- what holds of 0 holds below 1
+pub below_one : (P : ℕ → Type 0) → P 0 → (k : ℕ) → k < 1 → P k
+below_one P p zero below = p
+below_one P p (suc k) below = absurd (omega arith)
+
+-- and of two places
+pub below_both : (P : ℕ → ℕ → Type 0) (most : ℕ → ℕ) → most 0 ≡ 1 → P 0 0 → (k s : ℕ) → k < 1 → s < most k → P k s
+below_both P most one p zero zero in_k in_s = p
+below_both P most one p zero (suc s) in_k in_s = absurd (omega arith)
+below_both P most one p (suc k) s in_k in_s = absurd (omega arith)

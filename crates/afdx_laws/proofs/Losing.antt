@@ -1,20 +1,17 @@
 -- The whole network makes good what the other one loses.
-use Rattle.std.proofs.Common.{◌≡◌, ℕ, zero, suc, ◌+◌, ◌-◌, ◌≤◌, ◌<◌, ◌⊎◌, inl, inr, Bool, true, false, nat_eq, cond, max, List, [], ◌∷◌, ◌++◌, length, map, take, get_or, refl, ap, sym, ◌∙◌, subst, arith}
-use Rattle.std.specs.Prelude.{Option, Some, None, All}
+use Rattle.std.proofs.Common.{◌&&◌, ◌≡◌, ℕ, zero, suc, ◌+◌, ◌-◌, ◌≤◌, ◌<◌, ◌⊎◌, inl, inr, Bool, true, false, nat_eq, cond, max, List, [], ◌∷◌, ◌++◌, length, map, take, get_or, refl, ap, sym, ◌∙◌, subst, arith}
+use Rattle.std.specs.Prelude.{Option, Some, None}
 use Rattle.std.proofs.lemmas.Bool.{cases_lt, cases_Bool, cases_order, and_from, and_parts, ne_eqb, false≢true}
 use Rattle.std.proofs.lemmas.List.{append-nil, get_or-map, length-map}
 use Rattle.afdx_plan.specs.Numbers.{sequence_number}
 use Rattle.afdx_frame.specs.declared.net.Net.{Net}
 use Rattle.afdx_frame.specs.declared.net.Net.TheVariants.{A, B}
 use Rattle.afdx_frame.specs.Twin.{twin_of}
-use Rattle.afdx_legal.specs.Streams.{IsNumbered}
 use Rattle.afdx_laws.specs.Receiver.{Tolerance, State, other, begin, is_accepted, is_valid, is_ahead, received, carried, with_seen, with_accepted, seen_on}
 use Rattle.afdx_frame.specs.Header.{number_in}
-use Rattle.afdx_laws.specs.Networks.{IsLong}
 use Rattle.afdx_laws.specs.Loss.{same_net, AreWithin, StartsFirst, AreClose, BeginsFirst, frame_at, LossMasked, FirstComes, MaskedFromFirst, LossNotMasked, NumbersClash}
 use Rattle.afdx_laws.proofs.NumberLemmas.{last, new_next, valid_next, old_copy, old_is_ahead, next_is, differ}
-use Rattle.afdx_laws.proofs.Receiving.{IsPlaced, grows}
-use Rattle.afdx_laws.proofs.Arrivals.{placed}
+use Rattle.afdx_laws.proofs.Receiving.{IsPlaced, grows, placed}
 
 -- a number too far ahead isn't the next one
 too_far : (c i : ℕ) → 1 ≤ c → c < i → i < c + 255 → is_ahead 1 (last c) (sequence_number i) ≡ false
@@ -51,18 +48,15 @@ seen_accepted : (net : Net) (n : ℕ) (state : State) → seen_on net (with_acce
 seen_accepted A n state = refl
 seen_accepted B n state = refl
 
+one_more : (b : ℕ) → suc b ≡ b + 1
+one_more b = omega arith
+
 -- what was seen last on the whole network, after a frame
 seen_after : (whole net : Net) (b i : ℕ) (state : State) → seen_on whole state ≡ last b
     → (same_net whole net ≡ true → i ≡ b)
     → seen_on whole (with_seen net (sequence_number i) state) ≡ last (cond (same_net whole net) (b + 1) b)
 seen_after A A b i state seen own = ap (λ (k : ℕ). last (suc k)) (own refl) ∙ ap last (one_more b)
-  where
-    one_more : (b : ℕ) → suc b ≡ b + 1
-    one_more b = omega arith
 seen_after B B b i state seen own = ap (λ (k : ℕ). last (suc k)) (own refl) ∙ ap last (one_more b)
-  where
-    one_more : (b : ℕ) → suc b ≡ b + 1
-    one_more b = omega arith
 seen_after A B b i state seen own = seen
 seen_after B A b i state seen own = seen
 
@@ -116,112 +110,83 @@ masks {F = F} number h stream frame check whole
     ((net, i) ∷ es) state high b c some each close first seen took behind within begun =
     let tolerance : Tolerance = record { check = check; window = 1 } in
     let here = close.0 in
+    let near = here.near in
+    let far = here.ahead in
     let is = each net i here.inside in
     let f : F = frame net i in
     let rest : List (Net × F) = map (λ (e : Net × ℕ). (e.0, frame e.0 e.1)) es in
-    let near = here.near in
-    let far = here.ahead in
-    let number_is : number f ≡ sequence_number i = is.1 in
     let after : State = with_seen net (number f) state in
     let seen_next : seen_on whole after ≡ last (cond (same_net whole net) (b + 1) b) =
-    ap (λ (n : ℕ). seen_on whole (with_seen net n state)) number_is ∙ seen_after whole net b i state seen here.in_order in
+    ap (λ (n : ℕ). seen_on whole (with_seen net n state)) is.1 ∙ seen_after whole net b i state seen here.in_order in
     let total = count_whole whole net i b es in
-    elim (cases_Bool (is_accepted tolerance state net (number f))) [
+    let valid : Bool = is_valid check (seen_on net state) (sequence_number i) in
+    let new : Bool = is_ahead 1 (last c) (sequence_number i) in
+    let test : is_accepted tolerance state net (number f) ≡ (valid && new) = rw (is.1, took) refl in
+    elim (cases_Bool (valid && new)) [
       | inl takes ↦
-          let parts = and_parts (is_valid check (seen_on net state) (number f))
-          (is_ahead 1 state.accepted (number f)) takes in
-          let new : is_ahead 1 (last c) (sequence_number i) ≡ true =
-          sym (ap (λ (o : Option ℕ). is_ahead 1 o (number f)) took ∙ ap (is_ahead 1 (last c)) number_is)
-          ∙ parts.1 in
-          let next : i ≡ c = is_next c i high near within (omega arith) first begun new in
-          let taken : (with_accepted (number f) after).accepted ≡ last (suc c) = ap Some number_is
-          ∙ ap (λ (k : ℕ). last (suc k)) next in
+          let next : i ≡ c = is_next c i high near within (omega arith) first begun (and_parts valid new takes).1 in
+          let taken : (with_accepted (number f) after).accepted ≡ last (suc c) =
+          ap Some (is.1 ∙ ap sequence_number next) in
           let more = masks number h stream frame check whole es (with_accepted (number f) after) (max high (i + 1))
           (cond (same_net whole net) (b + 1) b) (suc c) some each close.1 (λ none. absurd (omega arith))
           (seen_accepted whole (number f) after ∙ seen_next) taken (grown_le_suc (same_net whole net) b c behind)
           (omega arith) (inr (omega arith)) in
-          let step : received number tolerance state ((net, f) ∷ rest) ≡ f ∷ received number tolerance
-          (with_accepted (number f) after) rest = rw takes refl in
           let reach = more.reaches in
           record {
             many = more.many;
             reaches = omega arith;
-            are = ap (λ (fs : List F). take c stream ++ map h fs) step
-                ∙ grows h stream c f (map h (received number tolerance (with_accepted (number f) after) rest))
+            are = rw (test ∙ takes)
+                (grows h stream c f (map h (received number tolerance (with_accepted (number f) after) rest))
                 (subst (λ (k : ℕ). k < length stream) next is.0)
                 (is.2 ∙ ap (λ (k : ℕ). get_or stream k (h f)) next)
-                ∙ more.are;
+                ∙ more.are);
           }
       | inr drops ↦
           let own_behind : same_net whole net ≡ true → b < c = λ own. elim (cases_lt b c) [
             | inl less ↦ less
             | inr equal ↦
                 let c_is : c ≡ b = omega arith in
-                let i_is : i ≡ b = here.in_order own in
-                let v : is_valid check (seen_on net state) (number f) ≡ true =
-                ap (λ (o : Option ℕ). is_valid check o (number f)) (seen_own whole net state own ∙ seen)
-                ∙ ap (is_valid check (last b)) (number_is ∙ ap sequence_number i_is)
-                ∙ valid_next check b some in
-                let a : is_ahead 1 state.accepted (number f) ≡ true =
-                ap (λ (o : Option ℕ). is_ahead 1 o (number f)) (took ∙ ap last c_is)
-                ∙ ap (is_ahead 1 (last b)) (number_is ∙ ap sequence_number i_is) ∙ new_next 1 b (omega arith) in
+                let v : is_valid check (seen_on net state) (sequence_number i) ≡ true =
+                rw (here.in_order own, seen_own whole net state own ∙ seen) (valid_next check b some) in
+                let a : is_ahead 1 (last c) (sequence_number i) ≡ true =
+                rw (here.in_order own, c_is) (new_next 1 b (omega arith)) in
                 absurd (one_answer (and_from _ _ v a) drops)
           ] in
           let started : 1 ≤ c = elim begun [
             | inr yet ↦ yet
             | inl none ↦
                 let c_is : c ≡ 0 = omega arith in
-                let i_is : i ≡ 0 = first none in
-                let n_is : number f ≡ 0 = number_is ∙ ap sequence_number i_is in
-                let v : is_valid check (seen_on net state) (number f) ≡ true =
-                ap (is_valid check (seen_on net state)) n_is in
-                let a : is_ahead 1 state.accepted (number f) ≡ true =
-                ap (λ (o : Option ℕ). is_ahead 1 o (number f)) (took ∙ ap last c_is) in
+                let v : is_valid check (seen_on net state) (sequence_number i) ≡ true = rw (first none) refl in
+                let a : is_ahead 1 (last c) (sequence_number i) ≡ true = rw c_is refl in
                 absurd (one_answer (and_from _ _ v a) drops)
           ] in
           let more = masks number h stream frame check whole es after (max high (i + 1))
           (cond (same_net whole net) (b + 1) b) c some each close.1 (λ none. absurd (omega arith))
           seen_next (accepted_seen net (number f) state ∙ took)
           (grown_le (same_net whole net) b c behind own_behind) (omega arith) (inr started) in
-          let step : received number tolerance state ((net, f) ∷ rest) ≡ received number tolerance after rest =
-          rw drops refl in
           let reach = more.reaches in
-          record {
-            many = more.many;
-            reaches = omega arith;
-            are = ap (λ (fs : List F). take c stream ++ map h fs) step ∙ more.are;
-          }
+          record { many = more.many; reaches = omega arith; are = rw (test ∙ drops) more.are }
     ]
 
 -- the law
 pub loss_masked_holds : LossMasked
 loss_masked_holds whole check stream came some frames close =
-    let long = frames.long in
-    let numbered = frames.numbered in
+    let size = length-map stream (twin_of A) in
     let each : (net : Net) (i : ℕ) → i < length (map (twin_of A) stream)
-    → IsPlaced number_in (twin_of A) (map (twin_of A) stream) i (frame_at stream net i) =
-    λ net i inside. at stream long numbered net i inside in
-    let close_map : AreClose whole (length (map (twin_of A) stream)) 0 0 came =
-    subst (λ (n : ℕ). AreClose whole n 0 0 came) (sym (length-map stream (twin_of A))) close in
+    → IsPlaced number_in (twin_of A) (map (twin_of A) stream) i (frame_at stream net i) = λ net i inside.
+    let own = length-map stream (twin_of net) in
+    placed net stream i (frame_at stream net i) frames.long frames.numbered (omega arith)
+    (sym (get_or-map (twin_of net) stream i [] (frame_at stream net i) (omega arith))) in
+    let close_map : AreClose whole (length (map (twin_of A) stream)) 0 0 came = rw size close in
     let m = masks number_in (twin_of A) (map (twin_of A) stream)
-    (frame_at stream) check whole came begin 0 0 0 some each close_map.within close_map.first
-    (begun whole) refl (omega arith)
-    (omega arith) (inl refl) in
+    (frame_at stream) check whole came begin 0 0 0 some each
+    close_map.within close_map.first (begun whole) refl (omega arith) (omega arith) (inl refl) in
     let reach = m.reaches in
     (m.many, omega arith, m.are)
   where
     begun : (whole : Net) → seen_on whole begin ≡ None
     begun A = refl
     begun B = refl
-
-    at : (stream : List (List ℕ)) → All IsLong stream → IsNumbered number_in 0 stream
-        → (net : Net) (i : ℕ) → i < length (map (twin_of A) stream)
-        → IsPlaced number_in (twin_of A) (map (twin_of A) stream) i (frame_at stream net i)
-    at stream long numbered net i inside =
-        let la = length-map stream (twin_of A) in
-        let ln = length-map stream (twin_of net) in
-        placed net stream i (frame_at stream net i) long numbered (omega arith)
-        (sym (get_or-map (twin_of net) stream i [] (frame_at stream net i) (omega arith)))
 
 -- a network that begins with the first frame, where the frame that comes is its own
 own_first : (net : Net) (i : ℕ) (es : List (Net × ℕ)) → BeginsFirst net ((net, i) ∷ es) → i ≡ 0

@@ -1,6 +1,5 @@
 -- One buffer for each sub-VL is enough for what a receiver accepts.
-use Rattle.std.proofs.Common.{◌≡◌, ◌≤◌, ℕ, inl, inr, List, length, map, take, sym, subst, arith}
-use Rattle.std.proofs.lemmas.Bool.{cases_lt}
+use Rattle.std.proofs.Common.{◌≡◌, ◌≤◌, ℕ, List, length, map, take, sym, subst, arith}
 use Rattle.std.proofs.lemmas.List.{length-map}
 use Rattle.afdx_frame.specs.declared.net.Net.{Net}
 use Rattle.afdx_frame.specs.declared.net.Net.TheVariants.{A}
@@ -14,11 +13,10 @@ use Rattle.afdx_laws.specs.Messages.{fragment_in, IsSending}
 use Rattle.afdx_laws.specs.Handed.{AreHanded, longer}
 use Rattle.afdx_laws.specs.Plans.{id_at, piece_room, frames_of}
 use Rattle.afdx_laws.specs.Buffers.{IsOneEnough, HandedNeedOne, LegalNeedOne, LegalNeedOneDespite}
-use Rattle.afdx_laws.proofs.Arrivals.{exactly_once_holds}
+use Rattle.afdx_laws.proofs.Receiving.{exactly_once_holds}
 use Rattle.afdx_laws.proofs.Losing.{loss_masked_holds}
 use Rattle.afdx_laws.proofs.Arriving.{datagrams_of, some_bytes, few_bytes, first_come}
-use Rattle.afdx_laws.proofs.HandedOver.{carried_of_a, carried_of_b, sending_a, sending_b}
-use Rattle.afdx_laws.proofs.HandedLoss.{same_frames, sending_longer}
+use Rattle.afdx_laws.proofs.HandedOver.{sending_longer, carried_longer, same_frames}
 use Rattle.afdx_laws.proofs.LegalLinks.{are_handed}
 use Rattle.afdx_laws.proofs.OneBuffer.{one_buffer}
 
@@ -32,23 +30,14 @@ first_need_one end_system room sub count accepted stream got sending first =
     (some_bytes end_system sub accepted sending.sent) (few_bytes end_system sub accepted sending.sent)
     (first_come end_system room sub count accepted stream got sending first)
 
--- for what was handed over, by which list is the longer
+-- for what was handed over
 pub handed_need_one : HandedNeedOne
 handed_need_one end_system room sub lag tolerance accepted a b arrivals handed fit carry =
-    elim (cases_lt (length a) (length b)) [
-      | inl shorter ↦
-          let sending = sending_b end_system room sub accepted a b handed in
-          first_need_one end_system room sub (most_carried arrivals) accepted (map (twin_of A) b)
-          (received number_in tolerance begin arrivals) sending
-          (exactly_once_holds lag tolerance (map (twin_of A) b) arrivals fit sending.frames
-          (carried_of_b lag a b arrivals shorter handed.on_b.own handed.twins carry))
-      | inr as_long ↦
-          let sending = sending_a end_system room sub accepted a b handed in
-          first_need_one end_system room sub (most_carried arrivals) accepted a
-          (received number_in tolerance begin arrivals) sending
-          (exactly_once_holds lag tolerance a arrivals fit sending.frames
-          (carried_of_a lag a b arrivals as_long handed.on_a.own handed.twins carry))
-    ]
+    let sending = sending_longer end_system room sub accepted a b handed in
+    first_need_one end_system room sub (most_carried arrivals) accepted (map (twin_of A) (longer a b))
+    (received number_in tolerance begin arrivals) sending
+    (exactly_once_holds lag tolerance (map (twin_of A) (longer a b)) arrivals fit sending.frames
+    (carried_longer end_system room sub lag accepted a b arrivals handed carry))
 
 -- for what was handed over legally
 pub legal_need_one : LegalNeedOne

@@ -1,8 +1,12 @@
 -- The next fragment of a message comes within a round of the sub-VLs.
-use Rattle.std.proofs.Common.{◌≡◌, ◌≢◌, ℕ, zero, suc, ◌+◌, ◌*◌, ◌≤◌, ◌<◌, ⊎_elim, Bool, true, false, eqb, cond, Some, List, [], ◌∷◌, ◌++◌, length, refl, ap, sym, ◌∙◌, subst, arith}
+use Rattle.std.proofs.Common.{◌≡◌, ◌≢◌, ℕ, zero, suc, ◌+◌, ◌*◌, ◌≤◌, ◌<◌, inl, inr, Bool, true, false, eqb, cond, Some, List, [], ◌∷◌, ◌++◌, length, map, refl, ap, sym, ◌∙◌, subst, arith}
 use Rattle.std.specs.Prelude.{All}
-use Rattle.std.proofs.lemmas.Bool.{cases_eq, eq-eqb, ne_eqb}
-use Rattle.std.proofs.lemmas.List.Elements.{All-head, All-tail, All-weaker, All-cons, All-nil}
+use Rattle.std.specs.List.{AllByRecursion, IsDistinct, list_any}
+use Rattle.std.proofs.lemmas.Bool.{cases_Bool, eq-eqb, eqb-true, ne_eqb, or_cases, false≢true}
+use Rattle.std.proofs.lemmas.List.{length-map}
+use Rattle.std.proofs.lemmas.Map.Keys.{IsDistinct-cons, IsDistinct-from_apart}
+use Rattle.std.proofs.lemmas.Map.Steps.{length-le_from_distinct_below}
+use Rattle.std.proofs.lemmas.List.Elements.{All-head, All-tail, All-weaker, All-from_recursion}
 use Rattle.afdx_plan.specs.Config.{link_plan_at}
 use Rattle.afdx_plan.specs.Plan.{bag_micros}
 use Rattle.afdx_plan.specs.declared.link_plan.LinkPlan.{LinkPlan}
@@ -14,86 +18,62 @@ use Rattle.vl_shaper.proofs.Polled.{polled_in_time_holds}
 use Rattle.afdx_legal.specs.Streams.{sub_stream, link_stream}
 use Rattle.afdx_legal.specs.Turns.{before_next, IsFollowedInTurn, TakesTurns}
 use Rattle.afdx_laws.specs.Plans.{id_at}
-use Rattle.afdx_laws.specs.NextFragment.{AreNeighbours, IsOfOneOf, NextInARound, FollowWithin, NextInTime, NextPolledInTime, link_wait, longest_wait, NextInPlan}
+use Rattle.afdx_laws.specs.NextFragment.{AreNeighbours, IsOfOneOf, NextInARound, FollowWithin, NextInTime, NextPolledInTime, link_wait, longest_wait, NextInPlan, LieTwoGapsApart}
 use Rattle.afdx_legal.specs.WorkedTurns.{turn_entry, TurnsAreTold}
-use Rattle.afdx_laws.specs.WorkedNextFragment.{LieTwoGapsApart}
 use Rattle.afdx_laws.proofs.ListLemmas.{all_front}
 use Rattle.afdx_laws.proofs.LegalSpacing.{IsOfSubs, stream_within}
 
--- a sum over the first numbers
-abbrev sum_below : ℕ → (ℕ → ℕ) → ℕ
-sum_below zero f = 0
-sum_below (suc n) f = f n + sum_below n f
+-- the sub-VLs of entries
+abbrev subs_of : List Entry → List ℕ
+subs_of es = map (λ (e : Entry). sub_in e.frame) es
 
--- the entries of each sub-VL
-abbrev count_of : List Entry → ℕ → ℕ
-count_of es sub = length (sub_stream sub es)
+-- a sub-VL without an entry is none of them
+none_in : (x : ℕ) (es : List Entry) → length (sub_stream x es) ≤ 0 → AllByRecursion (λ y. eqb x y ≡ false) (subs_of es)
+none_in x [] none = tt
+none_in x (e ∷ es) none = elim (cases_Bool (eqb (sub_in e.frame) x)) [
+  | inl is ↦ absurd (let some = rw is at none in omega arith)
+  | inr isnt ↦ (
+    ne_eqb x (sub_in e.frame) (λ same. false≢true (sym isnt ∙ eq-eqb (sub_in e.frame) x (sym same))),
+    none_in x es (rw isnt at none),
+  )
+]
 
--- one more of a sub-VL that is one of them
-sum_more : (n : ℕ) (e : Entry) (es : List Entry) → sub_in e.frame < n
-    → sum_below n (count_of (e ∷ es)) ≡ suc (sum_below n (count_of es))
-sum_more n e es lt = goes n (sub_in e.frame) lt
+-- where each has one entry at most, they differ
+distinct_of : (es : List Entry) → ((y : ℕ) → length (sub_stream y es) ≤ 1) → IsDistinct eqb (subs_of es)
+distinct_of [] one = IsDistinct-from_apart eqb [] (λ i j d before inside. absurd (omega arith))
+distinct_of (e ∷ es) one = IsDistinct-cons eqb (sub_in e.frame) (subs_of es)
+    (none_in (sub_in e.frame) es
+    (let first = rw (eq-eqb (sub_in e.frame) (sub_in e.frame) refl) at (one (sub_in e.frame)) in omega arith))
+    (distinct_of es (λ y. fewer y (eqb (sub_in e.frame) y) (one y)))
   where
-    here : (s y : ℕ) → s ≡ y → length (cond (eqb s y) (e ∷ sub_stream y es) (sub_stream y es)) ≡ suc (length (sub_stream y es))
-    here s y q = ap (λ (t : Bool). length (cond t (e ∷ sub_stream y es) (sub_stream y es))) (eq-eqb s y q)
+    fewer : (y : ℕ) (t : Bool) → length (cond t (e ∷ sub_stream y es) (sub_stream y es)) ≤ 1
+        → length (sub_stream y es) ≤ 1
+    fewer y true one_more = omega arith
+    fewer y false same = same
 
-    there : (s y : ℕ) → s ≢ y → length (cond (eqb s y) (e ∷ sub_stream y es) (sub_stream y es)) ≡ length (sub_stream y es)
-    there s y ne = ap (λ (t : Bool). length (cond t (e ∷ sub_stream y es) (sub_stream y es))) (ne_eqb s y ne)
+-- all are the link's
+below_of : (n : ℕ) (es : List Entry) → All (IsOfOneOf n) es → (q : ℕ) → list_any (eqb q) (subs_of es) ≡ true → q < n
+below_of n [] of q any = absurd (false≢true any)
+below_of n (e ∷ es) of q any = elim (or_cases (eqb q (sub_in e.frame)) (list_any (eqb q) (subs_of es)) any) [
+  | inl is ↦ subst (λ (s : ℕ). s < n) (sym (eqb-true q (sub_in e.frame) is)) (All-head (IsOfOneOf n) e es of)
+  | inr later ↦ below_of n es (All-tail (IsOfOneOf n) e es of) q later
+]
 
-    past : (m s : ℕ) → m ≤ s → sum_below m (λ y. length (cond (eqb s y) (e ∷ sub_stream y es) (sub_stream y es)))
-        ≡ sum_below m (count_of es)
-    past zero s le = refl
-    past (suc m) s le = let a = there s m (λ q. omega arith) in let b = past m s (omega arith) in omega arith
-
-    goes : (m s : ℕ) → s < m → sum_below m (λ y. length (cond (eqb s y) (e ∷ sub_stream y es) (sub_stream y es)))
-        ≡ suc (sum_below m (count_of es))
-    goes zero s below = absurd (omega arith)
-    goes (suc m) s below = ⊎_elim
-        (λ (q : s ≡ m). let a = here s m q in let b = past m s (omega arith) in omega arith)
-        (λ (ne : s ≢ m). let a = there s m ne in let b = goes m s (omega arith) in omega arith)
-        (cases_eq s m)
-
--- as many entries as there are of each of the sub-VLs
-length_is : (n : ℕ) (es : List Entry) → All (IsOfOneOf n) es → length es ≡ sum_below n (count_of es)
-length_is n [] of = sym (none n)
-  where
-    none : (m : ℕ) → sum_below m (count_of []) ≡ 0
-    none zero = refl
-    none (suc m) = let h = none m in omega arith
-length_is n (e ∷ es) of =
-    ap suc (length_is n es (All-tail (IsOfOneOf n) e es of)) ∙ sym (sum_more n e es (All-head (IsOfOneOf n) e es of))
-
--- at most one of each
-at_most : (n : ℕ) (f : ℕ → ℕ) → ((y : ℕ) → f y ≤ 1) → sum_below n f ≤ n
-at_most zero f one = omega arith
-at_most (suc n) f one = let a = one n in let b = at_most n f one in omega arith
-
--- and none of one of them
-fewer : (n x : ℕ) (f : ℕ → ℕ) → ((y : ℕ) → f y ≤ 1) → f x ≡ 0 → x < n → sum_below n f + 1 ≤ n
-fewer zero x f one none lt = absurd (omega arith)
-fewer (suc n) x f one none lt = ⊎_elim
-    (λ (q : x ≡ n). let a : f n ≡ 0 = subst (λ (y : ℕ). f y ≡ 0) q none in let b = at_most n f one in omega arith)
-    (λ (ne : x ≢ n). let a = one n in let b = fewer n x f one none (omega arith) in omega arith)
-    (cases_eq x n)
-
--- none of them is of this sub-VL
-none_of : (x : ℕ) (es : List Entry) → All (λ (e : Entry). sub_in e.frame ≢ x) es → length (sub_stream x es) ≡ 0
-none_of x [] others = refl
-none_of x (e ∷ es) others =
-    ap (λ (t : Bool). length (cond t (e ∷ sub_stream x es) (sub_stream x es)))
-    (ne_eqb (sub_in e.frame) x (All-head (λ (d : Entry). sub_in d.frame ≢ x) e es others))
-    ∙ none_of x es (All-tail (λ (d : Entry). sub_in d.frame ≢ x) e es others)
+-- none of these entries is of this sub-VL
+none_of : (x : ℕ) (es : List Entry) → All (λ (e : Entry). sub_in e.frame ≢ x) es → length (sub_stream x es) ≤ 0
+none_of x [] others = omega arith
+none_of x (e ∷ es) others = rw (ne_eqb (sub_in e.frame) x (All-head (λ (d : Entry). sub_in d.frame ≢ x) e es others))
+    (none_of x es (All-tail (λ (d : Entry). sub_in d.frame ≢ x) e es others))
 
 -- what lies before the next entry of a sub-VL
 before_is : (x : ℕ) (between : List Entry) (next : Entry) (after : List Entry)
     → All (λ (e : Entry). sub_in e.frame ≢ x) between → sub_in next.frame ≡ x
     → before_next x (between ++ next ∷ after) ≡ between
-before_is x [] next after others its =
-    ap (λ (t : Bool). cond t [] (next ∷ before_next x after)) (eq-eqb (sub_in next.frame) x its)
+before_is x [] next after others its = rw (eq-eqb (sub_in next.frame) x its) refl
 before_is x (e ∷ es) next after others its =
-    ap (λ (t : Bool). cond t [] (e ∷ before_next x (es ++ next ∷ after)))
-    (ne_eqb (sub_in e.frame) x (All-head (λ (d : Entry). sub_in d.frame ≢ x) e es others))
-    ∙ ap (λ (rest : List Entry). e ∷ rest) (before_is x es next after (All-tail (λ (d : Entry). sub_in d.frame ≢ x) e es others) its)
+    rw (ne_eqb (sub_in e.frame) x (All-head (λ (d : Entry). sub_in d.frame ≢ x) e es others))
+    (ap (λ (rest : List Entry). e ∷ rest)
+    (before_is x es next after (All-tail (λ (d : Entry). sub_in d.frame ≢ x) e es others) its))
 
 -- the entry is followed in turn, and those behind it are of the link's sub-VLs
 turn_at : (before : List Entry) (first : Entry) (rest : List Entry) → TakesTurns (before ++ first ∷ rest)
@@ -116,18 +96,17 @@ between_of subs stream first between next of n =
 pub next_in_a_round : NextInARound
 next_in_a_round subs stream first between next turns of n =
     let x : ℕ = sub_in first.frame in
-    let all : All (IsOfOneOf subs) (first ∷ (between ++ next ∷ n.after)) = between_of subs stream first between next of n in
-    let mine : sub_in first.frame < subs = All-head (IsOfOneOf subs) first (between ++ next ∷ n.after) all in
-    let inside : All (IsOfOneOf subs) between = all_front (IsOfOneOf subs) between (next ∷ n.after) (between ++ next ∷ n.after) refl
-    (All-tail (IsOfOneOf subs) first (between ++ next ∷ n.after) all) in
-    let turn : IsFollowedInTurn first (between ++ next ∷ n.after) =
-    turn_at n.before first (between ++ next ∷ n.after) (subst TakesTurns n.is turns) in
-    let one : (y : ℕ) → length (sub_stream y between) ≤ 1 = λ y.
-    subst (λ (es : List Entry). length (sub_stream y es) ≤ 1) (before_is (sub_in first.frame) between next n.after n.others n.its)
-    (turn n.more y) in
-    let few = fewer subs (sub_in first.frame) (count_of between) one (none_of (sub_in first.frame) between n.others) mine in
-    let whole = length_is subs between inside in
-    omega arith
+    let all : All (IsOfOneOf subs) (first ∷ between) = all_front (IsOfOneOf subs) (first ∷ between) (next ∷ n.after)
+    (first ∷ (between ++ next ∷ n.after)) refl (between_of subs stream first between next of n) in
+    let turn = turn_at n.before first (between ++ next ∷ n.after) (subst TakesTurns n.is turns) in
+    let one : (y : ℕ) → length (sub_stream y between) ≤ 1 =
+    λ y. subst (λ (es : List Entry). length (sub_stream y es) ≤ 1)
+    (before_is (sub_in first.frame) between next n.after n.others n.its) (turn n.more y) in
+    let apart : AllByRecursion (λ y. eqb x y ≡ false) (subs_of between) =
+    none_in x between (none_of x between n.others) in
+    let few = length-le_from_distinct_below (subs_of (first ∷ between)) subs
+    (IsDistinct-cons eqb x (subs_of between) apart (distinct_of between one)) (below_of subs (first ∷ between) all) in
+    omega (arith, length-map between (λ (e : Entry). sub_in e.frame))
 
 -- the moment of the last entry that follows
 last_within : (most before : ℕ) (es : List Entry) (e : Entry) → FollowWithin most before (es ++ e ∷ [])
@@ -184,8 +163,8 @@ lie_two_gaps_apart = record {
     after = [];
     is = refl;
     more = refl;
-    others = All-cons (λ (e : Entry). sub_in e.frame ≢ 0) (turn_entry 1000 1 false) [] (λ q. omega arith)
-        (All-nil (λ (e : Entry). sub_in e.frame ≢ 0));
+    others = All-from_recursion (λ (e : Entry). sub_in e.frame ≢ 0) (turn_entry 1000 1 false ∷ [])
+        (λ q. omega arith, tt);
     its = refl;
   };
   round = refl;

@@ -1,6 +1,7 @@
 -- Numbers that differ.
-use Rattle.std.proofs.Common.{◌≡◌, ℕ, zero, suc, ◌+◌, ◌-◌, ◌%◌, ◌≤◌, ◌<◌, inl, inr, Bool, true, false, nat_eq, ◌||◌, refl, ap, ◌∙◌, sym, arith}
+use Rattle.std.proofs.Common.{◌≡◌, ℕ, zero, suc, ◌+◌, ◌-◌, ◌%◌, ◌≤◌, ◌<◌, inl, inr, true, false, nat_eq, refl, ap, ◌∙◌, sym, arith}
 use Rattle.std.specs.Prelude.{Option, Some, None}
+use Rattle.std.proofs.Math.Bool.{or-true}
 use Rattle.std.proofs.lemmas.Bool.{cases_eq, eq-eqb, ne_eqb}
 use Rattle.afdx_plan.specs.Numbers.{sequence_number}
 use Rattle.afdx_laws.specs.Receiver.{next_number, ahead, is_ahead, is_valid}
@@ -61,11 +62,7 @@ new_next many (suc i) some = ahead_next many (sequence_number i) (sequence_numbe
 
 -- and valid
 pub valid_next : (many a : ℕ) → 1 ≤ many → is_valid many (last a) (sequence_number a) ≡ true
-valid_next many a some = let t = new_next many a some in rw t (or_true (nat_eq (sequence_number a) 0))
-  where
-    or_true : (b : Bool) → (b || true) ≡ true
-    or_true true = refl
-    or_true false = refl
+valid_next many a some = let t = new_next many a some in rw t (or-true (nat_eq (sequence_number a) 0))
 
 -- an old frame within 255 places isn't new
 pub old_copy : (many a b : ℕ) → a < b → b + many ≤ a + 255 → is_ahead many (last b) (sequence_number a) ≡ false
@@ -100,11 +97,7 @@ ahead_last (suc many) j =
     let moved : suc j + suc many ≡ suc (suc j) + many = omega arith in
     let rest : ahead (suc many) (sequence_number (suc j)) (sequence_number (suc (suc j) + many)) ≡ true =
     ahead_last many (suc j) in
-    rw (moved, n) (rw rest (or_true (nat_eq (sequence_number (suc (suc j) + many)) (sequence_number (suc j)))))
-  where
-    or_true : (b : Bool) → (b || true) ≡ true
-    or_true true = refl
-    or_true false = refl
+    rw (moved, n) (rw rest (or-true (nat_eq (sequence_number (suc (suc j) + many)) (sequence_number (suc j)))))
 
 -- an old frame whose number is in the window
 pub old_is_ahead : (window j place : ℕ) → 1 ≤ window → 1 ≤ place → place + 255 ≡ j + window

@@ -1,143 +1,116 @@
 -- Fragments in order need one buffer for each sub-VL.
-use Rattle.std.proofs.Common.{◌≡◌, ℕ, suc, ◌%◌, ◌≤◌, ◌<◌, inl, inr, Bool, nat_eq, cond, List, [], ◌∷◌, ◌++◌, length, refl, ap, sym, ◌∙◌, subst, arith}
-use Rattle.std.specs.Prelude.{All, Option, Some, None}
-use Rattle.std.proofs.lemmas.Bool.{cases_Bool, cases_lt, eqb-true}
-use Rattle.std.proofs.lemmas.List.{append_assoc}
+use Rattle.std.proofs.Common.{◌≡◌, ℕ, zero, suc, ◌+◌, ◌-◌, ◌≤◌, inl, inr, Bool, true, false, nat_eq, cond, List, [], ◌∷◌, length, map, drop, refl, ap, sym, ◌∙◌, subst, arith}
+use Rattle.std.specs.Prelude.{All, Option, Some, None, slice_index, ◌*◌}
+use Rattle.std.specs.List.{AllByRecursion}
+use Rattle.std.proofs.lemmas.Bool.{cases_lt, le-ltb, and_right}
+use Rattle.std.proofs.lemmas.List.{length-take, length-drop}
+use Rattle.std.proofs.lemmas.List.Elements.{All-cons, All-nil, All-append}
 use Rattle.afdx_plan.specs.Numbers.{identification}
-use Rattle.afdx_frame.specs.Reassembly.{Fragment, Buffer, empty, put, put_all, datagram_in, fragments_of}
-use Rattle.afdx_legal.specs.Streams.{IsPrefixOf}
-use Rattle.afdx_laws.specs.Delivery.{with_buffer, kept_in, of_sub, keyed, sent_from, HasByte}
-use Rattle.afdx_laws.specs.Buffers.{buffers_after, OneBuffer}
-use Rattle.afdx_laws.proofs.ListLemmas.{cons_parts, nil_begins, all_front}
-use Rattle.afdx_laws.proofs.BufferBytes.{EndsBefore, sent_end, after_within}
-use Rattle.afdx_laws.proofs.InOrder.{same_with, other_with, IsBlock, put_more, whole, not_yet, nothing_yet, HoldsSoFar, with_same, with_else, all_empty, ident_sub, begins}
+use Rattle.afdx_plan.specs.Room.{step_of}
+use Rattle.afdx_frame.specs.declared.piece.Piece.{Piece}
+use Rattle.afdx_frame.specs.Cutting.{cut_by, cutting, pieces_from}
+use Rattle.afdx_frame.specs.Reassembly.{Fragment, Buffer, put, end_of, covers, datagram_in, fragment_of, fragments_of, empty}
+use Rattle.afdx_frame.proofs.CuttingLemmas.{step_le, cut_last, cut_more}
+use Rattle.afdx_laws.specs.Delivery.{with_buffer, kept_in, keyed, sent_from, of_sub}
+use Rattle.afdx_laws.specs.Buffers.{buffers_after, HasUpTo, OneBuffer}
+use Rattle.afdx_laws.proofs.ListLemmas.{all_front}
+use Rattle.afdx_laws.proofs.InOrder.{apart, reassembles}
 
--- of the buffers of a sub-VL all but one are empty
-record IsAlone (sub : ℕ) (buffers : ℕ → Buffer) : Type 0 where
-  pub key : ℕ
-  pub others : (k : ℕ) → k % 4 ≡ sub → (k ≡ key → ⊥) → buffers k ≡ empty
+-- a piece lies before an end
+abbrev LiesBefore : ℕ → Piece → Type 0
+LiesBefore end piece = piece.start + piece.len ≤ end
 
--- a sub-VL's buffers are those of its fragments alone
-own_buffers : (sub : ℕ) (es : List (ℕ × Fragment)) (xs ys : ℕ → Buffer) → ((k : ℕ) → k % 4 ≡ sub → xs k ≡ ys k)
-    → (k : ℕ) → k % 4 ≡ sub → buffers_after xs es k ≡ buffers_after ys (of_sub sub es) k
-own_buffers sub [] xs ys same k is = same k is
-own_buffers sub (e ∷ es) xs ys same k is = elim (cases_Bool (nat_eq (e.0 % 4) sub)) [
-  | inl mine ↦
-      let first : xs e.0 ≡ ys e.0 = same e.0 (eqb-true (e.0 % 4) sub mine) in
-      let b : Buffer = put (ys e.0) e.1 in
-      ap (λ (c : Buffer). buffers_after (with_buffer e.0 (kept_in (put c e.1) (datagram_in (put c e.1))) xs) es k) first
-      ∙ own_buffers sub es (with_buffer e.0 (kept_in b (datagram_in b)) xs) (with_buffer e.0 (kept_in b (datagram_in b)) ys)
-      (same_with sub e.0 (kept_in b (datagram_in b)) xs ys same) k is
-      ∙ sym (ap (λ (t : Bool). buffers_after ys (cond t (e ∷ of_sub sub es) (of_sub sub es)) k) mine)
-  | inr isnt ↦
-      let b : Buffer = put (xs e.0) e.1 in
-      own_buffers sub es (with_buffer e.0 (kept_in b (datagram_in b)) xs) ys
-      (other_with sub e.0 (kept_in b (datagram_in b)) xs ys isnt same) k is
-      ∙ sym (ap (λ (t : Bool). buffers_after ys (cond t (e ∷ of_sub sub es) (of_sub sub es)) k) isnt)
+-- so do all pieces
+pieces_lie : (turns room n start end : ℕ) → start + n ≤ end
+    → AllByRecursion (LiesBefore end) (pieces_from start (cut_by turns room n))
+pieces_lie zero room n start end inside = tt
+pieces_lie (suc turns) room n start end inside = elim (cases_lt room n) [
+  | inl over ↦
+      let step = step_le room in
+      let first : start + step_of room ≤ end = omega arith in
+      let rest : start + step_of room + (n - step_of room) ≤ end = omega arith in
+      subst (λ (lens : List ℕ). AllByRecursion (LiesBefore end) (pieces_from start lens)) (sym (cut_more turns room n over))
+      (first, pieces_lie turns room (n - step_of room) (start + step_of room) end rest)
+  | inr fits ↦ subst (λ (lens : List ℕ). AllByRecursion (LiesBefore end) (pieces_from start lens))
+      (sym (cut_last turns room n fits)) (inside, tt)
 ]
 
--- what holds of buffers that are the same for a sub-VL
-holds_as : (sub : ℕ) (xs ys : ℕ → Buffer) → ((k : ℕ) → k % 4 ≡ sub → xs k ≡ ys k) → IsAlone sub ys → IsAlone sub xs
-holds_as sub xs ys same h = record { key = h.key; others = λ k is ne. same k is ∙ h.others k is ne }
+-- and those of a cutting
+cutting_lies : (room n : ℕ) → AllByRecursion (LiesBefore n) (pieces_from 0 (cutting room n))
+unfolding cutting
+cutting_lies room n = pieces_lie n room n 0 n (omega arith)
 
--- a fragment that gives nothing, and one that gives a datagram
-after_none : (buffers : ℕ → Buffer) (came : ℕ × Fragment) (key : ℕ) (f : Fragment) (es : List (ℕ × Fragment)) → (key, f) ≡ came
-    → datagram_in (put (buffers key) f) ≡ None
-    → buffers_after buffers (came ∷ es) ≡ buffers_after (with_buffer key (put (buffers key) f) buffers) es
-after_none buffers came key f es same none =
-    ap (λ (e : ℕ × Fragment). buffers_after buffers (e ∷ es)) (sym same)
-    ∙ ap (λ (o : Option (List ℕ)). buffers_after (with_buffer key (kept_in (put (buffers key) f) o) buffers) es) none
+-- a fragment ends by byte `most`
+abbrev pub EndsBefore : ℕ → ℕ × Fragment → Type 0
+EndsBefore most e = end_of e.1 ≤ most
 
-after_some : (buffers : ℕ → Buffer) (came : ℕ × Fragment) (key : ℕ) (f : Fragment) (es : List (ℕ × Fragment)) (d : List ℕ)
-    → (key, f) ≡ came → datagram_in (put (buffers key) f) ≡ Some d
-    → buffers_after buffers (came ∷ es) ≡ buffers_after (with_buffer key empty buffers) es
-after_some buffers came key f es d same some =
-    ap (λ (e : ℕ × Fragment). buffers_after buffers (e ∷ es)) (sym same)
-    ∙ ap (λ (o : Option (List ℕ)). buffers_after (with_buffer key (kept_in (put (buffers key) f) o) buffers) es) some
+-- so does one of a datagram of no more
+fragment_ends : (most : ℕ) (d : List ℕ) (piece : Piece) → length d ≤ most → LiesBefore (length d) piece
+    → end_of (fragment_of d piece) ≤ most
+fragment_ends most d piece fits lies =
+    let size = length-take piece.len (drop piece.start d) in
+    let rest = length-drop piece.start d in
+    omega arith
 
--- the last fragment of a datagram gives it
-gives_whole : (buffers : ℕ → Buffer) (key : ℕ) (f : Fragment) (room : ℕ) (done : List Fragment) (d : List ℕ) → 8 ≤ room
-    → 1 ≤ length d → fragments_of room d ≡ done ++ f ∷ [] → buffers key ≡ put_all empty done
-    → datagram_in (put (buffers key) f) ≡ Some d
-gives_whole buffers key f room done d least some split holds =
-    ap datagram_in (ap (λ (c : Buffer). put c f) holds ∙ sym (put_more done empty f) ∙ ap (put_all empty) (sym split))
-    ∙ whole room d least some
+-- so do all of them
+keyed_end : (ps : List Piece) (most key : ℕ) (d : List ℕ) → length d ≤ most → AllByRecursion (LiesBefore (length d)) ps
+    → All (EndsBefore most) (keyed key (map (fragment_of d) ps))
+keyed_end [] most key d fits lie = All-nil (EndsBefore most)
+keyed_end (p ∷ ps) most key d fits lie =
+    All-cons (EndsBefore most) (key, fragment_of d p) (keyed key (map (fragment_of d) ps))
+    (fragment_ends most d p fits lie.0) (keyed_end ps most key d fits lie.1)
 
--- from any place on, by induction over what comes
-holds : (came : List (ℕ × Fragment)) (room sub place : ℕ) (buffers : ℕ → Buffer) (done : List Fragment)
-    (f : Fragment) (todo : List Fragment) (d : List ℕ) (later : List (List ℕ)) (rest : List (ℕ × Fragment))
-    → 8 ≤ room → sub < 4 → All (λ (x : List ℕ). 1 ≤ length x) (d ∷ later)
-    → fragments_of room d ≡ done ++ f ∷ todo → IsBlock (f ∷ todo)
-    → (buffers (identification place sub)).total ≡ None → HoldsSoFar sub (identification place sub) buffers done
-    → keyed (identification place sub) (f ∷ todo) ++ sent_from room sub (suc place) later ≡ came ++ rest
-    → IsAlone sub (buffers_after buffers came)
-holds [] room sub place buffers done f todo d later rest least small some split block none so is =
-    record { key = identification place sub; others = so.1 }
-holds ((key, g) ∷ came) room sub place buffers done f (next ∷ todo) d later rest least small some split block none so is =
-    let heads = cons_parts is in
-    let k : ℕ = identification place sub in
-    let b : Buffer = put (buffers k) f in
-    let yet : b.total ≡ None = not_yet (buffers k) f block.0 none in
-    let put_is : b ≡ put_all empty (done ++ f ∷ []) = ap (λ (c : Buffer). put c f) so.0 ∙ sym (put_more done empty f) in
-    subst (IsAlone sub) (sym (after_none buffers (key, g) k f came heads.0 (nothing_yet b yet)))
-    (holds came room sub place (with_buffer k b buffers) (done ++ f ∷ []) next todo d later rest least small some
-    (split ∙ sym (append_assoc done (f ∷ []) (next ∷ todo))) block.1
-    (ap (λ (c : Buffer). c.total) (with_same k b buffers) ∙ yet)
-    (with_same k b buffers ∙ put_is, λ m is_m ne. with_else k m b buffers ne ∙ so.1 m is_m ne)
-    heads.1)
-holds ((key, g) ∷ came) room sub place buffers done f [] d [] rest least small some split block none so is =
-    let heads = cons_parts is in
-    let k : ℕ = identification place sub in
-    let none_left : came ≡ [] = nil_begins came rest (sym heads.1) in
-    let gives = gives_whole buffers k f room done d least (some 0 d (omega arith)) split so.0 in
-    subst (IsAlone sub) (sym (after_some buffers (key, g) k f came d heads.0 gives))
-    (subst (λ (es : List (ℕ × Fragment)). IsAlone sub (buffers_after (with_buffer k empty buffers) es)) (sym none_left)
-    (record { key = k; others = λ m is_m ne. all_empty sub k buffers so.1 m is_m }))
-holds ((key, g) ∷ came) room sub place buffers done f [] d (e ∷ later) rest least small some split block none so is =
-    let heads = cons_parts is in
-    let k : ℕ = identification place sub in
-    let gives = gives_whole buffers k f room done d least (some 0 d (omega arith)) split so.0 in
-    let empties = all_empty sub k buffers so.1 in
-    let block_e = begins room e (some 1 e (omega arith)) in
-    let frags = block_e.is in
-    let key_e : ℕ = identification (suc place) sub in
-    subst (IsAlone sub) (sym (after_some buffers (key, g) k f came d heads.0 gives))
-    (holds came room sub (suc place) (with_buffer k empty buffers) [] block_e.first block_e.behind e later rest least small
-    (λ i x h. some (suc i) x (omega arith))
-    frags block_e.block (ap (λ (c : Buffer). c.total) (empties key_e (ident_sub (suc place) sub small)))
-    (empties key_e (ident_sub (suc place) sub small), λ m is_m ne. empties m is_m)
-    (ap (λ (fs : List Fragment). keyed key_e fs ++ sent_from room sub (suc (suc place)) later) (sym frags) ∙ heads.1))
+-- and those of datagrams of no more
+pub sent_end : (datagrams : List (List ℕ)) (room sub place most : ℕ) → All (HasUpTo most) datagrams
+    → All (EndsBefore most) (sent_from room sub place datagrams)
+sent_end [] room sub place most fit = All-nil (EndsBefore most)
+sent_end (d ∷ later) room sub place most fit =
+    All-append (EndsBefore most) (keyed (identification place sub) (fragments_of room d))
+    (sent_from room sub (suc place) later)
+    (keyed_end (pieces_from 0 (cutting room (length d))) most (identification place sub) d (fit 0 d (omega arith))
+    (cutting_lies room (length d)))
+    (sent_end later room sub (suc place) most (λ k x h. fit (suc k) x (omega arith)))
 
--- all but one are empty, whatever came so far
-is_alone : (room sub : ℕ) (datagrams : List (List ℕ)) (came : List (ℕ × Fragment)) → 8 ≤ room → sub < 4
-    → All HasByte datagrams → IsPrefixOf (of_sub sub came) (sent_from room sub 0 datagrams)
-    → IsAlone sub (buffers_after (λ key. empty) came)
-is_alone room sub [] came least small some (rest, begun) =
-    holds_as sub (buffers_after (λ key. empty) came) (λ key. empty)
-    (λ k is. own_buffers sub came (λ key. empty) (λ key. empty) (λ j h. refl) k is
-    ∙ ap (λ (es : List (ℕ × Fragment)). buffers_after (λ key. empty) es k) (nil_begins (of_sub sub came) rest begun))
-    (record { key = 0; others = λ k is ne. refl })
-is_alone room sub (d ∷ later) came least small some (rest, begun) =
-    let block = begins room d (some 0 d (omega arith)) in
-    holds_as sub (buffers_after (λ key. empty) came) (buffers_after (λ key. empty) (of_sub sub came))
-    (own_buffers sub came (λ key. empty) (λ key. empty) (λ j h. refl))
-    (holds (of_sub sub came) room sub 0 (λ key. empty) [] block.first block.behind d later rest least small some
-    block.is block.block refl (refl, λ k h ne. refl)
-    (ap (λ (fs : List Fragment). keyed (identification 0 sub) fs ++ sent_from room sub 1 later) (sym block.is) ∙ sym begun))
+-- a buffer has no byte after the first `most`
+abbrev pub HasNoneBehind : ℕ → Buffer → Type 0
+HasNoneBehind most b = (i : ℕ) → most ≤ i → b.byte_at i ≡ None
 
--- no identification tells a sub-VL past the fourth
-alone : (room sub : ℕ) (datagrams : List (List ℕ)) (came : List (ℕ × Fragment)) → 8 ≤ room
-    → All HasByte datagrams → IsPrefixOf (of_sub sub came) (sent_from room sub 0 datagrams)
-    → IsAlone sub (buffers_after (λ key. empty) came)
-alone room sub datagrams came least some begun = elim (cases_lt sub 4) [
-  | inl small ↦ is_alone room sub datagrams came least small some begun
-  | inr past ↦ record { key = 0; others = λ k is ne. absurd (omega arith) }
-]
+-- nor has it with a fragment more that ends before them
+put_within : (most : ℕ) (b : Buffer) (f : Fragment) → HasNoneBehind most b → end_of f ≤ most → HasNoneBehind most (put b f)
+put_within most b f none ends i past =
+    let outside : covers f i ≡ false = and_right _ _ (le-ltb i (end_of f) (omega arith)) in
+    ap (λ (t : Bool). cond t (Some (slice_index f.bytes (i - 8 * f.offset))) (b.byte_at i)) outside ∙ none i past
+
+-- nor where it gave its datagram
+kept_within : (most : ℕ) (b : Buffer) (given : Option (List ℕ)) → HasNoneBehind most b → HasNoneBehind most (kept_in b given)
+kept_within most b None none = none
+kept_within most b (Some d) none = λ i past. refl
+
+-- nor have others
+with_within : (most key : ℕ) (b : Buffer) (buffers : ℕ → Buffer) → HasNoneBehind most b
+    → ((k : ℕ) → HasNoneBehind most (buffers k)) → (k : ℕ) → HasNoneBehind most (with_buffer key b buffers k)
+with_within most key b buffers one each k = at (nat_eq k key)
+  where
+    at : (t : Bool) → HasNoneBehind most (cond t b (buffers k))
+    at true = one
+    at false = each k
+
+-- so it is with all buffers, whatever came of such fragments
+pub after_within : (es : List (ℕ × Fragment)) (most : ℕ) (buffers : ℕ → Buffer)
+    → ((k : ℕ) → HasNoneBehind most (buffers k)) → All (EndsBefore most) es
+    → (k : ℕ) → HasNoneBehind most (buffers_after buffers es k)
+after_within [] most buffers each ends = each
+after_within (e ∷ es) most buffers each ends =
+    let b : Buffer = put (buffers e.0) e.1 in
+    after_within es most (with_buffer e.0 (kept_in b (datagram_in b)) buffers)
+    (with_within most e.0 (kept_in b (datagram_in b)) buffers
+    (kept_within most b (datagram_in b) (put_within most (buffers e.0) e.1 (each e.0) (ends 0 e (omega arith)))) each)
+    (λ k d h. ends (suc k) d (omega arith))
 
 -- the law
 pub one_buffer : OneBuffer
 one_buffer room sub most datagrams came least some fit begun =
-    let one = alone room sub datagrams came least some begun in
+    let one = (reassembles room sub datagrams came least some begun).alone in
     let ends : All (EndsBefore most) (of_sub sub came) =
     all_front (EndsBefore most) (of_sub sub came) begun.0 (sent_from room sub 0 datagrams) begun.1
     (sent_end datagrams room sub 0 most fit) in
@@ -145,6 +118,6 @@ one_buffer room sub most datagrams came least some fit begun =
       key = one.key;
       others = one.others;
       within = λ k is i past.
-          ap (λ (b : Buffer). b.byte_at i) (own_buffers sub came (λ key. empty) (λ key. empty) (λ j h. refl) k is)
+          ap (λ (b : Buffer). b.byte_at i) ((apart sub came (λ key. empty) (λ key. empty) (λ j h. refl)).buffers k is)
           ∙ after_within (of_sub sub came) most (λ key. empty) (λ j m h. refl) ends k i past;
     }

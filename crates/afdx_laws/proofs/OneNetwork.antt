@@ -1,20 +1,23 @@
 -- What is handed over of a link on one network arrives from there.
-use Rattle.std.proofs.Common.{◌≡◌, ℕ, ◌+◌, ◌≤◌, inl, inr, List, [], ◌∷◌, ◌++◌, length, map, take, refl, ap, sym, ◌∙◌, subst, arith}
+use Rattle.std.proofs.Common.{◌≡◌, ℕ, ◌+◌, ◌≤◌, ◌<◌, inl, inr, List, [], ◌∷◌, ◌++◌, length, map, take, refl, ap, sym, ◌∙◌, subst, arith}
+use Rattle.std.specs.Prelude.{All}
 use Rattle.std.proofs.Math.Seq.{take-append_seam}
 use Rattle.std.proofs.lemmas.Bool.{cases_lt}
 use Rattle.std.proofs.lemmas.List.{nil_from_length}
+use Rattle.afdx_plan.specs.Config.{Plan, IsPlan, link_plan_at}
 use Rattle.afdx_frame.specs.declared.net.Net.{Net}
 use Rattle.afdx_frame.specs.declared.net.Net.TheVariants.{A, B}
 use Rattle.afdx_frame.specs.Header.{number_in}
 use Rattle.redundant_mux.specs.Entry.{Entry}
 use Rattle.redundant_mux.specs.Logged.{names}
 use Rattle.afdx_legal.specs.Streams.{IsPrefixOf}
-use Rattle.afdx_laws.specs.Receiver.{begin, received, other, carried_by, carried, IsNear}
+use Rattle.afdx_legal.specs.Legal.{Accepted, IsLegal}
+use Rattle.afdx_legal.specs.Allowed.{IsAllowed}
+use Rattle.afdx_laws.specs.Receiver.{Tolerance, IsFitFor, begin, received, other, carried_by, carried, IsNear}
 use Rattle.afdx_laws.specs.Networks.{most_carried}
 use Rattle.afdx_laws.specs.Messages.{messages_in, AreFirst}
-use Rattle.afdx_laws.specs.Handed.{AreCarriedOf, longer}
-use Rattle.afdx_laws.specs.Plans.{id_at, piece_room, frames_of}
-use Rattle.afdx_laws.specs.OneNetwork.{all_from, OneNetworkArrives}
+use Rattle.afdx_laws.specs.Handed.{longer}
+use Rattle.afdx_laws.specs.Plans.{id_at, piece_room, frames_of, all_from, OneNetworkArrives}
 use Rattle.afdx_laws.proofs.ListLemmas.{cons_parts, nil_isnt_cons}
 use Rattle.afdx_laws.proofs.HandedOver.{longer_a, longer_b}
 use Rattle.afdx_laws.proofs.LegalLinks.{legal_arrive_holds}
@@ -57,13 +60,10 @@ never_behind net frames before after from frame is =
     subst (λ (n : Net). length (carried (other n) before) ≤ length (carried n before) + 0) (sym its.0)
     (let none = ap length its.1 in omega arith)
 
--- nothing begins every list
-begins_any : (xs ys : List (List ℕ)) → xs ≡ [] → IsPrefixOf xs ys
-begins_any xs ys none = (ys, ap (λ (zs : List (List ℕ)). zs ++ ys) none)
-
--- what begins a list, in another's words
-begins_same : (xs ys zs : List (List ℕ)) → xs ≡ ys → IsPrefixOf ys zs → IsPrefixOf xs zs
-begins_same xs ys zs same begins = (begins.0, ap (λ (ws : List (List ℕ)). ws ++ begins.0) same ∙ begins.1)
+-- the one that carried more frames carried all
+many_from : (net : Net) (frames : List (List ℕ)) → most_carried (all_from net frames) ≡ length frames
+many_from A frames = omega (arith, ap length (carried_all A frames), ap length (carried_none A frames))
+many_from B frames = omega (arith, ap length (carried_all B frames), ap length (carried_none B frames))
 
 -- as many frames of a list as begin it are these
 begins_with : (n : ℕ) (came all mine : List (List ℕ)) → n ≡ length came → all ≡ mine → IsPrefixOf came mine → take n all ≡ came
@@ -81,41 +81,36 @@ longer_of_b a b none = elim (cases_lt (length a) (length b)) [
       ∙ sym (nil_from_length b (let empty = ap length none in omega arith))
 ]
 
+-- what comes from one network of its frames, which the other was handed none of
+from_one : (plan : Plan) (accepted : Accepted) (a b : List Entry) → IsPlan plan → IsLegal plan accepted a b
+    → (k sub : ℕ) → k < length plan.links → sub < (link_plan_at plan.links k).sub_vls
+    → All (IsAllowed plan k sub) (accepted k sub)
+    → (net : Net) (tolerance : Tolerance) (came mine : List (List ℕ)) → IsFitFor 0 tolerance
+    → longer (frames_of (id_at plan k) a) (frames_of (id_at plan k) b) ≡ mine → IsPrefixOf came mine
+    → IsPrefixOf (carried A (all_from net came)) (frames_of (id_at plan k) a)
+    → IsPrefixOf (carried B (all_from net came)) (frames_of (id_at plan k) b)
+    → AreFirst plan.end_system (piece_room plan k) sub (accepted k sub) came
+    (messages_in sub (received number_in tolerance begin (all_from net came)))
+from_one plan accepted a b valid legal k sub inside index allowed net tolerance came mine fit is begins on_a on_b =
+    subst (λ (frames : List (List ℕ)). AreFirst plan.end_system (piece_room plan k) sub (accepted k sub) frames
+    (messages_in sub (received number_in tolerance begin (all_from net came))))
+    (begins_with (most_carried (all_from net came)) came
+    (longer (frames_of (id_at plan k) a) (frames_of (id_at plan k) b)) mine
+    (many_from net came) is begins)
+    (legal_arrive_holds plan accepted a b valid legal k sub inside index allowed 0 tolerance (all_from net came) fit
+    (record { on_a = on_a; on_b = on_b; near = never_behind net came }))
+
 -- the law
 pub one_network_arrives_holds : OneNetworkArrives
 one_network_arrives_holds plan accepted a b valid legal k sub inside index allowed A alone tolerance came fit begins =
-    let vl : ℕ = id_at plan k in
     let none : frames_of (id_at plan k) b ≡ [] =
     ap (map (λ (e : Entry). e.frame)) (legal.on_b.carried k inside (ap (names B) alone)) in
-    let on_own = carried_all A came in
-    let on_other = carried_none A came in
-    let carry : AreCarriedOf 0 (frames_of (id_at plan k) a) (frames_of (id_at plan k) b) (all_from A came) = record {
-      on_a = begins_same (carried A (all_from A came)) came (frames_of vl a) on_own begins;
-      on_b = begins_any (carried B (all_from A came)) (frames_of vl b) on_other;
-      near = never_behind A came;
-    } in
-    let many : most_carried (all_from A came) ≡ length came =
-    (let mine = ap length on_own in let others = ap length on_other in omega arith) in
-    subst (λ (frames : List (List ℕ)). AreFirst plan.end_system (piece_room plan k) sub (accepted k sub) frames
-    (messages_in sub (received number_in tolerance begin (all_from A came))))
-    (begins_with (most_carried (all_from A came)) came (longer (frames_of vl a) (frames_of vl b)) (frames_of vl a) many
-    (longer_of_a (frames_of vl a) (frames_of vl b) none) begins)
-    (legal_arrive_holds plan accepted a b valid legal k sub inside index allowed 0 tolerance (all_from A came) fit carry)
+    from_one plan accepted a b valid legal k sub inside index allowed A tolerance came (frames_of (id_at plan k) a) fit
+    (longer_of_a (frames_of (id_at plan k) a) (frames_of (id_at plan k) b) none) begins
+    (rw (carried_all A came) begins) (rw (carried_none A came) (frames_of (id_at plan k) b, refl))
 one_network_arrives_holds plan accepted a b valid legal k sub inside index allowed B alone tolerance came fit begins =
-    let vl : ℕ = id_at plan k in
     let none : frames_of (id_at plan k) a ≡ [] =
     ap (map (λ (e : Entry). e.frame)) (legal.on_a.carried k inside (ap (names A) alone)) in
-    let on_own = carried_all B came in
-    let on_other = carried_none B came in
-    let carry : AreCarriedOf 0 (frames_of (id_at plan k) a) (frames_of (id_at plan k) b) (all_from B came) = record {
-      on_a = begins_any (carried A (all_from B came)) (frames_of vl a) on_other;
-      on_b = begins_same (carried B (all_from B came)) came (frames_of vl b) on_own begins;
-      near = never_behind B came;
-    } in
-    let many : most_carried (all_from B came) ≡ length came =
-    (let mine = ap length on_own in let others = ap length on_other in omega arith) in
-    subst (λ (frames : List (List ℕ)). AreFirst plan.end_system (piece_room plan k) sub (accepted k sub) frames
-    (messages_in sub (received number_in tolerance begin (all_from B came))))
-    (begins_with (most_carried (all_from B came)) came (longer (frames_of vl a) (frames_of vl b)) (frames_of vl b) many
-    (longer_of_b (frames_of vl a) (frames_of vl b) none) begins)
-    (legal_arrive_holds plan accepted a b valid legal k sub inside index allowed 0 tolerance (all_from B came) fit carry)
+    from_one plan accepted a b valid legal k sub inside index allowed B tolerance came (frames_of (id_at plan k) b) fit
+    (longer_of_b (frames_of (id_at plan k) a) (frames_of (id_at plan k) b) none) begins
+    (rw (carried_none B came) (frames_of (id_at plan k) a, refl)) (rw (carried_all B came) begins)

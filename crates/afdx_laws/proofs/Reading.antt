@@ -1,5 +1,5 @@
 -- What is read of a frame is what went in.
-use Rattle.std.proofs.Common.{◌≡◌, ℕ, suc, ◌+◌, ◌-◌, ◌/◌, ◌%◌, ◌≤◌, ◌<◌, Bool, nat_le, List, [], ◌∷◌, ◌++◌, length, map, take, drop, set, get_or, refl, ap, sym, ◌∙◌, subst, arith}
+use Rattle.std.proofs.Common.{◌≡◌, ℕ, suc, ◌+◌, ◌-◌, ◌%◌, ◌≤◌, ◌<◌, List, [], ◌∷◌, ◌++◌, length, map, take, drop, set, get_or, refl, ap, sym, ◌∙◌, subst, arith}
 use Rattle.std.specs.Prelude.{All}
 use Rattle.std.specs.List.{AllByRecursion}
 use Rattle.std.proofs.lemmas.List.{drop-set-lt, map-append, length-append, drop_at, take_more, take_all}
@@ -11,7 +11,7 @@ use Rattle.afdx_frame.specs.declared.piece.Piece.{Piece}
 use Rattle.afdx_frame.specs.Cutting.{cutting, pieces_from}
 use Rattle.afdx_frame.specs.Frame.{interface_byte, datagram, udp_header, unnumbered, frame_of}
 use Rattle.afdx_frame.specs.Twin.{twin_of}
-use Rattle.afdx_frame.specs.Profile.{word_at, total_length, fragment_field}
+use Rattle.afdx_frame.specs.Profile.{total_length}
 use Rattle.afdx_frame.specs.Fragments.{Sent, blanked, fragments_at, fragments_from}
 use Rattle.afdx_frame.specs.ReadBack.{IsPiece}
 use Rattle.afdx_frame.proofs.Twins.{twin_word}
@@ -27,10 +27,6 @@ use Rattle.afdx_laws.specs.Networks.{IsLong}
 use Rattle.afdx_laws.proofs.ListLemmas.{cons_parts, nil_isnt_cons}
 use Rattle.afdx_laws.specs.Messages.{fragment_in, IsSent}
 
--- two fragments with their identifications are the same
-abbrev same_pair : ℕ × Fragment → ℕ × Fragment → Type 0
-same_pair x y = x ≡ y
-
 -- the interface identifier isn't read
 pub same_fragment : (net : Net) (frame : List ℕ) → fragment_in (twin_of net frame) ≡ fragment_in frame
 same_fragment net frame =
@@ -39,14 +35,7 @@ same_fragment net frame =
     let field = twin_word net frame 20 (λ e. omega arith) (λ e. omega arith) in
     let behind : drop 34 (set frame 11 (interface_byte net)) ≡ drop 34 frame =
     drop-set-lt 34 frame 11 (interface_byte net) (omega arith) in
-    built (word_at (twin_of net frame) 18) (word_at frame 18) (fragment_field (twin_of net frame))
-    (fragment_field frame) (total_length (twin_of net frame)) (total_length frame) (drop 34 (twin_of net frame))
-    (drop 34 frame) ident field total behind
-  where
-    built : (i j f g t u : ℕ) (xs ys : List ℕ) → i ≡ j → f ≡ g → t ≡ u → xs ≡ ys
-        → same_pair (i, record { offset = f % 8192; more = nat_le 8192 f; bytes = take (t - 20) xs })
-        (j, record { offset = g % 8192; more = nat_le 8192 g; bytes = take (u - 20) ys })
-    built i j f g t u xs ys a b c d = cc
+    cc
 
 -- the frame of a piece says its fragment
 read_piece : (end_system : ℕ) (sent : Sent) (place : ℕ) (piece : Piece) (number : ℕ) → end_system < 65536
@@ -68,15 +57,7 @@ read_piece end_system sent place piece number small port most is =
     (drop piece.start (datagram end_system sent.port sent.bytes)) =
     ap (λ (n : ℕ). take n (drop 34 frame)) bytes_len
     ∙ payload_says end_system sent.port sent.bytes place piece A number port is.within in
-    built (word_at frame 18) (identification place sent.port.sub) (fragment_field frame % 8192) (piece.start / 8)
-    (nat_le 8192 (fragment_field frame)) piece.more (take (total_length frame - 20) (drop 34 frame))
-    (take piece.len (drop piece.start (datagram end_system sent.port sent.bytes))) s.ident_says s.offset_says
-    s.more_says bytes_are
-  where
-    built : (i j o p : ℕ) (m n : Bool) (xs ys : List ℕ) → i ≡ j → o ≡ p → m ≡ n → xs ≡ ys
-        → same_pair (i, record { offset = o; more = m; bytes = xs })
-        (j, record { offset = p; more = n; bytes = ys })
-    built i j o p m n xs ys a b c d = cc
+    cc (s.ident_says, s.offset_says, s.more_says)
 
 -- what an unnumbered frame says, whatever its number is
 abbrev pub read_any : List ℕ → ℕ × Fragment

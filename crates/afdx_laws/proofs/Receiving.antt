@@ -1,13 +1,21 @@
--- What a receiver hands on.
-use Rattle.std.proofs.Common.{◌≡◌, ℕ, suc, ◌+◌, ◌≤◌, ◌<◌, inl, inr, true, false, max, List, [], ◌∷◌, ◌++◌, length, map, take, get_or, refl, ap, sym, ◌∙◌, arith}
+-- What a receiver hands on of what two networks carry.
+use Rattle.std.proofs.Common.{◌≡◌, ℕ, suc, ◌+◌, ◌≤◌, ◌<◌, inl, inr, true, false, max, List, [], ◌∷◌, ◌++◌, length, map, take, get_or, refl, ap, sym, ◌∙◌, arith, drop}
 use Rattle.std.proofs.lemmas.Bool.{cases_lt, and_from, and_right}
-use Rattle.std.proofs.Math.Nat.{max-eq_left, max-eq_right}
-use Rattle.std.proofs.lemmas.List.{take_more, append_assoc, append-nil}
+use Rattle.std.specs.Prelude.{Option, All}
+use Rattle.std.proofs.lemmas.List.{take_more, append_assoc, append-nil, drop_more, drop_all, get_or-map, length-map, set-set}
 use Rattle.afdx_frame.specs.declared.net.Net.{Net}
 use Rattle.afdx_frame.specs.declared.net.Net.TheVariants.{A, B}
 use Rattle.afdx_plan.specs.Numbers.{sequence_number}
-use Rattle.afdx_laws.specs.Receiver.{Tolerance, State, is_accepted, is_valid, is_ahead, received, carried, with_seen, with_accepted, seen_on}
+use Rattle.afdx_laws.specs.Receiver.{Tolerance, State, is_accepted, is_valid, is_ahead, received, carried, with_seen, with_accepted, seen_on, other, carried_by, IsNear}
 use Rattle.afdx_laws.proofs.NumberLemmas.{last, new_next, valid_next, old_copy}
+use Rattle.afdx_legal.specs.Streams.{IsNumbered, IsPrefixOf}
+use Rattle.afdx_legal.proofs.StreamLemmas.{numbered_at}
+use Rattle.afdx_laws.proofs.ListLemmas.{cons_parts, nil_isnt_cons}
+use Rattle.afdx_frame.specs.Frame.{interface_byte}
+use Rattle.afdx_frame.specs.Twin.{twin_of}
+use Rattle.afdx_frame.specs.Header.{number_in}
+use Rattle.afdx_frame.proofs.Twins.{twin_number}
+use Rattle.afdx_laws.specs.Networks.{IsLong, most_carried, ExactlyOnce}
 
 -- the state after so many frames of each network
 abbrev pub state_at : ℕ → ℕ → State
@@ -63,6 +71,39 @@ grows {F = F} h stream i frame rest inside is =
     one_more : (i : ℕ) → suc i ≡ i + 1
     one_more i = omega arith
 
+-- One frame of a network, where the states differ in what was seen on it and in what was accepted last: at `from` it
+-- is one of `a` frames, where `b` came from the other network.
+one_more : {F : Type 0} (number : F → ℕ) (h : F → F) (stream : List F) (tolerance : Tolerance) (lag : ℕ) (net : Net)
+    (from to : Option ℕ → State) (frame : F) (es : List (Net × F)) (a b m next : ℕ)
+    → 1 ≤ tolerance.check → 1 ≤ tolerance.window → lag + tolerance.window ≤ 255 → IsPlaced number h stream a frame
+    → b ≤ a + lag → m ≡ max a b → next ≡ max (suc a) b
+    → ((o : Option ℕ) → seen_on net (from o) ≡ last a) → ((o : Option ℕ) → (from o).accepted ≡ o)
+    → ((o : Option ℕ) → with_seen net (sequence_number a) (from o) ≡ to o)
+    → ((o : Option ℕ) → with_accepted (sequence_number a) (to o) ≡ to (last (suc a)))
+    → take m stream ++ map h (received number tolerance (from (last m)) ((net, frame) ∷ es))
+    ≡ take next stream ++ map h (received number tolerance (to (last next)) es)
+one_more {F = F} number h stream tolerance lag net from to frame es a b m next
+    check window near placed close m_is next_is seen took then_seen then_took = elim (cases_lt a b) [
+      | inl older ↦
+          let same : next ≡ m = omega arith in
+          let old : is_ahead tolerance.window (from (last m)).accepted (sequence_number a) ≡ false =
+          rw (took (last m)) (old_copy tolerance.window a m (omega arith) (omega arith)) in
+          rw same (ap (λ (fs : List F). take m stream ++ map h fs)
+          (drops_it number tolerance (from (last m)) (to (last m)) net frame es (sequence_number a) placed.1 old
+          (then_seen (last m))))
+      | inr newer ↦
+          let here : m ≡ a = omega arith in
+          let there : next ≡ suc a = omega arith in
+          let new : is_ahead tolerance.window (from (last a)).accepted (sequence_number a) ≡ true =
+          rw (took (last a)) (new_next tolerance.window a window) in
+          let valid : is_valid tolerance.check (seen_on net (from (last a))) (sequence_number a) ≡ true =
+          rw (seen (last a)) (valid_next tolerance.check a check) in
+          rw (here, there) (ap (λ (fs : List F). take a stream ++ map h fs) (takes_it number tolerance (from (last a))
+          (to (last (suc a))) net frame es (sequence_number a) placed.1 valid new
+          (ap (with_accepted (sequence_number a)) (then_seen (last a)) ∙ then_took (last a)))
+          ∙ grows h stream a frame (map h (received number tolerance (to (last (suc a))) es)) placed.0 placed.2)
+    ]
+
 -- what is accepted carries on the stream from where it stands
 pub hands_on : {F : Type 0} (number : F → ℕ) (h : F → F) (stream : List F)
     (tolerance : Tolerance) (lag : ℕ) (arrivals : List (Net × F)) (a b : ℕ)
@@ -70,84 +111,121 @@ pub hands_on : {F : Type 0} (number : F → ℕ) (h : F → F) (stream : List F)
     → Comes number h stream lag a b arrivals
     → take (max a b) stream ++ map h (received number tolerance (state_at a b) arrivals)
     ≡ take (max (a + length (carried A arrivals)) (b + length (carried B arrivals))) stream
-hands_on {F = F} number h stream tolerance lag [] a b check window near comes =
+hands_on number h stream tolerance lag [] a b check window near comes =
     append-nil (take (max a b) stream) ∙ ap (λ (k : ℕ). take k stream) (same a b)
   where
     same : (a b : ℕ) → max a b ≡ max (a + 0) (b + 0)
     same a b = omega arith
-hands_on {F = F} number h stream tolerance lag ((A, frame) ∷ es) a b check window near comes =
-    let placed = comes.0 in
-    let close = comes.1 in
-    let next = hands_on number h stream tolerance lag es (suc a) b check window near comes.2 in
-    let counts : max (suc a + length (carried A es)) (b + length (carried B es)) ≡ max
-    (a + suc (length (carried A es))) (b + length (carried B es)) = omega arith in
-    let whole = ap (λ (k : ℕ). take k stream) counts in
-    elim (cases_lt a b) [
-      | inl older ↦
-          let m : max a b ≡ b = max-eq_right (omega arith) in
-          let m' : max (suc a) b ≡ b = max-eq_right (omega arith) in
-          let old : is_ahead tolerance.window (last (max a b)) (sequence_number a) ≡ false =
-          ap (λ (k : ℕ). is_ahead tolerance.window (last k) (sequence_number a)) m
-          ∙ old_copy tolerance.window a b older (omega arith) in
-          let after : with_seen A (sequence_number a) (state_at a b) ≡ state_at (suc a) b =
-          ap (λ (k : ℕ). record { seen_a = last (suc a); seen_b = last b; accepted = last k }) (m ∙ sym m') in
-          ap (λ (fs : List F). take (max a b) stream ++ map h fs)
-          (drops_it number tolerance (state_at a b) (state_at (suc a) b) A frame es
-          (sequence_number a) placed.1 old after)
-          ∙ ap (λ (k : ℕ). take k stream ++ map h (received number tolerance (state_at (suc a) b) es)) (m ∙ sym m')
-          ∙ next ∙ whole
-      | inr newer ↦
-          let m : max a b ≡ a = max-eq_left newer in
-          let m' : max (suc a) b ≡ suc a = max-eq_left (omega arith) in
-          let new : is_ahead tolerance.window (last (max a b)) (sequence_number a) ≡ true =
-          ap (λ (k : ℕ). is_ahead tolerance.window (last k) (sequence_number a)) m
-          ∙ new_next tolerance.window a window in
-          let after : with_accepted (sequence_number a) (with_seen A (sequence_number a) (state_at a b)) ≡ state_at
-          (suc a) b = ap (λ (k : ℕ). record { seen_a = last (suc a); seen_b = last b; accepted = last k })
-          (sym m') in
-          ap (λ (fs : List F). take (max a b) stream ++ map h fs)
-          (takes_it number tolerance (state_at a b) (state_at (suc a) b) A frame es (sequence_number a) placed.1
-          (valid_next tolerance.check a check) new after)
-          ∙ ap (λ (k : ℕ). take k stream ++ (h frame ∷ map h (received number tolerance (state_at (suc a) b) es))) m
-          ∙ grows h stream a frame (map h (received number tolerance (state_at (suc a) b) es)) placed.0 placed.2
-          ∙ ap (λ (k : ℕ). take k stream ++ map h (received number tolerance (state_at (suc a) b) es)) (sym m')
-          ∙ next ∙ whole
-    ]
-hands_on {F = F} number h stream tolerance lag ((B, frame) ∷ es) a b check window near comes =
-    let placed = comes.0 in
-    let close = comes.1 in
-    let next = hands_on number h stream tolerance lag es a (suc b) check window near comes.2 in
-    let counts : max (a + length (carried A es)) (suc b + length (carried B es)) ≡ max (a + length (carried A es))
-    (b + suc (length (carried B es))) = omega arith in
-    let whole = ap (λ (k : ℕ). take k stream) counts in
-    elim (cases_lt b a) [
-      | inl older ↦
-          let m : max a b ≡ a = max-eq_left (omega arith) in
-          let m' : max a (suc b) ≡ a = max-eq_left (omega arith) in
-          let old : is_ahead tolerance.window (last (max a b)) (sequence_number b) ≡ false =
-          ap (λ (k : ℕ). is_ahead tolerance.window (last k) (sequence_number b)) m
-          ∙ old_copy tolerance.window b a older (omega arith) in
-          let after : with_seen B (sequence_number b) (state_at a b) ≡ state_at a (suc b) =
-          ap (λ (k : ℕ). record { seen_a = last a; seen_b = last (suc b); accepted = last k }) (m ∙ sym m') in
-          ap (λ (fs : List F). take (max a b) stream ++ map h fs)
-          (drops_it number tolerance (state_at a b) (state_at a (suc b)) B frame es
-          (sequence_number b) placed.1 old after)
-          ∙ ap (λ (k : ℕ). take k stream ++ map h (received number tolerance (state_at a (suc b)) es)) (m ∙ sym m')
-          ∙ next ∙ whole
-      | inr newer ↦
-          let m : max a b ≡ b = max-eq_right newer in
-          let m' : max a (suc b) ≡ suc b = max-eq_right (omega arith) in
-          let new : is_ahead tolerance.window (last (max a b)) (sequence_number b) ≡ true =
-          ap (λ (k : ℕ). is_ahead tolerance.window (last k) (sequence_number b)) m
-          ∙ new_next tolerance.window b window in
-          let after : with_accepted (sequence_number b)
-          (with_seen B (sequence_number b) (state_at a b)) ≡ state_at a (suc b) =
-          ap (λ (k : ℕ). record { seen_a = last a; seen_b = last (suc b); accepted = last k }) (sym m') in
-          ap (λ (fs : List F). take (max a b) stream ++ map h fs)
-          (takes_it number tolerance (state_at a b) (state_at a (suc b)) B frame es (sequence_number b) placed.1
-          (valid_next tolerance.check b check) new after)
-          ∙ ap (λ (k : ℕ). take k stream ++ (h frame ∷ map h (received number tolerance (state_at a (suc b)) es))) m
-          ∙ grows h stream b frame (map h (received number tolerance (state_at a (suc b)) es)) placed.0 placed.2
-          ∙ ap (λ (k : ℕ). take k stream ++ map h (received number tolerance (state_at a (suc b)) es)) (sym m')
-          ∙ next ∙ whole
-    ]
+hands_on number h stream tolerance lag ((A, frame) ∷ es) a b check window near comes =
+    let counts : max (suc a + length (carried A es)) (b + length (carried B es))
+    ≡ max (a + suc (length (carried A es))) (b + length (carried B es)) = omega arith in
+    one_more number h stream tolerance lag A (λ o. record { seen_a = last a; seen_b = last b; accepted = o })
+    (λ o. record { seen_a = last (suc a); seen_b = last b; accepted = o }) frame es a b (max a b) (max (suc a) b)
+    check window near comes.0 comes.1 refl refl (λ o. refl) (λ o. refl) (λ o. refl) (λ o. refl)
+    ∙ hands_on number h stream tolerance lag es (suc a) b check window near comes.2
+    ∙ ap (λ (k : ℕ). take k stream) counts
+hands_on number h stream tolerance lag ((B, frame) ∷ es) a b check window near comes =
+    let counts : max (a + length (carried A es)) (suc b + length (carried B es))
+    ≡ max (a + length (carried A es)) (b + suc (length (carried B es))) = omega arith in
+    one_more number h stream tolerance lag B (λ o. record { seen_a = last a; seen_b = last b; accepted = o })
+    (λ o. record { seen_a = last a; seen_b = last (suc b); accepted = o }) frame es b a (max a b) (max a (suc b))
+    check window near comes.0 comes.1 (omega arith) (omega arith) (λ o. refl) (λ o. refl) (λ o. refl) (λ o. refl)
+    ∙ hands_on number h stream tolerance lag es a (suc b) check window near comes.2
+    ∙ ap (λ (k : ℕ). take k stream) counts
+
+-- one more, or none
+len_by : {F : Type 0} (net from : Net) (frame : F) (rest : List F)
+    → length (carried_by net from frame rest) ≡ length (carried_by net from frame []) + length rest
+len_by A A frame rest = omega arith
+len_by A B frame rest = omega arith
+len_by B A frame rest = omega arith
+len_by B B frame rest = omega arith
+
+-- the count of what was carried, after one arrival more
+count_more : {F : Type 0} (net : Net) (before : List (Net × F)) (e : Net × F)
+    → length (carried net (before ++ e ∷ [])) ≡ length (carried net before) + length (carried net (e ∷ []))
+count_more net [] e = omega arith
+count_more net (x ∷ before) e =
+    let more = count_more net before e in
+    let a = len_by net x.0 x.1 (carried net (before ++ e ∷ [])) in
+    let b = len_by net x.0 x.1 (carried net before) in
+    omega arith
+
+-- the first of what is left
+pub first_of_rest : {X : Type 0} (xs : List X) (i : ℕ) (y : X) (ys : List X) → y ∷ ys ≡ drop i xs → (i < length xs)
+    × (y ≡ get_or xs i y) × (ys ≡ drop (suc i) xs)
+first_of_rest {X = X} xs i y ys e = elim (cases_lt i (length xs)) [
+  | inl inside ↦ let m : y ∷ ys ≡ get_or xs i y ∷ drop (i + 1) xs = e ∙ drop_more xs i y inside in
+      let one : suc i ≡ i + 1 = omega arith in
+      (inside, (cons_parts m).0, (cons_parts m).1 ∙ ap (λ (k : ℕ). drop k xs) (sym one))
+  | inr past ↦ let n : [] ≡ y ∷ ys = sym (e ∙ drop_all i xs past) in absurd (nil_isnt_cons n)
+]
+
+-- the frame at a place, as a network has it
+pub placed : (net : Net) (stream : List (List ℕ)) (i : ℕ) (frame : List ℕ) → All IsLong stream
+    → IsNumbered number_in 0 stream
+    → i < length (map (twin_of net) stream) → frame ≡ get_or (map (twin_of net) stream) i frame
+    → IsPlaced number_in (twin_of A) (map (twin_of A) stream) i frame
+placed net stream i frame long numbered inside is =
+    let l = length-map stream (twin_of net) in
+    let la = length-map stream (twin_of A) in
+    let within : i < length stream = omega arith in
+    let f : frame ≡ twin_of net (get_or stream i []) = is ∙ get_or-map (twin_of net) stream i [] frame within in (
+      omega arith,
+      ap number_in f ∙ twin_number net (get_or stream i []) (long i [] within)
+          ∙ numbered_at number_in 0 stream numbered i [] within ∙ ap sequence_number (omega arith),
+      ap (twin_of A) f ∙ set-set (get_or stream i []) 11 (interface_byte net) (interface_byte A)
+          ∙ sym (get_or-map (twin_of A) stream i [] (twin_of A frame) within),
+    )
+
+-- a frame that comes is in its place and near to the other network, and the rest of its network's follows
+one_comes : (net : Net) (stream : List (List ℕ)) (lag i j : ℕ) (arrivals es before : List (Net × List ℕ)) (frame : List ℕ)
+    → All IsLong stream → IsNumbered number_in 0 stream → IsNear lag arrivals
+    → arrivals ≡ before ++ (net, frame) ∷ es → i ≡ length (carried net before) → j ≡ length (carried (other net) before)
+    → IsPrefixOf (frame ∷ carried net es) (drop i (map (twin_of net) stream))
+    → IsPlaced number_in (twin_of A) (map (twin_of A) stream) i frame × (j ≤ i + lag)
+    × IsPrefixOf (carried net es) (drop (suc i) (map (twin_of net) stream))
+    × (arrivals ≡ (before ++ (net, frame) ∷ []) ++ es)
+one_comes net stream lag i j arrivals es before frame long numbered near whole mine others p =
+    let first = first_of_rest (map (twin_of net) stream) i frame (carried net es ++ p.0) p.1 in
+    let close = near before es net frame whole in (
+      placed net stream i frame long numbered first.0 first.1,
+      omega arith,
+      (p.0, first.2),
+      whole ∙ sym (append_assoc before ((net, frame) ∷ []) es),
+    )
+
+-- what two networks carry comes as the receiver needs it
+comes : (stream : List (List ℕ)) (lag : ℕ) (arrivals : List (Net × List ℕ)) (rest before : List (Net × List ℕ))
+    (a b : ℕ)
+    → All IsLong stream → IsNumbered number_in 0 stream → IsNear lag arrivals
+    → arrivals ≡ before ++ rest → a ≡ length (carried A before) → b ≡ length (carried B before)
+    → IsPrefixOf (carried A rest) (drop a (map (twin_of A) stream))
+    → IsPrefixOf (carried B rest) (drop b (map (twin_of B) stream))
+    → Comes number_in (twin_of A) (map (twin_of A) stream) lag a b rest
+comes stream lag arrivals [] before a b long numbered near whole na nb pa pb = tt
+comes stream lag arrivals ((A, frame) ∷ es) before a b long numbered near whole na nb pa pb =
+    let one = one_comes A stream lag a b arrivals es before frame long numbered near whole na nb pa in
+    let ca = count_more A before (A, frame) in
+    let cb = count_more B before (A, frame) in
+    let next = comes stream lag arrivals es (before ++ (A, frame) ∷ []) (suc a) b long numbered near one.3
+    (omega arith) (omega arith) one.2 pb in
+    (one.0, one.1, next)
+comes stream lag arrivals ((B, frame) ∷ es) before a b long numbered near whole na nb pa pb =
+    let one = one_comes B stream lag b a arrivals es before frame long numbered near whole nb na pb in
+    let ca = count_more A before (B, frame) in
+    let cb = count_more B before (B, frame) in
+    let next = comes stream lag arrivals es (before ++ (B, frame) ∷ []) a (suc b) long numbered near one.3
+    (omega arith) (omega arith) pa one.2 in
+    (one.0, one.1, next)
+
+-- the law
+pub exactly_once_holds : ExactlyOnce
+exactly_once_holds lag tolerance stream arrivals fit frames carry =
+    let c = comes stream lag arrivals arrivals [] 0 0 frames.long frames.numbered carry.near refl refl refl
+    carry.on_a carry.on_b in
+    let got = hands_on number_in (twin_of A) (map (twin_of A) stream) tolerance lag arrivals 0 0
+    fit.checks fit.opens fit.apart c in
+    let counts : max (0 + length (carried A arrivals)) (0 + length (carried B arrivals)) ≡ most_carried arrivals =
+    omega arith in
+    got ∙ ap (λ (k : ℕ). take k (map (twin_of A) stream)) counts

@@ -34,53 +34,35 @@ in_order : (start end : ℕ) (frames : List Arrival) → AreBetween start end fr
 in_order start end [] between = between
 in_order start end (f ∷ later) between = let first = between.0 in let rest = in_order f.at end later between.1 in omega arith
 
--- it can't cost more than what was there, and what filled
+-- it can't cost more than what was there, nor than the limit, and what filled: no more is there when the first frame
+-- comes
 spent : (charge : Charge) (rule : Rule) (credit start end : ℕ) (frames : List Arrival) → AreBetween start end frames
-    → cost charge rule (passed charge rule (record { credit = credit; since = start }) frames)
-    ≤ credit + rule.lmax * (end - start)
-spent charge rule credit start end [] between = omega arith
+    → (cost charge rule (passed charge rule (record { credit = credit; since = start }) frames)
+    ≤ credit + rule.lmax * (end - start))
+    × (cost charge rule (passed charge rule (record { credit = credit; since = start }) frames)
+    ≤ limit rule + rule.lmax * (end - start))
+spent charge rule credit start end [] between = (omega arith, omega arith)
 spent charge rule credit start end (f ∷ later) between =
     let account : Account = record { credit = credit; since = start } in
     let now : Account = filled rule account f.at in
     let order = in_order f.at end later between.1 in
     let whole = filled_over rule.lmax start f.at end between.0 order in
+    let least : now.credit ≤ limit rule = min-le_left (limit rule) (credit + rule.lmax * (f.at - start)) in
     let most : now.credit ≤ credit + rule.lmax * (f.at - start) = min-le_right (limit rule) (credit + rule.lmax * (f.at - start)) in
     elim (cases_lt now.credit (price charge rule f)) [
       | inl cannot ↦
-          let rest = spent charge rule now.credit f.at end later between.1 in
+          let rest = (spent charge rule now.credit f.at end later between.1).0 in
           let same = one_dropped charge rule account f later cannot in
-          omega arith
+          (omega arith, omega arith)
       | inr can ↦
-          let rest = spent charge rule (now.credit - price charge rule f) f.at end later between.1 in
+          let rest = (spent charge rule (now.credit - price charge rule f) f.at end later between.1).0 in
           let same = one_passed charge rule account f later can in
-          omega arith
-    ]
-
--- nor more than the limit, and what filled: no more is on the account when the first frame comes
-spent_limit : (charge : Charge) (rule : Rule) (credit start end : ℕ) (frames : List Arrival) → AreBetween start end frames
-    → cost charge rule (passed charge rule (record { credit = credit; since = start }) frames)
-    ≤ limit rule + rule.lmax * (end - start)
-spent_limit charge rule credit start end [] between = omega arith
-spent_limit charge rule credit start end (f ∷ later) between =
-    let account : Account = record { credit = credit; since = start } in
-    let now : Account = filled rule account f.at in
-    let order = in_order f.at end later between.1 in
-    let whole = filled_over rule.lmax start f.at end between.0 order in
-    let most : now.credit ≤ limit rule = min-le_left (limit rule) (credit + rule.lmax * (f.at - start)) in
-    elim (cases_lt now.credit (price charge rule f)) [
-      | inl cannot ↦
-          let rest = spent charge rule now.credit f.at end later between.1 in
-          let same = one_dropped charge rule account f later cannot in
-          omega arith
-      | inr can ↦
-          let rest = spent charge rule (now.credit - price charge rule f) f.at end later between.1 in
-          let same = one_passed charge rule account f later can in
-          omega arith
+          (omega arith, omega arith)
     ]
 
 -- the law
 pub no_more_passes_holds : NoMorePasses
 no_more_passes_holds charge rule credit start end frames between =
-    let all = spent_limit charge rule credit start end frames between in
+    let all = (spent charge rule credit start end frames between).1 in
     let whole = mul-add rule.lmax (rule.gap + rule.jitter) (end - start) in
     omega arith

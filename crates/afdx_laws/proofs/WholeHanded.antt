@@ -20,8 +20,7 @@ use Rattle.afdx_laws.specs.Networks.{most_carried}
 use Rattle.afdx_laws.specs.Handed.{longer}
 use Rattle.afdx_laws.specs.Plans.{id_at, piece_room, frames_of}
 use Rattle.afdx_laws.specs.WholeLists.{OwnListsArrive}
-use Rattle.afdx_laws.proofs.LinkFrames.{told_is, frames_side}
-use Rattle.afdx_laws.proofs.LegalLinks.{legal_arrive_holds}
+use Rattle.afdx_laws.proofs.LegalLinks.{told_is, frames_side, legal_arrive_holds}
 
 -- how many frames of a list are of a sub-VL
 abbrev many_of : ℕ → List (List ℕ) → ℕ

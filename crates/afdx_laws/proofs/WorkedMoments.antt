@@ -4,10 +4,9 @@ use Rattle.std.proofs.lemmas.List.{length-append}
 use Rattle.afdx_frame.specs.declared.net.Net.{Net}
 use Rattle.afdx_frame.specs.declared.net.Net.TheVariants.{A, B}
 use Rattle.afdx_laws.specs.Receiver.{carried, IsNear}
-use Rattle.afdx_laws.specs.Skew.{IsDelivered}
+use Rattle.afdx_laws.specs.Skew.{IsDelivered, released_at, arrival_of, both_copies, ComesInTime, BearsUnder254}
 use Rattle.afdx_laws.proofs.ListLemmas.{cons_parts}
 use Rattle.afdx_laws.proofs.WorkedMessage.{few_are_near}
-use Rattle.afdx_laws.specs.WorkedSkew.{released_at, arrival_of, both_copies, ComesInTime, BearsUnder254}
 
 -- each copy comes in time
 both_delivered : IsDelivered 400 released_at arrival_of both_copies

@@ -1,12 +1,11 @@
 -- The worked policing, by computation.
-use Rattle.std.proofs.Common.{◌≡◌, ℕ, ◌≤◌, List, [], ◌∷◌, length, map, replicate, refl, ap, arith}
+use Rattle.std.proofs.Common.{ℕ, ◌≤◌, [], ◌∷◌, replicate, refl, arith}
 use Rattle.std.specs.Prelude.{All}
-use Rattle.std.specs.List.{AllZip}
-use Rattle.std.proofs.lemmas.List.Elements.{All-cons, All-nil}
+use Rattle.std.proofs.lemmas.List.Elements.{All-from_recursion}
 use Rattle.redundant_mux.specs.Entry.{entry}
-use Rattle.afdx_laws.specs.Policer.{Arrival, by_bytes, arrival, full, passed}
-use Rattle.afdx_laws.specs.Spacing.{IsUpTo, IsOnItsWay}
-use Rattle.afdx_laws.specs.WorkedPolicing.{two_entries, two_passages, rule_around, late_passages, close_passages, small_rule, PolicesThree, SpendsAll, NeedsRisingMoments, DropsTheEarly, PassesTwo, NeedsTheGap, NeedsTheGreatest, NeedsTheJitter}
+use Rattle.afdx_laws.specs.Spacing.{IsUpTo}
+use Rattle.afdx_laws.specs.WorkedPolicing.{PolicesThree, SpendsAll, NeedsRisingMoments, DropsTheEarly, PassesTwo, NeedsTheGap, NeedsTheGreatest, NeedsTheJitter}
+use Rattle.afdx_laws.proofs.ListLemmas.{other_length}
 
 -- they are policed so
 pub polices_three : PolicesThree
@@ -49,30 +48,23 @@ drops_the_early = record { early = refl; in_time = refl }
 -- two frames of 60 bytes are no greater than 64 with their check sequences
 two_small : (now : ℕ) → All (IsUpTo 64) (entry 0 (replicate 60 7) ∷ entry now (replicate 60 7) ∷ [])
 two_small now =
-    let size : length {A = ℕ} (replicate 60 7) ≡ 60 = refl in
-    All-cons (IsUpTo 64) (entry 0 (replicate 60 7)) (entry now (replicate 60 7) ∷ []) (omega arith)
-    (All-cons (IsUpTo 64) (entry now (replicate 60 7)) [] (omega arith) (All-nil (IsUpTo 64)))
-
--- both are on their way
-two_on_their_way : AllZip (IsOnItsWay 20 200) two_entries two_passages
-two_on_their_way = (
-  record { released = refl; size = refl; after = omega arith; soon = omega arith },
-  (record { released = refl; size = refl; after = omega arith; soon = omega arith }, tt),
-)
+    All-from_recursion (IsUpTo 64) (entry 0 (replicate 60 7) ∷ entry now (replicate 60 7) ∷ []) (
+      omega arith,
+      (omega arith, tt),
+    )
 
 -- a spaced stream passes
 pub passes_two : PassesTwo
 passes_two = record {
   spaced = (tt, (omega arith, tt));
   small = two_small 1000;
-  way = two_on_their_way;
+  way = (
+    record { released = refl; size = refl; after = omega arith; soon = omega arith },
+    (record { released = refl; size = refl; after = omega arith; soon = omega arith }, tt),
+  );
   bytes_pass = refl;
   frames_pass = refl;
 }
-
--- one of two frames isn't both
-one_of_two : (xs ys : List Arrival) → length xs ≡ 1 → length ys ≡ 2 → xs ≡ ys → ⊥
-one_of_two xs ys one two same = let count = ap length same in omega arith
 
 -- a stream that isn't spaced
 pub needs_the_gap : NeedsTheGap
@@ -83,8 +75,7 @@ needs_the_gap = record {
     record { released = refl; size = refl; after = omega arith; soon = omega arith },
     (record { released = refl; size = refl; after = omega arith; soon = omega arith }, tt),
   );
-  pass = one_of_two (passed by_bytes rule_around (full rule_around) (map arrival close_passages))
-      (map arrival close_passages) refl refl;
+  pass = other_length refl;
 }
 
 -- frames that are greater
@@ -92,9 +83,8 @@ pub needs_the_greatest : NeedsTheGreatest
 needs_the_greatest = record {
   spaced = (tt, (omega arith, tt));
   small = λ small. let fits : 64 ≤ 63 = small 0 (entry 0 []) (omega arith) in absurd (omega arith);
-  way = two_on_their_way;
-  pass = one_of_two (passed by_bytes small_rule (full small_rule) (map arrival two_passages))
-      (map arrival two_passages) refl refl;
+  way = passes_two.way;
+  pass = other_length refl;
 }
 
 -- a frame that is late
@@ -103,6 +93,5 @@ needs_the_jitter = record {
   spaced = (tt, (omega arith, tt));
   small = two_small 1000;
   way = λ way. let soon : 201 ≤ 200 = way.0.soon in absurd (omega arith);
-  pass = one_of_two (passed by_bytes rule_around (full rule_around) (map arrival late_passages))
-      (map arrival late_passages) refl refl;
+  pass = other_length refl;
 }

@@ -1,25 +1,22 @@
--- The worked reassembly, by computation.
-use Rattle.std.proofs.Common.{◌≡◌, ℕ, zero, suc, ◌≤◌, false, List, [], ◌∷◌, length, map, take, refl, ap, sym, ◌∙◌, arith}
-use Rattle.std.specs.Prelude.{All}
+-- The worked reassembly and its buffers, by computation.
+use Rattle.std.proofs.Common.{ℕ, zero, suc, ◌≤◌, false, [], ◌∷◌, length, take, refl, arith, ◌≡◌, inl, inr, true, ap, sym}
+use Rattle.std.specs.Prelude.{All, Some, None}
 use Rattle.std.specs.List.{range_with_len}
-use Rattle.std.proofs.lemmas.List.Elements.{All-cons, All-nil}
+use Rattle.std.proofs.lemmas.List.Elements.{All-from_recursion}
 use Rattle.afdx_frame.specs.Cutting.{cutting}
-use Rattle.afdx_legal.specs.Streams.{IsPrefixOf}
-use Rattle.afdx_frame.specs.Reassembly.{Fragment, empty}
-use Rattle.afdx_laws.specs.Delivery.{HasByte, delivered, of_sub, sent_from, AreGiven}
-use Rattle.afdx_laws.specs.WorkedOrder.{two_datagrams, five_fragments, second_came, one_without_bytes, eight_bytes, FirstIsGiven, NeedsOrder}
+use Rattle.afdx_laws.specs.Delivery.{HasByte, of_sub, sent_from, AreGiven}
+use Rattle.afdx_laws.specs.WorkedOrder.{two_datagrams, five_fragments, second_came, one_without_bytes, eight_bytes, FirstIsGiven, NeedsOrder, two_begun, HoldsTheSecond, NeedsInTurn, HoldsAFrame}
+use Rattle.afdx_laws.proofs.WorkedMessage.{not_front, both_handed, one_message_arrives}
 use Rattle.afdx_laws.proofs.InOrder.{in_order_holds}
-
--- they are the first fragments
-four_first : IsPrefixOf (of_sub 0 five_fragments) (sent_from 8 0 0 two_datagrams)
-unfolding cutting
-four_first = ((4, record { offset = 1; more = false; bytes = range_with_len 29 4 }) ∷ [], refl)
-
--- both datagrams have five
-five_are : (j : ℕ) → length (sent_from 8 0 0 (take (suc (suc j)) two_datagrams)) ≡ 5
-unfolding cutting
-five_are zero = refl
-five_are (suc j) = refl
+use Rattle.std.proofs.lemmas.Bool.{cases_eq}
+use Rattle.afdx_frame.specs.declared.net.Net.TheVariants.{A, B}
+use Rattle.afdx_frame.specs.Checksum.{checksum}
+use Rattle.afdx_frame.specs.Frame.{addresses, header_front, internet_header, link_header, udp_header, datagram, unnumbered}
+use Rattle.afdx_frame.specs.Reassembly.{Buffer, empty}
+use Rattle.afdx_laws.specs.Buffers.{buffers_after, HoldsOne, HasUpTo}
+use Rattle.afdx_laws.specs.WorkedDelivery.{one_accepted, both_frames, four_arrivals, plain_receiver}
+use Rattle.afdx_laws.proofs.OneBuffer.{one_buffer}
+use Rattle.afdx_laws.proofs.NeededBuffers.{handed_need_one}
 
 -- fragments of both are more than came
 first_alone : (j : ℕ) → j ≤ length two_datagrams
@@ -27,78 +24,88 @@ first_alone : (j : ℕ) → j ≤ length two_datagrams
 unfolding cutting
 first_alone zero few enough = omega arith
 first_alone (suc zero) few enough = omega arith
-first_alone (suc (suc j)) few enough = let more = five_are j in absurd (omega arith)
-
--- one more than the length of the first of some datagrams
-abbrev mark : List (List ℕ) → ℕ
-mark [] = 0
-mark (datagram ∷ later) = suc (length datagram)
-
--- what is given begins some datagrams
-given_begins : (room sub : ℕ) (datagrams given : List (List ℕ)) (came : List (ℕ × Fragment))
-    → map (λ (e : ℕ × List ℕ). e.1) (of_sub sub (delivered (λ key. empty) came)) ≡ given
-    → ((many : ℕ) → mark given ≡ mark (take many datagrams) → ⊥) → AreGiven room sub datagrams came → ⊥
-given_begins room sub datagrams given came is differ are = differ are.0 (ap mark (sym is ∙ are.1))
-
--- the second datagram isn't the first
-lost_given : AreGiven 8 0 two_datagrams second_came → ⊥
-lost_given = given_begins 8 0 two_datagrams (range_with_len 21 12 ∷ []) second_came refl differ
-  where
-    differ : (many : ℕ) → 13 ≡ mark (take many two_datagrams) → ⊥
-    differ zero e = let no : 13 ≡ 0 = e in omega arith
-    differ (suc many) e = let no : 13 ≡ 21 = e in omega arith
-
--- nor is the datagram that has a byte
-none_given : AreGiven 8 0 one_without_bytes (sent_from 8 0 0 one_without_bytes) → ⊥
-unfolding cutting
-none_given = given_begins 8 0 one_without_bytes ((7 ∷ []) ∷ []) (sent_from 8 0 0 one_without_bytes) refl differ
-  where
-    differ : (many : ℕ) → 2 ≡ mark (take many one_without_bytes) → ⊥
-    differ zero e = let no : 2 ≡ 0 = e in omega arith
-    differ (suc many) e = let no : 2 ≡ 1 = e in omega arith
-
--- nor an empty one
-small_given : AreGiven 7 0 eight_bytes (sent_from 7 0 0 eight_bytes) → ⊥
-unfolding cutting
-small_given = given_begins 7 0 eight_bytes ([] ∷ []) (sent_from 7 0 0 eight_bytes) refl differ
-  where
-    differ : (many : ℕ) → 1 ≡ mark (take many eight_bytes) → ⊥
-    differ zero e = let no : 1 ≡ 0 = e in omega arith
-    differ (suc many) e = let no : 1 ≡ 9 = e in omega arith
-
--- all that was sent came
-none_first : IsPrefixOf (of_sub 0 (sent_from 8 0 0 one_without_bytes)) (sent_from 8 0 0 one_without_bytes)
-unfolding cutting
-none_first = ([], refl)
-
-small_first : IsPrefixOf (of_sub 0 (sent_from 7 0 0 eight_bytes)) (sent_from 7 0 0 eight_bytes)
-unfolding cutting
-small_first = ([], refl)
+first_alone (suc (suc zero)) few enough = absurd (omega arith)
+first_alone (suc (suc (suc j))) few enough = absurd (omega arith)
 
 -- both datagrams have a byte
 pub two_some : All HasByte two_datagrams
-two_some = All-cons HasByte (range_with_len 1 20) (range_with_len 21 12 ∷ []) (omega arith)
-    (All-cons HasByte (range_with_len 21 12) [] (omega arith) (All-nil HasByte))
+two_some = All-from_recursion HasByte two_datagrams (omega arith, (omega arith, tt))
+
+-- the row
+pub first_is_given : FirstIsGiven
+unfolding cutting
+first_is_given = record {
+  some = two_some;
+  first = ((4, record { offset = 1; more = false; bytes = range_with_len 29 4 }) ∷ [], refl);
+  given = refl;
+  all = first_alone;
+}
+
+-- the second datagram isn't the first
+lost_given : AreGiven 8 0 two_datagrams second_came → ⊥
+lost_given are = not_front length two_datagrams are.0 refl are.1
 
 -- the row of fragments that are out of order
 pub needs_order : NeedsOrder
+unfolding cutting
 needs_order = record {
   some = two_some;
   lost = λ begins. lost_given (in_order_holds 8 0 two_datagrams second_came (omega arith) two_some begins);
   lost_given = lost_given;
   none = λ all. let some : 1 ≤ 0 = all 0 [] (omega arith) in absurd (omega arith);
-  none_first = none_first;
-  none_given = none_given;
-  small_some = All-cons HasByte (range_with_len 1 8) [] (omega arith) (All-nil HasByte);
-  small_first = small_first;
-  small_given = small_given;
+  none_first = ([], refl);
+  none_given = λ are. not_front length one_without_bytes are.0 refl are.1;
+  small_some = All-from_recursion HasByte eight_bytes (omega arith, tt);
+  small_first = ([], refl);
+  small_given = λ are. not_front length eight_bytes are.0 refl are.1;
 }
 
--- the row
-pub first_is_given : FirstIsGiven
-first_is_given = record {
+-- the second datagram waits
+pub holds_the_second : HoldsTheSecond
+holds_the_second = record { first = refl; other = refl; second = refl; begun = refl; both = refl }
+
+-- a buffer that has a byte isn't empty
+has_byte : (b : Buffer) (x : ℕ) → b.byte_at 0 ≡ Some x → b ≡ empty → ⊥
+has_byte b x has is = cc (ap (λ (c : Buffer). c.byte_at 0) is)
+
+-- two buffers have a byte
+two_hold : HoldsOne 0 20 (buffers_after (λ key. empty) two_begun) → ⊥
+two_hold one = elim (cases_eq one.key 0) [
+  | inl first ↦ has_byte (buffers_after (λ key. empty) two_begun 4) 21 refl
+      (one.others 4 refl (λ is. absurd (omega (arith, is, first))))
+  | inr other ↦ has_byte (buffers_after (λ key. empty) two_begun 0) 1 refl (one.others 0 refl (λ is. other (sym is)))
+]
+
+-- no datagram has more than 20 bytes
+two_sizes : All (HasUpTo 20) two_datagrams
+two_sizes = All-from_recursion (HasUpTo 20) two_datagrams (omega arith, (omega arith, tt))
+
+-- the row of datagrams that are begun at once, and of a buffer that is too small
+pub needs_in_turn : NeedsInTurn
+unfolding cutting
+needs_in_turn = record {
   some = two_some;
-  first = four_first;
+  size = two_sizes;
+  begun = λ begins. two_hold (one_buffer 8 0 20 two_datagrams two_begun (omega arith) two_some two_sizes begins);
+  begun_hold = two_hold;
+  small = λ sizes. let size : 20 ≤ 8 = sizes 0 [] (omega arith) in absurd (omega arith);
+  first = (
+    (0, record { offset = 2; more = false; bytes = range_with_len 17 4 })
+        ∷ (4, record { offset = 0; more = true; bytes = range_with_len 21 8 })
+        ∷ (4, record { offset = 1; more = false; bytes = range_with_len 29 4 })
+        ∷ [],
+    refl,
+  );
+  small_hold = λ one. let ninth : Some 9 ≡ None = one.within 0 refl 8 (omega arith) in cc;
+}
+
+-- the row of a frame
+pub holds_a_frame : HoldsAFrame
+unfolding checksum addresses header_front internet_header link_header udp_header datagram unnumbered
+holds_a_frame = record {
+  last = refl;
+  next = refl;
   given = refl;
-  all = first_alone;
+  enough = handed_need_one 1 25 0 3 plain_receiver one_accepted (both_frames A) (both_frames B) four_arrivals
+      both_handed one_message_arrives.fit one_message_arrives.carry;
 }

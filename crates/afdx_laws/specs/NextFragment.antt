@@ -1,5 +1,5 @@
 -- How far two neighbouring fragments of a message lie apart, where the sub-VLs of their link take turns.
-use Rattle.std.specs.Prelude.{◌≡◌, ◌≢◌, ℕ, ◌+◌, ◌*◌, ◌≤◌, ◌<◌, max, true, Some, List, [], ◌∷◌, ◌++◌, length, All}
+use Rattle.std.specs.Prelude.{◌≡◌, ◌≢◌, ℕ, ◌+◌, ◌*◌, ◌≤◌, ◌<◌, max, true, Some, List, [], ◌∷◌, ◌++◌, length, All, false}
 use Rattle.afdx_plan.specs.Config.{Plan, IsPlan, link_plan_at}
 use Rattle.afdx_plan.specs.Plan.{bag_micros}
 use Rattle.afdx_plan.specs.declared.link_plan.LinkPlan.{LinkPlan}
@@ -11,6 +11,8 @@ use Rattle.afdx_legal.specs.Streams.{link_stream}
 use Rattle.afdx_legal.specs.Legal.{Accepted, IsLegalOn}
 use Rattle.afdx_legal.specs.Turns.{more_in, TakesTurns, TakeTurnsOn}
 use Rattle.afdx_laws.specs.Plans.{id_at}
+use Rattle.afdx_plan.specs.Demo.{demo_plan}
+use Rattle.afdx_legal.specs.WorkedTurns.{turn_entry, in_turn}
 
 -- In a stream, an entry behind which more fragments of its message are to come, the entries of other
 -- sub-VLs that follow, and then the next entry of its own.
@@ -72,3 +74,16 @@ NextInPlan = (plan : Plan) (accepted : Accepted) (net : Net) (handed : List Entr
     → AreNeighbours (link_stream (id_at plan k) handed) first between next
     → FollowWithin (bag_micros (link_plan_at plan.links k).bag + late) first.at (between ++ next ∷ [])
     → next.at ≤ first.at + longest_wait late plan.links
+
+-- the entry between them
+abbrev pub one_between : List Entry
+one_between = turn_entry 1000 1 false ∷ []
+
+-- They lie two gaps apart on a link of two sub-VLs, so the bound is met. With polls that are 50
+-- microseconds late it is a little more on the demonstration's one link.
+pub record LieTwoGapsApart : Type 0 where
+  pub are : AreNeighbours in_turn (turn_entry 0 0 true) one_between (turn_entry 2000 0 false)
+  pub round : length one_between + 1 ≡ 2
+  pub within : FollowWithin 1000 0 (turn_entry 1000 1 false ∷ turn_entry 2000 0 false ∷ [])
+  pub most : 0 + 2 * (1000 + 0) ≡ 2000
+  pub number : longest_wait 50 demo_plan.links ≡ 1050

@@ -1,5 +1,5 @@
 -- Every link of a plan at once: from legal handing over past the switch to the messages at the
--- receiving ends.
+-- receiving ends. Of a link on one network all comes from there.
 use Rattle.std.specs.Prelude.{◌≡◌, ℕ, ◌+◌, ◌≤◌, ◌<◌, List, length, map, take, All}
 use Rattle.std.specs.List.{AllZip}
 use Rattle.afdx_plan.specs.Config.{Plan, IsPlan, link_plan_at}
@@ -8,7 +8,7 @@ use Rattle.afdx_plan.specs.Room.{room_of}
 use Rattle.afdx_frame.specs.declared.net.Net.{Net}
 use Rattle.afdx_frame.specs.Header.{number_in}
 use Rattle.redundant_mux.specs.Entry.{Entry}
-use Rattle.afdx_legal.specs.Streams.{link_stream}
+use Rattle.afdx_legal.specs.Streams.{link_stream, IsPrefixOf}
 use Rattle.afdx_legal.specs.Legal.{Accepted, IsLegalOn, IsLegal}
 use Rattle.afdx_legal.specs.Allowed.{IsAllowed}
 use Rattle.afdx_laws.specs.Policer.{Charge, Rule, Passage, arrival, full, passed}
@@ -18,6 +18,8 @@ use Rattle.afdx_laws.specs.Networks.{most_carried}
 use Rattle.afdx_laws.specs.Loss.{AreClose, next_alone, frames_at}
 use Rattle.afdx_laws.specs.Messages.{messages_in, AreFirst}
 use Rattle.afdx_laws.specs.Handed.{AreCarriedOf, longer}
+use Rattle.afdx_frame.specs.declared.net.Net.TheVariants.{A, B}
+use Rattle.redundant_mux.specs.Logged.{only}
 
 -- the identifier of a plan's link
 abbrev pub id_at : Plan → ℕ → ℕ
@@ -85,3 +87,27 @@ LegalPasses = (plan : Plan) (accepted : Accepted) (net : Net) (handed : List Ent
     → passed charge (rule_at plan k around jitter) (full (rule_at plan k around jitter))
     (map arrival passages)
     ≡ map arrival passages
+
+-- of two handed lists that of a network
+abbrev pub handed_to : Net → (a b : List Entry) → List Entry
+handed_to A a b = a
+handed_to B a b = b
+
+-- frames that all come from one network
+abbrev pub all_from : Net → List (List ℕ) → List (Net × List ℕ)
+all_from net frames = map (λ (frame : List ℕ). (net, frame)) frames
+
+-- Of what was handed over legally, for a valid plan, a link is on one network, which carries some beginning
+-- of its frames. Then the receiver's messages of each sub-VL are the first of its accepted messages, in order
+-- and each once, and all whose fragments came.
+abbrev pub OneNetworkArrives : Type 0
+OneNetworkArrives = (plan : Plan) (accepted : Accepted) (a b : List Entry)
+    → IsPlan plan → IsLegal plan accepted a b
+    → (k sub : ℕ) → k < length plan.links → sub < (link_plan_at plan.links k).sub_vls
+    → All (IsAllowed plan k sub) (accepted k sub)
+    → (net : Net) → (link_plan_at plan.links k).networks ≡ only net
+    → (tolerance : Tolerance) (came : List (List ℕ))
+    → IsFitFor 0 tolerance
+    → IsPrefixOf came (frames_of (id_at plan k) (handed_to net a b))
+    → AreFirst plan.end_system (piece_room plan k) sub (accepted k sub) came
+    (messages_in sub (received number_in tolerance begin (all_from net came)))

@@ -1,6 +1,6 @@
 -- Worked polls of the next fragment: a link of two sub-VLs with a gap of 1,000 microseconds and polls up to 600
 -- apart. A fragment of sub-VL 0 was released at the moment 0, and the next one waits.
-use Rattle.std.specs.Prelude.{ℕ, ◌+◌, ◌*◌, ◌≤◌, ◌<◌, Some, None, List, [], ◌∷◌, nat_eq}
+use Rattle.std.specs.Prelude.{ℕ, ◌+◌, ◌*◌, ◌≤◌, ◌<◌, Some, None, List, [], ◌∷◌, nat_eq, map}
 use Rattle.vl_shaper.specs.Polls.{Poll, AreServed, ArePolled, HasAtPolls, latest_poll, released_by}
 use Rattle.vl_shaper.specs.WorkedPolls.{busy_poll, idle_poll, served_at_0, six_polls, late_polls}
 
@@ -20,15 +20,13 @@ pub record PollsInTime : Type 0 where
   pub reach : ReachTheBound six_polls
   pub released : IsReleasedInTime six_polls
 
--- polls at which each sub-VL has something, and no frame is released
+-- six polls, 600 microseconds apart
+abbrev pub six_times : (ℕ → Poll) → List Poll
+six_times poll_at = map poll_at (600 ∷ 1200 ∷ 1800 ∷ 2400 ∷ 3000 ∷ 3600 ∷ [])
+
+-- at which each sub-VL has something, and no frame is released
 abbrev pub six_unserved : List Poll
-six_unserved = busy_poll 600 None
-    ∷ busy_poll 1200 None
-    ∷ busy_poll 1800 None
-    ∷ busy_poll 2400 None
-    ∷ busy_poll 3000 None
-    ∷ busy_poll 3600 None
-    ∷ []
+six_unserved = six_times (λ moment. busy_poll moment None)
 
 -- No poll releases it, though the link is due.
 pub record NeedsServing : Type 0 where
@@ -48,13 +46,7 @@ pub record NeedsNoDelay : Type 0 where
 
 -- polls at which no sub-VL has something
 abbrev pub six_idle : List Poll
-six_idle = idle_poll 600
-    ∷ idle_poll 1200
-    ∷ idle_poll 1800
-    ∷ idle_poll 2400
-    ∷ idle_poll 3000
-    ∷ idle_poll 3600
-    ∷ []
+six_idle = six_times idle_poll
 
 -- No poll finds it waiting.
 pub record NeedsWaiting : Type 0 where
@@ -86,13 +78,7 @@ abbrev pub foreign_poll : ℕ → Poll
 foreign_poll moment = record { at = moment; has = λ sub. nat_eq sub 2; released = None }
 
 abbrev pub six_foreign : List Poll
-six_foreign = foreign_poll 600
-    ∷ foreign_poll 1200
-    ∷ foreign_poll 1800
-    ∷ foreign_poll 2400
-    ∷ foreign_poll 3000
-    ∷ foreign_poll 3600
-    ∷ []
+six_foreign = six_times foreign_poll
 
 -- Such a sub-VL has no turn.
 pub record NeedsASubVl : Type 0 where

@@ -14,26 +14,17 @@ ghost use Rattle.afdx_laws.specs.Handed.{HandedArrive, HandedDespiteLoss};
 ghost use Rattle.afdx_laws.specs.Loss.{FirstComes, LossMasked, LossNotMasked, MaskedFromFirst, NumbersClash};
 ghost use Rattle.afdx_laws.specs.Messages.{DespiteLoss, MessagesArrive};
 ghost use Rattle.afdx_laws.specs.Networks.{ExactlyOnce};
-ghost use Rattle.afdx_laws.specs.NextFragment.{NextInARound, NextInPlan, NextInTime, NextPolledInTime};
-ghost use Rattle.afdx_laws.specs.OneNetwork.{OneNetworkArrives};
-ghost use Rattle.afdx_laws.specs.Plans.{LegalArrive, LegalDespiteLoss};
-ghost use Rattle.afdx_laws.specs.Skew.{SkewIsFit, SkewIsNear};
+ghost use Rattle.afdx_laws.specs.NextFragment.{NextInARound, NextInPlan, NextInTime, NextPolledInTime, LieTwoGapsApart};
+ghost use Rattle.afdx_laws.specs.Plans.{OneNetworkArrives, LegalArrive, LegalDespiteLoss};
+ghost use Rattle.afdx_laws.specs.Skew.{SkewIsFit, SkewIsNear, BearsUnder254, ComesInTime};
 ghost use Rattle.afdx_laws.specs.WorkedCounts.{CountsTwo};
-ghost use Rattle.afdx_laws.specs.WorkedBuffers.{HoldsTheSecond, NeedsInTurn, HoldsAFrame};
-ghost use Rattle.afdx_laws.specs.WorkedDelivery.{OneMessageArrives, NeedsHanding};
-ghost use Rattle.afdx_laws.specs.WorkedLoss.{MasksOneLoss, NeedsTheFirst, BeginsOnBoth};
-ghost use Rattle.afdx_laws.specs.WorkedLoss.{ComesDespiteLoss, NeedsAWholeNetwork, HandedDespiteOneLoss, NeedsOneWhole, LegalDespiteOneLoss};
-ghost use Rattle.afdx_laws.specs.WorkedNetworks.{AreTwinsOfOne, ComesFromOne};
-ghost use Rattle.afdx_laws.specs.WorkedNextFragment.{LieTwoGapsApart};
-ghost use Rattle.afdx_laws.specs.WorkedOrder.{FirstIsGiven, NeedsOrder};
-ghost use Rattle.afdx_laws.specs.WorkedPlan.{OneIsLegal};
+ghost use Rattle.afdx_laws.specs.WorkedOrder.{HoldsTheSecond, NeedsInTurn, HoldsAFrame, FirstIsGiven, NeedsOrder};
+ghost use Rattle.afdx_laws.specs.WorkedDelivery.{OneMessageArrives, NeedsHanding, AcceptsEachOnce, NeedsNumbers, NeedsBeginnings, NeedsALag, StreamArrives, NeedsAStream, ClashesPast254};
+ghost use Rattle.afdx_laws.specs.WorkedLoss.{MasksOneLoss, NeedsTheFirst, BeginsOnBoth, ComesDespiteLoss, NeedsAWholeNetwork, HandedDespiteOneLoss, NeedsOneWhole, LegalDespiteOneLoss};
+ghost use Rattle.afdx_laws.specs.WorkedPlan.{AreTwinsOfOne, ComesFromOne, OneIsLegal, OneIsWhole, NeedsAll};
 ghost use Rattle.afdx_laws.specs.WorkedPair.{NeedsLegal, NeedsClose};
 ghost use Rattle.afdx_laws.specs.WorkedPolled.{PollsInTime, NeedsInTime};
-ghost use Rattle.afdx_laws.specs.WorkedReceiving.{AcceptsEachOnce, NeedsNumbers, NeedsBeginnings, NeedsALag};
-ghost use Rattle.afdx_laws.specs.WorkedReceiving.{StreamArrives, NeedsAStream, ClashesPast254};
 ghost use Rattle.afdx_laws.specs.WholeLists.{OwnListsArrive};
-ghost use Rattle.afdx_laws.specs.WorkedSkew.{BearsUnder254, ComesInTime};
-ghost use Rattle.afdx_laws.specs.WorkedWhole.{OneIsWhole, NeedsAll};
 
 /// A receiver accepts each frame of a link exactly once and in order, as far as one of the networks
 /// carried them, from any interleaving of what the two networks carried, as long as none is more

@@ -6,8 +6,7 @@ ghost use Rattle.afdx_laws.specs.Plans.{LegalPasses};
 ghost use Rattle.afdx_laws.specs.Policer.{EarlyDropped, NoMorePasses, NoneDropped};
 ghost use Rattle.afdx_laws.specs.Spacing.{StreamPasses};
 ghost use Rattle.afdx_laws.specs.WorkedPair.{PassesAGapApart};
-ghost use Rattle.afdx_laws.specs.WorkedPolicing.{PolicesThree, SpendsAll, NeedsRisingMoments, DropsTheEarly};
-ghost use Rattle.afdx_laws.specs.WorkedPolicing.{PassesTwo, NeedsTheGap, NeedsTheGreatest, NeedsTheJitter};
+ghost use Rattle.afdx_laws.specs.WorkedPolicing.{PolicesThree, SpendsAll, NeedsRisingMoments, DropsTheEarly, PassesTwo, NeedsTheGap, NeedsTheGreatest, NeedsTheJitter};
 
 /// A switch that polices a link by its gap, its greatest frame and a jitter, by bytes or by frames,
 /// drops no frame of a link that keeps its gap, whatever each frame is delayed by on its way, up to

@@ -1,6 +1,7 @@
 -- The words of streams, over lists that are mapped, joined or looked into.
-use Rattle.std.proofs.Common.{ℕ, ◌≡◌, zero, suc, ◌+◌, ◌<◌, List, [], ◌∷◌, ◌++◌, Bool, true, false, nat_eq, cond, length, map, get_or, arith, refl, ap, ◌∙◌}
+use Rattle.std.proofs.Common.{ℕ, ◌≡◌, zero, suc, ◌+◌, ◌<◌, List, [], ◌∷◌, ◌++◌, nat_eq, length, map, get_or, arith, refl, ap, ◌∙◌, inl, inr}
 use Rattle.std.specs.Prelude.{All}
+use Rattle.std.proofs.lemmas.Bool.{cases_Bool}
 use Rattle.std.proofs.lemmas.List.Elements.{filter-append, All-cons, All-nil, All-tail}
 use Rattle.afdx_plan.specs.Numbers.{sequence_number}
 use Rattle.afdx_plan.specs.declared.link_plan.LinkPlan.{LinkPlan}
@@ -18,15 +19,10 @@ with_append {F = F} read n xs ys = filter-append (λ (x : F). nat_eq (read x) n)
 pub with_map : {X Y : Type 0} (of_x : X → ℕ) (of_y : Y → ℕ) (f : X → Y) (n : ℕ) → ((x : X) → of_y (f x) ≡ of_x x)
     → (xs : List X) → those_with of_y n (map f xs) ≡ map f (those_with of_x n xs)
 with_map of_x of_y f n same [] = refl
-with_map {X = X} {Y = Y} of_x of_y f n same (x ∷ xs) =
-    ap (λ (m : ℕ). cond (nat_eq m n) (f x ∷ those_with of_y n (map f xs)) (those_with of_y n (map f xs))) (same x)
-    ∙ one (nat_eq (of_x x) n) (with_map of_x of_y f n same xs)
-  where
-    one : (t : Bool) → those_with of_y n (map f xs) ≡ map f (those_with of_x n xs)
-        → cond t (f x ∷ those_with of_y n (map f xs)) (those_with of_y n (map f xs))
-        ≡ map f (cond t (x ∷ those_with of_x n xs) (those_with of_x n xs))
-    one true rest = ap (λ (ys : List Y). f x ∷ ys) rest
-    one false rest = rest
+with_map {Y = Y} of_x of_y f n same (x ∷ xs) = elim (cases_Bool (nat_eq (of_x x) n)) [
+  | inl is ↦ rw (same x, is) (ap (λ (ys : List Y). f x ∷ ys) (with_map of_x of_y f n same xs))
+  | inr isnt ↦ rw (same x, isnt) (with_map of_x of_y f n same xs)
+]
 
 -- the sequence number at a place
 pub numbered_at : {F : Type 0} (number : F → ℕ) (start : ℕ) (xs : List F) → IsNumbered number start xs → (i : ℕ) (spare : F)

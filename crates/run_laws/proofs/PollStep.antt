@@ -1,27 +1,36 @@
--- What a poll of all links does to the stream of one of them.
-use Rattle.std.proofs.Common.{ℕ, zero, suc, ◌≡◌, ◌≢◌, ◌+◌, ◌<◌, ◌≤◌, List, ◌++◌, true, false, length, arith, ap, ◌∙◌, sym, subst, ⊎_elim}
+-- What a turn of a link, and a poll of all links, does to the stream of one of them.
+use Rattle.std.proofs.Common.{ℕ, zero, suc, ◌≡◌, ◌≢◌, ◌+◌, ◌<◌, List, [], ◌∷◌, ◌++◌, Bool, true, false, ◌&&◌, ◌||◌, nat_eq, arith, refl, ap, ◌∙◌, sym, subst, Option, Some, None, inl, inr, ⊎_elim, ◌≤◌, length}
+use borrow.Author.Count.{below_more}
+use Rattle.std.proofs.Math.Bool.{or-true}
+use Rattle.std.proofs.lemmas.Bool.{or_from, both_ways, cases_eq, and_from, and_parts, and_right, eq-eqb, ne_eqb}
+use Rattle.afdx_plan.specs.declared.link_plan.LinkPlan.{LinkPlan}
+use Rattle.afdx_frame.specs.Header.{sub_in}
+use Rattle.redundant_mux.specs.Entry.{Entry, entry}
+use Rattle.redundant_mux.specs.Lines.{Lines, stands_for, log, BothEndure}
+use Rattle.redundant_mux.proofs.MirroredLines.{log_same}
+use Rattle.vl_shaper.specs.Pace.{Pace, is_due, turn_of}
+use Rattle.vl_shaper.specs.Polls.{IsServed}
+use Rattle.vl_shaper.proofs.Turns.{turn_below}
+use Rattle.vl_link.specs.declared.served.Served.{Served}
+use Rattle.vl_link.specs.declared.served.Served.TheVariants.{Nothing, Released, Lost}
+use Rattle.vl_link.specs.Turn.{TurnView, Turn, AreTurns}
+use Rattle.vl_link.specs.Links.{pace_of, Held, LinkState, held_at, link_at, taken_by, held_view, Passes}
+use Rattle.vl_link.specs.Shown.{none_begun, begun_by}
+use Rattle.vl_link.proofs.PaceOfStream.{stream_more, stream_same}
+use Rattle.afdx_legal.specs.Streams.{latest, link_stream, sub_stream, told}
 use Rattle.std.specs.Prelude.{All}
-use Rattle.std.proofs.lemmas.Bool.{cases_eq}
 use Rattle.std.proofs.lemmas.List.{append-nil}
 use Rattle.std.proofs.lemmas.List.Elements.{All-weaker}
 use Rattle.afdx_plan.specs.Config.{Plan, IsPlan, link_plan_at}
 use Rattle.afdx_plan.specs.Plan.{bag_micros}
 use Rattle.afdx_plan.specs.Room.{room_of}
 use Rattle.afdx_plan.specs.declared.identifiers.VlId.{VlId}
-use Rattle.afdx_plan.specs.declared.link_plan.LinkPlan.{LinkPlan}
 use Rattle.afdx_frame.specs.declared.net.Net.TheVariants.{A}
 use Rattle.afdx_frame.specs.Fragments.{Sent}
-use Rattle.redundant_mux.specs.Entry.{Entry}
-use Rattle.redundant_mux.specs.Lines.{Lines, BothEndure, stands_for, log}
 use Rattle.redundant_mux.proofs.Enduring.{stood_before}
-use Rattle.vl_link.specs.declared.served.Served.{Served}
-use Rattle.vl_link.specs.Turn.{AreTurns, Turn}
-use Rattle.vl_link.specs.Links.{Held, LinkState, held_at, link_at, taken_by, pace_of, held_view, Passes}
 use Rattle.vl_link.specs.Kept.{IsLinkTied}
-use Rattle.vl_link.specs.Shown.{none_begun, begun_by}
 use Rattle.vl_link.proofs.MessageEnds.{IsShort, not_begun}
 use Rattle.vl_link.proofs.TurnLaws.{turn_endures, turns_endure}
-use Rattle.afdx_legal.specs.Streams.{link_stream, sub_stream, told}
 use Rattle.afdx_legal.specs.Legal.{Accepted}
 use Rattle.afdx_legal.specs.Allowed.{IsAllowed, AreAllowed}
 use Rattle.afdx_legal.specs.Done.{IsReleased}
@@ -30,7 +39,118 @@ use Rattle.afdx_tx.specs.Run.{IsTurnAt}
 use Rattle.afdx_tx.specs.Drain.{DrainsAt, accepted_view, pace_in}
 use Rattle.afdx_tx.specs.DrainEnds.{stream_at}
 use Rattle.run_laws.specs.Runs.{IsPlanned, IsReady, EmitterPolls, DrainPolls}
-use Rattle.run_laws.proofs.LinkStep.{IsStep, own_step, other_turn}
+
+-- what a poll adds to a stream, by the sub-VL of which it released a frame, if of any
+abbrev pub Adds : ℕ → Option ℕ → (S T : List Entry) → Type 0
+Adds now None S T = T ≡ S
+Adds now (Some chosen) S T = (frame : List ℕ) × (sub_in frame ≡ chosen) × (T ≡ S ++ entry now frame ∷ [])
+
+-- A poll of a link, read off its stream: a sub-VL of which a message is begun had something.
+pub record IsStep (now gap subs x : ℕ) (S T : List Entry) : Type 0 where
+  pub released : Option ℕ
+  pub has : ℕ → Bool
+  pub served : IsServed gap subs (latest None S) (record { at = now; has = has; released = released }) released
+  pub waits : begun_by none_begun S x ≡ true → has x ≡ true
+  pub adds : Adds now released S T
+
+-- two tests that fail together: one number is another, and this
+has_not : (s x : ℕ) (b : Bool) → (s ≡ x → b ≡ false) → (nat_eq s x && b) ≡ false
+has_not s x b not = ⊎_elim
+    (λ (is : s ≡ x). and_right (nat_eq s x) b (not is))
+    (λ (ne : s ≢ x). ap (λ (t : Bool). t && b) (ne_eqb s x ne))
+    (cases_eq s x)
+
+-- the first place of a number in an order
+record IsFirst (order : ℕ → ℕ) (sub most : ℕ) : Type 0 where
+  pub turn : ℕ
+  pub within : turn < most
+  pub is : order turn ≡ sub
+  pub before : (k : ℕ) → k < turn → order k ≢ sub
+
+-- it has one at its place or before it, where it has none before a start
+first_at : (order : ℕ → ℕ) (sub n more from : ℕ) → from + more ≡ n → ((k : ℕ) → k < from → order k ≢ sub)
+    → order n ≡ sub
+    → IsFirst order sub (suc n)
+first_at order sub n zero from sum before is =
+    let here : from ≡ n = omega arith in
+    record { turn = from; within = omega arith; is = ap order here ∙ is; before = before }
+first_at order sub n (suc more) from sum before is = elim (cases_eq (order from) sub) [
+  | inl here ↦ record { turn = from; within = omega arith; is = here; before = before }
+  | inr not ↦
+      first_at order sub n more (from + 1) (omega arith) (below_more (λ (k : ℕ). order k ≢ sub) from before not) is
+]
+
+-- one turn of the link itself, if a network that carries it is up afterwards
+pub own_step : (now gap subs x : ℕ) (link : LinkPlan) (view : TurnView) (lines after : Lines) (did : Served)
+    → ((s : ℕ) → s < subs → view.lacks s → begun_by none_begun (link_stream link.id.0 (log lines)) s ≡ false)
+    → Turn now link (pace_of gap subs (link_stream link.id.0 (log lines))) view lines after did
+    → stands_for link.networks after ≡ true
+    → IsStep now gap subs x (link_stream link.id.0 (log lines)) (link_stream link.id.0 (log after))
+own_step now gap subs x link view lines after Nothing lacks t stands =
+    let S : List Entry = link_stream link.id.0 (log lines) in
+    let b : Bool = begun_by none_begun S x in
+    record {
+      released = None;
+      has = λ s. nat_eq s x && begun_by none_begun (link_stream link.id.0 (log lines)) x;
+      served = λ due s lt. ⊎_elim
+          (λ early. absurd (both_ways _ early.0 (and_from (is_due gap (latest None S) now) (stands_for link.networks lines) due
+          (subst (λ (l : Lines). stands_for link.networks l ≡ true) t.1 stands))))
+          (λ none. has_not s x b (λ is. subst (λ (y : ℕ). begun_by none_begun (link_stream link.id.0 (log lines)) y ≡ false) is
+          (lacks s lt (none.1.each s lt))))
+          t.0;
+      waits = λ is. and_from (nat_eq x x) b (eq-eqb x x refl) is;
+      adds = ap (λ (l : Lines). link_stream link.id.0 (log l)) t.1;
+    }
+own_step now gap subs x link view lines after (Released sub number) lacks t stands =
+    let S : List Entry = link_stream link.id.0 (log lines) in
+    let b : Bool = begun_by none_begun S x in
+    let r = t.2 in
+    let order : ℕ → ℕ = turn_of subs (latest None S) in
+    let within = r.choice.within in
+    let first : IsFirst (turn_of subs (latest None (link_stream link.id.0 (log lines)))) sub (suc r.choice.turn) =
+    first_at order sub r.choice.turn r.choice.turn 0 (omega arith) (λ k below. absurd (omega arith))
+    (sym r.choice.is) in
+    let place = first.within in
+    let may = and_parts (is_due gap (latest None S) now) (stands_for link.networks lines) t.0 in
+    record {
+      released = Some sub;
+      has = λ s. (nat_eq s x && begun_by none_begun (link_stream link.id.0 (log lines)) x) || nat_eq s sub;
+      served = (
+        may.0,
+        record {
+          turn = first.turn;
+          within = omega arith;
+          is = sym first.is;
+          had = ap (λ (u : Bool). (nat_eq sub x && b) || u) (eq-eqb sub sub refl) ∙ or-true (nat_eq sub x && b);
+          before = λ k lt.
+              let s : ℕ = turn_of subs (latest None (link_stream link.id.0 (log lines))) k in
+              let early : k < subs = omega arith in
+              let below : turn_of subs (latest None (link_stream link.id.0 (log lines))) k < subs =
+              turn_below subs (latest None S) k early in
+              or_from (nat_eq s x && b) (nat_eq s sub)
+              (has_not s x b (λ is. subst (λ (y : ℕ). begun_by none_begun (link_stream link.id.0 (log lines)) y ≡ false) is
+              (lacks s below (r.choice.before k (omega arith)))))
+              (ne_eqb s sub (first.before k lt));
+        },
+      );
+      waits = λ is. ap (λ (u : Bool). u || nat_eq x sub) (and_from (nat_eq x x) b (eq-eqb x x refl) is);
+      adds = (
+        r.frame,
+        r.of.of_sub,
+        stream_more link.id.0 now sub number link.networks r.frame lines after r.of r.enters,
+      );
+    }
+own_step now gap subs x link view lines after Lost lacks t stands = absurd (both_ways _ t.1.down stands)
+
+-- the turn of another link
+pub other_turn : (now : ℕ) (link : LinkPlan) (pace : Pace) (view : TurnView) (lines after : Lines) (did : Served) (vl : ℕ)
+    → link.id.0 ≢ vl → Turn now link pace view lines after did
+    → link_stream vl (log after) ≡ link_stream vl (log lines)
+other_turn now link pace view lines after Nothing vl ne t = ap (λ (l : Lines). link_stream vl (log l)) t.1
+other_turn now link pace view lines after (Released sub number) vl ne t =
+    let r = t.2 in
+    stream_same link.id.0 vl now sub number link.networks r.frame lines after r.of r.enters ne
+other_turn now link pace view lines after Lost vl ne t = ap (link_stream vl) (log_same lines after t.1.same)
 
 -- a network that carries the link at a place is up
 abbrev pub StandsAt : Plan → ℕ → Lines → Type 0
@@ -79,12 +199,12 @@ turns_step now plan k x all P i (suc many) lines after seen le lt few t stands =
     seen.own lines t.0 t.1 (subst (λ (j : ℕ). P j lines t.0 t.1) here t.2) stood in
     let rest : stream_at plan k after ≡ stream_at plan k t.0 =
     others_keep now plan k x all P (i + 1) many t.0 after seen (omega (arith, here)) (omega arith) t.3 in
-    subst (IsStep now (gap_at plan k) (subs_at plan k) x (stream_at plan k lines)) (sym rest) own)
+    rw rest own)
     (λ (later : i ≢ k).
     let same : stream_at plan k t.0 ≡ stream_at plan k lines = seen.others i (omega arith) later lines t.0 t.1 t.2 in
     let further : i + 1 ≤ k = omega (arith, le, later) in
-    subst (λ (S : List Entry). IsStep now (gap_at plan k) (subs_at plan k) x S (stream_at plan k after)) same
-    (turns_step now plan k x all P (i + 1) many t.0 after seen further (omega arith) (omega arith) t.3 stands))
+    rw (← same) (turns_step now plan k x all P (i + 1) many t.0 after seen further (omega arith)
+    (omega arith) t.3 stands))
     (cases_eq i k)
 
 -- no two links of a valid plan have one identifier
@@ -115,14 +235,7 @@ planned_turn : (now : ℕ) (plan : Plan) (links news : List LinkState) (k : ℕ)
     → IsPlanned plan links k → IsTurnAt now links news k lines after did
     → Turn now (link_plan_at plan.links k) (pace_of (gap_at plan k) (subs_at plan k) (stream_at plan k lines))
     (held_view (link_at links k).subs (link_at news k).subs) lines after did
-planned_turn now plan links news k lines after did own t =
-    let view = held_view (link_at links k).subs (link_at news k).subs in
-    subst (λ (gap : ℕ). Turn now (link_plan_at plan.links k) (pace_of gap (subs_at plan k) (stream_at plan k lines))
-    view lines after did) own.gap
-    (subst (λ (subs : ℕ). Turn now (link_plan_at plan.links k) (pace_of (link_at links k).pace.gap subs (stream_at plan k lines))
-    view lines after did) own.sub_vls
-    (subst (λ (p : LinkPlan). Turn now p (pace_of (link_at links k).pace.gap (link_at links k).pace.sub_vls
-    (link_stream p.id.0 (log lines))) view lines after did) own.plan_is t.serves))
+planned_turn now plan links news k lines after did own t = rw (← own.gap, ← own.sub_vls, ← own.plan_is) t.serves
 
 -- when it may release a frame, a sub-VL that has nothing has no message begun
 planned_lacks : (now : ℕ) (plan : Plan) (links news : List LinkState) (k : ℕ) (lines after : Lines) (did : Served)
@@ -131,13 +244,10 @@ planned_lacks : (now : ℕ) (plan : Plan) (links news : List LinkState) (k : ℕ
     → (s : ℕ) → s < subs_at plan k → Passes (held_at (link_at links k).subs s) (held_at (link_at news k).subs s)
     → begun_by none_begun (stream_at plan k lines) s ≡ false
 planned_lacks now plan links news k lines after did own few t stands s lt p =
-    let link : LinkState = link_at links k in
-    let stood : stands_for (link_at links k).plan.networks lines ≡ true =
-    subst (λ (q : LinkPlan). stands_for q.networks lines ≡ true) (sym own.plan_is) stands in
-    let inside : s < (link_at links k).plan.sub_vls =
-    subst (λ (q : LinkPlan). s < q.sub_vls) (sym own.plan_is) lt in
-    subst (λ (q : LinkPlan). begun_by none_begun (link_stream q.id.0 (log lines)) s ≡ false) own.plan_is
-    (passed link (held_at (link_at news k).subs s) (log lines) s (t.tied stood) inside (few s lt) p)
+    let stood : stands_for (link_at links k).plan.networks lines ≡ true = rw own.plan_is stands in
+    let inside : s < (link_at links k).plan.sub_vls = rw own.plan_is lt in
+    rw (← own.plan_is) (passed (link_at links k) (held_at (link_at news k).subs s) (log lines) s
+    (t.tied stood) inside (few s lt) p)
 
 -- the turn of a link of an emitter gives up networks for good
 planned_endures : (now : ℕ) (links news : List LinkState) (j : ℕ) (lines after : Lines) (did : Served)
@@ -182,12 +292,8 @@ pub emitter_step : (now : ℕ) (plan : Plan) (k x : ℕ) (lines after : Lines) �
     → EmitterPolls plan now lines after → StandsAt plan k after → StepsAt now plan k x lines after
 emitter_step now plan k x lines after valid inside p stands =
     let ready : IsReadyFor plan p.old = ready_for plan p.old p.of p.ready in
-    let many : length p.old.links ≡ length plan.links = ready.count in
-    let turns : AreTurns (IsTurnAt now p.old.links p.new.links) 0 (length plan.links) p.old.lines p.new.lines =
-    subst (λ (n : ℕ). AreTurns (IsTurnAt now p.old.links p.new.links) 0 n p.old.lines p.new.lines) many p.run.turns in
     let here : AreTurns (IsTurnAt now p.old.links p.new.links) 0 (length plan.links) lines after =
-    subst (λ (l : Lines). AreTurns (IsTurnAt now p.old.links p.new.links) 0 (length plan.links) l after) p.before
-    (subst (λ (l : Lines). AreTurns (IsTurnAt now p.old.links p.new.links) 0 (length plan.links) p.old.lines l) p.afterwards turns) in
+    rw (ready.count, p.before, p.afterwards) at p.run.turns in
     turns_step now plan k x (length plan.links) (IsTurnAt now p.old.links p.new.links) 0 (length plan.links) lines after
     (emitter_seen now plan p.old p.new k x valid inside ready.links (λ s lt. short plan k s (taken_in p.old.links k s) (ready.allowed k s inside lt)))
     (omega arith) (omega arith) (omega arith) here stands
@@ -232,10 +338,8 @@ drain_step now plan k x lines after valid inside p stands =
 -- networks that are down after a poll were down before it, or failed
 pub emitter_endures : (now : ℕ) (plan : Plan) (lines after : Lines) → EmitterPolls plan now lines after → BothEndure lines after
 emitter_endures now plan lines after p =
-    subst (λ (l : Lines). BothEndure l after) p.before
-    (subst (λ (l : Lines). BothEndure p.old.lines l) p.afterwards
-    (turns_endure (IsTurnAt now p.old.links p.new.links) 0 (length p.old.links) p.old.lines p.new.lines
-    (planned_endures now p.old.links p.new.links) p.run.turns))
+    rw (← p.before, ← p.afterwards) (turns_endure (IsTurnAt now p.old.links p.new.links) 0 (length p.old.links)
+    p.old.lines p.new.lines (planned_endures now p.old.links p.new.links) p.run.turns)
 
 pub drain_poll_endures : (now : ℕ) (plan : Plan) (lines after : Lines) → DrainPolls plan now lines after → BothEndure lines after
 drain_poll_endures now plan lines after p =

@@ -1,30 +1,140 @@
 -- A run of polls, as the polls of one link.
-use Rattle.std.proofs.Common.{ℕ, ◌≡◌, ◌≢◌, ◌⊎◌, ◌+◌, ◌-◌, ◌*◌, ◌<◌, ◌≤◌, List, [], ◌∷◌, ◌++◌, Bool, true, false, cond, nat_eq, length, arith, refl, ap, ◌∙◌, sym, subst, Option, Some, None, ⊎_elim}
-use Rattle.std.specs.Prelude.{map}
-use Rattle.std.proofs.lemmas.Bool.{cases_eq, eq-eqb, ne_eqb}
+use Rattle.std.proofs.Common.{ℕ, ◌≡◌, ◌≢◌, ◌+◌, ◌<◌, ◌≤◌, List, [], ◌∷◌, ◌++◌, Bool, false, ◌&&◌, cond, nat_le, arith, refl, ap, ◌∙◌, sym, Option, Some, None, ⊎_elim, ◌⊎◌, ◌-◌, ◌*◌, true, nat_eq, length, subst}
+use Rattle.std.specs.Prelude.{All, map}
+use Rattle.std.proofs.lemmas.Bool.{cases_eq, cases_lt, lt-leb, and_right, ne_eqb, eq-eqb}
+use Rattle.std.proofs.lemmas.List.Sums.{sum_by-cons}
+use Rattle.std.proofs.lemmas.List.Elements.{All-cons, All-nil}
+use Rattle.afdx_frame.specs.Header.{sub_in}
+use Rattle.redundant_mux.specs.Entry.{Entry, entry}
+use Rattle.vl_shaper.specs.Polls.{Poll, ArePolled, latest_poll, is_of, released_by, IsServed, AreServed, HasAtPolls}
+use Rattle.run_laws.specs.NextInRun.{ComeWithin, latest_of, ComesBy, NextInRun}
 use Rattle.std.proofs.lemmas.List.{append_assoc, append-nil}
 use Rattle.afdx_plan.specs.Config.{Plan, IsPlan, link_plan_at}
 use Rattle.afdx_plan.specs.Plan.{bag_ms}
 use Rattle.afdx_plan.specs.declared.bag.Bag.{Bag}
 use Rattle.afdx_plan.specs.declared.bag.Bag.TheVariants.{Ms1, Ms2, Ms4, Ms8, Ms16, Ms32, Ms64, Ms128}
-use Rattle.afdx_frame.specs.Header.{sub_in}
-use Rattle.redundant_mux.specs.Entry.{Entry, entry}
 use Rattle.redundant_mux.specs.Lines.{Lines, BothEndure}
 use Rattle.redundant_mux.proofs.Enduring.{both_none, both_on, stood_before}
-use Rattle.vl_shaper.specs.declared.shaper.Stamp.{Stamp}
-use Rattle.vl_shaper.specs.Polls.{Poll, IsServed, AreServed, latest_poll, is_of, HasAtPolls}
 use Rattle.vl_link.specs.Shown.{none_begun, begun_after, begun_by}
 use Rattle.afdx_legal.specs.Streams.{stamp_of, latest}
 use Rattle.afdx_legal.specs.Turns.{more_in}
 use Rattle.afdx_legal.proofs.LongerStream.{latest_push}
 use Rattle.afdx_tx.specs.DrainEnds.{stream_at}
-use Rattle.afdx_laws.specs.NextFragment.{link_wait, longest_wait}
+use Rattle.afdx_laws.specs.NextFragment.{link_wait}
 use Rattle.afdx_laws.proofs.NextFragment.{next_polled_in_time, wait_at}
 use Rattle.run_laws.specs.Runs.{EmitterPolls, DrainPolls, AreRuns}
-use Rattle.run_laws.specs.NextInRun.{ComeWithin, latest_of, ComesBy, NextInRun}
-use Rattle.run_laws.proofs.LinkStep.{Adds}
-use Rattle.run_laws.proofs.PollStep.{StandsAt, gap_at, subs_at, StepsAt, emitter_step, drain_step, emitter_endures, drain_poll_endures}
-use Rattle.run_laws.proofs.FoundEntry.{Show, at_of, IsFound, rise_of, polled_of, latest_is, finds}
+use Rattle.run_laws.proofs.PollStep.{Adds, StandsAt, gap_at, subs_at, StepsAt, emitter_step, drain_step, emitter_endures, drain_poll_endures}
+
+-- the entry that a poll released, if it released one, and those after it
+abbrev pub ShowsOne : ℕ → Option ℕ → (added rest : List Entry) → Type 0
+ShowsOne now None added rest = added ≡ rest
+ShowsOne now (Some chosen) added rest =
+    (e : Entry) × (added ≡ e ∷ rest) × (e.at ≡ now) × (sub_in e.frame ≡ chosen)
+
+-- the entries that polls released, in order
+abbrev pub Show : List Poll → List Entry → Type 0
+Show [] added = added ≡ []
+Show (p ∷ polls) added = (rest : List Entry) × ShowsOne p.at p.released added rest × Show polls rest
+
+-- the time of a poll
+abbrev pub at_of : Poll → ℕ
+at_of p = p.at
+
+-- polls that come within the lateness
+pub polled_of : (late before : ℕ) (polls : List Poll) → ComeWithin late before (map at_of polls) → ArePolled late before polls
+polled_of late before [] come = tt
+polled_of late before (p ∷ polls) come = (come.1, polled_of late p.at polls come.2)
+
+pub latest_is : (before : ℕ) (polls : List Poll) → latest_poll before polls ≡ latest_of before (map at_of polls)
+latest_is before [] = refl
+latest_is before (p ∷ polls) = latest_is p.at polls
+
+-- what a poll adds to the count of a sub-VL's frames
+counted : (x bound : ℕ) (p : Poll) (polls : List Poll) → released_by x bound (p ∷ polls)
+    ≡ cond (nat_le p.at bound && is_of x p.released) 1 0 + released_by x bound polls
+counted x bound p polls = sum_by-cons (λ (q : Poll). cond (nat_le q.at bound && is_of x q.released) 1 0) p polls
+
+-- a poll that released none of them adds nothing
+adds_none : (x bound : ℕ) (p : Poll) (polls : List Poll) → (nat_le p.at bound && is_of x p.released) ≡ false
+    → released_by x bound (p ∷ polls) ≡ released_by x bound polls
+adds_none x bound p polls none =
+    counted x bound p polls ∙ ap (λ (t : Bool). cond t 1 0 + released_by x bound polls) none ∙ zero_more (released_by x bound polls)
+  where
+    zero_more : (n : ℕ) → 0 + n ≡ n
+    zero_more n = omega arith
+
+-- nothing is counted after the bound
+late_none : (late x bound before : ℕ) (polls : List Poll) → bound < before → ComeWithin late before (map at_of polls)
+    → released_by x bound polls ≡ 0
+late_none late x bound before [] past come = refl
+late_none late x bound before (p ∷ polls) past come =
+    let first = come.0 in
+    let later : bound < p.at = omega arith in
+    adds_none x bound p polls (ap (λ (t : Bool). t && is_of x p.released) (lt-leb p.at bound later))
+    ∙ late_none late x bound p.at polls later come.2
+
+-- the first entry of a sub-VL is among these, and was released by this time
+pub record IsFound (x bound : ℕ) (added : List Entry) : Type 0 where
+  pub between : List Entry
+  pub next : Entry
+  pub later : List Entry
+  pub is : added ≡ between ++ next ∷ later
+  pub others : All (λ (e : Entry). sub_in e.frame ≢ x) between
+  pub its : sub_in next.frame ≡ x
+  pub soon : next.at ≤ bound
+
+-- after an entry of another sub-VL
+found_after : (x bound : ℕ) (e : Entry) (added rest : List Entry) → added ≡ e ∷ rest → sub_in e.frame ≢ x
+    → IsFound x bound rest → IsFound x bound added
+found_after x bound e added rest is ne found = record {
+  between = e ∷ found.between;
+  next = found.next;
+  later = found.later;
+  is = is ∙ ap (λ (es : List Entry). e ∷ es) found.is;
+  others = All-cons (λ (d : Entry). sub_in d.frame ≢ x) e found.between ne found.others;
+  its = found.its;
+  soon = found.soon;
+}
+
+-- one that was released by this time is found
+pub finds : (polls : List Poll) (added : List Entry) (late x bound before : ℕ)
+    → ComeWithin late before (map at_of polls)
+    → Show polls added
+    → 1 ≤ released_by x bound polls → IsFound x bound added
+finds [] added late x bound before come show one = absurd (omega arith)
+finds (p ∷ polls) added late x bound before come show one =
+    by_release p.released refl show.1 (finds polls show.0 late x bound p.at come.2 show.2)
+  where
+    by_release : (o : Option ℕ) → p.released ≡ o → ShowsOne p.at o added show.0
+        → (1 ≤ released_by x bound polls → IsFound x bound show.0) → IsFound x bound added
+    by_release None is same rest =
+        let none : (nat_le p.at bound && is_of x p.released) ≡ false =
+        and_right (nat_le p.at bound) (is_of x p.released) (ap (is_of x) is) in
+        let count = adds_none x bound p polls none in
+        rw same (rest (omega arith))
+    by_release (Some chosen) is (e, more, at, of) rest = ⊎_elim
+        (λ (own : chosen ≡ x). ⊎_elim
+        (λ (past : bound < p.at).
+        let count : released_by x bound (p ∷ polls) ≡ 0 =
+        late_none late x bound p.at (p ∷ polls) past (omega arith, omega arith, come.2) in
+        absurd (omega (arith, count, one)))
+        (λ (soon : p.at ≤ bound). record {
+          between = [];
+          next = e;
+          later = show.0;
+          is = more;
+          others = All-nil (λ (d : Entry). sub_in d.frame ≢ x);
+          its = of ∙ own;
+          soon = omega (arith, at, soon);
+        })
+        (cases_lt bound p.at))
+        (λ (other : chosen ≢ x).
+        let none : (nat_le p.at bound && is_of x p.released) ≡ false =
+        and_right (nat_le p.at bound) (is_of x p.released) (ap (is_of x) is ∙ ne_eqb chosen x other) in
+        let count = adds_none x bound p polls none in
+        found_after x bound e added show.0 more (λ (mine : sub_in e.frame ≡ x). other (sym of ∙ mine))
+        (rest (omega arith)))
+        (cases_eq chosen x)
 
 -- whether a message of a sub-VL is begun, after one more entry
 begun_push : (begun : ℕ → Bool) (S : List Entry) (e : Entry) (x : ℕ)
@@ -61,17 +171,14 @@ still_waits : (now x many : ℕ) (released : Option ℕ) (S M : List Entry) → 
 still_waits now x many None S M few begun same some =
     ap (λ (l : List Entry). begun_by none_begun l x) same ∙ begun (omega arith)
 still_waits now x many (Some chosen) S M few begun (frame, of, more) some = ⊎_elim
-    (λ (own : chosen ≡ x).
-    let none : 1 ≤ many - 1 = subst (λ (t : Bool). 1 ≤ many - cond t 1 0) (eq-eqb chosen x own) some in
-    absurd (omega arith))
+    (λ (own : chosen ≡ x). let none = rw (eq-eqb chosen x own) at some in absurd (omega arith))
     (λ (other : chosen ≢ x).
-    let waits : 1 ≤ many - 0 = subst (λ (t : Bool). 1 ≤ many - cond t 1 0) (ne_eqb chosen x other) some in
-    let before : begun_by none_begun S x ≡ true = begun (omega arith) in
+    let waits = rw (ne_eqb chosen x other) at some in
     ap (λ (l : List Entry). begun_by none_begun l x) more
     ∙ begun_push none_begun S (entry now frame) x
     ∙ ap (λ (t : Bool). cond t (more_in frame) (begun_by none_begun S x))
     (ap (λ (m : ℕ). nat_eq m x) of ∙ ne_eqb chosen x other)
-    ∙ before)
+    ∙ begun (omega arith))
     (cases_eq chosen x)
 
 -- one poll before others
@@ -82,7 +189,7 @@ run_more : (now gap subs x many : ℕ) (moments : List ℕ) (released : Option �
 run_more now gap subs x many moments None has S M T served had same run = record {
   polls = poll_of now has None ∷ run.polls;
   at = ap (λ (ms : List ℕ). now ∷ ms) run.at;
-  served = (served, subst (λ (l : List Entry). AreServed gap subs (latest None l) run.polls) same run.served);
+  served = (served, rw same at run.served);
   had = (had, run.had);
   added = run.added;
   grown = run.grown ∙ ap (λ (l : List Entry). l ++ run.added) same;
@@ -96,7 +203,7 @@ run_more now gap subs x many moments (Some chosen) has S M T served had (frame, 
     record {
       polls = poll_of now has (Some chosen) ∷ run.polls;
       at = ap (λ (ms : List ℕ). now ∷ ms) run.at;
-      served = (served, subst (λ (o : Option Stamp). AreServed gap subs o run.polls) last run.served);
+      served = (served, rw last at run.served);
       had = (had, run.had);
       added = entry now frame ∷ run.added;
       grown = run.grown ∙ ap (λ (l : List Entry). l ++ run.added) more ∙ append_assoc S (entry now frame ∷ []) run.added;
@@ -175,16 +282,6 @@ next_by T earlier added first bound more grown found = record {
   soon = found.soon;
 }
 
--- a start and a longer time
-add_le : (start m n : ℕ) → m ≤ n → start + m ≤ start + n
-add_le start m n le = omega arith
-
--- a later bound
-comes_later : (T : List Entry) (first : Entry) (m n : ℕ) → m ≤ n → ComesBy T first m → ComesBy T first n
-comes_later T first m n le comes =
-    let soon = comes.soon in
-    record { between = comes.between; next = comes.next; are = comes.are; soon = omega arith }
-
 -- the law
 pub next_in_run_holds : NextInRun
 next_in_run_holds plan moments lines after k late earlier first valid inside ends more below runs stands come reach =
@@ -194,24 +291,19 @@ next_in_run_holds plan moments lines after k late earlier first valid inside end
     let S : List Entry = stream_at plan k lines in
     let bound : ℕ = first.at + link_wait late (link_plan_at plan.links k) in
     let begun : begun_by none_begun (stream_at plan k lines) (sub_in first.frame) ≡ true =
-    ap (λ (l : List Entry). begun_by none_begun l x) ends ∙ begun_push none_begun earlier first x
-    ∙ ap (λ (t : Bool). cond t (more_in first.frame) (begun_by none_begun earlier x)) (eq-eqb x x refl) ∙ more in
-    let run : HaveRun (gap_at plan k) (subs_at plan k) (sub_in first.frame) 1 moments (stream_at plan k lines) (stream_at plan k after) =
-    have_run moments plan k x 1 lines after valid inside runs stands (omega arith) (λ some. begun) in
+    rw (ends, begun_push none_begun earlier first x, eq-eqb x x refl) more in
+    let run = have_run moments plan k x 1 lines after valid inside runs stands (omega arith) (λ some. begun) in
     let last : latest None (stream_at plan k lines) ≡ Some (stamp_of first) =
     ap (latest None) ends ∙ latest_push None earlier first in
-    let served : AreServed (gap_at plan k) (subs_at plan k) (Some (record { at = first.at; sub = sub_in first.frame })) run.polls =
-    subst (λ (o : Option Stamp). AreServed (gap_at plan k) (subs_at plan k) o run.polls) last run.served in
-    let within : ComeWithin late first.at (map at_of run.polls) = subst (ComeWithin late first.at) (sym run.at) come in
+    let within : ComeWithin late first.at (map at_of run.polls) = rw run.at come in
     let latest_moment : latest_poll first.at run.polls ≡ latest_of first.at moments =
     latest_is first.at run.polls ∙ ap (latest_of first.at) run.at in
-    let one = next_polled_in_time subs x gap late first.at run.polls below (some_gap (link_plan_at plan.links k).bag) served
-    (polled_of late first.at run.polls within) run.had
-    (subst (λ (m : ℕ). first.at + link_wait late (link_plan_at plan.links k) ≤ m) (sym latest_moment) reach) in
-    let found = finds run.polls run.added x bound first.at (rise_of late first.at run.polls within) run.show one in
+    let one = next_polled_in_time subs x gap late first.at run.polls below (some_gap (link_plan_at plan.links k).bag)
+    (rw last at run.served) (polled_of late first.at run.polls within) run.had (rw latest_moment reach) in
+    let found = finds run.polls run.added late x bound first.at within run.show one in
     let grown : stream_at plan k after ≡ (earlier ++ first ∷ []) ++ run.added =
     run.grown ∙ ap (λ (l : List Entry). l ++ run.added) ends in
     let comes = next_by (stream_at plan k after) earlier run.added first bound more grown found in
-    let most : first.at + link_wait late (link_plan_at plan.links k) ≤ first.at + longest_wait late plan.links =
-    add_le first.at (link_wait late (link_plan_at plan.links k)) (longest_wait late plan.links) (wait_at late plan.links k inside) in
-    (comes, comes_later (stream_at plan k after) first bound (first.at + longest_wait late plan.links) most comes)
+    let soon = comes.soon in
+    let longest = wait_at late plan.links k inside in
+    (comes, record { between = comes.between; next = comes.next; are = comes.are; soon = omega arith })

@@ -1,5 +1,5 @@
 -- The wait of a message, by the polls of its link.
-use Rattle.std.proofs.Common.{ℕ, zero, suc, ◌≡◌, ◌+◌, ◌-◌, ◌*◌, ◌<◌, ◌≤◌, Bool, true, false, nat_le, ◌&&◌, cond, List, [], ◌∷◌, arith, refl, ap, ◌∙◌, sym, subst, ◌⊎◌, inl, inr}
+use Rattle.std.proofs.Common.{ℕ, zero, suc, ◌≡◌, ◌+◌, ◌-◌, ◌*◌, ◌<◌, ◌≤◌, Bool, true, false, nat_le, ◌&&◌, cond, List, [], ◌∷◌, arith, refl, ap, ◌∙◌, sym, ◌⊎◌, inl, inr}
 use Rattle.std.specs.Prelude.{Option, Some, None}
 use Rattle.std.proofs.lemmas.Bool.{and_from, le-leb, cases_lt, cases_eq, eq-eqb, ne_eqb}
 use Rattle.std.proofs.lemmas.Nat.{mul-le}
@@ -7,7 +7,7 @@ use Rattle.std.proofs.lemmas.List.Sums.{sum_by-cons}
 use Rattle.vl_shaper.specs.Choices.{Choice, next_turn, IsChosen}
 use Rattle.vl_shaper.specs.Pace.{is_due, turn_of, IsLater}
 use Rattle.vl_shaper.specs.declared.shaper.Stamp.{Stamp}
-use Rattle.vl_shaper.specs.Polls.{Poll, IsServed, AreServed, ArePolled, latest_poll, last_after, is_of, HasAtPolls, released_by, PolledInTime}
+use Rattle.vl_shaper.specs.Polls.{Poll, IsServed, AreServed, ArePolled, latest_poll, is_of, HasAtPolls, released_by, PolledInTime}
 use Rattle.vl_shaper.proofs.OneEach.{back, back_lt, turn_cases, turn_lt, ahead, further, not_x}
 use Rattle.vl_shaper.proofs.Waits.{back_self, one_more_round}
 
@@ -21,13 +21,10 @@ counted x moment poll polls = sum_by-cons (λ (p : Poll). cond (nat_le p.at mome
 counts : (x moment : ℕ) (poll : Poll) (polls : List Poll) → poll.at ≤ moment → is_of x poll.released ≡ true
     → released_by x moment (poll ∷ polls) ≡ suc (released_by x moment polls)
 counts x moment poll polls soon own =
-    let in_time : (nat_le poll.at moment && is_of x poll.released) ≡ true =
-    and_from (nat_le poll.at moment) (is_of x poll.released) (le-leb poll.at moment soon) own in
-    counted x moment poll polls ∙ ap (λ (t : Bool). cond t 1 0 + released_by x moment polls) in_time
-    ∙ one_more (released_by x moment polls)
-  where
-    one_more : (n : ℕ) → 1 + n ≡ suc n
-    one_more n = omega arith
+    let whole = counted x moment poll polls in
+    let one = ap (λ (t : Bool). 0 + cond t 1 0)
+    (and_from (nat_le poll.at moment) (is_of x poll.released) (le-leb poll.at moment soon) own) in
+    omega arith
 
 -- no poll takes from the count
 no_less : (x moment : ℕ) (poll : Poll) (polls : List Poll) → released_by x moment polls ≤ released_by x moment (poll ∷ polls)
@@ -42,10 +39,6 @@ by_release : (o : Option ℕ) → (o ≡ None) ⊎ ((chosen : ℕ) × (o ≡ Som
 by_release None = inl refl
 by_release (Some chosen) = inr (chosen, refl)
 
--- two answers of a test
-both : {t : Bool} → t ≡ true → t ≡ false → ⊥
-both is isnt = cc
-
 -- a link is due a gap after a moment that isn't before its last release
 due_then : (gap before moment : ℕ) (last : Option Stamp) → IsLater last before → before + gap ≤ moment
     → is_due gap last moment ≡ true
@@ -57,26 +50,18 @@ not_due : (gap subs before x : ℕ) (last : Option Stamp) (p : Poll) → x < sub
     → IsServed gap subs last p None → p.has x ≡ true → p.at < before + gap
 not_due gap subs before x last p xl after idle had = elim (cases_lt p.at (before + gap)) [
   | inl early ↦ early
-  | inr due ↦ absurd (both had (idle (due_then gap before p.at last after due) x xl))
+  | inr due ↦ absurd (cc (had, idle (due_then gap before p.at last after due) x xl))
 ]
 
 -- behind a release the sub-VLs are asked in cyclic order
 behind_release : (subs : ℕ) (l : Stamp) (c : Choice) → IsChosen subs (turn_of subs (Some l)) c
     → IsChosen subs (next_turn subs l.sub) c
-behind_release subs l c ch = record {
-  turn = ch.turn;
-  within = ch.within;
-  is = ch.is;
-  had = ch.had;
-  before = ch.before;
-}
+behind_release subs l c ch =
+    record { turn = ch.turn; within = ch.within; is = ch.is; had = ch.had; before = ch.before }
 
 -- at first they are asked from 0 on, as behind a release of the last of them
 from_0 : (subs k : ℕ) → k < subs → next_turn subs (subs - 1) k ≡ k
-from_0 subs k lt = elim (turn_cases subs (subs - 1) k (omega arith) lt) [
-  | inl t ↦ let t0 = t.0 in absurd (omega arith)
-  | inr t ↦ let t1 = t.1 in omega arith
-]
+from_0 subs k lt = grind (arith, turn_cases subs (subs - 1) k (omega arith) lt)
 
 -- so they are where the link released nothing
 at_first : (subs : ℕ) (c : Choice) → IsChosen subs (turn_of subs None) c → IsChosen subs (next_turn subs (subs - 1)) c
@@ -88,13 +73,12 @@ at_first subs c ch = record {
   before = λ k h. let w = ch.within in ap c.has (from_0 subs k (omega arith)) ∙ ch.before k h;
 }
 
--- a number less none
-less_none : (n : ℕ) → n - 0 ≡ n
-less_none n = omega arith
+-- what is left of a number after a frame of the sub-VL, or of another one
+less_own : (f : ℕ) (t : Bool) → t ≡ true → suc f - cond t 1 0 ≡ f
+less_own f t is = rw is (omega arith)
 
--- less one
-less_one : (n : ℕ) → suc n - 1 ≡ n
-less_one n = omega arith
+less_other : (f : ℕ) (t : Bool) → t ≡ false → suc f - cond t 1 0 ≡ suc f
+less_other f t is = rw is (omega arith)
 
 -- from any poll on: there is still a round for each turn but what is left of the first
 in_time : (polls : List Poll) (subs x l f gap late before polled moment : ℕ) (last : Option Stamp)
@@ -122,52 +106,42 @@ in_time (p ∷ ps) subs x l (suc f) gap late before polled moment last xl ll som
     let one = one_pause 0 (subs * suc f - back subs x l) pause (omega arith) in
     elim (by_release p.released) [
       | inl is ↦
-          let idle : IsServed gap subs last p None = subst (IsServed gap subs last p) is served.0 in
-          let early : p.at < before + gap = not_due gap subs before x last p xl after idle had in
-          let rest_served : AreServed gap subs last ps =
-          subst (λ (o : Option ℕ). AreServed gap subs (last_after last p.at o) ps) is served.1 in
-          let left : suc f - cond (is_of x p.released) 1 0 ≡ suc f =
-          ap (λ (o : Option ℕ). suc f - cond (is_of x o) 1 0) is ∙ less_none (suc f) in
+          let early : p.at < before + gap = not_due gap subs before x last p xl after (rw is at served.0) had in
           let rest : suc f ≤ released_by x moment ps =
-          in_time ps subs x l (suc f) gap late before p.at moment last xl ll some after order rest_served paced.1
-          (subst (λ (n : ℕ). HasAtPolls x n ps) left has.1) early enough reach in
+          in_time ps subs x l (suc f) gap late before p.at moment last xl ll some after order
+          (rw is at served.1) paced.1
+          (rw (less_other f (is_of x p.released) (ap (is_of x) is)) at has.1) early enough reach in
           let more = no_less x moment p ps in
           omega arith
       | inr (chosen, is) ↦
           let c : Choice = record { has = p.has; sub = chosen } in
           let stamp : Stamp = record { at = p.at; sub = chosen } in
-          let made : IsServed gap subs last p (Some chosen) = subst (IsServed gap subs last p) is served.0 in
+          let made : IsServed gap subs last p (Some chosen) = rw is at served.0 in
           let ch = order c made.1 in
           let w : ch.turn < subs = ch.within in
-          let below : chosen < subs = subst (λ (n : ℕ). n < subs) (sym ch.is) (turn_lt subs l ch.turn ll w) in
-          let rest_served : AreServed gap subs (Some stamp) ps =
-          subst (λ (o : Option ℕ). AreServed gap subs (last_after last p.at o) ps) is served.1 in
+          let below : chosen < subs = rw ch.is (turn_lt subs l ch.turn ll w) in
+          let rest_served : AreServed gap subs (Some stamp) ps = rw is at served.1 in
           elim (cases_eq chosen x) [
             | inl own ↦
                 let mine : is_of x p.released ≡ true = ap (is_of x) is ∙ eq-eqb chosen x own in
-                let left : suc f - cond (is_of x p.released) 1 0 ≡ f =
-                ap (λ (t : Bool). suc f - cond t 1 0) mine ∙ less_one f in
                 let none : back subs x chosen ≡ 0 = ap (back subs x) own ∙ back_self subs x xl in
                 let fewer = one_pause (subs * f - back subs x chosen) (subs * suc f - back subs x l) pause (omega arith) in
                 let rest : f ≤ released_by x moment ps =
                 in_time ps subs x chosen f gap late p.at p.at moment (Some stamp) xl below some (omega arith)
-                (behind_release subs stamp) rest_served paced.1
-                (subst (λ (n : ℕ). HasAtPolls x n ps) left has.1) (omega arith) (λ h. omega arith) reach in
+                (behind_release subs stamp) rest_served paced.1 (rw (less_own f
+                (is_of x p.released) mine) at has.1) (omega arith) (λ h. omega arith) reach in
                 let count = counts x moment p ps (omega arith) mine in
                 omega arith
             | inr ne ↦
-                let before_x = ahead subs x l ch.turn xl ll w (not_x subs x l c ch had ne) in
-                let far : back subs x l < back subs x chosen =
-                subst (λ (n : ℕ). back subs x l < back subs x n) (sym ch.is) (further subs x l ch.turn xl ll w before_x) in
+                let far : back subs x l < back subs x chosen = rw ch.is
+                (further subs x l ch.turn xl ll w (ahead subs x l ch.turn xl ll w (not_x subs x l c ch had ne))) in
                 let other : is_of x p.released ≡ false = ap (is_of x) is ∙ ne_eqb chosen x ne in
-                let left : suc f - cond (is_of x p.released) 1 0 ≡ suc f =
-                ap (λ (t : Bool). suc f - cond t 1 0) other ∙ less_none (suc f) in
                 let back_c = back_lt subs x chosen xl below in
                 let fewer = one_pause (subs * suc f - back subs x chosen) (subs * suc f - back subs x l) pause (omega arith) in
                 let rest : suc f ≤ released_by x moment ps =
                 in_time ps subs x chosen (suc f) gap late p.at p.at moment (Some stamp) xl below some (omega arith)
-                (behind_release subs stamp) rest_served paced.1
-                (subst (λ (n : ℕ). HasAtPolls x n ps) left has.1) (omega arith) (λ h. omega arith) reach in
+                (behind_release subs stamp) rest_served paced.1 (rw (less_other f
+                (is_of x p.released) other) at has.1) (omega arith) (λ h. omega arith) reach in
                 let more = no_less x moment p ps in
                 omega arith
           ]

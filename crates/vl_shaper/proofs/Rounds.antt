@@ -1,5 +1,5 @@
 -- Rounds in which every sub-VL has something: the choices that a fragment waits for longest.
-use Rattle.std.proofs.Common.{ℕ, zero, suc, ◌≡◌, ◌≢◌, ◌+◌, ◌-◌, ◌*◌, ◌<◌, ◌≤◌, List, [], ◌∷◌, true, length, arith, refl, ap, ◌∙◌, ⊎_elim}
+use Rattle.std.proofs.Common.{ℕ, zero, suc, ◌≡◌, ◌≢◌, ◌+◌, ◌-◌, ◌*◌, ◌<◌, ◌≤◌, List, [], ◌∷◌, true, length, arith, refl, ap, ◌∙◌, inl, inr}
 use Rattle.std.proofs.lemmas.Bool.{cases_lt, cases_eq, eq-eqb, ne_eqb}
 use Rattle.std.proofs.lemmas.Nat.{mul-le}
 use Rattle.vl_shaper.specs.Choices.{Choice, next_turn, AreChosen}
@@ -39,39 +39,12 @@ rounds_have (suc n) subs last x many =
 -- the next one lies one further behind x, or is x itself
 one_further : (subs x l : ℕ) → x < subs → l < subs → next_turn subs l 0 ≢ x
     → back subs x (next_turn subs l 0) ≡ suc (back subs x l)
-one_further subs x l xl ll ne = ⊎_elim
-    (λ t. let t0 = t.0 in let t1 = t.1 in ⊎_elim
-    (λ b. let b0 = b.0 in let b1 = b.1 in ⊎_elim
-    (λ d. let d0 = d.0 in let d1 = d.1 in omega arith)
-    (λ d. let d0 = d.0 in let d1 = d.1 in absurd (ne (omega arith)))
-    (back_cases subs x (next_turn subs l 0)))
-    (λ b. let b0 = b.0 in let b1 = b.1 in ⊎_elim
-    (λ d. let d0 = d.0 in let d1 = d.1 in omega arith)
-    (λ d. let d0 = d.0 in let d1 = d.1 in omega arith)
-    (back_cases subs x (next_turn subs l 0)))
-    (back_cases subs x l))
-    (λ t. let t0 = t.0 in let t1 = t.1 in ⊎_elim
-    (λ b. let b0 = b.0 in let b1 = b.1 in ⊎_elim
-    (λ d. let d0 = d.0 in let d1 = d.1 in omega arith)
-    (λ d. let d0 = d.0 in let d1 = d.1 in absurd (ne (omega arith)))
-    (back_cases subs x (next_turn subs l 0)))
-    (λ b. let b0 = b.0 in let b1 = b.1 in ⊎_elim
-    (λ d. let d0 = d.0 in let d1 = d.1 in omega arith)
-    (λ d. let d0 = d.0 in let d1 = d.1 in absurd (ne (omega arith)))
-    (back_cases subs x (next_turn subs l 0)))
-    (back_cases subs x l))
-    (turn_cases subs l 0 ll (omega arith))
+one_further subs x l xl ll ne =
+    grind (arith, turn_cases subs l 0 ll (omega arith), back_cases subs x l, back_cases subs x (next_turn subs l 0))
 
 -- the one before x lies a whole round but one behind it
 just_before : (subs x l : ℕ) → x < subs → l < subs → next_turn subs l 0 ≡ x → suc (back subs x l) ≡ subs
-just_before subs x l xl ll e = ⊎_elim
-    (λ t. let t0 = t.0 in let t1 = t.1 in ⊎_elim
-    (λ b. let b0 = b.0 in let b1 = b.1 in omega arith)
-    (λ b. let b0 = b.0 in let b1 = b.1 in omega arith) (back_cases subs x l))
-    (λ t. let t0 = t.0 in let t1 = t.1 in ⊎_elim
-    (λ b. let b0 = b.0 in let b1 = b.1 in omega arith)
-    (λ b. let b0 = b.0 in let b1 = b.1 in omega arith) (back_cases subs x l))
-    (turn_cases subs l 0 ll (omega arith))
+just_before subs x l xl ll e = grind (arith, turn_cases subs l 0 ll (omega arith), back_cases subs x l)
 
 -- x has at most a turn a round
 few_turns : (n subs x l : ℕ) → x < subs → l < subs → subs * turns_of x (rounds subs l n) ≤ n + back subs x l
@@ -81,20 +54,19 @@ few_turns (suc n) subs x l xl ll =
     let cs : List Choice = rounds subs next n in
     let below : next < subs = turn_lt subs l 0 ll (omega arith) in
     let rest : subs * turns_of x cs ≤ n + back subs x next = few_turns n subs x next xl below in
-    ⊎_elim
-    (λ (e : next ≡ x).
-    let mine : turns_of x (busy next ∷ cs) ≡ suc (turns_of x cs) = count_yes x (busy next) cs (eq-eqb next x e) in
-    let z : back subs x next ≡ 0 = ap (back subs x) e ∙ back_self subs x xl in
-    let b : suc (back subs x l) ≡ subs = just_before subs x l xl ll e in
-    let m = one_more_round subs (turns_of x cs) in
-    let all : subs * turns_of x (busy next ∷ cs) ≡ subs + subs * turns_of x cs = ap (λ (k : ℕ). subs * k) mine ∙ m in
-    omega arith)
-    (λ (ne : next ≢ x).
-    let mine : turns_of x (busy next ∷ cs) ≡ turns_of x cs = count_no x (busy next) cs (ne_eqb next x ne) in
-    let b : back subs x next ≡ suc (back subs x l) = one_further subs x l xl ll ne in
-    let all : subs * turns_of x (busy next ∷ cs) ≡ subs * turns_of x cs = ap (λ (k : ℕ). subs * k) mine in
-    omega arith)
-    (cases_eq next x)
+    elim (cases_eq next x) [
+      | inl e ↦
+          let mine : turns_of x (busy next ∷ cs) ≡ suc (turns_of x cs) = count_yes x (busy next) cs (eq-eqb next x e) in
+          let z : back subs x next ≡ 0 = ap (back subs x) e ∙ back_self subs x xl in
+          let b = just_before subs x l xl ll e in
+          let all : subs * turns_of x (busy next ∷ cs) ≡ subs + subs * turns_of x cs =
+          ap (λ (k : ℕ). subs * k) mine ∙ one_more_round subs (turns_of x cs) in
+          omega arith
+      | inr ne ↦
+          let b = one_further subs x l xl ll ne in
+          let all = ap (λ (k : ℕ). subs * k) (count_no x (busy next) cs (ne_eqb next x ne)) in
+          omega arith
+    ]
 
 -- the law, by rounds that begin behind x itself
 pub bound_is_met_holds : BoundIsMet
@@ -112,5 +84,7 @@ bound_is_met_holds subs x (suc f) xl some =
     )
   where
     fewer : (s a b : ℕ) → s * a < s * b → a < b
-    fewer s a b less = ⊎_elim (λ (h : a < b). h)
-        (λ (h : b ≤ a). absurd (let m = mul-le s b s a (omega arith) h in omega arith)) (cases_lt a b)
+    fewer s a b less = elim (cases_lt a b) [
+      | inl h ↦ h
+      | inr h ↦ absurd (let m = mul-le s b s a (omega arith) h in omega arith)
+    ]

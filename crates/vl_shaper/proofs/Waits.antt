@@ -1,5 +1,5 @@
 -- How many choices a sub-VL waits for.
-use Rattle.std.proofs.Common.{ℕ, zero, suc, ◌≡◌, ◌≢◌, ◌+◌, ◌-◌, ◌*◌, ◌<◌, ◌≤◌, List, [], ◌∷◌, true, length, arith, ap, ◌∙◌, sym, subst, ⊎_elim}
+use Rattle.std.proofs.Common.{ℕ, zero, suc, ◌≡◌, ◌+◌, ◌-◌, ◌*◌, ◌<◌, ◌≤◌, List, [], ◌∷◌, true, length, arith, ap, ◌∙◌, inl, inr}
 use Rattle.std.proofs.lemmas.Bool.{cases_eq, eq-eqb, ne_eqb}
 use Rattle.vl_shaper.specs.Choices.{Choice, AreChosen}
 use Rattle.vl_shaper.specs.Latency.{turns_of, HasUntil, QueuedMessage}
@@ -7,9 +7,7 @@ use Rattle.vl_shaper.proofs.OneEach.{back, back_cases, back_lt, turn_lt, ahead, 
 
 -- x itself lies no way behind x
 pub back_self : (subs x : ℕ) → x < subs → back subs x x ≡ 0
-back_self subs x xl =
-    ⊎_elim (λ b. let b0 = b.0 in let b1 = b.1 in omega arith) (λ b. let b0 = b.0 in let b1 = b.1 in omega arith)
-    (back_cases subs x x)
+back_self subs x xl = grind (arith, back_cases subs x x)
 
 -- one round more
 pub one_more_round : (s f : ℕ) → s * suc f ≡ s + s * f
@@ -24,30 +22,27 @@ waits [] subs x l (suc f) xl ll a h enough =
 waits (c ∷ cs) subs x l (suc f) xl ll a h enough =
     let ch = a.0 in
     let w : ch.turn < subs = ch.within in
-    let s : c.sub < subs = subst (λ (n : ℕ). n < subs) (sym ch.is) (turn_lt subs l ch.turn ll w) in
+    let s : c.sub < subs = rw ch.is (turn_lt subs l ch.turn ll w) in
     let has : c.has x ≡ true = h.0 (omega arith) in
-    ⊎_elim
-    (λ (e : c.sub ≡ x).
-    let one : turns_of x (c ∷ []) ≡ 1 = count_yes x c [] (eq-eqb c.sub x e) in
-    let mine : turns_of x (c ∷ cs) ≡ suc (turns_of x cs) = count_yes x c cs (eq-eqb c.sub x e) in
-    let b = back_lt subs x l xl ll in
-    let z : back subs x c.sub ≡ 0 = ap (back subs x) e ∙ back_self subs x xl in
-    let m = one_more_round subs f in
-    let left : suc f - turns_of x (c ∷ []) ≡ f = omega arith in
-    let rest : f ≤ turns_of x cs =
-    waits cs subs x c.sub f xl s a.1 (subst (λ (n : ℕ). HasUntil x n cs) left h.1) (omega arith) in
-    omega arith)
-    (λ (ne : c.sub ≢ x).
-    let none : turns_of x (c ∷ []) ≡ 0 = count_no x c [] (ne_eqb c.sub x ne) in
-    let mine : turns_of x (c ∷ cs) ≡ turns_of x cs = count_no x c cs (ne_eqb c.sub x ne) in
-    let before = ahead subs x l ch.turn xl ll w (not_x subs x l c ch has ne) in
-    let far : back subs x l < back subs x c.sub =
-    subst (λ (n : ℕ). back subs x l < back subs x n) (sym ch.is) (further subs x l ch.turn xl ll w before) in
-    let left : suc f - turns_of x (c ∷ []) ≡ suc f = omega arith in
-    let rest : suc f ≤ turns_of x cs =
-    waits cs subs x c.sub (suc f) xl s a.1 (subst (λ (n : ℕ). HasUntil x n cs) left h.1) (omega arith) in
-    omega arith)
-    (cases_eq c.sub x)
+    elim (cases_eq c.sub x) [
+      | inl e ↦
+          let one : turns_of x (c ∷ []) ≡ 1 = count_yes x c [] (eq-eqb c.sub x e) in
+          let mine = count_yes x c cs (eq-eqb c.sub x e) in
+          let b = back_lt subs x l xl ll in
+          let z : back subs x c.sub ≡ 0 = ap (back subs x) e ∙ back_self subs x xl in
+          let m = one_more_round subs f in
+          let left : suc f - turns_of x (c ∷ []) ≡ f = omega arith in
+          let rest : f ≤ turns_of x cs = waits cs subs x c.sub f xl s a.1 (rw left at h.1) (omega arith) in
+          omega arith
+      | inr ne ↦
+          let none : turns_of x (c ∷ []) ≡ 0 = count_no x c [] (ne_eqb c.sub x ne) in
+          let mine = count_no x c cs (ne_eqb c.sub x ne) in
+          let far : back subs x l < back subs x c.sub = rw ch.is
+          (further subs x l ch.turn xl ll w (ahead subs x l ch.turn xl ll w (not_x subs x l c ch has ne))) in
+          let left : suc f - turns_of x (c ∷ []) ≡ suc f = omega arith in
+          let rest : suc f ≤ turns_of x cs = waits cs subs x c.sub (suc f) xl s a.1 (rw left at h.1) (omega arith) in
+          omega arith
+    ]
 
 -- the law, from any sub-VL that was served last
 pub queued_message_holds : QueuedMessage

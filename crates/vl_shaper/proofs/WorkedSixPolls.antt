@@ -1,34 +1,23 @@
 -- The worked polls, by computation.
-use Rattle.std.proofs.Common.{ℕ, zero, suc, ◌≡◌, ◌<◌, ◌≤◌, Bool, true, false, nat_eq, refl, arith}
-use Rattle.std.specs.Prelude.{Option, Some, None}
+use Rattle.std.proofs.Common.{◌≡◌, ◌≤◌, true, false, nat_eq, refl, arith}
+use Rattle.std.proofs.lemmas.Bool.{ne_eqb}
+use Rattle.std.specs.Prelude.{Option, None}
 use Rattle.vl_shaper.specs.Choices.{IsChosen}
 use Rattle.vl_shaper.specs.Pace.{is_due, turn_of}
 use Rattle.vl_shaper.specs.declared.shaper.Stamp.{Stamp}
-use Rattle.vl_shaper.specs.Polls.{AreServed, ArePolled}
-use Rattle.vl_shaper.specs.WorkedPolls.{served_at_0, polls_from_5000, late_polls, ServesInTime, ReleasesAtOnce, PolledTooLate}
-
--- the sub-VL that is asked first is chosen
-first_chosen : (last : Option Stamp) (sub : ℕ) (has : ℕ → Bool) → sub ≡ turn_of 2 last 0 → has sub ≡ true
-    → IsChosen 2 (turn_of 2 last) (record { has = has; sub = sub })
-first_chosen last sub has is had = record {
-  turn = 0;
-  within = omega arith;
-  is = is;
-  had = had;
-  before = λ k h. absurd (omega arith);
-}
+use Rattle.vl_shaper.specs.Polls.{AreServed}
+use Rattle.vl_shaper.specs.WorkedPolls.{served_at_0, polls_from_5000, ServesInTime, ReleasesAtOnce, PolledTooLate}
+use Rattle.vl_shaper.proofs.WorkedTurns.{first_chosen}
 
 -- the other one had nothing, and this one is chosen
 second_chosen : IsChosen 2 (turn_of 2 served_at_0) (record { has = λ s. nat_eq s 0; sub = 0 })
-second_chosen = record { turn = 1; within = omega arith; is = refl; had = refl; before = before }
-  where
-    before : (k : ℕ) → k < 1 → nat_eq (turn_of 2 served_at_0 k) 0 ≡ false
-    before zero h = refl
-    before (suc k) h = absurd (omega arith)
-
--- behind a release of a sub-VL
-abbrev behind : ℕ → ℕ → Option Stamp
-behind moment sub = Some (record { at = moment; sub = sub })
+second_chosen = record {
+  turn = 1;
+  within = omega arith;
+  is = refl;
+  had = refl;
+  before = λ k h. ne_eqb (turn_of 2 served_at_0 k) 0 (λ e. omega arith);
+}
 
 -- the row
 pub serves_in_time : ServesInTime
@@ -38,12 +27,12 @@ serves_in_time = record {
   served = (
     (λ due. cc),
     (
-      (refl, first_chosen (behind 0 0) 1 (λ s. true) refl refl),
+      (refl, first_chosen _ _ _ (omega arith) refl refl),
       (
         (λ due. cc),
         (
-          (refl, first_chosen (behind 1100 1) 0 (λ s. true) refl refl),
-          ((λ due. cc), ((refl, first_chosen (behind 2300 0) 1 (λ s. true) refl refl), tt)),
+          (refl, first_chosen _ _ _ (omega arith) refl refl),
+          ((λ due. cc), ((refl, first_chosen _ _ _ (omega arith) refl refl), tt)),
         ),
       ),
     ),
@@ -75,17 +64,13 @@ releases_at_once = record {
   below = omega arith;
   later = omega arith;
   served = served_idle served_at_0 second_chosen refl;
-  served_first = served_idle None (first_chosen None 0 (λ s. nat_eq s 0) refl refl) refl;
+  served_first = served_idle None (first_chosen _ _ _ (omega arith) refl refl) refl;
   polled = (omega arith, (omega arith, (omega arith, (omega arith, (omega arith, (omega arith, tt))))));
   had = ((λ h. refl), (none_left, (none_left, (none_left, (none_left, (none_left, tt))))));
   reached = omega arith;
   released = refl;
   at_once = refl;
 }
-
--- a poll comes too late
-too_late : ArePolled 600 0 late_polls → ⊥
-too_late polled = let third = polled.1.1.0 in absurd (omega arith)
 
 -- the row of a late poll
 pub polled_too_late : PolledTooLate
@@ -95,11 +80,11 @@ polled_too_late = record {
   served = (
     (λ due. cc),
     (
-      (refl, first_chosen (behind 0 0) 1 (λ s. true) refl refl),
-      ((refl, first_chosen (behind 1100 1) 0 (λ s. true) refl refl), tt),
+      (refl, first_chosen _ _ _ (omega arith) refl refl),
+      ((refl, first_chosen _ _ _ (omega arith) refl refl), tt),
     ),
   );
-  polled = too_late;
+  polled = λ polled. let third = polled.1.1.0 in absurd (omega arith);
   had = ((λ h. refl), ((λ h. refl), ((λ h. refl), tt)));
   reached = omega arith;
   released = λ one. absurd (omega arith);

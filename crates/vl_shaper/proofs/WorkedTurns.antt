@@ -1,87 +1,55 @@
--- The worked choices, by computation.
-use Rattle.std.proofs.Common.{ℕ, zero, suc, ◌≡◌, ◌<◌, ◌≤◌, true, false, nat_eq, refl, arith}
-use Rattle.vl_shaper.specs.Choices.{Choice, next_turn, IsChosen, AreChosen, IsPassedOver}
-use Rattle.vl_shaper.specs.Latency.{HasUntil}
-use Rattle.vl_shaper.specs.WorkedChoices.{busy_choice, lone_choice, lone_choices, three_choices, four_choices, ChoosesOneEach, WaitsBehindOne, LeavesOneBehind}
+-- The worked choices and the worked wait, by computation.
+use Rattle.std.proofs.Common.{ℕ, ◌≡◌, ◌≢◌, ◌<◌, ◌≤◌, true, false, [], ◌∷◌, refl, arith}
+use Rattle.std.proofs.lemmas.Bool.{ne_eqb}
+use Rattle.std.proofs.lemmas.List.Elements.{All-from_recursion}
+use Rattle.vl_shaper.specs.Choices.{Choice, next_turn, IsChosen, AreChosen}
+use Rattle.vl_shaper.specs.InTime.{choices_of, IsBy}
+use Rattle.vl_shaper.specs.WorkedChoices.{lone_choice, four_choices, ChoosesOneEach, WaitsBehindOne, LeavesOneBehind}
+use Rattle.vl_shaper.specs.WorkedWait.{WaitsFourChoices, ReleasesTooLate, busy_release, four_releases}
 
 -- the sub-VL that is asked first is chosen
-first_chosen : (subs last : ℕ) (c : Choice) → 1 ≤ subs → c.sub ≡ next_turn subs last 0 → c.has c.sub ≡ true
-    → IsChosen subs (next_turn subs last) c
-first_chosen subs last c some is had = record {
-  turn = 0;
-  within = omega arith;
-  is = is;
-  had = had;
-  before = λ k h. absurd (omega arith);
-}
+pub first_chosen : (subs : ℕ) (order : ℕ → ℕ) (c : Choice) → 1 ≤ subs → c.sub ≡ order 0 → c.has c.sub ≡ true
+    → IsChosen subs order c
+first_chosen subs order c some is had =
+    record { turn = 0; within = omega arith; is = is; had = had; before = λ k h. absurd (omega arith) }
 
 -- the others had nothing, and sub-VL 1 is chosen again
-again : (subs turn : ℕ) → turn < subs → 1 ≡ next_turn subs 1 turn
-    → ((k : ℕ) → k < turn → lone_choice.has (next_turn subs 1 k) ≡ false) → IsChosen subs (next_turn subs 1) lone_choice
-again subs turn within is before = record {
-  turn = turn;
-  within = within;
-  is = is;
-  had = refl;
-  before = before;
-}
+again : (subs turn : ℕ) → turn < subs → 1 ≡ next_turn subs 1 turn → ((k : ℕ) → k < turn → next_turn subs 1 k ≢ 1)
+    → IsChosen subs (next_turn subs 1) lone_choice
+again subs turn within is before =
+    record {
+      turn = turn;
+      within = within;
+      is = is;
+      had = refl;
+      before =
+          λ k h. ne_eqb (next_turn subs 1 k) 1 (before k h);
+    }
 
--- of three
 again_of_three : IsChosen 3 (next_turn 3 1) lone_choice
-again_of_three = again 3 2 (omega arith) refl before
-  where
-    before : (k : ℕ) → k < 2 → nat_eq (next_turn 3 1 k) 1 ≡ false
-    before zero h = refl
-    before (suc zero) h = refl
-    before (suc (suc k)) h = absurd (omega arith)
+again_of_three = again 3 2 (omega arith) refl (λ k h e. omega arith)
 
--- of two
 again_of_two : IsChosen 2 (next_turn 2 1) lone_choice
-again_of_two = again 2 1 (omega arith) refl before
-  where
-    before : (k : ℕ) → k < 1 → nat_eq (next_turn 2 1 k) 1 ≡ false
-    before zero h = refl
-    before (suc k) h = absurd (omega arith)
-
--- a sub-VL that had nothing wasn't passed over
-not_passed : IsPassedOver 0 lone_choices → ⊥
-not_passed passed = let had : false ≡ true = passed.0 in cc
-
--- nor had it something until it was chosen
-not_had : HasUntil 0 2 lone_choices → ⊥
-not_had had = let first : false ≡ true = had.0 (omega arith) in cc
+again_of_two = again 2 1 (omega arith) refl (λ k h e. omega arith)
 
 -- the row of one each
 pub chooses_one_each : ChoosesOneEach
 chooses_one_each = record {
-  chosen = (first_chosen 3 0 (busy_choice 1) (omega arith) refl refl, (first_chosen 3 1 (busy_choice 2) (omega arith) refl refl, tt));
+  chosen = (first_chosen _ _ _ (omega arith) refl refl, (first_chosen _ _ _ (omega arith) refl refl, tt));
   passed = (refl, (λ same. absurd (omega arith)), (refl, (λ same. absurd (omega arith)), tt));
   once = refl;
-  lone = (first_chosen 3 0 lone_choice (omega arith) refl refl, (again_of_three, (again_of_three, (again_of_three, tt))));
-  idle = not_passed;
+  lone = (first_chosen _ _ _ (omega arith) refl refl, (again_of_three, (again_of_three, (again_of_three, tt))));
+  idle = λ passed. let had : false ≡ true = passed.0 in cc;
   often = refl;
 }
 
--- three choices of a link of two
-three_chosen : AreChosen 2 0 three_choices
-three_chosen = (
-  first_chosen 2 0 (busy_choice 1) (omega arith) refl refl,
-  (
-    first_chosen 2 1 (busy_choice 0) (omega arith) refl refl,
-    (first_chosen 2 0 (busy_choice 1) (omega arith) refl refl, tt),
-  ),
-)
-
--- and four
+-- four choices of a link of two
 four_chosen : AreChosen 2 0 four_choices
 four_chosen = (
-  first_chosen 2 0 (busy_choice 1) (omega arith) refl refl,
+  first_chosen _ _ _ (omega arith) refl refl,
   (
-    first_chosen 2 1 (busy_choice 0) (omega arith) refl refl,
-    (
-      first_chosen 2 0 (busy_choice 1) (omega arith) refl refl,
-      (first_chosen 2 1 (busy_choice 0) (omega arith) refl refl, tt),
-    ),
+    first_chosen _ _ _ (omega arith) refl refl,
+    (first_chosen _ _ _ (omega arith) refl refl, (first_chosen _ _ _ (omega arith) refl refl, tt)),
   ),
 )
 
@@ -94,17 +62,43 @@ waits_behind_one = record {
   released = omega arith;
   short = λ enough. absurd (omega arith);
   left = λ enough. absurd (omega arith);
-  lone = (first_chosen 2 0 lone_choice (omega arith) refl refl, (again_of_two, (again_of_two, (again_of_two, tt))));
-  idle = not_had;
+  lone = (first_chosen _ _ _ (omega arith) refl refl, (again_of_two, (again_of_two, (again_of_two, tt))));
+  idle = λ had. let first : false ≡ true = had.0 (omega arith) in cc;
   none = λ enough. absurd (omega arith);
 }
 
 -- the row of one choice fewer
 pub leaves_one_behind : LeavesOneBehind
 leaves_one_behind = record {
-  chosen = three_chosen;
+  chosen = (four_chosen.0, (four_chosen.1.0, (four_chosen.1.1.0, tt)));
   had = ((λ h. refl), ((λ h. refl), ((λ h. refl), tt)));
   fewer = refl;
   left = omega arith;
   none = λ choices is. absurd (omega arith);
+}
+
+-- the sub-VLs take turns, whenever the fourth release comes
+take_turns : (moment : ℕ)
+    → AreChosen 2 0 (choices_of (busy_release 1100 1 ∷ busy_release 2100 0 ∷ busy_release 3200 1 ∷ busy_release moment 0 ∷ []))
+take_turns moment = four_chosen
+
+-- the row of a wait
+pub waits_four_choices : WaitsFourChoices
+waits_four_choices = record {
+  chosen = take_turns 4300;
+  had = ((λ h. refl), ((λ h. refl), ((λ h. refl), ((λ h. refl), tt))));
+  paced = (omega arith, (omega arith, (omega arith, (omega arith, tt))));
+  rounds = omega arith;
+  released = omega arith;
+  by = All-from_recursion (IsBy 4400) four_releases (omega arith, (omega arith, (omega arith, (omega arith, tt))));
+}
+
+-- the row of a late release
+pub releases_too_late : ReleasesTooLate
+releases_too_late = record {
+  chosen = take_turns 4500;
+  had = ((λ h. refl), ((λ h. refl), ((λ h. refl), ((λ h. refl), tt))));
+  paced = λ paced. let fourth = paced.1.1.1.0 in absurd (omega arith);
+  rounds = omega arith;
+  by = λ by. let fourth : 4500 ≤ 4400 = by 3 (busy_release 0 0) (omega arith) in absurd (omega arith);
 }

@@ -2,8 +2,5 @@ use Rattle.afdx_laws.proofs.Credit.{none_dropped_holds}
 use Rattle.afdx_laws.proofs.WorkedPassages.{polices_three}
 use Rattle.afdx_laws.proofs.switching.none_dropped.Goals as goal
 
-pub returns-clause-passed : goal.returns-clause-passed
-returns-clause-passed c = none_dropped_holds
-
-pub returns-clause-worked : goal.returns-clause-worked
-returns-clause-worked c = polices_three
+pub returns : goal.returns
+returns c = record { passed = none_dropped_holds; worked = polices_three }
