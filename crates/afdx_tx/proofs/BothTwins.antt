@@ -1,5 +1,5 @@
 -- Of links on both networks, what was handed to the one is twins of what was handed to the other.
-use Rattle.std.proofs.Common.{ℕ, ◌≡◌, ◌≤◌, List, [], ◌∷◌, ◌++◌, Bool, true, false, cond, length, map, take, arith, refl, ap, ◌∙◌, sym, subst}
+use Rattle.std.proofs.Common.{ℕ, ◌≡◌, ◌≤◌, List, [], ◌∷◌, ◌++◌, Bool, true, false, cond, length, map, take, arith, refl, ap, ◌∙◌, sym}
 use Rattle.std.specs.Prelude.{All}
 use Rattle.std.proofs.lemmas.Bool.{and_parts}
 use Rattle.std.proofs.lemmas.List.{length-map, take_all, take-append-le, take-map}
@@ -70,19 +70,23 @@ both_sent links net (l ∷ ls) own =
         → (t : Bool) → is_both l.networks ≡ t → (n : Bool) → names net l.networks ≡ n
         → on_both links (sent_to net (l ∷ ls)) ≡ map (side net) (on_both links (entries_of (l ∷ ls)))
     by_both rest true is n named =
-        ap (on_both links) (sent_in net l ls (both_names net l.networks is))
-        ∙ head (side net l.entry) (sent_to net ls) true (turned ∙ here ∙ is)
-        ∙ ap (λ (es : List Entry). side net l.entry ∷ es) rest
-        ∙ sym (ap (map (side net)) (head l.entry (entries_of ls) true (here ∙ is)))
+        rw (
+          sent_in net l ls (both_names net l.networks is),
+          head (side net l.entry) (sent_to net ls) true (turned ∙ here ∙ is),
+          head l.entry (entries_of ls) true (here ∙ is),
+          rest,
+        ) refl
     by_both rest false isnt true named =
-        ap (on_both links) (sent_in net l ls named)
-        ∙ head (side net l.entry) (sent_to net ls) false (turned ∙ here ∙ isnt)
-        ∙ rest
-        ∙ sym (ap (map (side net)) (head l.entry (entries_of ls) false (here ∙ isnt)))
-    by_both rest false isnt false named =
-        ap (on_both links) (sent_out net l ls named)
-        ∙ rest
-        ∙ sym (ap (map (side net)) (head l.entry (entries_of ls) false (here ∙ isnt)))
+        rw (
+          sent_in net l ls named,
+          head (side net l.entry) (sent_to net ls) false (turned ∙ here ∙ isnt),
+          head l.entry (entries_of ls) false (here ∙ isnt),
+        ) rest
+    by_both rest false isnt false named = rw (
+      sent_out net l ls named,
+      head l.entry (entries_of ls) false (here
+          ∙ isnt),
+    ) rest
 
 -- a list that another begins: what is taken of the one is the other
 taken_front : (xs ys zs ws : List Entry) → xs ++ ys ≡ zs ++ ws → length zs ≤ length xs → take (length zs) xs ≡ zs
@@ -113,22 +117,21 @@ both_append links xs ys = filter-append (λ (e : Entry). is_on_both links (link_
 pub both_twins : (plan : Plan) (lines : Lines) → IsPlan plan → IsMirrored lines → AreCarried plan.links lines.logged
     → AreKnown plan.links A (log lines) → AreTwins side (on_both plan.links lines.a) (on_both plan.links lines.b)
 both_twins plan lines valid m carried known =
-    subst (λ (a : List Entry). AreTwins side a (on_both plan.links lines.b)) (sym for_a)
-    (subst (AreTwins side (map (side A) (on_both plan.links (entries_of m.first.seen)))) (sym for_b)
+    rw (for_a, for_b)
     (front_twins (on_both plan.links (entries_of m.first.seen)) (on_both plan.links (entries_of m.first.missed))
     (on_both plan.links (entries_of m.second.seen)) (on_both plan.links (entries_of m.second.missed))
     (sym (both_append plan.links (entries_of m.first.seen) (entries_of m.first.missed))
     ∙ ap (on_both plan.links) (sym (log_parts lines m.first.seen m.first.missed m.first.whole)
     ∙ log_parts lines m.second.seen m.second.missed m.second.whole)
-    ∙ both_append plan.links (entries_of m.second.seen) (entries_of m.second.missed))))
+    ∙ both_append plan.links (entries_of m.second.seen) (entries_of m.second.missed)))
   where
     all : All (IsPlanned plan.links) lines.logged
     all = logged_planned plan lines valid carried known
 
     for_a : on_both plan.links lines.a ≡ map (side A) (on_both plan.links (entries_of m.first.seen))
     for_a = ap (on_both plan.links) m.first.got ∙ both_sent plan.links A m.first.seen
-        (all_front (IsPlanned plan.links) m.first.seen m.first.missed (subst (λ (ls : List Logged). All (IsPlanned plan.links) ls) m.first.whole all))
+        (all_front (IsPlanned plan.links) m.first.seen m.first.missed (rw m.first.whole at all))
 
     for_b : on_both plan.links lines.b ≡ map (side B) (on_both plan.links (entries_of m.second.seen))
     for_b = ap (on_both plan.links) m.second.got ∙ both_sent plan.links B m.second.seen
-        (all_front (IsPlanned plan.links) m.second.seen m.second.missed (subst (λ (ls : List Logged). All (IsPlanned plan.links) ls) m.second.whole all))
+        (all_front (IsPlanned plan.links) m.second.seen m.second.missed (rw m.second.whole at all))

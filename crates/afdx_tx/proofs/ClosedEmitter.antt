@@ -2,11 +2,8 @@
 use Rattle.std.proofs.Common.{ℕ, ◌≡◌, ◌<◌, ◌≤◌, List, length, set, arith, refl, ap, ◌∙◌, sym, subst, ⊎_elim, Result, Ok, Err, OnErr, IfOk}
 use Rattle.std.proofs.lemmas.Bool.{cases_lt}
 use Rattle.std.proofs.lemmas.List.{length-set, get_or_past}
-use Rattle.afdx_plan.specs.declared.identifiers.VlId.{VlId}
-use Rattle.afdx_plan.specs.declared.port_plan.PortPlan.{PortPlan}
 use Rattle.afdx_plan.specs.Config.{Plan, IsPlan, link_plan_at}
-use Rattle.subvl_queue.specs.Messages.{AreItems}
-use Rattle.vl_link.specs.Seen.{known_of, queue_of}
+use Rattle.vl_link.specs.Seen.{queue_of}
 use Rattle.vl_link.specs.Links.{Held, LinkState, held_at, link_at, no_link}
 use Rattle.vl_link.specs.Closing.{ClosesSub, ClosesLink}
 use Rattle.vl_link.proofs.Closing.{closes_taken, closes_known, closes_name}
@@ -40,8 +37,7 @@ sub_closed old total new c = record {
     ports = ap (λ (h : Held). h.ports) c.same;
     left = ap (λ (h : Held). h.left) c.same;
     taken = closes_taken old.seen total new.seen c.queue;
-    items = λ items. subst (λ (ports : List PortPlan). AreItems (length ports) (known_of new.seen)) (sym (ap (λ (h : Held). h.ports) c.same))
-        (subst (AreItems (length old.ports)) (sym (closes_known old.seen total new.seen c.queue)) items);
+    items = λ items. rw (c.same, closes_known old.seen total new.seen c.queue) items;
   };
   name = closes_name old.seen total new.seen c.queue;
 }
@@ -80,19 +76,13 @@ queues_same old new c = alike_queues old new c.count
 pub lacks_at : (plan : Plan) (vl sub place : ℕ) → IsPlan plan → place < length plan.links
     → (link_plan_at plan.links place).id.0 ≡ vl → (link_plan_at plan.links place).sub_vls ≤ sub → LacksSub plan vl sub
 lacks_at plan vl sub place valid within id few other at =
-    let made = λ (n : ℕ). let v : VlId = record { 0 = n } in v in
-    let same : other ≡ place = valid.links_apart other place at.within within (ap made (at.id ∙ sym id)) in
-    let below : sub < (link_plan_at plan.links place).sub_vls =
-    subst (λ (k : ℕ). sub < (link_plan_at plan.links k).sub_vls) same at.below in
-    omega arith
+    let same = valid.links_apart other place at.within within (λ i. record { 0 = (at.id ∙ sym id) i }) in
+    let below = rw same at at.below in omega arith
 
 -- the link whose sub-VL was closed is one of the emitter's
 pub closes_within : (old : Tx) (vl sub total : ℕ) (new : Tx) (c : ClosesTx old vl sub total new) → c.place < length old.links
-closes_within old vl sub total new c = ⊎_elim (λ (lt : c.place < length old.links). lt)
-    (λ (past : length old.links ≤ c.place).
-    let none : link_at old.links c.place ≡ no_link = get_or_past old.links c.place no_link past in
-    let below : sub < length (link_at old.links c.place).subs = c.closes.within in
-    absurd (omega (arith, ap (λ (l : LinkState). length l.subs) none)))
+closes_within old vl sub total new c = ⊎_elim (λ lt. lt)
+    (λ past. absurd (let below = rw (get_or_past old.links c.place no_link past) at c.closes.within in omega arith))
     (cases_lt c.place (length old.links))
 
 -- the links of an emitter but for a queue that is closed

@@ -1,10 +1,9 @@
 -- The total of a sub-VL that was closed is how many messages it accepted.
-use Rattle.std.proofs.Common.{ℕ, ◌≡◌, ◌<◌, ◌≤◌, List, length, ap, ◌∙◌, sym, subst, ⊎_elim, Option, Some, None, IfSome}
+use Rattle.std.proofs.Common.{ℕ, ◌≡◌, ◌<◌, List, length, ap, ◌∙◌, sym, ⊎_elim, Some, None}
 use Rattle.std.proofs.lemmas.Bool.{cases_lt}
 use Rattle.std.proofs.lemmas.List.{get_or_past, length-map}
-use Rattle.subvl_queue.specs.Views.{accepted_of}
 use Rattle.vl_link.specs.Seen.{Seen, receiving, gathered, known_of, total_of}
-use Rattle.vl_link.specs.Links.{Held, LinkState, held_at, link_at, no_link, nothing_held, sent_of}
+use Rattle.vl_link.specs.Links.{LinkState, held_at, link_at, no_link, nothing_held, sent_of}
 use Rattle.vl_link.specs.Closing.{Closes}
 use Rattle.vl_link.specs.LinkGathering.{BecomesWhole}
 use Rattle.afdx_tx.specs.Emitter.{Tx, total_in}
@@ -29,26 +28,22 @@ shown_within : (links : List LinkState) (k s total : ℕ) → total_in links k s
     → (k < length links) × (s < length (link_at links k).subs)
 shown_within links k s total shown = (
   ⊎_elim
-      (λ (lt : k < length links). lt)
-      (λ (past : length links ≤ k).
-      let none : total_in links k s ≡ None = ap (λ (l : LinkState). total_of (held_at l.subs s).seen) (get_or_past links k no_link past) in
-      absurd (let e : None ≡ Some total = sym none ∙ shown in cc))
+      (λ lt. lt)
+      (λ past. absurd (let e : None ≡ Some total = rw (get_or_past links k no_link past) at shown in cc))
       (cases_lt k (length links)),
   ⊎_elim
-      (λ (lt : s < length (link_at links k).subs). lt)
-      (λ (past : length (link_at links k).subs ≤ s).
-      let none : total_in links k s ≡ None = ap (λ (h : Held). total_of h.seen) (get_or_past (link_at links k).subs s nothing_held past) in
-      absurd (let e : None ≡ Some total = sym none ∙ shown in cc))
+      (λ lt. lt)
+      (λ past. absurd (let e : None ≡ Some total = rw (get_or_past (link_at links k).subs s nothing_held past) at
+      shown in cc))
       (cases_lt s (length (link_at links k).subs)),
 )
 
 -- the total of a queue is how many messages are known of it once it is gathered
 whole_total : (old new : Seen) (total : ℕ) → BecomesWhole old new → total_of old ≡ Some total → length (known_of new) ≡ total
 whole_total (receiving old) (gathered new) total b shown =
-    sym (subst (λ (o : Option ℕ). IfSome o (λ (t : ℕ). t ≡ length (accepted_of new))) shown b.3)
-whole_total (receiving old) (receiving new) total b shown = absurd b
+    sym (rw shown at b.3)
 whole_total (gathered old) (gathered new) total b shown = absurd b
-whole_total (gathered old) (receiving new) total b shown = absurd b
+whole_total old new total b shown = absurd b
 
 -- the total of a sub-VL is how many messages it accepted, known whole once the ports are gathered
 pub total_whole : (old : Tx) (ports : List PortView) (new : Tx) (k s total : ℕ) → IsGatheredTx old ports new

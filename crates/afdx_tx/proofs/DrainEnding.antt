@@ -2,14 +2,13 @@
 use Rattle.std.proofs.Common.{ℕ, zero, suc, ◌≡◌, ◌≢◌, ◌⊎◌, ◌+◌, ◌-◌, ◌<◌, ◌≤◌, List, [], ◌∷◌, ◌++◌, Bool, true, ◌&&◌, length, arith, refl, ap, ◌∙◌, sym, subst, Option, Some, None, inl, inr, ⊎_elim}
 use Rattle.std.proofs.lemmas.Bool.{both_ways, cases_eq, le-leb}
 use Rattle.std.proofs.lemmas.List.{length-append, length-map, length_push}
-use Rattle.afdx_plan.specs.declared.identifiers.VlId.{VlId}
 use Rattle.afdx_plan.specs.declared.link_plan.LinkPlan.{LinkPlan}
 use Rattle.afdx_plan.specs.Config.{Plan, IsPlan, link_plan_at}
 use Rattle.afdx_plan.specs.Plan.{bag_micros}
 use Rattle.afdx_plan.specs.Room.{room_of}
 use Rattle.afdx_frame.specs.declared.net.Net.TheVariants.{A}
 use Rattle.afdx_frame.specs.Header.{sub_in}
-use Rattle.afdx_frame.specs.Fragments.{Sent, blanked, fragments}
+use Rattle.afdx_frame.specs.Fragments.{Sent, fragments}
 use Rattle.redundant_mux.specs.Entry.{Entry, entry}
 use Rattle.redundant_mux.specs.Lines.{Lines, BothEndure, stands_for, log}
 use Rattle.redundant_mux.proofs.Enduring.{both_none, both_on, stood_before}
@@ -24,7 +23,6 @@ use Rattle.vl_link.proofs.PaceOfStream.{stream_more, stream_same}
 use Rattle.afdx_legal.specs.Streams.{latest, link_stream, sub_stream, told}
 use Rattle.afdx_legal.specs.Legal.{Accepted}
 use Rattle.afdx_legal.proofs.LongerStream.{latest_push, with_push_in, with_push_out}
-use Rattle.afdx_legal.specs.Done.{Owes}
 use Rattle.afdx_tx.specs.Drain.{Drains, DrainsAt, IsDrained, pace_in, accepted_view}
 use Rattle.afdx_tx.specs.DrainEnds.{owed, stream_at, owed_at, AreApartBy, AreDrained, DrainEnds}
 
@@ -53,7 +51,7 @@ Comes now end_system link accepted S T =
 
 -- both hold
 and_true : {x y : Bool} → x ≡ true → y ≡ true → (x && y) ≡ true
-and_true {y = y} e f = ap (λ (t : Bool). t && y) e ∙ f
+and_true e f = rw e f
 
 -- a list with an end is longer than the list
 longer : (xs ys zs : List (List ℕ)) → (zs ≡ [] → ⊥) → xs ≡ ys ++ zs → length ys < length xs
@@ -66,13 +64,13 @@ own_turn : (now end_system : ℕ) (link : LinkPlan) (accepted : ℕ → List Sen
     → Drains now end_system link accepted lines after did → stands_for link.networks after ≡ true
     → Comes now end_system link accepted (link_stream link.id.0 (log lines)) (link_stream link.id.0 (log after))
 own_turn now end_system link accepted lines after Nothing due t stands = ⊎_elim
-    (λ early. absurd (both_ways _ early.0 (and_true due (subst (λ (l : Lines). stands_for link.networks l ≡ true) t.1 stands))))
+    (λ early. absurd (both_ways _ early.0 (and_true due (rw t.1 at stands))))
     (λ none. inl (ap (λ (l : Lines). link_stream link.id.0 (log l)) t.1, none.1.each))
     t.0
 own_turn now end_system link accepted lines after (Released sub number) due t stands =
     let r = t.2 in
     let view = accepted_view end_system link accepted (log lines) in
-    let owes : Owes end_system link accepted (log lines) sub = r.choice.chosen in
+    let owes = r.choice.chosen in
     inr (record {
       sub = sub;
       within = choice_below (pace_in link (log lines)) (λ s. view.gives s r.frame) view.lacks view.rests sub r.choice;
@@ -145,22 +143,20 @@ turns_come now plan accepted k i (suc many) lines after le lt ne due t stands = 
     (stood_before t.0 after (link_plan_at plan.links k).networks (drains_endure now plan accepted (i + 1) many t.0 after t.3) stands) in
     let rest = other_turns now plan accepted k (i + 1) many t.0 after
     (λ j jle jlt. ne j (omega arith) (λ e. absurd (omega (arith, e, here)))) t.3 in
-    subst (ComesAt now plan accepted k (stream_at plan k lines)) (sym rest) own)
+    rw rest own)
     (λ (later : i ≡ k → ⊥).
     let same = other_turn now plan.end_system (link_plan_at plan.links i) (accepted i) lines t.0 t.1
     (link_plan_at plan.links k).id.0 (ne i (omega arith) later) t.2 in
     let further : i + 1 ≤ k = omega (arith, le, later) in
-    subst (λ (S : List Entry). ComesAt now plan accepted k S (stream_at plan k after)) same
-    (turns_come now plan accepted k (i + 1) many t.0 after further (omega arith) (λ j jlt. ne j (omega arith))
-    (subst (IsDueBy now plan k) (sym same) due) t.3 stands))
+    rw (← same) (turns_come now plan accepted k (i + 1) many t.0 after further (omega arith)
+    (λ j jlt. ne j (omega arith)) (rw same due) t.3 stands))
     (cases_eq i k)
 
 -- no two links of a valid plan have one identifier
 others : (plan : Plan) (k : ℕ) → IsPlan plan → k < length plan.links → (j : ℕ) → j < length plan.links → (j ≡ k → ⊥)
     → IsOther plan k j
 others plan k valid lt j jlt ne e =
-    let made = λ (n : ℕ). let v : VlId = record { 0 = n } in v in
-    ne (valid.links_apart j k jlt lt (ap made e))
+    ne (valid.links_apart j k jlt lt (λ i. record { 0 = e i }))
 
 -- what a poll does to the stream of a link that is due
 poll_comes : (now : ℕ) (plan : Plan) (accepted : Accepted) (k : ℕ) (lines after : Lines) → IsPlan plan → k < length plan.links
@@ -185,62 +181,47 @@ later_on (Some last) m n le later = omega arith
 told_other : (now sub s : ℕ) (frame : List ℕ) (S T : List Entry) → sub_in frame ≡ sub → s ≢ sub → T ≡ S ++ entry now frame ∷ []
     → length (told (sub_stream s T)) ≡ length (told (sub_stream s S))
 told_other now sub s frame S T of ne more =
-    ap (λ (l : List Entry). length (told (sub_stream s l))) more
-    ∙ ap (λ (l : List Entry). length (told l))
-    (with_push_out (λ (e : Entry). sub_in e.frame) s S (entry now frame) (λ e. ne (sym e ∙ of)))
+    rw (more, with_push_out (λ (e : Entry). sub_in e.frame) s S (entry now frame) (λ e. ne (sym e ∙ of))) refl
 
 -- the sub-VL's own are one more
 told_own : (now sub : ℕ) (frame : List ℕ) (S T : List Entry) → sub_in frame ≡ sub → T ≡ S ++ entry now frame ∷ []
     → length (told (sub_stream sub T)) ≡ length (told (sub_stream sub S)) + 1
 told_own now sub frame S T of more =
-    ap (λ (l : List Entry). length (told (sub_stream sub l))) more
-    ∙ ap (λ (l : List Entry). length (told l))
-    (with_push_in (λ (e : Entry). sub_in e.frame) sub S (entry now frame) of)
-    ∙ length-map (sub_stream sub S ++ entry now frame ∷ []) (λ (e : Entry). blanked e.frame)
-    ∙ length_push (sub_stream sub S) (entry now frame)
-    ∙ ap (λ (n : ℕ). n + 1) (sym (length-map (sub_stream sub S) (λ (e : Entry). blanked e.frame)))
+    rw (more, with_push_in (λ (e : Entry). sub_in e.frame) sub S (entry now frame) of)
+    (simp length-map (length_push _ _))
 
--- the sub-VLs below owe what they owed
-below_same : (now end_system : ℕ) (link : LinkPlan) (accepted : ℕ → List Sent) (S T : List Entry)
-    (g : Gains now end_system link accepted S T) (n : ℕ) → n ≤ g.sub
-    → owed end_system link accepted T n ≡ owed end_system link accepted S n
-below_same now end_system link accepted S T g zero le = refl
-below_same now end_system link accepted S T g (suc n) le =
-    let before = below_same now end_system link accepted S T g n (omega arith) in
-    let other = told_other now g.sub n g.frame S T g.of (λ e. absurd (omega (arith, e))) g.stream in
-    omega (arith, before, other)
+module _ (now end_system : ℕ) (link : LinkPlan) (accepted : ℕ → List Sent) (S T : List Entry)
+    (g : Gains now end_system link accepted S T) where
+  -- the sub-VLs below owe what they owed
+  below_same : (n : ℕ) → n ≤ g.sub → owed end_system link accepted T n ≡ owed end_system link accepted S n
+  below_same zero le = refl
+  below_same (suc n) le =
+      let before = below_same n (omega arith) in
+      let other = told_other now g.sub n g.frame S T g.of (λ e. absurd (omega (arith, e))) g.stream in
+      omega (arith, before, other)
 
--- with the sub-VL they owe one less
-one_less : (now end_system : ℕ) (link : LinkPlan) (accepted : ℕ → List Sent) (S T : List Entry)
-    (g : Gains now end_system link accepted S T) (n : ℕ) → g.sub < n
-    → owed end_system link accepted T n + 1 ≤ owed end_system link accepted S n
-one_less now end_system link accepted S T g zero lt = absurd (omega arith)
-one_less now end_system link accepted S T g (suc n) lt = ⊎_elim
-    (λ (here : n ≡ g.sub).
-    let before = below_same now end_system link accepted S T g n (omega (arith, here)) in
-    let own = told_own now n g.frame S T (g.of ∙ sym here) g.stream in
-    let short = subst (λ (s : ℕ). length (told (sub_stream s S)) < length (due_of end_system link accepted s)) (sym here) g.short in
-    omega (arith, before, own, short))
-    (λ (ne : n ≡ g.sub → ⊥).
-    let before = one_less now end_system link accepted S T g n (omega (arith, ne)) in
-    let other = told_other now g.sub n g.frame S T g.of ne g.stream in
-    omega (arith, before, other))
-    (cases_eq n g.sub)
+  -- with the sub-VL they owe one less
+  one_less : (n : ℕ) → g.sub < n → owed end_system link accepted T n + 1 ≤ owed end_system link accepted S n
+  one_less zero lt = absurd (omega arith)
+  one_less (suc n) lt = ⊎_elim
+      (λ (here : n ≡ g.sub).
+      let before = below_same n (omega (arith, here)) in
+      let own = told_own now n g.frame S T (g.of ∙ sym here) g.stream in
+      let short : length (told (sub_stream n S)) < length (due_of end_system link accepted n) = rw here g.short in
+      omega (arith, before, own, short))
+      (λ (ne : n ≡ g.sub → ⊥).
+      let before = one_less n (omega (arith, ne)) in
+      let other = told_other now g.sub n g.frame S T g.of ne g.stream in
+      omega (arith, before, other))
+      (cases_eq n g.sub)
 
--- the release is the latest
-gained_later : (now end_system : ℕ) (link : LinkPlan) (accepted : ℕ → List Sent) (S T : List Entry)
-    → Gains now end_system link accepted S T → IsLater (latest None T) now
-gained_later now end_system link accepted S T g =
-    subst (λ (last : Option Stamp). IsLater last now)
-    (sym (ap (latest None) g.stream ∙ latest_push None S (entry now g.frame))) (omega arith)
+  -- the release is the latest
+  gained_later : IsLater (latest None T) now
+  gained_later = rw (g.stream, latest_push None S (entry now g.frame)) (omega arith)
 
--- what has all gains nothing
-none_gained : (now end_system : ℕ) (link : LinkPlan) (accepted : ℕ → List Sent) (S T : List Entry)
-    → HasAll end_system link accepted S → Gains now end_system link accepted S T → ⊥
-none_gained now end_system link accepted S T all g =
-    let same = ap length (all g.sub g.within) in
-    let short = g.short in
-    omega (arith, same, short)
+  -- what has all gains nothing
+  none_gained : HasAll end_system link accepted S → ⊥
+  none_gained all = let same = ap length (all g.sub g.within) in let short = g.short in omega (arith, same, short)
 
 -- the link at a place has all
 abbrev HasAllAt : Plan → Accepted → ℕ → List Entry → Type 0
@@ -249,47 +230,34 @@ HasAllAt plan accepted k S = HasAll plan.end_system (link_plan_at plan.links k) 
 -- a network that is down after polls was down before them, or failed
 drained_endure : (plan : Plan) (accepted : Accepted) (moments : List ℕ) (lines after : Lines)
     → AreDrained plan accepted moments lines after → BothEndure lines after
-drained_endure plan accepted [] lines after p = subst (BothEndure lines) (sym p) (both_none lines)
+drained_endure plan accepted [] lines after p = rw p (both_none lines)
 drained_endure plan accepted (now ∷ moments) lines after p =
     both_on lines p.0 after (drains_endure now plan accepted 0 (length plan.links) lines p.0 p.1)
     (drained_endure plan accepted moments p.0 after p.2)
 
--- a link that has all keeps it
-stays : (plan : Plan) (accepted : Accepted) (k : ℕ) (moments : List ℕ) (lines after : Lines) (start gap : ℕ)
-    → IsPlan plan → k < length plan.links → bag_micros (link_plan_at plan.links k).bag ≤ gap
-    → IsLater (latest None (stream_at plan k lines)) start
-    → AreApartBy gap start moments → AreDrained plan accepted moments lines after → StandsAt plan k after
-    → HasAllAt plan accepted k (stream_at plan k lines) → HasAllAt plan accepted k (stream_at plan k after)
-stays plan accepted k [] lines after start gap valid lt small later apart p stands all =
-    subst (λ (l : Lines). HasAllAt plan accepted k (stream_at plan k l)) (sym p) all
-stays plan accepted k (now ∷ moments) lines after start gap valid lt small later apart p stands all = ⊎_elim
-    (λ still. stays plan accepted k moments p.0 after now gap valid lt small
-    (subst (λ (S : List Entry). IsLater (latest None S) now) (sym still.0) (later_on _ start now (omega (arith, apart.0)) later))
-    apart.1 p.2 stands (subst (HasAllAt plan accepted k) (sym still.0) all))
-    (λ g. absurd (none_gained now plan.end_system (link_plan_at plan.links k) (accepted k) _ _ all g))
-    (poll_comes now plan accepted k lines p.0 valid lt (due_by _ gap start now _ small apart.0 later) p.1
-    (stood_before p.0 after (link_plan_at plan.links k).networks (drained_endure plan accepted moments p.0 after p.2) stands))
-
--- a link has all after more polls than it owes frames
+-- a link has all after more polls than it owes frames, and keeps it
 ends : (plan : Plan) (accepted : Accepted) (k : ℕ) (moments : List ℕ) (lines after : Lines) (start gap : ℕ)
     → IsPlan plan → k < length plan.links → bag_micros (link_plan_at plan.links k).bag ≤ gap
     → IsLater (latest None (stream_at plan k lines)) start
     → AreApartBy gap start moments → AreDrained plan accepted moments lines after → StandsAt plan k after
-    → owed_at plan accepted k lines < length moments
+    → HasAllAt plan accepted k (stream_at plan k lines) ⊎ (owed_at plan accepted k lines < length moments)
     → HasAllAt plan accepted k (stream_at plan k after)
-ends plan accepted k [] lines after start gap valid lt small later apart p stands few = absurd (omega arith)
+ends plan accepted k [] lines after start gap valid lt small later apart p stands few =
+    ⊎_elim (λ all. rw p all) (λ (none : owed_at plan accepted k lines < 0). absurd (omega arith)) few
 ends plan accepted k (now ∷ moments) lines after start gap valid lt small later apart p stands few = ⊎_elim
-    (λ still. stays plan accepted k moments p.0 after now gap valid lt small
-    (subst (λ (S : List Entry). IsLater (latest None S) now) (sym still.0) (later_on _ start now (omega (arith, apart.0)) later))
-    apart.1 p.2 stands (subst (HasAllAt plan accepted k) (sym still.0) still.1))
-    (λ g.
-    let less = one_less now plan.end_system (link_plan_at plan.links k) (accepted k) _ _ g (link_plan_at plan.links k).sub_vls g.within in
-    ends plan accepted k moments p.0 after now gap valid lt small
-    (gained_later now plan.end_system (link_plan_at plan.links k) (accepted k) _ _ g) apart.1 p.2 stands (omega (arith, less, few)))
+    (λ still. ends plan accepted k moments p.0 after now gap valid lt small
+    (rw still.0 (later_on _ start now (omega (arith, apart.0)) later)) apart.1 p.2 stands (inl (rw still.0 still.1)))
+    (λ g. ends plan accepted k moments p.0 after now gap valid lt small
+    (gained_later now _ _ _ _ _ g) apart.1 p.2 stands
+    (⊎_elim (λ all. absurd (none_gained now _ _ _ _ _ g all))
+    (λ (owes : owed_at plan accepted k lines < suc (length moments)).
+    let less = one_less now _ _ _ _ _ g (link_plan_at plan.links k).sub_vls g.within in
+    inr (omega (arith, less, owes))) few))
     (poll_comes now plan accepted k lines p.0 valid lt (due_by _ gap start now _ small apart.0 later) p.1
     (stood_before p.0 after (link_plan_at plan.links k).networks (drained_endure plan accepted moments p.0 after p.2) stands))
 
 -- so have all links
 pub drain_ends_holds : DrainEnds
 drain_ends_holds plan accepted moments lines after start gap valid later small apart p stand few = λ k lt.
-    ends plan accepted k moments lines after start gap valid lt (small k lt) (later k lt) apart p (stand k lt) (few k lt)
+    ends plan accepted k moments lines after start gap valid lt (small k lt) (later k lt) apart p (stand k lt)
+    (inr (few k lt))

@@ -1,22 +1,20 @@
 -- What stays of accepted messages that are known whole.
-use Rattle.std.proofs.Common.{ℕ, ◌≡◌, ◌<◌, ◌≤◌, List, ◌++◌, length, arith, ap, ◌∙◌, sym, subst, ⊎_elim, Result, Ok, Err}
+use Rattle.std.proofs.Common.{ℕ, ◌≡◌, ◌<◌, List, ◌++◌, length, arith, refl, ap, ◌∙◌, sym, ⊎_elim, Result, Ok, Err}
 use Rattle.std.specs.Prelude.{OnOk}
 use Rattle.std.proofs.lemmas.List.{append_assoc, get_or_past}
 use Rattle.std.proofs.lemmas.Bool.{cases_lt}
 use Rattle.afdx_plan.specs.Config.{Plan, link_plan_at}
 use Rattle.afdx_plan.specs.Room.{room_of}
-use Rattle.afdx_plan.specs.declared.port_plan.PortPlan.{PortPlan}
 use Rattle.afdx_frame.specs.declared.net.Net.{Net}
 use Rattle.afdx_frame.specs.declared.net.Net.TheVariants.{A, B}
 use Rattle.afdx_frame.specs.Fragments.{fragments}
 use Rattle.redundant_mux.specs.Entry.{Entry}
-use Rattle.vl_link.specs.Seen.{Seen, receiving, gathered, IsKnownWhole, IsSameQueue}
+use Rattle.vl_link.specs.Seen.{Seen, receiving, gathered, IsKnownWhole, IsSameQueue, known_of}
 use Rattle.afdx_legal.specs.Streams.{told_of, IsPrefixOf}
 use Rattle.afdx_legal.specs.Legal.{IsLegalOn, IsLegal}
-use Rattle.vl_link.specs.Links.{Held, LinkState, held_at, link_at, nothing_held, no_link, sent_by, IsSameSub}
+use Rattle.vl_link.specs.Links.{Held, LinkState, held_at, link_at, nothing_held, no_link, IsSameSub}
 use Rattle.afdx_tx.specs.Emitter.{IsSamePlan, taken_in}
 use Rattle.afdx_tx.specs.Drain.{AreGathered, accepted_by, accepted_in}
-use Rattle.vl_link.specs.Seen.{known_of}
 use Rattle.afdx_tx.proofs.OwedFragments.{owed_split, untaken}
 
 -- the same queue is still gathered
@@ -34,13 +32,9 @@ same_known (gathered q) (receiving s) g e = absurd e
 -- a sub-VL behind the last has no queue
 gathered_past : (links : List LinkState) (k s : ℕ) → AreGathered links → IsKnownWhole (held_at (link_at links k).subs s).seen
 gathered_past links k s g = ⊎_elim
-    (λ (lt : k < length links). ⊎_elim
-    (λ (slt : s < length (link_at links k).subs). g k s lt slt)
-    (λ (ge : length (link_at links k).subs ≤ s).
-    subst (λ (h : Held). IsKnownWhole h.seen) (sym (get_or_past (link_at links k).subs s nothing_held ge)) tt)
+    (λ lt. ⊎_elim (g k s lt) (λ ge. rw (get_or_past (link_at links k).subs s nothing_held ge) tt)
     (cases_lt s (length (link_at links k).subs)))
-    (λ (ge : length links ≤ k).
-    subst (λ (l : LinkState). IsKnownWhole (held_at l.subs s).seen) (sym (get_or_past links k no_link ge)) tt)
+    (λ ge. rw (get_or_past links k no_link ge) tt)
     (cases_lt k (length links))
 
 -- each sub-VL is the same, whatever its link
@@ -57,9 +51,7 @@ gathered_still old new p g k s lt slt =
 
 -- the accepted list of a sub-VL is the same
 same_accepted : (old new : Held) → IsKnownWhole old.seen → IsSameSub old new → accepted_by new ≡ accepted_by old
-same_accepted old new g e =
-    ap (λ (ports : List PortPlan). sent_by ports (known_of new.seen)) e.ports
-    ∙ ap (sent_by old.ports) (same_known old.seen new.seen g e.queue)
+same_accepted old new g e = rw (e.ports, same_known old.seen new.seen g e.queue) refl
 
 -- each accepted list is the same
 each_same : (old new : List LinkState) → IsSamePlan old new → AreGathered old → (k s : ℕ)
@@ -67,8 +59,7 @@ each_same : (old new : List LinkState) → IsSamePlan old new → AreGathered ol
 each_same old new p g k s = ⊎_elim
     (λ (lt : k < length old). same_accepted (held_at (link_at old k).subs s) (held_at (link_at new k).subs s)
     (gathered_past old k s g) (same_sub old new p k s lt))
-    (λ (ge : length old ≤ k). ap (λ (l : LinkState). accepted_by (held_at l.subs s))
-    (get_or_past new k no_link (omega (arith, p.count)) ∙ sym (get_or_past old k no_link ge)))
+    (λ ge. rw (get_or_past new k no_link (omega (arith, p.count)), get_or_past old k no_link ge) refl)
     (cases_lt k (length old))
 
 -- the accepted lists are the same

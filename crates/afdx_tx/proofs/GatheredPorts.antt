@@ -1,29 +1,60 @@
 -- What was accepted of each port that came back.
-use Rattle.std.proofs.Common.{ℕ, ◌≡◌, ◌<◌, List, length, arith, ap, ◌∙◌, sym, subst}
+use Rattle.std.proofs.Common.{ℕ, ◌≡◌, ◌<◌, List, length, arith, ap, ◌∙◌, subst}
 use Rattle.std.specs.Prelude.{Contains}
 use Rattle.std.proofs.lemmas.List.Elements.{All-contains}
 use Rattle.afdx_plan.specs.declared.port_plan.PortPlan.{PortPlan}
 use Rattle.afdx_plan.specs.Config.{Plan, IsPlan, port_plan_at}
 use Rattle.afdx_plan.specs.Places.{link_place}
 use Rattle.subvl_queue.specs.Messages.{part_of}
-use Rattle.subvl_queue.specs.Views.{StandAt, brought_by}
-use Rattle.vl_link.specs.Seen.{known_of, IsKnownWhole, receiving, gathered, Seen}
+use Rattle.subvl_queue.specs.Views.{brought_by}
+use Rattle.vl_link.specs.Seen.{known_of, IsKnownWhole, receiving, gathered, Seen, taken_of}
 use Rattle.vl_link.specs.Links.{Held, LinkState, held_at, link_at}
 use Rattle.vl_link.specs.LinkSenders.{back_of}
-use Rattle.vl_link.specs.LinkGathering.{BecomesWhole}
+use Rattle.vl_link.specs.LinkGathering.{BecomesWhole, GathersSub, GathersLink}
 use Rattle.redundant_mux.specs.Lines.{Lines}
 use Rattle.afdx_tx.specs.Emitter.{Tx, AreLinksOf, HaveOwnItems, IsSound, queues_in}
 use Rattle.afdx_tx.specs.Ports.{PortView, BelongsTo, AreOpenedWith, HasPlace, HasEveryPlace, index_of}
 use Rattle.afdx_tx.specs.Drain.{AreGathered}
-use Rattle.afdx_tx.specs.Gathering.{OnlyTakeBack, IsTakenBack, GathersLinks, GathersPorts, IsGatheredLink, IsGatheredTx, HasShape, HasOwnPart, held_for}
+use Rattle.afdx_tx.specs.Gathering.{OnlyTakeBack, IsTakenBack, GathersLinks, GathersPorts, IsGatheredLink, IsGatheredTx, HasOwnPart, held_for}
 use Rattle.afdx_tx.proofs.PortLink.{link_within}
-use Rattle.afdx_tx.proofs.PortMessages.{own_messages}
+use Rattle.afdx_tx.proofs.PortMessages.{own_messages, sub_within}
 use Rattle.status_board.specs.Views.{Published}
 use Rattle.afdx_tx.specs.Publishing.{Reaches}
 use Rattle.afdx_tx.proofs.Publishing.{reaches_kept}
-use Rattle.afdx_tx.proofs.KeptLinks.{kept_sound}
+use Rattle.afdx_tx.proofs.KeptLinks.{kept_sound, KeepsSub, KeepsLink, KeepLinks}
 use Rattle.afdx_tx.proofs.TakenBack.{whole_from, back_kept}
-use Rattle.afdx_tx.proofs.GatheredEmitter.{gathered_kept, shape_of}
+use Rattle.afdx_tx.proofs.SoundEmitter.{count_is}
+
+-- what was taken stands
+taken_same : (old new : Seen) → BecomesWhole old new → taken_of new ≡ taken_of old
+taken_same (receiving old) (gathered new) b = b.0
+taken_same (gathered old) (gathered new) b = absurd b
+taken_same old new b = absurd b
+
+-- a sub-VL keeps all but its queue
+gathered_sub : (old new : Held) → GathersSub old new → KeepsSub old new
+gathered_sub old new g = record {
+  of = ap (λ (h : Held). h.of) g.same;
+  ports = ap (λ (h : Held). h.ports) g.same;
+  left = ap (λ (h : Held). h.left) g.same;
+  taken = taken_same old.seen new.seen g.gathers.queue;
+  items = λ _. g.items;
+}
+
+-- and so does a link
+gathered_link : (old new : LinkState) → GathersLink old new → KeepsLink old new
+gathered_link old new g = record {
+  same = g.same;
+  count = g.subs.count;
+  each = λ s lt. gathered_sub (held_at old.subs s) (held_at new.subs s) (g.subs.each s lt);
+}
+
+-- nothing but the queues has changed
+pub gathered_kept : (old new : List LinkState) → GathersLinks old new → KeepLinks old new
+gathered_kept old new g = record {
+  count = g.count;
+  each = λ k lt. gathered_link (link_at old k) (link_at new k) (g.each k lt);
+}
 
 -- a gathered link is the one that it was before senders came back, but for its queues
 pub link_gathered : (old mid new : List LinkState) (k : ℕ) → k < length mid → OnlyTakeBack old mid → GathersLinks mid new
@@ -43,9 +74,8 @@ link_gathered old mid new k lt takes gathers =
 -- a queue that became whole is known whole
 is_known : (old new : Seen) → BecomesWhole old new → IsKnownWhole new
 is_known (receiving old) (gathered new) whole = tt
-is_known (receiving old) (receiving new) whole = absurd whole
-is_known (gathered old) (gathered new) whole = absurd whole
-is_known (gathered old) (receiving new) whole = absurd whole
+is_known (gathered old) (gathered new) whole = tt
+is_known old new whole = absurd whole
 
 -- every queue is gathered
 pub all_gathered : (mid new : List LinkState) → GathersLinks mid new → AreGathered new
@@ -57,49 +87,40 @@ all_gathered mid new g k s lt slt =
 
 -- of the port at a place its sub-VL accepted its own list
 pub own_part : (tx new : Tx) (mid : List LinkState) (ports : List PortView) (place : ℕ) → IsPlan tx.plan
-    → HasShape tx.plan tx.links → OnlyTakeBack tx.links mid → GathersLinks mid new.links → new.plan ≡ tx.plan
+    → AreLinksOf tx.plan tx.links → OnlyTakeBack tx.links mid → GathersLinks mid new.links → new.plan ≡ tx.plan
     → AreLinksOf new.plan new.links → HaveOwnItems new.links → AreOpenedWith tx ports → place < length tx.plan.ports
     → HasPlace ports place → ((port : PortView) → Contains ports port → IsTakenBack tx.plan mid port)
     → HasOwnPart new ports place
-own_part tx new mid ports place valid shape takes g same of items opened lt has back =
+own_part tx new mid ports place valid was takes g same of items opened lt has back =
     let port = port_plan_at tx.plan.ports place in
     let k = link_place tx.plan port in
     let s = port.sub in
     let linked = link_within tx.plan port valid (valid.linked place _ lt) in
     let link : link_place tx.plan (port_plan_at tx.plan.ports place) < length mid =
-    let below = linked.0 in omega (arith, shape.count, takes.count) in
+    let below = linked.0 in omega (arith, count_is tx.plan tx.links was, takes.count) in
+    let here : link_place tx.plan (port_plan_at tx.plan.ports place) < length tx.links =
+    let below = linked.0 in omega (arith, count_is tx.plan tx.links was) in
+    let sub = sub_within tx.plan tx.links was k s here linked.1.sub in
     let sub : (port_plan_at tx.plan.ports place).sub < length (link_at mid (link_place tx.plan (port_plan_at tx.plan.ports place))).subs =
-    let below = linked.1.sub in omega (arith, shape.subs k linked.0, takes.subs k) in
+    omega (arith, sub, takes.subs k) in
     let gathered = (g.each k link).subs.each s sub in
-    let index = index_of tx.plan.ports place in
-    let known = known_of (held_at (link_at new.links k).subs s).seen in
     let own = All-contains (BelongsTo tx.plan (queues_in tx.links)) ports has.port opened has.inside in
-    let plan : has.port.plan ≡ port_plan_at tx.plan.ports place = own.plan ∙ ap (port_plan_at tx.plan.ports) has.at in
-    let at : has.port.sender.port ≡ index_of tx.plan.ports place = own.index ∙ ap (index_of tx.plan.ports) has.at in
+    let plan = own.plan ∙ ap (port_plan_at tx.plan.ports) has.at in
+    let at = own.index ∙ ap (index_of tx.plan.ports) has.at in
     let came = back has.port has.inside in
-    let inside : Contains (back_of (held_at (link_at mid (link_place tx.plan (port_plan_at tx.plan.ports place))).subs
-    (port_plan_at tx.plan.ports place).sub).seen) (brought_by has.port.sender) =
-    subst (λ (p : PortPlan). Contains (back_of (held_at (link_at mid (link_place tx.plan p)).subs p.sub).seen) (brought_by has.port.sender))
-    plan came.back in
-    let part : part_of index known ≡ has.port.sender.own =
-    ap (λ (p : ℕ). part_of p known) (sym at) ∙ gathered.gathers.whole.parts (brought_by has.port.sender) inside in
-    let stand : StandAt known index has.port.sender.own has.port.sender.places =
-    subst (λ (p : ℕ). StandAt known p has.port.sender.own has.port.sender.places) at (gathered.gathers.whole.places (brought_by has.port.sender) inside) in
+    let inside = subst (λ (p : PortPlan). Contains
+    (back_of (held_at (link_at mid (link_place tx.plan p)).subs p.sub).seen)
+    (brought_by has.port.sender)) plan came.back in
     let moved : part_of (index_of new.plan.ports place) (known_of (held_for new (port_plan_at new.plan.ports place)).seen)
-    ≡ has.port.sender.own =
-    subst (λ (config : Plan). part_of (index_of config.ports place)
-    (known_of (held_at (link_at new.links (link_place config (port_plan_at config.ports place))).subs
-    (port_plan_at config.ports place).sub).seen) ≡ has.port.sender.own) (sym same) part in
+    ≡ has.port.sender.own = rw (same, ← at) (gathered.gathers.whole.parts (brought_by has.port.sender) inside) in
     record {
       port = has.port;
       inside = has.inside;
       at = has.at;
       messages = came.messages;
       part = moved;
-      places = subst (λ (config : Plan). StandAt (known_of (held_at (link_at new.links (link_place config (port_plan_at config.ports place))).subs
-          (port_plan_at config.ports place).sub).seen) (index_of config.ports place) has.port.sender.own has.port.sender.places) (sym same) stand;
-      accepted = own_messages new place has.port.sender.own (subst IsPlan (sym same) valid) of items
-          (subst (λ (config : Plan). place < length config.ports) (sym same) lt) moved;
+      places = rw (same, ← at) (gathered.gathers.whole.places (brought_by has.port.sender) inside);
+      accepted = own_messages new place has.port.sender.own (rw same valid) of items (rw same lt) moved;
     }
 
 -- the emitter is as sound as it was
@@ -121,7 +142,6 @@ pub gathers_tx : (old new : Tx) (ports : List PortView) → GathersPorts old.pla
     → IsSound new.plan new.links new.lines new.moment → AreOpenedWith old ports
     → HasEveryPlace (length old.plan.ports) ports → IsGatheredTx old ports new
 gathers_tx old new ports g same sound after opened every =
-    let shape = shape_of old.plan old.links sound.of_plan in
     record {
       plan = ap (λ (t : Tx). t.plan) same;
       lines = ap (λ (t : Tx). t.lines) same;
@@ -129,7 +149,8 @@ gathers_tx old new ports g same sound after opened every =
       board = ap (λ (t : Tx). t.board) same;
       count = g.gathers.count ∙ g.takes.count;
       links = λ k lt. link_gathered old.links g.mid new.links k (omega (arith, g.takes.count)) g.takes g.gathers;
-      own = λ place lt. own_part old new g.mid ports place sound.valid shape g.takes g.gathers (ap (λ (t : Tx). t.plan) same)
+      own = λ place lt. own_part old new g.mid ports place sound.valid sound.of_plan g.takes g.gathers
+          (ap (λ (t : Tx). t.plan) same)
           after.of_plan after.items opened lt (every place lt)
           (λ port has. All-contains (IsTakenBack old.plan g.mid) ports port g.back has);
     }

@@ -2,7 +2,8 @@
 use Rattle.std.proofs.Common.{ℕ, ◌≡◌, ◌≢◌, List, [], ◌∷◌, ◌++◌, Bool, true, false, cond, map, arith, refl, ap, ◌∙◌, sym, subst, ⊎_elim}
 use Rattle.std.specs.Prelude.{All, filter}
 use Rattle.std.proofs.lemmas.Bool.{cases_eq, eq-eqb, ne_eqb}
-use Rattle.std.proofs.lemmas.List.Elements.{All-cons, All-nil, All-tail}
+use Rattle.std.proofs.lemmas.List.{get_or_append_left, length-append}
+use Rattle.std.proofs.lemmas.List.Elements.{All-tail}
 use Rattle.afdx_plan.specs.declared.networks.Networks.{Networks}
 use Rattle.afdx_frame.specs.declared.net.Net.{Net}
 use Rattle.afdx_frame.specs.Header.{link_in}
@@ -53,9 +54,7 @@ IsFor vl networks l = link_in l.entry.frame ≡ vl → l.networks ≡ networks
 
 -- what holds of two lists holds of the first
 pub all_front : {X : Type 0} (P : X → Type 0) (xs ys : List X) → All P (xs ++ ys) → All P xs
-all_front P [] ys h = All-nil P
-all_front P (x ∷ xs) ys h =
-    All-cons P x xs (h 0 x (omega arith)) (all_front P xs ys (All-tail P x (xs ++ ys) h))
+all_front P xs ys h = λ k d lt. subst P (get_or_append_left xs ys d k lt) (h k d (omega (arith, length-append xs ys)))
 
 -- and of the second
 pub all_back : {X : Type 0} (P : X → Type 0) (xs ys : List X) → All P (xs ++ ys) → All P ys
@@ -77,13 +76,11 @@ stream_named net vl networks is (l ∷ ls) own =
     let rest = stream_named net vl networks is ls (All-tail (IsFor vl networks) l ls own) in
     ⊎_elim
     (λ (here : link_in l.entry.frame ≡ vl).
-    ap (link_stream vl) (sent_in net l ls (ap (names net) (own 0 l (omega arith) here) ∙ is))
-    ∙ stream_in vl (side net l.entry) (sent_to net ls) (twin_link net l.entry.frame ∙ here)
-    ∙ ap (λ (es : List Entry). side net l.entry ∷ es) rest
-    ∙ sym (ap (map (side net)) (stream_in vl l.entry (entries_of ls) here)))
+    rw (sent_in net l ls (ap (names net) (own 0 l (omega arith) here) ∙ is), stream_in vl l.entry (entries_of ls) here)
+    (stream_in vl (side net l.entry) (sent_to net ls) (twin_link net l.entry.frame ∙ here)
+    ∙ ap (λ (es : List Entry). side net l.entry ∷ es) rest))
     (λ (ne : link_in l.entry.frame ≢ vl).
-    sent_other net vl l ls ne (names net l.networks) refl ∙ rest
-    ∙ sym (ap (map (side net)) (stream_out vl l.entry (entries_of ls) ne)))
+    sent_other net vl l ls ne (names net l.networks) refl ∙ rw (stream_out vl l.entry (entries_of ls) ne) rest)
     (cases_eq (link_in l.entry.frame) vl)
 
 -- of a link that it doesn't carry there is none
@@ -123,62 +120,41 @@ pub log_parts : (lines : Lines) (seen missed : List Logged) → lines.logged ≡
 unfolding log
 log_parts lines seen missed whole = ap entries_of whole ∙ entries_append seen missed
 
--- each entry that it saw is for the networks of its link
-saw_own : (net : Net) (stands : Bool) (handed : List Entry) (logged : List Logged) (vl : ℕ) (networks : Networks)
-    → (k : Keeps net stands handed logged) → All (IsFor vl networks) logged → All (IsFor vl networks) (k.seen ++ k.missed)
-saw_own net stands handed logged vl networks k own = subst (λ (ls : List Logged). All (IsFor vl networks) ls) k.whole own
+module _ (net : Net) (stands : Bool) (handed : List Entry) (lines : Lines) (vl : ℕ) (networks : Networks)
+    (k : Keeps net stands handed lines.logged) (own : All (IsFor vl networks) lines.logged) where
+  seen_own : All (IsFor vl networks) k.seen
+  seen_own = all_front (IsFor vl networks) k.seen k.missed (rw k.whole at own)
 
--- the front of a link that the network carries
-pub named_front : (net : Net) (stands : Bool) (handed : List Entry) (lines : Lines) (vl : ℕ) (networks : Networks)
-    → Keeps net stands handed lines.logged → All (IsFor vl networks) lines.logged → names net networks ≡ true
-    → IsFront net (link_stream vl (log lines)) (link_stream vl handed)
-named_front net stands handed lines vl networks k own is = record {
-  front = link_stream vl (entries_of k.seen);
-  behind = link_stream vl (entries_of k.missed);
-  is = ap (link_stream vl) (log_parts lines k.seen k.missed k.whole) ∙ link_append vl _ _;
-  got = ap (link_stream vl) k.got ∙ stream_named net vl networks is k.seen
-      (all_front (IsFor vl networks) k.seen k.missed (saw_own net stands handed lines.logged vl networks k own));
-}
+  -- the front of a link that the network carries
+  pub named_front : names net networks ≡ true → IsFront net (link_stream vl (log lines)) (link_stream vl handed)
+  named_front is = record {
+    front = link_stream vl (entries_of k.seen);
+    behind = link_stream vl (entries_of k.missed);
+    is = ap (link_stream vl) (log_parts lines k.seen k.missed k.whole) ∙ link_append vl _ _;
+    got = ap (link_stream vl) k.got ∙ stream_named net vl networks is k.seen seen_own;
+  }
 
--- what lies behind it is what the network missed
-pub named_behind : (net : Net) (stands : Bool) (handed : List Entry) (lines : Lines) (vl : ℕ) (networks : Networks)
-    (k : Keeps net stands handed lines.logged) (own : All (IsFor vl networks) lines.logged) (is : names net networks ≡ true)
-    → (named_front net stands handed lines vl networks k own is).behind ≡ link_stream vl (entries_of k.missed)
-unfolding named_front
-named_behind net stands handed lines vl networks k own is = refl
+  -- what lies behind it is what the network missed
+  pub named_behind : (is : names net networks ≡ true) → (named_front is).behind ≡ link_stream vl (entries_of k.missed)
+  unfolding named_front
+  named_behind is = refl
 
--- and of one that it doesn't
-pub unnamed_stream : (net : Net) (stands : Bool) (handed : List Entry) (lines : Lines) (vl : ℕ) (networks : Networks)
-    → Keeps net stands handed lines.logged → All (IsFor vl networks) lines.logged → names net networks ≡ false
-    → link_stream vl handed ≡ []
-unnamed_stream net stands handed lines vl networks k own isnt =
-    ap (link_stream vl) k.got ∙ stream_unnamed net vl networks isnt k.seen
-    (all_front (IsFor vl networks) k.seen k.missed (saw_own net stands handed lines.logged vl networks k own))
+  -- and of one that it doesn't
+  pub unnamed_stream : names net networks ≡ false → link_stream vl handed ≡ []
+  unnamed_stream isnt = ap (link_stream vl) k.got ∙ stream_unnamed net vl networks isnt k.seen seen_own
 
-pub unnamed_front : (net : Net) (stands : Bool) (handed : List Entry) (lines : Lines) (vl : ℕ) (networks : Networks)
-    → Keeps net stands handed lines.logged → All (IsFor vl networks) lines.logged → names net networks ≡ false
-    → IsFront net (link_stream vl (log lines)) (link_stream vl handed)
-unnamed_front net stands handed lines vl networks k own isnt = record {
-  front = [];
-  behind = link_stream vl (log lines);
-  is = refl;
-  got = unnamed_stream net stands handed lines vl networks k own isnt;
-}
+  pub unnamed_front : names net networks ≡ false → IsFront net (link_stream vl (log lines)) (link_stream vl handed)
+  unnamed_front isnt = record { front = []; behind = link_stream vl (log lines); is = refl; got = unnamed_stream isnt }
 
--- whether it does or not
-pub front_of : (net : Net) (stands : Bool) (handed : List Entry) (lines : Lines) (vl : ℕ) (networks : Networks)
-    → Keeps net stands handed lines.logged → All (IsFor vl networks) lines.logged
-    → IsFront net (link_stream vl (log lines)) (link_stream vl handed)
-front_of net stands handed lines vl networks k own = by_name (names net networks) refl
-  where
-    by_name : (t : Bool) → names net networks ≡ t → IsFront net (link_stream vl (log lines)) (link_stream vl handed)
-    by_name true is = named_front net stands handed lines vl networks k own is
-    by_name false isnt = unnamed_front net stands handed lines vl networks k own isnt
+  -- whether it does or not
+  pub front_of : IsFront net (link_stream vl (log lines)) (link_stream vl handed)
+  front_of = by_name (names net networks) refl
+    where
+      by_name : (t : Bool) → names net networks ≡ t → IsFront net (link_stream vl (log lines)) (link_stream vl handed)
+      by_name true is = named_front is
+      by_name false isnt = unnamed_front isnt
 
--- a network that carries a link alone missed nothing of it
-pub whole_alone : (net : Net) (stands : Bool) (handed : List Entry) (lines : Lines) (vl : ℕ) (networks : Networks)
-    → (k : Keeps net stands handed lines.logged) → All (IsFor vl networks) lines.logged → networks ≡ only net
-    → link_stream vl (entries_of k.missed) ≡ []
-whole_alone net stands handed lines vl networks k own is =
-    stream_missed net vl networks is k.missed k.shared
-    (all_back (IsFor vl networks) k.seen k.missed (saw_own net stands handed lines.logged vl networks k own))
+  -- a network that carries a link alone missed nothing of it
+  pub whole_alone : networks ≡ only net → link_stream vl (entries_of k.missed) ≡ []
+  whole_alone is = stream_missed net vl networks is k.missed k.shared
+      (all_back (IsFor vl networks) k.seen k.missed (rw k.whole at own))

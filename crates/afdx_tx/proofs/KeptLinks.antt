@@ -1,21 +1,14 @@
 -- Links of which the queues alone have changed, and from which nothing more was taken.
-use Rattle.std.proofs.Common.{ℕ, ◌≡◌, ◌<◌, ◌++◌, List, true, length, arith, ap, ◌∙◌, sym, subst}
-use Rattle.std.proofs.lemmas.List.{ext_get_or}
-use Rattle.afdx_plan.specs.declared.port_plan.PortPlan.{PortPlan}
+use Rattle.std.proofs.Common.{ℕ, ◌≡◌, ◌<◌, ◌++◌, List, length, arith, refl, ap, ◌∙◌, sym, subst}
 use Rattle.afdx_plan.specs.Config.{Plan}
-use Rattle.afdx_plan.specs.Room.{room_of}
-use Rattle.afdx_frame.specs.declared.net.Net.TheVariants.{A}
-use Rattle.afdx_frame.specs.Fragments.{fragments}
 use Rattle.redundant_mux.specs.Entry.{Entry}
-use Rattle.redundant_mux.specs.Lines.{Lines, stands_for, log}
-use Rattle.vl_shaper.specs.Pace.{IsLater}
-use Rattle.afdx_legal.specs.Streams.{told, link_stream, sub_stream, told_of, IsPrefixOf}
-use Rattle.vl_link.specs.declared.sub_vl.SubVl.{SubVl}
+use Rattle.redundant_mux.specs.Lines.{Lines, log}
+use Rattle.afdx_legal.specs.Streams.{told}
 use Rattle.vl_link.specs.Seen.{taken_of}
-use Rattle.vl_link.specs.Links.{Held, LinkState, held_at, link_at, no_link_plan, HasOwnItems, IsLinkOfPlan, sent_by, taken_by, sub_fragments}
+use Rattle.vl_link.specs.Links.{Held, LinkState, held_at, link_at, HasOwnItems, IsLinkOfPlan, taken_by, sub_fragments}
 use Rattle.vl_link.specs.Kept.{IsKept, IsTied, IsBehind}
-use Rattle.afdx_tx.specs.Emitter.{plans, AreLinksOf, IsSound, ports_of_sub}
-use Rattle.afdx_tx.proofs.PollTurns.{plan_at_is, plans_length}
+use Rattle.afdx_tx.specs.Emitter.{AreLinksOf, IsSound}
+use Rattle.afdx_tx.proofs.SoundEmitter.{plans_after}
 
 -- a sub-VL but for its queue, from which nothing more was taken
 pub record KeepsSub (old new : Held) : Type 0 where
@@ -38,11 +31,11 @@ pub record KeepLinks (old new : List LinkState) : Type 0 where
 
 -- a sub-VL took the same messages
 taken_by_same : (old new : Held) → KeepsSub old new → taken_by new ≡ taken_by old
-taken_by_same old new s = ap (λ (ports : List PortPlan). sent_by ports (taken_of new.seen)) s.ports ∙ ap (sent_by old.ports) s.taken
+taken_by_same old new s = rw (s.ports, s.taken) refl
 
 -- so its fragments are the same
 shown_same : (old new : Held) → KeepsSub old new → sub_fragments new.of 0 (taken_by new) ≡ sub_fragments old.of 0 (taken_by old)
-shown_same old new s = ap (λ (of : SubVl). sub_fragments of 0 (taken_by new)) s.of ∙ ap (sub_fragments old.of 0) (taken_by_same old new s)
+shown_same old new s = rw s.of (ap (sub_fragments old.of 0) (taken_by_same old new s))
 
 -- and it is tied to the stream that it was tied to
 tied_same : (old new : Held) (stream : List Entry) → KeepsSub old new → IsTied old stream → IsTied new stream
@@ -75,68 +68,48 @@ kept_same old new log g own kept =
     (record {
       numbered = kept.numbered;
       spaced = kept.spaced;
-      prefixes = λ s lt. subst (λ taken. IsPrefixOf (told_of old.plan.id.0 s log)
-          (fragments old.end_system (room_of old.plan.lmax) A taken))
-          (sym (taken_by_same (held_at old.subs s) (held_at new.subs s) (g.each s (within s lt)))) (kept.prefixes s lt);
+      prefixes = λ s lt. rw (taken_by_same _ _ (g.each s (within s lt))) (kept.prefixes s lt);
       chosen = kept.chosen;
       paced = kept.paced;
-      tied = λ whole s lt. tied_same (held_at old.subs s) (held_at new.subs s)
-          (sub_stream s (link_stream old.plan.id.0 log)) (g.each s (within s lt)) (kept.tied whole s lt);
+      tied = λ whole s lt. tied_same _ _ _ (g.each s (within s lt)) (kept.tied whole s lt);
       behind = λ lost. let b = kept.behind lost in
           record {
             sub = b.sub;
             within = b.within;
-            behind = behind_same (held_at old.subs b.sub) (held_at new.subs b.sub)
-                (sub_stream b.sub (link_stream old.plan.id.0 log)) (g.each b.sub (within b.sub b.within)) b.behind;
+            behind = behind_same _ _ _ (g.each b.sub (within b.sub b.within))
+                b.behind;
           };
       counted = kept.counted;
     })
 
--- the plans of the links are the same
-plans_same : (old new : List LinkState) → KeepLinks old new → plans new ≡ plans old
-plans_same old new g = ext_get_or no_link_plan (plans new) (plans old) (plans_length new ∙ g.count ∙ sym (plans_length old))
-    (λ k lt.
-    let n : k < length new = omega (arith, plans_length new) in
-    let o : k < length old = omega (arith, g.count) in
-    plan_at_is new k n ∙ ap (λ (l : LinkState). l.plan) (g.each k o).same ∙ sym (plan_at_is old k o))
-
--- they are those of the configuration
+-- the links are those of the configuration
 of_plan_same : (config : Plan) (old new : List LinkState) → KeepLinks old new → AreLinksOf config old → AreLinksOf config new
-of_plan_same config old new g of =
-    record {
-      each_plan = plans_same old new g ∙ of.each_plan;
-      end_system = λ k lt. let below : k < length old = omega (arith, g.count) in
-          ap (λ (l : LinkState). l.end_system) (g.each k below).same ∙ of.end_system k below;
-      each = λ k lt. let below : k < length old = omega (arith, g.count) in
-          own_same (link_at old k) (link_at new k) (g.each k below) (of.each k below);
-      ports = λ k s lt slt.
-          let below : k < length old = omega (arith, g.count) in
-          let link = g.each k below in
-          let sub : s < length (link_at old k).subs = omega (arith, link.count) in
-          (link.each s sub).ports
-          ∙ of.ports k s below sub
-          ∙ ap (λ (l : LinkState). ports_of_sub config.ports l.plan.id.0 s) (sym link.same);
-    }
+of_plan_same config old new g of = plans_after config old new of
+    (record {
+      count = g.count;
+      end_system = λ k lt. ap (λ (l : LinkState). l.end_system) (g.each k lt).same;
+      plan = λ k lt. ap (λ (l : LinkState). l.plan) (g.each k lt).same;
+      subs = λ k lt. (g.each k lt).count;
+      ports = λ k s lt slt. ((g.each k lt).each s slt).ports;
+    })
+    (λ k lt. let below : k < length old = omega (arith, g.count) in own_same _ _ (g.each k below) (of.each k below))
 
 -- the emitter is as sound as it was
 pub kept_sound : (config : Plan) (old new : List LinkState) (lines : Lines) (moment : ℕ) → KeepLinks old new
     → IsSound config old lines moment → IsSound config new lines moment
 kept_sound config old new lines moment g s =
+    let here = λ (k : ℕ) (lt : k < length new). let o : k < length old = omega (arith, g.count) in o in
     record {
       valid = s.valid;
       of_plan = of_plan_same config old new g s.of_plan;
-      kept = λ k lt. let below : k < length old = omega (arith, g.count) in
-          kept_same (link_at old k) (link_at new k) (log lines) (g.each k below) (s.of_plan.each k below) (s.kept k below);
-      later = λ k lt. let below : k < length old = omega (arith, g.count) in
-          subst (λ (l : LinkState). IsLater l.pace.last moment) (sym (g.each k below).same) (s.later k below);
+      kept = λ k lt. kept_same _ _ _ (g.each k (here k lt)) (s.of_plan.each k (here k lt)) (s.kept k (here k lt));
+      later = λ k lt. rw (g.each k (here k lt)).same (s.later k (here k lt));
       mirrored = s.mirrored;
       known = s.known;
       carried = s.carried;
-      whole = λ k lt stands. let below : k < length old = omega (arith, g.count) in
-          ap (λ (l : LinkState). l.lost) (g.each k below).same
-          ∙ s.whole k below (subst (λ (l : LinkState). stands_for l.plan.networks lines ≡ true) (g.each k below).same stands);
-      items = λ k t klt tlt. let below : k < length old = omega (arith, g.count) in
-          let link = g.each k below in
+      whole = λ k lt stands. let same = (g.each k (here k lt)).same in
+          ap (λ (l : LinkState). l.lost) same ∙ s.whole k (here k lt) (rw same at stands);
+      items = λ k t lt tlt. let link = g.each k (here k lt) in
           let sub : t < length (link_at old k).subs = omega (arith, link.count) in
-          (link.each t sub).items (s.items k t below sub);
+          (link.each t sub).items (s.items k t (here k lt) sub);
     }

@@ -1,5 +1,5 @@
 -- From the log to the two handed lists.
-use Rattle.std.proofs.Common.{ℕ, ◌≡◌, ◌+◌, ◌<◌, ◌≤◌, List, [], ◌∷◌, ◌++◌, Bool, true, false, length, map, eqb, arith, refl, ap, ◌∙◌, sym, subst, Option, Some, None}
+use Rattle.std.proofs.Common.{ℕ, ◌≡◌, ◌+◌, ◌<◌, ◌≤◌, List, [], ◌∷◌, ◌++◌, Bool, true, false, length, map, eqb, arith, refl, ap, ◌∙◌, sym, Option, Some, None}
 use Rattle.std.proofs.lemmas.List.{map-append, append_assoc}
 use Rattle.std.specs.Prelude.{All}
 use Rattle.std.proofs.lemmas.List.Elements.{All-weaker, All-filter, All-tail}
@@ -40,9 +40,7 @@ sub_side net s H = with_map _ (λ (e : Entry). sub_in e.frame) (side net) s (λ 
 -- the fragments that a stream shows, turned to a network
 told_side : (net : Net) (T : List Entry) → told (map (side net) T) ≡ map (twin_of net) (told T)
 told_side net [] = refl
-told_side net (e ∷ es) =
-    ap (λ x. x ∷ told (map (side net) es)) (twin_blanked net e.frame)
-    ∙ ap (λ x. twin_of net (blanked e.frame) ∷ x) (told_side net es)
+told_side net (e ∷ es) = rw (twin_blanked net e.frame, told_side net es) refl
 
 -- the front of a numbered stream, turned to a network, is numbered
 numbered_side : (net : Net) (i : ℕ) (xs ys : List Entry) → All IsLongEntry (xs ++ ys) → IsNumbered entry_number i (xs ++ ys)
@@ -59,8 +57,7 @@ spaced_side : (net : Net) (gap : ℕ) (before : Option Stamp) (xs ys : List Entr
 spaced_side net gap before [] ys h = tt
 spaced_side net gap before (x ∷ xs) ys h = (
   h.0,
-  subst (λ (s : ℕ). IsSpaced gap (Some (record { at = x.at; sub = s })) (map (side net) xs))
-      (sym (twin_sub net x.frame)) (spaced_side net gap (Some (stamp_of x)) xs ys h.1),
+  rw (twin_sub net x.frame) (spaced_side net gap (Some (stamp_of x)) xs ys h.1),
 )
 
 -- a known frame, turned to a network, is known there
@@ -81,8 +78,8 @@ known_sent links net [] rest h = tt
 known_sent links net (l ∷ ls) rest h = by_name (known_sent links net ls rest h.1) (names net l.networks) refl
   where
     by_name : AreKnown links net (sent_to net ls) → (t : Bool) → names net l.networks ≡ t → AreKnown links net (sent_to net (l ∷ ls))
-    by_name known true is = subst (AreKnown links net) (sym (sent_in net l ls is)) (known_twin links net l.entry h.0, known)
-    by_name known false isnt = subst (AreKnown links net) (sym (sent_out net l ls isnt)) known
+    by_name known true is = rw (sent_in net l ls is) (known_twin links net l.entry h.0, known)
+    by_name known false isnt = rw (sent_out net l ls isnt) known
 
 -- what is legal of the log
 pub record IsLogLegal (plan : Plan) (accepted : Accepted) (H : List Entry) : Type 0 where
@@ -101,13 +98,11 @@ prefix_side : (net : Net) (s end_system room : ℕ) (messages : List Sent) (S D 
 prefix_side net s end_system room messages S D f p =
     let T = sub_stream s f.front in
     let U = sub_stream s f.behind in
-    let cut : sub_stream s S ≡ sub_stream s f.front ++ sub_stream s f.behind =
-    ap (sub_stream s) f.is ∙ with_append (λ (e : Entry). sub_in e.frame) s f.front f.behind in
+    let cut = ap (sub_stream s) f.is ∙ with_append (λ (e : Entry). sub_in e.frame) s f.front f.behind in
     let whole : told T ++ (told U ++ p.0) ≡ fragments end_system room A messages =
     sym (append_assoc (told T) (told U) p.0)
     ∙ ap (λ x. x ++ p.0) (sym (map-append (λ (e : Entry). blanked e.frame) T U) ∙ ap told (sym cut)) ∙ p.1 in
-    let mine : told (sub_stream s D) ≡ map (twin_of net) (told T) =
-    ap (λ x. told (sub_stream s x)) f.got ∙ ap told (sub_side net s f.front) ∙ told_side net T in (
+    let mine = ap (λ x. told (sub_stream s x)) f.got ∙ ap told (sub_side net s f.front) ∙ told_side net T in (
       map (twin_of net) (told U ++ p.0),
       ap (λ x. x ++ map (twin_of net) (told U ++ p.0)) mine
           ∙ sym (map-append (twin_of net) (told T) (told U ++ p.0))
@@ -123,8 +118,8 @@ legal_keeps plan accepted net stands handed lines keeps carried l =
     let fronts = λ (k : ℕ) (lt : k < length plan.links). front_of net stands handed lines
     (link_plan_at plan.links k).id.0 (link_plan_at plan.links k).networks keeps (carried k lt) in
     record {
-      known = subst (AreKnown plan.links net) (sym keeps.got) (known_sent plan.links net keeps.seen (entries_of keeps.missed)
-          (subst (AreKnown plan.links A) (log_parts lines keeps.seen keeps.missed keeps.whole) l.known));
+      known = rw keeps.got (known_sent plan.links net keeps.seen (entries_of keeps.missed)
+          (rw (log_parts lines keeps.seen keeps.missed keeps.whole) at l.known));
       carried = λ k lt isnt. unnamed_stream net stands handed lines (link_plan_at plan.links k).id.0
           (link_plan_at plan.links k).networks keeps (carried k lt) isnt;
       prefixes = λ k s klt slt. prefix_side net s plan.end_system (room_of (link_plan_at plan.links k).lmax) (accepted k s)
@@ -133,16 +128,12 @@ legal_keeps plan accepted net stands handed lines keeps carried l =
       numbered = λ k klt.
           let vl = (link_plan_at plan.links k).id.0 in
           let f = fronts k klt in
-          subst (IsNumbered entry_number 0) (sym f.got)
-          (numbered_side net 0 f.front f.behind
-          (subst (λ (es : List Entry). All IsLongEntry es) f.is
-          (All-filter (λ e. eqb (link_in e.frame) vl) IsLongEntry (log lines) (known_whole plan.links A (log lines) l.known)))
-          (subst (IsNumbered entry_number 0) f.is (l.numbered k klt)));
+          rw f.got (numbered_side net 0 f.front f.behind
+          (rw f.is at (All-filter (λ e. eqb (link_in e.frame) vl) IsLongEntry (log lines)
+          (known_whole plan.links A (log lines) l.known))) (rw f.is at (l.numbered k klt)));
       spaced = λ k klt.
-          let gap = bag_micros (link_plan_at plan.links k).bag in
           let f = fronts k klt in
-          subst (IsSpaced gap None) (sym f.got)
-          (spaced_side net gap None f.front f.behind (subst (IsSpaced gap None) f.is (l.spaced k klt)));
+          rw f.got (spaced_side net _ None f.front f.behind (rw f.is at (l.spaced k klt)));
     }
 
 -- What is legal of the log is legal of the two lists.

@@ -1,21 +1,20 @@
 -- Whether all accepted messages are wholly released.
-use Rattle.std.proofs.Common.{ℕ, ◌≡◌, ◌<◌, List, [], ◌∷◌, Bool, true, false, length, arith, refl, ap, ◌∙◌, sym, subst, ⊎_elim}
-use Rattle.afdx_plan.specs.Config.{Plan, link_plan_at}
-use Rattle.afdx_plan.specs.declared.link_plan.LinkPlan.{LinkPlan}
+use Rattle.std.proofs.Common.{ℕ, ◌≡◌, ◌<◌, List, [], ◌∷◌, Bool, true, false, length, arith, refl, ap, ◌∙◌, sym, ⊎_elim}
+use Rattle.afdx_plan.specs.Config.{Plan}
 use Rattle.redundant_mux.specs.Entry.{Entry}
 use Rattle.redundant_mux.specs.Lines.{Lines, log}
 use Rattle.vl_link.specs.declared.sub_vl.SubVl.{SubVl}
 use Rattle.vl_link.specs.Seen.{Seen, receiving, gathered, IsKnownWhole, TellsDrained}
-use Rattle.vl_link.specs.Links.{Held, LinkState, held_at, link_at, sub_fragments, taken_by}
+use Rattle.vl_link.specs.Links.{LinkState, held_at, link_at, sub_fragments, taken_by}
 use Rattle.vl_link.specs.Kept.{IsKept}
 use Rattle.afdx_tx.specs.Emitter.{IsSound}
-use Rattle.afdx_legal.specs.Done.{Owes, IsReleased, IsLinkDone, IsAllDone}
+use Rattle.afdx_legal.specs.Done.{Owes, IsLinkDone, IsAllDone}
 use Rattle.afdx_tx.specs.Drain.{AreGathered, accepted_in}
-use Rattle.vl_link.specs.LinkDone.{TellsSubDone, HasSubLeft, TellsLinkDone}
+use Rattle.vl_link.specs.LinkDone.{HasSubLeft, TellsLinkDone}
 use Rattle.afdx_tx.specs.Done.{TellsAllDone}
 use Rattle.vl_link.proofs.LinkTurn.{IsOwn}
 use Rattle.afdx_tx.proofs.SoundEmitter.{plan_is, count_is}
-use Rattle.afdx_tx.proofs.OwedFragments.{rest_of, Stands, stands_of, lists_of, all_released, owes_taken, owes_rest, owes_not}
+use Rattle.afdx_tx.proofs.OwedFragments.{rest_of, stands_of, lists_of, all_released, owes_taken, owes_rest, owes_not}
 use Rattle.afdx_tx.proofs.DrainTurns.{IsLinkGathered}
 
 -- a drained queue has nothing left
@@ -23,20 +22,14 @@ drained_rest : (seen : Seen) → TellsDrained true seen → rest_of seen ≡ []
 drained_rest (receiving r) d = absurd d
 drained_rest (gathered g) d = d
 
--- a sub-VL that is done is wholly released
-sub_done : (end_system : ℕ) (link : LinkPlan) (log : List Entry) (s : ℕ) (subs : List Held)
-    → Stands end_system link log s (held_at subs s) → TellsSubDone true (held_at subs s)
-    → IsReleased end_system link (lists_of subs) log s
-sub_done end_system link log s subs at d =
-    all_released end_system link log s subs at d.0 (drained_rest (held_at subs s).seen d.1)
-
 -- a link that is done is wholly released
 link_done : (link : LinkState) (log : List Entry) → IsOwn link → IsKept link log → IsLinkGathered link
     → TellsLinkDone true link → IsLinkDone link.end_system link.plan (lists_of link.subs) log
 link_done link log own kept g d s lt =
     let within : s < length link.subs = omega (arith, own.count, own.sub_vls) in
-    sub_done link.end_system link.plan log s link.subs
-    (stands_of link log s own (kept.tied d.0) within (g s within)) (d.1 s within)
+    all_released link.end_system link.plan log s link.subs (stands_of link log s own (kept.tied d.0) within
+    (g s within))
+    (d.1 s within).0 (drained_rest (held_at link.subs s).seen (d.1 s within).1)
 
 -- a queue that isn't drained has a next message
 next_of_rest : (seen : Seen) → IsKnownWhole seen → TellsDrained false seen
@@ -93,28 +86,13 @@ link_owes link log own kept g d =
     by_lost true e left = lost_owes link log own kept e
     by_lost false e left = left_owes link log own kept g left e
 
--- what a link of the configuration says of its accepted messages
-by_plan : (config : Plan) (links : List LinkState) (P : ℕ → LinkPlan → Type 0) (k : ℕ)
-    → (link_at links k).end_system ≡ config.end_system → link_plan_at config.links k ≡ (link_at links k).plan
-    → P config.end_system (link_plan_at config.links k) → P (link_at links k).end_system (link_at links k).plan
-by_plan config links P k e p h =
-    subst (P (link_at links k).end_system) p (subst (λ (n : ℕ). P n (link_plan_at config.links k)) (sym e) h)
-
--- and the other way round
-to_plan : (config : Plan) (links : List LinkState) (P : ℕ → LinkPlan → Type 0) (k : ℕ)
-    → (link_at links k).end_system ≡ config.end_system → link_plan_at config.links k ≡ (link_at links k).plan
-    → P (link_at links k).end_system (link_at links k).plan → P config.end_system (link_plan_at config.links k)
-to_plan config links P k e p h =
-    subst (λ (n : ℕ). P n (link_plan_at config.links k)) e (subst (P (link_at links k).end_system) (sym p) h)
-
 -- where all links are done, all accepted messages are wholly released
 done_true : (config : Plan) (links : List LinkState) (lines : Lines) (moment : ℕ)
     → IsSound config links lines moment → AreGathered links → TellsAllDone true links
     → IsAllDone config (accepted_in links) (log lines)
 done_true config links lines moment sound g d k lt =
     let here : k < length links = omega (arith, lt, count_is config links sound.of_plan) in
-    to_plan config links (λ (n : ℕ) (p : LinkPlan). IsLinkDone n p (lists_of (link_at links k).subs) (log lines)) k
-    (sound.of_plan.end_system k here) (plan_is config links sound.of_plan k here)
+    rw (plan_is config links sound.of_plan k here, ← sound.of_plan.end_system k here)
     (link_done (link_at links k) (log lines) (sound.of_plan.each k here) (sound.kept k here) (λ s slt. g k s here slt) (d k here))
 
 -- and where one isn't, some are not
@@ -126,11 +104,10 @@ done_false config links lines moment sound g d all =
     let link = link_at links k in
     let owing = link_owes link (log lines) (sound.of_plan.each k d.within) (sound.kept k d.within)
     (λ s slt. g k s d.within slt) d.left in
-    let within : k < length config.links = omega (arith, d.within, count_is config links sound.of_plan) in
+    let all = all k (omega (arith, d.within, count_is config links sound.of_plan)) in
+    let done = rw (plan_is config links sound.of_plan k d.within, ← sound.of_plan.end_system k d.within) at all in
     owes_not link.end_system link.plan (lists_of link.subs) (log lines) owing.sub owing.owes
-    (by_plan config links (λ (n : ℕ) (p : LinkPlan). IsLinkDone n p (lists_of link.subs) (log lines)) k
-    (sound.of_plan.end_system k d.within) (plan_is config links sound.of_plan k d.within)
-    (all k within) owing.sub owing.within)
+    (done owing.sub owing.within)
 
 -- Whether all links are done is whether all accepted messages are wholly released.
 pub all_done : (done : Bool) (config : Plan) (links : List LinkState) (lines : Lines) (moment : ℕ)

@@ -1,7 +1,8 @@
 -- Links of which one sub-VL has changed.
-use Rattle.std.proofs.Common.{ℕ, ◌≡◌, ◌≢◌, ◌<◌, List, length, set, ap, ◌∙◌, sym, subst, ⊎_elim}
+use Rattle.std.proofs.Common.{ℕ, ◌≡◌, ◌≢◌, ◌<◌, List, length, set, refl, ap, ◌∙◌, sym, subst, ⊎_elim}
 use Rattle.std.proofs.lemmas.Bool.{cases_eq}
-use Rattle.std.proofs.lemmas.List.{length-set, get_or-set_same, get_or-set_other}
+use Rattle.std.proofs.lemmas.List.{length-set, get_or-set_other}
+use Rattle.vl_link.proofs.Choosing.{each_set}
 use Rattle.vl_link.specs.Links.{Held, LinkState, held_at, link_at, no_link, nothing_held}
 
 module _ (links : List LinkState) (k s : ℕ) (new : LinkState) (within : k < length links)
@@ -9,45 +10,26 @@ module _ (links : List LinkState) (k s : ℕ) (new : LinkState) (within : k < le
   subs_are : new.subs ≡ set (link_at links k).subs s (held_at new.subs s)
   subs_are = ap (λ (l : LinkState). l.subs) same
 
-  here : link_at (set links k new) k ≡ new
-  here = get_or-set_same links k new no_link within
-
-  there : (m : ℕ) → m ≢ k → link_at (set links k new) m ≡ link_at links m
-  there m ne = get_or-set_other links k m new no_link ne
-
   -- each link is the same but for its sub-VLs
   pub one_link : (m : ℕ) → link_at (set links k new) m ≡ record (link_at links m) { subs = (link_at (set links k new) m).subs }
-  one_link m = ⊎_elim
-      (λ (is : m ≡ k). subst (λ (i : ℕ). link_at (set links k new) i ≡ record (link_at links i) { subs = (link_at (set links k new) i).subs })
-      (sym is)
-      (here ∙ same ∙ ap (λ (xs : List Held). record (link_at links k) { subs = xs })
-      (sym subs_are ∙ ap (λ (l : LinkState). l.subs) (sym here))))
-      (λ (ne : m ≢ k). there m ne
-      ∙ ap (λ (xs : List Held). record (link_at links m) { subs = xs }) (ap (λ (l : LinkState). l.subs) (sym (there m ne))))
-      (cases_eq m k)
+  one_link m = each_set (λ i l. l ≡ record (link_at links i) { subs = l.subs }) links k new no_link within
+      (same ∙ ap (λ (xs : List Held). record (link_at links k) { subs = xs }) (sym subs_are)) (λ i ne. refl) m
 
   -- and has as many sub-VLs
   pub one_count : (m : ℕ) → length (link_at (set links k new) m).subs ≡ length (link_at links m).subs
-  one_count m = ⊎_elim
-      (λ (is : m ≡ k). subst (λ (i : ℕ). length (link_at (set links k new) i).subs ≡ length (link_at links i).subs) (sym is)
-      (ap (λ (l : LinkState). length l.subs) here ∙ ap length subs_are
-      ∙ length-set (link_at links k).subs s (held_at new.subs s)))
-      (λ (ne : m ≢ k). ap (λ (l : LinkState). length l.subs) (there m ne))
-      (cases_eq m k)
+  one_count m = each_set (λ i l. length l.subs ≡ length (link_at links i).subs) links k new no_link within
+      (ap length subs_are ∙ length-set (link_at links k).subs s (held_at new.subs s)) (λ i ne. refl) m
 
   -- what holds from the one to its change, and from each to itself, holds of all
   pub one_each : (R : Held → Held → Type 0) → ((held : Held) → R held held) → R (held_at (link_at links k).subs s) (held_at new.subs s)
       → (m t : ℕ) → R (held_at (link_at links m).subs t) (held_at (link_at (set links k new) m).subs t)
-  one_each R itself changed m t = ⊎_elim
-      (λ (is : m ≡ k). subst (λ (i : ℕ). R (held_at (link_at links i).subs t) (held_at (link_at (set links k new) i).subs t)) (sym is)
-      (subst (λ (l : LinkState). R (held_at (link_at links k).subs t) (held_at l.subs t)) (sym here)
+  one_each R itself changed m t = each_set (λ i l. R (held_at (link_at links i).subs t) (held_at l.subs t)) links k new
+      no_link within
       (⊎_elim
       (λ (its : t ≡ s). subst (λ (i : ℕ). R (held_at (link_at links k).subs i) (held_at new.subs i)) (sym its) changed)
       (λ (ne : t ≢ s). subst (R (held_at (link_at links k).subs t))
       (sym (ap (λ (xs : List Held). held_at xs t) subs_are
       ∙ get_or-set_other (link_at links k).subs s t (held_at new.subs s) nothing_held ne))
       (itself (held_at (link_at links k).subs t)))
-      (cases_eq t s))))
-      (λ (ne : m ≢ k). subst (λ (l : LinkState). R (held_at (link_at links m).subs t) (held_at l.subs t)) (sym (there m ne))
-      (itself (held_at (link_at links m).subs t)))
-      (cases_eq m k)
+      (cases_eq t s))
+      (λ i ne. itself (held_at (link_at links i).subs t)) m

@@ -1,5 +1,5 @@
 -- The fragments of a sub-VL's accepted messages, against its stream.
-use Rattle.std.proofs.Common.{ℕ, suc, ◌≡◌, ◌+◌, ◌<◌, List, [], ◌∷◌, ◌++◌, true, false, length, arith, refl, ap, ◌∙◌, sym, ⊎_elim}
+use Rattle.std.proofs.Common.{ℕ, suc, ◌≡◌, ◌+◌, ◌<◌, List, [], ◌∷◌, ◌++◌, true, false, length, arith, refl, ap, ◌∙◌, sym, inl, inr}
 use Rattle.std.proofs.lemmas.List.{append-nil, append_assoc, map-append, nil_from_length, length-append}
 use Rattle.afdx_plan.specs.Room.{room_of}
 use Rattle.afdx_plan.specs.declared.link_plan.LinkPlan.{LinkPlan}
@@ -8,11 +8,10 @@ use Rattle.afdx_frame.specs.declared.net.Net.TheVariants.{A}
 use Rattle.afdx_frame.specs.Fragments.{Sent, fragments, fragments_at, fragments_from}
 use Rattle.redundant_mux.specs.Entry.{Entry}
 use Rattle.vl_link.specs.declared.sub_vl.SubVl.{SubVl}
-use Rattle.vl_link.specs.Seen.{Seen, receiving, gathered, taken_of, FindsNothing, Finds, IsKnownWhole}
+use Rattle.vl_link.specs.Seen.{Seen, receiving, gathered, taken_of, FindsNothing, Finds, IsKnownWhole, known_of}
 use Rattle.afdx_legal.specs.Streams.{told_of}
-use Rattle.vl_link.specs.Links.{Held, LinkState, held_at, GoesOn, Starts, Asks, sent_of, sent_by, taken_by, sub_fragments}
+use Rattle.vl_link.specs.Links.{Held, LinkState, held_at, Asks, sent_of, sent_by, taken_by, sub_fragments}
 use Rattle.vl_link.specs.Kept.{IsLinkTied}
-use Rattle.vl_link.specs.Seen.{known_of}
 use Rattle.afdx_legal.specs.Done.{IsReleased, Owes}
 use Rattle.afdx_tx.specs.Drain.{accepted_by}
 use Rattle.vl_link.proofs.FragmentsLeft.{fragments_some}
@@ -49,8 +48,7 @@ fragments_append end_system room net place (x ∷ xs) ys =
     (fragments_append end_system room net (suc place) xs ys
     ∙ ap (λ (p : ℕ). fragments_from end_system room net (suc place) xs ++ fragments_from end_system room net p ys)
     (omega arith))
-    ∙ sym (append_assoc (fragments_at end_system room net place x) (fragments_from end_system room net (suc place) xs)
-    (fragments_from end_system room net (place + suc (length xs)) ys))
+    ∙ sym (append_assoc (fragments_at end_system room net place x) _ _)
 
 -- the fragments of the messages of a sub-VL that were accepted and not taken
 abbrev pub untaken : ℕ → ℕ → Net → Held → List (List ℕ)
@@ -62,14 +60,13 @@ pub owed_split : (end_system room : ℕ) (net : Net) (held : Held)
     → fragments end_system room net (accepted_by held)
     ≡ fragments end_system room net (taken_by held) ++ untaken end_system room net held
 owed_split end_system room net held =
-    ap (λ (items : List (ℕ × List ℕ)). fragments end_system room net (sent_by held.ports items)) (known_rest held.seen)
-    ∙ ap (fragments end_system room net) (map-append (sent_of held.ports) (taken_of held.seen) (rest_of held.seen))
-    ∙ fragments_append end_system room net 0 (taken_by held) (sent_by held.ports (rest_of held.seen))
+    rw (known_rest held.seen, map-append (sent_of held.ports) (taken_of held.seen) (rest_of held.seen))
+    (fragments_append end_system room net 0 (taken_by held) (sent_by held.ports (rest_of held.seen)))
 
 -- two lists make none only where the first is none
 left_nil : {X : Type 0} (xs ys : List X) → xs ++ ys ≡ [] → xs ≡ []
 left_nil [] ys e = refl
-left_nil (x ∷ xs) ys e = absurd (let k : x ∷ (xs ++ ys) ≡ [] = e in cc)
+left_nil (x ∷ xs) ys e = cc
 
 -- a sub-VL of a link where its stream is, whose accepted messages are known whole
 pub record Stands (end_system : ℕ) (link : LinkPlan) (log : List Entry) (s : ℕ) (held : Held) : Type 0 where
@@ -91,78 +88,69 @@ stands_of link log s own tied lt g =
 abbrev pub lists_of : List Held → ℕ → List Sent
 lists_of subs s = accepted_by (held_at subs s)
 
--- nothing is left of what was taken, nor to be taken
-pub all_released : (end_system : ℕ) (link : LinkPlan) (log : List Entry) (s : ℕ) (subs : List Held)
-    → Stands end_system link log s (held_at subs s) → (held_at subs s).left ≡ [] → rest_of (held_at subs s).seen ≡ []
-    → IsReleased end_system link (lists_of subs) log s
-all_released end_system link log s subs at none drained =
-    let held = held_at subs s in
-    let room = room_of link.lmax in
-    owed_split end_system room A held
-    ∙ ap (λ (rest : List (ℕ × List ℕ)). fragments end_system room A (taken_by held)
-    ++ fragments_from end_system room A (0 + length (taken_by held)) (sent_by held.ports rest)) drained
-    ∙ append-nil (fragments end_system room A (taken_by held))
-    ∙ at.taken
-    ∙ ap (λ (x : List (List ℕ)). told_of link.id.0 s log ++ x) none
-    ∙ append-nil (told_of link.id.0 s log)
+right_nil : (xs ys : List (List ℕ)) → xs ++ ys ≡ [] → ys ≡ []
+right_nil [] ys e = e
+right_nil (x ∷ xs) ys e = cc
 
--- the stream of a sub-VL is behind what was taken
-pub owes_taken : (end_system : ℕ) (link : LinkPlan) (log : List Entry) (s : ℕ) (subs : List Held) (left : List (List ℕ))
-    → (left ≡ [] → ⊥)
-    → fragments end_system (room_of link.lmax) A (taken_by (held_at subs s)) ≡ told_of link.id.0 s log ++ left
-    → Owes end_system link (lists_of subs) log s
-owes_taken end_system link log s subs left some e =
-    let more = untaken end_system (room_of link.lmax) A (held_at subs s) in
-    record {
-      left = left ++ more;
-      some = λ none. some (left_nil left more none);
-      ahead = owed_split end_system (room_of link.lmax) A (held_at subs s)
-          ∙ ap (λ (x : List (List ℕ)). x ++ more) e
-          ∙ append_assoc (told_of link.id.0 s log) left more;
-    }
+module _ (end_system : ℕ) (link : LinkPlan) (log : List Entry) (s : ℕ) (subs : List Held) where
+  -- nothing is left of what was taken, nor to be taken
+  pub all_released : Stands end_system link log s (held_at subs s) → (held_at subs s).left ≡ []
+      → rest_of (held_at subs s).seen ≡ []
+      → IsReleased end_system link (lists_of subs) log s
+  all_released at none drained =
+      let held = held_at subs s in
+      let room = room_of link.lmax in
+      owed_split end_system room A held
+      ∙ rw (
+        drained,
+        append-nil (fragments end_system room A (taken_by held)),
+        at.taken,
+        none,
+        append-nil (told_of link.id.0 s log),
+      ) refl
 
--- a message is left to be taken
-pub owes_rest : (end_system : ℕ) (link : LinkPlan) (log : List Entry) (s : ℕ) (subs : List Held)
-    (message : ℕ × List ℕ) (more : List (ℕ × List ℕ))
-    → Stands end_system link log s (held_at subs s) → rest_of (held_at subs s).seen ≡ message ∷ more
-    → Owes end_system link (lists_of subs) log s
-owes_rest end_system link log s subs message more at e =
-    let held = held_at subs s in
-    let room = room_of link.lmax in
-    let place = 0 + length (taken_by held) in
-    let next = fragments_from end_system room A place (sent_by held.ports (message ∷ more)) in
-    record {
-      left = held.left ++ next;
-      some = λ none. fragments_some (record { end_system = end_system; link = link; sub = s }) place (sent_of held.ports message)
-          (left_nil _ _ (right_nil held.left next none));
-      ahead = owed_split end_system room A held
-          ∙ ap (λ (rest : List (ℕ × List ℕ)). fragments end_system room A (taken_by held)
-          ++ fragments_from end_system room A place (sent_by held.ports rest)) e
-          ∙ ap (λ (x : List (List ℕ)). x ++ next) at.taken
-          ∙ append_assoc (told_of link.id.0 s log) held.left next;
-    }
-  where
-    right_nil : (xs ys : List (List ℕ)) → xs ++ ys ≡ [] → ys ≡ []
-    right_nil [] ys e = e
-    right_nil (x ∷ xs) ys e = absurd (let k : x ∷ (xs ++ ys) ≡ [] = e in cc)
+  -- the stream of a sub-VL is behind what was taken
+  pub owes_taken : (left : List (List ℕ)) → (left ≡ [] → ⊥)
+      → fragments end_system (room_of link.lmax) A (taken_by (held_at subs s)) ≡ told_of link.id.0 s log ++ left
+      → Owes end_system link (lists_of subs) log s
+  owes_taken left some e =
+      let more = untaken end_system (room_of link.lmax) A (held_at subs s) in
+      record {
+        left = left ++ more;
+        some = λ none. some (left_nil left more none);
+        ahead = owed_split end_system (room_of link.lmax) A (held_at subs s)
+            ∙ rw e (append_assoc (told_of link.id.0 s log) left more);
+      }
 
--- what was asked and has nothing is wholly released
-pub passed_released : (end_system : ℕ) (link : LinkPlan) (log : List Entry) (s : ℕ) (subs : List Held) (new : Held)
-    → Stands end_system link log s (held_at subs s) → Asks false (held_at subs s) new
-    → IsReleased end_system link (lists_of subs) log s
-passed_released end_system link log s subs new at p =
-    all_released end_system link log s subs at p.whole (rest_none (held_at subs s).seen new.seen at.seen p.nothing)
+  -- a message is left to be taken
+  pub owes_rest : (message : ℕ × List ℕ) (more : List (ℕ × List ℕ)) → Stands end_system link log s (held_at subs s)
+      → rest_of (held_at subs s).seen ≡ message ∷ more → Owes end_system link (lists_of subs) log s
+  owes_rest message more at e =
+      let held = held_at subs s in
+      let room = room_of link.lmax in
+      let place = 0 + length (taken_by held) in
+      let next = fragments_from end_system room A place (sent_by held.ports (message ∷ more)) in
+      record {
+        left = held.left ++ next;
+        some = λ none. fragments_some (record { end_system = end_system; link = link; sub = s }) place
+            (sent_of held.ports message)
+            (left_nil _ _ (right_nil held.left next none));
+        ahead = owed_split end_system room A held
+            ∙ rw (e, at.taken) (append_assoc (told_of link.id.0 s log) held.left next);
+      }
 
--- and what has something is not
-pub asked_owes : (end_system : ℕ) (link : LinkPlan) (log : List Entry) (s : ℕ) (subs : List Held) (new : Held)
-    → Stands end_system link log s (held_at subs s) → Asks true (held_at subs s) new
-    → Owes end_system link (lists_of subs) log s
-asked_owes end_system link log s subs new at a = ⊎_elim
-    (λ (g : GoesOn (held_at subs s) new). owes_taken end_system link log s subs (held_at subs s).left g.some at.taken)
-    (λ (p : Starts (held_at subs s) new).
-    let next = rest_next (held_at subs s).seen p.message new.seen at.seen p.finds in
-    owes_rest end_system link log s subs p.message next.0 at next.1)
-    a
+  -- what was asked and has nothing is wholly released
+  pub passed_released : (new : Held) → Stands end_system link log s (held_at subs s) → Asks false (held_at subs s) new
+      → IsReleased end_system link (lists_of subs) log s
+  passed_released new at p = all_released at p.whole (rest_none (held_at subs s).seen new.seen at.seen p.nothing)
+
+  -- and what has something is not
+  pub asked_owes : (new : Held) → Stands end_system link log s (held_at subs s) → Asks true (held_at subs s) new
+      → Owes end_system link (lists_of subs) log s
+  asked_owes new at (inl g) = owes_taken (held_at subs s).left g.some at.taken
+  asked_owes new at (inr p) =
+      let next = rest_next (held_at subs s).seen p.message new.seen at.seen p.finds in
+      owes_rest p.message next.0 at next.1
 
 -- no sub-VL is both
 pub owes_not : (end_system : ℕ) (link : LinkPlan) (accepted : ℕ → List Sent) (log : List Entry) (s : ℕ)

@@ -1,5 +1,5 @@
 -- Each link's stream of the log is the longer of its own two.
-use Rattle.std.proofs.Common.{ℕ, ◌≡◌, ◌⊎◌, ◌<◌, ◌≤◌, List, [], ◌∷◌, ◌++◌, Bool, cond, length, map, arith, refl, ap, ◌∙◌, sym, inl, inr, ⊎_elim}
+use Rattle.std.proofs.Common.{ℕ, ◌≡◌, ◌⊎◌, ◌+◌, ◌<◌, ◌≤◌, List, [], ◌∷◌, ◌++◌, length, map, arith, refl, ap, ◌∙◌, sym, inl, inr, ⊎_elim}
 use Rattle.std.specs.Prelude.{All}
 use Rattle.std.proofs.lemmas.Bool.{cases_lt, lt-ltb, le-ltb}
 use Rattle.std.proofs.lemmas.List.{append-nil, length-append, length-map, nil_from_length}
@@ -10,7 +10,7 @@ use Rattle.afdx_plan.specs.Config.{Plan, link_plan_at}
 use Rattle.afdx_frame.specs.declared.net.Net.{Net}
 use Rattle.afdx_frame.specs.declared.net.Net.TheVariants.{A, B}
 use Rattle.afdx_frame.proofs.Twins.{twin_twice}
-use Rattle.redundant_mux.specs.Entry.{Entry, entry}
+use Rattle.redundant_mux.specs.Entry.{Entry}
 use Rattle.redundant_mux.specs.Logged.{Logged, entries_of, side}
 use Rattle.redundant_mux.specs.Lines.{Lines, log, IsMirrored}
 use Rattle.afdx_legal.specs.Streams.{link_stream}
@@ -21,17 +21,14 @@ use Rattle.afdx_tx.proofs.HandedFronts.{IsFor, IsFront, link_side, named_front, 
 -- twins of twins
 pub sides : (net other : Net) (H : List Entry) → map (side net) (map (side other) H) ≡ map (side net) H
 sides net other [] = refl
-sides net other (e ∷ es) =
-    ap (λ (f : List ℕ). entry e.at f ∷ map (side net) (map (side other) es)) (twin_twice net other e.frame)
-    ∙ ap (λ x. side net e ∷ x) (sides net other es)
+sides net other (e ∷ es) = rw (twin_twice net other e.frame, sides net other es) refl
 
 -- entries for network A are those that they are
 for_a_entries : (ls : List Logged) → All (λ (l : Logged). side A l.entry ≡ l.entry) ls
     → map (side A) (entries_of ls) ≡ entries_of ls
 for_a_entries [] h = refl
 for_a_entries (l ∷ ls) h =
-    ap (λ (e : Entry). e ∷ map (side A) (entries_of ls)) (h 0 l (omega arith))
-    ∙ ap (λ (es : List Entry). l.entry ∷ es) (for_a_entries ls (All-tail (λ (m : Logged). side A m.entry ≡ m.entry) l ls h))
+    rw (h 0 l (omega arith), for_a_entries ls (All-tail (λ (m : Logged). side A m.entry ≡ m.entry) l ls h)) refl
 
 -- so are those of the log
 log_for_a : (lines : Lines) → IsMirrored lines → map (side A) (log lines) ≡ log lines
@@ -45,51 +42,34 @@ stream_for_a lines vl m = sym (link_side A vl (log lines)) ∙ ap (link_stream v
 
 -- a list and nothing behind it
 only_front : (xs ys S : List Entry) → S ≡ xs ++ ys → ys ≡ [] → xs ≡ S
-only_front xs ys S is none = sym (is ∙ ap (λ (x : List Entry). xs ++ x) none ∙ append-nil xs)
+only_front xs ys S is none = sym (is ∙ rw (none, append-nil xs) refl)
 
 -- Of two fronts of a stream, of which one is all of it, the longer is the stream.
 longer_is : (S a b : List Entry) → map (side A) S ≡ S → (f : IsFront A S a) → (g : IsFront B S b)
     → (f.behind ≡ []) ⊎ (g.behind ≡ []) → map (side A) (longer a b) ≡ S
 longer_is S a b own f g one = ⊎_elim
     (λ (lt : length a < length b).
-    let all : g.front ≡ S = only_front g.front g.behind S g.is (⊎_elim
-    (λ none. nil_from_length g.behind (omega (
-      arith,
-      lt,
-      la,
-      lb,
-      ap length none,
-      ap length f.is,
-      ap length g.is,
-      length-append f.front f.behind,
-      length-append g.front g.behind,
-    )))
-    (λ none. none) one) in
-    ap (λ (t : Bool). map (side A) (cond t b a)) (lt-ltb _ _ lt) ∙ ap (map (side A)) g.got ∙ sides A B g.front
-    ∙ ap (map (side A)) all ∙ own)
+    let all = only_front g.front g.behind S g.is
+    (⊎_elim (λ none. nil_from_length g.behind (omega (arith, tie, ap length none))) (λ none. none) one) in
+    rw (lt-ltb _ _ lt, g.got, sides A B g.front, all) own)
     (λ (le : length b ≤ length a).
-    let all : f.front ≡ S = only_front f.front f.behind S f.is (⊎_elim
-    (λ none. none)
-    (λ none. nil_from_length f.behind (omega (
-      arith,
-      le,
-      la,
-      lb,
-      ap length none,
-      ap length f.is,
-      ap length g.is,
-      length-append f.front f.behind,
-      length-append g.front g.behind,
-    ))) one) in
-    ap (λ (t : Bool). map (side A) (cond t b a)) (le-ltb _ _ le) ∙ ap (map (side A)) f.got ∙ sides A A f.front
-    ∙ ap (map (side A)) all ∙ own)
+    let all = only_front f.front f.behind S f.is
+    (⊎_elim (λ none. none) (λ none. nil_from_length f.behind (omega (arith, tie, ap length none))) one) in
+    rw (le-ltb _ _ le, f.got, sides A A f.front, all) own)
     (cases_lt (length a) (length b))
   where
-    la : length a ≡ length f.front
-    la = ap length f.got ∙ length-map f.front (side A)
-
-    lb : length b ≡ length g.front
-    lb = ap length g.got ∙ length-map g.front (side B)
+    tie : length a + length f.behind ≡ length b + length g.behind
+    tie = omega (
+      arith,
+      ap length f.got,
+      length-map f.front (side A),
+      ap length g.got,
+      length-map g.front (side B),
+      ap length f.is,
+      ap length g.is,
+      length-append f.front f.behind,
+      length-append g.front g.behind,
+    )
 
 -- the stream of one link
 own_of : (lines : Lines) (vl : ℕ) (networks : Networks) → IsMirrored lines → All (IsFor vl networks) lines.logged

@@ -1,21 +1,118 @@
 -- One more link of a poll was asked whether it is due, and served where it is.
-use Rattle.std.proofs.Common.{ℕ, ◌≡◌, ◌+◌, ◌<◌, List, [], ◌++◌, false, length, set, refl, arith, ap, sym, subst}
-use Rattle.std.proofs.lemmas.List.{append-nil}
+use Rattle.std.proofs.Common.{ℕ, ◌≡◌, ◌+◌, ◌<◌, List, [], ◌++◌, false, length, set, refl, arith, ap, sym, ◌≤◌, ◌∷◌, ◌∙◌, add-one, true, subst, inl, inr}
+use Rattle.std.proofs.lemmas.List.{append-nil, map-append, append_assoc, length-append, length-set, get_or-set_same, get_or-set_other}
 use Rattle.afdx_frame.specs.declared.net.Net.TheVariants.{A}
-use Rattle.redundant_mux.specs.Lines.{Lines, BothEndure, log}
-use Rattle.redundant_mux.proofs.Enduring.{both_none, both_on}
-use Rattle.vl_shaper.specs.Pace.{IsLater}
+use Rattle.redundant_mux.specs.Lines.{Lines, BothEndure, log, stands_for}
+use Rattle.redundant_mux.proofs.Enduring.{both_none, both_on, stood_before}
+use Rattle.vl_shaper.specs.Pace.{IsLater, Pace}
 use Rattle.afdx_legal.specs.Legal.{AreKnown}
 use Rattle.vl_link.specs.declared.served.Served.{Served}
-use Rattle.vl_link.specs.Links.{LinkState, link_at}
-use Rattle.vl_link.specs.Turn.{may_release}
+use Rattle.vl_link.specs.Links.{LinkState, link_at, no_link, pace_of}
+use Rattle.vl_link.specs.Turn.{may_release, AreTurns}
 use Rattle.vl_link.proofs.LinkTurn.{Turned}
 use Rattle.afdx_tx.specs.declared.report.Release.{Release}
 use Rattle.afdx_tx.specs.Emitter.{plans, AreApart, AreLinks, AreKept, AreCarried, AreServedBy, AreWhole, HaveOwnItems}
-use Rattle.afdx_tx.specs.Report.{turn_release}
+use Rattle.afdx_tx.specs.Report.{turn_release, release_of, IsTold}
 use Rattle.afdx_tx.specs.Serving.{IsPolling}
-use Rattle.afdx_tx.proofs.PollTurns.{same_link, serving_more, serving_on}
-use Rattle.afdx_tx.proofs.ToldReleases.{told_more, few_released}
+use Rattle.afdx_plan.specs.declared.identifiers.VlId.{VlId}
+use Rattle.redundant_mux.specs.Entry.{Entry, entry}
+use Rattle.redundant_mux.specs.Logged.{logged_for}
+use Rattle.redundant_mux.proofs.MirroredLines.{log_more, log_same}
+use Rattle.vl_link.specs.declared.served.Served.TheVariants.{Nothing, Released, Lost}
+use Rattle.std.proofs.lemmas.Bool.{cases_Bool, both_ways}
+use Rattle.afdx_legal.specs.Streams.{link_stream}
+use Rattle.afdx_tx.specs.Run.{IsTurn, IsTurnAt}
+use Rattle.vl_link.specs.Kept.{IsKept}
+use Rattle.vl_link.proofs.TurnLaws.{turns_seen, turns_push, may_not}
+use Rattle.afdx_tx.proofs.PollTurns.{same_link, at_each, steady_more}
+
+-- where nothing entered nothing more is told
+told_same : (now : ℕ) (rs : List Release) (before lines after : Lines) → log after ≡ log lines
+    → IsTold now rs before lines → IsTold now (rs ++ []) before after
+told_same now rs before lines after e t =
+    record { entries = t.entries; grown = e ∙ t.grown; named = t.named ∙ sym (append-nil rs); moments = t.moments }
+
+-- what one turn released is told behind the releases before it
+pub told_more : (now : ℕ) (did : Served) (link new : LinkState) (rs : List Release) (before lines after : Lines)
+    → Turned now link new lines after did → IsTold now rs before lines
+    → IsTold now (rs ++ turn_release link.plan.id did) before after
+told_more now Nothing link new rs before lines after t h = told_same now rs before lines after (ap log t.serves.1) h
+told_more now (Released sub number) link new rs before lines after t h =
+    let r = t.serves.2 in
+    let e = entry now r.frame in
+    let same : release_of e ≡ record { vl = link.plan.id; sub = sub; number = number } =
+    λ i. record { vl = record { 0 = r.of.link i }; sub = r.of.of_sub i; number = r.of.carries i } in
+    record {
+      entries = h.entries ++ e ∷ [];
+      grown = log_more lines after (logged_for link.plan.networks e) r.enters
+          ∙ ap (λ (x : List Entry). x ++ e ∷ []) h.grown
+          ∙ append_assoc (log before) h.entries (e ∷ []);
+      named = map-append release_of h.entries (e ∷ []) ∙ rw (h.named, same) refl;
+      moments = map-append (λ (x : Entry). x.at) h.entries (e ∷ []) ∙ ap (λ (x : List ℕ). x ++ now ∷ []) h.moments
+          ∙ sym (map-append (λ (x : Entry). now) h.entries (e ∷ []));
+    }
+told_more now Lost link new rs before lines after t h =
+    told_same now rs before lines after (log_same lines after t.serves.1.same) h
+
+-- one turn releases one frame at most
+pub few_released : (vl : VlId) (did : Served) (rs : List Release) (i : ℕ) → length rs ≤ i
+    → length (rs ++ turn_release vl did) ≤ i + 1
+few_released vl Nothing rs i h = omega (arith, length-append rs [])
+few_released vl (Released sub number) rs i h = omega (arith, length-append rs (turn_release vl (Released sub number)))
+few_released vl Lost rs i h = omega (arith, length-append rs [])
+
+-- the turn, with the regulation read off the stream
+turn_shown : (now : ℕ) (did : Served) (link new : LinkState) (lines after : Lines)
+    → Turned now link new lines after did → IsKept link (log lines) → IsTurn now link new lines after did
+turn_shown now did link new lines after t k =
+    record { same = t.same; tied = λ _. k.tied t.whole; serves = rw (k.paced t.whole) at t.serves }
+
+-- a link that lost a frame has no network any more
+whole_after : (now : ℕ) (did : Served) (link new : LinkState) (lines after : Lines)
+    → Turned now link new lines after did → stands_for new.plan.networks after ≡ true → new.lost ≡ false
+whole_after now Nothing link new lines after t stands = t.lost
+whole_after now (Released sub number) link new lines after t stands = t.lost
+whole_after now Lost link new lines after t stands = absurd (both_ways _ t.serves.1.down (rw t.same.plan at stands))
+
+-- the turn of the link that was set
+turn_at : (now : ℕ) (did : Served) (old links : List LinkState) (i : ℕ) (new : LinkState) (lines after : Lines)
+    → i < length old → i < length links → link_at links i ≡ link_at old i → IsTurn now (link_at links i) new lines after did
+    → IsTurnAt now old (set links i new) i lines after did
+turn_at now did old links i new lines after il lt here turn = rw (get_or-set_same links i new no_link lt, ← here) turn
+
+-- the turns before it
+turns_before : (now : ℕ) (old links : List LinkState) (i : ℕ) (new : LinkState) (before lines : Lines)
+    → AreTurns (IsTurnAt now old links) 0 i before lines → AreTurns (IsTurnAt now old (set links i new)) 0 i before lines
+turns_before now old links i new before lines r =
+    turns_seen (IsTurnAt now old links) (IsTurnAt now old (set links i new)) 0 i before lines
+    (λ k le lt mid behind did t. rw (get_or-set_other links i k new no_link (λ e. omega arith)) t) r
+
+-- one turn more
+turns_on : (now i : ℕ) (old news : List LinkState) (before lines after : Lines) (did : Served)
+    → AreTurns (IsTurnAt now old news) 0 i before lines → IsTurnAt now old news i lines after did
+    → AreTurns (IsTurnAt now old news) 0 (i + 1) before after
+turns_on now i old news before lines after did turns turn = rw add-one
+    (turns_push (IsTurnAt now old news) 0 i before lines after did
+    turns (subst (λ (n : ℕ). IsTurnAt now old news n lines after did) (omega arith) turn))
+
+-- the turn of a link that may not release a frame
+idle_turn : (now : ℕ) (link : LinkState) (lines : Lines) → may_release now link.plan link.pace lines ≡ false
+    → (stands_for link.plan.networks lines ≡ true → link.lost ≡ false) → IsKept link (log lines)
+    → IsTurn now link link lines lines Nothing
+idle_turn now link lines may_not_now whole kept = record {
+  same = same_link link;
+  tied = λ stands. kept.tied (whole stands);
+  serves = (inl (idle, λ s. refl), refl);
+}
+  where
+    stream_pace : Pace
+    stream_pace = pace_of link.pace.gap link.pace.sub_vls (link_stream link.plan.id.0 (log lines))
+
+    idle : may_release now link.plan stream_pace lines ≡ false
+    idle = elim (cases_Bool (stands_for link.plan.networks lines)) [
+      | inl stands ↦ subst (λ (p : Pace). may_release now link.plan p lines ≡ false) (kept.paced (whole stands)) may_not_now
+      | inr down ↦ may_not now link.plan stream_pace lines down
+    ]
 
 -- no link had its turn yet
 pub polling_none : (now : ℕ) (links : List LinkState) (lines : Lines) (released : List Release) → released ≡ []
@@ -23,20 +120,18 @@ pub polling_none : (now : ℕ) (links : List LinkState) (lines : Lines) (release
     → AreCarried (plans links) lines.logged → HaveOwnItems links → AreWhole links lines
     → IsPolling now 0 links links lines lines released
 polling_none now links lines released none each kept later known carried items whole = record {
-  serving = record {
-    steady = record {
-      same = record { count = refl; each = λ k lt. same_link (link_at links k) };
-      each = each;
-      kept = kept;
-      later = later;
-      known = known;
-      carried = carried;
-      items = items;
-    };
-    turns = refl;
-    rest = refl;
-    whole = whole;
+  steady = record {
+    same = record { count = refl; each = λ k lt. same_link (link_at links k) };
+    each = each;
+    kept = kept;
+    later = later;
+    known = known;
+    carried = carried;
+    items = items;
   };
+  turns = refl;
+  rest = λ k le. refl;
+  whole = whole;
   told = record { entries = []; grown = sym (append-nil (log lines)); named = sym none; moments = refl };
   room = omega (arith, ap length none);
   endure = both_none lines;
@@ -49,9 +144,18 @@ pub polling_more : (now i : ℕ) (old links : List LinkState) (before lines afte
     → BothEndure lines after → IsPolling now (i + 1) old (set links i new) before after
     (released ++ turn_release (link_at links i).plan.id did)
 polling_more now i old links before lines after new did released p apart lt turned later endure =
-    let s = p.serving in
+    let il : i < length old = omega (arith, p.steady.same.count) in
+    let turn = turn_at now did old links i new lines after il lt (p.rest i (omega arith))
+    (turn_shown now did (link_at links i) new lines after turned (p.steady.kept i lt)) in
     record {
-      serving = serving_more now i old links before lines after new did s apart lt turned later;
+      steady = steady_more now i old links lines after new did p.steady apart lt turned later;
+      turns = turns_on now i old (set links i new) before lines after did
+          (turns_before now old links i new before lines p.turns) turn;
+      rest = λ k le. get_or-set_other links i k new no_link (λ e. omega arith) ∙ p.rest k (omega arith);
+      whole = λ k klt. at_each (λ j l. stands_for l.plan.networks after ≡ true → l.lost ≡ false) links i new lt
+          (whole_after now did (link_at links i) new lines after turned)
+          (λ j jlt ne stands. p.whole j jlt (stood_before lines after (link_at links j).plan.networks endure stands))
+          k (omega (arith, length-set links i new));
       told = told_more now did (link_at links i) new released before lines after turned p.told;
       room = few_released (link_at links i).plan.id did released i p.room;
       endure = both_on before lines after p.endure endure;
@@ -61,19 +165,22 @@ polling_more now i old links before lines after new did released p apart lt turn
 pub polling_is : (now i : ℕ) (old links links' : List LinkState) (before after after' : Lines) (released released' : List Release)
     → links' ≡ links → after' ≡ after → released' ≡ released → IsPolling now i old links before after released
     → IsPolling now i old links' before after' released'
-polling_is now i old links links' before after after' released released' e f h p =
-    subst (λ (ls : List LinkState). IsPolling now i old ls before after' released') (sym e)
-    (subst (λ (l : Lines). IsPolling now i old links before l released') (sym f)
-    (subst (λ (rs : List Release). IsPolling now i old links before after rs) (sym h) p))
+polling_is now i old links links' before after after' released released' e f h p = rw (e, f, h) p
 
 -- one more link may not release a frame
 pub polling_on : (now i : ℕ) (old links : List LinkState) (before lines : Lines) (released : List Release)
     → IsPolling now i old links before lines released → i < length links
     → may_release now (link_at links i).plan (link_at links i).pace lines ≡ false
     → IsPolling now (i + 1) old links before lines released
-polling_on now i old links before lines released p lt may_not_now = record {
-  serving = serving_on now i old links before lines p.serving lt may_not_now;
-  told = p.told;
-  room = let room = p.room in omega arith;
-  endure = p.endure;
-}
+polling_on now i old links before lines released p lt may_not_now =
+    let turn = subst (λ (l : LinkState). IsTurn now l (link_at links i) lines lines Nothing) (p.rest i (omega arith))
+    (idle_turn now (link_at links i) lines may_not_now (p.whole i lt) (p.steady.kept i lt)) in
+    record {
+      steady = p.steady;
+      turns = turns_on now i old links before lines lines Nothing p.turns turn;
+      rest = λ k le. p.rest k (omega arith);
+      whole = p.whole;
+      told = p.told;
+      room = let room = p.room in omega arith;
+      endure = p.endure;
+    }

@@ -1,5 +1,5 @@
 -- The link of a port.
-use Rattle.std.proofs.Common.{ℕ, zero, suc, ◌≡◌, ◌+◌, ◌<◌, List, [], ◌∷◌, Bool, true, false, not, cond, length, get_or, arith, ap, ◌∙◌, sym, subst, refl, Option, Some, None, unwrap_or}
+use Rattle.std.proofs.Common.{ℕ, zero, suc, ◌≡◌, ◌+◌, ◌<◌, List, [], ◌∷◌, Bool, true, false, not, cond, length, get_or, arith, ap, ◌∙◌, sym, refl, Option, Some, None, unwrap_or}
 use Rattle.std.proofs.lemmas.Bool.{eq-eqb, lt-ltb, eqb-true}
 use Rattle.std.proofs.lemmas.List.Quantifiers.{position-Some}
 use Rattle.std.specs.List.{prefix_len, position}
@@ -59,7 +59,7 @@ found links port has none = none_has links port.vl.0 has.at none has.within (ap 
 pub found_id : (links : List LinkPlan) (port : PortPlan) (k : ℕ) → position (is_its port) links ≡ Some k
     → (link_plan_at links k).id ≡ port.vl
 found_id links port k e =
-    let made = λ (n : ℕ). let v : VlId = record { 0 = n } in v in ap made (found_at links port.vl.0 k e).1
+    λ i. record { 0 = (found_at links port.vl.0 k e).1 i }
 
 -- a valid plan has one link with an identifier
 pub found_over : (plan : Plan) (port : PortPlan) (k : ℕ) → IsPlan plan → HasLink plan.links port
@@ -67,8 +67,8 @@ pub found_over : (plan : Plan) (port : PortPlan) (k : ℕ) → IsPlan plan → H
 found_over plan port k valid has e =
     let some = position-Some (is_its port) plan.links k no_link_plan e in
     let id = found_id plan.links port k e in
-    let same : k ≡ has.at = valid.links_apart k has.at some.0 has.within (id ∙ sym has.over.id) in
-    subst (λ (i : ℕ). SendsOver port (link_plan_at plan.links i)) (sym same) has.over
+    let same = valid.links_apart k has.at some.0 has.within (id ∙ sym has.over.id) in
+    rw same has.over
 
 -- the link of a port is one of the plan, and the port sends over it
 pub link_within : (plan : Plan) (port : PortPlan) → IsPlan plan → HasLink plan.links port

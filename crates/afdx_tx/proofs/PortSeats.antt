@@ -1,15 +1,18 @@
 -- How many of the first ports of a configuration are of a sub-VL.
-use Rattle.std.proofs.Common.{ℕ, ◌≡◌, ◌+◌, ◌<◌, ◌≤◌, List, ◌++◌, Bool, true, false, ◌&&◌, nat_eq, cond, length, take, drop, arith, refl, ap, ◌∙◌, sym, subst, add-zero}
-use Rattle.std.proofs.lemmas.Bool.{eq-eqb, ne_eqb}
+use Rattle.std.proofs.Common.{ℕ, ◌≡◌, ◌+◌, ◌<◌, ◌≤◌, List, ◌++◌, Bool, true, false, ◌&&◌, nat_eq, cond, length, take, drop, arith, refl, ap, ◌∙◌, sym, add-zero, All, filter, get_or}
+use Rattle.std.proofs.lemmas.Bool.{eq-eqb, ne_eqb, and_parts, eqb-true}
 use Rattle.std.proofs.lemmas.List.{length-append, take-append-drop}
-use Rattle.std.proofs.lemmas.List.Elements.{filter-append}
+use Rattle.std.proofs.lemmas.List.Elements.{filter-append, All-filter, filter_passes}
 use Rattle.std.proofs.lemmas.List.Filters.{length-filter_more}
 use Rattle.afdx_plan.specs.declared.identifiers.VlId.{VlId}
 use Rattle.afdx_plan.specs.declared.port_plan.PortPlan.{PortPlan}
 use Rattle.afdx_plan.specs.Config.{Plan, IsPlan, link_plan_at, port_plan_at}
-use Rattle.afdx_plan.specs.Plan.{SendsOver}
+use Rattle.afdx_plan.specs.Plan.{SendsOver, IsPort}
 use Rattle.afdx_tx.specs.Emitter.{ports_of_sub}
 use Rattle.afdx_tx.specs.Ports.{index_of}
+use Rattle.std.proofs.lemmas.List.Sums.{length-filter}
+use Rattle.vl_link.specs.declared.sub_vl.SubVl.{SubVl}
+use Rattle.vl_link.specs.Subs.{IsPortOf}
 
 -- whether a port is of a sub-VL
 abbrev pub on_sub_vl : ℕ → ℕ → PortPlan → Bool
@@ -54,54 +57,59 @@ pub record IsAt (config : Plan) (place k s : ℕ) : Type 0 where
   pub over : SendsOver (port_plan_at config.ports place) (link_plan_at config.links k)
   pub sub : (port_plan_at config.ports place).sub ≡ s
 
--- the port is of that sub-VL
-pub own_at : (config : Plan) (place k s : ℕ) → IsAt config place k s
-    → on_sub_vl (link_plan_at config.links k).id.0 s (port_plan_at config.ports place) ≡ true
-own_at config place k s at = on_own (port_plan_at config.ports place) _ _ (ap (λ (id : VlId). id.0) (sym at.over.id)) at.sub
+module _ (config : Plan) (place k s : ℕ) (at : IsAt config place k s) where
+  -- the port is of that sub-VL
+  pub own_at : on_sub_vl (link_plan_at config.links k).id.0 s (port_plan_at config.ports place) ≡ true
+  own_at = on_own (port_plan_at config.ports place) _ _ (ap (λ (id : VlId). id.0) (sym at.over.id)) at.sub
 
--- and of no other link
+  -- its index is how many ports before it are of its sub-VL
+  pub index_at : index_of config.ports place ≡ seats config.ports place (link_plan_at config.links k).id.0 s
+  index_at = rw (at.over.id, at.sub) refl
+
+  -- there is a seat more for it
+  pub seat_at : seats config.ports (place + 1) (link_plan_at config.links k).id.0 s ≡ index_of config.ports place + 1
+  seat_at = rw index_at (rw own_at at (seats_more config.ports place (link_plan_at config.links k).id.0 s at.within))
+
+-- it is of no other link
 pub other_at : (config : Plan) (place k s other t : ℕ) → IsPlan config → IsAt config place k s → other < length config.links
     → (other ≡ k → ⊥) → on_sub_vl (link_plan_at config.links other).id.0 t (port_plan_at config.ports place) ≡ false
 other_at config place k s other t valid at lt ne = on_no_link (port_plan_at config.ports place) _ t
-    (λ (e : (port_plan_at config.ports place).vl.0 ≡ (link_plan_at config.links other).id.0).
-    let made = λ (n : ℕ). let v : VlId = record { 0 = n } in v in
-    ne (valid.links_apart other k lt at.link (ap made (sym e) ∙ sym at.over.id)))
-
--- its index is how many ports before it are of its sub-VL
-pub index_at : (config : Plan) (place k s : ℕ) → IsAt config place k s
-    → index_of config.ports place ≡ seats config.ports place (link_plan_at config.links k).id.0 s
-index_at config place k s at =
-    ap (λ (vl : ℕ). seats config.ports place vl (port_plan_at config.ports place).sub) (ap (λ (id : VlId). id.0) (sym at.over.id))
-    ∙ ap (λ (sub : ℕ). seats config.ports place (link_plan_at config.links k).id.0 sub) at.sub
-
--- there is a seat more for it
-pub seat_at : (config : Plan) (place k s : ℕ) → IsAt config place k s
-    → seats config.ports (place + 1) (link_plan_at config.links k).id.0 s
-    ≡ index_of config.ports place + 1
-seat_at config place k s at =
-    seats_more config.ports place _ s at.within
-    ∙ ap (λ (b : Bool). let one : ℕ = cond b 1 0 in seats config.ports place (link_plan_at config.links k).id.0 s + one) (own_at config place k s at)
-    ∙ ap (λ (n : ℕ). n + 1) (sym (index_at config place k s at))
+    (λ e. ne (valid.links_apart other k lt at.link
+    (λ i. record { 0 = (sym e ∙ ap (λ (v : VlId). v.0) (sym at.over.id)) i })))
 
 -- the seats of the other sub-VLs are as many
 pub others_at : (config : Plan) (place vl t : ℕ) → place < length config.ports
     → on_sub_vl vl t (port_plan_at config.ports place) ≡ false
     → seats config.ports (place + 1) vl t ≡ seats config.ports place vl t
-others_at config place vl t lt off =
-    let more = seats_more config.ports place vl t lt in
-    let count : Bool → ℕ = λ b. cond b 1 0 in
-    let none : count (on_sub_vl vl t (port_plan_at config.ports place)) ≡ 0 = ap count off in
-    more ∙ ap (λ (n : ℕ). seats config.ports place vl t + n) none ∙ add-zero (seats config.ports place vl t)
+others_at config place vl t lt off = rw off at (seats_more config.ports place vl t lt)
+    ∙ add-zero (seats config.ports place vl t)
 
 -- the port at a place, where a configuration is shown by a reference
 pub place_at : (config shown : Plan) (place k s : ℕ) (plan : PortPlan) → shown ≡ config
     → plan ≡ port_plan_at shown.ports place → place < length shown.ports → k < length shown.links
     → SendsOver plan (link_plan_at shown.links k) → s ≡ plan.sub → IsAt config place k s
 place_at config shown place k s plan e is within link over sub =
-    subst (λ (c : Plan). IsAt c place k s) e
-    (record {
-      within = within;
-      link = link;
-      over = subst (λ (p : PortPlan). SendsOver p (link_plan_at shown.links k)) is over;
-      sub = ap (λ (p : PortPlan). p.sub) (sym is) ∙ sym sub;
-    })
+    rw (← e) (record { within = within; link = link; over = rw (← is) over; sub = rw (← is) (sym sub) })
+
+-- they are few
+pub few_ports : (config : Plan) (vl sub : ℕ) → IsPlan config → length (ports_of_sub config.ports vl sub) ≤ 64
+few_ports config vl sub valid =
+    let few = valid.few_ports vl sub in
+    let on : PortPlan → Bool = λ port. nat_eq port.vl.0 vl && nat_eq port.sub sub in
+    omega (arith, length-filter on config.ports)
+
+-- and each is of it
+pub own_ports : (ports : List PortPlan) (of : SubVl) → All IsPort ports → of.sub < of.link.sub_vls
+    → All (IsPortOf of) (ports_of_sub ports of.link.id.0 of.sub)
+own_ports ports of each lt k d below =
+    let on : PortPlan → Bool = λ port. nat_eq port.vl.0 of.link.id.0 && nat_eq port.sub of.sub in
+    let port = get_or (filter on ports) k d in
+    let both = and_parts (nat_eq (get_or (filter on ports) k d).vl.0 of.link.id.0)
+    (nat_eq (get_or (filter on ports) k d).sub of.sub)
+    (filter_passes on ports k d below) in
+    let sub = eqb-true _ _ both.1 in
+    record {
+      port = All-filter on IsPort ports each k d below;
+      over = record { id = λ i. record { 0 = sym (eqb-true _ _ both.0) i }; sub = omega arith };
+      of_sub = sub;
+    }

@@ -1,18 +1,17 @@
 -- The counts of links are published one after the other.
-use Rattle.std.proofs.Common.{ℕ, ◌≡◌, ◌⊎◌, inl, inr, ◌+◌, ◌≤◌, ◌<◌, List, [], ◌++◌, length, set, nat_eq, zero-le, arith, refl, subst, sym, ap, ◌∙◌, None}
-use Rattle.std.proofs.lemmas.List.{length-set, get_or-set_same, get_or-set_other}
+use Rattle.std.proofs.Common.{ℕ, ◌≡◌, ◌+◌, ◌≤◌, ◌<◌, List, [], ◌++◌, length, set, nat_eq, zero-le, arith, refl, sym, ap, ◌∙◌}
+use Rattle.std.proofs.lemmas.List.{length-set, get_or-set_other}
 use Rattle.std.proofs.lemmas.List.Elements.{filter-append}
-use Rattle.std.proofs.Math.Nat.{eq-or-lt_of_le}
 use Rattle.afdx_plan.specs.declared.link_plan.LinkPlan.{LinkPlan}
 use Rattle.afdx_frame.specs.Header.{link_in}
 use Rattle.redundant_mux.specs.Entry.{Entry}
 use Rattle.status_board.specs.declared.counts.Counts.{Counts}
-use Rattle.status_board.specs.History.{zeros, value_of, NoFieldFalls}
+use Rattle.status_board.specs.History.{zeros, NoFieldFalls}
 use Rattle.status_board.specs.Views.{Published, published, last_of, no_cell, with_entry}
 use Rattle.status_board.proofs.Histories.{last_or-push, falls_not_same, falls_not_through}
-use Rattle.afdx_legal.specs.Streams.{link_stream, IsSpaced}
-use Rattle.afdx_legal.specs.Counting.{counts_in}
+use Rattle.afdx_legal.specs.Streams.{link_stream}
 use Rattle.afdx_legal.proofs.CountingLemmas.{counts_more}
+use Rattle.vl_link.proofs.Choosing.{each_set}
 use Rattle.vl_link.specs.Links.{LinkState, link_at}
 use Rattle.vl_link.specs.Kept.{IsKept}
 use Rattle.afdx_tx.specs.Emitter.{AreKept, IsSamePlan}
@@ -31,24 +30,17 @@ publishing_none links board = record { count = refl; first = λ k under. absurd 
 pub publishing_more : (links : List LinkState) (old mid : List Published) (many : ℕ) → many < length mid
     → IsPublishing links old mid many
     → IsPublishing links old (set mid many (with_entry (published mid many) (link_at links many).counts)) (many + 1)
-publishing_more links old mid many inside p = record {
-  count = length-set mid many next ∙ p.count;
-  first = λ k under. one k (eq-or-lt_of_le (let up : k ≤ many = omega arith in up));
-  rest = λ k over. get_or-set_other mid many k next spare (λ e. omega arith) ∙ p.rest k (omega arith);
-}
-  where
-    next : Published
-    next = with_entry (published mid many) (link_at links many).counts
-
-    spare : Published
-    spare = record { cell = no_cell; history = [] }
-
-    one : (k : ℕ) → (k ≡ many) ⊎ (k < many)
-        → published (set mid many next) k ≡ with_entry (published old k) (link_at links k).counts
-    one k (inl is) = subst (λ (j : ℕ). published (set mid many next) j ≡ with_entry (published old j) (link_at links j).counts) (sym is)
-        (get_or-set_same mid many next spare inside
-        ∙ ap (λ (w : Published). with_entry w (link_at links many).counts) (p.rest many (omega arith)))
-    one k (inr under) = get_or-set_other mid many k next spare (λ e. omega arith) ∙ p.first k under
+publishing_more links old mid many inside p =
+    let next = with_entry (published mid many) (link_at links many).counts in
+    let spare : Published = record { cell = no_cell; history = [] } in
+    record {
+      count = length-set mid many next ∙ p.count;
+      first = each_set (λ k after. k < many + 1 → after ≡ with_entry (published old k) (link_at links k).counts) mid
+          many next spare inside
+          (λ _. ap (λ (w : Published). with_entry w (link_at links many).counts) (p.rest many (omega arith)))
+          (λ k ne under. p.first k (omega arith));
+      rest = λ k over. get_or-set_other mid many k next spare (λ e. omega arith) ∙ p.rest k (omega arith);
+    }
 
 pub publishing_all : (links : List LinkState) (old new : List Published) → IsPublishing links old new (length links)
     → PublishesCounts links old new
@@ -59,9 +51,7 @@ pub reaches_all : (links : List LinkState) (old new : List Published) → length
     → PublishesCounts links old new → Reaches links new
 reaches_all links old new count p = record {
   count = p.count ∙ count;
-  each = λ k under. subst (λ (c : Counts). NoFieldFalls c (link_at links k).counts)
-      (sym (ap (λ (w : Published). value_of w.history) (p.each k under)
-      ∙ last_or-push zeros (published old k).history (link_at links k).counts))
+  each = λ k under. rw (p.each k under, last_or-push zeros (published old k).history (link_at links k).counts)
       (falls_not_same (link_at links k).counts);
 }
 
@@ -70,7 +60,7 @@ pub reaches_none : (links : List LinkState) (board : List Published) → length 
     → ((k : ℕ) → (published board k).history ≡ []) → Reaches links board
 reaches_none links board count none = record {
   count = count;
-  each = λ k under. subst (λ (h : List Counts). NoFieldFalls (value_of h) (link_at links k).counts) (sym (none k)) least;
+  each = λ k under. rw (none k) least;
 }
   where
     least : {c : Counts} → NoFieldFalls zeros c
@@ -86,11 +76,10 @@ rises_on : (old new : LinkState) (before entries after : List Entry) → new.pla
     → IsKept old before → IsKept new after → NoFieldFalls old.counts new.counts
 rises_on old new before entries after plan grown was is =
     let vl = old.plan.id.0 in
-    let stream : link_stream new.plan.id.0 after ≡ link_stream vl before ++ link_stream vl entries =
-    ap (λ (p : LinkPlan). link_stream p.id.0 after) plan ∙ ap (link_stream vl) grown ∙ stream_grows vl before entries in
-    subst (λ (c : Counts). NoFieldFalls c new.counts) (sym was.counted)
-    (subst (NoFieldFalls (counts_in (link_stream vl before))) (sym (is.counted ∙ ap counts_in stream))
-    (counts_more new.pace.gap (link_stream vl before) (link_stream vl entries) (subst (IsSpaced new.pace.gap None) stream is.spaced)))
+    let stream = ap (λ (p : LinkPlan). link_stream p.id.0 after) plan ∙ ap (link_stream vl) grown
+    ∙ stream_grows vl before entries in
+    rw (was.counted, is.counted, stream)
+    (counts_more new.pace.gap (link_stream vl before) (link_stream vl entries) (rw stream at is.spaced))
 
 -- a board stays below the counts of its links as more is handed over
 pub reaches_on : (old new : List LinkState) (board : List Published) (before entries after : List Entry) → IsSamePlan old new
@@ -109,5 +98,5 @@ reaches_kept old new board g r = record {
   count = r.count ∙ sym g.count;
   each = λ k under.
       let here : k < length old = omega (arith, g.count) in
-      subst (λ (l : LinkState). NoFieldFalls (last_of board k) l.counts) (sym (g.each k here).same) (r.each k here);
+      rw (g.each k here).same (r.each k here);
 }

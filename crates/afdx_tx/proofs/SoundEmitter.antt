@@ -1,35 +1,51 @@
 -- An emitter after its links had their turns.
-use Rattle.std.proofs.Common.{ℕ, ◌≡◌, ◌<◌, List, [], length, arith, ap, ◌∙◌, sym, subst, None, ◌≤◌, ⊎_elim}
+use Rattle.std.proofs.Common.{ℕ, ◌≡◌, ◌<◌, List, length, arith, refl, ap, ◌∙◌, sym, None, ⊎_elim, Bool, subst}
 use Rattle.std.proofs.lemmas.Bool.{cases_lt}
-use Rattle.std.proofs.lemmas.List.{ext_get_or, get_or-map, get_or_past, length-map}
+use Rattle.std.proofs.lemmas.List.{get_or_past}
 use Rattle.afdx_plan.specs.declared.link_plan.LinkPlan.{LinkPlan}
 use Rattle.afdx_plan.specs.Config.{Plan, IsPlan, link_plan_at}
-use Rattle.afdx_plan.specs.Plan.{bag_micros}
-use Rattle.afdx_plan.specs.Room.{room_of}
-use Rattle.afdx_frame.specs.declared.net.Net.TheVariants.{A}
-use Rattle.afdx_frame.specs.Fragments.{fragments}
-use Rattle.redundant_mux.specs.Lines.{Lines, log, IsMirrored}
-use Rattle.afdx_legal.specs.Streams.{link_stream, told_of, entry_number, IsNumbered, IsSpaced, IsPrefixOf}
-use Rattle.afdx_legal.specs.Legal.{AreKnown, IsLegal}
+use Rattle.redundant_mux.specs.Lines.{Lines, log, IsMirrored, Keeps}
+use Rattle.afdx_legal.specs.Streams.{link_stream}
+use Rattle.afdx_legal.specs.Legal.{IsLegal}
 use Rattle.afdx_legal.specs.Counting.{counts_in}
 use Rattle.afdx_legal.specs.Own.{own_stream, AreOwnStreams}
-use Rattle.vl_link.specs.Links.{LinkState, link_at, no_link, held_at, nothing_held, no_link_plan}
-use Rattle.afdx_tx.specs.Emitter.{plans, AreLinks, AreApart, AreLinksOf, AreCarried, AreWhole, AreReceiving, IsSamePlan, IsSound, taken_in, held_queue, link_queues, queues_in, total_in, ports_of_sub}
+use Rattle.vl_link.specs.Links.{LinkState, link_at, no_link, held_at, nothing_held}
+use Rattle.afdx_tx.specs.Emitter.{plan_of_link, AreLinks, AreApart, AreLinksOf, AreWhole, AreReceiving, IsSamePlan, IsSound, taken_in, held_queue, link_queues, queues_in, total_in, AreCarried}
 use Rattle.afdx_tx.specs.Serving.{IsSteady}
 use Rattle.afdx_tx.proofs.LegalLists.{legal_of}
 use Rattle.afdx_tx.proofs.OwnStreams.{own_streams}
-use Rattle.afdx_tx.proofs.PollTurns.{plan_at_is, plans_length}
-use Rattle.vl_link.specs.Seen.{total_of}
+use Rattle.afdx_tx.proofs.PollTurns.{map_alike, plan_at_is, plans_length}
 use Rattle.vl_link.proofs.QueueLooks.{still_receiving, same_name, same_total}
+use Rattle.afdx_frame.specs.declared.net.Net.{Net}
+use Rattle.afdx_frame.specs.declared.net.Net.TheVariants.{A, B}
+use Rattle.redundant_mux.specs.Entry.{Entry}
+use Rattle.afdx_legal.specs.Turns.{TakesTurns, TakeTurnsOn, TakeTurns}
+use Rattle.afdx_legal.proofs.TurnsOfFront.{turns_side}
+use Rattle.vl_link.specs.Shown.{none_begun}
+use Rattle.vl_link.proofs.ShownTurns.{takes_turns}
+use Rattle.afdx_tx.proofs.HandedFronts.{front_of}
 
--- the plans stay the same
-pub same_plans : (old new : List LinkState) → IsSamePlan old new → plans new ≡ plans old
-same_plans old new p =
-    ext_get_or no_link_plan (plans new) (plans old) (plans_length new ∙ p.count ∙ sym (plans_length old))
-    (λ k lt.
-    let n : k < length new = omega (arith, plans_length new) in
-    let o : k < length old = omega (arith, p.count) in
-    plan_at_is new k n ∙ (p.each k o).plan ∙ sym (plan_at_is old k o))
+-- links that keep their plans, and their sub-VLs the ports
+pub record KeepPlans (old new : List LinkState) : Type 0 where
+  pub count : length new ≡ length old
+  pub end_system : (k : ℕ) → k < length old → (link_at new k).end_system ≡ (link_at old k).end_system
+  pub plan : (k : ℕ) → k < length old → (link_at new k).plan ≡ (link_at old k).plan
+  pub subs : (k : ℕ) → k < length old → length (link_at new k).subs ≡ length (link_at old k).subs
+  pub ports : (k s : ℕ) → k < length old → s < length (link_at old k).subs
+      → (held_at (link_at new k).subs s).ports ≡ (held_at (link_at old k).subs s).ports
+
+-- they stay those of the configuration
+pub plans_after : (config : Plan) (old new : List LinkState) → AreLinksOf config old → KeepPlans old new → AreLinks new
+    → AreLinksOf config new
+plans_after config old new of keep each = record {
+  each_plan = map_alike plan_of_link new old no_link keep.count keep.plan ∙ of.each_plan;
+  end_system = λ k lt. let o : k < length old = omega (arith, keep.count) in keep.end_system k o ∙ of.end_system k o;
+  each = each;
+  ports = λ k s lt slt.
+      let o : k < length old = omega (arith, keep.count) in
+      let t : s < length (link_at old k).subs = omega (arith, keep.subs k o) in
+      rw (keep.plan k o) (keep.ports k s o t ∙ of.ports k s o t);
+}
 
 -- the plan of a link, read off the configuration
 pub plan_is : (config : Plan) (links : List LinkState) → AreLinksOf config links → (k : ℕ) → k < length links
@@ -44,27 +60,19 @@ count_is config links of = sym (plans_length links) ∙ ap length of.each_plan
 pub links_apart : (config : Plan) (links : List LinkState) → IsPlan config → AreLinksOf config links → AreApart links
 links_apart config links valid of i j ilt jlt e =
     let n = count_is config links of in
-    let il : i < length config.links = omega arith in
-    let jl : j < length config.links = omega arith in
-    valid.links_apart i j il jl
-    (ap (λ (p : LinkPlan). p.id) (plan_is config links of i ilt) ∙ e
-    ∙ sym (ap (λ (p : LinkPlan). p.id) (plan_is config links of j jlt)))
+    let id = λ (k : ℕ) (lt : k < length links). ap (λ (p : LinkPlan). p.id) (plan_is config links of k lt) in
+    valid.links_apart i j (omega arith) (omega arith) (id i ilt ∙ e ∙ sym (id j jlt))
 
 -- the links stay those of the configuration
 links_after : (config : Plan) (old new : List LinkState) → AreLinksOf config old → IsSamePlan old new
     → AreLinks new → AreLinksOf config new
-links_after config old new of same each =
-    record {
-      each_plan = same_plans old new same ∙ of.each_plan;
-      end_system = λ k lt. let o : k < length old = omega (arith, same.count) in (same.each k o).end_system ∙ of.end_system k o;
-      each = each;
-      ports = λ k s lt slt.
-          let o : k < length old = omega (arith, same.count) in
-          let on = same.each k o in
-          let t : s < length (link_at old k).subs = omega (arith, on.count) in
-          (on.subs s).ports ∙ of.ports k s o t
-          ∙ ap (λ (p : LinkPlan). ports_of_sub config.ports p.id.0 s) (sym on.plan);
-    }
+links_after config old new of same each = plans_after config old new of (record {
+  count = same.count;
+  end_system = λ k lt. (same.each k lt).end_system;
+  plan = λ k lt. (same.each k lt).plan;
+  subs = λ k lt. (same.each k lt).count;
+  ports = λ k s lt slt. ((same.each k lt).subs s).ports;
+}) each
 
 -- the emitter stays sound
 pub sound_after : (config : Plan) (old new : List LinkState) (lines : Lines) (now : ℕ) → IsPlan config
@@ -77,54 +85,41 @@ sound_after config old new lines now valid of s mirrored whole =
       kept = s.kept;
       later = s.later;
       mirrored = mirrored;
-      known = subst (λ (ps : List LinkPlan). AreKnown ps A (log lines)) of.each_plan s.known;
-      carried = subst (λ (ps : List LinkPlan). AreCarried ps lines.logged) of.each_plan s.carried;
+      known = rw of.each_plan at s.known;
+      carried = rw of.each_plan at s.carried;
       whole = whole;
       items = s.items;
     }
 
--- what was handed over is legal for the messages that were taken
-pub sound_legal : (config : Plan) (links : List LinkState) (lines : Lines) (moment : ℕ)
-    → IsSound config links lines moment → IsLegal config (taken_in links) lines.a lines.b
-sound_legal config links lines moment s =
-    let of = s.of_plan in
-    let n = count_is config links of in
-    legal_of config (taken_in links) lines s.valid s.mirrored s.carried (record {
-      known = s.known;
-      numbered = λ k klt.
-          let lt : k < length links = omega arith in
-          subst (λ (p : LinkPlan). IsNumbered entry_number 0 (link_stream p.id.0 (log lines))) (sym (plan_is config links of k lt))
-          (s.kept k lt).numbered;
-      spaced = λ k klt.
-          let lt : k < length links = omega arith in
-          subst (λ (p : LinkPlan). IsSpaced (bag_micros p.bag) None (link_stream p.id.0 (log lines)))
-          (sym (plan_is config links of k lt))
-          (subst (λ (g : ℕ). IsSpaced g None (link_stream (link_at links k).plan.id.0 (log lines))) (of.each k lt).gap
-          (s.kept k lt).spaced);
-      prefixes = λ k t klt tlt.
-          let lt : k < length links = omega arith in
-          let plan = plan_is config links of k lt in
-          let below : t < (link_at links k).plan.sub_vls = subst (λ (p : LinkPlan). t < p.sub_vls) plan tlt in
-          subst (λ (p : LinkPlan). IsPrefixOf (told_of p.id.0 t (log lines))
-          (fragments config.end_system (room_of p.lmax) A (taken_in links k t))) (sym plan)
-          (subst (λ (e : ℕ). IsPrefixOf (told_of (link_at links k).plan.id.0 t (log lines))
-          (fragments e (room_of (link_at links k).plan.lmax) A (taken_in links k t))) (of.end_system k lt)
-          ((s.kept k lt).prefixes t below));
-    })
+module _ (config : Plan) (links : List LinkState) (lines : Lines) (moment : ℕ) (s : IsSound config links lines moment)
+  where
+    plan_here : (k : ℕ) → k < length config.links → link_plan_at config.links k ≡ (link_at links k).plan
+    plan_here k lt = plan_is config links s.of_plan k (omega (arith, count_is config links s.of_plan))
 
--- each link's stream is the longer of its own two
-pub sound_streams : (config : Plan) (links : List LinkState) (lines : Lines) (moment : ℕ)
-    → IsSound config links lines moment → AreOwnStreams config (log lines) lines.a lines.b
-sound_streams config links lines moment s = own_streams config lines s.mirrored s.carried
+    -- what was handed over is legal for the messages that were taken
+    pub sound_legal : IsLegal config (taken_in links) lines.a lines.b
+    sound_legal =
+        let n = count_is config links s.of_plan in
+        legal_of config (taken_in links) lines s.valid s.mirrored s.carried (record {
+          known = s.known;
+          numbered = λ k lt. rw (plan_here k lt) (s.kept k (omega arith)).numbered;
+          spaced = λ k lt. rw (plan_here k lt, ← (s.of_plan.each k (omega arith)).gap) (s.kept k (omega arith)).spaced;
+          prefixes = λ k t lt tlt. rw (plan_here k lt, ← s.of_plan.end_system k (omega arith))
+              ((s.kept k (omega arith)).prefixes t (rw (plan_here k lt) at tlt));
+        })
 
--- the counts of each link are those of its own stream
-pub sound_counts : (config : Plan) (links : List LinkState) (lines : Lines) (moment : ℕ)
-    → IsSound config links lines moment → (k : ℕ) → k < length links
-    → (link_at links k).counts ≡ counts_in (own_stream (link_plan_at config.links k).id.0 lines.a lines.b)
-sound_counts config links lines moment s k lt =
-    (s.kept k lt).counted
-    ∙ ap (λ (p : LinkPlan). counts_in (link_stream p.id.0 (log lines))) (sym (plan_is config links s.of_plan k lt))
-    ∙ ap counts_in (sound_streams config links lines moment s k (omega (arith, count_is config links s.of_plan)))
+    -- each link's stream is the longer of its own two
+    pub sound_streams : AreOwnStreams config (log lines) lines.a lines.b
+    sound_streams = own_streams config lines s.mirrored s.carried
+
+    -- the counts of each link are those of its own stream
+    pub sound_counts : (k : ℕ) → k < length links
+        → (link_at links k).counts ≡ counts_in (own_stream (link_plan_at config.links k).id.0 lines.a lines.b)
+    sound_counts k lt =
+        let inside : k < length config.links = omega (arith, count_is config links s.of_plan) in
+        (s.kept k lt).counted ∙ ap (λ (p : LinkPlan). counts_in (link_stream p.id.0 (log lines)))
+        (sym (plan_here k inside))
+        ∙ ap counts_in (sound_streams k inside)
 
 -- the ports of every queue may send on
 pub receiving_still : (old new : List LinkState) → IsSamePlan old new → AreReceiving old → AreReceiving new
@@ -138,39 +133,19 @@ receiving_still old new same r k s klt slt =
 pub alike_link_queues : (old new : LinkState) → length new.subs ≡ length old.subs
     → ((s : ℕ) → s < length old.subs → held_queue (held_at new.subs s) ≡ held_queue (held_at old.subs s))
     → link_queues new ≡ link_queues old
-alike_link_queues old new count each =
-    let here = length-map new.subs held_queue in
-    let there = length-map old.subs held_queue in
-    ext_get_or None (link_queues new) (link_queues old) (here ∙ count ∙ sym there)
-    (λ s lt.
-    let n : s < length new.subs = omega (arith, here) in
-    let o : s < length old.subs = omega arith in
-    get_or-map held_queue new.subs s nothing_held None n
-    ∙ each s o
-    ∙ sym (get_or-map held_queue old.subs s nothing_held None o))
+alike_link_queues old new count each = map_alike held_queue new.subs old.subs nothing_held count each
 
 -- and those of all links where the queues of each link are
 pub alike_queues : (old new : List LinkState) → length new ≡ length old
     → ((k : ℕ) → k < length old → link_queues (link_at new k) ≡ link_queues (link_at old k)) → queues_in new ≡ queues_in old
-alike_queues old new count each =
-    let here = length-map new link_queues in
-    let there = length-map old link_queues in
-    ext_get_or [] (queues_in new) (queues_in old) (here ∙ count ∙ sym there)
-    (λ k lt.
-    let n : k < length new = omega (arith, here) in
-    let o : k < length old = omega arith in
-    get_or-map link_queues new k no_link [] n
-    ∙ each k o
-    ∙ sym (get_or-map link_queues old k no_link [] o))
+alike_queues old new count each = map_alike link_queues new old no_link count each
 
 -- a sub-VL is closed or not as before
 pub same_totals : (old new : List LinkState) → IsSamePlan old new → (k s : ℕ) → total_in new k s ≡ total_in old k s
 same_totals old new p k s = ⊎_elim
     (λ (lt : k < length old). same_total (held_at (link_at old k).subs s).seen (held_at (link_at new k).subs s).seen
     ((p.each k lt).subs s).queue)
-    (λ (past : length old ≤ k).
-    let none : length new ≤ k = omega (arith, p.count) in
-    ap (λ (l : LinkState). total_of (held_at l.subs s).seen) (get_or_past new k no_link none ∙ sym (get_or_past old k no_link past)))
+    (λ past. rw (get_or_past new k no_link (omega (arith, p.count)), get_or_past old k no_link past) refl)
     (cases_lt k (length old))
 
 -- the queues of all links stay the same
@@ -178,3 +153,23 @@ pub same_queues : (old new : List LinkState) → IsSamePlan old new → queues_i
 same_queues old new p = alike_queues old new p.count
     (λ k lt. let link = p.each k lt in alike_link_queues (link_at old k) (link_at new k) link.count
     (λ s slt. same_name (held_at (link_at old k).subs s).seen (held_at (link_at new k).subs s).seen (link.subs s).queue))
+
+-- a list that keeps a log in which they do
+turns_keeps : (plan : Plan) (net : Net) (stands : Bool) (handed : List Entry) (lines : Lines) → Keeps net stands handed lines.logged
+    → AreCarried plan.links lines.logged → TakeTurnsOn plan (log lines) → TakeTurnsOn plan handed
+turns_keeps plan net stands handed lines keeps carried turns k klt =
+    let f = front_of net stands handed lines (link_plan_at plan.links k).id.0 (link_plan_at plan.links k).networks keeps (carried k klt) in
+    subst TakesTurns (sym f.got) (turns_side net f.front f.behind (subst TakesTurns f.is (turns k klt)))
+
+-- What each link keeps says so of the log.
+pub sound_turns : (config : Plan) (links : List LinkState) (lines : Lines) (moment : ℕ)
+    → IsSound config links lines moment → TakeTurns config lines.a lines.b
+sound_turns config links lines moment s =
+    let n = count_is config links s.of_plan in
+    let turns : TakeTurnsOn config (log lines) = λ k klt. rw (plan_is config links s.of_plan k (omega arith))
+    (takes_turns (link_at links k).pace.sub_vls None none_begun (link_stream (link_at links k).plan.id.0 (log lines))
+    (s.kept k (omega arith)).chosen) in
+    record {
+      on_a = turns_keeps config A lines.a_stands lines.a lines s.mirrored.first s.carried turns;
+      on_b = turns_keeps config B lines.b_stands lines.b lines s.mirrored.second s.carried turns;
+    }

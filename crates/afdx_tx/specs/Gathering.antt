@@ -1,6 +1,6 @@
 -- The ports of an emitter come back.
 use Rattle.std.specs.Prelude.{ℕ, ◌≡◌, ◌<◌, List, length, All, Contains}
-use Rattle.afdx_plan.specs.Config.{Plan, link_plan_at, port_plan_at}
+use Rattle.afdx_plan.specs.Config.{Plan, port_plan_at}
 use Rattle.afdx_plan.specs.declared.port_plan.PortPlan.{PortPlan}
 use Rattle.subvl_queue.specs.Messages.{part_of}
 use Rattle.subvl_queue.specs.Views.{StandAt, brought_by}
@@ -51,12 +51,6 @@ pub record GathersPorts (config : Plan) (old : List LinkState) (ports : List Por
   pub takes : OnlyTakeBack old mid
   pub back : All (IsTakenBack config mid) ports
   pub gathers : GathersLinks mid new
-
--- as many links as a configuration has, each with as many sub-VLs
-pub record HasShape (config : Plan) (links : List LinkState) : Type 0 where
-  pub count : length links ≡ length config.links
-  pub subs : (k : ℕ) → k < length config.links
-      → length (link_at links k).subs ≡ (link_plan_at config.links k).sub_vls
 
 -- the sub-VL of a port
 abbrev pub held_for : Tx → PortPlan → Held

@@ -1,21 +1,15 @@
 -- A chosen sub-VL that became another.
-use Rattle.std.proofs.Common.{ℕ, ◌≡◌, ◌≢◌, ◌<◌, ◌∷◌, ◌++◌, List, true, false, set, get_or, arith, ap, ◌∙◌, sym, subst, ⊎_elim, []}
+use Rattle.std.proofs.Common.{ℕ, ◌≡◌, ◌≢◌, ◌<◌, List, false, set, get_or, arith, ap, ◌∙◌, sym, subst, []}
 use Rattle.std.proofs.lemmas.List.{get_or_default, get_or-set_other}
-use Rattle.std.proofs.lemmas.Bool.{cases_eq}
 use Rattle.afdx_plan.specs.declared.link_plan.LinkPlan.{LinkPlan}
-use Rattle.redundant_mux.specs.Entry.{entry}
-use Rattle.redundant_mux.specs.Logged.{logged_for}
 use Rattle.redundant_mux.specs.Lines.{Lines, BothEndure, stands_for}
-use Rattle.vl_shaper.specs.Pace.{Pace}
+use Rattle.vl_shaper.specs.Pace.{Pace, turn_of}
 use Rattle.vl_link.specs.declared.sub_vl.SubVl.{SubVl}
 use Rattle.vl_link.specs.Links.{Held, held_at, nothing_held, Passes, Gives, GivesFrame, IsPicked, PassedOver, AreSubsOf, IsSameSub, AreSameSubs, SendsNext, FailsNext, held_view}
 use Rattle.vl_link.specs.Turn.{IsChoice, NoneHas, Releases, Loses}
-use Rattle.afdx_frame.specs.declared.net.Net.TheVariants.{A}
-use Rattle.afdx_frame.specs.Header.{IsFrameOf}
-use Rattle.vl_shaper.specs.Pace.{turn_of}
-use Rattle.vl_link.proofs.Choosing.{held_same}
+use Rattle.vl_link.proofs.Choosing.{each_set, held_same}
 use Rattle.vl_shaper.proofs.Turns.{turn_below, turn_onto}
-use Rattle.vl_link.proofs.SubInStep.{asked_left, chosen_same, same_sub_here, same_sub_on}
+use Rattle.vl_link.proofs.SubInStep.{asked_left, chosen_same, same_sub_on}
 
 -- the chosen one, whatever the default of the index
 item_is : (pace : Pace) (old : List Held) (sub : ℕ) (mid : List Held) (d : Held) → IsPicked pace old sub mid
@@ -34,26 +28,18 @@ pub item_of : (pace : Pace) (plan : LinkPlan) (old : List Held) (sub : ℕ) (mid
     → IsPicked pace old sub mid → AreSubsOf plan old
     → ((get_or mid sub d).of.link ≡ plan) × ((get_or mid sub d).of.sub ≡ sub)
 item_of pace plan old sub mid d c n =
-    let same : (get_or mid sub d).of ≡ (held_at old sub).of =
-    ap (λ (h : Held). h.of) (item_is pace old sub mid d c) ∙ (chosen_same pace old sub mid c sub).of in
+    let same = ap (λ (h : Held). h.of) (item_is pace old sub mid d c) ∙ (chosen_same pace old sub mid c sub).of in
     let own = n sub c.below in
     (ap (λ (of : SubVl). of.link) same ∙ own.0, ap (λ (of : SubVl). of.sub) same ∙ own.1)
 
 -- all stay themselves where it becomes one that does
 pub set_same : (pace : Pace) (old : List Held) (sub : ℕ) (mid : List Held) (d h : Held)
     → IsPicked pace old sub mid → IsSameSub (get_or mid sub d) h → AreSameSubs old (set mid sub h)
-set_same pace old sub mid d h c e s = ⊎_elim
-    (λ (q : s ≡ sub).
-    let chosen : IsSameSub (held_at mid sub) h =
-    subst (λ (x : Held). IsSameSub x h) (item_is pace old sub mid d c) e in
-    let here : IsSameSub (held_at old sub) (held_at (set mid sub h) sub) =
-    subst (IsSameSub (held_at old sub)) (sym (held_same mid sub h (omega (arith, c.count, c.below))))
-    (same_sub_on (held_at old sub) (held_at mid sub) h (chosen_same pace old sub mid c sub) chosen) in
-    subst (λ (i : ℕ). IsSameSub (held_at old i) (held_at (set mid sub h) i)) (sym q) here)
-    (λ (ne : s ≢ sub).
-    same_sub_on (held_at old s) (held_at mid s) (held_at (set mid sub h) s) (chosen_same pace old sub mid c s)
-    (same_sub_here (held_at mid s) (held_at (set mid sub h) s) (get_or-set_other mid sub s h nothing_held ne)))
-    (cases_eq s sub)
+set_same pace old sub mid d h c e = each_set (λ s held. IsSameSub (held_at old s) held) mid sub h nothing_held
+    (omega (arith, c.count, c.below))
+    (same_sub_on (held_at old sub) (held_at mid sub) h (chosen_same pace old sub mid c sub)
+    (rw (item_is pace old sub mid d c) at e))
+    (λ s _. chosen_same pace old sub mid c s)
 
 -- the choice, once the chosen one became another that gave a frame
 chosen_gives : (pace : Pace) (old : List Held) (sub : ℕ) (mid : List Held) (h : Held) (frame : List ℕ)
@@ -67,16 +53,13 @@ chosen_gives pace old sub mid h frame c g = record {
   chosen = record {
     mid = held_at mid sub;
     asked = c.choice.chosen;
-    gives = subst (λ (x : Held). Gives (held_at mid sub) frame x)
-        (sym (held_same mid sub h (omega (arith, c.count, c.below)))) g;
+    gives = rw (held_same mid sub h (omega (arith, c.count, c.below))) g;
   };
   before = λ k lt.
-      let passed : Passes (held_at old (turn_of pace.sub_vls pace.last k)) (held_at mid (turn_of pace.sub_vls pace.last k)) =
-      c.choice.before k lt in
+      let passed = c.choice.before k lt in
       let ne : turn_of pace.sub_vls pace.last k ≢ sub = λ e. asked_left (held_at old sub) (held_at mid sub) c.choice.chosen
       (subst (λ (i : ℕ). (held_at mid i).left ≡ []) e (ap (λ (x : Held). x.left) passed.same ∙ passed.whole)) in
-      subst (Passes (held_at old (turn_of pace.sub_vls pace.last k)))
-      (sym (get_or-set_other mid sub (turn_of pace.sub_vls pace.last k) h nothing_held ne)) passed;
+      rw (get_or-set_other mid sub (turn_of pace.sub_vls pace.last k) h nothing_held ne) passed;
   others = λ s not.
       get_or-set_other mid sub s h nothing_held (λ e. not c.choice.turn (omega arith) (sym c.choice.is ∙ sym e))
       ∙ c.choice.others s not;
@@ -92,10 +75,9 @@ releases_at now number plan pace old sub mid d h lines after c n r endure =
       frame = r.frame;
       choice = chosen_gives pace old sub mid h r.frame c
           (subst (λ (x : Held). Gives x r.frame h) (item_is pace old sub mid d c) r.gives);
-      of = subst (λ (i : ℕ). IsFrameOf plan.id.0 i number A r.frame) own.1
-          (subst (λ (p : LinkPlan). IsFrameOf p.id.0 (get_or mid sub d).of.sub number A r.frame) own.0 r.of);
-      enters = subst (λ (p : LinkPlan). after.logged ≡ lines.logged ++ logged_for p.networks (entry now r.frame) ∷ []) own.0 r.enters;
-      stands = subst (λ (p : LinkPlan). stands_for p.networks after ≡ true) own.0 r.stands;
+      of = rw (own.0, own.1) at r.of;
+      enters = rw own.0 at r.enters;
+      stands = rw own.0 at r.stands;
       endure = endure;
     }
 

@@ -1,5 +1,5 @@
 -- Small facts on lists and fragments.
-use Rattle.std.proofs.Common.{ℕ, suc, ◌≡◌, ◌≢◌, ◌+◌, ◌-◌, List, [], ◌∷◌, length, map, arith, refl, ap, sym, subst, Bool, true, false, not, Some}
+use Rattle.std.proofs.Common.{ℕ, suc, ◌≡◌, ◌≢◌, ◌+◌, ◌-◌, List, [], ◌∷◌, length, map, arith, refl, ap, Bool, true, false, not, Some}
 use Rattle.std.specs.Prelude.{nat_le, if◌then◌else◌}
 use Rattle.afdx_plan.specs.Room.{room_of, step_of}
 use Rattle.afdx_frame.specs.Cutting.{Cutting, cut_by, cutting, pieces_from, pieces_left}
@@ -22,11 +22,11 @@ done_tells of cut false h = λ none. let e : false ≡ true =
 
 -- every cutting has a length
 cut_some : (turns room n : ℕ) → cut_by (suc turns) room n ≢ []
-cut_some turns room n = some (nat_le n room) (n ∷ []) (step_of room ∷ cut_by turns room (n - step_of room)) (λ e. cc) (λ e. cc)
+cut_some turns room n = some (nat_le n room)
   where
-    some : (b : Bool) (xs ys : List ℕ) → xs ≢ [] → ys ≢ [] → (if b then xs else ys) ≢ []
-    some true xs ys p q = p
-    some false xs ys p q = q
+    some : (b : Bool) → (if b then n ∷ [] else step_of room ∷ cut_by turns room (n - step_of room)) ≢ []
+    some true = λ e. cc
+    some false = λ e. cc
 
 -- each length gives a piece
 pieces_some : (start : ℕ) (lengths : List ℕ) → lengths ≢ [] → pieces_from start lengths ≢ []
@@ -38,7 +38,6 @@ pub fragments_some : (of : SubVl) (place : ℕ) (sent : Sent) → message_fragme
 unfolding fragments_at cutting
 fragments_some of place sent =
     let size : 8 + length sent.bytes ≡ suc (7 + length sent.bytes) = omega arith in
-    let lengths : cut_by (8 + length sent.bytes) (room_of of.link.lmax) (8 + length sent.bytes) ≢ [] =
-    subst (λ (n : ℕ). cut_by n (room_of of.link.lmax) (8 + length sent.bytes) ≢ []) (sym size)
-    (cut_some (7 + length sent.bytes) (room_of of.link.lmax) (8 + length sent.bytes)) in
+    let lengths : cut_by (8 + length sent.bytes) (room_of of.link.lmax) (8 + length sent.bytes) ≢ [] = rw size
+    (cut_some _ _ _) in
     λ none. pieces_some 0 _ lengths (map_nil _ _ none)

@@ -5,10 +5,8 @@ pub mod Closing
 pub mod SubInStep
 pub mod SubKept
 pub mod PaceOfStream
-pub mod OneMore
 pub mod ChosenSub
 pub mod TurnLaws
 pub mod LinkTurn
 pub mod ShownTurns
 pub mod MessageEnds
-pub mod ChoiceShown

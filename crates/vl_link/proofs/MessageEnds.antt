@@ -1,8 +1,8 @@
 -- Where a sub-VL's stream is the fragments of whole messages, no message of it is begun.
 use Rattle.std.proofs.Common.{ℕ, zero, suc, ◌≡◌, ◌+◌, ◌-◌, ◌*◌, ◌/◌, ◌<◌, ◌≤◌, List, [], ◌∷◌, ◌++◌, Bool, true, false, cond, eqb, nat_le, nat_lt, length, map, arith, refl, ap, ◌∙◌, sym, subst}
-use Rattle.std.specs.Prelude.{All, slice_index, if◌then◌else◌}
+use Rattle.std.specs.Prelude.{All, get_or, slice_index}
 use Rattle.std.proofs.lemmas.List.{get_or-take, length-take}
-use Rattle.std.proofs.lemmas.List.Elements.{All-head, All-tail}
+use Rattle.std.proofs.lemmas.List.Elements.{All-append, All-head, All-map, All-tail}
 use Rattle.std.proofs.lemmas.Bool.Decides.{nat_tests}
 use Rattle.afdx_plan.specs.Room.{step_of}
 use Rattle.afdx_plan.specs.declared.port_plan.PortPlan.{PortPlan}
@@ -24,10 +24,9 @@ abbrev pub ends_in : Bool → List (List ℕ) → Bool
 ends_in more [] = more
 ends_in more (frame ∷ frames) = ends_in (more_in frame) frames
 
--- frames that have the field of the flag
-abbrev AreLong : List (List ℕ) → Type 0
-AreLong [] = Unit {0}
-AreLong (frame ∷ frames) = (22 ≤ length frame) × AreLong frames
+-- a frame that has the field of the flag
+abbrev IsLong : List ℕ → Type 0
+IsLong frame = 22 ≤ length frame
 
 -- a message whose pieces start where the offset can tell it
 abbrev pub IsShort : Sent → Type 0
@@ -37,10 +36,6 @@ IsShort sent = length sent.bytes ≤ 8192
 ends_append : (more : Bool) (xs ys : List (List ℕ)) → ends_in more (xs ++ ys) ≡ ends_in (ends_in more xs) ys
 ends_append more [] ys = refl
 ends_append more (x ∷ xs) ys = ends_append (more_in x) xs ys
-
-long_append : (xs ys : List (List ℕ)) → AreLong xs → AreLong ys → AreLong (xs ++ ys)
-long_append [] ys h g = g
-long_append (x ∷ xs) ys h g = (h.0, long_append xs ys h.1 g)
 
 -- the flag of a piece's frame
 piece_field : (end_system : ℕ) (port : PortPlan) (message : List ℕ) (place : ℕ) (piece : Piece) (net : Net)
@@ -86,15 +81,7 @@ pieces_end end_system sent place net more start len (next ∷ rest) h =
 -- a cutting is no longer than what is cut
 cut_total : (turns room n : ℕ) → total (cut_by turns room n) ≤ n
 cut_total zero room n = omega arith
-cut_total (suc turns) room n = one (nat_le n room) (le-cases n room) (cut_total turns room (n - step_of room))
-  where
-    le-cases : (n room : ℕ) → nat_le n room ≡ false → room < n
-    le-cases n room e = grind (arith, nat_tests)
-
-    one : (t : Bool) → (t ≡ false → room < n) → total (cut_by turns room (n - step_of room)) ≤ n - step_of room
-        → total (if t then n ∷ [] else step_of room ∷ cut_by turns room (n - step_of room)) ≤ n
-    one true over h = omega arith
-    one false over h = let o : room < n = over refl in let le = step_le room in omega arith
+cut_total (suc turns) room n = grind (arith, nat_tests, cut_total turns room (n - step_of room), step_le room)
 
 -- the fragments of a message end with the last of its pieces
 message_end : (end_system room : ℕ) (net : Net) (place : ℕ) (sent : Sent) → IsShort sent
@@ -109,16 +96,14 @@ message_end end_system room net place sent short =
     one (len ∷ rest) h = pieces_end end_system sent place net false 0 len rest (omega arith)
 
 -- and have the field of the flag
-pieces_long : (end_system : ℕ) (sent : Sent) (place : ℕ) (net : Net) (pieces : List Piece)
-    → AreLong (map (λ piece. unnumbered end_system sent.port sent.bytes place piece net) pieces)
-pieces_long end_system sent place net [] = tt
-pieces_long end_system sent place net (piece ∷ pieces) =
-    (piece_long end_system sent.port sent.bytes place piece net, pieces_long end_system sent place net pieces)
-
-message_long : (end_system room : ℕ) (net : Net) (place : ℕ) (sent : Sent) → AreLong (fragments_at end_system room net place sent)
+message_long : (end_system room : ℕ) (net : Net) (place : ℕ) (sent : Sent)
+    → All IsLong (fragments_at end_system room net place sent)
 unfolding fragments_at
 message_long end_system room net place sent =
-    pieces_long end_system sent place net (pieces_from 0 (cutting room (8 + length sent.bytes)))
+    All-map IsLong (λ piece. unnumbered end_system sent.port sent.bytes place piece net)
+    (pieces_from 0 (cutting room (8 + length sent.bytes)))
+    (λ k d lt. piece_long end_system sent.port sent.bytes place
+    (get_or (pieces_from 0 (cutting room (8 + length sent.bytes))) k d) net)
 
 -- so do those of a list of messages
 fragments_end : (end_system room : ℕ) (net : Net) (place : ℕ) (messages : List Sent) → All IsShort messages
@@ -131,10 +116,10 @@ fragments_end end_system room net place (sent ∷ later) short =
     ∙ fragments_end end_system room net (suc place) later (All-tail IsShort sent later short)
 
 fragments_long : (end_system room : ℕ) (net : Net) (place : ℕ) (messages : List Sent)
-    → AreLong (fragments_from end_system room net place messages)
-fragments_long end_system room net place [] = tt
+    → All IsLong (fragments_from end_system room net place messages)
+fragments_long end_system room net place [] = λ k d lt. absurd (omega arith)
 fragments_long end_system room net place (sent ∷ later) =
-    long_append (fragments_at end_system room net place sent) _
+    All-append IsLong (fragments_at end_system room net place sent) _
     (message_long end_system room net place sent) (fragments_long end_system room net (suc place) later)
 
 -- a frame without its number says the same
@@ -146,11 +131,12 @@ more_blanked frame long =
     ∙ ap (λ (low : ℕ). 256 * slice_index frame 20 + low) (get_or-take (length frame - 1) frame 21 0 (omega arith)))
 
 -- and so do those of a stream
-ends_told : (more : Bool) (S : List Entry) → AreLong (told S)
+ends_told : (more : Bool) (S : List Entry) → All IsLong (told S)
     → ends_in more (told S) ≡ ends_in more (map (λ (e : Entry). e.frame) S)
 ends_told more [] long = refl
 ends_told more (e ∷ es) long =
-    ap (λ (t : Bool). ends_in t (told es)) (more_blanked e.frame long.0) ∙ ends_told (more_in e.frame) es long.1
+    ap (λ (t : Bool). ends_in t (told es)) (more_blanked e.frame (All-head IsLong _ _ long))
+    ∙ ends_told (more_in e.frame) es (All-tail IsLong _ _ long)
 
 -- whether a message of a sub-VL is begun, by the last of its entries
 begun_is : (begun : ℕ → Bool) (S : List Entry) (s : ℕ)
@@ -168,6 +154,6 @@ pub not_begun : (end_system room : ℕ) (net : Net) (S : List Entry) (s : ℕ) (
     → fragments_from end_system room net 0 messages ≡ told (sub_stream s S) → begun_by none_begun S s ≡ false
 not_begun end_system room net S s messages short e =
     begun_is none_begun S s
-    ∙ sym (ends_told false (sub_stream s S) (subst AreLong e (fragments_long end_system room net 0 messages)))
+    ∙ sym (ends_told false (sub_stream s S) (subst (All IsLong) e (fragments_long end_system room net 0 messages)))
     ∙ ap (ends_in false) (sym e)
     ∙ fragments_end end_system room net 0 messages short

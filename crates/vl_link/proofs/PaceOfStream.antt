@@ -4,16 +4,15 @@ use Rattle.std.proofs.lemmas.List.{length_push}
 use Rattle.afdx_plan.specs.Numbers.{sequence_number}
 use Rattle.afdx_plan.specs.declared.link_plan.LinkPlan.{LinkPlan}
 use Rattle.afdx_plan.specs.declared.networks.Networks.{Networks}
-use Rattle.afdx_frame.specs.Header.{link_in}
+use Rattle.afdx_frame.specs.Header.{link_in, IsFrameOf}
 use Rattle.redundant_mux.specs.Entry.{Entry, entry}
 use Rattle.redundant_mux.specs.Logged.{logged_for}
 use Rattle.redundant_mux.specs.Lines.{Lines, log}
 use Rattle.redundant_mux.proofs.MirroredLines.{log_more}
 use Rattle.vl_shaper.specs.declared.shaper.Stamp.{Stamp}
 use Rattle.vl_shaper.specs.Pace.{Pace}
-use Rattle.afdx_legal.specs.Streams.{stamp_of, latest, link_stream}
+use Rattle.afdx_legal.specs.Streams.{latest, link_stream}
 use Rattle.afdx_frame.specs.declared.net.Net.TheVariants.{A}
-use Rattle.afdx_frame.specs.Header.{IsFrameOf}
 use Rattle.vl_link.specs.Turn.{TurnView, Releases}
 use Rattle.vl_link.specs.Links.{pace_of}
 use Rattle.afdx_legal.proofs.LongerStream.{latest_push, with_push_in, with_push_out}
@@ -21,9 +20,7 @@ use Rattle.afdx_legal.proofs.LongerStream.{latest_push, with_push_in, with_push_
 -- a regulation is where a stream is by its last release and its next number
 pace_is : (pace : Pace) (stream : List Entry) → pace.last ≡ latest None stream
     → pace.next ≡ sequence_number (length stream) → pace ≡ pace_of pace.gap pace.sub_vls stream
-pace_is pace stream last next =
-    ap (λ (x : Option Stamp). record { gap = pace.gap; sub_vls = pace.sub_vls; last = x; next = pace.next }) last
-    ∙ ap (λ (x : ℕ). record { gap = pace.gap; sub_vls = pace.sub_vls; last = latest None stream; next = x }) next
+pace_is pace stream last next = λ i. record { gap = pace.gap; sub_vls = pace.sub_vls; last = last i; next = next i }
 
 -- the link's stream has the frame
 pub stream_entered : (vl now sub number : ℕ) (frame : List ℕ) (lines after : Lines) → IsFrameOf vl sub number A frame
@@ -56,10 +53,8 @@ pub follows_more : (plan : LinkPlan) (now sub number : ℕ) (old_pace new_pace :
     → new_pace ≡ pace_of new_pace.gap new_pace.sub_vls (link_stream plan.id.0 (log after))
 follows_more plan now sub number old_pace new_pace view lines after before r last next =
     let vl = plan.id.0 in
-    let more : link_stream plan.id.0 (log after) ≡ link_stream plan.id.0 (log lines) ++ entry now r.frame ∷ [] =
-    stream_more plan.id.0 now sub number plan.networks r.frame lines after r.of r.enters in
-    let stamp : stamp_of (entry now r.frame) ≡ record { at = now; sub = sub } =
-    ap (λ (s : ℕ). record { at = now; sub = s }) r.of.of_sub in
+    let more = stream_more plan.id.0 now sub number plan.networks r.frame lines after r.of r.enters in
+    let stamp = ap (λ (s : ℕ). record { at = now; sub = s }) r.of.of_sub in
     pace_is new_pace (link_stream vl (log after))
     (last ∙ ap Some (sym stamp) ∙ sym (ap (latest None) more ∙ latest_push None (link_stream vl (log lines)) (entry now r.frame)))
     (next (length (link_stream vl (log lines))) (ap (λ (x : Pace). x.next) before)

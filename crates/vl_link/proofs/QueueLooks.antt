@@ -25,10 +25,7 @@ same_nothing (gathered g) new f = subst (IsSameQueue (gathered g)) (sym f.1) (re
 -- and so is one from which a message was taken
 pub same_finds : (old : Seen) (message : ℕ × List ℕ) (new : Seen) → Finds old message new → IsSameQueue old new
 same_finds (receiving r) message new f = subst (IsSameQueue (receiving r)) (sym f) (refl, refl, refl, refl)
-same_finds (gathered g) message new f = subst (IsSameQueue (gathered g)) (sym f.2) (
-  refl,
-  append_assoc g.taken (message ∷ []) f.0 ∙ ap (λ (left : List (ℕ × List ℕ)). g.taken ++ left) (sym f.1),
-)
+same_finds (gathered g) message new f = rw f.2 (refl, append_assoc g.taken (message ∷ []) f.0 ∙ rw f.1 refl)
 
 -- where nothing was found, no more is known
 pub items_nothing : (n : ℕ) (old new : Seen) → FindsNothing old new → AreItems n (known_of old) → AreItems n (known_of new)
@@ -40,10 +37,7 @@ pub items_finds : (n : ℕ) (old : Seen) (message : ℕ × List ℕ) (new : Seen
     → AreItems n (known_of old) → AreItems n (known_of new)
 items_finds n (receiving r) message new f item items =
     subst (λ (seen : Seen). AreItems n (known_of seen)) (sym f) (All-push (IsItem n) r.taken message items item)
-items_finds n (gathered g) message new f item items =
-    subst (λ (seen : Seen). AreItems n (known_of seen)) (sym f.2)
-    (subst (AreItems n) (sym (append_assoc g.taken (message ∷ []) f.0
-    ∙ ap (λ (left : List (ℕ × List ℕ)). g.taken ++ left) (sym f.1))) items)
+items_finds n (gathered g) message new f item items = rw (f.2, append_assoc g.taken (message ∷ []) f.0, ← f.1) items
 
 -- a message of a port is one of more ports
 pub item_of_more : (few many : ℕ) (item : ℕ × List ℕ) → few ≤ many → IsItem few item → IsItem many item
@@ -53,9 +47,8 @@ item_of_more few many item le own = record { port = (let below = own.port in ome
 pub items_whole : (n : ℕ) (old new : Seen) → ports_of old ≤ n → BecomesWhole old new → AreItems n (known_of new)
 items_whole n (receiving old) (gathered new) many b =
     All-weaker (IsItem old.ports) (IsItem n) (λ item own. item_of_more old.ports n item many own) (known_of (gathered new)) b.2
-items_whole n (receiving old) (receiving new) many b = absurd b
 items_whole n (gathered old) (gathered new) many b = absurd b
-items_whole n (gathered old) (receiving new) many b = absurd b
+items_whole n old new many b = absurd b
 
 -- what was taken is of the ports that all that is known is of
 pub items_taken : (n : ℕ) (seen : Seen) → AreItems n (known_of seen) → AreItems n (taken_of seen)
@@ -72,34 +65,30 @@ same_here (gathered g) = (refl, refl)
 pub same_on : (a b c : Seen) → IsSameQueue a b → IsSameQueue b c → IsSameQueue a c
 same_on (receiving a) (receiving b) (receiving c) p q = (q.0 ∙ p.0, q.1 ∙ p.1, q.2 ∙ p.2, q.3 ∙ p.3)
 same_on (gathered a) (gathered b) (gathered c) p q = (q.0 ∙ p.0, q.1 ∙ p.1)
-same_on (receiving a) (gathered b) c p q = absurd p
-same_on (gathered a) (receiving b) c p q = absurd p
 same_on (receiving a) (receiving b) (gathered c) p q = absurd q
 same_on (gathered a) (gathered b) (receiving c) p q = absurd q
+same_on a b c p q = absurd p
 
 -- the same queue has as many ports
 pub same_ports : (old new : Seen) → IsSameQueue old new → ports_of new ≡ ports_of old
 same_ports (receiving r) (receiving s) e = e.2
 same_ports (gathered g) (gathered h) e = e.0
-same_ports (receiving r) (gathered h) e = absurd e
-same_ports (gathered g) (receiving s) e = absurd e
+same_ports old new e = absurd e
 
 -- and the same name
 pub same_name : (old new : Seen) → IsSameQueue old new → queue_of new ≡ queue_of old
 same_name (receiving r) (receiving s) e = ap Some e.0
 same_name (gathered g) (gathered h) e = refl
-same_name (receiving r) (gathered h) e = absurd e
-same_name (gathered g) (receiving s) e = absurd e
+same_name old new e = absurd e
 
 -- and is closed or not as before
 pub same_total : (old new : Seen) → IsSameQueue old new → total_of new ≡ total_of old
 same_total (receiving r) (receiving s) e = e.3
 same_total (gathered g) (gathered h) e = refl
-same_total (receiving r) (gathered h) e = absurd e
-same_total (gathered g) (receiving s) e = absurd e
+same_total old new e = absurd e
 
 -- while ports may send, they may send on
 pub still_receiving : (old new : Seen) → IsSameQueue old new → IsReceiving old → IsReceiving new
 still_receiving (receiving r) (receiving s) e i = tt
 still_receiving (gathered g) new e i = absurd i
-still_receiving (receiving r) (gathered h) e i = absurd e
+still_receiving old new e i = absurd e

@@ -1,6 +1,6 @@
 -- A stream that shows choices takes turns.
 use Rattle.std.proofs.Common.{ℕ, ◌≡◌, ◌≢◌, ◌+◌, ◌<◌, ◌≤◌, List, [], ◌∷◌, ◌++◌, Bool, true, false, cond, eqb, length, arith, refl, ap, ◌∙◌, sym, subst, ⊎_elim, Option, Some, None}
-use Rattle.std.specs.Prelude.{count_by}
+use Rattle.std.specs.Prelude.{count_by, All}
 use Rattle.std.proofs.lemmas.List.Sums.{sum_by-cons}
 use Rattle.std.proofs.lemmas.Bool.{cases_eq, eq-eqb, ne_eqb}
 use Rattle.afdx_frame.specs.Header.{sub_in}
@@ -10,9 +10,20 @@ use Rattle.vl_shaper.specs.Pace.{turn_of, IsBelow}
 use Rattle.vl_shaper.specs.declared.shaper.Stamp.{Stamp}
 use Rattle.vl_shaper.proofs.OneEach.{turn_cases, one_each_holds}
 use Rattle.vl_shaper.proofs.Turns.{turn_below}
-use Rattle.afdx_legal.specs.Streams.{stamp_of, latest, sub_stream}
+use Rattle.afdx_legal.specs.Streams.{stamp_of, latest, sub_stream, link_stream, told}
 use Rattle.afdx_legal.specs.Turns.{more_in, before_next, TakesTurns}
-use Rattle.vl_link.specs.Shown.{begun_after, begun_by, shown_choice, ShowsChoices}
+use Rattle.vl_link.specs.Shown.{begun_after, begun_by, shown_choice, ShowsChoices, none_begun}
+use Rattle.std.proofs.lemmas.List.{append-nil}
+use Rattle.std.proofs.lemmas.List.Elements.{All-map}
+use Rattle.afdx_plan.specs.Room.{room_of}
+use Rattle.afdx_frame.specs.declared.net.Net.TheVariants.{A}
+use Rattle.redundant_mux.specs.Lines.{Lines, log}
+use Rattle.vl_link.specs.Seen.{taken_of}
+use Rattle.vl_link.specs.Turn.{Releases}
+use Rattle.vl_link.specs.Links.{Held, LinkState, held_at, held_view, HasOwnItems, IsLinkOfPlan, Passes, sent_of, taken_by}
+use Rattle.vl_link.specs.Kept.{IsLinkTied}
+use Rattle.vl_link.proofs.QueueLooks.{items_taken}
+use Rattle.vl_link.proofs.MessageEnds.{IsShort, not_begun}
 
 -- the chosen sub-VL is one of the link's
 pub chosen_below : (subs : ℕ) (last : Option Stamp) (begun : ℕ → Bool) (sub : ℕ)
@@ -39,14 +50,8 @@ shows_push subs last begun (x ∷ xs) e h c = (h.0, shows_push subs (Some (stamp
 pub turns_differ : (subs : ℕ) (last : Option Stamp) (j k : ℕ) → IsBelow subs last → j < subs → k < subs
     → turn_of subs last j ≡ turn_of subs last k → j ≡ k
 turns_differ subs None j k below jl kl e = e
-turns_differ subs (Some last) j k below jl kl e = ⊎_elim
-    (λ t. let t0 = t.0 in let t1 = t.1 in ⊎_elim
-    (λ u. let u0 = u.0 in let u1 = u.1 in omega arith)
-    (λ u. let u0 = u.0 in let u1 = u.1 in omega arith) (turn_cases subs last.sub k below kl))
-    (λ t. let t0 = t.0 in let t1 = t.1 in ⊎_elim
-    (λ u. let u0 = u.0 in let u1 = u.1 in omega arith)
-    (λ u. let u0 = u.0 in let u1 = u.1 in omega arith) (turn_cases subs last.sub k below kl))
-    (turn_cases subs last.sub j below jl)
+turns_differ subs (Some last) j k below jl kl e =
+    grind (arith, turn_cases subs last.sub j below jl, turn_cases subs last.sub k below kl)
 
 -- the choices that the entries before the next one of a sub-VL show
 record ShowsPassed (subs last x y : ℕ) (entries : List Entry) : Type 0 where
@@ -85,9 +90,8 @@ shows_passed subs x y last begun (e ∷ es) is h = ⊎_elim
     (λ (q : sub_in e.frame ≡ x). subst (λ (t : Bool). ShowsPassed subs last.sub x y (cond t [] (e ∷ before_next x es)))
     (sym (eq-eqb _ _ q)) (shows_none subs last.sub x y))
     (λ (ne : sub_in e.frame ≢ x).
-    let still : begun_after begun e x ≡ true = ap (λ (t : Bool). cond t (more_in e.frame) (begun x)) (ne_eqb _ _ ne) ∙ is in
-    let r : ShowsPassed subs (sub_in e.frame) x y (before_next x es) =
-    shows_passed subs x y (stamp_of e) (begun_after begun e) es still h.1 in
+    let still = ap (λ (t : Bool). cond t (more_in e.frame) (begun x)) (ne_eqb (sub_in e.frame) x ne) ∙ is in
+    let r = shows_passed subs x y (stamp_of e) (begun_after begun e) es still h.1 in
     subst (λ (t : Bool). ShowsPassed subs last.sub x y (cond t [] (e ∷ before_next x es))) (sym (ne_eqb _ _ ne))
     (record {
       choices = shown_choice begun (sub_in e.frame) ∷ r.choices;
@@ -103,12 +107,57 @@ pub takes_turns : (subs : ℕ) (last : Option Stamp) (begun : ℕ → Bool) (S :
 takes_turns subs last begun [] h = tt
 takes_turns subs last begun (e ∷ es) h = (
   λ more other.
-      let x : ℕ = sub_in e.frame in
-      let on : begun_after begun e (sub_in e.frame) ≡ true =
-      ap (λ (t : Bool). cond t (more_in e.frame) (begun (sub_in e.frame))) (eq-eqb (sub_in e.frame) (sub_in e.frame) refl) ∙ more in
-      let s : ShowsPassed subs (sub_in e.frame) (sub_in e.frame) other (before_next (sub_in e.frame) es) =
-      shows_passed subs (sub_in e.frame) other (stamp_of e) (begun_after begun e) es on h.1 in
+      let x = sub_in e.frame in
+      let on = ap (λ (t : Bool). cond t (more_in e.frame) (begun x)) (eq-eqb x x refl) ∙ more in
+      let s = shows_passed subs x other (stamp_of e) (begun_after begun e) es on h.1 in
       subst (λ (n : ℕ). n ≤ 1) s.count
-      (one_each_holds subs (sub_in e.frame) other s.choices (chosen_below subs last begun (sub_in e.frame) h.0) s.chosen s.passed),
+      (one_each_holds subs x other s.choices (chosen_below subs last begun x h.0) s.chosen s.passed),
   takes_turns subs (Some (stamp_of e)) (begun_after begun e) es h.1,
 )
+
+-- the messages that a sub-VL took have room in the offset
+taken_short : (held : Held) → HasOwnItems held → All IsShort (taken_by held)
+taken_short held items = All-map IsShort (sent_of held.ports) (taken_of held.seen)
+    (λ j d lt. (items_taken (length held.ports) held.seen items j d lt).message.most)
+
+-- a sub-VL that was passed over has no message begun
+passed_whole : (link : LinkState) (new : Held) (log : List Entry) (s : ℕ) → IsLinkTied link log → s < link.plan.sub_vls
+    → HasOwnItems (held_at link.subs s) → Passes (held_at link.subs s) new
+    → begun_by none_begun (link_stream link.plan.id.0 log) s ≡ false
+passed_whole link new log s tied lt items p =
+    let held = held_at link.subs s in
+    let stream = link_stream link.plan.id.0 log in
+    not_begun held.of.end_system (room_of held.of.link.lmax) A stream s (taken_by held) (taken_short held items)
+    (tied s lt ∙ ap (λ (left : List (List ℕ)). told (sub_stream s stream) ++ left) p.whole
+    ∙ append-nil (told (sub_stream s stream)))
+
+-- The released frame is of the sub-VL that was chosen, as its link's stream shows it.
+pub choice_shown : (now number : ℕ) (link : LinkState) (sub : ℕ) (news : List Held) (lines after : Lines)
+    (at : Releases now link.plan link.pace (held_view link.subs news) sub number lines after)
+    → IsLinkOfPlan link.end_system link.plan link.pace link.subs → IsLinkTied link (log lines)
+    → ((s : ℕ) → s < length link.subs → HasOwnItems (held_at link.subs s))
+    → link.pace.last ≡ latest None (link_stream link.plan.id.0 (log lines))
+    → ShowsChoices link.pace.sub_vls None none_begun (link_stream link.plan.id.0 (log lines))
+    → IsChosen link.pace.sub_vls (turn_of link.pace.sub_vls (latest None (link_stream link.plan.id.0 (log lines))))
+    (shown_choice (begun_by none_begun (link_stream link.plan.id.0 (log lines))) (sub_in at.frame))
+choice_shown now number link sub news lines after at own tied items last shown =
+    let stream = link_stream link.plan.id.0 (log lines) in
+    let begun = begun_by none_begun stream in
+    let turn = turn_of link.pace.sub_vls link.pace.last in
+    let below = last_below link.pace.sub_vls None none_begun stream tt shown in
+    rw (← last) (record {
+      turn = at.choice.turn;
+      within = at.choice.within;
+      is = at.of.of_sub ∙ at.choice.is;
+      had = rw (eq-eqb (sub_in at.frame) (sub_in at.frame) refl) refl;
+      before = λ k lt.
+          let inside : k < link.pace.sub_vls = let within = at.choice.within in omega arith in
+          let within = turn_below link.pace.sub_vls link.pace.last k inside in
+          let differs : turn k ≢ sub_in at.frame = λ e.
+          let same = turns_differ link.pace.sub_vls link.pace.last k at.choice.turn
+          (subst (IsBelow link.pace.sub_vls) (sym last) below)
+          inside at.choice.within (e ∙ at.of.of_sub ∙ at.choice.is) in omega arith in
+          rw (ne_eqb (turn k) (sub_in at.frame) differs)
+          (passed_whole link (held_at news (turn k)) (log lines) (turn k) tied (let s = own.sub_vls in omega arith)
+          (items (turn k) (let c = own.count in omega arith)) (at.choice.before k lt));
+    })

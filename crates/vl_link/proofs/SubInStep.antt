@@ -1,19 +1,17 @@
 -- A sub-VL that was asked or gave a frame, against its stream.
-use Rattle.std.proofs.Common.{ℕ, ◌≡◌, ◌≢◌, ◌+◌, List, [], ◌∷◌, ◌++◌, true, false, length, arith, refl, ap, ◌∙◌, sym, subst, inl, inr, ⊎_elim}
+use Rattle.std.proofs.Common.{ℕ, ◌≡◌, ◌≢◌, List, [], ◌∷◌, ◌++◌, true, length, arith, refl, ap, ◌∙◌, sym, subst, inl, inr, ⊎_elim}
 use Rattle.std.proofs.lemmas.Bool.{cases_eq}
 use Rattle.std.proofs.lemmas.List.{append-nil, append_assoc, map-append, length-map}
 use Rattle.afdx_plan.specs.Room.{room_of}
-use Rattle.afdx_plan.specs.declared.port_plan.PortPlan.{PortPlan}
 use Rattle.afdx_frame.specs.declared.net.Net.TheVariants.{A}
 use Rattle.afdx_frame.specs.Fragments.{Sent, blanked}
 use Rattle.afdx_frame.proofs.FragmentLemmas.{fragments_more}
 use Rattle.redundant_mux.specs.Entry.{Entry, entry}
 use Rattle.vl_shaper.specs.Pace.{Pace}
-use Rattle.subvl_queue.specs.Messages.{AreItems}
 use Rattle.vl_link.specs.declared.sub_vl.SubVl.{SubVl}
-use Rattle.vl_link.specs.Seen.{taken_of, known_of}
+use Rattle.vl_link.specs.Seen.{taken_of}
 use Rattle.afdx_legal.specs.Streams.{told, IsPrefixOf}
-use Rattle.vl_link.specs.Links.{Held, held_at, HasOwnItems, GoesOn, Starts, Passes, Asks, IsPicked, PassedOver, Gives, IsSameSub, AreSameSubs, sub_fragments, message_fragments, sent_of, sent_by, taken_by}
+use Rattle.vl_link.specs.Links.{Held, held_at, GoesOn, Starts, Asks, IsPicked, PassedOver, Gives, IsSameSub, AreSameSubs, sub_fragments, message_fragments, sent_of, taken_by}
 use Rattle.vl_link.specs.Kept.{IsTied}
 use Rattle.vl_link.proofs.Choosing.{Moves, moves_passed}
 use Rattle.vl_link.proofs.TurnLaws.{choice_other}
@@ -40,38 +38,22 @@ same_sub_on a b c p q =
       items = λ i. q.items (p.items i);
     }
 
--- where nothing was found, nothing more is known
-items_pass : (old new : Held) → Passes old new → HasOwnItems old → HasOwnItems new
-items_pass old new p items =
-    subst HasOwnItems (sym p.same) (items_nothing (length old.ports) old.seen new.seen p.nothing items)
-
--- what was found is of the sub-VL's ports too
-items_start : (old new : Held) → Starts old new → HasOwnItems old → HasOwnItems new
-items_start old new s items =
-    subst (λ (ports : List PortPlan). AreItems (length ports) (known_of new.seen)) (sym s.ports)
-    (items_finds (length old.ports) old.seen s.message new.seen s.finds s.item items)
-
 -- a sub-VL that is asked stays itself
 pub moves_of : (old new : Held) → Moves old new → IsSameSub old new
-moves_of old new m = ⊎_elim
-    (λ (p : Passes old new). record {
-      of = ap (λ (h : Held). h.of) p.same;
-      ports = ap (λ (h : Held). h.ports) p.same;
-      queue = same_nothing old.seen new.seen p.nothing;
-      items = items_pass old new p;
-    })
-    (λ m1. ⊎_elim
-    (λ a. ⊎_elim
-    (λ (g : GoesOn old new). same_sub_here old new g.same)
-    (λ (s : Starts old new). record {
-      of = s.of;
-      ports = s.ports;
-      queue = same_finds old.seen s.message new.seen s.finds;
-      items = items_start old new s;
-    })
-    a)
-    (λ (e : new ≡ old). same_sub_here old new e) m1)
-    m
+moves_of old new (inl p) = rw p.same (record {
+  of = refl;
+  ports = refl;
+  queue = same_nothing old.seen new.seen p.nothing;
+  items = items_nothing (length old.ports) old.seen new.seen p.nothing;
+})
+moves_of old new (inr (inl (inl g))) = same_sub_here old new g.same
+moves_of old new (inr (inl (inr s))) = record {
+  of = s.of;
+  ports = s.ports;
+  queue = same_finds old.seen s.message new.seen s.finds;
+  items = λ items. rw s.ports (items_finds (length old.ports) old.seen s.message new.seen s.finds s.item items);
+}
+moves_of old new (inr (inr e)) = same_sub_here old new e
 
 -- sub-VLs that were passed over stay themselves
 pub passed_same : (pace : Pace) (old new : List Held) (n : ℕ) → PassedOver pace old new n → AreSameSubs old new
@@ -82,10 +64,7 @@ moves_chosen : (pace : Pace) (old : List Held) (sub : ℕ) (new : List Held) →
     → (s : ℕ) → Moves (held_at old s) (held_at new s)
 moves_chosen pace old sub new c s = ⊎_elim
     (λ (e : s ≡ sub). inr (inl (subst (λ (i : ℕ). Asks true (held_at old i) (held_at new i)) (sym e) c.choice.chosen)))
-    (λ (ne : s ≢ sub). ⊎_elim (λ (p : Passes (held_at old s) (held_at new s)). inl p)
-    (λ (e : held_at new s ≡ held_at old s). inr (inr e))
-    (choice_other pace (λ i. Asks true (held_at old i) (held_at new i)) (λ i. Asks false (held_at old i) (held_at new i))
-    (λ i. held_at new i ≡ held_at old i) sub c.choice s ne))
+    (λ (ne : s ≢ sub). ⊎_elim (λ p. inl p) (λ e. inr (inr e)) (choice_other pace _ _ _ sub c.choice s ne))
     (cases_eq s sub)
 
 -- sub-VLs of which one was chosen stay themselves
@@ -95,16 +74,13 @@ chosen_same pace old sub new c s = moves_of (held_at old s) (held_at new s) (mov
 
 -- and so does one that gave its next frame
 pub gave_same : (frame : List ℕ) (old new : Held) → Gives old frame new → IsSameSub old new
-gave_same frame old new g =
-    subst (IsSameSub old) (sym g.same) (record { of = refl; ports = refl; queue = same_here old.seen; items = λ i. i })
+gave_same frame old new g = rw g.same (record { of = refl; ports = refl; queue = same_here old.seen; items = λ i. i })
 
 -- the fragments of one message more
 fragments_push : (of : SubVl) (xs : List Sent) (m : Sent)
     → sub_fragments of 0 (xs ++ m ∷ []) ≡ sub_fragments of 0 xs ++ message_fragments of (length xs) m
-fragments_push of xs m =
-    let place : 0 + length xs ≡ length xs = omega arith in
-    fragments_more xs of.end_system (room_of of.link.lmax) A 0 m
-    ∙ ap (λ (p : ℕ). sub_fragments of 0 xs ++ message_fragments of p m) place
+fragments_push of xs m = fragments_more xs of.end_system (room_of of.link.lmax) A 0 m
+    ∙ ap (λ (p : ℕ). sub_fragments of 0 xs ++ message_fragments of p m) (omega arith)
 
 -- what was told begins the fragments of what was taken
 pub prefix_of : (held : Held) (stream : List Entry) → IsTied held stream
@@ -114,32 +90,17 @@ prefix_of held stream t = (held.left, sym t)
 -- a sub-VL that began its next message is where its stream is
 tied_starts : (old new : Held) (stream : List Entry) → Starts old new → IsTied old stream → IsTied new stream
 tied_starts old new stream p t =
-    let sent : Sent = sent_of old.ports p.message in
-    ap (λ (of : SubVl). sub_fragments of 0 (taken_by new)) p.of
-    ∙ ap (λ (ports : List PortPlan). sub_fragments old.of 0 (sent_by ports (taken_of new.seen))) p.ports
-    ∙ ap (λ (items : List (ℕ × List ℕ)). sub_fragments old.of 0 (sent_by old.ports items))
-    (taken_finds old.seen p.message new.seen p.finds)
-    ∙ ap (sub_fragments old.of 0) (map-append (sent_of old.ports) (taken_of old.seen) (p.message ∷ []))
+    rw (p.of, p.ports, p.left, taken_finds old.seen p.message new.seen p.finds)
+    (ap (sub_fragments old.of 0) (map-append (sent_of old.ports) (taken_of old.seen) (p.message ∷ []))
     ∙ fragments_push old.of (taken_by old) (sent_of old.ports p.message)
-    ∙ ap (λ (n : ℕ). sub_fragments old.of 0 (taken_by old) ++ message_fragments old.of n (sent_of old.ports p.message))
-    (length-map (taken_of old.seen) (sent_of old.ports))
-    ∙ ap (λ (x : List (List ℕ)). x ++ message_fragments old.of (length (taken_of old.seen)) (sent_of old.ports p.message))
-    (t ∙ ap (λ (x : List (List ℕ)). told stream ++ x) p.whole ∙ append-nil (told stream))
-    ∙ ap (λ (x : List (List ℕ)). told stream ++ x) (sym p.left)
+    ∙ rw (length-map (taken_of old.seen) (sent_of old.ports), t, p.whole, append-nil (told stream)) refl)
 
 -- a sub-VL that was asked is where its stream is
 pub tied_moves : (old new : Held) (stream : List Entry) → Moves old new → IsTied old stream → IsTied new stream
-tied_moves old new stream m t = ⊎_elim
-    (λ (p : Passes old new).
-    let before : IsTied (record old { seen = new.seen }) stream =
-    ap (λ (items : List (ℕ × List ℕ)). sub_fragments old.of 0 (sent_by old.ports items))
-    (taken_nothing old.seen new.seen p.nothing) ∙ t in
-    subst (λ (h : Held). IsTied h stream) (sym p.same) before)
-    (λ m1. ⊎_elim
-    (λ a. ⊎_elim (λ (g : GoesOn old new). subst (λ (h : Held). IsTied h stream) (sym g.same) t)
-    (λ (p : Starts old new). tied_starts old new stream p t) a)
-    (λ (e : new ≡ old). subst (λ (h : Held). IsTied h stream) (sym e) t) m1)
-    m
+tied_moves old new stream (inl p) t = rw (p.same, taken_nothing old.seen new.seen p.nothing) t
+tied_moves old new stream (inr (inl (inl g))) t = rw g.same t
+tied_moves old new stream (inr (inl (inr p))) t = tied_starts old new stream p t
+tied_moves old new stream (inr (inr e)) t = rw e t
 
 -- the fragments of what a sub-VL took
 abbrev pub shown : Held → List (List ℕ)
@@ -153,9 +114,5 @@ gave_shown frame old new g = ap shown g.same
 pub tied_gave : (now : ℕ) (frame : List ℕ) (old new : Held) (stream : List Entry)
     → Gives old frame new → IsTied old stream → IsTied new (stream ++ entry now frame ∷ [])
 tied_gave now frame old new stream g t =
-    gave_shown frame old new g
-    ∙ t
-    ∙ ap (λ (x : List (List ℕ)). told stream ++ x) g.next
-    ∙ sym (append_assoc (told stream) (blanked frame ∷ []) new.left)
-    ∙ ap (λ (x : List (List ℕ)). x ++ new.left)
-    (sym (map-append (λ (e : Entry). blanked e.frame) stream (entry now frame ∷ [])))
+    gave_shown frame old new g ∙ t ∙ ap (λ (x : List (List ℕ)). told stream ++ x) g.next
+    ∙ sym (rw (map-append (λ (e : Entry). blanked e.frame) stream, append_assoc (told stream)) refl)

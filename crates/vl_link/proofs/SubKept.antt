@@ -1,22 +1,23 @@
 -- What the fields of a sub-VL keep over a look into its queue.
-use Rattle.std.proofs.Common.{ℕ, ◌≡◌, ◌≤◌, ◌∙◌, ◌+◌, ◌%◌, List, [], ◌∷◌, length, Option, Some, ap, sym, subst, arith}
+use Rattle.std.proofs.Common.{ℕ, ◌≡◌, ◌+◌, ◌%◌, List, [], ◌∷◌, Option, Some, arith}
 use Rattle.std.proofs.lemmas.List.{length-append}
 use Rattle.afdx_plan.specs.declared.port_plan.PortPlan.{PortPlan}
 use Rattle.afdx_frame.specs.Cutting.{Cutting}
 use Rattle.vl_link.specs.declared.sub_vl.SubVl.{SubVl}
-use Rattle.vl_link.specs.Seen.{Seen, taken_of, FindsNothing, Finds}
+use Rattle.vl_link.specs.Seen.{Seen, taken_of, ports_of, Finds}
 use Rattle.vl_link.specs.Subs.{IsSub, IsCutOf}
-use Rattle.vl_link.proofs.QueueLooks.{same_nothing, same_finds, same_ports, taken_nothing, taken_finds}
+use Rattle.vl_link.proofs.QueueLooks.{same_finds, same_ports, taken_finds}
 
--- a look that found nothing
-pub kept_nothing : (of : SubVl) (ports : List PortPlan) (sending : Option Cutting) (old new : Seen) (place : ℕ)
-    → IsSub of ports sending old place → FindsNothing old new → IsSub of ports sending new place
-kept_nothing of ports sending old new place h none = record {
+-- a queue of as many ports, of which as much was taken
+pub kept_as : (of : SubVl) (ports : List PortPlan) (sending : Option Cutting) (old new : Seen) (place : ℕ)
+    → IsSub of ports sending old place → ports_of new ≡ ports_of old → taken_of new ≡ taken_of old
+    → IsSub of ports sending new place
+kept_as of ports sending old new place h many taken = record {
   link = h.link;
   senders = h.senders;
-  count = subst (λ (n : ℕ). n ≤ length ports) (sym (same_ports old new (same_nothing old new none))) h.count;
+  count = rw many h.count;
   sending_is = h.sending_is;
-  place = h.place ∙ ap (λ (taken : List (ℕ × List ℕ)). length taken % 16384) (sym (taken_nothing old new none));
+  place = rw taken h.place;
 }
 
 -- a message was found, and is cut: the next place is one on
@@ -26,11 +27,8 @@ pub kept_finds : (of : SubVl) (ports : List PortPlan) (sending : Option Cutting)
 kept_finds of ports sending cut old new place message h finds own = record {
   link = h.link;
   senders = h.senders;
-  count = subst (λ (n : ℕ). n ≤ length ports) (sym (same_ports old new (same_finds old message new finds))) h.count;
+  count = rw (same_ports old new (same_finds old message new finds)) h.count;
   sending_is = own;
-  place =
-      let taken = taken_finds old message new finds in
-      let more : length (taken_of new) ≡ length (taken_of old) + 1 =
-      ap length taken ∙ length-append (taken_of old) (message ∷ []) in
-      let place = h.place in omega arith;
+  place = let place = h.place in rw (taken_finds old message new finds)
+      (omega (arith, length-append (taken_of old) (message ∷ [])));
 }

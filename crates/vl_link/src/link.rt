@@ -299,6 +299,7 @@ impl Link {
     }
 
     /// Closes the queue of one of its sub-VLs, and says how many messages were accepted, for good.
+    #[tactic(auto, using(std::proofs::lemmas::Grind::common_steps))]
     pub fn close(&mut self, sub: u8) -> u64
         requires within { sub < length self.old.subs }
         requires receiving { IsReceiving (held_at self.old.subs sub).seen }
@@ -309,6 +310,7 @@ impl Link {
 
     /// The sender of the next port of a sub-VL, which may ask `calls` times. Where memory is refused
     /// nothing has changed.
+    #[tactic(auto, using(std::proofs::lemmas::Grind::common_steps))]
     pub fn new_sender(&mut self, sub: u8, calls: u64) -> Result<Sender, AllocError>
         requires within { sub < length self.old.subs }
         requires lacks { LacksSender (held_at self.old.subs sub) }
@@ -320,6 +322,7 @@ impl Link {
     }
 
     /// Takes a sender of a sub-VL's queue back.
+    #[tactic(auto, using(std::proofs::lemmas::Grind::common_steps))]
     pub fn take_back(&mut self, sub: u8, sender: Sender)
         requires within { sub < length self.old.subs }
         requires own { queue_of (held_at self.old.subs sub).seen ≡ Some sender.queue }
@@ -329,6 +332,7 @@ impl Link {
     }
 
     /// Gathers the queue of each sub-VL, all of whose senders are back.
+    #[tactic(auto, using(std::proofs::lemmas::Grind::common_steps))]
     pub fn gather(&mut self)
         requires full { AreFullSubs self.old.subs }
         ensures { GathersLink self.old self.new }

@@ -14,7 +14,7 @@ use Rattle.afdx_tx.specs.Ports.{PortView, BelongsTo, HasOwnMessages, queue_for, 
 use Rattle.afdx_tx.specs.Gathering.{OnlyTakeBack, IsTakenBack}
 use Rattle.afdx_tx.proofs.SoundEmitter.{count_is}
 use Rattle.afdx_tx.proofs.OpenedPorts.{queue_at_is}
-use Rattle.afdx_tx.proofs.GatheredEmitter.{shape_of}
+use Rattle.afdx_tx.proofs.PortMessages.{sub_within}
 use Rattle.afdx_tx.proofs.TakenBack.{take_none, take_one, take_on, back_name, stays_back, comes_back}
 use Rattle.afdx_tx.proofs.gather.take_back_all.Goals as goal
 
@@ -23,12 +23,12 @@ belongs : (config : Plan) (queues : List (List (Option QueueName))) (all now res
     → ((p : PortView) → Contains now p → Contains all p) → All (BelongsTo config queues) all → BelongsTo config queues port
 belongs config queues all now rest port is inside opened =
     All-contains (BelongsTo config queues) all port opened
-    (inside port (subst (λ (l : List PortView). Contains l port) (sym is) (Contains-push rest port)))
+    (inside port (rw is (Contains-push rest port)))
 
 -- so what is said at its place is said of it
 plan_of : (config : Plan) (queues : List (List (Option QueueName))) (port : PortView) (place : ℕ) (plan : PortPlan) → BelongsTo config queues port
     → place ≡ port.place → plan ≡ port_plan_at config.ports place → plan ≡ port.plan
-plan_of config queues port place plan own at is = is ∙ ap (port_plan_at config.ports) at ∙ sym own.plan
+plan_of config queues port place plan own at is = is ∙ rw at (sym own.plan)
 
 -- its queue is that of its sub-VL
 queue_is : (config : Plan) (old now : List LinkState) (port : PortView) (plan : PortPlan) (k : ℕ) → BelongsTo config (queues_in old) port
@@ -48,9 +48,8 @@ one_step : (config : Plan) (now rest : List PortView) (links : List LinkState) (
     → Contains now other ⊎ IsTakenBack config links other → Contains rest other ⊎ IsTakenBack config (set links k new) other
 one_step config now rest links k s new port other is within link sub takes messages h = ⊎_elim
     (λ there. ⊎_elim inl
-    (λ (same : port ≡ other). inr (subst (IsTakenBack config (set links k new)) same
-    (comes_back config links k s new port within link sub takes messages)))
-    (Contains-push_cases rest port other (subst (λ (l : List PortView). Contains l other) is there)))
+    (λ (same : port ≡ other). inr (rw (← same) (comes_back config links k s new port within link sub takes messages)))
+    (Contains-push_cases rest port other (rw is at there)))
     (λ was. inr (stays_back config links k s port.sender new other within takes was))
     h
 
@@ -66,19 +65,18 @@ pub port_at-plan-requires : goal.port_at-plan-requires
 port_at-plan-requires c =
     let own = belongs c.args.config.now (queues_in c.args.links.now) c.args.ports.items c.loop-port.ports.items c.pop.new.self.items
     c.in-Some.port c.in-Some.ensures.items c.loop-port.invariant.inside c.requires.opened in
-    subst (λ (place : ℕ). place < length c.args.config.now.ports) (sym c.place.ensures) own.within
+    rw c.place.ensures own.within
 
 pub take_back-requires-clause-within : goal.take_back-requires-clause-within
 take_back-requires-clause-within c =
     let k = c.link_of-link.result in
     let links = c.loop-port.links in
     let takes = c.loop-port.invariant.same in
-    let shape = shape_of c.args.config.now c.args.links.now c.requires.of_plan in
     let within : c.link_of-link.result < length c.loop-port.links =
-    let link = c.link_of-link.ensures.within in omega (arith, takes.count, shape.count) in
-    subst (λ (l : LinkState). c.port_at-plan.result.sub < length l.subs)
-    (sym (get_or_default links k c.index-links-link.result no_link within))
-    (let sub = c.link_of-link.ensures.over.sub in omega (arith, takes.subs k, shape.subs k c.link_of-link.ensures.within))
+    let link = c.link_of-link.ensures.within in omega (arith, takes.count, count_is c.args.config.now c.args.links.now c.requires.of_plan) in
+    let sub = sub_within c.args.config.now c.args.links.now c.requires.of_plan k c.port_at-plan.result.sub
+    (let count = takes.count in omega arith) c.link_of-link.ensures.over.sub in
+    rw (get_or_default links k c.index-links-link.result no_link within) (omega (arith, sub, takes.subs k))
 
 pub take_back-requires-clause-own : goal.take_back-requires-clause-own
 take_back-requires-clause-own c =
@@ -112,13 +110,11 @@ loop-port-preserved c =
     let items = c.in-Some.ensures.items in
     let own = belongs config (queues_in c.args.links.now) c.args.ports.items c.loop-port.ports.items rest port items old.inside c.requires.opened in
     let plan = plan_of config (queues_in c.args.links.now) port c.place.result c.port_at-plan.result own c.place.ensures c.port_at-plan.ensures.value in
-    let takes : LinkTakesBack (link_at c.loop-port.links c.link_of-link.result) c.port_at-plan.result.sub c.in-Some.port.sender c.take_back.new.self =
-    subst (λ (x : SenderView). LinkTakesBack (link_at links k) s x new) c.into_sender.ensures.sender
-    (subst (λ (l : LinkState). LinkTakesBack l s c.into_sender.result new)
-    (get_or_default links k c.index-links-link.result no_link within) c.take_back.ensures) in
+    let takes = rw (c.into_sender.ensures.sender, get_or_default links k c.index-links-link.result no_link within) at
+    c.take_back.ensures in
     record {
       same = take_on c.args.links.now links (set links k new) old.same (take_one links k s port.sender new within takes);
-      inside = λ p has. old.inside p (subst (λ (l : List PortView). Contains l p) (sym items) (Contains-append_left rest (port ∷ []) p has));
+      inside = λ p has. old.inside p (rw items (Contains-append_left rest (port ∷ []) p has));
       each = All-weaker _ _ (λ p h. one_step config c.loop-port.ports.items rest links k s new port p items within
           (c.link_of-link.ensures.value ∙ ap (link_place config) plan) (ap (λ (q : PortPlan). q.sub) plan) takes c.into_sender.ensures.messages h)
           c.args.ports.items old.each;

@@ -1,9 +1,7 @@
-use Rattle.std.proofs.Common.{◌≡◌, ◌+◌, ◌<◌, List, [], length, get_or, arith, ap, ◌∙◌, sym, subst}
+use Rattle.std.proofs.Common.{◌<◌, List, [], length, get_or, arith, ap, ◌∙◌}
 use Rattle.std.proofs.lemmas.List.{get_or_default}
 use Rattle.afdx_plan.specs.declared.link_plan.LinkPlan.{LinkPlan}
-use Rattle.afdx_plan.specs.Config.{link_plan_at}
-use Rattle.vl_link.specs.Links.{LinkState, no_link_plan}
-use Rattle.afdx_tx.specs.Emitter.{IsOpenedLink, AreOpenedLinks}
+use Rattle.vl_link.specs.Links.{no_link_plan}
 use Rattle.afdx_tx.proofs.OpenedPorts.{links_push}
 use Rattle.afdx_tx.proofs.open.open_links.Goals as goal
 
@@ -13,11 +11,9 @@ loop-plan-preserved c =
     let k = c.loop-plan.plan-index in
     let within : c.loop-plan.plan-index < length c.args.config.now.links = let r =
     c.loop-plan-test.true in omega (arith, ap length c.links-plans.ensures.plan) in
-    let plan : c.plan-item.result ≡ link_plan_at c.args.config.now.links c.loop-plan.plan-index =
-    c.plan-item.is ∙ ap (λ (links : List LinkPlan). get_or links c.loop-plan.plan-index c.plan-item.result)
+    let plan = c.plan-item.is ∙ ap (λ (links : List LinkPlan). get_or links c.loop-plan.plan-index c.plan-item.result)
     c.links-plans.ensures.plan
     ∙ get_or_default c.args.config.now.links c.loop-plan.plan-index c.plan-item.result no_link_plan within in
-    let opened : IsOpenedLink config.end_system config.ports [] (link_plan_at config.links k) c.in_ok-open_link.field-0 =
-    subst (λ (p : LinkPlan). IsOpenedLink config.end_system config.ports [] p c.in_ok-open_link.field-0) plan c.in_ok-open_link.ensures in
-    subst (λ (links : List LinkState). AreOpenedLinks config [] links (k + 1)) (sym c.in_ok-push.ensures.items)
-    (links_push config [] c.loop-plan.links.items k c.in_ok-open_link.field-0 c.loop-plan.invariant opened)
+    rw c.in_ok-push.ensures.items (links_push config [] c.loop-plan.links.items k c.in_ok-open_link.field-0
+    c.loop-plan.invariant
+    (rw plan at c.in_ok-open_link.ensures))

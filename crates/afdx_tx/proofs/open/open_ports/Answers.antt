@@ -1,14 +1,12 @@
-use Rattle.std.proofs.Common.{ℕ, ◌≡◌, ◌<◌, List, [], ◌∷◌, ◌++◌, length, take, get_or, refl, arith, ap, ◌∙◌, sym, subst, below_more}
-use Rattle.std.proofs.lemmas.List.{get_or_default, get_or_append_left, get_or_push, length-append}
+use Rattle.std.proofs.Common.{ℕ, ◌≡◌, ◌<◌, [], ◌∷◌, length, refl, arith, ap, ◌∙◌, sym, subst}
+use Rattle.std.proofs.lemmas.List.{get_or_default, length-append}
 use Rattle.std.proofs.Math.Seq.{take-length}
-use Rattle.afdx_plan.specs.declared.port_plan.PortPlan.{PortPlan}
 use Rattle.subvl_queue.specs.Messages.{most_calls}
-use Rattle.vl_link.specs.Links.{LinkState, link_at, held_at, no_link}
-use Rattle.vl_link.specs.LinkSenders.{LacksSender, LinkMakesSender}
-use Rattle.afdx_tx.specs.Emitter.{queues_in, AreOpenedLinks}
-use Rattle.afdx_tx.specs.Ports.{PortView, IsFreshPort}
-use Rattle.afdx_tx.proofs.PortSeats.{IsAt, place_at}
-use Rattle.afdx_tx.proofs.OpenedPorts.{lacks_at, opened_more, names_more, fresh_port}
+use Rattle.vl_link.specs.Links.{no_link}
+use Rattle.afdx_tx.specs.Emitter.{queues_in}
+use Rattle.afdx_tx.specs.Ports.{IsFreshPort}
+use Rattle.afdx_tx.proofs.PortSeats.{place_at}
+use Rattle.afdx_tx.proofs.OpenedPorts.{each_push, lacks_at, opened_more, names_more, fresh_port}
 use Rattle.afdx_tx.proofs.open.open_ports.Goals as goal
 
 pub new_sender-requires-clause-lacks : goal.new_sender-requires-clause-lacks
@@ -17,13 +15,11 @@ new_sender-requires-clause-lacks c =
     let place = c.loop-place.place in
     let k = c.link_of-link.result in
     let s = c.port_at-plan.result.sub in
-    let at : IsAt c.args.config.now c.loop-place.place c.link_of-link.result c.port_at-plan.result.sub =
-    place_at config config place k s c.port_at-plan.result refl c.port_at-plan.ensures.value
+    let at = place_at config config place k s c.port_at-plan.result refl c.port_at-plan.ensures.value
     (let test = c.loop-place-test.true in omega (arith, ap length c.ports-place-end.ensures.plan))
     c.link_of-link.ensures.within c.link_of-link.ensures.over refl in
     let lacks = lacks_at config c.loop-place.links place k s c.port_at-plan.ensures.valid at c.loop-place.invariant.opened in
-    subst (λ (l : LinkState). LacksSender (held_at l.subs c.port_at-plan.result.sub))
-    (sym (get_or_default c.loop-place.links k c.index-links-link.result no_link lacks.0)) lacks.2
+    rw (get_or_default c.loop-place.links k c.index-links-link.result no_link lacks.0) lacks.2
 
 pub loop-place-preserved : goal.loop-place-preserved
 loop-place-preserved c =
@@ -33,43 +29,33 @@ loop-place-preserved c =
     let k = c.link_of-link.result in
     let s = c.port_at-plan.result.sub in
     let old = c.loop-place.invariant in
-    let at : IsAt c.args.config.now c.loop-place.place c.link_of-link.result c.port_at-plan.result.sub =
-    place_at config config place k s c.port_at-plan.result refl c.port_at-plan.ensures.value
+    let at = place_at config config place k s c.port_at-plan.result refl c.port_at-plan.ensures.value
     (let test = c.loop-place-test.true in omega (arith, ap length c.ports-place-end.ensures.plan))
     c.link_of-link.ensures.within c.link_of-link.ensures.over refl in
     let valid = c.port_at-plan.ensures.valid in
     let lacks = lacks_at config links place k s valid at old.opened in
     let sender = c.in_ok-sender.sender in
     let new = c.new_sender.new.self in
-    let makes : LinkMakesSender (link_at c.loop-place.links c.link_of-link.result) c.port_at-plan.result.sub most_calls c.in_ok-sender.sender
-    c.new_sender.new.self =
-    subst (λ (l : LinkState). LinkMakesSender l s most_calls sender new)
-    (get_or_default links k c.index-links-link.result no_link lacks.0) c.in_ok-sender.ensures.sender in
+    let makes = rw (get_or_default links k c.index-links-link.result no_link lacks.0) at
+    c.in_ok-sender.ensures.sender in
     let names = names_more links k s most_calls sender new lacks.0 makes in
-    let fresh : IsFreshPort config (queues_in links) place c.new.result =
-    subst (IsFreshPort config (queues_in links) place) (sym c.new.ensures)
-    (fresh_port config links place k s c.port_at-plan.result sender new at old.opened makes c.port_at-plan.ensures.value
-    c.link_of-link.ensures.value refl) in
-    let pushed : c.push.new.self.items ≡ c.loop-place.ports.items ++ c.new.result ∷ [] = c.in_ok-push.ensures.items in
+    let fresh = fresh_port config links place k s c.port_at-plan.result sender new at old.opened makes
+    c.port_at-plan.ensures.value
+    c.link_of-link.ensures.value refl in
+    let pushed = c.in_ok-push.ensures.items in
     record {
       opened = opened_more config links place k s most_calls sender new valid at old.opened makes;
       count = let many = old.count in omega (arith, ap length pushed, length-append c.loop-place.ports.items (c.new.result ∷ []));
-      each = λ m d lt. subst (λ (queues : List _). IsFreshPort config queues m (get_or c.push.new.self.items m d)) (sym names)
-          (subst (λ (ports : List PortView). IsFreshPort config (queues_in links) m (get_or ports m d)) (sym pushed)
-          (below_more (λ (i : ℕ). IsFreshPort config (queues_in links) i (get_or (c.loop-place.ports.items ++ c.new.result ∷ []) i d)) place
-          (λ i below. subst (IsFreshPort config (queues_in links) i)
-          (sym (get_or_append_left c.loop-place.ports.items (c.new.result ∷ []) d i (let many = old.count in omega arith))) (old.each i d below))
-          (subst (IsFreshPort config (queues_in links) place)
-          (sym (get_or_push c.loop-place.ports.items c.new.result d place old.count)) fresh)
-          m lt));
+      each = λ m d lt. rw (names, pushed) (each_push (λ i port. IsFreshPort config (queues_in links) i port)
+          c.loop-place.ports.items
+          c.new.result d place old.count (λ i below. old.each i d below) (rw c.new.ensures fresh) m lt);
     }
 
 pub returns-clause-links : goal.returns-clause-links
 returns-clause-links c =
     let all : c.loop-place.place ≡ length c.args.config.now.ports = let past = c.loop-place-test.false in
     let end = c.loop-place.auto.place-end in omega (arith, ap length c.ports-place-end.ensures.plan) in
-    subst (λ (first : List PortPlan). AreOpenedLinks c.args.config.now first c.loop-place.links (length c.args.config.now.links))
-    (ap (λ (n : ℕ). take n c.args.config.now.ports) all ∙ take-length c.args.config.now.ports) c.loop-place.invariant.opened
+    rw (all, take-length c.args.config.now.ports) at c.loop-place.invariant.opened
 
 pub returns-clause-ports : goal.returns-clause-ports
 returns-clause-ports c =

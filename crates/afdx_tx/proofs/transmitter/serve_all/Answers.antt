@@ -1,14 +1,9 @@
-use Rattle.std.proofs.Common.{◌++◌, ◌≡◌, ◌<◌, ◌∙◌, ap, sym, length, subst, get_or, arith, true, false}
+use Rattle.std.proofs.Common.{◌++◌, ◌≡◌, ◌<◌, ◌∙◌, ap, sym, length, get_or, arith}
 use Rattle.std.proofs.lemmas.Bool.{and_parts}
 use Rattle.std.proofs.lemmas.List.{get_or_default, set-get_or}
 use Rattle.afdx_plan.specs.declared.identifiers.VlId.{VlId}
 use Rattle.afdx_plan.specs.declared.link_plan.LinkPlan.{LinkPlan}
-use Rattle.vl_shaper.specs.Pace.{IsLater}
-use Rattle.redundant_mux.specs.Lines.{log}
-use Rattle.afdx_legal.specs.Streams.{link_stream}
-use Rattle.vl_link.specs.Links.{LinkState, link_at, no_link, pace_of}
-use Rattle.vl_link.specs.Turn.{may_release}
-use Rattle.vl_link.proofs.LinkTurn.{Turned}
+use Rattle.vl_link.specs.Links.{link_at, no_link}
 use Rattle.afdx_tx.specs.declared.report.Release.{Release}
 use Rattle.afdx_tx.specs.Report.{turn_release}
 use Rattle.arrayvec.specs.ArrayVec.{ArrayVec}
@@ -20,7 +15,7 @@ use Rattle.afdx_tx.proofs.transmitter.serve_all.Goals.{then-may_release, else-ma
 
 -- the place is one of a link
 within : (g : Given.Over) (c : goal.Joined-may_release g) → c.loop-link.link-index < length c.loop-link.links
-within g c = let q = c.loop-link.invariant.serving.steady.same.count in let r = c.loop-link-test.true in omega arith
+within g c = let q = c.loop-link.invariant.steady.same.count in let r = c.loop-link-test.true in omega arith
 
 -- the link that was asked is the one at that place
 asked : (g : Given.Over) (c : goal.Joined-may_release g)
@@ -36,11 +31,10 @@ loop-link-init g c =
 
 pub may_release-requires : goal.may_release-requires
 may_release-requires g c =
-    let s = c.loop-link.invariant.serving.steady in
+    let s = c.loop-link.invariant.steady in
     let lt : c.loop-link.link-index < length c.loop-link.links =
     let q = s.same.count in let r = c.loop-link-test.true in omega arith in
-    subst (λ (l : LinkState). IsLater l.pace.last c.args.now)
-    (sym (get_or_default c.loop-link.links c.loop-link.link-index c.link-item.result no_link lt))
+    rw (get_or_default c.loop-link.links c.loop-link.link-index c.link-item.result no_link lt)
     (s.later c.loop-link.link-index lt)
 
 pub serve-did-requires-clause-may : goal.serve-did-requires-clause-may
@@ -48,16 +42,13 @@ serve-did-requires-clause-may g c = sym c.may_release.ensures ∙ c.if-may_relea
 
 pub serve-did-requires-clause-paced : goal.serve-did-requires-clause-paced
 serve-did-requires-clause-paced g c =
-    let s = c.loop-link.invariant.serving in
+    let s = c.loop-link.invariant in
     let i = c.loop-link.link-index in
     let lt : c.loop-link.link-index < length c.loop-link.links =
     let q = s.steady.same.count in let r = c.loop-link-test.true in omega arith in
     let is = get_or_default c.loop-link.links i c.link-item.result no_link lt in
-    let may : may_release c.args.now (link_at c.loop-link.links i).plan (link_at c.loop-link.links i).pace c.loop-link.mux ≡ true =
-    subst (λ (l : LinkState). may_release c.args.now l.plan l.pace c.loop-link.mux ≡ true) is
-    (sym c.may_release.ensures ∙ c.if-may_release.true) in
-    subst (λ (l : LinkState). l.pace ≡ pace_of l.pace.gap l.pace.sub_vls (link_stream l.plan.id.0 (log c.loop-link.mux))) (sym is)
-    ((s.steady.kept i lt).paced (s.whole i lt (and_parts _ _ may).1))
+    let may = rw is at (sym c.may_release.ensures ∙ c.if-may_release.true) in
+    rw is ((s.steady.kept i lt).paced (s.whole i lt (and_parts _ _ may).1))
 
 pub loop-link-preserved : goal.loop-link-preserved
 loop-link-preserved g c =
@@ -68,24 +59,18 @@ loop-link-preserved g c =
     elim c.if-may_release.branch [
       | then-may_release w ↦
           let e = w.serve-did.ensures in
-          let may : may_release c.args.now (link_at links i).plan (link_at links i).pace c.loop-link.mux ≡ true =
-          subst (λ (l : LinkState). may_release c.args.now l.plan l.pace c.loop-link.mux ≡ true) (asked g c)
-          (sym c.may_release.ensures ∙ w.if-may_release.true) in
-          let turned : Turned c.args.now (link_at links i) w.serve-did.new.self c.loop-link.mux w.serve-did.new.mux w.serve-did.result =
-          turned_at _ _ links _ _ _ _ _ (asked g c) lt p.serving.steady.later (p.serving.whole i lt (and_parts _ _ may).1)
+          let may = rw (asked g c) at (sym c.may_release.ensures ∙ w.if-may_release.true) in
+          let turned = turned_at _ _ links _ _ _ _ _ (asked g c) lt p.steady.later (p.whole i lt (and_parts _ _ may).1)
           e.serves e.paced e.same e.lost e.counted in
-          let names : w.note.new.released.items ≡ c.loop-link.released.items
-          ++ turn_release (link_at links i).plan.id w.serve-did.result =
-          w.note.ensures ∙ ap (λ (v : VlId). c.loop-link.released.items ++ turn_release v w.serve-did.result)
+          let names = w.note.ensures ∙ ap (λ (v : VlId). c.loop-link.released.items ++ turn_release v
+          w.serve-did.result)
           (w.id.ensures ∙ ap (λ (plan : LinkPlan). plan.id) turned.same.plan) in
           polling_is _ _ _ _ _ _ _ _ _ _ w.links-is w.mux-is
           (ap (λ (v : ArrayVec Release). v.items) w.released-is ∙ names)
           (polling_more c.args.now i c.args.links.now links c.args.mux.now c.loop-link.mux w.serve-did.new.mux
           w.serve-did.new.self w.serve-did.result c.loop-link.released.items p c.requires.apart lt turned e.later e.endure)
       | else-may_release w ↦
-          let no : may_release c.args.now (link_at links i).plan (link_at links i).pace c.loop-link.mux ≡ false =
-          subst (λ (l : LinkState). may_release c.args.now l.plan l.pace c.loop-link.mux ≡ false) (asked g c)
-          (sym c.may_release.ensures ∙ w.if-may_release.false) in
+          let no = rw (asked g c) at (sym c.may_release.ensures ∙ w.if-may_release.false) in
           polling_is _ _ _ _ _ _ _ _ _ _ (w.links-is ∙ set-get_or links i c.link-item.result) w.mux-is
           (ap (λ (v : ArrayVec Release). v.items) w.released-is)
           (polling_on c.args.now i c.args.links.now links c.args.mux.now c.loop-link.mux c.loop-link.released.items p lt no)

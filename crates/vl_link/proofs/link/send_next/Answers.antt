@@ -1,10 +1,8 @@
-use Rattle.std.proofs.Common.{ℕ, ◌≡◌, ◌∙◌, [], ◌∷◌, ◌++◌, Some, true, false, ap, sym, subst}
-use Rattle.afdx_plan.specs.declared.networks.Networks.{Networks}
+use Rattle.std.proofs.Common.{◌∙◌, sym}
 use Rattle.afdx_frame.specs.declared.net.Net.TheVariants.{A}
 use Rattle.afdx_frame.proofs.Twins.{twin_same}
 use Rattle.redundant_mux.specs.Entry.{entry}
 use Rattle.redundant_mux.specs.Logged.{logged_for}
-use Rattle.redundant_mux.specs.Lines.{stands_for}
 use Rattle.redundant_mux.proofs.MirroredLines.{log_more}
 use Rattle.vl_link.proofs.SubInStep.{gave_same}
 use Rattle.vl_link.proofs.link.send_next.Goals as goal
@@ -18,12 +16,10 @@ returns-then-stands_for-clause-released g c =
     let stands = sym c.stands_for.ensures ∙ c.if-stands_for.true in
     record {
       frame = c.write_next.new.out.items;
-      enters = subst (λ (n : Networks). c.hand-standing.new.self.logged
-          ≡ c.args.mux.now.logged ++ logged_for n (entry c.args.now c.write_next.new.out.items) ∷ []) c.networks-networks.ensures
-          (c.hand-standing.ensures.enters stands);
+      enters = rw (← c.networks-networks.ensures) (c.hand-standing.ensures.enters stands);
       of = e.frame;
       gives = record { next = e.left; same = e.same };
-      stands = subst (λ (n : Networks). stands_for n c.hand-standing.new.self ≡ true) c.networks-networks.ensures stands;
+      stands = rw (← c.networks-networks.ensures) stands;
     }
 
 pub returns-else-stands_for-clause-lost : goal.returns-else-stands_for-clause-lost
@@ -34,7 +30,7 @@ returns-else-stands_for-clause-lost g c =
       frame = c.write_next.new.out.items;
       gives = record { next = e.left; same = e.same };
       same = c.hand-standing.ensures.lost down;
-      down = subst (λ (n : Networks). stands_for n c.hand-standing.new.self ≡ false) c.networks-networks.ensures down;
+      down = rw (← c.networks-networks.ensures) down;
     }
 
 pub returns-then-stands_for-clause-enters : goal.returns-then-stands_for-clause-enters
@@ -47,15 +43,7 @@ returns-then-stands_for-clause-same g c =
     let e = c.write_next.ensures in
     gave_same c.write_next.new.out.items c.args.sub.now c.write_next.new.self (record { next = e.left; same = e.same })
 
-pub returns-then-stands_for-clause-last : goal.returns-then-stands_for-clause-last
-returns-then-stands_for-clause-last g c =
-    c.stamp-number.ensures.last ∙ ap (λ (s : ℕ). Some (record { at = c.args.now; sub = s })) c.index.ensures
-
 pub returns-else-stands_for-clause-same : goal.returns-else-stands_for-clause-same
 returns-else-stands_for-clause-same g c =
     let e = c.write_next.ensures in
     gave_same c.write_next.new.out.items c.args.sub.now c.write_next.new.self (record { next = e.left; same = e.same })
-
-pub returns-else-stands_for-clause-last : goal.returns-else-stands_for-clause-last
-returns-else-stands_for-clause-last g c =
-    c.stamp-number.ensures.last ∙ ap (λ (s : ℕ). Some (record { at = c.args.now; sub = s })) c.index.ensures

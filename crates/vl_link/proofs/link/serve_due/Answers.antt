@@ -1,11 +1,7 @@
-use Rattle.std.proofs.Common.{ℕ, get_or, Some, ◌∙◌, ap, sym, subst, refl, inr}
+use Rattle.std.proofs.Common.{ℕ, Some, ◌∙◌, ap, sym, refl, inr}
 use Rattle.std.proofs.lemmas.Bool.{and_parts}
-use Rattle.afdx_plan.specs.declared.link_plan.LinkPlan.{LinkPlan}
-use Rattle.afdx_frame.specs.declared.net.Net.TheVariants.{A}
-use Rattle.afdx_frame.specs.Header.{IsFrameOf}
 use Rattle.std.proofs.lemmas.List.{append-nil}
 use Rattle.redundant_mux.specs.Lines.{log}
-use Rattle.redundant_mux.proofs.Enduring.{both_none}
 use Rattle.redundant_mux.proofs.MirroredLines.{log_same}
 use Rattle.afdx_legal.specs.Streams.{link_stream}
 use Rattle.vl_link.proofs.SubInStep.{passed_same}
@@ -58,22 +54,11 @@ pub returns-in-Some-send_next-clause-same : goal.returns-in-Some-send_next-claus
 returns-in-Some-send_next-clause-same g c =
     set_same _ _ _ _ c.index-subs-sub.result _ c.in-Some.ensures.chosen c.in-Some-send_next.ensures.same
 
-pub returns-in-None-clause-paced : goal.returns-in-None-clause-paced
-returns-in-None-clause-paced g c = c.requires.paced
-
-pub returns-in-None-send_next-clause-paced : goal.returns-in-None-send_next-clause-paced
-returns-in-None-send_next-clause-paced g c = tt
-
-pub returns-in-None-clause-endure : goal.returns-in-None-clause-endure
-returns-in-None-clause-endure g c = both_none c.args.mux.now
-
 pub returns-in-Some-send_next-clause-entered : goal.returns-in-Some-send_next-clause-entered
 returns-in-Some-send_next-clause-entered g c =
     let own = item_of _ c.args.plan.now _ _ _ c.index-subs-sub.result c.in-Some.ensures.chosen c.requires.named in
-    let of = subst (λ (p : LinkPlan). IsFrameOf p.id.0 (get_or c.choose.new.subs c.in-Some.sub c.index-subs-sub.result).of.sub
-    c.in-Some-send_next.number A c.send_next.new.frame.items) own.0 c.in-Some-send_next.ensures.frame in
-    stream_entered c.args.plan.now.id.0 c.args.now (get_or c.choose.new.subs c.in-Some.sub c.index-subs-sub.result).of.sub
-    c.in-Some-send_next.number c.send_next.new.frame.items c.args.mux.now c.send_next.new.mux of c.in-Some-send_next.ensures.enters
+    stream_entered c.args.plan.now.id.0 c.args.now _ c.in-Some-send_next.number c.send_next.new.frame.items _ _
+    (rw own.0 at c.in-Some-send_next.ensures.frame) c.in-Some-send_next.ensures.enters
 
 pub returns-in-None-send_next-clause-entered : goal.returns-in-None-send_next-clause-entered
 returns-in-None-send_next-clause-entered g c =

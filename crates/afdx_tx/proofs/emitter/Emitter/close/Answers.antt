@@ -1,13 +1,10 @@
-use Rattle.std.proofs.Common.{◌≡◌, subst, rules}
-use Rattle.afdx_tx.specs.Emitter.{Tx, queues_in}
+use Rattle.std.proofs.Common.{rules}
 use Rattle.afdx_tx.proofs.ClosedEmitter.{answered_queues}
 use Rattle.afdx_tx.proofs.emitter.Emitter.close.Goals as goal
 
 pub returns-clause-queues : goal.returns-clause-queues
 returns-clause-queues g c =
-    subst (λ (t : Tx). queues_in c.close.new.self.links ≡ queues_in t.links) c.self.view_is
-    (answered_queues c.close.result c.self.inside.inner c.args.vl.0 c.args.sub c.close.new.self c.close.ensures.unchanged
-    c.close.ensures.closed)
+    rw (← c.self.view_is) (answered_queues c.close.result _ _ _ _ c.close.ensures.unchanged c.close.ensures.closed)
 
 -- at half of its limits the search proves this only where it is asked for it
 pub invariant_of-self : goal.invariant_of-self

@@ -1,7 +1,7 @@
-use Rattle.std.proofs.Common.{◌≡◌, ◌∙◌, ◌<◌, length, arith, subst}
+use Rattle.std.proofs.Common.{◌∙◌, ◌<◌, length, arith, subst}
 use Rattle.std.proofs.lemmas.Grind.{common_steps}
 use Rattle.std.proofs.lemmas.List.{get_or_default}
-use Rattle.vl_link.specs.Links.{LinkState, link_at, no_link}
+use Rattle.vl_link.specs.Links.{LinkState, no_link}
 use Rattle.vl_link.specs.Closing.{ClosesLink}
 use Rattle.afdx_tx.proofs.SoundEmitter.{count_is}
 use Rattle.afdx_tx.proofs.KeptLinks.{kept_sound}
@@ -20,8 +20,7 @@ invariant_of-self g c =
     let at = c.in-Some.ensures.some in
     let within : c.in-Some.place < length c.self.inside.links.items.items =
     let below = at.within in omega (arith, count_is c.self.inside.config c.self.inside.links.items.items c.self.invariant.0.of_plan) in
-    let here : c.index_mut.result.now ≡ link_at c.self.inside.links.items.items c.in-Some.place =
-    c.index_mut.ensures.value ∙ get_or_default links c.in-Some.place c.index_mut.result.now no_link within in
+    let here = c.index_mut.ensures.value ∙ get_or_default links c.in-Some.place c.index_mut.result.now no_link within in
     let kept = closed_kept links _ (links_closed links c.in-Some.place c.args.sub c.close.result c.close.new.self
     (subst (λ (l : LinkState). ClosesLink l c.args.sub c.close.result c.close.new.self) here c.close.ensures) within) in (
       kept_sound c.self.inside.config links _ c.self.inside.mux c.self.inside.moment kept c.self.invariant.0,

@@ -1,7 +1,6 @@
 use Rattle.std.proofs.Common.{◌<◌, List, length, refl, ap, ◌∙◌, subst, arith}
 use Rattle.status_board.specs.History.{NoFieldFalls}
 use Rattle.status_board.specs.Views.{Published, published, last_of, with_entry}
-use Rattle.vl_link.specs.Links.{LinkState}
 use Rattle.afdx_tx.specs.Emitter.{Tx, IsSound}
 use Rattle.afdx_tx.specs.Publishing.{Reaches, PublishesCounts, Publishes}
 use Rattle.afdx_tx.proofs.SoundEmitter.{count_is, sound_counts}
@@ -27,20 +26,5 @@ publishes old board sound reaches p =
 
 pub returns : goal.returns
 returns g c =
-    let inside = c.self.inside in
-    subst (λ (t : Tx). Publishes t (record {
-      plan = c.self.inside.config;
-      links = c.self.inside.links.items.items;
-      lines = c.self.inside.mux;
-      moment = c.self.inside.moment;
-      board = c.publish_all.new.board;
-    })) c.self.view_is
-    (publishes (record {
-      plan = inside.config;
-      links = inside.links.items.items;
-      lines = inside.mux;
-      moment = inside.moment;
-      board = inside.board;
-    }) c.publish_all.new.board c.self.invariant.0 c.self.invariant.1
-    (subst (λ (ls : List LinkState). PublishesCounts ls inside.board c.publish_all.new.board) c.deref.ensures.value
-    c.publish_all.ensures.counts))
+    rw (← c.self.view_is) (publishes _ c.publish_all.new.board c.self.invariant.0 c.self.invariant.1
+    (rw c.deref.ensures.value at c.publish_all.ensures.counts))

@@ -1,5 +1,4 @@
-use Rattle.std.proofs.Common.{sym, ap, ◌∙◌, subst, arith}
-use Rattle.std.proofs.lemmas.Grind.{common_steps}
+use Rattle.std.proofs.Common.{sym, ap, ◌∙◌, subst}
 use Rattle.vl_link.specs.Links.{LinkState}
 use Rattle.vl_link.specs.LinkGathering.{AreFullSubs}
 use Rattle.vl_link.proofs.link.Link.gather.Goals as goal
@@ -7,6 +6,3 @@ use Rattle.vl_link.proofs.link.Link.gather.Goals as goal
 pub gather_subs-requires : goal.gather_subs-requires
 gather_subs-requires c =
     record { full = subst AreFullSubs (ap (λ (l : LinkState). l.subs) (sym c.self.view_is) ∙ sym c.deref_mut.ensures.value) c.requires.full }
-
-pub returns : goal.returns
-returns c = grind (arith, common_steps)
