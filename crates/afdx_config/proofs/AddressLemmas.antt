@@ -1,7 +1,6 @@
 -- A text that writes four numbers is read as them.
-use Rattle.std.proofs.Common.{◌≡◌, ℕ, ◌<◌, Bool, true, false, List, [], ◌∷◌, ◌++◌, map, Some, None, refl, ap, sym, subst, ◌∙◌, arith, append_assoc, eq-eqb}
+use Rattle.std.proofs.Common.{◌≡◌, ℕ, ◌<◌, inl, inr, Bool, true, false, List, [], ◌∷◌, ◌++◌, Some, None, refl, ap, sym, subst, ◌∙◌, arith, append_assoc, eq-eqb}
 use Rattle.std.specs.Prelude.{◌==◌, ◌&&◌, nat_lt, if◌then◌else◌, bytes_eq, slice_index, All, decimal}
-use Rattle.std.specs.List.{slice_split}
 use Rattle.std.specs.Char.{digit_value}
 use Rattle.std.specs.Str.Parse.{digits_value, AllDigits}
 use Rattle.std.specs.Net.Text.{dotted_text}
@@ -12,12 +11,8 @@ use Rattle.std.proofs.lemmas.List.Splits.{slice_split_none, slice_split_at}
 use Rattle.std.proofs.lemmas.List.Elements.{All-cons}
 use Rattle.std.proofs.lemmas.Slice.Eq.{bytes_eq-Decides}
 use Rattle.std.proofs.lemmas.Option.{same_Some}
-use Rattle.std.proofs.lemmas.Bool.{and_parts, and_from, ltb-true, eqb-true, lt-ltb, false_from_ne_true, cond-false}
+use Rattle.std.proofs.lemmas.Bool.{cases_Bool, and_parts, and_from, ltb-true, eqb-true, lt-ltb, false_from_ne_true, cond-false}
 use Rattle.afdx_config.specs.Values.{numbers_of, writes_numbers, address_of, AddressesAreDotted}
-
--- a text is itself
-bytes_eq_same : (xs : List ℕ) → bytes_eq xs xs ≡ true
-bytes_eq_same xs = (bytes_eq-Decides xs xs).1 refl
 
 -- a digit is no dot
 no_dot : (ds : List ℕ) → AllDigits 10 ds → All (λ byte. (byte == 46) ≡ false) ds
@@ -48,18 +43,16 @@ numbers_of-dotted a b c d la lb lc ld =
     let third = decimal_of c lc in
     let fourth = decimal_of d ld in
     let dot : ℕ → Bool = λ byte. byte == 46 in
-    let text = decimal a ++ (46 ∷ (decimal b ++ (46 ∷ (decimal c ++ (46 ∷ decimal d))))) in
-    let whole : dotted_text a b c d ≡ text = simp append_assoc in
-    let parts : slice_split dot text ≡ decimal a ∷ decimal b ∷ decimal c ∷ decimal d ∷ [] =
-    slice_split_at dot (decimal a) 46 _ first.no_dots refl
-    ∙ ap (λ (rest : List (List ℕ)). decimal a ∷ rest) (slice_split_at dot (decimal b) 46 _ second.no_dots refl
-    ∙ ap (λ (rest : List (List ℕ)). decimal b ∷ rest) (slice_split_at dot (decimal c) 46 _ third.no_dots refl
-    ∙ ap (λ (rest : List (List ℕ)). decimal c ∷ rest) (slice_split_none dot (decimal d) fourth.no_dots))) in
-    ap numbers_of whole ∙ ap (map (digits_value 10)) parts
-    ∙ ap (λ (n : ℕ). n ∷ digits_value 10 (decimal b) ∷ digits_value 10 (decimal c) ∷ digits_value 10 (decimal d) ∷ []) first.value
-    ∙ ap (λ (n : ℕ). a ∷ n ∷ digits_value 10 (decimal c) ∷ digits_value 10 (decimal d) ∷ []) second.value
-    ∙ ap (λ (n : ℕ). a ∷ b ∷ n ∷ digits_value 10 (decimal d) ∷ []) third.value
-    ∙ ap (λ (n : ℕ). a ∷ b ∷ c ∷ n ∷ []) fourth.value
+    let whole : dotted_text a b c d ≡ decimal a ++ (46 ∷ (decimal b ++ (46 ∷ (decimal c ++ (46 ∷ decimal d)))))
+    = simp append_assoc in
+    rw (
+      whole,
+      slice_split_at dot (decimal a) 46 _ first.no_dots refl,
+      slice_split_at dot (decimal b) 46 _ second.no_dots refl,
+      slice_split_at dot (decimal c) 46 _ third.no_dots refl,
+      slice_split_none dot (decimal d) fourth.no_dots,
+    )
+    (rw (first.value, second.value, third.value, fourth.value) refl)
 
 -- four numbers below 256 are written, where the first is 10
 writes_dotted : (a b c d : ℕ) → b < 256 → c < 256 → d < 256
@@ -70,7 +63,7 @@ writes_dotted a b c d lb lc ld = with_first (a == 10)
         → ten && nat_lt b 256 && nat_lt c 256 && nat_lt d 256 && bytes_eq (dotted_text a b c d) (dotted_text a b c d)
         ≡ ten
     with_first true = and_from _ _ (and_from _ _ (and_from _ _ (lt-ltb b 256 lb) (lt-ltb c 256 lc)) (lt-ltb d 256 ld))
-        (bytes_eq_same (dotted_text a b c d))
+        ((bytes_eq-Decides (dotted_text a b c d) (dotted_text a b c d)).1 refl)
     with_first false = refl
 
 -- a text that writes an address is read as it, where its first number is 10
@@ -88,71 +81,47 @@ address_of-dotted text octets is =
     ap (λ (o : List ℕ). if writes_numbers text o then Some o else None) numbers
     ∙ ap (λ (test : Bool). if test then Some octets else None) (written ∙ ap (λ (n : ℕ). n == 10) first)
 
--- numbers that are written make an address
-is_dotted : (text numbers : List ℕ) → writes_numbers text numbers ≡ true → IsDotted text numbers
-is_dotted text [] h = cc
-is_dotted text (a ∷ []) h = cc
-is_dotted text (a ∷ b ∷ []) h = cc
-is_dotted text (a ∷ b ∷ c ∷ []) h = cc
+-- numbers that are written make an address, and their first is 10
+is_dotted : (text numbers : List ℕ) → writes_numbers text numbers ≡ true
+    → IsDotted text numbers × (slice_index numbers 0 ≡ 10)
 is_dotted text (a ∷ b ∷ c ∷ d ∷ []) h =
     let (numbers, spelled) = and_parts _ (bytes_eq text (dotted_text a b c d)) h in
     let (three, fourth) = and_parts _ (nat_lt d 256) numbers in
     let (two, third) = and_parts _ (nat_lt c 256) three in
     let (first, second) = and_parts (a == 10) (nat_lt b 256) two in
-    let ten : a ≡ 10 = eqb-true a 10 first in
-    record {
-      a = a;
-      b = b;
-      c = c;
-      d = d;
-      fit = (omega arith, ltb-true b 256 second, ltb-true c 256 third, ltb-true d 256 fourth);
-      value = refl;
-      spelled = (bytes_eq-Decides text (dotted_text a b c d)).0 spelled;
-    }
-is_dotted text (a ∷ b ∷ c ∷ d ∷ e ∷ rest) h = cc
-
--- their first is 10
-first_ten : (text numbers : List ℕ) → writes_numbers text numbers ≡ true → slice_index numbers 0 ≡ 10
-first_ten text [] h = cc
-first_ten text (a ∷ []) h = cc
-first_ten text (a ∷ b ∷ []) h = cc
-first_ten text (a ∷ b ∷ c ∷ []) h = cc
-first_ten text (a ∷ b ∷ c ∷ d ∷ []) h =
-    let (numbers, spelled) = and_parts _ (bytes_eq text (dotted_text a b c d)) h in
-    let (three, fourth) = and_parts _ (nat_lt d 256) numbers in
-    let (two, third) = and_parts _ (nat_lt c 256) three in
-    let (first, second) = and_parts (a == 10) (nat_lt b 256) two in
-    eqb-true a 10 first
-first_ten text (a ∷ b ∷ c ∷ d ∷ e ∷ rest) h = cc
+    let ten : a ≡ 10 = eqb-true a 10 first in (
+      record {
+        a = a;
+        b = b;
+        c = c;
+        d = d;
+        fit = (omega arith, ltb-true b 256 second, ltb-true c 256 third, ltb-true d 256 fourth);
+        value = refl;
+        spelled = (bytes_eq-Decides text (dotted_text a b c d)).0 spelled;
+      },
+      ten,
+    )
+is_dotted text _ h = absurd (false_true h)
+  where
+    false_true : false ≡ true → ⊥
+    false_true e = cc
 
 -- a text that writes no address is read as none
 pub address_of-none : (text : List ℕ) → ((a : Ipv4Addr) → IsDotted text a.octets → ⊥) → address_of text ≡ None
 unfolding address_of
 address_of-none text none =
     let refused : writes_numbers text (numbers_of text) ≡ false = false_from_ne_true _ (λ written.
-    none (record { octets = numbers_of text }) (is_dotted text (numbers_of text) written)) in
+    none (record { octets = numbers_of text }) (is_dotted text (numbers_of text) written).0) in
     cond-false (writes_numbers text (numbers_of text)) (Some (numbers_of text)) None refused
 
--- an address is read where it is written
-dotted_read : (text address : List ℕ) → IsDotted text address → slice_index address 0 ≡ 10 → address_of text ≡ Some address
-dotted_read text address is ten =
-    address_of-dotted text address is
-    ∙ ap (λ (test : Bool). if test then Some address else None) (eq-eqb (slice_index address 0) 10 ten)
-
--- what is read
-read_one : (text numbers address : List ℕ) (b : Bool) → writes_numbers text numbers ≡ b
-    → (if b then Some numbers else None) ≡ Some address → IsDotted text address × (slice_index address 0 ≡ 10)
-read_one text numbers address false is found = cc
-read_one text numbers address true is found =
-    let same : numbers ≡ address = same_Some numbers address found in
-    let written : writes_numbers text address ≡ true = subst (λ (ns : List ℕ). writes_numbers text ns ≡ true) same is in
-    (is_dotted text address written, first_ten text address written)
-
--- it is read only where it is written
-read_dotted : (text address : List ℕ) → address_of text ≡ Some address → IsDotted text address × (slice_index address 0 ≡ 10)
-unfolding address_of
-read_dotted text address found = read_one text (numbers_of text) address _ refl found
-
--- both ways
+-- an address is read where it is written, and only there
 pub addresses_are_dotted : AddressesAreDotted
-addresses_are_dotted text address = (read_dotted text address, λ both. dotted_read text address both.0 both.1)
+unfolding address_of
+addresses_are_dotted text address = (
+  λ found. elim (cases_Bool (writes_numbers text (numbers_of text))) [
+    | inl is ↦ let same : numbers_of text ≡ address = same_Some _ _ (rw is at found) in
+        rw (← same) (is_dotted text (numbers_of text) is)
+    | inr isnt ↦ let none : None ≡ Some address = rw isnt at found in cc
+  ],
+  λ (is, ten). rw (address_of-dotted text address is) (rw (eq-eqb (slice_index address 0) 10 ten) refl),
+)

@@ -1,116 +1,109 @@
--- The first fault of a list in order of numbers is the least.
-use Rattle.std.proofs.Common.{◌≡◌, ℕ, ◌<◌, Bool, true, false, cond, List, [], ◌∷◌, Some, None, refl, sym, ◌∙◌, arith, rules, subst}
-use Rattle.std.specs.Prelude.{find, ⊤, Result, Ok, Err, IfOk, IfErr, ◌≢◌}
-use Rattle.std.specs.List.{AllByRecursion}
-use Rattle.std.proofs.lemmas.Option.{same_Some}
+-- The least of several faults.
+use Rattle.std.proofs.Common.{◌≡◌, ℕ, ◌+◌, ◌<◌, ◌≤◌, inl, inr, Bool, true, false, List, map, get_or, length, take, Option, Some, None, refl, sym, ap, ◌∙◌, arith, eq-eqb}
+use Rattle.std.specs.Prelude.{◌||◌, ◌==◌, IfSome}
+use Rattle.std.specs.Bool.{then_some}
+use Rattle.std.specs.List.{list_any}
+use Rattle.std.proofs.lemmas.Bool.{cases_lt, lt-ltb, le-ltb, eqb-true, false_from_ne_true, or_from}
+use Rattle.std.proofs.lemmas.List.{take_all}
+use Rattle.std.proofs.lemmas.List.Folds.{list_any_more}
 use Rattle.toml.specs.Data.{Members}
-use Rattle.afdx_plan.proofs.FindLemmas.{find_none-list}
+use Rattle.toml.specs.View.{table_view}
 use Rattle.afdx_plan.specs.PlanFaults.{fault_number}
-use Rattle.afdx_config.specs.Faults.{shows, all_faults, Reads, HasFault, IsLeastFault, IsPlanOf}
-use Rattle.afdx_plan.specs.Config.{Plan}
-use Rattle.afdx_config.specs.PlanOf.{plan_of}
 use Rattle.afdx_plan.specs.declared.fault.ConfigFault.{ConfigFault}
-use Rattle.afdx_plan.specs.declared.fault.ConfigFault.TheVariants.{Toml, MissingKey, UnknownKey, WrongKind, OutOfRange, BadBag, DuplicateVl, DuplicatePort, NoSuchVl, NoSuchSub, SamplingTooLong, SameFlow, SharedUnicast, Limit, Memory}
+use Rattle.afdx_plan.specs.declared.fault.ConfigFault.TheVariants.{UnknownKey}
+use Rattle.afdx_config.specs.Entries.{has_key_besides}
+use Rattle.afdx_config.specs.Format.{Field}
+use Rattle.afdx_config.specs.declared.format.Field.{Field as Written}
+use Rattle.afdx_config.specs.Tables.{field_fault, keys_fault, is_key_of, is_fault, table_shows}
+use Rattle.afdx_config.specs.Views.{IsLeastOf, IsOfValues, field_of, lesser}
+use Rattle.afdx_config.proofs.SectionTests.{Found, list_any-map}
 
--- each fault of the list has a smaller number than those behind it
-abbrev pub Rising : List ConfigFault → Type 0
-Rising [] = ⊤
-Rising (x ∷ xs) = AllByRecursion (λ y. fault_number x < fault_number y) xs × Rising xs
+-- a fault that a test adds
+one_if : (b : Bool) (fault : ConfigFault) → IsOfValues fault → IfSome (then_some b fault) IsOfValues
+one_if true fault is = is
+one_if false fault is = tt
 
--- no number behind x is below that of x
-none_below : (p : ConfigFault → Bool) (x : ConfigFault) (xs : List ConfigFault)
-    → AllByRecursion (λ y. fault_number x < fault_number y) xs
-    → AllByRecursion (λ y. fault_number y < fault_number x → p y ≡ false) xs
-none_below p x [] h = tt
-none_below p x (y ∷ ys) h = (λ l. absurd (omega (arith, h.0)), none_below p x ys h.1)
+-- one fault is the least of itself
+pub least_one : (o same : Option ConfigFault) → o ≡ same → IfSome o IsOfValues → IsLeastOf (λ f. is_fault f same) o
+least_one None same is small = rw (← is) (λ f. refl)
+least_one (Some g) same is small = rw (← is) (
+  record {
+    shown = eq-eqb (fault_number g) (fault_number g) refl;
+    first = λ f l. false_from_ne_true (fault_number f == fault_number g) (λ e. let s = eqb-true _ _ e in omega arith);
+  },
+  small,
+)
 
--- the fault passes the test, and those of lower numbers fail it
-abbrev pub Least : (ConfigFault → Bool) → List ConfigFault → ConfigFault → Type 0
-Least p xs e = (p e ≡ true) × AllByRecursion (λ f. fault_number f < fault_number e → p f ≡ false) xs
+-- tests that agree have the same least
+pub least_same : (P Q : ConfigFault → Bool) (o : Option ConfigFault) → ((f : ConfigFault) → Q f ≡ P f) → IsLeastOf P o
+    → IsLeastOf Q o
+least_same P Q None same is = λ f. same f ∙ is f
+least_same P Q (Some e) same is =
+    (record { shown = same e ∙ is.0.shown; first = λ f l. same f ∙ is.0.first f l }, is.1)
 
--- the first, or the least behind it
-unfolding_least : (p : ConfigFault → Bool) (x : ConfigFault) (xs : List ConfigFault) (e : ConfigFault) (b : Bool)
-    → p x ≡ b → cond b (Some x) (find p xs) ≡ Some e
-    → AllByRecursion (λ y. fault_number x < fault_number y) xs → (find p xs ≡ Some e → Least p xs e) → Least p (x ∷ xs) e
-unfolding_least p x xs e true is found rising rest =
-    let same : x ≡ e = same_Some x e found in
-    subst (λ (y : ConfigFault). (p y ≡ true) × AllByRecursion (λ f. fault_number f < fault_number y → p f ≡ false)
-    (x ∷ xs)) same (is, (λ l. absurd (omega arith), none_below p x xs rising))
-unfolding_least p x xs e false is found rising rest = let (holds, below) = rest found in (holds, (λ l. is, below))
+-- the lesser one is the least of both
+pub least_both : (P Q : ConfigFault → Bool) (a b : Option ConfigFault) → IsLeastOf P a → IsLeastOf Q b
+    → IsLeastOf (λ f. P f || Q f) (lesser a b)
+least_both P Q None None p q = λ f. or_from (P f) (Q f) (p f) (q f)
+least_both P Q None (Some e) p q = (
+  record {
+    shown = rw (p e, q.0.shown) refl;
+    first = λ f l. or_from (P f) (Q f) (p f) (q.0.first f l);
+  },
+  q.1,
+)
+least_both P Q (Some e) None p q = (
+  record {
+    shown = rw p.0.shown refl;
+    first = λ f l. or_from (P f) (Q f) (p.0.first f l) (q f);
+  },
+  p.1,
+)
+least_both P Q (Some d) (Some e) p q = elim (cases_lt (fault_number e) (fault_number d)) [
+  | inl below ↦ rw (lt-ltb _ _ below) (
+    record {
+      shown = rw (p.0.first e below, q.0.shown) refl;
+      first = λ f l. or_from (P f) (Q f) (p.0.first f (omega arith)) (q.0.first f l);
+    },
+    q.1,
+  )
+  | inr above ↦ rw (le-ltb _ _ above) (
+    record {
+      shown = rw p.0.shown refl;
+      first = λ f l. or_from (P f) (Q f) (p.0.first f l) (q.0.first f (omega arith));
+    },
+    p.1,
+  )
+]
 
--- what is found first in such a list is the least
-pub find_least : (p : ConfigFault → Bool) (xs : List ConfigFault) (e : ConfigFault) → Rising xs → find p xs ≡ Some e
-    → Least p xs e
-find_least p [] e rising found = cc
-find_least p (x ∷ xs) e rising found = unfolding_least p x xs e (p x) refl found rising.0 (λ k. find_least p xs e rising.1 k)
+-- one element more
+pub least_next : {X : Type 0} (p : ConfigFault → X → Bool) (xs : List X) (i : ℕ) (d x : X)
+    (least o : Option ConfigFault) → i < length xs → x ≡ get_or xs i d → IsLeastOf (λ f. list_any (p f) (take i xs)) least → IsLeastOf (λ f. p f x) o
+    → IsLeastOf (λ f. list_any (p f) (take (i + 1) xs)) (lesser least o)
+least_next p xs i d x least o inside here before now =
+    least_same (λ f. list_any (p f) (take i xs) || p f x) (λ f. list_any (p f) (take (i + 1) xs)) (lesser least o)
+    (λ f. list_any_more (p f) xs i d inside ∙ ap (λ y. list_any (p f) (take i xs) || p f y) (sym here))
+    (least_both (λ f. list_any (p f) (take i xs)) (λ f. p f x) least o before now)
 
--- the faults stand in the order of their numbers
-all_rising : Rising all_faults
-all_rising = search (rules, arith)
+-- the least of a table: that of its fields and its keys
+pub least_of_table : (fields : List Written) (members : Members) (n : ℕ) (least o : Option ConfigFault)
+    → length fields ≤ n → IsLeastOf (λ f. list_any (λ x. is_fault f (field_fault members (field_of x))) (take n fields)) least
+    → o ≡ keys_fault (map field_of fields) members
+    → IsLeastOf (λ f. table_shows f (map field_of fields) members) (lesser least o)
+unfolding table_shows
+least_of_table fields members n least o long before keys =
+    least_same (λ f. list_any (λ x. is_fault f (field_fault members (field_of x))) (take n fields)
+    || is_fault f (keys_fault (map field_of fields) members)) _ (lesser least o)
+    (λ f. rw (
+      list_any-map (λ field. is_fault f (field_fault members field)) field_of fields,
+      take_all n fields long,
+    ) refl)
+    (least_both _ _ least o before (least_one o (keys_fault (map field_of fields) members) keys
+    (rw keys (one_if (has_key_besides (is_key_of (map field_of fields)) members) UnknownKey
+    (omega arith, omega arith)))))
 
--- what holds of each fault that documents show, and of the two others, holds of every fault
-every : (P : ConfigFault → Type 0) → AllByRecursion P all_faults → P Toml → P Memory → (f : ConfigFault) → P f
-every P each toml memory Toml = toml
-every P each toml memory MissingKey = each.0
-every P each toml memory UnknownKey = each.1.0
-every P each toml memory WrongKind = each.1.1.0
-every P each toml memory OutOfRange = each.1.1.1.0
-every P each toml memory BadBag = each.1.1.1.1.0
-every P each toml memory DuplicateVl = each.1.1.1.1.1.0
-every P each toml memory DuplicatePort = each.1.1.1.1.1.1.0
-every P each toml memory NoSuchVl = each.1.1.1.1.1.1.1.0
-every P each toml memory NoSuchSub = each.1.1.1.1.1.1.1.1.0
-every P each toml memory SamplingTooLong = each.1.1.1.1.1.1.1.1.1.0
-every P each toml memory SameFlow = each.1.1.1.1.1.1.1.1.1.1.0
-every P each toml memory SharedUnicast = each.1.1.1.1.1.1.1.1.1.1.1.0
-every P each toml memory Limit = each.1.1.1.1.1.1.1.1.1.1.1.1.0
-every P each toml memory Memory = memory
-
--- the first fault of a document is its least
-pub least_of : (doc : Members) (e : ConfigFault) → find (λ f. shows f doc) all_faults ≡ Some e → (f : ConfigFault)
-    → fault_number f < fault_number e → shows f doc ≡ false
-least_of doc e found =
-    every (λ f. fault_number f < fault_number e → shows f doc ≡ false)
-    (find_least (λ f. shows f doc) all_faults e all_rising found).1 (λ l. refl) (λ l. refl)
-
--- the first fault of a document is shown
-pub shown_of : (doc : Members) (e : ConfigFault) → find (λ f. shows f doc) all_faults ≡ Some e → shows e doc ≡ true
-shown_of doc e found = (find_least (λ f. shows f doc) all_faults e all_rising found).0
-
--- a document without fault shows none
-pub none_of : (doc : Members) → find (λ f. shows f doc) all_faults ≡ None → (f : ConfigFault) → shows f doc ≡ false
-none_of doc none = every (λ f. shows f doc ≡ false) (find_none-list (λ f. shows f doc) all_faults none) refl refl
-
--- what a document shows, its text has
-pub has : (f : ConfigFault) (text : List ℕ) (doc : Members) → Reads text doc → shows f doc ≡ true → HasFault f text
-has Toml text doc reads h = cc
-has f text doc reads h = (doc, reads, h)
-
--- a text is read as one document, so that no other shows the fault
-other : (f : ConfigFault) (text : List ℕ) (doc : Members) → Reads text doc → shows f doc ≡ false
-    → ((d : Members) × Reads text d × (shows f d ≡ true)) → ⊥
-other f text doc reads h (d, r, k) =
-    let same : d ≡ doc = same_Some d doc (sym r.1 ∙ reads.1) in
-    let now : shows f doc ≡ true = subst (λ (x : Members). shows f x ≡ true) same k in cc
-
--- what a document does not show, its text has not
-pub hasnt : (f : ConfigFault) (text : List ℕ) (doc : Members) → Reads text doc → shows f doc ≡ false → ¬ HasFault f text
-hasnt Toml text doc reads h = λ k. k doc reads
-hasnt f text doc reads h = λ k. other f text doc reads h k
-
--- what is known of a document's answer, of its text's
-pub answer_ok : (text : List ℕ) (doc : Members) (r : Result Plan ConfigFault) → Reads text doc
-    → IfOk r (λ c. find (λ f. shows f doc) all_faults ≡ None) → IfOk r (λ c. c ≡ plan_of doc) → IfOk r (IsPlanOf text)
-answer_ok text doc (Ok c) reads fine is = (doc, reads, is, λ f. hasnt f text doc reads (none_of doc fine f))
-answer_ok text doc (Err e) reads fine is = tt
-
--- and the same of a refusal
-pub answer_err : (text : List ℕ) (doc : Members) (r : Result Plan ConfigFault) → Reads text doc
-    → IfErr r (λ e. e ≢ Memory → find (λ f. shows f doc) all_faults ≡ Some e) → IfErr r (λ e. e ≢ Memory → IsLeastFault text e)
-answer_err text doc (Ok c) reads h = tt
-answer_err text doc (Err e) reads h =
-    λ other_than. (
-      has e text doc reads (shown_of doc e (h other_than)),
-      λ f l. hasnt f text doc reads
-          (least_of doc e (h other_than) f l),
-    )
+-- the least of the rows that were found, by the keys of their version
+pub least_rows : (fields same : List Field) (tables others : List Found) (o : Option ConfigFault)
+    → fields ≡ same → tables ≡ others → IsLeastOf (λ f. list_any (λ t. table_shows f fields (table_view t.now)) tables) o
+    → IsLeastOf (λ f. list_any (λ t. table_shows f same (table_view t.now)) others) o
+least_rows fields same tables others o p q is = rw (← p, ← q) is

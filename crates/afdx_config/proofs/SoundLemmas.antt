@@ -1,104 +1,82 @@
 -- A document whose values show no fault has tables without fault.
-use Rattle.std.proofs.Common.{◌≡◌, ◌-◌, codes, Bool, true, false, List, [], ◌∷◌, map, length, take, drop, Option, Some, None, ℕ, refl, ap, sym, ◌∙◌, subst, arith}
+use Rattle.std.proofs.Common.{◌≡◌, ◌-◌, codes, Bool, true, false, List, [], ◌∷◌, map, length, Option, Some, None, ℕ, refl, ap, sym, ◌∙◌, eq-eqb}
 use Rattle.std.proofs.lemmas.Option.{same_Some}
-use Rattle.std.proofs.lemmas.List.{take-append-drop}
-use Rattle.std.proofs.lemmas.List.Elements.{All-cons}
-use Rattle.std.proofs.lemmas.List.Folds.{list_any-append}
+use Rattle.std.proofs.lemmas.List.Elements.{All-cons, All-nil, All-take, All-from_recursion, recursion_from_All}
 use Rattle.std.proofs.lemmas.Simd.{map-map}
-use Rattle.std.specs.Prelude.{All, find}
+use Rattle.std.proofs.lemmas.Bool.{or_parts}
+use Rattle.std.specs.Prelude.{All}
 use Rattle.std.specs.List.{list_any}
 use Rattle.std.specs.Option.{option_map_or, ForSome}
-use Rattle.std.proofs.lemmas.Bool.{or_parts}
 use Rattle.toml.specs.Data.{Members}
 use Rattle.toml.specs.View.{table_view}
+use Rattle.afdx_plan.specs.PlanFaults.{fault_number}
 use Rattle.afdx_plan.specs.declared.fault.ConfigFault.{ConfigFault}
-use Rattle.afdx_plan.specs.declared.fault.ConfigFault.TheVariants.{MissingKey, WrongKind, OutOfRange, BadBag}
 use Rattle.afdx_plan.specs.declared.link_plan.LinkPlan.{LinkPlan}
 use Rattle.afdx_plan.specs.declared.port_plan.PortPlan.{PortPlan}
-use Rattle.afdx_plan.proofs.FindLemmas.{find_none-list}
-use Rattle.afdx_config.specs.Document.{is_version_2, values_show}
 use Rattle.afdx_config.specs.Entries.{number_at}
-use Rattle.afdx_config.specs.Faults.{shows, value_faults}
 use Rattle.afdx_config.specs.Format.{Field, end_fields, link_fields, port_fields, fields_in}
 use Rattle.afdx_config.specs.PlanOf.{link_of, port_of, plan_of}
-use Rattle.afdx_config.specs.Tables.{field_shows, table_shows}
+use Rattle.afdx_config.specs.Tables.{is_fault, field_fault, table_shows, is_version_2, values_show}
 use Rattle.afdx_config.specs.Views.{AreSectionsOf, AreSound, IsSoundTable}
 use Rattle.afdx_config.specs.declared.sections.Sections.{Sections}
 use Rattle.afdx_config.proofs.SectionTests.{Found, shown_in, option_maps}
 
--- none of the tables that were found shows a fault
-record Clear (fault : ConfigFault) (doc : Members) (s : Sections) : Type 0 where
-  end_clear : option_map_or (λ t. table_shows fault end_fields (table_view t.now)) s.end false ≡ false
-  links_clear : list_any (λ t. table_shows fault (fields_in (is_version_2 doc) link_fields) (table_view t.now)) s.links.items ≡ false
-  ports_clear : list_any (λ t. table_shows fault (fields_in (is_version_2 doc) port_fields) (table_view t.now)) s.ports.items ≡ false
+-- a fault is itself
+no_fault : (o : Option ConfigFault) → ((f : ConfigFault) → is_fault f o ≡ false) → o ≡ None
+no_fault None none = refl
+no_fault (Some g) none = let same = eq-eqb (fault_number g) (fault_number g) refl in let other = none g in cc
 
--- where the document doesn't show the fault, none of them does
-clear : (doc : Members) (s : Sections) (fault : ConfigFault) → AreSectionsOf doc s → values_show fault doc ≡ false
-    → Clear fault doc s
-clear doc s fault are none =
-    let (top_end_links, p) = or_parts _ _ (shown_in fault doc s are ∙ none) in
-    let (top_end, l) = or_parts _ _ top_end_links in
-    let (top, e) = or_parts _ _ top_end in record { end_clear = e; links_clear = l; ports_clear = p }
+-- fields of which none shows a fault are sound
+fields_sound : (fields : List Field) (members : Members)
+    → ((f : ConfigFault) → list_any (λ field. is_fault f (field_fault members field)) fields ≡ false)
+    → IsSoundTable fields members
+fields_sound [] members none = tt
+fields_sound (x ∷ xs) members none = (
+  no_fault (field_fault members x) (λ f. (or_parts _ _ (none f)).0),
+  fields_sound xs members (λ f. (or_parts _ _ (none f)).1),
+)
 
--- a table that shows no fault is sound
-one_sound : (fields : List Field) (o : Option Found)
-    → option_map_or (λ t. table_shows MissingKey fields (table_view t.now)) o false ≡ false
-    → option_map_or (λ t. table_shows WrongKind fields (table_view t.now)) o false ≡ false
-    → option_map_or (λ t. table_shows OutOfRange fields (table_view t.now)) o false ≡ false
-    → option_map_or (λ t. table_shows BadBag fields (table_view t.now)) o false ≡ false
-    → ForSome o (λ t. IsSoundTable fields (table_view t.now))
-one_sound fields None a b c d = λ t e. cc
-one_sound fields (Some x) a b c d =
-    λ t e. subst (λ (y : Found). IsSoundTable fields (table_view y.now)) (same_Some x t e)
-    (record { complete = a; kinds = b; inside = c; gaps = d })
-
--- what none of a list shows, none of its first ones does
-none_first : {A : Type 0} (p : A → Bool) (n : ℕ) (xs : List A) → list_any p xs ≡ false → list_any p (take n xs) ≡ false
-none_first p n xs none =
-    (or_parts (list_any p (take n xs)) (list_any p (drop n xs))
-    (sym (list_any-append p (take n xs) (drop n xs)) ∙ ap (list_any p) (take-append-drop n xs) ∙ none)).0
+-- so is a table that shows none
+table_sound : (fields : List Field) (members : Members) → ((f : ConfigFault) → table_shows f fields members ≡ false)
+    → IsSoundTable fields members
+unfolding table_shows
+table_sound fields members none = fields_sound fields members (λ f. (or_parts _ _ (none f)).0)
 
 -- a table that is sound in the keys of its version is so in those of both
 both_sound : (is_2 : Bool) (fields : List Field) (members : Members) → IsSoundTable (fields_in is_2 fields) members
     → IsSoundTable (fields_in false fields) members
 both_sound false fields members is = is
-both_sound true fields members is = record {
-  complete = none_first (field_shows MissingKey members) (length fields - 1) fields is.complete;
-  kinds = none_first (field_shows WrongKind members) (length fields - 1) fields is.kinds;
-  inside = none_first (field_shows OutOfRange members) (length fields - 1) fields is.inside;
-  gaps = none_first (field_shows BadBag members) (length fields - 1) fields is.gaps;
-}
+both_sound true fields members is = recursion_from_All _ _ (All-take (λ field. field_fault members field ≡ None)
+    (length fields - 1) fields (All-from_recursion (λ field. field_fault members field ≡ None) fields is))
 
 -- so are those of a list
 all_sound : (is_2 : Bool) (fields : List Field) (tables : List Found)
-    → list_any (λ t. table_shows MissingKey (fields_in is_2 fields) (table_view t.now)) tables ≡ false
-    → list_any (λ t. table_shows WrongKind (fields_in is_2 fields) (table_view t.now)) tables ≡ false
-    → list_any (λ t. table_shows OutOfRange (fields_in is_2 fields) (table_view t.now)) tables ≡ false
-    → list_any (λ t. table_shows BadBag (fields_in is_2 fields) (table_view t.now)) tables ≡ false
+    → ((f : ConfigFault) → list_any (λ t. table_shows f (fields_in is_2 fields) (table_view t.now)) tables ≡ false)
     → All (λ t. IsSoundTable (fields_in false fields) (table_view t.now)) tables
-all_sound is_2 fields [] a b c d = λ k d' h. absurd (omega arith)
-all_sound is_2 fields (x ∷ xs) a b c d =
-    let (a1, a2) = or_parts _ _ a in
-    let (b1, b2) = or_parts _ _ b in
-    let (c1, c2) = or_parts _ _ c in
-    let (d1, d2) = or_parts _ _ d in
+all_sound is_2 fields [] none = All-nil (λ (t : Found). IsSoundTable (fields_in false fields) (table_view t.now))
+all_sound is_2 fields (x ∷ xs) none =
     All-cons (λ (t : Found). IsSoundTable (fields_in false fields) (table_view t.now)) x xs
-    (both_sound is_2 fields (table_view x.now) (record { complete = a1; kinds = b1; inside = c1; gaps = d1 }))
-    (all_sound is_2 fields xs a2 b2 c2 d2)
+    (both_sound is_2 fields (table_view x.now)
+    (table_sound (fields_in is_2 fields) (table_view x.now) (λ f. (or_parts _ _ (none f)).0)))
+    (all_sound is_2 fields xs (λ f. (or_parts _ _ (none f)).1))
+
+-- the end system's table
+end_sound : (o : Option Found)
+    → ((f : ConfigFault) → option_map_or (λ t. table_shows f end_fields (table_view t.now)) o false ≡ false)
+    → ForSome o (λ t. IsSoundTable end_fields (table_view t.now))
+end_sound None none = λ t e. cc
+end_sound (Some x) none = λ t e. rw (← same_Some x t e) (table_sound end_fields (table_view x.now) none)
 
 -- no fault of the values: the tables are sound
-pub sound : (doc : Members) (s : Sections) → AreSectionsOf doc s → find (λ f. shows f doc) value_faults ≡ None → AreSound s
+pub sound : (doc : Members) (s : Sections) → AreSectionsOf doc s → ((f : ConfigFault) → values_show f doc ≡ false)
+    → AreSound s
 sound doc s are none =
-    let faults = find_none-list (λ f. shows f doc) value_faults none in
-    let missing = clear doc s MissingKey are faults.0 in
-    let kind = clear doc s WrongKind are faults.1.1.0 in
-    let range = clear doc s OutOfRange are faults.1.1.1.0 in
-    let gap = clear doc s BadBag are faults.1.1.1.1.0 in record {
-      end_sound = one_sound end_fields s.end missing.end_clear kind.end_clear range.end_clear gap.end_clear;
-      links_sound = all_sound (is_version_2 doc) link_fields s.links.items missing.links_clear kind.links_clear
-          range.links_clear gap.links_clear;
-      ports_sound = all_sound (is_version_2 doc) port_fields s.ports.items missing.ports_clear kind.ports_clear
-          range.ports_clear gap.ports_clear;
+    let ports = λ (f : ConfigFault). or_parts _ _ (sym (shown_in doc s are f) ∙ none f) in
+    let links = λ (f : ConfigFault). or_parts _ _ (ports f).0 in
+    record {
+      end_sound = end_sound s.end (λ f. (or_parts _ _ (links f).0).1);
+      links_sound = all_sound (is_version_2 doc) link_fields s.links.items (λ f. (links f).1);
+      ports_sound = all_sound (is_version_2 doc) port_fields s.ports.items (λ f. (ports f).1);
     }
 
 -- the plan of the parts is that of the document

@@ -1,7 +1,8 @@
 -- What stands under a key of a table, and which faults it shows.
-use Rattle.std.specs.Prelude.{ℕ, ℤ, pos, negsuc, nat_lt, List, [], ◌∷◌, Bool, true, false, not, ◌||◌, Option, option_and_then}
+use Rattle.std.specs.Prelude.{ℕ, ℤ, pos, negsuc, nat_lt, List, [], Bool, true, false, not, ◌||◌, Option, option_and_then}
+use Rattle.std.specs.List.{cons_option}
 use Rattle.std.specs.Option.{option_map_or}
-use Rattle.toml.specs.Data.{Items, no_items, item, Members, no_members, member, get_member, as_integer, as_str, table}
+use Rattle.toml.specs.Data.{Items, no_items, item, Members, no_members, member, get_member, as_integer, as_str, as_table}
 
 -- the whole number under the key
 abbrev pub whole_at : List ℕ → Members → Option ℤ
@@ -33,5 +34,4 @@ has_key_besides known (member k d ms) = not (known k) || has_key_besides known m
 -- the tables among the items of an array
 abbrev pub tables_among : Items → List Members
 tables_among no_items = []
-tables_among (item (table ms) ds) = ms ∷ tables_among ds
-tables_among (item _ ds) = tables_among ds
+tables_among (item d ds) = cons_option (as_table d) (tables_among ds)

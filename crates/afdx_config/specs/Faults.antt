@@ -1,22 +1,17 @@
 -- Why a text is no configuration.
-use Rattle.std.specs.Prelude.{◌≡◌, ℕ, ◌<◌, List, [], ◌∷◌, ◌++◌, Bool, true, Some, IsUtf8}
+use Rattle.std.specs.Prelude.{◌≡◌, ℕ, ◌<◌, ◌||◌, List, Bool, true, Some, IsUtf8}
 use Rattle.toml.specs.Data.{Members}
 use Rattle.toml.specs.Parse.{parse_document}
 use Rattle.afdx_plan.specs.Config.{Plan}
 use Rattle.afdx_config.specs.PlanOf.{plan_of}
-use Rattle.afdx_plan.specs.PlanFaults.{fault_number, plan_shows, plan_faults}
-use Rattle.afdx_config.specs.Document.{values_show}
+use Rattle.afdx_plan.specs.PlanFaults.{fault_number, plan_shows}
+use Rattle.afdx_config.specs.Tables.{values_show}
 use Rattle.afdx_plan.specs.declared.fault.ConfigFault.{ConfigFault}
-use Rattle.afdx_plan.specs.declared.fault.ConfigFault.TheVariants.{Toml, MissingKey, UnknownKey, WrongKind, OutOfRange, BadBag}
+use Rattle.afdx_plan.specs.declared.fault.ConfigFault.TheVariants.{Toml}
 
--- a document shows a fault of 2 to 14
+-- a document shows a fault of 2 to 14: its values do, or its plan
 abbrev pub shows : ConfigFault → Members → Bool
-shows MissingKey document = values_show MissingKey document
-shows UnknownKey document = values_show UnknownKey document
-shows WrongKind document = values_show WrongKind document
-shows OutOfRange document = values_show OutOfRange document
-shows BadBag document = values_show BadBag document
-shows fault document = plan_shows fault (plan_of document)
+shows fault document = values_show fault document || plan_shows fault (plan_of document)
 
 -- the document that a text writes
 abbrev pub Reads : List ℕ → Members → Type 0
@@ -38,11 +33,3 @@ IsPlanOf text plan = (document : Members)
     × Reads text document
     × (plan ≡ plan_of document)
     × ((fault : ConfigFault) → ¬ HasFault fault text)
-
--- the faults that a document's values show, in the order of their numbers
-abbrev pub value_faults : List ConfigFault
-value_faults = MissingKey ∷ UnknownKey ∷ WrongKind ∷ OutOfRange ∷ BadBag ∷ []
-
--- all that a document shows
-abbrev pub all_faults : List ConfigFault
-all_faults = value_faults ++ plan_faults

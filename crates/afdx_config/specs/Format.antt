@@ -19,7 +19,7 @@ optional name what = record { key = name; is_needed = false; content = what }
 
 -- the top of the text
 abbrev pub document_fields : List Field
-document_fields = optional (codes "version") (Whole 1 2)
+document_fields = optional (codes "version") (Whole (1, 2))
     ∷ needed (codes "end_system") Section
     ∷ needed (codes "vl") Rows
     ∷ needed (codes "port") Rows
@@ -27,28 +27,28 @@ document_fields = optional (codes "version") (Whole 1 2)
 
 -- the table of the end system
 abbrev pub end_fields : List Field
-end_fields = needed (codes "id") (Whole 0 65535) ∷ []
+end_fields = needed (codes "id") (Whole (0, 65535)) ∷ []
 
 -- the table of a link in version 2; in version 1 it has no networks, which is the last of them
 abbrev pub link_fields : List Field
-link_fields = needed (codes "id") (Whole 0 65535)
+link_fields = needed (codes "id") (Whole (0, 65535))
     ∷ needed (codes "bag_ms") Gap
-    ∷ needed (codes "lmax") (Whole 64 1518)
-    ∷ needed (codes "sub_vls") (Whole 1 4)
-    ∷ needed (codes "capacity") (Whole 1 256)
+    ∷ needed (codes "lmax") (Whole (64, 1518))
+    ∷ needed (codes "sub_vls") (Whole (1, 4))
+    ∷ needed (codes "capacity") (Whole (1, 256))
     ∷ optional (codes "networks") Networks
     ∷ []
 
 -- the table of a port in version 2; in version 1 it has no checksum, which is the last of them
 abbrev pub port_fields : List Field
-port_fields = needed (codes "id") (Whole 0 65535)
-    ∷ needed (codes "vl") (Whole 0 65535)
-    ∷ needed (codes "sub") (Whole 0 3)
-    ∷ needed (codes "partition") (Whole 0 31)
+port_fields = needed (codes "id") (Whole (0, 65535))
+    ∷ needed (codes "vl") (Whole (0, 65535))
+    ∷ needed (codes "sub") (Whole (0, 3))
+    ∷ needed (codes "partition") (Whole (0, 31))
     ∷ needed (codes "kind") PortKind
-    ∷ needed (codes "source") (Whole 1 65535)
-    ∷ needed (codes "destination") (Whole 1 65535)
-    ∷ needed (codes "max") (Whole 1 8192)
+    ∷ needed (codes "source") (Whole (1, 65535))
+    ∷ needed (codes "destination") (Whole (1, 65535))
+    ∷ needed (codes "max") (Whole (1, 8192))
     ∷ optional (codes "dest_ip") Address
     ∷ optional (codes "checksum") Checksum
     ∷ []

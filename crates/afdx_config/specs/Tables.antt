@@ -1,63 +1,86 @@
--- The faults that the values of a table show, by the format of the table.
-use Rattle.std.specs.Prelude.{ℕ, List, Bool, true, false, ◌||◌, ◌&&◌, is_none, bytes_eq}
+-- The tables of a configuration's document, and the faults that its values show, by their format.
+use Rattle.std.specs.Prelude.{codes, ℕ, List, [], Bool, false, ◌==◌, ◌||◌, is_none, bytes_eq, Option, Some, None, option_and_then}
+use Rattle.std.specs.Bool.{then_some}
 use Rattle.std.specs.List.{list_any}
 use Rattle.std.specs.Option.{option_map_or}
 use Rattle.toml.specs.Data.{Data, Items, no_items, item, Members, get_member, as_integer, as_str, as_array, as_table}
+use Rattle.afdx_plan.specs.PlanFaults.{fault_number}
 use Rattle.afdx_plan.specs.declared.fault.ConfigFault.{ConfigFault}
 use Rattle.afdx_plan.specs.declared.fault.ConfigFault.TheVariants.{MissingKey, UnknownKey, WrongKind, OutOfRange, BadBag}
 use Rattle.afdx_config.specs.declared.format.Content.{Content}
 use Rattle.afdx_config.specs.declared.format.Content.TheVariants.{Whole, Gap, Networks, PortKind, Address, Checksum, Section, Rows}
-use Rattle.afdx_config.specs.Entries.{lies_outside, has_key_besides}
+use Rattle.afdx_config.specs.Entries.{number_at, tables_among, lies_outside, has_key_besides}
 use Rattle.afdx_config.specs.Values.{bag_of, networks_of, kind_of, address_of, checksum_of}
-use Rattle.afdx_config.specs.Format.{Field}
+use Rattle.afdx_config.specs.Format.{Field, document_fields, end_fields, link_fields, port_fields, fields_in}
 
 -- an item isn't a table
 abbrev pub has_other_item : Items → Bool
 has_other_item no_items = false
 has_other_item (item d ds) = is_none (as_table d) || has_other_item ds
 
--- a value is of another kind than its content
-abbrev pub is_of_other_kind : Content → Data → Bool
-is_of_other_kind (Whole least most) value = is_none (as_integer value)
-is_of_other_kind Gap value = is_none (as_integer value)
-is_of_other_kind Networks value = is_none (as_str value)
-is_of_other_kind PortKind value = is_none (as_str value)
-is_of_other_kind Address value = is_none (as_str value)
-is_of_other_kind Checksum value = is_none (as_str value)
-is_of_other_kind Section value = is_none (as_table value)
-is_of_other_kind Rows value = option_map_or has_other_item (as_array value) true
+-- the fault of what was read of a value, where the test refuses it; nothing is read of another kind
+abbrev pub fault_in : {X : Type 0} → ConfigFault → (X → Bool) → Option X → Option ConfigFault
+fault_in fault refuses None = Some WrongKind
+fault_in fault refuses (Some x) = then_some (refuses x) fault
 
--- a value is a number outside its range, or another text than stands there
-abbrev pub is_outside : Content → Data → Bool
-is_outside (Whole least most) value =
-    option_map_or (lies_outside least most) (as_integer value) false
-is_outside Networks value = option_map_or (λ t. is_none (networks_of t)) (as_str value) false
-is_outside PortKind value = option_map_or (λ t. is_none (kind_of t)) (as_str value) false
-is_outside Address value = option_map_or (λ t. is_none (address_of t)) (as_str value) false
-is_outside Checksum value = option_map_or (λ t. is_none (checksum_of t)) (as_str value) false
-is_outside _ value = false
+-- the fault of a value of this content
+abbrev pub content_fault : Content → Data → Option ConfigFault
+content_fault (Whole range) value = fault_in OutOfRange (lies_outside range.0 range.1) (as_integer value)
+content_fault Gap value = fault_in BadBag (λ z. is_none (bag_of z)) (as_integer value)
+content_fault Networks value = fault_in OutOfRange (λ t. is_none (networks_of t)) (as_str value)
+content_fault PortKind value = fault_in OutOfRange (λ t. is_none (kind_of t)) (as_str value)
+content_fault Address value = fault_in OutOfRange (λ t. is_none (address_of t)) (as_str value)
+content_fault Checksum value = fault_in OutOfRange (λ t. is_none (checksum_of t)) (as_str value)
+content_fault Section value = fault_in WrongKind (λ t. false) (as_table value)
+content_fault Rows value = fault_in WrongKind has_other_item (as_array value)
 
--- a value is a number that is no gap
-abbrev pub is_no_gap : Content → Data → Bool
-is_no_gap Gap value = option_map_or (λ z. is_none (bag_of z)) (as_integer value) false
-is_no_gap _ value = false
+-- the fault of what stands under a key: a needed one is missing, or the value shows one
+abbrev pub fault_under : Field → Option Data → Option ConfigFault
+fault_under field None = then_some field.is_needed MissingKey
+fault_under field (Some value) = content_fault field.content value
 
--- a key of a table is missing, or what stands under it shows a fault
-abbrev pub field_shows : ConfigFault → Members → Field → Bool
-field_shows MissingKey entries field = field.is_needed && is_none (get_member field.key entries)
-field_shows WrongKind entries field =
-    option_map_or (is_of_other_kind field.content) (get_member field.key entries) false
-field_shows OutOfRange entries field =
-    option_map_or (is_outside field.content) (get_member field.key entries) false
-field_shows BadBag entries field =
-    option_map_or (is_no_gap field.content) (get_member field.key entries) false
-field_shows _ entries field = false
+-- the fault of a key of a table
+abbrev pub field_fault : Members → Field → Option ConfigFault
+field_fault members field = fault_under field (get_member field.key members)
 
 -- the key is one of these
 abbrev pub is_key_of : List Field → List ℕ → Bool
 is_key_of fields key = list_any (λ field. bytes_eq key field.key) fields
 
+-- the fault of the keys of a table: one is none of these
+abbrev pub keys_fault : List Field → Members → Option ConfigFault
+keys_fault fields members = then_some (has_key_besides (is_key_of fields) members) UnknownKey
+
+-- it is this fault
+abbrev pub is_fault : ConfigFault → Option ConfigFault → Bool
+is_fault fault None = false
+is_fault fault (Some other) = fault_number fault == fault_number other
+
 -- a table shows a fault of 2 to 6
-abbrev pub table_shows : ConfigFault → List Field → Members → Bool
-table_shows UnknownKey fields entries = has_key_besides (is_key_of fields) entries
-table_shows fault fields entries = list_any (field_shows fault entries) fields
+unfoldable pub table_shows : ConfigFault → List Field → Members → Bool
+table_shows fault fields members =
+    list_any (λ field. is_fault fault (field_fault members field)) fields || is_fault fault (keys_fault fields members)
+
+-- the tables of the array under a key
+abbrev pub rows_at : List ℕ → Members → List Members
+rows_at key document =
+    option_map_or tables_among (option_and_then as_array (get_member key document)) []
+
+-- the table under a key
+abbrev pub section_at : List ℕ → Members → Option Members
+section_at key document = option_and_then as_table (get_member key document)
+
+-- the text is of version 2
+abbrev pub is_version_2 : Members → Bool
+is_version_2 document = number_at (codes "version") document == 2
+
+-- the values of a document show a fault of 2 to 6: those at its top, or those of one of its tables
+unfoldable pub values_show : ConfigFault → Members → Bool
+values_show fault document = table_shows fault document_fields document
+    || option_map_or (table_shows fault end_fields) (section_at (codes "end_system") document) false
+    || list_any
+    (table_shows fault (fields_in (is_version_2 document) link_fields))
+    (rows_at (codes "vl") document)
+    || list_any
+    (table_shows fault (fields_in (is_version_2 document) port_fields))
+    (rows_at (codes "port") document)

@@ -1,15 +1,14 @@
 -- What the code's values stand for: the fields of the format, and the tables of a document.
-use Rattle.std.specs.Prelude.{◌≡◌, codes, Bool, false, List, ◌||◌, map, option_map, All}
-use Rattle.std.specs.List.{list_any}
-use Rattle.std.specs.Option.{option_map_or, ForSome}
+use Rattle.std.specs.Prelude.{◌≡◌, ◌≤◌, ◌<◌, nat_lt, if◌then◌else◌, codes, Bool, true, false, List, map, Option, Some, None, option_map, All}
+use Rattle.std.specs.List.{AllByRecursion}
+use Rattle.std.specs.Option.{ForSome}
 use Rattle.toml.specs.Data.{Members}
 use Rattle.toml.specs.View.{table_view}
 use Rattle.afdx_plan.specs.declared.fault.ConfigFault.{ConfigFault}
-use Rattle.afdx_plan.specs.declared.fault.ConfigFault.TheVariants.{MissingKey, WrongKind, OutOfRange, BadBag}
+use Rattle.afdx_plan.specs.PlanFaults.{fault_number}
 use Rattle.afdx_plan.specs.Config.{Plan, plan_of_parts}
-use Rattle.afdx_config.specs.Document.{section_at, rows_at, is_version_2}
-use Rattle.afdx_config.specs.Format.{Field, document_fields, end_fields, link_fields, port_fields, fields_in}
-use Rattle.afdx_config.specs.Tables.{table_shows}
+use Rattle.afdx_config.specs.Format.{Field, end_fields, link_fields, port_fields, fields_in}
+use Rattle.afdx_config.specs.Tables.{field_fault, section_at, rows_at}
 use Rattle.afdx_config.specs.declared.format.Field.{Field as Written}
 use Rattle.afdx_config.specs.declared.sections.Sections.{Sections}
 use Rattle.afdx_config.specs.declared.parts.Parts.{Parts}
@@ -29,23 +28,29 @@ pub record AreSectionsOf (document : Members) (sections : Sections) : Type 0 whe
   pub links_are : map (λ r. table_view r.now) sections.links.items ≡ rows_at (codes "vl") document
   pub ports_are : map (λ r. table_view r.now) sections.ports.items ≡ rows_at (codes "port") document
 
--- a document shows a fault of 2 to 6 at its top, or in one of the tables that were found
-abbrev pub sections_show : ConfigFault → Members → Sections → Bool
-sections_show fault document sections = table_shows fault document_fields document
-    || option_map_or (λ t. table_shows fault end_fields (table_view t.now)) sections.end false
-    || list_any
-    (λ t. table_shows fault (fields_in (is_version_2 document) link_fields) (table_view t.now))
-    sections.links.items
-    || list_any
-    (λ t. table_shows fault (fields_in (is_version_2 document) port_fields) (table_view t.now))
-    sections.ports.items
+-- the fault of the least number that passes a test
+pub record IsLeast (shows : ConfigFault → Bool) (least : ConfigFault) : Type 0 where
+  pub shown : shows least ≡ true
+  pub first : (other : ConfigFault) → fault_number other < fault_number least → shows other ≡ false
 
--- a table without fault
-pub record IsSoundTable (fields : List Field) (members : Members) : Type 0 where
-  pub complete : table_shows MissingKey fields members ≡ false
-  pub kinds : table_shows WrongKind fields members ≡ false
-  pub inside : table_shows OutOfRange fields members ≡ false
-  pub gaps : table_shows BadBag fields members ≡ false
+-- a fault that values show
+abbrev pub IsOfValues : ConfigFault → Type 0
+IsOfValues fault = (2 ≤ fault_number fault) × (fault_number fault ≤ 6)
+
+-- the least fault of values that passes a test, or none where no fault does
+abbrev pub IsLeastOf : (ConfigFault → Bool) → Option ConfigFault → Type 0
+IsLeastOf shows None = (fault : ConfigFault) → shows fault ≡ false
+IsLeastOf shows (Some least) = IsLeast shows least × IsOfValues least
+
+-- the fault of the lower number
+abbrev pub lesser : Option ConfigFault → Option ConfigFault → Option ConfigFault
+lesser None b = b
+lesser (Some a) None = Some a
+lesser (Some a) (Some b) = if nat_lt (fault_number b) (fault_number a) then Some b else Some a
+
+-- a table in which no key of these shows a fault
+abbrev pub IsSoundTable : List Field → Members → Type 0
+IsSoundTable fields members = AllByRecursion (λ field. field_fault members field ≡ None) fields
 
 -- each of the tables is without fault; a link's and a port's in the keys that it has in both versions
 pub record AreSound (sections : Sections) : Type 0 where

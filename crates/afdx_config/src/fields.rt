@@ -1,19 +1,25 @@
 //! The faults that the values of tables show.
-ghost use Rattle.std.specs.Prelude.{◌≡◌, not, map, is_none, string_bytes, bytes_eq};
+ghost use Rattle.std.specs.Prelude.{◌≡◌, not, map, is_none, string_bytes, bytes_eq, IfSome};
 ghost use Rattle.std.specs.List.{list_any};
 ghost use Rattle.std.specs.BTreeMap.{keys};
 ghost use Rattle.toml.specs.Data.{as_table};
 ghost use Rattle.toml.specs.View.{table_view, items_view, view};
 ghost use Rattle.afdx_config.specs.Entries.{lies_outside};
-ghost use Rattle.afdx_config.specs.Tables.{has_other_item, is_of_other_kind, is_outside, is_no_gap, is_key_of, field_shows, table_shows};
-ghost use Rattle.afdx_config.specs.Views.{field_of};
+ghost use Rattle.afdx_config.specs.Tables.{has_other_item, content_fault, field_fault, is_key_of, table_shows};
+ghost use Rattle.afdx_config.specs.Views.{field_of, lesser, IsLeastOf, IsOfValues};
 
 use crate::address::unicast_address;
 use crate::entries::value_at;
-use crate::format::{Content, Field};
+use crate::format::{Content, Field, Range};
 use crate::values::{bag_of_ms, checksum_named, kind_named, networks_named};
 use afdx_plan::ConfigFault;
 use toml::{Table, Value};
+
+fn some_is_no_table(values: &[Value]) -> bool
+    ensures { result ≡ list_any (λ v. is_none (as_table (view v))) values.now }
+{
+    values.iter().any(|value| !value.is_table())
+}
 
 /// An item isn't a table.
 fn holds_other_item(values: &[Value]) -> bool
@@ -22,98 +28,48 @@ fn holds_other_item(values: &[Value]) -> bool
     some_is_no_table(values)
 }
 
-fn some_is_no_table(values: &[Value]) -> bool
-    ensures { result ≡ list_any (λ v. is_none (as_table (view v))) values.now }
+fn lies_outside(range: Range, number: i64) -> bool
+    ensures { result ≡ lies_outside range.0 range.1 number }
 {
-    values.iter().any(|value| !value.is_table())
-}
-
-/// The value is of another kind than its content.
-fn is_of_other_kind(content: Content, value: &Value) -> bool
-    ensures { result ≡ is_of_other_kind content (view value.now) }
-{
-    match content {
-        Content::Whole(_, _) | Content::Gap => !value.is_integer(),
-        Content::Networks | Content::PortKind | Content::Address | Content::Checksum => {
-            !value.is_str()
-        }
-        Content::Section => !value.is_table(),
-        Content::Rows => match value.as_array() {
-            Some(values) => holds_other_item(values.as_slice()),
-            None => true,
-        },
-    }
-}
-
-fn lies_outside(least: u16, most: u16, number: i64) -> bool
-    ensures { result ≡ lies_outside least most number }
-{
+    let (least, most) = range;
     number < i64::from(least) || i64::from(most) < number
 }
 
-/// The value is a number outside its range, or another text than stands there.
-fn is_outside(content: Content, value: &Value) -> bool
-    ensures { result ≡ is_outside content (view value.now) }
+/// The fault of a value of this content: it is of another kind, outside its range, or no gap.
+fn content_fault(content: Content, value: &Value) -> Option<ConfigFault>
+    ensures value { result ≡ content_fault content (view value.now) }
+    ensures small { IfSome result IsOfValues }
 {
-    match content {
-        Content::Whole(least, most) => match value.as_integer() {
-            Some(number) => lies_outside(least, most, number),
-            None => false,
-        },
-        Content::Networks => match value.as_str() {
-            Some(name) => networks_named(name).is_none(),
-            None => false,
-        },
-        Content::PortKind => match value.as_str() {
-            Some(name) => kind_named(name).is_none(),
-            None => false,
-        },
-        Content::Address => match value.as_str() {
-            Some(address) => unicast_address(address).is_none(),
-            None => false,
-        },
-        Content::Checksum => match value.as_str() {
-            Some(name) => checksum_named(name).is_none(),
-            None => false,
-        },
-        Content::Gap | Content::Section | Content::Rows => false,
+    let is_bad = match content {
+        Content::Whole(range) => value.as_integer().map(|n| lies_outside(range, n)),
+        Content::Gap => value.as_integer().map(|n| bag_of_ms(n).is_none()),
+        Content::Networks => value.as_str().map(|name| networks_named(name).is_none()),
+        Content::PortKind => value.as_str().map(|name| kind_named(name).is_none()),
+        Content::Address => value.as_str().map(|text| unicast_address(text).is_none()),
+        Content::Checksum => value.as_str().map(|name| checksum_named(name).is_none()),
+        Content::Section => value.as_table().map(|_| false),
+        Content::Rows => value
+            .as_array()
+            .map(|values| holds_other_item(values.as_slice())),
+    };
+    match (is_bad, content) {
+        (Some(false), _) => None,
+        (Some(true), Content::Gap) => Some(ConfigFault::BadBag),
+        (Some(true), Content::Rows) | (None, _) => Some(ConfigFault::WrongKind),
+        (Some(true), _) => Some(ConfigFault::OutOfRange),
     }
 }
 
-/// The value is a number that is no gap.
-fn is_no_gap(content: Content, value: &Value) -> bool
-    ensures { result ≡ is_no_gap content (view value.now) }
-{
-    match content {
-        Content::Gap => match value.as_integer() {
-            Some(number) => bag_of_ms(number).is_none(),
-            None => false,
-        },
-        _ => false,
-    }
-}
-
-/// A key of a table is missing, or what stands under it shows a fault.
-fn field_shows(fault: ConfigFault, table: &Table, field: &Field) -> bool
-    ensures { result ≡ field_shows fault (table_view table.now) (field_of field.now) }
+/// The fault of a key of a table: it is missing, or its value shows one.
+fn field_fault(table: &Table, field: &Field) -> Option<ConfigFault>
+    ensures value { result ≡ field_fault (table_view table.now) (field_of field.now) }
+    ensures small { IfSome result IsOfValues }
 {
     let Field(key, is_needed, content) = *field;
     match value_at(table, key) {
-        None => fault == ConfigFault::MissingKey && is_needed,
-        Some(value) => match fault {
-            ConfigFault::WrongKind => is_of_other_kind(content, value),
-            ConfigFault::OutOfRange => is_outside(content, value),
-            ConfigFault::BadBag => is_no_gap(content, value),
-            _ => false,
-        },
+        Some(value) => content_fault(content, value),
+        None => is_needed.then_some(ConfigFault::MissingKey),
     }
-}
-
-fn some_field_shows(fault: ConfigFault, table: &Table, fields: &[Field]) -> bool
-    ensures { result
-        ≡ list_any (λ f. field_shows fault (table_view table.now) (field_of f)) fields.now }
-{
-    fields.iter().any(|field| field_shows(fault, table, field))
 }
 
 fn names_some(fields: &[Field], key: &str) -> bool
@@ -138,22 +94,44 @@ fn some_key_is_other(table: &Table, fields: &[Field]) -> bool
     table.keys().any(|key| !is_key_of(fields, key.as_str()))
 }
 
-/// The table shows a fault.
-pub(crate) fn table_shows(fault: ConfigFault, table: &Table, fields: &[Field]) -> bool
-    ensures { result ≡ table_shows fault (map field_of fields.now) (table_view table.now) }
+/// The fault of the lower number.
+pub(crate) fn lesser(a: Option<ConfigFault>, b: Option<ConfigFault>) -> Option<ConfigFault>
+    ensures { result ≡ lesser a b }
 {
-    match fault {
-        ConfigFault::UnknownKey => some_key_is_other(table, fields),
-        _ => some_field_shows(fault, table, fields),
+    match (a, b) {
+        (Some(first), Some(second)) if second.number() < first.number() => b,
+        (Some(_), _) => a,
+        (None, _) => b,
     }
 }
 
-/// Some table of these shows a fault.
-pub(crate) fn some_table_shows(fault: ConfigFault, tables: &[&Table], fields: &[Field]) -> bool
-    ensures { result
-        ≡ list_any
-        (λ t. table_shows fault (map field_of fields.now) (table_view t.now))
-        tables.now }
+/// The fault of the least number that a table shows.
+pub(crate) fn table_fault(table: &Table, fields: &[Field]) -> Option<ConfigFault>
+    ensures { IsLeastOf
+        (λ fault. table_shows fault (map field_of fields.now) (table_view table.now))
+        result }
 {
-    tables.iter().any(|table| table_shows(fault, table, fields))
+    let mut least = None;
+    for field in fields {
+        least = lesser(least, field_fault(table, field));
+    }
+    lesser(
+        least,
+        some_key_is_other(table, fields).then_some(ConfigFault::UnknownKey),
+    )
+}
+
+/// The fault of the least number that some table of these shows.
+pub(crate) fn tables_fault(tables: &[&Table], fields: &[Field]) -> Option<ConfigFault>
+    ensures { IsLeastOf
+        (λ fault. list_any
+        (λ t. table_shows fault (map field_of fields.now) (table_view t.now))
+        tables.now)
+        result }
+{
+    let mut least = None;
+    for table in tables {
+        least = lesser(least, table_fault(table, fields));
+    }
+    least
 }

@@ -1,18 +1,19 @@
 //! A plan that wasn't judged as a whole.
-ghost use Rattle.std.specs.Prelude.{◌≡◌, codes, IfOk, All};
+ghost use Rattle.std.specs.Prelude.{◌≡◌, codes, false, map, IfOk, All};
 ghost use Rattle.std.specs.Option.{option_map_or, ForSome};
 ghost use Rattle.toml.specs.View.{table_view};
 ghost use Rattle.afdx_plan.specs.Plan.{IsLink, IsPort};
 ghost use Rattle.afdx_config.specs.Entries.{number_at};
-ghost use Rattle.afdx_config.specs.Format.{end_fields};
-ghost use Rattle.afdx_config.specs.PlanOf.{plan_of};
+ghost use Rattle.afdx_config.specs.Format.{end_fields, link_fields, port_fields, fields_in};
+ghost use Rattle.afdx_config.specs.PlanOf.{link_of, port_of, plan_of};
 ghost use Rattle.afdx_config.specs.Views.{AreSectionsOf, AreSound, IsSoundTable, plan_in};
 
-use crate::entries::number;
-use crate::link_table::link_plans;
-use crate::port_table::port_plans;
+use crate::address::unicast_address;
+use crate::entries::{number, text, whole_number};
+use crate::format::{CAPACITY, IDENTIFIER, LMAX, MESSAGE, PARTITION, SUB_VL, SUB_VLS, UDP_PORT};
 use crate::sections::Sections;
-use afdx_plan::{LinkPlan, PortPlan};
+use crate::values::{bag_of_ms, checksum_named, kind_named, networks_named};
+use afdx_plan::{Bag, Kind, LinkPlan, Lmax, Networks, PortId, PortPlan, UdpSum, VlId};
 use std::alloc::{AllocError, Global};
 use toml::Table;
 
@@ -31,9 +32,80 @@ fn end_system(end: Option<&Table>) -> u16
         ≡ option_map_or (λ t. number_at (codes "id") (table_view t.now)) end.entry 0 }
 {
     match end {
-        Some(table) => number(table, "id", 0, 65535),
+        Some(table) => number(table, "id", IDENTIFIER),
         None => 0,
     }
+}
+
+/// The link of a table without fault.
+#[tactic(auto, unfolding(crate::specs::PlanOf::link_of))]
+fn link_plan(table: &Table) -> LinkPlan
+    requires { IsSoundTable (fields_in false link_fields) (table_view table.now) }
+    ensures value { result ≡ link_of (table_view table.now) }
+    ensures ranges { IsLink result }
+{
+    let bag = whole_number(table, "bag_ms").and_then(bag_of_ms);
+    let networks = text(table, "networks").and_then(networks_named);
+    LinkPlan {
+        id: VlId(number(table, "id", IDENTIFIER)),
+        bag: bag.unwrap_or(Bag::Ms1),
+        lmax: Lmax::new(number(table, "lmax", LMAX)),
+        sub_vls: number(table, "sub_vls", SUB_VLS) as u8,
+        capacity: usize::from(number(table, "capacity", CAPACITY)),
+        networks: networks.unwrap_or(Networks::Both),
+    }
+}
+
+/// The port of a table without fault.
+#[tactic(auto, unfolding(crate::specs::PlanOf::port_of))]
+fn port_plan(table: &Table) -> PortPlan
+    requires { IsSoundTable (fields_in false port_fields) (table_view table.now) }
+    ensures value { result ≡ port_of (table_view table.now) }
+    ensures ranges { IsPort result }
+{
+    let kind = text(table, "kind").and_then(kind_named);
+    let unicast = text(table, "dest_ip").and_then(unicast_address);
+    let checksum = text(table, "checksum").and_then(checksum_named);
+    PortPlan {
+        id: PortId(number(table, "id", IDENTIFIER)),
+        vl: VlId(number(table, "vl", IDENTIFIER)),
+        sub: number(table, "sub", SUB_VL) as u8,
+        partition: number(table, "partition", PARTITION) as u8,
+        kind: kind.unwrap_or(Kind::Sampling),
+        source: number(table, "source", UDP_PORT),
+        destination: number(table, "destination", UDP_PORT),
+        max: usize::from(number(table, "max", MESSAGE)),
+        unicast,
+        checksum: checksum.unwrap_or(UdpSum::Omitted),
+    }
+}
+
+/// The links of tables without fault, in their order.
+fn link_plans(alloc: Global, tables: &[&Table]) -> Result<Vec<LinkPlan>, AllocError>
+    requires { All (λ t. IsSoundTable (fields_in false link_fields) (table_view t.now)) tables.now }
+    ensures value { IfOk result (λ links.
+        links.items ≡ map (λ t. link_of (table_view t.now)) tables.now) }
+    ensures ranges { IfOk result (λ links. All IsLink links.items) }
+{
+    let mut links = Vec::new(alloc);
+    for table in tables {
+        links.push(link_plan(table))?;
+    }
+    Ok(links)
+}
+
+/// The ports of tables without fault, in their order.
+fn port_plans(alloc: Global, tables: &[&Table]) -> Result<Vec<PortPlan>, AllocError>
+    requires { All (λ t. IsSoundTable (fields_in false port_fields) (table_view t.now)) tables.now }
+    ensures value { IfOk result (λ ports.
+        ports.items ≡ map (λ t. port_of (table_view t.now)) tables.now) }
+    ensures ranges { IfOk result (λ ports. All IsPort ports.items) }
+{
+    let mut ports = Vec::new(alloc);
+    for table in tables {
+        ports.push(port_plan(table))?;
+    }
+    Ok(ports)
 }
 
 /// The plan of a document whose values show no fault.

@@ -1,8 +1,11 @@
 //! Reading a configuration.
-ghost use Rattle.std.specs.Prelude.{◌≡◌, ◌≢◌, find, IfOk, IfErr, None, Some};
+ghost use Rattle.std.specs.Prelude.{◌≡◌, ◌≢◌, ◌≤◌, false, IfOk, IfErr};
 ghost use Rattle.toml.specs.View.{table_view};
+ghost use Rattle.afdx_plan.specs.PlanFaults.{fault_number};
+ghost use Rattle.afdx_plan.specs.declared.fault.ConfigFault.{ConfigFault};
 ghost use Rattle.afdx_config.specs.PlanOf.{plan_of};
-ghost use Rattle.afdx_config.specs.Faults.{shows, all_faults, IsPlanOf, IsLeastFault};
+ghost use Rattle.afdx_config.specs.Faults.{shows, IsPlanOf, IsLeastFault};
+ghost use Rattle.afdx_config.specs.Views.{IsLeast};
 
 use crate::document::value_fault;
 use crate::parts::parts_of;
@@ -13,11 +16,12 @@ use toml::Table;
 
 /// The configuration that a document writes.
 fn read_document(alloc: Global, document: &Table) -> Result<Config, ConfigFault>
-    ensures fine { IfOk result (λ _.
-        find (λ fault. shows fault (table_view document.now)) all_faults ≡ None) }
+    ensures fine { IfOk result (λ _. (fault : ConfigFault) →
+        shows fault (table_view document.now) ≡ false) }
     ensures plan { IfOk result (λ config. config ≡ plan_of (table_view document.now)) }
     ensures fault { IfErr result (λ least. least ≢ ConfigFault.Memory →
-        find (λ fault. shows fault (table_view document.now)) all_faults ≡ Some least) }
+        IsLeast (λ fault. shows fault (table_view document.now)) least
+        × (2 ≤ fault_number least)) }
 {
     let sections = Sections::of(alloc, document).map_err(|_| ConfigFault::Memory)?;
     if let Some(fault) = value_fault(document, &sections) {

@@ -2,7 +2,7 @@
 ghost use Rattle.std.specs.Prelude.{◌≡◌, map, IfOk, option_map};
 ghost use Rattle.toml.specs.View.{table_view, items_view};
 ghost use Rattle.afdx_config.specs.Entries.{tables_among};
-ghost use Rattle.afdx_config.specs.Document.{rows_at, section_at};
+ghost use Rattle.afdx_config.specs.Tables.{rows_at, section_at};
 ghost use Rattle.afdx_config.specs.Views.{AreSectionsOf};
 
 use crate::entries::value_at;
@@ -37,11 +37,8 @@ fn rows<'a>(alloc: Global, document: &'a Table, key: &str) -> Result<Vec<&'a Tab
     ensures { IfOk result (λ rows.
         map (λ r. table_view r.now) rows.items ≡ rows_at key.now (table_view document.now)) }
 {
-    match value_at(document, key) {
-        Some(value) => match value.as_array() {
-            Some(values) => tables_of(alloc, values.as_slice()),
-            None => Ok(Vec::new(alloc)),
-        },
+    match value_at(document, key).and_then(|value| value.as_array()) {
+        Some(values) => tables_of(alloc, values.as_slice()),
         None => Ok(Vec::new(alloc)),
     }
 }
@@ -51,10 +48,7 @@ fn section<'a>(document: &'a Table, key: &str) -> Option<&'a Table>
     ensures { option_map (λ t. table_view t.now) result
         ≡ section_at key.now (table_view document.now) }
 {
-    match value_at(document, key) {
-        Some(value) => value.as_table(),
-        None => None,
-    }
+    value_at(document, key).and_then(|value| value.as_table())
 }
 
 impl<'a> Sections<'a> {

@@ -1,13 +1,12 @@
 -- Each frame says what went in.
-use Rattle.std.proofs.Common.{◌≡◌, ℕ, suc, ◌+◌, ◌-◌, ◌/◌, ◌%◌, ◌≤◌, ◌<◌, ◌⊎◌, inl, inr, Bool, true, false, Option, Some, None, List, [], ◌∷◌, ◌++◌, length, take, drop, get_or, replicate, max, refl, sym, ap, ◌∙◌, arith, append_assoc, length-append}
-use Rattle.std.proofs.lemmas.List.{drop-drop, drop_at, take_at, length-take, length-drop, get_or_append_left, get_or-replicate, get_or_push}
+use Rattle.std.proofs.Common.{◌≡◌, ℕ, ◌+◌, ◌-◌, ◌/◌, ◌%◌, ◌≤◌, ◌<◌, ◌⊎◌, inl, inr, Bool, true, false, Option, Some, None, List, [], ◌∷◌, ◌++◌, length, take, drop, get_or, replicate, max, refl, sym, ap, ◌∙◌, arith, append_assoc, length-append}
+use Rattle.std.proofs.lemmas.List.{drop-drop, drop_at, take_at, length-take, length-drop, get_or-drop, get_or_append_left, get_or-replicate, get_or_push}
 use Rattle.std.proofs.lemmas.Bool.Decides.{nat_tests}
-use Rattle.std.proofs.Math.Seq.{take-append_seam, get_or-append_right}
+use Rattle.std.proofs.Math.Seq.{get_or-append_right}
 use Rattle.std.proofs.Math.ListN.{length-replicate}
-use Rattle.std.specs.Prelude.{IfSome, slice_index, nat_le, if◌then◌else◌}
+use Rattle.std.specs.Prelude.{slice_index, nat_le, if◌then◌else◌}
 use Rattle.afdx_plan.specs.declared.port_plan.PortPlan.{PortPlan}
-use Rattle.afdx_plan.specs.Plan.{IsPort, IsUnicast}
-use Rattle.afdx_plan.specs.Address.{destination_of}
+use Rattle.afdx_plan.specs.Plan.{IsPort}
 use Rattle.afdx_plan.specs.Numbers.{identification}
 use Rattle.afdx_frame.specs.declared.net.Net.{Net}
 use Rattle.afdx_frame.specs.declared.net.Net.TheVariants.{A, B}
@@ -20,45 +19,6 @@ use Rattle.afdx_frame.specs.ReadBack.{IsPiece, Says}
 use Rattle.afdx_frame.proofs.Datagram.{length-udp_header}
 use Rattle.afdx_frame.proofs.SaysLemmas.{length-internet, header_closes}
 
--- an interface is one of the two
-interface_one : (net : Net) → (interface_byte net ≡ 32) ⊎ (interface_byte net ≡ 64)
-interface_one A = inl refl
-interface_one B = inr refl
-
--- an element of the first of four lists
-at_first : (a b c d : List ℕ) (i : ℕ) → i < length a → get_or (((a ++ b) ++ c) ++ d) i 0 ≡ get_or a i 0
-at_first a b c d i inside =
-    get_or_append_left ((a ++ b) ++ c) d 0 i (omega (arith, length-append (a ++ b) c, length-append a b))
-    ∙ get_or_append_left (a ++ b) c 0 i (omega (arith, length-append a b))
-    ∙ get_or_append_left a b 0 i inside
-
--- the address is the link's or one that begins with 10
-destination_kind : (vl : ℕ) (unicast : Option (List ℕ)) (bytes : List ℕ) → IfSome unicast IsUnicast
-    → slice_index bytes 4 ≡ vl / 256 % 256 → slice_index bytes 5 ≡ vl % 256
-    → (slice_index bytes 30 ≡ get_or (destination_of vl unicast) 0 0) ×
-    (slice_index bytes 31 ≡ get_or (destination_of vl unicast) 1 0) ×
-    (slice_index bytes 32 ≡ get_or (destination_of vl unicast) 2 0) ×
-    (slice_index bytes 33 ≡ get_or (destination_of vl unicast) 3 0)
-    → ((slice_index bytes 30 ≡ 224) × (slice_index bytes 31 ≡ 224) × (slice_index bytes 32 ≡ slice_index bytes 4) ×
-    (slice_index bytes 33 ≡ slice_index bytes 5)) ⊎ (slice_index bytes 30 ≡ 10)
-destination_kind vl None bytes is high low there = inl (there.0, there.1, there.2 ∙ sym high, there.3 ∙ sym low)
-destination_kind vl (Some address) bytes is high low there = inr (there.0 ∙ is.first)
-
--- a destination address has four bytes
-length-destination : (vl : ℕ) (unicast : Option (List ℕ)) → IfSome unicast IsUnicast → length (destination_of vl unicast) ≡ 4
-length-destination vl None is = refl
-length-destination vl (Some address) is = is.four
-
--- what stands behind the link header
-drop_link : (vl end_system : ℕ) (net : Net) (rest : List ℕ) → drop 14 (link_header vl end_system net ++ rest) ≡ rest
-unfolding link_header
-drop_link vl end_system net rest = refl
-
--- a link header has 14 bytes
-length-link : (vl end_system : ℕ) (net : Net) → length (link_header vl end_system net) ≡ 14
-unfolding link_header
-length-link vl end_system net = refl
-
 -- flags and offset in one number
 word_of_flags : (more : Bool) (start : ℕ) → start ≤ 8200
     → (((if more then 8192 else 0) + start / 8) < 16384) ×
@@ -68,47 +28,36 @@ word_of_flags : (more : Bool) (start : ℕ) → start ≤ 8200
 word_of_flags true start most = (omega arith, omega arith, grind (arith, nat_tests), (λ h. refl))
 word_of_flags false start most = (omega arith, omega arith, grind (arith, nat_tests), (λ h. absurd (omega arith)))
 
--- zeros, and a last byte
-padded : (front : List ℕ) (count number : ℕ) (k : ℕ) → length front ≤ k
-    → suc k < length (front ++ (replicate count 0 ++ number ∷ []))
-    → get_or (front ++ (replicate count 0 ++ number ∷ [])) k 0 ≡ 0
-padded front count number k behind inside =
-    let size = length-append front (replicate count 0 ++ number ∷ []) in
-    let zeros = length-append (replicate count 0) (number ∷ []) in
-    let many = length-replicate {A = ℕ} count 0 in
-    get_or-append_right front (replicate count 0 ++ number ∷ []) k 0 behind
-    ∙ get_or_append_left (replicate count 0) (number ∷ []) 0 (k - length front) (omega arith)
-    ∙ get_or-replicate count (k - length front) 0 0 (omega arith)
-
--- the last byte is the number
-last_of : (front : List ℕ) (number : ℕ) → get_or (front ++ number ∷ []) (length (front ++ number ∷ []) - 1) 0 ≡ number
-last_of front number =
-    get_or_push front number 0 (length (front ++ number ∷ []) - 1) (omega (arith, length-append front (number ∷ [])))
-
 module _ (end_system : ℕ) (port : PortPlan) (message : List ℕ) (place : ℕ) (piece : Piece) (net : Net) (number : ℕ) where
   abbrev frame : List ℕ
   frame = frame_of end_system port message place piece net number
 
-  payload : List ℕ
+  abbrev header : List ℕ
+  header = internet_header end_system port (identification place port.sub) piece
+
+  abbrev payload : List ℕ
   payload = take piece.len (drop piece.start (datagram end_system port message))
+
+  -- the padding and the number
+  abbrev tail : List ℕ
+  tail = replicate (25 - piece.len) 0 ++ number ∷ []
 
   link_ok : HasLinkHeader frame
   unfolding unnumbered link_header
   link_ok = record {
     destination = (refl, refl, refl, refl);
     source = (refl, refl, refl);
-    interface =
-        interface_one net;
+    interface = elim net as (λ n. (interface_byte n ≡ 32) ⊎ (interface_byte n ≡ 64)) [ A ↦ inl refl | B ↦ inr refl ];
     kind = (refl, refl);
   }
-
-  vl_ok : port.vl.0 < 65536 → word_at frame 4 ≡ port.vl.0
-  unfolding unnumbered link_header
-  vl_ok h = omega arith
 
   pub total_ok : piece.len ≤ 1479 → total_length frame ≡ 20 + piece.len
   unfolding unnumbered link_header internet_header header_front
   total_ok h = omega arith
+
+  vl_ok : port.vl.0 < 65536 → word_at frame 4 ≡ port.vl.0
+  unfolding unnumbered link_header
+  vl_ok h = omega arith
 
   ident_ok : word_at frame 18 ≡ identification place port.sub
   unfolding unnumbered link_header internet_header header_front
@@ -123,122 +72,76 @@ module _ (end_system : ℕ) (port : PortPlan) (message : List ℕ) (place : ℕ)
   unfolding unnumbered link_header internet_header header_front
   constants_ok = (refl, refl, refl, refl)
 
-  source_ok : port.partition < 32
-      → (slice_index frame 26 ≡ 10) × (slice_index frame 27 ≡ slice_index frame 9) ×
-      (slice_index frame 28 ≡ slice_index frame 10) × (slice_index frame 29 ≤ 31)
+  addresses_ok : (unicast : Option (List ℕ)) → IsPort (record port { unicast = unicast })
+      → HasAddresses (frame_of end_system (record port { unicast = unicast }) message place piece net number)
   unfolding unnumbered link_header internet_header header_front addresses
-  source_ok h = (refl, refl, refl, omega arith)
-
-  destination_there : 4 ≤ length (destination_of port.vl.0 port.unicast)
-      → (slice_index frame 30 ≡ get_or (destination_of port.vl.0 port.unicast) 0 0) ×
-      (slice_index frame 31 ≡ get_or (destination_of port.vl.0 port.unicast) 1 0)
-      × (slice_index frame 32 ≡ get_or (destination_of port.vl.0 port.unicast) 2 0) ×
-      (slice_index frame 33 ≡ get_or (destination_of port.vl.0 port.unicast) 3 0)
-  unfolding unnumbered link_header internet_header header_front addresses payload
-  destination_there h =
-      let there = λ (i : ℕ) (below : i < length (destination_of port.vl.0 port.unicast)). at_first
-      (destination_of port.vl.0 port.unicast) payload (replicate (25 - piece.len) 0) (number ∷ []) i below in
-      (there 0 (omega arith), there 1 (omega arith), there 2 (omega arith), there 3 (omega arith))
-
-  link_bytes : (slice_index frame 4 ≡ port.vl.0 / 256 % 256) × (slice_index frame 5 ≡ port.vl.0 % 256)
-  unfolding unnumbered link_header
-  link_bytes = (refl, refl)
-
-  addresses_ok : IsPort port → HasAddresses frame
-  addresses_ok is = record {
-    source = source_ok is.partition;
-    destination = destination_kind port.vl.0 port.unicast frame is.unicast link_bytes.0 link_bytes.1
-        (destination_there (let four = length-destination port.vl.0 port.unicast is.unicast in omega arith));
+  addresses_ok None is = record {
+    source = (refl, refl, refl, let p = is.partition in omega arith);
+    destination = inl (refl, refl, refl, refl);
+  }
+  addresses_ok (Some []) is = absurd (let four = is.unicast.four in omega arith)
+  addresses_ok (Some (first ∷ rest)) is = record {
+    source = (refl, refl, refl, let p = is.partition in omega arith);
+    destination = inr is.unicast.first;
   }
 
   length-payload : piece.start + piece.len ≤ 8 + length message → length payload ≡ piece.len
-  unfolding payload datagram
+  unfolding datagram
   length-payload within =
       let eight = length-udp_header end_system port message in
-      let size = length-append (udp_header end_system port message) message in
       omega (
         arith,
-        length-take piece.len
-            (drop piece.start (udp_header end_system port message ++ message)),
-        length-drop piece.start
-            (udp_header end_system port message ++ message),
+        length-append (udp_header end_system port message) message,
+        length-take piece.len (drop piece.start (udp_header end_system port message ++ message)),
+        length-drop piece.start (udp_header end_system port message ++ message),
       )
 
   -- the frame from its internet header on
-  tail_is : frame ≡ link_header port.vl.0 end_system net
-      ++ (internet_header end_system port (identification place port.sub) piece
-      ++ (payload ++ (replicate (25 - piece.len) 0 ++ number ∷ [])))
-  unfolding unnumbered payload
-  tail_is = simp append_assoc
+  behind_link : drop 14 frame ≡ header ++ (payload ++ tail)
+  unfolding unnumbered link_header
+  behind_link = simp append_assoc
+
+  -- and from its piece on
+  behind_header : IsPort port → drop 34 frame ≡ payload ++ tail
+  behind_header is = sym (drop-drop 20 14 frame) ∙ ap (drop 20) behind_link
+      ∙ drop_at header (payload ++ tail) 20 (length-internet end_system port (identification place port.sub) piece is)
 
   checksum_ok : IsPort port → word_sum (take 20 (drop 14 frame)) % 65535 ≡ 0
   checksum_ok is =
-      let header = internet_header end_system port (identification place port.sub) piece in
-      let rest = payload ++ (replicate (25 - piece.len) 0 ++ number ∷ []) in
-      let twenty = length-internet end_system port (identification place port.sub) piece is in
-      let behind : drop 14 frame ≡ header ++ rest = ap (drop 14) tail_is ∙ drop_link port.vl.0 end_system net (header ++ rest) in
-      let front : take 20 (header ++ rest) ≡ header =
-      ap (λ (n : ℕ). take n (header ++ rest)) (sym twenty) ∙ take-append_seam header rest in
-      rw (behind, front) (header_closes end_system port (identification place port.sub) piece)
+      let front = take_at header (payload ++ tail) 20
+      (length-internet end_system port (identification place port.sub) piece is) in
+      rw (behind_link, front) (header_closes end_system port (identification place port.sub) piece)
 
-  -- the piece stands behind the headers
   pub payload_says : IsPort port → piece.start + piece.len ≤ 8 + length message
       → take piece.len (drop 34 frame) ≡ take piece.len (drop piece.start (datagram end_system port message))
-  unfolding payload
   payload_says is within =
-      let header = internet_header end_system port (identification place port.sub) piece in
-      let rest = payload ++ (replicate (25 - piece.len) 0 ++ number ∷ []) in
-      let twenty = length-internet end_system port (identification place port.sub) piece is in
-      let behind : drop 14 frame ≡ header ++ rest = ap (drop 14) tail_is ∙ drop_link port.vl.0 end_system net (header ++ rest) in
-      let both : drop 34 frame ≡ rest = sym (drop-drop 20 14 frame) ∙ ap (drop 20) behind ∙ drop_at header rest 20 twenty in
-      ap (take piece.len) both
-      ∙ take_at payload (replicate (25 - piece.len) 0 ++ number ∷ []) piece.len (length-payload within)
-
-  length-front : IsPort port → piece.start + piece.len ≤ 8 + length message
-      → length (link_header port.vl.0 end_system net
-      ++ internet_header end_system port (identification place port.sub) piece ++ payload) ≡ 34 + piece.len
-  length-front is within =
-      let link = length-link port.vl.0 end_system net in
-      let header = length-internet end_system port (identification place port.sub) piece is in
-      let part = length-payload within in
-      let first = length-append
-      (link_header port.vl.0 end_system net
-      ++ internet_header end_system port (identification place port.sub) piece) payload in
-      let second = length-append (link_header port.vl.0 end_system net)
-      (internet_header end_system port (identification place port.sub) piece) in
-      omega arith
-
-  -- the frame by its fields, its padding and its number
-  parts_are : frame ≡ (link_header port.vl.0 end_system net
-      ++ internet_header end_system port (identification place port.sub) piece ++ payload)
-      ++ (replicate (25 - piece.len) 0 ++ number ∷ [])
-  unfolding unnumbered payload
-  parts_are = simp append_assoc
+      ap (take piece.len) (behind_header is) ∙ take_at payload tail piece.len (length-payload within)
 
   pub length-frame : IsPort port → piece.start + piece.len ≤ 8 + length message → length frame ≡ max 60 (35 + piece.len)
   length-frame is within =
-      let front = length-front is within in
-      let parts = ap length parts_are in
-      let all = length-append
-      (link_header port.vl.0 end_system net
-      ++ internet_header end_system port (identification place port.sub) piece ++ payload)
-      (replicate (25 - piece.len) 0 ++ number ∷ []) in
+      let part = length-payload within in
       let zeros = length-append (replicate (25 - piece.len) 0) (number ∷ []) in
       let many = length-replicate {A = ℕ} (25 - piece.len) 0 in
-      omega arith
+      omega (arith, length-drop 34 frame, ap length (behind_header is), length-append payload tail)
 
   padding_ok : IsPort port → piece.start + piece.len ≤ 8 + length message → piece.len ≤ 1479 → HasZeroPadding frame
   padding_ok is within most k from below =
       let total = total_ok most in
-      let front = length-front is within in
-      let parts = ap length parts_are in
-      ap (λ (bytes : List ℕ). get_or bytes k 0) parts_are
-      ∙ padded (link_header port.vl.0 end_system net
-      ++ internet_header end_system port (identification place port.sub) piece ++ payload) (25 - piece.len)
-      number k (omega arith) (omega arith)
+      let size = length-frame is within in
+      let part = length-payload within in
+      let zeros : List ℕ = replicate (25 - piece.len) 0 in
+      let many = length-replicate {A = ℕ} (25 - piece.len) 0 in
+      let back : 34 + (k - 34) ≡ k = omega arith in
+      ap (λ (i : ℕ). get_or frame i 0) (sym back) ∙ sym (get_or-drop 34 frame (k - 34) 0)
+      ∙ ap (λ (bytes : List ℕ). get_or bytes (k - 34) 0) (behind_header is)
+      ∙ get_or-append_right payload tail (k - 34) 0 (omega arith)
+      ∙ get_or_append_left zeros (number ∷ []) 0 (k - 34 - length payload) (omega arith)
+      ∙ get_or-replicate (25 - piece.len) (k - 34 - length payload) 0 0 (omega arith)
 
   number_ok : slice_index frame (length frame - 1) ≡ number
-  number_ok = last_of (unnumbered end_system port message place piece net) number
+  number_ok =
+      let front : List ℕ = unnumbered end_system port message place piece net in
+      get_or_push front number 0 (length frame - 1) (omega (arith, length-append front (number ∷ [])))
 
   flags_ok : IsPiece (length message) piece → length message ≤ 8192
       → (fragment_field frame < 16384) × (fragment_field frame % 8192 ≡ piece.start / 8) ×
@@ -255,11 +158,12 @@ module _ (end_system : ℕ) (port : PortPlan) (message : List ℕ) (place : ℕ)
       let len = piece_is.len in
       let flags = flags_ok piece_is most in
       let total = total_ok len.1 in
+      let size = length-frame is within in
       let ident = ident_ok in
       let sub = is.sub in
       record {
         frame = record {
-          size = let size = length-frame is within in (omega arith, omega arith);
+          size = (omega arith, omega arith);
           link = link_ok;
           internet = record {
             version = (constants_ok.0, constants_ok.1);
@@ -270,8 +174,8 @@ module _ (end_system : ℕ) (port : PortPlan) (message : List ℕ) (place : ℕ)
             protocol = (constants_ok.2, constants_ok.3);
             checksum = checksum_ok is;
           };
-          fits = let size = length-frame is within in omega arith;
-          addresses = addresses_ok is;
+          fits = omega arith;
+          addresses = addresses_ok port.unicast is;
           padding = padding_ok is within len.1;
         };
         vl_says = vl_ok is.vl;

@@ -1,10 +1,11 @@
 -- The demonstration configuration is a valid plan.
-use Rattle.std.proofs.Common.{◌≡◌, ℕ, zero, suc, ◌+◌, ◌≤◌, ◌<◌, Bool, true, false, nat_eq, cond, ◌&&◌, [], ◌∷◌, refl, ap, sym, ◌∙◌, arith}
+use Rattle.std.proofs.Common.{◌≡◌, zero, suc, nat_eq, ◌&&◌, [], ◌∷◌, refl, ap, sym, ◌∙◌, arith}
 use Rattle.std.specs.Prelude.{Contains}
+use Rattle.std.proofs.lemmas.List.Sums.{count_by-le-length}
 use Rattle.std.proofs.lemmas.List.Elements.{All-cons, All-nil}
 use Rattle.afdx_plan.specs.declared.identifiers.Kind.TheVariants.{Sampling, Queuing}
 use Rattle.afdx_plan.specs.declared.port_plan.PortPlan.{PortPlan}
-use Rattle.afdx_plan.specs.Config.{IsPlan, HasLink, ports_on}
+use Rattle.afdx_plan.specs.Config.{IsPlan, HasLink}
 use Rattle.afdx_plan.specs.Demo.{demo_plan, demo_link, demo_port}
 use Rattle.afdx_plan.specs.Plan.{IsLink, IsPort}
 
@@ -26,18 +27,6 @@ only_one : {X : Type 0} (x y : X) → Contains (x ∷ []) y → y ≡ x
 only_one x y (zero, inside, is) = sym is
 only_one x y (suc k, inside, is) = absurd (omega (arith, inside))
 
--- places in a list of one are the same
-same_place : (i j : ℕ) → i < 1 → j < 1 → i ≡ j
-same_place i j a b = omega arith
-
--- one port is few
-few_ports : (vl sub : ℕ) → ports_on (demo_port ∷ []) vl sub ≤ 64
-few_ports vl sub = one (nat_eq demo_port.vl.0 vl && nat_eq demo_port.sub sub)
-  where
-    one : (t : Bool) → 0 + cond t 1 0 ≤ 64
-    one true = omega arith
-    one false = omega arith
-
 -- the demonstration plan is valid
 pub demo_valid : IsPlan demo_plan
 demo_valid = record {
@@ -51,18 +40,18 @@ demo_valid = record {
     capacity = (omega arith, omega arith);
   }) (All-nil IsLink);
   each_port = All-cons IsPort demo_port [] demo_port_is (All-nil IsPort);
-  links_apart = λ i j a b e. same_place i j a b;
-  ports_apart = λ i j a b e. same_place i j a b;
+  links_apart = λ i j a b e. omega arith;
+  ports_apart = λ i j a b e. omega arith;
   linked = All-cons (HasLink (demo_link ∷ [])) demo_port []
       (record { at = 0; within = omega arith; over = record { id = refl; sub = omega arith } })
       (All-nil (HasLink (demo_link ∷ [])));
   sampling = λ p link has_p has_link kind id.
-      absurd (queuing (sym (ap (λ (q : PortPlan). q.kind) (only_one demo_port p has_p)) ∙ kind));
+      let queuing : Queuing ≡ Sampling = sym (ap (λ (q : PortPlan). q.kind) (only_one demo_port p has_p)) ∙ kind in cc;
   flows_apart = λ p q has_p has_q same. only_one demo_port p has_p ∙ sym (only_one demo_port q has_q);
   unicasts_apart = λ p q has_p has_q address a b same.
       ap (λ (r : PortPlan). r.vl) (only_one demo_port p has_p ∙ sym (only_one demo_port q has_q));
-  few_ports = few_ports;
+  few_ports = λ vl sub.
+      let most = count_by-le-length (λ (port : PortPlan). nat_eq port.vl.0 vl && nat_eq port.sub sub)
+      (demo_port ∷ []) in
+      omega arith;
 }
-  where
-    queuing : Queuing ≡ Sampling → ⊥
-    queuing e = cc

@@ -1,7 +1,7 @@
 -- A valid plan shows no fault.
 use Rattle.std.proofs.Common.{◌≡◌, ℕ, suc, ◌-◌, ◌<◌, ◌≤◌, Bool, true, false, not, List, [], ◌∷◌, length, get_or, Option, Some, None, refl, ap, sym, subst, ◌∙◌, arith, eq-eqb}
-use Rattle.std.specs.Prelude.{◌==◌, ◌&&◌, nat_lt, nat_le, find, Contains}
-use Rattle.std.specs.Option.{option_map_or}
+use Rattle.std.specs.List.{list_any}
+use Rattle.std.specs.Prelude.{◌==◌, Contains}
 use Rattle.std.proofs.lemmas.Bool.{and_parts, or_from, eqb-true, le-ltb, lt-leb, ne_eqb, not-true, not_from_true, false_from_ne_true}
 use Rattle.std.proofs.lemmas.List.{get_or_default}
 use Rattle.std.proofs.lemmas.List.Elements.{Contains-get_or}
@@ -13,11 +13,10 @@ use Rattle.afdx_plan.specs.declared.identifiers.Kind.{Kind}
 use Rattle.afdx_plan.specs.declared.identifiers.Kind.TheVariants.{Sampling, Queuing}
 use Rattle.afdx_plan.specs.declared.fault.ConfigFault.{ConfigFault}
 use Rattle.afdx_plan.specs.declared.fault.ConfigFault.TheVariants.{DuplicateVl, DuplicatePort, NoSuchVl, NoSuchSub, SamplingTooLong, SameFlow, SharedUnicast, Limit}
-use Rattle.afdx_plan.specs.declared.link_plan.LinkPlan.{LinkPlan}
 use Rattle.afdx_plan.specs.declared.port_plan.PortPlan.{PortPlan}
 use Rattle.afdx_plan.specs.Address.{destination_of}
 use Rattle.afdx_plan.specs.Config.{Plan, IsPlan, HasLink, AreSameFlow, link_plan_at, port_plan_at, ports_on}
-use Rattle.afdx_plan.specs.PlanFaults.{has_pair, has_same_vl, has_same_port, is_link_of, names_no_link, names_no_sub, is_sampling, is_too_long, are_one_address, are_one_destination, has_same_flow, shares_unicast, is_no_count, is_crowded, plan_shows}
+use Rattle.afdx_plan.specs.PlanFaults.{has_pair, has_same_vl, has_same_port, is_link_of, names_no_link, names_no_sub, is_too_long, are_one_address, are_one_destination, has_same_flow, shares_unicast, is_no_count, is_crowded, plan_shows}
 use Rattle.afdx_plan.proofs.PlanLemmas.{FoundAt, found_at, named}
 
 -- a list has no related pair where no two elements are related
@@ -30,18 +29,14 @@ no_pair related (x ∷ xs) d apart = or_from _ _
     subst (λ y. related x y ≡ false) (get_or_default xs k d e below) (apart 0 (suc k) (omega arith) (omega arith))))
     (no_pair related xs d (λ i j before below. apart (suc i) (suc j) (omega arith) (omega arith)))
 
--- a port's link, as it is found
-linked : (plan : Plan) (port : PortPlan) → HasLink plan.links port → FoundAt (is_link_of port) plan.links
-linked plan port has =
-    let number : (link_plan_at plan.links has.at).id.0 ≡ port.vl.0 = ap (λ (v : VlId). v.0) has.over.id in
-    found_at (is_link_of port) plan.links
-    (list_any_at (is_link_of port) plan.links has.at _ has.within (eq-eqb _ _ number))
-
 -- a port with a link names one
-names_link : (plan : Plan) (port : PortPlan) → HasLink plan.links port → names_no_link plan.links port ≡ false
-names_link plan port has =
-    let number : (link_plan_at plan.links has.at).id.0 ≡ port.vl.0 = ap (λ (v : VlId). v.0) has.over.id in
-    not_from_true _ (list_any_at (is_link_of port) plan.links has.at _ has.within (eq-eqb _ _ number))
+names_link : (plan : Plan) (port : PortPlan) → HasLink plan.links port → list_any (is_link_of port) plan.links ≡ true
+names_link plan port has = list_any_at (is_link_of port) plan.links has.at _ has.within
+    (eq-eqb _ _ (ap (λ (v : VlId). v.0) has.over.id))
+
+-- its link, as it is found
+linked : (plan : Plan) (port : PortPlan) → HasLink plan.links port → FoundAt (is_link_of port) plan.links
+linked plan port has = found_at (is_link_of port) plan.links (names_link plan port has)
 
 -- and one of its sub-VLs
 names_sub : (plan : Plan) (port : PortPlan) → IsPlan plan → HasLink plan.links port → names_no_sub plan.links port ≡ false
@@ -52,22 +47,17 @@ names_sub plan port is has =
     (named port here found.passes ∙ sym has.over.id) in
     let below : port.sub < here.sub_vls =
     subst (λ (k : ℕ). port.sub < (link_plan_at plan.links k).sub_vls) (sym one) has.over.sub in
-    ap (λ (o : Option LinkPlan). option_map_or (λ link. nat_le link.sub_vls port.sub) o false) found.found
-    ∙ lt-leb here.sub_vls port.sub below
+    rw found.found (lt-leb here.sub_vls port.sub below)
 
 -- a sampling port's greatest message fits
 long_one : (plan : Plan) (port : PortPlan) (kind : Kind) → port.kind ≡ kind → IsPlan plan → Contains plan.ports port
-    → HasLink plan.links port
-    → (is_sampling kind && option_map_or (λ link. nat_lt (link.lmax - 47) port.max)
-    (find (is_link_of port) plan.links) false) ≡ false
-long_one plan port Queuing kind is member has = refl
+    → HasLink plan.links port → is_too_long plan.links port ≡ false
+long_one plan port Queuing kind is member has = rw kind refl
 long_one plan port Sampling kind is member has =
     let found = linked plan port has in
     let here = link_plan_at plan.links found.at in
-    let most = is.sampling port here member (Contains-get_or plan.links found.at _ found.within) kind
-    (named port here found.passes) in
-    ap (λ (o : Option LinkPlan). option_map_or (λ link. nat_lt (link.lmax - 47) port.max) o false) found.found
-    ∙ le-ltb (here.lmax - 47) port.max most
+    rw (kind, found.found) (le-ltb (here.lmax - 47) port.max (is.sampling port here member
+    (Contains-get_or plan.links found.at _ found.within) kind (named port here found.passes)))
 
 -- one destination of one link
 destinations : (v w : ℕ) (s t : Option (List ℕ)) → v ≡ w → are_one_destination s t ≡ true
@@ -100,17 +90,12 @@ apart_ports : (plan : Plan) (i j : ℕ) → IsPlan plan → i < j → j < length
 apart_ports plan i j is before below same =
     let one : i ≡ j = is.ports_apart i j (omega arith) below (ap (λ (port : PortPlan). port.id) same) in omega arith
 
--- the address that two share
-record OneAddress (s t : Option (List ℕ)) : Type 0 where
-  address : List ℕ
-  first : s ≡ Some address
-  second : t ≡ Some address
-
 -- two addresses that are one
-one_address : (s t : Option (List ℕ)) → are_one_address s t ≡ true → OneAddress s t
+one_address : (s t : Option (List ℕ)) → are_one_address s t ≡ true
+    → (address : List ℕ) × (s ≡ Some address) × (t ≡ Some address)
 one_address None t one = cc
 one_address (Some a) None one = cc
-one_address (Some a) (Some b) one = record { address = b; first = ap Some ((bytes_eq-Decides a b).0 one); second = refl }
+one_address (Some a) (Some b) one = (b, ap Some ((bytes_eq-Decides a b).0 one), refl)
 
 -- ports at two places of a valid plan share no address
 no_share : (plan : Plan) (p q : PortPlan) → IsPlan plan → Contains plan.ports p → Contains plan.ports q
@@ -119,7 +104,7 @@ no_share plan p q is in_p in_q shares =
     let (two, address) = and_parts _ (are_one_address p.unicast q.unicast) shares in
     let (link, partition) = and_parts (not (p.vl.0 == q.vl.0)) (p.partition == q.partition) two in
     let one = one_address p.unicast q.unicast address in
-    let vl = is.unicasts_apart p q in_p in_q one.address one.first one.second (eqb-true p.partition q.partition partition) in
+    let vl = is.unicasts_apart p q in_p in_q one.0 one.1 one.2 (eqb-true p.partition q.partition partition) in
     let other : (p.vl.0 == q.vl.0) ≡ false = not-true _ link in
     let same = eq-eqb p.vl.0 q.vl.0 (ap (λ (v : VlId). v.0) vl) in cc
 
@@ -138,7 +123,7 @@ faultless plan is DuplicatePort = no_pair has_same_port plan.ports (port_plan_at
     let port : ℕ → PortId = λ n. record { 0 = n } in
     let one : i ≡ j = is.ports_apart i j (omega arith) below (ap port number) in omega arith))
 faultless plan is NoSuchVl = list_any_none (names_no_link plan.links) plan.ports (λ k d below.
-    names_link plan (get_or plan.ports k d) (is.linked k d below))
+    not_from_true _ (names_link plan (get_or plan.ports k d) (is.linked k d below)))
 faultless plan is NoSuchSub = list_any_none (names_no_sub plan.links) plan.ports (λ k d below.
     names_sub plan (get_or plan.ports k d) is (is.linked k d below))
 faultless plan is SamplingTooLong = list_any_none (is_too_long plan.links) plan.ports (λ k d below.

@@ -1,15 +1,13 @@
 -- What is found first in a list.
-use Rattle.std.proofs.Common.{◌≡◌, Bool, true, false, cond, List, [], ◌∷◌, Some, None, refl}
+use Rattle.std.proofs.Common.{◌≡◌, inl, inr, Bool, false, List, [], ◌∷◌, Some, None}
 use Rattle.std.specs.Prelude.{find}
 use Rattle.std.specs.List.{AllByRecursion}
-
--- none is found where each fails the test
-none_step : {X : Type 0} (p : X → Bool) (x : X) (xs : List X) (b : Bool) → p x ≡ b
-    → cond b (Some x) (find p xs) ≡ None → (p x ≡ false) × (find p xs ≡ None)
-none_step p x xs true e k = cc
-none_step p x xs false e k = (e, k)
+use Rattle.std.proofs.lemmas.Bool.{cases_Bool}
 
 -- where none is found, each fails the test
 pub find_none-list : {X : Type 0} (p : X → Bool) (xs : List X) → find p xs ≡ None → AllByRecursion (λ x. p x ≡ false) xs
 find_none-list p [] h = tt
-find_none-list p (x ∷ xs) h = let (e, k) = none_step p x xs (p x) refl h in (e, find_none-list p xs k)
+find_none-list p (x ∷ xs) h = elim (cases_Bool (p x)) [
+  | inl is ↦ let found : Some x ≡ None = rw is at h in cc
+  | inr isnt ↦ (isnt, find_none-list p xs (rw isnt at h))
+]

@@ -1,9 +1,8 @@
 -- A plan that shows no fault is valid.
-use Rattle.std.proofs.Common.{◌≡◌, ℕ, suc, zero, ◌+◌, ◌-◌, ◌<◌, ◌≤◌, inl, inr, Bool, true, false, cond, List, [], ◌∷◌, length, get_or, Option, Some, None, refl, ap, sym, subst, ◌∙◌, arith, eq-eqb}
-use Rattle.std.specs.Prelude.{◌==◌, ◌&&◌, ◌||◌, nat_lt, nat_le, nat_eq, find, count_by, All, Contains, IfSome}
+use Rattle.std.proofs.Common.{◌≡◌, ℕ, suc, zero, ◌-◌, ◌<◌, ◌≤◌, inl, inr, ◌⊎◌, Bool, true, false, cond, List, [], ◌∷◌, length, get_or, Option, Some, None, refl, ap, sym, ◌∙◌, arith, eq-eqb}
+use Rattle.std.specs.Prelude.{◌==◌, ◌&&◌, nat_lt, nat_le, nat_eq, find, count_by, All, Contains, IfSome}
 use Rattle.std.specs.List.{list_any}
-use Rattle.std.specs.Option.{option_map_or}
-use Rattle.std.proofs.lemmas.Bool.{or_parts, and_parts, and_from, eqb-true, eqb-false, ltb-false, leb-false, ne_eqb, false_from_ne_true, cases_order, cases_eq, cases_lt, not-false, not_from_false}
+use Rattle.std.proofs.lemmas.Bool.{or_parts, and_parts, and_from, eqb-true, eqb-false, ltb-false, leb-false, ne_eqb, false_from_ne_true, cases_Bool, cases_order, cases_eq, cases_lt, not-false, not_from_false}
 use Rattle.std.proofs.lemmas.List.{get_or_default}
 use Rattle.std.proofs.lemmas.List.Elements.{All-contains}
 use Rattle.std.proofs.lemmas.List.Folds.{list_any_at}
@@ -11,14 +10,13 @@ use Rattle.std.proofs.lemmas.List.Sums.{sum_by-cons}
 use Rattle.std.proofs.lemmas.Slice.Eq.{bytes_eq-Decides}
 use Rattle.afdx_plan.specs.declared.identifiers.VlId.{VlId}
 use Rattle.afdx_plan.specs.declared.identifiers.PortId.{PortId}
-use Rattle.afdx_plan.specs.declared.identifiers.Kind.{Kind}
 use Rattle.afdx_plan.specs.declared.identifiers.Kind.TheVariants.{Sampling}
 use Rattle.afdx_plan.specs.declared.link_plan.LinkPlan.{LinkPlan}
 use Rattle.afdx_plan.specs.declared.port_plan.PortPlan.{PortPlan}
 use Rattle.afdx_plan.specs.Address.{destination_of}
 use Rattle.afdx_plan.specs.Plan.{IsLink, IsPort, IsUnicast}
 use Rattle.afdx_plan.specs.Config.{Plan, IsPlan, HasLink, AreSameFlow, link_plan_at, port_plan_at, ports_on}
-use Rattle.afdx_plan.specs.PlanFaults.{has_pair, has_same_vl, has_same_port, is_link_of, names_no_link, names_no_sub, is_sampling, is_too_long, are_one_address, are_one_destination, has_same_flow, shares_unicast, is_no_count, is_crowded, parts_show, plan_faults, least_plan_fault}
+use Rattle.afdx_plan.specs.PlanFaults.{has_pair, has_same_vl, has_same_port, is_link_of, names_no_link, names_no_sub, is_too_long, are_one_address, are_one_destination, has_same_flow, shares_unicast, is_no_count, is_crowded, parts_show, plan_faults, least_plan_fault}
 use Rattle.afdx_plan.proofs.FindLemmas.{find_none-list}
 
 -- no element passes a test that none passes
@@ -26,6 +24,10 @@ pub none_at : {X : Type 0} (p : X → Bool) (xs : List X) (k : ℕ) (d : X) → 
     → p (get_or xs k d) ≡ false
 none_at p xs k d none below =
     false_from_ne_true (p (get_or xs k d)) (λ passes. let found = list_any_at p xs k d below passes in cc)
+
+-- nor does a member
+none_of : {X : Type 0} (p : X → Bool) (xs : List X) (x : X) → list_any p xs ≡ false → Contains xs x → p x ≡ false
+none_of p xs x none in_x = All-contains (λ y. p y ≡ false) xs x (λ k d below. none_at p xs k d none below) in_x
 
 -- no two elements at different places are related, the first before the second
 pair_at : {X : Type 0} (related : X → X → Bool) (xs : List X) (i j : ℕ) (d : X) → has_pair related xs ≡ false
@@ -56,27 +58,18 @@ pub record FoundAt (p : LinkPlan → Bool) (links : List LinkPlan) : Type 0 wher
   pub passes : p (link_plan_at links at) ≡ true
   pub found : find p links ≡ Some (link_plan_at links at)
 
--- the first, or one behind it
-found_next : (p : LinkPlan → Bool) (x : LinkPlan) (xs : List LinkPlan) (b : Bool) → p x ≡ b
-    → (b || list_any p xs) ≡ true → (list_any p xs ≡ true → FoundAt p xs) → FoundAt p (x ∷ xs)
-found_next p x xs true is some later = record {
-  at = 0;
-  within = omega arith;
-  passes = is;
-  found = rw is refl;
-}
-found_next p x xs false is some later =
-    let behind = later some in record {
-      at = suc behind.at;
-      within = omega (arith, behind.within);
-      passes = behind.passes;
-      found = rw is behind.found;
-    }
-
 -- where some link passes, one is found
 pub found_at : (p : LinkPlan → Bool) (links : List LinkPlan) → list_any p links ≡ true → FoundAt p links
 found_at p [] some = cc
-found_at p (x ∷ xs) some = found_next p x xs (p x) refl some (found_at p xs)
+found_at p (x ∷ xs) some = elim (cases_Bool (p x)) [
+  | inl is ↦ record { at = 0; within = omega arith; passes = is; found = rw is refl }
+  | inr isnt ↦ let behind = found_at p xs (rw isnt at some) in record {
+    at = suc behind.at;
+    within = omega (arith, behind.within);
+    passes = behind.passes;
+    found = rw isnt behind.found;
+  }
+]
 
 -- the identifiers of a link that a port names
 pub named : (port : PortPlan) (link : LinkPlan) → is_link_of port link ≡ true → link.id ≡ port.vl
@@ -89,8 +82,7 @@ has_link : (links : List LinkPlan) (port : PortPlan) → names_no_link links por
 has_link links port linked sub =
     let found = found_at (is_link_of port) links (not-false _ linked) in
     let here = link_plan_at links found.at in
-    let below : nat_le here.sub_vls port.sub ≡ false =
-    sym (ap (λ (o : Option LinkPlan). option_map_or (λ link. nat_le link.sub_vls port.sub) o false) found.found) ∙ sub in
+    let below : nat_le here.sub_vls port.sub ≡ false = rw found.found at sub in
     record {
       at = found.at;
       within = found.within;
@@ -108,13 +100,6 @@ same_vl links i j none in_i in_j same =
     let number : (link_plan_at links i).id.0 ≡ (link_plan_at links j).id.0 = ap (λ (v : VlId). v.0) same in
     one_place has_same_vl links i j _ none in_i in_j (eq-eqb _ _ number) (eq-eqb _ _ (sym number))
 
--- two ports of one identifier are one
-same_port : (ports : List PortPlan) (i j : ℕ) → has_pair has_same_port ports ≡ false → i < length ports → j < length ports
-    → (port_plan_at ports i).id ≡ (port_plan_at ports j).id → i ≡ j
-same_port ports i j none in_i in_j same =
-    let number : (port_plan_at ports i).id.0 ≡ (port_plan_at ports j).id.0 = ap (λ (v : PortId). v.0) same in
-    one_place has_same_port ports i j _ none in_i in_j (eq-eqb _ _ number) (eq-eqb _ _ (sym number))
-
 -- a sampling port's greatest message fits
 fits : (links : List LinkPlan) (port : PortPlan) (link : LinkPlan) → has_pair has_same_vl links ≡ false
     → names_no_link links port ≡ false → is_too_long links port ≡ false
@@ -127,24 +112,30 @@ fits links port link apart linked short member kind id =
     let one : found.at ≡ member.0 = same_vl links found.at member.0 apart found.within member.1
     (named port here found.passes ∙ sym (ap (λ (l : LinkPlan). l.id) same ∙ id)) in
     let it : here ≡ link = ap (link_plan_at links) one ∙ same in
-    let long : nat_lt (here.lmax - 47) port.max ≡ false =
-    sym (ap (λ (o : Option LinkPlan). option_map_or (λ l. nat_lt (l.lmax - 47) port.max) o false) found.found)
-    ∙ sym (ap (λ (k : Kind). is_sampling k && option_map_or (λ l. nat_lt (l.lmax - 47) port.max)
-    (find (is_link_of port) links) false) kind)
-    ∙ short in
-    subst (λ (l : LinkPlan). port.max ≤ l.lmax - 47) it (ltb-false (here.lmax - 47) port.max long)
+    let long : nat_lt (here.lmax - 47) port.max ≡ false = rw (kind, found.found) at short in
+    rw (← it) (ltb-false (here.lmax - 47) port.max long)
 
--- one destination is one unicast address, or the multicast address of one link
-one_destination : (v w : ℕ) (s t : Option (List ℕ)) → IfSome s IsUnicast → IfSome t IsUnicast
-    → destination_of v s ≡ destination_of w t → are_one_destination s t ≡ true
-one_destination v w None None is_s is_t same = refl
-one_destination v w None (Some b) is_s is_t same =
+-- one destination is that of two links, or one unicast address
+pub which_destination : (v w : ℕ) (s t : Option (List ℕ)) → IfSome s IsUnicast → IfSome t IsUnicast
+    → destination_of v s ≡ destination_of w t
+    → ((s ≡ None) × (t ≡ None)) ⊎ ((address : List ℕ) × (s ≡ Some address) × (t ≡ Some address))
+which_destination v w None None is_s is_t same = inl (refl, refl)
+which_destination v w None (Some b) is_s is_t same =
     let first : 224 ≡ get_or b 0 0 = ap (λ (xs : List ℕ). get_or xs 0 0) same in
     let ten = is_t.first in absurd (omega arith)
-one_destination v w (Some a) None is_s is_t same =
+which_destination v w (Some a) None is_s is_t same =
     let first : get_or a 0 0 ≡ 224 = ap (λ (xs : List ℕ). get_or xs 0 0) same in
     let ten = is_s.first in absurd (omega arith)
-one_destination v w (Some a) (Some b) is_s is_t same = (bytes_eq-Decides a b).1 same
+which_destination v w (Some a) (Some b) is_s is_t same = inr (b, ap Some same, refl)
+
+-- so it is one to the test
+one_destination : (p q : PortPlan) → IsPort p → IsPort q → AreSameFlow p q
+    → are_one_destination p.unicast q.unicast ≡ true
+one_destination p q is_p is_q same =
+    elim (which_destination p.vl.0 q.vl.0 p.unicast q.unicast is_p.unicast is_q.unicast same.address) [
+      | inl none ↦ rw (none.0, none.1) refl
+      | inr one ↦ rw (one.1, one.2) ((bytes_eq-Decides one.0 one.0).1 refl)
+    ]
 
 -- agreeing ports have one flow
 same_flow : (p q : PortPlan) → IsPort p → IsPort q → AreSameFlow p q → has_same_flow p q ≡ true
@@ -154,31 +145,16 @@ same_flow p q is_p is_q same =
     (eq-eqb p.partition q.partition same.partition))
     (eq-eqb p.source q.source same.source))
     (eq-eqb p.destination q.destination same.destination))
-    (one_destination p.vl.0 q.vl.0 p.unicast q.unicast is_p.unicast is_q.unicast same.address)
+    (one_destination p q is_p is_q same)
 
--- they agree in the other order
-same_flow_back : (p q : PortPlan) → AreSameFlow p q → AreSameFlow q p
-same_flow_back p q same = record {
-  vl = sym same.vl;
-  partition = sym same.partition;
-  source = sym same.source;
-  destination = sym same.destination;
-  address = sym same.address;
-}
-
--- members of one place are one
-one_member : {X : Type 0} (xs : List X) (x y : X) (in_x : Contains xs x) (in_y : Contains xs y) → in_x.0 ≡ in_y.0 → x ≡ y
-one_member xs x y in_x in_y same = sym (place_of xs x x in_x) ∙ ap (λ (k : ℕ). get_or xs k x) same ∙ place_of xs y x in_y
-
--- related members stand at one place
+-- related members are one
 related_members : {X : Type 0} (related : X → X → Bool) (xs : List X) (x y : X) → has_pair related xs ≡ false
     → Contains xs x → Contains xs y → related x y ≡ true → related y x ≡ true → x ≡ y
 related_members related xs x y none in_x in_y one other =
     let at_x = place_of xs x x in_x in
     let at_y = place_of xs y x in_y in
-    let forth : related (get_or xs in_x.0 x) (get_or xs in_y.0 x) ≡ true = rw (at_x, at_y) one in
-    let back : related (get_or xs in_y.0 x) (get_or xs in_x.0 x) ≡ true = rw (at_x, at_y) other in
-    one_member xs x y in_x in_y (one_place related xs in_x.0 in_y.0 x none in_x.1 in_y.1 forth back)
+    let same = one_place related xs in_x.0 in_y.0 x none in_x.1 in_y.1 (rw (at_x, at_y) one) (rw (at_x, at_y) other) in
+    sym at_x ∙ ap (λ (k : ℕ). get_or xs k x) same ∙ at_y
 
 -- two ports that share a unicast address
 shared : (p q : PortPlan) (address : List ℕ) → p.unicast ≡ Some address → q.unicast ≡ Some address
@@ -204,24 +180,17 @@ record CountedAt (p : PortPlan → Bool) (ports : List PortPlan) : Type 0 where
   within : at < length ports
   passes : p (port_plan_at ports at) ≡ true
 
--- the first, or one behind it
-counted_next : (p : PortPlan → Bool) (x : PortPlan) (xs : List PortPlan) (b : Bool) → p x ≡ b
-    → 0 < count_by p (x ∷ xs) → (0 < count_by p xs → CountedAt p xs) → CountedAt p (x ∷ xs)
-counted_next p x xs true is some later = record { at = 0; within = omega arith; passes = is }
-counted_next p x xs false is some later =
-    let step : count_by p (x ∷ xs) ≡ cond {A = ℕ} (p x) 1 0 + count_by p xs = sum_by-cons (λ y. cond {A = ℕ} (p y) 1 0) x xs in
-    let none : cond {A = ℕ} (p x) 1 0 ≡ 0 = ap (λ (b : Bool). cond {A = ℕ} b 1 0) is in
-    let rest : 0 < count_by p xs = omega arith in
-    let behind = later rest in record {
-      at = suc behind.at;
-      within = omega (arith, behind.within);
-      passes = behind.passes;
-    }
-
 -- where a count is not 0, there is one that it counts
 counted : (p : PortPlan → Bool) (ports : List PortPlan) → 0 < count_by p ports → CountedAt p ports
 counted p [] some = absurd (omega arith)
-counted p (x ∷ xs) some = counted_next p x xs (p x) refl some (counted p xs)
+counted p (x ∷ xs) some = elim (cases_Bool (p x)) [
+  | inl is ↦ record { at = 0; within = omega arith; passes = is }
+  | inr isnt ↦
+      let step = sum_by-cons (λ y. cond {A = ℕ} (p y) 1 0) x xs in
+      let none : cond {A = ℕ} (p x) 1 0 ≡ 0 = rw isnt refl in
+      let behind = counted p xs (omega arith) in
+      record { at = suc behind.at; within = omega (arith, behind.within); passes = behind.passes }
+]
 
 -- no sub-VL has too many ports, also none that has no port
 few : (ports : List PortPlan) (vl sub : ℕ) → list_any (is_crowded ports) ports ≡ false → ports_on ports vl sub ≤ 64
@@ -249,40 +218,38 @@ counts most n h =
 -- the plan is valid: fault by fault
 pub valid : (plan : Plan) → plan.end_system < 65536 → All IsLink plan.links → All IsPort plan.ports
     → least_plan_fault plan.links plan.ports ≡ None → IsPlan plan
-valid plan end each_link each_port none =
-    let shown = find_none-list (parts_show plan.links plan.ports) plan_faults none in
-    let duplicate_vl = shown.0 in
-    let duplicate_port = shown.1.0 in
-    let no_link = shown.1.1.0 in
-    let no_sub = shown.1.1.1.0 in
-    let too_long = shown.1.1.1.1.0 in
-    let one_flow = shown.1.1.1.1.1.0 in
-    let one_unicast = shown.1.1.1.1.1.1.0 in
-    let limit = shown.1.1.1.1.1.1.1.0 in
+valid plan fits_end each_link each_port none =
+    let (duplicate_vl, (duplicate_port, (no_link, (no_sub, (too_long, (one_flow, (one_unicast, (limit, end)))))))) =
+    find_none-list (parts_show plan.links plan.ports) plan_faults none in
     let (numbers, crowd) = or_parts _ _ limit in
     let (link_count, port_count) = or_parts _ _ numbers in
     record {
-      end_system = end;
+      end_system = fits_end;
       links = counts 64 (length plan.links) link_count;
       ports = counts 256 (length plan.ports) port_count;
       each_link = each_link;
       each_port = each_port;
       links_apart = λ i j in_i in_j same. same_vl plan.links i j duplicate_vl in_i in_j same;
-      ports_apart = λ i j in_i in_j same. same_port plan.ports i j duplicate_port in_i in_j same;
+      ports_apart = λ i j in_i in_j same. let number = ap (λ (id : PortId). id.0) same in
+          one_place has_same_port plan.ports i j _ duplicate_port in_i in_j (eq-eqb _ _ number)
+          (eq-eqb _ _ (sym number));
       linked = λ k d below. has_link plan.links (get_or plan.ports k d)
           (none_at (names_no_link plan.links) plan.ports k d no_link below)
           (none_at (names_no_sub plan.links) plan.ports k d no_sub below);
       sampling = λ p link in_p in_link kind id. fits plan.links p link duplicate_vl
-          (All-contains (λ port. names_no_link plan.links port ≡ false) plan.ports p
-          (λ k d below. none_at (names_no_link plan.links) plan.ports k d no_link below) in_p)
-          (All-contains (λ port. is_too_long plan.links port ≡ false) plan.ports p
-          (λ k d below. none_at (is_too_long plan.links) plan.ports k d too_long below) in_p)
-          in_link kind id;
+          (none_of (names_no_link plan.links) plan.ports p no_link in_p)
+          (none_of (is_too_long plan.links) plan.ports p too_long in_p) in_link kind id;
       flows_apart = λ p q in_p in_q same.
           let is_p = All-contains IsPort plan.ports p each_port in_p in
           let is_q = All-contains IsPort plan.ports q each_port in_q in
           related_members has_same_flow plan.ports p q one_flow in_p in_q
-          (same_flow p q is_p is_q same) (same_flow q p is_q is_p (same_flow_back p q same));
+          (same_flow p q is_p is_q same) (same_flow q p is_q is_p (record {
+            vl = sym same.vl;
+            partition = sym same.partition;
+            source = sym same.source;
+            destination = sym same.destination;
+            address = sym same.address;
+          }));
       unicasts_apart = λ p q in_p in_q address of_p of_q partition.
           unicast plan.ports p q address one_unicast in_p in_q of_p of_q partition;
       few_ports = λ vl sub. few plan.ports vl sub crowd;

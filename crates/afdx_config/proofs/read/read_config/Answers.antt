@@ -1,4 +1,4 @@
-use Rattle.afdx_config.proofs.LeastLemmas.{answer_ok, answer_err}
+use Rattle.afdx_config.proofs.TextLemmas.{answer_ok, answer_err}
 use Rattle.afdx_config.proofs.read.read_config.Goals as goal
 
 pub returns-in-Ok-clause-plan : goal.returns-in-Ok-clause-plan

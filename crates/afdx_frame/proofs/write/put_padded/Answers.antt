@@ -28,11 +28,7 @@ returns-clause-items c =
       | else-at-bytes w ↦
           let none : 59 - (at + length bytes) ≡ 0 = omega (arith, w.if-at-bytes.false) in
           let end : at + length bytes + (59 - (at + length bytes)) ≡ at + length bytes = omega (arith, w.if-at-bytes.false) in
-          ap (λ (k : ℕ). take k now) end
-          ∙ c.put_over.ensures.items
-          ∙ ap (λ (v : ArrayVec ℕ). take at v.items ++ bytes) w.out-is
-          ∙ sym (append-nil (take at was ++ bytes))
-          ∙ ap (λ (k : ℕ). take at was ++ bytes ++ replicate k 0) (sym none)
+          rw (end, c.put_over.ensures.items, w.out-is, none) (sym (append-nil (take at was ++ bytes)))
     ]
 
 pub returns-clause-reaches : goal.returns-clause-reaches

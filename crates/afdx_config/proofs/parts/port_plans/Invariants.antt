@@ -3,7 +3,7 @@ use Rattle.std.specs.Prelude.{All}
 use Rattle.afdx_plan.specs.Plan.{IsPort}
 use Rattle.toml.specs.View.{table_view}
 use Rattle.afdx_config.specs.PlanOf.{port_of}
-use Rattle.afdx_config.proofs.port_table.port_plans.Given as goal
+use Rattle.afdx_config.proofs.parts.port_plans.Given as goal
 
 abbrev pub invariant-loop-table : goal.invariant-loop-table
 invariant-loop-table l = record {

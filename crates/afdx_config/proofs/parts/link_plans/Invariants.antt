@@ -3,7 +3,7 @@ use Rattle.std.specs.Prelude.{All}
 use Rattle.afdx_plan.specs.Plan.{IsLink}
 use Rattle.toml.specs.View.{table_view}
 use Rattle.afdx_config.specs.PlanOf.{link_of}
-use Rattle.afdx_config.proofs.link_table.link_plans.Given as goal
+use Rattle.afdx_config.proofs.parts.link_plans.Given as goal
 
 abbrev pub invariant-loop-table : goal.invariant-loop-table
 invariant-loop-table l = record {

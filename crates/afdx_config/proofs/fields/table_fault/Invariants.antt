@@ -1,0 +1,11 @@
+use Rattle.std.proofs.Common.{take}
+use Rattle.std.specs.List.{list_any}
+use Rattle.toml.specs.View.{table_view}
+use Rattle.afdx_config.specs.Tables.{field_fault, is_fault}
+use Rattle.afdx_config.specs.Views.{field_of, IsLeastOf}
+use Rattle.afdx_config.proofs.fields.table_fault.Given as goal
+
+abbrev pub invariant-loop-field : goal.invariant-loop-field
+invariant-loop-field l = IsLeastOf
+    (λ f. list_any (λ x. is_fault f (field_fault (table_view l.table) (field_of x))) (take l.field-index l.fields))
+    l.least
