@@ -1,9 +1,10 @@
 -- The frames of two networks in order, one after the other.
-use Rattle.std.proofs.Common.{◌≡◌, Bool, true, false, List, [], ◌∷◌, ◌++◌, map, refl}
+use Rattle.std.proofs.Common.{◌≡◌, ◌≤◌, Bool, true, false, List, [], ◌∷◌, ◌++◌, map, refl, arith}
 use Rattle.std.specs.Prelude.{nat_lt, if◌then◌else◌}
+use borrow.Author.Tests.{ltb-true, ltb-false}
 use Rattle.afdx_frame.specs.declared.net.Net.TheVariants.{A, B}
 use Rattle.redundant_mux.specs.Entry.{Entry}
-use Rattle.capture.specs.Order.{on, earlier, not_earlier, in_order, next_net}
+use Rattle.capture.specs.Order.{Captured, on, earlier, not_earlier, in_order, next_net}
 
 -- a frame of A comes next, by the test of the two moments
 a_first : (t : Bool) (a b : Entry) (xs bs es rest : List Entry) → A ≡ (if t then B else A)
@@ -39,11 +40,6 @@ order_b (a ∷ xs) (b ∷ bs) rest e net is =
     let first : in_order (a ∷ xs) (b ∷ bs) ≡ on B b ∷ in_order (a ∷ xs) bs =
     b_first (nat_lt b.at a.at) a b xs bs net in cc
 
--- a frame of A comes next only where there is one
-pub some_a : (xs bs : List Entry) → A ≡ next_net xs bs → xs ≡ [] → ⊥
-some_a [] bs net is = cc
-some_a (a ∷ xs) bs net is = cc
-
 -- where one of B comes next and there is none, all are given
 pub order_none : (xs bs : List Entry) → B ≡ next_net xs bs → bs ≡ [] → in_order xs bs ≡ []
 unfolding in_order
@@ -54,3 +50,38 @@ order_none xs (b ∷ bs) net is = cc
 -- the same of what is left then
 pub order_left : (xs bs new : List Entry) → B ≡ next_net xs bs → bs ≡ [] → new ≡ [] → in_order xs new ≡ []
 order_left xs bs new net is none = rw none (rw is at (order_none xs bs net is))
+
+-- a frame isn't later than the first of others
+abbrev pub IsBefore : Entry → List Entry → Type 0
+IsBefore e [] = Unit {0}
+IsBefore e (x ∷ xs) = e.at ≤ x.at
+
+-- the frames of two networks, one after the other
+pub data Merges : List Entry → List Entry → List Captured → Type 0 where
+  none : Merges [] [] []
+  next_a : {e : Entry} {a b : List Entry} {cs : List Captured} → IsBefore e b → Merges a b cs
+      → Merges (e ∷ a) b (on A e ∷ cs)
+  next_b : {e : Entry} {a b : List Entry} {cs : List Captured} → IsBefore e a → Merges a b cs
+      → Merges a (e ∷ b) (on B e ∷ cs)
+
+merges_b : (bs : List Entry) → Merges [] bs (map (on B) bs)
+merges_b [] = none
+merges_b (b ∷ bs) = next_b tt (merges_b bs)
+
+merges_a : (a : Entry) (xs : List Entry) → ((bs : List Entry) → Merges xs bs (in_order xs bs)) → (bs : List Entry)
+    → Merges (a ∷ xs) bs (map (on B) (earlier a.at bs) ++ on A a ∷ in_order xs (not_earlier a.at bs))
+merges_a a xs more [] = next_a tt (more [])
+merges_a a xs more (b ∷ bs) = by (nat_lt b.at a.at) refl (merges_a a xs more bs)
+  where
+    by : (t : Bool) → nat_lt b.at a.at ≡ t
+        → Merges (a ∷ xs) bs (map (on B) (earlier a.at bs) ++ on A a ∷ in_order xs (not_earlier a.at bs))
+        → Merges (a ∷ xs) (b ∷ bs)
+        (map (on B) (if t then b ∷ earlier a.at bs else []) ++ on A a ∷ in_order xs
+        (if t then not_earlier a.at bs else b ∷ bs))
+    by true is rest = next_b (omega (arith, ltb-true b.at a.at is)) rest
+    by false is rest = next_a (ltb-false b.at a.at is) (more (b ∷ bs))
+
+pub order_merges : (a b : List Entry) → Merges a b (in_order a b)
+unfolding in_order
+order_merges [] b = merges_b b
+order_merges (x ∷ xs) b = merges_a x xs (λ bs. order_merges xs bs) b

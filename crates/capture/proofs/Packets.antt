@@ -1,11 +1,11 @@
 -- The blocks of packets, one after the other.
-use Rattle.std.proofs.Common.{◌≡◌, ℕ, zero, suc, ◌+◌, ◌≤◌, List, [], ◌∷◌, ◌++◌, length, take, replicate, Option, refl, sym, ap, ◌∙◌, append_assoc, append-nil, subst, arith}
+use Rattle.std.proofs.Common.{◌≡◌, ℕ, ◌+◌, List, [], ◌∷◌, ◌++◌, length, Option, refl, sym, ap, ◌∙◌, append_assoc, append-nil, subst, arith}
 use Rattle.std.proofs.lemmas.List.{length-replicate}
 use Rattle.std.proofs.KnownBytes.{Appends-trans}
 use Rattle.std.specs.Io.KnownBytes.{Appends}
 use Rattle.redundant_mux.specs.Entry.{Entry}
-use Rattle.capture.specs.Capture.{word, fill, filled, block, packet_body, packet_front, packet_block, packet_blocks, header_blocks, capture_bytes}
-use Rattle.capture.specs.Order.{Captured, in_order}
+use Rattle.capture.specs.Capture.{word, fill, filled, block, packet_body, packet_front, packet_block, packet_blocks, header_blocks}
+use Rattle.capture.specs.Order.{Captured}
 use Rattle.std.proofs.Common.{length-append}
 
 -- the block of one more packet
@@ -41,29 +41,11 @@ packed_turn all left rest c old mid new is h wrote = record {
       (Appends-trans old mid new (header_blocks ++ packet_blocks h.done) (packet_block c) h.wrote wrote);
 }
 
--- all were
-pub packed_all : (a b : List Entry) (left : List Captured) (old new : Option (List ℕ)) → left ≡ []
-    → HasPacked (in_order a b) left old new → Appends old new (capture_bytes a b)
-packed_all a b left old new none h =
-    let all : in_order a b ≡ h.done = h.is ∙ ap (λ (l : List Captured). h.done ++ l) none ∙ append-nil h.done in
-    subst (λ (cs : List Captured). Appends old new (header_blocks ++ packet_blocks cs)) (sym all) h.wrote
-
--- the first of three zeroes
-pub take_zeroes : (n : ℕ) → n ≤ 3 → take {A = ℕ} n (replicate {A = ℕ} 3 0) ≡ replicate {A = ℕ} n 0
-take_zeroes zero le = refl
-take_zeroes (suc zero) le = refl
-take_zeroes (suc (suc zero)) le = refl
-take_zeroes (suc (suc (suc zero))) le = refl
-take_zeroes (suc (suc (suc (suc n)))) le = absurd (omega arith)
-
 -- how many bytes are in a packet
 pub length-packet_body : (interface : ℕ) (e : Entry)
     → length (packet_body interface e) ≡ 20 + (length e.frame + fill (length e.frame))
 unfolding word
-length-packet_body interface e =
-    let zeroes : List ℕ = replicate (fill (length e.frame)) 0 in
-    let many : length zeroes ≡ fill (length e.frame) = length-replicate {A = ℕ} (fill (length e.frame)) 0 in
-    omega (arith, length-append e.frame zeroes, many)
+length-packet_body interface e = simp (length-append, length-replicate) (omega arith)
 
 -- a frame between what stands before it and what stands behind it, in a block of this length
 pub packet_is : (interface : ℕ) (e : Entry) (whole : ℕ) → whole ≡ 32 + (length e.frame + fill (length e.frame))

@@ -1,14 +1,15 @@
 -- A reader of captures takes the blocks that are written.
-use Rattle.std.proofs.Common.{◌≡◌, ℕ, ◌+◌, ◌-◌, ◌*◌, ◌/◌, ◌%◌, ◌^◌, ◌≤◌, ◌<◌, Bool, true, ◌&&◌, List, [], ◌∷◌, ◌++◌, length, take, drop, replicate, Some, None, refl, sym, ap, ◌∙◌, append_assoc, length-append, eq-eqb, arith}
+use Rattle.std.proofs.Common.{◌≡◌, ℕ, ◌+◌, ◌-◌, ◌*◌, ◌/◌, ◌%◌, ◌^◌, ◌≤◌, ◌<◌, Bool, true, List, [], ◌∷◌, ◌++◌, length, take, drop, replicate, Some, None, refl, sym, ap, ◌∙◌, append_assoc, length-append, eq-eqb, arith}
 use Rattle.std.specs.Prelude.{if◌then◌else◌}
 use borrow.Author.Tests.{lt-ltb, le-leb}
 use Rattle.std.proofs.lemmas.List.{take-append-le, drop-append-le, take_all, drop_all}
 use Rattle.std.proofs.Math.Nat.{div-add-mod', mod-lt}
+use Rattle.std.specs.Cmp.Derive.{both_true}
 use Rattle.byteorder.specs.Numbers.{little_number-reads_back}
 use Rattle.redundant_mux.specs.Entry.{Entry, entry}
 use Rattle.capture.specs.Capture.{word, fill, filled, block, packet_body}
 use Rattle.capture.specs.ReadBack.{Fits}
-use Rattle.capture.specs.Reader.{Block, Capture, Packet, first_word, is_block, block_of, first_block, is_packet, packet_of, with_packet}
+use Rattle.capture.specs.Reader.{Block, Capture, Packet, first_word, is_block, first_block, is_packet, packet_of, with_packet}
 use Rattle.capture.proofs.Packets.{length-packet_body}
 
 -- the first word is read
@@ -23,10 +24,6 @@ take_front xs ys n is = take-append-le n xs ys (omega arith) ∙ take_all n xs (
 pub drop_front : (xs ys : List ℕ) (n : ℕ) → n ≡ length xs → drop n (xs ++ ys) ≡ ys
 drop_front xs ys n is = drop-append-le n xs ys (omega arith)
     ∙ ap (λ (l : List ℕ). l ++ ys) (drop_all n xs (omega arith))
-
--- tests that all pass
-both : (p q : Bool) → p ≡ true → q ≡ true → (p && q) ≡ true
-both p q is_p is_q = rw (is_p, is_q) refl
 
 -- equal parts make equal blocks
 same_block : (kind kind' : ℕ) (body body' behind behind' : List ℕ) → kind ≡ kind' → body ≡ body' → behind ≡ behind'
@@ -45,17 +42,7 @@ length-word x = refl
 
 -- how many bytes these are
 length-then_more : (kind : ℕ) (body rest : List ℕ) → length (then_more kind body rest) ≡ 12 + length body + length rest
-length-then_more kind body rest =
-    let len : List ℕ = word (12 + length body) in
-    omega (
-      arith,
-      length-append (block kind body) rest,
-      length-append (word kind) (len ++ (body ++ len)),
-      length-append len (body ++ len),
-      length-append body len,
-      length-word kind,
-      length-word (12 + length body),
-    )
+length-then_more kind body rest = simp (length-append, length-word) (omega arith)
 
 -- what stands behind what is in a block
 tail_is : (kind len : ℕ) (body rest : List ℕ) → len ≡ 12 + length body
@@ -72,9 +59,9 @@ block_passes : (kind len : ℕ) (body rest : List ℕ) → len ≡ 12 + length b
     → is_block len (then_more kind body rest) ≡ true
 unfolding word
 block_passes kind len body rest is lt even =
-    both _ _
-    (both _ _ (le-leb 12 len (omega arith)) (le-leb len (length (then_more kind body rest)) (omega (arith, more))))
-    (both _ _ (eq-eqb (len % 4) 0 even)
+    both_true
+    (both_true (le-leb 12 len (omega arith)) (le-leb len (length (then_more kind body rest)) (omega (arith, more))))
+    (both_true (eq-eqb (len % 4) 0 even)
     (eq-eqb (first_word (drop (len - 12) (drop 8 (then_more kind body rest)))) len
     (ap first_word (tail_is kind len body rest is) ∙ word_first len rest lt)))
   where
@@ -89,19 +76,13 @@ unfolding first_block word
 block_read kind body rest small lt even =
     let len : ℕ = 12 + length body in
     let bytes : List ℕ = then_more kind body rest in
-    let read : first_word (drop 4 bytes) ≡ len =
-    word_first len ((body ++ word len) ++ rest) lt in
-    ap (λ (n : ℕ). if is_block n bytes then Some (block_of n bytes) else None) read
-    ∙ ap (λ (t : Bool). if t then Some (block_of len bytes) else None) (block_passes kind len body rest refl lt even)
-    ∙ ap Some (same_block (first_word bytes) kind (take (len - 12) (drop 8 bytes)) body
+    let read : first_word (drop 4 bytes) ≡ len = word_first len ((body ++ word len) ++ rest) lt in
+    rw (read, block_passes kind len body rest refl lt even)
+    (ap Some (same_block (first_word bytes) kind (take (len - 12) (drop 8 bytes)) body
     (drop 4 (drop (len - 12) (drop 8 bytes))) rest
     (word_first kind ((word len ++ (body ++ word len)) ++ rest) small)
     (ap (take (len - 12)) (append_assoc body (word len) rest) ∙ take_front body (word len ++ rest) (len - 12) (omega arith))
-    (ap (drop 4) (tail_is kind len body rest refl)))
-
--- the moment of a packet
-moment_is : (at : ℕ) → at / 2 ^ 32 * 2 ^ 32 + at % 2 ^ 32 ≡ at
-moment_is at = div-add-mod' at (2 ^ 32)
+    (ap (drop 4) (tail_is kind len body rest refl))))
 
 -- equal parts make equal packets
 same_packet : (i i' at at' : ℕ) (frame frame' : List ℕ) → i ≡ i' → at ≡ at' → frame ≡ frame'
@@ -127,7 +108,7 @@ packet_read seen i e known few fits =
     let is_high : first_word (drop 4 body) ≡ e.at / 2 ^ 32 = word_first (e.at / 2 ^ 32) (drop 8 body) high in
     let is_low : first_word (drop 8 body) ≡ e.at % 2 ^ 32 = word_first (e.at % 2 ^ 32) (drop 12 body) low in
     let passes : is_packet (length seen.names) len body ≡ true =
-    both _ _ (both _ _ (lt-ltb (first_word body) (length seen.names) (omega (arith, first, known)))
+    both_true (both_true (lt-ltb (first_word body) (length seen.names) (omega (arith, first, known)))
     (eq-eqb (first_word (drop 16 body)) len (word_first len rest small)))
     (eq-eqb (length body) (20 + (len + fill len)) (length-packet_body i e)) in
     ap (λ (n : ℕ). if is_packet (length seen.names) n body
@@ -137,5 +118,5 @@ packet_read seen i e known few fits =
     (same_packet (first_word body) i (first_word (drop 4 body) * 2 ^ 32 + first_word (drop 8 body)) e.at
     (take len (drop 20 body)) e.frame first
     (ap (λ (n : ℕ). n * 2 ^ 32 + first_word (drop 8 body)) is_high
-    ∙ ap (λ (n : ℕ). e.at / 2 ^ 32 * 2 ^ 32 + n) is_low ∙ moment_is e.at)
+    ∙ ap (λ (n : ℕ). e.at / 2 ^ 32 * 2 ^ 32 + n) is_low ∙ div-add-mod' e.at (2 ^ 32))
     (take_front e.frame (replicate (fill len) 0) len refl))

@@ -4,6 +4,8 @@ use Rattle.std.specs.Io.KnownBytes.{Consumes, IsAtEnd}
 use Rattle.std.proofs.KnownBytes.{Consumes-trans}
 use Rattle.std.proofs.lemmas.List.{append-nil}
 use Rattle.std.proofs.lemmas.Bool.{ne_eqb}
+use Rattle.std.proofs.lemmas.Option.{IfSome_then}
+use Rattle.std.specs.Prelude.{IfSome}
 use Rattle.script_lines.specs.Lines.{before_feed, after_feed, has_feed, IsPlain, without_return, first_line, TakesPlain, TakesLine, BeginsLong}
 
 -- bytes with no line feed were taken
@@ -19,25 +21,22 @@ plain_parts x xs h = by (x == 10) h
     by true e = cc
     by false e = (refl, e)
 
--- what stands before the first line feed of two texts, of which the first has none
-pub plain_before : (xs ys : List ℕ) → IsPlain xs → before_feed (xs ++ ys) ≡ xs ++ before_feed ys
-plain_before [] ys h = refl
-plain_before (x ∷ xs) ys h =
-    let (other, rest) = plain_parts x xs h in rw other (ap (λ r. x ∷ r) (plain_before xs ys rest))
+-- a plain text in front of another: what stands before the first line feed and behind it, and whether there is one
+record IsInFront (xs ys : List ℕ) : Type 0 where
+  before : before_feed (xs ++ ys) ≡ xs ++ before_feed ys
+  behind : after_feed (xs ++ ys) ≡ after_feed ys
+  feed : has_feed (xs ++ ys) ≡ has_feed ys
 
--- what stands behind it
-pub plain_after : (xs ys : List ℕ) → IsPlain xs → after_feed (xs ++ ys) ≡ after_feed ys
-plain_after [] ys h = refl
-plain_after (x ∷ xs) ys h = let (other, rest) = plain_parts x xs h in rw other (plain_after xs ys rest)
-
--- whether there is one
-plain_feed : (xs ys : List ℕ) → IsPlain xs → has_feed (xs ++ ys) ≡ has_feed ys
-plain_feed [] ys h = refl
-plain_feed (x ∷ xs) ys h = let (other, rest) = plain_parts x xs h in rw other (plain_feed xs ys rest)
+plain_front : (xs ys : List ℕ) → IsPlain xs → IsInFront xs ys
+plain_front [] ys h = record { before = refl; behind = refl; feed = refl }
+plain_front (x ∷ xs) ys h =
+    let (other, rest) = plain_parts x xs h in
+    let more : IsInFront xs ys = plain_front xs ys rest in
+    record { before = rw other (ap (λ r. x ∷ r) more.before); behind = rw other more.behind; feed = rw other more.feed }
 
 -- plain texts one after the other
 pub plain_more : (xs ys : List ℕ) → IsPlain xs → IsPlain ys → IsPlain (xs ++ ys)
-plain_more xs ys h k = plain_feed xs ys h ∙ k
+plain_more xs ys h k = (plain_front xs ys h).feed ∙ k
 
 -- a carriage return is one byte
 return_len : (xs : List ℕ) (b : Bool) → length xs ≤ length (cond b (take (length xs - 1) xs) xs) + 1
@@ -65,80 +64,76 @@ read_byte old mid new line b h t other = record {
   plain = plain_more line (b ∷ []) h.plain (rw (ne_eqb b 10 other) refl);
 }
 
+-- a text that is known is what was read, what was taken then, and what is left
+record IsWhole (items bytes : List ℕ) (new : Option (List ℕ)) (text : List ℕ) : Type 0 where
+  left : List ℕ
+  left_is : new ≡ Some left
+  is : text ≡ items ++ (bytes ++ left)
+
+whole : (old mid new : Option (List ℕ)) (items bytes : List ℕ) → HasRead old mid items → Consumes mid new bytes
+    → IfSome old (IsWhole items bytes new)
+whole None mid new items bytes h f = tt
+whole (Some xs) None new items bytes h f = absurd h.taken
+whole (Some xs) (Some ms) None items bytes h f = absurd f
+whole (Some xs) (Some ms) (Some ns) items bytes h f =
+    record { left = ns; left_is = refl; is = h.taken ∙ ap (λ (rest : List ℕ). items ++ rest) f }
+
 -- the reader is at its end
-whole_end : (xs ms ns items : List ℕ) → xs ≡ items ++ ms → ms ≡ [] ++ ns → ns ≡ [] → xs ≡ items ++ []
-whole_end xs ms ns items a b c = cc
+whole_end : (old mid new : Option (List ℕ)) (items : List ℕ) → HasRead old mid items → Consumes mid new [] → IsAtEnd new
+    → IfSome old (λ text. (text ≡ items ++ []) × (new ≡ Some []))
+whole_end old mid new items h f a = IfSome_then old (whole old mid new items [] h f) (λ text w.
+    let none : w.left ≡ [] = rw w.left_is at a in rw (w.left_is, w.is, none) (refl, refl))
 
 -- the first line where no line feed follows, and where one does
 line_end : (items : List ℕ) → IsPlain items → first_line (items ++ []) ≡ items
-line_end items p = rw (plain_feed items [] p, plain_before items [] p) (append-nil items)
+line_end items p = let front = plain_front items [] p in rw (front.feed, front.before) (append-nil items)
 
 line_feed : (items ns : List ℕ) → IsPlain items → first_line (items ++ 10 ∷ ns) ≡ without_return items
 line_feed items ns p =
-    rw (plain_feed items (10 ∷ ns) p, plain_before items (10 ∷ ns) p, append-nil items) refl
+    let front = plain_front items (10 ∷ ns) p in rw (front.feed, front.before, append-nil items) refl
 
 -- the last line was taken
 pub eof_taken : (old mid new : Option (List ℕ)) (items : List ℕ) → HasRead old mid items
     → Consumes mid new [] → IsAtEnd new → 0 < length items → length items ≤ 20000
     → TakesLine old new items
-eof_taken None mid new items h f a pos len = tt
-eof_taken (Some xs) None new items h f a pos len = absurd h.taken
-eof_taken (Some xs) (Some ms) None items h f a pos len = absurd f
-eof_taken (Some xs) (Some ms) (Some ns) items h f a pos len =
-    rw (whole_end xs ms ns items h.taken f a) record {
+eof_taken old mid new items h f a pos len =
+    IfSome_then old (whole_end old mid new items h f a) (λ text w. rw (w.0, w.1) record {
       some = omega (arith, length-append items []);
       first = sym (line_end items h.plain);
       short = len;
-      behind = ap Some (a ∙ sym (plain_after items [] h.plain));
-    }
+      behind = ap Some (sym (plain_front items [] h.plain).behind);
+    })
 
 -- the last line is too long
 pub eof_long : (old mid new : Option (List ℕ)) (items : List ℕ) → HasRead old mid items
     → Consumes mid new [] → IsAtEnd new → 20000 < length items → BeginsLong old
-eof_long None mid new items h f a len = tt
-eof_long (Some xs) None new items h f a len = absurd h.taken
-eof_long (Some xs) (Some ms) None items h f a len = absurd f
-eof_long (Some xs) (Some ms) (Some ns) items h f a len =
-    rw (whole_end xs ms ns items h.taken f a, line_end items h.plain) len
-
--- a byte follows
-whole_more : (xs ms ns items : List ℕ) (b : ℕ) → xs ≡ items ++ ms → ms ≡ (b ∷ []) ++ ns
-    → xs ≡ items ++ b ∷ ns
-whole_more xs ms ns items b a c = cc
+eof_long old mid new items h f a len =
+    IfSome_then old (whole_end old mid new items h f a) (λ text w. rw (w.0, line_end items h.plain) len)
 
 -- a line with its line feed was taken
 pub feed_taken : (old mid new : Option (List ℕ)) (items : List ℕ) → HasRead old mid items
     → Consumes mid new (10 ∷ []) → length (without_return items) ≤ 20000
     → TakesLine old new (without_return items)
-feed_taken None mid new items h f len = tt
-feed_taken (Some xs) None new items h f len = absurd h.taken
-feed_taken (Some xs) (Some ms) None items h f len = absurd f
-feed_taken (Some xs) (Some ms) (Some ns) items h f len =
-    rw (whole_more xs ms ns items 10 h.taken f) record {
-      some = omega (arith, length-append items (10 ∷ ns));
-      first = sym (line_feed items ns h.plain);
+feed_taken old mid new items h f len =
+    IfSome_then old (whole old mid new items (10 ∷ []) h f) (λ text w. rw (w.is, w.left_is) record {
+      some = omega (arith, length-append items (10 ∷ w.left));
+      first = sym (line_feed items w.left h.plain);
       short = len;
-      behind = ap Some (sym (plain_after items (10 ∷ ns) h.plain));
-    }
+      behind = ap Some (sym (plain_front items (10 ∷ w.left) h.plain).behind);
+    })
 
 -- a line with its line feed is too long
 pub feed_long : (old mid new : Option (List ℕ)) (items : List ℕ) → HasRead old mid items
     → Consumes mid new (10 ∷ []) → 20000 < length (without_return items) → BeginsLong old
-feed_long None mid new items h f len = tt
-feed_long (Some xs) None new items h f len = absurd h.taken
-feed_long (Some xs) (Some ms) None items h f len = absurd f
-feed_long (Some xs) (Some ms) (Some ns) items h f len =
-    rw (whole_more xs ms ns items 10 h.taken f, line_feed items ns h.plain) len
+feed_long old mid new items h f len = IfSome_then old (whole old mid new items (10 ∷ []) h f)
+    (λ text w. rw (w.is, line_feed items w.left h.plain) len)
 
 -- a line is too long whose end was not yet seen
 pub byte_long : (old mid new : Option (List ℕ)) (items : List ℕ) (b : ℕ) → HasRead old mid items
     → Consumes mid new (b ∷ []) → b ≢ 10 → 20000 < length items → BeginsLong old
-byte_long None mid new items b h f other len = tt
-byte_long (Some xs) None new items b h f other len = absurd h.taken
-byte_long (Some xs) (Some ms) None items b h f other len = absurd f
-byte_long (Some xs) (Some ms) (Some ns) items b h f other len =
-    let l = line_len (items ++ b ∷ ns) (has_feed (items ++ b ∷ ns)) in
-    let k : before_feed (items ++ b ∷ ns) ≡ items ++ b ∷ before_feed ns =
-    plain_before items (b ∷ ns) h.plain ∙ ap (λ r. items ++ r) (rw (ne_eqb b 10 other) refl) in
-    rw (whole_more xs ms ns items b h.taken f)
-    (omega (arith, l, ap length k, length-append items (b ∷ before_feed ns)))
+byte_long old mid new items b h f other len = IfSome_then old (whole old mid new items (b ∷ []) h f) (λ text w.
+    let rest : List ℕ = w.left in
+    let l = line_len (items ++ b ∷ rest) (has_feed (items ++ b ∷ rest)) in
+    let k : before_feed (items ++ b ∷ rest) ≡ items ++ b ∷ before_feed rest =
+    (plain_front items (b ∷ rest) h.plain).before ∙ ap (λ r. items ++ r) (rw (ne_eqb b 10 other) refl) in
+    rw w.is (omega (arith, l, ap length k, length-append items (b ∷ before_feed rest))))

@@ -15,8 +15,7 @@ pub spelled_more : (marks : List Mark) (bytes : List ℕ) (mark : Mark) (frame :
 spelled_more [] [] mark frame all len = ap (λ (f : List ℕ). entry mark.at f ∷ []) (take_all mark.len frame (omega arith))
 spelled_more [] (b ∷ bs) mark frame all len = absurd (omega (arith, all))
 spelled_more (m ∷ ms) bytes mark frame all len =
-    let more : sum_by (λ (k : Mark). k.len) (m ∷ ms) ≡ m.len + sum_by (λ (k : Mark). k.len) ms =
-    sum_by-cons (λ (k : Mark). k.len) m ms in
+    let more = sum_by-cons (λ (k : Mark). k.len) m ms in
     let within : m.len ≤ length bytes = omega arith in
     let rest : sum_by (λ (k : Mark). k.len) ms ≡ length (drop m.len bytes) = omega (arith, length-drop m.len bytes) in
     rw (take-append-le m.len bytes frame within, drop-append-le m.len bytes frame within)
@@ -29,8 +28,7 @@ pub kept_tail : (mark : Mark) (marks : List Mark) (bytes : List ℕ) → AreInLo
 kept_tail mark marks bytes h = record {
   all =
       let all = h.all in
-      let more : sum_by (λ (k : Mark). k.len) (mark ∷ marks) ≡ mark.len + sum_by (λ (k : Mark). k.len) marks =
-      sum_by-cons (λ (k : Mark). k.len) mark marks in
+      let more = sum_by-cons (λ (k : Mark). k.len) mark marks in
       omega (arith, length-drop mark.len bytes);
   short = λ k d lt. h.short (suc k) d (omega arith);
 }
@@ -45,18 +43,12 @@ pub spelled_bytes : (marks : List Mark) (bytes : List ℕ) → sum_by (λ (m : M
     → bytes_in (spelled marks bytes) ≡ length bytes
 spelled_bytes [] bytes all = all
 spelled_bytes (m ∷ ms) bytes all =
-    let more : sum_by (λ (k : Mark). k.len) (m ∷ ms) ≡ m.len + sum_by (λ (k : Mark). k.len) ms =
-    sum_by-cons (λ (k : Mark). k.len) m ms in
+    let more = sum_by-cons (λ (k : Mark). k.len) m ms in
     let within : m.len ≤ length bytes = omega arith in
     let rest : sum_by (λ (k : Mark). k.len) ms ≡ length (drop m.len bytes) = omega (arith, length-drop m.len bytes) in
-    let left = spelled ms (drop m.len bytes) in
-    omega (
-      arith,
-      sum_by-cons (λ (e : Entry). length e.frame) (entry m.at (take m.len bytes)) left,
-      length-take-le m.len bytes within,
-      length-drop m.len bytes,
-      spelled_bytes ms (drop m.len bytes) rest,
-    )
+    let first = sum_by-cons (λ (e : Entry). length e.frame) (entry m.at (take m.len bytes))
+    (spelled ms (drop m.len bytes)) in
+    omega (arith, length-take-le m.len bytes within, length-drop m.len bytes, spelled_bytes ms (drop m.len bytes) rest)
 
 -- where one of the lists has no room, the log has none
 pub lacks_room : (marks : List Mark) (bytes : List ℕ) (frames_capacity bytes_capacity failures size : ℕ) → AreInLog marks bytes

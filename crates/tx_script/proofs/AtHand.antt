@@ -1,6 +1,5 @@
 -- The ports at hand: at the beginning, after a send and after a poll.
-use Rattle.std.proofs.Common.{ℕ, ◌≡◌, ◌≢◌, ◌≤◌, ◌<◌, ◌+◌, Bool, if◌then◌else◌, List, [], ◌∷◌, ◌++◌}
-use Rattle.std.proofs.Common.{length, set, get_or, refl, ap, ◌∙◌, sym, subst, arith, ⊎_elim, Option, Some}
+use Rattle.std.proofs.Common.{ℕ, ◌≡◌, ◌≢◌, ◌≤◌, ◌<◌, ◌+◌, Bool, if◌then◌else◌, List, [], ◌∷◌, ◌++◌, length, set, get_or, refl, ap, ◌∙◌, sym, subst, arith, ⊎_elim, Option, Some}
 use Rattle.std.proofs.lemmas.List.{length-set, get_or-set_same, get_or-set_other}
 use Rattle.std.proofs.lemmas.List.Elements.{All-set}
 use Rattle.std.proofs.lemmas.Bool.{cases_eq, eq-eqb, ne_eqb}
@@ -11,7 +10,7 @@ use Rattle.subvl_queue.specs.Views.{QueueName, SenderView}
 use Rattle.afdx_tx.specs.Emitter.{Tx, queues_in}
 use Rattle.afdx_tx.specs.Ports.{PortView, BelongsTo, IsFreshPort, AreFreshPorts, queue_for, index_of}
 use Rattle.tx_script.specs.AtBench.{IsAtHand, HaveAsked, HaveSent}
-use Rattle.tx_script.specs.Play.{Messages, none_accepted, with_message}
+use Rattle.tx_script.specs.Play.{Messages, with_message}
 
 -- a port as it was, but for what its sender sent and how often it asked
 pub record IsSamePort (old new : PortView) : Type 0 where
@@ -69,7 +68,7 @@ fresh_asked tx ports f = λ k d lt.
     omega arith
 
 -- None of them sent.
-pub fresh_sent : (tx : Tx) (ports : List PortView) → AreFreshPorts tx ports → HaveSent none_accepted ports
+pub fresh_sent : (tx : Tx) (ports : List PortView) → AreFreshPorts tx ports → HaveSent (λ place. []) ports
 fresh_sent tx ports f = λ k d lt.
     let here : IsFreshPort tx.plan (queues_in tx.links) k (get_or ports k d) = f.each k d (omega (arith, f.count)) in
     ap (λ (sender : SenderView). sender.own) here.sender.is

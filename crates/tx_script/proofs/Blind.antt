@@ -1,49 +1,34 @@
 -- The same lines, with looks that find nothing: what is noted is the same.
-use Rattle.std.proofs.Common.{ℕ, zero, suc, ◌≡◌, ◌+◌, ◌-◌, ◌++◌, List, [], ◌∷◌, Bool, true, false, ◌&&◌, if◌then◌else◌}
-use Rattle.std.proofs.Common.{nat_lt, length, arith, refl, ap, ◌∙◌, sym, subst, inr, ltb-false, None}
-use Rattle.std.specs.Prelude.{All, Contains}
-use Rattle.afdx_plan.specs.Config.{Plan, link_plan_at, port_plan_at}
-use Rattle.afdx_plan.specs.Plan.{bag_micros}
+use Rattle.std.proofs.Common.{ℕ, zero, suc, ◌≡◌, ◌+◌, ◌-◌, ◌++◌, List, [], ◌∷◌, Bool, true, false, if◌then◌else◌, nat_lt, length, arith, refl, sym, subst, inr, ltb-false}
+use Rattle.afdx_plan.specs.Config.{link_plan_at}
 use Rattle.afdx_plan.specs.declared.link_plan.LinkPlan.{LinkPlan}
 use Rattle.afdx_plan.specs.declared.networks.Networks.{Networks}
 use Rattle.afdx_plan.specs.declared.networks.Networks.TheVariants.{Both, OnlyA, OnlyB}
-use Rattle.afdx_frame.specs.Fragments.{Sent}
-use Rattle.redundant_mux.specs.Entry.{Entry}
 use Rattle.redundant_mux.specs.Lines.{stands_for, log}
-use Rattle.vl_shaper.specs.Pace.{is_due}
 use Rattle.vl_link.specs.declared.served.Served.TheVariants.{Nothing as DidNothing}
 use Rattle.vl_link.specs.Turn.{AreTurns, may_release}
-use Rattle.afdx_legal.specs.Streams.{latest, link_stream}
 use Rattle.afdx_tx.specs.Drain.{pace_in}
-use Rattle.afdx_tx.specs.Emitter.{ports_of_sub}
-use Rattle.afdx_plan.specs.Places.{link_place}
 use Rattle.redundant_mux.proofs.MirroredLines.{fresh_lines, fresh_log}
-use Rattle.tx_script.specs.EndSystem.{EndSystem, Progress, no_progress, HasTurnAt, HasPolled}
+use Rattle.tx_script.specs.EndSystem.{EndSystem, fresh, HasTurnAt, HasPolled}
 use Rattle.script_lines.specs.Lines.{after_feed}
 use Rattle.script_lines.specs.Meaning.{meaning_of}
-use Rattle.tx_script.specs.Play.{Answer, leaves, left_by, sent_to, place_of, IsAnswer, IsPolled, AreAnswers, takes, closes, fills, tells}
-use Rattle.tx_script.specs.Play.{Messages, accepted_with, accepted_after, closed_at, link_of}
-use Rattle.afdx_legal.specs.Allowed.{messages_of}
-use Rattle.tx_script.specs.Play.{AnsweredLine, Play, play, play_line, start, outcome_of, after, FindsFirst}
+use Rattle.tx_script.specs.Play.{Answer, leaves, left_by, IsAnswer, IsPolled, AreAnswers, accepted_after, AnsweredLine, Play, play, play_line, outcome_of, after, FindsFirst, IsTotal, AreTotals}
 use Rattle.tx_script.specs.Run.{LinesThen}
-use Rattle.afdx_tx.specs.Closing.{IsSubAt}
-use Rattle.tx_script.specs.Totals.{IsTotal, AreTotals, accepted_on}
+use Rattle.transcript.specs.Summary.{counted}
+use Rattle.transcript.specs.declared.summary.Summary.{Summary as Sums}
 use Rattle.transcript.specs.Transcript.{note_of}
 use Rattle.script_lines.specs.declared.line.Line.{Line}
-use Rattle.script_lines.specs.declared.line.Line.TheVariants.{Send, At, Close, Nothing}
+use Rattle.script_lines.specs.declared.line.Line.TheVariants.{At}
 use Rattle.transcript.specs.declared.outcome.Outcome.TheVariants.{Refused, Released}
 use Rattle.transcript.specs.declared.refusal.Refusal.TheVariants.{TimeBack}
 
--- an end system that took nothing and handed nothing over, of the same plan and moment
-pub record IsIdle (es other : EndSystem) : Type 0 where
-  pub plan : other.plan ≡ es.plan
-  pub moment : other.moment ≡ es.moment
-  pub subs : (k s : ℕ) → other.subs k s ≡ no_progress
-  pub log : other.log ≡ []
+-- an end system of the same plan and moment that took nothing and handed nothing over
+abbrev idle : EndSystem → EndSystem
+idle es = record (fresh es.plan) { moment = es.moment }
 
--- the same at another moment
+-- the same after a poll
 abbrev idle_at : EndSystem → ℕ → EndSystem
-idle_at other now = record other { moment = now }
+idle_at es now = record (fresh es.plan) { moment = now }
 
 -- where both networks stand, one that carries a link stands
 all_stand : (networks : Networks) → stands_for networks fresh_lines ≡ true
@@ -53,219 +38,130 @@ all_stand OnlyB = refl
 
 -- a link of which nothing was released may release a frame
 may_first : (now : ℕ) (plan : LinkPlan) → may_release now plan (pace_in plan (log fresh_lines)) fresh_lines ≡ true
-may_first now plan =
-    let due : is_due (bag_micros plan.bag) (latest None (link_stream plan.id.0 (log fresh_lines))) now ≡ true =
-    ap (λ (H : List Entry). is_due (bag_micros plan.bag) (latest None (link_stream plan.id.0 H)) now) fresh_log in
-    ap (λ (b : Bool). b && stands_for plan.networks fresh_lines) due ∙ all_stand plan.networks
+may_first now plan = rw (fresh_log, all_stand plan.networks) refl
 
 -- links of which nothing was taken release nothing
-idle_turns : (now : ℕ) (other : EndSystem) → ((k s : ℕ) → other.subs k s ≡ no_progress) → (k many : ℕ)
-    → AreTurns (HasTurnAt now other (idle_at other now)) k many fresh_lines fresh_lines
-idle_turns now other none k zero = refl
-idle_turns now other none k (suc many) = (
+idle_turns : (now : ℕ) (es : EndSystem) (k many : ℕ)
+    → AreTurns (HasTurnAt now (idle es) (idle_at es now)) k many fresh_lines fresh_lines
+idle_turns now es k zero = refl
+idle_turns now es k (suc many) = (
   fresh_lines,
   DidNothing,
   (
     inr (
-      may_first now (link_plan_at other.plan.links k),
-      record {
-        each = λ s lt. (ap (λ (progress : Progress). progress.left) (none k s), refl);
-        others = λ s past. refl;
-      },
+      may_first now (link_plan_at es.plan.links k),
+      record { each = λ s lt. (refl, refl); others = λ s past. refl },
     ),
     refl,
   ),
-  idle_turns now other none (k + 1) many,
+  idle_turns now es (k + 1) many,
 )
 
 -- so they are polled
-idle_polls : (now : ℕ) (es other : EndSystem) → IsIdle es other → HasPolled now other (idle_at other now)
-idle_polls now es other h = record {
+idle_polls : (now : ℕ) (es : EndSystem) → HasPolled now (idle es) (idle_at es now)
+idle_polls now es = record {
   plan = refl;
   moment = refl;
   lines = fresh_lines;
   after = fresh_lines;
-  was = sym h.log;
-  is = sym h.log;
-  turns = idle_turns now other h.subs 0 (length other.plan.links);
+  was = refl;
+  is = refl;
+  turns = idle_turns now es 0 (length es.plan.links);
   a_stands = refl;
   b_stands = refl;
 }
 
+-- what is known after a line that says this
+abbrev said_line : Line → Answer → Play → Play
+said_line said answer st = record {
+  es = after st.es said answer;
+  accepted = accepted_after st.es said answer st.accepted;
+  count = st.count + 1;
+  notes = st.notes ++ note_of (st.count + 1) (outcome_of st.es said answer);
+  summary = counted (outcome_of st.es said answer) st.summary;
+}
+
+-- what is known after the same lines, where looks found nothing, but for the summary
+abbrev pub blind : Sums → Play → Play
+blind sums st = record st { es = idle st.es; summary = sums }
+
 -- the answer to a line where looks find nothing
-abbrev blind_answer : EndSystem → Line → Answer → Answer
-blind_answer other (At now) answer = leaves (idle_at other now)
-blind_answer other _ answer = answer
+record BlindAnswer (said : Line) (answer : Answer) (st : Play) (sums : Sums) : Type 0 where
+  given : Answer
+  may : IsAnswer (idle st.es) said given
+  is : said_line said given (blind sums st)
+      ≡ blind (said_line said given (blind sums st)).summary (said_line said answer st)
+  total : (fin : Play) (later : Sums) → IsTotal fin said answer → IsTotal (blind later fin) said given
 
-abbrev blind_turn : EndSystem → AnsweredLine → AnsweredLine
-blind_turn other turn = record { line = turn.line; answer = blind_answer other (meaning_of turn.line) turn.answer }
-
--- the lines with such answers
-abbrev pub blind : Play → List AnsweredLine → List AnsweredLine
-blind other [] = []
-blind other (turn ∷ turns) = blind_turn other.es turn ∷ blind (play_line (blind_turn other.es turn) other) turns
-
--- such an answer may be given
-blind_may : (said : Line) (answer : Answer) (es other : EndSystem) → IsIdle es other
-    → IsAnswer other said (blind_answer other said answer)
-blind_may (Send port bytes) answer es other h = tt
-blind_may Nothing answer es other h = tt
-blind_may (Close vl sub) answer es other h = tt
-blind_may (At now) answer es other h = λ later. idle_polls now es other h
-
--- after a line it is so still
-after_idle : (said : Line) (answer : Answer) (es other : EndSystem) → IsAnswer es said answer → IsIdle es other
-    → IsIdle (after es said answer) (after other said (blind_answer other said answer))
-after_idle (Send port bytes) answer es other may h = h
-after_idle Nothing answer es other may h = h
-after_idle (Close vl sub) answer es other may h = h
-after_idle (At now) answer es other may h =
-    subst (λ (moment : ℕ). IsIdle (if nat_lt now es.moment then es else left_by es answer)
-    (if nat_lt now moment then other else idle_at other now)) (sym h.moment) (by (nat_lt now es.moment) refl)
-  where
-    left : (given : Answer) → IsPolled now es given → IsIdle (left_by es given) (idle_at other now)
-    left (leaves new) p = record { plan = h.plan ∙ sym p.plan; moment = sym p.moment; subs = h.subs; log = h.log }
-    left takes p = absurd p
-    left closes p = absurd p
-    left fills p = absurd p
-    left (tells total) p = absurd p
-
-    by : (early : Bool) → nat_lt now es.moment ≡ early → IsIdle (if early then es else left_by es answer)
-        (if early then other else idle_at other now)
-    by true e = h
-    by false e = left answer (may (ltb-false now es.moment e))
-
--- what is noted of a poll doesn't tell its releases
-note_at : (early : Bool) (line many few : ℕ)
-    → note_of line (if early then Refused TimeBack else Released many)
-    ≡ note_of line (if early then Refused TimeBack else Released few)
+blind_answer : (said : Line) (answer : Answer) (st : Play) (sums : Sums) → IsAnswer st.es said answer
+    → BlindAnswer said answer st sums
 unfolding note_of
-note_at true line many few = refl
-note_at false line many few = refl
-
--- the same is noted of a line
-same_note : (line : ℕ) (said : Line) (answer : Answer) (es other : EndSystem) → IsIdle es other
-    → note_of line (outcome_of other said (blind_answer other said answer)) ≡ note_of line (outcome_of es said answer)
-same_note line (Send port bytes) answer es other h =
-    ap (λ (plan : Plan). note_of line (sent_to plan (place_of plan port) bytes answer)) h.plan
-same_note line Nothing answer es other h = refl
-same_note line (Close vl sub) answer es other h =
-    ap (λ (plan : Plan). note_of line (closed_at plan (link_of plan vl) sub answer)) h.plan
-same_note line (At now) answer es other h =
-    ap (λ (moment : ℕ). note_of line (if nat_lt now moment then Refused TimeBack
-    else Released (length other.log - length other.log))) h.moment
-    ∙ note_at (nat_lt now es.moment) line (length other.log - length other.log)
-    (length (left_by es answer).log - length es.log)
-
--- the same messages are accepted
-same_accepted : (said : Line) (answer : Answer) (es other : EndSystem) (accepted given : Messages) → IsIdle es other
-    → given ≡ accepted
-    → accepted_after other said (blind_answer other said answer) given ≡ accepted_after es said answer accepted
-same_accepted (Send port bytes) answer es other accepted given h is =
-    ap (λ (plan : Plan). accepted_with (place_of plan port) bytes (sent_to plan (place_of plan port) bytes answer) given) h.plan
-    ∙ ap (λ (messages : Messages). accepted_with (place_of es.plan port) bytes
-    (sent_to es.plan (place_of es.plan port) bytes answer) messages) is
-same_accepted (At now) answer es other accepted given h is = is
-same_accepted (Close vl sub) answer es other accepted given h is = is
-same_accepted Nothing answer es other accepted given h is = is
-
--- two runs that noted the same, of which the second took nothing from queues
-pub record IsBlindOf (st other : Play) : Type 0 where
-  pub idle : IsIdle st.es other.es
-  pub accepted : other.accepted ≡ st.accepted
-  pub count : other.count ≡ st.count
-  pub notes : other.notes ≡ st.notes
-
--- one line more
-blind_more : (turn : AnsweredLine) (st other : Play) → IsAnswer st.es (meaning_of turn.line) turn.answer → IsBlindOf st other
-    → IsBlindOf (play_line turn st) (play_line (blind_turn other.es turn) other)
-blind_more turn st other may h = record {
-  idle = after_idle (meaning_of turn.line) turn.answer st.es other.es may h.idle;
-  accepted = same_accepted (meaning_of turn.line) turn.answer st.es other.es st.accepted other.accepted h.idle h.accepted;
-  count = ap (λ (count : ℕ). count + 1) h.count;
-  notes = ap (λ (notes : List ℕ). notes
-      ++ note_of (other.count + 1) (outcome_of other.es (meaning_of turn.line) (blind_answer other.es (meaning_of turn.line) turn.answer))) h.notes
-      ∙ ap (λ (count : ℕ). st.notes
-      ++ note_of (count + 1) (outcome_of other.es (meaning_of turn.line) (blind_answer other.es (meaning_of turn.line) turn.answer))) h.count
-      ∙ ap (λ (note : List ℕ). st.notes ++ note)
-      (same_note (st.count + 1) (meaning_of turn.line) turn.answer st.es other.es h.idle);
+blind_answer (At now) answer st sums may = record {
+  given = leaves (idle_at st.es now);
+  may = λ later. idle_polls now st.es;
+  is = by (nat_lt now st.es.moment) refl _;
+  total = λ fin later total. tt;
 }
+  where
+    left : (given : Answer) → IsPolled now st.es given → idle_at st.es now ≡ idle (left_by st.es given)
+    left (leaves new) p = rw (p.plan, p.moment) refl
+    left _ p = absurd p
 
--- all lines
-blind_play : (turns : List AnsweredLine) (st other : Play) → AreAnswers st turns → IsBlindOf st other
-    → IsBlindOf (play st turns) (play other (blind other turns))
-blind_play [] st other may h = h
-blind_play (turn ∷ turns) st other may h =
-    blind_play turns (play_line turn st) (play_line (blind_turn other.es turn) other) may.1 (blind_more turn st other may.0 h)
+    by : (early : Bool) → nat_lt now st.es.moment ≡ early → (later : Sums)
+        → (let made : Play = record {
+          es = if early then idle st.es else idle_at st.es now;
+          accepted = st.accepted;
+          count = st.count + 1;
+          notes = st.notes ++ note_of (st.count + 1) (if early then Refused TimeBack else Released 0);
+          summary = later;
+        } in made)
+        ≡ record {
+          es = idle (if early then st.es else left_by st.es answer);
+          accepted = st.accepted;
+          count = st.count + 1;
+          notes = st.notes ++ note_of (st.count + 1)
+              (if early then Refused TimeBack else Released (length (left_by st.es answer).log - length st.es.log));
+          summary = later;
+        }
+    by true e later = refl
+    by false e later = rw (left answer (may (ltb-false now st.es.moment e))) refl
+blind_answer _ answer st sums may = record { given = answer; may = tt; is = refl; total = λ fin later total. total }
 
--- before the first line
-pub blind_start : (plan : Plan) → IsBlindOf (start plan) (start plan)
-blind_start plan = record {
-  idle = record { plan = refl; moment = refl; subs = λ k s. refl; log = refl };
-  accepted = refl;
-  count = refl;
-  notes = refl;
+-- The same lines, with such answers: they may be given, and they note and tell the same.
+pub record BlindRun (turns : List AnsweredLine) (st : Play) (sums : Sums) : Type 0 where
+  pub given : List AnsweredLine
+  pub after : Sums
+  pub lines : (text rest : List ℕ) → LinesThen text turns rest → LinesThen text given rest
+  pub may : AreAnswers (blind sums st) given
+  pub is : play (blind sums st) given ≡ blind after (play st turns)
+  pub totals : (fin : Play) (later : Sums) → AreTotals fin turns → AreTotals (blind later fin) given
+
+pub blind_run : (turns : List AnsweredLine) (st : Play) (sums : Sums) → AreAnswers st turns → BlindRun turns st sums
+blind_run [] st sums may = record {
+  given = [];
+  after = sums;
+  lines = λ text rest lines. lines;
+  may = tt;
+  is = refl;
+  totals = λ fin later totals. tt;
 }
-
--- The same lines with such answers note the same.
-pub blind_run : (plan : Plan) (turns : List AnsweredLine) → AreAnswers (start plan) turns
-    → IsBlindOf (play (start plan) turns) (play (start plan) (blind (start plan) turns))
-blind_run plan turns may = blind_play turns (start plan) (start plan) may (blind_start plan)
-
--- They are the same lines.
-pub blind_lines : (text : List ℕ) (other : Play) (turns : List AnsweredLine) (rest : List ℕ) → LinesThen text turns rest
-    → LinesThen text (blind other turns) rest
-blind_lines text other [] rest lines = lines
-blind_lines text other (turn ∷ turns) rest lines =
-    (lines.0, blind_lines (after_feed text) (play_line (blind_turn other.es turn) other) turns rest lines.1)
-
--- each such answer may be given
-answers_blind : (turns : List AnsweredLine) (st other : Play) → AreAnswers st turns → IsBlindOf st other
-    → AreAnswers other (blind other turns)
-answers_blind [] st other may h = tt
-answers_blind (turn ∷ turns) st other may h = (
-  blind_may (meaning_of turn.line) turn.answer st.es other.es h.idle,
-  answers_blind turns (play_line turn st) (play_line (blind_turn other.es turn) other) may.1 (blind_more turn st other may.0 h),
-)
-
--- Such answers may be given.
-pub blind_answers : (plan : Plan) (turns : List AnsweredLine) → AreAnswers (start plan) turns
-    → AreAnswers (start plan) (blind (start plan) turns)
-blind_answers plan turns may = answers_blind turns (start plan) (start plan) may (blind_start plan)
+blind_run (turn ∷ turns) st sums may =
+    let one = blind_answer (meaning_of turn.line) turn.answer st sums may.0 in
+    let more = blind_run turns (play_line turn st)
+    (said_line (meaning_of turn.line) one.given (blind sums st)).summary may.1 in
+    record {
+      given = record { line = turn.line; answer = one.given } ∷ more.given;
+      after = more.after;
+      lines = λ text rest lines. (lines.0, more.lines (after_feed text) rest lines.1);
+      may = (one.may, subst (λ (p : Play). AreAnswers p more.given) (sym one.is) more.may);
+      is = subst (λ (p : Play). play p more.given ≡ blind more.after (play (play_line turn st) turns))
+          (sym one.is) more.is;
+      totals = λ fin later totals. (one.total fin later totals.0, more.totals fin later totals.1);
+    }
 
 -- Where nothing was taken, nothing else than what was sent was.
-pub blind_finds : (st other : Play) → IsBlindOf st other → FindsFirst other
-blind_finds st other h = record {
-  own = λ k s within below. subst (All (λ (sent : Sent).
-      Contains (ports_of_sub other.es.plan.ports (link_plan_at other.es.plan.links k).id.0 s) sent.port))
-      (sym (none k s)) (λ i d lt. absurd (omega arith));
-  first = λ place lt. (
-    other.accepted place,
-    sym (ap (λ (taken : List Sent).
-        messages_of (port_plan_at other.es.plan.ports place) taken ++ other.accepted place)
-        (none (link_place other.es.plan (port_plan_at other.es.plan.ports place)) (port_plan_at other.es.plan.ports place).sub)),
-  );
+pub blind_finds : (sums : Sums) (st : Play) → FindsFirst (blind sums st)
+blind_finds sums st = record {
+  own = λ k s within below i d lt. absurd (omega arith);
+  first = λ place lt. (st.accepted place, refl);
 }
-  where
-    none : (k s : ℕ) → (other.es.subs k s).taken ≡ []
-    none k s = ap (λ (progress : Progress). progress.taken) (h.idle.subs k s)
-
--- what a close tells is the same
-total_blind : (said : Line) (answer : Answer) (es : EndSystem) (st other : Play) → IsBlindOf st other → IsTotal st said answer
-    → IsTotal other said (blind_answer es said answer)
-total_blind (Send port bytes) answer es st other is total = tt
-total_blind (At now) answer es st other is total = tt
-total_blind Nothing answer es st other is total = tt
-total_blind (Close vl sub) answer es st other is total = λ place at.
-    total place (subst (λ (plan : Plan). IsSubAt plan vl sub place) is.idle.plan at)
-    ∙ ap (λ (plan : Plan). accepted_on plan st.accepted vl sub) (sym is.idle.plan)
-    ∙ ap (λ (accepted : Messages). accepted_on other.es.plan accepted vl sub) (sym is.accepted)
-
--- So closes tell the same totals.
-pub blind_totals : (st other : Play) → IsBlindOf st other → (before : Play) (turns : List AnsweredLine) → AreTotals st turns
-    → AreTotals other (blind before turns)
-blind_totals st other is before [] all = tt
-blind_totals st other is before (turn ∷ turns) all = (
-  total_blind (meaning_of turn.line) turn.answer before.es st other is all.0,
-  blind_totals st other is (play_line (blind_turn before.es turn) before) turns all.1,
-)

@@ -1,18 +1,15 @@
 -- A sub-VL is closed: the end system that matches stays the same.
-use Rattle.std.proofs.Common.{ℕ, ◌≡◌, ◌≢◌, ◌<◌, ◌≤◌, List, length, set, Bool, if◌then◌else◌, arith, refl, ap, ◌∙◌, sym, subst, ⊎_elim, Option, Some, None}
+use Rattle.std.proofs.Common.{ℕ, ◌≡◌, ◌≢◌, ◌<◌, ◌≤◌, List, length, set, arith, refl, ap, ◌∙◌, sym, subst, ⊎_elim, Option, Some, None}
 use Rattle.std.specs.Prelude.{IfSome}
 use Rattle.std.proofs.lemmas.Bool.{cases_eq, cases_lt, lt-ltb, le-ltb}
 use Rattle.std.proofs.lemmas.List.{get_or-set_same, get_or-set_other}
 use Rattle.afdx_plan.specs.Config.{Plan, IsPlan, link_plan_at}
-use Rattle.afdx_plan.specs.declared.identifiers.VlId.{VlId}
-use Rattle.afdx_plan.specs.declared.link_plan.LinkPlan.{LinkPlan}
-use Rattle.afdx_plan.specs.declared.port_plan.PortPlan.{PortPlan}
 use Rattle.vl_link.specs.Closing.{Closes, ClosesSub}
-use Rattle.vl_link.specs.Links.{Held, LinkState, held_at, link_at, nothing_held, no_link, sent_by}
+use Rattle.vl_link.specs.Links.{Held, LinkState, held_at, link_at, nothing_held, no_link}
 use Rattle.vl_link.specs.Seen.{Seen, receiving, gathered, ports_of, taken_of, total_of}
 use Rattle.vl_link.proofs.Closing.{closes_ports, closes_taken}
 use Rattle.afdx_tx.specs.Closing.{IsSubAt, LacksSub, ClosesTx}
-use Rattle.afdx_tx.specs.Emitter.{Tx, ports_of_sub, total_in}
+use Rattle.afdx_tx.specs.Emitter.{Tx, total_in}
 use Rattle.afdx_tx.specs.Ports.{PortView}
 use Rattle.afdx_tx.proofs.PortLink.{none_has, found_at}
 use Rattle.afdx_tx.proofs.KeptLinks.{KeepsLink, KeepLinks}
@@ -21,10 +18,11 @@ use Rattle.afdx_tx.proofs.ClosedEmitter.{closes_within, closes_links, closed_kep
 use Rattle.script_lines.specs.declared.line.Line.TheVariants.{Close}
 use Rattle.transcript.specs.declared.outcome.Outcome.TheVariants as Became
 use Rattle.transcript.specs.declared.refusal.Refusal.TheVariants.{NoSub}
-use Rattle.tx_script.specs.AtBench.{AtBench, IsAtHand, Matches, Obeys, KeepsTotals, ClosesOnly}
-use Rattle.tx_script.specs.EndSystem.{EndSystem, Progress}
-use Rattle.tx_script.specs.Matching.{IsPlannedSub, IsPlannedLink, progress_of, MatchesLines, MatchesTx}
-use Rattle.tx_script.specs.Play.{Answer, Messages, tells, told_by, fills, closed_at, link_of}
+use Rattle.tx_script.specs.AtBench.{AtBench, IsAtHand, Matches, Obeys, KeepsTotals, ClosesOnly, progress_of, MatchesLines, MatchesTx}
+use Rattle.tx_script.specs.EndSystem.{EndSystem}
+use Rattle.tx_script.proofs.Finding.{same_place}
+use Rattle.tx_script.proofs.Matched.{still_planned}
+use Rattle.tx_script.specs.Play.{Answer, Messages, tells, fills, closed_at, link_of}
 
 -- a sub-VL is as it was, but for the total of its queue
 record IsShut (old : Held) (new : Held) : Type 0 where
@@ -77,48 +75,23 @@ closes_only old vl sub total new c = λ place other none.
     let shut : LinkState = link_at new.links c.place in
     let links : new.links ≡ set old.links c.place shut = ap (λ (tx : Tx). tx.links) c.same in
     let within : c.place < length old.links = closes_within old vl sub total new c in
-    let here : place ≡ c.place → other ≢ sub → total_in (set old.links c.place shut) place other ≡ total_in old.links place other =
-    λ is ne. ap (λ (k : ℕ). total_in (set old.links c.place shut) k other) is
-    ∙ ap (λ (l : LinkState). total_of (held_at l.subs other).seen)
-    (get_or-set_same old.links c.place shut no_link within ∙ c.closes.same)
-    ∙ ap (λ (h : Held). total_of h.seen)
-    (get_or-set_other (link_at old.links c.place).subs sub other (held_at shut.subs sub) nothing_held ne)
-    ∙ ap (λ (k : ℕ). total_in old.links k other) (sym is) in
     let each : total_in (set old.links c.place shut) place other ≡ total_in old.links place other = ⊎_elim
     (λ (is : place ≡ c.place). ⊎_elim
     (λ (its : other ≡ sub). absurd (none (subst (IsSubAt old.plan vl sub) (sym is) c.at, its)))
-    (λ (ne : other ≢ sub). here is ne)
+    (λ (ne : other ≢ sub). rw (
+      is,
+      get_or-set_same old.links c.place shut no_link within,
+      c.closes.same,
+      get_or-set_other (link_at old.links c.place).subs sub other (held_at shut.subs sub) nothing_held ne,
+    ) refl)
     (cases_eq other sub))
-    (λ (ne : place ≢ c.place). ap (λ (l : LinkState). total_of (held_at l.subs other).seen)
-    (get_or-set_other old.links c.place place shut no_link ne))
+    (λ (ne : place ≢ c.place). rw (get_or-set_other old.links c.place place shut no_link ne) refl)
     (cases_eq place c.place) in
     ap (λ (ls : List LinkState). total_in ls place other) links ∙ each
 
 -- a sub-VL has taken and left the same
 shut_progress : (old new : Held) → IsShut old new → progress_of new ≡ progress_of old
-shut_progress old new h =
-    ap progress_of h.same
-    ∙ ap (λ (items : List (ℕ × List ℕ)). let made : Progress =
-    record { taken = sent_by old.ports items; left = old.left } in made) h.taken
-
--- a link is still the planned one
-shut_planned : (own : ℕ) (planned : LinkPlan) (ports : List PortPlan) (old new : LinkState) → KeepsLink old new
-    → ((s : ℕ) → IsShut (held_at old.subs s) (held_at new.subs s)) → IsPlannedLink own planned ports old
-    → IsPlannedLink own planned ports new
-shut_planned own planned ports old new keeps shut m = record {
-  plan = ap (λ (link : LinkState). link.plan) keeps.same ∙ m.plan;
-  gap = ap (λ (link : LinkState). link.pace.gap) keeps.same ∙ m.gap;
-  sub_vls = ap (λ (link : LinkState). link.pace.sub_vls) keeps.same ∙ m.sub_vls;
-  count = keeps.count ∙ m.count;
-  each = λ s lt.
-      let before : IsPlannedSub (record { end_system = own; link = planned; sub = s }) (ports_of_sub ports planned.id.0 s)
-      (held_at old.subs s) = m.each s lt in
-      record {
-        of = ap (λ (held : Held). held.of) (shut s).same ∙ before.of;
-        ports = ap (λ (held : Held). held.ports) (shut s).same ∙ before.ports;
-        queue = (shut s).ports ∙ before.queue;
-      };
-}
+shut_progress old new h = rw h.same (rw h.taken refl)
 
 -- the emitter matches as before
 closes_matches : (es : EndSystem) (old : Tx) (vl sub total : ℕ) (new : Tx) → ClosesTx old vl sub total new → MatchesTx es old
@@ -127,8 +100,18 @@ closes_matches es old vl sub total new c m = record {
   plan = ap (λ (tx : Tx). tx.plan) c.same ∙ m.plan;
   count = links.count ∙ m.count;
   planned = λ k lt.
-      shut_planned es.plan.end_system (link_plan_at es.plan.links k) es.plan.ports (link_at old.links k) (link_at new.links k)
-      (links.each k (let count = m.count in omega arith)) (λ s. links_shut old vl sub total new c k s) (m.planned k lt);
+      let keeps : KeepsLink (link_at old.links k) (link_at new.links k) =
+      links.each k (let count = m.count in omega arith) in
+      still_planned (ap (λ (link : LinkState). link.plan) keeps.same)
+      (ap (λ (link : LinkState). link.pace.gap) keeps.same)
+      (ap (λ (link : LinkState). link.pace.sub_vls) keeps.same) keeps.count (λ s.
+      let shut = links_shut old vl sub total new c k s in
+      record {
+        of = ap (λ (held : Held). held.of) shut.same;
+        ports = ap (λ (held : Held). held.ports) shut.same;
+        queue = shut.ports;
+      })
+      (m.planned k lt);
   subs = λ k s lt. m.subs k s lt ∙ sym (shut_progress _ _ (links_shut old vl sub total new c k s));
   lines = subst (MatchesLines es.log) (sym (ap (λ (tx : Tx). tx.lines) c.same)) m.lines;
   moment = ap (λ (tx : Tx). tx.moment) c.same ∙ m.moment;
@@ -136,12 +119,6 @@ closes_matches es old vl sub total new c m = record {
   where
     links : KeepLinks old.links new.links
     links = closed_kept old.links new.links (closes_links old vl sub total new c)
-
--- one link of a valid plan has an identifier
-same_place : (plan : Plan) (vl sub place k : ℕ) → IsPlan plan → IsSubAt plan vl sub place → k < length plan.links
-    → (link_plan_at plan.links k).id.0 ≡ vl → k ≡ place
-same_place plan vl sub place k valid at lt id =
-    valid.links_apart k place lt at.within (ap (λ (n : ℕ). let made : VlId = record { 0 = n } in made) (id ∙ sym at.id))
 
 -- the total that was answered is that of the queue of the sub-VL
 closes_told : (old : Tx) (vl sub total : ℕ) (new : Tx) → IsPlan old.plan → ClosesTx old vl sub total new → (place : ℕ)
@@ -160,10 +137,10 @@ closed_there plan vl sub place total valid at = by (link_of plan vl) refl
     by None e = absurd (none_has plan.links vl place e at.within at.id)
     by (Some k) e =
         let some = found_at plan.links vl k e in
-        let is : k ≡ place = same_place plan vl sub place k valid at some.0 some.1 in
-        let below : sub < (link_plan_at plan.links k).sub_vls =
-        subst (λ (i : ℕ). sub < (link_plan_at plan.links i).sub_vls) (sym is) at.below in
-        ap (λ (b : Bool). if b then Became.Closed total else Became.Refused NoSub) (lt-ltb sub _ below)
+        rw (
+          same_place plan vl sub place k valid at some.0 some.1,
+          lt-ltb sub (link_plan_at plan.links place).sub_vls at.below,
+        ) refl
 
 -- and of one that isn't
 closed_nowhere : (plan : Plan) (vl sub : ℕ) (answer : Answer) → LacksSub plan vl sub
@@ -176,9 +153,8 @@ closed_nowhere plan vl sub answer lacks = by (link_of plan vl) refl
         let some = found_at plan.links vl k e in ⊎_elim
         (λ (below : sub < (link_plan_at plan.links k).sub_vls).
         absurd (lacks k (record { within = some.0; id = some.1; below = below })))
-        (λ (past : (link_plan_at plan.links k).sub_vls ≤ sub).
-        ap (λ (b : Bool). if b then Became.Closed (told_by answer) else Became.Refused NoSub)
-        (le-ltb sub (link_plan_at plan.links k).sub_vls past))
+        (λ (past : (link_plan_at plan.links k).sub_vls ≤ sub). rw
+        (le-ltb sub (link_plan_at plan.links k).sub_vls past) refl)
         (cases_lt sub (link_plan_at plan.links k).sub_vls)
 
 -- The close of a sub-VL that is there.

@@ -6,9 +6,7 @@ mod Polling
 mod Sending
 mod AtHand
 mod Blind
-mod SubPorts
 mod Finding
 mod Told
-mod OpenQueues
 mod Totals
 mod Closing

@@ -1,12 +1,11 @@
 -- One line more of a run.
-use Rattle.std.proofs.Common.{◌≡◌, ℕ, ◌+◌, List, [], ◌∷◌, ◌++◌, Option, refl, ap, sym, ◌∙◌, subst}
+use Rattle.std.proofs.Common.{◌≡◌, ℕ, ◌+◌, List, [], ◌∷◌, ◌++◌, Option, refl, ap, sym, subst}
 use Rattle.std.specs.Io.KnownBytes.{Appends}
 use Rattle.std.proofs.KnownBytes.{Appends-trans}
 use Rattle.afdx_plan.specs.Config.{Plan}
 use Rattle.script_lines.specs.Lines.{after_feed}
-use Rattle.tx_script.specs.AtBench.{AtBench, Matches, ObeysFor, Obeys, KeepsTotals, ClosesOnly}
-use Rattle.tx_script.proofs.Told.{told_more}
-use Rattle.tx_script.proofs.OpenQueues.{others_more}
+use Rattle.tx_script.specs.AtBench.{AtBench, ObeysFor, Obeys, KeepsTotals, ClosesOnly}
+use Rattle.tx_script.proofs.Told.{told_more, others_more}
 use Rattle.script_lines.specs.Meaning.{meaning_of}
 use Rattle.tx_script.specs.Play.{AnsweredLine, Play, play, play_line, start, outcome_of, IsAnswer, AreAnswers}
 use Rattle.tx_script.specs.Run.{BeginsWith, LinesThen}
@@ -51,21 +50,15 @@ running_more plan text old mid fin bench new rest count sums line outcome ran be
     let more : play (start plan) (ran.turns ++ turn ∷ []) ≡ play_line turn st =
     play_more (start plan) ran.turns turn in
     let same : outcome_of st.es (meaning_of line) obeyed.answer ≡ outcome = sym obeyed.is in
-    let noted : (play_line turn st).notes ≡ st.notes ++ note_of (count + 1) outcome =
-    ap (λ k. st.notes ++ note_of (k + 1) (outcome_of st.es (meaning_of line) obeyed.answer)) ran.count_is
-    ∙ ap (λ (o : Outcome). st.notes ++ note_of (count + 1) o) same in
     record {
       turns = ran.turns ++ turn ∷ [];
       lines = lines_more text ran.turns rest turn ran.lines begins;
       answers = answers_more (start plan) ran.turns turn ran.answers obeyed.may;
-      matches = subst (λ (p : Play). Matches p.accepted p.es new) (sym more) obeyed.matches;
+      matches = rw more obeyed.matches;
       told = told_more bench.tx new.tx ran.turns turn keeps ran.told obeyed.told;
       others = others_more bench.tx new.tx ran.turns turn keeps only ran.others;
-      count_is = ap (λ (p : Play). p.count) more ∙ ap (λ k. k + 1) ran.count_is;
-      sums_are =
-          ap (λ (p : Play). p.summary) more ∙ ap (λ (o : Outcome). counted o st.summary) same
-          ∙ ap (λ (s : Sums). counted outcome s) ran.sums_are;
-      wrote =
-          subst (Appends old fin) (sym (ap (λ (p : Play). p.notes) more ∙ noted))
+      count_is = rw (more, ran.count_is) refl;
+      sums_are = rw (more, same, ran.sums_are) refl;
+      wrote = rw (more, ran.count_is, same)
           (Appends-trans old mid fin st.notes (note_of (count + 1) outcome) ran.wrote wrote);
     }

@@ -2,7 +2,6 @@
 use Rattle.std.proofs.Common.{ℕ, ◌≡◌, ◌<◌, List, [], ◌∷◌, ◌++◌, Bool, true, length, arith, refl, ap, ◌∙◌, sym, subst, inl, inr, ⊎_elim}
 use Rattle.std.proofs.lemmas.List.{length-map, map-append, append-nil}
 use Rattle.afdx_plan.specs.Config.{link_plan_at}
-use Rattle.afdx_plan.specs.Plan.{bag_micros}
 use Rattle.afdx_plan.specs.declared.link_plan.LinkPlan.{LinkPlan}
 use Rattle.afdx_plan.specs.declared.port_plan.PortPlan.{PortPlan}
 use Rattle.afdx_frame.specs.declared.net.Net.{Net}
@@ -12,20 +11,18 @@ use Rattle.redundant_mux.specs.Entry.{Entry}
 use Rattle.redundant_mux.specs.Logged.{Logged, sent_to}
 use Rattle.redundant_mux.specs.Lines.{Lines, log, Keeps, IsMirrored}
 use Rattle.vl_shaper.specs.Pace.{Pace}
-use Rattle.afdx_legal.specs.Streams.{link_stream}
 use Rattle.vl_link.specs.declared.served.Served.{Served}
-use Rattle.vl_link.specs.declared.sub_vl.SubVl.{SubVl}
 use Rattle.vl_link.specs.Seen.{taken_of}
-use Rattle.vl_link.specs.Turn.{AreTurns}
-use Rattle.vl_link.specs.Links.{Held, LinkState, held_at, link_at, GoesOn, Starts, Passes, Asks, GivesFrame, held_view, Serves}
-use Rattle.vl_link.specs.Links.{sent_of, sent_by, taken_by, IsSameLink, pace_of, message_fragments}
+use Rattle.vl_link.specs.Turn.{Turn, AreTurns}
+use Rattle.vl_link.specs.Links.{Held, LinkState, held_at, link_at, GoesOn, Starts, Passes, Asks, GivesFrame, held_view, Serves, sent_of, sent_by, taken_by, IsSameLink, message_fragments}
 use Rattle.vl_link.proofs.QueueLooks.{taken_nothing, taken_finds, same_ports}
 use Rattle.vl_link.proofs.TurnLaws.{IsSeenIn, turn_seen, turns_seen, turns_each}
 use Rattle.afdx_tx.specs.Drain.{pace_in}
-use Rattle.afdx_tx.specs.Emitter.{Tx, ports_of_sub}
+use Rattle.afdx_tx.specs.Emitter.{Tx}
 use Rattle.afdx_tx.specs.Run.{IsTurn, IsTurnAt, IsRun}
-use Rattle.tx_script.specs.EndSystem.{Progress, EndSystem, started, GoesOnOrFinds, SendsFrame, progress_view, HasTurn, HasTurnAt, HasPolled}
-use Rattle.tx_script.specs.Matching.{IsPlannedSub, IsPlannedLink, progress_of, MatchesLines, MatchesTx}
+use Rattle.tx_script.specs.EndSystem.{Progress, EndSystem, started, GoesOnOrFinds, SendsFrame, progress_view, HasTurnAt, HasPolled}
+use Rattle.tx_script.proofs.Matched.{still_planned}
+use Rattle.tx_script.specs.AtBench.{IsPlannedLink, progress_of, MatchesLines, MatchesTx}
 
 -- a message that was found stands behind those that were taken before it
 started_is : (old mid : Held) (p : Starts old mid) → progress_of mid ≡ started old.of (progress_of old) (sent_of old.ports p.message)
@@ -39,12 +36,7 @@ started_is old mid p =
     p.left
     ∙ ap (λ (n : ℕ). message_fragments old.of n (sent_of old.ports p.message))
     (sym (length-map (taken_of old.seen) (sent_of old.ports))) in
-    ap (λ (sent : List Sent). let made : Progress = record { taken = sent; left = mid.left } in made) taken
-    ∙ ap (λ (fragments : List (List ℕ)). let made : Progress = record {
-      taken =
-          taken_by old ++ sent_of old.ports p.message ∷ [];
-      left = fragments;
-    } in made) left
+    rw (taken, left) refl
 
 -- a sub-VL that has something has it without its queue
 asked_plain : (old mid : Held) → Asks true old mid → GoesOnOrFinds old.of (progress_of old) (progress_of mid)
@@ -65,10 +57,7 @@ shows_plain old frame new g = record {
 
 -- one that was asked in vain took nothing
 passes_plain : (old new : Held) → Passes old new → progress_of new ≡ progress_of old
-passes_plain old new p =
-    ap progress_of p.same
-    ∙ ap (λ (items : List (ℕ × List ℕ)). let made : Progress =
-    record { taken = sent_by old.ports items; left = old.left } in made) (taken_nothing old.seen new.seen p.nothing)
+passes_plain old new p = rw p.same (rw (taken_nothing old.seen new.seen p.nothing) refl)
 
 -- what is known of sub-VLs with their queues is known without them
 plain_seen : (own : ℕ) (plan : LinkPlan) (pace : Pace) (subs news : List Held) (old new : ℕ → Progress)
@@ -81,53 +70,26 @@ plain_seen own plan pace subs news old new named was is = record {
     is s ∙ passes_plain (held_at subs s) (held_at news s) p ∙ sym (was s),
   );
   rests = λ s e. is s ∙ ap progress_of e ∙ sym (was s);
-  gives = λ s frame lt g.
-      subst (λ (x : Progress). SendsFrame (record { end_system = own; link = plan; sub = s }) x frame (new s)) (sym (was s))
-      (subst (λ (x : Progress). SendsFrame (record { end_system = own; link = plan; sub = s }) (progress_of (held_at subs s)) frame x) (sym (is s))
-      (subst (λ (of : SubVl). SendsFrame of (progress_of (held_at subs s)) frame (progress_of (held_at news s))) (named s lt)
-      (shows_plain (held_at subs s) frame (held_at news s) g)));
+  gives = λ s frame lt g. rw (was s, is s, ← named s lt) (shows_plain (held_at subs s) frame (held_at news s) g);
 }
 
 -- the regulation is that of the plan
 planned_turn : (now own : ℕ) (plan : LinkPlan) (ports : List PortPlan) (link new : LinkState) (lines after : Lines) (did : Served)
     → IsPlannedLink own plan ports link → IsTurn now link new lines after did
     → Serves now plan (pace_in plan (log lines)) link.subs new.subs lines after did
-planned_turn now own plan ports link new lines after did m t =
-    subst (λ (n : ℕ). Serves now plan (pace_of (bag_micros plan.bag) n (link_stream plan.id.0 (log lines)))
-    link.subs new.subs lines after did) m.sub_vls
-    (subst (λ (g : ℕ). Serves now plan (pace_of g link.pace.sub_vls (link_stream plan.id.0 (log lines)))
-    link.subs new.subs lines after did) m.gap
-    (subst (λ (p : LinkPlan). Serves now p (pace_of link.pace.gap link.pace.sub_vls (link_stream p.id.0 (log lines)))
-    link.subs new.subs lines after did) m.plan t.serves))
+planned_turn now own plan ports link new lines after did m t = rw (m.plan, m.gap, m.sub_vls) at t.serves
 
 -- one turn of a planned link
 turn_plain : (now own : ℕ) (plan : LinkPlan) (ports : List PortPlan) (link new : LinkState) (lines after : Lines) (did : Served)
     (old next : ℕ → Progress) → IsPlannedLink own plan ports link
     → ((s : ℕ) → old s ≡ progress_of (held_at link.subs s)) → ((s : ℕ) → next s ≡ progress_of (held_at new.subs s))
-    → IsTurn now link new lines after did → HasTurn now own plan old next lines after did
+    → IsTurn now link new lines after did
+    → Turn now plan (pace_in plan (log lines)) (progress_view own plan old next) lines after did
 turn_plain now own plan ports link new lines after did old next m was is t =
     let seen : IsSeenIn (pace_in plan (log lines)) (held_view link.subs new.subs) (progress_view own plan old next) =
     plain_seen own plan (pace_in plan (log lines)) link.subs new.subs old next (λ s lt. (m.each s lt).of) was is in
     turn_seen now plan (pace_in plan (log lines)) (held_view link.subs new.subs) (progress_view own plan old next)
     lines after did seen.rests (λ _. seen) (planned_turn now own plan ports link new lines after did m t)
-
--- a link that is the same is still the planned one
-still_planned : (own : ℕ) (plan : LinkPlan) (ports : List PortPlan) (link new : LinkState) → IsSameLink link new
-    → IsPlannedLink own plan ports link → IsPlannedLink own plan ports new
-still_planned own plan ports link new same m = record {
-  plan = same.plan ∙ m.plan;
-  gap = same.gap ∙ m.gap;
-  sub_vls = same.sub_vls ∙ m.sub_vls;
-  count = same.count ∙ m.count;
-  each = λ s lt.
-      let before : IsPlannedSub (record { end_system = own; link = plan; sub = s }) (ports_of_sub ports plan.id.0 s)
-      (held_at link.subs s) = m.each s lt in
-      record {
-        of = (same.subs s).of ∙ before.of;
-        ports = (same.subs s).ports ∙ before.ports;
-        queue = same_ports (held_at link.subs s).seen (held_at new.subs s).seen (same.subs s).queue ∙ before.queue;
-      };
-}
 
 -- what both networks hold where both stand
 mirrored_lines : (lines : Lines) → IsMirrored lines → lines.a_stands ≡ true → lines.b_stands ≡ true
@@ -188,10 +150,19 @@ left_matches es old new now m run mirrored a b plan moment = record {
   plan = plan ∙ m.plan;
   count = run.count ∙ m.count;
   planned = λ k lt.
-      still_planned es.plan.end_system (link_plan_at es.plan.links k) es.plan.ports (link_at old.links k) (link_at new.links k)
-      (turns_each (IsTurnAt now old.links new.links) (λ i. IsSameLink (link_at old.links i) (link_at new.links i))
+      let same : IsSameLink (link_at old.links k) (link_at new.links k) =
+      turns_each (IsTurnAt now old.links new.links) (λ i. IsSameLink (link_at old.links i) (link_at new.links i))
       0 (length old.links) old.lines new.lines (λ i before behind did t. t.same) run.turns k (omega arith)
-      (let count = m.count in omega arith))
+      (let count = m.count in omega arith) in
+      still_planned same.plan same.gap same.sub_vls same.count (λ s.
+      let sub = same.subs s in
+      record {
+        of = sub.of;
+        ports = sub.ports;
+        queue =
+            same_ports (held_at (link_at old.links k).subs s).seen
+            (held_at (link_at new.links k).subs s).seen sub.queue;
+      })
       (m.planned k lt);
   subs = λ k s lt. refl;
   lines = mirrored_lines new.lines mirrored a b;

@@ -1,6 +1,5 @@
 -- Obeying a line that sends a message.
-use Rattle.std.proofs.Common.{ℕ, ◌≡◌, ◌≢◌, ◌≤◌, ◌<◌, ◌+◌, ◌==◌, Bool, true, false, ⊎_elim, if◌then◌else◌, nat_lt, List, []}
-use Rattle.std.proofs.Common.{length, set, get_or, refl, ap, ◌∙◌, sym, subst, arith, Option, Some, None}
+use Rattle.std.proofs.Common.{ℕ, ◌≡◌, ◌≢◌, ◌≤◌, ◌<◌, ◌+◌, ◌==◌, true, false, ⊎_elim, List, [], length, set, get_or, refl, ap, ◌∙◌, sym, subst, arith, Option, Some, None}
 use Rattle.std.proofs.lemmas.Bool.{eq-eqb, ne_eqb, lt-ltb, le-ltb}
 use Rattle.std.proofs.lemmas.List.Quantifiers.{position-Some}
 use Rattle.afdx_plan.specs.Config.{Plan, port_plan_at}
@@ -13,8 +12,7 @@ use Rattle.afdx_tx.specs.Ports.{PortView, MaySend, Accepts, Refuses, BelongsTo}
 use Rattle.afdx_tx.specs.Sending.{length_refusal}
 use Rattle.tx_script.specs.AtBench.{AtBench, IsAtHand, HaveSent, Matches, Obeys, Sends}
 use Rattle.tx_script.specs.EndSystem.{EndSystem}
-use Rattle.tx_script.specs.Play.{Answer, Messages, takes, closes, fills, place_of, sent_to}
-use Rattle.tx_script.specs.Play.{passed_on, script_refusal, outcome_of, accepted_with, accepted_after, with_message}
+use Rattle.tx_script.specs.Play.{Answer, Messages, takes, closes, fills, place_of, passed_on, script_refusal, outcome_of, accepted_with, accepted_after, with_message}
 use Rattle.script_lines.specs.declared.line.Line.TheVariants.{Send}
 use Rattle.transcript.specs.declared.refusal.Refusal.{Refusal}
 use Rattle.transcript.specs.declared.refusal.Refusal.TheVariants.{NoPort}
@@ -24,34 +22,16 @@ use Rattle.tx_script.proofs.AtHand.{IsSamePort, have_sent, have_kept}
 
 -- a message of no bytes
 empty_refused : (port : PortPlan) (size : ℕ) → size ≡ 0 → length_refusal port size ≡ Some Why.Empty
-empty_refused port size e = ap (λ (b : Bool). if b then Some Why.Empty
-    else if nat_lt port.max size then Some Why.TooLong else None) (eq-eqb size 0 e)
+empty_refused port size e = rw (eq-eqb size 0 e) refl
 
 -- one over the port's greatest
 long_refused : (port : PortPlan) (size : ℕ) → port.max < size → length_refusal port size ≡ Some Why.TooLong
-long_refused port size over =
-    ap (λ (b : Bool). if b then Some Why.Empty else if nat_lt port.max size then Some Why.TooLong else None)
-    (ne_eqb size 0 (λ e. absurd (omega arith)))
-    ∙ ap (λ (b : Bool). if b then Some Why.TooLong else None) (lt-ltb port.max size over)
+long_refused port size over = rw (ne_eqb size 0 (λ e. absurd (omega arith)), lt-ltb port.max size over) refl
 
 -- one that the port may send
 may_pass : (port : PortPlan) (size : ℕ) → MaySend port size → length_refusal port size ≡ None
 may_pass port size may =
-    ap (λ (b : Bool). if b then Some Why.Empty else if nat_lt port.max size then Some Why.TooLong else None)
-    (ne_eqb size 0 (λ e. absurd (let some = may.some in omega arith)))
-    ∙ ap (λ (b : Bool). if b then Some Why.TooLong else None) (le-ltb port.max size may.most)
-
--- a port whose sender alone changed
-same_by : (old new : PortView) (sender : SenderView) → new ≡ record old { sender = sender }
-    → sender.queue ≡ old.sender.queue → sender.port ≡ old.sender.port → sender.calls ≡ old.sender.calls
-    → IsSamePort old new
-same_by old new sender e queue index calls = record {
-  place = ap (λ (p : PortView). p.place) e;
-  plan = ap (λ (p : PortView). p.plan) e;
-  queue = ap (λ (p : PortView). p.sender.queue) e ∙ queue;
-  index = ap (λ (p : PortView). p.sender.port) e ∙ index;
-  calls = ap (λ (p : PortView). p.sender.calls) e ∙ calls;
-}
+    rw (ne_eqb size 0 (λ e. absurd (let some = may.some in omega arith)), le-ltb port.max size may.most) refl
 
 -- What a refusal leaves of a port.
 record IsUnsent (old new : PortView) : Type 0 where
@@ -59,44 +39,30 @@ record IsUnsent (old new : PortView) : Type 0 where
   own : new.sender.own ≡ old.sender.own
   asks : new.sender.asks ≤ old.sender.asks + 1
 
--- the length alone was asked
-unsent_same : (old new : PortView) → new ≡ old → IsUnsent old new
-unsent_same old new e = record {
-  same = same_by old new old.sender e refl refl refl;
-  own = ap (λ (p : PortView). p.sender.own) e;
-  asks = let same : new.sender.asks ≡ old.sender.asks = ap (λ (p : PortView). p.sender.asks) e in omega arith;
-}
-
--- its queue was glanced at
-unsent_glanced : (old new : PortView) (shut : Bool) → new ≡ record old { sender = new.sender }
-    → new.sender ≡ glanced old.sender shut → IsUnsent old new
-unsent_glanced old new shut e s = record {
-  same = same_by old new new.sender e (ap (λ (sender : SenderView). sender.queue) s)
-      (ap (λ (sender : SenderView). sender.port) s) (ap (λ (sender : SenderView). sender.calls) s);
-  own = ap (λ (sender : SenderView). sender.own) s;
-  asks = let same : new.sender.asks ≡ old.sender.asks = ap (λ (sender : SenderView). sender.asks) s in omega arith;
-}
-
--- and asked
-unsent_asked : (old new : PortView) (shut : Bool) (load : ℕ) → new ≡ record old { sender = new.sender }
-    → new.sender ≡ asked (glanced old.sender shut) load → IsUnsent old new
-unsent_asked old new shut load e s = record {
-  same = same_by old new new.sender e (ap (λ (sender : SenderView). sender.queue) s)
-      (ap (λ (sender : SenderView). sender.port) s) (ap (λ (sender : SenderView). sender.calls) s);
-  own = ap (λ (sender : SenderView). sender.own) s;
-  asks = let more : new.sender.asks ≡ old.sender.asks + 1 = ap (λ (sender : SenderView). sender.asks) s in omega arith;
+-- its sender may have looked and asked, but sent nothing
+unsent_by : (old : PortView) (sender : SenderView) → sender.queue ≡ old.sender.queue → sender.port ≡ old.sender.port
+    → sender.calls ≡ old.sender.calls → sender.own ≡ old.sender.own → sender.asks ≤ old.sender.asks + 1
+    → IsUnsent old (record old { sender = sender })
+unsent_by old sender queue index calls own asks = record {
+  same = record { place = refl; plan = refl; queue = queue; index = index; calls = calls };
+  own = own;
+  asks = asks;
 }
 
 -- whatever the refusal
 unsent : (old new : PortView) (size : ℕ) (why : SendRefusal) → why ≢ Why.Exhausted → Refuses old size why new
     → IsUnsent old new
-unsent old new size Why.Empty some r = unsent_same old new r.1
-unsent old new size Why.TooLong some r = unsent_same old new r.1
+unsent old new size Why.Empty some r = rw r.1 (unsent_by old old.sender refl refl refl refl (omega arith))
+unsent old new size Why.TooLong some r = rw r.1 (unsent_by old old.sender refl refl refl refl (omega arith))
 unsent old new size Why.Closed some r = ⊎_elim
-    (λ (e : new.sender ≡ glanced old.sender true). unsent_glanced old new true r.same e)
-    (λ e. unsent_asked old new true new.sender.load r.same e.2) r.queue
+    (λ (e : new.sender ≡ glanced old.sender true).
+    rw (r.same, e) (unsent_by old (glanced old.sender true) refl refl refl refl (omega arith)))
+    (λ e. rw (r.same, e.2)
+    (unsent_by old (asked (glanced old.sender true) new.sender.load) refl refl refl refl (omega arith))) r.queue
 unsent old new size Why.Exhausted some r = absurd (some refl)
-unsent old new size Why.Full some r = unsent_asked old new false new.sender.load r.same r.queue.2
+unsent old new size Why.Full some r =
+    rw (r.same, r.queue.2)
+    (unsent_by old (asked (glanced old.sender false) new.sender.load) refl refl refl refl (omega arith))
 
 -- the plan of the port at a place
 plan_here : (tx : Tx) (ports : List PortView) (place : ℕ) (d : PortView) → IsAtHand tx ports → place < length ports
@@ -119,11 +85,7 @@ sent_here : (es : EndSystem) (tx : Tx) (id place : ℕ) (bytes : List ℕ) (port
     (why : Option SendRefusal) → tx.plan ≡ es.plan → place_of tx.plan id ≡ Some place
     → port ≡ port_plan_at tx.plan.ports place → length_refusal port (length bytes) ≡ why
     → outcome_of es (Send id bytes) answer ≡ passed_on why answer
-sent_here es tx id place bytes port answer why plan found is asked =
-    ap (λ (config : Plan). sent_to config (place_of config id) bytes answer) (sym plan)
-    ∙ ap (λ (p : Option ℕ). sent_to tx.plan p bytes answer) found
-    ∙ ap (λ (p : PortPlan). passed_on (length_refusal p (length bytes)) answer) (sym is)
-    ∙ ap (λ (w : Option SendRefusal). passed_on w answer) asked
+sent_here es tx id place bytes port answer why plan found is asked = rw (← plan, found, ← is, asked) refl
 
 -- A message that its port accepted.
 send_taken : (accepted : Messages) (es : EndSystem) (tx : Tx) (ports : List PortView) (id place : ℕ) (d new : PortView)
@@ -180,8 +142,7 @@ pub send_nowhere : (accepted : Messages) (es : EndSystem) (bench : AtBench) (id 
     → Obeys (Send id bytes) accepted es bench (Became.Refused NoPort)
 send_nowhere accepted es bench id bytes none m =
     refused_by accepted es bench id bytes fills NoPort
-    (ap (λ (config : Plan). sent_to config (place_of config id) bytes fills) (sym m.emitter.plan)
-    ∙ ap (λ (p : Option ℕ). sent_to bench.tx.plan p bytes fills) none) m
+    (rw (← m.emitter.plan, none) refl) m
 
 -- the answer of a queue that refused
 answer_of : SendRefusal → Answer
@@ -192,11 +153,11 @@ answer_of _ = fills
 refusal_passed : (old new : PortView) (size : ℕ) (why : SendRefusal) → why ≢ Why.Exhausted → Refuses old size why new
     → passed_on (length_refusal old.plan size) (answer_of why) ≡ Became.Refused (script_refusal why)
 unfolding answer_of
-refusal_passed old new size Why.Empty some r = ap (λ (w : Option SendRefusal). passed_on w fills) (empty_refused old.plan size r.0)
-refusal_passed old new size Why.TooLong some r = ap (λ (w : Option SendRefusal). passed_on w fills) (long_refused old.plan size r.0)
-refusal_passed old new size Why.Closed some r = ap (λ (w : Option SendRefusal). passed_on w closes) (may_pass old.plan size r.may)
+refusal_passed old new size Why.Empty some r = rw (empty_refused old.plan size r.0) refl
+refusal_passed old new size Why.TooLong some r = rw (long_refused old.plan size r.0) refl
+refusal_passed old new size Why.Closed some r = rw (may_pass old.plan size r.may) refl
 refusal_passed old new size Why.Exhausted some r = absurd (some refl)
-refusal_passed old new size Why.Full some r = ap (λ (w : Option SendRefusal). passed_on w fills) (may_pass old.plan size r.may)
+refusal_passed old new size Why.Full some r = rw (may_pass old.plan size r.may) refl
 
 -- A message that its port refused.
 send_refused : (accepted : Messages) (es : EndSystem) (tx : Tx) (ports : List PortView) (id place : ℕ) (d new : PortView)
@@ -213,8 +174,7 @@ send_refused accepted es tx ports id place d new bytes why h found lt some refus
     (record {
       emitter = m.emitter;
       own = have_kept accepted ports place d new lt
-          (let left : IsUnsent (get_or ports place d) new =
-          unsent (get_or ports place d) new (length bytes) why some refuses in left.own) m.own;
+          (unsent (get_or ports place d) new (length bytes) why some refuses).own m.own;
     })
 
 -- A port was found at its place, and was given a message.
@@ -235,39 +195,30 @@ sent_at tx ports id place port new bytes outcome config at h plan asked some her
 }
   where
     found : place_of tx.plan id ≡ Some place
-    found = ap (λ (p : Plan). place_of p id) (sym plan) ∙ sym asked ∙ some
+    found = rw (← plan, ← asked) some
 
--- A port that was given a message is the same otherwise.
-pub sends_same : (old new : PortView) (bytes : List ℕ) (outcome : Outcome) → Sends old bytes new outcome
-    → IsSamePort old new
-sends_same old new bytes Became.Quiet h = absurd h
-sends_same old new bytes Became.Accepted h =
-    let sender = h.1.0.2.1 in
-    same_by old new new.sender h.1.1 (ap (λ (s : SenderView). s.queue) sender) (ap (λ (s : SenderView). s.port) sender)
-    (ap (λ (s : SenderView). s.calls) sender)
-sends_same old new bytes (Became.Refused refusal) h = (unsent old new (length bytes) h.why h.some h.refuses).same
-sends_same old new bytes (Became.Released frames) h = absurd h
-sends_same old new bytes (Became.Closed total) h = absurd h
+-- A port that was given a message is the same otherwise, and asked once more at most.
+pub record IsGiven (old new : PortView) : Type 0 where
+  pub same : IsSamePort old new
+  pub asks : new.sender.asks ≤ old.sender.asks + 1
 
--- It asked once more at most.
-pub sends_asks : (old new : PortView) (bytes : List ℕ) (outcome : Outcome) → Sends old bytes new outcome
-    → new.sender.asks ≤ old.sender.asks + 1
-sends_asks old new bytes Became.Quiet h = absurd h
-sends_asks old new bytes Became.Accepted h =
-    let more : new.sender.asks ≡ old.sender.asks + 1 = ap (λ (s : SenderView). s.asks) h.1.0.2.1 in omega arith
-sends_asks old new bytes (Became.Refused refusal) h = (unsent old new (length bytes) h.why h.some h.refuses).asks
-sends_asks old new bytes (Became.Released frames) h = absurd h
-sends_asks old new bytes (Became.Closed total) h = absurd h
+pub sends_once : (old new : PortView) (bytes : List ℕ) (outcome : Outcome) → Sends old bytes new outcome
+    → IsGiven old new
+sends_once old new bytes Became.Accepted h = rw (h.1.1, h.1.0.2.1) (record {
+  same = record { place = refl; plan = refl; queue = refl; index = refl; calls = refl };
+  asks = omega arith;
+})
+sends_once old new bytes (Became.Refused refusal) h =
+    let left = unsent old new (length bytes) h.why h.some h.refuses in record { same = left.same; asks = left.asks }
+sends_once old new bytes _ h = absurd h
 
 -- A message for the port at a place.
 pub sends_obeys : (accepted : Messages) (es : EndSystem) (tx : Tx) (ports : List PortView) (id place : ℕ) (d new : PortView)
     (bytes : List ℕ) (outcome : Outcome) → IsAtHand tx ports → place_of tx.plan id ≡ Some place → place < length ports
     → Sends (get_or ports place d) bytes new outcome → Matches accepted es (record { tx = tx; ports = ports })
     → Obeys (Send id bytes) accepted es (record { tx = tx; ports = set ports place new }) outcome
-sends_obeys accepted es tx ports id place d new bytes Became.Quiet h found lt sends m = absurd sends
 sends_obeys accepted es tx ports id place d new bytes Became.Accepted h found lt sends m =
     send_taken accepted es tx ports id place d new bytes h found lt sends.0 sends.1 m
 sends_obeys accepted es tx ports id place d new bytes (Became.Refused refusal) h found lt sends m =
     rw sends.named (send_refused accepted es tx ports id place d new bytes sends.why h found lt sends.some sends.refuses m)
-sends_obeys accepted es tx ports id place d new bytes (Became.Released frames) h found lt sends m = absurd sends
-sends_obeys accepted es tx ports id place d new bytes (Became.Closed total) h found lt sends m = absurd sends
+sends_obeys accepted es tx ports id place d new bytes _ h found lt sends m = absurd sends

@@ -1,25 +1,69 @@
--- An emitter with its ports, as a run of a script has them at hand.
-use Rattle.std.specs.Prelude.{ℕ, ◌≡◌, ◌≢◌, ◌≤◌, ◌<◌, ◌++◌, List, [], ◌∷◌, length, slice_index_or, All, Some, None}
-use Rattle.afdx_plan.specs.Config.{Plan, IsPlan, port_plan_at}
-use Rattle.subvl_queue.specs.Messages.{most_calls, part_of}
+-- An emitter with its ports, as a run of a script has them at hand, and the end system that it matches.
+use Rattle.std.specs.Prelude.{ℕ, ◌≡◌, ◌≢◌, ◌≤◌, ◌<◌, ◌++◌, List, [], ◌∷◌, length, slice_index_or, All, Some, None, true}
+use Rattle.afdx_plan.specs.Config.{Plan, IsPlan, link_plan_at}
+use Rattle.subvl_queue.specs.Messages.{most_calls}
 use Rattle.vl_link.specs.Seen.{taken_of, ports_of}
-use Rattle.vl_link.specs.Links.{held_at, link_at}
+use Rattle.vl_link.specs.Links.{held_at, link_at, Held, LinkState, taken_by}
 use Rattle.afdx_tx.specs.Closing.{IsSubAt}
-use Rattle.afdx_tx.specs.Emitter.{Tx, IsFreshTx, total_in}
-use Rattle.afdx_tx.specs.Gathering.{held_for}
-use Rattle.afdx_tx.specs.Ports.{PortView, AreOpenedWith, AreFreshPorts, MaySend, Accepts, Refuses, index_of}
+use Rattle.afdx_legal.specs.Allowed.{port_messages}
+use Rattle.afdx_tx.specs.Emitter.{Tx, IsFreshTx, taken_in, total_in, ports_of_sub}
+use Rattle.afdx_tx.specs.Ports.{PortView, AreOpenedWith, AreFreshPorts, MaySend, Accepts, Refuses}
 use Rattle.afdx_tx.specs.declared.fault.Refusal.{Refusal as SendRefusal}
 use Rattle.afdx_tx.specs.declared.fault.Refusal.TheVariants as Why
-use Rattle.tx_script.specs.EndSystem.{EndSystem}
-use Rattle.tx_script.specs.Matching.{MatchesTx}
-use Rattle.tx_script.specs.Play.{Answer, AnsweredLine, IsAnswer, Messages, outcome_of, after, accepted_after, script_refusal, told_by}
-use Rattle.tx_script.specs.Totals.{accepted_on}
+use Rattle.tx_script.specs.EndSystem.{EndSystem, Progress}
+use Rattle.tx_script.specs.Play.{Answer, AnsweredLine, IsAnswer, Messages, outcome_of, after, accepted_after, script_refusal, told_by, accepted_on}
 use Rattle.script_lines.specs.Meaning.{meaning_of}
 use Rattle.script_lines.specs.declared.line.Line.{Line}
 use Rattle.script_lines.specs.declared.line.Line.TheVariants.{Close}
 use Rattle.transcript.specs.declared.outcome.Outcome.{Outcome}
 use Rattle.transcript.specs.declared.outcome.Outcome.TheVariants as Became
 use Rattle.transcript.specs.declared.refusal.Refusal.{Refusal}
+use Rattle.afdx_plan.specs.Plan.{bag_micros}
+use Rattle.afdx_plan.specs.declared.link_plan.LinkPlan.{LinkPlan}
+use Rattle.afdx_plan.specs.declared.port_plan.PortPlan.{PortPlan}
+use Rattle.afdx_frame.specs.declared.net.Net.TheVariants.{A, B}
+use Rattle.redundant_mux.specs.Logged.{Logged, sent_to}
+use Rattle.redundant_mux.specs.Lines.{Lines}
+use Rattle.vl_link.specs.declared.sub_vl.SubVl.{SubVl}
+
+-- a sub-VL is the planned one, and its queue has a sender for each of its ports
+pub record IsPlannedSub (own : SubVl) (senders : List PortPlan) (held : Held) : Type 0 where
+  pub of : held.of ≡ own
+  pub ports : held.ports ≡ senders
+  pub queue : ports_of held.seen ≡ length senders
+
+-- a link is the planned one, and so are its sub-VLs
+pub record IsPlannedLink (own : ℕ) (planned : LinkPlan) (ports : List PortPlan) (link : LinkState) : Type 0 where
+  pub plan : link.plan ≡ planned
+  pub gap : link.pace.gap ≡ bag_micros planned.bag
+  pub sub_vls : link.pace.sub_vls ≡ planned.sub_vls
+  pub count : length link.subs ≡ planned.sub_vls
+  pub each : (s : ℕ) → s < planned.sub_vls
+      → IsPlannedSub (record { end_system = own; link = planned; sub = s })
+      (ports_of_sub ports planned.id.0 s) (held_at link.subs s)
+
+-- what a sub-VL took, and what it has left
+abbrev pub progress_of : Held → Progress
+progress_of held = record { taken = taken_by held; left = held.left }
+
+-- both networks stand, and each holds what was handed over for it
+pub record MatchesLines (log : List Logged) (lines : Lines) : Type 0 where
+  pub is : lines.logged ≡ log
+  pub a : lines.a ≡ sent_to A log
+  pub b : lines.b ≡ sent_to B log
+  pub for_a : lines.a_stands ≡ true
+  pub for_b : lines.b_stands ≡ true
+
+-- an emitter has the plan, its sub-VLs have taken and left the same, and both networks match
+pub record MatchesTx (es : EndSystem) (tx : Tx) : Type 0 where
+  pub plan : tx.plan ≡ es.plan
+  pub count : length tx.links ≡ length es.plan.links
+  pub planned : (k : ℕ) → k < length es.plan.links
+      → IsPlannedLink es.plan.end_system (link_plan_at es.plan.links k) es.plan.ports (link_at tx.links k)
+  pub subs : (k s : ℕ) → k < length es.plan.links
+      → es.subs k s ≡ progress_of (held_at (link_at tx.links k).subs s)
+  pub lines : MatchesLines es.log tx.lines
+  pub moment : tx.moment ≡ es.moment
 
 -- an emitter, and its ports in the order of the configuration
 pub record AtBench : Type 0 where
@@ -132,9 +176,7 @@ pub record GaveFirst (tx : Tx) (ports : List PortView) : Type 0 where
       (taken_of (held_at (link_at tx.links k).subs s).seen)
   pub first : (place : ℕ) (d : PortView) → place < length tx.plan.ports
       → (more : List (List ℕ))
-      × ((slice_index_or ports place d).sender.own
-      ≡ part_of (index_of tx.plan.ports place)
-      (taken_of (held_for tx (port_plan_at tx.plan.ports place)).seen) ++ more)
+      × ((slice_index_or ports place d).sender.own ≡ port_messages tx.plan (taken_in tx.links) place ++ more)
 
 -- the total with which a sub-VL was closed is how many messages of its ports were accepted
 abbrev pub GaveTotals : Tx → List PortView → Type 0

@@ -55,16 +55,11 @@ progress_view end_system link old new = record {
       SendsFrame (record { end_system = end_system; link = link; sub = s }) (old s) frame (new s);
 }
 
--- one turn of the link of a plan, from its sub-VLs to others
-abbrev pub HasTurn : ℕ → ℕ → LinkPlan → (old new : ℕ → Progress) → (lines after : Lines) → Served → Type 0
-HasTurn now end_system link old new lines after did =
-    Turn now link (pace_in link (log_of lines)) (progress_view end_system link old new)
-    lines after did
-
 -- one turn of the link at a place
 abbrev pub HasTurnAt : ℕ → (old new : EndSystem) → ℕ → (lines after : Lines) → Served → Type 0
 HasTurnAt now old new k lines after did =
-    HasTurn now old.plan.end_system (link_plan_at old.plan.links k) (old.subs k) (new.subs k)
+    let link = link_plan_at old.plan.links k in
+    Turn now link (pace_in link (log_of lines)) (progress_view old.plan.end_system link (old.subs k) (new.subs k))
     lines after did
 
 -- A poll: the links have their turns in order. Both networks stand afterwards, so that no turn lost a frame.

@@ -5,10 +5,7 @@ pub use Rattle.script_lines.specs.Meaning
 pub use Rattle.script_lines.specs.Numbers
 pub use Rattle.script_lines.specs.Words
 pub mod EndSystem
-pub mod Matching
 pub mod Play
-pub mod Played
-pub mod Totals
 pub mod AtBench
 pub mod Run
 pub mod Running

@@ -1,6 +1,5 @@
 -- A run of lines, with answers of queues that nothing but the run knows.
-use Rattle.std.specs.Prelude.{◌≡◌, ◌<◌, ◌≤◌, ℕ, ◌+◌, ◌-◌, nat_lt, nat_eq, ◌==◌, if◌then◌else◌, List, []}
-use Rattle.std.specs.Prelude.{◌∷◌, ◌++◌, length, position, All, Contains, Option, Some, None}
+use Rattle.std.specs.Prelude.{◌≡◌, ◌<◌, ◌≤◌, ℕ, ◌+◌, ◌-◌, nat_lt, nat_eq, ◌==◌, if◌then◌else◌, List, [], ◌∷◌, ◌++◌, length, position, All, Contains, Option, Some, None, zero, suc, ◌&&◌, Bool}
 use Rattle.afdx_plan.specs.Config.{Plan, port_plan_at, link_plan_at}
 use Rattle.afdx_plan.specs.declared.link_plan.LinkPlan.{LinkPlan}
 use Rattle.afdx_plan.specs.declared.port_plan.PortPlan.{PortPlan}
@@ -23,6 +22,7 @@ use Rattle.transcript.specs.declared.refusal.Refusal.TheVariants.{Empty, TooLong
 use Rattle.transcript.specs.declared.outcome.Outcome.{Outcome}
 use Rattle.transcript.specs.declared.outcome.Outcome.TheVariants as Became
 use Rattle.transcript.specs.declared.summary.Summary.{Summary as Sums}
+use Rattle.afdx_tx.specs.Closing.{IsSubAt}
 
 -- a queue takes a message, is closed or is full, a poll leaves the end system so, or a close tells its
 -- total
@@ -111,10 +111,6 @@ after es _ answer = es
 abbrev pub Messages : Type 0
 Messages = ℕ → List (List ℕ)
 
--- nothing was accepted
-abbrev pub none_accepted : Messages
-none_accepted place = []
-
 -- a message more of the port at a place
 abbrev pub with_message : ℕ → List ℕ → Messages → Messages
 with_message place bytes accepted other =
@@ -146,7 +142,7 @@ pub record Play : Type 0 where
 abbrev pub start : Plan → Play
 start plan = record {
   es = fresh plan;
-  accepted = none_accepted;
+  accepted = λ place. [];
   count = 0;
   notes = [];
   summary = record { accepted = 0; refused = 0; frames = 0 };
@@ -194,3 +190,29 @@ pub record FindsFirst (st : Play) : Type 0 where
       × (st.accepted place
       ≡ messages_of (port_plan_at st.es.plan.ports place)
       (found_beside st.es (port_plan_at st.es.plan.ports place)) ++ more)
+
+-- a port sends over this link, on the sub-VL of this index
+abbrev pub is_on : ℕ → ℕ → PortPlan → Bool
+is_on vl sub port = nat_eq port.vl.0 vl && nat_eq port.sub sub
+
+-- how many messages of the first so many ports of a plan were accepted on a sub-VL
+abbrev pub accepted_among : Plan → Messages → (vl sub many : ℕ) → ℕ
+accepted_among plan accepted vl sub zero = 0
+accepted_among plan accepted vl sub (suc k) =
+    accepted_among plan accepted vl sub k
+    + (if is_on vl sub (port_plan_at plan.ports k) then length (accepted k) else 0)
+
+-- how many messages were accepted on a sub-VL
+abbrev pub accepted_on : Plan → Messages → (vl sub : ℕ) → ℕ
+accepted_on plan accepted vl sub = accepted_among plan accepted vl sub (length plan.ports)
+
+-- the total that the close of a sub-VL tells is how many messages were accepted on it in the whole run
+abbrev pub IsTotal : Play → Line → Answer → Type 0
+IsTotal st (Close vl sub) answer = (place : ℕ) → IsSubAt st.es.plan vl sub place
+    → told_by answer ≡ accepted_on st.es.plan st.accepted vl sub
+IsTotal st _ answer = Unit {0}
+
+-- each close of the lines of a run tells the total of its sub-VL
+abbrev pub AreTotals : Play → List AnsweredLine → Type 0
+AreTotals st [] = Unit {0}
+AreTotals st (turn ∷ turns) = IsTotal st (meaning_of turn.line) turn.answer × AreTotals st turns

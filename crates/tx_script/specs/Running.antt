@@ -1,15 +1,15 @@
 -- A run of a script while its streams are not yet written.
-use Rattle.std.specs.Prelude.{◌≡◌, ℕ, ◌<◌, List, [], length, Option, Some, None, Result, Ok, Err, ⊤, ◌⊎◌}
+use Rattle.std.specs.Prelude.{◌≡◌, ℕ, true, false, ◌<◌, List, [], length, Option, Some, None, Result, Ok, Err, ⊤, ◌⊎◌}
 use Rattle.std.specs.Io.KnownBytes.{Appends, Keeps}
 use Rattle.afdx_plan.specs.Config.{Plan}
-use Rattle.tx_script.specs.AtBench.{AtBench, IsAtHand, Matches, HaveSent, AreTold, OthersAreOpen, GaveFirst, GaveTotals}
+use Rattle.tx_script.specs.AtBench.{AtBench, IsAtHand, Matches, KeepsTotals, SameTotals, AreTold, OthersAreOpen, GaveFirst, GaveTotals}
 use Rattle.script_lines.specs.Faults.{IsFirstFault}
 use Rattle.script_lines.specs.Lines.{first_line, after_feed}
 use Rattle.script_lines.specs.Meaning.{meaning_of}
 use Rattle.tx_script.specs.Play.{AnsweredLine, play, start, AreAnswers}
 use Rattle.tx_script.specs.Run.{BeginsWith, LinesThen, Ends}
 use Rattle.transcript.specs.FrameLog.{FrameLog}
-use Rattle.transcript.specs.Transcript.{streams}
+use Rattle.transcript.specs.Transcript.{streams, ends_writing}
 use Rattle.script_lines.specs.declared.line.Line.{Line as Said}
 use Rattle.script_lines.specs.declared.line_fault.LineFault.{LineFault}
 use Rattle.script_lines.specs.declared.line_fault.LineFault.TheVariants.{Memory as OutOfMemory}
@@ -25,18 +25,13 @@ pub record SaysLine (text : List ℕ) (left : Option (List ℕ)) (said : Said) :
   pub said_is : said ≡ meaning_of (first_line text)
   pub behind : left ≡ Some (after_feed text)
 
--- a text's first line, which has this number, has this as its first fault
-pub record HasLineFault (text : List ℕ) (line number : ℕ) (fault : LineFault) : Type 0 where
-  pub some : 0 < length text
-  pub number_is : number ≡ line
-  pub first : IsFirstFault (first_line text) fault
-
 -- what the next line of a text says, which has this number
 abbrev pub ReadsLine : (text : List ℕ) → (left : Option (List ℕ)) → (line : ℕ) → Result (Option Said) RunFault
     → Type 0
 ReadsLine text left line (Ok None) = text ≡ []
 ReadsLine text left line (Ok (Some said)) = SaysLine text left said
-ReadsLine text left line (Err (Line number fault)) = HasLineFault text line number fault
+ReadsLine text left line (Err (Line number fault)) =
+    (0 < length text) × (number ≡ line) × IsFirstFault (first_line text) fault
 ReadsLine text left line (Err Lines) = ⊥
 ReadsLine text left line (Err Read) = ⊤
 ReadsLine text left line (Err Write) = ⊥
@@ -56,17 +51,16 @@ pub record Running (plan : Plan) (text : List ℕ) (old new : Option (List ℕ))
   pub wrote : Appends old new (play (start plan) turns).notes
 
 -- Some lines of a text were run, and their notes are written; then memory was refused. The ports sent
--- what was accepted, the queues that were closed have the totals that were told, and no other is closed.
+-- nothing more since, and the same queues are closed, with the same totals.
 pub record Halted (plan : Plan) (text : List ℕ) (old new : Option (List ℕ)) (bench : AtBench) : Type 0 where
-  pub turns : List AnsweredLine
+  pub before : AtBench
   pub rest : List ℕ
-  pub lines : LinesThen text turns rest
-  pub answers : AreAnswers (start plan) turns
-  pub planned : bench.tx.plan ≡ (play (start plan) turns).es.plan
-  pub own : HaveSent (play (start plan) turns).accepted bench.ports
-  pub told : AreTold bench.tx turns
-  pub others : OthersAreOpen bench.tx turns
-  pub wrote : Appends old new (play (start plan) turns).notes
+  pub count : ℕ
+  pub sums : Sums
+  pub ran : Running plan text old new before rest count sums
+  pub ports : bench.ports ≡ before.ports
+  pub keeps : KeepsTotals before.tx bench.tx
+  pub same : SameTotals before.tx bench.tx
 
 -- what the lines of a text leave, by their end, whose notes alone are written
 abbrev pub Stops : Plan → List ℕ → (old new : Option (List ℕ)) → AtBench → Result Sums RunFault → Type 0
@@ -90,17 +84,11 @@ abbrev pub HoldsHanded : AtBench → FrameLog × FrameLog → Type 0
 HoldsHanded bench networks =
     (networks.0.handed ≡ bench.tx.lines.a) × (networks.1.handed ≡ bench.tx.lines.b)
 
--- the streams were written after a fault, and the networks are given back
-pub record EndsWhole (fault : RunFault) (bench : AtBench) (old new : Option (List ℕ)) (played : Played) : Type 0 where
-  pub a : FrameLog
-  pub b : FrameLog
-  pub is : played ≡ Whole (Err fault) a b
-  pub holds : HoldsHanded bench (a, b)
-  pub writes : Writes bench old new
-
--- what is written after a fault, and what is told then
+-- What is written after a fault, and what is told then: the streams and the networks that were given
+-- back, that the writer failed, or nothing more.
 abbrev pub EndsEarly : RunFault → AtBench → (old new : Option (List ℕ)) → (played : Played) → Type 0
-EndsEarly Memory bench old new played =
-    (played ≡ Broken Memory) × Keeps old new × GaveTotals bench.tx bench.ports
-EndsEarly Write bench old new played = played ≡ Broken Write
-EndsEarly fault bench old new played = (played ≡ Broken Write) ⊎ EndsWhole fault bench old new played
+EndsEarly fault bench old new (Whole ended a b) =
+    (ended ≡ Err fault) × (ends_writing fault ≡ false) × HoldsHanded bench (a, b) × Writes bench old new
+EndsEarly fault bench old new (Broken told) =
+    (told ≡ Write)
+    ⊎ ((told ≡ fault) × (ends_writing fault ≡ true) × Keeps old new × GaveTotals bench.tx bench.ports)

@@ -1,11 +1,7 @@
 //! Running a script.
 ghost use Rattle.std.specs.Prelude.{◌≡◌, IfSome, IfOk, IfErr, OnOk};
-ghost use Rattle.std.specs.Io.KnownBytes.{Appends};
-ghost use Rattle.tx_script.specs.AtBench.{IsAtHand, GaveFirst, GaveTotals};
-ghost use Rattle.tx_script.specs.Run.{Leaves};
-ghost use Rattle.tx_script.specs.Played.{Plays};
-ghost use Rattle.tx_script.specs.Running.{HoldsHanded, EndsEarly};
-ghost use Rattle.transcript.specs.Transcript.{streams};
+ghost use Rattle.tx_script.specs.Run.{Leaves, Plays};
+ghost use Rattle.tx_script.specs.Running.{HoldsHanded, Writes, EndsEarly};
 
 use crate::bench::Bench;
 use crate::obey_lines::obey_lines;
@@ -18,13 +14,9 @@ use transcript::{FrameLog, RunFault, Summary, write_streams};
 
 /// Writes what was handed to the two networks of a bench, which are given back.
 fn write_handed<W: Write>(writer: &mut W, bench: Bench) -> Result<(FrameLog, FrameLog), RunFault>
-    ensures ok { OnOk result (Appends (W.contents writer.old) (W.contents writer.new)
-        (streams bench.tx.lines.a bench.tx.lines.b)) }
+    ensures ok { OnOk result (Writes bench (W.contents writer.old) (W.contents writer.new)) }
     ensures networks { IfOk result (HoldsHanded bench) }
     ensures err { IfErr result (λ fault. fault ≡ RunFault.Write) }
-    ensures hand { IsAtHand bench.tx bench.ports }
-    ensures first { GaveFirst bench.tx bench.ports }
-    ensures totals { GaveTotals bench.tx bench.ports }
 {
     let (a, b) = bench.into_networks();
     write_streams(writer, &a, &b)?;

@@ -1,5 +1,4 @@
 use Rattle.std.proofs.Common.{◌<◌, ◌≤◌, length, arith}
-use Rattle.std.proofs.lemmas.Grind.{common_steps}
 use Rattle.std.proofs.lemmas.Bool.Decides.{nat_tests}
 use Rattle.script_lines.proofs.LineLemmas.{read_plain, read_byte, eof_taken, eof_long, feed_taken, feed_long, byte_long}
 use Rattle.script_lines.proofs.line_text.next_line.Goals as goal
@@ -18,9 +17,6 @@ returns-in-Ok-None-2-clause-long g c line =
     eof_long _ _ _ _ (read_plain _ _ _ _ _ c.loop-bytes.invariant c.in_ok-take_plain.ensures) taken
     (c.in-Ok-None.ensures.ended c.in-Ok-None.field-0-is) (omega (arith, long))
 
-pub returns-in-Ok-None-2-clause-ended : goal.returns-in-Ok-None-2-clause-ended
-returns-in-Ok-None-2-clause-ended g c line = absurd (c.of_len.ensures.some line)
-
 pub returns-in-Ok-Some-eq10-clause-taken : goal.returns-in-Ok-Some-eq10-clause-taken
 returns-in-Ok-Some-eq10-clause-taken g c line =
     let some = rw c.in-Ok-Some-eq10.field-0-is at c.in-Ok-Some-eq10.ensures.taken in
@@ -38,9 +34,6 @@ returns-in-Ok-Some-eq10-clause-long g c line =
     let len : 20000 < length c.drop_return.new.line.items = omega (arith, long, c.len-in-Ok-Some-eq10.ensures) in
     feed_long _ _ _ _ (read_plain _ _ _ _ _ c.loop-bytes.invariant c.in_ok-take_plain.ensures) taken (rw c.drop_return.ensures at len)
 
-pub returns-in-Ok-Some-eq10-clause-ended : goal.returns-in-Ok-Some-eq10-clause-ended
-returns-in-Ok-Some-eq10-clause-ended g c line = absurd (c.of_len-in-Ok-Some-eq10.ensures.some line)
-
 pub returns-in-Ok-Some-clause-long : goal.returns-in-Ok-Some-clause-long
 returns-in-Ok-Some-clause-long g c line =
     let taken = rw c.in-Ok-Some.field-0-is at c.in-Ok-Some.ensures.taken in
@@ -53,6 +46,3 @@ loop-bytes-preserved g c =
     let read = read_plain _ _ _ _ _ c.loop-bytes.invariant c.in_ok-take_plain.ensures in
     rw c.in_ok-push-in-Ok-Some-2.ensures.items
     (read_byte _ _ _ _ c.in-Ok-Some.field-0-0 read taken c.in-Ok-Some.field-0-0-test.1)
-
-pub returns-in-Ok-None-clause-ended : goal.returns-in-Ok-None-clause-ended
-returns-in-Ok-None-clause-ended g c = grind (arith, common_steps)

@@ -4,15 +4,13 @@ use Rattle.script_lines.proofs.WordLemmas.{next_none, next_some}
 use Rattle.script_lines.proofs.line_words.next_word.Goals as goal
 
 pub returns-then-is_empty : goal.returns-then-is_empty
-returns-then-is_empty c = next_none _ _ _ c.text_at.result c.split_at.ensures.front c.split_at.ensures.back
-    c.split_at.ensures.front_len c.text_at.ensures.before (grind (arith, nat_tests, c.if-is_empty.ensures))
+returns-then-is_empty c = next_none _ _ _ c.split_at.ensures.back c.text_at.ensures.before
+    (grind (arith, nat_tests, c.if-is_empty.ensures))
 
 pub returns : goal.returns
 returns c =
-    next_some _ _ _ _ _ c.text_at.result c.blank_at.result c.split_at.ensures.front c.split_at.ensures.back
-    c.split_at.ensures.front_len c.text_at.ensures.before c.text_at.ensures.found (grind (
-      arith,
-      nat_tests,
-      c.if-is_empty.ensures,
-    ))
-    c.split_at-2.ensures.front c.split_at-2.ensures.back c.split_at-2.ensures.front_len c.blank_at.ensures.before c.blank_at.ensures.found
+    next_some _ _ _ _ c.text_at.result c.blank_at.result c.split_at.ensures.back c.text_at.ensures.before
+    c.text_at.ensures.found
+    c.split_at-2.ensures.front c.split_at-2.ensures.back c.blank_at.ensures.within c.blank_at.ensures.before
+    c.blank_at.ensures.found
+    (grind (arith, nat_tests, c.if-is_empty.ensures))

@@ -9,8 +9,7 @@ use Rattle.transcript.specs.declared.refusal.Refusal.TheVariants.{TimeBack}
 use Rattle.tx_script.proofs.Polling.{left_at, polled_matches, left_matches}
 use Rattle.tx_script.proofs.Matched.{released_many}
 use Rattle.tx_script.proofs.bench.obey_at.Goals as goal
-use Rattle.tx_script.proofs.bench.obey_at.Goals.{in-Ok+then-report+then-report-2, in-Ok+else-report, else-report-via-then-report+else-report-2}
-use Rattle.tx_script.proofs.bench.obey_at.Goals.{else-report-via-else-report, in-Err}
+use Rattle.tx_script.proofs.bench.obey_at.Goals.{in-Ok+then-report+then-report-2, in-Ok+else-report, else-report-via-then-report+else-report-2, else-report-via-else-report, in-Err}
 
 -- a poll at a moment that is not before the last one
 poll_obeys : (es : EndSystem) (new : AtBench) (moment released : ℕ) (accepted : Messages)

@@ -8,12 +8,7 @@ pub returns-in-Ok-write_handed : goal.returns-in-Ok-write_handed
 returns-in-Ok-write_handed g c =
     plays_ok c.args.config c.in-Ok.bench.tx.plan c.new-bytes.result _ _ _ _ c.obey_lines.new.bench c.in-Ok-write_handed.a c.in-Ok-write_handed.b
     c.in-Ok-obey_lines.summary c.new-bytes.ensures c.in-Ok.ensures.fresh.tx.plan c.in-Ok-obey_lines.ensures
-    (record {
-      wrote = c.in-Ok-write_handed.ensures.ok;
-      hand = c.in-Ok-write_handed.ensures.hand;
-      first = c.in-Ok-write_handed.ensures.first;
-      totals = c.in-Ok-write_handed.ensures.totals;
-    }) c.in-Ok-write_handed.ensures.networks
+    c.in-Ok-write_handed.ensures.ok c.in-Ok-write_handed.ensures.networks
 
 pub returns : goal.returns
 returns g c =
