@@ -44,12 +44,7 @@ are_after-push n [] e all is = (is, tt)
 are_after-push n (x ∷ es) e all is = (all.0, are_after-push n es e all.1 is)
 
 pub falls_not_same : (a : Counts) → NoFieldFalls a a
-falls_not_same a = record {
-  frames = le_refl _;
-  bytes = le_refl _;
-  messages = le_refl _;
-  last = le_refl _;
-}
+falls_not_same a = record { frames = le_refl _; bytes = le_refl _; messages = le_refl _; last = le_refl _ }
 
 pub falls_not_through : (a b c : Counts) → NoFieldFalls a b → NoFieldFalls b c → NoFieldFalls a c
 falls_not_through a b c p q = record {

@@ -1,5 +1,5 @@
 -- Each step on a link's cell keeps the rule.
-use Rattle.std.proofs.Common.{◌≡◌, ◌≢◌, ◌⊎◌, inl, inr, ℕ, zero, suc, ◌+◌, List, [], ◌∷◌, ◌++◌, length, set, true, false, true≢false, refl, sym, ap, ◌∙◌, subst, ⊎_elim, append-nil, append_assoc, arith}
+use Rattle.std.proofs.Common.{◌≡◌, ◌≢◌, ◌⊎◌, ℕ, zero, suc, ◌+◌, List, [], ◌∷◌, ◌++◌, length, set, true, false, refl, sym, ap, ◌∙◌, subst, ⊎_elim, append-nil, append_assoc}
 use mathlib.Core.Option.{some, some-ne-none, some-injective}
 use lib.ListN.{get_elem?}
 use Rattle.crossbeam_utils.specs.Register.{Turns, Forks, Merges}
@@ -10,17 +10,6 @@ use Rattle.status_board.specs.declared.rule.View.{View}
 use Rattle.status_board.specs.History.{NoFieldFalls, value_of, IsRising, StartsWith, zeros}
 use Rattle.status_board.specs.Rule.{stamped, counts_of, opener, Fits, KeepsHistory, Adds, FindsEntry, Agrees, without_reading, as_monitor, as_told, hearing, nobody}
 use Rattle.status_board.proofs.Histories.{last_or-push, rises-push, starts_same, starts_more, starts_none, counts_of-append, are_after-push}
-
-off : false ≡ true → ⊥
-off e = true≢false (sym e)
-
--- an element is an old one, or the last
-at_end : {A : Type 0} (l : List A) (a b : A) (j : ℕ) → get_elem? (l ++ a ∷ []) j ≡ some b
-    → ((j ≢ length l) × (get_elem? l j ≡ some b)) ⊎ ((j ≡ length l) × (a ≡ b))
-at_end [] a b zero e = inr (refl, some-injective a b e)
-at_end [] a b (suc j) e = absurd (some-ne-none b (sym e))
-at_end (x ∷ xs) a b zero e = inl ((λ h. omega arith), e)
-at_end (x ∷ xs) a b (suc j) e = ⊎_elim (λ t. let n = t.0 in inl ((λ h. n (omega arith)), t.1)) (λ t. inr (ap suc t.0, t.1)) (at_end xs a b j e)
 
 -- P of each view after one has changed
 views_set : (P : ℕ → View → Type 0) (views : List View) (by : ℕ) (w : View)
@@ -33,14 +22,22 @@ views_set P views by w others mine j u e =
     (at_set views by j w u e)
 
 -- P of each view after one has come
-views_push : (P : ℕ → View → Type 0) (views : List View) (w : View)
-    → ((j : ℕ) (u : View) → j ≢ length views → get_elem? views j ≡ some u → P j u) → P (length views) w
-    → (j : ℕ) (u : View) → get_elem? (views ++ w ∷ []) j ≡ some u → P j u
-views_push P views w others mine j u e =
-    ⊎_elim
-    (λ (x : (j ≢ length views) × (get_elem? views j ≡ some u)). others j u x.0 x.1)
-    (λ (x : (j ≡ length views) × (w ≡ u)). subst (λ (y : ℕ × View). P y.0 y.1) (λ i. (sym x.0 i, x.1 i)) mine)
-    (at_end views w u j e)
+views_push : (P : ℕ → View → Type 0) (views : List View) (w : View) → ((j : ℕ) (u : View) → get_elem? views j ≡ some u → P j u)
+    → P (length views) w → (j : ℕ) (u : View) → get_elem? (views ++ w ∷ []) j ≡ some u → P j u
+views_push P [] w others mine zero u e = subst (P 0) (some-injective w u e) mine
+views_push P [] w others mine (suc j) u e = absurd (some-ne-none u (sym e))
+views_push P (v ∷ views) w others mine zero u e = others zero u e
+views_push P (v ∷ views) w others mine (suc j) u e = views_push (λ q. P (suc q)) views w (λ q. others (suc q)) mine j u e
+
+-- a pass that isn't the monitor's fits whatever the monitor is
+not_monitor : (k writer monitor loads' monitor' : ℕ) (loads : ℕ) (history seen seen' : List Stamped) (u : View) → (k ≢ monitor)
+    → Fits writer monitor loads history seen k u → Fits writer monitor' loads' history seen' k u
+not_monitor k writer monitor loads' monitor' loads history seen seen' u apart f = record {
+  as_writer = λ r. record { one = (f.as_writer r).one; whole = (f.as_writer r).whole };
+  as_monitor = λ r. absurd (apart (f.as_monitor r).one);
+  knows = f.knows;
+  heard = f.heard;
+}
 
 -- the first pass of a cell fits
 pub begins : KeepsHistory zeros (opener ∷ [])
@@ -82,7 +79,7 @@ publishes by v c is blind rise x views k at =
     let rises = rises-push zeros (counts_of k.history) c k.rising (subst (λ l. NoFieldFalls (value_of (counts_of l)) c) mine.whole rise) in
     let fits : Fits k.writer k.monitor k.loads now k.seen by w = record {
       as_writer = λ _. record { one = mine.one; whole = same };
-      as_monitor = λ r. absurd (off (sym blind ∙ r));
+      as_monitor = λ r. absurd (cc);
       knows = ([], sym same ∙ sym (append-nil w.history));
       heard = starts_more k.history v.heard (e ∷ []) (k.each by v at).heard;
     } in
@@ -131,13 +128,8 @@ reads by v is x views k at =
       value_is = k.value_is;
       rising = k.rising;
       each = views_set (Fits k.writer k.monitor (k.loads + 1) k.history k.history) views by w
-          (λ j u apart at_j. let f = k.each j u at_j in record {
-            as_writer = λ r. record { one = (f.as_writer r).one; whole = (f.as_writer r).whole };
-            as_monitor = λ r. absurd (apart ((f.as_monitor r).one ∙ sym role.one));
-            knows = f.knows;
-            heard = f.heard;
-          })
-          fits;
+          (λ j u apart at_j. not_monitor j k.writer k.monitor (k.loads + 1) k.monitor k.loads k.history k.seen k.history u
+          (λ e. apart (e ∙ sym role.one)) (k.each j u at_j)) fits;
     } in
     let found : FindsEntry v x x w = record {
       writes = refl;
@@ -178,35 +170,30 @@ parts by v is x views k at =
     let mine = k.each by v at in
     let role = mine.as_monitor is in
     let P = Fits k.writer monitor k.loads k.history k.seen in
-    let other : (j : ℕ) (u : View) → j ≢ by → get_elem? views j ≡ some u → P j u = λ j u apart at_j.
-    let f = k.each j u at_j in record {
-      as_writer = λ r. record { one = (f.as_writer r).one; whole = (f.as_writer r).whole };
-      as_monitor = λ r. absurd (apart ((f.as_monitor r).one ∙ sym role.one));
-      knows = f.knows;
-      heard = f.heard;
-    } in
     let own : P by left = record {
       as_writer = λ r. record { one = (mine.as_writer r).one; whole = (mine.as_writer r).whole };
-      as_monitor = λ r. absurd (off r);
+      as_monitor = λ r. absurd (cc);
       knows = mine.knows;
       heard = mine.heard;
     } in
     let new : P monitor right = record {
-      as_writer = λ r. absurd (off r);
+      as_writer = λ r. absurd (cc);
       as_monitor = λ _. record { one = refl; saw = role.saw; counted = role.counted };
       knows = mine.knows;
       heard = starts_none k.history;
     } in
     keeps_views x views (kept ++ right ∷ []) k monitor
-    (views_push P kept right (λ j u _ at_j. views_set P views by left other own j u at_j) new)
+    (views_push P kept right (views_set P views by left
+    (λ j u apart at_j. not_monitor j k.writer k.monitor k.loads monitor k.loads k.history k.seen k.seen u (λ e. apart (e ∙ sym role.one))
+    (k.each j u at_j)) own) new)
 
 -- a pass that has no part fits where it knows a beginning
 no_part : (writer monitor loads : ℕ) (history seen : List Stamped) (by : ℕ) (v : View) → v.writes ≡ false
     → v.reads ≡ false → StartsWith history v.history → StartsWith history v.heard
     → Fits writer monitor loads history seen by v
 no_part writer monitor loads history seen by v mute blind knows heard = record {
-  as_writer = λ r. absurd (off (sym mute ∙ r));
-  as_monitor = λ r. absurd (off (sym blind ∙ r));
+  as_writer = λ r. absurd (cc);
+  as_monitor = λ r. absurd (cc);
   knows = knows;
   heard = heard;
 }
@@ -218,7 +205,7 @@ tells by v x views k at =
     let told = no_part k.writer k.monitor k.loads k.history k.seen (length (set views by v)) (as_told v) refl refl own.knows
     (starts_none k.history) in
     keeps_views x views (set views by v ++ as_told v ∷ []) k k.monitor
-    (views_push P (set views by v) (as_told v) (λ j u _ at_j. k.each j u (subst (λ l. get_elem? l j ≡ some u) (set_again views by v at) at_j)) told)
+    (views_push P (set views by v) (as_told v) (λ j u at_j. k.each j u (subst (λ l. get_elem? l j ≡ some u) (set_again views by v at) at_j)) told)
 
 pub hears : (by : ℕ) (v : View) (other : ℕ) (u : View) → Merges KeepsHistory by v other u (hearing v u) nobody
 hears by v other u x views k at apart there =

@@ -1,7 +1,7 @@
 -- How often a worker's port asked.
 use Rattle.std.proofs.Common.{◌≡◌, ℕ, zero, suc, ◌+◌, ◌<◌, ◌≤◌, ◌⊎◌, List, [], ◌∷◌, ◌++◌, length, get_or, map, ap, sym, ◌∙◌, subst, ⊎_elim, arith}
 use Rattle.std.proofs.lemmas.List.{length-map, map-append}
-use Rattle.subvl_queue.specs.Views.{SenderView, IsPlaced, IsRefused}
+use Rattle.subvl_queue.specs.Views.{SenderView, IsRefused}
 use Rattle.subvl_queue.specs.declared.refused.Why.{Why}
 use Rattle.subvl_queue.specs.declared.refused.Why.TheVariants as Queue
 use Rattle.afdx_tx.specs.declared.fault.Refusal.{Refusal}

@@ -1,6 +1,6 @@
 -- The cells of a board and of a monitor.
-use Rattle.std.proofs.Common.{◌≡◌, ℕ, ◌<◌, List, [], length, set, get_or, sym, ap, ◌∙◌, arith}
-use Rattle.std.proofs.lemmas.List.{ext_get_or, get_or-map, length-map}
+use Rattle.std.proofs.Common.{◌≡◌, ℕ, suc, ◌<◌, List, [], ◌∷◌, length, map, set, get_or, refl, sym, ap, ◌∙◌, arith}
+use Rattle.std.proofs.lemmas.List.{get_or-map, length-map}
 use Rattle.std.proofs.Math.Seq.{map-set_same}
 use Rattle.atomic_table.specs.Seated.{TableId}
 use Rattle.status_board.specs.Views.{Published, Watched, published, seen, no_cell, AreNew}
@@ -18,42 +18,31 @@ no_published = record { cell = no_cell; history = [] }
 abbrev no_seen : Watched
 no_seen = record { cell = no_cell; history = []; loads = 0 }
 
-written_at : (board : List Published) (k : ℕ) → k < length board → get_or (cells_of board) k no_cell ≡ (published board k).cell
-written_at board k lt = get_or-map written board k no_published no_cell lt
-
-read_at : (monitor : List Watched) (k : ℕ) → k < length monitor → get_or (cells_read monitor) k no_cell ≡ (seen monitor k).cell
-read_at monitor k lt = get_or-map read monitor k no_seen no_cell lt
+-- lists whose elements have the same cells, place by place
+cells_agree : {A B : Type 0} (f : A → TableId) (g : B → TableId) (d : A) (e : B) (xs : List A) (ys : List B) → length xs ≡ length ys
+    → ((k : ℕ) → k < length xs → f (get_or xs k d) ≡ g (get_or ys k e)) → map f xs ≡ map g ys
+cells_agree f g d e [] [] count each = refl
+cells_agree f g d e [] (y ∷ ys) count each = absurd (omega arith)
+cells_agree f g d e (x ∷ xs) [] count each = absurd (omega arith)
+cells_agree f g d e (x ∷ xs) (y ∷ ys) count each =
+    let rest = cells_agree f g d e xs ys (omega arith) (λ k lt. each (suc k) (omega arith)) in λ i. each 0 (omega arith) i ∷ rest i
 
 -- a board whose links have the cells that they had
 pub cells_same : (old new : List Published) → length new ≡ length old
     → ((k : ℕ) → k < length old → (published new k).cell ≡ (published old k).cell) → cells_of new ≡ cells_of old
-cells_same old new count each =
-    ext_get_or no_cell (cells_of new) (cells_of old) (length-map new written ∙ count ∙ sym (length-map old written))
-    (λ k lt.
-    let here : k < length new = omega (arith, length-map new written) in
-    let there : k < length old = omega arith in
-    written_at new k here ∙ each k there ∙ sym (written_at old k there))
+cells_same old new count each = cells_agree written written no_published no_published new old count (λ k lt. each k (omega arith))
 
 -- both ends of a new board have the same cells
 pub cells_new : (board : List Published) (monitor : List Watched) → length board ≡ length monitor → AreNew board monitor
     → cells_of board ≡ cells_read monitor
-cells_new board monitor count new =
-    ext_get_or no_cell (cells_of board) (cells_read monitor) (length-map board written ∙ count ∙ sym (length-map monitor read))
-    (λ k lt.
-    let here : k < length board = omega (arith, length-map board written) in
-    let there : k < length monitor = omega arith in
-    written_at board k here ∙ (new k).cell ∙ sym (read_at monitor k there))
+cells_new board monitor count new = cells_agree written read no_published no_seen board monitor count (λ k _. (new k).cell)
 
--- a monitor of a board reads as many links
-pub as_many : (board : List Published) (monitor : List Watched) → cells_of board ≡ cells_read monitor → length monitor ≡ length board
-as_many board monitor same = sym (length-map monitor read) ∙ sym (ap length same) ∙ length-map board written
-
--- and of each link the cell of the board
-pub same_cell : (board : List Published) (monitor : List Watched) (k : ℕ) → cells_of board ≡ cells_read monitor → k < length board
-    → (published board k).cell ≡ (seen monitor k).cell
-same_cell board monitor k same lt =
-    let there : k < length monitor = omega (arith, as_many board monitor same) in
-    sym (written_at board k lt) ∙ ap (λ l. get_or l k no_cell) same ∙ read_at monitor k there
+-- a monitor of a board reads as many links, and of each the cell of the board
+pub cell_at : (board : List Published) (monitor : List Watched) (k : ℕ) → cells_of board ≡ cells_read monitor → k < length board
+    → (k < length monitor) × ((published board k).cell ≡ (seen monitor k).cell)
+cell_at board monitor k same lt =
+    let there : k < length monitor = omega (arith, ap length same, length-map board written, length-map monitor read) in
+    (there, sym (get_or-map written board k no_published no_cell lt) ∙ ap (λ l. get_or l k no_cell) same ∙ get_or-map read monitor k no_seen no_cell there)
 
 -- a reading leaves a monitor its cells
 pub cells_kept : (old new : List Watched) (k : ℕ) → new ≡ set old k (seen new k) → (seen new k).cell ≡ (seen old k).cell

@@ -1,5 +1,5 @@
 -- What was published of the links of an emitter.
-use Rattle.std.proofs.Common.{◌≡◌, ◌∙◌, ℕ, ◌+◌, ◌<◌, List, [], ◌∷◌, ◌++◌, length, take, map, refl, sym, ap, add-one, arith}
+use Rattle.std.proofs.Common.{◌≡◌, ◌∙◌, ℕ, ◌+◌, ◌<◌, List, [], ◌∷◌, ◌++◌, length, take, map, sym, ap, add-one, arith}
 use Rattle.std.proofs.lemmas.List.{get_or-map, length-map}
 use Rattle.std.proofs.Math.Seq.{take-suc, take-length}
 use Rattle.afdx_plan.specs.Config.{Plan, link_plan_at}
@@ -26,16 +26,7 @@ counts_same old new k plan lines =
 links_same : (old new : Tx) → new.plan ≡ old.plan → length new.plan.links ≡ length old.plan.links
 links_same old new plan = ap (λ (p : Plan). length p.links) plan
 
--- it stays while the plan, what was handed over and the board stay
-pub shown_same : (old new : Tx) → new.plan ≡ old.plan → new.lines ≡ old.lines → new.board ≡ old.board → IsShown old → IsShown new
-shown_same old new plan lines board s = record {
-  count = ap length board ∙ s.count ∙ sym (links_same old new plan);
-  each = λ k lt.
-      let here : k < length old.plan.links = omega (arith, links_same old new plan) in
-      ap (λ b. last_of b k) board ∙ s.each k here ∙ counts_same old new k plan lines;
-}
-
--- publishing makes it so
+-- publishing what was counted, after a step that leaves the board
 pub shown_published : (old mid new : Tx) → mid.plan ≡ old.plan → mid.board ≡ old.board → Publishes mid new → IsShown old → IsShown new
 shown_published old mid new plan board p s =
     let same : new.plan ≡ mid.plan = ap (λ (t : Tx). t.plan) p.same in

@@ -4,3 +4,4 @@ pub mod Answers
 pub mod Cells
 pub mod Watching
 pub mod Shown
+pub mod Threads

@@ -52,7 +52,7 @@ fn drain_once<A: Network + Drop, B: Network + Drop, G: Gate, R: Wait>(
     };
     draining.publish(rt);
     gate.polled(report.released.len());
-    report.standing.a || report.standing.b
+    report.standing.a | report.standing.b
 }
 
 /// Polls on from a poll of that number, at most so many times, until all that was accepted is handed

@@ -1,20 +1,16 @@
 //! What comes of a storm, over any two networks.
 ghost use Rattle.std.specs.Prelude.{◌≡◌, ◌*◌, ◌≤◌, ◌<◌, ◌^◌, [], length, false, IfOk};
 ghost use Rattle.std.specs.List.{sum_by};
-ghost use Rattle.status_board.specs.Views.{links_of};
 ghost use Rattle.storm.specs.Cells.{cells_of, cells_read};
 ghost use Rattle.afdx_legal.specs.Done.{IsHandedWhole};
-ghost use Rattle.afdx_tx.specs.Emitter.{IsFreshTx};
-ghost use Rattle.afdx_tx.specs.Ports.{AreFreshPorts, AreOpenedWith};
 ghost use Rattle.storm.specs.Messages.{own_messages};
 ghost use Rattle.storm.specs.Shown.{IsShown, all_counts};
-ghost use Rattle.storm.specs.Workers.{AreSpent};
+ghost use Rattle.storm.specs.Threads.{IsReady, IsJoined};
 
 use crate::drain::{drain, gather_all};
 use crate::fault::Stop;
 use crate::gate::Gate;
 use crate::load::Load;
-use crate::polling::STEP;
 use crate::run::{Joined, Opened, run_threads};
 use afdx_plan::Config;
 use afdx_tx::{Draining, TxPort, open_tx};
@@ -77,14 +73,10 @@ fn finish<A: Network + Drop, B: Network + Drop, G: Gate, R: Wait>(
     load: Load,
     gate: &G,
 ) -> Result<Outcome<A, B>, Stop>
-    requires ports { AreSpent joined.tx load.messages load.turns joined.ports.items }
-    requires shown { IsShown joined.tx }
-    requires cells { cells_of joined.tx.board ≡ cells_read joined.monitor }
-    requires polls { joined.polls ≤ 1000000000 }
-    requires moment { joined.tx.moment ≤ joined.polls * STEP }
+    requires joined { IsJoined load.messages load.turns
+        joined.tx joined.ports.items joined.monitor joined.polls joined.back }
     requires messages { load.messages < 65536 }
     requires turns { load.turns ≤ 1000000000 }
-    requires back { joined.back ≡ false }
     ensures whole { IfOk result (λ outcome. IsHandedWhole joined.tx.plan
         (own_messages joined.tx.plan load.messages) (A.handed outcome.a) (B.handed outcome.b)) }
     ensures accepted { IfOk result (λ outcome.
@@ -126,13 +118,9 @@ fn open<A: Network + Drop, B: Network + Drop>(
     requires b_empty { B.handed b ≡ [] }
     requires a_new { A.failures a ≡ 0 }
     requires b_new { B.failures b ≡ 0 }
-    ensures fresh { IfOk result (λ opened. IsFreshTx config opened.tx) }
-    ensures ports { IfOk result (λ opened. AreFreshPorts opened.tx opened.ports.items) }
-    ensures opened { IfOk result (λ opened. AreOpenedWith opened.tx opened.ports.items) }
-    ensures links { IfOk result (λ opened. links_of opened.monitor ≡ length config.links) }
-    ensures shown { IfOk result (λ opened. IsShown opened.tx) }
-    ensures cells { IfOk result (λ opened.
-        cells_of opened.tx.board ≡ cells_read opened.monitor) }
+    ensures plan { IfOk result (λ opened. opened.tx.plan ≡ config) }
+    ensures ready { IfOk result (λ opened.
+        IsReady opened.tx opened.ports.items opened.monitor) }
 {
     match open_tx(alloc, config, a, b) {
         Ok((tx, ports, monitor)) => Ok(Opened { tx, ports, monitor }),

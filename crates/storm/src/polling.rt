@@ -38,7 +38,7 @@ fn poll_once<A: Network + Drop, B: Network + Drop, G: Gate, R: Wait>(
     if report.released.is_empty() {
         thread::yield_now();
     }
-    report.standing.a || report.standing.b
+    report.standing.a | report.standing.b
 }
 
 /// Polls and publishes while workers run, at most so many times. How many times that was; none where no

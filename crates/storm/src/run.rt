@@ -1,16 +1,12 @@
 //! The threads of a storm, from the first start to the last join.
-ghost use Rattle.std.specs.Prelude.{◌≡◌, ◌*◌, ◌≤◌, length, false, IfOk};
-ghost use Rattle.status_board.specs.Views.{links_of};
-ghost use Rattle.storm.specs.Cells.{cells_of, cells_read};
-ghost use Rattle.afdx_tx.specs.Ports.{AreFreshPorts, AreOpenedWith};
-ghost use Rattle.storm.specs.Shown.{IsShown};
+ghost use Rattle.std.specs.Prelude.{◌≡◌, ◌≤◌, IfOk};
+ghost use Rattle.storm.specs.Threads.{IsReady, IsJoined};
 ghost use Rattle.storm.specs.Watching.{ReadsEach};
-ghost use Rattle.storm.specs.Workers.{AreSpent};
 
 use crate::fault::Stop;
 use crate::gate::Gate;
 use crate::load::Load;
-use crate::polling::{STEP, poll_while};
+use crate::polling::poll_while;
 use crate::start::{join_workers, start_workers};
 use crate::watcher::start_watcher;
 use afdx_tx::{Emitter, TxPort};
@@ -56,24 +52,13 @@ where
     B: Network + Drop,
     G: Gate + Sync,
     R: Threads + Wait + Sync,
-    requires first { opened.tx.moment ≡ 0 }
-    requires fresh { AreFreshPorts opened.tx opened.ports.items }
-    requires opened { AreOpenedWith opened.tx opened.ports.items }
-    requires links { links_of opened.monitor ≡ length opened.tx.plan.links }
-    requires shown { IsShown opened.tx }
-    requires cells { cells_of opened.tx.board ≡ cells_read opened.monitor }
+    requires ready { IsReady opened.tx opened.ports.items opened.monitor }
     requires turns { load.turns ≤ 1000000000 }
     ensures plan { IfOk result (λ joined. joined.tx.plan ≡ opened.tx.plan) }
-    ensures ports { IfOk result (λ joined.
-        AreSpent joined.tx load.messages load.turns joined.ports.items) }
-    ensures polls { IfOk result (λ joined. joined.polls ≤ load.turns) }
-    ensures moment { IfOk result (λ joined. joined.tx.moment ≤ joined.polls * STEP) }
-    ensures shown { IfOk result (λ joined. IsShown joined.tx) }
-    ensures cells { IfOk result (λ joined.
-        cells_of joined.tx.board ≡ cells_read joined.monitor) }
+    ensures joined { IfOk result (λ joined. IsJoined load.messages load.turns
+        joined.tx joined.ports.items joined.monitor joined.polls joined.back) }
     ensures watched { IfOk result (λ joined.
         ReadsEach opened.monitor joined.monitor load.messages) }
-    ensures back { IfOk result (λ joined. joined.back ≡ false) }
 {
     let Opened {
         mut tx,
@@ -111,24 +96,13 @@ where
     B: Network + Drop,
     G: Gate + Sync,
     R: Threads + Wait + Sync,
-    requires first { opened.tx.moment ≡ 0 }
-    requires fresh { AreFreshPorts opened.tx opened.ports.items }
-    requires opened { AreOpenedWith opened.tx opened.ports.items }
-    requires links { links_of opened.monitor ≡ length opened.tx.plan.links }
-    requires shown { IsShown opened.tx }
-    requires cells { cells_of opened.tx.board ≡ cells_read opened.monitor }
+    requires ready { IsReady opened.tx opened.ports.items opened.monitor }
     requires turns { load.turns ≤ 1000000000 }
     ensures plan { IfOk result (λ joined. joined.tx.plan ≡ opened.tx.plan) }
-    ensures ports { IfOk result (λ joined.
-        AreSpent joined.tx load.messages load.turns joined.ports.items) }
-    ensures polls { IfOk result (λ joined. joined.polls ≤ load.turns) }
-    ensures moment { IfOk result (λ joined. joined.tx.moment ≤ joined.polls * STEP) }
-    ensures shown { IfOk result (λ joined. IsShown joined.tx) }
-    ensures cells { IfOk result (λ joined.
-        cells_of joined.tx.board ≡ cells_read joined.monitor) }
+    ensures joined { IfOk result (λ joined. IsJoined load.messages load.turns
+        joined.tx joined.ports.items joined.monitor joined.polls joined.back) }
     ensures watched { IfOk result (λ joined.
         ReadsEach opened.monitor joined.monitor load.messages) }
-    ensures back { IfOk result (λ joined. joined.back ≡ false) }
 {
     let counter = AtomicU64::new(0);
     let running = &counter;
@@ -136,24 +110,13 @@ where
         thread::scope_env(),
         rt,
         move |scope| -> Result<Joined<A, B>, Stop>
-            requires first { opened.tx.moment ≡ 0 }
-            requires fresh { AreFreshPorts opened.tx opened.ports.items }
-            requires opened { AreOpenedWith opened.tx opened.ports.items }
-            requires links { links_of opened.monitor ≡ length opened.tx.plan.links }
-            requires shown { IsShown opened.tx }
-            requires cells { cells_of opened.tx.board ≡ cells_read opened.monitor }
+            requires ready { IsReady opened.tx opened.ports.items opened.monitor }
             requires turns { load.turns ≤ 1000000000 }
             ensures plan { IfOk result (λ joined. joined.tx.plan ≡ opened.tx.plan) }
-            ensures ports { IfOk result (λ joined.
-                AreSpent joined.tx load.messages load.turns joined.ports.items) }
-            ensures polls { IfOk result (λ joined. joined.polls ≤ load.turns) }
-            ensures moment { IfOk result (λ joined. joined.tx.moment ≤ joined.polls * STEP) }
-            ensures shown { IfOk result (λ joined. IsShown joined.tx) }
-            ensures cells { IfOk result (λ joined.
-                cells_of joined.tx.board ≡ cells_read joined.monitor) }
+            ensures joined { IfOk result (λ joined. IsJoined load.messages load.turns
+                joined.tx joined.ports.items joined.monitor joined.polls joined.back) }
             ensures watched { IfOk result (λ joined.
                 ReadsEach opened.monitor joined.monitor load.messages) }
-            ensures back { IfOk result (λ joined. joined.back ≡ false) }
         { run_in_scope(scope, rt, alloc, opened, load, gate, running) },
     )
 }

@@ -1,5 +1,5 @@
 -- Messages as bytes alone.
-use Rattle.std.proofs.Common.{◌≡◌, ◌≢◌, ℕ, zero, suc, ◌+◌, ◌-◌, ◌==◌, ◌≤◌, if◌then◌else◌, Bool, true, false, List, [], ◌∷◌, ◌++◌, length, drop, eqb, cond, sym, refl, ap, ◌∙◌, subst, arith, eq-eqb, ne_eqb, lt_of_not-le}
+use Rattle.std.proofs.Common.{◌≡◌, ℕ, zero, suc, ◌+◌, ◌-◌, ◌==◌, ◌≤◌, if◌then◌else◌, Bool, true, false, List, [], ◌∷◌, ◌++◌, length, drop, eqb, cond, sym, refl, ap, ◌∙◌, subst, arith, eq-eqb, ne_eqb, lt_of_not-le}
 use native.Mathlib.Decide.{ℕ_discrete}
 use Rattle.std.proofs.lemmas.List.Elements.{All-cons, All-nil}
 use Rattle.subvl_queue.specs.declared.item.Message.{Message}
@@ -7,15 +7,8 @@ use Rattle.subvl_queue.specs.Messages.{IsItem, AreItems, part_of}
 use Rattle.subvl_queue.specs.Queue.{owned}
 use Rattle.subvl_queue.specs.Bytes.{items_of, own_of, places_of}
 use Rattle.subvl_queue.specs.Views.{TellsLeft}
+use Rattle.subvl_queue.proofs.Owned.{rest_none}
 use Rattle.subvl_queue.proofs.Places.{places_from}
-
-pub length_of : (l : List (ℕ × Message)) → length (items_of l) ≡ length l
-length_of [] = refl
-length_of (x ∷ l) = ap suc (length_of l)
-
-pub sent_length : (l : List (ℕ × Message)) → length (own_of l) ≡ length l
-sent_length [] = refl
-sent_length (x ∷ l) = ap suc (sent_length l)
 
 -- a port's part of the messages
 pub part_is : (k n : ℕ) (l : List (ℕ × Message)) → own_of (owned k n l) ≡ part_of k (items_of l)
@@ -33,13 +26,6 @@ places_are k n (x ∷ l) = let r : places_of (owned k (suc n) l) ≡ places_from
     elim (eqb x.0 k) as (λ b. places_of (cond b ((n, x.1) ∷ owned k (suc n) l) (owned k (suc n) l)) ≡
     (if b then n ∷ places_from (n + 1) k (items_of l) else places_from (n + 1) k (items_of l)))
     [ true ↦ ap (λ (z : List ℕ). n ∷ z) r | false ↦ r ]
-
-rest_none : (k n : ℕ) (x : ℕ × Message) (l : List (ℕ × Message)) → owned k n (x ∷ l) ≡ [] → (x.0 ≢ k) × (owned k (suc n) l ≡ [])
-rest_none k n x l e = elim (ℕ_discrete x.0 k) [
-  | yes is ↦ absurd (let first : (n, x.1) ∷ owned k (suc n) l ≡ [] = sym
-      (ap (λ (b : Bool). cond b ((n, x.1) ∷ owned k (suc n) l) (owned k (suc n) l)) (eq-eqb x.0 k is)) ∙ e in cc)
-  | no not ↦ (not, sym (ap (λ (b : Bool). cond b ((n, x.1) ∷ owned k (suc n) l) (owned k (suc n) l)) (ne_eqb x.0 k not)) ∙ e)
-]
 
 -- where no other port has a message, all are messages of these ports
 pub are_items : (ports n : ℕ) (l : List (ℕ × Message)) → ((k : ℕ) → ports ≤ k → owned k n l ≡ []) → AreItems ports (items_of l)
@@ -69,8 +55,3 @@ tells (suc n) (suc total) (x ∷ l) le is = subst (λ (b : Bool). TellsLeft b (i
 pub items_append : (l k : List (ℕ × Message)) → items_of l ++ items_of k ≡ items_of (l ++ k)
 items_append [] k = refl
 items_append (x ∷ l) k = ap (λ (z : List (ℕ × List ℕ)). (x.0, x.1.bytes.items) ∷ z) (items_append l k)
-
-pub rest_length : (n : ℕ) (l : List (ℕ × Message)) → length (items_of (drop n l)) ≡ length l - n
-rest_length zero l = length_of l ∙ (let e : length l ≡ length l - 0 = omega arith in e)
-rest_length (suc n) [] = omega arith
-rest_length (suc n) (x ∷ l) = rest_length n l ∙ (let e : length l - n ≡ suc (length l) - suc n = omega arith in e)

@@ -1,5 +1,5 @@
 -- What stays of the rule when one cell and one seat move.
-use Rattle.std.proofs.Common.{◌≡◌, ◌≢◌, ℕ, zero, suc, ◌+◌, ◌*◌, ◌^◌, ◌%◌, ◌<◌, ◌≤◌, Bool, List, [], ◌∷◌, length, get_or, set, sym, refl, ap, ◌∙◌, subst, ⊎_elim, arith, mod-lt, length-set, get_or-set_other}
+use Rattle.std.proofs.Common.{◌≡◌, ◌≢◌, ℕ, zero, suc, ◌+◌, ◌*◌, ◌^◌, ◌%◌, ◌<◌, ◌≤◌, ◌⊎◌, inl, inr, Bool, List, [], ◌∷◌, length, get_or, set, sym, refl, ap, ◌∙◌, subst, ⊎_elim, arith, mod-lt, length-set, get_or-set_other}
 use mathlib.Core.Path.{Path}
 use mathlib.Core.Option.{some}
 use mathlib.Core.Option as maybe
@@ -11,8 +11,9 @@ use Rattle.atomic_table.specs.Table.{State}
 use Rattle.atomic_table.proofs.Lists.{at_set, set_else, set_here}
 use Rattle.subvl_queue.specs.declared.view.View.{View}
 use Rattle.subvl_queue.specs.declared.view.Role.{Role}
+use Rattle.subvl_queue.specs.declared.view.Role.TheVariants.{Spent}
 use Rattle.subvl_queue.specs.declared.view.Stage.{Stage}
-use Rattle.subvl_queue.specs.declared.view.Stage.TheVariants.{Idle, Asked, Refused, Drew, Late, Holding}
+use Rattle.subvl_queue.specs.declared.view.Stage.TheVariants.{Drew, Holding}
 use Rattle.subvl_queue.specs.Queue.{owned, total, in_hand, in_room, waiting, asks_of, budget, shut_bit, Gone, Totals, Joined, Whole, Collects, Busy, Phase, free, writing, full, reading, Cell, holder, InPhase, CellOk, Has, Knows, Fits, Queue}
 
 abbrev pick : {P : Type 0} → Dec P → Cell → Cell → Cell
@@ -32,6 +33,21 @@ at_put cells i c F j here other = go (ℕ_discrete j i)
 
 pub put_here : (cells : ℕ → Cell) (i : ℕ) (c : Cell) → Path Cell (put cells i c i) c
 put_here cells i c = at_put cells i c (λ q x. q ≡ i → Path Cell x c) i (λ _. refl) (λ n. absurd (n refl)) refl
+
+-- what holds of the changed member and of the others, holds of each
+pub each_after : {A : Type 0} (l : List A) (i : ℕ) (a : A) (F : ℕ → A → Type 0) → F i a
+    → ((j : ℕ) (b : A) → j ≢ i → get_elem? l j ≡ some b → F j b) → (j : ℕ) (b : A) → get_elem? (set l i a) j ≡ some b → F j b
+each_after {A} l i a F here other j b e = ⊎_elim (λ (t : (j ≡ i) × (a ≡ b)). subst (λ (y : ℕ × A). F y.0 y.1) (λ k. (sym t.0 k, t.1 k)) here)
+    (λ (t : (j ≢ i) × (get_elem? l j ≡ some b)). other j b t.0 t.1) (at_set l i j a b e)
+
+-- the number moves on by one at most, and then it was in this turn of the ring
+abbrev pub Next : (n i a a' : ℕ) → Type 0
+Next n i a a' = (a' ≡ a) ⊎ ((a' ≡ suc a) × (a % n ≡ i))
+
+next : (n i a a' q : ℕ) → Next n i a a' → q % n ≢ i → (a ≤ a') × (a ≤ q → a' ≤ q) × (q ≡ a → q ≡ a')
+next n i a a' q (inl same) other = (omega arith, (λ le. omega arith), λ is. is ∙ sym same)
+next n i a a' q (inr t) other = let e = t.0 in let ne : q ≢ a = λ is. other (ap (λ (z : ℕ). z % n) is ∙ t.1) in
+    (omega arith, (λ le. omega arith), λ is. absurd (ne is))
 
 abbrev pub St : Type 0 → Type 0
 St T = State (Option (ℕ × T)) (View T)
@@ -56,17 +72,19 @@ module _ {T : Type 0} where
   phase_stays t t' log log' homes homes' j p a c d f more same full k = let l = k.1 in (d k.0, omega arith, (k.2.0, more p k.2.0 k.2.1, same ∙ k.2.2))
   phase_stays t t' log log' homes homes' j p a c d f more same (reading o) k = let l = k.1 in (f k.0, omega arith, k.2)
 
-  cell_stays : (n t t' : ℕ) (log log' : List (ℕ × T)) (words words' : List ℕ) (homes homes' : Homes T) (j : ℕ) (c : Cell) → length log ≤ length log' → t ≤ t'
-      → ((q : ℕ) → q % n ≡ j → length log ≤ q → length log' ≤ q) → ((q : ℕ) → q % n ≡ j → t ≤ q → t' ≤ q) → ((q : ℕ) → q % n ≡ j → q ≡ t → q ≡ t')
-      → Longer log log' → get_or words' (j + 2) 0 ≡ get_or words (j + 2) 0 → get_elem? homes' j ≡ get_elem? homes j → CellOk n t log words homes j c
-      → CellOk n t' log' words' homes' j c
-  cell_stays n t t' log log' words words' homes homes' j c a b hq tq rq more word home k = let p : ℕ = c.0 in let l : p < t + n = k.early in
+  cell_stays : (n i t t' : ℕ) (log log' : List (ℕ × T)) (words words' : List ℕ) (homes homes' : Homes T) (j : ℕ) (c : Cell) → j ≢ i
+      → Next n i t t' → Next n i (length log) (length log') → Longer log log' → get_or words' (j + 2) 0 ≡ get_or words (j + 2) 0
+      → get_elem? homes' j ≡ get_elem? homes j → CellOk n t log words homes j c → CellOk n t' log' words' homes' j c
+  cell_stays n i t t' log log' words words' homes homes' j c other freed long more word home k =
+      let apart : (q : ℕ) → q % n ≡ j → q % n ≢ i = λ q lies is. other (sym lies ∙ is) in
+      let moves = next n i t t' c.0 freed (apart c.0 k.lies) in
+      let adds = next n i _ _ c.0 long (apart c.0 k.lies) in
       record {
         shows = word ∙ k.shows;
         lies = k.lies;
-        early = omega arith;
-        late = hq (p + n) (add-mod_right p n ∙ k.lies) k.late;
-        phase = phase_stays t t' log log' homes homes' j p a (hq p k.lies) (tq p k.lies) (rq p k.lies) more home c.1 k.phase;
+        early = (let early = k.early in omega arith);
+        late = (next n i _ _ (c.0 + n) long (apart (c.0 + n) (add-mod_right c.0 n ∙ k.lies))).1 k.late;
+        phase = phase_stays t t' log log' homes homes' j c.0 adds.0 adds.1 moves.1 moves.2 more home c.1 k.phase;
       }
 
   has_stays : (log log' : List (ℕ × T)) (c c' : Cell) (ph : Phase) (at : ℕ) (item : Option (ℕ × T)) → Longer log log' → Path Cell c' c
@@ -77,13 +95,10 @@ module _ {T : Type 0} where
   knows_stays : (t t' : ℕ) (log log' : List (ℕ × T)) (j : ℕ) (c c' : Cell) (at : ℕ) (item : Option (ℕ × T)) → Longer log log'
       → (holder c.1 ≡ suc j → Path Cell c' c) → (Path Cell c (at, reading j) → t' ≡ t)
       → (st : Stage) → Knows t log j c at item st → Knows t' log' j c' at item st
-  knows_stays t t' log log' j c c' at item more same keep Idle k = tt
-  knows_stays t t' log log' j c c' at item more same keep Asked k = tt
-  knows_stays t t' log log' j c c' at item more same keep Refused k = tt
   knows_stays t t' log log' j c c' at item more same keep Drew k = has_stays log log' c c' (writing j) at item more (same (ap (λ (z : Cell). holder z.1) k.0)) k
-  knows_stays t t' log log' j c c' at item more same keep Late k = tt
   knows_stays t t' log log' j c c' at item more same keep Holding k =
       (has_stays log log' c c' (reading j) at item more (same (ap (λ (z : Cell). holder z.1) k.0.0)) k.0, k.1 ∙ sym (keep k.0.0))
+  knows_stays t t' log log' j c c' at item more same keep st k = tt
 
   module _ (s : St T) (r : Queue s) where
     abbrev n : ℕ
@@ -97,10 +112,8 @@ module _ {T : Type 0} where
 
     -- a seat that isn't busy holds no cell
     pub holds_none : (id : ℕ) (v : View T) → get_elem? s.views id ≡ some v → (Busy v.stage → ⊥) → (i : ℕ) → i < n → holder (r.cells i).1 ≢ suc id
-    holds_none id v at calm i near e = let b = r.busy i id near e in calm (subst (λ (z : View T). Busy z.stage) (same_view id b.0 v b.1 at) b.2)
-      where
-        same_view : (j : ℕ) (a b : View T) → get_elem? s.views j ≡ some a → get_elem? s.views j ≡ some b → a ≡ b
-        same_view j a b x y = maybe.some-injective a b (sym x ∙ y)
+    holds_none id v at calm i near e = let b = r.busy i id near e in
+        calm (subst (λ (z : View T). Busy z.stage) (maybe.some-injective b.0 v (sym b.1 ∙ at)) b.2)
 
     -- the seat holds no cell but that of its place
     pub holds_one : (id : ℕ) (v : View T) → get_elem? s.views id ≡ some v → (i : ℕ) → i < n → i ≢ v.at % n → holder (r.cells i).1 ≢ suc id
@@ -108,9 +121,9 @@ module _ {T : Type 0} where
         other (sym (r.each_cell i near).lies ∙ ap (λ (z : ℕ). z % n) (sym b.3 ∙ ap (λ (z : View T). z.at) is))
 
     pub gone_stays : (id j : ℕ) (v w : View T) → get_elem? s.views id ≡ some v → w.role ≡ v.role → Gone s.views j → Gone (set s.views id w) j
-    gone_stays id j v w at same gone d e = ⊎_elim (λ (t : (j ≡ id) × (w ≡ d)). ap (λ (z : View T). z.role) (sym t.1) ∙ same
-        ∙ gone v (ap (get_elem? s.views) t.0 ∙ at))
-        (λ (t : (j ≢ id) × (get_elem? s.views j ≡ some d)). gone d t.1) (at_set s.views id j w d e)
+    gone_stays id j v w at same gone d e = each_after s.views id w (λ q y. q ≡ j → y.role ≡ Spent)
+        (λ is. same ∙ gone v (ap (get_elem? s.views) (sym is) ∙ at))
+        (λ q y _ e' is. gone y (ap (get_elem? s.views) (sym is) ∙ e')) j d e refl
 
     whole_stays : (id : ℕ) (v w : View T) (log' : List (ℕ × T)) → get_elem? s.views id ≡ some v → w.role ≡ v.role → (o : Option (List (ℕ × T)))
         → Whole log' s.views o → Whole log' (set s.views id w) o
@@ -130,88 +143,68 @@ module _ {T : Type 0} where
         → w.total ≡ v.total → w.joined ≡ v.joined → w.all ≡ v.all
         → ((u : View T) → get_elem? s.views 0 ≡ some u → Collects r.closed r.log s.views u → Collects closed' log' s.views u) → (u : View T)
         → get_elem? (set s.views id w) 0 ≡ some u → Collects closed' log' (set s.views id w) u
-    gathers_stay closed' log' id v w at same t0 j0 a0 goes u e = ⊎_elim
-        (λ (t : (0 ≡ id) × (w ≡ u)). let at0 = ap (get_elem? s.views) t.0 ∙ at in
+    gathers_stay closed' log' id v w at same t0 j0 a0 goes u e = each_after s.views id w (λ q y. q ≡ 0 → Collects closed' log' (set s.views id w) y)
+        (λ is. let at0 = ap (get_elem? s.views) (sym is) ∙ at in
         let g = roles_stay closed' log' id v w v at same (goes v at0 (r.gathered v at0)) in
-        subst (Collects closed' log' (set s.views id w)) t.1 (subst
-        (λ (z : Option ℕ × List (ℕ × List (ℕ × T)) × Option (List (ℕ × T))). Totals closed' (length log') z.0 × Joined log' (set s.views id w) z.1
-        × Whole log' (set s.views id w) z.2) (λ k. (sym t0 k, sym j0 k, sym a0 k)) g))
-        (λ (t : (0 ≢ id) × (get_elem? s.views 0 ≡ some u)). roles_stay closed' log' id v w u at same (goes u t.1 (r.gathered u t.1)))
-        (at_set s.views id 0 w u e)
+        subst (λ (z : Option ℕ × List (ℕ × List (ℕ × T)) × Option (List (ℕ × T))). Totals closed' (length log') z.0 × Joined log' (set s.views id w) z.1
+        × Whole log' (set s.views id w) z.2) (λ k. (sym t0 k, sym j0 k, sym a0 k)) g)
+        (λ q y _ e' is. let at0 = ap (get_elem? s.views) (sym is) ∙ e' in roles_stay closed' log' id v w y at same (goes y at0 (r.gathered y at0))) 0 u e refl
 
-    pub moved : (k x i id freed' : ℕ) (log' : List (ℕ × T)) (c' : Cell) (homes' : Homes T) (v w : View T) → get_elem? s.views id ≡ some v → i < n
-        → length homes' ≡ n
+    pub moved : (k x i id freed' : ℕ) (log' : List (ℕ × T)) (c' : Cell) (home : maybe.Option (Option (ℕ × T))) (v w : View T)
+        → get_elem? s.views id ≡ some v → i < n
         → get_or (set s.words k x) 0 0 + length log' + total in_hand (set s.views id w) ≡ 2 ^ 32 + n + freed'
         → get_or (set s.words k x) 1 0 ≡ length log' + r.late + shut_bit r.closed
         → length log' + total in_room (set s.views id w) ≤ freed' + n
         → length log' + r.late + total waiting (set s.views id w) ≤ total asks_of (set s.views id w) → total budget (set s.views id w) ≤ 64 * 2 ^ 40
         → ((u : View T) → get_elem? (set s.views id w) 0 ≡ some u → Collects r.closed log' (set s.views id w) u)
         → ((q : ℕ) → length s.views ≤ suc q → owned q 0 log' ≡ [])
-        → freed' ≤ length log' → length r.log ≤ length log' → r.freed ≤ freed' → (id ≢ 0 → freed' ≡ r.freed)
-        → ((q : ℕ) → q % n ≢ i → length r.log ≤ q → length log' ≤ q) → ((q : ℕ) → q % n ≢ i → r.freed ≤ q → freed' ≤ q)
-        → ((q : ℕ) → q % n ≢ i → q ≡ r.freed → q ≡ freed') → Longer r.log log'
-        → ((j : ℕ) → j ≢ i → j + 2 ≢ k) → ((j : ℕ) → j ≢ i → get_elem? homes' j ≡ get_elem? s.homes j) → CellOk n freed' log' (set s.words k x) homes' i c'
+        → freed' ≤ length log' → Next n i r.freed freed' → Next n i (length r.log) (length log') → (id ≢ 0 → freed' ≡ r.freed) → Longer r.log log'
+        → ((j : ℕ) → j ≢ i → j + 2 ≢ k) → CellOk n freed' log' (set s.words k x) (set s.homes i home) i c'
         → ((j : ℕ) → j ≢ id → holder (r.cells i).1 ≢ suc j) → ((j : ℕ) → holder c'.1 ≡ suc j → (j ≡ id) × Busy w.stage × (w.at ≡ c'.0))
         → ((q : ℕ) → q < n → q ≢ i → holder (r.cells q).1 ≢ suc id)
         → Fits (length s.views) freed' log' id w w.role → Knows freed' log' id (put r.cells i c' (w.at % n)) w.at w.item w.stage
         → ((j : ℕ) (d : View T) → j ≢ id → get_elem? s.views j ≡ some d → Fits (length s.views) freed' log' j d d.role)
-        → Queue record { words = set s.words k x; homes = homes'; views = set s.views id w }
-    moved k x i id freed' log' c' homes' v w at near as_long room tail within counted budgeted gathered unmade behind a b keep hq tq rq more apart
-        home here loose mine single fit knew others =
+        → Queue record { words = set s.words k x; homes = set s.homes i home; views = set s.views id w }
+    moved k x i id freed' log' c' home v w at near room tail within counted budgeted gathered unmade behind moves adds keep more apart here loose mine
+        single fit knew others =
         let words' : List ℕ = set s.words k x in let cells' : ℕ → Cell = put r.cells i c' in let views' : List (View T) = set s.views id w in
-        let seats : length views' ≡ length s.views = length-set s.views id w in
-        let cells_ok : (j : ℕ) → j < n → CellOk n freed' log' words' homes' j (cells' j) = λ j l. at_put r.cells i c'
-        (CellOk n freed' log' words' homes') j here (λ other.
-        cell_stays n r.freed freed' r.log log' s.words words' s.homes homes' j (r.cells j) a b (λ q e. hq q (λ is. other (sym e ∙ is)))
-        (λ q e. tq q (λ is. other (sym e ∙ is))) (λ q e. rq q (λ is. other (sym e ∙ is))) more
-        (get_or-set_other s.words k (j + 2) x 0 (apart j other)) (home j other) (r.each_cell j l)) in
-        let knew_all : (j : ℕ) (d : View T) → get_elem? views' j ≡ some d → Knows freed' log' j (cells' (d.at % n)) d.at d.item d.stage = λ j d e.
-        ⊎_elim (λ (t : (j ≡ id) × (w ≡ d)). subst (λ (y : ℕ × View T). Knows freed' log' y.0 (cells' (y.1.at % n)) y.1.at y.1.item y.1.stage)
-        (λ q. (sym t.0 q, t.1 q)) knew)
-        (λ (t : (j ≢ id) × (get_elem? s.views j ≡ some d)). let ci = r.cells (d.at % n) in
-        knows_stays r.freed freed' r.log log' j ci (cells' (d.at % n)) d.at d.item more
-        (λ held. at_put r.cells i c' (λ q y. q ≡ d.at % n → Path Cell y (r.cells (d.at % n))) (d.at % n)
-        (λ is. absurd (loose j t.0 (ap (λ (q : ℕ). holder (r.cells q).1) is ∙ held))) (λ _ _. refl) refl)
-        (λ is. let ok = r.each_cell (d.at % n) (mod-lt d.at r.some_slot) in
-        let zero_seat : j ≡ 0 = (subst (λ (z : Cell). InPhase r.freed r.log s.homes (d.at % n) z.0 z.1) is ok.phase).2 in
-        keep (λ e. t.0 (zero_seat ∙ sym e)))
-        d.stage (r.each_hand j d t.1)) (at_set s.views id j w d e) in
-        let busy' : (q j : ℕ) → q < n → holder (cells' q).1 ≡ suc j
-        → (u : View T) × (get_elem? views' j ≡ some u) × Busy u.stage × (u.at ≡ (cells' q).0) = λ q j l.
-        at_put r.cells i c' (λ z y. z ≡ q → holder y.1 ≡ suc j → (u : View T) × (get_elem? views' j ≡ some u) × Busy u.stage × (u.at ≡ y.0)) q
-        (λ _ held. let m = mine j held in (
-          w,
-          subst (λ (z : ℕ). get_elem? views' z ≡ some w) (sym m.0)
-              (set_here s.views id w (placed s.views id v at)),
-          m.1,
-          m.2,
-        ))
-        (λ other _ held. let u = r.busy q j l held in (u.0, set_else s.views id j w (λ e. single q l other (held ∙ ap suc e)) ∙ u.1, u.2, u.3)) refl in
+        let homes' : Homes T = set s.homes i home in
+        let seats : length views' ≡ length s.views = length-set s.views id w in let as_long : length homes' ≡ n = length-set s.homes i home in
         record {
           log = log';
           freed = freed';
           late = r.late;
           closed = r.closed;
           cells = cells';
-          some_slot = subst (λ (m : ℕ). 0 < m) (sym as_long) r.some_slot;
-          few_slots = subst (λ (m : ℕ). m ≤ 256) (sym as_long) r.few_slots;
+          some_slot = omega arith;
+          few_slots = omega arith;
           wide = length-set s.words k x ∙ (r.wide ∙ ap (λ (m : ℕ). m + 2) (sym as_long));
-          few_seats = subst (λ (m : ℕ). m ≤ 65) (sym seats) r.few_seats;
+          few_seats = omega arith;
           behind = behind;
-          within = subst (λ (m : ℕ). length log' + total in_room views' ≤ freed' + m) (sym as_long) within;
-          room_is = subst (λ (m : ℕ). get_or words' 0 0 + length log' + total in_hand views' ≡ 2 ^ 32 + m + freed') (sym as_long) room;
+          within = omega arith;
+          room_is = room ∙ ap (λ (m : ℕ). 2 ^ 32 + m + freed') (sym as_long);
           tail_is = tail;
           none_late = r.none_late;
           counted = counted;
           budgeted = budgeted;
           gathered = gathered;
-          unmade = λ q le. unmade q (subst (λ (m : ℕ). m ≤ suc q) seats le);
-          each_cell = subst (λ (m : ℕ). (j : ℕ) → j < m → CellOk m freed' log' words' homes' j (cells' j)) (sym as_long) cells_ok;
-          each_seat = subst (λ (m : ℕ). (j : ℕ) (d : View T) → get_elem? views' j ≡ some d → Fits m freed' log' j d d.role) (sym seats) (λ j d e.
-              ⊎_elim (λ (t : (j ≡ id) × (w ≡ d)). subst (λ (y : ℕ × View T). Fits (length s.views) freed' log' y.0 y.1 y.1.role) (λ q. (sym t.0 q, t.1 q)) fit)
-              (λ (t : (j ≢ id) × (get_elem? s.views j ≡ some d)). others j d t.0 t.1) (at_set s.views id j w d e));
-          each_hand = subst (λ (m : ℕ). (j : ℕ) (d : View T) → get_elem? views' j ≡ some d
-              → Knows freed' log' j (cells' (d.at % m)) d.at d.item d.stage) (sym as_long) knew_all;
-          busy = subst (λ (m : ℕ). (q j : ℕ) → q < m → holder (cells' q).1 ≡ suc j
-              → (u : View T) × (get_elem? views' j ≡ some u) × Busy u.stage × (u.at ≡ (cells' q).0)) (sym as_long) busy';
+          unmade = λ q le. unmade q (omega arith);
+          each_cell = rw as_long (λ j l. at_put r.cells i c' (CellOk n freed' log' words' homes') j here (λ other.
+              cell_stays n i r.freed freed' r.log log' s.words words' s.homes homes' j (r.cells j) other moves adds more
+              (get_or-set_other s.words k (j + 2) x 0 (apart j other)) (set_else s.homes i j home other) (r.each_cell j l)));
+          each_seat = rw seats (each_after s.views id w (λ j d. Fits (length s.views) freed' log' j d d.role) fit others);
+          each_hand = rw as_long (each_after s.views id w (λ j d. Knows freed' log' j (cells' (d.at % n)) d.at d.item d.stage) knew (λ j d not e.
+              knows_stays r.freed freed' r.log log' j (r.cells (d.at % n)) (cells' (d.at % n)) d.at d.item more
+              (λ held. at_put r.cells i c' (λ q y. q ≡ d.at % n → Path Cell y (r.cells (d.at % n))) (d.at % n)
+              (λ is. absurd (loose j not (ap (λ (q : ℕ). holder (r.cells q).1) is ∙ held))) (λ _ _. refl) refl)
+              (λ is. let ok = r.each_cell (d.at % n) (mod-lt d.at r.some_slot) in
+              let zero_seat : j ≡ 0 = (subst (λ (z : Cell). InPhase r.freed r.log s.homes (d.at % n) z.0 z.1) is ok.phase).2 in
+              keep (λ e'. not (zero_seat ∙ sym e')))
+              d.stage (r.each_hand j d e)));
+          busy = rw as_long (λ q j l. at_put r.cells i c'
+              (λ z y. z ≡ q → holder y.1 ≡ suc j → (u : View T) × (get_elem? views' j ≡ some u) × Busy u.stage × (u.at ≡ y.0)) q
+              (λ _ held. let m = mine j held in
+              (w, ap (get_elem? views') m.0 ∙ set_here s.views id w (placed s.views id v at), m.1, m.2))
+              (λ other _ held. let u = r.busy q j l held in (u.0, set_else s.views id j w (λ e. single q l other (held ∙ ap suc e)) ∙ u.1, u.2, u.3))
+              refl);
         }

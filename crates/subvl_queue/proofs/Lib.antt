@@ -5,6 +5,5 @@ pub mod Moves
 pub mod Seats
 pub mod Bytes
 pub mod Senders
-pub mod Options
 pub mod Parts
 pub mod Places

@@ -1,6 +1,7 @@
 -- The messages of one port, in a list that grows at its end.
 use Rattle.std.proofs.Common.{◌≡◌, ◌≢◌, ℕ, zero, suc, ◌+◌, List, [], ◌∷◌, ◌++◌, length, take, Bool, true, false, eqb, cond, sym, ap, ◌∙◌, arith, eq-eqb, ne_eqb}
 use mathlib.Core.Option.{some, some-injective, some-ne-none}
+use native.Mathlib.Decide.{ℕ_discrete}
 use lib.ListN.{get_elem?}
 use Rattle.subvl_queue.specs.Queue.{owned}
 
@@ -20,20 +21,19 @@ module _ {T : Type 0} where
       ((n, y.1) ∷ owned k (suc n) l) (owned k (suc n) l))
       [ true ↦ ap (λ (zs : List (ℕ × T)). (n, y.1) ∷ zs) r | false ↦ r ]
 
+  -- where the port has no message, the first is not its, nor is one of the rest
+  pub rest_none : (k n : ℕ) (x : ℕ × T) (l : List (ℕ × T)) → owned k n (x ∷ l) ≡ [] → (x.0 ≢ k) × (owned k (suc n) l ≡ [])
+  rest_none k n x l e = elim (ℕ_discrete x.0 k) [
+    | yes is ↦ absurd (let first : (n, x.1) ∷ owned k (suc n) l ≡ [] = sym
+        (ap (λ (b : Bool). cond b ((n, x.1) ∷ owned k (suc n) l) (owned k (suc n) l)) (eq-eqb x.0 k is)) ∙ e in cc)
+    | no not ↦ (not, sym (ap (λ (b : Bool). cond b ((n, x.1) ∷ owned k (suc n) l) (owned k (suc n) l)) (ne_eqb x.0 k not)) ∙ e)
+  ]
+
   -- a message in the list is one of its port
   pub owned_at : (k n : ℕ) (l : List (ℕ × T)) (i : ℕ) (x : ℕ × T) → get_elem? l i ≡ some x → x.0 ≡ k → owned k n l ≡ [] → ⊥
   owned_at k n [] i x at is none' = some-ne-none x (sym at)
-  owned_at k n (y ∷ l) zero x at is none' =
-      let here : y.0 ≡ k = ap (λ (z : ℕ × T). z.0) (some-injective y x at) ∙ is in
-      let first : owned k n (y ∷ l) ≡ (n, y.1) ∷ owned k (suc n) l = ap (λ (b : Bool). cond b ((n, y.1) ∷ owned k (suc n) l) (owned k (suc n) l))
-      (eq-eqb y.0 k here) in
-      let e : (n, y.1) ∷ owned k (suc n) l ≡ [] = sym first ∙ none' in
-      cc
-  owned_at k n (y ∷ l) (suc i) x at is none' = owned_at k (suc n) l i x at is (later (eqb y.0 k) none')
-    where
-      later : (b : Bool) → cond b ((n, y.1) ∷ owned k (suc n) l) (owned k (suc n) l) ≡ [] → owned k (suc n) l ≡ []
-      later true e = absurd (cc)
-      later false e = e
+  owned_at k n (y ∷ l) zero x at is none' = (rest_none k n y l none').0 (ap (λ (z : ℕ × T). z.0) (some-injective y x at) ∙ is)
+  owned_at k n (y ∷ l) (suc i) x at is none' = owned_at k (suc n) l i x at is (rest_none k n y l none').1
 
 pub take_next : {A : Type 0} (l : List A) (i : ℕ) (a : A) → get_elem? l i ≡ some a → take i l ++ a ∷ [] ≡ take (suc i) l
 take_next [] i a e = absurd (some-ne-none a (sym e))

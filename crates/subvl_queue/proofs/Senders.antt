@@ -23,21 +23,17 @@ pub none_there : (senders : List SenderView) (n p : ℕ) → length senders ≤ 
 none_there [] n p le away h = omega (arith, h.1)
 none_there (s ∷ ss) n p le away h = let lt = h.1 in away h.0 s (omega arith) (h.2 s)
 
+-- where what was brought stands among the joined lists
 found : (joined : List (ℕ × List (ℕ × Message))) (b : Brought) (k : ℕ) → k < length (map brought_of joined) → get_or (map brought_of joined) k b ≡ b
     → (i : ℕ) × (p : ℕ) × (l : List (ℕ × Message)) × (get_elem? joined i ≡ some (p, l)) × (brought_of (p, l) ≡ b)
 found [] b k lt e = absurd (omega arith)
 found (x ∷ xs) b zero lt e = (zero, x.0, x.1, refl, e)
 found (x ∷ xs) b (suc k) lt e = let r = found xs b k (omega arith) e in (suc r.0, r.1, r.2, r.3, r.4)
 
--- where what was brought stands among the joined lists
-pub joined_at : (joined : List (ℕ × List (ℕ × Message))) (b : Brought) → Contains (map brought_of joined) b
-    → (i : ℕ) × (p : ℕ) × (l : List (ℕ × Message)) × (get_elem? joined i ≡ some (p, l)) × (brought_of (p, l) ≡ b)
-joined_at joined b inside = found joined b inside.0 inside.1 inside.2
-
 -- the sender of a port that is back has joined
 pub joined_for : (v : View Message) (ports : ℕ) → AreBack ports (brought_back v) → (k : ℕ) → k < ports
     → (i : ℕ) × (l : List (ℕ × Message)) × (get_elem? v.joined i ≡ some (k, l))
-joined_for v ports every k lt = let there = every k lt in let at = joined_at v.joined there.0 there.1 in
+joined_for v ports every k lt = let there = every k lt in let at = found v.joined there.0 there.1.0 there.1.1 there.1.2 in
     (at.0, at.2, at.3 ∙ ap (λ (p : ℕ). some (p, at.2)) (ap (λ (b : Brought). b.port) at.4 ∙ there.2))
 
 -- the sender of a port in the list brings its part
@@ -75,7 +71,7 @@ pub is_whole : (slots ports : ℕ) (v : View Message) (l : List (ℕ × Message)
 is_whole slots ports v l every log made =
     let at : (b : Brought) → Contains (brought_back v) b → (own_of (owned b.port 0 l) ≡ b.own) × (places_of (owned b.port 0 l) ≡ b.places) =
     λ b inside. (
-    let there = joined_at v.joined b inside in
+    let there = found v.joined b inside.0 inside.1 inside.2 in
     let list : there.2 ≡ owned there.1 0 l = log.parts there.0 there.1 there.2 there.3 in (
       ap (λ (d : Brought). own_of (owned d.port 0 l)) (sym there.4) ∙ ap own_of (sym list) ∙ ap (λ (d : Brought). d.own) there.4,
       ap (λ (d : Brought). places_of (owned d.port 0 l)) (sym there.4) ∙ ap places_of (sym list) ∙ ap (λ (d : Brought). d.places) there.4,
@@ -89,13 +85,14 @@ is_whole slots ports v l every log made =
       no_more = λ p le. sym (part_is p 0 l) ∙ ap own_of (log.no_more p (subst (λ (n : ℕ). n ≤ p) (sym made) le));
     }
 
--- what was taken and what is left are the log
-pub accepted_is : (slots taken : ℕ) (v : View Message) (l : List (ℕ × Message)) → IsLog slots v l → taken ≡ length v.taken
-    → items_of v.taken ++ items_of (drop taken l) ≡ items_of l
-accepted_is slots taken v l log counted =
-    items_append v.taken (drop taken l)
-    ∙ ap (λ (z : List (ℕ × Message)). items_of (z ++ drop taken l)) (log.begins ∙ ap (λ (n : ℕ). take n l) (sym counted))
-    ∙ ap items_of (take-append-drop taken l)
+-- the log is what was taken and what is left
+pub accepted_is : (slots n : ℕ) (v w : View Message) (l : List (ℕ × Message)) (taken left : List (ℕ × List ℕ)) → IsLog slots v l
+    → n ≡ length v.taken → w ≡ with_all v l → taken ≡ items_of w.taken → left ≡ items_of (drop n (whole w)) → items_of l ≡ taken ++ left
+accepted_is slots n v w l taken left log counted is t f = sym (
+    (λ k. (t ∙ ap (λ (u : View Message). items_of u.taken) is) k ++ (f ∙ ap (λ (u : View Message). items_of (drop n (whole u))) is) k)
+    ∙ items_append v.taken (drop n l)
+    ∙ ap (λ (z : List (ℕ × Message)). items_of (z ++ drop n l)) (log.begins ∙ ap (λ (m : ℕ). take m l) (sym counted))
+    ∙ ap items_of (take-append-drop n l))
 
 pub is_gathered : (slots taken total : ℕ) (v w : View Message) (l : List (ℕ × Message)) → w ≡ with_all v l → IsLog slots v l → taken ≡ length v.taken
     → total ≡ length l → IsGathered taken total w
@@ -108,9 +105,10 @@ is_gathered slots taken total v w l is log counted total_is = subst (λ (u : Vie
   few = (let b = log.few in omega arith);
 }
 
--- of the gathered list
-pub if_listed : (l : List (ℕ × Message)) (F : List (ℕ × Message) → Type 0) (o : Option (List (ℕ × Message))) → o ≡ Some l → IfWhole o F → F l
-if_listed l F o e k = let k' : IfWhole (Some l) F = subst (λ (z : Option (List (ℕ × Message))). IfWhole z F) e k in k'
+-- what is listed next
+pub next_listed : (taken : ℕ) (v : View Message) (x : ℕ × Message) → v.all ≡ Some (whole v)
+    → IfWhole v.all (λ l. (taken < length l) × (get_elem? l taken ≡ some x)) → (taken < length (whole v)) × (get_elem? (whole v) taken ≡ some x)
+next_listed taken v x e = subst (λ (o : Option (List (ℕ × Message))). IfWhole o (λ l. (taken < length l) × (get_elem? l taken ≡ some x))) e
 
 -- the next of it was taken
 pub goes_on : (taken next total : ℕ) (v w : View Message) (x : ℕ × Message) → IsGathered taken total v → w ≡ freed_of (holding v taken x) x

@@ -1,12 +1,14 @@
 -- Sums over the views, and steps on the words.
-use Rattle.std.proofs.Common.{◌≡◌, ℕ, zero, suc, ◌+◌, ◌-◌, ◌^◌, ◌%◌, ◌<◌, ◌≤◌, List, [], ◌∷◌, ◌++◌, length, set, sym, refl, ap, ◌∙◌, arith, mod-eq_of_lt}
+use Rattle.std.proofs.Common.{◌≡◌, ℕ, zero, suc, ◌+◌, ◌-◌, ◌^◌, ◌%◌, ◌<◌, ◌≤◌, List, [], ◌∷◌, ◌++◌, length, set, sym, refl, ap, ◌∙◌, subst, arith, mod-eq_of_lt}
 use mathlib.Core.Option.{some, some-injective, some-ne-none}
 use native.Mathlib.Nat.{add-mod_right}
 use lib.ListN.{get_elem?}
 use Rattle.subvl_queue.specs.declared.view.View.{View}
 use Rattle.subvl_queue.specs.declared.view.Stage.{Stage}
-use Rattle.subvl_queue.specs.declared.view.Stage.TheVariants.{Idle, Asked, Refused, Drew, Late, Holding}
-use Rattle.subvl_queue.specs.Queue.{total, hand_of, found_of, in_hand, in_room}
+use Rattle.subvl_queue.specs.declared.view.Stage.TheVariants.{Idle}
+use Rattle.subvl_queue.specs.declared.view.Role.{Role}
+use Rattle.subvl_queue.specs.declared.view.Role.TheVariants.{Spent}
+use Rattle.subvl_queue.specs.Queue.{total, hand_of, found_of, wait_of, budget_of, in_hand, in_room, waiting, asks_of, budget}
 
 -- the total after a change of one member
 pub total_set : {A : Type 0} (f : A → ℕ) (l : List A) (j : ℕ) (v w : A) → get_elem? l j ≡ some v → total f (set l j w) + f v ≡ total f l + f w
@@ -14,39 +16,55 @@ total_set f [] j v w e = absurd (some-ne-none v (sym e))
 total_set f (x ∷ xs) zero v w e = let is : f x ≡ f v = ap f (some-injective x v e) in omega arith
 total_set f (x ∷ xs) (suc j) v w e = let r = total_set f xs j v w e in omega arith
 
-pub total_end : {A : Type 0} (f : A → ℕ) (l : List A) (w : A) → total f (l ++ w ∷ []) ≡ total f l + f w
+pub total_end : {A : Type 0} (f : A → ℕ) (l : List A) (w : A) → total f (l ++ w ∷ []) + 0 ≡ total f l + f w
 total_end f [] w = omega arith
 total_end f (x ∷ xs) w = let r = total_end f xs w in omega arith
 
-hand_small : (st : Stage) → hand_of st ≤ 1
-hand_small Idle = omega arith
-hand_small Asked = omega arith
-hand_small Refused = omega arith
-hand_small Drew = omega arith
-hand_small Late = omega arith
-hand_small Holding = omega arith
-
-room_small : (st : Stage) → found_of st ≤ hand_of st
-room_small Idle = omega arith
-room_small Asked = omega arith
-room_small Refused = omega arith
-room_small Drew = omega arith
-room_small Late = omega arith
-room_small Holding = omega arith
+stage_small : (st : Stage) → (hand_of st ≤ 1) × (found_of st ≤ hand_of st)
+stage_small Idle = (omega arith, omega arith)
+stage_small st = (omega arith, omega arith)
 
 module _ {T : Type 0} where
   pub hands_small : (l : List (View T)) → total in_hand l ≤ length l
   hands_small [] = omega arith
-  hands_small (v ∷ vs) = let r = hands_small vs in let h = hand_small v.stage in omega arith
+  hands_small (v ∷ vs) = let r = hands_small vs in let h = stage_small v.stage in omega arith
 
-  pub rooms_small : (l : List (View T)) → total in_room l ≤ total in_hand l
-  rooms_small [] = omega arith
-  rooms_small (v ∷ vs) = let r = rooms_small vs in let h = room_small v.stage in omega arith
+  -- the sums over the views before and after one of them changes, from the stage, the asks, the made senders and the role before
+  pub record Sums (l l' : List (View T)) (st : Stage) (a m : ℕ) (ro : Role) (st' : Stage) (a' m' : ℕ) (ro' : Role) : Type 0 where
+    pub hands : total in_hand l' + hand_of st ≡ total in_hand l + hand_of st'
+    pub rooms : total in_room l' + found_of st ≡ total in_room l + found_of st'
+    pub waits : total waiting l' + wait_of st ≡ total waiting l + wait_of st'
+    pub asks : total asks_of l' + a ≡ total asks_of l + a'
+    pub budgets : total budget l' + budget_of a m ro ≡ total budget l + budget_of a' m' ro'
+
+  pub sums : (l : List (View T)) (j : ℕ) (v w : View T) (st : Stage) (ro ro' : Role) → get_elem? l j ≡ some v → v.stage ≡ st
+      → v.role ≡ ro → w.role ≡ ro' → Sums l (set l j w) st v.asks v.made ro w.stage w.asks w.made ro'
+  sums l j v w st ro ro' at was is is' =
+      subst (λ (y : Stage × Role × Role). Sums l (set l j w) y.0 v.asks v.made y.1 w.stage w.asks w.made y.2)
+      (λ k. (was k, is k, is' k)) record {
+        hands = total_set in_hand l j v w at;
+        rooms = total_set in_room l j v w at;
+        waits = total_set waiting l j v w at;
+        asks = total_set asks_of l j v w at;
+        budgets = total_set budget l j v w at;
+      }
+
+  pub sums_end : (l : List (View T)) (w : View T) → Sums l (l ++ w ∷ []) Idle 0 0 Spent w.stage w.asks w.made w.role
+  sums_end l w = record {
+    hands = total_end in_hand l w;
+    rooms = total_end in_room l w;
+    waits = total_end waiting l w;
+    asks = total_end asks_of l w;
+    budgets = total_end budget l w;
+  }
 
   -- the sum of what each member has is at most the sum of what each may have
   pub total_le : (f g : View T → ℕ) (l : List (View T)) → ((j : ℕ) (v : View T) → get_elem? l j ≡ some v → f v ≤ g v) → total f l ≤ total g l
   total_le f g [] h = omega arith
   total_le f g (v ∷ vs) h = let r = total_le f g vs (λ j w e. h (suc j) w e) in let m = h 0 v refl in omega arith
+
+  pub rooms_small : (l : List (View T)) → total in_room l ≤ total in_hand l
+  rooms_small l = total_le in_room in_hand l (λ j v _. (stage_small v.stage).1)
 
 pub one_less : (x : ℕ) → 0 < x → x < 18446744073709551616 → (x + (2 ^ 64 - 1)) % 2 ^ 64 ≡ x - 1
 one_less zero pos small = absurd (omega arith)

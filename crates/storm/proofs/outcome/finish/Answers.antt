@@ -16,20 +16,20 @@ pub count_accepted-accepted-requires : goal.count_accepted-accepted-requires
 count_accepted-accepted-requires g c =
     let joined = c.args.joined in
     let valid : IsPlan joined.tx.plan = subst IsPlan c.config.ensures c.links-count.ensures.valid in
-    let all = sum_spent joined.tx c.args.load.messages c.args.load.turns joined.ports.items c.requires.ports in
+    let all = sum_spent joined.tx c.args.load.messages c.args.load.turns joined.ports.items c.requires.joined.spent in
     let most : length joined.tx.plan.ports * c.args.load.messages ≤ 256 * c.args.load.messages = mul-le-mul_right c.args.load.messages valid.ports.1 in
     subst (λ (ports : List PortView). sum_by (λ (port : PortView). length port.sender.own) ports < 2 ^ 64) (sym c.as_slice.ensures.value)
     (omega (arith, all, most, c.requires.messages))
 
 pub gather_all-draining-requires-clause-every : goal.gather_all-draining-requires-clause-every
-gather_all-draining-requires-clause-every g c = every_place c.args.joined.tx c.args.load.messages c.args.load.turns c.args.joined.ports.items c.requires.ports
+gather_all-draining-requires-clause-every g c = every_place c.args.joined.tx c.args.load.messages c.args.load.turns c.args.joined.ports.items c.requires.joined.spent
 
 pub returns-clause-whole : goal.returns-clause-whole
 returns-clause-whole g c =
     let joined = c.args.joined in
     let same : c.read_links.new.draining ≡ c.in_ok-draining.draining = c.read_links.ensures.draining in
     handed_whole joined.tx c.gather_all-draining.result c.in_ok-draining.draining c.args.load.messages c.args.load.turns joined.ports.items _ _
-    c.requires.ports c.gather_all-draining.ensures c.in_ok-draining.ensures.plan c.in_ok-draining.ensures.accepted
+    c.requires.joined.spent c.gather_all-draining.ensures c.in_ok-draining.ensures.plan c.in_ok-draining.ensures.accepted
     c.in_ok-draining.ensures.done c.in_ok-draining.ensures.streams
     (subst (λ (t : Tx). IsLegal t.plan (accepted_in t.links) t.lines.a t.lines.b) same c.into_networks-a.ensures.legal)
     (subst (λ (t : Tx). AreAllowed t.plan (accepted_in t.links)) same c.into_networks-a.ensures.allowed)
@@ -47,4 +47,4 @@ pub returns-clause-accepted : goal.returns-clause-accepted
 returns-clause-accepted g c =
     c.count_accepted-accepted.ensures
     ∙ ap (λ (ports : List PortView). sum_by (λ (port : PortView). length port.sender.own) ports) c.as_slice.ensures.value
-    ∙ sum_spent c.args.joined.tx c.args.load.messages c.args.load.turns c.args.joined.ports.items c.requires.ports
+    ∙ sum_spent c.args.joined.tx c.args.load.messages c.args.load.turns c.args.joined.ports.items c.requires.joined.spent

@@ -1,7 +1,17 @@
-use Rattle.std.proofs.Common.{sym, ◌∙◌}
+use Rattle.std.proofs.Common.{length, ap, sym, ◌∙◌}
+use Rattle.afdx_plan.specs.Config.{Plan}
 use Rattle.storm.proofs.SameCells.{cells_new}
+use Rattle.storm.proofs.ShownCounts.{shown_fresh}
 use Rattle.storm.proofs.outcome.open.Goals as goal
 
-pub returns-in-Ok-clause-cells : goal.returns-in-Ok-clause-cells
-returns-in-Ok-clause-cells g c =
-    cells_new c.in-Ok.tx.board c.in-Ok.monitor (c.in-Ok.ensures.board ∙ sym c.in-Ok.ensures.monitor) c.in-Ok.ensures.new
+pub returns-in-Ok-clause-ready : goal.returns-in-Ok-clause-ready
+returns-in-Ok-clause-ready g c =
+    let opened = c.in-Ok.ensures in
+    record {
+      first = opened.fresh.moment;
+      fresh = opened.ports;
+      opened = opened.opened;
+      links = opened.monitor ∙ sym (ap (λ (p : Plan). length p.links) opened.fresh.plan);
+      shown = shown_fresh _ _ _ opened.fresh opened.new opened.board;
+      cells = cells_new _ _ (opened.board ∙ sym opened.monitor) opened.new;
+    }

@@ -1,34 +1,19 @@
 use Rattle.std.proofs.Common.{◌≡◌, ◌<◌, length, sym, ap, ◌∙◌, arith}
 use Rattle.status_board.specs.Views.{last_of}
 use Rattle.afdx_tx.specs.Emitter.{Tx}
-use Rattle.storm.specs.Cells.{cells_of, cells_read}
-use Rattle.storm.proofs.SameCells.{as_many, same_cell, cells_kept}
+use Rattle.storm.specs.Cells.{cells_of}
+use Rattle.storm.proofs.SameCells.{cell_at, cells_kept}
 use Rattle.storm.proofs.ShownCounts.{read_more, read_all}
 use Rattle.storm.proofs.outcome.read_links.Goals as goal
 
-pub read_last-requires-clause-published : goal.read_last-requires-clause-published
-read_last-requires-clause-published g c =
-    let many : length c.loop-link.draining.board ≡ length c.args.draining.now.plan.links =
-    ap (λ (t : Tx). length t.board) c.loop-link.invariant.draining ∙ c.requires.shown.count in
-    omega (arith, c.loop-link-test.true, c.requires.links)
-
-pub read_last-requires-clause-read : goal.read_last-requires-clause-read
-read_last-requires-clause-read g c =
-    let many : length c.loop-link.draining.board ≡ length c.args.draining.now.plan.links =
-    ap (λ (t : Tx). length t.board) c.loop-link.invariant.draining ∙ c.requires.shown.count in
-    let cells : cells_of c.loop-link.draining.board ≡ cells_read c.loop-link.monitor =
-    ap (λ (t : Tx). cells_of t.board) c.loop-link.invariant.draining ∙ c.requires.cells ∙ sym c.loop-link.invariant.cells in
-    let all = as_many c.loop-link.draining.board c.loop-link.monitor cells in
-    omega (arith, all, c.loop-link-test.true, c.requires.links)
-
-pub read_last-requires-clause-same : goal.read_last-requires-clause-same
-read_last-requires-clause-same g c =
-    let many : length c.loop-link.draining.board ≡ length c.args.draining.now.plan.links =
-    ap (λ (t : Tx). length t.board) c.loop-link.invariant.draining ∙ c.requires.shown.count in
-    let cells : cells_of c.loop-link.draining.board ≡ cells_read c.loop-link.monitor =
-    ap (λ (t : Tx). cells_of t.board) c.loop-link.invariant.draining ∙ c.requires.cells ∙ sym c.loop-link.invariant.cells in
-    let here : c.loop-link.link < length c.loop-link.draining.board = omega (arith, c.loop-link-test.true, c.requires.links) in
-    same_cell c.loop-link.draining.board c.loop-link.monitor c.loop-link.link cells here
+pub read_last-requires : goal.read_last-requires
+read_last-requires g c =
+    let old = c.loop-link.invariant in
+    let here : c.loop-link.link < length c.loop-link.draining.board =
+    omega (arith, c.loop-link-test.true, c.requires.links, c.requires.shown.count, ap (λ (t : Tx). length t.board) old.draining) in
+    let cell = cell_at c.loop-link.draining.board c.loop-link.monitor c.loop-link.link
+    (ap (λ (t : Tx). cells_of t.board) old.draining ∙ c.requires.cells ∙ sym old.cells) here in
+    record { published = here; read = cell.0; same = cell.1 }
 
 pub loop-link-preserved : goal.loop-link-preserved
 loop-link-preserved g c =

@@ -1,10 +1,6 @@
-use Rattle.std.proofs.Common.{rules, ◌≡◌, ℕ, ◌<◌, length, sym, ap, ◌∙◌, arith}
-use Rattle.std.proofs.lemmas.Grind.{common_steps}
-use mathlib.Core.Option.{some}
-use lib.ListN.{get_elem?}
+use Rattle.std.proofs.Common.{rules, ℕ, sym, ap, ◌∙◌}
 use Rattle.subvl_queue.specs.declared.item.Message.{Message}
-use Rattle.subvl_queue.specs.Gathers.{whole}
-use Rattle.subvl_queue.proofs.Senders.{if_listed, goes_on, leaves}
+use Rattle.subvl_queue.proofs.Senders.{next_listed, goes_on, leaves}
 use Rattle.subvl_queue.proofs.gathered.Gathered.take.Goals as goal
 
 pub invariant_of-self-2 : goal.invariant_of-self-2
@@ -13,7 +9,7 @@ invariant_of-self-2 c =
     let v = c.self.inside.seat.me.0 in
     let x : ℕ × Message = (c.in_ok-port.port, c.in_ok-port.message) in
     let got = c.in_ok-port.ensures in
-    let at = if_listed (whole v) (λ l. (c.self.inside.taken < length l) × (get_elem? l c.self.inside.taken ≡ some x)) v.all kept.1.all got.listed in
+    let at = next_listed _ v x kept.1.all got.listed in
     ((search rules, got.seat.1, ap (λ u. u.role) got.some ∙ kept.0.2, ap (λ u. u.stage) got.some), goes_on _ _ _ v _ x kept.1 got.some at got.few.1)
 
 pub returns-clause-some : goal.returns-clause-some
@@ -21,17 +17,5 @@ returns-clause-some c =
     let v = c.self.inside.seat.me.0 in
     let x : ℕ × Message = (c.in_ok-port.port, c.in_ok-port.message) in
     let got = c.in_ok-port.ensures in
-    let at = if_listed (whole v) (λ l. (c.self.inside.taken < length l) × (get_elem? l c.self.inside.taken ≡ some x)) v.all c.self.invariant.1.all got.listed in
+    let at = next_listed _ v x c.self.invariant.1.all got.listed in
     ap (λ g. g.left) (sym c.self.view_is) ∙ leaves c.self.inside.taken c.fetch.new.taken v c.fetch.new.seat.me.0 x got.some at.1 got.few.1
-
-pub returns-in_err-port-clause-none : goal.returns-in_err-port-clause-none
-returns-in_err-port-clause-none c = grind (arith, common_steps)
-
-pub returns-in_err-port-clause-few : goal.returns-in_err-port-clause-few
-returns-in_err-port-clause-few c = grind (arith, common_steps)
-
-pub returns-clause-taken : goal.returns-clause-taken
-returns-clause-taken c = grind (arith, common_steps)
-
-pub returns-clause-few : goal.returns-clause-few
-returns-clause-few c = grind (arith, common_steps)

@@ -1,0 +1,27 @@
+-- What the threads of a storm begin with, and what they leave.
+use Rattle.std.specs.Prelude.{◌≡◌, ℕ, ◌*◌, ◌≤◌, Bool, false, List, length}
+use Rattle.status_board.specs.Views.{Watched, links_of}
+use Rattle.afdx_tx.specs.Emitter.{Tx}
+use Rattle.afdx_tx.specs.Ports.{PortView, AreFreshPorts, AreOpenedWith}
+use Rattle.storm.specs.declared.polling.TheConstants.{STEP}
+use Rattle.storm.specs.Cells.{cells_of, cells_read}
+use Rattle.storm.specs.Shown.{IsShown}
+use Rattle.storm.specs.Workers.{AreSpent}
+
+-- an emitter before its first poll, with its fresh ports and its monitor
+pub record IsReady (tx : Tx) (ports : List PortView) (monitor : List Watched) : Type 0 where
+  pub first : tx.moment ≡ 0
+  pub fresh : AreFreshPorts tx ports
+  pub opened : AreOpenedWith tx ports
+  pub links : links_of monitor ≡ length tx.plan.links
+  pub shown : IsShown tx
+  pub cells : cells_of tx.board ≡ cells_read monitor
+
+-- the same after that many polls, once each port sent its messages 1 to n and no count was seen to fall
+pub record IsJoined (n turns : ℕ) (tx : Tx) (ports : List PortView) (monitor : List Watched) (polls : ℕ) (back : Bool) : Type 0 where
+  pub spent : AreSpent tx n turns ports
+  pub within : polls ≤ turns
+  pub moment : tx.moment ≤ polls * STEP
+  pub shown : IsShown tx
+  pub cells : cells_of tx.board ≡ cells_read monitor
+  pub none_back : back ≡ false
