@@ -4,14 +4,9 @@ ghost use Rattle.afdx_tx.specs.Ports.{IsPortOfTx};
 ghost use Rattle.afdx_tests.specs.Closing.{HasAccepted};
 
 use crate::headline_tests::poll_meanwhile;
-use crate::testing::{
-    Drain, OpenedOne, Sending, assert_both_handed, assert_closed, assert_none, assert_one,
-    assert_refused, gather, numbered, open_demo_standing, send_taken,
-};
+use crate::testing::*;
 use afdx_plan::VlId;
 use afdx_tx::{NoSuchSub, Refusal, TxPort};
-use std::alloc::Global;
-use std::process::Abort;
 
 // Sends two messages, for which there is room.
 fn send_two<R: Abort>(rt: &R, alloc: Global, port: &mut TxPort)
@@ -40,7 +35,7 @@ fn send_what_was_accepted<R: Abort>(rt: &R, alloc: Global, tx: &mut Sending, por
 #[test]
 fn a_closed_sub_vl_refuses_what_comes_and_sends_what_it_accepted(rt: HostRuntime) {
     let alloc = rt.alloc();
-    let mut opened = open_demo_standing(&rt, alloc);
+    let mut opened = open_demo(&rt, alloc, NEVER);
     send_two(&rt, alloc, &mut opened.port);
     close_twice(&rt, alloc, &mut opened.tx, &mut opened.port);
     send_what_was_accepted(&rt, alloc, &mut opened.tx, &mut opened.port);
@@ -52,7 +47,7 @@ fn a_closed_sub_vl_refuses_what_comes_and_sends_what_it_accepted(rt: HostRuntime
 #[test]
 fn a_sub_vl_that_is_closed_first_accepts_none(rt: HostRuntime) {
     let alloc = rt.alloc();
-    let mut opened = open_demo_standing(&rt, alloc);
+    let mut opened = open_demo(&rt, alloc, NEVER);
     assert_closed(&rt, &mut opened.tx, 1, 0, Ok(0));
     assert_refused(&rt, alloc, &mut opened.port, &[1], Refusal::Closed);
     assert_none(&rt, &mut opened.tx, 0);
@@ -68,7 +63,7 @@ fn assert_not_closed<R: Abort>(rt: &R, tx: &mut Sending) {
 #[test]
 fn a_sub_vl_that_is_not_there_is_not_closed(rt: HostRuntime) {
     let alloc = rt.alloc();
-    let mut opened = open_demo_standing(&rt, alloc);
+    let mut opened = open_demo(&rt, alloc, NEVER);
     send_taken(&rt, alloc, &mut opened.port, &[1]);
     assert_one(&rt, &mut opened.tx, 1_000, numbered(0));
     assert_not_closed(&rt, &mut opened.tx);
@@ -105,7 +100,7 @@ fn close_poll_and_gather<R: Abort>(rt: &R, alloc: Global, mut opened: OpenedOne)
 #[test]
 fn what_a_close_told_is_what_is_known_in_the_end(rt: HostRuntime) {
     let alloc = rt.alloc();
-    let mut opened = open_demo_standing(&rt, alloc);
+    let mut opened = open_demo(&rt, alloc, NEVER);
     send_two(&rt, alloc, &mut opened.port);
     let told = close_poll_and_gather(&rt, alloc, opened);
     assert_eq!(rt; told.total, 2);

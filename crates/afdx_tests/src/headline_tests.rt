@@ -11,11 +11,9 @@ ghost use Rattle.afdx_tx.specs.Emitter.{queues_in, total_in};
 ghost use Rattle.afdx_tx.specs.Ports.{Accepts, IsPortOfTx};
 ghost use Rattle.afdx_tests.specs.Headline.{SentTwo, two_messages};
 
-use crate::testing::{Drain, Sending, assert_length, gather, open_demo_standing};
+use crate::testing::*;
 use afdx_tx::TxPort;
 use redundant_mux::MemNetwork;
-use std::alloc::Global;
-use std::process::Abort;
 use std::snapshot::Snapshot;
 use std::thread;
 use std::thread::{Promise, Threads};
@@ -123,7 +121,7 @@ fn hand_whole<R: Threads + Abort + Copy + Send + 'static>(
 ) -> (MemNetwork, MemNetwork)
     ensures { IsHandedWhole demo_plan (λ place. two_messages) result.0.handed result.1.handed }
 {
-    let mut opened = open_demo_standing(&rt, alloc);
+    let mut opened = open_demo(&rt, alloc, NEVER);
     let port = opened.port;
     let port = send_beside(rt, alloc, &mut opened.tx, port);
     let mut draining = gather_one(&rt, alloc, opened.tx, port);
@@ -131,17 +129,13 @@ fn hand_whole<R: Threads + Abort + Copy + Send + 'static>(
     draining.into_networks()
 }
 
-// The first byte of the message of a frame.
-fn check_byte(rt: &impl Abort, frame: &[u8], byte: u8) {
-    assert_eq!(rt; frame.get(42), Some(&byte));
-}
-
 // A network was handed two frames, of the two messages in their order.
 fn check_two(rt: &impl Abort, network: &MemNetwork) {
     let handed = network.handed();
     assert_length(rt, handed.len(), 2);
-    check_byte(rt, handed[0].frame.as_slice(), 1);
-    check_byte(rt, handed[1].frame.as_slice(), 2);
+    for (place, byte) in [(0, 1), (1, 2)] {
+        assert_eq!(rt; handed[place].frame.get(42), Some(&byte));
+    }
 }
 
 #[test]

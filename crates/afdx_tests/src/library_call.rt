@@ -1,9 +1,8 @@
 //! The call of the library that README.md shows.
-use crate::testing::{Sending, assert_length};
+use crate::testing::*;
 use afdx_plan::demo_config;
 use afdx_tx::{Report, open_tx};
 use redundant_mux::MemNetwork;
-use std::process::Abort;
 use std::test::Fail;
 
 /// Asserts that a network was handed one frame, with the message in it.

@@ -1,15 +1,12 @@
 //! Tests of links of which some are on both networks and some on one, against lists.
 use crate::list_model::{ListLink, ListNetwork, ListSystem, Seen};
-use crate::testing::{
-    Sending, assert_counts, assert_length, assert_told, open, poll_at, send_taken,
-};
-use afdx_config::read_config;
+use crate::testing::*;
 use afdx_frame::{sn_of, vl_of};
 use afdx_plan::{Config, Networks};
 use afdx_tx::{PollFault, Release, Report, TxPort};
 use redundant_mux::{Handed, MemNetwork, Standing};
-use std::alloc::{AllocError, Global};
-use std::process::Abort;
+use std::alloc::AllocError;
+use std::fmt::Write;
 
 // The gap of the links, in microseconds.
 const GAP: u64 = 1_000;
@@ -26,31 +23,18 @@ fn name_of(networks: Networks) -> &'static str {
     }
 }
 
-// The table of a link.
-fn link_text(alloc: Global, link: &ListLink) -> Result<String, AllocError> {
-    format!(in alloc;
-        "[[vl]]\nid = {}\nbag_ms = 1\nlmax = 64\nsub_vls = 1\ncapacity = 6\nnetworks = \"{}\"\n",
-        link.vl,
-        name_of(link.networks)
-    )
-}
-
-// The table of its port.
-fn port_text(alloc: Global, link: &ListLink) -> Result<String, AllocError> {
-    format!(in alloc;
-        "[[port]]\nid = {}\nvl = {}\nsub = 0\npartition = 1\nkind = \"queuing\"\n\
-        source = 1000\ndestination = 2000\nmax = 8192\n",
-        link.vl, link.vl
-    )
-}
-
 // A configuration of these links, with a port on each.
 fn config_text(alloc: Global, links: &[ListLink]) -> Result<String, AllocError> {
-    let mut text = String::new(alloc);
-    text.push_str("version = 2\n[end_system]\nid = 1\n")?;
+    let mut text = "version = 2\n[end_system]\nid = 1\n".to_string(alloc)?;
     for link in links {
-        text.push_str(&link_text(alloc, link)?)?;
-        text.push_str(&port_text(alloc, link)?)?;
+        let (vl, networks) = (link.vl, name_of(link.networks));
+        writeln!(text, "[[vl]]\nid = {vl}\nnetworks = '{networks}'")?;
+        text.push_str("bag_ms = 1\nlmax = 64\nsub_vls = 1\ncapacity = 6\n")?;
+        writeln!(
+            text,
+            "[[port]]\nid = {vl}\nvl = {vl}\nsub = 0\npartition = 1"
+        )?;
+        text.push_str("kind = 'queuing'\nsource = 1000\ndestination = 2000\nmax = 8192\n")?;
     }
     Ok(text)
 }
@@ -58,7 +42,7 @@ fn config_text(alloc: Global, links: &[ListLink]) -> Result<String, AllocError> 
 /// The plan of that text.
 pub(crate) fn config_of<R: Abort>(rt: &R, alloc: Global, links: &[ListLink]) -> Config {
     let text = config_text(alloc, links).expect(rt, "memory");
-    read_config(alloc, text.as_bytes()).expect(rt, "a valid plan")
+    plan_of(rt, alloc, &text)
 }
 
 // A port sends so many messages of one byte.
@@ -94,12 +78,10 @@ fn assert_same(
 // What is seen of a frame that was handed over.
 fn seen_of(handed: &Handed) -> Option<Seen> {
     let frame = handed.frame.as_slice();
-    let vl = vl_of(frame)?.0;
-    let number = sn_of(frame)?;
     Some(Seen {
         at: handed.at,
-        vl,
-        number,
+        vl: vl_of(frame)?.0,
+        number: sn_of(frame)?,
     })
 }
 
@@ -139,9 +121,7 @@ fn poll_all<R: Abort>(rt: &R, alloc: Global, tx: &mut Sending, lists: &mut ListS
 // A run over these links, where A fails at hand `k` and B at hand `m`, counted from 1.
 fn run<R: Abort>(rt: &R, alloc: Global, links: Vec<ListLink>, k: u8, m: u8) {
     let config = config_of(rt, alloc, links.as_slice());
-    let a = MemNetwork::failing_at(alloc, u64::from(k));
-    let b = MemNetwork::failing_at(alloc, u64::from(m));
-    let mut opened = open(rt, alloc, config, a, b);
+    let mut opened = open(rt, alloc, config, (u64::from(k), u64::from(m)));
     send_each(rt, alloc, &mut opened.ports, links.as_slice());
     let mut lists = ListSystem {
         links,
@@ -227,12 +207,7 @@ fn plans_that_look_random_are_as_lists_say(rt: HostRuntime) {
     for _plan in 0..150 {
         state = shuffled(state);
         let links = some_links(rt.alloc(), state).expect(&rt, "memory");
-        run(
-            &rt,
-            rt.alloc(),
-            links,
-            up_to_12(state / 4_096),
-            up_to_12(state / 65_536),
-        );
+        let (k, m) = (up_to_12(state / 4_096), up_to_12(state / 65_536));
+        run(&rt, rt.alloc(), links, k, m);
     }
 }

@@ -3,29 +3,29 @@ ghost use Rattle.std.specs.Prelude.{◌≡◌, ◌<◌, ◌≤◌, [], length, m
 ghost use Rattle.arrayvec.specs.ArrayVec.{array_vec_len};
 ghost use Rattle.redundant_mux.specs.Entry.{entry};
 
-use crate::testing::{
-    Opened, assert_both_handed, assert_handed, assert_length, assert_moment, assert_number,
-    assert_poll, numbered, open, poll_at, send_taken,
-};
-use afdx_config::read_config;
+use crate::testing::*;
 use afdx_frame::Frame;
 use afdx_plan::Config;
-use afdx_tx::{PollFault, Report, TxPort};
+use afdx_tx::{PollFault, Report, TxPort, open_tx};
 use arrayvec::ArrayVec;
 use redundant_mux::{HandFault, MemNetwork, Network, Standing};
-use std::alloc::Global;
 use std::default::Default;
-use std::process::Abort;
 
-// One link with room for six messages, and one port.
-const SIX: &str = "[end_system]\nid = 1\n\
-                   [[vl]]\nid = 1\nbag_ms = 1\nlmax = 1518\nsub_vls = 1\ncapacity = 6\n\
-                   [[port]]\nid = 10\nvl = 1\nsub = 0\npartition = 1\nkind = \"queuing\"\n\
-                   source = 1000\ndestination = 2000\nmax = 8192\n";
-
-/// The plan of that text.
+/// One link with room for six messages, and one port.
 pub(crate) fn six<R: Abort>(rt: &R, alloc: Global) -> Config {
-    read_config(alloc, SIX.as_bytes()).expect(rt, "a valid plan")
+    let text = "end_system = { id = 1 }
+vl = [{ id = 1, bag_ms = 1, lmax = 1518, sub_vls = 1, capacity = 6 }]
+[[port]]
+id = 10
+vl = 1
+sub = 0
+partition = 1
+kind = 'queuing'
+source = 1000
+destination = 2000
+max = 8192
+";
+    plan_of(rt, alloc, text)
 }
 
 /// Sends six messages of one byte, which are taken.
@@ -33,25 +33,6 @@ pub(crate) fn send_six<R: Abort>(rt: &R, alloc: Global, port: &mut TxPort) {
     for byte in 1..=6u8 {
         send_taken(rt, alloc, port, &[byte]);
     }
-}
-
-/// The emitter of one link, whose port sends six messages, over two networks that were handed nothing.
-fn open_six<R: Abort, A: Network + Drop, B: Network + Drop>(
-    rt: &R,
-    alloc: Global,
-    a: A,
-    b: B,
-) -> Opened<A, B>
-    requires a_empty { A.handed a ≡ [] }
-    requires b_empty { B.handed b ≡ [] }
-    requires a_new { A.failures a ≡ 0 }
-    requires b_new { B.failures b ≡ 0 }
-{
-    let mut opened = open(rt, alloc, six(rt, alloc), a, b);
-    for port in opened.ports.iter_mut() {
-        send_six(rt, alloc, port);
-    }
-    opened
 }
 
 /// How many frames a poll released, and which networks stood then. None where both were down.
@@ -87,9 +68,8 @@ fn assert_answer(rt: &impl Abort, turn: u8, k: u8, m: u8, answer: Result<Report,
 fn run_failing<R: Abort>(rt: &R, alloc: Global, k: u8, m: u8)
     requires { (1 ≤ k) × (1 ≤ m) }
 {
-    let a = MemNetwork::failing_at(alloc, u64::from(k));
-    let b = MemNetwork::failing_at(alloc, u64::from(m));
-    let mut opened = open_six(rt, alloc, a, b);
+    let mut opened = open_one(rt, alloc, six(rt, alloc), (u64::from(k), u64::from(m)));
+    send_six(rt, alloc, &mut opened.port);
     for turn in 1..=6u8 {
         let answer = poll_at(rt, &mut opened.tx, 1_000 * u64::from(turn - 1));
         assert_answer(rt, turn, k, m, answer);
@@ -173,16 +153,18 @@ fn assert_full(rt: &impl Abort, shelf: &Shelf) {
 #[test]
 fn a_network_without_memory_fails_where_it_is_full_and_the_other_goes_on(rt: HostRuntime) {
     let alloc = rt.alloc();
-    let mut opened = open_six(&rt, alloc, empty_shelf(), MemNetwork::new(alloc));
-    for number in 0..6u8 {
-        let standing = Standing {
-            a: number < 2,
-            b: true,
-        };
-        let now = 1_000 * u64::from(number);
-        assert_poll(&rt, &mut opened.tx, now, &[numbered(number)], standing);
+    let (a, b) = (empty_shelf(), MemNetwork::new(alloc));
+    let opened = open_tx(alloc, six(&rt, alloc), a, b).ok();
+    let (mut tx, mut ports, _monitor) = opened.expect(&rt, "memory");
+    for port in ports.iter_mut() {
+        send_six(&rt, alloc, port);
     }
-    let (a, b) = opened.tx.into_networks();
+    for number in 0..6u8 {
+        let standing = if number < 2 { BOTH } else { ONLY_B };
+        let now = 1_000 * u64::from(number);
+        assert_poll(&rt, &mut tx, now, &[numbered(number)], standing);
+    }
+    let (a, b) = tx.into_networks();
     assert_full(&rt, &a);
     assert_handed(&rt, &b, 6);
 }

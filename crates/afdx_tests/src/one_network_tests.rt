@@ -4,70 +4,22 @@ ghost use Rattle.afdx_tx.specs.Ports.{PortView, IsPortOfTx};
 ghost use Rattle.status_board.specs.Views.{links_of};
 
 use crate::showing_tests::assert_read;
-use crate::testing::{
-    Gathered, OpenedTwo, Sending, assert_drained, assert_left, assert_poll, gather_two, open_two,
-    send_taken,
-};
-use afdx_config::read_config;
-use afdx_plan::VlId;
-use afdx_tx::Release;
-use redundant_mux::{MemNetwork, Standing};
+use crate::testing::*;
 use status_board::{Counts, Monitor};
-use std::alloc::Global;
-use std::process::Abort;
 use std::sync::Wait;
 
 // Link 1 on network A alone and link 2 on both, with ports 10 and 11.
 const ON_A_AND_ON_BOTH: &str = "version = 2
-
-[end_system]
-id = 1
-
-[[vl]]
-id = 1
-bag_ms = 1
-lmax = 1518
-sub_vls = 1
-capacity = 2
-networks = \"a\"
-
-[[vl]]
-id = 2
-bag_ms = 1
-lmax = 1518
-sub_vls = 1
-capacity = 2
-networks = \"both\"
-
-[[port]]
-id = 10
-vl = 1
-sub = 0
-partition = 1
-kind = \"queuing\"
-source = 1000
-destination = 2000
-max = 8192
-
-[[port]]
-id = 11
-vl = 2
-sub = 0
-partition = 1
-kind = \"queuing\"
-source = 1000
-destination = 2000
-max = 8192
+end_system = { id = 1 }
+vl = [
+    { id = 1, bag_ms = 1, lmax = 1518, sub_vls = 1, capacity = 2, networks = 'a' },
+    { id = 2, bag_ms = 1, lmax = 1518, sub_vls = 1, capacity = 2, networks = 'both' },
+]
+port = [
+    { id = 10, vl = 1, sub = 0, partition = 1, kind = 'queuing', source = 1000, destination = 2000, max = 8192 },
+    { id = 11, vl = 2, sub = 0, partition = 1, kind = 'queuing', source = 1000, destination = 2000, max = 8192 },
+]
 ";
-
-const ONLY_B: Standing = Standing { a: false, b: true };
-
-// The one frame of link 2.
-const SECOND: Release = Release {
-    vl: VlId(2),
-    sub: 0,
-    number: 0,
-};
 
 // The emitter of that plan, whose network A fails at its first hand.
 fn open_behind_a<R: Abort>(rt: &R, alloc: Global) -> OpenedTwo
@@ -75,10 +27,9 @@ fn open_behind_a<R: Abort>(rt: &R, alloc: Global) -> OpenedTwo
     ensures second { IsPortOfTx result.tx result.second }
     ensures links { 2 ≤ links_of result.monitor }
 {
-    let config = read_config(alloc, ON_A_AND_ON_BOTH.as_bytes()).expect(rt, "a valid plan");
+    let config = plan_of(rt, alloc, ON_A_AND_ON_BOTH);
     assert!(rt; 2 <= config.links().len());
-    let a = MemNetwork::failing_at(alloc, 1);
-    open_two(rt, alloc, config, a, MemNetwork::new(alloc))
+    open_two(rt, alloc, config, (1, u64::MAX))
 }
 
 // Publishes, and asserts what is read of links 1 and 2. A port of the emitter stays its own.
@@ -101,14 +52,9 @@ fn gather_behind_a<R: Abort + Wait>(rt: &R, alloc: Global) -> Gathered {
     let mut opened = open_behind_a(rt, alloc);
     send_taken(rt, alloc, &mut opened.first, &[1]);
     send_taken(rt, alloc, &mut opened.second, &[2]);
-    assert_poll(rt, &mut opened.tx, 0, &[SECOND], ONLY_B);
+    assert_poll(rt, &mut opened.tx, 0, &[release(2, 0, 0)], ONLY_B);
     assert_poll(rt, &mut opened.tx, 1_000, &[], ONLY_B);
-    let one = Counts {
-        frames: 1,
-        bytes: 60,
-        messages: 1,
-        last: 0,
-    };
+    let one = counts(1, 60, 1, 0);
     publish_and_read(rt, &mut opened.tx, &mut opened.monitor, [Counts::ZERO, one]);
     gather_two(rt, alloc, opened)
 }

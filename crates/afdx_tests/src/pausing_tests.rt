@@ -2,15 +2,10 @@
 ghost use Rattle.std.specs.Prelude.{◌≤◌, length};
 ghost use Rattle.subvl_queue.specs.Messages.{most_bytes};
 
-use crate::testing::{
-    OpenedTwo, Sending, TWO_SUB_VLS, assert_closed, assert_none, assert_one, assert_refused,
-    open_two_standing, send_taken,
-};
-use afdx_config::read_config;
+use crate::testing::*;
 use afdx_plan::VlId;
-use afdx_tx::{Refusal, Release, TxPort};
-use std::alloc::{AllocError, Global};
-use std::process::Abort;
+use afdx_tx::{Refusal, TxPort};
+use std::alloc::AllocError;
 use std::thread;
 use std::thread::{JoinHandle, Threads};
 use subvl_queue::{Receiver, Sender, make};
@@ -20,23 +15,13 @@ const TURNS: u64 = 100_000_000;
 
 // The emitter of that plan, and its ports on sub-VL 0 and sub-VL 1.
 fn open_apart<R: Abort>(rt: &R, alloc: Global) -> OpenedTwo {
-    let config = read_config(alloc, TWO_SUB_VLS.as_bytes()).expect(rt, "a valid plan");
-    open_two_standing(rt, alloc, config)
-}
-
-// The release of a sub-VL of link 1 with this number.
-fn release(sub: u8, number: u8) -> Release {
-    Release {
-        vl: VlId(1),
-        sub,
-        number,
-    }
+    open_two(rt, alloc, plan_of(rt, alloc, TWO_SUB_VLS), NEVER)
 }
 
 // The second sub-VL releases what its port sends.
 fn send_second<R: Abort>(rt: &R, alloc: Global, tx: &mut Sending, second: &mut TxPort) {
     send_taken(rt, alloc, second, &[2]);
-    assert_one(rt, tx, 0, release(1, 0));
+    assert_one(rt, tx, 0, release(1, 1, 0));
 }
 
 // A port sends, and in its pause the port of the other sub-VL sends, whose message goes out.
@@ -63,7 +48,7 @@ fn another_sub_vl_releases_in_the_pause_of_a_port(rt: HostRuntime) {
         &mut opened.first,
         &mut opened.second,
     );
-    assert_one(&rt, &mut opened.tx, 1_000, release(0, 1));
+    assert_one(&rt, &mut opened.tx, 1_000, release(1, 0, 1));
 }
 
 // Closes the first sub-VL. How many messages it accepted.
@@ -83,8 +68,8 @@ fn close_in_the_pause<R: Abort>(rt: &R, alloc: Global, tx: &mut Sending, port: &
 // The message of the closed sub-VL goes out, and one of the other sub-VL, which is open.
 fn send_both<R: Abort>(rt: &R, alloc: Global, tx: &mut Sending, second: &mut TxPort) {
     send_taken(rt, alloc, second, &[2]);
-    assert_one(rt, tx, 0, release(0, 0));
-    assert_one(rt, tx, 1_000, release(1, 1));
+    assert_one(rt, tx, 0, release(1, 0, 0));
+    assert_one(rt, tx, 1_000, release(1, 1, 1));
 }
 
 #[test]
@@ -141,7 +126,7 @@ fn a_message_goes_out_after_the_pause_of_its_port(rt: HostRuntime) {
     let alloc = rt.alloc();
     let mut opened = open_apart(&rt, alloc);
     poll_in_the_pause(&rt, alloc, &mut opened.tx, &mut opened.first);
-    assert_one(&rt, &mut opened.tx, 0, release(0, 0));
+    assert_one(&rt, &mut opened.tx, 0, release(1, 0, 0));
 }
 
 // A queue of one message, and its one sender, which may send once.
@@ -230,5 +215,5 @@ fn a_port_held_in_its_pause_holds_back_its_own_sub_vl_alone(rt: HostRuntime) {
     release_second(&rt, alloc, &mut opened.tx, &mut opened.second);
     assert!(rt; say(alloc, &mut held.go));
     assert!(rt; held.worker.join(&rt));
-    assert_one(&rt, &mut opened.tx, 1_000, release(0, 1));
+    assert_one(&rt, &mut opened.tx, 1_000, release(1, 0, 1));
 }

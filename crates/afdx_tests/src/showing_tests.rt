@@ -6,17 +6,11 @@ ghost use Rattle.status_board.specs.Views.{links_of};
 
 use crate::headline_tests::gather_one;
 use crate::mixed_tests::{config_of, link};
-use crate::testing::{
-    BOTH, Drain, Gathered, OpenedTwo, Sending, assert_counts, assert_drained, assert_handed,
-    assert_one, assert_poll, assert_same_counts, drain_at, gather_two, numbered, open_demo,
-    open_demo_standing, open_two, poll_at, send_taken,
-};
+use crate::testing::*;
 use afdx_plan::{Networks, VlId};
 use afdx_tx::TxPort;
 use redundant_mux::{MemNetwork, Standing};
 use status_board::{Counts, Monitor};
-use std::alloc::Global;
-use std::process::Abort;
 use std::sync::Wait;
 
 // The gap of the links, in microseconds.
@@ -30,10 +24,8 @@ const FAILING: [u64; 3] = [1, 3, 9];
 /// Which networks carry links 1 and 2, and at which hand, counted from 1, each network fails.
 #[derive(Clone, Copy)]
 struct Setting {
-    first: Networks,
-    second: Networks,
-    a_fails: u64,
-    b_fails: u64,
+    links: (Networks, Networks),
+    fails: (u64, u64),
 }
 
 // Links 1 and 2, with a port on each.
@@ -42,12 +34,10 @@ fn open_watched<R: Abort>(rt: &R, alloc: Global, setting: Setting) -> OpenedTwo
     ensures second { IsPortOfTx result.tx result.second }
     ensures links { 2 ≤ links_of result.monitor }
 {
-    let links = [link(1, setting.first, 0), link(2, setting.second, 0)];
+    let links = [link(1, setting.links.0, 0), link(2, setting.links.1, 0)];
     let config = config_of(rt, alloc, &links);
     assert!(rt; 2 <= config.links().len());
-    let a = MemNetwork::failing_at(alloc, setting.a_fails);
-    let b = MemNetwork::failing_at(alloc, setting.b_fails);
-    open_two(rt, alloc, config, a, b)
+    open_two(rt, alloc, config, setting.fails)
 }
 
 /// Asserts that these counts of links 1 and 2 are what is read of them.
@@ -120,27 +110,18 @@ fn gather_watched<R: Abort>(rt: &R, alloc: Global, setting: Setting) -> Gathered
 fn run_drain<R: Abort + Wait>(rt: &R, alloc: Global, setting: Setting) {
     let mut gathered = gather_watched(rt, alloc, setting);
     for turn in 0..4u64 {
-        assert_drain(
-            rt,
-            &mut gathered.draining,
-            &mut gathered.monitor,
-            GAP * turn,
-        );
+        let now = GAP * turn;
+        assert_drain(rt, &mut gathered.draining, &mut gathered.monitor, now);
     }
 }
 
 // Both, whenever each network fails.
-fn run_failing<R: Abort + Wait>(rt: &R, alloc: Global, first: Networks, second: Networks) {
-    for a_fails in FAILING {
-        for b_fails in FAILING {
-            let setting = Setting {
-                first,
-                second,
-                a_fails,
-                b_fails,
-            };
-            run_sending(rt, alloc, setting);
-            run_drain(rt, alloc, setting);
+fn run_failing<R: Abort + Wait>(rt: &R, alloc: Global, links: (Networks, Networks)) {
+    for a in FAILING {
+        for b in FAILING {
+            let fails = (a, b);
+            run_sending(rt, alloc, Setting { links, fails });
+            run_drain(rt, alloc, Setting { links, fails });
         }
     }
 }
@@ -149,7 +130,7 @@ fn run_failing<R: Abort + Wait>(rt: &R, alloc: Global, first: Networks, second: 
 fn counts_are_what_is_read_over_links_on_a_on_b_and_on_both(rt: HostRuntime) {
     for first in NETWORKS {
         for second in NETWORKS {
-            run_failing(&rt, rt.alloc(), first, second);
+            run_failing(&rt, rt.alloc(), (first, second));
         }
     }
 }
@@ -157,25 +138,13 @@ fn counts_are_what_is_read_over_links_on_a_on_b_and_on_both(rt: HostRuntime) {
 // 1,472 bytes are cut in two: frames of 14 + 20 + 1,472 + 1 bytes, and of 60, the least.
 #[test]
 fn counts_grow_with_each_frame_though_nothing_is_published(rt: HostRuntime) {
-    let mut opened = open_demo_standing(&rt, rt.alloc());
+    let mut opened = open_demo(&rt, rt.alloc(), NEVER);
     send_taken(&rt, rt.alloc(), &mut opened.port, &[0xaa; 1_472]);
     assert_counts(&rt, &opened.tx, 1, Some(Counts::ZERO));
     assert_one(&rt, &mut opened.tx, 0, numbered(0));
-    let first = Counts {
-        frames: 1,
-        bytes: 1_507,
-        messages: 0,
-        last: 0,
-    };
-    assert_counts(&rt, &opened.tx, 1, Some(first));
+    assert_counts(&rt, &opened.tx, 1, Some(counts(1, 1_507, 0, 0)));
     assert_one(&rt, &mut opened.tx, 1_000, numbered(1));
-    let both = Counts {
-        frames: 2,
-        bytes: 1_567,
-        messages: 1,
-        last: 1_000,
-    };
-    assert_counts(&rt, &opened.tx, 1, Some(both));
+    assert_counts(&rt, &opened.tx, 1, Some(counts(2, 1_567, 1, 1_000)));
     assert_counts(&rt, &opened.tx, 0, None);
     assert_counts(&rt, &opened.tx, 2, None);
 }
@@ -188,8 +157,7 @@ fn assert_network(rt: &impl Abort, network: &MemNetwork, many: u8, failures: u64
 
 // Two messages, of which the first goes out before the port comes back. B is to fail at the second.
 fn gather_between<R: Abort>(rt: &R, alloc: Global) -> Drain {
-    let (a, b) = (MemNetwork::new(alloc), MemNetwork::failing_at(alloc, 2));
-    let mut opened = open_demo(rt, alloc, a, b);
+    let mut opened = open_demo(rt, alloc, (u64::MAX, 2));
     send_taken(rt, alloc, &mut opened.port, &[1]);
     send_taken(rt, alloc, &mut opened.port, &[2]);
     assert_network(rt, opened.tx.network_a(), 0, 0);

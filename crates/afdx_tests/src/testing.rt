@@ -7,14 +7,15 @@ ghost use Rattle.afdx_tx.specs.Ports.{PortView, IsPortOfTx, AreOpenedWith, AreFr
 ghost use Rattle.status_board.specs.Views.{links_of};
 ghost use Rattle.afdx_tests.specs.Headline.{IsUnused};
 
+use afdx_config::read_config;
 use afdx_plan::{Config, VlId, demo_config};
 use afdx_tx::{
     Draining, Emitter, NoSuchSub, PollFault, Refusal, Release, Report, SendFault, TxPort, open_tx,
 };
 use redundant_mux::{Handed, MemNetwork, Network, Standing};
 use status_board::{Counts, Monitor};
-use std::alloc::Global;
-use std::process::Abort;
+pub(crate) use std::alloc::Global;
+pub(crate) use std::process::Abort;
 
 pub(crate) type Sending = Emitter<MemNetwork, MemNetwork>;
 
@@ -24,43 +25,30 @@ pub(crate) const BOTH: Standing = Standing { a: true, b: true };
 
 pub(crate) const NEITHER: Standing = Standing { a: false, b: false };
 
+pub(crate) const ONLY_B: Standing = Standing { a: false, b: true };
+
+/// The hands, counted from 1, at which A and B fail, where neither does.
+pub(crate) const NEVER: (u64, u64) = (u64::MAX, u64::MAX);
+
 /// End system 1 with one link of two sub-VLs, each with room for two messages. Port 20 is on sub-VL 0,
 /// and port 21 on sub-VL 1. A piece has at most 25 bytes.
-pub(crate) const TWO_SUB_VLS: &str = "[end_system]
-id = 1
-
-[[vl]]
-id = 1
-bag_ms = 1
-lmax = 64
-sub_vls = 2
-capacity = 2
-
-[[port]]
-id = 20
-vl = 1
-sub = 0
-partition = 1
-kind = \"queuing\"
-source = 1000
-destination = 2000
-max = 8192
-
-[[port]]
-id = 21
-vl = 1
-sub = 1
-partition = 1
-kind = \"queuing\"
-source = 1001
-destination = 2000
-max = 8192
+pub(crate) const TWO_SUB_VLS: &str = "end_system = { id = 1 }
+vl = [{ id = 1, bag_ms = 1, lmax = 64, sub_vls = 2, capacity = 2 }]
+port = [
+    { id = 20, vl = 1, sub = 0, partition = 1, kind = 'queuing', source = 1000, destination = 2000, max = 8192 },
+    { id = 21, vl = 1, sub = 1, partition = 1, kind = 'queuing', source = 1001, destination = 2000, max = 8192 },
+]
 ";
+
+/// The plan of a text that is one.
+pub(crate) fn plan_of<R: Abort>(rt: &R, alloc: Global, text: &str) -> Config {
+    read_config(alloc, text.as_bytes()).expect(rt, "a valid plan")
+}
 
 /// What is opened: an emitter, its ports, and its monitor.
 #[derive(Drop)]
-pub(crate) struct Opened<A: Network + Drop, B: Network + Drop> {
-    pub(crate) tx: Emitter<A, B>,
+pub(crate) struct Opened {
+    pub(crate) tx: Sending,
     pub(crate) ports: Vec<TxPort>,
     pub(crate) monitor: Monitor,
 }
@@ -82,46 +70,19 @@ pub(crate) struct OpenedTwo {
     pub(crate) monitor: Monitor,
 }
 
-/// Opens a configuration over two networks that were handed nothing.
-pub(crate) fn open<R: Abort, A: Network + Drop, B: Network + Drop>(
-    rt: &R,
-    alloc: Global,
-    config: Config,
-    a: A,
-    b: B,
-) -> Opened<A, B>
-    requires a_empty { A.handed a ≡ [] }
-    requires b_empty { B.handed b ≡ [] }
-    requires a_new { A.failures a ≡ 0 }
-    requires b_new { B.failures b ≡ 0 }
+/// Opens a configuration over two networks that were handed nothing and fail at these hands.
+pub(crate) fn open<R: Abort>(rt: &R, alloc: Global, config: Config, fails: (u64, u64)) -> Opened
     ensures plan { result.tx.plan ≡ config }
     ensures fresh { AreFreshPorts result.tx result.ports.items }
     ensures ports { AreOpenedWith result.tx result.ports.items }
     ensures links { links_of result.monitor ≡ length config.links }
 {
+    let a = MemNetwork::failing_at(alloc, fails.0);
+    let b = MemNetwork::failing_at(alloc, fails.1);
     match open_tx(alloc, config, a, b) {
         Ok((tx, ports, monitor)) => Opened { tx, ports, monitor },
         Err(_) => panic!(rt; "no memory"),
     }
-}
-
-/// Opens a configuration over two networks that don't fail.
-pub(crate) fn open_standing<R: Abort>(
-    rt: &R,
-    alloc: Global,
-    config: Config,
-) -> Opened<MemNetwork, MemNetwork>
-    ensures plan { result.tx.plan ≡ config }
-    ensures ports { AreOpenedWith result.tx result.ports.items }
-    ensures links { links_of result.monitor ≡ length config.links }
-{
-    open(
-        rt,
-        alloc,
-        config,
-        MemNetwork::new(alloc),
-        MemNetwork::new(alloc),
-    )
 }
 
 /// Opens a configuration with one port, and with a link.
@@ -129,25 +90,20 @@ pub(crate) fn open_one<R: Abort>(
     rt: &R,
     alloc: Global,
     config: Config,
-    a: MemNetwork,
-    b: MemNetwork,
+    fails: (u64, u64),
 ) -> OpenedOne
-    requires a_empty { a.handed ≡ [] }
-    requires b_empty { b.handed ≡ [] }
-    requires a_new { a.failures ≡ 0 }
-    requires b_new { b.failures ≡ 0 }
     ensures plan { result.tx.plan ≡ config }
     ensures port { IsUnused result.tx result.port }
     ensures links { 0 < links_of result.monitor }
 {
     assert!(rt; !config.links().is_empty());
-    let Opened {
-        tx,
-        mut ports,
-        monitor,
-    } = open(rt, alloc, config, a, b);
-    let port = ports.pop().expect(rt, "a port");
-    OpenedOne { tx, port, monitor }
+    let mut opened = open(rt, alloc, config, fails);
+    let port = opened.ports.pop().expect(rt, "a port");
+    OpenedOne {
+        tx: opened.tx,
+        port,
+        monitor: opened.monitor,
+    }
 }
 
 /// Takes the last port of a list. The others stay, each one of its emitter.
@@ -163,67 +119,31 @@ pub(crate) fn open_two<R: Abort>(
     rt: &R,
     alloc: Global,
     config: Config,
-    a: MemNetwork,
-    b: MemNetwork,
+    fails: (u64, u64),
 ) -> OpenedTwo
-    requires a_empty { a.handed ≡ [] }
-    requires b_empty { b.handed ≡ [] }
-    requires a_new { a.failures ≡ 0 }
-    requires b_new { b.failures ≡ 0 }
     ensures first { IsPortOfTx result.tx result.first }
     ensures second { IsPortOfTx result.tx result.second }
     ensures links { links_of result.monitor ≡ length config.links }
 {
-    let Opened {
-        tx,
-        mut ports,
-        monitor,
-    } = open(rt, alloc, config, a, b);
-    let second = take_port(rt, &mut ports);
-    let first = take_port(rt, &mut ports);
+    let mut opened = open(rt, alloc, config, fails);
+    let second = take_port(rt, &mut opened.ports);
+    let first = take_port(rt, &mut opened.ports);
     OpenedTwo {
-        tx,
+        tx: opened.tx,
         first,
         second,
-        monitor,
+        monitor: opened.monitor,
     }
 }
 
-/// The same over two networks that don't fail.
-pub(crate) fn open_two_standing<R: Abort>(rt: &R, alloc: Global, config: Config) -> OpenedTwo
-    ensures first { IsPortOfTx result.tx result.first }
-    ensures second { IsPortOfTx result.tx result.second }
-{
-    open_two(
-        rt,
-        alloc,
-        config,
-        MemNetwork::new(alloc),
-        MemNetwork::new(alloc),
-    )
-}
-
 /// Opens the demonstration configuration, which has one port.
-pub(crate) fn open_demo<R: Abort>(rt: &R, alloc: Global, a: MemNetwork, b: MemNetwork) -> OpenedOne
-    requires a_empty { a.handed ≡ [] }
-    requires b_empty { b.handed ≡ [] }
-    requires a_new { a.failures ≡ 0 }
-    requires b_new { b.failures ≡ 0 }
+pub(crate) fn open_demo<R: Abort>(rt: &R, alloc: Global, fails: (u64, u64)) -> OpenedOne
     ensures plan { result.tx.plan ≡ demo_plan }
     ensures port { IsUnused result.tx result.port }
     ensures links { 0 < links_of result.monitor }
 {
     let config = demo_config(alloc).expect(rt, "memory");
-    open_one(rt, alloc, config, a, b)
-}
-
-/// The same over two networks that don't fail.
-pub(crate) fn open_demo_standing<R: Abort>(rt: &R, alloc: Global) -> OpenedOne
-    ensures plan { result.tx.plan ≡ demo_plan }
-    ensures port { IsUnused result.tx result.port }
-    ensures links { 0 < links_of result.monitor }
-{
-    open_demo(rt, alloc, MemNetwork::new(alloc), MemNetwork::new(alloc))
+    open_one(rt, alloc, config, fails)
 }
 
 /// Sends a message, which is taken. The port stays one of its emitter.
@@ -471,11 +391,26 @@ pub(crate) fn assert_counts<R: Abort>(rt: &R, tx: &Sending, link: u16, counts: O
     assert_same_counts(rt, tx.counts(VlId(link)), counts);
 }
 
-/// The release of the first sub-VL of link 1 with this number.
-pub(crate) fn numbered(number: u8) -> Release {
+/// The release of a sub-VL of a link with this number.
+pub(crate) fn release(vl: u16, sub: u8, number: u8) -> Release {
     Release {
-        vl: VlId(1),
-        sub: 0,
+        vl: VlId(vl),
+        sub,
         number,
+    }
+}
+
+/// The same of the first sub-VL of link 1.
+pub(crate) fn numbered(number: u8) -> Release {
+    release(1, 0, number)
+}
+
+/// The counts of a link.
+pub(crate) fn counts(frames: u64, bytes: u64, messages: u64, last: u64) -> Counts {
+    Counts {
+        frames,
+        bytes,
+        messages,
+        last,
     }
 }

@@ -1,29 +1,12 @@
 //! Tests of the demonstration configuration.
-use crate::testing::{
-    BOTH, NEITHER, OpenedOne, Sending, assert_both_down, assert_both_handed, assert_bytes,
-    assert_length, assert_moment, assert_none, assert_one, assert_poll, numbered, open_demo,
-    open_demo_standing, poll_at, send_taken,
-};
+use crate::testing::*;
 use redundant_mux::{MemNetwork, Standing};
-use std::alloc::Global;
-use std::process::Abort;
 
-// The first message of port 10, of the one byte 01, for network A and for network B.
-const FOR_A: [u8; 60] = [
-    0x03, 0x00, 0x00, 0x00, 0x00, 0x01, 0x02, 0x00, 0x00, 0x00, 0x01, 0x20, 0x08, 0x00, 0x45, 0x00,
-    0x00, 0x1d, 0x00, 0x00, 0x00, 0x00, 0x01, 0x11, 0xcd, 0xee, 0x0a, 0x00, 0x01, 0x01, 0xe0, 0xe0,
-    0x00, 0x01, 0x03, 0xe8, 0x07, 0xd0, 0x00, 0x09, 0x00, 0x00, 0x01, 0x00, 0x00, 0x00, 0x00, 0x00,
-    0x00, 0x00, 0x00, 0x00, 0x00, 0x00, 0x00, 0x00, 0x00, 0x00, 0x00, 0x00,
-];
-
-const FOR_B: [u8; 60] = [
-    0x03, 0x00, 0x00, 0x00, 0x00, 0x01, 0x02, 0x00, 0x00, 0x00, 0x01, 0x40, 0x08, 0x00, 0x45, 0x00,
-    0x00, 0x1d, 0x00, 0x00, 0x00, 0x00, 0x01, 0x11, 0xcd, 0xee, 0x0a, 0x00, 0x01, 0x01, 0xe0, 0xe0,
-    0x00, 0x01, 0x03, 0xe8, 0x07, 0xd0, 0x00, 0x09, 0x00, 0x00, 0x01, 0x00, 0x00, 0x00, 0x00, 0x00,
-    0x00, 0x00, 0x00, 0x00, 0x00, 0x00, 0x00, 0x00, 0x00, 0x00, 0x00, 0x00,
-];
-
-const ONLY_B: Standing = Standing { a: false, b: true };
+// The first message of port 10, of the one byte 01, for network A. That for network B has 0x40 at 11.
+const FOR_A: [u8; 60] = *b"\x03\x00\x00\x00\x00\x01\x02\x00\x00\x00\x01\x20\x08\x00\
+    \x45\x00\x00\x1d\x00\x00\x00\x00\x01\x11\xcd\xee\x0a\x00\x01\x01\xe0\xe0\x00\x01\
+    \x03\xe8\x07\xd0\x00\x09\x00\x00\x01\
+    \x00\x00\x00\x00\x00\x00\x00\x00\x00\x00\x00\x00\x00\x00\x00\x00\x00";
 
 /// Asserts that a network was handed this frame alone, at moment 0.
 fn assert_first(rt: &impl Abort, network: &MemNetwork, frame: &[u8]) {
@@ -36,18 +19,20 @@ fn assert_first(rt: &impl Abort, network: &MemNetwork, frame: &[u8]) {
 #[test]
 fn a_message_of_one_byte_goes_out_as_one_frame_on_each_network(rt: HostRuntime) {
     let alloc = rt.alloc();
-    let mut opened = open_demo_standing(&rt, alloc);
+    let mut opened = open_demo(&rt, alloc, NEVER);
     send_taken(&rt, alloc, &mut opened.port, &[1]);
     assert_one(&rt, &mut opened.tx, 0, numbered(0));
     let (a, b) = opened.tx.into_networks();
+    let mut for_b = FOR_A;
+    for_b[11] = 0x40;
     assert_first(&rt, &a, &FOR_A);
-    assert_first(&rt, &b, &FOR_B);
+    assert_first(&rt, &b, &for_b);
 }
 
 #[test]
 fn a_link_releases_nothing_before_its_gap_is_over(rt: HostRuntime) {
     let alloc = rt.alloc();
-    let mut opened = open_demo_standing(&rt, alloc);
+    let mut opened = open_demo(&rt, alloc, NEVER);
     send_taken(&rt, alloc, &mut opened.port, &[1]);
     send_taken(&rt, alloc, &mut opened.port, &[2]);
     assert_one(&rt, &mut opened.tx, 0, numbered(0));
@@ -79,9 +64,7 @@ fn assert_given_up<R: Abort>(rt: &R, tx: &mut Sending) {
 #[test]
 fn a_network_that_fails_is_given_up_and_after_both_a_poll_does_nothing(rt: HostRuntime) {
     let alloc = rt.alloc();
-    let a = MemNetwork::failing_at(alloc, 3);
-    let b = MemNetwork::failing_at(alloc, 6);
-    let mut opened = open_demo(&rt, alloc, a, b);
+    let mut opened = open_demo(&rt, alloc, (3, 6));
     send_taken(&rt, alloc, &mut opened.port, &[1]);
     send_and_poll(&rt, alloc, &mut opened);
     assert_given_up(&rt, &mut opened.tx);

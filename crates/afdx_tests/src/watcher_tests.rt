@@ -2,11 +2,9 @@
 ghost use Rattle.std.specs.Prelude.{◌<◌};
 ghost use Rattle.status_board.specs.Views.{links_of};
 
-use crate::testing::{Sending, assert_length, open_demo_standing, poll_at, send_taken};
+use crate::testing::*;
 use afdx_tx::TxPort;
 use status_board::{Counts, Monitor};
-use std::alloc::Global;
-use std::process::Abort;
 use std::sync::Wait;
 use std::thread;
 
@@ -61,7 +59,7 @@ fn send_and_publish<R: Abort + Wait>(rt: &R, alloc: Global, tx: &mut Sending, po
 
 #[test]
 fn a_watcher_reads_whole_counts_while_the_emitter_polls_and_publishes(rt: HostRuntime) {
-    let mut opened = open_demo_standing(&rt, rt.alloc());
+    let mut opened = open_demo(&rt, rt.alloc(), NEVER);
     let monitor = opened.monitor;
     let watcher = thread::spawn(&rt, move || watch(&rt, monitor)).expect(&rt, "a thread");
     send_and_publish(&rt, rt.alloc(), &mut opened.tx, &mut opened.port);

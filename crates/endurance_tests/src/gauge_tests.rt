@@ -1,7 +1,6 @@
 //! Tests of the network that takes the right frames alone.
 use crate::gauge::{FRAME, GAP, Gauge, Seen};
 use redundant_mux::Network;
-use std::process::Abort;
 
 // What a gauge looks at: the moment of a frame, and its interface identifier, identification, place in
 // the run and sequence number.

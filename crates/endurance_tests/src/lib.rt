@@ -1,15 +1,20 @@
-//! Tests of long runs, of the last moments that there are, and of networks that fail late.
+//! Tests of ports that send from threads of their own, of long runs, of the last moments that there are, and
+//! of networks that fail late.
 #![tactic(auto)]
 
 #[cfg(test)]
-mod edge_tests;
+mod closing_tests;
 #[cfg(test)]
-mod failing_tests;
+mod drained_tests;
 #[cfg(test)]
 mod gauge;
 #[cfg(test)]
 mod gauge_tests;
 #[cfg(test)]
 mod long_tests;
+#[cfg(test)]
+mod publishing_tests;
+#[cfg(test)]
+mod sending_tests;
 #[cfg(test)]
 mod testing;

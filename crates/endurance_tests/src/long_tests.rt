@@ -3,13 +3,11 @@ ghost use Rattle.std.specs.Prelude.{◌<◌};
 ghost use Rattle.status_board.specs.Views.{links_of};
 
 use crate::gauge::{FRAME, GAP, Gauge, Seen};
-use crate::testing::{BOTH, assert_report, open_demo, poll_at, send_taken};
-use afdx_tx::{Emitter, TxPort};
+use crate::testing::*;
+use afdx_plan::demo_config;
+use afdx_tx::{Emitter, TxPort, open_tx};
 use status_board::{Counts, Monitor};
-use std::alloc::Global;
-use std::process::Abort;
 use std::sync::Wait;
-use std::test::Fail;
 
 // How many messages go through the link.
 const MESSAGES: u64 = 1_000_000;
@@ -57,7 +55,13 @@ fn assert_counts<R: Abort + Wait>(rt: &R, monitor: &mut Monitor)
 #[test]
 fn a_million_messages_keep_number_gap_and_twin(rt: HostRuntime) -> Result<(), Fail> {
     let alloc = rt.alloc();
-    let (mut tx, mut port, mut monitor) = open_demo(alloc, Gauge::new(0x20), Gauge::new(0x40))?;
+    let config = demo_config(alloc)?;
+    assert!(rt; !config.links().is_empty());
+    let (a, b) = (Gauge::new(0x20), Gauge::new(0x40));
+    let Ok((mut tx, mut ports, mut monitor)) = open_tx(alloc, config, a, b) else {
+        return Err(Fail::from("no memory"));
+    };
+    let mut port = ports.pop().expect(&rt, "a port");
     for place in 0..MESSAGES {
         send_one(&rt, alloc, &mut tx, &mut port, place);
     }

@@ -1,62 +1,70 @@
 //! What the tests of this crate share.
-ghost use Rattle.std.specs.Prelude.{◌≡◌, ◌<◌, [], IfOk};
+ghost use Rattle.std.specs.Prelude.{◌≡◌, ◌≤◌, length};
 ghost use Rattle.status_board.specs.Views.{links_of};
 ghost use Rattle.afdx_tx.specs.Emitter.{Tx};
+ghost use Rattle.afdx_tx.specs.Gathering.{IsGatheredTx};
 ghost use Rattle.afdx_tx.specs.Ports.{PortView, IsPortOfTx, AreOpenedWith};
 
-use afdx_plan::{VlId, demo_config};
+pub(crate) use std::alloc::{AllocError, Global};
+pub(crate) use std::process::Abort;
+pub(crate) use std::test::Fail;
+
+use afdx_config::read_config;
+use afdx_plan::{Config, VlId, demo_config};
 use afdx_tx::{Draining, Emitter, PollFault, Release, Report, TxPort, open_tx};
 use redundant_mux::{MemNetwork, Network, Standing};
 use status_board::Monitor;
-use std::alloc::Global;
-use std::process::Abort;
-use std::test::Fail;
+
+pub(crate) type Sending = Emitter<MemNetwork, MemNetwork>;
 
 pub(crate) type Drain = Draining<MemNetwork, MemNetwork>;
 
 pub(crate) const BOTH: Standing = Standing { a: true, b: true };
 
-/// An emitter of the demonstration configuration over two networks, its ports and its monitor.
-fn open_all<A: Network + Drop, B: Network + Drop>(
-    alloc: Global,
-    a: A,
-    b: B,
-) -> Result<(Emitter<A, B>, Vec<TxPort>, Monitor), Fail>
-    requires a_empty { A.handed a ≡ [] }
-    requires b_empty { B.handed b ≡ [] }
-    requires a_new { A.failures a ≡ 0 }
-    requires b_new { B.failures b ≡ 0 }
-    ensures ports { IfOk result (λ opened. AreOpenedWith opened.0 opened.1.items) }
-    ensures monitor { IfOk result (λ opened. 0 < links_of opened.2) }
+/// The hands, counted from 1, at which A and B fail, where neither does.
+pub(crate) const NEVER: (u64, u64) = (u64::MAX, u64::MAX);
+
+/// What is opened: an emitter, its ports, and its monitor.
+#[derive(Drop)]
+pub(crate) struct Opened {
+    pub(crate) tx: Sending,
+    pub(crate) ports: Vec<TxPort>,
+    pub(crate) monitor: Monitor,
+}
+
+/// Opens a configuration over two networks that fail at these hands.
+pub(crate) fn open<R: Abort>(rt: &R, alloc: Global, config: Config, fails: (u64, u64)) -> Opened
+    ensures ports { AreOpenedWith result.tx result.ports.items }
+    ensures links { links_of result.monitor ≡ length config.links }
 {
-    let config = demo_config(alloc)?;
-    if config.links().is_empty() {
-        return Err(Fail::from("no link"));
-    }
+    let a = MemNetwork::failing_at(alloc, fails.0);
+    let b = MemNetwork::failing_at(alloc, fails.1);
     match open_tx(alloc, config, a, b) {
-        Ok(opened) => Ok(opened),
-        Err(_) => Err(Fail::from("no memory")),
+        Ok((tx, ports, monitor)) => Opened { tx, ports, monitor },
+        Err(_) => panic!(rt; "no memory"),
     }
 }
 
-/// An emitter of the demonstration configuration over two networks that were handed nothing, its one
-/// port, and its monitor.
-pub(crate) fn open_demo<A: Network + Drop, B: Network + Drop>(
-    alloc: Global,
-    a: A,
-    b: B,
-) -> Result<(Emitter<A, B>, TxPort, Monitor), Fail>
-    requires a_empty { A.handed a ≡ [] }
-    requires b_empty { B.handed b ≡ [] }
-    requires a_new { A.failures a ≡ 0 }
-    requires b_new { B.failures b ≡ 0 }
-    ensures port { IfOk result (λ opened. IsPortOfTx opened.0 opened.1) }
-    ensures monitor { IfOk result (λ opened. 0 < links_of opened.2) }
+/// Opens the plan of a text that is one, over networks that don't fail. It has so many links or more.
+pub(crate) fn open_text<R: Abort>(rt: &R, alloc: Global, text: &str, links: usize) -> Opened
+    ensures ports { AreOpenedWith result.tx result.ports.items }
+    ensures links { links ≤ links_of result.monitor }
 {
-    let (tx, mut ports, monitor) = open_all(alloc, a, b)?;
-    match ports.pop() {
-        Some(port) => Ok((tx, port, monitor)),
-        None => Err(Fail::from("no port")),
+    let config = read_config(alloc, text.as_bytes()).expect(rt, "a valid plan");
+    assert!(rt; links <= config.links().len());
+    open(rt, alloc, config, NEVER)
+}
+
+/// The emitter of the demonstration configuration over two networks that fail at these hands, and its
+/// one port.
+pub(crate) fn open_demo<R: Abort>(rt: &R, alloc: Global, fails: (u64, u64)) -> (Sending, TxPort)
+    ensures { IsPortOfTx result.0 result.1 }
+{
+    let config = demo_config(alloc).expect(rt, "memory");
+    let mut opened = open(rt, alloc, config, fails);
+    match opened.ports.pop() {
+        Some(port) => (opened.tx, port),
+        None => panic!(rt; "no port"),
     }
 }
 
@@ -90,36 +98,28 @@ pub(crate) fn drain_at<R: Abort>(
     draining.poll(now)
 }
 
-/// Gathers the one port.
-pub(crate) fn gather_one(
-    alloc: Global,
-    tx: Emitter<MemNetwork, MemNetwork>,
-    port: TxPort,
-) -> Result<Drain, Fail>
-    requires { IsPortOfTx tx port }
+/// Gathers all ports of an emitter.
+pub(crate) fn gather<R: Abort>(rt: &R, tx: Sending, ports: Vec<TxPort>) -> Drain
+    requires opened { AreOpenedWith tx ports.items }
+    ensures { IsGatheredTx tx ports.items result }
 {
-    let ports = Vec::from_array(alloc, [port])?;
     match tx.gather(ports) {
-        Ok(draining) => Ok(draining),
-        Err(_) => Err(Fail::from("the port is there")),
+        Ok(draining) => draining,
+        Err(_) => panic!(rt; "each port is there"),
     }
 }
 
-/// Asserts what a poll released, by the sequence number of the frame, if there was one, and which
-/// networks stood then.
+/// Asserts what a poll released while some network stood, by the sequence number of the frame, if there
+/// was one, and which networks stood then.
 pub(crate) fn assert_report(
     rt: &impl Abort,
     answer: Result<Report, PollFault>,
     number: Option<u8>,
     standing: Standing,
 ) {
-    match answer {
-        Ok(report) => {
-            assert_eq!(rt; report.standing, standing);
-            assert_released(rt, report.released.as_slice(), number);
-        }
-        Err(PollFault::BothDown) => panic!(rt; "some network stands"),
-    }
+    let report = answer.expect(rt, "some network stands");
+    assert_eq!(rt; report.standing, standing);
+    assert_released(rt, report.released.as_slice(), number);
 }
 
 /// Asserts that one frame of the link was released, with this sequence number, or none.

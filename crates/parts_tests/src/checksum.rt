@@ -3,11 +3,10 @@
 ghost use Rattle.std.specs.Prelude.{◌≡◌, ◌≤◌, length};
 ghost use Rattle.afdx_plan.specs.Plan.{IsPort, SendsOver};
 
-use crate::frame::{assert_same, demo_port, link};
+use crate::frame::{demo_port, link};
+use crate::testing::*;
 use afdx_frame::{Cut, Frame, Net};
 use afdx_plan::{LinkPlan, Lmax, PortPlan, UdpSum};
-use std::alloc::{AllocError, Global};
-use std::process::Abort;
 
 /// The demonstration port, with checksums.
 fn summing_port() -> PortPlan

@@ -3,36 +3,25 @@ ghost use Rattle.std.specs.Prelude.{◌≡◌, ◌<◌, ◌≤◌};
 ghost use Rattle.afdx_plan.specs.Plan.{IsPort, SendsOver};
 ghost use Rattle.afdx_frame.specs.Cutting.{SameMessage};
 
+use crate::testing::*;
 use afdx_frame::{Cut, Frame, Net, ident_of, more_of, offset_of, sn_of, sub_of, twin, vl_of};
 use afdx_plan::{Bag, Kind, LinkPlan, Lmax, Networks, PortId, PortPlan, UdpSum, VlId};
-use std::alloc::{AllocError, Global};
-use std::fmt::Debug;
-use std::process::Abort;
-
-/// Asserts that two values are the same. A test that calls this has a short proof, since an assertion
-/// of its own is long to prove.
-pub fn assert_same<V: PartialEq + Debug + Copy>(rt: &impl Abort, told: V, wanted: V) {
-    assert_eq!(rt; told, wanted);
-}
-
-/// Asserts that two values are the same, and tells the place where they are not.
-pub fn assert_same_at<V: PartialEq + Debug + Copy, P: Debug + Copy>(
-    rt: &impl Abort,
-    told: V,
-    wanted: V,
-    place: P,
-) {
-    assert_eq!(rt; told, wanted, "at {place:?}");
-}
 
 // the MAC addresses and the type of each frame below: link 1, end system 1, network A
 const LINK_HEADER: &[u8; 14] = b"\x03\x00\x00\x00\x00\x01\x02\x00\x00\x00\x01\x20\x08\x00";
 
-// the demonstration port's message 01 at place 0, with number 0
-const FIRST_FRAME: &[u8; 60] = b"\x03\x00\x00\x00\x00\x01\x02\x00\x00\x00\x01\x20\x08\x00\
+/// The demonstration port's message 01 at place 0, with number 0.
+pub const FIRST_FRAME: [u8; 60] = *b"\x03\x00\x00\x00\x00\x01\x02\x00\x00\x00\x01\x20\x08\x00\
     \x45\x00\x00\x1d\x00\x00\x00\x00\x01\x11\xcd\xee\x0a\x00\x01\x01\xe0\xe0\x00\x01\
     \x03\xe8\x07\xd0\x00\x09\x00\x00\x01\
     \x00\x00\x00\x00\x00\x00\x00\x00\x00\x00\x00\x00\x00\x00\x00\x00\x00";
+
+/// Its twin, for network B.
+pub fn first_frame_for_b() -> [u8; 60] {
+    let mut twin = FIRST_FRAME;
+    twin[11] = 0x40;
+    twin
+}
 
 /// Appends a frame of network A, whose piece is what is given and then so many bytes `aa`.
 fn push_frame(
@@ -115,7 +104,7 @@ fn a_short_message_is_one_padded_frame(rt: HostRuntime) {
     let mut cut = cut_of_one(&rt, rt.alloc(), &demo_port(), 0);
     assert_same(&rt, cut.is_done(), false);
     let link = link(Lmax::new(1518), 1);
-    assert_next(&rt, &mut cut, &link, 0, FIRST_FRAME, true);
+    assert_next(&rt, &mut cut, &link, 0, &FIRST_FRAME, true);
 }
 
 #[test]
@@ -124,8 +113,7 @@ fn the_twin_differs_in_the_interface_alone(rt: HostRuntime) {
     let mut frame = Frame::new();
     let was_left = cut.write_next(&link(Lmax::new(1518), 1), 1, 0, Net::B, &mut frame);
     assert_same(&rt, was_left, true);
-    let mut expected = *FIRST_FRAME;
-    expected[11] = 0x40;
+    let expected = first_frame_for_b();
     assert_same(&rt, frame.as_slice(), expected.as_slice());
     let twin = twin(&frame, Net::A);
     assert_same(&rt, twin.as_slice(), FIRST_FRAME.as_slice());
@@ -348,7 +336,7 @@ fn the_readers_give_the_fields_of_a_last_fragment(rt: HostRuntime) {
 fn a_flipped_bit_is_read_only_in_the_piece_and_the_number(rt: HostRuntime) {
     for place in 0..60usize {
         for bit in 0..8u8 {
-            let mut bytes = *FIRST_FRAME;
+            let mut bytes = FIRST_FRAME;
             bytes[place] ^= 1 << bit;
             // the piece lies at 34 to 42, its padding at 43 to 58, and the number at 59
             let is_read = (place >= 34 && place <= 42) || place == 59;
@@ -368,7 +356,7 @@ fn a_flipped_bit_is_read_only_in_the_piece_and_the_number(rt: HostRuntime) {
 #[test]
 fn a_frame_cut_short_or_padded_with_ones_is_no_frame(rt: HostRuntime) {
     assert_same(&rt, vl_of(&FIRST_FRAME[..59]), None);
-    let mut padded = *FIRST_FRAME;
+    let mut padded = FIRST_FRAME;
     padded[50] = 1;
     assert_same(&rt, vl_of(&padded), None);
     assert_same(&rt, more_of(&[]), None);

@@ -3,32 +3,17 @@ ghost use Rattle.std.specs.Prelude.{◌≡◌};
 ghost use Rattle.afdx_frame.specs.Twin.{twin_of};
 ghost use Rattle.afdx_frame.specs.declared.net.Net.TheVariants.{A as ForA};
 
-use crate::frame::assert_same;
+use crate::frame::{FIRST_FRAME, first_frame_for_b};
+use crate::testing::*;
 use afdx_frame::Frame;
 use afdx_plan::Networks;
 use redundant_mux::{BothDown, HandFault, MemNetwork, Mux, Network, Standing};
-use std::process::Abort;
-
-// A message of one byte on virtual link 1, for network A and for network B.
-const FOR_A: [u8; 60] = [
-    0x03, 0x00, 0x00, 0x00, 0x00, 0x01, 0x02, 0x00, 0x00, 0x00, 0x01, 0x20, 0x08, 0x00, 0x45, 0x00,
-    0x00, 0x1d, 0x00, 0x00, 0x00, 0x00, 0x01, 0x11, 0xcd, 0xee, 0x0a, 0x00, 0x01, 0x01, 0xe0, 0xe0,
-    0x00, 0x01, 0x03, 0xe8, 0x07, 0xd0, 0x00, 0x09, 0x00, 0x00, 0x01, 0x00, 0x00, 0x00, 0x00, 0x00,
-    0x00, 0x00, 0x00, 0x00, 0x00, 0x00, 0x00, 0x00, 0x00, 0x00, 0x00, 0x00,
-];
-
-const FOR_B: [u8; 60] = [
-    0x03, 0x00, 0x00, 0x00, 0x00, 0x01, 0x02, 0x00, 0x00, 0x00, 0x01, 0x40, 0x08, 0x00, 0x45, 0x00,
-    0x00, 0x1d, 0x00, 0x00, 0x00, 0x00, 0x01, 0x11, 0xcd, 0xee, 0x0a, 0x00, 0x01, 0x01, 0xe0, 0xe0,
-    0x00, 0x01, 0x03, 0xe8, 0x07, 0xd0, 0x00, 0x09, 0x00, 0x00, 0x01, 0x00, 0x00, 0x00, 0x00, 0x00,
-    0x00, 0x00, 0x00, 0x00, 0x00, 0x00, 0x00, 0x00, 0x00, 0x00, 0x00, 0x00,
-];
 
 fn frame_for_a() -> Frame
     ensures { twin_of ForA result.items ≡ result.items }
 {
     let mut frame = Frame::new();
-    if frame.try_extend_from_slice(&FOR_A).is_err() {
+    if frame.try_extend_from_slice(&FIRST_FRAME).is_err() {
         unreachable!();
     }
     frame
@@ -72,9 +57,9 @@ fn both_networks_keep_a_frame_that_differs_in_byte_11_alone(rt: HostRuntime) {
     assert_same(&rt, standing, Ok(Standing { a: true, b: true }));
     let (a, b) = mux.into_networks();
     assert_counts(&rt, &a, 1, 0);
-    assert_handed(&rt, &a, 0, 7, &FOR_A);
+    assert_handed(&rt, &a, 0, 7, &FIRST_FRAME);
     assert_counts(&rt, &b, 1, 0);
-    assert_handed(&rt, &b, 0, 7, &FOR_B);
+    assert_handed(&rt, &b, 0, 7, &first_frame_for_b());
 }
 
 #[test]
@@ -119,9 +104,9 @@ fn a_frame_for_one_network_goes_to_it_alone_and_nowhere_where_it_is_down(rt: Hos
     assert_same(&rt, mux.stands_for(Networks::Both), true);
     let (a, b) = mux.into_networks();
     assert_counts(&rt, &a, 1, 1);
-    assert_handed(&rt, &a, 0, 0, &FOR_A);
+    assert_handed(&rt, &a, 0, 0, &FIRST_FRAME);
     assert_counts(&rt, &b, 1, 0);
-    assert_handed(&rt, &b, 0, 1, &FOR_B);
+    assert_handed(&rt, &b, 0, 1, &first_frame_for_b());
 }
 
 #[test]
@@ -134,8 +119,8 @@ fn each_network_is_seen_with_what_was_handed_to_it_so_far(rt: HostRuntime) {
     assert_counts(&rt, mux.network_a(), 0, 0);
     assert_counts(&rt, mux.network_b(), 0, 0);
     assert_same(&rt, hand(&mut mux, 7), Ok(Standing { a: true, b: true }));
-    assert_handed(&rt, mux.network_a(), 0, 7, &FOR_A);
-    assert_handed(&rt, mux.network_b(), 0, 7, &FOR_B);
+    assert_handed(&rt, mux.network_a(), 0, 7, &FIRST_FRAME);
+    assert_handed(&rt, mux.network_b(), 0, 7, &first_frame_for_b());
     assert_same(&rt, hand(&mut mux, 8), Ok(Standing { a: true, b: false }));
     assert_counts(&rt, mux.network_a(), 2, 0);
     assert_counts(&rt, mux.network_b(), 1, 1);
@@ -143,7 +128,7 @@ fn each_network_is_seen_with_what_was_handed_to_it_so_far(rt: HostRuntime) {
     assert_same(&rt, hand(&mut mux, 10), Err(BothDown));
     assert_counts(&rt, mux.network_a(), 2, 1);
     assert_counts(&rt, mux.network_b(), 1, 1);
-    assert_handed(&rt, mux.network_a(), 1, 8, &FOR_A);
+    assert_handed(&rt, mux.network_a(), 1, 8, &FIRST_FRAME);
 }
 
 #[test]

@@ -1,9 +1,8 @@
 //! Tests of the regulation of a link.
 ghost use Rattle.std.specs.Prelude.{◌≡◌, true};
 
-use crate::frame::{assert_same, assert_same_at};
+use crate::testing::*;
 use afdx_plan::Bag;
-use std::process::Abort;
 use vl_shaper::Shaper;
 
 // Asserts that a link is due, where what follows rests on it.
@@ -47,10 +46,7 @@ fn a_link_that_released_at_the_last_moment_is_not_due_again(rt: HostRuntime) {
 fn the_numbers_are_0_then_1_to_255_then_1_again(rt: HostRuntime) {
     let mut shaper = Shaper::new(Bag::Ms1, 1);
     for i in 0..258u64 {
-        let number = match i {
-            0..=255 => i as u8,
-            _ => (i - 255) as u8,
-        };
+        let number = if i < 256 { i as u8 } else { (i - 255) as u8 };
         assert_due(&rt, shaper.due(1_000 * i));
         assert_same_at(&rt, shaper.stamp(1_000 * i, 0), number, i);
     }
@@ -60,19 +56,11 @@ fn the_numbers_are_0_then_1_to_255_then_1_again(rt: HostRuntime) {
 fn sub_vls_are_asked_in_cyclic_order_behind_the_one_served_last(rt: HostRuntime) {
     let mut shaper = Shaper::new(Bag::Ms1, 4);
     assert_same(&rt, shaper.sub_vls(), 4);
-    let first = [
-        shaper.turn(0),
-        shaper.turn(1),
-        shaper.turn(2),
-        shaper.turn(3),
-    ];
-    assert_same(&rt, first, [0, 1, 2, 3]);
+    for place in 0..4 {
+        assert_same(&rt, shaper.turn(place), place);
+    }
     shaper.stamp(0, 2);
-    let next = [
-        shaper.turn(0),
-        shaper.turn(1),
-        shaper.turn(2),
-        shaper.turn(3),
-    ];
-    assert_same(&rt, next, [3, 0, 1, 2]);
+    for (place, sub) in [(0, 3), (1, 0), (2, 1), (3, 2)] {
+        assert_same(&rt, shaper.turn(place), sub);
+    }
 }

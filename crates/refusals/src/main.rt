@@ -1,17 +1,26 @@
-//! What calls of the library answer where memory is refused: a case for each word, of `refusal_cases` and
-//! of a storm. Without a word all cases are run.
+//! What calls of the library answer where memory is refused: a case for each word. A call that is refused
+//! prints its fault, and is made once more. Without a word all cases are run.
 #![tactic(auto)]
 
+mod boards;
+mod configs;
+mod hands;
+mod lines;
+mod opening;
+mod parts;
+mod polls;
+mod queues;
+mod quiet;
+mod scripts;
+mod shelf;
 mod storms;
+mod trouble;
 
-use refusal_cases::{
-    Trouble, boards, configs, hands, lines, opening, parts, queues, quiet, scripts,
-};
-use std::alloc::Global;
-use std::io::{self, Write};
+use std::io;
 use std::process::ExitCode;
 use std::sync::Wait;
 use std::thread::Threads;
+use trouble::*;
 
 /// The words that name cases, in the order in which all are run.
 const CASES: [&str; 11] = [

@@ -1,25 +1,22 @@
 //! A storm of messages.
+use crate::trouble::*;
 use afdx_config::read_config;
 use afdx_plan::{Config, LinkPlan};
-use refusal_cases::Trouble;
-use std::alloc::Global;
-use std::io::Write;
 use std::sync::Wait;
 use std::thread::Threads;
 use storm::{OpenGate, StormFault, StormReport, storm};
 use storm_report::write_totals;
 
 /// One link of two sub-VLs, with two ports on each.
-const PLAN: &str = "[end_system]\nid = 1\n\
-    [[vl]]\nid = 1\nbag_ms = 1\nlmax = 1518\nsub_vls = 2\ncapacity = 256\n\
-    [[port]]\nid = 1\nvl = 1\nsub = 0\npartition = 1\nkind = \"queuing\"\n\
-    source = 1000\ndestination = 2000\nmax = 64\n\
-    [[port]]\nid = 2\nvl = 1\nsub = 0\npartition = 2\nkind = \"queuing\"\n\
-    source = 1000\ndestination = 2000\nmax = 64\n\
-    [[port]]\nid = 3\nvl = 1\nsub = 1\npartition = 3\nkind = \"queuing\"\n\
-    source = 1000\ndestination = 2000\nmax = 64\n\
-    [[port]]\nid = 4\nvl = 1\nsub = 1\npartition = 4\nkind = \"queuing\"\n\
-    source = 1000\ndestination = 2000\nmax = 64\n";
+const PLAN: &str = "end_system = { id = 1 }
+vl = [{ id = 1, bag_ms = 1, lmax = 1518, sub_vls = 2, capacity = 256 }]
+port = [
+    { id = 1, vl = 1, sub = 0, partition = 1, kind = 'queuing', source = 1000, destination = 2000, max = 64 },
+    { id = 2, vl = 1, sub = 0, partition = 2, kind = 'queuing', source = 1000, destination = 2000, max = 64 },
+    { id = 3, vl = 1, sub = 1, partition = 3, kind = 'queuing', source = 1000, destination = 2000, max = 64 },
+    { id = 4, vl = 1, sub = 1, partition = 4, kind = 'queuing', source = 1000, destination = 2000, max = 64 },
+]
+";
 
 /// How many messages each port sends, and how often each thread may try.
 const MESSAGES: u32 = 100;

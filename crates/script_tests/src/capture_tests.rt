@@ -1,6 +1,7 @@
+//! Tests of captures.
+use crate::helpers::*;
 use capture::write_capture;
 use redundant_mux::Network;
-use std::alloc::{AllocError, Global};
 use std::test::Fail;
 use transcript::FrameLog;
 

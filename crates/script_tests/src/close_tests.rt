@@ -1,19 +1,13 @@
-use crate::helpers::{
-    FIRST, NETS, Small, assert_run, assert_run_over, assert_sent, at_line, expected, frame_lines,
-    joined, push_small, repeated, sums,
-};
-use crate::plan_tests::{HEAD, IN_TURN, PORT_REST, plan_in_turn};
-use std::alloc::{AllocError, Global};
+//! Tests of scripts that close sub-VLs.
+use crate::helpers::*;
+use crate::plan_tests::SENT_IN_TURN;
+use crate::plans::{DEMO, IN_TURN, changed};
 use tx_script::LineFault;
 
 // The message 02, a gap behind the first one.
-const SECOND: Small = Small {
-    at: 1000,
-    ident: 4,
-    checksum: 0xcdea,
-    byte: 2,
-    number: 1,
-};
+fn second() -> Small {
+    one_byte(1_000, 4, 0xcdea, 2, 1)
+}
 
 #[test]
 fn a_closed_sub_vl_sends_what_it_accepted_and_takes_no_more(rt: HostRuntime) {
@@ -25,31 +19,31 @@ fn a_closed_sub_vl_sends_what_it_accepted_and_takes_no_more(rt: HostRuntime) {
     ];
     for script in scripts {
         let told = Ok(sums(2, 2, 2));
-        let sent = [FIRST, SECOND];
+        let sent = [first(), second()];
         assert_sent(&rt, rt.alloc(), script.as_bytes(), told, notes, &sent);
     }
 }
 
-// The demonstration's configuration, whose link has two sub-VLs.
-const TWO_SUB_VLS: &str = "[end_system]\nid = 1\n\
-    [[vl]]\nid = 1\nbag_ms = 1\nlmax = 1518\nsub_vls = 2\ncapacity = 2\n\
-    [[port]]\nid = 10\nvl = 1\nsub = 0\npartition = 1\nkind = \"queuing\"\n\
-    source = 1000\ndestination = 2000\nmax = 8192\n";
+// Asserts what a script over the demonstration comes to, whose link has two sub-VLs, and its notes. It sends
+// one message.
+fn assert_noted(rt: &impl Abort, alloc: Global, script: &str, refused: u64, notes: &str) {
+    let plan = changed(rt, alloc, DEMO, &[("sub_vls = 1", "sub_vls = 2")]);
+    let wanted = expected(alloc, notes, &[first()]).expect(rt, "memory");
+    assert_run_over(rt, alloc, &plan, script, sums(1, refused, 1), &wanted);
+}
 
 #[test]
 fn a_sub_vl_that_no_port_sends_on_closes_with_0(rt: HostRuntime) {
-    let wanted = expected(rt.alloc(), "line 1: closed 0\n", &[FIRST]).expect(&rt, "memory");
     let script = "close 1 1\nsend 10 01\nat 0\n";
-    assert_run_over(&rt, rt.alloc(), TWO_SUB_VLS, script, sums(1, 0, 1), &wanted);
+    assert_noted(&rt, rt.alloc(), script, 0, "line 1: closed 0\n");
 }
 
 #[test]
 fn a_sub_vl_that_is_not_there_is_not_closed(rt: HostRuntime) {
     let notes = "line 1: refused NoSub\nline 2: refused NoSub\nline 3: refused NoSub\n\
                  line 4: refused NoSub\n";
-    let wanted = expected(rt.alloc(), notes, &[FIRST]).expect(&rt, "memory");
     let script = "close 0 0\nclose 2 0\nclose 1 2\nclose 65535 255\nsend 10 01\nat 0\n";
-    assert_run_over(&rt, rt.alloc(), TWO_SUB_VLS, script, sums(1, 4, 1), &wanted);
+    assert_noted(&rt, rt.alloc(), script, 4, notes);
 }
 
 #[test]
@@ -57,7 +51,7 @@ fn a_total_counts_messages_that_went_out_too(rt: HostRuntime) {
     let notes = "line 4: closed 2\nline 6: closed 2\n";
     let script = b"send 10 01\nat 0\nsend 10 02\nclose 1 0\nat 1000\nclose 1 0\nat 2000\n";
     let told = Ok(sums(2, 0, 2));
-    let sent = [FIRST, SECOND];
+    let sent = [first(), second()];
     assert_sent(&rt, rt.alloc(), script.as_slice(), told, notes, &sent);
 }
 
@@ -72,20 +66,17 @@ fn script_of_two_closes(alloc: Global) -> Result<String, AllocError> {
 
 // What is written of it.
 fn text_of_two_closes(alloc: Global) -> Result<String, AllocError> {
-    let frames = frame_lines(alloc, &IN_TURN)?;
+    let frames = frame_lines(alloc, &SENT_IN_TURN)?;
     let first = "line 4: closed 1\nline 6: refused Closed\n";
-    joined(
-        alloc,
-        &[first, "line 7: closed 2\nline 8: refused Closed\n", &frames],
-    )
+    let second = "line 7: closed 2\nline 8: refused Closed\n";
+    joined(alloc, &[first, second, &frames])
 }
 
 #[test]
 fn a_message_that_is_being_sent_goes_out_whole_from_a_closed_sub_vl(rt: HostRuntime) {
-    let plan = plan_in_turn(rt.alloc()).expect(&rt, "memory");
     let script = script_of_two_closes(rt.alloc()).expect(&rt, "memory");
     let wanted = text_of_two_closes(rt.alloc()).expect(&rt, "memory");
-    assert_run_over(&rt, rt.alloc(), &plan, &script, sums(3, 2, 5), &wanted);
+    assert_run_over(&rt, rt.alloc(), IN_TURN, &script, sums(3, 2, 5), &wanted);
 }
 
 #[test]
@@ -97,45 +88,25 @@ fn totals_so_far_are_written_after_a_fault(rt: HostRuntime) {
 }
 
 // Two links of two sub-VLs, and a port on each sub-VL.
-fn plan_of_two_links(alloc: Global) -> Result<String, AllocError> {
-    let rest = "bag_ms = 1\nlmax = 1518\nsub_vls = 2\ncapacity = 2\n";
-    let links = joined(
-        alloc,
-        &[HEAD, "[[vl]]\nid = 1\n", rest, "[[vl]]\nid = 2\n", rest],
-    )?;
-    let on_first = joined(
-        alloc,
-        &[
-            "[[port]]\nid = 10\nvl = 1\nsub = 0\nsource = 1000\n",
-            PORT_REST,
-            "[[port]]\nid = 11\nvl = 1\nsub = 1\nsource = 1001\n",
-            PORT_REST,
-        ],
-    )?;
-    let on_second = joined(
-        alloc,
-        &[
-            "[[port]]\nid = 20\nvl = 2\nsub = 0\nsource = 1000\n",
-            PORT_REST,
-            "[[port]]\nid = 21\nvl = 2\nsub = 1\nsource = 1001\n",
-            PORT_REST,
-        ],
-    )?;
-    joined(alloc, &[&links, &on_first, &on_second])
-}
+const TWO_LINKS: &str = "end_system = { id = 1 }
+vl = [
+    { id = 1, bag_ms = 1, lmax = 1518, sub_vls = 2, capacity = 2 },
+    { id = 2, bag_ms = 1, lmax = 1518, sub_vls = 2, capacity = 2 },
+]
+port = [
+    { id = 10, vl = 1, sub = 0, partition = 1, kind = 'queuing', source = 1000, destination = 2000, max = 8192 },
+    { id = 11, vl = 1, sub = 1, partition = 1, kind = 'queuing', source = 1001, destination = 2000, max = 8192 },
+    { id = 20, vl = 2, sub = 0, partition = 1, kind = 'queuing', source = 1000, destination = 2000, max = 8192 },
+    { id = 21, vl = 2, sub = 1, partition = 1, kind = 'queuing', source = 1001, destination = 2000, max = 8192 },
+]
+";
 
 // A message of one byte that went out on a link: the link, the UDP port that it comes from, and the
 // moment, the identification, the byte and the number of its frame. The header checksum goes down by one
 // for each one that the link and the identification go up.
 fn on_link(vl: u16, source: u16, at: u64, ident: u16, byte: u8, number: u8) -> ((u16, u16), Small) {
-    let small = Small {
-        at,
-        ident,
-        checksum: 0xcdefu16.wrapping_sub(vl).wrapping_sub(ident),
-        byte,
-        number,
-    };
-    ((vl, source), small)
+    let checksum = 0xcdefu16.wrapping_sub(vl).wrapping_sub(ident);
+    ((vl, source), one_byte(at, ident, checksum, byte, number))
 }
 
 // The notes, and what both links send on A, and then on B.
@@ -148,8 +119,7 @@ fn text_of_two_links(alloc: Global, notes: &str) -> Result<String, AllocError> {
         on_link(1, 1001, 2_000, 5, 8, 2),
         on_link(2, 1000, 2_000, 4, 7, 2),
     ];
-    let mut text = String::new(alloc);
-    text.push_str(notes)?;
+    let mut text = notes.to_string(alloc)?;
     for net in &NETS {
         for message in &sent {
             push_small(&mut text, *net, message.0, &message.1)?;
@@ -160,11 +130,10 @@ fn text_of_two_links(alloc: Global, notes: &str) -> Result<String, AllocError> {
 
 #[test]
 fn a_close_closes_no_other_sub_vl_of_its_link_or_of_another(rt: HostRuntime) {
-    let plan = plan_of_two_links(rt.alloc()).expect(&rt, "memory");
     let notes =
         "line 2: closed 1\nline 3: refused Closed\nline 7: closed 1\nline 8: refused Closed\n";
     let wanted = text_of_two_links(rt.alloc(), notes).expect(&rt, "memory");
     let script = "send 10 01\nclose 1 0\nsend 10 02\nsend 11 03\nsend 20 04\nsend 21 05\n\
                   close 2 1\nsend 21 06\nsend 20 07\nsend 11 08\nat 0\nat 1000\nat 2000\n";
-    assert_run_over(&rt, rt.alloc(), &plan, script, sums(6, 2, 6), &wanted);
+    assert_run_over(&rt, rt.alloc(), TWO_LINKS, script, sums(6, 2, 6), &wanted);
 }

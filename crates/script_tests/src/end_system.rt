@@ -1,12 +1,72 @@
 //! An end system of one link with two sub-VLs, and a port on each, as bounded lists. It stands on
 //! none of the crates that are tested.
-use crate::frame_text::{NETS, Sent, push_frame};
-use crate::sub_vls::{Sub, SubVls};
-use std::alloc::{AllocError, Global};
+use crate::helpers::*;
 use std::fmt::Write;
+
+/// How many messages a sub-VL holds at most.
+const CAPACITY: usize = 2;
 
 /// The link's bandwidth allocation gap in microseconds.
 const GAP: u64 = 1_000;
+
+/// One of the two sub-VLs.
+#[derive(Clone, Copy)]
+pub enum Sub {
+    First,
+    Second,
+}
+
+impl Sub {
+    fn other(self) -> Sub {
+        match self {
+            Sub::First => Sub::Second,
+            Sub::Second => Sub::First,
+        }
+    }
+}
+
+/// The identifications of the messages that a sub-VL accepted and did not yet send, the one that comes
+/// next, how many messages were accepted in all, and whether no more are.
+#[derive(Drop)]
+struct Queue {
+    held: Vec<u16>,
+    next: u16,
+    accepted: u64,
+    closed: bool,
+}
+
+impl Queue {
+    fn new(alloc: Global, next: u16) -> Queue {
+        Queue {
+            held: Vec::new(alloc),
+            next,
+            accepted: 0,
+            closed: false,
+        }
+    }
+
+    /// Accepts a message, or answers the name of its refusal.
+    fn send(&mut self) -> Result<Option<&'static str>, AllocError> {
+        if self.closed {
+            return Ok(Some("Closed"));
+        }
+        if self.held.len() == CAPACITY {
+            return Ok(Some("Full"));
+        }
+        self.held.push(self.next)?;
+        self.next = self.next.wrapping_add(4);
+        self.accepted = self.accepted.saturating_add(1);
+        Ok(None)
+    }
+
+    /// The message that was accepted first of those that it holds.
+    fn take(&mut self) -> Option<u16> {
+        if self.held.is_empty() {
+            return None;
+        }
+        Some(self.held.remove(0))
+    }
+}
 
 /// What a line of a script says: the message of a sub-VL's port, a poll at a moment, or the close of
 /// the first sub-VL.
@@ -17,14 +77,16 @@ pub enum Line {
     CloseFirst,
 }
 
-/// The end system, with the notes on the lines that it obeyed, what it handed to each network, and
-/// how many messages it accepted and lines it refused.
+/// The end system: its sub-VLs, and which of them is asked first; the moment of the last poll; the moments
+/// and identifications of the messages that it sent; the notes on the lines that it obeyed; how many messages
+/// it accepted and lines it refused.
 #[derive(Drop)]
 pub struct EndSystem {
-    sub_vls: SubVls,
-    // the moment of the last poll
+    first: Queue,
+    second: Queue,
+    turn: Sub,
     now: u64,
-    sent: Vec<Sent>,
+    sent: Vec<(u64, u16)>,
     notes: String,
     accepted: u64,
     refused: u64,
@@ -33,7 +95,9 @@ pub struct EndSystem {
 impl EndSystem {
     pub fn new(alloc: Global) -> EndSystem {
         EndSystem {
-            sub_vls: SubVls::new(alloc),
+            first: Queue::new(alloc, 0),
+            second: Queue::new(alloc, 1),
+            turn: Sub::First,
             now: 0,
             sent: Vec::new(alloc),
             notes: String::new(alloc),
@@ -45,50 +109,66 @@ impl EndSystem {
     /// Does what a line says, which has this number.
     pub fn obey(&mut self, number: u32, said: Line) -> Result<(), AllocError> {
         match said {
-            Line::Send(sub) => self.send(number, sub),
-            Line::At(moment) => self.poll(number, moment),
-            Line::CloseFirst => self.close(number),
+            Line::Send(Sub::First) => {
+                let answer = self.first.send()?;
+                self.count(number, answer)
+            }
+            Line::Send(Sub::Second) => {
+                let answer = self.second.send()?;
+                self.count(number, answer)
+            }
+            Line::At(moment) if moment < self.now => self.refuse(number, "TimeBack"),
+            Line::At(moment) => self.poll(moment),
+            Line::CloseFirst => {
+                self.first.closed = true;
+                writeln!(self.notes, "line {number}: closed {}", self.first.accepted)
+            }
         }
     }
 
-    fn send(&mut self, number: u32, sub: Sub) -> Result<(), AllocError> {
-        if let Some(name) = self.sub_vls.send(sub)? {
-            return self.refuse(number, name);
-        }
-        self.accepted = self.accepted.saturating_add(1);
-        Ok(())
-    }
-
-    fn poll(&mut self, number: u32, moment: u64) -> Result<(), AllocError> {
-        if moment < self.now {
-            return self.refuse(number, "TimeBack");
-        }
-        self.now = moment;
-        if !self.is_due() {
-            return Ok(());
-        }
-        if let Some(message) = self.sub_vls.next_message() {
-            let at = moment;
-            self.sent.push(Sent { at, message })?;
-        }
-        Ok(())
-    }
-
-    fn close(&mut self, number: u32) -> Result<(), AllocError> {
-        let total = self.sub_vls.close_first();
-        writeln!(self.notes, "line {number}: closed {total}")
-    }
-
-    fn is_due(&self) -> bool {
-        match self.sent.last() {
-            Some(sent) => self.now.saturating_sub(sent.at) >= GAP,
-            None => true,
+    /// Counts a message that was sent, or notes its refusal.
+    fn count(&mut self, number: u32, refusal: Option<&str>) -> Result<(), AllocError> {
+        match refusal {
+            Some(name) => self.refuse(number, name),
+            None => {
+                self.accepted = self.accepted.saturating_add(1);
+                Ok(())
+            }
         }
     }
 
     fn refuse(&mut self, number: u32, name: &str) -> Result<(), AllocError> {
         self.refused = self.refused.saturating_add(1);
         writeln!(self.notes, "line {number}: refused {name}")
+    }
+
+    fn poll(&mut self, moment: u64) -> Result<(), AllocError> {
+        self.now = moment;
+        let is_due = match self.sent.last() {
+            Some((at, _ident)) => moment.saturating_sub(*at) >= GAP,
+            None => true,
+        };
+        if is_due {
+            if let Some(ident) = self.next_message() {
+                self.sent.push((moment, ident))?;
+            }
+        }
+        Ok(())
+    }
+
+    /// A message of the sub-VL whose turn it is, or of the other one where that has none.
+    fn next_message(&mut self) -> Option<u16> {
+        for sub in [self.turn, self.turn.other()] {
+            let taken = match sub {
+                Sub::First => self.first.take(),
+                Sub::Second => self.second.take(),
+            };
+            if taken.is_some() {
+                self.turn = sub.other();
+                return taken;
+            }
+        }
+        None
     }
 
     /// How many messages were accepted, how many lines refused, and how many frames went out.
@@ -100,10 +180,21 @@ impl EndSystem {
     pub fn transcript(self) -> Result<String, AllocError> {
         let mut text = self.notes;
         for net in NETS {
-            for (number, sent) in self.sent.iter().enumerate() {
-                push_frame(&mut text, net, sent, number)?;
+            for (place, (at, ident)) in self.sent.iter().enumerate() {
+                let sub = ident % 4;
+                let number = u8::try_from(place).unwrap_or(0);
+                let message = one_byte(*at, *ident, checksum(*ident), 1 + sub as u8, number);
+                push_small(&mut text, net, (1, 1000 + sub), &message)?;
             }
         }
         Ok(text)
     }
+}
+
+/// The checksum of the IPv4 header of a message of one byte: with it, the sum of the header's words is a
+/// multiple of 65,535.
+fn checksum(ident: u16) -> u16 {
+    let fixed = 0x4500 + 0x001d + 0x0111 + 0x0a00 + 0x0101 + 0xe0e0 + 0x0001;
+    let sum = fixed + u32::from(ident);
+    (0xffff - sum % 0xffff) as u16
 }

@@ -1,10 +1,12 @@
-//! What tests of scripts share.
+//! What tests of scripts and of the program's parts share.
 use afdx_config::read_config;
 use afdx_plan::demo_config;
-use std::alloc::{AllocError, Global};
-use std::fmt::{Debug, Display};
+use plan_report::{Failure, check};
+pub use std::alloc::{AllocError, Global};
+use std::fmt::Debug;
+pub use std::fmt::InlineText;
 use std::io::{Read, Write};
-use std::process::Abort;
+pub use std::process::Abort;
 use tx_script::{LineFault, RunFault, Summary, run_script};
 
 // Asserts that two values are the same. A test that calls this has a short proof, since an assertion
@@ -14,13 +16,28 @@ pub fn assert_same<T: Abort, V: PartialEq + Debug + Copy>(rt: &T, told: V, wante
 }
 
 // Asserts that two values are the same, and tells the place where they are not.
-pub fn assert_same_at<T: Abort, V: PartialEq + Debug + Copy, P: Display + Copy>(
+pub fn assert_same_at<T: Abort, V: PartialEq + Debug + Copy, P: Debug + Copy>(
     rt: &T,
     told: V,
     wanted: V,
     place: P,
 ) {
-    assert_eq!(rt; told, wanted, "at {place}");
+    assert_eq!(rt; told, wanted, "at {place:?}");
+}
+
+// Asserts what `check` comes to, and what is written of it. A test that calls this has a short
+// proof, since it keeps no report of its own.
+pub fn assert_check<T: Abort, R: Read + Drop>(
+    rt: &T,
+    alloc: Global,
+    reader: R,
+    wanted: Result<(), Failure>,
+    wanted_report: &str,
+) {
+    let mut report = Vec::new(alloc);
+    let told = check(alloc, reader, &mut report);
+    assert_same(rt, told, wanted);
+    assert_same(rt, report.as_slice(), wanted_report.as_bytes());
 }
 
 // A script over the demonstration configuration: port 10 on virtual link 1, of one sub-VL with room
@@ -65,10 +82,10 @@ pub fn transcript_over(
     script: &str,
 ) -> (Result<Summary, RunFault>, Vec<u8>) {
     let mut text = Vec::new(alloc);
-    let Ok(config) = read_config(alloc, plan.as_bytes()) else {
-        return (Err(RunFault::Memory), text);
+    let told = match read_config(alloc, plan.as_bytes()) {
+        Ok(config) => run_script(alloc, config, script.as_bytes(), &mut text),
+        Err(_) => Err(RunFault::Memory),
     };
-    let told = run_script(alloc, config, script.as_bytes(), &mut text);
     (told, text)
 }
 
@@ -163,17 +180,8 @@ fn push_frame(text: &mut String, net: (&str, &str), frame: &Frame) -> Result<(),
 
 // The lines of A, and then those of B.
 pub fn frame_lines(alloc: Global, frames: &[Frame]) -> Result<String, AllocError> {
-    lines_on(alloc, &NETS, frames)
-}
-
-// The lines of these networks, one behind the other.
-pub fn lines_on(
-    alloc: Global,
-    nets: &[(&str, &str)],
-    frames: &[Frame],
-) -> Result<String, AllocError> {
     let mut text = String::new(alloc);
-    for net in nets {
+    for net in &NETS {
         for frame in frames {
             push_frame(&mut text, *net, frame)?;
         }
@@ -192,14 +200,21 @@ pub struct Small {
     pub number: u8,
 }
 
+// One of them.
+pub fn one_byte(at: u64, ident: u16, checksum: u16, byte: u8, number: u8) -> Small {
+    Small {
+        at,
+        ident,
+        checksum,
+        byte,
+        number,
+    }
+}
+
 // The first one of a run, of the byte 01.
-pub const FIRST: Small = Small {
-    at: 0,
-    ident: 0,
-    checksum: 0xcdee,
-    byte: 1,
-    number: 0,
-};
+pub fn first() -> Small {
+    one_byte(0, 0, 0xcdee, 1, 0)
+}
 
 // Its line on a network, of a virtual link and from a UDP port.
 pub fn push_small(
@@ -210,33 +225,35 @@ pub fn push_small(
 ) -> Result<(), AllocError> {
     let (vl, source) = flow;
     push_head(text, net, small.at, vl)?;
-    let Small {
-        ident,
-        checksum,
-        byte,
-        number,
-        ..
-    } = small;
+    let (ident, checksum) = (small.ident, small.checksum);
+    let (byte, number) = (small.byte, small.number);
+    write!(text, "4500001d{ident:04x}00000111{checksum:04x}")?;
     write!(
         text,
-        "4500001d{ident:04x}00000111{checksum:04x}0a000101e0e0{vl:04x}"
+        "0a000101e0e0{vl:04x}{source:04x}07d000090000{byte:02x}"
     )?;
-    writeln!(
-        text,
-        "{source:04x}07d000090000{byte:02x}00000000000000000000000000000000{number:02x}"
-    )
+    writeln!(text, "00000000000000000000000000000000{number:02x}")
 }
 
-// The notes, the lines of A, and then those of B.
-pub fn expected(alloc: Global, notes: &str, smalls: &[Small]) -> Result<String, AllocError> {
-    let mut text = String::new(alloc);
-    text.push_str(notes)?;
-    for net in &NETS {
+// The notes, and the lines of these networks, one behind the other.
+pub fn expected_on(
+    alloc: Global,
+    nets: &[(&str, &str)],
+    notes: &str,
+    smalls: &[Small],
+) -> Result<String, AllocError> {
+    let mut text = notes.to_string(alloc)?;
+    for net in nets {
         for small in smalls {
             push_small(&mut text, *net, (1, 1000), small)?;
         }
     }
     Ok(text)
+}
+
+// The notes, the lines of A, and then those of B.
+pub fn expected(alloc: Global, notes: &str, smalls: &[Small]) -> Result<String, AllocError> {
+    expected_on(alloc, &NETS, notes, smalls)
 }
 
 // Asserts what a script over the demonstration configuration comes to, its notes, and which messages

@@ -1,11 +1,12 @@
 //! Tests of scripts: their lines, their running over whole end systems, and what is written of it. Every
-//! short script runs against an end system that is told again as bounded lists.
+//! short script runs against an end system that is told again as bounded lists. And tests of the program's
+//! other parts: its words, the report on a plan, failures and exit statuses.
 #![tactic(auto)]
 
 #[cfg(test)]
 mod capture_tests;
 #[cfg(test)]
-mod checksum_tests;
+mod check_tests;
 #[cfg(test)]
 mod close_tests;
 #[cfg(test)]
@@ -13,22 +14,24 @@ mod end_system;
 #[cfg(test)]
 mod every_script_tests;
 #[cfg(test)]
-mod frame_text;
+mod halting_tests;
 #[cfg(test)]
 mod helpers;
 #[cfg(test)]
 mod line_tests;
 #[cfg(test)]
-mod one_network_tests;
-#[cfg(test)]
 mod plan_tests;
 #[cfg(test)]
-mod queue;
+mod plans;
+#[cfg(test)]
+mod report_tests;
 #[cfg(test)]
 mod run_tests;
 #[cfg(test)]
+mod status_tests;
+#[cfg(test)]
 mod stream_tests;
 #[cfg(test)]
-mod sub_vls;
-#[cfg(test)]
 mod transcript_tests;
+#[cfg(test)]
+mod words_tests;

@@ -1,70 +1,42 @@
-use crate::helpers::{assert_same, assert_same_at};
-use script_lines::{Bytes, Line, LineFault, Message, Next, ReadFault, next_line, read_line};
-use std::alloc::{AllocError, Global};
-use std::fmt::{InlineText, Write};
+//! Tests of the lines of a script.
+use crate::helpers::*;
+use script_lines::{Bytes, LineFault, Message, Next, ReadFault, next_line, read_line};
+use std::fmt::Write;
 use std::io::{self, Read};
-use std::process::Abort;
-
-fn says_send(alloc: Global, line: &[u8], port: u16, message: &[u8]) -> bool {
-    match read_line(alloc, line) {
-        Ok(Line::Send { port: read, bytes }) => read == port && bytes.as_slice() == message,
-        _ => false,
-    }
-}
-
-fn says_at(alloc: Global, line: &[u8], moment: u64) -> bool {
-    match read_line(alloc, line) {
-        Ok(Line::At(read)) => read == moment,
-        _ => false,
-    }
-}
-
-fn says_close(alloc: Global, line: &[u8], wanted: (u16, u8)) -> bool {
-    match read_line(alloc, line) {
-        Ok(Line::Close { vl, sub }) => vl == wanted.0 && sub == wanted.1,
-        _ => false,
-    }
-}
-
-fn says_nothing(alloc: Global, line: &[u8]) -> bool {
-    match read_line(alloc, line) {
-        Ok(Line::Nothing) => true,
-        _ => false,
-    }
-}
 
 fn fault_of(alloc: Global, line: &[u8]) -> Option<LineFault> {
-    match read_line(alloc, line) {
-        Ok(_) => None,
-        Err(fault) => Some(fault),
-    }
+    read_line(alloc, line).err()
+}
+
+// Asserts what a line says.
+fn assert_says(rt: &impl Abort, alloc: Global, line: &[u8], wanted: &str) {
+    let said = read_line(alloc, line).expect(rt, wanted);
+    let text = format!(in alloc; "{said:?}").expect(rt, wanted);
+    assert_same(rt, text.as_str(), wanted);
 }
 
 #[test]
 fn a_send_has_a_port_and_a_message(rt: HostRuntime) {
-    let alloc = rt.alloc();
-    assert!(rt; says_send(alloc, b"send 10 01", 10, &[1]));
-    assert!(rt; says_send(alloc, b"send 10 -", 10, &[]));
-    assert!(rt;
-        says_send(
-            alloc,
-            b"\t send\t\t0065535  00Fface0 ",
-            65_535,
-            &[0, 255, 172, 224]
-        )
-    );
+    let said = "Send { port: 10, bytes: Message { bytes: [1] } }";
+    assert_says(&rt, rt.alloc(), b"send 10 01", said);
+    let said = "Send { port: 10, bytes: Message { bytes: [] } }";
+    assert_says(&rt, rt.alloc(), b"send 10 -", said);
+    let said = "Send { port: 65535, bytes: Message { bytes: [0, 255, 172, 224] } }";
+    assert_says(&rt, rt.alloc(), b"\t send\t\t0065535  00Fface0 ", said);
 }
 
 #[test]
 fn an_at_has_a_moment(rt: HostRuntime) {
-    assert!(rt; says_at(rt.alloc(), b"at 0", 0));
-    assert!(rt; says_at(rt.alloc(), b"  at\t018446744073709551615\t", u64::MAX));
+    assert_says(&rt, rt.alloc(), b"at 0", "At(0)");
+    let last = b"  at\t018446744073709551615\t";
+    assert_says(&rt, rt.alloc(), last, "At(18446744073709551615)");
 }
 
 #[test]
 fn a_close_has_a_link_and_a_sub_vl(rt: HostRuntime) {
-    assert!(rt; says_close(rt.alloc(), b"close 1 0", (1, 0)));
-    assert!(rt; says_close(rt.alloc(), b"\tclose\t 00065535 \t000255\t", (65_535, 255)));
+    assert_says(&rt, rt.alloc(), b"close 1 0", "Close { vl: 1, sub: 0 }");
+    let greatest = b"\tclose\t 00065535 \t000255\t";
+    assert_says(&rt, rt.alloc(), greatest, "Close { vl: 65535, sub: 255 }");
 }
 
 #[test]
@@ -72,7 +44,7 @@ fn blank_lines_and_notes_say_nothing(rt: HostRuntime) {
     let blanks = vec![in rt.alloc(); b' '; 20_000].expect(&rt, "memory");
     let lines: [&[u8]; 5] = [b"", b" \t ", b"# note", b" #send 10 0g", &blanks];
     for line in lines {
-        assert!(rt; says_nothing(rt.alloc(), line));
+        assert_says(&rt, rt.alloc(), line, "Nothing");
     }
 }
 

@@ -1,50 +1,8 @@
-use crate::helpers::{
-    Frame, NETS, Small, assert_frames, assert_run_over, assert_same, frame_lines, joined,
-    push_small, repeated, sums, transcript_over,
-};
-use std::alloc::{AllocError, Global};
+//! Tests of scripts over configurations of their own, from the text of a configuration to the lines of both
+//! networks.
+use crate::helpers::*;
+use crate::plans::{DEMO, IN_TURN, changed, version_2};
 use std::io::Write;
-use std::process::Abort;
-
-// The parts of a configuration's text: its head, the link and the port of the demonstration, and
-// what the ports below have in common.
-pub const HEAD: &str = "[end_system]\nid = 1\n";
-
-pub const DEMO_LINK: &str = "[[vl]]\nid = 1\nbag_ms = 1\nlmax = 1518\nsub_vls = 1\ncapacity = 2\n";
-
-pub const DEMO_PORT: &str = "[[port]]\nid = 10\nvl = 1\nsub = 0\nsource = 1000\n";
-
-pub const PORT_REST: &str = "partition = 1\nkind = \"queuing\"\ndestination = 2000\nmax = 8192\n";
-
-// The text of a configuration of one link, given without its identifier, with the demonstration's
-// port, behind whose keys something may stand.
-fn plan_with(alloc: Global, link: &str, behind: &str) -> Result<String, AllocError> {
-    joined(alloc, &[HEAD, link, DEMO_PORT, PORT_REST, behind])
-}
-
-const FIRST: Frame<'static> = Frame {
-    at: 0,
-    header: "4500001d000000000111cdee0a000101e0e00001",
-    piece: "03e807d00009000001",
-    padding: 16,
-    number: 0,
-};
-
-const SECOND: Frame<'static> = Frame {
-    at: 2_000,
-    header: "4500001d000400000111cdea0a000101e0e00001",
-    piece: "03e807d00009000002",
-    padding: 16,
-    number: 1,
-};
-
-const THIRD: Frame<'static> = Frame {
-    at: 11_000,
-    header: "4500001d000800000111cde60a000101e0e00001",
-    piece: "03e807d00009000003",
-    padding: 16,
-    number: 2,
-};
 
 // A message of 1,472 bytes, and two polls.
 pub fn long_send(alloc: Global) -> Result<String, AllocError> {
@@ -77,65 +35,140 @@ pub fn long_frames(alloc: Global, udp_header: &str) -> Result<String, AllocError
 
 #[test]
 fn a_message_past_one_frame_goes_out_as_two(rt: HostRuntime) {
-    let plan = plan_with(rt.alloc(), DEMO_LINK, "").expect(&rt, "memory");
     let script = long_send(rt.alloc()).expect(&rt, "memory");
     let wanted = long_frames(rt.alloc(), "03e807d005c80000").expect(&rt, "memory");
-    assert_run_over(&rt, rt.alloc(), &plan, &script, sums(1, 0, 2), &wanted);
+    assert_run_over(&rt, rt.alloc(), DEMO, &script, sums(1, 0, 2), &wanted);
 }
 
-// Asserts which frames both networks are handed, one of each message, of a script over the
-// configuration of a link, given with what stands behind its port.
-fn assert_each<R: Abort>(
-    rt: &R,
-    alloc: Global,
-    link: (&str, &str),
-    script: &str,
-    frames: &[Frame],
-) {
-    let plan = plan_with(alloc, link.0, link.1).expect(rt, "memory");
-    let many = frames.len() as u64;
-    assert_frames(rt, alloc, &plan, script, sums(many, 0, many), frames);
-}
+// The frame of the message 01.
+const FIRST: Frame<'static> = Frame {
+    at: 0,
+    header: "4500001d000000000111cdee0a000101e0e00001",
+    piece: "03e807d00009000001",
+    padding: 16,
+    number: 0,
+};
 
-// The frame of the message 01 to a unicast address.
-const UNICAST: [Frame<'static>; 1] = [Frame {
-    header: "4500001d000000000111a2cf0a0001010a000201",
-    ..FIRST
-}];
+// Asserts which frame both networks are handed of a script of one message.
+fn assert_frame<R: Abort>(rt: &R, alloc: Global, plan: &str, script: &str, frame: Frame) {
+    let wanted = frame_lines(alloc, &[frame]).expect(rt, "memory");
+    assert_run_over(rt, alloc, plan, script, sums(1, 0, 1), &wanted);
+}
 
 #[test]
 fn a_unicast_message_carries_its_destination_address(rt: HostRuntime) {
-    let link = (DEMO_LINK, "dest_ip = \"10.0.2.1\"\n");
-    assert_each(&rt, rt.alloc(), link, "send 10 01\nat 0\n", &UNICAST);
+    let frame = Frame {
+        header: "4500001d000000000111a2cf0a0001010a000201",
+        ..FIRST
+    };
+    let plan = joined(rt.alloc(), &[DEMO, "dest_ip = '10.0.2.1'\n"]).expect(&rt, "memory");
+    assert_frame(&rt, rt.alloc(), &plan, "send 10 01\nat 0\n", frame);
+}
+
+// Asserts the same over the demonstration in version 2, with this end of its port's table.
+fn assert_summed<R: Abort>(rt: &R, alloc: Global, end: &str, script: &str, frame: Frame) {
+    let plan = version_2(rt, alloc, DEMO, &[("max = 8192", end)]);
+    assert_frame(rt, alloc, &plan, script, frame);
+}
+
+// The end of a port's table that asks for checksums.
+const WITH: &str = "max = 8192\nchecksum = 'udp'";
+
+#[test]
+fn a_datagram_carries_its_checksum(rt: HostRuntime) {
+    let frame = Frame {
+        piece: "03e807d00009074201",
+        ..FIRST
+    };
+    assert_summed(&rt, rt.alloc(), WITH, "send 10 01\nat 0\n", frame);
+}
+
+#[test]
+fn a_port_without_carries_zero(rt: HostRuntime) {
+    for end in ["max = 8192", "max = 8192\nchecksum = 'none'"] {
+        assert_summed(&rt, rt.alloc(), end, "send 10 01\nat 0\n", FIRST);
+    }
+}
+
+// The frame of a message whose checksum computes to zero.
+const ZERO: Frame<'static> = Frame {
+    header: "4500001e000000000111cded0a000101e0e00001",
+    piece: "03e807d0000affff0840",
+    padding: 15,
+    ..FIRST
+};
+
+#[test]
+fn a_computed_zero_is_sent_as_ffff(rt: HostRuntime) {
+    assert_summed(&rt, rt.alloc(), WITH, "send 10 0840\nat 0\n", ZERO);
+}
+
+#[test]
+fn the_first_of_two_frames_carries_the_checksum_of_both(rt: HostRuntime) {
+    let plan = version_2(&rt, rt.alloc(), DEMO, &[("max = 8192", WITH)]);
+    let script = long_send(rt.alloc()).expect(&rt, "memory");
+    let wanted = long_frames(rt.alloc(), "03e807d005c85219").expect(&rt, "memory");
+    assert_run_over(&rt, rt.alloc(), &plan, &script, sums(1, 0, 2), &wanted);
+}
+
+// A message of one byte over a link with this end of its table, whose frame these networks are handed.
+fn assert_nets<R: Abort>(rt: &R, alloc: Global, end: &str, nets: &[(&str, &str)]) {
+    let plan = version_2(rt, alloc, DEMO, &[("capacity = 2", end)]);
+    let wanted = expected_on(alloc, nets, "", &[first()]).expect(rt, "memory");
+    let script = "send 10 01\nat 0\n";
+    assert_run_over(rt, alloc, &plan, script, sums(1, 0, 1), &wanted);
+}
+
+#[test]
+fn a_link_on_one_network_is_handed_to_that_network_alone(rt: HostRuntime) {
+    assert_nets(&rt, rt.alloc(), "capacity = 2, networks = 'a'", &NETS[..1]);
+    assert_nets(&rt, rt.alloc(), "capacity = 2, networks = 'b'", &NETS[1..]);
+}
+
+#[test]
+fn a_link_on_both_is_handed_to_both(rt: HostRuntime) {
+    for end in ["capacity = 2, networks = 'both'", "capacity = 2"] {
+        assert_nets(&rt, rt.alloc(), end, &NETS);
+    }
+}
+
+// Asserts which messages both networks are handed, each of a script over the demonstration with changes.
+fn assert_each<R: Abort>(
+    rt: &R,
+    alloc: Global,
+    changes: &[(&str, &str)],
+    script: &str,
+    smalls: &[Small],
+) {
+    let plan = changed(rt, alloc, DEMO, changes);
+    let wanted = expected(alloc, "", smalls).expect(rt, "memory");
+    let many = smalls.len() as u64;
+    assert_run_over(rt, alloc, &plan, script, sums(many, 0, many), &wanted);
 }
 
 #[test]
 fn a_link_releases_again_once_its_gap_is_over_and_not_before(rt: HostRuntime) {
-    let link = "[[vl]]\nid = 1\nbag_ms = 2\nlmax = 1518\nsub_vls = 1\ncapacity = 2\n";
+    let changes = [("bag_ms = 1", "bag_ms = 2")];
     let script = "send 10 01\nsend 10 02\nat 0\nat 1999\nat 2000\n";
-    assert_each(&rt, rt.alloc(), (link, ""), script, &[FIRST, SECOND]);
+    let sent = [first(), one_byte(2_000, 4, 0xcdea, 2, 1)];
+    assert_each(&rt, rt.alloc(), &changes, script, &sent);
 }
-
-// The frames of three messages, of which the second goes out late.
-const POLLED_LATE: [Frame<'static>; 3] = [
-    FIRST,
-    Frame {
-        at: 7_000,
-        ..SECOND
-    },
-    THIRD,
-];
 
 #[test]
 fn a_link_that_is_polled_late_does_not_catch_up(rt: HostRuntime) {
-    let link = "[[vl]]\nid = 1\nbag_ms = 4\nlmax = 1518\nsub_vls = 1\ncapacity = 3\n";
+    let changes = [
+        ("bag_ms = 1", "bag_ms = 4"),
+        ("capacity = 2", "capacity = 3"),
+    ];
     let script = "send 10 01\nsend 10 02\nsend 10 03\nat 0\nat 7000\nat 8000\nat 11000\n";
-    assert_each(&rt, rt.alloc(), (link, ""), script, &POLLED_LATE);
+    let late = one_byte(7_000, 4, 0xcdea, 2, 1);
+    let sent = [first(), late, one_byte(11_000, 8, 0xcde6, 3, 2)];
+    assert_each(&rt, rt.alloc(), &changes, script, &sent);
 }
 
 // What two sub-VLs of a link with frames of 64 bytes send in turn: a message of 60 bytes, which is
 // three pieces, and two of one byte.
-pub const IN_TURN: [Frame<'static>; 5] = [
+pub const SENT_IN_TURN: [Frame<'static>; 5] = [
     Frame {
         at: 0,
         header: "4500002c000020000111addf0a000101e0e00001",
@@ -173,14 +206,6 @@ pub const IN_TURN: [Frame<'static>; 5] = [
     },
 ];
 
-// Their configuration.
-pub fn plan_in_turn(alloc: Global) -> Result<String, AllocError> {
-    let link = "[[vl]]\nid = 1\nbag_ms = 1\nlmax = 64\nsub_vls = 2\ncapacity = 2\n";
-    let first = "[[port]]\nid = 20\nvl = 1\nsub = 0\nsource = 1000\n";
-    let second = "[[port]]\nid = 21\nvl = 1\nsub = 1\nsource = 1001\n";
-    joined(alloc, &[HEAD, link, first, PORT_REST, second, PORT_REST])
-}
-
 // Their messages, and five polls.
 fn script_in_turn(alloc: Global) -> Result<String, AllocError> {
     let message = repeated(alloc, "aa", 60)?;
@@ -190,38 +215,25 @@ fn script_in_turn(alloc: Global) -> Result<String, AllocError> {
 
 #[test]
 fn two_sub_vls_send_piece_by_piece_in_turn(rt: HostRuntime) {
-    let plan = plan_in_turn(rt.alloc()).expect(&rt, "memory");
     let script = script_in_turn(rt.alloc()).expect(&rt, "memory");
-    assert_frames(&rt, rt.alloc(), &plan, &script, sums(3, 0, 5), &IN_TURN);
+    let wanted = frame_lines(rt.alloc(), &SENT_IN_TURN).expect(&rt, "memory");
+    assert_run_over(&rt, rt.alloc(), IN_TURN, &script, sums(3, 0, 5), &wanted);
 }
 
-// A link of the greatest plan, of four sub-VLs with room for 256 messages.
-fn push_link(text: &mut String, id: u16) -> Result<(), AllocError> {
-    writeln!(text, "[[vl]]\nid = {id}")?;
-    text.push_str("bag_ms = 1\nlmax = 1518\nsub_vls = 4\ncapacity = 256\n")
-}
-
-// A port of it, on a sub-VL.
-fn push_port(text: &mut String, vl: u16, sub: u16) -> Result<(), AllocError> {
-    let id = 4 * u32::from(vl) + u32::from(sub);
-    let source = 1000 + u32::from(sub);
-    writeln!(
-        text,
-        "[[port]]\nid = {id}\nvl = {vl}\nsub = {sub}\nsource = {source}"
-    )?;
-    text.push_str(PORT_REST)
-}
-
-// 64 such links, and a port on each sub-VL: the greatest plan but for its frames.
+// 64 links of four sub-VLs with room for 256 messages, and a port on each: the greatest plan but for its
+// frames.
 fn greatest_plan(alloc: Global) -> Result<String, AllocError> {
-    let mut text = String::new(alloc);
-    text.push_str(HEAD)?;
+    let mut text = "[end_system]\nid = 1\n".to_string(alloc)?;
     for id in 1..=64 {
-        push_link(&mut text, id)?;
+        writeln!(text, "[[vl]]\nid = {id}\nbag_ms = 1\nlmax = 1518")?;
+        text.push_str("sub_vls = 4\ncapacity = 256\n")?;
     }
-    for vl in 1..=64 {
-        for sub in 0..4 {
-            push_port(&mut text, vl, sub)?;
+    for vl in 1..=64u32 {
+        for sub in 0..4u32 {
+            let (id, source) = (4 * vl + sub, 1000 + sub);
+            writeln!(text, "[[port]]\nid = {id}\nvl = {vl}\nsub = {sub}")?;
+            writeln!(text, "source = {source}\npartition = 1\nkind = 'queuing'")?;
+            text.push_str("destination = 2000\nmax = 8192\n")?;
         }
     }
     Ok(text)
@@ -257,25 +269,16 @@ fn push_notes(text: &mut String) -> Result<(), AllocError> {
     Ok(())
 }
 
-// The line of the frame that a link releases at its poll number k: its sub-VLs take turns, so it is
-// message k / 4 of sub-VL k % 4, and its identification is k. The header checksum goes down by one
-// for each one that the address and the identification go up.
-fn push_numbered(text: &mut String, net: (&str, &str), vl: u16, k: u16) -> Result<(), AllocError> {
-    let small = Small {
-        at: 1_000 * u64::from(k),
-        ident: k,
-        checksum: 0xcdefu16 - vl % 128 - k % 1024,
-        byte: (k / 4 % 256) as u8,
-        number: if k == 0 { 0 } else { ((k - 1) % 255 + 1) as u8 },
-    };
-    push_small(text, net, (vl, 1000 + k % 4), &small)
-}
-
-// The lines of a network: at each poll one frame of each link, in the order of the plan.
+// The lines of a network: at each poll one frame of each link, in the order of the plan. At its poll number k
+// a link's sub-VLs take turns, so it releases message k / 4 of sub-VL k % 4, and its identification is k. The
+// header checksum goes down by one for each one that the address and the identification go up.
 fn push_polls(text: &mut String, net: (&str, &str)) -> Result<(), AllocError> {
-    for k in 0..1_024 {
-        for vl in 1..=64 {
-            push_numbered(text, net, vl, k)?;
+    for k in 0..1_024u16 {
+        let number = if k == 0 { 0 } else { ((k - 1) % 255 + 1) as u8 };
+        for vl in 1..=64u16 {
+            let checksum = 0xcdef - vl - k;
+            let message = one_byte(1_000 * u64::from(k), k, checksum, (k / 4) as u8, number);
+            push_small(text, net, (vl, 1000 + k % 4), &message)?;
         }
     }
     Ok(())

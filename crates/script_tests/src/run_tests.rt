@@ -1,10 +1,6 @@
-use crate::helpers::{
-    FIRST, Frame, Small, assert_run, assert_same, assert_same_at, assert_sent, at_line,
-    frame_lines, joined, repeated, run, sums, transcript,
-};
-use std::alloc::{AllocError, Global};
+//! Tests of scripts over the demonstration configuration.
+use crate::helpers::*;
 use std::io::{self, Read, Write};
-use std::process::Abort;
 use tx_script::{LineFault, RunFault, Summary};
 
 #[test]
@@ -51,31 +47,14 @@ fn a_message_of_1_471_bytes_fills_one_frame(rt: HostRuntime) {
     assert_run(&rt, rt.alloc(), script.as_bytes(), told, wanted.as_bytes());
 }
 
-// The frames of the messages 01, 02 and 03, a gap apart.
-const THREE: [Small; 3] = [
-    FIRST,
-    Small {
-        at: 1000,
-        ident: 4,
-        checksum: 0xcdea,
-        byte: 2,
-        number: 1,
-    },
-    Small {
-        at: 2000,
-        ident: 8,
-        checksum: 0xcde6,
-        byte: 3,
-        number: 2,
-    },
-];
-
 #[test]
 fn a_full_queue_refuses_a_message_until_a_frame_went_out(rt: HostRuntime) {
     let script = b"send 10 01\nsend 10 02\nsend 10 03\nat 0\nsend 10 03\nat 1000\nat 2000\n";
     let told = Ok(sums(3, 1, 3));
     let notes = "line 3: refused Full\n";
-    assert_sent(&rt, rt.alloc(), script.as_slice(), told, notes, &THREE);
+    let second = one_byte(1_000, 4, 0xcdea, 2, 1);
+    let sent = [first(), second, one_byte(2_000, 8, 0xcde6, 3, 2)];
+    assert_sent(&rt, rt.alloc(), script.as_slice(), told, notes, &sent);
 }
 
 // An empty message, one that is too long, one of no port, and then one that is taken.
@@ -89,7 +68,7 @@ fn refused_sends(alloc: Global) -> Result<String, AllocError> {
 fn a_refused_message_takes_no_identification(rt: HostRuntime) {
     let script = refused_sends(rt.alloc()).expect(&rt, "memory");
     let notes = "line 1: refused Empty\nline 2: refused TooLong\nline 3: refused NoPort\n";
-    let taken = Small { byte: 7, ..FIRST };
+    let taken = one_byte(0, 0, 0xcdee, 7, 0);
     let told = Ok(sums(1, 3, 1));
     assert_sent(&rt, rt.alloc(), script.as_bytes(), told, notes, &[taken]);
 }
@@ -98,10 +77,7 @@ fn a_refused_message_takes_no_identification(rt: HostRuntime) {
 fn an_earlier_moment_is_refused_and_an_equal_one_is_not(rt: HostRuntime) {
     let script =
         b"send 10 01\nsend 10 02\nat 18446744073709551615\nat 18446744073709551615\nat 5\n";
-    let last = Small {
-        at: u64::MAX,
-        ..FIRST
-    };
+    let last = one_byte(u64::MAX, 0, 0xcdee, 1, 0);
     let told = Ok(sums(2, 1, 1));
     let notes = "line 5: refused TimeBack\n";
     assert_sent(&rt, rt.alloc(), script.as_slice(), told, notes, &[last]);
@@ -120,13 +96,9 @@ fn sends_to_256(alloc: Global) -> Result<String, AllocError> {
 fn frames_to_256(alloc: Global) -> Result<Vec<Small>, AllocError> {
     let mut frames = Vec::new(alloc);
     for place in 0..257u16 {
-        frames.push(Small {
-            at: 1_000 * u64::from(place),
-            ident: 4 * place,
-            checksum: 0xcdee - 4 * place,
-            byte: 1,
-            number: if place < 256 { place as u8 } else { 1 },
-        })?;
+        let (at, ident) = (1_000 * u64::from(place), 4 * place);
+        let number = if place < 256 { place as u8 } else { 1 };
+        frames.push(one_byte(at, ident, 0xcdee - ident, 1, number))?;
     }
     Ok(frames)
 }
@@ -197,10 +169,10 @@ fn notes_and_frames_so_far_are_written_after_a_fault(rt: HostRuntime) {
     let script = b"\nsend 99 01\nsend 10 01\nat 0\nsend 10 02\nsend\nat 1000\n";
     let told = Err(at_line(6, LineFault::Word));
     let notes = "line 2: refused NoPort\n";
-    assert_sent(&rt, rt.alloc(), script.as_slice(), told, notes, &[FIRST]);
+    assert_sent(&rt, rt.alloc(), script.as_slice(), told, notes, &[first()]);
     let reader = Interrupted(&script[..40]);
     let told = Err(RunFault::Read);
-    assert_sent(&rt, rt.alloc(), reader, told, notes, &[FIRST]);
+    assert_sent(&rt, rt.alloc(), reader, told, notes, &[first()]);
 }
 
 // A script over a writer with room for so many bytes.

@@ -1,36 +1,28 @@
-use crate::helpers::{
-    FIRST, Small, assert_run, assert_same, assert_same_at, at_line, expected, run, sums, transcript,
-};
-use std::alloc::{AllocError, Global};
+//! Tests of the reader and the writer of a script.
+use crate::helpers::*;
 use std::io::{self, Read, Write};
-use std::process::Abort;
 use tx_script::{LineFault, RunFault, Summary};
 
 // The lines of the first message, of the one byte 01, that went out at a moment.
 fn first_at(alloc: Global, at: u64) -> Result<String, AllocError> {
-    expected(alloc, "", &[Small { at, ..FIRST }])
+    expected(alloc, "", &[one_byte(at, 0, 0xcdee, 1, 0)])
 }
 
 // Two messages, of which the first goes out at the last moment, and an earlier moment.
 const LATE: &str = "send 10 01\nsend 10 02\nat 18446744073709551615\n\
     at 18446744073709551615\nat 5\n";
 
-// The message whose frame goes out.
-const LATE_FRAME: [Small; 1] = [Small {
-    at: u64::MAX,
-    ..FIRST
-}];
-
 // What is written of `LATE` where so many of its bytes were read: the frame once the third line was,
 // and a note once the last was.
 fn late_text(alloc: Global, bytes: usize) -> Result<String, AllocError> {
-    let notes = if bytes >= 75 {
+    let late = [one_byte(u64::MAX, 0, 0xcdee, 1, 0)];
+    let is_read = bytes >= 75;
+    let notes = if is_read {
         "line 5: refused TimeBack\n"
     } else {
         ""
     };
-    let sent: &[Small] = if bytes >= 46 { &LATE_FRAME } else { &[] };
-    expected(alloc, notes, sent)
+    expected(alloc, notes, if bytes >= 46 { &late } else { &[] })
 }
 
 // Gives so many bytes a call at most.

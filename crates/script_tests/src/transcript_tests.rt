@@ -1,7 +1,7 @@
-use crate::helpers::{assert_same, at_line};
+//! Tests of what a run writes.
+use crate::helpers::*;
 use redundant_mux::Network;
 use script_lines::LineFault;
-use std::fmt::InlineText;
 use tx_script::{FrameLog, Outcome, Refusal, RunFault, Summary, write_note, write_streams};
 
 #[test]
@@ -32,12 +32,10 @@ fn a_note_tells_the_line_and_the_refusal_or_the_total(rt: HostRuntime) {
 }
 
 // The frame of the message 01 in the demonstration configuration, for network A.
-const FIRST: [u8; 60] = [
-    0x03, 0x00, 0x00, 0x00, 0x00, 0x01, 0x02, 0x00, 0x00, 0x00, 0x01, 0x20, 0x08, 0x00, 0x45, 0x00,
-    0x00, 0x1d, 0x00, 0x00, 0x00, 0x00, 0x01, 0x11, 0xcd, 0xee, 0x0a, 0x00, 0x01, 0x01, 0xe0, 0xe0,
-    0x00, 0x01, 0x03, 0xe8, 0x07, 0xd0, 0x00, 0x09, 0x00, 0x00, 0x01, 0x00, 0x00, 0x00, 0x00, 0x00,
-    0x00, 0x00, 0x00, 0x00, 0x00, 0x00, 0x00, 0x00, 0x00, 0x00, 0x00, 0x00,
-];
+const FIRST: [u8; 60] = *b"\x03\x00\x00\x00\x00\x01\x02\x00\x00\x00\x01\x20\x08\x00\
+    \x45\x00\x00\x1d\x00\x00\x00\x00\x01\x11\xcd\xee\x0a\x00\x01\x01\xe0\xe0\x00\x01\
+    \x03\xe8\x07\xd0\x00\x09\x00\x00\x01\
+    \x00\x00\x00\x00\x00\x00\x00\x00\x00\x00\x00\x00\x00\x00\x00\x00\x00";
 
 #[test]
 fn the_frames_of_a_come_before_those_of_b(rt: HostRuntime) {

@@ -1,11 +1,7 @@
 //! Storms over networks that fail.
-use crate::plans::{assert_handed, assert_same, only_link, small_plan};
+use crate::plans::*;
 use redundant_mux::MemNetwork;
-use std::alloc::Global;
-use std::process::Abort;
-use std::sync::Wait;
-use std::thread::Threads;
-use storm::{OpenGate, StormFault, StormReport, storm_over};
+use storm::storm_over;
 
 // A hundred messages from each of four ports, over networks whose hands of these numbers fail.
 fn storm_failing<R: Abort + Threads + Wait + Sync>(

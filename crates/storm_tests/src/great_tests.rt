@@ -1,8 +1,6 @@
 //! A storm over the greatest plan.
 use crate::gates::Meeting;
-use crate::plans::{LINKS, assert_handed, assert_same, great_plan};
-use std::process::Abort;
-use storm::{StormReport, storm};
+use crate::plans::*;
 
 // Twenty messages of a frame each of all ports were accepted, sent and counted.
 fn assert_report(rt: &impl Abort, report: &StormReport) {

@@ -1,8 +1,7 @@
 //! Storms over links of which one is on one network alone.
-use crate::plans::{assert_handed, assert_same, plan_with_link_on_a};
+use crate::plans::*;
 use redundant_mux::MemNetwork;
-use std::process::Abort;
-use storm::{OpenGate, StormFault, StormReport, storm, storm_over};
+use storm::storm_over;
 
 // Ten messages of each of the two ports were accepted, sent and counted. The networks were handed
 // these many frames, and are equal or not.

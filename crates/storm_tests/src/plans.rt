@@ -2,10 +2,12 @@
 use afdx_config::read_config;
 use afdx_plan::Config;
 use status_board::Counts;
-use std::alloc::{AllocError, Global};
+pub(crate) use std::alloc::{AllocError, Global};
 use std::fmt::Debug;
-use std::process::Abort;
-use storm::StormReport;
+pub(crate) use std::process::Abort;
+pub(crate) use std::sync::Wait;
+pub(crate) use std::thread::Threads;
+pub(crate) use storm::{Gate, OpenGate, StormFault, StormReport, storm};
 
 // Asserts that two values are the same. A test that calls this has a short proof, since an assertion
 // of its own is long to prove.
@@ -38,17 +40,21 @@ fn push_port(text: &mut String, id: u16, vl: u16, sub: u16, max: u16) -> Result<
     let partition = id % 32;
     writeln!(
         text,
-        "[[port]]\nid = {id}\nvl = {vl}\nsub = {sub}\npartition = {partition}\n\
-         kind = \"queuing\"\nsource = 1000\ndestination = 2000\nmax = {max}"
+        "[[port]]\nid = {id}\nvl = {vl}\nsub = {sub}\npartition = {partition}"
+    )?;
+    writeln!(
+        text,
+        "kind = 'queuing'\nsource = 1000\ndestination = 2000\nmax = {max}"
     )
 }
 
 // End system 1 with one link of two sub-VLs with room for so many messages. Ports 1 to 4 are of
 // partitions 1 to 4, the first two on sub-VL 0. Port 3 sends messages of at most so many bytes.
 pub(crate) fn small_text(alloc: Global, capacity: u16, max: u16) -> Result<String, AllocError> {
-    let mut text = format!(in alloc;
-        "[end_system]\nid = 1\n\
-         [[vl]]\nid = 1\nbag_ms = 1\nlmax = 1518\nsub_vls = 2\ncapacity = {capacity}\n"
+    let mut text = "[end_system]\nid = 1\n".to_string(alloc)?;
+    writeln!(
+        text,
+        "[[vl]]\nid = 1\nbag_ms = 1\nlmax = 1518\nsub_vls = 2\ncapacity = {capacity}"
     )?;
     for (id, sub, max) in [(1, 0, 64), (2, 0, 64), (3, 1, max), (4, 1, 64)] {
         push_port(&mut text, id, 1, sub, max)?;
@@ -63,12 +69,13 @@ pub(crate) fn small_plan(rt: &impl Abort, alloc: Global, capacity: u16, max: u16
 
 // End system 1 with link 1 on both networks and link 2 on network A alone, with one port each.
 fn text_with_link_on_a(alloc: Global) -> Result<String, AllocError> {
-    let mut text = format!(in alloc; "version = 2\n[end_system]\nid = 1\n")?;
+    let mut text = "version = 2\n[end_system]\nid = 1\n".to_string(alloc)?;
     for (id, networks) in [(1, "both"), (2, "a")] {
         writeln!(
             text,
-            "[[vl]]\nid = {id}\nbag_ms = 1\nlmax = 64\nsub_vls = 1\ncapacity = 16\nnetworks = \"{networks}\""
+            "[[vl]]\nid = {id}\nbag_ms = 1\nlmax = 64\nsub_vls = 1"
         )?;
+        writeln!(text, "capacity = 16\nnetworks = '{networks}'")?;
     }
     for id in [1, 2] {
         push_port(&mut text, id, id, 0, 6)?;
@@ -84,13 +91,11 @@ pub(crate) fn plan_with_link_on_a(rt: &impl Abort, alloc: Global) -> Config {
 // End system 1 with a link for each of these: its identifier, its gap in milliseconds, and how many ports
 // it has on its one sub-VL. Ports are numbered from 1.
 pub(crate) fn links_text(alloc: Global, links: &[(u16, u16, u16)]) -> Result<String, AllocError> {
-    let mut text = format!(in alloc; "[end_system]\nid = 1\n")?;
+    let mut text = "[end_system]\nid = 1\n".to_string(alloc)?;
     for link in links {
         let (vl, gap, _ports) = *link;
-        writeln!(
-            text,
-            "[[vl]]\nid = {vl}\nbag_ms = {gap}\nlmax = 64\nsub_vls = 1\ncapacity = 256"
-        )?;
+        writeln!(text, "[[vl]]\nid = {vl}\nbag_ms = {gap}\nlmax = 64")?;
+        text.push_str("sub_vls = 1\ncapacity = 256\n")?;
     }
     let mut id = 0u16;
     for link in links {
@@ -112,12 +117,10 @@ pub(crate) fn links_plan(rt: &impl Abort, alloc: Global, links: &[(u16, u16, u16
 pub(crate) const LINKS: u16 = 64;
 
 fn great_text(alloc: Global, capacity: u16) -> Result<String, AllocError> {
-    let mut text = format!(in alloc; "[end_system]\nid = 1\n")?;
+    let mut text = "[end_system]\nid = 1\n".to_string(alloc)?;
     for vl in 0..LINKS {
-        writeln!(
-            text,
-            "[[vl]]\nid = {vl}\nbag_ms = 1\nlmax = 64\nsub_vls = 4\ncapacity = {capacity}"
-        )?;
+        writeln!(text, "[[vl]]\nid = {vl}\nbag_ms = 1\nlmax = 64")?;
+        writeln!(text, "sub_vls = 4\ncapacity = {capacity}")?;
     }
     for vl in 0..LINKS {
         for sub in 0..4 {
@@ -130,4 +133,17 @@ fn great_text(alloc: Global, capacity: u16) -> Result<String, AllocError> {
 // The greatest plan: 256 ports on 64 links, each on a sub-VL of its own with room for so many messages.
 pub(crate) fn great_plan(rt: &impl Abort, alloc: Global, capacity: u16) -> Config {
     plan_of(rt, alloc, great_text(alloc, capacity))
+}
+
+// What comes of a storm in which each port sends so many messages, and each thread may try so often.
+pub(crate) fn storm_of<R: Abort + Threads + Wait + Sync, G: Gate + Sync>(
+    rt: &R,
+    alloc: Global,
+    config: Config,
+    load: (u16, u64),
+    gate: &G,
+) -> Result<StormReport, StormFault> {
+    let (messages, turns) = load;
+    assert!(rt; 1 <= messages && 1 <= turns && turns <= 1_000_000_000);
+    storm(rt, alloc, config, u32::from(messages), turns, gate)
 }

@@ -1,15 +1,8 @@
 //! Storms over a small plan.
-ghost use Rattle.std.specs.Prelude.{◌≤◌};
-
 use crate::gates::{Meeting, Shut};
-use crate::plans::{PORTS, assert_same, only_link, small_plan};
+use crate::plans::*;
 use redundant_mux::MemNetwork;
-use std::alloc::Global;
-use std::process::Abort;
-use std::sync::Wait;
 use std::sync::atomic::{AtomicU64, Ordering};
-use std::thread::Threads;
-use storm::{Gate, OpenGate, StormFault, StormReport, storm};
 
 // How often a thread may try, where it comes to that.
 const TURNS: u64 = 100_000_000;
@@ -52,36 +45,16 @@ fn assert_report(rt: &impl Abort, report: &StormReport, messages: u16) {
     assert_messages(rt, &report.b, messages);
 }
 
-// What comes of a storm over the small plan with this room and this greatest message.
-fn storm_small<R: Abort + Threads + Wait + Sync, G: Gate + Sync>(
-    rt: &R,
-    alloc: Global,
-    plan: (u16, u16),
-    messages: u16,
-    turns: u64,
-    gate: &G,
-) -> Result<StormReport, StormFault>
-    requires messages { (1 ≤ messages) × (messages ≤ 65535) }
-    requires turns { (1 ≤ turns) × (turns ≤ 1000000000) }
-{
-    let config = small_plan(rt, alloc, plan.0, plan.1);
-    storm(rt, alloc, config, u32::from(messages), turns, gate)
-}
-
-// Asserts that such a storm sends all its messages.
+// Asserts that a storm over the small plan, with this room and this greatest message, sends all its messages.
 fn assert_sent<R: Abort + Threads + Wait + Sync, G: Gate + Sync>(
     rt: &R,
     alloc: Global,
     plan: (u16, u16),
-    messages: u16,
-    turns: u64,
+    load: (u16, u64),
     gate: &G,
-)
-    requires messages { (1 ≤ messages) × (messages ≤ 65535) }
-    requires turns { (1 ≤ turns) × (turns ≤ 1000000000) }
-{
-    let ended = storm_small(rt, alloc, plan, messages, turns, gate);
-    assert_report(rt, &ended.expect(rt, "a report"), messages);
+) {
+    let ended = storm_of(rt, alloc, small_plan(rt, alloc, plan.0, plan.1), load, gate);
+    assert_report(rt, &ended.expect(rt, "a report"), load.0);
 }
 
 // Asserts that such a storm has a fault.
@@ -89,55 +62,51 @@ fn assert_fault<R: Abort + Threads + Wait + Sync, G: Gate + Sync>(
     rt: &R,
     alloc: Global,
     plan: (u16, u16),
-    messages: u16,
-    turns: u64,
+    load: (u16, u64),
     gate: &G,
     fault: StormFault,
-)
-    requires messages { (1 ≤ messages) × (messages ≤ 65535) }
-    requires turns { (1 ≤ turns) × (turns ≤ 1000000000) }
-{
-    let ended = storm_small(rt, alloc, plan, messages, turns, gate);
+) {
+    let ended = storm_of(rt, alloc, small_plan(rt, alloc, plan.0, plan.1), load, gate);
     assert_same(rt, ended.err(), Some(fault));
 }
 
 #[test]
 fn four_workers_send_a_hundred_messages_each(rt: HostRuntime) {
-    assert_sent(&rt, rt.alloc(), (256, 64), 100, 1_000, &OpenGate);
+    assert_sent(&rt, rt.alloc(), (256, 64), (100, 1_000), &OpenGate);
 }
 
 #[test]
 fn all_workers_run_at_once(rt: HostRuntime) {
     let gate = Meeting::of(u64::from(PORTS));
-    assert_sent(&rt, rt.alloc(), (256, 64), 100, 1_000, &gate);
+    assert_sent(&rt, rt.alloc(), (256, 64), (100, 1_000), &gate);
 }
 
 #[test]
 fn what_has_no_room_is_sent_again_while_the_emitter_is_polled(rt: HostRuntime) {
-    assert_sent(&rt, rt.alloc(), (2, 64), 20, TURNS, &OpenGate);
+    assert_sent(&rt, rt.alloc(), (2, 64), (20, TURNS), &OpenGate);
 }
 
 #[test]
 fn a_worker_that_may_try_once_uses_up_its_turns(rt: HostRuntime) {
     let fault = StormFault::Turns;
-    assert_fault(&rt, rt.alloc(), (256, 64), 100, 1, &OpenGate, fault);
+    assert_fault(&rt, rt.alloc(), (256, 64), (100, 1), &OpenGate, fault);
 }
 
 #[test]
 fn a_drain_that_may_poll_once_uses_up_its_turns(rt: HostRuntime) {
     let fault = StormFault::Turns;
-    assert_fault(&rt, rt.alloc(), (256, 64), 1, 1, &OpenGate, fault);
+    assert_fault(&rt, rt.alloc(), (256, 64), (1, 1), &OpenGate, fault);
 }
 
 #[test]
 fn a_port_with_a_greatest_message_of_5_bytes_is_short(rt: HostRuntime) {
     let fault = StormFault::Short;
-    assert_fault(&rt, rt.alloc(), (256, 5), 100, 1_000, &OpenGate, fault);
+    assert_fault(&rt, rt.alloc(), (256, 5), (100, 1_000), &OpenGate, fault);
 }
 
 #[test]
 fn a_port_with_a_greatest_message_of_6_bytes_is_not(rt: HostRuntime) {
-    assert_sent(&rt, rt.alloc(), (256, 6), 2, 1_000, &OpenGate);
+    assert_sent(&rt, rt.alloc(), (256, 6), (2, 1_000), &OpenGate);
 }
 
 #[test]
@@ -148,6 +117,6 @@ fn a_gate_that_refuses_ends_its_worker_and_no_other(rt: HostRuntime) {
         accepted: AtomicU64::new(0),
     };
     let fault = StormFault::Turns;
-    assert_fault(&rt, rt.alloc(), (256, 64), 10, 1_000, &gate, fault);
+    assert_fault(&rt, rt.alloc(), (256, 64), (10, 1_000), &gate, fault);
     assert_same(&rt, gate.accepted.load(Ordering::SeqCst), 32);
 }

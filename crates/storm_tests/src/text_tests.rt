@@ -1,16 +1,11 @@
 //! What the command tells of storms.
 ghost use Rattle.std.specs.Prelude.{◌≡◌, ◌≤◌, ◌+◌, IfOk, length};
 
-use crate::plans::{assert_same, small_text};
+use crate::plans::*;
 use afdx_plan::{Bag, LinkPlan, Lmax, Networks, VlId};
 use plan_report::Failure;
 use redundant_mux::MemNetwork;
 use status_board::Counts;
-use std::alloc::{AllocError, Global};
-use std::process::Abort;
-use std::sync::Wait;
-use std::thread::Threads;
-use storm::{OpenGate, StormReport};
 use storm_report::{bench_storm, write_totals};
 use transcript::RunFault;
 
@@ -55,15 +50,8 @@ fn a_writer_without_room_is_told(rt: HostRuntime) {
     let text = small_text(rt.alloc(), 256, 64).expect(&rt, "memory");
     let mut room = [0u8; 60];
     let mut writer: &mut [u8] = &mut room;
-    let ended = bench_storm(
-        &rt,
-        rt.alloc(),
-        text.as_bytes(),
-        &mut writer,
-        100,
-        1_000,
-        &OpenGate,
-    );
+    let text = text.as_bytes();
+    let ended = bench_storm(&rt, rt.alloc(), text, &mut writer, 100, 1_000, &OpenGate);
     assert_same(&rt, ended, Err(Failure::Run(RunFault::Write)));
 }
 

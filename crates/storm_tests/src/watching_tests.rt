@@ -1,8 +1,6 @@
 //! Storms over two links, which are read by a watcher and told in the order of the configuration.
 use crate::gates::Watched;
-use crate::plans::{assert_same, links_plan, links_text};
-use std::process::Abort;
-use storm::{OpenGate, StormReport, storm};
+use crate::plans::*;
 use storm_report::bench_storm;
 
 // Link 5 with the greatest gap and one port, and after it link 2 with the least gap and two ports.
@@ -35,15 +33,8 @@ watcher never back
 fn links_are_told_in_the_order_of_the_configuration(rt: HostRuntime) {
     let text = links_text(rt.alloc(), &LINKS).expect(&rt, "memory");
     let mut told = Vec::new(rt.alloc());
-    let ended = bench_storm(
-        &rt,
-        rt.alloc(),
-        text.as_bytes(),
-        &mut told,
-        10,
-        1_000,
-        &OpenGate,
-    );
+    let text = text.as_bytes();
+    let ended = bench_storm(&rt, rt.alloc(), text, &mut told, 10, 1_000, &OpenGate);
     assert_same(&rt, ended, Ok(()));
     assert_same(&rt, told.as_slice(), REPORT.as_bytes());
 }

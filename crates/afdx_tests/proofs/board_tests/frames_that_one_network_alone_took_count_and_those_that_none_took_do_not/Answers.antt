@@ -1,14 +1,5 @@
-use Rattle.std.proofs.Common.{◌∙◌, ◌<◌, ap, sym, subst}
-use Rattle.redundant_mux.specs.Memory.{Memory}
+use Rattle.std.proofs.Common.{◌∙◌, ◌<◌, sym, subst}
 use Rattle.afdx_tests.proofs.board_tests.frames_that_one_network_alone_took_count_and_those_that_none_took_do_not.Goals as goal
-
-pub open_one-opened-requires : goal.open_one-opened-requires
-open_one-opened-requires g c = record {
-  a_empty = ap (λ (m : Memory). m.handed) c.failing_at-a.ensures;
-  b_empty = ap (λ (m : Memory). m.handed) c.failing_at-b.ensures;
-  a_new = ap (λ (m : Memory). m.failures) c.failing_at-a.ensures;
-  b_new = ap (λ (m : Memory). m.failures) c.failing_at-b.ensures;
-}
 
 pub assert_failing-requires : goal.assert_failing-requires
 assert_failing-requires g c = c.open_one-opened.ensures.links

@@ -37,16 +37,16 @@ two_own port back fresh is = is.own ∙ ap (λ own. (own ++ (1 ∷ []) ∷ []) +
 
 pub gather_one-draining-requires : goal.gather_one-draining-requires
 gather_one-draining-requires g c =
-    let old = c.open_demo_standing-opened.result.tx in
+    let old = c.open_demo-opened.result.tx in
     let new = c.send_beside-port.new.tx in
     let port = c.send_beside-port.result in
-    let own = c.send_beside-port.ensures.port.of old c.open_demo_standing-opened.ensures.port.of in
+    let own = c.send_beside-port.ensures.port.of old c.open_demo-opened.ensures.port.of in
     subst (λ (p : Plan). BelongsTo p (queues_in new.links) port) (sym c.send_beside-port.ensures.plan)
     (subst (λ q. BelongsTo old.plan q port) (sym c.send_beside-port.ensures.queues) own)
 
 pub returns : goal.returns
 returns g c =
-    let opened = c.open_demo_standing-opened in
+    let opened = c.open_demo-opened in
     let gathered = c.gather_one-draining.result in
     let drained = c.drain_whole.new.draining in
     let plan = c.drain_whole.ensures.plan ∙ c.gather_one-draining.ensures.plan ∙ c.send_beside-port.ensures.plan ∙ opened.ensures.plan in

@@ -1,11 +1,13 @@
+use Rattle.std.proofs.Common.{ap}
+use Rattle.redundant_mux.specs.Memory.{Memory}
 use Rattle.afdx_tests.proofs.testing.open.Goals as goal
 
 pub open_tx-requires : goal.open_tx-requires
 open_tx-requires g c = record {
-  a_empty = c.requires.a_empty;
-  b_empty = c.requires.b_empty;
-  a_new = c.requires.a_new;
-  b_new = c.requires.b_new;
+  a_empty = ap (λ (m : Memory). m.handed) c.failing_at-a.ensures;
+  b_empty = ap (λ (m : Memory). m.handed) c.failing_at-b.ensures;
+  a_new = ap (λ (m : Memory). m.failures) c.failing_at-a.ensures;
+  b_new = ap (λ (m : Memory). m.failures) c.failing_at-b.ensures;
 }
 
 pub returns : goal.returns

@@ -20,19 +20,11 @@ last_unused tx ports rest port e opened fresh =
       fresh = subst (λ (p : PortView). p.sender.own ≡ []) last (ap (λ (s : SenderView). s.own) sender.is);
     }
 
-pub open-tx-requires : goal.open-tx-requires
-open-tx-requires g c = record {
-  a_empty = c.requires.a_empty;
-  b_empty = c.requires.b_empty;
-  a_new = c.requires.a_new;
-  b_new = c.requires.b_new;
-}
-
 pub returns-clause-port : goal.returns-clause-port
 returns-clause-port g c =
-    let ports = c.open-tx.result.ports.items in
+    let ports = c.open-opened.result.ports.items in
     let rest = c.pop.new.self.items in
     let port = c.expect-port.result in
     let items : ports ≡ rest ++ port ∷ [] =
     c.pop.ensures.items ∙ ap (λ (o : Option PortView). rest ++ option_to_list o) c.expect-port.ensures in
-    last_unused c.open-tx.result.tx ports rest port items c.open-tx.ensures.ports c.open-tx.ensures.fresh
+    last_unused c.open-opened.result.tx ports rest port items c.open-opened.ensures.ports c.open-opened.ensures.fresh

@@ -1,0 +1,137 @@
+//! Tests of the text of the demonstration with one byte replaced, and of its prefixes.
+use crate::config_read::{TEXT, only};
+use crate::testing::*;
+use afdx_config::read_config;
+use afdx_plan::{Config, Kind, LinkPlan, PortPlan, VlId};
+
+/// Whether a link's values are in their ranges.
+fn is_link(link: &LinkPlan) -> bool {
+    let lmax = link.lmax.bytes();
+    (64..=1518).contains(&lmax)
+        && (1..=4).contains(&link.sub_vls)
+        && (1..=256).contains(&link.capacity)
+}
+
+/// Whether a port's values are in their ranges, over its link.
+fn is_port(port: &PortPlan, link: &LinkPlan) -> bool {
+    port.vl == link.id
+        && port.sub < link.sub_vls
+        && port.partition <= 31
+        && port.source > 0
+        && port.destination > 0
+        && (1..=8192).contains(&port.max)
+}
+
+/// Asserts that a plan has one link and one port with values in their ranges.
+fn assert_in_ranges(rt: &impl Abort, plan: &Config) {
+    let link = only(rt, plan.links());
+    let port = only(rt, plan.ports());
+    assert!(rt; is_link(link), "{link:?}");
+    assert!(rt; is_port(port, link), "{port:?}");
+}
+
+/// The number of the fault of a text, or 0 where it is a plan, which is then asserted to be one.
+fn fault_of_checked(rt: &impl Abort, alloc: Global, text: &[u8]) -> u8 {
+    match read_config(alloc, text) {
+        Ok(plan) => {
+            assert_in_ranges(rt, &plan);
+            0
+        }
+        Err(fault) => fault.number(),
+    }
+}
+
+/// The text of the demonstration with another byte at a place.
+fn damaged(alloc: Global, place: usize, byte: u8) -> Result<Vec<u8>, AllocError> {
+    let mut text = TEXT.as_bytes().to_vec(alloc)?;
+    if let Some(old) = text.get_mut(place) {
+        *old = byte;
+    }
+    Ok(text)
+}
+
+/// Asserts the number of the fault, or 0, of the text with this byte at a place.
+fn assert_damage(rt: &impl Abort, alloc: Global, byte: u8, place: usize, number: u8) {
+    let text = damaged(alloc, place, byte).expect(rt, "memory");
+    let found = fault_of_checked(rt, alloc, &text);
+    assert_eq!(rt; found, number, "{byte:#04x} at {place}");
+}
+
+#[test]
+fn each_byte_replaced_gives_a_plan_or_the_fault_of_another_reader(rt: HostRuntime) {
+    for byte in NO_TOML {
+        for place in 0..TEXT.len() {
+            assert_damage(&rt, rt.alloc(), byte, place, 1);
+        }
+    }
+    for (byte, faults) in BYTES.iter().zip(FAULTS.chunks(2)) {
+        let digits = faults[0].bytes().chain(faults[1].bytes());
+        assert_same(&rt, faults[0].len() + faults[1].len(), TEXT.len());
+        for (place, digit) in digits.enumerate() {
+            assert_damage(&rt, rt.alloc(), *byte, place, digit.saturating_sub(b'0'));
+        }
+    }
+}
+
+// The greatest message of each prefix that is a plan, by how many bytes it lacks.
+const CUTS: [(usize, usize); 5] = [(4, 8), (3, 81), (2, 819), (1, 8192), (0, 8192)];
+
+/// The text of the demonstration without so many bytes at its end.
+fn cut_by(lacking: usize) -> &'static [u8] {
+    let text = TEXT.as_bytes();
+    &text[..text.len().saturating_sub(lacking)]
+}
+
+/// Asserts that a text is the demonstration's plan but for its port's greatest message.
+fn assert_greatest(rt: &impl Abort, alloc: Global, text: &[u8], max: usize) {
+    let plan = read_config(alloc, text).expect(rt, "a plan");
+    assert_in_ranges(rt, &plan);
+    assert_same(rt, only(rt, plan.links()).id, VlId(1));
+    let port = only(rt, plan.ports());
+    let told = (port.kind, port.source, port.max);
+    assert_same(rt, told, (Kind::Queuing, 1000, max));
+}
+
+#[test]
+fn a_prefix_that_is_a_plan_has_the_greatest_message_of_its_digits(rt: HostRuntime) {
+    for &(lacking, max) in &CUTS {
+        assert_greatest(&rt, rt.alloc(), cut_by(lacking), max);
+    }
+}
+
+// Bytes of which each, in place of any byte of the demonstration's text, makes a text that is no TOML.
+const NO_TOML: [u8; 4] = [0x00, 0x7f, 0x80, 0xff];
+
+// A byte, and the number of the fault, or 0, that the demonstration's text has with this byte in place of
+// each of its bytes in turn: of its head and its link, and then of its port. They were found by Python's
+// `tomllib` and the rules of `docs/configuration.md`. Where the byte stood there already, it is 0.
+const BYTES: [u8; 12] = [
+    b'\n', b' ', b'"', b'#', b'-', b'.', b'0', b'9', b'=', b'[', b']', b'a',
+];
+
+const FAULTS: [&str; 24] = [
+    "111111111111021111100111111021111102111111111021111111110021111111111021111111111100",
+    "11111111021111100211111021111110211111111111102111111111111111021111111111100211111111111111110021111111100",
+    "121111111121122010100112211122010112111120101121120100110121111120101121111112010100",
+    "11211211122010001220101121201011211111112010112112010155555551121111201011101211111111120101110121201001100",
+    "111111111111111111111111111111111111111111111111111111111111111111111111111111111111",
+    "11111111111111111111111111111111111111111111111111111011111110111111111111111111111111111111111111111111111",
+    "211111111111221111101111111221111122111111111221111111550221111111111221111111111101",
+    "11111111221111102211111221111112211111111111122111111155555551221111111110002211111111111111000221111110000",
+    "122222222221122215111112211122215112222222161122222155111122222222151122222222215111",
+    "11222211122215011222151122221011222222222215112222211155555551122222221511111222222222222151111122221551111",
+    "112222222211111111111111111111111111222211111112211111441112222211111112222221111111",
+    "11122111111111111111111112111111122222221111111221111155555551112222111114411122222222211111441112111114411",
+    "122222222221122211001112211122211912222222116122222111000122222222115122222222211501",
+    "11222211122211101222119122221101222222222211012222211155555551122222221110001222222222222111000122221110005",
+    "122222222221122210001112211122219912222222166122222155555122222222155122222222210001",
+    "11222211122210001222199122221551222222222215012222211155555551122222221500001222222222222150000122221555055",
+    "111111111111111101111111111111101111111111011111111011111111111111011111111111101111",
+    "11111111111101111111011111110111111111111101111111101155555551111111110111111111111111111011111111110111111",
+    "011111111111111111111001111111111111111111111111111111111111111111111111111111111111",
+    "00111111111111111111111111111111111111111111111111111155555551111111111111111111111111111111111111111111111",
+    "111111111110111111111111100111111111111111111111111111111111111111111111111111111111",
+    "11111100111111111111111111111111111111111111111111111155555551111111111111111111111111111111111111111111111",
+    "122222222221122211111112211122211112022222111122022111111122222222111120202222211111",
+    "11222211122211111222111122221111202222222211112222211155555551122222221111111222222022222111111120221111111",
+];

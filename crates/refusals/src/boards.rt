@@ -1,0 +1,72 @@
+//! A board that is opened.
+ghost use Rattle.std.specs.Prelude.{◌≡◌, length};
+ghost use Rattle.status_board.specs.Views.{links_of, AreNew};
+
+use crate::trouble::*;
+use status_board::laws::seen_begins;
+use status_board::{Board, Counts, Monitor, open_board};
+use std::sync::Wait;
+
+/// What is published.
+const FIRST: Counts = Counts {
+    frames: 1,
+    bytes: 60,
+    messages: 1,
+    last: 0,
+};
+
+/// Tells a reading.
+pub fn tell_counts<W: Write>(out: &mut W, counts: Counts) -> Result<(), Trouble> {
+    let Counts {
+        frames,
+        bytes,
+        messages,
+        last,
+    } = counts;
+    writeln!(
+        out,
+        "frames {frames}, bytes {bytes}, messages {messages}, last {last}"
+    )?;
+    Ok(())
+}
+
+/// Compares both ends of a new board of one link, which changes neither.
+pub fn compare_ends<R: Wait>(rt: &R, board: &mut Board, monitor: &mut Monitor)
+    requires board { length board.old ≡ 1 }
+    requires monitor { links_of monitor.old ≡ 1 }
+    requires new { AreNew board.old monitor.old }
+    ensures board { board.new ≡ board.old }
+    ensures monitor { monitor.new ≡ monitor.old }
+{
+    seen_begins(rt, board, monitor, 0);
+}
+
+/// Reads before the first entry and after it.
+pub fn publish_told<W: Write, R: Wait>(
+    rt: &R,
+    out: &mut W,
+    mut board: Board,
+    mut monitor: Monitor,
+) -> Result<(), Trouble>
+    requires board { length board ≡ 1 }
+    requires monitor { links_of monitor ≡ 1 }
+    requires new { AreNew board monitor }
+{
+    let before = monitor.read(rt, 0);
+    board.publish(rt, 0, FIRST);
+    let after = monitor.read(rt, 0);
+    tell_counts(out, before)?;
+    tell_counts(out, after)
+}
+
+/// Opens a board of one link, once more where memory was refused.
+pub fn open<W: Write, R: Wait>(rt: &R, alloc: Global, out: &mut W) -> Result<(), Trouble> {
+    if let Ok((board, monitor)) = open_board(alloc, 1) {
+        return publish_told(rt, out, board, monitor);
+    }
+    writeln!(out, "refused AllocError")?;
+    match open_board(alloc, 1) {
+        Ok((board, monitor)) => publish_told(rt, out, board, monitor),
+        Err(_) => Err(Trouble::Twice),
+    }
+}

@@ -1,0 +1,69 @@
+//! Configurations that are read or made.
+use crate::trouble::*;
+use afdx_config::read_config;
+use afdx_plan::{Config, ConfigFault, demo_config};
+use plan_report::write_report;
+
+/// The text of the demonstration configuration.
+const DEMO: &str = "[end_system]\nid = 1\n\
+    [[vl]]\nid = 1\nbag_ms = 1\nlmax = 1518\nsub_vls = 1\ncapacity = 2\n\
+    [[port]]\nid = 10\nvl = 1\nsub = 0\npartition = 1\nkind = \"queuing\"\n\
+    source = 1000\ndestination = 2000\nmax = 8192\n";
+
+/// Two links, and a port on each that sends to one and the same address.
+const SHARED: &str = "[end_system]\nid = 1\n\
+    [[vl]]\nid = 1\nbag_ms = 1\nlmax = 1518\nsub_vls = 1\ncapacity = 2\n\
+    [[vl]]\nid = 2\nbag_ms = 1\nlmax = 1518\nsub_vls = 1\ncapacity = 2\n\
+    [[port]]\nid = 10\nvl = 1\nsub = 0\npartition = 1\nkind = \"queuing\"\n\
+    source = 1000\ndestination = 2000\nmax = 8192\ndest_ip = \"10.0.2.1\"\n\
+    [[port]]\nid = 11\nvl = 2\nsub = 0\npartition = 1\nkind = \"queuing\"\n\
+    source = 1000\ndestination = 2000\nmax = 8192\ndest_ip = \"10.0.2.1\"\n";
+
+/// A text that is cut off behind a sign `=`.
+const CUT: &str = "[end_system]\nid = 1\n[[vl]]\nid = 1\nbag_ms = 1\nlmax =";
+
+/// Whether memory was refused.
+fn is_refused(answer: &Result<Config, ConfigFault>) -> bool {
+    matches!(answer, Err(ConfigFault::Memory))
+}
+
+/// Tells the plan, or the fault.
+fn tell<W: Write>(out: &mut W, answer: &Result<Config, ConfigFault>) -> Result<(), Trouble> {
+    match answer {
+        Ok(config) => write_report(out, config)?,
+        Err(fault) => writeln!(out, "{} {fault}", fault.number())?,
+    }
+    Ok(())
+}
+
+/// Reads a text, once more where memory was refused.
+fn read_text<W: Write>(alloc: Global, out: &mut W, text: &str) -> Result<(), Trouble> {
+    let mut answer = read_config(alloc, text.as_bytes());
+    if is_refused(&answer) {
+        writeln!(out, "refused Memory")?;
+        answer = read_config(alloc, text.as_bytes());
+    }
+    tell(out, &answer)
+}
+
+/// Reads a plan, a text of a late fault, and one that is no TOML.
+pub fn read<W: Write>(alloc: Global, out: &mut W) -> Result<(), Trouble> {
+    read_text(alloc, out, DEMO)?;
+    read_text(alloc, out, SHARED)?;
+    read_text(alloc, out, CUT)
+}
+
+/// Makes the demonstration configuration, once more where memory was refused.
+pub fn demo<W: Write>(alloc: Global, out: &mut W) -> Result<(), Trouble> {
+    let mut answer = demo_config(alloc);
+    if is_refused(&answer) {
+        writeln!(out, "refused Memory")?;
+        answer = demo_config(alloc);
+    }
+    tell(out, &answer)
+}
+
+/// The demonstration configuration, made before the call that a case is about.
+pub fn prepared(alloc: Global) -> Result<Config, Trouble> {
+    demo_config(alloc).map_err(|_| Trouble::Unprepared)
+}

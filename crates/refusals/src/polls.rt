@@ -1,0 +1,77 @@
+//! Polls that are told.
+ghost use Rattle.std.specs.Prelude.{◌≡◌, OnOk};
+ghost use Rattle.afdx_tx.specs.Emitter.{Tx};
+ghost use Rattle.afdx_tx.specs.Ports.{PortView, IsPortOfTx};
+
+use crate::trouble::*;
+use afdx_tx::{Emitter, PollFault, Report, TxPort};
+use redundant_mux::Network;
+
+/// Whether a network stands, in a word.
+fn state(stands: bool) -> &'static str {
+    if stands { "stands" } else { "down" }
+}
+
+/// Tells what a poll released, and which networks stand then.
+pub fn tell_report<W: Write>(
+    out: &mut W,
+    now: u64,
+    answer: Result<Report, PollFault>,
+) -> Result<(), Trouble> {
+    match answer {
+        Ok(report) => {
+            let released = report.released.len();
+            let (a, b) = (state(report.standing.a), state(report.standing.b));
+            writeln!(out, "poll {now}: released {released}, A {a}, B {b}")?;
+        }
+        Err(fault) => writeln!(out, "poll {now}: {fault}")?,
+    }
+    Ok(())
+}
+
+/// Polls at a moment that isn't before the last one, and tells what came of it.
+pub fn poll_told<W: Write, A: Network + Drop, B: Network + Drop>(
+    out: &mut W,
+    tx: &mut Emitter<A, B>,
+    now: u64,
+) -> Result<(), Trouble>
+    ensures { OnOk result ((port : PortView) → IsPortOfTx tx.old port → IsPortOfTx tx.new port) }
+{
+    if now < tx.now() {
+        return Err(Trouble::Missing);
+    }
+    let answer = tx.poll(now);
+    tell_report(out, now, answer)
+}
+
+/// Sends a message, and tells how it is refused, if it is. The port stays one of its emitter.
+pub fn send_told<W: Write>(out: &mut W, port: &mut TxPort, message: Vec<u8>) -> Result<(), Trouble>
+    ensures { (tx : Tx) → IsPortOfTx tx port.old → IsPortOfTx tx port.new }
+{
+    match port.send(message) {
+        Ok(()) => writeln!(out, "send: Ok")?,
+        Err(fault) => writeln!(out, "send: {}", fault.why)?,
+    }
+    Ok(())
+}
+
+/// Sends two messages by the last port, and polls twice.
+pub fn send_two_told<W: Write, A: Network + Drop, B: Network + Drop>(
+    out: &mut W,
+    tx: &mut Emitter<A, B>,
+    ports: &mut [TxPort],
+    messages: (Vec<u8>, Vec<u8>),
+) -> Result<(), Trouble> {
+    let Some(port) = ports.last_mut() else {
+        return Err(Trouble::Missing);
+    };
+    send_told(out, port, messages.0)?;
+    send_told(out, port, messages.1)?;
+    poll_told(out, tx, 0)?;
+    poll_told(out, tx, 1_000)
+}
+
+/// A message of one byte.
+pub fn message(alloc: Global, byte: u8) -> Result<Vec<u8>, Trouble> {
+    Ok(vec![in alloc; byte]?)
+}

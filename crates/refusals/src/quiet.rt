@@ -1,0 +1,292 @@
+//! An emitter that takes no memory once it is opened.
+ghost use Rattle.std.specs.Prelude.{◌≡◌, ◌<◌, IfOk, OnOk};
+ghost use Rattle.status_board.specs.Views.{links_of};
+ghost use Rattle.afdx_tx.specs.Emitter.{Tx};
+ghost use Rattle.afdx_tx.specs.Ports.{PortView, IsPortOfTx};
+
+use crate::boards::tell_counts;
+use crate::configs::prepared;
+use crate::polls::{message, poll_told, send_told, tell_report};
+use crate::shelf::{Shelf, empty_shelf};
+use crate::trouble::*;
+use afdx_frame::{ident_of, more_of, offset_of, sn_of, sub_of, vl_of};
+use afdx_plan::VlId;
+use afdx_tx::{Draining, Emitter, TxPort, open_tx};
+use status_board::Monitor;
+use std::sync::Wait;
+
+/// What is opened, with the one port taken out of the list of ports. It is large: a call of `drop`
+/// lets go of it in one step, where the end of a scope takes it apart field by field.
+#[derive(Drop)]
+struct Opened {
+    tx: Emitter<Shelf, Shelf>,
+    port: TxPort,
+    others: Vec<TxPort>,
+    monitor: Monitor,
+}
+
+/// Opens the demonstration configuration over networks that take no memory.
+fn open(alloc: Global) -> Result<Opened, Trouble>
+    ensures port { IfOk result (λ opened. IsPortOfTx opened.tx opened.port) }
+    ensures monitor { IfOk result (λ opened. 0 < links_of opened.monitor) }
+{
+    let config = prepared(alloc)?;
+    if config.links().is_empty() {
+        return Err(Trouble::Missing);
+    }
+    match open_tx(alloc, config, empty_shelf(4), empty_shelf(4)) {
+        Ok((tx, mut others, monitor)) => {
+            let Some(port) = others.pop() else {
+                drop(tx);
+                return Err(Trouble::Missing);
+            };
+            Ok(Opened {
+                tx,
+                port,
+                others,
+                monitor,
+            })
+        }
+        Err(back) => {
+            drop(back);
+            Err(Trouble::NotOpened)
+        }
+    }
+}
+
+/// Sends a message with a pause that does nothing, and tells how it is refused, if it is. The port stays
+/// one of its emitter.
+fn send_paused_told<W: Write>(
+    out: &mut W,
+    port: &mut TxPort,
+    message: Vec<u8>,
+) -> Result<(), Trouble>
+    ensures { (tx : Tx) → IsPortOfTx tx port.old → IsPortOfTx tx port.new }
+{
+    match port.send_with(message, || {}) {
+        Ok(()) => writeln!(out, "send: Ok")?,
+        Err(fault) => writeln!(out, "send: {}", fault.why)?,
+    }
+    Ok(())
+}
+
+/// Tells what a port is asked.
+fn tell_port<W: Write>(out: &mut W, port: &TxPort) -> Result<(), Trouble> {
+    let (id, accepted) = (port.id().0, port.accepted());
+    writeln!(out, "port {id} accepted {accepted}")?;
+    Ok(())
+}
+
+/// Tells what an emitter is asked between its polls.
+fn tell_emitter<W: Write>(out: &mut W, tx: &Emitter<Shelf, Shelf>) -> Result<(), Trouble> {
+    let (links, now) = (tx.config().links().len(), tx.now());
+    let (a, b) = (tx.network_a().kept.len(), tx.network_b().kept.len());
+    writeln!(out, "links {links}, now {now}, A has {a}, B has {b}")?;
+    match tx.counts(VlId(1)) {
+        Some(counts) => tell_counts(out, counts),
+        None => Err(Trouble::Missing),
+    }
+}
+
+/// Tells what an emitter is asked while it drains.
+fn tell_draining<W: Write>(out: &mut W, draining: &Draining<Shelf, Shelf>) -> Result<(), Trouble> {
+    let (links, now) = (draining.config().links().len(), draining.now());
+    let (a, b) = (
+        draining.network_a().kept.len(),
+        draining.network_b().kept.len(),
+    );
+    writeln!(out, "links {links}, now {now}, A has {a}, B has {b}")?;
+    match draining.counts(VlId(1)) {
+        Some(counts) => tell_counts(out, counts),
+        None => Err(Trouble::Missing),
+    }
+}
+
+/// Takes the networks back from an emitter that sent nothing.
+fn give_up<W: Write>(out: &mut W, opened: Opened) -> Result<(), Trouble> {
+    let Opened {
+        tx,
+        port: _port,
+        others: _others,
+        monitor: _monitor,
+    } = opened;
+    let (a, b) = tx.into_networks();
+    let (a, b) = (a.kept.len(), b.kept.len());
+    writeln!(out, "given up: A has {a}, B has {b}")?;
+    Ok(())
+}
+
+/// Sends a message, and polls twice.
+fn send_and_poll<W: Write>(
+    out: &mut W,
+    tx: &mut Emitter<Shelf, Shelf>,
+    port: &mut TxPort,
+    message: Vec<u8>,
+) -> Result<(), Trouble>
+    ensures { OnOk result (IsPortOfTx tx.old port.old → IsPortOfTx tx.new port.new) }
+{
+    send_told(out, port, message)?;
+    poll_told(out, tx, 0)?;
+    poll_told(out, tx, 1_000)
+}
+
+/// Publishes, and reads the board.
+fn publish_and_read<W: Write, R: Wait>(
+    rt: &R,
+    out: &mut W,
+    tx: &mut Emitter<Shelf, Shelf>,
+    monitor: &mut Monitor,
+) -> Result<(), Trouble>
+    requires { 0 < links_of monitor.old }
+    ensures { tx.new ≡ record tx.old { board = tx.new.board } }
+{
+    tx.publish(rt);
+    tell_counts(out, monitor.read(rt, 0))
+}
+
+/// Closes the one sub-VL, and tells how many messages were accepted.
+fn close_told<W: Write>(out: &mut W, tx: &mut Emitter<Shelf, Shelf>) -> Result<(), Trouble>
+    ensures { OnOk result ((port : PortView) → IsPortOfTx tx.old port → IsPortOfTx tx.new port) }
+{
+    match tx.close(VlId(1), 0) {
+        Ok(total) => writeln!(out, "closed {total}")?,
+        Err(fault) => writeln!(out, "{fault}")?,
+    }
+    Ok(())
+}
+
+/// Gathers the one port, in the list that it came out of.
+fn gather(opened: Opened) -> Result<Draining<Shelf, Shelf>, Trouble>
+    requires { IsPortOfTx opened.tx opened.port }
+{
+    let Opened {
+        tx,
+        port,
+        others,
+        monitor: _monitor,
+    } = opened;
+    let mut ports = others;
+    ports.clear();
+    ports.push(port)?;
+    match tx.gather(ports) {
+        Ok(draining) => Ok(draining),
+        Err(back) => {
+            drop(back);
+            Err(Trouble::Missing)
+        }
+    }
+}
+
+/// Polls for what is left, and publishes.
+fn drain<W: Write, R: Wait>(
+    rt: &R,
+    out: &mut W,
+    draining: &mut Draining<Shelf, Shelf>,
+) -> Result<(), Trouble> {
+    if 2_000 < draining.now() {
+        return Err(Trouble::Missing);
+    }
+    let answer = draining.poll(2_000);
+    tell_report(out, 2_000, answer)?;
+    draining.publish(rt);
+    tell_draining(out, draining)?;
+    let done = if draining.is_done() {
+        "done"
+    } else {
+        "not done"
+    };
+    writeln!(out, "{done}")?;
+    Ok(())
+}
+
+/// Tells the fields of a frame.
+pub fn tell_fields<W: Write>(out: &mut W, frame: &[u8]) -> Result<(), Trouble> {
+    let (vl, sub, number) = (vl_of(frame), sub_of(frame), sn_of(frame));
+    let (ident, offset, more) = (ident_of(frame), offset_of(frame), more_of(frame));
+    let vl = vl.map_or(0, |id| id.0);
+    let (sub, number) = (sub.unwrap_or(255), number.unwrap_or(255));
+    let (ident, offset) = (ident.unwrap_or(65_535), offset.unwrap_or(65_535));
+    let more = if more == Some(true) { "more" } else { "last" };
+    let length = frame.len();
+    writeln!(
+        out,
+        "{length} bytes, link {vl} sub {sub}, number {number}\n\
+        message {ident}, offset {offset}, {more}"
+    )?;
+    Ok(())
+}
+
+/// Tells what a network was handed.
+fn tell_shelf<W: Write>(out: &mut W, name: &str, shelf: &Shelf) -> Result<(), Trouble> {
+    for kept in shelf.kept.as_slice() {
+        writeln!(out, "{name} {}", kept.at)?;
+        tell_fields(out, kept.frame.as_slice())?;
+    }
+    Ok(())
+}
+
+/// Sends, polls, publishes, reads, sends once more and closes. What is printed behind `opened` takes no
+/// memory.
+fn use_opened<W: Write, R: Wait>(
+    rt: &R,
+    out: &mut W,
+    opened: &mut Opened,
+    long: Vec<u8>,
+    short: Vec<u8>,
+) -> Result<(), Trouble>
+    requires { 0 < links_of opened.old.monitor }
+    ensures { OnOk result (IsPortOfTx opened.old.tx opened.old.port
+        → IsPortOfTx opened.new.tx opened.new.port) }
+{
+    writeln!(out, "opened")?;
+    send_and_poll(out, &mut opened.tx, &mut opened.port, long)?;
+    publish_and_read(rt, out, &mut opened.tx, &mut opened.monitor)?;
+    tell_emitter(out, &opened.tx)?;
+    send_paused_told(out, &mut opened.port, short)?;
+    tell_port(out, &opened.port)?;
+    close_told(out, &mut opened.tx)
+}
+
+/// Uses what is opened, gathers, and tells what the networks were handed.
+fn use_all<W: Write, R: Wait>(
+    rt: &R,
+    out: &mut W,
+    mut opened: Opened,
+    long: Vec<u8>,
+    short: Vec<u8>,
+) -> Result<(), Trouble>
+    requires port { IsPortOfTx opened.tx opened.port }
+    requires monitor { 0 < links_of opened.monitor }
+{
+    if let Err(trouble) = use_opened(rt, out, &mut opened, long, short) {
+        drop(opened);
+        return Err(trouble);
+    }
+    let mut draining = gather(opened)?;
+    let drained = drain(rt, out, &mut draining);
+    let (a, b) = draining.into_networks();
+    drained?;
+    tell_shelf(out, "A", &a)?;
+    tell_shelf(out, "B", &b)
+}
+
+/// Sends a message of two frames, and one that is left to the drain. Both are made before the emitter is
+/// opened, and so is another one, which sends nothing.
+pub fn send<W: Write, R: Wait>(rt: &R, alloc: Global, out: &mut W) -> Result<(), Trouble> {
+    let long = vec![in alloc; 0xaau8; 1_472]?;
+    let short = message(alloc, 1)?;
+    let spare = open(alloc)?;
+    match open(alloc) {
+        Ok(opened) => {
+            if let Err(trouble) = give_up(out, spare) {
+                drop(opened);
+                return Err(trouble);
+            }
+            use_all(rt, out, opened, long, short)
+        }
+        Err(trouble) => {
+            drop(spare);
+            Err(trouble)
+        }
+    }
+}

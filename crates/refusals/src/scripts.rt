@@ -1,0 +1,36 @@
+//! A script that is run.
+use crate::configs::prepared;
+use crate::trouble::*;
+use tx_script::{RunFault, Summary, run_script};
+
+/// The third message has no room at first, and is sent again.
+const SCRIPT: &str = "send 10 01\nsend 10 02\nsend 10 03\nat 0\nsend 10 03\nat 1000\nat 2000\n";
+
+/// Tells the counts of a run, or its fault.
+fn tell<W: Write>(out: &mut W, answer: Result<Summary, RunFault>) -> Result<(), Trouble> {
+    match answer {
+        Ok(
+            Summary {
+                accepted,
+                refused,
+                frames,
+            },
+        ) => writeln!(
+            out,
+            "accepted {accepted}, refused {refused}, frames {frames}"
+        )?,
+        Err(fault) => writeln!(out, "{fault}")?,
+    }
+    Ok(())
+}
+
+/// Runs a script, and prints its transcript; once more where memory was refused.
+pub fn run<W: Write>(alloc: Global, out: &mut W) -> Result<(), Trouble> {
+    let (first, second) = (prepared(alloc)?, prepared(alloc)?);
+    let mut answer = run_script(alloc, first, SCRIPT.as_bytes(), out);
+    if answer == Err(RunFault::Memory) {
+        writeln!(out, "refused Memory")?;
+        answer = run_script(alloc, second, SCRIPT.as_bytes(), out);
+    }
+    tell(out, answer)
+}

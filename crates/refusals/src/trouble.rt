@@ -1,0 +1,58 @@
+//! Why a case ends early, and what each case makes use of.
+pub use std::alloc::Global;
+use std::alloc::{AllocError, AllocFailed};
+use std::io;
+pub use std::io::Write;
+use thiserror::Error;
+
+/// Why a case ends before its answer.
+#[derive(Clone, Copy, Debug, PartialEq, Eq, Error)]
+pub enum Trouble {
+    /// Memory was refused before the call that the case is about.
+    #[error("no memory before the call")]
+    Unprepared,
+    /// Memory was refused to `open_tx`.
+    #[error("refused OpenFault")]
+    NotOpened,
+    /// A call was refused a second time, with ample memory.
+    #[error("refused twice")]
+    Twice,
+    /// Something that a case has made isn't there.
+    #[error("missing")]
+    Missing,
+    /// Standard output can't be written.
+    #[error("write failed")]
+    Output,
+    /// No case has that word.
+    #[error("no such case")]
+    NoCase,
+}
+
+impl Trouble {
+    /// The exit status of the program.
+    pub fn status(self) -> u8 {
+        match self {
+            Trouble::Unprepared | Trouble::NotOpened => 4,
+            Trouble::NoCase => 2,
+            Trouble::Twice | Trouble::Missing | Trouble::Output => 1,
+        }
+    }
+}
+
+impl From<AllocError> for Trouble {
+    fn from(_error: AllocError) -> Trouble {
+        Trouble::Unprepared
+    }
+}
+
+impl<T: Drop> From<AllocFailed<T>> for Trouble {
+    fn from(_error: AllocFailed<T>) -> Trouble {
+        Trouble::Unprepared
+    }
+}
+
+impl From<io::Error> for Trouble {
+    fn from(_error: io::Error) -> Trouble {
+        Trouble::Output
+    }
+}

@@ -1,0 +1,94 @@
+//! Tests of the words of the command line.
+use crate::helpers::*;
+use bench_words::{Words, parse, tell_words};
+use clap::Error;
+use plan_report::End;
+
+// One word more.
+fn push_word<T: Abort>(rt: &T, alloc: Global, words: &mut Vec<String>, word: &str) {
+    let word = word.to_string(alloc).expect(rt, "memory");
+    words.push(word).expect(rt, "memory");
+}
+
+// What the words of a line ask for. It is split at its blanks, behind the program's name.
+fn parsed<T: Abort>(rt: &T, alloc: Global, line: &str) -> Result<Words, Error> {
+    let mut words = Vec::new(alloc);
+    push_word(rt, alloc, &mut words, "afdx_bench");
+    for word in line.split_whitespace() {
+        push_word(rt, alloc, &mut words, word);
+    }
+    parse(alloc, words.as_slice())
+}
+
+// Asserts what the words of a line ask for.
+fn assert_asks<T: Abort>(rt: &T, alloc: Global, line: &str, wanted: &str) {
+    let words = parsed(rt, alloc, line).ok().expect(rt, line);
+    let text = format!(in alloc; "{words:?}").expect(rt, line);
+    assert_same(rt, text.as_str(), wanted);
+}
+
+// Words, and what they ask for.
+const COMMANDS: &str = " => Script
+check a.toml => Check { config: \"a.toml\" }
+run a.toml b.txt => Run { config: \"a.toml\", script: \"b.txt\", capture: None }
+run a.toml b.txt --capture c.pcapng => Run { config: \"a.toml\", script: \"b.txt\", capture: Some(\"c.pcapng\") }
+run --capture=c.pcapng a.toml b.txt => Run { config: \"a.toml\", script: \"b.txt\", capture: Some(\"c.pcapng\") }
+storm a.toml --messages 65535 --turns 1000000000 => Storm { config: \"a.toml\", messages: 65535, turns: 1000000000 }
+storm --turns 1 --messages 2 a.toml => Storm { config: \"a.toml\", messages: 2, turns: 1 }
+storm a.toml --messages 0065535 --turns=01 => Storm { config: \"a.toml\", messages: 65535, turns: 1 }";
+
+#[test]
+fn each_command_has_its_words(rt: HostRuntime) {
+    for row in COMMANDS.lines() {
+        let (line, wanted) = row.split_once(" => ").expect(&rt, row);
+        assert_asks(&rt, rt.alloc(), line, wanted);
+    }
+}
+
+// Asserts how the program ends at a line whose words ask for no command.
+fn assert_ends<T: Abort + Print + Eprint>(rt: &T, alloc: Global, line: &str, end: End) {
+    let error = parsed(rt, alloc, line).err().expect(rt, line);
+    assert_same_at(rt, tell_words(rt, &error), end, line);
+}
+
+const OTHER_WORDS: [&str; 25] = [
+    "help",
+    "chekc a.toml",
+    "check",
+    "check a.toml b.txt",
+    "check --all a.toml",
+    "run a.toml",
+    "run a.toml b.txt c.txt",
+    "run a.toml b.txt --capture",
+    "run a.toml b.txt --capture c --capture d",
+    "check a.toml --capture c.pcapng",
+    "storm a.toml",
+    "storm a.toml --messages 1",
+    "storm a.toml --messages 0 --turns 1",
+    "storm a.toml --messages 65536 --turns 1",
+    "storm a.toml --messages 1 --turns 0",
+    "storm a.toml --messages 1 --turns 1000000001",
+    "storm a.toml --messages x --turns 1",
+    "storm a.toml --messages +5 --turns 1",
+    "storm a.toml --messages 5 --turns +1",
+    "storm a.toml --messages=-5 --turns 1",
+    "storm a.toml --messages -5 --turns 1",
+    "storm a.toml --messages= --turns 1",
+    "storm a.toml --messages 0x5 --turns 1",
+    "storm a.toml --messages 5 --turns 1_000",
+    "--version",
+];
+
+#[test]
+fn other_words_are_refused(rt: HostRuntime) {
+    for &line in &OTHER_WORDS {
+        assert_ends(&rt, rt.alloc(), line, End::WordsRefused);
+    }
+}
+
+#[test]
+fn help_is_told(rt: HostRuntime) {
+    for line in ["--help", "-h", "check --help", "run -h", "storm --help"] {
+        assert_ends(&rt, rt.alloc(), line, End::Told);
+    }
+}
