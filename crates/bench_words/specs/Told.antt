@@ -5,7 +5,7 @@ use Rattle.clap.specs.declared.error.kind.ErrorKind.TheVariants.{DisplayHelp, Di
 use Rattle.plan_report.specs.declared.failure.Failure.TheVariants.{Run}
 use Rattle.plan_report.specs.declared.status.End.{End}
 use Rattle.plan_report.specs.declared.status.End.TheVariants.{Told, WordsRefused, Failed}
-use Rattle.transcript.specs.declared.run_fault.RunFault.TheVariants.{Write, Memory}
+use Rattle.script_text.specs.declared.run_fault.RunFault.TheVariants.{Write, Memory}
 
 -- help was written, or standard output failed
 abbrev pub IsHelpEnd : End → Type 0

@@ -5,7 +5,7 @@ ghost use Rattle.bench_words.specs.Told.{EndsWords};
 use clap::Error;
 use clap::error::ErrorKind;
 use plan_report::{End, Failure};
-use transcript::RunFault;
+use script_text::RunFault;
 
 /// Prints what there is to tell of the words, where no command is to be done: help to standard
 /// output, and what is wrong with them to standard error.

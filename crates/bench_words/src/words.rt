@@ -1,11 +1,11 @@
 //! The words of the command line.
 ghost use Rattle.std.specs.Prelude.{◌≡◌, ◌≤◌, ◌⊎◌, Some, None, IfOk, IfSome, IfNone};
-ghost use Rattle.script_lines.specs.Numbers.{number_of};
+ghost use Rattle.script_text.specs.Numbers.{number_of};
 ghost use Rattle.bench_words.specs.Words.{IsInRange};
 
 use clap::error::ErrorKind;
 use clap::{Arg, ArgAction, ArgMatches, Command, Error, value_parser};
-use script_lines::number;
+use script_text::number;
 use std::alloc::{AllocError, Global};
 use std::io;
 use std::rt::Env;

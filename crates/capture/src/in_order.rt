@@ -6,7 +6,7 @@ ghost use Rattle.capture.specs.Order.{Captured, in_order, next_net as net_of_nex
 
 use afdx_frame::Net;
 use std::marker::Model;
-use transcript::{FrameLog, LogFrames};
+use script_text::{FrameLog, LogFrames};
 
 /// A frame that a network was handed at a moment, in microseconds.
 #[derive(Clone, Copy, Debug)]

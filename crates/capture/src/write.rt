@@ -8,7 +8,7 @@ use crate::in_order::{InOrder, Packet};
 use afdx_frame::{GREATEST_FRAME, Net};
 use byteorder::{LittleEndian, WriteBytesExt};
 use std::io::{self, Write};
-use transcript::FrameLog;
+use script_text::FrameLog;
 
 // The section header block: its type, its length, the number that tells the order of bytes, version 1.0,
 // a section of unknown length, and the length of the block again.

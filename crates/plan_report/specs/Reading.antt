@@ -7,7 +7,7 @@ use Rattle.plan_report.specs.declared.failure.Failure.TheVariants.{Config, Run}
 use Rattle.afdx_plan.specs.Config.{Plan}
 use Rattle.afdx_config.specs.Faults.{IsPlanOf, IsLeastFault}
 use Rattle.afdx_plan.specs.declared.fault.ConfigFault.TheVariants.{Memory}
-use Rattle.transcript.specs.declared.run_fault.RunFault.TheVariants as Ran
+use Rattle.script_text.specs.declared.run_fault.RunFault.TheVariants as Ran
 
 -- a text is refused for its fault of the least number; memory or the reading of it may fail
 abbrev pub IsRefusal : List ℕ → Failure → Type 0

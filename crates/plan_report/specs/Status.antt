@@ -5,8 +5,8 @@ use Rattle.plan_report.specs.declared.failure.Failure.TheVariants.{Config, Run, 
 use Rattle.plan_report.specs.declared.status.End.{End}
 use Rattle.plan_report.specs.declared.status.End.TheVariants.{Told, Ran, WordsRefused, Failed}
 use Rattle.afdx_plan.specs.declared.fault.ConfigFault.TheVariants as Plan
-use Rattle.transcript.specs.declared.run_fault.RunFault.{RunFault}
-use Rattle.transcript.specs.declared.run_fault.RunFault.TheVariants.{Line, Lines, Read, Write, Memory}
+use Rattle.script_text.specs.declared.run_fault.RunFault.{RunFault}
+use Rattle.script_text.specs.declared.run_fault.RunFault.TheVariants.{Line, Lines, Read, Write, Memory}
 
 -- 2 where the script has a fault, and 4 where memory or a stream failed
 abbrev pub run_status : RunFault → ℕ

@@ -8,7 +8,7 @@ use crate::reading::read_plan;
 use crate::report::write_report;
 use std::alloc::Global;
 use std::io::{Read, Write};
-use transcript::RunFault;
+use script_text::RunFault;
 
 /// Reads a configuration and writes the report on its plan. Where it is refused, or memory or the
 /// reader fails before, nothing is written.

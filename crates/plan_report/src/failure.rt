@@ -2,7 +2,7 @@
 use afdx_plan::ConfigFault;
 use std::error::Error;
 use std::fmt;
-use transcript::RunFault;
+use script_text::RunFault;
 
 /// Why a command ends before its work is done. Its text is what standard error is told.
 #[derive(Clone, Copy, Debug, PartialEq, Eq)]

@@ -8,7 +8,7 @@ use afdx_config::read_config;
 use afdx_plan::Config;
 use std::alloc::Global;
 use std::io::{self, Read};
-use transcript::RunFault;
+use script_text::RunFault;
 
 /// The most bytes of a configuration's text, comments and all: some four hundred times what the
 /// greatest plan takes.

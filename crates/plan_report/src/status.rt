@@ -4,7 +4,7 @@ ghost use Rattle.plan_report.specs.Status.{exit_status, failure_status as status
 
 use crate::failure::Failure;
 use afdx_plan::ConfigFault;
-use transcript::{RunFault, Summary};
+use script_text::{RunFault, Summary};
 
 /// All that was asked for was done, and no line of a script was refused.
 pub const DONE: u8 = 0;

@@ -1,6 +1,6 @@
 //! Lines of a script that are read.
 use crate::trouble::*;
-use script_lines::{Line, LineFault, read_line};
+use script_text::{Line, LineFault, read_line};
 
 /// A line of each kind, and some that have a fault.
 const LINES: [&str; 8] = [

@@ -3,7 +3,7 @@ use crate::helpers::*;
 use capture::write_capture;
 use redundant_mux::Network;
 use std::test::Fail;
-use transcript::FrameLog;
+use script_text::FrameLog;
 
 // The section header, and an interface for each network.
 const HEADER: [u8; 92] = [

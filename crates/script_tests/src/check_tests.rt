@@ -3,7 +3,7 @@ use crate::helpers::*;
 use crate::plans::{DEMO, REPORT};
 use plan_report::{Failure, check};
 use std::io::{self, Read};
-use transcript::RunFault;
+use script_text::RunFault;
 
 // Fails, or is interrupted once, at the end of its text.
 #[derive(Drop)]

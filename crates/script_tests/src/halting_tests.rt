@@ -3,7 +3,7 @@ use crate::helpers::*;
 use crate::plans::{DEMO, REPORT};
 use plan_report::{Failure, Halting, check};
 use std::io::{self, BufWriter, ErrorKind, Write};
-use transcript::RunFault;
+use script_text::RunFault;
 
 // How the writer below answers the call that it doesn't take.
 #[derive(Clone, Copy, Debug)]

@@ -1,6 +1,6 @@
 //! Tests of the lines of a script.
 use crate::helpers::*;
-use script_lines::{Bytes, LineFault, Message, Next, ReadFault, next_line, read_line};
+use script_text::{Bytes, LineFault, Message, Next, ReadFault, next_line, read_line};
 use std::fmt::Write;
 use std::io::{self, Read};
 

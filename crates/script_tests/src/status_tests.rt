@@ -2,8 +2,8 @@
 use crate::helpers::*;
 use afdx_plan::ConfigFault;
 use plan_report::{End, Failure, status_of};
-use script_lines::LineFault;
-use transcript::RunFault;
+use script_text::LineFault;
+use script_text::RunFault;
 
 #[test]
 fn the_status_tells_how_the_program_ended(rt: HostRuntime) {

@@ -1,7 +1,7 @@
 //! Tests of what a run writes.
 use crate::helpers::*;
 use redundant_mux::Network;
-use script_lines::LineFault;
+use script_text::LineFault;
 use tx_script::{FrameLog, Outcome, Refusal, RunFault, Summary, write_note, write_streams};
 
 #[test]

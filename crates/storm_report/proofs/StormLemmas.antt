@@ -12,7 +12,7 @@ use Rattle.afdx_legal.specs.Legal.{on_both}
 use Rattle.status_board.specs.declared.counts.Counts.{Counts}
 use Rattle.plan_report.specs.declared.failure.Failure.{Failure}
 use Rattle.plan_report.specs.declared.failure.Failure.TheVariants as Failures
-use Rattle.transcript.specs.declared.run_fault.RunFault.TheVariants as Ran
+use Rattle.script_text.specs.declared.run_fault.RunFault.TheVariants as Ran
 use Rattle.storm.specs.Answers.{HasShortPort}
 use Rattle.storm.specs.Messages.{own_messages}
 use Rattle.storm.specs.Shown.{all_counts}

@@ -9,7 +9,7 @@ use Rattle.redundant_mux.specs.Entry.{Entry}
 use Rattle.redundant_mux.specs.Logged.{side}
 use Rattle.afdx_legal.specs.Done.{IsHandedWhole}
 use Rattle.afdx_legal.specs.Legal.{on_both}
-use Rattle.transcript.specs.declared.run_fault.RunFault.TheVariants as Ran
+use Rattle.script_text.specs.declared.run_fault.RunFault.TheVariants as Ran
 use Rattle.plan_report.specs.declared.failure.Failure.{Failure}
 use Rattle.plan_report.specs.declared.failure.Failure.TheVariants as Failures
 use Rattle.storm.specs.declared.fault.StormFault.{StormFault}

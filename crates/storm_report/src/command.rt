@@ -12,7 +12,7 @@ use std::io::{Read, Write};
 use std::sync::Wait;
 use std::thread::Threads;
 use storm::{Gate, KeptLinks, StormFault, storm};
-use transcript::RunFault;
+use script_text::RunFault;
 
 /// Reads a configuration, throws a storm at an end system of it, and writes what came of it. Where it is
 /// refused, or ends early, nothing is written.

@@ -7,7 +7,7 @@ use plan_report::Failure;
 use redundant_mux::MemNetwork;
 use status_board::Counts;
 use storm_report::{bench_storm, write_totals};
-use transcript::RunFault;
+use script_text::RunFault;
 
 // Asserts what the command comes to over the small plan with this greatest message, and what is written
 // of it.

@@ -10,17 +10,17 @@ use Rattle.vl_link.specs.Turn.{AreTurns, may_release}
 use Rattle.afdx_tx.specs.Drain.{pace_in}
 use Rattle.redundant_mux.proofs.MirroredLines.{fresh_lines, fresh_log}
 use Rattle.tx_script.specs.EndSystem.{EndSystem, fresh, HasTurnAt, HasPolled}
-use Rattle.script_lines.specs.Lines.{after_feed}
-use Rattle.script_lines.specs.Meaning.{meaning_of}
+use Rattle.script_text.specs.Lines.{after_feed}
+use Rattle.script_text.specs.Meaning.{meaning_of}
 use Rattle.tx_script.specs.Play.{Answer, leaves, left_by, IsAnswer, IsPolled, AreAnswers, accepted_after, AnsweredLine, Play, play, play_line, outcome_of, after, FindsFirst, IsTotal, AreTotals}
 use Rattle.tx_script.specs.Run.{LinesThen}
-use Rattle.transcript.specs.Summary.{counted}
-use Rattle.transcript.specs.declared.summary.Summary.{Summary as Sums}
-use Rattle.transcript.specs.Transcript.{note_of}
-use Rattle.script_lines.specs.declared.line.Line.{Line}
-use Rattle.script_lines.specs.declared.line.Line.TheVariants.{At}
-use Rattle.transcript.specs.declared.outcome.Outcome.TheVariants.{Refused, Released}
-use Rattle.transcript.specs.declared.refusal.Refusal.TheVariants.{TimeBack}
+use Rattle.script_text.specs.Summary.{counted}
+use Rattle.script_text.specs.declared.summary.Summary.{Summary as Sums}
+use Rattle.script_text.specs.Transcript.{note_of}
+use Rattle.script_text.specs.declared.line.Line.{Line}
+use Rattle.script_text.specs.declared.line.Line.TheVariants.{At}
+use Rattle.script_text.specs.declared.outcome.Outcome.TheVariants.{Refused, Released}
+use Rattle.script_text.specs.declared.refusal.Refusal.TheVariants.{TimeBack}
 
 -- an end system of the same plan and moment that took nothing and handed nothing over
 abbrev idle : EndSystem → EndSystem

@@ -15,9 +15,9 @@ use Rattle.afdx_tx.proofs.PortLink.{none_has, found_at}
 use Rattle.afdx_tx.proofs.KeptLinks.{KeepsLink, KeepLinks}
 use Rattle.afdx_tx.proofs.OneSub.{one_each}
 use Rattle.afdx_tx.proofs.ClosedEmitter.{closes_within, closes_links, closed_kept}
-use Rattle.script_lines.specs.declared.line.Line.TheVariants.{Close}
-use Rattle.transcript.specs.declared.outcome.Outcome.TheVariants as Became
-use Rattle.transcript.specs.declared.refusal.Refusal.TheVariants.{NoSub}
+use Rattle.script_text.specs.declared.line.Line.TheVariants.{Close}
+use Rattle.script_text.specs.declared.outcome.Outcome.TheVariants as Became
+use Rattle.script_text.specs.declared.refusal.Refusal.TheVariants.{NoSub}
 use Rattle.tx_script.specs.AtBench.{AtBench, IsAtHand, Matches, Obeys, KeepsTotals, ClosesOnly, progress_of, MatchesLines, MatchesTx}
 use Rattle.tx_script.specs.EndSystem.{EndSystem}
 use Rattle.tx_script.proofs.Finding.{same_place}

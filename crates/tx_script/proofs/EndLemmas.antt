@@ -9,13 +9,13 @@ use Rattle.tx_script.specs.AtBench.{AtBench}
 use Rattle.tx_script.specs.Play.{Play, play, start, transcript}
 use Rattle.tx_script.specs.Run.{HasPlayed, IsWhole, Plays, HasRun, Ends, Leaves}
 use Rattle.tx_script.specs.Running.{Running, Halted, Stops, Writes, HoldsHanded, EndsEarly}
-use Rattle.transcript.specs.FrameLog.{FrameLog}
-use Rattle.transcript.specs.Transcript.{streams, ends_writing}
+use Rattle.script_text.specs.FrameLog.{FrameLog}
+use Rattle.script_text.specs.Transcript.{streams, ends_writing}
 use Rattle.tx_script.specs.declared.played.Played.{Played}
 use Rattle.tx_script.specs.declared.played.Played.TheVariants.{Whole, Broken}
-use Rattle.transcript.specs.declared.run_fault.RunFault.{RunFault}
-use Rattle.transcript.specs.declared.run_fault.RunFault.TheVariants as Fault
-use Rattle.transcript.specs.declared.summary.Summary.{Summary as Sums}
+use Rattle.script_text.specs.declared.run_fault.RunFault.{RunFault}
+use Rattle.script_text.specs.declared.run_fault.RunFault.TheVariants as Fault
+use Rattle.script_text.specs.declared.summary.Summary.{Summary as Sums}
 use Rattle.std.proofs.lemmas.Option.{IfSome_then}
 use Rattle.tx_script.proofs.Blind.{blind_finds}
 use Rattle.tx_script.proofs.Finding.{finds_first}

@@ -3,17 +3,17 @@ use Rattle.std.proofs.Common.{◌≡◌, ℕ, ◌+◌, List, [], ◌∷◌, ◌+
 use Rattle.std.specs.Io.KnownBytes.{Appends}
 use Rattle.std.proofs.KnownBytes.{Appends-trans}
 use Rattle.afdx_plan.specs.Config.{Plan}
-use Rattle.script_lines.specs.Lines.{after_feed}
+use Rattle.script_text.specs.Lines.{after_feed}
 use Rattle.tx_script.specs.AtBench.{AtBench, ObeysFor, Obeys, KeepsTotals, ClosesOnly}
 use Rattle.tx_script.proofs.Told.{told_more, others_more}
-use Rattle.script_lines.specs.Meaning.{meaning_of}
+use Rattle.script_text.specs.Meaning.{meaning_of}
 use Rattle.tx_script.specs.Play.{AnsweredLine, Play, play, play_line, start, outcome_of, IsAnswer, AreAnswers}
 use Rattle.tx_script.specs.Run.{BeginsWith, LinesThen}
 use Rattle.tx_script.specs.Running.{Running}
-use Rattle.transcript.specs.Summary.{counted}
-use Rattle.transcript.specs.Transcript.{note_of}
-use Rattle.transcript.specs.declared.outcome.Outcome.{Outcome}
-use Rattle.transcript.specs.declared.summary.Summary.{Summary as Sums}
+use Rattle.script_text.specs.Summary.{counted}
+use Rattle.script_text.specs.Transcript.{note_of}
+use Rattle.script_text.specs.declared.outcome.Outcome.{Outcome}
+use Rattle.script_text.specs.declared.summary.Summary.{Summary as Sums}
 
 -- the last line is played after those before it
 pub play_more : (st : Play) (turns : List AnsweredLine) (turn : AnsweredLine) → play st (turns ++ turn ∷ []) ≡ play_line turn

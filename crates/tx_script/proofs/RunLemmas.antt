@@ -5,18 +5,18 @@ use Rattle.std.specs.Io.KnownBytes.{Appends, Consumes, Keeps}
 use Rattle.std.proofs.KnownBytes.{Appends-nil, Appends-kept}
 use Rattle.afdx_plan.specs.Config.{Plan}
 use Rattle.tx_script.specs.AtBench.{AtBench, IsFreshBench, ObeysFor, KeepsTotals, SameTotals, ClosesOnly, HaveSent, GaveTotals}
-use Rattle.script_lines.specs.Lines.{first_line}
+use Rattle.script_text.specs.Lines.{first_line}
 use Rattle.tx_script.specs.Play.{AnsweredLine, Play, play, start}
 use Rattle.tx_script.specs.Run.{HasBegun}
 use Rattle.tx_script.specs.Running.{SaysLine, ReadsLine, Running, Halted, Stops}
-use Rattle.transcript.specs.Summary.{counted, HasFew}
-use Rattle.transcript.specs.Transcript.{note_of, streams}
-use Rattle.script_lines.specs.declared.line.Line.{Line as Said}
-use Rattle.transcript.specs.declared.outcome.Outcome.{Outcome}
-use Rattle.transcript.specs.declared.outcome.Outcome.TheVariants.{Quiet}
-use Rattle.transcript.specs.declared.run_fault.RunFault.{RunFault}
-use Rattle.transcript.specs.declared.run_fault.RunFault.TheVariants as Fault
-use Rattle.transcript.specs.declared.summary.Summary.{Summary as Sums}
+use Rattle.script_text.specs.Summary.{counted, HasFew}
+use Rattle.script_text.specs.Transcript.{note_of, streams}
+use Rattle.script_text.specs.declared.line.Line.{Line as Said}
+use Rattle.script_text.specs.declared.outcome.Outcome.{Outcome}
+use Rattle.script_text.specs.declared.outcome.Outcome.TheVariants.{Quiet}
+use Rattle.script_text.specs.declared.run_fault.RunFault.{RunFault}
+use Rattle.script_text.specs.declared.run_fault.RunFault.TheVariants as Fault
+use Rattle.script_text.specs.declared.summary.Summary.{Summary as Sums}
 use Rattle.tx_script.proofs.Matched.{fresh_matches, each_fresh}
 use Rattle.tx_script.proofs.AtHand.{fresh_sent}
 use Rattle.std.proofs.lemmas.Option.{IfSome_then}

@@ -13,11 +13,11 @@ use Rattle.afdx_tx.specs.Sending.{length_refusal}
 use Rattle.tx_script.specs.AtBench.{AtBench, IsAtHand, HaveSent, Matches, Obeys, Sends}
 use Rattle.tx_script.specs.EndSystem.{EndSystem}
 use Rattle.tx_script.specs.Play.{Answer, Messages, takes, closes, fills, place_of, passed_on, script_refusal, outcome_of, accepted_with, accepted_after, with_message}
-use Rattle.script_lines.specs.declared.line.Line.TheVariants.{Send}
-use Rattle.transcript.specs.declared.refusal.Refusal.{Refusal}
-use Rattle.transcript.specs.declared.refusal.Refusal.TheVariants.{NoPort}
-use Rattle.transcript.specs.declared.outcome.Outcome.{Outcome}
-use Rattle.transcript.specs.declared.outcome.Outcome.TheVariants as Became
+use Rattle.script_text.specs.declared.line.Line.TheVariants.{Send}
+use Rattle.script_text.specs.declared.refusal.Refusal.{Refusal}
+use Rattle.script_text.specs.declared.refusal.Refusal.TheVariants.{NoPort}
+use Rattle.script_text.specs.declared.outcome.Outcome.{Outcome}
+use Rattle.script_text.specs.declared.outcome.Outcome.TheVariants as Became
 use Rattle.tx_script.proofs.AtHand.{IsSamePort, have_sent, have_kept}
 
 -- a message of no bytes

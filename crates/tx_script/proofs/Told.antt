@@ -3,9 +3,9 @@ use Rattle.std.proofs.Common.{ℕ, ◌≡◌, ◌++◌, List, [], ◌∷◌, ap,
 use Rattle.afdx_plan.specs.Config.{Plan}
 use Rattle.afdx_tx.specs.Emitter.{Tx, total_in}
 use Rattle.afdx_tx.specs.Ports.{PortView}
-use Rattle.script_lines.specs.Meaning.{meaning_of}
-use Rattle.script_lines.specs.declared.line.Line.{Line}
-use Rattle.script_lines.specs.declared.line.Line.TheVariants.{Close}
+use Rattle.script_text.specs.Meaning.{meaning_of}
+use Rattle.script_text.specs.declared.line.Line.{Line}
+use Rattle.script_text.specs.declared.line.Line.TheVariants.{Close}
 use Rattle.tx_script.specs.AtBench.{KeepsTotals, TellsTotal, AreTold, HaveSent, GaveTotals, ClosesAt, ClosesOnly, NoneCloses, OthersAreOpen}
 use Rattle.tx_script.specs.Play.{Answer, AnsweredLine, Play, told_by, accepted_on, IsTotal, AreTotals}
 use Rattle.afdx_tx.specs.Closing.{IsSubAt}

@@ -12,12 +12,12 @@ use Rattle.afdx_tx.specs.declared.fault.Refusal.{Refusal as SendRefusal}
 use Rattle.afdx_tx.specs.declared.fault.Refusal.TheVariants as Why
 use Rattle.tx_script.specs.EndSystem.{EndSystem, Progress}
 use Rattle.tx_script.specs.Play.{Answer, AnsweredLine, IsAnswer, Messages, outcome_of, after, accepted_after, script_refusal, told_by, accepted_on}
-use Rattle.script_lines.specs.Meaning.{meaning_of}
-use Rattle.script_lines.specs.declared.line.Line.{Line}
-use Rattle.script_lines.specs.declared.line.Line.TheVariants.{Close}
-use Rattle.transcript.specs.declared.outcome.Outcome.{Outcome}
-use Rattle.transcript.specs.declared.outcome.Outcome.TheVariants as Became
-use Rattle.transcript.specs.declared.refusal.Refusal.{Refusal}
+use Rattle.script_text.specs.Meaning.{meaning_of}
+use Rattle.script_text.specs.declared.line.Line.{Line}
+use Rattle.script_text.specs.declared.line.Line.TheVariants.{Close}
+use Rattle.script_text.specs.declared.outcome.Outcome.{Outcome}
+use Rattle.script_text.specs.declared.outcome.Outcome.TheVariants as Became
+use Rattle.script_text.specs.declared.refusal.Refusal.{Refusal}
 use Rattle.afdx_plan.specs.Plan.{bag_micros}
 use Rattle.afdx_plan.specs.declared.link_plan.LinkPlan.{LinkPlan}
 use Rattle.afdx_plan.specs.declared.port_plan.PortPlan.{PortPlan}

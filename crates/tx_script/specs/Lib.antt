@@ -1,9 +1,9 @@
-pub use Rattle.script_lines.specs.Command
-pub use Rattle.script_lines.specs.Faults
-pub use Rattle.script_lines.specs.Lines
-pub use Rattle.script_lines.specs.Meaning
-pub use Rattle.script_lines.specs.Numbers
-pub use Rattle.script_lines.specs.Words
+pub use Rattle.script_text.specs.Command
+pub use Rattle.script_text.specs.Faults
+pub use Rattle.script_text.specs.Lines
+pub use Rattle.script_text.specs.Meaning
+pub use Rattle.script_text.specs.Numbers
+pub use Rattle.script_text.specs.Words
 pub mod EndSystem
 pub mod Play
 pub mod AtBench

@@ -12,16 +12,16 @@ use Rattle.afdx_plan.specs.Places.{link_place}
 use Rattle.afdx_legal.specs.Allowed.{messages_of}
 use Rattle.afdx_tx.specs.Sending.{length_refusal}
 use Rattle.tx_script.specs.EndSystem.{EndSystem, HasPolled, fresh, handed}
-use Rattle.script_lines.specs.Meaning.{meaning_of}
-use Rattle.transcript.specs.Summary.{counted}
-use Rattle.transcript.specs.Transcript.{note_of, streams}
-use Rattle.script_lines.specs.declared.line.Line.{Line}
-use Rattle.script_lines.specs.declared.line.Line.TheVariants.{Send, At, Close, Nothing}
-use Rattle.transcript.specs.declared.refusal.Refusal.{Refusal}
-use Rattle.transcript.specs.declared.refusal.Refusal.TheVariants.{Empty, TooLong, Closed, Exhausted, Full, NoPort, NoSub, TimeBack}
-use Rattle.transcript.specs.declared.outcome.Outcome.{Outcome}
-use Rattle.transcript.specs.declared.outcome.Outcome.TheVariants as Became
-use Rattle.transcript.specs.declared.summary.Summary.{Summary as Sums}
+use Rattle.script_text.specs.Meaning.{meaning_of}
+use Rattle.script_text.specs.Summary.{counted}
+use Rattle.script_text.specs.Transcript.{note_of, streams}
+use Rattle.script_text.specs.declared.line.Line.{Line}
+use Rattle.script_text.specs.declared.line.Line.TheVariants.{Send, At, Close, Nothing}
+use Rattle.script_text.specs.declared.refusal.Refusal.{Refusal}
+use Rattle.script_text.specs.declared.refusal.Refusal.TheVariants.{Empty, TooLong, Closed, Exhausted, Full, NoPort, NoSub, TimeBack}
+use Rattle.script_text.specs.declared.outcome.Outcome.{Outcome}
+use Rattle.script_text.specs.declared.outcome.Outcome.TheVariants as Became
+use Rattle.script_text.specs.declared.summary.Summary.{Summary as Sums}
 use Rattle.afdx_tx.specs.Closing.{IsSubAt}
 
 -- a queue takes a message, is closed or is full, a poll leaves the end system so, or a close tells its

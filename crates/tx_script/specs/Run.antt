@@ -2,15 +2,15 @@
 use Rattle.std.specs.Prelude.{◌≡◌, ℕ, ◌+◌, ◌<◌, ◌≤◌, List, [], ◌∷◌, ◌++◌, length, Option, Result, Ok, Err, ⊤, true, false}
 use Rattle.std.specs.Io.KnownBytes.{Appends}
 use Rattle.afdx_plan.specs.Config.{Plan}
-use Rattle.script_lines.specs.Faults.{IsFirstFault, IsFaultless}
-use Rattle.script_lines.specs.Lines.{first_line, after_feed}
+use Rattle.script_text.specs.Faults.{IsFirstFault, IsFaultless}
+use Rattle.script_text.specs.Lines.{first_line, after_feed}
 use Rattle.tx_script.specs.Play.{AnsweredLine, play, start, transcript, AreAnswers, FindsFirst, AreTotals}
-use Rattle.transcript.specs.declared.run_fault.RunFault.{RunFault}
-use Rattle.transcript.specs.declared.run_fault.RunFault.TheVariants.{Line, Lines, Read, Write, Memory}
-use Rattle.transcript.specs.declared.summary.Summary.{Summary as Sums}
+use Rattle.script_text.specs.declared.run_fault.RunFault.{RunFault}
+use Rattle.script_text.specs.declared.run_fault.RunFault.TheVariants.{Line, Lines, Read, Write, Memory}
+use Rattle.script_text.specs.declared.summary.Summary.{Summary as Sums}
 use Rattle.afdx_frame.specs.declared.net.Net.TheVariants.{A, B}
 use Rattle.redundant_mux.specs.Entry.{Entry}
-use Rattle.transcript.specs.Transcript.{ends_writing}
+use Rattle.script_text.specs.Transcript.{ends_writing}
 use Rattle.tx_script.specs.EndSystem.{handed}
 use Rattle.tx_script.specs.declared.played.Played.{Played}
 use Rattle.tx_script.specs.declared.played.Played.TheVariants.{Whole, Broken}

@@ -3,21 +3,21 @@ use Rattle.std.specs.Prelude.{◌≡◌, ℕ, true, false, ◌<◌, List, [], le
 use Rattle.std.specs.Io.KnownBytes.{Appends, Keeps}
 use Rattle.afdx_plan.specs.Config.{Plan}
 use Rattle.tx_script.specs.AtBench.{AtBench, IsAtHand, Matches, KeepsTotals, SameTotals, AreTold, OthersAreOpen, GaveFirst, GaveTotals}
-use Rattle.script_lines.specs.Faults.{IsFirstFault}
-use Rattle.script_lines.specs.Lines.{first_line, after_feed}
-use Rattle.script_lines.specs.Meaning.{meaning_of}
+use Rattle.script_text.specs.Faults.{IsFirstFault}
+use Rattle.script_text.specs.Lines.{first_line, after_feed}
+use Rattle.script_text.specs.Meaning.{meaning_of}
 use Rattle.tx_script.specs.Play.{AnsweredLine, play, start, AreAnswers}
 use Rattle.tx_script.specs.Run.{BeginsWith, LinesThen, Ends}
-use Rattle.transcript.specs.FrameLog.{FrameLog}
-use Rattle.transcript.specs.Transcript.{streams, ends_writing}
-use Rattle.script_lines.specs.declared.line.Line.{Line as Said}
-use Rattle.script_lines.specs.declared.line_fault.LineFault.{LineFault}
-use Rattle.script_lines.specs.declared.line_fault.LineFault.TheVariants.{Memory as OutOfMemory}
+use Rattle.script_text.specs.FrameLog.{FrameLog}
+use Rattle.script_text.specs.Transcript.{streams, ends_writing}
+use Rattle.script_text.specs.declared.line.Line.{Line as Said}
+use Rattle.script_text.specs.declared.line_fault.LineFault.{LineFault}
+use Rattle.script_text.specs.declared.line_fault.LineFault.TheVariants.{Memory as OutOfMemory}
 use Rattle.tx_script.specs.declared.played.Played.{Played}
 use Rattle.tx_script.specs.declared.played.Played.TheVariants.{Whole, Broken}
-use Rattle.transcript.specs.declared.run_fault.RunFault.{RunFault}
-use Rattle.transcript.specs.declared.run_fault.RunFault.TheVariants.{Line, Lines, Read, Write, Memory}
-use Rattle.transcript.specs.declared.summary.Summary.{Summary as Sums}
+use Rattle.script_text.specs.declared.run_fault.RunFault.{RunFault}
+use Rattle.script_text.specs.declared.run_fault.RunFault.TheVariants.{Line, Lines, Read, Write, Memory}
+use Rattle.script_text.specs.declared.summary.Summary.{Summary as Sums}
 
 -- a text's first line has no fault and says this, and the bytes behind it are left
 pub record SaysLine (text : List ℕ) (left : Option (List ℕ)) (said : Said) : Type 0 where

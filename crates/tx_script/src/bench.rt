@@ -1,19 +1,19 @@
 //! An emitter with its ports, and doing what a line says.
 ghost use Rattle.std.specs.Prelude.{◌≡◌, ◌≢◌, ◌≤◌, ℕ, ◌+◌, IfOk, IfErr};
-ghost use Rattle.script_lines.specs.declared.line.Line.TheVariants as Said;
-ghost use Rattle.transcript.specs.declared.run_fault.RunFault.TheVariants as RunFault;
+ghost use Rattle.script_text.specs.declared.line.Line.TheVariants as Said;
+ghost use Rattle.script_text.specs.declared.run_fault.RunFault.TheVariants as RunFault;
 ghost use Rattle.tx_script.specs.declared.obey_lines.TheConstants.{LINES_LIMIT};
 ghost use Rattle.subvl_queue.specs.Messages.{most_calls};
 ghost use Rattle.tx_script.specs.AtBench.{ObeysFor, HaveAsked, Sends, KeepsTotals, SameTotals, ClosesOnly};
 ghost use Rattle.tx_script.specs.Play.{script_refusal};
-ghost use Rattle.transcript.specs.Summary.{HasFew};
+ghost use Rattle.script_text.specs.Summary.{HasFew};
 
 use afdx_plan::{Config, PortId, VlId};
 use afdx_tx::{Emitter, TxPort, open_tx};
-use script_lines::{Line, Message};
+use script_text::{Line, Message};
 use std::alloc::Global;
 use std::marker::Model;
-use transcript::{FrameLog, Outcome, Refusal, RunFault};
+use script_text::{FrameLog, Outcome, Refusal, RunFault};
 
 /// The emitter of a script, over two networks in memory, and its ports in the order of the
 /// configuration.
@@ -35,7 +35,7 @@ impl Model for Bench {
 
 impl Bench {
     ghost use Rattle.std.specs.Prelude.{◌≡◌, IfOk, IfErr};
-    ghost use Rattle.transcript.specs.declared.run_fault.RunFault.TheVariants as RunFault;
+    ghost use Rattle.script_text.specs.declared.run_fault.RunFault.TheVariants as RunFault;
     ghost use Rattle.tx_script.specs.AtBench.{IsAtHand, IsFreshBench, GaveFirst, GaveTotals};
 
     /// A bench at which nothing was done. The only fault is Memory.

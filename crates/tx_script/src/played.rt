@@ -1,5 +1,5 @@
 //! What a run of a script leaves.
-use transcript::{FrameLog, RunFault, Summary};
+use script_text::{FrameLog, RunFault, Summary};
 
 /// How a run of a script ended, and what its networks were handed.
 #[derive(Drop)]

@@ -3,9 +3,9 @@ use Rattle.std.proofs.lemmas.Bool.{le-ltb}
 use Rattle.tx_script.specs.EndSystem.{EndSystem, HasPolled}
 use Rattle.tx_script.specs.Play.{Messages, leaves}
 use Rattle.tx_script.specs.AtBench.{AtBench, Matches, Obeys, KeepsTotals, SameTotals}
-use Rattle.script_lines.specs.declared.line.Line.TheVariants.{At}
-use Rattle.transcript.specs.declared.outcome.Outcome.TheVariants.{Released, Refused}
-use Rattle.transcript.specs.declared.refusal.Refusal.TheVariants.{TimeBack}
+use Rattle.script_text.specs.declared.line.Line.TheVariants.{At}
+use Rattle.script_text.specs.declared.outcome.Outcome.TheVariants.{Released, Refused}
+use Rattle.script_text.specs.declared.refusal.Refusal.TheVariants.{TimeBack}
 use Rattle.tx_script.proofs.Polling.{left_at, polled_matches, left_matches}
 use Rattle.tx_script.proofs.Matched.{released_many}
 use Rattle.tx_script.proofs.bench.obey_at.Goals as goal

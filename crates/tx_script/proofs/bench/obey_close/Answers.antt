@@ -1,8 +1,8 @@
 use Rattle.std.proofs.Common.{refl, ap, sym, subst}
 use Rattle.afdx_tx.specs.Emitter.{Tx, total_in}
-use Rattle.script_lines.specs.declared.line.Line.TheVariants.{Close}
-use Rattle.transcript.specs.declared.outcome.Outcome.TheVariants.{Refused}
-use Rattle.transcript.specs.declared.refusal.Refusal.TheVariants.{NoSub}
+use Rattle.script_text.specs.declared.line.Line.TheVariants.{Close}
+use Rattle.script_text.specs.declared.outcome.Outcome.TheVariants.{Refused}
+use Rattle.script_text.specs.declared.refusal.Refusal.TheVariants.{NoSub}
 use Rattle.tx_script.specs.AtBench.{AtBench, Matches, Obeys, KeepsTotals, ClosesOnly}
 use Rattle.tx_script.proofs.Closing.{close_obeys, lack_obeys, closes_keeps, closes_only}
 use Rattle.tx_script.proofs.Told.{keeps_same}

@@ -1,5 +1,0 @@
-mod FeedLemmas
-mod LineLemmas
-mod MeaningLemmas
-mod NumberLemmas
-mod WordLemmas

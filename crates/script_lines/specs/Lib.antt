@@ -1,6 +1,0 @@
-pub mod Command
-pub mod Faults
-pub mod Lines
-pub mod Meaning
-pub mod Numbers
-pub mod Words

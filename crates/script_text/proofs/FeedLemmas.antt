@@ -1,0 +1,79 @@
+-- The bytes before a line feed, as they stand in a buffer.
+use Rattle.std.proofs.Common.{◌≡◌, ℕ, ◌+◌, ◌-◌, ◌≤◌, ◌<◌, ◌==◌, Bool, true, false, List, [], ◌∷◌, ◌++◌, zero, suc, length, take, drop, get_or, refl, ap, sym, ◌∙◌, arith, append_assoc, if◌then◌else◌, length-take, length-append, drop-drop, subst, Option, Some, None}
+use Rattle.std.proofs.lemmas.Bool.{false_from_ne_true}
+use Rattle.std.proofs.lemmas.List.{take_all, drop-take}
+use Rattle.std.proofs.Math.Seq.{drop-append_seam}
+use Rattle.std.specs.Prelude.{slice_range}
+use Rattle.std.specs.Io.KnownBytes.{Consumes, prepend_known}
+use Rattle.script_text.specs.Lines.{before_feed, IsPlain, TakesPlain}
+
+-- so many bytes, none of them a line feed, which a line feed or the end follows
+pub before_at : (text : List ℕ) (place : ℕ) → ((k : ℕ) → k < place → ¬ ((get_or text k 0 == 10) ≡ true))
+    → (place < length text → (get_or text place 0 == 10) ≡ true) → take place text ≡ before_feed text
+before_at [] place none feed = take_all place [] (omega arith)
+before_at (x ∷ xs) zero none feed = let is : (x == 10) ≡ true = feed (omega arith) in rw is refl
+before_at (x ∷ xs) (suc place) none feed =
+    let other : (x == 10) ≡ false = false_from_ne_true (x == 10) (none 0 (omega arith)) in
+    rw other (ap (λ r. x ∷ r) (before_at xs place (λ k lt. none (suc k) (omega arith)) (λ lt. feed (omega arith))))
+
+-- a text is the bytes before its line feed, which have none, and others
+record IsBefore (text front : List ℕ) : Type 0 where
+  others : List ℕ
+  is : text ≡ front ++ others
+  plain : IsPlain front
+
+before_is : (text : List ℕ) → IsBefore text (before_feed text)
+before_is [] = record { others = []; is = refl; plain = refl }
+before_is (x ∷ xs) = by (x == 10) refl (before_is xs)
+  where
+    by : (b : Bool) → (x == 10) ≡ b → IsBefore xs (before_feed xs)
+        → IsBefore (x ∷ xs) (if b then [] else x ∷ before_feed xs)
+    by true e h = record { others = x ∷ xs; is = refl; plain = refl }
+    by false e h = record { others = h.others; is = ap (λ (r : List ℕ). x ∷ r) h.is; plain = rw e h.plain }
+
+-- the same of a range of a buffer
+before_range : (buffer : List ℕ) (start end : ℕ) (plain : List ℕ)
+    → plain ≡ before_feed (slice_range buffer start end)
+    → slice_range buffer start end ≡ plain ++ slice_range buffer (start + length plain) end
+before_range buffer start end plain is =
+    let h : IsBefore (slice_range buffer start end) plain = rw is (before_is (slice_range buffer start end)) in
+    let len = ap length h.is in
+    let all : end - start ≡ length plain + (end - (start + length plain)) =
+    omega (arith, len, length-append plain h.others, length-take (end - start) (drop start buffer)) in
+    h.is ∙ ap (λ (rest : List ℕ). plain ++ rest)
+    (sym (drop-append_seam plain h.others) ∙ ap (drop (length plain)) (sym h.is)
+    ∙ ap (λ n. drop (length plain) (take n (drop start buffer))) all
+    ∙ drop-take (length plain) (end - (start + length plain)) (drop start buffer)
+    ∙ ap (take (end - (start + length plain))) (drop-drop (length plain) start buffer))
+
+-- they are taken from a reader's bytes, of which a range of a buffer is the front
+before_taken : (buffer : List ℕ) (start end : ℕ) (plain : List ℕ) (known : Option (List ℕ))
+    → plain ≡ before_feed (slice_range buffer start end)
+    → Consumes (prepend_known (slice_range buffer start end) known)
+    (prepend_known (slice_range buffer (start + length plain) end) known) plain
+before_taken buffer start end plain None is = tt
+before_taken buffer start end plain (Some rest) is =
+    ap (λ front. front ++ rest) (before_range buffer start end plain is)
+    ∙ append_assoc plain (slice_range buffer (start + length plain) end) rest
+
+-- and a line grows by them
+pub before_takes : (buffer : List ℕ) (start end : ℕ) (plain line grown : List ℕ) (known old : Option (List ℕ))
+    → plain ≡ before_feed (slice_range buffer start end)
+    → prepend_known (slice_range buffer start end) known ≡ old → grown ≡ line ++ plain
+    → TakesPlain old (prepend_known (slice_range buffer (start + length plain) end) known) line grown
+before_takes buffer start end plain line grown known old is view grows = record {
+  part = plain;
+  plain = rw is (before_is (slice_range buffer start end)).plain;
+  taken = subst (λ (bytes : Option (List ℕ)).
+      Consumes bytes (prepend_known (slice_range buffer (start + length plain) end) known) plain) view
+      (before_taken buffer start end plain known is);
+  is = grows;
+}
+
+-- there is room for them
+pub before_within : (buffer : List ℕ) (start end : ℕ) (plain : List ℕ) → start ≤ end
+    → plain ≡ before_feed (slice_range buffer start end) → start + length plain ≤ end
+before_within buffer start end plain le is =
+    let h : IsBefore (slice_range buffer start end) plain = rw is (before_is (slice_range buffer start end)) in
+    let len = ap length h.is in
+    omega (arith, len, length-append plain h.others, length-take (end - start) (drop start buffer))

@@ -1,0 +1,77 @@
+-- Words, and the blanks between them.
+use Rattle.std.proofs.Common.{◌≡◌, ℕ, ◌<◌, ◌≤◌, true, false, List, [], ◌∷◌, length, take, drop, get_or, refl, ap, suc, zero, ◌∙◌, arith, filter, ◌==◌, length-take, length-drop, add-zero}
+use Rattle.std.specs.List.{slice_split, onto_first}
+use Rattle.std.proofs.lemmas.Bool.{ne_eqb}
+use Rattle.std.proofs.lemmas.List.{get_or-drop}
+use Rattle.script_text.specs.Words.{is_blank, is_some_text, words_of}
+
+-- blanks in front make no word
+skip_front : (line : List ℕ) (n : ℕ) → ((k : ℕ) → k < n → is_blank (get_or line k 0) ≡ true)
+    → words_of line ≡ words_of (drop n line)
+unfolding words_of
+skip_front line zero h = refl
+skip_front [] (suc n) h = refl
+skip_front (x ∷ xs) (suc n) h =
+    let first : is_blank x ≡ true = h 0 (omega arith) in
+    rw first (skip_front xs n (λ k lt. h (suc k) (omega arith)))
+
+-- a text of so many bytes before its first blank, and the parts that follow
+record FirstPart (text : List ℕ) (m : ℕ) : Type 0 where
+  others : List (List ℕ)
+  is : slice_split is_blank text ≡ take m text ∷ others
+  words : filter is_some_text others ≡ words_of (drop m text)
+
+first_part : (text : List ℕ) (m : ℕ) → m ≤ length text → ((k : ℕ) → k < m → is_blank (get_or text k 0) ≡ false)
+    → (m < length text → is_blank (get_or text m 0) ≡ true) → FirstPart text m
+unfolding words_of
+first_part [] zero le h gap = record { others = []; is = refl; words = refl }
+first_part [] (suc m) le h gap = absurd (omega arith)
+first_part (x ∷ xs) zero le h gap =
+    let blank : is_blank x ≡ true = gap (omega arith) in
+    record { others = slice_split is_blank xs; is = rw blank refl; words = rw blank refl }
+first_part (x ∷ xs) (suc m) le h gap =
+    let first : is_blank x ≡ false = h 0 (omega arith) in
+    let rest = first_part xs m (omega arith) (λ k lt. h (suc k) (omega arith)) (λ lt. gap (omega arith)) in
+    record { others = rest.others; is = rw first (ap (onto_first x) rest.is); words = rest.words }
+
+word_counts : (word : List ℕ) (parts : List (List ℕ)) → 0 < length word
+    → filter is_some_text (word ∷ parts) ≡ word ∷ filter is_some_text parts
+word_counts word parts h =
+    let some : (length word == 0) ≡ false = ne_eqb (length word) 0 (λ e. absurd (omega arith)) in rw some refl
+
+-- nothing but blanks
+pub next_none : (line text : List ℕ) (n : ℕ) → text ≡ drop n line
+    → ((k : ℕ) → k < n → is_blank (get_or line k 0) ≡ true) → length text ≡ 0 → words_of line ≡ []
+unfolding words_of
+next_none line text n is blank none = skip_front line n blank ∙ rw (← is) (no_words text none)
+  where
+    no_words : (xs : List ℕ) → length xs ≡ 0 → words_of xs ≡ []
+    no_words [] e = refl
+    no_words (x ∷ xs) e = absurd (omega arith)
+
+-- blanks, and then a word
+pub next_some : (line text word rest : List ℕ) (n m : ℕ) → text ≡ drop n line
+    → ((k : ℕ) → k < n → is_blank (get_or line k 0) ≡ true)
+    → (n < length line → is_blank (get_or line n 0) ≡ false) → word ≡ take m text → rest ≡ drop m text
+    → m ≤ length text → ((k : ℕ) → k < m → is_blank (get_or text k 0) ≡ false)
+    → (m < length text → is_blank (get_or text m 0) ≡ true) → 0 < length text → words_of line ≡ word ∷ words_of rest
+unfolding words_of
+next_some line text word rest n m is blank found word_is rest_is le inside gap long =
+    let first = first_part text m le inside gap in
+    let starts : is_blank (get_or text 0 0) ≡ false =
+    rw (is, get_or-drop n line 0 0, add-zero n) (found (omega (arith, ap length is, length-drop n line))) in
+    skip_front line n blank
+    ∙ rw (
+      ← is,
+      first.is,
+      word_counts (take m text) first.others (omega (arith, length-take m text, at_least m starts gap)),
+      word_is,
+      rest_is,
+    )
+    (ap (λ words. take m text ∷ words) first.words)
+  where
+    at_least : (many : ℕ) → is_blank (get_or text 0 0) ≡ false
+        → (many < length text → is_blank (get_or text many 0) ≡ true)
+        → 0 < many
+    at_least zero starts ends = let blank = ends long in cc
+    at_least (suc many) starts ends = omega arith

@@ -1,0 +1,15 @@
+use Rattle.std.proofs.Common.{◌∙◌, length, sym, arith}
+use Rattle.std.proofs.lemmas.List.{take_all}
+use Rattle.script_text.proofs.FeedLemmas.{before_at}
+use Rattle.script_text.proofs.bytes.until_feed.Goals as goal
+
+pub returns-in-Some : goal.returns-in-Some
+returns-in-Some c =
+    let first = c.in-Some.ensures in
+    before_at c.args.text.now c.in-Some.place (λ k lt. first.0.before k (omega arith) lt) (λ within. first.1)
+
+pub returns-in-None : goal.returns-in-None
+returns-in-None c =
+    let none = c.in-None.ensures in
+    sym (take_all (length c.args.text.now) c.args.text.now (omega arith))
+    ∙ before_at c.args.text.now (length c.args.text.now) (λ k lt. none k (omega arith) lt) (λ within. absurd (omega arith))

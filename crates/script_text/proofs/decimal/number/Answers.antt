@@ -1,0 +1,15 @@
+use Rattle.std.proofs.Common.{◌<◌, ◌∙◌, ◌+◌, ◌*◌, ◌-◌, sym, arith, get_or}
+use Rattle.script_text.proofs.NumberLemmas.{number_none, number_some, too_great, read_on_end}
+use Rattle.script_text.proofs.decimal.number.Goals as goal
+
+pub returns-in-None-clause-value : goal.returns-in-None-clause-value
+returns-in-None-clause-value c =
+    let over : c.args.most < c.loop-digit.value * 10 + (get_or c.args.word.now c.loop-digit.digit-index 0 - 48) =
+    omega (arith, c.in-None.ensures, c.ranges.most.fits) in
+    let great = too_great c.loop-digit.value c.args.most c.args.word.now c.loop-digit.digit-index c.loop-digit-test.true over in
+    number_none c.args.most c.args.word.now (sym c.if-not-is_numeral.ensures) (rw c.loop-digit.invariant at great)
+
+pub returns-then-value-most-clause-value : goal.returns-then-value-most-clause-value
+returns-then-value-most-clause-value c =
+    number_some c.args.most c.args.word.now c.loop-digit.value (sym c.if-not-is_numeral.ensures)
+    (sym (read_on_end c.loop-digit.value c.args.word.now c.loop-digit.digit-index c.loop-digit-test.false) ∙ c.loop-digit.invariant) c.if-value-most.true

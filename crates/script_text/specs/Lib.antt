@@ -1,0 +1,10 @@
+pub mod Command
+pub mod Faults
+pub mod Lines
+pub mod Meaning
+pub mod Numbers
+pub mod Words
+pub mod FrameLog
+pub mod LogFrames
+pub mod Summary
+pub mod Transcript

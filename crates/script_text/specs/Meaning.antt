@@ -1,0 +1,46 @@
+-- What a line says that has no fault.
+use Rattle.std.specs.Prelude.{◌≡◌, ℕ, if◌then◌else◌, List, [], ◌∷◌, unwrap_or, None}
+use Rattle.script_text.specs.Command.{command_of, is_send, is_at, is_close, port_number, moment_of, link_number, sub_number, message_of}
+use Rattle.script_text.specs.Faults.{send_fault, at_fault, close_fault}
+use Rattle.script_text.specs.declared.line.Line.{Line}
+use Rattle.script_text.specs.declared.line.Line.TheVariants.{Send, At, Close, Nothing}
+
+-- what the words behind `send` say
+abbrev pub said_send : List (List ℕ) → Line
+said_send (p ∷ m ∷ ws) = Send (unwrap_or (port_number p) 0) (unwrap_or (message_of m) [])
+said_send _ = Nothing
+
+-- what the words behind `at` say
+abbrev pub said_at : List (List ℕ) → Line
+said_at (t ∷ ws) = At (unwrap_or (moment_of t) 0)
+said_at _ = Nothing
+
+-- what the words behind `close` say
+abbrev pub said_close : List (List ℕ) → Line
+said_close (l ∷ s ∷ ws) = Close (unwrap_or (link_number l) 0) (unwrap_or (sub_number s) 0)
+said_close _ = Nothing
+
+-- what the words of a command say
+abbrev pub said_by : List (List ℕ) → Line
+said_by [] = Nothing
+said_by (w ∷ ws) =
+    if is_send w then said_send ws
+    else if is_at w then said_at ws
+    else if is_close w then said_close ws
+    else Nothing
+
+-- what a line says
+abbrev pub meaning_of : List ℕ → Line
+meaning_of line = said_by (command_of line)
+
+-- the words behind `send` have no fault and say this
+abbrev pub IsSaidSend : List (List ℕ) → Line → Type 0
+IsSaidSend ws line = (send_fault ws ≡ None) × (line ≡ said_send ws)
+
+-- the words behind `at` have no fault and say this
+abbrev pub IsSaidAt : List (List ℕ) → Line → Type 0
+IsSaidAt ws line = (at_fault ws ≡ None) × (line ≡ said_at ws)
+
+-- the words behind `close` have no fault and say this
+abbrev pub IsSaidClose : List (List ℕ) → Line → Type 0
+IsSaidClose ws line = (close_fault ws ≡ None) × (line ≡ said_close ws)

@@ -1,0 +1,64 @@
+-- The texts of a transcript.
+use Rattle.std.specs.Prelude.{codes, ℕ, Bool, true, false, List, [], ◌∷◌, ◌++◌}
+use Rattle.std.specs.Fmt.{decimal}
+use Rattle.afdx_frame.specs.declared.net.Net.{Net}
+use Rattle.afdx_frame.specs.declared.net.Net.TheVariants.{A, B}
+use Rattle.hex.specs.Hex.{encode_lower}
+use Rattle.redundant_mux.specs.Entry.{Entry}
+use Rattle.script_text.specs.declared.outcome.Outcome.{Outcome}
+use Rattle.script_text.specs.declared.outcome.Outcome.TheVariants as Became
+use Rattle.script_text.specs.declared.refusal.Refusal.{Refusal}
+use Rattle.script_text.specs.declared.refusal.Refusal.TheVariants.{Empty, TooLong, Closed, Exhausted, Full, NoPort, NoSub, TimeBack}
+use Rattle.script_text.specs.declared.run_fault.RunFault.{RunFault}
+use Rattle.script_text.specs.declared.run_fault.RunFault.TheVariants.{Write, Memory}
+
+-- a refusal's name
+abbrev pub refusal_name : Refusal → List ℕ
+refusal_name Empty = codes "Empty"
+refusal_name TooLong = codes "TooLong"
+refusal_name Closed = codes "Closed"
+refusal_name Exhausted = codes "Exhausted"
+refusal_name Full = codes "Full"
+refusal_name NoPort = codes "NoPort"
+refusal_name NoSub = codes "NoSub"
+refusal_name TimeBack = codes "TimeBack"
+
+-- the note on a line that was refused
+abbrev pub refused_note : ℕ → List ℕ → List ℕ
+refused_note line name = codes "line " ++ decimal line ++ codes ": refused " ++ name ++ 10 ∷ []
+
+-- the note on a line that closed a sub-VL, which accepted so many messages in all
+abbrev pub closed_note : ℕ → ℕ → List ℕ
+closed_note line total = codes "line " ++ decimal line ++ codes ": closed " ++ decimal total ++ 10 ∷ []
+
+-- what is written of a line when it was run
+unfoldable pub note_of : ℕ → Outcome → List ℕ
+note_of line (Became.Refused refusal) = refused_note line (refusal_name refusal)
+note_of line (Became.Closed total) = closed_note line total
+note_of line _ = []
+
+-- a network's name
+abbrev pub net_name : Net → List ℕ
+net_name A = codes "A"
+net_name B = codes "B"
+
+-- the line of a frame: the network, the moment in microseconds, and the frame in lower case
+-- hexadecimal
+abbrev pub frame_line : Net → Entry → List ℕ
+frame_line net e =
+    net_name net ++ codes " " ++ decimal e.at ++ codes " " ++ encode_lower e.frame ++ 10 ∷ []
+
+-- the lines of the frames of a network
+unfoldable pub frame_lines : Net → List Entry → List ℕ
+frame_lines net [] = []
+frame_lines net (e ∷ es) = frame_line net e ++ frame_lines net es
+
+-- the lines of A, and then those of B
+abbrev pub streams : List Entry → List Entry → List ℕ
+streams a b = frame_lines A a ++ frame_lines B b
+
+-- nothing more is written once the writer failed or memory was refused
+abbrev pub ends_writing : RunFault → Bool
+ends_writing Write = true
+ends_writing Memory = true
+ends_writing fault = false

@@ -1,0 +1,135 @@
+//! A network that keeps what it is handed.
+ghost use Rattle.std.specs.Prelude.{◌≡◌, ◌+◌, ◌^◌, ◌<◌, ◌≤◌, [], ◌∷◌, ◌++◌, true, false, length, OnOk, OnErr, vec_capacity};
+ghost use Rattle.std.specs.Io.KnownBytes.{Appends};
+ghost use Rattle.redundant_mux.specs.Entry.{entry};
+ghost use Rattle.script_text.specs.FrameLog.{AreInLog, spelled};
+ghost use Rattle.script_text.specs.Transcript.{frame_lines};
+
+use crate::frames::write_frames;
+use crate::log_frames::LogFrames;
+use afdx_frame::{GREATEST_FRAME, Net};
+use redundant_mux::{HandFault, Network};
+use std::alloc::Global;
+use std::io::{self, Write};
+use std::marker::Model;
+
+/// The moment of a frame that was handed over, in microseconds, and how many bytes it has.
+#[derive(Clone, Copy, Debug, PartialEq, Eq)]
+pub struct Mark {
+    pub at: u64,
+    pub len: usize,
+}
+
+/// A network that keeps what it is handed: the bytes of all frames one after the other. Contracts
+/// see what was handed to it, for how many frames and bytes it has memory, and its failures.
+#[derive(Drop)]
+pub struct FrameLog {
+    marks: Vec<Mark>,
+    bytes: Vec<u8>,
+    failures: u64,
+}
+
+impl Model for FrameLog {
+    ghost use Rattle.std.specs.Prelude.{vec_capacity};
+    ghost use Rattle.script_text.specs.FrameLog.{FrameLog, AreInLog, spelled};
+
+    ghost Value = { FrameLog };
+
+    ghost view = { λ l. record {
+      handed = spelled l.marks.items l.bytes.items;
+      frames_capacity = vec_capacity l.marks;
+      bytes_capacity = vec_capacity l.bytes;
+      failures = l.failures;
+    } };
+
+    ghost invariant = { λ l. AreInLog l.marks.items l.bytes.items };
+}
+
+impl FrameLog {
+    /// A network that was handed nothing. A hand fails only where memory was refused.
+    pub fn new(alloc: Global) -> FrameLog
+        ensures { result ≡ record {
+          handed = [];
+          frames_capacity = 0;
+          bytes_capacity = 0;
+          failures = 0;
+        } }
+    {
+        FrameLog {
+            marks: Vec::new(alloc),
+            bytes: Vec::new(alloc),
+            failures: 0,
+        }
+    }
+
+    /// Writes a line for each frame that was handed over, under a network's name.
+    pub fn write_lines<W: Write>(&self, writer: &mut W, net: Net) -> io::Result<()>
+        ensures { OnOk result (Appends (W.contents writer.old) (W.contents writer.new)
+            (frame_lines net self.now.handed)) }
+    {
+        write_frames(writer, net, &self.marks, &self.bytes)
+    }
+
+    /// The frames that were handed over, in their order.
+    pub fn frames(&self) -> LogFrames<'_>
+        ensures { result ≡ self.now.handed }
+    {
+        LogFrames::new(&self.marks, &self.bytes)
+    }
+}
+
+impl Network for FrameLog {
+    ghost use Rattle.script_text.specs.FrameLog.{FrameLog, LacksRoom};
+
+    ghost handed = { λ l. l.handed };
+
+    ghost failures = { λ l. l.failures };
+
+    /// Keeps the frame and its moment at the end. A hand for which memory is refused fails, and no
+    /// other: what was handed over is as it was, the failure is counted, and the next hand is tried like
+    /// any other.
+    fn hand(&mut self, at: u64, frame: &[u8]) -> Result<(), HandFault>
+        requires short { length frame.now ≤ GREATEST_FRAME }
+        requires few { self.old.failures + 1 < 2 ^ 64 }
+        ensures ok { OnOk result (self.new.handed ≡ self.old.handed ++ entry at frame.now ∷ []) }
+        ensures ok_failures { OnOk result (self.new.failures ≡ self.old.failures) }
+        ensures err { OnErr result (self.new.handed ≡ self.old.handed) }
+        ensures err_failures { OnErr result (self.new.failures ≡ self.old.failures + 1) }
+
+        ensures only { OnErr result (LacksRoom self.old (length frame.now)) }
+        ensures frames_capacity { self.old.frames_capacity ≤ self.new.frames_capacity }
+        ensures bytes_capacity { self.old.bytes_capacity ≤ self.new.bytes_capacity }
+    {
+        if !keep(&mut self.marks, &mut self.bytes, at, frame) {
+            self.failures += 1;
+            return Err(HandFault);
+        }
+        Ok(())
+    }
+}
+
+// Keeps a frame at the end, where memory suffices. Whether it does.
+fn keep(marks: &mut Vec<Mark>, bytes: &mut Vec<u8>, at: u64, frame: &[u8]) -> bool
+    requires short { length frame.now ≤ GREATEST_FRAME }
+    requires before { AreInLog marks.old.items bytes.old.items }
+    ensures kept { result ≡ true → spelled marks.new.items bytes.new.items
+        ≡ spelled marks.old.items bytes.old.items ++ entry at frame.now ∷ [] }
+    ensures same { result ≡ false →
+        spelled marks.new.items bytes.new.items ≡ spelled marks.old.items bytes.old.items }
+    ensures full { result ≡ false → length marks.old.items < vec_capacity marks.old →
+        vec_capacity bytes.old < length bytes.old.items + length frame.now }
+    ensures marks_capacity { vec_capacity marks.old ≤ vec_capacity marks.new }
+    ensures bytes_capacity { vec_capacity bytes.old ≤ vec_capacity bytes.new }
+    ensures after { AreInLog marks.new.items bytes.new.items }
+{
+    let end = bytes.len();
+    if bytes.extend_from_slice(frame).is_err() {
+        return false;
+    }
+    let len = frame.len();
+    if marks.push(Mark { at, len }).is_err() {
+        bytes.truncate(end);
+        return false;
+    }
+    true
+}

@@ -1,0 +1,82 @@
+//! Writing the frames of a transcript.
+ghost use Rattle.std.specs.Prelude.{◌≡◌, ◌≤◌, length, IfErr, OnOk};
+ghost use Rattle.std.specs.Io.KnownBytes.{Appends};
+ghost use Rattle.redundant_mux.specs.Entry.{entry};
+ghost use Rattle.script_text.specs.FrameLog.{AreInLog, spelled};
+ghost use Rattle.script_text.specs.Transcript.{net_name as name_of_net, frame_line, frame_lines, streams};
+
+use crate::frame_log::{FrameLog, Mark};
+use crate::run_fault::RunFault;
+use afdx_frame::{GREATEST_FRAME, Net};
+use std::io;
+use std::io::Write;
+
+// Two digits for each byte of a frame.
+const DIGITS: usize = 2 * GREATEST_FRAME;
+
+/// Writes what was handed to network A, and then what was handed to B.
+pub fn write_streams<W: Write>(writer: &mut W, a: &FrameLog, b: &FrameLog) -> Result<(), RunFault>
+    ensures ok { OnOk result (Appends (W.contents writer.old) (W.contents writer.new)
+        (streams a.now.handed b.now.handed)) }
+    ensures err { IfErr result (λ fault. fault ≡ RunFault.Write) }
+{
+    write_both(writer, a, b).map_err(|_| RunFault::Write)
+}
+
+fn write_both<W: Write>(writer: &mut W, a: &FrameLog, b: &FrameLog) -> io::Result<()>
+    ensures { OnOk result (Appends (W.contents writer.old) (W.contents writer.new)
+        (streams a.now.handed b.now.handed)) }
+{
+    a.write_lines(writer, Net::A)?;
+    b.write_lines(writer, Net::B)
+}
+
+/// Writes a line for each frame, whose bytes stand one after the other, under a network's name.
+pub fn write_frames<W: Write>(
+    writer: &mut W,
+    net: Net,
+    marks: &[Mark],
+    bytes: &[u8],
+) -> io::Result<()>
+    requires { AreInLog marks.now bytes.now }
+    ensures { OnOk result (Appends (W.contents writer.old) (W.contents writer.new)
+        (frame_lines net (spelled marks.now bytes.now))) }
+{
+    let mut digits = [0; DIGITS];
+    let mut rest = bytes;
+    for mark in marks {
+        let (frame, more) = rest.split_at(mark.len);
+        write_frame(writer, net, mark.at, frame, &mut digits)?;
+        rest = more;
+    }
+    Ok(())
+}
+
+// Writes the line of a frame, whose digits are made in a buffer.
+fn write_frame<W: Write>(
+    writer: &mut W,
+    net: Net,
+    at: u64,
+    frame: &[u8],
+    buffer: &mut [u8; DIGITS],
+) -> io::Result<()>
+    requires { length frame.now ≤ GREATEST_FRAME }
+    ensures { OnOk result (Appends (W.contents writer.old) (W.contents writer.new)
+        (frame_line net (entry at frame.now))) }
+{
+    let digits = &mut buffer[..2 * frame.len()];
+    hex::encode_to_slice(frame, digits).unwrap();
+    let name = net_name(net);
+    write!(writer, "{name} {at} ")?;
+    writer.write_all(digits)?;
+    writer.write_all(b"\n")
+}
+
+fn net_name(net: Net) -> &'static str
+    ensures { result.now ≡ name_of_net net }
+{
+    match net {
+        Net::A => "A",
+        Net::B => "B",
+    }
+}

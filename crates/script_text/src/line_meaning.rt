@@ -1,0 +1,160 @@
+//! Reading a line.
+ghost use Rattle.std.specs.Prelude.{◌≡◌, ◌≢◌, ◌==◌, ◌⊎◌, None, Some, IfOk, IfErr, slice_index};
+ghost use Rattle.script_text.specs.Command.{is_send as is_send_word, is_at as is_at_word, is_close as is_close_word, message_of};
+ghost use Rattle.script_text.specs.Faults.{IsFirstFault, IsFaultless, send_fault, at_fault, close_fault};
+ghost use Rattle.script_text.specs.Meaning.{meaning_of, IsSaidSend, IsSaidAt, IsSaidClose};
+ghost use Rattle.script_text.specs.Words.{words_of};
+
+use crate::decimal::number;
+use crate::line::Line;
+use crate::line_fault::LineFault;
+use crate::line_text::LINE_LIMIT;
+use crate::line_words::next_word;
+use crate::message::Message;
+use std::alloc::Global;
+
+/// What a line says, which is given without its end. The fault that is told first, in the order
+/// `Long`, `Word`, `Number`, `Hex`, `Extra`; `Memory` may stand in place of any answer.
+pub fn read_line(alloc: Global, line: &[u8]) -> Result<Line, LineFault>
+    ensures ok { IfOk result (λ said. said ≡ meaning_of line.now) }
+    ensures faultless { IfOk result (λ _. IsFaultless line.now) }
+    ensures fault { IfErr result (λ fault. fault ≢ LineFault.Memory → IsFirstFault line.now fault) }
+{
+    if line.len() > LINE_LIMIT {
+        return Err(LineFault::Long);
+    }
+    let Some((word, rest)) = next_word(line) else {
+        return Ok(Line::Nothing);
+    };
+    if is_note(word) {
+        return Ok(Line::Nothing);
+    }
+    if is_send(word) {
+        return read_send(alloc, rest);
+    }
+    if is_at(word) {
+        return read_at(rest);
+    }
+    if is_close(word) {
+        read_close(rest)
+    } else {
+        Err(LineFault::Word)
+    }
+}
+
+fn is_note(word: &[u8]) -> bool
+    ensures { result ≡ (slice_index word.now 0 == 35) }
+{
+    word.first() == Some(&b'#')
+}
+
+#[tactic(auto, unfolding(crate::specs::Command::is_send))]
+fn is_send(word: &[u8]) -> bool
+    ensures { result ≡ is_send_word word.now }
+{
+    word == b"send".as_slice()
+}
+
+#[tactic(auto, unfolding(crate::specs::Command::is_at))]
+fn is_at(word: &[u8]) -> bool
+    ensures { result ≡ is_at_word word.now }
+{
+    word == b"at".as_slice()
+}
+
+#[tactic(auto, unfolding(crate::specs::Command::is_close))]
+fn is_close(word: &[u8]) -> bool
+    ensures { result ≡ is_close_word word.now }
+{
+    word == b"close".as_slice()
+}
+
+// What the words behind `send` say.
+#[tactic(auto, using(crate::proofs::MeaningLemmas::send_rules))]
+fn read_send(alloc: Global, rest: &[u8]) -> Result<Line, LineFault>
+    ensures ok { IfOk result (IsSaidSend (words_of rest.now)) }
+    ensures fault { IfErr result (λ fault.
+        fault ≢ LineFault.Memory → send_fault (words_of rest.now) ≡ Some fault) }
+{
+    let Some((port, rest)) = next_word(rest) else {
+        return Err(LineFault::Word);
+    };
+    let Some((digits, rest)) = next_word(rest) else {
+        return Err(LineFault::Word);
+    };
+    let Some(port) = number(port, 65_535) else {
+        return Err(LineFault::Number);
+    };
+    match message(alloc, digits) {
+        Ok(bytes) => match next_word(rest) {
+            None => Ok(Line::Send {
+                port: port as u16,
+                bytes,
+            }),
+            Some(_) => Err(LineFault::Extra),
+        },
+        Err(fault) => Err(fault),
+    }
+}
+
+// The message that a word writes.
+#[tactic(auto, unfolding(crate::specs::Command::message_of))]
+fn message(alloc: Global, word: &[u8]) -> Result<Message, LineFault>
+    ensures ok { IfOk result (λ message. message_of word.now ≡ Some message) }
+    ensures fault { IfErr result (λ fault.
+        (fault ≡ LineFault.Memory) ⊎ ((fault ≡ LineFault.Hex) × (message_of word.now ≡ None))) }
+{
+    if word == b"-".as_slice() {
+        return Ok(Message::new(Vec::new(alloc)));
+    }
+    match hex::decode(alloc, word) {
+        Ok(bytes) => Ok(Message::new(bytes)),
+        Err(hex::FromHexError::OutOfMemory) => Err(LineFault::Memory),
+        Err(_) => Err(LineFault::Hex),
+    }
+}
+
+// What the words behind `at` say.
+#[tactic(auto, using(crate::proofs::MeaningLemmas::at_rules))]
+fn read_at(rest: &[u8]) -> Result<Line, LineFault>
+    ensures ok { IfOk result (IsSaidAt (words_of rest.now)) }
+    ensures fault { IfErr result (λ fault. at_fault (words_of rest.now) ≡ Some fault) }
+{
+    let Some((moment, rest)) = next_word(rest) else {
+        return Err(LineFault::Word);
+    };
+    let Some(moment) = number(moment, u64::MAX) else {
+        return Err(LineFault::Number);
+    };
+    match next_word(rest) {
+        None => Ok(Line::At(moment)),
+        Some(_) => Err(LineFault::Extra),
+    }
+}
+
+// What the words behind `close` say.
+#[tactic(auto, using(crate::proofs::MeaningLemmas::close_rules))]
+fn read_close(rest: &[u8]) -> Result<Line, LineFault>
+    ensures ok { IfOk result (IsSaidClose (words_of rest.now)) }
+    ensures fault { IfErr result (λ fault. close_fault (words_of rest.now) ≡ Some fault) }
+{
+    let Some((vl, rest)) = next_word(rest) else {
+        return Err(LineFault::Word);
+    };
+    let Some((sub, rest)) = next_word(rest) else {
+        return Err(LineFault::Word);
+    };
+    let Some(vl) = number(vl, 65_535) else {
+        return Err(LineFault::Number);
+    };
+    let Some(sub) = number(sub, 255) else {
+        return Err(LineFault::Number);
+    };
+    match next_word(rest) {
+        None => Ok(Line::Close {
+            vl: vl as u16,
+            sub: sub as u8,
+        }),
+        Some(_) => Err(LineFault::Extra),
+    }
+}

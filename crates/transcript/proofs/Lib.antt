@@ -1,2 +1,0 @@
-pub mod FrameLemmas
-mod LogLemmas

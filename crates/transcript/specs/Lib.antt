@@ -1,4 +1,0 @@
-pub mod FrameLog
-pub mod LogFrames
-pub mod Summary
-pub mod Transcript
