@@ -17,8 +17,7 @@ use std::io::{self, BufWriter, IsTerminal, Write};
 use std::process::ExitCode;
 use std::sync::Wait;
 use std::thread::Threads;
-use storm::OpenGate;
-use storm_report::{Progress, bench_storm};
+use storm::{OpenGate, Progress, bench_storm};
 use tx_script::{Played, RunFault, play_script, run_script};
 
 // How many bytes of a capture are written at a time, at most.

@@ -5,8 +5,8 @@ ghost use Rattle.capture.specs.InOrder.{TakesPacket};
 ghost use Rattle.capture.specs.Order.{Captured, in_order, next_net as net_of_next};
 
 use afdx_frame::Net;
-use std::marker::Model;
 use script_text::{FrameLog, LogFrames};
+use std::marker::Model;
 
 /// A frame that a network was handed at a moment, in microseconds.
 #[derive(Clone, Copy, Debug)]

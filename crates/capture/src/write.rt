@@ -7,8 +7,8 @@ ghost use Rattle.capture.specs.InOrder.{shown};
 use crate::in_order::{InOrder, Packet};
 use afdx_frame::{GREATEST_FRAME, Net};
 use byteorder::{LittleEndian, WriteBytesExt};
-use std::io::{self, Write};
 use script_text::FrameLog;
+use std::io::{self, Write};
 
 // The section header block: its type, its length, the number that tells the order of bytes, version 1.0,
 // a section of unknown length, and the length of the block again.

@@ -48,7 +48,10 @@ fn plan_text(alloc: Global, capacity: usize) -> Result<String, AllocError> {
     )?;
     for port in 1..=PORTS {
         let sub = (port - 1) / 2;
-        writeln!(text, "[[port]]\nid = {port}\nvl = 1\nsub = {sub}\npartition = {port}")?;
+        writeln!(
+            text,
+            "[[port]]\nid = {port}\nvl = 1\nsub = {sub}\npartition = {port}"
+        )?;
         text.push_str("kind = 'queuing'\nsource = 1000\ndestination = 2000\nmax = 64\n")?;
     }
     Ok(text)

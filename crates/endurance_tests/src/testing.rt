@@ -5,15 +5,14 @@ ghost use Rattle.afdx_tx.specs.Emitter.{Tx};
 ghost use Rattle.afdx_tx.specs.Gathering.{IsGatheredTx};
 ghost use Rattle.afdx_tx.specs.Ports.{PortView, IsPortOfTx, AreOpenedWith};
 
-pub(crate) use std::alloc::{AllocError, Global};
-pub(crate) use std::process::Abort;
-pub(crate) use std::test::Fail;
-
 use afdx_config::read_config;
 use afdx_plan::{Config, VlId, demo_config};
 use afdx_tx::{Draining, Emitter, PollFault, Release, Report, TxPort, open_tx};
 use redundant_mux::{MemNetwork, Network, Standing};
 use status_board::Monitor;
+pub(crate) use std::alloc::{AllocError, Global};
+pub(crate) use std::process::Abort;
+pub(crate) use std::test::Fail;
 
 pub(crate) type Sending = Emitter<MemNetwork, MemNetwork>;
 

@@ -6,9 +6,9 @@ ghost use Rattle.plan_report.specs.Reading.{IsRefusal, Reports};
 use crate::failure::Failure;
 use crate::reading::read_plan;
 use crate::report::write_report;
+use script_text::RunFault;
 use std::alloc::Global;
 use std::io::{Read, Write};
-use script_text::RunFault;
 
 /// Reads a configuration and writes the report on its plan. Where it is refused, or memory or the
 /// reader fails before, nothing is written.

@@ -1,8 +1,8 @@
 //! Why a command ends early.
 use afdx_plan::ConfigFault;
+use script_text::RunFault;
 use std::error::Error;
 use std::fmt;
-use script_text::RunFault;
 
 /// Why a command ends before its work is done. Its text is what standard error is told.
 #[derive(Clone, Copy, Debug, PartialEq, Eq)]

@@ -6,9 +6,9 @@ ghost use Rattle.afdx_config.specs.Faults.{IsPlanOf};
 use crate::failure::Failure;
 use afdx_config::read_config;
 use afdx_plan::Config;
+use script_text::RunFault;
 use std::alloc::Global;
 use std::io::{self, Read};
-use script_text::RunFault;
 
 /// The most bytes of a configuration's text, comments and all: some four hundred times what the
 /// greatest plan takes.

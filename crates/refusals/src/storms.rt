@@ -4,8 +4,7 @@ use afdx_config::read_config;
 use afdx_plan::{Config, LinkPlan};
 use std::sync::Wait;
 use std::thread::Threads;
-use storm::{OpenGate, StormFault, StormReport, storm};
-use storm_report::write_totals;
+use storm::{OpenGate, StormFault, StormReport, storm, write_totals};
 
 /// One link of two sub-VLs, with two ports on each.
 const PLAN: &str = "end_system = { id = 1 }

@@ -2,8 +2,8 @@
 use crate::helpers::*;
 use capture::write_capture;
 use redundant_mux::Network;
-use std::test::Fail;
 use script_text::FrameLog;
+use std::test::Fail;
 
 // The section header, and an interface for each network.
 const HEADER: [u8; 92] = [

@@ -2,8 +2,8 @@
 use crate::helpers::*;
 use crate::plans::{DEMO, REPORT};
 use plan_report::{Failure, check};
-use std::io::{self, Read};
 use script_text::RunFault;
+use std::io::{self, Read};
 
 // Fails, or is interrupted once, at the end of its text.
 #[derive(Drop)]

@@ -2,8 +2,8 @@
 use crate::helpers::*;
 use crate::plans::{DEMO, REPORT};
 use plan_report::{Failure, Halting, check};
-use std::io::{self, BufWriter, ErrorKind, Write};
 use script_text::RunFault;
+use std::io::{self, BufWriter, ErrorKind, Write};
 
 // How the writer below answers the call that it doesn't take.
 #[derive(Clone, Copy, Debug)]

@@ -2,8 +2,7 @@
 use crate::helpers::*;
 use afdx_plan::ConfigFault;
 use plan_report::{End, Failure, status_of};
-use script_text::LineFault;
-use script_text::RunFault;
+use script_text::{LineFault, RunFault};
 
 #[test]
 fn the_status_tells_how_the_program_ended(rt: HostRuntime) {

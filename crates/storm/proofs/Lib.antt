@@ -5,3 +5,5 @@ pub mod Asks
 pub mod SameCells
 pub mod Watched
 pub mod ShownCounts
+pub mod TotalsLemmas
+pub mod StormLemmas

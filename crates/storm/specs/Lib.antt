@@ -5,3 +5,5 @@ pub mod Cells
 pub mod Watching
 pub mod Shown
 pub mod Threads
+pub mod Totals
+pub mod Storms

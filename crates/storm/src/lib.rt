@@ -1,8 +1,10 @@
 //! A storm over a whole end system: each of its ports sends from a thread of its own, while the emitter
-//! is polled and another thread reads the counts of its links.
+//! is polled and another thread reads the counts of its links; and the command that throws one and prints
+//! what came of it.
 #![tactic(auto)]
 
 mod both;
+mod command;
 mod drain;
 mod fault;
 mod gate;
@@ -10,13 +12,17 @@ mod load;
 mod message;
 mod outcome;
 mod polling;
+mod progress;
 mod report;
 mod run;
 mod start;
+mod totals;
 mod watcher;
 mod worker;
 
-pub use both::KeptLinks;
+pub use command::bench_storm;
 pub use fault::StormFault;
 pub use gate::{Gate, OpenGate};
+pub use progress::Progress;
 pub use report::{StormReport, storm, storm_over};
+pub use totals::write_totals;

@@ -5,9 +5,9 @@ use crate::plans::*;
 use afdx_plan::{Bag, LinkPlan, Lmax, Networks, VlId};
 use plan_report::Failure;
 use redundant_mux::MemNetwork;
-use status_board::Counts;
-use storm_report::{bench_storm, write_totals};
 use script_text::RunFault;
+use status_board::Counts;
+use storm::{bench_storm, write_totals};
 
 // Asserts what the command comes to over the small plan with this greatest message, and what is written
 // of it.

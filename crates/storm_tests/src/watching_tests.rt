@@ -1,7 +1,7 @@
 //! Storms over two links, which are read by a watcher and told in the order of the configuration.
 use crate::gates::Watched;
 use crate::plans::*;
-use storm_report::bench_storm;
+use storm::bench_storm;
 
 // Link 5 with the greatest gap and one port, and after it link 2 with the least gap and two ports.
 const LINKS: [(u16, u16, u16); 2] = [(5, 128, 1), (2, 1, 2)];

@@ -10,10 +10,9 @@ ghost use Rattle.script_text.specs.Summary.{HasFew};
 
 use afdx_plan::{Config, PortId, VlId};
 use afdx_tx::{Emitter, TxPort, open_tx};
-use script_text::{Line, Message};
+use script_text::{FrameLog, Line, Message, Outcome, Refusal, RunFault};
 use std::alloc::Global;
 use std::marker::Model;
-use script_text::{FrameLog, Outcome, Refusal, RunFault};
 
 /// The emitter of a script, over two networks in memory, and its ports in the order of the
 /// configuration.

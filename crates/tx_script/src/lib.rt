@@ -69,5 +69,7 @@ mod script;
 
 pub use played::Played;
 pub use script::{play_script, run_script};
-pub use script_text::{Line, LineFault, Message, read_line};
-pub use script_text::{FrameLog, Outcome, Refusal, RunFault, Summary, write_note, write_streams};
+pub use script_text::{
+    FrameLog, Line, LineFault, Message, Outcome, Refusal, RunFault, Summary, read_line, write_note,
+    write_streams,
+};

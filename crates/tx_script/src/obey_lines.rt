@@ -4,10 +4,11 @@ ghost use Rattle.tx_script.specs.AtBench.{IsFreshBench};
 ghost use Rattle.tx_script.specs.Running.{ReadsLine, Stops, run_fault_of};
 
 use crate::bench::{Bench, obey};
-use script_text::{Bytes, Line, LineFault, Next, ReadFault, next_line, read_line};
+use script_text::{
+    Bytes, Line, LineFault, Next, ReadFault, RunFault, Summary, next_line, read_line, write_note,
+};
 use std::alloc::Global;
 use std::io::{Read, Write};
-use script_text::{RunFault, Summary, write_note};
 
 /// How many lines a script may have.
 pub const LINES_LIMIT: u64 = 1_000_000;

@@ -7,10 +7,9 @@ use crate::bench::Bench;
 use crate::obey_lines::obey_lines;
 use crate::played::Played;
 use afdx_plan::Config;
-use script_text::Bytes;
+use script_text::{Bytes, FrameLog, RunFault, Summary, write_streams};
 use std::alloc::Global;
 use std::io::{Read, Write};
-use script_text::{FrameLog, RunFault, Summary, write_streams};
 
 /// Writes what was handed to the two networks of a bench, which are given back.
 fn write_handed<W: Write>(writer: &mut W, bench: Bench) -> Result<(FrameLog, FrameLog), RunFault>

@@ -1,6 +1,6 @@
 use Rattle.std.proofs.lemmas.Result.{on_ok_weaker}
-use Rattle.storm_report.proofs.TotalsLemmas.{totals_whole}
-use Rattle.storm_report.proofs.totals.write_totals.Goals as goal
+use Rattle.storm.proofs.TotalsLemmas.{totals_whole}
+use Rattle.storm.proofs.totals.write_totals.Goals as goal
 
 pub returns : goal.returns
 returns g c =

@@ -1,6 +1,6 @@
 use Rattle.std.specs.Io.KnownBytes.{Appends}
-use Rattle.storm_report.specs.Totals.{link_lines_to}
-use Rattle.storm_report.proofs.totals.write_links.Given as goal
+use Rattle.storm.specs.Totals.{link_lines_to}
+use Rattle.storm.proofs.totals.write_links.Given as goal
 
 abbrev pub invariant-loop-place : goal.invariant-loop-place
 invariant-loop-place g l =

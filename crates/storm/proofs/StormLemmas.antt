@@ -18,8 +18,8 @@ use Rattle.storm.specs.Messages.{own_messages}
 use Rattle.storm.specs.Shown.{all_counts}
 use Rattle.storm.specs.declared.fault.StormFault.{StormFault}
 use Rattle.storm.specs.declared.fault.StormFault.TheVariants.{Short, Turns, Memory}
-use Rattle.storm_report.specs.Storms.{ReportsPlan, ReportsStorm, IsPlanRefusal, IsStormRefusal, failure_of}
-use Rattle.storm_report.specs.Totals.{totals_text}
+use Rattle.storm.specs.Storms.{ReportsPlan, ReportsStorm, IsPlanRefusal, IsStormRefusal, failure_of}
+use Rattle.storm.specs.Totals.{totals_text}
 
 -- what was written of a storm that came to its end
 pub reports_plan : (plan : Plan) (n : ℕ) (a b : List Entry) (equal back : Bool) (counts : List Counts)

@@ -17,7 +17,7 @@ use Rattle.storm.specs.declared.fault.StormFault.TheVariants.{Short, Turns, Memo
 use Rattle.storm.specs.Answers.{HasShortPort}
 use Rattle.storm.specs.Messages.{own_messages}
 use Rattle.storm.specs.Shown.{all_counts}
-use Rattle.storm_report.specs.Totals.{totals_text}
+use Rattle.storm.specs.Totals.{totals_text}
 
 -- the failure that a fault is told as
 abbrev pub failure_of : StormFault → Failure

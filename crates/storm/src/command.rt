@@ -2,17 +2,20 @@
 ghost use Rattle.std.specs.Prelude.{◌≡◌, ◌≢◌, ◌≤◌, IfErr, IfSome, OnOk};
 ghost use Rattle.std.specs.Io.KnownBytes.{Keeps};
 ghost use Rattle.storm.specs.Answers.{HasShortPort};
-ghost use Rattle.storm_report.specs.Storms.{failure_of as failure_of_fault, IsPlanRefusal, IsStormRefusal, ReportsPlan, ReportsStorm};
+ghost use Rattle.storm.specs.Storms.{failure_of as failure_of_fault, IsPlanRefusal, IsStormRefusal, ReportsPlan, ReportsStorm};
 
+use crate::both::KeptLinks;
+use crate::fault::StormFault;
+use crate::gate::Gate;
+use crate::report::storm;
 use crate::totals::write_totals;
 use afdx_plan::Config;
 use plan_report::{Failure, read_plan};
+use script_text::RunFault;
 use std::alloc::Global;
 use std::io::{Read, Write};
 use std::sync::Wait;
 use std::thread::Threads;
-use storm::{Gate, KeptLinks, StormFault, storm};
-use script_text::RunFault;
 
 /// Reads a configuration, throws a storm at an end system of it, and writes what came of it. Where it is
 /// refused, or ends early, nothing is written.

@@ -1,12 +1,12 @@
 //! What is told of a storm.
 ghost use Rattle.std.specs.Prelude.{◌≡◌, length, OnOk};
 ghost use Rattle.std.specs.Io.KnownBytes.{Appends};
-ghost use Rattle.storm_report.specs.Totals.{accepted_line, link_line, link_lines_to, networks_line, watcher_line, totals_of};
+ghost use Rattle.storm.specs.Totals.{accepted_line, link_line, link_lines_to, networks_line, watcher_line, totals_of};
 
+use crate::report::StormReport;
 use afdx_plan::{LinkPlan, VlId};
 use status_board::Counts;
 use std::io::{self, Write};
-use storm::StormReport;
 
 /// Writes what came of a storm over these links, in the order of their plan: how many messages were
 /// accepted, the counts of each link, whether both networks were handed the same, and whether a count

@@ -1,8 +1,8 @@
 use Rattle.std.proofs.Common.{◌∙◌, subst, sym}
 use Rattle.plan_report.specs.declared.failure.Failure.{Failure}
-use Rattle.storm_report.specs.Storms.{IsPlanRefusal}
-use Rattle.storm_report.proofs.StormLemmas.{reports_plan, refuses_plan}
-use Rattle.storm_report.proofs.command.throw_storm.Goals as goal
+use Rattle.storm.specs.Storms.{IsPlanRefusal}
+use Rattle.storm.proofs.StormLemmas.{reports_plan, refuses_plan}
+use Rattle.storm.proofs.command.throw_storm.Goals as goal
 
 pub returns-in-Ok-write_totals-clause-ok : goal.returns-in-Ok-write_totals-clause-ok
 returns-in-Ok-write_totals-clause-ok g c =

@@ -1,8 +1,8 @@
 //! How far a storm has come, told on a terminal.
+use crate::gate::Gate;
 use std::io::{self, Eprint};
 use std::sync::atomic::{AtomicU64, Ordering};
 use std::time::{Clock, Instant};
-use storm::Gate;
 
 /// A gate that is always open. On standard error it tells how many messages were accepted, of those of
 /// all workers that have begun, and how many frames were released: at most once in each tenth of a

@@ -1,5 +1,5 @@
-use Rattle.storm_report.proofs.StormLemmas.{reports_on_ok, refuses_on_err}
-use Rattle.storm_report.proofs.command.bench_storm.Goals as goal
+use Rattle.storm.proofs.StormLemmas.{reports_on_ok, refuses_on_err}
+use Rattle.storm.proofs.command.bench_storm.Goals as goal
 
 pub returns-clause-ok : goal.returns-clause-ok
 returns-clause-ok g c =

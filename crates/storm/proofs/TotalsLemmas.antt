@@ -4,7 +4,7 @@ use Rattle.std.proofs.KnownBytes.{Appends-trans}
 use Rattle.std.specs.Io.KnownBytes.{Appends}
 use Rattle.afdx_plan.specs.declared.link_plan.LinkPlan.{LinkPlan}
 use Rattle.status_board.specs.declared.counts.Counts.{Counts}
-use Rattle.storm_report.specs.Totals.{accepted_line, link_lines_to, networks_line, watcher_line, totals_text}
+use Rattle.storm.specs.Totals.{accepted_line, link_lines_to, networks_line, watcher_line, totals_text}
 
 -- were appended one after the other
 pub totals_whole : (old a b c new : Option (List ℕ)) (links : List LinkPlan) (accepted : ℕ) (counts own : List Counts) (equal back : Bool)

@@ -1,2 +1,0 @@
-pub mod TotalsLemmas
-pub mod StormLemmas
