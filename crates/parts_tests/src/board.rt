@@ -74,11 +74,11 @@ fn what_was_seen_begins_what_was_published(rt: HostRuntime) {
     let (mut board, mut monitor) = open_board(rt.alloc(), 2).expect(&rt, "memory");
     laws::seen_begins(&rt, &mut board, &mut monitor, 1);
     board.publish(&rt, 1, ONE_FRAME);
-    assert_read(&rt, &mut monitor, 1, ONE_FRAME);
+    assert_same(&rt, monitor.read(&rt, 1), ONE_FRAME);
     board.publish(&rt, 1, LATER);
     laws::seen_begins(&rt, &mut board, &mut monitor, 1);
-    assert_read(&rt, &mut monitor, 1, LATER);
-    assert_read(&rt, &mut monitor, 0, Counts::ZERO);
+    assert_same(&rt, monitor.read(&rt, 1), LATER);
+    assert_same(&rt, monitor.read(&rt, 0), Counts::ZERO);
 }
 
 #[test]
