@@ -7,19 +7,20 @@ It takes what `rt ci` has left, the libraries of the crates and the program `afd
 `cc`. `rt ci` proves the C library and doesn't build it, so it is built first, `crates/afdx/out/libafdx.a`, as `rt lib`
 builds it, but over these libraries: `rt lib` would prove all of them once more. A library that is there already is
 replaced. The tests of the calls (`tools/c_calls.c`) and the example (`examples/c/example.c`) are compiled with all
-warnings as errors, once as they are and once with the address sanitizer, which finds leaks too. What the example prints with
-`--dump` has to be what `afdx_bench run` prints of the same messages and moments. The last line is 'N passed, M failed',
-and the exit status 0 exactly where nothing failed.
+warnings as errors, once as they are and once with the address sanitizer, which finds leaks too. What the example prints
+with `--dump` has to be what `afdx_bench run` prints of the same messages and times. The last line is 'N passed, M
+failed', and the exit status 0 exactly if nothing failed.
 """
 import os
 import re
 import subprocess
 import sys
 import tempfile
+from glob import glob
 
 # (no compiled copy is left beside the scripts)
 sys.dont_write_bytecode = True
-from trying import ROOT, Tries, compiler
+from trying import ROOT, Tries, compiler, text_of
 
 CRATE = f"{ROOT}/crates/afdx"
 LIBRARY = f"{CRATE}/out/libafdx.a"
@@ -28,7 +29,6 @@ EXAMPLE = f"{ROOT}/examples/c"
 WARNINGS = ["-Wall", "-Wextra", "-Werror", "-Wpedantic", "-g", "-O2"]
 WRAPPED = ["-Wl,--wrap=malloc", "-Wl,--wrap=realloc", "-Wl,--wrap=free"]
 SANITIZER = ["-fsanitize=address"]
-COUNTED = re.compile(r"(\d+) passed, (\d+) failed")
 # What the header names and no test of the calls answers: how much there is at most, and what takes 2^40 sends.
 UNMET = {"AFDX_GREATEST_FRAME", "AFDX_MOST_FRAMES", "AFDX_EXHAUSTED"}
 
@@ -50,40 +50,27 @@ def kit():
     return os.path.dirname(ran.stdout.strip())
 
 
-def archives():
-    """The library, and the kit's archive of the C functions that it calls."""
-    return [LIBRARY, f"{kit()}/c/liblibc_c.a", "-lpthread"]
-
-
-def crates():
-    """The libraries that each crate names, by its name."""
-    with open(f"{ROOT}/crates.txt", encoding="utf-8") as file:
-        lines = [line.partition("#")[0].partition(":") for line in file]
-    return {of.split()[0]: libraries.split() for of, _, libraries in lines if of.strip()}
-
-
-def crates_below(named, crate):
-    """The crates of this repository on which one stands, by name."""
-    own = [it for it in named[crate] if it in named]
-    return {below for it in own for below in [it, *crates_below(named, it)]}
-
-
 def build_words():
-    """The command that proves and builds the library over the libraries below it, as `rattle build --help` tells it."""
-    named, of_kit = crates(), kit()
-    rlib = lambda it: f"{ROOT}/crates/{it}/out/rlib" if it in named else f"{of_kit}/rlibs"
-    folders = {rlib("std"), *(rlib(it) for it in crates_below(named, "afdx"))}
+    """The command that proves and builds the library over the libraries below it, as `rattle build --help` states it."""
+    of_kit = kit()
+    (named,) = re.findall(r"(?m)^afdx staticlib:(.*)$", text_of("crates.txt"))
+    own = {os.path.basename(it)[: -len(".rlib")]: os.path.dirname(it) for it in glob(f"{ROOT}/crates/*/out/rlib/*.rlib")}
     words = [f"{of_kit}/bin/rattle", "build", "--crate-name", "afdx", "src/lib.rt", "--crate-type", "staticlib"]
-    words += [word for it in ["std", *named["afdx"]] for word in ("--extern", f"{it}={rlib(it)}/{it}.rlib")]
-    words += [word for it in sorted(folders) for word in ("-L", f"dependency={it}")]
+    words += [it for name in ["std", *named.split()] for it in ("--extern", f"{name}={own.get(name, f'{of_kit}/rlibs')}/{name}.rlib")]
+    words += [it for folder in sorted({f"{of_kit}/rlibs", *own.values()}) for it in ("-L", f"dependency={folder}")]
     words += ["--antt-project", f"{of_kit}/rattle/logic/antt-project.json", "--logic-built", f"{of_kit}/logic_built"]
     words += ["--toolchain", f"{of_kit}/toolchain", "--backend", "llvm", "--jobs", str(len(os.sched_getaffinity(0)))]
     return [*words, "-o", LIBRARY]
 
 
-def ran(words, room=CRATE):
+def ran(words, room=CRATE, timeout=600):
     """A run of a command, and what it wrote."""
-    return subprocess.run(words, cwd=room, capture_output=True, text=True, timeout=600, check=False)
+    return subprocess.run(words, cwd=room, capture_output=True, text=True, timeout=timeout, check=False)
+
+
+def said(it):
+    """How a run ended, for a fault."""
+    return f"status {it.returncode}: {it.stdout[-2000:]}{it.stderr[-2000:]}"
 
 
 def is_built(tries):
@@ -91,23 +78,23 @@ def is_built(tries):
     os.makedirs(os.path.dirname(LIBRARY), exist_ok=True)
     if os.path.exists(LIBRARY):
         os.remove(LIBRARY)
-    build = subprocess.run(build_words(), cwd=CRATE, capture_output=True, text=True, check=False)
+    build = ran(build_words(), timeout=None)
     is_there = build.returncode == 0 and os.path.isfile(LIBRARY)
-    tries.show("building libafdx.a", [] if is_there else [build.stdout[-2000:], build.stderr[-2000:]])
+    tries.show("building libafdx.a", [] if is_there else [said(build)])
     return is_there
 
 
 def compiled(tries, room, name, source, flags):
-    """The path of a program, compiled with these flags; `None` where the compiler refused it."""
+    """The path of a program, compiled with these flags; `None` if the compiler refused it."""
     path = f"{room}/{name}"
-    words = [compiler() or "cc", "-std=gnu11", *WARNINGS, *flags, f"-I{CRATE}", source, *archives(), "-o", path]
-    made = ran(words)
+    archives = [LIBRARY, f"{kit()}/c/liblibc_c.a", "-lpthread"]
+    made = ran([compiler() or "cc", "-std=gnu11", *WARNINGS, *flags, f"-I{CRATE}", source, *archives, "-o", path])
     tries.show(f"compiling {name}", [made.stderr] if made.returncode else [])
     return None if made.returncode else path
 
 
 def try_header(tries, room):
-    """The header alone, as strict C99 and as C++."""
+    """The header alone, as strict C99 and as C++; and each number that it names is one that the tests of the calls look for."""
     source = f"{room}/header.c"
     with open(source, "w", encoding="utf-8") as file:
         file.write('#include "afdx.h"\n#include "afdx.h"\nint main(void) { return AFDX_A; }\n')
@@ -118,16 +105,9 @@ def try_header(tries, room):
             continue
         made = ran([program, *flags, "-pedantic-errors", *WARNINGS, f"-I{CRATE}", "-fsyntax-only", source])
         tries.show(f"the header, {' '.join(flags)}", [made.stderr] if made.returncode else [])
-
-
-def try_names(tries):
-    """Each number that the header names is one that the tests of the calls look for."""
-    texts = []
-    for path in (f"{CRATE}/afdx.h", f"{ROOT}/tools/c_calls.c"):
-        with open(path, encoding="utf-8") as file:
-            texts.append(re.sub(r"/\*.*?\*/", "", file.read(), flags=re.DOTALL))
-    named = set(re.findall(r"\b(AFDX_\w+) = ", texts[0]))
-    unmet = named - set(re.findall(r"\bAFDX_\w+\b", texts[1]))
+    header, calls = (re.sub(r"/\*.*?\*/", "", text_of(it), flags=re.DOTALL) for it in ("crates/afdx/afdx.h", "tools/c_calls.c"))
+    named = set(re.findall(r"\b(AFDX_\w+) = ", header))
+    unmet = named - set(re.findall(r"\bAFDX_\w+\b", calls))
     tries.show(f"{len(named)} numbers of the header", [] if unmet == UNMET else [f"not looked for: {sorted(unmet)}"])
 
 
@@ -137,9 +117,9 @@ def try_calls(tries, room, name, flags):
     if path is None:
         return
     calls = ran([path], room)
-    counts = COUNTED.fullmatch(calls.stdout.strip().rpartition("\n")[2])
-    is_well = counts is not None and counts[2] == "0" and counts[1] != "0" and calls.returncode == 0 and not calls.stderr
-    tries.show(f"{name}: {counts[0] if counts else 'no counts'}", [] if is_well else [f"status {calls.returncode}", calls.stdout, calls.stderr])
+    counts = re.fullmatch(r"([1-9]\d*) passed, 0 failed", calls.stdout.strip().rpartition("\n")[2])
+    is_well = counts is not None and calls.returncode == 0 and not calls.stderr
+    tries.show(f"{name}: {counts[0] if counts else 'no counts'}", [] if is_well else [said(calls)])
 
 
 def script_of(words, last):
@@ -148,39 +128,30 @@ def script_of(words, last):
     for word in words:
         port, messages, size = [*map(int, word.split(":")), 1, 1][:3]
         lines += [f"send {port} {bytes((k + 1 + i) % 256 for i in range(size)).hex()}" for k in range(messages)]
-    return "\n".join([*lines, *(f"at {moment}" for moment in range(0, last + 1, 1000))]) + "\n"
+    return "\n".join([*lines, *(f"at {at}" for at in range(0, last + 1, 1000))]) + "\n"
 
 
 def try_dump(tries, room, name, program, config, words):
     """What the example prints is what the bench prints."""
     dump = ran([program, "--dump", f"{EXAMPLE}/{config}", *words], room)
-    moments = [int(line.split(" ")[1]) for line in dump.stdout.splitlines()]
+    times = [int(line.split(" ")[1]) for line in dump.stdout.splitlines()]
     script = f"{room}/script.txt"
     with open(script, "w", encoding="utf-8") as file:
-        file.write(script_of(words, max(moments, default=0)))
+        file.write(script_of(words, max(times, default=0)))
     wanted = ran([BENCH, "run", f"{EXAMPLE}/{config}", script], room)
     is_well = (dump.returncode, wanted.returncode, dump.stdout) == (0, 0, wanted.stdout)
-    faults = [] if is_well else [f"status {it.returncode}: {it.stdout}{it.stderr}" for it in (dump, wanted)]
-    tries.show(f"{name} --dump {config} {' '.join(words)}, {len(moments)} lines", faults)
-
-
-def try_row(tries, room, name, program):
-    """The first message of the demonstration configuration, as the bench's stored run has it."""
-    with open(f"{ROOT}/crates/afdx_bench/stdout", encoding="utf-8") as file:
-        wanted = file.read()
-    dump = ran([program, "--dump", f"{EXAMPLE}/demo.toml", "10"], room)
-    tries.show(f"{name}: the stored run", [] if (dump.returncode, dump.stdout) == (0, wanted) else [dump.stdout, dump.stderr])
+    tries.show(f"{name} --dump {config} {' '.join(words)}, {len(times)} lines", [] if is_well else [said(dump), said(wanted)])
 
 
 def try_full(tries, room, name, program):
     """More messages than there is room for: each goes out, in order, once."""
     dump = ran([program, "--dump", f"{EXAMPLE}/demo.toml", "10:300:1"], room)
     lines = [line.split(" ") for line in dump.stdout.splitlines()]
+    wanted = [((k + 1) % 256, 0 if k == 0 else 1 + (k - 1) % 255) for k in range(300)]
     for net in "AB":
         frames = [bytes.fromhex(words[2]) for words in lines if words[0] == net]
-        numbers = [0] + [1 + k % 255 for k in range(299)]
-        is_well = [frame[42] for frame in frames] == [(k + 1) % 256 for k in range(300)] and [frame[-1] for frame in frames] == numbers
-        tries.show(f"{name}: 300 messages in order on {net}", [] if is_well else [f"{len(frames)} frames, {dump.stderr}"])
+        is_well = [(frame[42], frame[-1]) for frame in frames] == wanted
+        tries.show(f"{name}: 300 messages in order on {net}", [] if is_well else [f"{len(frames)} frames", said(dump)])
 
 
 def try_words(tries, room, name, program):
@@ -192,14 +163,13 @@ def try_words(tries, room, name, program):
         refused = ran([program, *words], room)
         is_well = refused.returncode == status and refused.stderr and "Sanitizer" not in refused.stderr
         shown = " ".join(os.path.basename(word) for word in words)
-        tries.show(f"{name} {shown}: status {status}", [] if is_well else [f"status {refused.returncode}", refused.stdout, refused.stderr])
+        tries.show(f"{name} {shown}: status {status}", [] if is_well else [said(refused)])
 
 
 def main():
     tries = Tries()
     with tempfile.TemporaryDirectory(prefix="c-library-") as room:
         try_header(tries, room)
-        try_names(tries)
         if not is_built(tries):
             return tries.end()
         try_calls(tries, room, "c_calls", [])
@@ -208,7 +178,6 @@ def main():
             program = compiled(tries, room, name, f"{EXAMPLE}/example.c", flags)
             if program is None:
                 continue
-            try_row(tries, room, name, program)
             try_full(tries, room, name, program)
             try_words(tries, room, name, program)
             for config, words in SENDING:

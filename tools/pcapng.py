@@ -4,10 +4,10 @@
     python3 tools/pcapng.py FILE [--compare TRANSCRIPT]
 
 It is written from the format's specification (draft-ietf-opsawg-pcapng) and shares nothing with the program
-that writes captures. It prints a line for each packet, `A 0 <hex>`: the interface's name, the moment in the
+that writes captures. It prints a line for each packet, `A 0 <hex>`: the interface's name, the timestamp in the
 units of the interface, and the bytes. With --compare it compares the packets of each interface, in order,
-with the lines of such a form in a transcript of `afdx_bench run`. Each block, each packet and each comparison
-counts; the last line is 'N passed, M failed', and the exit status 0 exactly where nothing failed.
+with the lines of such a form in a transcript of `afdx_bench run`. Each block, the order of the packets and each
+comparison count; the last line is 'N passed, M failed', and the exit status 0 exactly if nothing failed.
 """
 import argparse
 import struct
@@ -88,20 +88,16 @@ class Capture:
     """The blocks of a file, each of which is checked; the order of bytes is that of the section header."""
 
     def __init__(self, data):
-        self.interfaces, self.packets, self.blocks = [], [], 0
-        self.order = None
+        self.interfaces, self.packets, self.blocks, self.order = [], [], 0, None
         at = 0
         while at < len(data):
-            at += self.block(data, at)
+            try:
+                at += self.block(data, at)
+            except Malformed as fault:
+                raise Malformed(f"block {self.blocks} at byte {at}: {fault}") from None
         want(self.order, "there is no section")
 
     def block(self, data, at):
-        try:
-            return self.read_block(data, at)
-        except Malformed as fault:
-            raise Malformed(f"block {self.blocks} at byte {at}: {fault}") from None
-
-    def read_block(self, data, at):
         want(at + 12 <= len(data), f"{len(data) - at} bytes are no block")
         if data[at : at + 4] == b"\x0a\x0d\x0d\x0a":
             self.begin(data[at + 8 : at + 12])
@@ -135,98 +131,21 @@ class Capture:
             raise Malformed(f"type {kind:#x}")
 
 
-def ones_sum(data):
-    """The one's complement sum of 16 bit words (RFC 1071)."""
-    if len(data) % 2:
-        data += b"\0"
-    total = sum(struct.unpack(f">{len(data) // 2}H", data))
-    while total >> 16:
-        total = (total & 0xFFFF) + (total >> 16)
-    return total
-
-
-class Datagrams:
-    """The fragments of each datagram (RFC 791), until the last one has come: then they are whole."""
-
-    def __init__(self):
-        self.open, self.whole, self.numbers = {}, 0, {}
-
-    def add(self, packet):
-        """Checks Ethernet, IPv4 and, where a datagram is whole, UDP."""
-        data = packet.data
-        want(60 <= len(data) <= 1514, f"{len(data)} bytes")
-        want(data[12:14] == b"\x08\x00", f"type {data[12:14].hex()}")
-        head = data[14:34]
-        want(head[0] == 0x45, f"version and header length {head[0]:#x}")
-        total, identification, word = struct.unpack_from(">HHH", head, 2)
-        want(20 < total <= len(data) - 14, f"total length {total} in a frame of {len(data)} bytes")
-        # a sequence number stands behind the datagram and its padding
-        want(len(data) - 1 == max(59, 14 + total), f"{len(data)} bytes for a total length of {total}")
-        want(not any(data[14 + total : -1]), "the padding of a frame isn't zero")
-        want(ones_sum(head) == 0xFFFF, "the header's checksum")
-        want(head[9] == 17, f"protocol {head[9]}")
-        flags, offset = word >> 13, 8 * (word & 0x1FFF)
-        want(flags in (0, 1), f"flags {flags}")
-        self.number(packet.name, data[:6], data[-1])
-        piece = data[34 : 14 + total]
-        want(flags == 0 or len(piece) % 8 == 0, "a fragment before the last isn't of units of 8 bytes")
-        self.piece((packet.name, data[:6], head[12:20], identification), offset, piece, flags == 0)
-
-    def number(self, name, link, number):
-        """Sequence numbers of a link go from 0 to 255 and on with 1 (ARINC 664 Part 7)."""
-        before = self.numbers.get((name, link))
-        wanted = 0 if before is None else before % 255 + 1
-        self.numbers[name, link] = number
-        want(number == wanted, f"sequence number {number}, and not {wanted}")
-
-    def piece(self, key, offset, piece, is_last):
-        got = self.open.setdefault(key, b"")
-        want(len(got) == offset, f"offset {offset}, and {len(got)} bytes came")
-        self.open[key] = got + piece
-        if is_last:
-            datagram = self.open.pop(key)
-            want(len(datagram) >= 8, "a datagram is too short")
-            (length,) = struct.unpack_from(">H", datagram, 4)
-            want(length == len(datagram), f"UDP length {length} of {len(datagram)} bytes")
-            self.whole += 1
-
-
 def compared(packets, transcript):
     """For each interface, whether its packets are the lines of its name, in their order."""
     with open(transcript, encoding="utf-8") as file:
         lines = file.read().splitlines()
-    results = []
-    for name in "AB":
-        wanted = [line for line in lines if line.startswith(name + " ")]
-        found = [packet.line() for packet in packets if packet.name == name]
-        results.append(found == wanted)
-        if found != wanted:
-            print(f"{name}: {len(found)} packets aren't the {len(wanted)} lines of the transcript", file=sys.stderr)
-    return results
+    found = [(it.name, it.line()) for it in packets]
+    return [[line for of, line in found if of == name] == [it for it in lines if it[:2] == f"{name} "] for name in "AB"]
 
 
-def is_ordered(packets):
-    """Whether moments rise, and of one moment A's packets come first."""
-    keys = [(packet.moment, packet.name) for packet in packets]
-    return keys == sorted(keys)
-
-
-def checks(path, transcript=None, shows=True):
-    """What is checked of a capture: whether each is passed."""
+def checks(path, transcript=None):
+    """What is checked of a capture: whether each is passed. Times rise, and of one time A's packets come first."""
     with open(path, "rb") as file:
         capture = Capture(file.read())
     want([it.name for it in capture.interfaces] == ["A", "B"], "the interfaces aren't A and B")
-    results, datagrams = [True] * capture.blocks, Datagrams()
-    for number, packet in enumerate(capture.packets, 1):
-        if shows:
-            print(packet.line())
-        try:
-            datagrams.add(packet)
-            results.append(True)
-        except Malformed as fault:
-            print(f"packet {number}: {fault}", file=sys.stderr)
-            results.append(False)
-    results.append(is_ordered(capture.packets))
+    order = [(packet.moment, packet.name) for packet in capture.packets]
+    results = [True] * capture.blocks + [order == sorted(order)]
     if not results[-1]:
         print("the packets aren't in order", file=sys.stderr)
     return results + (compared(capture.packets, transcript) if transcript else [])
@@ -236,10 +155,11 @@ def main():
     parser = argparse.ArgumentParser(description=__doc__.partition("\n")[0])
     parser.add_argument("file")
     parser.add_argument("--compare", metavar="TRANSCRIPT")
-    parser.add_argument("--quiet", action="store_true", help="print no line for a packet")
     words = parser.parse_args()
     try:
-        results = checks(words.file, words.compare, not words.quiet)
+        results = checks(words.file, words.compare)
+        with open(words.file, "rb") as file:
+            print(*(packet.line() for packet in Capture(file.read()).packets), sep="\n")
     except (OSError, UnicodeDecodeError, Malformed) as fault:
         print(fault, file=sys.stderr)
         results = [False]

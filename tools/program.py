@@ -1,219 +1,265 @@
 #!/usr/bin/env python3
-"""Runs the program with words, files and streams of many kinds.
+"""Runs the program with words, files, streams and captures of many kinds.
 
     python3 tools/program.py
 
-It runs what `rt ci` has built, the program `afdx_bench` as each compiler makes it: each exit status with its
-text, which of two faults is told, numbers that are none, standard streams that are closed, and a storm whose
-standard error is a terminal. The last line is 'N passed, M failed', and the exit status 0 exactly where
-nothing failed.
+It runs what `rt ci` has built, the program `afdx_bench` as each compiler makes it: each exit status with its text,
+which of two faults is reported, numbers that are none, closed standard streams, a storm whose standard error is a
+terminal, and captures, which `tools/pcapng.py` reads. The last line is 'N passed, M failed', and the exit status 0
+exactly if nothing failed.
 """
 import os
 import pty
 import re
 import subprocess
 import sys
+import tempfile
 import time
 import tty
 
 # (no compiled copy is left beside the scripts)
 sys.dont_write_bytecode = True
-from captures import closing, ends, main
-from refusals_wanted import DEMO, HELP_TEXT, ONE_FRAME, REPORT, SCRIPT, TOTALS, WRONG_TEXT
-from trying import started
+import pcapng
+from trying import DEMO, HELP, ONE_FRAME, REPORT, SCRIPT, WRONG, Tries, built, started, totals
 
-# A line that is refused while running, and one that ends the run.
+# A second link, on network B alone, and a port of it.
+LINK, PORT = DEMO[DEMO.index("[[vl]]") : DEMO.index("[[port]]")], DEMO[DEMO.index("[[port]]") :]
+SECOND = LINK.replace("id = 1", 'id = 2\nnetworks = "b"').replace("bag_ms = 1", "bag_ms = 2")
+TWO = f"version = 2\n{DEMO}\n{SECOND}{PORT.replace('id = 10', 'id = 20').replace('vl = 1', 'vl = 2')}"
+# Messages of one and of six frames, and polls up to times of 33 bits.
+LONG = "".join(
+    f"send 10 {'5a' * (1 + 977 * place % 8192)}\nsend 20 {place:02x}\n" for place in range(40)
+) + "".join(f"at {at}\n" for at in range(0, 600_000, 500)) + "at 4294967299\nat 8589934592\n"
+# A line that is refused while running.
 FULL = "send 10 01\nsend 10 02\nsend 10 03\nat 0\n"
-FULL_TOLD = "line 3: refused Full\n" + ONE_FRAME
+FULL_NOTED = "line 3: refused Full\n" + ONE_FRAME
+# Many ports with little room.
+PORTS = 64
+CROWD = DEMO.replace("capacity = 2", "capacity = 1").replace(
+    PORT, "".join(PORT.replace("id = 10", f"id = {k}").replace("1000", f"{1000 + k}") for k in range(PORTS))
+)
 FILES = {
+    "demo.toml": DEMO,
+    "two.toml": TWO.replace("capacity = 2", "capacity = 100"),
     "wrong.toml": DEMO.replace("bag_ms = 1", "bag_ms = 3"),
     "small.toml": DEMO.replace("max = 8192", "max = 5"),
+    "many.toml": CROWD,
+    "short.txt": SCRIPT,
+    "long.txt": LONG,
+    "faulty.txt": SCRIPT + "at x\n",
     "full.txt": FULL,
     "lines.txt": "\n" * 1_000_001,
+    "old.pcapng": "\0" * 100_000,
 }
-RUN = ["run", "demo.toml", "short.txt"]
+RUN, CHECK = ["run", "demo.toml", "short.txt"], ["check", "demo.toml"]
 STORM = ["storm", "demo.toml", "--messages", "2", "--turns", "1000"]
 LATE = ["storm", "demo.toml", "--messages", "3", "--turns", "1"]
+CAPTURED = [*RUN, "--capture", "frames.pcapng"]
+BAD_BAG = "configuration refused: 6 BadBag\n"
 
-# Words, and how a run of them ends: its status, standard output and standard error.
+# Words, and how a run of them ends: its status, standard output and standard error. Standard input is empty.
 ROWS = [
     (RUN, 0, ONE_FRAME, ""),
-    (["check", "demo.toml"], 0, REPORT, ""),
-    (STORM, 0, TOTALS, ""),
-    (["--help"], 0, HELP_TEXT, ""),
-    (["frob"], 2, "", WRONG_TEXT),
-    (["check", "wrong.toml"], 2, "", "configuration refused: 6 BadBag\n"),
-    (["run", "wrong.toml", "short.txt"], 2, "", "configuration refused: 6 BadBag\n"),
-    (["storm", "wrong.toml", *STORM[2:]], 2, "", "configuration refused: 6 BadBag\n"),
+    (CHECK, 0, REPORT, ""),
+    (STORM, 0, totals(2), ""),
+    ([*STORM[:3], "002", "--turns", "01000"], 0, totals(2), ""),
+    (["--help"], 0, HELP, ""),
+    (["frob"], 2, "", WRONG),
+    (["check", "wrong.toml"], 2, "", BAD_BAG),
+    (["storm", "wrong.toml", *STORM[2:]], 2, "", BAD_BAG),
     (["run", "demo.toml", "faulty.txt"], 2, ONE_FRAME, "script line 3: 2 Number\n"),
     (["run", "demo.toml", "lines.txt"], 2, "", "script refused: too many lines\n"),
     (["storm", "small.toml", *STORM[2:]], 2, "", "storm refused: a port's max is below 6\n"),
-    (["run", "demo.toml", "full.txt"], 3, FULL_TOLD, ""),
+    (["run", "demo.toml", "full.txt"], 3, FULL_NOTED, ""),
     (["check", "none.toml"], 4, "", "read failed\n"),
     (["check", "."], 4, "", "read failed\n"),
-    (["run", "demo.toml", "none.txt"], 4, "", "read failed\n"),
     (["run", "demo.toml", "."], 4, "", "read failed\n"),
     (["storm", "none.toml", *STORM[2:]], 4, "", "read failed\n"),
     (LATE, 5, "", "turns used up\n"),
-]
-
-# A configuration and a script, neither of which can be used, and what is told: the configuration's fault.
-BOTH = [
-    ("wrong.toml", "none.txt", 2, "configuration refused: 6 BadBag\n"),
-    ("wrong.toml", "faulty.txt", 2, "configuration refused: 6 BadBag\n"),
-    ("none.toml", "faulty.txt", 4, "read failed\n"),
+    # the configuration is read before the script, and both are opened before a capture is made
+    (["run", "wrong.toml", "none.txt", "--capture", "unmade"], 2, "", BAD_BAG),
+    (["run", "wrong.toml", "faulty.txt"], 2, "", BAD_BAG),
+    (["run", "none.toml", "faulty.txt"], 4, "", "read failed\n"),
+    (["run", "demo.toml", "none.txt", "--capture", "unmade"], 4, "", "read failed\n"),
+    ([*RUN, "--capture", "nowhere/unmade"], 4, "", "write failed\n"),
 ]
 
 # What is no number of decimal digits alone, or lies outside of both ranges.
 NO_NUMBERS = ["+5", " 5", "5 ", "-5", "", "0x5", "5.0", "1_000", "+", "٥", "0", "00", "18446744073709551617"]
 
-# A storm of many ports with little room, and what it shows meanwhile.
-PORTS = 64
-PORT = DEMO[DEMO.index("[[port]]") :]
-CROWD = DEMO.replace("capacity = 2", "capacity = 1").replace(
-    PORT, "".join(PORT.replace("id = 10", f"id = {k}").replace("1000", f"{1000 + k}") for k in range(PORTS))
-)
+# The standard streams that are closed before a run, in each way.
+CLOSED = [[0], [1], [2], [0, 1], [0, 2], [1, 2], [0, 1, 2]]
+
+# What a terminal is shown of a storm.
 SHOWN = re.compile(rb"\raccepted (\d+) of (\d+), frames (\d+)")
 
 
-def prepared(room):
-    """A room with the files of this script, too."""
-    for name, text in FILES.items():
-        room.write(name, text)
-    return room
+class Room:
+    """A program in a folder with the files of its runs, and what wasn't as it has to be."""
+
+    def __init__(self, folder, program):
+        self.folder, self.program, self.faults = folder, program, []
+        for name, text in FILES.items():
+            self.write(name, text)
+
+    def write(self, name, text):
+        with open(f"{self.folder}/{name}", "w", encoding="utf-8") as file:
+            file.write(text)
+
+    def read(self, name):
+        with open(f"{self.folder}/{name}", "rb") as file:
+            return file.read()
+
+    def want(self, is_well, what):
+        if not is_well:
+            self.faults.append(f"{what}")
+
+    def start(self, *words, **how):
+        how = how if {"stdin", "input"} & {*how} else {"stdin": subprocess.DEVNULL, **how}
+        return started(self.program, words, cwd=self.folder, capture_output=True, text=True, **how)
+
+    def ends(self, words, status, out, err, **how):
+        """A run of these words has to end so."""
+        ran = self.start(*words, **how)
+        self.want((ran.returncode, ran.stdout, ran.stderr) == (status, out, err), f"{how or ''} {ran}")
+
+    def is_captured(self, name, transcript):
+        """A reader has to take a capture, whose packets are the lines of a transcript."""
+        self.write("transcript", transcript)
+        try:
+            results = pcapng.checks(f"{self.folder}/{name}", f"{self.folder}/transcript")
+            self.want(all(results), f"{name} isn't of its transcript")
+        except pcapng.Malformed as fault:
+            self.want(False, fault)
 
 
-def told(room, program, words, wanted):
-    """Whether a run ends as it is to; otherwise it is shown."""
-    ran = started(program, words, cwd=room.folder, stdin=subprocess.DEVNULL, capture_output=True, text=True)
-    is_well = (ran.returncode, ran.stdout, ran.stderr) == wanted
-    if not is_well:
-        print(f"    {words}: status {ran.returncode}, {ran.stdout[:300]!r}, {ran.stderr[:300]!r}")
-    return is_well
+def rows(room):
+    """Each exit status, with what is printed."""
+    for row in ROWS:
+        room.ends(*row)
+    room.want(not os.path.exists(f"{room.folder}/unmade"), "a capture was made")
 
 
-def statuses(room, program):
-    """Each exit status, with the text on standard error."""
-    prepared(room)
-    return all([told(room, program, words, (status, out, err)) for words, status, out, err in ROWS])
-
-
-def standard_input(room, program):
+def standard_input(room):
     """Without words the script comes from standard input."""
-    rows = [(SCRIPT, 0, ONE_FRAME, ""), (FULL, 3, FULL_TOLD, ""), ("at x\n", 2, "", "script line 1: 2 Number\n")]
-    runs = [started(program, [], input=given, capture_output=True, text=True) for given, _, _, _ in rows]
-    return all([ends(ran, status, err, out) for ran, (_, status, out, err) in zip(runs, rows)])
+    for given, *row in [(SCRIPT, 0, ONE_FRAME, ""), (FULL, 3, FULL_NOTED, ""), ("at x\n", 2, "", "script line 1: 2 Number\n")]:
+        room.ends([], *row, input=given)
+    room.ends([], 4, "", "read failed\n", preexec_fn=lambda: os.close(0))
 
 
-def full_disk(room, program):
-    """Standard output that can't be written."""
-    words = [RUN, ["check", "demo.toml"], STORM, ["--help"]]
-    with open("/dev/full", "wb") as full:
-        how = {"cwd": room.folder, "stdout": full, "stderr": subprocess.PIPE, "text": True}
-        runs = [started(program, it, **how) for it in words]
-    return all((ran.returncode, ran.stderr) == (4, "write failed\n") for ran in runs)
-
-
-def configuration_first(room, program):
-    """The configuration is read before the script is opened."""
-    prepared(room)
-    return all([told(room, program, ["run", *files], (status, "", err)) for *files, status, err in BOTH])
-
-
-def numbers(room, program):
+def numbers(room):
     """Numbers are decimal digits alone."""
-    given = [["--messages", it, "--turns", "9"] for it in NO_NUMBERS]
-    given += [["--messages", "2", "--turns", it] for it in NO_NUMBERS]
-    given += [[f"--messages={it[1]}", it[2], it[3]] for it in given[: len(NO_NUMBERS)]]
-    runs = [room.start(program, "storm", "demo.toml", *it) for it in given]
-    wrong = [it for ran, it in zip(runs, given) if ran.returncode != 2 or ran.stdout or "--help" not in ran.stderr]
-    if wrong:
-        print(f"    accepted: {wrong}")
-    zeros = room.start(program, "storm", "demo.toml", "--messages", "002", "--turns", "01000")
-    return not wrong and ends(zeros, 0, "", TOTALS)
+    for it in NO_NUMBERS:
+        for words in (["--messages", it, "--turns", "9"], ["--messages", "2", "--turns", it], [f"--messages={it}", "--turns", "9"]):
+            ran = room.start("storm", "demo.toml", *words)
+            room.want(ran.returncode == 2 and not ran.stdout and "--help" in ran.stderr, ran)
 
 
-def closed_streams(room, program):
-    """A standard stream that is closed fails, and no file of the run takes its place."""
-    for closed in ([0], [1], [2], [0, 1], [0, 2], [1, 2], [0, 1, 2]):
+def closed_streams(room):
+    """A standard stream that is closed fails, and no file of the run takes its place: a capture has its blocks alone."""
+    for closed in CLOSED:
         status = 4 if 1 in closed else 0
         err = "" if 2 in closed or status == 0 else "write failed\n"
-        for words, out in ((RUN, ONE_FRAME), (["check", "demo.toml"], REPORT), (STORM, TOTALS)):
-            ran = room.start(program, *words, preexec_fn=closing(closed))
-            if not ends(ran, status, err, "" if status else out):
-                print(f"    {words} without {closed}: {ran}")
-                return False
-    unread = room.start(program, preexec_fn=closing([0]))
-    return ends(unread, 4, "read failed\n")
+        for words, out in ((RUN, ONE_FRAME), (CHECK, REPORT), (STORM, totals(2)), (CAPTURED, ONE_FRAME)):
+            room.ends(words, status, "" if status else out, err, preexec_fn=lambda: [os.close(it) for it in closed])
+        if status:
+            room.want(room.read("frames.pcapng") == b"", f"a capture without {closed}")
+        else:
+            room.is_captured("frames.pcapng", ONE_FRAME)
 
 
-def on_terminal(room, program, words):
+def captures(room):
+    """A run with a capture prints what it prints without one, and its capture has these frames: of two links, fragments
+    and times of 33 bits among them, and of the lines before a fault. A file that is there is replaced, and a link that
+    leads nowhere is followed."""
+    os.symlink("made.pcapng", f"{room.folder}/link")
+    for config, script, name, to in [
+        ("two.toml", "long.txt", "long.pcapng", "long.pcapng"),
+        ("demo.toml", "faulty.txt", "faulty.pcapng", "faulty.pcapng"),
+        ("demo.toml", "short.txt", "old.pcapng", "old.pcapng"),
+        ("demo.toml", "short.txt", "link", "made.pcapng"),
+    ]:
+        plain = room.start("run", config, script)
+        room.ends(["run", config, script, "--capture", name], plain.returncode, plain.stdout, plain.stderr)
+        room.want(plain.stdout, f"{script} prints nothing")
+        room.is_captured(to, plain.stdout)
+    packets = pcapng.Capture(room.read("long.pcapng")).packets
+    room.want(len(packets) > 200 and any(packet.data[20] & 0x20 for packet in packets), "no fragments")
+
+
+def own_files(room):
+    """A capture that is the configuration or the script, by whatever name or as standard input, is refused, and both are left."""
+    os.mkdir(f"{room.folder}/inner")
+    for name in ("demo.toml", "short.txt"):
+        os.link(f"{room.folder}/{name}", f"{room.folder}/inner/hard-{name}")
+        os.symlink(f"../{name}", f"{room.folder}/inner/soft-{name}")
+    refused = (4, "", "write failed\n")
+    for name in ("demo.toml", "short.txt"):
+        for way in ("", "./", "inner/../", "inner/hard-", "inner/soft-", f"{room.folder}/"):
+            room.ends([*RUN, "--capture", way + name], *refused)
+    room.ends(["run", "inner/soft-demo.toml", "inner/hard-short.txt", "--capture", "short.txt"], *refused)
+    with open(f"{room.folder}/short.txt", encoding="utf-8") as script:
+        room.ends(["run", "demo.toml", "/dev/stdin", "--capture", "short.txt"], *refused, stdin=script)
+    room.want((room.read("demo.toml"), room.read("short.txt")) == (DEMO.encode(), SCRIPT.encode()), "a file was changed")
+
+
+def on_terminal(room, words):
     """A run whose standard error is a terminal: its status, its standard output, and what the terminal was shown."""
     terminal, theirs = pty.openpty()
     tty.setraw(theirs)
-    name = os.path.basename(program).partition(".")[0]
-    how = {"executable": program, "cwd": room.folder, "stdin": subprocess.DEVNULL, "stdout": subprocess.PIPE}
+    name = os.path.basename(room.program).partition(".")[0]
+    how = {"executable": room.program, "cwd": room.folder, "stdin": subprocess.DEVNULL, "stdout": subprocess.PIPE}
+    shown = b""
     with subprocess.Popen([name, *words], stderr=theirs, **how) as process:
         os.close(theirs)
-        shown = b""
-        while True:
-            try:
-                part = os.read(terminal, 65536)
-            except OSError:
-                break
-            if not part:
-                break
-            shown += part
+        try:
+            while part := os.read(terminal, 65536):
+                shown += part
+        except OSError:
+            # (so a terminal ends)
+            pass
         out = process.stdout.read().decode()
     os.close(terminal)
     return process.returncode, out, shown
 
 
-def is_progress(shown, messages, seconds):
-    """Whether a terminal was shown how far a storm with so many messages of each port has come."""
-    told = [tuple(map(int, it)) for it in SHOWN.findall(shown)]
-    is_whole = re.fullmatch(b"(?:" + SHOWN.pattern + b")+\n", shown) is not None
-    rises = all(list(it) == sorted(it) for it in zip(*told))
-    in_range = all(max(it) <= PORTS * messages and it[1] % messages == 0 for it in told)
-    return is_whole and rises and in_range and len(told) <= 10 * seconds
-
-
-def progress(room, program):
-    """A storm on a terminal tells how far it has come, on one line that it ends. It shows nothing in its first tenth of
-    a second, so that a short one is followed by a longer one."""
-    room.write("many.toml", CROWD)
+def progress(room):
+    """A storm on a terminal shows how far it has come, on one line that it ends; nothing in its first tenth of a second,
+    so that a short one is followed by a longer one. One that is refused shows its failure alone."""
     for messages in (500, 1000, 2000, 4000):
         begun = time.monotonic()
         words = ["storm", "many.toml", "--messages", str(messages), "--turns", "1000000000"]
-        status, out, shown = on_terminal(room, program, words)
-        if (status, out) != (0, totals_of(PORTS * messages)):
-            print(f"    status {status}, {out!r}")
-            return False
+        status, out, shown = on_terminal(room, words)
+        room.want((status, out) == (0, totals(PORTS * messages)), f"status {status}, {out!r}")
         if shown:
             break
-    is_well = is_progress(shown, messages, time.monotonic() - begun)
-    if not is_well:
-        print(f"    {shown!r}")
-    return is_well
+    counts = [tuple(map(int, it)) for it in SHOWN.findall(shown)]
+    is_whole = re.fullmatch(b"(?:" + SHOWN.pattern + b")+\n", shown) is not None
+    rises = all(list(it) == sorted(it) for it in zip(*counts))
+    in_range = all(max(it) <= PORTS * messages and it[1] % messages == 0 for it in counts)
+    room.want(is_whole and rises and in_range and len(counts) <= 10 * (time.monotonic() - begun), repr(shown))
+    room.want(on_terminal(room, STORM) == (0, totals(2), b""), "a short storm on a terminal")
+    room.want(on_terminal(room, LATE) == (5, "", b"turns used up\n"), "a refused storm on a terminal")
 
 
-def totals_of(messages):
-    """What a storm over one link prints, whose ports send so many messages in all."""
-    return (
-        f"accepted {messages}\nlink 1: frames {messages}, bytes {60 * messages}, messages {messages}\n"
-        "networks equal\nwatcher never back\n"
-    )
+CASES = [rows, standard_input, numbers, closed_streams, captures, own_files, progress]
 
 
-def short_storm(room, program):
-    """One that is over at once shows nothing, and one that is refused its failure alone."""
-    ran = on_terminal(room, program, STORM)
-    late = on_terminal(room, program, LATE)
-    return ran == (0, TOTALS, b"") and late == (5, "", b"turns used up\n")
+def tried(case, program):
+    """What came of a case, in a folder of its own."""
+    with tempfile.TemporaryDirectory(prefix="program-") as folder:
+        room = Room(folder, program)
+        case(room)
+        return room.faults, ""
 
 
-CASES = [statuses, standard_input, full_disk, configuration_first, numbers, closed_streams, progress, short_storm]
+def main():
+    tries = Tries()
+    for build, program in built("afdx_bench").items():
+        for case in CASES:
+            tries.attempt(f"{case.__name__} by {build}", lambda: tried(case, program))
+    return tries.end()
 
 
 if __name__ == "__main__":
-    sys.exit(main(CASES))
+    sys.exit(main())

@@ -1,14 +1,13 @@
 #!/usr/bin/env python3
-"""Refuses requests for memory of the built programs and tests, and writes of the program or its standard output.
+"""Refuses requests for memory of the built programs, and writes of the program or its standard output.
 
     python3 tools/refusals.py
 
-It runs what `rt ci` has built, the programs `refusals` and `afdx_bench` as each compiler makes them, with
-`tools/refuse.c` preloaded: a run for each request for memory or for a thread, which is refused, until a run
-makes fewer requests. Each run has to end as is promised, with no signal. Of each test the first requests
-are refused in turn, and others among the rest (`refusals_tests.py`). Likewise each write of the program fails
-once, and the program may try no other after it. The last line is
-'N passed, M failed', and the exit status 0 exactly where nothing failed.
+It runs what `rt ci` has built, the programs `refusals`, which has a case for each call that may want memory, and
+`afdx_bench` as each compiler makes them, with `tools/refuse.c` preloaded: a run for each request for memory or for a
+thread, which is refused, until a run makes fewer requests. Each run has to end as is promised, with no signal. Likewise
+each write of the program fails once, and the program may try no other after it. The last line is 'N passed, M failed',
+and the exit status 0 exactly if nothing failed.
 """
 import os
 import signal
@@ -17,13 +16,11 @@ import subprocess
 import sys
 import tempfile
 from concurrent.futures import ThreadPoolExecutor
-from pathlib import Path
 
 # (no compiled copy is left beside the scripts)
 sys.dont_write_bytecode = True
-from refusals_tests import tried_tests
-from refusals_wanted import CASES, COMMANDS, DEMO, LONG, SCRIPT, closed_commands, written_commands
-from trying import ROOT, Tries, built, compiler, started
+from refusals_wanted import CASES, CLOSED, COMMANDS, LONG, WRITTEN
+from trying import DEMO, ROOT, SCRIPT, Tries, built, compiler, started
 
 # How many runs are begun together, and after how many requests something is wrong.
 BATCH = 32
@@ -56,7 +53,7 @@ class Bench:
             with open(f"{room}/{name}", "w", encoding="utf-8") as file:
                 file.write(text)
 
-    def run(self, program, words, given, number, many, timeout=60, **more):
+    def run(self, program, words, given, number, many, **more):
         """Runs a program, of which the request with this number is refused, and so many in all; 0: all later ones.
         `more` has what else its environment has."""
         with tempfile.NamedTemporaryFile(dir=self.room) as count:
@@ -64,7 +61,7 @@ class Bench:
             count.flush()
             refuse = {"REFUSE_FROM": str(number), "REFUSE_MANY": str(many), "REFUSE_COUNT": count.name}
             how = {"cwd": self.room, "env": {"LD_PRELOAD": self.library, **refuse, **more}, "input": given}
-            ran = started(program, words, timeout, capture_output=True, **how)
+            ran = started(program, words, capture_output=True, **how)
             count.seek(0)
             (requests,) = struct.unpack("=Q", count.read(8))
         out, err = ran.stdout.decode(errors="replace"), ran.stderr.decode(errors="replace")
@@ -99,18 +96,14 @@ def tried_case(bench, program, case):
     return faults, ", ".join(f"{count} {way}" for way, count in ways.items() if way)
 
 
-def end_on_pipes():
-    """Has a write to a closed pipe end the program, as where a shell starts it, unless it says otherwise."""
-    signal.signal(signal.SIGPIPE, signal.SIG_DFL)
-
-
 def tried_closed(bench, program, words):
     """A command whose standard output is a pipe without a reader ends with its failure, and no signal."""
     reader, writer = os.pipe()
     os.close(reader)
-    how = {"cwd": bench.room, "env": {}, "stdin": subprocess.DEVNULL, "stderr": subprocess.PIPE}
+    # (a write to a closed pipe ends a program, as a shell starts it, unless it says otherwise)
+    how = {"stderr": subprocess.PIPE, "preexec_fn": lambda: signal.signal(signal.SIGPIPE, signal.SIG_DFL)}
     try:
-        ran = started(program, words, stdout=writer, preexec_fn=end_on_pipes, **how)
+        ran = started(program, words, cwd=bench.room, env={}, stdin=subprocess.DEVNULL, stdout=writer, **how)
     finally:
         os.close(writer)
     is_well = (ran.returncode, ran.stderr) == (4, b"write failed\n")
@@ -130,14 +123,6 @@ def tried_writes(bench, program, words):
     raise RuntimeError(f"over {LIMIT} writes")
 
 
-def crates_with_tests():
-    """The crates whose sources have tests, by name."""
-    tested = [path for path in Path(ROOT, "crates").glob("*/src/**/*.rt") if "#[test]" in path.read_text(encoding="utf-8")]
-    if not tested:
-        raise OSError("no crate has tests")
-    return sorted({path.relative_to(ROOT).parts[1] for path in tested})
-
-
 def main():
     tries = Tries()
     with tempfile.TemporaryDirectory(prefix="refusals-") as room:
@@ -147,13 +132,10 @@ def main():
                 for case in cases:
                     tries.attempt(f"{case.name} by {build}", lambda: tried_case(bench, program, case))
         for build, program in built("afdx_bench").items():
-            for words in closed_commands():
+            for words in CLOSED:
                 tries.attempt(f"{' '.join(words)} into a closed pipe by {build}", lambda: tried_closed(bench, program, words))
-            for words in written_commands():
+            for words in WRITTEN:
                 tries.attempt(f"writes of {' '.join(words)} by {build}", lambda: tried_writes(bench, program, words))
-        for name in crates_with_tests():
-            for build, program in built(name, "_tests").items():
-                tries.attempt(f"tests of {name} by {build}", lambda: tried_tests(bench, f"{ROOT}/crates/{name}", program))
     return tries.end()
 
 

@@ -1,72 +1,22 @@
-"""What runs of the built programs may come to where memory is refused: each way to end, by its name."""
-import os
+"""What runs of the built programs may come to when requests for memory are refused: each way to end, by its name."""
+from trying import HELP, ONE_FRAME, REPORT, SCRIPT, WRONG, text_of, totals
 
-ROOT = os.path.dirname(os.path.dirname(os.path.abspath(__file__)))
-
-# The demonstration configuration, and a script of one message.
-DEMO = """[end_system]
-id = 1
-
-[[vl]]
-id = 1
-bag_ms = 1
-lmax = 1518
-sub_vls = 1
-capacity = 2
-
-[[port]]
-id = 10
-vl = 1
-sub = 0
-partition = 1
-kind = "queuing"
-source = 1000
-destination = 2000
-max = 8192
-"""
-SCRIPT = "send 10 01\nat 0\n"
-ONE_FRAME = """\
-A 0 03000000000102000000012008004500001d000000000111cdee0a000101e0e0000103e807d000090000010000000000000000000000000000000000
-B 0 03000000000102000000014008004500001d000000000111cdee0a000101e0e0000103e807d000090000010000000000000000000000000000000000
-"""
 # A script of a hundred messages of one byte, each of which is polled for.
 MANY = 100
 LONG = "".join(f"send 10 {place:02x}\nat {1000 * place}\n" for place in range(MANY))
-REPORT = """\
-end system 1
-link 1: bag 1 ms, lmax 1518, sub-VLs 1, capacity 2
-port 10: link 1 sub 0, partition 1, queuing, 1000 to 2000, max 8192, multicast
-jitter 163040 ns, limit 500000
-"""
-TOTALS = """\
-accepted 2
-link 1: frames 2, bytes 120, messages 2
-networks equal
-watcher never back
-"""
-
-
-def checksum(header):
-    """The one's complement of the one's complement sum of a header's words (RFC 791)."""
-    total = sum(int(header[at : at + 4], 16) for at in range(0, len(header), 4))
-    return 0xFFFF - (total % 0xFFFF or 0xFFFF)
 
 
 def frame_line(net, place):
     """The line of the message at a place of the script of a hundred messages."""
-    ends = "0a000101e0e00001"
-    begin = f"4500001d{4 * place:04x}00000111"
-    header = f"{begin}{checksum(begin + ends):04x}{ends}"
-    mac = {"A": "20", "B": "40"}[net]
-    padding = "00" * 16
-    return f"{net} {1000 * place} 0300000000010200000001{mac}0800{header}03e807d000090000{place:02x}{padding}{place:02x}\n"
+    begin, ends = f"4500001d{4 * place:04x}00000111", "0a000101e0e00001"
+    # (the checksum of RFC 791)
+    words = sum(int((begin + ends)[at : at + 4], 16) for at in range(0, 36, 4))
+    header = f"{begin}{0xFFFF - (words % 0xFFFF or 0xFFFF):04x}{ends}"
+    mac = f"0300000000010200000001{'20' if net == 'A' else '40'}0800"
+    return f"{net} {1000 * place} {mac}{header}03e807d000090000{place:02x}{'00' * 16}{place:02x}\n"
 
 
 LONG_FRAMES = "".join(frame_line(net, place) for net in "AB" for place in range(MANY))
-
-
-def differing(totals):
-    return totals.replace("networks equal", "networks differ")
 
 
 def beginnings(text):
@@ -76,10 +26,10 @@ def beginnings(text):
 
 
 class Case:
-    """Runs of a program with some words, of which so many requests are refused; 0: all from the first one on.
+    """Runs of a program with some words, in which `many` requests are refused; 0: all from the first one on.
     `outputs` has what a run may write, by the name of the way in which it ends, and `early` the ways of runs
     that end with a failure; those of `seen` must each come, besides the answer. The answer comes with `status`
-    and `err`, which is what standard error is told."""
+    and `err` on standard error."""
 
     def __init__(self, name, words, outputs, seen, early=(), given=b"", many=1, status=0, err=""):
         self.name = name if many == 1 else f"{name} ({many or 'all from there on'} refused)"
@@ -98,68 +48,42 @@ class Case:
         return None
 
 
-def stored():
-    """What each case of the program `refusals` prints where memory is ample: its stored run."""
-    with open(f"{ROOT}/crates/refusals/stdout", encoding="utf-8") as file:
-        parts = file.read().split("== ")[1:]
-    return {name: text for name, _, text in (part.partition("\n") for part in parts)}
-
-
-def before(ran):
-    return ran.ended(4, "", "no memory before the call\n")
-
-
+# What each case of the program `refusals` prints when memory is ample: its stored run.
+PARTS = [part.partition("\n") for part in text_of("crates/refusals/stdout").split("== ")[1:]]
+STORED = {name: text for name, _, text in PARTS}
 # Memory was refused to what a case makes before its call.
-BEFORE = ("before the call", before)
+BEFORE = ("before the call", lambda ran: ran.ended(4, "", "no memory before the call\n"))
 
 
-def refused_once(text, note):
-    """The text with the note in front of any of its lines."""
-    return [begin + note + text[len(begin) :] for begin in beginnings(text)[:-1]]
-
-
-def call(name, note):
-    """A case whose call is refused by a fault that is noted, and then made once more."""
-    text = stored()[name]
-    outputs = {"answered": [text], "refused": refused_once(text, note)}
-    return Case(name, [name], outputs, ["refused"], [BEFORE])
-
-
-def run_again(name):
-    """A case that prints as it goes, and its counts last: what it printed before its refusal begins the answer."""
-    text, note = stored()[name], "refused Memory\n"
-    outputs = {"answered": [text], "refused": [begin + note + text for begin in beginnings(text)[:-1]]}
+def call(name, note, again=False):
+    """A case whose call is refused by a fault that is noted, after any of its lines, and then made again, from there on or
+    from the start."""
+    begins = beginnings(STORED[name])[:-1]
+    rest = [STORED[name] if again else STORED[name][len(begin) :] for begin in begins]
+    outputs = {"answered": [STORED[name]], "refused": [begin + note + end for begin, end in zip(begins, rest)]}
     return Case(name, [name], outputs, ["refused"], [BEFORE])
 
 
 def opening():
     note = "refused OpenFault, plan same\nA takes 1, kept 0, failures 0\nB takes 4, kept 0, failures 0\n"
-    text = stored()["open_tx"]
-    outputs = {"answered": [text], "refused": [note + text]}
+    outputs = {"answered": [STORED["open_tx"]], "refused": [note + STORED["open_tx"]]}
     return Case("open_tx", ["open_tx"], outputs, ["refused"], [BEFORE])
 
 
-def standing(is_up):
-    return "stands" if is_up else "down"
-
-
 def handed(a, b):
-    """What is printed of two polls where these hands of A and B fail, counted from 1."""
-    polls = ""
+    """What is printed of two polls in which these hands of A and B fail, counted from 1."""
+    text = "send: Ok\nsend: Ok\n"
     for hand in (1, 2):
-        up = (hand < a, hand < b)
-        ends = f"released {int(any(up))}, A {standing(up[0])}, B {standing(up[1])}"
-        was_down = a < hand and b < hand
-        polls += f"poll {1000 * (hand - 1)}: {'BothDown' if was_down else ends}\n"
-    counts = [f"{net}: handed {min(k - 1, 2)}, failures {int(k <= 2)}\n" for net, k in (("A", a), ("B", b))]
-    return "send: Ok\nsend: Ok\n" + polls + "".join(counts)
+        up = ["stands" if hand < first else "down" for first in (a, b)]
+        ends = f"released {int('stands' in up)}, A {up[0]}, B {up[1]}"
+        text += f"poll {1000 * (hand - 1)}: {'BothDown' if a < hand and b < hand else ends}\n"
+    return text + "".join(f"{net}: handed {min(k - 1, 2)}, failures {int(k <= 2)}\n" for net, k in (("A", a), ("B", b)))
 
 
 def hands(many):
-    """Networks in memory of two emitters; the second is used where a network of the first failed."""
-    text, never = stored()["hand"], 3
+    """Networks in memory of two emitters; the second is used if a network of the first failed."""
+    text, never = STORED["hand"], 3
     a_down, b_down = [handed(k, never) for k in (1, 2)], [handed(never, k) for k in (1, 2)]
-    both_down = [handed(a, b) + text for a in (1, 2) for b in (1, 2)]
     outputs = {
         "answered": [text],
         "A went down": [first + text for first in a_down],
@@ -167,25 +91,26 @@ def hands(many):
     }
     if many == 1:
         return Case("hand", ["hand"], outputs, ["A went down", "B went down"], [BEFORE])
+    both_down = [handed(a, b) + text for a in (1, 2) for b in (1, 2)]
     each = [first + second for first in a_down + b_down for second in a_down + b_down]
     outputs.update({"both went down": both_down, "one of each emitter went down": each})
     return Case("hand", ["hand"], outputs, ["both went down"], [BEFORE], many=many)
 
 
 def storm(many):
-    """A storm, and another one where the first was refused or had a network that failed."""
-    text, note = stored()["storm"], "refused Memory\n"
+    """A storm, and another one if the first was refused or had a network that failed."""
+    text, note = STORED["storm"], "refused Memory\n"
     if many == 0:
         return Case("storm", ["storm"], {"answered": [text], "refused": [note + note]}, ["refused"], [BEFORE], many=0)
-    outputs = {"answered": [text], "refused": [note + text], "a network went down": [differing(text) + text]}
+    differs = text.replace("networks equal", "networks differ")
+    outputs = {"answered": [text], "refused": [note + text], "a network went down": [differs + text]}
     return Case("storm", ["storm"], outputs, ["refused", "a network went down"], [BEFORE])
 
 
 def quiet(name, early):
-    """A case in which nothing may be refused behind the point at which it begins to print."""
-    outputs = {"answered": [stored()[name]]}
+    """A case in which nothing may be refused once it has begun to print."""
     ends = [BEFORE, *early]
-    case = Case(name, [name], outputs, [way for way, _ in ends], ends)
+    case = Case(name, [name], {"answered": [STORED[name]]}, [way for way, _ in ends], ends)
     plain = case.way
     case.way = lambda ran: None if ran.is_refused and ran.out else plain(ran)
     return case
@@ -198,7 +123,7 @@ CASES = [
     opening(),
     call("open_board", "refused AllocError\n"),
     call("read_line", "refused Memory\n"),
-    run_again("run_script"),
+    call("run_script", "refused Memory\n", again=True),
     hands(1),
     hands(2),
     storm(1),
@@ -208,17 +133,11 @@ CASES = [
 ]
 
 
-def out_of_memory(text):
-    """A command ends with its failure; what it wrote before begins what it would have written."""
-    return lambda ran: text.startswith(ran.out) and ran.ended(4, ran.out, "out of memory\n")
-
-
 def command(words, text, given=b"", others=None, many=1, status=0, err=""):
-    """A command of the program, and what it writes."""
-    name = " ".join(["afdx_bench", *words])
+    """A command of the program, and what it writes; without memory it ends so once it has written a beginning of that."""
+    early = ("out of memory", lambda ran: text.startswith(ran.out) and ran.ended(4, ran.out, "out of memory\n"))
     outputs = {"answered": [text], **(others or {})}
-    early = [("out of memory", out_of_memory(text))]
-    return Case(name, words, outputs, ["out of memory"], early, given, many, status, err)
+    return Case(" ".join(["afdx_bench", *words]), words, outputs, ["out of memory"], [early], given, many, status, err)
 
 
 RUN = ["run", "plan.toml", "script.txt"]
@@ -226,53 +145,23 @@ LONG_RUN = ["run", "plan.toml", "long.txt"]
 CAPTURED = [*RUN, "--capture", "frames.pcapng"]
 CHECK = ["check", "plan.toml"]
 STORM = ["storm", "plan.toml", "--messages", "2", "--turns", "1000"]
-HELP = ["--help"]
-WRONG = ["frob"]
-
-HELP_TEXT = """\
-A transmitting AFDX end system. Without words it runs a script from standard input.
-
-Usage: afdx_bench [COMMAND]
-
-Commands:
-  run    Runs a script over a configuration and prints what both networks were handed
-  check  Prints the plan and the jitter of a configuration
-  storm  Has all ports of a configuration send at once, and prints what came of it
-
-Options:
-  -h, --help  Print help
-"""
-WRONG_TEXT = """\
-error: unrecognized subcommand 'frob'
-
-Usage: afdx_bench [COMMAND]
-
-For more information, try '--help'.
-"""
 
 
 def commands(many):
     """All commands, and words that name none."""
-    others = {"a network went down": [differing(TOTALS)]} if many == 1 else None
+    others = {"a network went down": [totals(2, "differ")]} if many == 1 else None
     return [
         command([], ONE_FRAME, given=SCRIPT.encode(), many=many),
         command(CHECK, REPORT, many=many),
         command(RUN, ONE_FRAME, many=many),
         command(CAPTURED, ONE_FRAME, many=many),
-        command(STORM, TOTALS, others=others, many=many),
-        command(HELP, HELP_TEXT, many=many),
-        command(WRONG, "", many=many, status=2, err=WRONG_TEXT),
+        command(STORM, totals(2), others=others, many=many),
+        command(["--help"], HELP, many=many),
+        command(["frob"], "", many=many, status=2, err=WRONG),
     ]
 
 
 COMMANDS = [*commands(1), command(LONG_RUN, LONG_FRAMES), *commands(0)]
-
-
-def closed_commands():
-    """The commands whose standard output is closed early."""
-    return [RUN, LONG_RUN, CAPTURED, CHECK, STORM, HELP]
-
-
-def written_commands():
-    """The commands whose writes are made to fail."""
-    return [*closed_commands(), [*LONG_RUN, "--capture", "frames.pcapng"]]
+# The commands whose standard output is closed early, and those whose writes are made to fail.
+CLOSED = [RUN, LONG_RUN, CAPTURED, CHECK, STORM, ["--help"]]
+WRITTEN = [*CLOSED, [*LONG_RUN, "--capture", "frames.pcapng"]]

@@ -7,7 +7,8 @@
  *              but standard error: no room is left for one
  *
  * Requests are counted from the start of the program on, those of all its threads together. What the
- * loader asks for before is neither counted nor refused. */
+ * loader asks for before is neither counted nor refused. The programs ask by malloc and realloc alone, and the C
+ * library, for them, by calloc too. */
 #define _GNU_SOURCE
 #include <dlfcn.h>
 #include <errno.h>
@@ -22,7 +23,6 @@
 extern void *__libc_malloc(size_t);
 extern void *__libc_calloc(size_t, size_t);
 extern void *__libc_realloc(void *, size_t);
-extern void *__libc_memalign(size_t, size_t);
 
 static _Atomic uint64_t *requests;
 static uint64_t from;
@@ -95,32 +95,6 @@ void *calloc(size_t count, size_t size) {
 
 void *realloc(void *old, size_t size) {
     return is_refused() ? NULL : __libc_realloc(old, size);
-}
-
-void *reallocarray(void *old, size_t count, size_t size) {
-    size_t whole;
-    if (__builtin_mul_overflow(count, size, &whole)) {
-        errno = ENOMEM;
-        return NULL;
-    }
-    return realloc(old, whole);
-}
-
-void *memalign(size_t alignment, size_t size) {
-    return is_refused() ? NULL : __libc_memalign(alignment, size);
-}
-
-void *aligned_alloc(size_t alignment, size_t size) {
-    return memalign(alignment, size);
-}
-
-int posix_memalign(void **made, size_t alignment, size_t size) {
-    void *memory = memalign(alignment, size);
-    if (!memory) {
-        return ENOMEM;
-    }
-    *made = memory;
-    return 0;
 }
 
 int pthread_create(pthread_t *made, const pthread_attr_t *how, void *(*run)(void *), void *with) {

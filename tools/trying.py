@@ -1,4 +1,4 @@
-"""What the scripts that try built programs share: where these are, how one is started, how tries are shown and counted."""
+"""What the scripts that try built programs share: where these are, how one is started, how tries are counted, and texts."""
 import os
 import shutil
 import subprocess
@@ -8,14 +8,58 @@ ROOT = os.path.dirname(os.path.dirname(os.path.abspath(__file__)))
 BUILDS = {"LLVM": "", "Rattle": ".by-rattle"}
 
 
+def text_of(path):
+    """The text of a file of the repository."""
+    with open(f"{ROOT}/{path}", encoding="utf-8") as file:
+        return file.read()
+
+
+# The demonstration configuration, a script of one message, and what the program prints of them.
+DEMO = text_of("examples/c/demo.toml")
+SCRIPT = text_of("crates/afdx_bench/stdin")
+ONE_FRAME = text_of("crates/afdx_bench/stdout")
+REPORT = """\
+end system 1
+link 1: bag 1 ms, lmax 1518, sub-VLs 1, capacity 2
+port 10: link 1 sub 0, partition 1, queuing, 1000 to 2000, max 8192, multicast
+jitter 163040 ns, limit 500000
+"""
+HELP = """\
+A transmitting AFDX end system. Without words it runs a script from standard input.
+
+Usage: afdx_bench [COMMAND]
+
+Commands:
+  run    Runs a script over a configuration and prints what both networks were handed
+  check  Prints the plan and the jitter of a configuration
+  storm  Has all ports of a configuration send at once, and prints what came of it
+
+Options:
+  -h, --help  Print help
+"""
+WRONG = """\
+error: unrecognized subcommand 'frob'
+
+Usage: afdx_bench [COMMAND]
+
+For more information, try '--help'.
+"""
+
+
+def totals(messages, networks="equal"):
+    """What a storm over one link prints, whose ports send `messages` messages of six bytes in all."""
+    link = f"link 1: frames {messages}, bytes {60 * messages}, messages {messages}"
+    return f"accepted {messages}\n{link}\nnetworks {networks}\nwatcher never back\n"
+
+
 def compiler(variable="CC", names=("cc", "gcc", "clang")):
     """The compiler that a variable names, or the first of these that is there; `None` where none is."""
     return os.environ.get(variable) or next(filter(None, map(shutil.which, names)), None)
 
 
-def built(name, tests=""):
-    """What each compiler has made of a program, or of a crate's tests, by the compiler's name. LLVM makes each."""
-    paths = {build: f"{ROOT}/crates/{name}/out/{name}{tests}{ending}" for build, ending in BUILDS.items()}
+def built(name):
+    """What each compiler has made of a program, by the compiler's name. LLVM makes each."""
+    paths = {build: f"{ROOT}/crates/{name}/out/{name}{ending}" for build, ending in BUILDS.items()}
     return {build: path for build, path in paths.items() if build == "LLVM" or os.path.isfile(path)}
 
 
