@@ -16,7 +16,7 @@ use Rattle.afdx_config.specs.Format.{Field}
 use Rattle.afdx_config.specs.declared.format.Field.{Field as Written}
 use Rattle.afdx_config.specs.Tables.{field_fault, keys_fault, is_key_of, is_fault, table_shows}
 use Rattle.afdx_config.specs.Views.{IsLeastOf, IsOfValues, field_of, lesser}
-use Rattle.afdx_config.proofs.SectionTests.{Found, list_any-map}
+use Rattle.afdx_config.proofs.SectionLemmas.{Found, list_any-map}
 
 -- a fault that a test adds
 one_if : (b : Bool) (fault : ConfigFault) → IsOfValues fault → IfSome (then_some b fault) IsOfValues

@@ -19,7 +19,7 @@ use Rattle.afdx_config.specs.PlanOf.{link_of, port_of, plan_of}
 use Rattle.afdx_config.specs.Tables.{is_fault, field_fault, table_shows, is_version_2, values_show}
 use Rattle.afdx_config.specs.Views.{AreSectionsOf, AreSound, IsSoundTable}
 use Rattle.afdx_config.specs.declared.sections.Sections.{Sections}
-use Rattle.afdx_config.proofs.SectionTests.{Found, shown_in, option_maps}
+use Rattle.afdx_config.proofs.SectionLemmas.{Found, shown_in, option_maps}
 
 -- a fault is itself
 no_fault : (o : Option ConfigFault) → ((f : ConfigFault) → is_fault f o ≡ false) → o ≡ None

@@ -1,11 +1,9 @@
 -- What is known of a document's faults, of its text's.
-use Rattle.std.proofs.Common.{◌≡◌, ℕ, ◌<◌, ◌≤◌, inl, inr, Bool, true, false, List, [], ◌∷◌, Some, None, refl, sym, ap, ◌∙◌, arith, rules, subst}
-use Rattle.std.specs.Prelude.{find, ⊤, Result, Ok, Err, IfOk, IfErr, ◌≢◌}
-use Rattle.std.specs.List.{AllByRecursion}
-use Rattle.std.proofs.lemmas.Bool.{cases_Bool, cases_lt, or_from}
+use Rattle.std.proofs.Common.{◌≡◌, ℕ, ◌<◌, ◌≤◌, true, false, List, Some, None, refl, sym, ap, ◌∙◌, arith, subst}
+use Rattle.std.specs.Prelude.{find, Result, Ok, Err, IfOk, IfErr, ◌≢◌}
+use Rattle.std.proofs.lemmas.Bool.{or_from}
 use Rattle.std.proofs.lemmas.Option.{same_Some}
 use Rattle.toml.specs.Data.{Members}
-use Rattle.afdx_plan.proofs.FindLemmas.{find_none-list}
 use Rattle.afdx_plan.specs.Config.{Plan}
 use Rattle.afdx_plan.specs.PlanFaults.{fault_number, plan_shows, plan_faults}
 use Rattle.afdx_plan.specs.declared.fault.ConfigFault.{ConfigFault}
@@ -13,85 +11,41 @@ use Rattle.afdx_plan.specs.declared.fault.ConfigFault.TheVariants.{Toml, Duplica
 use Rattle.afdx_config.specs.Faults.{shows, Reads, HasFault, IsLeastFault, IsPlanOf}
 use Rattle.afdx_config.specs.PlanOf.{plan_of}
 use Rattle.afdx_config.specs.Tables.{values_show}
-use Rattle.afdx_config.specs.Views.{IsLeast, IsLeastOf}
-
--- each fault of the list has a smaller number than those behind it
-abbrev Rising : List ConfigFault → Type 0
-Rising [] = ⊤
-Rising (x ∷ xs) = AllByRecursion (λ y. fault_number x < fault_number y) xs × Rising xs
-
--- no number behind x is below that of x
-none_below : (p : ConfigFault → Bool) (x : ConfigFault) (xs : List ConfigFault)
-    → AllByRecursion (λ y. fault_number x < fault_number y) xs
-    → AllByRecursion (λ y. fault_number y < fault_number x → p y ≡ false) xs
-none_below p x [] h = tt
-none_below p x (y ∷ ys) h = (λ l. absurd (omega (arith, h.0)), none_below p x ys h.1)
-
--- what is found first in such a list is the least
-find_least : (p : ConfigFault → Bool) (xs : List ConfigFault) (e : ConfigFault) → Rising xs → find p xs ≡ Some e
-    → (p e ≡ true) × AllByRecursion (λ f. fault_number f < fault_number e → p f ≡ false) xs
-find_least p [] e rising found = cc
-find_least p (x ∷ xs) e rising found = elim (cases_Bool (p x)) [
-  | inl is ↦ let same : x ≡ e = same_Some x e (rw is at found) in
-      subst (λ (y : ConfigFault). (p y ≡ true)
-      × AllByRecursion (λ f. fault_number f < fault_number y → p f ≡ false) (x ∷ xs))
-      same (is, (λ l. absurd (omega arith), none_below p x xs rising.0))
-  | inr isnt ↦ let rest = find_least p xs e rising.1 (rw isnt at found) in (rest.0, (λ l. isnt, rest.1))
-]
-
--- what keeps plans from showing each of their faults keeps them from showing any
-every : (C : ConfigFault → Type 0) (plan : Plan) → AllByRecursion (λ f. C f → plan_shows f plan ≡ false) plan_faults
-    → (f : ConfigFault) → C f → plan_shows f plan ≡ false
-every C plan each DuplicateVl = each.0
-every C plan each DuplicatePort = each.1.0
-every C plan each NoSuchVl = each.1.1.0
-every C plan each NoSuchSub = each.1.1.1.0
-every C plan each SamplingTooLong = each.1.1.1.1.0
-every C plan each SameFlow = each.1.1.1.1.1.0
-every C plan each SharedUnicast = each.1.1.1.1.1.1.0
-every C plan each Limit = each.1.1.1.1.1.1.1.0
-every C plan each _ = λ c. refl
-
--- they show no fault of a lower number
-low : (plan : Plan) (f : ConfigFault) → fault_number f ≤ 6 → plan_shows f plan ≡ false
-low plan = every (λ f. fault_number f ≤ 6) plan (search (rules, arith))
+use Rattle.afdx_config.specs.Views.{IsLeast}
 
 -- a document of which neither values nor plan show a fault
 none_shown : (doc : Members) → ((f : ConfigFault) → values_show f doc ≡ false)
     → find (λ f. plan_shows f (plan_of doc)) plan_faults ≡ None → (f : ConfigFault) → shows f doc ≡ false
-none_shown doc values plan f = or_from _ _ (values f) (every (λ f. ⊤) (plan_of doc)
-    (weaker plan_faults (find_none-list (λ f. plan_shows f (plan_of doc)) plan_faults plan)) f tt)
-  where
-    weaker : (fs : List ConfigFault) → AllByRecursion (λ f. plan_shows f (plan_of doc) ≡ false) fs
-        → AllByRecursion (λ f. ⊤ → plan_shows f (plan_of doc) ≡ false) fs
-    weaker [] all = tt
-    weaker (f ∷ fs) all = (λ t. all.0, weaker fs all.1)
+none_shown doc values plan f = grind (arith, values f)
 
--- the least fault of its values is its least
-pub values_least : (doc : Members) (e : ConfigFault) → IsLeastOf (λ f. values_show f doc) (Some e)
-    → IsLeast (λ f. shows f doc) e × (2 ≤ fault_number e)
-values_least doc e is = let least = is.1.0 in let most = is.1.1 in (
-  record {
-    shown = rw is.0.shown refl;
-    first = λ f l. or_from _ _ (is.0.first f l) (low (plan_of doc) f (omega arith));
-  },
-  least,
-)
+-- what is found first of a plan is shown
+first_shown : (plan : Plan) (e : ConfigFault) → find (λ f. plan_shows f plan) plan_faults ≡ Some e
+    → (plan_shows e plan ≡ true) × (2 ≤ fault_number e)
+first_shown plan e found = grind arith
 
--- where they show none, that of its plan is
+-- and none of a lower number is
+none_before : (plan : Plan) (e f : ConfigFault) → find (λ f. plan_shows f plan) plan_faults ≡ Some e
+    → fault_number f < fault_number e → plan_shows f plan ≡ false
+none_before plan e DuplicateVl found l = grind arith
+none_before plan e DuplicatePort found l = grind arith
+none_before plan e NoSuchVl found l = grind arith
+none_before plan e NoSuchSub found l = grind arith
+none_before plan e SamplingTooLong found l = grind arith
+none_before plan e SameFlow found l = grind arith
+none_before plan e SharedUnicast found l = grind arith
+none_before plan e Limit found l = grind arith
+none_before plan e _ found l = refl
+
+-- where values show none, it is the least of the document
 plan_least : (doc : Members) (e : ConfigFault) → ((f : ConfigFault) → values_show f doc ≡ false)
     → find (λ f. plan_shows f (plan_of doc)) plan_faults ≡ Some e → IsLeast (λ f. shows f doc) e × (2 ≤ fault_number e)
-plan_least doc e values found =
-    let least = find_least (λ f. plan_shows f (plan_of doc)) plan_faults e (search (rules, arith)) found in (
-      record {
-        shown = rw (values e, least.0) refl;
-        first = λ f l. or_from _ _ (values f) (every (λ g. fault_number g < fault_number e) (plan_of doc) least.1 f l);
-      },
-      elim (cases_lt 6 (fault_number e)) [
-        | inl high ↦ omega arith
-        | inr below ↦ let is = least.0 in let none = low (plan_of doc) e below in cc
-      ],
-    )
+plan_least doc e values found = let is = first_shown (plan_of doc) e found in (
+  record {
+    shown = rw (values e, is.0) refl;
+    first = λ f l. or_from _ _ (values f) (none_before (plan_of doc) e f found l);
+  },
+  is.1,
+)
 
 -- so of the answer of the plan's own judgement
 pub plan_ok : (doc : Members) (plan : Plan) (r : Result Plan ConfigFault) → plan ≡ plan_of doc

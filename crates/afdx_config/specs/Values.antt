@@ -1,8 +1,6 @@
 -- The values of a plan, as a text writes them.
-use Rattle.std.specs.Prelude.{ℕ, ℤ, pos, negsuc, ◌==◌, ◌&&◌, nat_lt, if◌then◌else◌, Bool, false, List, [], ◌∷◌, map, codes, bytes_eq, Option, Some, None, ◌≡◌, ◌↔◌, slice_index}
-use Rattle.std.specs.List.{slice_split}
-use Rattle.std.specs.Str.Parse.{digits_value}
-use Rattle.std.specs.Net.Text.{dotted_text}
+use Rattle.std.specs.Prelude.{ℕ, ℤ, pos, negsuc, ◌==◌, if◌then◌else◌, List, [], ◌∷◌, codes, bytes_eq, Option, Some, None, option_and_then, ◌≡◌, ◌↔◌, slice_index}
+use Rattle.std.specs.Net.Reader.{read_ipv4}
 use Rattle.std.specs.Net.Grammar.{IsDotted}
 use Rattle.afdx_plan.specs.declared.bag.Bag.{Bag}
 use Rattle.afdx_plan.specs.declared.bag.Bag.TheVariants.{Ms1, Ms2, Ms4, Ms8, Ms16, Ms32, Ms64, Ms128}
@@ -49,19 +47,14 @@ checksum_of text =
     else if bytes_eq text (codes "udp") then Some Generated
     else None
 
--- the numbers between the dots of a text
-abbrev pub numbers_of : List ℕ → List ℕ
-numbers_of text = map (digits_value 10) (slice_split (λ byte. byte == 46) text)
-
--- the text is four numbers with dots between them, each below 256 and the first 10
-abbrev pub writes_numbers : List ℕ → List ℕ → Bool
-writes_numbers text (a ∷ b ∷ c ∷ d ∷ []) =
-    a == 10 && nat_lt b 256 && nat_lt c 256 && nat_lt d 256 && bytes_eq text (dotted_text a b c d)
-writes_numbers text _ = false
+-- four numbers that were read, where nothing follows them and the first is 10
+abbrev pub in_network_10 : List ℕ × List ℕ → Option (List ℕ)
+in_network_10 (octets, []) = if slice_index octets 0 == 10 then Some octets else None
+in_network_10 (octets, _ ∷ _) = None
 
 -- the unicast address that a text writes
 unfoldable pub address_of : List ℕ → Option (List ℕ)
-address_of text = if writes_numbers text (numbers_of text) then Some (numbers_of text) else None
+address_of text = option_and_then in_network_10 (read_ipv4 text)
 
 -- an address is read exactly where the text is its four numbers in decimal, joined by dots, none
 -- with a leading zero, and the first is 10

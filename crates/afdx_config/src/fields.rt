@@ -8,10 +8,9 @@ ghost use Rattle.afdx_config.specs.Entries.{lies_outside};
 ghost use Rattle.afdx_config.specs.Tables.{has_other_item, content_fault, field_fault, is_key_of, table_shows};
 ghost use Rattle.afdx_config.specs.Views.{field_of, lesser, IsLeastOf, IsOfValues};
 
-use crate::address::unicast_address;
 use crate::entries::value_at;
 use crate::format::{Content, Field, Range};
-use crate::values::{bag_of_ms, checksum_named, kind_named, networks_named};
+use crate::values::{bag_of_ms, checksum_named, kind_named, networks_named, unicast_address};
 use afdx_plan::ConfigFault;
 use toml::{Table, Value};
 

@@ -1,7 +1,6 @@
 //! The text of a plan: a configuration.
 #![tactic(auto)]
 
-mod address;
 mod document;
 mod entries;
 mod fields;

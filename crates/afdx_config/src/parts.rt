@@ -8,11 +8,10 @@ ghost use Rattle.afdx_config.specs.Format.{end_fields, link_fields, port_fields,
 ghost use Rattle.afdx_config.specs.PlanOf.{link_of, port_of, plan_of};
 ghost use Rattle.afdx_config.specs.Views.{AreSectionsOf, AreSound, IsSoundTable, plan_in};
 
-use crate::address::unicast_address;
 use crate::entries::{number, text, whole_number};
 use crate::format::{CAPACITY, IDENTIFIER, LMAX, MESSAGE, PARTITION, SUB_VL, SUB_VLS, UDP_PORT};
 use crate::sections::Sections;
-use crate::values::{bag_of_ms, checksum_named, kind_named, networks_named};
+use crate::values::{bag_of_ms, checksum_named, kind_named, networks_named, unicast_address};
 use afdx_plan::{Bag, Kind, LinkPlan, Lmax, Networks, PortId, PortPlan, UdpSum, VlId};
 use std::alloc::{AllocError, Global};
 use toml::Table;

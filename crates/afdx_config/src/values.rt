@@ -1,8 +1,10 @@
 //! Values of a plan, as a text writes them.
-ghost use Rattle.std.specs.Prelude.{◌≡◌};
-ghost use Rattle.afdx_config.specs.Values.{bag_of, networks_of, kind_of, checksum_of};
+ghost use Rattle.std.specs.Prelude.{◌≡◌, ◌==◌, if◌then◌else◌, slice_index, Some, None, IfSome};
+ghost use Rattle.afdx_plan.specs.Plan.{IsUnicast};
+ghost use Rattle.afdx_config.specs.Values.{bag_of, networks_of, kind_of, checksum_of, address_of};
 
 use afdx_plan::{Bag, Kind, Networks, UdpSum};
+use std::net::Ipv4Addr;
 
 /// The gap of a number of milliseconds, where it is one.
 #[tactic(auto, unfolding(crate::specs::Values::bag_of))]
@@ -64,4 +66,23 @@ pub(crate) fn checksum_named(text: &str) -> Option<UdpSum>
     } else {
         None
     }
+}
+
+/// The address in 10.0.0.0/8 that a text writes as four decimal numbers joined by dots.
+pub(crate) fn unicast_address(text: &str) -> Option<[u8; 4]>
+    ensures value { result ≡ address_of text.now }
+    ensures unicast { IfSome result IsUnicast }
+{
+    match text.parse::<Ipv4Addr>() {
+        Ok(address) => in_network_10(address.octets()),
+        Err(_) => None,
+    }
+}
+
+/// The address, where its first byte is 10.
+fn in_network_10(octets: [u8; 4]) -> Option<[u8; 4]>
+    ensures value { result ≡ (if slice_index octets 0 == 10 then Some octets else None) }
+    ensures unicast { IfSome result IsUnicast }
+{
+    if octets[0] == 10 { Some(octets) } else { None }
 }

@@ -6,6 +6,8 @@ use Rattle.afdx_plan.specs.declared.link_plan.LinkPlan.{LinkPlan}
 use Rattle.afdx_plan.specs.declared.port_plan.PortPlan.{PortPlan}
 use Rattle.afdx_plan.specs.declared.identifiers.Kind.{Kind}
 use Rattle.afdx_plan.specs.declared.identifiers.Kind.TheVariants.{Sampling, Queuing}
+use Rattle.afdx_plan.specs.declared.plan_faults.Clash.{Clash}
+use Rattle.afdx_plan.specs.declared.plan_faults.Clash.TheVariants.{Identifier, Flow, Address}
 use Rattle.afdx_plan.specs.Config.{Plan, IsPlan, ports_on}
 use Rattle.afdx_plan.specs.declared.fault.ConfigFault.{ConfigFault}
 use Rattle.afdx_plan.specs.declared.fault.ConfigFault.TheVariants.{Toml, MissingKey, UnknownKey, WrongKind, OutOfRange, BadBag, DuplicateVl, DuplicatePort, NoSuchVl, NoSuchSub, SamplingTooLong, SameFlow, SharedUnicast, Limit, Memory}
@@ -89,6 +91,12 @@ abbrev pub shares_unicast : PortPlan → PortPlan → Bool
 shares_unicast a b = not (a.vl.0 == b.vl.0)
     && a.partition == b.partition
     && are_one_address a.unicast b.unicast
+
+-- two ports agree in what no two ports may
+abbrev pub clashes : Clash → PortPlan → PortPlan → Bool
+clashes Identifier = has_same_port
+clashes Flow = has_same_flow
+clashes Address = shares_unicast
 
 -- there are no or too many of them
 abbrev pub is_no_count : ℕ → ℕ → Bool

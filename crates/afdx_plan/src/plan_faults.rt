@@ -2,7 +2,7 @@
 ghost use Rattle.std.specs.Prelude.{◌≡◌, ◌==◌, ◌&&◌, nat_eq, not, find, option_copied, count_by, ℕ, length};
 ghost use Rattle.std.specs.List.{list_any};
 ghost use Rattle.afdx_plan.specs.Config.{ports_on};
-ghost use Rattle.afdx_plan.specs.PlanFaults.{has_pair, has_same_vl, has_same_port, is_link_of, names_no_link, names_no_sub, is_sampling, is_too_long, are_one_address, are_one_destination, has_same_flow, shares_unicast, is_no_count, is_crowded, is_past_limits, least_plan_fault};
+ghost use Rattle.afdx_plan.specs.PlanFaults.{has_pair, has_same_vl, clashes, is_link_of, names_no_link, names_no_sub, is_sampling, is_too_long, are_one_address, are_one_destination, has_same_flow, shares_unicast, is_no_count, is_crowded, is_past_limits, least_plan_fault};
 
 use crate::fault::ConfigFault;
 use crate::identifiers::Kind;
@@ -26,24 +26,6 @@ fn is_again_in(link: &LinkPlan, others: &[LinkPlan]) -> bool
     ensures { result ≡ list_any (has_same_vl link.now) others.now }
 {
     others.iter().any(|other| link.id.0 == other.id.0)
-}
-
-/// Two ports have one identifier.
-fn two_ports_are_one(ports: &[PortPlan]) -> bool
-    ensures { result ≡ has_pair has_same_port ports.now }
-{
-    for (i, port) in ports.iter().enumerate() {
-        if has_its_identifier(port, &ports[i + 1..]) {
-            return true;
-        }
-    }
-    false
-}
-
-fn has_its_identifier(port: &PortPlan, others: &[PortPlan]) -> bool
-    ensures { result ≡ list_any (has_same_port port.now) others.now }
-{
-    others.iter().any(|other| port.id.0 == other.id.0)
 }
 
 /// A port names a link that isn't there.
@@ -101,24 +83,43 @@ fn is_too_long(links: &[LinkPlan], port: &PortPlan) -> bool
     }
 }
 
-/// Two ports agree in all that their flow shows.
-fn two_flows_are_one(ports: &[PortPlan]) -> bool
-    ensures { result ≡ has_pair has_same_flow ports.now }
+/// What no two ports may agree in.
+#[derive(Clone, Copy)]
+enum Clash {
+    Identifier,
+    Flow,
+    Address,
+}
+
+/// Two ports agree in it.
+fn two_ports_clash(clash: Clash, ports: &[PortPlan]) -> bool
+    ensures { result ≡ has_pair (clashes clash) ports.now }
 {
     for (i, port) in ports.iter().enumerate() {
-        if has_its_flow(port, &ports[i + 1..]) {
+        if clashes_with_some(clash, port, &ports[i + 1..]) {
             return true;
         }
     }
     false
 }
 
-fn has_its_flow(port: &PortPlan, others: &[PortPlan]) -> bool
-    ensures { result ≡ list_any (has_same_flow port.now) others.now }
+fn clashes_with_some(clash: Clash, port: &PortPlan, others: &[PortPlan]) -> bool
+    ensures { result ≡ list_any (clashes clash port.now) others.now }
 {
-    others.iter().any(|other| is_same_flow(port, other))
+    others.iter().any(|other| clashes(clash, port, other))
 }
 
+fn clashes(clash: Clash, a: &PortPlan, b: &PortPlan) -> bool
+    ensures { result ≡ clashes clash a.now b.now }
+{
+    match clash {
+        Clash::Identifier => a.id.0 == b.id.0,
+        Clash::Flow => is_same_flow(a, b),
+        Clash::Address => shares_address(a, b),
+    }
+}
+
+/// Two ports agree in all that their flow shows.
 fn is_same_flow(a: &PortPlan, b: &PortPlan) -> bool
     ensures { result ≡ has_same_flow a.now b.now }
 {
@@ -140,23 +141,6 @@ fn is_one_destination(a: Option<[u8; 4]>, b: Option<[u8; 4]>) -> bool
 }
 
 /// Two ports on different links agree in partition and unicast address.
-fn two_ports_share_an_address(ports: &[PortPlan]) -> bool
-    ensures { result ≡ has_pair shares_unicast ports.now }
-{
-    for (i, port) in ports.iter().enumerate() {
-        if shares_its_address(port, &ports[i + 1..]) {
-            return true;
-        }
-    }
-    false
-}
-
-fn shares_its_address(port: &PortPlan, others: &[PortPlan]) -> bool
-    ensures { result ≡ list_any (shares_unicast port.now) others.now }
-{
-    others.iter().any(|other| shares_address(port, other))
-}
-
 fn shares_address(a: &PortPlan, b: &PortPlan) -> bool
     ensures { result ≡ shares_unicast a.now b.now }
 {
@@ -217,7 +201,7 @@ pub(crate) fn plan_fault(links: &[LinkPlan], ports: &[PortPlan]) -> Option<Confi
     if two_links_are_one(links) {
         return Some(ConfigFault::DuplicateVl);
     }
-    if two_ports_are_one(ports) {
+    if two_ports_clash(Clash::Identifier, ports) {
         return Some(ConfigFault::DuplicatePort);
     }
     if some_port_has_no_link(links, ports) {
@@ -229,10 +213,10 @@ pub(crate) fn plan_fault(links: &[LinkPlan], ports: &[PortPlan]) -> Option<Confi
     if some_port_is_too_long(links, ports) {
         return Some(ConfigFault::SamplingTooLong);
     }
-    if two_flows_are_one(ports) {
+    if two_ports_clash(Clash::Flow, ports) {
         return Some(ConfigFault::SameFlow);
     }
-    if two_ports_share_an_address(ports) {
+    if two_ports_clash(Clash::Address, ports) {
         return Some(ConfigFault::SharedUnicast);
     }
     if is_past_limits(links, ports) {

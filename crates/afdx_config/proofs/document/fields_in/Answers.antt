@@ -1,4 +1,4 @@
-use Rattle.afdx_config.proofs.SectionTests.{first_fields}
+use Rattle.afdx_config.proofs.SectionLemmas.{first_fields}
 use Rattle.afdx_config.proofs.document.fields_in.Goals as goal
 
 pub returns-else-is_version_2 : goal.returns-else-is_version_2

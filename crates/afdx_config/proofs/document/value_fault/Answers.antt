@@ -5,7 +5,7 @@ use Rattle.afdx_config.specs.Format.{end_fields}
 use Rattle.afdx_config.specs.Tables.{table_shows}
 use Rattle.afdx_config.specs.Views.{IsLeastOf}
 use Rattle.afdx_config.proofs.LeastLemmas.{least_both, least_same, least_rows}
-use Rattle.afdx_config.proofs.SectionTests.{sections_show, shown_in}
+use Rattle.afdx_config.proofs.SectionLemmas.{sections_show, shown_in}
 use Rattle.afdx_config.proofs.document.value_fault.Goals as goal
 use Rattle.afdx_config.proofs.document.value_fault.Goals.{in-Some, in-None}
 

@@ -1,7 +1,7 @@
 use Rattle.std.proofs.Common.{◌∙◌, sym}
 use Rattle.std.specs.Prelude.{bytes_eq}
 use Rattle.afdx_config.specs.Views.{field_of}
-use Rattle.afdx_config.proofs.SectionTests.{list_any-map}
+use Rattle.afdx_config.proofs.SectionLemmas.{list_any-map}
 use Rattle.afdx_config.proofs.fields.is_key_of.Goals as goal
 
 pub returns : goal.returns

@@ -1,4 +1,4 @@
-use Rattle.afdx_plan.proofs.FlowLemmas.{apart}
+use Rattle.afdx_plan.proofs.PlanLemmas.{apart}
 use Rattle.afdx_plan.proofs.laws.flows_apart.Goals as goal
 
 pub returns : goal.returns

@@ -1,4 +1,4 @@
-use Rattle.afdx_plan.proofs.FaultlessLemmas.{faultless}
+use Rattle.afdx_plan.proofs.PlanLemmas.{faultless}
 use Rattle.afdx_plan.proofs.laws.valid_plans_show_no_fault.Goals as goal
 
 pub returns : goal.returns

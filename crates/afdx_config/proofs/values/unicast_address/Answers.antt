@@ -1,6 +1,6 @@
 use Rattle.std.proofs.Common.{ℕ, List, ◌∙◌, ap, sym, ◌==◌, if◌then◌else◌, slice_index, Some, None}
 use Rattle.afdx_config.proofs.AddressLemmas.{address_of-dotted, address_of-none}
-use Rattle.afdx_config.proofs.address.unicast_address.Goals as goal
+use Rattle.afdx_config.proofs.values.unicast_address.Goals as goal
 
 pub returns-in-Ok-clause-value : goal.returns-in-Ok-clause-value
 returns-in-Ok-clause-value c =

@@ -1,6 +1,0 @@
-use Rattle.std.proofs.Common.{◌≡◌, drop}
-use Rattle.afdx_plan.specs.PlanFaults.{has_pair, has_same_flow}
-use Rattle.afdx_plan.proofs.plan_faults.two_flows_are_one.Given as goal
-
-abbrev pub invariant-loop-i : goal.invariant-loop-i
-invariant-loop-i l = has_pair has_same_flow l.ports ≡ has_pair has_same_flow (drop l.i l.ports)
