@@ -1,58 +1,42 @@
 -- What a buffer knows after fragments of one datagram.
-use Rattle.std.proofs.Common.{◌≡◌, ℕ, zero, suc, ◌+◌, ◌-◌, ◌*◌, ◌/◌, ◌≤◌, ◌<◌, ◌⊎◌, inl, inr, true, false, nat_le, nat_lt, List, [], ◌∷◌, length, drop, get_or, refl, sym, ap, ◌∙◌, subst, arith}
-use Rattle.std.specs.Prelude.{All, Contains, Option, Some, None, slice_index}
+use Rattle.std.proofs.Common.{◌≡◌, ℕ, zero, suc, ◌+◌, ◌-◌, ◌*◌, ◌/◌, ◌≤◌, ◌<◌, inl, inr, Bool, true, false, not, nat_le, nat_lt, List, [], ◌∷◌, length, drop, get_or, refl, sym, ap, ◌∙◌, subst, arith}
+use Rattle.std.specs.Prelude.{All, Contains, Option, Some, None, slice_index, if◌then◌else◌}
+use Rattle.std.specs.List.{list_any}
+use Rattle.std.proofs.lemmas.List.Folds.{list_any_at, list_any_none}
 use Rattle.std.proofs.lemmas.Bool.{cases_lt, cases_Bool, false_from_ne_true, and_parts, and_from, leb-true, ltb-true, le-leb, lt-ltb}
 use Rattle.std.proofs.lemmas.List.{get_or-map, get_or-take, get_or-drop, length-map, length-take, length-drop}
-use Rattle.std.proofs.lemmas.List.Elements.{All-contains, All-map, All-head, All-tail, All-weaker, Contains-get_or}
+use Rattle.std.proofs.lemmas.List.Elements.{All-contains, All-contains_itself, All-map, All-head, All-tail, All-weaker, Contains-get_or}
 use Rattle.afdx_frame.specs.declared.piece.Piece.{Piece}
 use Rattle.afdx_frame.specs.Cutting.{cutting, pieces_from}
 use Rattle.afdx_frame.specs.Reassembly.{Fragment, Buffer, empty, covers, put, put_all, joined, bytes_from, bytes_to, fragment_of, fragments_of, AnyOrder, NotBefore}
-use Rattle.afdx_frame.proofs.SideBySide.{IsPart, pieces_are, cover_of}
+use Rattle.afdx_frame.proofs.CuttingLaw.{IsPart, pieces_are, cover_of}
 
 -- a fragment of this datagram
 record Agrees (d : List ℕ) (f : Fragment) : Type 0 where
   pub same : (i : ℕ) → covers f i ≡ true → slice_index f.bytes (i - 8 * f.offset) ≡ slice_index d i
   pub total : f.more ≡ false → 8 * f.offset + length f.bytes ≡ length d
 
--- what holds before a fragment of a kind holds after it
-abbrev Stays : (Fragment → Type 0) → (Buffer → Type 0) → Type 0
-Stays Q P = (b : Buffer) (f : Fragment) → Q f → P b → P (put b f)
+-- one value, whichever way a test goes
+either : {A : Type 0} (b : Bool) (x : A) → (if b then x else x) ≡ x
+either true x = refl
+either false x = refl
 
--- and after several
-all_stays : (Q : Fragment → Type 0) (P : Buffer → Type 0) → Stays Q P → (fs : List Fragment) (b : Buffer) → All Q fs
-    → P b → P (put_all b fs)
-all_stays Q P stays [] b all known = known
-all_stays Q P stays (f ∷ fs) b all known =
-    all_stays Q P stays fs (put b f) (All-tail Q f fs all) (stays b f (All-head Q f fs all) known)
-
--- what one of them brings holds after them
-all_gained : (Q : Fragment → Type 0) (P : Buffer → Type 0) → Stays Q P → (fs : List Fragment) (b : Buffer) (k : ℕ)
-    (g : Fragment) → ((c : Buffer) → P (put c g)) → All Q fs → k < length fs → get_or fs k g ≡ g → P (put_all b fs)
-all_gained Q P stays [] b k g brings all inside here = absurd (omega arith)
-all_gained Q P stays (f ∷ fs) b zero g brings all inside here =
-    all_stays Q P stays fs (put b f) (All-tail Q f fs all) (rw here (brings b))
-all_gained Q P stays (f ∷ fs) b (suc k) g brings all inside here =
-    all_gained Q P stays fs (put b f) k g brings (All-tail Q f fs all) (omega arith) here
-
--- the byte at a position came
-abbrev Knows : List ℕ → ℕ → Buffer → Type 0
-Knows d i b = b.byte_at i ≡ Some (slice_index d i)
-
--- it stays
-byte_stays : (d : List ℕ) (i : ℕ) → Stays (Agrees d) (Knows d i)
-byte_stays d i b f agrees knows = elim (cases_Bool (covers f i)) [
-  | inl in_it ↦ rw in_it (ap Some (agrees.same i in_it))
-  | inr isnt ↦ rw isnt knows
+-- the byte at a position, after fragments of this datagram
+byte_after : (d : List ℕ) (i : ℕ) (fs : List Fragment) (b : Buffer) → All (Agrees d) fs
+    → (put_all b fs).byte_at i ≡ (if list_any (λ f. covers f i) fs then Some (slice_index d i) else b.byte_at i)
+byte_after d i [] b all = refl
+byte_after d i (f ∷ fs) b all = byte_after d i fs (put b f) (All-tail (Agrees d) f fs all) ∙ elim (cases_Bool (covers f i)) [
+  | inl in_it ↦ rw (in_it, (All-head (Agrees d) f fs all).same i in_it) (either (list_any (λ g. covers g i) fs) _)
+  | inr isnt ↦ rw isnt refl
 ]
 
--- the length stays what it is, or unknown
-abbrev Fits : List ℕ → Buffer → Type 0
-Fits d b = (b.total ≡ None) ⊎ (b.total ≡ Some (length d))
-
-total_stays : (d : List ℕ) → Stays (Agrees d) (Fits d)
-total_stays d b f agrees known = elim (cases_Bool f.more) [
-  | inl goes_on ↦ rw goes_on known
-  | inr ends ↦ inr (rw ends (ap Some (agrees.total ends)))
+-- and the length
+total_after : (d : List ℕ) (fs : List Fragment) (b : Buffer) → All (Agrees d) fs
+    → (put_all b fs).total ≡ (if list_any (λ f. not f.more) fs then Some (length d) else b.total)
+total_after d [] b all = refl
+total_after d (f ∷ fs) b all = total_after d fs (put b f) (All-tail (Agrees d) f fs all) ∙ elim (cases_Bool f.more) [
+  | inl goes_on ↦ rw goes_on refl
+  | inr ends ↦ rw (ends, (All-head (Agrees d) f fs all).total ends) (either (list_any (λ g. not g.more) fs) _)
 ]
 
 -- all positions are known
@@ -112,23 +96,23 @@ module _ (room : ℕ) (d : List ℕ) (came : List Fragment) (least : 8 ≤ room)
   part : (p : Piece) → Contains pieces p → IsPart room (length d) p
   part p among = All-contains (IsPart room (length d)) pieces p parts among
 
+  -- the piece of a fragment
+  abbrev From : Fragment → Type 0
+  From f = (p : Piece) × Contains pieces p × (fragment_of d p ≡ f)
+
+  source_of : (f : Fragment) → Contains (fragments_of room d) f → From f
+  source_of f among = All-contains From (fragments_of room d) f (All-map From (fragment_of d) pieces
+      (All-weaker (Contains pieces) (λ p. From (fragment_of d p)) (λ p has. (p, has, refl)) pieces
+      (All-contains_itself pieces))) among
+
   -- what came agrees with the datagram
   agree : All (Agrees d) came
-  agree = λ k e inside. All-contains (Agrees d) (fragments_of room d) (get_or came k e)
-      (All-map (Agrees d) (fragment_of d) pieces
-      (All-weaker (IsPart room (length d)) (λ p. Agrees d (fragment_of d p)) (agrees_of room d) pieces parts))
-      (only (get_or came k e) (Contains-get_or came k e inside))
+  agree = λ k e inside. let src = source_of _ (only _ (Contains-get_or came k e inside)) in
+      subst (Agrees d) src.2 (agrees_of room d src.0 (part src.0 src.1))
 
-  -- the piece of a fragment
-  source_of : (f : Fragment) → Contains (fragments_of room d) f
-      → (p : Piece) × Contains pieces p × (fragment_of d p ≡ f)
-  source_of f (k, inside, here) =
-      let none : Piece = record { start = 0; len = 0; more = false } in
-      let within : k < length pieces = omega (arith, length-map pieces (fragment_of d)) in (
-        get_or pieces k none,
-        Contains-get_or pieces k none within,
-        sym (get_or-map (fragment_of d) pieces k none f within) ∙ here,
-      )
+  -- one that came passes a test of one that it is
+  came_some : (test : Fragment → Bool) (f : Fragment) → Contains came f → test f ≡ true → list_any test came ≡ true
+  came_some test f (k, inside, here) passes = list_any_at test came k f inside (rw here passes)
 
   -- all of them came
   whole : ((f : Fragment) → Contains (fragments_of room d) f → Contains came f)
@@ -143,7 +127,7 @@ module _ (room : ℕ) (d : List ℕ) (came : List Fragment) (least : 8 ≤ room)
         get_or-map (fragment_of d) pieces k p (fragment_of d p) inside ∙ ap (fragment_of d) here,
       )
 
-      known : (i : ℕ) → i < length d → Knows d i (put_all empty came)
+      known : (i : ℕ) → i < length d → (put_all empty came).byte_at i ≡ Some (slice_index d i)
       known i below =
           let cover = cover_of room i (length d) least below in
           let is = part cover.piece cover.among in
@@ -151,27 +135,22 @@ module _ (room : ℕ) (d : List ℕ) (came : List Fragment) (least : 8 ≤ room)
           let len = data_length d cover.piece is.within in
           let low = cover.from in
           let high = cover.below in
-          let c = among cover.piece cover.among in
           let f : Fragment = fragment_of d cover.piece in
           let in_it : covers f i ≡ true
           = and_from (nat_le (8 * f.offset) i) (nat_lt i (8 * f.offset + length f.bytes)) (le-leb _ _ (omega arith))
           (lt-ltb _ _ (omega arith)) in
-          all_gained (Agrees d) (Knows d i) (byte_stays d i) came empty c.0 f
-          (λ b. rw in_it (ap Some ((agrees_of room d cover.piece is).same i in_it))) agree c.1 c.2
+          byte_after d i came empty agree
+          ∙ rw (came_some (λ g. covers g i) f (among cover.piece cover.among) in_it) refl
 
       total : (put_all empty came).total ≡ Some (length d)
       total =
           let last = cover_of room (length d - 1) (length d) least (omega arith) in
           let is = part last.piece last.among in
-          let c = among last.piece last.among in
           let below = last.below in
           let ends : last.piece.more ≡ false
           = false_from_ne_true last.piece.more (λ more. let h = (is.going more).0 in omega arith) in
-          all_gained (Agrees d) (λ b. b.total ≡ Some (length d)) (λ b f agrees has. elim (cases_Bool f.more) [
-            | inl goes_on ↦ rw goes_on has
-            | inr isnt ↦ rw isnt (ap Some (agrees.total isnt))
-          ]) came empty c.0 (fragment_of d last.piece)
-          (λ b. rw ends (ap Some ((agrees_of room d last.piece is).total ends))) agree c.1 c.2
+          total_after d came empty agree
+          ∙ rw (came_some (λ g. not g.more) (fragment_of d last.piece) (among last.piece last.among) (rw ends refl)) refl
 
   -- one of them is missing, and its first byte stays unknown
   lacking : (missing : Fragment) → Contains (fragments_of room d) missing → (Contains came missing → ⊥)
@@ -181,27 +160,24 @@ module _ (room : ℕ) (d : List ℕ) (came : List Fragment) (least : 8 ≤ room)
       let is = part src.0 src.1 in
       let within = is.within in
       let long = is.len.0 in
-      let cover = cover_of room src.0.start (length d) least (omega arith) in
-      let unknown : (put_all empty came).byte_at src.0.start ≡ None
-      = all_stays (λ f. covers f src.0.start ≡ false) (λ b. b.byte_at src.0.start ≡ None)
-      (λ b f isnt none. rw isnt none) came empty
-      (λ k e inside. let f : Fragment = get_or came k e in let there = Contains-get_or came k e inside in
-      let other = source_of f (only f there) in
+      let at = src.0.start in
+      let cover = cover_of room at (length d) least (omega arith) in
+      let uncovered : list_any (λ f. covers f at) came ≡ false = list_any_none (λ f. covers f at) came (λ k e inside.
+      let there = Contains-get_or came k e inside in
+      let other = source_of _ (only _ there) in
       let its = part other.0 other.1 in
       let aligned = its.units in
       let len = data_length d other.0 its.within in
-      false_from_ne_true (covers f src.0.start) (λ in_it.
-      let parts = covers_parts (fragment_of d other.0) src.0.start
-      (ap (λ (g : Fragment). covers g src.0.start) other.2 ∙ in_it) in
-      let low = parts.0 in
-      let high = parts.1 in
+      false_from_ne_true _ (λ in_it.
+      let (low, high) = covers_parts (fragment_of d other.0) at (ap (λ (g : Fragment). covers g at) other.2 ∙ in_it) in
       let same : other.0 ≡ src.0 = sym (cover.only other.0 other.1 (omega arith) (omega arith))
       ∙ cover.only src.0 src.1 (omega arith) (omega arith) in
-      lacks (subst (Contains came) (sym other.2 ∙ ap (fragment_of d) same ∙ src.2) there))) refl in
-      elim (all_stays (Agrees d) (Fits d) (total_stays d) came empty agree (inl refl)) [
-        | inl none ↦ rw none refl
-        | inr known ↦ rw known
-            (none_given (length d) (put_all empty came).byte_at 0 src.0.start (omega arith) (omega arith) unknown)
+      lacks (subst (Contains came) (sym other.2 ∙ ap (fragment_of d) same ∙ src.2) there))) in
+      let unknown : (put_all empty came).byte_at at ≡ None = byte_after d at came empty agree ∙ rw uncovered refl in
+      elim (cases_Bool (list_any (λ f. not f.more) came)) [
+        | inl ended ↦ rw (total_after d came empty agree, ended)
+            (none_given (length d) (put_all empty came).byte_at 0 at (omega arith) (omega arith) unknown)
+        | inr open_ended ↦ rw (total_after d came empty agree, open_ended) refl
       ]
 
 -- the laws

@@ -1,23 +1,63 @@
 -- Each frame says what went in.
-use Rattle.std.proofs.Common.{◌≡◌, ℕ, ◌+◌, ◌-◌, ◌/◌, ◌%◌, ◌≤◌, ◌<◌, ◌⊎◌, inl, inr, Bool, true, false, Option, Some, None, List, [], ◌∷◌, ◌++◌, length, take, drop, get_or, replicate, max, refl, sym, ap, ◌∙◌, arith, append_assoc, length-append}
+use Rattle.std.proofs.Common.{◌≡◌, ℕ, ◌+◌, ◌%◌, ◌<◌, Option, Some, None, List, length, refl, arith, ◌-◌, ◌/◌, ◌≤◌, ◌⊎◌, inl, inr, Bool, true, false, [], ◌∷◌, ◌++◌, take, drop, get_or, replicate, max, sym, ap, ◌∙◌, append_assoc, length-append}
+use Rattle.std.specs.Prelude.{IfSome, slice_index, nat_le, if◌then◌else◌}
+use Rattle.afdx_plan.specs.declared.port_plan.PortPlan.{PortPlan}
+use Rattle.afdx_plan.specs.Plan.{IsPort, IsUnicast}
+use Rattle.afdx_plan.specs.Address.{destination_of}
+use Rattle.afdx_frame.specs.declared.piece.Piece.{Piece}
+use Rattle.afdx_frame.specs.Checksum.{word_sum, checksum}
+use Rattle.afdx_frame.specs.Frame.{addresses, header_front, internet_header, interface_byte, link_header, udp_header, datagram, unnumbered, frame_of, fragment_word}
 use Rattle.std.proofs.lemmas.List.{drop-drop, drop_at, take_at, length-take, length-drop, get_or-drop, get_or_append_left, get_or-replicate, get_or_push}
 use Rattle.std.proofs.lemmas.Bool.Decides.{nat_tests}
 use Rattle.std.proofs.Math.Seq.{get_or-append_right}
 use Rattle.std.proofs.Math.ListN.{length-replicate}
-use Rattle.std.specs.Prelude.{slice_index, nat_le, if◌then◌else◌}
-use Rattle.afdx_plan.specs.declared.port_plan.PortPlan.{PortPlan}
-use Rattle.afdx_plan.specs.Plan.{IsPort}
 use Rattle.afdx_plan.specs.Numbers.{identification}
 use Rattle.afdx_frame.specs.declared.net.Net.{Net}
 use Rattle.afdx_frame.specs.declared.net.Net.TheVariants.{A, B}
-use Rattle.afdx_frame.specs.declared.piece.Piece.{Piece}
-use Rattle.afdx_frame.specs.Checksum.{word_sum}
-use Rattle.afdx_frame.specs.Frame.{addresses, header_front, internet_header, interface_byte, link_header, udp_header, datagram, unnumbered, frame_of, fragment_word}
 use Rattle.afdx_frame.specs.Profile.{word_at, total_length, fragment_field, HasLinkHeader, HasAddresses, HasZeroPadding}
 use Rattle.afdx_frame.specs.Header.{IsFrameOf}
 use Rattle.afdx_frame.specs.ReadBack.{IsPiece, Says}
 use Rattle.afdx_frame.proofs.Datagram.{length-udp_header}
-use Rattle.afdx_frame.proofs.SaysLemmas.{length-internet, header_closes}
+
+-- the address has four bytes
+pub length-destination : (vl : ℕ) (unicast : Option (List ℕ)) → IfSome unicast IsUnicast → length (destination_of vl unicast) ≡ 4
+length-destination vl None is = refl
+length-destination vl (Some address) is = is.four
+
+-- the addresses have 8 bytes
+pub length-addresses : (end_system : ℕ) (port : PortPlan) → IsPort port → length (addresses end_system port) ≡ 8
+unfolding addresses
+length-addresses end_system port is = let four = length-destination port.vl.0 port.unicast is.unicast in omega arith
+
+-- an internet header has 20 bytes
+pub length-internet : (end_system : ℕ) (port : PortPlan) (ident : ℕ) (piece : Piece) → IsPort port
+    → length (internet_header end_system port ident piece) ≡ 20
+unfolding internet_header header_front
+length-internet end_system port ident piece is = let eight = length-addresses end_system port is in omega arith
+
+-- the checksum is a number of two bytes, and closes the sum
+checksum_range : (sum : ℕ) → checksum sum < 65535
+unfolding checksum
+checksum_range sum = omega arith
+
+-- a sum with its checksum is a multiple of 65,535
+checksum_closes : (sum total : ℕ) → total ≡ sum + checksum sum → total % 65535 ≡ 0
+unfolding checksum
+checksum_closes sum total is = omega arith
+
+-- the sum of the header's words
+header_sum : (end_system : ℕ) (port : PortPlan) (ident : ℕ) (piece : Piece)
+    → word_sum (internet_header end_system port ident piece)
+    ≡ word_sum (header_front ident piece) + word_sum (addresses end_system port) + checksum
+    (word_sum (header_front ident piece) + word_sum (addresses end_system port))
+unfolding internet_header header_front addresses
+header_sum end_system port ident piece =
+    let range = checksum_range (word_sum (header_front ident piece) + word_sum (addresses end_system port)) in omega arith
+
+-- so is the sum of a header
+pub header_closes : (end_system : ℕ) (port : PortPlan) (ident : ℕ) (piece : Piece)
+    → word_sum (internet_header end_system port ident piece) % 65535 ≡ 0
+header_closes end_system port ident piece = checksum_closes _ _ (header_sum end_system port ident piece)
 
 -- flags and offset in one number
 word_of_flags : (more : Bool) (start : ℕ) → start ≤ 8200

@@ -8,8 +8,5 @@ pub mod Header
 pub mod ReadBack
 pub mod Fragments
 pub mod Reassembly
-pub mod WorkedReassembly
-pub mod WorkedCutting
-pub mod WorkedFragments
 pub mod UdpCheck
-pub mod WorkedUdp
+pub mod Worked

@@ -1,5 +1,5 @@
 use Rattle.afdx_frame.proofs.Buffers.{any_order_holds}
-use Rattle.afdx_frame.proofs.WorkedPieces.{three_pieces}
+use Rattle.afdx_frame.proofs.Worked.{three_pieces}
 use Rattle.afdx_frame.proofs.laws.any_order.Goals as goal
 
 pub returns : goal.returns

@@ -1,5 +1,5 @@
 use Rattle.afdx_frame.proofs.Buffers.{not_before_holds}
-use Rattle.afdx_frame.proofs.WorkedPieces.{misses_the_middle}
+use Rattle.afdx_frame.proofs.Worked.{misses_the_middle}
 use Rattle.afdx_frame.proofs.laws.not_before.Goals as goal
 
 pub returns : goal.returns

@@ -1,5 +1,5 @@
 use Rattle.afdx_frame.proofs.Twins.{twin_fragments}
-use Rattle.afdx_frame.proofs.WorkedSays.{turns_three_fragments}
+use Rattle.afdx_frame.proofs.Worked.{turns_three_fragments}
 use Rattle.afdx_frame.proofs.laws.twins_of_fragments.Goals as goal
 
 pub returns : goal.returns

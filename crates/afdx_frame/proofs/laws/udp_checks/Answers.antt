@@ -1,5 +1,5 @@
 use Rattle.afdx_frame.proofs.UdpLemmas.{one_udp_checksum, checksums_pass, reassembled_pass, changed_words_fail}
-use Rattle.afdx_frame.proofs.WorkedChecks.{checks_three_datagrams}
+use Rattle.afdx_frame.proofs.Worked.{checks_three_datagrams}
 use Rattle.afdx_frame.proofs.laws.udp_checks.Goals as goal
 
 pub returns : goal.returns

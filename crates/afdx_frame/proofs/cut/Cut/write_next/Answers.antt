@@ -4,7 +4,7 @@ use Rattle.afdx_frame.specs.Cutting.{Cutting, piece_at}
 use Rattle.afdx_frame.proofs.CuttingLemmas.{left_none, left_first}
 use Rattle.afdx_frame.specs.Header.{IsFrameOf}
 use Rattle.afdx_frame.proofs.Says.{header_says}
-use Rattle.afdx_frame.proofs.Takes.{step_fragments}
+use Rattle.afdx_frame.proofs.FragmentLemmas.{step_fragments}
 use Rattle.afdx_frame.proofs.cut.Cut.write_next.Goals as goal
 
 pub returns-in_default-clause-frame : goal.returns-in_default-clause-frame

@@ -1,0 +1,181 @@
+-- The worked rows of the laws, by computation.
+use Rattle.std.proofs.Common.{◌≡◌, ℕ, zero, suc, ◌+◌, ◌≤◌, ◌<◌, [], ◌∷◌, slice_index, refl, arith, List, get_or, ap, inr}
+use Rattle.afdx_frame.specs.Checksum.{checksum, udp_checksum}
+use Rattle.afdx_frame.specs.Cutting.{IsCutting, cutting, piece_at, pieces_left}
+use Rattle.afdx_frame.specs.Worked.{ChecksOneHeader, CutsInTwo, KeepsTwoPieces, long_sent, TurnsOneFrame, SaysItsFields, GrowsByOne, CutsBoth, TurnsThreeFragments, first_bytes, middle_bytes, last_bytes, foreign_bytes, four_came, three_came, ThreePieces, MissesTheMiddle, ChecksThreeDatagrams, first_datagram, damaged_datagram}
+use Rattle.afdx_frame.proofs.PiecesAre.{pieces_are}
+use Rattle.afdx_plan.specs.Demo.{demo_port}
+use Rattle.afdx_plan.proofs.DemoPlan.{demo_port_is}
+use Rattle.afdx_frame.specs.declared.net.Net.TheVariants.{A}
+use Rattle.afdx_frame.specs.Frame.{addresses, header_front, internet_header, link_header, udp_header, datagram, unnumbered, udp_sum}
+use Rattle.afdx_frame.specs.Fragments.{fragments_at}
+use Rattle.afdx_frame.specs.ReadBack.{IsPiece}
+use Rattle.afdx_frame.proofs.Says.{says}
+use Rattle.std.specs.Prelude.{Contains}
+use Rattle.std.specs.List.{AllByRecursion}
+use Rattle.std.proofs.lemmas.List.Elements.{All-contains, All-from_recursion}
+use Rattle.afdx_frame.specs.Reassembly.{Fragment}
+use Rattle.afdx_frame.specs.UdpCheck.{IsWordChanged}
+
+-- the row of a header
+pub checks_one_header : ChecksOneHeader
+unfolding checksum
+checks_one_header = record {
+  is = record { range = omega arith; multiple = refl };
+  computed = refl;
+  next = λ is. let m = is.multiple in absurd (omega arith);
+  zero = refl;
+  full = λ is. let r = is.range in absurd (omega arith);
+}
+
+-- the lengths of two pieces
+two_are : IsCutting 25 49 (24 ∷ 25 ∷ [])
+two_are = record { some = omega arith; total = refl; full = full; last = last; tight = tight }
+  where
+    full : (k : ℕ) → k + 1 < 2 → slice_index (24 ∷ 25 ∷ []) k ≡ 24
+    full zero h = refl
+    full (suc k) h = absurd (omega arith)
+
+    last : (k : ℕ) → k + 1 ≡ 2 → (1 ≤ slice_index (24 ∷ 25 ∷ []) k) × (slice_index (24 ∷ 25 ∷ []) k ≤ 25)
+    last k h = let second : k ≡ 1 = omega arith in rw second (omega arith, omega arith)
+
+    tight : (k : ℕ) → k + 2 ≡ 2 → 25 < slice_index (24 ∷ 25 ∷ []) k + slice_index (24 ∷ 25 ∷ []) (suc k)
+    tight k h = let first : k ≡ 0 = omega arith in rw first (omega arith)
+
+-- the row of a cutting
+pub cuts_in_two : CutsInTwo
+unfolding cutting
+cuts_in_two = record {
+  cut = refl;
+  is = two_are;
+  loose = λ is. let t = is.tight 1 refl in absurd (omega arith);
+  narrow = λ is. let t : ◌≡◌ {A = ℕ} 0 9 = is.total in absurd (omega arith);
+}
+
+-- the row of two pieces
+pub keeps_two_pieces : KeepsTwoPieces
+unfolding cutting
+keeps_two_pieces = record {
+  pieces = refl;
+  each = pieces_are 49 25 41 0 (omega arith) (omega arith) (omega arith) (omega arith) refl;
+  narrow = λ each. let l : 1 ≤ 0 = each.0.len.0 in absurd (omega arith);
+  wide = λ each. let l : 1480 ≤ 1479 = each.0.len.1 in absurd (omega arith);
+}
+
+-- a frame and its twin
+pub turns_one_frame : TurnsOneFrame
+unfolding checksum addresses header_front internet_header link_header udp_header datagram unnumbered
+turns_one_frame = record {
+  turned = refl;
+  on_a = refl;
+  on_b = refl;
+  other = λ same. let b : ◌≡◌ {A = ℕ} 32 64 = ap (λ (f : List ℕ). slice_index f 11) same in absurd (omega arith);
+}
+
+-- the second piece is one
+piece_is : IsPiece 41 (piece_at 25 49 24)
+unfolding cutting
+piece_is = (pieces_are 49 25 41 0 (omega arith) (omega arith) (omega arith) (omega arith) refl).1.0
+
+-- a frame's fields
+pub says_its_fields : SaysItsFields
+unfolding unnumbered link_header internet_header header_front
+says_its_fields = record {
+  port = demo_port_is;
+  most = omega arith;
+  piece = piece_is;
+  says = says 1 demo_port long_sent.bytes 0 (piece_at 25 49 24) A 1 demo_port_is (omega arith) piece_is;
+  empty = λ is. let l : 1 ≤ 0 = is.len.0 in absurd (omega arith);
+  unsaid = λ it. let t : 21 ≤ 20 = it.frame.internet.total in absurd (omega arith);
+}
+
+-- one message more
+pub grows_by_one : GrowsByOne
+unfolding checksum addresses header_front internet_header link_header udp_header datagram unnumbered cutting fragments_at
+grows_by_one = record {
+  grows = refl;
+  count = refl;
+  place = λ same. let i : ◌≡◌ {A = ℕ} 4 0
+      = ap (λ (frames : List (List ℕ)). slice_index (get_or frames 2 []) 19) same in absurd (omega arith);
+}
+
+-- a cut
+pub cuts_both : CutsBoth
+unfolding checksum addresses header_front internet_header link_header udp_header datagram unnumbered cutting pieces_left fragments_at
+cuts_both = record { whole = refl; both = refl; one = refl }
+
+-- three fragments and their twins
+pub turns_three_fragments : TurnsThreeFragments
+unfolding checksum addresses header_front internet_header link_header udp_header datagram unnumbered cutting fragments_at
+turns_three_fragments = record {
+  turned = refl;
+  other = λ same. let i : ◌≡◌ {A = ℕ} 32 64
+      = ap (λ (frames : List (List ℕ)). slice_index (get_or frames 0 []) 11) same in absurd (omega arith);
+}
+
+-- what holds of each fragment of a list holds of one that it contains
+each : (P : Fragment → Type 0) (fs : List Fragment) (f : Fragment) → AllByRecursion P fs → Contains fs f → P f
+each P fs f all among = All-contains P fs f (All-from_recursion P fs all) among
+
+-- the fragments of the twenty bytes
+abbrev three : List Fragment
+three = first_bytes ∷ middle_bytes ∷ last_bytes ∷ []
+
+-- what came whole
+pub three_pieces : ThreePieces
+unfolding cutting
+three_pieces = record {
+  cut = refl;
+  each = λ f. (
+    each (Contains three) four_came f
+        ((2, omega arith, refl), ((0, omega arith, refl), ((2, omega arith, refl), ((1, omega arith, refl), tt)))),
+    each (Contains four_came) three f ((1, omega arith, refl), ((3, omega arith, refl), ((0, omega arith, refl), tt))),
+  );
+  given = refl;
+  missing = refl;
+}
+
+-- what came without the middle
+pub misses_the_middle : MissesTheMiddle
+unfolding cutting
+misses_the_middle = record {
+  among = λ f. each (Contains three) three_came f
+      ((2, omega arith, refl), ((0, omega arith, refl), ((2, omega arith, refl), tt)));
+  middle = (1, omega arith, refl);
+  missing = λ among. each (λ f. f.offset ≡ 1 → ⊥) three_came middle_bytes
+      ((λ e. omega arith), ((λ e. omega arith), ((λ e. omega arith), tt))) among refl;
+  none = refl;
+  foreign = λ among. each (λ f. slice_index f.bytes 0 ≡ 0 → ⊥) three foreign_bytes
+      ((λ e. omega arith), ((λ e. omega arith), ((λ e. omega arith), tt))) among refl;
+  another = refl;
+}
+
+-- the last byte is a word of its own
+one_changed : IsWordChanged first_datagram damaged_datagram
+one_changed = record {
+  words = 4;
+  front = 0x03 ∷ 0xe8 ∷ 0x07 ∷ 0xd0 ∷ 0x00 ∷ 0x09 ∷ 0x07 ∷ 0x42 ∷ [];
+  old = 0x01 ∷ [];
+  new = 0x02 ∷ [];
+  rest = [];
+  before_is = refl;
+  after_is = refl;
+  in_words = refl;
+  one_word = inr (refl, refl);
+  as_long = refl;
+  other = λ same. omega (arith, same);
+}
+
+-- the row
+pub checks_three_datagrams : ChecksThreeDatagrams
+unfolding addresses datagram udp_checksum udp_header udp_sum
+checks_three_datagrams = record {
+  first = refl;
+  passes = refl;
+  changed = one_changed;
+  refused = λ passes. absurd (omega (arith, passes));
+  full = refl;
+  never_zero = λ is. let s = is.some in absurd (omega arith);
+  computed = refl;
+  none = λ passes. absurd (omega (arith, passes));
+}
