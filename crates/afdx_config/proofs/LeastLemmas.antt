@@ -1,64 +1,36 @@
 -- The least of several faults.
-use Rattle.std.proofs.Common.{◌≡◌, ℕ, ◌+◌, ◌<◌, ◌≤◌, inl, inr, Bool, true, false, List, map, get_or, length, take, Option, Some, None, refl, sym, ap, ◌∙◌, arith, eq-eqb}
-use Rattle.std.specs.Prelude.{◌||◌, ◌==◌, IfSome}
-use Rattle.std.specs.Bool.{then_some}
-use Rattle.std.specs.List.{list_any}
-use Rattle.std.proofs.lemmas.Bool.{cases_lt, lt-ltb, le-ltb, eqb-true, false_from_ne_true, or_from}
-use Rattle.std.proofs.lemmas.List.{take_all}
+use Rattle.afdx_config.proofs.Names.{◌≡◌, ℕ, ◌+◌, ◌<◌, ◌≤◌, inl, inr, Bool, List, map, get_or, length}
+use Rattle.afdx_config.proofs.Names.{take, Option, Some, None, refl, sym, ap, ◌∙◌, arith, IfSome}
+use Rattle.afdx_config.proofs.Names.{then_some, list_any, cases_lt, lt-ltb, le-ltb}
+use Rattle.afdx_config.proofs.Names.{or_from, take_all, Members, table_view, fault_number, ConfigFault, UnknownKey}
+use Rattle.afdx_config.proofs.Names.{has_key_besides, Field, field_fault, keys_fault, is_key_of, is_fault}
+use Rattle.afdx_config.proofs.Names.{IsLeastOf, IsOfValues, field_of, lesser}
+use Rattle.std.specs.Prelude.{◌||◌}
+use Rattle.std.proofs.lemmas.Bool.Decides.{nat_tests}
 use Rattle.std.proofs.lemmas.List.Folds.{list_any_more}
-use Rattle.toml.specs.Data.{Members}
-use Rattle.toml.specs.View.{table_view}
-use Rattle.afdx_plan.specs.PlanFaults.{fault_number}
-use Rattle.afdx_plan.specs.declared.fault.ConfigFault.{ConfigFault}
-use Rattle.afdx_plan.specs.declared.fault.ConfigFault.TheVariants.{UnknownKey}
-use Rattle.afdx_config.specs.Entries.{has_key_besides}
-use Rattle.afdx_config.specs.Format.{Field}
 use Rattle.afdx_config.specs.declared.format.Field.{Field as Written}
-use Rattle.afdx_config.specs.Tables.{field_fault, keys_fault, is_key_of, is_fault, table_shows}
-use Rattle.afdx_config.specs.Views.{IsLeastOf, IsOfValues, field_of, lesser}
+use Rattle.afdx_config.specs.Tables.{table_shows}
 use Rattle.afdx_config.proofs.SectionLemmas.{Found, list_any-map}
 
 -- a fault that a test adds
 one_if : (b : Bool) (fault : ConfigFault) → IsOfValues fault → IfSome (then_some b fault) IsOfValues
-one_if true fault is = is
-one_if false fault is = tt
+one_if b fault is = grind arith
 
 -- one fault is the least of itself
 pub least_one : (o same : Option ConfigFault) → o ≡ same → IfSome o IsOfValues → IsLeastOf (λ f. is_fault f same) o
-least_one None same is small = rw (← is) (λ f. refl)
-least_one (Some g) same is small = rw (← is) (
-  record {
-    shown = eq-eqb (fault_number g) (fault_number g) refl;
-    first = λ f l. false_from_ne_true (fault_number f == fault_number g) (λ e. let s = eqb-true _ _ e in omega arith);
-  },
-  small,
-)
+least_one o same is small = grind (arith, nat_tests)
 
 -- tests that agree have the same least
 pub least_same : (P Q : ConfigFault → Bool) (o : Option ConfigFault) → ((f : ConfigFault) → Q f ≡ P f) → IsLeastOf P o
     → IsLeastOf Q o
-least_same P Q None same is = λ f. same f ∙ is f
-least_same P Q (Some e) same is =
-    (record { shown = same e ∙ is.0.shown; first = λ f l. same f ∙ is.0.first f l }, is.1)
+least_same P Q o same is = grind (arith, same)
 
 -- the lesser one is the least of both
 pub least_both : (P Q : ConfigFault → Bool) (a b : Option ConfigFault) → IsLeastOf P a → IsLeastOf Q b
     → IsLeastOf (λ f. P f || Q f) (lesser a b)
-least_both P Q None None p q = λ f. or_from (P f) (Q f) (p f) (q f)
-least_both P Q None (Some e) p q = (
-  record {
-    shown = rw (p e, q.0.shown) refl;
-    first = λ f l. or_from (P f) (Q f) (p f) (q.0.first f l);
-  },
-  q.1,
-)
-least_both P Q (Some e) None p q = (
-  record {
-    shown = rw p.0.shown refl;
-    first = λ f l. or_from (P f) (Q f) (p.0.first f l) (q f);
-  },
-  p.1,
-)
+least_both P Q None None p q = grind arith
+least_both P Q None (Some e) p q = grind arith
+least_both P Q (Some e) None p q = grind arith
 least_both P Q (Some d) (Some e) p q = elim (cases_lt (fault_number e) (fault_number d)) [
   | inl below ↦ rw (lt-ltb _ _ below) (
     record {

@@ -1,18 +1,14 @@
 -- The tables and keys of a document, beside the code's values; what is found in the code's tables is found in the document's.
-use Rattle.std.proofs.Common.{◌≡◌, ℕ, Bool, not, ◌||◌, is_none, List, [], ◌∷◌, String, Global, string_bytes, refl, ap, ◌-◌, false, map, length, take, Option, Some, None, option_map, Bor, BTreeMap}
-use Rattle.std.specs.List.{cons_option, filter_map, list_any}
+use Rattle.afdx_config.proofs.Names.{◌≡◌, ℕ, Bool, not, ◌||◌, is_none, List, [], ◌∷◌, String, Global, string_bytes}
+use Rattle.afdx_config.proofs.Names.{refl, ap, ◌-◌, false, map, length, take, Option, Some, None, option_map, Bor}
+use Rattle.afdx_config.proofs.Names.{BTreeMap, cons_option, filter_map, list_any, as_table, Members, view}
+use Rattle.afdx_config.proofs.Names.{items_view, members_view, table_view, has_key_besides, tables_among}
+use Rattle.afdx_config.proofs.Names.{has_other_item, is_version_2, table_shows, take-map, length-map, option_map_or}
+use Rattle.afdx_config.proofs.Names.{ConfigFault, document_fields, end_fields, link_fields, port_fields, fields_in}
+use Rattle.afdx_config.proofs.Names.{AreSectionsOf, field_of, Sections}
 use Rattle.std.specs.Map.{keys_of}
-use Rattle.toml.specs.Data.{as_table, Members}
-use Rattle.toml.specs.View.{view, items_view, members_view, table_view}
 use Rattle.toml.specs.declared.value.Value.{Value}
-use Rattle.afdx_config.specs.Entries.{has_key_besides, tables_among}
-use Rattle.afdx_config.specs.Tables.{has_other_item, is_version_2, table_shows, values_show}
-use Rattle.std.proofs.lemmas.List.{take-map, length-map}
-use Rattle.std.specs.Option.{option_map_or}
-use Rattle.afdx_plan.specs.declared.fault.ConfigFault.{ConfigFault}
-use Rattle.afdx_config.specs.Format.{document_fields, end_fields, link_fields, port_fields, fields_in}
-use Rattle.afdx_config.specs.Views.{AreSectionsOf, field_of}
-use Rattle.afdx_config.specs.declared.sections.Sections.{Sections}
+use Rattle.afdx_config.specs.Tables.{values_show}
 use Rattle.afdx_config.specs.declared.format.Field.{Field as Written}
 
 -- a key that isn't known, among the keys of the map

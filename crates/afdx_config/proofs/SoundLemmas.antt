@@ -1,24 +1,15 @@
 -- A document whose values show no fault has tables without fault.
-use Rattle.std.proofs.Common.{◌≡◌, ◌-◌, codes, Bool, true, false, List, [], ◌∷◌, map, length, Option, Some, None, ℕ, refl, ap, sym, ◌∙◌, eq-eqb}
-use Rattle.std.proofs.lemmas.Option.{same_Some}
-use Rattle.std.proofs.lemmas.List.Elements.{All-cons, All-nil, All-take, All-from_recursion, recursion_from_All}
+use Rattle.afdx_config.proofs.Names.{◌≡◌, ◌-◌, codes, Bool, true, false, List, [], ◌∷◌, map, length, Option, Some}
+use Rattle.afdx_config.proofs.Names.{None, ℕ, refl, ap, sym, ◌∙◌, eq-eqb, same_Some, All-cons, All-nil, All-take}
+use Rattle.afdx_config.proofs.Names.{All-from_recursion, recursion_from_All, or_parts, All, list_any, option_map_or}
+use Rattle.afdx_config.proofs.Names.{ForSome, Members, table_view, fault_number, ConfigFault, number_at, Field}
+use Rattle.afdx_config.proofs.Names.{end_fields, link_fields, port_fields, fields_in, link_of, port_of, plan_of}
+use Rattle.afdx_config.proofs.Names.{is_fault, field_fault, is_version_2, values_show, AreSectionsOf, AreSound}
+use Rattle.afdx_config.proofs.Names.{IsSoundTable, Sections}
 use Rattle.std.proofs.lemmas.Simd.{map-map}
-use Rattle.std.proofs.lemmas.Bool.{or_parts}
-use Rattle.std.specs.Prelude.{All}
-use Rattle.std.specs.List.{list_any}
-use Rattle.std.specs.Option.{option_map_or, ForSome}
-use Rattle.toml.specs.Data.{Members}
-use Rattle.toml.specs.View.{table_view}
-use Rattle.afdx_plan.specs.PlanFaults.{fault_number}
-use Rattle.afdx_plan.specs.declared.fault.ConfigFault.{ConfigFault}
 use Rattle.afdx_plan.specs.declared.link_plan.LinkPlan.{LinkPlan}
 use Rattle.afdx_plan.specs.declared.port_plan.PortPlan.{PortPlan}
-use Rattle.afdx_config.specs.Entries.{number_at}
-use Rattle.afdx_config.specs.Format.{Field, end_fields, link_fields, port_fields, fields_in}
-use Rattle.afdx_config.specs.PlanOf.{link_of, port_of, plan_of}
-use Rattle.afdx_config.specs.Tables.{is_fault, field_fault, table_shows, is_version_2, values_show}
-use Rattle.afdx_config.specs.Views.{AreSectionsOf, AreSound, IsSoundTable}
-use Rattle.afdx_config.specs.declared.sections.Sections.{Sections}
+use Rattle.afdx_config.specs.Tables.{table_shows}
 use Rattle.afdx_config.proofs.SectionLemmas.{Found, shown_in, option_maps}
 
 -- a fault is itself

@@ -1,17 +1,11 @@
 -- What is known of a document's faults, of its text's.
-use Rattle.std.proofs.Common.{◌≡◌, ℕ, ◌<◌, ◌≤◌, true, false, List, Some, None, refl, sym, ap, ◌∙◌, arith, subst}
-use Rattle.std.specs.Prelude.{find, Result, Ok, Err, IfOk, IfErr, ◌≢◌}
-use Rattle.std.proofs.lemmas.Bool.{or_from}
-use Rattle.std.proofs.lemmas.Option.{same_Some}
-use Rattle.toml.specs.Data.{Members}
+use Rattle.afdx_config.proofs.Names.{◌≡◌, ℕ, ◌<◌, ◌≤◌, true, false, List, Some, None, refl, sym, ap, ◌∙◌, arith}
+use Rattle.afdx_config.proofs.Names.{subst, find, Result, Ok, Err, IfOk, IfErr, ◌≢◌, or_from, same_Some, Members}
+use Rattle.afdx_config.proofs.Names.{fault_number, plan_shows, plan_faults, ConfigFault, Toml, DuplicateVl}
+use Rattle.afdx_config.proofs.Names.{DuplicatePort, NoSuchVl, NoSuchSub, SamplingTooLong, SameFlow, SharedUnicast}
+use Rattle.afdx_config.proofs.Names.{Limit, Memory, plan_of, values_show, IsLeast}
 use Rattle.afdx_plan.specs.Config.{Plan}
-use Rattle.afdx_plan.specs.PlanFaults.{fault_number, plan_shows, plan_faults}
-use Rattle.afdx_plan.specs.declared.fault.ConfigFault.{ConfigFault}
-use Rattle.afdx_plan.specs.declared.fault.ConfigFault.TheVariants.{Toml, DuplicateVl, DuplicatePort, NoSuchVl, NoSuchSub, SamplingTooLong, SameFlow, SharedUnicast, Limit, Memory}
 use Rattle.afdx_config.specs.Faults.{shows, Reads, HasFault, IsLeastFault, IsPlanOf}
-use Rattle.afdx_config.specs.PlanOf.{plan_of}
-use Rattle.afdx_config.specs.Tables.{values_show}
-use Rattle.afdx_config.specs.Views.{IsLeast}
 
 -- a document of which neither values nor plan show a fault
 none_shown : (doc : Members) → ((f : ConfigFault) → values_show f doc ≡ false)

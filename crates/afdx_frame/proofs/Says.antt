@@ -1,5 +1,5 @@
 -- Each frame says what went in.
-use Rattle.std.proofs.Common.{◌≡◌, ℕ, ◌+◌, ◌%◌, ◌<◌, Option, Some, None, List, length, refl, arith, ◌-◌, ◌/◌, ◌≤◌, ◌⊎◌, inl, inr, Bool, true, false, [], ◌∷◌, ◌++◌, take, drop, get_or, replicate, max, sym, ap, ◌∙◌, append_assoc, length-append}
+use Rattle.std.proofs.Common.{◌≡◌, ℕ, ◌+◌, ◌%◌, ◌<◌, Option, Some, None, List, length, refl, arith, ◌-◌, ◌/◌, ◌≤◌, ◌⊎◌, inl, inr, Bool, true, [], ◌∷◌, ◌++◌, take, drop, get_or, replicate, max, sym, ap, ◌∙◌, append_assoc, length-append}
 use Rattle.std.specs.Prelude.{IfSome, slice_index, nat_le, if◌then◌else◌}
 use Rattle.afdx_plan.specs.declared.port_plan.PortPlan.{PortPlan}
 use Rattle.afdx_plan.specs.Plan.{IsPort, IsUnicast}
@@ -65,8 +65,7 @@ word_of_flags : (more : Bool) (start : ℕ) → start ≤ 8200
     (((if more then 8192 else 0) + start / 8) % 8192 ≡ start / 8) ×
     (nat_le 8192 ((if more then 8192 else 0) + start / 8) ≡ more) ×
     (8192 ≤ (if more then 8192 else 0) + start / 8 → more ≡ true)
-word_of_flags true start most = (omega arith, omega arith, grind (arith, nat_tests), (λ h. refl))
-word_of_flags false start most = (omega arith, omega arith, grind (arith, nat_tests), (λ h. absurd (omega arith)))
+word_of_flags more start most = grind (arith, nat_tests)
 
 module _ (end_system : ℕ) (port : PortPlan) (message : List ℕ) (place : ℕ) (piece : Piece) (net : Net) (number : ℕ) where
   abbrev frame : List ℕ

@@ -93,8 +93,7 @@ around words front word rest whole one =
 -- a word of the same length stands where the old one stood
 stands_too : (old new rest : List ℕ) → length new ≡ length old → (length old ≡ 2) ⊎ ((length old ≡ 1) × (rest ≡ []))
     → (length new ≡ 2) ⊎ ((length new ≡ 1) × (rest ≡ []))
-stands_too old new rest same (inl two) = inl (same ∙ two)
-stands_too old new rest same (inr one) = inr ((same ∙ one.0), one.1)
+stands_too old new rest same one = grind arith
 
 -- how long a list is around a word
 long_around : (front word rest : List ℕ) → length (front ++ (word ++ rest)) ≡ length front + (length word + length rest)

@@ -1,25 +1,25 @@
 -- A plan is valid exactly where it shows no fault; flows of a valid plan lie apart.
-use Rattle.std.proofs.Common.{◌≡◌, ℕ, suc, zero, ◌-◌, ◌<◌, ◌≤◌, inl, inr, ◌⊎◌, Bool, true, false, cond, List, [], ◌∷◌, length, get_or, Option, Some, None, refl, ap, sym, ◌∙◌, arith, eq-eqb, not, subst, ◌/◌, ◌%◌}
-use Rattle.std.specs.Prelude.{◌==◌, ◌&&◌, nat_lt, nat_le, nat_eq, find, count_by, All, Contains, IfSome}
+use Rattle.std.proofs.Common.{◌≡◌, ℕ, suc, zero, ◌-◌, ◌<◌, ◌≤◌, inl, inr, ◌⊎◌, Bool, true, false, cond, List, [], ◌∷◌, length, get_or, Option, Some, None, refl, ap, sym, ◌∙◌, arith, eq-eqb, subst, ◌/◌, ◌%◌}
+use Rattle.std.specs.Prelude.{◌&&◌, nat_lt, nat_eq, find, count_by, All, Contains, IfSome}
 use Rattle.std.specs.List.{list_any}
-use Rattle.std.proofs.lemmas.Bool.{or_parts, and_parts, and_from, eqb-true, eqb-false, ltb-false, leb-false, ne_eqb, false_from_ne_true, cases_Bool, cases_order, cases_eq, cases_lt, not-false, not_from_false, or_from, le-ltb, lt-leb, not-true, not_from_true}
+use Rattle.std.proofs.lemmas.Bool.{or_parts, ltb-false, ne_eqb, false_from_ne_true, cases_Bool, cases_eq, cases_lt, not-false, or_from, le-ltb, not_from_true}
 use Rattle.std.proofs.lemmas.List.{get_or_default}
 use Rattle.std.proofs.lemmas.List.Elements.{All-contains, Contains-get_or}
 use Rattle.std.proofs.lemmas.List.Folds.{list_any_at, list_any_none}
 use Rattle.std.proofs.lemmas.List.Sums.{sum_by-cons}
 use Rattle.std.proofs.lemmas.Slice.Eq.{bytes_eq-Decides}
+use Rattle.std.proofs.lemmas.Bool.Decides.{nat_tests}
 use Rattle.afdx_plan.specs.declared.identifiers.VlId.{VlId}
 use Rattle.afdx_plan.specs.declared.identifiers.PortId.{PortId}
-use Rattle.afdx_plan.specs.declared.identifiers.Kind.TheVariants.{Sampling, Queuing}
+use Rattle.afdx_plan.specs.declared.identifiers.Kind.TheVariants.{Sampling}
 use Rattle.afdx_plan.specs.declared.link_plan.LinkPlan.{LinkPlan}
 use Rattle.afdx_plan.specs.declared.port_plan.PortPlan.{PortPlan}
 use Rattle.afdx_plan.specs.Address.{destination_of}
 use Rattle.afdx_plan.specs.Plan.{IsLink, IsPort, IsUnicast}
 use Rattle.afdx_plan.specs.Config.{Plan, IsPlan, HasLink, AreSameFlow, link_plan_at, port_plan_at, ports_on}
-use Rattle.afdx_plan.specs.PlanFaults.{has_pair, has_same_vl, has_same_port, is_link_of, names_no_link, names_no_sub, is_too_long, are_one_address, are_one_destination, has_same_flow, shares_unicast, is_no_count, is_crowded, plan_shows, least_plan_fault}
+use Rattle.afdx_plan.specs.PlanFaults.{has_pair, has_same_vl, has_same_port, is_link_of, names_no_link, names_no_sub, is_too_long, are_one_destination, has_same_flow, shares_unicast, is_no_count, is_crowded, plan_shows, least_plan_fault}
 use Rattle.afdx_plan.specs.declared.fault.ConfigFault.{ConfigFault}
 use Rattle.afdx_plan.specs.declared.fault.ConfigFault.TheVariants.{DuplicateVl, DuplicatePort, NoSuchVl, NoSuchSub, SamplingTooLong, SameFlow, SharedUnicast, Limit}
-use Rattle.afdx_plan.specs.declared.identifiers.Kind.{Kind}
 use Rattle.afdx_plan.specs.Flows.{FlowsApart}
 
 -- no element passes a test that none passes
@@ -71,21 +71,14 @@ found_at p (x ∷ xs) some = elim (cases_Bool (p x)) [
 
 -- the identifiers of a link that a port names
 pub named : (port : PortPlan) (link : LinkPlan) → is_link_of port link ≡ true → link.id ≡ port.vl
-named port link is =
-    let vl : ℕ → VlId = λ n. record { 0 = n } in ap vl (eqb-true link.id.0 port.vl.0 is)
+named port link is = grind (arith, nat_tests)
 
 -- a port's link and sub-VL are there
 has_link : (links : List LinkPlan) (port : PortPlan) → names_no_link links port ≡ false
     → names_no_sub links port ≡ false → HasLink links port
 has_link links port linked sub =
     let found = found_at (is_link_of port) links (not-false _ linked) in
-    let here = link_plan_at links found.at in
-    let below : nat_le here.sub_vls port.sub ≡ false = rw found.found at sub in
-    record {
-      at = found.at;
-      within = found.within;
-      over = record { id = named port here found.passes; sub = leb-false here.sub_vls port.sub below };
-    }
+    record { at = found.at; within = found.within; over = grind (arith, nat_tests) }
 
 -- the member of a list at its place
 place_of : {X : Type 0} (xs : List X) (x d : X) (member : Contains xs x) → get_or xs member.0 d ≡ x
@@ -122,21 +115,15 @@ which_destination v w s t is_s is_t same = grind arith
 -- so it is one to the test
 one_destination : (p q : PortPlan) → IsPort p → IsPort q → AreSameFlow p q
     → are_one_destination p.unicast q.unicast ≡ true
-one_destination p q is_p is_q same =
-    elim (which_destination p.vl.0 q.vl.0 p.unicast q.unicast is_p.unicast is_q.unicast same.address) [
-      | inl none ↦ rw (none.0, none.1) refl
-      | inr one ↦ rw (one.1, one.2) ((bytes_eq-Decides one.0 one.0).1 refl)
-    ]
+one_destination p q is_p is_q same = grind (
+  arith,
+  bytes_eq-Decides,
+  which_destination p.vl.0 q.vl.0 p.unicast q.unicast is_p.unicast is_q.unicast same.address,
+)
 
 -- agreeing ports have one flow
 same_flow : (p q : PortPlan) → IsPort p → IsPort q → AreSameFlow p q → has_same_flow p q ≡ true
-same_flow p q is_p is_q same =
-    and_from _ _ (and_from _ _ (and_from _ _ (and_from _ _
-    (eq-eqb p.vl.0 q.vl.0 (ap (λ (v : VlId). v.0) same.vl))
-    (eq-eqb p.partition q.partition same.partition))
-    (eq-eqb p.source q.source same.source))
-    (eq-eqb p.destination q.destination same.destination))
-    (one_destination p q is_p is_q same)
+same_flow p q is_p is_q same = grind (arith, nat_tests, one_destination p q is_p is_q same)
 
 -- related members are one
 related_members : {X : Type 0} (related : X → X → Bool) (xs : List X) (x y : X) → has_pair related xs ≡ false
@@ -150,9 +137,7 @@ related_members related xs x y none in_x in_y one other =
 -- two ports that share a unicast address
 shared : (p q : PortPlan) (address : List ℕ) → p.unicast ≡ Some address → q.unicast ≡ Some address
     → p.partition ≡ q.partition → (p.vl.0 ≡ q.vl.0 → ⊥) → shares_unicast p q ≡ true
-shared p q address of_p of_q partition apart =
-    let one : are_one_address p.unicast q.unicast ≡ true = rw (of_p, of_q) ((bytes_eq-Decides address address).1 refl) in
-    and_from _ _ (and_from _ _ (not_from_false _ (ne_eqb p.vl.0 q.vl.0 apart)) (eq-eqb p.partition q.partition partition)) one
+shared p q address of_p of_q partition apart = grind (arith, nat_tests, bytes_eq-Decides)
 
 -- ports of one partition and unicast address are on one link
 unicast : (ports : List PortPlan) (p q : PortPlan) (address : List ℕ) → has_pair shares_unicast ports ≡ false
@@ -189,10 +174,7 @@ few ports vl sub none = elim (cases_lt 64 (ports_on ports vl sub)) [
   | inl many ↦
       let there = counted (λ (port : PortPlan). nat_eq port.vl.0 vl && nat_eq port.sub sub) ports (omega arith) in
       let port = port_plan_at ports there.at in
-      let (link, index) = and_parts (nat_eq port.vl.0 vl) (nat_eq port.sub sub) there.passes in
-      let same : ports_on ports port.vl.0 port.sub ≡ ports_on ports vl sub =
-      ap (λ (v : ℕ). ports_on ports v port.sub) (eqb-true port.vl.0 vl link)
-      ∙ ap (ports_on ports vl) (eqb-true port.sub sub index) in
+      let same : ports_on ports port.vl.0 port.sub ≡ ports_on ports vl sub = grind (arith, nat_tests) in
       let most = ltb-false 64 (ports_on ports port.vl.0 port.sub)
       (none_at (is_crowded ports) ports there.at _ none there.within) in
       omega arith
@@ -201,10 +183,7 @@ few ports vl sub none = elim (cases_lt 64 (ports_on ports vl sub)) [
 
 -- a count within its limits
 counts : (most n : ℕ) → is_no_count most n ≡ false → (1 ≤ n) × (n ≤ most)
-counts most n h =
-    let (none, many) = or_parts (n == 0) (nat_lt most n) h in
-    let some = eqb-false n 0 none in
-    (omega arith, ltb-false most n many)
+counts most n h = grind (arith, nat_tests)
 
 -- no fault is shown where none is found
 pub none_shown : (plan : Plan) (fault : ConfigFault) → least_plan_fault plan.links plan.ports ≡ None
@@ -278,44 +257,20 @@ names_sub plan port is has =
     let here = link_plan_at plan.links found.at in
     let one : found.at ≡ has.at = is.links_apart found.at has.at found.within has.within
     (named port here found.passes ∙ sym has.over.id) in
-    let below : port.sub < here.sub_vls =
-    subst (λ (k : ℕ). port.sub < (link_plan_at plan.links k).sub_vls) (sym one) has.over.sub in
-    rw found.found (lt-leb here.sub_vls port.sub below)
+    grind (arith, nat_tests)
 
 -- a sampling port's greatest message fits
-long_one : (plan : Plan) (port : PortPlan) (kind : Kind) → port.kind ≡ kind → IsPlan plan → Contains plan.ports port
-    → HasLink plan.links port → is_too_long plan.links port ≡ false
-long_one plan port Queuing kind is member has = rw kind refl
-long_one plan port Sampling kind is member has =
+long_one : (plan : Plan) (port : PortPlan) → IsPlan plan → Contains plan.ports port → HasLink plan.links port
+    → is_too_long plan.links port ≡ false
+long_one plan port is member has =
     let found = linked plan port has in
     let here = link_plan_at plan.links found.at in
-    rw (kind, found.found) (le-ltb (here.lmax - 47) port.max (is.sampling port here member
-    (Contains-get_or plan.links found.at _ found.within) kind (named port here found.passes)))
-
--- one destination of one link
-destinations : (v w : ℕ) (s t : Option (List ℕ)) → v ≡ w → are_one_destination s t ≡ true
-    → destination_of v s ≡ destination_of w t
-destinations v w None None same one = ap (λ (n : ℕ). destination_of n None) same
-destinations v w None (Some b) same one = cc
-destinations v w (Some a) None same one = cc
-destinations v w (Some a) (Some b) same one = (bytes_eq-Decides a b).0 one
+    let there = Contains-get_or plan.links found.at _ found.within in
+    grind (arith, nat_tests, is.sampling port here member there, named port here found.passes)
 
 -- ports of one flow agree
 agree : (p q : PortPlan) → has_same_flow p q ≡ true → AreSameFlow p q
-agree p q one =
-    let (four, address) = and_parts _ (are_one_destination p.unicast q.unicast) one in
-    let (three, destination) = and_parts _ (p.destination == q.destination) four in
-    let (two, source) = and_parts _ (p.source == q.source) three in
-    let (link, partition) = and_parts (p.vl.0 == q.vl.0) (p.partition == q.partition) two in
-    let vl : ℕ → VlId = λ n. record { 0 = n } in
-    let number = eqb-true p.vl.0 q.vl.0 link in
-    record {
-      vl = ap vl number;
-      partition = eqb-true p.partition q.partition partition;
-      source = eqb-true p.source q.source source;
-      destination = eqb-true p.destination q.destination destination;
-      address = destinations p.vl.0 q.vl.0 p.unicast q.unicast number address;
-    }
+agree p q one = grind (arith, nat_tests, bytes_eq-Decides)
 
 -- ports at different places are different
 apart_ports : (plan : Plan) (i j : ℕ) → IsPlan plan → i < j → j < length plan.ports
@@ -323,27 +278,15 @@ apart_ports : (plan : Plan) (i j : ℕ) → IsPlan plan → i < j → j < length
 apart_ports plan i j is before below same =
     let one : i ≡ j = is.ports_apart i j (omega arith) below (ap (λ (port : PortPlan). port.id) same) in omega arith
 
--- two addresses that are one
-one_address : (s t : Option (List ℕ)) → are_one_address s t ≡ true
-    → (address : List ℕ) × (s ≡ Some address) × (t ≡ Some address)
-one_address None t one = cc
-one_address (Some a) None one = cc
-one_address (Some a) (Some b) one = (b, ap Some ((bytes_eq-Decides a b).0 one), refl)
-
 -- ports at two places of a valid plan share no address
 no_share : (plan : Plan) (p q : PortPlan) → IsPlan plan → Contains plan.ports p → Contains plan.ports q
     → shares_unicast p q ≡ true → ⊥
 no_share plan p q is in_p in_q shares =
-    let (two, address) = and_parts _ (are_one_address p.unicast q.unicast) shares in
-    let (link, partition) = and_parts (not (p.vl.0 == q.vl.0)) (p.partition == q.partition) two in
-    let one = one_address p.unicast q.unicast address in
-    let vl = is.unicasts_apart p q in_p in_q one.0 one.1 one.2 (eqb-true p.partition q.partition partition) in
-    let other : (p.vl.0 == q.vl.0) ≡ false = not-true _ link in
-    let same = eq-eqb p.vl.0 q.vl.0 (ap (λ (v : VlId). v.0) vl) in cc
+    grind (arith, nat_tests, bytes_eq-Decides, is.unicasts_apart p q in_p in_q)
 
 -- a count within its limits
 no_fault_count : (most n : ℕ) → 1 ≤ n → n ≤ most → is_no_count most n ≡ false
-no_fault_count most n least below = or_from _ _ (ne_eqb n 0 (λ none. omega arith)) (le-ltb most n below)
+no_fault_count most n least below = grind (arith, nat_tests)
 
 -- the law: fault by fault, in the order of their numbers
 pub faultless : (plan : Plan) → IsPlan plan → (fault : ConfigFault) → plan_shows fault plan ≡ false
@@ -361,7 +304,7 @@ faultless plan is NoSuchSub = list_any_none (names_no_sub plan.links) plan.ports
     names_sub plan (get_or plan.ports k d) is (is.linked k d below))
 faultless plan is SamplingTooLong = list_any_none (is_too_long plan.links) plan.ports (λ k d below.
     let port = get_or plan.ports k d in
-    long_one plan port port.kind refl is (Contains-get_or plan.ports k d below) (is.linked k d below))
+    long_one plan port is (Contains-get_or plan.ports k d below) (is.linked k d below))
 faultless plan is SameFlow = no_pair has_same_flow plan.ports (port_plan_at [] 0) (λ i j before below.
     false_from_ne_true _ (λ one. apart_ports plan i j is before below
     (is.flows_apart (port_plan_at plan.ports i) (port_plan_at plan.ports j)

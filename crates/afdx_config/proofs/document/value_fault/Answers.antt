@@ -1,13 +1,8 @@
-use Rattle.std.proofs.Common.{false, refl}
-use Rattle.std.specs.Option.{option_map_or}
-use Rattle.toml.specs.View.{table_view}
-use Rattle.afdx_config.specs.Format.{end_fields}
-use Rattle.afdx_config.specs.Tables.{table_shows}
-use Rattle.afdx_config.specs.Views.{IsLeastOf}
+use Rattle.afdx_config.proofs.Names.{false, refl, option_map_or, table_view, end_fields, table_shows, IsLeastOf}
 use Rattle.afdx_config.proofs.LeastLemmas.{least_both, least_same, least_rows}
 use Rattle.afdx_config.proofs.SectionLemmas.{sections_show, shown_in}
-use Rattle.afdx_config.proofs.document.value_fault.Goals as goal
 use Rattle.afdx_config.proofs.document.value_fault.Goals.{in-Some, in-None}
+use Rattle.afdx_config.proofs.document.value_fault.Goals as goal
 
 pub returns : goal.returns
 returns c =

@@ -1,6 +1,4 @@
-use Rattle.std.proofs.Common.{◌∙◌, sym}
-use Rattle.std.specs.Prelude.{bytes_eq}
-use Rattle.afdx_config.specs.Views.{field_of}
+use Rattle.afdx_config.proofs.Names.{◌∙◌, sym, bytes_eq, field_of}
 use Rattle.afdx_config.proofs.SectionLemmas.{list_any-map}
 use Rattle.afdx_config.proofs.fields.is_key_of.Goals as goal
 

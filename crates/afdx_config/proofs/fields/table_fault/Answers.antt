@@ -1,9 +1,5 @@
-use Rattle.std.proofs.Common.{refl, ap, ◌∙◌, map}
-use Rattle.std.specs.Bool.{then_some}
-use Rattle.toml.specs.View.{table_view}
-use Rattle.afdx_config.specs.Tables.{field_fault, is_fault, is_key_of}
-use Rattle.afdx_config.specs.Views.{field_of}
-use Rattle.afdx_plan.specs.declared.fault.ConfigFault.TheVariants.{UnknownKey}
+use Rattle.afdx_config.proofs.Names.{refl, ap, ◌∙◌, map, then_some, table_view, field_fault, is_fault, is_key_of}
+use Rattle.afdx_config.proofs.Names.{field_of, UnknownKey}
 use Rattle.afdx_config.proofs.SectionLemmas.{has_key_besides-keys}
 use Rattle.afdx_config.proofs.LeastLemmas.{least_next, least_one, least_of_table}
 use Rattle.afdx_config.proofs.fields.table_fault.Goals as goal

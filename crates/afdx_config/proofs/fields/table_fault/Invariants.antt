@@ -1,8 +1,4 @@
-use Rattle.std.proofs.Common.{take}
-use Rattle.std.specs.List.{list_any}
-use Rattle.toml.specs.View.{table_view}
-use Rattle.afdx_config.specs.Tables.{field_fault, is_fault}
-use Rattle.afdx_config.specs.Views.{field_of, IsLeastOf}
+use Rattle.afdx_config.proofs.Names.{take, list_any, table_view, field_fault, is_fault, field_of, IsLeastOf}
 use Rattle.afdx_config.proofs.fields.table_fault.Given as goal
 
 abbrev pub invariant-loop-field : goal.invariant-loop-field

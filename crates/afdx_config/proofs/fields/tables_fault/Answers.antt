@@ -1,8 +1,4 @@
-use Rattle.std.proofs.Common.{map}
-use Rattle.std.proofs.lemmas.List.{take_all}
-use Rattle.toml.specs.View.{table_view}
-use Rattle.afdx_config.specs.Tables.{table_shows}
-use Rattle.afdx_config.specs.Views.{field_of}
+use Rattle.afdx_config.proofs.Names.{map, take_all, table_view, table_shows, field_of}
 use Rattle.afdx_config.proofs.LeastLemmas.{least_next}
 use Rattle.afdx_config.proofs.fields.tables_fault.Goals as goal
 

@@ -1,8 +1,4 @@
-use Rattle.std.proofs.Common.{map, take}
-use Rattle.std.specs.List.{list_any}
-use Rattle.toml.specs.View.{table_view}
-use Rattle.afdx_config.specs.Tables.{table_shows}
-use Rattle.afdx_config.specs.Views.{field_of, IsLeastOf}
+use Rattle.afdx_config.proofs.Names.{map, take, list_any, table_view, table_shows, field_of, IsLeastOf}
 use Rattle.afdx_config.proofs.fields.tables_fault.Given as goal
 
 abbrev pub invariant-loop-table : goal.invariant-loop-table

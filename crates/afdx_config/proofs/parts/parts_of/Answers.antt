@@ -1,6 +1,4 @@
-use Rattle.std.proofs.Common.{◌∙◌, ap, map}
-use Rattle.toml.specs.View.{table_view}
-use Rattle.afdx_config.specs.PlanOf.{link_of, port_of}
+use Rattle.afdx_config.proofs.Names.{◌∙◌, ap, map, table_view, link_of, port_of}
 use Rattle.afdx_config.proofs.SoundLemmas.{plan_parts}
 use Rattle.afdx_config.proofs.parts.parts_of.Goals as goal
 

@@ -1,7 +1,4 @@
-use Rattle.std.proofs.Common.{◌∙◌, ap, map}
-use Rattle.std.proofs.lemmas.List.{take_all}
-use Rattle.toml.specs.View.{table_view}
-use Rattle.afdx_config.specs.PlanOf.{port_of}
+use Rattle.afdx_config.proofs.Names.{◌∙◌, ap, map, take_all, table_view, port_of}
 use Rattle.afdx_config.proofs.parts.port_plans.Goals as goal
 
 pub returns-clause-value : goal.returns-clause-value

@@ -1,7 +1,4 @@
-use Rattle.std.proofs.Common.{◌≡◌, rules}
-use Rattle.toml.specs.View.{table_view}
-use Rattle.afdx_config.specs.PlanOf.{plan_of}
-use Rattle.afdx_config.specs.Views.{AreSectionsOf, plan_in}
+use Rattle.afdx_config.proofs.Names.{◌≡◌, rules, table_view, plan_of, AreSectionsOf, plan_in}
 use Rattle.afdx_config.proofs.SoundLemmas.{sound}
 use Rattle.afdx_config.proofs.TextLemmas.{plan_ok, plan_err}
 use Rattle.afdx_config.proofs.read.read_document.Goals as goal

@@ -1,7 +1,4 @@
-use Rattle.std.proofs.Common.{◌≡◌, map, take}
-use Rattle.std.specs.List.{filter_map}
-use Rattle.toml.specs.Data.{as_table}
-use Rattle.toml.specs.View.{table_view, view}
+use Rattle.afdx_config.proofs.Names.{◌≡◌, map, take, filter_map, as_table, table_view, view}
 use Rattle.afdx_config.proofs.sections.tables_of.Given as goal
 
 abbrev pub invariant-loop-value : goal.invariant-loop-value

@@ -1,4 +1,5 @@
-use Rattle.std.proofs.Common.{ℕ, List, ◌∙◌, ap, sym, ◌==◌, if◌then◌else◌, slice_index, Some, None}
+use Rattle.afdx_config.proofs.Names.{ℕ, List, ◌∙◌, ap, sym, if◌then◌else◌, slice_index, Some, None}
+use Rattle.std.proofs.Common.{◌==◌}
 use Rattle.afdx_config.proofs.AddressLemmas.{address_of-dotted, address_of-none}
 use Rattle.afdx_config.proofs.values.unicast_address.Goals as goal
 
