@@ -1,6 +1,6 @@
 -- Histories that grow.
-use Rattle.std.proofs.Common.{◌≡◌, ℕ, ◌+◌, List, [], ◌∷◌, ◌++◌, refl, sym, ap, ◌∙◌, subst, append-nil, append_assoc, length, length-append, le_refl, le_trans, arith}
-use Rattle.std.proofs.lemmas.List.{nil_from_length}
+use Rattle.std.proofs.Common.{◌≡◌, ℕ, ◌+◌, List, [], ◌∷◌, ◌++◌, refl, sym, ap, ◌∙◌, subst, append-nil, append_assoc, length, length-append, arith}
+use Rattle.std.proofs.lemmas.List.{map-append, nil_from_length}
 use Rattle.status_board.specs.declared.counts.Counts.{Counts}
 use Rattle.status_board.specs.declared.rule.Stamped.{Stamped}
 use Rattle.status_board.specs.History.{NoFieldFalls, last_or, RisesFrom, value_of, IsRising, StartsWith}
@@ -16,13 +16,13 @@ pub rises-push : (c : Counts) (history : List Counts) (x : Counts) → RisesFrom
 rises-push c [] x r h = (h, tt)
 rises-push c (y ∷ history) x r h = (r.0, rises-push y history x r.1 h)
 
-pub starts_same : {A : Type 0} (all : List A) → StartsWith all all
+abbrev pub starts_same : {A : Type 0} (all : List A) → StartsWith all all
 starts_same all = ([], sym (append-nil all))
 
-pub starts_more : {A : Type 0} (all first more : List A) → StartsWith all first → StartsWith (all ++ more) first
+abbrev pub starts_more : {A : Type 0} (all first more : List A) → StartsWith all first → StartsWith (all ++ more) first
 starts_more all first more s = (s.0 ++ more, ap (λ l. l ++ more) s.1 ∙ append_assoc first s.0 more)
 
-pub starts_none : {A : Type 0} (all : List A) → StartsWith all []
+abbrev pub starts_none : {A : Type 0} (all : List A) → StartsWith all []
 starts_none all = (all, refl)
 
 -- two lists, each of which begins with the other, are one
@@ -33,8 +33,7 @@ starts_both xs ys p q =
     p.1 ∙ ap (λ l. ys ++ l) (nil_from_length p.0 (omega arith)) ∙ append-nil ys
 
 pub counts_of-append : (xs ys : List Stamped) → counts_of (xs ++ ys) ≡ counts_of xs ++ counts_of ys
-counts_of-append [] ys = refl
-counts_of-append (x ∷ xs) ys = ap (λ l. x.counts ∷ l) (counts_of-append xs ys)
+counts_of-append xs ys = map-append (λ (e : Stamped). e.counts) xs ys
 
 pub counts_start : (all first : List Stamped) → StartsWith all first → StartsWith (counts_of all) (counts_of first)
 counts_start all first s = (counts_of s.0, ap counts_of s.1 ∙ counts_of-append first s.0)
@@ -44,15 +43,10 @@ are_after-push n [] e all is = (is, tt)
 are_after-push n (x ∷ es) e all is = (all.0, are_after-push n es e all.1 is)
 
 pub falls_not_same : (a : Counts) → NoFieldFalls a a
-falls_not_same a = record { frames = le_refl _; bytes = le_refl _; messages = le_refl _; last = le_refl _ }
+falls_not_same a = search arith
 
 pub falls_not_through : (a b c : Counts) → NoFieldFalls a b → NoFieldFalls b c → NoFieldFalls a c
-falls_not_through a b c p q = record {
-  frames = le_trans p.frames q.frames;
-  bytes = le_trans p.bytes q.bytes;
-  messages = le_trans p.messages q.messages;
-  last = le_trans p.last q.last;
-}
+falls_not_through a b c p q = search arith
 
 rises_above : (c : Counts) (history : List Counts) → RisesFrom c history → NoFieldFalls c (last_or c history)
 rises_above c [] r = falls_not_same c

@@ -1,15 +1,17 @@
 -- Each step on a link's cell keeps the rule.
-use Rattle.std.proofs.Common.{◌≡◌, ◌≢◌, ◌⊎◌, ℕ, zero, suc, ◌+◌, List, [], ◌∷◌, ◌++◌, length, set, true, false, refl, sym, ap, ◌∙◌, subst, ⊎_elim, append-nil, append_assoc}
+use Rattle.std.proofs.Common.{◌≡◌, ◌≢◌, ℕ, zero, suc, ◌+◌, List, [], ◌∷◌, ◌++◌, length, set, true, false, refl, sym, ap, ◌∙◌, subst, ⊎_elim, append-nil}
 use mathlib.Core.Option.{some, some-ne-none, some-injective}
 use lib.ListN.{get_elem?}
 use Rattle.crossbeam_utils.specs.Register.{Turns, Forks, Merges}
-use Rattle.atomic_table.proofs.Lists.{at_set, set_again}
+use Rattle.atomic_table.specs.Seated.{TableId}
+use Rattle.atomic_table.proofs.Lists.{at_set, set_again, set_else}
 use Rattle.status_board.specs.declared.counts.Counts.{Counts}
 use Rattle.status_board.specs.declared.rule.Stamped.{Stamped}
 use Rattle.status_board.specs.declared.rule.View.{View}
 use Rattle.status_board.specs.History.{NoFieldFalls, value_of, IsRising, StartsWith, zeros}
 use Rattle.status_board.specs.Rule.{stamped, counts_of, opener, Fits, KeepsHistory, Adds, FindsEntry, Agrees, without_reading, as_monitor, as_told, hearing, nobody}
-use Rattle.status_board.proofs.Histories.{last_or-push, rises-push, starts_same, starts_more, starts_none, counts_of-append, are_after-push}
+use Rattle.status_board.specs.Views.{Watched, IsReading}
+use Rattle.status_board.proofs.Histories.{last_or-push, rises-push, starts_same, starts_more, starts_none, counts_of-append, counts_start, are_after-push, never_behind}
 
 -- P of each view after one has changed
 views_set : (P : ℕ → View → Type 0) (views : List View) (by : ℕ) (w : View)
@@ -29,14 +31,29 @@ views_push P [] w others mine (suc j) u e = absurd (some-ne-none u (sym e))
 views_push P (v ∷ views) w others mine zero u e = others zero u e
 views_push P (v ∷ views) w others mine (suc j) u e = views_push (λ q. P (suc q)) views w (λ q. others (suc q)) mine j u e
 
--- a pass that isn't the monitor's fits whatever the monitor is
-not_monitor : (k writer monitor loads' monitor' : ℕ) (loads : ℕ) (history seen seen' : List Stamped) (u : View) → (k ≢ monitor)
-    → Fits writer monitor loads history seen k u → Fits writer monitor' loads' history seen' k u
-not_monitor k writer monitor loads' monitor' loads history seen seen' u apart f = record {
-  as_writer = λ r. record { one = (f.as_writer r).one; whole = (f.as_writer r).whole };
-  as_monitor = λ r. absurd (apart (f.as_monitor r).one);
-  knows = f.knows;
-  heard = f.heard;
+-- a pass that is not the monitor's fits whatever the monitor is
+not_monitor : (k writer monitor loads monitor' loads' : ℕ) (history : List Stamped) (u : View) → k ≢ monitor
+    → Fits writer monitor loads history k u → Fits writer monitor' loads' history k u
+not_monitor k writer monitor loads monitor' loads' history u apart f =
+    record { knows = f.knows; heard = f.heard; as_writer = f.as_writer; as_monitor = λ r. absurd (apart (f.as_monitor r).0) }
+
+-- a pass with neither part fits if it knows a beginning
+no_part : (writer monitor loads by : ℕ) (history : List Stamped) (v : View) → v.writes ≡ false → v.reads ≡ false
+    → StartsWith history v.history → StartsWith history v.heard → Fits writer monitor loads history by v
+no_part writer monitor loads by history v mute blind knows heard =
+    record { knows = knows; heard = heard; as_writer = λ r. absurd (cc); as_monitor = λ r. absurd (cc) }
+
+-- the same history, and other views
+keeps_views : (x : Counts) (views views' : List View) (k : KeepsHistory x views) (monitor loads : ℕ)
+    → ((j : ℕ) (u : View) → get_elem? views' j ≡ some u → Fits k.writer monitor loads k.history j u) → KeepsHistory x views'
+keeps_views x views views' k monitor loads each = record {
+  writer = k.writer;
+  monitor = monitor;
+  loads = loads;
+  history = k.history;
+  value_is = k.value_is;
+  rising = k.rising;
+  each = each;
 }
 
 -- the first pass of a cell fits
@@ -46,60 +63,47 @@ begins = record {
   monitor = 0;
   loads = 0;
   history = [];
-  seen = [];
-  unseen = [];
-  parts = refl;
-  after = tt;
   value_is = refl;
   rising = tt;
-  each = one;
+  each = views_push (Fits 0 0 0 []) [] opener (λ j u e. absurd (some-ne-none u (sym e))) record {
+    knows = starts_none [];
+    heard = starts_none [];
+    as_writer = λ _. (refl, refl);
+    as_monitor = λ _. (refl, refl, tt);
+  };
 }
-  where
-    fits : Fits 0 0 0 [] [] 0 opener
-    fits = record {
-      as_writer = λ _. record { one = refl; whole = refl };
-      as_monitor = λ _. record { one = refl; saw = refl; counted = refl };
-      knows = starts_none [];
-      heard = starts_none [];
-    }
-
-    one : (by : ℕ) (v : View) → get_elem? (opener ∷ []) by ≡ some v → Fits 0 0 0 [] [] by v
-    one zero v e = subst (Fits 0 0 0 [] [] 0) (some-injective _ _ e) fits
-    one (suc by) v e = absurd (some-ne-none v (sym e))
 
 pub publishes : (by : ℕ) (v : View) (c : Counts) → v.writes ≡ true → v.reads ≡ false
     → NoFieldFalls (value_of (counts_of v.history)) c → Turns KeepsHistory by v (λ _. c) Adds
 publishes by v c is blind rise x views k at =
-    let mine = (k.each by v at).as_writer is in
+    let mine = k.each by v at in
+    let role = mine.as_writer is in
     let e : Stamped = stamped c k.loads in
     let now = k.history ++ e ∷ [] in
     let w : View = record v { history = v.history ++ e ∷ [] } in
-    let same : w.history ≡ now = ap (λ l. l ++ e ∷ []) mine.whole in
-    let all : counts_of now ≡ counts_of k.history ++ c ∷ [] = counts_of-append k.history (e ∷ []) in
-    let rises = rises-push zeros (counts_of k.history) c k.rising (subst (λ l. NoFieldFalls (value_of (counts_of l)) c) mine.whole rise) in
-    let fits : Fits k.writer k.monitor k.loads now k.seen by w = record {
-      as_writer = λ _. record { one = mine.one; whole = same };
-      as_monitor = λ r. absurd (cc);
+    let same : w.history ≡ now = ap (λ l. l ++ e ∷ []) role.1 in
+    let all = counts_of-append k.history (e ∷ []) in
+    let P = Fits k.writer k.monitor k.loads now in
+    let fits : P by w = record {
       knows = ([], sym same ∙ sym (append-nil w.history));
-      heard = starts_more k.history v.heard (e ∷ []) (k.each by v at).heard;
+      heard = starts_more k.history v.heard (e ∷ []) mine.heard;
+      as_writer = λ _. (role.0, same);
+      as_monitor = λ r. absurd (cc);
     } in
     let kept : KeepsHistory c (set views by w) = record {
       writer = k.writer;
       monitor = k.monitor;
       loads = k.loads;
       history = now;
-      seen = k.seen;
-      unseen = k.unseen ++ e ∷ [];
-      parts = ap (λ l. l ++ e ∷ []) k.parts ∙ append_assoc k.seen k.unseen (e ∷ []);
-      after = are_after-push k.loads k.unseen e k.after refl;
       value_is = sym (last_or-push zeros (counts_of k.history) c) ∙ ap value_of (sym all);
-      rising = subst IsRising (sym all) rises;
-      each = views_set (Fits k.writer k.monitor k.loads now k.seen) views by w
+      rising = subst IsRising (sym all)
+          (rises-push zeros (counts_of k.history) c k.rising (subst (λ l. NoFieldFalls (value_of (counts_of l)) c) role.1 rise));
+      each = views_set P views by w
           (λ j u apart at_j. let f = k.each j u at_j in record {
-            as_writer = λ r. absurd (apart ((f.as_writer r).one ∙ sym mine.one));
-            as_monitor = λ r. record { one = (f.as_monitor r).one; saw = (f.as_monitor r).saw; counted = (f.as_monitor r).counted };
             knows = starts_more k.history u.history (e ∷ []) f.knows;
             heard = starts_more k.history u.heard (e ∷ []) f.heard;
+            as_writer = λ r. absurd (apart ((f.as_writer r).0 ∙ sym role.0));
+            as_monitor = λ r. let m = f.as_monitor r in (m.0, m.1, are_after-push k.loads f.knows.0 e m.2 refl);
           })
           fits;
     } in
@@ -110,27 +114,16 @@ reads by v is x views k at =
     let mine = k.each by v at in
     let role = mine.as_monitor is in
     let w : View = record v { history = k.history; loads = v.loads + 1 } in
-    let fits : Fits k.writer k.monitor (k.loads + 1) k.history k.history by w = record {
-      as_writer = λ r. record { one = (mine.as_writer r).one; whole = refl };
-      as_monitor = λ _. record { one = role.one; saw = refl; counted = ap (λ n. n + 1) role.counted };
+    let P = Fits k.writer k.monitor (k.loads + 1) k.history in
+    let fits : P by w = record {
       knows = starts_same k.history;
       heard = mine.heard;
+      as_writer = λ r. ((mine.as_writer r).0, refl);
+      as_monitor = λ _. (role.0, ap (λ n. n + 1) role.1, tt);
     } in
-    let kept : KeepsHistory x (set views by w) = record {
-      writer = k.writer;
-      monitor = k.monitor;
-      loads = k.loads + 1;
-      history = k.history;
-      seen = k.history;
-      unseen = [];
-      parts = sym (append-nil k.history);
-      after = tt;
-      value_is = k.value_is;
-      rising = k.rising;
-      each = views_set (Fits k.writer k.monitor (k.loads + 1) k.history k.history) views by w
-          (λ j u apart at_j. not_monitor j k.writer k.monitor (k.loads + 1) k.monitor k.loads k.history k.seen k.history u
-          (λ e. apart (e ∙ sym role.one)) (k.each j u at_j)) fits;
-    } in
+    let kept = keeps_views x views (set views by w) k k.monitor (k.loads + 1) (views_set P views by w
+    (λ j u apart at_j. not_monitor j k.writer k.monitor k.loads k.monitor (k.loads + 1) k.history u (λ e. apart (e ∙ sym role.0)) (k.each j u at_j))
+    fits) in
     let found : FindsEntry v x x w = record {
       writes = refl;
       reads = refl;
@@ -143,97 +136,50 @@ reads by v is x views k at =
     } in
     (w, kept, found)
 
--- the same history, and other views
-keeps_views : (x : Counts) (views views' : List View) (k : KeepsHistory x views) (monitor : ℕ)
-    → ((j : ℕ) (u : View) → get_elem? views' j ≡ some u → Fits k.writer monitor k.loads k.history k.seen j u)
-    → KeepsHistory x views'
-keeps_views x views views' k monitor each = record {
-  writer = k.writer;
-  monitor = monitor;
-  loads = k.loads;
-  history = k.history;
-  seen = k.seen;
-  unseen = k.unseen;
-  parts = k.parts;
-  after = k.after;
-  value_is = k.value_is;
-  rising = k.rising;
-  each = each;
-}
-
 pub parts : (by : ℕ) (v : View) → v.reads ≡ true → Forks KeepsHistory by v (without_reading v) (as_monitor v)
 parts by v is x views k at =
     let left : View = without_reading v in
     let right : View = as_monitor v in
     let kept = set views by left in
-    let monitor = length kept in
     let mine = k.each by v at in
     let role = mine.as_monitor is in
-    let P = Fits k.writer monitor k.loads k.history k.seen in
-    let own : P by left = record {
-      as_writer = λ r. record { one = (mine.as_writer r).one; whole = (mine.as_writer r).whole };
-      as_monitor = λ r. absurd (cc);
-      knows = mine.knows;
-      heard = mine.heard;
-    } in
-    let new : P monitor right = record {
-      as_writer = λ r. absurd (cc);
-      as_monitor = λ _. record { one = refl; saw = role.saw; counted = role.counted };
-      knows = mine.knows;
-      heard = starts_none k.history;
-    } in
-    keeps_views x views (kept ++ right ∷ []) k monitor
-    (views_push P kept right (views_set P views by left
-    (λ j u apart at_j. not_monitor j k.writer k.monitor k.loads monitor k.loads k.history k.seen k.seen u (λ e. apart (e ∙ sym role.one))
-    (k.each j u at_j)) own) new)
-
--- a pass that has no part fits where it knows a beginning
-no_part : (writer monitor loads : ℕ) (history seen : List Stamped) (by : ℕ) (v : View) → v.writes ≡ false
-    → v.reads ≡ false → StartsWith history v.history → StartsWith history v.heard
-    → Fits writer monitor loads history seen by v
-no_part writer monitor loads history seen by v mute blind knows heard = record {
-  as_writer = λ r. absurd (cc);
-  as_monitor = λ r. absurd (cc);
-  knows = knows;
-  heard = heard;
-}
+    let P = Fits k.writer (length kept) k.loads k.history in
+    let own : P by left =
+    record { knows = mine.knows; heard = mine.heard; as_writer = mine.as_writer; as_monitor = λ r. absurd (cc) } in
+    let new : P (length kept) right =
+    record { knows = mine.knows; heard = mine.heard; as_writer = λ r. absurd (cc); as_monitor = λ _. (refl, role.1, role.2) } in
+    keeps_views x views (kept ++ right ∷ []) k (length kept) k.loads (views_push P kept right (views_set P views by left
+    (λ j u apart at_j. not_monitor j k.writer k.monitor k.loads (length kept) k.loads k.history u (λ e. apart (e ∙ sym role.0)) (k.each j u at_j))
+    own) new)
 
 pub tells : (by : ℕ) (v : View) → Forks KeepsHistory by v v (as_told v)
 tells by v x views k at =
-    let P = Fits k.writer k.monitor k.loads k.history k.seen in
-    let own = k.each by v at in
-    let told = no_part k.writer k.monitor k.loads k.history k.seen (length (set views by v)) (as_told v) refl refl own.knows
-    (starts_none k.history) in
-    keeps_views x views (set views by v ++ as_told v ∷ []) k k.monitor
-    (views_push P (set views by v) (as_told v) (λ j u at_j. k.each j u (subst (λ l. get_elem? l j ≡ some u) (set_again views by v at) at_j)) told)
+    let mine = k.each by v at in
+    keeps_views x views (set views by v ++ as_told v ∷ []) k k.monitor k.loads
+    (views_push (Fits k.writer k.monitor k.loads k.history) (set views by v) (as_told v)
+    (λ j u at_j. k.each j u (subst (λ l. get_elem? l j ≡ some u) (set_again views by v at) at_j))
+    (no_part k.writer k.monitor k.loads (length (set views by v)) k.history (as_told v) refl refl mine.knows mine.heard))
 
 pub hears : (by : ℕ) (v : View) (other : ℕ) (u : View) → Merges KeepsHistory by v other u (hearing v u) nobody
 hears by v other u x views k at apart there =
-    let P = Fits k.writer k.monitor k.loads k.history k.seen in
+    let P = Fits k.writer k.monitor k.loads k.history in
     let w : View = hearing v u in
     let mine = k.each by v at in
-    let theirs = ⊎_elim
-    (λ (t : (other ≡ by) × (w ≡ u)). absurd (apart t.0))
-    (λ (t : (other ≢ by) × (get_elem? views other ≡ some u)). k.each other u t.1)
-    (at_set views by other w u there) in
-    let heard : P by w = record {
-      as_writer = λ r. record { one = (mine.as_writer r).one; whole = (mine.as_writer r).whole };
-      as_monitor = λ r. record { one = (mine.as_monitor r).one; saw = (mine.as_monitor r).saw; counted = (mine.as_monitor r).counted };
-      knows = mine.knows;
-      heard = theirs.knows;
-    } in
-    let first = views_set P views by w (λ j y _ e. k.each j y e) heard in
-    let spent = no_part k.writer k.monitor k.loads k.history k.seen other nobody refl refl (starts_none k.history) (starts_none k.history) in
-    keeps_views x views (set (set views by w) other nobody) k k.monitor
-    (views_set P (set views by w) other nobody (λ j y _ e. first j y e) spent)
+    let theirs = k.each other u (sym (set_else views by other w apart) ∙ there) in
+    let none = starts_none k.history in
+    let heard : P by w =
+    record { knows = mine.knows; heard = theirs.knows; as_writer = mine.as_writer; as_monitor = mine.as_monitor } in
+    keeps_views x views (set (set views by w) other nobody) k k.monitor k.loads
+    (views_set P (set views by w) other nobody (λ j y _ e. views_set P views by w (λ j y _ e. k.each j y e) heard j y e)
+    (no_part k.writer k.monitor k.loads other k.history nobody refl refl none none))
 
 pub compares : (by : ℕ) (v : View) → v.writes ≡ true → Turns KeepsHistory by v (λ x. x) Agrees
 compares by v is x views k at =
-    let mine = k.each by v at in
-    let whole = (mine.as_writer is).whole in (
+    let mine = k.each by v at in (
       v,
-      keeps_views x views (set views by v) k k.monitor (λ j u e. k.each j u (subst (λ l. get_elem? l j ≡ some u) (set_again views by v at) e)),
-      record { same = refl; begins = subst (λ l. StartsWith l v.heard) (sym whole) mine.heard },
+      keeps_views x views (set views by v) k k.monitor k.loads
+          (λ j u e. k.each j u (subst (λ l. get_elem? l j ≡ some u) (set_again views by v at) e)),
+      record { same = refl; begins = subst (λ l. StartsWith l v.heard) (sym (mine.as_writer is).1) mine.heard },
     )
 
 -- what publishing adds is the last
@@ -242,7 +188,18 @@ pub adds_entry : (old : View) (before published : Counts) (new : View) → Adds 
 adds_entry old before published new added =
     ap (λ v. counts_of v.history) added.is ∙ counts_of-append old.history (stamped published added.loads ∷ [])
 
-pub adds_value : (old : View) (before published : Counts) (new : View) → Adds old before published new
-    → value_of (counts_of new.history) ≡ published
-adds_value old before published new added =
-    ap value_of (adds_entry old before published new added) ∙ last_or-push zeros (counts_of old.history) published
+-- what a load finds is a reading
+pub reading : (seen : Watched) (cell cell' : TableId) (old new : View) (before found : Counts)
+    → record { cell = cell; history = counts_of old.history; loads = old.loads } ≡ seen → cell' ≡ cell → FindsEntry old before found new
+    → IsReading seen found (record { cell = cell'; history = counts_of new.history; loads = new.loads })
+reading seen cell cell' old new before found is same f =
+    let begins = counts_start new.history old.history f.begins in
+    let after : Watched = record { cell = cell'; history = counts_of new.history; loads = new.loads } in
+    subst (λ (w : Watched). IsReading w found after) is record {
+      cell = same;
+      loads = f.loads;
+      begins = begins;
+      rising = f.rising;
+      value = f.value;
+      above = subst (λ c. NoFieldFalls (value_of (counts_of old.history)) c) (sym f.value) (never_behind _ _ f.rising begins);
+    }

@@ -14,55 +14,35 @@ stamped counts loads = record { counts = counts; loads = loads }
 abbrev pub counts_of : List Stamped → List Counts
 counts_of entries = map (λ e. e.counts) entries
 
--- what the first pass knows: it may write, and make the monitor
-abbrev pub opener : View
-opener = record { writes = true; reads = true; history = []; loads = 0; heard = [] }
-
--- each was published after just so many loads of the monitor
+-- each was published after exactly `loads` loads of the monitor
 abbrev pub AreAfter : ℕ → List Stamped → Type 0
 AreAfter loads [] = Unit {0}
 AreAfter loads (e ∷ es) = (e.loads ≡ loads) × AreAfter loads es
 
-module _ (writer monitor loads : ℕ) (history seen : List Stamped) where
-  -- the writer has one pass, which knows the whole history
-  pub record FitsWriter (pass : ℕ) (v : View) : Type 0 where
-    pub one : pass ≡ writer
-    pub whole : v.history ≡ history
+-- What a pass knows holds. One pass is the writer's and knows the whole history. One is the monitor's and knows the number of
+-- its loads: each entry that it has not seen was published after exactly these, so a load shows all that was published before.
+pub record Fits (writer monitor loads : ℕ) (history : List Stamped) (pass : ℕ) (v : View) : Type 0 where
+  pub knows : StartsWith history v.history
+  pub heard : StartsWith history v.heard
+  pub as_writer : v.writes ≡ true → (pass ≡ writer) × (v.history ≡ history)
+  pub as_monitor : v.reads ≡ true → (pass ≡ monitor) × (v.loads ≡ loads) × AreAfter loads knows.0
 
-  -- the monitor has one pass, which knows what was seen, and the number of its loads
-  pub record FitsMonitor (pass : ℕ) (v : View) : Type 0 where
-    pub one : pass ≡ monitor
-    pub saw : v.history ≡ seen
-    pub counted : v.loads ≡ loads
-
-  -- what a pass knows holds
-  pub record Fits (pass : ℕ) (v : View) : Type 0 where
-    pub as_writer : v.writes ≡ true → FitsWriter pass v
-    pub as_monitor : v.reads ≡ true → FitsMonitor pass v
-    pub knows : StartsWith history v.history
-    pub heard : StartsWith history v.heard
-
--- The cell holds the value of one history. The monitor has seen all that was published before its last load: each
--- entry that it has not seen came after just the loads that it has made.
+-- The cell holds the value of one history.
 pub record KeepsHistory (value : Counts) (views : List View) : Type 0 where
   pub writer : ℕ
   pub monitor : ℕ
   pub loads : ℕ
   pub history : List Stamped
-  pub seen : List Stamped
-  pub unseen : List Stamped
-  pub parts : history ≡ seen ++ unseen
-  pub after : AreAfter loads unseen
   pub value_is : value ≡ value_of (counts_of history)
   pub rising : IsRising (counts_of history)
-  pub each : (pass : ℕ) (v : View) → get_elem? views pass ≡ some v → Fits writer monitor loads history seen pass v
+  pub each : (pass : ℕ) (v : View) → get_elem? views pass ≡ some v → Fits writer monitor loads history pass v
 
 -- the writer adds what it publishes
 pub record Adds (old : View) (before published : Counts) (new : View) : Type 0 where
   pub loads : ℕ
   pub is : new ≡ record old { history = old.history ++ stamped published loads ∷ [] }
 
--- One load more, which found the value of a history that is seen now. It begins with all that was seen, and with all
+-- One more load, which found the value of a history that is seen now. It begins with all that was seen, and with all
 -- that was heard.
 pub record FindsEntry (old : View) (before found : Counts) (new : View) : Type 0 where
   pub writes : new.writes ≡ old.writes
@@ -79,17 +59,21 @@ pub record Agrees (old : View) (before after : Counts) (new : View) : Type 0 whe
   pub same : new ≡ old
   pub begins : StartsWith old.history old.heard
 
+-- what the first pass knows: it may write, and make the monitor
+abbrev pub opener : View
+opener = record { writes = true; reads = true; history = []; loads = 0; heard = [] }
+
 -- the writer, once another pass reads
 abbrev pub without_reading : View → View
 without_reading v = record v { reads = false }
 
 -- the monitor that it makes
 abbrev pub as_monitor : View → View
-as_monitor v = record { writes = false; reads = v.reads; history = v.history; loads = v.loads; heard = [] }
+as_monitor v = record v { writes = false }
 
--- what is told of the history
+-- what is reported of the history
 abbrev pub as_told : View → View
-as_told v = record { writes = false; reads = false; history = v.history; loads = 0; heard = [] }
+as_told v = record v { writes = false; reads = false }
 
 -- the first hears what the second knows
 abbrev pub hearing : View → View → View
@@ -97,4 +81,4 @@ hearing v w = record v { heard = w.history }
 
 -- what a pass knows that no end has
 abbrev pub nobody : View
-nobody = record { writes = false; reads = false; history = []; loads = 0; heard = [] }
+nobody = as_told opener

@@ -1,13 +1,14 @@
-//! The end of the board that publishes.
+//! The end of the board that publishes, and that of one link's cell.
 ghost use Rattle.std.specs.Prelude.{◌≡◌, ◌<◌, length, slice_set};
-ghost use Rattle.status_board.specs.History.{NoFieldFalls};
-ghost use Rattle.status_board.specs.Views.{published, last_of, with_entry};
+ghost use Rattle.status_board.specs.History.{NoFieldFalls, value_of, StartsWith};
+ghost use Rattle.status_board.specs.Views.{published, last_of, with_entry, IsReading};
 
 use crate::counts::Counts;
-use crate::writer::Writer;
+use crate::monitor::Reader;
+use crate::rule::{Cell, Compares, Knowing, Loads, Publishes, Tells};
 use std::boxed::BoxedSlice;
 use std::marker::Model;
-use std::sync::Wait;
+use std::sync::{Arc, Wait};
 
 /// The end of the board that publishes. Contracts see the cell of each link, and its history.
 #[derive(Drop)]
@@ -37,5 +38,66 @@ impl Board {
         ensures links { length self.new ≡ length self.old }
     {
         self.links[link].publish(rt, counts);
+    }
+}
+
+/// The end of one link's cell that publishes. Contracts see its cell and the whole history.
+#[derive(Drop)]
+pub struct Writer {
+    pub(crate) cell: Arc<Cell>,
+    pub(crate) pass: Knowing,
+}
+
+impl Model for Writer {
+    ghost use Rattle.std.specs.Prelude.{◌≡◌, true, false};
+    ghost use Rattle.std.specs.Arc.{arc_value};
+    ghost use Rattle.crossbeam_utils.specs.Seq.{cell_view};
+    ghost use Rattle.status_board.specs.Rule.{counts_of};
+    ghost use Rattle.status_board.specs.Views.{Published};
+
+    ghost Value = { Published };
+
+    ghost view = { λ w. record { cell = w.pass.table_id; history = counts_of (cell_view w.pass).history } };
+
+    ghost invariant = { λ w. (w.pass.table_id ≡ (arc_value w.cell).table.shared.table_id)
+        × ((cell_view w.pass).writes ≡ true) × ((cell_view w.pass).reads ≡ false) };
+}
+
+impl Writer {
+    /// Adds an entry to the history.
+    #[inline(always)]
+    pub fn publish<R: Wait>(&mut self, rt: &R, counts: Counts)
+        requires rising { NoFieldFalls (value_of self.old.history) counts }
+        ensures adds { self.new ≡ with_entry self.old counts }
+        ensures value { value_of self.new.history ≡ counts }
+    {
+        self.cell
+            .swap_as::<Publishes, R>(rt, &mut self.pass, counts);
+    }
+
+    /// Shows that what a reader of the cell has seen begins the history.
+    pub fn compare<R: Wait>(&mut self, rt: &R, reader: &mut Reader)
+        requires same { self.old.cell ≡ reader.old.cell }
+        ensures writer { self.new ≡ self.old }
+        ensures reader { reader.new ≡ reader.old }
+        ensures begins { StartsWith self.old.history reader.old.history }
+    {
+        let told = self.cell.split_pass::<Tells>(&mut reader.pass);
+        self.cell.join_pass::<Tells>(&mut self.pass, told);
+        self.cell.load_as::<Compares, R>(rt, &mut self.pass);
+    }
+
+    /// A reader of the cell hears the whole history, and takes one load, which finds the last entry.
+    pub fn read_last<R: Wait>(&mut self, rt: &R, reader: &mut Reader) -> Counts
+        requires same { self.old.cell ≡ reader.old.cell }
+        ensures writer { self.new ≡ self.old }
+        ensures reading { IsReading reader.old result reader.new }
+        ensures whole { reader.new.history ≡ self.old.history }
+    {
+        let told = self.cell.split_pass::<Tells>(&mut self.pass);
+        self.cell.join_pass::<Tells>(&mut reader.pass, told);
+        let found = self.cell.load_as::<Loads, R>(rt, &mut reader.pass);
+        self.compare(rt, reader);
+        found
     }
 }

@@ -2,14 +2,11 @@
 #![tactic(auto)]
 
 mod board;
-mod cell;
 mod counts;
 pub mod laws;
 mod monitor;
 mod opening;
-mod reader;
 mod rule;
-mod writer;
 
 pub use board::Board;
 pub use counts::Counts;

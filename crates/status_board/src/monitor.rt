@@ -1,12 +1,12 @@
-//! The end of the board that reads.
+//! The end of the board that reads, and that of one link's cell.
 ghost use Rattle.std.specs.Prelude.{◌≡◌, ◌<◌, slice_set};
 ghost use Rattle.status_board.specs.Views.{seen, links_of, IsReading};
 
 use crate::counts::Counts;
-use crate::reader::Reader;
+use crate::rule::{Cell, Knowing, Loads};
 use std::boxed::BoxedSlice;
 use std::marker::Model;
-use std::sync::Wait;
+use std::sync::{Arc, Wait};
 
 /// The end of the board that reads, in any thread. Contracts see the cell of each link, what was seen
 /// of its history, and how many loads were made.
@@ -37,5 +37,42 @@ impl Monitor {
         ensures links { links_of self.new ≡ links_of self.old }
     {
         self.links[link].read(rt)
+    }
+}
+
+/// The end of one link's cell that reads. Contracts see its cell, what it has seen of the history, and how many loads it
+/// has made.
+#[derive(Drop)]
+pub struct Reader {
+    pub(crate) cell: Arc<Cell>,
+    pub(crate) pass: Knowing,
+}
+
+impl Model for Reader {
+    ghost use Rattle.std.specs.Prelude.{◌≡◌, true};
+    ghost use Rattle.std.specs.Arc.{arc_value};
+    ghost use Rattle.crossbeam_utils.specs.Seq.{cell_view};
+    ghost use Rattle.status_board.specs.Rule.{counts_of};
+    ghost use Rattle.status_board.specs.Views.{Watched};
+
+    ghost Value = { Watched };
+
+    ghost view = { λ r. record {
+      cell = r.pass.table_id;
+      history = counts_of (cell_view r.pass).history;
+      loads = (cell_view r.pass).loads;
+    } };
+
+    ghost invariant = { λ r. (r.pass.table_id ≡ (arc_value r.cell).table.shared.table_id)
+        × ((cell_view r.pass).reads ≡ true) };
+}
+
+impl Reader {
+    /// Takes one load, and returns what it found.
+    #[inline(always)]
+    pub fn read<R: Wait>(&mut self, rt: &R) -> Counts
+        ensures { IsReading self.old result self.new }
+    {
+        self.cell.load_as::<Loads, R>(rt, &mut self.pass)
     }
 }

@@ -2,12 +2,10 @@
 ghost use Rattle.std.specs.Prelude.{◌≡◌, length, IfOk};
 ghost use Rattle.status_board.specs.Views.{links_of, AreNew, IsNew};
 
-use crate::board::Board;
+use crate::board::{Board, Writer};
 use crate::counts::Counts;
-use crate::monitor::Monitor;
-use crate::reader::Reader;
+use crate::monitor::{Monitor, Reader};
 use crate::rule::{Cell, Makes};
-use crate::writer::Writer;
 use std::alloc::{AllocError, Global};
 use std::sync::Arc;
 

@@ -1,5 +1,7 @@
 //! The rule of a link's cell: it holds the value of one history, which the writer knows whole, and the
 //! monitor as far as it was published before its last load.
+ghost use Rattle.status_board.specs.Rule.{KeepsHistory, opener, Adds, FindsEntry, Agrees, without_reading, as_monitor, as_told, hearing, nobody};
+
 use crate::counts::Counts;
 use atomic_table::{Join, Split};
 use crossbeam_utils::atomic::seq_cell::{Pass, RuledSeqCell};
@@ -34,8 +36,6 @@ pub struct View {
 pub struct History;
 
 impl Protocol<Counts, View> for History {
-    ghost use Rattle.status_board.specs.Rule.{KeepsHistory, opener};
-
     ghost holds = { KeepsHistory };
 
     ghost first = { opener };
@@ -45,8 +45,6 @@ impl Protocol<Counts, View> for History {
 pub struct Publishes;
 
 impl Outcome<Counts, View> for Publishes {
-    ghost use Rattle.status_board.specs.Rule.{Adds};
-
     ghost then = { Adds };
 }
 
@@ -54,8 +52,6 @@ impl Outcome<Counts, View> for Publishes {
 pub struct Loads;
 
 impl Outcome<Counts, View> for Loads {
-    ghost use Rattle.status_board.specs.Rule.{FindsEntry};
-
     ghost then = { FindsEntry };
 }
 
@@ -63,8 +59,6 @@ impl Outcome<Counts, View> for Loads {
 pub struct Compares;
 
 impl Outcome<Counts, View> for Compares {
-    ghost use Rattle.status_board.specs.Rule.{Agrees};
-
     ghost then = { Agrees };
 }
 
@@ -72,8 +66,6 @@ impl Outcome<Counts, View> for Compares {
 pub struct Makes;
 
 impl Split<View> for Makes {
-    ghost use Rattle.status_board.specs.Rule.{without_reading, as_monitor};
-
     ghost left = { without_reading };
 
     ghost right = { as_monitor };
@@ -83,16 +75,12 @@ impl Split<View> for Makes {
 pub struct Tells;
 
 impl Split<View> for Tells {
-    ghost use Rattle.status_board.specs.Rule.{as_told};
-
     ghost left = { λ v. v };
 
     ghost right = { as_told };
 }
 
 impl Join<View> for Tells {
-    ghost use Rattle.status_board.specs.Rule.{hearing, nobody};
-
     ghost both = { hearing };
 
     ghost spent = { nobody };

@@ -7,7 +7,7 @@ use Rattle.status_board.specs.History.{StartsWith}
 use Rattle.status_board.specs.Rule.{counts_of}
 use Rattle.status_board.proofs.Histories.{counts_start}
 use Rattle.status_board.proofs.Steps.{tells, hears, compares}
-use Rattle.status_board.proofs.writer.Writer.compare.Goals as goal
+use Rattle.status_board.proofs.board.Writer.compare.Goals as goal
 
 pub split_pass-told-requires : goal.split_pass-told-requires
 split_pass-told-requires g c = (search rules, (search rules, (search rules, tells _ _)))
