@@ -8,8 +8,8 @@ use Rattle.vl_shaper.specs.Choices.{Choice, next_turn, IsChosen}
 use Rattle.vl_shaper.specs.Pace.{is_due, turn_of, IsLater}
 use Rattle.vl_shaper.specs.declared.shaper.Stamp.{Stamp}
 use Rattle.vl_shaper.specs.Polls.{Poll, IsServed, AreServed, ArePolled, latest_poll, is_of, HasAtPolls, released_by, PolledInTime}
-use Rattle.vl_shaper.proofs.OneEach.{back, back_lt, turn_cases, turn_lt, ahead, further, not_x}
-use Rattle.vl_shaper.proofs.Waits.{back_self, one_more_round}
+use Rattle.vl_shaper.proofs.OneEach.{back, back_lt, back_self, turn_cases, chosen_behind}
+use Rattle.vl_shaper.proofs.Waits.{one_more_round}
 
 -- what a poll adds to the count
 counted : (x moment : ℕ) (poll : Poll) (polls : List Poll)
@@ -53,11 +53,9 @@ not_due gap subs before x last p xl after idle had = elim (cases_lt p.at (before
   | inr due ↦ absurd (cc (had, idle (due_then gap before p.at last after due) x xl))
 ]
 
--- behind a release the sub-VLs are asked in cyclic order
-behind_release : (subs : ℕ) (l : Stamp) (c : Choice) → IsChosen subs (turn_of subs (Some l)) c
-    → IsChosen subs (next_turn subs l.sub) c
-behind_release subs l c ch =
-    record { turn = ch.turn; within = ch.within; is = ch.is; had = ch.had; before = ch.before }
+-- after a release the sub-VLs are asked in cyclic order
+behind_release : (subs : ℕ) (l : Stamp) (c : Choice) → IsChosen subs (turn_of subs (Some l)) c → IsChosen subs (next_turn subs l.sub) c
+behind_release subs l c ch = ch
 
 -- at first they are asked from 0 on, as behind a release of the last of them
 from_0 : (subs k : ℕ) → k < subs → next_turn subs (subs - 1) k ≡ k
@@ -72,13 +70,6 @@ at_first subs c ch = record {
   had = ch.had;
   before = λ k h. let w = ch.within in ap c.has (from_0 subs k (omega arith)) ∙ ch.before k h;
 }
-
--- what is left of a number after a frame of the sub-VL, or of another one
-less_own : (f : ℕ) (t : Bool) → t ≡ true → suc f - cond t 1 0 ≡ f
-less_own f t is = rw is (omega arith)
-
-less_other : (f : ℕ) (t : Bool) → t ≡ false → suc f - cond t 1 0 ≡ suc f
-less_other f t is = rw is (omega arith)
 
 -- from any poll on: there is still a round for each turn but what is left of the first
 in_time : (polls : List Poll) (subs x l f gap late before polled moment : ℕ) (last : Option Stamp)
@@ -107,41 +98,35 @@ in_time (p ∷ ps) subs x l (suc f) gap late before polled moment last xl ll som
     elim (by_release p.released) [
       | inl is ↦
           let early : p.at < before + gap = not_due gap subs before x last p xl after (rw is at served.0) had in
+          let left : suc f - cond (is_of x p.released) 1 0 ≡ suc f = rw is (omega arith) in
           let rest : suc f ≤ released_by x moment ps =
           in_time ps subs x l (suc f) gap late before p.at moment last xl ll some after order
-          (rw is at served.1) paced.1
-          (rw (less_other f (is_of x p.released) (ap (is_of x) is)) at has.1) early enough reach in
+          (rw is at served.1) paced.1 (rw left at has.1) early enough reach in
           let more = no_less x moment p ps in
           omega arith
       | inr (chosen, is) ↦
-          let c : Choice = record { has = p.has; sub = chosen } in
           let stamp : Stamp = record { at = p.at; sub = chosen } in
           let made : IsServed gap subs last p (Some chosen) = rw is at served.0 in
-          let ch = order c made.1 in
-          let w : ch.turn < subs = ch.within in
-          let below : chosen < subs = rw ch.is (turn_lt subs l ch.turn ll w) in
-          let rest_served : AreServed gap subs (Some stamp) ps = rw is at served.1 in
+          let served' : AreServed gap subs (Some stamp) ps = rw is at served.1 in
+          let to = chosen_behind subs x l (record { has = p.has; sub = chosen }) xl ll (order _ made.1) had in
+          let next = λ (left : ℕ) (fewer : suc (subs * left - back subs x chosen) ≤ subs * suc f - back subs x l) (has' : HasAtPolls x left ps).
+          let one = one_pause (subs * left - back subs x chosen) (subs * suc f - back subs x l) pause fewer in
+          in_time ps subs x chosen left gap late p.at p.at moment (Some stamp) xl to.0 some (omega arith)
+          (behind_release subs stamp) served' paced.1 has' (omega arith) (λ h. omega arith) reach in
           elim (cases_eq chosen x) [
             | inl own ↦
                 let mine : is_of x p.released ≡ true = ap (is_of x) is ∙ eq-eqb chosen x own in
-                let none : back subs x chosen ≡ 0 = ap (back subs x) own ∙ back_self subs x xl in
-                let fewer = one_pause (subs * f - back subs x chosen) (subs * suc f - back subs x l) pause (omega arith) in
-                let rest : f ≤ released_by x moment ps =
-                in_time ps subs x chosen f gap late p.at p.at moment (Some stamp) xl below some (omega arith)
-                (behind_release subs stamp) rest_served paced.1 (rw (less_own f
-                (is_of x p.released) mine) at has.1) (omega arith) (λ h. omega arith) reach in
+                let left : suc f - cond (is_of x p.released) 1 0 ≡ f = rw mine (omega arith) in
+                let none = back_self subs x chosen xl own in
+                let rest : f ≤ released_by x moment ps = next f (omega arith) (rw left at has.1) in
                 let count = counts x moment p ps (omega arith) mine in
                 omega arith
             | inr ne ↦
-                let far : back subs x l < back subs x chosen = rw ch.is
-                (further subs x l ch.turn xl ll w (ahead subs x l ch.turn xl ll w (not_x subs x l c ch had ne))) in
                 let other : is_of x p.released ≡ false = ap (is_of x) is ∙ ne_eqb chosen x ne in
-                let back_c = back_lt subs x chosen xl below in
-                let fewer = one_pause (subs * suc f - back subs x chosen) (subs * suc f - back subs x l) pause (omega arith) in
-                let rest : suc f ≤ released_by x moment ps =
-                in_time ps subs x chosen (suc f) gap late p.at p.at moment (Some stamp) xl below some (omega arith)
-                (behind_release subs stamp) rest_served paced.1 (rw (less_other f
-                (is_of x p.released) other) at has.1) (omega arith) (λ h. omega arith) reach in
+                let left : suc f - cond (is_of x p.released) 1 0 ≡ suc f = rw other (omega arith) in
+                let far = to.1 ne in
+                let near = back_lt subs x chosen xl to.0 in
+                let rest : suc f ≤ released_by x moment ps = next (suc f) (omega arith) (rw left at has.1) in
                 let more = no_less x moment p ps in
                 omega arith
           ]

@@ -1,11 +1,11 @@
 -- Rounds in which every sub-VL has something: the choices that a fragment waits for longest.
 use Rattle.std.proofs.Common.{ℕ, zero, suc, ◌≡◌, ◌≢◌, ◌+◌, ◌-◌, ◌*◌, ◌<◌, ◌≤◌, List, [], ◌∷◌, true, length, arith, refl, ap, ◌∙◌, inl, inr}
-use Rattle.std.proofs.lemmas.Bool.{cases_lt, cases_eq, eq-eqb, ne_eqb}
+use Rattle.std.proofs.lemmas.Bool.{cases_lt}
 use Rattle.std.proofs.lemmas.Nat.{mul-le}
 use Rattle.vl_shaper.specs.Choices.{Choice, next_turn, AreChosen}
 use Rattle.vl_shaper.specs.Latency.{turns_of, HasUntil, BoundIsMet}
-use Rattle.vl_shaper.proofs.OneEach.{back, back_cases, turn_cases, turn_lt, count_yes, count_no}
-use Rattle.vl_shaper.proofs.Waits.{back_self, one_more_round}
+use Rattle.vl_shaper.proofs.OneEach.{back, back_cases, back_self, turn_cases, turn_lt, count_cases}
+use Rattle.vl_shaper.proofs.Waits.{one_more_round}
 
 -- a choice at which every sub-VL had something
 abbrev busy : ℕ → Choice
@@ -54,17 +54,15 @@ few_turns (suc n) subs x l xl ll =
     let cs : List Choice = rounds subs next n in
     let below : next < subs = turn_lt subs l 0 ll (omega arith) in
     let rest : subs * turns_of x cs ≤ n + back subs x next = few_turns n subs x next xl below in
-    elim (cases_eq next x) [
-      | inl e ↦
-          let mine : turns_of x (busy next ∷ cs) ≡ suc (turns_of x cs) = count_yes x (busy next) cs (eq-eqb next x e) in
-          let z : back subs x next ≡ 0 = ap (back subs x) e ∙ back_self subs x xl in
+    elim (count_cases x (busy next) cs) [
+      | inl (e, one, mine) ↦
+          let z = back_self subs x next xl e in
           let b = just_before subs x l xl ll e in
-          let all : subs * turns_of x (busy next ∷ cs) ≡ subs + subs * turns_of x cs =
-          ap (λ (k : ℕ). subs * k) mine ∙ one_more_round subs (turns_of x cs) in
+          let all = ap (λ (k : ℕ). subs * k) mine ∙ one_more_round subs (turns_of x cs) in
           omega arith
-      | inr ne ↦
+      | inr (ne, none, mine) ↦
           let b = one_further subs x l xl ll ne in
-          let all = ap (λ (k : ℕ). subs * k) (count_no x (busy next) cs (ne_eqb next x ne)) in
+          let all = ap (λ (k : ℕ). subs * k) mine in
           omega arith
     ]
 
@@ -75,7 +73,7 @@ bound_is_met_holds subs x (suc f) xl some =
     let n : ℕ = subs * suc f - 1 in
     let m = one_more_round subs f in
     let few : subs * turns_of x (rounds subs x n) ≤ n + back subs x x = few_turns n subs x x xl xl in
-    let z = back_self subs x xl in (
+    let z = back_self subs x x xl refl in (
       rounds subs x n,
       rounds_chosen n subs x xl,
       rounds_have n subs x x (suc f),

@@ -1,49 +1,67 @@
--- How many choices a sub-VL waits for.
-use Rattle.std.proofs.Common.{ℕ, zero, suc, ◌≡◌, ◌+◌, ◌-◌, ◌*◌, ◌<◌, ◌≤◌, List, [], ◌∷◌, true, length, arith, ap, ◌∙◌, inl, inr}
-use Rattle.std.proofs.lemmas.Bool.{cases_eq, eq-eqb, ne_eqb}
+-- How long a sub-VL waits, in choices and by the clock.
+use Rattle.std.proofs.Common.{ℕ, zero, suc, ◌≡◌, ◌+◌, ◌-◌, ◌*◌, ◌<◌, ◌≤◌, List, [], ◌∷◌, length, take, arith, subst, inl, inr}
+use Rattle.std.specs.Prelude.{All}
+use Rattle.std.proofs.lemmas.List.{length-map, take-map, take_all}
+use Rattle.std.proofs.lemmas.List.Elements.{All-cons, All-nil, All-weaker}
 use Rattle.vl_shaper.specs.Choices.{Choice, AreChosen}
-use Rattle.vl_shaper.specs.Latency.{turns_of, HasUntil, QueuedMessage}
-use Rattle.vl_shaper.proofs.OneEach.{back, back_cases, back_lt, turn_lt, ahead, further, not_x, count_yes, count_no}
-
--- x itself lies no way behind x
-pub back_self : (subs x : ℕ) → x < subs → back subs x x ≡ 0
-back_self subs x xl = grind (arith, back_cases subs x x)
+use Rattle.vl_shaper.specs.Latency.{turns_of, HasUntil, QueuedMessage, Release, choices_of, IsPaced, IsBy, InTime}
+use Rattle.vl_shaper.proofs.OneEach.{back, back_lt, back_self, chosen_behind, count_cases}
 
 -- one round more
 pub one_more_round : (s f : ℕ) → s * suc f ≡ s + s * f
 one_more_round s f = omega arith
 
--- more choices than the sub-VLs that are still before x, and a round for each turn but the first
-pub waits : (choices : List Choice) (subs x l f : ℕ) → x < subs → l < subs → AreChosen subs l choices
-    → HasUntil x f choices → subs * f ≤ length choices + back subs x l → f ≤ turns_of x choices
-waits choices subs x l zero xl ll a h enough = omega arith
-waits [] subs x l (suc f) xl ll a h enough =
+-- the first n choices: more than the sub-VLs that are still before x, and a round for each turn but the first
+pub waits : (n : ℕ) (choices : List Choice) (subs x l f : ℕ) → x < subs → l < subs → AreChosen subs l choices → HasUntil x f choices
+    → n ≤ length choices → subs * f ≤ n + back subs x l → f ≤ turns_of x (take n choices)
+waits n choices subs x l zero xl ll a h long enough = omega arith
+waits zero choices subs x l (suc f) xl ll a h long enough =
     absurd (let b = back_lt subs x l xl ll in let m = one_more_round subs f in omega arith)
-waits (c ∷ cs) subs x l (suc f) xl ll a h enough =
-    let ch = a.0 in
-    let w : ch.turn < subs = ch.within in
-    let s : c.sub < subs = rw ch.is (turn_lt subs l ch.turn ll w) in
-    let has : c.has x ≡ true = h.0 (omega arith) in
-    elim (cases_eq c.sub x) [
-      | inl e ↦
-          let one : turns_of x (c ∷ []) ≡ 1 = count_yes x c [] (eq-eqb c.sub x e) in
-          let mine = count_yes x c cs (eq-eqb c.sub x e) in
-          let b = back_lt subs x l xl ll in
-          let z : back subs x c.sub ≡ 0 = ap (back subs x) e ∙ back_self subs x xl in
-          let m = one_more_round subs f in
+waits (suc n) [] subs x l (suc f) xl ll a h long enough = absurd (omega arith)
+waits (suc n) (c ∷ cs) subs x l (suc f) xl ll a h long enough =
+    let to = chosen_behind subs x l c xl ll a.0 (h.0 (omega arith)) in
+    let b = back_lt subs x l xl ll in
+    let m = one_more_round subs f in
+    elim (count_cases x c (take n cs)) [
+      | inl (e, one, mine) ↦
+          let z = back_self subs x c.sub xl e in
           let left : suc f - turns_of x (c ∷ []) ≡ f = omega arith in
-          let rest : f ≤ turns_of x cs = waits cs subs x c.sub f xl s a.1 (rw left at h.1) (omega arith) in
+          let rest : f ≤ turns_of x (take n cs) = waits n cs subs x c.sub f xl to.0 a.1 (rw left at h.1) (omega arith) (omega arith) in
           omega arith
-      | inr ne ↦
-          let none : turns_of x (c ∷ []) ≡ 0 = count_no x c [] (ne_eqb c.sub x ne) in
-          let mine = count_no x c cs (ne_eqb c.sub x ne) in
-          let far : back subs x l < back subs x c.sub = rw ch.is
-          (further subs x l ch.turn xl ll w (ahead subs x l ch.turn xl ll w (not_x subs x l c ch has ne))) in
+      | inr (ne, none, mine) ↦
+          let far = to.1 ne in
           let left : suc f - turns_of x (c ∷ []) ≡ suc f = omega arith in
-          let rest : suc f ≤ turns_of x cs = waits cs subs x c.sub (suc f) xl s a.1 (rw left at h.1) (omega arith) in
+          let rest : suc f ≤ turns_of x (take n cs) = waits n cs subs x c.sub (suc f) xl to.0 a.1 (rw left at h.1) (omega arith) (omega arith) in
           omega arith
     ]
 
 -- the law, from any sub-VL that was served last
 pub queued_message_holds : QueuedMessage
-queued_message_holds subs x last q f choices xl ll a h enough = waits choices subs x last (q + f) xl ll a h (omega arith)
+queued_message_holds subs x last q f choices xl ll a h enough =
+    subst (λ (cs : List Choice). q + f ≤ turns_of x cs) (take_all (length choices) choices (omega arith))
+    (waits (length choices) choices subs x last (q + f) xl ll a h (omega arith) (omega arith))
+
+-- n releases lie within n pauses
+by_then : (n gap late start : ℕ) (releases : List Release) → IsPaced gap late start releases
+    → All (IsBy (start + n * (gap + late))) (take n releases)
+by_then zero gap late start releases p = All-nil (IsBy (start + 0 * (gap + late)))
+by_then (suc n) gap late start [] p = All-nil (IsBy (start + suc n * (gap + late)))
+by_then (suc n) gap late start (r ∷ releases) p =
+    let first = p.0 in
+    let wide = one_more n (gap + late) in
+    All-cons (IsBy (start + suc n * (gap + late))) r (take n releases) (omega arith)
+    (All-weaker (IsBy (r.at + n * (gap + late))) (IsBy (start + suc n * (gap + late))) (λ s h. omega arith)
+    (take n releases) (by_then n gap late r.at releases p.1))
+  where
+    one_more : (n a : ℕ) → suc n * a ≡ a + n * a
+    one_more n a = omega arith
+
+-- the law, by the first releases alone
+pub in_time_holds : InTime
+in_time_holds subs x last q f gap late start releases xl ll chosen has paced enough =
+    let n : ℕ = subs * (q + f) in
+    let long = length-map releases (λ (r : Release). r.choice) in (
+      subst (λ (cs : List Choice). q + f ≤ turns_of x cs) (take-map (λ (r : Release). r.choice) n releases)
+          (waits n (choices_of releases) subs x last (q + f) xl ll chosen has (omega arith) (omega arith)),
+      by_then n gap late start releases paced,
+    )

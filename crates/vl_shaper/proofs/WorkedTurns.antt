@@ -1,11 +1,9 @@
 -- The worked choices and the worked wait, by computation.
-use Rattle.std.proofs.Common.{ℕ, ◌≡◌, ◌≢◌, ◌<◌, ◌≤◌, true, false, [], ◌∷◌, refl, arith}
+use Rattle.std.proofs.Common.{ℕ, ◌≡◌, ◌≢◌, ◌<◌, ◌≤◌, true, refl, arith}
 use Rattle.std.proofs.lemmas.Bool.{ne_eqb}
 use Rattle.std.proofs.lemmas.List.Elements.{All-from_recursion}
 use Rattle.vl_shaper.specs.Choices.{Choice, next_turn, IsChosen, AreChosen}
-use Rattle.vl_shaper.specs.InTime.{choices_of, IsBy}
-use Rattle.vl_shaper.specs.WorkedChoices.{lone_choice, four_choices, ChoosesOneEach, WaitsBehindOne, LeavesOneBehind}
-use Rattle.vl_shaper.specs.WorkedWait.{WaitsFourChoices, ReleasesTooLate, busy_release, four_releases}
+use Rattle.vl_shaper.specs.WorkedChoices.{lone_choice, busy_release, four_choices, ChoosesOneEach, WaitsBehindOne, LeavesOneBehind, WaitsFourChoices, ReleasesTooLate}
 
 -- the sub-VL that is asked first is chosen
 pub first_chosen : (subs : ℕ) (order : ℕ → ℕ) (c : Choice) → 1 ≤ subs → c.sub ≡ order 0 → c.has c.sub ≡ true
@@ -16,15 +14,13 @@ first_chosen subs order c some is had =
 -- the others had nothing, and sub-VL 1 is chosen again
 again : (subs turn : ℕ) → turn < subs → 1 ≡ next_turn subs 1 turn → ((k : ℕ) → k < turn → next_turn subs 1 k ≢ 1)
     → IsChosen subs (next_turn subs 1) lone_choice
-again subs turn within is before =
-    record {
-      turn = turn;
-      within = within;
-      is = is;
-      had = refl;
-      before =
-          λ k h. ne_eqb (next_turn subs 1 k) 1 (before k h);
-    }
+again subs turn within is before = record {
+  turn = turn;
+  within = within;
+  is = is;
+  had = refl;
+  before = λ k h. ne_eqb (next_turn subs 1 k) 1 (before k h);
+}
 
 again_of_three : IsChosen 3 (next_turn 3 1) lone_choice
 again_of_three = again 3 2 (omega arith) refl (λ k h e. omega arith)
@@ -34,70 +30,29 @@ again_of_two = again 2 1 (omega arith) refl (λ k h e. omega arith)
 
 -- the row of one each
 pub chooses_one_each : ChoosesOneEach
-chooses_one_each = record {
-  chosen = (first_chosen _ _ _ (omega arith) refl refl, (first_chosen _ _ _ (omega arith) refl refl, tt));
-  passed = (refl, (λ same. absurd (omega arith)), (refl, (λ same. absurd (omega arith)), tt));
-  once = refl;
-  lone = (first_chosen _ _ _ (omega arith) refl refl, (again_of_three, (again_of_three, (again_of_three, tt))));
-  idle = λ passed. let had : false ≡ true = passed.0 in cc;
-  often = refl;
-}
+chooses_one_each = search (arith, first_chosen, again_of_three)
 
 -- four choices of a link of two
 four_chosen : AreChosen 2 0 four_choices
-four_chosen = (
-  first_chosen _ _ _ (omega arith) refl refl,
-  (
-    first_chosen _ _ _ (omega arith) refl refl,
-    (first_chosen _ _ _ (omega arith) refl refl, (first_chosen _ _ _ (omega arith) refl refl, tt)),
-  ),
-)
+four_chosen = search (arith, first_chosen)
 
 -- the row of a message behind another one
 pub waits_behind_one : WaitsBehindOne
-waits_behind_one = record {
-  chosen = four_chosen;
-  had = ((λ h. refl), ((λ h. refl), ((λ h. refl), ((λ h. refl), tt))));
-  rounds = omega arith;
-  released = omega arith;
-  short = λ enough. absurd (omega arith);
-  left = λ enough. absurd (omega arith);
-  lone = (first_chosen _ _ _ (omega arith) refl refl, (again_of_two, (again_of_two, (again_of_two, tt))));
-  idle = λ had. let first : false ≡ true = had.0 (omega arith) in cc;
-  none = λ enough. absurd (omega arith);
-}
+waits_behind_one = search (arith, first_chosen, again_of_two, four_chosen)
 
 -- the row of one choice fewer
 pub leaves_one_behind : LeavesOneBehind
-leaves_one_behind = record {
-  chosen = (four_chosen.0, (four_chosen.1.0, (four_chosen.1.1.0, tt)));
-  had = ((λ h. refl), ((λ h. refl), ((λ h. refl), tt)));
-  fewer = refl;
-  left = omega arith;
-  none = λ choices is. absurd (omega arith);
-}
-
--- the sub-VLs take turns, whenever the fourth release comes
-take_turns : (moment : ℕ)
-    → AreChosen 2 0 (choices_of (busy_release 1100 1 ∷ busy_release 2100 0 ∷ busy_release 3200 1 ∷ busy_release moment 0 ∷ []))
-take_turns moment = four_chosen
+leaves_one_behind = search (arith, first_chosen)
 
 -- the row of a wait
 pub waits_four_choices : WaitsFourChoices
-waits_four_choices = record {
-  chosen = take_turns 4300;
-  had = ((λ h. refl), ((λ h. refl), ((λ h. refl), ((λ h. refl), tt))));
-  paced = (omega arith, (omega arith, (omega arith, (omega arith, tt))));
-  rounds = omega arith;
-  released = omega arith;
-  by = All-from_recursion (IsBy 4400) four_releases (omega arith, (omega arith, (omega arith, (omega arith, tt))));
-}
+waits_four_choices = search (arith, first_chosen, All-from_recursion)
 
 -- the row of a late release
 pub releases_too_late : ReleasesTooLate
 releases_too_late = record {
-  chosen = take_turns 4500;
-  had = ((λ h. refl), ((λ h. refl), ((λ h. refl), ((λ h. refl), tt))));
+  chosen = search (arith, first_chosen);
+  had = search arith;
   paced = λ paced. let fourth = paced.1.1.1.0 in absurd (omega arith);
   rounds = omega arith;
   by = λ by. let fourth : 4500 ≤ 4400 = by 3 (busy_release 0 0) (omega arith) in absurd (omega arith);

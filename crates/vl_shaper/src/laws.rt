@@ -1,11 +1,9 @@
 //! Laws of the definitions. Their functions do nothing: the contract is the law.
 ghost use Rattle.vl_shaper.specs.Choices.{OneEach};
-ghost use Rattle.vl_shaper.specs.InTime.{InTime};
-ghost use Rattle.vl_shaper.specs.Latency.{BoundIsMet, QueuedMessage};
+ghost use Rattle.vl_shaper.specs.Latency.{BoundIsMet, InTime, QueuedMessage};
 ghost use Rattle.vl_shaper.specs.Polls.{PolledInTime};
-ghost use Rattle.vl_shaper.specs.WorkedChoices.{ChoosesOneEach, LeavesOneBehind, WaitsBehindOne};
+ghost use Rattle.vl_shaper.specs.WorkedChoices.{ChoosesOneEach, LeavesOneBehind, ReleasesTooLate, WaitsBehindOne, WaitsFourChoices};
 ghost use Rattle.vl_shaper.specs.WorkedPolls.{PolledTooLate, ReleasesAtOnce, ServesInTime};
-ghost use Rattle.vl_shaper.specs.WorkedWait.{ReleasesTooLate, WaitsFourChoices};
 
 /// Between two neighbouring choices of a sub-VL that had something at each choice between them,
 /// each other sub-VL is chosen at most once.

@@ -1,4 +1,4 @@
-use Rattle.vl_shaper.proofs.Paced.{in_time_holds}
+use Rattle.vl_shaper.proofs.Waits.{in_time_holds}
 use Rattle.vl_shaper.proofs.WorkedTurns.{waits_four_choices, releases_too_late}
 use Rattle.vl_shaper.proofs.laws.in_time.Goals as goal
 
