@@ -171,27 +171,29 @@ module _ {T : Type 0} where
         let homes' : Homes T = set s.homes i home in
         let seats : length views' ≡ length s.views = length-set s.views id w in let as_long : length homes' ≡ n = length-set s.homes i home in
         record {
-          log = log';
-          freed = freed';
-          late = r.late;
-          closed = r.closed;
-          cells = cells';
-          some_slot = omega arith;
-          few_slots = omega arith;
-          wide = length-set s.words k x ∙ (r.wide ∙ ap (λ (m : ℕ). m + 2) (sym as_long));
+          slots = record {
+            log = log';
+            freed = freed';
+            late = r.late;
+            closed = r.closed;
+            cells = cells';
+            some_slot = omega arith;
+            few_slots = omega arith;
+            wide = length-set s.words k x ∙ (r.wide ∙ ap (λ (m : ℕ). m + 2) (sym as_long));
+            behind = behind;
+            tail_is = tail;
+            none_late = r.none_late;
+            each_cell = rw as_long (λ j l. at_put r.cells i c' (CellOk n freed' log' words' homes') j here (λ other.
+                cell_stays n i r.freed freed' r.log log' s.words words' s.homes homes' j (r.cells j) other moves adds more
+                (get_or-set_other s.words k (j + 2) x 0 (apart j other)) (set_else s.homes i j home other) (r.each_cell j l)));
+          };
           few_seats = omega arith;
-          behind = behind;
           within = omega arith;
           room_is = room ∙ ap (λ (m : ℕ). 2 ^ 32 + m + freed') (sym as_long);
-          tail_is = tail;
-          none_late = r.none_late;
           counted = counted;
           budgeted = budgeted;
           gathered = gathered;
           unmade = λ q le. unmade q (omega arith);
-          each_cell = rw as_long (λ j l. at_put r.cells i c' (CellOk n freed' log' words' homes') j here (λ other.
-              cell_stays n i r.freed freed' r.log log' s.words words' s.homes homes' j (r.cells j) other moves adds more
-              (get_or-set_other s.words k (j + 2) x 0 (apart j other)) (set_else s.homes i j home other) (r.each_cell j l)));
           each_seat = rw seats (each_after s.views id w (λ j d. Fits (length s.views) freed' log' j d d.role) fit others);
           each_hand = rw as_long (each_after s.views id w (λ j d. Knows freed' log' j (cells' (d.at % n)) d.at d.item d.stage) knew (λ j d not e.
               knows_stays r.freed freed' r.log log' j (r.cells (d.at % n)) (cells' (d.at % n)) d.at d.item more

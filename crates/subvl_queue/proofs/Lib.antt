@@ -1,9 +1,6 @@
 pub mod Totals
 pub mod Cells
-pub mod Owned
+pub mod Parts
 pub mod Moves
 pub mod Seats
-pub mod Bytes
 pub mod Senders
-pub mod Parts
-pub mod Places

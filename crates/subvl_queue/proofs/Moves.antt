@@ -8,7 +8,7 @@ use native.Mathlib.Nat.{add-mod_right}
 use native.Mathlib.Decide.{ℕ_discrete, dec_le}
 use lib.ListN.{get_elem?}
 use lib.Seq.{set-get_or}
-use Rattle.std.specs.Prelude.{Option, Some, None}
+use Rattle.std.specs.Prelude.{Option, Some, None, IfSome, bit_or}
 use Rattle.std.proofs.lemmas.List.{take-append-le}
 use Rattle.atomic_table.specs.Table.{step, Act, keeps, takes, gives, Valid, carried_after, stepped, Allows}
 use Rattle.atomic_table.proofs.Lists.{set_here, set_else, at_last, at_longer, one_turn}
@@ -18,11 +18,10 @@ use Rattle.subvl_queue.specs.declared.view.Role.TheVariants.{Sender, Receiver, S
 use Rattle.subvl_queue.specs.declared.view.Stage.{Stage}
 use Rattle.subvl_queue.specs.declared.view.Stage.TheVariants.{Idle, Asked, Refused, Drew, Late, Holding}
 use Rattle.subvl_queue.specs.Queue.{owned, total, hand_of, found_of, wait_of, budget_of, shut_bit, in_hand, in_room, waiting, asks_of, budget, Totals, Gone, Whole, Collects, Busy, Phase, free, writing, full, reading, Cell, holder, shown, InPhase, CellOk, Knows, Fits, Queue}
-use Rattle.subvl_queue.specs.Steps.{Seated, with_ask, idle, drawn, with_look, holding, freed_of, lated, with_glance, with_total, with_all, IfWhole, asks, gives_back, draws, readies, looks, frees, glances_at, closes, gathers}
+use Rattle.subvl_queue.specs.Steps.{Seated, with_ask, idle, drawn, with_look, holding, freed_of, lated, with_glance, with_total, with_all, asks, gives_back, draws, readies, looks, frees, glances_at, closes, gathers}
 use Rattle.subvl_queue.proofs.Totals.{sums, hands_small, rooms_small, total_le, one_less, one_more}
-use Rattle.subvl_queue.proofs.Owned.{owned_mine, owned_other, owned_at, take_next}
+use Rattle.subvl_queue.proofs.Parts.{owned_mine, owned_other, owned_at, take_next}
 use lib.Bits.{or_shifted_r}
-use Rattle.std.specs.Prelude.{bit_or}
 use Rattle.subvl_queue.proofs.Cells.{St, Homes, put_here, knows, fits, holds_none, holds_one, placed, roles_stay, gathers_stay, moved, each_after}
 
 pub calm_at : (st st' : Stage) → st ≡ st' → (Busy st' → ⊥) → Busy st → ⊥
@@ -31,6 +30,11 @@ calm_at st st' e h b = h (subst Busy e b)
 totals_open : (closed : Bool) (a b : ℕ) → closed ≡ false → (o : Option ℕ) → Totals closed a o → Totals closed b o
 totals_open closed a b e None k = k
 totals_open closed a b e (Some t) k = absurd (let shut = k.0 in cc)
+
+-- a place that was drawn lies before the total
+before_total : (closed : Bool) (n p : ℕ) (o : Option ℕ) → p < n → Totals closed n o → IfSome o (λ t. p < t)
+before_total closed n p None below k = tt
+before_total closed n p (Some t) below k = let last = k.1 in omega arith
 
 -- the words from the third on stay
 abbrev Heads : List ℕ → List ℕ → Type 0
@@ -56,26 +60,28 @@ module _ {T : Type 0} where
       → Queue record { words = words'; homes = s.homes; views = set s.views id w }
   quiet s r words' id late' closed' v w at calm kept room tail open' within counted budgeted gathered' fit knew =
       let seats : length (set s.views id w) ≡ length s.views = length-set s.views id w in record {
-        log = r.log;
-        freed = r.freed;
-        late = late';
-        closed = closed';
-        cells = r.cells;
-        some_slot = r.some_slot;
-        few_slots = r.few_slots;
-        wide = kept.0 ∙ r.wide;
+        slots = record {
+          log = r.log;
+          freed = r.freed;
+          late = late';
+          closed = closed';
+          cells = r.cells;
+          some_slot = r.some_slot;
+          few_slots = r.few_slots;
+          wide = kept.0 ∙ r.wide;
+          behind = r.behind;
+          tail_is = tail;
+          none_late = open';
+          each_cell = λ i near. let ok = r.each_cell i near in
+              record { shows = kept.1 i ∙ ok.shows; lies = ok.lies; early = ok.early; late = ok.late; phase = ok.phase };
+        };
         few_seats = omega arith;
-        behind = r.behind;
         within = within;
         room_is = room;
-        tail_is = tail;
-        none_late = open';
         counted = counted;
         budgeted = budgeted;
         gathered = gathered';
         unmade = λ k le. r.unmade k (omega arith);
-        each_cell = λ i near. let ok = r.each_cell i near in
-            record { shows = kept.1 i ∙ ok.shows; lies = ok.lies; early = ok.early; late = ok.late; phase = ok.phase };
         each_seat = rw seats (each_after s.views id w (λ j d. Fits (length s.views) r.freed r.log j d d.role) fit (λ j d _ e. r.each_seat j d e));
         each_hand = each_after s.views id w (λ j d. Knows r.freed r.log j (r.cells (d.at % length s.homes)) d.at d.item d.stage) knew
             (λ j d _ e. r.each_hand j d e);
@@ -223,81 +229,77 @@ module _ {T : Type 0} where
     whole_open log (log ++ x ∷ []) views port here u.all g.2,
   )
 
-  draws_open : (said : Option (ℕ × T)) (x : ℕ × T) (n id : ℕ) (me : Seated T) → said ≡ Some x → x.0 ≡ me.0.port → me.0.role ≡ Sender
-      → me.0.stage ≡ Asked → me.1 ≡ [] → (s : St T) (r : Queue s) → length s.homes ≡ n → get_elem? s.views id ≡ some me.0
-      → get_or s.words 1 0 < 18446744073709551616 → r.closed ≡ false → Goes s 1 id me (draws said (step n 1 1 0 none) me) ((get_or s.words 1 0 + 1) % 2 ^ 64)
-  draws_open said x n id me says mine is was bare s r wide at small shut =
-      let y : ℕ = get_or s.words 1 0 in
-      let y' : ℕ = (y + 1) % 2 ^ 64 in
-      let m : ℕ = length s.homes in let L : ℕ = length r.log in let F : ℕ = r.freed in let i : ℕ = L % m in
-      let none_late = r.none_late shut in
-      let bit : shut_bit r.closed ≡ 0 = ap shut_bit shut in
-      let bound = few_drawn s r in
-      let w = drawn me.0 L x in
-      let log' = r.log ++ x ∷ [] in
-      let longer = length-append r.log (x ∷ []) in
-      let sum = sums s.views id me.0 w Asked Sender Sender at was is is in
-      let more = one_more y (omega arith) in
-      let near : i < m = mod-lt L r.some_slot in
-      let ok = r.each_cell i near in
-      let fr = is_free L m F r.log s.homes i (r.cells i).0 refl r.behind (omega arith) ok.early (sym ok.lies) (r.cells i).1 ok.phase in
-      let keep = get_or-set_other s.words 1 0 y' 0 (omega arith) in
-      let now = get_or-set_same s.words 1 y' 0 (omega arith) in
-      let tail : y ≡ L = omega arith in
-      let f = fits s r id me.0 Sender at is in (
-        w,
-        takes i None,
-        fr.1,
-        moved s r 1 y' i id F log' (L, writing id) none me.0 w at near (omega arith) (omega arith) (omega arith) (omega arith) (omega arith)
-            (gathers_stay s r r.closed log' id me.0 w at refl refl refl refl
-            (λ u at0 g. grows r.closed r.log s.views x me.0.port shut mine
-            (λ gone. let e = sym is ∙ gone me.0 (ap (get_elem? s.views) (sym f.0) ∙ at) in cc) u g))
-            (λ k le. owned_other k 0 r.log x (λ e. let b = placed s.views id me.0 at in omega arith) ∙ r.unmade k le) (omega arith) (inl refl)
-            (inr (omega arith, refl)) (λ _. refl) (λ z u e. at_longer r.log (x ∷ []) z u e) (λ j _ e. omega arith)
-            record {
-              shows = get_or-set_other s.words 1 (i + 2) y' 0 (λ e. omega arith) ∙ ok.shows ∙ (λ k. shown m (sym fr.2 k) (fr.0 k));
-              lies = refl;
-              early = omega arith;
-              late = omega arith;
-              phase = (r.behind, omega arith);
-            }
-            (λ j _ e. suc-ne-zero j (sym e ∙ ap holder fr.0)) (λ j e. (omega arith, tt, refl))
-            (λ z near' _. holds_none s r id me.0 at (calm_at _ _ was (λ b. b)) z near')
-            (subst (Fits (length s.views) F log' id w) (sym is) (
-              f.0,
-              (ap (λ (l : List (ℕ × T)). l ++ (L, x.1) ∷ []) f.1
-                  ∙ sym (owned_mine me.0.port 0 r.log x mine ∙ ap (λ (k : ℕ). owned me.0.port 0 r.log ++ (k, x.1) ∷ []) (zero-add L))),
-              f.2,
-            ))
-            (put_here r.cells i (L, writing id), (x, refl, at_last r.log x L refl))
-            (λ j d other e. other_port (length s.views) F r.log x j id me.0.port d f.0 mine r.behind other d.role (r.each_seat j d e)),
-        ((λ _. (x, says, ap (λ (k : ℕ). drawn me.0 k x) (sym tail), (λ k. ((sym tail k) % (wide k), None) ∷ bare k))), λ big. absurd (omega arith)),
-      )
-
-  draws_late : (said : Option (ℕ × T)) (x : ℕ × T) (n id : ℕ) (me : Seated T) → said ≡ Some x → x.0 ≡ me.0.port → me.0.role ≡ Sender
-      → me.0.stage ≡ Asked → me.1 ≡ [] → (s : St T) (r : Queue s) → length s.homes ≡ n → get_elem? s.views id ≡ some me.0
-      → get_or s.words 1 0 < 18446744073709551616 → r.closed ≡ true → Goes s 1 id me (draws said (step n 1 1 0 none) me) ((get_or s.words 1 0 + 1) % 2 ^ 64)
-  draws_late said x n id me says mine is was bare s r wide at small shut =
-      let y : ℕ = get_or s.words 1 0 in
-      let y' : ℕ = (y + 1) % 2 ^ 64 in
-      let bit : shut_bit r.closed ≡ 2 ^ 63 = ap shut_bit shut in
-      let bound = few_drawn s r in
-      let more = one_more y (omega arith) in
-      let keep = get_or-set_other s.words 1 0 y' 0 (omega arith) in
-      let now = get_or-set_same s.words 1 y' 0 (omega arith) in (
-        lated me.0,
-        keeps,
-        tt,
-        sends s r (set s.words 1 y') id (suc r.late) me.0 Asked Late me.0.asks me.0.load me.0.glances true at is was (λ z. z)
-            (heads s.words 1 y' (omega arith)) (omega arith) (omega arith) (λ e. absurd (cc)) (omega arith) (omega arith) (λ z. z) tt,
-        ((λ lt. absurd (omega arith)), λ _. (refl, bare)),
-      )
-
+  -- a place is drawn: for the message, or too late where the queue is closed
   pub draws_ok : (said : Option (ℕ × T)) (x : ℕ × T) (n id : ℕ) (me : Seated T) → said ≡ Some x → x.0 ≡ me.0.port → me.0.role ≡ Sender
       → me.0.stage ≡ Asked → me.1 ≡ []
       → Allows Queue n id me 1 (λ y. (y + 1) % 2 ^ 64) (draws said (step n 1 1 0 none) me)
-  draws_ok said x n id me says mine is was bare s r wide at small = ⊎_elim (draws_late said x n id me says mine is was bare s r wide at small)
-      (draws_open said x n id me says mine is was bare s r wide at small) (cases_Bool r.closed)
+  draws_ok said x n id me says mine is was bare s r wide at small = ⊎_elim too_late accepted (cases_Bool r.closed)
+    where
+      accepted : r.closed ≡ false → Goes s 1 id me (draws said (step n 1 1 0 none) me) ((get_or s.words 1 0 + 1) % 2 ^ 64)
+      accepted shut =
+          let y : ℕ = get_or s.words 1 0 in
+          let y' : ℕ = (y + 1) % 2 ^ 64 in
+          let m : ℕ = length s.homes in let L : ℕ = length r.log in let F : ℕ = r.freed in let i : ℕ = L % m in
+          let none_late = r.none_late shut in
+          let bit : shut_bit r.closed ≡ 0 = ap shut_bit shut in
+          let bound = few_drawn s r in
+          let w = drawn me.0 L x in
+          let log' = r.log ++ x ∷ [] in
+          let longer = length-append r.log (x ∷ []) in
+          let sum = sums s.views id me.0 w Asked Sender Sender at was is is in
+          let more = one_more y (omega arith) in
+          let near : i < m = mod-lt L r.some_slot in
+          let ok = r.each_cell i near in
+          let fr = is_free L m F r.log s.homes i (r.cells i).0 refl r.behind (omega arith) ok.early (sym ok.lies) (r.cells i).1 ok.phase in
+          let keep = get_or-set_other s.words 1 0 y' 0 (omega arith) in
+          let now = get_or-set_same s.words 1 y' 0 (omega arith) in
+          let tail : y ≡ L = omega arith in
+          let f = fits s r id me.0 Sender at is in (
+            w,
+            takes i None,
+            fr.1,
+            moved s r 1 y' i id F log' (L, writing id) none me.0 w at near (omega arith) (omega arith) (omega arith) (omega arith) (omega arith)
+                (gathers_stay s r r.closed log' id me.0 w at refl refl refl refl
+                (λ u at0 g. grows r.closed r.log s.views x me.0.port shut mine
+                (λ gone. let e = sym is ∙ gone me.0 (ap (get_elem? s.views) (sym f.0) ∙ at) in cc) u g))
+                (λ k le. owned_other k 0 r.log x (λ e. let b = placed s.views id me.0 at in omega arith) ∙ r.unmade k le) (omega arith) (inl refl)
+                (inr (omega arith, refl)) (λ _. refl) (λ z u e. at_longer r.log (x ∷ []) z u e) (λ j _ e. omega arith)
+                record {
+                  shows = get_or-set_other s.words 1 (i + 2) y' 0 (λ e. omega arith) ∙ ok.shows ∙ (λ k. shown m (sym fr.2 k) (fr.0 k));
+                  lies = refl;
+                  early = omega arith;
+                  late = omega arith;
+                  phase = (r.behind, omega arith);
+                }
+                (λ j _ e. suc-ne-zero j (sym e ∙ ap holder fr.0)) (λ j e. (omega arith, tt, refl))
+                (λ z near' _. holds_none s r id me.0 at (calm_at _ _ was (λ b. b)) z near')
+                (subst (Fits (length s.views) F log' id w) (sym is) (
+                  f.0,
+                  (ap (λ (l : List (ℕ × T)). l ++ (L, x.1) ∷ []) f.1
+                      ∙ sym (owned_mine me.0.port 0 r.log x mine ∙ ap (λ (k : ℕ). owned me.0.port 0 r.log ++ (k, x.1) ∷ []) (zero-add L))),
+                  f.2,
+                ))
+                (put_here r.cells i (L, writing id), (x, refl, at_last r.log x L refl))
+                (λ j d other e. other_port (length s.views) F r.log x j id me.0.port d f.0 mine r.behind other d.role (r.each_seat j d e)),
+            ((λ _. (x, says, ap (λ (k : ℕ). drawn me.0 k x) (sym tail), (λ k. ((sym tail k) % (wide k), None) ∷ bare k))), λ big. absurd (omega arith)),
+          )
+
+      too_late : r.closed ≡ true → Goes s 1 id me (draws said (step n 1 1 0 none) me) ((get_or s.words 1 0 + 1) % 2 ^ 64)
+      too_late shut =
+          let y : ℕ = get_or s.words 1 0 in
+          let y' : ℕ = (y + 1) % 2 ^ 64 in
+          let bit : shut_bit r.closed ≡ 2 ^ 63 = ap shut_bit shut in
+          let bound = few_drawn s r in
+          let more = one_more y (omega arith) in
+          let keep = get_or-set_other s.words 1 0 y' 0 (omega arith) in
+          let now = get_or-set_same s.words 1 y' 0 (omega arith) in (
+            lated me.0,
+            keeps,
+            tt,
+            sends s r (set s.words 1 y') id (suc r.late) me.0 Asked Late me.0.asks me.0.load me.0.glances true at is was (λ z. z)
+                (heads s.words 1 y' (omega arith)) (omega arith) (omega arith) (λ e. absurd (cc)) (omega arith) (omega arith) (λ z. z) tt,
+            ((λ lt. absurd (omega arith)), λ _. (refl, bare)),
+          )
 
   pub readies_ok : (n id : ℕ) (me : Seated T) (k new : ℕ) → me.0.role ≡ Sender → me.0.stage ≡ Drew → me.1 ≡ (me.0.at % n, me.0.item) ∷ []
       → k ≡ me.0.at % n + 2 → new ≡ me.0.at + 1
@@ -350,7 +352,7 @@ module _ {T : Type 0} where
   is_ready m F log homes i q pos early (reading j) idle_cell e k = absurd (idle_cell (ap reading k.2))
 
   if_whole : (log : List (ℕ × T)) (views : List (View T)) (F : List (ℕ × T) → Type 0) → (o : Option (List (ℕ × T))) → Whole log views o
-      → (((j : ℕ) → Gone views (suc j)) → F log) → IfWhole o F
+      → (((j : ℕ) → Gone views (suc j)) → F log) → IfSome o F
   if_whole log views F None k h = tt
   if_whole log views F (Some l) k h = subst F (sym k.0) (h k.1)
 
@@ -415,13 +417,15 @@ module _ {T : Type 0} where
         (
           (λ _. (
             x,
-            record {
-              few = omega arith;
-              port = lt_of_not-le (λ le. owned_at x.0 0 r.log p x logged refl (r.unmade x.0 (omega arith)));
-              below = λ t e. (let known : Totals r.closed L (Some t) = subst (Totals r.closed L) e gath.0 in let last = known.1 in omega arith);
-              holds = λ z. (w, (p % wide z, Some x) ∷ bare z);
-              listed = if_whole r.log s.views (λ l. (p < length l) × (get_elem? l p ≡ some x)) me.0.all gath.2 (λ _. (below, logged));
-            },
+            (
+              record {
+                few = omega arith;
+                port = lt_of_not-le (λ le. owned_at x.0 0 r.log p x logged refl (r.unmade x.0 (omega arith)));
+                below = before_total r.closed L p me.0.total below gath.0;
+                listed = if_whole r.log s.views (λ l. (p < length l) × (get_elem? l p ≡ some x)) me.0.all gath.2 (λ _. (below, logged));
+              },
+              λ z. (w, (p % wide z, Some x) ∷ bare z),
+            ),
           )),
           λ miss. absurd (miss hit),
         ),

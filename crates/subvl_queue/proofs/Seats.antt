@@ -11,8 +11,7 @@ use Rattle.subvl_queue.specs.declared.view.Role.{Role}
 use Rattle.subvl_queue.specs.declared.view.Role.TheVariants.{Sender, Receiver, Spent}
 use Rattle.subvl_queue.specs.declared.view.Stage.TheVariants.{Idle}
 use Rattle.subvl_queue.specs.Queue.{owned, Gone, Whole, Collects, free, Knows, Fits, Queue}
-use Rattle.subvl_queue.specs.Start.{first_view, new_seat, spent_view}
-use Rattle.subvl_queue.specs.Steps.{one_made, with_joined}
+use Rattle.subvl_queue.specs.Steps.{first_view, new_seat, spent_view, one_made, with_joined}
 use Rattle.subvl_queue.proofs.Totals.{sums, sums_end}
 use Rattle.subvl_queue.proofs.Cells.{fits, holds_none, each_after}
 use Rattle.subvl_queue.proofs.Moves.{calm_at}
@@ -45,29 +44,31 @@ module _ {T : Type 0} where
       → ((i : ℕ) → i < c → get_or ws (i + 2) 0 ≡ 0) → Queue (opening ws (replicate {A = Option (ℕ × T)} c None) first_view)
   starts_ok ws c pos few wide room tail ready = let homes = map some (replicate {A = Option (ℕ × T)} c None) in
       let n : ℕ = length homes in let is : n ≡ c = length-map (replicate {A = Option (ℕ × T)} c None) some ∙ length-replicate c None in record {
-        log = [];
-        freed = 0;
-        late = 0;
-        closed = false;
-        cells = λ i. (i, free);
-        some_slot = omega arith;
-        few_slots = omega arith;
-        wide = omega arith;
+        slots = record {
+          log = [];
+          freed = 0;
+          late = 0;
+          closed = false;
+          cells = λ i. (i, free);
+          some_slot = omega arith;
+          few_slots = omega arith;
+          wide = omega arith;
+          behind = omega arith;
+          tail_is = tail;
+          none_late = λ _. refl;
+          each_cell = λ i near. let near' : i < n = near in record {
+            shows = ready i (omega arith) ∙ (let g : 0 ≡ suc i - n = omega arith in g);
+            lies = mod-eq_of_lt near;
+            early = omega arith;
+            late = omega arith;
+            phase = (omega arith, blank c i (omega arith));
+          };
+        };
         few_seats = omega arith;
-        behind = omega arith;
         within = omega arith;
         room_is = omega arith;
-        tail_is = tail;
-        none_late = λ _. refl;
         counted = omega arith;
         budgeted = omega arith;
-        each_cell = λ i near. let near' : i < n = near in record {
-          shows = ready i (omega arith) ∙ (let g : 0 ≡ suc i - n = omega arith in g);
-          lies = mod-eq_of_lt near;
-          early = omega arith;
-          late = omega arith;
-          phase = (omega arith, blank c i (omega arith));
-        };
         each_seat = λ j v e. let o = only first_view v j e in subst (λ (d : View T). Fits 1 0 [] j d d.role) o.1 (o.0, refl, refl, refl);
         each_hand = λ j v e. let o = only first_view v j e in subst (λ (d : View T). Knows 0 [] j (d.at % n, free) d.at d.item d.stage) o.1 tt;
         unmade = λ k le. refl;
@@ -98,23 +99,12 @@ module _ {T : Type 0} where
       let Fit = λ (j : ℕ) (d : View T). Fits (suc (length s.views)) r.freed r.log j d d.role in
       let Know = λ (j : ℕ) (d : View T). Knows r.freed r.log j (r.cells (d.at % n)) d.at d.item d.stage in
       record {
-        log = r.log;
-        freed = r.freed;
-        late = r.late;
-        closed = r.closed;
-        cells = r.cells;
-        some_slot = r.some_slot;
-        few_slots = r.few_slots;
-        wide = r.wide;
+        slots = r.slots;
         few_seats = omega arith;
-        behind = r.behind;
         within = omega arith;
         room_is = omega arith;
-        tail_is = r.tail_is;
-        none_late = r.none_late;
         counted = omega arith;
         budgeted = omega arith;
-        each_cell = r.each_cell;
         each_seat = rw seats (each_end vs k Fit (long ∙ f.3, sym (r.unmade v.made (omega arith)), omega arith) (each_after s.views id l Fit
             (subst (Fits (suc (length s.views)) r.freed r.log id l) (sym is) (f.0, f.1, f.2, omega arith))
             (λ j d not e. fits_more (length s.views) r.freed r.log j d (λ z. not (z ∙ sym f.0)) d.role (r.each_seat j d e))));
@@ -154,23 +144,12 @@ module _ {T : Type 0} where
       let gone : (j : ℕ) → Gone s.views (suc j) → Gone vs' (suc j) = λ j g d e. each (λ q y. q ≡ suc j → y.role ≡ Spent) (λ _. refl)
       (λ z. absurd (omega arith)) (λ q y _ _ e' z. g y (ap (get_elem? s.views) (sym z) ∙ e')) (suc j) d e refl in
       record {
-        log = r.log;
-        freed = r.freed;
-        late = r.late;
-        closed = r.closed;
-        cells = r.cells;
-        some_slot = r.some_slot;
-        few_slots = r.few_slots;
-        wide = r.wide;
+        slots = r.slots;
         few_seats = omega arith;
-        behind = r.behind;
         within = omega arith;
         room_is = omega arith;
-        tail_is = r.tail_is;
-        none_late = r.none_late;
         counted = omega arith;
         budgeted = omega arith;
-        each_cell = r.each_cell;
         each_seat = rw seats (each (λ q y. Fits (length s.views) r.freed r.log q y y.role) (refl, refl)
             (subst (Fits (length s.views) r.freed r.log id u) (sym is) f) (λ j d _ _ e. r.each_seat j d e));
         each_hand = each (λ q y. Knows r.freed r.log q (r.cells (y.at % n)) y.at y.item y.stage) tt (r.each_hand id v at)

@@ -1,21 +1,18 @@
 -- The list of the senders, and what the receiver has of it.
 use Rattle.std.proofs.Common.{◌≡◌, ℕ, zero, suc, ◌+◌, ◌<◌, ◌≤◌, List, [], ◌∷◌, ◌++◌, length, take, drop, get_or, sym, refl, ap, ◌∙◌, subst, arith, length-append}
-use Rattle.std.proofs.lemmas.List.{take-append-drop}
-use Rattle.std.proofs.lemmas.List.Elements.{All-contains, Contains-append_right}
-use Rattle.std.specs.Prelude.{map, All, Contains, Option, Some}
+use Rattle.std.proofs.lemmas.List.{take-append-drop, map-append}
+use Rattle.std.proofs.lemmas.List.Elements.{Contains-append_right}
+use Rattle.std.specs.Prelude.{map, Contains, Option, Some, IfSome}
 use Rattle.atomic_table.proofs.Lists.{drop_at}
 use mathlib.Core.Option.{some}
 use lib.ListN.{get_elem?}
 use Rattle.subvl_queue.specs.declared.item.Message.{Message}
 use Rattle.subvl_queue.specs.declared.view.View.{View}
-use Rattle.subvl_queue.specs.Bytes.{items_of, own_of, places_of}
-use Rattle.subvl_queue.specs.Gathers.{IsGathered, whole, brought_of, brought_back}
+use Rattle.subvl_queue.specs.Gathers.{items_of, own_of, places_of, IsGathered, whole, brought_of, brought_back}
 use Rattle.subvl_queue.specs.Queue.{owned}
-use Rattle.subvl_queue.specs.Steps.{IsLog, IfWhole, with_all, holding, freed_of}
+use Rattle.subvl_queue.specs.Steps.{IsLog, with_all, holding, freed_of}
 use Rattle.subvl_queue.specs.Views.{SenderView, Brought, HasPort, HasEvery, IsBack, AreBack, IsWhole, brought_by, brought_by_all}
-use Rattle.subvl_queue.proofs.Bytes.{part_is, places_are, items_append}
-use Rattle.subvl_queue.proofs.Owned.{take_next}
-use Rattle.subvl_queue.proofs.Places.{stand_at}
+use Rattle.subvl_queue.proofs.Parts.{part_is, places_are, take_next, stand_at}
 
 -- where none was found, no sender of the port is there
 pub none_there : (senders : List SenderView) (n p : ℕ) → length senders ≤ n → ((k : ℕ) (d : SenderView) → k < n → (get_or senders k d).port ≡ p → ⊥)
@@ -47,17 +44,17 @@ brought_has (s ∷ ss) p (suc k) lt is = let r = brought_has ss p k (omega arith
 pub all_brought : (senders : List SenderView) (ports : ℕ) → HasEvery ports senders → AreBack ports (brought_by_all senders)
 all_brought senders ports every p lt = let there = every p lt in brought_has senders p there.0 there.1 there.2
 
--- who is back among some is back among more
-pub back_among : (few more : List Brought) (ports : ℕ) → All (Contains more) few → AreBack ports few → AreBack ports more
-back_among few more ports all every p lt = let there = every p lt in (there.0, All-contains (Contains more) few there.0 all there.1, there.2)
+-- who is back among the last is back among all
+pub back_among : (before last : List Brought) (ports : ℕ) → AreBack ports last → AreBack ports (before ++ last)
+back_among before last ports every p lt = let there = every p lt in (there.0, Contains-append_right before last there.0 there.1, there.2)
 
--- what is whole by more senders is whole by some, if no port is missing
-pub whole_by : (few more : List Brought) (ports : ℕ) (l : List (ℕ × List ℕ)) → All (Contains more) few → AreBack ports few → IsWhole ports more l
-    → IsWhole ports few l
-whole_by few more ports l all every known = record {
+-- what is whole by all is whole by the last, if no port is missing
+pub whole_by : (before last : List Brought) (ports : ℕ) (l : List (ℕ × List ℕ)) → AreBack ports last → IsWhole ports (before ++ last) l
+    → IsWhole ports last l
+whole_by before last ports l every known = record {
   every = every;
-  parts = λ b inside. known.parts b (All-contains (Contains more) few b all inside);
-  places = λ b inside. known.places b (All-contains (Contains more) few b all inside);
+  parts = λ b inside. known.parts b (Contains-append_right before last b inside);
+  places = λ b inside. known.places b (Contains-append_right before last b inside);
   no_more = known.no_more;
 }
 
@@ -86,29 +83,18 @@ is_whole slots ports v l every log made =
     }
 
 -- the log is what was taken and what is left
-pub accepted_is : (slots n : ℕ) (v w : View Message) (l : List (ℕ × Message)) (taken left : List (ℕ × List ℕ)) → IsLog slots v l
-    → n ≡ length v.taken → w ≡ with_all v l → taken ≡ items_of w.taken → left ≡ items_of (drop n (whole w)) → items_of l ≡ taken ++ left
-accepted_is slots n v w l taken left log counted is t f = sym (
-    (λ k. (t ∙ ap (λ (u : View Message). items_of u.taken) is) k ++ (f ∙ ap (λ (u : View Message). items_of (drop n (whole u))) is) k)
-    ∙ items_append v.taken (drop n l)
+pub accepted_is : (slots n : ℕ) (v w : View Message) (l : List (ℕ × Message)) → IsLog slots v l → n ≡ length v.taken → w ≡ with_all v l
+    → items_of l ≡ items_of w.taken ++ items_of (drop n (whole w))
+accepted_is slots n v w l log counted is = sym (
+    ap (λ (u : View Message). items_of u.taken ++ items_of (drop n (whole u))) is
+    ∙ sym (map-append (λ (x : ℕ × Message). (x.0, x.1.bytes.items)) v.taken (drop n l))
     ∙ ap (λ (z : List (ℕ × Message)). items_of (z ++ drop n l)) (log.begins ∙ ap (λ (m : ℕ). take m l) (sym counted))
     ∙ ap items_of (take-append-drop n l))
 
-pub is_gathered : (slots taken total : ℕ) (v w : View Message) (l : List (ℕ × Message)) → w ≡ with_all v l → IsLog slots v l → taken ≡ length v.taken
-    → total ≡ length l → IsGathered taken total w
-is_gathered slots taken total v w l is log counted total_is = subst (λ (u : View Message). IsGathered taken total u) (sym is) record {
-  all = refl;
-  begins = log.begins ∙ ap (λ (n : ℕ). take n l) (sym counted);
-  counted = counted;
-  total_is = total_is;
-  behind = (let b = log.behind in omega arith);
-  few = (let b = log.few in omega arith);
-}
-
 -- what is listed next
 pub next_listed : (taken : ℕ) (v : View Message) (x : ℕ × Message) → v.all ≡ Some (whole v)
-    → IfWhole v.all (λ l. (taken < length l) × (get_elem? l taken ≡ some x)) → (taken < length (whole v)) × (get_elem? (whole v) taken ≡ some x)
-next_listed taken v x e = subst (λ (o : Option (List (ℕ × Message))). IfWhole o (λ l. (taken < length l) × (get_elem? l taken ≡ some x))) e
+    → IfSome v.all (λ l. (taken < length l) × (get_elem? l taken ≡ some x)) → (taken < length (whole v)) × (get_elem? (whole v) taken ≡ some x)
+next_listed taken v x e = subst (λ (o : Option (List (ℕ × Message))). IfSome o (λ l. (taken < length l) × (get_elem? l taken ≡ some x))) e
 
 -- the next of it was taken
 pub goes_on : (taken next total : ℕ) (v w : View Message) (x : ℕ × Message) → IsGathered taken total v → w ≡ freed_of (holding v taken x) x

@@ -1,9 +1,20 @@
--- What taking back the senders leaves.
+-- Messages as bytes alone, and what taking back the senders leaves.
 use Rattle.std.specs.Prelude.{◌≡◌, ℕ, ◌^◌, ◌≤◌, List, [], take, length, map, Option, Some, None}
 use Rattle.subvl_queue.specs.declared.item.Message.{Message}
 use Rattle.subvl_queue.specs.declared.view.View.{View}
-use Rattle.subvl_queue.specs.Bytes.{own_of, places_of}
 use Rattle.subvl_queue.specs.Views.{Brought}
+
+-- each message with its port
+abbrev pub items_of : List (ℕ × Message) → List (ℕ × List ℕ)
+items_of = map (λ x. (x.0, x.1.bytes.items))
+
+-- the messages of a sender's list, without their places
+abbrev pub own_of : List (ℕ × Message) → List (List ℕ)
+own_of = map (λ x. x.1.bytes.items)
+
+-- the places of a sender's list
+abbrev pub places_of : List (ℕ × Message) → List ℕ
+places_of = map (λ x. x.0)
 
 -- what a sender brought whose list has joined
 abbrev pub brought_of : ℕ × List (ℕ × Message) → Brought

@@ -26,30 +26,22 @@ total f (x ∷ xs) = f x + total f xs
 
 -- an ask that met neither an accept nor an undo
 abbrev pub hand_of : Stage → ℕ
-hand_of Idle = 0
 hand_of Asked = 1
 hand_of Refused = 1
-hand_of Drew = 0
 hand_of Late = 1
-hand_of Holding = 0
+hand_of stage = 0
 
 -- an ask in hand that found room
 abbrev pub found_of : Stage → ℕ
-found_of Idle = 0
 found_of Asked = 1
-found_of Refused = 0
-found_of Drew = 0
 found_of Late = 1
-found_of Holding = 0
+found_of stage = 0
 
 -- an ask in hand that has not drawn
 abbrev pub wait_of : Stage → ℕ
-wait_of Idle = 0
 wait_of Asked = 1
 wait_of Refused = 1
-wait_of Drew = 0
-wait_of Late = 0
-wait_of Holding = 0
+wait_of stage = 0
 
 -- the asks that a seat may have made and may still make
 abbrev pub budget_of : ℕ → ℕ → Role → ℕ
@@ -63,12 +55,9 @@ shut_bit true = 2 ^ 63
 shut_bit false = 0
 
 abbrev pub Busy : Stage → Type 0
-Busy Idle = ⊥
-Busy Asked = ⊥
-Busy Refused = ⊥
 Busy Drew = Unit {0}
-Busy Late = ⊥
 Busy Holding = Unit {0}
+Busy stage = ⊥
 
 -- the slot of a place: not yet drawn, drawn by a seat, ready, or held by the receiver's seat
 pub data Phase : Type 0 where
@@ -137,12 +126,9 @@ module _ {T : Type 0} where
 
   module _ (freed : ℕ) (log : List (ℕ × T)) (j : ℕ) (c : Cell) (at : ℕ) (item : Option (ℕ × T)) where
     abbrev pub Knows : Stage → Type 0
-    Knows Idle = Unit {0}
-    Knows Asked = Unit {0}
-    Knows Refused = Unit {0}
     Knows Drew = Has log c (writing j) at item
-    Knows Late = Unit {0}
     Knows Holding = Has log c (reading j) at item × (at ≡ freed)
+    Knows stage = Unit {0}
 
   -- Seat 0 is the receiver's, and seat k + 1 that of the port k
   module _ (seats freed : ℕ) (log : List (ℕ × T)) (j : ℕ) (v : View T) where
@@ -166,27 +152,31 @@ module _ {T : Type 0} where
   abbrev pub Collects : Bool → List (ℕ × T) → List (View T) → View T → Type 0
   Collects closed log views u = Totals closed (length log) u.total × Joined log views u.joined × Whole log views u.all
 
-  pub record Queue (s : State (Option (ℕ × T)) (View T)) : Type 0 where
+  -- the part of the rule that names no seat
+  pub record Slots (words : List ℕ) (homes : List (maybe.Option (Option (ℕ × T)))) : Type 0 where
     pub log : List (ℕ × T)
     pub freed : ℕ
     -- places that were drawn after the close
     pub late : ℕ
     pub closed : Bool
     pub cells : ℕ → Cell
-    pub some_slot : 0 < length s.homes
-    pub few_slots : length s.homes ≤ 256
-    pub wide : length s.words ≡ length s.homes + 2
-    pub few_seats : length s.views ≤ 65
+    pub some_slot : 0 < length homes
+    pub few_slots : length homes ≤ 256
+    pub wide : length words ≡ length homes + 2
     pub behind : freed ≤ length log
+    pub tail_is : slice_index_or words 1 0 ≡ length log + late + shut_bit closed
+    pub none_late : closed ≡ false → late ≡ 0
+    pub each_cell : (i : ℕ) → i < length homes → CellOk (length homes) freed log words homes i (cells i)
+
+  pub record Queue (s : State (Option (ℕ × T)) (View T)) : Type 0 where
+    pub slots : Slots s.words s.homes
+    pub open slots use *
+    pub few_seats : length s.views ≤ 65
     -- held messages and asks that found room are within the capacity
     pub within : length log + total in_room s.views ≤ freed + length s.homes
     pub room_is : slice_index_or s.words 0 0 + length log + total in_hand s.views ≡ 2 ^ 32 + length s.homes + freed
-    pub tail_is : slice_index_or s.words 1 0 ≡ length log + late + shut_bit closed
-    pub none_late : closed ≡ false → late ≡ 0
     pub counted : length log + late + total waiting s.views ≤ total asks_of s.views
     pub budgeted : total budget s.views ≤ 64 * 2 ^ 40
-    pub each_cell : (i : ℕ) → i < length s.homes →
-        CellOk (length s.homes) freed log s.words s.homes i (cells i)
     pub each_seat : (j : ℕ) (v : View T) → get_elem? s.views j ≡ some v →
         Fits (length s.views) freed log j v v.role
     pub each_hand : (j : ℕ) (v : View T) → get_elem? s.views j ≡ some v →

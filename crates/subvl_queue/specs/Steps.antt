@@ -1,10 +1,14 @@
--- What each step tells its caller.
-use Rattle.std.specs.Prelude.{◌≡◌, ◌≢◌, ℕ, suc, ◌+◌, ◌%◌, ◌^◌, ◌<◌, ◌≤◌, Bool, true, false, List, [], ◌∷◌, ◌++◌, length, take, Option, Some, None}
+-- What a seat knows at the start, and what each step tells its caller.
+use Rattle.std.specs.Prelude.{◌≡◌, ◌≢◌, ℕ, suc, ◌+◌, ◌%◌, ◌^◌, ◌<◌, ◌≤◌, ◌⊎◌, Bool, true, false, List, [], ◌∷◌, ◌++◌, length, take, Option, Some, None, IfSome}
 use mathlib.Core.Option.{some}
 use lib.ListN.{get_elem?}
 use Rattle.atomic_table.specs.Table.{Me, Step}
 use Rattle.subvl_queue.specs.Queue.{owned}
 use Rattle.subvl_queue.specs.declared.view.View.{View}
+use Rattle.subvl_queue.specs.declared.refused.Why.{Why}
+use Rattle.subvl_queue.specs.declared.refused.Why.TheVariants.{Closed, Exhausted, Full}
+use Rattle.subvl_queue.specs.declared.view.Role.{Role}
+use Rattle.subvl_queue.specs.declared.view.Role.TheVariants.{Sender, Receiver, Spent}
 use Rattle.subvl_queue.specs.declared.view.Stage.{Stage}
 use Rattle.subvl_queue.specs.declared.view.Stage.TheVariants.{Idle, Asked, Refused, Drew, Late, Holding}
 
@@ -12,6 +16,40 @@ abbrev pub Seated : Type 0 → Type 0
 Seated T = Me (Option (ℕ × T)) (View T)
 
 module _ {T : Type 0} where
+  -- a seat in this role, with this port, that did nothing yet
+  abbrev pub idle_view : Role → ℕ → View T
+  idle_view role port = record {
+    role = role;
+    port = port;
+    asks = 0;
+    own = [];
+    stage = Idle;
+    at = 0;
+    item = None;
+    load = 0;
+    glances = 0;
+    shut = false;
+    looks = 0;
+    found = false;
+    taken = [];
+    made = 0;
+    joined = [];
+    total = None;
+    all = None;
+  }
+
+  -- the first view of a table
+  abbrev pub first_view : View T
+  first_view = idle_view Receiver 0
+
+  -- a new sender's view
+  abbrev pub new_seat : ℕ → View T
+  new_seat port = idle_view Sender port
+
+  -- the view of a sender that was taken in
+  abbrev pub spent_view : View T
+  spent_view = idle_view Spent 0
+
   abbrev pub with_ask : View T → Stage → ℕ → View T
   with_ask v st load = record v { asks = v.asks + 1; stage = st; load = load }
 
@@ -66,22 +104,20 @@ module _ {T : Type 0} where
   abbrev pub readies : Step (Option (ℕ × T)) → Seated T → ℕ → Seated T → Type 0
   readies st m r m' = (m'.1 ≡ []) × (m'.0 ≡ idle m.0)
 
-  -- where the receiver has the whole list
-  abbrev pub IfWhole : Option (List (ℕ × T)) → (List (ℕ × T) → Type 0) → Type 0
-  IfWhole None F = Unit {0}
-  IfWhole (Some l) F = F l
-
-  -- the item x is ready at the place p, and its slot is taken
-  pub record Finds (slots p : ℕ) (m m' : Seated T) (x : ℕ × T) : Type 0 where
+  -- the message x stands at the place p, after those that were taken
+  pub record IsNext (v : View T) (p : ℕ) (x : ℕ × T) : Type 0 where
     pub few : p < 2 ^ 46
-    pub port : x.0 < m.0.made
-    pub below : (t : ℕ) → m.0.total ≡ Some t → p < t
-    pub holds : m' ≡ (holding m.0 p x, (p % slots, Some x) ∷ [])
-    pub listed : IfWhole m.0.all (λ l. (p < length l) × (get_elem? l p ≡ some x))
+    pub port : x.0 < v.made
+    pub below : IfSome v.total (λ t. p < t)
+    pub listed : IfSome v.all (λ l. (p < length l) × (get_elem? l p ≡ some x))
+
+  -- the message x is ready at the place p, and its slot is taken
+  abbrev pub Finds : (slots p : ℕ) → Seated T → Seated T → ℕ × T → Type 0
+  Finds slots p m m' x = IsNext m.0 p x × (m' ≡ (holding m.0 p x, (p % slots, Some x) ∷ []))
 
   -- nothing is ready at the place p
   abbrev pub Misses : ℕ → Seated T → Seated T → Type 0
-  Misses p m m' = (m' ≡ (with_look m.0 false, [])) × IfWhole m.0.all (λ l. length l ≤ p)
+  Misses p m m' = (m' ≡ (with_look m.0 false, [])) × IfSome m.0.all (λ l. length l ≤ p)
 
   abbrev pub looks : ℕ → Step (Option (ℕ × T)) → Seated T → ℕ → Seated T → Type 0
   looks p st m r m' = (r ≡ suc p → (x : ℕ × T) × Finds st.slots p m m' x) × (r ≢ suc p → Misses p m m')
@@ -109,3 +145,14 @@ module _ {T : Type 0} where
   abbrev pub gathers : Step (Option (ℕ × T)) → Seated T → ℕ → Seated T → Type 0
   gathers st m r m' = (m'.1 ≡ m.1)
       × ((l : List (ℕ × T)) × (m'.0 ≡ with_all m.0 l) × IsLog st.slots m.0 l × (m.0.total ≡ None → r ≡ length l))
+
+  -- what a send leaves up to its place
+  abbrev pub asked_with_room : View T → ℕ → View T
+  asked_with_room v load = with_ask (with_glance v false) Asked load
+
+  -- Why no place was drawn, and what that leaves of the view.
+  abbrev pub RefusedBy : (calls capacity : ℕ) → View T → View T → Why → Type 0
+  RefusedBy calls capacity v w Closed = (w ≡ with_glance v true)
+      ⊎ ((v.asks < calls) × (w.load < capacity) × (w ≡ idle (lated (asked_with_room v w.load))))
+  RefusedBy calls capacity v w Exhausted = (w ≡ with_glance v false) × (v.asks ≡ calls)
+  RefusedBy calls capacity v w Full = (v.asks < calls) × (capacity ≤ w.load) × (w ≡ idle (with_ask (with_glance v false) Refused w.load))

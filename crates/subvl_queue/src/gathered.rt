@@ -3,8 +3,7 @@ ghost use Rattle.std.specs.Prelude.{◌≡◌, ◌^◌, ◌<◌, ◌≤◌, [], 
 ghost use Rattle.subvl_queue.specs.declared.view.Role.TheVariants.{Receiver as AsReceiver};
 ghost use Rattle.subvl_queue.specs.Messages.{IsMessage};
 ghost use Rattle.subvl_queue.specs.Queue.{RestsAs};
-ghost use Rattle.subvl_queue.specs.Bytes.{items_of};
-ghost use Rattle.subvl_queue.specs.Gathers.{IsGathered, whole};
+ghost use Rattle.subvl_queue.specs.Gathers.{items_of, IsGathered, whole};
 ghost use Rattle.subvl_queue.specs.Views.{TellsLeft};
 
 use crate::item::Item;
@@ -17,18 +16,17 @@ use std::sync::Arc;
 /// senders the queue has, what was taken, and what was accepted and not taken yet.
 #[derive(Drop)]
 pub struct Gathered {
-    ring: Arc<Ring>,
-    seat: Knowing,
-    taken: u64,
-    total: u64,
+    pub(crate) ring: Arc<Ring>,
+    pub(crate) seat: Knowing,
+    pub(crate) taken: u64,
+    pub(crate) total: u64,
 }
 
 impl Model for Gathered {
     ghost use Rattle.std.specs.Prelude.{drop};
     ghost use Rattle.subvl_queue.specs.declared.view.Role.TheVariants.{Receiver as AsReceiver};
     ghost use Rattle.subvl_queue.specs.Queue.{RestsAs};
-    ghost use Rattle.subvl_queue.specs.Bytes.{items_of};
-    ghost use Rattle.subvl_queue.specs.Gathers.{IsGathered, whole};
+    ghost use Rattle.subvl_queue.specs.Gathers.{items_of, IsGathered, whole};
     ghost use Rattle.subvl_queue.specs.Views.{GatheredView};
 
     ghost Value = { GatheredView };
@@ -44,22 +42,6 @@ impl Model for Gathered {
 }
 
 impl Gathered {
-    // What was taken, and the list that it begins.
-    pub(crate) fn new(ring: Arc<Ring>, seat: Knowing, taken: u64, total: u64) -> Gathered
-        requires seat { RestsAs ring.value.table.shared.table_id AsReceiver seat }
-        requires knows { IsGathered taken total seat.me.0 }
-        ensures ports { result.ports ≡ seat.me.0.made }
-        ensures taken { result.taken ≡ items_of seat.me.0.taken }
-        ensures left { result.left ≡ items_of (drop taken (whole seat.me.0)) }
-    {
-        Gathered {
-            ring,
-            seat,
-            taken,
-            total,
-        }
-    }
-
     /// Takes the next accepted message, and none exactly where all were taken.
     #[inline(always)]
     pub fn take(&mut self) -> Option<Item>

@@ -1,5 +1,5 @@
 //! The ends of a queue come together.
-ghost use Rattle.std.specs.Prelude.{◌≡◌, MatchBool, All, Contains};
+ghost use Rattle.std.specs.Prelude.{◌≡◌, ◌++◌, MatchBool};
 ghost use Rattle.subvl_queue.specs.Views.{HasPort, HasEvery, LacksOne, AreOf, brought_by_all};
 
 use crate::receiver::Receiver;
@@ -30,12 +30,13 @@ pub fn has_every(senders: &[Sender], ports: usize) -> bool
 }
 
 /// The receiver takes each sender back.
-pub fn take_all_back(receiver: &mut Receiver, mut senders: Vec<Sender>)
-    requires together { AreOf receiver.old.queue senders.items }
-    ensures same { receiver.new ≡ record receiver.old { back = receiver.new.back } }
-    ensures back { All (Contains receiver.new.back) (brought_by_all senders.items) }
+pub fn take_all_back(receiver: &mut Receiver, senders: Vec<Sender>)
+    requires { AreOf receiver.old.queue senders.items }
+    ensures { receiver.new ≡ record receiver.old {
+      back = receiver.old.back ++ brought_by_all senders.items;
+    } }
 {
-    while let Some(sender) = senders.pop() {
+    for sender in senders {
         receiver.take_back(sender);
     }
 }

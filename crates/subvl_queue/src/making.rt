@@ -1,7 +1,7 @@
 //! A queue is made.
 ghost use Rattle.std.specs.Prelude.{◌≡◌, ℕ, ◌^◌, ◌<◌, ◌≤◌, [], length, IfOk, slice_index_or};
 ghost use Rattle.subvl_queue.specs.Queue.{IsAtTable};
-ghost use Rattle.subvl_queue.specs.Start.{first_view};
+ghost use Rattle.subvl_queue.specs.Steps.{first_view};
 ghost use Rattle.subvl_queue.specs.Views.{SenderView, new_sender, new_receiver};
 
 use crate::receiver::Receiver;
@@ -47,7 +47,13 @@ pub fn open_queue(alloc: Global, capacity: usize) -> Result<Receiver, AllocError
     ensures { IfOk result (λ r. r ≡ new_receiver r.queue capacity 0) }
 {
     let (ring, seat) = empty_ring(alloc, capacity)?;
-    Ok(Receiver::new(ring, seat))
+    Ok(Receiver {
+        ring,
+        seat,
+        ports: 0,
+        taken: 0,
+        total: None,
+    })
 }
 
 // The table of a queue that is empty.

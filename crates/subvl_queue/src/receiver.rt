@@ -1,12 +1,9 @@
 //! The receiving end of a queue.
 ghost use Rattle.std.specs.Prelude.{◌≡◌, ◌+◌, ◌^◌, ◌<◌, ◌≤◌, [], length, IfOk, IfErr, IfSome, IfNone, None, Some, false};
-ghost use mathlib.Core.Option.{some};
-ghost use lib.ListN.{get_elem?};
 ghost use Rattle.subvl_queue.specs.declared.view.Role.TheVariants.{Receiver as AsReceiver};
 ghost use Rattle.subvl_queue.specs.Messages.{IsMessage, AreItems};
 ghost use Rattle.subvl_queue.specs.Queue.{IsAtTable, RestsAs};
-ghost use Rattle.subvl_queue.specs.Start.{first_view};
-ghost use Rattle.subvl_queue.specs.Steps.{Finds, with_look, freed_of, holding, IfWhole};
+ghost use Rattle.subvl_queue.specs.Steps.{IsNext, with_look, freed_of, holding};
 ghost use Rattle.subvl_queue.specs.Views.{new_receiver, new_sender, one_more, after_take, looked, closed, taken_back, accepted_of, brought_by_all, AreBack, LacksOne, AreOf, IsWhole};
 
 use crate::gathered::Gathered;
@@ -25,14 +22,11 @@ pub fn fetch(ring: &Ring, seat: &mut Knowing, taken: &mut u64) -> Option<Parcel>
     ensures seat { IsAtTable ring.now.table.shared.table_id seat.new × (seat.new.me.1 ≡ []) }
     ensures some { IfSome result
         (λ x. seat.new.me.0 ≡ freed_of (holding seat.old.me.0 taken.old x) x) }
-    ensures few { IfSome result (λ _. (taken.old < 2 ^ 46) × (taken.new ≡ taken.old + 1)) }
-    ensures port { IfSome result (λ x. x.0 < seat.old.me.0.made) }
-    ensures below { IfSome result (λ _. IfSome seat.old.me.0.total (λ t. taken.old < t)) }
-    ensures listed { IfSome result (λ x. IfWhole seat.old.me.0.all
-        (λ l. (taken.old < length l) × (get_elem? l taken.old ≡ some x))) }
+    ensures next { IfSome result (λ x. IsNext seat.old.me.0 taken.old x) }
+    ensures counted { IfSome result (λ _. taken.new ≡ taken.old + 1) }
     ensures none { IfNone result (seat.new.me.0 ≡ with_look seat.old.me.0 false) }
     ensures unchanged { IfNone result (taken.new ≡ taken.old) }
-    ensures ended { IfNone result (IfWhole seat.old.me.0.all (λ l. length l ≤ taken.old)) }
+    ensures ended { IfNone result (IfSome seat.old.me.0.all (λ l. length l ≤ taken.old)) }
 {
     let place = *taken;
     if !ring.look(seat, place) {
@@ -48,19 +42,18 @@ pub fn fetch(ring: &Ring, seat: &mut Knowing, taken: &mut u64) -> Option<Parcel>
 /// what the senders brought that it has taken back.
 #[derive(Drop)]
 pub struct Receiver {
-    ring: Arc<Ring>,
-    seat: Knowing,
-    ports: usize,
-    taken: u64,
-    total: Option<u64>,
+    pub(crate) ring: Arc<Ring>,
+    pub(crate) seat: Knowing,
+    pub(crate) ports: usize,
+    pub(crate) taken: u64,
+    pub(crate) total: Option<u64>,
 }
 
 impl Model for Receiver {
     ghost use Rattle.std.specs.Prelude.{◌≡◌, ◌^◌, ◌≤◌, [], length, None, IfSome};
     ghost use Rattle.subvl_queue.specs.declared.view.Role.TheVariants.{Receiver as AsReceiver};
     ghost use Rattle.subvl_queue.specs.Queue.{RestsAs};
-    ghost use Rattle.subvl_queue.specs.Bytes.{items_of};
-    ghost use Rattle.subvl_queue.specs.Gathers.{brought_back};
+    ghost use Rattle.subvl_queue.specs.Gathers.{items_of, brought_back};
     ghost use Rattle.subvl_queue.specs.Views.{ReceiverView};
 
     ghost Value = { ReceiverView };
@@ -83,21 +76,6 @@ impl Model for Receiver {
 }
 
 impl Receiver {
-    // A receiver that did not look yet, of a queue without senders.
-    pub(crate) fn new(ring: Arc<Ring>, seat: Knowing) -> Receiver
-        requires seat { IsAtTable ring.value.table.shared.table_id seat }
-        requires fresh { seat.me ≡ (first_view, []) }
-        ensures { result ≡ new_receiver seat.table_id ring.value.capacity 0 }
-    {
-        Receiver {
-            ring,
-            seat,
-            ports: 0,
-            taken: 0,
-            total: None,
-        }
-    }
-
     /// One more sender, with the next index. A queue has at most 64, and gives no more once one was
     /// taken back. It may ask `calls` times, at most 2^40. Where memory is refused nothing has
     /// changed.
@@ -114,7 +92,14 @@ impl Receiver {
         let seat = self.ring.make_sender(&mut self.seat);
         let port = self.ports as u8;
         self.ports += 1;
-        Ok(Sender::new(ring, seat, port, calls))
+        Ok(Sender {
+            ring,
+            seat,
+            port,
+            calls,
+            asks: 0,
+            accepted: 0,
+        })
     }
 
     /// Takes the message of the next place, where it is ready. Either way it has looked once more.
@@ -155,7 +140,7 @@ impl Receiver {
         requires { sender.queue ≡ self.old.queue }
         ensures { self.new ≡ taken_back self.old sender }
     {
-        self.ring.take_in(&mut self.seat, sender.into_seat());
+        self.ring.take_in(&mut self.seat, sender.seat);
     }
 
     /// All ends of the queue together, once each sender is back. From then on the accepted messages
@@ -182,7 +167,12 @@ impl Receiver {
             Some(total) => total,
             None => drawn,
         };
-        Gathered::new(ring, seat, taken, total)
+        Gathered {
+            ring,
+            seat,
+            taken,
+            total,
+        }
     }
 
     /// Takes all ends of the queue together, in any order of the senders, or hands both back as

@@ -5,8 +5,7 @@ ghost use lib.ListN.{get_elem?};
 ghost use Rattle.subvl_queue.specs.declared.view.Role.TheVariants.{Sender, Receiver};
 ghost use Rattle.subvl_queue.specs.declared.view.Stage.TheVariants.{Idle, Asked, Refused, Drew, Late, Holding};
 ghost use Rattle.subvl_queue.specs.Queue.{IsAtTable, RestsAs};
-ghost use Rattle.subvl_queue.specs.Start.{new_seat};
-ghost use Rattle.subvl_queue.specs.Steps.{Finds, Misses, IsLog, with_ask, idle, drawn, lated, with_glance, with_total, one_made, with_joined, with_all, freed_of};
+ghost use Rattle.subvl_queue.specs.Steps.{new_seat, Finds, Misses, IsLog, with_ask, idle, drawn, lated, with_glance, with_total, one_made, with_joined, with_all, freed_of};
 
 use crate::item::Message;
 use crate::rule::{
@@ -15,7 +14,6 @@ use crate::rule::{
 use crate::view::View;
 use atomic_table::{Seat, Table};
 use std::alloc::Global;
-use std::marker::Brand;
 
 /// The word of the room.
 pub const ROOM: usize = 0;
@@ -75,7 +73,9 @@ impl Ring {
         self.table.shared.fetch_add::<GiveBack>(seat, ROOM, 1);
     }
 
-    fn draw_as<W: Said<Parcel>>(&self, seat: &mut Knowing, parcel: &Parcel) -> u64
+    /// Draws a place for the parcel. It is accepted there, and its slot is taken, unless the queue is
+    /// closed.
+    pub fn draw<W: Said<Parcel>>(&self, seat: &mut Knowing, parcel: &Parcel) -> u64
         requires said { (W.item ≡ Some parcel.now) × (parcel.now.0 ≡ seat.old.me.0.port) }
         requires seat { IsAtTable self.now.table.shared.table_id seat.old × (seat.old.me.1 ≡ []) }
         requires view { (seat.old.me.0.role ≡ Sender) × (seat.old.me.0.stage ≡ Asked) }
@@ -85,20 +85,6 @@ impl Ring {
         ensures late { 2 ^ 63 ≤ result → seat.new.me ≡ (lated seat.old.me.0, []) }
     {
         self.table.shared.fetch_add::<Draw<W>>(seat, TAIL, 1)
-    }
-
-    /// Draws a place for the parcel. It is accepted there, and its slot is taken, unless the queue is
-    /// closed.
-    pub fn draw(&self, seat: &mut Knowing, parcel: &Parcel) -> u64
-        requires port { parcel.now.0 ≡ seat.old.me.0.port }
-        requires seat { IsAtTable self.now.table.shared.table_id seat.old × (seat.old.me.1 ≡ []) }
-        requires view { (seat.old.me.0.role ≡ Sender) × (seat.old.me.0.stage ≡ Asked) }
-        ensures seat { IsAtTable self.now.table.shared.table_id seat.new }
-        ensures drawn { result < 2 ^ 63 → seat.new.me ≡
-            (drawn seat.old.me.0 result parcel.now, (result % self.now.capacity, None) ∷ []) }
-        ensures late { 2 ^ 63 ≤ result → seat.new.me ≡ (lated seat.old.me.0, []) }
-    {
-        self.draw_as::<Brand>(seat, parcel)
     }
 
     fn slot_of(&self, place: u64) -> usize

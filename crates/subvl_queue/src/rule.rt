@@ -1,6 +1,7 @@
 //! The rule, and what each step tells. These types are for the proofs alone.
 ghost use Rattle.std.specs.Prelude.{Option, None, length};
-ghost use Rattle.subvl_queue.specs.Steps.{asks, gives_back, draws, readies, looks, frees, glances_at, closes, gathers, one_made, with_joined};
+ghost use Rattle.subvl_queue.specs.Queue.{Queue};
+ghost use Rattle.subvl_queue.specs.Steps.{first_view, new_seat, spent_view, asks, gives_back, draws, readies, looks, frees, glances_at, closes, gathers, one_made, with_joined};
 
 use crate::view::View;
 use atomic_table::{Join, Play, Split, TableRule};
@@ -9,9 +10,6 @@ use std::marker::{Brand, PhantomData};
 pub struct Rule;
 
 impl<T> TableRule<Option<(u8, T)>, View<T>, ()> for Rule {
-    ghost use Rattle.subvl_queue.specs.Queue.{Queue};
-    ghost use Rattle.subvl_queue.specs.Start.{first_view};
-
     ghost holds = { λ _. Queue };
 
     ghost first = { λ _. first_view };
@@ -85,9 +83,6 @@ impl<T> Play<Option<(u8, T)>, View<T>> for Gather {
 pub(crate) struct Make;
 
 impl<T> Split<View<T>> for Make {
-    ghost use Rattle.subvl_queue.specs.Start.{new_seat};
-    ghost use Rattle.subvl_queue.specs.Steps.{one_made};
-
     ghost left = { one_made };
 
     ghost right = { λ v. new_seat v.made };
@@ -96,9 +91,6 @@ impl<T> Split<View<T>> for Make {
 pub(crate) struct TakeIn;
 
 impl<T> Join<View<T>> for TakeIn {
-    ghost use Rattle.subvl_queue.specs.Start.{spent_view};
-    ghost use Rattle.subvl_queue.specs.Steps.{with_joined};
-
     ghost both = { with_joined };
 
     ghost spent = { spent_view };

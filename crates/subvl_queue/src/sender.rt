@@ -3,16 +3,14 @@ ghost use Rattle.std.specs.Prelude.{◌≡◌, ◌%◌, ◌^◌, ◌<◌, ◌≤
 ghost use Rattle.subvl_queue.specs.declared.view.Role.TheVariants.{Sender as AsSender};
 ghost use Rattle.subvl_queue.specs.Messages.{most_bytes};
 ghost use Rattle.subvl_queue.specs.Queue.{IsAtTable, RestsAs};
-ghost use Rattle.subvl_queue.specs.Start.{new_seat};
-ghost use Rattle.subvl_queue.specs.Steps.{drawn};
-ghost use Rattle.subvl_queue.specs.Sends.{asked_with_room, RefusedBy};
-ghost use Rattle.subvl_queue.specs.Bytes.{own_of, places_of};
+ghost use Rattle.subvl_queue.specs.Steps.{new_seat, drawn, asked_with_room, RefusedBy};
+ghost use Rattle.subvl_queue.specs.Gathers.{own_of, places_of};
 ghost use Rattle.subvl_queue.specs.Views.{new_sender, IsPlaced, IsRefused};
 
 use crate::item::Message;
 use crate::refused::{Refused, Why};
 use crate::ring::{CLOSED, Knowing, Parcel, Ring};
-use std::marker::Model;
+use std::marker::{Brand, Model};
 use std::sync::Arc;
 
 // The steps of one send up to its place: a glance at the close, an ask for room, and a place.
@@ -48,7 +46,7 @@ fn draw_place(
         ring.give_back(seat);
         return Err(Why::Full);
     }
-    let place = ring.draw(seat, parcel);
+    let place = ring.draw::<Brand>(seat, parcel);
     if place >= CLOSED {
         ring.give_back(seat);
         return Err(Why::Closed);
@@ -61,19 +59,19 @@ fn draw_place(
 /// that were accepted, with their places.
 #[derive(Drop)]
 pub struct Sender {
-    ring: Arc<Ring>,
-    seat: Knowing,
-    port: u8,
-    calls: u64,
-    asks: u64,
-    accepted: u64,
+    pub(crate) ring: Arc<Ring>,
+    pub(crate) seat: Knowing,
+    pub(crate) port: u8,
+    pub(crate) calls: u64,
+    pub(crate) asks: u64,
+    pub(crate) accepted: u64,
 }
 
 impl Model for Sender {
     ghost use Rattle.std.specs.Prelude.{◌≡◌, ◌^◌, ◌≤◌, length};
     ghost use Rattle.subvl_queue.specs.declared.view.Role.TheVariants.{Sender as AsSender};
     ghost use Rattle.subvl_queue.specs.Queue.{RestsAs};
-    ghost use Rattle.subvl_queue.specs.Bytes.{own_of, places_of};
+    ghost use Rattle.subvl_queue.specs.Gathers.{own_of, places_of};
     ghost use Rattle.subvl_queue.specs.Views.{SenderView};
 
     ghost Value = { SenderView };
@@ -97,23 +95,6 @@ impl Model for Sender {
 }
 
 impl Sender {
-    // A sender that did not ask yet.
-    pub(crate) fn new(ring: Arc<Ring>, seat: Knowing, port: u8, calls: u64) -> Sender
-        requires seat { IsAtTable ring.value.table.shared.table_id seat }
-        requires fresh { seat.me ≡ (new_seat port, []) }
-        requires calls { calls ≤ 2 ^ 40 }
-        ensures { result ≡ new_sender seat.table_id ring.value.capacity calls port }
-    {
-        Sender {
-            ring,
-            seat,
-            port,
-            calls,
-            asks: 0,
-            accepted: 0,
-        }
-    }
-
     /// Accepts a message of 1 to 8,192 bytes at the next place of the queue, or hands it back. A
     /// message that is refused isn't accepted, and `Why` says what it leaves.
     #[inline(always)]
@@ -175,15 +156,5 @@ impl Sender {
         ensures { result ≡ length self.now.own }
     {
         self.accepted
-    }
-
-    // Its seat, for the receiver to take in.
-    pub(crate) fn into_seat(self) -> Knowing
-        ensures seat { RestsAs self.queue AsSender result }
-        ensures port { result.me.0.port ≡ self.port }
-        ensures own { own_of result.me.0.own ≡ self.own }
-        ensures places { places_of result.me.0.own ≡ self.places }
-    {
-        self.seat
     }
 }

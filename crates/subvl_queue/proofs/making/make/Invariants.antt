@@ -4,9 +4,9 @@ use Rattle.subvl_queue.proofs.making.make.Given as goal
 
 abbrev pub invariant-loop-port : goal.invariant-loop-port
 invariant-loop-port l = record {
-  receiver : l.receiver ≡ new_receiver l.receiver.queue l.capacity l._port;
+  receiver : l.receiver ≡ new_receiver l.initial.receiver.queue l.capacity l._port;
   count : length l.senders.items ≡ l._port;
   len : vec_len l.senders ≡ l._port;
   room : vec_capacity l.senders ≡ l.ports;
-  senders : (k : ℕ) (d : SenderView) → k < l._port → get_or l.senders.items k d ≡ new_sender l.receiver.queue l.capacity l.calls k;
+  senders : (k : ℕ) (d : SenderView) → k < l._port → get_or l.senders.items k d ≡ new_sender l.initial.receiver.queue l.capacity l.calls k;
 }

@@ -1,6 +1,6 @@
 use Rattle.std.proofs.Common.{ap, sym}
 use Rattle.subvl_queue.specs.Gathers.{whole}
-use Rattle.subvl_queue.proofs.Bytes.{tells}
+use Rattle.subvl_queue.proofs.Parts.{tells}
 use Rattle.subvl_queue.proofs.gathered.Gathered.is_drained.Goals as goal
 
 pub returns : goal.returns

@@ -1,9 +1,8 @@
 use Rattle.std.proofs.Common.{ℕ, ◌<◌, ◌≤◌, List, sym, ap, subst}
-use Rattle.subvl_queue.specs.declared.view.View.{View}
 use Rattle.subvl_queue.specs.Gathers.{brought_back}
 use Rattle.subvl_queue.specs.Messages.{AreItems}
 use Rattle.subvl_queue.specs.Views.{ReceiverView, AreBack, IsWhole}
-use Rattle.subvl_queue.proofs.Bytes.{are_items}
+use Rattle.subvl_queue.proofs.Parts.{are_items}
 use Rattle.subvl_queue.proofs.Senders.{joined_for, is_whole, accepted_is}
 use Rattle.subvl_queue.proofs.receiver.Receiver.into_gathered.Goals as goal
 
@@ -18,7 +17,7 @@ returns-clause-whole c =
     let v = c.self.inside.seat.me.0 in
     let log = c.gather-drawn.ensures.log in
     let every : AreBack c.self.inside.ports (brought_back v) = subst (λ (r : ReceiverView). AreBack r.ports r.back) (sym c.self.view_is) c.requires.every in
-    let accepted = accepted_is _ _ v _ log.0 _ _ log.2 c.self.invariant.3 log.1 c.new.ensures.taken c.new.ensures.left in
+    let accepted = accepted_is _ c.self.inside.taken v c.gather-drawn.new.seat.me.0 log.0 log.2 c.self.invariant.3 log.1 in
     subst (λ (y : ReceiverView × List (ℕ × List ℕ)). IsWhole y.0.ports y.0.back y.1) (λ k. (c.self.view_is k, accepted k))
     (is_whole _ c.self.inside.ports v log.0 every log.2 c.self.invariant.1)
 
@@ -26,6 +25,6 @@ pub returns-clause-items : goal.returns-clause-items
 returns-clause-items c =
     let kept = c.self.invariant in
     let log = c.gather-drawn.ensures.log in
-    let accepted = accepted_is _ _ c.self.inside.seat.me.0 _ log.0 _ _ log.2 kept.3 log.1 c.new.ensures.taken c.new.ensures.left in
+    let accepted = accepted_is _ c.self.inside.taken c.self.inside.seat.me.0 c.gather-drawn.new.seat.me.0 log.0 log.2 kept.3 log.1 in
     subst (λ (y : ℕ × List (ℕ × List ℕ)). AreItems y.0 y.1) (λ k. (ap (λ (r : ReceiverView). r.ports) c.self.view_is k, accepted k))
     (are_items c.self.inside.ports 0 log.0 (λ k le. log.2.no_more k (subst (λ (n : ℕ). n ≤ k) (sym kept.1) le)))

@@ -1,6 +1,6 @@
 use Rattle.std.proofs.Common.{rules}
 use Rattle.subvl_queue.proofs.Moves.{draws_ok}
-use Rattle.subvl_queue.proofs.ring.Ring.draw_as.Goals as goal
+use Rattle.subvl_queue.proofs.ring.Ring.draw.Goals as goal
 
 pub fetch_add-requires : goal.fetch_add-requires
 fetch_add-requires g c =

@@ -1,0 +1,161 @@
+-- The messages of one port in a list, and their places.
+use Rattle.std.proofs.Common.{◌≡◌, ◌≢◌, ℕ, zero, suc, ◌+◌, ◌-◌, ◌==◌, ◌<◌, ◌≤◌, if◌then◌else◌, List, [], ◌∷◌, ◌++◌, length, map, take, drop, get_or, Bool, true, false, eqb, cond, sym, refl, ap, ◌∙◌, subst, arith, eq-eqb, ne_eqb, lt_of_not-le}
+use mathlib.Core.Option.{some, some-injective, some-ne-none}
+use native.Mathlib.Decide.{ℕ_discrete}
+use lib.ListN.{get_elem?}
+use Rattle.std.proofs.lemmas.Bool.{eqb-true}
+use Rattle.std.proofs.lemmas.List.Elements.{All-cons, All-nil}
+use Rattle.subvl_queue.specs.declared.item.Message.{Message}
+use Rattle.subvl_queue.specs.Gathers.{items_of, own_of, places_of}
+use Rattle.subvl_queue.specs.Messages.{IsItem, AreItems, part_of}
+use Rattle.subvl_queue.specs.Queue.{owned}
+use Rattle.subvl_queue.specs.Views.{StandAt, TellsLeft}
+
+cond_append : {A : Type 0} (b : Bool) (x : A) (l r : List A) → cond b (x ∷ (l ++ r)) (l ++ r) ≡ cond b (x ∷ l) l ++ r
+cond_append true x l r = refl
+cond_append false x l r = refl
+
+map_cond : {A B : Type 0} (f : A → B) (b : Bool) (x : A) (l : List A) → map f (cond b (x ∷ l) l) ≡ cond b (f x ∷ map f l) (map f l)
+map_cond f true x l = refl
+map_cond f false x l = refl
+
+module _ {T : Type 0} where
+  pub owned_mine : (k n : ℕ) (l : List (ℕ × T)) (x : ℕ × T) → x.0 ≡ k → owned k n (l ++ x ∷ []) ≡ owned k n l ++ (n + length l, x.1) ∷ []
+  owned_mine k n [] x e =
+      ap (λ (b : Bool). cond b ((n, x.1) ∷ []) []) (eq-eqb x.0 k e) ∙ ap (λ (m : ℕ). (m, x.1) ∷ []) (let z : n ≡ n + 0 = omega arith in z)
+  owned_mine k n (y ∷ l) x e =
+      let z : suc n + length l ≡ n + length (y ∷ l) = omega arith in
+      ap (λ (zs : List (ℕ × T)). cond (eqb y.0 k) ((n, y.1) ∷ zs) zs)
+      (owned_mine k (suc n) l x e ∙ ap (λ (m : ℕ). owned k (suc n) l ++ (m, x.1) ∷ []) z)
+      ∙ cond_append (eqb y.0 k) (n, y.1) (owned k (suc n) l) ((n + length (y ∷ l), x.1) ∷ [])
+
+  pub owned_other : (k n : ℕ) (l : List (ℕ × T)) (x : ℕ × T) → x.0 ≢ k → owned k n (l ++ x ∷ []) ≡ owned k n l
+  owned_other k n [] x e = ap (λ (b : Bool). cond b ((n, x.1) ∷ []) []) (ne_eqb x.0 k e)
+  owned_other k n (y ∷ l) x e = ap (λ (zs : List (ℕ × T)). cond (eqb y.0 k) ((n, y.1) ∷ zs) zs) (owned_other k (suc n) l x e)
+
+  -- if the port has no message, the first is not its, nor is one of the rest
+  rest_none : (k n : ℕ) (x : ℕ × T) (l : List (ℕ × T)) → owned k n (x ∷ l) ≡ [] → (x.0 ≢ k) × (owned k (suc n) l ≡ [])
+  rest_none k n x l e = elim (ℕ_discrete x.0 k) [
+    | yes is ↦ absurd (let first : (n, x.1) ∷ owned k (suc n) l ≡ [] = sym
+        (ap (λ (b : Bool). cond b ((n, x.1) ∷ owned k (suc n) l) (owned k (suc n) l)) (eq-eqb x.0 k is)) ∙ e in cc)
+    | no not ↦ (not, sym (ap (λ (b : Bool). cond b ((n, x.1) ∷ owned k (suc n) l) (owned k (suc n) l)) (ne_eqb x.0 k not)) ∙ e)
+  ]
+
+  -- a message in the list is one of its port
+  pub owned_at : (k n : ℕ) (l : List (ℕ × T)) (i : ℕ) (x : ℕ × T) → get_elem? l i ≡ some x → x.0 ≡ k → owned k n l ≡ [] → ⊥
+  owned_at k n [] i x at is none' = some-ne-none x (sym at)
+  owned_at k n (y ∷ l) zero x at is none' = (rest_none k n y l none').0 (ap (λ (z : ℕ × T). z.0) (some-injective y x at) ∙ is)
+  owned_at k n (y ∷ l) (suc i) x at is none' = owned_at k (suc n) l i x at is (rest_none k n y l none').1
+
+pub take_next : {A : Type 0} (l : List A) (i : ℕ) (a : A) → get_elem? l i ≡ some a → take i l ++ a ∷ [] ≡ take (suc i) l
+take_next [] i a e = absurd (some-ne-none a (sym e))
+take_next (x ∷ xs) zero a e = λ k. sym (some-injective x a e) k ∷ []
+take_next (x ∷ xs) (suc i) a e = ap (λ l. x ∷ l) (take_next xs i a e)
+
+-- a port's part of the messages
+pub part_is : (k n : ℕ) (l : List (ℕ × Message)) → own_of (owned k n l) ≡ part_of k (items_of l)
+part_is k n [] = refl
+part_is k n (x ∷ l) =
+    map_cond (λ (y : ℕ × Message). y.1.bytes.items) (eqb x.0 k) (n, x.1) (owned k (suc n) l)
+    ∙ ap (λ (p : List (List ℕ)). cond (eqb x.0 k) (x.1.bytes.items ∷ p) p) (part_is k (suc n) l)
+
+-- the places of a port's messages in a list whose first place is n
+abbrev places_from : (n port : ℕ) → List (ℕ × List ℕ) → List ℕ
+places_from n port [] = []
+places_from n port (item ∷ items) =
+    if item.0 == port then n ∷ places_from (suc n) port items else places_from (suc n) port items
+
+pub places_are : (k n : ℕ) (l : List (ℕ × Message)) → places_of (owned k n l) ≡ places_from n k (items_of l)
+places_are k n [] = refl
+places_are k n (x ∷ l) =
+    map_cond (λ (y : ℕ × Message). y.0) (eqb x.0 k) (n, x.1) (owned k (suc n) l)
+    ∙ ap (λ (p : List ℕ). cond (eqb x.0 k) (n ∷ p) p) (places_are k (suc n) l)
+
+record StandFrom (n : ℕ) (list : List (ℕ × List ℕ)) (port : ℕ) (own : List (List ℕ)) (places : List ℕ) : Type 0 where
+  count : length places ≡ length own
+  within : (i : ℕ) → i < length own → (n ≤ get_or places i 0) × (get_or places i 0 < n + length list)
+  rise : (i j : ℕ) → i < j → j < length own → get_or places i 0 < get_or places j 0
+  at : (i : ℕ) → i < length own → get_or list (get_or places i 0 - n) (0, []) ≡ (port, get_or own i [])
+
+next_at : (n p : ℕ) (item : ℕ × List ℕ) (list : List (ℕ × List ℕ)) → n < p
+    → get_or (item ∷ list) (p - n) (0, []) ≡ get_or list (p - suc n) (0, [])
+next_at n p item list lt = ap (λ (e : ℕ). get_or (item ∷ list) e (0, [])) (let e : p - n ≡ suc (p - suc n) = omega arith in e)
+
+-- a message of another sender comes before them
+other : (n port : ℕ) (item : ℕ × List ℕ) (list : List (ℕ × List ℕ)) (own : List (List ℕ)) (places : List ℕ)
+    → StandFrom (suc n) list port own places → StandFrom n (item ∷ list) port own places
+other n port item list own places h = record {
+  count = h.count;
+  within = λ i lt. (let w = h.within i lt in (omega arith, omega arith));
+  rise = h.rise;
+  at = λ i lt. (let w = h.within i lt in next_at n (get_or places i 0) item list (omega arith) ∙ h.at i lt);
+}
+
+-- one of the same sender comes before them
+mine : (n port : ℕ) (item : ℕ × List ℕ) (list : List (ℕ × List ℕ)) (own : List (List ℕ)) (places : List ℕ) → item.0 ≡ port
+    → StandFrom (suc n) list port own places → StandFrom n (item ∷ list) port (item.1 ∷ own) (n ∷ places)
+mine n port item list own places same h =
+    record { count = ap suc h.count; within = λ i lt. within_mine i lt; rise = λ i j. rise_mine i j; at = λ i. at_mine i }
+  where
+    within_mine : (i : ℕ) → i < suc (length own) → (n ≤ get_or (n ∷ places) i 0) × (get_or (n ∷ places) i 0 < n + suc (length list))
+    within_mine zero lt = (omega arith, omega arith)
+    within_mine (suc i) lt = let w = h.within i (omega arith) in (omega arith, omega arith)
+
+    rise_mine : (i j : ℕ) → i < j → j < suc (length own) → get_or (n ∷ places) i 0 < get_or (n ∷ places) j 0
+    rise_mine i zero below lt = absurd (omega arith)
+    rise_mine zero (suc j) below lt = let w = h.within j (omega arith) in omega arith
+    rise_mine (suc i) (suc j) below lt = h.rise i j (omega arith) (omega arith)
+
+    at_mine : (i : ℕ) → i < suc (length own) → get_or (item ∷ list) (get_or (n ∷ places) i 0 - n) (0, []) ≡ (port, get_or (item.1 ∷ own) i [])
+    at_mine zero lt = ap (λ (e : ℕ). get_or (item ∷ list) e (0, [])) (let e : n - n ≡ 0 = omega arith in e) ∙ ap (λ (p : ℕ). (p, item.1)) same
+    at_mine (suc i) lt = let w = h.within i (omega arith) in next_at n (get_or places i 0) item list (omega arith) ∙ h.at i (omega arith)
+
+stand_from : (n port : ℕ) (list : List (ℕ × List ℕ)) → StandFrom n list port (part_of port list) (places_from n port list)
+stand_from n port [] = record {
+  count = refl;
+  within = λ i lt. absurd (omega arith);
+  rise = λ i j below lt. absurd (omega arith);
+  at = λ i lt. absurd (omega arith);
+}
+stand_from n port (item ∷ items) = either (item.0 == port) (eqb-true item.0 port) (stand_from (suc n) port items)
+  where
+    either : (b : Bool) → (b ≡ true → item.0 ≡ port) → StandFrom (suc n) items port (part_of port items) (places_from (suc n) port items)
+        → StandFrom n (item ∷ items) port (if b then item.1 ∷ part_of port items else part_of port items)
+        (if b then n ∷ places_from (suc n) port items else places_from (suc n) port items)
+    either true same h = mine n port item items _ _ (same refl) h
+    either false same h = other n port item items _ _ h
+
+-- a sender's own list stands at its places
+pub stand_at : (list : List (ℕ × List ℕ)) (port : ℕ) (own : List (List ℕ)) (places : List ℕ) → part_of port list ≡ own
+    → places_from 0 port list ≡ places → StandAt list port own places
+stand_at list port own places is at = subst (λ (y : List (List ℕ) × List ℕ). StandAt list port y.0 y.1) (λ k. (is k, at k))
+    (let h = stand_from 0 port list in record {
+      count = h.count;
+      within = λ i lt. (let w = h.within i lt in omega arith);
+      rise = h.rise;
+      at = λ i lt. let p : ℕ = get_or (places_from 0 port list) i 0 in
+          ap (λ (e : ℕ). get_or list e (0, [])) (let e : p ≡ p - 0 = omega arith in e) ∙ h.at i lt;
+    })
+
+-- if no other port has a message, all are messages of these ports
+pub are_items : (ports n : ℕ) (l : List (ℕ × Message)) → ((k : ℕ) → ports ≤ k → owned k n l ≡ []) → AreItems ports (items_of l)
+are_items ports n [] h = All-nil (IsItem ports)
+are_items ports n (x ∷ l) h =
+    let first : IsItem ports (x.0, x.1.bytes.items) =
+    record { port = lt_of_not-le (λ le. (rest_none x.0 n x l (h x.0 le)).0 refl); message = x.1.sound } in
+    All-cons (IsItem ports) (x.0, x.1.bytes.items) (items_of l) first (are_items ports (suc n) l (λ k le. (rest_none k n x l (h k le)).1))
+
+same_next : (n m : ℕ) → (n == m) ≡ (suc n == suc m)
+same_next n m = elim (ℕ_discrete n m) [
+  | yes is ↦ eq-eqb n m is ∙ sym (eq-eqb (suc n) (suc m) (ap suc is))
+  | no not ↦ ne_eqb n m not ∙ sym (ne_eqb (suc n) (suc m) (λ e. not (omega arith)))
+]
+
+-- whether nothing is left
+pub tells : (n total : ℕ) (l : List (ℕ × Message)) → n ≤ total → total ≡ length l → TellsLeft (n == total) (items_of (drop n l))
+tells zero total [] le is = subst (λ (b : Bool). TellsLeft b []) (sym (eq-eqb 0 total (sym is))) refl
+tells zero total (x ∷ l) le is = subst (λ (b : Bool). TellsLeft b (items_of (x ∷ l))) (sym (ne_eqb 0 total (λ e. omega arith))) x.1.sound
+tells (suc n) total [] le is = absurd (omega arith)
+tells (suc n) zero (x ∷ l) le is = absurd (omega arith)
+tells (suc n) (suc total) (x ∷ l) le is = subst (λ (b : Bool). TellsLeft b (items_of (drop n l))) (same_next n total)
+    (tells n total l (omega arith) (omega arith))
