@@ -9,11 +9,11 @@ use native.Mathlib.Decide.{ℕ_discrete}
 use lib.ListN.{get_elem?}
 use Rattle.atomic_table.specs.Table.{State}
 use Rattle.atomic_table.proofs.Lists.{at_set, set_else, set_here}
-use Rattle.subvl_queue.specs.declared.view.View.{View}
-use Rattle.subvl_queue.specs.declared.view.Role.{Role}
-use Rattle.subvl_queue.specs.declared.view.Role.TheVariants.{Spent}
-use Rattle.subvl_queue.specs.declared.view.Stage.{Stage}
-use Rattle.subvl_queue.specs.declared.view.Stage.TheVariants.{Drew, Holding}
+use Rattle.subvl_queue.specs.declared.rule.View.{View}
+use Rattle.subvl_queue.specs.declared.rule.Role.{Role}
+use Rattle.subvl_queue.specs.declared.rule.Role.TheVariants.{Spent}
+use Rattle.subvl_queue.specs.declared.rule.Stage.{Stage}
+use Rattle.subvl_queue.specs.declared.rule.Stage.TheVariants.{Drew, Holding}
 use Rattle.subvl_queue.specs.Queue.{owned, total, in_hand, in_room, waiting, asks_of, budget, shut_bit, Gone, Totals, Joined, Whole, Collects, Busy, Phase, free, writing, full, reading, Cell, holder, InPhase, CellOk, Has, Knows, Fits, Queue}
 
 abbrev pick : {P : Type 0} → Dec P → Cell → Cell → Cell

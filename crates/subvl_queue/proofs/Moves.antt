@@ -12,11 +12,11 @@ use Rattle.std.specs.Prelude.{Option, Some, None, IfSome, bit_or}
 use Rattle.std.proofs.lemmas.List.{take-append-le}
 use Rattle.atomic_table.specs.Table.{step, Act, keeps, takes, gives, Valid, carried_after, stepped, Allows}
 use Rattle.atomic_table.proofs.Lists.{set_here, set_else, at_last, at_longer, one_turn}
-use Rattle.subvl_queue.specs.declared.view.View.{View}
-use Rattle.subvl_queue.specs.declared.view.Role.{Role}
-use Rattle.subvl_queue.specs.declared.view.Role.TheVariants.{Sender, Receiver, Spent}
-use Rattle.subvl_queue.specs.declared.view.Stage.{Stage}
-use Rattle.subvl_queue.specs.declared.view.Stage.TheVariants.{Idle, Asked, Refused, Drew, Late, Holding}
+use Rattle.subvl_queue.specs.declared.rule.View.{View}
+use Rattle.subvl_queue.specs.declared.rule.Role.{Role}
+use Rattle.subvl_queue.specs.declared.rule.Role.TheVariants.{Sender, Receiver, Spent}
+use Rattle.subvl_queue.specs.declared.rule.Stage.{Stage}
+use Rattle.subvl_queue.specs.declared.rule.Stage.TheVariants.{Idle, Asked, Refused, Drew, Late, Holding}
 use Rattle.subvl_queue.specs.Queue.{owned, total, hand_of, found_of, wait_of, budget_of, shut_bit, in_hand, in_room, waiting, asks_of, budget, Totals, Gone, Whole, Collects, Busy, Phase, free, writing, full, reading, Cell, holder, shown, InPhase, CellOk, Knows, Fits, Queue}
 use Rattle.subvl_queue.specs.Steps.{Seated, with_ask, idle, drawn, with_look, holding, freed_of, lated, with_glance, with_total, with_all, asks, gives_back, draws, readies, looks, frees, glances_at, closes, gathers}
 use Rattle.subvl_queue.proofs.Totals.{sums, hands_small, rooms_small, total_le, one_less, one_more}

@@ -6,10 +6,10 @@ use lib.ListN.{get_elem?, length-map, length-replicate}
 use Rattle.std.specs.Prelude.{Option, None}
 use Rattle.atomic_table.specs.Table.{Splits, Joins, opening}
 use Rattle.atomic_table.proofs.Lists.{set_else, at_snoc, at_longer}
-use Rattle.subvl_queue.specs.declared.view.View.{View}
-use Rattle.subvl_queue.specs.declared.view.Role.{Role}
-use Rattle.subvl_queue.specs.declared.view.Role.TheVariants.{Sender, Receiver, Spent}
-use Rattle.subvl_queue.specs.declared.view.Stage.TheVariants.{Idle}
+use Rattle.subvl_queue.specs.declared.rule.View.{View}
+use Rattle.subvl_queue.specs.declared.rule.Role.{Role}
+use Rattle.subvl_queue.specs.declared.rule.Role.TheVariants.{Sender, Receiver, Spent}
+use Rattle.subvl_queue.specs.declared.rule.Stage.TheVariants.{Idle}
 use Rattle.subvl_queue.specs.Queue.{owned, Gone, Whole, Collects, free, Knows, Fits, Queue}
 use Rattle.subvl_queue.specs.Steps.{first_view, new_seat, spent_view, one_made, with_joined}
 use Rattle.subvl_queue.proofs.Totals.{sums, sums_end}

@@ -7,7 +7,7 @@ use Rattle.atomic_table.proofs.Lists.{drop_at}
 use mathlib.Core.Option.{some}
 use lib.ListN.{get_elem?}
 use Rattle.subvl_queue.specs.declared.item.Message.{Message}
-use Rattle.subvl_queue.specs.declared.view.View.{View}
+use Rattle.subvl_queue.specs.declared.rule.View.{View}
 use Rattle.subvl_queue.specs.Gathers.{items_of, own_of, places_of, IsGathered, whole, brought_of, brought_back}
 use Rattle.subvl_queue.specs.Queue.{owned}
 use Rattle.subvl_queue.specs.Steps.{IsLog, with_all, holding, freed_of}

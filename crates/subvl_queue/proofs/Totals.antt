@@ -3,11 +3,11 @@ use Rattle.std.proofs.Common.{◌≡◌, ℕ, zero, suc, ◌+◌, ◌-◌, ◌^�
 use mathlib.Core.Option.{some, some-injective, some-ne-none}
 use native.Mathlib.Nat.{add-mod_right}
 use lib.ListN.{get_elem?}
-use Rattle.subvl_queue.specs.declared.view.View.{View}
-use Rattle.subvl_queue.specs.declared.view.Stage.{Stage}
-use Rattle.subvl_queue.specs.declared.view.Stage.TheVariants.{Idle}
-use Rattle.subvl_queue.specs.declared.view.Role.{Role}
-use Rattle.subvl_queue.specs.declared.view.Role.TheVariants.{Spent}
+use Rattle.subvl_queue.specs.declared.rule.View.{View}
+use Rattle.subvl_queue.specs.declared.rule.Stage.{Stage}
+use Rattle.subvl_queue.specs.declared.rule.Stage.TheVariants.{Idle}
+use Rattle.subvl_queue.specs.declared.rule.Role.{Role}
+use Rattle.subvl_queue.specs.declared.rule.Role.TheVariants.{Spent}
 use Rattle.subvl_queue.specs.Queue.{total, hand_of, found_of, wait_of, budget_of, in_hand, in_room, waiting, asks_of, budget}
 
 -- the total after a change of one member

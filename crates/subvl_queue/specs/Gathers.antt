@@ -1,7 +1,7 @@
 -- Messages as bytes alone, and what taking back the senders leaves.
 use Rattle.std.specs.Prelude.{◌≡◌, ℕ, ◌^◌, ◌≤◌, List, [], take, length, map, Option, Some, None}
 use Rattle.subvl_queue.specs.declared.item.Message.{Message}
-use Rattle.subvl_queue.specs.declared.view.View.{View}
+use Rattle.subvl_queue.specs.declared.rule.View.{View}
 use Rattle.subvl_queue.specs.Views.{Brought}
 
 -- each message with its port

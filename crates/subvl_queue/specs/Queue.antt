@@ -9,11 +9,11 @@ use lib.ListN.{get_elem?}
 use Rattle.atomic_table.specs.Table.{State}
 use Rattle.atomic_table.specs.Seated.{TableId}
 use Rattle.atomic_table.specs.declared.shared.Seat.{Seat}
-use Rattle.subvl_queue.specs.declared.view.View.{View}
-use Rattle.subvl_queue.specs.declared.view.Role.{Role}
-use Rattle.subvl_queue.specs.declared.view.Role.TheVariants.{Sender, Receiver, Spent}
-use Rattle.subvl_queue.specs.declared.view.Stage.{Stage}
-use Rattle.subvl_queue.specs.declared.view.Stage.TheVariants.{Idle, Asked, Refused, Drew, Late, Holding}
+use Rattle.subvl_queue.specs.declared.rule.View.{View}
+use Rattle.subvl_queue.specs.declared.rule.Role.{Role}
+use Rattle.subvl_queue.specs.declared.rule.Role.TheVariants.{Sender, Receiver, Spent}
+use Rattle.subvl_queue.specs.declared.rule.Stage.{Stage}
+use Rattle.subvl_queue.specs.declared.rule.Stage.TheVariants.{Idle, Asked, Refused, Drew, Late, Holding}
 
 -- the messages of the port k, each with its place, in a list whose first place is n
 abbrev pub owned : {T : Type 0} → ℕ → ℕ → List (ℕ × T) → List (ℕ × T)

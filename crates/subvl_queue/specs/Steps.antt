@@ -4,13 +4,13 @@ use mathlib.Core.Option.{some}
 use lib.ListN.{get_elem?}
 use Rattle.atomic_table.specs.Table.{Me, Step}
 use Rattle.subvl_queue.specs.Queue.{owned}
-use Rattle.subvl_queue.specs.declared.view.View.{View}
+use Rattle.subvl_queue.specs.declared.rule.View.{View}
 use Rattle.subvl_queue.specs.declared.refused.Why.{Why}
 use Rattle.subvl_queue.specs.declared.refused.Why.TheVariants.{Closed, Exhausted, Full}
-use Rattle.subvl_queue.specs.declared.view.Role.{Role}
-use Rattle.subvl_queue.specs.declared.view.Role.TheVariants.{Sender, Receiver, Spent}
-use Rattle.subvl_queue.specs.declared.view.Stage.{Stage}
-use Rattle.subvl_queue.specs.declared.view.Stage.TheVariants.{Idle, Asked, Refused, Drew, Late, Holding}
+use Rattle.subvl_queue.specs.declared.rule.Role.{Role}
+use Rattle.subvl_queue.specs.declared.rule.Role.TheVariants.{Sender, Receiver, Spent}
+use Rattle.subvl_queue.specs.declared.rule.Stage.{Stage}
+use Rattle.subvl_queue.specs.declared.rule.Stage.TheVariants.{Idle, Asked, Refused, Drew, Late, Holding}
 
 abbrev pub Seated : Type 0 → Type 0
 Seated T = Me (Option (ℕ × T)) (View T)

@@ -1,6 +1,6 @@
 //! All ends of a queue in one hand.
 ghost use Rattle.std.specs.Prelude.{◌≡◌, ◌^◌, ◌<◌, ◌≤◌, [], ◌∷◌, ◌++◌, take, drop, length, Some, IfSome, IfNone};
-ghost use Rattle.subvl_queue.specs.declared.view.Role.TheVariants.{Receiver as AsReceiver};
+ghost use Rattle.subvl_queue.specs.declared.rule.Role.TheVariants.{Receiver as AsReceiver};
 ghost use Rattle.subvl_queue.specs.Messages.{IsMessage};
 ghost use Rattle.subvl_queue.specs.Queue.{RestsAs};
 ghost use Rattle.subvl_queue.specs.Gathers.{items_of, IsGathered, whole};
@@ -24,7 +24,7 @@ pub struct Gathered {
 
 impl Model for Gathered {
     ghost use Rattle.std.specs.Prelude.{drop};
-    ghost use Rattle.subvl_queue.specs.declared.view.Role.TheVariants.{Receiver as AsReceiver};
+    ghost use Rattle.subvl_queue.specs.declared.rule.Role.TheVariants.{Receiver as AsReceiver};
     ghost use Rattle.subvl_queue.specs.Queue.{RestsAs};
     ghost use Rattle.subvl_queue.specs.Gathers.{items_of, IsGathered, whole};
     ghost use Rattle.subvl_queue.specs.Views.{GatheredView};

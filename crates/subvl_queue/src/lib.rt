@@ -11,7 +11,6 @@ mod refused;
 mod ring;
 mod rule;
 mod sender;
-mod view;
 
 pub use gathered::Gathered;
 pub use item::Item;

@@ -1,6 +1,6 @@
 //! The receiving end of a queue.
 ghost use Rattle.std.specs.Prelude.{◌≡◌, ◌+◌, ◌^◌, ◌<◌, ◌≤◌, [], length, IfOk, IfErr, IfSome, IfNone, None, Some, false};
-ghost use Rattle.subvl_queue.specs.declared.view.Role.TheVariants.{Receiver as AsReceiver};
+ghost use Rattle.subvl_queue.specs.declared.rule.Role.TheVariants.{Receiver as AsReceiver};
 ghost use Rattle.subvl_queue.specs.Messages.{IsMessage, AreItems};
 ghost use Rattle.subvl_queue.specs.Queue.{IsAtTable, RestsAs};
 ghost use Rattle.subvl_queue.specs.Steps.{IsNext, with_look, freed_of, holding};
@@ -51,7 +51,7 @@ pub struct Receiver {
 
 impl Model for Receiver {
     ghost use Rattle.std.specs.Prelude.{◌≡◌, ◌^◌, ◌≤◌, [], length, None, IfSome};
-    ghost use Rattle.subvl_queue.specs.declared.view.Role.TheVariants.{Receiver as AsReceiver};
+    ghost use Rattle.subvl_queue.specs.declared.rule.Role.TheVariants.{Receiver as AsReceiver};
     ghost use Rattle.subvl_queue.specs.Queue.{RestsAs};
     ghost use Rattle.subvl_queue.specs.Gathers.{items_of, brought_back};
     ghost use Rattle.subvl_queue.specs.Views.{ReceiverView};

@@ -2,16 +2,15 @@
 ghost use Rattle.std.specs.Prelude.{◌≡◌, ℕ, ◌+◌, ◌%◌, ◌^◌, ◌<◌, ◌≤◌, ◌⊎◌, [], ◌∷◌, false, Some, None, IsTrue, length, true};
 ghost use mathlib.Core.Option.{some};
 ghost use lib.ListN.{get_elem?};
-ghost use Rattle.subvl_queue.specs.declared.view.Role.TheVariants.{Sender, Receiver};
-ghost use Rattle.subvl_queue.specs.declared.view.Stage.TheVariants.{Idle, Asked, Refused, Drew, Late, Holding};
+ghost use Rattle.subvl_queue.specs.declared.rule.Role.TheVariants.{Sender, Receiver};
+ghost use Rattle.subvl_queue.specs.declared.rule.Stage.TheVariants.{Idle, Asked, Refused, Drew, Late, Holding};
 ghost use Rattle.subvl_queue.specs.Queue.{IsAtTable, RestsAs};
 ghost use Rattle.subvl_queue.specs.Steps.{new_seat, Finds, Misses, IsLog, with_ask, idle, drawn, lated, with_glance, with_total, one_made, with_joined, with_all, freed_of};
 
 use crate::item::Message;
 use crate::rule::{
-    Ask, Close, Draw, Freed, Gather, GiveBack, Glance, Look, Make, Ready, Rule, Said, TakeIn,
+    Ask, Close, Draw, Freed, Gather, GiveBack, Glance, Look, Make, Ready, Rule, Said, TakeIn, View,
 };
-use crate::view::View;
 use atomic_table::{Seat, Table};
 use std::alloc::Global;
 

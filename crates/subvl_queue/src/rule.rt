@@ -1,11 +1,48 @@
-//! The rule, and what each step tells. These types are for the proofs alone.
+//! The rule, what a seat at the table knows, and what each step tells. No value of these types is made.
 ghost use Rattle.std.specs.Prelude.{Option, None, length};
 ghost use Rattle.subvl_queue.specs.Queue.{Queue};
 ghost use Rattle.subvl_queue.specs.Steps.{first_view, new_seat, spent_view, asks, gives_back, draws, readies, looks, frees, glances_at, closes, gathers, one_made, with_joined};
 
-use crate::view::View;
 use atomic_table::{Join, Play, Split, TableRule};
+use std::collections::LinkedList;
 use std::marker::{Brand, PhantomData};
+
+pub enum Role {
+    Sender,
+    Receiver,
+    Spent,
+}
+
+pub enum Stage {
+    Idle,
+    Asked,
+    Refused,
+    Drew,
+    Late,
+    Holding,
+}
+
+// `own` has each accepted message with its place; `load` is how many messages were held and asks in
+// hand when the seat last asked; `at` and `item` are of the slot in hand.
+pub struct View<T> {
+    pub role: Role,
+    pub port: u64,
+    pub asks: u64,
+    pub own: LinkedList<(u64, T)>,
+    pub stage: Stage,
+    pub at: u64,
+    pub item: Option<(u8, T)>,
+    pub load: u64,
+    pub glances: u64,
+    pub shut: bool,
+    pub looks: u64,
+    pub found: bool,
+    pub taken: LinkedList<(u8, T)>,
+    pub made: u64,
+    pub joined: LinkedList<(u64, LinkedList<(u64, T)>)>,
+    pub total: Option<u64>,
+    pub all: Option<LinkedList<(u8, T)>>,
+}
 
 pub struct Rule;
 

@@ -1,6 +1,6 @@
 //! The sending ends of a queue.
 ghost use Rattle.std.specs.Prelude.{◌≡◌, ◌%◌, ◌^◌, ◌<◌, ◌≤◌, [], ◌∷◌, length, IfOk, IfErr, None};
-ghost use Rattle.subvl_queue.specs.declared.view.Role.TheVariants.{Sender as AsSender};
+ghost use Rattle.subvl_queue.specs.declared.rule.Role.TheVariants.{Sender as AsSender};
 ghost use Rattle.subvl_queue.specs.Messages.{most_bytes};
 ghost use Rattle.subvl_queue.specs.Queue.{IsAtTable, RestsAs};
 ghost use Rattle.subvl_queue.specs.Steps.{new_seat, drawn, asked_with_room, RefusedBy};
@@ -69,7 +69,7 @@ pub struct Sender {
 
 impl Model for Sender {
     ghost use Rattle.std.specs.Prelude.{◌≡◌, ◌^◌, ◌≤◌, length};
-    ghost use Rattle.subvl_queue.specs.declared.view.Role.TheVariants.{Sender as AsSender};
+    ghost use Rattle.subvl_queue.specs.declared.rule.Role.TheVariants.{Sender as AsSender};
     ghost use Rattle.subvl_queue.specs.Queue.{RestsAs};
     ghost use Rattle.subvl_queue.specs.Gathers.{own_of, places_of};
     ghost use Rattle.subvl_queue.specs.Views.{SenderView};

@@ -1,5 +1,6 @@
 -- The wait of a message, by the polls of its link.
 use Rattle.std.proofs.Common.{ℕ, zero, suc, ◌≡◌, ◌+◌, ◌-◌, ◌*◌, ◌<◌, ◌≤◌, Bool, true, false, nat_le, ◌&&◌, cond, List, [], ◌∷◌, arith, refl, ap, ◌∙◌, sym, ◌⊎◌, inl, inr}
+use native.Mathlib.Nat.{mul-suc}
 use Rattle.std.specs.Prelude.{Option, Some, None}
 use Rattle.std.proofs.lemmas.Bool.{and_from, le-leb, cases_lt, cases_eq, eq-eqb, ne_eqb}
 use Rattle.std.proofs.lemmas.Nat.{mul-le}
@@ -9,7 +10,6 @@ use Rattle.vl_shaper.specs.Pace.{is_due, turn_of, IsLater}
 use Rattle.vl_shaper.specs.declared.shaper.Stamp.{Stamp}
 use Rattle.vl_shaper.specs.Polls.{Poll, IsServed, AreServed, ArePolled, latest_poll, is_of, HasAtPolls, released_by, PolledInTime}
 use Rattle.vl_shaper.proofs.OneEach.{back, back_lt, back_self, turn_cases, chosen_behind}
-use Rattle.vl_shaper.proofs.Waits.{one_more_round}
 
 -- what a poll adds to the count
 counted : (x moment : ℕ) (poll : Poll) (polls : List Poll)
@@ -83,7 +83,7 @@ in_time : (polls : List Poll) (subs x l f gap late before polled moment : ℕ) (
 in_time polls subs x l zero gap late before polled moment last xl ll some after order served paced has near enough reach = omega arith
 in_time [] subs x l (suc f) gap late before polled moment last xl ll some after order served paced has near enough reach =
     let b = back_lt subs x l xl ll in
-    let m = one_more_round subs f in
+    let m = mul-suc subs f in
     let e = enough (omega arith) in
     let p = one_pause 0 (subs * suc f - back subs x l) (gap + late) (omega arith) in
     absurd (omega arith)
@@ -92,7 +92,7 @@ in_time (p ∷ ps) subs x l (suc f) gap late before polled moment last xl ll som
     let had : p.has x ≡ true = has.0 (omega arith) in
     let step = paced.0 in
     let b = back_lt subs x l xl ll in
-    let m = one_more_round subs f in
+    let m = mul-suc subs f in
     let e = enough (omega arith) in
     let one = one_pause 0 (subs * suc f - back subs x l) pause (omega arith) in
     elim (by_release p.released) [

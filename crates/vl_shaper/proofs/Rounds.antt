@@ -1,11 +1,9 @@
 -- Rounds in which every sub-VL has something: the choices that a fragment waits for longest.
 use Rattle.std.proofs.Common.{ℕ, zero, suc, ◌≡◌, ◌≢◌, ◌+◌, ◌-◌, ◌*◌, ◌<◌, ◌≤◌, List, [], ◌∷◌, true, length, arith, refl, ap, ◌∙◌, inl, inr}
-use Rattle.std.proofs.lemmas.Bool.{cases_lt}
-use Rattle.std.proofs.lemmas.Nat.{mul-le}
+use native.Mathlib.Nat.{mul-suc, lt_of_mul-lt-mul_left}
 use Rattle.vl_shaper.specs.Choices.{Choice, next_turn, AreChosen}
 use Rattle.vl_shaper.specs.Latency.{turns_of, HasUntil, BoundIsMet}
 use Rattle.vl_shaper.proofs.OneEach.{back, back_cases, back_self, turn_cases, turn_lt, count_cases}
-use Rattle.vl_shaper.proofs.Waits.{one_more_round}
 
 -- a choice at which every sub-VL had something
 abbrev busy : ℕ → Choice
@@ -58,7 +56,7 @@ few_turns (suc n) subs x l xl ll =
       | inl (e, one, mine) ↦
           let z = back_self subs x next xl e in
           let b = just_before subs x l xl ll e in
-          let all = ap (λ (k : ℕ). subs * k) mine ∙ one_more_round subs (turns_of x cs) in
+          let all = ap (λ (k : ℕ). subs * k) mine ∙ mul-suc subs (turns_of x cs) in
           omega arith
       | inr (ne, none, mine) ↦
           let b = one_further subs x l xl ll ne in
@@ -71,18 +69,12 @@ pub bound_is_met_holds : BoundIsMet
 bound_is_met_holds subs x zero xl some = absurd (omega arith)
 bound_is_met_holds subs x (suc f) xl some =
     let n : ℕ = subs * suc f - 1 in
-    let m = one_more_round subs f in
+    let m = mul-suc subs f in
     let few : subs * turns_of x (rounds subs x n) ≤ n + back subs x x = few_turns n subs x x xl xl in
     let z = back_self subs x x xl refl in (
       rounds subs x n,
       rounds_chosen n subs x xl,
       rounds_have n subs x x (suc f),
       (let l = length-rounds n subs x in omega arith),
-      fewer subs (turns_of x (rounds subs x n)) (suc f) (omega arith),
+      lt_of_mul-lt-mul_left subs (omega arith),
     )
-  where
-    fewer : (s a b : ℕ) → s * a < s * b → a < b
-    fewer s a b less = elim (cases_lt a b) [
-      | inl h ↦ h
-      | inr h ↦ absurd (let m = mul-le s b s a (omega arith) h in omega arith)
-    ]

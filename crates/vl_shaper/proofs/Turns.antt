@@ -1,5 +1,6 @@
 -- The turns of sub-VLs.
-use Rattle.std.proofs.Common.{ℕ, ◌≡◌, ◌+◌, ◌-◌, ◌*◌, ◌/◌, ◌%◌, ◌<◌, ◌≤◌, Option, Some, None, arith, refl, ap, ◌∙◌, ⊎_elim}
+use Rattle.std.proofs.Common.{ℕ, suc, ◌≡◌, ◌+◌, ◌-◌, ◌*◌, ◌/◌, ◌%◌, ◌<◌, ◌≤◌, Option, Some, None, arith, refl, ap, ◌∙◌, ⊎_elim}
+use native.Mathlib.Nat.{suc-mul}
 use Rattle.std.proofs.lemmas.Bool.{cases_lt}
 use Rattle.std.proofs.lemmas.Nat.{mod_below, mod-mul-add, div-add-mod'}
 use Rattle.vl_shaper.specs.Pace.{turn_of}
@@ -9,10 +10,6 @@ use Rattle.vl_shaper.specs.declared.shaper.Stamp.{Stamp}
 pub turn_below : (sub_vls : ℕ) (last : Option Stamp) (k : ℕ) → k < sub_vls → turn_of sub_vls last k < sub_vls
 turn_below sub_vls None k lt = lt
 turn_below sub_vls (Some last) k lt = mod_below (last.sub + 1 + k) sub_vls (omega arith)
-
--- one time more
-more_times : (q n : ℕ) → (q + 1) * n ≡ q * n + n
-more_times q n = grind arith
 
 -- each sub-VL has its turn
 pub turn_onto : (sub_vls : ℕ) (last : Option Stamp) (s : ℕ) → s < sub_vls
@@ -24,11 +21,11 @@ turn_onto sub_vls (Some l) s lt =
     let r : next % sub_vls < sub_vls = mod_below next sub_vls (omega arith) in
     ⊎_elim
     (λ (g : s < next % sub_vls).
-    let m : (next / sub_vls + 1) * sub_vls ≡ next / sub_vls * sub_vls + sub_vls = more_times (next / sub_vls) sub_vls in
-    let at : next + (s + sub_vls - next % sub_vls) ≡ (next / sub_vls + 1) * sub_vls + s = omega arith in (
+    let m : suc (next / sub_vls) * sub_vls ≡ next / sub_vls * sub_vls + sub_vls = suc-mul (next / sub_vls) sub_vls in
+    let at : next + (s + sub_vls - next % sub_vls) ≡ suc (next / sub_vls) * sub_vls + s = omega arith in (
       s + sub_vls - next % sub_vls,
       (omega arith),
-      ap (λ (x : ℕ). x % sub_vls) at ∙ mod-mul-add (next / sub_vls + 1) sub_vls s lt,
+      ap (λ (x : ℕ). x % sub_vls) at ∙ mod-mul-add (suc (next / sub_vls)) sub_vls s lt,
     ))
     (λ (g : next % sub_vls ≤ s).
     let at : next + (s - next % sub_vls) ≡ next / sub_vls * sub_vls + s = omega arith in

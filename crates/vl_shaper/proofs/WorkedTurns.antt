@@ -2,8 +2,8 @@
 use Rattle.std.proofs.Common.{ℕ, ◌≡◌, ◌≢◌, ◌<◌, ◌≤◌, true, refl, arith}
 use Rattle.std.proofs.lemmas.Bool.{ne_eqb}
 use Rattle.std.proofs.lemmas.List.Elements.{All-from_recursion}
-use Rattle.vl_shaper.specs.Choices.{Choice, next_turn, IsChosen, AreChosen}
-use Rattle.vl_shaper.specs.WorkedChoices.{lone_choice, busy_release, four_choices, ChoosesOneEach, WaitsBehindOne, LeavesOneBehind, WaitsFourChoices, ReleasesTooLate}
+use Rattle.vl_shaper.specs.Choices.{Choice, next_turn, IsChosen}
+use Rattle.vl_shaper.specs.WorkedChoices.{lone_choice, busy_release, ChoosesOneEach, WaitsBehindOne, LeavesOneBehind, WaitsFourChoices, ReleasesTooLate}
 
 -- the sub-VL that is asked first is chosen
 pub first_chosen : (subs : ℕ) (order : ℕ → ℕ) (c : Choice) → 1 ≤ subs → c.sub ≡ order 0 → c.has c.sub ≡ true
@@ -32,13 +32,9 @@ again_of_two = again 2 1 (omega arith) refl (λ k h e. omega arith)
 pub chooses_one_each : ChoosesOneEach
 chooses_one_each = search (arith, first_chosen, again_of_three)
 
--- four choices of a link of two
-four_chosen : AreChosen 2 0 four_choices
-four_chosen = search (arith, first_chosen)
-
 -- the row of a message behind another one
 pub waits_behind_one : WaitsBehindOne
-waits_behind_one = search (arith, first_chosen, again_of_two, four_chosen)
+waits_behind_one = search (arith, first_chosen, again_of_two)
 
 -- the row of one choice fewer
 pub leaves_one_behind : LeavesOneBehind
