@@ -1,12 +1,13 @@
--- How long a sub-VL waits, in choices and by the clock.
-use Rattle.std.proofs.Common.{ℕ, zero, suc, ◌≡◌, ◌+◌, ◌-◌, ◌*◌, ◌<◌, ◌≤◌, List, [], ◌∷◌, length, take, arith, subst, inl, inr}
-use native.Mathlib.Nat.{mul-suc, suc-mul}
+-- How long a sub-VL waits, in choices and by the clock, and rounds in which it waits that long.
+use Rattle.std.proofs.Common.{ℕ, zero, suc, ◌≡◌, ◌≢◌, ◌+◌, ◌-◌, ◌*◌, ◌<◌, ◌≤◌, List, [], ◌∷◌, length, take, arith, refl, ap, ◌∙◌, subst, inl, inr}
+use native.Mathlib.Nat.{mul-suc, suc-mul, lt_of_mul-lt-mul_left}
 use Rattle.std.specs.Prelude.{All}
 use Rattle.std.proofs.lemmas.List.{length-map, take-map, take_all}
 use Rattle.std.proofs.lemmas.List.Elements.{All-cons, All-nil, All-weaker}
-use Rattle.vl_shaper.specs.Choices.{Choice, AreChosen}
-use Rattle.vl_shaper.specs.Latency.{turns_of, HasUntil, QueuedMessage, Release, choices_of, IsPaced, IsBy, InTime}
-use Rattle.vl_shaper.proofs.OneEach.{back, back_lt, back_self, chosen_behind, count_cases}
+use Rattle.vl_shaper.specs.Choices.{Choice, next_turn, AreChosen}
+use Rattle.vl_shaper.specs.Latency.{turns_of, HasUntil, QueuedMessage, BoundIsMet, Release, choices_of, IsPaced, IsBy, InTime}
+use Rattle.vl_shaper.specs.WorkedChoices.{busy_choice}
+use Rattle.vl_shaper.proofs.OneEach.{back, back_cases, back_lt, back_self, turn_cases, turn_lt, chosen_behind, count_cases}
 
 -- the first n choices: more than the sub-VLs that are still before x, and a round for each turn but the first
 pub waits : (n : ℕ) (choices : List Choice) (subs x l f : ℕ) → x < subs → l < subs → AreChosen subs l choices → HasUntil x f choices
@@ -58,4 +59,74 @@ in_time_holds subs x last q f gap late start releases xl ll chosen has paced eno
       subst (λ (cs : List Choice). q + f ≤ turns_of x cs) (take-map (λ (r : Release). r.choice) n releases)
           (waits n (choices_of releases) subs x last (q + f) xl ll chosen has (omega arith) (omega arith)),
       by_then n gap late start releases paced,
+    )
+
+-- n choices at which every sub-VL has something, after this one was served
+abbrev rounds : ℕ → ℕ → ℕ → List Choice
+rounds subs last zero = []
+rounds subs last (suc n) = busy_choice (next_turn subs last 0) ∷ rounds subs (next_turn subs last 0) n
+
+-- there are so many
+length-rounds : (n subs last : ℕ) → length (rounds subs last n) ≡ n
+length-rounds zero subs last = refl
+length-rounds (suc n) subs last = ap suc (length-rounds n subs (next_turn subs last 0))
+
+-- each is the first in cyclic order
+rounds_chosen : (n subs last : ℕ) → last < subs → AreChosen subs last (rounds subs last n)
+rounds_chosen zero subs last below = tt
+rounds_chosen (suc n) subs last below = (
+  record { turn = 0; within = omega arith; is = refl; had = refl; before = λ k h. absurd (omega arith) },
+  rounds_chosen n subs (next_turn subs last 0) (turn_lt subs last 0 below (omega arith)),
+)
+
+-- each sub-VL had something throughout
+rounds_have : (n subs last x many : ℕ) → HasUntil x many (rounds subs last n)
+rounds_have zero subs last x many = tt
+rounds_have (suc n) subs last x many =
+    let next : ℕ = next_turn subs last 0 in
+    ((λ h. refl), rounds_have n subs next x (many - turns_of x (busy_choice next ∷ [])))
+
+-- the next one lies one further behind x, or is x itself
+one_further : (subs x l : ℕ) → x < subs → l < subs → next_turn subs l 0 ≢ x
+    → back subs x (next_turn subs l 0) ≡ suc (back subs x l)
+one_further subs x l xl ll ne =
+    grind (arith, turn_cases subs l 0 ll (omega arith), back_cases subs x l, back_cases subs x (next_turn subs l 0))
+
+-- the one before x lies a whole round but one behind it
+just_before : (subs x l : ℕ) → x < subs → l < subs → next_turn subs l 0 ≡ x → suc (back subs x l) ≡ subs
+just_before subs x l xl ll e = grind (arith, turn_cases subs l 0 ll (omega arith), back_cases subs x l)
+
+-- x has at most a turn a round
+few_turns : (n subs x l : ℕ) → x < subs → l < subs → subs * turns_of x (rounds subs l n) ≤ n + back subs x l
+few_turns zero subs x l xl ll = omega arith
+few_turns (suc n) subs x l xl ll =
+    let next : ℕ = next_turn subs l 0 in
+    let cs : List Choice = rounds subs next n in
+    let below : next < subs = turn_lt subs l 0 ll (omega arith) in
+    let rest : subs * turns_of x cs ≤ n + back subs x next = few_turns n subs x next xl below in
+    elim (count_cases x (busy_choice next) cs) [
+      | inl (e, one, mine) ↦
+          let z = back_self subs x next xl e in
+          let b = just_before subs x l xl ll e in
+          let all = ap (λ (k : ℕ). subs * k) mine ∙ mul-suc subs (turns_of x cs) in
+          omega arith
+      | inr (ne, none, mine) ↦
+          let b = one_further subs x l xl ll ne in
+          let all = ap (λ (k : ℕ). subs * k) mine in
+          omega arith
+    ]
+
+-- the law, by rounds that begin behind x itself
+pub bound_is_met_holds : BoundIsMet
+bound_is_met_holds subs x zero xl some = absurd (omega arith)
+bound_is_met_holds subs x (suc f) xl some =
+    let n : ℕ = subs * suc f - 1 in
+    let m = mul-suc subs f in
+    let few : subs * turns_of x (rounds subs x n) ≤ n + back subs x x = few_turns n subs x x xl xl in
+    let z = back_self subs x x xl refl in (
+      rounds subs x n,
+      rounds_chosen n subs x xl,
+      rounds_have n subs x x (suc f),
+      (let l = length-rounds n subs x in omega arith),
+      lt_of_mul-lt-mul_left subs (omega arith),
     )

@@ -22,19 +22,13 @@ again subs turn within is before = record {
   before = λ k h. ne_eqb (next_turn subs 1 k) 1 (before k h);
 }
 
-again_of_three : IsChosen 3 (next_turn 3 1) lone_choice
-again_of_three = again 3 2 (omega arith) refl (λ k h e. omega arith)
-
-again_of_two : IsChosen 2 (next_turn 2 1) lone_choice
-again_of_two = again 2 1 (omega arith) refl (λ k h e. omega arith)
-
 -- the row of one each
 pub chooses_one_each : ChoosesOneEach
-chooses_one_each = search (arith, first_chosen, again_of_three)
+chooses_one_each = search (arith, first_chosen, again 3 2 (omega arith) refl (λ k h e. omega arith))
 
 -- the row of a message behind another one
 pub waits_behind_one : WaitsBehindOne
-waits_behind_one = search (arith, first_chosen, again_of_two)
+waits_behind_one = search (arith, first_chosen, again 2 1 (omega arith) refl (λ k h e. omega arith))
 
 -- the row of one choice fewer
 pub leaves_one_behind : LeavesOneBehind

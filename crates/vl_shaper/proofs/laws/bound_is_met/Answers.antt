@@ -1,4 +1,4 @@
-use Rattle.vl_shaper.proofs.Rounds.{bound_is_met_holds}
+use Rattle.vl_shaper.proofs.Waits.{bound_is_met_holds}
 use Rattle.vl_shaper.proofs.WorkedTurns.{leaves_one_behind}
 use Rattle.vl_shaper.proofs.laws.bound_is_met.Goals as goal
 
