@@ -22,19 +22,42 @@ impl Model for Trail {
 // SAFETY: it owns nothing (proofs/trail/Trail/TheSendSync).
 unsafe impl Send for Trail {}
 
+/// How a trail is read off a value.
+trait Shows<X> {
+    ghost logged: { X → List Logged };
+}
+
+struct Nothing;
+
+impl Shows<()> for Nothing {
+    ghost logged = { λ _. [] };
+}
+
+struct Longer;
+
+impl<'a> Shows<(&'a Trail, &'a Networks, &'a u64, &'a [u8])> for Longer {
+    ghost logged = { λ x. x.0.now.logged ++ logged_for x.1.now (entry x.2.now x.3.now) ∷ [] };
+}
+
 impl Trail {
-    /// Of no frame.
-    pub fn new() -> Trail
-        ensures { result.logged ≡ [] }
+    fn of<X, S: Shows<X>>(_x: &X) -> Trail
+        ensures { result.logged ≡ S.logged _x.now }
     {
         Trail {}
     }
 
-    /// With one frame more at its end.
-    pub fn with(_before: &Trail, _networks: &Networks, _at: &u64, _frame: &[u8]) -> Trail
-        ensures { result.logged ≡
-            _before.now.logged ++ logged_for _networks.now (entry _at.now _frame.now) ∷ [] }
+    /// Of no frame.
+    pub fn new() -> Trail
+        ensures { result.logged ≡ [] }
     {
-        Trail {}
+        Trail::of::<(), Nothing>(&())
+    }
+
+    /// With one frame more at its end.
+    pub fn with(before: &Trail, networks: &Networks, at: &u64, frame: &[u8]) -> Trail
+        ensures { result.logged ≡
+            before.now.logged ++ logged_for networks.now (entry at.now frame.now) ∷ [] }
+    {
+        Trail::of::<(&Trail, &Networks, &u64, &[u8]), Longer>(&(before, networks, at, frame))
     }
 }
