@@ -1,8 +1,7 @@
 -- Networks through some hands.
-use Rattle.std.proofs.Common.{ℕ, ◌≡◌, List, Bool, true, false, ◌&&◌, ◌||◌, refl, ap, sym, ◌∙◌, inl, inr, ⊎_elim, arith}
-use Rattle.std.proofs.lemmas.Bool.{cases_Bool, both_ways, and_parts, or_cases}
+use Rattle.std.proofs.Common.{ℕ, ◌≡◌, List, Bool, true, false, refl, sym, ◌∙◌, inl, inr, ⊎_elim, arith}
+use Rattle.std.proofs.lemmas.Bool.{cases_Bool, both_ways, and_parts, and_from, or_cases, or_left, or_right}
 use Rattle.afdx_plan.specs.declared.networks.Networks.{Networks}
-use Rattle.afdx_plan.specs.Networks.{names_a, names_b}
 use Rattle.redundant_mux.specs.Entry.{Entry}
 use Rattle.redundant_mux.specs.Lines.{Lines, Handing, Endures, BothEndure, stands_for}
 
@@ -18,12 +17,7 @@ endures_none s h f = record {
 -- through one
 endures_hand : (named : Bool) (e : Entry) (stood stands : Bool) (old new : List Entry) (f g : ℕ)
     → Handing named e stood stands old new f g → Endures stood stands old new f g
-endures_hand false e stood stands old new f g p = record {
-  stays = ((λ up. (sym p.0 ∙ up, p.2)), (λ both. p.0 ∙ both.0));
-  least = omega (arith, p.2);
-  most = omega (arith, p.2);
-  down = λ _. (p.1, p.2);
-}
+endures_hand false e stood stands old new f g p = rw (p.0, p.1, p.2) (endures_none stood old f)
 endures_hand true e true true old new f g p = record {
   stays = ((λ _. (refl, p.1)), (λ _. refl));
   least = omega (arith, p.1);
@@ -36,12 +30,7 @@ endures_hand true e true false old new f g p = record {
   most = omega (arith, p.1);
   down = λ no. absurd (both_ways true no refl);
 }
-endures_hand true e false false old new f g p = record {
-  stays = ((λ up. absurd (both_ways false refl up)), (λ both. both.0));
-  least = omega (arith, p.1);
-  most = omega (arith, p.1);
-  down = λ _. p;
-}
+endures_hand true e false false old new f g p = rw (p.0, p.1) (endures_none false old f)
 endures_hand true e false true old new f g p = absurd p
 
 -- through some, and then some more
@@ -92,17 +81,6 @@ both_on before mid after p q = record {
 pub stood_before : (before after : Lines) (networks : Networks) → BothEndure before after → stands_for networks after ≡ true
     → stands_for networks before ≡ true
 stood_before before after networks p some = ⊎_elim
-    (λ (x : (names_a networks && after.a_stands) ≡ true).
-    let both = and_parts (names_a networks) after.a_stands x in
-    ap (λ (t : Bool). (t && before.a_stands) || (names_b networks && before.b_stands)) both.0
-    ∙ ap (λ (t : Bool). t || (names_b networks && before.b_stands)) (p.a.stays.0 both.1).0)
-    (λ (y : (names_b networks && after.b_stands) ≡ true).
-    let both = and_parts (names_b networks) after.b_stands y in
-    ap (λ (t : Bool). (names_a networks && before.a_stands) || (t && before.b_stands)) both.0
-    ∙ ap (λ (t : Bool). (names_a networks && before.a_stands) || t) (p.b.stays.0 both.1).0
-    ∙ or_true (names_a networks && before.a_stands))
-    (or_cases (names_a networks && after.a_stands) (names_b networks && after.b_stands) some)
-  where
-    or_true : (t : Bool) → (t || true) ≡ true
-    or_true true = refl
-    or_true false = refl
+    (λ x. let both = and_parts _ _ x in or_left _ _ (and_from _ _ both.0 (p.a.stays.0 both.1).0))
+    (λ y. let both = and_parts _ _ y in or_right _ _ (and_from _ _ both.0 (p.b.stays.0 both.1).0))
+    (or_cases _ _ some)
