@@ -1,5 +1,5 @@
 -- A network in memory.
-use Rattle.std.specs.Prelude.{ℕ, List, Option, map}
+use Rattle.std.specs.Prelude.{ℕ, List, [], Option, map}
 use Rattle.redundant_mux.specs.Entry.{Entry, entry}
 use Rattle.redundant_mux.specs.declared.memory.Handed.{Handed}
 
@@ -11,6 +11,10 @@ pub record Memory : Type 0 where
   pub failures : ℕ
   pub asked : ℕ
   pub fails_at : Option ℕ
+
+-- one that was handed nothing, by which hand is to fail
+abbrev pub unused : Option ℕ → Memory
+unused fails_at = record { handed = []; capacity = 0; failures = 0; asked = 0; fails_at = fails_at }
 
 abbrev pub entry_of : Handed → Entry
 entry_of one = entry one.at one.frame.items

@@ -8,15 +8,39 @@ use afdx_frame::{Frame, GREATEST_FRAME};
 use std::alloc::Global;
 use std::marker::Model;
 
-/// A frame that was handed over, and its moment in microseconds.
+/// A frame that was handed over, and its time in microseconds.
 #[derive(Debug, Drop)]
 pub struct Handed {
     pub at: u64,
     pub frame: Frame,
 }
 
-/// A network that keeps what it is handed. Contracts see what was handed to it, for how many frames
-/// it has memory, its failures, how often it was asked, and which hand is to fail.
+impl Handed {
+    ghost use Rattle.redundant_mux.specs.Memory.{entry_of};
+
+    /// A place for a frame.
+    pub(crate) fn empty() -> Handed {
+        Handed {
+            at: 0,
+            frame: Frame::new(),
+        }
+    }
+
+    /// Puts a frame in the place of another.
+    pub(crate) fn fill(&mut self, at: u64, frame: &[u8])
+        requires { length frame.now ≤ GREATEST_FRAME }
+        ensures { entry_of self.new ≡ entry at frame.now }
+    {
+        self.at = at;
+        self.frame.clear();
+        if self.frame.try_extend_from_slice(frame).is_err() {
+            unreachable!();
+        }
+    }
+}
+
+/// A network that keeps what it is handed. Contracts see the frames, for how many there is memory, the
+/// failures, how often `hand` was called, and which of these calls is to fail.
 #[derive(Drop)]
 pub struct MemNetwork {
     handed: Vec<Handed>,
@@ -41,17 +65,11 @@ impl Model for MemNetwork {
 }
 
 impl MemNetwork {
-    ghost use Rattle.redundant_mux.specs.Memory.{Memory, entries};
+    ghost use Rattle.redundant_mux.specs.Memory.{entries, unused};
 
-    /// A network that was handed nothing. A hand fails only where memory was refused.
+    /// A network that was handed nothing. A hand fails only if an allocation fails.
     pub fn new(alloc: Global) -> MemNetwork
-        ensures { result ≡ record {
-          handed = [];
-          capacity = 0;
-          failures = 0;
-          asked = 0;
-          fails_at = None;
-        } }
+        ensures { result ≡ unused None }
     {
         MemNetwork {
             handed: Vec::new(alloc),
@@ -61,23 +79,14 @@ impl MemNetwork {
         }
     }
 
-    /// As `new`, but the hand numbered `k`, counted from 1, fails. The hands after it are taken
-    /// again: to give a network up is its caller's part.
+    /// As `new`, but call `k` of `hand`, counted from 1, fails. Later calls succeed again: to give a
+    /// network up is its caller's part.
     pub fn failing_at(alloc: Global, k: u64) -> MemNetwork
-        ensures { result ≡ record {
-          handed = [];
-          capacity = 0;
-          failures = 0;
-          asked = 0;
-          fails_at = Some k;
-        } }
+        ensures { result ≡ unused (Some k) }
     {
-        MemNetwork {
-            handed: Vec::new(alloc),
-            failures: 0,
-            asked: 0,
-            fails_at: Some(k),
-        }
+        let mut network = MemNetwork::new(alloc);
+        network.fails_at = Some(k);
+        network
     }
 
     /// What was handed over, in order.
@@ -87,7 +96,7 @@ impl MemNetwork {
         &self.handed
     }
 
-    /// How often a hand failed.
+    /// How many calls of `hand` failed.
     pub fn failures(&self) -> u64
         ensures { result ≡ self.now.failures }
     {
@@ -102,10 +111,8 @@ impl Network for MemNetwork {
 
     ghost failures = { λ m. m.failures };
 
-    /// Keeps the frame and its moment at the end of the list. The hand that is to fail does, and so
-    /// does one for which memory is refused: no other. After an error the list is as it was, the failure is
-    /// counted, and the next hand is tried like any other. The count of hands stays at the greatest
-    /// u64, and no later hand is the one that is to fail.
+    /// Appends the frame. Only the call that is to fail does, and one for which an allocation fails. The
+    /// count of calls stays at the greatest u64, and no later call is the one that is to fail.
     fn hand(&mut self, at: u64, frame: &[u8]) -> Result<(), HandFault>
         requires short { length frame.now ≤ GREATEST_FRAME }
         requires few { self.old.failures + 1 < 2 ^ 64 }
@@ -130,7 +137,7 @@ impl Network for MemNetwork {
     }
 }
 
-/// Counts a hand, up to the greatest u64. Whether it is the one that is to fail.
+/// Counts a call, up to the greatest u64. Returns whether it is the one that is to fail.
 fn counts_to(asked: &mut u64, fails_at: Option<u64>) -> bool
     ensures fails { fails_at ≡ Some (asked.old + 1) → result ≡ true }
     ensures other { fails_at ≢ Some (asked.old + 1) → result ≡ false }
@@ -145,8 +152,7 @@ fn counts_to(asked: &mut u64, fails_at: Option<u64>) -> bool
     }
 }
 
-/// Keeps a frame at the end, where memory suffices. Whether it does. The frame is filled where it
-/// stands, and not moved there.
+/// Appends a frame, and returns whether memory sufficed. The frame is filled in place.
 fn keep(handed: &mut Vec<Handed>, at: u64, frame: &[u8]) -> bool
     requires { length frame.now ≤ GREATEST_FRAME }
     ensures kept { result ≡ true →
@@ -156,16 +162,9 @@ fn keep(handed: &mut Vec<Handed>, at: u64, frame: &[u8]) -> bool
     ensures capacity { vec_capacity handed.old ≤ vec_capacity handed.new }
 {
     let end = handed.len();
-    let empty = Handed {
-        at,
-        frame: Frame::new(),
-    };
-    if handed.push(empty).is_err() {
+    if handed.push(Handed::empty()).is_err() {
         return false;
     }
-    let kept = &mut handed[end];
-    if kept.frame.try_extend_from_slice(frame).is_err() {
-        unreachable!();
-    }
+    handed[end].fill(at, frame);
     true
 }

@@ -194,10 +194,9 @@ impl<A: Network + Drop, B: Network + Drop> Mux<A, B> {
         (a, b)
     }
 
-    /// Hands each network that is named and stands its twin of a frame for A, at a moment in
-    /// microseconds, once. A network that fails is down for good. Answers which networks stand
-    /// afterwards; where no network that is named stood, nothing has changed. `BothDown` where both
-    /// were down before, and then nothing has changed.
+    /// Hands each network that is named and up its twin of a frame for A, once, at `at` in microseconds. A
+    /// network that fails stays down. Returns which networks are up afterwards, or `BothDown` if neither
+    /// was before. If no network that is named was up, nothing has changed.
     pub fn hand(&mut self, at: u64, frame: &Frame, networks: Networks) -> Result<Standing, BothDown>
         requires { twin_of ForA frame.now.items ≡ frame.now.items }
         ensures down { IsErr result ↔ ((self.old.a_stands ≡ false) × (self.old.b_stands ≡ false)) }

@@ -1,12 +1,9 @@
 //! A network that keeps the last frames that it was handed.
-ghost use Rattle.std.specs.Prelude.{◌≡◌, ◌+◌, ◌<◌, ◌≤◌, [], length, IfOk};
-ghost use Rattle.redundant_mux.specs.Entry.{entry};
-ghost use Rattle.redundant_mux.specs.Memory.{entry_of};
+ghost use Rattle.std.specs.Prelude.{◌≡◌, length, IfOk};
 
 use crate::memory::Handed;
 use crate::network::{HandFault, Network};
 use crate::trail::Trail;
-use afdx_frame::{Frame, GREATEST_FRAME};
 use afdx_plan::Networks;
 use std::alloc::{AllocError, Global};
 use std::boxed::BoxedSlice;
@@ -51,24 +48,9 @@ fn make_slots(alloc: Global) -> Result<Vec<Handed>, AllocError>
 {
     let mut slots = Vec::with_capacity(alloc, ROOM)?;
     for _ in 0..ROOM {
-        slots.push(Handed {
-            at: 0,
-            frame: Frame::new(),
-        })?;
+        slots.push(Handed::empty())?;
     }
     Ok(slots)
-}
-
-/// Puts a frame in the place of another.
-fn fill(slot: &mut Handed, at: u64, frame: &[u8])
-    requires { length frame.now ≤ GREATEST_FRAME }
-    ensures { entry_of slot.new ≡ entry at frame.now }
-{
-    slot.at = at;
-    slot.frame.clear();
-    if slot.frame.try_extend_from_slice(frame).is_err() {
-        unreachable!();
-    }
 }
 
 impl Outbox {
@@ -76,8 +58,8 @@ impl Outbox {
     ghost use Rattle.redundant_mux.specs.Outbox.{IsAmongLast, entry_at};
     ghost use Rattle.redundant_mux.specs.Memory.{entry_of};
 
-    /// An outbox that was handed nothing. It fails every `hand` while `fails` is set. It takes all the memory that
-    /// it ever needs.
+    /// An outbox that was handed nothing. It fails every `hand` while `fails` is set. Later calls allocate
+    /// nothing.
     pub fn new(alloc: Global, fails: Arc<AtomicBool, Global>) -> Result<Outbox, AllocError>
         ensures { IfOk result (λ outbox. outbox ≡ record { handed = []; failures = 0 }) }
     {
@@ -97,8 +79,7 @@ impl Outbox {
         self.count
     }
 
-    /// The frame with a number, counted from 0: `None` exactly where it isn't among the last 64 that
-    /// were handed over.
+    /// The frame with a number, counted from 0: `None` exactly if it isn't among the last 64.
     pub fn frame(&self, number: u64) -> Option<&Handed>
         ensures some { IsSome result ↔ IsAmongLast (length self.now.handed) number }
         ensures frame { IfSome result (λ kept. entry_of kept.now ≡ entry_at self.now.handed number) }
@@ -111,34 +92,20 @@ impl Outbox {
 }
 
 impl Network for Outbox {
-    ghost use Rattle.std.specs.Prelude.{◌≡◌, ◌+◌, ◌^◌, ◌<◌, ◌≤◌, [], ◌∷◌, ◌++◌, length, OnOk, OnErr};
-    ghost use Rattle.redundant_mux.specs.Entry.{entry};
     ghost use Rattle.redundant_mux.specs.Outbox.{OutboxView};
 
     ghost handed = { λ o. o.handed };
 
     ghost failures = { λ o. o.failures };
 
-    /// Keeps the frame and its moment in the place of the one 64 frames before. It fails while its flag
-    /// is set, and once it was handed 2^64 - 1 frames; then what was handed over is as it was, and the
-    /// failure is counted.
-    fn hand(&mut self, at: u64, frame: &[u8]) -> Result<(), HandFault>
-        requires short { length frame.now ≤ GREATEST_FRAME }
-        requires few { self.old.failures + 1 < 2 ^ 64 }
-        ensures ok { OnOk result (self.new.handed ≡ self.old.handed ++ entry at frame.now ∷ []) }
-        ensures ok_failures { OnOk result (self.new.failures ≡ self.old.failures) }
-        ensures err { OnErr result (self.new.handed ≡ self.old.handed) }
-        ensures err_failures { OnErr result (self.new.failures ≡ self.old.failures + 1) }
-    {
+    /// Puts the frame in the slot of the one 64 frames before. It fails while its flag is set, and once it
+    /// was handed 2^64 - 1 frames.
+    fn hand(&mut self, at: u64, frame: &[u8]) -> Result<(), HandFault> {
         if self.fails.load(Ordering::SeqCst) || self.count == u64::MAX {
             self.failures += 1;
             return Err(HandFault);
         }
-        fill(
-            &mut self.slots[(self.count % ROOM as u64) as usize],
-            at,
-            frame,
-        );
+        self.slots[(self.count % ROOM as u64) as usize].fill(at, frame);
         self.count += 1;
         // Contracts read the entries alone, so any `Networks` will do.
         self.trail = Trail::with(&self.trail, &Networks::Both, &at, frame);
