@@ -1,43 +1,25 @@
 //! What was sent of a link is counted.
-ghost use Rattle.std.specs.Prelude.{◌≡◌, ◌≤◌, ◌∷◌, ◌++◌, [], List, length, nat_lt, if◌then◌else◌};
+ghost use Rattle.std.specs.Prelude.{◌≡◌, ◌≤◌, ◌++◌, List, length, nat_lt, if◌then◌else◌};
 ghost use Rattle.afdx_frame.specs.Profile.{fragment_field};
 ghost use Rattle.afdx_frame.specs.Roles.{more_fragments};
-ghost use Rattle.redundant_mux.specs.Entry.{Entry, entry};
+ghost use Rattle.redundant_mux.specs.Entry.{Entry};
 ghost use Rattle.afdx_legal.specs.Counting.{counts_in};
 ghost use Rattle.vl_link.specs.Turn.{entered, HasHeaders};
 
 use crate::served::Served;
 use status_board::Counts;
 
-// The flag of more fragments in the word of flags and offset (RFC 791, 3.1).
-const MORE_FRAGMENTS: u16 = 0x2000;
-
-// How many messages end with a frame: one, unless more fragments follow.
+// How many messages end with a frame: one, unless the flag of more fragments is set (RFC 791, 3.1).
 #[inline(always)]
 fn messages_ended(frame: &[u8]) -> u64
     requires { 22 ≤ length frame.now }
     ensures { result ≡ (if nat_lt (fragment_field frame.now) more_fragments then 1 else 0) }
 {
-    let flags = u16::from(frame[20]) * 256 + u16::from(frame[21]);
-    if flags < MORE_FRAGMENTS { 1 } else { 0 }
+    if frame[20] < 0x20 { 1 } else { 0 }
 }
 
-// The counts of a stream with one frame more. A count stays at the greatest number once it is there.
-#[inline(always)]
-fn with_frame(counts: &Counts, at: u64, frame: &[u8]) -> Counts
-    requires { 22 ≤ length frame.now }
-    ensures { (stream : List Entry) → counts.now ≡ counts_in stream →
-        result ≡ counts_in (stream ++ entry at frame.now ∷ []) }
-{
-    Counts {
-        frames: counts.frames.saturating_add(1),
-        bytes: counts.bytes.saturating_add(frame.len() as u64),
-        messages: counts.messages.saturating_add(messages_ended(frame)),
-        last: at,
-    }
-}
-
-/// The counts of a link's stream after a turn, which made the frame that it released.
+/// The counts of a link's stream after a turn, which made the frame that it released. A count stays at the
+/// greatest number once it is there.
 #[inline(always)]
 pub fn counts_after(counts: &Counts, did: &Served, now: u64, frame: &[u8]) -> Counts
     requires { HasHeaders did.now frame.now }
@@ -45,7 +27,12 @@ pub fn counts_after(counts: &Counts, did: &Served, now: u64, frame: &[u8]) -> Co
         result ≡ counts_in (stream ++ entered now did.now frame.now) }
 {
     match did {
-        Served::Released { .. } => with_frame(counts, now, frame),
+        Served::Released { .. } => Counts {
+            frames: counts.frames.saturating_add(1),
+            bytes: counts.bytes.saturating_add(frame.len() as u64),
+            messages: counts.messages.saturating_add(messages_ended(frame)),
+            last: now,
+        },
         _ => *counts,
     }
 }
