@@ -1,9 +1,11 @@
 -- Small facts on lists and fragments.
-use Rattle.std.proofs.Common.{ℕ, suc, ◌≡◌, ◌≢◌, ◌+◌, ◌-◌, List, [], ◌∷◌, length, map, arith, refl, ap, Bool, true, false, not, Some}
-use Rattle.std.specs.Prelude.{nat_le, if◌then◌else◌}
-use Rattle.afdx_plan.specs.Room.{room_of, step_of}
-use Rattle.afdx_frame.specs.Cutting.{Cutting, cut_by, cutting, pieces_from, pieces_left}
+use Rattle.std.proofs.Common.{ℕ, ◌≡◌, ◌≢◌, ◌+◌, ◌<◌, List, [], ◌∷◌, length, map, arith, refl, ap, Bool, true, false, not, Some}
+use Rattle.afdx_plan.specs.Room.{room_of}
+use Rattle.afdx_frame.specs.declared.net.Net.TheVariants.{A}
+use Rattle.afdx_frame.specs.Cutting.{Cutting, cutting, pieces_from, pieces_left}
 use Rattle.afdx_frame.specs.Fragments.{Sent, fragments_at}
+use Rattle.afdx_frame.specs.Frame.{unnumbered}
+use Rattle.afdx_frame.proofs.CuttingLemmas.{cutting_some}
 use Rattle.vl_link.specs.declared.sub_vl.SubVl.{SubVl}
 use Rattle.vl_link.specs.Links.{TellsCutting, left_of, message_fragments}
 
@@ -20,24 +22,12 @@ done_tells of cut true h = ap (map _) ((h (room_of of.link.lmax)).0 refl)
 done_tells of cut false h = λ none. let e : false ≡ true =
     (h (room_of of.link.lmax)).1 (map_nil _ (pieces_left (room_of of.link.lmax) cut) none) in cc
 
--- every cutting has a length
-cut_some : (turns room n : ℕ) → cut_by (suc turns) room n ≢ []
-cut_some turns room n = some (nat_le n room)
-  where
-    some : (b : Bool) → (if b then n ∷ [] else step_of room ∷ cut_by turns room (n - step_of room)) ≢ []
-    some true = λ e. cc
-    some false = λ e. cc
-
--- each length gives a piece
-pieces_some : (start : ℕ) (lengths : List ℕ) → lengths ≢ [] → pieces_from start lengths ≢ []
-pieces_some start [] some = λ e. some refl
-pieces_some start (len ∷ rest) some = λ e. cc
-
 -- every message has a fragment
 pub fragments_some : (of : SubVl) (place : ℕ) (sent : Sent) → message_fragments of place sent ≢ []
-unfolding fragments_at cutting
-fragments_some of place sent =
-    let size : 8 + length sent.bytes ≡ suc (7 + length sent.bytes) = omega arith in
-    let lengths : cut_by (8 + length sent.bytes) (room_of of.link.lmax) (8 + length sent.bytes) ≢ [] = rw size
-    (cut_some _ _ _) in
-    λ none. pieces_some 0 _ lengths (map_nil _ _ none)
+unfolding fragments_at
+fragments_some of place sent = some (cutting (room_of of.link.lmax) (8 + length sent.bytes)) (cutting_some _ _ (omega arith))
+  where
+    some : (lengths : List ℕ) → 0 < length lengths
+        → map (λ piece. unnumbered of.end_system sent.port sent.bytes place piece A) (pieces_from 0 lengths) ≢ []
+    some [] h = λ e. absurd (omega arith)
+    some (len ∷ rest) h = λ e. cc

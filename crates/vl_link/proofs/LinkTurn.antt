@@ -1,7 +1,6 @@
 -- One turn of a link, against its stream.
 use Rattle.std.proofs.Common.{ℕ, ◌≡◌, ◌≢◌, ◌<◌, List, length, false, arith, ap, ◌∙◌, sym, subst, inl, inr, ⊎_elim, Option, None}
 use Rattle.std.proofs.lemmas.Bool.{cases_eq, and_parts, both_ways}
-use Rattle.afdx_plan.specs.declared.link_plan.LinkPlan.{LinkPlan}
 use Rattle.afdx_plan.specs.Room.{room_of}
 use Rattle.afdx_plan.specs.Numbers.{sequence_number}
 use Rattle.afdx_frame.specs.declared.net.Net.TheVariants.{A}
@@ -16,13 +15,12 @@ use Rattle.vl_link.specs.declared.served.Served.{Served}
 use Rattle.vl_link.specs.declared.served.Served.TheVariants.{Nothing, Released, Lost}
 use Rattle.vl_link.specs.declared.sub_vl.SubVl.{SubVl}
 use Rattle.afdx_legal.specs.Counting.{counts_in}
-use Rattle.afdx_legal.specs.Streams.{link_stream, sub_stream, told, told_of, entry_number, IsNumbered, IsSpaced, IsApart, IsPrefixOf}
-use Rattle.vl_link.specs.Turn.{TurnView, IsChoice, Releases, Loses, is_lost}
-use Rattle.vl_link.specs.Links.{Held, LinkState, held_at, Passes, GivesFrame, held_view, Serves, Follows, HasOwnItems, IsSameLink, IsLinkOfPlan, sub_fragments, taken_by}
+use Rattle.afdx_legal.specs.Streams.{link_stream, sub_stream, told, entry_number, IsNumbered, IsSpaced, IsApart, IsPrefixOf}
+use Rattle.vl_link.specs.Turn.{TurnView, Releases, Loses, is_lost}
+use Rattle.vl_link.specs.Links.{Held, LinkState, held_at, GivesFrame, held_view, Serves, Follows, HasOwnItems, IsSameLink, IsLinkOfPlan, sub_fragments, taken_by}
 use Rattle.vl_link.specs.Kept.{IsKept, IsTied, IsLinkTied}
 use Rattle.vl_link.specs.Shown.{none_begun, ShowsChoices}
 use Rattle.vl_link.proofs.ShownTurns.{shows_push, choice_shown}
-use Rattle.vl_link.proofs.Choosing.{Moves}
 use Rattle.vl_link.proofs.TurnLaws.{choice_below, choice_other}
 use Rattle.vl_link.proofs.SubInStep.{tied_moves, tied_gave, prefix_of, shown, gave_shown}
 use Rattle.afdx_legal.proofs.LongerStream.{spaced_push, numbered_push, due_apart, with_push_in, with_push_out}
@@ -72,42 +70,13 @@ link_turn now link new lines after did t own = subst IsOwn (sym (same_plan link 
   named = λ s lt. (t.same.subs s).of ∙ own.named s (omega (arith, t.same.count));
 })
 
--- a sub-VL of the link after a turn
-named_at : (link new : LinkState) (s : ℕ) → IsOwn link → IsSameLink link new → s < link.plan.sub_vls
-    → (held_at new.subs s).of ≡ record { end_system = link.end_system; link = link.plan; sub = s }
-named_at link new s own same lt = (same.subs s).of ∙ own.named s (omega (arith, own.count, own.sub_vls))
-
--- a prefix, by the sub-VL that it is of
-prefix_at : (link new : LinkState) (s : ℕ) (H : List Entry) → IsOwn link → IsSameLink link new → s < link.plan.sub_vls
-    → IsTied (held_at new.subs s) (sub_stream s (link_stream link.plan.id.0 H))
-    → IsPrefixOf (told_of link.plan.id.0 s H)
-    (fragments link.end_system (room_of link.plan.lmax) A (taken_by (held_at new.subs s)))
-prefix_at link new s H own same lt t =
-    subst (λ (o : SubVl). IsPrefixOf (told_of link.plan.id.0 s H) (sub_fragments o 0 (taken_by (held_at new.subs s))))
-    (named_at link new s own same lt) (prefix_of (held_at new.subs s) _ t)
-
--- what happened to each sub-VL in a turn that did nothing
-moves_nothing : (now : ℕ) (plan : LinkPlan) (pace : Pace) (old new : List Held) (lines after : Lines)
-    → Serves now plan pace old new lines after Nothing → (s : ℕ) → s < pace.sub_vls → Moves (held_at old s) (held_at new s)
-moves_nothing now plan pace old new lines after v s lt = ⊎_elim
-    (λ h. inr (inr (h.1 s)))
-    (λ h. inl (h.1.each s lt))
-    v.0
-
--- what happened to one that wasn't chosen
-moves_other : (pace : Pace) (old new : List Held) (sub : ℕ) (frame : List ℕ)
-    → IsChoice pace (λ s. GivesFrame (held_at old s) frame (held_at new s)) (λ s. Passes (held_at old s) (held_at new s))
-    (λ s. held_at new s ≡ held_at old s) sub → (s : ℕ) → s ≢ sub → Moves (held_at old s) (held_at new s)
-moves_other pace old new sub frame c s ne = ⊎_elim
-    (λ (p : Passes (held_at old s) (held_at new s)). inl p)
-    (λ (e : held_at new s ≡ held_at old s). inr (inr e))
-    (choice_other pace (λ i. GivesFrame (held_at old i) frame (held_at new i)) (λ i. Passes (held_at old i) (held_at new i))
-    (λ i. held_at new i ≡ held_at old i) sub c s ne)
-
--- the chosen one had the fragments of its frame and of what it has left
-shows_tied : (old new : Held) (frame : List ℕ) (stream : List Entry) → (g : GivesFrame old frame new) → IsTied old stream
-    → IsTied g.mid stream
-shows_tied old new frame stream g t = tied_moves old g.mid stream (inr (inl g.asked)) t
+-- a prefix of what a sub-VL shows, by the sub-VL that it is
+prefix_at : (link new : LinkState) (s : ℕ) (front : List (List ℕ)) → IsOwn link → IsSameLink link new → s < link.plan.sub_vls
+    → IsPrefixOf front (shown (held_at new.subs s))
+    → IsPrefixOf front (fragments link.end_system (room_of link.plan.lmax) A (taken_by (held_at new.subs s)))
+prefix_at link new s front own same lt p =
+    subst (λ (o : SubVl). IsPrefixOf front (sub_fragments o 0 (taken_by (held_at new.subs s))))
+    ((same.subs s).of ∙ own.named s (omega (arith, own.count, own.sub_vls))) p
 
 -- each sub-VL's stream after the frame of the chosen one entered
 tied_released : (now number : ℕ) (link : LinkState) (sub : ℕ) (news : List Held) (lines after : Lines)
@@ -123,11 +92,12 @@ tied_released now number link sub news lines after at before s lt =
     let g = subst (λ (i : ℕ). GivesFrame (held_at link.subs i) at.frame (held_at news i)) (sym same) at.choice.chosen in
     subst (IsTied (held_at news s))
     (sym (ap (sub_stream s) more ∙ with_push_in of s stream (entry now at.frame) (at.of.of_sub ∙ sym same)))
-    (tied_gave now at.frame g.mid (held_at news s) _ g.gives (shows_tied _ _ at.frame _ g (before s lt))))
+    (tied_gave now at.frame g.mid (held_at news s) _ g.gives (tied_moves _ g.mid _ (inr (inl g.asked)) (before s lt))))
     (λ (ne : s ≢ sub).
     subst (IsTied (held_at news s))
     (sym (ap (sub_stream s) more ∙ with_push_out of s stream (entry now at.frame) (λ q. ne (sym q ∙ at.of.of_sub))))
-    (tied_moves _ _ _ (moves_other link.pace link.subs news sub at.frame at.choice s ne) (before s lt)))
+    (tied_moves (held_at link.subs s) (held_at news s) _
+    (⊎_elim (λ p. inl p) (λ e. inr (inr e)) (choice_other link.pace _ _ _ sub at.choice s ne)) (before s lt)))
     (cases_eq s sub)
 
 -- each sub-VL's stream begins the fragments of what it took, where a frame of the chosen one was lost
@@ -138,10 +108,10 @@ prefix_lost : (link : LinkState) (news : List Held) (lines after : Lines)
 prefix_lost link news lines after at before s lt = ⊎_elim
     (λ (same : s ≡ at.sub).
     let g = subst (λ (i : ℕ). GivesFrame (held_at link.subs i) at.frame (held_at news i)) (sym same) at.choice.chosen in
-    (g.mid.left, sym (gave_shown at.frame g.mid _ g.gives ∙ shows_tied _ _ at.frame _ g (before s lt))))
+    (g.mid.left, sym (gave_shown at.frame g.mid _ g.gives ∙ tied_moves _ g.mid _ (inr (inl g.asked)) (before s lt))))
     (λ (ne : s ≢ at.sub).
-    prefix_of (held_at news s) _ (tied_moves _ _ _ (moves_other link.pace link.subs news at.sub at.frame at.choice s
-    ne) (before s lt)))
+    prefix_of (held_at news s) _ (tied_moves (held_at link.subs s) (held_at news s) _
+    (⊎_elim (λ p. inl p) (λ e. inr (inr e)) (choice_other link.pace _ _ _ at.sub at.choice s ne)) (before s lt)))
     (cases_eq s at.sub)
 
 -- the same, at a link that has the plan of the one before
@@ -149,13 +119,13 @@ kept_of_plan : (now : ℕ) (did : Served) (link new : LinkState) (lines after : 
     → Turned now link (of_plan link new) lines after did → IsOwn link → HasItems link → IsKept link (log lines)
     → IsKept (of_plan link new) (log after)
 kept_of_plan now Nothing link new lines after t own items k =
-    let tied = λ (s : ℕ) (lt : s < link.plan.sub_vls). tied_moves _ _ _
-    (moves_nothing now link.plan link.pace link.subs new.subs lines after t.serves s (omega (arith, own.sub_vls)))
+    let tied = λ (s : ℕ) (lt : s < link.plan.sub_vls). tied_moves (held_at link.subs s) (held_at new.subs s) _
+    (⊎_elim (λ h. inr (inr (h.1 s))) (λ h. inl (h.1.each s (omega (arith, own.sub_vls)))) t.serves.0)
     (k.tied t.whole s lt) in
     rw (t.serves.1) (record {
       numbered = k.numbered;
       spaced = k.spaced;
-      prefixes = λ s lt. prefix_at link _ s (log lines) own t.same lt (tied s lt);
+      prefixes = λ s lt. prefix_at link _ s _ own t.same lt (prefix_of (held_at new.subs s) _ (tied s lt));
       chosen = k.chosen;
       paced = λ _. rw (t.serves.1) at t.paced;
       tied = λ _. tied;
@@ -176,7 +146,7 @@ kept_of_plan now (Released sub number) link new lines after t own items k =
           (spaced_push link.pace.gap None stream (entry now at.frame) k.spaced
           (subst (λ (o : Option Stamp). IsApart link.pace.gap o now) last
           (due_apart link.pace.gap link.pace.last now t.later (and_parts _ _ t.serves.0).0)));
-      prefixes = λ s lt. prefix_at link _ s (log after) own t.same lt (tied s lt);
+      prefixes = λ s lt. prefix_at link _ s _ own t.same lt (prefix_of (held_at new.subs s) _ (tied s lt));
       chosen = subst (ShowsChoices link.pace.sub_vls None none_begun) (sym more)
           (shows_push link.pace.sub_vls None none_begun stream (entry now at.frame) k.chosen
           (choice_shown now number link sub new.subs lines after at own (k.tied t.whole) items last k.chosen));
@@ -190,15 +160,12 @@ kept_of_plan now Lost link new lines after t own items k =
     let below : at.sub < link.plan.sub_vls = omega (arith, choice_below link.pace _ _ _ at.sub at.choice, own.sub_vls)
     in
     let g = at.choice.chosen in
-    let mid = shows_tied _ _ at.frame _ g (k.tied t.whole at.sub below) in
+    let mid = tied_moves _ g.mid _ (inr (inl g.asked)) (k.tied t.whole at.sub below) in
     let same = log_same lines after at.same in
     rw same (record {
       numbered = k.numbered;
       spaced = k.spaced;
-      prefixes = λ s lt.
-          subst (λ (o : SubVl). IsPrefixOf (told_of link.plan.id.0 s (log lines))
-          (sub_fragments o 0 (taken_by (held_at new.subs s))))
-          (named_at link _ s own t.same lt) (prefix_lost link new.subs lines after at (k.tied t.whole) s lt);
+      prefixes = λ s lt. prefix_at link _ s _ own t.same lt (prefix_lost link new.subs lines after at (k.tied t.whole) s lt);
       chosen = k.chosen;
       paced = λ whole. absurd (both_ways _ whole t.lost);
       tied = λ whole. absurd (both_ways _ whole t.lost);

@@ -1,6 +1,6 @@
 -- A stream that shows choices takes turns.
 use Rattle.std.proofs.Common.{ℕ, ◌≡◌, ◌≢◌, ◌+◌, ◌<◌, ◌≤◌, List, [], ◌∷◌, ◌++◌, Bool, true, false, cond, eqb, length, arith, refl, ap, ◌∙◌, sym, subst, ⊎_elim, Option, Some, None}
-use Rattle.std.specs.Prelude.{count_by, All}
+use Rattle.std.specs.Prelude.{count_by}
 use Rattle.std.proofs.lemmas.List.Sums.{sum_by-cons}
 use Rattle.std.proofs.lemmas.Bool.{cases_eq, eq-eqb, ne_eqb}
 use Rattle.afdx_frame.specs.Header.{sub_in}
@@ -78,10 +78,6 @@ count_more y c cs e es q h =
 shows_none : (subs last x y : ℕ) → ShowsPassed subs last x y []
 shows_none subs last x y = record { choices = []; chosen = tt; passed = tt; count = refl }
 
--- a sub-VL of which a message is begun had something when another was chosen
-has_begun : (begun : ℕ → Bool) (sub x : ℕ) → sub ≢ x → begun x ≡ true → (shown_choice begun sub).has x ≡ true
-has_begun begun sub x ne is = ap (λ (t : Bool). cond t true (begun x)) (ne_eqb x sub (λ e. ne (sym e))) ∙ is
-
 -- the entries before the next one of a sub-VL of which a message is begun
 shows_passed : (subs x y : ℕ) (last : Stamp) (begun : ℕ → Bool) (S : List Entry) → begun x ≡ true
     → ShowsChoices subs (Some last) begun S → ShowsPassed subs last.sub x y (before_next x S)
@@ -96,7 +92,7 @@ shows_passed subs x y last begun (e ∷ es) is h = ⊎_elim
     (record {
       choices = shown_choice begun (sub_in e.frame) ∷ r.choices;
       chosen = (h.0, r.chosen);
-      passed = (has_begun begun (sub_in e.frame) x ne is, ne, r.passed);
+      passed = (ap (λ (t : Bool). cond t true (begun x)) (ne_eqb x _ (λ q. ne (sym q))) ∙ is, ne, r.passed);
       count = count_more y (shown_choice begun (sub_in e.frame)) r.choices e (before_next x es) refl r.count;
     }))
     (cases_eq (sub_in e.frame) x)
@@ -115,11 +111,6 @@ takes_turns subs last begun (e ∷ es) h = (
   takes_turns subs (Some (stamp_of e)) (begun_after begun e) es h.1,
 )
 
--- the messages that a sub-VL took have room in the offset
-taken_short : (held : Held) → HasOwnItems held → All IsShort (taken_by held)
-taken_short held items = All-map IsShort (sent_of held.ports) (taken_of held.seen)
-    (λ j d lt. (items_taken (length held.ports) held.seen items j d lt).message.most)
-
 -- a sub-VL that was passed over has no message begun
 passed_whole : (link : LinkState) (new : Held) (log : List Entry) (s : ℕ) → IsLinkTied link log → s < link.plan.sub_vls
     → HasOwnItems (held_at link.subs s) → Passes (held_at link.subs s) new
@@ -127,7 +118,9 @@ passed_whole : (link : LinkState) (new : Held) (log : List Entry) (s : ℕ) → 
 passed_whole link new log s tied lt items p =
     let held = held_at link.subs s in
     let stream = link_stream link.plan.id.0 log in
-    not_begun held.of.end_system (room_of held.of.link.lmax) A stream s (taken_by held) (taken_short held items)
+    not_begun held.of.end_system (room_of held.of.link.lmax) A stream s (taken_by held)
+    (All-map IsShort (sent_of held.ports) (taken_of held.seen)
+    (λ j d lt. (items_taken (length held.ports) held.seen items j d lt).message.most))
     (tied s lt ∙ ap (λ (left : List (List ℕ)). told (sub_stream s stream) ++ left) p.whole
     ∙ append-nil (told (sub_stream s stream)))
 

@@ -1,6 +1,6 @@
 -- A turn of a link, whatever is known of its sub-VLs.
-use Rattle.std.proofs.Common.{ℕ, zero, suc, ◌≡◌, ◌≢◌, ◌⊎◌, ◌+◌, ◌<◌, ◌≤◌, ◌&&◌, List, Bool, true, false, arith, refl, ap, ◌∙◌, sym, subst, inl, inr, ⊎_elim}
-use Rattle.std.proofs.lemmas.Bool.{cases_eq, cases_lt}
+use Rattle.std.proofs.Common.{ℕ, zero, suc, ◌≡◌, ◌≢◌, ◌⊎◌, ◌+◌, ◌<◌, ◌≤◌, List, true, false, arith, refl, ap, ◌∙◌, sym, subst, inl, inr, ⊎_elim}
+use Rattle.std.proofs.lemmas.Bool.{cases_eq, cases_lt, and_right}
 use Rattle.afdx_plan.specs.declared.link_plan.LinkPlan.{LinkPlan}
 use Rattle.redundant_mux.specs.Lines.{Lines, BothEndure, stands_for}
 use Rattle.redundant_mux.proofs.Enduring.{both_none, both_on}
@@ -15,9 +15,7 @@ use Rattle.vl_shaper.proofs.Turns.{turn_below}
 pub choice_below : (pace : Pace) (has lacks rests : ℕ → Type 0) (sub : ℕ) → IsChoice pace has lacks rests sub
     → sub < pace.sub_vls
 choice_below pace has lacks rests sub c =
-    let below : turn_of pace.sub_vls pace.last c.turn < pace.sub_vls = turn_below pace.sub_vls pace.last c.turn c.within in
-    let is = c.is in
-    omega arith
+    rw c.is (turn_below pace.sub_vls pace.last c.turn c.within)
 
 -- another than the chosen one has nothing, or wasn't asked
 pub choice_other : (pace : Pace) (has lacks rests : ℕ → Type 0) (sub : ℕ) → IsChoice pace has lacks rests sub
@@ -110,11 +108,7 @@ turns_endure P k (suc many) lines after f r =
 -- no turn of a link of whose networks none stands releases anything
 pub may_not : (now : ℕ) (plan : LinkPlan) (pace : Pace) (lines : Lines) → stands_for plan.networks lines ≡ false
     → may_release now plan pace lines ≡ false
-may_not now plan pace lines down = ap (λ (t : Bool). is_due pace.gap pace.last now && t) down ∙ and_false (is_due pace.gap pace.last now)
-  where
-    and_false : (t : Bool) → (t && false) ≡ false
-    and_false true = refl
-    and_false false = refl
+may_not now plan pace lines down = and_right (is_due pace.gap pace.last now) _ down
 
 -- Turns of one kind are turns of another.
 pub turns_seen : (P Q : ℕ → Lines → Lines → Served → Type 0) (k many : ℕ) (lines after : Lines)
