@@ -4,7 +4,7 @@ use Rattle.std.proofs.lemmas.List.{length-set, get_or-set_same, get_or-set_other
 use Rattle.std.proofs.lemmas.Bool.{cases_eq}
 use Rattle.std.proofs.lemmas.Grind.{get_or-set_at}
 use Rattle.vl_shaper.specs.Pace.{Pace, turn_of}
-use Rattle.vl_link.specs.Links.{Held, held_at, nothing_held, Asks, IsPicked, PassedOver}
+use Rattle.vl_link.specs.Links.{Held, held_at, nothing_held, Asks, Passes, PassedOver}
 
 -- the sub-VL that was set
 pub held_same : (subs : List Held) (s : ℕ) (h : Held) → s < length subs → held_at (set subs s h) s ≡ h
@@ -27,65 +27,39 @@ met f (suc k) s = ⊎_elim
     (λ ne. inr (λ j lt. below_more (λ i. f i ≡ s → ⊥) k h ne j (omega arith))) (cases_eq (f k) s))
     (met f k s)
 
--- no sub-VL but one has this turn
-abbrev IsOnlyAt : Pace → ℕ → ℕ → Type 0
-IsOnlyAt pace k sub = (j : ℕ) → j < pace.sub_vls → turn_of pace.sub_vls pace.last j ≡ sub → j ≡ k
+-- the next one in turn was asked
+pub record AskedNext (pace : Pace) (old new : List Held) (k sub : ℕ) (has : Bool) : Type 0 where
+  pub count : length new ≡ length old
+  pub here : Asks has (held_at old sub) (held_at new sub)
+  pub before : (j : ℕ) → j < k
+      → Passes (held_at old (turn_of pace.sub_vls pace.last j)) (held_at new (turn_of pace.sub_vls pace.last j))
+  pub others : (s : ℕ) → ((j : ℕ) → j ≤ k → turn_of pace.sub_vls pace.last j ≡ s → ⊥) → held_at new s ≡ held_at old s
 
--- those that were asked before another was set are as they were then
-before_set : (pace : Pace) (old new : List Held) (k sub : ℕ) (h : Held) → PassedOver pace old new k
-    → IsOnlyAt pace k sub
-    → k < pace.sub_vls → (j : ℕ) → j < k
-    → Asks false (held_at old (turn_of pace.sub_vls pace.last j))
-    (held_at (set new sub h) (turn_of pace.sub_vls pace.last j))
-before_set pace old new k sub h p only kl j jl =
-    rw (get_or-set_other new sub (turn_of pace.sub_vls pace.last j) h nothing_held
-    (λ e. let q = only j (omega arith) e in omega arith)) (p.before j jl)
+pub asked_next : (pace : Pace) (old new : List Held) (k sub : ℕ) (d h : Held) (has : Bool) → PassedOver pace old new k
+    → sub ≡ turn_of pace.sub_vls pace.last k
+    → ((j : ℕ) → j < pace.sub_vls → turn_of pace.sub_vls pace.last j ≡ sub → j ≡ k)
+    → k < pace.sub_vls → sub < length new → Asks has (get_or new sub d) h → AskedNext pace old (set new sub h) k sub has
+asked_next pace old new k sub d h has p is only kl lt a =
+    let earlier : (j : ℕ) → j < k → turn_of pace.sub_vls pace.last j ≢ sub = λ j jl e.
+    let same = only j (omega arith) e in omega arith in
+    record {
+      count = length-set new sub h ∙ p.count;
+      here = rw (held_same new sub h lt) (subst (λ (x : Held). Asks has x h)
+          (get_or_default new sub d nothing_held lt ∙ p.others sub earlier) a);
+      before = λ j jl. rw (get_or-set_other new sub _ h nothing_held (earlier j jl)) (p.before j jl);
+      others = λ s not. get_or-set_other new sub s h nothing_held (λ e. not k (omega arith) (sym (e ∙ is)))
+          ∙ p.others s (λ j jl. not j (omega arith));
+    }
 
--- and so are those that weren't asked
-others_set : (pace : Pace) (old new : List Held) (k sub : ℕ) (h : Held) → PassedOver pace old new k
-    → sub ≡ turn_of pace.sub_vls pace.last k → (s : ℕ) → ((j : ℕ) → j ≤ k → turn_of pace.sub_vls pace.last j ≡ s → ⊥)
-    → held_at (set new sub h) s ≡ held_at old s
-others_set pace old new k sub h p is s not =
-    get_or-set_other new sub s h nothing_held (λ e. not k (omega arith) (sym (e ∙ is)))
-    ∙ p.others s (λ j jl. not j (omega arith))
-
--- what the one whose turn it is answered, against what it was
-asked_here : (pace : Pace) (old new : List Held) (k sub : ℕ) (d h : Held) (b : Bool) → PassedOver pace old new k
-    → IsOnlyAt pace k sub → k < pace.sub_vls → sub < length new → Asks b (get_or new sub d) h
-    → Asks b (held_at old sub) (held_at (set new sub h) sub)
-asked_here pace old new k sub d h b p only kl lt a =
-    rw (held_same new sub h lt) (subst (λ (x : Held). Asks b x h) (get_or_default new sub d nothing_held lt
-    ∙ p.others sub (λ j jl e. let q = only j (omega arith) e in omega arith)) a)
-
--- one more that was asked had nothing
-pub passed_sub : (pace : Pace) (old new : List Held) (k sub : ℕ) (d h : Held)
-    → sub ≡ turn_of pace.sub_vls pace.last k → PassedOver pace old new k → IsOnlyAt pace k sub
-    → k < pace.sub_vls → sub < length new → Asks false (get_or new sub d) h
-    → PassedOver pace old (set new sub h) (k + 1)
-passed_sub pace old new k sub d h is p only kl lt a = record {
-  count = length-set new sub h ∙ p.count;
-  before = below_more (λ j. Asks false (held_at old (turn_of pace.sub_vls pace.last j))
-      (held_at (set new sub h) (turn_of pace.sub_vls pace.last j))) k (before_set pace old new k sub h p only kl)
-      (subst (λ i. Asks false (held_at old i) (held_at (set new sub h) i)) is
-      (asked_here pace old new k sub d h false p only kl lt a));
-  others = λ s not. others_set pace old new k sub h p is s (λ j jl. not j (omega arith));
-}
-
--- the one that was asked has something
-pub chosen_sub : (pace : Pace) (old new : List Held) (k sub : ℕ) (d h : Held)
-    → sub ≡ turn_of pace.sub_vls pace.last k → PassedOver pace old new k → IsOnlyAt pace k sub
-    → k < pace.sub_vls → sub < length new → Asks true (get_or new sub d) h → IsPicked pace old sub (set new sub h)
-chosen_sub pace old new k sub d h is p only kl lt a = record {
-  count = length-set new sub h ∙ p.count;
-  below = omega (arith, p.count);
-  choice = record {
-    turn = k;
-    within = kl;
-    is = is;
-    chosen = asked_here pace old new k sub d h true p only kl lt a;
-    before = before_set pace old new k sub h p only kl;
-    others = others_set pace old new k sub h p is;
-  };
+-- it had nothing
+pub passed_next : (pace : Pace) (old new : List Held) (k sub : ℕ) → AskedNext pace old new k sub false
+    → sub ≡ turn_of pace.sub_vls pace.last k → PassedOver pace old new (k + 1)
+passed_next pace old new k sub asked is = record {
+  count = asked.count;
+  before = below_more (λ j. Passes (held_at old (turn_of pace.sub_vls pace.last j))
+      (held_at new (turn_of pace.sub_vls pace.last j))) k asked.before
+      (subst (λ (i : ℕ). Passes (held_at old i) (held_at new i)) is asked.here);
+  others = λ s not. asked.others s (λ j jl. not j (omega arith));
 }
 
 -- a sub-VL was asked, or is as it was

@@ -59,18 +59,13 @@ moves_of old new (inr (inr e)) = same_sub_here old new e
 pub passed_same : (pace : Pace) (old new : List Held) (n : ℕ) → PassedOver pace old new n → AreSameSubs old new
 passed_same pace old new n p s = moves_of (held_at old s) (held_at new s) (moves_passed pace old new n p s)
 
--- what happened to each sub-VL where one was chosen
-moves_chosen : (pace : Pace) (old : List Held) (sub : ℕ) (new : List Held) → IsPicked pace old sub new
-    → (s : ℕ) → Moves (held_at old s) (held_at new s)
-moves_chosen pace old sub new c s = ⊎_elim
-    (λ (e : s ≡ sub). inr (inl (subst (λ (i : ℕ). Asks true (held_at old i) (held_at new i)) (sym e) c.choice.chosen)))
-    (λ (ne : s ≢ sub). ⊎_elim (λ p. inl p) (λ e. inr (inr e)) (choice_other pace _ _ _ sub c.choice s ne))
-    (cases_eq s sub)
-
 -- sub-VLs of which one was chosen stay themselves
 pub chosen_same : (pace : Pace) (old : List Held) (sub : ℕ) (new : List Held) → IsPicked pace old sub new
     → AreSameSubs old new
-chosen_same pace old sub new c s = moves_of (held_at old s) (held_at new s) (moves_chosen pace old sub new c s)
+chosen_same pace old sub new c s = moves_of (held_at old s) (held_at new s) (⊎_elim
+    (λ (e : s ≡ sub). inr (inl (subst (λ (i : ℕ). Asks true (held_at old i) (held_at new i)) (sym e) c.choice.chosen)))
+    (λ (ne : s ≢ sub). ⊎_elim (λ p. inl p) (λ e. inr (inr e)) (choice_other pace _ _ _ sub c.choice s ne))
+    (cases_eq s sub))
 
 -- and so does one that gave its next frame
 pub gave_same : (frame : List ℕ) (old new : Held) → Gives old frame new → IsSameSub old new

@@ -1,5 +1,4 @@
 pub mod Seen
-pub mod QueueEnds
 pub mod Turn
 pub mod Links
 pub mod Subs

@@ -1,5 +1,5 @@
 -- A link of an emitter, and what one turn of it does.
-use Rattle.std.specs.Prelude.{ℕ, ◌≡◌, ◌⊎◌, ◌<◌, List, [], ◌∷◌, ◌++◌, Bool, true, false, length, map, get_or, Option, Some, None}
+use Rattle.std.specs.Prelude.{ℕ, ◌≡◌, ◌⊎◌, ◌<◌, List, [], ◌∷◌, Bool, true, false, length, map, get_or, Option, Some, None}
 use Rattle.afdx_plan.specs.Config.{link_plan_at, port_plan_at}
 use Rattle.afdx_plan.specs.Plan.{bag_micros}
 use Rattle.afdx_plan.specs.Numbers.{sequence_number}
@@ -7,12 +7,10 @@ use Rattle.afdx_plan.specs.Room.{room_of}
 use Rattle.afdx_plan.specs.declared.link_plan.LinkPlan.{LinkPlan}
 use Rattle.afdx_plan.specs.declared.port_plan.PortPlan.{PortPlan}
 use Rattle.afdx_frame.specs.declared.net.Net.TheVariants.{A}
-use Rattle.afdx_frame.specs.Header.{IsFrameOf}
 use Rattle.afdx_frame.specs.Cutting.{Cutting}
 use Rattle.afdx_frame.specs.Fragments.{Sent, blanked, fragments_at, fragments_from, fragments_left}
-use Rattle.redundant_mux.specs.Entry.{Entry, entry}
-use Rattle.redundant_mux.specs.Logged.{logged_for}
-use Rattle.redundant_mux.specs.Lines.{Lines, stands_for, log}
+use Rattle.redundant_mux.specs.Entry.{Entry}
+use Rattle.redundant_mux.specs.Lines.{Lines, log}
 use Rattle.subvl_queue.specs.Messages.{IsItem, AreItems}
 use Rattle.vl_shaper.specs.Pace.{Pace, turn_of}
 use Rattle.vl_link.specs.Turn.{TurnView, IsChoice, Turn}
@@ -197,21 +195,6 @@ pace_of gap sub_vls stream = record {
 pub record Gives (old : Held) (frame : List ℕ) (new : Held) : Type 0 where
   pub next : old.left ≡ blanked frame ∷ new.left
   pub same : new ≡ record old { left = new.left }
-
--- at least one network that carries its link took the frame of a sub-VL
-pub record SendsNext (now number : ℕ) (old new : Held) (lines after : Lines) : Type 0 where
-  pub frame : List ℕ
-  pub enters : after.logged ≡ lines.logged ++ logged_for old.of.link.networks (entry now frame) ∷ []
-  pub of : IsFrameOf old.of.link.id.0 old.of.sub number A frame
-  pub gives : Gives old frame new
-  pub stands : stands_for old.of.link.networks after ≡ true
-
--- the last network that carries its link failed, and with it the frame of a sub-VL
-pub record FailsNext (old new : Held) (lines after : Lines) : Type 0 where
-  pub frame : List ℕ
-  pub gives : Gives old frame new
-  pub same : after.logged ≡ lines.logged
-  pub down : stands_for old.of.link.networks after ≡ false
 
 -- a sub-VL had something when it was asked, and gave its next frame
 pub record GivesFrame (old : Held) (frame : List ℕ) (new : Held) : Type 0 where

@@ -4,7 +4,15 @@ use Rattle.afdx_plan.specs.Plan.{IsLink, IsPort, SendsOver}
 use Rattle.afdx_plan.specs.declared.port_plan.PortPlan.{PortPlan}
 use Rattle.afdx_frame.specs.Cutting.{Cutting}
 use Rattle.vl_link.specs.declared.sub_vl.SubVl.{SubVl}
-use Rattle.vl_link.specs.Seen.{Seen, taken_of, ports_of}
+use Rattle.vl_link.specs.declared.queue.Queue.{Queue}
+use Rattle.vl_link.specs.declared.queue.Queue.TheVariants.{Receiving, Gathered, Empty}
+use Rattle.vl_link.specs.Seen.{Seen, receiving, gathered, nothing_seen, taken_of, ports_of}
+
+-- the receiver, or all ends; a queue that was moved out stands as one of no ports
+abbrev pub seen_of : Queue → Seen
+seen_of (Receiving r) = receiving r
+seen_of (Gathered g) = gathered g
+seen_of Empty = nothing_seen
 
 -- a port of this sub-VL
 pub record IsPortOf (owner : SubVl) (sender : PortPlan) : Type 0 where

@@ -1,13 +1,9 @@
 //! A link: its sub-VLs in turn.
-ghost use Rattle.std.specs.Prelude.{◌≡◌, ◌≢◌, ℕ, ◌+◌, ◌<◌, ◌≤◌, [], ◌∷◌, ◌++◌, true, false, Some, length, IfSome, IfNone};
-ghost use Rattle.afdx_plan.specs.Numbers.{sequence_number};
-ghost use Rattle.vl_shaper.specs.Pace.{IsLater, is_due};
+ghost use Rattle.std.specs.Prelude.{◌≡◌, ◌<◌, ◌++◌, true, length, IfSome, IfNone};
+ghost use Rattle.vl_shaper.specs.Pace.{IsLater};
 ghost use Rattle.redundant_mux.specs.Lines.{BothEndure, log};
 ghost use Rattle.afdx_legal.specs.Streams.{link_stream};
-ghost use Rattle.redundant_mux.specs.Entry.{entry};
-ghost use Rattle.afdx_frame.specs.declared.net.Net.TheVariants.{A as ForA};
-ghost use Rattle.afdx_frame.specs.Header.{IsFrameOf};
-ghost use Rattle.vl_link.specs.Links.{pace_of, AreSubsOf, IsSameSub, AreSameSubs, Serves, Follows, SendsNext, FailsNext, IsPicked, PassedOver};
+ghost use Rattle.vl_link.specs.Links.{pace_of, AreSubsOf, AreSameSubs, Serves, Follows, IsPicked, PassedOver};
 ghost use Rattle.vl_link.specs.Turn.{entered, may_release, HasHeaders};
 ghost use Rattle.vl_link.specs.LinkDone.{TellsSubsDone};
 ghost use Rattle.vl_link.specs.LinkGathering.{AreFullSubs, GathersSubs};
@@ -25,7 +21,7 @@ use std::marker::Model;
 use subvl_queue::Sender;
 use vl_shaper::Shaper;
 
-/// The sub-VL that is to be served, whose next message is then being sent.
+/// Picks the sub-VL to serve, whose next message is then being sent.
 fn choose(shaper: &Shaper, subs: &mut [Sub]) -> Option<u8>
     requires { length subs.old ≡ shaper.now.sub_vls }
     ensures chosen { IfSome result (λ sub. IsPicked shaper.now subs.old sub subs.new) }
@@ -40,47 +36,6 @@ fn choose(shaper: &Shaper, subs: &mut [Sub]) -> Option<u8>
         }
     }
     None
-}
-
-/// Sends the next frame of a sub-VL, and answers its number. None: no network that carries its link
-/// stands any more.
-fn send_next<A: Network + Drop, B: Network + Drop>(
-    shaper: &mut Shaper,
-    sub: &mut Sub,
-    frame: &mut Frame,
-    mux: &mut Mux<A, B>,
-    now: u64,
-) -> Option<u8>
-    requires something { sub.old.left ≢ [] }
-    requires below { sub.old.of.sub < shaper.old.sub_vls }
-    requires later { IsLater shaper.old.last now }
-    requires due { is_due shaper.old.gap shaper.old.last now ≡ true }
-    ensures number { IfSome result (λ number. number ≡ shaper.old.next) }
-    ensures released { IfSome result
-        (λ number. SendsNext now number sub.old sub.new mux.old mux.new) }
-    ensures lost { IfNone result (FailsNext sub.old sub.new mux.old mux.new) }
-    ensures frame { IfSome result
-        (λ number. IsFrameOf sub.old.of.link.id.0 sub.old.of.sub number ForA frame.new.items) }
-    ensures enters { IfSome result
-        (λ _. log mux.new ≡ log mux.old ++ entry now frame.new.items ∷ []) }
-    ensures same { IsSameSub sub.old sub.new }
-    ensures next { (i : ℕ) → shaper.old.next ≡ sequence_number i →
-        shaper.new.next ≡ sequence_number (i + 1) }
-    ensures last { shaper.new.last ≡ Some (record { at = now; sub = sub.old.of.sub }) }
-    ensures gap { shaper.new.gap ≡ shaper.old.gap }
-    ensures sub_vls { shaper.new.sub_vls ≡ shaper.old.sub_vls }
-    ensures endure { BothEndure mux.old mux.new }
-{
-    let networks = sub.networks();
-    let number = shaper.stamp(now, sub.index());
-    sub.write_next(number, frame);
-    // Where both networks are down, none stands for the link either.
-    let _standing = mux.hand(now, frame, networks);
-    if mux.stands_for(networks) {
-        Some(number)
-    } else {
-        None
-    }
 }
 
 /// One turn of the parts of a link that may release a frame.
@@ -110,15 +65,17 @@ fn serve_due<A: Network + Drop, B: Network + Drop>(
     ensures same { AreSameSubs subs.old subs.new }
     ensures endure { BothEndure mux.old mux.new }
 {
-    match choose(shaper, subs) {
-        None => Served::Nothing,
-        Some(sub) => {
-            let chosen = &mut subs[sub as usize];
-            match send_next(shaper, chosen, frame, mux, now) {
-                None => Served::Lost,
-                Some(number) => Served::Released { sub, number },
-            }
-        }
+    let Some(sub) = choose(shaper, subs) else {
+        return Served::Nothing;
+    };
+    let number = shaper.stamp(now, sub);
+    subs[sub as usize].write_next(number, frame);
+    // If both networks are down, none is up for the link either.
+    let _standing = mux.hand(now, frame, plan.networks);
+    if mux.stands_for(plan.networks) {
+        Served::Released { sub, number }
+    } else {
+        Served::Lost
     }
 }
 
@@ -242,14 +199,11 @@ impl Link {
     pub fn is_done(&self) -> bool
         ensures { TellsLinkDone result self.now }
     {
-        if self.lost {
-            return false;
-        }
-        subs_done(&self.subs)
+        !self.lost && subs_done(&self.subs)
     }
 
-    /// Whether it may release a frame at a moment, in microseconds: it is due, and a network that carries
-    /// it stands.
+    /// Whether it may release a frame at `now`, in microseconds: it is due, and a network that carries
+    /// it is up.
     #[inline(always)]
     pub fn may_release<A: Network + Drop, B: Network + Drop>(
         &self,
@@ -259,12 +213,12 @@ impl Link {
         requires { IsLater self.now.pace.last now }
         ensures { result ≡ may_release now self.now.plan self.now.pace mux.now }
     {
-        // Most links aren't due at most polls: that costs a comparison.
+        // Most links aren't due at most polls, so that test comes first.
         self.shaper.due(now) && mux.stands_for(self.plan.networks)
     }
 
-    /// One turn of the link at a moment, in microseconds, at which it may release a frame. The frame is
-    /// made in a kept buffer.
+    /// One turn of the link at `now`, in microseconds, when it may release a frame. The frame is made in
+    /// a kept buffer.
     pub fn serve<A: Network + Drop, B: Network + Drop>(
         &mut self,
         frame: &mut Frame,
@@ -298,7 +252,7 @@ impl Link {
         did
     }
 
-    /// Closes the queue of one of its sub-VLs, and says how many messages were accepted, for good.
+    /// Closes the queue of one of its sub-VLs, and returns the final number of accepted messages.
     #[tactic(auto, using(std::proofs::lemmas::Grind::common_steps))]
     pub fn close(&mut self, sub: u8) -> u64
         requires within { sub < length self.old.subs }
@@ -308,8 +262,8 @@ impl Link {
         self.subs[sub as usize].close()
     }
 
-    /// The sender of the next port of a sub-VL, which may ask `calls` times. Where memory is refused
-    /// nothing has changed.
+    /// The sender of the next port of a sub-VL, for at most `calls` calls. If an allocation fails, nothing
+    /// has changed.
     #[tactic(auto, using(std::proofs::lemmas::Grind::common_steps))]
     pub fn new_sender(&mut self, sub: u8, calls: u64) -> Result<Sender, AllocError>
         requires within { sub < length self.old.subs }

@@ -18,9 +18,6 @@ impl Served {
     pub fn is_lost(&self) -> bool
         ensures { result ≡ is_lost self.now }
     {
-        match self {
-            Served::Lost => true,
-            _ => false,
-        }
+        matches!(self, Served::Lost)
     }
 }

@@ -9,10 +9,11 @@ ghost use Rattle.vl_link.specs.Links.{left_of, TellsCutting};
 use crate::queue::Queue;
 use crate::sub_vl::SubVl;
 use afdx_frame::{Cut, Frame, Net};
-use afdx_plan::{Networks, PortPlan};
+use afdx_plan::PortPlan;
 use std::alloc::AllocError;
 use std::boxed::BoxedSlice;
 use std::marker::Model;
+use std::mem::replace;
 use subvl_queue::{Item, Receiver, Sender};
 
 /// A sub-VL. Contracts see its ports, the fragments left of the message that is being sent, and its
@@ -31,7 +32,7 @@ pub struct Sub {
 impl Model for Sub {
     ghost use Rattle.std.specs.Box.{boxed_slice_items};
     ghost use Rattle.vl_link.specs.Links.{Held, left_of};
-    ghost use Rattle.vl_link.specs.Subs.{IsSub};
+    ghost use Rattle.vl_link.specs.Subs.{IsSub, seen_of};
 
     ghost Value = { Held };
 
@@ -39,10 +40,10 @@ impl Model for Sub {
       of = s.of;
       ports = boxed_slice_items s.ports;
       left = left_of s.of s.sending;
-      seen = s.queue;
+      seen = seen_of s.queue;
     } };
 
-    ghost invariant = { λ s. IsSub s.of (boxed_slice_items s.ports) s.sending s.queue s.place };
+    ghost invariant = { λ s. IsSub s.of (boxed_slice_items s.ports) s.sending (seen_of s.queue) s.place };
 }
 
 impl Sub {
@@ -73,27 +74,13 @@ impl Sub {
             of,
             ports: ports.into_boxed_slice(),
             sending: None,
-            queue: Queue::new(receiver),
+            queue: Queue::Receiving(receiver),
             place: 0,
         }
     }
 
-    /// Its index in its link.
-    pub fn index(&self) -> u8
-        ensures { result ≡ self.now.of.sub }
-    {
-        self.of.sub
-    }
-
-    /// The networks that carry its link.
-    pub fn networks(&self) -> Networks
-        ensures { result ≡ self.now.of.link.networks }
-    {
-        self.of.link.networks
-    }
-
-    /// Whether there is something to send, which is then being sent. The queue is looked into only
-    /// where no message is being sent.
+    /// Whether there is something to send, which is then being sent. The queue is polled only if no
+    /// message is being sent.
     pub fn ready(&mut self) -> bool
         ensures { Asks result self.old self.new }
     {
@@ -116,10 +103,7 @@ impl Sub {
     pub fn is_done(&self) -> bool
         ensures { TellsSubDone result self.now }
     {
-        if is_cutting(&self.of, &self.sending) {
-            return false;
-        }
-        self.queue.is_drained()
+        !is_cutting(&self.of, &self.sending) && self.queue.is_drained()
     }
 
     /// Writes the next frame, for network A and with this sequence number, into a kept buffer.
@@ -140,15 +124,19 @@ impl Sub {
         }
     }
 
-    /// Closes its queue, and says how many messages were accepted, for good.
+    /// Closes its queue, and returns the final number of accepted messages. None is accepted from then
+    /// on, and each later close returns the same. It waits for nobody.
     pub fn close(&mut self) -> u64
         requires receiving { IsReceiving self.old.seen }
         ensures { ClosesSub self.old result self.new }
     {
-        self.queue.close()
+        match &mut self.queue {
+            Queue::Receiving(receiver) => receiver.close(),
+            _ => unreachable!(),
+        }
     }
 
-    /// The sender of its next port, which may ask `calls` times. Where memory is refused nothing has
+    /// The sender of its next port, for at most `calls` calls. If an allocation fails, nothing has
     /// changed.
     pub fn new_sender(&mut self, calls: u64) -> Result<Sender, AllocError>
         requires lacks { LacksSender self.old }
@@ -156,7 +144,10 @@ impl Sub {
         ensures sender { IfOk result (λ sender. SubMakesSender self.old calls sender self.new) }
         ensures unchanged { IfErr result (λ _. self.new ≡ self.old) }
     {
-        self.queue.new_sender(calls)
+        match &mut self.queue {
+            Queue::Receiving(receiver) => receiver.new_sender(calls),
+            _ => unreachable!(),
+        }
     }
 
     /// Takes a sender of its queue back.
@@ -164,23 +155,28 @@ impl Sub {
         requires own { queue_of self.old.seen ≡ Some sender.queue }
         ensures { SubTakesBack self.old sender self.new }
     {
-        self.queue.take_back(sender);
+        match &mut self.queue {
+            Queue::Receiving(receiver) => receiver.take_back(sender),
+            _ => unreachable!(),
+        }
     }
 
-    /// Gathers its queue, all of whose senders are back.
+    /// Gathers its queue, all of whose senders are back. It waits for nobody.
     pub fn gather(&mut self)
         requires full { IsFullSub self.old }
         ensures { GathersSub self.old self.new }
     {
-        self.queue.gather();
+        let Queue::Receiving(receiver) = replace(&mut self.queue, Queue::Empty) else {
+            unreachable!()
+        };
+        self.queue = Queue::Gathered(receiver.into_gathered());
     }
 }
 
 /// Whether a message is being sent.
-fn is_cutting(of: &SubVl, sending: &Option<Cut>) -> bool
-    ensures { TellsCutting result (left_of of.now sending.now) }
+fn is_cutting(_of: &SubVl, sending: &Option<Cut>) -> bool
+    ensures { TellsCutting result (left_of _of.now sending.now) }
 {
-    let _of = of;
     match sending {
         None => false,
         Some(cut) => !cut.is_done(),

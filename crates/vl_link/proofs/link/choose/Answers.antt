@@ -1,13 +1,27 @@
-use Rattle.std.proofs.Common.{arith}
-use Rattle.vl_link.proofs.Choosing.{passed_sub, chosen_sub}
+use Rattle.std.proofs.Common.{true, false, arith}
+use Rattle.vl_link.proofs.Choosing.{asked_next, passed_next}
 use Rattle.vl_link.proofs.link.choose.Goals as goal
 
 pub returns-then-ready-clause-chosen : goal.returns-then-ready-clause-chosen
 returns-then-ready-clause-chosen c =
-    chosen_sub _ _ _ c.loop-k.k c.turn-sub.result c.index-subs-sub.result _ c.turn-sub.ensures.turn c.loop-k.invariant
-    c.turn-sub.ensures.apart (omega arith) (omega arith) (rw c.if-ready.true at c.ready.ensures)
+    let k = c.loop-k.k in
+    let asked = asked_next _ _ _ k c.turn-sub.result c.index-subs-sub.result _ true c.loop-k.invariant c.turn-sub.ensures.turn
+    c.turn-sub.ensures.apart (omega arith) (omega arith) (rw c.if-ready.true at c.ready.ensures) in
+    record {
+      count = asked.count;
+      below = omega (arith, c.loop-k.invariant.count);
+      choice = record {
+        turn = k;
+        within = omega arith;
+        is = c.turn-sub.ensures.turn;
+        chosen = asked.here;
+        before = asked.before;
+        others = asked.others;
+      };
+    }
 
 pub loop-k-preserved : goal.loop-k-preserved
 loop-k-preserved c =
-    passed_sub _ _ _ c.loop-k.k c.turn-sub.result c.index-subs-sub.result _ c.turn-sub.ensures.turn c.loop-k.invariant
-    c.turn-sub.ensures.apart (omega arith) (omega arith) (rw c.if-ready.false at c.ready.ensures)
+    passed_next _ _ _ c.loop-k.k c.turn-sub.result (asked_next _ _ _ c.loop-k.k c.turn-sub.result c.index-subs-sub.result _ false
+    c.loop-k.invariant c.turn-sub.ensures.turn c.turn-sub.ensures.apart (omega arith) (omega arith)
+    (rw c.if-ready.false at c.ready.ensures)) c.turn-sub.ensures.turn

@@ -1,66 +1,86 @@
-use Rattle.std.proofs.Common.{ℕ, Some, ◌∙◌, ap, sym, refl, inr}
+use Rattle.std.proofs.Common.{◌∙◌, ap, sym, refl, inr}
 use Rattle.std.proofs.lemmas.Bool.{and_parts}
 use Rattle.std.proofs.lemmas.List.{append-nil}
+use Rattle.afdx_frame.specs.declared.net.Net.TheVariants.{A}
+use Rattle.afdx_frame.proofs.Twins.{twin_same}
 use Rattle.redundant_mux.specs.Lines.{log}
 use Rattle.redundant_mux.proofs.MirroredLines.{log_same}
 use Rattle.afdx_legal.specs.Streams.{link_stream}
 use Rattle.vl_link.proofs.SubInStep.{passed_same}
-use Rattle.vl_link.proofs.ChosenSub.{chosen_left, item_of, set_same, releases_at, loses_at, none_has}
-use Rattle.vl_link.proofs.PaceOfStream.{follows_more, stream_entered}
+use Rattle.vl_link.proofs.ChosenSub.{chosen_left, chosen_gives, frame_at, set_same, none_has}
+use Rattle.vl_link.proofs.PaceOfStream.{follows_more, stream_more}
 use Rattle.vl_link.proofs.link.serve_due.Goals as goal
 
-pub send_next-requires-clause-due : goal.send_next-requires-clause-due
-send_next-requires-clause-due g c = (and_parts _ _ c.requires.may).0
+pub stamp-number-requires-clause-due : goal.stamp-number-requires-clause-due
+stamp-number-requires-clause-due g c = (and_parts _ _ c.requires.may).0
 
-pub send_next-requires-clause-something : goal.send_next-requires-clause-something
-send_next-requires-clause-something g c = chosen_left _ _ _ _ c.index-subs-sub.result c.in-Some.ensures.chosen
+pub write_next-requires : goal.write_next-requires
+write_next-requires g c = chosen_left _ _ _ _ c.index-subs-sub.result c.in-Some.ensures.chosen
 
-pub returns-in-None-clause-serves : goal.returns-in-None-clause-serves
-returns-in-None-clause-serves g c =
-    (inr (c.requires.may, none_has _ _ _ c.in-None.ensures.none), refl)
+pub hand-standing-requires : goal.hand-standing-requires
+hand-standing-requires g c = twin_same A c.write_next.new.out.items c.write_next.ensures.frame.interface
 
-pub returns-in-None-clause-same : goal.returns-in-None-clause-same
-returns-in-None-clause-same g c = passed_same _ _ _ _ c.in-None.ensures.none
+pub returns-in_default-clause-serves : goal.returns-in_default-clause-serves
+returns-in_default-clause-serves g c = (inr (c.requires.may, none_has _ _ _ c.in_default.ensures.none), refl)
 
-pub returns-in-None-send_next-clause-serves : goal.returns-in-None-send_next-clause-serves
-returns-in-None-send_next-clause-serves g c = (
-  c.requires.may,
-  loses_at c.args.plan.now _ _ _ _ c.index-subs-sub.result _ _ _ c.in-Some.ensures.chosen c.requires.named
-      c.in-None-send_next.ensures.lost c.in-None-send_next.ensures.endure,
-)
+pub returns-in_default-clause-same : goal.returns-in_default-clause-same
+returns-in_default-clause-same g c = passed_same _ _ _ _ c.in_default.ensures.none
 
-pub returns-in-None-send_next-clause-same : goal.returns-in-None-send_next-clause-same
-returns-in-None-send_next-clause-same g c =
-    set_same _ _ _ _ c.index-subs-sub.result _ c.in-Some.ensures.chosen c.in-None-send_next.ensures.same
+pub returns-then-stands_for-clause-serves : goal.returns-then-stands_for-clause-serves
+returns-then-stands_for-clause-serves g c =
+    let stands = sym c.stands_for.ensures ∙ c.if-stands_for.true in (
+      c.requires.may,
+      c.stamp-number.ensures.number,
+      record {
+        frame = c.write_next.new.out.items;
+        choice = chosen_gives _ _ _ _ c.index-subs-sub.result _ _ c.in-Some.ensures.chosen
+            (record { next = c.write_next.ensures.left; same = c.write_next.ensures.same });
+        of = frame_at _ _ _ _ _ c.index-subs-sub.result _ _ c.in-Some.ensures.chosen c.requires.named c.write_next.ensures.frame;
+        enters = c.hand-standing.ensures.enters stands;
+        stands = stands;
+        endure = c.hand-standing.ensures.endure;
+      },
+    )
 
-pub returns-in-Some-send_next-clause-serves : goal.returns-in-Some-send_next-clause-serves
-returns-in-Some-send_next-clause-serves g c = (
-  c.requires.may,
-  c.in-Some-send_next.ensures.number,
-  releases_at _ _ c.args.plan.now _ _ _ _ c.index-subs-sub.result _ _ _ c.in-Some.ensures.chosen c.requires.named
-      c.in-Some-send_next.ensures.released c.in-Some-send_next.ensures.endure,
-)
+pub returns-then-stands_for-clause-entered : goal.returns-then-stands_for-clause-entered
+returns-then-stands_for-clause-entered g c =
+    stream_more c.args.plan.now.id.0 c.args.now _ c.stamp-number.result _ c.write_next.new.out.items _ _
+    (frame_at _ _ _ _ _ c.index-subs-sub.result _ _ c.in-Some.ensures.chosen c.requires.named c.write_next.ensures.frame)
+    (c.hand-standing.ensures.enters (sym c.stands_for.ensures ∙ c.if-stands_for.true))
 
-pub returns-in-Some-send_next-clause-paced : goal.returns-in-Some-send_next-clause-paced
-returns-in-Some-send_next-clause-paced g c =
-    let own = item_of _ c.args.plan.now _ _ _ c.index-subs-sub.result c.in-Some.ensures.chosen c.requires.named in
-    follows_more c.args.plan.now c.args.now _ _ c.args.shaper.now c.send_next.new.shaper _ _ _ c.requires.paced
-    (releases_at _ _ c.args.plan.now _ _ _ _ c.index-subs-sub.result _ _ _ c.in-Some.ensures.chosen c.requires.named
-    c.in-Some-send_next.ensures.released c.in-Some-send_next.ensures.endure)
-    (c.in-Some-send_next.ensures.last ∙ ap (λ (s : ℕ). Some (record { at = c.args.now; sub = s })) own.1)
-    c.in-Some-send_next.ensures.next
+pub returns-then-stands_for-clause-paced : goal.returns-then-stands_for-clause-paced
+returns-then-stands_for-clause-paced g c =
+    follows_more c.args.now c.in-Some.sub c.write_next.new.out.items _ _ _ _ c.requires.paced
+    (returns-then-stands_for-clause-entered g c)
+    (frame_at _ _ _ _ _ c.index-subs-sub.result _ _ c.in-Some.ensures.chosen c.requires.named
+    c.write_next.ensures.frame).of_sub
+    c.stamp-number.ensures.last c.stamp-number.ensures.next
 
-pub returns-in-Some-send_next-clause-same : goal.returns-in-Some-send_next-clause-same
-returns-in-Some-send_next-clause-same g c =
-    set_same _ _ _ _ c.index-subs-sub.result _ c.in-Some.ensures.chosen c.in-Some-send_next.ensures.same
+pub returns-then-stands_for-clause-same : goal.returns-then-stands_for-clause-same
+returns-then-stands_for-clause-same g c = set_same _ _ _ _ c.index-subs-sub.result _ _ c.in-Some.ensures.chosen
+    (record { next = c.write_next.ensures.left; same = c.write_next.ensures.same })
 
-pub returns-in-Some-send_next-clause-entered : goal.returns-in-Some-send_next-clause-entered
-returns-in-Some-send_next-clause-entered g c =
-    let own = item_of _ c.args.plan.now _ _ _ c.index-subs-sub.result c.in-Some.ensures.chosen c.requires.named in
-    stream_entered c.args.plan.now.id.0 c.args.now _ c.in-Some-send_next.number c.send_next.new.frame.items _ _
-    (rw own.0 at c.in-Some-send_next.ensures.frame) c.in-Some-send_next.ensures.enters
+pub returns-else-stands_for-clause-serves : goal.returns-else-stands_for-clause-serves
+returns-else-stands_for-clause-serves g c =
+    let down = sym c.stands_for.ensures ∙ c.if-stands_for.false in (
+      c.requires.may,
+      record {
+        sub = c.in-Some.sub;
+        frame = c.write_next.new.out.items;
+        choice = chosen_gives _ _ _ _ c.index-subs-sub.result _ _ c.in-Some.ensures.chosen
+            (record { next = c.write_next.ensures.left; same = c.write_next.ensures.same });
+        same = c.hand-standing.ensures.lost down;
+        down = down;
+        endure = c.hand-standing.ensures.endure;
+      },
+    )
 
-pub returns-in-None-send_next-clause-entered : goal.returns-in-None-send_next-clause-entered
-returns-in-None-send_next-clause-entered g c =
-    ap (link_stream c.args.plan.now.id.0) (log_same c.args.mux.now c.send_next.new.mux c.in-None-send_next.ensures.lost.same)
+pub returns-else-stands_for-clause-entered : goal.returns-else-stands_for-clause-entered
+returns-else-stands_for-clause-entered g c =
+    ap (link_stream c.args.plan.now.id.0) (log_same c.args.mux.now c.hand-standing.new.self
+    (c.hand-standing.ensures.lost (sym c.stands_for.ensures ∙ c.if-stands_for.false)))
     ∙ sym (append-nil (link_stream c.args.plan.now.id.0 (log c.args.mux.now)))
+
+pub returns-else-stands_for-clause-same : goal.returns-else-stands_for-clause-same
+returns-else-stands_for-clause-same g c = set_same _ _ _ _ c.index-subs-sub.result _ _ c.in-Some.ensures.chosen
+    (record { next = c.write_next.ensures.left; same = c.write_next.ensures.same })

@@ -8,7 +8,7 @@ use Rattle.afdx_frame.proofs.Twins.{fragments_again}
 use Rattle.vl_link.specs.declared.sub_vl.SubVl.{SubVl}
 use Rattle.vl_link.specs.Seen.{taken_of}
 use Rattle.vl_link.specs.Links.{TellsCutting, left_of, message_fragments, sent_of}
-use Rattle.vl_link.specs.Subs.{IsPortOf, IsCutOf}
+use Rattle.vl_link.specs.Subs.{IsPortOf, IsCutOf, seen_of}
 use Rattle.vl_link.proofs.FragmentsLeft.{fragments_some}
 use Rattle.vl_link.proofs.QueueLooks.{item_of_more, same_nothing, same_ports, taken_nothing}
 use Rattle.vl_link.proofs.SubKept.{kept_as, kept_finds}
@@ -51,8 +51,8 @@ returns-in-Some c =
     let left = c.new.ensures.fragments of.end_system (room_of of.link.lmax) A
     ∙ ap (λ (place : ℕ). message_fragments c.self.inside.of place
     (record { port = c.index.result.now; bytes = c.item.inside.bytes.items })) (c.from-in-Some.ensures ∙ c.self.invariant.place)
-    ∙ ap (message_fragments c.self.inside.of (length (taken_of c.self.inside.queue) % 16384)) (cut_is c)
-    ∙ fragments_again of.end_system (room_of of.link.lmax) A (length (taken_of c.self.inside.queue))
+    ∙ ap (message_fragments c.self.inside.of (length (taken_of (seen_of c.self.inside.queue)) % 16384)) (cut_is c)
+    ∙ fragments_again of.end_system (room_of of.link.lmax) A (length (taken_of (seen_of c.self.inside.queue)))
     (sent_of c.self.inside.ports.items.items c.in-Some.item) in
     rw (← c.self.view_is) (inr (record {
       message = c.in-Some.item;
@@ -60,7 +60,7 @@ returns-in-Some c =
       whole = is_whole c.self.inside.of c.self.inside.sending _ c.if-is_cutting.false c.is_cutting.ensures;
       finds = c.in-Some.ensures.some;
       left = left;
-      some = λ none. fragments_some c.self.inside.of (length (taken_of c.self.inside.queue))
+      some = λ none. fragments_some c.self.inside.of (length (taken_of (seen_of c.self.inside.queue)))
           (sent_of c.self.inside.ports.items.items c.in-Some.item) (sym left ∙ none);
       of = refl;
       ports = refl;
