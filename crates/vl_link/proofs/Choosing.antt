@@ -1,10 +1,9 @@
 -- Sub-VLs asked in turn.
-use Rattle.std.proofs.Common.{ℕ, zero, suc, ◌≡◌, ◌≢◌, ◌⊎◌, ◌+◌, ◌<◌, ◌≤◌, List, Bool, true, false, length, set, get_or, below_more, arith, ◌∙◌, sym, subst, inl, inr, ⊎_elim}
-use Rattle.std.proofs.lemmas.List.{length-set, get_or-set_same, get_or-set_other, get_or_default}
-use Rattle.std.proofs.lemmas.Bool.{cases_eq}
+use Rattle.vl_link.proofs.Names.{ℕ, zero, suc, ◌≡◌, ◌≢◌, ◌⊎◌, ◌+◌, ◌<◌, ◌≤◌, List, Bool, true, false, length, set}
+use Rattle.vl_link.proofs.Names.{get_or, below_more, arith, ◌∙◌, sym, subst, inl, inr, ⊎_elim, length-set}
+use Rattle.vl_link.proofs.Names.{get_or-set_same, get_or-set_other, get_or_default, cases_eq, Pace, turn_of, Held}
+use Rattle.vl_link.proofs.Names.{held_at, nothing_held, Asks, Passes, PassedOver}
 use Rattle.std.proofs.lemmas.Grind.{get_or-set_at}
-use Rattle.vl_shaper.specs.Pace.{Pace, turn_of}
-use Rattle.vl_link.specs.Links.{Held, held_at, nothing_held, Asks, Passes, PassedOver}
 
 -- the sub-VL that was set
 pub held_same : (subs : List Held) (s : ℕ) (h : Held) → s < length subs → held_at (set subs s h) s ≡ h

@@ -1,15 +1,9 @@
 -- A chosen sub-VL that became another.
-use Rattle.std.proofs.Common.{ℕ, ◌≡◌, ◌≢◌, ◌<◌, List, set, get_or, arith, ap, ◌∙◌, sym, subst, []}
-use Rattle.std.proofs.lemmas.List.{get_or_default, get_or-set_other}
-use Rattle.afdx_plan.specs.declared.link_plan.LinkPlan.{LinkPlan}
-use Rattle.afdx_frame.specs.declared.net.Net.TheVariants.{A}
-use Rattle.afdx_frame.specs.Header.{IsFrameOf}
-use Rattle.vl_shaper.specs.Pace.{Pace, turn_of}
-use Rattle.vl_link.specs.declared.sub_vl.SubVl.{SubVl}
-use Rattle.vl_link.specs.Links.{Held, held_at, nothing_held, Passes, Gives, IsPicked, PassedOver, AreSubsOf, IsSameSub, AreSameSubs, held_view}
-use Rattle.vl_link.specs.Turn.{IsChoice, NoneHas}
+use Rattle.vl_link.proofs.Names.{ℕ, ◌≡◌, ◌≢◌, ◌<◌, List, set, get_or, arith, ap, ◌∙◌, sym, subst, []}
+use Rattle.vl_link.proofs.Names.{get_or_default, get_or-set_other, LinkPlan, A, IsFrameOf, Pace, turn_of, SubVl}
+use Rattle.vl_link.proofs.Names.{Held, held_at, nothing_held, Passes, Gives, IsPicked, PassedOver, AreSubsOf}
+use Rattle.vl_link.proofs.Names.{IsSameSub, AreSameSubs, held_view, IsChoice, NoneHas, turn_below, turn_onto}
 use Rattle.vl_link.proofs.Choosing.{each_set, held_same}
-use Rattle.vl_shaper.proofs.Turns.{turn_below, turn_onto}
 use Rattle.vl_link.proofs.SubInStep.{asked_left, chosen_same, same_sub_on, gave_same}
 
 -- the chosen one, whatever the default of the index

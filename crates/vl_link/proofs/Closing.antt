@@ -1,6 +1,5 @@
 -- A queue that was closed is the same but for its total.
-use Rattle.std.proofs.Common.{ℕ, ◌≡◌, ap}
-use Rattle.vl_link.specs.Seen.{Seen, receiving, gathered, taken_of, known_of, ports_of, queue_of}
+use Rattle.vl_link.proofs.Names.{ℕ, ◌≡◌, ap, Seen, receiving, gathered, taken_of, known_of, ports_of, queue_of}
 use Rattle.vl_link.specs.Closing.{Closes}
 
 -- what was taken stands

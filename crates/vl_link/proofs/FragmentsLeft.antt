@@ -1,13 +1,9 @@
 -- Small facts on lists and fragments.
-use Rattle.std.proofs.Common.{ℕ, ◌≡◌, ◌≢◌, ◌+◌, ◌<◌, List, [], ◌∷◌, length, map, arith, refl, ap, Bool, true, false, not, Some}
-use Rattle.afdx_plan.specs.Room.{room_of}
-use Rattle.afdx_frame.specs.declared.net.Net.TheVariants.{A}
-use Rattle.afdx_frame.specs.Cutting.{Cutting, cutting, pieces_from, pieces_left}
-use Rattle.afdx_frame.specs.Fragments.{Sent, fragments_at}
+use Rattle.vl_link.proofs.Names.{ℕ, ◌≡◌, ◌≢◌, ◌+◌, ◌<◌, List, [], ◌∷◌, length, map, arith, refl, ap, Bool, true}
+use Rattle.vl_link.proofs.Names.{false, not, Some, room_of, A, Cutting, cutting, pieces_from, pieces_left, Sent}
+use Rattle.vl_link.proofs.Names.{cutting_some, SubVl, TellsCutting, left_of, message_fragments}
+use Rattle.afdx_frame.specs.Fragments.{fragments_at}
 use Rattle.afdx_frame.specs.Frame.{unnumbered}
-use Rattle.afdx_frame.proofs.CuttingLemmas.{cutting_some}
-use Rattle.vl_link.specs.declared.sub_vl.SubVl.{SubVl}
-use Rattle.vl_link.specs.Links.{TellsCutting, left_of, message_fragments}
 
 -- nothing is mapped from nothing alone
 map_nil : {X Y : Type 0} (f : X → Y) (xs : List X) → map f xs ≡ [] → xs ≡ []

@@ -1,12 +1,13 @@
-pub mod FragmentsLeft
 pub mod Choosing
-pub mod QueueLooks
+pub mod ChosenSub
 pub mod Closing
+pub mod FragmentsLeft
+pub mod LinkTurn
+pub mod MessageEnds
+mod Names
+pub mod PaceOfStream
+pub mod QueueLooks
+pub mod ShownTurns
 pub mod SubInStep
 pub mod SubKept
-pub mod PaceOfStream
-pub mod ChosenSub
 pub mod TurnLaws
-pub mod LinkTurn
-pub mod ShownTurns
-pub mod MessageEnds

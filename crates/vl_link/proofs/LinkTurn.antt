@@ -1,29 +1,16 @@
 -- One turn of a link, against its stream.
-use Rattle.std.proofs.Common.{ℕ, ◌≡◌, ◌≢◌, ◌<◌, List, length, false, arith, ap, ◌∙◌, sym, subst, inl, inr, ⊎_elim, Option, None}
-use Rattle.std.proofs.lemmas.Bool.{cases_eq, and_parts, both_ways}
-use Rattle.afdx_plan.specs.Room.{room_of}
-use Rattle.afdx_plan.specs.Numbers.{sequence_number}
-use Rattle.afdx_frame.specs.declared.net.Net.TheVariants.{A}
-use Rattle.afdx_frame.specs.Header.{sub_in}
-use Rattle.afdx_frame.specs.Fragments.{fragments}
-use Rattle.redundant_mux.specs.Entry.{Entry, entry}
-use Rattle.redundant_mux.specs.Lines.{Lines, log}
-use Rattle.redundant_mux.proofs.MirroredLines.{log_same}
-use Rattle.vl_shaper.specs.declared.shaper.Stamp.{Stamp}
-use Rattle.vl_shaper.specs.Pace.{Pace, IsLater}
-use Rattle.vl_link.specs.declared.served.Served.{Served}
-use Rattle.vl_link.specs.declared.served.Served.TheVariants.{Nothing, Released, Lost}
-use Rattle.vl_link.specs.declared.sub_vl.SubVl.{SubVl}
-use Rattle.afdx_legal.specs.Counting.{counts_in}
-use Rattle.afdx_legal.specs.Streams.{link_stream, sub_stream, told, entry_number, IsNumbered, IsSpaced, IsApart, IsPrefixOf}
-use Rattle.vl_link.specs.Turn.{TurnView, Releases, Loses, is_lost}
-use Rattle.vl_link.specs.Links.{Held, LinkState, held_at, GivesFrame, held_view, Serves, Follows, HasOwnItems, IsSameLink, IsLinkOfPlan, sub_fragments, taken_by}
-use Rattle.vl_link.specs.Kept.{IsKept, IsTied, IsLinkTied}
-use Rattle.vl_link.specs.Shown.{none_begun, ShowsChoices}
+use Rattle.vl_link.proofs.Names.{ℕ, ◌≡◌, ◌≢◌, ◌<◌, List, length, false, arith, ap, ◌∙◌, sym, subst, inl, inr}
+use Rattle.vl_link.proofs.Names.{⊎_elim, Option, None, cases_eq, and_parts, both_ways, room_of, sequence_number, A}
+use Rattle.vl_link.proofs.Names.{sub_in, fragments, Entry, entry, Lines, log, log_same, Stamp, Pace, IsLater}
+use Rattle.vl_link.proofs.Names.{Served, Nothing, Released, Lost, SubVl, counts_in, link_stream, sub_stream, told}
+use Rattle.vl_link.proofs.Names.{entry_number, IsNumbered, IsSpaced, IsApart, IsPrefixOf, TurnView, Releases, Loses}
+use Rattle.vl_link.proofs.Names.{is_lost, Held, LinkState, held_at, GivesFrame, held_view, Serves, Follows}
+use Rattle.vl_link.proofs.Names.{HasOwnItems, IsSameLink, IsLinkOfPlan, sub_fragments, taken_by, IsKept, IsTied}
+use Rattle.vl_link.proofs.Names.{IsLinkTied, none_begun, ShowsChoices, spaced_push, numbered_push, due_apart}
+use Rattle.vl_link.proofs.Names.{with_push_in, with_push_out}
 use Rattle.vl_link.proofs.ShownTurns.{shows_push, choice_shown}
 use Rattle.vl_link.proofs.TurnLaws.{choice_below, choice_other}
 use Rattle.vl_link.proofs.SubInStep.{tied_moves, tied_gave, prefix_of, shown, gave_shown}
-use Rattle.afdx_legal.proofs.LongerStream.{spaced_push, numbered_push, due_apart, with_push_in, with_push_out}
 use Rattle.vl_link.proofs.PaceOfStream.{stream_more, stream_same}
 
 -- a turn of a link that was where its stream is

@@ -1,23 +1,15 @@
 -- Where a sub-VL's stream is the fragments of whole messages, no message of it is begun.
-use Rattle.std.proofs.Common.{ℕ, zero, suc, ◌≡◌, ◌+◌, ◌-◌, ◌<◌, ◌≤◌, List, [], ◌∷◌, ◌++◌, Bool, true, false, cond, eqb, nat_le, length, map, arith, refl, ap, subst}
-use Rattle.std.specs.Prelude.{All}
-use Rattle.std.proofs.lemmas.List.{get_or-take, length-take}
-use Rattle.std.proofs.lemmas.List.Elements.{All-head, All-tail}
-use Rattle.std.proofs.lemmas.Bool.{lt-leb}
+use Rattle.vl_link.proofs.Names.{ℕ, zero, suc, ◌≡◌, ◌+◌, ◌-◌, ◌<◌, ◌≤◌, List, [], ◌∷◌, ◌++◌, Bool, true, false}
+use Rattle.vl_link.proofs.Names.{cond, eqb, nat_le, length, map, arith, refl, ap, subst, All, get_or-take}
+use Rattle.vl_link.proofs.Names.{length-take, All-head, All-tail, lt-leb, step_of, PortPlan, sub_in, cut_by}
+use Rattle.vl_link.proofs.Names.{pieces_from, Sent, blanked, fragments_from, step_le, Entry, sub_stream, told}
+use Rattle.vl_link.proofs.Names.{more_in, none_begun, begun_after, begun_by}
 use Rattle.std.proofs.lemmas.Bool.Decides.{nat_tests}
-use Rattle.afdx_plan.specs.Room.{step_of}
-use Rattle.afdx_plan.specs.declared.port_plan.PortPlan.{PortPlan}
 use Rattle.afdx_frame.specs.declared.net.Net.{Net}
 use Rattle.afdx_frame.specs.declared.piece.Piece.{Piece}
-use Rattle.afdx_frame.specs.Header.{sub_in}
 use Rattle.afdx_frame.specs.Frame.{unnumbered, link_header, internet_header, header_front}
-use Rattle.afdx_frame.specs.Cutting.{cut_by, cutting, pieces_from}
-use Rattle.afdx_frame.specs.Fragments.{Sent, blanked, fragments_at, fragments_from}
-use Rattle.afdx_frame.proofs.CuttingLemmas.{step_le}
-use Rattle.redundant_mux.specs.Entry.{Entry}
-use Rattle.afdx_legal.specs.Streams.{sub_stream, told}
-use Rattle.afdx_legal.specs.Turns.{more_in}
-use Rattle.vl_link.specs.Shown.{none_begun, begun_after, begun_by}
+use Rattle.afdx_frame.specs.Cutting.{cutting}
+use Rattle.afdx_frame.specs.Fragments.{fragments_at}
 
 -- a message whose pieces start where the offset can tell it
 abbrev pub IsShort : Sent → Type 0

@@ -1,18 +1,10 @@
 -- The regulation of a link after a frame.
-use Rattle.std.proofs.Common.{ℕ, ◌≡◌, ◌≢◌, ◌+◌, List, [], ◌∷◌, ◌++◌, length, ap, ◌∙◌, sym, Some, None}
-use Rattle.std.proofs.lemmas.List.{length_push}
-use Rattle.afdx_plan.specs.Numbers.{sequence_number}
+use Rattle.vl_link.proofs.Names.{ℕ, ◌≡◌, ◌≢◌, ◌+◌, List, [], ◌∷◌, ◌++◌, length, ap, ◌∙◌, sym, Some, None}
+use Rattle.vl_link.proofs.Names.{length_push, sequence_number, link_in, sub_in, IsFrameOf, Entry, entry, Lines, log}
+use Rattle.vl_link.proofs.Names.{log_more, Pace, latest, link_stream, A, pace_of, latest_push, with_push_in}
+use Rattle.vl_link.proofs.Names.{with_push_out}
 use Rattle.afdx_plan.specs.declared.networks.Networks.{Networks}
-use Rattle.afdx_frame.specs.Header.{link_in, sub_in, IsFrameOf}
-use Rattle.redundant_mux.specs.Entry.{Entry, entry}
 use Rattle.redundant_mux.specs.Logged.{logged_for}
-use Rattle.redundant_mux.specs.Lines.{Lines, log}
-use Rattle.redundant_mux.proofs.MirroredLines.{log_more}
-use Rattle.vl_shaper.specs.Pace.{Pace}
-use Rattle.afdx_legal.specs.Streams.{latest, link_stream}
-use Rattle.afdx_frame.specs.declared.net.Net.TheVariants.{A}
-use Rattle.vl_link.specs.Links.{pace_of}
-use Rattle.afdx_legal.proofs.LongerStream.{latest_push, with_push_in, with_push_out}
 
 -- the link's stream has the frame
 pub stream_more : (vl now sub number : ℕ) (networks : Networks) (frame : List ℕ) (lines after : Lines)

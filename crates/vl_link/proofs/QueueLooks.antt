@@ -1,10 +1,9 @@
 -- A queue after a look into it.
-use Rattle.std.proofs.Common.{ℕ, ◌≡◌, ◌≤◌, ◌∙◌, List, [], ◌∷◌, ◌++◌, Some, arith, refl, ap, sym, subst}
-use Rattle.std.proofs.lemmas.List.{append_assoc, length-append, get_or_append_left}
-use Rattle.std.proofs.lemmas.List.Elements.{All-push, All-weaker}
+use Rattle.vl_link.proofs.Names.{ℕ, ◌≡◌, ◌≤◌, ◌∙◌, List, [], ◌∷◌, ◌++◌, Some, arith, refl, ap, sym, subst}
+use Rattle.vl_link.proofs.Names.{append_assoc, length-append, get_or_append_left, All-push, All-weaker}
+use Rattle.vl_link.proofs.Names.{BecomesWhole, Seen, receiving, gathered, taken_of, known_of, ports_of, queue_of}
+use Rattle.vl_link.proofs.Names.{total_of, FindsNothing, Finds, IsReceiving, IsSameQueue}
 use Rattle.subvl_queue.specs.Messages.{IsItem, AreItems}
-use Rattle.vl_link.specs.LinkGathering.{BecomesWhole}
-use Rattle.vl_link.specs.Seen.{Seen, receiving, gathered, taken_of, known_of, ports_of, queue_of, total_of, FindsNothing, Finds, IsReceiving, IsSameQueue}
 
 -- nothing more was taken where nothing was found
 pub taken_nothing : (old new : Seen) → FindsNothing old new → taken_of new ≡ taken_of old

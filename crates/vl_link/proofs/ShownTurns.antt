@@ -1,27 +1,14 @@
 -- A stream that shows choices takes turns.
-use Rattle.std.proofs.Common.{ℕ, ◌≡◌, ◌≢◌, ◌+◌, ◌<◌, ◌≤◌, List, [], ◌∷◌, ◌++◌, Bool, true, false, cond, eqb, length, arith, refl, ap, ◌∙◌, sym, subst, ⊎_elim, Option, Some, None}
-use Rattle.std.specs.Prelude.{count_by}
-use Rattle.std.proofs.lemmas.List.Sums.{sum_by-cons}
-use Rattle.std.proofs.lemmas.Bool.{cases_eq, eq-eqb, ne_eqb}
-use Rattle.afdx_frame.specs.Header.{sub_in}
-use Rattle.redundant_mux.specs.Entry.{Entry}
+use Rattle.vl_link.proofs.Names.{ℕ, ◌≡◌, ◌≢◌, ◌+◌, ◌<◌, ◌≤◌, List, [], ◌∷◌, ◌++◌, Bool, true, false, cond, eqb}
+use Rattle.vl_link.proofs.Names.{length, arith, refl, ap, ◌∙◌, sym, subst, ⊎_elim, Option, Some, None, count_by}
+use Rattle.vl_link.proofs.Names.{sum_by-cons, cases_eq, eq-eqb, ne_eqb, sub_in, Entry, turn_of, IsBelow, Stamp}
+use Rattle.vl_link.proofs.Names.{turn_below, stamp_of, latest, sub_stream, link_stream, told, more_in, before_next}
+use Rattle.vl_link.proofs.Names.{TakesTurns, begun_after, begun_by, shown_choice, ShowsChoices, none_begun}
+use Rattle.vl_link.proofs.Names.{append-nil, All-map, room_of, A, Lines, log, taken_of, Releases, Held, LinkState}
+use Rattle.vl_link.proofs.Names.{held_at, held_view, HasOwnItems, IsLinkOfPlan, Passes, sent_of, taken_by}
+use Rattle.vl_link.proofs.Names.{IsLinkTied}
 use Rattle.vl_shaper.specs.Choices.{Choice, IsChosen, AreChosen, IsPassedOver}
-use Rattle.vl_shaper.specs.Pace.{turn_of, IsBelow}
-use Rattle.vl_shaper.specs.declared.shaper.Stamp.{Stamp}
 use Rattle.vl_shaper.proofs.OneEach.{turn_cases, one_each_holds}
-use Rattle.vl_shaper.proofs.Turns.{turn_below}
-use Rattle.afdx_legal.specs.Streams.{stamp_of, latest, sub_stream, link_stream, told}
-use Rattle.afdx_legal.specs.Turns.{more_in, before_next, TakesTurns}
-use Rattle.vl_link.specs.Shown.{begun_after, begun_by, shown_choice, ShowsChoices, none_begun}
-use Rattle.std.proofs.lemmas.List.{append-nil}
-use Rattle.std.proofs.lemmas.List.Elements.{All-map}
-use Rattle.afdx_plan.specs.Room.{room_of}
-use Rattle.afdx_frame.specs.declared.net.Net.TheVariants.{A}
-use Rattle.redundant_mux.specs.Lines.{Lines, log}
-use Rattle.vl_link.specs.Seen.{taken_of}
-use Rattle.vl_link.specs.Turn.{Releases}
-use Rattle.vl_link.specs.Links.{Held, LinkState, held_at, held_view, HasOwnItems, IsLinkOfPlan, Passes, sent_of, taken_by}
-use Rattle.vl_link.specs.Kept.{IsLinkTied}
 use Rattle.vl_link.proofs.QueueLooks.{items_taken}
 use Rattle.vl_link.proofs.MessageEnds.{IsShort, not_begun}
 

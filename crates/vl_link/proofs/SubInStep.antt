@@ -1,18 +1,10 @@
 -- A sub-VL that was asked or gave a frame, against its stream.
-use Rattle.std.proofs.Common.{ℕ, ◌≡◌, ◌≢◌, List, [], ◌∷◌, ◌++◌, true, length, arith, refl, ap, ◌∙◌, sym, subst, inl, inr, ⊎_elim}
-use Rattle.std.proofs.lemmas.Bool.{cases_eq}
-use Rattle.std.proofs.lemmas.List.{append-nil, append_assoc, map-append, length-map}
-use Rattle.afdx_plan.specs.Room.{room_of}
-use Rattle.afdx_frame.specs.declared.net.Net.TheVariants.{A}
-use Rattle.afdx_frame.specs.Fragments.{Sent, blanked}
+use Rattle.vl_link.proofs.Names.{ℕ, ◌≡◌, ◌≢◌, List, [], ◌∷◌, ◌++◌, true, length, arith, refl, ap, ◌∙◌, sym, subst}
+use Rattle.vl_link.proofs.Names.{inl, inr, ⊎_elim, cases_eq, append-nil, append_assoc, map-append, length-map}
+use Rattle.vl_link.proofs.Names.{room_of, A, Sent, blanked, Entry, entry, Pace, SubVl, taken_of, told, IsPrefixOf}
+use Rattle.vl_link.proofs.Names.{Held, held_at, GoesOn, Starts, Asks, IsPicked, PassedOver, Gives, IsSameSub}
+use Rattle.vl_link.proofs.Names.{AreSameSubs, sub_fragments, message_fragments, sent_of, taken_by, IsTied}
 use Rattle.afdx_frame.proofs.FragmentLemmas.{fragments_more}
-use Rattle.redundant_mux.specs.Entry.{Entry, entry}
-use Rattle.vl_shaper.specs.Pace.{Pace}
-use Rattle.vl_link.specs.declared.sub_vl.SubVl.{SubVl}
-use Rattle.vl_link.specs.Seen.{taken_of}
-use Rattle.afdx_legal.specs.Streams.{told, IsPrefixOf}
-use Rattle.vl_link.specs.Links.{Held, held_at, GoesOn, Starts, Asks, IsPicked, PassedOver, Gives, IsSameSub, AreSameSubs, sub_fragments, message_fragments, sent_of, taken_by}
-use Rattle.vl_link.specs.Kept.{IsTied}
 use Rattle.vl_link.proofs.Choosing.{Moves, moves_passed}
 use Rattle.vl_link.proofs.TurnLaws.{choice_other}
 use Rattle.vl_link.proofs.QueueLooks.{taken_nothing, taken_finds, items_nothing, items_finds, same_nothing, same_finds, same_here, same_on}

@@ -1,11 +1,6 @@
 -- What the fields of a sub-VL keep over a look into its queue.
-use Rattle.std.proofs.Common.{ℕ, ◌≡◌, ◌+◌, ◌%◌, List, [], ◌∷◌, Option, Some, arith}
-use Rattle.std.proofs.lemmas.List.{length-append}
-use Rattle.afdx_plan.specs.declared.port_plan.PortPlan.{PortPlan}
-use Rattle.afdx_frame.specs.Cutting.{Cutting}
-use Rattle.vl_link.specs.declared.sub_vl.SubVl.{SubVl}
-use Rattle.vl_link.specs.Seen.{Seen, taken_of, ports_of, Finds}
-use Rattle.vl_link.specs.Subs.{IsSub, IsCutOf}
+use Rattle.vl_link.proofs.Names.{ℕ, ◌≡◌, ◌+◌, ◌%◌, List, [], ◌∷◌, Option, Some, arith, length-append, PortPlan}
+use Rattle.vl_link.proofs.Names.{Cutting, SubVl, Seen, taken_of, ports_of, Finds, IsSub, IsCutOf}
 use Rattle.vl_link.proofs.QueueLooks.{same_finds, same_ports, taken_finds}
 
 -- a queue of as many ports, of which as much was taken

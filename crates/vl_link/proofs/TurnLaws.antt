@@ -1,15 +1,10 @@
 -- A turn of a link, whatever is known of its sub-VLs.
-use Rattle.std.proofs.Common.{ℕ, zero, suc, ◌≡◌, ◌≢◌, ◌⊎◌, ◌+◌, ◌<◌, ◌≤◌, List, true, false, arith, refl, ap, ◌∙◌, sym, subst, inl, inr, ⊎_elim}
-use Rattle.std.proofs.lemmas.Bool.{cases_eq, cases_lt, and_right}
-use Rattle.afdx_plan.specs.declared.link_plan.LinkPlan.{LinkPlan}
-use Rattle.redundant_mux.specs.Lines.{Lines, BothEndure, stands_for}
+use Rattle.vl_link.proofs.Names.{ℕ, zero, suc, ◌≡◌, ◌≢◌, ◌⊎◌, ◌+◌, ◌<◌, ◌≤◌, List, true, false, arith, refl, ap}
+use Rattle.vl_link.proofs.Names.{◌∙◌, sym, subst, inl, inr, ⊎_elim, cases_eq, cases_lt, and_right, LinkPlan, Lines}
+use Rattle.vl_link.proofs.Names.{BothEndure, stands_for, Pace, turn_of, is_due, Served, Nothing, Released, Lost}
+use Rattle.vl_link.proofs.Names.{TurnView, IsChoice, Turn, AreTurns, may_release, turn_below}
 use Rattle.redundant_mux.proofs.Enduring.{both_none, both_on}
-use Rattle.vl_shaper.specs.Pace.{Pace, turn_of, is_due}
-use Rattle.vl_link.specs.declared.served.Served.{Served}
-use Rattle.vl_link.specs.declared.served.Served.TheVariants.{Nothing, Released, Lost}
-use Rattle.vl_link.specs.Turn.{TurnView, IsChoice, Turn, AreTurns, may_release}
 use Rattle.vl_link.proofs.Choosing.{met}
-use Rattle.vl_shaper.proofs.Turns.{turn_below}
 
 -- the chosen one is one of the sub-VLs
 pub choice_below : (pace : Pace) (has lacks rests : ℕ → Type 0) (sub : ℕ) → IsChoice pace has lacks rests sub

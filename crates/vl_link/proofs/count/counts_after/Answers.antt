@@ -1,9 +1,8 @@
-use Rattle.std.proofs.Common.{ℕ, ◌+◌, refl, ap, ◌∙◌, ◌≡◌, List, [], ◌∷◌, ◌++◌, Bool, true, false, length, filter, cond, arith, sym, length-append}
-use Rattle.std.proofs.lemmas.List.Sums.{sum_by-append}
-use Rattle.std.proofs.lemmas.List.Elements.{filter-append}
-use Rattle.redundant_mux.specs.Entry.{Entry, entry}
+use Rattle.vl_link.proofs.Names.{ℕ, ◌+◌, refl, ap, ◌∙◌, ◌≡◌, List, [], ◌∷◌, ◌++◌, Bool, true, false, length, filter}
+use Rattle.vl_link.proofs.Names.{cond, arith, sym, sum_by-append, filter-append, Entry, entry, ends_message}
+use Rattle.vl_link.proofs.Names.{messages_ended, moment_after, counts_in}
+use Rattle.std.proofs.Common.{length-append}
 use Rattle.status_board.specs.declared.counts.Counts.{Counts}
-use Rattle.afdx_legal.specs.Counting.{ends_message, messages_ended, moment_after, counts_in}
 use Rattle.vl_link.proofs.count.counts_after.Goals as goal
 
 messages_push : (stream : List Entry) (e : Entry) → messages_ended (stream ++ e ∷ []) ≡ messages_ended stream + cond (ends_message e) 1 0

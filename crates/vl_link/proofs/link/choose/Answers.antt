@@ -1,4 +1,4 @@
-use Rattle.std.proofs.Common.{true, false, arith}
+use Rattle.vl_link.proofs.Names.{true, false, arith}
 use Rattle.vl_link.proofs.Choosing.{asked_next, passed_next}
 use Rattle.vl_link.proofs.link.choose.Goals as goal
 

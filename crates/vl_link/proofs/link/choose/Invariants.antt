@@ -1,4 +1,4 @@
-use Rattle.vl_link.specs.Links.{PassedOver}
+use Rattle.vl_link.proofs.Names.{PassedOver}
 use Rattle.vl_link.proofs.link.choose.Given as goal
 
 abbrev pub invariant-loop-k : goal.invariant-loop-k

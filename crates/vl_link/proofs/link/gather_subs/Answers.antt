@@ -1,7 +1,5 @@
-use Rattle.std.proofs.Common.{◌+◌, ◌<◌, length, arith, ◌∙◌}
-use Rattle.std.proofs.lemmas.List.{get_or_default, get_or-set_other, length-set}
-use Rattle.vl_link.specs.Links.{held_at, nothing_held}
-use Rattle.vl_link.specs.LinkGathering.{GathersSub}
+use Rattle.vl_link.proofs.Names.{◌+◌, ◌<◌, length, arith, ◌∙◌, get_or_default, get_or-set_other, length-set}
+use Rattle.vl_link.proofs.Names.{held_at, nothing_held, GathersSub}
 use Rattle.vl_link.proofs.Choosing.{each_set}
 use Rattle.vl_link.proofs.link.gather_subs.Goals as goal
 

@@ -1,6 +1,4 @@
-use Rattle.std.proofs.Common.{ℕ, ◌≡◌, ◌<◌, ◌≤◌, length}
-use Rattle.vl_link.specs.Links.{held_at}
-use Rattle.vl_link.specs.LinkGathering.{GathersSub}
+use Rattle.vl_link.proofs.Names.{ℕ, ◌≡◌, ◌<◌, ◌≤◌, length, held_at, GathersSub}
 use Rattle.vl_link.proofs.link.gather_subs.Given as goal
 
 abbrev pub invariant-loop-sub : goal.invariant-loop-sub

@@ -1,11 +1,5 @@
-use Rattle.std.proofs.Common.{◌∙◌, ap, sym, refl, inr}
-use Rattle.std.proofs.lemmas.Bool.{and_parts}
-use Rattle.std.proofs.lemmas.List.{append-nil}
-use Rattle.afdx_frame.specs.declared.net.Net.TheVariants.{A}
-use Rattle.afdx_frame.proofs.Twins.{twin_same}
-use Rattle.redundant_mux.specs.Lines.{log}
-use Rattle.redundant_mux.proofs.MirroredLines.{log_same}
-use Rattle.afdx_legal.specs.Streams.{link_stream}
+use Rattle.vl_link.proofs.Names.{◌∙◌, ap, sym, refl, inr, and_parts, append-nil, A, twin_same, log, log_same}
+use Rattle.vl_link.proofs.Names.{link_stream}
 use Rattle.vl_link.proofs.SubInStep.{passed_same}
 use Rattle.vl_link.proofs.ChosenSub.{chosen_left, chosen_gives, frame_at, set_same, none_has}
 use Rattle.vl_link.proofs.PaceOfStream.{follows_more, stream_more}

@@ -1,5 +1,4 @@
-use Rattle.std.proofs.Common.{ℕ, ◌<◌, true}
-use Rattle.vl_link.specs.Links.{held_at}
+use Rattle.vl_link.proofs.Names.{ℕ, ◌<◌, true, held_at}
 use Rattle.vl_link.specs.LinkDone.{TellsSubDone}
 use Rattle.vl_link.proofs.link.subs_done.Given as goal
 

@@ -1,6 +1,4 @@
-use Rattle.std.proofs.Common.{sym, subst, not, Option}
-use Rattle.afdx_frame.specs.Cutting.{Cutting}
-use Rattle.vl_link.specs.Links.{TellsCutting, left_of}
+use Rattle.vl_link.proofs.Names.{sym, subst, not, Option, Cutting, TellsCutting, left_of}
 use Rattle.vl_link.proofs.FragmentsLeft.{done_tells}
 use Rattle.vl_link.proofs.sub.is_cutting.Goals as goal
 

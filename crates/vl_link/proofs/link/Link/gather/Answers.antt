@@ -1,6 +1,4 @@
-use Rattle.std.proofs.Common.{sym, ap, ◌∙◌, subst}
-use Rattle.vl_link.specs.Links.{LinkState}
-use Rattle.vl_link.specs.LinkGathering.{AreFullSubs}
+use Rattle.vl_link.proofs.Names.{sym, ap, ◌∙◌, subst, LinkState, AreFullSubs}
 use Rattle.vl_link.proofs.link.Link.gather.Goals as goal
 
 pub gather_subs-requires : goal.gather_subs-requires

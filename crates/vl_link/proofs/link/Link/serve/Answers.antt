@@ -1,12 +1,8 @@
-use Rattle.std.proofs.Common.{ℕ, ◌≡◌, ◌++◌, ◌∙◌, List, length, refl, ap, sym}
-use Rattle.std.proofs.lemmas.List.{with_items_is}
+use Rattle.vl_link.proofs.Names.{ℕ, ◌≡◌, ◌++◌, ◌∙◌, List, length, refl, ap, sym, with_items_is, log, link_stream}
+use Rattle.vl_link.proofs.Names.{counts_in, entered}
 use Rattle.std.specs.Vec.{with_items}
-use Rattle.redundant_mux.specs.Lines.{log}
-use Rattle.afdx_legal.specs.Streams.{link_stream}
-use Rattle.afdx_legal.specs.Counting.{counts_in}
-use Rattle.vl_link.specs.Turn.{entered}
-use Rattle.vl_link.proofs.link.Link.serve.Goals as goal
 use Rattle.vl_link.proofs.link.Link.serve.Goals.{then-self, else-self}
+use Rattle.vl_link.proofs.link.Link.serve.Goals as goal
 
 pub returns-clause-serves : goal.returns-clause-serves
 returns-clause-serves g c =

@@ -1,5 +1,4 @@
-use Rattle.std.proofs.Common.{sym, subst, arith}
-use Rattle.vl_link.specs.LinkGathering.{IsFullSub}
+use Rattle.vl_link.proofs.Names.{sym, subst, arith, IsFullSub}
 use Rattle.vl_link.proofs.sub.Sub.gather.Goals as goal
 
 pub into_gathered-requires : goal.into_gathered-requires

@@ -1,14 +1,7 @@
-use Rattle.std.proofs.Common.{ℕ, ◌≡◌, ◌∙◌, ◌%◌, ◌<◌, ap, sym, subst, refl, inr, arith, [], Bool, false, Option, List, length}
-use Rattle.std.proofs.lemmas.List.{get_or_read}
+use Rattle.vl_link.proofs.Names.{ℕ, ◌≡◌, ◌∙◌, ◌%◌, ◌<◌, ap, sym, subst, refl, inr, arith, [], Bool, false, Option}
+use Rattle.vl_link.proofs.Names.{List, length, get_or_read, room_of, Cutting, A, fragments_again, SubVl, taken_of}
+use Rattle.vl_link.proofs.Names.{TellsCutting, left_of, message_fragments, sent_of, IsPortOf, IsCutOf, seen_of}
 use Rattle.afdx_plan.specs.Config.{port_plan_at}
-use Rattle.afdx_plan.specs.Room.{room_of}
-use Rattle.afdx_frame.specs.Cutting.{Cutting}
-use Rattle.afdx_frame.specs.declared.net.Net.TheVariants.{A}
-use Rattle.afdx_frame.proofs.Twins.{fragments_again}
-use Rattle.vl_link.specs.declared.sub_vl.SubVl.{SubVl}
-use Rattle.vl_link.specs.Seen.{taken_of}
-use Rattle.vl_link.specs.Links.{TellsCutting, left_of, message_fragments, sent_of}
-use Rattle.vl_link.specs.Subs.{IsPortOf, IsCutOf, seen_of}
 use Rattle.vl_link.proofs.FragmentsLeft.{fragments_some}
 use Rattle.vl_link.proofs.QueueLooks.{item_of_more, same_nothing, same_ports, taken_nothing}
 use Rattle.vl_link.proofs.SubKept.{kept_as, kept_finds}
