@@ -1,3 +1,2 @@
 pub mod MirroredLines
 pub mod Enduring
-pub mod LastFrames
