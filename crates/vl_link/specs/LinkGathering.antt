@@ -22,11 +22,6 @@ pub record Gathers (old new : Seen) : Type 0 where
   pub queue : BecomesWhole old new
   pub whole : IsWhole (ports_of old) (back_of old) (known_of new)
 
--- every sender of a queue is back
-pub record IsFull (seen : Seen) : Type 0 where
-  pub receiving : IsReceiving seen
-  pub every : AreBack (ports_of seen) (back_of seen)
-
 -- the sender of each port of a sub-VL is back
 pub record IsFullSub (held : Held) : Type 0 where
   pub receiving : IsReceiving held.seen
