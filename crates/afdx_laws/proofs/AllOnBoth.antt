@@ -16,10 +16,9 @@ use Rattle.redundant_mux.specs.Logged.{side}
 use Rattle.afdx_legal.specs.Streams.{link_stream}
 use Rattle.afdx_legal.specs.Legal.{IsKnown, AreKnown, is_on_both, on_both, AreTwins}
 use Rattle.afdx_legal.specs.Own.{longer, own_stream}
-use Rattle.afdx_laws.specs.Plans.{id_at}
-use Rattle.afdx_laws.specs.AllOnBoth.{IsOnBoth, AllOnBoth}
+use Rattle.afdx_laws.specs.Plans.{id_at, IsOnBoth, AllOnBoth}
 use Rattle.std.proofs.lemmas.Simd.{map-map}
-use Rattle.afdx_laws.proofs.ListLemmas.{map_same}
+use Rattle.afdx_laws.proofs.ListLemmas.{cons_same, map_same}
 use Rattle.afdx_laws.proofs.LegalLinks.{stream_side, stream_front}
 
 -- the link of a known frame is on both
@@ -38,7 +37,7 @@ none_cut : (links : List LinkPlan) (net : Net) (es : List Entry) → All IsOnBot
 none_cut links net [] all known = refl
 none_cut links net (e ∷ es) all known =
     rw (known_on_both links net e.frame all known.0)
-    (ap (λ (ds : List Entry). e ∷ ds) (none_cut links net es all known.1))
+    (cons_same refl (none_cut links net es all known.1))
 
 -- entries that are turned twice
 side_side : (net other : Net) (es : List Entry) → map (side net) (map (side other) es) ≡ map (side net) es

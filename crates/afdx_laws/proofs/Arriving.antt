@@ -1,15 +1,16 @@
 -- The receiver has the first of the accepted messages.
-use Rattle.std.proofs.Common.{◌≡◌, ℕ, ◌%◌, ◌≤◌, nat_eq, List, ◌++◌, length, map, take, drop, ap, sym, ◌∙◌, arith}
+use Rattle.std.proofs.Common.{◌≡◌, ℕ, ◌%◌, ◌≤◌, nat_eq, List, ◌++◌, length, map, take, drop, refl, ap, sym, ◌∙◌, arith}
 use Rattle.std.specs.Prelude.{All}
 use Rattle.std.proofs.lemmas.List.{append_assoc, map-append, take-append-drop, length-map, length-append, take-take, take-map}
 use Rattle.std.proofs.lemmas.Simd.{map-map}
 use Rattle.std.proofs.lemmas.List.Elements.{All-filter, All-map, All-weaker, All-take}
+use Rattle.afdx_frame.specs.declared.net.Net.{Net}
 use Rattle.afdx_frame.specs.declared.net.Net.TheVariants.{A}
 use Rattle.afdx_frame.specs.Frame.{datagram}
 use Rattle.afdx_frame.specs.Twin.{twin_of}
 use Rattle.afdx_frame.specs.Profile.{word_at}
 use Rattle.afdx_frame.specs.Fragments.{Sent, blanked, fragments}
-use Rattle.afdx_frame.specs.Reassembly.{Fragment, empty}
+use Rattle.afdx_frame.specs.Reassembly.{empty}
 use Rattle.afdx_legal.specs.Streams.{those_with, IsPrefixOf}
 use Rattle.afdx_legal.proofs.StreamLemmas.{with_append}
 use Rattle.afdx_laws.specs.Receiver.{begin, received, carried}
@@ -21,7 +22,7 @@ use Rattle.afdx_laws.proofs.Losing.{loss_masked_holds}
 use Rattle.afdx_laws.specs.Delivery.{delivered, of_sub, sent_from, HasByte}
 use Rattle.afdx_laws.specs.Buffers.{HasUpTo}
 use Rattle.afdx_laws.specs.Messages.{fragment_in, messages_in, IsSent, IsSending, AreFirst, MessagesArrive, DespiteLoss}
-use Rattle.afdx_laws.proofs.ListLemmas.{map_same}
+use Rattle.afdx_laws.proofs.ListLemmas.{append_same, map_same}
 use Rattle.afdx_laws.proofs.InOrder.{in_order_holds}
 use Rattle.afdx_laws.proofs.Reading.{same_fragment, read_any, reads_all, reads_frames, of_sub_is, length-datagram, drop-datagram}
 
@@ -34,24 +35,32 @@ fragments_received got sent same =
     ∙ map_same (λ f. fragment_in (twin_of A f)) fragment_in sent (λ f. same_fragment A f)
 
 -- the first frames of a link have the first frames of a sub
-sub_take : (sub n : ℕ) (stream : List (List ℕ)) → those_with sub_in sub stream ≡ those_with sub_in sub (take n stream)
-    ++ those_with sub_in sub (drop n stream)
+sub_take : (sub n : ℕ) (stream : List (List ℕ))
+    → those_with sub_in sub stream ≡ those_with sub_in sub (take n stream) ++ those_with sub_in sub (drop n stream)
 sub_take sub n stream = ap (those_with sub_in sub) (sym (take-append-drop n stream))
     ∙ with_append sub_in sub (take n stream) (drop n stream)
 
--- the messages in the first datagrams
-bytes_of : (end_system many : ℕ) (accepted : List Sent)
-    → map (drop 8) (take many (map (λ (sent : Sent). datagram end_system sent.port sent.bytes) accepted)) ≡ take
-    many (map (λ (sent : Sent). sent.bytes) accepted)
-bytes_of end_system many accepted =
-    sym (take-map (drop 8) many (map (λ (sent : Sent). datagram end_system sent.port sent.bytes) accepted))
-    ∙ ap (take many) (map-map (drop 8) (λ (sent : Sent). datagram end_system sent.port sent.bytes) accepted
-    ∙ map_same (λ (sent : Sent). drop 8 (datagram end_system sent.port sent.bytes))
-    (λ (sent : Sent). sent.bytes) accepted (λ sent. drop-datagram end_system sent))
+-- more frames of a link are no fewer of a sub
+more_of_sub : (sub few many : ℕ) (stream : List (List ℕ)) → few ≤ many
+    → length (those_with sub_in sub (take few stream)) ≤ length (those_with sub_in sub (take many stream))
+more_of_sub sub few many stream less =
+    let split = ap length (sub_take sub few (take many stream)) in
+    let both = length-append (those_with sub_in sub (take few (take many stream)))
+    (those_with sub_in sub (drop few (take many stream))) in
+    let same = ap (λ (xs : List (List ℕ)). length (those_with sub_in sub xs)) (take-take few many stream less) in
+    omega arith
 
 -- the datagrams of accepted messages
 abbrev pub datagrams_of : ℕ → List Sent → List (List ℕ)
 datagrams_of end_system accepted = map (λ (sent : Sent). datagram end_system sent.port sent.bytes) accepted
+
+-- the messages in the first datagrams
+bytes_of : (end_system many : ℕ) (accepted : List Sent) → map (drop 8) (take many (datagrams_of end_system accepted))
+    ≡ take many (map (λ (sent : Sent). sent.bytes) accepted)
+bytes_of end_system many accepted =
+    sym (take-map (drop 8) many (datagrams_of end_system accepted))
+    ∙ ap (take many) (map-map (drop 8) (λ (sent : Sent). datagram end_system sent.port sent.bytes) accepted
+    ∙ map_same _ (λ (sent : Sent). sent.bytes) accepted (drop-datagram end_system))
 
 -- each has a byte
 pub some_bytes : (end_system sub : ℕ) (accepted : List Sent) → All (IsSent sub) accepted
@@ -77,17 +86,16 @@ own_fragments sub count stream got first =
     ∙ of_sub_is sub (take count stream)
 
 -- they are the first of its datagrams
-pub first_come : (end_system room sub count : ℕ) (accepted : List Sent) (stream got : List (List ℕ))
-    → IsSending end_system room sub accepted stream
+pub first_come : (end_system room sub count : ℕ) (accepted : List Sent) (net : Net) (stream got : List (List ℕ))
+    → IsSending end_system room sub accepted net stream
     → map (twin_of A) got ≡ take count (map (twin_of A) stream)
     → IsPrefixOf (of_sub sub (map fragment_in got)) (sent_from room sub 0 (datagrams_of end_system accepted))
-first_come end_system room sub count accepted stream got sending first =
+first_come end_system room sub count accepted net stream got sending first =
     let front : List (List ℕ) = those_with sub_in sub (take count stream) in
     let back : List (List ℕ) = those_with sub_in sub (drop count stream) in
-    let read = reads_all accepted end_system room sub 0 sending.link.numbered sending.link.least sending.link.greatest
-    sending.sent in
+    let read = reads_all accepted end_system room sub 0 net sending.link.least sending.link.greatest sending.sent in
     let rest : List (List ℕ) = map blanked back ++ sending.first.0 in
-    let split : fragments end_system room A accepted
+    let split : fragments end_system room net accepted
     ≡ map blanked (those_with sub_in sub (take count stream))
     ++ (map blanked (those_with sub_in sub (drop count stream)) ++ sending.first.0) =
     sym sending.first.1 ∙ ap (λ (xs : List (List ℕ)). xs ++ sending.first.0)
@@ -97,69 +105,51 @@ first_come end_system room sub count accepted stream got sending first =
     All-filter (λ (f : List ℕ). nat_eq (word_at f 18 % 4) sub)
     IsLong (take count stream) (All-take IsLong count stream sending.frames.long) in (
       map read_any rest,
-      ap (λ (xs : List (ℕ × Fragment)). xs ++ map read_any rest) (own_fragments sub count stream got first)
-          ∙ sym (reads_frames front (fragments end_system room A accepted) rest read.each long split) ∙ read.are,
+      append_same (own_fragments sub count stream got first) refl
+          ∙ sym (reads_frames front (fragments end_system room net accepted) rest read.each long split) ∙ read.are,
     )
 
--- what is in frames that are the first of the stream's
-pub arrived : (end_system room sub count : ℕ) (accepted : List Sent) (stream got : List (List ℕ))
-    → IsSending end_system room sub accepted stream
-    → map (twin_of A) got ≡ take count (map (twin_of A) stream)
-    → AreFirst end_system room sub accepted (take count stream) (messages_in sub got)
-arrived end_system room sub count accepted stream got sending first =
-    let datagrams : List (List ℕ) = datagrams_of end_system accepted in
+-- what is in frames that are the first of the stream's, at least as many as these
+pub arrived : (end_system room sub few many : ℕ) (accepted : List Sent) (net : Net) (stream got : List (List ℕ))
+    → IsSending end_system room sub accepted net stream
+    → map (twin_of A) got ≡ take many (map (twin_of A) stream) → few ≤ many
+    → AreFirst end_system room sub accepted (take few stream) (messages_in sub got)
+arrived end_system room sub few many accepted net stream got sending first less =
     let least = sending.link.least in
-    let ends = in_order_holds room sub datagrams (map fragment_in got) (omega arith)
+    let ends = in_order_holds room sub (datagrams_of end_system accepted) (map fragment_in got) (omega arith)
     (some_bytes end_system sub accepted sending.sent)
-    (first_come end_system room sub count accepted stream got sending first) in
+    (first_come end_system room sub many accepted net stream got sending first) in
     record {
       many = ends.0;
       are = sym (map-map (drop 8) (λ (e : ℕ × List ℕ). e.1)
           (of_sub sub (delivered (λ key. empty) (map fragment_in got))))
           ∙ ap (map (drop 8)) ends.1 ∙ bytes_of end_system ends.0 accepted;
-      all = λ j few enough.
-          let read = reads_all (take j accepted) end_system room sub 0 sending.link.numbered least sending.link.greatest
+      all = λ j within enough.
+          let read = reads_all (take j accepted) end_system room sub 0 A least sending.link.greatest
           (All-take (IsSent sub) j accepted sending.sent) in
-          let fragments_are : length (fragments end_system room A (take j accepted))
-          ≡ length (sent_from room sub 0 (take j (datagrams_of end_system accepted))) =
-          sym (length-map (fragments end_system room A (take j accepted)) read_any) ∙ ap length read.are
-          ∙ sym (ap (λ (ds : List (List ℕ)). length (sent_from room sub 0 ds))
-          (take-map (λ (s : Sent). datagram end_system s.port s.bytes) j accepted)) in
-          let mine : length (of_sub sub (map fragment_in got)) ≡ length (those_with sub_in sub (take count stream)) =
-          ap length (own_fragments sub count stream got first)
-          ∙ length-map (those_with sub_in sub (take count stream)) fragment_in in
-          let all : length datagrams ≡ length accepted =
-          length-map accepted (λ (s : Sent). datagram end_system s.port s.bytes) in
+          let sent : length (sent_from room sub 0 (take j (datagrams_of end_system accepted)))
+          ≡ length (fragments end_system room A (take j accepted)) =
+          ap (λ (ds : List (List ℕ)). length (sent_from room sub 0 ds))
+          (take-map (λ (s : Sent). datagram end_system s.port s.bytes) j accepted)
+          ∙ sym (ap length read.are) ∙ length-map (fragments end_system room A (take j accepted)) read_any in
+          let mine : length (of_sub sub (map fragment_in got)) ≡ length (those_with sub_in sub (take many stream)) =
+          ap length (own_fragments sub many stream got first)
+          ∙ length-map (those_with sub_in sub (take many stream)) fragment_in in
+          let all = length-map accepted (λ (s : Sent). datagram end_system s.port s.bytes) in
+          let more = more_of_sub sub few many stream less in
           ends.2 j (omega arith) (omega arith);
     }
 
 -- the law, by what the receiver accepts
 pub messages_arrive_holds : MessagesArrive
-messages_arrive_holds end_system room sub lag tolerance accepted stream arrivals sending fit carry =
-    arrived end_system room sub (most_carried arrivals) accepted stream
+messages_arrive_holds end_system room sub lag tolerance accepted net stream arrivals sending fit carry =
+    arrived end_system room sub (most_carried arrivals) (most_carried arrivals) accepted net stream
     (received number_in tolerance begin arrivals) sending
-    (exactly_once_holds lag tolerance stream arrivals fit sending.frames carry)
-
--- more frames of a link are no fewer of a sub
-more_of_sub : (sub few many : ℕ) (stream : List (List ℕ)) → few ≤ many
-    → length (those_with sub_in sub (take few stream)) ≤ length (those_with sub_in sub (take many stream))
-more_of_sub sub few many stream less =
-    let split = ap length (sub_take sub few (take many stream)) in
-    let both = length-append (those_with sub_in sub (take few (take many stream)))
-    (those_with sub_in sub (drop few (take many stream))) in
-    let same : length (those_with sub_in sub (take few (take many stream))) ≡ length (those_with sub_in sub (take few stream)) =
-    ap (λ (xs : List (List ℕ)). length (those_with sub_in sub xs)) (take-take few many stream less) in
-    omega arith
+    (exactly_once_holds lag tolerance stream arrivals fit sending.frames carry) (omega arith)
 
 -- the law, by what the receiver accepts despite loss
 pub despite_loss_holds : DespiteLoss
-despite_loss_holds end_system room sub check whole accepted stream came sending some close =
+despite_loss_holds end_system room sub check whole accepted net stream came sending some close =
     let masked = loss_masked_holds whole check stream came some sending.frames close in
-    let got = received number_in (next_alone check) begin (frames_at stream came) in
-    let first = arrived end_system room sub masked.0 accepted stream got sending masked.2 in
-    let more = more_of_sub sub (length (carried whole came)) masked.0 stream masked.1 in
-    record {
-      many = first.many;
-      are = first.are;
-      all = λ j few enough. first.all j few (omega arith);
-    }
+    arrived end_system room sub (length (carried whole came)) masked.0 accepted net stream
+    (received number_in (next_alone check) begin (frames_at stream came)) sending masked.2 masked.1

@@ -3,13 +3,12 @@ use Rattle.std.proofs.Common.{ℕ, ◌≡◌, ◌+◌, ◌-◌, ◌*◌, ◌≤�
 use Rattle.std.proofs.lemmas.Bool.{le-leb}
 use Rattle.std.proofs.lemmas.Nat.{mul-le}
 use Rattle.std.proofs.Math.Nat.{mul-add, le-min}
-use Rattle.afdx_laws.specs.Policer.{Arrival, Rule, Account, Charge, by_bytes, by_frames, full, filled, paid, price, passed, Passage, arrival, IsOnTime, AreOnTime, NoneDropped}
+use Rattle.afdx_laws.specs.Policer.{Arrival, Rule, Account, Charge, by_bytes, by_frames, full, filled, paid, price, passed, Passage, arrival, IsOnTime, AreOnTime, NoneDropped, IsUpTo, IsOnItsWay, rule_around, StreamPasses}
 use Rattle.std.specs.Prelude.{Option, Some, None, All}
 use Rattle.std.specs.List.{AllZip}
 use Rattle.redundant_mux.specs.Entry.{Entry}
 use Rattle.vl_shaper.specs.declared.shaper.Stamp.{Stamp}
 use Rattle.afdx_legal.specs.Streams.{stamp_of, IsSpaced}
-use Rattle.afdx_laws.specs.Spacing.{IsUpTo, IsOnItsWay, StreamPasses}
 
 -- no frame costs more than the greatest
 price_le : (charge : Charge) (rule : Rule) (frame : Arrival) → frame.size ≤ rule.lmax
@@ -87,18 +86,13 @@ none_dropped_holds charge rule (p ∷ q ∷ rest) on =
 
 -- a frame on its way is on time
 on_time : (gap lmax jitter around : ℕ) (r : Entry) (p : Passage) → IsUpTo lmax r → IsOnItsWay around jitter r p
-    → IsOnTime (record { gap = gap; lmax = lmax + around; jitter = jitter }) p
-on_time gap lmax jitter around r p small way =
-    let released = way.released in
-    let size = way.size in
-    let after = way.after in
-    let soon = way.soon in
-    record { after = omega arith; soon = omega arith; small = omega arith }
+    → IsOnTime (rule_around gap lmax jitter around) p
+on_time gap lmax jitter around r p small way = omega arith
 
 -- so are all of a spaced stream
 are_on_time : (gap lmax jitter around : ℕ) (before : Option Stamp) (stream : List Entry) (passages : List Passage)
     → IsSpaced gap before stream → All (IsUpTo lmax) stream → AllZip (IsOnItsWay around jitter) stream passages
-    → AreOnTime (record { gap = gap; lmax = lmax + around; jitter = jitter }) passages
+    → AreOnTime (rule_around gap lmax jitter around) passages
 are_on_time gap lmax jitter around before [] [] spaced small way = tt
 are_on_time gap lmax jitter around before [] (p ∷ passages) spaced small way = absurd way
 are_on_time gap lmax jitter around before (r ∷ later) [] spaced small way = absurd way
@@ -119,5 +113,5 @@ are_on_time gap lmax jitter around before (r ∷ s ∷ later) (p ∷ q ∷ passa
 -- the law
 pub stream_passes_holds : StreamPasses
 stream_passes_holds charge gap lmax jitter around stream passages spaced small way =
-    none_dropped_holds charge (record { gap = gap; lmax = lmax + around; jitter = jitter }) passages
+    none_dropped_holds charge (rule_around gap lmax jitter around) passages
     (are_on_time gap lmax jitter around None stream passages spaced small way)

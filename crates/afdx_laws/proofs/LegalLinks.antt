@@ -19,7 +19,7 @@ use Rattle.afdx_legal.specs.Legal.{IsKnown, AreKnown, AreTwins, Accepted, is_on_
 use Rattle.afdx_legal.proofs.StreamLemmas.{known_all, with_append, with_map, numbered_map}
 use Rattle.afdx_laws.specs.Networks.{IsLong}
 use Rattle.afdx_laws.specs.Handed.{IsOfNet, IsHanded, AreHanded}
-use Rattle.afdx_laws.specs.Plans.{frames_of, id_at, piece_room, LegalArrive, LegalDespiteLoss}
+use Rattle.afdx_laws.specs.Plans.{frames_of, id_at, piece_room, IsHandedOver, LegalArrive, LegalDespiteLoss}
 use Rattle.afdx_laws.proofs.HandedOver.{own_twins, twin_twin, handed_arrive_holds, handed_despite_loss_holds}
 use Rattle.std.proofs.lemmas.Bool.{cases_lt, cases_Bool, eqb-true}
 use Rattle.afdx_plan.specs.Config.{Plan, IsPlan, link_plan_at}
@@ -202,7 +202,7 @@ sent_is plan k sub sent valid allowed =
     record { port = port; its = allowed.its; some = allowed.some; most = allowed.most }
 
 -- a link's frames were handed to a network
-handed_is : (plan : Plan) (accepted : Accepted) (net : Net) (handed : List Entry) (k sub : ℕ)
+pub handed_is : (plan : Plan) (accepted : Accepted) (net : Net) (handed : List Entry) (k sub : ℕ)
     → IsLegalOn plan accepted net handed → k < length plan.links → sub < (link_plan_at plan.links k).sub_vls
     → IsHanded plan.end_system (piece_room plan k) sub (accepted k sub) net (frames_of (id_at plan k) handed)
 handed_is plan accepted net handed k sub legal inside index =
@@ -219,28 +219,27 @@ handed_is plan accepted net handed k sub legal inside index =
     }
 
 -- so a link's frames were handed to both networks
-pub are_handed : (plan : Plan) (accepted : Accepted) (a b : List Entry) (k sub : ℕ) → IsPlan plan → IsLegal plan accepted a b
-    → k < length plan.links → sub < (link_plan_at plan.links k).sub_vls → All (IsAllowed plan k sub) (accepted k sub)
+pub are_handed : (plan : Plan) (accepted : Accepted) (a b : List Entry) (k sub : ℕ) → IsHandedOver plan accepted a b k sub
     → AreHanded plan.end_system (piece_room plan k) sub (accepted k sub)
     (frames_of (id_at plan k) a) (frames_of (id_at plan k) b)
-are_handed plan accepted a b k sub valid legal inside index allowed = record {
-  link = room_is plan k valid inside;
-  sent = All-weaker (IsAllowed plan k sub) (IsSent sub) (λ sent is. sent_is plan k sub sent valid is) (accepted k sub) allowed;
-  on_a = handed_is plan accepted A a k sub legal.on_a inside index;
-  on_b = handed_is plan accepted B b k sub legal.on_b inside index;
-  twins = twins_are plan accepted a b k valid legal inside;
+are_handed plan accepted a b k sub h = record {
+  link = room_is plan k h.valid h.inside;
+  sent = All-weaker (IsAllowed plan k sub) (IsSent sub) (λ sent is. sent_is plan k sub sent h.valid is) (accepted k sub) h.allowed;
+  on_a = handed_is plan accepted A a k sub h.legal.on_a h.inside h.index;
+  on_b = handed_is plan accepted B b k sub h.legal.on_b h.inside h.index;
+  twins = twins_are plan accepted a b k h.valid h.legal h.inside;
 }
 
 -- the law
 pub legal_arrive_holds : LegalArrive
-legal_arrive_holds plan accepted a b valid legal k sub inside index allowed lag tolerance arrivals fit carry =
+legal_arrive_holds plan accepted a b k sub lag tolerance arrivals handed fit carry =
     handed_arrive_holds plan.end_system (piece_room plan k) sub lag tolerance (accepted k sub)
     (frames_of (id_at plan k) a) (frames_of (id_at plan k) b) arrivals
-    (are_handed plan accepted a b k sub valid legal inside index allowed) fit carry
+    (are_handed plan accepted a b k sub handed) fit carry
 
 -- the law despite loss
 pub legal_despite_loss_holds : LegalDespiteLoss
-legal_despite_loss_holds plan accepted a b valid legal k sub inside index allowed check whole came some close =
+legal_despite_loss_holds plan accepted a b k sub check whole came handed some close =
     handed_despite_loss_holds plan.end_system (piece_room plan k) sub check whole (accepted k sub)
     (frames_of (id_at plan k) a) (frames_of (id_at plan k) b) came
-    (are_handed plan accepted a b k sub valid legal inside index allowed) some close
+    (are_handed plan accepted a b k sub handed) some close

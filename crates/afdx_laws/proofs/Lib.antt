@@ -1,4 +1,5 @@
 pub mod ListLemmas
+pub mod Rows
 pub mod Credit
 pub mod WorkedPassages
 pub mod NumberLemmas
@@ -19,9 +20,6 @@ pub mod LegalSpacing
 pub mod WorkedDemo
 pub mod WorkedMoments
 pub mod WorkedPieces
-pub mod WorkedLosses
-pub mod WorkedCounts
-pub mod WorkedPairs
 pub mod WorkedPolls
 pub mod NextFragment
 pub mod OneBuffer

@@ -9,6 +9,13 @@ use Rattle.std.proofs.lemmas.List.Elements.{All-take}
 pub cons_parts : {X : Type 0} {x y : X} {xs ys : List X} → x ∷ xs ≡ y ∷ ys → (x ≡ y) × (xs ≡ ys)
 cons_parts e = (cc, cc)
 
+-- lists with the same parts are the same
+pub cons_same : {X : Type 0} {x y : X} {xs ys : List X} → x ≡ y → xs ≡ ys → x ∷ xs ≡ y ∷ ys
+cons_same here later = cc
+
+pub append_same : {X : Type 0} {xs ys us vs : List X} → xs ≡ ys → us ≡ vs → xs ++ us ≡ ys ++ vs
+append_same front back = cc
+
 -- the empty list has no parts
 pub nil_isnt_cons : {X : Type 0} {x : X} {xs : List X} → [] ≡ x ∷ xs → ⊥
 nil_isnt_cons e = cc
@@ -27,7 +34,7 @@ all_front {X = X} P xs rest ys is all =
 -- functions that agree
 pub map_same : {X Y : Type 0} (f g : X → Y) (xs : List X) → ((x : X) → f x ≡ g x) → map f xs ≡ map g xs
 map_same f g [] same = refl
-map_same f g (x ∷ xs) same = ap (λ y. y ∷ map f xs) (same x) ∙ ap (λ ys. g x ∷ ys) (map_same f g xs same)
+map_same f g (x ∷ xs) same = cons_same (same x) (map_same f g xs same)
 
 -- lists of other lengths are others
 pub other_length : {X : Type 0} {xs ys : List X} → nat_eq (length xs) (length ys) ≡ false → xs ≡ ys → ⊥

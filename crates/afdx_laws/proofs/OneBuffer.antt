@@ -1,64 +1,35 @@
 -- Fragments in order need one buffer for each sub-VL.
-use Rattle.std.proofs.Common.{◌≡◌, ℕ, zero, suc, ◌+◌, ◌-◌, ◌≤◌, inl, inr, Bool, true, false, nat_eq, cond, List, [], ◌∷◌, length, map, drop, refl, ap, sym, ◌∙◌, subst, arith}
+use Rattle.std.proofs.Common.{◌≡◌, ℕ, suc, ◌-◌, ◌≤◌, Bool, true, false, nat_eq, cond, List, [], ◌∷◌, length, drop, get_or, refl, ap, ◌∙◌, arith}
 use Rattle.std.specs.Prelude.{All, Option, Some, None, slice_index, ◌*◌}
-use Rattle.std.specs.List.{AllByRecursion}
-use Rattle.std.proofs.lemmas.Bool.{cases_lt, le-ltb, and_right}
+use Rattle.std.proofs.lemmas.Bool.{le-ltb, and_right}
 use Rattle.std.proofs.lemmas.List.{length-take, length-drop}
-use Rattle.std.proofs.lemmas.List.Elements.{All-cons, All-nil, All-append}
+use Rattle.std.proofs.lemmas.List.Elements.{All-nil, All-append, All-map}
 use Rattle.afdx_plan.specs.Numbers.{identification}
-use Rattle.afdx_plan.specs.Room.{step_of}
 use Rattle.afdx_frame.specs.declared.piece.Piece.{Piece}
-use Rattle.afdx_frame.specs.Cutting.{cut_by, cutting, pieces_from}
+use Rattle.afdx_frame.specs.Cutting.{cutting, pieces_from}
 use Rattle.afdx_frame.specs.Reassembly.{Fragment, Buffer, put, end_of, covers, datagram_in, fragment_of, fragments_of, empty}
-use Rattle.afdx_frame.proofs.CuttingLemmas.{step_le, cut_last, cut_more}
 use Rattle.afdx_laws.specs.Delivery.{with_buffer, kept_in, keyed, sent_from, of_sub}
 use Rattle.afdx_laws.specs.Buffers.{buffers_after, HasUpTo, OneBuffer}
 use Rattle.afdx_laws.proofs.ListLemmas.{all_front}
+use Rattle.afdx_laws.proofs.Reading.{cutting_lies}
 use Rattle.afdx_laws.proofs.InOrder.{apart, reassembles}
-
--- a piece lies before an end
-abbrev LiesBefore : ℕ → Piece → Type 0
-LiesBefore end piece = piece.start + piece.len ≤ end
-
--- so do all pieces
-pieces_lie : (turns room n start end : ℕ) → start + n ≤ end
-    → AllByRecursion (LiesBefore end) (pieces_from start (cut_by turns room n))
-pieces_lie zero room n start end inside = tt
-pieces_lie (suc turns) room n start end inside = elim (cases_lt room n) [
-  | inl over ↦
-      let step = step_le room in
-      let first : start + step_of room ≤ end = omega arith in
-      let rest : start + step_of room + (n - step_of room) ≤ end = omega arith in
-      subst (λ (lens : List ℕ). AllByRecursion (LiesBefore end) (pieces_from start lens)) (sym (cut_more turns room n over))
-      (first, pieces_lie turns room (n - step_of room) (start + step_of room) end rest)
-  | inr fits ↦ subst (λ (lens : List ℕ). AllByRecursion (LiesBefore end) (pieces_from start lens))
-      (sym (cut_last turns room n fits)) (inside, tt)
-]
-
--- and those of a cutting
-cutting_lies : (room n : ℕ) → AllByRecursion (LiesBefore n) (pieces_from 0 (cutting room n))
-unfolding cutting
-cutting_lies room n = pieces_lie n room n 0 n (omega arith)
 
 -- a fragment ends by byte `most`
 abbrev pub EndsBefore : ℕ → ℕ × Fragment → Type 0
 EndsBefore most e = end_of e.1 ≤ most
 
--- so does one of a datagram of no more
-fragment_ends : (most : ℕ) (d : List ℕ) (piece : Piece) → length d ≤ most → LiesBefore (length d) piece
-    → end_of (fragment_of d piece) ≤ most
-fragment_ends most d piece fits lies =
+-- so do all of a datagram of no more
+keyed_end : (room most key : ℕ) (d : List ℕ) → length d ≤ most → All (EndsBefore most) (keyed key (fragments_of room d))
+keyed_end room most key d fits =
+    let pieces : List Piece = pieces_from 0 (cutting room (length d)) in
+    All-map (EndsBefore most) (λ (f : Fragment). (key, f)) (fragments_of room d)
+    (All-map (λ (f : Fragment). end_of f ≤ most) (fragment_of d) pieces
+    (λ i x h.
+    let piece : Piece = get_or pieces i x in
     let size = length-take piece.len (drop piece.start d) in
     let rest = length-drop piece.start d in
-    omega arith
-
--- so do all of them
-keyed_end : (ps : List Piece) (most key : ℕ) (d : List ℕ) → length d ≤ most → AllByRecursion (LiesBefore (length d)) ps
-    → All (EndsBefore most) (keyed key (map (fragment_of d) ps))
-keyed_end [] most key d fits lie = All-nil (EndsBefore most)
-keyed_end (p ∷ ps) most key d fits lie =
-    All-cons (EndsBefore most) (key, fragment_of d p) (keyed key (map (fragment_of d) ps))
-    (fragment_ends most d p fits lie.0) (keyed_end ps most key d fits lie.1)
+    let lies = (cutting_lies room (length d) i x h).1 in
+    omega arith))
 
 -- and those of datagrams of no more
 pub sent_end : (datagrams : List (List ℕ)) (room sub place most : ℕ) → All (HasUpTo most) datagrams
@@ -67,8 +38,7 @@ sent_end [] room sub place most fit = All-nil (EndsBefore most)
 sent_end (d ∷ later) room sub place most fit =
     All-append (EndsBefore most) (keyed (identification place sub) (fragments_of room d))
     (sent_from room sub (suc place) later)
-    (keyed_end (pieces_from 0 (cutting room (length d))) most (identification place sub) d (fit 0 d (omega arith))
-    (cutting_lies room (length d)))
+    (keyed_end room most (identification place sub) d (fit 0 d (omega arith)))
     (sent_end later room sub (suc place) most (λ k x h. fit (suc k) x (omega arith)))
 
 -- a buffer has no byte after the first `most`

@@ -1,14 +1,17 @@
 -- What is read of a frame is what went in.
-use Rattle.std.proofs.Common.{◌≡◌, ℕ, suc, ◌+◌, ◌-◌, ◌%◌, ◌≤◌, ◌<◌, List, [], ◌∷◌, ◌++◌, length, map, take, drop, set, get_or, refl, ap, sym, ◌∙◌, subst, arith}
+use Rattle.std.proofs.Common.{◌≡◌, ℕ, zero, suc, inl, inr, ◌+◌, ◌-◌, ◌%◌, ◌≤◌, List, [], ◌∷◌, ◌++◌, length, map, take, drop, set, get_or, refl, ap, sym, ◌∙◌, subst, arith}
 use Rattle.std.specs.Prelude.{All}
 use Rattle.std.specs.List.{AllByRecursion}
+use Rattle.std.proofs.lemmas.Bool.{cases_lt}
+use Rattle.std.proofs.lemmas.List.Elements.{All-from_recursion}
 use Rattle.std.proofs.lemmas.List.{drop-set-lt, map-append, length-append, drop_at, take_more, take_all}
 use Rattle.afdx_plan.specs.Plan.{IsPort}
 use Rattle.afdx_plan.specs.Numbers.{identification}
 use Rattle.afdx_frame.specs.declared.net.Net.{Net}
-use Rattle.afdx_frame.specs.declared.net.Net.TheVariants.{A}
 use Rattle.afdx_frame.specs.declared.piece.Piece.{Piece}
-use Rattle.afdx_frame.specs.Cutting.{cutting, pieces_from}
+use Rattle.afdx_plan.specs.Room.{step_of}
+use Rattle.afdx_frame.specs.Cutting.{cut_by, cutting, pieces_from}
+use Rattle.afdx_frame.proofs.CuttingLemmas.{step_le, cut_last, cut_more}
 use Rattle.afdx_frame.specs.Frame.{interface_byte, datagram, udp_header, unnumbered, frame_of}
 use Rattle.afdx_frame.specs.Twin.{twin_of}
 use Rattle.afdx_frame.specs.Profile.{total_length}
@@ -24,7 +27,7 @@ use Rattle.afdx_legal.specs.Streams.{those_with}
 use Rattle.afdx_legal.proofs.StreamLemmas.{with_map}
 use Rattle.afdx_laws.specs.Delivery.{of_sub, keyed, sent_from}
 use Rattle.afdx_laws.specs.Networks.{IsLong}
-use Rattle.afdx_laws.proofs.ListLemmas.{cons_parts, nil_isnt_cons}
+use Rattle.afdx_laws.proofs.ListLemmas.{cons_parts, cons_same, append_same, nil_isnt_cons}
 use Rattle.afdx_laws.specs.Messages.{fragment_in, IsSent}
 
 -- the interface identifier isn't read
@@ -38,25 +41,19 @@ same_fragment net frame =
     cc
 
 -- the frame of a piece says its fragment
-read_piece : (end_system : ℕ) (sent : Sent) (place : ℕ) (piece : Piece) (number : ℕ) → end_system < 65536
-    → IsPort sent.port → length sent.bytes ≤ 8192 → IsPiece (length sent.bytes) piece
-    → fragment_in (unnumbered end_system sent.port sent.bytes place piece A
-    ++ number ∷ []) ≡ (
-      identification place sent.port.sub,
-      fragment_of
-          (datagram end_system sent.port sent.bytes) piece,
-    )
-read_piece end_system sent place piece number small port most is =
-    let s = says end_system sent.port sent.bytes place piece A number port most is in
-    let len = is.len in
-    let frame : List ℕ = frame_of end_system sent.port sent.bytes place piece A number in
-    let total : total_length frame ≡ 20 + piece.len =
-    total_ok end_system sent.port sent.bytes place piece A number len.1 in
+read_piece : (end_system : ℕ) (sent : Sent) (net : Net) (place : ℕ) (piece : Piece) (number : ℕ) → IsPort sent.port
+    → length sent.bytes ≤ 8192 → IsPiece (length sent.bytes) piece
+    → fragment_in (unnumbered end_system sent.port sent.bytes place piece net ++ number ∷ [])
+    ≡ (identification place sent.port.sub, fragment_of (datagram end_system sent.port sent.bytes) piece)
+read_piece end_system sent net place piece number port most is =
+    let s = says end_system sent.port sent.bytes place piece net number port most is in
+    let frame : List ℕ = frame_of end_system sent.port sent.bytes place piece net number in
+    let total = total_ok end_system sent.port sent.bytes place piece net number (is.len).1 in
     let bytes_len : total_length frame - 20 ≡ piece.len = omega arith in
     let bytes_are : take (total_length frame - 20) (drop 34 frame) ≡ take piece.len
     (drop piece.start (datagram end_system sent.port sent.bytes)) =
     ap (λ (n : ℕ). take n (drop 34 frame)) bytes_len
-    ∙ payload_says end_system sent.port sent.bytes place piece A number port is.within in
+    ∙ payload_says end_system sent.port sent.bytes place piece net number port is.within in
     cc (s.ident_says, s.offset_says, s.more_says)
 
 -- what an unnumbered frame says, whatever its number is
@@ -73,23 +70,16 @@ pub record AreRead (us : List (List ℕ)) (fs : List (ℕ × Fragment)) : Type 0
   pub are : map read_any us ≡ fs
 
 -- the frames of pieces are read as their fragments
-reads_pieces : (ps : List Piece) (end_system : ℕ) (sent : Sent) (place : ℕ) → end_system < 65536 → IsPort sent.port
+reads_pieces : (ps : List Piece) (end_system : ℕ) (sent : Sent) (net : Net) (place : ℕ) → IsPort sent.port
     → length sent.bytes ≤ 8192 → AllByRecursion (IsPiece (length sent.bytes)) ps
-    → AreRead (map (λ piece. unnumbered end_system sent.port sent.bytes place piece A) ps)
+    → AreRead (map (λ piece. unnumbered end_system sent.port sent.bytes place piece net) ps)
     (keyed (identification place sent.port.sub)
     (map (fragment_of (datagram end_system sent.port sent.bytes)) ps))
-reads_pieces [] end_system sent place small port most are = record { each = tt; are = refl }
-reads_pieces (p ∷ ps) end_system sent place small port most are =
-    let rest = reads_pieces ps end_system sent place small port most are.1 in
-    let one = λ (n : ℕ). read_piece end_system sent place p n small port most are.0 in
-    record {
-      each = (λ number. one number ∙ sym (one 0), rest.each);
-      are = ap (λ (x : ℕ × Fragment). x ∷ map read_any
-          (map (λ piece. unnumbered end_system sent.port sent.bytes place piece A) ps)) (one 0)
-          ∙ ap (λ (xs : List (ℕ × Fragment)).
-          (identification place sent.port.sub, fragment_of (datagram end_system sent.port sent.bytes) p) ∷ xs)
-          rest.are;
-    }
+reads_pieces [] end_system sent net place port most are = record { each = tt; are = refl }
+reads_pieces (p ∷ ps) end_system sent net place port most are =
+    let rest = reads_pieces ps end_system sent net place port most are.1 in
+    let one = λ (n : ℕ). read_piece end_system sent net place p n port most are.0 in
+    record { each = (λ number. one number ∙ sym (one 0), rest.each); are = cons_same (one 0) rest.are }
 
 -- a datagram has its header and the message
 pub length-datagram : (end_system : ℕ) (sent : Sent) → length
@@ -116,19 +106,36 @@ from_start room size least greatest =
     subst (λ (n : ℕ). AllByRecursion (IsPiece size) (pieces_from 0 (cutting room n))) whole
     (pieces_are (8 + size) room size 0 (omega arith) least greatest (omega arith) (omega arith))
 
+-- a piece of n bytes fits into the room and lies before the end
+abbrev pub IsCut : (room end : ℕ) → Piece → Type 0
+IsCut room end piece = (piece.len ≤ room) × (piece.start + piece.len ≤ end)
+
+cut_by_lies : (turns room n start end : ℕ) → start + n ≤ end
+    → AllByRecursion (IsCut room end) (pieces_from start (cut_by turns room n))
+cut_by_lies zero room n start end inside = tt
+cut_by_lies (suc turns) room n start end inside = elim (cases_lt room n) [
+  | inl over ↦
+      let step = step_le room in
+      let rest = cut_by_lies turns room (n - step_of room) (start + step_of room) end (omega arith) in
+      rw (cut_more turns room n over) ((step, omega arith), rest)
+  | inr fits ↦ rw (cut_last turns room n fits) ((fits, inside), tt)
+]
+
+-- so does each piece of a cutting
+pub cutting_lies : (room n : ℕ) → All (IsCut room n) (pieces_from 0 (cutting room n))
+unfolding cutting
+cutting_lies room n =
+    All-from_recursion (IsCut room n) (pieces_from 0 (cutting room n)) (cut_by_lies n room n 0 n (omega arith))
+
 -- the frames of a message are read as its fragments
-reads_message : (end_system room : ℕ) (sent : Sent) (place : ℕ) → end_system < 65536 → 25 ≤ room → room ≤ 1479
+reads_message : (end_system room : ℕ) (sent : Sent) (net : Net) (place : ℕ) → 25 ≤ room → room ≤ 1479
     → IsPort sent.port → length sent.bytes ≤ 8192
-    → AreRead (fragments_at end_system room A place sent)
+    → AreRead (fragments_at end_system room net place sent)
     (keyed (identification place sent.port.sub) (fragments_of room (datagram end_system sent.port sent.bytes)))
 unfolding fragments_at
-reads_message end_system room sent place small least greatest port most =
-    subst (λ (n : ℕ). AreRead (map (λ piece. unnumbered end_system sent.port sent.bytes place piece A)
-    (pieces_from 0 (cutting room (8 + length sent.bytes))))
-    (keyed (identification place sent.port.sub)
-    (map (fragment_of (datagram end_system sent.port sent.bytes)) (pieces_from 0 (cutting room n)))))
-    (sym (length-datagram end_system sent))
-    (reads_pieces (pieces_from 0 (cutting room (8 + length sent.bytes))) end_system sent place small port most
+reads_message end_system room sent net place least greatest port most =
+    rw (length-datagram end_system sent)
+    (reads_pieces (pieces_from 0 (cutting room (8 + length sent.bytes))) end_system sent net place port most
     (from_start room (length sent.bytes) least greatest))
 
 -- what holds of two lists
@@ -138,28 +145,23 @@ all_append P [] ys a b = b
 all_append P (x ∷ xs) ys a b = (a.0, all_append P xs ys a.1 b)
 
 -- the frames of all messages are read as their fragments
-pub reads_all : (accepted : List Sent) (end_system room sub place : ℕ) → end_system < 65536 → 25 ≤ room
-    → room ≤ 1479 → All (IsSent sub) accepted
-    → AreRead (fragments_from end_system room A place accepted)
+pub reads_all : (accepted : List Sent) (end_system room sub place : ℕ) (net : Net) → 25 ≤ room → room ≤ 1479
+    → All (IsSent sub) accepted
+    → AreRead (fragments_from end_system room net place accepted)
     (sent_from room sub place (map (λ (sent : Sent). datagram end_system sent.port sent.bytes) accepted))
-reads_all [] end_system room sub place small least greatest are = record { each = tt; are = refl }
-reads_all (sent ∷ later) end_system room sub place small least greatest are =
+reads_all [] end_system room sub place net least greatest are = record { each = tt; are = refl }
+reads_all (sent ∷ later) end_system room sub place net least greatest are =
     let one = are 0 sent (omega arith) in
-    let first = reads_message end_system room sent place small least greatest one.port one.most in
-    let rest = reads_all later end_system room sub (suc place) small least greatest
+    let front : List (List ℕ) = fragments_at end_system room net place sent in
+    let back : List (List ℕ) = fragments_from end_system room net (suc place) later in
+    let first = reads_message end_system room sent net place least greatest one.port one.most in
+    let rest = reads_all later end_system room sub (suc place) net least greatest
     (λ k d h. are (suc k) d (omega arith)) in
     record {
-      each = all_append IsRead (fragments_at end_system room A place sent)
-          (fragments_from end_system room A (suc place) later) first.each rest.each;
-      are = map-append read_any (fragments_at end_system room A place sent)
-          (fragments_from end_system room A (suc place) later)
-          ∙ ap (λ (xs : List (ℕ × Fragment)). xs
-          ++ map read_any (fragments_from end_system room A (suc place) later)) first.are
-          ∙ ap (λ (n : ℕ). keyed (identification place n)
-          (fragments_of room (datagram end_system sent.port sent.bytes))
-          ++ map read_any (fragments_from end_system room A (suc place) later)) one.its
-          ∙ ap (λ (xs : List (ℕ × Fragment)). keyed (identification place sub)
-          (fragments_of room (datagram end_system sent.port sent.bytes)) ++ xs) rest.are;
+      each = all_append IsRead front back first.each rest.each;
+      are = map-append read_any front back ∙ append_same (subst (λ (n : ℕ). map read_any front
+          ≡ keyed (identification place n) (fragments_of room (datagram end_system sent.port sent.bytes)))
+          one.its first.are) rest.are;
     }
 
 -- a frame is its blanked bytes and its number
@@ -181,9 +183,7 @@ reads_frames (f ∷ frames) (u ∷ us) rest each long is =
     with_last f (let l = long 0 f (omega arith) in omega arith)
     ∙ ap (λ (x : List ℕ). x ++ get_or f (length f - 1) 0 ∷ []) (sym heads.0) in
     let mine : fragment_in f ≡ read_any u = ap fragment_in frame_is ∙ each.0 (get_or f (length f - 1) 0) in
-    ap (λ (x : ℕ × Fragment). x ∷ map read_any us) (sym mine)
-    ∙ ap (λ (xs : List (ℕ × Fragment)). fragment_in f ∷ xs)
-    (reads_frames frames us rest each.1 (λ k d h. long (suc k) d (omega arith)) heads.1)
+    cons_same (sym mine) (reads_frames frames us rest each.1 (λ k d h. long (suc k) d (omega arith)) heads.1)
 
 -- a sub's fragments are those of its frames
 pub of_sub_is : (sub : ℕ) (frames : List (List ℕ))

@@ -1,8 +1,7 @@
 -- All that was accepted was handed over, and came.
-use Rattle.std.proofs.Common.{◌≡◌, ℕ, ◌≤◌, Bool, true, false, nat_lt, if◌then◌else◌, List, length, map, take, refl, ap, sym, ◌∙◌, arith}
+use Rattle.std.proofs.Common.{◌≡◌, ℕ, ◌≤◌, Bool, true, false, nat_lt, if◌then◌else◌, List, length, map, refl, ap, ◌∙◌, arith}
 use Rattle.std.proofs.lemmas.List.{take_all, length-map}
-use Rattle.afdx_plan.specs.Config.{Plan, link_plan_at, port_plan_at}
-use Rattle.afdx_plan.specs.Places.{link_place}
+use Rattle.afdx_plan.specs.Config.{Plan, link_plan_at}
 use Rattle.afdx_frame.specs.declared.net.Net.{Net}
 use Rattle.afdx_frame.specs.declared.net.Net.TheVariants.{A}
 use Rattle.afdx_frame.specs.Fragments.{Sent, blanked, fragments}
@@ -12,14 +11,12 @@ use Rattle.afdx_frame.proofs.Twins.{twin_sub}
 use Rattle.redundant_mux.specs.Entry.{Entry}
 use Rattle.afdx_legal.specs.Streams.{those_with, link_stream}
 use Rattle.afdx_legal.specs.Legal.{Accepted}
-use Rattle.afdx_legal.specs.Allowed.{messages_of}
 use Rattle.afdx_legal.specs.Own.{longer as longer_stream, own_stream}
 use Rattle.afdx_legal.specs.Done.{IsReleased}
 use Rattle.afdx_legal.proofs.StreamLemmas.{with_map}
 use Rattle.afdx_laws.specs.Networks.{most_carried}
 use Rattle.afdx_laws.specs.Handed.{longer}
-use Rattle.afdx_laws.specs.Plans.{id_at, piece_room, frames_of}
-use Rattle.afdx_laws.specs.WholeLists.{OwnListsArrive}
+use Rattle.afdx_laws.specs.Plans.{id_at, piece_room, frames_of, longer_of, OwnListsArrive}
 use Rattle.afdx_laws.proofs.LegalLinks.{told_is, frames_side, legal_arrive_holds}
 
 -- how many frames of a list are of a sub-VL
@@ -35,10 +32,8 @@ many_twins net sub frames =
 -- the frames of the longer of two streams are the longer list of their frames
 longer_frames : (xs ys : List Entry) → map (λ (e : Entry). e.frame) (longer_stream xs ys)
     ≡ longer (map (λ (e : Entry). e.frame) xs) (map (λ (e : Entry). e.frame) ys)
-longer_frames xs ys =
-    at (nat_lt (length xs) (length ys))
-    ∙ ap (λ (n : ℕ). if nat_lt n (length ys) then frames ys else frames xs) (sym (length-map xs (λ (e : Entry). e.frame)))
-    ∙ ap (λ (n : ℕ). if nat_lt (length (frames xs)) n then frames ys else frames xs) (sym (length-map ys (λ (e : Entry). e.frame)))
+longer_frames xs ys = rw (length-map xs (λ (e : Entry). e.frame), length-map ys (λ (e : Entry). e.frame))
+    (at (nat_lt (length xs) (length ys)))
   where
     frames : List Entry → List (List ℕ)
     frames es = map (λ (e : Entry). e.frame) es
@@ -72,26 +67,24 @@ all_handed plan accepted log a b k sub own released =
 -- the law
 pub own_lists_arrive_holds : OwnListsArrive
 own_lists_arrive_holds plan own a b valid handed k sub inside index lag tolerance arrivals fit carry whole =
-    let accepted = handed.accepted in
-    let vl = id_at plan k in
-    let frames = longer (frames_of vl a) (frames_of vl b) in
-    let sent = accepted k sub in
-    let first = legal_arrive_holds plan accepted a b valid handed.legal k sub inside index (handed.allowed k sub inside index)
-    lag tolerance arrivals fit carry in
-    let came : take (most_carried arrivals) (longer (frames_of (id_at plan k) a) (frames_of (id_at plan k) b))
-    ≡ longer (frames_of (id_at plan k) a) (frames_of (id_at plan k) b) =
-    take_all (most_carried arrivals) frames whole in
-    let all = all_handed plan accepted handed.log a b k sub (handed.streams k inside) (handed.done k inside sub index) in
-    let all_sent : take (length (handed.accepted k sub)) (handed.accepted k sub) ≡ handed.accepted k sub = take_all (length sent) sent (omega arith) in
-    let many : length (handed.accepted k sub) ≤ first.many = first.all (length sent) (omega arith)
-    (let here = ap (many_of sub) came in
-    let there = ap (λ (xs : List Sent). length (fragments plan.end_system (piece_room plan k) A xs)) all_sent in omega arith) in
+    let sent : List Sent = handed.accepted k sub in
+    let first = legal_arrive_holds plan handed.accepted a b k sub lag tolerance arrivals
+    (record {
+      valid = valid;
+      legal = handed.legal;
+      inside = inside;
+      index = index;
+      allowed = handed.allowed k sub inside index;
+    }) fit carry in
+    let all = all_handed plan handed.accepted handed.log a b k sub (handed.streams k inside)
+    (handed.done k inside sub index) in
+    let came = ap (many_of sub) (take_all (most_carried arrivals) (longer_of (id_at plan k) a b) whole) in
+    let taken = ap (λ (xs : List Sent). length (fragments plan.end_system (piece_room plan k) A xs))
+    (take_all (length sent) sent (omega arith)) in
+    let many : length (handed.accepted k sub) ≤ first.many = first.all (length sent) (omega arith) (omega arith) in
     record {
       sent = sent;
-      are = first.are ∙ take_all first.many (map (λ (s : Sent). s.bytes) sent) (omega (arith, length-map sent (λ (s : Sent). s.bytes)));
-      ports = λ place on.
-          ap (λ (n : ℕ). messages_of (port_plan_at plan.ports place) (accepted n sub)) (sym on.link)
-          ∙ ap (λ (n : ℕ). messages_of (port_plan_at plan.ports place)
-          (accepted (link_place plan (port_plan_at plan.ports place)) n)) (sym on.its)
-          ∙ handed.are_own place on.within;
+      are = first.are ∙ take_all first.many (map (λ (s : Sent). s.bytes) sent)
+          (omega (arith, length-map sent (λ (s : Sent). s.bytes)));
+      ports = λ place on. rw (← on.link, ← on.its) (handed.are_own place on.within);
     }

@@ -1,10 +1,17 @@
--- The worked handing over of a plan, to its end and on one network, by computation.
+-- The worked handing over of a plan, by computation: of one message, also to its end and on one network, and of two.
 use Rattle.std.proofs.Common.{◌≡◌, ℕ, true, [], ◌∷◌, refl, sym, ◌∙◌, arith, ◌≤◌, Bool, false, nat_eq, List, length, map, ap, ◌<◌}
 use Rattle.std.proofs.lemmas.Bool.{false≢true}
 use Rattle.std.proofs.lemmas.List.Elements.{All-from_recursion, All-contains}
+use Rattle.std.specs.Prelude.{if◌then◌else◌, All, Contains}
+use Rattle.std.specs.List.{AllZip}
+use Rattle.afdx_plan.specs.Config.{port_plan_at, IsPlan, HasLink}
 use Rattle.afdx_plan.specs.Demo.{demo_plan, demo_port, demo_link}
+use Rattle.afdx_plan.specs.Plan.{IsLink}
+use Rattle.afdx_plan.specs.declared.identifiers.Kind.TheVariants.{Sampling, Queuing}
 use Rattle.afdx_plan.specs.declared.networks.Networks.{Networks}
 use Rattle.afdx_plan.specs.declared.networks.Networks.TheVariants.{Both, OnlyA}
+use Rattle.afdx_plan.specs.declared.port_plan.PortPlan.{PortPlan}
+use Rattle.afdx_plan.proofs.DemoPlan.{demo_valid}
 use Rattle.afdx_frame.specs.declared.net.Net.{Net}
 use Rattle.afdx_frame.specs.declared.net.Net.TheVariants.{A, B}
 use Rattle.afdx_frame.specs.Checksum.{checksum}
@@ -12,35 +19,33 @@ use Rattle.afdx_frame.specs.Cutting.{cutting}
 use Rattle.afdx_frame.specs.Fragments.{fragments_at, Sent}
 use Rattle.afdx_frame.specs.Frame.{addresses, header_front, internet_header, link_header, udp_header, datagram, unnumbered}
 use Rattle.redundant_mux.specs.Logged.{names}
-use Rattle.afdx_legal.specs.Legal.{IsKnown, IsLegalOn}
+use Rattle.afdx_legal.specs.Streams.{link_stream}
+use Rattle.afdx_legal.specs.Legal.{Accepted, IsKnown, IsLegalOn, IsLegal}
 use Rattle.afdx_legal.specs.Allowed.{IsAllowed, messages_of}
 use Rattle.afdx_legal.specs.WorkedMessage.{one_byte_accepted, one_frame, one_byte}
-use Rattle.afdx_laws.specs.WorkedPlan.{OneIsLegal, one_entry, two_arrivals, demo_on, ComesFromOne, AreTwinsOfOne, OneIsWhole, OwnComes, NeedsAll, one_own, other_own}
-use Rattle.afdx_plan.proofs.DemoPlan.{demo_valid}
-use Rattle.afdx_laws.proofs.WorkedMessage.{few_are_near, first_byte, not_front}
-use Rattle.afdx_laws.proofs.ListLemmas.{below_one, below_both, nil_isnt_cons}
-use Rattle.std.specs.Prelude.{if◌then◌else◌, All, Contains}
-use Rattle.afdx_plan.specs.Config.{port_plan_at, IsPlan, HasLink}
-use Rattle.afdx_laws.specs.Networks.{most_carried}
-use Rattle.afdx_laws.specs.Handed.{longer}
-use Rattle.afdx_laws.specs.Plans.{frames_of}
-use Rattle.afdx_laws.specs.WholeLists.{IsOn}
-use Rattle.afdx_laws.specs.WorkedDelivery.{plain_receiver}
-use Rattle.afdx_laws.proofs.WholeHanded.{own_lists_arrive_holds}
-use Rattle.afdx_plan.specs.Plan.{IsLink}
-use Rattle.afdx_plan.specs.declared.identifiers.Kind.TheVariants.{Sampling, Queuing}
-use Rattle.afdx_plan.specs.declared.port_plan.PortPlan.{PortPlan}
-use Rattle.afdx_laws.specs.AllOnBoth.{IsOnBoth}
+use Rattle.afdx_laws.specs.Policer.{by_frames, IsOnItsWay}
+use Rattle.afdx_laws.specs.Loss.{AreClose}
+use Rattle.afdx_laws.specs.Handed.{AreCarriedOf}
+use Rattle.afdx_laws.specs.Plans.{frames_of, IsOn, IsOnBoth, IsHandedOver}
+use Rattle.afdx_laws.specs.WorkedDelivery.{plain_receiver, closed_receiver}
+use Rattle.afdx_laws.specs.WorkedLoss.{first_lost}
+use Rattle.afdx_laws.specs.WorkedPlan.{one_entry, two_arrivals, OneIsLegal, only_lost, LegalDespiteOneLoss, one_own, other_own, OwnComes, OneIsWhole, NeedsAll, demo_on, ComesFromOne, AreTwinsOfOne, two_accepted, swapped_accepted, second_frame, pair_at, two_entries, longer_pair, PairHanded, AreSwapped, both_arrive, second_arrives, PairArrives, NeedsLegal, both_from_b, PairDespite, NeedsClose, pair_passes, PassesAGapApart}
 use Rattle.afdx_laws.proofs.AllOnBoth.{all_on_both_holds}
+use Rattle.afdx_laws.proofs.LegalLinks.{legal_arrive_holds, legal_despite_loss_holds}
+use Rattle.afdx_laws.proofs.LegalSpacing.{legal_passes_holds}
+use Rattle.afdx_laws.proofs.ListLemmas.{below_one, below_both, nil_isnt_cons, other_length}
+use Rattle.afdx_laws.proofs.Rows.{fails_by, needs_each}
+use Rattle.afdx_laws.proofs.WholeHanded.{own_lists_arrive_holds}
+use Rattle.afdx_laws.proofs.WorkedMessage.{few_are_near, first_byte, not_front, not_first, too_few, close_by_test}
 
 -- the frame is known
-pub one_known : (carriers : Networks) (net : Net) → IsKnown (demo_on carriers).links net (one_frame net)
+one_known : (carriers : Networks) (net : Net) → IsKnown (demo_on carriers).links net (one_frame net)
 unfolding checksum addresses header_front internet_header link_header udp_header datagram unnumbered
 one_known carriers net =
     record { size = omega arith; k = 0; within = omega arith; link = refl; of_sub = omega arith; interface = refl }
 
 -- it is handed over legally to a network that carries its link
-pub legal_on : (carriers : Networks) (net : Net) → names net carriers ≡ true
+legal_on : (carriers : Networks) (net : Net) → names net carriers ≡ true
     → IsLegalOn (demo_on carriers) one_byte_accepted net (one_entry net)
 unfolding checksum addresses header_front internet_header link_header udp_header datagram unnumbered cutting fragments_at
 legal_on carriers net named = record {
@@ -52,43 +57,62 @@ legal_on carriers net named = record {
 }
 
 -- a message of a byte may be sent
-pub byte_allowed : (carriers : Networks) (byte : ℕ)
+byte_allowed : (carriers : Networks) (byte : ℕ)
     → IsAllowed (demo_on carriers) 0 0 (record { port = demo_port; bytes = byte ∷ [] })
 byte_allowed carriers byte =
     record { port = (0, omega arith, refl); over = refl; its = refl; some = omega arith; most = omega arith }
 
--- the row
-pub one_is_legal : OneIsLegal
+-- the message is handed over to both networks
+one_handed : IsHandedOver demo_plan one_byte_accepted (one_entry A) (one_entry B) 0 0
 unfolding checksum addresses header_front internet_header link_header udp_header datagram unnumbered
-one_is_legal = record {
+one_handed = record {
   valid = demo_valid;
   legal = record {
     on_a = legal_on Both A refl;
     on_b = legal_on Both B refl;
     twins = record { b_shorter = λ h. refl; a_shorter = λ h. refl };
   };
+  inside = omega arith;
+  index = omega arith;
   allowed = All-from_recursion (IsAllowed demo_plan 0 0) (one_byte_accepted 0 0) (byte_allowed Both 1, tt);
-  carry = record { on_a = ([], refl); on_b = ([], refl); near = few_are_near 1 two_arrivals (omega arith) };
-  message = refl;
-  passage = (record { released = refl; size = refl; after = omega arith; soon = omega arith }, tt);
-  passes = refl;
 }
 
 -- the row
+pub one_is_legal : OneIsLegal
+unfolding checksum addresses header_front internet_header link_header udp_header datagram unnumbered
+one_is_legal = record {
+  handed = one_handed;
+  carry = record { on_a = ([], refl); on_b = ([], refl); near = few_are_near 1 two_arrivals (omega arith) };
+  message = refl;
+  way = (record { released = refl; size = refl; after = omega arith; soon = omega arith }, tt);
+  passes = refl;
+}
+
+-- the row despite a loss
+pub legal_despite_one_loss : LegalDespiteOneLoss
+unfolding checksum addresses header_front internet_header link_header udp_header datagram unnumbered
+legal_despite_one_loss = record {
+  handed = one_handed;
+  close = close_by_test only_lost B 1 refl refl;
+  message = refl;
+  first = record { many = 1; are = refl; all = λ j few enough. few };
+}
+
+-- the row to its end
 pub one_is_whole : OneIsWhole
 unfolding checksum addresses header_front internet_header link_header udp_header datagram unnumbered cutting fragments_at
 one_is_whole = record {
-  valid = one_is_legal.valid;
+  valid = demo_valid;
   handed = record {
     accepted = one_byte_accepted;
-    legal = one_is_legal.legal;
-    allowed = below_both _ _ refl one_is_legal.allowed;
+    legal = one_handed.legal;
+    allowed = below_both _ _ refl one_handed.allowed;
     are_own = below_one _ refl;
     log = one_entry A;
     streams = below_one _ refl;
     done = below_one _ (below_one _ refl);
   };
-  fit = record { checks = omega arith; opens = omega arith; apart = omega arith };
+  fit = omega arith;
   carry = one_is_legal.carry;
   all = omega arith;
   whole = record {
@@ -127,29 +151,19 @@ none_lost lists = lost lists.sent lists.are (lists.ports 0 one_on)
     lost [] is own = nil_isnt_cons own
     lost (s ∷ later) is own = nil_isnt_cons is
 
--- one frame was handed over, and nothing came
-nothing_carried : length (longer (frames_of 1 (one_entry A)) (frames_of 1 (one_entry B))) ≤ most_carried [] → ⊥
-unfolding checksum addresses header_front internet_header link_header udp_header datagram unnumbered
-nothing_carried few = let none : 1 ≤ 0 = few in omega arith
-
 -- the row of lists that don't come
 pub needs_all : NeedsAll
+unfolding checksum addresses header_front internet_header link_header udp_header datagram unnumbered
 needs_all = record {
-  valid = one_is_whole.valid;
-  handed = one_is_whole.handed;
-  fit = one_is_whole.fit;
-  carry = one_is_whole.carry;
-  all = one_is_whole.all;
-  other = λ handed. other_lost (own_lists_arrive_holds demo_plan other_own (one_entry A) (one_entry B) one_is_whole.valid handed
-      0 0 (omega arith) (omega arith) 1 plain_receiver two_arrivals one_is_whole.fit one_is_whole.carry one_is_whole.all);
-  other_comes = other_lost;
+  other = fails_by (λ handed. own_lists_arrive_holds demo_plan other_own (one_entry A) (one_entry B) demo_valid handed
+      0 0 (omega arith) (omega arith) 1 plain_receiver two_arrivals one_is_whole.fit one_is_whole.carry one_is_whole.all)
+      other_lost;
   lost_carry = record {
     on_a = (frames_of 1 (one_entry A), refl);
     on_b = (frames_of 1 (one_entry B), refl);
     near = few_are_near 1 [] (omega arith);
   };
-  lost = nothing_carried;
-  lost_comes = none_lost;
+  lost = record { premise = λ few. let none : 1 ≤ 0 = few in omega arith; conclusion = none_lost };
 }
 
 -- the plan is valid, whichever networks its link is on, and with other frames
@@ -157,17 +171,9 @@ pub demo_with_valid : (carriers : Networks) (most : ℕ) → 64 ≤ most → mos
     → IsPlan (record demo_plan { links = record demo_link { networks = carriers; lmax = most } ∷ [] })
 demo_with_valid carriers most least greatest = record {
   end_system = demo_valid.end_system;
-  links = (omega arith, omega arith);
+  links = omega arith;
   ports = demo_valid.ports;
-  each_link = All-from_recursion IsLink (record demo_link { networks = carriers; lmax = most } ∷ []) (
-    record {
-      id = omega arith;
-      lmax = (omega arith, omega arith);
-      sub_vls = (omega arith, omega arith);
-      capacity = (omega arith, omega arith);
-    },
-    tt,
-  );
+  each_link = All-from_recursion IsLink (record demo_link { networks = carriers; lmax = most } ∷ []) (omega arith);
   each_port = demo_valid.each_port;
   links_apart = λ i j a b e. same_place i j a b;
   ports_apart = demo_valid.ports_apart;
@@ -192,21 +198,25 @@ demo_with_valid carriers most least greatest = record {
 pub comes_from_one : ComesFromOne
 unfolding checksum addresses header_front internet_header link_header udp_header datagram unnumbered
 comes_from_one = record {
-  valid = demo_with_valid OnlyA demo_link.lmax (omega arith) (omega arith);
-  legal = record {
-    on_a = legal_on OnlyA A refl;
-    on_b = record {
-      known = tt;
-      carried = λ k inside none. refl;
-      prefixes = λ k s inside index. (_, refl);
-      numbered = λ k inside. tt;
-      spaced = λ k inside. tt;
+  handed = record {
+    valid = demo_with_valid OnlyA demo_link.lmax (omega arith) (omega arith);
+    legal = record {
+      on_a = legal_on OnlyA A refl;
+      on_b = record {
+        known = tt;
+        carried = λ k inside none. refl;
+        prefixes = λ k s inside index. (_, refl);
+        numbered = λ k inside. tt;
+        spaced = λ k inside. tt;
+      };
+      twins = record { b_shorter = λ h. refl; a_shorter = λ h. refl };
     };
-    twins = record { b_shorter = λ h. refl; a_shorter = λ h. refl };
+    inside = omega arith;
+    index = omega arith;
+    allowed = All-from_recursion (IsAllowed (demo_on OnlyA) 0 0) (one_byte_accepted 0 0) (byte_allowed OnlyA 1, tt);
   };
-  allowed = All-from_recursion (IsAllowed (demo_on OnlyA) 0 0) (one_byte_accepted 0 0) (byte_allowed OnlyA 1, tt);
   alone = refl;
-  fit = record { checks = omega arith; opens = omega arith; apart = omega arith };
+  fit = omega arith;
   begins = ([], refl);
   message = refl;
   first = record { many = 1; are = refl; all = λ j few enough. few };
@@ -223,9 +233,140 @@ pub are_twins_of_one : AreTwinsOfOne
 unfolding checksum addresses header_front internet_header link_header udp_header datagram unnumbered
 are_twins_of_one = record {
   both = one_on_both;
-  legal = one_is_legal.legal;
-  twins = all_on_both_holds (demo_on Both) one_byte_accepted (one_entry A) (one_entry B) one_on_both one_is_legal.legal;
+  legal = one_handed.legal;
+  twins = all_on_both_holds (demo_on Both) one_byte_accepted (one_entry A) (one_entry B) one_on_both one_handed.legal;
   own = refl;
   alone = λ all. let both : OnlyA ≡ Both = all 0 demo_link (omega arith) in cc;
   cut = refl;
+}
+
+-- the second frame is known
+second_known : (net : Net) → IsKnown demo_plan.links net (second_frame net)
+unfolding checksum addresses header_front internet_header link_header udp_header datagram unnumbered
+second_known net =
+    record { size = omega arith; k = 0; within = omega arith; link = refl; of_sub = omega arith; interface = refl }
+
+-- a gap apart the frames are handed over legally to a network
+pair_legal_on : (net : Net) → IsLegalOn demo_plan two_accepted net (two_entries net)
+unfolding checksum addresses header_front internet_header link_header udp_header datagram unnumbered cutting fragments_at
+pair_legal_on net = record {
+  known = (one_known Both net, (second_known net, tt));
+  carried = below_one _ (carries net);
+  prefixes = below_both _ _ refl ([], refl);
+  numbered = below_one _ (refl, (refl, tt));
+  spaced = below_one _ (tt, (omega arith, tt));
+}
+  where
+    carries : (net : Net) → names net Both ≡ false → link_stream 1 (two_entries net) ≡ []
+    carries A none = absurd (false≢true (sym none))
+    carries B none = absurd (false≢true (sym none))
+
+-- each message may be sent
+two_allowed : All (IsAllowed demo_plan 0 0) (two_accepted 0 0)
+two_allowed =
+    All-from_recursion (IsAllowed demo_plan 0 0) (two_accepted 0 0) (byte_allowed Both 1, (byte_allowed Both 2, tt))
+
+swapped_allowed : All (IsAllowed demo_plan 0 0) (swapped_accepted 0 0)
+swapped_allowed =
+    All-from_recursion (IsAllowed demo_plan 0 0) (swapped_accepted 0 0) (byte_allowed Both 2, (byte_allowed Both 1, tt))
+
+-- what was handed over legally to both is what the laws speak of
+handed_pair : (accepted : Accepted) → All (IsAllowed demo_plan 0 0) (accepted 0 0)
+    → IsLegal demo_plan accepted (two_entries A) (two_entries B) → PairHanded accepted
+handed_pair accepted allowed legal =
+    record { valid = demo_valid; legal = legal; inside = omega arith; index = omega arith; allowed = allowed }
+
+-- so are the two messages
+two_handed : PairHanded two_accepted
+unfolding checksum addresses header_front internet_header link_header udp_header datagram unnumbered
+two_handed = handed_pair two_accepted two_allowed (record {
+  on_a = pair_legal_on A;
+  on_b = pair_legal_on B;
+  twins = record { b_shorter = λ h. refl; a_shorter = λ h. refl };
+})
+
+-- network A carries both frames, and network B none
+pair_carried : AreCarriedOf 3 (frames_of 1 (two_entries A)) (frames_of 1 (two_entries B)) both_arrive
+unfolding checksum addresses header_front internet_header link_header udp_header datagram unnumbered
+pair_carried = record {
+  on_a = ([], refl);
+  on_b = (frames_of 1 (two_entries B), refl);
+  near = few_are_near 3 both_arrive (omega arith);
+}
+
+-- messages in another order don't arrive; nor does the second where no number is new, nor the first where it is lost
+swapped_lost : PairArrives swapped_accepted plain_receiver both_arrive → ⊥
+unfolding checksum addresses header_front internet_header link_header udp_header datagram unnumbered
+swapped_lost = not_first refl refl
+
+second_lost : PairArrives two_accepted closed_receiver both_arrive → ⊥
+unfolding checksum addresses header_front internet_header link_header udp_header datagram unnumbered cutting fragments_at
+second_lost = too_few 2 refl (omega arith) (omega arith) (omega arith)
+
+first_is_lost : PairArrives two_accepted plain_receiver second_arrives → ⊥
+unfolding checksum addresses header_front internet_header link_header udp_header datagram unnumbered
+first_is_lost = not_first refl refl
+
+-- the swapped ones aren't handed over legally
+are_swapped : AreSwapped
+are_swapped = record {
+  allowed = swapped_allowed;
+  legal = λ legal. swapped_lost (legal_arrive_holds demo_plan swapped_accepted _ _ 0 0 3 plain_receiver both_arrive
+      (handed_pair swapped_accepted swapped_allowed legal) (omega arith) pair_carried);
+}
+
+-- the row of a plan whose messages don't arrive
+pub needs_legal : NeedsLegal
+needs_legal = record {
+  swapped = are_swapped;
+  each = needs_each
+      (λ accepted tolerance arrivals. legal_arrive_holds demo_plan accepted _ _ 0 0 3 tolerance arrivals)
+      two_handed (omega arith) pair_carried swapped_lost second_lost first_is_lost;
+}
+
+-- the frames come from network B
+pair_is_close : AreClose B (length longer_pair) 0 0 both_from_b
+unfolding checksum addresses header_front internet_header link_header udp_header datagram unnumbered
+pair_is_close = close_by_test both_from_b B 2 refl refl
+
+-- so it is despite losses
+swapped_despite : PairDespite swapped_accepted 1 both_from_b → ⊥
+unfolding checksum addresses header_front internet_header link_header udp_header datagram unnumbered
+swapped_despite = not_first refl refl
+
+first_despite : PairDespite two_accepted 1 first_lost → ⊥
+unfolding checksum addresses header_front internet_header link_header udp_header datagram unnumbered
+first_despite = not_first refl refl
+
+second_despite : PairDespite two_accepted 0 both_from_b → ⊥
+unfolding checksum addresses header_front internet_header link_header udp_header datagram unnumbered cutting fragments_at
+second_despite = too_few 2 refl (omega arith) (omega arith) (omega arith)
+
+-- the row of losses
+pub needs_close : NeedsClose
+needs_close = record {
+  swapped = are_swapped;
+  each = needs_each
+      (λ accepted check came. legal_despite_loss_holds demo_plan accepted _ _ 0 0 check B came)
+      two_handed (omega arith) pair_is_close swapped_despite second_despite first_despite;
+}
+
+-- the frames are on their way
+pair_way : (now : ℕ) → AllZip (IsOnItsWay 0 0) (link_stream 1 (pair_at now A)) (pair_passes 0 now now)
+unfolding checksum addresses header_front internet_header link_header udp_header datagram unnumbered
+pair_way now = omega arith
+
+-- the row of a switch: a microsecond early the second is dropped, and where the first is late
+pub passes_a_gap_apart : PassesAGapApart
+passes_a_gap_apart = record {
+  valid = demo_valid;
+  legal = two_handed.legal.on_a;
+  allowed = two_allowed;
+  way = pair_way 1000;
+  passes = refl;
+  early_way = pair_way 999;
+  early = fails_by (λ legal. legal_passes_holds demo_plan two_accepted A _ demo_valid legal 0 (omega arith)
+      (below_one _ two_allowed) by_frames 0 0 (pair_passes 0 999 999) (pair_way 999)) (other_length refl);
+  late = fails_by (legal_passes_holds demo_plan two_accepted A _ demo_valid two_handed.legal.on_a 0 (omega arith)
+      (below_one _ two_allowed) by_frames 0 0 (pair_passes 1 1000 1000)) (other_length refl);
 }

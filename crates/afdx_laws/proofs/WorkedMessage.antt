@@ -1,6 +1,7 @@
--- The worked delivery and the worked runs of a receiver, by computation.
-use Rattle.std.proofs.Common.{◌≡◌, ◌≤◌, ◌<◌, List, [], ◌∷◌, length, map, take, ◌+◌, ℕ, zero, suc, false, nat_eq, refl, ap, sym, ◌∙◌, arith}
-use Rattle.std.proofs.lemmas.Bool.{eq-eqb, false≢true}
+-- The worked delivery, the worked runs of a receiver and the worked losses, by computation.
+use Rattle.std.proofs.Common.{◌≡◌, ◌≤◌, ◌<◌, List, [], ◌∷◌, length, map, take, ◌+◌, ℕ, zero, suc, false, nat_eq, refl, ap, sym, ◌∙◌, arith, max, Bool, true, not, ◌&&◌, ◌||◌, nat_lt, nat_le, cond}
+use Rattle.std.proofs.lemmas.Bool.{eq-eqb, false≢true, and_parts}
+use Rattle.std.proofs.lemmas.Bool.Decides.{nat_tests}
 use Rattle.std.specs.Prelude.{slice_index}
 use Rattle.std.proofs.lemmas.List.{length-append, length-take, length-map}
 use Rattle.std.proofs.lemmas.List.Elements.{All-from_recursion}
@@ -12,26 +13,26 @@ use Rattle.afdx_frame.specs.Cutting.{cutting}
 use Rattle.afdx_frame.specs.Frame.{addresses, header_front, internet_header, link_header, udp_header, datagram, unnumbered}
 use Rattle.afdx_frame.specs.Fragments.{Sent, fragments, fragments_at}
 use Rattle.afdx_frame.specs.Header.{sub_in, number_in}
+use Rattle.afdx_frame.specs.Twin.{twin_of}
 use Rattle.afdx_legal.specs.Streams.{those_with}
-use Rattle.afdx_laws.specs.Receiver.{IsFitFor, begin, received, carried, other, IsNear}
-use Rattle.afdx_laws.specs.Networks.{IsLong, IsStream, IsOnce}
+use Rattle.afdx_laws.specs.Receiver.{begin, received, carried, other, IsNear}
+use Rattle.afdx_laws.specs.Networks.{IsLong, IsStream, AreCarried}
+use Rattle.afdx_laws.specs.Loss.{AreWithin, StartsFirst, AreClose, same_net, one_lost}
 use Rattle.afdx_laws.specs.Messages.{IsSent, IsSending, AreFirst, messages_in}
 use Rattle.afdx_laws.specs.Handed.{IsOfNet, IsHanded, AreHanded}
-use Rattle.afdx_laws.specs.WorkedDelivery.{one_accepted, other_accepted, both_frames, four_arrivals, three_arrivals, plain_receiver, closed_receiver, HandedArrives, OneMessageArrives, NeedsHanding, bare_frame, bare_stream, same_twice, second_alone, far_behind, wide_receiver, Arrives, AcceptsEachOnce, NeedsNumbers, NeedsBeginnings, NeedsALag, StreamArrives, NeedsAStream, ClashesPast254}
-use Rattle.afdx_laws.proofs.ListLemmas.{nil_isnt_cons, other_length}
-use Rattle.afdx_laws.proofs.HandedOver.{sending_a, handed_arrive_holds}
-use Rattle.afdx_frame.specs.Twin.{twin_of}
+use Rattle.afdx_laws.specs.WorkedDelivery.{one_accepted, both_frames, four_arrivals, three_arrivals, plain_receiver, closed_receiver, OneMessageArrives, NeedsHanding, bare_frame, bare_stream, same_twice, second_alone, far_behind, wide_receiver, AcceptsEachOnce, NeedsNumbers, NeedsBeginnings, NeedsALag, NeedsAStream, ClashesPast254}
+use Rattle.afdx_laws.specs.WorkedLoss.{second_lost, first_lost, messages_despite, MasksOneLoss, NeedsTheFirst, BeginsOnBoth, ComesDespiteLoss, NeedsAWholeNetwork, NeedsOneWhole}
+use Rattle.afdx_laws.proofs.ListLemmas.{cons_parts, nil_isnt_cons, other_length}
+use Rattle.afdx_laws.proofs.Rows.{fails_by, needs_each}
 use Rattle.afdx_laws.proofs.Receiving.{exactly_once_holds}
-use Rattle.afdx_laws.proofs.Arriving.{messages_arrive_holds}
+use Rattle.afdx_laws.proofs.Arriving.{messages_arrive_holds, despite_loss_holds}
+use Rattle.afdx_laws.proofs.HandedOver.{sending_to, handed_arrive_holds, handed_despite_loss_holds}
 
 -- what was handed to a network, by computation
-pub handed_to : (net : Net) → IsHanded 1 25 0 one_accepted net (both_frames net)
+handed_to : (net : Net) → IsHanded 1 25 0 one_accepted net (both_frames net)
 unfolding checksum addresses header_front internet_header link_header udp_header datagram unnumbered cutting fragments_at
 handed_to net = record {
-  frames = record {
-    long = All-from_recursion IsLong (both_frames net) (omega arith, (omega arith, tt));
-    numbered = (refl, (refl, tt));
-  };
+  frames = record { long = All-from_recursion IsLong (both_frames net) (omega arith); numbered = (refl, (refl, tt)) };
   own = All-from_recursion (IsOfNet net) (both_frames net) (refl, (refl, tt));
   first = ([], refl);
 }
@@ -40,7 +41,7 @@ handed_to net = record {
 pub both_handed : AreHanded 1 25 0 one_accepted (both_frames A) (both_frames B)
 unfolding checksum addresses header_front internet_header link_header udp_header datagram unnumbered
 both_handed = record {
-  link = record { numbered = omega arith; least = omega arith; greatest = omega arith };
+  link = omega arith;
   sent = All-from_recursion (IsSent 0) one_accepted
       (record { port = demo_port_is; its = refl; some = omega arith; most = omega arith }, tt);
   on_a = handed_to A;
@@ -48,8 +49,8 @@ both_handed = record {
   twins = record { b_shorter = λ h. refl; a_shorter = λ h. refl };
 }
 
-pub are_sent : IsSending 1 25 0 one_accepted (both_frames A)
-are_sent = sending_a 1 25 0 one_accepted (both_frames A) (both_frames B) both_handed
+are_sent : IsSending 1 25 0 one_accepted A (both_frames A)
+are_sent = sending_to both_handed.link both_handed.sent both_handed.on_a
 
 -- a network carried no more than came
 carried_le : {F : Type 0} (net : Net) (xs : List (Net × F)) → length (carried net xs) ≤ length xs
@@ -69,14 +70,7 @@ few_are_near lag arrivals few_came before after net frame is =
 -- the row
 pub one_message_arrives : OneMessageArrives
 unfolding checksum addresses header_front internet_header link_header udp_header datagram unnumbered
-one_message_arrives = record {
-  handed = both_handed;
-  fit = record { checks = omega arith; opens = omega arith; apart = omega arith };
-  carry = record { on_a = ([], refl); on_b = ([], refl); near = few_are_near 3 four_arrivals (omega arith) };
-  accepts = refl;
-  message = refl;
-  first = record { many = 1; are = refl; all = λ j few enough. few };
-}
+one_message_arrives = record { accepts = refl; message = refl }
 
 -- what is read of the first of some lists
 abbrev pub first_of : (List ℕ → ℕ) → List (List ℕ) → ℕ
@@ -113,48 +107,47 @@ too_few {accepted = accepted} n are short within enough first =
     omega (arith, length-map accepted (λ (s : Sent). s.bytes))
 
 -- the worked message has two frames, and both are among the stream's first two
-pub whole_lost : {messages : List (List ℕ)} → messages ≡ []
-    → AreFirst 1 25 0 one_accepted (take 2 (both_frames A)) messages → ⊥
+whole_lost : {messages : List (List ℕ)} → messages ≡ [] → AreFirst 1 25 0 one_accepted (take 2 (both_frames A)) messages → ⊥
 unfolding checksum addresses header_front internet_header link_header udp_header datagram unnumbered cutting fragments_at
 whole_lost none = too_few 1 none (omega arith) (omega arith) (omega arith)
 
 -- where no number is new its first frame alone is accepted; where the second comes first it alone is
-pub none_new : messages_in 0 (received number_in closed_receiver begin four_arrivals) ≡ []
+none_new : messages_in 0 (received number_in closed_receiver begin four_arrivals) ≡ []
 unfolding checksum addresses header_front internet_header link_header udp_header datagram unnumbered
 none_new = refl
 
-pub none_ahead : messages_in 0 (received number_in plain_receiver begin three_arrivals) ≡ []
+none_ahead : messages_in 0 (received number_in plain_receiver begin three_arrivals) ≡ []
 unfolding checksum addresses header_front internet_header link_header udp_header datagram unnumbered
 none_ahead = refl
 
--- the row of a delivery that fails
+-- the row of what was handed over
 pub needs_handing : NeedsHanding
-needs_handing =
-    let fit : IsFitFor 3 plain_receiver = one_message_arrives.fit in
-    let other : HandedArrives other_accepted plain_receiver four_arrivals → ⊥ =
-    not_first one_message_arrives.message refl in
-    let lost : HandedArrives one_accepted plain_receiver three_arrivals → ⊥ = whole_lost none_ahead in
-    record {
-      fit = fit;
-      handed = both_handed;
-      carry = one_message_arrives.carry;
-      other = λ handed. other (handed_arrive_holds 1 25 0 3 plain_receiver other_accepted (both_frames A) (both_frames B)
-          four_arrivals handed fit one_message_arrives.carry);
-      other_arrives = other;
-      unfit = λ unfit. let opens : 1 ≤ 0 = unfit.opens in absurd (omega arith);
-      unfit_arrives = whole_lost none_new;
-      lost = λ carry. lost (handed_arrive_holds 1 25 0 3 plain_receiver one_accepted (both_frames A) (both_frames B)
-          three_arrivals both_handed fit carry);
-      lost_arrives = lost;
-    }
+needs_handing = needs_each
+    (λ accepted tolerance arrivals.
+    handed_arrive_holds 1 25 0 3 tolerance accepted (both_frames A) (both_frames B) arrivals)
+    both_handed (omega arith)
+    (record { on_a = ([], refl); on_b = ([], refl); near = few_are_near 3 four_arrivals (omega arith) })
+    (not_first one_message_arrives.message refl) (whole_lost none_new) (whole_lost none_ahead)
+
+-- what the two networks carried of the stream
+pub four_carried : AreCarried 3 (both_frames A) four_arrivals
+unfolding checksum addresses header_front internet_header link_header udp_header datagram unnumbered
+four_carried = record { on_a = ([], refl); on_b = ([], refl); near = few_are_near 3 four_arrivals (omega arith) }
+
+-- the row of a stream
+pub needs_a_stream : NeedsAStream
+needs_a_stream = needs_each
+    (λ accepted tolerance arrivals. messages_arrive_holds 1 25 0 3 tolerance accepted A (both_frames A) arrivals)
+    are_sent (omega arith) four_carried
+    (not_first one_message_arrives.message refl) (whole_lost none_new) (whole_lost none_ahead)
 
 -- the row
 pub accepts_each_once : AcceptsEachOnce
 unfolding checksum addresses header_front internet_header link_header udp_header datagram unnumbered
 accepts_each_once = record {
-  fit = one_message_arrives.fit;
+  fit = omega arith;
   stream = are_sent.frames;
-  carry = record { on_a = ([], refl); on_b = ([], refl); near = few_are_near 3 four_arrivals (omega arith) };
+  carry = four_carried;
   once = refl;
   round = refl;
 }
@@ -162,94 +155,159 @@ accepts_each_once = record {
 -- the row of the numbers: the second of two frames of one number is dropped
 pub needs_numbers : NeedsNumbers
 needs_numbers = record {
-  fit = one_message_arrives.fit;
-  stream = λ stream. let second : 0 ≡ 1 = stream.numbered.1.0 in absurd (omega arith);
   carry = record {
     on_a = ([], refl);
     on_b = (map (twin_of B) (bare_stream (0 ∷ 0 ∷ [])), refl);
     near = few_are_near 3 same_twice (omega arith);
   };
-  once = other_length refl;
+  stream = record {
+    premise = λ stream. let second : 0 ≡ 1 = stream.numbered.1.0 in omega arith;
+    conclusion = other_length refl;
+  };
 }
 
--- two bare frames are a stream
+-- bare frames are a stream
 bare_pair : IsStream (bare_stream (0 ∷ 1 ∷ []))
-bare_pair = record {
-  long = All-from_recursion IsLong (bare_stream (0 ∷ 1 ∷ [])) (omega arith, (omega arith, tt));
-  numbered = (refl, (refl, tt));
+bare_pair =
+    record { long = All-from_recursion IsLong (bare_stream (0 ∷ 1 ∷ [])) (omega arith); numbered = (refl, (refl, tt)) }
+
+bare_three : IsStream (bare_stream (0 ∷ 1 ∷ 2 ∷ []))
+bare_three = record {
+  long = All-from_recursion IsLong (bare_stream (0 ∷ 1 ∷ 2 ∷ [])) (omega arith);
+  numbered = (refl, (refl, (refl, tt)));
 }
 
 -- the row of a network that loses the first frame
 pub needs_beginnings : NeedsBeginnings
-needs_beginnings =
-    let lost : IsOnce plain_receiver (bare_stream (0 ∷ 1 ∷ [])) second_alone → ⊥ =
-    not_front number_in (map (twin_of A) (bare_stream (0 ∷ 1 ∷ []))) 1 refl in
-    record {
-      fit = one_message_arrives.fit;
-      stream = bare_pair;
-      carry = λ carry. lost (exactly_once_holds 3 plain_receiver (bare_stream (0 ∷ 1 ∷ [])) second_alone
-          one_message_arrives.fit bare_pair carry);
-      once = lost;
-    }
+needs_beginnings = record {
+  stream = bare_pair;
+  carry = fails_by
+      (exactly_once_holds 3 plain_receiver (bare_stream (0 ∷ 1 ∷ [])) second_alone (omega arith) bare_pair)
+      (not_front number_in (map (twin_of A) (bare_stream (0 ∷ 1 ∷ []))) 1 refl);
+}
 
 -- the row of the lag: an old frame is accepted again
 pub needs_a_lag : NeedsALag
-needs_a_lag =
-    let again : IsOnce wide_receiver (bare_stream (0 ∷ 1 ∷ 2 ∷ [])) far_behind → ⊥ = other_length refl in
-    let stream : IsStream (bare_stream (0 ∷ 1 ∷ 2 ∷ [])) = record {
-      long = All-from_recursion IsLong (bare_stream (0 ∷ 1 ∷ 2 ∷ [])) (omega arith, (omega arith, (omega arith, tt)));
-      numbered = (refl, (refl, (refl, tt)));
-    } in
-    let fit : IsFitFor 1 wide_receiver = record { checks = omega arith; opens = omega arith; apart = omega arith } in
-    record {
-      stream = stream;
-      fit = fit;
-      far = λ carry. again
-          (exactly_once_holds 1 wide_receiver (bare_stream (0 ∷ 1 ∷ 2 ∷ [])) far_behind fit stream carry);
-      unfit = λ fit. let apart : 258 ≤ 255 = fit.apart in absurd (omega arith);
-      carry = record {
-        on_a = ([], refl);
-        on_b = (twin_of B (bare_frame 2) ∷ [], refl);
-        near = few_are_near 4 far_behind (omega arith);
-      };
-      once = again;
-    }
-
--- the row of a message
-pub stream_arrives : StreamArrives
-stream_arrives = record {
-  sending = are_sent;
-  fit = one_message_arrives.fit;
-  carry = accepts_each_once.carry;
-  message = one_message_arrives.message;
-  first = record { many = 1; are = one_message_arrives.message; all = λ j few enough. few };
+needs_a_lag = record {
+  stream = bare_three;
+  fit = omega arith;
+  far = fails_by
+      (exactly_once_holds 1 wide_receiver (bare_stream (0 ∷ 1 ∷ 2 ∷ [])) far_behind (omega arith) bare_three)
+      (other_length refl);
+  unfit = λ fit. let apart : 258 ≤ 255 = fit.apart in omega arith;
+  carry = record {
+    on_a = ([], refl);
+    on_b = (twin_of B (bare_frame 2) ∷ [], refl);
+    near = few_are_near 4 far_behind (omega arith);
+  };
 }
-
--- the row of a message that doesn't arrive
-pub needs_a_stream : NeedsAStream
-needs_a_stream =
-    let fit : IsFitFor 3 plain_receiver = one_message_arrives.fit in
-    let other : Arrives other_accepted plain_receiver four_arrivals → ⊥ = not_first one_message_arrives.message refl in
-    let lost : Arrives one_accepted plain_receiver three_arrivals → ⊥ = whole_lost none_ahead in
-    record {
-      fit = fit;
-      sending = are_sent;
-      carry = accepts_each_once.carry;
-      other = λ sending_other. other (messages_arrive_holds 1 25 0 3 plain_receiver other_accepted
-          (both_frames A) four_arrivals sending_other fit accepts_each_once.carry);
-      other_arrives = other;
-      unfit = λ unfit. let opens : 1 ≤ 0 = unfit.opens in absurd (omega arith);
-      unfit_arrives = whole_lost none_new;
-      lost = λ carry. lost (messages_arrive_holds 1 25 0 3 plain_receiver one_accepted (both_frames A) three_arrivals
-          are_sent fit carry);
-      lost_arrives = lost;
-    }
 
 -- the row of the clash
 pub clashes_past_254 : ClashesPast254
 clashes_past_254 = record {
-  fit = record { checks = omega arith; opens = omega arith; apart = omega arith };
+  fit = omega arith;
   once = refl;
-  unfit = λ fit. let apart = fit.apart in absurd (omega arith);
+  unfit = λ fit. let apart = fit.apart in omega arith;
   twice = refl;
 }
+
+-- what AreWithin says of a run, as a test
+abbrev lies_within : Net → ℕ → ℕ → ℕ → List (Net × ℕ) → Bool
+lies_within whole n farthest carries [] = true
+lies_within whole n farthest carries (e ∷ es) =
+    (nat_lt e.1 n && nat_le farthest (e.1 + 254) && nat_le e.1 (carries + 254)
+    && (not (same_net whole e.0) || nat_eq e.1 carries))
+    && lies_within whole n (max farthest (e.1 + 1)) (cond (same_net whole e.0) (carries + 1) carries) es
+
+-- frames are near to each other where the test says so
+within_by_test : (came : List (Net × ℕ)) (whole : Net) (n farthest carries : ℕ)
+    → lies_within whole n farthest carries came ≡ true → AreWithin whole n farthest carries came
+within_by_test [] whole n farthest carries test = tt
+within_by_test (e ∷ es) whole n farthest carries test =
+    let parts = and_parts (nat_lt e.1 n && nat_le farthest (e.1 + 254) && nat_le e.1 (carries + 254)
+    && (not (same_net whole e.0) || nat_eq e.1 carries)) _ test in
+    let here = parts.0 in (
+      record {
+        inside = grind (arith, nat_tests);
+        near = grind (arith, nat_tests);
+        ahead = grind (arith, nat_tests);
+        in_order = λ same. grind (arith, nat_tests);
+      },
+      within_by_test es whole n (max farthest (e.1 + 1)) (cond (same_net whole e.0) (carries + 1) carries) parts.1,
+    )
+
+-- they are close where the first of the stream comes first
+pub close_by_test : (came : List (Net × ℕ)) (whole : Net) (n : ℕ)
+    → lies_within whole n 0 0 came ≡ true → StartsFirst came → AreClose whole n 0 0 came
+close_by_test came whole n test starts =
+    record { within = within_by_test came whole n 0 0 test; first = λ none. starts }
+
+-- the frames of a message come close to each other
+second_is_close : AreClose B 2 0 0 second_lost
+second_is_close = close_by_test second_lost B 2 refl refl
+
+-- the row of the losses
+pub masks_one_loss : MasksOneLoss
+unfolding checksum addresses header_front internet_header link_header udp_header datagram unnumbered
+masks_one_loss = record {
+  lost = close_by_test one_lost B 3 refl refl;
+  numbers = refl;
+  stream = are_sent.frames;
+  close = second_is_close;
+  masked = refl;
+}
+
+-- the stream's first frame doesn't come first
+pub not_close : {n i : ℕ} {es : List (Net × ℕ)} → AreClose B n 0 0 ((A, suc i) ∷ es) → ⊥
+not_close close = let first = close.first refl in omega arith
+
+-- the row of the first frame: the stream's beginnings don't begin with its second frame
+pub needs_the_first : NeedsTheFirst
+unfolding checksum addresses header_front internet_header link_header udp_header datagram unnumbered
+needs_the_first = record {
+  within = within_by_test first_lost B 2 0 0 refl;
+  close = record {
+    premise = not_close;
+    conclusion = λ masked. not_front number_in (map (twin_of A) (both_frames A)) masked.0 refl masked.2;
+  };
+  three = not_close;
+  numbers = refl;
+}
+
+-- the row of networks that begin with it
+pub begins_on_both : BeginsOnBoth
+unfolding checksum addresses header_front internet_header link_header udp_header datagram unnumbered
+begins_on_both = record {
+  begins = λ place later is. sym (cons_parts is).0;
+  masks = masks_one_loss;
+  later = λ begins. let first = begins 1 [] refl in omega arith;
+  dropped = refl;
+}
+
+-- the row of a message that comes despite a loss, of its stream and of what was handed over
+pub comes_despite_loss : ComesDespiteLoss
+unfolding checksum addresses header_front internet_header link_header udp_header datagram unnumbered
+comes_despite_loss = refl
+
+-- where the check takes no number but 0 its first frame alone is accepted; where the second comes first it alone is
+none_checked : messages_despite 0 (both_frames A) second_lost ≡ []
+unfolding checksum addresses header_front internet_header link_header udp_header datagram unnumbered
+none_checked = refl
+
+none_after : messages_despite 1 (both_frames A) first_lost ≡ []
+unfolding checksum addresses header_front internet_header link_header udp_header datagram unnumbered
+none_after = refl
+
+-- the row of a stream despite a loss
+pub needs_a_whole_network : NeedsAWholeNetwork
+needs_a_whole_network = needs_each
+    (λ accepted check came. despite_loss_holds 1 25 0 check B accepted A (both_frames A) came)
+    are_sent (omega arith) second_is_close
+    (not_first comes_despite_loss refl) (whole_lost none_checked) (whole_lost none_after)
+
+-- the row of what was handed over despite a loss
+pub needs_one_whole : NeedsOneWhole
+needs_one_whole = needs_each
+    (λ accepted check came. handed_despite_loss_holds 1 25 0 check B accepted (both_frames A) (both_frames B) came)
+    both_handed (omega arith) second_is_close
+    (not_first comes_despite_loss refl) (whole_lost none_checked) (whole_lost none_after)

@@ -3,7 +3,7 @@ use Rattle.std.proofs.Common.{◌≡◌, ℕ, List, [], ◌∷◌, length, refl,
 use Rattle.std.proofs.lemmas.List.{length-append}
 use Rattle.afdx_frame.specs.declared.net.Net.{Net}
 use Rattle.afdx_frame.specs.declared.net.Net.TheVariants.{A, B}
-use Rattle.afdx_laws.specs.Receiver.{carried, IsNear}
+use Rattle.afdx_laws.specs.Receiver.{carried}
 use Rattle.afdx_laws.specs.Skew.{IsDelivered, released_at, arrival_of, both_copies, ComesInTime, BearsUnder254}
 use Rattle.afdx_laws.proofs.ListLemmas.{cons_parts}
 use Rattle.afdx_laws.proofs.WorkedMessage.{few_are_near}
@@ -24,19 +24,14 @@ both_delivered (x ∷ y ∷ before) after net frame is =
     let parts = length-append before ((net, frame) ∷ after) in
     absurd (omega arith)
 
--- the second copy comes a frame behind
-no_nearer : IsNear 0 both_copies → ⊥
-no_nearer near = let behind = near ((A, 7 ∷ []) ∷ []) [] B (7 ∷ []) refl in omega arith
-
--- the row
+-- the row: the second copy comes a frame behind
 pub comes_in_time : ComesInTime
 comes_in_time = record {
-  apart = λ i. omega arith;
-  forward = λ k. omega arith;
+  apart = omega arith;
+  forward = omega arith;
   delivered = both_delivered;
-  near =
-      few_are_near 1 both_copies (omega arith);
-  exact = no_nearer;
+  near = few_are_near 1 both_copies (omega arith);
+  exact = λ near. let behind = near ((A, 7 ∷ []) ∷ []) [] B (7 ∷ []) refl in omega arith;
 }
 
 -- the row of the longest delay
@@ -44,8 +39,8 @@ pub bears_under_254 : BearsUnder254
 bears_under_254 = record {
   under = omega arith;
   most = refl;
-  fit = record { checks = omega arith; opens = omega arith; apart = omega arith };
-  over = λ less. absurd (omega arith);
+  fit = omega arith;
+  over = omega arith;
   more = refl;
-  unfit = λ fit. let apart = fit.apart in absurd (omega arith);
+  unfit = λ fit. let apart = fit.apart in omega arith;
 }

@@ -1,22 +1,22 @@
 -- The worked reassembly and its buffers, by computation.
-use Rattle.std.proofs.Common.{ℕ, zero, suc, ◌≤◌, false, [], ◌∷◌, length, take, refl, arith, ◌≡◌, inl, inr, true, ap, sym}
+use Rattle.std.proofs.Common.{ℕ, zero, suc, ◌≤◌, false, [], ◌∷◌, length, take, refl, arith, ◌≡◌, inl, inr, ap, sym, true}
 use Rattle.std.specs.Prelude.{All, Some, None}
-use Rattle.std.specs.List.{range_with_len}
-use Rattle.std.proofs.lemmas.List.Elements.{All-from_recursion}
-use Rattle.afdx_frame.specs.Cutting.{cutting}
-use Rattle.afdx_laws.specs.Delivery.{HasByte, of_sub, sent_from, AreGiven}
-use Rattle.afdx_laws.specs.WorkedOrder.{two_datagrams, five_fragments, second_came, one_without_bytes, eight_bytes, FirstIsGiven, NeedsOrder, two_begun, HoldsTheSecond, NeedsInTurn, HoldsAFrame}
-use Rattle.afdx_laws.proofs.WorkedMessage.{not_front, both_handed, one_message_arrives}
-use Rattle.afdx_laws.proofs.InOrder.{in_order_holds}
 use Rattle.std.proofs.lemmas.Bool.{cases_eq}
+use Rattle.std.proofs.lemmas.List.Elements.{All-from_recursion}
 use Rattle.afdx_frame.specs.declared.net.Net.TheVariants.{A, B}
 use Rattle.afdx_frame.specs.Checksum.{checksum}
+use Rattle.afdx_frame.specs.Cutting.{cutting}
 use Rattle.afdx_frame.specs.Frame.{addresses, header_front, internet_header, link_header, udp_header, datagram, unnumbered}
 use Rattle.afdx_frame.specs.Reassembly.{Buffer, empty}
+use Rattle.afdx_laws.specs.Delivery.{HasByte, of_sub, sent_from}
 use Rattle.afdx_laws.specs.Buffers.{buffers_after, HoldsOne, HasUpTo}
 use Rattle.afdx_laws.specs.WorkedDelivery.{one_accepted, both_frames, four_arrivals, plain_receiver}
+use Rattle.afdx_laws.specs.WorkedOrder.{two_datagrams, five_fragments, second_came, one_without_bytes, eight_bytes, piece, FirstIsGiven, NeedsOrder, two_begun, HoldsTheSecond, NeedsInTurn, HoldsAFrame}
+use Rattle.afdx_laws.proofs.Rows.{fails_by}
+use Rattle.afdx_laws.proofs.InOrder.{in_order_holds}
 use Rattle.afdx_laws.proofs.OneBuffer.{one_buffer}
 use Rattle.afdx_laws.proofs.NeededBuffers.{handed_need_one}
+use Rattle.afdx_laws.proofs.WorkedMessage.{not_front, both_handed, needs_handing}
 
 -- fragments of both are more than came
 first_alone : (j : ℕ) → j ≤ length two_datagrams
@@ -28,36 +28,28 @@ first_alone (suc (suc zero)) few enough = absurd (omega arith)
 first_alone (suc (suc (suc j))) few enough = absurd (omega arith)
 
 -- both datagrams have a byte
-pub two_some : All HasByte two_datagrams
-two_some = All-from_recursion HasByte two_datagrams (omega arith, (omega arith, tt))
+two_some : All HasByte two_datagrams
+two_some = All-from_recursion HasByte two_datagrams (omega arith)
 
 -- the row
 pub first_is_given : FirstIsGiven
 unfolding cutting
-first_is_given = record {
-  some = two_some;
-  first = ((4, record { offset = 1; more = false; bytes = range_with_len 29 4 }) ∷ [], refl);
-  given = refl;
-  all = first_alone;
-}
-
--- the second datagram isn't the first
-lost_given : AreGiven 8 0 two_datagrams second_came → ⊥
-lost_given are = not_front length two_datagrams are.0 refl are.1
+first_is_given = record { some = two_some; first = (piece 4 1 false 29 4 ∷ [], refl); given = refl; all = first_alone }
 
 -- the row of fragments that are out of order
 pub needs_order : NeedsOrder
 unfolding cutting
 needs_order = record {
-  some = two_some;
-  lost = λ begins. lost_given (in_order_holds 8 0 two_datagrams second_came (omega arith) two_some begins);
-  lost_given = lost_given;
-  none = λ all. let some : 1 ≤ 0 = all 0 [] (omega arith) in absurd (omega arith);
+  lost = fails_by (in_order_holds 8 0 two_datagrams second_came (omega arith) two_some)
+      (λ are. not_front length two_datagrams are.0 refl are.1);
+  none = record {
+    premise = λ all. let some : 1 ≤ 0 = all 0 [] (omega arith) in omega arith;
+    conclusion = λ are. not_front length one_without_bytes are.0 refl are.1;
+  };
   none_first = ([], refl);
-  none_given = λ are. not_front length one_without_bytes are.0 refl are.1;
-  small_some = All-from_recursion HasByte eight_bytes (omega arith, tt);
+  small_some = All-from_recursion HasByte eight_bytes (omega arith);
   small_first = ([], refl);
-  small_given = λ are. not_front length eight_bytes are.0 refl are.1;
+  small = record { premise = omega arith; conclusion = λ are. not_front length eight_bytes are.0 refl are.1 };
 }
 
 -- the second datagram waits
@@ -78,7 +70,7 @@ two_hold one = elim (cases_eq one.key 0) [
 
 -- no datagram has more than 20 bytes
 two_sizes : All (HasUpTo 20) two_datagrams
-two_sizes = All-from_recursion (HasUpTo 20) two_datagrams (omega arith, (omega arith, tt))
+two_sizes = All-from_recursion (HasUpTo 20) two_datagrams (omega arith)
 
 -- the row of datagrams that are begun at once, and of a buffer that is too small
 pub needs_in_turn : NeedsInTurn
@@ -86,17 +78,12 @@ unfolding cutting
 needs_in_turn = record {
   some = two_some;
   size = two_sizes;
-  begun = λ begins. two_hold (one_buffer 8 0 20 two_datagrams two_begun (omega arith) two_some two_sizes begins);
-  begun_hold = two_hold;
-  small = λ sizes. let size : 20 ≤ 8 = sizes 0 [] (omega arith) in absurd (omega arith);
-  first = (
-    (0, record { offset = 2; more = false; bytes = range_with_len 17 4 })
-        ∷ (4, record { offset = 0; more = true; bytes = range_with_len 21 8 })
-        ∷ (4, record { offset = 1; more = false; bytes = range_with_len 29 4 })
-        ∷ [],
-    refl,
-  );
-  small_hold = λ one. let ninth : Some 9 ≡ None = one.within 0 refl 8 (omega arith) in cc;
+  begun = fails_by (one_buffer 8 0 20 two_datagrams two_begun (omega arith) two_some two_sizes) two_hold;
+  first = (piece 0 2 false 17 4 ∷ piece 4 0 true 21 8 ∷ piece 4 1 false 29 4 ∷ [], refl);
+  small = record {
+    premise = λ sizes. let size : 20 ≤ 8 = sizes 0 [] (omega arith) in omega arith;
+    conclusion = λ one. let ninth : Some 9 ≡ None = one.within 0 refl 8 (omega arith) in cc;
+  };
 }
 
 -- the row of a frame
@@ -107,5 +94,5 @@ holds_a_frame = record {
   next = refl;
   given = refl;
   enough = handed_need_one 1 25 0 3 plain_receiver one_accepted (both_frames A) (both_frames B) four_arrivals
-      both_handed one_message_arrives.fit one_message_arrives.carry;
+      both_handed needs_handing.second needs_handing.third;
 }

@@ -1,20 +1,19 @@
 -- How many buffers a receiver needs to reassemble the messages of a link, and how large they are.
-use Rattle.std.specs.Prelude.{◌≡◌, ℕ, ◌%◌, ◌≤◌, ◌<◌, None, List, [], ◌∷◌, length, map, All}
-use Rattle.afdx_plan.specs.Config.{Plan, IsPlan, link_plan_at}
+use Rattle.std.specs.Prelude.{◌≡◌, ℕ, ◌%◌, ◌≤◌, None, List, [], ◌∷◌, length, map, All}
+use Rattle.afdx_plan.specs.Config.{Plan}
 use Rattle.afdx_frame.specs.declared.net.Net.{Net}
 use Rattle.afdx_frame.specs.Header.{number_in}
 use Rattle.afdx_frame.specs.Fragments.{Sent}
 use Rattle.afdx_frame.specs.Reassembly.{Fragment, Buffer, empty, put, datagram_in}
 use Rattle.redundant_mux.specs.Entry.{Entry}
 use Rattle.afdx_legal.specs.Streams.{IsPrefixOf}
-use Rattle.afdx_legal.specs.Legal.{Accepted, IsLegal}
-use Rattle.afdx_legal.specs.Allowed.{IsAllowed}
+use Rattle.afdx_legal.specs.Legal.{Accepted}
 use Rattle.afdx_laws.specs.Receiver.{Tolerance, IsFitFor, begin, received}
 use Rattle.afdx_laws.specs.Loss.{AreClose, next_alone, frames_at}
 use Rattle.afdx_laws.specs.Delivery.{with_buffer, kept_in, of_sub, sent_from, HasByte}
 use Rattle.afdx_laws.specs.Messages.{fragment_in}
-use Rattle.afdx_laws.specs.Handed.{AreHanded, AreCarriedOf, longer}
-use Rattle.afdx_laws.specs.Plans.{id_at, frames_of}
+use Rattle.afdx_laws.specs.Handed.{AreHanded, AreCarriedOf}
+use Rattle.afdx_laws.specs.Plans.{id_at, frames_of, longer_of, IsHandedOver}
 
 -- the buffers after these fragments
 abbrev pub buffers_after : (ℕ → Buffer) → List (ℕ × Fragment) → ℕ → Buffer
@@ -61,24 +60,16 @@ HandedNeedOne = (end_system room sub lag : ℕ) (tolerance : Tolerance) (accepte
 
 -- So it is for each link and sub-VL of a valid plan, of what was handed over legally.
 abbrev pub LegalNeedOne : Type 0
-LegalNeedOne = (plan : Plan) (accepted : Accepted) (a b : List Entry)
-    → IsPlan plan → IsLegal plan accepted a b
-    → (k sub : ℕ) → k < length plan.links → sub < (link_plan_at plan.links k).sub_vls
-    → All (IsAllowed plan k sub) (accepted k sub)
-    → (lag : ℕ) (tolerance : Tolerance) (arrivals : List (Net × List ℕ))
-    → IsFitFor lag tolerance
+LegalNeedOne = (plan : Plan) (accepted : Accepted) (a b : List Entry) (k sub lag : ℕ) (tolerance : Tolerance)
+    (arrivals : List (Net × List ℕ)) → IsHandedOver plan accepted a b k sub → IsFitFor lag tolerance
     → AreCarriedOf lag (frames_of (id_at plan k) a) (frames_of (id_at plan k) b) arrivals
     → IsOneEnough sub (received number_in tolerance begin arrivals)
 
 -- And so it is although one network loses, repeats and reorders frames, where the other carries them all and
 -- the next number alone is new to the receiver.
 abbrev pub LegalNeedOneDespite : Type 0
-LegalNeedOneDespite = (plan : Plan) (accepted : Accepted) (a b : List Entry)
-    → IsPlan plan → IsLegal plan accepted a b
-    → (k sub : ℕ) → k < length plan.links → sub < (link_plan_at plan.links k).sub_vls
-    → All (IsAllowed plan k sub) (accepted k sub)
-    → (check : ℕ) (whole : Net) (came : List (Net × ℕ)) → 1 ≤ check
-    → AreClose whole
-    (length (longer (frames_of (id_at plan k) a) (frames_of (id_at plan k) b))) 0 0 came
-    → IsOneEnough sub (received number_in (next_alone check) begin
-    (frames_at (longer (frames_of (id_at plan k) a) (frames_of (id_at plan k) b)) came))
+LegalNeedOneDespite = (plan : Plan) (accepted : Accepted) (a b : List Entry) (k sub check : ℕ) (whole : Net)
+    (came : List (Net × ℕ)) → IsHandedOver plan accepted a b k sub → 1 ≤ check
+    → AreClose whole (length (longer_of (id_at plan k) a b)) 0 0 came
+    → IsOneEnough sub
+    (received number_in (next_alone check) begin (frames_at (longer_of (id_at plan k) a b) came))

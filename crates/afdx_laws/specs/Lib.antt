@@ -1,5 +1,5 @@
+pub mod Rows
 pub mod Policer
-pub mod Spacing
 pub mod WorkedPolicing
 pub mod Receiver
 pub mod Networks
@@ -9,15 +9,11 @@ pub mod Delivery
 pub mod Messages
 pub mod Handed
 pub mod WorkedDelivery
-pub mod Plans
-pub mod AllOnBoth
-pub mod WholeLists
-pub mod WorkedPlan
-pub mod WorkedPair
-pub mod WorkedOrder
 pub mod WorkedLoss
+pub mod Plans
+pub mod WorkedPlan
+pub mod Buffers
+pub mod WorkedOrder
 pub mod Counted
-pub mod WorkedCounts
 pub mod NextFragment
 pub mod WorkedPolled
-pub mod Buffers

@@ -43,12 +43,13 @@ pub record IsLinkOf (end_system room : ℕ) : Type 0 where
   pub least : 25 ≤ room
   pub greatest : room ≤ 1479
 
--- Of a link's stream, a sub-VL's frames are the first fragments of its accepted messages.
-pub record IsSending (end_system room sub : ℕ) (accepted : List Sent) (stream : List (List ℕ)) : Type 0 where
+-- Of a link's stream on a network, a sub-VL's frames are the first fragments of its accepted messages.
+pub record IsSending (end_system room sub : ℕ) (accepted : List Sent) (net : Net) (stream : List (List ℕ))
+    : Type 0 where
   pub link : IsLinkOf end_system room
   pub sent : All (IsSent sub) accepted
   pub frames : IsStream stream
-  pub first : IsPrefixOf (map blanked (those_with sub_in sub stream)) (fragments end_system room A accepted)
+  pub first : IsPrefixOf (map blanked (those_with sub_in sub stream)) (fragments end_system room net accepted)
 
 -- Messages are the first of the accepted ones, in order and each once, and among them are all whose
 -- fragments are in these frames.
@@ -61,9 +62,9 @@ pub record AreFirst (end_system room sub : ℕ) (accepted : List Sent) (frames m
 
 -- The receiver's messages are the first accepted ones, and all whose fragments one network carried.
 abbrev pub MessagesArrive : Type 0
-MessagesArrive = (end_system room sub lag : ℕ) (tolerance : Tolerance) (accepted : List Sent)
+MessagesArrive = (end_system room sub lag : ℕ) (tolerance : Tolerance) (accepted : List Sent) (net : Net)
     (stream : List (List ℕ)) (arrivals : List (Net × List ℕ))
-    → IsSending end_system room sub accepted stream
+    → IsSending end_system room sub accepted net stream
     → IsFitFor lag tolerance → AreCarried lag stream arrivals
     → AreFirst end_system room sub accepted (take (most_carried arrivals) stream)
     (messages_in sub (received number_in tolerance begin arrivals))
@@ -71,9 +72,9 @@ MessagesArrive = (end_system room sub lag : ℕ) (tolerance : Tolerance) (accept
 -- They are so although one network loses, repeats and reorders frames, where the other carries them
 -- all and the next number alone is new to the receiver.
 abbrev pub DespiteLoss : Type 0
-DespiteLoss = (end_system room sub check : ℕ) (whole : Net) (accepted : List Sent)
+DespiteLoss = (end_system room sub check : ℕ) (whole : Net) (accepted : List Sent) (net : Net)
     (stream : List (List ℕ)) (came : List (Net × ℕ))
-    → IsSending end_system room sub accepted stream
+    → IsSending end_system room sub accepted net stream
     → 1 ≤ check → AreClose whole (length stream) 0 0 came
     → AreFirst end_system room sub accepted (take (length (carried whole came)) stream)
     (messages_in sub (received number_in (next_alone check) begin (frames_at stream came)))

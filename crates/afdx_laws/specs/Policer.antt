@@ -1,5 +1,8 @@
 -- The policer of a switch (ARINC 664 Part 7, traffic policing): a token bucket for each virtual link.
-use Rattle.std.specs.Prelude.{◌≡◌, ℕ, ◌+◌, ◌-◌, ◌*◌, ◌≤◌, ◌<◌, min, nat_le, if◌then◌else◌, List, [], ◌∷◌, map, sum_by}
+use Rattle.std.specs.Prelude.{◌≡◌, ℕ, ◌+◌, ◌-◌, ◌*◌, ◌≤◌, ◌<◌, min, nat_le, if◌then◌else◌, None, List, [], ◌∷◌, length, map, sum_by, All}
+use Rattle.std.specs.List.{AllZip}
+use Rattle.redundant_mux.specs.Entry.{Entry}
+use Rattle.afdx_legal.specs.Streams.{IsSpaced}
 
 -- a frame that comes to the switch: the moment in microseconds, and its bytes on the wire
 pub record Arrival : Type 0 where
@@ -81,10 +84,14 @@ AreOnTime rule (first ∷ second ∷ later) = IsOnTime rule first
     × (first.released + rule.gap ≤ second.released)
     × AreOnTime rule (second ∷ later)
 
+-- all of these pass, from a full account on
+abbrev pub AllPass : Charge → Rule → List Passage → Type 0
+AllPass charge rule passages = passed charge rule (full rule) (map arrival passages) ≡ map arrival passages
+
 -- The switch drops none of them.
 abbrev pub NoneDropped : Type 0
 NoneDropped = (charge : Charge) (rule : Rule) (passages : List Passage) → AreOnTime rule passages
-    → passed charge rule (full rule) (map arrival passages) ≡ map arrival passages
+    → AllPass charge rule passages
 
 -- what some frames cost
 abbrev pub cost : Charge → Rule → List Arrival → ℕ
@@ -110,3 +117,26 @@ EarlyDropped = (charge : Charge) (gap lmax a b : ℕ) → 1 ≤ lmax → a ≤ b
     (full (record { gap = gap; lmax = lmax; jitter = 0 }))
     (record { at = a; size = lmax } ∷ record { at = b; size = lmax } ∷ [])
     ≡ record { at = a; size = lmax } ∷ []
+
+-- with its check sequence, a released frame has lmax bytes at most
+abbrev pub IsUpTo : ℕ → Entry → Type 0
+IsUpTo lmax e = length e.frame + 4 ≤ lmax
+
+-- a released frame on its way to a switch: it comes at most the jitter after its release, and takes so
+-- many bytes on the wire beside its own (none, or 20 of preamble, delimiter and gap)
+pub record IsOnItsWay (around jitter : ℕ) (e : Entry) (passage : Passage) : Type 0 where
+  pub released : passage.released ≡ e.at
+  pub size : passage.size ≡ length e.frame + 4 + around
+  pub after : e.at ≤ passage.arrived
+  pub soon : passage.arrived ≤ e.at + jitter
+
+-- what a switch is told where frames take so many bytes on the wire beside their own
+abbrev pub rule_around : (gap lmax jitter around : ℕ) → Rule
+rule_around gap lmax jitter around = record { gap = gap; lmax = lmax + around; jitter = jitter }
+
+-- A switch that polices by the gap, the greatest frame and the jitter drops no frame of a spaced
+-- stream, whatever each is delayed by, up to the jitter.
+abbrev pub StreamPasses : Type 0
+StreamPasses = (charge : Charge) (gap lmax jitter around : ℕ) (stream : List Entry) (passages : List Passage)
+    → IsSpaced gap None stream → All (IsUpTo lmax) stream → AllZip (IsOnItsWay around jitter) stream passages
+    → AllPass charge (rule_around gap lmax jitter around) passages

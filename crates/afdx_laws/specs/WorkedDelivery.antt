@@ -14,6 +14,7 @@ use Rattle.afdx_laws.specs.Networks.{most_carried, IsStream, AreCarried, IsOnce}
 use Rattle.afdx_laws.specs.Loss.{next_alone}
 use Rattle.afdx_laws.specs.Messages.{messages_in, AreFirst, IsSending}
 use Rattle.afdx_laws.specs.Handed.{AreHanded, AreCarriedOf, longer}
+use Rattle.afdx_laws.specs.Rows.{BothFail, NeedsEach}
 use Rattle.afdx_plan.specs.Numbers.{sequence_number}
 use Rattle.afdx_frame.specs.Twin.{twin_of}
 
@@ -43,11 +44,7 @@ both_frames net = front_frame net ∷ back_frame net ∷ []
 
 -- what comes, and in which order
 abbrev pub four_arrivals : List (Net × List ℕ)
-four_arrivals = (A, front_frame A)
-    ∷ (B, front_frame B)
-    ∷ (B, back_frame B)
-    ∷ (A, back_frame A)
-    ∷ []
+four_arrivals = (A, front_frame A) ∷ (B, front_frame B) ∷ (B, back_frame B) ∷ (A, back_frame A) ∷ []
 
 -- network B loses the first frame and is ahead
 abbrev pub three_arrivals : List (Net × List ℕ)
@@ -61,37 +58,29 @@ plain_receiver = next_alone 1
 abbrev pub closed_receiver : Tolerance
 closed_receiver = record { check = 1; window = 0 }
 
--- They meet what the laws of delivery ask for, the receiver accepts A's first frame and B's second,
--- and has the message.
+-- The receiver accepts A's first frame and B's second, and has the message.
 pub record OneMessageArrives : Type 0 where
-  pub handed : AreHanded 1 25 0 one_accepted (both_frames A) (both_frames B)
-  pub fit : IsFitFor 3 plain_receiver
-  pub carry : AreCarriedOf 3 (both_frames A) (both_frames B) four_arrivals
-  pub accepts : received number_in plain_receiver begin four_arrivals
-      ≡ front_frame A ∷ back_frame B ∷ []
+  pub accepts : received number_in plain_receiver begin four_arrivals ≡ front_frame A ∷ back_frame B ∷ []
   pub message : messages_in 0 (received number_in plain_receiver begin four_arrivals) ≡ bytes_41 ∷ []
-  pub first : AreFirst 1 25 0 one_accepted
-      (take (most_carried four_arrivals) (longer (both_frames A) (both_frames B)))
-      (messages_in 0 (received number_in plain_receiver begin four_arrivals))
 
--- what a receiver has of what was handed over is what the law of delivery says
-abbrev pub HandedArrives : List Sent → Tolerance → List (Net × List ℕ) → Type 0
-HandedArrives accepted tolerance arrivals = AreFirst 1 25 0 accepted
-    (take (most_carried arrivals) (longer (both_frames A) (both_frames B)))
+-- what a receiver has of these frames is what the laws of delivery say
+abbrev pub Arrives : List (List ℕ) → List Sent → Tolerance → List (Net × List ℕ) → Type 0
+Arrives frames accepted tolerance arrivals = AreFirst 1 25 0 accepted (take (most_carried arrivals) frames)
     (messages_in 0 (received number_in tolerance begin arrivals))
 
--- Each premise is needed. Where another message was accepted, that one doesn't arrive; where no number is new
--- to the receiver, or network B loses the first frame and is ahead, none does.
-pub record NeedsHanding : Type 0 where
-  pub fit : IsFitFor 3 plain_receiver
-  pub handed : AreHanded 1 25 0 one_accepted (both_frames A) (both_frames B)
-  pub carry : AreCarriedOf 3 (both_frames A) (both_frames B) four_arrivals
-  pub other : AreHanded 1 25 0 other_accepted (both_frames A) (both_frames B) → ⊥
-  pub other_arrives : HandedArrives other_accepted plain_receiver four_arrivals → ⊥
-  pub unfit : IsFitFor 3 closed_receiver → ⊥
-  pub unfit_arrives : HandedArrives one_accepted closed_receiver four_arrivals → ⊥
-  pub lost : AreCarriedOf 3 (both_frames A) (both_frames B) three_arrivals → ⊥
-  pub lost_arrives : HandedArrives one_accepted plain_receiver three_arrivals → ⊥
+-- Of what was handed over, they meet what the law asks for, and each premise is needed. Where another message was
+-- accepted, that one doesn't arrive; where no number is new to the receiver, or network B loses the first frame and
+-- is ahead, none does.
+abbrev pub NeedsHanding : Type 0
+NeedsHanding = NeedsEach (λ (accepted : List Sent). AreHanded 1 25 0 accepted (both_frames A) (both_frames B))
+    (IsFitFor 3) (AreCarriedOf 3 (both_frames A) (both_frames B)) (Arrives (longer (both_frames A) (both_frames B)))
+    one_accepted other_accepted plain_receiver closed_receiver four_arrivals three_arrivals
+
+-- So it is of the stream, of which the same message arrives.
+abbrev pub NeedsAStream : Type 0
+NeedsAStream = NeedsEach (λ (accepted : List Sent). IsSending 1 25 0 accepted A (both_frames A))
+    (IsFitFor 3) (AreCarried 3 (both_frames A)) (Arrives (both_frames A))
+    one_accepted other_accepted plain_receiver closed_receiver four_arrivals three_arrivals
 
 -- frames of network A by their numbers, which come round
 abbrev pub past_255 : List (Net × ℕ)
@@ -111,8 +100,7 @@ pub record AcceptsEachOnce : Type 0 where
   pub fit : IsFitFor 3 plain_receiver
   pub stream : IsStream (both_frames A)
   pub carry : AreCarried 3 (both_frames A) four_arrivals
-  pub once : map (twin_of A) (received number_in plain_receiver begin four_arrivals)
-      ≡ take (most_carried four_arrivals) (map (twin_of A) (both_frames A))
+  pub once : IsOnce plain_receiver (both_frames A) four_arrivals
   pub round : received (λ (n : ℕ). n) plain_receiver begin past_255 ≡ 254 ∷ 255 ∷ 1 ∷ 2 ∷ []
 
 -- a frame of 60 bytes that has a number and nothing else, and such frames
@@ -144,54 +132,25 @@ wide_receiver = record { check = 1; window = 254 }
 
 -- Of two frames that carry one number, the second is taken for a copy.
 pub record NeedsNumbers : Type 0 where
-  pub fit : IsFitFor 3 plain_receiver
-  pub stream : IsStream (bare_stream (0 ∷ 0 ∷ [])) → ⊥
   pub carry : AreCarried 3 (bare_stream (0 ∷ 0 ∷ [])) same_twice
-  pub once : IsOnce plain_receiver (bare_stream (0 ∷ 0 ∷ [])) same_twice → ⊥
+  pub stream : BothFail (IsStream (bare_stream (0 ∷ 0 ∷ [])))
+      (IsOnce plain_receiver (bare_stream (0 ∷ 0 ∷ [])) same_twice)
 
 -- A network that loses the first frame brings the second, and not the first.
 pub record NeedsBeginnings : Type 0 where
-  pub fit : IsFitFor 3 plain_receiver
   pub stream : IsStream (bare_stream (0 ∷ 1 ∷ []))
-  pub carry : AreCarried 3 (bare_stream (0 ∷ 1 ∷ [])) second_alone → ⊥
-  pub once : IsOnce plain_receiver (bare_stream (0 ∷ 1 ∷ [])) second_alone → ⊥
+  pub carry : BothFail (AreCarried 3 (bare_stream (0 ∷ 1 ∷ [])) second_alone)
+      (IsOnce plain_receiver (bare_stream (0 ∷ 1 ∷ [])) second_alone)
 
 -- With a wide window an old frame of a network that is too far behind is accepted again. At a lag of 1 the
 -- receiver is fit and the networks are not near; at a lag of 4 they are near and it is not fit.
 pub record NeedsALag : Type 0 where
   pub stream : IsStream (bare_stream (0 ∷ 1 ∷ 2 ∷ []))
   pub fit : IsFitFor 1 wide_receiver
-  pub far : AreCarried 1 (bare_stream (0 ∷ 1 ∷ 2 ∷ [])) far_behind → ⊥
+  pub far : BothFail (AreCarried 1 (bare_stream (0 ∷ 1 ∷ 2 ∷ [])) far_behind)
+      (IsOnce wide_receiver (bare_stream (0 ∷ 1 ∷ 2 ∷ [])) far_behind)
   pub unfit : IsFitFor 4 wide_receiver → ⊥
   pub carry : AreCarried 4 (bare_stream (0 ∷ 1 ∷ 2 ∷ [])) far_behind
-  pub once : IsOnce wide_receiver (bare_stream (0 ∷ 1 ∷ 2 ∷ [])) far_behind → ⊥
-
--- They are a message's, which arrives.
-pub record StreamArrives : Type 0 where
-  pub sending : IsSending 1 25 0 one_accepted (both_frames A)
-  pub fit : IsFitFor 3 plain_receiver
-  pub carry : AreCarried 3 (both_frames A) four_arrivals
-  pub message : messages_in 0 (received number_in plain_receiver begin four_arrivals) ≡ bytes_41 ∷ []
-  pub first : AreFirst 1 25 0 one_accepted (take (most_carried four_arrivals) (both_frames A))
-      (messages_in 0 (received number_in plain_receiver begin four_arrivals))
-
--- what a receiver has of the worked delivery's stream is what the law of the messages says
-abbrev pub Arrives : List Sent → Tolerance → List (Net × List ℕ) → Type 0
-Arrives accepted tolerance arrivals = AreFirst 1 25 0 accepted (take (most_carried arrivals) (both_frames A))
-    (messages_in 0 (received number_in tolerance begin arrivals))
-
--- Each premise of that law is needed. Where another message was accepted, that one doesn't arrive; where no
--- number is new to the receiver, or network B loses the first frame and is ahead, none does.
-pub record NeedsAStream : Type 0 where
-  pub fit : IsFitFor 3 plain_receiver
-  pub sending : IsSending 1 25 0 one_accepted (both_frames A)
-  pub carry : AreCarried 3 (both_frames A) four_arrivals
-  pub other : IsSending 1 25 0 other_accepted (both_frames A) → ⊥
-  pub other_arrives : Arrives other_accepted plain_receiver four_arrivals → ⊥
-  pub unfit : IsFitFor 3 closed_receiver → ⊥
-  pub unfit_arrives : Arrives one_accepted closed_receiver four_arrivals → ⊥
-  pub lost : AreCarried 3 (both_frames A) three_arrivals → ⊥
-  pub lost_arrives : Arrives one_accepted plain_receiver three_arrivals → ⊥
 
 -- Where network B is 254 frames behind, its second frame is dropped, which A's was accepted for. One
 -- frame more is out of bounds, and it is accepted again.

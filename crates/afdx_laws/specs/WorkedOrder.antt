@@ -1,6 +1,6 @@
 -- A worked reassembly, of pieces of up to 8 bytes: sub-VL 0 sends a datagram of 20 bytes and one of 12,
 -- and sub-VL 1 one of a single byte between them. The last fragment doesn't come. Then the buffers that it needs.
-use Rattle.std.specs.Prelude.{◌≡◌, ℕ, ◌≤◌, true, false, List, [], ◌∷◌, length, map, take, All, Some, None}
+use Rattle.std.specs.Prelude.{◌≡◌, ℕ, ◌≤◌, Bool, true, false, List, [], ◌∷◌, length, map, take, All, Some, None}
 use Rattle.std.specs.List.{range_with_len}
 use Rattle.afdx_frame.specs.Reassembly.{Fragment, empty}
 use Rattle.afdx_legal.specs.Streams.{IsPrefixOf}
@@ -9,19 +9,24 @@ use Rattle.afdx_frame.specs.declared.net.Net.TheVariants.{A, B}
 use Rattle.afdx_frame.specs.Header.{number_in}
 use Rattle.afdx_laws.specs.Receiver.{begin, received}
 use Rattle.afdx_laws.specs.Buffers.{buffers_after, buffers_in, HoldsOne, HasUpTo, IsOneEnough}
+use Rattle.afdx_laws.specs.Rows.{BothFail}
 use Rattle.afdx_laws.specs.WorkedDelivery.{front_frame, back_frame, four_arrivals, plain_receiver}
 
 -- the datagrams of sub-VL 0
 abbrev pub two_datagrams : List (List ℕ)
 two_datagrams = range_with_len 1 20 ∷ range_with_len 21 12 ∷ []
 
--- what comes, each fragment with its identification
+-- a fragment of a datagram of bytes that count up, with its identification
+abbrev pub piece : (key offset : ℕ) → Bool → (first len : ℕ) → ℕ × Fragment
+piece key offset more first len = (key, record { offset = offset; more = more; bytes = range_with_len first len })
+
+-- what comes
 abbrev pub five_fragments : List (ℕ × Fragment)
-five_fragments = (0, record { offset = 0; more = true; bytes = range_with_len 1 8 })
-    ∷ (1, record { offset = 0; more = false; bytes = 7 ∷ [] })
-    ∷ (0, record { offset = 1; more = true; bytes = range_with_len 9 8 })
-    ∷ (0, record { offset = 2; more = false; bytes = range_with_len 17 4 })
-    ∷ (4, record { offset = 0; more = true; bytes = range_with_len 21 8 })
+five_fragments = piece 0 0 true 1 8
+    ∷ piece 1 0 false 7 1
+    ∷ piece 0 1 true 9 8
+    ∷ piece 0 2 false 17 4
+    ∷ piece 4 0 true 21 8
     ∷ []
 
 -- They meet what the law of order asks for. The first datagram is given, and the second, of which a
@@ -36,9 +41,7 @@ pub record FirstIsGiven : Type 0 where
 
 -- the second datagram comes, and of the first nothing
 abbrev pub second_came : List (ℕ × Fragment)
-second_came = (4, record { offset = 0; more = true; bytes = range_with_len 21 8 })
-    ∷ (4, record { offset = 1; more = false; bytes = range_with_len 29 4 })
-    ∷ []
+second_came = piece 4 0 true 21 8 ∷ piece 4 1 false 29 4 ∷ []
 
 -- a datagram of no byte, and one of a byte
 abbrev pub one_without_bytes : List (List ℕ)
@@ -51,27 +54,22 @@ eight_bytes = range_with_len 1 8 ∷ []
 -- Where the first datagram is lost, the second is given and isn't the first. A datagram of no byte has no
 -- fragment, and isn't given. With room for 7 bytes no piece has a byte, and an empty datagram is given.
 pub record NeedsOrder : Type 0 where
-  pub some : All HasByte two_datagrams
-  pub lost : IsPrefixOf (of_sub 0 second_came) (sent_from 8 0 0 two_datagrams) → ⊥
-  pub lost_given : AreGiven 8 0 two_datagrams second_came → ⊥
-  pub none : All HasByte one_without_bytes → ⊥
+  pub lost : BothFail (IsPrefixOf (of_sub 0 second_came) (sent_from 8 0 0 two_datagrams))
+      (AreGiven 8 0 two_datagrams second_came)
+  pub none : BothFail (All HasByte one_without_bytes)
+      (AreGiven 8 0 one_without_bytes (sent_from 8 0 0 one_without_bytes))
   pub none_first : IsPrefixOf (of_sub 0 (sent_from 8 0 0 one_without_bytes)) (sent_from 8 0 0 one_without_bytes)
-  pub none_given : AreGiven 8 0 one_without_bytes (sent_from 8 0 0 one_without_bytes) → ⊥
   pub small_some : All HasByte eight_bytes
   pub small_first : IsPrefixOf (of_sub 0 (sent_from 7 0 0 eight_bytes)) (sent_from 7 0 0 eight_bytes)
-  pub small_given : AreGiven 7 0 eight_bytes (sent_from 7 0 0 eight_bytes) → ⊥
+  pub small : BothFail (8 ≤ 7) (AreGiven 7 0 eight_bytes (sent_from 7 0 0 eight_bytes))
 
 -- the first fragments of two datagrams of sub-VL 0, as no transmitter sends them
 abbrev pub two_begun : List (ℕ × Fragment)
-two_begun = (0, record { offset = 0; more = true; bytes = range_with_len 1 8 })
-    ∷ (4, record { offset = 0; more = true; bytes = range_with_len 21 8 })
-    ∷ []
+two_begun = piece 0 0 true 1 8 ∷ piece 4 0 true 21 8 ∷ []
 
 -- the first two fragments of the first datagram, of 20 bytes
 abbrev pub two_of_three : List (ℕ × Fragment)
-two_of_three = (0, record { offset = 0; more = true; bytes = range_with_len 1 8 })
-    ∷ (0, record { offset = 1; more = true; bytes = range_with_len 9 8 })
-    ∷ []
+two_of_three = piece 0 0 true 1 8 ∷ piece 0 1 true 9 8 ∷ []
 
 -- The second datagram of sub-VL 0 waits for its last fragment, with 8 bytes, and the others gave their
 -- datagrams. Where two datagrams of one sub-VL are begun, one buffer isn't enough.
@@ -87,11 +85,10 @@ pub record HoldsTheSecond : Type 0 where
 pub record NeedsInTurn : Type 0 where
   pub some : All HasByte two_datagrams
   pub size : All (HasUpTo 20) two_datagrams
-  pub begun : IsPrefixOf (of_sub 0 two_begun) (sent_from 8 0 0 two_datagrams) → ⊥
-  pub begun_hold : HoldsOne 0 20 (buffers_after (λ key. empty) two_begun) → ⊥
-  pub small : All (HasUpTo 8) two_datagrams → ⊥
+  pub begun : BothFail (IsPrefixOf (of_sub 0 two_begun) (sent_from 8 0 0 two_datagrams))
+      (HoldsOne 0 20 (buffers_after (λ key. empty) two_begun))
   pub first : IsPrefixOf (of_sub 0 two_of_three) (sent_from 8 0 0 two_datagrams)
-  pub small_hold : HoldsOne 0 8 (buffers_after (λ key. empty) two_of_three) → ⊥
+  pub small : BothFail (All (HasUpTo 8) two_datagrams) (HoldsOne 0 8 (buffers_after (λ key. empty) two_of_three))
 
 -- The first frame of the worked delivery fills a buffer with the 24 bytes of its fragment, and no other
 -- byte. With the second frame the message is given, and the buffer is empty.

@@ -2,29 +2,28 @@
 //! law. Those of a switch stand in `switching`.
 //!
 //! That a receiver works as it is defined in specs/ is a premise of each, and so is that the networks deliver
-//! what is said. None says anything of frames that no network delivers (both, or the one
-//! that a link is on), of a transmitter that begins anew with number 0, of a receiver that starts later than
-//! the stream, or of its timer for frames that come late (SkewMax).
-ghost use Rattle.afdx_laws.specs.AllOnBoth.{AllOnBoth};
-ghost use Rattle.afdx_laws.specs.Counted.{CountsRise};
+//! what is said. None says anything of frames that no network delivers (both, or the one that a link is on), of a
+//! transmitter that begins anew with number 0, of a receiver that starts later than the stream, or of its timer
+//! for late frames (SkewMax). None says when a message comes, but where a time is named.
+//!
+//! Beside a law stand worked rows: `worked`, what it says of a case by computation; and `needed`, or the name of a
+//! premise, that its premises hold there, and cases in which one fails and what the law says with it.
 ghost use Rattle.afdx_legal.specs.WorkedTurns.{TurnsAreTold};
 ghost use Rattle.afdx_laws.specs.Buffers.{OneBuffer, HandedNeedOne, LegalNeedOne, LegalNeedOneDespite};
+ghost use Rattle.afdx_laws.specs.Counted.{CountsRise, CountsTwo};
 ghost use Rattle.afdx_laws.specs.Delivery.{InOrder};
 ghost use Rattle.afdx_laws.specs.Handed.{HandedArrive, HandedDespiteLoss};
 ghost use Rattle.afdx_laws.specs.Loss.{FirstComes, LossMasked, LossNotMasked, MaskedFromFirst, NumbersClash};
 ghost use Rattle.afdx_laws.specs.Messages.{DespiteLoss, MessagesArrive};
 ghost use Rattle.afdx_laws.specs.Networks.{ExactlyOnce};
 ghost use Rattle.afdx_laws.specs.NextFragment.{NextInARound, NextInPlan, NextInTime, NextPolledInTime, LieTwoGapsApart};
-ghost use Rattle.afdx_laws.specs.Plans.{OneNetworkArrives, LegalArrive, LegalDespiteLoss};
+ghost use Rattle.afdx_laws.specs.Plans.{OneNetworkArrives, LegalArrive, LegalDespiteLoss, OwnListsArrive, AllOnBoth};
 ghost use Rattle.afdx_laws.specs.Skew.{SkewIsFit, SkewIsNear, BearsUnder254, ComesInTime};
-ghost use Rattle.afdx_laws.specs.WorkedCounts.{CountsTwo};
 ghost use Rattle.afdx_laws.specs.WorkedOrder.{HoldsTheSecond, NeedsInTurn, HoldsAFrame, FirstIsGiven, NeedsOrder};
-ghost use Rattle.afdx_laws.specs.WorkedDelivery.{OneMessageArrives, NeedsHanding, AcceptsEachOnce, NeedsNumbers, NeedsBeginnings, NeedsALag, StreamArrives, NeedsAStream, ClashesPast254};
-ghost use Rattle.afdx_laws.specs.WorkedLoss.{MasksOneLoss, NeedsTheFirst, BeginsOnBoth, ComesDespiteLoss, NeedsAWholeNetwork, HandedDespiteOneLoss, NeedsOneWhole, LegalDespiteOneLoss};
-ghost use Rattle.afdx_laws.specs.WorkedPlan.{AreTwinsOfOne, ComesFromOne, OneIsLegal, OneIsWhole, NeedsAll};
-ghost use Rattle.afdx_laws.specs.WorkedPair.{NeedsLegal, NeedsClose};
+ghost use Rattle.afdx_laws.specs.WorkedDelivery.{OneMessageArrives, NeedsHanding, AcceptsEachOnce, NeedsNumbers, NeedsBeginnings, NeedsALag, NeedsAStream, ClashesPast254};
+ghost use Rattle.afdx_laws.specs.WorkedLoss.{MasksOneLoss, NeedsTheFirst, BeginsOnBoth, ComesDespiteLoss, NeedsAWholeNetwork, HandedDespiteOneLoss, NeedsOneWhole};
+ghost use Rattle.afdx_laws.specs.WorkedPlan.{AreTwinsOfOne, ComesFromOne, OneIsLegal, NeedsLegal, LegalDespiteOneLoss, NeedsClose, OneIsWhole, NeedsAll};
 ghost use Rattle.afdx_laws.specs.WorkedPolled.{PollsInTime, NeedsInTime};
-ghost use Rattle.afdx_laws.specs.WholeLists.{OwnListsArrive};
 
 /// A receiver accepts each frame of a link exactly once and in order, as far as one of the networks
 /// carried them, from any interleaving of what the two networks carried, as long as none is more
@@ -34,11 +33,7 @@ ghost use Rattle.afdx_laws.specs.WholeLists.{OwnListsArrive};
 /// network that loses a frame and goes on: see `loss_masked`.
 pub fn exactly_once()
     ensures once { ExactlyOnce }
-
-    // two frames from both networks, and numbers that come round
     ensures worked { AcceptsEachOnce }
-
-    // two frames of one number; a network that loses the first; and one that is too far behind
     ensures numbers { NeedsNumbers }
     ensures beginnings { NeedsBeginnings }
     ensures lag { NeedsALag }
@@ -53,11 +48,7 @@ pub fn exactly_once()
 /// frame that the other one loses holds up the receiver until the numbers come round.
 pub fn loss_masked()
     ensures masked { LossMasked }
-
-    // network A loses a frame, and network B carries all
     ensures worked { MasksOneLoss }
-
-    // network A loses the first frame and is ahead: all premises hold but that one, and a frame is lost
     ensures needed { NeedsTheFirst }
 {}
 
@@ -69,10 +60,7 @@ pub fn loss_masked()
 /// network may lose a link's first frame and then be ahead.
 pub fn both_begin()
     ensures close { FirstComes }
-
     ensures masked { MaskedFromFirst }
-
-    // network A begins with the first frame and loses the second; where it loses the first, a frame is lost
     ensures worked { BeginsOnBoth }
 {}
 
@@ -91,8 +79,6 @@ pub fn loss_not_masked()
 /// comes. That a run ends in this state is not proved.
 pub fn numbers_clash()
     ensures clash { NumbersClash }
-
-    // an old frame that is 254 frames late, and one that is 255
     ensures worked { ClashesPast254 }
 {}
 
@@ -100,18 +86,12 @@ pub fn numbers_clash()
 /// 1 + delay / gap frames, so that a receiver's bound on the lag is one on the delay.
 ///
 /// A receiver bears them just where the delay is under 255 less its window gaps: under 254 gaps where the
-/// next number alone is new, and under 253 where the next two are.
-///
-/// That each network delivers all frames in order, and none before its release, are premises.
+/// next number alone is new, and under 253 where the next two are. That each network delivers all frames in
+/// order, and none before its release, are premises.
 pub fn skew_is_near()
     ensures near { SkewIsNear }
-
     ensures fit { SkewIsFit }
-
-    // a frame that comes from both networks
     ensures worked { ComesInTime }
-
-    // a delay of a microsecond under 254 gaps, and one of 254
     ensures longest { BearsUnder254 }
 {}
 
@@ -122,11 +102,7 @@ pub fn skew_is_near()
 /// Nothing is said of fragments of one sub-VL that come out of order.
 pub fn in_order()
     ensures ordered { InOrder }
-
-    // two datagrams, of which one comes whole, and another sub-VL's between them
     ensures worked { FirstIsGiven }
-
-    // the second datagram alone; a datagram of no byte; and room for 7 bytes
     ensures needed { NeedsOrder }
 {}
 
@@ -134,14 +110,10 @@ pub fn in_order()
 /// in order, and all whose fragments one of the networks carried.
 ///
 /// The premises are those of `exactly_once`, and that the link's frames of this sub-VL are the first
-/// fragments of its accepted messages. It doesn't say when a message comes.
+/// fragments of its accepted messages.
 pub fn messages_arrive()
     ensures arrive { MessagesArrive }
-
-    // a message of two frames
-    ensures worked { StreamArrives }
-
-    // another message; a receiver for which no number is new; and a network that loses the first frame
+    ensures worked { OneMessageArrives }
     ensures needed { NeedsAStream }
 {}
 
@@ -152,44 +124,28 @@ pub fn messages_arrive()
 /// `loss_masked` doesn't say isn't said here.
 pub fn despite_loss()
     ensures arrive { DespiteLoss }
-
-    // network A repeats a message's first frame and loses its second
     ensures worked { ComesDespiteLoss }
-
-    // another message; network A loses the first frame and is ahead; and a check that takes no number but 0
     ensures needed { NeedsAWholeNetwork }
 {}
 
-/// A receiver's messages of a sub-VL are the first accepted ones, by what was handed to the two networks
-/// over a link: two lists, twins as far as both go, numbered, and of the sub-VL the first fragments of its
-/// accepted messages. Of a link on one network the other list is empty.
+/// The same as `messages_arrive`, by what was handed to the two networks over a link: two lists, twins as far as
+/// both go, numbered, and of the sub-VL the first fragments of its accepted messages. Of a link on one network the
+/// other list is empty.
 ///
 /// It reads identification, offset, flags, total length and number of each frame. That its addresses,
 /// its ports and its checksum are right, other laws say (`afdx_frame::laws::each_frame_says`).
 pub fn handed_arrive()
     ensures arrive { HandedArrive }
-
-    // a message of two frames
     ensures worked { OneMessageArrives }
-
-    // another message; a receiver for which no number is new; and a network that loses the first frame
     ensures needed { NeedsHanding }
 {}
 
-/// A receiver's messages of a sub-VL are the first accepted ones, by what was handed to the two networks
-/// over a link, although one of them loses, repeats and reorders frames, where the other carries all of
-/// them and the next number alone is new to the receiver.
+/// The same as `despite_loss`, by what was handed to the two networks over a link.
 ///
-/// It speaks of a link on both networks: the one makes good what the other loses. The stream's first frame
-/// comes before all others (`first` in `AreClose`, see `both_begin`). What `loss_masked` doesn't say isn't
-/// said here.
+/// It speaks of a link on both networks: the one makes good what the other loses.
 pub fn handed_despite_loss()
     ensures arrive { HandedDespiteLoss }
-
-    // network A repeats a message's first frame and loses its second
     ensures worked { HandedDespiteOneLoss }
-
-    // another message; network A loses the first frame and is ahead; and a check that takes no number but 0
     ensures needed { NeedsOneWhole }
 {}
 
@@ -202,21 +158,14 @@ pub fn handed_despite_loss()
 /// that the two are near are premises, and that accepted messages are such as a port accepts
 /// (`TxPort::send` of afdx_tx). It speaks of every link: of one on one network alone nothing comes from the
 /// other network, and then `one_network_arrives` says it without the two being near.
-/// It doesn't say when a message comes.
 pub fn legal_arrive()
     ensures arrive { LegalArrive }
-
-    // the demonstration configuration, with one message
     ensures worked { OneIsLegal }
-
-    // two messages, accepted in another order; a receiver for which no number is new; and a network that loses
-    // the first frame
     ensures needed { NeedsLegal }
 {}
 
-/// For each link and sub-VL of a valid plan: from what was handed over legally, the receiver's messages are
-/// the first accepted ones although one network loses, repeats and reorders frames, where the other carries
-/// all frames of the link and the next number alone is new to the receiver.
+/// The same although one network loses, repeats and reorders frames, where the other carries all frames of the
+/// link and the next number alone is new to the receiver.
 ///
 /// Of a link on one network that one is the network that carries all, and nothing comes from the other: there
 /// it says no more than `one_network_arrives`, since nothing makes good what that network loses. The stream's
@@ -224,12 +173,7 @@ pub fn legal_arrive()
 /// say isn't said here.
 pub fn legal_despite_loss()
     ensures arrive { LegalDespiteLoss }
-
-    // the demonstration configuration, with one message that network A loses
     ensures worked { LegalDespiteOneLoss }
-
-    // two messages, accepted in another order; network A loses the first frame and is ahead; and a check that
-    // takes no number but 0
     ensures needed { NeedsClose }
 {}
 
@@ -244,11 +188,7 @@ pub fn legal_despite_loss()
 /// speaks of every link as that does: of a link on one network it is that network that carried all.
 pub fn own_lists_arrive()
     ensures arrive { OwnListsArrive }
-
-    // the demonstration configuration, with one message
     ensures worked { OneIsWhole }
-
-    // another list than the port's own; and a frame that both networks lose
     ensures needed { NeedsAll }
 {}
 
@@ -258,12 +198,9 @@ pub fn own_lists_arrive()
 ///
 /// That the network carries a beginning of the link's frames, in order, is a premise. How near two networks
 /// are is none: the other one was handed no frame of the link. Nothing is said of a network that loses a
-/// frame and goes on, since no other makes it good. It doesn't say when a message comes.
+/// frame and goes on, since no other makes it good.
 pub fn one_network_arrives()
     ensures arrive { OneNetworkArrives }
-
-    // the demonstration configuration, its link on network A alone, with one message; one whose first frame
-    // is lost doesn't come
     ensures worked { ComesFromOne }
 {}
 
@@ -275,8 +212,6 @@ pub fn one_network_arrives()
 /// and have fewer frames of a link.
 pub fn all_on_both()
     ensures twins { AllOnBoth }
-
-    // the demonstration configuration; with its link on network A alone, nothing is left of the list
     ensures worked { AreTwinsOfOne }
 {}
 
@@ -287,8 +222,6 @@ pub fn all_on_both()
 /// number of 64 bits once it is there.
 pub fn counts_rise()
     ensures rise { CountsRise }
-
-    // a message in two frames, counted with the second; and moments that go back
     ensures worked { CountsTwo }
 {}
 
@@ -305,14 +238,8 @@ pub fn next_fragment()
     ensures time { NextInTime }
     ensures polled { NextPolledInTime }
     ensures plan { NextInPlan }
-
-    // three streams of two sub-VLs, of which one doesn't take turns
     ensures told { TurnsAreTold }
-
-    // two fragments that lie as far apart as they may
     ensures worked { LieTwoGapsApart }
-
-    // six polls that release the fragment in time; and without each premise, polls that don't
     ensures in_time { PollsInTime }
     ensures needed { NeedsInTime }
 {}
@@ -330,13 +257,7 @@ pub fn one_buffer()
     ensures handed { HandedNeedOne }
     ensures legal { LegalNeedOne }
     ensures despite { LegalNeedOneDespite }
-
-    // of two datagrams of a sub-VL one is held, with 8 bytes, while the other was given
     ensures worked { HoldsTheSecond }
-
-    // two datagrams that are begun at once, and a buffer that is smaller than a datagram
     ensures needed { NeedsInTurn }
-
-    // a frame of a message of two
     ensures frame { HoldsAFrame }
 {}

@@ -1,23 +1,17 @@
-//! Laws of a switch that polices links. Their functions do nothing: the contract is the law.
+//! Laws of a switch that polices links. Their functions do nothing: the contract is the law, and worked rows beside it.
 //!
 //! That a switch works as it is defined in specs/ is a premise of each, and so is that frames are delayed by no
 //! more than is said. None says anything of the queues of the switch.
 ghost use Rattle.afdx_laws.specs.Plans.{LegalPasses};
-ghost use Rattle.afdx_laws.specs.Policer.{EarlyDropped, NoMorePasses, NoneDropped};
-ghost use Rattle.afdx_laws.specs.Spacing.{StreamPasses};
-ghost use Rattle.afdx_laws.specs.WorkedPair.{PassesAGapApart};
+ghost use Rattle.afdx_laws.specs.Policer.{EarlyDropped, NoMorePasses, NoneDropped, StreamPasses};
+ghost use Rattle.afdx_laws.specs.WorkedPlan.{PassesAGapApart};
 ghost use Rattle.afdx_laws.specs.WorkedPolicing.{PolicesThree, SpendsAll, NeedsRisingMoments, DropsTheEarly, PassesTwo, NeedsTheGap, NeedsTheGreatest, NeedsTheJitter};
 
 /// A switch that polices a link by its gap, its greatest frame and a jitter, by bytes or by frames,
 /// drops no frame of a link that keeps its gap, whatever each frame is delayed by on its way, up to
-/// the jitter.
-///
-/// One link alone. That frames are delayed by no more is a premise. Nothing is said of the queues of
-/// the switch.
+/// the jitter. One link alone.
 pub fn none_dropped()
     ensures passed { NoneDropped }
-
-    // three frames, one of them late, and three of which the last comes too early
     ensures worked { PolicesThree }
 {}
 
@@ -28,11 +22,7 @@ pub fn none_dropped()
 /// which frames pass.
 pub fn no_more_passes()
     ensures paid { NoMorePasses }
-
-    // four greatest frames, one of them too early: the others spend all
     ensures worked { SpendsAll }
-
-    // moments that go back and forth: more passes
     ensures needed { NeedsRisingMoments }
 {}
 
@@ -41,8 +31,6 @@ pub fn no_more_passes()
 /// It says nothing of smaller frames: charged by their bytes, two of them may pass at once.
 pub fn early_dropped()
     ensures dropped { EarlyDropped }
-
-    // two greatest frames, a microsecond less than the gap apart, and a gap apart
     ensures worked { DropsTheEarly }
 {}
 
@@ -52,11 +40,7 @@ pub fn early_dropped()
 /// That the frames are no greater than Lmax and delayed by no more than the jitter are premises.
 pub fn stream_passes()
     ensures passes { StreamPasses }
-
-    // two frames, of which one is late
     ensures worked { PassesTwo }
-
-    // two frames half a gap apart; two that are greater than the switch allows; and one that is too late
     ensures gap { NeedsTheGap }
     ensures greatest { NeedsTheGreatest }
     ensures jitter { NeedsTheJitter }
@@ -65,11 +49,7 @@ pub fn stream_passes()
 /// For each link of a valid plan, on both networks or on one: of what was handed over legally to a network,
 /// a switch that polices the link by its gap and its greatest frame drops none, whatever each frame is
 /// delayed by on its way, up to the jitter that the switch allows.
-///
-/// That the delay stays below the jitter is a premise, and nothing is said of the queues of the switch.
 pub fn legal_passes()
     ensures passes { LegalPasses }
-
-    // two frames a gap apart; a microsecond less apart; and one that is late
     ensures worked { PassesAGapApart }
 {}

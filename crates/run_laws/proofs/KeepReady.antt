@@ -15,14 +15,11 @@ use Rattle.afdx_tx.specs.Run.{IsRun, IsTurnAt}
 use Rattle.afdx_tx.specs.Closing.{ClosesTx}
 use Rattle.afdx_tx.specs.Publishing.{Publishes}
 use Rattle.afdx_tx.proofs.ClosedEmitter.{ClosedSub, ClosedLinks, closes_links}
-use Rattle.run_laws.specs.Runs.{IsPlanned, IsReady, KeptReady}
-use Rattle.run_laws.proofs.PollStep.{IsReadyFor}
+use Rattle.run_laws.specs.Runs.{IsPlanned, IsReadyFor, IsReady, KeptReady}
 
 -- ready for a plan that is its own
 by_own : (plan : Plan) (tx : Tx) → tx.plan ≡ plan → IsReadyFor plan tx → IsReady tx
-by_own plan tx of ready =
-    let own : IsReadyFor tx.plan tx = subst (λ (p : Plan). IsReadyFor p tx) (sym of) ready in
-    record { count = own.count; links = own.links; allowed = own.allowed }
+by_own plan tx of ready = subst (λ (p : Plan). IsReadyFor p tx) (sym of) ready
 
 -- a sub-VL that was just opened took nothing
 opened_taken : (own : SubVl) (ports : List PortPlan) (senders : ℕ) (held : Held) → IsOpenedSub own ports senders held

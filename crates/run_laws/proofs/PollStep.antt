@@ -32,13 +32,13 @@ use Rattle.vl_link.specs.Kept.{IsLinkTied}
 use Rattle.vl_link.proofs.MessageEnds.{IsShort, not_begun}
 use Rattle.vl_link.proofs.TurnLaws.{turn_endures, turns_endure}
 use Rattle.afdx_legal.specs.Legal.{Accepted}
-use Rattle.afdx_legal.specs.Allowed.{IsAllowed, AreAllowed}
+use Rattle.afdx_legal.specs.Allowed.{IsAllowed}
 use Rattle.afdx_legal.specs.Done.{IsReleased}
 use Rattle.afdx_tx.specs.Emitter.{Tx, taken_in}
 use Rattle.afdx_tx.specs.Run.{IsTurnAt}
 use Rattle.afdx_tx.specs.Drain.{DrainsAt, accepted_view, pace_in}
 use Rattle.afdx_tx.specs.DrainEnds.{stream_at}
-use Rattle.run_laws.specs.Runs.{IsPlanned, IsReady, EmitterPolls, DrainPolls}
+use Rattle.run_laws.specs.Runs.{IsPlanned, IsReadyFor, EmitterPolls, DrainPolls}
 
 -- what a poll adds to a stream, by the sub-VL of which it released a frame, if of any
 abbrev pub Adds : ℕ → Option ℕ → (S T : List Entry) → Type 0
@@ -257,16 +257,6 @@ planned_endures now links news j lines after did t =
     (link_stream (link_at links j).plan.id.0 (log lines)))
     (held_view (link_at links j).subs (link_at news j).subs) lines after did t.serves
 
--- an emitter is ready, by its plan
-pub record IsReadyFor (plan : Plan) (tx : Tx) : Type 0 where
-  pub count : length tx.links ≡ length plan.links
-  pub links : (j : ℕ) → j < length plan.links → IsPlanned plan tx.links j
-  pub allowed : AreAllowed plan (taken_in tx.links)
-
-ready_for : (plan : Plan) (tx : Tx) → tx.plan ≡ plan → IsReady tx → IsReadyFor plan tx
-ready_for plan tx of ready = subst (λ (p : Plan). IsReadyFor p tx) of
-    (record { count = ready.count; links = ready.links; allowed = ready.allowed })
-
 -- the turns of a poll of an emitter
 emitter_seen : (now : ℕ) (plan : Plan) (old new : Tx) (k x : ℕ) → IsPlan plan → k < length plan.links
     → ((j : ℕ) → j < length plan.links → IsPlanned plan old.links j)
@@ -291,7 +281,7 @@ emitter_seen now plan old new k x valid inside own few = record {
 pub emitter_step : (now : ℕ) (plan : Plan) (k x : ℕ) (lines after : Lines) → IsPlan plan → k < length plan.links
     → EmitterPolls plan now lines after → StandsAt plan k after → StepsAt now plan k x lines after
 emitter_step now plan k x lines after valid inside p stands =
-    let ready : IsReadyFor plan p.old = ready_for plan p.old p.of p.ready in
+    let ready : IsReadyFor plan p.old = subst (λ (own : Plan). IsReadyFor own p.old) p.of p.ready in
     let here : AreTurns (IsTurnAt now p.old.links p.new.links) 0 (length plan.links) lines after =
     rw (ready.count, p.before, p.afterwards) at p.run.turns in
     turns_step now plan k x (length plan.links) (IsTurnAt now p.old.links p.new.links) 0 (length plan.links) lines after

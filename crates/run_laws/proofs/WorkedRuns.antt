@@ -1,10 +1,10 @@
 -- The worked run, by computation.
 use Rattle.std.proofs.Common.{◌≡◌, ℕ, ◌+◌, ◌≤◌, ◌⊎◌, List, [], ◌∷◌, ◌++◌, length, Bool, true, false, ◌&&◌, refl, ap, sym, ◌∙◌, arith, inl, inr, Some}
-use Rattle.std.proofs.lemmas.Bool.{both_ways, false≢true}
+use Rattle.std.proofs.lemmas.Bool.{false≢true}
 use Rattle.std.proofs.lemmas.List.{length-append}
 use Rattle.std.proofs.lemmas.List.Elements.{All-from_recursion}
 use Rattle.afdx_plan.specs.declared.networks.Networks.TheVariants.{Both}
-use Rattle.afdx_frame.specs.declared.net.Net.TheVariants.{A, B}
+use Rattle.afdx_frame.specs.declared.net.Net.TheVariants.{A}
 use Rattle.afdx_frame.specs.Checksum.{checksum}
 use Rattle.afdx_frame.specs.Cutting.{cutting}
 use Rattle.afdx_frame.specs.Fragments.{fragments_at, blanked}
@@ -19,9 +19,9 @@ use Rattle.vl_link.specs.declared.served.Served.TheVariants.{Nothing, Released, 
 use Rattle.afdx_tx.specs.Drain.{Drains}
 use Rattle.afdx_tx.specs.DrainEnds.{stream_at}
 use Rattle.afdx_laws.specs.NextFragment.{link_wait}
-use Rattle.afdx_laws.specs.WorkedDelivery.{front_frame, back_frame}
+use Rattle.afdx_laws.specs.WorkedDelivery.{back_frame}
 use Rattle.run_laws.specs.Runs.{EmitterPolls, DrainPolls, AreRuns}
-use Rattle.run_laws.specs.NextInRun.{ComeWithin, ComesBy}
+use Rattle.run_laws.specs.NextInRun.{ComesBy}
 use Rattle.run_laws.specs.WorkedRun.{both_at, lost_line, NeedsARun, small_link, small_plan, message_accepted, front_line, both_lines, front_entry, ComesInRun}
 use Rattle.afdx_laws.proofs.ListLemmas.{cons_parts, below_one, below_both}
 use Rattle.afdx_laws.proofs.WorkedDemo.{demo_with_valid}
@@ -42,7 +42,25 @@ released : IsReleased 1 small_link (message_accepted 0) (log both_lines) 0
 unfolding log checksum addresses header_front internet_header link_header udp_header datagram unnumbered cutting fragments_at
 released = refl
 
--- the first that may release a frame hands it over
+-- a network that takes a frame stays up
+takes : (old new : List Entry) → Endures true true old new 0 0
+takes old new = record {
+  stays = ((λ up. (refl, refl)), (λ both. refl));
+  least = omega arith;
+  most = omega arith;
+  down = λ (no : true ≡ false). cc;
+}
+
+-- one that fails is down
+fails : (handed : List Entry) → Endures true false handed handed 0 1
+fails handed = record {
+  stays = ((λ up. absurd (false≢true up)), (λ both. let same = both.1 in absurd (omega arith)));
+  least = omega arith;
+  most = omega arith;
+  down = λ (no : true ≡ false). cc;
+}
+
+-- the first poll that may release a frame hands it over
 back_turn : (now : ℕ) → is_due 1000 (Some (record { at = 0; sub = 0 })) now ≡ true
     → Drains now 1 small_link (message_accepted 0) front_line (both_at now) (Released 0 1)
 unfolding log checksum addresses header_front internet_header link_header udp_header datagram unnumbered
@@ -68,37 +86,24 @@ back_turn now due = (
     };
     enters = refl;
     stands = refl;
-    endure = record {
-      a = record { stays = ((λ up. (refl, refl)), (λ both. refl)); least = omega arith; most = omega arith; down = λ (no : true ≡ false). cc };
-      b = record { stays = ((λ up. (refl, refl)), (λ both. refl)); least = omega arith; most = omega arith; down = λ (no : true ≡ false). cc };
-    };
+    endure = record { a = takes _ _; b = takes _ _ };
   },
 )
-
--- a network that fails is down
-fails : (handed : List Entry) → Endures true false handed handed 0 1
-fails handed = record {
-  stays = ((λ up. absurd (false≢true up)), (λ both. let same = both.1 in absurd (omega arith)));
-  least = omega arith;
-  most = omega arith;
-  down = λ no. absurd (both_ways true no refl);
-}
 
 -- or both networks fail with it
 lost_turn : Drains 1000 1 small_link (message_accepted 0) front_line lost_line Lost
 unfolding log checksum addresses header_front internet_header link_header udp_header datagram unnumbered
-lost_turn =
-    let turn = (back_turn 1000 refl).2 in (
-      refl,
-      record {
-        sub = 0;
-        frame = turn.frame;
-        choice = turn.choice;
-        same = refl;
-        down = refl;
-        endure = record { a = fails (entry 0 (front_frame A) ∷ []); b = fails (entry 0 (front_frame B) ∷ []) };
-      },
-    )
+lost_turn = (
+  refl,
+  record {
+    sub = 0;
+    frame = back_frame A;
+    choice = (back_turn 1000 refl).2.choice;
+    same = refl;
+    down = refl;
+    endure = record { a = fails _; b = fails _ };
+  },
+)
 
 -- and then nothing is sent
 down_turn : Drains 2000 1 small_link (message_accepted 0) lost_line lost_line Nothing
@@ -155,10 +160,6 @@ comes_when now bound stream is comes =
     let soon = comes.soon in
     omega arith
 
--- two polls come in time
-in_time : ComeWithin 1000 0 (1000 ∷ 2000 ∷ [])
-in_time = (omega arith, omega arith, (omega arith, omega arith, tt))
-
 -- the row
 pub comes_in_run : ComesInRun
 unfolding log checksum addresses header_front internet_header link_header udp_header datagram unnumbered
@@ -167,38 +168,45 @@ comes_in_run = record {
   ends = refl;
   more = refl;
   below = omega arith;
-  runs = two_polls;
-  up = refl;
-  come = in_time;
-  reach = omega arith;
-  next = (next_in_run_holds small_plan (1000 ∷ 2000 ∷ []) front_line both_lines 0 1000 [] front_entry
-      (demo_with_valid Both 64 (omega arith) (omega arith)) (omega arith) refl refl (omega arith) two_polls refl in_time
-      (omega arith)).0;
+  run = record {
+    runs = two_polls;
+    is_up = refl;
+    comes = omega arith;
+    reaches = omega arith;
+    next = (next_in_run_holds small_plan (1000 ∷ 2000 ∷ []) front_line both_lines 0 1000 [] front_entry
+        (demo_with_valid Both 64 (omega arith) (omega arith)) (omega arith) refl refl (omega arith) two_polls refl
+        (omega arith) (omega arith)).0;
+  };
 }
 
 -- the row of runs that don't bring it
 pub needs_a_run : NeedsARun
 unfolding log checksum addresses header_front internet_header link_header udp_header datagram unnumbered
 needs_a_run = record {
-  none = refl;
-  none_up = refl;
-  none_come = tt;
-  none_reach = λ reach. let no : 2000 ≤ 0 = reach in absurd (omega arith);
-  none_next = alone (0 + link_wait 1000 small_link) (stream_at small_plan 0 front_line) refl;
-  late = (both_at 5000, a_poll 5000 front_line (both_at 5000) (Released 0 1) (back_turn 5000 refl), refl);
-  late_up = refl;
-  late_come = λ come. let no : 5000 ≤ 1000 = come.1 in absurd (omega arith);
-  late_reach = omega arith;
-  late_next = λ comes. let no : 5000 ≤ 2000 =
-      comes_when 5000 (0 + link_wait 1000 small_link) (stream_at small_plan 0 (both_at 5000)) refl comes in
-      absurd (omega arith);
-  lost = (
-    lost_line,
-    a_poll 1000 front_line lost_line Lost lost_turn,
-    (lost_line, a_poll 2000 lost_line lost_line Nothing down_turn, refl),
-  );
-  lost_up = λ up. absurd (false≢true up);
-  lost_come = in_time;
-  lost_reach = omega arith;
-  lost_next = alone (0 + link_wait 1000 small_link) (stream_at small_plan 0 lost_line) refl;
+  none = record {
+    runs = refl;
+    is_up = refl;
+    comes = tt;
+    reaches = omega arith;
+    next = alone (0 + link_wait 1000 small_link) (stream_at small_plan 0 front_line) refl;
+  };
+  late = record {
+    runs = (both_at 5000, a_poll 5000 front_line (both_at 5000) (Released 0 1) (back_turn 5000 refl), refl);
+    is_up = refl;
+    comes = omega arith;
+    reaches = omega arith;
+    next = λ comes. let no = comes_when 5000 (0 + link_wait 1000 small_link) (stream_at small_plan 0 (both_at 5000)) refl comes in
+        omega arith;
+  };
+  lost = record {
+    runs = (
+      lost_line,
+      a_poll 1000 front_line lost_line Lost lost_turn,
+      (lost_line, a_poll 2000 lost_line lost_line Nothing down_turn, refl),
+    );
+    is_up = λ up. false≢true up;
+    comes = omega arith;
+    reaches = omega arith;
+    next = alone (0 + link_wait 1000 small_link) (stream_at small_plan 0 lost_line) refl;
+  };
 }

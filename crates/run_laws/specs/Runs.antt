@@ -18,11 +18,14 @@ pub record IsPlanned (plan : Plan) (links : List LinkState) (k : ℕ) : Type 0 w
   pub gap : (link_at links k).pace.gap ≡ bag_micros (link_plan_at plan.links k).bag
   pub sub_vls : (link_at links k).pace.sub_vls ≡ (link_plan_at plan.links k).sub_vls
 
--- An emitter has its plan's links, and took such messages as its ports may send.
-pub record IsReady (tx : Tx) : Type 0 where
-  pub count : length tx.links ≡ length tx.plan.links
-  pub links : (k : ℕ) → k < length tx.plan.links → IsPlanned tx.plan tx.links k
-  pub allowed : AreAllowed tx.plan (taken_in tx.links)
+-- An emitter has the links of a plan, and took such messages as its ports may send: its own plan, where it is ready.
+pub record IsReadyFor (plan : Plan) (tx : Tx) : Type 0 where
+  pub count : length tx.links ≡ length plan.links
+  pub links : (k : ℕ) → k < length plan.links → IsPlanned plan tx.links k
+  pub allowed : AreAllowed plan (taken_in tx.links)
+
+abbrev pub IsReady : Tx → Type 0
+IsReady tx = IsReadyFor tx.plan tx
 
 -- `open_tx` makes a ready emitter, and polls, closes and publishing leave it one.
 pub record KeptReady : Type 0 where

@@ -1,6 +1,6 @@
 -- A worked run: over the demonstration configuration with frames of up to 64 bytes, a message of two fragments is
 -- accepted, and its first frame is transmitted at time 0. Two polls of a drain follow, a gap apart.
-use Rattle.std.specs.Prelude.{false, ℕ, ◌≡◌, ◌+◌, ◌≤◌, ◌<◌, true, [], ◌∷◌}
+use Rattle.std.specs.Prelude.{Bool, true, false, ◌&&◌, ℕ, ◌≡◌, ◌+◌, ◌≤◌, ◌<◌, List, [], ◌∷◌}
 use Rattle.afdx_plan.specs.Config.{Plan, IsPlan, link_plan_at}
 use Rattle.afdx_plan.specs.Demo.{demo_plan, demo_link}
 use Rattle.afdx_plan.specs.declared.link_plan.LinkPlan.{LinkPlan}
@@ -14,6 +14,7 @@ use Rattle.afdx_legal.specs.Legal.{Accepted}
 use Rattle.afdx_legal.specs.Turns.{more_in}
 use Rattle.afdx_tx.specs.DrainEnds.{stream_at}
 use Rattle.afdx_laws.specs.NextFragment.{link_wait}
+use Rattle.afdx_laws.specs.Rows.{Holds}
 use Rattle.afdx_laws.specs.WorkedDelivery.{one_accepted, front_frame, back_frame}
 use Rattle.run_laws.specs.Runs.{AreRuns}
 use Rattle.run_laws.specs.NextInRun.{ComeWithin, latest_of, ComesBy}
@@ -57,9 +58,14 @@ front_entry = entry 0 (front_frame A)
 abbrev pub Comes : Lines → Type 0
 Comes lines = ComesBy (stream_at small_plan 0 lines) front_entry (0 + link_wait 1000 small_link)
 
--- a network that carries the link is up
-abbrev pub IsUp : Lines → Type 0
-IsUp lines = stands_for (link_plan_at small_plan.links 0).networks lines ≡ true
+-- The law for a run of polls at these times: each premise that is told as true holds, and another fails; and the second
+-- fragment is released by the bound just if all hold.
+pub record RunCase (moments : List ℕ) (lines : Lines) (up come reach : Bool) : Type 0 where
+  pub runs : AreRuns small_plan moments front_line lines
+  pub is_up : Holds up (stands_for (link_plan_at small_plan.links 0).networks lines ≡ true)
+  pub comes : Holds come (ComeWithin 1000 0 moments)
+  pub reaches : Holds reach (0 + link_wait 1000 small_link ≤ latest_of 0 moments)
+  pub next : Holds (up && come && reach) (Comes lines)
 
 -- The run meets what the law asks for, and the second fragment is released at 1,000.
 pub record ComesInRun : Type 0 where
@@ -67,27 +73,11 @@ pub record ComesInRun : Type 0 where
   pub ends : stream_at small_plan 0 front_line ≡ front_entry ∷ []
   pub more : more_in (front_frame A) ≡ true
   pub below : sub_in (front_frame A) < small_link.sub_vls
-  pub runs : AreRuns small_plan (1000 ∷ 2000 ∷ []) front_line both_lines
-  pub up : IsUp both_lines
-  pub come : ComeWithin 1000 0 (1000 ∷ 2000 ∷ [])
-  pub reach : 0 + link_wait 1000 small_link ≤ latest_of 0 (1000 ∷ 2000 ∷ [])
-  pub next : Comes both_lines
+  pub run : RunCase (1000 ∷ 2000 ∷ []) both_lines true true true
 
 -- Each premise is needed. Without a poll the bound isn't reached, and the second fragment doesn't come. A poll that
 -- is late releases it after the bound. If both networks fail with its frame, it never comes.
 pub record NeedsARun : Type 0 where
-  pub none : AreRuns small_plan [] front_line front_line
-  pub none_up : IsUp front_line
-  pub none_come : ComeWithin 1000 0 []
-  pub none_reach : 0 + link_wait 1000 small_link ≤ latest_of 0 [] → ⊥
-  pub none_next : Comes front_line → ⊥
-  pub late : AreRuns small_plan (5000 ∷ []) front_line (both_at 5000)
-  pub late_up : IsUp (both_at 5000)
-  pub late_come : ComeWithin 1000 0 (5000 ∷ []) → ⊥
-  pub late_reach : 0 + link_wait 1000 small_link ≤ latest_of 0 (5000 ∷ [])
-  pub late_next : Comes (both_at 5000) → ⊥
-  pub lost : AreRuns small_plan (1000 ∷ 2000 ∷ []) front_line lost_line
-  pub lost_up : IsUp lost_line → ⊥
-  pub lost_come : ComeWithin 1000 0 (1000 ∷ 2000 ∷ [])
-  pub lost_reach : 0 + link_wait 1000 small_link ≤ latest_of 0 (1000 ∷ 2000 ∷ [])
-  pub lost_next : Comes lost_line → ⊥
+  pub none : RunCase [] front_line true true false
+  pub late : RunCase (5000 ∷ []) (both_at 5000) true false true
+  pub lost : RunCase (1000 ∷ 2000 ∷ []) lost_line false true true

@@ -1,5 +1,5 @@
 use Rattle.afdx_laws.proofs.Losing.{first_comes_holds, masked_from_first_holds}
-use Rattle.afdx_laws.proofs.WorkedLosses.{begins_on_both}
+use Rattle.afdx_laws.proofs.WorkedMessage.{begins_on_both}
 use Rattle.afdx_laws.proofs.laws.both_begin.Goals as goal
 
 pub returns : goal.returns

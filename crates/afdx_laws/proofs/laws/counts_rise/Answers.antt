@@ -1,6 +1,23 @@
+use Rattle.std.proofs.Common.{refl, arith}
+use Rattle.afdx_frame.specs.Checksum.{checksum}
+use Rattle.afdx_frame.specs.Frame.{addresses, header_front, internet_header, link_header, udp_header, datagram, unnumbered}
 use Rattle.afdx_legal.proofs.CountingLemmas.{counts_more}
-use Rattle.afdx_laws.proofs.WorkedCounts.{counts_two}
+use Rattle.afdx_laws.specs.Counted.{CountsTwo}
 use Rattle.afdx_laws.proofs.laws.counts_rise.Goals as goal
+
+-- the worked counts, by computation
+counts_two : CountsTwo
+unfolding checksum addresses header_front internet_header link_header udp_header datagram unnumbered
+counts_two = record {
+  nothing = refl;
+  first = refl;
+  both = refl;
+  spaced = omega arith;
+  rise = omega arith;
+  whole = refl;
+  back = refl;
+  at_most = refl;
+}
 
 pub returns : goal.returns
 returns c = record { rise = counts_more; worked = counts_two }

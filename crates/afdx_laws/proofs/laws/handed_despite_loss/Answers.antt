@@ -1,10 +1,10 @@
 use Rattle.afdx_laws.proofs.HandedOver.{handed_despite_loss_holds}
-use Rattle.afdx_laws.proofs.WorkedLosses.{handed_despite_one_loss, needs_one_whole}
+use Rattle.afdx_laws.proofs.WorkedMessage.{comes_despite_loss, needs_one_whole}
 use Rattle.afdx_laws.proofs.laws.handed_despite_loss.Goals as goal
 
 pub returns : goal.returns
 returns c = record {
   arrive = handed_despite_loss_holds;
-  worked = handed_despite_one_loss;
+  worked = comes_despite_loss;
   needed = needs_one_whole;
 }

@@ -1,6 +1,5 @@
 use Rattle.afdx_laws.proofs.LegalLinks.{legal_arrive_holds}
-use Rattle.afdx_laws.proofs.WorkedDemo.{one_is_legal}
-use Rattle.afdx_laws.proofs.WorkedPairs.{needs_legal}
+use Rattle.afdx_laws.proofs.WorkedDemo.{one_is_legal, needs_legal}
 use Rattle.afdx_laws.proofs.laws.legal_arrive.Goals as goal
 
 pub returns : goal.returns

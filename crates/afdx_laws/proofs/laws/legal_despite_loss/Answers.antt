@@ -1,6 +1,5 @@
 use Rattle.afdx_laws.proofs.LegalLinks.{legal_despite_loss_holds}
-use Rattle.afdx_laws.proofs.WorkedLosses.{legal_despite_one_loss}
-use Rattle.afdx_laws.proofs.WorkedPairs.{needs_close}
+use Rattle.afdx_laws.proofs.WorkedDemo.{legal_despite_one_loss, needs_close}
 use Rattle.afdx_laws.proofs.laws.legal_despite_loss.Goals as goal
 
 pub returns : goal.returns

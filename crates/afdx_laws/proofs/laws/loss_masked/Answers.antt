@@ -1,5 +1,5 @@
 use Rattle.afdx_laws.proofs.Losing.{loss_masked_holds}
-use Rattle.afdx_laws.proofs.WorkedLosses.{masks_one_loss, needs_the_first}
+use Rattle.afdx_laws.proofs.WorkedMessage.{masks_one_loss, needs_the_first}
 use Rattle.afdx_laws.proofs.laws.loss_masked.Goals as goal
 
 pub returns : goal.returns

@@ -1,5 +1,5 @@
 use Rattle.afdx_laws.proofs.LegalSpacing.{legal_passes_holds}
-use Rattle.afdx_laws.proofs.WorkedPairs.{passes_a_gap_apart}
+use Rattle.afdx_laws.proofs.WorkedDemo.{passes_a_gap_apart}
 use Rattle.afdx_laws.proofs.switching.legal_passes.Goals as goal
 
 pub returns : goal.returns
