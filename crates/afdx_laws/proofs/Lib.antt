@@ -1,7 +1,6 @@
 pub mod ListLemmas
 pub mod Rows
 pub mod Credit
-pub mod WorkedPassages
 pub mod NumberLemmas
 pub mod Receiving
 pub mod Losing
@@ -18,9 +17,7 @@ pub mod AllOnBoth
 pub mod Spent
 pub mod LegalSpacing
 pub mod WorkedDemo
-pub mod WorkedMoments
 pub mod WorkedPieces
-pub mod WorkedPolls
 pub mod NextFragment
 pub mod OneBuffer
 pub mod NeededBuffers

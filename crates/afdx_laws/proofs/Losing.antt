@@ -213,10 +213,6 @@ masked_from_first_holds whole check stream came some frames within begins =
     loss_masked_holds whole check stream came some frames
     (first_comes_holds whole (length stream) came within begins)
 
--- both runs, by computation
-pub loss_not_masked_holds : LossNotMasked
-loss_not_masked_holds = (refl, refl)
-
 -- the law of the clash
 pub numbers_clash_holds : NumbersClash
 numbers_clash_holds check window lag place checks opens behind apart old =

@@ -1,12 +1,14 @@
 -- Frames that are near by the clock are near by their count.
-use Rattle.std.proofs.Common.{◌≡◌, ℕ, zero, suc, ◌+◌, ◌-◌, ◌*◌, ◌/◌, ◌≤◌, ◌<◌, inl, inr, List, [], ◌∷◌, ◌++◌, length, refl, ap, ◌∙◌, subst, arith}
+use Rattle.std.proofs.Common.{◌≡◌, ℕ, zero, suc, ◌+◌, ◌-◌, ◌*◌, ◌/◌, ◌≤◌, ◌<◌, inl, inr, List, [], ◌∷◌, ◌++◌, length, refl, ap, sym, ◌∙◌, subst, arith}
 use Rattle.std.proofs.lemmas.Bool.{cases_lt}
-use Rattle.std.proofs.lemmas.Nat.{div_below, le-div}
+use Rattle.std.proofs.lemmas.Nat.{le-div}
 use Rattle.std.proofs.lemmas.List.{append_assoc, length-append}
 use Rattle.afdx_frame.specs.declared.net.Net.{Net}
 use Rattle.afdx_frame.specs.declared.net.Net.TheVariants.{A, B}
-use Rattle.afdx_laws.specs.Receiver.{Tolerance, IsFitFor, other, carried}
-use Rattle.afdx_laws.specs.Skew.{frames_behind, SkewIsNear, SkewIsFit}
+use Rattle.afdx_laws.specs.Receiver.{other, carried}
+use Rattle.afdx_laws.specs.Skew.{SkewIsNear, IsDelivered, released_at, arrival_of, both_copies, ComesInTime}
+use Rattle.afdx_laws.proofs.ListLemmas.{cons_parts}
+use Rattle.afdx_laws.proofs.WorkedMessage.{few_are_near}
 
 -- where a network's frame number k came
 record Found {F : Type 0} (net : Net) (k : ℕ) (xs : List (Net × F)) : Type 0 where
@@ -84,22 +86,28 @@ skew_is_near_holds gap delay released at arrivals some apart forward delivered b
           omega arith
     ]
 
--- a receiver that bears these frames bears the delay
-fit_delay : (gap delay : ℕ) (tolerance : Tolerance) → 1 ≤ gap → IsFitFor (frames_behind gap delay) tolerance
-    → delay < (255 - tolerance.window) * gap
-fit_delay gap delay tolerance some fit = elim (cases_lt delay ((255 - tolerance.window) * gap)) [
-  | inl less ↦ less
-  | inr long ↦
-      let apart = fit.apart in
-      let many : 255 - tolerance.window ≤ delay / gap = le-div (255 - tolerance.window) delay gap some long in
-      absurd (omega arith)
-]
+-- each copy comes in time
+both_delivered : IsDelivered 400 released_at arrival_of both_copies
+both_delivered [] after net frame is = (omega arith, omega arith)
+both_delivered (x ∷ []) after net frame is =
+    let first = cons_parts is in
+    let second = cons_parts first.1 in
+    let from_b : B ≡ net = ap (λ (e : Net × List ℕ). e.0) second.0 in
+    let none : length (carried net (x ∷ [])) ≡ 0 =
+    ap (λ (n : Net). length (carried n (x ∷ []))) (sym from_b)
+    ∙ ap (λ (e : Net × List ℕ). length (carried B (e ∷ []))) (sym first.0) in
+    (omega arith, omega arith)
+both_delivered (x ∷ y ∷ before) after net frame is =
+    let size = ap length is in
+    let parts = length-append before ((net, frame) ∷ after) in
+    absurd (omega arith)
 
--- the law of the delay
-pub skew_is_fit_holds : SkewIsFit
-skew_is_fit_holds gap delay tolerance some checks opens = (
-  fit_delay gap delay tolerance some,
-  λ less.
-      let few : delay / gap < 255 - tolerance.window = div_below delay gap (255 - tolerance.window) some less in
-      record { checks = checks; opens = opens; apart = omega arith },
-)
+-- the row: the second copy comes a frame behind
+pub comes_in_time : ComesInTime
+comes_in_time = record {
+  apart = omega arith;
+  forward = omega arith;
+  delivered = both_delivered;
+  near = few_are_near 1 both_copies (omega arith);
+  exact = λ near. let behind = near ((A, 7 ∷ []) ∷ []) [] B (7 ∷ []) refl in omega arith;
+}

@@ -167,23 +167,10 @@ needs_numbers = record {
 }
 
 -- bare frames are a stream
-bare_pair : IsStream (bare_stream (0 ∷ 1 ∷ []))
-bare_pair =
-    record { long = All-from_recursion IsLong (bare_stream (0 ∷ 1 ∷ [])) (omega arith); numbered = (refl, (refl, tt)) }
-
 bare_three : IsStream (bare_stream (0 ∷ 1 ∷ 2 ∷ []))
 bare_three = record {
   long = All-from_recursion IsLong (bare_stream (0 ∷ 1 ∷ 2 ∷ [])) (omega arith);
   numbered = (refl, (refl, (refl, tt)));
-}
-
--- the row of a network that loses the first frame
-pub needs_beginnings : NeedsBeginnings
-needs_beginnings = record {
-  stream = bare_pair;
-  carry = fails_by
-      (exactly_once_holds 3 plain_receiver (bare_stream (0 ∷ 1 ∷ [])) second_alone (omega arith) bare_pair)
-      (not_front number_in (map (twin_of A) (bare_stream (0 ∷ 1 ∷ []))) 1 refl);
 }
 
 -- the row of the lag: an old frame is accepted again
@@ -200,15 +187,6 @@ needs_a_lag = record {
     on_b = (twin_of B (bare_frame 2) ∷ [], refl);
     near = few_are_near 4 far_behind (omega arith);
   };
-}
-
--- the row of the clash
-pub clashes_past_254 : ClashesPast254
-clashes_past_254 = record {
-  fit = omega arith;
-  once = refl;
-  unfit = λ fit. let apart = fit.apart in omega arith;
-  twice = refl;
 }
 
 -- what AreWithin says of a run, as a test

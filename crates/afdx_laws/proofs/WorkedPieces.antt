@@ -52,10 +52,6 @@ needs_order = record {
   small = record { premise = omega arith; conclusion = λ are. not_front length eight_bytes are.0 refl are.1 };
 }
 
--- the second datagram waits
-pub holds_the_second : HoldsTheSecond
-holds_the_second = record { first = refl; other = refl; second = refl; begun = refl; both = refl }
-
 -- a buffer that has a byte isn't empty
 has_byte : (b : Buffer) (x : ℕ) → b.byte_at 0 ≡ Some x → b ≡ empty → ⊥
 has_byte b x has is = cc (ap (λ (c : Buffer). c.byte_at 0) is)

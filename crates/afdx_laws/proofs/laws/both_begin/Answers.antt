@@ -3,8 +3,4 @@ use Rattle.afdx_laws.proofs.WorkedMessage.{begins_on_both}
 use Rattle.afdx_laws.proofs.laws.both_begin.Goals as goal
 
 pub returns : goal.returns
-returns c = record {
-  close = first_comes_holds;
-  masked = masked_from_first_holds;
-  worked = begins_on_both;
-}
+returns c = search (first_comes_holds, masked_from_first_holds, begins_on_both)

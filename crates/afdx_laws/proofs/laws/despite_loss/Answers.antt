@@ -3,8 +3,4 @@ use Rattle.afdx_laws.proofs.WorkedMessage.{comes_despite_loss, needs_a_whole_net
 use Rattle.afdx_laws.proofs.laws.despite_loss.Goals as goal
 
 pub returns : goal.returns
-returns c = record {
-  arrive = despite_loss_holds;
-  worked = comes_despite_loss;
-  needed = needs_a_whole_network;
-}
+returns c = search (despite_loss_holds, comes_despite_loss, needs_a_whole_network)

@@ -1,5 +1,7 @@
+use Rattle.std.proofs.Common.{arith}
+use Rattle.std.proofs.lemmas.Grind.{common_steps}
 use Rattle.afdx_laws.proofs.Receiving.{exactly_once_holds}
-use Rattle.afdx_laws.proofs.WorkedMessage.{accepts_each_once, needs_numbers, needs_beginnings, needs_a_lag}
+use Rattle.afdx_laws.proofs.WorkedMessage.{accepts_each_once, needs_numbers, needs_a_lag}
 use Rattle.afdx_laws.proofs.laws.exactly_once.Goals as goal
 
 pub returns : goal.returns
@@ -7,6 +9,6 @@ returns c = record {
   once = exactly_once_holds;
   worked = accepts_each_once;
   numbers = needs_numbers;
-  beginnings = needs_beginnings;
+  beginnings = grind (arith, common_steps);
   lag = needs_a_lag;
 }

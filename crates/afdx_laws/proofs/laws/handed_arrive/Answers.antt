@@ -3,8 +3,4 @@ use Rattle.afdx_laws.proofs.WorkedMessage.{one_message_arrives, needs_handing}
 use Rattle.afdx_laws.proofs.laws.handed_arrive.Goals as goal
 
 pub returns : goal.returns
-returns c = record {
-  arrive = handed_arrive_holds;
-  worked = one_message_arrives;
-  needed = needs_handing;
-}
+returns c = search (handed_arrive_holds, one_message_arrives, needs_handing)

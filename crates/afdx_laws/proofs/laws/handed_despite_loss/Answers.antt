@@ -3,8 +3,4 @@ use Rattle.afdx_laws.proofs.WorkedMessage.{comes_despite_loss, needs_one_whole}
 use Rattle.afdx_laws.proofs.laws.handed_despite_loss.Goals as goal
 
 pub returns : goal.returns
-returns c = record {
-  arrive = handed_despite_loss_holds;
-  worked = comes_despite_loss;
-  needed = needs_one_whole;
-}
+returns c = search (handed_despite_loss_holds, comes_despite_loss, needs_one_whole)

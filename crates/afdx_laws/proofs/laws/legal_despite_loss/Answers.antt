@@ -3,8 +3,4 @@ use Rattle.afdx_laws.proofs.WorkedDemo.{legal_despite_one_loss, needs_close}
 use Rattle.afdx_laws.proofs.laws.legal_despite_loss.Goals as goal
 
 pub returns : goal.returns
-returns c = record {
-  arrive = legal_despite_loss_holds;
-  worked = legal_despite_one_loss;
-  needed = needs_close;
-}
+returns c = search (legal_despite_loss_holds, legal_despite_one_loss, needs_close)

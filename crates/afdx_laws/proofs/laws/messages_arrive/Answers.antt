@@ -3,8 +3,4 @@ use Rattle.afdx_laws.proofs.WorkedMessage.{one_message_arrives, needs_a_stream}
 use Rattle.afdx_laws.proofs.laws.messages_arrive.Goals as goal
 
 pub returns : goal.returns
-returns c = record {
-  arrive = messages_arrive_holds;
-  worked = one_message_arrives;
-  needed = needs_a_stream;
-}
+returns c = search (messages_arrive_holds, one_message_arrives, needs_a_stream)

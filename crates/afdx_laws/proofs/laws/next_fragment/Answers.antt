@@ -1,5 +1,6 @@
+use Rattle.std.proofs.Common.{arith}
+use Rattle.std.proofs.lemmas.Grind.{common_steps}
 use Rattle.afdx_laws.proofs.NextFragment.{next_in_a_round, next_in_time, next_polled_in_time, next_in_plan, lie_two_gaps_apart, turns_are_told}
-use Rattle.afdx_laws.proofs.WorkedPolls.{polls_in_time, needs_in_time}
 use Rattle.afdx_laws.proofs.laws.next_fragment.Goals as goal
 
 pub returns : goal.returns
@@ -10,6 +11,6 @@ returns c = record {
   plan = next_in_plan;
   told = turns_are_told;
   worked = lie_two_gaps_apart;
-  in_time = polls_in_time;
-  needed = needs_in_time;
+  in_time = grind (arith, common_steps);
+  needed = grind (arith, common_steps);
 }

@@ -1,12 +1,23 @@
+use Rattle.std.proofs.Common.{refl, arith, ◌≤◌, []}
+use Rattle.redundant_mux.specs.Entry.{entry}
+use Rattle.afdx_laws.specs.WorkedPolicing.{NeedsTheGreatest}
 use Rattle.afdx_laws.proofs.Credit.{stream_passes_holds}
-use Rattle.afdx_laws.proofs.WorkedPassages.{passes_two, needs_the_gap, needs_the_greatest, needs_the_jitter}
+use Rattle.afdx_laws.proofs.ListLemmas.{other_length}
 use Rattle.afdx_laws.proofs.switching.stream_passes.Goals as goal
 
-pub returns : goal.returns
-returns c = record {
-  passes = stream_passes_holds;
-  worked = passes_two;
-  gap = needs_the_gap;
-  greatest = needs_the_greatest;
-  jitter = needs_the_jitter;
+-- frames that are greater
+needs_the_greatest : NeedsTheGreatest
+needs_the_greatest = record {
+  spaced = omega arith;
+  way = omega arith;
+  small = record {
+    premise = λ small. let fits : 64 ≤ 63 = small 0 (entry 0 []) (omega arith) in omega arith;
+    conclusion = other_length refl;
+  };
 }
+
+pub returns-clause-passes : goal.returns-clause-passes
+returns-clause-passes c = stream_passes_holds
+
+pub returns-clause-greatest : goal.returns-clause-greatest
+returns-clause-greatest c = needs_the_greatest
