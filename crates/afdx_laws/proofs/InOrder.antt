@@ -26,13 +26,11 @@ other_with sub key b xs ys isnt same k is = let mine = same k is in grind (arith
 -- what is given for this sub-VL is one of its datagrams, and for another it isn't
 of_given : (sub key : ℕ) (o : Option (List ℕ)) (rest : List (ℕ × List ℕ)) → nat_eq (key % 4) sub ≡ true
     → of_sub sub (given key o rest) ≡ given key o (of_sub sub rest)
-of_given sub key None rest is = refl
-of_given sub key (Some d) rest is = rw is refl
+of_given sub key o rest is = grind arith
 
 of_other : (sub key : ℕ) (o : Option (List ℕ)) (rest : List (ℕ × List ℕ)) → nat_eq (key % 4) sub ≡ false
     → of_sub sub (given key o rest) ≡ of_sub sub rest
-of_other sub key None rest isnt = refl
-of_other sub key (Some d) rest isnt = rw isnt refl
+of_other sub key o rest isnt = grind arith
 
 -- a sub-VL's datagrams and buffers are those of its fragments alone
 pub record IsApart (sub : ℕ) (es : List (ℕ × Fragment)) (xs ys : ℕ → Buffer) : Type 0 where
@@ -119,18 +117,15 @@ HoldsSoFar sub key buffers done = (buffers key ≡ put_all empty done)
 
 -- the buffer that was changed, and each other one
 with_same : (key : ℕ) (b : Buffer) (buffers : ℕ → Buffer) → with_buffer key b buffers key ≡ b
-with_same key b buffers = rw (eq-eqb key key refl) refl
+with_same key b buffers = grind (arith, nat_tests)
 
 with_else : (key k : ℕ) (b : Buffer) (buffers : ℕ → Buffer) → (k ≡ key → ⊥) → with_buffer key b buffers k ≡ buffers k
-with_else key k b buffers ne = rw (ne_eqb k key ne) refl
+with_else key k b buffers ne = grind (arith, nat_tests)
 
 -- after a datagram all buffers of its sub-VL are empty
 all_empty : (sub key : ℕ) (buffers : ℕ → Buffer) → ((k : ℕ) → k % 4 ≡ sub → (k ≡ key → ⊥) → buffers k ≡ empty)
     → (k : ℕ) → k % 4 ≡ sub → with_buffer key empty buffers k ≡ empty
-all_empty sub key buffers others k is = elim (cases_Bool (nat_eq k key)) [
-  | inl same ↦ rw same refl
-  | inr else ↦ rw else (others k is (λ e. absurd (grind (arith, nat_tests))))
-]
+all_empty sub key buffers others k is = grind (arith, nat_tests)
 
 -- datagrams of which all fragments came, by those of which all but the first one's came
 all_more : (room sub place n many : ℕ) (d : List ℕ) (later : List (List ℕ)) (block : Begins (fragments_of room d))

@@ -42,11 +42,8 @@ other_length other is = false≢true (sym other ∙ eq-eqb _ _ (ap length is))
 
 -- what holds of 0 holds below 1
 pub below_one : (P : ℕ → Type 0) → P 0 → (k : ℕ) → k < 1 → P k
-below_one P p zero below = p
-below_one P p (suc k) below = absurd (omega arith)
+below_one P p k below = grind arith
 
 -- and of two places
 pub below_both : (P : ℕ → ℕ → Type 0) (most : ℕ → ℕ) → most 0 ≡ 1 → P 0 0 → (k s : ℕ) → k < 1 → s < most k → P k s
-below_both P most one p zero zero in_k in_s = p
-below_both P most one p zero (suc s) in_k in_s = absurd (omega arith)
-below_both P most one p (suc k) s in_k in_s = absurd (omega arith)
+below_both P most one p k s in_k in_s = grind arith

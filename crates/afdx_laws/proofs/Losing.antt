@@ -40,13 +40,11 @@ is_next c i high near within far first begun new = elim (cases_order i c) [
 
 -- the state after a frame
 accepted_seen : (net : Net) (n : ℕ) (state : State) → (with_seen net n state).accepted ≡ state.accepted
-accepted_seen A n state = refl
-accepted_seen B n state = refl
+accepted_seen net n state = grind arith
 
 -- accepting a frame leaves what was seen
 seen_accepted : (net : Net) (n : ℕ) (state : State) → seen_on net (with_accepted n state) ≡ seen_on net state
-seen_accepted A n state = refl
-seen_accepted B n state = refl
+seen_accepted net n state = grind arith
 
 one_more : (b : ℕ) → suc b ≡ b + 1
 one_more b = omega arith
@@ -55,36 +53,25 @@ one_more b = omega arith
 seen_after : (whole net : Net) (b i : ℕ) (state : State) → seen_on whole state ≡ last b
     → (same_net whole net ≡ true → i ≡ b)
     → seen_on whole (with_seen net (sequence_number i) state) ≡ last (cond (same_net whole net) (b + 1) b)
-seen_after A A b i state seen own = ap (λ (k : ℕ). last (suc k)) (own refl) ∙ ap last (one_more b)
-seen_after B B b i state seen own = ap (λ (k : ℕ). last (suc k)) (own refl) ∙ ap last (one_more b)
-seen_after A B b i state seen own = seen
-seen_after B A b i state seen own = seen
+seen_after whole net b i state seen own = grind arith
 
 -- what was seen last on the frame's own network
 seen_own : (whole net : Net) (state : State) → same_net whole net ≡ true → seen_on net state ≡ seen_on whole state
-seen_own A A state same = refl
-seen_own B B state same = refl
-seen_own A B state same = cc
-seen_own B A state same = cc
+seen_own whole net state same = grind arith
 
 -- what the whole network carried, counted from a place
 count_whole : {F : Type 0} (whole net : Net) (frame : F) (b : ℕ) (es : List (Net × F))
     → cond (same_net whole net) (b + 1) b + length (carried whole es) ≡ b + length
     (carried whole ((net, frame) ∷ es))
-count_whole A A frame b es = omega arith
-count_whole B B frame b es = omega arith
-count_whole A B frame b es = omega arith
-count_whole B A frame b es = omega arith
+count_whole whole net frame b es = grind arith
 
 -- the receiver isn't behind the whole network, where it drops
 grown_le : (t : Bool) (b c : ℕ) → b ≤ c → (t ≡ true → b < c) → cond t (b + 1) b ≤ c
-grown_le true b c le lt = let l = lt refl in omega arith
-grown_le false b c le lt = le
+grown_le t b c le lt = grind arith
 
 -- and where it accepts
 grown_le_suc : (t : Bool) (b c : ℕ) → b ≤ c → cond t (b + 1) b ≤ suc c
-grown_le_suc true b c le = omega arith
-grown_le_suc false b c le = omega arith
+grown_le_suc t b c le = grind arith
 
 -- the stream is accepted in order, at least as far as a place
 pub record Masks {F : Type 0} (h : F → F) (stream got : List F) (c reach : ℕ) : Type 0 where
@@ -185,8 +172,7 @@ loss_masked_holds whole check stream came some frames close =
     (m.many, omega arith, m.are)
   where
     begun : (whole : Net) → seen_on whole begin ≡ None
-    begun A = refl
-    begun B = refl
+    begun whole = grind arith
 
 -- a network that begins with the first frame, where the frame that comes is its own
 own_first : (net : Net) (i : ℕ) (es : List (Net × ℕ)) → BeginsFirst net ((net, i) ∷ es) → i ≡ 0

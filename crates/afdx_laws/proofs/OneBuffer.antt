@@ -53,8 +53,7 @@ put_within most b f none ends i past =
 
 -- nor where it gave its datagram
 kept_within : (most : ℕ) (b : Buffer) (given : Option (List ℕ)) → HasNoneBehind most b → HasNoneBehind most (kept_in b given)
-kept_within most b None none = none
-kept_within most b (Some d) none = λ i past. refl
+kept_within most b given none = grind arith
 
 -- nor have others
 with_within : (most key : ℕ) (b : Buffer) (buffers : ℕ → Buffer) → HasNoneBehind most b

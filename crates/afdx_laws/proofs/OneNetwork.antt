@@ -34,8 +34,7 @@ carried_none B (f ∷ fs) = carried_none B fs
 
 -- the other network carries no frame of this one
 skips : (net : Net) (frame : List ℕ) (later : List (List ℕ)) → carried_by (other net) net frame later ≡ later
-skips A frame later = refl
-skips B frame later = refl
+skips net frame later = grind arith
 
 -- each frame that comes is the network's, and before it nothing came from the other
 all_its : (net : Net) (frames : List (List ℕ)) (before after : List (Net × List ℕ)) (e : Net × List ℕ)

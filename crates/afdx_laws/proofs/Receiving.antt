@@ -136,10 +136,7 @@ hands_on number h stream tolerance lag ((B, frame) ∷ es) a b check window near
 -- one more, or none
 len_by : {F : Type 0} (net from : Net) (frame : F) (rest : List F)
     → length (carried_by net from frame rest) ≡ length (carried_by net from frame []) + length rest
-len_by A A frame rest = omega arith
-len_by A B frame rest = omega arith
-len_by B A frame rest = omega arith
-len_by B B frame rest = omega arith
+len_by net from frame rest = grind arith
 
 -- the count of what was carried, after one arrival more
 count_more : {F : Type 0} (net : Net) (before : List (Net × F)) (e : Net × F)

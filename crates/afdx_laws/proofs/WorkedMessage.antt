@@ -55,10 +55,7 @@ are_sent = sending_to both_handed.link both_handed.sent both_handed.on_a
 -- a network carried no more than came
 carried_le : {F : Type 0} (net : Net) (xs : List (Net × F)) → length (carried net xs) ≤ length xs
 carried_le net [] = omega arith
-carried_le A ((A, frame) ∷ xs) = let l = carried_le A xs in omega arith
-carried_le A ((B, frame) ∷ xs) = let l = carried_le A xs in omega arith
-carried_le B ((A, frame) ∷ xs) = let l = carried_le B xs in omega arith
-carried_le B ((B, frame) ∷ xs) = let l = carried_le B xs in omega arith
+carried_le net ((from, frame) ∷ xs) = grind (arith, carried_le net xs)
 
 -- few arrivals are near
 pub few_are_near : {F : Type 0} (lag : ℕ) (arrivals : List (Net × F)) → length arrivals ≤ lag + 1 → IsNear lag arrivals
