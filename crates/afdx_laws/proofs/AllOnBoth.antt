@@ -47,9 +47,7 @@ side_side net other es = map-map (side net) (side other) es
 -- a list of twins of the first entries is no longer
 no_longer : (net : Net) (whole front : List Entry) → front ≡ map (side net) (take (length front) whole)
     → length front ≤ length whole
-no_longer net whole front is =
-    let count = ap length is ∙ length-map (take (length front) whole) (side net) in
-    let taken = length-take (length front) whole in omega arith
+no_longer net whole front is = grind (arith, ap length is, length-map, length-take)
 
 -- where the first list is as long, a link's own stream is in it
 own_in_a : (vl : ℕ) (a b : List Entry) → length b ≤ length a → AreTwins side a b

@@ -43,12 +43,7 @@ sub_take sub n stream = ap (those_with sub_in sub) (sym (take-append-drop n stre
 -- more frames of a link are no fewer of a sub
 more_of_sub : (sub few many : ℕ) (stream : List (List ℕ)) → few ≤ many
     → length (those_with sub_in sub (take few stream)) ≤ length (those_with sub_in sub (take many stream))
-more_of_sub sub few many stream less =
-    let split = ap length (sub_take sub few (take many stream)) in
-    let both = length-append (those_with sub_in sub (take few (take many stream)))
-    (those_with sub_in sub (drop few (take many stream))) in
-    let same = ap (λ (xs : List (List ℕ)). length (those_with sub_in sub xs)) (take-take few many stream less) in
-    omega arith
+more_of_sub sub few many stream less = grind (arith, sub_take sub few (take many stream), length-append, take-take)
 
 -- the datagrams of accepted messages
 abbrev pub datagrams_of : ℕ → List Sent → List (List ℕ)

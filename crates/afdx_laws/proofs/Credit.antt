@@ -22,16 +22,13 @@ IsReady rule account p = rule.lmax * (rule.gap + (p.arrived - p.released)) ≤ (
 
 -- so it is at the first frame, when the account is full
 ready_first : (rule : Rule) (p : Passage) → IsOnTime rule p → IsReady rule (full rule) p
-ready_first rule p on = let after = on.after in let soon = on.soon in
-    let m = mul-le rule.lmax (rule.gap + (p.arrived - p.released)) rule.lmax (rule.gap + rule.jitter) (omega arith)
-    (omega arith) in
-    le-min m (omega arith)
+ready_first rule p on = grind arith
 
 -- after it is paid, what filled while it was on its way is left
 left : (rule : Rule) (account : Account) (p : Passage) (cost : ℕ) → IsReady rule account p
     → cost ≤ rule.lmax * rule.gap
     → rule.lmax * (p.arrived - p.released) ≤ (paid (filled rule account p.arrived) cost).credit
-left rule account p cost ready cheap = let s = mul-add rule.lmax rule.gap (p.arrived - p.released) in omega arith
+left rule account p cost ready cheap = grind arith
 
 -- so it is at the next frame
 ready_next : (rule : Rule) (credit : ℕ) (p q : Passage) → IsOnTime rule p → IsOnTime rule q
@@ -51,13 +48,12 @@ passes : (charge : Charge) (rule : Rule) (account : Account) (p : Passage) (fram
     → price charge rule (arrival p) ≤ (filled rule account p.arrived).credit
     → passed charge rule account (arrival p ∷ frames) ≡ arrival p ∷ passed charge rule
     (paid (filled rule account p.arrived) (price charge rule (arrival p))) frames
-passes charge rule account p frames h = let t = le-leb _ _ h in rw t refl
+passes charge rule account p frames h = grind arith
 
 -- the first frame's price is there
 enough : (charge : Charge) (rule : Rule) (account : Account) (p : Passage) → IsReady rule account p
     → IsOnTime rule p → price charge rule (arrival p) ≤ (filled rule account p.arrived).credit
-enough charge rule account p ready on = let c = price_le charge rule (arrival p) on.small in let s =
-    mul-add rule.lmax rule.gap (p.arrived - p.released) in omega arith
+enough charge rule account p ready on = grind (arith, price_le charge rule (arrival p) on.small)
 
 -- all frames pass from there on
 all_pass : (charge : Charge) (rule : Rule) (account : Account) (p : Passage) (rest : List Passage)

@@ -72,8 +72,7 @@ is_block : (d : List ℕ) (start : ℕ) (lens : List ℕ) → 0 < length lens
 is_block d start [] some = absurd (omega arith)
 is_block d start (len ∷ []) some = tt
 is_block d start (len ∷ next ∷ lens) some =
-    let rest = is_block d (start + len) (next ∷ lens) (omega arith) in
-    (grind (arith, nat_tests), rest)
+    (grind (arith, nat_tests), is_block d (start + len) (next ∷ lens) (omega arith))
 
 -- the first fragment of a datagram, and those behind it
 record Begins (fs : List Fragment) : Type 0 where
@@ -134,13 +133,7 @@ all_more : (room sub place n many : ℕ) (d : List ℕ) (later : List (List ℕ)
     → (j : ℕ) → j ≤ length (d ∷ later) → length (sent_from room sub place (take j (d ∷ later))) ≤ n → j ≤ many
 all_more room sub place n many d later block each zero few enough = omega arith
 all_more room sub place n many d later block each (suc i) few enough =
-    let size = ap length block.is in
-    let both = length-append (keyed (identification place sub) (fragments_of room d))
-    (sent_from room sub (suc place) (take i later)) in
-    let first : length (keyed (identification place sub) (fragments_of room d)) ≡ length (fragments_of room d) =
-    length-map (fragments_of room d) (λ (f : Fragment). (identification place sub, f)) in
-    let got = each i (omega arith) (omega arith) in
-    omega arith
+    grind (arith, each i, ap length block.is, length-append, length-map)
 
 -- the last fragment of a datagram gives it
 completes : (b : Buffer) (f : Fragment) (room : ℕ) (done : List Fragment) (d : List ℕ) → 8 ≤ room → 1 ≤ length d
@@ -257,7 +250,7 @@ nothing room sub datagrams came some none =
 -- no identification tells a sub-VL past the fourth
 none_past : (sub : ℕ) (es : List (ℕ × Fragment)) → 4 ≤ sub → of_sub sub es ≡ []
 none_past sub [] past = refl
-none_past sub (e ∷ es) past = rw (ne_eqb (e.0 % 4) sub (λ is. absurd (omega arith))) (none_past sub es past)
+none_past sub (e ∷ es) past = grind (arith, nat_tests, none_past sub es past)
 
 -- of a sub-VL of a link
 below : (room sub : ℕ) (datagrams : List (List ℕ)) (came : List (ℕ × Fragment)) → 8 ≤ room → sub < 4

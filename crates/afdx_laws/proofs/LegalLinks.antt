@@ -129,12 +129,7 @@ twins_by_a xs ys own is = record { b_shorter = λ h. turned_back B A ys xs own i
 filter_twice : {X : Type 0} (p q : X → Bool) → ((x : X) → p x ≡ true → q x ≡ true) → (xs : List X)
     → filter p (filter q xs) ≡ filter p xs
 filter_twice p q each [] = refl
-filter_twice {X = X} p q each (x ∷ xs) =
-    let rest = filter_twice p q each xs in
-    elim (cases_Bool (p x)) [
-      | inl is ↦ rw (each x is, is) (ap (λ (ys : List X). x ∷ ys) rest)
-      | inr isnt ↦ elim (cases_Bool (q x)) [ inl kept ↦ rw (kept, isnt) rest | inr cut ↦ rw (cut, isnt) rest ]
-    ]
+filter_twice p q each (x ∷ xs) = grind (arith, filter_twice p q each xs, each x)
 
 -- a link on both networks has all its frames among the entries of such links
 frames_on_both : (links : List LinkPlan) (vl : ℕ) (es : List Entry) → is_on_both links vl ≡ true

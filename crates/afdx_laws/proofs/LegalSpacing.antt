@@ -74,9 +74,8 @@ pub record IsOfSubs (subs : ℕ) (e : Entry) : Type 0 where
 known_within : (plan : Plan) (net : Net) (k : ℕ) (e : Entry) → IsPlan plan → k < length plan.links
     → IsKnown plan.links net e.frame → nat_eq (link_in e.frame) (id_at plan k) ≡ true → IsOfSubs (link_plan_at plan.links k).sub_vls e
 known_within plan net k e valid inside known on =
-    let made = λ (n : ℕ). let id : VlId = record { 0 = n } in id in
     let at : known.k ≡ k = valid.links_apart known.k k known.within inside
-    (ap made (sym known.link ∙ eqb-true (link_in e.frame) (id_at plan k) on)) in
+    (let number = eqb-true (link_in e.frame) (id_at plan k) on in grind arith) in
     record {
       long = known.size;
       of_sub = subst (λ (j : ℕ). sub_in e.frame < (link_plan_at plan.links j).sub_vls) at known.of_sub;

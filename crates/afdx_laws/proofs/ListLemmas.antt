@@ -38,7 +38,7 @@ map_same f g (x ∷ xs) same = cons_same (same x) (map_same f g xs same)
 
 -- lists of other lengths are others
 pub other_length : {X : Type 0} {xs ys : List X} → nat_eq (length xs) (length ys) ≡ false → xs ≡ ys → ⊥
-other_length other is = false≢true (sym other ∙ eq-eqb _ _ (ap length is))
+other_length other is = grind arith
 
 -- what holds of 0 holds below 1
 pub below_one : (P : ℕ → Type 0) → P 0 → (k : ℕ) → k < 1 → P k

@@ -15,12 +15,7 @@ use Rattle.afdx_laws.proofs.Receiving.{IsPlaced, grows, placed}
 
 -- a number too far ahead isn't the next one
 too_far : (c i : ℕ) → 1 ≤ c → c < i → i < c + 255 → is_ahead 1 (last c) (sequence_number i) ≡ false
-too_far zero i some far near = absurd (omega arith)
-too_far (suc j) i some far near =
-    let n = next_is j in
-    let t : nat_eq (sequence_number i) (sequence_number (suc j)) ≡ false =
-    ne_eqb _ _ (λ e. differ (suc j) i far near (sym e)) in
-    rw (n, t) refl
+too_far c i some far near = grind (arith, next_is, differ)
 
 -- a test has one answer
 one_answer : {t : Bool} → t ≡ true → t ≡ false → ⊥
@@ -29,14 +24,7 @@ one_answer is isnt = false≢true (sym isnt ∙ is)
 -- what is accepted is the next frame
 is_next : (c i high : ℕ) → high ≤ i + 254 → c ≤ high → i < c + 255 → (high ≡ 0 → i ≡ 0) → (high ≡ 0) ⊎ (1 ≤ c)
     → is_ahead 1 (last c) (sequence_number i) ≡ true → i ≡ c
-is_next c i high near within far first begun new = elim (cases_order i c) [
-  | inl same ↦ same
-  | inr (inl old) ↦ absurd (one_answer new (old_copy 1 i c old (omega arith)))
-  | inr (inr ahead_of) ↦ elim begun [
-    | inl none ↦ let z = first none in absurd (omega arith)
-    | inr some ↦ absurd (one_answer new (too_far c i some ahead_of far))
-  ]
-]
+is_next c i high near within far first begun new = grind (arith, old_copy, too_far)
 
 -- the state after a frame
 accepted_seen : (net : Net) (n : ℕ) (state : State) → (with_seen net n state).accepted ≡ state.accepted
@@ -202,18 +190,4 @@ masked_from_first_holds whole check stream came some frames within begins =
 -- the law of the clash
 pub numbers_clash_holds : NumbersClash
 numbers_clash_holds check window lag place checks opens behind apart old =
-    let state : State = record {
-      seen_a = Some (sequence_number (place + lag - 1));
-      seen_b = Some (sequence_number (place - 1));
-      accepted = Some (sequence_number (place + lag - 1));
-    } in
-    let before : last place ≡ Some (sequence_number (place - 1)) = last_is place old in
-    let valid : is_valid check (seen_on B state) (sequence_number place) ≡ true =
-    ap (λ (o : Option ℕ). is_valid check o (sequence_number place)) (sym before) ∙ valid_next check place checks in
-    let new : is_ahead window state.accepted (sequence_number place) ≡ true =
-    old_is_ahead window (place + lag - 1) place opens old (omega arith) in
-    and_from _ _ valid new
-  where
-    last_is : (i : ℕ) → 1 ≤ i → last i ≡ Some (sequence_number (i - 1))
-    last_is zero some = absurd (omega arith)
-    last_is (suc i) some = let e : i ≡ suc i - 1 = omega arith in ap (λ (k : ℕ). Some (sequence_number k)) e
+    grind (arith, valid_next check place, old_is_ahead window (place + lag - 1) place)

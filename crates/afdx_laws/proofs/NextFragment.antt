@@ -63,8 +63,8 @@ below_of n (e ∷ es) of q any = elim (or_cases (eqb q (sub_in e.frame)) (list_a
 -- none of these entries is of this sub-VL
 none_of : (x : ℕ) (es : List Entry) → All (λ (e : Entry). sub_in e.frame ≢ x) es → length (sub_stream x es) ≤ 0
 none_of x [] others = omega arith
-none_of x (e ∷ es) others = rw (ne_eqb (sub_in e.frame) x (All-head (λ (d : Entry). sub_in d.frame ≢ x) e es others))
-    (none_of x es (All-tail (λ (d : Entry). sub_in d.frame ≢ x) e es others))
+none_of x (e ∷ es) others = rw (ne_eqb (sub_in e.frame) x (others 0 e (omega arith)))
+    (none_of x es (λ k d h. others (suc k) d (omega arith)))
 
 -- what lies before the next entry of a sub-VL
 before_is : (x : ℕ) (between : List Entry) (next : Entry) (after : List Entry)
@@ -113,11 +113,7 @@ next_in_a_round subs stream first between next turns of n =
 last_within : (most before : ℕ) (es : List Entry) (e : Entry) → FollowWithin most before (es ++ e ∷ [])
     → e.at ≤ before + (length es + 1) * most
 last_within most before [] e h = let a = h.0 in omega arith
-last_within most before (d ∷ es) e h =
-    let a = h.0 in
-    let b = last_within most d.at es e h.1 in
-    let c : (length es + 1 + 1) * most ≡ (length es + 1) * most + most = grind arith in
-    omega arith
+last_within most before (d ∷ es) e h = grind (arith, last_within most d.at es e h.1)
 
 -- by the clock
 pub next_in_time : NextInTime
@@ -169,7 +165,7 @@ lie_two_gaps_apart = record {
     its = refl;
   };
   round = refl;
-  within = (omega arith, (omega arith, tt));
+  within = omega arith;
   most = refl;
   number = refl;
 }

@@ -58,11 +58,7 @@ kept_within most b given none = grind arith
 -- nor have others
 with_within : (most key : ℕ) (b : Buffer) (buffers : ℕ → Buffer) → HasNoneBehind most b
     → ((k : ℕ) → HasNoneBehind most (buffers k)) → (k : ℕ) → HasNoneBehind most (with_buffer key b buffers k)
-with_within most key b buffers one each k = at (nat_eq k key)
-  where
-    at : (t : Bool) → HasNoneBehind most (cond t b (buffers k))
-    at true = one
-    at false = each k
+with_within most key b buffers one each k = grind arith
 
 -- so it is with all buffers, whatever came of such fragments
 pub after_within : (es : List (ℕ × Fragment)) (most : ℕ) (buffers : ℕ → Buffer)

@@ -166,10 +166,7 @@ reads_all (sent ∷ later) end_system room sub place net least greatest are =
 
 -- a frame is its blanked bytes and its number
 with_last : (frame : List ℕ) → 1 ≤ length frame → frame ≡ blanked frame ++ get_or frame (length frame - 1) 0 ∷ []
-with_last frame some =
-    let whole : length frame - 1 + 1 ≡ length frame = omega arith in
-    sym (take_all (length frame) frame (omega arith)) ∙ ap (λ (n : ℕ). take n frame) (sym whole)
-    ∙ take_more frame (length frame - 1) 0 (omega arith)
+with_last frame some = grind (arith, take_all, take_more)
 
 -- frames that are the first of these fragments are read as the first of these
 pub reads_frames : (frames us rest : List (List ℕ)) → AllByRecursion IsRead us → All IsLong frames

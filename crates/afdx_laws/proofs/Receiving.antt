@@ -40,23 +40,14 @@ pub takes_it : {F : Type 0} (number : F → ℕ) (tolerance : Tolerance) (state 
     → number frame ≡ n → is_valid tolerance.check (seen_on net state) n ≡ true
     → is_ahead tolerance.window state.accepted n ≡ true → with_accepted n (with_seen net n state) ≡ after
     → received number tolerance state ((net, frame) ∷ es) ≡ frame ∷ received number tolerance after es
-takes_it number tolerance state after net frame es n is valid new then_is =
-    let t : is_accepted tolerance state net (number frame) ≡ true = ap (is_accepted tolerance state net) is
-    ∙ and_from _ _ valid new in
-    let s : with_accepted (number frame) (with_seen net (number frame) state) ≡ after =
-    ap (λ (m : ℕ). with_accepted m (with_seen net m state)) is ∙ then_is in
-    rw (t, s) refl
+takes_it number tolerance state after net frame es n is valid new then_is = grind arith
 
 -- a frame that isn't new is dropped
 pub drops_it : {F : Type 0} (number : F → ℕ) (tolerance : Tolerance) (state after : State) (net : Net) (frame : F)
     (es : List (Net × F)) (n : ℕ)
     → number frame ≡ n → is_ahead tolerance.window state.accepted n ≡ false → with_seen net n state ≡ after
     → received number tolerance state ((net, frame) ∷ es) ≡ received number tolerance after es
-drops_it number tolerance state after net frame es n is old then_is =
-    let t : is_accepted tolerance state net (number frame) ≡ false = ap (is_accepted tolerance state net) is
-    ∙ and_right _ _ old in
-    let s : with_seen net (number frame) state ≡ after = ap (λ (m : ℕ). with_seen net m state) is ∙ then_is in
-    rw (t, s) refl
+drops_it number tolerance state after net frame es n is old then_is = grind arith
 
 -- one more frame of the stream
 pub grows : {F : Type 0} (h : F → F) (stream : List F) (i : ℕ) (frame : F) (rest : List F) → i < length stream
@@ -151,12 +142,7 @@ count_more net (x ∷ before) e =
 -- the first of what is left
 pub first_of_rest : {X : Type 0} (xs : List X) (i : ℕ) (y : X) (ys : List X) → y ∷ ys ≡ drop i xs → (i < length xs)
     × (y ≡ get_or xs i y) × (ys ≡ drop (suc i) xs)
-first_of_rest {X = X} xs i y ys e = elim (cases_lt i (length xs)) [
-  | inl inside ↦ let m : y ∷ ys ≡ get_or xs i y ∷ drop (i + 1) xs = e ∙ drop_more xs i y inside in
-      let one : suc i ≡ i + 1 = omega arith in
-      (inside, (cons_parts m).0, (cons_parts m).1 ∙ ap (λ (k : ℕ). drop k xs) (sym one))
-  | inr past ↦ let n : [] ≡ y ∷ ys = sym (e ∙ drop_all i xs past) in absurd (nil_isnt_cons n)
-]
+first_of_rest xs i y ys e = grind (arith, drop_more xs i y, drop_all i xs)
 
 -- the frame at a place, as a network has it
 pub placed : (net : Net) (stream : List (List ℕ)) (i : ℕ) (frame : List ℕ) → All IsLong stream

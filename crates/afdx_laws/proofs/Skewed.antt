@@ -43,18 +43,14 @@ found B k ((A, f) ∷ xs) inside = let r = found B k xs inside in behind B k k (
 
 -- moments don't go back, and releases lie apart
 later : (at : ℕ → ℕ) → ((k : ℕ) → at k ≤ at (k + 1)) → (j n : ℕ) → at j ≤ at (j + n)
-later at step j zero = let e : j ≡ j + 0 = omega arith in subst (λ (k : ℕ). at j ≤ at k) e (omega arith)
-later at step j (suc n) = let h = later at step j n in let s = step (j + n) in let e : j + n + 1 ≡ j + suc n =
-    omega arith in subst (λ (k : ℕ). at j ≤ at k) e (omega arith)
+later at step j zero = grind arith
+later at step j (suc n) = grind (arith, later at step j n, step (j + n))
 
 -- so many releases are so many gaps apart
 spread : (gap : ℕ) (released : ℕ → ℕ) → ((i : ℕ) → released i + gap ≤ released (i + 1))
     → (i n : ℕ) → released i + n * gap ≤ released (i + n)
-spread gap released step i zero = let e : i ≡ i + 0 = omega arith in
-    subst (λ (k : ℕ). released i + 0 * gap ≤ released k) e (omega arith)
-spread gap released step i (suc n) = let h = spread gap released step i n in let s = step (i + n) in
-    let e : i + n + 1 ≡ i + suc n = omega arith in
-    subst (λ (k : ℕ). released i + suc n * gap ≤ released k) e (omega arith)
+spread gap released step i zero = grind arith
+spread gap released step i (suc n) = grind (arith, spread gap released step i n, step (i + n))
 
 -- the law
 pub skew_is_near_holds : SkewIsNear
@@ -89,18 +85,8 @@ skew_is_near_holds gap delay released at arrivals some apart forward delivered b
 -- each copy comes in time
 both_delivered : IsDelivered 400 released_at arrival_of both_copies
 both_delivered [] after net frame is = (omega arith, omega arith)
-both_delivered (x ∷ []) after net frame is =
-    let first = cons_parts is in
-    let second = cons_parts first.1 in
-    let from_b : B ≡ net = ap (λ (e : Net × List ℕ). e.0) second.0 in
-    let none : length (carried net (x ∷ [])) ≡ 0 =
-    ap (λ (n : Net). length (carried n (x ∷ []))) (sym from_b)
-    ∙ ap (λ (e : Net × List ℕ). length (carried B (e ∷ []))) (sym first.0) in
-    (omega arith, omega arith)
-both_delivered (x ∷ y ∷ before) after net frame is =
-    let size = ap length is in
-    let parts = length-append before ((net, frame) ∷ after) in
-    absurd (omega arith)
+both_delivered (x ∷ []) after net frame is = grind arith
+both_delivered (x ∷ y ∷ before) after net frame is = grind (arith, ap length is, length-append)
 
 -- the row: the second copy comes a frame behind
 pub comes_in_time : ComesInTime

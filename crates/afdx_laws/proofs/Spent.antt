@@ -21,18 +21,16 @@ one_dropped : (charge : Charge) (rule : Rule) (account : Account) (f : Arrival) 
     → (filled rule account f.at).credit < price charge rule f
     → cost charge rule (passed charge rule account (f ∷ later))
     ≡ cost charge rule (passed charge rule (filled rule account f.at) later)
-one_dropped charge rule account f later cannot = let t = lt-leb _ _ cannot in rw t refl
+one_dropped charge rule account f later cannot = grind arith
 
 -- what fills from one moment to a third, by one between them
 filled_over : (l since now end : ℕ) → since ≤ now → now ≤ end → l * (now - since) + l * (end - now) ≡ l * (end - since)
-filled_over l since now end first second =
-    let parts : (now - since) + (end - now) ≡ end - since = omega arith in
-    sym (mul-add l (now - since) (end - now)) ∙ ap (λ (n : ℕ). l * n) parts
+filled_over l since now end first second = grind arith
 
 -- the last moment isn't before the first
 in_order : (start end : ℕ) (frames : List Arrival) → AreBetween start end frames → start ≤ end
 in_order start end [] between = between
-in_order start end (f ∷ later) between = let first = between.0 in let rest = in_order f.at end later between.1 in omega arith
+in_order start end (f ∷ later) between = grind (arith, in_order f.at end later between.1)
 
 -- it can't cost more than what was there, nor than the limit, and what filled: no more is there when the first frame
 -- comes
@@ -62,7 +60,4 @@ spent charge rule credit start end (f ∷ later) between =
 
 -- the law
 pub no_more_passes_holds : NoMorePasses
-no_more_passes_holds charge rule credit start end frames between =
-    let all = (spent charge rule credit start end frames between).1 in
-    let whole = mul-add rule.lmax (rule.gap + rule.jitter) (end - start) in
-    omega arith
+no_more_passes_holds charge rule credit start end frames between = grind (arith, (spent charge rule credit start end frames between).1)

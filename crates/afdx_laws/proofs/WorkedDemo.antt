@@ -134,8 +134,7 @@ other_lost lists = lost lists.sent (sym one_is_legal.message ∙ lists.are) (lis
   where
     one_lost : (t : Bool) (bytes : List ℕ) → (1 ∷ []) ∷ [] ≡ bytes ∷ []
         → (if t then bytes ∷ [] else []) ≡ (2 ∷ []) ∷ [] → ⊥
-    one_lost true bytes is own = not_front first_byte ((2 ∷ []) ∷ []) 1 refl (is ∙ own)
-    one_lost false bytes is own = nil_isnt_cons own
+    one_lost t bytes is own = grind arith
 
     lost : (sent : List Sent) → (1 ∷ []) ∷ [] ≡ map (λ (s : Sent). s.bytes) sent
         → messages_of demo_port sent ≡ (2 ∷ []) ∷ [] → ⊥

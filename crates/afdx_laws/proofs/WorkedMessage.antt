@@ -60,9 +60,7 @@ carried_le net ((from, frame) ∷ xs) = grind (arith, carried_le net xs)
 -- few arrivals are near
 pub few_are_near : {F : Type 0} (lag : ℕ) (arrivals : List (Net × F)) → length arrivals ≤ lag + 1 → IsNear lag arrivals
 few_are_near lag arrivals few_came before after net frame is =
-    let whole = ap length is ∙ length-append before ((net, frame) ∷ after) in
-    let few = carried_le (other net) before in
-    omega arith
+    grind (arith, ap length is, length-append, carried_le (other net) before)
 
 -- the row
 pub one_message_arrives : OneMessageArrives
@@ -98,10 +96,7 @@ pub too_few : {room : ℕ} {accepted : List Sent} {frames messages given : List 
     → length (fragments 1 room A (take n accepted)) ≤ length (those_with sub_in 0 frames)
     → AreFirst 1 room 0 accepted frames messages → ⊥
 too_few {accepted = accepted} n are short within enough first =
-    let some = first.all n within enough in
-    let taken = ap length (sym are ∙ first.are) in
-    let given = length-take first.many (map (λ (s : Sent). s.bytes) accepted) in
-    omega (arith, length-map accepted (λ (s : Sent). s.bytes))
+    grind (arith, first.all n within enough, ap length (sym are ∙ first.are), length-take, length-map)
 
 -- the worked message has two frames, and both are among the stream's first two
 whole_lost : {messages : List (List ℕ)} → messages ≡ [] → AreFirst 1 25 0 one_accepted (take 2 (both_frames A)) messages → ⊥
@@ -202,12 +197,7 @@ within_by_test (e ∷ es) whole n farthest carries test =
     let parts = and_parts (nat_lt e.1 n && nat_le farthest (e.1 + 254) && nat_le e.1 (carries + 254)
     && (not (same_net whole e.0) || nat_eq e.1 carries)) _ test in
     let here = parts.0 in (
-      record {
-        inside = grind (arith, nat_tests);
-        near = grind (arith, nat_tests);
-        ahead = grind (arith, nat_tests);
-        in_order = λ same. grind (arith, nat_tests);
-      },
+      grind (arith, nat_tests),
       within_by_test es whole n (max farthest (e.1 + 1)) (cond (same_net whole e.0) (carries + 1) carries) parts.1,
     )
 

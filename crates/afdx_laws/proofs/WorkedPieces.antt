@@ -22,10 +22,7 @@ use Rattle.afdx_laws.proofs.WorkedMessage.{not_front, both_handed, needs_handing
 first_alone : (j : ℕ) → j ≤ length two_datagrams
     → length (sent_from 8 0 0 (take j two_datagrams)) ≤ length (of_sub 0 five_fragments) → j ≤ 1
 unfolding cutting
-first_alone zero few enough = omega arith
-first_alone (suc zero) few enough = omega arith
-first_alone (suc (suc zero)) few enough = absurd (omega arith)
-first_alone (suc (suc (suc j))) few enough = absurd (omega arith)
+first_alone j few enough = grind arith
 
 -- both datagrams have a byte
 two_some : All HasByte two_datagrams
