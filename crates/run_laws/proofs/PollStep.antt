@@ -2,6 +2,7 @@
 use Rattle.std.proofs.Common.{ℕ, zero, suc, ◌≡◌, ◌≢◌, ◌+◌, ◌<◌, List, [], ◌∷◌, ◌++◌, Bool, true, false, ◌&&◌, ◌||◌, nat_eq, arith, refl, ap, ◌∙◌, sym, subst, Option, Some, None, inl, inr, ⊎_elim, ◌≤◌, length}
 use borrow.Author.Count.{below_more}
 use Rattle.std.proofs.Math.Bool.{or-true}
+use Rattle.std.proofs.lemmas.Bool.Decides.{nat_tests}
 use Rattle.std.proofs.lemmas.Bool.{or_from, both_ways, cases_eq, and_from, and_parts, and_right, eq-eqb, ne_eqb}
 use Rattle.afdx_plan.specs.declared.link_plan.LinkPlan.{LinkPlan}
 use Rattle.afdx_frame.specs.Header.{sub_in}
@@ -55,10 +56,7 @@ pub record IsStep (now gap subs x : ℕ) (S T : List Entry) : Type 0 where
 
 -- two tests that fail together: one number is another, and this
 has_not : (s x : ℕ) (b : Bool) → (s ≡ x → b ≡ false) → (nat_eq s x && b) ≡ false
-has_not s x b not = ⊎_elim
-    (λ (is : s ≡ x). and_right (nat_eq s x) b (not is))
-    (λ (ne : s ≢ x). ap (λ (t : Bool). t && b) (ne_eqb s x ne))
-    (cases_eq s x)
+has_not s x b not = grind (arith, nat_tests)
 
 -- the first place of a number in an order
 record IsFirst (order : ℕ → ℕ) (sub most : ℕ) : Type 0 where
@@ -72,8 +70,7 @@ first_at : (order : ℕ → ℕ) (sub n more from : ℕ) → from + more ≡ n �
     → order n ≡ sub
     → IsFirst order sub (suc n)
 first_at order sub n zero from sum before is =
-    let here : from ≡ n = omega arith in
-    record { turn = from; within = omega arith; is = ap order here ∙ is; before = before }
+    record { turn = from; within = omega arith; is = grind arith; before = before }
 first_at order sub n (suc more) from sum before is = elim (cases_eq (order from) sub) [
   | inl here ↦ record { turn = from; within = omega arith; is = here; before = before }
   | inr not ↦
@@ -210,9 +207,7 @@ turns_step now plan k x all P i (suc many) lines after seen le lt few t stands =
 -- no two links of a valid plan have one identifier
 apart : (plan : Plan) (j k : ℕ) → IsPlan plan → j < length plan.links → k < length plan.links → j ≢ k
     → (link_plan_at plan.links j).id.0 ≢ (link_plan_at plan.links k).id.0
-apart plan j k valid jlt klt ne e =
-    let made = λ (n : ℕ). let v : VlId = record { 0 = n } in v in
-    ne (valid.links_apart j k jlt klt (ap made e))
+apart plan j k valid jlt klt ne e = ne (valid.links_apart j k jlt klt (grind arith))
 
 -- messages that ports may send have room in the offset
 short : (plan : Plan) (k s : ℕ) (messages : List Sent) → All (IsAllowed plan k s) messages → All IsShort messages

@@ -1,6 +1,7 @@
 -- A run of polls, as the polls of one link.
-use Rattle.std.proofs.Common.{ℕ, ◌≡◌, ◌≢◌, ◌+◌, ◌<◌, ◌≤◌, List, [], ◌∷◌, ◌++◌, Bool, false, ◌&&◌, cond, nat_le, arith, refl, ap, ◌∙◌, sym, Option, Some, None, ⊎_elim, ◌⊎◌, ◌-◌, ◌*◌, true, nat_eq, length, subst}
+use Rattle.std.proofs.Common.{ℕ, inl, inr, ◌≡◌, ◌≢◌, ◌+◌, ◌<◌, ◌≤◌, List, [], ◌∷◌, ◌++◌, Bool, false, ◌&&◌, cond, nat_le, arith, refl, ap, ◌∙◌, sym, Option, Some, None, ⊎_elim, ◌⊎◌, ◌-◌, ◌*◌, true, nat_eq, length, subst}
 use Rattle.std.specs.Prelude.{All, map}
+use Rattle.std.proofs.lemmas.Bool.Decides.{nat_tests}
 use Rattle.std.proofs.lemmas.Bool.{cases_eq, cases_lt, lt-leb, and_right, ne_eqb, eq-eqb}
 use Rattle.std.proofs.lemmas.List.Sums.{sum_by-cons}
 use Rattle.std.proofs.lemmas.List.Elements.{All-cons, All-nil}
@@ -57,21 +58,15 @@ counted x bound p polls = sum_by-cons (λ (q : Poll). cond (nat_le q.at bound &&
 -- a poll that released none of them adds nothing
 adds_none : (x bound : ℕ) (p : Poll) (polls : List Poll) → (nat_le p.at bound && is_of x p.released) ≡ false
     → released_by x bound (p ∷ polls) ≡ released_by x bound polls
-adds_none x bound p polls none =
-    counted x bound p polls ∙ ap (λ (t : Bool). cond t 1 0 + released_by x bound polls) none ∙ zero_more (released_by x bound polls)
-  where
-    zero_more : (n : ℕ) → 0 + n ≡ n
-    zero_more n = omega arith
+adds_none x bound p polls none = grind (arith, counted x bound p polls)
 
 -- nothing is counted after the bound
 late_none : (late x bound before : ℕ) (polls : List Poll) → bound < before → ComeWithin late before (map at_of polls)
     → released_by x bound polls ≡ 0
 late_none late x bound before [] past come = refl
 late_none late x bound before (p ∷ polls) past come =
-    let first = come.0 in
     let later : bound < p.at = omega arith in
-    adds_none x bound p polls (ap (λ (t : Bool). t && is_of x p.released) (lt-leb p.at bound later))
-    ∙ late_none late x bound p.at polls later come.2
+    grind (arith, nat_tests, adds_none x bound p polls, late_none late x bound p.at polls later come.2)
 
 -- the first entry of a sub-VL is among these, and was released by this time
 pub record IsFound (x bound : ℕ) (added : List Entry) : Type 0 where
@@ -112,29 +107,27 @@ finds (p ∷ polls) added late x bound before come show one =
         and_right (nat_le p.at bound) (is_of x p.released) (ap (is_of x) is) in
         let count = adds_none x bound p polls none in
         rw same (rest (omega arith))
-    by_release (Some chosen) is (e, more, at, of) rest = ⊎_elim
-        (λ (own : chosen ≡ x). ⊎_elim
-        (λ (past : bound < p.at).
-        let count : released_by x bound (p ∷ polls) ≡ 0 =
-        late_none late x bound p.at (p ∷ polls) past (omega arith, omega arith, come.2) in
-        absurd (omega (arith, count, one)))
-        (λ (soon : p.at ≤ bound). record {
-          between = [];
-          next = e;
-          later = show.0;
-          is = more;
-          others = All-nil (λ (d : Entry). sub_in d.frame ≢ x);
-          its = of ∙ own;
-          soon = omega (arith, at, soon);
-        })
-        (cases_lt bound p.at))
-        (λ (other : chosen ≢ x).
-        let none : (nat_le p.at bound && is_of x p.released) ≡ false =
-        and_right (nat_le p.at bound) (is_of x p.released) (ap (is_of x) is ∙ ne_eqb chosen x other) in
-        let count = adds_none x bound p polls none in
-        found_after x bound e added show.0 more (λ (mine : sub_in e.frame ≡ x). other (sym of ∙ mine))
-        (rest (omega arith)))
-        (cases_eq chosen x)
+    by_release (Some chosen) is (e, more, at, of) rest = elim (cases_eq chosen x) [
+      | inl own ↦ record {
+        between = [];
+        next = e;
+        later = show.0;
+        is = more;
+        others = All-nil (λ (d : Entry). sub_in d.frame ≢ x);
+        its = of ∙ own;
+        soon = elim (cases_lt bound p.at) [
+          | inl past ↦
+              let none = late_none late x bound p.at (p ∷ polls) past (omega arith, omega arith, come.2) in
+              absurd (omega arith)
+          | inr soon ↦ omega arith
+        ];
+      }
+      | inr other ↦
+          let none : (nat_le p.at bound && is_of x p.released) ≡ false =
+          and_right (nat_le p.at bound) (is_of x p.released) (ap (is_of x) is ∙ ne_eqb chosen x other) in
+          let count = adds_none x bound p polls none in
+          found_after x bound e added show.0 more (λ (mine : sub_in e.frame ≡ x). other (sym of ∙ mine)) (rest (omega arith))
+    ]
 
 -- whether a message of a sub-VL is begun, after one more entry
 begun_push : (begun : ℕ → Bool) (S : List Entry) (e : Entry) (x : ℕ)
@@ -168,18 +161,7 @@ Waits x many S = 1 ≤ many → begun_by none_begun S x ≡ true
 -- so it is after a poll
 still_waits : (now x many : ℕ) (released : Option ℕ) (S M : List Entry) → many ≤ 1 → Waits x many S → Adds now released S M
     → Waits x (left x many released) M
-still_waits now x many None S M few begun same some =
-    ap (λ (l : List Entry). begun_by none_begun l x) same ∙ begun (omega arith)
-still_waits now x many (Some chosen) S M few begun (frame, of, more) some = ⊎_elim
-    (λ (own : chosen ≡ x). let none = rw (eq-eqb chosen x own) at some in absurd (omega arith))
-    (λ (other : chosen ≢ x).
-    let waits = rw (ne_eqb chosen x other) at some in
-    ap (λ (l : List Entry). begun_by none_begun l x) more
-    ∙ begun_push none_begun S (entry now frame) x
-    ∙ ap (λ (t : Bool). cond t (more_in frame) (begun_by none_begun S x))
-    (ap (λ (m : ℕ). nat_eq m x) of ∙ ne_eqb chosen x other)
-    ∙ begun (omega arith))
-    (cases_eq chosen x)
+still_waits now x many released S M few begun adds some = grind (arith, nat_tests, begun_push none_begun S)
 
 -- one poll before others
 run_more : (now gap subs x many : ℕ) (moments : List ℕ) (released : Option ℕ) (has : ℕ → Bool) (S M T : List Entry)
@@ -251,19 +233,11 @@ have_run (now ∷ moments) plan k x many lines after valid inside r stands few b
     (fewer many (is_of x step.released) few) waits)
   where
     fewer : (many : ℕ) (t : Bool) → many ≤ 1 → many - cond t 1 0 ≤ 1
-    fewer many true few = omega arith
-    fewer many false few = omega arith
+    fewer many t few = grind arith
 
 -- a gap isn't nothing
 some_gap : (bag : Bag) → 1 ≤ 1000 * bag_ms bag
-some_gap Ms1 = omega arith
-some_gap Ms2 = omega arith
-some_gap Ms4 = omega arith
-some_gap Ms8 = omega arith
-some_gap Ms16 = omega arith
-some_gap Ms32 = omega arith
-some_gap Ms64 = omega arith
-some_gap Ms128 = omega arith
+some_gap bag = grind arith
 
 -- the next entry of the sub-VL, by a moment
 next_by : (T earlier added : List Entry) (first : Entry) (bound : ℕ) → more_in first.frame ≡ true

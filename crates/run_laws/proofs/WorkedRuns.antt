@@ -130,12 +130,7 @@ two_polls = (
 
 -- after it alone nothing comes
 alone : (bound : ℕ) (stream : List Entry) → stream ≡ front_entry ∷ [] → ComesBy stream front_entry bound → ⊥
-alone bound stream is comes =
-    let one : length stream ≡ 1 = ap length is in
-    let whole = ap length comes.are.is in
-    let parts = length-append comes.are.before (front_entry ∷ (comes.between ++ comes.next ∷ comes.are.after)) in
-    let rest = length-append comes.between (comes.next ∷ comes.are.after) in
-    omega arith
+alone bound stream is comes = grind (arith, ap length is, ap length comes.are.is, length-append)
 
 -- of two entries the second follows the first
 second_is : (before between after : List Entry) (first second e next : Entry)
@@ -153,12 +148,9 @@ second_is (x ∷ xs) between after first second e next is =
 comes_when : (now bound : ℕ) (stream : List Entry) → stream ≡ front_entry ∷ entry now (back_frame A) ∷ []
     → ComesBy stream front_entry bound → now ≤ bound
 comes_when now bound stream is comes =
-    let next : entry now (back_frame A) ≡ comes.next =
-    second_is comes.are.before comes.between comes.are.after front_entry (entry now (back_frame A)) front_entry comes.next
-    (sym is ∙ comes.are.is) in
-    let same : now ≡ comes.next.at = ap (λ (e : Entry). e.at) next in
-    let soon = comes.soon in
-    omega arith
+    let next = second_is comes.are.before comes.between comes.are.after front_entry (entry now (back_frame A)) front_entry
+    comes.next (sym is ∙ comes.are.is) in
+    grind arith
 
 -- the row
 pub comes_in_run : ComesInRun
