@@ -70,8 +70,7 @@ all_pass charge rule account p (q ∷ rest) on ready =
     (left rule account p cost ready cheap)))
   where
     head_on : (rule : Rule) (q : Passage) (rest : List Passage) → AreOnTime rule (q ∷ rest) → IsOnTime rule q
-    head_on rule q [] on = on
-    head_on rule q (r ∷ rest) on = on.0
+    head_on rule q rest on = grind arith
 
 -- the law
 pub none_dropped_holds : NoneDropped
@@ -89,13 +88,11 @@ on_time gap lmax jitter around r p small way = omega arith
 are_on_time : (gap lmax jitter around : ℕ) (before : Option Stamp) (stream : List Entry) (passages : List Passage)
     → IsSpaced gap before stream → All (IsUpTo lmax) stream → AllZip (IsOnItsWay around jitter) stream passages
     → AreOnTime (rule_around gap lmax jitter around) passages
-are_on_time gap lmax jitter around before [] [] spaced small way = tt
+are_on_time gap lmax jitter around before stream [] spaced small way = tt
 are_on_time gap lmax jitter around before [] (p ∷ passages) spaced small way = absurd way
-are_on_time gap lmax jitter around before (r ∷ later) [] spaced small way = absurd way
-are_on_time gap lmax jitter around before (r ∷ []) (p ∷ []) spaced small way =
+are_on_time gap lmax jitter around before (r ∷ later) (p ∷ []) spaced small way =
     on_time gap lmax jitter around r p (small 0 r (omega arith)) way.0
 are_on_time gap lmax jitter around before (r ∷ []) (p ∷ q ∷ passages) spaced small way = absurd way.1
-are_on_time gap lmax jitter around before (r ∷ s ∷ later) (p ∷ []) spaced small way = absurd way.1
 are_on_time gap lmax jitter around before (r ∷ s ∷ later) (p ∷ q ∷ passages) spaced small way =
     let apart = spaced.1.0 in
     let first = (way.0).released in

@@ -76,24 +76,14 @@ stream_side net vl es = with_map (λ (e : Entry). link_in e.frame) (λ (e : Entr
 -- a link's entries in the first entries are its first
 stream_take : (vl n : ℕ) (es : List Entry)
     → link_stream vl (take n es) ≡ take (length (link_stream vl (take n es))) (link_stream vl es)
-stream_take vl n es =
-    let front : List Entry = link_stream vl (take n es) in
-    let back : List Entry = link_stream vl (drop n es) in
-    let whole : link_stream vl es ≡ front ++ back =
-    ap (link_stream vl) (sym (take-append-drop n es))
-    ∙ with_append (λ (e : Entry). link_in e.frame) vl (take n es) (drop n es) in
-    sym (ap (take (length front)) whole ∙ take-append_seam front back)
+stream_take vl n es = grind (arith, take-append-drop n es, take-append_seam (link_stream vl (take n es)) (link_stream vl (drop n es)),
+    with_append (λ (e : Entry). link_in e.frame) vl (take n es) (drop n es))
 
 -- twins of the first entries have a link's entries as twins of its first
 pub stream_front : (net : Net) (vl : ℕ) (longer shorter : List Entry) → shorter ≡ map (side net) (take (length shorter) longer)
     → link_stream vl shorter ≡ map (side net) (take (length (link_stream vl shorter)) (link_stream vl longer))
-stream_front net vl longer shorter is =
-    let n : ℕ = length shorter in
-    let turned : link_stream vl shorter ≡ map (side net) (link_stream vl (take n longer)) =
-    ap (link_stream vl) is ∙ stream_side net vl (take n longer) in
-    let count : length (link_stream vl (take n longer)) ≡ length (link_stream vl shorter) =
-    sym (ap length turned ∙ length-map (link_stream vl (take n longer)) (side net)) in
-    turned ∙ ap (map (side net)) (stream_take vl n longer ∙ ap (λ (m : ℕ). take m (link_stream vl longer)) count)
+stream_front net vl longer shorter is = grind (arith, ap (link_stream vl) is, length-map,
+    stream_side net vl (take (length shorter) longer), stream_take vl (length shorter) longer)
 
 -- and its frames as twins of its first frames
 pub frames_front : (net : Net) (vl : ℕ) (longer shorter : List Entry) → shorter ≡ map (side net) (take (length shorter) longer)
@@ -110,12 +100,7 @@ turned_back : (first second : Net) (xs ys : List (List ℕ)) → All (IsOfNet fi
     → ys ≡ map (twin_of second) (take (length ys) xs) → length xs ≤ length ys
     → xs ≡ map (twin_of first) (take (length xs) ys)
 turned_back first second xs ys own is as_long =
-    let count = ap length is ∙ length-map (take (length ys) xs) (twin_of second) in
-    let taken = length-take (length ys) xs in
-    let all_x : take (length ys) xs ≡ xs = take_all (length ys) xs (omega arith) in
-    let all_y : take (length xs) ys ≡ ys = take_all (length xs) ys (omega arith) in
-    sym (ap (map (twin_of first)) (all_y ∙ is ∙ ap (map (twin_of second)) all_x)
-    ∙ twin_twin second first xs ∙ own_twins first xs own)
+    grind (arith, ap length is, length-map, length-take, take_all, twin_twin, own_twins first xs own)
 
 -- so the shorter list is twins of the longer one's beginning, whichever that is
 pub twins_by_b : (xs ys : List (List ℕ)) → All (IsOfNet A) xs → ys ≡ map (twin_of B) (take (length ys) xs) → AreTwins twin_of xs ys

@@ -17,10 +17,6 @@ use Rattle.afdx_laws.proofs.Receiving.{IsPlaced, grows, placed}
 too_far : (c i : ℕ) → 1 ≤ c → c < i → i < c + 255 → is_ahead 1 (last c) (sequence_number i) ≡ false
 too_far c i some far near = grind (arith, next_is, differ)
 
--- a test has one answer
-one_answer : {t : Bool} → t ≡ true → t ≡ false → ⊥
-one_answer is isnt = false≢true (sym isnt ∙ is)
-
 -- what is accepted is the next frame
 is_next : (c i high : ℕ) → high ≤ i + 254 → c ≤ high → i < c + 255 → (high ≡ 0 → i ≡ 0) → (high ≡ 0) ⊎ (1 ≤ c)
     → is_ahead 1 (last c) (sequence_number i) ≡ true → i ≡ c
@@ -33,9 +29,6 @@ accepted_seen net n state = grind arith
 -- accepting a frame leaves what was seen
 seen_accepted : (net : Net) (n : ℕ) (state : State) → seen_on net (with_accepted n state) ≡ seen_on net state
 seen_accepted net n state = grind arith
-
-one_more : (b : ℕ) → suc b ≡ b + 1
-one_more b = omega arith
 
 -- what was seen last on the whole network, after a frame
 seen_after : (whole net : Net) (b i : ℕ) (state : State) → seen_on whole state ≡ last b
@@ -53,11 +46,15 @@ count_whole : {F : Type 0} (whole net : Net) (frame : F) (b : ℕ) (es : List (N
     (carried whole ((net, frame) ∷ es))
 count_whole whole net frame b es = grind arith
 
--- the receiver isn't behind the whole network, where it drops
-grown_le : (t : Bool) (b c : ℕ) → b ≤ c → (t ≡ true → b < c) → cond t (b + 1) b ≤ c
-grown_le t b c le lt = grind arith
+-- where the receiver drops a frame, it isn't behind the whole network, and has accepted one
+dropped : (check : ℕ) (whole net : Net) (b c i high : ℕ) (state : State) → 1 ≤ check → seen_on whole state ≡ last b
+    → b ≤ c → c ≤ high → (high ≡ 0 → i ≡ 0) → (high ≡ 0) ⊎ (1 ≤ c) → (same_net whole net ≡ true → i ≡ b)
+    → (is_valid check (seen_on net state) (sequence_number i) && is_ahead 1 (last c) (sequence_number i)) ≡ false
+    → (cond (same_net whole net) (b + 1) b ≤ c) × (1 ≤ c)
+dropped check whole net b c i high state some seen behind within first begun own drops =
+    grind (arith, valid_next, new_next, seen_own)
 
--- and where it accepts
+-- nor is it where it accepts
 grown_le_suc : (t : Bool) (b c : ℕ) → b ≤ c → cond t (b + 1) b ≤ suc c
 grown_le_suc t b c le = grind arith
 
@@ -117,28 +114,10 @@ masks {F = F} number h stream frame check whole
                 ∙ more.are);
           }
       | inr drops ↦
-          let own_behind : same_net whole net ≡ true → b < c = λ own. elim (cases_lt b c) [
-            | inl less ↦ less
-            | inr equal ↦
-                let c_is : c ≡ b = omega arith in
-                let v : is_valid check (seen_on net state) (sequence_number i) ≡ true =
-                rw (here.in_order own, seen_own whole net state own ∙ seen) (valid_next check b some) in
-                let a : is_ahead 1 (last c) (sequence_number i) ≡ true =
-                rw (here.in_order own, c_is) (new_next 1 b (omega arith)) in
-                absurd (one_answer (and_from _ _ v a) drops)
-          ] in
-          let started : 1 ≤ c = elim begun [
-            | inr yet ↦ yet
-            | inl none ↦
-                let c_is : c ≡ 0 = omega arith in
-                let v : is_valid check (seen_on net state) (sequence_number i) ≡ true = rw (first none) refl in
-                let a : is_ahead 1 (last c) (sequence_number i) ≡ true = rw c_is refl in
-                absurd (one_answer (and_from _ _ v a) drops)
-          ] in
+          let kept = dropped check whole net b c i high state some seen behind within first begun here.in_order drops in
           let more = masks number h stream frame check whole es after (max high (i + 1))
           (cond (same_net whole net) (b + 1) b) c some each close.1 (λ none. absurd (omega arith))
-          seen_next (accepted_seen net (number f) state ∙ took)
-          (grown_le (same_net whole net) b c behind own_behind) (omega arith) (inr started) in
+          seen_next (accepted_seen net (number f) state ∙ took) kept.0 (omega arith) (inr kept.1) in
           let reach = more.reaches in
           record { many = more.many; reaches = omega arith; are = rw (test ∙ drops) more.are }
     ]

@@ -49,8 +49,7 @@ distinct_of (e ∷ es) one = IsDistinct-cons eqb (sub_in e.frame) (subs_of es)
   where
     fewer : (y : ℕ) (t : Bool) → length (cond t (e ∷ sub_stream y es) (sub_stream y es)) ≤ 1
         → length (sub_stream y es) ≤ 1
-    fewer y true one_more = omega arith
-    fewer y false same = same
+    fewer y t one = grind arith
 
 -- all are the link's
 below_of : (n : ℕ) (es : List Entry) → All (IsOfOneOf n) es → (q : ℕ) → list_any (eqb q) (subs_of es) ≡ true → q < n
@@ -126,11 +125,9 @@ next_in_time subs gap late stream first between next turns of n follow =
 -- by the polls
 pub next_polled_in_time : NextPolledInTime
 next_polled_in_time subs x gap late released polls xl some served paced has reach =
-    let once : subs * (0 + 1) ≡ subs = omega arith in
     let law = polled_in_time_holds subs x 0 1 gap late released (Some (record { at = released; sub = x })) polls xl some xl
-    (omega arith) served paced has
-    (subst (λ (n : ℕ). released + n * (gap + late) ≤ latest_poll released polls) (sym once) reach) in
-    subst (λ (n : ℕ). 1 ≤ released_by x (released + n * (gap + late)) polls) once law
+    (omega arith) served paced has (grind arith) in
+    grind arith
 
 -- a link's number is one of those that the greatest is of
 pub wait_at : (late : ℕ) (links : List LinkPlan) (k : ℕ) → k < length links

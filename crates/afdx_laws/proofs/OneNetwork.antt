@@ -23,14 +23,12 @@ use Rattle.afdx_laws.proofs.LegalLinks.{are_handed}
 -- the network carried all that came
 carried_all : (net : Net) (frames : List (List ℕ)) → carried net (all_from net frames) ≡ frames
 carried_all net [] = refl
-carried_all A (f ∷ fs) = cons_same refl (carried_all A fs)
-carried_all B (f ∷ fs) = cons_same refl (carried_all B fs)
+carried_all net (f ∷ fs) = grind (arith, carried_all net fs)
 
 -- and the other nothing
 carried_none : (net : Net) (frames : List (List ℕ)) → carried (other net) (all_from net frames) ≡ []
 carried_none net [] = refl
-carried_none A (f ∷ fs) = carried_none A fs
-carried_none B (f ∷ fs) = carried_none B fs
+carried_none net (f ∷ fs) = grind (arith, carried_none net fs)
 
 -- the other network carries no frame of this one
 skips : (net : Net) (frame : List ℕ) (later : List (List ℕ)) → carried_by (other net) net frame later ≡ later
@@ -53,14 +51,11 @@ all_its net (f ∷ fs) (x ∷ before) after e is =
 -- so none is behind the other network
 never_behind : (net : Net) (frames : List (List ℕ)) → IsNear 0 (all_from net frames)
 never_behind net frames before after from frame is =
-    let its = all_its net frames before after (from, frame) is in
-    subst (λ (n : Net). length (carried (other n) before) ≤ length (carried n before) + 0) (sym its.0)
-    (let none = ap length its.1 in omega arith)
+    grind (arith, all_its net frames before after (from, frame) is)
 
 -- the one that carried more frames carried all
 many_from : (net : Net) (frames : List (List ℕ)) → most_carried (all_from net frames) ≡ length frames
-many_from A frames = omega (arith, ap length (carried_all A frames), ap length (carried_none A frames))
-many_from B frames = omega (arith, ap length (carried_all B frames), ap length (carried_none B frames))
+many_from net frames = grind (arith, carried_all net frames, carried_none net frames)
 
 -- what came of a network's own frames begins their twins for it, and nothing those for the other
 begins_for : (to net : Net) (came mine : List (List ℕ)) → All (IsOfNet net) mine → IsPrefixOf came mine

@@ -53,14 +53,8 @@ drops_it number tolerance state after net frame es n is old then_is = grind arit
 pub grows : {F : Type 0} (h : F → F) (stream : List F) (i : ℕ) (frame : F) (rest : List F) → i < length stream
     → h frame ≡ get_or stream i (h frame)
     → take i stream ++ (h frame ∷ rest) ≡ take (suc i) stream ++ rest
-grows {F = F} h stream i frame rest inside is =
-    let more : take (suc i) stream ≡ take i stream ++ (get_or stream i (h frame) ∷ []) =
-    ap (λ (k : ℕ). take k stream) (one_more i) ∙ take_more stream i (h frame) inside in
-    sym (append_assoc (take i stream) (h frame ∷ []) rest) ∙ ap (λ (x : F). (take i stream ++ (x ∷ [])) ++ rest) is
-    ∙ ap (λ (xs : List F). xs ++ rest) (sym more)
-  where
-    one_more : (i : ℕ) → suc i ≡ i + 1
-    one_more i = omega arith
+grows h stream i frame rest inside is =
+    grind (arith, take_more stream i (h frame) inside, append_assoc (take i stream) (h frame ∷ []) rest)
 
 -- One frame of a network, where the states differ in what was seen on it and in what was accepted last: at `from` it
 -- is one of `a` frames, where `b` came from the other network.

@@ -51,11 +51,11 @@ spent charge rule credit start end (f ∷ later) between =
       | inl cannot ↦
           let rest = (spent charge rule now.credit f.at end later between.1).0 in
           let same = one_dropped charge rule account f later cannot in
-          (omega arith, omega arith)
+          omega arith
       | inr can ↦
           let rest = (spent charge rule (now.credit - price charge rule f) f.at end later between.1).0 in
           let same = one_passed charge rule account f later can in
-          (omega arith, omega arith)
+          omega arith
     ]
 
 -- the law

@@ -32,15 +32,7 @@ many_twins net sub frames =
 -- the frames of the longer of two streams are the longer list of their frames
 longer_frames : (xs ys : List Entry) → map (λ (e : Entry). e.frame) (longer_stream xs ys)
     ≡ longer (map (λ (e : Entry). e.frame) xs) (map (λ (e : Entry). e.frame) ys)
-longer_frames xs ys = rw (length-map xs (λ (e : Entry). e.frame), length-map ys (λ (e : Entry). e.frame))
-    (at (nat_lt (length xs) (length ys)))
-  where
-    frames : List Entry → List (List ℕ)
-    frames es = map (λ (e : Entry). e.frame) es
-
-    at : (t : Bool) → frames (if t then ys else xs) ≡ (if t then frames ys else frames xs)
-    at true = refl
-    at false = refl
+longer_frames xs ys = grind (arith, length-map)
 
 -- a link's own stream has as many frames of a sub-VL as the longer of its two lists
 many_own : (sub vl : ℕ) (a b : List Entry)

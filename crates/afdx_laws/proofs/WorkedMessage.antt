@@ -75,9 +75,7 @@ first_of read (x ∷ later) = read x
 -- lists of which the first differs aren't the first of others
 pub not_front : (read : List ℕ → ℕ) {m : List ℕ} {later : List (List ℕ)} (xs : List (List ℕ)) (many : ℕ)
     → nat_eq (read m) (first_of read xs) ≡ false → m ∷ later ≡ take many xs → ⊥
-not_front read xs zero other is = nil_isnt_cons (sym is)
-not_front read [] (suc many) other is = nil_isnt_cons (sym is)
-not_front read (x ∷ xs) (suc many) other is = false≢true (sym other ∙ eq-eqb _ _ (ap (first_of read) is))
+not_front read xs many other is = grind arith
 
 -- the first byte of a message
 abbrev pub first_byte : List ℕ → ℕ
