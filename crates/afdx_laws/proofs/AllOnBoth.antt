@@ -1,6 +1,7 @@
 -- Where all links are on both networks nothing is cut, and each link's own stream is in the longer list.
 use Rattle.std.proofs.Common.{◌≡◌, ℕ, ◌≤◌, ◌<◌, ◌&&◌, inl, inr, true, nat_eq, List, [], ◌∷◌, length, map, take, refl, ap, sym, ◌∙◌, subst, arith}
 use Rattle.std.specs.Prelude.{All}
+use Rattle.std.proofs.lemmas.Bool.Decides.{nat_tests}
 use Rattle.std.proofs.lemmas.Bool.{cases_lt, and_from, eq-eqb, lt-ltb, le-ltb}
 use Rattle.std.proofs.lemmas.List.{length-map, length-take, take_all}
 use Rattle.std.proofs.lemmas.List.Folds.{list_any_at}
@@ -27,9 +28,7 @@ known_on_both : (links : List LinkPlan) (net : Net) (frame : List ℕ) → All I
 known_on_both links net frame all known =
     list_any_at (λ (link : LinkPlan). nat_eq link.id.0 (link_in frame) && is_both link.networks) links known.k
     (link_plan_at [] 0) known.within
-    (and_from (nat_eq (link_plan_at links known.k).id.0 (link_in frame)) (is_both (link_plan_at links known.k).networks)
-    (eq-eqb (link_plan_at links known.k).id.0 (link_in frame) (sym known.link))
-    (ap is_both (all known.k (link_plan_at [] 0) known.within)))
+    (let both = all known.k (link_plan_at [] 0) known.within in grind (arith, nat_tests))
 
 -- so nothing is cut
 none_cut : (links : List LinkPlan) (net : Net) (es : List Entry) → All IsOnBoth links → AreKnown links net es
@@ -54,25 +53,13 @@ own_in_a : (vl : ℕ) (a b : List Entry) → length b ≤ length a → AreTwins 
     → own_stream vl a b ≡ link_stream vl (map (side A) (longer a b))
 own_in_a vl a b as_long twins =
     let front = stream_front B vl a b (twins.b_shorter as_long) in
-    let less = no_longer B (link_stream vl a) (link_stream vl b) front in
-    rw (le-ltb (length (link_stream vl a)) (length (link_stream vl b)) less, le-ltb (length a) (length b) as_long)
-    (sym (stream_side A vl a))
+    grind (arith, nat_tests, no_longer B (link_stream vl a) (link_stream vl b) front, stream_side A vl a)
 
 -- and else in the second
 own_in_b : (vl : ℕ) (a b : List Entry) → length a < length b → AreTwins side a b
     → own_stream vl a b ≡ link_stream vl (map (side A) (longer a b))
-own_in_b vl a b shorter twins = elim (cases_lt (length (link_stream vl a)) (length (link_stream vl b))) [
-  | inl less ↦ rw (
-    lt-ltb (length (link_stream vl a)) (length (link_stream vl b)) less,
-    lt-ltb (length a) (length b) shorter,
-  ) (sym (stream_side A vl b))
-  | inr as_many ↦ rw (
-    le-ltb (length (link_stream vl a)) (length (link_stream vl b)) as_many,
-    lt-ltb (length a) (length b) shorter,
-  ) (ap (map (side A)) (stream_front A vl b a (twins.a_shorter (omega arith))
-      ∙ ap (map (side A)) (take_all (length (link_stream vl a)) (link_stream vl b) as_many))
-      ∙ side_side A A (link_stream vl b) ∙ sym (stream_side A vl b))
-]
+own_in_b vl a b shorter twins = grind (arith, nat_tests, stream_front A vl b a (twins.a_shorter (omega arith)), take_all,
+    side_side A A (link_stream vl b), stream_side A vl b)
 
 -- the law
 pub all_on_both_holds : AllOnBoth

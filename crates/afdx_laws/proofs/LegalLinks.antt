@@ -88,12 +88,8 @@ stream_front net vl longer shorter is = grind (arith, ap (link_stream vl) is, le
 -- and its frames as twins of its first frames
 pub frames_front : (net : Net) (vl : ℕ) (longer shorter : List Entry) → shorter ≡ map (side net) (take (length shorter) longer)
     → frames_of vl shorter ≡ map (twin_of net) (take (length (frames_of vl shorter)) (frames_of vl longer))
-frames_front net vl longer shorter is =
-    let n : ℕ = length (link_stream vl shorter) in
-    ap (map frame_of_entry) (stream_front net vl longer shorter is)
-    ∙ frames_side net (take n (link_stream vl longer))
-    ∙ ap (map (twin_of net)) (sym (take-map frame_of_entry n (link_stream vl longer))
-    ∙ ap (λ (m : ℕ). take m (frames_of vl longer)) (sym (length-map (link_stream vl shorter) frame_of_entry)))
+frames_front net vl longer shorter is = grind (arith, ap (map frame_of_entry) (stream_front net vl longer shorter is),
+    frames_side net (take (length (link_stream vl shorter)) (link_stream vl longer)), take-map, length-map)
 
 -- where twins of the first of a network's own frames are as many, these are their twins in turn
 turned_back : (first second : Net) (xs ys : List (List ℕ)) → All (IsOfNet first) xs

@@ -2,6 +2,7 @@
 use Rattle.std.proofs.Common.{◌≡◌, ◌≢◌, ℕ, zero, suc, ◌+◌, ◌*◌, ◌≤◌, ◌<◌, inl, inr, Bool, true, false, eqb, nat_eq, cond, Some, List, [], ◌∷◌, ◌++◌, length, map, refl, ap, sym, ◌∙◌, subst, arith}
 use Rattle.std.specs.Prelude.{All}
 use Rattle.std.specs.List.{AllByRecursion, IsDistinct, list_any}
+use Rattle.std.proofs.lemmas.Bool.Decides.{nat_tests}
 use Rattle.std.proofs.lemmas.Bool.{cases_Bool, eq-eqb, eqb-true, ne_eqb, or_cases, false≢true}
 use Rattle.std.proofs.lemmas.List.{length-map}
 use Rattle.std.proofs.lemmas.List.Sums.{length-filter, count_by-le-length}
@@ -31,13 +32,7 @@ subs_of es = map (λ (e : Entry). sub_in e.frame) es
 -- a sub-VL without an entry is none of them
 none_in : (x : ℕ) (es : List Entry) → length (sub_stream x es) ≤ 0 → AllByRecursion (λ y. eqb x y ≡ false) (subs_of es)
 none_in x [] none = tt
-none_in x (e ∷ es) none = elim (cases_Bool (eqb (sub_in e.frame) x)) [
-  | inl is ↦ absurd (let some = rw is at none in omega arith)
-  | inr isnt ↦ (
-    ne_eqb x (sub_in e.frame) (λ same. false≢true (sym isnt ∙ eq-eqb (sub_in e.frame) x (sym same))),
-    none_in x es (rw isnt at none),
-  )
-]
+none_in x (e ∷ es) none = grind (arith, nat_tests, none_in x es)
 
 -- where each has one entry at most, they differ
 distinct_of : (es : List Entry) → ((y : ℕ) → length (sub_stream y es) ≤ 1) → IsDistinct eqb (subs_of es)
@@ -54,10 +49,7 @@ distinct_of (e ∷ es) one = IsDistinct-cons eqb (sub_in e.frame) (subs_of es)
 -- all are the link's
 below_of : (n : ℕ) (es : List Entry) → All (IsOfOneOf n) es → (q : ℕ) → list_any (eqb q) (subs_of es) ≡ true → q < n
 below_of n [] of q any = absurd (false≢true any)
-below_of n (e ∷ es) of q any = elim (or_cases (eqb q (sub_in e.frame)) (list_any (eqb q) (subs_of es)) any) [
-  | inl is ↦ subst (λ (s : ℕ). s < n) (sym (eqb-true q (sub_in e.frame) is)) (All-head (IsOfOneOf n) e es of)
-  | inr later ↦ below_of n es (All-tail (IsOfOneOf n) e es of) q later
-]
+below_of n (e ∷ es) of q any = grind (arith, nat_tests, below_of n es (λ k d h. of (suc k) d (omega arith)) q, of 0 e (omega arith))
 
 -- none of these entries is of this sub-VL
 none_of : (x : ℕ) (es : List Entry) → All (λ (e : Entry). sub_in e.frame ≢ x) es → length (sub_stream x es) ≤ 0
@@ -70,10 +62,8 @@ before_is : (x : ℕ) (between : List Entry) (next : Entry) (after : List Entry)
     → All (λ (e : Entry). sub_in e.frame ≢ x) between → sub_in next.frame ≡ x
     → before_next x (between ++ next ∷ after) ≡ between
 before_is x [] next after others its = rw (eq-eqb (sub_in next.frame) x its) refl
-before_is x (e ∷ es) next after others its =
-    rw (ne_eqb (sub_in e.frame) x (All-head (λ (d : Entry). sub_in d.frame ≢ x) e es others))
-    (ap (λ (rest : List Entry). e ∷ rest)
-    (before_is x es next after (All-tail (λ (d : Entry). sub_in d.frame ≢ x) e es others) its))
+before_is x (e ∷ es) next after others its = grind (arith, nat_tests, others 0 e (omega arith),
+    before_is x es next after (λ k d h. others (suc k) d (omega arith)) its)
 
 -- the entry is followed in turn, and those behind it are of the link's sub-VLs
 turn_at : (before : List Entry) (first : Entry) (rest : List Entry) → TakesTurns (before ++ first ∷ rest)

@@ -1,6 +1,7 @@
 -- Fragments in order need one buffer for each sub-VL.
 use Rattle.std.proofs.Common.{◌≡◌, ℕ, suc, ◌-◌, ◌≤◌, Bool, true, false, nat_eq, cond, List, [], ◌∷◌, length, drop, get_or, refl, ap, ◌∙◌, arith}
 use Rattle.std.specs.Prelude.{All, Option, Some, None, slice_index, ◌*◌}
+use Rattle.std.proofs.lemmas.Bool.Decides.{nat_tests}
 use Rattle.std.proofs.lemmas.Bool.{le-ltb, and_right}
 use Rattle.std.proofs.lemmas.List.{length-take, length-drop}
 use Rattle.std.proofs.lemmas.List.Elements.{All-nil, All-append, All-map}
@@ -47,9 +48,7 @@ HasNoneBehind most b = (i : ℕ) → most ≤ i → b.byte_at i ≡ None
 
 -- nor has it with a fragment more that ends before them
 put_within : (most : ℕ) (b : Buffer) (f : Fragment) → HasNoneBehind most b → end_of f ≤ most → HasNoneBehind most (put b f)
-put_within most b f none ends i past =
-    let outside : covers f i ≡ false = and_right _ _ (le-ltb i (end_of f) (omega arith)) in
-    ap (λ (t : Bool). cond t (Some (slice_index f.bytes (i - 8 * f.offset))) (b.byte_at i)) outside ∙ none i past
+put_within most b f none ends i past = grind (arith, nat_tests, none i past)
 
 -- nor where it gave its datagram
 kept_within : (most : ℕ) (b : Buffer) (given : Option (List ℕ)) → HasNoneBehind most b → HasNoneBehind most (kept_in b given)

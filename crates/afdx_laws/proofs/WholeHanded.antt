@@ -37,11 +37,8 @@ longer_frames xs ys = grind (arith, length-map)
 -- a link's own stream has as many frames of a sub-VL as the longer of its two lists
 many_own : (sub vl : ℕ) (a b : List Entry)
     → many_of sub (map (λ (e : Entry). e.frame) (own_stream vl a b)) ≡ many_of sub (longer (frames_of vl a) (frames_of vl b))
-many_own sub vl a b =
-    let own : List Entry = longer_stream (link_stream vl a) (link_stream vl b) in
-    ap (many_of sub) (frames_side A own)
-    ∙ many_twins A sub (map (λ (e : Entry). e.frame) own)
-    ∙ ap (many_of sub) (longer_frames (link_stream vl a) (link_stream vl b))
+many_own sub vl a b = grind (arith, frames_side A (longer_stream (link_stream vl a) (link_stream vl b)), many_twins A sub,
+    longer_frames (link_stream vl a) (link_stream vl b))
 
 -- of a sub-VL that is wholly released, all fragments are in the longer list
 all_handed : (plan : Plan) (accepted : Accepted) (log a b : List Entry) (k sub : ℕ)
@@ -50,11 +47,7 @@ all_handed : (plan : Plan) (accepted : Accepted) (log a b : List Entry) (k sub :
     → length (fragments plan.end_system (piece_room plan k) A (accepted k sub))
     ≡ many_of sub (longer (frames_of (id_at plan k) a) (frames_of (id_at plan k) b))
 all_handed plan accepted log a b k sub own released =
-    ap length released
-    ∙ ap length (told_is sub (link_stream (id_at plan k) log))
-    ∙ length-map (those_with sub_in sub (frames_of (id_at plan k) log)) blanked
-    ∙ ap (λ (es : List Entry). many_of sub (map (λ (e : Entry). e.frame) es)) own
-    ∙ many_own sub (id_at plan k) a b
+    grind (arith, ap length released, told_is sub (link_stream (id_at plan k) log), length-map, own, many_own sub (id_at plan k) a b)
 
 -- the law
 pub own_lists_arrive_holds : OwnListsArrive
