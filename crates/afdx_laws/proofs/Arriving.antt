@@ -30,9 +30,8 @@ use Rattle.afdx_laws.proofs.Reading.{same_fragment, read_any, reads_all, reads_f
 fragments_received : (got sent : List (List ℕ)) → map (twin_of A) got ≡ map (twin_of A) sent
     → map fragment_in got ≡ map fragment_in sent
 fragments_received got sent same =
-    map_same fragment_in (λ f. fragment_in (twin_of A f)) got (λ f. sym (same_fragment A f))
-    ∙ sym (map-map fragment_in (twin_of A) got) ∙ ap (map fragment_in) same ∙ map-map fragment_in (twin_of A) sent
-    ∙ map_same (λ f. fragment_in (twin_of A f)) fragment_in sent (λ f. same_fragment A f)
+    grind (arith, ap (map fragment_in) same, map-map, map_same fragment_in (λ f. fragment_in (twin_of A f)) got (λ f. sym (same_fragment A f)),
+    map_same fragment_in (λ f. fragment_in (twin_of A f)) sent (λ f. sym (same_fragment A f)))
 
 -- the first frames of a link have the first frames of a sub
 sub_take : (sub n : ℕ) (stream : List (List ℕ))
@@ -93,9 +92,7 @@ first_come end_system room sub count accepted net stream got sending first =
     let split : fragments end_system room net accepted
     ≡ map blanked (those_with sub_in sub (take count stream))
     ++ (map blanked (those_with sub_in sub (drop count stream)) ++ sending.first.0) =
-    sym sending.first.1 ∙ ap (λ (xs : List (List ℕ)). xs ++ sending.first.0)
-    (ap (map blanked) (sub_take sub count stream) ∙ map-append blanked front back)
-    ∙ append_assoc (map blanked front) (map blanked back) sending.first.0 in
+    grind (arith, sending.first.1, sub_take sub count stream, map-append, append_assoc) in
     let long : All IsLong (those_with sub_in sub (take count stream)) =
     All-filter (λ (f : List ℕ). nat_eq (word_at f 18 % 4) sub)
     IsLong (take count stream) (All-take IsLong count stream sending.frames.long) in (
@@ -122,17 +119,9 @@ arrived end_system room sub few many accepted net stream got sending first less 
       all = λ j within enough.
           let read = reads_all (take j accepted) end_system room sub 0 A least sending.link.greatest
           (All-take (IsSent sub) j accepted sending.sent) in
-          let sent : length (sent_from room sub 0 (take j (datagrams_of end_system accepted)))
-          ≡ length (fragments end_system room A (take j accepted)) =
-          ap (λ (ds : List (List ℕ)). length (sent_from room sub 0 ds))
-          (take-map (λ (s : Sent). datagram end_system s.port s.bytes) j accepted)
-          ∙ sym (ap length read.are) ∙ length-map (fragments end_system room A (take j accepted)) read_any in
-          let mine : length (of_sub sub (map fragment_in got)) ≡ length (those_with sub_in sub (take many stream)) =
-          ap length (own_fragments sub many stream got first)
-          ∙ length-map (those_with sub_in sub (take many stream)) fragment_in in
-          let all = length-map accepted (λ (s : Sent). datagram end_system s.port s.bytes) in
-          let more = more_of_sub sub few many stream less in
-          ends.2 j (omega arith) (omega arith);
+          ends.2 j (omega (arith, length-map accepted (λ (s : Sent). datagram end_system s.port s.bytes)))
+              (grind (arith, ap length read.are, take-map, length-map, ap length (own_fragments sub many stream got first),
+              more_of_sub sub few many stream less));
     }
 
 -- the law, by what the receiver accepts

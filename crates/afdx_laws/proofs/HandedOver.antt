@@ -22,9 +22,7 @@ begins_twins : (net : Net) (n : ℕ) (xs front all : List (List ℕ)) → front 
     → IsPrefixOf xs front → IsPrefixOf xs (map (twin_of net) all)
 begins_twins net n xs front all is p = (
   p.0 ++ map (twin_of net) (drop n all),
-  sym (append_assoc xs p.0 (map (twin_of net) (drop n all)))
-      ∙ ap (λ (ys : List (List ℕ)). ys ++ map (twin_of net) (drop n all)) (p.1 ∙ is)
-      ∙ sym (map-append (twin_of net) (take n all) (drop n all)) ∙ ap (map (twin_of net)) (take-append-drop n all),
+  grind (arith, append_assoc, p.1, is, map-append, take-append-drop n all),
 )
 
 -- a network's own frames are their twins for it

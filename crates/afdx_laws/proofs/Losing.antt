@@ -141,19 +141,11 @@ loss_masked_holds whole check stream came some frames close =
     begun : (whole : Net) → seen_on whole begin ≡ None
     begun whole = grind arith
 
--- a network that begins with the first frame, where the frame that comes is its own
-own_first : (net : Net) (i : ℕ) (es : List (Net × ℕ)) → BeginsFirst net ((net, i) ∷ es) → i ≡ 0
-own_first A i es begins = begins i (carried A es) refl
-own_first B i es begins = begins i (carried B es) refl
-
 -- the first frame to come is of the whole network or of the other
 starts : (whole : Net) (n : ℕ) (came : List (Net × ℕ)) → AreWithin whole n 0 0 came → BeginsFirst (other whole) came
     → StartsFirst came
 starts whole n [] within begins = tt
-starts A n ((A, i) ∷ es) within begins = within.0.in_order refl
-starts B n ((B, i) ∷ es) within begins = within.0.in_order refl
-starts A n ((B, i) ∷ es) within begins = own_first B i es begins
-starts B n ((A, i) ∷ es) within begins = own_first A i es begins
+starts whole n ((net, i) ∷ es) within begins = grind (arith, within.0.in_order, begins i (carried (other whole) es))
 
 -- where both networks begin with the first frame, it comes first
 pub first_comes_holds : FirstComes

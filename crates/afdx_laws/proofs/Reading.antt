@@ -36,8 +36,7 @@ same_fragment net frame =
     let ident = twin_word net frame 18 (λ e. omega arith) (λ e. omega arith) in
     let total = twin_word net frame 16 (λ e. omega arith) (λ e. omega arith) in
     let field = twin_word net frame 20 (λ e. omega arith) (λ e. omega arith) in
-    let behind : drop 34 (set frame 11 (interface_byte net)) ≡ drop 34 frame =
-    drop-set-lt 34 frame 11 (interface_byte net) (omega arith) in
+    let behind = drop-set-lt 34 frame 11 (interface_byte net) (omega arith) in
     cc
 
 -- the frame of a piece says its fragment
@@ -174,13 +173,9 @@ pub reads_frames : (frames us rest : List (List ℕ)) → AllByRecursion IsRead 
     → map read_any us ≡ map fragment_in frames ++ map read_any rest
 reads_frames [] us rest each long is = ap (map read_any) is
 reads_frames (f ∷ frames) [] rest each long is = absurd (nil_isnt_cons is)
-reads_frames (f ∷ frames) (u ∷ us) rest each long is =
-    let heads = cons_parts is in
-    let frame_is : f ≡ u ++ get_or f (length f - 1) 0 ∷ [] =
-    with_last f (let l = long 0 f (omega arith) in omega arith)
-    ∙ ap (λ (x : List ℕ). x ++ get_or f (length f - 1) 0 ∷ []) (sym heads.0) in
-    let mine : fragment_in f ≡ read_any u = ap fragment_in frame_is ∙ each.0 (get_or f (length f - 1) 0) in
-    cons_same (sym mine) (reads_frames frames us rest each.1 (λ k d h. long (suc k) d (omega arith)) heads.1)
+reads_frames (f ∷ frames) (u ∷ us) rest each long is = grind (arith, with_last f, long 0 f (omega arith),
+    each.0 (get_or f (length f - 1) 0),
+    reads_frames frames us rest each.1 (λ k d h. long (suc k) d (omega arith)) (cons_parts is).1)
 
 -- a sub's fragments are those of its frames
 pub of_sub_is : (sub : ℕ) (frames : List (List ℕ))

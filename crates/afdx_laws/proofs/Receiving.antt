@@ -127,11 +127,7 @@ len_by net from frame rest = grind arith
 count_more : {F : Type 0} (net : Net) (before : List (Net × F)) (e : Net × F)
     → length (carried net (before ++ e ∷ [])) ≡ length (carried net before) + length (carried net (e ∷ []))
 count_more net [] e = omega arith
-count_more net (x ∷ before) e =
-    let more = count_more net before e in
-    let a = len_by net x.0 x.1 (carried net (before ++ e ∷ [])) in
-    let b = len_by net x.0 x.1 (carried net before) in
-    omega arith
+count_more net (x ∷ before) e = grind (arith, count_more net before e, len_by net x.0 x.1)
 
 -- the first of what is left
 pub first_of_rest : {X : Type 0} (xs : List X) (i : ℕ) (y : X) (ys : List X) → y ∷ ys ≡ drop i xs → (i < length xs)
@@ -145,15 +141,11 @@ pub placed : (net : Net) (stream : List (List ℕ)) (i : ℕ) (frame : List ℕ)
     → IsPlaced number_in (twin_of A) (map (twin_of A) stream) i frame
 placed net stream i frame long numbered inside is =
     let l = length-map stream (twin_of net) in
-    let la = length-map stream (twin_of A) in
     let within : i < length stream = omega arith in
-    let f : frame ≡ twin_of net (get_or stream i []) = is ∙ get_or-map (twin_of net) stream i [] frame within in (
-      omega arith,
-      ap number_in f ∙ twin_number net (get_or stream i []) (long i [] within)
-          ∙ numbered_at number_in 0 stream numbered i [] within ∙ ap sequence_number (omega arith),
-      ap (twin_of A) f ∙ set-set (get_or stream i []) 11 (interface_byte net) (interface_byte A)
-          ∙ sym (get_or-map (twin_of A) stream i [] (twin_of A frame) within),
-    )
+    grind (arith, length-map stream (twin_of A), get_or-map (twin_of net) stream i [] frame within,
+    twin_number net (get_or stream i []) (long i [] within), numbered_at number_in 0 stream numbered i [] within,
+    set-set (get_or stream i []) 11 (interface_byte net) (interface_byte A),
+    get_or-map (twin_of A) stream i [] (twin_of A frame) within)
 
 -- a frame that comes is in its place and near to the other network, and the rest of its network's follows
 one_comes : (net : Net) (stream : List (List ℕ)) (lag i j : ℕ) (arrivals es before : List (Net × List ℕ)) (frame : List ℕ)

@@ -67,18 +67,9 @@ skew_is_near_holds gap delay released at arrivals some apart forward delivered b
           let first = delivered r.before (r.after ++ (net, frame) ∷ after) (other net) r.frame split in
           let mine = delivered before after net frame is in
           let len = ap length r.is ∙ length-append r.before ((other net, r.frame) ∷ r.after) in
-          let reach : length r.before + (length before - length r.before) ≡ length before = omega arith in
-          let time : at (length r.before) ≤ at (length before) =
-          subst (λ (k : ℕ). at (length r.before) ≤ at k) reach
-          (later at forward (length r.before) (length before - length r.before)) in
-          let back : i + (b - 1 - i) ≡ b - 1 = omega arith in
-          let gaps : released i + (b - 1 - i) * gap ≤ released (b - 1) =
-          subst (λ (k : ℕ). released i + (b - 1 - i) * gap ≤ released k) back
-          (spread gap released apart i (b - 1 - i)) in
-          let at_first : released (b - 1) ≤ at (length r.before) =
-          subst (λ (k : ℕ). released k ≤ at (length r.before)) r.count first.0 in
-          let last = mine.1 in
-          let few : b - 1 - i ≤ delay / gap = le-div (b - 1 - i) delay gap some (omega arith) in
+          let time = later at forward (length r.before) (length before - length r.before) in
+          let gaps = spread gap released apart i (b - 1 - i) in
+          let few : b - 1 - i ≤ delay / gap = le-div (b - 1 - i) delay gap some (grind arith) in
           omega arith
     ]
 

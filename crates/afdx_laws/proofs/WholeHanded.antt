@@ -26,8 +26,7 @@ many_of sub frames = length (those_with sub_in sub frames)
 -- as many of their twins are
 many_twins : (net : Net) (sub : ℕ) (frames : List (List ℕ)) → many_of sub (map (twin_of net) frames) ≡ many_of sub frames
 many_twins net sub frames =
-    ap length (with_map sub_in sub_in (twin_of net) sub (λ f. twin_sub net f) frames)
-    ∙ length-map (those_with sub_in sub frames) (twin_of net)
+    grind (arith, ap length (with_map sub_in sub_in (twin_of net) sub (λ f. twin_sub net f) frames), length-map)
 
 -- the frames of the longer of two streams are the longer list of their frames
 longer_frames : (xs ys : List Entry) → map (λ (e : Entry). e.frame) (longer_stream xs ys)
