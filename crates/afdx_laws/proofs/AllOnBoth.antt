@@ -58,8 +58,14 @@ own_in_a vl a b as_long twins =
 -- and else in the second
 own_in_b : (vl : ℕ) (a b : List Entry) → length a < length b → AreTwins side a b
     → own_stream vl a b ≡ link_stream vl (map (side A) (longer a b))
-own_in_b vl a b shorter twins = grind (arith, nat_tests, stream_front A vl b a (twins.a_shorter (omega arith)), take_all,
-    side_side A A (link_stream vl b), stream_side A vl b)
+own_in_b vl a b shorter twins = grind (
+  arith,
+  nat_tests,
+  stream_front A vl b a (twins.a_shorter (omega arith)),
+  take_all,
+  side_side A A (link_stream vl b),
+  stream_side A vl b,
+)
 
 -- the law
 pub all_on_both_holds : AllOnBoth

@@ -30,8 +30,13 @@ use Rattle.afdx_laws.proofs.Reading.{same_fragment, read_any, reads_all, reads_f
 fragments_received : (got sent : List (List ℕ)) → map (twin_of A) got ≡ map (twin_of A) sent
     → map fragment_in got ≡ map fragment_in sent
 fragments_received got sent same =
-    grind (arith, ap (map fragment_in) same, map-map, map_same fragment_in (λ f. fragment_in (twin_of A f)) got (λ f. sym (same_fragment A f)),
-    map_same fragment_in (λ f. fragment_in (twin_of A f)) sent (λ f. sym (same_fragment A f)))
+    grind (
+      arith,
+      ap (map fragment_in) same,
+      map-map,
+      map_same fragment_in (λ f. fragment_in (twin_of A f)) got (λ f. sym (same_fragment A f)),
+      map_same fragment_in (λ f. fragment_in (twin_of A f)) sent (λ f. sym (same_fragment A f)),
+    )
 
 -- the first frames of a link have the first frames of a sub
 sub_take : (sub n : ℕ) (stream : List (List ℕ))
@@ -120,8 +125,14 @@ arrived end_system room sub few many accepted net stream got sending first less 
           let read = reads_all (take j accepted) end_system room sub 0 A least sending.link.greatest
           (All-take (IsSent sub) j accepted sending.sent) in
           ends.2 j (omega (arith, length-map accepted (λ (s : Sent). datagram end_system s.port s.bytes)))
-              (grind (arith, ap length read.are, take-map, length-map, ap length (own_fragments sub many stream got first),
-              more_of_sub sub few many stream less));
+          (grind (
+            arith,
+            ap length read.are,
+            take-map,
+            length-map,
+            ap length (own_fragments sub many stream got first),
+            more_of_sub sub few many stream less,
+          ));
     }
 
 -- the law, by what the receiver accepts

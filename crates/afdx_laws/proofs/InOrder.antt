@@ -169,9 +169,7 @@ goes (c ∷ came) room sub place buffers done f (next ∷ todo) d later rest lea
       with_same k b buffers ∙ ap (λ (c : Buffer). put c f) holds.0 ∙ sym (put_more done empty f),
       λ m is_m ne. with_else k m b buffers ne ∙ holds.1 m is_m ne,
     ) heads.1 in
-    subst (λ (e : ℕ × Fragment). DeliversFrom room sub place (suc (suc (length todo))) buffers
-    (e ∷ came) d later) heads.0
-    (record {
+    rw (← heads.0) (record {
       many = more.many;
       are = rw nothing more.are;
       all = λ j few enough. more.all j few (omega arith);
@@ -180,7 +178,7 @@ goes (c ∷ came) room sub place buffers done f (next ∷ todo) d later rest lea
 goes (c ∷ []) room sub place buffers done f [] d [] rest least small some split block none holds is =
     let whole = completes (buffers (identification place sub)) f room done d least (some 0 d (omega arith)) split
     holds.0 in
-    subst (λ (e : ℕ × Fragment). DeliversFrom room sub place 1 buffers (e ∷ []) d []) (cons_parts is).0 (record {
+    rw (← (cons_parts is).0) (record {
       many = 1;
       are = rw whole refl;
       all = λ j few enough. omega arith;
@@ -205,12 +203,11 @@ goes (c ∷ came) room sub place buffers done f [] d (e ∷ later) rest least sm
     (empties key_e own, λ m is_m ne. empties m is_m)
     (ap (λ (fs : List Fragment). keyed key_e fs ++ sent_from room sub (suc (suc place)) later) (sym block_e.is)
     ∙ heads.1) in
-    subst (λ (x : ℕ × Fragment). DeliversFrom room sub place 1 buffers (x ∷ came) d (e ∷ later)) heads.0 (record {
+    rw (← heads.0) (record {
       many = suc more.many;
       are = rw whole (ap (λ (xs : List (List ℕ)). d ∷ xs) more.are);
       all = λ j few enough.
-          let got = all_more room sub (suc place) (length came) more.many e later block_e more.all j few
-          (omega arith) in
+          let got = all_more room sub (suc place) (length came) more.many e later block_e more.all j few (omega arith) in
           omega arith;
       alone = rw whole more.alone;
     })

@@ -76,20 +76,34 @@ stream_side net vl es = with_map (λ (e : Entry). link_in e.frame) (λ (e : Entr
 -- a link's entries in the first entries are its first
 stream_take : (vl n : ℕ) (es : List Entry)
     → link_stream vl (take n es) ≡ take (length (link_stream vl (take n es))) (link_stream vl es)
-stream_take vl n es = grind (arith, take-append-drop n es, take-append_seam (link_stream vl (take n es)) (link_stream vl (drop n es)),
-    with_append (λ (e : Entry). link_in e.frame) vl (take n es) (drop n es))
+stream_take vl n es = grind (
+  arith,
+  take-append-drop n es,
+  take-append_seam (link_stream vl (take n es)) (link_stream vl (drop n es)),
+  with_append (λ (e : Entry). link_in e.frame) vl (take n es) (drop n es),
+)
 
 -- twins of the first entries have a link's entries as twins of its first
 pub stream_front : (net : Net) (vl : ℕ) (longer shorter : List Entry) → shorter ≡ map (side net) (take (length shorter) longer)
     → link_stream vl shorter ≡ map (side net) (take (length (link_stream vl shorter)) (link_stream vl longer))
-stream_front net vl longer shorter is = grind (arith, ap (link_stream vl) is, length-map,
-    stream_side net vl (take (length shorter) longer), stream_take vl (length shorter) longer)
+stream_front net vl longer shorter is = grind (
+  arith,
+  ap (link_stream vl) is,
+  length-map,
+  stream_side net vl (take (length shorter) longer),
+  stream_take vl (length shorter) longer,
+)
 
 -- and its frames as twins of its first frames
 pub frames_front : (net : Net) (vl : ℕ) (longer shorter : List Entry) → shorter ≡ map (side net) (take (length shorter) longer)
     → frames_of vl shorter ≡ map (twin_of net) (take (length (frames_of vl shorter)) (frames_of vl longer))
-frames_front net vl longer shorter is = grind (arith, ap (map frame_of_entry) (stream_front net vl longer shorter is),
-    frames_side net (take (length (link_stream vl shorter)) (link_stream vl longer)), take-map, length-map)
+frames_front net vl longer shorter is = grind (
+  arith,
+  ap (map frame_of_entry) (stream_front net vl longer shorter is),
+  frames_side net (take (length (link_stream vl shorter)) (link_stream vl longer)),
+  take-map,
+  length-map,
+)
 
 -- where twins of the first of a network's own frames are as many, these are their twins in turn
 turned_back : (first second : Net) (xs ys : List (List ℕ)) → All (IsOfNet first) xs

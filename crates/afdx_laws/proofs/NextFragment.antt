@@ -62,8 +62,12 @@ before_is : (x : ℕ) (between : List Entry) (next : Entry) (after : List Entry)
     → All (λ (e : Entry). sub_in e.frame ≢ x) between → sub_in next.frame ≡ x
     → before_next x (between ++ next ∷ after) ≡ between
 before_is x [] next after others its = rw (eq-eqb (sub_in next.frame) x its) refl
-before_is x (e ∷ es) next after others its = grind (arith, nat_tests, others 0 e (omega arith),
-    before_is x es next after (λ k d h. others (suc k) d (omega arith)) its)
+before_is x (e ∷ es) next after others its = grind (
+  arith,
+  nat_tests,
+  others 0 e (omega arith),
+  before_is x es next after (λ k d h. others (suc k) d (omega arith)) its,
+)
 
 -- the entry is followed in turn, and those behind it are of the link's sub-VLs
 turn_at : (before : List Entry) (first : Entry) (rest : List Entry) → TakesTurns (before ++ first ∷ rest)

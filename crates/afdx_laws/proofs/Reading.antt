@@ -173,9 +173,13 @@ pub reads_frames : (frames us rest : List (List ℕ)) → AllByRecursion IsRead 
     → map read_any us ≡ map fragment_in frames ++ map read_any rest
 reads_frames [] us rest each long is = ap (map read_any) is
 reads_frames (f ∷ frames) [] rest each long is = absurd (nil_isnt_cons is)
-reads_frames (f ∷ frames) (u ∷ us) rest each long is = grind (arith, with_last f, long 0 f (omega arith),
-    each.0 (get_or f (length f - 1) 0),
-    reads_frames frames us rest each.1 (λ k d h. long (suc k) d (omega arith)) (cons_parts is).1)
+reads_frames (f ∷ frames) (u ∷ us) rest each long is = grind (
+  arith,
+  with_last f,
+  long 0 f (omega arith),
+  each.0 (get_or f (length f - 1) 0),
+  reads_frames frames us rest each.1 (λ k d h. long (suc k) d (omega arith)) (cons_parts is).1,
+)
 
 -- a sub's fragments are those of its frames
 pub of_sub_is : (sub : ℕ) (frames : List (List ℕ))

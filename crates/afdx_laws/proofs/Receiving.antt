@@ -68,26 +68,23 @@ one_more : {F : Type 0} (number : F → ℕ) (h : F → F) (stream : List F) (to
     → take m stream ++ map h (received number tolerance (from (last m)) ((net, frame) ∷ es))
     ≡ take next stream ++ map h (received number tolerance (to (last next)) es)
 one_more {F = F} number h stream tolerance lag net from to frame es a b m next
-    check window near placed close m_is next_is seen took then_seen then_took = elim (cases_lt a b) [
-      | inl older ↦
-          let same : next ≡ m = omega arith in
-          let old : is_ahead tolerance.window (from (last m)).accepted (sequence_number a) ≡ false =
-          rw (took (last m)) (old_copy tolerance.window a m (omega arith) (omega arith)) in
-          rw same (ap (λ (fs : List F). take m stream ++ map h fs)
-          (drops_it number tolerance (from (last m)) (to (last m)) net frame es (sequence_number a) placed.1 old
-          (then_seen (last m))))
-      | inr newer ↦
-          let here : m ≡ a = omega arith in
-          let there : next ≡ suc a = omega arith in
-          let new : is_ahead tolerance.window (from (last a)).accepted (sequence_number a) ≡ true =
-          rw (took (last a)) (new_next tolerance.window a window) in
-          let valid : is_valid tolerance.check (seen_on net (from (last a))) (sequence_number a) ≡ true =
-          rw (seen (last a)) (valid_next tolerance.check a check) in
-          rw (here, there) (ap (λ (fs : List F). take a stream ++ map h fs) (takes_it number tolerance (from (last a))
-          (to (last (suc a))) net frame es (sequence_number a) placed.1 valid new
-          (ap (with_accepted (sequence_number a)) (then_seen (last a)) ∙ then_took (last a)))
-          ∙ grows h stream a frame (map h (received number tolerance (to (last (suc a))) es)) placed.0 placed.2)
-    ]
+    check window near placed close m_is next_is seen took then_seen then_took =
+    grind (
+      arith,
+      cases_lt a b,
+      old_copy tolerance.window a b,
+      new_next tolerance.window a window,
+      valid_next tolerance.check a check,
+      seen (last a),
+      took (last a),
+      took (last b),
+      then_seen (last a),
+      then_seen (last b),
+      then_took (last a),
+      drops_it number tolerance (from (last b)) (to (last b)) net frame es (sequence_number a) placed.1,
+      takes_it number tolerance (from (last a)) (to (last (suc a))) net frame es (sequence_number a) placed.1,
+      grows h stream a frame (map h (received number tolerance (to (last (suc a))) es)) placed.0 placed.2,
+    )
 
 -- what is accepted carries on the stream from where it stands
 pub hands_on : {F : Type 0} (number : F → ℕ) (h : F → F) (stream : List F)
@@ -97,26 +94,19 @@ pub hands_on : {F : Type 0} (number : F → ℕ) (h : F → F) (stream : List F)
     → take (max a b) stream ++ map h (received number tolerance (state_at a b) arrivals)
     ≡ take (max (a + length (carried A arrivals)) (b + length (carried B arrivals))) stream
 hands_on number h stream tolerance lag [] a b check window near comes =
-    append-nil (take (max a b) stream) ∙ ap (λ (k : ℕ). take k stream) (same a b)
-  where
-    same : (a b : ℕ) → max a b ≡ max (a + 0) (b + 0)
-    same a b = omega arith
+    append-nil (take (max a b) stream) ∙ ap (λ (k : ℕ). take k stream) (omega arith)
 hands_on number h stream tolerance lag ((A, frame) ∷ es) a b check window near comes =
-    let counts : max (suc a + length (carried A es)) (b + length (carried B es))
-    ≡ max (a + suc (length (carried A es))) (b + length (carried B es)) = omega arith in
     one_more number h stream tolerance lag A (λ o. record { seen_a = last a; seen_b = last b; accepted = o })
     (λ o. record { seen_a = last (suc a); seen_b = last b; accepted = o }) frame es a b (max a b) (max (suc a) b)
     check window near comes.0 comes.1 refl refl (λ o. refl) (λ o. refl) (λ o. refl) (λ o. refl)
     ∙ hands_on number h stream tolerance lag es (suc a) b check window near comes.2
-    ∙ ap (λ (k : ℕ). take k stream) counts
+    ∙ ap (λ (k : ℕ). take k stream) (omega arith)
 hands_on number h stream tolerance lag ((B, frame) ∷ es) a b check window near comes =
-    let counts : max (a + length (carried A es)) (suc b + length (carried B es))
-    ≡ max (a + length (carried A es)) (b + suc (length (carried B es))) = omega arith in
     one_more number h stream tolerance lag B (λ o. record { seen_a = last a; seen_b = last b; accepted = o })
     (λ o. record { seen_a = last a; seen_b = last (suc b); accepted = o }) frame es b a (max a b) (max a (suc b))
     check window near comes.0 comes.1 (omega arith) (omega arith) (λ o. refl) (λ o. refl) (λ o. refl) (λ o. refl)
     ∙ hands_on number h stream tolerance lag es a (suc b) check window near comes.2
-    ∙ ap (λ (k : ℕ). take k stream) counts
+    ∙ ap (λ (k : ℕ). take k stream) (omega arith)
 
 -- one more, or none
 len_by : {F : Type 0} (net from : Net) (frame : F) (rest : List F)
@@ -142,10 +132,15 @@ pub placed : (net : Net) (stream : List (List ℕ)) (i : ℕ) (frame : List ℕ)
 placed net stream i frame long numbered inside is =
     let l = length-map stream (twin_of net) in
     let within : i < length stream = omega arith in
-    grind (arith, length-map stream (twin_of A), get_or-map (twin_of net) stream i [] frame within,
-    twin_number net (get_or stream i []) (long i [] within), numbered_at number_in 0 stream numbered i [] within,
-    set-set (get_or stream i []) 11 (interface_byte net) (interface_byte A),
-    get_or-map (twin_of A) stream i [] (twin_of A frame) within)
+    grind (
+      arith,
+      length-map stream (twin_of A),
+      get_or-map (twin_of net) stream i [] frame within,
+      twin_number net (get_or stream i []) (long i [] within),
+      numbered_at number_in 0 stream numbered i [] within,
+      set-set (get_or stream i []) 11 (interface_byte net) (interface_byte A),
+      get_or-map (twin_of A) stream i [] (twin_of A frame) within,
+    )
 
 -- a frame that comes is in its place and near to the other network, and the rest of its network's follows
 one_comes : (net : Net) (stream : List (List ℕ)) (lag i j : ℕ) (arrivals es before : List (Net × List ℕ)) (frame : List ℕ)

@@ -45,8 +45,6 @@ spent charge rule credit start end (f ∷ later) between =
     let now : Account = filled rule account f.at in
     let order = in_order f.at end later between.1 in
     let whole = filled_over rule.lmax start f.at end between.0 order in
-    let least : now.credit ≤ limit rule = min-le_left (limit rule) (credit + rule.lmax * (f.at - start)) in
-    let most : now.credit ≤ credit + rule.lmax * (f.at - start) = min-le_right (limit rule) (credit + rule.lmax * (f.at - start)) in
     elim (cases_lt now.credit (price charge rule f)) [
       | inl cannot ↦
           let rest = (spent charge rule now.credit f.at end later between.1).0 in

@@ -36,8 +36,12 @@ longer_frames xs ys = grind (arith, length-map)
 -- a link's own stream has as many frames of a sub-VL as the longer of its two lists
 many_own : (sub vl : ℕ) (a b : List Entry)
     → many_of sub (map (λ (e : Entry). e.frame) (own_stream vl a b)) ≡ many_of sub (longer (frames_of vl a) (frames_of vl b))
-many_own sub vl a b = grind (arith, frames_side A (longer_stream (link_stream vl a) (link_stream vl b)), many_twins A sub,
-    longer_frames (link_stream vl a) (link_stream vl b))
+many_own sub vl a b = grind (
+  arith,
+  frames_side A (longer_stream (link_stream vl a) (link_stream vl b)),
+  many_twins A sub,
+  longer_frames (link_stream vl a) (link_stream vl b),
+)
 
 -- of a sub-VL that is wholly released, all fragments are in the longer list
 all_handed : (plan : Plan) (accepted : Accepted) (log a b : List Entry) (k sub : ℕ)
