@@ -120,14 +120,9 @@ own_step now gap subs x link view lines after (Released sub number) lacks t stan
           is = sym first.is;
           had = ap (λ (u : Bool). (nat_eq sub x && b) || u) (eq-eqb sub sub refl) ∙ or-true (nat_eq sub x && b);
           before = λ k lt.
-              let s : ℕ = turn_of subs (latest None (link_stream link.id.0 (log lines))) k in
               let early : k < subs = omega arith in
-              let below : turn_of subs (latest None (link_stream link.id.0 (log lines))) k < subs =
-              turn_below subs (latest None S) k early in
-              or_from (nat_eq s x && b) (nat_eq s sub)
-              (has_not s x b (λ is. subst (λ (y : ℕ). begun_by none_begun (link_stream link.id.0 (log lines)) y ≡ false) is
-              (lacks s below (r.choice.before k (omega arith)))))
-              (ne_eqb s sub (first.before k lt));
+              let none = lacks _ (turn_below subs (latest None S) k early) (r.choice.before k (omega arith)) in
+              grind (arith, nat_tests, first.before k lt);
         },
       );
       waits = λ is. ap (λ (u : Bool). u || nat_eq x sub) (and_from (nat_eq x x) b (eq-eqb x x refl) is);

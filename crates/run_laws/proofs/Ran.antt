@@ -102,11 +102,7 @@ finds (p ∷ polls) added late x bound before come show one =
   where
     by_release : (o : Option ℕ) → p.released ≡ o → ShowsOne p.at o added show.0
         → (1 ≤ released_by x bound polls → IsFound x bound show.0) → IsFound x bound added
-    by_release None is same rest =
-        let none : (nat_le p.at bound && is_of x p.released) ≡ false =
-        and_right (nat_le p.at bound) (is_of x p.released) (ap (is_of x) is) in
-        let count = adds_none x bound p polls none in
-        rw same (rest (omega arith))
+    by_release None is same rest = rw same (rest (grind (arith, adds_none x bound p polls, is)))
     by_release (Some chosen) is (e, more, at, of) rest = elim (cases_eq chosen x) [
       | inl own ↦ record {
         between = [];
@@ -122,11 +118,8 @@ finds (p ∷ polls) added late x bound before come show one =
           | inr soon ↦ omega arith
         ];
       }
-      | inr other ↦
-          let none : (nat_le p.at bound && is_of x p.released) ≡ false =
-          and_right (nat_le p.at bound) (is_of x p.released) (ap (is_of x) is ∙ ne_eqb chosen x other) in
-          let count = adds_none x bound p polls none in
-          found_after x bound e added show.0 more (λ (mine : sub_in e.frame ≡ x). other (sym of ∙ mine)) (rest (omega arith))
+      | inr other ↦ found_after x bound e added show.0 more (λ (mine : sub_in e.frame ≡ x). other (sym of ∙ mine))
+          (rest (grind (arith, nat_tests, adds_none x bound p polls, is)))
     ]
 
 -- whether a message of a sub-VL is begun, after one more entry
@@ -178,10 +171,8 @@ run_more now gap subs x many moments None has S M T served had same run = record
   show = (run.added, refl, run.show);
 }
 run_more now gap subs x many moments (Some chosen) has S M T served had (frame, of, more) run =
-    let stamp : stamp_of (entry now frame) ≡ record { at = now; sub = chosen } =
-    ap (λ (s : ℕ). record { at = now; sub = s }) of in
     let last : latest None M ≡ Some (record { at = now; sub = chosen }) =
-    ap (latest None) more ∙ latest_push None S (entry now frame) ∙ ap Some stamp in
+    grind (arith, latest_push None S (entry now frame), of, more) in
     record {
       polls = poll_of now has (Some chosen) ∷ run.polls;
       at = ap (λ (ms : List ℕ). now ∷ ms) run.at;
