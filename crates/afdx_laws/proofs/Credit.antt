@@ -1,6 +1,5 @@
 -- The account always has what the next frame costs: a spaced stream on its way is on time, and passes.
 use Rattle.std.proofs.Common.{ℕ, ◌≡◌, ◌+◌, ◌-◌, ◌*◌, ◌≤◌, List, [], ◌∷◌, map, arith, refl, ap, ◌∙◌, suc}
-use Rattle.std.proofs.lemmas.Bool.{le-leb}
 use Rattle.std.proofs.lemmas.Nat.{mul-le}
 use Rattle.std.proofs.Math.Nat.{mul-add, le-min}
 use Rattle.afdx_laws.specs.Policer.{Arrival, Rule, Account, Charge, by_bytes, by_frames, full, filled, paid, price, passed, Passage, arrival, IsOnTime, AreOnTime, NoneDropped, IsUpTo, IsOnItsWay, rule_around, StreamPasses}

@@ -21,7 +21,7 @@ use Rattle.afdx_laws.specs.Networks.{IsLong}
 use Rattle.afdx_laws.specs.Handed.{IsOfNet, IsHanded, AreHanded}
 use Rattle.afdx_laws.specs.Plans.{frames_of, id_at, piece_room, IsHandedOver, LegalArrive, LegalDespiteLoss}
 use Rattle.afdx_laws.proofs.HandedOver.{own_twins, twin_twin, handed_arrive_holds, handed_despite_loss_holds}
-use Rattle.std.proofs.lemmas.Bool.{cases_lt, cases_Bool, eqb-true}
+use Rattle.std.proofs.lemmas.Bool.{cases_lt, eqb-true}
 use Rattle.afdx_plan.specs.Config.{Plan, IsPlan, link_plan_at}
 use Rattle.afdx_plan.specs.Networks.{is_both}
 use Rattle.afdx_plan.specs.declared.networks.Networks.{Networks}

@@ -1,5 +1,5 @@
 -- What is handed over of a link on one network arrives from there.
-use Rattle.std.proofs.Common.{◌≡◌, ℕ, ◌+◌, ◌≤◌, List, [], ◌∷◌, ◌++◌, length, map, take, refl, ap, sym, ◌∙◌, subst, arith}
+use Rattle.std.proofs.Common.{◌≡◌, ℕ, List, [], ◌∷◌, ◌++◌, length, map, take, refl, ap, sym, ◌∙◌, subst, arith}
 use Rattle.std.specs.Prelude.{All}
 use Rattle.std.proofs.Math.Seq.{take-append_seam}
 use Rattle.afdx_plan.specs.Config.{Plan}
@@ -15,7 +15,7 @@ use Rattle.afdx_laws.specs.Networks.{most_carried}
 use Rattle.afdx_laws.specs.Messages.{messages_in, AreFirst}
 use Rattle.afdx_laws.specs.Handed.{IsOfNet, IsHanded}
 use Rattle.afdx_laws.specs.Plans.{id_at, piece_room, frames_of, handed_to, all_from, IsHandedOver, OneNetworkArrives}
-use Rattle.afdx_laws.proofs.ListLemmas.{cons_parts, cons_same, nil_isnt_cons}
+use Rattle.afdx_laws.proofs.ListLemmas.{cons_parts, nil_isnt_cons}
 use Rattle.afdx_laws.proofs.Arriving.{messages_arrive_holds}
 use Rattle.afdx_laws.proofs.HandedOver.{own_twins, sending_to}
 use Rattle.afdx_laws.proofs.LegalLinks.{are_handed}

@@ -1,16 +1,15 @@
 -- What a receiver hands on of what two networks carry.
-use Rattle.std.proofs.Common.{◌≡◌, ℕ, suc, ◌+◌, ◌≤◌, ◌<◌, inl, inr, true, false, max, List, [], ◌∷◌, ◌++◌, length, map, take, get_or, refl, ap, sym, ◌∙◌, arith, drop}
-use Rattle.std.proofs.lemmas.Bool.{cases_lt, and_from, and_right}
+use Rattle.std.proofs.Common.{◌≡◌, ℕ, suc, ◌+◌, ◌≤◌, ◌<◌, true, false, max, List, [], ◌∷◌, ◌++◌, length, map, take, get_or, refl, ap, sym, ◌∙◌, arith, drop}
+use Rattle.std.proofs.lemmas.Bool.{cases_lt}
 use Rattle.std.specs.Prelude.{Option, All}
 use Rattle.std.proofs.lemmas.List.{take_more, append_assoc, append-nil, drop_more, drop_all, get_or-map, length-map, set-set}
 use Rattle.afdx_frame.specs.declared.net.Net.{Net}
 use Rattle.afdx_frame.specs.declared.net.Net.TheVariants.{A, B}
 use Rattle.afdx_plan.specs.Numbers.{sequence_number}
-use Rattle.afdx_laws.specs.Receiver.{Tolerance, State, is_accepted, is_valid, is_ahead, received, carried, with_seen, with_accepted, seen_on, other, carried_by, IsNear}
+use Rattle.afdx_laws.specs.Receiver.{Tolerance, State, is_valid, is_ahead, received, carried, with_seen, with_accepted, seen_on, other, carried_by, IsNear}
 use Rattle.afdx_laws.proofs.NumberLemmas.{last, new_next, valid_next, old_copy}
 use Rattle.afdx_legal.specs.Streams.{IsNumbered, IsPrefixOf}
 use Rattle.afdx_legal.proofs.StreamLemmas.{numbered_at}
-use Rattle.afdx_laws.proofs.ListLemmas.{cons_parts, nil_isnt_cons}
 use Rattle.afdx_frame.specs.Frame.{interface_byte}
 use Rattle.afdx_frame.specs.Twin.{twin_of}
 use Rattle.afdx_frame.specs.Header.{number_in}

@@ -36,7 +36,7 @@ use Rattle.afdx_laws.proofs.LegalSpacing.{legal_passes_holds}
 use Rattle.afdx_laws.proofs.ListLemmas.{below_one, below_both, nil_isnt_cons, other_length}
 use Rattle.afdx_laws.proofs.Rows.{fails_by, needs_each}
 use Rattle.afdx_laws.proofs.WholeHanded.{own_lists_arrive_holds}
-use Rattle.afdx_laws.proofs.WorkedMessage.{few_are_near, first_byte, not_front, not_first, too_few, close_by_test}
+use Rattle.afdx_laws.proofs.WorkedMessage.{few_are_near, not_first, too_few, close_by_test}
 
 -- the frame is known
 one_known : (carriers : Networks) (net : Net) → IsKnown (demo_on carriers).links net (one_frame net)

@@ -1,6 +1,6 @@
 -- The worked delivery, the worked runs of a receiver and the worked losses, by computation.
-use Rattle.std.proofs.Common.{◌≡◌, ◌≤◌, ◌<◌, List, [], ◌∷◌, length, map, take, ◌+◌, ℕ, zero, suc, false, nat_eq, refl, ap, sym, ◌∙◌, arith, max, Bool, true, not, ◌&&◌, ◌||◌, nat_lt, nat_le, cond}
-use Rattle.std.proofs.lemmas.Bool.{eq-eqb, false≢true, and_parts}
+use Rattle.std.proofs.Common.{◌≡◌, ◌≤◌, ◌<◌, List, [], ◌∷◌, length, map, take, ◌+◌, ℕ, suc, false, nat_eq, refl, ap, sym, ◌∙◌, arith, max, Bool, true, not, ◌&&◌, ◌||◌, nat_lt, nat_le, cond}
+use Rattle.std.proofs.lemmas.Bool.{and_parts}
 use Rattle.std.proofs.lemmas.Bool.Decides.{nat_tests}
 use Rattle.std.specs.Prelude.{slice_index}
 use Rattle.std.proofs.lemmas.List.{length-append, length-take, length-map}
@@ -20,9 +20,9 @@ use Rattle.afdx_laws.specs.Networks.{IsLong, IsStream, AreCarried}
 use Rattle.afdx_laws.specs.Loss.{AreWithin, StartsFirst, AreClose, same_net, one_lost}
 use Rattle.afdx_laws.specs.Messages.{IsSent, IsSending, AreFirst, messages_in}
 use Rattle.afdx_laws.specs.Handed.{IsOfNet, IsHanded, AreHanded}
-use Rattle.afdx_laws.specs.WorkedDelivery.{one_accepted, both_frames, four_arrivals, three_arrivals, plain_receiver, closed_receiver, OneMessageArrives, NeedsHanding, bare_frame, bare_stream, same_twice, second_alone, far_behind, wide_receiver, AcceptsEachOnce, NeedsNumbers, NeedsBeginnings, NeedsALag, NeedsAStream, ClashesPast254}
+use Rattle.afdx_laws.specs.WorkedDelivery.{one_accepted, both_frames, four_arrivals, three_arrivals, plain_receiver, closed_receiver, OneMessageArrives, NeedsHanding, bare_frame, bare_stream, same_twice, far_behind, wide_receiver, AcceptsEachOnce, NeedsNumbers, NeedsALag, NeedsAStream}
 use Rattle.afdx_laws.specs.WorkedLoss.{second_lost, first_lost, messages_despite, MasksOneLoss, NeedsTheFirst, BeginsOnBoth, ComesDespiteLoss, NeedsAWholeNetwork, NeedsOneWhole}
-use Rattle.afdx_laws.proofs.ListLemmas.{cons_parts, nil_isnt_cons, other_length}
+use Rattle.afdx_laws.proofs.ListLemmas.{cons_parts, other_length}
 use Rattle.afdx_laws.proofs.Rows.{fails_by, needs_each}
 use Rattle.afdx_laws.proofs.Receiving.{exactly_once_holds}
 use Rattle.afdx_laws.proofs.Arriving.{messages_arrive_holds, despite_loss_holds}

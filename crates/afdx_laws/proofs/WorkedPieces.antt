@@ -1,5 +1,5 @@
 -- The worked reassembly and its buffers, by computation.
-use Rattle.std.proofs.Common.{ℕ, zero, suc, ◌≤◌, false, [], ◌∷◌, length, take, refl, arith, ◌≡◌, inl, inr, ap, sym, true}
+use Rattle.std.proofs.Common.{ℕ, ◌≤◌, false, [], ◌∷◌, length, take, refl, arith, ◌≡◌, inl, inr, ap, sym, true}
 use Rattle.std.specs.Prelude.{All, Some, None}
 use Rattle.std.proofs.lemmas.Bool.{cases_eq}
 use Rattle.std.proofs.lemmas.List.Elements.{All-from_recursion}
@@ -11,7 +11,7 @@ use Rattle.afdx_frame.specs.Reassembly.{Buffer, empty}
 use Rattle.afdx_laws.specs.Delivery.{HasByte, of_sub, sent_from}
 use Rattle.afdx_laws.specs.Buffers.{buffers_after, HoldsOne, HasUpTo}
 use Rattle.afdx_laws.specs.WorkedDelivery.{one_accepted, both_frames, four_arrivals, plain_receiver}
-use Rattle.afdx_laws.specs.WorkedOrder.{two_datagrams, five_fragments, second_came, one_without_bytes, eight_bytes, piece, FirstIsGiven, NeedsOrder, two_begun, HoldsTheSecond, NeedsInTurn, HoldsAFrame}
+use Rattle.afdx_laws.specs.WorkedOrder.{two_datagrams, five_fragments, second_came, one_without_bytes, eight_bytes, piece, FirstIsGiven, NeedsOrder, two_begun, NeedsInTurn, HoldsAFrame}
 use Rattle.afdx_laws.proofs.Rows.{fails_by}
 use Rattle.afdx_laws.proofs.InOrder.{in_order_holds}
 use Rattle.afdx_laws.proofs.OneBuffer.{one_buffer}
