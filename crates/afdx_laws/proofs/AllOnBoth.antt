@@ -1,24 +1,11 @@
 -- Where all links are on both networks nothing is cut, and each link's own stream is in the longer list.
-use Rattle.std.proofs.Common.{◌≡◌, ℕ, ◌≤◌, ◌<◌, ◌&&◌, inl, inr, true, nat_eq, List, [], ◌∷◌, length, map, take, refl, ap, ◌∙◌, subst, arith}
-use Rattle.std.specs.Prelude.{All}
-use Rattle.std.proofs.lemmas.Bool.Decides.{nat_tests}
-use Rattle.std.proofs.lemmas.Bool.{cases_lt}
-use Rattle.std.proofs.lemmas.List.{length-map, length-take, take_all}
+use Rattle.afdx_laws.proofs.Names.{◌≡◌, ℕ, ◌≤◌, ◌<◌, ◌&&◌, inl, inr, true, nat_eq, List, [], ◌∷◌, length, map, take}
+use Rattle.afdx_laws.proofs.Names.{refl, ap, ◌∙◌, subst, arith, All, nat_tests, cases_lt, length-map, length-take}
+use Rattle.afdx_laws.proofs.Names.{take_all, link_plan_at, is_both, LinkPlan, Net, A, B, link_in, twin_twice, Entry}
+use Rattle.afdx_laws.proofs.Names.{entry, side, link_stream, IsKnown, AreKnown, is_on_both, on_both, AreTwins}
+use Rattle.afdx_laws.proofs.Names.{own_stream, id_at, IsOnBoth, AllOnBoth, map-map}
 use Rattle.std.proofs.lemmas.List.Folds.{list_any_at}
-use Rattle.afdx_plan.specs.Config.{link_plan_at}
-use Rattle.afdx_plan.specs.Networks.{is_both}
-use Rattle.afdx_plan.specs.declared.link_plan.LinkPlan.{LinkPlan}
-use Rattle.afdx_frame.specs.declared.net.Net.{Net}
-use Rattle.afdx_frame.specs.declared.net.Net.TheVariants.{A, B}
-use Rattle.afdx_frame.specs.Header.{link_in}
-use Rattle.afdx_frame.proofs.Twins.{twin_twice}
-use Rattle.redundant_mux.specs.Entry.{Entry, entry}
-use Rattle.redundant_mux.specs.Logged.{side}
-use Rattle.afdx_legal.specs.Streams.{link_stream}
-use Rattle.afdx_legal.specs.Legal.{IsKnown, AreKnown, is_on_both, on_both, AreTwins}
-use Rattle.afdx_legal.specs.Own.{longer, own_stream}
-use Rattle.afdx_laws.specs.Plans.{id_at, IsOnBoth, AllOnBoth}
-use Rattle.std.proofs.lemmas.Simd.{map-map}
+use Rattle.afdx_legal.specs.Own.{longer}
 use Rattle.afdx_laws.proofs.ListLemmas.{cons_same, map_same}
 use Rattle.afdx_laws.proofs.LegalLinks.{stream_side, stream_front}
 

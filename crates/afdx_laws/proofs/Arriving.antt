@@ -1,27 +1,14 @@
 -- The receiver has the first of the accepted messages.
-use Rattle.std.proofs.Common.{◌≡◌, ℕ, ◌%◌, ◌≤◌, nat_eq, List, ◌++◌, length, map, take, drop, refl, ap, sym, ◌∙◌, arith}
-use Rattle.std.specs.Prelude.{All}
-use Rattle.std.proofs.lemmas.List.{append_assoc, map-append, take-append-drop, length-map, length-append, take-take, take-map}
-use Rattle.std.proofs.lemmas.Simd.{map-map}
-use Rattle.std.proofs.lemmas.List.Elements.{All-filter, All-map, All-weaker, All-take}
-use Rattle.afdx_frame.specs.declared.net.Net.{Net}
-use Rattle.afdx_frame.specs.declared.net.Net.TheVariants.{A}
-use Rattle.afdx_frame.specs.Frame.{datagram}
-use Rattle.afdx_frame.specs.Twin.{twin_of}
-use Rattle.afdx_frame.specs.Profile.{word_at}
-use Rattle.afdx_frame.specs.Fragments.{Sent, blanked, fragments}
-use Rattle.afdx_frame.specs.Reassembly.{empty}
-use Rattle.afdx_legal.specs.Streams.{those_with, IsPrefixOf}
-use Rattle.afdx_legal.proofs.StreamLemmas.{with_append}
-use Rattle.afdx_laws.specs.Receiver.{begin, received, carried}
-use Rattle.afdx_frame.specs.Header.{sub_in, number_in}
-use Rattle.afdx_laws.specs.Networks.{IsLong, most_carried}
-use Rattle.afdx_laws.specs.Loss.{next_alone, frames_at}
+use Rattle.afdx_laws.proofs.Names.{◌≡◌, ℕ, ◌%◌, ◌≤◌, nat_eq, List, ◌++◌, length, map, take, drop, refl, ap, sym}
+use Rattle.afdx_laws.proofs.Names.{◌∙◌, arith, All, append_assoc, map-append, take-append-drop, length-map}
+use Rattle.afdx_laws.proofs.Names.{length-append, take-take, take-map, map-map, All-filter, All-map, All-weaker}
+use Rattle.afdx_laws.proofs.Names.{All-take, Net, A, datagram, twin_of, word_at, Sent, blanked, fragments, empty}
+use Rattle.afdx_laws.proofs.Names.{those_with, IsPrefixOf, with_append, begin, received, carried, sub_in, number_in}
+use Rattle.afdx_laws.proofs.Names.{IsLong, most_carried, next_alone, frames_at, delivered, of_sub, sent_from}
+use Rattle.afdx_laws.proofs.Names.{HasByte, HasUpTo, fragment_in, messages_in, IsSent, IsSending, AreFirst}
+use Rattle.afdx_laws.proofs.Names.{MessagesArrive, DespiteLoss}
 use Rattle.afdx_laws.proofs.Receiving.{exactly_once_holds}
 use Rattle.afdx_laws.proofs.Losing.{loss_masked_holds}
-use Rattle.afdx_laws.specs.Delivery.{delivered, of_sub, sent_from, HasByte}
-use Rattle.afdx_laws.specs.Buffers.{HasUpTo}
-use Rattle.afdx_laws.specs.Messages.{fragment_in, messages_in, IsSent, IsSending, AreFirst, MessagesArrive, DespiteLoss}
 use Rattle.afdx_laws.proofs.ListLemmas.{append_same, map_same}
 use Rattle.afdx_laws.proofs.InOrder.{in_order_holds}
 use Rattle.afdx_laws.proofs.Reading.{same_fragment, read_any, reads_all, reads_frames, of_sub_is, length-datagram, drop-datagram}

@@ -1,13 +1,11 @@
 -- The account always has what the next frame costs: a spaced stream on its way is on time, and passes.
-use Rattle.std.proofs.Common.{ℕ, ◌≡◌, ◌+◌, ◌-◌, ◌*◌, ◌≤◌, List, [], ◌∷◌, map, arith, refl, ap, ◌∙◌, suc}
-use Rattle.std.proofs.lemmas.Nat.{mul-le}
+use Rattle.afdx_laws.proofs.Names.{ℕ, ◌≡◌, ◌+◌, ◌-◌, ◌*◌, ◌≤◌, List, [], ◌∷◌, map, arith, refl, ap, ◌∙◌, suc}
+use Rattle.afdx_laws.proofs.Names.{mul-le, Arrival, Rule, Account, Charge, by_bytes, by_frames, full, filled, paid}
+use Rattle.afdx_laws.proofs.Names.{price, passed, Passage, arrival, IsOnTime, AreOnTime, NoneDropped, IsUpTo}
+use Rattle.afdx_laws.proofs.Names.{IsOnItsWay, rule_around, StreamPasses, Option, Some, None, All, AllZip, Entry}
+use Rattle.afdx_laws.proofs.Names.{stamp_of, IsSpaced}
 use Rattle.std.proofs.Math.Nat.{mul-add, le-min}
-use Rattle.afdx_laws.specs.Policer.{Arrival, Rule, Account, Charge, by_bytes, by_frames, full, filled, paid, price, passed, Passage, arrival, IsOnTime, AreOnTime, NoneDropped, IsUpTo, IsOnItsWay, rule_around, StreamPasses}
-use Rattle.std.specs.Prelude.{Option, Some, None, All}
-use Rattle.std.specs.List.{AllZip}
-use Rattle.redundant_mux.specs.Entry.{Entry}
 use Rattle.vl_shaper.specs.declared.shaper.Stamp.{Stamp}
-use Rattle.afdx_legal.specs.Streams.{stamp_of, IsSpaced}
 
 -- no frame costs more than the greatest
 price_le : (charge : Charge) (rule : Rule) (frame : Arrival) → frame.size ≤ rule.lmax

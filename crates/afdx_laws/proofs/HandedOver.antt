@@ -1,19 +1,9 @@
 -- The longer list is the stream that a network was handed: what was handed over arrives, also despite losses.
-use Rattle.std.proofs.Common.{◌≡◌, ℕ, suc, ◌≤◌, ◌<◌, inl, inr, Bool, cond, List, [], ◌∷◌, ◌++◌, length, map, take, drop, refl, ap, ◌∙◌, arith}
-use Rattle.std.specs.Prelude.{All}
-use Rattle.std.proofs.lemmas.Bool.{cases_lt, lt-ltb, le-ltb}
-use Rattle.std.proofs.lemmas.List.{append_assoc, map-append, take-append-drop}
-use Rattle.std.proofs.lemmas.Simd.{map-map}
-use Rattle.afdx_frame.specs.declared.net.Net.{Net}
-use Rattle.afdx_frame.specs.declared.net.Net.TheVariants.{A, B}
-use Rattle.afdx_frame.specs.Twin.{twin_of}
-use Rattle.afdx_frame.specs.Fragments.{Sent}
-use Rattle.afdx_frame.proofs.Twins.{twin_twice}
-use Rattle.afdx_legal.specs.Streams.{IsPrefixOf}
-use Rattle.afdx_laws.specs.Receiver.{carried}
-use Rattle.afdx_laws.specs.Networks.{AreCarried}
-use Rattle.afdx_laws.specs.Messages.{IsSent, IsLinkOf, IsSending}
-use Rattle.afdx_laws.specs.Handed.{IsOfNet, IsHanded, AreHanded, AreCarriedOf, longer, HandedArrive, HandedDespiteLoss}
+use Rattle.afdx_laws.proofs.Names.{◌≡◌, ℕ, suc, ◌≤◌, ◌<◌, inl, inr, Bool, cond, List, [], ◌∷◌, ◌++◌, length, map}
+use Rattle.afdx_laws.proofs.Names.{take, drop, refl, ap, ◌∙◌, arith, All, cases_lt, lt-ltb, le-ltb, append_assoc}
+use Rattle.afdx_laws.proofs.Names.{map-append, take-append-drop, map-map, Net, A, B, twin_of, Sent, twin_twice}
+use Rattle.afdx_laws.proofs.Names.{IsPrefixOf, carried, AreCarried, IsSent, IsLinkOf, IsSending, IsOfNet, IsHanded}
+use Rattle.afdx_laws.proofs.Names.{AreHanded, AreCarriedOf, longer, HandedArrive, HandedDespiteLoss}
 use Rattle.afdx_laws.proofs.ListLemmas.{cons_same, map_same}
 use Rattle.afdx_laws.proofs.Arriving.{messages_arrive_holds, despite_loss_holds}
 

@@ -1,18 +1,13 @@
 -- Fragments in order complete their datagrams in order, and need one buffer.
-use Rattle.std.proofs.Common.{◌≡◌, ℕ, zero, suc, ◌+◌, ◌%◌, ◌≤◌, ◌<◌, inl, inr, true, false, nat_eq, cond, List, [], ◌∷◌, ◌++◌, length, map, take, refl, ap, sym, ◌∙◌, arith}
-use Rattle.std.specs.Prelude.{All, Option, Some, None}
-use Rattle.std.proofs.lemmas.Bool.Decides.{nat_tests}
-use Rattle.std.proofs.lemmas.Bool.{cases_lt, cases_Bool, eqb-true}
-use Rattle.std.proofs.lemmas.List.{append_assoc, length-append, length-map}
-use Rattle.afdx_plan.specs.Numbers.{identification}
-use Rattle.afdx_frame.specs.Cutting.{cutting, pieces_from}
-use Rattle.afdx_frame.proofs.CuttingLemmas.{cutting_some}
-use Rattle.afdx_frame.specs.Reassembly.{Fragment, Buffer, empty, put, put_all, bytes_to, datagram_in, fragment_of, fragments_of}
+use Rattle.afdx_laws.proofs.Names.{◌≡◌, ℕ, zero, suc, ◌+◌, ◌%◌, ◌≤◌, ◌<◌, inl, inr, true, false, nat_eq, cond, List}
+use Rattle.afdx_laws.proofs.Names.{[], ◌∷◌, ◌++◌, length, map, take, refl, ap, sym, ◌∙◌, arith, All, Option, Some}
+use Rattle.afdx_laws.proofs.Names.{None, nat_tests, cases_lt, cases_Bool, eqb-true, append_assoc, length-append}
+use Rattle.afdx_laws.proofs.Names.{length-map, identification, cutting, pieces_from, cutting_some, Fragment, Buffer}
+use Rattle.afdx_laws.proofs.Names.{empty, put, put_all, bytes_to, datagram_in, fragment_of, fragments_of}
+use Rattle.afdx_laws.proofs.Names.{IsPrefixOf, with_buffer, kept_in, given, delivered, of_sub, keyed, sent_from}
+use Rattle.afdx_laws.proofs.Names.{HasByte, AreGiven, InOrder, buffers_after}
 use Rattle.afdx_frame.proofs.Buffers.{any_order_holds}
 use Rattle.afdx_laws.proofs.ListLemmas.{cons_parts, nil_isnt_cons, nil_begins}
-use Rattle.afdx_legal.specs.Streams.{IsPrefixOf}
-use Rattle.afdx_laws.specs.Delivery.{with_buffer, kept_in, given, delivered, of_sub, keyed, sent_from, HasByte, AreGiven, InOrder}
-use Rattle.afdx_laws.specs.Buffers.{buffers_after}
 
 -- buffers are the same for a sub-VL
 abbrev pub AreSame : ℕ → (ℕ → Buffer) → (ℕ → Buffer) → Type 0

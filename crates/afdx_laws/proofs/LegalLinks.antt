@@ -1,35 +1,17 @@
 -- Each link of a plan, by what was handed over legally.
-use Rattle.std.proofs.Common.{◌≡◌, ℕ, ◌≤◌, nat_eq, List, ◌++◌, length, map, take, drop, refl, ap, sym, ◌∙◌, arith, ◌<◌, inl, inr, Bool, true, [], ◌∷◌}
-use Rattle.std.specs.Prelude.{All, filter}
-use Rattle.std.proofs.Math.Seq.{take-append_seam}
-use Rattle.std.proofs.lemmas.List.{take-append-drop, length-map, length-take, take_all, take-map}
-use Rattle.std.proofs.lemmas.List.Elements.{All-weaker, All-map, All-filter, All-contains}
-use Rattle.std.proofs.lemmas.Simd.{map-map}
-use Rattle.afdx_plan.specs.declared.link_plan.LinkPlan.{LinkPlan}
-use Rattle.afdx_frame.specs.declared.net.Net.{Net}
-use Rattle.afdx_frame.specs.declared.net.Net.TheVariants.{A, B}
-use Rattle.afdx_frame.specs.Fragments.{blanked, Sent}
-use Rattle.afdx_frame.specs.Header.{link_in, sub_in, number_in}
-use Rattle.afdx_frame.specs.Twin.{twin_of}
-use Rattle.afdx_frame.proofs.Twins.{twin_same, twin_link}
-use Rattle.redundant_mux.specs.Entry.{Entry}
-use Rattle.redundant_mux.specs.Logged.{side, names}
-use Rattle.afdx_legal.specs.Streams.{those_with, link_stream, sub_stream, told, entry_number, IsNumbered}
-use Rattle.afdx_legal.specs.Legal.{IsKnown, AreKnown, AreTwins, Accepted, is_on_both, on_both, IsLegal, IsLegalOn}
-use Rattle.afdx_legal.proofs.StreamLemmas.{known_all, with_append, with_map, numbered_map}
-use Rattle.afdx_laws.specs.Networks.{IsLong}
-use Rattle.afdx_laws.specs.Handed.{IsOfNet, IsHanded, AreHanded}
-use Rattle.afdx_laws.specs.Plans.{frames_of, id_at, piece_room, IsHandedOver, LegalArrive, LegalDespiteLoss}
+use Rattle.afdx_laws.proofs.Names.{◌≡◌, ℕ, ◌≤◌, nat_eq, List, ◌++◌, length, map, take, drop, refl, ap, sym, ◌∙◌}
+use Rattle.afdx_laws.proofs.Names.{arith, ◌<◌, inl, inr, Bool, true, [], ◌∷◌, All, filter, take-append_seam}
+use Rattle.afdx_laws.proofs.Names.{take-append-drop, length-map, length-take, take_all, take-map, All-weaker}
+use Rattle.afdx_laws.proofs.Names.{All-map, All-filter, All-contains, map-map, LinkPlan, Net, A, B, blanked, Sent}
+use Rattle.afdx_laws.proofs.Names.{link_in, sub_in, number_in, twin_of, twin_same, twin_link, Entry, side, names}
+use Rattle.afdx_laws.proofs.Names.{those_with, link_stream, sub_stream, told, entry_number, IsNumbered, IsKnown}
+use Rattle.afdx_laws.proofs.Names.{AreKnown, AreTwins, Accepted, is_on_both, on_both, IsLegal, IsLegalOn, known_all}
+use Rattle.afdx_laws.proofs.Names.{with_append, with_map, numbered_map, IsLong, IsOfNet, IsHanded, AreHanded}
+use Rattle.afdx_laws.proofs.Names.{frames_of, id_at, piece_room, IsHandedOver, LegalArrive, LegalDespiteLoss}
+use Rattle.afdx_laws.proofs.Names.{cases_lt, eqb-true, Plan, IsPlan, link_plan_at, is_both, Networks, Both, OnlyA}
+use Rattle.afdx_laws.proofs.Names.{OnlyB, IsLink, IsPort, IsSent, IsLinkOf, IsAllowed}
 use Rattle.afdx_laws.proofs.HandedOver.{own_twins, twin_twin, handed_arrive_holds, handed_despite_loss_holds}
-use Rattle.std.proofs.lemmas.Bool.{cases_lt, eqb-true}
-use Rattle.afdx_plan.specs.Config.{Plan, IsPlan, link_plan_at}
-use Rattle.afdx_plan.specs.Networks.{is_both}
-use Rattle.afdx_plan.specs.declared.networks.Networks.{Networks}
-use Rattle.afdx_plan.specs.declared.networks.Networks.TheVariants.{Both, OnlyA, OnlyB}
 use Rattle.afdx_legal.proofs.OnBoth.{on_both_is}
-use Rattle.afdx_plan.specs.Plan.{IsLink, IsPort}
-use Rattle.afdx_laws.specs.Messages.{IsSent, IsLinkOf}
-use Rattle.afdx_legal.specs.Allowed.{IsAllowed}
 
 -- the frame of an entry
 abbrev frame_of_entry : Entry → List ℕ

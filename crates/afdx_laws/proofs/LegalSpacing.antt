@@ -1,29 +1,14 @@
 -- Each link of a plan keeps its gap and its greatest frame, by what was handed over legally: no fragment is greater.
-use Rattle.std.proofs.Common.{ℕ, suc, ◌+◌, ◌-◌, ◌≤◌, inl, inr, List, [], ◌∷◌, length, map, get_or, sym, subst, arith, ◌≡◌, ◌<◌, Bool, true, nat_eq, refl, ◌∙◌}
-use Rattle.std.specs.Prelude.{All, filter}
-use Rattle.std.proofs.lemmas.Bool.{cases_Bool, eqb-true, eq-eqb, false≢true}
-use Rattle.std.proofs.lemmas.List.{length-append, length-take}
-use Rattle.std.proofs.lemmas.List.Elements.{All-cons, All-nil, All-append, All-filter, All-from_recursion, All-head, All-map, All-tail, All-weaker, filter_passes}
-use Rattle.afdx_plan.specs.Config.{Plan, IsPlan, link_plan_at}
-use Rattle.afdx_plan.specs.Plan.{IsPort, bag_micros}
-use Rattle.afdx_plan.specs.Room.{room_of}
-use Rattle.afdx_frame.specs.declared.net.Net.{Net}
-use Rattle.afdx_frame.specs.declared.piece.Piece.{Piece}
-use Rattle.afdx_frame.specs.Cutting.{cutting, pieces_from}
-use Rattle.afdx_frame.specs.Fragments.{Sent, fragments_at, fragments_from, blanked}
-use Rattle.afdx_frame.specs.Frame.{unnumbered}
-use Rattle.afdx_frame.specs.Header.{link_in, sub_in}
-use Rattle.afdx_frame.specs.ReadBack.{IsPiece}
-use Rattle.afdx_frame.proofs.Says.{length-frame}
-use Rattle.redundant_mux.specs.Entry.{Entry}
-use Rattle.afdx_legal.specs.Streams.{link_stream, told_of}
-use Rattle.afdx_legal.specs.Legal.{Accepted, IsKnown, AreKnown, IsLegalOn}
-use Rattle.afdx_legal.specs.Allowed.{IsAllowed}
-use Rattle.afdx_legal.proofs.StreamLemmas.{known_all}
-use Rattle.afdx_laws.specs.Networks.{IsLong}
-use Rattle.afdx_laws.specs.Messages.{IsSent}
-use Rattle.afdx_laws.specs.Policer.{IsUpTo}
-use Rattle.afdx_laws.specs.Plans.{id_at, LegalPasses}
+use Rattle.afdx_laws.proofs.Names.{ℕ, suc, ◌+◌, ◌-◌, ◌≤◌, inl, inr, List, [], ◌∷◌, length, map, get_or, sym, subst}
+use Rattle.afdx_laws.proofs.Names.{arith, ◌≡◌, ◌<◌, Bool, true, nat_eq, refl, ◌∙◌, All, filter, cases_Bool}
+use Rattle.afdx_laws.proofs.Names.{eqb-true, eq-eqb, false≢true, length-append, length-take, All-cons, All-nil}
+use Rattle.afdx_laws.proofs.Names.{All-append, All-filter, All-from_recursion, All-head, All-map, All-tail}
+use Rattle.afdx_laws.proofs.Names.{All-weaker, filter_passes, Plan, IsPlan, link_plan_at, IsPort, bag_micros}
+use Rattle.afdx_laws.proofs.Names.{room_of, Net, Piece, cutting, pieces_from, Sent, fragments_from, blanked}
+use Rattle.afdx_laws.proofs.Names.{unnumbered, link_in, sub_in, IsPiece, length-frame, Entry, link_stream, told_of}
+use Rattle.afdx_laws.proofs.Names.{Accepted, IsKnown, AreKnown, IsLegalOn, IsAllowed, known_all, IsLong, IsSent}
+use Rattle.afdx_laws.proofs.Names.{IsUpTo, id_at, LegalPasses}
+use Rattle.afdx_frame.specs.Fragments.{fragments_at}
 use Rattle.afdx_laws.proofs.ListLemmas.{all_front}
 use Rattle.afdx_laws.proofs.Reading.{cutting_lies, from_start}
 use Rattle.afdx_laws.proofs.LegalLinks.{link_is, sent_is}

@@ -1,8 +1,6 @@
 -- Lists that are the same, and what holds of the one place of a list.
-use Rattle.std.proofs.Common.{◌≡◌, ℕ, ◌<◌, false, nat_eq, List, [], ◌∷◌, ◌++◌, length, map, refl, sym, subst, arith}
-use Rattle.std.specs.Prelude.{All}
-use Rattle.std.proofs.Math.Seq.{take-append_seam}
-use Rattle.std.proofs.lemmas.List.Elements.{All-take}
+use Rattle.afdx_laws.proofs.Names.{◌≡◌, ℕ, ◌<◌, false, nat_eq, List, [], ◌∷◌, ◌++◌, length, map, refl, sym, subst}
+use Rattle.afdx_laws.proofs.Names.{arith, All, take-append_seam, All-take}
 
 -- the parts of two lists that are the same
 pub cons_parts : {X : Type 0} {x y : X} {xs ys : List X} → x ∷ xs ≡ y ∷ ys → (x ≡ y) × (xs ≡ ys)

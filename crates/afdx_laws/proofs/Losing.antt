@@ -1,15 +1,11 @@
 -- The whole network makes good what the other one loses.
-use Rattle.std.proofs.Common.{◌&&◌, ◌≡◌, ℕ, suc, ◌+◌, ◌-◌, ◌≤◌, ◌<◌, ◌⊎◌, inl, inr, Bool, true, false, cond, max, List, [], ◌∷◌, ◌++◌, length, map, take, get_or, refl, ap, sym, ◌∙◌, subst, arith}
-use Rattle.std.specs.Prelude.{Some, None}
-use Rattle.std.proofs.lemmas.Bool.{cases_Bool, and_parts}
-use Rattle.std.proofs.lemmas.List.{append-nil, get_or-map, length-map}
-use Rattle.afdx_plan.specs.Numbers.{sequence_number}
-use Rattle.afdx_frame.specs.declared.net.Net.{Net}
-use Rattle.afdx_frame.specs.declared.net.Net.TheVariants.{A}
-use Rattle.afdx_frame.specs.Twin.{twin_of}
-use Rattle.afdx_laws.specs.Receiver.{Tolerance, State, other, begin, is_accepted, is_valid, is_ahead, received, carried, with_seen, with_accepted, seen_on}
-use Rattle.afdx_frame.specs.Header.{number_in}
-use Rattle.afdx_laws.specs.Loss.{same_net, AreWithin, StartsFirst, AreClose, BeginsFirst, frame_at, LossMasked, FirstComes, MaskedFromFirst, NumbersClash}
+use Rattle.afdx_laws.proofs.Names.{◌&&◌, ◌≡◌, ℕ, suc, ◌+◌, ◌-◌, ◌≤◌, ◌<◌, ◌⊎◌, inl, inr, Bool, true, false, cond}
+use Rattle.afdx_laws.proofs.Names.{max, List, [], ◌∷◌, ◌++◌, length, map, take, get_or, refl, ap, sym, ◌∙◌, subst}
+use Rattle.afdx_laws.proofs.Names.{arith, Some, None, cases_Bool, and_parts, append-nil, get_or-map, length-map}
+use Rattle.afdx_laws.proofs.Names.{sequence_number, Net, A, twin_of, Tolerance, State, other, begin, is_accepted}
+use Rattle.afdx_laws.proofs.Names.{is_valid, is_ahead, received, carried, with_seen, with_accepted, seen_on}
+use Rattle.afdx_laws.proofs.Names.{number_in, same_net, AreWithin, StartsFirst, AreClose, BeginsFirst, frame_at}
+use Rattle.afdx_laws.proofs.Names.{LossMasked, FirstComes, MaskedFromFirst, NumbersClash}
 use Rattle.afdx_laws.proofs.NumberLemmas.{last, new_next, valid_next, old_copy, old_is_ahead, next_is, differ}
 use Rattle.afdx_laws.proofs.Receiving.{IsPlaced, grows, placed}
 

@@ -1,17 +1,8 @@
 -- One buffer for each sub-VL is enough for what a receiver accepts.
-use Rattle.std.proofs.Common.{◌≡◌, ℕ, List, map, take, arith}
-use Rattle.afdx_frame.specs.declared.net.Net.{Net}
-use Rattle.afdx_frame.specs.declared.net.Net.TheVariants.{A}
-use Rattle.afdx_frame.specs.Header.{number_in}
-use Rattle.afdx_frame.specs.Twin.{twin_of}
-use Rattle.afdx_frame.specs.Fragments.{Sent}
-use Rattle.afdx_laws.specs.Receiver.{begin, received}
-use Rattle.afdx_laws.specs.Networks.{most_carried}
-use Rattle.afdx_laws.specs.Loss.{next_alone, frames_at}
-use Rattle.afdx_laws.specs.Messages.{fragment_in, IsSending}
-use Rattle.afdx_laws.specs.Handed.{longer}
-use Rattle.afdx_laws.specs.Plans.{id_at, piece_room, frames_of, longer_of}
-use Rattle.afdx_laws.specs.Buffers.{IsOneEnough, HandedNeedOne, LegalNeedOne, LegalNeedOneDespite}
+use Rattle.afdx_laws.proofs.Names.{◌≡◌, ℕ, List, map, take, arith, Net, A, number_in, twin_of, Sent, begin}
+use Rattle.afdx_laws.proofs.Names.{received, most_carried, next_alone, frames_at, fragment_in, IsSending, longer}
+use Rattle.afdx_laws.proofs.Names.{id_at, piece_room, frames_of, longer_of, IsOneEnough, HandedNeedOne}
+use Rattle.afdx_laws.proofs.Names.{LegalNeedOne, LegalNeedOneDespite}
 use Rattle.afdx_laws.proofs.Receiving.{exactly_once_holds}
 use Rattle.afdx_laws.proofs.Losing.{loss_masked_holds}
 use Rattle.afdx_laws.proofs.Arriving.{datagrams_of, some_bytes, few_bytes, first_come}

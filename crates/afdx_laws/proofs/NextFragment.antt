@@ -1,24 +1,15 @@
 -- The next fragment of a message comes within a round of the sub-VLs.
-use Rattle.std.proofs.Common.{◌≡◌, ◌≢◌, ℕ, zero, suc, ◌+◌, ◌*◌, ◌≤◌, ◌<◌, Bool, true, false, eqb, nat_eq, cond, Some, List, [], ◌∷◌, ◌++◌, length, map, refl, subst, arith}
-use Rattle.std.specs.Prelude.{All}
-use Rattle.std.specs.List.{AllByRecursion, IsDistinct, list_any}
-use Rattle.std.proofs.lemmas.Bool.Decides.{nat_tests}
-use Rattle.std.proofs.lemmas.Bool.{eq-eqb, ne_eqb, false≢true}
-use Rattle.std.proofs.lemmas.List.{length-map}
-use Rattle.std.proofs.lemmas.List.Sums.{length-filter, count_by-le-length}
+use Rattle.afdx_laws.proofs.Names.{◌≡◌, ◌≢◌, ℕ, zero, suc, ◌+◌, ◌*◌, ◌≤◌, ◌<◌, Bool, true, false, eqb, nat_eq, cond}
+use Rattle.afdx_laws.proofs.Names.{List, [], ◌∷◌, ◌++◌, length, map, refl, subst, arith, All, AllByRecursion}
+use Rattle.afdx_laws.proofs.Names.{IsDistinct, list_any, nat_tests, eq-eqb, ne_eqb, false≢true, length-map}
+use Rattle.afdx_laws.proofs.Names.{length-filter, count_by-le-length, All-tail, All-weaker, All-from_recursion}
+use Rattle.afdx_laws.proofs.Names.{link_plan_at, bag_micros, LinkPlan, sub_in, Entry, mul-le, sub_stream}
+use Rattle.afdx_laws.proofs.Names.{link_stream, id_at}
+use Rattle.std.proofs.Common.{Some}
 use Rattle.std.proofs.lemmas.Map.Keys.{IsDistinct-cons, IsDistinct-from_apart}
 use Rattle.std.proofs.lemmas.Map.Steps.{length-le_from_distinct_below}
-use Rattle.std.proofs.lemmas.List.Elements.{All-tail, All-weaker, All-from_recursion}
-use Rattle.afdx_plan.specs.Config.{link_plan_at}
-use Rattle.afdx_plan.specs.Plan.{bag_micros}
-use Rattle.afdx_plan.specs.declared.link_plan.LinkPlan.{LinkPlan}
-use Rattle.afdx_frame.specs.Header.{sub_in}
-use Rattle.redundant_mux.specs.Entry.{Entry}
-use Rattle.std.proofs.lemmas.Nat.{mul-le}
 use Rattle.vl_shaper.proofs.Polled.{polled_in_time_holds}
-use Rattle.afdx_legal.specs.Streams.{sub_stream, link_stream}
 use Rattle.afdx_legal.specs.Turns.{before_next, IsFollowedInTurn, TakesTurns}
-use Rattle.afdx_laws.specs.Plans.{id_at}
 use Rattle.afdx_laws.specs.NextFragment.{AreNeighbours, IsOfOneOf, NextInARound, FollowWithin, NextInTime, NextPolledInTime, link_wait, longest_wait, NextInPlan, LieTwoGapsApart}
 use Rattle.afdx_legal.specs.WorkedTurns.{turn_entry, TurnsAreTold}
 use Rattle.afdx_laws.proofs.ListLemmas.{all_front}

@@ -1,8 +1,6 @@
 -- Numbers that differ.
-use Rattle.std.proofs.Common.{◌≡◌, ℕ, zero, suc, ◌+◌, ◌-◌, ◌%◌, ◌≤◌, ◌<◌, true, false, refl, arith}
-use Rattle.std.specs.Prelude.{Option, Some, None}
-use Rattle.afdx_plan.specs.Numbers.{sequence_number}
-use Rattle.afdx_laws.specs.Receiver.{next_number, ahead, is_ahead, is_valid}
+use Rattle.afdx_laws.proofs.Names.{◌≡◌, ℕ, zero, suc, ◌+◌, ◌-◌, ◌%◌, ◌≤◌, ◌<◌, true, false, refl, arith, Option}
+use Rattle.afdx_laws.proofs.Names.{Some, None, sequence_number, next_number, ahead, is_ahead, is_valid}
 
 -- the number of a place behind the first
 number_is : (i : ℕ) → sequence_number (suc i) ≡ i % 255 + 1

@@ -1,15 +1,9 @@
 -- Fragments in order need one buffer for each sub-VL.
-use Rattle.std.proofs.Common.{◌≡◌, ℕ, suc, ◌≤◌, List, [], ◌∷◌, length, drop, get_or, refl, ap, ◌∙◌, arith}
-use Rattle.std.specs.Prelude.{All, Option, None}
-use Rattle.std.proofs.lemmas.Bool.Decides.{nat_tests}
-use Rattle.std.proofs.lemmas.List.{length-take, length-drop}
-use Rattle.std.proofs.lemmas.List.Elements.{All-nil, All-append, All-map}
-use Rattle.afdx_plan.specs.Numbers.{identification}
-use Rattle.afdx_frame.specs.declared.piece.Piece.{Piece}
-use Rattle.afdx_frame.specs.Cutting.{cutting, pieces_from}
-use Rattle.afdx_frame.specs.Reassembly.{Fragment, Buffer, put, end_of, datagram_in, fragment_of, fragments_of, empty}
-use Rattle.afdx_laws.specs.Delivery.{with_buffer, kept_in, keyed, sent_from, of_sub}
-use Rattle.afdx_laws.specs.Buffers.{buffers_after, HasUpTo, OneBuffer}
+use Rattle.afdx_laws.proofs.Names.{◌≡◌, ℕ, suc, ◌≤◌, List, [], ◌∷◌, length, drop, get_or, refl, ap, ◌∙◌, arith, All}
+use Rattle.afdx_laws.proofs.Names.{Option, None, nat_tests, length-take, length-drop, All-nil, All-append, All-map}
+use Rattle.afdx_laws.proofs.Names.{identification, Piece, cutting, pieces_from, Fragment, Buffer, put, end_of}
+use Rattle.afdx_laws.proofs.Names.{datagram_in, fragment_of, fragments_of, empty, with_buffer, kept_in, keyed}
+use Rattle.afdx_laws.proofs.Names.{sent_from, of_sub, buffers_after, HasUpTo, OneBuffer}
 use Rattle.afdx_laws.proofs.ListLemmas.{all_front}
 use Rattle.afdx_laws.proofs.Reading.{cutting_lies}
 use Rattle.afdx_laws.proofs.InOrder.{apart, reassembles}

@@ -1,20 +1,9 @@
 -- What is handed over of a link on one network arrives from there.
-use Rattle.std.proofs.Common.{◌≡◌, ℕ, List, [], ◌∷◌, ◌++◌, length, map, take, refl, ap, sym, ◌∙◌, subst, arith}
-use Rattle.std.specs.Prelude.{All}
-use Rattle.std.proofs.Math.Seq.{take-append_seam}
-use Rattle.afdx_plan.specs.Config.{Plan}
-use Rattle.afdx_frame.specs.declared.net.Net.{Net}
-use Rattle.afdx_frame.specs.declared.net.Net.TheVariants.{A, B}
-use Rattle.afdx_frame.specs.Header.{number_in}
-use Rattle.afdx_frame.specs.Twin.{twin_of}
-use Rattle.redundant_mux.specs.Entry.{Entry}
-use Rattle.afdx_legal.specs.Streams.{IsPrefixOf}
-use Rattle.afdx_legal.specs.Legal.{Accepted}
-use Rattle.afdx_laws.specs.Receiver.{begin, received, other, carried_by, carried, IsNear}
-use Rattle.afdx_laws.specs.Networks.{most_carried}
-use Rattle.afdx_laws.specs.Messages.{messages_in, AreFirst}
-use Rattle.afdx_laws.specs.Handed.{IsOfNet, IsHanded}
-use Rattle.afdx_laws.specs.Plans.{id_at, piece_room, frames_of, handed_to, all_from, IsHandedOver, OneNetworkArrives}
+use Rattle.afdx_laws.proofs.Names.{◌≡◌, ℕ, List, [], ◌∷◌, ◌++◌, length, map, take, refl, ap, sym, ◌∙◌, subst, arith}
+use Rattle.afdx_laws.proofs.Names.{All, take-append_seam, Plan, Net, A, B, number_in, twin_of, Entry, IsPrefixOf}
+use Rattle.afdx_laws.proofs.Names.{Accepted, begin, received, other, carried_by, carried, IsNear, most_carried}
+use Rattle.afdx_laws.proofs.Names.{messages_in, AreFirst, IsOfNet, IsHanded, id_at, piece_room, frames_of}
+use Rattle.afdx_laws.proofs.Names.{handed_to, all_from, IsHandedOver, OneNetworkArrives}
 use Rattle.afdx_laws.proofs.ListLemmas.{cons_parts, nil_isnt_cons}
 use Rattle.afdx_laws.proofs.Arriving.{messages_arrive_holds}
 use Rattle.afdx_laws.proofs.HandedOver.{own_twins, sending_to}

@@ -1,34 +1,19 @@
 -- What is read of a frame is what went in.
-use Rattle.std.proofs.Common.{◌≡◌, ℕ, zero, suc, inl, inr, ◌+◌, ◌-◌, ◌%◌, ◌≤◌, List, [], ◌∷◌, ◌++◌, length, map, take, drop, get_or, refl, ap, sym, ◌∙◌, subst, arith}
-use Rattle.std.specs.Prelude.{All}
-use Rattle.std.specs.List.{AllByRecursion}
-use Rattle.std.proofs.lemmas.Bool.{cases_lt}
-use Rattle.std.proofs.lemmas.List.Elements.{All-from_recursion}
-use Rattle.std.proofs.lemmas.List.{drop-set-lt, map-append, length-append, drop_at, take_more, take_all}
-use Rattle.afdx_plan.specs.Plan.{IsPort}
-use Rattle.afdx_plan.specs.Numbers.{identification}
-use Rattle.afdx_frame.specs.declared.net.Net.{Net}
-use Rattle.afdx_frame.specs.declared.piece.Piece.{Piece}
-use Rattle.afdx_plan.specs.Room.{step_of}
-use Rattle.afdx_frame.specs.Cutting.{cut_by, cutting, pieces_from}
-use Rattle.afdx_frame.proofs.CuttingLemmas.{step_le, cut_last, cut_more}
-use Rattle.afdx_frame.specs.Frame.{interface_byte, datagram, udp_header, unnumbered, frame_of}
-use Rattle.afdx_frame.specs.Twin.{twin_of}
-use Rattle.afdx_frame.specs.Profile.{total_length}
-use Rattle.afdx_frame.specs.Fragments.{Sent, blanked, fragments_at, fragments_from}
-use Rattle.afdx_frame.specs.ReadBack.{IsPiece}
-use Rattle.afdx_frame.proofs.Twins.{twin_word}
-use Rattle.afdx_frame.proofs.Says.{says, total_ok, payload_says}
+use Rattle.afdx_laws.proofs.Names.{◌≡◌, ℕ, zero, suc, inl, inr, ◌+◌, ◌-◌, ◌%◌, ◌≤◌, List, [], ◌∷◌, ◌++◌, length}
+use Rattle.afdx_laws.proofs.Names.{map, take, drop, get_or, refl, ap, sym, ◌∙◌, subst, arith, All, AllByRecursion}
+use Rattle.afdx_laws.proofs.Names.{cases_lt, All-from_recursion, drop-set-lt, map-append, length-append, drop_at}
+use Rattle.afdx_laws.proofs.Names.{take_more, take_all, IsPort, identification, Net, Piece, step_of, cut_by}
+use Rattle.afdx_laws.proofs.Names.{pieces_from, step_le, cut_last, cut_more, interface_byte, udp_header, unnumbered}
+use Rattle.afdx_laws.proofs.Names.{frame_of, twin_of, total_length, Sent, blanked, fragments_from, IsPiece}
+use Rattle.afdx_laws.proofs.Names.{twin_word, says, total_ok, payload_says, Fragment, fragment_of, fragments_of}
+use Rattle.afdx_laws.proofs.Names.{sub_in, those_with, with_map, of_sub, keyed, sent_from, IsLong, fragment_in}
+use Rattle.afdx_laws.proofs.Names.{IsSent}
+use Rattle.afdx_frame.specs.Cutting.{cutting}
+use Rattle.afdx_frame.specs.Frame.{datagram}
+use Rattle.afdx_frame.specs.Fragments.{fragments_at}
 use Rattle.afdx_frame.proofs.PiecesAre.{pieces_are}
 use Rattle.afdx_frame.proofs.Datagram.{length-udp_header}
-use Rattle.afdx_frame.specs.Reassembly.{Fragment, fragment_of, fragments_of}
-use Rattle.afdx_frame.specs.Header.{sub_in}
-use Rattle.afdx_legal.specs.Streams.{those_with}
-use Rattle.afdx_legal.proofs.StreamLemmas.{with_map}
-use Rattle.afdx_laws.specs.Delivery.{of_sub, keyed, sent_from}
-use Rattle.afdx_laws.specs.Networks.{IsLong}
 use Rattle.afdx_laws.proofs.ListLemmas.{cons_parts, cons_same, append_same, nil_isnt_cons}
-use Rattle.afdx_laws.specs.Messages.{fragment_in, IsSent}
 
 -- the interface identifier isn't read
 pub same_fragment : (net : Net) (frame : List ℕ) → fragment_in (twin_of net frame) ≡ fragment_in frame

@@ -1,20 +1,12 @@
 -- What a receiver hands on of what two networks carry.
-use Rattle.std.proofs.Common.{◌≡◌, ℕ, suc, ◌+◌, ◌≤◌, ◌<◌, true, false, max, List, [], ◌∷◌, ◌++◌, length, map, take, get_or, refl, ap, sym, ◌∙◌, arith, drop}
-use Rattle.std.proofs.lemmas.Bool.{cases_lt}
-use Rattle.std.specs.Prelude.{Option, All}
-use Rattle.std.proofs.lemmas.List.{take_more, append_assoc, append-nil, drop_more, drop_all, get_or-map, length-map, set-set}
-use Rattle.afdx_frame.specs.declared.net.Net.{Net}
-use Rattle.afdx_frame.specs.declared.net.Net.TheVariants.{A, B}
-use Rattle.afdx_plan.specs.Numbers.{sequence_number}
-use Rattle.afdx_laws.specs.Receiver.{Tolerance, State, is_valid, is_ahead, received, carried, with_seen, with_accepted, seen_on, other, carried_by, IsNear}
+use Rattle.afdx_laws.proofs.Names.{◌≡◌, ℕ, suc, ◌+◌, ◌≤◌, ◌<◌, true, false, max, List, [], ◌∷◌, ◌++◌, length, map}
+use Rattle.afdx_laws.proofs.Names.{take, get_or, refl, ap, sym, ◌∙◌, arith, drop, cases_lt, Option, All, take_more}
+use Rattle.afdx_laws.proofs.Names.{append_assoc, append-nil, drop_more, drop_all, get_or-map, length-map, set-set}
+use Rattle.afdx_laws.proofs.Names.{Net, A, B, sequence_number, Tolerance, State, is_valid, is_ahead, received}
+use Rattle.afdx_laws.proofs.Names.{carried, with_seen, with_accepted, seen_on, other, carried_by, IsNear}
+use Rattle.afdx_laws.proofs.Names.{IsNumbered, IsPrefixOf, numbered_at, interface_byte, twin_of, number_in}
+use Rattle.afdx_laws.proofs.Names.{twin_number, IsLong, most_carried, ExactlyOnce}
 use Rattle.afdx_laws.proofs.NumberLemmas.{last, new_next, valid_next, old_copy}
-use Rattle.afdx_legal.specs.Streams.{IsNumbered, IsPrefixOf}
-use Rattle.afdx_legal.proofs.StreamLemmas.{numbered_at}
-use Rattle.afdx_frame.specs.Frame.{interface_byte}
-use Rattle.afdx_frame.specs.Twin.{twin_of}
-use Rattle.afdx_frame.specs.Header.{number_in}
-use Rattle.afdx_frame.proofs.Twins.{twin_number}
-use Rattle.afdx_laws.specs.Networks.{IsLong, most_carried, ExactlyOnce}
 
 -- the state after so many frames of each network
 abbrev pub state_at : ℕ → ℕ → State

@@ -1,11 +1,7 @@
 -- Frames that are near by the clock are near by their count.
-use Rattle.std.proofs.Common.{◌≡◌, ℕ, zero, suc, ◌+◌, ◌-◌, ◌*◌, ◌/◌, ◌≤◌, ◌<◌, inl, inr, List, [], ◌∷◌, ◌++◌, length, refl, ap, ◌∙◌, arith}
-use Rattle.std.proofs.lemmas.Bool.{cases_lt}
-use Rattle.std.proofs.lemmas.Nat.{le-div}
-use Rattle.std.proofs.lemmas.List.{append_assoc, length-append}
-use Rattle.afdx_frame.specs.declared.net.Net.{Net}
-use Rattle.afdx_frame.specs.declared.net.Net.TheVariants.{A, B}
-use Rattle.afdx_laws.specs.Receiver.{other, carried}
+use Rattle.afdx_laws.proofs.Names.{◌≡◌, ℕ, zero, suc, ◌+◌, ◌-◌, ◌*◌, ◌/◌, ◌≤◌, ◌<◌, inl, inr, List, [], ◌∷◌, ◌++◌}
+use Rattle.afdx_laws.proofs.Names.{length, refl, ap, ◌∙◌, arith, cases_lt, le-div, append_assoc, length-append, Net}
+use Rattle.afdx_laws.proofs.Names.{A, B, other, carried}
 use Rattle.afdx_laws.specs.Skew.{SkewIsNear, IsDelivered, released_at, arrival_of, both_copies, ComesInTime}
 use Rattle.afdx_laws.proofs.WorkedMessage.{few_are_near}
 

@@ -1,8 +1,7 @@
 -- What passes is paid for.
-use Rattle.std.proofs.Common.{ℕ, ◌≡◌, ◌+◌, ◌-◌, ◌*◌, ◌<◌, ◌≤◌, inl, inr, List, [], ◌∷◌, arith}
-use Rattle.std.proofs.lemmas.Bool.{cases_lt, le-leb}
-use Rattle.std.proofs.lemmas.List.Sums.{sum_by-cons}
-use Rattle.afdx_laws.specs.Policer.{Arrival, Rule, Account, Charge, limit, filled, paid, price, passed, cost, AreBetween, NoMorePasses}
+use Rattle.afdx_laws.proofs.Names.{ℕ, ◌≡◌, ◌+◌, ◌-◌, ◌*◌, ◌<◌, ◌≤◌, inl, inr, List, [], ◌∷◌, arith, cases_lt}
+use Rattle.afdx_laws.proofs.Names.{le-leb, sum_by-cons, Arrival, Rule, Account, Charge, limit, filled, paid, price}
+use Rattle.afdx_laws.proofs.Names.{passed, cost, AreBetween, NoMorePasses}
 
 -- a frame that passes, and what passes behind it
 one_passed : (charge : Charge) (rule : Rule) (account : Account) (f : Arrival) (later : List Arrival)

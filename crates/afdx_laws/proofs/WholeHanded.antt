@@ -1,22 +1,10 @@
 -- All that was accepted was handed over, and came.
-use Rattle.std.proofs.Common.{◌≡◌, ℕ, ◌≤◌, List, length, map, ap, ◌∙◌, arith}
-use Rattle.std.proofs.lemmas.List.{take_all, length-map}
-use Rattle.afdx_plan.specs.Config.{Plan, link_plan_at}
-use Rattle.afdx_frame.specs.declared.net.Net.{Net}
-use Rattle.afdx_frame.specs.declared.net.Net.TheVariants.{A}
-use Rattle.afdx_frame.specs.Fragments.{Sent, fragments}
-use Rattle.afdx_frame.specs.Header.{sub_in}
-use Rattle.afdx_frame.specs.Twin.{twin_of}
-use Rattle.afdx_frame.proofs.Twins.{twin_sub}
-use Rattle.redundant_mux.specs.Entry.{Entry}
-use Rattle.afdx_legal.specs.Streams.{those_with, link_stream}
-use Rattle.afdx_legal.specs.Legal.{Accepted}
-use Rattle.afdx_legal.specs.Own.{longer as longer_stream, own_stream}
+use Rattle.afdx_laws.proofs.Names.{◌≡◌, ℕ, ◌≤◌, List, length, map, ap, ◌∙◌, arith, take_all, length-map, Plan}
+use Rattle.afdx_laws.proofs.Names.{link_plan_at, Net, A, Sent, fragments, sub_in, twin_of, twin_sub, Entry}
+use Rattle.afdx_laws.proofs.Names.{those_with, link_stream, Accepted, own_stream, with_map, most_carried, longer}
+use Rattle.afdx_laws.proofs.Names.{id_at, piece_room, frames_of, longer_of, OwnListsArrive}
+use Rattle.afdx_legal.specs.Own.{longer as longer_stream}
 use Rattle.afdx_legal.specs.Done.{IsReleased}
-use Rattle.afdx_legal.proofs.StreamLemmas.{with_map}
-use Rattle.afdx_laws.specs.Networks.{most_carried}
-use Rattle.afdx_laws.specs.Handed.{longer}
-use Rattle.afdx_laws.specs.Plans.{id_at, piece_room, frames_of, longer_of, OwnListsArrive}
 use Rattle.afdx_laws.proofs.LegalLinks.{told_is, frames_side, legal_arrive_holds}
 
 -- how many frames of a list are of a sub-VL

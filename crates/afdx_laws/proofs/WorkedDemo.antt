@@ -1,34 +1,19 @@
 -- The worked handing over of a plan, by computation: of one message, also to its end and on one network, and of two.
-use Rattle.std.proofs.Common.{◌≡◌, ℕ, true, [], ◌∷◌, refl, sym, ◌∙◌, arith, ◌≤◌, Bool, false, nat_eq, List, length, map, ap, ◌<◌}
-use Rattle.std.proofs.lemmas.Bool.{false≢true}
-use Rattle.std.proofs.lemmas.List.Elements.{All-from_recursion, All-contains}
-use Rattle.std.specs.Prelude.{if◌then◌else◌, All, Contains}
-use Rattle.std.specs.List.{AllZip}
-use Rattle.afdx_plan.specs.Config.{port_plan_at, IsPlan, HasLink}
+use Rattle.afdx_laws.proofs.Names.{◌≡◌, ℕ, true, [], ◌∷◌, refl, sym, ◌∙◌, arith, ◌≤◌, Bool, false, nat_eq, List}
+use Rattle.afdx_laws.proofs.Names.{length, map, ap, ◌<◌, false≢true, All-from_recursion, All-contains}
+use Rattle.afdx_laws.proofs.Names.{if◌then◌else◌, All, Contains, AllZip, port_plan_at, IsPlan, HasLink, IsLink}
+use Rattle.afdx_laws.proofs.Names.{Networks, Both, OnlyA, demo_valid, Net, A, B, Sent, names, link_stream, Accepted}
+use Rattle.afdx_laws.proofs.Names.{IsKnown, IsLegalOn, IsLegal, IsAllowed, messages_of, by_frames, IsOnItsWay}
+use Rattle.afdx_laws.proofs.Names.{AreClose, AreCarriedOf, frames_of, IsOn, IsOnBoth, IsHandedOver, plain_receiver}
+use Rattle.afdx_laws.proofs.Names.{closed_receiver, first_lost}
 use Rattle.afdx_plan.specs.Demo.{demo_plan, demo_port, demo_link}
-use Rattle.afdx_plan.specs.Plan.{IsLink}
 use Rattle.afdx_plan.specs.declared.identifiers.Kind.TheVariants.{Sampling, Queuing}
-use Rattle.afdx_plan.specs.declared.networks.Networks.{Networks}
-use Rattle.afdx_plan.specs.declared.networks.Networks.TheVariants.{Both, OnlyA}
 use Rattle.afdx_plan.specs.declared.port_plan.PortPlan.{PortPlan}
-use Rattle.afdx_plan.proofs.DemoPlan.{demo_valid}
-use Rattle.afdx_frame.specs.declared.net.Net.{Net}
-use Rattle.afdx_frame.specs.declared.net.Net.TheVariants.{A, B}
 use Rattle.afdx_frame.specs.Checksum.{checksum}
 use Rattle.afdx_frame.specs.Cutting.{cutting}
-use Rattle.afdx_frame.specs.Fragments.{fragments_at, Sent}
+use Rattle.afdx_frame.specs.Fragments.{fragments_at}
 use Rattle.afdx_frame.specs.Frame.{addresses, header_front, internet_header, link_header, udp_header, datagram, unnumbered}
-use Rattle.redundant_mux.specs.Logged.{names}
-use Rattle.afdx_legal.specs.Streams.{link_stream}
-use Rattle.afdx_legal.specs.Legal.{Accepted, IsKnown, IsLegalOn, IsLegal}
-use Rattle.afdx_legal.specs.Allowed.{IsAllowed, messages_of}
 use Rattle.afdx_legal.specs.WorkedMessage.{one_byte_accepted, one_frame, one_byte}
-use Rattle.afdx_laws.specs.Policer.{by_frames, IsOnItsWay}
-use Rattle.afdx_laws.specs.Loss.{AreClose}
-use Rattle.afdx_laws.specs.Handed.{AreCarriedOf}
-use Rattle.afdx_laws.specs.Plans.{frames_of, IsOn, IsOnBoth, IsHandedOver}
-use Rattle.afdx_laws.specs.WorkedDelivery.{plain_receiver, closed_receiver}
-use Rattle.afdx_laws.specs.WorkedLoss.{first_lost}
 use Rattle.afdx_laws.specs.WorkedPlan.{one_entry, two_arrivals, OneIsLegal, only_lost, LegalDespiteOneLoss, one_own, other_own, OwnComes, OneIsWhole, NeedsAll, demo_on, ComesFromOne, AreTwinsOfOne, two_accepted, swapped_accepted, second_frame, pair_at, two_entries, longer_pair, PairHanded, AreSwapped, both_arrive, second_arrives, PairArrives, NeedsLegal, both_from_b, PairDespite, NeedsClose, pair_passes, PassesAGapApart}
 use Rattle.afdx_laws.proofs.AllOnBoth.{all_on_both_holds}
 use Rattle.afdx_laws.proofs.LegalLinks.{legal_arrive_holds, legal_despite_loss_holds}

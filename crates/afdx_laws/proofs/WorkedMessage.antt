@@ -1,27 +1,20 @@
 -- The worked delivery, the worked runs of a receiver and the worked losses, by computation.
-use Rattle.std.proofs.Common.{◌≡◌, ◌≤◌, ◌<◌, List, [], ◌∷◌, length, map, take, ◌+◌, ℕ, suc, false, nat_eq, refl, ap, sym, ◌∙◌, arith, max, Bool, true, not, ◌&&◌, ◌||◌, nat_lt, nat_le, cond}
-use Rattle.std.proofs.lemmas.Bool.{and_parts}
-use Rattle.std.proofs.lemmas.Bool.Decides.{nat_tests}
-use Rattle.std.specs.Prelude.{slice_index}
-use Rattle.std.proofs.lemmas.List.{length-append, length-take, length-map}
-use Rattle.std.proofs.lemmas.List.Elements.{All-from_recursion}
-use Rattle.afdx_plan.proofs.DemoPlan.{demo_port_is}
-use Rattle.afdx_frame.specs.declared.net.Net.{Net}
-use Rattle.afdx_frame.specs.declared.net.Net.TheVariants.{A, B}
+use Rattle.afdx_laws.proofs.Names.{◌≡◌, ◌≤◌, ◌<◌, List, [], ◌∷◌, length, map, take, ◌+◌, ℕ, suc, false, nat_eq}
+use Rattle.afdx_laws.proofs.Names.{refl, ap, sym, ◌∙◌, arith, max, Bool, true, not, ◌&&◌, ◌||◌, nat_lt, nat_le}
+use Rattle.afdx_laws.proofs.Names.{cond, and_parts, nat_tests, slice_index, length-append, length-take, length-map}
+use Rattle.afdx_laws.proofs.Names.{All-from_recursion, demo_port_is, Net, A, B, Sent, fragments, sub_in, number_in}
+use Rattle.afdx_laws.proofs.Names.{twin_of, those_with, begin, received, carried, other, IsNear, IsLong, IsStream}
+use Rattle.afdx_laws.proofs.Names.{AreCarried, AreWithin, StartsFirst, AreClose, same_net, one_lost, IsSent}
+use Rattle.afdx_laws.proofs.Names.{IsSending, AreFirst, messages_in, IsOfNet, IsHanded, AreHanded, one_accepted}
+use Rattle.afdx_laws.proofs.Names.{both_frames, four_arrivals, three_arrivals, plain_receiver, closed_receiver}
+use Rattle.afdx_laws.proofs.Names.{OneMessageArrives, NeedsHanding, bare_frame, bare_stream, same_twice, far_behind}
+use Rattle.afdx_laws.proofs.Names.{wide_receiver, AcceptsEachOnce, NeedsNumbers, NeedsALag, NeedsAStream}
+use Rattle.afdx_laws.proofs.Names.{second_lost, first_lost, messages_despite, MasksOneLoss, NeedsTheFirst}
+use Rattle.afdx_laws.proofs.Names.{BeginsOnBoth, ComesDespiteLoss, NeedsAWholeNetwork, NeedsOneWhole}
 use Rattle.afdx_frame.specs.Checksum.{checksum}
 use Rattle.afdx_frame.specs.Cutting.{cutting}
 use Rattle.afdx_frame.specs.Frame.{addresses, header_front, internet_header, link_header, udp_header, datagram, unnumbered}
-use Rattle.afdx_frame.specs.Fragments.{Sent, fragments, fragments_at}
-use Rattle.afdx_frame.specs.Header.{sub_in, number_in}
-use Rattle.afdx_frame.specs.Twin.{twin_of}
-use Rattle.afdx_legal.specs.Streams.{those_with}
-use Rattle.afdx_laws.specs.Receiver.{begin, received, carried, other, IsNear}
-use Rattle.afdx_laws.specs.Networks.{IsLong, IsStream, AreCarried}
-use Rattle.afdx_laws.specs.Loss.{AreWithin, StartsFirst, AreClose, same_net, one_lost}
-use Rattle.afdx_laws.specs.Messages.{IsSent, IsSending, AreFirst, messages_in}
-use Rattle.afdx_laws.specs.Handed.{IsOfNet, IsHanded, AreHanded}
-use Rattle.afdx_laws.specs.WorkedDelivery.{one_accepted, both_frames, four_arrivals, three_arrivals, plain_receiver, closed_receiver, OneMessageArrives, NeedsHanding, bare_frame, bare_stream, same_twice, far_behind, wide_receiver, AcceptsEachOnce, NeedsNumbers, NeedsALag, NeedsAStream}
-use Rattle.afdx_laws.specs.WorkedLoss.{second_lost, first_lost, messages_despite, MasksOneLoss, NeedsTheFirst, BeginsOnBoth, ComesDespiteLoss, NeedsAWholeNetwork, NeedsOneWhole}
+use Rattle.afdx_frame.specs.Fragments.{fragments_at}
 use Rattle.afdx_laws.proofs.ListLemmas.{cons_parts, other_length}
 use Rattle.afdx_laws.proofs.Rows.{fails_by, needs_each}
 use Rattle.afdx_laws.proofs.Receiving.{exactly_once_holds}

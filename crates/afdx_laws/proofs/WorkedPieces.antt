@@ -1,16 +1,11 @@
 -- The worked reassembly and its buffers, by computation.
-use Rattle.std.proofs.Common.{ℕ, ◌≤◌, false, [], ◌∷◌, length, take, refl, arith, ◌≡◌, inl, inr, ap, sym, true}
-use Rattle.std.specs.Prelude.{All, Some, None}
-use Rattle.std.proofs.lemmas.Bool.{cases_eq}
-use Rattle.std.proofs.lemmas.List.Elements.{All-from_recursion}
-use Rattle.afdx_frame.specs.declared.net.Net.TheVariants.{A, B}
+use Rattle.afdx_laws.proofs.Names.{ℕ, ◌≤◌, false, [], ◌∷◌, length, take, refl, arith, ◌≡◌, inl, inr, ap, sym, true}
+use Rattle.afdx_laws.proofs.Names.{All, Some, None, cases_eq, All-from_recursion, A, B, Buffer, empty, HasByte}
+use Rattle.afdx_laws.proofs.Names.{of_sub, sent_from, buffers_after, HoldsOne, HasUpTo, one_accepted, both_frames}
+use Rattle.afdx_laws.proofs.Names.{four_arrivals, plain_receiver}
 use Rattle.afdx_frame.specs.Checksum.{checksum}
 use Rattle.afdx_frame.specs.Cutting.{cutting}
 use Rattle.afdx_frame.specs.Frame.{addresses, header_front, internet_header, link_header, udp_header, datagram, unnumbered}
-use Rattle.afdx_frame.specs.Reassembly.{Buffer, empty}
-use Rattle.afdx_laws.specs.Delivery.{HasByte, of_sub, sent_from}
-use Rattle.afdx_laws.specs.Buffers.{buffers_after, HoldsOne, HasUpTo}
-use Rattle.afdx_laws.specs.WorkedDelivery.{one_accepted, both_frames, four_arrivals, plain_receiver}
 use Rattle.afdx_laws.specs.WorkedOrder.{two_datagrams, five_fragments, second_came, one_without_bytes, eight_bytes, piece, FirstIsGiven, NeedsOrder, two_begun, NeedsInTurn, HoldsAFrame}
 use Rattle.afdx_laws.proofs.Rows.{fails_by}
 use Rattle.afdx_laws.proofs.InOrder.{in_order_holds}

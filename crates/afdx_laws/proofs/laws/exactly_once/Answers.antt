@@ -1,5 +1,4 @@
-use Rattle.std.proofs.Common.{arith}
-use Rattle.std.proofs.lemmas.Grind.{common_steps}
+use Rattle.afdx_laws.proofs.Names.{arith, common_steps}
 use Rattle.afdx_laws.proofs.Receiving.{exactly_once_holds}
 use Rattle.afdx_laws.proofs.WorkedMessage.{accepts_each_once, needs_numbers, needs_a_lag}
 use Rattle.afdx_laws.proofs.laws.exactly_once.Goals as goal

@@ -1,5 +1,4 @@
-use Rattle.std.proofs.Common.{arith}
-use Rattle.std.proofs.lemmas.Grind.{common_steps}
+use Rattle.afdx_laws.proofs.Names.{arith, common_steps}
 use Rattle.afdx_laws.proofs.NextFragment.{next_in_a_round, next_in_time, next_polled_in_time, next_in_plan, lie_two_gaps_apart, turns_are_told}
 use Rattle.afdx_laws.proofs.laws.next_fragment.Goals as goal
 

@@ -1,4 +1,4 @@
-use Rattle.std.proofs.Common.{rules}
+use Rattle.afdx_laws.proofs.Names.{rules}
 use Rattle.afdx_laws.proofs.OneBuffer.{one_buffer}
 use Rattle.afdx_laws.proofs.NeededBuffers.{handed_need_one, legal_need_one, legal_need_one_despite}
 use Rattle.afdx_laws.proofs.WorkedPieces.{needs_in_turn, holds_a_frame}
