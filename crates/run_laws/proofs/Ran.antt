@@ -1,8 +1,8 @@
 -- A run of polls, as the polls of one link.
-use Rattle.std.proofs.Common.{ℕ, inl, inr, ◌≡◌, ◌≢◌, ◌+◌, ◌<◌, ◌≤◌, List, [], ◌∷◌, ◌++◌, Bool, false, ◌&&◌, cond, nat_le, arith, refl, ap, ◌∙◌, sym, Option, Some, None, ⊎_elim, ◌⊎◌, ◌-◌, ◌*◌, true, nat_eq, length, subst}
+use Rattle.std.proofs.Common.{ℕ, inl, inr, ◌≡◌, ◌≢◌, ◌+◌, ◌<◌, ◌≤◌, List, [], ◌∷◌, ◌++◌, Bool, false, ◌&&◌, cond, nat_le, arith, refl, ap, ◌∙◌, sym, Option, Some, None, ⊎_elim, ◌⊎◌, ◌-◌, ◌*◌, true, length, subst}
 use Rattle.std.specs.Prelude.{All, map}
 use Rattle.std.proofs.lemmas.Bool.Decides.{nat_tests}
-use Rattle.std.proofs.lemmas.Bool.{cases_eq, cases_lt, lt-leb, and_right, ne_eqb, eq-eqb}
+use Rattle.std.proofs.lemmas.Bool.{cases_eq, cases_lt, eq-eqb}
 use Rattle.std.proofs.lemmas.List.Sums.{sum_by-cons}
 use Rattle.std.proofs.lemmas.List.Elements.{All-cons, All-nil}
 use Rattle.afdx_frame.specs.Header.{sub_in}
@@ -13,7 +13,6 @@ use Rattle.std.proofs.lemmas.List.{append_assoc, append-nil}
 use Rattle.afdx_plan.specs.Config.{Plan, IsPlan, link_plan_at}
 use Rattle.afdx_plan.specs.Plan.{bag_ms}
 use Rattle.afdx_plan.specs.declared.bag.Bag.{Bag}
-use Rattle.afdx_plan.specs.declared.bag.Bag.TheVariants.{Ms1, Ms2, Ms4, Ms8, Ms16, Ms32, Ms64, Ms128}
 use Rattle.redundant_mux.specs.Lines.{Lines, BothEndure}
 use Rattle.redundant_mux.proofs.Enduring.{both_none, both_on, stood_before}
 use Rattle.vl_link.specs.Shown.{none_begun, begun_after, begun_by}
