@@ -74,8 +74,8 @@ carried_longer end_system room sub lag accepted a b handed = elim (cases_lt (len
 pub handed_arrive_holds : HandedArrive
 handed_arrive_holds end_system room sub lag tolerance accepted a b arrivals handed fit carry =
     let longest = carried_longer end_system room sub lag accepted a b handed in
-    messages_arrive_holds end_system room sub lag tolerance accepted longest.net (longer a b) arrivals longest.sending fit
-    (longest.carry arrivals carry)
+    messages_arrive_holds end_system room sub lag tolerance accepted longest.net (longer a b) arrivals
+    longest.sending fit (longest.carry arrivals carry)
 
 -- the law despite loss
 pub handed_despite_loss_holds : HandedDespiteLoss

@@ -202,7 +202,8 @@ goes (c ∷ came) room sub place buffers done f [] d (e ∷ later) rest least sm
       many = suc more.many;
       are = rw whole (ap (λ (xs : List (List ℕ)). d ∷ xs) more.are);
       all = λ j few enough.
-          let got = all_more room sub (suc place) (length came) more.many e later block_e more.all j few (omega arith) in
+          let got = all_more room sub (suc place) (length came) more.many e later block_e more.all j few
+          (omega arith) in
           omega arith;
       alone = rw whole more.alone;
     })

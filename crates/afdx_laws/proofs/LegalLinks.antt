@@ -191,12 +191,14 @@ handed_is plan accepted net handed k sub legal inside index =
     }
 
 -- so a link's frames were handed to both networks
-pub are_handed : (plan : Plan) (accepted : Accepted) (a b : List Entry) (k sub : ℕ) → IsHandedOver plan accepted a b k sub
+pub are_handed : (plan : Plan) (accepted : Accepted) (a b : List Entry) (k sub : ℕ)
+    → IsHandedOver plan accepted a b k sub
     → AreHanded plan.end_system (piece_room plan k) sub (accepted k sub)
     (frames_of (id_at plan k) a) (frames_of (id_at plan k) b)
 are_handed plan accepted a b k sub h = record {
   link = room_is plan k h.valid h.inside;
-  sent = All-weaker (IsAllowed plan k sub) (IsSent sub) (λ sent is. sent_is plan k sub sent h.valid is) (accepted k sub) h.allowed;
+  sent = All-weaker (IsAllowed plan k sub) (IsSent sub) (λ sent is. sent_is plan k sub sent h.valid is)
+      (accepted k sub) h.allowed;
   on_a = handed_is plan accepted A a k sub h.legal.on_a h.inside h.index;
   on_b = handed_is plan accepted B b k sub h.legal.on_b h.inside h.index;
   twins = twins_are plan accepted a b k h.valid h.legal h.inside;

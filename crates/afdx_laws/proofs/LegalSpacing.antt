@@ -109,7 +109,8 @@ legal_passes_holds plan accepted net handed valid legal k inside allowed charge 
     let within = stream_within plan net k handed valid inside legal.known i d h in
     let long = within.long in
     let sub : ℕ = sub_in e.frame in
-    let mine = of_passed (IsShort lmax) (λ (x : Entry). blanked x.frame) (λ (x : Entry). nat_eq (sub_in x.frame) sub) stream
+    let mine = of_passed (IsShort lmax) (λ (x : Entry). blanked x.frame)
+    (λ (x : Entry). nat_eq (sub_in x.frame) sub) stream
     (short_told plan accepted net handed k sub valid legal inside within.of_sub (allowed sub within.of_sub))
     i d h (eq-eqb sub sub refl) in
     let cut = length-take (length e.frame - 1) e.frame in

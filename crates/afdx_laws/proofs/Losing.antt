@@ -50,7 +50,7 @@ dropped : (check : ℕ) (whole net : Net) (b c i high : ℕ) (state : State) →
 dropped check whole net b c i high state some seen behind within first begun own drops =
     grind (arith, valid_next, new_next, seen_own)
 
--- nor is it where it accepts
+-- nor is it behind where it accepts
 grown_le_suc : (t : Bool) (b c : ℕ) → b ≤ c → cond t (b + 1) b ≤ suc c
 grown_le_suc t b c le = grind arith
 

@@ -39,7 +39,8 @@ distinct_of (e ∷ es) one = IsDistinct-cons eqb (sub_in e.frame) (subs_of es)
 -- all are the link's
 below_of : (n : ℕ) (es : List Entry) → All (IsOfOneOf n) es → (q : ℕ) → list_any (eqb q) (subs_of es) ≡ true → q < n
 below_of n [] of q any = absurd (false≢true any)
-below_of n (e ∷ es) of q any = grind (arith, nat_tests, below_of n es (λ k d h. of (suc k) d (omega arith)) q, of 0 e (omega arith))
+below_of n (e ∷ es) of q any =
+    grind (arith, nat_tests, below_of n es (λ k d h. of (suc k) d (omega arith)) q, of 0 e (omega arith))
 
 -- none of these entries is of this sub-VL
 none_of : (x : ℕ) (es : List Entry) → All (λ (e : Entry). sub_in e.frame ≢ x) es → length (sub_stream x es) ≤ 0

@@ -56,4 +56,5 @@ spent charge rule credit start end (f ∷ later) between =
 
 -- the law
 pub no_more_passes_holds : NoMorePasses
-no_more_passes_holds charge rule credit start end frames between = grind (arith, (spent charge rule credit start end frames between).1)
+no_more_passes_holds charge rule credit start end frames between =
+    grind (arith, (spent charge rule credit start end frames between).1)

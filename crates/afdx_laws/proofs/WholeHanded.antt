@@ -38,7 +38,14 @@ all_handed : (plan : Plan) (accepted : Accepted) (log a b : List Entry) (k sub :
     → length (fragments plan.end_system (piece_room plan k) A (accepted k sub))
     ≡ many_of sub (longer (frames_of (id_at plan k) a) (frames_of (id_at plan k) b))
 all_handed plan accepted log a b k sub own released =
-    grind (arith, ap length released, told_is sub (link_stream (id_at plan k) log), length-map, own, many_own sub (id_at plan k) a b)
+    grind (
+      arith,
+      ap length released,
+      told_is sub (link_stream (id_at plan k) log),
+      length-map,
+      own,
+      many_own sub (id_at plan k) a b,
+    )
 
 -- the law
 pub own_lists_arrive_holds : OwnListsArrive

@@ -140,8 +140,8 @@ pub needs_all : NeedsAll
 unfolding checksum addresses header_front internet_header link_header udp_header datagram unnumbered
 needs_all = record {
   other = fails_by (λ handed. own_lists_arrive_holds demo_plan other_own (one_entry A) (one_entry B) demo_valid handed
-      0 0 (omega arith) (omega arith) 1 plain_receiver two_arrivals one_is_whole.fit one_is_whole.carry one_is_whole.all)
-      other_lost;
+      0 0 (omega arith) (omega arith) 1 plain_receiver two_arrivals one_is_whole.fit one_is_whole.carry
+      one_is_whole.all) other_lost;
   lost_carry = record {
     on_a = (frames_of 1 (one_entry A), refl);
     on_b = (frames_of 1 (one_entry B), refl);

@@ -90,7 +90,8 @@ too_few {accepted = accepted} n are short within enough first =
     grind (arith, first.all n within enough, ap length (sym are ∙ first.are), length-take, length-map)
 
 -- the worked message has two frames, and both are among the stream's first two
-whole_lost : {messages : List (List ℕ)} → messages ≡ [] → AreFirst 1 25 0 one_accepted (take 2 (both_frames A)) messages → ⊥
+whole_lost : {messages : List (List ℕ)} → messages ≡ []
+    → AreFirst 1 25 0 one_accepted (take 2 (both_frames A)) messages → ⊥
 unfolding checksum addresses header_front internet_header link_header udp_header datagram unnumbered cutting fragments_at
 whole_lost none = too_few 1 none (omega arith) (omega arith) (omega arith)
 

@@ -158,7 +158,7 @@ longer_pair = longer_of 1 (two_entries A) (two_entries B)
 abbrev pub PairHanded : Accepted → Type 0
 PairHanded accepted = IsHandedOver demo_plan accepted (two_entries A) (two_entries B) 0 0
 
--- Accepted in the other order they may be sent, and are not.
+-- Accepted in the other order they may be sent, and aren't handed over legally.
 pub record AreSwapped : Type 0 where
   pub allowed : All (IsAllowed demo_plan 0 0) (swapped_accepted 0 0)
   pub legal : IsLegal demo_plan swapped_accepted (two_entries A) (two_entries B) → ⊥

@@ -148,8 +148,8 @@ second_is (x ∷ xs) between after first second e next is =
 comes_when : (now bound : ℕ) (stream : List Entry) → stream ≡ front_entry ∷ entry now (back_frame A) ∷ []
     → ComesBy stream front_entry bound → now ≤ bound
 comes_when now bound stream is comes =
-    let next = second_is comes.are.before comes.between comes.are.after front_entry (entry now (back_frame A)) front_entry
-    comes.next (sym is ∙ comes.are.is) in
+    let next = second_is comes.are.before comes.between comes.are.after front_entry (entry now (back_frame A))
+    front_entry comes.next (sym is ∙ comes.are.is) in
     grind arith
 
 -- the row
@@ -187,7 +187,8 @@ needs_a_run = record {
     is_up = refl;
     comes = omega arith;
     reaches = omega arith;
-    next = λ comes. let no = comes_when 5000 (0 + link_wait 1000 small_link) (stream_at small_plan 0 (both_at 5000)) refl comes in
+    next = λ comes.
+        let no = comes_when 5000 (0 + link_wait 1000 small_link) (stream_at small_plan 0 (both_at 5000)) refl comes in
         omega arith;
   };
   lost = record {

@@ -5,4 +5,5 @@ use Rattle.afdx_laws.proofs.WorkedPieces.{needs_in_turn, holds_a_frame}
 use Rattle.afdx_laws.proofs.laws.one_buffer.Goals as goal
 
 pub returns : goal.returns
-returns c = search (rules, one_buffer, handed_need_one, legal_need_one, legal_need_one_despite, needs_in_turn, holds_a_frame)
+returns c =
+    search (rules, one_buffer, handed_need_one, legal_need_one, legal_need_one_despite, needs_in_turn, holds_a_frame)
