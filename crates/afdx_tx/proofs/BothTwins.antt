@@ -1,24 +1,25 @@
 -- Of links on both networks, what was handed to the one is twins of what was handed to the other.
-use Rattle.std.proofs.Common.{ℕ, ◌≡◌, ◌≤◌, List, [], ◌∷◌, ◌++◌, Bool, true, false, cond, length, map, take, arith, refl, ap, ◌∙◌, sym}
+use Rattle.std.proofs.Common.{get_or, subst, ℕ, ◌≡◌, ◌≤◌, List, ◌++◌, Bool, true, length, map, take, arith, ap, ◌∙◌, sym}
 use Rattle.std.specs.Prelude.{All}
 use Rattle.std.proofs.lemmas.Bool.{and_parts}
-use Rattle.std.proofs.lemmas.List.{length-map, take_all, take-append-le, take-map}
-use Rattle.std.proofs.lemmas.List.Elements.{All-tail, All-cons, All-nil, filter-append}
+use Rattle.std.proofs.lemmas.List.{get_or-map, length-map, take_all, take-append-le, take-map}
+use Rattle.std.proofs.lemmas.List.Elements.{filter-append}
 use Rattle.afdx_plan.specs.declared.link_plan.LinkPlan.{LinkPlan}
 use Rattle.afdx_plan.specs.declared.networks.Networks.{Networks}
 use Rattle.afdx_plan.specs.Networks.{names_a, names_b, is_both}
-use Rattle.afdx_plan.specs.Config.{Plan, IsPlan, link_plan_at}
+use Rattle.afdx_plan.specs.Config.{Plan, IsPlan}
 use Rattle.afdx_frame.specs.declared.net.Net.{Net}
 use Rattle.afdx_frame.specs.declared.net.Net.TheVariants.{A, B}
 use Rattle.afdx_frame.specs.Header.{link_in}
 use Rattle.afdx_frame.proofs.Twins.{twin_link}
 use Rattle.redundant_mux.specs.Entry.{Entry}
 use Rattle.redundant_mux.specs.Logged.{Logged, entries_of, names, side, sent_to}
-use Rattle.redundant_mux.specs.Lines.{Lines, log, IsMirrored}
-use Rattle.afdx_legal.specs.Legal.{AreKnown, is_on_both, on_both, AreTwins}
+use Rattle.redundant_mux.specs.Lines.{Lines, log, Keeps, IsMirrored}
+use Rattle.afdx_legal.specs.Legal.{IsKnown, AreKnown, is_on_both, on_both, AreTwins}
 use Rattle.afdx_legal.proofs.OnBoth.{on_both_is}
+use Rattle.afdx_legal.proofs.StreamLemmas.{known_all}
 use Rattle.afdx_tx.specs.Emitter.{AreCarried}
-use Rattle.afdx_tx.proofs.HandedFronts.{sent_in, sent_out, all_front, log_parts}
+use Rattle.afdx_tx.proofs.HandedFronts.{picked, all_front, log_parts}
 use Rattle.afdx_tx.proofs.OwnStreams.{sides}
 
 -- an entry is of a link on both where it was logged for both
@@ -28,15 +29,12 @@ IsPlanned links l = is_on_both links (link_in l.entry.frame) ≡ is_both l.netwo
 -- known entries that are carried by their links' networks are so
 planned : (plan : Plan) (ls : List Logged) → IsPlan plan → AreKnown plan.links A (entries_of ls)
     → AreCarried plan.links ls → All (IsPlanned plan.links) ls
-planned plan [] valid known carried = All-nil (IsPlanned plan.links)
-planned plan (l ∷ ls) valid known carried =
-    let k = known.0.k in
-    let within = known.0.within in
-    All-cons (IsPlanned plan.links) l ls
-    (ap (is_on_both plan.links) known.0.link ∙ on_both_is plan k valid within
-    ∙ ap is_both (sym (carried k within 0 l (omega arith) known.0.link)))
-    (planned plan ls valid known.1 (λ j jlt. All-tail (λ (m : Logged). link_in m.entry.frame ≡ (link_plan_at plan.links j).id.0
-    → m.networks ≡ (link_plan_at plan.links j).networks) l ls (carried j jlt)))
+planned plan ls valid known carried i d lt =
+    let is : get_or (entries_of ls) i d.entry ≡ (get_or ls i d).entry = get_or-map (λ (l : Logged). l.entry) ls i d d.entry lt in
+    let k = subst (λ (e : Entry). IsKnown plan.links A e.frame) is (known_all plan.links A (entries_of ls) known i d.entry
+    (omega (arith, length-map ls (λ (l : Logged). l.entry)))) in
+    ap (is_on_both plan.links) k.link ∙ on_both_is plan k.k valid k.within
+    ∙ ap is_both (sym (carried k.k k.within i d lt k.link))
 
 -- so those that were logged
 logged_planned : (plan : Plan) (lines : Lines) → IsPlan plan → AreCarried plan.links lines.logged
@@ -52,41 +50,8 @@ both_names B networks is = (and_parts (names_a networks) (names_b networks) is).
 -- of links on both, what a network was handed is the twins of what was logged
 both_sent : (links : List LinkPlan) (net : Net) (ls : List Logged) → All (IsPlanned links) ls
     → on_both links (sent_to net ls) ≡ map (side net) (on_both links (entries_of ls))
-both_sent links net [] own = refl
-both_sent links net (l ∷ ls) own =
-    by_both (both_sent links net ls (All-tail (IsPlanned links) l ls own)) (is_both l.networks) refl (names net l.networks) refl
-  where
-    here : is_on_both links (link_in l.entry.frame) ≡ is_both l.networks
-    here = own 0 l (omega arith)
-
-    head : (e : Entry) (es : List Entry) (t : Bool) → is_on_both links (link_in e.frame) ≡ t
-        → on_both links (e ∷ es) ≡ cond t (e ∷ on_both links es) (on_both links es)
-    head e es t is = ap (λ (b : Bool). cond b (e ∷ on_both links es) (on_both links es)) is
-
-    turned : is_on_both links (link_in (side net l.entry).frame) ≡ is_on_both links (link_in l.entry.frame)
-    turned = ap (is_on_both links) (twin_link net l.entry.frame)
-
-    by_both : on_both links (sent_to net ls) ≡ map (side net) (on_both links (entries_of ls))
-        → (t : Bool) → is_both l.networks ≡ t → (n : Bool) → names net l.networks ≡ n
-        → on_both links (sent_to net (l ∷ ls)) ≡ map (side net) (on_both links (entries_of (l ∷ ls)))
-    by_both rest true is n named =
-        rw (
-          sent_in net l ls (both_names net l.networks is),
-          head (side net l.entry) (sent_to net ls) true (turned ∙ here ∙ is),
-          head l.entry (entries_of ls) true (here ∙ is),
-          rest,
-        ) refl
-    by_both rest false isnt true named =
-        rw (
-          sent_in net l ls named,
-          head (side net l.entry) (sent_to net ls) false (turned ∙ here ∙ isnt),
-          head l.entry (entries_of ls) false (here ∙ isnt),
-        ) rest
-    by_both rest false isnt false named = rw (
-      sent_out net l ls named,
-      head l.entry (entries_of ls) false (here
-          ∙ isnt),
-    ) rest
+both_sent links net ls own = picked net _ (λ e. ap (is_on_both links) (twin_link net e.frame)) ls
+    (λ k d lt on. both_names net _ (sym (own k d lt) ∙ on))
 
 -- a list that another begins: what is taken of the one is the other
 taken_front : (xs ys zs ws : List Entry) → xs ++ ys ≡ zs ++ ws → length zs ≤ length xs → take (length zs) xs ≡ zs
@@ -117,7 +82,7 @@ both_append links xs ys = filter-append (λ (e : Entry). is_on_both links (link_
 pub both_twins : (plan : Plan) (lines : Lines) → IsPlan plan → IsMirrored lines → AreCarried plan.links lines.logged
     → AreKnown plan.links A (log lines) → AreTwins side (on_both plan.links lines.a) (on_both plan.links lines.b)
 both_twins plan lines valid m carried known =
-    rw (for_a, for_b)
+    rw (handed_is A _ _ m.first, handed_is B _ _ m.second)
     (front_twins (on_both plan.links (entries_of m.first.seen)) (on_both plan.links (entries_of m.first.missed))
     (on_both plan.links (entries_of m.second.seen)) (on_both plan.links (entries_of m.second.missed))
     (sym (both_append plan.links (entries_of m.first.seen) (entries_of m.first.missed))
@@ -128,10 +93,7 @@ both_twins plan lines valid m carried known =
     all : All (IsPlanned plan.links) lines.logged
     all = logged_planned plan lines valid carried known
 
-    for_a : on_both plan.links lines.a ≡ map (side A) (on_both plan.links (entries_of m.first.seen))
-    for_a = ap (on_both plan.links) m.first.got ∙ both_sent plan.links A m.first.seen
-        (all_front (IsPlanned plan.links) m.first.seen m.first.missed (rw m.first.whole at all))
-
-    for_b : on_both plan.links lines.b ≡ map (side B) (on_both plan.links (entries_of m.second.seen))
-    for_b = ap (on_both plan.links) m.second.got ∙ both_sent plan.links B m.second.seen
-        (all_front (IsPlanned plan.links) m.second.seen m.second.missed (rw m.second.whole at all))
+    handed_is : (net : Net) (stands : Bool) (handed : List Entry) → (k : Keeps net stands handed lines.logged)
+        → on_both plan.links handed ≡ map (side net) (on_both plan.links (entries_of k.seen))
+    handed_is net stands handed k = ap (on_both plan.links) k.got ∙ both_sent plan.links net k.seen
+        (all_front (IsPlanned plan.links) k.seen k.missed (rw k.whole at all))

@@ -9,7 +9,7 @@ use Rattle.vl_link.specs.Closing.{ClosesSub, ClosesLink}
 use Rattle.vl_link.proofs.Closing.{closes_taken, closes_known, closes_name}
 use Rattle.afdx_tx.specs.Emitter.{Tx, queues_in}
 use Rattle.afdx_tx.specs.Closing.{LacksSub, ClosesTx}
-use Rattle.afdx_tx.proofs.SoundEmitter.{alike_link_queues, alike_queues}
+use Rattle.afdx_tx.proofs.SoundEmitter.{alike_queues}
 use Rattle.afdx_tx.proofs.KeptLinks.{KeepsSub, KeepLinks}
 use Rattle.afdx_tx.proofs.OneSub.{one_link, one_count, one_each}
 
@@ -69,8 +69,7 @@ closed_kept old new c = record {
 
 -- the queues have their names
 queues_same : (old new : List LinkState) → ClosedLinks old new → queues_in new ≡ queues_in old
-queues_same old new c = alike_queues old new c.count
-    (λ k lt. alike_link_queues (link_at old k) (link_at new k) (c.subs k) (λ s slt. (c.each k s).name))
+queues_same old new c = alike_queues old new c.count (λ k _. c.subs k) (λ k s _. (c.each k s).name)
 
 -- a link that is found has no such sub-VL, and no other link has its identifier
 pub lacks_at : (plan : Plan) (vl sub place : ℕ) → IsPlan plan → place < length plan.links

@@ -1,9 +1,9 @@
 -- The total of a sub-VL that was closed is how many messages it accepted.
-use Rattle.std.proofs.Common.{ℕ, ◌≡◌, ◌<◌, List, length, ap, ◌∙◌, sym, ⊎_elim, Some, None}
+use Rattle.std.proofs.Common.{ℕ, ◌≡◌, ◌<◌, List, length, refl, ap, ◌∙◌, sym, ⊎_elim, Option, Some, None, get_or}
 use Rattle.std.proofs.lemmas.Bool.{cases_lt}
 use Rattle.std.proofs.lemmas.List.{get_or_past, length-map}
 use Rattle.vl_link.specs.Seen.{Seen, receiving, gathered, known_of, total_of}
-use Rattle.vl_link.specs.Links.{LinkState, held_at, link_at, no_link, nothing_held, sent_of}
+use Rattle.vl_link.specs.Links.{Held, LinkState, held_at, link_at, no_link, nothing_held, sent_of}
 use Rattle.vl_link.specs.Closing.{Closes}
 use Rattle.vl_link.specs.LinkGathering.{BecomesWhole}
 use Rattle.afdx_tx.specs.Emitter.{Tx, total_in}
@@ -23,20 +23,12 @@ closes_total old vl sub total new c =
     closed_total (receiving before) total after c = ap total_of c.0
     closed_total (gathered before) total after c = absurd c
 
--- what shows a total is a sub-VL of the emitter
-shown_within : (links : List LinkState) (k s total : ℕ) → total_in links k s ≡ Some total
-    → (k < length links) × (s < length (link_at links k).subs)
-shown_within links k s total shown = (
-  ⊎_elim
-      (λ lt. lt)
-      (λ past. absurd (let e : None ≡ Some total = rw (get_or_past links k no_link past) at shown in cc))
-      (cases_lt k (length links)),
-  ⊎_elim
-      (λ lt. lt)
-      (λ past. absurd (let e : None ≡ Some total = rw (get_or_past (link_at links k).subs s nothing_held past) at
-      shown in cc))
-      (cases_lt s (length (link_at links k).subs)),
-)
+-- an element that shows a total is one of the list
+shows : {X : Type 0} (show : X → Option ℕ) (xs : List X) (k total : ℕ) (past : X) → show past ≡ None
+    → show (get_or xs k past) ≡ Some total → k < length xs
+shows show xs k total past none shown = ⊎_elim (λ lt. lt)
+    (λ ge. absurd (let e : None ≡ Some total = sym none ∙ ap show (sym (get_or_past xs k past ge)) ∙ shown in cc))
+    (cases_lt k (length xs))
 
 -- the total of a queue is how many messages are known of it once it is gathered
 whole_total : (old new : Seen) (total : ℕ) → BecomesWhole old new → total_of old ≡ Some total → length (known_of new) ≡ total
@@ -49,8 +41,9 @@ whole_total old new total b shown = absurd b
 pub total_whole : (old : Tx) (ports : List PortView) (new : Tx) (k s total : ℕ) → IsGatheredTx old ports new
     → total_in old.links k s ≡ Some total → length (accepted_in new.links k s) ≡ total
 total_whole old ports new k s total g shown =
-    let within = shown_within old.links k s total shown in
+    let link = shows (λ (l : LinkState). total_of (held_at l.subs s).seen) old.links k total no_link refl shown in
+    let within = shows (λ (h : Held). total_of h.seen) (link_at old.links k).subs s total nothing_held refl shown in
     let after = held_at (link_at new.links k).subs s in
-    let sub = (g.links k within.0).each s within.1 in
+    let sub = (g.links k link).each s within in
     length-map (known_of after.seen) (sent_of after.ports)
     ∙ whole_total (held_at (link_at old.links k).subs s).seen after.seen total sub.queue shown

@@ -1,6 +1,6 @@
 -- Each poll of a drain that finds a link due sends one of its frames, until it owes none.
-use Rattle.std.proofs.Common.{ℕ, zero, suc, ◌≡◌, ◌≢◌, ◌⊎◌, ◌+◌, ◌-◌, ◌<◌, ◌≤◌, List, [], ◌∷◌, ◌++◌, Bool, true, ◌&&◌, length, arith, refl, ap, ◌∙◌, sym, subst, Option, Some, None, inl, inr, ⊎_elim}
-use Rattle.std.proofs.lemmas.Bool.{both_ways, cases_eq, le-leb}
+use Rattle.std.proofs.Common.{ℕ, zero, suc, ◌≡◌, ◌≢◌, ◌⊎◌, ◌+◌, ◌-◌, ◌<◌, ◌≤◌, List, [], ◌∷◌, ◌++◌, true, length, arith, refl, ap, ◌∙◌, sym, subst, Option, Some, None, inl, inr, ⊎_elim}
+use Rattle.std.proofs.lemmas.Bool.{and_from, both_ways, cases_eq, le-leb}
 use Rattle.std.proofs.lemmas.List.{length-append, length-map, length_push}
 use Rattle.afdx_plan.specs.declared.link_plan.LinkPlan.{LinkPlan}
 use Rattle.afdx_plan.specs.Config.{Plan, IsPlan, link_plan_at}
@@ -23,7 +23,8 @@ use Rattle.vl_link.proofs.PaceOfStream.{stream_more, stream_same}
 use Rattle.afdx_legal.specs.Streams.{latest, link_stream, sub_stream, told}
 use Rattle.afdx_legal.specs.Legal.{Accepted}
 use Rattle.afdx_legal.proofs.LongerStream.{latest_push, with_push_in, with_push_out}
-use Rattle.afdx_tx.specs.Drain.{Drains, DrainsAt, IsDrained, pace_in, accepted_view}
+use Rattle.afdx_tx.proofs.PollTurns.{later_on}
+use Rattle.afdx_tx.specs.Drain.{Drains, DrainsAt, pace_in, accepted_view}
 use Rattle.afdx_tx.specs.DrainEnds.{owed, stream_at, owed_at, AreApartBy, AreDrained, DrainEnds}
 
 -- the fragments of the accepted messages of a sub-VL
@@ -49,10 +50,6 @@ abbrev Comes : (now end_system : ℕ) (link : LinkPlan) (accepted : ℕ → List
 Comes now end_system link accepted S T =
     ((T ≡ S) × HasAll end_system link accepted S) ⊎ Gains now end_system link accepted S T
 
--- both hold
-and_true : {x y : Bool} → x ≡ true → y ≡ true → (x && y) ≡ true
-and_true e f = rw e f
-
 -- a list with an end is longer than the list
 longer : (xs ys zs : List (List ℕ)) → (zs ≡ [] → ⊥) → xs ≡ ys ++ zs → length ys < length xs
 longer xs ys [] some e = absurd (some refl)
@@ -64,7 +61,7 @@ own_turn : (now end_system : ℕ) (link : LinkPlan) (accepted : ℕ → List Sen
     → Drains now end_system link accepted lines after did → stands_for link.networks after ≡ true
     → Comes now end_system link accepted (link_stream link.id.0 (log lines)) (link_stream link.id.0 (log after))
 own_turn now end_system link accepted lines after Nothing due t stands = ⊎_elim
-    (λ early. absurd (both_ways _ early.0 (and_true due (rw t.1 at stands))))
+    (λ early. absurd (both_ways _ early.0 (and_from _ _ due (rw t.1 at stands))))
     (λ none. inl (ap (λ (l : Lines). link_stream link.id.0 (log l)) t.1, none.1.each))
     t.0
 own_turn now end_system link accepted lines after (Released sub number) due t stands =
@@ -152,30 +149,11 @@ turns_come now plan accepted k i (suc many) lines after le lt ne due t stands = 
     (λ j jlt. ne j (omega arith)) (rw same due) t.3 stands))
     (cases_eq i k)
 
--- no two links of a valid plan have one identifier
-others : (plan : Plan) (k : ℕ) → IsPlan plan → k < length plan.links → (j : ℕ) → j < length plan.links → (j ≡ k → ⊥)
-    → IsOther plan k j
-others plan k valid lt j jlt ne e =
-    ne (valid.links_apart j k jlt lt (λ i. record { 0 = e i }))
-
--- what a poll does to the stream of a link that is due
-poll_comes : (now : ℕ) (plan : Plan) (accepted : Accepted) (k : ℕ) (lines after : Lines) → IsPlan plan → k < length plan.links
-    → IsDueBy now plan k (stream_at plan k lines) → IsDrained now plan accepted lines after → StandsAt plan k after
-    → ComesAt now plan accepted k (stream_at plan k lines) (stream_at plan k after)
-poll_comes now plan accepted k lines after valid lt due t stands =
-    turns_come now plan accepted k 0 (length plan.links) lines after (omega arith) (omega arith)
-    (λ j jlt ne. others plan k valid lt j (omega arith) ne) due t stands
-
 -- a gap after a moment that isn't before the last release
 due_by : (bag gap before now : ℕ) (last : Option Stamp) → bag ≤ gap → before + gap ≤ now → IsLater last before
     → is_due bag last now ≡ true
 due_by bag gap before now None small apart later = refl
 due_by bag gap before now (Some last) small apart later = le-leb bag (now - last.at) (omega arith)
-
--- a later moment
-later_on : (last : Option Stamp) (m n : ℕ) → m ≤ n → IsLater last m → IsLater last n
-later_on None m n le later = tt
-later_on (Some last) m n le later = omega arith
 
 -- another sub-VL's frames are the same
 told_other : (now sub s : ℕ) (frame : List ℕ) (S T : List Entry) → sub_in frame ≡ sub → s ≢ sub → T ≡ S ++ entry now frame ∷ []
@@ -253,8 +231,9 @@ ends plan accepted k (now ∷ moments) lines after start gap valid lt small late
     (λ (owes : owed_at plan accepted k lines < suc (length moments)).
     let less = one_less now _ _ _ _ _ g (link_plan_at plan.links k).sub_vls g.within in
     inr (omega (arith, less, owes))) few))
-    (poll_comes now plan accepted k lines p.0 valid lt (due_by _ gap start now _ small apart.0 later) p.1
-    (stood_before p.0 after (link_plan_at plan.links k).networks (drained_endure plan accepted moments p.0 after p.2) stands))
+    (turns_come now plan accepted k 0 (length plan.links) lines p.0 (omega arith) (omega arith)
+    (λ j jlt ne e. ne (valid.links_apart j k (omega arith) lt (λ i. record { 0 = e i })))
+    (due_by _ gap start now _ small apart.0 later) p.1 (stood_before p.0 after (link_plan_at plan.links k).networks (drained_endure plan accepted moments p.0 after p.2) stands))
 
 -- so have all links
 pub drain_ends_holds : DrainEnds

@@ -7,23 +7,16 @@ use Rattle.afdx_plan.specs.Config.{Plan, link_plan_at}
 use Rattle.afdx_plan.specs.Room.{room_of}
 use Rattle.afdx_frame.specs.declared.net.Net.{Net}
 use Rattle.afdx_frame.specs.declared.net.Net.TheVariants.{A, B}
-use Rattle.afdx_frame.specs.Fragments.{fragments}
 use Rattle.redundant_mux.specs.Entry.{Entry}
 use Rattle.vl_link.specs.Seen.{Seen, receiving, gathered, IsKnownWhole, IsSameQueue, known_of}
-use Rattle.afdx_legal.specs.Streams.{told_of, IsPrefixOf}
+use Rattle.afdx_legal.specs.Streams.{told_of}
 use Rattle.afdx_legal.specs.Legal.{IsLegalOn, IsLegal}
 use Rattle.vl_link.specs.Links.{Held, LinkState, held_at, link_at, nothing_held, no_link, IsSameSub}
 use Rattle.afdx_tx.specs.Emitter.{IsSamePlan, taken_in}
 use Rattle.afdx_tx.specs.Drain.{AreGathered, accepted_by, accepted_in}
 use Rattle.afdx_tx.proofs.OwedFragments.{owed_split, untaken}
 
--- the same queue is still gathered
-still_gathered : (old new : Seen) → IsKnownWhole old → IsSameQueue old new → IsKnownWhole new
-still_gathered (receiving r) new g e = absurd g
-still_gathered (gathered q) (gathered h) g e = tt
-still_gathered (gathered q) (receiving s) g e = absurd e
-
--- and the same was accepted into it
+-- the same queue accepted the same messages
 same_known : (old new : Seen) → IsKnownWhole old → IsSameQueue old new → known_of new ≡ known_of old
 same_known (receiving r) new g e = absurd g
 same_known (gathered q) (gathered h) g e = e.1
@@ -37,18 +30,6 @@ gathered_past links k s g = ⊎_elim
     (λ ge. rw (get_or_past links k no_link ge) tt)
     (cases_lt k (length links))
 
--- each sub-VL is the same, whatever its link
-same_sub : (old new : List LinkState) → IsSamePlan old new → (k s : ℕ) → k < length old
-    → IsSameSub (held_at (link_at old k).subs s) (held_at (link_at new k).subs s)
-same_sub old new p k s lt = (p.each k lt).subs s
-
--- queues that are the same are still gathered
-pub gathered_still : (old new : List LinkState) → IsSamePlan old new → AreGathered old → AreGathered new
-gathered_still old new p g k s lt slt =
-    let o : k < length old = omega (arith, p.count) in
-    still_gathered (held_at (link_at old k).subs s).seen (held_at (link_at new k).subs s).seen
-    (gathered_past old k s g) (same_sub old new p k s o).queue
-
 -- the accepted list of a sub-VL is the same
 same_accepted : (old new : Held) → IsKnownWhole old.seen → IsSameSub old new → accepted_by new ≡ accepted_by old
 same_accepted old new g e = rw (e.ports, same_known old.seen new.seen g e.queue) refl
@@ -58,7 +39,7 @@ each_same : (old new : List LinkState) → IsSamePlan old new → AreGathered ol
     → accepted_in new k s ≡ accepted_in old k s
 each_same old new p g k s = ⊎_elim
     (λ (lt : k < length old). same_accepted (held_at (link_at old k).subs s) (held_at (link_at new k).subs s)
-    (gathered_past old k s g) (same_sub old new p k s lt))
+    (gathered_past old k s g) ((p.each k lt).subs s))
     (λ ge. rw (get_or_past new k no_link (omega (arith, p.count)), get_or_past old k no_link ge) refl)
     (cases_lt k (length old))
 
@@ -66,27 +47,22 @@ each_same old new p g k s = ⊎_elim
 pub accepted_same : (old new : List LinkState) → IsSamePlan old new → AreGathered old → accepted_in new ≡ accepted_in old
 accepted_same old new p g = λ i. λ k s. each_same old new p g k s i
 
--- what begins the fragments of what was taken begins those of what was accepted
-prefix_grown : (shown : List (List ℕ)) (end_system room : ℕ) (net : Net) (links : List LinkState) (k s : ℕ)
-    → IsPrefixOf shown (fragments end_system room net (taken_in links k s))
-    → IsPrefixOf shown (fragments end_system room net (accepted_in links k s))
-prefix_grown shown end_system room net links k s p =
-    let held = held_at (link_at links k).subs s in
-    let more = untaken end_system room net held in (
-      p.0 ++ more,
-      sym (append_assoc shown p.0 more)
-          ∙ ap (λ (x : List (List ℕ)). x ++ more) p.1
-          ∙ sym (owed_split end_system room net held),
-    )
-
--- so what was handed to a network is legal for what was accepted
+-- what was handed to a network is legal for what was accepted
 legal_on : (plan : Plan) (links : List LinkState) (net : Net) (handed : List Entry)
     → IsLegalOn plan (taken_in links) net handed → IsLegalOn plan (accepted_in links) net handed
 legal_on plan links net handed l = record {
   known = l.known;
   carried = l.carried;
-  prefixes = λ k s lt slt. prefix_grown (told_of (link_plan_at plan.links k).id.0 s handed) plan.end_system
-      (room_of (link_plan_at plan.links k).lmax) net links k s (l.prefixes k s lt slt);
+  prefixes = λ k s lt slt.
+      let held = held_at (link_at links k).subs s in
+      let room = room_of (link_plan_at plan.links k).lmax in
+      let more = untaken plan.end_system room net held in
+      let begins = l.prefixes k s lt slt in (
+        begins.0 ++ more,
+        sym (append_assoc (told_of (link_plan_at plan.links k).id.0 s handed) begins.0 more)
+            ∙ ap (λ (x : List (List ℕ)). x ++ more) begins.1
+            ∙ sym (owed_split plan.end_system room net held),
+      );
   numbered = l.numbered;
   spaced = l.spaced;
 }

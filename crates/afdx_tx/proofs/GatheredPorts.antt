@@ -10,20 +10,18 @@ use Rattle.subvl_queue.specs.Views.{brought_by}
 use Rattle.vl_link.specs.Seen.{known_of, IsKnownWhole, receiving, gathered, Seen, taken_of}
 use Rattle.vl_link.specs.Links.{Held, LinkState, held_at, link_at}
 use Rattle.vl_link.specs.LinkSenders.{back_of}
-use Rattle.vl_link.specs.LinkGathering.{BecomesWhole, GathersSub, GathersLink}
+use Rattle.vl_link.specs.LinkGathering.{BecomesWhole}
 use Rattle.redundant_mux.specs.Lines.{Lines}
 use Rattle.afdx_tx.specs.Emitter.{Tx, AreLinksOf, HaveOwnItems, IsSound, queues_in}
 use Rattle.afdx_tx.specs.Ports.{PortView, BelongsTo, AreOpenedWith, HasPlace, HasEveryPlace, index_of}
 use Rattle.afdx_tx.specs.Drain.{AreGathered}
 use Rattle.afdx_tx.specs.Gathering.{OnlyTakeBack, IsTakenBack, GathersLinks, GathersPorts, IsGatheredLink, IsGatheredTx, HasOwnPart, held_for}
-use Rattle.afdx_tx.proofs.PortLink.{link_within}
-use Rattle.afdx_tx.proofs.PortMessages.{own_messages, sub_within}
+use Rattle.afdx_tx.proofs.PortMessages.{own_messages, port_within}
 use Rattle.status_board.specs.Views.{Published}
 use Rattle.afdx_tx.specs.Publishing.{Reaches}
 use Rattle.afdx_tx.proofs.Publishing.{reaches_kept}
-use Rattle.afdx_tx.proofs.KeptLinks.{kept_sound, KeepsSub, KeepsLink, KeepLinks}
+use Rattle.afdx_tx.proofs.KeptLinks.{kept_sound, KeepLinks}
 use Rattle.afdx_tx.proofs.TakenBack.{whole_from, back_kept}
-use Rattle.afdx_tx.proofs.SoundEmitter.{count_is}
 
 -- what was taken stands
 taken_same : (old new : Seen) → BecomesWhole old new → taken_of new ≡ taken_of old
@@ -31,33 +29,29 @@ taken_same (receiving old) (gathered new) b = b.0
 taken_same (gathered old) (gathered new) b = absurd b
 taken_same old new b = absurd b
 
--- a sub-VL keeps all but its queue
-gathered_sub : (old new : Held) → GathersSub old new → KeepsSub old new
-gathered_sub old new g = record {
-  of = ap (λ (h : Held). h.of) g.same;
-  ports = ap (λ (h : Held). h.ports) g.same;
-  left = ap (λ (h : Held). h.left) g.same;
-  taken = taken_same old.seen new.seen g.gathers.queue;
-  items = λ _. g.items;
-}
-
--- and so does a link
-gathered_link : (old new : LinkState) → GathersLink old new → KeepsLink old new
-gathered_link old new g = record {
-  same = g.same;
-  count = g.subs.count;
-  each = λ s lt. gathered_sub (held_at old.subs s) (held_at new.subs s) (g.subs.each s lt);
-}
-
 -- nothing but the queues has changed
-pub gathered_kept : (old new : List LinkState) → GathersLinks old new → KeepLinks old new
+gathered_kept : (old new : List LinkState) → GathersLinks old new → KeepLinks old new
 gathered_kept old new g = record {
   count = g.count;
-  each = λ k lt. gathered_link (link_at old k) (link_at new k) (g.each k lt);
+  each = λ k lt.
+      let link = g.each k lt in
+      record {
+        same = link.same;
+        count = link.subs.count;
+        each = λ s slt.
+            let sub = link.subs.each s slt in
+            record {
+              of = ap (λ (h : Held). h.of) sub.same;
+              ports = ap (λ (h : Held). h.ports) sub.same;
+              left = ap (λ (h : Held). h.left) sub.same;
+              taken = taken_same _ _ sub.gathers.queue;
+              items = λ _. sub.items;
+            };
+      };
 }
 
 -- a gathered link is the one that it was before senders came back, but for its queues
-pub link_gathered : (old mid new : List LinkState) (k : ℕ) → k < length mid → OnlyTakeBack old mid → GathersLinks mid new
+link_gathered : (old mid new : List LinkState) (k : ℕ) → k < length mid → OnlyTakeBack old mid → GathersLinks mid new
     → IsGatheredLink (link_at old k) (link_at new k)
 link_gathered old mid new k lt takes gathers =
     let g = gathers.each k lt in
@@ -86,7 +80,7 @@ all_gathered mid new g k s lt slt =
     is_known _ _ (link.subs.each s sub).gathers.queue
 
 -- of the port at a place its sub-VL accepted its own list
-pub own_part : (tx new : Tx) (mid : List LinkState) (ports : List PortView) (place : ℕ) → IsPlan tx.plan
+own_part : (tx new : Tx) (mid : List LinkState) (ports : List PortView) (place : ℕ) → IsPlan tx.plan
     → AreLinksOf tx.plan tx.links → OnlyTakeBack tx.links mid → GathersLinks mid new.links → new.plan ≡ tx.plan
     → AreLinksOf new.plan new.links → HaveOwnItems new.links → AreOpenedWith tx ports → place < length tx.plan.ports
     → HasPlace ports place → ((port : PortView) → Contains ports port → IsTakenBack tx.plan mid port)
@@ -94,16 +88,11 @@ pub own_part : (tx new : Tx) (mid : List LinkState) (ports : List PortView) (pla
 own_part tx new mid ports place valid was takes g same of items opened lt has back =
     let port = port_plan_at tx.plan.ports place in
     let k = link_place tx.plan port in
-    let s = port.sub in
-    let linked = link_within tx.plan port valid (valid.linked place _ lt) in
-    let link : link_place tx.plan (port_plan_at tx.plan.ports place) < length mid =
-    let below = linked.0 in omega (arith, count_is tx.plan tx.links was, takes.count) in
-    let here : link_place tx.plan (port_plan_at tx.plan.ports place) < length tx.links =
-    let below = linked.0 in omega (arith, count_is tx.plan tx.links was) in
-    let sub = sub_within tx.plan tx.links was k s here linked.1.sub in
+    let there = port_within tx.plan tx.links was place valid lt in
+    let link : link_place tx.plan (port_plan_at tx.plan.ports place) < length mid = omega (arith, there.0, takes.count) in
     let sub : (port_plan_at tx.plan.ports place).sub < length (link_at mid (link_place tx.plan (port_plan_at tx.plan.ports place))).subs =
-    omega (arith, sub, takes.subs k) in
-    let gathered = (g.each k link).subs.each s sub in
+    omega (arith, there.1, takes.subs k) in
+    let gathered = (g.each k link).subs.each port.sub sub in
     let own = All-contains (BelongsTo tx.plan (queues_in tx.links)) ports has.port opened has.inside in
     let plan = own.plan ∙ ap (port_plan_at tx.plan.ports) has.at in
     let at = own.index ∙ ap (index_of tx.plan.ports) has.at in

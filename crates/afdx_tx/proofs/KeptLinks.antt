@@ -7,7 +7,7 @@ use Rattle.afdx_legal.specs.Streams.{told}
 use Rattle.vl_link.specs.Seen.{taken_of}
 use Rattle.vl_link.specs.Links.{Held, LinkState, held_at, link_at, HasOwnItems, IsLinkOfPlan, taken_by, sub_fragments}
 use Rattle.vl_link.specs.Kept.{IsKept, IsTied, IsBehind}
-use Rattle.afdx_tx.specs.Emitter.{AreLinksOf, IsSound}
+use Rattle.afdx_tx.specs.Emitter.{IsSound}
 use Rattle.afdx_tx.proofs.SoundEmitter.{plans_after}
 
 -- a sub-VL but for its queue, from which nothing more was taken
@@ -82,18 +82,6 @@ kept_same old new log g own kept =
       counted = kept.counted;
     })
 
--- the links are those of the configuration
-of_plan_same : (config : Plan) (old new : List LinkState) → KeepLinks old new → AreLinksOf config old → AreLinksOf config new
-of_plan_same config old new g of = plans_after config old new of
-    (record {
-      count = g.count;
-      end_system = λ k lt. ap (λ (l : LinkState). l.end_system) (g.each k lt).same;
-      plan = λ k lt. ap (λ (l : LinkState). l.plan) (g.each k lt).same;
-      subs = λ k lt. (g.each k lt).count;
-      ports = λ k s lt slt. ((g.each k lt).each s slt).ports;
-    })
-    (λ k lt. let below : k < length old = omega (arith, g.count) in own_same _ _ (g.each k below) (of.each k below))
-
 -- the emitter is as sound as it was
 pub kept_sound : (config : Plan) (old new : List LinkState) (lines : Lines) (moment : ℕ) → KeepLinks old new
     → IsSound config old lines moment → IsSound config new lines moment
@@ -101,7 +89,15 @@ kept_sound config old new lines moment g s =
     let here = λ (k : ℕ) (lt : k < length new). let o : k < length old = omega (arith, g.count) in o in
     record {
       valid = s.valid;
-      of_plan = of_plan_same config old new g s.of_plan;
+      of_plan = plans_after config old new s.of_plan
+          (record {
+            count = g.count;
+            end_system = λ k lt. ap (λ (l : LinkState). l.end_system) (g.each k lt).same;
+            plan = λ k lt. ap (λ (l : LinkState). l.plan) (g.each k lt).same;
+            subs = λ k lt. (g.each k lt).count;
+            ports = λ k t lt tlt. ((g.each k lt).each t tlt).ports;
+          })
+          (λ k lt. own_same _ _ (g.each k (here k lt)) (s.of_plan.each k (here k lt)));
       kept = λ k lt. kept_same _ _ _ (g.each k (here k lt)) (s.of_plan.each k (here k lt)) (s.kept k (here k lt));
       later = λ k lt. rw (g.each k (here k lt)).same (s.later k (here k lt));
       mirrored = s.mirrored;

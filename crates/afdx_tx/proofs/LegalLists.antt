@@ -1,5 +1,6 @@
 -- From the log to the two handed lists.
-use Rattle.std.proofs.Common.{ℕ, ◌≡◌, ◌+◌, ◌<◌, ◌≤◌, List, [], ◌∷◌, ◌++◌, Bool, true, false, length, map, eqb, arith, refl, ap, ◌∙◌, sym, Option, Some, None}
+use Rattle.std.proofs.Common.{ℕ, ◌≡◌, ◌+◌, ◌<◌, ◌≤◌, List, [], ◌∷◌, ◌++◌, Bool, length, map, eqb, arith, refl, ap, ◌∙◌, sym, Option, Some, None, inl, inr}
+use Rattle.std.proofs.lemmas.Bool.{cases_Bool}
 use Rattle.std.proofs.lemmas.List.{map-append, append_assoc}
 use Rattle.std.specs.Prelude.{All}
 use Rattle.std.proofs.lemmas.List.Elements.{All-weaker, All-filter, All-tail}
@@ -21,21 +22,12 @@ use Rattle.afdx_legal.specs.Streams.{link_stream, sub_stream, told, told_of, sta
 use Rattle.afdx_legal.specs.Legal.{Accepted, IsKnown, AreKnown, IsLegalOn, IsLegal}
 use Rattle.afdx_legal.proofs.StreamLemmas.{with_append, with_map, known_all}
 use Rattle.afdx_tx.specs.Emitter.{AreCarried}
-use Rattle.afdx_tx.proofs.HandedFronts.{IsFront, sent_in, sent_out, log_parts, front_of, unnamed_stream}
+use Rattle.afdx_tx.proofs.HandedFronts.{IsFront, log_parts, front_of, unnamed_stream}
 use Rattle.afdx_tx.proofs.BothTwins.{both_twins}
 
 -- an entry whose frame has all fields that are read
 abbrev IsLongEntry : Entry → Type 0
 IsLongEntry e = 60 ≤ length e.frame
-
--- known frames are whole
-known_whole : (links : List LinkPlan) (net : Net) (H : List Entry) → AreKnown links net H → All IsLongEntry H
-known_whole links net H known =
-    All-weaker (λ (e : Entry). IsKnown links net e.frame) IsLongEntry (λ e is. is.size) H (known_all links net H known)
-
--- the stream of a sub-VL, turned to a network
-sub_side : (net : Net) (s : ℕ) (H : List Entry) → sub_stream s (map (side net) H) ≡ map (side net) (sub_stream s H)
-sub_side net s H = with_map _ (λ (e : Entry). sub_in e.frame) (side net) s (λ e. twin_sub net e.frame) H
 
 -- the fragments that a stream shows, turned to a network
 told_side : (net : Net) (T : List Entry) → told (map (side net) T) ≡ map (twin_of net) (told T)
@@ -75,11 +67,12 @@ known_twin links net e h = record {
 known_sent : (links : List LinkPlan) (net : Net) (ls : List Logged) (rest : List Entry)
     → AreKnown links A (entries_of ls ++ rest) → AreKnown links net (sent_to net ls)
 known_sent links net [] rest h = tt
-known_sent links net (l ∷ ls) rest h = by_name (known_sent links net ls rest h.1) (names net l.networks) refl
-  where
-    by_name : AreKnown links net (sent_to net ls) → (t : Bool) → names net l.networks ≡ t → AreKnown links net (sent_to net (l ∷ ls))
-    by_name known true is = rw (sent_in net l ls is) (known_twin links net l.entry h.0, known)
-    by_name known false isnt = rw (sent_out net l ls isnt) known
+known_sent links net (l ∷ ls) rest h =
+    let known = known_sent links net ls rest h.1 in
+    elim (cases_Bool (names net l.networks)) [
+      | inl is ↦ rw is (known_twin links net l.entry h.0, known)
+      | inr isnt ↦ rw isnt known
+    ]
 
 -- what is legal of the log
 pub record IsLogLegal (plan : Plan) (accepted : Accepted) (H : List Entry) : Type 0 where
@@ -102,7 +95,7 @@ prefix_side net s end_system room messages S D f p =
     let whole : told T ++ (told U ++ p.0) ≡ fragments end_system room A messages =
     sym (append_assoc (told T) (told U) p.0)
     ∙ ap (λ x. x ++ p.0) (sym (map-append (λ (e : Entry). blanked e.frame) T U) ∙ ap told (sym cut)) ∙ p.1 in
-    let mine = ap (λ x. told (sub_stream s x)) f.got ∙ ap told (sub_side net s f.front) ∙ told_side net T in (
+    let mine = ap (λ x. told (sub_stream s x)) f.got ∙ ap told (with_map _ (λ (e : Entry). sub_in e.frame) (side net) s (λ e. twin_sub net e.frame) f.front) ∙ told_side net T in (
       map (twin_of net) (told U ++ p.0),
       ap (λ x. x ++ map (twin_of net) (told U ++ p.0)) mine
           ∙ sym (map-append (twin_of net) (told T) (told U ++ p.0))
@@ -130,7 +123,7 @@ legal_keeps plan accepted net stands handed lines keeps carried l =
           let f = fronts k klt in
           rw f.got (numbered_side net 0 f.front f.behind
           (rw f.is at (All-filter (λ e. eqb (link_in e.frame) vl) IsLongEntry (log lines)
-          (known_whole plan.links A (log lines) l.known))) (rw f.is at (l.numbered k klt)));
+          (All-weaker (λ (e : Entry). IsKnown plan.links A e.frame) IsLongEntry (λ e is. is.size) (log lines) (known_all plan.links A (log lines) l.known)))) (rw f.is at (l.numbered k klt)));
       spaced = λ k klt.
           let f = fronts k klt in
           rw f.got (spaced_side net _ None f.front f.behind (rw f.is at (l.spaced k klt)));

@@ -12,6 +12,7 @@ pub mod PortLink
 pub mod OwedFragments
 pub mod DrainTurns
 pub mod DrainKeeps
+pub mod Conforming
 pub mod NothingLeft
 pub mod PortSeats
 pub mod OpenedPorts

@@ -1,17 +1,18 @@
 -- Whether all accepted messages are wholly released.
-use Rattle.std.proofs.Common.{ℕ, ◌≡◌, ◌<◌, List, [], ◌∷◌, Bool, true, false, length, arith, refl, ap, ◌∙◌, sym, ⊎_elim}
+use Rattle.std.proofs.Common.{ℕ, ◌≡◌, ◌<◌, List, [], Bool, true, false, length, arith, refl, ap, ◌∙◌, sym, ⊎_elim, inl, inr}
+use Rattle.std.proofs.lemmas.Bool.{both_ways, cases_Bool}
 use Rattle.afdx_plan.specs.Config.{Plan}
 use Rattle.redundant_mux.specs.Entry.{Entry}
 use Rattle.redundant_mux.specs.Lines.{Lines, log}
 use Rattle.vl_link.specs.declared.sub_vl.SubVl.{SubVl}
 use Rattle.vl_link.specs.Seen.{Seen, receiving, gathered, IsKnownWhole, TellsDrained}
-use Rattle.vl_link.specs.Links.{LinkState, held_at, link_at, sub_fragments, taken_by}
+use Rattle.vl_link.specs.Links.{LinkState, held_at, link_at, no_link, sub_fragments, taken_by}
 use Rattle.vl_link.specs.Kept.{IsKept}
 use Rattle.afdx_tx.specs.Emitter.{IsSound}
 use Rattle.afdx_legal.specs.Done.{Owes, IsLinkDone, IsAllDone}
 use Rattle.afdx_tx.specs.Drain.{AreGathered, accepted_in}
 use Rattle.vl_link.specs.LinkDone.{HasSubLeft, TellsLinkDone}
-use Rattle.afdx_tx.specs.Done.{TellsAllDone}
+use Rattle.afdx_tx.specs.Serving.{TellsAllDone}
 use Rattle.vl_link.proofs.LinkTurn.{IsOwn}
 use Rattle.afdx_tx.proofs.SoundEmitter.{plan_is, count_is}
 use Rattle.afdx_tx.proofs.OwedFragments.{rest_of, stands_of, lists_of, all_released, owes_taken, owes_rest, owes_not}
@@ -31,16 +32,10 @@ link_done link log own kept g d s lt =
     (g s within))
     (d.1 s within).0 (drained_rest (held_at link.subs s).seen (d.1 s within).1)
 
--- a queue that isn't drained has a next message
-next_of_rest : (seen : Seen) → IsKnownWhole seen → TellsDrained false seen
-    → (message : ℕ × List ℕ) × (more : List (ℕ × List ℕ)) × (rest_of seen ≡ message ∷ more)
-next_of_rest (receiving r) g d = absurd g
-next_of_rest (gathered q) g d = first q.left d
-  where
-    first : (left : List (ℕ × List ℕ)) → (left ≡ [] → ⊥)
-        → (message : ℕ × List ℕ) × (more : List (ℕ × List ℕ)) × (left ≡ message ∷ more)
-    first [] some = absurd (some refl)
-    first (message ∷ more) some = (message, more, refl)
+-- a queue that isn't drained has something left
+left_rest : (seen : Seen) → IsKnownWhole seen → TellsDrained false seen → rest_of seen ≡ [] → ⊥
+left_rest (receiving r) g d = absurd g
+left_rest (gathered q) g d = d
 
 -- a sub-VL of a link that isn't wholly released
 pub record HasOwing (link : LinkState) (log : List Entry) : Type 0 where
@@ -71,8 +66,7 @@ left_owes link log own kept g d whole =
       within = within;
       owes = ⊎_elim
           (λ some. owes_taken link.end_system link.plan log d.sub link.subs (held_at link.subs d.sub).left some at.taken)
-          (λ not. let next = next_of_rest (held_at link.subs d.sub).seen at.seen not in
-          owes_rest link.end_system link.plan log d.sub link.subs next.0 next.1 at next.2)
+          (λ not. owes_rest link.end_system link.plan log d.sub link.subs at (left_rest (held_at link.subs d.sub).seen at.seen not))
           d.left;
     }
 
@@ -80,11 +74,10 @@ left_owes link log own kept g d whole =
 link_owes : (link : LinkState) (log : List Entry) → IsOwn link → IsKept link log → IsLinkGathered link
     → TellsLinkDone false link → HasOwing link log
 link_owes link log own kept g d =
-    ⊎_elim (λ lost. lost_owes link log own kept lost) (λ left. by_lost link.lost refl left) d
-  where
-    by_lost : (b : Bool) → link.lost ≡ b → HasSubLeft link.subs → HasOwing link log
-    by_lost true e left = lost_owes link log own kept e
-    by_lost false e left = left_owes link log own kept g left e
+    elim (cases_Bool link.lost) [
+      | inl lost ↦ lost_owes link log own kept lost
+      | inr whole ↦ left_owes link log own kept g (⊎_elim (λ lost. absurd (both_ways _ whole lost)) (λ left. left) d) whole
+    ]
 
 -- where all links are done, all accepted messages are wholly released
 done_true : (config : Plan) (links : List LinkState) (lines : Lines) (moment : ℕ)
@@ -93,19 +86,19 @@ done_true : (config : Plan) (links : List LinkState) (lines : Lines) (moment : �
 done_true config links lines moment sound g d k lt =
     let here : k < length links = omega (arith, lt, count_is config links sound.of_plan) in
     rw (plan_is config links sound.of_plan k here, ← sound.of_plan.end_system k here)
-    (link_done (link_at links k) (log lines) (sound.of_plan.each k here) (sound.kept k here) (λ s slt. g k s here slt) (d k here))
+    (link_done (link_at links k) (log lines) (sound.of_plan.each k here) (sound.kept k here) (λ s slt. g k s here slt) (d k no_link (omega arith) here))
 
 -- and where one isn't, some are not
 done_false : (config : Plan) (links : List LinkState) (lines : Lines) (moment : ℕ)
     → IsSound config links lines moment → AreGathered links → TellsAllDone false links
     → IsAllDone config (accepted_in links) (log lines) → ⊥
 done_false config links lines moment sound g d all =
-    let k = d.place in
+    let k = d.0 in
     let link = link_at links k in
-    let owing = link_owes link (log lines) (sound.of_plan.each k d.within) (sound.kept k d.within)
-    (λ s slt. g k s d.within slt) d.left in
-    let all = all k (omega (arith, d.within, count_is config links sound.of_plan)) in
-    let done = rw (plan_is config links sound.of_plan k d.within, ← sound.of_plan.end_system k d.within) at all in
+    let owing = link_owes link (log lines) (sound.of_plan.each k d.1) (sound.kept k d.1)
+    (λ s slt. g k s d.1 slt) (d.2 no_link) in
+    let all = all k (omega (arith, d.1, count_is config links sound.of_plan)) in
+    let done = rw (plan_is config links sound.of_plan k d.1, ← sound.of_plan.end_system k d.1) at all in
     owes_not link.end_system link.plan (lists_of link.subs) (log lines) owing.sub owing.owes
     (done owing.sub owing.within)
 

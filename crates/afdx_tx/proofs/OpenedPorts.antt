@@ -1,5 +1,6 @@
 -- Links, nothing of which was taken yet, whose ports are given their senders.
 use Rattle.std.proofs.Common.{ℕ, ◌≡◌, ◌+◌, ◌<◌, List, [], ◌∷◌, ◌++◌, length, take, get_or, set, arith, refl, ap, ◌∙◌, sym, subst, below_more, Option, Some, None}
+use Rattle.std.proofs.lemmas.Bool.{and_right, ne_eqb}
 use Rattle.std.proofs.lemmas.List.{length-append, get_or_append_left, get_or_push, length-set}
 use Rattle.std.proofs.Math.ListN.{get_or-map}
 use Rattle.afdx_plan.specs.declared.link_plan.LinkPlan.{LinkPlan}
@@ -16,8 +17,8 @@ use Rattle.afdx_tx.specs.Emitter.{ports_of_sub, held_queue, link_queues, queues_
 use Rattle.afdx_tx.specs.Ports.{queue_at, index_of, IsFreshSender, IsFreshPort}
 use Rattle.vl_link.proofs.Choosing.{each_set}
 use Rattle.afdx_tx.proofs.OneSub.{one_count, one_each}
-use Rattle.afdx_tx.proofs.PortSeats.{few_ports, IsAt, seats, seats_within, index_at, seat_at, others_at, other_at, on_no_sub}
-use Rattle.afdx_tx.proofs.SoundEmitter.{alike_link_queues, alike_queues}
+use Rattle.afdx_tx.proofs.PortSeats.{few_ports, IsAt, seats, seats_within, index_at, seat_at, others_at, other_at}
+use Rattle.afdx_tx.proofs.SoundEmitter.{alike_queues}
 
 -- the queue of a sub-VL, as the list of all queues has it
 pub queue_at_is : (links : List LinkState) (k s : ℕ)
@@ -26,30 +27,12 @@ queue_at_is links k s =
     ap (λ (qs : List (Option QueueName)). get_or qs s None) (get_or-map link_queues links k no_link)
     ∙ get_or-map held_queue (link_at links k).subs s nothing_held
 
--- no sub-VL yet
-pub subs_none : (end_system : ℕ) (ports first : List PortPlan) (link : LinkPlan) (subs : List Held) → subs ≡ []
-    → AreOpenedSubs end_system ports first link subs 0
-subs_none end_system ports first link subs none = record { count = ap length none; each = λ s lt. absurd (omega arith) }
-
 -- a fact of each element of a list, with one more
 pub each_push : {X : Type 0} (P : ℕ → X → Type 0) (xs : List X) (new d : X) (n : ℕ) → length xs ≡ n
     → ((k : ℕ) → k < n → P k (get_or xs k d)) → P n new → (k : ℕ) → k < n + 1 → P k (get_or (xs ++ new ∷ []) k d)
 each_push P xs new d n count each last = below_more (λ k. P k (get_or (xs ++ new ∷ []) k d)) n
     (λ k lt. rw (get_or_append_left xs (new ∷ []) d k (omega arith)) (each k lt))
     (rw (get_or_push xs new d n count) last)
-
--- one sub-VL more
-pub subs_push : (end_system : ℕ) (ports first : List PortPlan) (link : LinkPlan) (subs : List Held) (n : ℕ) (new : Held)
-    → AreOpenedSubs end_system ports first link subs n
-    → IsOpenedSub (record { end_system = end_system; link = link; sub = n }) (ports_of_sub ports link.id.0 n)
-    (length (ports_of_sub first link.id.0 n)) new
-    → AreOpenedSubs end_system ports first link (subs ++ new ∷ []) (n + 1)
-subs_push end_system ports first link subs n new are opened = record {
-  count = let many = are.count in omega (arith, length-append subs (new ∷ []));
-  each = each_push (λ s held. IsOpenedSub (record { end_system = end_system; link = link; sub = s })
-      (ports_of_sub ports link.id.0 s)
-      (length (ports_of_sub first link.id.0 s)) held) subs new nothing_held n are.count are.each opened;
-}
 
 -- one link more
 pub links_push : (config : Plan) (first : List PortPlan) (links : List LinkState) (n : ℕ) (new : LinkState)
@@ -105,15 +88,15 @@ makes_sub own ports n old calls sender new opened makes = rw makes.same (record 
   seen = (makes_seen old.seen calls sender new.seen opened.queue own.link.capacity n makes.queue opened.seen).0;
 })
 
--- a link whose sub-VLs have as many senders
-recount : (own : ℕ) (ports first more : List PortPlan) (link : LinkPlan) (state : LinkState) → IsOpenedLink own ports first link state
-    → ((t : ℕ) → t < link.sub_vls → length (ports_of_sub more link.id.0 t) ≡ length (ports_of_sub first link.id.0 t))
-    → IsOpenedLink own ports more link state
-recount own ports first more link state opened same = record {
+-- a link with other sub-VLs, which have senders for these ports
+with_subs : (own : ℕ) (ports first more : List PortPlan) (link : LinkPlan) (state : LinkState) (subs : List Held)
+    → IsOpenedLink own ports first link state → AreOpenedSubs own ports more link subs link.sub_vls
+    → IsOpenedLink own ports more link (record state { subs = subs })
+with_subs own ports first more link state subs opened these = record {
   end_system = opened.end_system;
   plan = opened.plan;
   pace = opened.pace;
-  subs = record { count = opened.subs.count; each = λ t lt. rw (same t lt) (opened.subs.each t lt) };
+  subs = these;
   lost = opened.lost;
   counts = opened.counts;
 }
@@ -129,24 +112,18 @@ link_more config old place k s calls sender new at opened makes =
     let own : ℕ → SubVl = λ t. record { end_system = config.end_system; link = link_plan_at config.links k; sub = t } in
     let P : ℕ → Held → Type 0 = λ t held. t < (link_plan_at config.links k).sub_vls
     → IsOpenedSub (own t) (ports_of_sub config.ports plan.id.0 t) (seats config.ports (place + 1) plan.id.0 t) held in
-    rw makes.same (record {
-      end_system = opened.end_system;
-      plan = opened.plan;
-      pace = opened.pace;
-      subs = record {
-        count = length-set old.subs s (held_at new.subs s) ∙ opened.subs.count;
-        each = λ t lt. each_set P old.subs s (held_at new.subs s) nothing_held
-            (let count = opened.subs.count in omega arith)
-            (λ _. rw (seat_at config place k s at) (makes_sub (own s) (ports_of_sub config.ports plan.id.0 s)
-            (index_of config.ports place) (held_at old.subs s) calls sender (held_at new.subs s)
-            (rw (index_at config place k s at) (opened.subs.each s sub)) makes.makes))
-            (λ t ne tlt. rw (others_at config place plan.id.0 t at.within
-            (on_no_sub (port_plan_at config.ports place) _ t (λ q. ne (sym q ∙ at.sub)))) (opened.subs.each t tlt))
-            t lt;
-      };
-      lost = opened.lost;
-      counts = opened.counts;
-    })
+    rw makes.same (with_subs config.end_system config.ports (take place config.ports) (take (place + 1) config.ports) plan old
+    (set old.subs s (held_at new.subs s)) opened (record {
+      count = length-set old.subs s (held_at new.subs s) ∙ opened.subs.count;
+      each = λ t lt. each_set P old.subs s (held_at new.subs s) nothing_held
+          (let count = opened.subs.count in omega arith)
+          (λ _. rw (seat_at config place k s at) (makes_sub (own s) (ports_of_sub config.ports plan.id.0 s)
+          (index_of config.ports place) (held_at old.subs s) calls sender (held_at new.subs s)
+          (rw (index_at config place k s at) (opened.subs.each s sub)) makes.makes))
+          (λ t ne tlt. rw (others_at config place plan.id.0 t at.within
+          (and_right _ _ (ne_eqb _ _ (λ q. ne (sym q ∙ at.sub))))) (opened.subs.each t tlt))
+          t lt;
+    }))
 
 -- all links, of which one made the sender of the next port
 pub opened_more : (config : Plan) (links : List LinkState) (place k s calls : ℕ) (sender : SenderView) (new : LinkState) → IsPlan config
@@ -162,10 +139,12 @@ opened_more config links place k s calls sender new valid at are makes =
       count = length-set links k new ∙ are.count;
       each = each_set P links k new no_link within
           (λ _. link_more config (link_at links k) place k s calls sender new at (are.each k at.link) makes)
-          (λ m ne lt. recount config.end_system config.ports (take place config.ports) first
-          (link_plan_at config.links m) (link_at links m) (are.each m lt)
-          (λ t tlt. others_at config place (link_plan_at config.links m).id.0 t at.within
-          (other_at config place k s m t valid at lt ne)));
+          (λ m ne lt. with_subs config.end_system config.ports (take place config.ports) first (link_plan_at config.links m)
+          (link_at links m) (link_at links m).subs (are.each m lt) (record {
+            count = (are.each m lt).subs.count;
+            each = λ t tlt. rw (others_at config place (link_plan_at config.links m).id.0 t at.within
+                (other_at config place k s m t valid at lt ne)) ((are.each m lt).subs.each t tlt);
+          }));
     }
 
 -- the queues keep their names
@@ -176,10 +155,9 @@ makes_name (gathered old) calls sender new makes = absurd makes
 pub names_more : (links : List LinkState) (k s calls : ℕ) (sender : SenderView) (new : LinkState) → k < length links
     → LinkMakesSender (link_at links k) s calls sender new → queues_in (set links k new) ≡ queues_in links
 names_more links k s calls sender new within makes = alike_queues links (set links k new) (length-set links k new)
-    (λ m lt. alike_link_queues (link_at links m) (link_at (set links k new) m)
-    (one_count links k s new within makes.same m)
-    (λ t tlt. one_each links k s new within makes.same (λ old held. held_queue held ≡ held_queue old) (λ held. refl)
-    (makes_name _ calls sender _ makes.makes.queue) m t))
+    (λ m _. one_count links k s new within makes.same m)
+    (λ m t _. one_each links k s new within makes.same (λ old held. held_queue held ≡ held_queue old) (λ held. refl)
+    (makes_name _ calls sender _ makes.makes.queue) m t)
 
 -- the port at the next place, with the sender that was made for it
 pub fresh_port : (config : Plan) (links : List LinkState) (place k s : ℕ) (plan : PortPlan) (sender : SenderView) (new : LinkState)

@@ -32,11 +32,10 @@ rest_none : (old new : Seen) → IsKnownWhole old → FindsNothing old new → r
 rest_none (receiving r) new g f = absurd g
 rest_none (gathered q) new g f = f.0
 
--- what was found is the next that is left
-rest_next : (old : Seen) (message : ℕ × List ℕ) (new : Seen) → IsKnownWhole old → Finds old message new
-    → (more : List (ℕ × List ℕ)) × (rest_of old ≡ message ∷ more)
-rest_next (receiving r) message new g f = absurd g
-rest_next (gathered q) message new g f = (f.0, f.1)
+-- where something was found, something is left
+rest_some : (old : Seen) (message : ℕ × List ℕ) (new : Seen) → IsKnownWhole old → Finds old message new → rest_of old ≡ [] → ⊥
+rest_some (receiving r) message new g f none = absurd g
+rest_some (gathered q) message new g f none = let e : [] ≡ message ∷ f.0 = sym none ∙ f.1 in cc
 
 -- the fragments of two lists of messages
 fragments_append : (end_system room : ℕ) (net : Net) (place : ℕ) (xs ys : List Sent)
@@ -63,10 +62,10 @@ owed_split end_system room net held =
     rw (known_rest held.seen, map-append (sent_of held.ports) (taken_of held.seen) (rest_of held.seen))
     (fragments_append end_system room net 0 (taken_by held) (sent_by held.ports (rest_of held.seen)))
 
--- two lists make none only where the first is none
-left_nil : {X : Type 0} (xs ys : List X) → xs ++ ys ≡ [] → xs ≡ []
-left_nil [] ys e = refl
-left_nil (x ∷ xs) ys e = cc
+-- two lists make none only where both are none
+nils : {X : Type 0} (xs ys : List X) → xs ++ ys ≡ [] → (xs ≡ []) × (ys ≡ [])
+nils [] ys e = (refl, e)
+nils (x ∷ xs) ys e = absurd (let no : x ∷ (xs ++ ys) ≡ [] = e in cc)
 
 -- a sub-VL of a link where its stream is, whose accepted messages are known whole
 pub record Stands (end_system : ℕ) (link : LinkPlan) (log : List Entry) (s : ℕ) (held : Held) : Type 0 where
@@ -87,10 +86,6 @@ stands_of link log s own tied lt g =
 -- the accepted lists of some sub-VLs
 abbrev pub lists_of : List Held → ℕ → List Sent
 lists_of subs s = accepted_by (held_at subs s)
-
-right_nil : (xs ys : List (List ℕ)) → xs ++ ys ≡ [] → ys ≡ []
-right_nil [] ys e = e
-right_nil (x ∷ xs) ys e = cc
 
 module _ (end_system : ℕ) (link : LinkPlan) (log : List Entry) (s : ℕ) (subs : List Held) where
   -- nothing is left of what was taken, nor to be taken
@@ -117,27 +112,31 @@ module _ (end_system : ℕ) (link : LinkPlan) (log : List Entry) (s : ℕ) (subs
       let more = untaken end_system (room_of link.lmax) A (held_at subs s) in
       record {
         left = left ++ more;
-        some = λ none. some (left_nil left more none);
+        some = λ none. some (nils left more none).0;
         ahead = owed_split end_system (room_of link.lmax) A (held_at subs s)
             ∙ rw e (append_assoc (told_of link.id.0 s log) left more);
       }
 
   -- a message is left to be taken
-  pub owes_rest : (message : ℕ × List ℕ) (more : List (ℕ × List ℕ)) → Stands end_system link log s (held_at subs s)
-      → rest_of (held_at subs s).seen ≡ message ∷ more → Owes end_system link (lists_of subs) log s
-  owes_rest message more at e =
-      let held = held_at subs s in
-      let room = room_of link.lmax in
-      let place = 0 + length (taken_by held) in
-      let next = fragments_from end_system room A place (sent_by held.ports (message ∷ more)) in
-      record {
-        left = held.left ++ next;
-        some = λ none. fragments_some (record { end_system = end_system; link = link; sub = s }) place
-            (sent_of held.ports message)
-            (left_nil _ _ (right_nil held.left next none));
-        ahead = owed_split end_system room A held
-            ∙ rw (e, at.taken) (append_assoc (told_of link.id.0 s log) held.left next);
-      }
+  pub owes_rest : Stands end_system link log s (held_at subs s) → (rest_of (held_at subs s).seen ≡ [] → ⊥)
+      → Owes end_system link (lists_of subs) log s
+  owes_rest at some = by_rest (rest_of (held_at subs s).seen) refl
+    where
+      by_rest : (rest : List (ℕ × List ℕ)) → rest_of (held_at subs s).seen ≡ rest → Owes end_system link (lists_of subs) log s
+      by_rest [] none = absurd (some none)
+      by_rest (message ∷ more) e =
+          let held = held_at subs s in
+          let room = room_of link.lmax in
+          let place = 0 + length (taken_by held) in
+          let next = fragments_from end_system room A place (sent_by held.ports (message ∷ more)) in
+          record {
+            left = held.left ++ next;
+            some = λ none. fragments_some (record { end_system = end_system; link = link; sub = s }) place
+                (sent_of held.ports message)
+                (nils _ _ (nils held.left next none).1).0;
+            ahead = owed_split end_system room A held
+                ∙ rw (e, at.taken) (append_assoc (told_of link.id.0 s log) held.left next);
+          }
 
   -- what was asked and has nothing is wholly released
   pub passed_released : (new : Held) → Stands end_system link log s (held_at subs s) → Asks false (held_at subs s) new
@@ -148,9 +147,7 @@ module _ (end_system : ℕ) (link : LinkPlan) (log : List Entry) (s : ℕ) (subs
   pub asked_owes : (new : Held) → Stands end_system link log s (held_at subs s) → Asks true (held_at subs s) new
       → Owes end_system link (lists_of subs) log s
   asked_owes new at (inl g) = owes_taken (held_at subs s).left g.some at.taken
-  asked_owes new at (inr p) =
-      let next = rest_next (held_at subs s).seen p.message new.seen at.seen p.finds in
-      owes_rest p.message next.0 at next.1
+  asked_owes new at (inr p) = owes_rest at (rest_some (held_at subs s).seen p.message new.seen at.seen p.finds)
 
 -- no sub-VL is both
 pub owes_not : (end_system : ℕ) (link : LinkPlan) (accepted : ℕ → List Sent) (log : List Entry) (s : ℕ)

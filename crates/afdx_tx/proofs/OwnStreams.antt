@@ -1,5 +1,5 @@
 -- Each link's stream of the log is the longer of its own two.
-use Rattle.std.proofs.Common.{ℕ, ◌≡◌, ◌⊎◌, ◌+◌, ◌<◌, ◌≤◌, List, [], ◌∷◌, ◌++◌, length, map, arith, refl, ap, ◌∙◌, sym, inl, inr, ⊎_elim}
+use Rattle.std.proofs.Common.{ℕ, ◌≡◌, ◌⊎◌, ◌<◌, ◌≤◌, List, [], ◌∷◌, length, map, arith, refl, ap, ◌∙◌, sym, inl, inr, ⊎_elim}
 use Rattle.std.specs.Prelude.{All}
 use Rattle.std.proofs.lemmas.Bool.{cases_lt, lt-ltb, le-ltb}
 use Rattle.std.proofs.lemmas.List.{append-nil, length-append, length-map, nil_from_length}
@@ -16,7 +16,7 @@ use Rattle.redundant_mux.specs.Lines.{Lines, log, IsMirrored}
 use Rattle.afdx_legal.specs.Streams.{link_stream}
 use Rattle.afdx_legal.specs.Own.{longer, own_stream, AreOwnStreams}
 use Rattle.afdx_tx.specs.Emitter.{AreCarried}
-use Rattle.afdx_tx.proofs.HandedFronts.{IsFor, IsFront, link_side, named_front, named_behind, unnamed_front, whole_alone}
+use Rattle.afdx_tx.proofs.HandedFronts.{IsFor, IsFront, link_side, front_of, all_handed, whole_alone}
 
 -- twins of twins
 pub sides : (net other : Net) (H : List Entry) → map (side net) (map (side other) H) ≡ map (side net) H
@@ -40,62 +40,45 @@ stream_for_a : (lines : Lines) (vl : ℕ) → IsMirrored lines
     → map (side A) (link_stream vl (log lines)) ≡ link_stream vl (log lines)
 stream_for_a lines vl m = sym (link_side A vl (log lines)) ∙ ap (link_stream vl) (log_for_a lines m)
 
--- a list and nothing behind it
-only_front : (xs ys S : List Entry) → S ≡ xs ++ ys → ys ≡ [] → xs ≡ S
-only_front xs ys S is none = sym (is ∙ rw (none, append-nil xs) refl)
-
--- Of two fronts of a stream, of which one is all of it, the longer is the stream.
-longer_is : (S a b : List Entry) → map (side A) S ≡ S → (f : IsFront A S a) → (g : IsFront B S b)
-    → (f.behind ≡ []) ⊎ (g.behind ≡ []) → map (side A) (longer a b) ≡ S
-longer_is S a b own f g one = ⊎_elim
-    (λ (lt : length a < length b).
-    let all = only_front g.front g.behind S g.is
-    (⊎_elim (λ none. nil_from_length g.behind (omega (arith, tie, ap length none))) (λ none. none) one) in
-    rw (lt-ltb _ _ lt, g.got, sides A B g.front, all) own)
-    (λ (le : length b ≤ length a).
-    let all = only_front f.front f.behind S f.is
-    (⊎_elim (λ none. none) (λ none. nil_from_length f.behind (omega (arith, tie, ap length none))) one) in
-    rw (le-ltb _ _ le, f.got, sides A A f.front, all) own)
-    (cases_lt (length a) (length b))
-  where
-    tie : length a + length f.behind ≡ length b + length g.behind
-    tie = omega (
+-- a front as long as the whole is the whole
+all_of : (net : Net) (S xs : List Entry) → IsFront net S xs → length S ≤ length xs → xs ≡ map (side net) S
+all_of net S xs f long =
+    let none = nil_from_length f.behind (omega (
       arith,
-      ap length f.got,
-      length-map f.front (side A),
-      ap length g.got,
-      length-map g.front (side B),
       ap length f.is,
-      ap length g.is,
       length-append f.front f.behind,
-      length-append g.front g.behind,
-    )
+      ap length f.got,
+      length-map f.front (side net),
+    )) in
+    f.got ∙ ap (map (side net)) (sym (f.is ∙ rw (none, append-nil f.front) refl))
+
+-- Of two fronts of a stream, of which one is as long as the stream, the longer is the stream.
+longer_is : (S a b : List Entry) → map (side A) S ≡ S → IsFront A S a → IsFront B S b
+    → (length S ≤ length a) ⊎ (length S ≤ length b) → map (side A) (longer a b) ≡ S
+longer_is S a b own f g one = ⊎_elim
+    (λ (lt : length a < length b). rw (lt-ltb _ _ lt, all_of B S b g (⊎_elim (λ le. omega arith) (λ le. le) one), sides A B S) own)
+    (λ (ge : length b ≤ length a). rw (le-ltb _ _ ge, all_of A S a f (⊎_elim (λ le. le) (λ le. omega arith) one), sides A A S) own)
+    (cases_lt (length a) (length b))
 
 -- the stream of one link
 own_of : (lines : Lines) (vl : ℕ) (networks : Networks) → IsMirrored lines → All (IsFor vl networks) lines.logged
     → link_stream vl (log lines) ≡ own_stream vl lines.a lines.b
-own_of lines vl Both m own =
-    let f = named_front A lines.a_stands lines.a lines vl Both m.first own refl in
-    let g = named_front B lines.b_stands lines.b lines vl Both m.second own refl in
-    sym (longer_is (link_stream vl (log lines)) (link_stream vl lines.a) (link_stream vl lines.b) (stream_for_a lines vl m) f g
-    (⊎_elim
-    (λ none. inl (named_behind A lines.a_stands lines.a lines vl Both m.first own refl
-    ∙ ap (λ (ls : List Logged). link_stream vl (entries_of ls)) none))
-    (λ none. inr (named_behind B lines.b_stands lines.b lines vl Both m.second own refl
-    ∙ ap (λ (ls : List Logged). link_stream vl (entries_of ls)) none))
-    m.one))
-own_of lines vl OnlyA m own =
-    let f = named_front A lines.a_stands lines.a lines vl OnlyA m.first own refl in
-    let g = unnamed_front B lines.b_stands lines.b lines vl OnlyA m.second own refl in
-    sym (longer_is (link_stream vl (log lines)) (link_stream vl lines.a) (link_stream vl lines.b) (stream_for_a lines vl m) f g
-    (inl (named_behind A lines.a_stands lines.a lines vl OnlyA m.first own refl
-    ∙ whole_alone A lines.a_stands lines.a lines vl OnlyA m.first own refl)))
-own_of lines vl OnlyB m own =
-    let f = unnamed_front A lines.a_stands lines.a lines vl OnlyB m.first own refl in
-    let g = named_front B lines.b_stands lines.b lines vl OnlyB m.second own refl in
-    sym (longer_is (link_stream vl (log lines)) (link_stream vl lines.a) (link_stream vl lines.b) (stream_for_a lines vl m) f g
-    (inr (named_behind B lines.b_stands lines.b lines vl OnlyB m.second own refl
-    ∙ whole_alone B lines.b_stands lines.b lines vl OnlyB m.second own refl)))
+own_of lines vl networks m own = sym (longer_is (link_stream vl (log lines)) (link_stream vl lines.a) (link_stream vl lines.b)
+    (stream_for_a lines vl m)
+    (front_of A lines.a_stands lines.a lines vl networks m.first own)
+    (front_of B lines.b_stands lines.b lines vl networks m.second own) (one networks own))
+  where
+    one : (networks : Networks) → All (IsFor vl networks) lines.logged
+        → (length (link_stream vl (log lines)) ≤ length (link_stream vl lines.a))
+        ⊎ (length (link_stream vl (log lines)) ≤ length (link_stream vl lines.b))
+    one Both own = ⊎_elim
+        (λ none. inl (all_handed A lines.a_stands lines.a lines vl Both m.first own refl (ap (λ (ls : List Logged). link_stream vl (entries_of ls)) none)))
+        (λ none. inr (all_handed B lines.b_stands lines.b lines vl Both m.second own refl (ap (λ (ls : List Logged). link_stream vl (entries_of ls)) none)))
+        m.one
+    one OnlyA own = inl (all_handed A lines.a_stands lines.a lines vl OnlyA m.first own refl
+        (whole_alone A lines.a_stands lines.a lines vl OnlyA m.first own refl))
+    one OnlyB own = inr (all_handed B lines.b_stands lines.b lines vl OnlyB m.second own refl
+        (whole_alone B lines.b_stands lines.b lines vl OnlyB m.second own refl))
 
 -- Each link of a plan's is so.
 pub own_streams : (plan : Plan) (lines : Lines) → IsMirrored lines → AreCarried plan.links lines.logged

@@ -1,5 +1,5 @@
 -- One more link of a poll has had its turn.
-use Rattle.std.proofs.Common.{ℕ, ◌≡◌, ◌≢◌, ◌<◌, List, [], ◌∷◌, ◌++◌, ◌||◌, false, length, map, set, get_or, arith, refl, ap, ◌∙◌, sym, subst}
+use Rattle.std.proofs.Common.{ℕ, ◌≡◌, ◌≢◌, ◌<◌, List, [], ◌∷◌, ◌++◌, ◌||◌, false, length, map, set, get_or, arith, refl, ap, ◌∙◌, sym, subst, ◌≤◌, Option, Some, None}
 use Rattle.std.proofs.lemmas.List.{length-set, ext_get_or, get_or-map, length-map}
 use Rattle.std.proofs.lemmas.List.Elements.{All-push}
 use Rattle.afdx_plan.specs.declared.identifiers.VlId.{VlId}
@@ -11,6 +11,7 @@ use Rattle.redundant_mux.specs.Entry.{Entry, entry}
 use Rattle.redundant_mux.specs.Logged.{Logged, logged_for}
 use Rattle.redundant_mux.specs.Lines.{Lines, log}
 use Rattle.redundant_mux.proofs.MirroredLines.{log_more, log_same}
+use Rattle.vl_shaper.specs.declared.shaper.Stamp.{Stamp}
 use Rattle.vl_shaper.specs.Pace.{IsLater}
 use Rattle.vl_link.specs.declared.served.Served.{Served}
 use Rattle.vl_link.specs.declared.served.Served.TheVariants.{Nothing, Released, Lost}
@@ -25,6 +26,11 @@ use Rattle.afdx_tx.specs.Serving.{IsSteady}
 use Rattle.vl_link.proofs.LinkTurn.{Turned, IsOwn, HasItems, link_turn, kept_turn, other_stream, kept_stream, released_below}
 use Rattle.vl_link.proofs.Choosing.{each_set}
 use Rattle.vl_link.proofs.SubInStep.{same_sub_on, same_sub_here}
+
+-- a later moment
+pub later_on : (last : Option Stamp) (m n : ℕ) → m ≤ n → IsLater last m → IsLater last n
+later_on None m n le later = tt
+later_on (Some last) m n le later = omega arith
 
 -- a link is the one that it is
 pub same_link : (link : LinkState) → IsSameLink link link
@@ -129,32 +135,24 @@ known_after now i old (Released sub number) links new lines after same lt own t 
     }))
 known_after now i old Lost links new lines after same lt own t h = rw (log_same lines after t.serves.1.same) h
 
--- a frame of a link that is logged for its networks
-carried_push : (old links : List LinkState) (i : ℕ) (logged : List Logged) (e : Entry) → AreApart old → IsSamePlan old links
-    → i < length links → link_in e.frame ≡ (link_at links i).plan.id.0 → AreCarried (plans old) logged
-    → AreCarried (plans old) (logged ++ logged_for (link_at links i).plan.networks e ∷ [])
-carried_push old links i logged e apart same lt own h k klt =
-    let il : i < length old = omega (arith, same.count) in
-    let kl : k < length old = omega (arith, plans_length old) in
-    let P = λ (l : Logged). link_in l.entry.frame ≡ (link_plan_at (plans old) k).id.0 → l.networks ≡ (link_plan_at (plans old) k).networks in
-    let here : (link_at links i).plan ≡ link_plan_at (plans old) i = (same.each i il).plan ∙ sym (plan_at_is old i il) in
-    let made = λ (n : ℕ). let v : VlId = record { 0 = n } in v in
-    All-push P logged (logged_for (link_at links i).plan.networks e) (h k klt) (λ of.
-    ap (λ (p : LinkPlan). p.networks) here
-    ∙ ap (λ (j : ℕ). (link_plan_at (plans old) j).networks) (apart i k il kl
-    (ap (λ (p : LinkPlan). p.id) (sym (same.each i il).plan) ∙ ap made (sym own ∙ of)
-    ∙ ap (λ (p : LinkPlan). p.id) (plan_at_is old k kl))))
-
 -- what was logged is carried by the networks of its links after a turn
 carried_after : (now i : ℕ) (old : List LinkState) (did : Served) (links : List LinkState) (new : LinkState) (lines after : Lines)
     → AreApart old → IsSamePlan old links → i < length links
     → Turned now (link_at links i) new lines after did → AreCarried (plans old) lines.logged
     → AreCarried (plans old) after.logged
-carried_after now i old Nothing links new lines after apart same lt t h = rw (t.serves.1) h
-carried_after now i old (Released sub number) links new lines after apart same lt t h =
+carried_after now i old Nothing links new lines after apart same lt t h k klt = rw (t.serves.1) (h k klt)
+carried_after now i old (Released sub number) links new lines after apart same lt t h k klt =
     let r = t.serves.2 in
-    rw r.enters (carried_push old links i lines.logged (entry now r.frame) apart same lt r.of.link h)
-carried_after now i old Lost links new lines after apart same lt t h = rw t.serves.1.same h
+    let il : i < length old = omega (arith, same.count) in
+    let kl : k < length old = omega (arith, plans_length old) in
+    let P = λ (l : Logged). link_in l.entry.frame ≡ (link_plan_at (plans old) k).id.0 → l.networks ≡ (link_plan_at (plans old) k).networks in
+    let plan = (same.each i il).plan in
+    let made = λ (n : ℕ). let v : VlId = record { 0 = n } in v in
+    rw r.enters (All-push P lines.logged (logged_for (link_at links i).plan.networks (entry now r.frame)) (h k klt) (λ of.
+    ap (λ (p : LinkPlan). p.networks) (plan ∙ sym (plan_at_is old i il))
+    ∙ ap (λ (j : ℕ). (link_plan_at (plans old) j).networks) (apart i k il kl
+    (ap (λ (p : LinkPlan). p.id) (sym plan) ∙ ap made (sym r.of.link ∙ of) ∙ ap (λ (p : LinkPlan). p.id) (plan_at_is old k kl)))))
+carried_after now i old Lost links new lines after apart same lt t h k klt = rw t.serves.1.same (h k klt)
 
 -- every turn keeps what turns keep
 pub steady_more : (now i : ℕ) (old links : List LinkState) (lines after : Lines) (new : LinkState) (did : Served)

@@ -1,17 +1,15 @@
 -- One more link of a poll was asked whether it is due, and served where it is.
 use Rattle.std.proofs.Common.{ℕ, ◌≡◌, ◌+◌, ◌<◌, List, [], ◌++◌, false, length, set, refl, arith, ap, sym, ◌≤◌, ◌∷◌, ◌∙◌, add-one, true, subst, inl, inr}
 use Rattle.std.proofs.lemmas.List.{append-nil, map-append, append_assoc, length-append, length-set, get_or-set_same, get_or-set_other}
-use Rattle.afdx_frame.specs.declared.net.Net.TheVariants.{A}
 use Rattle.redundant_mux.specs.Lines.{Lines, BothEndure, log, stands_for}
-use Rattle.redundant_mux.proofs.Enduring.{both_none, both_on, stood_before}
+use Rattle.redundant_mux.proofs.Enduring.{both_on, stood_before}
 use Rattle.vl_shaper.specs.Pace.{IsLater, Pace}
-use Rattle.afdx_legal.specs.Legal.{AreKnown}
 use Rattle.vl_link.specs.declared.served.Served.{Served}
 use Rattle.vl_link.specs.Links.{LinkState, link_at, no_link, pace_of}
 use Rattle.vl_link.specs.Turn.{may_release, AreTurns}
 use Rattle.vl_link.proofs.LinkTurn.{Turned}
 use Rattle.afdx_tx.specs.declared.report.Release.{Release}
-use Rattle.afdx_tx.specs.Emitter.{plans, AreApart, AreLinks, AreKept, AreCarried, AreServedBy, AreWhole, HaveOwnItems}
+use Rattle.afdx_tx.specs.Emitter.{AreApart}
 use Rattle.afdx_tx.specs.Report.{turn_release, release_of, IsTold}
 use Rattle.afdx_tx.specs.Serving.{IsPolling}
 use Rattle.afdx_plan.specs.declared.identifiers.VlId.{VlId}
@@ -61,31 +59,12 @@ few_released vl Nothing rs i h = omega (arith, length-append rs [])
 few_released vl (Released sub number) rs i h = omega (arith, length-append rs (turn_release vl (Released sub number)))
 few_released vl Lost rs i h = omega (arith, length-append rs [])
 
--- the turn, with the regulation read off the stream
-turn_shown : (now : ℕ) (did : Served) (link new : LinkState) (lines after : Lines)
-    → Turned now link new lines after did → IsKept link (log lines) → IsTurn now link new lines after did
-turn_shown now did link new lines after t k =
-    record { same = t.same; tied = λ _. k.tied t.whole; serves = rw (k.paced t.whole) at t.serves }
-
 -- a link that lost a frame has no network any more
 whole_after : (now : ℕ) (did : Served) (link new : LinkState) (lines after : Lines)
     → Turned now link new lines after did → stands_for new.plan.networks after ≡ true → new.lost ≡ false
 whole_after now Nothing link new lines after t stands = t.lost
 whole_after now (Released sub number) link new lines after t stands = t.lost
 whole_after now Lost link new lines after t stands = absurd (both_ways _ t.serves.1.down (rw t.same.plan at stands))
-
--- the turn of the link that was set
-turn_at : (now : ℕ) (did : Served) (old links : List LinkState) (i : ℕ) (new : LinkState) (lines after : Lines)
-    → i < length old → i < length links → link_at links i ≡ link_at old i → IsTurn now (link_at links i) new lines after did
-    → IsTurnAt now old (set links i new) i lines after did
-turn_at now did old links i new lines after il lt here turn = rw (get_or-set_same links i new no_link lt, ← here) turn
-
--- the turns before it
-turns_before : (now : ℕ) (old links : List LinkState) (i : ℕ) (new : LinkState) (before lines : Lines)
-    → AreTurns (IsTurnAt now old links) 0 i before lines → AreTurns (IsTurnAt now old (set links i new)) 0 i before lines
-turns_before now old links i new before lines r =
-    turns_seen (IsTurnAt now old links) (IsTurnAt now old (set links i new)) 0 i before lines
-    (λ k le lt mid behind did t. rw (get_or-set_other links i k new no_link (λ e. omega arith)) t) r
 
 -- one turn more
 turns_on : (now i : ℕ) (old news : List LinkState) (before lines after : Lines) (did : Served)
@@ -114,29 +93,6 @@ idle_turn now link lines may_not_now whole kept = record {
       | inr down ↦ may_not now link.plan stream_pace lines down
     ]
 
--- no link had its turn yet
-pub polling_none : (now : ℕ) (links : List LinkState) (lines : Lines) (released : List Release) → released ≡ []
-    → AreLinks links → AreKept links (log lines) → AreServedBy now links → AreKnown (plans links) A (log lines)
-    → AreCarried (plans links) lines.logged → HaveOwnItems links → AreWhole links lines
-    → IsPolling now 0 links links lines lines released
-polling_none now links lines released none each kept later known carried items whole = record {
-  steady = record {
-    same = record { count = refl; each = λ k lt. same_link (link_at links k) };
-    each = each;
-    kept = kept;
-    later = later;
-    known = known;
-    carried = carried;
-    items = items;
-  };
-  turns = refl;
-  rest = λ k le. refl;
-  whole = whole;
-  told = record { entries = []; grown = sym (append-nil (log lines)); named = sym none; moments = refl };
-  room = omega (arith, ap length none);
-  endure = both_none lines;
-}
-
 -- one more link had its turn
 pub polling_more : (now i : ℕ) (old links : List LinkState) (before lines after : Lines) (new : LinkState) (did : Served)
     (released : List Release) → IsPolling now i old links before lines released → AreApart old → i < length links
@@ -144,13 +100,16 @@ pub polling_more : (now i : ℕ) (old links : List LinkState) (before lines afte
     → BothEndure lines after → IsPolling now (i + 1) old (set links i new) before after
     (released ++ turn_release (link_at links i).plan.id did)
 polling_more now i old links before lines after new did released p apart lt turned later endure =
-    let il : i < length old = omega (arith, p.steady.same.count) in
-    let turn = turn_at now did old links i new lines after il lt (p.rest i (omega arith))
-    (turn_shown now did (link_at links i) new lines after turned (p.steady.kept i lt)) in
+    let kept = p.steady.kept i lt in
+    let shown : IsTurn now (link_at links i) new lines after did =
+    record { same = turned.same; tied = λ _. kept.tied turned.whole; serves = rw (kept.paced turned.whole) at turned.serves } in
+    let turn : IsTurnAt now old (set links i new) i lines after did =
+    rw (get_or-set_same links i new no_link lt, ← p.rest i (omega arith)) shown in
     record {
       steady = steady_more now i old links lines after new did p.steady apart lt turned later;
       turns = turns_on now i old (set links i new) before lines after did
-          (turns_before now old links i new before lines p.turns) turn;
+          (turns_seen (IsTurnAt now old links) (IsTurnAt now old (set links i new)) 0 i before lines
+          (λ k le klt mid behind done t. rw (get_or-set_other links i k new no_link (λ e. omega arith)) t) p.turns) turn;
       rest = λ k le. get_or-set_other links i k new no_link (λ e. omega arith) ∙ p.rest k (omega arith);
       whole = λ k klt. at_each (λ j l. stands_for l.plan.networks after ≡ true → l.lost ≡ false) links i new lt
           (whole_after now did (link_at links i) new lines after turned)
@@ -160,12 +119,6 @@ polling_more now i old links before lines after new did released p apart lt turn
       room = few_released (link_at links i).plan.id did released i p.room;
       endure = both_on before lines after p.endure endure;
     }
-
--- the same, of what is equal
-pub polling_is : (now i : ℕ) (old links links' : List LinkState) (before after after' : Lines) (released released' : List Release)
-    → links' ≡ links → after' ≡ after → released' ≡ released → IsPolling now i old links before after released
-    → IsPolling now i old links' before after' released'
-polling_is now i old links links' before after after' released released' e f h p = rw (e, f, h) p
 
 -- one more link may not release a frame
 pub polling_on : (now i : ℕ) (old links : List LinkState) (before lines : Lines) (released : List Release)

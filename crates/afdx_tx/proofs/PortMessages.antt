@@ -2,14 +2,15 @@
 use Rattle.std.proofs.Common.{ℕ, suc, ◌≡◌, ◌≢◌, ◌<◌, List, [], ◌∷◌, Bool, true, ◌≤◌, cond, nat_eq, filter, ◌+◌, ◌++◌, drop, drop-cons, length, take, get_or, arith, refl, ap, ◌∙◌, sym, subst, ⊎_elim}
 use Rattle.std.specs.Prelude.{All, Contains, ◌==◌}
 use Rattle.std.specs.List.{AllPairs}
-use Rattle.std.proofs.lemmas.Bool.{and_parts, cases_eq, cases_lt, eq-eqb, ne_eqb, eqb-true}
+use Rattle.std.proofs.lemmas.Bool.{cases_eq, cases_lt, eq-eqb, ne_eqb}
 use Rattle.std.proofs.lemmas.List.{get_or_at, get_or_default, take-append-drop}
-use Rattle.std.proofs.lemmas.List.Elements.{All-head, All-tail, All-map, All-filter, All-contains_itself, filter-append, filter_passes}
+use Rattle.std.proofs.lemmas.List.Elements.{All-head, All-tail, All-map, All-contains_itself, filter-append}
 use Rattle.std.proofs.lemmas.List.Kept.{AllPairs-filter}
 use Rattle.afdx_plan.specs.declared.identifiers.PortId.{PortId}
 use Rattle.afdx_plan.specs.declared.identifiers.VlId.{VlId}
 use Rattle.afdx_plan.specs.declared.port_plan.PortPlan.{PortPlan}
 use Rattle.afdx_plan.specs.Config.{Plan, IsPlan, link_plan_at, port_plan_at}
+use Rattle.afdx_plan.specs.Plan.{SendsOver}
 use Rattle.subvl_queue.specs.Messages.{IsItem, AreItems, part_of}
 use Rattle.afdx_legal.specs.Allowed.{IsAllowed, AreAllowed, messages_of, port_messages}
 use Rattle.vl_link.specs.Seen.{Seen, taken_of, known_of}
@@ -22,22 +23,19 @@ use Rattle.afdx_tx.specs.Ports.{index_of}
 use Rattle.afdx_tx.specs.Gathering.{held_for}
 use Rattle.afdx_tx.proofs.SoundEmitter.{plan_is, count_is}
 use Rattle.afdx_tx.proofs.PortLink.{link_within}
-use Rattle.afdx_tx.proofs.PortSeats.{on_own, on_sub_vl, seats_more, seats_within}
+use Rattle.afdx_tx.proofs.PortSeats.{of_sub, on_own, on_sub_vl, seats_more, seats_within}
 
 -- what an item of a sub-VL's queue stands for is of one of its ports
 item_allowed : (config : Plan) (k s : ℕ) (item : ℕ × List ℕ)
     → IsItem (length (ports_of_sub config.ports (link_plan_at config.links k).id.0 s)) item
     → IsAllowed config k s (sent_of (ports_of_sub config.ports (link_plan_at config.links k).id.0 s) item)
 item_allowed config k s item is =
-    let on = on_sub_vl (link_plan_at config.links k).id.0 s in
-    let port = port_plan_at (filter on config.ports) item.0 in
-    let both = and_parts (nat_eq port.vl.0 (link_plan_at config.links k).id.0) (nat_eq port.sub s)
-    (filter_passes on config.ports item.0 (port_plan_at [] 0) is.port) in
+    let own = of_sub (Contains config.ports) config.ports (link_plan_at config.links k).id.0 s (All-contains_itself config.ports)
+    item.0 (port_plan_at [] 0) is.port in
     record {
-      port = All-filter on (λ p. Contains config.ports p) config.ports (All-contains_itself config.ports) item.0
-          (port_plan_at [] 0) is.port;
-      over = eqb-true _ _ both.0;
-      its = eqb-true _ _ both.1;
+      port = own.0;
+      over = own.1;
+      its = own.2;
       some = is.message.some;
       most = is.message.most;
     }
@@ -66,6 +64,16 @@ module _ (config : Plan) (links : List LinkState) (of : AreLinksOf config links)
     (of.each k lt).count,
     (of.each k lt).sub_vls,
   )
+
+  -- the sub-VL of the port at a place is one of the links'
+  pub port_within : (place : ℕ) → IsPlan config → place < length config.ports
+      → (link_place config (port_plan_at config.ports place) < length links)
+      × ((port_plan_at config.ports place).sub < length (link_at links (link_place config (port_plan_at config.ports place))).subs)
+      × SendsOver (port_plan_at config.ports place) (link_plan_at config.links (link_place config (port_plan_at config.ports place)))
+  port_within place valid lt =
+      let linked = link_within config (port_plan_at config.ports place) valid (valid.linked place _ lt) in
+      let here : link_place config (port_plan_at config.ports place) < length links = omega (arith, linked.0, count_is config links of) in
+      (here, sub_within _ _ here linked.1.sub, linked.1)
 
   -- messages of each sub-VL's own ports are of its ports in the configuration
   own_allowed : (read : Seen → List (ℕ × List ℕ))
@@ -166,14 +174,12 @@ pub own_messages : (tx : Tx) (place : ℕ) (own : List (List ℕ)) → IsPlan tx
 own_messages tx place own valid of items lt part =
     let port = port_plan_at tx.plan.ports place in
     let k = link_place tx.plan port in
-    let linked = link_within tx.plan port valid (valid.linked place _ lt) in
-    let link : k < length tx.links = let below = linked.0 in omega (arith, count_is tx.plan tx.links of) in
-    let sub = sub_within tx.plan tx.links of k port.sub link linked.1.sub in
+    let there = port_within tx.plan tx.links of place valid lt in
     let known = known_of (held_for tx port).seen in
     let mine = ports_of_sub tx.plan.ports port.vl.0 port.sub in
-    let ports : (held_for tx port).ports ≡ mine = ports_are tx.plan tx.links of k port.sub link sub
-    ∙ ap (λ (id : VlId). ports_of_sub tx.plan.ports id.0 port.sub) linked.1.id in
+    let ports : (held_for tx port).ports ≡ mine = ports_are tx.plan tx.links of k port.sub there.0 there.1
+    ∙ ap (λ (id : VlId). ports_of_sub tx.plan.ports id.0 port.sub) there.2.id in
     ap (λ ps. messages_of port (sent_by ps known)) ports
     ∙ sym (part_is mine (index_of tx.plan.ports place) port known (own_index tx.plan place valid lt)
-    (subst (λ ps. AreItems (length ps) known) ports (items k port.sub link sub)))
+    (subst (λ ps. AreItems (length ps) known) ports (items k port.sub there.0 there.1)))
     ∙ part

@@ -1,6 +1,6 @@
 -- How many of the first ports of a configuration are of a sub-VL.
-use Rattle.std.proofs.Common.{ℕ, ◌≡◌, ◌+◌, ◌<◌, ◌≤◌, List, ◌++◌, Bool, true, false, ◌&&◌, nat_eq, cond, length, take, drop, arith, refl, ap, ◌∙◌, sym, add-zero, All, filter, get_or}
-use Rattle.std.proofs.lemmas.Bool.{eq-eqb, ne_eqb, and_parts, eqb-true}
+use Rattle.std.proofs.Common.{ℕ, ◌≡◌, ◌+◌, ◌<◌, ◌≤◌, List, ◌++◌, Bool, true, false, ◌&&◌, nat_eq, cond, length, take, drop, arith, refl, ap, ◌∙◌, sym, add-zero, All}
+use Rattle.std.proofs.lemmas.Bool.{eq-eqb, ne_eqb, and_from, and_left, and_parts, eqb-true}
 use Rattle.std.proofs.lemmas.List.{length-append, take-append-drop}
 use Rattle.std.proofs.lemmas.List.Elements.{filter-append, All-filter, filter_passes}
 use Rattle.std.proofs.lemmas.List.Filters.{length-filter_more}
@@ -37,18 +37,7 @@ seats_within ports i vl sub =
 
 -- a port is of its own sub-VL
 pub on_own : (port : PortPlan) (vl sub : ℕ) → port.vl.0 ≡ vl → port.sub ≡ sub → on_sub_vl vl sub port ≡ true
-on_own port vl sub v s = ap (λ (b : Bool). b && nat_eq port.sub sub) (eq-eqb _ _ v) ∙ eq-eqb _ _ s
-
--- and of no other
-on_no_link : (port : PortPlan) (vl sub : ℕ) → (port.vl.0 ≡ vl → ⊥) → on_sub_vl vl sub port ≡ false
-on_no_link port vl sub v = ap (λ (b : Bool). b && nat_eq port.sub sub) (ne_eqb _ _ v)
-
-pub on_no_sub : (port : PortPlan) (vl sub : ℕ) → (port.sub ≡ sub → ⊥) → on_sub_vl vl sub port ≡ false
-on_no_sub port vl sub s = at (nat_eq port.vl.0 vl)
-  where
-    at : (b : Bool) → (b && nat_eq port.sub sub) ≡ false
-    at true = ne_eqb _ _ s
-    at false = refl
+on_own port vl sub v s = and_from _ _ (eq-eqb _ _ v) (eq-eqb _ _ s)
 
 -- the port at a place sends over this sub-VL of this link
 pub record IsAt (config : Plan) (place k s : ℕ) : Type 0 where
@@ -73,9 +62,9 @@ module _ (config : Plan) (place k s : ℕ) (at : IsAt config place k s) where
 -- it is of no other link
 pub other_at : (config : Plan) (place k s other t : ℕ) → IsPlan config → IsAt config place k s → other < length config.links
     → (other ≡ k → ⊥) → on_sub_vl (link_plan_at config.links other).id.0 t (port_plan_at config.ports place) ≡ false
-other_at config place k s other t valid at lt ne = on_no_link (port_plan_at config.ports place) _ t
+other_at config place k s other t valid at lt ne = and_left _ _ (ne_eqb _ _
     (λ e. ne (valid.links_apart other k lt at.link
-    (λ i. record { 0 = (sym e ∙ ap (λ (v : VlId). v.0) (sym at.over.id)) i })))
+    (λ i. record { 0 = (sym e ∙ ap (λ (v : VlId). v.0) (sym at.over.id)) i }))))
 
 -- the seats of the other sub-VLs are as many
 pub others_at : (config : Plan) (place vl t : ℕ) → place < length config.ports
@@ -93,23 +82,17 @@ place_at config shown place k s plan e is within link over sub =
 
 -- they are few
 pub few_ports : (config : Plan) (vl sub : ℕ) → IsPlan config → length (ports_of_sub config.ports vl sub) ≤ 64
-few_ports config vl sub valid =
-    let few = valid.few_ports vl sub in
-    let on : PortPlan → Bool = λ port. nat_eq port.vl.0 vl && nat_eq port.sub sub in
-    omega (arith, length-filter on config.ports)
+few_ports config vl sub valid = omega (arith, valid.few_ports vl sub, length-filter (on_sub_vl vl sub) config.ports)
 
--- and each is of it
+-- and each is one of the configuration's, and of it
+pub of_sub : (P : PortPlan → Type 0) (ports : List PortPlan) (vl sub : ℕ) → All P ports
+    → All (λ (port : PortPlan). P port × (port.vl.0 ≡ vl) × (port.sub ≡ sub)) (ports_of_sub ports vl sub)
+of_sub P ports vl sub all k d lt =
+    let both = and_parts _ _ (filter_passes (on_sub_vl vl sub) ports k d lt) in
+    (All-filter (on_sub_vl vl sub) P ports all k d lt, eqb-true _ _ both.0, eqb-true _ _ both.1)
+
 pub own_ports : (ports : List PortPlan) (of : SubVl) → All IsPort ports → of.sub < of.link.sub_vls
     → All (IsPortOf of) (ports_of_sub ports of.link.id.0 of.sub)
 own_ports ports of each lt k d below =
-    let on : PortPlan → Bool = λ port. nat_eq port.vl.0 of.link.id.0 && nat_eq port.sub of.sub in
-    let port = get_or (filter on ports) k d in
-    let both = and_parts (nat_eq (get_or (filter on ports) k d).vl.0 of.link.id.0)
-    (nat_eq (get_or (filter on ports) k d).sub of.sub)
-    (filter_passes on ports k d below) in
-    let sub = eqb-true _ _ both.1 in
-    record {
-      port = All-filter on IsPort ports each k d below;
-      over = record { id = λ i. record { 0 = sym (eqb-true _ _ both.0) i }; sub = omega arith };
-      of_sub = sub;
-    }
+    let own = of_sub IsPort ports of.link.id.0 of.sub each k d below in
+    record { port = own.0; over = record { id = λ i. record { 0 = sym own.1 i }; sub = omega (arith, own.2, lt) }; of_sub = own.2 }

@@ -1,17 +1,15 @@
 -- The counts of links are published one after the other.
-use Rattle.std.proofs.Common.{ℕ, ◌≡◌, ◌+◌, ◌≤◌, ◌<◌, List, [], ◌++◌, length, set, nat_eq, zero-le, arith, refl, sym, ap, ◌∙◌}
-use Rattle.std.proofs.lemmas.List.{length-set, get_or-set_other}
-use Rattle.std.proofs.lemmas.List.Elements.{filter-append}
+use Rattle.std.proofs.Common.{ℕ, ◌≡◌, ◌≤◌, ◌<◌, List, [], ◌++◌, length, zero-le, arith, sym, ap, ◌∙◌}
 use Rattle.afdx_plan.specs.declared.link_plan.LinkPlan.{LinkPlan}
 use Rattle.afdx_frame.specs.Header.{link_in}
 use Rattle.redundant_mux.specs.Entry.{Entry}
 use Rattle.status_board.specs.declared.counts.Counts.{Counts}
 use Rattle.status_board.specs.History.{zeros, NoFieldFalls}
-use Rattle.status_board.specs.Views.{Published, published, last_of, no_cell, with_entry}
+use Rattle.status_board.specs.Views.{Published, published, last_of, with_entry}
 use Rattle.status_board.proofs.Histories.{last_or-push, falls_not_same, falls_not_through}
 use Rattle.afdx_legal.specs.Streams.{link_stream}
 use Rattle.afdx_legal.proofs.CountingLemmas.{counts_more}
-use Rattle.vl_link.proofs.Choosing.{each_set}
+use Rattle.afdx_legal.proofs.StreamLemmas.{with_append}
 use Rattle.vl_link.specs.Links.{LinkState, link_at}
 use Rattle.vl_link.specs.Kept.{IsKept}
 use Rattle.afdx_tx.specs.Emitter.{AreKept, IsSamePlan}
@@ -23,24 +21,6 @@ pub record IsPublishing (links : List LinkState) (old new : List Published) (man
   pub count : length new ≡ length old
   pub first : (k : ℕ) → k < many → published new k ≡ with_entry (published old k) (link_at links k).counts
   pub rest : (k : ℕ) → many ≤ k → published new k ≡ published old k
-
-pub publishing_none : (links : List LinkState) (board : List Published) → IsPublishing links board board 0
-publishing_none links board = record { count = refl; first = λ k under. absurd (omega arith); rest = λ k _. refl }
-
-pub publishing_more : (links : List LinkState) (old mid : List Published) (many : ℕ) → many < length mid
-    → IsPublishing links old mid many
-    → IsPublishing links old (set mid many (with_entry (published mid many) (link_at links many).counts)) (many + 1)
-publishing_more links old mid many inside p =
-    let next = with_entry (published mid many) (link_at links many).counts in
-    let spare : Published = record { cell = no_cell; history = [] } in
-    record {
-      count = length-set mid many next ∙ p.count;
-      first = each_set (λ k after. k < many + 1 → after ≡ with_entry (published old k) (link_at links k).counts) mid
-          many next spare inside
-          (λ _. ap (λ (w : Published). with_entry w (link_at links many).counts) (p.rest many (omega arith)))
-          (λ k ne under. p.first k (omega arith));
-      rest = λ k over. get_or-set_other mid many k next spare (λ e. omega arith) ∙ p.rest k (omega arith);
-    }
 
 pub publishing_all : (links : List LinkState) (old new : List Published) → IsPublishing links old new (length links)
     → PublishesCounts links old new
@@ -66,18 +46,13 @@ reaches_none links board count none = record {
     least : {c : Counts} → NoFieldFalls zeros c
     least = record { frames = zero-le; bytes = zero-le; messages = zero-le; last = zero-le }
 
--- the stream of a link grows with what was handed over
-stream_grows : (vl : ℕ) (before entries : List Entry)
-    → link_stream vl (before ++ entries) ≡ link_stream vl before ++ link_stream vl entries
-stream_grows vl before entries = filter-append (λ (e : Entry). nat_eq (link_in e.frame) vl) before entries
-
 -- no count of a link falls as more is handed over
 rises_on : (old new : LinkState) (before entries after : List Entry) → new.plan ≡ old.plan → after ≡ before ++ entries
     → IsKept old before → IsKept new after → NoFieldFalls old.counts new.counts
 rises_on old new before entries after plan grown was is =
     let vl = old.plan.id.0 in
     let stream = ap (λ (p : LinkPlan). link_stream p.id.0 after) plan ∙ ap (link_stream vl) grown
-    ∙ stream_grows vl before entries in
+    ∙ with_append (λ (e : Entry). link_in e.frame) vl before entries in
     rw (was.counted, is.counted, stream)
     (counts_more new.pace.gap (link_stream vl before) (link_stream vl entries) (rw stream at is.spaced))
 

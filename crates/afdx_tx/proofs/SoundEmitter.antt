@@ -63,17 +63,6 @@ links_apart config links valid of i j ilt jlt e =
     let id = λ (k : ℕ) (lt : k < length links). ap (λ (p : LinkPlan). p.id) (plan_is config links of k lt) in
     valid.links_apart i j (omega arith) (omega arith) (id i ilt ∙ e ∙ sym (id j jlt))
 
--- the links stay those of the configuration
-links_after : (config : Plan) (old new : List LinkState) → AreLinksOf config old → IsSamePlan old new
-    → AreLinks new → AreLinksOf config new
-links_after config old new of same each = plans_after config old new of (record {
-  count = same.count;
-  end_system = λ k lt. (same.each k lt).end_system;
-  plan = λ k lt. (same.each k lt).plan;
-  subs = λ k lt. (same.each k lt).count;
-  ports = λ k s lt slt. ((same.each k lt).subs s).ports;
-}) each
-
 -- the emitter stays sound
 pub sound_after : (config : Plan) (old new : List LinkState) (lines : Lines) (now : ℕ) → IsPlan config
     → AreLinksOf config old → IsSteady now old new lines → IsMirrored lines
@@ -81,7 +70,13 @@ pub sound_after : (config : Plan) (old new : List LinkState) (lines : Lines) (no
 sound_after config old new lines now valid of s mirrored whole =
     record {
       valid = valid;
-      of_plan = links_after config old new of s.same s.each;
+      of_plan = plans_after config old new of (record {
+        count = s.same.count;
+        end_system = λ k lt. (s.same.each k lt).end_system;
+        plan = λ k lt. (s.same.each k lt).plan;
+        subs = λ k lt. (s.same.each k lt).count;
+        ports = λ k t lt tlt. ((s.same.each k lt).subs t).ports;
+      }) s.each;
       kept = s.kept;
       later = s.later;
       mirrored = mirrored;
@@ -121,24 +116,13 @@ module _ (config : Plan) (links : List LinkState) (lines : Lines) (moment : ℕ)
         (sym (plan_here k inside))
         ∙ ap counts_in (sound_streams k inside)
 
--- the ports of every queue may send on
-pub receiving_still : (old new : List LinkState) → IsSamePlan old new → AreReceiving old → AreReceiving new
-receiving_still old new same r k s klt slt =
-    let o : k < length old = omega (arith, same.count) in
-    let on = same.each k o in
-    let t : s < length (link_at old k).subs = omega (arith, on.count) in
-    still_receiving (held_at (link_at old k).subs s).seen (held_at (link_at new k).subs s).seen (on.subs s).queue (r k s o t)
-
--- the queues of a link are the same where the queue of each sub-VL is
-pub alike_link_queues : (old new : LinkState) → length new.subs ≡ length old.subs
-    → ((s : ℕ) → s < length old.subs → held_queue (held_at new.subs s) ≡ held_queue (held_at old.subs s))
-    → link_queues new ≡ link_queues old
-alike_link_queues old new count each = map_alike held_queue new.subs old.subs nothing_held count each
-
--- and those of all links where the queues of each link are
+-- the queues of all links are the same if those of the sub-VLs are
 pub alike_queues : (old new : List LinkState) → length new ≡ length old
-    → ((k : ℕ) → k < length old → link_queues (link_at new k) ≡ link_queues (link_at old k)) → queues_in new ≡ queues_in old
-alike_queues old new count each = map_alike link_queues new old no_link count each
+    → ((k : ℕ) → k < length old → length (link_at new k).subs ≡ length (link_at old k).subs)
+    → ((k s : ℕ) → k < length old → held_queue (held_at (link_at new k).subs s) ≡ held_queue (held_at (link_at old k).subs s))
+    → queues_in new ≡ queues_in old
+alike_queues old new count subs each = map_alike link_queues new old no_link count
+    (λ k lt. map_alike held_queue (link_at new k).subs (link_at old k).subs nothing_held (subs k lt) (λ s _. each k s lt))
 
 -- a sub-VL is closed or not as before
 pub same_totals : (old new : List LinkState) → IsSamePlan old new → (k s : ℕ) → total_in new k s ≡ total_in old k s
@@ -150,9 +134,8 @@ same_totals old new p k s = ⊎_elim
 
 -- the queues of all links stay the same
 pub same_queues : (old new : List LinkState) → IsSamePlan old new → queues_in new ≡ queues_in old
-same_queues old new p = alike_queues old new p.count
-    (λ k lt. let link = p.each k lt in alike_link_queues (link_at old k) (link_at new k) link.count
-    (λ s slt. same_name (held_at (link_at old k).subs s).seen (held_at (link_at new k).subs s).seen (link.subs s).queue))
+same_queues old new p = alike_queues old new p.count (λ k lt. (p.each k lt).count)
+    (λ k s lt. same_name (held_at (link_at old k).subs s).seen (held_at (link_at new k).subs s).seen ((p.each k lt).subs s).queue)
 
 -- a list that keeps a log in which they do
 turns_keeps : (plan : Plan) (net : Net) (stands : Bool) (handed : List Entry) (lines : Lines) → Keeps net stands handed lines.logged

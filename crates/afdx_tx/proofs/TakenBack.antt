@@ -1,5 +1,5 @@
 -- The queues of an emitter take the senders of its ports back.
-use Rattle.std.proofs.Common.{ℕ, zero, suc, ◌≡◌, ◌+◌, ◌<◌, ◌≤◌, List, [], ◌∷◌, Bool, true, false, cond, length, set, arith, refl, ap, ◌∙◌, sym, subst, ⊎_elim, Some}
+use Rattle.std.proofs.Common.{ℕ, zero, suc, ◌≡◌, ◌+◌, ◌<◌, ◌≤◌, List, [], ◌∷◌, Bool, true, false, cond, length, set, arith, refl, ap, ◌∙◌, sym, subst, ⊎_elim}
 use Rattle.std.specs.Prelude.{All, Contains}
 use Rattle.std.proofs.Math.Seq.{take-length}
 use Rattle.std.proofs.lemmas.Bool.{and_parts, cases_lt, eqb-true}
@@ -41,22 +41,14 @@ only_on (receiving a) (receiving b) (gathered c) p q = absurd q
 only_on (gathered a) (gathered b) (receiving c) p q = absurd q
 only_on a b c p q = absurd p
 
--- what it took stands, and what is known of it, and its name, and its receiver is at hand
-only_taken : (old new : Seen) → OnlyTakesBack old new → taken_of new ≡ taken_of old
-only_taken (receiving old) (receiving new) only = ap (λ r. r.taken) only
-only_taken (gathered old) (gathered new) only = ap (λ g. g.taken) only
-only_taken old new only = absurd only
+-- what is read of it stands, but for who is back
+only_read : {X : Type 0} (read : Seen → X) → ((r : ReceiverView) (back : List Brought) → read (receiving (record r { back = back })) ≡ read (receiving r))
+    → (old new : Seen) → OnlyTakesBack old new → read new ≡ read old
+only_read read same (receiving old) (receiving new) only = ap (λ r. read (receiving r)) only ∙ same old new.back
+only_read read same (gathered old) (gathered new) only = ap (λ g. read (gathered g)) only
+only_read read same old new only = absurd only
 
-only_known : (old new : Seen) → OnlyTakesBack old new → known_of new ≡ known_of old
-only_known (receiving old) (receiving new) only = ap (λ r. r.taken) only
-only_known (gathered old) (gathered new) only = ap (λ g. known_of (gathered g)) only
-only_known old new only = absurd only
-
-only_name : (old new : Seen) → OnlyTakesBack old new → queue_of new ≡ queue_of old
-only_name (receiving old) (receiving new) only = ap (λ r. Some r.queue) only
-only_name (gathered old) (gathered new) only = refl
-only_name old new only = absurd only
-
+-- and its receiver is at hand
 only_receiving : (old new : Seen) → OnlyTakesBack old new → IsReceiving old → IsReceiving new
 only_receiving (receiving old) (receiving new) only may = tt
 only_receiving (gathered old) new only may = absurd may
@@ -83,16 +75,6 @@ more_back (gathered old) sender new b takes was = absurd takes
 one_back : (old : Seen) (sender : SenderView) (new : Seen) → TakesBack old sender new → Contains (back_of new) (brought_by sender)
 one_back (receiving old) sender new takes = rw takes (Contains-push old.back (brought_by sender))
 one_back (gathered old) sender new takes = absurd takes
-
--- none was taken back yet
-pub take_none : (links : List LinkState) → OnlyTakeBack links links
-take_none links = record {
-  count = refl;
-  links = λ k. refl;
-  subs = λ k. refl;
-  helds = λ k s. refl;
-  queues = λ k s. only_here (held_at (link_at links k).subs s).seen;
-}
 
 -- a sub-VL but for who came back to its queue
 record SubTakes (old new : Held) : Type 0 where
@@ -139,8 +121,8 @@ back_kept old new t = record {
           of = ap (λ (h : Held). h.of) (t.helds k s);
           ports = ports;
           left = ap (λ (h : Held). h.left) (t.helds k s);
-          taken = only_taken _ _ (t.queues k s);
-          items = λ items. rw (ports, only_known _ _ (t.queues k s)) items;
+          taken = only_read taken_of (λ r b. refl) _ _ (t.queues k s);
+          items = λ items. rw (ports, only_read known_of (λ r b. refl) _ _ (t.queues k s)) items;
         };
   };
 }
@@ -148,7 +130,7 @@ back_kept old new t = record {
 -- the queue of each sub-VL is the one that it was
 pub back_name : (old new : List LinkState) (k s : ℕ) → OnlyTakeBack old new
     → queue_of (held_at (link_at new k).subs s).seen ≡ queue_of (held_at (link_at old k).subs s).seen
-back_name old new k s t = only_name _ _ (t.queues k s)
+back_name old new k s t = only_read queue_of (λ r b. refl) _ _ (t.queues k s)
 
 -- a port that was taken back stays so
 pub stays_back : (config : Plan) (links : List LinkState) (k s : ℕ) (sender : SenderView) (new : LinkState) (port : PortView)

@@ -1,23 +1,25 @@
 -- The worked drain, by computation.
-use Rattle.std.proofs.Common.{◌≡◌, ℕ, zero, suc, ◌<◌, ◌≤◌, [], ◌∷◌, length, true, false, None, refl, arith, inr}
-use Rattle.afdx_plan.specs.Config.{link_plan_at}
+use Rattle.std.proofs.Common.{◌≡◌, ℕ, zero, suc, ◌<◌, [], ◌∷◌, length, true, false, None, refl, arith, inr}
 use Rattle.afdx_plan.specs.Demo.{demo_plan, demo_link}
-use Rattle.afdx_plan.specs.Plan.{bag_micros}
 use Rattle.afdx_plan.proofs.DemoPlan.{demo_valid}
 use Rattle.afdx_frame.specs.Checksum.{checksum}
 use Rattle.afdx_frame.specs.Cutting.{cutting}
 use Rattle.afdx_frame.specs.declared.net.Net.TheVariants.{A}
 use Rattle.afdx_frame.specs.Fragments.{fragments_at, blanked}
 use Rattle.afdx_frame.specs.Frame.{addresses, header_front, internet_header, link_header, udp_header, datagram, unnumbered}
-use Rattle.redundant_mux.specs.Lines.{stands_for, log}
+use Rattle.redundant_mux.specs.Lines.{log}
 use Rattle.vl_shaper.specs.Pace.{IsLater}
 use Rattle.afdx_legal.specs.Streams.{latest}
-use Rattle.afdx_legal.specs.Done.{IsReleased, Owes, IsAllDone}
+use Rattle.afdx_legal.specs.Done.{IsReleased, Owes}
 use Rattle.afdx_legal.specs.WorkedMessage.{one_byte_accepted, one_frame}
 use Rattle.vl_link.specs.declared.served.Served.TheVariants.{Nothing, Released}
 use Rattle.afdx_tx.specs.Drain.{Drains, IsDrained}
-use Rattle.afdx_tx.specs.DrainEnds.{stream_at, owed_at}
-use Rattle.afdx_tx.specs.WorkedDrain.{DrainsOne, no_lines, one_line}
+use Rattle.afdx_tx.specs.DrainEnds.{stream_at, owed_at, DrainsOne, no_lines, one_line}
+
+-- there is one link, and one sub-VL
+only_one : (P : ℕ → Type 0) → P 0 → (k : ℕ) → k < 1 → P k
+only_one P here zero lt = here
+only_one P here (suc k) lt = absurd (omega arith)
 
 -- the message's fragment is handed over
 released : IsReleased 1 demo_link (one_byte_accepted 0) (log one_line) 0
@@ -64,11 +66,7 @@ first_turn = (
 -- the second has nothing to hand over
 second_turn : Drains 2000 1 demo_link (one_byte_accepted 0) one_line one_line Nothing
 unfolding log checksum addresses header_front internet_header link_header udp_header datagram unnumbered
-second_turn = (inr (refl, record { each = none; others = λ s le. tt }), refl)
-  where
-    none : (s : ℕ) → s < 1 → IsReleased 1 demo_link (one_byte_accepted 0) (log one_line) s
-    none zero lt = released
-    none (suc s) lt = absurd (omega arith)
+second_turn = (inr (refl, record { each = only_one _ released; others = λ s le. tt }), refl)
 
 -- a poll is the turn of the one link
 first_poll : IsDrained 1000 demo_plan one_byte_accepted no_lines one_line
@@ -82,37 +80,20 @@ fresh : (k : ℕ) → k < 1 → IsLater (latest None (stream_at demo_plan k no_l
 unfolding log
 fresh k lt = tt
 
--- the gap of the one link
-one_gap : (k : ℕ) → k < 1 → bag_micros (link_plan_at demo_plan.links k).bag ≤ 1000
-one_gap zero lt = omega arith
-one_gap (suc k) lt = absurd (omega arith)
-
--- which owes one frame
-one_owed : (k : ℕ) → k < 1 → owed_at demo_plan one_byte_accepted k no_lines < 2
+-- the link owes one frame
+one_owed : owed_at demo_plan one_byte_accepted 0 no_lines ≡ 1
 unfolding log checksum addresses header_front internet_header link_header udp_header datagram unnumbered cutting fragments_at
-one_owed zero lt = let owed : owed_at demo_plan one_byte_accepted 0 no_lines ≡ 1 = refl in omega arith
-one_owed (suc k) lt = absurd (omega arith)
-
--- both networks stand
-one_stands : (k : ℕ) → k < 1 → stands_for (link_plan_at demo_plan.links k).networks one_line ≡ true
-one_stands zero lt = refl
-one_stands (suc k) lt = absurd (omega arith)
-
--- and then none
-all_done : IsAllDone demo_plan one_byte_accepted (log one_line)
-all_done zero inside zero index = released
-all_done zero inside (suc sub) index = absurd (omega arith)
-all_done (suc k) inside sub index = absurd (omega arith)
+one_owed = refl
 
 -- the row
 pub drains_one : DrainsOne
 drains_one = record {
   valid = demo_valid;
   later = fresh;
-  gap = one_gap;
+  gap = only_one _ (omega arith);
   apart = (omega arith, (omega arith, tt));
   drained = (one_line, first_poll, (one_line, second_poll, refl));
-  stand = one_stands;
-  owed = one_owed;
-  done = all_done;
+  stand = only_one _ refl;
+  owed = only_one _ (omega (arith, one_owed));
+  done = only_one _ (only_one _ released);
 }

@@ -9,6 +9,4 @@ pub mod Ports
 pub mod Drain
 pub mod Gathering
 pub mod Closing
-pub mod Done
 pub mod DrainEnds
-pub mod WorkedDrain

@@ -1,5 +1,5 @@
 -- The counts of the links are published.
-use Rattle.std.specs.Prelude.{ℕ, ◌≡◌, ◌<◌, List, length}
+use Rattle.std.specs.Prelude.{ℕ, ◌≡◌, ◌↔◌, ◌<◌, List, length, Option, IsNone, IfSome}
 use Rattle.afdx_plan.specs.Config.{link_plan_at}
 use Rattle.status_board.specs.declared.counts.Counts.{Counts}
 use Rattle.status_board.specs.History.{NoFieldFalls}
@@ -8,6 +8,7 @@ use Rattle.afdx_legal.specs.Own.{own_stream}
 use Rattle.afdx_legal.specs.Counting.{counts_in}
 use Rattle.vl_link.specs.Links.{LinkState, link_at}
 use Rattle.afdx_tx.specs.Emitter.{Tx}
+use Rattle.afdx_tx.specs.Naming.{IsLinkAt, LacksLink}
 
 -- a board has these links, and no count of a link falls from what was published last of it
 pub record Reaches (links : List LinkState) (board : List Published) : Type 0 where
@@ -23,6 +24,12 @@ pub record PublishesCounts (links : List LinkState) (old new : List Published) :
 -- the counts of the own stream of the link at a place, the longer of its two
 abbrev pub counts_at : Tx → ℕ → Counts
 counts_at tx k = counts_in (own_stream (link_plan_at tx.plan.links k).id.0 tx.lines.a tx.lines.b)
+
+-- the counts of the link with an identifier, as they would be published now, or none where there is no such link
+pub record ShowsCounts (tx : Tx) (vl : ℕ) (shown : Option Counts) : Type 0 where
+  pub missing : IsNone shown ↔ LacksLink tx.plan vl
+  pub counts : IfSome shown (λ counts. counts ≡ counts_in (own_stream vl tx.lines.a tx.lines.b))
+  pub as_published : IfSome shown (λ counts. (place : ℕ) → IsLinkAt tx.plan vl place → counts ≡ counts_at tx place)
 
 -- An emitter but for its board, which has one entry more of each link, in the order of the plan: the
 -- counts of the link's own stream. No field of it falls.

@@ -1,14 +1,33 @@
--- What the turns of a poll keep, up to some link.
-use Rattle.std.specs.Prelude.{ℕ, ◌≡◌, ◌≤◌, List, length}
+-- What the parts of an emitter tell one another, of all its links.
+use Rattle.std.specs.Prelude.{ℕ, ◌≡◌, ◌<◌, ◌≤◌, List, Bool, true, false, length, MatchBool}
+use Rattle.std.specs.List.{AllWithin, HoldsAt}
 use Rattle.afdx_frame.specs.declared.net.Net.TheVariants.{A}
-use Rattle.redundant_mux.specs.Lines.{Lines, BothEndure, log}
-use Rattle.afdx_tx.specs.declared.report.Release.{Release}
-use Rattle.afdx_legal.specs.Legal.{AreKnown}
+use Rattle.redundant_mux.specs.Lines.{Lines, BothEndure, IsMirrored, log}
+use Rattle.afdx_legal.specs.Allowed.{AreAllowed}
+use Rattle.afdx_legal.specs.Legal.{AreKnown, IsLegal}
+use Rattle.afdx_legal.specs.Own.{AreOwnStreams}
+use Rattle.afdx_legal.specs.Turns.{TakeTurns}
+use Rattle.vl_link.specs.LinkDone.{TellsLinkDone}
 use Rattle.vl_link.specs.Links.{LinkState, link_at}
 use Rattle.vl_link.specs.Turn.{AreTurns}
+use Rattle.afdx_tx.specs.declared.report.Release.{Release}
+use Rattle.afdx_tx.specs.Drain.{accepted_in}
+use Rattle.afdx_tx.specs.Emitter.{Tx, plans, AreLinks, AreKept, AreCarried, AreWhole, AreServedBy, AreTied, HaveOwnItems, IsSamePlan, taken_in}
 use Rattle.afdx_tx.specs.Run.{IsTurnAt}
 use Rattle.afdx_tx.specs.Report.{IsTold}
-use Rattle.afdx_tx.specs.Emitter.{plans, AreLinks, AreKept, AreCarried, AreWhole, AreServedBy, HaveOwnItems, IsSamePlan}
+
+-- What holds of every emitter. What was sent is legal for the messages that were taken, and so for those
+-- that were accepted; these are messages that the ports may send; and each stream of what was sent is the
+-- link's own.
+pub record Conforms (tx : Tx) : Type 0 where
+  pub legal : IsLegal tx.plan (taken_in tx.links) tx.lines.a tx.lines.b
+  pub legal_accepted : IsLegal tx.plan (accepted_in tx.links) tx.lines.a tx.lines.b
+  pub turns : TakeTurns tx.plan tx.lines.a tx.lines.b
+  pub taken : AreAllowed tx.plan (taken_in tx.links)
+  pub accepted : AreAllowed tx.plan (accepted_in tx.links)
+  pub tied : AreTied tx.links (log tx.lines)
+  pub mirrored : IsMirrored tx.lines
+  pub streams : AreOwnStreams tx.plan (log tx.lines) tx.lines.a tx.lines.b
 
 -- what every turn keeps
 pub record IsSteady (now : ℕ) (old links : List LinkState) (lines : Lines) : Type 0 where
@@ -31,3 +50,8 @@ pub record IsPolling (now i : ℕ) (old links : List LinkState)
   pub told : IsTold now released before lines
   pub room : length released ≤ i
   pub endure : BothEndure before lines
+
+-- whether all links are done, or one isn't
+abbrev pub TellsAllDone : Bool → List LinkState → Type 0
+TellsAllDone done links = MatchBool done (AllWithin (TellsLinkDone true) links 0 (length links))
+    ((k : ℕ) × (k < length links) × HoldsAt (TellsLinkDone false) links k)

@@ -1,4 +1,4 @@
-//! The emitter, while ports send.
+//! The emitter while its ports send.
 use crate::draining::Draining;
 use crate::fault::{NoSuchSub, PollFault};
 use crate::gather::has_every_place;
@@ -7,16 +7,15 @@ use crate::report::Report;
 use crate::transmitter::Transmitter;
 use afdx_plan::{Config, VlId};
 use redundant_mux::Network;
-use status_board::{Board, Counts};
+use status_board::Counts;
 use std::marker::Model;
 use std::sync::Wait;
-use vl_link::Link;
 
-/// Sends what ports hand over, on two networks. Contracts see its plan, its links, what was handed
-/// to the networks, the moment of the last poll, and what was published.
+/// Transmits the messages of its ports on two networks. Contracts see its plan, its links, what was
+/// sent to the networks, the time of the last poll, and what was published.
 #[derive(Drop)]
 pub struct Emitter<A: Network + Drop, B: Network + Drop> {
-    inner: Transmitter<A, B>,
+    pub(crate) inner: Transmitter<A, B>,
 }
 
 impl<A: Network + Drop, B: Network + Drop> Model for Emitter<A, B> {
@@ -30,90 +29,62 @@ impl<A: Network + Drop, B: Network + Drop> Model for Emitter<A, B> {
 }
 
 impl<A: Network + Drop, B: Network + Drop> Emitter<A, B> {
-    ghost use Rattle.std.specs.Prelude.{◌≡◌, ℕ, ◌≤◌, ◌↔◌, [], true, false, length, IsNone, IsErr, OnErr, OnOk, IfOk, IfErr, IfSome};
-    ghost use Rattle.afdx_plan.specs.Config.{IsPlan};
+    ghost use Rattle.std.specs.Prelude.{◌≡◌, ℕ, ◌≤◌, ◌↔◌, false, length, IsErr, OnErr, OnOk, IfOk, IfErr};
     ghost use Rattle.redundant_mux.specs.Lines.{BothEndure, is_alive, log, IsMirrored};
     ghost use Rattle.afdx_legal.specs.Legal.{IsLegal};
     ghost use Rattle.afdx_legal.specs.Allowed.{AreAllowed};
     ghost use Rattle.afdx_legal.specs.Turns.{TakeTurns};
     ghost use Rattle.afdx_tx.specs.Drain.{accepted_in};
     ghost use Rattle.afdx_tx.specs.Run.{IsRun};
-    ghost use Rattle.afdx_legal.specs.Own.{own_stream, AreOwnStreams};
-    ghost use Rattle.afdx_legal.specs.Counting.{counts_in};
+    ghost use Rattle.afdx_legal.specs.Own.{AreOwnStreams};
     ghost use Rattle.afdx_tx.specs.Report.{Polls};
-    ghost use Rattle.afdx_tx.specs.Emitter.{Tx, IsFreshTx, AreFreshLinks, AreTied, taken_in, queues_in, total_in};
-    ghost use Rattle.status_board.specs.Views.{published};
-    ghost use Rattle.afdx_tx.specs.Naming.{IsLinkAt, LacksLink};
-    ghost use Rattle.afdx_tx.specs.Publishing.{Publishes, counts_at};
+    ghost use Rattle.afdx_tx.specs.Emitter.{AreTied, taken_in, queues_in, total_in};
+    ghost use Rattle.afdx_tx.specs.Publishing.{Publishes, ShowsCounts};
     ghost use Rattle.afdx_tx.specs.Ports.{AreOpenedWith, LacksPlace};
     ghost use Rattle.afdx_tx.specs.Gathering.{IsGatheredTx};
     ghost use Rattle.afdx_tx.specs.Closing.{LacksSub, ClosesTx};
-
-    /// Over fresh links of a configuration, networks that were handed nothing, and a board of the
-    /// links on which nothing was published.
-    pub(crate) fn over(config: Config, links: Vec<Link>, a: A, b: B, board: Board) -> Emitter<A, B>
-        requires valid { IsPlan config }
-        requires fresh { AreFreshLinks config links.items }
-        requires a_empty { A.handed a ≡ [] }
-        requires b_empty { B.handed b ≡ [] }
-        requires a_new { A.failures a ≡ 0 }
-        requires b_new { B.failures b ≡ 0 }
-        requires board { length board ≡ length config.links }
-        requires unpublished { (link : ℕ) → (published board link).history ≡ [] }
-        ensures fresh { IsFreshTx config result }
-        ensures links { result.links ≡ links.items }
-        ensures board { result.board ≡ board }
-    {
-        Emitter {
-            inner: Transmitter::over(config, links, a, b, board),
-        }
-    }
 
     /// The configuration that it was opened with.
     pub fn config(&self) -> &Config
         ensures { result.now ≡ self.now.plan }
     {
-        self.inner.config()
+        &self.inner.config
     }
 
-    /// The moment of the last poll that didn't answer `BothDown`, in microseconds, and 0 at first.
+    /// The time of the last poll that didn't return `BothDown`, in microseconds, and 0 at first.
     pub fn now(&self) -> u64
         ensures { result ≡ self.now.moment }
     {
-        self.inner.now()
+        self.inner.moment
     }
 
-    /// Network A, with what was handed to it so far.
+    /// Network A, with what was sent to it so far.
     pub fn network_a(&self) -> &A
         ensures handed { A.handed result.now ≡ self.now.lines.a }
         ensures failures { A.failures result.now ≡ self.now.lines.a_failures }
     {
-        self.inner.network_a()
+        self.inner.mux.network_a()
     }
 
-    /// Network B, with what was handed to it so far.
+    /// Network B, with what was sent to it so far.
     pub fn network_b(&self) -> &B
         ensures handed { B.handed result.now ≡ self.now.lines.b }
         ensures failures { B.failures result.now ≡ self.now.lines.b_failures }
     {
-        self.inner.network_b()
+        self.inner.mux.network_b()
     }
 
-    /// The counts of a link, by its identifier, as `publish` would publish them now: of the longer of its
-    /// two streams the frames, the sum of their lengths in bytes, the messages whose last frame is among
-    /// them, and the moment of the last frame in microseconds, 0 where there is none. `None` exactly
-    /// where the configuration has no such link. It reads no board, waits for nobody and takes no memory.
+    /// The counts of a link, by its identifier, as `publish` would publish them now: the frames of the
+    /// longer of its two streams, the sum of their lengths in bytes, the messages whose last frame is among
+    /// them, and the time of the last frame in microseconds, or 0 if there is none. Returns `None` exactly
+    /// if the configuration has no such link. It reads no board, waits for nobody and takes no memory.
     pub fn counts(&self, vl: VlId) -> Option<Counts>
-        ensures missing { IsNone result ↔ LacksLink self.now.plan vl.0 }
-        ensures counts { IfSome result (λ counts.
-            counts ≡ counts_in (own_stream vl.0 self.now.lines.a self.now.lines.b)) }
-        ensures as_published { IfSome result (λ counts. (place : ℕ) →
-            IsLinkAt self.now.plan vl.0 place → counts ≡ counts_at self.now place) }
+        ensures { ShowsCounts self.now vl.0 result }
     {
         self.inner.counts(vl)
     }
 
-    /// The two networks, with what was handed to them.
+    /// The two networks, with what was sent to them.
     pub fn into_networks(self) -> (A, B)
         ensures a { A.handed result.0 ≡ self.lines.a }
         ensures b { B.handed result.1 ≡ self.lines.b }
@@ -127,11 +98,11 @@ impl<A: Network + Drop, B: Network + Drop> Emitter<A, B> {
         inner.into_networks()
     }
 
-    /// Gives each link its turn at a moment, in microseconds, in the order of the configuration. A due
+    /// Gives each link its turn at the time `now`, in microseconds, in the order of the configuration. A due
     /// link with something to send releases exactly one frame (ARINC 664 Part 7, bandwidth allocation
-    /// gap), unless the last network that carries it fails with that frame. A link of whose networks none
-    /// stands isn't looked at. After `BothDown` nothing has changed. It waits for nobody, and its body
-    /// asks for no memory.
+    /// gap), unless the last network that carries it fails with that frame. A link whose networks are all
+    /// down is skipped. After `BothDown` nothing has changed. It waits for nobody, and its body takes no
+    /// memory.
     pub fn poll(&mut self, now: u64) -> Result<Report, PollFault>
         requires { self.old.moment ≤ now }
         ensures both_down { IsErr result ↔ (is_alive self.old.lines ≡ false) }
@@ -155,11 +126,11 @@ impl<A: Network + Drop, B: Network + Drop> Emitter<A, B> {
         self.inner.poll(now)
     }
 
-    /// Closes a sub-VL, by its link and its index there, and says how many messages of its ports were
-    /// accepted. None is accepted from then on: each later close says the same, and so many are known
-    /// once the ports are gathered. Those that were accepted still go out. Refused exactly where the
+    /// Closes a sub-VL, by its link and its index there, and returns how many messages of its ports were
+    /// accepted. None is accepted from then on: each later close returns the same number, and so does
+    /// gathering the ports. Messages that were accepted are still transmitted. It fails exactly if the
     /// configuration has no such sub-VL; then nothing has changed. It waits for nobody, and its body
-    /// asks for no memory.
+    /// takes no memory.
     pub fn close(&mut self, vl: VlId, sub: u8) -> Result<u64, NoSuchSub>
         ensures missing { IsErr result ↔ LacksSub self.old.plan vl.0 sub }
         ensures unchanged { OnErr result (self.new ≡ self.old) }
@@ -173,7 +144,7 @@ impl<A: Network + Drop, B: Network + Drop> Emitter<A, B> {
     }
 
     /// Publishes the counts of each link, once, in the order of the configuration: those of the longer of
-    /// its two streams, which were kept as the frames went out. It may wait for a monitor that is in the
+    /// its two streams, which were kept as the frames were sent. It may wait for a monitor that is in the
     /// middle of a reading. It takes no memory.
     pub fn publish<R: Wait>(&mut self, rt: &R)
         ensures { Publishes self.old self.new }
@@ -181,9 +152,9 @@ impl<A: Network + Drop, B: Network + Drop> Emitter<A, B> {
         self.inner.publish(rt);
     }
 
-    /// Takes all ports back, in any order, so that what they had accepted is known whole and can be
-    /// sent to its end. Refused exactly where a port of the configuration isn't in the list; then
-    /// both come back as they were. It waits for nobody, and its body asks for no memory.
+    /// Takes back all ports, in any order, and starts draining: all accepted messages are then known, and
+    /// can be sent. It fails exactly if a port of the configuration isn't in the list; then both are
+    /// returned as they were. It waits for nobody, and its body takes no memory.
     pub fn gather(self, ports: Vec<TxPort>) -> Result<Draining<A, B>, (Emitter<A, B>, Vec<TxPort>)>
         requires opened { AreOpenedWith self ports.items }
         ensures gathered { IfOk result (λ draining. IsGatheredTx self ports.items draining) }
@@ -202,6 +173,6 @@ impl<A: Network + Drop, B: Network + Drop> Emitter<A, B> {
         }
         let Emitter { mut inner } = self;
         inner.gather(ports);
-        Ok(Draining::over(inner))
+        Ok(Draining { inner })
     }
 }

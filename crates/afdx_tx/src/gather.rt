@@ -1,8 +1,8 @@
-//! The ports of an emitter come back.
-ghost use Rattle.std.specs.Prelude.{◌≡◌, ◌<◌, length, slice_index_or, All, MatchBool, MatchOption};
+//! Taking back the ports of an emitter.
+ghost use Rattle.std.specs.Prelude.{length, All, MatchBool};
 ghost use Rattle.afdx_plan.specs.Config.{IsPlan};
 ghost use Rattle.afdx_tx.specs.Emitter.{AreLinksOf, AreReceiving, queues_in};
-ghost use Rattle.afdx_tx.specs.Ports.{HasPlace, HasEveryPlace, LacksPlace, PortView, BelongsTo};
+ghost use Rattle.afdx_tx.specs.Ports.{HasPlace, HasEveryPlace, LacksPlace, BelongsTo};
 ghost use Rattle.afdx_tx.specs.Gathering.{OnlyTakeBack, IsTakenBack, AreFull, GathersLinks, GathersPorts};
 
 use crate::port::TxPort;
@@ -10,46 +10,45 @@ use crate::routing::{link_of, port_at};
 use afdx_plan::Config;
 use vl_link::Link;
 
-// The index of the port of a place in a list.
-fn position_of(ports: &[TxPort], place: usize) -> Option<usize>
-    ensures { MatchOption result (HasPlace ports.now place → ⊥)
-        (λ at. (at < length ports.now) × ((d : PortView) → (slice_index_or ports.now at d).place ≡ place)) }
+// Whether the port at a place is in a list.
+fn has_place(ports: &[TxPort], place: usize) -> bool
+    ensures { MatchBool result (HasPlace ports.now place) (HasPlace ports.now place → ⊥) }
 {
-    for (at, port) in ports.iter().enumerate() {
+    for port in ports {
         if port.place() == place {
-            return Some(at);
+            return true;
         }
     }
-    None
+    false
 }
 
-/// Whether the port of each place of a configuration is in a list.
+/// Whether the port at each place of a configuration is in a list.
 pub fn has_every_place(ports: &[TxPort], many: usize) -> bool
     ensures { MatchBool result (HasEveryPlace many ports.now) (LacksPlace many ports.now) }
 {
     for place in 0..many {
-        if position_of(ports, place).is_none() {
+        if !has_place(ports, place) {
             return false;
         }
     }
     true
 }
 
-// The queue of each port's sub-VL takes its sender back.
-fn take_back_all(config: &Config, links: &mut [Link], mut ports: Vec<TxPort>)
+// Returns each port's sender to the queue of its sub-VL.
+fn take_back_all(config: &Config, links: &mut [Link], ports: Vec<TxPort>)
     requires of_plan { AreLinksOf config.now links.old }
     requires opened { All (BelongsTo config.now (queues_in links.old)) ports.items }
     ensures same { OnlyTakeBack links.old links.new }
     ensures back { All (IsTakenBack config.now links.new) ports.items }
 {
-    while let Some(port) = ports.pop() {
+    for port in ports {
         let plan = port_at(config, port.place());
         let link = link_of(config, &plan);
         links[link].take_back(plan.sub, port.into_sender());
     }
 }
 
-// Gathers the queue of each sub-VL, all of whose senders are back.
+// Gathers the queue of each sub-VL, after all its senders were returned.
 fn gather_all(links: &mut [Link])
     requires full { AreFull links.old }
     ensures { GathersLinks links.old links.new }
@@ -59,8 +58,7 @@ fn gather_all(links: &mut [Link])
     }
 }
 
-/// Takes the ports of a configuration back, which are all that it has, and gathers the queue of each
-/// sub-VL.
+/// Takes back all ports of a configuration, and gathers the queue of each sub-VL.
 pub fn gather_links(config: &Config, links: &mut [Link], ports: Vec<TxPort>)
     requires valid { IsPlan config.now }
     requires of_plan { AreLinksOf config.now links.old }

@@ -1,6 +1,5 @@
 //! Laws of the definitions. Their functions do nothing: the contract is the law.
-ghost use Rattle.afdx_tx.specs.DrainEnds.{DrainEnds};
-ghost use Rattle.afdx_tx.specs.WorkedDrain.{DrainsOne};
+ghost use Rattle.afdx_tx.specs.DrainEnds.{DrainEnds, DrainsOne};
 
 /// A drain comes to its end: polls that lie apart by the greatest gap of the plan, the first of them
 /// that long after every release, send all that is left, where they are more than each link owes

@@ -2,7 +2,6 @@
 //! out as numbered, spaced frames on two networks.
 #![tactic(auto)]
 
-mod closing;
 mod draining;
 mod emitter;
 mod fault;

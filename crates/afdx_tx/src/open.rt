@@ -10,6 +10,7 @@ use crate::emitter::Emitter;
 use crate::fault::OpenFault;
 use crate::port::TxPort;
 use crate::routing::{link_of, port_at};
+use crate::transmitter::Transmitter;
 use afdx_plan::{Config, LinkPlan, PortPlan};
 use redundant_mux::Network;
 use status_board::{Board, Monitor, open_board};
@@ -17,7 +18,7 @@ use std::alloc::{AllocError, Global};
 use subvl_queue::open_queue;
 use vl_link::{Link, Sub, SubVl};
 
-/// How often a port may ask: 2^40 times.
+/// How many slots a port may request: 2^40.
 const CALLS: u64 = 1_099_511_627_776;
 
 /// Whether a port is one of a sub-VL.
@@ -102,40 +103,30 @@ fn open_ports(alloc: Global, config: &Config, links: &mut [Link]) -> Result<Vec<
     Ok(ports)
 }
 
-/// What an emitter is made of.
-struct Parts {
-    links: Vec<Link>,
-    ports: Vec<TxPort>,
-    board: Board,
-    monitor: Monitor,
-}
-
-/// All that an emitter of a configuration needs, its ports, and the monitor of its links.
-fn open_parts(alloc: Global, config: &Config) -> Result<Parts, AllocError>
-    ensures links { IfOk result (λ parts. AreFreshLinks config.now parts.links.items) }
+/// The links of an emitter, its ports, and the two ends of its board.
+fn open_parts(
+    alloc: Global,
+    config: &Config,
+) -> Result<(Vec<Link>, Vec<TxPort>, Board, Monitor), AllocError>
+    ensures links { IfOk result (λ parts. AreFreshLinks config.now parts.0.items) }
     ensures ports { IfOk result
-        (λ parts. ArePortsOf config.now (queues_in parts.links.items) parts.ports.items) }
-    ensures board { IfOk result (λ parts. length parts.board ≡ length config.now.links) }
-    ensures monitor { IfOk result (λ parts. links_of parts.monitor ≡ length config.now.links) }
-    ensures new { IfOk result (λ parts. AreNew parts.board parts.monitor) }
+        (λ parts. ArePortsOf config.now (queues_in parts.0.items) parts.1.items) }
+    ensures board { IfOk result (λ parts. length parts.2 ≡ length config.now.links) }
+    ensures monitor { IfOk result (λ parts. links_of parts.3 ≡ length config.now.links) }
+    ensures new { IfOk result (λ parts. AreNew parts.2 parts.3) }
     ensures valid { IsPlan config.now }
 {
     let mut links = open_links(alloc, config)?;
     let ports = open_ports(alloc, config, &mut links)?;
     let (board, monitor) = open_board(alloc, config.links().len())?;
-    Ok(Parts {
-        links,
-        ports,
-        board,
-        monitor,
-    })
+    Ok((links, ports, board, monitor))
 }
 
-/// Opens an emitter for a configuration over two networks that were handed nothing and have not
-/// failed, its ports, in the order of the configuration, and the monitor that reads how far each of
-/// its links has come, by their places in the configuration. It makes all the room that sending,
-/// polling, publishing and gathering take. Nothing is accepted or published yet, both networks stand,
-/// and each port may ask 2^40 times. Where memory is refused, all comes back as it was.
+/// Opens an emitter for a configuration over two networks to which nothing was sent and which have not
+/// failed. Returns it with its ports, in the order of the configuration, and the monitor that reads the
+/// counts of each link by its place in the configuration. It takes all memory that sending, polling,
+/// publishing and gathering need. Nothing is accepted or published yet, both networks are up, and each
+/// port may request 2^40 slots. If an allocation fails, all is returned as it was.
 pub fn open_tx<A: Network + Drop, B: Network + Drop>(
     alloc: Global,
     config: Config,
@@ -157,15 +148,9 @@ pub fn open_tx<A: Network + Drop, B: Network + Drop>(
     ensures b { IfErr result (λ fault. fault.b ≡ b) }
 {
     match open_parts(alloc, &config) {
-        Ok(parts) => {
-            let Parts {
-                links,
-                ports,
-                board,
-                monitor,
-            } = parts;
-            let emitter = Emitter::over(config, links, a, b, board);
-            Ok((emitter, ports, monitor))
+        Ok((links, ports, board, monitor)) => {
+            let inner = Transmitter::over(config, links, a, b, board);
+            Ok((Emitter { inner }, ports, monitor))
         }
         Err(_) => Err(OpenFault { config, a, b }),
     }

@@ -1,10 +1,11 @@
-//! Which queue a port's messages join.
-ghost use Rattle.std.specs.Prelude.{◌≡◌, ◌<◌, length};
+//! The places of ports, links and sub-VLs in a configuration.
+ghost use Rattle.std.specs.Prelude.{◌≡◌, ◌<◌, length, IfSome, IfNone};
 ghost use Rattle.afdx_plan.specs.Config.{HasLink, IsPlan, link_plan_at, port_plan_at};
 ghost use Rattle.afdx_plan.specs.Plan.{IsPort, SendsOver};
 ghost use Rattle.afdx_plan.specs.Places.{link_place};
+ghost use Rattle.afdx_tx.specs.Closing.{IsSubAt, LacksSub};
 
-use afdx_plan::{Config, PortPlan};
+use afdx_plan::{Config, PortPlan, VlId};
 
 /// The port at a place of the configuration.
 pub fn port_at(config: &Config, place: usize) -> PortPlan
@@ -28,5 +29,18 @@ pub fn link_of(config: &Config, port: &PortPlan) -> usize
     match config.link_index(port.vl) {
         Some(place) => place,
         None => unreachable!(),
+    }
+}
+
+/// The place in the configuration of the link that has a sub-VL, if there is one.
+pub fn link_of_sub(config: &Config, vl: VlId, sub: u8) -> Option<usize>
+    ensures none { IfNone result (LacksSub config.now vl.0 sub) }
+    ensures some { IfSome result (IsSubAt config.now vl.0 sub) }
+{
+    let place = config.link_index(vl)?;
+    if sub < config.links()[place].sub_vls {
+        Some(place)
+    } else {
+        None
     }
 }

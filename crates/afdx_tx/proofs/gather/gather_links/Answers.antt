@@ -8,11 +8,3 @@ gather_all-requires c =
       full = full_back c.args.config.now c.args.links.now c.take_back_all.new.links c.args.ports.items r.valid r.of_plan r.receiving
           c.take_back_all.ensures.same r.opened r.every c.take_back_all.ensures.back;
     }
-
-pub returns : goal.returns
-returns c = record {
-  mid = c.take_back_all.new.links;
-  takes = c.take_back_all.ensures.same;
-  back = c.take_back_all.ensures.back;
-  gathers = c.gather_all.ensures;
-}

@@ -1,6 +1,5 @@
-use Rattle.std.proofs.Common.{ℕ, ◌≡◌, ◌<◌, [], ◌∷◌, length, refl, arith, ap, ◌∙◌, sym, subst}
+use Rattle.std.proofs.Common.{[], ◌∷◌, length, refl, arith, ap}
 use Rattle.std.proofs.lemmas.List.{get_or_default, length-append}
-use Rattle.std.proofs.Math.Seq.{take-length}
 use Rattle.subvl_queue.specs.Messages.{most_calls}
 use Rattle.vl_link.specs.Links.{no_link}
 use Rattle.afdx_tx.specs.Emitter.{queues_in}
@@ -49,19 +48,4 @@ loop-place-preserved c =
       each = λ m d lt. rw (names, pushed) (each_push (λ i port. IsFreshPort config (queues_in links) i port)
           c.loop-place.ports.items
           c.new.result d place old.count (λ i below. old.each i d below) (rw c.new.ensures fresh) m lt);
-    }
-
-pub returns-clause-links : goal.returns-clause-links
-returns-clause-links c =
-    let all : c.loop-place.place ≡ length c.args.config.now.ports = let past = c.loop-place-test.false in
-    let end = c.loop-place.auto.place-end in omega (arith, ap length c.ports-place-end.ensures.plan) in
-    rw (all, take-length c.args.config.now.ports) at c.loop-place.invariant.opened
-
-pub returns-clause-ports : goal.returns-clause-ports
-returns-clause-ports c =
-    let all : c.loop-place.place ≡ length c.args.config.now.ports = let past = c.loop-place-test.false in
-    let end = c.loop-place.auto.place-end in omega (arith, ap length c.ports-place-end.ensures.plan) in
-    record {
-      count = c.loop-place.invariant.count ∙ all;
-      each = λ k d lt. c.loop-place.invariant.each k d (subst (λ (n : ℕ). k < n) (sym all) lt);
     }

@@ -8,7 +8,7 @@ use Rattle.afdx_tx.specs.declared.report.Release.{Release}
 use Rattle.afdx_tx.specs.Report.{turn_release}
 use Rattle.arrayvec.specs.ArrayVec.{ArrayVec}
 use Rattle.afdx_tx.proofs.PollTurns.{turned_at}
-use Rattle.afdx_tx.proofs.PollingLinks.{polling_none, polling_is, polling_more, polling_on}
+use Rattle.afdx_tx.proofs.PollingLinks.{polling_more, polling_on}
 use Rattle.afdx_tx.proofs.transmitter.serve_all.Given
 use Rattle.afdx_tx.proofs.transmitter.serve_all.Goals as goal
 use Rattle.afdx_tx.proofs.transmitter.serve_all.Goals.{then-may_release, else-may_release}
@@ -22,23 +22,6 @@ asked : (g : Given.Over) (c : goal.Joined-may_release g)
     → get_or c.loop-link.links c.loop-link.link-index c.link-item.result
     ≡ link_at c.loop-link.links c.loop-link.link-index
 asked g c = get_or_default c.loop-link.links c.loop-link.link-index c.link-item.result no_link (within g c)
-
-pub loop-link-init : goal.loop-link-init
-loop-link-init g c =
-    let r = c.requires in
-    polling_none c.args.now c.args.links.now c.args.mux.now c.args.released.now.items r.none r.each r.kept r.later r.known r.carried
-    r.items r.whole
-
-pub may_release-requires : goal.may_release-requires
-may_release-requires g c =
-    let s = c.loop-link.invariant.steady in
-    let lt : c.loop-link.link-index < length c.loop-link.links =
-    let q = s.same.count in let r = c.loop-link-test.true in omega arith in
-    rw (get_or_default c.loop-link.links c.loop-link.link-index c.link-item.result no_link lt)
-    (s.later c.loop-link.link-index lt)
-
-pub serve-did-requires-clause-may : goal.serve-did-requires-clause-may
-serve-did-requires-clause-may g c = sym c.may_release.ensures ∙ c.if-may_release.true
 
 pub serve-did-requires-clause-paced : goal.serve-did-requires-clause-paced
 serve-did-requires-clause-paced g c =
@@ -65,13 +48,11 @@ loop-link-preserved g c =
           let names = w.note.ensures ∙ ap (λ (v : VlId). c.loop-link.released.items ++ turn_release v
           w.serve-did.result)
           (w.id.ensures ∙ ap (λ (plan : LinkPlan). plan.id) turned.same.plan) in
-          polling_is _ _ _ _ _ _ _ _ _ _ w.links-is w.mux-is
-          (ap (λ (v : ArrayVec Release). v.items) w.released-is ∙ names)
+          rw (w.links-is, w.mux-is, ap (λ (v : ArrayVec Release). v.items) w.released-is ∙ names)
           (polling_more c.args.now i c.args.links.now links c.args.mux.now c.loop-link.mux w.serve-did.new.mux
           w.serve-did.new.self w.serve-did.result c.loop-link.released.items p c.requires.apart lt turned e.later e.endure)
       | else-may_release w ↦
           let no = rw (asked g c) at (sym c.may_release.ensures ∙ w.if-may_release.false) in
-          polling_is _ _ _ _ _ _ _ _ _ _ (w.links-is ∙ set-get_or links i c.link-item.result) w.mux-is
-          (ap (λ (v : ArrayVec Release). v.items) w.released-is)
+          rw (w.links-is ∙ set-get_or links i c.link-item.result, w.mux-is, ap (λ (v : ArrayVec Release). v.items) w.released-is)
           (polling_on c.args.now i c.args.links.now links c.args.mux.now c.loop-link.mux c.loop-link.released.items p lt no)
     ]

@@ -1,4 +1,4 @@
 use Rattle.afdx_tx.proofs.emitter.Emitter.into_networks.Goals as goal
 
 pub returns-clause-allowed : goal.returns-clause-allowed
-returns-clause-allowed g c = rw (← c.self.view_is) c.into_networks.ensures.taken
+returns-clause-allowed g c = rw (← c.self.view_is) c.into_networks.ensures.conforms.taken

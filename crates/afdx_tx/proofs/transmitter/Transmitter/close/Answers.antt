@@ -1,5 +1,4 @@
 use Rattle.std.proofs.Common.{◌∙◌, ◌<◌, length, arith, subst}
-use Rattle.std.proofs.lemmas.Grind.{common_steps}
 use Rattle.std.proofs.lemmas.List.{get_or_default}
 use Rattle.vl_link.specs.Links.{LinkState, no_link}
 use Rattle.vl_link.specs.Closing.{ClosesLink}
@@ -8,11 +7,6 @@ use Rattle.afdx_tx.proofs.KeptLinks.{kept_sound}
 use Rattle.afdx_tx.proofs.Publishing.{reaches_kept}
 use Rattle.afdx_tx.proofs.ClosedEmitter.{links_closed, closed_kept}
 use Rattle.afdx_tx.proofs.transmitter.Transmitter.close.Goals as goal
-
-pub index_mut-requires : goal.index_mut-requires
-index_mut-requires g c =
-    let below = c.in-Some.ensures.some.within in
-    omega (arith, count_is c.self.inside.config c.self.inside.links.items.items c.self.invariant.0.of_plan)
 
 pub invariant_of-self : goal.invariant_of-self
 invariant_of-self g c =
@@ -26,6 +20,3 @@ invariant_of-self g c =
       kept_sound c.self.inside.config links _ c.self.inside.mux c.self.inside.moment kept c.self.invariant.0,
       reaches_kept links _ c.self.inside.board kept c.self.invariant.1,
     )
-
-pub returns-in-Some-clause-closed : goal.returns-in-Some-clause-closed
-returns-in-Some-clause-closed g c = grind (arith, common_steps)

@@ -1,26 +1,12 @@
-use Rattle.std.proofs.Common.{refl, ◌≡◌, ◌∙◌, sym, subst}
+use Rattle.std.proofs.Common.{refl, ◌≡◌, ◌∙◌}
 use Rattle.std.specs.Vec.{with_items}
 use Rattle.std.proofs.lemmas.List.{with_items_is}
-use Rattle.afdx_tx.specs.Emitter.{IsSound, AreLinksOf}
+use Rattle.afdx_tx.specs.Emitter.{IsSound}
 use Rattle.afdx_tx.specs.Gathering.{GathersPorts}
-use Rattle.afdx_tx.proofs.SoundEmitter.{sound_legal, sound_turns}
-use Rattle.afdx_tx.proofs.PortMessages.{accepted_allowed}
+use Rattle.afdx_tx.proofs.Conforming.{sound_conforms}
 use Rattle.afdx_tx.proofs.GatheredPorts.{gathers_sound, gathers_reaches, gathers_tx, all_gathered}
 use Rattle.afdx_tx.proofs.transmitter.Transmitter.gather.Given
 use Rattle.afdx_tx.proofs.transmitter.Transmitter.gather.Goals as goal
-
-pub gather_links-requires-clause-of_plan : goal.gather_links-requires-clause-of_plan
-gather_links-requires-clause-of_plan g c = subst (AreLinksOf c.self.inside.config) (sym c.deref_mut.ensures.value) c.self.invariant.0.of_plan
-
-pub gather_links-requires-clause-receiving : goal.gather_links-requires-clause-receiving
-gather_links-requires-clause-receiving g c =
-    rw (c.deref_mut.ensures.value) (rw (← c.self.view_is) at c.requires.receiving)
-
-pub gather_links-requires-clause-opened : goal.gather_links-requires-clause-opened
-gather_links-requires-clause-opened g c = rw c.deref_mut.ensures.value (rw (← c.self.view_is) at c.requires.opened)
-
-pub gather_links-requires-clause-every : goal.gather_links-requires-clause-every
-gather_links-requires-clause-every g c = rw (← c.self.view_is) at c.requires.every
 
 -- what gathering did, over the links that it had
 gathers : (g : Given.Over) (c : goal.After-self-1 g)
@@ -50,11 +36,5 @@ pub returns-clause-all : goal.returns-clause-all
 returns-clause-all g c =
     rw (links_are g c) (all_gathered c.gather_links.ensures.mid c.gather_links.new.links c.gather_links.ensures.gathers)
 
-pub returns-clause-legal : goal.returns-clause-legal
-returns-clause-legal g c = sound_legal _ _ _ _ (sound g c)
-
-pub returns-clause-turns : goal.returns-clause-turns
-returns-clause-turns g c = sound_turns _ _ _ _ (sound g c)
-
-pub returns-clause-accepted : goal.returns-clause-accepted
-returns-clause-accepted g c = accepted_allowed _ _ (sound g c).of_plan (sound g c).items
+pub returns-clause-conforms : goal.returns-clause-conforms
+returns-clause-conforms g c = sound_conforms _ (sound g c)

@@ -1,0 +1,6 @@
+use Rattle.std.proofs.Common.{◌≡◌, ℕ, ◌<◌, get_or}
+use Rattle.afdx_tx.specs.Ports.{PortView}
+use Rattle.afdx_tx.proofs.gather.has_place.Given as goal
+
+abbrev pub invariant-loop-port : goal.invariant-loop-port
+invariant-loop-port l = (k : ℕ) (d : PortView) → k < l.port-index → (get_or l.ports k d).place ≡ l.place → ⊥
