@@ -1,24 +1,13 @@
 -- Of links on both networks, what was handed to the one is twins of what was handed to the other.
-use Rattle.std.proofs.Common.{get_or, subst, ℕ, ◌≡◌, ◌≤◌, List, ◌++◌, Bool, true, length, map, take, arith, ap, ◌∙◌, sym}
-use Rattle.std.specs.Prelude.{All}
-use Rattle.std.proofs.lemmas.Bool.{and_parts}
-use Rattle.std.proofs.lemmas.List.{get_or-map, length-map, take_all, take-append-le, take-map}
-use Rattle.std.proofs.lemmas.List.Elements.{filter-append}
-use Rattle.afdx_plan.specs.declared.link_plan.LinkPlan.{LinkPlan}
-use Rattle.afdx_plan.specs.declared.networks.Networks.{Networks}
+use Rattle.afdx_tx.proofs.Names.{get_or, subst, ℕ, ◌≡◌, ◌≤◌, List, ◌++◌, Bool, true, length, map, take, arith, ap}
+use Rattle.afdx_tx.proofs.Names.{◌∙◌, sym, All, and_parts, get_or-map, length-map, take_all, take-append-le}
+use Rattle.afdx_tx.proofs.Names.{take-map, filter-append, LinkPlan, Networks, Plan, IsPlan, Net, A, B, link_in}
+use Rattle.afdx_tx.proofs.Names.{twin_link, Entry, Logged, entries_of, names, side, sent_to, Lines, Keeps}
+use Rattle.afdx_tx.proofs.Names.{IsMirrored, IsKnown, AreKnown, is_on_both, on_both, AreTwins, known_all}
+use Rattle.afdx_tx.proofs.Names.{AreCarried}
 use Rattle.afdx_plan.specs.Networks.{names_a, names_b, is_both}
-use Rattle.afdx_plan.specs.Config.{Plan, IsPlan}
-use Rattle.afdx_frame.specs.declared.net.Net.{Net}
-use Rattle.afdx_frame.specs.declared.net.Net.TheVariants.{A, B}
-use Rattle.afdx_frame.specs.Header.{link_in}
-use Rattle.afdx_frame.proofs.Twins.{twin_link}
-use Rattle.redundant_mux.specs.Entry.{Entry}
-use Rattle.redundant_mux.specs.Logged.{Logged, entries_of, names, side, sent_to}
-use Rattle.redundant_mux.specs.Lines.{Lines, log, Keeps, IsMirrored}
-use Rattle.afdx_legal.specs.Legal.{IsKnown, AreKnown, is_on_both, on_both, AreTwins}
+use Rattle.redundant_mux.specs.Lines.{log}
 use Rattle.afdx_legal.proofs.OnBoth.{on_both_is}
-use Rattle.afdx_legal.proofs.StreamLemmas.{known_all}
-use Rattle.afdx_tx.specs.Emitter.{AreCarried}
 use Rattle.afdx_tx.proofs.HandedFronts.{picked, all_front, log_parts}
 use Rattle.afdx_tx.proofs.OwnStreams.{sides}
 

@@ -1,14 +1,9 @@
 -- An emitter of which a sub-VL was closed is as sound as it was.
-use Rattle.std.proofs.Common.{ℕ, ◌≡◌, ◌<◌, ◌≤◌, List, length, set, arith, refl, ap, ◌∙◌, sym, subst, ⊎_elim, Result, Ok, Err, OnErr, IfOk}
-use Rattle.std.proofs.lemmas.Bool.{cases_lt}
-use Rattle.std.proofs.lemmas.List.{length-set, get_or_past}
-use Rattle.afdx_plan.specs.Config.{Plan, IsPlan, link_plan_at}
-use Rattle.vl_link.specs.Seen.{queue_of}
-use Rattle.vl_link.specs.Links.{Held, LinkState, held_at, link_at, no_link}
-use Rattle.vl_link.specs.Closing.{ClosesSub, ClosesLink}
+use Rattle.afdx_tx.proofs.Names.{ℕ, ◌≡◌, ◌<◌, ◌≤◌, List, length, set, arith, refl, ap, ◌∙◌, sym, subst, ⊎_elim}
+use Rattle.afdx_tx.proofs.Names.{Result, Ok, Err, OnErr, IfOk, cases_lt, length-set, get_or_past, Plan, IsPlan}
+use Rattle.afdx_tx.proofs.Names.{link_plan_at, queue_of, Held, LinkState, held_at, link_at, no_link, ClosesSub}
+use Rattle.afdx_tx.proofs.Names.{ClosesLink, Tx, queues_in, LacksSub, ClosesTx}
 use Rattle.vl_link.proofs.Closing.{closes_taken, closes_known, closes_name}
-use Rattle.afdx_tx.specs.Emitter.{Tx, queues_in}
-use Rattle.afdx_tx.specs.Closing.{LacksSub, ClosesTx}
 use Rattle.afdx_tx.proofs.SoundEmitter.{alike_queues}
 use Rattle.afdx_tx.proofs.KeptLinks.{KeepsSub, KeepLinks}
 use Rattle.afdx_tx.proofs.OneSub.{one_link, one_count, one_each}

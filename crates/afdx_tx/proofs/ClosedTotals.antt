@@ -1,16 +1,8 @@
 -- The total of a sub-VL that was closed is how many messages it accepted.
-use Rattle.std.proofs.Common.{ℕ, ◌≡◌, ◌<◌, List, length, refl, ap, ◌∙◌, sym, ⊎_elim, Option, Some, None, get_or}
-use Rattle.std.proofs.lemmas.Bool.{cases_lt}
-use Rattle.std.proofs.lemmas.List.{get_or_past, length-map}
-use Rattle.vl_link.specs.Seen.{Seen, receiving, gathered, known_of, total_of}
-use Rattle.vl_link.specs.Links.{Held, LinkState, held_at, link_at, no_link, nothing_held, sent_of}
-use Rattle.vl_link.specs.Closing.{Closes}
-use Rattle.vl_link.specs.LinkGathering.{BecomesWhole}
-use Rattle.afdx_tx.specs.Emitter.{Tx, total_in}
-use Rattle.afdx_tx.specs.Ports.{PortView}
-use Rattle.afdx_tx.specs.Drain.{accepted_in}
-use Rattle.afdx_tx.specs.Closing.{ClosesTx}
-use Rattle.afdx_tx.specs.Gathering.{IsGatheredTx}
+use Rattle.afdx_tx.proofs.Names.{ℕ, ◌≡◌, ◌<◌, List, length, refl, ap, ◌∙◌, sym, ⊎_elim, Option, Some, None, get_or}
+use Rattle.afdx_tx.proofs.Names.{cases_lt, get_or_past, length-map, Seen, receiving, gathered, known_of, total_of}
+use Rattle.afdx_tx.proofs.Names.{Held, LinkState, held_at, link_at, no_link, nothing_held, sent_of, Closes}
+use Rattle.afdx_tx.proofs.Names.{BecomesWhole, Tx, total_in, PortView, accepted_in, ClosesTx, IsGatheredTx}
 
 -- a sub-VL that was closed shows its total
 pub closes_total : (old : Tx) (vl sub total : ℕ) (new : Tx) (c : ClosesTx old vl sub total new)

@@ -1,6 +1,5 @@
 -- What was sent by a sound emitter conforms.
-use Rattle.afdx_tx.specs.Emitter.{Tx, IsSound}
-use Rattle.afdx_tx.specs.Serving.{Conforms}
+use Rattle.afdx_tx.proofs.Names.{Tx, IsSound, Conforms}
 use Rattle.afdx_tx.proofs.DrainKeeps.{legal_accepted}
 use Rattle.afdx_tx.proofs.PortMessages.{taken_allowed, accepted_allowed}
 use Rattle.afdx_tx.proofs.SoundEmitter.{sound_legal, sound_streams, sound_turns}

@@ -1,31 +1,16 @@
 -- Each poll of a drain that finds a link due sends one of its frames, until it owes none.
-use Rattle.std.proofs.Common.{ℕ, zero, suc, ◌≡◌, ◌≢◌, ◌⊎◌, ◌+◌, ◌-◌, ◌<◌, ◌≤◌, List, [], ◌∷◌, ◌++◌, true, length, arith, refl, ap, ◌∙◌, sym, subst, Option, Some, None, inl, inr, ⊎_elim}
-use Rattle.std.proofs.lemmas.Bool.{and_from, both_ways, cases_eq, le-leb}
-use Rattle.std.proofs.lemmas.List.{length-append, length-map, length_push}
-use Rattle.afdx_plan.specs.declared.link_plan.LinkPlan.{LinkPlan}
-use Rattle.afdx_plan.specs.Config.{Plan, IsPlan, link_plan_at}
-use Rattle.afdx_plan.specs.Plan.{bag_micros}
-use Rattle.afdx_plan.specs.Room.{room_of}
-use Rattle.afdx_frame.specs.declared.net.Net.TheVariants.{A}
-use Rattle.afdx_frame.specs.Header.{sub_in}
-use Rattle.afdx_frame.specs.Fragments.{Sent, fragments}
-use Rattle.redundant_mux.specs.Entry.{Entry, entry}
-use Rattle.redundant_mux.specs.Lines.{Lines, BothEndure, stands_for, log}
-use Rattle.redundant_mux.proofs.Enduring.{both_none, both_on, stood_before}
-use Rattle.redundant_mux.proofs.MirroredLines.{log_same}
-use Rattle.vl_shaper.specs.declared.shaper.Stamp.{Stamp}
-use Rattle.vl_shaper.specs.Pace.{IsLater, is_due}
-use Rattle.vl_link.specs.declared.served.Served.{Served}
-use Rattle.vl_link.specs.declared.served.Served.TheVariants.{Nothing, Released, Lost}
-use Rattle.vl_link.specs.Turn.{AreTurns}
-use Rattle.vl_link.proofs.TurnLaws.{choice_below, turn_endures, turns_endure}
+use Rattle.afdx_tx.proofs.Names.{ℕ, zero, suc, ◌≡◌, ◌≢◌, ◌⊎◌, ◌+◌, ◌-◌, ◌<◌, ◌≤◌, List, [], ◌∷◌, ◌++◌, true, length}
+use Rattle.afdx_tx.proofs.Names.{arith, refl, ap, ◌∙◌, sym, subst, Option, Some, None, inl, inr, ⊎_elim, and_from}
+use Rattle.afdx_tx.proofs.Names.{both_ways, cases_eq, le-leb, length-append, length-map, length_push, LinkPlan}
+use Rattle.afdx_tx.proofs.Names.{Plan, IsPlan, link_plan_at, bag_micros, room_of, A, sub_in, Sent, fragments, Entry}
+use Rattle.afdx_tx.proofs.Names.{entry, Lines, BothEndure, stands_for, log, both_none, both_on, stood_before}
+use Rattle.afdx_tx.proofs.Names.{log_same, Stamp, IsLater, is_due, Served, Nothing, Released, Lost, AreTurns}
+use Rattle.afdx_tx.proofs.Names.{choice_below, turn_endures, turns_endure, latest, link_stream, sub_stream, told}
+use Rattle.afdx_tx.proofs.Names.{Accepted, Drains, DrainsAt, pace_in, accepted_view, owed, stream_at, owed_at}
+use Rattle.afdx_tx.proofs.Names.{AreApartBy, AreDrained, DrainEnds}
 use Rattle.vl_link.proofs.PaceOfStream.{stream_more, stream_same}
-use Rattle.afdx_legal.specs.Streams.{latest, link_stream, sub_stream, told}
-use Rattle.afdx_legal.specs.Legal.{Accepted}
 use Rattle.afdx_legal.proofs.LongerStream.{latest_push, with_push_in, with_push_out}
 use Rattle.afdx_tx.proofs.PollTurns.{later_on}
-use Rattle.afdx_tx.specs.Drain.{Drains, DrainsAt, pace_in, accepted_view}
-use Rattle.afdx_tx.specs.DrainEnds.{owed, stream_at, owed_at, AreApartBy, AreDrained, DrainEnds}
 
 -- the fragments of the accepted messages of a sub-VL
 abbrev due_of : ℕ → LinkPlan → (ℕ → List Sent) → ℕ → List (List ℕ)

@@ -1,19 +1,9 @@
 -- What stays of accepted messages that are known whole.
-use Rattle.std.proofs.Common.{ℕ, ◌≡◌, ◌<◌, List, ◌++◌, length, arith, refl, ap, ◌∙◌, sym, ⊎_elim, Result, Ok, Err}
-use Rattle.std.specs.Prelude.{OnOk}
-use Rattle.std.proofs.lemmas.List.{append_assoc, get_or_past}
-use Rattle.std.proofs.lemmas.Bool.{cases_lt}
-use Rattle.afdx_plan.specs.Config.{Plan, link_plan_at}
-use Rattle.afdx_plan.specs.Room.{room_of}
-use Rattle.afdx_frame.specs.declared.net.Net.{Net}
-use Rattle.afdx_frame.specs.declared.net.Net.TheVariants.{A, B}
-use Rattle.redundant_mux.specs.Entry.{Entry}
-use Rattle.vl_link.specs.Seen.{Seen, receiving, gathered, IsKnownWhole, IsSameQueue, known_of}
-use Rattle.afdx_legal.specs.Streams.{told_of}
-use Rattle.afdx_legal.specs.Legal.{IsLegalOn, IsLegal}
-use Rattle.vl_link.specs.Links.{Held, LinkState, held_at, link_at, nothing_held, no_link, IsSameSub}
-use Rattle.afdx_tx.specs.Emitter.{IsSamePlan, taken_in}
-use Rattle.afdx_tx.specs.Drain.{AreGathered, accepted_by, accepted_in}
+use Rattle.afdx_tx.proofs.Names.{ℕ, ◌≡◌, ◌<◌, List, ◌++◌, length, arith, refl, ap, ◌∙◌, sym, ⊎_elim, Result, Ok}
+use Rattle.afdx_tx.proofs.Names.{Err, OnOk, append_assoc, get_or_past, cases_lt, Plan, link_plan_at, room_of, Net}
+use Rattle.afdx_tx.proofs.Names.{A, B, Entry, Seen, receiving, gathered, IsKnownWhole, IsSameQueue, known_of}
+use Rattle.afdx_tx.proofs.Names.{told_of, IsLegalOn, IsLegal, Held, LinkState, held_at, link_at, nothing_held}
+use Rattle.afdx_tx.proofs.Names.{no_link, IsSameSub, IsSamePlan, taken_in, AreGathered, accepted_by, accepted_in}
 use Rattle.afdx_tx.proofs.OwedFragments.{owed_split, untaken}
 
 -- the same queue accepted the same messages

@@ -1,17 +1,8 @@
 -- The turns of links whose accepted messages are known whole.
-use Rattle.std.proofs.Common.{ℕ, ◌≡◌, ◌<◌, List, length, arith, subst}
-use Rattle.std.proofs.lemmas.Bool.{and_parts}
-use Rattle.afdx_plan.specs.Config.{Plan}
-use Rattle.redundant_mux.specs.Lines.{Lines, log}
-use Rattle.vl_link.specs.declared.served.Served.{Served}
-use Rattle.vl_link.specs.Seen.{IsKnownWhole}
-use Rattle.vl_link.specs.Turn.{AreTurns}
-use Rattle.vl_link.specs.Links.{LinkState, held_at, link_at, held_view}
-use Rattle.afdx_tx.specs.Run.{IsTurn, IsTurnAt, IsRun}
-use Rattle.afdx_tx.specs.Emitter.{AreLinksOf}
-use Rattle.afdx_tx.specs.Drain.{AreGathered, accepted_in, accepted_view, pace_in, Drains, DrainsAt, IsDrained}
-use Rattle.vl_link.proofs.LinkTurn.{IsOwn}
-use Rattle.vl_link.proofs.TurnLaws.{turn_seen, turns_seen}
+use Rattle.afdx_tx.proofs.Names.{ℕ, ◌≡◌, ◌<◌, List, length, arith, subst, and_parts, Plan, Lines, log, Served}
+use Rattle.afdx_tx.proofs.Names.{IsKnownWhole, AreTurns, LinkState, held_at, link_at, held_view, IsTurn, IsTurnAt}
+use Rattle.afdx_tx.proofs.Names.{IsRun, AreLinksOf, AreGathered, accepted_in, accepted_view, pace_in, Drains}
+use Rattle.afdx_tx.proofs.Names.{DrainsAt, IsDrained, IsOwn, turn_seen, turns_seen}
 use Rattle.afdx_tx.proofs.SoundEmitter.{plan_is, count_is}
 use Rattle.afdx_tx.proofs.OwedFragments.{stands_of, lists_of, passed_released, asked_owes}
 

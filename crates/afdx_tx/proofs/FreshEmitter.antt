@@ -1,16 +1,8 @@
 -- An emitter of which nothing was asked yet.
-use Rattle.std.proofs.Common.{ℕ, ◌≡◌, ◌<◌, List, length, arith, refl, ap, ◌∙◌, sym}
-use Rattle.std.proofs.lemmas.Bool.{both_ways}
-use Rattle.std.proofs.lemmas.List.{ext_get_or}
-use Rattle.std.proofs.lemmas.List.Elements.{All-nil}
-use Rattle.afdx_plan.specs.declared.link_plan.LinkPlan.{LinkPlan}
-use Rattle.afdx_plan.specs.Config.{Plan, IsPlan, link_plan_at}
-use Rattle.afdx_frame.specs.Header.{link_in}
-use Rattle.redundant_mux.specs.Logged.{Logged}
-use Rattle.redundant_mux.proofs.MirroredLines.{fresh_lines, fresh_log, fresh_in_step}
-use Rattle.subvl_queue.specs.Messages.{IsItem}
-use Rattle.vl_link.specs.Links.{LinkState, no_link_plan}
-use Rattle.afdx_tx.specs.Emitter.{AreFreshLinks, plans, ports_of_sub, IsSound}
+use Rattle.afdx_tx.proofs.Names.{ℕ, ◌≡◌, ◌<◌, List, length, arith, refl, ap, ◌∙◌, sym, both_ways, ext_get_or}
+use Rattle.afdx_tx.proofs.Names.{All-nil, LinkPlan, Plan, IsPlan, link_plan_at, link_in, Logged, fresh_lines}
+use Rattle.afdx_tx.proofs.Names.{fresh_log, fresh_in_step, IsItem, LinkState, no_link_plan, AreFreshLinks, plans}
+use Rattle.afdx_tx.proofs.Names.{ports_of_sub, IsSound}
 use Rattle.afdx_tx.proofs.PollTurns.{plan_at_is, plans_length}
 
 -- a fresh emitter is sound

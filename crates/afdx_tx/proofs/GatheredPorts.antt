@@ -1,24 +1,12 @@
 -- What was accepted of each port that came back.
-use Rattle.std.proofs.Common.{ℕ, ◌≡◌, ◌<◌, List, length, arith, ap, ◌∙◌, subst}
-use Rattle.std.specs.Prelude.{Contains}
-use Rattle.std.proofs.lemmas.List.Elements.{All-contains}
-use Rattle.afdx_plan.specs.declared.port_plan.PortPlan.{PortPlan}
-use Rattle.afdx_plan.specs.Config.{Plan, IsPlan, port_plan_at}
-use Rattle.afdx_plan.specs.Places.{link_place}
-use Rattle.subvl_queue.specs.Messages.{part_of}
-use Rattle.subvl_queue.specs.Views.{brought_by}
-use Rattle.vl_link.specs.Seen.{known_of, IsKnownWhole, receiving, gathered, Seen, taken_of}
-use Rattle.vl_link.specs.Links.{Held, LinkState, held_at, link_at}
-use Rattle.vl_link.specs.LinkSenders.{back_of}
-use Rattle.vl_link.specs.LinkGathering.{BecomesWhole}
-use Rattle.redundant_mux.specs.Lines.{Lines}
-use Rattle.afdx_tx.specs.Emitter.{Tx, AreLinksOf, HaveOwnItems, IsSound, queues_in}
-use Rattle.afdx_tx.specs.Ports.{PortView, BelongsTo, AreOpenedWith, HasPlace, HasEveryPlace, index_of}
-use Rattle.afdx_tx.specs.Drain.{AreGathered}
-use Rattle.afdx_tx.specs.Gathering.{OnlyTakeBack, IsTakenBack, GathersLinks, GathersPorts, IsGatheredLink, IsGatheredTx, HasOwnPart, held_for}
+use Rattle.afdx_tx.proofs.Names.{ℕ, ◌≡◌, ◌<◌, List, length, arith, ap, ◌∙◌, subst, Contains, All-contains, PortPlan}
+use Rattle.afdx_tx.proofs.Names.{Plan, IsPlan, port_plan_at, link_place, part_of, brought_by, known_of}
+use Rattle.afdx_tx.proofs.Names.{IsKnownWhole, receiving, gathered, Seen, taken_of, Held, LinkState, held_at}
+use Rattle.afdx_tx.proofs.Names.{link_at, back_of, BecomesWhole, Lines, Tx, AreLinksOf, HaveOwnItems, IsSound}
+use Rattle.afdx_tx.proofs.Names.{queues_in, PortView, BelongsTo, AreOpenedWith, HasPlace, HasEveryPlace, index_of}
+use Rattle.afdx_tx.proofs.Names.{AreGathered, OnlyTakeBack, IsTakenBack, GathersLinks, GathersPorts, IsGatheredLink}
+use Rattle.afdx_tx.proofs.Names.{IsGatheredTx, HasOwnPart, held_for, Published, Reaches}
 use Rattle.afdx_tx.proofs.PortMessages.{own_messages, port_within}
-use Rattle.status_board.specs.Views.{Published}
-use Rattle.afdx_tx.specs.Publishing.{Reaches}
 use Rattle.afdx_tx.proofs.Publishing.{reaches_kept}
 use Rattle.afdx_tx.proofs.KeptLinks.{kept_sound, KeepLinks}
 use Rattle.afdx_tx.proofs.TakenBack.{whole_from, back_kept}

@@ -1,19 +1,12 @@
 -- The streams of what a network was handed begin those of the log.
-use Rattle.std.proofs.Common.{ℕ, ◌≡◌, ◌≤◌, List, [], ◌∷◌, ◌++◌, Bool, true, false, length, map, nat_eq, arith, refl, ap, ◌∙◌, sym, subst, inl, inr}
-use Rattle.std.specs.Prelude.{All, filter}
-use Rattle.std.proofs.lemmas.Bool.{both_ways, cases_Bool, eqb-true, false_from_ne_true}
-use Rattle.std.proofs.lemmas.List.{get_or_append_left, length-append, length-map}
-use Rattle.std.proofs.lemmas.List.Elements.{All-tail, All-map, All-filter, filter_passes}
-use Rattle.afdx_plan.specs.declared.networks.Networks.{Networks}
-use Rattle.afdx_frame.specs.declared.net.Net.{Net}
-use Rattle.afdx_frame.specs.Header.{link_in}
-use Rattle.afdx_frame.proofs.Twins.{twin_link}
-use Rattle.redundant_mux.specs.Entry.{Entry}
-use Rattle.redundant_mux.specs.Logged.{Logged, entries_of, names, only, side, sent_to}
-use Rattle.redundant_mux.specs.Lines.{Lines, log, Keeps}
-use Rattle.redundant_mux.proofs.MirroredLines.{entries_append}
-use Rattle.afdx_legal.specs.Streams.{link_stream}
-use Rattle.afdx_legal.proofs.StreamLemmas.{with_append, with_map}
+use Rattle.afdx_tx.proofs.Names.{ℕ, ◌≡◌, ◌≤◌, List, [], ◌∷◌, ◌++◌, Bool, true, false, length, map, nat_eq, arith}
+use Rattle.afdx_tx.proofs.Names.{refl, ap, ◌∙◌, sym, subst, inl, inr, All, both_ways, cases_Bool, eqb-true}
+use Rattle.afdx_tx.proofs.Names.{false_from_ne_true, get_or_append_left, length-append, length-map, All-tail}
+use Rattle.afdx_tx.proofs.Names.{All-map, All-filter, filter_passes, Networks, Net, link_in, twin_link, Entry}
+use Rattle.afdx_tx.proofs.Names.{Logged, entries_of, names, only, side, sent_to, Lines, Keeps, entries_append}
+use Rattle.afdx_tx.proofs.Names.{link_stream, with_append, with_map}
+use Rattle.std.specs.Prelude.{filter}
+use Rattle.redundant_mux.specs.Lines.{log}
 
 -- the stream of a link, turned to a network
 pub link_side : (net : Net) (vl : ℕ) (H : List Entry)

@@ -1,13 +1,7 @@
 -- Links of which the queues alone have changed, and from which nothing more was taken.
-use Rattle.std.proofs.Common.{ℕ, ◌≡◌, ◌<◌, ◌++◌, List, length, arith, refl, ap, ◌∙◌, sym, subst}
-use Rattle.afdx_plan.specs.Config.{Plan}
-use Rattle.redundant_mux.specs.Entry.{Entry}
-use Rattle.redundant_mux.specs.Lines.{Lines, log}
-use Rattle.afdx_legal.specs.Streams.{told}
-use Rattle.vl_link.specs.Seen.{taken_of}
-use Rattle.vl_link.specs.Links.{Held, LinkState, held_at, link_at, HasOwnItems, IsLinkOfPlan, taken_by, sub_fragments}
-use Rattle.vl_link.specs.Kept.{IsKept, IsTied, IsBehind}
-use Rattle.afdx_tx.specs.Emitter.{IsSound}
+use Rattle.afdx_tx.proofs.Names.{ℕ, ◌≡◌, ◌<◌, ◌++◌, List, length, arith, refl, ap, ◌∙◌, sym, subst, Plan, Entry}
+use Rattle.afdx_tx.proofs.Names.{Lines, log, told, taken_of, Held, LinkState, held_at, link_at, HasOwnItems}
+use Rattle.afdx_tx.proofs.Names.{IsLinkOfPlan, taken_by, sub_fragments, IsKept, IsTied, IsBehind, IsSound}
 use Rattle.afdx_tx.proofs.SoundEmitter.{plans_after}
 
 -- a sub-VL but for its queue, from which nothing more was taken

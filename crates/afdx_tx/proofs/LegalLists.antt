@@ -1,27 +1,14 @@
 -- From the log to the two handed lists.
-use Rattle.std.proofs.Common.{ℕ, ◌≡◌, ◌+◌, ◌<◌, ◌≤◌, List, [], ◌∷◌, ◌++◌, Bool, length, map, eqb, arith, refl, ap, ◌∙◌, sym, Option, Some, None, inl, inr}
-use Rattle.std.proofs.lemmas.Bool.{cases_Bool}
-use Rattle.std.proofs.lemmas.List.{map-append, append_assoc}
-use Rattle.std.specs.Prelude.{All}
-use Rattle.std.proofs.lemmas.List.Elements.{All-weaker, All-filter, All-tail}
-use Rattle.afdx_plan.specs.declared.link_plan.LinkPlan.{LinkPlan}
-use Rattle.afdx_plan.specs.Config.{Plan, IsPlan, link_plan_at}
-use Rattle.afdx_plan.specs.Plan.{bag_micros}
-use Rattle.afdx_plan.specs.Room.{room_of}
-use Rattle.afdx_frame.specs.declared.net.Net.{Net}
-use Rattle.afdx_frame.specs.declared.net.Net.TheVariants.{A, B}
-use Rattle.afdx_frame.specs.Header.{link_in, sub_in}
+use Rattle.afdx_tx.proofs.Names.{ℕ, ◌≡◌, ◌+◌, ◌<◌, ◌≤◌, List, [], ◌∷◌, ◌++◌, Bool, length, map, eqb, arith, refl}
+use Rattle.afdx_tx.proofs.Names.{ap, ◌∙◌, sym, Option, Some, None, inl, inr, cases_Bool, map-append, append_assoc}
+use Rattle.afdx_tx.proofs.Names.{All, All-weaker, All-filter, All-tail, LinkPlan, Plan, IsPlan, link_plan_at}
+use Rattle.afdx_tx.proofs.Names.{bag_micros, room_of, Net, A, B, link_in, sub_in, Sent, blanked, fragments}
+use Rattle.afdx_tx.proofs.Names.{twin_link, twin_sub, twin_number, twin_interface, twin_blanked, twin_fragments}
+use Rattle.afdx_tx.proofs.Names.{length-twin, Entry, Logged, entries_of, names, side, sent_to, Lines, log, Keeps}
+use Rattle.afdx_tx.proofs.Names.{IsMirrored, Stamp, link_stream, sub_stream, told, told_of, stamp_of, entry_number}
+use Rattle.afdx_tx.proofs.Names.{IsNumbered, IsSpaced, IsPrefixOf, Accepted, IsKnown, AreKnown, IsLegalOn, IsLegal}
+use Rattle.afdx_tx.proofs.Names.{with_append, with_map, known_all, AreCarried}
 use Rattle.afdx_frame.specs.Twin.{twin_of}
-use Rattle.afdx_frame.specs.Fragments.{Sent, blanked, fragments}
-use Rattle.afdx_frame.proofs.Twins.{twin_link, twin_sub, twin_number, twin_interface, twin_blanked, twin_fragments, length-twin}
-use Rattle.redundant_mux.specs.Entry.{Entry}
-use Rattle.redundant_mux.specs.Logged.{Logged, entries_of, names, side, sent_to}
-use Rattle.redundant_mux.specs.Lines.{Lines, log, Keeps, IsMirrored}
-use Rattle.vl_shaper.specs.declared.shaper.Stamp.{Stamp}
-use Rattle.afdx_legal.specs.Streams.{link_stream, sub_stream, told, told_of, stamp_of, entry_number, IsNumbered, IsSpaced, IsPrefixOf}
-use Rattle.afdx_legal.specs.Legal.{Accepted, IsKnown, AreKnown, IsLegalOn, IsLegal}
-use Rattle.afdx_legal.proofs.StreamLemmas.{with_append, with_map, known_all}
-use Rattle.afdx_tx.specs.Emitter.{AreCarried}
 use Rattle.afdx_tx.proofs.HandedFronts.{IsFront, log_parts, front_of, unnamed_stream}
 use Rattle.afdx_tx.proofs.BothTwins.{both_twins}
 

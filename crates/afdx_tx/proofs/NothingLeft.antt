@@ -1,19 +1,10 @@
 -- Whether all accepted messages are wholly released.
-use Rattle.std.proofs.Common.{ℕ, ◌≡◌, ◌<◌, List, [], Bool, true, false, length, arith, refl, ap, ◌∙◌, sym, ⊎_elim, inl, inr}
-use Rattle.std.proofs.lemmas.Bool.{both_ways, cases_Bool}
-use Rattle.afdx_plan.specs.Config.{Plan}
-use Rattle.redundant_mux.specs.Entry.{Entry}
-use Rattle.redundant_mux.specs.Lines.{Lines, log}
-use Rattle.vl_link.specs.declared.sub_vl.SubVl.{SubVl}
-use Rattle.vl_link.specs.Seen.{Seen, receiving, gathered, IsKnownWhole, TellsDrained}
-use Rattle.vl_link.specs.Links.{LinkState, held_at, link_at, no_link, sub_fragments, taken_by}
-use Rattle.vl_link.specs.Kept.{IsKept}
-use Rattle.afdx_tx.specs.Emitter.{IsSound}
-use Rattle.afdx_legal.specs.Done.{Owes, IsLinkDone, IsAllDone}
-use Rattle.afdx_tx.specs.Drain.{AreGathered, accepted_in}
+use Rattle.afdx_tx.proofs.Names.{ℕ, ◌≡◌, ◌<◌, List, [], Bool, true, false, length, arith, refl, ap, ◌∙◌, sym}
+use Rattle.afdx_tx.proofs.Names.{⊎_elim, inl, inr, both_ways, cases_Bool, Plan, Entry, Lines, log, SubVl, Seen}
+use Rattle.afdx_tx.proofs.Names.{receiving, gathered, IsKnownWhole, TellsDrained, LinkState, held_at, link_at}
+use Rattle.afdx_tx.proofs.Names.{no_link, sub_fragments, taken_by, IsKept, IsSound, Owes, IsLinkDone, IsAllDone}
+use Rattle.afdx_tx.proofs.Names.{AreGathered, accepted_in, TellsAllDone, IsOwn}
 use Rattle.vl_link.specs.LinkDone.{HasSubLeft, TellsLinkDone}
-use Rattle.afdx_tx.specs.Serving.{TellsAllDone}
-use Rattle.vl_link.proofs.LinkTurn.{IsOwn}
 use Rattle.afdx_tx.proofs.SoundEmitter.{plan_is, count_is}
 use Rattle.afdx_tx.proofs.OwedFragments.{rest_of, stands_of, lists_of, all_released, owes_taken, owes_rest, owes_not}
 use Rattle.afdx_tx.proofs.DrainTurns.{IsLinkGathered}

@@ -1,9 +1,7 @@
 -- Links of which one sub-VL has changed.
-use Rattle.std.proofs.Common.{ℕ, ◌≡◌, ◌≢◌, ◌<◌, List, length, set, refl, ap, ◌∙◌, sym, subst, ⊎_elim}
-use Rattle.std.proofs.lemmas.Bool.{cases_eq}
-use Rattle.std.proofs.lemmas.List.{length-set, get_or-set_other}
-use Rattle.vl_link.proofs.Choosing.{each_set}
-use Rattle.vl_link.specs.Links.{Held, LinkState, held_at, link_at, no_link, nothing_held}
+use Rattle.afdx_tx.proofs.Names.{ℕ, ◌≡◌, ◌≢◌, ◌<◌, List, length, set, refl, ap, ◌∙◌, sym, subst, ⊎_elim, cases_eq}
+use Rattle.afdx_tx.proofs.Names.{length-set, get_or-set_other, each_set, Held, LinkState, held_at, link_at, no_link}
+use Rattle.afdx_tx.proofs.Names.{nothing_held}
 
 module _ (links : List LinkState) (k s : ℕ) (new : LinkState) (within : k < length links)
     (same : new ≡ record (link_at links k) { subs = set (link_at links k).subs s (held_at new.subs s) }) where

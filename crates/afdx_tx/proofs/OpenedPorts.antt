@@ -1,21 +1,14 @@
 -- Links, nothing of which was taken yet, whose ports are given their senders.
-use Rattle.std.proofs.Common.{ℕ, ◌≡◌, ◌+◌, ◌<◌, List, [], ◌∷◌, ◌++◌, length, take, get_or, set, arith, refl, ap, ◌∙◌, sym, subst, below_more, Option, Some, None}
-use Rattle.std.proofs.lemmas.Bool.{and_right, ne_eqb}
-use Rattle.std.proofs.lemmas.List.{length-append, get_or_append_left, get_or_push, length-set}
+use Rattle.afdx_tx.proofs.Names.{ℕ, ◌≡◌, ◌+◌, ◌<◌, List, [], ◌∷◌, ◌++◌, length, take, get_or, set, arith, refl, ap}
+use Rattle.afdx_tx.proofs.Names.{◌∙◌, sym, subst, below_more, Option, Some, None, and_right, ne_eqb, length-append}
+use Rattle.afdx_tx.proofs.Names.{get_or_append_left, get_or_push, length-set, LinkPlan, PortPlan, Plan, IsPlan}
+use Rattle.afdx_tx.proofs.Names.{link_plan_at, port_plan_at, link_place, most_calls, QueueName, SenderView}
+use Rattle.afdx_tx.proofs.Names.{new_receiver, new_sender, SubVl, Seen, receiving, gathered, queue_of, ports_of}
+use Rattle.afdx_tx.proofs.Names.{Held, LinkState, held_at, link_at, nothing_held, no_link, MakesSender, LacksSender}
+use Rattle.afdx_tx.proofs.Names.{SubMakesSender, LinkMakesSender, ports_of_sub, held_queue, link_queues, queues_in}
+use Rattle.afdx_tx.proofs.Names.{IsOpenedSub, AreOpenedSubs, IsOpenedLink, AreOpenedLinks, queue_at, index_of}
+use Rattle.afdx_tx.proofs.Names.{IsFreshSender, IsFreshPort, each_set}
 use Rattle.std.proofs.Math.ListN.{get_or-map}
-use Rattle.afdx_plan.specs.declared.link_plan.LinkPlan.{LinkPlan}
-use Rattle.afdx_plan.specs.declared.port_plan.PortPlan.{PortPlan}
-use Rattle.afdx_plan.specs.Config.{Plan, IsPlan, link_plan_at, port_plan_at}
-use Rattle.afdx_plan.specs.Places.{link_place}
-use Rattle.subvl_queue.specs.Messages.{most_calls}
-use Rattle.subvl_queue.specs.Views.{QueueName, SenderView, new_receiver, new_sender}
-use Rattle.vl_link.specs.declared.sub_vl.SubVl.{SubVl}
-use Rattle.vl_link.specs.Seen.{Seen, receiving, gathered, queue_of, ports_of}
-use Rattle.vl_link.specs.Links.{Held, LinkState, held_at, link_at, nothing_held, no_link}
-use Rattle.vl_link.specs.LinkSenders.{MakesSender, LacksSender, SubMakesSender, LinkMakesSender}
-use Rattle.afdx_tx.specs.Emitter.{ports_of_sub, held_queue, link_queues, queues_in, IsOpenedSub, AreOpenedSubs, IsOpenedLink, AreOpenedLinks}
-use Rattle.afdx_tx.specs.Ports.{queue_at, index_of, IsFreshSender, IsFreshPort}
-use Rattle.vl_link.proofs.Choosing.{each_set}
 use Rattle.afdx_tx.proofs.OneSub.{one_count, one_each}
 use Rattle.afdx_tx.proofs.PortSeats.{few_ports, IsAt, seats, seats_within, index_at, seat_at, others_at, other_at}
 use Rattle.afdx_tx.proofs.SoundEmitter.{alike_queues}

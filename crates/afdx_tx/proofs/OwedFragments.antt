@@ -1,21 +1,11 @@
 -- The fragments of a sub-VL's accepted messages, against its stream.
-use Rattle.std.proofs.Common.{ℕ, suc, ◌≡◌, ◌+◌, ◌<◌, List, [], ◌∷◌, ◌++◌, true, false, length, arith, refl, ap, ◌∙◌, sym, inl, inr}
-use Rattle.std.proofs.lemmas.List.{append-nil, append_assoc, map-append, nil_from_length, length-append}
-use Rattle.afdx_plan.specs.Room.{room_of}
-use Rattle.afdx_plan.specs.declared.link_plan.LinkPlan.{LinkPlan}
-use Rattle.afdx_frame.specs.declared.net.Net.{Net}
-use Rattle.afdx_frame.specs.declared.net.Net.TheVariants.{A}
-use Rattle.afdx_frame.specs.Fragments.{Sent, fragments, fragments_at, fragments_from}
-use Rattle.redundant_mux.specs.Entry.{Entry}
-use Rattle.vl_link.specs.declared.sub_vl.SubVl.{SubVl}
-use Rattle.vl_link.specs.Seen.{Seen, receiving, gathered, taken_of, FindsNothing, Finds, IsKnownWhole, known_of}
-use Rattle.afdx_legal.specs.Streams.{told_of}
-use Rattle.vl_link.specs.Links.{Held, LinkState, held_at, Asks, sent_of, sent_by, taken_by, sub_fragments}
-use Rattle.vl_link.specs.Kept.{IsLinkTied}
-use Rattle.afdx_legal.specs.Done.{IsReleased, Owes}
-use Rattle.afdx_tx.specs.Drain.{accepted_by}
+use Rattle.afdx_tx.proofs.Names.{ℕ, suc, ◌≡◌, ◌+◌, ◌<◌, List, [], ◌∷◌, ◌++◌, true, false, length, arith, refl, ap}
+use Rattle.afdx_tx.proofs.Names.{◌∙◌, sym, inl, inr, append-nil, append_assoc, map-append, nil_from_length}
+use Rattle.afdx_tx.proofs.Names.{length-append, room_of, LinkPlan, Net, A, Sent, fragments, fragments_at}
+use Rattle.afdx_tx.proofs.Names.{fragments_from, Entry, SubVl, Seen, receiving, gathered, taken_of, FindsNothing}
+use Rattle.afdx_tx.proofs.Names.{Finds, IsKnownWhole, known_of, told_of, Held, LinkState, held_at, Asks, sent_of}
+use Rattle.afdx_tx.proofs.Names.{sent_by, taken_by, sub_fragments, IsLinkTied, IsReleased, Owes, accepted_by, IsOwn}
 use Rattle.vl_link.proofs.FragmentsLeft.{fragments_some}
-use Rattle.vl_link.proofs.LinkTurn.{IsOwn}
 
 -- what is known to be left of a queue
 abbrev pub rest_of : Seen → List (ℕ × List ℕ)

@@ -1,21 +1,11 @@
 -- Each link's stream of the log is the longer of its own two.
-use Rattle.std.proofs.Common.{ℕ, ◌≡◌, ◌⊎◌, ◌<◌, ◌≤◌, List, [], ◌∷◌, length, map, arith, refl, ap, ◌∙◌, sym, inl, inr, ⊎_elim}
-use Rattle.std.specs.Prelude.{All}
-use Rattle.std.proofs.lemmas.Bool.{cases_lt, lt-ltb, le-ltb}
-use Rattle.std.proofs.lemmas.List.{append-nil, length-append, length-map, nil_from_length}
-use Rattle.std.proofs.lemmas.List.Elements.{All-tail}
-use Rattle.afdx_plan.specs.declared.networks.Networks.{Networks}
+use Rattle.afdx_tx.proofs.Names.{ℕ, ◌≡◌, ◌⊎◌, ◌<◌, ◌≤◌, List, [], ◌∷◌, length, map, arith, refl, ap, ◌∙◌, sym, inl}
+use Rattle.afdx_tx.proofs.Names.{inr, ⊎_elim, All, cases_lt, lt-ltb, le-ltb, append-nil, length-append, length-map}
+use Rattle.afdx_tx.proofs.Names.{nil_from_length, All-tail, Networks, Plan, link_plan_at, Net, A, B, twin_twice}
+use Rattle.afdx_tx.proofs.Names.{Entry, Logged, entries_of, side, Lines, IsMirrored, link_stream, longer}
+use Rattle.afdx_tx.proofs.Names.{own_stream, AreOwnStreams, AreCarried}
 use Rattle.afdx_plan.specs.declared.networks.Networks.TheVariants.{Both, OnlyA, OnlyB}
-use Rattle.afdx_plan.specs.Config.{Plan, link_plan_at}
-use Rattle.afdx_frame.specs.declared.net.Net.{Net}
-use Rattle.afdx_frame.specs.declared.net.Net.TheVariants.{A, B}
-use Rattle.afdx_frame.proofs.Twins.{twin_twice}
-use Rattle.redundant_mux.specs.Entry.{Entry}
-use Rattle.redundant_mux.specs.Logged.{Logged, entries_of, side}
-use Rattle.redundant_mux.specs.Lines.{Lines, log, IsMirrored}
-use Rattle.afdx_legal.specs.Streams.{link_stream}
-use Rattle.afdx_legal.specs.Own.{longer, own_stream, AreOwnStreams}
-use Rattle.afdx_tx.specs.Emitter.{AreCarried}
+use Rattle.redundant_mux.specs.Lines.{log}
 use Rattle.afdx_tx.proofs.HandedFronts.{IsFor, IsFront, link_side, front_of, all_handed, whole_alone}
 
 -- twins of twins

@@ -1,30 +1,13 @@
 -- One more link of a poll has had its turn.
-use Rattle.std.proofs.Common.{ℕ, ◌≡◌, ◌≢◌, ◌<◌, List, [], ◌∷◌, ◌++◌, ◌||◌, false, length, map, set, get_or, arith, refl, ap, ◌∙◌, sym, subst, ◌≤◌, Option, Some, None}
-use Rattle.std.proofs.lemmas.List.{length-set, ext_get_or, get_or-map, length-map}
-use Rattle.std.proofs.lemmas.List.Elements.{All-push}
-use Rattle.afdx_plan.specs.declared.identifiers.VlId.{VlId}
-use Rattle.afdx_plan.specs.declared.link_plan.LinkPlan.{LinkPlan}
-use Rattle.afdx_plan.specs.Config.{link_plan_at}
-use Rattle.afdx_frame.specs.declared.net.Net.TheVariants.{A}
-use Rattle.afdx_frame.specs.Header.{link_in}
-use Rattle.redundant_mux.specs.Entry.{Entry, entry}
-use Rattle.redundant_mux.specs.Logged.{Logged, logged_for}
-use Rattle.redundant_mux.specs.Lines.{Lines, log}
-use Rattle.redundant_mux.proofs.MirroredLines.{log_more, log_same}
-use Rattle.vl_shaper.specs.declared.shaper.Stamp.{Stamp}
-use Rattle.vl_shaper.specs.Pace.{IsLater}
-use Rattle.vl_link.specs.declared.served.Served.{Served}
-use Rattle.vl_link.specs.declared.served.Served.TheVariants.{Nothing, Released, Lost}
-use Rattle.afdx_legal.specs.Counting.{counts_in}
-use Rattle.afdx_legal.specs.Streams.{link_stream}
-use Rattle.afdx_legal.specs.Legal.{IsKnown, AreKnown}
-use Rattle.vl_link.specs.Links.{LinkState, link_at, held_at, no_link, no_link_plan, Serves, Follows, IsSameLink}
-use Rattle.vl_link.specs.Turn.{is_lost}
-use Rattle.afdx_tx.specs.Emitter.{plan_of_link, plans, AreApart, AreCarried, AreServedBy, IsSamePlan}
-use Rattle.vl_link.specs.Kept.{IsKept}
-use Rattle.afdx_tx.specs.Serving.{IsSteady}
-use Rattle.vl_link.proofs.LinkTurn.{Turned, IsOwn, HasItems, link_turn, kept_turn, other_stream, kept_stream, released_below}
-use Rattle.vl_link.proofs.Choosing.{each_set}
+use Rattle.afdx_tx.proofs.Names.{ℕ, ◌≡◌, ◌≢◌, ◌<◌, List, [], ◌∷◌, ◌++◌, ◌||◌, false, length, map, set, get_or}
+use Rattle.afdx_tx.proofs.Names.{arith, refl, ap, ◌∙◌, sym, subst, ◌≤◌, Option, Some, None, length-set, ext_get_or}
+use Rattle.afdx_tx.proofs.Names.{get_or-map, length-map, All-push, VlId, LinkPlan, link_plan_at, A, link_in, Entry}
+use Rattle.afdx_tx.proofs.Names.{entry, Logged, logged_for, Lines, log, log_more, log_same, Stamp, IsLater, Served}
+use Rattle.afdx_tx.proofs.Names.{Nothing, Released, Lost, counts_in, link_stream, IsKnown, AreKnown, LinkState}
+use Rattle.afdx_tx.proofs.Names.{link_at, held_at, no_link, no_link_plan, Serves, Follows, IsSameLink, is_lost}
+use Rattle.afdx_tx.proofs.Names.{plan_of_link, plans, AreApart, AreCarried, AreServedBy, IsSamePlan, IsKept}
+use Rattle.afdx_tx.proofs.Names.{IsSteady, Turned, IsOwn, HasItems, link_turn, kept_turn, other_stream, kept_stream}
+use Rattle.afdx_tx.proofs.Names.{released_below, each_set}
 use Rattle.vl_link.proofs.SubInStep.{same_sub_on, same_sub_here}
 
 -- a later moment

@@ -1,27 +1,12 @@
 -- One more link of a poll was asked whether it is due, and served where it is.
-use Rattle.std.proofs.Common.{ℕ, ◌≡◌, ◌+◌, ◌<◌, List, [], ◌++◌, false, length, set, refl, arith, ap, sym, ◌≤◌, ◌∷◌, ◌∙◌, add-one, true, subst, inl, inr}
-use Rattle.std.proofs.lemmas.List.{append-nil, map-append, append_assoc, length-append, length-set, get_or-set_same, get_or-set_other}
-use Rattle.redundant_mux.specs.Lines.{Lines, BothEndure, log, stands_for}
-use Rattle.redundant_mux.proofs.Enduring.{both_on, stood_before}
-use Rattle.vl_shaper.specs.Pace.{IsLater, Pace}
-use Rattle.vl_link.specs.declared.served.Served.{Served}
-use Rattle.vl_link.specs.Links.{LinkState, link_at, no_link, pace_of}
-use Rattle.vl_link.specs.Turn.{may_release, AreTurns}
-use Rattle.vl_link.proofs.LinkTurn.{Turned}
-use Rattle.afdx_tx.specs.declared.report.Release.{Release}
-use Rattle.afdx_tx.specs.Emitter.{AreApart}
-use Rattle.afdx_tx.specs.Report.{turn_release, release_of, IsTold}
-use Rattle.afdx_tx.specs.Serving.{IsPolling}
-use Rattle.afdx_plan.specs.declared.identifiers.VlId.{VlId}
-use Rattle.redundant_mux.specs.Entry.{Entry, entry}
-use Rattle.redundant_mux.specs.Logged.{logged_for}
-use Rattle.redundant_mux.proofs.MirroredLines.{log_more, log_same}
-use Rattle.vl_link.specs.declared.served.Served.TheVariants.{Nothing, Released, Lost}
-use Rattle.std.proofs.lemmas.Bool.{cases_Bool, both_ways}
-use Rattle.afdx_legal.specs.Streams.{link_stream}
-use Rattle.afdx_tx.specs.Run.{IsTurn, IsTurnAt}
-use Rattle.vl_link.specs.Kept.{IsKept}
-use Rattle.vl_link.proofs.TurnLaws.{turns_seen, turns_push, may_not}
+use Rattle.afdx_tx.proofs.Names.{ℕ, ◌≡◌, ◌+◌, ◌<◌, List, [], ◌++◌, false, length, set, refl, arith, ap, sym, ◌≤◌}
+use Rattle.afdx_tx.proofs.Names.{◌∷◌, ◌∙◌, add-one, true, subst, inl, inr, append-nil, map-append, append_assoc}
+use Rattle.afdx_tx.proofs.Names.{length-append, length-set, get_or-set_same, get_or-set_other, Lines, BothEndure}
+use Rattle.afdx_tx.proofs.Names.{log, stands_for, both_on, stood_before, IsLater, Pace, Served, LinkState, link_at}
+use Rattle.afdx_tx.proofs.Names.{no_link, pace_of, may_release, AreTurns, Turned, Release, AreApart, turn_release}
+use Rattle.afdx_tx.proofs.Names.{release_of, IsTold, IsPolling, VlId, Entry, entry, logged_for, log_more, log_same}
+use Rattle.afdx_tx.proofs.Names.{Nothing, Released, Lost, cases_Bool, both_ways, link_stream, IsTurn, IsTurnAt}
+use Rattle.afdx_tx.proofs.Names.{IsKept, turns_seen, turns_push, may_not}
 use Rattle.afdx_tx.proofs.PollTurns.{same_link, at_each, steady_more}
 
 -- where nothing entered nothing more is told

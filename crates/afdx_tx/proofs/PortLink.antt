@@ -1,17 +1,9 @@
 -- The link of a port.
-use Rattle.std.proofs.Common.{ℕ, ◌≡◌, ◌<◌, List, Bool, length, arith, ap, ◌∙◌, sym, refl, Option, Some, None, unwrap_or, ⊎_elim}
-use Rattle.std.proofs.lemmas.Bool.{eq-eqb, lt-ltb, eqb-true, both_ways, cases_lt}
+use Rattle.afdx_tx.proofs.Names.{ℕ, ◌≡◌, ◌<◌, List, Bool, length, arith, ap, ◌∙◌, sym, refl, Option, Some, None}
+use Rattle.afdx_tx.proofs.Names.{unwrap_or, ⊎_elim, eq-eqb, lt-ltb, eqb-true, both_ways, cases_lt}
+use Rattle.afdx_tx.proofs.Names.{fails_before_first, position, position_or_len, ◌==◌, VlId, LinkPlan, PortPlan}
+use Rattle.afdx_tx.proofs.Names.{SendsOver, Plan, IsPlan, HasLink, link_plan_at, no_link_plan, link_place}
 use Rattle.std.proofs.lemmas.List.Quantifiers.{position-Some}
-use Rattle.std.proofs.lemmas.List.Sums.{fails_before_first}
-use Rattle.std.specs.List.{position, position_or_len}
-use Rattle.std.specs.Prelude.{◌==◌}
-use Rattle.afdx_plan.specs.declared.identifiers.VlId.{VlId}
-use Rattle.afdx_plan.specs.declared.link_plan.LinkPlan.{LinkPlan}
-use Rattle.afdx_plan.specs.declared.port_plan.PortPlan.{PortPlan}
-use Rattle.afdx_plan.specs.Plan.{SendsOver}
-use Rattle.afdx_plan.specs.Config.{Plan, IsPlan, HasLink, link_plan_at}
-use Rattle.vl_link.specs.Links.{no_link_plan}
-use Rattle.afdx_plan.specs.Places.{link_place}
 
 -- whether a link has this identifier
 abbrev has_id : ℕ → LinkPlan → Bool

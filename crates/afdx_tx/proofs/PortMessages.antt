@@ -1,26 +1,15 @@
 -- What a sub-VL accepted of each of its ports.
-use Rattle.std.proofs.Common.{ℕ, suc, ◌≡◌, ◌≢◌, ◌<◌, List, [], ◌∷◌, Bool, true, ◌≤◌, cond, nat_eq, filter, ◌+◌, ◌++◌, drop, drop-cons, length, take, get_or, arith, refl, ap, ◌∙◌, sym, subst, ⊎_elim}
-use Rattle.std.specs.Prelude.{All, Contains, ◌==◌}
-use Rattle.std.specs.List.{AllPairs}
-use Rattle.std.proofs.lemmas.Bool.{cases_eq, cases_lt, eq-eqb, ne_eqb}
-use Rattle.std.proofs.lemmas.List.{get_or_at, get_or_default, take-append-drop}
-use Rattle.std.proofs.lemmas.List.Elements.{All-head, All-tail, All-map, All-contains_itself, filter-append}
+use Rattle.afdx_tx.proofs.Names.{ℕ, suc, ◌≡◌, ◌≢◌, ◌<◌, List, [], ◌∷◌, Bool, true, ◌≤◌, cond, nat_eq, filter, ◌+◌}
+use Rattle.afdx_tx.proofs.Names.{◌++◌, drop, drop-cons, length, take, get_or, arith, refl, ap, ◌∙◌, sym, subst}
+use Rattle.afdx_tx.proofs.Names.{⊎_elim, All, Contains, ◌==◌, AllPairs, cases_eq, cases_lt, eq-eqb, ne_eqb}
+use Rattle.afdx_tx.proofs.Names.{get_or_at, get_or_default, take-append-drop, All-head, All-tail, All-map}
+use Rattle.afdx_tx.proofs.Names.{All-contains_itself, filter-append, VlId, PortPlan, Plan, IsPlan, link_plan_at}
+use Rattle.afdx_tx.proofs.Names.{port_plan_at, SendsOver, IsItem, AreItems, part_of, Seen, taken_of, known_of}
+use Rattle.afdx_tx.proofs.Names.{LinkState, held_at, link_at, sent_of, sent_by, items_taken, Tx, AreLinksOf}
+use Rattle.afdx_tx.proofs.Names.{HaveOwnItems, taken_in, ports_of_sub, accepted_in, link_place, index_of, held_for}
 use Rattle.std.proofs.lemmas.List.Kept.{AllPairs-filter}
 use Rattle.afdx_plan.specs.declared.identifiers.PortId.{PortId}
-use Rattle.afdx_plan.specs.declared.identifiers.VlId.{VlId}
-use Rattle.afdx_plan.specs.declared.port_plan.PortPlan.{PortPlan}
-use Rattle.afdx_plan.specs.Config.{Plan, IsPlan, link_plan_at, port_plan_at}
-use Rattle.afdx_plan.specs.Plan.{SendsOver}
-use Rattle.subvl_queue.specs.Messages.{IsItem, AreItems, part_of}
 use Rattle.afdx_legal.specs.Allowed.{IsAllowed, AreAllowed, messages_of, port_messages}
-use Rattle.vl_link.specs.Seen.{Seen, taken_of, known_of}
-use Rattle.vl_link.specs.Links.{LinkState, held_at, link_at, sent_of, sent_by}
-use Rattle.vl_link.proofs.QueueLooks.{items_taken}
-use Rattle.afdx_tx.specs.Emitter.{Tx, AreLinksOf, HaveOwnItems, taken_in, ports_of_sub}
-use Rattle.afdx_tx.specs.Drain.{accepted_in}
-use Rattle.afdx_plan.specs.Places.{link_place}
-use Rattle.afdx_tx.specs.Ports.{index_of}
-use Rattle.afdx_tx.specs.Gathering.{held_for}
 use Rattle.afdx_tx.proofs.SoundEmitter.{plan_is, count_is}
 use Rattle.afdx_tx.proofs.PortLink.{link_within}
 use Rattle.afdx_tx.proofs.PortSeats.{of_sub, on_own, on_sub_vl, seats_more, seats_within}

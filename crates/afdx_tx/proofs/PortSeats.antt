@@ -1,17 +1,11 @@
 -- How many of the first ports of a configuration are of a sub-VL.
-use Rattle.std.proofs.Common.{ℕ, ◌≡◌, ◌+◌, ◌<◌, ◌≤◌, List, ◌++◌, Bool, true, false, ◌&&◌, nat_eq, cond, length, take, drop, arith, refl, ap, ◌∙◌, sym, add-zero, All}
-use Rattle.std.proofs.lemmas.Bool.{eq-eqb, ne_eqb, and_from, and_left, and_parts, eqb-true}
-use Rattle.std.proofs.lemmas.List.{length-append, take-append-drop}
-use Rattle.std.proofs.lemmas.List.Elements.{filter-append, All-filter, filter_passes}
+use Rattle.afdx_tx.proofs.Names.{ℕ, ◌≡◌, ◌+◌, ◌<◌, ◌≤◌, List, ◌++◌, Bool, true, false, ◌&&◌, nat_eq, cond, length}
+use Rattle.afdx_tx.proofs.Names.{take, drop, arith, refl, ap, ◌∙◌, sym, add-zero, eq-eqb, ne_eqb, and_from}
+use Rattle.afdx_tx.proofs.Names.{and_left, and_parts, eqb-true, length-append, take-append-drop, filter-append}
+use Rattle.afdx_tx.proofs.Names.{All-filter, filter_passes, VlId, PortPlan, Plan, IsPlan, link_plan_at}
+use Rattle.afdx_tx.proofs.Names.{port_plan_at, SendsOver, IsPort, ports_of_sub, index_of, length-filter, SubVl}
+use Rattle.std.proofs.Common.{All}
 use Rattle.std.proofs.lemmas.List.Filters.{length-filter_more}
-use Rattle.afdx_plan.specs.declared.identifiers.VlId.{VlId}
-use Rattle.afdx_plan.specs.declared.port_plan.PortPlan.{PortPlan}
-use Rattle.afdx_plan.specs.Config.{Plan, IsPlan, link_plan_at, port_plan_at}
-use Rattle.afdx_plan.specs.Plan.{SendsOver, IsPort}
-use Rattle.afdx_tx.specs.Emitter.{ports_of_sub}
-use Rattle.afdx_tx.specs.Ports.{index_of}
-use Rattle.std.proofs.lemmas.List.Sums.{length-filter}
-use Rattle.vl_link.specs.declared.sub_vl.SubVl.{SubVl}
 use Rattle.vl_link.specs.Subs.{IsPortOf}
 
 -- whether a port is of a sub-VL

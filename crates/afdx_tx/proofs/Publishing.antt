@@ -1,19 +1,11 @@
 -- The counts of links are published one after the other.
-use Rattle.std.proofs.Common.{ℕ, ◌≡◌, ◌≤◌, ◌<◌, List, [], ◌++◌, length, zero-le, arith, sym, ap, ◌∙◌}
-use Rattle.afdx_plan.specs.declared.link_plan.LinkPlan.{LinkPlan}
-use Rattle.afdx_frame.specs.Header.{link_in}
-use Rattle.redundant_mux.specs.Entry.{Entry}
+use Rattle.afdx_tx.proofs.Names.{ℕ, ◌≡◌, ◌≤◌, ◌<◌, List, [], ◌++◌, length, zero-le, arith, sym, ap, ◌∙◌, LinkPlan}
+use Rattle.afdx_tx.proofs.Names.{link_in, Entry, zeros, NoFieldFalls, Published, published, last_of, with_entry}
+use Rattle.afdx_tx.proofs.Names.{link_stream, with_append, LinkState, link_at, IsKept, AreKept, IsSamePlan, Reaches}
+use Rattle.afdx_tx.proofs.Names.{PublishesCounts}
 use Rattle.status_board.specs.declared.counts.Counts.{Counts}
-use Rattle.status_board.specs.History.{zeros, NoFieldFalls}
-use Rattle.status_board.specs.Views.{Published, published, last_of, with_entry}
 use Rattle.status_board.proofs.Histories.{last_or-push, falls_not_same, falls_not_through}
-use Rattle.afdx_legal.specs.Streams.{link_stream}
 use Rattle.afdx_legal.proofs.CountingLemmas.{counts_more}
-use Rattle.afdx_legal.proofs.StreamLemmas.{with_append}
-use Rattle.vl_link.specs.Links.{LinkState, link_at}
-use Rattle.vl_link.specs.Kept.{IsKept}
-use Rattle.afdx_tx.specs.Emitter.{AreKept, IsSamePlan}
-use Rattle.afdx_tx.specs.Publishing.{Reaches, PublishesCounts}
 use Rattle.afdx_tx.proofs.KeptLinks.{KeepLinks}
 
 -- the counts of the first links were published, and the others stand as they were

@@ -1,24 +1,14 @@
 -- An emitter after its links had their turns.
-use Rattle.std.proofs.Common.{ℕ, ◌≡◌, ◌<◌, List, length, arith, refl, ap, ◌∙◌, sym, None, ⊎_elim, Bool, subst}
-use Rattle.std.proofs.lemmas.Bool.{cases_lt}
-use Rattle.std.proofs.lemmas.List.{get_or_past}
-use Rattle.afdx_plan.specs.declared.link_plan.LinkPlan.{LinkPlan}
-use Rattle.afdx_plan.specs.Config.{Plan, IsPlan, link_plan_at}
-use Rattle.redundant_mux.specs.Lines.{Lines, log, IsMirrored, Keeps}
-use Rattle.afdx_legal.specs.Streams.{link_stream}
-use Rattle.afdx_legal.specs.Legal.{IsLegal}
-use Rattle.afdx_legal.specs.Counting.{counts_in}
-use Rattle.afdx_legal.specs.Own.{own_stream, AreOwnStreams}
-use Rattle.vl_link.specs.Links.{LinkState, link_at, no_link, held_at, nothing_held}
-use Rattle.afdx_tx.specs.Emitter.{plan_of_link, AreLinks, AreApart, AreLinksOf, AreWhole, AreReceiving, IsSamePlan, IsSound, taken_in, held_queue, link_queues, queues_in, total_in, AreCarried}
-use Rattle.afdx_tx.specs.Serving.{IsSteady}
+use Rattle.afdx_tx.proofs.Names.{ℕ, ◌≡◌, ◌<◌, List, length, arith, refl, ap, ◌∙◌, sym, None, ⊎_elim, Bool, subst}
+use Rattle.afdx_tx.proofs.Names.{cases_lt, get_or_past, LinkPlan, Plan, IsPlan, link_plan_at, Lines, log}
+use Rattle.afdx_tx.proofs.Names.{IsMirrored, Keeps, link_stream, IsLegal, counts_in, own_stream, AreOwnStreams}
+use Rattle.afdx_tx.proofs.Names.{LinkState, link_at, no_link, held_at, nothing_held, plan_of_link, AreLinks}
+use Rattle.afdx_tx.proofs.Names.{AreApart, AreLinksOf, AreWhole, IsSamePlan, IsSound, taken_in}
+use Rattle.afdx_tx.proofs.Names.{held_queue, link_queues, queues_in, total_in, AreCarried, IsSteady}
+use Rattle.afdx_tx.proofs.Names.{same_name, same_total, Net, A, B, Entry}
 use Rattle.afdx_tx.proofs.LegalLists.{legal_of}
 use Rattle.afdx_tx.proofs.OwnStreams.{own_streams}
 use Rattle.afdx_tx.proofs.PollTurns.{map_alike, plan_at_is, plans_length}
-use Rattle.vl_link.proofs.QueueLooks.{still_receiving, same_name, same_total}
-use Rattle.afdx_frame.specs.declared.net.Net.{Net}
-use Rattle.afdx_frame.specs.declared.net.Net.TheVariants.{A, B}
-use Rattle.redundant_mux.specs.Entry.{Entry}
 use Rattle.afdx_legal.specs.Turns.{TakesTurns, TakeTurnsOn, TakeTurns}
 use Rattle.afdx_legal.proofs.TurnsOfFront.{turns_side}
 use Rattle.vl_link.specs.Shown.{none_begun}

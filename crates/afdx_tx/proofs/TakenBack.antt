@@ -1,22 +1,14 @@
 -- The queues of an emitter take the senders of its ports back.
-use Rattle.std.proofs.Common.{ℕ, zero, suc, ◌≡◌, ◌+◌, ◌<◌, ◌≤◌, List, [], ◌∷◌, Bool, true, false, cond, length, set, arith, refl, ap, ◌∙◌, sym, subst, ⊎_elim}
-use Rattle.std.specs.Prelude.{All, Contains}
+use Rattle.afdx_tx.proofs.Names.{ℕ, zero, suc, ◌≡◌, ◌+◌, ◌<◌, ◌≤◌, List, [], ◌∷◌, Bool, true, false, cond, length}
+use Rattle.afdx_tx.proofs.Names.{set, arith, refl, ap, ◌∙◌, sym, subst, ⊎_elim, All, Contains, and_parts, cases_lt}
+use Rattle.afdx_tx.proofs.Names.{eqb-true, length-set, get_or-set_same, All-contains, Contains-push}
+use Rattle.afdx_tx.proofs.Names.{Contains-append_left, VlId, PortPlan, Plan, IsPlan, link_plan_at, port_plan_at}
+use Rattle.afdx_tx.proofs.Names.{link_place, SenderView, ReceiverView, Brought, brought_by, Seen, receiving}
+use Rattle.afdx_tx.proofs.Names.{gathered, queue_of, taken_of, known_of, IsReceiving, Held, LinkState, held_at}
+use Rattle.afdx_tx.proofs.Names.{link_at, no_link, TakesBack, back_of, LinkTakesBack, BecomesWhole, AreLinksOf}
+use Rattle.afdx_tx.proofs.Names.{AreReceiving, ports_of_sub, queues_in, PortView, HasEveryPlace, BelongsTo}
+use Rattle.afdx_tx.proofs.Names.{HasOwnMessages, index_of, OnlyTakesBack, OnlyTakeBack, IsTakenBack, AreFull}
 use Rattle.std.proofs.Math.Seq.{take-length}
-use Rattle.std.proofs.lemmas.Bool.{and_parts, cases_lt, eqb-true}
-use Rattle.std.proofs.lemmas.List.{length-set, get_or-set_same}
-use Rattle.std.proofs.lemmas.List.Elements.{All-contains, Contains-push, Contains-append_left}
-use Rattle.afdx_plan.specs.declared.identifiers.VlId.{VlId}
-use Rattle.afdx_plan.specs.declared.port_plan.PortPlan.{PortPlan}
-use Rattle.afdx_plan.specs.Config.{Plan, IsPlan, link_plan_at, port_plan_at}
-use Rattle.afdx_plan.specs.Places.{link_place}
-use Rattle.subvl_queue.specs.Views.{SenderView, ReceiverView, Brought, brought_by}
-use Rattle.vl_link.specs.Seen.{Seen, receiving, gathered, queue_of, taken_of, known_of, IsReceiving}
-use Rattle.vl_link.specs.Links.{Held, LinkState, held_at, link_at, no_link}
-use Rattle.vl_link.specs.LinkSenders.{TakesBack, back_of, LinkTakesBack}
-use Rattle.vl_link.specs.LinkGathering.{BecomesWhole}
-use Rattle.afdx_tx.specs.Emitter.{AreLinksOf, AreReceiving, ports_of_sub, queues_in}
-use Rattle.afdx_tx.specs.Ports.{PortView, HasEveryPlace, BelongsTo, HasOwnMessages, index_of}
-use Rattle.afdx_tx.specs.Gathering.{OnlyTakesBack, OnlyTakeBack, IsTakenBack, AreFull}
 use Rattle.afdx_tx.proofs.OneSub.{one_link, one_count, one_each}
 use Rattle.afdx_tx.proofs.KeptLinks.{KeepLinks}
 use Rattle.afdx_tx.proofs.SoundEmitter.{plan_is, count_is}

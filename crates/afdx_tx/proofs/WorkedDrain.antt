@@ -1,20 +1,15 @@
 -- The worked drain, by computation.
-use Rattle.std.proofs.Common.{◌≡◌, ℕ, zero, suc, ◌<◌, [], ◌∷◌, length, true, false, None, refl, arith, inr}
+use Rattle.afdx_tx.proofs.Names.{◌≡◌, ℕ, zero, suc, ◌<◌, [], ◌∷◌, length, true, false, None, refl, arith, inr, A}
+use Rattle.afdx_tx.proofs.Names.{blanked, IsLater, latest, IsReleased, Owes, Nothing, Released, Drains, IsDrained}
+use Rattle.afdx_tx.proofs.Names.{stream_at, owed_at, DrainsOne, no_lines, one_line}
 use Rattle.afdx_plan.specs.Demo.{demo_plan, demo_link}
 use Rattle.afdx_plan.proofs.DemoPlan.{demo_valid}
 use Rattle.afdx_frame.specs.Checksum.{checksum}
 use Rattle.afdx_frame.specs.Cutting.{cutting}
-use Rattle.afdx_frame.specs.declared.net.Net.TheVariants.{A}
-use Rattle.afdx_frame.specs.Fragments.{fragments_at, blanked}
+use Rattle.afdx_frame.specs.Fragments.{fragments_at}
 use Rattle.afdx_frame.specs.Frame.{addresses, header_front, internet_header, link_header, udp_header, datagram, unnumbered}
 use Rattle.redundant_mux.specs.Lines.{log}
-use Rattle.vl_shaper.specs.Pace.{IsLater}
-use Rattle.afdx_legal.specs.Streams.{latest}
-use Rattle.afdx_legal.specs.Done.{IsReleased, Owes}
 use Rattle.afdx_legal.specs.WorkedMessage.{one_byte_accepted, one_frame}
-use Rattle.vl_link.specs.declared.served.Served.TheVariants.{Nothing, Released}
-use Rattle.afdx_tx.specs.Drain.{Drains, IsDrained}
-use Rattle.afdx_tx.specs.DrainEnds.{stream_at, owed_at, DrainsOne, no_lines, one_line}
 
 -- there is one link, and one sub-VL
 only_one : (P : ℕ → Type 0) → P 0 → (k : ℕ) → k < 1 → P k

@@ -1,8 +1,5 @@
-use Rattle.std.proofs.Common.{◌+◌, ◌<◌, length, arith, ◌∙◌}
-use Rattle.std.proofs.lemmas.List.{get_or_default, get_or-set_other, length-set}
-use Rattle.vl_link.specs.Links.{link_at, no_link}
-use Rattle.vl_link.specs.LinkGathering.{GathersLink}
-use Rattle.vl_link.proofs.Choosing.{each_set}
+use Rattle.afdx_tx.proofs.Names.{◌+◌, ◌<◌, length, arith, ◌∙◌, get_or_default, get_or-set_other, length-set}
+use Rattle.afdx_tx.proofs.Names.{link_at, no_link, GathersLink, each_set}
 use Rattle.afdx_tx.proofs.gather.gather_all.Goals as goal
 
 pub gather-requires : goal.gather-requires

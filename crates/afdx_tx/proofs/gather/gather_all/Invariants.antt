@@ -1,6 +1,4 @@
-use Rattle.std.proofs.Common.{ℕ, ◌≡◌, ◌<◌, ◌≤◌, length}
-use Rattle.vl_link.specs.Links.{link_at}
-use Rattle.vl_link.specs.LinkGathering.{GathersLink}
+use Rattle.afdx_tx.proofs.Names.{ℕ, ◌≡◌, ◌<◌, ◌≤◌, length, link_at, GathersLink}
 use Rattle.afdx_tx.proofs.gather.gather_all.Given as goal
 
 abbrev pub invariant-loop-link : goal.invariant-loop-link

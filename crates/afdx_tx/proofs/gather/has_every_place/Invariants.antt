@@ -1,5 +1,4 @@
-use Rattle.std.proofs.Common.{ℕ, ◌<◌}
-use Rattle.afdx_tx.specs.Ports.{HasPlace}
+use Rattle.afdx_tx.proofs.Names.{ℕ, ◌<◌, HasPlace}
 use Rattle.afdx_tx.proofs.gather.has_every_place.Given as goal
 
 abbrev pub invariant-loop-place : goal.invariant-loop-place

@@ -1,5 +1,4 @@
-use Rattle.std.proofs.Common.{◌≡◌, ℕ, ◌<◌, get_or}
-use Rattle.afdx_tx.specs.Ports.{PortView}
+use Rattle.afdx_tx.proofs.Names.{◌≡◌, ℕ, ◌<◌, get_or, PortView}
 use Rattle.afdx_tx.proofs.gather.has_place.Given as goal
 
 abbrev pub invariant-loop-port : goal.invariant-loop-port

@@ -1,14 +1,8 @@
-use Rattle.std.proofs.Common.{rules, map-id, ℕ, ◌≡◌, ◌<◌, ◌∙◌, length, get_or, set, arith, ap, sym, subst}
-use Rattle.std.proofs.lemmas.List.{get_or_default}
-use Rattle.std.proofs.lemmas.List.Elements.{All-push, All-weaker}
+use Rattle.afdx_tx.proofs.Names.{rules, map-id, ℕ, ◌≡◌, ◌<◌, ◌∙◌, length, get_or, set, arith, ap, sym, subst}
+use Rattle.afdx_tx.proofs.Names.{get_or_default, All-push, All-weaker, PortPlan, link_place, link_at, no_link}
+use Rattle.afdx_tx.proofs.Names.{queues_in, BelongsTo, queue_for, queue_at, IsTakenBack}
 use Rattle.std.proofs.lemmas.Iterator.Adapters.{YieldsList-from_vec}
 use Rattle.std.proofs.lemmas.Iterator.Consumers.{YieldsList-end, YieldsList-turn}
-use Rattle.afdx_plan.specs.declared.port_plan.PortPlan.{PortPlan}
-use Rattle.afdx_plan.specs.Places.{link_place}
-use Rattle.vl_link.specs.Links.{link_at, no_link}
-use Rattle.afdx_tx.specs.Emitter.{queues_in}
-use Rattle.afdx_tx.specs.Ports.{BelongsTo, queue_for, queue_at}
-use Rattle.afdx_tx.specs.Gathering.{IsTakenBack}
 use Rattle.afdx_tx.proofs.SoundEmitter.{count_is}
 use Rattle.afdx_tx.proofs.OpenedPorts.{queue_at_is}
 use Rattle.afdx_tx.proofs.PortMessages.{sub_within}

@@ -1,5 +1,4 @@
-use Rattle.std.specs.Prelude.{All}
-use Rattle.afdx_tx.specs.Gathering.{OnlyTakeBack, IsTakenBack}
+use Rattle.afdx_tx.proofs.Names.{All, OnlyTakeBack, IsTakenBack}
 use Rattle.afdx_tx.proofs.gather.take_back_all.Given as goal
 
 abbrev pub invariant-loop-port : goal.invariant-loop-port

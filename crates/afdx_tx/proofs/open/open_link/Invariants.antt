@@ -1,5 +1,4 @@
-use Rattle.std.proofs.Common.{[]}
-use Rattle.afdx_tx.specs.Emitter.{AreOpenedSubs}
+use Rattle.afdx_tx.proofs.Names.{[], AreOpenedSubs}
 use Rattle.afdx_tx.proofs.open.open_link.Given as goal
 
 abbrev pub invariant-loop-sub : goal.invariant-loop-sub

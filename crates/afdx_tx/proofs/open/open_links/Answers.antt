@@ -1,7 +1,5 @@
-use Rattle.std.proofs.Common.{◌<◌, List, [], length, get_or, arith, ap, ◌∙◌}
-use Rattle.std.proofs.lemmas.List.{get_or_default}
-use Rattle.afdx_plan.specs.declared.link_plan.LinkPlan.{LinkPlan}
-use Rattle.vl_link.specs.Links.{no_link_plan}
+use Rattle.afdx_tx.proofs.Names.{◌<◌, List, [], length, get_or, arith, ap, ◌∙◌, get_or_default, LinkPlan}
+use Rattle.afdx_tx.proofs.Names.{no_link_plan}
 use Rattle.afdx_tx.proofs.OpenedPorts.{links_push}
 use Rattle.afdx_tx.proofs.open.open_links.Goals as goal
 

@@ -1,5 +1,4 @@
-use Rattle.std.proofs.Common.{[]}
-use Rattle.afdx_tx.specs.Emitter.{AreOpenedLinks}
+use Rattle.afdx_tx.proofs.Names.{[], AreOpenedLinks}
 use Rattle.afdx_tx.proofs.open.open_links.Given as goal
 
 abbrev pub invariant-loop-plan : goal.invariant-loop-plan

@@ -1,9 +1,5 @@
-use Rattle.std.proofs.Common.{[], ◌∷◌, length, refl, arith, ap}
-use Rattle.std.proofs.lemmas.List.{get_or_default, length-append}
-use Rattle.subvl_queue.specs.Messages.{most_calls}
-use Rattle.vl_link.specs.Links.{no_link}
-use Rattle.afdx_tx.specs.Emitter.{queues_in}
-use Rattle.afdx_tx.specs.Ports.{IsFreshPort}
+use Rattle.afdx_tx.proofs.Names.{[], ◌∷◌, length, refl, arith, ap, get_or_default, length-append, most_calls}
+use Rattle.afdx_tx.proofs.Names.{no_link, queues_in, IsFreshPort}
 use Rattle.afdx_tx.proofs.PortSeats.{place_at}
 use Rattle.afdx_tx.proofs.OpenedPorts.{each_push, lacks_at, opened_more, names_more, fresh_port}
 use Rattle.afdx_tx.proofs.open.open_ports.Goals as goal

@@ -1,6 +1,5 @@
-use Rattle.std.proofs.Common.{ℕ, ◌≡◌, ◌<◌, length, get_or, take}
-use Rattle.afdx_tx.specs.Emitter.{queues_in, AreOpenedLinks}
-use Rattle.afdx_tx.specs.Ports.{PortView, IsFreshPort}
+use Rattle.afdx_tx.proofs.Names.{ℕ, ◌≡◌, ◌<◌, length, get_or, take, queues_in, AreOpenedLinks, PortView}
+use Rattle.afdx_tx.proofs.Names.{IsFreshPort}
 use Rattle.afdx_tx.proofs.open.open_ports.Given as goal
 
 abbrev pub invariant-loop-place : goal.invariant-loop-place

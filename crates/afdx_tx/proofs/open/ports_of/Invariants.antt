@@ -1,5 +1,4 @@
-use Rattle.std.proofs.Common.{◌≡◌, take}
-use Rattle.afdx_tx.specs.Emitter.{ports_of_sub}
+use Rattle.afdx_tx.proofs.Names.{◌≡◌, take, ports_of_sub}
 use Rattle.afdx_tx.proofs.open.ports_of.Given as goal
 
 abbrev pub invariant-loop-port : goal.invariant-loop-port

@@ -1,4 +1,4 @@
-use Rattle.std.proofs.Common.{◌∙◌, sym}
+use Rattle.afdx_tx.proofs.Names.{◌∙◌, sym}
 use Rattle.afdx_tx.proofs.PortLink.{found, found_over}
 use Rattle.afdx_tx.proofs.routing.link_of.Goals as goal
 

@@ -1,8 +1,5 @@
-use Rattle.std.proofs.Common.{ℕ, ◌≡◌, ◌∙◌, ◌<◌, List, length, get_or, sym}
-use Rattle.std.proofs.lemmas.List.{get_or_default}
-use Rattle.afdx_plan.specs.declared.link_plan.LinkPlan.{LinkPlan}
-use Rattle.afdx_plan.specs.Config.{link_plan_at}
-use Rattle.vl_link.specs.Links.{no_link_plan}
+use Rattle.afdx_tx.proofs.Names.{ℕ, ◌≡◌, ◌∙◌, ◌<◌, List, length, get_or, sym, get_or_default, LinkPlan}
+use Rattle.afdx_tx.proofs.Names.{link_plan_at, no_link_plan}
 use Rattle.afdx_tx.proofs.PortLink.{none_has, found_at}
 use Rattle.afdx_tx.proofs.ClosedEmitter.{lacks_at}
 use Rattle.afdx_tx.proofs.routing.link_of_sub.Goals as goal

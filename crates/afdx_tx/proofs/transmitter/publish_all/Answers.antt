@@ -1,4 +1,4 @@
-use Rattle.std.proofs.Common.{ℕ, ◌≡◌, length, arith, subst}
+use Rattle.afdx_tx.proofs.Names.{ℕ, ◌≡◌, length, arith, subst}
 use Rattle.afdx_tx.proofs.Publishing.{IsPublishing, publishing_all, reaches_all}
 use Rattle.afdx_tx.proofs.transmitter.publish_all.Goals as goal
 

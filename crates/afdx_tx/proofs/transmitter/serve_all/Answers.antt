@@ -1,17 +1,11 @@
-use Rattle.std.proofs.Common.{◌++◌, ◌≡◌, ◌<◌, ◌∙◌, ap, sym, length, get_or, arith}
-use Rattle.std.proofs.lemmas.Bool.{and_parts}
-use Rattle.std.proofs.lemmas.List.{get_or_default, set-get_or}
-use Rattle.afdx_plan.specs.declared.identifiers.VlId.{VlId}
-use Rattle.afdx_plan.specs.declared.link_plan.LinkPlan.{LinkPlan}
-use Rattle.vl_link.specs.Links.{link_at, no_link}
-use Rattle.afdx_tx.specs.declared.report.Release.{Release}
-use Rattle.afdx_tx.specs.Report.{turn_release}
+use Rattle.afdx_tx.proofs.Names.{◌++◌, ◌≡◌, ◌<◌, ◌∙◌, ap, sym, length, get_or, arith, and_parts, get_or_default}
+use Rattle.afdx_tx.proofs.Names.{set-get_or, VlId, LinkPlan, link_at, no_link, Release, turn_release}
 use Rattle.arrayvec.specs.ArrayVec.{ArrayVec}
 use Rattle.afdx_tx.proofs.PollTurns.{turned_at}
 use Rattle.afdx_tx.proofs.PollingLinks.{polling_more, polling_on}
+use Rattle.afdx_tx.proofs.transmitter.serve_all.Goals.{then-may_release, else-may_release}
 use Rattle.afdx_tx.proofs.transmitter.serve_all.Given
 use Rattle.afdx_tx.proofs.transmitter.serve_all.Goals as goal
-use Rattle.afdx_tx.proofs.transmitter.serve_all.Goals.{then-may_release, else-may_release}
 
 -- the place is one of a link
 within : (g : Given.Over) (c : goal.Joined-may_release g) → c.loop-link.link-index < length c.loop-link.links

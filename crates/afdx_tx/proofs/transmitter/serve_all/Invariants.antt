@@ -1,4 +1,4 @@
-use Rattle.afdx_tx.specs.Serving.{IsPolling}
+use Rattle.afdx_tx.proofs.Names.{IsPolling}
 use Rattle.afdx_tx.proofs.transmitter.serve_all.Given as goal
 
 abbrev pub invariant-loop-link : goal.invariant-loop-link

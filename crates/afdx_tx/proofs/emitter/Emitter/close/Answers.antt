@@ -1,4 +1,4 @@
-use Rattle.std.proofs.Common.{rules}
+use Rattle.afdx_tx.proofs.Names.{rules}
 use Rattle.afdx_tx.proofs.ClosedEmitter.{answered_queues}
 use Rattle.afdx_tx.proofs.emitter.Emitter.close.Goals as goal
 

@@ -1,7 +1,4 @@
-use Rattle.std.proofs.Common.{◌∙◌, ◌<◌, length, arith, subst}
-use Rattle.std.proofs.lemmas.List.{get_or_default}
-use Rattle.vl_link.specs.Links.{LinkState, no_link}
-use Rattle.vl_link.specs.Closing.{ClosesLink}
+use Rattle.afdx_tx.proofs.Names.{◌∙◌, ◌<◌, length, arith, subst, get_or_default, LinkState, no_link, ClosesLink}
 use Rattle.afdx_tx.proofs.SoundEmitter.{count_is}
 use Rattle.afdx_tx.proofs.KeptLinks.{kept_sound}
 use Rattle.afdx_tx.proofs.Publishing.{reaches_kept}

@@ -1,8 +1,5 @@
-use Rattle.std.proofs.Common.{◌≡◌, ◌∙◌, ◌<◌, length, arith, ap, sym, ℕ, refl}
-use Rattle.std.proofs.lemmas.List.{get_or_default}
-use Rattle.vl_link.specs.Links.{LinkState, no_link}
-use Rattle.afdx_legal.specs.Own.{own_stream}
-use Rattle.afdx_legal.specs.Counting.{counts_in}
+use Rattle.afdx_tx.proofs.Names.{◌≡◌, ◌∙◌, ◌<◌, length, arith, ap, sym, ℕ, refl, get_or_default, LinkState, no_link}
+use Rattle.afdx_tx.proofs.Names.{own_stream, counts_in}
 use Rattle.afdx_tx.specs.Naming.{IsLinkAt}
 use Rattle.afdx_tx.proofs.PortLink.{none_has, found_at}
 use Rattle.afdx_tx.proofs.SoundEmitter.{count_is, sound_counts}

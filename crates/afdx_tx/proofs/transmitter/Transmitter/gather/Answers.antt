@@ -1,8 +1,4 @@
-use Rattle.std.proofs.Common.{refl, ◌≡◌, ◌∙◌}
-use Rattle.std.specs.Vec.{with_items}
-use Rattle.std.proofs.lemmas.List.{with_items_is}
-use Rattle.afdx_tx.specs.Emitter.{IsSound}
-use Rattle.afdx_tx.specs.Gathering.{GathersPorts}
+use Rattle.afdx_tx.proofs.Names.{refl, ◌≡◌, ◌∙◌, with_items, with_items_is, IsSound, GathersPorts}
 use Rattle.afdx_tx.proofs.Conforming.{sound_conforms}
 use Rattle.afdx_tx.proofs.GatheredPorts.{gathers_sound, gathers_reaches, gathers_tx, all_gathered}
 use Rattle.afdx_tx.proofs.transmitter.Transmitter.gather.Given

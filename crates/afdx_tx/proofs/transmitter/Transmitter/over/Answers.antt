@@ -1,6 +1,4 @@
-use Rattle.std.proofs.Common.{◌∙◌, sym, subst}
-use Rattle.redundant_mux.specs.Lines.{Lines}
-use Rattle.afdx_tx.specs.Emitter.{IsSound}
+use Rattle.afdx_tx.proofs.Names.{◌∙◌, sym, subst, Lines, IsSound}
 use Rattle.afdx_tx.proofs.Publishing.{reaches_none}
 use Rattle.afdx_tx.proofs.FreshEmitter.{fresh_sound}
 use Rattle.afdx_tx.proofs.transmitter.Transmitter.over.Goals as goal

@@ -1,9 +1,4 @@
-use Rattle.std.proofs.Common.{◌≡◌, ◌∙◌}
-use Rattle.std.proofs.lemmas.List.{with_items_is}
-use Rattle.std.specs.Vec.{with_items}
-use Rattle.redundant_mux.specs.Lines.{log}
-use Rattle.afdx_tx.specs.Emitter.{IsSound}
-use Rattle.afdx_tx.specs.Serving.{IsSteady}
+use Rattle.afdx_tx.proofs.Names.{◌≡◌, ◌∙◌, with_items_is, with_items, log, IsSound, IsSteady}
 use Rattle.afdx_tx.proofs.Publishing.{reaches_on}
 use Rattle.afdx_tx.proofs.SoundEmitter.{links_apart, sound_after}
 use Rattle.afdx_tx.proofs.Conforming.{sound_conforms}

@@ -1,8 +1,5 @@
-use Rattle.std.proofs.Common.{◌<◌, List, length, refl, ap, ◌∙◌, subst, arith}
-use Rattle.status_board.specs.History.{NoFieldFalls}
-use Rattle.status_board.specs.Views.{Published, published, last_of, with_entry}
-use Rattle.afdx_tx.specs.Emitter.{Tx, IsSound}
-use Rattle.afdx_tx.specs.Publishing.{Reaches, PublishesCounts, Publishes}
+use Rattle.afdx_tx.proofs.Names.{◌<◌, List, length, refl, ap, ◌∙◌, subst, arith, NoFieldFalls, Published, published}
+use Rattle.afdx_tx.proofs.Names.{last_of, with_entry, Tx, IsSound, Reaches, PublishesCounts, Publishes}
 use Rattle.afdx_tx.proofs.SoundEmitter.{count_is, sound_counts}
 use Rattle.afdx_tx.proofs.transmitter.Transmitter.publish.Goals as goal
 
