@@ -1,44 +1,36 @@
 -- The frames of two networks in order, one after the other.
-use Rattle.std.proofs.Common.{◌≡◌, ◌≤◌, Bool, true, false, List, [], ◌∷◌, ◌++◌, map, refl, arith}
+use Rattle.std.proofs.Common.{◌≡◌, ◌≤◌, Bool, true, false, List, [], ◌∷◌, map, refl, arith}
 use Rattle.std.specs.Prelude.{nat_lt, if◌then◌else◌}
 use borrow.Author.Tests.{ltb-true, ltb-false}
 use Rattle.afdx_frame.specs.declared.net.Net.TheVariants.{A, B}
 use Rattle.redundant_mux.specs.Entry.{Entry}
-use Rattle.capture.specs.Order.{Captured, on, earlier, not_earlier, in_order, next_net}
+use Rattle.capture.specs.Order.{Captured, on, before_others, in_order, next_net}
 
--- a frame of A comes next, by the test of the two moments
-a_first : (t : Bool) (a b : Entry) (xs bs es rest : List Entry) → A ≡ (if t then B else A)
-    → map (on B) (if t then b ∷ es else []) ++ on A a ∷ in_order xs (if t then rest else b ∷ bs)
-    ≡ on A a ∷ in_order xs (b ∷ bs)
-a_first true a b xs bs es rest net = cc
-a_first false a b xs bs es rest net = refl
-
--- a frame of B does
-b_first : (t : Bool) (a b : Entry) (xs bs : List Entry) → B ≡ (if t then B else A)
-    → map (on B) (if t then b ∷ earlier a.at bs else []) ++ on A a ∷ in_order xs (if t then not_earlier a.at bs else b ∷ bs)
-    ≡ on B b ∷ (map (on B) (earlier a.at bs) ++ on A a ∷ in_order xs (not_earlier a.at bs))
-b_first true a b xs bs net = refl
-b_first false a b xs bs net = cc
-
--- where a frame of A comes next it is the first
+-- a frame that comes next is the first
 pub order_a : (xs bs rest : List Entry) (e : Entry) → A ≡ next_net xs bs → xs ≡ e ∷ rest
     → in_order xs bs ≡ on A e ∷ in_order rest bs
 unfolding in_order
 order_a [] bs rest e net is = cc
 order_a (a ∷ xs) [] rest e net is = cc
-order_a (a ∷ xs) (b ∷ bs) rest e net is =
-    let first : in_order (a ∷ xs) (b ∷ bs) ≡ on A a ∷ in_order xs (b ∷ bs) =
-    a_first (nat_lt b.at a.at) a b xs bs (earlier a.at bs) (not_earlier a.at bs) net in cc
+order_a (a ∷ xs) (b ∷ bs) rest e net is = by (nat_lt b.at a.at) net
+  where
+    by : (t : Bool) → A ≡ (if t then B else A)
+        → (if t then on B b ∷ before_others a (in_order xs) bs else on A a ∷ in_order xs (b ∷ bs)) ≡ on A e ∷ in_order rest (b ∷ bs)
+    by true earlier = cc
+    by false later = cc
 
--- and so is one of B
 pub order_b : (xs bs rest : List Entry) (e : Entry) → B ≡ next_net xs bs → bs ≡ e ∷ rest
     → in_order xs bs ≡ on B e ∷ in_order xs rest
 unfolding in_order
 order_b xs [] rest e net is = cc
 order_b [] (b ∷ bs) rest e net is = cc
-order_b (a ∷ xs) (b ∷ bs) rest e net is =
-    let first : in_order (a ∷ xs) (b ∷ bs) ≡ on B b ∷ in_order (a ∷ xs) bs =
-    b_first (nat_lt b.at a.at) a b xs bs net in cc
+order_b (a ∷ xs) (b ∷ bs) rest e net is = by (nat_lt b.at a.at) net
+  where
+    by : (t : Bool) → B ≡ (if t then B else A)
+        → (if t then on B b ∷ before_others a (in_order xs) bs else on A a ∷ in_order xs (b ∷ bs))
+        ≡ on B e ∷ before_others a (in_order xs) rest
+    by true earlier = cc
+    by false later = cc
 
 -- where one of B comes next and there is none, all are given
 pub order_none : (xs bs : List Entry) → B ≡ next_net xs bs → bs ≡ [] → in_order xs bs ≡ []
@@ -69,15 +61,12 @@ merges_b [] = none
 merges_b (b ∷ bs) = next_b tt (merges_b bs)
 
 merges_a : (a : Entry) (xs : List Entry) → ((bs : List Entry) → Merges xs bs (in_order xs bs)) → (bs : List Entry)
-    → Merges (a ∷ xs) bs (map (on B) (earlier a.at bs) ++ on A a ∷ in_order xs (not_earlier a.at bs))
+    → Merges (a ∷ xs) bs (before_others a (in_order xs) bs)
 merges_a a xs more [] = next_a tt (more [])
 merges_a a xs more (b ∷ bs) = by (nat_lt b.at a.at) refl (merges_a a xs more bs)
   where
-    by : (t : Bool) → nat_lt b.at a.at ≡ t
-        → Merges (a ∷ xs) bs (map (on B) (earlier a.at bs) ++ on A a ∷ in_order xs (not_earlier a.at bs))
-        → Merges (a ∷ xs) (b ∷ bs)
-        (map (on B) (if t then b ∷ earlier a.at bs else []) ++ on A a ∷ in_order xs
-        (if t then not_earlier a.at bs else b ∷ bs))
+    by : (t : Bool) → nat_lt b.at a.at ≡ t → Merges (a ∷ xs) bs (before_others a (in_order xs) bs)
+        → Merges (a ∷ xs) (b ∷ bs) (if t then on B b ∷ before_others a (in_order xs) bs else on A a ∷ in_order xs (b ∷ bs))
     by true is rest = next_b (omega (arith, ltb-true b.at a.at is)) rest
     by false is rest = next_a (ltb-false b.at a.at is) (more (b ∷ bs))
 

@@ -2,7 +2,7 @@
 use Rattle.std.proofs.Common.{◌≡◌, ℕ, ◌+◌, ◌-◌, ◌*◌, ◌/◌, ◌%◌, ◌^◌, ◌≤◌, ◌<◌, Bool, true, List, [], ◌∷◌, ◌++◌, length, take, drop, replicate, Some, None, refl, sym, ap, ◌∙◌, append_assoc, length-append, eq-eqb, arith}
 use Rattle.std.specs.Prelude.{if◌then◌else◌}
 use borrow.Author.Tests.{lt-ltb, le-leb}
-use Rattle.std.proofs.lemmas.List.{take-append-le, drop-append-le, take_all, drop_all}
+use Rattle.std.proofs.lemmas.List.{take_at, drop_at}
 use Rattle.std.proofs.Math.Nat.{div-add-mod', mod-lt}
 use Rattle.std.specs.Cmp.Derive.{both_true}
 use Rattle.byteorder.specs.Numbers.{little_number-reads_back}
@@ -16,14 +16,6 @@ use Rattle.capture.proofs.Packets.{length-packet_body}
 pub word_first : (x : ℕ) (rest : List ℕ) → x < 2 ^ 32 → first_word (word x ++ rest) ≡ x
 unfolding word
 word_first x rest h = little_number-reads_back 4 x rest h
-
--- what is in front of a list, and what is behind that
-pub take_front : (xs ys : List ℕ) (n : ℕ) → n ≡ length xs → take n (xs ++ ys) ≡ xs
-take_front xs ys n is = take-append-le n xs ys (omega arith) ∙ take_all n xs (omega arith)
-
-pub drop_front : (xs ys : List ℕ) (n : ℕ) → n ≡ length xs → drop n (xs ++ ys) ≡ ys
-drop_front xs ys n is = drop-append-le n xs ys (omega arith)
-    ∙ ap (λ (l : List ℕ). l ++ ys) (drop_all n xs (omega arith))
 
 -- equal parts make equal blocks
 same_block : (kind kind' : ℕ) (body body' behind behind' : List ℕ) → kind ≡ kind' → body ≡ body' → behind ≡ behind'
@@ -51,7 +43,7 @@ unfolding word
 tail_is kind len body rest is =
     let front : drop 8 (then_more kind body rest) ≡ body ++ (word (12 + length body) ++ rest) =
     append_assoc body (word (12 + length body)) rest in
-    ap (drop (len - 12)) front ∙ drop_front body (word (12 + length body) ++ rest) (len - 12) (omega arith)
+    ap (drop (len - 12)) front ∙ drop_at body (word (12 + length body) ++ rest) (len - 12) (omega arith)
     ∙ ap (λ (n : ℕ). word n ++ rest) (sym is)
 
 -- a block that is written passes the reader's test
@@ -81,7 +73,7 @@ block_read kind body rest small lt even =
     (ap Some (same_block (first_word bytes) kind (take (len - 12) (drop 8 bytes)) body
     (drop 4 (drop (len - 12) (drop 8 bytes))) rest
     (word_first kind ((word len ++ (body ++ word len)) ++ rest) small)
-    (ap (take (len - 12)) (append_assoc body (word len) rest) ∙ take_front body (word len ++ rest) (len - 12) (omega arith))
+    (ap (take (len - 12)) (append_assoc body (word len) rest) ∙ take_at body (word len ++ rest) (len - 12) (omega arith))
     (ap (drop 4) (tail_is kind len body rest refl))))
 
 -- equal parts make equal packets
@@ -119,4 +111,4 @@ packet_read seen i e known few fits =
     (take len (drop 20 body)) e.frame first
     (ap (λ (n : ℕ). n * 2 ^ 32 + first_word (drop 8 body)) is_high
     ∙ ap (λ (n : ℕ). e.at / 2 ^ 32 * 2 ^ 32 + n) is_low ∙ div-add-mod' e.at (2 ^ 32))
-    (take_front e.frame (replicate (fill len) 0) len refl))
+    (take_at e.frame (replicate (fill len) 0) len refl))

@@ -1,5 +1,6 @@
 -- The bytes of a capture: pcapng, version 1.0, each number with its lowest byte first.
-use Rattle.std.specs.Prelude.{codes, ℕ, ◌+◌, ◌-◌, ◌/◌, ◌%◌, ◌^◌, List, [], ◌∷◌, ◌++◌, length, replicate}
+use Rattle.std.specs.Prelude.{codes, ℕ, ◌+◌, ◌-◌, ◌/◌, ◌%◌, ◌^◌, List, [], ◌++◌, length, replicate}
+use Rattle.std.specs.List.{flat_map}
 use Rattle.byteorder.specs.Endian.{little_bytes}
 use Rattle.afdx_frame.specs.declared.net.Net.{Net}
 use Rattle.afdx_frame.specs.declared.net.Net.TheVariants.{A, B}
@@ -67,8 +68,7 @@ packet_front interface at len whole =
 
 -- the packets, one after the other
 unfoldable pub packet_blocks : List Captured → List ℕ
-packet_blocks [] = []
-packet_blocks (c ∷ cs) = packet_block c ++ packet_blocks cs
+packet_blocks cs = flat_map packet_block cs
 
 -- what stands before the packets: interface 0 is network A, and 1 is B
 unfoldable pub header_blocks : List ℕ

@@ -1,5 +1,5 @@
 -- The order of the frames of two networks in a capture.
-use Rattle.std.specs.Prelude.{ℕ, nat_lt, if◌then◌else◌, List, [], ◌∷◌, ◌++◌, map}
+use Rattle.std.specs.Prelude.{nat_lt, if◌then◌else◌, List, [], ◌∷◌, map}
 use Rattle.afdx_frame.specs.declared.net.Net.{Net}
 use Rattle.afdx_frame.specs.declared.net.Net.TheVariants.{A, B}
 use Rattle.redundant_mux.specs.Entry.{Entry}
@@ -12,22 +12,16 @@ pub record Captured : Type 0 where
 abbrev pub on : Net → Entry → Captured
 on net entry = record { net = net; entry = entry }
 
--- the frames at the front that are earlier than a moment
-abbrev pub earlier : ℕ → List Entry → List Entry
-earlier moment [] = []
-earlier moment (e ∷ es) = if nat_lt e.at moment then e ∷ earlier moment es else []
+-- a frame of A, after those of B that are earlier, and before what comes of the others
+abbrev pub before_others : Entry → (List Entry → List Captured) → List Entry → List Captured
+before_others a others [] = on A a ∷ others []
+before_others a others (b ∷ bs) =
+    if nat_lt b.at a.at then on B b ∷ before_others a others bs else on A a ∷ others (b ∷ bs)
 
--- the frames from the first on that isn't earlier
-abbrev pub not_earlier : ℕ → List Entry → List Entry
-not_earlier moment [] = []
-not_earlier moment (e ∷ es) = if nat_lt e.at moment then not_earlier moment es else e ∷ es
-
--- The frames of A and of B: before each of A stand those of B that are earlier, and the others of B
--- stand at the end.
+-- the frames of A and of B: the earlier one comes first, and at one time A's
 unfoldable pub in_order : List Entry → List Entry → List Captured
 in_order [] bs = map (on B) bs
-in_order (a ∷ xs) bs =
-    map (on B) (earlier a.at bs) ++ on A a ∷ in_order xs (not_earlier a.at bs)
+in_order (a ∷ xs) bs = before_others a (in_order xs) bs
 
 -- the network whose frame comes next
 abbrev pub next_net : List Entry → List Entry → Net

@@ -3,5 +3,5 @@ mod LineLemmas
 mod MeaningLemmas
 mod NumberLemmas
 mod WordLemmas
-pub mod FrameLemmas
+pub mod Written
 mod LogLemmas

@@ -1,6 +1,7 @@
 -- The texts of a transcript.
 use Rattle.std.specs.Prelude.{codes, ℕ, Bool, true, false, List, [], ◌∷◌, ◌++◌}
 use Rattle.std.specs.Fmt.{decimal}
+use Rattle.std.specs.List.{flat_map}
 use Rattle.afdx_frame.specs.declared.net.Net.{Net}
 use Rattle.afdx_frame.specs.declared.net.Net.TheVariants.{A, B}
 use Rattle.hex.specs.Hex.{encode_lower}
@@ -50,8 +51,7 @@ frame_line net e =
 
 -- the lines of the frames of a network
 unfoldable pub frame_lines : Net → List Entry → List ℕ
-frame_lines net [] = []
-frame_lines net (e ∷ es) = frame_line net e ++ frame_lines net es
+frame_lines net es = flat_map (frame_line net) es
 
 -- the lines of A, and then those of B
 abbrev pub streams : List Entry → List Entry → List ℕ

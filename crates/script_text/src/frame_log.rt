@@ -1,16 +1,12 @@
 //! A network that keeps what it is handed.
 ghost use Rattle.std.specs.Prelude.{◌≡◌, ◌+◌, ◌^◌, ◌<◌, ◌≤◌, [], ◌∷◌, ◌++◌, true, false, length, OnOk, OnErr, vec_capacity};
-ghost use Rattle.std.specs.Io.KnownBytes.{Appends};
 ghost use Rattle.redundant_mux.specs.Entry.{entry};
 ghost use Rattle.script_text.specs.FrameLog.{AreInLog, spelled};
-ghost use Rattle.script_text.specs.Transcript.{frame_lines};
 
-use crate::frames::write_frames;
 use crate::log_frames::LogFrames;
-use afdx_frame::{GREATEST_FRAME, Net};
+use afdx_frame::GREATEST_FRAME;
 use redundant_mux::{HandFault, Network};
 use std::alloc::Global;
-use std::io::{self, Write};
 use std::marker::Model;
 
 /// The moment of a frame that was handed over, in microseconds, and how many bytes it has.
@@ -60,14 +56,6 @@ impl FrameLog {
             bytes: Vec::new(alloc),
             failures: 0,
         }
-    }
-
-    /// Writes a line for each frame that was handed over, under a network's name.
-    pub fn write_lines<W: Write>(&self, writer: &mut W, net: Net) -> io::Result<()>
-        ensures { OnOk result (Appends (W.contents writer.old) (W.contents writer.new)
-            (frame_lines net self.now.handed)) }
-    {
-        write_frames(writer, net, &self.marks, &self.bytes)
     }
 
     /// The frames that were handed over, in their order.

@@ -2,10 +2,9 @@
 ghost use Rattle.std.specs.Prelude.{◌≡◌, ◌≤◌, length, IfErr, OnOk};
 ghost use Rattle.std.specs.Io.KnownBytes.{Appends};
 ghost use Rattle.redundant_mux.specs.Entry.{entry};
-ghost use Rattle.script_text.specs.FrameLog.{AreInLog, spelled};
 ghost use Rattle.script_text.specs.Transcript.{net_name as name_of_net, frame_line, frame_lines, streams};
 
-use crate::frame_log::{FrameLog, Mark};
+use crate::frame_log::FrameLog;
 use crate::run_fault::RunFault;
 use afdx_frame::{GREATEST_FRAME, Net};
 use std::io;
@@ -27,27 +26,18 @@ fn write_both<W: Write>(writer: &mut W, a: &FrameLog, b: &FrameLog) -> io::Resul
     ensures { OnOk result (Appends (W.contents writer.old) (W.contents writer.new)
         (streams a.now.handed b.now.handed)) }
 {
-    a.write_lines(writer, Net::A)?;
-    b.write_lines(writer, Net::B)
+    write_lines(writer, Net::A, a)?;
+    write_lines(writer, Net::B, b)
 }
 
-/// Writes a line for each frame, whose bytes stand one after the other, under a network's name.
-pub fn write_frames<W: Write>(
-    writer: &mut W,
-    net: Net,
-    marks: &[Mark],
-    bytes: &[u8],
-) -> io::Result<()>
-    requires { AreInLog marks.now bytes.now }
+// Writes a line for each frame that was sent to a network, under its name.
+fn write_lines<W: Write>(writer: &mut W, net: Net, log: &FrameLog) -> io::Result<()>
     ensures { OnOk result (Appends (W.contents writer.old) (W.contents writer.new)
-        (frame_lines net (spelled marks.now bytes.now))) }
+        (frame_lines net log.now.handed)) }
 {
     let mut digits = [0; DIGITS];
-    let mut rest = bytes;
-    for mark in marks {
-        let (frame, more) = rest.split_at(mark.len);
-        write_frame(writer, net, mark.at, frame, &mut digits)?;
-        rest = more;
+    for (at, frame) in log.frames() {
+        write_frame(writer, net, at, frame, &mut digits)?;
     }
     Ok(())
 }
