@@ -1,104 +1,74 @@
--- The ports at hand: at the beginning, after a send and after a poll.
-use Rattle.std.proofs.Common.{ℕ, ◌≡◌, ◌≢◌, ◌≤◌, ◌<◌, ◌+◌, Bool, if◌then◌else◌, List, [], ◌∷◌, ◌++◌, length, set, get_or, refl, ap, ◌∙◌, sym, subst, arith, ⊎_elim, Option, Some}
-use Rattle.std.proofs.lemmas.List.{length-set, get_or-set_same, get_or-set_other}
+-- The ports at hand: at the beginning, and after a send.
+use Rattle.std.proofs.Common.{ℕ, ◌≡◌, ◌≤◌, ◌<◌, ◌+◌, if◌then◌else◌, List, [], ◌++◌, length, set, get_or, nat_eq, refl, ap, ◌∙◌, sym, subst, arith, append-nil, Some}
+use Rattle.std.proofs.lemmas.List.{length-set}
 use Rattle.std.proofs.lemmas.List.Elements.{All-set}
-use Rattle.std.proofs.lemmas.Bool.{cases_eq, eq-eqb, ne_eqb}
-use Rattle.afdx_plan.specs.Config.{Plan, port_plan_at}
-use Rattle.afdx_plan.specs.declared.port_plan.PortPlan.{PortPlan}
+use Rattle.std.proofs.lemmas.Bool.{eq-eqb, ne_eqb}
+use Rattle.afdx_plan.specs.Config.{port_plan_at}
 use Rattle.subvl_queue.specs.Messages.{most_calls}
 use Rattle.subvl_queue.specs.Views.{QueueName, SenderView}
+use Rattle.vl_link.proofs.Choosing.{each_set}
+use Rattle.script_text.specs.declared.outcome.Outcome.{Outcome}
 use Rattle.afdx_tx.specs.Emitter.{Tx, queues_in}
-use Rattle.afdx_tx.specs.Ports.{PortView, BelongsTo, IsFreshPort, AreFreshPorts, queue_for, index_of}
-use Rattle.tx_script.specs.AtBench.{IsAtHand, HaveAsked, HaveSent}
-use Rattle.tx_script.specs.Play.{Messages, with_message}
+use Rattle.afdx_tx.specs.Ports.{PortView, BelongsTo, AreFreshPorts, queue_for, index_of}
+use Rattle.tx_script.specs.AtBench.{IsAtHand, HaveAsked, HaveSent, Sends}
+use Rattle.tx_script.specs.Play.{Messages, added, with_messages}
 
--- a port as it was, but for what its sender sent and how often it asked
-pub record IsSamePort (old new : PortView) : Type 0 where
-  pub place : new.place ≡ old.place
-  pub plan : new.plan ≡ old.plan
-  pub queue : new.sender.queue ≡ old.sender.queue
-  pub index : new.sender.port ≡ old.sender.port
-  pub calls : new.sender.calls ≡ old.sender.calls
-
--- it belongs to a configuration as before
-belongs_still : (config : Plan) (queues : List (List (Option QueueName))) (old new : PortView)
-    → IsSamePort old new → BelongsTo config queues old → BelongsTo config queues new
-belongs_still config queues old new same b = record {
-  within = subst (λ (place : ℕ). place < length config.ports) (sym same.place) b.within;
-  plan = same.plan ∙ b.plan ∙ ap (λ (place : ℕ). port_plan_at config.ports place) (sym same.place);
-  queue = ap (λ (port : PortPlan). queue_for config queues port) same.plan ∙ b.queue
-      ∙ ap (λ (queue : QueueName). Some queue) (sym same.queue);
-  index = same.index ∙ b.index ∙ ap (λ (place : ℕ). index_of config.ports place) (sym same.place);
-}
-
--- what is said of each port at its place stays said where one changes
-placed_set : (Says : ℕ → PortView → Type 0) (ports : List PortView) (i : ℕ) (new : PortView)
-    → ((place : ℕ) (d : PortView) → place < length ports → place ≢ i → Says place (get_or ports place d))
-    → (i < length ports → Says i new)
-    → (place : ℕ) (d : PortView) → place < length (set ports i new) → Says place (get_or (set ports i new) place d)
-placed_set Says ports i new each here place d lt =
-    let size : length (set ports i new) ≡ length ports = length-set ports i new in
-    let inside : place < length ports = omega arith in
-    ⊎_elim
-    (λ (e : place ≡ i).
-    let at : i < length ports = omega arith in
-    subst (λ (j : ℕ). Says j (get_or (set ports i new) j d)) (sym e)
-    (subst (Says i) (sym (get_or-set_same ports i new d at)) (here at)))
-    (λ (ne : place ≢ i). subst (Says place) (sym (get_or-set_other ports i place new d ne)) (each place d inside ne))
-    (cases_eq place i)
-
--- A port that sent.
-pub sent_at_hand : (tx : Tx) (ports : List PortView) (i : ℕ) (d new : PortView) → i < length ports
-    → IsSamePort (get_or ports i d) new → IsAtHand tx ports → IsAtHand tx (set ports i new)
-sent_at_hand tx ports i d new lt same h = record {
-  valid = h.valid;
-  many = length-set ports i new ∙ h.many;
-  opened = All-set (λ (port : PortView). BelongsTo tx.plan (queues_in tx.links) port) ports i new
-      (belongs_still tx.plan (queues_in tx.links) (get_or ports i d) new same (h.opened i d lt)) h.opened;
-  placed = placed_set (λ (place : ℕ) (port : PortView). port.place ≡ place) ports i new (λ place e inside ne. h.placed place e inside)
-      (λ at. same.place ∙ h.placed i d at);
-  calls = All-set (λ (port : PortView). port.sender.calls ≡ most_calls) ports i new (same.calls ∙ h.calls i d lt) h.calls;
-}
-
--- None of them asked.
+-- None of them asked or sent.
 pub fresh_asked : (tx : Tx) (ports : List PortView) → AreFreshPorts tx ports → HaveAsked 0 ports
 fresh_asked tx ports f = λ k d lt.
-    let here : IsFreshPort tx.plan (queues_in tx.links) k (get_or ports k d) = f.each k d (omega (arith, f.count)) in
+    let here = f.each k d (omega (arith, f.count)) in
     let none : (get_or ports k d).sender.asks ≡ 0 = ap (λ (sender : SenderView). sender.asks) here.sender.is in
     omega arith
 
--- None of them sent.
 pub fresh_sent : (tx : Tx) (ports : List PortView) → AreFreshPorts tx ports → HaveSent (λ place. []) ports
 fresh_sent tx ports f = λ k d lt.
-    let here : IsFreshPort tx.plan (queues_in tx.links) k (get_or ports k d) = f.each k d (omega (arith, f.count)) in
-    ap (λ (sender : SenderView). sender.own) here.sender.is
-
--- A port more asked once more.
-pub asked_more : (count : ℕ) (ports : List PortView) (i : ℕ) (d new : PortView) → i < length ports
-    → new.sender.asks ≤ (get_or ports i d).sender.asks + 1 → HaveAsked count ports → HaveAsked (count + 1) (set ports i new)
-asked_more count ports i d new lt once h =
-    All-set (λ (port : PortView). port.sender.asks ≤ count + 1) ports i new
-    (let before : (get_or ports i d).sender.asks ≤ count = h i d lt in omega arith)
-    (λ k e inside. let before : (get_or ports k e).sender.asks ≤ count = h k e inside in omega arith)
+    ap (λ (sender : SenderView). sender.own) (f.each k d (omega (arith, f.count))).sender.is
 
 -- More asks are allowed.
 pub asked_on : (count more : ℕ) (ports : List PortView) → count ≤ more → HaveAsked count ports → HaveAsked more ports
 asked_on count more ports le h =
     λ k d inside. let before : (get_or ports k d).sender.asks ≤ count = h k d inside in omega arith
 
--- A message of a port was accepted.
-pub have_sent : (accepted : Messages) (ports : List PortView) (i : ℕ) (d new : PortView) (bytes : List ℕ) → i < length ports
-    → new.sender.own ≡ (get_or ports i d).sender.own ++ bytes ∷ []
-    → HaveSent accepted ports → HaveSent (with_message i bytes accepted) (set ports i new)
-have_sent accepted ports i d new bytes lt own h =
-    placed_set (λ (place : ℕ) (port : PortView). port.sender.own ≡ with_message i bytes accepted place) ports i new
-    (λ place e inside ne. h place e inside
-    ∙ sym (ap (λ (b : Bool). if b then accepted place ++ bytes ∷ [] else accepted place) (ne_eqb place i ne)))
-    (λ at. own ∙ ap (λ (list : List (List ℕ)). list ++ bytes ∷ []) (h i d lt)
-    ∙ sym (ap (λ (b : Bool). if b then accepted i ++ bytes ∷ [] else accepted i) (eq-eqb i i refl)))
+-- A port was given a message.
+module _ (ports : List PortView) (i : ℕ) (d new : PortView) (bytes : List ℕ) (outcome : Outcome)
+    (lt : i < length ports) (s : Sends (get_or ports i d) bytes new outcome) where
+  -- what holds of it, and of each other port at its place, holds of each
+  each_port : (Says : ℕ → PortView → Type 0) → Says i new
+      → ((k : ℕ) (e : PortView) → k < length ports → (k ≡ i → ⊥) → Says k (get_or ports k e))
+      → (k : ℕ) (e : PortView) → k < length (set ports i new) → Says k (get_or (set ports i new) k e)
+  each_port Says here others k e inside =
+      each_set (λ j port. j < length ports → Says j port) ports i new e lt (λ _. here) (λ j ne within. others j e within ne)
+      k (let size = length-set ports i new in omega arith)
 
--- What a port sent stays the same.
-pub have_kept : (accepted : Messages) (ports : List PortView) (i : ℕ) (d new : PortView) → i < length ports
-    → new.sender.own ≡ (get_or ports i d).sender.own → HaveSent accepted ports → HaveSent accepted (set ports i new)
-have_kept accepted ports i d new lt own h =
-    placed_set (λ (place : ℕ) (port : PortView). port.sender.own ≡ accepted place) ports i new (λ place e inside ne. h place e inside) (λ at. own ∙ h i d lt)
+  -- The ports stay at hand.
+  pub sent_at_hand : (tx : Tx) → IsAtHand tx ports → IsAtHand tx (set ports i new)
+  sent_at_hand tx h = record {
+    valid = h.valid;
+    many = length-set ports i new ∙ h.many;
+    opened = All-set (BelongsTo tx.plan (queues_in tx.links)) ports i new (belongs (h.opened i d lt)) h.opened;
+    placed = each_port (λ k port. port.place ≡ k) (s.place ∙ h.placed i d lt) (λ k e within ne. h.placed k e within);
+    calls = All-set (λ (port : PortView). port.sender.calls ≡ most_calls) ports i new (s.calls ∙ h.calls i d lt) h.calls;
+  }
+    where
+      belongs : BelongsTo tx.plan (queues_in tx.links) (get_or ports i d) → BelongsTo tx.plan (queues_in tx.links) new
+      belongs b = record {
+        within = subst (λ (place : ℕ). place < length tx.plan.ports) (sym s.place) b.within;
+        plan = s.plan ∙ b.plan ∙ ap (port_plan_at tx.plan.ports) (sym s.place);
+        queue = ap (queue_for tx.plan (queues_in tx.links)) s.plan ∙ b.queue
+            ∙ ap (λ (queue : QueueName). Some queue) (sym s.queue);
+        index = s.index ∙ b.index ∙ ap (index_of tx.plan.ports) (sym s.place);
+      }
+
+  -- It asked once more at most.
+  pub asked_more : (count : ℕ) → HaveAsked count ports → HaveAsked (count + 1) (set ports i new)
+  asked_more count h =
+      All-set (λ (port : PortView). port.sender.asks ≤ count + 1) ports i new
+      (let before : (get_or ports i d).sender.asks ≤ count = h i d lt in omega (arith, s.asks))
+      (asked_on count (count + 1) ports (omega arith) h)
+
+  -- Its own list has the message, if it was accepted.
+  pub have_sent : (accepted : Messages) → HaveSent accepted ports
+      → HaveSent (with_messages (Some i) (added outcome bytes) accepted) (set ports i new)
+  have_sent accepted h = each_port (λ k port. port.sender.own ≡ accepted k ++ (if nat_eq k i then added outcome bytes else []))
+      (s.own ∙ ap (λ (own : List (List ℕ)). own ++ added outcome bytes) (h i d lt) ∙ rw (eq-eqb i i refl) refl)
+      (λ k e within ne. h k e within ∙ rw (ne_eqb k i ne) (sym (append-nil (accepted k))))

@@ -1,35 +1,35 @@
--- What looks found is the first of what was sent.
-use Rattle.std.proofs.Common.{ℕ, ◌≡◌, ◌<◌, ◌≤◌, List, [], ◌∷◌, ◌++◌, Bool, true, false, if◌then◌else◌, nat_eq, length, get_or, arith, refl, ap, ◌∙◌, sym, subst, inl, inr, ◌⊎◌, ⊎_elim}
-use Rattle.std.specs.Prelude.{All, Contains}
-use Rattle.std.proofs.lemmas.Bool.{cases_lt}
-use Rattle.std.proofs.lemmas.List.{get_or_default, get_or_past, get_or_append_left, length-append, map-append}
-use Rattle.std.proofs.lemmas.List.Elements.{All-map, Contains-get_or}
+-- What is known of a run once its ports are gathered: polls found the first of what was sent, and closes reported the
+-- totals.
+use Rattle.std.proofs.Common.{ℕ, ◌≡◌, ◌<◌, List, [], ◌∷◌, ◌++◌, Bool, true, false, if◌then◌else◌, nat_eq, length, get_or, append_assoc, arith, refl, ap, ◌∙◌, sym, subst, inl, inr}
+use Rattle.std.specs.Prelude.{All}
+use Rattle.std.proofs.lemmas.Bool.{cases_lt, eqb-true, and_parts}
+use Rattle.std.proofs.lemmas.List.{get_or_past, get_or_append_left, length-append, map-append}
+use Rattle.std.proofs.lemmas.List.Elements.{All-weaker, Contains-get_or}
 use Rattle.afdx_plan.specs.Config.{Plan, IsPlan, link_plan_at, port_plan_at}
-use Rattle.afdx_plan.specs.declared.port_plan.PortPlan.{PortPlan}
-use Rattle.afdx_plan.specs.declared.identifiers.VlId.{VlId}
-use Rattle.afdx_frame.specs.Fragments.{Sent}
-use Rattle.subvl_queue.specs.Messages.{AreItems, IsItem}
-use Rattle.subvl_queue.specs.Views.{accepted_of}
-use Rattle.vl_link.specs.Seen.{Seen, receiving, gathered, taken_of, ports_of, known_of}
-use Rattle.vl_link.specs.Links.{nothing_held, no_link, Held, held_at, link_at, sent_of, sent_by}
-use Rattle.afdx_tx.specs.Emitter.{Tx, ports_of_sub, taken_in}
-use Rattle.afdx_tx.specs.Drain.{accepted_in}
 use Rattle.afdx_plan.specs.Places.{link_place}
-use Rattle.afdx_tx.specs.Ports.{PortView, LacksPlace}
+use Rattle.afdx_plan.specs.declared.identifiers.VlId.{VlId}
+use Rattle.afdx_plan.specs.declared.port_plan.PortPlan.{PortPlan}
+use Rattle.afdx_frame.specs.Fragments.{Sent}
 use Rattle.vl_link.specs.LinkGathering.{BecomesWhole}
-use Rattle.afdx_tx.specs.Gathering.{IsGatheredSub, IsGatheredLink, IsGatheredTx, HasOwnPart}
-use Rattle.afdx_tx.proofs.PortLink.{link_within}
-use Rattle.tx_script.specs.AtBench.{AtBench, IsAtHand, Matches, GaveFirst}
-use Rattle.tx_script.specs.EndSystem.{Progress}
+use Rattle.vl_link.specs.Links.{nothing_held, no_link, Held, held_at, link_at, sent_of, sent_by}
+use Rattle.vl_link.specs.Seen.{Seen, receiving, gathered, taken_of, known_of}
+use Rattle.afdx_legal.specs.Allowed.{IsAllowed, AreAllowed, messages_of, port_messages}
 use Rattle.afdx_tx.specs.Closing.{IsSubAt}
-use Rattle.afdx_legal.specs.Allowed.{messages_of, port_messages}
-use Rattle.tx_script.specs.Play.{Play, FindsFirst}
+use Rattle.afdx_tx.specs.Drain.{accepted_in}
+use Rattle.afdx_tx.specs.Emitter.{Tx, taken_in}
+use Rattle.afdx_tx.specs.Gathering.{IsGatheredTx, HasOwnPart}
+use Rattle.afdx_tx.specs.Ports.{PortView, LacksPlace}
+use Rattle.afdx_tx.proofs.ClosedTotals.{total_whole}
+use Rattle.afdx_tx.proofs.PortLink.{link_within}
+use Rattle.script_text.specs.Meaning.{meaning_of}
+use Rattle.script_text.specs.declared.line.Line.{Line}
+use Rattle.script_text.specs.declared.line.Line.TheVariants.{Close}
+use Rattle.tx_script.specs.AtBench.{AtBench, IsAtHand, Matches, OnlyTakes, TellsTotal, AreTold, IsGathered}
+use Rattle.tx_script.specs.EndSystem.{Progress}
+use Rattle.tx_script.specs.Play.{AnsweredLine, Play, FindsFirst, IsTotal, AreTotals, ClosesAt, found, is_on}
+use Rattle.tx_script.proofs.Totals.{each_port, among_same, counted}
 
--- the plan of a port behind the last
-abbrev no_port_plan : PortPlan
-no_port_plan = port_plan_at [] 0
-
--- the port at a place, whatever stands behind the last
+-- the port at a place, whatever the value after the last
 some_port : (ports : List PortView) (place : ℕ) → place < length ports → PortView
 some_port [] place lt = absurd (omega arith)
 some_port (port ∷ ports) place lt = port
@@ -37,7 +37,7 @@ some_port (port ∷ ports) place lt = port
 -- No port of the configuration is missing.
 pub none_missing : (tx : Tx) (ports : List PortView) → IsAtHand tx ports → LacksPlace (length tx.plan.ports) ports → ⊥
 none_missing tx ports h lacks =
-    let inside : lacks.0 < length ports = let lt = lacks.1 in let many = h.many in omega arith in
+    let inside : lacks.0 < length ports = omega (arith, lacks.1, h.many) in
     let d : PortView = some_port ports lacks.0 inside in
     lacks.2 (record {
       port = get_or ports lacks.0 d;
@@ -45,54 +45,38 @@ none_missing tx ports h lacks =
       at = h.placed lacks.0 d inside;
     })
 
--- a queue whose messages are known whole gave the first of them
-known_first : (old new : Seen) → BecomesWhole old new
-    → (left : List (ℕ × List ℕ)) × (known_of new ≡ taken_of old ++ left) × AreItems (ports_of old) (taken_of old ++ left)
-known_first (receiving r) (gathered g) b =
-    let all : accepted_of g ≡ r.taken ++ g.left = ap (λ (taken : List (ℕ × List ℕ)). taken ++ g.left) b.0 in
-    (g.left, all, subst (AreItems r.ports) all b.2)
-known_first (receiving r) (receiving s) b = absurd b
-known_first (gathered g) (receiving s) b = absurd b
-known_first (gathered g) (gathered h) b = absurd b
+-- what was accepted of a sub-VL begins with what was taken
+accepted_first : (tx drain : Tx) (ports : List PortView) (k s : ℕ) → IsGatheredTx tx ports drain
+    → (left : List Sent) × (accepted_in drain.links k s ≡ taken_in tx.links k s ++ left)
+accepted_first tx drain ports k s g = elim (cases_lt k (length tx.links)) [
+  | inl within ↦
+      let link = g.links k within in elim (cases_lt s (length (link_at tx.links k).subs)) [
+        | inl below ↦
+            let sub = link.each s below in
+            rw (ap (λ (held : Held). held.ports) sub.same) (whole (held_at (link_at tx.links k).subs s).ports _ _ sub.queue)
+        | inr past ↦ (
+          [],
+          rw (
+            get_or_past (link_at tx.links k).subs s nothing_held past,
+            get_or_past (link_at drain.links k).subs s nothing_held (omega (arith, link.count)),
+          ) refl,
+        )
+      ]
+  | inr past ↦ ([], rw (get_or_past tx.links k no_link past, get_or_past drain.links k no_link (omega (arith, g.count))) refl)
+]
+  where
+    whole : (senders : List PortPlan) (old new : Seen) → BecomesWhole old new
+        → (left : List Sent) × (sent_by senders (known_of new) ≡ sent_by senders (taken_of old) ++ left)
+    whole senders (receiving r) (gathered h) b = (
+      sent_by senders h.left,
+      ap (λ (taken : List (ℕ × List ℕ)). sent_by senders (taken ++ h.left)) b.0 ∙ map-append (sent_of senders) r.taken h.left,
+    )
+    whole senders (gathered i) (gathered h) b = absurd b
+    whole senders old new b = absurd b
 
 -- what holds of all holds of the first
 all_first : {X : Type 0} (P : X → Type 0) (xs ys : List X) → All P (xs ++ ys) → All P xs
 all_first P xs ys h = λ k d lt. rw (← get_or_append_left xs ys d k lt) (h k d (omega (arith, length-append xs ys)))
-
--- whatever the index, a sub-VL was gathered, or there is none
-pub gathered_at : (tx drain : Tx) (ports : List PortView) (k s : ℕ) → IsGatheredTx tx ports drain
-    → IsGatheredSub (held_at (link_at tx.links k).subs s) (held_at (link_at drain.links k).subs s)
-    ⊎ ((held_at (link_at tx.links k).subs s ≡ nothing_held) × (held_at (link_at drain.links k).subs s ≡ nothing_held))
-gathered_at tx drain ports k s g = ⊎_elim
-    (λ (within : k < length tx.links).
-    let link : IsGatheredLink (link_at tx.links k) (link_at drain.links k) = g.links k within in
-    ⊎_elim
-    (λ (below : s < length (link_at tx.links k).subs). inl (link.each s below))
-    (λ (past : length (link_at tx.links k).subs ≤ s).
-    let same = link.count in
-    inr (
-      get_or_past (link_at tx.links k).subs s nothing_held past,
-      get_or_past (link_at drain.links k).subs s nothing_held (omega arith),
-    ))
-    (cases_lt s (length (link_at tx.links k).subs)))
-    (λ (past : length tx.links ≤ k).
-    let same = g.count in
-    inr (rw (get_or_past tx.links k no_link past) refl, rw (get_or_past drain.links k no_link (omega arith)) refl))
-    (cases_lt k (length tx.links))
-
--- so what was accepted of it begins with what was taken
-accepted_first : (tx drain : Tx) (ports : List PortView) (k s : ℕ) → IsGatheredTx tx ports drain
-    → (left : List Sent) × (accepted_in drain.links k s ≡ taken_in tx.links k s ++ left)
-accepted_first tx drain ports k s g = elim (gathered_at tx drain ports k s g) [
-  | inl sub ↦
-      let known = known_first _ _ sub.queue in
-      let senders : List PortPlan = (held_at (link_at tx.links k).subs s).ports in (
-        sent_by senders known.0,
-        rw (ap (λ (held : Held). held.ports) sub.same, known.1)
-            (map-append (sent_of senders) _ known.0),
-      )
-  | inr none ↦ ([], rw (none.0, none.1) refl)
-]
 
 -- the messages of a port among more
 messages_more : (port : PortPlan) (xs ys : List Sent) → messages_of port (xs ++ ys)
@@ -107,70 +91,87 @@ messages_more port (x ∷ xs) ys =
     by true front = refl
     by false front = refl
 
--- A port that was gathered is the one at its place.
-pub own_port : (tx drain : Tx) (ports : List PortView) (place : ℕ) (d : PortView) → IsAtHand tx ports
-    → place < length tx.plan.ports → (part : HasOwnPart drain ports place) → get_or ports place d ≡ part.port
-own_port tx drain ports place d h lt part =
-    let stands : (get_or ports part.inside.0 part.port).place ≡ part.inside.0 =
-    h.placed part.inside.0 part.port part.inside.1 in
-    let here : part.inside.0 ≡ place =
-    sym stands ∙ ap (λ (p : PortView). p.place) part.inside.2 ∙ part.at in
-    let inside : place < length ports = let many = h.many in omega arith in
-    get_or_default ports place d part.port inside
-    ∙ ap (λ (k : ℕ). get_or ports k part.port) (sym here) ∙ part.inside.2
+-- a line closes a sub-VL of the plan
+closes_sub : (plan : Plan) (line : Line) (place sub : ℕ) → ClosesAt plan line place sub → (vl : ℕ) × IsSubAt plan vl sub place
+closes_sub plan (Close vl closed) place sub at = (vl, at.0)
+closes_sub plan _ place sub at = absurd at
 
--- What queues gave is the first of what their ports sent, where the ports are gathered.
-pub gave_first : (tx drain : Tx) (ports : List PortView) → IsAtHand tx ports → IsGatheredTx tx ports drain
-    → GaveFirst tx ports
-gave_first tx drain ports h g = record {
-  own = λ k s within below.
-      let known = known_first _ _ ((g.links k within).each s below).queue in
-      λ i d lt. (all_first (IsItem (ports_of (held_at (link_at tx.links k).subs s).seen))
-      _ known.0 known.2 i d lt).port;
-  first = λ place d lt.
-      let port : PortPlan = port_plan_at tx.plan.ports place in
-      let part : HasOwnPart drain ports place = g.own place lt in
-      let accepted = accepted_first tx drain ports (link_place tx.plan port) port.sub g in (
-        messages_of port accepted.0,
-        ap (λ (p : PortView). p.sender.own) (own_port tx drain ports place d h lt part) ∙ sym part.accepted
-            ∙ ap (λ (plan : Plan). port_messages plan (accepted_in drain.links) place) g.plan
-            ∙ rw accepted.1 (messages_more port (taken_in tx.links (link_place tx.plan port) port.sub) accepted.0),
-      );
-}
+-- A run whose ports were gathered, since when nothing was sent or closed.
+module _ (st : Play) (before bench : AtBench) (m : Matches st.accepted st.es before) (f : OnlyTakes before bench)
+    (g : IsGathered bench) where
+  same : bench.tx.plan ≡ st.es.plan
+  same = f.closes.plan ∙ m.emitter.plan
 
--- What looks found is the first of what was sent.
-pub finds_first : (st : Play) (bench : AtBench) → IsAtHand bench.tx bench.ports
-    → GaveFirst bench.tx bench.ports → Matches st.accepted st.es bench → FindsFirst st
-finds_first st bench h g m = record {
-  own = λ k s within inside.
-      let link = m.emitter.planned k within in
-      let sub = link.each s inside in
-      let senders : List PortPlan = ports_of_sub st.es.plan.ports (link_plan_at st.es.plan.links k).id.0 s in
-      let items : List (ℕ × List ℕ) = taken_of (held_at (link_at bench.tx.links k).subs s).seen in
-      let below : All (λ (item : ℕ × List ℕ). item.0 < length senders) items =
-      rw (← sub.queue) (g.own k s (let count = m.emitter.count in omega arith)
-      (let count = link.count in omega arith)) in
-      rw (m.emitter.subs k s within, sub.ports)
-      (All-map (λ (sent : Sent). Contains senders sent.port) (sent_of senders) items
-      (λ i d lt. Contains-get_or senders (get_or items i d).0 no_port_plan (below i d lt)));
-  first = λ place lt.
-      let port : PortPlan = port_plan_at st.es.plan.ports place in
-      let valid : IsPlan st.es.plan = subst IsPlan m.emitter.plan h.valid in
-      let link = link_within st.es.plan port valid (valid.linked place no_port_plan lt) in
-      let size : length bench.tx.plan.ports ≡ length st.es.plan.ports =
-      ap (λ (config : Plan). length config.ports) m.emitter.plan in
-      let inside : place < length bench.ports = let many = h.many in omega arith in
-      let d : PortView = some_port bench.ports place inside in
-      let gives = rw m.emitter.plan at (λ (e : PortView). g.first place e (omega arith)) in
-      let gave = gives d in (
-        gave.0,
-        subst (λ (progress : Progress). st.accepted place ≡ messages_of port progress.taken ++ gave.0)
-            (sym (m.emitter.subs (link_place st.es.plan port) port.sub link.0)) (rw (← m.own place d inside) gave.1),
-      );
-}
+  valid : IsPlan st.es.plan
+  valid = subst IsPlan same g.hand.valid
 
--- one link of a valid plan has an identifier
-pub same_place : (plan : Plan) (vl sub place k : ℕ) → IsPlan plan → IsSubAt plan vl sub place → k < length plan.links
-    → (link_plan_at plan.links k).id.0 ≡ vl → k ≡ place
-same_place plan vl sub place k valid at lt id =
-    valid.links_apart k place lt at.within (ap (λ (n : ℕ). let made : VlId = record { 0 = n } in made) (id ∙ sym at.id))
+  allowed : AreAllowed st.es.plan (accepted_in g.drain.links)
+  allowed = subst (λ (plan : Plan). AreAllowed plan (accepted_in g.drain.links)) (g.gathers.plan ∙ same) g.allowed
+
+  -- the accepted messages of a port are what its sub-VL accepted of it
+  own_messages : (place : ℕ) → place < length st.es.plan.ports
+      → st.accepted place ≡ port_messages st.es.plan (accepted_in g.drain.links) place
+  own_messages place lt =
+      let part : HasOwnPart g.drain bench.ports place =
+      g.gathers.own place (omega (arith, ap (λ (plan : Plan). length plan.ports) same)) in
+      let at : part.inside.0 ≡ place =
+      sym (g.hand.placed part.inside.0 part.port part.inside.1) ∙ ap (λ (p : PortView). p.place) part.inside.2 ∙ part.at in
+      let port : get_or before.ports place part.port ≡ part.port =
+      ap (λ (ports : List PortView). get_or ports place part.port) (sym f.ports)
+      ∙ ap (λ (k : ℕ). get_or bench.ports k part.port) (sym at) ∙ part.inside.2 in
+      sym (m.own place part.port (omega (arith, part.inside.1, at, ap length f.ports)))
+      ∙ ap (λ (p : PortView). p.sender.own) port ∙ sym part.accepted
+      ∙ ap (λ (plan : Plan). port_messages plan (accepted_in g.drain.links) place) (g.gathers.plan ∙ same)
+
+  -- what a sub-VL accepted begins with what polls found of it
+  found_first : (k s : ℕ) → k < length st.es.plan.links
+      → (more : List Sent) × (accepted_in g.drain.links k s ≡ found st.es k s ++ more)
+  found_first k s lt =
+      let left = accepted_first bench.tx g.drain bench.ports k s g.gathers in
+      let grown = f.grown k s (omega (arith, m.emitter.count)) in (
+        grown.0 ++ left.0,
+        left.1 ∙ ap (λ (taken : List Sent). taken ++ left.0) grown.1
+            ∙ append_assoc (taken_in before.tx.links k s) grown.0 left.0
+            ∙ sym (ap (λ (subs : ℕ → ℕ → Progress). (subs k s).taken ++ (grown.0 ++ left.0)) m.emitter.subs),
+      )
+
+  -- Polls found the first of what was sent.
+  pub finds_first : FindsFirst st
+  finds_first = record {
+    own = λ k s lt below.
+        let first = found_first k s lt in
+        all_first (IsAllowed st.es.plan k s) (found st.es k s) first.0 (rw (← first.1) (allowed k s lt below));
+    first = λ place lt.
+        let port : PortPlan = port_plan_at st.es.plan.ports place in
+        let link = link_within st.es.plan port valid (valid.linked place (port_plan_at [] 0) lt) in
+        let first = found_first (link_place st.es.plan port) port.sub link.0 in (
+          messages_of port first.0,
+          own_messages place lt ∙ ap (messages_of port) first.1
+              ∙ messages_more port (found st.es (link_place st.es.plan port) port.sub) first.0,
+        );
+  }
+
+  -- the messages of a port on a sub-VL are those that the sub-VL accepted
+  sent_on : (place sub k : ℕ) → place < length st.es.plan.links → k < length st.es.plan.ports
+      → is_on (link_plan_at st.es.plan.links place).id.0 sub (port_plan_at st.es.plan.ports k) ≡ true
+      → each_port st.es.plan (accepted_in g.drain.links place sub) k ≡ st.accepted k
+  sent_on place sub k within lt on =
+      let port : PortPlan = port_plan_at st.es.plan.ports k in
+      let both = and_parts (nat_eq port.vl.0 (link_plan_at st.es.plan.links place).id.0) (nat_eq port.sub sub) on in
+      let link = link_within st.es.plan port valid (valid.linked k (port_plan_at [] 0) lt) in
+      let here : link_place st.es.plan port ≡ place = valid.links_apart _ _ link.0 within
+      (link.1.id ∙ ap (λ (n : ℕ). let made : VlId = record { 0 = n } in made) (eqb-true _ _ both.0)) in
+      rw (← here, ← eqb-true _ _ both.1) (sym (own_messages k lt))
+
+  -- Closes reported the totals.
+  pub totals_are : (turns : List AnsweredLine) → AreTold bench.tx turns → AreTotals st turns
+  totals_are turns told = All-weaker (λ (turn : AnsweredLine). TellsTotal bench.tx (meaning_of turn.line) turn.answer)
+      (IsTotal st) (λ turn tells place sub at.
+      let line = meaning_of turn.line in
+      let its = (closes_sub st.es.plan line place sub at).1 in
+      let shown = tells place sub (subst (λ (plan : Plan). ClosesAt plan line place sub) (sym same) at) in
+      sym (total_whole bench.tx bench.ports g.drain place sub _ g.gathers shown)
+      ∙ sym (counted st.es.plan place sub (accepted_in g.drain.links place sub) valid (allowed place sub its.within its.below))
+      ∙ among_same st.es.plan (link_plan_at st.es.plan.links place).id.0 sub
+      (each_port st.es.plan (accepted_in g.drain.links place sub)) st.accepted (length st.es.plan.ports)
+      (λ k lt on. ap length (sent_on place sub k its.within lt on))) turns told

@@ -1,12 +1,9 @@
+mod AtHand
+mod Closing
 mod EndLemmas
-mod PlayLemmas
-mod RunLemmas
+mod Finding
 mod Matched
 mod Polling
+mod RunLemmas
 mod Sending
-mod AtHand
-mod Blind
-mod Finding
-mod Told
 mod Totals
-mod Closing

@@ -1,9 +1,9 @@
 -- A poll of an emitter, over what was taken of its sub-VLs and what is left.
-use Rattle.std.proofs.Common.{ℕ, ◌≡◌, ◌<◌, List, [], ◌∷◌, ◌++◌, Bool, true, length, arith, refl, ap, ◌∙◌, sym, subst, inl, inr, ⊎_elim}
-use Rattle.std.proofs.lemmas.List.{length-map, map-append, append-nil}
+use Rattle.std.proofs.Common.{ℕ, ◌≡◌, ◌≢◌, ◌-◌, ◌+◌, ◌<◌, ◌≤◌, List, [], ◌∷◌, ◌++◌, Bool, true, false, nat_lt, length, append-nil, arith, refl, ap, ◌∙◌, sym, subst, inl, inr, ⊎_elim, Result, Ok, Err, OnOk, OnErr}
+use Rattle.std.proofs.lemmas.Bool.{cases_eq, cases_lt, le-ltb}
+use Rattle.std.proofs.lemmas.List.{length-append, length-map, map-append}
 use Rattle.afdx_plan.specs.Config.{link_plan_at}
 use Rattle.afdx_plan.specs.declared.link_plan.LinkPlan.{LinkPlan}
-use Rattle.afdx_plan.specs.declared.port_plan.PortPlan.{PortPlan}
 use Rattle.afdx_frame.specs.declared.net.Net.{Net}
 use Rattle.afdx_frame.specs.declared.net.Net.TheVariants.{A, B}
 use Rattle.afdx_frame.specs.Fragments.{Sent}
@@ -12,45 +12,58 @@ use Rattle.redundant_mux.specs.Logged.{Logged, sent_to}
 use Rattle.redundant_mux.specs.Lines.{Lines, log, Keeps, IsMirrored}
 use Rattle.vl_shaper.specs.Pace.{Pace}
 use Rattle.vl_link.specs.declared.served.Served.{Served}
+use Rattle.vl_link.specs.declared.served.Served.TheVariants.{Nothing, Released, Lost}
 use Rattle.vl_link.specs.Seen.{taken_of}
-use Rattle.vl_link.specs.Turn.{Turn, AreTurns}
-use Rattle.vl_link.specs.Links.{Held, LinkState, held_at, link_at, GoesOn, Starts, Passes, Asks, GivesFrame, held_view, Serves, sent_of, sent_by, taken_by, IsSameLink, message_fragments}
-use Rattle.vl_link.proofs.QueueLooks.{taken_nothing, taken_finds, same_ports}
-use Rattle.vl_link.proofs.TurnLaws.{IsSeenIn, turn_seen, turns_seen, turns_each}
+use Rattle.vl_link.specs.Turn.{Turn, AreTurns, IsChoice}
+use Rattle.vl_link.specs.Links.{Held, LinkState, held_at, link_at, GoesOn, Starts, Passes, GivesFrame, held_view, sent_of, IsSameLink, taken_by}
+use Rattle.vl_link.proofs.QueueLooks.{taken_nothing, taken_finds}
+use Rattle.vl_link.proofs.TurnLaws.{choice_other, turn_seen, turns_seen, turns_each}
+use Rattle.afdx_tx.specs.declared.report.Release.{Release}
 use Rattle.afdx_tx.specs.Drain.{pace_in}
-use Rattle.afdx_tx.specs.Emitter.{Tx}
+use Rattle.afdx_tx.specs.Emitter.{Tx, taken_in, total_in}
+use Rattle.afdx_tx.specs.Ports.{PortView}
+use Rattle.afdx_tx.specs.Report.{IsTold, release_of}
 use Rattle.afdx_tx.specs.Run.{IsTurn, IsTurnAt, IsRun}
-use Rattle.tx_script.specs.EndSystem.{Progress, EndSystem, started, GoesOnOrFinds, SendsFrame, progress_view, HasTurnAt, HasPolled}
-use Rattle.tx_script.proofs.Matched.{still_planned}
-use Rattle.tx_script.specs.AtBench.{IsPlannedLink, progress_of, MatchesLines, MatchesTx}
+use Rattle.script_text.specs.declared.line.Line.TheVariants as Said
+use Rattle.script_text.specs.declared.outcome.Outcome.TheVariants as Became
+use Rattle.tx_script.specs.EndSystem.{Progress, EndSystem, started, SendsFrame, progress_view, HasTurnAt, HasPolled}
+use Rattle.tx_script.specs.AtBench.{AtBench, IsPlannedLink, progress_of, MatchesTx, Obeys, OnlyTakes}
+use Rattle.tx_script.specs.Play.{leaves}
+use Rattle.tx_script.proofs.AtHand.{asked_on}
+use Rattle.tx_script.proofs.Matched.{same_totals, still_planned}
 
--- a message that was found stands behind those that were taken before it
+-- as many entries as were logged
+log_many : (lines : Lines) → length (log lines) ≡ length lines.logged
+unfolding log
+log_many lines = length-map lines.logged (λ (l : Logged). l.entry)
+
+-- A poll released as many frames as its report names.
+pub released_many : (old new : Lines) (now : ℕ) (released : List Release) → IsTold now released old new
+    → length released ≡ length new.logged - length old.logged
+released_many old new now released told =
+    let named : length released ≡ length told.entries = ap length (sym told.named) ∙ length-map told.entries release_of in
+    let grown = ap length told.grown ∙ length-append (log old) told.entries in
+    omega (arith, grown, log_many old, log_many new)
+
+-- a sub-VL that found a message has taken it after those before it
 started_is : (old mid : Held) (p : Starts old mid) → progress_of mid ≡ started old.of (progress_of old) (sent_of old.ports p.message)
-started_is old mid p =
-    let message : Sent = sent_of old.ports p.message in
-    let taken : taken_by mid ≡ taken_by old ++ sent_of old.ports p.message ∷ [] =
-    ap (λ (ports : List PortPlan). sent_by ports (taken_of mid.seen)) p.ports
-    ∙ ap (sent_by old.ports) (taken_finds old.seen p.message mid.seen p.finds)
-    ∙ map-append (sent_of old.ports) (taken_of old.seen) (p.message ∷ []) in
-    let left : mid.left ≡ message_fragments old.of (length (taken_by old)) (sent_of old.ports p.message) =
-    p.left
-    ∙ ap (λ (n : ℕ). message_fragments old.of n (sent_of old.ports p.message))
-    (sym (length-map (taken_of old.seen) (sent_of old.ports))) in
-    rw (taken, left) refl
+started_is old mid p = rw (
+  p.ports,
+  taken_finds old.seen p.message mid.seen p.finds,
+  map-append (sent_of old.ports) (taken_of old.seen) (p.message ∷ []),
+  p.left,
+  length-map (taken_of old.seen) (sent_of old.ports),
+) refl
 
--- a sub-VL that has something has it without its queue
-asked_plain : (old mid : Held) → Asks true old mid → GoesOnOrFinds old.of (progress_of old) (progress_of mid)
-asked_plain old mid a = ⊎_elim
-    (λ (g : GoesOn old mid). inl (g.some, ap progress_of g.same))
-    (λ (p : Starts old mid). inr (sent_of old.ports p.message, p.whole, started_is old mid p))
-    a
-
--- and gives the same frame
+-- a sub-VL that gives a frame gives it without its queue
 shows_plain : (old : Held) (frame : List ℕ) (new : Held) → GivesFrame old frame new
     → SendsFrame old.of (progress_of old) frame (progress_of new)
 shows_plain old frame new g = record {
   mid = progress_of g.mid;
-  asked = asked_plain old g.mid g.asked;
+  asked = ⊎_elim
+      (λ (h : GoesOn old g.mid). inl (h.some, ap progress_of h.same))
+      (λ (p : Starts old g.mid). inr (sent_of old.ports p.message, p.whole, started_is old g.mid p))
+      g.asked;
   next = g.gives.next;
   taken = ap taken_by g.gives.same;
 }
@@ -59,66 +72,41 @@ shows_plain old frame new g = record {
 passes_plain : (old new : Held) → Passes old new → progress_of new ≡ progress_of old
 passes_plain old new p = rw p.same (rw (taken_nothing old.seen new.seen p.nothing) refl)
 
--- what is known of sub-VLs with their queues is known without them
-plain_seen : (own : ℕ) (plan : LinkPlan) (pace : Pace) (subs news : List Held) (old new : ℕ → Progress)
-    → ((s : ℕ) → s < pace.sub_vls → (held_at subs s).of ≡ record { end_system = own; link = plan; sub = s })
-    → ((s : ℕ) → old s ≡ progress_of (held_at subs s)) → ((s : ℕ) → new s ≡ progress_of (held_at news s))
-    → IsSeenIn pace (held_view subs news) (progress_view own plan old new)
-plain_seen own plan pace subs news old new named was is = record {
-  lacks = λ s lt p. (
-    ap (λ (progress : Progress). progress.left) (was s) ∙ p.whole,
-    is s ∙ passes_plain (held_at subs s) (held_at news s) p ∙ sym (was s),
-  );
-  rests = λ s e. is s ∙ ap progress_of e ∙ sym (was s);
-  gives = λ s frame lt g. rw (was s, is s, ← named s lt) (shows_plain (held_at subs s) frame (held_at news s) g);
-}
-
--- the regulation is that of the plan
-planned_turn : (now own : ℕ) (plan : LinkPlan) (ports : List PortPlan) (link new : LinkState) (lines after : Lines) (did : Served)
-    → IsPlannedLink own plan ports link → IsTurn now link new lines after did
-    → Serves now plan (pace_in plan (log lines)) link.subs new.subs lines after did
-planned_turn now own plan ports link new lines after did m t = rw (m.plan, m.gap, m.sub_vls) at t.serves
+-- what sub-VLs took and have left
+abbrev progress_at : List Held → ℕ → Progress
+progress_at subs s = progress_of (held_at subs s)
 
 -- one turn of a planned link
-turn_plain : (now own : ℕ) (plan : LinkPlan) (ports : List PortPlan) (link new : LinkState) (lines after : Lines) (did : Served)
-    (old next : ℕ → Progress) → IsPlannedLink own plan ports link
-    → ((s : ℕ) → old s ≡ progress_of (held_at link.subs s)) → ((s : ℕ) → next s ≡ progress_of (held_at new.subs s))
-    → IsTurn now link new lines after did
-    → Turn now plan (pace_in plan (log lines)) (progress_view own plan old next) lines after did
-turn_plain now own plan ports link new lines after did old next m was is t =
-    let seen : IsSeenIn (pace_in plan (log lines)) (held_view link.subs new.subs) (progress_view own plan old next) =
-    plain_seen own plan (pace_in plan (log lines)) link.subs new.subs old next (λ s lt. (m.each s lt).of) was is in
-    turn_seen now plan (pace_in plan (log lines)) (held_view link.subs new.subs) (progress_view own plan old next)
-    lines after did seen.rests (λ _. seen) (planned_turn now own plan ports link new lines after did m t)
+turn_plain : (now own : ℕ) (plan : LinkPlan) (link new : LinkState) (lines after : Lines) (did : Served)
+    → IsPlannedLink own plan link → IsTurn now link new lines after did
+    → Turn now plan (pace_in plan (log lines)) (progress_view own plan (progress_at link.subs) (progress_at new.subs)) lines after did
+turn_plain now own plan link new lines after did m t =
+    turn_seen now plan (pace_in plan (log lines)) (held_view link.subs new.subs)
+    (progress_view own plan (progress_at link.subs) (progress_at new.subs)) lines after did (λ s e. ap progress_of e)
+    (λ _. record {
+      lacks = λ s lt p. (p.whole, passes_plain (held_at link.subs s) (held_at new.subs s) p);
+      rests = λ s e. ap progress_of e;
+      gives = λ s frame lt g. rw (← m.of.named s (omega (arith, m.of.count, m.of.sub_vls)))
+          (shows_plain (held_at link.subs s) frame (held_at new.subs s) g);
+    })
+    (rw (m.plan, m.of.gap, m.of.sub_vls) at t.serves)
 
--- what both networks hold where both stand
-mirrored_lines : (lines : Lines) → IsMirrored lines → lines.a_stands ≡ true → lines.b_stands ≡ true
-    → MatchesLines lines.logged lines
-mirrored_lines lines m a b = record {
-  is = refl;
-  a = all_kept A lines.a_stands lines.a lines.logged m.first a;
-  b = all_kept B lines.b_stands lines.b lines.logged m.second b;
-  for_a = a;
-  for_b = b;
-}
-  where
-    all_kept : (net : Net) (stands : Bool) (handed : List Entry) (logged : List Logged) → Keeps net stands handed logged
-        → stands ≡ true → handed ≡ sent_to net logged
-    all_kept net stands handed logged k e =
-        let seen : logged ≡ k.seen =
-        k.whole ∙ ap (λ (missed : List Logged). k.seen ++ missed) (k.all e) ∙ append-nil k.seen in
-        k.got ∙ ap (sent_to net) (sym seen)
+-- what both networks hold if both are up
+all_kept : (net : Net) (stands : Bool) (handed : List Entry) (logged : List Logged) → Keeps net stands handed logged
+    → stands ≡ true → handed ≡ sent_to net logged
+all_kept net stands handed logged k up = k.got
+    ∙ ap (sent_to net) (sym (k.whole ∙ ap (λ (missed : List Logged). k.seen ++ missed) (k.all up) ∙ append-nil k.seen))
 
 -- the end system that matches an emitter after a poll
 abbrev pub left_at : EndSystem → ℕ → Tx → EndSystem
 left_at es now new = record {
   plan = es.plan;
-  subs = λ k s. progress_of (held_at (link_at new.links k).subs s);
+  subs = λ k. progress_at (link_at new.links k).subs;
   log = new.lines.logged;
   moment = now;
 }
 
--- A poll of an emitter is one of the end system that it matches, where both networks stand.
+-- A poll of an emitter is one of the end system that it matches, if both networks are up.
 pub polled_matches : (es : EndSystem) (old new : Tx) (now : ℕ) → MatchesTx es old
     → IsRun now old.links new.links old.lines new.lines
     → new.lines.a_stands ≡ true → new.lines.b_stands ≡ true → HasPolled now es (left_at es now new)
@@ -127,21 +115,26 @@ polled_matches es old new now m run a b = record {
   moment = refl;
   lines = old.lines;
   after = new.lines;
-  was = m.lines.is;
+  was = m.logged;
   is = refl;
   turns = subst (λ (n : ℕ). AreTurns (HasTurnAt now es (left_at es now new)) 0 n old.lines new.lines) m.count
       (turns_seen (IsTurnAt now old.links new.links) (HasTurnAt now es (left_at es now new)) 0 (length old.links) old.lines new.lines
-      (λ k le lt before behind did t.
-      let within : k < length es.plan.links = let count = m.count in omega arith in
-      turn_plain now es.plan.end_system (link_plan_at es.plan.links k) es.plan.ports (link_at old.links k) (link_at new.links k)
-      before behind did (es.subs k) (λ s. progress_of (held_at (link_at new.links k).subs s)) (m.planned k within)
-      (λ s. m.subs k s within) (λ s. refl) t)
+      (λ k le lt before behind did t. rw m.subs (turn_plain now es.plan.end_system (link_plan_at es.plan.links k)
+      (link_at old.links k) (link_at new.links k) before behind did (m.planned k (omega (arith, m.count))) t))
       run.turns);
   a_stands = a;
   b_stands = b;
 }
 
--- And leaves one that it matches, where both networks stand.
+-- What each turn of a run shows of a link holds of it.
+each_link : (Q : ℕ → Type 0) (old new : Tx) (now : ℕ) → IsRun now old.links new.links old.lines new.lines
+    → ((k : ℕ) (before behind : Lines) (did : Served) → IsTurnAt now old.links new.links k before behind did → Q k)
+    → (k : ℕ) → k < length old.links → Q k
+each_link Q old new now run shows k lt =
+    turns_each (IsTurnAt now old.links new.links) Q 0 (length old.links) old.lines new.lines shows run.turns k
+    (omega arith) (omega arith)
+
+-- A poll leaves an end system that the emitter matches, if both networks are up.
 pub left_matches : (es : EndSystem) (old new : Tx) (now : ℕ) → MatchesTx es old
     → IsRun now old.links new.links old.lines new.lines
     → IsMirrored new.lines → new.lines.a_stands ≡ true → new.lines.b_stands ≡ true → new.plan ≡ old.plan
@@ -150,21 +143,102 @@ left_matches es old new now m run mirrored a b plan moment = record {
   plan = plan ∙ m.plan;
   count = run.count ∙ m.count;
   planned = λ k lt.
-      let same : IsSameLink (link_at old.links k) (link_at new.links k) =
-      turns_each (IsTurnAt now old.links new.links) (λ i. IsSameLink (link_at old.links i) (link_at new.links i))
-      0 (length old.links) old.lines new.lines (λ i before behind did t. t.same) run.turns k (omega arith)
-      (let count = m.count in omega arith) in
-      still_planned same.plan same.gap same.sub_vls same.count (λ s.
-      let sub = same.subs s in
-      record {
-        of = sub.of;
-        ports = sub.ports;
-        queue =
-            same_ports (held_at (link_at old.links k).subs s).seen
-            (held_at (link_at new.links k).subs s).seen sub.queue;
-      })
-      (m.planned k lt);
-  subs = λ k s lt. refl;
-  lines = mirrored_lines new.lines mirrored a b;
+      let same = each_link (λ i. IsSameLink (link_at old.links i) (link_at new.links i)) old new now run
+      (λ i before behind did t. t.same) k (omega (arith, m.count)) in
+      still_planned same.plan same.gap same.sub_vls same.count (λ s. (same.subs s).of) (m.planned k lt);
+  subs = refl;
+  logged = refl;
+  a = all_kept A new.lines.a_stands new.lines.a new.lines.logged mirrored.first a;
+  b = all_kept B new.lines.b_stands new.lines.b new.lines.logged mirrored.second b;
   moment = moment;
+}
+
+-- more was taken
+abbrev Grows : (old new : List Sent) → Type 0
+Grows old new = (more : List Sent) × (new ≡ old ++ more)
+
+grows_not : (old new : List Sent) → new ≡ old → Grows old new
+grows_not old new same = ([], same ∙ sym (append-nil old))
+
+grows_sent : (old : Held) (frame : List ℕ) (new : Held) → GivesFrame old frame new → Grows (taken_by old) (taken_by new)
+grows_sent old frame new g = let sends = shows_plain old frame new g in ⊎_elim
+    (λ same. grows_not (taken_by old) (taken_by new) (sends.taken ∙ ap (λ (p : Progress). p.taken) same.1))
+    (λ found. (found.0 ∷ [], sends.taken ∙ ap (λ (p : Progress). p.taken) found.2))
+    sends.asked
+
+-- what is shown by each part of a turn holds of each sub-VL
+each_chosen : (P : ℕ → Type 0) (pace : Pace) (sub : ℕ) → IsChoice pace P P P sub → (s : ℕ) → P s
+each_chosen P pace sub c s = ⊎_elim
+    (λ (e : s ≡ sub). subst P (sym e) c.chosen)
+    (λ (ne : s ≢ sub). ⊎_elim (λ p. p) (λ p. p) (choice_other pace P P P sub c s ne))
+    (cases_eq s sub)
+
+each_turn : (P : ℕ → Type 0) (now : ℕ) (plan : LinkPlan) (pace : Pace) (lines after : Lines) (did : Served)
+    → Turn now plan pace (record { lacks = P; rests = P; gives = λ s frame. P s }) lines after did → (s : ℕ) → P s
+each_turn P now plan pace lines after Nothing t s = ⊎_elim
+    (λ rests. rests.1 s)
+    (λ none. ⊎_elim (none.1.each s) (none.1.others s) (cases_lt s pace.sub_vls))
+    t.0
+each_turn P now plan pace lines after (Released sub number) t s = each_chosen P pace sub t.2.choice s
+each_turn P now plan pace lines after Lost t s = each_chosen P pace t.1.sub t.1.choice s
+
+-- What was taken before a poll is the first of what was taken after it.
+pub taken_grows : (old new : Tx) (now : ℕ) → IsRun now old.links new.links old.lines new.lines → (k s : ℕ)
+    → k < length old.links → Grows (taken_in old.links k s) (taken_in new.links k s)
+taken_grows old new now run k s lt = each_link (λ i. Grows (taken_in old.links i s) (taken_in new.links i s)) old new now run
+    (λ i before behind did t. grown (link_at old.links i) (link_at new.links i) before behind did t) k lt
+  where
+    grown : (link news : LinkState) (before behind : Lines) (did : Served) → IsTurn now link news before behind did
+        → Grows (taken_by (held_at link.subs s)) (taken_by (held_at news.subs s))
+    grown link news before behind did t =
+        let P = λ (i : ℕ). Grows (taken_by (held_at link.subs i)) (taken_by (held_at news.subs i)) in
+        each_turn P now link.plan _ before behind did
+        (turn_seen now link.plan _ (held_view link.subs news.subs) (record { lacks = P; rests = P; gives = λ i frame. P i })
+        before behind did (λ i e. grows_not _ _ (ap taken_by e))
+        (λ _. record {
+          lacks = λ i below p. grows_not _ _ (ap (λ (g : Progress). g.taken) (passes_plain (held_at link.subs i) (held_at news.subs i) p));
+          rests = λ i e. grows_not _ _ (ap taken_by e);
+          gives = λ i frame below g. grows_sent (held_at link.subs i) frame (held_at news.subs i) g;
+        })
+        t.serves) s
+
+-- The ports sent nothing in a poll and nothing was closed, whatever it answered.
+pub poll_takes : {R E : Type 0} (answer : Result R E) (old new : Tx) (ports : List PortView) (now : ℕ) (bench : AtBench)
+    → record { tx = old; ports = ports } ≡ bench → OnErr answer (new ≡ old) → OnOk answer (IsRun now old.links new.links old.lines new.lines) → new.plan ≡ old.plan
+    → ((k s : ℕ) → total_in new.links k s ≡ total_in old.links k s)
+    → OnlyTakes bench (record { tx = new; ports = ports })
+poll_takes {R = R} {E = E} answer old new ports now bench is unchanged run plan totals = rw (← is) record {
+  ports = refl;
+  closes = same_totals Said.Nothing old new plan totals;
+  grown = grown answer unchanged run;
+}
+  where
+    grown : (a : Result R E) → OnErr a (new ≡ old) → OnOk a (IsRun now old.links new.links old.lines new.lines) → (k s : ℕ)
+        → k < length old.links → Grows (taken_in old.links k s) (taken_in new.links k s)
+    grown (Ok r) same ran k s lt = taken_grows old new now ran k s lt
+    grown (Err e) same ran k s lt = grows_not _ _ (ap (λ (tx : Tx). taken_in tx.links k s) same)
+
+-- A poll after which both networks are up.
+pub obeys_poll : (old new : Tx) (ports : List PortView) (now released : ℕ) → old.moment ≤ now
+    → IsRun now old.links new.links old.lines new.lines → IsMirrored new.lines → new.lines.a_stands ≡ true
+    → new.lines.b_stands ≡ true → new.plan ≡ old.plan → new.moment ≡ now
+    → ((k s : ℕ) → total_in new.links k s ≡ total_in old.links k s)
+    → released ≡ length new.lines.logged - length old.lines.logged → released ≤ 64
+    → Obeys (Said.At now) (record { tx = old; ports = ports }) (record { tx = new; ports = ports }) (Became.Released released)
+obeys_poll old new ports now released le run mirrored a b plan moment totals many few = record {
+  ok = λ accepted es m.
+      let late : nat_lt now es.moment ≡ false = le-ltb now es.moment (omega (arith, m.emitter.moment)) in
+      record {
+        answer = leaves (left_at es now new);
+        may = λ later. polled_matches es old new now m.emitter run a b;
+        is = rw (late, ← m.emitter.logged) (ap Became.Released many);
+        told = λ place sub at. absurd at;
+        matches = rw late (record {
+          emitter = left_matches es old new now m.emitter run mirrored a b plan moment;
+          own = m.own;
+        });
+      };
+  few = few;
+  asked = λ count asked. asked_on count (count + 1) ports (omega arith) asked;
+  closes = same_totals (Said.At now) old new plan totals;
 }

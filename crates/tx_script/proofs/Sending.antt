@@ -1,224 +1,177 @@
 -- Obeying a line that sends a message.
-use Rattle.std.proofs.Common.{ℕ, ◌≡◌, ◌≢◌, ◌≤◌, ◌<◌, ◌+◌, ◌==◌, true, false, ⊎_elim, List, [], length, set, get_or, refl, ap, ◌∙◌, sym, subst, arith, Option, Some, None}
+use Rattle.std.proofs.Common.{ℕ, ◌≡◌, ◌≢◌, ◌≤◌, ◌<◌, ◌+◌, ◌==◌, inl, inr, List, [], length, set, get_or, refl, ap, ◌∙◌, sym, arith, append-nil, Option, Some, None}
 use Rattle.std.proofs.lemmas.Bool.{eq-eqb, ne_eqb, lt-ltb, le-ltb}
 use Rattle.std.proofs.lemmas.List.Quantifiers.{position-Some}
 use Rattle.afdx_plan.specs.Config.{Plan, port_plan_at}
 use Rattle.afdx_plan.specs.declared.port_plan.PortPlan.{PortPlan}
-use Rattle.subvl_queue.specs.Views.{SenderView, asked, glanced}
+use Rattle.subvl_queue.specs.Views.{SenderView, IsRefused}
+use Rattle.subvl_queue.specs.declared.refused.Why.{Why as QueueWhy}
+use Rattle.subvl_queue.specs.declared.refused.Why.TheVariants as Queue
 use Rattle.afdx_tx.specs.declared.fault.Refusal.{Refusal as SendRefusal}
 use Rattle.afdx_tx.specs.declared.fault.Refusal.TheVariants as Why
 use Rattle.afdx_tx.specs.Emitter.{Tx}
-use Rattle.afdx_tx.specs.Ports.{PortView, MaySend, Accepts, Refuses, BelongsTo}
+use Rattle.afdx_tx.specs.Ports.{PortView, MaySend, Accepts, Refuses, QueueRefuses}
 use Rattle.afdx_tx.specs.Sending.{length_refusal}
-use Rattle.tx_script.specs.AtBench.{AtBench, IsAtHand, HaveSent, Matches, Obeys, Sends}
-use Rattle.tx_script.specs.EndSystem.{EndSystem}
-use Rattle.tx_script.specs.Play.{Answer, Messages, takes, closes, fills, place_of, passed_on, script_refusal, outcome_of, accepted_with, accepted_after, with_message}
+use Rattle.script_text.specs.declared.line.Line.{Line}
 use Rattle.script_text.specs.declared.line.Line.TheVariants.{Send}
 use Rattle.script_text.specs.declared.refusal.Refusal.{Refusal}
-use Rattle.script_text.specs.declared.refusal.Refusal.TheVariants.{NoPort}
+use Rattle.script_text.specs.declared.refusal.Refusal.TheVariants.{Empty, TooLong, Closed, Full, NoPort}
 use Rattle.script_text.specs.declared.outcome.Outcome.{Outcome}
 use Rattle.script_text.specs.declared.outcome.Outcome.TheVariants as Became
-use Rattle.tx_script.proofs.AtHand.{IsSamePort, have_sent, have_kept}
+use Rattle.script_text.specs.Summary.{HasFew}
+use Rattle.tx_script.specs.AtBench.{AtBench, IsAtHand, Matches, Sends, Obeys, ObeysAt}
+use Rattle.tx_script.specs.EndSystem.{EndSystem}
+use Rattle.tx_script.specs.Play.{Answer, Messages, takes, closes, fills, place_of, passed_on, queued, sent_to, script_refusal, outcome_of}
+use Rattle.tx_script.proofs.AtHand.{asked_on, sent_at_hand, asked_more, have_sent}
+use Rattle.tx_script.proofs.Matched.{same_totals}
 
--- a message of no bytes
-empty_refused : (port : PortPlan) (size : ℕ) → size ≡ 0 → length_refusal port size ≡ Some Why.Empty
-empty_refused port size e = rw (eq-eqb size 0 e) refl
-
--- one over the port's greatest
-long_refused : (port : PortPlan) (size : ℕ) → port.max < size → length_refusal port size ≡ Some Why.TooLong
-long_refused port size over = rw (ne_eqb size 0 (λ e. absurd (omega arith)), lt-ltb port.max size over) refl
-
--- one that the port may send
+-- a message that the port may send
 may_pass : (port : PortPlan) (size : ℕ) → MaySend port size → length_refusal port size ≡ None
 may_pass port size may =
     rw (ne_eqb size 0 (λ e. absurd (let some = may.some in omega arith)), le-ltb port.max size may.most) refl
 
--- What a refusal leaves of a port.
-record IsUnsent (old new : PortView) : Type 0 where
-  same : IsSamePort old new
-  own : new.sender.own ≡ old.sender.own
-  asks : new.sender.asks ≤ old.sender.asks + 1
+-- A port accepted a message.
+pub sends_accepted : (old new : PortView) (bytes : List ℕ) → MaySend old.plan (length bytes) → Accepts old bytes new
+    → Sends old bytes new Became.Accepted
+sends_accepted old new bytes may a = rw (a.1, a.0.2.1) (record {
+  answer = takes;
+  is = rw (may_pass old.plan (length bytes) may) refl;
+  own = refl;
+  place = refl;
+  plan = refl;
+  queue = refl;
+  index = refl;
+  calls = refl;
+  asks = omega arith;
+})
 
--- its sender may have looked and asked, but sent nothing
-unsent_by : (old : PortView) (sender : SenderView) → sender.queue ≡ old.sender.queue → sender.port ≡ old.sender.port
-    → sender.calls ≡ old.sender.calls → sender.own ≡ old.sender.own → sender.asks ≤ old.sender.asks + 1
-    → IsUnsent old (record old { sender = sender })
-unsent_by old sender queue index calls own asks = record {
-  same = record { place = refl; plan = refl; queue = queue; index = index; calls = calls };
-  own = own;
+-- a sender but for how often it asked and glanced, and what it found
+abbrev asked_so : SenderView → SenderView → SenderView
+asked_so old new = record old { asks = new.asks; load = new.load; glances = new.glances; shut = new.shut }
+
+-- a port refused a message, for its length or by its queue
+refused_by : (old : PortView) (sender : SenderView) (bytes : List ℕ) (answer : Answer) (refusal : Refusal)
+    → passed_on (length_refusal old.plan (length bytes)) answer ≡ Became.Refused refusal
+    → sender ≡ asked_so old.sender sender → sender.asks ≤ old.sender.asks + 1
+    → Sends old bytes (record old { sender = sender }) (Became.Refused refusal)
+refused_by old sender bytes answer refusal is same asks = record {
+  answer = answer;
+  is = sym is;
+  own = ap (λ (s : SenderView). s.own) same ∙ sym (append-nil old.sender.own);
+  place = refl;
+  plan = refl;
+  queue = ap (λ (s : SenderView). s.queue) same;
+  index = ap (λ (s : SenderView). s.port) same;
+  calls = ap (λ (s : SenderView). s.calls) same;
   asks = asks;
 }
 
--- whatever the refusal
-unsent : (old new : PortView) (size : ℕ) (why : SendRefusal) → why ≢ Why.Exhausted → Refuses old size why new
-    → IsUnsent old new
-unsent old new size Why.Empty some r = rw r.1 (unsent_by old old.sender refl refl refl refl (omega arith))
-unsent old new size Why.TooLong some r = rw r.1 (unsent_by old old.sender refl refl refl refl (omega arith))
-unsent old new size Why.Closed some r = ⊎_elim
-    (λ (e : new.sender ≡ glanced old.sender true).
-    rw (r.same, e) (unsent_by old (glanced old.sender true) refl refl refl refl (omega arith)))
-    (λ e. rw (r.same, e.2)
-    (unsent_by old (asked (glanced old.sender true) new.sender.load) refl refl refl refl (omega arith))) r.queue
-unsent old new size Why.Exhausted some r = absurd (some refl)
-unsent old new size Why.Full some r =
-    rw (r.same, r.queue.2)
-    (unsent_by old (asked (glanced old.sender false) new.sender.load) refl refl refl refl (omega arith))
-
--- the plan of the port at a place
-plan_here : (tx : Tx) (ports : List PortView) (place : ℕ) (d : PortView) → IsAtHand tx ports → place < length ports
-    → (get_or ports place d).plan ≡ port_plan_at tx.plan.ports place
-plan_here tx ports place d h lt =
-    let belongs : BelongsTo tx.plan _ (get_or ports place d) = h.opened place d lt in
-    belongs.plan ∙ ap (port_plan_at tx.plan.ports) (h.placed place d lt)
-
--- A port that was found has its place among the ports at hand.
-place_inside : (tx : Tx) (ports : List PortView) (id place : ℕ) → IsAtHand tx ports → place_of tx.plan id ≡ Some place
-    → place < length ports
-place_inside tx ports id place h found =
-    let some = position-Some (λ (port : PortPlan). port.id.0 == id) tx.plan.ports place (port_plan_at [] 0) found in
-    let within = some.0 in
-    let many = h.many in
-    omega arith
-
--- what becomes of a message whose length was asked
-sent_here : (es : EndSystem) (tx : Tx) (id place : ℕ) (bytes : List ℕ) (port : PortPlan) (answer : Answer)
-    (why : Option SendRefusal) → tx.plan ≡ es.plan → place_of tx.plan id ≡ Some place
-    → port ≡ port_plan_at tx.plan.ports place → length_refusal port (length bytes) ≡ why
-    → outcome_of es (Send id bytes) answer ≡ passed_on why answer
-sent_here es tx id place bytes port answer why plan found is asked = rw (← plan, found, ← is, asked) refl
-
--- A message that its port accepted.
-send_taken : (accepted : Messages) (es : EndSystem) (tx : Tx) (ports : List PortView) (id place : ℕ) (d new : PortView)
-    (bytes : List ℕ) → IsAtHand tx ports → place_of tx.plan id ≡ Some place → place < length ports
-    → MaySend (get_or ports place d).plan (length bytes) → Accepts (get_or ports place d) bytes new
-    → Matches accepted es (record { tx = tx; ports = ports })
-    → Obeys (Send id bytes) accepted es (record { tx = tx; ports = set ports place new }) Became.Accepted
-send_taken accepted es tx ports id place d new bytes h found lt may accepts m = record {
-  answer = takes;
-  may = tt;
-  is = sym outcome;
-  told = tt;
-  matches = record {
-    emitter = m.emitter;
-    own = subst (λ (more : Messages). HaveSent more (set ports place new)) (sym more_accepted)
-        (have_sent accepted ports place d new bytes lt (ap (λ (s : SenderView). s.own) accepts.0.2.1) m.own);
-  };
-}
+queue_refused : (old new : PortView) (bytes : List ℕ) (why : QueueWhy) (answer : Answer) (refusal : Refusal)
+    → QueueRefuses old (length bytes) why new → queued answer ≡ Became.Refused refusal
+    → Sends old bytes new (Became.Refused refusal)
+queue_refused old new bytes why answer refusal r is =
+    let so = asks why new.sender r.queue in
+    rw r.same (refused_by old new.sender bytes answer refusal (rw (may_pass old.plan (length bytes) r.may) is) so.0 so.1)
   where
-    here : place_of es.plan id ≡ Some place
-    here = ap (λ (plan : Plan). place_of plan id) (sym m.emitter.plan) ∙ found
+    asks : (by : QueueWhy) (s : SenderView) → IsRefused old.sender by s
+        → (s ≡ asked_so old.sender s) × (s.asks ≤ old.sender.asks + 1)
+    asks Queue.Closed s (inl e) = rw e (refl, omega arith)
+    asks Queue.Closed s (inr e) = rw e.2 (refl, omega arith)
+    asks Queue.Exhausted s e = rw e.1 (refl, omega arith)
+    asks Queue.Full s e = rw e.2 (refl, omega arith)
 
-    outcome : outcome_of es (Send id bytes) takes ≡ Became.Accepted
-    outcome = sent_here es tx id place bytes (get_or ports place d).plan takes None m.emitter.plan found
-        (plan_here tx ports place d h lt) (may_pass (get_or ports place d).plan (length bytes) may)
+-- A port refused a message.
+pub sends_refused : (old new : PortView) (bytes : List ℕ) (why : SendRefusal) → why ≢ Why.Exhausted
+    → Refuses old (length bytes) why new → Sends old bytes new (Became.Refused (script_refusal why))
+sends_refused old new bytes Why.Empty some r =
+    rw r.1 (refused_by old old.sender bytes fills Empty (rw (eq-eqb (length bytes) 0 r.0) refl) refl (omega arith))
+sends_refused old new bytes Why.TooLong some r =
+    let long : length_refusal old.plan (length bytes) ≡ Some Why.TooLong =
+    rw (ne_eqb (length bytes) 0 (λ e. absurd (omega (arith, r.0))), lt-ltb old.plan.max (length bytes) r.0) refl in
+    rw r.1 (refused_by old old.sender bytes fills TooLong (rw long refl) refl (omega arith))
+sends_refused old new bytes Why.Closed some r = queue_refused old new bytes Queue.Closed closes Closed r refl
+sends_refused old new bytes Why.Exhausted some r = absurd (some refl)
+sends_refused old new bytes Why.Full some r = queue_refused old new bytes Queue.Full fills Full r refl
 
-    more_accepted : accepted_after es (Send id bytes) takes accepted ≡ with_message place bytes accepted
-    more_accepted = ap (λ (o : Outcome). accepted_with (place_of es.plan id) bytes o accepted) outcome
-        ∙ ap (λ (p : Option ℕ). accepted_with p bytes Became.Accepted accepted) here
-
--- what a refused message leaves of the accepted ones
-not_taken : (place : Option ℕ) (bytes : List ℕ) (why : Refusal) (accepted : Messages)
-    → accepted_with place bytes (Became.Refused why) accepted ≡ accepted
-not_taken None bytes why accepted = refl
-not_taken (Some place) bytes why accepted = refl
-
--- a message was refused, whatever its port
-refused_by : (accepted : Messages) (es : EndSystem) (bench : AtBench) (id : ℕ) (bytes : List ℕ) (answer : Answer) (why : Refusal)
-    → outcome_of es (Send id bytes) answer ≡ Became.Refused why → Matches accepted es bench
-    → Obeys (Send id bytes) accepted es bench (Became.Refused why)
-refused_by accepted es bench id bytes answer why is m = record {
-  answer = answer;
-  may = tt;
-  is = sym is;
-  told = tt;
-  matches = subst (λ (same : Messages). Matches same es bench)
-      (sym (ap (λ (o : Outcome). accepted_with (place_of es.plan id) bytes o accepted) is
-      ∙ not_taken (place_of es.plan id) bytes why accepted)) m;
+-- A line was obeyed that left the bench as it was.
+pub obeys_still : (line : Line) (bench : AtBench) (outcome : Outcome) → HasFew outcome
+    → ((accepted : Messages) (es : EndSystem) → Matches accepted es bench → ObeysAt line accepted es bench outcome)
+    → Obeys line bench bench outcome
+obeys_still line bench outcome few ok = record {
+  ok = ok;
+  few = few;
+  asked = λ count h. asked_on count (count + 1) bench.ports (omega arith) h;
+  closes = same_totals line bench.tx bench.tx refl (λ k s. refl);
 }
+
+-- The same of a bench that is this one.
+pub at_bench : {line : Line} {old bench new : AtBench} {outcome : Outcome} → old ≡ bench → Obeys line old new outcome
+    → Obeys line bench new outcome
+at_bench same obeys = rw (← same) obeys
 
 -- A message for no port.
-pub send_nowhere : (accepted : Messages) (es : EndSystem) (bench : AtBench) (id : ℕ) (bytes : List ℕ)
-    → place_of bench.tx.plan id ≡ None → Matches accepted es bench
-    → Obeys (Send id bytes) accepted es bench (Became.Refused NoPort)
-send_nowhere accepted es bench id bytes none m =
-    refused_by accepted es bench id bytes fills NoPort
-    (rw (← m.emitter.plan, none) refl) m
-
--- the answer of a queue that refused
-answer_of : SendRefusal → Answer
-answer_of Why.Closed = closes
-answer_of _ = fills
-
--- what becomes of a message that was refused
-refusal_passed : (old new : PortView) (size : ℕ) (why : SendRefusal) → why ≢ Why.Exhausted → Refuses old size why new
-    → passed_on (length_refusal old.plan size) (answer_of why) ≡ Became.Refused (script_refusal why)
-unfolding answer_of
-refusal_passed old new size Why.Empty some r = rw (empty_refused old.plan size r.0) refl
-refusal_passed old new size Why.TooLong some r = rw (long_refused old.plan size r.0) refl
-refusal_passed old new size Why.Closed some r = rw (may_pass old.plan size r.may) refl
-refusal_passed old new size Why.Exhausted some r = absurd (some refl)
-refusal_passed old new size Why.Full some r = rw (may_pass old.plan size r.may) refl
-
--- A message that its port refused.
-send_refused : (accepted : Messages) (es : EndSystem) (tx : Tx) (ports : List PortView) (id place : ℕ) (d new : PortView)
-    (bytes : List ℕ) (why : SendRefusal) → IsAtHand tx ports → place_of tx.plan id ≡ Some place → place < length ports
-    → why ≢ Why.Exhausted → Refuses (get_or ports place d) (length bytes) why new
-    → Matches accepted es (record { tx = tx; ports = ports })
-    → Obeys (Send id bytes) accepted es (record { tx = tx; ports = set ports place new }) (Became.Refused (script_refusal why))
-send_refused accepted es tx ports id place d new bytes why h found lt some refuses m =
-    refused_by accepted es (record { tx = tx; ports = set ports place new }) id bytes (answer_of why) (script_refusal why)
-    (sent_here es tx id place bytes (get_or ports place d).plan (answer_of why)
-    (length_refusal (get_or ports place d).plan (length bytes)) m.emitter.plan found
-    (plan_here tx ports place d h lt) refl
-    ∙ refusal_passed (get_or ports place d) new (length bytes) why some refuses)
-    (record {
-      emitter = m.emitter;
-      own = have_kept accepted ports place d new lt
-          (unsent (get_or ports place d) new (length bytes) why some refuses).own m.own;
+pub obeys_nowhere : (bench : AtBench) (id : ℕ) (bytes : List ℕ) → place_of bench.tx.plan id ≡ None
+    → Obeys (Send id bytes) bench bench (Became.Refused NoPort)
+obeys_nowhere bench id bytes none = obeys_still (Send id bytes) bench (Became.Refused NoPort) tt (λ accepted es m.
+    let here : place_of es.plan id ≡ None = rw (← m.emitter.plan) none in
+    record {
+      answer = fills;
+      may = tt;
+      is = rw here refl;
+      told = λ place sub at. absurd at;
+      matches = rw here m;
     })
 
--- A port was found at its place, and was given a message.
-pub record IsSentAt (tx : Tx) (ports : List PortView) (id place : ℕ) (port new : PortView) (bytes : List ℕ)
-    (outcome : Outcome) : Type 0 where
-  pub found : place_of tx.plan id ≡ Some place
-  pub within : place < length ports
-  pub sends : Sends (get_or ports place port) bytes new outcome
+-- a message for the port at a place
+obeys_send : (tx : Tx) (ports : List PortView) (id place : ℕ) (d new : PortView) (bytes : List ℕ) (outcome : Outcome)
+    → IsAtHand tx ports → place_of tx.plan id ≡ Some place → place < length ports
+    → Sends (get_or ports place d) bytes new outcome
+    → Obeys (Send id bytes) (record { tx = tx; ports = ports }) (record { tx = tx; ports = set ports place new }) outcome
+obeys_send tx ports id place d new bytes outcome h found lt s = record {
+  ok = λ accepted es m. record {
+    answer = s.answer;
+    may = tt;
+    is = is es m.emitter.plan;
+    told = λ place sub at. absurd at;
+    matches = record {
+      emitter = m.emitter;
+      own = rw (← is es m.emitter.plan, here es m.emitter.plan)
+          (have_sent ports place d new bytes outcome lt s accepted m.own);
+    };
+  };
+  few = rw s.is (few (length_refusal (get_or ports place d).plan (length bytes)) s.answer);
+  asked = asked_more ports place d new bytes outcome lt s;
+  closes = same_totals (Send id bytes) tx tx refl (λ k s. refl);
+}
+  where
+    here : (es : EndSystem) → tx.plan ≡ es.plan → place_of es.plan id ≡ Some place
+    here es plan = rw (← plan) found
 
+    port : (get_or ports place d).plan ≡ port_plan_at tx.plan.ports place
+    port = (h.opened place d lt).plan ∙ ap (port_plan_at tx.plan.ports) (h.placed place d lt)
+
+    is : (es : EndSystem) → tx.plan ≡ es.plan → outcome ≡ outcome_of es (Send id bytes) s.answer
+    is es plan = s.is ∙ ap (λ (p : PortPlan). passed_on (length_refusal p (length bytes)) s.answer) port
+        ∙ sym (ap (λ (at : Option ℕ). sent_to tx.plan at bytes s.answer) found)
+        ∙ ap (λ (config : Plan). sent_to config (place_of config id) bytes s.answer) plan
+
+    few : (why : Option SendRefusal) (answer : Answer) → HasFew (passed_on why answer)
+    few (Some why) answer = tt
+    few None takes = tt
+    few None closes = tt
+    few None _ = tt
+
+-- A port was found by its identifier and given a message: the ports stay at hand, and the line is obeyed.
 pub sent_at : (tx : Tx) (ports : List PortView) (id place : ℕ) (port new : PortView) (bytes : List ℕ)
     (outcome : Outcome) (config : Plan) (at : Option ℕ) → IsAtHand tx ports → config ≡ tx.plan
     → at ≡ place_of config id → at ≡ Some place → port ≡ get_or ports place port → Sends port bytes new outcome
-    → IsSentAt tx ports id place port new bytes outcome
-sent_at tx ports id place port new bytes outcome config at h plan asked some here sends = record {
-  found = found;
-  within = place_inside tx ports id place h found;
-  sends = subst (λ (p : PortView). Sends p bytes new outcome) here sends;
-}
-  where
-    found : place_of tx.plan id ≡ Some place
-    found = rw (← plan, ← asked) some
-
--- A port that was given a message is the same otherwise, and asked once more at most.
-pub record IsGiven (old new : PortView) : Type 0 where
-  pub same : IsSamePort old new
-  pub asks : new.sender.asks ≤ old.sender.asks + 1
-
-pub sends_once : (old new : PortView) (bytes : List ℕ) (outcome : Outcome) → Sends old bytes new outcome
-    → IsGiven old new
-sends_once old new bytes Became.Accepted h = rw (h.1.1, h.1.0.2.1) (record {
-  same = record { place = refl; plan = refl; queue = refl; index = refl; calls = refl };
-  asks = omega arith;
-})
-sends_once old new bytes (Became.Refused refusal) h =
-    let left = unsent old new (length bytes) h.why h.some h.refuses in record { same = left.same; asks = left.asks }
-sends_once old new bytes _ h = absurd h
-
--- A message for the port at a place.
-pub sends_obeys : (accepted : Messages) (es : EndSystem) (tx : Tx) (ports : List PortView) (id place : ℕ) (d new : PortView)
-    (bytes : List ℕ) (outcome : Outcome) → IsAtHand tx ports → place_of tx.plan id ≡ Some place → place < length ports
-    → Sends (get_or ports place d) bytes new outcome → Matches accepted es (record { tx = tx; ports = ports })
-    → Obeys (Send id bytes) accepted es (record { tx = tx; ports = set ports place new }) outcome
-sends_obeys accepted es tx ports id place d new bytes Became.Accepted h found lt sends m =
-    send_taken accepted es tx ports id place d new bytes h found lt sends.0 sends.1 m
-sends_obeys accepted es tx ports id place d new bytes (Became.Refused refusal) h found lt sends m =
-    rw sends.named (send_refused accepted es tx ports id place d new bytes sends.why h found lt sends.some sends.refuses m)
-sends_obeys accepted es tx ports id place d new bytes _ h found lt sends m = absurd sends
+    → IsAtHand tx (set ports place new)
+    × Obeys (Send id bytes) (record { tx = tx; ports = ports }) (record { tx = tx; ports = set ports place new }) outcome
+sent_at tx ports id place port new bytes outcome config at h plan asked some here sends =
+    let found : place_of tx.plan id ≡ Some place = rw (← plan, ← asked) some in
+    let first = position-Some (λ (p : PortPlan). p.id.0 == id) tx.plan.ports place (port_plan_at [] 0) found in
+    let within : place < length ports = omega (arith, first.0, h.many) in
+    let its : Sends (get_or ports place port) bytes new outcome = rw (← here) sends in (
+      sent_at_hand ports place port new bytes outcome within its tx h,
+      obeys_send tx ports id place port new bytes outcome h found within its,
+    )

@@ -2,86 +2,88 @@
 use Rattle.std.specs.Prelude.{◌≡◌, ℕ, ◌+◌, ◌<◌, ◌≤◌, List, [], ◌∷◌, ◌++◌, length, Option, Result, Ok, Err, ⊤, true, false}
 use Rattle.std.specs.Io.KnownBytes.{Appends}
 use Rattle.afdx_plan.specs.Config.{Plan}
+use Rattle.afdx_frame.specs.declared.net.Net.TheVariants.{A, B}
+use Rattle.redundant_mux.specs.Entry.{Entry}
 use Rattle.script_text.specs.Faults.{IsFirstFault, IsFaultless}
 use Rattle.script_text.specs.Lines.{first_line, after_feed}
-use Rattle.tx_script.specs.Play.{AnsweredLine, play, start, transcript, AreAnswers, FindsFirst, AreTotals}
+use Rattle.script_text.specs.Meaning.{meaning_of}
+use Rattle.script_text.specs.Transcript.{ends_writing}
 use Rattle.script_text.specs.declared.run_fault.RunFault.{RunFault}
 use Rattle.script_text.specs.declared.run_fault.RunFault.TheVariants.{Line, Lines, Read, Write, Memory}
 use Rattle.script_text.specs.declared.summary.Summary.{Summary as Sums}
-use Rattle.afdx_frame.specs.declared.net.Net.TheVariants.{A, B}
-use Rattle.redundant_mux.specs.Entry.{Entry}
-use Rattle.script_text.specs.Transcript.{ends_writing}
 use Rattle.tx_script.specs.EndSystem.{handed}
+use Rattle.tx_script.specs.Play.{AnsweredLine, Play, play, transcript, IsAnswer, FindsFirst, AreTotals}
 use Rattle.tx_script.specs.declared.played.Played.{Played}
 use Rattle.tx_script.specs.declared.played.Played.TheVariants.{Whole, Broken}
 
--- a text begins with this line, which has no fault
-pub record BeginsWith (text line : List ℕ) : Type 0 where
+-- what these lines, the last of which comes first, leave of a text
+abbrev pub left_after : List ℕ → List AnsweredLine → List ℕ
+left_after text [] = text
+left_after text (turn ∷ before) = after_feed (left_after text before)
+
+-- a text begins with a line, which has no fault, and to which this may be answered
+pub record BeginsWith (text : List ℕ) (st : Play) (turn : AnsweredLine) : Type 0 where
   pub some : 0 < length text
-  pub first : line ≡ first_line text
-  pub faultless : IsFaultless line
+  pub first : turn.line ≡ first_line text
+  pub faultless : IsFaultless turn.line
+  pub may : IsAnswer st.es (meaning_of turn.line) turn.answer
 
--- a text is these lines, none with a fault, and then the rest
-abbrev pub LinesThen : (text : List ℕ) → List AnsweredLine → (rest : List ℕ) → Type 0
-LinesThen text [] rest = text ≡ rest
-LinesThen text (turn ∷ turns) rest =
-    BeginsWith text turn.line × LinesThen (after_feed text) turns rest
+-- a text begins with these lines, the last of which comes first
+abbrev pub AreLines : Plan → List ℕ → List AnsweredLine → Type 0
+AreLines plan text [] = Unit {0}
+AreLines plan text (turn ∷ before) =
+    BeginsWith (left_after text before) (play plan before) turn × AreLines plan text before
 
--- some lines of a text were run, what was written is their transcript, and the rest is left
-pub record HasRun (plan : Plan) (text : List ℕ) (old new : Option (List ℕ)) (rest : List ℕ) (count : ℕ)
-    (sums : Sums) : Type 0 where
-  pub turns : List AnsweredLine
-  pub lines : LinesThen text turns rest
-  pub answers : AreAnswers (start plan) turns
-  pub finds : FindsFirst (play (start plan) turns)
-  pub totals : AreTotals (play (start plan) turns) turns
-  pub count_is : (play (start plan) turns).count ≡ count
-  pub sums_are : (play (start plan) turns).summary ≡ sums
-  pub wrote : Appends old new (transcript (play (start plan) turns))
+-- these lines of a text were run
+pub record AreRun (plan : Plan) (text : List ℕ) (turns : List AnsweredLine) : Type 0 where
+  pub lines : AreLines plan text turns
+  pub finds : FindsFirst (play plan turns)
+  pub totals : AreTotals (play plan turns) turns
+
+-- these lines of a text were run, and what was written is their transcript
+pub record HasRun (plan : Plan) (text : List ℕ) (old new : Option (List ℕ)) (turns : List AnsweredLine) : Type 0 where
+  pub run : AreRun plan text turns
+  pub wrote : Appends old new (transcript (play plan turns))
 
 -- some lines of a text were run, and what was written begins their transcript
 pub record HasBegun (plan : Plan) (text : List ℕ) (old new : Option (List ℕ)) : Type 0 where
   pub turns : List AnsweredLine
-  pub rest : List ℕ
+  pub run : AreRun plan text turns
   pub written : List ℕ
   pub unwritten : List ℕ
-  pub lines : LinesThen text turns rest
-  pub answers : AreAnswers (start plan) turns
-  pub finds : FindsFirst (play (start plan) turns)
-  pub totals : AreTotals (play (start plan) turns) turns
-  pub begins : transcript (play (start plan) turns) ≡ written ++ unwritten
+  pub begins : transcript (play plan turns) ≡ written ++ unwritten
   pub wrote : Appends old new written
 
--- some lines were run, up to this rest, and there the run stopped
-pub record StopsAt (Ran At : List ℕ → ℕ → Sums → Type 0) : Type 0 where
-  pub rest : List ℕ
-  pub count : ℕ
-  pub sums : Sums
-  pub ran : Ran rest count sums
-  pub at : At rest count sums
+-- a run stopped after some lines of a text: this is known of the lines, and of what is left and what they came to
+pub record StopsAt (plan : Plan) (text : List ℕ) (Ran : List AnsweredLine → Type 0) (At : List ℕ → Play → Type 0)
+    : Type 0 where
+  pub turns : List AnsweredLine
+  pub ran : Ran turns
+  pub at : At (left_after text turns) (play plan turns)
 
 -- The end of a run, by what is known of the lines that were run: no line is left; the next one has this
 -- number, and this is its first fault; as many were run as a script may have, and there is one more; the
--- reader failed. Where memory was refused this much is known, and nothing where the writer failed.
-abbrev pub Ends : (Ran : List ℕ → ℕ → Sums → Type 0) → (Begun : Type 0) → Result Sums RunFault → Type 0
-Ends Ran Begun (Ok sums) = StopsAt Ran (λ rest count all. (rest ≡ []) × (all ≡ sums) × (count ≤ 1000000))
-Ends Ran Begun (Err (Line number fault)) = StopsAt Ran (λ rest count sums.
-    (0 < length rest) × (number ≡ count + 1) × (number ≤ 1000000) × IsFirstFault (first_line rest) fault)
-Ends Ran Begun (Err Lines) = StopsAt Ran (λ rest count sums. (0 < length rest) × (count ≡ 1000000))
-Ends Ran Begun (Err Read) = StopsAt Ran (λ rest count sums. count ≤ 1000000)
-Ends Ran Begun (Err Write) = ⊤
-Ends Ran Begun (Err Memory) = Begun
+-- reader failed. After an allocation failed this much is known, and nothing after the writer failed.
+abbrev pub Ends : Plan → List ℕ → (Ran : List AnsweredLine → Type 0) → (Begun : Type 0) → Result Sums RunFault → Type 0
+Ends plan text Ran Begun (Ok sums) =
+    StopsAt plan text Ran (λ rest st. (rest ≡ []) × (st.summary ≡ sums) × (st.count ≤ 1000000))
+Ends plan text Ran Begun (Err (Line number fault)) = StopsAt plan text Ran (λ rest st.
+    (0 < length rest) × (number ≡ st.count + 1) × (number ≤ 1000000) × IsFirstFault (first_line rest) fault)
+Ends plan text Ran Begun (Err Lines) = StopsAt plan text Ran (λ rest st. (0 < length rest) × (st.count ≡ 1000000))
+Ends plan text Ran Begun (Err Read) = StopsAt plan text Ran (λ rest st. st.count ≤ 1000000)
+Ends plan text Ran Begun (Err Write) = ⊤
+Ends plan text Ran Begun (Err Memory) = Begun
 
 -- what the run of a text leaves, by its end
 abbrev pub Leaves : Plan → List ℕ → (old new : Option (List ℕ)) → Result Sums RunFault → Type 0
-Leaves plan text old new result = Ends (HasRun plan text old new) (HasBegun plan text old new) result
+Leaves plan text old new result = Ends plan text (HasRun plan text old new) (HasBegun plan text old new) result
 
--- some lines of a text were run, and these lists were handed over: the streams that were written
-pub record HasPlayed (plan : Plan) (text : List ℕ) (old new : Option (List ℕ)) (a b : List Entry) (rest : List ℕ)
-    (count : ℕ) (sums : Sums) : Type 0 where
-  pub ran : HasRun plan text old new rest count sums
-  pub on_a : handed A (play (start plan) ran.turns).es ≡ a
-  pub on_b : handed B (play (start plan) ran.turns).es ≡ b
+-- these lines of a text were run, and these lists were sent: the streams that were written
+pub record HasPlayed (plan : Plan) (text : List ℕ) (old new : Option (List ℕ)) (a b : List Entry)
+    (turns : List AnsweredLine) : Type 0 where
+  pub ran : HasRun plan text old new turns
+  pub on_a : handed A (play plan turns).es ≡ a
+  pub on_b : handed B (play plan turns).es ≡ b
 
 -- an end after which the streams are written
 abbrev pub IsWhole : Result Sums RunFault → Type 0
@@ -89,9 +91,9 @@ IsWhole (Ok sums) = ⊤
 IsWhole (Err fault) = ends_writing fault ≡ false
 
 -- what the run of a text leaves: all of its transcript, with these networks, or what was written before
--- the writer failed or memory was refused
+-- the writer or an allocation failed
 abbrev pub Plays : Plan → List ℕ → (old new : Option (List ℕ)) → Played → Type 0
 Plays plan text old new (Whole ended a b) =
-    IsWhole ended × Ends (HasPlayed plan text old new a.handed b.handed) ⊥ ended
+    IsWhole ended × Ends plan text (HasPlayed plan text old new a.handed b.handed) ⊥ ended
 Plays plan text old new (Broken fault) =
     (ends_writing fault ≡ true) × Leaves plan text old new (Err fault)

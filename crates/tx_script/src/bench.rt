@@ -1,12 +1,11 @@
-//! An emitter with its ports, and doing what a line says.
-ghost use Rattle.std.specs.Prelude.{◌≡◌, ◌≢◌, ◌≤◌, ℕ, ◌+◌, IfOk, IfErr};
+//! An emitter with its ports, and obeying a line.
+ghost use Rattle.std.specs.Prelude.{◌≡◌, ◌≤◌, IfOk, IfErr};
 ghost use Rattle.script_text.specs.declared.line.Line.TheVariants as Said;
 ghost use Rattle.script_text.specs.declared.run_fault.RunFault.TheVariants as RunFault;
 ghost use Rattle.tx_script.specs.declared.obey_lines.TheConstants.{LINES_LIMIT};
 ghost use Rattle.subvl_queue.specs.Messages.{most_calls};
-ghost use Rattle.tx_script.specs.AtBench.{ObeysFor, HaveAsked, Sends, KeepsTotals, SameTotals, ClosesOnly};
+ghost use Rattle.tx_script.specs.AtBench.{HaveAsked, Sends, Obeys, OnlyTakes};
 ghost use Rattle.tx_script.specs.Play.{script_refusal};
-ghost use Rattle.script_text.specs.Summary.{HasFew};
 
 use afdx_plan::{Config, PortId, VlId};
 use afdx_tx::{Emitter, TxPort, open_tx};
@@ -35,7 +34,7 @@ impl Model for Bench {
 impl Bench {
     ghost use Rattle.std.specs.Prelude.{◌≡◌, IfOk, IfErr};
     ghost use Rattle.script_text.specs.declared.run_fault.RunFault.TheVariants as RunFault;
-    ghost use Rattle.tx_script.specs.AtBench.{IsAtHand, IsFreshBench, GaveFirst, GaveTotals};
+    ghost use Rattle.tx_script.specs.AtBench.{IsFreshBench, IsGathered};
 
     /// A bench at which nothing was done. The only fault is Memory.
     pub fn open(alloc: Global, config: Config) -> Result<Bench, RunFault>
@@ -50,15 +49,12 @@ impl Bench {
         }
     }
 
-    /// The two networks, with what was handed to them. All ports are gathered first, which shows
-    /// that what was taken is the first of what they sent, and that the total of a closed sub-VL is
-    /// how many messages they sent.
+    /// The two networks, with what was sent to them. All ports are gathered first, so that all that
+    /// was accepted is known.
     pub fn into_networks(self) -> (FrameLog, FrameLog)
         ensures a { result.0.handed ≡ self.tx.lines.a }
         ensures b { result.1.handed ≡ self.tx.lines.b }
-        ensures hand { IsAtHand self.tx self.ports }
-        ensures first { GaveFirst self.tx self.ports }
-        ensures totals { GaveTotals self.tx self.ports }
+        ensures gathered { IsGathered self }
     {
         let Bench { emitter, ports } = self;
         match emitter.gather(ports) {
@@ -68,7 +64,7 @@ impl Bench {
     }
 }
 
-/// What a port's refusal is called.
+/// The name of a port's refusal.
 fn refused_for(why: afdx_tx::Refusal) -> Refusal
     ensures { result ≡ script_refusal why }
 {
@@ -93,14 +89,10 @@ fn send_message(port: &mut TxPort, message: Message) -> Outcome
     }
 }
 
-/// A message of a port, by its identifier.
+/// Sends a message of a port, by its identifier.
 fn obey_send(bench: &mut Bench, port: u16, bytes: Message) -> Outcome
     requires { HaveAsked LINES_LIMIT bench.old.ports }
-    ensures ok { ObeysFor (Said.Send port bytes) bench.old bench.new result }
-    ensures few { HasFew result }
-    ensures asked { (count : ℕ) → HaveAsked count bench.old.ports → HaveAsked (count + 1) bench.new.ports }
-    ensures kept { KeepsTotals bench.old.tx bench.new.tx }
-    ensures others { SameTotals bench.old.tx bench.new.tx }
+    ensures { Obeys (Said.Send port bytes) bench.old bench.new result }
 {
     match bench.emitter.config().port_index(PortId(port)) {
         Some(place) => send_message(&mut bench.ports[place], bytes),
@@ -108,14 +100,11 @@ fn obey_send(bench: &mut Bench, port: u16, bytes: Message) -> Outcome
     }
 }
 
-/// A poll at a moment. A network in memory fails only for memory.
+/// Polls the emitter. A network in memory fails only if an allocation fails.
 fn obey_at(bench: &mut Bench, moment: u64) -> Result<Outcome, RunFault>
-    ensures ok { IfOk result (λ outcome. ObeysFor (Said.At moment) bench.old bench.new outcome) }
-    ensures few { IfOk result (λ outcome. HasFew outcome) }
+    ensures ok { IfOk result (Obeys (Said.At moment) bench.old bench.new) }
     ensures err { IfErr result (λ fault. fault ≡ RunFault.Memory) }
-    ensures ports { bench.new.ports ≡ bench.old.ports }
-    ensures kept { KeepsTotals bench.old.tx bench.new.tx }
-    ensures others { SameTotals bench.old.tx bench.new.tx }
+    ensures takes { OnlyTakes bench.old bench.new }
 {
     if moment < bench.emitter.now() {
         return Ok(Outcome::Refused(Refusal::TimeBack));
@@ -132,13 +121,9 @@ fn obey_at(bench: &mut Bench, moment: u64) -> Result<Outcome, RunFault>
     }
 }
 
-/// The close of a sub-VL, by the identifier of its link and its index.
+/// Closes a sub-VL, by the identifier of its link and its index.
 fn obey_close(bench: &mut Bench, vl: u16, sub: u8) -> Outcome
-    ensures ok { ObeysFor (Said.Close vl sub) bench.old bench.new result }
-    ensures few { HasFew result }
-    ensures ports { bench.new.ports ≡ bench.old.ports }
-    ensures kept { KeepsTotals bench.old.tx bench.new.tx }
-    ensures others { ClosesOnly (Said.Close vl sub) bench.old.tx bench.new.tx }
+    ensures { Obeys (Said.Close vl sub) bench.old bench.new result }
 {
     match bench.emitter.close(VlId(vl), sub) {
         Ok(total) => Outcome::Closed(total),
@@ -146,18 +131,13 @@ fn obey_close(bench: &mut Bench, vl: u16, sub: u8) -> Outcome
     }
 }
 
-/// Does what a line says. The only fault is Memory, and then nothing more is said of the emitter than
-/// that closed sub-VLs stay closed and the others open, and of the ports that they sent nothing more.
+/// Obeys a line. The only fault is Memory; after it the ports sent nothing more, and the same
+/// sub-VLs are closed.
 pub fn obey(bench: &mut Bench, line: Line) -> Result<Outcome, RunFault>
     requires { HaveAsked LINES_LIMIT bench.old.ports }
-    ensures ok { IfOk result (λ outcome. ObeysFor line bench.old bench.new outcome) }
-    ensures few { IfOk result (λ outcome. HasFew outcome) }
+    ensures ok { IfOk result (Obeys line bench.old bench.new) }
     ensures err { IfErr result (λ fault. fault ≡ RunFault.Memory) }
-    ensures unsent { IfErr result (λ _. bench.new.ports ≡ bench.old.ports) }
-    ensures unclosed { IfErr result (λ _. SameTotals bench.old.tx bench.new.tx) }
-    ensures asked { (count : ℕ) → HaveAsked count bench.old.ports → HaveAsked (count + 1) bench.new.ports }
-    ensures kept { KeepsTotals bench.old.tx bench.new.tx }
-    ensures others { ClosesOnly line bench.old.tx bench.new.tx }
+    ensures halted { IfErr result (λ _. OnlyTakes bench.old bench.new) }
 {
     match line {
         Line::Send { port, bytes } => Ok(obey_send(bench, port, bytes)),

@@ -1,30 +1,29 @@
 //! Running a script.
-ghost use Rattle.std.specs.Prelude.{◌≡◌, IfSome, IfOk, IfErr, OnOk};
+ghost use Rattle.std.specs.Prelude.{IfSome};
 ghost use Rattle.tx_script.specs.Run.{Leaves, Plays};
-ghost use Rattle.tx_script.specs.Running.{HoldsHanded, Writes, EndsEarly};
+ghost use Rattle.tx_script.specs.Running.{Finishes, EndsEarly};
 
 use crate::bench::Bench;
 use crate::obey_lines::obey_lines;
 use crate::played::Played;
 use afdx_plan::Config;
-use script_text::{Bytes, FrameLog, RunFault, Summary, write_streams};
+use script_text::{Bytes, RunFault, Summary, write_streams};
 use std::alloc::Global;
 use std::io::{Read, Write};
 
-/// Writes what was handed to the two networks of a bench, which are given back.
-fn write_handed<W: Write>(writer: &mut W, bench: Bench) -> Result<(FrameLog, FrameLog), RunFault>
-    ensures ok { OnOk result (Writes bench (W.contents writer.old) (W.contents writer.new)) }
-    ensures networks { IfOk result (HoldsHanded bench) }
-    ensures err { IfErr result (λ fault. fault ≡ RunFault.Write) }
+/// Writes the streams of a bench, at the end of a run.
+fn write_handed<W: Write>(writer: &mut W, bench: Bench, ended: Result<Summary, RunFault>) -> Played
+    ensures { Finishes ended bench (W.contents writer.old) (W.contents writer.new) result }
 {
     let (a, b) = bench.into_networks();
-    write_streams(writer, &a, &b)?;
-    let networks = (a, b);
-    Ok(networks)
+    match write_streams(writer, &a, &b) {
+        Ok(()) => Played::Whole { ended, a, b },
+        Err(fault) => Played::Broken(fault),
+    }
 }
 
 /// Writes the streams after a fault, unless it ends the writing. The ports are gathered whatever the
-/// fault: that alone tells what the totals are that were noted.
+/// fault: only then are the totals known that were noted.
 fn end_early<W: Write>(writer: &mut W, bench: Bench, fault: RunFault) -> Played
     ensures { EndsEarly fault bench (W.contents writer.old) (W.contents writer.new) result }
 {
@@ -32,17 +31,11 @@ fn end_early<W: Write>(writer: &mut W, bench: Bench, fault: RunFault) -> Played
         let _networks = bench.into_networks();
         return Played::Broken(fault);
     }
-    match write_handed(writer, bench) {
-        Ok((a, b)) => {
-            let ended = Err(fault);
-            Played::Whole { ended, a, b }
-        }
-        Err(_) => Played::Broken(RunFault::Write),
-    }
+    write_handed(writer, bench, Err(fault))
 }
 
-/// Runs a script as `run_script` does, and gives back what the two networks were handed, too, where
-/// the transcript is written whole.
+/// Runs a script as `run_script` does, and also returns what was sent to the two networks if the
+/// transcript is written whole.
 pub fn play_script<R: Read + Drop, W: Write>(
     alloc: Global,
     config: Config,
@@ -57,13 +50,7 @@ pub fn play_script<R: Read + Drop, W: Write>(
     };
     let mut bytes = Bytes::new(reader);
     match obey_lines(alloc, &mut bytes, &mut bench, writer) {
-        Ok(summary) => match write_handed(writer, bench) {
-            Ok((a, b)) => {
-                let ended = Ok(summary);
-                Played::Whole { ended, a, b }
-            }
-            Err(fault) => Played::Broken(fault),
-        },
+        Ok(summary) => write_handed(writer, bench, Ok(summary)),
         Err(fault) => end_early(writer, bench, fault),
     }
 }

@@ -23,20 +23,18 @@ returns-in_err-outcome g c =
     err_from_is_err_and c.from_residual-in_err-outcome.result c.from_residual-in_err-outcome.ensures.1 in
     rw (told.1, told.2, c.in_err-outcome.ensures.err)
     (stop_memory _ _ c.loop-count.bytes _ _ c.loop-count.bench c.obey.new.bench
-    c.loop-count.count c.loop-count.sums c.loop-count.invariant.running c.in_err-outcome.ensures.unsent c.obey.ensures.kept
-    c.in_err-outcome.ensures.unclosed)
+    c.loop-count.count c.loop-count.sums c.loop-count.invariant.running c.in_err-outcome.ensures.halted)
 
 pub loop-count-preserved : goal.loop-count-preserved
 loop-count-preserved g c =
     let reads = rw c.in-Some.is at c.in_ok-said.ensures in
     rw c.count-sums.ensures (record {
-      asked = c.obey.ensures.asked c.loop-count.count c.loop-count.invariant.asked;
+      asked = c.in_ok-outcome.ensures.ok.asked c.loop-count.count c.loop-count.invariant.asked;
       running =
           running_turn _ _ c.loop-count.bytes c.next_said.new.bytes _ _ _ _ c.obey.new.bench c.loop-count.count
           c.loop-count.sums c.in-Some.said c.in_ok-outcome.outcome
-          c.loop-count.invariant.running reads c.in_ok-outcome.ensures.ok c.obey.ensures.kept c.obey.ensures.others
-          c.in_ok-write_note.ensures.ok;
-      within = within_more _ _ _ c.in_ok-outcome.ensures.few c.loop-count.invariant.within;
+          c.loop-count.invariant.running reads c.in_ok-outcome.ensures.ok c.in_ok-write_note.ensures.ok;
+      within = within_more _ _ _ c.in_ok-outcome.ensures.ok.few c.loop-count.invariant.within;
     })
 
 pub returns-in-Ok-Some : goal.returns-in-Ok-Some
