@@ -1,6 +1,6 @@
 //! Reading a line.
-ghost use Rattle.std.specs.Prelude.{◌≡◌, ◌≢◌, ◌==◌, ◌⊎◌, None, Some, IfOk, IfErr, slice_index};
-ghost use Rattle.script_text.specs.Command.{is_send as is_send_word, is_at as is_at_word, is_close as is_close_word, message_of};
+ghost use Rattle.std.specs.Prelude.{◌≡◌, ◌≢◌, ◌⊎◌, None, Some, IfOk, IfErr};
+ghost use Rattle.script_text.specs.Command.{message_of};
 ghost use Rattle.script_text.specs.Faults.{IsFirstFault, IsFaultless, send_fault, at_fault, close_fault};
 ghost use Rattle.script_text.specs.Meaning.{meaning_of, IsSaidSend, IsSaidAt, IsSaidClose};
 ghost use Rattle.script_text.specs.Words.{words_of};
@@ -13,8 +13,9 @@ use crate::line_words::next_word;
 use crate::message::Message;
 use std::alloc::Global;
 
-/// What a line says, which is given without its end. The fault that is told first, in the order
-/// `Long`, `Word`, `Number`, `Hex`, `Extra`; `Memory` may stand in place of any answer.
+/// What a line says, which is given without its end, or its first fault, in the order
+/// `Long`, `Word`, `Number`, `Hex`, `Extra`. `Memory` may be returned in place of any answer.
+#[tactic(auto, unfolding(crate::specs::Command::is_send, crate::specs::Command::is_at, crate::specs::Command::is_close))]
 pub fn read_line(alloc: Global, line: &[u8]) -> Result<Line, LineFault>
     ensures ok { IfOk result (λ said. said ≡ meaning_of line.now) }
     ensures faultless { IfOk result (λ _. IsFaultless line.now) }
@@ -26,47 +27,20 @@ pub fn read_line(alloc: Global, line: &[u8]) -> Result<Line, LineFault>
     let Some((word, rest)) = next_word(line) else {
         return Ok(Line::Nothing);
     };
-    if is_note(word) {
+    if word.first() == Some(&b'#') {
         return Ok(Line::Nothing);
     }
-    if is_send(word) {
+    if word == b"send".as_slice() {
         return read_send(alloc, rest);
     }
-    if is_at(word) {
+    if word == b"at".as_slice() {
         return read_at(rest);
     }
-    if is_close(word) {
+    if word == b"close".as_slice() {
         read_close(rest)
     } else {
         Err(LineFault::Word)
     }
-}
-
-fn is_note(word: &[u8]) -> bool
-    ensures { result ≡ (slice_index word.now 0 == 35) }
-{
-    word.first() == Some(&b'#')
-}
-
-#[tactic(auto, unfolding(crate::specs::Command::is_send))]
-fn is_send(word: &[u8]) -> bool
-    ensures { result ≡ is_send_word word.now }
-{
-    word == b"send".as_slice()
-}
-
-#[tactic(auto, unfolding(crate::specs::Command::is_at))]
-fn is_at(word: &[u8]) -> bool
-    ensures { result ≡ is_at_word word.now }
-{
-    word == b"at".as_slice()
-}
-
-#[tactic(auto, unfolding(crate::specs::Command::is_close))]
-fn is_close(word: &[u8]) -> bool
-    ensures { result ≡ is_close_word word.now }
-{
-    word == b"close".as_slice()
 }
 
 // What the words behind `send` say.

@@ -1,9 +1,3 @@
-pub use Rattle.script_text.specs.Command
-pub use Rattle.script_text.specs.Faults
-pub use Rattle.script_text.specs.Lines
-pub use Rattle.script_text.specs.Meaning
-pub use Rattle.script_text.specs.Numbers
-pub use Rattle.script_text.specs.Words
 pub mod EndSystem
 pub mod Play
 pub mod AtBench
