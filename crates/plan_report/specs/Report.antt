@@ -66,17 +66,10 @@ unfoldable pub port_line : PortPlan → List ℕ
 port_line port = way_text port ++ flow_text port ++ codes ", " ++ destination_text port.unicast
     ++ checksum_text port.checksum ++ 10 ∷ []
 
--- the jitter in nanoseconds, beside the most that the report calls good
-unfoldable pub jitter_text : ℕ → List ℕ
-jitter_text jitter = codes "jitter " ++ decimal jitter ++ codes " ns, limit " ++ decimal 500000
-
--- whether it is more
-unfoldable pub verdict_text : ℕ → List ℕ
-verdict_text jitter = if nat_lt 500000 jitter then codes ", exceeded" ++ 10 ∷ [] else 10 ∷ []
-
--- the jitter
+-- the jitter in nanoseconds, beside the most that the report calls good, and whether it is more
 unfoldable pub jitter_line : ℕ → List ℕ
-jitter_line jitter = jitter_text jitter ++ verdict_text jitter
+jitter_line jitter = codes "jitter " ++ decimal jitter ++ codes " ns, limit " ++ decimal 500000
+    ++ (if nat_lt 500000 jitter then codes ", exceeded" ++ 10 ∷ [] else 10 ∷ [])
 
 -- the whole report
 unfoldable pub report_of : Plan → List ℕ

@@ -1,16 +1,14 @@
 //! Reading a configuration, the report on its plan, and how a command ends.
 #![tactic(auto)]
 
-mod checking;
 mod failure;
 mod halting;
 mod reading;
 mod report;
 mod status;
 
-pub use checking::check;
 pub use failure::Failure;
 pub use halting::Halting;
-pub use reading::{TEXT_LIMIT, read_plan};
+pub use reading::{TEXT_LIMIT, check, read_plan};
 pub use report::write_report;
 pub use status::{DONE, End, FAILED, LINES_REFUSED, REFUSED, USED_UP, status_of};

@@ -1,14 +1,16 @@
-//! Reading the plan of an end system.
-ghost use Rattle.std.specs.Prelude.{◌≡◌, ◌≤◌, ◌⊎◌, IfOk, IfErr, IfSome, vec_len};
-ghost use Rattle.plan_report.specs.Reading.{IsRefusal};
+//! Reading the plan of an end system, and the command `check`.
+ghost use Rattle.std.specs.Prelude.{◌≡◌, ◌≢◌, ◌≤◌, ◌⊎◌, IfOk, IfErr, IfSome, OnOk, vec_len};
+ghost use Rattle.std.specs.Io.KnownBytes.{Keeps};
+ghost use Rattle.plan_report.specs.Reading.{IsRefusal, Reports};
 ghost use Rattle.afdx_config.specs.Faults.{IsPlanOf};
 
 use crate::failure::Failure;
+use crate::report::write_report;
 use afdx_config::read_config;
 use afdx_plan::Config;
 use script_text::RunFault;
 use std::alloc::Global;
-use std::io::{self, Read};
+use std::io::{self, Read, Write};
 
 /// The most bytes of a configuration's text, comments and all: some four hundred times what the
 /// greatest plan takes.
@@ -24,6 +26,24 @@ pub fn read_plan<R: Read + Drop>(alloc: Global, reader: R) -> Result<Config, Fai
 {
     let text = read_text(alloc, reader)?;
     read_config(alloc, text.as_slice()).map_err(Failure::Config)
+}
+
+/// Reads a configuration and writes the report on its plan. Where it is refused, or memory or the
+/// reader fails before, nothing is written.
+pub fn check<R: Read + Drop, W: Write>(
+    alloc: Global,
+    reader: R,
+    writer: &mut W,
+) -> Result<(), Failure>
+    ensures ok { OnOk result (IfSome (R.remaining reader) (λ text.
+        Reports text (W.contents writer.old) (W.contents writer.new))) }
+    ensures refused { IfErr result (λ failure. IfSome (R.remaining reader) (λ text.
+        failure ≢ Failure.Run RunFault.Write → IsRefusal text failure)) }
+    ensures unchanged { IfErr result (λ failure. failure ≢ Failure.Run RunFault.Write →
+        Keeps (W.contents writer.old) (W.contents writer.new)) }
+{
+    let config = read_plan(alloc, reader)?;
+    write_report(writer, &config).map_err(|_| Failure::Run(RunFault::Write))
 }
 
 /// All bytes that a reader has left.

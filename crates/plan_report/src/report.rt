@@ -3,10 +3,9 @@ ghost use Rattle.std.specs.Prelude.{◌≡◌, OnOk, flat_map};
 ghost use Rattle.std.specs.Io.KnownBytes.{Appends};
 ghost use Rattle.plan_report.specs.Report.{kind_name as name_of_kind, checksum_text as text_of_checksum};
 ghost use Rattle.plan_report.specs.Report.{networks_text as text_of_networks};
-ghost use Rattle.plan_report.specs.Report.{end_system_line, report_of};
+ghost use Rattle.plan_report.specs.Report.{end_system_line, jitter_line, report_of};
 ghost use Rattle.plan_report.specs.Report.{pace_text, queues_text, link_line};
 ghost use Rattle.plan_report.specs.Report.{way_text, flow_text, destination_text, port_line};
-ghost use Rattle.plan_report.specs.Report.{jitter_text, verdict_text, jitter_line};
 
 use afdx_plan::{Config, Kind, LinkPlan, Networks, PortPlan, UdpSum, jitter_ns};
 use std::io::{self, Write};
@@ -171,23 +170,7 @@ fn write_jitter<W: Write>(writer: &mut W, jitter: u64) -> io::Result<()>
     ensures { OnOk result (Appends (W.contents writer.old) (W.contents writer.new)
         (jitter_line jitter)) }
 {
-    write_nanoseconds(writer, jitter)?;
-    write_verdict(writer, jitter)
-}
-
-#[tactic(auto, unfolding(crate::specs::Report::jitter_text))]
-fn write_nanoseconds<W: Write>(writer: &mut W, jitter: u64) -> io::Result<()>
-    ensures { OnOk result (Appends (W.contents writer.old) (W.contents writer.new)
-        (jitter_text jitter)) }
-{
-    write!(writer, "jitter {jitter} ns, limit {JITTER_LIMIT}")
-}
-
-#[tactic(auto, unfolding(crate::specs::Report::verdict_text))]
-fn write_verdict<W: Write>(writer: &mut W, jitter: u64) -> io::Result<()>
-    ensures { OnOk result (Appends (W.contents writer.old) (W.contents writer.new)
-        (verdict_text jitter)) }
-{
+    write!(writer, "jitter {jitter} ns, limit {JITTER_LIMIT}")?;
     if jitter > JITTER_LIMIT {
         writer.write_all(b", exceeded\n")
     } else {

@@ -5,5 +5,4 @@ pub mod Asks
 pub mod SameCells
 pub mod Watched
 pub mod ShownCounts
-pub mod TotalsLemmas
 pub mod StormLemmas

@@ -4,7 +4,7 @@ use Rattle.std.proofs.lemmas.List.{get_or-map, length-map}
 use Rattle.std.proofs.Math.Seq.{map-set_same}
 use Rattle.atomic_table.specs.Seated.{TableId}
 use Rattle.status_board.specs.Views.{Published, Watched, published, seen, no_cell, AreNew}
-use Rattle.storm.specs.Cells.{cells_of, cells_read}
+use Rattle.storm.specs.Boards.{cells_of, cells_read}
 
 abbrev written : Published → TableId
 written link = link.cell
@@ -15,7 +15,7 @@ read link = link.cell
 abbrev no_published : Published
 no_published = record { cell = no_cell; history = [] }
 
-abbrev no_seen : Watched
+abbrev pub no_seen : Watched
 no_seen = record { cell = no_cell; history = []; loads = 0 }
 
 -- lists whose elements have the same cells, place by place

@@ -8,14 +8,13 @@ use Rattle.redundant_mux.specs.Lines.{Lines}
 use Rattle.status_board.specs.declared.counts.Counts.{Counts}
 use Rattle.status_board.specs.History.{zeros, value_of}
 use Rattle.status_board.specs.Views.{Published, Watched, published, last_of, AreNew}
-use Rattle.storm.specs.Cells.{cells_of}
+use Rattle.storm.specs.Boards.{cells_of, IsShown, own_counts, all_counts}
 use Rattle.storm.proofs.SameCells.{cells_same}
 use Rattle.status_board.proofs.Histories.{last_or-push}
 use Rattle.afdx_legal.specs.Own.{own_stream}
 use Rattle.afdx_legal.specs.Counting.{counts_in}
 use Rattle.afdx_tx.specs.Emitter.{Tx, IsFreshTx}
 use Rattle.afdx_tx.specs.Publishing.{Publishes, counts_at}
-use Rattle.storm.specs.Shown.{IsShown, own_counts, all_counts}
 
 -- the counts of links of the same plan, of which the same was handed over
 counts_same : (old new : Tx) (k : ℕ) → new.plan ≡ old.plan → new.lines ≡ old.lines → counts_at old k ≡ counts_at new k

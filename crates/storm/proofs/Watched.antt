@@ -3,12 +3,9 @@ use Rattle.std.proofs.Common.{◌≡◌, ℕ, ◌+◌, ◌<◌, ◌≤◌, ◌�
 use Rattle.std.proofs.lemmas.List.{get_or-set_other}
 use Rattle.std.proofs.Math.Nat.{eq-or-lt_of_le}
 use Rattle.status_board.specs.declared.counts.Counts.{Counts}
-use Rattle.status_board.specs.Views.{Watched, seen, no_cell, IsReading}
-use Rattle.storm.proofs.SameCells.{cells_kept}
-use Rattle.storm.specs.Watching.{ReadsOnly, ReadsFirst}
-
-abbrev no_seen : Watched
-no_seen = record { cell = no_cell; history = []; loads = 0 }
+use Rattle.status_board.specs.Views.{Watched, seen, IsReading}
+use Rattle.storm.proofs.SameCells.{cells_kept, no_seen}
+use Rattle.storm.specs.Boards.{ReadsOnly, ReadsFirst}
 
 pub only_none : (monitor : List Watched) (link : ℕ) → ReadsOnly monitor monitor link 0
 only_none monitor link = record { cells = refl; loads = omega arith; others = λ k _. refl }

@@ -1,9 +1,6 @@
 pub mod Messages
 pub mod Workers
-pub mod Answers
-pub mod Cells
-pub mod Watching
-pub mod Shown
+pub mod Boards
 pub mod Threads
 pub mod Totals
 pub mod Storms

@@ -1,12 +1,15 @@
--- What the command `storm` tells of the text of a configuration.
-use Rattle.std.specs.Prelude.{◌≡◌, ◌≢◌, ◌↔◌, ◌*◌, ℕ, List, length, map, Option, Bool, false, IsTrue, ⊤}
+-- What a storm over a plan answers, and what the command `storm` writes of the text of a configuration.
+use Rattle.std.specs.Prelude.{◌≡◌, ◌≢◌, ◌<◌, ◌↔◌, ◌*◌, ℕ, List, length, map, Option, Result, Ok, Err, Bool, false, IsTrue, ⊤}
 use Rattle.std.specs.Io.KnownBytes.{Appends}
+use Rattle.std.specs.List.{Any}
 use Rattle.afdx_plan.specs.Config.{Plan}
+use Rattle.afdx_plan.specs.declared.port_plan.PortPlan.{PortPlan}
 use Rattle.afdx_plan.specs.declared.fault.ConfigFault.TheVariants as Plans
 use Rattle.afdx_config.specs.Faults.{IsPlanOf, IsLeastFault}
 use Rattle.afdx_frame.specs.declared.net.Net.TheVariants.{B}
 use Rattle.redundant_mux.specs.Entry.{Entry}
 use Rattle.redundant_mux.specs.Logged.{side}
+use Rattle.status_board.specs.declared.counts.Counts.{Counts}
 use Rattle.afdx_legal.specs.Done.{IsHandedWhole}
 use Rattle.afdx_legal.specs.Legal.{on_both}
 use Rattle.script_text.specs.declared.run_fault.RunFault.TheVariants as Ran
@@ -14,12 +17,36 @@ use Rattle.plan_report.specs.declared.failure.Failure.{Failure}
 use Rattle.plan_report.specs.declared.failure.Failure.TheVariants as Failures
 use Rattle.storm.specs.declared.fault.StormFault.{StormFault}
 use Rattle.storm.specs.declared.fault.StormFault.TheVariants.{Short, Turns, Memory}
-use Rattle.storm.specs.Answers.{HasShortPort}
+use Rattle.storm.specs.declared.report.StormReport.{StormReport}
+use Rattle.storm.specs.Boards.{all_counts}
 use Rattle.storm.specs.Messages.{own_messages}
-use Rattle.storm.specs.Shown.{all_counts}
-use Rattle.storm.specs.Totals.{totals_text}
+use Rattle.storm.specs.Totals.{totals_of}
 
--- the failure that a fault is told as
+-- the greatest message of some port is below 6 bytes
+abbrev pub HasShortPort : Plan → Type 0
+HasShortPort plan = Any (λ (port : PortPlan). port.max < 6) plan.ports
+
+-- the answer is Short
+abbrev pub IsShort : {T : Type 0} → Result T StormFault → Type 0
+IsShort {T} (Ok report) = ⊥
+IsShort {T} (Err fault) = fault ≡ Short
+
+-- A storm over a plan came to its end, each of whose ports sent its messages 1 to n: all of them were accepted and
+-- handed over legally, every fragment of them, and nothing else; the last readings are the counts of each link's own
+-- stream; and no count was seen to fall.
+pub record IsEnded (plan : Plan) (n total : ℕ) (counts : List Counts) (fell : Bool) (a b : List Entry) : Type 0 where
+  pub whole : IsHandedWhole plan (own_messages plan n) a b
+  pub accepted : total ≡ length plan.ports * n
+  pub links : counts ≡ all_counts plan.links a b
+  pub back : fell ≡ false
+
+-- What is reported of it: the networks are equal exactly where what they were handed of links on both is twins entry by
+-- entry.
+pub record IsReportOf (plan : Plan) (n : ℕ) (report : StormReport) : Type 0 where
+  pub ended : IsEnded plan n report.accepted report.links.items report.back report.a.handed report.b.handed
+  pub equal : IsTrue report.equal ↔ (on_both plan.links report.b.handed ≡ map (side B) (on_both plan.links report.a.handed))
+
+-- the failure that a fault is reported as
 abbrev pub failure_of : StormFault → Failure
 failure_of Short = Failures.Short
 failure_of Turns = Failures.Turns
@@ -48,22 +75,15 @@ IsStormRefusal text (Failures.Run Ran.Read) = ⊤
 IsStormRefusal text (Failures.Run Ran.Memory) = ⊤
 IsStormRefusal text failure = IsTextRefusal text failure
 
--- What was written of a storm over a plan, each of whose ports sent its messages 1 to n: that all of them were accepted, the
--- counts of each link's own stream, that the networks are equal exactly where what they were handed of links on both is
--- twins entry by entry, and that no count was seen to fall. All that was sent was handed over legally, every fragment of
--- it, and nothing else.
+-- What was written of a storm over a plan, none of whose ports is short: the text of its report.
 pub record ReportsPlan (plan : Plan) (n : ℕ) (old new : Option (List ℕ)) : Type 0 where
-  pub a : List Entry
-  pub b : List Entry
-  pub whole : IsHandedWhole plan (own_messages plan n) a b
-  pub equal : Bool
-  pub twins : IsTrue equal ↔ (on_both plan.links b ≡ map (side B) (on_both plan.links a))
-  pub wrote : Appends old new
-      (totals_text plan.links (length plan.ports * n) (all_counts plan.links a b) equal false)
+  pub long : HasShortPort plan → ⊥
+  pub report : StormReport
+  pub of : IsReportOf plan n report
+  pub wrote : Appends old new (totals_of plan.links report)
 
--- so it is of the plan of a text, none of whose ports is short
+-- so it is of the plan of a text
 pub record ReportsStorm (text : List ℕ) (n : ℕ) (old new : Option (List ℕ)) : Type 0 where
   pub plan : Plan
   pub is_plan : IsPlanOf text plan
-  pub long : HasShortPort plan → ⊥
   pub storm : ReportsPlan plan n old new

@@ -4,8 +4,7 @@ use Rattle.status_board.specs.Views.{Watched, links_of}
 use Rattle.afdx_tx.specs.Emitter.{Tx}
 use Rattle.afdx_tx.specs.Ports.{PortView, AreFreshPorts, AreOpenedWith}
 use Rattle.storm.specs.declared.polling.TheConstants.{STEP}
-use Rattle.storm.specs.Cells.{cells_of, cells_read}
-use Rattle.storm.specs.Shown.{IsShown}
+use Rattle.storm.specs.Boards.{cells_of, cells_read, IsShown}
 use Rattle.storm.specs.Workers.{AreSpent}
 
 -- an emitter before its first poll, with its fresh ports and its monitor

@@ -1,7 +1,6 @@
 //! The command `storm`.
 ghost use Rattle.std.specs.Prelude.{◌≡◌, ◌≢◌, ◌≤◌, IfErr, IfSome, OnOk};
 ghost use Rattle.std.specs.Io.KnownBytes.{Keeps};
-ghost use Rattle.storm.specs.Answers.{HasShortPort};
 ghost use Rattle.storm.specs.Storms.{failure_of as failure_of_fault, IsPlanRefusal, IsStormRefusal, ReportsPlan, ReportsStorm};
 
 use crate::both::KeptLinks;
@@ -54,7 +53,6 @@ fn throw_storm<W: Write, G: Gate + Sync, R: Threads + Wait + Sync>(
 ) -> Result<(), Failure>
     requires messages { (1 ≤ messages) × (messages ≤ 65535) }
     requires turns { (1 ≤ turns) × (turns ≤ 1000000000) }
-    ensures long { OnOk result (HasShortPort config → ⊥) }
     ensures ok { OnOk result
         (ReportsPlan config messages (W.contents writer.old) (W.contents writer.new)) }
     ensures refused { IfErr result (λ failure. IsPlanRefusal config failure) }

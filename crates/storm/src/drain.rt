@@ -1,14 +1,13 @@
 //! After the joins: the ports are gathered, and what is left is sent.
 ghost use Rattle.std.specs.Prelude.{◌≡◌, ◌*◌, ◌≤◌, length, IfOk};
 ghost use Rattle.redundant_mux.specs.Lines.{log};
-ghost use Rattle.storm.specs.Cells.{cells_of};
 ghost use Rattle.afdx_legal.specs.Allowed.{AreOwn};
 ghost use Rattle.afdx_legal.specs.Done.{IsAllDone};
 ghost use Rattle.afdx_legal.specs.Own.{AreOwnStreams};
 ghost use Rattle.afdx_tx.specs.Drain.{accepted_in};
 ghost use Rattle.afdx_tx.specs.Ports.{AreOpenedWith, HasEveryPlace};
 ghost use Rattle.afdx_tx.specs.Gathering.{IsGatheredTx};
-ghost use Rattle.storm.specs.Shown.{IsShown};
+ghost use Rattle.storm.specs.Boards.{cells_of, IsShown};
 
 use crate::fault::Stop;
 use crate::gate::Gate;

@@ -8,8 +8,6 @@ mod command;
 mod drain;
 mod fault;
 mod gate;
-mod load;
-mod message;
 mod outcome;
 mod polling;
 mod progress;

@@ -1,17 +1,15 @@
 //! What comes of a storm, over any two networks.
-ghost use Rattle.std.specs.Prelude.{◌≡◌, ◌*◌, ◌≤◌, ◌<◌, ◌^◌, [], length, false, IfOk};
+ghost use Rattle.std.specs.Prelude.{◌≡◌, ◌≤◌, ◌<◌, ◌^◌, [], length, IfOk};
 ghost use Rattle.std.specs.List.{sum_by};
-ghost use Rattle.storm.specs.Cells.{cells_of, cells_read};
-ghost use Rattle.afdx_legal.specs.Done.{IsHandedWhole};
-ghost use Rattle.storm.specs.Messages.{own_messages};
-ghost use Rattle.storm.specs.Shown.{IsShown, all_counts};
+ghost use Rattle.storm.specs.Boards.{cells_of, cells_read, IsShown, all_counts};
+ghost use Rattle.storm.specs.Storms.{IsEnded};
 ghost use Rattle.storm.specs.Threads.{IsReady, IsJoined};
 
 use crate::drain::{drain, gather_all};
 use crate::fault::Stop;
 use crate::gate::Gate;
-use crate::load::Load;
 use crate::run::{Joined, Opened, run_threads};
+use crate::worker::Load;
 use afdx_plan::Config;
 use afdx_tx::{Draining, TxPort, open_tx};
 use redundant_mux::Network;
@@ -77,13 +75,8 @@ fn finish<A: Network + Drop, B: Network + Drop, G: Gate, R: Wait>(
         joined.tx joined.ports.items joined.monitor joined.polls joined.back }
     requires messages { load.messages < 65536 }
     requires turns { load.turns ≤ 1000000000 }
-    ensures whole { IfOk result (λ outcome. IsHandedWhole joined.tx.plan
-        (own_messages joined.tx.plan load.messages) (A.handed outcome.a) (B.handed outcome.b)) }
-    ensures accepted { IfOk result (λ outcome.
-        outcome.accepted ≡ length joined.tx.plan.ports * load.messages) }
-    ensures links { IfOk result (λ outcome. outcome.links.items ≡ all_counts joined.tx.plan.links
-        (A.handed outcome.a) (B.handed outcome.b)) }
-    ensures back { IfOk result (λ outcome. outcome.back ≡ false) }
+    ensures { IfOk result (λ outcome. IsEnded joined.tx.plan load.messages outcome.accepted
+        outcome.links.items outcome.back (A.handed outcome.a) (B.handed outcome.b)) }
 {
     let Joined {
         tx,
@@ -150,13 +143,8 @@ where
     requires b_new { B.failures b ≡ 0 }
     requires messages { load.messages < 65536 }
     requires turns { load.turns ≤ 1000000000 }
-    ensures whole { IfOk result (λ outcome. IsHandedWhole config
-        (own_messages config load.messages) (A.handed outcome.a) (B.handed outcome.b)) }
-    ensures accepted { IfOk result (λ outcome.
-        outcome.accepted ≡ length config.ports * load.messages) }
-    ensures links { IfOk result (λ outcome. outcome.links.items ≡ all_counts config.links
-        (A.handed outcome.a) (B.handed outcome.b)) }
-    ensures back { IfOk result (λ outcome. outcome.back ≡ false) }
+    ensures { IfOk result (λ outcome. IsEnded config load.messages outcome.accepted
+        outcome.links.items outcome.back (A.handed outcome.a) (B.handed outcome.b)) }
 {
     let opened = open(alloc, config, a, b)?;
     let joined = run_threads(rt, alloc, opened, load, gate)?;

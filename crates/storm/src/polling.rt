@@ -1,8 +1,7 @@
 //! The main thread's part while workers run.
 ghost use Rattle.std.specs.Prelude.{◌≡◌, ◌*◌, ◌≤◌, IfSome};
-ghost use Rattle.storm.specs.Cells.{cells_of};
 ghost use Rattle.afdx_tx.specs.Emitter.{queues_in};
-ghost use Rattle.storm.specs.Shown.{IsShown};
+ghost use Rattle.storm.specs.Boards.{cells_of, IsShown};
 
 use crate::gate::Gate;
 use afdx_tx::Emitter;

@@ -1,20 +1,13 @@
 //! The storm, and its report.
-ghost use Rattle.std.specs.Prelude.{◌≡◌, ◌↔◌, ◌*◌, ◌≤◌, ◌<◌, [], length, map, IsTrue, false, IfOk};
-ghost use Rattle.afdx_frame.specs.declared.net.Net.TheVariants.{B as ForB};
-ghost use Rattle.redundant_mux.specs.Logged.{side};
-ghost use Rattle.afdx_legal.specs.Done.{IsHandedWhole};
-ghost use Rattle.afdx_legal.specs.Legal.{on_both};
-ghost use Rattle.storm.specs.Answers.{HasShortPort, IsShort, IsSomeShort};
-ghost use Rattle.storm.specs.Messages.{own_messages};
-ghost use Rattle.storm.specs.Shown.{all_counts};
+ghost use Rattle.std.specs.Prelude.{◌≡◌, ◌↔◌, ◌≤◌, [], IsTrue, IfOk};
+ghost use Rattle.storm.specs.Storms.{HasShortPort, IsShort, IsReportOf};
 
 use crate::both::{KeptLinks, are_equal};
 use crate::fault::{StormFault, fault_of};
 use crate::gate::Gate;
-use crate::load::Load;
-use crate::message::MESSAGE_BYTES;
 use crate::outcome::run_storm;
-use afdx_plan::{Config, PortPlan};
+use crate::worker::{Load, MESSAGE_BYTES};
+use afdx_plan::Config;
 use redundant_mux::MemNetwork;
 use status_board::Counts;
 use std::alloc::Global;
@@ -40,10 +33,10 @@ pub struct StormReport {
 }
 
 /// Whether some port can't send a message of a storm.
-fn has_short_port(ports: &[PortPlan]) -> bool
-    ensures { IsTrue result ↔ IsSomeShort ports.now }
+fn has_short_port(config: &Config) -> bool
+    ensures { IsTrue result ↔ HasShortPort config.now }
 {
-    ports.iter().any(|port| port.max < MESSAGE_BYTES)
+    config.ports().iter().any(|port| port.max < MESSAGE_BYTES)
 }
 
 /// `storm` over two networks in memory that were handed nothing and have not failed.
@@ -64,18 +57,9 @@ pub fn storm_over<G: Gate + Sync, R: Threads + Wait + Sync>(
     requires messages { (1 ≤ messages) × (messages ≤ 65535) }
     requires turns { (1 ≤ turns) × (turns ≤ 1000000000) }
     ensures short { IsShort result ↔ HasShortPort config }
-    ensures whole { IfOk result (λ report. IsHandedWhole config (own_messages config messages)
-        report.a.handed report.b.handed) }
-    ensures accepted { IfOk result (λ report.
-        report.accepted ≡ length config.ports * messages) }
-    ensures links { IfOk result (λ report. report.links.items ≡ all_counts config.links
-        report.a.handed report.b.handed) }
-    ensures equal { IfOk result (λ report. IsTrue report.equal
-        ↔ (on_both config.links report.b.handed
-        ≡ map (side ForB) (on_both config.links report.a.handed))) }
-    ensures back { IfOk result (λ report. report.back ≡ false) }
+    ensures report { IfOk result (IsReportOf config messages) }
 {
-    if has_short_port(config.ports()) {
+    if has_short_port(&config) {
         return Err(StormFault::Short);
     }
     let kept = KeptLinks::of(config.links());
@@ -111,16 +95,7 @@ pub fn storm<G: Gate + Sync, R: Threads + Wait + Sync>(
     requires messages { (1 ≤ messages) × (messages ≤ 65535) }
     requires turns { (1 ≤ turns) × (turns ≤ 1000000000) }
     ensures short { IsShort result ↔ HasShortPort config }
-    ensures whole { IfOk result (λ report. IsHandedWhole config (own_messages config messages)
-        report.a.handed report.b.handed) }
-    ensures accepted { IfOk result (λ report.
-        report.accepted ≡ length config.ports * messages) }
-    ensures links { IfOk result (λ report. report.links.items ≡ all_counts config.links
-        report.a.handed report.b.handed) }
-    ensures equal { IfOk result (λ report. IsTrue report.equal
-        ↔ (on_both config.links report.b.handed
-        ≡ map (side ForB) (on_both config.links report.a.handed))) }
-    ensures back { IfOk result (λ report. report.back ≡ false) }
+    ensures report { IfOk result (IsReportOf config messages) }
 {
     let (a, b) = (MemNetwork::new(alloc), MemNetwork::new(alloc));
     storm_over(rt, alloc, config, a, b, messages, turns, gate)

@@ -1,14 +1,14 @@
 //! The threads of a storm, from the first start to the last join.
 ghost use Rattle.std.specs.Prelude.{◌≡◌, ◌≤◌, IfOk};
 ghost use Rattle.storm.specs.Threads.{IsReady, IsJoined};
-ghost use Rattle.storm.specs.Watching.{ReadsEach};
+ghost use Rattle.storm.specs.Boards.{ReadsEach};
 
 use crate::fault::Stop;
 use crate::gate::Gate;
-use crate::load::Load;
 use crate::polling::poll_while;
 use crate::start::{join_workers, start_workers};
 use crate::watcher::start_watcher;
+use crate::worker::Load;
 use afdx_tx::{Emitter, TxPort};
 use redundant_mux::Network;
 use status_board::Monitor;

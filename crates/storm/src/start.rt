@@ -4,8 +4,7 @@ ghost use Rattle.storm.specs.Workers.{named, sent_all, asked_by, asked_after, Ar
 
 use crate::fault::Stop;
 use crate::gate::Gate;
-use crate::load::Load;
-use crate::worker::work;
+use crate::worker::{Load, work};
 use afdx_tx::TxPort;
 use std::alloc::Global;
 use std::snapshot::Snapshot;

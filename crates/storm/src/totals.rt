@@ -11,6 +11,7 @@ use std::io::{self, Write};
 /// Writes what came of a storm over these links, in the order of their plan: how many messages were
 /// accepted, the counts of each link, whether both networks were handed the same, and whether a count
 /// was seen to fall.
+#[tactic(auto, unfolding(crate::specs::Totals::totals_text))]
 pub fn write_totals<W: Write>(
     writer: &mut W,
     links: &[LinkPlan],
@@ -21,7 +22,7 @@ pub fn write_totals<W: Write>(
         (totals_of links.now report.now)) }
 {
     write_accepted(writer, report.accepted)?;
-    write_links(writer, links, report.links.as_slice())?;
+    write_links(writer, links, report)?;
     write_networks(writer, report.equal)?;
     write_watcher(writer, report.back)
 }
@@ -34,13 +35,13 @@ fn write_accepted<W: Write>(writer: &mut W, accepted: u64) -> io::Result<()>
     writeln!(writer, "accepted {accepted}")
 }
 
-fn write_links<W: Write>(writer: &mut W, links: &[LinkPlan], counts: &[Counts]) -> io::Result<()>
-    requires { length counts.now ≡ length links.now }
+fn write_links<W: Write>(writer: &mut W, links: &[LinkPlan], report: &StormReport) -> io::Result<()>
+    requires { length report.now.links.items ≡ length links.now }
     ensures { OnOk result (Appends (W.contents writer.old) (W.contents writer.new)
-        (link_lines_to links.now counts.now (length links.now))) }
+        (link_lines_to links.now report.now.links.items (length links.now))) }
 {
     for place in 0..links.len() {
-        write_link(writer, links[place].id, &counts[place])?;
+        write_link(writer, links[place].id, &report.links[place])?;
     }
     Ok(())
 }

@@ -2,7 +2,7 @@
 ghost use Rattle.std.specs.Prelude.{◌≡◌, ◌<◌, false, IfOk, ◌↔◌};
 ghost use Rattle.status_board.specs.History.{NoFieldFalls};
 ghost use Rattle.status_board.specs.Views.{links_of};
-ghost use Rattle.storm.specs.Watching.{ReadsOnly, ReadsEach};
+ghost use Rattle.storm.specs.Boards.{ReadsOnly, ReadsEach};
 
 use crate::fault::Stop;
 use crate::gate::Gate;
@@ -20,7 +20,7 @@ pub(crate) struct WatchesAll {
 
 impl Promise<(Monitor, bool)> for WatchesAll {
     ghost use Rattle.std.specs.Prelude.{◌≡◌, false};
-    ghost use Rattle.storm.specs.Watching.{ReadsEach};
+    ghost use Rattle.storm.specs.Boards.{ReadsEach};
 
     ghost kept_by = { λ p r. ReadsEach p.before.value r.0 p.times × (r.1 ≡ false) };
 }

@@ -1,14 +1,35 @@
-//! What one worker does.
-ghost use Rattle.std.specs.Prelude.{◌≡◌, ◌≤◌, [], ◌∷◌, OnOk};
+//! What one worker sends, and how.
+ghost use Rattle.std.specs.Prelude.{◌≡◌, ◌≤◌, [], ◌∷◌, OnOk, IfOk};
+ghost use Rattle.storm.specs.Messages.{message};
 ghost use Rattle.storm.specs.Workers.{named, with_more, sent_all, asked_by, asked_after};
 
 use crate::fault::Stop;
 use crate::gate::Gate;
-use crate::load::Load;
-use crate::message::make_message;
+use afdx_plan::PortId;
 use afdx_tx::TxPort;
-use std::alloc::Global;
+use std::alloc::{AllocError, Global};
 use std::thread;
+
+/// How many messages each port sends, and how often each thread may try: a worker to send, and the main
+/// thread to poll, while the workers run and once more after them.
+#[derive(Clone, Copy, Debug, PartialEq, Eq)]
+pub(crate) struct Load {
+    pub messages: u32,
+    pub turns: u64,
+}
+
+/// The length of a message in bytes.
+pub(crate) const MESSAGE_BYTES: usize = 6;
+
+/// Message `call` of a port: the port's identifier in two bytes and `call` in four, high byte first.
+fn make_message(alloc: Global, port: PortId, call: u32) -> Result<Vec<u8>, AllocError>
+    ensures { IfOk result (λ bytes. bytes.items ≡ message port.0 call) }
+{
+    let mut bytes = Vec::with_capacity(alloc, MESSAGE_BYTES)?;
+    bytes.extend_from_slice(&port.0.to_be_bytes())?;
+    bytes.extend_from_slice(&call.to_be_bytes())?;
+    Ok(bytes)
+}
 
 /// Sends a message, and again after it was refused, which is where its queue is full. Each send is a
 /// turn.

@@ -1,12 +1,16 @@
-use Rattle.storm.proofs.StormLemmas.{reports_on_ok, refuses_on_err}
+use Rattle.std.proofs.lemmas.Option.{IfSome_then}
+use Rattle.std.proofs.lemmas.Result.{on_ok_weaker, IfErr-weaker}
+use Rattle.storm.proofs.StormLemmas.{refuses_text}
 use Rattle.storm.proofs.command.bench_storm.Goals as goal
 
 pub returns-clause-ok : goal.returns-clause-ok
 returns-clause-ok g c =
-    reports_on_ok c.throw_storm.result (g.I.Read.remaining c.args.reader) c.in_ok-config.config c.args.messages _ _
-    c.in_ok-config.ensures.plan c.throw_storm.ensures.long c.throw_storm.ensures.ok
+    on_ok_weaker c.throw_storm.result
+    (λ told. IfSome_then (g.I.Read.remaining c.args.reader) c.in_ok-config.ensures.plan
+    (λ text is. record { plan = c.in_ok-config.config; is_plan = is; storm = told })) c.throw_storm.ensures.ok
 
 pub returns-clause-refused : goal.returns-clause-refused
 returns-clause-refused g c =
-    refuses_on_err c.throw_storm.result (g.I.Read.remaining c.args.reader) c.in_ok-config.config c.in_ok-config.ensures.plan
-    c.throw_storm.ensures.refused
+    IfErr-weaker c.throw_storm.result _ _
+    (λ failure refusal. IfSome_then (g.I.Read.remaining c.args.reader) c.in_ok-config.ensures.plan
+    (λ text is. refuses_text text c.in_ok-config.config failure is refusal)) c.throw_storm.ensures.refused

@@ -1,16 +1,22 @@
-use Rattle.std.proofs.Common.{◌∙◌, subst, sym}
+use Rattle.std.proofs.Common.{List, ◌≡◌, ◌∙◌, subst, sym}
+use Rattle.std.specs.Io.KnownBytes.{Appends}
+use Rattle.afdx_plan.specs.declared.link_plan.LinkPlan.{LinkPlan}
 use Rattle.plan_report.specs.declared.failure.Failure.{Failure}
+use Rattle.storm.specs.declared.fault.StormFault.{StormFault}
 use Rattle.storm.specs.Storms.{IsPlanRefusal}
-use Rattle.storm.proofs.StormLemmas.{reports_plan, refuses_plan}
+use Rattle.storm.specs.Totals.{totals_of}
+use Rattle.storm.proofs.StormLemmas.{refuses_plan}
 use Rattle.storm.proofs.command.throw_storm.Goals as goal
 
 pub returns-in-Ok-write_totals-clause-ok : goal.returns-in-Ok-write_totals-clause-ok
-returns-in-Ok-write_totals-clause-ok g c =
-    let report = c.in-Ok.report in
-    reports_plan c.args.config c.args.messages report.a.handed report.b.handed report.equal report.back report.links.items
-    c.as_slice.result.now report.accepted _ _ c.in-Ok.ensures.whole c.in-Ok.ensures.equal
-    c.in-Ok.ensures.links c.in-Ok.ensures.accepted c.in-Ok.ensures.back
-    (c.as_slice.ensures ∙ c.of-links.ensures ∙ c.links.ensures.plan) c.in-Ok-write_totals.ensures
+returns-in-Ok-write_totals-clause-ok g c = record {
+  long = c.in-Ok.ensures.short.1;
+  report = c.in-Ok.report;
+  of = c.in-Ok.ensures.report;
+  wrote = subst (λ (links : List LinkPlan). Appends (g.W.Write.contents c.args.writer.now) (g.W.Write.contents c.write_totals.new.writer)
+      (totals_of links c.in-Ok.report))
+      (c.as_slice.ensures ∙ c.of-links.ensures ∙ c.links.ensures.plan) c.in-Ok-write_totals.ensures;
+}
 
 pub returns-clause-refused : goal.returns-clause-refused
 returns-clause-refused g c =

@@ -1,7 +1,6 @@
 use Rattle.std.proofs.Common.{◌≡◌, ◌+◌, ◌*◌, ◌≤◌}
-use Rattle.storm.specs.Cells.{cells_of}
+use Rattle.storm.specs.Boards.{cells_of, IsShown}
 use Rattle.afdx_tx.specs.Drain.{accepted_in}
-use Rattle.storm.specs.Shown.{IsShown}
 use Rattle.storm.proofs.drain.drain.Given as goal
 
 abbrev pub invariant-loop-turn : goal.invariant-loop-turn

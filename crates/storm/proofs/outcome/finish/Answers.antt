@@ -24,27 +24,24 @@ count_accepted-accepted-requires g c =
 pub gather_all-draining-requires-clause-every : goal.gather_all-draining-requires-clause-every
 gather_all-draining-requires-clause-every g c = every_place c.args.joined.tx c.args.load.messages c.args.load.turns c.args.joined.ports.items c.requires.joined.spent
 
-pub returns-clause-whole : goal.returns-clause-whole
-returns-clause-whole g c =
+pub returns : goal.returns
+returns g c =
     let joined = c.args.joined in
-    let same : c.read_links.new.draining ≡ c.in_ok-draining.draining = c.read_links.ensures.draining in
-    handed_whole joined.tx c.gather_all-draining.result c.in_ok-draining.draining c.args.load.messages c.args.load.turns joined.ports.items _ _
-    c.requires.joined.spent c.gather_all-draining.ensures c.in_ok-draining.ensures.plan c.in_ok-draining.ensures.accepted
-    c.in_ok-draining.ensures.done c.in_ok-draining.ensures.streams
-    (subst (λ (t : Tx). IsLegal t.plan (accepted_in t.links) t.lines.a t.lines.b) same c.into_networks-a.ensures.legal)
-    (subst (λ (t : Tx). AreAllowed t.plan (accepted_in t.links)) same c.into_networks-a.ensures.allowed)
-    (c.into_networks-a.ensures.a ∙ ap (λ (t : Tx). t.lines.a) same) (c.into_networks-a.ensures.b ∙ ap (λ (t : Tx). t.lines.b) same)
-
-pub returns-clause-links : goal.returns-clause-links
-returns-clause-links g c =
-    let same : c.read_links.new.draining ≡ c.in_ok-draining.draining = c.read_links.ensures.draining in
     let drained = c.in_ok-draining.draining in
-    counts_kept c.args.joined.tx.plan drained.plan drained.lines.a drained.lines.b _ _ _ c.in_ok-links.ensures.counts
-    (c.in_ok-draining.ensures.plan ∙ c.gather_all-draining.ensures.plan)
-    (c.into_networks-a.ensures.a ∙ ap (λ (t : Tx). t.lines.a) same) (c.into_networks-a.ensures.b ∙ ap (λ (t : Tx). t.lines.b) same)
-
-pub returns-clause-accepted : goal.returns-clause-accepted
-returns-clause-accepted g c =
-    c.count_accepted-accepted.ensures
-    ∙ ap (λ (ports : List PortView). sum_by (λ (port : PortView). length port.sender.own) ports) c.as_slice.ensures.value
-    ∙ sum_spent c.args.joined.tx c.args.load.messages c.args.load.turns c.args.joined.ports.items c.requires.joined.spent
+    let same : c.read_links.new.draining ≡ drained = c.read_links.ensures.draining in
+    let end = c.into_networks-a.ensures in
+    let a = end.a ∙ ap (λ (t : Tx). t.lines.a) same in
+    let b = end.b ∙ ap (λ (t : Tx). t.lines.b) same in
+    record {
+      whole = handed_whole joined.tx c.gather_all-draining.result drained c.args.load.messages c.args.load.turns joined.ports.items _ _
+          c.requires.joined.spent c.gather_all-draining.ensures c.in_ok-draining.ensures.plan c.in_ok-draining.ensures.accepted
+          c.in_ok-draining.ensures.done c.in_ok-draining.ensures.streams
+          (subst (λ (t : Tx). IsLegal t.plan (accepted_in t.links) t.lines.a t.lines.b) same end.legal)
+          (subst (λ (t : Tx). AreAllowed t.plan (accepted_in t.links)) same end.allowed) a b;
+      accepted = c.count_accepted-accepted.ensures
+          ∙ ap (λ (ports : List PortView). sum_by (λ (port : PortView). length port.sender.own) ports) c.as_slice.ensures.value
+          ∙ sum_spent joined.tx c.args.load.messages c.args.load.turns joined.ports.items c.requires.joined.spent;
+      links = counts_kept joined.tx.plan drained.plan drained.lines.a drained.lines.b _ _ _ c.in_ok-links.ensures.counts
+          (c.in_ok-draining.ensures.plan ∙ c.gather_all-draining.ensures.plan) a b;
+      back = c.requires.joined.none_back;
+    }

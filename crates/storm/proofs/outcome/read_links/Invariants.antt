@@ -1,6 +1,5 @@
 use Rattle.std.proofs.Common.{◌≡◌, take}
-use Rattle.storm.specs.Cells.{cells_read}
-use Rattle.storm.specs.Shown.{all_counts}
+use Rattle.storm.specs.Boards.{cells_read, all_counts}
 use Rattle.storm.proofs.outcome.read_links.Given as goal
 
 abbrev pub invariant-loop-link : goal.invariant-loop-link

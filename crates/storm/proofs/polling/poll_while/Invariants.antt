@@ -1,7 +1,6 @@
 use Rattle.std.proofs.Common.{◌≡◌, ◌*◌, ◌≤◌}
-use Rattle.storm.specs.Cells.{cells_of}
+use Rattle.storm.specs.Boards.{cells_of, IsShown}
 use Rattle.afdx_tx.specs.Emitter.{queues_in}
-use Rattle.storm.specs.Shown.{IsShown}
 use Rattle.storm.proofs.polling.poll_while.Given as goal
 
 abbrev pub invariant-loop-poll : goal.invariant-loop-poll

@@ -1,6 +1,6 @@
 use Rattle.std.proofs.Common.{◌≡◌, false}
 use Rattle.status_board.specs.Views.{links_of}
-use Rattle.storm.specs.Watching.{ReadsFirst}
+use Rattle.storm.specs.Boards.{ReadsFirst}
 use Rattle.storm.proofs.watcher.watch.Given as goal
 
 abbrev pub invariant-loop-link : goal.invariant-loop-link
