@@ -9,11 +9,10 @@ ghost use Rattle.afdx_tx.specs.declared.fault.Refusal.{Refusal};
 ghost use Rattle.afdx_tx.specs.Ports.{PortView, IsPortOfTx, Accepts, Refuses, LacksPlace};
 ghost use Rattle.afdx_tx.specs.Closing.{LacksSub};
 ghost use Rattle.afdx_tx.specs.Naming.{LacksLink};
-ghost use Rattle.afdx_handle.specs.Numbers.{IsOneOf, net_of, refusal_number, standing_bits};
+ghost use Rattle.afdx_handle.specs.Numbers.{AreCountsOf, IsOneOf, net_of, refusal_number, standing_bits};
 ghost use Rattle.afdx_handle.specs.EndSystem.{EndView, has_id, made_for, made_at, PollsEnd, ClosesEnd, GathersEnd, GivesBack, TakesPort, IsAllSent, IsOpened};
 ghost use Rattle.afdx_legal.specs.Counting.{counts_in};
 ghost use Rattle.afdx_legal.specs.Own.{own_stream};
-ghost use Rattle.afdx_handle.specs.Counted.{AreCountsOf};
 ghost use Rattle.afdx_handle.specs.Held.{end_of, port_of, HoldsNothing, HoldsOne, HoldsSame, EndDoes, PortDoes};
 
 use afdx_handle::answer::{
@@ -22,6 +21,23 @@ use afdx_handle::answer::{
 };
 use afdx_handle::{Handle, Home, LinkCounts, gather_in, give_in, open_home, send, take_port};
 use std::alloc::Global;
+
+// The answer of `$answer` over what a handle holds, if that is of the variant `$wanted`. The box is taken out
+// meanwhile.
+macro_rules! with_held {
+    ($handle:ident, $wanted:ident($held:ident) not $other:ident => $answer:expr) => {{
+        let Some(mut home) = $handle.take() else {
+            return NOT_HELD;
+        };
+        let answer = match &mut *home {
+            Home::$wanted($held) => $answer,
+            Home::$other(_) => WRONG_HANDLE,
+            Home::Nothing => NOT_HELD,
+        };
+        $handle.put(home);
+        answer
+    }};
+}
 
 /// Opens an end system from the text of a configuration.
 #[unsafe(no_mangle)]
@@ -67,22 +83,13 @@ pub extern "C" fn afdx_port_of(alloc: Global, it: &mut Handle, id: u16, out: &mu
     if !out.is_empty() {
         return HELD;
     }
-    let Some(mut home) = it.take() else {
-        return NOT_HELD;
-    };
-    let taken = match &mut *home {
-        Home::EndSystem(end_system) => take_port(alloc, end_system, id),
-        Home::Port(_) => Err(WRONG_HANDLE),
-        Home::Nothing => Err(NOT_HELD),
-    };
-    it.put(home);
-    match taken {
+    with_held!(it, EndSystem(end_system) not Port => match take_port(alloc, end_system, id) {
         Ok(port) => {
             out.put(port);
             DONE
         }
         Err(number) => number,
-    }
+    })
 }
 
 /// Copies a message in, at the end of the queue of the port's sub-VL.
@@ -98,23 +105,13 @@ pub extern "C" fn afdx_send(alloc: Global, port: &mut Handle, message: &[u8]) ->
     ensures unsent { result ≡ MEMORY → HoldsSame port.old.kept.home port.new.kept.home }
     ensures misused { 32 ≤ result → HoldsSame port.old.kept.home port.new.kept.home }
 {
-    let Some(mut home) = port.take() else {
-        return NOT_HELD;
-    };
-    let answer = match &mut *home {
-        Home::EndSystem(_) => WRONG_HANDLE,
-        Home::Port(own) => send(alloc, own, message),
-        Home::Nothing => NOT_HELD,
-    };
-    port.put(home);
-    answer
+    with_held!(port, Port(own) not EndSystem => send(alloc, own, message))
 }
 
 /// How many messages of a port were accepted.
 #[unsafe(no_mangle)]
 pub extern "C" fn afdx_accepted(port: &mut Handle, count: &mut u64) -> u8
-    ensures answers { IsOneOf result
-        (DONE ∷ NOT_HELD ∷ WRONG_HANDLE ∷ []) }
+    ensures answers { IsOneOf result (DONE ∷ NOT_HELD ∷ WRONG_HANDLE ∷ []) }
     ensures not_held { (result ≡ NOT_HELD) ↔ HoldsNothing port.old.kept.home }
     ensures wrong_handle { (result ≡ WRONG_HANDLE) ↔ IsSome (end_of port.old.kept.home) }
     ensures counted { result ≡ DONE → IsSomeAnd (port_of port.old.kept.home) (λ own.
@@ -122,26 +119,16 @@ pub extern "C" fn afdx_accepted(port: &mut Handle, count: &mut u64) -> u8
     ensures same { HoldsSame port.old.kept.home port.new.kept.home }
     ensures unwritten { result ≢ DONE → count.new ≡ count.old }
 {
-    let Some(home) = port.take() else {
-        return NOT_HELD;
-    };
-    let answer = match &*home {
-        Home::EndSystem(_) => WRONG_HANDLE,
-        Home::Port(own) => {
-            *count = own.accepted();
-            DONE
-        }
-        Home::Nothing => NOT_HELD,
-    };
-    port.put(home);
-    answer
+    with_held!(port, Port(own) not EndSystem => {
+        *count = own.accepted();
+        DONE
+    })
 }
 
 /// Gives each virtual link its turn at a moment in microseconds, and tells which networks stand.
 #[unsafe(no_mangle)]
 pub extern "C" fn afdx_poll(it: &mut Handle, now: u64, standing: &mut u8) -> u8
-    ensures answers { IsOneOf result
-        (DONE ∷ NOT_HELD ∷ WRONG_HANDLE ∷ TIME_BACK ∷ BOTH_DOWN ∷ []) }
+    ensures answers { IsOneOf result (DONE ∷ NOT_HELD ∷ WRONG_HANDLE ∷ TIME_BACK ∷ BOTH_DOWN ∷ []) }
     ensures not_held { (result ≡ NOT_HELD) ↔ HoldsNothing it.old.kept.home }
     ensures wrong_handle { (result ≡ WRONG_HANDLE) ↔ IsSome (port_of it.old.kept.home) }
     ensures time_back { (result ≡ TIME_BACK) ↔
@@ -155,23 +142,13 @@ pub extern "C" fn afdx_poll(it: &mut Handle, now: u64, standing: &mut u8) -> u8
     ensures none_stands { result ≡ BOTH_DOWN → standing.new ≡ 0 }
     ensures unwritten { result ≢ DONE → result ≢ BOTH_DOWN → standing.new ≡ standing.old }
 {
-    let Some(mut home) = it.take() else {
-        return NOT_HELD;
-    };
-    let answer = match &mut *home {
-        Home::EndSystem(end_system) => end_system.poll(now, standing),
-        Home::Port(_) => WRONG_HANDLE,
-        Home::Nothing => NOT_HELD,
-    };
-    it.put(home);
-    answer
+    with_held!(it, EndSystem(end_system) not Port => end_system.poll(now, standing))
 }
 
 /// How many frames the last poll made for a network.
 #[unsafe(no_mangle)]
 pub extern "C" fn afdx_frames(it: &mut Handle, network: u8, count: &mut usize) -> u8
-    ensures answers { IsOneOf result
-        (DONE ∷ NOT_HELD ∷ WRONG_HANDLE ∷ NO_NETWORK ∷ []) }
+    ensures answers { IsOneOf result (DONE ∷ NOT_HELD ∷ WRONG_HANDLE ∷ NO_NETWORK ∷ []) }
     ensures not_held { (result ≡ NOT_HELD) ↔ HoldsNothing it.old.kept.home }
     ensures wrong_handle { (result ≡ WRONG_HANDLE) ↔ IsSome (port_of it.old.kept.home) }
     ensures no_network { (result ≡ NO_NETWORK) ↔
@@ -181,22 +158,13 @@ pub extern "C" fn afdx_frames(it: &mut Handle, network: u8, count: &mut usize) -
     ensures same { HoldsSame it.old.kept.home it.new.kept.home }
     ensures unwritten { result ≢ DONE → count.new ≡ count.old }
 {
-    let Some(home) = it.take() else {
-        return NOT_HELD;
-    };
-    let answer = match &*home {
-        Home::EndSystem(end_system) => match net_of(network) {
-            Some(net) => {
-                *count = end_system.frames(net);
-                DONE
-            }
-            None => NO_NETWORK,
-        },
-        Home::Port(_) => WRONG_HANDLE,
-        Home::Nothing => NOT_HELD,
-    };
-    it.put(home);
-    answer
+    with_held!(it, EndSystem(end_system) not Port => match net_of(network) {
+        Some(net) => {
+            *count = end_system.frames(net);
+            DONE
+        }
+        None => NO_NETWORK,
+    })
 }
 
 /// Copies frame `k`, from 0, that the last poll made for a network into a buffer, and writes how many
@@ -228,55 +196,35 @@ pub extern "C" fn afdx_frame(
     ensures same { HoldsSame it.old.kept.home it.new.kept.home }
     ensures unwritten { result ≢ DONE → (buffer.new ≡ buffer.old) × (size.new ≡ size.old) }
 {
-    let Some(home) = it.take() else {
-        return NOT_HELD;
-    };
-    let answer = match &*home {
-        Home::EndSystem(end_system) => match net_of(network) {
-            Some(net) => end_system.frame(net, k, buffer, size),
-            None => NO_NETWORK,
-        },
-        Home::Port(_) => WRONG_HANDLE,
-        Home::Nothing => NOT_HELD,
-    };
-    it.put(home);
-    answer
+    with_held!(it, EndSystem(end_system) not Port => match net_of(network) {
+        Some(net) => end_system.frame(net, k, buffer, size),
+        None => NO_NETWORK,
+    })
 }
 
 /// Makes a network fail at the next frame that is handed to it.
 #[unsafe(no_mangle)]
 pub extern "C" fn afdx_fail(it: &mut Handle, network: u8) -> u8
-    ensures answers { IsOneOf result
-        (DONE ∷ NOT_HELD ∷ WRONG_HANDLE ∷ NO_NETWORK ∷ []) }
+    ensures answers { IsOneOf result (DONE ∷ NOT_HELD ∷ WRONG_HANDLE ∷ NO_NETWORK ∷ []) }
     ensures not_held { (result ≡ NOT_HELD) ↔ HoldsNothing it.old.kept.home }
     ensures wrong_handle { (result ≡ WRONG_HANDLE) ↔ IsSome (port_of it.old.kept.home) }
     ensures no_network { (result ≡ NO_NETWORK) ↔
         (IsSome (end_of it.old.kept.home) × IsNone (net_of network)) }
     ensures same { HoldsSame it.old.kept.home it.new.kept.home }
 {
-    let Some(home) = it.take() else {
-        return NOT_HELD;
-    };
-    let answer = match &*home {
-        Home::EndSystem(end_system) => match net_of(network) {
-            Some(net) => {
-                end_system.fail(net);
-                DONE
-            }
-            None => NO_NETWORK,
-        },
-        Home::Port(_) => WRONG_HANDLE,
-        Home::Nothing => NOT_HELD,
-    };
-    it.put(home);
-    answer
+    with_held!(it, EndSystem(end_system) not Port => match net_of(network) {
+        Some(net) => {
+            end_system.fail(net);
+            DONE
+        }
+        None => NO_NETWORK,
+    })
 }
 
 /// Closes a sub-VL, and writes how many messages were accepted in all.
 #[unsafe(no_mangle)]
 pub extern "C" fn afdx_close(it: &mut Handle, vl: u16, sub: u8, total: &mut u64) -> u8
-    ensures answers { IsOneOf result
-        (DONE ∷ NOT_HELD ∷ WRONG_HANDLE ∷ GATHERED ∷ NO_SUB ∷ []) }
+    ensures answers { IsOneOf result (DONE ∷ NOT_HELD ∷ WRONG_HANDLE ∷ GATHERED ∷ NO_SUB ∷ []) }
     ensures not_held { (result ≡ NOT_HELD) ↔ HoldsNothing it.old.kept.home }
     ensures wrong_handle { (result ≡ WRONG_HANDLE) ↔ IsSome (port_of it.old.kept.home) }
     ensures gathered { (result ≡ GATHERED) ↔
@@ -288,23 +236,13 @@ pub extern "C" fn afdx_close(it: &mut Handle, vl: u16, sub: u8, total: &mut u64)
     ensures refused { result ≢ DONE → HoldsSame it.old.kept.home it.new.kept.home }
     ensures unwritten { result ≢ DONE → total.new ≡ total.old }
 {
-    let Some(mut home) = it.take() else {
-        return NOT_HELD;
-    };
-    let answer = match &mut *home {
-        Home::EndSystem(end_system) => end_system.close(vl, sub, total),
-        Home::Port(_) => WRONG_HANDLE,
-        Home::Nothing => NOT_HELD,
-    };
-    it.put(home);
-    answer
+    with_held!(it, EndSystem(end_system) not Port => end_system.close(vl, sub, total))
 }
 
 /// What was sent of a virtual link so far.
 #[unsafe(no_mangle)]
 pub extern "C" fn afdx_link_counts(it: &mut Handle, vl: u16, counts: &mut LinkCounts) -> u8
-    ensures answers { IsOneOf result
-        (DONE ∷ NOT_HELD ∷ WRONG_HANDLE ∷ NO_LINK ∷ []) }
+    ensures answers { IsOneOf result (DONE ∷ NOT_HELD ∷ WRONG_HANDLE ∷ NO_LINK ∷ []) }
     ensures not_held { (result ≡ NOT_HELD) ↔ HoldsNothing it.old.kept.home }
     ensures wrong_handle { (result ≡ WRONG_HANDLE) ↔ IsSome (port_of it.old.kept.home) }
     ensures no_link { (result ≡ NO_LINK) ↔
@@ -314,34 +252,24 @@ pub extern "C" fn afdx_link_counts(it: &mut Handle, vl: u16, counts: &mut LinkCo
     ensures same { HoldsSame it.old.kept.home it.new.kept.home }
     ensures unwritten { result ≢ DONE → counts.new ≡ counts.old }
 {
-    let Some(home) = it.take() else {
-        return NOT_HELD;
-    };
-    let answer = match &*home {
-        Home::EndSystem(end_system) => match end_system.counts(vl) {
-            Ok(sent) => {
-                *counts = LinkCounts {
-                    frames: sent.frames,
-                    bytes: sent.bytes,
-                    messages: sent.messages,
-                    last: sent.last,
-                };
-                DONE
-            }
-            Err(number) => number,
-        },
-        Home::Port(_) => WRONG_HANDLE,
-        Home::Nothing => NOT_HELD,
-    };
-    it.put(home);
-    answer
+    with_held!(it, EndSystem(end_system) not Port => match end_system.counts(vl) {
+        Ok(sent) => {
+            *counts = LinkCounts {
+                frames: sent.frames,
+                bytes: sent.bytes,
+                messages: sent.messages,
+                last: sent.last,
+            };
+            DONE
+        }
+        Err(number) => number,
+    })
 }
 
 /// Whether every fragment of every accepted message was taken by at least one network: writes 1 or 0.
 #[unsafe(no_mangle)]
 pub extern "C" fn afdx_is_done(it: &mut Handle, done: &mut u8) -> u8
-    ensures answers { IsOneOf result
-        (DONE ∷ NOT_HELD ∷ WRONG_HANDLE ∷ NOT_GATHERED ∷ []) }
+    ensures answers { IsOneOf result (DONE ∷ NOT_HELD ∷ WRONG_HANDLE ∷ NOT_GATHERED ∷ []) }
     ensures not_held { (result ≡ NOT_HELD) ↔ HoldsNothing it.old.kept.home }
     ensures wrong_handle { (result ≡ WRONG_HANDLE) ↔ IsSome (port_of it.old.kept.home) }
     ensures not_gathered { (result ≡ NOT_GATHERED) ↔
@@ -352,62 +280,39 @@ pub extern "C" fn afdx_is_done(it: &mut Handle, done: &mut u8) -> u8
     ensures same { HoldsSame it.old.kept.home it.new.kept.home }
     ensures unwritten { result ≢ DONE → done.new ≡ done.old }
 {
-    let Some(home) = it.take() else {
-        return NOT_HELD;
-    };
-    let answer = match &*home {
-        Home::EndSystem(end_system) => end_system.is_done(done),
-        Home::Port(_) => WRONG_HANDLE,
-        Home::Nothing => NOT_HELD,
-    };
-    it.put(home);
-    answer
+    with_held!(it, EndSystem(end_system) not Port => end_system.is_done(done))
 }
 
 /// Gives back what belongs to an end system.
 #[unsafe(no_mangle)]
 pub extern "C" fn afdx_free(it: &mut Handle) -> u8
-    ensures answers { IsOneOf result
-        (DONE ∷ NOT_HELD ∷ WRONG_HANDLE ∷ []) }
+    ensures answers { IsOneOf result (DONE ∷ NOT_HELD ∷ WRONG_HANDLE ∷ []) }
     ensures not_held { (result ≡ NOT_HELD) ↔ HoldsNothing it.old.kept.home }
     ensures wrong_handle { (result ≡ WRONG_HANDLE) ↔ IsSome (port_of it.old.kept.home) }
     ensures freed { result ≡ DONE → IsNone it.new.kept.home }
     ensures refused { result ≢ DONE → HoldsSame it.old.kept.home it.new.kept.home }
 {
-    let Some(home) = it.take() else {
-        return NOT_HELD;
-    };
-    match &*home {
-        Home::EndSystem(_) => DONE,
-        Home::Port(_) => {
-            it.put(home);
-            WRONG_HANDLE
-        }
-        Home::Nothing => NOT_HELD,
+    let answer = with_held!(it, EndSystem(_end_system) not Port => DONE);
+    if answer == DONE {
+        drop(it.take());
     }
+    answer
 }
 
 /// Gives back what belongs to a port.
 #[unsafe(no_mangle)]
 pub extern "C" fn afdx_free_port(port: &mut Handle) -> u8
-    ensures answers { IsOneOf result
-        (DONE ∷ NOT_HELD ∷ WRONG_HANDLE ∷ []) }
+    ensures answers { IsOneOf result (DONE ∷ NOT_HELD ∷ WRONG_HANDLE ∷ []) }
     ensures not_held { (result ≡ NOT_HELD) ↔ HoldsNothing port.old.kept.home }
     ensures wrong_handle { (result ≡ WRONG_HANDLE) ↔ IsSome (end_of port.old.kept.home) }
     ensures freed { result ≡ DONE → IsNone port.new.kept.home }
     ensures refused { result ≢ DONE → HoldsSame port.old.kept.home port.new.kept.home }
 {
-    let Some(home) = port.take() else {
-        return NOT_HELD;
-    };
-    match &*home {
-        Home::EndSystem(_) => {
-            port.put(home);
-            WRONG_HANDLE
-        }
-        Home::Port(_) => DONE,
-        Home::Nothing => NOT_HELD,
+    let answer = with_held!(port, Port(_own) not EndSystem => DONE);
+    if answer == DONE {
+        drop(port.take());
     }
+    answer
 }
 
 /// Gives a port back to the end system that it was taken from. Its handle holds nothing then.
@@ -415,8 +320,7 @@ pub extern "C" fn afdx_free_port(port: &mut Handle) -> u8
 pub extern "C" fn afdx_give_back(it: &mut Handle, port: &mut Handle) -> u8
     requires own { (end : EndView) → (own : PortView) → end_of it.old.kept.home ≡ Some end
         → port_of port.old.kept.home ≡ Some own → end.gathered ≡ false → IsPortOfTx end.tx own }
-    ensures answers { IsOneOf result
-        (DONE ∷ NOT_HELD ∷ WRONG_HANDLE ∷ GATHERED ∷ NO_PORT ∷ []) }
+    ensures answers { IsOneOf result (DONE ∷ NOT_HELD ∷ WRONG_HANDLE ∷ GATHERED ∷ NO_PORT ∷ []) }
     ensures not_held { (result ≡ NOT_HELD) ↔
         (HoldsNothing it.old.kept.home ⊎ HoldsNothing port.old.kept.home) }
     ensures wrong_handle { (result ≡ WRONG_HANDLE) ↔

@@ -1,4 +1,3 @@
 pub mod AsBox
-pub mod BothOk
 pub mod EndPorts
 pub mod FewFrames

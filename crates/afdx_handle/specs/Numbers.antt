@@ -1,11 +1,13 @@
--- What the numbers of the header mean.
+-- What the numbers of the header mean, and the counts that C is given.
 use Rattle.std.specs.Prelude.{ℕ, ◌≡◌, ◌⊎◌, List, [], ◌∷◌, Bool, true, false, Option, Some, None, nat_eq, if◌then◌else◌}
 use Rattle.afdx_frame.specs.declared.net.Net.{Net}
 use Rattle.afdx_frame.specs.declared.net.Net.TheVariants.{A, B}
 use Rattle.redundant_mux.specs.Entry.{Entry}
 use Rattle.redundant_mux.specs.Lines.{Lines}
+use Rattle.status_board.specs.declared.counts.Counts.{Counts}
 use Rattle.afdx_tx.specs.declared.fault.Refusal.{Refusal}
 use Rattle.afdx_tx.specs.declared.fault.Refusal.TheVariants.{Empty, TooLong, Closed, Exhausted, Full}
+use Rattle.afdx_handle.specs.declared.answer.LinkCounts.{LinkCounts}
 
 -- the network with a number
 abbrev pub net_of : ℕ → Option Net
@@ -35,3 +37,10 @@ standing_bits true true = 3
 abbrev pub IsOneOf : ℕ → List ℕ → Type 0
 IsOneOf number [] = ⊥
 IsOneOf number (first ∷ rest) = (number ≡ first) ⊎ IsOneOf number rest
+
+-- these are the counts as C has them
+pub record AreCountsOf (counts : Counts) (written : LinkCounts) : Type 0 where
+  pub frames : written.frames ≡ counts.frames
+  pub bytes : written.bytes ≡ counts.bytes
+  pub messages : written.messages ≡ counts.messages
+  pub last : written.last ≡ counts.last

@@ -1,4 +1,4 @@
--- A poll, while ports send and once they are gathered.
+-- An emitter and its polls, while ports send and once they are gathered.
 use Rattle.std.specs.Prelude.{ℕ, ◌≡◌, List, Bool, true, false}
 use Rattle.redundant_mux.specs.Lines.{BothEndure, IsMirrored, log}
 use Rattle.afdx_legal.specs.Legal.{Accepted, IsLegal}
@@ -11,6 +11,18 @@ use Rattle.afdx_tx.specs.Drain.{IsDrained, accepted_in}
 use Rattle.afdx_tx.specs.Run.{IsRun}
 use Rattle.afdx_tx.specs.Report.{Polls}
 use Rattle.afdx_tx.specs.declared.report.Report.{Report}
+use Rattle.afdx_handle.specs.declared.stage.Stage.{Stage}
+use Rattle.afdx_handle.specs.declared.stage.Stage.TheVariants.{Sending, Draining}
+
+-- whether the ports are gathered
+abbrev pub is_gathered : Stage → Bool
+is_gathered (Sending tx) = false
+is_gathered (Draining tx) = true
+
+-- the emitter
+abbrev pub tx_of : Stage → Tx
+tx_of (Sending tx) = tx
+tx_of (Draining tx) = tx
 
 -- the messages that are known: those that were taken, and once the ports are gathered all that were accepted
 abbrev pub known_in : Bool → List LinkState → Accepted

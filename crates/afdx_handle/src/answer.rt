@@ -1,4 +1,5 @@
-//! The numbers that calls answer, as `afdx.h` has them, and what the other numbers there mean.
+//! The numbers that calls answer, as `afdx.h` has them, and what the other numbers there mean; and counts, as
+//! C has them.
 ghost use Rattle.std.specs.Prelude.{◌≡◌};
 ghost use Rattle.afdx_handle.specs.Numbers.{net_of, refusal_number, standing_bits};
 
@@ -88,4 +89,15 @@ pub fn standing_bits(standing: Standing) -> u8
         (false, true) => 2,
         (false, false) => 0,
     }
+}
+
+/// What was sent of a virtual link: the frames that at least one network accepted, the sum of their lengths
+/// in bytes, the messages whose last frame is among them, and the time of the last frame in microseconds.
+#[repr(C)]
+#[derive(Clone, Copy)]
+pub struct LinkCounts {
+    pub frames: u64,
+    pub bytes: u64,
+    pub messages: u64,
+    pub last: u64,
 }

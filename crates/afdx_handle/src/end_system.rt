@@ -35,7 +35,7 @@ pub struct EndSystem {
 
 impl Model for EndSystem {
     ghost use Rattle.std.specs.Prelude.{vec_capacity};
-    ghost use Rattle.afdx_handle.specs.Stages.{tx_of, is_gathered};
+    ghost use Rattle.afdx_handle.specs.Polling.{tx_of, is_gathered};
     ghost use Rattle.afdx_handle.specs.EndSystem.{EndView, IsEndSystem, end_view};
 
     ghost Value = { EndView };

@@ -18,44 +18,6 @@ pub struct Handle {
 }
 
 impl Handle {
-    /// A handle of nothing.
-    fn empty(alloc: Global) -> Handle
-        ensures { result.kept.home ≡ None }
-    {
-        Handle {
-            kept: Sealed::empty(alloc),
-            held: 0,
-            alloc,
-        }
-    }
-
-    /// A handle of a home.
-    fn of(alloc: Global, home: Box<Home>) -> Handle
-        ensures { result.kept.home ≡ Some home.value }
-    {
-        Handle {
-            kept: Sealed::of(home),
-            held: 1,
-            alloc,
-        }
-    }
-
-    /// The home, where there is one.
-    fn into_home(self) -> Option<Box<Home>>
-        ensures { MatchOption result (self.kept.home ≡ None) (λ home. self.kept.home ≡ Some home.value) }
-    {
-        let Handle {
-            kept,
-            held,
-            alloc: _,
-        } = self;
-        if held == 0 {
-            None
-        } else {
-            Some(kept.into_box())
-        }
-    }
-
     /// Whether it holds nothing.
     pub fn is_empty(&self) -> bool
         ensures { result ≡ is_none self.now.kept.home }
@@ -68,7 +30,22 @@ impl Handle {
         ensures taken { MatchOption result (self.old.kept.home ≡ None) (λ home. self.old.kept.home ≡ Some home.value) }
         ensures left { self.new.kept.home ≡ None }
     {
-        mem::replace(self, Handle::empty(self.alloc)).into_home()
+        let alloc = self.alloc;
+        let empty = Handle {
+            kept: Sealed::empty(alloc),
+            held: 0,
+            alloc,
+        };
+        let Handle {
+            kept,
+            held,
+            alloc: _,
+        } = mem::replace(self, empty);
+        if held == 0 {
+            None
+        } else {
+            Some(kept.into_box())
+        }
     }
 
     /// Puts a home in.
@@ -76,6 +53,10 @@ impl Handle {
         requires { self.old.kept.home ≡ None }
         ensures { self.new.kept.home ≡ Some home.value }
     {
-        *self = Handle::of(self.alloc, home);
+        *self = Handle {
+            kept: Sealed::of(home),
+            held: 1,
+            alloc: self.alloc,
+        };
     }
 }

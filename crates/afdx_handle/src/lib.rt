@@ -3,23 +3,19 @@
 #![tactic(auto)]
 
 pub mod answer;
-mod counts;
 mod end_system;
 mod handle;
 mod home;
 mod opening;
 mod ports;
 mod seal;
-mod sending;
 mod stage;
-mod taking;
 
-pub use counts::LinkCounts;
+pub use answer::LinkCounts;
 pub use end_system::{EndSystem, Side};
 pub use handle::Handle;
 pub use home::Home;
 pub use opening::open_home;
+pub use ports::{gather_in, give_in, send, take_port};
 pub use seal::Sealed;
-pub use sending::send;
 pub use stage::Stage;
-pub use taking::{gather_in, give_in, take_port};

@@ -27,10 +27,12 @@ fn make_outbox(alloc: Global) -> Result<(Outbox, Side), AllocError>
     Ok((outbox, Side { before: 0, fails }))
 }
 
-/// An end system of a configuration, with all its ports. It makes all the room that polling, closing and
-/// gathering take. Refused with the fault of the least number, or with `Memory` where memory was refused.
-pub fn open_end_system(alloc: Global, text: &[u8]) -> Result<EndSystem, ConfigFault>
-    ensures opened { IfOk result (IsOpened text.now) }
+/// What a handle of an end system of a configuration owns, with all its ports. It makes all the room that
+/// polling, closing and gathering take. Refused with the fault of the least number, or with `Memory` if an
+/// allocation fails.
+pub fn open_home(alloc: Global, text: &[u8]) -> Result<Box<Home>, ConfigFault>
+    ensures opened { IfOk result (λ home.
+        IsSomeAnd (end_of (Some home.value)) (IsOpened text.now)) }
     ensures fault { IfErr result (λ fault.
         fault ≢ ConfigFault.Memory → IsLeastFault text.now fault) }
 {
@@ -45,18 +47,7 @@ pub fn open_end_system(alloc: Global, text: &[u8]) -> Result<EndSystem, ConfigFa
         return Err(ConfigFault::Memory);
     };
     let stage = Stage::Sending(emitter);
-    Ok(EndSystem { stage, ports, a, b })
-}
-
-/// What a handle of an end system of a configuration owns. Refused as the opening of the end system is, and
-/// with `Memory` where memory for the box was refused.
-pub fn open_home(alloc: Global, text: &[u8]) -> Result<Box<Home>, ConfigFault>
-    ensures opened { IfOk result (λ home.
-        IsSomeAnd (end_of (Some home.value)) (IsOpened text.now)) }
-    ensures fault { IfErr result (λ fault.
-        fault ≢ ConfigFault.Memory → IsLeastFault text.now fault) }
-{
-    let end_system = open_end_system(alloc, text)?;
+    let end_system = EndSystem { stage, ports, a, b };
     match Box::new(alloc, Home::EndSystem(end_system)).ok() {
         Some(home) => Ok(home),
         None => Err(ConfigFault::Memory),

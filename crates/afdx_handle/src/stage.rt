@@ -21,8 +21,7 @@ impl Stage {
     ghost use Rattle.afdx_legal.specs.Counting.{counts_in};
     ghost use Rattle.afdx_legal.specs.Own.{own_stream};
     ghost use Rattle.afdx_handle.specs.Numbers.{line_of};
-    ghost use Rattle.afdx_handle.specs.Stages.{tx_of, is_gathered};
-    ghost use Rattle.afdx_handle.specs.Polling.{PollsTx};
+    ghost use Rattle.afdx_handle.specs.Polling.{tx_of, is_gathered, PollsTx};
 
     /// The moment of the last poll, in microseconds.
     pub fn now(&self) -> u64
@@ -68,8 +67,8 @@ impl Stage {
             PollsTx (is_gathered self.old) now (tx_of self.old) report (tx_of self.new)) }
     {
         match self {
-            Stage::Sending(emitter) => emitter.poll(now),
-            Stage::Draining(draining) => draining.poll(now),
+            Stage::Sending(emitter) => Ok(emitter.poll(now)?),
+            Stage::Draining(draining) => Ok(draining.poll(now)?),
         }
     }
 }

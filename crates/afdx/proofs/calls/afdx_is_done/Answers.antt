@@ -9,10 +9,10 @@ use Rattle.afdx.proofs.calls.afdx_is_done.Goals as goal
 pub returns-clause-done : goal.returns-clause-done
 returns-clause-done c =
     let some : Home → Option Home = λ home. Some home in
-    elim c.match-deref.branch [
+    elim c.match-deref_mut.branch [
       | in-EndSystem w ↦ λ fine.
-          subst (λ (held : Option EndView). IsSomeAnd held (λ end. (c.match-deref.done ≡ 1) ↔ IsAllSent end))
-          (sym (ap end_of (c.in-Some.ensures.taken ∙ ap some (sym c.deref.ensures) ∙ ap some w.in-EndSystem.is)))
+          subst (λ (held : Option EndView). IsSomeAnd held (λ end. (c.match-deref_mut.done ≡ 1) ↔ IsAllSent end))
+          (sym (ap end_of (c.in-Some.ensures.taken ∙ ap some (sym c.deref_mut.ensures.value) ∙ ap some w.in-EndSystem.is)))
           (subst (λ (n : ℕ). (n ≡ 1) ↔ IsAllSent w.in-EndSystem.end_system) (sym w.done-is)
           (w.is_done-answer.ensures.done (sym w.answer-is ∙ fine)))
       | in-Port w ↦ λ fine. absurd (let no : ◌≡◌ {A = ℕ} 33 0 = sym w.answer-is ∙ fine in omega (arith, no))

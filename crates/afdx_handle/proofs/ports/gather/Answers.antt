@@ -1,7 +1,8 @@
-use Rattle.std.proofs.Common.{ℕ, ◌≡◌, length, refl, sym, ap, subst, ◌∙◌, false, arith, vec_capacity}
+use Rattle.std.proofs.Common.{◌≡◌, length, refl, sym, ap, subst, ◌∙◌, arith, vec_capacity}
+use Rattle.afdx_tx.specs.Gathering.{IsGatheredTx}
 use Rattle.afdx_tx.specs.Ports.{LacksPlace}
 use Rattle.afdx_handle.specs.declared.stage.Stage.{Stage}
-use Rattle.afdx_handle.specs.Stages.{is_gathered, tx_of}
+use Rattle.afdx_handle.specs.Polling.{is_gathered, tx_of}
 use Rattle.afdx_handle.specs.EndSystem.{EndView, end_view}
 use Rattle.afdx_handle.proofs.EndPorts.{gathered_whole}
 use Rattle.afdx_handle.proofs.ports.gather.Goals as goal
@@ -9,19 +10,18 @@ use Rattle.afdx_handle.proofs.ports.gather.Goals as goal
 pub returns-in-Ok-clause-missing : goal.returns-in-Ok-clause-missing
 returns-in-Ok-clause-missing c =
     let own = c.it.inside in
-    subst (λ (it : EndView). ((let n : ℕ = 0 in n) ≡ 42 → (it.gathered ≡ false) × LacksPlace (length it.tx.plan.ports) it.ports)
-    × ((it.gathered ≡ false) × LacksPlace (length it.tx.plan.ports) it.ports → (let n : ℕ = 0 in n) ≡ 42))
-    (ap (λ (stage : Stage). end_view (is_gathered stage) (tx_of stage) own.ports.items (vec_capacity own.ports) own.a.before own.b.before)
-    (sym c.in-Sending.is) ∙ c.it.view_is) (
-      (λ e. absurd (omega (arith, e))),
-      (λ p. absurd (gathered_whole c.in-Sending.emitter c.in-Ok.draining own.ports.items c.in-Ok.ensures.gathered p.1)),
+    let is = ap (λ (stage : Stage). end_view (is_gathered stage) (tx_of stage) own.ports.items (vec_capacity own.ports) own.a.before own.b.before)
+    (sym c.in-Sending.is) ∙ c.it.view_is in (
+      λ e. absurd (omega (arith, e)),
+      λ lacks. absurd (gathered_whole c.args.it c.in-Ok.draining
+          (subst (λ (it : EndView). IsGatheredTx it.tx it.ports c.in-Ok.draining) is c.in-Ok.ensures.gathered) lacks.1),
     )
 
 pub returns-in-Err-clause-missing : goal.returns-in-Err-clause-missing
 returns-in-Err-clause-missing c =
     let own = c.it.inside in
-    subst (λ (it : EndView). ((let n : ℕ = 42 in n) ≡ 42 → (it.gathered ≡ false) × LacksPlace (length it.tx.plan.ports) it.ports)
-    × ((it.gathered ≡ false) × LacksPlace (length it.tx.plan.ports) it.ports → (let n : ℕ = 42 in n) ≡ 42))
-    (ap (λ (stage : Stage). end_view (is_gathered stage) (tx_of stage) own.ports.items (vec_capacity own.ports) own.a.before own.b.before)
-    (sym c.in-Sending.is) ∙ c.it.view_is)
-    ((λ e. (refl, c.in-Err.ensures.missing)), (λ p. refl))
+    let is = ap (λ (stage : Stage). end_view (is_gathered stage) (tx_of stage) own.ports.items (vec_capacity own.ports) own.a.before own.b.before)
+    (sym c.in-Sending.is) ∙ c.it.view_is in (
+      λ e. (ap (λ (it : EndView). it.gathered) (sym is), subst (λ (it : EndView). LacksPlace (length it.tx.plan.ports) it.ports) is c.in-Err.ensures.missing),
+      λ lacks. refl,
+    )

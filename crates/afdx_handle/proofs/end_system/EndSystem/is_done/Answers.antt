@@ -3,7 +3,7 @@ use Rattle.redundant_mux.specs.Lines.{log}
 use Rattle.afdx_legal.specs.Done.{IsAllDone}
 use Rattle.afdx_tx.specs.Drain.{accepted_in}
 use Rattle.afdx_handle.specs.declared.stage.Stage.{Stage}
-use Rattle.afdx_handle.specs.Stages.{tx_of}
+use Rattle.afdx_handle.specs.Polling.{tx_of}
 use Rattle.afdx_handle.specs.EndSystem.{IsAllSent}
 use Rattle.afdx_handle.proofs.end_system.EndSystem.is_done.Goals as goal
 

@@ -1,7 +1,7 @@
 use Rattle.std.proofs.Common.{Some, sym, ap, ◌∙◌}
 use Rattle.afdx_handle.specs.declared.home.Home.{Home}
 use Rattle.afdx_handle.specs.Held.{end_of, port_of}
-use Rattle.afdx_handle.proofs.taking.give_in.Goals as goal
+use Rattle.afdx_handle.proofs.ports.give_in.Goals as goal
 
 pub give_back-requires : goal.give_back-requires
 give_back-requires c = λ sending.
