@@ -1,13 +1,11 @@
 -- How often a worker's port asked.
-use Rattle.std.proofs.Common.{◌≡◌, ℕ, zero, suc, ◌+◌, ◌<◌, ◌≤◌, ◌⊎◌, List, [], ◌∷◌, ◌++◌, length, get_or, map, ap, sym, ◌∙◌, subst, ⊎_elim, arith}
-use Rattle.std.proofs.lemmas.List.{length-map, map-append}
-use Rattle.subvl_queue.specs.Views.{SenderView, IsRefused}
+use Rattle.storm.proofs.Names.{◌≡◌, ℕ, zero, suc, ◌+◌, ◌<◌, ◌≤◌, ◌⊎◌, List, [], ◌∷◌, ◌++◌, length, get_or, map, ap}
+use Rattle.storm.proofs.Names.{sym, ◌∙◌, subst, ⊎_elim, arith, length-map, map-append, SenderView, IsRefused}
+use Rattle.storm.proofs.Names.{PortView, Accepts, Refuses, asked_by, AreAtMost}
 use Rattle.subvl_queue.specs.declared.refused.Why.{Why}
-use Rattle.subvl_queue.specs.declared.refused.Why.TheVariants as Queue
 use Rattle.afdx_tx.specs.declared.fault.Refusal.{Refusal}
 use Rattle.afdx_tx.specs.declared.fault.Refusal.TheVariants.{Empty, TooLong, Closed, Exhausted, Full}
-use Rattle.afdx_tx.specs.Ports.{PortView, Accepts, Refuses}
-use Rattle.storm.specs.Workers.{asked_by, AreAtMost}
+use Rattle.subvl_queue.specs.declared.refused.Why.TheVariants as Queue
 
 -- a send that is accepted asks once
 pub asks_accepted : (old new : PortView) (bytes : List ℕ) → Accepts old bytes new → new.sender.asks ≡ old.sender.asks + 1

@@ -1,8 +1,9 @@
-pub mod OnBoth
-pub mod Spent
-pub mod Whole
 pub mod Asks
+mod Names
+pub mod OnBoth
 pub mod SameCells
-pub mod Watched
 pub mod ShownCounts
+pub mod Spent
 pub mod StormLemmas
+pub mod Watched
+pub mod Whole

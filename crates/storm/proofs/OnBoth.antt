@@ -1,14 +1,11 @@
 -- The frames of links on both networks, counted.
-use Rattle.std.proofs.Common.{ℕ, ◌≡◌, ◌+◌, ◌<◌, ◌≤◌, List, cond, length, take, get_or, All, arith, ap, subst, sym, ◌∙◌}
-use Rattle.std.proofs.lemmas.List.{length-map, get_or-map}
+use Rattle.storm.proofs.Names.{ℕ, ◌≡◌, ◌+◌, ◌<◌, ◌≤◌, List, cond, length, take, get_or, All, arith, ap, subst, sym}
+use Rattle.storm.proofs.Names.{◌∙◌, length-map, get_or-map, LinkPlan, Entry, entry_of, entries, AreKnown}
+use Rattle.storm.proofs.Names.{is_on_both, on_both}
 use Rattle.std.proofs.lemmas.List.Filters.{length-filter_more}
-use Rattle.afdx_plan.specs.declared.link_plan.LinkPlan.{LinkPlan}
 use Rattle.afdx_frame.specs.Header.{link_in}
 use Rattle.afdx_frame.specs.declared.net.Net.{Net}
-use Rattle.redundant_mux.specs.Entry.{Entry}
-use Rattle.redundant_mux.specs.Memory.{entry_of, entries}
 use Rattle.redundant_mux.specs.declared.memory.Handed.{Handed}
-use Rattle.afdx_legal.specs.Legal.{AreKnown, is_on_both, on_both}
 use Rattle.afdx_legal.proofs.StreamLemmas.{known_all}
 
 -- known frames have a destination address

@@ -1,10 +1,8 @@
 -- The cells of a board and of a monitor.
-use Rattle.std.proofs.Common.{◌≡◌, ℕ, suc, ◌<◌, List, [], ◌∷◌, length, map, set, get_or, refl, sym, ap, ◌∙◌, arith}
-use Rattle.std.proofs.lemmas.List.{get_or-map, length-map}
-use Rattle.std.proofs.Math.Seq.{map-set_same}
+use Rattle.storm.proofs.Names.{◌≡◌, ℕ, suc, ◌<◌, List, [], ◌∷◌, length, map, set, get_or, refl, sym, ap, ◌∙◌, arith}
+use Rattle.storm.proofs.Names.{get_or-map, length-map, map-set_same, Published, Watched, published, seen, no_cell}
+use Rattle.storm.proofs.Names.{AreNew, cells_of, cells_read}
 use Rattle.atomic_table.specs.Seated.{TableId}
-use Rattle.status_board.specs.Views.{Published, Watched, published, seen, no_cell, AreNew}
-use Rattle.storm.specs.Boards.{cells_of, cells_read}
 
 abbrev written : Published → TableId
 written link = link.cell

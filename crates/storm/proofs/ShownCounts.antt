@@ -1,19 +1,11 @@
 -- What was published of the links of an emitter.
-use Rattle.std.proofs.Common.{◌≡◌, ◌∙◌, ℕ, ◌+◌, ◌<◌, List, [], ◌∷◌, ◌++◌, length, take, map, sym, ap, add-one, arith}
-use Rattle.std.proofs.lemmas.List.{get_or-map, length-map}
-use Rattle.std.proofs.Math.Seq.{take-suc, take-length}
-use Rattle.afdx_plan.specs.Config.{Plan, link_plan_at}
-use Rattle.redundant_mux.specs.Entry.{Entry}
-use Rattle.redundant_mux.specs.Lines.{Lines}
-use Rattle.status_board.specs.declared.counts.Counts.{Counts}
-use Rattle.status_board.specs.History.{zeros, value_of}
-use Rattle.status_board.specs.Views.{Published, Watched, published, last_of, AreNew}
-use Rattle.storm.specs.Boards.{cells_of, IsShown, own_counts, all_counts}
+use Rattle.storm.proofs.Names.{◌≡◌, ◌∙◌, ℕ, ◌+◌, ◌<◌, List, [], ◌∷◌, ◌++◌, length, take, map, sym, ap, add-one}
+use Rattle.storm.proofs.Names.{arith, get_or-map, length-map, take-suc, take-length, Plan, link_plan_at, Entry}
+use Rattle.storm.proofs.Names.{Lines, Counts, zeros, value_of, Published, Watched, published, last_of, AreNew}
+use Rattle.storm.proofs.Names.{cells_of, IsShown, own_counts, all_counts, own_stream, Tx, IsFreshTx}
 use Rattle.storm.proofs.SameCells.{cells_same}
 use Rattle.status_board.proofs.Histories.{last_or-push}
-use Rattle.afdx_legal.specs.Own.{own_stream}
 use Rattle.afdx_legal.specs.Counting.{counts_in}
-use Rattle.afdx_tx.specs.Emitter.{Tx, IsFreshTx}
 use Rattle.afdx_tx.specs.Publishing.{Publishes, counts_at}
 
 -- the counts of links of the same plan, of which the same was handed over

@@ -1,15 +1,11 @@
 -- The ports of an emitter, once each of them sent its messages.
-use Rattle.std.proofs.Common.{◌≡◌, ◌∙◌, ℕ, zero, suc, ◌+◌, ◌*◌, ◌<◌, ◌≤◌, List, [], ◌∷◌, ◌++◌, length, map, get_or, Option, Some, refl, ap, sym, subst, arith}
-use Rattle.std.specs.List.{sum_by}
-use Rattle.std.proofs.lemmas.List.{get_or-map, length-map, length-append}
-use Rattle.std.proofs.lemmas.List.Elements.{Contains-get_or}
+use Rattle.storm.proofs.Names.{◌≡◌, ◌∙◌, ℕ, zero, suc, ◌+◌, ◌*◌, ◌<◌, ◌≤◌, List, [], ◌∷◌, ◌++◌, length, map, get_or}
+use Rattle.storm.proofs.Names.{Option, Some, refl, ap, sym, subst, arith, sum_by, get_or-map, length-map}
+use Rattle.storm.proofs.Names.{length-append, Contains-get_or, Plan, port_plan_at, QueueName, SenderView, Tx}
+use Rattle.storm.proofs.Names.{queues_in, PortView, BelongsTo, AreOpenedWith, AreFreshPorts, HasEveryPlace}
+use Rattle.storm.proofs.Names.{index_of, queue_for, message, messages_to, own_messages, Named, named, sent_all}
+use Rattle.storm.proofs.Names.{asked_by, asked_after, AreAtMost, IsSpent, AreSpent}
 use Rattle.std.proofs.lemmas.List.Sums.{sum_by-cons}
-use Rattle.afdx_plan.specs.Config.{Plan, port_plan_at}
-use Rattle.subvl_queue.specs.Views.{QueueName, SenderView}
-use Rattle.afdx_tx.specs.Emitter.{Tx, queues_in}
-use Rattle.afdx_tx.specs.Ports.{PortView, BelongsTo, AreOpenedWith, AreFreshPorts, HasEveryPlace, index_of, queue_for}
-use Rattle.storm.specs.Messages.{message, messages_to, own_messages}
-use Rattle.storm.specs.Workers.{Named, named, sent_all, asked_by, asked_after, AreAtMost, IsSpent, AreSpent}
 
 -- a port that is the same but for its own messages belongs to the same configuration and queues
 same_port : (config : Plan) (queues : List (List (Option QueueName))) (old new : PortView) → new.place ≡ old.place → new.plan ≡ old.plan

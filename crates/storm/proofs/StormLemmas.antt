@@ -1,13 +1,10 @@
 -- Why a storm over a plan or a text is refused.
-use Rattle.std.proofs.Common.{◌≡◌, List, ℕ, refl}
-use Rattle.afdx_plan.specs.Config.{Plan}
+use Rattle.storm.proofs.Names.{◌≡◌, List, ℕ, refl, Plan, Failure, StormFault, HasShortPort, IsPlanRefusal}
+use Rattle.storm.proofs.Names.{IsStormRefusal, failure_of}
 use Rattle.afdx_config.specs.Faults.{IsPlanOf}
-use Rattle.plan_report.specs.declared.failure.Failure.{Failure}
+use Rattle.storm.specs.declared.fault.StormFault.TheVariants.{Short, Turns, Memory}
 use Rattle.plan_report.specs.declared.failure.Failure.TheVariants as Failures
 use Rattle.script_text.specs.declared.run_fault.RunFault.TheVariants as Ran
-use Rattle.storm.specs.declared.fault.StormFault.{StormFault}
-use Rattle.storm.specs.declared.fault.StormFault.TheVariants.{Short, Turns, Memory}
-use Rattle.storm.specs.Storms.{HasShortPort, IsPlanRefusal, IsStormRefusal, failure_of}
 
 -- what a storm that ended early is reported as
 pub refuses_plan : (plan : Plan) (fault : StormFault) → (fault ≡ Short → HasShortPort plan) → (HasShortPort plan → fault ≡ Short)

@@ -1,11 +1,8 @@
 -- What a watcher does to its monitor.
-use Rattle.std.proofs.Common.{◌≡◌, ℕ, ◌+◌, ◌<◌, ◌≤◌, ◌⊎◌, inl, inr, List, [], set, refl, sym, ap, ◌∙◌, subst, arith}
-use Rattle.std.proofs.lemmas.List.{get_or-set_other}
-use Rattle.std.proofs.Math.Nat.{eq-or-lt_of_le}
-use Rattle.status_board.specs.declared.counts.Counts.{Counts}
-use Rattle.status_board.specs.Views.{Watched, seen, IsReading}
+use Rattle.storm.proofs.Names.{◌≡◌, ℕ, ◌+◌, ◌<◌, ◌≤◌, ◌⊎◌, inl, inr, List, [], set, refl, sym, ap, ◌∙◌, subst}
+use Rattle.storm.proofs.Names.{arith, get_or-set_other, eq-or-lt_of_le, Counts, Watched, seen, IsReading, ReadsOnly}
+use Rattle.storm.proofs.Names.{ReadsFirst}
 use Rattle.storm.proofs.SameCells.{cells_kept, no_seen}
-use Rattle.storm.specs.Boards.{ReadsOnly, ReadsFirst}
 
 pub only_none : (monitor : List Watched) (link : ℕ) → ReadsOnly monitor monitor link 0
 only_none monitor link = record { cells = refl; loads = omega arith; others = λ k _. refl }

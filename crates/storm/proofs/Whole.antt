@@ -1,19 +1,9 @@
 -- What was handed over, once the ports of a storm are gathered and all is sent.
-use Rattle.std.proofs.Common.{◌≡◌, ◌∙◌, ℕ, ◌<◌, List, length, All, ap, sym, subst}
-use Rattle.std.proofs.lemmas.List.Elements.{All-contains}
-use Rattle.afdx_plan.specs.Config.{Plan}
-use Rattle.redundant_mux.specs.Entry.{Entry}
-use Rattle.redundant_mux.specs.Lines.{log}
-use Rattle.afdx_legal.specs.Legal.{Accepted, IsLegal}
-use Rattle.afdx_legal.specs.Allowed.{AreAllowed, AreOwn}
+use Rattle.storm.proofs.Names.{◌≡◌, ◌∙◌, ℕ, ◌<◌, List, length, All, ap, sym, subst, All-contains, Plan, Entry, log}
+use Rattle.storm.proofs.Names.{Accepted, IsLegal, AreAllowed, AreOwn, AreOwnStreams, accepted_in, Tx, PortView}
+use Rattle.storm.proofs.Names.{own_messages, AreSpent}
 use Rattle.afdx_legal.specs.Done.{IsAllDone, IsHandedWhole}
-use Rattle.afdx_legal.specs.Own.{AreOwnStreams}
-use Rattle.afdx_tx.specs.Drain.{accepted_in}
-use Rattle.afdx_tx.specs.Emitter.{Tx}
 use Rattle.afdx_tx.specs.Gathering.{IsGatheredTx}
-use Rattle.afdx_tx.specs.Ports.{PortView}
-use Rattle.storm.specs.Messages.{own_messages}
-use Rattle.storm.specs.Workers.{AreSpent}
 
 -- what was accepted of each port is its own list
 gathered_own : (tx gathered : Tx) (n turns : ℕ) (ports : List PortView) → AreSpent tx n turns ports → IsGatheredTx tx ports gathered

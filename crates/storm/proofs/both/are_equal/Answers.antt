@@ -1,7 +1,5 @@
-use Rattle.std.proofs.Common.{◌≤◌, length, All, arith, sym, subst}
-use Rattle.std.proofs.lemmas.Grind.{common_steps}
+use Rattle.storm.proofs.Names.{◌≤◌, length, All, arith, sym, subst, common_steps, Entry}
 use Rattle.afdx_frame.specs.declared.net.Net.TheVariants.{A, B}
-use Rattle.redundant_mux.specs.Entry.{Entry}
 use Rattle.storm.proofs.OnBoth.{have_links}
 use Rattle.storm.proofs.both.are_equal.Goals as goal
 

@@ -1,5 +1,4 @@
-use Rattle.std.proofs.Common.{length, arith, sym, subst, ◌≤◌, List, ℕ}
-use Rattle.std.proofs.lemmas.Grind.{common_steps}
+use Rattle.storm.proofs.Names.{length, arith, sym, subst, ◌≤◌, List, ℕ, common_steps}
 use Rattle.storm.proofs.OnBoth.{has_link, count_more}
 use Rattle.storm.proofs.both.count_on_both.Goals as goal
 

@@ -1,6 +1,4 @@
-use Rattle.std.proofs.Common.{◌≡◌, ◌≤◌, length, take}
-use Rattle.redundant_mux.specs.Memory.{entries}
-use Rattle.afdx_legal.specs.Legal.{on_both}
+use Rattle.storm.proofs.Names.{◌≡◌, ◌≤◌, length, take, entries, on_both}
 use Rattle.storm.proofs.both.count_on_both.Given as goal
 
 abbrev pub invariant-loop-one : goal.invariant-loop-one

@@ -1,8 +1,7 @@
-use Rattle.std.proofs.Common.{◌&&◌, nat_eq, rules, tests}
+use Rattle.storm.proofs.Names.{◌&&◌, nat_eq, rules, tests, LinkPlan}
 use Rattle.std.proofs.lemmas.Iterator.{YieldsList-from_slice}
 use Rattle.std.proofs.lemmas.Iterator.Search.{any_from_yields_List}
 use Rattle.afdx_plan.specs.Networks.{is_both}
-use Rattle.afdx_plan.specs.declared.link_plan.LinkPlan.{LinkPlan}
 use Rattle.storm.proofs.both.is_on_both.Goals as goal
 
 pub returns : goal.returns

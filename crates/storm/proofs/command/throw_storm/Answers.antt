@@ -1,10 +1,5 @@
-use Rattle.std.proofs.Common.{List, ◌≡◌, ◌∙◌, subst, sym}
-use Rattle.std.specs.Io.KnownBytes.{Appends}
-use Rattle.afdx_plan.specs.declared.link_plan.LinkPlan.{LinkPlan}
-use Rattle.plan_report.specs.declared.failure.Failure.{Failure}
-use Rattle.storm.specs.declared.fault.StormFault.{StormFault}
-use Rattle.storm.specs.Storms.{IsPlanRefusal}
-use Rattle.storm.specs.Totals.{totals_of}
+use Rattle.storm.proofs.Names.{List, ◌≡◌, ◌∙◌, subst, sym, Appends, LinkPlan, Failure, StormFault, IsPlanRefusal}
+use Rattle.storm.proofs.Names.{totals_of}
 use Rattle.storm.proofs.StormLemmas.{refuses_plan}
 use Rattle.storm.proofs.command.throw_storm.Goals as goal
 

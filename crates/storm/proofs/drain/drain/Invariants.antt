@@ -1,6 +1,4 @@
-use Rattle.std.proofs.Common.{◌≡◌, ◌+◌, ◌*◌, ◌≤◌}
-use Rattle.storm.specs.Boards.{cells_of, IsShown}
-use Rattle.afdx_tx.specs.Drain.{accepted_in}
+use Rattle.storm.proofs.Names.{◌≡◌, ◌+◌, ◌*◌, ◌≤◌, cells_of, IsShown, accepted_in}
 use Rattle.storm.proofs.drain.drain.Given as goal
 
 abbrev pub invariant-loop-turn : goal.invariant-loop-turn

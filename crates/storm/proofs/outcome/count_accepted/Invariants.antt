@@ -1,6 +1,4 @@
-use Rattle.std.proofs.Common.{◌≡◌, length, take}
-use Rattle.std.specs.List.{sum_by}
-use Rattle.afdx_tx.specs.Ports.{PortView}
+use Rattle.storm.proofs.Names.{◌≡◌, length, take, sum_by, PortView}
 use Rattle.storm.proofs.outcome.count_accepted.Given as goal
 
 abbrev pub invariant-loop-port : goal.invariant-loop-port

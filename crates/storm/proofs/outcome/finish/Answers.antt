@@ -1,12 +1,5 @@
-use Rattle.std.proofs.Common.{◌≡◌, ◌∙◌, ◌*◌, ◌<◌, ◌≤◌, ◌^◌, List, length, ap, sym, subst, arith}
-use Rattle.std.proofs.Math.Nat.{mul-le-mul_right}
-use Rattle.std.specs.List.{sum_by}
-use Rattle.afdx_plan.specs.Config.{IsPlan}
-use Rattle.afdx_legal.specs.Legal.{IsLegal}
-use Rattle.afdx_legal.specs.Allowed.{AreAllowed}
-use Rattle.afdx_tx.specs.Drain.{accepted_in}
-use Rattle.afdx_tx.specs.Emitter.{Tx}
-use Rattle.afdx_tx.specs.Ports.{PortView}
+use Rattle.storm.proofs.Names.{◌≡◌, ◌∙◌, ◌*◌, ◌<◌, ◌≤◌, ◌^◌, List, length, ap, sym, subst, arith, mul-le-mul_right}
+use Rattle.storm.proofs.Names.{sum_by, IsPlan, IsLegal, AreAllowed, accepted_in, Tx, PortView}
 use Rattle.storm.proofs.ShownCounts.{counts_kept}
 use Rattle.storm.proofs.Spent.{every_place, sum_spent}
 use Rattle.storm.proofs.Whole.{handed_whole}

@@ -1,5 +1,4 @@
-use Rattle.std.proofs.Common.{length, ap, sym, ◌∙◌}
-use Rattle.afdx_plan.specs.Config.{Plan}
+use Rattle.storm.proofs.Names.{length, ap, sym, ◌∙◌, Plan}
 use Rattle.storm.proofs.SameCells.{cells_new}
 use Rattle.storm.proofs.ShownCounts.{shown_fresh}
 use Rattle.storm.proofs.outcome.open.Goals as goal

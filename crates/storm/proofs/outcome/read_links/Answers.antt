@@ -1,7 +1,4 @@
-use Rattle.std.proofs.Common.{◌≡◌, ◌<◌, length, sym, ap, ◌∙◌, arith}
-use Rattle.status_board.specs.Views.{last_of}
-use Rattle.afdx_tx.specs.Emitter.{Tx}
-use Rattle.storm.specs.Boards.{cells_of}
+use Rattle.storm.proofs.Names.{◌≡◌, ◌<◌, length, sym, ap, ◌∙◌, arith, last_of, Tx, cells_of}
 use Rattle.storm.proofs.SameCells.{cell_at, cells_kept}
 use Rattle.storm.proofs.ShownCounts.{read_more, read_all}
 use Rattle.storm.proofs.outcome.read_links.Goals as goal

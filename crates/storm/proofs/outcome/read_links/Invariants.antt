@@ -1,5 +1,4 @@
-use Rattle.std.proofs.Common.{◌≡◌, take}
-use Rattle.storm.specs.Boards.{cells_read, all_counts}
+use Rattle.storm.proofs.Names.{◌≡◌, take, cells_read, all_counts}
 use Rattle.storm.proofs.outcome.read_links.Given as goal
 
 abbrev pub invariant-loop-link : goal.invariant-loop-link

@@ -1,6 +1,4 @@
-use Rattle.std.proofs.Common.{◌≡◌, ◌*◌, ◌≤◌}
-use Rattle.storm.specs.Boards.{cells_of, IsShown}
-use Rattle.afdx_tx.specs.Emitter.{queues_in}
+use Rattle.storm.proofs.Names.{◌≡◌, ◌*◌, ◌≤◌, cells_of, IsShown, queues_in}
 use Rattle.storm.proofs.polling.poll_while.Given as goal
 
 abbrev pub invariant-loop-poll : goal.invariant-loop-poll

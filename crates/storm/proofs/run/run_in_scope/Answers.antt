@@ -1,6 +1,4 @@
-use Rattle.std.proofs.Common.{rules, ◌≡◌, ◌∙◌, map, sym, subst}
-use Rattle.afdx_tx.specs.Emitter.{Tx}
-use Rattle.storm.specs.Workers.{named, sent_all, asked_by, AreAtMost, AreSpent}
+use Rattle.storm.proofs.Names.{rules, ◌≡◌, ◌∙◌, map, sym, subst, Tx, named, sent_all, asked_by, AreAtMost, AreSpent}
 use Rattle.storm.proofs.Spent.{spent}
 use Rattle.storm.proofs.run.run_in_scope.Goals as goal
 

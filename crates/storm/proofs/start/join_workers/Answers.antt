@@ -1,5 +1,4 @@
-use Rattle.std.proofs.Common.{arith}
-use Rattle.std.proofs.lemmas.Grind.{common_steps}
+use Rattle.storm.proofs.Names.{arith, common_steps}
 use Rattle.storm.proofs.Asks.{asks_push}
 use Rattle.storm.proofs.start.join_workers.Goals as goal
 

@@ -1,5 +1,4 @@
-use Rattle.std.proofs.Common.{◌≡◌, map, length, None}
-use Rattle.storm.specs.Workers.{named, sent_all, asked_by, asked_after, AreAtMost}
+use Rattle.storm.proofs.Names.{◌≡◌, map, length, None, named, sent_all, asked_by, asked_after, AreAtMost}
 use Rattle.storm.proofs.start.join_workers.Given as goal
 
 abbrev pub invariant-loop-worker : goal.invariant-loop-worker

@@ -1,5 +1,4 @@
-use Rattle.std.proofs.Common.{◌≡◌, map}
-use Rattle.storm.specs.Workers.{sent_all, asked_after}
+use Rattle.storm.proofs.Names.{◌≡◌, map, sent_all, asked_after}
 use Rattle.storm.proofs.start.start_workers.Given as goal
 
 abbrev pub invariant-loop-port : goal.invariant-loop-port

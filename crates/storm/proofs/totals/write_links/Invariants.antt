@@ -1,5 +1,4 @@
-use Rattle.std.specs.Io.KnownBytes.{Appends}
-use Rattle.storm.specs.Totals.{link_lines_to}
+use Rattle.storm.proofs.Names.{Appends, link_lines_to}
 use Rattle.storm.proofs.totals.write_links.Given as goal
 
 abbrev pub invariant-loop-place : goal.invariant-loop-place

@@ -1,6 +1,4 @@
-use Rattle.std.proofs.Common.{◌≡◌, ℕ, arith, rules, refl, subst}
-use Rattle.status_board.specs.Views.{links_of}
-use Rattle.storm.specs.Boards.{ReadsFirst}
+use Rattle.storm.proofs.Names.{◌≡◌, ℕ, arith, rules, refl, subst, links_of, ReadsFirst}
 use Rattle.storm.proofs.Watched.{first_none, first_more}
 use Rattle.storm.proofs.watcher.watch.Goals as goal
 

@@ -1,6 +1,4 @@
-use Rattle.std.proofs.Common.{◌≡◌, false}
-use Rattle.status_board.specs.Views.{links_of}
-use Rattle.storm.specs.Boards.{ReadsFirst}
+use Rattle.storm.proofs.Names.{◌≡◌, false, links_of, ReadsFirst}
 use Rattle.storm.proofs.watcher.watch.Given as goal
 
 abbrev pub invariant-loop-link : goal.invariant-loop-link

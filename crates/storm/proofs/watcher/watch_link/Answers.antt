@@ -1,6 +1,4 @@
-use Rattle.std.proofs.Common.{◌≡◌, ℕ, arith, rules, refl, subst}
-use Rattle.std.proofs.lemmas.Grind.{common_steps}
-use Rattle.storm.specs.Boards.{ReadsOnly}
+use Rattle.storm.proofs.Names.{◌≡◌, ℕ, arith, rules, refl, subst, common_steps, ReadsOnly}
 use Rattle.storm.proofs.Watched.{only_none, only_more}
 use Rattle.storm.proofs.watcher.watch_link.Goals as goal
 

@@ -1,7 +1,4 @@
-use Rattle.std.proofs.Common.{◌≡◌, false}
-use Rattle.status_board.specs.History.{NoFieldFalls, value_of}
-use Rattle.status_board.specs.Views.{links_of, seen}
-use Rattle.storm.specs.Boards.{ReadsOnly}
+use Rattle.storm.proofs.Names.{◌≡◌, false, NoFieldFalls, value_of, links_of, seen, ReadsOnly}
 use Rattle.storm.proofs.watcher.watch_link.Given as goal
 
 abbrev pub invariant-loop : goal.invariant-loop

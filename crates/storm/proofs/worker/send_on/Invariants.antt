@@ -1,5 +1,4 @@
-use Rattle.std.proofs.Common.{◌≡◌, ◌≤◌}
-use Rattle.storm.specs.Workers.{named, asked_after}
+use Rattle.storm.proofs.Names.{◌≡◌, ◌≤◌, named, asked_after}
 use Rattle.storm.proofs.worker.send_on.Given as goal
 
 abbrev pub invariant-loop-turns : goal.invariant-loop-turns

@@ -1,5 +1,4 @@
-use Rattle.std.proofs.Common.{◌≡◌, ◌≤◌}
-use Rattle.storm.specs.Workers.{named, sent_all, asked_after}
+use Rattle.storm.proofs.Names.{◌≡◌, ◌≤◌, named, sent_all, asked_after}
 use Rattle.storm.proofs.worker.work.Given as goal
 
 abbrev pub invariant-loop-sent : goal.invariant-loop-sent

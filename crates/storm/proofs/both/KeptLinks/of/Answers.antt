@@ -1,5 +1,4 @@
-use Rattle.std.proofs.Common.{arith}
-use Rattle.std.proofs.lemmas.Grind.{common_steps}
+use Rattle.storm.proofs.Names.{arith, common_steps}
 use Rattle.storm.proofs.both.KeptLinks.of.Goals as goal
 
 pub returns : goal.returns
