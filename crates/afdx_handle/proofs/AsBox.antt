@@ -1,14 +1,9 @@
 -- The seal and its parts own what a box at the same types owns.
 --     held_of     what an `Option` holds, where it holds something
-use mir.Syntax.{impl, tnil, dnil}
-use mathlib.Core.List.{[]}
-use denote.Signature.{Slot, plain}
-use Rattle.std.specs.Prelude.{◌≡◌, Option, Some, None, IsSome}
-use Rattle.std.proofs.lemmas.Bool.{false≢true}
-use mathlib.Core.Path.{refl}
-use Rattle.std_alloc.proofs.BoxSteps.Form.{Bx}
-use Rattle.std_heap.specs.contracts.Global as Heap
+use Rattle.afdx_handle.proofs.Names.{impl, tnil, dnil, [], Slot, plain, Option, None, IsSome, false≢true, refl, Bx}
+use Rattle.std.specs.Prelude.{◌≡◌, Some}
 use Rattle.std_heap.specs.contracts.GlobalAllocator.TheImpl.{ghosts, dict}
+use Rattle.std_heap.specs.contracts.Global as Heap
 use Rattle.std_heap.proofs.Global.TheLaws as heap
 use Rattle.afdx_handle.specs.contracts.home.Home as Home
 use Rattle.afdx_handle.proofs.home.Home.TheLaws as home

@@ -1,14 +1,11 @@
 -- The ports that are here stay those of their emitter.
-use Rattle.std.proofs.Common.{ℕ, ◌≡◌, List, [], ◌∷◌, ◌++◌, length, refl, sym, subst, Some, true, false}
-use Rattle.std.proofs.lemmas.Bool.{eqb-true}
-use Rattle.std.proofs.lemmas.List.Elements.{All-push, All-head}
+use Rattle.afdx_handle.proofs.Names.{ℕ, ◌≡◌, length, sym, subst, Some, true, false, eqb-true, All-push, All-head}
+use Rattle.afdx_handle.proofs.Names.{All, IsPermutation, get_or, swap_remove, Tx, PortView, IsPortOfTx, LacksPlace}
+use Rattle.afdx_handle.proofs.Names.{IsGatheredTx, EndView, has_id, IsEndSystem, TakesPort}
+use Rattle.std.proofs.Common.{List, [], ◌∷◌, ◌++◌, refl}
 use Rattle.std.proofs.lemmas.List.Quantifiers.{position-Some}
 use Rattle.std.proofs.lemmas.List.Sorted.{All-permutation, IsPermutation-swap_remove}
-use Rattle.std.specs.Prelude.{All, IsPermutation, get_or, position, swap_remove}
-use Rattle.afdx_tx.specs.Emitter.{Tx}
-use Rattle.afdx_tx.specs.Ports.{PortView, IsPortOfTx, LacksPlace}
-use Rattle.afdx_tx.specs.Gathering.{IsGatheredTx}
-use Rattle.afdx_handle.specs.EndSystem.{EndView, has_id, IsEndSystem, TakesPort}
+use Rattle.std.specs.Prelude.{position}
 
 -- none of the ports that are gathered is missing
 pub gathered_whole : (it : EndView) (new : Tx) → IsGatheredTx it.tx it.ports new → LacksPlace (length it.tx.plan.ports) it.ports → ⊥

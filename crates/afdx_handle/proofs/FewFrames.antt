@@ -1,8 +1,10 @@
 -- A poll makes at most as many frames for a network as it reports.
-use Rattle.std.proofs.Common.{ℕ, zero, suc, ◌≡◌, ◌≤◌, ◌+◌, List, [], ◌∷◌, ◌++◌, length, refl, sym, ap, subst, ◌∙◌, arith, inl, inr}
-use Rattle.std.specs.Prelude.{Bool, true, false, not, filter, Option, All}
-use Rattle.std.proofs.lemmas.Bool.{cases_Bool}
-use Rattle.std.proofs.lemmas.List.Elements.{filter-append}
+use Rattle.afdx_handle.proofs.Names.{ℕ, zero, suc, ◌≡◌, ◌≤◌, ◌+◌, length, sym, ap, subst, ◌∙◌, arith, inl, inr, not}
+use Rattle.afdx_handle.proofs.Names.{filter, Option, All, cases_Bool, filter-append, Lines, Endures, Keeps}
+use Rattle.afdx_handle.proofs.Names.{DrainsAt, accepted_in, accepted_view, pace_in, Tx, queues_in, PortView}
+use Rattle.afdx_handle.proofs.Names.{AreOpenedWith, BelongsTo, EndView, end_view, IsEndSystem, Runs, PollsTx}
+use Rattle.std.proofs.Common.{List, [], ◌∷◌, ◌++◌, refl}
+use Rattle.std.specs.Prelude.{Bool, true, false}
 use Rattle.std.proofs.lemmas.List.Filters.{length-filter_both}
 use Rattle.std.proofs.lemmas.List.{length-append, length-map}
 use Rattle.afdx_plan.specs.Config.{Plan, link_plan_at}
@@ -11,7 +13,7 @@ use Rattle.afdx_frame.specs.declared.net.Net.{Net}
 use Rattle.afdx_frame.specs.declared.net.Net.TheVariants.{A, B}
 use Rattle.redundant_mux.specs.Entry.{Entry, entry}
 use Rattle.redundant_mux.specs.Logged.{Logged, entries_of, logged_for, names, side, sent_to}
-use Rattle.redundant_mux.specs.Lines.{Lines, Endures, Keeps, log}
+use Rattle.redundant_mux.specs.Lines.{log}
 use Rattle.vl_link.specs.declared.served.Served.{Served}
 use Rattle.vl_link.specs.declared.served.Served.TheVariants.{Nothing, Released, Lost}
 use Rattle.vl_link.specs.Links.{link_at, pace_of, held_view}
@@ -19,14 +21,9 @@ use Rattle.vl_link.specs.Turn.{TurnView, Turn, AreTurns}
 use Rattle.vl_shaper.specs.Pace.{Pace}
 use Rattle.subvl_queue.specs.Views.{QueueName}
 use Rattle.afdx_legal.specs.Streams.{link_stream}
-use Rattle.afdx_tx.specs.Drain.{DrainsAt, accepted_in, accepted_view, pace_in}
-use Rattle.afdx_tx.specs.Emitter.{Tx, queues_in}
-use Rattle.afdx_tx.specs.Ports.{PortView, AreOpenedWith, BelongsTo}
 use Rattle.afdx_tx.specs.Report.{release_of}
 use Rattle.afdx_tx.specs.Run.{IsTurnAt}
 use Rattle.afdx_tx.specs.declared.report.Report.{Report}
-use Rattle.afdx_handle.specs.EndSystem.{EndView, end_view, IsEndSystem}
-use Rattle.afdx_handle.specs.Polling.{Runs, PollsTx}
 
 -- how many of these a network gets
 many_for : Net → List Logged → ℕ

@@ -1,3 +1,4 @@
 pub mod AsBox
 pub mod EndPorts
 pub mod FewFrames
+mod Names

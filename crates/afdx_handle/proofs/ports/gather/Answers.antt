@@ -1,9 +1,6 @@
-use Rattle.std.proofs.Common.{◌≡◌, length, refl, sym, ap, subst, ◌∙◌, arith, vec_capacity}
-use Rattle.afdx_tx.specs.Gathering.{IsGatheredTx}
-use Rattle.afdx_tx.specs.Ports.{LacksPlace}
-use Rattle.afdx_handle.specs.declared.stage.Stage.{Stage}
-use Rattle.afdx_handle.specs.Polling.{is_gathered, tx_of}
-use Rattle.afdx_handle.specs.EndSystem.{EndView, end_view}
+use Rattle.afdx_handle.proofs.Names.{◌≡◌, length, sym, ap, subst, ◌∙◌, arith, vec_capacity, IsGatheredTx}
+use Rattle.afdx_handle.proofs.Names.{LacksPlace, Stage, is_gathered, tx_of, EndView, end_view}
+use Rattle.std.proofs.Common.{refl}
 use Rattle.afdx_handle.proofs.EndPorts.{gathered_whole}
 use Rattle.afdx_handle.proofs.ports.gather.Goals as goal
 

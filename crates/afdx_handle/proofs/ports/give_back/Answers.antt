@@ -1,7 +1,6 @@
-use Rattle.std.proofs.Common.{◌≡◌, ◌∙◌, List, [], ◌∷◌, ◌++◌, ap, sym, subst, false, vec_capacity}
-use Rattle.afdx_tx.specs.Ports.{PortView, IsPortOfTx}
-use Rattle.afdx_handle.specs.EndSystem.{EndView}
-use Rattle.afdx_handle.specs.contracts.end_system.EndSystem.{the_view}
+use Rattle.afdx_handle.proofs.Names.{◌≡◌, ◌∙◌, ap, sym, subst, false, vec_capacity, PortView, IsPortOfTx, EndView}
+use Rattle.afdx_handle.proofs.Names.{the_view}
+use Rattle.std.proofs.Common.{List, [], ◌∷◌, ◌++◌}
 use Rattle.afdx_handle.proofs.EndPorts.{gives_kept}
 use Rattle.afdx_handle.proofs.ports.give_back.Goals as goal
 

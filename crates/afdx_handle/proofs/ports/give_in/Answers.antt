@@ -1,4 +1,4 @@
-use Rattle.std.proofs.Common.{Some, sym, ap, ◌∙◌}
+use Rattle.afdx_handle.proofs.Names.{Some, sym, ap, ◌∙◌}
 use Rattle.afdx_handle.specs.declared.home.Home.{Home}
 use Rattle.afdx_handle.specs.Held.{end_of, port_of}
 use Rattle.afdx_handle.proofs.ports.give_in.Goals as goal

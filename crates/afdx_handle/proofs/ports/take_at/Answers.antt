@@ -1,6 +1,5 @@
-use Rattle.std.proofs.Common.{ℕ, ◌≡◌, sym, subst, Some, position, vec_capacity, rules}
-use Rattle.afdx_handle.specs.EndSystem.{EndView, has_id, TakesPort}
-use Rattle.afdx_handle.specs.contracts.end_system.EndSystem.{the_view}
+use Rattle.afdx_handle.proofs.Names.{ℕ, ◌≡◌, sym, subst, Some, position, vec_capacity, rules, EndView, has_id}
+use Rattle.afdx_handle.proofs.Names.{TakesPort, the_view}
 use Rattle.afdx_handle.proofs.EndPorts.{taken}
 use Rattle.afdx_handle.proofs.ports.take_at.Goals as goal
 

@@ -1,4 +1,4 @@
-use Rattle.std.proofs.Common.{rules}
+use Rattle.afdx_handle.proofs.Names.{rules}
 use Rattle.afdx_handle.proofs.end_system.EndSystem.close.Goals as goal
 
 -- at half of its limits the search proves this only where it is asked for it

@@ -1,10 +1,6 @@
-use Rattle.std.proofs.Common.{◌≡◌, sym, subst, ◌∙◌, true, false, arith}
-use Rattle.redundant_mux.specs.Lines.{log}
+use Rattle.afdx_handle.proofs.Names.{◌≡◌, sym, subst, ◌∙◌, true, false, arith, log, accepted_in, Stage, tx_of}
+use Rattle.afdx_handle.proofs.Names.{IsAllSent}
 use Rattle.afdx_legal.specs.Done.{IsAllDone}
-use Rattle.afdx_tx.specs.Drain.{accepted_in}
-use Rattle.afdx_handle.specs.declared.stage.Stage.{Stage}
-use Rattle.afdx_handle.specs.Polling.{tx_of}
-use Rattle.afdx_handle.specs.EndSystem.{IsAllSent}
 use Rattle.afdx_handle.proofs.end_system.EndSystem.is_done.Goals as goal
 
 pub returns-else-is_done-clause-done : goal.returns-else-is_done-clause-done

@@ -1,7 +1,5 @@
-use Rattle.std.proofs.Common.{◌≤◌, ◌∙◌, Bool, length, sym, ap, subst, vec_capacity}
-use Rattle.afdx_handle.specs.Polling.{tx_of}
-use Rattle.afdx_handle.specs.EndSystem.{end_view, IsEndSystem}
-use Rattle.afdx_handle.specs.contracts.end_system.EndSystem.{the_view}
+use Rattle.afdx_handle.proofs.Names.{◌≤◌, ◌∙◌, Bool, length, sym, ap, subst, vec_capacity, tx_of, end_view}
+use Rattle.afdx_handle.proofs.Names.{IsEndSystem, the_view}
 use Rattle.afdx_handle.proofs.FewFrames.{poll_keeps}
 use Rattle.afdx_handle.proofs.end_system.EndSystem.poll.Goals as goal
 

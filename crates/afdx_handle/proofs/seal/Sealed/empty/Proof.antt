@@ -1,42 +1,22 @@
 -- `empty` puts null and the allocator's handle together, and owns nothing beside them.
-use mathlib.Core.Path.{refl, sym, subst}
-use mathlib.Core.List.{List, [], ◌∷◌, ◌++◌}
-use lib.Dec.{T, lit<}
-use seplogic.Ra.Ura.{Ura}
-use mir.Syntax.{w64}
-use mir.Val.{Val, vint, vstruct, vcons, vnil, has_ty, WT}
-use base.Logic.{SProp, ent, emp, id⊢}
-use base.Fml.{ftrue, fsep}
-use prog.Memory.{Memory}
-use prog.Routine.{Routine}
-use prog.Wp.{WpFn, Tables}
-use types.Logic.{Logic}
-use contract.Monad.{Fun}
-use contract.Running.{tables, tables_of}
-use sound.WpLaws.{WpFn-mono}
-use types.Kit.{Item, ‵, raw, ◌⊛◌, ◌$◌, ◌∵◌, !, qed, by, move, drop, use1, join, split, fsplit, fjoin, fpack, feq_i, suffices, done}
-use types.Part.{agg}
-use types.Run.{lit, no_more, and_then, returns, enter}
-use types.ByLocal.{alloc_all, pass_all, free_all, look_at, get, sets}
-use denote.Exit.{yes}
-use denote.Param.{layout}
-use denote.RattleType.{Valss}
-use denote.RawPtr.{null_ptr, ptr_val}
-use denote.Signature.{type_at}
-use denote.Steps.{nothing}
+use Rattle.afdx_handle.proofs.Names.{refl, List, [], ◌∷◌, ◌++◌, T, lit<, Ura, w64, Val, vint, vstruct, vcons, vnil}
+use Rattle.afdx_handle.proofs.Names.{has_ty, WT, SProp, ent, emp, id⊢, ftrue, fsep, Memory, Routine, WpFn, Tables}
+use Rattle.afdx_handle.proofs.Names.{Logic, Fun, tables, WpFn-mono, Item, ‵, raw, ◌⊛◌, ◌$◌, ◌∵◌, !, qed, by, move}
+use Rattle.afdx_handle.proofs.Names.{drop, use1, join, split, fsplit, fjoin, fpack, feq_i, suffices, done, agg, lit}
+use Rattle.afdx_handle.proofs.Names.{no_more, and_then, returns, enter, alloc_all, pass_all, free_all, look_at, get}
+use Rattle.afdx_handle.proofs.Names.{sets, yes, layout, Valss, null_ptr, ptr_val, type_at, nothing, triple_of}
+use Rattle.afdx_handle.proofs.Names.{entered, says, Stays, stay_dropped, walk_of, ends_at, Goes-dropped, walk_Meets}
+use Rattle.afdx_handle.proofs.Names.{α, Fits, handle_tells, None}
+use mathlib.Core.Path.{sym, subst}
+use contract.Running.{tables_of}
 use denote.Struct.Struct.{within}
 use denote.Struct.Owning.{fields, shape, to}
-use denote.Triple.Spec.{triple_of}
-use denote.Triple.Table.{entered}
-use denote.Triple.Walked.{says, Stays, stay_dropped, walk_of, ends_at, Goes-dropped, walk_Meets}
-use Rattle.core.proofs.alloc.Calls.{α, Fits, handle_tells}
-use Rattle.std.specs.Prelude.{None}
 use Rattle.std_alloc.proofs.ResultValues.{and_tt}
-use Rattle.std_heap.specs.contracts.Global as Heap
 use Rattle.afdx_handle.proofs.AsBox.{E, FromGlobal as From}
 use Rattle.afdx_handle.specs.contracts.seal.Sealed.{the_type, the_row}
-use Rattle.afdx_handle.specs.contracts.seal.Sealed.empty as F
 use Rattle.afdx_handle.specs.contracts.seal.Sealed.empty.Key.{name as #self}
+use Rattle.std_heap.specs.contracts.Global as Heap
+use Rattle.afdx_handle.specs.contracts.seal.Sealed.empty as F
 use Rattle.afdx_handle.proofs.seal.Sealed.empty.Statement as stated
 use Rattle.afdx_handle.proofs.seal.Sealed.empty.Code as code
 

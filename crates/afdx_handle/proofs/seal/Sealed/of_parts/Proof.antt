@@ -1,33 +1,17 @@
 -- `of_parts` moves two fields, and what they own goes with them.
-use mathlib.Core.Path.{refl, sym, subst}
-use mathlib.Core.List.{List, [], ◌∷◌, ◌++◌}
-use seplogic.Ra.Ura.{Ura}
-use mir.Val.{Val}
-use base.Logic.{SProp, ent, emp, id⊢}
-use base.Fml.{ftrue, fsep}
-use prog.Memory.{Memory}
-use prog.Routine.{Routine}
-use prog.Wp.{WpFn, Tables}
-use types.Logic.{Logic}
-use contract.Monad.{Fun}
-use contract.Running.{tables, tables_of}
-use sound.WpLaws.{WpFn-mono}
-use types.Kit.{Item, ‵, raw, ◌⊛◌, ◌$◌, ◌∵◌, !, qed, by, move, drop, use1, join, split, fsplit, fjoin, suffices, done}
-use types.Part.{whole, sub, agg}
-use types.Run.{stop, fld, no_more, and_then, of_opd, returns, enter}
-use types.ByLocal.{alloc_all, pass_all, free_all, look_at, get, get_in, sets}
-use denote.Exit.{yes}
-use denote.Signature.{type_at}
-use denote.Steps.{nothing}
-use denote.Triple.Spec.{triple_of}
-use denote.Triple.Table.{entered}
-use denote.Triple.Walked.{says, Stays, stay_dropped, walk_of, ends_at, Goes-dropped, walk_Meets}
+use Rattle.afdx_handle.proofs.Names.{refl, List, [], ◌∷◌, ◌++◌, Ura, Val, SProp, ent, emp, id⊢, ftrue, fsep, Memory}
+use Rattle.afdx_handle.proofs.Names.{Routine, WpFn, Tables, Logic, Fun, tables, WpFn-mono, Item, ‵, raw, ◌⊛◌, ◌$◌}
+use Rattle.afdx_handle.proofs.Names.{◌∵◌, !, qed, by, move, drop, use1, join, split, fsplit, fjoin, suffices, done}
+use Rattle.afdx_handle.proofs.Names.{whole, sub, agg, stop, fld, no_more, and_then, of_opd, returns, enter}
+use Rattle.afdx_handle.proofs.Names.{alloc_all, pass_all, free_all, look_at, get, get_in, sets, yes, type_at}
+use Rattle.afdx_handle.proofs.Names.{nothing, triple_of, entered, says, Stays, stay_dropped, walk_of, ends_at}
+use Rattle.afdx_handle.proofs.Names.{Goes-dropped, walk_Meets, D, B, word, box_typed, box_out, box_in}
+use mathlib.Core.Path.{sym, subst}
+use contract.Running.{tables_of}
 use Rattle.std.specs.Prelude.{Some}
-use Rattle.std_alloc.proofs.BoxSteps.Form.{D, B, word, box_typed}
-use Rattle.std_alloc.proofs.BoxSteps.Steps.{box_out, box_in}
 use Rattle.afdx_handle.proofs.AsBox.{E, FromParts as From}
-use Rattle.afdx_handle.specs.contracts.seal.Sealed.of_parts as F
 use Rattle.afdx_handle.specs.contracts.seal.Sealed.of_parts.Key.{name as #self}
+use Rattle.afdx_handle.specs.contracts.seal.Sealed.of_parts as F
 use Rattle.afdx_handle.proofs.seal.Sealed.of_parts.Statement as stated
 use Rattle.afdx_handle.proofs.seal.Sealed.of_parts.Code as code
 

@@ -1,6 +1,4 @@
-use Rattle.std.proofs.Common.{sym, subst, true, false}
-use Rattle.afdx_handle.specs.declared.stage.Stage.{Stage}
-use Rattle.afdx_handle.specs.Polling.{is_gathered, tx_of, PollsTx}
+use Rattle.afdx_handle.proofs.Names.{sym, subst, true, false, Stage, is_gathered, tx_of, PollsTx}
 use Rattle.afdx_handle.proofs.stage.Stage.poll.Goals as goal
 
 pub returns-in_ok-poll-in-Sending-clause-polled : goal.returns-in_ok-poll-in-Sending-clause-polled
