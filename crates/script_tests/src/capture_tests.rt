@@ -1,5 +1,4 @@
 //! Tests of captures.
-use crate::helpers::*;
 use capture::write_capture;
 use redundant_mux::Network;
 use script_text::FrameLog;
@@ -47,15 +46,6 @@ const BEHIND_A: [u8; 4] = [0x5c, 0x00, 0x00, 0x00];
 
 const BEHIND_B: [u8; 7] = [0x00, 0x00, 0x00, 0x60, 0x00, 0x00, 0x00];
 
-// Texts, one behind the other.
-fn joined(alloc: Global, parts: &[&[u8]]) -> Result<Vec<u8>, AllocError> {
-    let mut bytes = Vec::new(alloc);
-    for part in parts {
-        bytes.extend_from_slice(part)?;
-    }
-    Ok(bytes)
-}
-
 #[test]
 fn the_earlier_frame_comes_first(rt: HostRuntime) -> Result<(), Fail> {
     let alloc = rt.alloc();
@@ -68,7 +58,7 @@ fn the_earlier_frame_comes_first(rt: HostRuntime) -> Result<(), Fail> {
     let parts: [&[u8]; 7] = [
         &HEADER, &FRONT_B, &ON_B, &BEHIND_B, &FRONT_A, &ON_A, &BEHIND_A,
     ];
-    let wanted = joined(alloc, &parts)?;
+    let wanted = parts.concat(alloc)?;
     assert_eq!(rt; bytes.as_slice(), wanted.as_slice());
     Ok(())
 }

@@ -1,13 +1,10 @@
 //! Tests of scripts that close sub-VLs.
 use crate::helpers::*;
 use crate::plan_tests::SENT_IN_TURN;
-use crate::plans::{DEMO, IN_TURN, changed};
 use tx_script::LineFault;
 
 // The message 02, a gap behind the first one.
-fn second() -> Small {
-    one_byte(1_000, 4, 0xcdea, 2, 1)
-}
+const SECOND: OneByte = (1_000, 4, 0xcdea, 2, 1);
 
 #[test]
 fn a_closed_sub_vl_sends_what_it_accepted_and_takes_no_more(rt: HostRuntime) {
@@ -19,23 +16,22 @@ fn a_closed_sub_vl_sends_what_it_accepted_and_takes_no_more(rt: HostRuntime) {
     ];
     for script in scripts {
         let told = Ok(sums(2, 2, 2));
-        let sent = [first(), second()];
-        assert_sent(&rt, rt.alloc(), script.as_bytes(), told, notes, &sent);
+        assert_sent(&rt, script.as_bytes(), told, notes, &[FIRST, SECOND]);
     }
 }
 
 // Asserts what a script over the demonstration comes to, whose link has two sub-VLs, and its notes. It sends
 // one message.
-fn assert_noted(rt: &impl Abort, alloc: Global, script: &str, refused: u64, notes: &str) {
-    let plan = changed(rt, alloc, DEMO, &[("sub_vls = 1", "sub_vls = 2")]);
-    let wanted = expected(alloc, notes, &[first()]).expect(rt, "memory");
-    assert_run_over(rt, alloc, &plan, script, sums(1, refused, 1), &wanted);
+fn assert_noted(rt: &impl Host, script: &str, refused: u64, notes: &str) {
+    let plan = changed(rt, DEMO, &[("sub_vls = 1", "sub_vls = 2")]);
+    let wanted = expected(rt, notes, &[FIRST]);
+    assert_run_over(rt, &plan, script, sums(1, refused, 1), &wanted);
 }
 
 #[test]
 fn a_sub_vl_that_no_port_sends_on_closes_with_0(rt: HostRuntime) {
     let script = "close 1 1\nsend 10 01\nat 0\n";
-    assert_noted(&rt, rt.alloc(), script, 0, "line 1: closed 0\n");
+    assert_noted(&rt, script, 0, "line 1: closed 0\n");
 }
 
 #[test]
@@ -43,7 +39,7 @@ fn a_sub_vl_that_is_not_there_is_not_closed(rt: HostRuntime) {
     let notes = "line 1: refused NoSub\nline 2: refused NoSub\nline 3: refused NoSub\n\
                  line 4: refused NoSub\n";
     let script = "close 0 0\nclose 2 0\nclose 1 2\nclose 65535 255\nsend 10 01\nat 0\n";
-    assert_noted(&rt, rt.alloc(), script, 4, notes);
+    assert_noted(&rt, script, 4, notes);
 }
 
 #[test]
@@ -51,40 +47,28 @@ fn a_total_counts_messages_that_went_out_too(rt: HostRuntime) {
     let notes = "line 4: closed 2\nline 6: closed 2\n";
     let script = b"send 10 01\nat 0\nsend 10 02\nclose 1 0\nat 1000\nclose 1 0\nat 2000\n";
     let told = Ok(sums(2, 0, 2));
-    let sent = [first(), second()];
-    assert_sent(&rt, rt.alloc(), script.as_slice(), told, notes, &sent);
+    assert_sent(&rt, script.as_slice(), told, notes, &[FIRST, SECOND]);
 }
 
 // A message of three pieces, of which one goes out before its sub-VL is closed. The other sub-VL is
 // open until it is closed too.
-fn script_of_two_closes(alloc: Global) -> Result<String, AllocError> {
-    let message = repeated(alloc, "aa", 60)?;
-    let behind = "\nsend 21 01\nat 0\nclose 1 0\nsend 21 02\nsend 20 03\nclose 1 1\nsend 21 04\n\
-                  at 1000\nat 2000\nat 3000\nat 4000\nat 5000\n";
-    joined(alloc, &["send 20 ", &message, behind])
-}
-
-// What is written of it.
-fn text_of_two_closes(alloc: Global) -> Result<String, AllocError> {
-    let frames = frame_lines(alloc, &SENT_IN_TURN)?;
-    let first = "line 4: closed 1\nline 6: refused Closed\n";
-    let second = "line 7: closed 2\nline 8: refused Closed\n";
-    joined(alloc, &[first, second, &frames])
-}
-
 #[test]
 fn a_message_that_is_being_sent_goes_out_whole_from_a_closed_sub_vl(rt: HostRuntime) {
-    let script = script_of_two_closes(rt.alloc()).expect(&rt, "memory");
-    let wanted = text_of_two_closes(rt.alloc()).expect(&rt, "memory");
-    assert_run_over(&rt, rt.alloc(), IN_TURN, &script, sums(3, 2, 5), &wanted);
+    let rest = "\nsend 21 01\nat 0\nclose 1 0\nsend 21 02\nsend 20 03\nclose 1 1\nsend 21 04\n\
+                at 1000\nat 2000\nat 3000\nat 4000\nat 5000\n";
+    let script = joined(&rt, &["send 20 ", &repeated(&rt, "aa", 60), rest]);
+    let notes =
+        "line 4: closed 1\nline 6: refused Closed\nline 7: closed 2\nline 8: refused Closed\n";
+    let wanted = joined(&rt, &[notes, &frame_lines(&rt, &SENT_IN_TURN)]);
+    assert_run_over(&rt, IN_TURN, &script, sums(3, 2, 5), &wanted);
 }
 
 #[test]
 fn totals_so_far_are_written_after_a_fault(rt: HostRuntime) {
     let told = Err(at_line(4, LineFault::Extra));
-    let wanted = b"line 2: closed 1\nline 3: refused Closed\n";
+    let wanted = "line 2: closed 1\nline 3: refused Closed\n";
     let script = b"send 10 01\nclose 1 0\nsend 10 02\nclose 1 0 1\nat 0\n";
-    assert_run(&rt, rt.alloc(), script.as_slice(), told, wanted);
+    assert_run(&rt, script.as_slice(), told, wanted);
 }
 
 // Two links of two sub-VLs, and a port on each sub-VL.
@@ -101,39 +85,28 @@ port = [
 ]
 ";
 
-// A message of one byte that went out on a link: the link, the UDP port that it comes from, and the
-// moment, the identification, the byte and the number of its frame. The header checksum goes down by one
-// for each one that the link and the identification go up.
-fn on_link(vl: u16, source: u16, at: u64, ident: u16, byte: u8, number: u8) -> ((u16, u16), Small) {
-    let checksum = 0xcdefu16.wrapping_sub(vl).wrapping_sub(ident);
-    ((vl, source), one_byte(at, ident, checksum, byte, number))
-}
-
-// The notes, and what both links send on A, and then on B.
-fn text_of_two_links(alloc: Global, notes: &str) -> Result<String, AllocError> {
-    let sent = [
-        on_link(1, 1000, 0, 0, 1, 0),
-        on_link(2, 1000, 0, 0, 4, 0),
-        on_link(1, 1001, 1_000, 1, 3, 1),
-        on_link(2, 1001, 1_000, 1, 5, 1),
-        on_link(1, 1001, 2_000, 5, 8, 2),
-        on_link(2, 1000, 2_000, 4, 7, 2),
-    ];
-    let mut text = notes.to_string(alloc)?;
-    for net in &NETS {
-        for message in &sent {
-            push_small(&mut text, *net, message.0, &message.1)?;
-        }
-    }
-    Ok(text)
-}
+// What both links send: the link, the UDP port that it comes from, and the message. The header checksum
+// goes down by one for each one that the link and the identification go up.
+const ON_LINKS: [(u16, u16, OneByte); 6] = [
+    (1, 1000, FIRST),
+    (2, 1000, (0, 0, 0xcded, 4, 0)),
+    (1, 1001, (1_000, 1, 0xcded, 3, 1)),
+    (2, 1001, (1_000, 1, 0xcdec, 5, 1)),
+    (1, 1001, (2_000, 5, 0xcde9, 8, 2)),
+    (2, 1000, (2_000, 4, 0xcde9, 7, 2)),
+];
 
 #[test]
 fn a_close_closes_no_other_sub_vl_of_its_link_or_of_another(rt: HostRuntime) {
     let notes =
         "line 2: closed 1\nline 3: refused Closed\nline 7: closed 1\nline 8: refused Closed\n";
-    let wanted = text_of_two_links(rt.alloc(), notes).expect(&rt, "memory");
+    let mut wanted = joined(&rt, &[notes]);
+    for net in NETS {
+        for (vl, source, message) in ON_LINKS {
+            push_one(&mut wanted, net, (vl, source), message).expect(&rt, "memory");
+        }
+    }
     let script = "send 10 01\nclose 1 0\nsend 10 02\nsend 11 03\nsend 20 04\nsend 21 05\n\
                   close 2 1\nsend 21 06\nsend 20 07\nsend 11 08\nat 0\nat 1000\nat 2000\n";
-    assert_run_over(&rt, rt.alloc(), TWO_LINKS, script, sums(6, 2, 6), &wanted);
+    assert_run_over(&rt, TWO_LINKS, script, sums(6, 2, 6), &wanted);
 }

@@ -1,7 +1,196 @@
-//! Every short script, against an end system that is told again as bounded lists.
-use crate::end_system::{EndSystem, Line, Sub};
+//! Every short script, against an end system of one link with two sub-VLs, and a port on each, that is told
+//! again as bounded lists. The lists stand on none of the crates that are tested.
 use crate::helpers::*;
-use crate::plans::IN_TURN;
+use std::alloc::Global;
+use std::fmt::Write;
+
+/// How many messages a sub-VL holds at most.
+const CAPACITY: usize = 2;
+
+/// The link's bandwidth allocation gap in microseconds.
+const GAP: u64 = 1_000;
+
+/// One of the two sub-VLs.
+#[derive(Clone, Copy)]
+enum Sub {
+    First,
+    Second,
+}
+
+impl Sub {
+    fn other(self) -> Sub {
+        match self {
+            Sub::First => Sub::Second,
+            Sub::Second => Sub::First,
+        }
+    }
+}
+
+/// The identifications of the messages that a sub-VL accepted and did not yet send, the one that comes
+/// next, how many messages were accepted in all, and whether no more are.
+#[derive(Drop)]
+struct Queue {
+    held: Vec<u16>,
+    next: u16,
+    accepted: u64,
+    closed: bool,
+}
+
+impl Queue {
+    fn new(alloc: Global, next: u16) -> Queue {
+        Queue {
+            held: Vec::new(alloc),
+            next,
+            accepted: 0,
+            closed: false,
+        }
+    }
+
+    /// Accepts a message, or answers the name of its refusal.
+    fn send(&mut self) -> Result<Option<&'static str>, AllocError> {
+        if self.closed {
+            return Ok(Some("Closed"));
+        }
+        if self.held.len() == CAPACITY {
+            return Ok(Some("Full"));
+        }
+        self.held.push(self.next)?;
+        self.next = self.next.wrapping_add(4);
+        self.accepted = self.accepted.saturating_add(1);
+        Ok(None)
+    }
+
+    /// The message that was accepted first of those that it holds.
+    fn take(&mut self) -> Option<u16> {
+        if self.held.is_empty() {
+            return None;
+        }
+        Some(self.held.remove(0))
+    }
+}
+
+/// What a line of a script says: the message of a sub-VL's port, a poll at a moment, or the close of
+/// the first sub-VL.
+#[derive(Clone, Copy)]
+enum Line {
+    Send(Sub),
+    At(u64),
+    CloseFirst,
+}
+
+/// The end system: its sub-VLs, and which of them is asked first; the moment of the last poll; the moments
+/// and identifications of the messages that it sent; the notes on the lines that it obeyed; how many messages
+/// it accepted and lines it refused.
+#[derive(Drop)]
+struct EndSystem {
+    first: Queue,
+    second: Queue,
+    turn: Sub,
+    now: u64,
+    sent: Vec<(u64, u16)>,
+    notes: String,
+    accepted: u64,
+    refused: u64,
+}
+
+impl EndSystem {
+    fn new(alloc: Global) -> EndSystem {
+        EndSystem {
+            first: Queue::new(alloc, 0),
+            second: Queue::new(alloc, 1),
+            turn: Sub::First,
+            now: 0,
+            sent: Vec::new(alloc),
+            notes: String::new(alloc),
+            accepted: 0,
+            refused: 0,
+        }
+    }
+
+    fn queue(&mut self, sub: Sub) -> &mut Queue {
+        match sub {
+            Sub::First => &mut self.first,
+            Sub::Second => &mut self.second,
+        }
+    }
+
+    /// Does what a line says, which has this number.
+    fn obey(&mut self, number: u32, said: Line) -> Written {
+        match said {
+            Line::Send(sub) => {
+                if let Some(name) = self.queue(sub).send()? {
+                    return self.refuse(number, name);
+                }
+                self.accepted = self.accepted.saturating_add(1);
+                Ok(())
+            }
+            Line::At(moment) if moment < self.now => self.refuse(number, "TimeBack"),
+            Line::At(moment) => self.poll(moment),
+            Line::CloseFirst => {
+                self.first.closed = true;
+                writeln!(self.notes, "line {number}: closed {}", self.first.accepted)
+            }
+        }
+    }
+
+    fn refuse(&mut self, number: u32, name: &str) -> Written {
+        self.refused = self.refused.saturating_add(1);
+        writeln!(self.notes, "line {number}: refused {name}")
+    }
+
+    fn poll(&mut self, moment: u64) -> Written {
+        self.now = moment;
+        let is_due = match self.sent.last() {
+            Some((at, _ident)) => moment.saturating_sub(*at) >= GAP,
+            None => true,
+        };
+        if is_due {
+            if let Some(ident) = self.next_message() {
+                self.sent.push((moment, ident))?;
+            }
+        }
+        Ok(())
+    }
+
+    /// A message of the sub-VL whose turn it is, or of the other one where that has none.
+    fn next_message(&mut self) -> Option<u16> {
+        for sub in [self.turn, self.turn.other()] {
+            let taken = self.queue(sub).take();
+            if taken.is_some() {
+                self.turn = sub.other();
+                return taken;
+            }
+        }
+        None
+    }
+
+    /// How many messages were accepted, how many lines refused, and how many frames went out.
+    fn counts(&self) -> (u64, u64, u64) {
+        (self.accepted, self.refused, self.sent.len() as u64)
+    }
+
+    /// The notes, and the lines of the frames of each network.
+    fn transcript(self) -> Result<String, AllocError> {
+        let mut text = self.notes;
+        for net in NETS {
+            for (place, (at, ident)) in self.sent.iter().enumerate() {
+                let sub = ident % 4;
+                let number = u8::try_from(place).unwrap_or(0);
+                let message = (*at, *ident, checksum(*ident), 1 + sub as u8, number);
+                push_one(&mut text, net, (1, 1000 + sub), message)?;
+            }
+        }
+        Ok(text)
+    }
+}
+
+/// The checksum of the IPv4 header of a message of one byte: with it, the sum of the header's words is a
+/// multiple of 65,535.
+fn checksum(ident: u16) -> u16 {
+    let fixed = 0x4500 + 0x001d + 0x0111 + 0x0a00 + 0x0101 + 0xe0e0 + 0x0001;
+    let sum = fixed + u32::from(ident);
+    (0xffff - sum % 0xffff) as u16
+}
 
 // The lines that scripts are made of.
 const LINES: [(&str, Line); 5] = [
@@ -14,9 +203,9 @@ const LINES: [(&str, Line); 5] = [
 
 // Asserts what the script of so many lines comes to, and what is written of it. A number tells the lines
 // by its digits to the base 5, the last one first.
-fn assert_script(rt: &impl Abort, alloc: Global, lines: u32, number: u32) {
-    let mut script = String::new(alloc);
-    let mut end_system = EndSystem::new(alloc);
+fn assert_script(rt: &impl Host, lines: u32, number: u32) {
+    let mut script = String::new(rt.alloc());
+    let mut end_system = EndSystem::new(rt.alloc());
     let mut rest = number;
     for place in 1..=lines {
         let (text, line) = LINES[(rest % 5) as usize];
@@ -26,7 +215,7 @@ fn assert_script(rt: &impl Abort, alloc: Global, lines: u32, number: u32) {
     }
     let (accepted, refused, frames) = end_system.counts();
     let wanted = end_system.transcript().expect(rt, "memory");
-    let (told, text) = transcript_over(alloc, IN_TURN, &script);
+    let (told, text) = transcript_over(rt, IN_TURN, &script);
     assert_eq!(rt; told, Ok(sums(accepted, refused, frames)), "{script}");
     assert_eq!(rt; text.as_slice(), wanted.as_bytes(), "{script}");
 }
@@ -35,7 +224,7 @@ fn assert_script(rt: &impl Abort, alloc: Global, lines: u32, number: u32) {
 fn every_script_of_one_to_five_lines_writes_what_bounded_lists_tell(rt: HostRuntime) {
     for (lines, scripts) in [(1, 5), (2, 25), (3, 125), (4, 625), (5, 3_125)] {
         for number in 0..scripts {
-            assert_script(&rt, rt.alloc(), lines, number);
+            assert_script(&rt, lines, number);
         }
     }
 }

@@ -2,22 +2,28 @@
 use afdx_config::read_config;
 use afdx_plan::demo_config;
 use plan_report::{Failure, check};
-pub use std::alloc::{AllocError, Global};
+pub use std::alloc::AllocError;
 use std::fmt::Debug;
 pub use std::fmt::InlineText;
-use std::io::{Read, Write};
+pub use std::io::ErrorKind;
+use std::io::{self, Read, Write};
 pub use std::process::Abort;
 use tx_script::{LineFault, RunFault, Summary, run_script};
 
-// Asserts that two values are the same. A test that calls this has a short proof, since an assertion
-// of its own is long to prove.
-pub fn assert_same<T: Abort, V: PartialEq + Debug + Copy>(rt: &T, told: V, wanted: V) {
+/// The runtime of a test, which asserts and gives memory.
+pub trait Host: Abort + AllocGlobal {}
+
+impl<R: Abort + AllocGlobal> Host for R {}
+
+/// Asserts that two values are the same. A test that calls this has a short proof, since an assertion
+/// of its own is long to prove.
+pub fn assert_same<V: PartialEq + Debug + Copy>(rt: &impl Abort, told: V, wanted: V) {
     assert_eq!(rt; told, wanted);
 }
 
-// Asserts that two values are the same, and tells the place where they are not.
-pub fn assert_same_at<T: Abort, V: PartialEq + Debug + Copy, P: Debug + Copy>(
-    rt: &T,
+/// Asserts that two values are the same, and prints the place where they are not.
+pub fn assert_same_at<V: PartialEq + Debug + Copy, P: Debug + Copy>(
+    rt: &impl Abort,
     told: V,
     wanted: V,
     place: P,
@@ -25,114 +31,157 @@ pub fn assert_same_at<T: Abort, V: PartialEq + Debug + Copy, P: Debug + Copy>(
     assert_eq!(rt; told, wanted, "at {place:?}");
 }
 
-// Asserts what `check` comes to, and what is written of it. A test that calls this has a short
-// proof, since it keeps no report of its own.
-pub fn assert_check<T: Abort, R: Read + Drop>(
-    rt: &T,
-    alloc: Global,
-    reader: R,
+/// Gives `most` bytes a call at most, and fails once between two parts of its text, if it is to.
+#[derive(Drop)]
+pub struct Failing<'a> {
+    pub before: &'a [u8],
+    pub failure: Option<ErrorKind>,
+    pub after: &'a [u8],
+    pub most: usize,
+}
+
+impl Failing<'_> {
+    /// One that fails at the end of its text.
+    pub fn at_end(before: &[u8], kind: ErrorKind) -> Failing<'_> {
+        Failing {
+            before,
+            failure: Some(kind),
+            after: &[],
+            most: 3,
+        }
+    }
+}
+
+impl Read for Failing<'_> {
+    fn read(&mut self, buf: &mut [u8]) -> io::Result<usize> {
+        let len = buf.len().min(self.most);
+        if !self.before.is_empty() {
+            return self.before.read(&mut buf[..len]);
+        }
+        match self.failure.take() {
+            Some(kind) => Err(io::Error::from(kind)),
+            None => self.after.read(&mut buf[..len]),
+        }
+    }
+}
+
+/// How the writer below answers the call that it doesn't take.
+#[derive(Clone, Copy, Debug)]
+pub enum Answer {
+    Error(ErrorKind),
+    Nothing,
+}
+
+/// Takes each write but the one with this number, counted from 1. It counts writes and flushes.
+#[derive(Drop)]
+pub struct Lapsing {
+    number: usize,
+    answer: Answer,
+    pub writes: usize,
+    pub flushes: usize,
+    pub text: Vec<u8>,
+}
+
+impl Lapsing {
+    pub fn new(rt: &impl Host, number: usize, answer: Answer) -> Lapsing {
+        Lapsing {
+            number,
+            answer,
+            writes: 0,
+            flushes: 0,
+            text: Vec::new(rt.alloc()),
+        }
+    }
+}
+
+impl Write for Lapsing {
+    fn write(&mut self, buf: &[u8]) -> io::Result<usize> {
+        self.writes = self.writes.saturating_add(1);
+        if self.writes == self.number {
+            return match self.answer {
+                Answer::Error(kind) => Err(io::Error::from(kind)),
+                Answer::Nothing => Ok(0),
+            };
+        }
+        self.text.extend_from_slice(buf)?;
+        Ok(buf.len())
+    }
+
+    fn flush(&mut self) -> io::Result<()> {
+        self.flushes = self.flushes.saturating_add(1);
+        Ok(())
+    }
+}
+
+/// The demonstration configuration: port 10 on virtual link 1, of one sub-VL with room for two messages.
+pub const DEMO: &str = "end_system = { id = 1 }
+vl = [{ id = 1, bag_ms = 1, lmax = 1518, sub_vls = 1, capacity = 2 }]
+[[port]]
+id = 10
+vl = 1
+sub = 0
+partition = 1
+kind = 'queuing'
+source = 1000
+destination = 2000
+max = 8192
+";
+
+/// Its report.
+pub const REPORT: &str = "end system 1
+link 1: bag 1 ms, lmax 1518, sub-VLs 1, capacity 2
+port 10: link 1 sub 0, partition 1, queuing, 1000 to 2000, max 8192, multicast
+jitter 163040 ns, limit 500000
+";
+
+/// A link of two sub-VLs with frames of 64 bytes, and a port on each.
+pub const IN_TURN: &str = "end_system = { id = 1 }
+vl = [{ id = 1, bag_ms = 1, lmax = 64, sub_vls = 2, capacity = 2 }]
+port = [
+    { id = 20, vl = 1, sub = 0, partition = 1, kind = 'queuing', source = 1000, destination = 2000, max = 8192 },
+    { id = 21, vl = 1, sub = 1, partition = 1, kind = 'queuing', source = 1001, destination = 2000, max = 8192 },
+]
+";
+
+/// Texts, one after the other.
+pub fn joined(rt: &impl Host, parts: &[&str]) -> String {
+    parts.concat(rt.alloc()).expect(rt, "memory")
+}
+
+/// The same text, `many` times.
+pub fn repeated(rt: &impl Host, part: &str, many: usize) -> String {
+    part.repeat(rt.alloc(), many).expect(rt, "memory")
+}
+
+/// A text with changes.
+pub fn changed(rt: &impl Host, text: &str, changes: &[(&str, &str)]) -> String {
+    let mut changed = joined(rt, &[text]);
+    for &(old, new) in changes {
+        changed = changed.replace(rt.alloc(), old, new).expect(rt, "memory");
+    }
+    changed
+}
+
+/// A text in version 2, with changes.
+pub fn version_2(rt: &impl Host, text: &str, changes: &[(&str, &str)]) -> String {
+    changed(rt, &joined(rt, &["version = 2\n", text]), changes)
+}
+
+/// Asserts what `check` comes to, and what it writes.
+pub fn assert_check(
+    rt: &impl Host,
+    reader: impl Read + Drop,
     wanted: Result<(), Failure>,
     wanted_report: &str,
 ) {
-    let mut report = Vec::new(alloc);
-    let told = check(alloc, reader, &mut report);
+    let mut report = Vec::new(rt.alloc());
+    let told = check(rt.alloc(), reader, &mut report);
     assert_same(rt, told, wanted);
     assert_same(rt, report.as_slice(), wanted_report.as_bytes());
 }
 
-// A script over the demonstration configuration: port 10 on virtual link 1, of one sub-VL with room
-// for two messages.
-pub fn run<R: Read + Drop, W: Write>(
-    alloc: Global,
-    script: R,
-    text: &mut W,
-) -> Result<Summary, RunFault> {
-    let config = demo_config(alloc).map_err(|_| RunFault::Memory)?;
-    run_script(alloc, config, script, text)
-}
-
-// What it comes to, and what is written of it.
-pub fn transcript<R: Read + Drop>(
-    alloc: Global,
-    script: R,
-) -> (Result<Summary, RunFault>, Vec<u8>) {
-    let mut text = Vec::new(alloc);
-    let told = run(alloc, script, &mut text);
-    (told, text)
-}
-
-// Asserts what a script over the demonstration configuration comes to, and what is written of it. A
-// test that calls this has a short proof, since it keeps no writer of its own.
-pub fn assert_run<T: Abort, R: Read + Drop>(
-    rt: &T,
-    alloc: Global,
-    script: R,
-    wanted: Result<Summary, RunFault>,
-    wanted_text: &[u8],
-) {
-    let (told, text) = transcript(alloc, script);
-    assert_same(rt, told, wanted);
-    assert_same(rt, text.as_slice(), wanted_text);
-}
-
-// A script over a configuration, by its text, and what is written of it.
-pub fn transcript_over(
-    alloc: Global,
-    plan: &str,
-    script: &str,
-) -> (Result<Summary, RunFault>, Vec<u8>) {
-    let mut text = Vec::new(alloc);
-    let told = match read_config(alloc, plan.as_bytes()) {
-        Ok(config) => run_script(alloc, config, script.as_bytes(), &mut text),
-        Err(_) => Err(RunFault::Memory),
-    };
-    (told, text)
-}
-
-// Asserts what a script over a configuration comes to, and what is written of it.
-pub fn assert_run_over<T: Abort>(
-    rt: &T,
-    alloc: Global,
-    plan: &str,
-    script: &str,
-    wanted: Summary,
-    wanted_text: &str,
-) {
-    let (told, text) = transcript_over(alloc, plan, script);
-    assert_same(rt, told, Ok(wanted));
-    assert_same(rt, text.as_slice(), wanted_text.as_bytes());
-}
-
-// Asserts what a script over a configuration comes to, and which frames both networks are handed.
-pub fn assert_frames<T: Abort>(
-    rt: &T,
-    alloc: Global,
-    plan: &str,
-    script: &str,
-    wanted: Summary,
-    frames: &[Frame],
-) {
-    let lines = frame_lines(alloc, frames).expect(rt, "memory");
-    assert_run_over(rt, alloc, plan, script, wanted, &lines);
-}
-
-// Texts, one behind the other.
-pub fn joined(alloc: Global, parts: &[&str]) -> Result<String, AllocError> {
-    let mut text = String::new(alloc);
-    for part in parts {
-        text.push_str(part)?;
-    }
-    Ok(text)
-}
-
-// The same text, so often.
-pub fn repeated(alloc: Global, part: &str, many: usize) -> Result<String, AllocError> {
-    let mut text = String::new(alloc);
-    for _ in 0..many {
-        text.push_str(part)?;
-    }
-    Ok(text)
-}
+/// What a run comes to.
+pub type Ran = Result<Summary, RunFault>;
 
 pub fn sums(accepted: u64, refused: u64, frames: u64) -> Summary {
     Summary {
@@ -146,126 +195,124 @@ pub fn at_line(line: u64, fault: LineFault) -> RunFault {
     RunFault::Line { line, fault }
 }
 
-// A network's name in a transcript, and byte 11 of its frames.
-pub const NETS: [(&str, &str); 2] = [("A", "20"), ("B", "40")];
-
-// A frame of virtual link 1: its moment, the IPv4 header and the piece behind it in hexadecimal, how
-// many zero bytes pad it, and its sequence number.
-#[derive(Clone, Copy)]
-pub struct Frame<'a> {
-    pub at: u64,
-    pub header: &'a str,
-    pub piece: &'a str,
-    pub padding: usize,
-    pub number: u8,
+/// What a script over the demonstration configuration comes to.
+pub fn run(rt: &impl Host, script: impl Read + Drop, text: &mut impl Write) -> Ran {
+    let config = demo_config(rt.alloc()).expect(rt, "memory");
+    run_script(rt.alloc(), config, script, text)
 }
 
+/// The same, and what it writes.
+pub fn transcript(rt: &impl Host, script: impl Read + Drop) -> (Ran, Vec<u8>) {
+    let mut text = Vec::new(rt.alloc());
+    let ran = run(rt, script, &mut text);
+    (ran, text)
+}
+
+/// The same of a script over another configuration, by its text.
+pub fn transcript_over(rt: &impl Host, plan: &str, script: &str) -> (Ran, Vec<u8>) {
+    let config = read_config(rt.alloc(), plan.as_bytes()).expect(rt, "a plan");
+    let mut text = Vec::new(rt.alloc());
+    let ran = run_script(rt.alloc(), config, script.as_bytes(), &mut text);
+    (ran, text)
+}
+
+/// Asserts what a script over the demonstration configuration comes to, and what it writes. A test that
+/// calls this has a short proof, since it keeps no writer of its own.
+pub fn assert_run(rt: &impl Host, script: impl Read + Drop, wanted: Ran, wanted_text: &str) {
+    let (told, text) = transcript(rt, script);
+    assert_same(rt, told, wanted);
+    assert_same(rt, text.as_slice(), wanted_text.as_bytes());
+}
+
+/// The same of a script over another configuration.
+pub fn assert_run_over(rt: &impl Host, plan: &str, script: &str, wanted: Summary, lines: &str) {
+    let (told, text) = transcript_over(rt, plan, script);
+    assert_same(rt, told, Ok(wanted));
+    assert_same(rt, text.as_slice(), lines.as_bytes());
+}
+
+/// A network's name in a transcript, and byte 11 of its frames.
+pub type Net = (&'static str, &'static str);
+
+pub const NETS: [Net; 2] = [("A", "20"), ("B", "40")];
+
+pub type Written = Result<(), AllocError>;
+
 // What a line on a network begins with: a moment, and the Ethernet header of a virtual link.
-fn push_head(text: &mut String, net: (&str, &str), at: u64, vl: u16) -> Result<(), AllocError> {
+fn push_head(text: &mut String, net: Net, at: u64, vl: u16) -> Written {
     let (name, byte_11) = net;
     write!(text, "{name} {at} 03000000{vl:04x}0200000001{byte_11}0800")
 }
 
-// Its line on a network.
-fn push_frame(text: &mut String, net: (&str, &str), frame: &Frame) -> Result<(), AllocError> {
-    push_head(text, net, frame.at, 1)?;
-    text.push_str(frame.header)?;
-    text.push_str(frame.piece)?;
-    for _ in 0..frame.padding {
-        text.push_str("00")?;
-    }
-    let number = frame.number;
-    writeln!(text, "{number:02x}")
+// The line of a frame of virtual link 1, by its number and by its IPv4 packet, which zeros pad to 45 bytes.
+fn push_frame(text: &mut String, net: Net, number: u8, packet: &str) -> Written {
+    push_head(text, net, 1_000 * u64::from(number), 1)?;
+    writeln!(text, "{packet:0<90}{number:02x}")
 }
 
-// The lines of A, and then those of B.
-pub fn frame_lines(alloc: Global, frames: &[Frame]) -> Result<String, AllocError> {
-    let mut text = String::new(alloc);
-    for net in &NETS {
-        for frame in frames {
-            push_frame(&mut text, *net, frame)?;
+/// The lines of A, and then those of B, of frames of virtual link 1 that went out a gap apart: of each its
+/// IPv4 packet in hexadecimal.
+pub fn frame_lines(rt: &impl Host, packets: &[&str]) -> String {
+    let mut text = String::new(rt.alloc());
+    for net in NETS {
+        for (number, packet) in (0..255u8).zip(packets) {
+            push_frame(&mut text, net, number, packet).expect(rt, "memory");
         }
     }
-    Ok(text)
+    text
 }
 
-// A message of one byte that was sent as a frame of 60 bytes: its moment, the identification and the
-// checksum of the header, the byte and the sequence number.
-#[derive(Clone, Copy)]
-pub struct Small {
-    pub at: u64,
-    pub ident: u16,
-    pub checksum: u16,
-    pub byte: u8,
-    pub number: u8,
+/// Asserts that each message of a script over a configuration is accepted, of which there are `many`, and
+/// which frames go out.
+pub fn assert_frames(rt: &impl Host, plan: &str, script: &str, many: u64, packets: &[&str]) {
+    let wanted = sums(many, 0, packets.len() as u64);
+    assert_run_over(rt, plan, script, wanted, &frame_lines(rt, packets));
 }
 
-// One of them.
-pub fn one_byte(at: u64, ident: u16, checksum: u16, byte: u8, number: u8) -> Small {
-    Small {
-        at,
-        ident,
-        checksum,
-        byte,
-        number,
-    }
-}
+/// A message of one byte that went out as a frame of 60 bytes: its moment, the identification and the
+/// checksum of the IPv4 header, the byte and the sequence number.
+pub type OneByte = (u64, u16, u16, u8, u8);
 
-// The first one of a run, of the byte 01.
-pub fn first() -> Small {
-    one_byte(0, 0, 0xcdee, 1, 0)
-}
+/// The first one of a run, of the byte 01.
+pub const FIRST: OneByte = (0, 0, 0xcdee, 1, 0);
 
-// Its line on a network, of a virtual link and from a UDP port.
-pub fn push_small(
-    text: &mut String,
-    net: (&str, &str),
-    flow: (u16, u16),
-    small: &Small,
-) -> Result<(), AllocError> {
+/// Appends its line on a network, of a virtual link and from a UDP port.
+pub fn push_one(text: &mut String, net: Net, flow: (u16, u16), message: OneByte) -> Written {
     let (vl, source) = flow;
-    push_head(text, net, small.at, vl)?;
-    let (ident, checksum) = (small.ident, small.checksum);
-    let (byte, number) = (small.byte, small.number);
-    write!(text, "4500001d{ident:04x}00000111{checksum:04x}")?;
+    let (at, ident, checksum, byte, number) = message;
+    push_head(text, net, at, vl)?;
     write!(
         text,
-        "0a000101e0e0{vl:04x}{source:04x}07d000090000{byte:02x}"
+        "4500001d{ident:04x}00000111{checksum:04x}0a000101e0e0"
     )?;
+    write!(text, "{vl:04x}{source:04x}07d000090000{byte:02x}")?;
     writeln!(text, "00000000000000000000000000000000{number:02x}")
 }
 
-// The notes, and the lines of these networks, one behind the other.
-pub fn expected_on(
-    alloc: Global,
-    nets: &[(&str, &str)],
-    notes: &str,
-    smalls: &[Small],
-) -> Result<String, AllocError> {
-    let mut text = notes.to_string(alloc)?;
+/// The notes, and the lines of messages of virtual link 1 on these networks.
+pub fn expected_on(rt: &impl Host, nets: &[Net], notes: &str, sent: &[OneByte]) -> String {
+    let mut text = joined(rt, &[notes]);
     for net in nets {
-        for small in smalls {
-            push_small(&mut text, *net, (1, 1000), small)?;
+        for message in sent {
+            push_one(&mut text, *net, (1, 1000), *message).expect(rt, "memory");
         }
     }
-    Ok(text)
+    text
 }
 
-// The notes, the lines of A, and then those of B.
-pub fn expected(alloc: Global, notes: &str, smalls: &[Small]) -> Result<String, AllocError> {
-    expected_on(alloc, &NETS, notes, smalls)
+/// The notes, the lines of A, and then those of B.
+pub fn expected(rt: &impl Host, notes: &str, sent: &[OneByte]) -> String {
+    expected_on(rt, &NETS, notes, sent)
 }
 
-// Asserts what a script over the demonstration configuration comes to, its notes, and which messages
-// both networks are handed.
-pub fn assert_sent<T: Abort, R: Read + Drop>(
-    rt: &T,
-    alloc: Global,
-    script: R,
-    wanted: Result<Summary, RunFault>,
+/// Asserts what a script over the demonstration configuration comes to, its notes, and which messages
+/// go out.
+pub fn assert_sent(
+    rt: &impl Host,
+    script: impl Read + Drop,
+    wanted: Ran,
     notes: &str,
-    smalls: &[Small],
+    sent: &[OneByte],
 ) {
-    let text = expected(alloc, notes, smalls).expect(rt, "memory");
-    assert_run(rt, alloc, script, wanted, text.as_bytes());
+    assert_run(rt, script, wanted, &expected(rt, notes, sent));
 }

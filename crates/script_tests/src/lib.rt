@@ -10,19 +10,13 @@ mod check_tests;
 #[cfg(test)]
 mod close_tests;
 #[cfg(test)]
-mod end_system;
-#[cfg(test)]
 mod every_script_tests;
-#[cfg(test)]
-mod halting_tests;
 #[cfg(test)]
 mod helpers;
 #[cfg(test)]
 mod line_tests;
 #[cfg(test)]
 mod plan_tests;
-#[cfg(test)]
-mod plans;
 #[cfg(test)]
 mod report_tests;
 #[cfg(test)]

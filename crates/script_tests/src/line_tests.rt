@@ -2,111 +2,39 @@
 use crate::helpers::*;
 use script_text::{Bytes, LineFault, Message, Next, ReadFault, next_line, read_line};
 use std::fmt::Write;
-use std::io::{self, Read};
+use std::io::Read;
 
-fn fault_of(alloc: Global, line: &[u8]) -> Option<LineFault> {
-    read_line(alloc, line).err()
-}
+// Lines, and what they say.
+const SAYINGS: &str = "send 10 01 => Send { port: 10, bytes: Message { bytes: [1] } }
+send 10 - => Send { port: 10, bytes: Message { bytes: [] } }
+\t send\t\t0065535  00Fface0  => Send { port: 65535, bytes: Message { bytes: [0, 255, 172, 224] } }
+at 0 => At(0)
+  at\t018446744073709551615\t => At(18446744073709551615)
+close 1 0 => Close { vl: 1, sub: 0 }
+\tclose\t 00065535 \t000255\t => Close { vl: 65535, sub: 255 }
+ => Nothing
+ \t  => Nothing
+# note => Nothing
+ #send 10 0g => Nothing";
 
 // Asserts what a line says.
-fn assert_says(rt: &impl Abort, alloc: Global, line: &[u8], wanted: &str) {
-    let said = read_line(alloc, line).expect(rt, wanted);
-    let text = format!(in alloc; "{said:?}").expect(rt, wanted);
+fn assert_says(rt: &impl Host, line: &str, wanted: &str) {
+    let said = read_line(rt.alloc(), line.as_bytes()).expect(rt, wanted);
+    let text = format!(in rt.alloc(); "{said:?}").expect(rt, wanted);
     assert_same(rt, text.as_str(), wanted);
 }
 
 #[test]
-fn a_send_has_a_port_and_a_message(rt: HostRuntime) {
-    let said = "Send { port: 10, bytes: Message { bytes: [1] } }";
-    assert_says(&rt, rt.alloc(), b"send 10 01", said);
-    let said = "Send { port: 10, bytes: Message { bytes: [] } }";
-    assert_says(&rt, rt.alloc(), b"send 10 -", said);
-    let said = "Send { port: 65535, bytes: Message { bytes: [0, 255, 172, 224] } }";
-    assert_says(&rt, rt.alloc(), b"\t send\t\t0065535  00Fface0 ", said);
-}
-
-#[test]
-fn an_at_has_a_moment(rt: HostRuntime) {
-    assert_says(&rt, rt.alloc(), b"at 0", "At(0)");
-    let last = b"  at\t018446744073709551615\t";
-    assert_says(&rt, rt.alloc(), last, "At(18446744073709551615)");
-}
-
-#[test]
-fn a_close_has_a_link_and_a_sub_vl(rt: HostRuntime) {
-    assert_says(&rt, rt.alloc(), b"close 1 0", "Close { vl: 1, sub: 0 }");
-    let greatest = b"\tclose\t 00065535 \t000255\t";
-    assert_says(&rt, rt.alloc(), greatest, "Close { vl: 65535, sub: 255 }");
-}
-
-#[test]
-fn blank_lines_and_notes_say_nothing(rt: HostRuntime) {
-    let blanks = vec![in rt.alloc(); b' '; 20_000].expect(&rt, "memory");
-    let lines: [&[u8]; 5] = [b"", b" \t ", b"# note", b" #send 10 0g", &blanks];
-    for line in lines {
-        assert_says(&rt, rt.alloc(), line, "Nothing");
+fn a_line_says_a_send_a_moment_a_close_or_nothing(rt: HostRuntime) {
+    for row in SAYINGS.lines() {
+        let (line, wanted) = row.split_once(" => ").expect(&rt, row);
+        assert_says(&rt, line, wanted);
     }
+    assert_says(&rt, &repeated(&rt, " ", 20_000), "Nothing");
 }
 
-// Asserts the number and the name of the fault of a line.
-fn assert_fault(rt: &impl Abort, alloc: Global, line: &str, wanted: &str) {
-    let fault = fault_of(alloc, line.as_bytes()).expect(rt, "a fault");
-    let number = fault.number();
-    let mut told = InlineText::<16>::new();
-    write!(told, "{number} {fault}").expect(rt, "room");
-    assert_same_at(rt, told.as_str(), wanted, line);
-}
-
-// Lines, and the number and the name of the fault of each.
-const LINES: [(&str, &str); 37] = [
-    ("sand 10 01", "1 Word"),
-    ("send", "1 Word"),
-    ("send 10", "1 Word"),
-    ("send x", "1 Word"),
-    ("at", "1 Word"),
-    ("Send 10 01", "1 Word"),
-    ("sendd 10 01", "1 Word"),
-    ("close", "1 Word"),
-    ("close 1", "1 Word"),
-    ("close x", "1 Word"),
-    ("closed 1 0", "1 Word"),
-    ("Close 1 0", "1 Word"),
-    ("at x", "2 Number"),
-    ("at +1", "2 Number"),
-    ("at -1", "2 Number"),
-    ("at 1x", "2 Number"),
-    ("send 65536 01", "2 Number"),
-    ("send - 0g 01", "2 Number"),
-    ("at 18446744073709551616 0", "2 Number"),
-    ("at 100000000000000000000000", "2 Number"),
-    ("close x 0", "2 Number"),
-    ("close 1 x", "2 Number"),
-    ("close 1 -", "2 Number"),
-    ("close 65536 0", "2 Number"),
-    ("close 70000 0", "2 Number"),
-    ("close 1 256", "2 Number"),
-    ("close 1 256 0", "2 Number"),
-    ("send 10 0g", "3 Hex"),
-    ("send 10 012", "3 Hex"),
-    ("send 10 0x01", "3 Hex"),
-    ("send 10 --", "3 Hex"),
-    ("send 10 0g 01", "3 Hex"),
-    ("at 0 0", "4 Extra"),
-    ("send 10 01 02", "4 Extra"),
-    ("close 1 0 0", "4 Extra"),
-    ("close 1 0 # note", "4 Extra"),
-    ("send 10 - # note", "4 Extra"),
-];
-
-#[test]
-fn a_fault_has_its_number_and_its_name(rt: HostRuntime) {
-    for &(line, wanted) in &LINES {
-        assert_fault(&rt, rt.alloc(), line, wanted);
-    }
-}
-
-// Each fault of a line, its number and its name.
-const FAULTS: [(LineFault, u8, &str); 6] = [
+/// Each fault of a line, its number and its name.
+pub const FAULTS: [(LineFault, u8, &str); 6] = [
     (LineFault::Word, 1, "Word"),
     (LineFault::Number, 2, "Number"),
     (LineFault::Hex, 3, "Hex"),
@@ -114,6 +42,30 @@ const FAULTS: [(LineFault, u8, &str); 6] = [
     (LineFault::Long, 5, "Long"),
     (LineFault::Memory, 6, "Memory"),
 ];
+
+/// Lines that have each of the first four faults, with commas between them.
+pub const LINES: [&str; 4] = [
+    "sand 10 01,send,send 10,send x,at,Send 10 01,sendd 10 01,close,close 1,close x,closed 1 0,\
+     Close 1 0",
+    "at x,at +1,at -1,at 1x,send 65536 01,send - 0g 01,at 18446744073709551616 0,\
+     at 100000000000000000000000,close x 0,close 1 x,close 1 -,close 65536 0,close 70000 0,\
+     close 1 256,close 1 256 0",
+    "send 10 0g,send 10 012,send 10 0x01,send 10 --,send 10 0g 01",
+    "at 0 0,send 10 01 02,close 1 0 0,close 1 0 # note,send 10 - # note",
+];
+
+fn fault_of(rt: &impl Host, line: &[u8]) -> Option<LineFault> {
+    read_line(rt.alloc(), line).err()
+}
+
+#[test]
+fn a_line_has_its_fault(rt: HostRuntime) {
+    for (&(fault, _number, _name), lines) in FAULTS.iter().zip(LINES) {
+        for line in lines.split(',') {
+            assert_same_at(&rt, fault_of(&rt, line.as_bytes()), Some(fault), line);
+        }
+    }
+}
 
 #[test]
 fn each_fault_of_a_line_has_its_number_and_its_name(rt: HostRuntime) {
@@ -135,11 +87,10 @@ fn a_failure_to_read_a_line_has_its_name(rt: HostRuntime) {
 #[test]
 fn a_line_of_20_001_bytes_is_long(rt: HostRuntime) {
     let mut line = vec![in rt.alloc(); b' '; 20_001].expect(&rt, "memory");
-    assert_same(&rt, fault_of(rt.alloc(), &line), Some(LineFault::Long));
-    line[0] = b'#';
-    assert_same(&rt, fault_of(rt.alloc(), &line), Some(LineFault::Long));
-    line[0] = b'x';
-    assert_same(&rt, fault_of(rt.alloc(), &line), Some(LineFault::Long));
+    for first in *b" #x" {
+        line[0] = first;
+        assert_same(&rt, fault_of(&rt, &line), Some(LineFault::Long));
+    }
 }
 
 // Asserts the next line of a reader. A test that calls this has a short proof, since it learns nothing
@@ -148,10 +99,10 @@ fn assert_line<R: Read + Drop>(
     rt: &impl Abort,
     bytes: &mut Bytes<R>,
     line: &mut Vec<u8>,
-    wanted: &[u8],
+    wanted: &str,
 ) {
     assert_same(rt, next_line(bytes, line), Ok(Next::Line));
-    assert_same(rt, line.as_slice(), wanted);
+    assert_same(rt, line.as_slice(), wanted.as_bytes());
 }
 
 #[test]
@@ -159,61 +110,35 @@ fn lines_lose_their_ends(rt: HostRuntime) {
     let mut bytes = Bytes::new(b"at 0\r\n\nat\r 1\r\r\n\r\nat 2\r".as_slice());
     let mut line = Vec::new(rt.alloc());
     for wanted in ["at 0", "", "at\r 1\r", "", "at 2\r"] {
-        assert_line(&rt, &mut bytes, &mut line, wanted.as_bytes());
+        assert_line(&rt, &mut bytes, &mut line, wanted);
     }
     assert_same(&rt, next_line(&mut bytes, &mut line), Ok(Next::End));
 }
 
-// So many blanks, and an end behind them.
-fn blanks(alloc: Global, len: usize, end: &[u8]) -> Result<Vec<u8>, AllocError> {
-    let mut text = vec![in alloc; b' '; len]?;
-    text.extend_from_slice(end)?;
-    Ok(text)
-}
-
-// What a text begins with.
-fn first_line(text: &[u8], line: &mut Vec<u8>) -> Result<Next, ReadFault> {
-    next_line(&mut Bytes::new(text), line)
+// Asserts what a text begins with: many blanks, and an end after them. How long its first line is.
+fn assert_first(rt: &impl Host, blanks: usize, end: &str, wanted: Next) -> usize {
+    let text = joined(rt, &[&repeated(rt, " ", blanks), end]);
+    let mut line = Vec::new(rt.alloc());
+    let next = next_line(&mut Bytes::new(text.as_bytes()), &mut line);
+    assert_same(rt, next, Ok(wanted));
+    line.len()
 }
 
 #[test]
 fn a_line_ends_within_20_000_bytes(rt: HostRuntime) {
-    let mut line = Vec::new(rt.alloc());
-    let text = blanks(rt.alloc(), 20_000, b"\r\n").expect(&rt, "memory");
-    assert_same(&rt, first_line(&text, &mut line), Ok(Next::Line));
-    assert_same(&rt, line.len(), 20_000);
+    let length = assert_first(&rt, 20_000, "\r\n", Next::Line);
+    assert_same(&rt, length, 20_000);
     for end in ["\r\n", "\n", ""] {
-        let text = blanks(rt.alloc(), 20_001, end.as_bytes()).expect(&rt, "memory");
-        assert_same(&rt, first_line(&text, &mut line), Ok(Next::Long));
-    }
-}
-
-// Gives three bytes a call, and is interrupted at its end, once.
-#[derive(Drop)]
-struct Interrupted<'a> {
-    text: &'a [u8],
-    interrupted: bool,
-}
-
-impl Read for Interrupted<'_> {
-    fn read(&mut self, buf: &mut [u8]) -> io::Result<usize> {
-        if self.text.is_empty() && !self.interrupted {
-            self.interrupted = true;
-            return Err(io::Error::from(io::ErrorKind::Interrupted));
-        }
-        let len = buf.len().min(3);
-        self.text.read(&mut buf[..len])
+        let _length = assert_first(&rt, 20_001, end, Next::Long);
     }
 }
 
 #[test]
 fn an_interruption_is_a_failure_to_read(rt: HostRuntime) {
-    let mut bytes = Bytes::new(Interrupted {
-        text: b"at 1000\nat 20",
-        interrupted: false,
-    });
+    let interrupted = Failing::at_end(b"at 1000\nat 20", ErrorKind::Interrupted);
+    let mut bytes = Bytes::new(interrupted);
     let mut line = Vec::new(rt.alloc());
-    assert_line(&rt, &mut bytes, &mut line, b"at 1000");
+    assert_line(&rt, &mut bytes, &mut line, "at 1000");
     assert_same(&rt, next_line(&mut bytes, &mut line), Err(ReadFault::Read));
 }
 

@@ -1,6 +1,5 @@
 //! Tests of the report on a plan.
 use crate::helpers::*;
-use crate::plans::{DEMO, REPORT, changed, version_2};
 use afdx_plan::ConfigFault;
 use plan_report::{Failure, check};
 
@@ -26,33 +25,12 @@ port 2: link 7 sub 3, partition 0, queuing, 65535 to 1, max 1, multicast
 jitter 169760 ns, limit 500000
 ";
 
-// Asserts the report on a text in version 2, both with changes.
-fn assert_changed<T: Abort>(
-    rt: &T,
-    alloc: Global,
-    text: &str,
-    changes: &[(&str, &str)],
-    report: &str,
-    changes_of_report: &[(&str, &str)],
-) {
-    let text = version_2(rt, alloc, text, changes);
-    let wanted = changed(rt, alloc, report, changes_of_report);
-    assert_check(rt, alloc, text.as_bytes(), Ok(()), &wanted);
-}
-
 // Asserts the report on the demonstration in version 2, with more behind a key, and more behind the words of
 // the report that tell it.
-fn assert_more<T: Abort>(rt: &T, alloc: Global, key: (&str, &str), told: (&str, &str)) {
-    let text = joined(alloc, &[key.0, key.1]).expect(rt, "memory");
-    let line = joined(alloc, &[told.0, told.1]).expect(rt, "memory");
-    assert_changed(
-        rt,
-        alloc,
-        DEMO,
-        &[(key.0, &text)],
-        REPORT,
-        &[(told.0, &line)],
-    );
+fn assert_more(rt: &impl Host, key: (&str, &str), told: (&str, &str)) {
+    let plan = version_2(rt, DEMO, &[(key.0, &joined(rt, &[key.0, key.1]))]);
+    let report = changed(rt, REPORT, &[(told.0, &joined(rt, &[told.0, told.1]))]);
+    assert_check(rt, plan.as_bytes(), Ok(()), &report);
 }
 
 // What the table of a port may say of its checksum, and what its line tells then.
@@ -65,8 +43,7 @@ const CHECKSUMS: [(&str, &str); 3] = [
 #[test]
 fn the_line_of_a_port_with_checksums_says_so(rt: HostRuntime) {
     for &(checksum, told) in &CHECKSUMS {
-        let (key, told) = (("max = 8192", checksum), ("multicast", told));
-        assert_more(&rt, rt.alloc(), key, told);
+        assert_more(&rt, ("max = 8192", checksum), ("multicast", told));
     }
 }
 
@@ -81,8 +58,7 @@ const NETWORKS: [(&str, &str); 4] = [
 #[test]
 fn the_line_of_a_link_on_one_network_says_so(rt: HostRuntime) {
     for &(networks, told) in &NETWORKS {
-        let (key, told) = (("capacity = 2", networks), ("capacity 2", told));
-        assert_more(&rt, rt.alloc(), key, told);
+        assert_more(&rt, ("capacity = 2", networks), ("capacity 2", told));
     }
 }
 
@@ -93,35 +69,40 @@ fn links_on_one_network_each_are_told_apart(rt: HostRuntime) {
         ("capacity = 256", "capacity = 256, networks = 'b'"),
         ("capacity = 1 ", "capacity = 1, networks = 'a' "),
     ];
-    let report = REPORT_OF_TWO_LINKS;
     let lines = [
         ("capacity 256\n", "capacity 256, network B\n"),
         ("capacity 1\n", "capacity 1, network A\n"),
     ];
-    assert_changed(&rt, rt.alloc(), TWO_LINKS, &changes, report, &lines);
+    let plan = version_2(&rt, TWO_LINKS, &changes);
+    let report = changed(&rt, REPORT_OF_TWO_LINKS, &lines);
+    assert_check(&rt, plan.as_bytes(), Ok(()), &report);
 }
 
 #[test]
 fn a_report_has_a_line_for_each_link_and_each_port(rt: HostRuntime) {
     for (text, wanted) in [(DEMO, REPORT), (TWO_LINKS, REPORT_OF_TWO_LINKS)] {
-        assert_check(&rt, rt.alloc(), text.as_bytes(), Ok(()), wanted);
+        assert_check(&rt, text.as_bytes(), Ok(()), wanted);
     }
 }
 
 // The demonstration with links 2 to 4 too, of which the last has this greatest frame.
-fn four_links(alloc: Global, last: u16) -> Result<String, AllocError> {
-    let mut links = "capacity = 2 }".to_string(alloc)?;
+fn four_links(rt: &impl Host, last: u16) -> String {
+    let mut links = joined(rt, &["capacity = 2 }"]);
     for (id, lmax) in [(2, 1518), (3, 1518), (4, last)] {
-        write!(links, ", {{ id = {id}, bag_ms = 1, lmax = {lmax}")?;
-        links.push_str(", sub_vls = 1, capacity = 2 }")?;
+        let start = write!(links, ", {{ id = {id}, bag_ms = 1, lmax = {lmax}");
+        start.expect(rt, "memory");
+        links
+            .push_str(", sub_vls = 1, capacity = 2 }")
+            .expect(rt, "memory");
     }
-    DEMO.replace(alloc, "capacity = 2 }", &links)
+    changed(rt, DEMO, &[("capacity = 2 }", &links)])
 }
 
 // Asserts the end of the report on a configuration.
-fn assert_last_line<T: Abort>(rt: &T, alloc: Global, text: &str, line: &str) {
-    let mut report = Vec::new(alloc);
-    assert_same(rt, check(alloc, text.as_bytes(), &mut report), Ok(()));
+fn assert_last_line(rt: &impl Host, text: &str, line: &str) {
+    let mut report = Vec::new(rt.alloc());
+    let told = check(rt.alloc(), text.as_bytes(), &mut report);
+    assert_same(rt, told, Ok(()));
     assert!(rt; report.as_slice().ends_with(line.as_bytes()), "{line}");
 }
 
@@ -133,21 +114,19 @@ fn a_jitter_over_500_000_nanoseconds_is_exceeded(rt: HostRuntime) {
         (1116, "\njitter 500000 ns, limit 500000\n"),
     ];
     for (last, line) in lines {
-        let text = four_links(rt.alloc(), last).expect(&rt, "memory");
-        assert_last_line(&rt, rt.alloc(), text.as_str(), line);
+        assert_last_line(&rt, &four_links(&rt, last), line);
     }
 }
 
 #[test]
 fn nothing_is_written_of_a_text_that_is_refused(rt: HostRuntime) {
-    let gap_of_3 = changed(&rt, rt.alloc(), DEMO, &[("bag_ms = 1", "bag_ms = 3")]);
+    let gap_of_3 = changed(&rt, DEMO, &[("bag_ms = 1", "bag_ms = 3")]);
     let texts = [
         ("", ConfigFault::MissingKey),
         ("=", ConfigFault::Toml),
         (gap_of_3.as_str(), ConfigFault::BadBag),
     ];
     for (text, fault) in texts {
-        let refused = Err(Failure::Config(fault));
-        assert_check(&rt, rt.alloc(), text.as_bytes(), refused, "");
+        assert_check(&rt, text.as_bytes(), Err(Failure::Config(fault)), "");
     }
 }

@@ -1,167 +1,103 @@
 //! Tests of scripts over the demonstration configuration.
 use crate::helpers::*;
-use std::io::{self, Read, Write};
-use tx_script::{LineFault, RunFault, Summary};
+use crate::line_tests::{FAULTS, LINES};
+use std::io::Write;
+use tx_script::{LineFault, RunFault};
+
+/// What is written of the message 01 that went out at 0.
+pub const FIRST_LINES: &str = "\
+    A 0 03000000000102000000012008004500001d000000000111cdee0a000101e0e0000103e807d\
+    000090000010000000000000000000000000000000000\n\
+    B 0 03000000000102000000014008004500001d000000000111cdee0a000101e0e0000103e807d\
+    000090000010000000000000000000000000000000000\n";
 
 #[test]
 fn a_message_goes_out_on_both_networks(rt: HostRuntime) {
-    let wanted = "A 0 03000000000102000000012008004500001d000000000111cdee0a000101e0e0000103e807d\
-                  000090000010000000000000000000000000000000000\n\
-                  B 0 03000000000102000000014008004500001d000000000111cdee0a000101e0e0000103e807d\
-                  000090000010000000000000000000000000000000000\n";
     for script in ["send 10 01\nat 0\n", "# note\r\n\n send\t0010 01\nat 0"] {
-        let told = Ok(sums(1, 0, 1));
-        assert_run(&rt, rt.alloc(), script.as_bytes(), told, wanted.as_bytes());
+        assert_run(&rt, script.as_bytes(), Ok(sums(1, 0, 1)), FIRST_LINES);
     }
 }
 
 #[test]
 fn nothing_is_written_where_nothing_was_sent(rt: HostRuntime) {
     for (script, accepted) in [("", 0), ("at 0\n", 0), ("send 10 01\n", 1)] {
-        let (told, text) = transcript(rt.alloc(), script.as_bytes());
-        assert_same_at(&rt, told, Ok(sums(accepted, 0, 0)), script);
-        assert_same_at(&rt, text.len(), 0, script);
+        assert_run(&rt, script.as_bytes(), Ok(sums(accepted, 0, 0)), "");
     }
-}
-
-// The lines of the one frame that a message of 1,471 bytes goes out as.
-fn full_lines(alloc: Global, message: &str) -> Result<String, AllocError> {
-    let piece = joined(alloc, &["03e807d005c70000", message])?;
-    let frame = Frame {
-        at: 0,
-        header: "450005db000000000111c8300a000101e0e00001",
-        piece: &piece,
-        padding: 0,
-        number: 0,
-    };
-    frame_lines(alloc, &[frame])
 }
 
 #[test]
 fn a_message_of_1_471_bytes_fills_one_frame(rt: HostRuntime) {
-    let message = repeated(rt.alloc(), "aa", 1_471).expect(&rt, "memory");
-    let script = joined(rt.alloc(), &["send 10 ", &message, "\nat 0\n"]).expect(&rt, "memory");
-    let wanted = full_lines(rt.alloc(), &message).expect(&rt, "memory");
+    let message = repeated(&rt, "aa", 1_471);
+    let script = joined(&rt, &["send 10 ", &message, "\nat 0\n"]);
+    let headers = "450005db000000000111c8300a000101e0e0000103e807d005c70000";
+    let wanted = frame_lines(&rt, &[&joined(&rt, &[headers, &message])]);
     assert_same(&rt, wanted.len(), 2 * (4 + 2 * 1_514 + 1));
-    let told = Ok(sums(1, 0, 1));
-    assert_run(&rt, rt.alloc(), script.as_bytes(), told, wanted.as_bytes());
+    assert_run(&rt, script.as_bytes(), Ok(sums(1, 0, 1)), &wanted);
 }
 
 #[test]
 fn a_full_queue_refuses_a_message_until_a_frame_went_out(rt: HostRuntime) {
     let script = b"send 10 01\nsend 10 02\nsend 10 03\nat 0\nsend 10 03\nat 1000\nat 2000\n";
-    let told = Ok(sums(3, 1, 3));
     let notes = "line 3: refused Full\n";
-    let second = one_byte(1_000, 4, 0xcdea, 2, 1);
-    let sent = [first(), second, one_byte(2_000, 8, 0xcde6, 3, 2)];
-    assert_sent(&rt, rt.alloc(), script.as_slice(), told, notes, &sent);
+    let sent = [FIRST, (1_000, 4, 0xcdea, 2, 1), (2_000, 8, 0xcde6, 3, 2)];
+    assert_sent(&rt, script.as_slice(), Ok(sums(3, 1, 3)), notes, &sent);
 }
 
 // An empty message, one that is too long, one of no port, and then one that is taken.
-fn refused_sends(alloc: Global) -> Result<String, AllocError> {
-    let long = repeated(alloc, "00", 8_193)?;
-    let behind = "\nsend 99 01\nsend 10 07\nat 0\n";
-    joined(alloc, &["send 10 -\nsend 10 ", &long, behind])
-}
-
 #[test]
 fn a_refused_message_takes_no_identification(rt: HostRuntime) {
-    let script = refused_sends(rt.alloc()).expect(&rt, "memory");
+    let rest = "\nsend 99 01\nsend 10 07\nat 0\n";
+    let script = joined(
+        &rt,
+        &["send 10 -\nsend 10 ", &repeated(&rt, "00", 8_193), rest],
+    );
     let notes = "line 1: refused Empty\nline 2: refused TooLong\nline 3: refused NoPort\n";
-    let taken = one_byte(0, 0, 0xcdee, 7, 0);
-    let told = Ok(sums(1, 3, 1));
-    assert_sent(&rt, rt.alloc(), script.as_bytes(), told, notes, &[taken]);
+    let taken = [(0, 0, 0xcdee, 7, 0)];
+    assert_sent(&rt, script.as_bytes(), Ok(sums(1, 3, 1)), notes, &taken);
 }
 
 #[test]
 fn an_earlier_moment_is_refused_and_an_equal_one_is_not(rt: HostRuntime) {
     let script =
         b"send 10 01\nsend 10 02\nat 18446744073709551615\nat 18446744073709551615\nat 5\n";
-    let last = one_byte(u64::MAX, 0, 0xcdee, 1, 0);
-    let told = Ok(sums(2, 1, 1));
+    let last = [(u64::MAX, 0, 0xcdee, 1, 0)];
     let notes = "line 5: refused TimeBack\n";
-    assert_sent(&rt, rt.alloc(), script.as_slice(), told, notes, &[last]);
+    assert_sent(&rt, script.as_slice(), Ok(sums(2, 1, 1)), notes, &last);
 }
 
-// The message 01 and a poll, a gap apart, so often that the numbers begin again.
-fn sends_to_256(alloc: Global) -> Result<String, AllocError> {
-    let mut script = String::new(alloc);
-    for place in 0..257u64 {
-        writeln!(script, "send 10 01\nat {}", 1_000 * place)?;
-    }
-    Ok(script)
-}
-
-// Their frames.
-fn frames_to_256(alloc: Global) -> Result<Vec<Small>, AllocError> {
-    let mut frames = Vec::new(alloc);
+// Adds the message 01 and a poll, a gap apart, so often that the numbers begin again, and the frames of these.
+fn push_257(script: &mut String, frames: &mut Vec<OneByte>) -> Written {
     for place in 0..257u16 {
-        let (at, ident) = (1_000 * u64::from(place), 4 * place);
+        let at = 1_000 * u64::from(place);
+        writeln!(script, "send 10 01\nat {at}")?;
         let number = if place < 256 { place as u8 } else { 1 };
-        frames.push(one_byte(at, ident, 0xcdee - ident, 1, number))?;
+        frames.push((at, 4 * place, 0xcdee - 4 * place, 1, number))?;
     }
-    Ok(frames)
+    Ok(())
 }
 
 #[test]
 fn numbers_go_on_with_1_after_255(rt: HostRuntime) {
-    let script = sends_to_256(rt.alloc()).expect(&rt, "memory");
-    let frames = frames_to_256(rt.alloc()).expect(&rt, "memory");
+    let (mut script, mut frames) = (String::new(rt.alloc()), Vec::new(rt.alloc()));
+    push_257(&mut script, &mut frames).expect(&rt, "memory");
     let told = Ok(sums(257, 0, 257));
-    assert_sent(&rt, rt.alloc(), script.as_bytes(), told, "", &frames);
+    assert_sent(&rt, script.as_bytes(), told, "", &frames);
 }
 
-// A line behind one that sends a message.
-fn second_line(alloc: Global, line: &[u8]) -> Result<Vec<u8>, AllocError> {
-    let mut script = b"send 10 01\n".as_slice().to_vec(alloc)?;
-    script.extend_from_slice(line)?;
-    Ok(script)
+// Asserts the fault of a line that comes after one that sends a message.
+fn assert_second(rt: &impl Host, line: &str, fault: LineFault) {
+    let script = joined(rt, &["send 10 01\n", line]);
+    assert_run(rt, script.as_bytes(), Err(at_line(2, fault)), "");
 }
-
-// Asserts the fault of such a line.
-fn assert_second<T: Abort>(rt: &T, alloc: Global, line: &[u8], fault: LineFault) {
-    let script = second_line(alloc, line).expect(rt, "memory");
-    let told = Err(at_line(2, fault));
-    assert_run(rt, alloc, script.as_slice(), told, b"");
-}
-
-// Lines, and the fault of each.
-const LINES: [(&str, LineFault); 13] = [
-    ("sand 10 01", LineFault::Word),
-    ("send 10", LineFault::Word),
-    ("at x", LineFault::Number),
-    ("send 65536 01", LineFault::Number),
-    ("send 10 0g", LineFault::Hex),
-    ("send 10 012", LineFault::Hex),
-    ("at 0 0", LineFault::Extra),
-    ("close", LineFault::Word),
-    ("close 1", LineFault::Word),
-    ("close x 0", LineFault::Number),
-    ("close 70000 0", LineFault::Number),
-    ("close 1 256", LineFault::Number),
-    ("close 1 0 0", LineFault::Extra),
-];
 
 #[test]
 fn a_fault_tells_its_line(rt: HostRuntime) {
-    for &(line, fault) in &LINES {
-        assert_second(&rt, rt.alloc(), line.as_bytes(), fault);
-    }
-    let long = vec![in rt.alloc(); b' '; 20_001].expect(&rt, "memory");
-    assert_second(&rt, rt.alloc(), &long, LineFault::Long);
-}
-
-// Is interrupted at the end of its text.
-#[derive(Drop)]
-struct Interrupted<'a>(&'a [u8]);
-
-impl Read for Interrupted<'_> {
-    fn read(&mut self, buf: &mut [u8]) -> io::Result<usize> {
-        if self.0.is_empty() {
-            return Err(io::Error::from(io::ErrorKind::Interrupted));
+    for (&(fault, _number, _name), lines) in FAULTS.iter().zip(LINES) {
+        for line in lines.split(',') {
+            assert_second(&rt, line, fault);
         }
-        self.0.read(buf)
     }
+    assert_second(&rt, &repeated(&rt, " ", 20_001), LineFault::Long);
 }
 
 #[test]
@@ -169,32 +105,30 @@ fn notes_and_frames_so_far_are_written_after_a_fault(rt: HostRuntime) {
     let script = b"\nsend 99 01\nsend 10 01\nat 0\nsend 10 02\nsend\nat 1000\n";
     let told = Err(at_line(6, LineFault::Word));
     let notes = "line 2: refused NoPort\n";
-    assert_sent(&rt, rt.alloc(), script.as_slice(), told, notes, &[first()]);
-    let reader = Interrupted(&script[..40]);
-    let told = Err(RunFault::Read);
-    assert_sent(&rt, rt.alloc(), reader, told, notes, &[first()]);
+    assert_sent(&rt, script.as_slice(), told, notes, &[FIRST]);
+    let reader = Failing::at_end(&script[..40], ErrorKind::Interrupted);
+    assert_sent(&rt, reader, Err(RunFault::Read), notes, &[FIRST]);
 }
 
-// A script over a writer with room for so many bytes.
-fn run_within(alloc: Global, size: usize, script: &[u8]) -> Result<Summary, RunFault> {
-    let mut room = vec![in alloc; 0u8; size].map_err(|_| RunFault::Memory)?;
-    let mut text = room.as_mut_slice();
-    run(alloc, script, &mut text)
+// A script over a writer with this room.
+fn run_within(rt: &impl Host, mut room: &mut [u8], script: &[u8]) -> Ran {
+    run(rt, script, &mut room)
 }
 
 #[test]
 fn a_writer_that_fails_ends_the_run(rt: HostRuntime) {
     for size in [10, 30, 200] {
-        let told = run_within(rt.alloc(), size, b"send 99 01\nsend 10 01\nat 0\n");
+        let script = b"send 99 01\nsend 10 01\nat 0\n";
+        let mut room = vec![in rt.alloc(); 0u8; size].expect(&rt, "memory");
+        let told = run_within(&rt, room.as_mut_slice(), script);
         assert_same_at(&rt, told, Err(RunFault::Write), size);
     }
 }
 
 #[test]
 fn a_script_has_1_000_000_lines_at_most(rt: HostRuntime) {
-    let mut script = vec![in rt.alloc(); b'\n'; 1_000_000].expect(&rt, "memory");
-    assert_run(&rt, rt.alloc(), script.as_slice(), Ok(sums(0, 0, 0)), b"");
-    script.extend_from_slice(b"at x").expect(&rt, "memory");
-    let told = Err(RunFault::Lines);
-    assert_run(&rt, rt.alloc(), script.as_slice(), told, b"");
+    let script = repeated(&rt, "\n", 1_000_000);
+    assert_run(&rt, script.as_bytes(), Ok(sums(0, 0, 0)), "");
+    let longer = joined(&rt, &[&script, "at x"]);
+    assert_run(&rt, longer.as_bytes(), Err(RunFault::Lines), "");
 }

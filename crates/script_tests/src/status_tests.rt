@@ -1,5 +1,6 @@
 //! Tests of exit statuses and of the texts of failures.
 use crate::helpers::*;
+use crate::transcript_tests::RUN_TEXTS;
 use afdx_plan::ConfigFault;
 use plan_report::{End, Failure, status_of};
 use script_text::{LineFault, RunFault};
@@ -29,39 +30,29 @@ fn the_status_tells_how_the_program_ended(rt: HostRuntime) {
     }
 }
 
-// The texts of failures.
-const TEXTS: [(Failure, &str); 9] = [
+// The texts of failures that are no faults of a run.
+const TEXTS: [(Failure, &str); 4] = [
     (
         Failure::Config(ConfigFault::SharedUnicast),
         "configuration refused: 13 SharedUnicast",
     ),
     (Failure::Config(ConfigFault::Memory), "out of memory"),
-    (
-        Failure::Run(RunFault::Line {
-            line: 7,
-            fault: LineFault::Number,
-        }),
-        "script line 7: 2 Number",
-    ),
-    (
-        Failure::Run(RunFault::Lines),
-        "script refused: too many lines",
-    ),
     (Failure::Short, "storm refused: a port's max is below 6"),
     (Failure::Turns, "turns used up"),
-    (Failure::Run(RunFault::Read), "read failed"),
-    (Failure::Run(RunFault::Write), "write failed"),
-    (Failure::Run(RunFault::Memory), "out of memory"),
 ];
 
-fn assert_text<T: Abort>(rt: &T, alloc: Global, failure: Failure, wanted: &str) {
-    let text = format!(in alloc; "{failure}").expect(rt, wanted);
-    assert_same(rt, text.as_str(), wanted);
+fn assert_text(rt: &impl Abort, failure: Failure, wanted: &str) {
+    assert_same(rt, InlineText::<64>::of(failure).as_str(), wanted);
 }
 
 #[test]
 fn a_failure_has_its_text(rt: HostRuntime) {
     for &(failure, wanted) in &TEXTS {
-        assert_text(&rt, rt.alloc(), failure, wanted);
+        assert_text(&rt, failure, wanted);
     }
+    for &(fault, wanted) in &RUN_TEXTS {
+        assert_text(&rt, Failure::Run(fault), wanted);
+    }
+    let number = at_line(7, LineFault::Number);
+    assert_text(&rt, Failure::Run(number), "script line 7: 2 Number");
 }

@@ -1,7 +1,9 @@
 //! Tests of what a run writes.
 use crate::helpers::*;
+use crate::line_tests::FAULTS;
+use crate::run_tests::FIRST_LINES;
 use redundant_mux::Network;
-use script_text::LineFault;
+use std::fmt::Write;
 use tx_script::{FrameLog, Outcome, Refusal, RunFault, Summary, write_note, write_streams};
 
 #[test]
@@ -32,7 +34,7 @@ fn a_note_tells_the_line_and_the_refusal_or_the_total(rt: HostRuntime) {
 }
 
 // The frame of the message 01 in the demonstration configuration, for network A.
-const FIRST: [u8; 60] = *b"\x03\x00\x00\x00\x00\x01\x02\x00\x00\x00\x01\x20\x08\x00\
+const FRAME: [u8; 60] = *b"\x03\x00\x00\x00\x00\x01\x02\x00\x00\x00\x01\x20\x08\x00\
     \x45\x00\x00\x1d\x00\x00\x00\x00\x01\x11\xcd\xee\x0a\x00\x01\x01\xe0\xe0\x00\x01\
     \x03\xe8\x07\xd0\x00\x09\x00\x00\x01\
     \x00\x00\x00\x00\x00\x00\x00\x00\x00\x00\x00\x00\x00\x00\x00\x00\x00";
@@ -40,19 +42,15 @@ const FIRST: [u8; 60] = *b"\x03\x00\x00\x00\x00\x01\x02\x00\x00\x00\x01\x20\x08\
 #[test]
 fn the_frames_of_a_come_before_those_of_b(rt: HostRuntime) {
     let mut for_a = FrameLog::new(rt.alloc());
-    for_a.hand(0, &FIRST).expect(&rt, "memory");
+    for_a.hand(0, &FRAME).expect(&rt, "memory");
     for_a.hand(u64::MAX, &[0xab]).expect(&rt, "memory");
-    let mut twin = FIRST;
+    let mut twin = FRAME;
     twin[11] = 0x40;
     let mut for_b = FrameLog::new(rt.alloc());
     for_b.hand(0, &twin).expect(&rt, "memory");
     let mut text = Vec::new(rt.alloc());
     assert_same(&rt, write_streams(&mut text, &for_a, &for_b), Ok(()));
-    let wanted = "A 0 03000000000102000000012008004500001d000000000111cdee0a000101e0e0000103e807d\
-                  000090000010000000000000000000000000000000000\n\
-                  A 18446744073709551615 ab\n\
-                  B 0 03000000000102000000014008004500001d000000000111cdee0a000101e0e0000103e807d\
-                  000090000010000000000000000000000000000000000\n";
+    let wanted = changed(&rt, FIRST_LINES, &[("B", "A 18446744073709551615 ab\nB")]);
     assert_same(&rt, text.as_slice(), wanted.as_bytes());
 }
 
@@ -60,7 +58,7 @@ fn the_frames_of_a_come_before_those_of_b(rt: HostRuntime) {
 fn a_full_writer_is_a_failure_to_write(rt: HostRuntime) {
     let none = FrameLog::new(rt.alloc());
     let mut one = FrameLog::new(rt.alloc());
-    one.hand(0, &FIRST).expect(&rt, "memory");
+    one.hand(0, &FRAME).expect(&rt, "memory");
     let mut room = [0u8; 60];
     let mut text = room.as_mut_slice();
     let told = write_streams(&mut text, &none, &one);
@@ -100,26 +98,18 @@ fn each_refusal_of_a_line_has_its_name(rt: HostRuntime) {
     }
 }
 
-// The texts of the faults of a run at a line, by the line's fault.
-const LINE_TEXTS: [(LineFault, &str); 6] = [
-    (LineFault::Word, "script line 2: 1 Word"),
-    (LineFault::Number, "script line 2: 2 Number"),
-    (LineFault::Hex, "script line 2: 3 Hex"),
-    (LineFault::Extra, "script line 2: 4 Extra"),
-    (LineFault::Long, "script line 2: 5 Long"),
-    (LineFault::Memory, "script line 2: 6 Memory"),
-];
-
 #[test]
 fn a_fault_of_a_line_tells_the_line_and_the_fault(rt: HostRuntime) {
-    for &(fault, wanted) in &LINE_TEXTS {
+    for &(fault, number, name) in &FAULTS {
+        let mut wanted = InlineText::<64>::new();
+        write!(wanted, "script line 2: {number} {name}").expect(&rt, "room");
         let told = InlineText::<64>::of(at_line(2, fault));
-        assert_same(&rt, told.as_str(), wanted);
+        assert_same(&rt, told.as_str(), wanted.as_str());
     }
 }
 
-// The texts of the other faults of a run.
-const RUN_TEXTS: [(RunFault, &str); 4] = [
+/// The texts of the other faults of a run.
+pub const RUN_TEXTS: [(RunFault, &str); 4] = [
     (RunFault::Lines, "script refused: too many lines"),
     (RunFault::Read, "read failed"),
     (RunFault::Write, "write failed"),

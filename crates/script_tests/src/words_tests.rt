@@ -4,26 +4,20 @@ use bench_words::{Words, parse, tell_words};
 use clap::Error;
 use plan_report::End;
 
-// One word more.
-fn push_word<T: Abort>(rt: &T, alloc: Global, words: &mut Vec<String>, word: &str) {
-    let word = word.to_string(alloc).expect(rt, "memory");
-    words.push(word).expect(rt, "memory");
-}
-
-// What the words of a line ask for. It is split at its blanks, behind the program's name.
-fn parsed<T: Abort>(rt: &T, alloc: Global, line: &str) -> Result<Words, Error> {
-    let mut words = Vec::new(alloc);
-    push_word(rt, alloc, &mut words, "afdx_bench");
+// What the words of a line ask for. It is split at its blanks, after the program's name.
+fn parsed(rt: &impl Host, line: &str) -> Result<Words, Error> {
+    let mut words = Vec::new(rt.alloc());
+    words.push(joined(rt, &["afdx_bench"])).expect(rt, "memory");
     for word in line.split_whitespace() {
-        push_word(rt, alloc, &mut words, word);
+        words.push(joined(rt, &[word])).expect(rt, "memory");
     }
-    parse(alloc, words.as_slice())
+    parse(rt.alloc(), words.as_slice())
 }
 
 // Asserts what the words of a line ask for.
-fn assert_asks<T: Abort>(rt: &T, alloc: Global, line: &str, wanted: &str) {
-    let words = parsed(rt, alloc, line).ok().expect(rt, line);
-    let text = format!(in alloc; "{words:?}").expect(rt, line);
+fn assert_asks(rt: &impl Host, line: &str, wanted: &str) {
+    let words = parsed(rt, line).ok().expect(rt, line);
+    let text = format!(in rt.alloc(); "{words:?}").expect(rt, line);
     assert_same(rt, text.as_str(), wanted);
 }
 
@@ -41,13 +35,13 @@ storm a.toml --messages 0065535 --turns=01 => Storm { config: \"a.toml\", messag
 fn each_command_has_its_words(rt: HostRuntime) {
     for row in COMMANDS.lines() {
         let (line, wanted) = row.split_once(" => ").expect(&rt, row);
-        assert_asks(&rt, rt.alloc(), line, wanted);
+        assert_asks(&rt, line, wanted);
     }
 }
 
 // Asserts how the program ends at a line whose words ask for no command.
-fn assert_ends<T: Abort + Print + Eprint>(rt: &T, alloc: Global, line: &str, end: End) {
-    let error = parsed(rt, alloc, line).err().expect(rt, line);
+fn assert_ends(rt: &(impl Host + Print + Eprint), line: &str, end: End) {
+    let error = parsed(rt, line).err().expect(rt, line);
     assert_same_at(rt, tell_words(rt, &error), end, line);
 }
 
@@ -82,13 +76,13 @@ const OTHER_WORDS: [&str; 25] = [
 #[test]
 fn other_words_are_refused(rt: HostRuntime) {
     for &line in &OTHER_WORDS {
-        assert_ends(&rt, rt.alloc(), line, End::WordsRefused);
+        assert_ends(&rt, line, End::WordsRefused);
     }
 }
 
 #[test]
 fn help_is_told(rt: HostRuntime) {
     for line in ["--help", "-h", "check --help", "run -h", "storm --help"] {
-        assert_ends(&rt, rt.alloc(), line, End::Told);
+        assert_ends(&rt, line, End::Told);
     }
 }
