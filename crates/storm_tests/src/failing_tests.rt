@@ -1,23 +1,5 @@
 //! Storms over networks that fail.
 use crate::plans::*;
-use redundant_mux::MemNetwork;
-use storm::storm_over;
-
-// A hundred messages from each of four ports, over networks whose hands of these numbers fail.
-fn storm_failing<R: Abort + Threads + Wait + Sync>(
-    rt: &R,
-    alloc: Global,
-    a: u64,
-    b: u64,
-) -> Result<StormReport, StormFault> {
-    let config = small_plan(rt, alloc, 256, 64);
-    let a = MemNetwork::failing_at(alloc, a);
-    let b = MemNetwork::failing_at(alloc, b);
-    storm_over(rt, alloc, config, a, b, 100, 1_000, &OpenGate)
-}
-
-// The number of a hand that never comes.
-const NEVER: u64 = 1_000;
 
 // All was sent, and the networks were handed these many frames.
 fn assert_unequal(rt: &impl Abort, report: &StormReport, a: usize, b: usize) {
@@ -30,15 +12,17 @@ fn assert_unequal(rt: &impl Abort, report: &StormReport, a: usize, b: usize) {
 #[test]
 fn a_network_that_fails_in_the_middle_is_left_behind(rt: HostRuntime) {
     for (a, b, handed_a, handed_b) in [(200, NEVER, 199, 400), (NEVER, 400, 400, 399)] {
-        let report = storm_failing(&rt, rt.alloc(), a, b).expect(&rt, "a report");
+        let config = plan_of(&rt, small_text(rt.alloc(), 256, 64));
+        let report = storm_failing(&rt, config, 100, (a, b)).expect(&rt, "a report");
         assert_unequal(&rt, &report, handed_a, handed_b);
     }
 }
 
 #[test]
 fn no_storm_ends_well_where_both_networks_fail(rt: HostRuntime) {
-    for (a, b) in [(1, 1), (200, 200), (1, 400), (400, 1)] {
-        let fault = storm_failing(&rt, rt.alloc(), a, b).err();
+    for fails in [(1, 1), (200, 200), (1, 400), (400, 1)] {
+        let config = plan_of(&rt, small_text(rt.alloc(), 256, 64));
+        let fault = storm_failing(&rt, config, 100, fails).err();
         assert_same(&rt, fault, Some(StormFault::Memory));
     }
 }

@@ -6,8 +6,6 @@ mod failing_tests;
 #[cfg(test)]
 mod gates;
 #[cfg(test)]
-mod great_tests;
-#[cfg(test)]
 mod one_network_tests;
 #[cfg(test)]
 mod plans;

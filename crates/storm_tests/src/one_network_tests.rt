@@ -1,7 +1,5 @@
 //! Storms over links of which one is on one network alone.
 use crate::plans::*;
-use redundant_mux::MemNetwork;
-use storm::storm_over;
 
 // Ten messages of each of the two ports were accepted, sent and counted. The networks were handed
 // these many frames, and are equal or not.
@@ -17,25 +15,21 @@ fn assert_report(rt: &impl Abort, report: &StormReport, handed: (usize, usize), 
 
 #[test]
 fn networks_are_equal_over_the_links_on_both(rt: HostRuntime) {
-    let config = plan_with_link_on_a(&rt, rt.alloc());
-    let report = storm(&rt, rt.alloc(), config, 10, 1_000, &OpenGate).expect(&rt, "a report");
+    let config = plan_of(&rt, text_with_link_on_a(rt.alloc()));
+    let report = storm_of(&rt, config, (10, 1_000), &OpenGate).expect(&rt, "a report");
     assert_report(&rt, &report, (20, 10), true);
 }
 
 #[test]
 fn networks_differ_where_one_missed_a_link_on_both(rt: HostRuntime) {
-    let alloc = rt.alloc();
-    let config = plan_with_link_on_a(&rt, alloc);
-    let (a, b) = (MemNetwork::new(alloc), MemNetwork::failing_at(alloc, 1));
-    let ended = storm_over(&rt, alloc, config, a, b, 10, 1_000, &OpenGate);
-    assert_report(&rt, &ended.expect(&rt, "a report"), (20, 0), false);
+    let config = plan_of(&rt, text_with_link_on_a(rt.alloc()));
+    let report = storm_failing(&rt, config, 10, (NEVER, 1)).expect(&rt, "a report");
+    assert_report(&rt, &report, (20, 0), false);
 }
 
 #[test]
 fn a_link_whose_one_network_failed_uses_up_the_turns(rt: HostRuntime) {
-    let alloc = rt.alloc();
-    let config = plan_with_link_on_a(&rt, alloc);
-    let (a, b) = (MemNetwork::failing_at(alloc, 1), MemNetwork::new(alloc));
-    let fault = storm_over(&rt, alloc, config, a, b, 10, 1_000, &OpenGate).err();
+    let config = plan_of(&rt, text_with_link_on_a(rt.alloc()));
+    let fault = storm_failing(&rt, config, 10, (1, NEVER)).err();
     assert_same(&rt, fault, Some(StormFault::Turns));
 }

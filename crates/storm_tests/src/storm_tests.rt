@@ -1,8 +1,7 @@
-//! Storms over a small plan.
-use crate::gates::{Meeting, Shut};
+//! Storms over a small plan and over the greatest one.
+use crate::gates::{Holding, Until};
 use crate::plans::*;
 use redundant_mux::MemNetwork;
-use std::sync::atomic::{AtomicU64, Ordering};
 
 // How often a thread may try, where it comes to that.
 const TURNS: u64 = 100_000_000;
@@ -45,78 +44,82 @@ fn assert_report(rt: &impl Abort, report: &StormReport, messages: u16) {
     assert_messages(rt, &report.b, messages);
 }
 
-// Asserts that a storm over the small plan, with this room and this greatest message, sends all its messages.
-fn assert_sent<R: Abort + Threads + Wait + Sync, G: Gate + Sync>(
-    rt: &R,
-    alloc: Global,
-    plan: (u16, u16),
-    load: (u16, u64),
-    gate: &G,
-) {
-    let ended = storm_of(rt, alloc, small_plan(rt, alloc, plan.0, plan.1), load, gate);
-    assert_report(rt, &ended.expect(rt, "a report"), load.0);
+// The room of each sub-VL of the small plan and its third port's greatest message, and the messages and tries.
+type Setting = ((u16, u16), (u16, u64));
+
+// What comes of a storm over the small plan.
+fn small_storm(rt: &impl Host, setting: Setting, gate: &(impl Gate + Sync)) -> Ended {
+    let ((capacity, max), load) = setting;
+    let config = plan_of(rt, small_text(rt.alloc(), capacity, max));
+    storm_of(rt, config, load, gate)
+}
+
+// Asserts that such a storm sends all its messages.
+fn assert_sent(rt: &impl Host, setting: Setting, gate: &(impl Gate + Sync)) {
+    let report = small_storm(rt, setting, gate).expect(rt, "a report");
+    assert_report(rt, &report, setting.1.0);
 }
 
 // Asserts that such a storm has a fault.
-fn assert_fault<R: Abort + Threads + Wait + Sync, G: Gate + Sync>(
-    rt: &R,
-    alloc: Global,
-    plan: (u16, u16),
-    load: (u16, u64),
-    gate: &G,
-    fault: StormFault,
-) {
-    let ended = storm_of(rt, alloc, small_plan(rt, alloc, plan.0, plan.1), load, gate);
-    assert_same(rt, ended.err(), Some(fault));
+fn assert_fault(rt: &impl Host, setting: Setting, gate: &(impl Gate + Sync), fault: StormFault) {
+    assert_same(rt, small_storm(rt, setting, gate).err(), Some(fault));
 }
 
 #[test]
 fn four_workers_send_a_hundred_messages_each(rt: HostRuntime) {
-    assert_sent(&rt, rt.alloc(), (256, 64), (100, 1_000), &OpenGate);
+    assert_sent(&rt, ((256, 64), (100, 1_000)), &OpenGate);
 }
 
 #[test]
 fn all_workers_run_at_once(rt: HostRuntime) {
-    let gate = Meeting::of(u64::from(PORTS));
-    assert_sent(&rt, rt.alloc(), (256, 64), (100, 1_000), &gate);
+    let gate = Holding::until(Until::Entered(u64::from(PORTS)));
+    assert_sent(&rt, ((256, 64), (100, 1_000)), &gate);
 }
 
 #[test]
 fn what_has_no_room_is_sent_again_while_the_emitter_is_polled(rt: HostRuntime) {
-    assert_sent(&rt, rt.alloc(), (2, 64), (20, TURNS), &OpenGate);
+    assert_sent(&rt, ((2, 64), (20, TURNS)), &OpenGate);
 }
 
 #[test]
-fn a_worker_that_may_try_once_uses_up_its_turns(rt: HostRuntime) {
-    let fault = StormFault::Turns;
-    assert_fault(&rt, rt.alloc(), (256, 64), (100, 1), &OpenGate, fault);
+fn a_worker_or_a_drain_that_may_try_once_uses_up_its_turns(rt: HostRuntime) {
+    for messages in [100, 1] {
+        let setting = ((256, 64), (messages, 1));
+        assert_fault(&rt, setting, &OpenGate, StormFault::Turns);
+    }
 }
 
 #[test]
-fn a_drain_that_may_poll_once_uses_up_its_turns(rt: HostRuntime) {
-    let fault = StormFault::Turns;
-    assert_fault(&rt, rt.alloc(), (256, 64), (1, 1), &OpenGate, fault);
-}
-
-#[test]
-fn a_port_with_a_greatest_message_of_5_bytes_is_short(rt: HostRuntime) {
-    let fault = StormFault::Short;
-    assert_fault(&rt, rt.alloc(), (256, 5), (100, 1_000), &OpenGate, fault);
-}
-
-#[test]
-fn a_port_with_a_greatest_message_of_6_bytes_is_not(rt: HostRuntime) {
-    assert_sent(&rt, rt.alloc(), (256, 6), (2, 1_000), &OpenGate);
+fn a_port_with_a_greatest_message_of_5_bytes_is_short_and_of_6_is_not(rt: HostRuntime) {
+    let short = ((256, 5), (100, 1_000));
+    assert_fault(&rt, short, &OpenGate, StormFault::Short);
+    assert_sent(&rt, ((256, 6), (2, 1_000)), &OpenGate);
 }
 
 #[test]
 fn a_gate_that_refuses_ends_its_worker_and_no_other(rt: HostRuntime) {
-    let gate = Shut {
-        worker: 2,
-        call: 3,
-        accepted: AtomicU64::new(0),
-    };
-    let fault = StormFault::Turns;
-    assert_fault(&rt, rt.alloc(), (256, 64), (10, 1_000), &gate, fault);
-    assert_same(&rt, gate.accepted.load(Ordering::SeqCst), 32);
+    let gate = Holding::until(Until::Never { worker: 2, call: 3 });
+    let setting = ((256, 64), (10, 1_000));
+    assert_fault(&rt, setting, &gate, StormFault::Turns);
+    assert_same(&rt, gate.accepted.get(), 32);
+}
+
+// Twenty messages of a frame each of all ports were accepted, sent and counted.
+fn assert_great(rt: &impl Abort, report: &StormReport) {
+    assert_same(rt, report.accepted, 256 * 20);
+    assert_same(rt, report.links.len(), usize::from(GREAT_LINKS));
+    for counts in &report.links {
+        let told = (counts.frames, counts.bytes, counts.messages);
+        assert_same(rt, told, (80, 80 * 60, 80));
+    }
+    assert_same(rt, (report.equal, report.back), (true, false));
+    assert_handed(rt, report, 256 * 20, 256 * 20);
+}
+
+#[test]
+fn workers_of_256_ports_send_at_once_through_queues_with_room_for_two(rt: HostRuntime) {
+    let config = plan_of(&rt, great_text(rt.alloc(), 2));
+    let gate = Holding::until(Until::Entered(256));
+    let report = storm_of(&rt, config, (20, 100_000_000), &gate).expect(&rt, "a report");
+    assert_great(&rt, &report);
 }

@@ -11,21 +11,15 @@ use storm::{bench_storm, write_totals};
 
 // Asserts what the command comes to over the small plan with this greatest message, and what is written
 // of it.
-fn assert_told<R: Abort + Threads + Wait + Sync>(
-    rt: &R,
-    alloc: Global,
-    max: u16,
-    turns: u64,
-    wanted: Result<(), Failure>,
-    wanted_text: &str,
-)
+fn assert_told(rt: &impl Host, max: u16, turns: u64, wanted: Result<(), Failure>, lines: &str)
     requires { (1 ≤ turns) × (turns ≤ 1000000000) }
 {
-    let text = small_text(alloc, 256, max).expect(rt, "memory");
-    let mut told = Vec::new(alloc);
-    let ended = bench_storm(rt, alloc, text.as_bytes(), &mut told, 100, turns, &OpenGate);
+    let text = small_text(rt.alloc(), 256, max).expect(rt, "memory");
+    let text = text.as_bytes();
+    let mut told = Vec::new(rt.alloc());
+    let ended = bench_storm(rt, rt.alloc(), text, &mut told, 100, turns, &OpenGate);
     assert_same(rt, ended, wanted);
-    assert_same(rt, told.as_slice(), wanted_text.as_bytes());
+    assert_same(rt, told.as_slice(), lines.as_bytes());
 }
 
 const REPORT: &str = "accepted 400
@@ -36,13 +30,13 @@ watcher never back
 
 #[test]
 fn a_storm_is_told_in_four_lines(rt: HostRuntime) {
-    assert_told(&rt, rt.alloc(), 64, 1_000, Ok(()), REPORT);
+    assert_told(&rt, 64, 1_000, Ok(()), REPORT);
 }
 
 #[test]
 fn nothing_is_written_of_a_storm_that_is_refused(rt: HostRuntime) {
-    assert_told(&rt, rt.alloc(), 64, 1, Err(Failure::Turns), "");
-    assert_told(&rt, rt.alloc(), 5, 1_000, Err(Failure::Short), "");
+    assert_told(&rt, 64, 1, Err(Failure::Turns), "");
+    assert_told(&rt, 5, 1_000, Err(Failure::Short), "");
 }
 
 #[test]

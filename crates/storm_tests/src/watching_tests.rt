@@ -1,5 +1,5 @@
 //! Storms over two links, which are read by a watcher and told in the order of the configuration.
-use crate::gates::Watched;
+use crate::gates::{Holding, Until};
 use crate::plans::*;
 use storm::bench_storm;
 
@@ -17,8 +17,8 @@ fn assert_counts(rt: &impl Abort, report: &StormReport, messages: [u64; 2]) {
 
 #[test]
 fn each_link_has_its_own_counts(rt: HostRuntime) {
-    let config = links_plan(&rt, rt.alloc(), &LINKS);
-    let report = storm(&rt, rt.alloc(), config, 10, 1_000, &OpenGate).expect(&rt, "a report");
+    let config = plan_of(&rt, links_text(rt.alloc(), &LINKS));
+    let report = storm_of(&rt, config, (10, 1_000), &OpenGate).expect(&rt, "a report");
     assert_counts(&rt, &report, [10, 20]);
 }
 
@@ -42,9 +42,9 @@ fn links_are_told_in_the_order_of_the_configuration(rt: HostRuntime) {
 // The workers are held until the watcher has read both links as often as it is to.
 #[test]
 fn a_watcher_reads_each_link_while_the_workers_are_held(rt: HostRuntime) {
-    let config = links_plan(&rt, rt.alloc(), &LINKS);
-    let gate = Watched::until(50);
-    let report = storm(&rt, rt.alloc(), config, 50, 100_000_000, &gate).expect(&rt, "a report");
+    let config = plan_of(&rt, links_text(rt.alloc(), &LINKS));
+    let gate = Holding::until(Until::Read(50));
+    let report = storm_of(&rt, config, (50, 100_000_000), &gate).expect(&rt, "a report");
     assert_counts(&rt, &report, [50, 100]);
-    assert_same(&rt, gate.readings(), (50, 50));
+    assert_same(&rt, (gate.first.get(), gate.second.get()), (50, 50));
 }
