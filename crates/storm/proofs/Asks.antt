@@ -1,5 +1,5 @@
 -- How often a worker's port asked.
-use Rattle.storm.proofs.Names.{◌≡◌, ℕ, zero, suc, ◌+◌, ◌<◌, ◌≤◌, ◌⊎◌, List, [], ◌∷◌, ◌++◌, length, get_or, map, ap}
+use Rattle.storm.proofs.Names.{◌≡◌, ℕ, zero, suc, ◌+◌, ◌<◌, ◌≤◌, List, [], ◌∷◌, ◌++◌, length, get_or, map, ap}
 use Rattle.storm.proofs.Names.{sym, ◌∙◌, subst, ⊎_elim, arith, length-map, map-append, SenderView, IsRefused}
 use Rattle.storm.proofs.Names.{PortView, Accepts, Refuses, asked_by, AreAtMost}
 use Rattle.subvl_queue.specs.declared.refused.Why.{Why}
