@@ -1,0 +1,309 @@
+/* Compares the proved library with a transmitter written by hand (hand.c), in one process.
+
+       bench [ROUNDS]
+
+   Both send the same messages and make the same frames, which is checked first. Then each work is measured in turn, the
+   library and the other, ROUNDS times each (11 by default), and one line is printed: the least nanoseconds of each, the
+   ratio of these, and the least, median and greatest ratio of a repetition. The last lines have the time of one poll of 64
+   virtual links that are all due, as a distribution. The exit status is 0 if the frames were equal. */
+#define _GNU_SOURCE
+#include "afdx.h"
+#include "hand.h"
+
+#include <pthread.h>
+#include <sched.h>
+#include <stdatomic.h>
+#include <stdbool.h>
+#include <stdio.h>
+#include <stdlib.h>
+#include <string.h>
+#include <time.h>
+
+enum { MOST_ROUNDS = 101, GREATEST = 8192 };
+
+static double now_ns(void) {
+    struct timespec at;
+    clock_gettime(CLOCK_MONOTONIC, &at);
+    return 1e9 * (double)at.tv_sec + (double)at.tv_nsec;
+}
+
+static void want(bool holds, const char *what) {
+    if (holds) return;
+    fprintf(stderr, "bench: %s\n", what);
+    exit(1);
+}
+
+/* Virtual links of a queue each, and ports in turn on them, as hand_open has them. */
+struct plan {
+    unsigned links, lmax, capacity, ports;
+    size_t max;
+};
+
+/* One of the two that are compared, with its end system. */
+struct side {
+    afdx_end_system it;
+    afdx_port ports[HAND_PORTS];
+    unsigned out;
+    struct hand *hand;
+    uint64_t now;
+};
+
+static const uint8_t message[GREATEST] = {1, 2, 3, 4, 5, 6, 7, 8, 9};
+
+static void open_library(struct side *side, struct plan plan) {
+    static char text[64 * 1024];
+    size_t end = (size_t)snprintf(text, sizeof text, "[end_system]\nid = 1\n");
+    for (unsigned k = 0; k < plan.links; k++)
+        end += (size_t)snprintf(text + end, sizeof text - end, "[[vl]]\nid = %u\nbag_ms = 1\nlmax = %u\nsub_vls = 1\ncapacity = %u\n",
+            k + 1, plan.lmax, plan.capacity);
+    for (unsigned k = 0; k < plan.ports; k++)
+        end += (size_t)snprintf(text + end, sizeof text - end,
+            "[[port]]\nid = %u\nvl = %u\nsub = 0\npartition = 1\nkind = \"queuing\"\nsource = %u\ndestination = 2000\nmax = %zu\n",
+            k, k % plan.links + 1, 1000 + k, plan.max);
+    want(afdx_open(&side->it, (const uint8_t *)text, end) == 0, "the plan is refused");
+    for (side->out = 0; side->out < plan.ports; side->out++)
+        want(afdx_port_of(&side->it, (uint16_t)side->out, &side->ports[side->out]) == 0, "a port is refused");
+}
+
+static void open_both(struct side sides[2], struct plan plan) {
+    memset(sides, 0, 2 * sizeof *sides);
+    open_library(&sides[0], plan);
+    sides[1].hand = hand_open(1, plan.links, plan.lmax, plan.capacity, plan.ports, plan.max);
+    want(sides[1].hand, "no memory");
+}
+
+static void close_both(struct side sides[2]) {
+    while (sides[0].out > 0) afdx_free_port(&sides[0].ports[--sides[0].out]);
+    afdx_free(&sides[0].it);
+    hand_free(sides[1].hand);
+}
+
+static inline int send_bytes(struct side *side, unsigned port, const uint8_t *bytes, size_t length) {
+    return side->hand ? hand_send(side->hand, port, bytes, length) : afdx_send(&side->ports[port], bytes, length);
+}
+
+static inline void poll_at(struct side *side, uint64_t now) {
+    uint8_t up;
+    if (side->hand) {
+        hand_poll(side->hand, now);
+    } else if (afdx_poll(&side->it, now, &up) != 0) {
+        want(false, "a poll is refused");
+    }
+}
+
+/* A poll at which each link is due. */
+static inline void poll_due(struct side *side) {
+    poll_at(side, side->now += 1000);
+}
+
+/* Whether the last polls of both made the same frames. */
+static bool are_same(struct side sides[2]) {
+    for (uint8_t net = 0; net < 2; net++) {
+        size_t count = 0;
+        want(afdx_frames(&sides[0].it, net, &count) == 0, "no frames");
+        if (count != hand_frames(sides[1].hand, net)) return false;
+        for (size_t k = 0; k < count; k++) {
+            uint8_t frame[AFDX_GREATEST_FRAME];
+            size_t length = 0, other = 0;
+            want(afdx_frame(&sides[0].it, net, k, frame, sizeof frame, &length) == 0, "no frame");
+            const uint8_t *bytes = hand_frame(sides[1].hand, net, k, &other);
+            if (length != other || memcmp(frame, bytes, length) != 0) return false;
+        }
+    }
+    return true;
+}
+
+static void check_frames(void) {
+    static const size_t lengths[] = {1, 17, 18, 41, 100, 1471, 1472, 1480, 8192};
+    static const unsigned lmaxes[] = {64, 200, 1518};
+    static struct side sides[2];
+    uint8_t bytes[GREATEST];
+    for (size_t i = 0; i < sizeof bytes; i++) bytes[i] = (uint8_t)(i * 7 + 3);
+    for (size_t m = 0; m < sizeof lmaxes / sizeof *lmaxes; m++) {
+        open_both(sides, (struct plan){3, lmaxes[m], 16, 7, GREATEST});
+        size_t frames = 0;
+        for (unsigned k = 0; k < 600; k++) {
+            for (unsigned p = 0; p < 7; p++) {
+                size_t length = lengths[(k + p) % (sizeof lengths / sizeof *lengths)];
+                want(send_bytes(&sides[0], p, bytes + k % 10, length - (length == GREATEST ? k % 10 : 0))
+                    == send_bytes(&sides[1], p, bytes + k % 10, length - (length == GREATEST ? k % 10 : 0)), "another answer to a send");
+            }
+            for (unsigned j = 0; j < 7; j++) {
+                uint64_t at = 2100 * (uint64_t)k + 300 * j;
+                poll_at(&sides[0], at);
+                poll_at(&sides[1], at);
+                want(are_same(sides), "other frames");
+                frames += hand_frames(sides[1].hand, 0);
+            }
+        }
+        want(frames > 500, "few frames");
+        close_both(sides);
+    }
+}
+
+/* A work over a plan with messages of a length: `measured` returns the nanoseconds of one of its units. */
+struct work {
+    const char *name;
+    struct plan plan;
+    size_t length;
+    unsigned threads;
+    double (*measured)(struct side *, const struct work *);
+    unsigned units;
+};
+
+/* Messages through one port each, polled for at once. */
+static double send_and_poll(struct side *side, const struct work *work) {
+    unsigned pieces = 0, ports = work->plan.ports, links = work->plan.links;
+    size_t room = work->plan.lmax - 39, left = work->length + 8;
+    for (pieces = 1; left > room; pieces++) left -= room & ~(size_t)7;
+    double begun = now_ns();
+    for (unsigned k = 0, port = 0; k < work->units; k += links) {
+        for (unsigned l = 0; l < links; l++, port = port + 1 < ports ? port + 1 : 0) send_bytes(side, port, message, work->length);
+        for (unsigned p = 0; p < pieces; p++) poll_due(side);
+    }
+    return (now_ns() - begun) / work->units;
+}
+
+/* Sends until the queues are full, and then polls until they are empty: sends are timed, or frames. */
+static double in_batches(struct side *side, const struct work *work, bool times_sends) {
+    unsigned ports = work->plan.ports, batch = work->plan.capacity * work->plan.links;
+    double sum = 0;
+    for (unsigned k = 0; k < work->units; k += batch) {
+        double begun = now_ns();
+        for (unsigned j = 0; j < batch; j++) send_bytes(side, j % ports, message, work->length);
+        double sent = now_ns();
+        for (unsigned j = 0; j < work->plan.capacity; j++) poll_due(side);
+        sum += times_sends ? sent - begun : now_ns() - sent;
+    }
+    return sum / ((work->units + batch - 1) / batch * batch);
+}
+
+static double sends(struct side *side, const struct work *work) {
+    return in_batches(side, work, true);
+}
+
+static double frames_due(struct side *side, const struct work *work) {
+    return in_batches(side, work, false);
+}
+
+static double none_due(struct side *side, const struct work *work) {
+    for (unsigned l = 0; l < work->plan.links; l++) send_bytes(side, l, message, work->length);
+    poll_due(side);
+    double begun = now_ns();
+    for (unsigned k = 0; k < work->units; k++) poll_at(side, side->now);
+    return (now_ns() - begun) / work->units;
+}
+
+/* Threads that send through a port each to one queue, while this one polls. */
+struct sender {
+    struct side *side;
+    unsigned port, messages;
+    pthread_t thread;
+};
+
+static void *send_all(void *argument) {
+    struct sender *sender = argument;
+    for (unsigned k = 0; k < sender->messages;) {
+        if (send_bytes(sender->side, sender->port, message, 1) == 0) {
+            k++;
+        } else {
+            sched_yield();
+        }
+    }
+    return NULL;
+}
+
+static double in_threads(struct side *side, const struct work *work) {
+    struct sender senders[16];
+    unsigned each = work->units / work->threads;
+    double begun = now_ns();
+    for (unsigned k = 0; k < work->threads; k++) {
+        senders[k] = (struct sender){side, k, each, 0};
+        want(pthread_create(&senders[k].thread, NULL, send_all, &senders[k]) == 0, "no thread");
+    }
+    for (unsigned got = 0; got < each * work->threads;) {
+        size_t count = 0;
+        poll_due(side);
+        if (side->hand) {
+            count = hand_frames(side->hand, 0);
+        } else {
+            afdx_frames(&side->it, AFDX_A, &count);
+        }
+        if (count == 0) sched_yield();
+        got += (unsigned)count;
+    }
+    for (unsigned k = 0; k < work->threads; k++) pthread_join(senders[k].thread, NULL);
+    return (now_ns() - begun) / (each * work->threads);
+}
+
+static const struct work WORKS[] = {
+    {"send and due poll, 1 byte", {1, 1518, 2, 1, GREATEST}, 1, 0, send_and_poll, 200000},
+    {"send and due poll, 100 bytes", {1, 1518, 2, 1, GREATEST}, 100, 0, send_and_poll, 200000},
+    {"send and due poll, 1,471 bytes", {1, 1518, 2, 1, GREATEST}, 1471, 0, send_and_poll, 100000},
+    {"send and 6 due polls, 8,192 bytes", {1, 1518, 2, 1, GREATEST}, 8192, 0, send_and_poll, 20000},
+    {"send of 1 byte", {1, 1518, 256, 1, GREATEST}, 1, 0, sends, 200000},
+    {"frame of 60 bytes, 64 links due", {64, 1518, 4, 64, GREATEST}, 1, 0, frames_due, 200000},
+    {"frame of 1,514 bytes, 64 links due", {64, 1518, 4, 64, GREATEST}, 1471, 0, frames_due, 50000},
+    {"poll of 64 links, none due", {64, 1518, 4, 64, GREATEST}, 1, 0, none_due, 200000},
+    {"message, 1 link, 1 port", {1, 1518, 4, 1, GREATEST}, 1, 0, send_and_poll, 200000},
+    {"message, 16 links, 64 ports", {16, 1518, 4, 64, GREATEST}, 1, 0, send_and_poll, 200000},
+    {"message, 64 links, 256 ports", {64, 1518, 4, 256, GREATEST}, 1, 0, send_and_poll, 200000},
+    {"message, 1 sender in a thread", {1, 1518, 256, 1, GREATEST}, 1, 1, in_threads, 100000},
+    {"message, 2 senders in threads", {1, 1518, 256, 2, GREATEST}, 1, 2, in_threads, 100000},
+    {"message, 4 senders in threads", {1, 1518, 256, 4, GREATEST}, 1, 4, in_threads, 100000},
+    {"message, 16 senders in threads", {1, 1518, 256, 16, GREATEST}, 1, 16, in_threads, 100000},
+};
+
+static int by_size(const void *a, const void *b) {
+    double x = *(const double *)a, y = *(const double *)b;
+    return (x > y) - (x < y);
+}
+
+static void compare(const struct work *work, unsigned rounds) {
+    double times[2][MOST_ROUNDS], ratios[MOST_ROUNDS];
+    static struct side sides[2];
+    open_both(sides, work->plan);
+    for (unsigned k = 0; k < rounds; k++) {
+        for (int s = 0; s < 2; s++) times[s][k] = work->measured(&sides[s], work);
+        ratios[k] = times[0][k] / times[1][k];
+    }
+    close_both(sides);
+    for (int s = 0; s < 2; s++) qsort(times[s], rounds, sizeof(double), by_size);
+    qsort(ratios, rounds, sizeof(double), by_size);
+    printf("| %-34s | %9.1f | %9.1f | %5.2f | %5.2f | %5.2f | %5.2f |\n", work->name, times[0][0], times[1][0],
+        times[0][0] / times[1][0], ratios[0], ratios[rounds / 2], ratios[rounds - 1]);
+    fflush(stdout);
+}
+
+/* One poll of 64 links that are due, each with a frame of 1,514 bytes: half of the polls, 99 % and so on take at most. */
+static void distribution(unsigned polls) {
+    static struct side sides[2];
+    double *times = malloc(polls * sizeof *times);
+    want(times, "no memory");
+    open_both(sides, (struct plan){64, 1518, 2, 64, GREATEST});
+    for (int s = 0; s < 2; s++) {
+        for (unsigned k = 0; k < polls; k++) {
+            for (unsigned l = 0; l < 64; l++) send_bytes(&sides[s], l, message, 1471);
+            double begun = now_ns();
+            poll_due(&sides[s]);
+            times[k] = (now_ns() - begun) / 1000;
+        }
+        qsort(times, polls, sizeof *times, by_size);
+        printf("| %-34s | %7.1f | %7.1f | %7.1f | %7.1f |\n", s ? "by hand" : "the library", times[polls / 2], times[(unsigned)(polls * 0.99)],
+            times[(unsigned)(polls * 0.9999)], times[polls - 1]);
+    }
+    close_both(sides);
+    free(times);
+}
+
+int main(int count, char **words) {
+    unsigned rounds = count > 1 ? (unsigned)strtoul(words[1], NULL, 10) : 11;
+    want(rounds >= 1 && rounds <= MOST_ROUNDS, "1 to 101 rounds");
+    check_frames();
+    printf("| %-34s | %9s | %9s | %5s | %5s | %5s | %5s |\n", "nanoseconds", "library", "by hand", "ratio", "least", "half", "most");
+    printf("|---|---|---|---|---|---|---|\n");
+    for (size_t k = 0; k < sizeof WORKS / sizeof *WORKS; k++) compare(&WORKS[k], rounds);
+    printf("\n| %-34s | %7s | %7s | %7s | %7s |\n|---|---|---|---|---|\n", "microseconds of a poll, 64 links due", "half", "99 %", "99.99 %", "most");
+    distribution(rounds < 11 ? 1000 : 1000000);
+    return 0;
+}
