@@ -1,0 +1,45 @@
+"""A test bench: sends through two ports, checks sequence numbers and gaps, and writes a capture for Wireshark.
+
+    python3 examples/python/bench.py PLAN CAPTURE PORT PORT
+"""
+import struct
+import sys
+
+from afdx import EndSystem, Full
+
+
+def block(kind: int, body: bytes) -> bytes:
+    """A block of a pcapng file."""
+    body += bytes(-len(body) % 4)
+    length = struct.pack("<I", 12 + len(body))
+    return struct.pack("<I", kind) + length + body + length
+
+
+def main(plan: str, capture: str, *ports: str) -> None:
+    with open(plan, encoding="utf-8") as file:
+        it = EndSystem(file.read())
+    last: dict[tuple[int, bytes], tuple[int, int]] = {}
+    with it, open(capture, "wb") as out:
+        out.write(block(0x0A0D0D0A, struct.pack("<IHHq", 0x1A2B3C4D, 1, 0, -1)))
+        for name in b"AB":
+            out.write(block(1, struct.pack("<HHIHHBxxxI", 1, 0, 1514, 2, 1, name, 0)))
+        senders = [it.port(int(port)) for port in ports]
+        for now in range(0, 1_000_000, 250):
+            for port in senders:
+                try:
+                    port.send(b"%d at %d" % (port.id, now))
+                except Full:
+                    pass
+            for network, frame in it.poll(now):
+                link, number = frame[4:6], frame[-1]
+                before, at = last.get((network, link), (None, -1_000_000))
+                assert number == (0 if before is None else before % 255 + 1), f"number {number} after {before}"
+                assert now - at >= 1000, f"{now - at} microseconds after the last frame"
+                last[network, link] = number, now
+                out.write(block(6, struct.pack("<IIIII", network, now >> 32, now & 0xFFFFFFFF, len(frame), len(frame)) + frame))
+    for (network, link), (number, _) in sorted(last.items()):
+        print(f"link {int.from_bytes(link, 'big')} on {'AB'[network]}: last number {number}")
+
+
+if __name__ == "__main__":
+    main(*sys.argv[1:])
