@@ -109,7 +109,7 @@ static size_t frames(afdx_end_system *it, uint8_t network) {
 /* A poll: which networks are up. */
 static uint8_t poll(afdx_end_system *it, uint64_t now) {
     uint8_t standing = 77;
-    CHECK(afdx_poll(it, now, &standing) == 0);
+    CHECK(afdx_poll(it, now, &standing) == AFDX_OK);
     return standing;
 }
 

@@ -1,6 +1,6 @@
 /* The proved transmitting AFDX end system (ARINC 664 Part 7), for C.
 
-   Link: cc program.c libafdx.a liblibc_c.a (of the Rattle kit's folder c/).
+   Build: cc program.c $(pkg-config --cflags --libs afdx), after `bash install/install.sh PREFIX`.
 
    An end system is opened from the text of a configuration. Its ports may each go to a thread of their own, where they
    send. One thread polls with the present moment and then copies the frames of that poll out, those for network A and
@@ -16,11 +16,13 @@
    - one call at a time on a handle. Different handles may be used by different threads at the same time; a handle goes
      from one thread to another as any data does, by a lock or by a thread's start or end;
    - pointers lead to as many bytes as are told, and aren't NULL, even for 0 bytes; nobody else writes there meanwhile,
-     and what is written through lies apart from what is read;
+     and what is written through lies apart from what is read and from what else is written through;
    - a port is given back to the end system that it was taken from;
    - the two handles of one call are two;
    - malloc, realloc and free come from one allocator. No call is made from a signal handler or in the forked child of a
      process with threads.
+   No call takes a pointer to const where it takes a handle, even if it changes nothing of the end system: each takes the
+   content out of the handle and puts it back before it returns.
    A call after afdx_free, a port asked for twice, a moment that goes back, an unknown identifier and a buffer that is too
    small are told by their numbers. */
 #ifndef AFDX_H
@@ -32,6 +34,12 @@
 #ifdef __cplusplus
 extern "C" {
 #endif
+
+/* The version of this header and of the library that is installed with it: MAJOR changes with what is not compatible. */
+#define AFDX_VERSION_MAJOR 1
+#define AFDX_VERSION_MINOR 0
+#define AFDX_VERSION_PATCH 0
+#define AFDX_VERSION "1.0.0"
 
 /* An end system: sending while its ports are out, or draining once it has gathered them. {0} is one that isn't open. */
 typedef struct {
@@ -61,6 +69,9 @@ enum { AFDX_A_STANDS = 1, AFDX_B_STANDS = 2 };
 
 /* The greatest frame in bytes, and the most frames of a network that one poll makes: one of each virtual link. */
 enum { AFDX_GREATEST_FRAME = 1514, AFDX_MOST_FRAMES = 64 };
+
+/* Success, of any call. */
+enum { AFDX_OK = 0 };
 
 /* Why a configuration is refused by afdx_open: the fault of the least number, as docs/configuration.md tells them. */
 enum {
@@ -135,7 +146,7 @@ uint8_t afdx_poll(afdx_end_system *it, uint64_t now, uint8_t *standing);
 uint8_t afdx_frames(afdx_end_system *it, uint8_t network, size_t *count);
 
 /* Copies frame k, from 0, that the last poll made for a network into a buffer, and writes how many bytes it has: at most
-   AFDX_GREATEST_FRAME. Nothing behind those is written. Refused: AFDX_NOT_HELD, AFDX_WRONG_HANDLE, AFDX_NO_NETWORK,
+   AFDX_GREATEST_FRAME. Nothing behind those is written. `length` doesn't lie in `buffer`. Refused: AFDX_NOT_HELD, AFDX_WRONG_HANDLE, AFDX_NO_NETWORK,
    AFDX_NO_FRAME, AFDX_SMALL_BUFFER; then nothing is written. */
 uint8_t afdx_frame(afdx_end_system *it, uint8_t network, size_t k, uint8_t *buffer, size_t size, size_t *length);
 
@@ -173,6 +184,33 @@ uint8_t afdx_free(afdx_end_system *it);
 /* Gives back what belongs to a port; its handle holds nothing then. What it sent still goes out, but the end system can't
    be gathered any more. Refused: AFDX_NOT_HELD, AFDX_WRONG_HANDLE. */
 uint8_t afdx_free_port(afdx_port *port);
+
+/* The calls, by how their least numbers read: those of afdx_open, afdx_send and afdx_poll mean faults of their own. */
+typedef enum { AFDX_CALL_OPEN, AFDX_CALL_SEND, AFDX_CALL_POLL, AFDX_CALL_OTHER } afdx_call;
+
+/* AFDX_VERSION. */
+static inline const char *afdx_version(void) { return AFDX_VERSION; }
+
+/* The name above of an answer of a call, as "AFDX_FULL" of 5 and AFDX_CALL_SEND, or "unknown answer". */
+static inline const char *afdx_answer_name(afdx_call call, uint8_t answer) {
+    static const char *const of_open[] = {
+        "AFDX_CONFIG_TOML", "AFDX_CONFIG_MISSING_KEY", "AFDX_CONFIG_UNKNOWN_KEY", "AFDX_CONFIG_WRONG_KIND",
+        "AFDX_CONFIG_OUT_OF_RANGE", "AFDX_CONFIG_BAD_BAG", "AFDX_CONFIG_DUPLICATE_VL", "AFDX_CONFIG_DUPLICATE_PORT",
+        "AFDX_CONFIG_NO_SUCH_VL", "AFDX_CONFIG_NO_SUCH_SUB", "AFDX_CONFIG_SAMPLING_TOO_LONG", "AFDX_CONFIG_SAME_FLOW",
+        "AFDX_CONFIG_SHARED_UNICAST", "AFDX_CONFIG_LIMIT"};
+    static const char *const of_send[] = {"AFDX_EMPTY", "AFDX_TOO_LONG", "AFDX_CLOSED", "AFDX_EXHAUSTED", "AFDX_FULL"};
+    static const char *const of_any[] = {
+        "AFDX_NOT_HELD", "AFDX_WRONG_HANDLE", "AFDX_HELD", "AFDX_TIME_BACK", "AFDX_NO_PORT", "AFDX_NO_SUB", "AFDX_NO_LINK",
+        "AFDX_NO_NETWORK", "AFDX_NO_FRAME", "AFDX_SMALL_BUFFER", "AFDX_PORT_MISSING", "AFDX_GATHERED", "AFDX_NOT_GATHERED"};
+    size_t k = answer;
+    if (k == AFDX_OK) return "AFDX_OK";
+    if (k == AFDX_MEMORY) return "AFDX_MEMORY";
+    if (k >= AFDX_NOT_HELD && k - AFDX_NOT_HELD < sizeof of_any / sizeof *of_any) return of_any[k - AFDX_NOT_HELD];
+    if (call == AFDX_CALL_OPEN && k <= sizeof of_open / sizeof *of_open) return of_open[k - 1];
+    if (call == AFDX_CALL_SEND && k <= sizeof of_send / sizeof *of_send) return of_send[k - 1];
+    if (call == AFDX_CALL_POLL && k == AFDX_BOTH_DOWN) return "AFDX_BOTH_DOWN";
+    return "unknown answer";
+}
 
 #ifdef __cplusplus
 }
