@@ -41,13 +41,14 @@ extern "C" {
 #define AFDX_VERSION_PATCH 0
 #define AFDX_VERSION "1.0.0"
 
-/* An end system: sending while its ports are out, or draining once it has gathered them. {0} is one that isn't open. */
+/* An end system: sending while its ports are out, or draining once it has gathered them. {0} is one that isn't open, in
+   C++ {}. */
 typedef struct {
     void *at;
     uint8_t held;
 } afdx_end_system;
 
-/* A port of an end system. {0} is none. */
+/* A port of an end system. {0} is none, in C++ {}. */
 typedef struct {
     void *at;
     uint8_t held;

@@ -1,0 +1,261 @@
+/* The proved transmitting AFDX end system for C++11 and later: the calls of afdx.h as classes. Header only.
+
+       afdx::EndSystem it(text);
+       afdx::Port port = it.port(10);
+       port.send(message);
+       it.poll(now);
+       it.each_frame(afdx::Network::A, [](const std::uint8_t *frame, std::size_t length) { ... });
+
+   An end system and a port are moved and never copied, and free what they hold when they end. One call at a time uses an
+   object, so no call is const; a port may be moved into a thread of its own. Times are in microseconds and don't go back.
+   afdx.h says of each call what it does and when it is refused; an answer other than AFDX_OK is an exception here. A
+   program that is compiled without exceptions uses afdx.h. */
+#ifndef AFDX_HPP
+#define AFDX_HPP
+
+#include "afdx.h"
+
+#include <cstddef>
+#include <cstdint>
+#include <memory>
+#include <stdexcept>
+#include <string>
+
+namespace afdx {
+
+enum class Network : std::uint8_t { A = AFDX_A, B = AFDX_B };
+
+/* Why a configuration is refused. */
+enum class ConfigFault : std::uint8_t {
+    Toml = AFDX_CONFIG_TOML,
+    MissingKey = AFDX_CONFIG_MISSING_KEY,
+    UnknownKey = AFDX_CONFIG_UNKNOWN_KEY,
+    WrongKind = AFDX_CONFIG_WRONG_KIND,
+    OutOfRange = AFDX_CONFIG_OUT_OF_RANGE,
+    BadBag = AFDX_CONFIG_BAD_BAG,
+    DuplicateVl = AFDX_CONFIG_DUPLICATE_VL,
+    DuplicatePort = AFDX_CONFIG_DUPLICATE_PORT,
+    NoSuchVl = AFDX_CONFIG_NO_SUCH_VL,
+    NoSuchSub = AFDX_CONFIG_NO_SUCH_SUB,
+    SamplingTooLong = AFDX_CONFIG_SAMPLING_TOO_LONG,
+    SameFlow = AFDX_CONFIG_SAME_FLOW,
+    SharedUnicast = AFDX_CONFIG_SHARED_UNICAST,
+    Limit = AFDX_CONFIG_LIMIT
+};
+
+/* Why a message is refused. */
+enum class SendFault : std::uint8_t {
+    Empty = AFDX_EMPTY,
+    TooLong = AFDX_TOO_LONG,
+    Closed = AFDX_CLOSED,
+    Exhausted = AFDX_EXHAUSTED,
+    Full = AFDX_FULL
+};
+
+/* Why a call can't be made now. NotHeld: the object was moved from, freed or given back. */
+enum class MisuseFault : std::uint8_t {
+    NotHeld = AFDX_NOT_HELD,
+    WrongHandle = AFDX_WRONG_HANDLE,
+    Held = AFDX_HELD,
+    TimeBack = AFDX_TIME_BACK,
+    NoPort = AFDX_NO_PORT,
+    NoSub = AFDX_NO_SUB,
+    NoLink = AFDX_NO_LINK,
+    NoNetwork = AFDX_NO_NETWORK,
+    NoFrame = AFDX_NO_FRAME,
+    SmallBuffer = AFDX_SMALL_BUFFER,
+    PortMissing = AFDX_PORT_MISSING,
+    Gathered = AFDX_GATHERED,
+    NotGathered = AFDX_NOT_GATHERED
+};
+
+/* An answer other than AFDX_OK. `what` is its name in afdx.h. */
+class Error : public std::runtime_error {
+public:
+    Error(afdx_call call, std::uint8_t answer) : std::runtime_error(afdx_answer_name(call, answer)), answer_(answer) {}
+    std::uint8_t answer() const noexcept { return answer_; }
+
+private:
+    std::uint8_t answer_;
+};
+
+/* An error with a fault. */
+template <typename Fault> class Faulty : public Error {
+public:
+    using Error::Error;
+    Fault fault() const noexcept { return static_cast<Fault>(answer()); }
+};
+
+struct ConfigError : Faulty<ConfigFault> { using Faulty::Faulty; };
+struct SendError : Faulty<SendFault> { using Faulty::Faulty; };
+struct Misuse : Faulty<MisuseFault> { using Faulty::Faulty; };
+
+/* Both networks had failed before the poll. */
+struct BothDown : Error { using Error::Error; };
+
+/* An allocation failed. */
+struct OutOfMemory : Error { using Error::Error; };
+
+namespace detail {
+
+/* Throws what an answer of a call means, if it isn't AFDX_OK. */
+inline void want(std::uint8_t answer, afdx_call call = AFDX_CALL_OTHER) {
+    if (answer == AFDX_OK) return;
+    if (answer == AFDX_MEMORY) throw OutOfMemory(call, answer);
+    if (answer >= AFDX_NOT_HELD) throw Misuse(call, answer);
+    if (call == AFDX_CALL_OPEN) throw ConfigError(call, answer);
+    if (call == AFDX_CALL_SEND) throw SendError(call, answer);
+    if (call == AFDX_CALL_POLL) throw BothDown(call, answer);
+    throw Error(call, answer);
+}
+
+struct Free {
+    void operator()(afdx_end_system *it) const noexcept {
+        afdx_free(it);
+        delete it;
+    }
+    void operator()(afdx_port *port) const noexcept {
+        afdx_free_port(port);
+        delete port;
+    }
+};
+
+/* A handle of afdx.h, which stays where it is when its object is moved. */
+template <typename Kind> class Handle {
+public:
+    Handle() : at_(new Kind()) {}
+    Kind *get() {
+        if (!at_) throw Misuse(AFDX_CALL_OTHER, AFDX_NOT_HELD);
+        return at_.get();
+    }
+
+private:
+    std::unique_ptr<Kind, Free> at_;
+};
+
+} // namespace detail
+
+/* A port of an end system. What it accepted is still transmitted after it is freed, but its end system can't gather then:
+   give it back instead. */
+class Port {
+public:
+    /* Copies a message in. Throws SendError (of Full: poll, and try again) or OutOfMemory. */
+    void send(const std::uint8_t *message, std::size_t length) {
+        detail::want(try_send(message, length), AFDX_CALL_SEND);
+    }
+
+    /* The same of a vector, string, array or span of bytes. */
+    template <typename Bytes> void send(const Bytes &message) {
+        static_assert(sizeof *message.data() == 1, "a message is bytes");
+        send(reinterpret_cast<const std::uint8_t *>(message.data()), message.size());
+    }
+
+    /* The same with the answer of afdx_send in place of its exceptions. */
+    std::uint8_t try_send(const std::uint8_t *message, std::size_t length) {
+        const std::uint8_t nothing = 0;
+        return afdx_send(handle_.get(), length == 0 ? &nothing : message, length);
+    }
+
+    /* How many messages were accepted. */
+    std::uint64_t accepted() {
+        std::uint64_t count = 0;
+        detail::want(afdx_accepted(handle_.get(), &count));
+        return count;
+    }
+
+private:
+    friend class EndSystem;
+    Port() = default;
+    detail::Handle<afdx_port> handle_;
+};
+
+/* An end system of a configuration. */
+class EndSystem {
+public:
+    /* Which networks are up. */
+    struct Up {
+        bool a, b;
+    };
+
+    /* Opens an end system from the text of a configuration. Throws ConfigError or OutOfMemory. */
+    explicit EndSystem(const std::string &text) {
+        const auto *bytes = reinterpret_cast<const std::uint8_t *>(text.data());
+        detail::want(afdx_open(handle_.get(), bytes, text.size()), AFDX_CALL_OPEN);
+    }
+
+    /* Takes the port with an identifier. Throws Misuse (NoPort if there is none or it is out, Gathered) or OutOfMemory. */
+    Port port(std::uint16_t id) {
+        Port port;
+        detail::want(afdx_port_of(handle_.get(), id, port.handle_.get()));
+        return port;
+    }
+
+    /* Gives each virtual link its turn. Throws Misuse (TimeBack) or BothDown. */
+    Up poll(std::uint64_t now) {
+        std::uint8_t up = 0;
+        detail::want(afdx_poll(handle_.get(), now, &up), AFDX_CALL_POLL);
+        return {(up & AFDX_A_STANDS) != 0, (up & AFDX_B_STANDS) != 0};
+    }
+
+    /* How many frames the last poll made for a network. */
+    std::size_t frames(Network network) {
+        std::size_t count = 0;
+        detail::want(afdx_frames(handle_.get(), static_cast<std::uint8_t>(network), &count));
+        return count;
+    }
+
+    /* Copies frame k of the last poll into a buffer, and returns its length. Throws Misuse (NoFrame, SmallBuffer). */
+    std::size_t frame(Network network, std::size_t k, std::uint8_t *buffer, std::size_t size) {
+        std::size_t length = 0;
+        detail::want(afdx_frame(handle_.get(), static_cast<std::uint8_t>(network), k, buffer, size, &length));
+        return length;
+    }
+
+    /* Calls `sink` with the bytes and the length of each frame that the last poll made for a network. */
+    template <typename Sink> void each_frame(Network network, Sink &&sink) {
+        std::uint8_t buffer[AFDX_GREATEST_FRAME];
+        const std::size_t count = frames(network);
+        for (std::size_t k = 0; k < count; k++) {
+            const std::size_t length = frame(network, k, buffer, sizeof buffer);
+            sink(static_cast<const std::uint8_t *>(buffer), length);
+        }
+    }
+
+    /* A network failed: its next frame fails, and it gets none after that. */
+    void fail(Network network) { detail::want(afdx_fail(handle_.get(), static_cast<std::uint8_t>(network))); }
+
+    /* Closes a sub-VL, and returns how many messages it accepted. Throws Misuse (NoSub, Gathered). */
+    std::uint64_t close(std::uint16_t vl, std::uint8_t sub) {
+        std::uint64_t total = 0;
+        detail::want(afdx_close(handle_.get(), vl, sub, &total));
+        return total;
+    }
+
+    /* What was sent of a virtual link. Throws Misuse (NoLink). */
+    afdx_counts counts(std::uint16_t vl) {
+        afdx_counts counts = afdx_counts();
+        detail::want(afdx_link_counts(handle_.get(), vl, &counts));
+        return counts;
+    }
+
+    /* Takes a port back that came from this end system; it holds nothing then. Throws Misuse (Gathered, NoPort), and the
+       port stays as it is. */
+    void give_back(Port &&port) { detail::want(afdx_give_back(handle_.get(), port.handle_.get())); }
+
+    /* Has each later poll send what is left. Throws Misuse (PortMissing while a port is out, Gathered). */
+    void gather() { detail::want(afdx_gather(handle_.get())); }
+
+    /* Whether all that was accepted has been transmitted. Throws Misuse (NotGathered). */
+    bool is_done() {
+        std::uint8_t done = 0;
+        detail::want(afdx_is_done(handle_.get(), &done));
+        return done != 0;
+    }
+
+private:
+    detail::Handle<afdx_end_system> handle_;
+};
+
+} // namespace afdx
+
+#endif

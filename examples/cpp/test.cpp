@@ -1,0 +1,171 @@
+// Tries afdx.hpp: objects are moved and never copied, each fault is an exception, and a port sends from a thread of its own.
+//
+//     test CONFIG
+//
+// CONFIG is the demonstration configuration. Each try that failed is printed; the last line is 'N passed, M failed'.
+#include <afdx.hpp>
+
+#include <cstdio>
+#include <fstream>
+#include <iterator>
+#include <string>
+#include <thread>
+#include <type_traits>
+#include <utility>
+#include <vector>
+
+using afdx::ConfigFault;
+using afdx::MisuseFault;
+using afdx::Network;
+using afdx::SendFault;
+
+template <typename Of> constexpr bool is_move_only() {
+    return std::is_nothrow_move_constructible<Of>::value && std::is_nothrow_move_assignable<Of>::value
+        && !std::is_copy_constructible<Of>::value && !std::is_copy_assignable<Of>::value;
+}
+static_assert(is_move_only<afdx::EndSystem>() && is_move_only<afdx::Port>(), "objects are moved and never copied");
+static_assert(!std::is_default_constructible<afdx::Port>::value, "a port is one of an end system");
+
+static int passed, failed;
+
+static void check(bool holds, int line, const char *text) {
+    if (holds) {
+        passed++;
+    } else {
+        failed++;
+        std::printf("line %d: %s\n", line, text);
+    }
+}
+#define CHECK(...) check((__VA_ARGS__), __LINE__, #__VA_ARGS__)
+
+// Whether a call throws this type of exception with this fault.
+template <typename Kind, typename Fault, typename Call> static bool throws(Fault fault, Call call) {
+    try {
+        call();
+    } catch (const Kind &error) {
+        return error.fault() == fault && std::string(error.what()).compare(0, 5, "AFDX_") == 0;
+    }
+    return false;
+}
+template <typename Call> static bool is_misuse(MisuseFault fault, Call call) { return throws<afdx::Misuse>(fault, call); }
+
+static std::string replaced(std::string text, const std::string &old, const std::string &by) {
+    return text.replace(text.find(old), old.size(), by);
+}
+
+static void try_opening(const std::string &demo) {
+    const auto is_refused = [](ConfigFault fault, const std::string &text) {
+        return throws<afdx::ConfigError>(fault, [&] { afdx::EndSystem it(text); });
+    };
+    CHECK(is_refused(ConfigFault::Toml, replaced(demo, "[end_system]", "[")));
+    CHECK(is_refused(ConfigFault::MissingKey, ""));
+    CHECK(is_refused(ConfigFault::OutOfRange, replaced(demo, "1518", "63")));
+    CHECK(is_refused(ConfigFault::BadBag, replaced(demo, "bag_ms = 1", "bag_ms = 3")));
+    CHECK(is_refused(ConfigFault::NoSuchSub, replaced(demo, "sub = 0", "sub = 1")));
+}
+
+static void try_sending(const std::string &demo) {
+    afdx::EndSystem it(demo);
+    afdx::Port port = it.port(10);
+    const auto is_refused = [&](SendFault fault, const std::string &message) {
+        return throws<afdx::SendError>(fault, [&] { port.send(message); });
+    };
+    CHECK(is_refused(SendFault::Empty, ""));
+    CHECK(throws<afdx::SendError>(SendFault::Empty, [&] { port.send(std::vector<std::uint8_t>()); }));
+    CHECK(is_refused(SendFault::TooLong, std::string(8193, 'x')));
+    port.send(std::vector<std::uint8_t>(8192));
+    port.send(std::string("x"));
+    CHECK(is_refused(SendFault::Full, "x"));
+    const std::uint8_t byte = 0;
+    CHECK(port.try_send(&byte, 1) == AFDX_FULL && port.accepted() == 2);
+    CHECK(it.close(1, 0) == 2);
+    CHECK(is_refused(SendFault::Closed, "x"));
+}
+
+static void try_misuse(const std::string &demo) {
+    afdx::EndSystem it(demo);
+    afdx::Port port = it.port(10);
+    std::uint8_t buffer[59];
+    port.send(std::string("x"));
+    CHECK(it.poll(7).a && it.frames(Network::A) == 1 && it.counts(1).frames == 1);
+    CHECK(is_misuse(MisuseFault::TimeBack, [&] { it.poll(6); }));
+    CHECK(is_misuse(MisuseFault::NoPort, [&] { it.port(10); }));
+    CHECK(is_misuse(MisuseFault::NoSub, [&] { it.close(1, 1); }));
+    CHECK(is_misuse(MisuseFault::NoLink, [&] { it.counts(2); }));
+    CHECK(is_misuse(MisuseFault::NoNetwork, [&] { it.fail(static_cast<Network>(2)); }));
+    CHECK(is_misuse(MisuseFault::NoFrame, [&] { it.frame(Network::B, 1, buffer, sizeof buffer); }));
+    CHECK(is_misuse(MisuseFault::SmallBuffer, [&] { it.frame(Network::B, 0, buffer, sizeof buffer); }));
+    CHECK(is_misuse(MisuseFault::PortMissing, [&] { it.gather(); }));
+    CHECK(is_misuse(MisuseFault::NotGathered, [&] { it.is_done(); }));
+}
+
+static void try_moving(const std::string &demo) {
+    afdx::EndSystem first(demo);
+    afdx::Port port = first.port(10);
+    port.send(std::string("x"));
+    afdx::Port moved = std::move(port);
+    CHECK(moved.accepted() == 1 && is_misuse(MisuseFault::NotHeld, [&] { port.accepted(); }));
+    afdx::EndSystem it = std::move(first);
+    CHECK(it.poll(0).b && is_misuse(MisuseFault::NotHeld, [&] { first.poll(0); }));
+    it.give_back(std::move(moved));
+    CHECK(is_misuse(MisuseFault::NotHeld, [&] { moved.accepted(); }));
+    CHECK(is_misuse(MisuseFault::NotHeld, [&] { it.give_back(std::move(moved)); }));
+    CHECK(it.port(10).accepted() == 1); // (freed at once, and so it is missing)
+    CHECK(is_misuse(MisuseFault::PortMissing, [&] { it.gather(); }));
+    it = afdx::EndSystem(demo);
+    it.gather();
+    CHECK(it.is_done() && is_misuse(MisuseFault::Gathered, [&] { it.port(10); }));
+}
+
+static void try_failing(const std::string &demo) {
+    afdx::EndSystem it(demo);
+    it.port(10).send(std::string("x"));
+    it.fail(Network::A);
+    it.fail(Network::B);
+    const afdx::EndSystem::Up up = it.poll(0);
+    CHECK(!up.a && !up.b);
+    bool is_thrown = false;
+    try {
+        it.poll(1);
+    } catch (const afdx::BothDown &error) {
+        is_thrown = error.what() == std::string("AFDX_BOTH_DOWN");
+    }
+    CHECK(is_thrown);
+}
+
+static void send_all(afdx::Port port) {
+    for (unsigned k = 0; k < 1000; k++) {
+        const auto byte = static_cast<std::uint8_t>(k);
+        while (port.try_send(&byte, 1) == AFDX_FULL) std::this_thread::yield();
+    }
+}
+
+// A port is moved into a thread, sends there and ends there; all that it sent is transmitted, in order.
+static void try_thread(const std::string &demo) {
+    afdx::EndSystem it(demo);
+    std::thread sender(send_all, it.port(10));
+    unsigned came = 0, in_order = 0;
+    for (std::uint64_t now = 0; came < 1000 && now < 1000000000; now += 1000) {
+        it.poll(now);
+        it.each_frame(Network::A, [&](const std::uint8_t *frame, std::size_t length) {
+            in_order += length == 60 && frame[42] == (came & 0xff);
+            came++;
+        });
+        std::this_thread::yield();
+    }
+    sender.join();
+    CHECK(came == 1000 && in_order == 1000);
+}
+
+int main(int argc, char **argv) {
+    if (argc != 2) return 2;
+    std::ifstream file(argv[1], std::ios::binary);
+    const std::string demo{std::istreambuf_iterator<char>(file), std::istreambuf_iterator<char>()};
+    try {
+        for (auto test : {try_opening, try_sending, try_misuse, try_moving, try_failing, try_thread}) test(demo);
+    } catch (const std::exception &error) {
+        check(false, __LINE__, error.what());
+    }
+    std::printf("%d passed, %d failed\n", passed, failed);
+    return failed != 0;
+}
