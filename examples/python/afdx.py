@@ -12,8 +12,8 @@ An end system and each of its ports may be used by a thread of its own, one call
 microseconds and don't go back. Frames run from the destination MAC address to the sequence number, without the frame
 check sequence. Each answer of the C library other than success is an exception named as in afdx.h.
 
-`bash examples/python/build.sh` makes libafdx.so. It is searched under the name in AFDX_LIBRARY, beside this file and where
-the system looks.
+`bash install/install.sh PREFIX` puts this file into PREFIX/lib/python and libafdx.so into PREFIX/lib. The library is the
+file that AFDX_LIBRARY names, else the one beside this file, in the folder above, or where the system looks.
 """
 from __future__ import annotations
 
@@ -91,8 +91,9 @@ class _Counts(ctypes.Structure):
 
 
 def _library() -> ctypes.CDLL:
-    beside = Path(__file__).with_name("libafdx.so")
-    return ctypes.CDLL(os.environ.get("AFDX_LIBRARY") or (str(beside) if beside.exists() else "libafdx.so"))
+    here = Path(__file__).resolve().parent
+    near = [str(path) for path in (here / "libafdx.so", here.parent / "libafdx.so") if path.exists()]
+    return ctypes.CDLL(os.environ.get("AFDX_LIBRARY") or [*near, "libafdx.so"][0])
 
 
 def _calls(library: ctypes.CDLL) -> None:

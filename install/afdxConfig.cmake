@@ -1,0 +1,12 @@
+# The proved transmitting AFDX end system: afdx::afdx is the static library, afdx::shared the shared one.
+if(NOT TARGET afdx::afdx)
+  get_filename_component(_afdx_prefix "${CMAKE_CURRENT_LIST_DIR}/../../.." ABSOLUTE)
+  add_library(afdx::afdx STATIC IMPORTED)
+  add_library(afdx::shared SHARED IMPORTED)
+  set_property(TARGET afdx::afdx PROPERTY IMPORTED_LOCATION "${_afdx_prefix}/lib/libafdx.a")
+  set_property(TARGET afdx::shared PROPERTY IMPORTED_LOCATION "${_afdx_prefix}/lib/libafdx.so")
+  foreach(_afdx_target afdx::afdx afdx::shared)
+    set_property(TARGET ${_afdx_target} PROPERTY INTERFACE_INCLUDE_DIRECTORIES "${_afdx_prefix}/include")
+  endforeach()
+  unset(_afdx_prefix)
+endif()

@@ -1,0 +1,222 @@
+#!/usr/bin/env python3
+"""Installs the library into a folder, moves that, and tries from an empty folder what a user has from it alone.
+
+    python3 install/test_install.py
+
+The examples for C, C++, CMake and Python have to print what the program's stored run prints, those for C and C++ also with
+the address and the undefined behaviour sanitizer; the headers have to compile without a warning in each version of C and
+C++. It takes `CC` or `cc`. What needs a C++ compiler, pkg-config or CMake is skipped where there is none, and named. The last
+line is 'N passed, M failed'.
+"""
+import os
+import re
+import shutil
+import subprocess
+import sys
+import tempfile
+
+sys.dont_write_bytecode = True
+ROOT = os.path.dirname(os.path.dirname(os.path.abspath(__file__)))
+sys.path.insert(0, f"{ROOT}/tools")
+from trying import ONE_FRAME, Tries, compiler, text_of
+
+WARNINGS = ["-Wall", "-Wextra", "-Werror", "-Wpedantic", "-Wconversion", "-g", "-O1"]
+SANITIZERS = ["-fsanitize=address,undefined", "-fno-sanitize-recover=all"]
+FILES = """\
+include/afdx.h include/afdx.hpp
+lib/libafdx.a lib/libafdx.so lib/pkgconfig/afdx.pc lib/cmake/afdx/afdxConfig.cmake lib/cmake/afdx/afdxConfigVersion.cmake
+lib/python/afdx.py
+share/afdx/examples/c/demo.toml share/afdx/examples/c/example.c share/afdx/examples/cmake/CMakeLists.txt
+share/afdx/examples/cmake/main.c share/afdx/examples/cpp/main.cpp
+share/afdx/examples/python/bench.py share/afdx/examples/python/main.py""".split()
+
+
+class Tried:
+    """An installed library, and the empty folder in which it is tried."""
+
+    def __init__(self, tries, room):
+        self.tries, self.room = tries, room
+        self.prefix = f"{room}/moved/prefix"
+        self.examples = f"{self.prefix}/share/afdx/examples"
+        self.config = f"{self.examples}/c/demo.toml"
+        self.cc, self.cxx = compiler() or "cc", compiler("CXX", ("c++", "g++", "clang++"))
+        found = {"PKG_CONFIG_PATH": "lib/pkgconfig", "CMAKE_PREFIX_PATH": "", "PYTHONPATH": "lib/python"}
+        self.variables = {name: f"{self.prefix}/{folder}" for name, folder in found.items()}
+
+    def ran(self, words, **more):
+        """A run of a command in the empty folder, which knows of the prefix by the variables alone."""
+        kept = {name: value for name, value in os.environ.items() if name in ("PATH", "HOME", "LANG", "TMPDIR", "CC", "CXX")}
+        return subprocess.run(words, cwd=f"{self.room}/empty", env={**kept, **self.variables, **more}, capture_output=True,
+                              text=True, timeout=300, check=False)
+
+    def show(self, name, it, wanted=None):
+        """Shows a run, which has to end well and print this. Whether it did."""
+        is_well = it.returncode == 0 and not it.stderr and wanted in (None, it.stdout)
+        self.tries.show(name, [] if is_well else [f"status {it.returncode}: {it.stdout[-1000:]}{it.stderr[-1000:]}"])
+        return is_well
+
+    def lacks(self, what, program):
+        """Whether a program isn't there, which is said."""
+        if program is None:
+            print(f"no {what}: skipped", flush=True)
+        return program is None
+
+
+def install(tried):
+    """Installs, and moves the folder. Whether the files are there."""
+    words = ["bash", f"{ROOT}/install/install.sh"]
+    refused = subprocess.run(words, capture_output=True, text=True, check=False)
+    tried.tries.show("install.sh without a prefix", [] if refused.returncode == 2 else [f"status {refused.returncode}"])
+    made = subprocess.run([*words, "not there/prefix"], cwd=tried.room, capture_output=True, text=True, check=False)
+    if made.returncode:
+        tried.tries.show("install.sh", [made.stdout[-1000:] + made.stderr[-1000:]])
+        return False
+    os.rename(f"{tried.room}/not there", f"{tried.room}/moved")
+    found = [os.path.relpath(f"{folder}/{name}", tried.prefix) for folder, _, names in os.walk(tried.prefix) for name in names]
+    tried.tries.show("install.sh: its files", [] if sorted(found) == sorted(FILES) else [str(sorted(set(found) ^ set(FILES)))])
+    os.mkdir(f"{tried.room}/empty")
+    return True
+
+
+def try_headers(tried):
+    """The headers alone, in each version of C and C++, by each compiler that is there."""
+    ways = [("afdx.h", name, "c", it) for name in ("gcc", "clang") for it in ("c99", "c11", "c17")]
+    ways += [(header, name, "c++", it) for header in ("afdx.h", "afdx.hpp") for name in ("g++", "clang++") for it in ("c++11", "c++17", "c++20")]
+    for header, name, language, version in ways:
+        if shutil.which(name):
+            source = f"{tried.room}/empty/header.c"
+            with open(source, "w", encoding="utf-8") as file:
+                file.write(f"#include <{header}>\n#include <{header}>\nint main(void) {{ return AFDX_OK; }}\n")
+            words = ["-x", language, f"-std={version}", *WARNINGS, "-pedantic-errors", f"-I{tried.prefix}/include", "-fsyntax-only"]
+            tried.show(f"{header}: {name} -std={version}", tried.ran([name, *words, source]), "")
+
+
+def try_names(tried):
+    """The name of each answer, and the version."""
+    header = re.sub(r"/\*.*?\*/", "", text_of("crates/afdx/afdx.h"), flags=re.DOTALL)
+    listed = [enum for enum in re.findall(r"enum \{(.*?)\}", header, re.DOTALL) if not re.search("STANDS|AFDX_A|GREATEST|CALL", enum)]
+    calls = {"AFDX_CONFIG_": "OPEN", "AFDX_EMPTY": "SEND", "AFDX_BOTH_DOWN": "POLL"}
+    rows = []
+    for enum in listed:
+        (call,) = [word for start, word in calls.items() if start in enum] or ["OTHER"]
+        rows += [f'    {{AFDX_CALL_{call}, {name}, "{name}"}},' for name in re.findall(r"AFDX_\w+(?= =)", enum)]
+    rows += [f'    {{AFDX_CALL_{call}, {number}, "unknown answer"}},' for call, number in
+             (("OPEN", 16), ("SEND", 6), ("POLL", 2), ("OTHER", 1), ("OPEN", 31), ("SEND", 255))]
+    with open(f"{tried.room}/empty/names.c", "w", encoding="utf-8") as file:
+        file.write("#include <afdx.h>\n#include <stdio.h>\n#include <string.h>\n"
+                   "static const struct { afdx_call call; uint8_t answer; const char *name; } rows[] = {\n" + "\n".join(rows) + "\n};\n"
+                   "int main(void) {\n    int wrong = 0;\n    for (size_t k = 0; k < sizeof rows / sizeof *rows; k++)\n"
+                   "        wrong += strcmp(afdx_answer_name(rows[k].call, rows[k].answer), rows[k].name) != 0;\n"
+                   '    printf("%s %d.%d.%d\\n", afdx_version(), AFDX_VERSION_MAJOR, AFDX_VERSION_MINOR, AFDX_VERSION_PATCH);\n'
+                   "    return wrong;\n}\n")
+    made = tried.ran([tried.cc, *WARNINGS, f"-I{tried.prefix}/include", "names.c", "-o", "names"])
+    if made.returncode == 0:
+        made = tried.ran(["./names"])
+    version = re.search(r'AFDX_VERSION "(.*)"', header)[1]
+    tried.show(f"{len(rows)} names of answers", made, f"{version} {version}\n")
+
+
+def linked(tried):
+    """The words for a compiler, by pkg-config where it is there."""
+    asked = shutil.which("pkg-config")
+    if tried.lacks("pkg-config", asked):
+        return [f"-I{tried.prefix}/include", f"{tried.prefix}/lib/libafdx.a"]
+    version = re.search(r'AFDX_VERSION "(.*)"', text_of("crates/afdx/afdx.h"))[1]
+    tried.show("pkg-config --modversion afdx", tried.ran([asked, "--modversion", "afdx"]), f"{version}\n")
+    return tried.ran([asked, "--cflags", "--libs", "afdx"]).stdout.split()
+
+
+def try_program(tried, words, name, source, more, wanted=ONE_FRAME, says=""):
+    """A program of one file, compiled by these words, prints what is wanted."""
+    made = tried.ran([*words[:1], *WARNINGS, *words[1:], source, *more, "-o", "main"])
+    if made.returncode or made.stderr:
+        tried.show(name, made)
+        return
+    run = tried.ran(["./main", *(["--dump", tried.config, "10"] if "example.c" in source else [tried.config])])
+    run.stderr = run.stderr.removeprefix(says)
+    tried.show(name, run, wanted)
+
+
+def try_c(tried, more):
+    """The examples for C, as they are and with sanitizers."""
+    example = "port 10: 1 accepted of 1\nnetwork A: 1 frames\nnetwork B: 1 frames\n"
+    for flags in ([], SANITIZERS):
+        how = " with sanitizers" if flags else ""
+        try_program(tried, [tried.cc, "-std=c99", *flags], f"C{how}", f"{tried.examples}/cmake/main.c", more)
+        try_program(tried, [tried.cc, "-std=gnu11", *flags], f"C, example.c{how}", f"{tried.examples}/c/example.c", more, says=example)
+
+
+def try_cpp(tried, more):
+    """The example for C++ and the test of afdx.hpp, as they are and with sanitizers."""
+    if tried.lacks("C++ compiler", tried.cxx):
+        return
+    for version, flags in (("c++11", []), ("c++20", []), ("c++11", SANITIZERS), ("c++20", SANITIZERS)):
+        how = f"C++, {version}{' with sanitizers' if flags else ''}"
+        words = [tried.cxx, f"-std={version}", *flags, "-pthread"]
+        try_program(tried, words, how, f"{tried.examples}/cpp/main.cpp", more)
+        if (version == "c++20") == bool(flags):
+            try_program(tried, words, f"{how}: test.cpp", f"{ROOT}/examples/cpp/test.cpp", more, None)
+
+
+def try_cmake(tried):
+    """The CMake project of six lines, with the static and with the shared library, and a version that isn't there."""
+    cmake = shutil.which("cmake")
+    if tried.lacks("CMake", cmake):
+        return
+    project = f"{tried.room}/empty/project"
+    lines = text_of("examples/cmake/CMakeLists.txt")
+    for name, old, new, is_found in (("", "", "", True), (", shared", "afdx::afdx", "afdx::shared", True), (", version 2", "afdx 1", "afdx 2", False)):
+        shutil.copytree(f"{tried.examples}/cmake", project)
+        with open(f"{project}/CMakeLists.txt", "w", encoding="utf-8") as file:
+            file.write(lines.replace(old, new))
+        made = tried.ran([cmake, "-S", project, "-B", "built"])
+        if is_found and made.returncode == 0:
+            made = tried.ran([cmake, "--build", "built"])
+        if not is_found:
+            is_refused = made.returncode != 0 and 'compatible with requested version "2"' in " ".join(made.stderr.split())
+            tried.tries.show(f"CMake{name}: refused", [] if is_refused else [made.stdout + made.stderr])
+        elif made.returncode:
+            tried.show(f"CMake{name}", made)
+        else:
+            tried.show(f"CMake{name}", tried.ran(["built/main", tried.config]), ONE_FRAME)
+        for folder in (project, f"{tried.room}/empty/built"):
+            shutil.rmtree(folder)
+
+
+def try_shared(tried):
+    """The shared library exports the calls of the header and nothing else."""
+    listed = shutil.which("nm")
+    if tried.lacks("nm", listed):
+        return
+    exported = {line.split()[-1] for line in tried.ran([listed, "-D", "--defined-only", f"{tried.prefix}/lib/libafdx.so"]).stdout.splitlines()}
+    wanted = set(re.findall(r"^uint8_t (afdx_\w+)\(", text_of("crates/afdx/afdx.h"), re.MULTILINE))
+    tried.tries.show(f"libafdx.so exports {len(wanted)} calls", [] if exported == wanted else [str(sorted(exported ^ wanted))])
+
+
+def try_python(tried):
+    """The example for Python, by the prefix and by AFDX_LIBRARY."""
+    program = f"{tried.examples}/python/main.py"
+    tried.show("Python", tried.ran([sys.executable, "-B", program, tried.config]), ONE_FRAME)
+    library = f"{tried.room}/empty/other.so"
+    os.rename(f"{tried.prefix}/lib/libafdx.so", library)
+    tried.show("Python, AFDX_LIBRARY", tried.ran([sys.executable, "-B", program, tried.config], AFDX_LIBRARY=library), ONE_FRAME)
+
+
+def main():
+    tries = Tries()
+    with tempfile.TemporaryDirectory(prefix="install-") as room:
+        tried = Tried(tries, room)
+        if install(tried):
+            try_headers(tried)
+            try_names(tried)
+            more = linked(tried)
+            try_c(tried, more)
+            try_cpp(tried, more)
+            try_cmake(tried)
+            try_shared(tried)
+            try_python(tried)
+    return tries.end()
+
+
+if __name__ == "__main__":
+    sys.exit(main())
