@@ -10,7 +10,8 @@
 
 An end system and each of its ports may be used by a thread of its own, one call at a time on each. Times are in
 microseconds and don't go back. Frames run from the destination MAC address to the sequence number, without the frame
-check sequence. Each answer of the C library other than success is an exception named as in afdx.h.
+check sequence. Each answer of the C library other than success is an exception named as in afdx.h. A number that doesn't
+fit its argument in afdx.h raises OverflowError.
 
 `bash install/install.sh PREFIX` puts this file into PREFIX/lib/python and libafdx.so into PREFIX/lib. The library is the
 file that AFDX_LIBRARY names, else the one beside this file, in the folder above, or where the system looks.
@@ -19,6 +20,7 @@ from __future__ import annotations
 
 import ctypes
 import os
+from contextlib import suppress
 from ctypes import POINTER, byref, c_size_t, c_uint8, c_uint16, c_uint64, c_void_p
 from dataclasses import dataclass
 from pathlib import Path
@@ -35,51 +37,234 @@ class AfdxError(Exception):
     number = 0
 
 
+class OutOfMemory(AfdxError):
+    """An allocation failed."""
+
+    number = 15
+
+
 class ConfigError(AfdxError):
     """The configuration is refused: the fault of the least number."""
+
+
+class Toml(ConfigError):
+    """It is no TOML text, or its bytes aren't UTF-8."""
+
+    number = 1
+
+
+class MissingKey(ConfigError):
+    """A table or a required key of one is missing."""
+
+    number = 2
+
+
+class UnknownKey(ConfigError):
+    """There is another table or key, or a key of version 2 in a text of version 1."""
+
+    number = 3
+
+
+class WrongKind(ConfigError):
+    """A value isn't of its kind."""
+
+    number = 4
+
+
+class OutOfRange(ConfigError):
+    """A value is out of its range."""
+
+    number = 5
+
+
+class BadBag(ConfigError):
+    """`bag_ms` is no bandwidth allocation gap."""
+
+    number = 6
+
+
+class DuplicateVl(ConfigError):
+    """Two virtual links have one identifier."""
+
+    number = 7
+
+
+class DuplicatePort(ConfigError):
+    """Two ports have one identifier."""
+
+    number = 8
+
+
+class NoSuchVl(ConfigError):
+    """A port names a virtual link that isn't there."""
+
+    number = 9
+
+
+class NoSuchSub(ConfigError):
+    """A port names a sub-VL that its virtual link doesn't have."""
+
+    number = 10
+
+
+class SamplingTooLong(ConfigError):
+    """A sampling port's greatest message doesn't fit one frame."""
+
+    number = 11
+
+
+class SameFlow(ConfigError):
+    """Two ports agree in virtual link, partition, both UDP ports and destination."""
+
+    number = 12
+
+
+class SharedUnicast(ConfigError):
+    """Two ports on different virtual links agree in partition and unicast address."""
+
+    number = 13
+
+
+class Limit(ConfigError):
+    """There are too few or too many virtual links or ports."""
+
+    number = 14
 
 
 class SendError(AfdxError):
     """The message is refused, and nothing has changed."""
 
 
-class Misuse(AfdxError):
-    """A call that the end system or the port can't do now."""
+class Empty(SendError):
+    """The message has no byte."""
+
+    number = 1
 
 
-def _named(base: type[AfdxError], names: dict[int, str]) -> dict[int, type[AfdxError]]:
-    """Makes an exception of each number, under its name in this module."""
-    made = {number: type(name, (base,), {"number": number, "__module__": __name__}) for number, name in names.items()}
-    globals().update({it.__name__: it for it in made.values()})
-    return made
+class TooLong(SendError):
+    """The message is longer than the port's greatest."""
+
+    number = 2
 
 
-class OutOfMemory(AfdxError):
-    """Memory was refused."""
+class Closed(SendError):
+    """The sub-VL is closed."""
 
-    number = 15
+    number = 3
 
 
-class BothDown(AfdxError):
+class Exhausted(SendError):
+    """The port has asked 2^40 times."""
+
+    number = 4
+
+
+class Full(SendError):
+    """There is no room: poll, and try again."""
+
+    number = 5
+
+
+class PollError(AfdxError):
+    """The poll does nothing."""
+
+
+class BothDown(PollError):
     """Both networks had failed before the poll."""
 
     number = 1
 
 
-CONFIG_ERRORS = {15: OutOfMemory} | _named(
-    ConfigError,
-    dict(enumerate(
-        "Toml MissingKey UnknownKey WrongKind OutOfRange BadBag DuplicateVl DuplicatePort NoSuchVl NoSuchSub "
-        "SamplingTooLong SameFlow SharedUnicast Limit".split(), 1)),
-)
-SEND_ERRORS = {15: OutOfMemory} | _named(SendError, dict(enumerate("Empty TooLong Closed Exhausted Full".split(), 1)))
-POLL_ERRORS: dict[int, type[AfdxError]] = {1: BothDown}
-MISUSES = {15: OutOfMemory} | _named(
-    Misuse,
-    dict(enumerate(
-        "NotHeld WrongHandle Held TimeBack NoPort NoSub NoLink NoNetwork NoFrame SmallBuffer PortMissing Gathered "
-        "NotGathered".split(), 32)),
-)
+class Misuse(AfdxError):
+    """A call that the end system or the port can't do now."""
+
+
+class NotHeld(Misuse):
+    """The end system was freed, or the port was given back."""
+
+    number = 32
+
+
+class WrongHandle(Misuse):
+    """A port where an end system is wanted, or the other way round."""
+
+    number = 33
+
+
+class Held(Misuse):
+    """The end system or the port is open already."""
+
+    number = 34
+
+
+class TimeBack(Misuse):
+    """The time is before that of an earlier poll."""
+
+    number = 35
+
+
+class NoPort(Misuse):
+    """There is no such port, it is out already, or it isn't one of this end system."""
+
+    number = 36
+
+
+class NoSub(Misuse):
+    """There is no such virtual link, or no such sub-VL of it."""
+
+    number = 37
+
+
+class NoLink(Misuse):
+    """There is no such virtual link."""
+
+    number = 38
+
+
+class NoNetwork(Misuse):
+    """Neither `A` nor `B`."""
+
+    number = 39
+
+
+class NoFrame(Misuse):
+    """The last poll made fewer frames for this network."""
+
+    number = 40
+
+
+class SmallBuffer(Misuse):
+    """The frame has more bytes than were asked for."""
+
+    number = 41
+
+
+class PortMissing(Misuse):
+    """A port of the configuration is out."""
+
+    number = 42
+
+
+class Gathered(Misuse):
+    """The ports were gathered."""
+
+    number = 43
+
+
+class NotGathered(Misuse):
+    """The ports weren't gathered yet."""
+
+    number = 44
+
+
+Errors = dict[int, type[AfdxError]]
+
+
+def _errors(kind: type[AfdxError]) -> Errors:
+    return {error.number: error for error in (OutOfMemory, *kind.__subclasses__())}
+
+
+CONFIG_ERRORS, SEND_ERRORS, POLL_ERRORS, MISUSES = map(_errors, (ConfigError, SendError, PollError, Misuse))
 
 
 class _Handle(ctypes.Structure):
@@ -123,9 +308,16 @@ _lib = _library()
 _calls(_lib)
 
 
-def _want(answer: int, errors: dict[int, type[AfdxError]] = MISUSES) -> None:
+def _want(answer: int, errors: Errors = MISUSES) -> None:
     if answer:
         raise (errors.get(answer) or MISUSES[answer])(f"answer {answer}")
+
+
+def _fits(value: int, bits: int) -> int:
+    """The value, which ctypes would cut to so many bits."""
+    if not 0 <= value < 1 << bits:
+        raise OverflowError(f"{value} isn't a number of {bits} bits")
+    return value
 
 
 class Counts(NamedTuple):
@@ -156,9 +348,17 @@ class Poll:
 class Port:
     """A port of an end system. Used in `with`, it goes back to its end system at the end."""
 
+    _handle: _Handle
+
+    def __new__(cls, home: EndSystem, id: int) -> Port:
+        it = super().__new__(cls)
+        it._handle = _Handle()
+        return it
+
     def __init__(self, home: EndSystem, id: int) -> None:
-        self.id, self._home, self._handle = id, home, _Handle()
-        _want(_lib.afdx_port_of(byref(home._handle), id, byref(self._handle)))
+        """As `home.port(id)`. Raises `Held` of a port that is out."""
+        _want(_lib.afdx_port_of(byref(home._handle), _fits(id, 16), byref(self._handle)))
+        self.id, self._home = id, home
 
     def send(self, message: bytes) -> None:
         """Sends a message of 1 byte up to the port's greatest. Raises `Empty`, `TooLong`, `Closed`, `Exhausted`, `Full`
@@ -174,62 +374,77 @@ class Port:
 
     def give_back(self) -> None:
         """Returns the port to its end system, which may hand it out again."""
-        _want(_lib.afdx_give_back(byref(self._home._handle), byref(self._handle)))
+        self._home.give_back(self)
 
     def __enter__(self) -> Port:
         return self
 
     def __exit__(self, kind: type[BaseException] | None, error: BaseException | None, trace: TracebackType | None) -> None:
-        if self._handle.held and self._home._handle.held:
+        with suppress(NotHeld):
             self.give_back()
 
     def __del__(self) -> None:
-        if self._handle.held:
-            _lib.afdx_free_port(byref(self._handle))
+        _lib.afdx_free_port(byref(self._handle))
 
 
 class EndSystem:
     """An end system of a configuration (docs/configuration.md). Raises `ConfigError` or `OutOfMemory`."""
 
+    _handle: _Handle
+
+    def __new__(cls, text: str | bytes) -> EndSystem:
+        it = super().__new__(cls)
+        it._handle = _Handle()
+        return it
+
     def __init__(self, text: str | bytes) -> None:
-        self._handle = _Handle()
         data = text.encode() if isinstance(text, str) else text
         _want(_lib.afdx_open(byref(self._handle), data, len(data)), CONFIG_ERRORS)
         self._buffer = ctypes.create_string_buffer(GREATEST_FRAME)
 
     def port(self, id: int) -> Port:
-        """Takes the port with an identifier. Raises `NoPort` if there is none or it is out, `Gathered` after `gather`."""
+        """Takes the port with an identifier. Raises `NoPort` if there is none or it is out, `Gathered` after `gather`, or
+        `OutOfMemory`."""
         return Port(self, id)
 
     def poll(self, now: int) -> Poll:
         """Gives each virtual link its turn at a time in microseconds. Raises `TimeBack` or `BothDown`."""
         up = c_uint8()
-        _want(_lib.afdx_poll(byref(self._handle), now, byref(up)), POLL_ERRORS)
-        return Poll(self._frames(A), self._frames(B), bool(up.value & 1), bool(up.value & 2))
+        _want(_lib.afdx_poll(byref(self._handle), _fits(now, 64), byref(up)), POLL_ERRORS)
+        return Poll(self.frames(A), self.frames(B), bool(up.value & 1), bool(up.value & 2))
 
-    def _frames(self, network: int) -> list[bytes]:
-        count, length, frames = c_size_t(), c_size_t(), []
-        _want(_lib.afdx_frames(byref(self._handle), network, byref(count)))
-        for k in range(count.value):
-            _want(_lib.afdx_frame(byref(self._handle), network, k, self._buffer, GREATEST_FRAME, byref(length)))
-            frames.append(self._buffer.raw[: length.value])
-        return frames
+    def frames(self, network: int) -> list[bytes]:
+        """The frames that the last poll made for a network, `A` or `B`. Raises `NoNetwork`."""
+        count = c_size_t()
+        _want(_lib.afdx_frames(byref(self._handle), _fits(network, 8), byref(count)))
+        return [self.frame(network, k) for k in range(count.value)]
+
+    def frame(self, network: int, k: int, size: int = GREATEST_FRAME) -> bytes:
+        """Frame `k`, from 0, of those, which has at most `size` bytes. Raises `NoNetwork`, `NoFrame` or `SmallBuffer`."""
+        length = c_size_t()
+        room = _fits(min(size, GREATEST_FRAME), 64)
+        _want(_lib.afdx_frame(byref(self._handle), _fits(network, 8), _fits(k, 64), self._buffer, room, byref(length)))
+        return ctypes.string_at(self._buffer, length.value)
 
     def fail(self, network: int) -> None:
-        """A network, `A` or `B`, failed: its next frame fails, and it gets none after that."""
-        _want(_lib.afdx_fail(byref(self._handle), network))
+        """A network, `A` or `B`, failed: its next frame fails, and it gets none after that. Raises `NoNetwork`."""
+        _want(_lib.afdx_fail(byref(self._handle), _fits(network, 8)))
 
     def close(self, vl: int, sub: int) -> int:
         """Closes a sub-VL: no message is accepted from then on. Returns how many were. Raises `NoSub` or `Gathered`."""
         total = c_uint64()
-        _want(_lib.afdx_close(byref(self._handle), vl, sub, byref(total)))
+        _want(_lib.afdx_close(byref(self._handle), _fits(vl, 16), _fits(sub, 8), byref(total)))
         return total.value
 
     def counts(self, vl: int) -> Counts:
         """What was sent of a virtual link. Raises `NoLink`."""
         counts = _Counts()
-        _want(_lib.afdx_link_counts(byref(self._handle), vl, byref(counts)))
+        _want(_lib.afdx_link_counts(byref(self._handle), _fits(vl, 16), byref(counts)))
         return Counts(counts.frames, counts.bytes, counts.messages, counts.last)
+
+    def give_back(self, port: Port) -> None:
+        """Takes back a port that came from this end system. Raises `Gathered`, or `NoPort` if all its ports are back."""
+        _want(_lib.afdx_give_back(byref(self._handle), byref(port._handle)))
 
     def gather(self) -> None:
         """Sends what is left from then on; no port is handed out any more. Raises `PortMissing` while a port is out."""
@@ -250,9 +465,8 @@ class EndSystem:
         return self
 
     def __exit__(self, kind: type[BaseException] | None, error: BaseException | None, trace: TracebackType | None) -> None:
-        if self._handle.held:
+        with suppress(NotHeld):
             self.free()
 
     def __del__(self) -> None:
-        if self._handle.held:
-            _lib.afdx_free(byref(self._handle))
+        _lib.afdx_free(byref(self._handle))

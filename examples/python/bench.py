@@ -1,9 +1,10 @@
 """A test bench: sends through two ports, checks sequence numbers and gaps, and writes a capture for Wireshark.
 
-    python3 examples/python/bench.py PLAN CAPTURE PORT PORT
+    python3 bench.py PLAN CAPTURE PORT PORT
 """
 import struct
 import sys
+import tomllib
 
 from afdx import EndSystem, Full
 
@@ -17,9 +18,10 @@ def block(kind: int, body: bytes) -> bytes:
 
 def main(plan: str, capture: str, *ports: str) -> None:
     with open(plan, encoding="utf-8") as file:
-        it = EndSystem(file.read())
-    last: dict[tuple[int, bytes], tuple[int, int]] = {}
-    with it, open(capture, "wb") as out:
+        text = file.read()
+    gaps = {link["id"]: 1000 * link["bag_ms"] for link in tomllib.loads(text)["vl"]}
+    last: dict[tuple[int, int], tuple[int, int]] = {}
+    with EndSystem(text) as it, open(capture, "wb") as out:
         out.write(block(0x0A0D0D0A, struct.pack("<IHHq", 0x1A2B3C4D, 1, 0, -1)))
         for name in b"AB":
             out.write(block(1, struct.pack("<HHIHHBxxxI", 1, 0, 1514, 2, 1, name, 0)))
@@ -31,14 +33,17 @@ def main(plan: str, capture: str, *ports: str) -> None:
                 except Full:
                     pass
             for network, frame in it.poll(now):
-                link, number = frame[4:6], frame[-1]
-                before, at = last.get((network, link), (None, -1_000_000))
-                assert number == (0 if before is None else before % 255 + 1), f"number {number} after {before}"
-                assert now - at >= 1000, f"{now - at} microseconds after the last frame"
+                link, number = int.from_bytes(frame[4:6], "big"), frame[-1]
+                if (network, link) in last:
+                    before, at = last[network, link]
+                    assert number == before % 255 + 1, f"link {link}: number {number} after {before}"
+                    assert now - at >= gaps[link], f"link {link}: {now - at} microseconds after the last frame"
+                else:
+                    assert number == 0, f"link {link}: the first number is {number}"
                 last[network, link] = number, now
                 out.write(block(6, struct.pack("<IIIII", network, now >> 32, now & 0xFFFFFFFF, len(frame), len(frame)) + frame))
     for (network, link), (number, _) in sorted(last.items()):
-        print(f"link {int.from_bytes(link, 'big')} on {'AB'[network]}: last number {number}")
+        print(f"link {link} on {'AB'[network]}: last number {number}")
 
 
 if __name__ == "__main__":

@@ -1,19 +1,27 @@
 #!/usr/bin/env python3
-"""Tries examples/python/afdx.py over libafdx.so, which is made first of the C library, and the test bench. The last line is
-'N passed, M failed'."""
+"""Tries examples/python/afdx.py and the test bench as `install/install.sh` installs them into a folder of their own. The last
+line is 'N passed, M failed'."""
 import os
 import re
+import resource
 import subprocess
 import sys
 import tempfile
 import threading
 import time
+from collections.abc import Iterator
+from contextlib import contextmanager
 
 HERE = os.path.dirname(os.path.abspath(__file__))
 ROOT = os.path.dirname(os.path.dirname(HERE))
 
+PREFIX = tempfile.TemporaryDirectory(prefix="afdx-python-")
+PYTHON = f"{PREFIX.name}/lib/python"
+
 sys.dont_write_bytecode = True
-subprocess.run(["bash", f"{HERE}/build.sh"], check=True)
+os.environ.pop("AFDX_LIBRARY", None)
+subprocess.run(["bash", f"{ROOT}/install/install.sh", PREFIX.name], check=True)
+sys.path.insert(0, PYTHON)
 import afdx
 from afdx import A, B, EndSystem
 
@@ -27,12 +35,37 @@ DEMO = text_of("examples/c/demo.toml")
 SECOND = DEMO[DEMO.index("[[port]]") :].replace("id = 10", "id = 11").replace("1000", "1001")
 
 
+# Two ports of a second virtual link, with one unicast address in one partition as the first has.
+LINK = DEMO[DEMO.index("[[vl]]") : DEMO.index("[[port]]")]
+SHARED = DEMO + LINK.replace("id = 1", "id = 2") + SECOND.replace("vl = 1", "vl = 2")
+SHARED = SHARED.replace("max = 8192", 'max = 8192\ndest_ip = "10.0.0.1"')
+# The greatest plan: opening it takes more memory than is lying about.
+GREAT = "[end_system]\nid = 1\n" + "".join(
+    LINK.replace("id = 1", f"id = {k}").replace("= 1518\nsub_vls = 1", "= 1518\nsub_vls = 4").replace("capacity = 2", "capacity = 256")
+    for k in range(64)
+) + DEMO[DEMO.index("[[port]]") :]
+RAISED: set[str] = set()
+
+
 def raises(error: type[Exception], call, *words) -> None:
     try:
         call(*words)
-    except error:
+    except error as raised:
+        RAISED.add(type(raised).__name__)
         return
     raise AssertionError(f"{call} didn't raise {error.__name__}")
+
+
+@contextmanager
+def no_more_memory() -> Iterator[None]:
+    """Lets the process have no more memory than it has."""
+    soft, hard = resource.getrlimit(resource.RLIMIT_AS)
+    with open("/proc/self/statm", encoding="ascii") as file:
+        resource.setrlimit(resource.RLIMIT_AS, (int(file.read().split()[0]) * resource.getpagesize(), hard))
+    try:
+        yield
+    finally:
+        resource.setrlimit(resource.RLIMIT_AS, (soft, hard))
 
 
 def first_message() -> None:
@@ -44,25 +77,40 @@ def first_message() -> None:
         assert port.accepted == 1 and it.counts(1) == (1, 60, 1, 0)
 
 
-def answers() -> None:
-    """Each number of the header has an exception of its name, and those that a caller can meet are raised."""
+def names() -> None:
+    """Each answer of the header has an exception of its name and number."""
     header = re.sub(r"/\*.*?\*/", "", text_of("crates/afdx/afdx.h"), flags=re.DOTALL)
     errors = [afdx.CONFIG_ERRORS, afdx.SEND_ERRORS, afdx.POLL_ERRORS, afdx.MISUSES]
     found = {error.__name__: number for table in errors for number, error in table.items()}
+    wanted = {}
     for name, number in re.findall(r"\bAFDX_(\w+) = (\d+)", header):
-        if name not in ("A", "B", "A_STANDS", "B_STANDS", "GREATEST_FRAME", "MOST_FRAMES"):
+        if name not in ("OK", "A", "B", "A_STANDS", "B_STANDS", "GREATEST_FRAME", "MOST_FRAMES"):
             words = name.removeprefix("CONFIG_").split("_")
-            wanted = "OutOfMemory" if name == "MEMORY" else "".join(it.capitalize() for it in words)
-            assert found[wanted] == int(number), f"AFDX_{name}"
+            wanted["OutOfMemory" if name == "MEMORY" else "".join(it.capitalize() for it in words)] = int(number)
+    assert found == wanted, set(found.items()) ^ set(wanted.items())
+
+
+def configurations() -> None:
+    """Each fault of a configuration is raised."""
     for old, new, error in [
         ("[", "", afdx.Toml), ("[end_system]\nid = 1", "", afdx.MissingKey), ("lmax", "more = 1\nlmax", afdx.UnknownKey),
         ("1518", '"1518"', afdx.WrongKind), ("1518", "63", afdx.OutOfRange), ("bag_ms = 1", "bag_ms = 3", afdx.BadBag),
         ("vl = 1", "vl = 9", afdx.NoSuchVl), ("sub = 0", "sub = 1", afdx.NoSuchSub), ("queuing", "sampling", afdx.SamplingTooLong),
-        ("id = 11", "id = 10", afdx.DuplicatePort), ("1001", "1000", afdx.SameFlow),
+        ("id = 11", "id = 10", afdx.DuplicatePort), ("1001", "1000", afdx.SameFlow), ("[[port]]", LINK + "[[port]]", afdx.DuplicateVl),
+        ("[[port]]", "".join(LINK.replace("id = 1", f"id = {k}") for k in range(2, 66)) + "[[port]]", afdx.Limit),
     ]:
         raises(error, EndSystem, (DEMO + SECOND).replace(old, new, 1))
-    it = EndSystem(DEMO + SECOND)
+    raises(afdx.SharedUnicast, EndSystem, SHARED)
+    with no_more_memory():
+        raises(afdx.OutOfMemory, EndSystem, GREAT)
+
+
+def answers() -> None:
+    """Each other answer is raised that a caller can meet in less than 2^40 sends."""
+    it, other = EndSystem(DEMO + SECOND), EndSystem(DEMO)
+    raises(afdx.Held, it.__init__, DEMO)
     port = it.port(10)
+    raises(afdx.Held, port.__init__, it, 11)
     raises(afdx.Empty, port.send, b"")
     raises(afdx.TooLong, port.send, bytes(8193))
     port.send(b"1")
@@ -70,15 +118,23 @@ def answers() -> None:
     raises(afdx.Full, port.send, b"3")
     raises(afdx.NoPort, it.port, 10)
     raises(afdx.NoPort, it.port, 12)
+    raises(afdx.NoPort, other.give_back, port)
+    raises(afdx.WrongHandle, it.give_back, other)
     raises(afdx.NoSub, it.close, 1, 1)
     raises(afdx.NoLink, it.counts, 2)
-    raises(afdx.NoNetwork, it.fail, 2)
+    for call in (it.fail, it.frames):
+        raises(afdx.NoNetwork, call, 2)
     assert it.close(1, 0) == 2
     raises(afdx.Closed, port.send, b"3")
     raises(afdx.NotGathered, lambda: it.is_done)
     raises(afdx.PortMissing, it.gather)
-    it.poll(5)
+    (frame,) = it.poll(5).a
     raises(afdx.TimeBack, it.poll, 4)
+    assert it.frame(A, 0) == it.frame(A, 0, 60) == frame
+    raises(afdx.SmallBuffer, it.frame, A, 0, 59)
+    raises(afdx.NoFrame, it.frame, B, 1)
+    for call, words in ((it.port, (65546,)), (it.poll, (-1,)), (it.fail, (256,)), (it.close, (1, 256)), (it.counts, (-1,))):
+        raises(OverflowError, call, *words)
     port.give_back()
     raises(afdx.NotHeld, port.send, b"3")
     it.gather()
@@ -90,6 +146,13 @@ def answers() -> None:
     raises(afdx.BothDown, it.poll, 2005)
     it.free()
     raises(afdx.NotHeld, it.poll, 3005)
+
+
+def all_raised() -> None:
+    """The tests before have met each exception but one."""
+    tables = (afdx.CONFIG_ERRORS, afdx.SEND_ERRORS, afdx.POLL_ERRORS, afdx.MISUSES)
+    unmet = {error.__name__ for table in tables for error in table.values()} - RAISED
+    assert unmet == {"Exhausted"}, unmet
 
 
 def threads() -> None:
@@ -127,8 +190,9 @@ def bench() -> None:
     with tempfile.TemporaryDirectory() as room:
         with open(f"{room}/plan.toml", "w", encoding="utf-8") as file:
             file.write(DEMO + SECOND)
-        words = [sys.executable, "-B", f"{HERE}/bench.py", f"{room}/plan.toml", f"{room}/frames.pcapng", "10", "11"]
-        ran = subprocess.run(words, capture_output=True, text=True, check=True)
+        program = f"{PREFIX.name}/share/afdx/examples/python/bench.py"
+        words = [sys.executable, "-B", program, f"{room}/plan.toml", f"{room}/frames.pcapng", "10", "11"]
+        ran = subprocess.run(words, capture_output=True, text=True, check=True, env={**os.environ, "PYTHONPATH": PYTHON})
         assert ran.stdout == "link 1 on A: last number 234\nlink 1 on B: last number 234\n", ran.stdout
         read = subprocess.run([sys.executable, "-B", f"{ROOT}/tools/pcapng.py", f"{room}/frames.pcapng"], capture_output=True, text=True, check=False)
         assert read.returncode == 0 and read.stdout.endswith("2004 passed, 0 failed\n"), read.stdout[-200:]
@@ -141,12 +205,14 @@ def speed() -> None:
         for k in range(100_000):
             port.send(message)
             it.poll(1000 * k)
-        assert time.monotonic() - begun < 10, time.monotonic() - begun
+        took = time.monotonic() - begun
+        print(f"100,000 messages of 100 bytes: {took:.1f} s")
+        assert took < 10, took
 
 
 def main() -> int:
     passed = failed = 0
-    for test in (first_message, answers, threads, bench, speed):
+    for test in (first_message, names, configurations, answers, all_raised, threads, bench, speed):
         try:
             test()
             passed += 1
