@@ -189,7 +189,7 @@ def try_shared(tried):
     if tried.lacks("nm", listed):
         return
     exported = {line.split()[-1] for line in tried.ran([listed, "-D", "--defined-only", f"{tried.prefix}/lib/libafdx.so"]).stdout.splitlines()}
-    wanted = set(re.findall(r"^uint8_t (afdx_\w+)\(", text_of("crates/afdx/afdx.h"), re.MULTILINE))
+    wanted = set(re.findall(r"^(?!static|typedef)\w+ (afdx_\w+)\(", text_of("crates/afdx/afdx.h"), re.MULTILINE))
     tried.tries.show(f"libafdx.so exports {len(wanted)} calls", [] if exported == wanted else [str(sorted(exported ^ wanted))])
 
 
