@@ -1,108 +1,119 @@
-//! Tests of closing a sub-VL, on one thread.
-ghost use Rattle.afdx_tx.specs.Emitter.{Tx};
-ghost use Rattle.afdx_tx.specs.Ports.{IsPortOfTx};
-ghost use Rattle.afdx_tests.specs.Closing.{HasAccepted};
+//! Tests of closing sub-VLs whose ports send from threads of their own.
+ghost use Rattle.std.specs.Prelude.{◌≡◌, map};
+ghost use Rattle.afdx_tx.specs.Emitter.{queues_in};
+ghost use Rattle.afdx_tx.specs.Ports.{AreOpenedWith};
 
-use crate::headline_tests::poll_meanwhile;
+use crate::rig::*;
+use crate::sending_tests::{Worker, check_frames, drain, join_all, open_and_start, poll_some};
 use crate::testing::*;
 use afdx_plan::VlId;
-use afdx_tx::{NoSuchSub, Refusal, TxPort};
+use afdx_tx::TxPort;
+use redundant_mux::MemNetwork;
+use std::thread::Threads;
 
-// Sends two messages, for which there is room.
-fn send_two<R: Abort>(rt: &R, alloc: Global, port: &mut TxPort)
-    ensures { (tx : Tx) → IsPortOfTx tx port.old → IsPortOfTx tx port.new }
+// How many messages each port would send.
+const MESSAGES: u8 = 100;
+
+// How many messages each sub-VL has room for.
+const CAPACITY: usize = 2;
+
+// How many messages are left in both queues at most.
+const LEFT: usize = 2 * CAPACITY;
+
+// What two closes told together, and what is left to be sent.
+#[derive(Drop)]
+struct Told {
+    total: u64,
+    draining: Drain,
+}
+
+// Closes a sub-VL of the link. The total.
+fn close<R: Abort>(rt: &R, tx: &mut Sending, sub: u8) -> u64
+    ensures plan { tx.new.plan ≡ tx.old.plan }
+    ensures queues { queues_in tx.new.links ≡ queues_in tx.old.links }
 {
-    send_taken(rt, alloc, port, &[1]);
-    send_taken(rt, alloc, port, &[2]);
+    tx.close(VlId(1), sub).expect(rt, "the sub-VL is there")
 }
 
-// Closes the sub-VL twice, after two messages, which fill it. What comes then is refused as closed.
-fn close_twice<R: Abort>(rt: &R, alloc: Global, tx: &mut Sending, port: &mut TxPort) {
-    assert_refused(rt, alloc, port, &[3], Refusal::Full);
-    assert_closed(rt, tx, 1, 0, Ok(2));
-    assert_refused(rt, alloc, port, &[3], Refusal::Closed);
-    assert_closed(rt, tx, 1, 0, Ok(2));
+// Closes sub-VL 0, polls on, and closes sub-VL 1, while the ports send. Their totals.
+fn close_both<R: Abort>(rt: &R, tx: &mut Sending) -> [u64; 2]
+    ensures plan { tx.new.plan ≡ tx.old.plan }
+    ensures queues { queues_in tx.new.links ≡ queues_in tx.old.links }
+{
+    poll_some(rt, tx, 40);
+    let first = close(rt, tx, 0);
+    poll_some(rt, tx, 20);
+    let second = close(rt, tx, 1);
+    [first, second]
 }
 
-// The two messages of the closed sub-VL go out, and what comes meanwhile is refused.
-fn send_what_was_accepted<R: Abort>(rt: &R, alloc: Global, tx: &mut Sending, port: &mut TxPort) {
-    assert_one(rt, tx, 0, numbered(0));
-    assert_refused(rt, alloc, port, &[3], Refusal::Closed);
-    assert_one(rt, tx, 1_000, numbered(1));
-    assert_none(rt, tx, 2_000);
+// How many messages of the ports of a sub-VL were accepted, as they were told.
+fn accepted_on(ports: &[TxPort], sub: u16) -> u64 {
+    let mut sum = 0u64;
+    for port in ports {
+        if port.id().0.saturating_sub(1) / 2 == sub {
+            sum = sum.saturating_add(port.accepted());
+        }
+    }
+    sum
 }
 
-#[test]
-fn a_closed_sub_vl_refuses_what_comes_and_sends_what_it_accepted(rt: HostRuntime) {
-    let alloc = rt.alloc();
-    let mut opened = open_demo(&rt, alloc, NEVER);
-    send_two(&rt, alloc, &mut opened.port);
-    close_twice(&rt, alloc, &mut opened.tx, &mut opened.port);
-    send_what_was_accepted(&rt, alloc, &mut opened.tx, &mut opened.port);
-    assert_closed(&rt, &mut opened.tx, 1, 0, Ok(2));
-    assert_eq!(rt; opened.port.accepted(), 2);
-    assert_both_handed(&rt, opened.tx, 2, 2);
+// The totals of two closed sub-VLs are the sums of what their ports were told, and both together are what
+// 60 polls released and no more than was left in the queues. The sum of both.
+fn check_totals(rt: &impl Abort, ports: &[TxPort], totals: [u64; 2]) -> u64 {
+    let [first, second] = totals;
+    assert_same(rt, accepted_on(ports, 0), first);
+    assert_same(rt, accepted_on(ports, 1), second);
+    let total = first.saturating_add(second);
+    assert!(rt; 60 <= total && total <= 64);
+    total
 }
 
-#[test]
-fn a_sub_vl_that_is_closed_first_accepts_none(rt: HostRuntime) {
-    let alloc = rt.alloc();
-    let mut opened = open_demo(&rt, alloc, NEVER);
-    assert_closed(&rt, &mut opened.tx, 1, 0, Ok(0));
-    assert_refused(&rt, alloc, &mut opened.port, &[1], Refusal::Closed);
-    assert_none(&rt, &mut opened.tx, 0);
+// Closes two sub-VLs whose ports send from threads of their own, and then the first once more, which
+// tells the same. Their ports, which came back, and the sum of both totals.
+fn close_and_join<R: Threads + Abort>(
+    rt: &R,
+    alloc: Global,
+    tx: &mut Sending,
+    workers: Vec<Worker>,
+) -> (Vec<TxPort>, u64)
+    requires { AreOpenedWith tx.old (map (λ h. h.promise.of.value) workers.items) }
+    ensures { AreOpenedWith tx.new result.0.items }
+{
+    let totals = close_both(rt, tx);
+    let ports = join_all(rt, alloc, workers);
+    let total = check_totals(rt, &ports, totals);
+    assert_same(rt, close(rt, tx, 0), totals[0]);
+    (ports, total)
 }
 
-// No sub-VL is closed where its link is not there, or its index is not, or neither is.
-fn assert_not_closed<R: Abort>(rt: &R, tx: &mut Sending) {
-    for (link, sub) in [(2, 1), (2, 0), (1, 1), (1, 255)] {
-        assert_closed(rt, tx, link, sub, Err(NoSuchSub));
+// Two sub-VLs are closed while their ports send from threads of their own, and the ports are gathered.
+// How many messages were accepted, as the two closes told, and what is left to be sent.
+fn close_while_ports_send<R: Threads + Abort + Copy + Send + 'static>(
+    rt: R,
+    alloc: Global,
+) -> Told {
+    let mut started = open_and_start(rt, alloc, CAPACITY, MESSAGES);
+    let workers = started.workers;
+    let (ports, total) = close_and_join(&rt, alloc, &mut started.tx, workers);
+    Told {
+        total,
+        draining: gather(&rt, started.tx, ports),
     }
 }
 
-#[test]
-fn a_sub_vl_that_is_not_there_is_not_closed(rt: HostRuntime) {
-    let alloc = rt.alloc();
-    let mut opened = open_demo(&rt, alloc, NEVER);
-    send_taken(&rt, alloc, &mut opened.port, &[1]);
-    assert_one(&rt, &mut opened.tx, 1_000, numbered(0));
-    assert_not_closed(&rt, &mut opened.tx);
-    assert_eq!(rt; opened.tx.now(), 1_000);
-    send_taken(&rt, alloc, &mut opened.port, &[2]);
-    assert_one(&rt, &mut opened.tx, 2_000, numbered(1));
-}
-
-/// What a close told, and what is left to be sent.
-#[derive(Drop)]
-pub(crate) struct Told {
-    pub(crate) total: u64,
-    pub(crate) draining: Drain,
-}
-
-// Closes the sub-VL while its port may send, polls, and gathers. The total that the close told is how
-// many messages were accepted, whatever the port sent after it.
-fn close_poll_and_gather<R: Abort>(rt: &R, alloc: Global, mut opened: OpenedOne) -> Told
-    requires { IsPortOfTx opened.tx opened.port }
-    ensures { HasAccepted result.draining 1 0 result.total }
-{
-    let total = opened
-        .tx
-        .close(VlId(1), 0)
-        .expect(rt, "the sub-VL is there");
-    assert_refused(rt, alloc, &mut opened.port, &[3], Refusal::Closed);
-    poll_meanwhile(rt, &mut opened.tx);
-    assert_refused(rt, alloc, &mut opened.port, &[3], Refusal::Closed);
-    let ports = Vec::from_array(alloc, [opened.port]).expect(rt, "memory");
-    let draining = gather(rt, opened.tx, ports);
-    Told { total, draining }
+// As many frames were handed over as messages were accepted.
+fn check_total(rt: &impl Abort, network: &MemNetwork, total: u64) {
+    assert_same(rt, network.handed().len() as u64, total);
+    let _each = check_frames(rt, network, MESSAGES);
 }
 
 #[test]
-fn what_a_close_told_is_what_is_known_in_the_end(rt: HostRuntime) {
-    let alloc = rt.alloc();
-    let mut opened = open_demo(&rt, alloc, NEVER);
-    send_two(&rt, alloc, &mut opened.port);
-    let told = close_poll_and_gather(&rt, alloc, opened);
-    assert_eq!(rt; told.total, 2);
+fn a_close_while_ports_send_tells_what_is_sent_in_the_end(rt: HostRuntime) {
+    let mut told = close_while_ports_send(rt, rt.alloc());
+    drain(&rt, &mut told.draining, LEFT);
     assert!(rt; told.draining.is_done());
+    let (a, b) = told.draining.into_networks();
+    check_total(&rt, &a, told.total);
+    check_total(&rt, &b, told.total);
 }

@@ -9,17 +9,31 @@ ghost use Rattle.afdx_legal.specs.Own.{AreOwnStreams};
 ghost use Rattle.afdx_tx.specs.Drain.{accepted_in};
 ghost use Rattle.afdx_tx.specs.Emitter.{queues_in, total_in};
 ghost use Rattle.afdx_tx.specs.Ports.{Accepts, IsPortOfTx};
-ghost use Rattle.afdx_tests.specs.Headline.{SentTwo, two_messages};
+ghost use Rattle.afdx_tests.specs.Closing.{HasAccepted};
+ghost use Rattle.afdx_tests.specs.Headline.{IsUnused, SentTwo, two_messages};
 
+use crate::rig::{Drain, Sending, send};
 use crate::testing::*;
-use afdx_tx::TxPort;
+use afdx_plan::{VlId, demo_config};
+use afdx_tx::{Refusal, TxPort, open_tx};
 use redundant_mux::MemNetwork;
 use std::snapshot::Snapshot;
 use std::thread;
 use std::thread::{Promise, Threads};
 
-// The gap of the link, in microseconds.
-const GAP: u64 = 1_000;
+// The emitter of the demonstration configuration, and its one port.
+fn open_demo<R: Abort>(rt: &R, alloc: Global) -> (Sending, TxPort)
+    ensures plan { result.0.plan ≡ demo_plan }
+    ensures port { IsUnused result.0 result.1 }
+{
+    let config = demo_config(alloc).expect(rt, "memory");
+    let (a, b) = (MemNetwork::new(alloc), MemNetwork::new(alloc));
+    let Ok((tx, mut ports, _monitor)) = open_tx(alloc, config, a, b) else {
+        panic!(rt; "no memory");
+    };
+    let port = ports.pop().expect(rt, "a port");
+    (tx, port)
+}
 
 // The port that comes back, if it does, is the one that was given after it sent two messages.
 #[derive(Drop)]
@@ -52,7 +66,7 @@ fn send_two(alloc: Global, mut port: TxPort) -> Option<TxPort>
 }
 
 // Polls a few times, a gap apart, while the port sends.
-pub(crate) fn poll_meanwhile<R: Abort>(rt: &R, tx: &mut Sending)
+fn poll_meanwhile<R: Abort>(rt: &R, tx: &mut Sending)
     ensures plan { tx.new.plan ≡ tx.old.plan }
     ensures queues { queues_in tx.new.links ≡ queues_in tx.old.links }
     ensures totals { (k s : ℕ) → total_in tx.new.links k s ≡ total_in tx.old.links k s }
@@ -86,7 +100,7 @@ fn send_beside<R: Threads + Abort + Copy + Send + 'static>(
 }
 
 // Gathers the one port. What was accepted of it is its own list.
-pub(crate) fn gather_one<R: Abort>(rt: &R, alloc: Global, tx: Sending, port: TxPort) -> Drain
+fn gather_one<R: Abort>(rt: &R, alloc: Global, tx: Sending, port: TxPort) -> Drain
     requires { IsPortOfTx tx port }
     ensures plan { result.plan ≡ tx.plan }
     ensures own { AreOwn result.plan (accepted_in result.links) (λ place. port.sender.own) }
@@ -121,20 +135,18 @@ fn hand_whole<R: Threads + Abort + Copy + Send + 'static>(
 ) -> (MemNetwork, MemNetwork)
     ensures { IsHandedWhole demo_plan (λ place. two_messages) result.0.handed result.1.handed }
 {
-    let mut opened = open_demo(&rt, alloc, NEVER);
-    let port = opened.port;
-    let port = send_beside(rt, alloc, &mut opened.tx, port);
-    let mut draining = gather_one(&rt, alloc, opened.tx, port);
+    let (mut tx, port) = open_demo(&rt, alloc);
+    let back = send_beside(rt, alloc, &mut tx, port);
+    let mut draining = gather_one(&rt, alloc, tx, back);
     drain_whole(&rt, &mut draining);
     draining.into_networks()
 }
 
 // A network was handed two frames, of the two messages in their order.
 fn check_two(rt: &impl Abort, network: &MemNetwork) {
-    let handed = network.handed();
-    assert_length(rt, handed.len(), 2);
-    for (place, byte) in [(0, 1), (1, 2)] {
-        assert_eq!(rt; handed[place].frame.get(42), Some(&byte));
+    assert_same(rt, network.handed().len(), 2);
+    for (byte, entry) in (1u8..).zip(network.handed()) {
+        assert_same(rt, entry.frame.get(42).copied(), Some(byte));
     }
 }
 
@@ -143,4 +155,35 @@ fn a_port_sends_from_its_thread_and_its_own_list_is_handed_over(rt: HostRuntime)
     let (a, b) = hand_whole(rt, rt.alloc());
     check_two(&rt, &a);
     check_two(&rt, &b);
+}
+
+// Closes the sub-VL while its port may send, polls, and gathers. The total that the close told is how
+// many messages were accepted, whatever the port sent after it.
+fn close_poll_and_gather<R: Abort>(
+    rt: &R,
+    alloc: Global,
+    mut tx: Sending,
+    mut port: TxPort,
+) -> (u64, Drain)
+    requires { IsPortOfTx tx port }
+    ensures { HasAccepted result.1 1 0 result.0 }
+{
+    let total = tx.close(VlId(1), 0).expect(rt, "the sub-VL is there");
+    assert_same(rt, send(rt, alloc, &mut port, &[3]), Some(Refusal::Closed));
+    poll_meanwhile(rt, &mut tx);
+    assert_same(rt, send(rt, alloc, &mut port, &[3]), Some(Refusal::Closed));
+    let ports = Vec::from_array(alloc, [port]).expect(rt, "memory");
+    let draining = gather(rt, tx, ports);
+    (total, draining)
+}
+
+#[test]
+fn what_a_close_told_is_what_is_known_in_the_end(rt: HostRuntime) {
+    let alloc = rt.alloc();
+    let (tx, mut port) = open_demo(&rt, alloc);
+    send_taken(&rt, alloc, &mut port, &[1]);
+    send_taken(&rt, alloc, &mut port, &[2]);
+    let (total, draining) = close_poll_and_gather(&rt, alloc, tx, port);
+    assert_same(&rt, total, 2);
+    assert_same(&rt, draining.is_done(), true);
 }

@@ -2,13 +2,17 @@
 #![tactic(auto)]
 
 #[cfg(test)]
-mod board_tests;
-#[cfg(test)]
 mod closing_tests;
 #[cfg(test)]
-mod draining_tests;
+mod drained_tests;
+#[cfg(test)]
+mod failing_tests;
 #[cfg(test)]
 mod fault_tests;
+#[cfg(test)]
+mod gauge;
+#[cfg(test)]
+mod gauge_tests;
 #[cfg(test)]
 mod headline_tests;
 #[cfg(test)]
@@ -16,21 +20,25 @@ mod library_call;
 #[cfg(test)]
 mod list_model;
 #[cfg(test)]
+mod long_tests;
+#[cfg(test)]
 mod mixed_tests;
-#[cfg(test)]
-mod network_tests;
-#[cfg(test)]
-mod one_network_tests;
 #[cfg(test)]
 mod pausing_tests;
 #[cfg(test)]
-mod port_tests;
+mod play;
+#[cfg(test)]
+mod play_tests;
+#[cfg(test)]
+mod publishing_tests;
+#[cfg(test)]
+mod rig;
+#[cfg(test)]
+mod sending_tests;
 #[cfg(test)]
 mod showing_tests;
 #[cfg(test)]
 mod testing;
-#[cfg(test)]
-mod tests;
 #[cfg(test)]
 mod turn_tests;
 #[cfg(test)]

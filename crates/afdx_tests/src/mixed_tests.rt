@@ -1,15 +1,12 @@
 //! Tests of links of which some are on both networks and some on one, against lists.
 use crate::list_model::{ListLink, ListNetwork, ListSystem, Seen};
+use crate::rig::*;
 use crate::testing::*;
 use afdx_frame::{sn_of, vl_of};
-use afdx_plan::{Config, Networks};
-use afdx_tx::{PollFault, Release, Report, TxPort};
+use afdx_plan::Networks;
+use afdx_tx::{PollFault, Release, Report};
 use redundant_mux::{Handed, MemNetwork, Standing};
-use std::alloc::AllocError;
 use std::fmt::Write;
-
-// The gap of the links, in microseconds.
-const GAP: u64 = 1_000;
 
 // How often each run is polled: once more than any link has messages.
 const POLLS: u8 = 6;
@@ -39,28 +36,28 @@ fn config_text(alloc: Global, links: &[ListLink]) -> Result<String, AllocError> 
     Ok(text)
 }
 
-/// The plan of that text.
-pub(crate) fn config_of<R: Abort>(rt: &R, alloc: Global, links: &[ListLink]) -> Config {
+/// Opens the plan of that text, over networks that fail at these hands.
+pub(crate) fn open_links<R: Abort>(
+    rt: &R,
+    alloc: Global,
+    links: &[ListLink],
+    fails: (u64, u64),
+) -> Rig {
     let text = config_text(alloc, links).expect(rt, "memory");
-    plan_of(rt, alloc, &text)
-}
-
-// A port sends so many messages of one byte.
-fn send_many<R: Abort>(rt: &R, alloc: Global, port: &mut TxPort, many: u8) {
-    for byte in 0..many {
-        send_taken(rt, alloc, port, &[byte]);
-    }
+    open(rt, alloc, &text, fails)
 }
 
 // Each port sends as many messages of one byte as its link is to have.
-fn send_each<R: Abort>(rt: &R, alloc: Global, ports: &mut [TxPort], links: &[ListLink]) {
-    for (port, link) in ports.iter_mut().zip(links) {
-        send_many(rt, alloc, port, link.left);
+fn send_each<R: Abort>(rt: &R, alloc: Global, rig: &mut Rig, links: &[ListLink]) {
+    for (place, link) in links.iter().enumerate() {
+        for byte in 0..link.left {
+            assert_same(rt, rig.send(rt, alloc, place, &[byte]), None);
+        }
     }
 }
 
 // A poll answers what the lists do.
-fn assert_same(
+fn assert_answer(
     rt: &impl Abort,
     answer: Result<Report, PollFault>,
     wanted: Option<Vec<Release>>,
@@ -68,7 +65,8 @@ fn assert_same(
 ) {
     match (answer, wanted) {
         (Ok(report), Some(released)) => {
-            assert_told(rt, &report, released.as_slice(), standing);
+            assert_eq!(rt; report.released.as_slice(), released.as_slice());
+            assert_same(rt, report.standing, standing);
         }
         (Err(PollFault::BothDown), None) => (),
         _ => panic!(rt; "both networks down, or not"),
@@ -87,52 +85,40 @@ fn seen_of(handed: &Handed) -> Option<Seen> {
 
 // A network was handed what the list has.
 fn assert_list(rt: &impl Abort, network: &MemNetwork, list: &ListNetwork) {
-    assert_length(rt, network.handed().len(), list.taken.len());
+    assert_same(rt, network.handed().len(), list.taken.len());
     for (handed, seen) in network.handed().iter().zip(list.taken.iter()) {
-        assert_eq!(rt; seen_of(handed), Some(*seen));
+        assert_same(rt, seen_of(handed), Some(*seen));
     }
 }
 
 // The emitter shows the networks as the lists have them, and the counts of each link.
-fn assert_shown<R: Abort>(rt: &R, tx: &Sending, lists: &ListSystem) {
-    assert_list(rt, tx.network_a(), &lists.a);
-    assert_list(rt, tx.network_b(), &lists.b);
+fn assert_shown<R: Abort>(rt: &R, rig: &Rig, lists: &ListSystem) {
+    let (a, b) = rig.networks();
+    assert_list(rt, a, &lists.a);
+    assert_list(rt, b, &lists.b);
     for link in &lists.links {
-        assert_counts(rt, tx, link.vl, Some(lists.counts(link.vl)));
+        assert_same(rt, rig.counts(link.vl), Some(lists.counts(link.vl)));
     }
-    assert_counts(rt, tx, 9, None);
+    assert_same(rt, rig.counts(9), None);
 }
 
-// Polls a gap apart.
-fn poll_all<R: Abort>(rt: &R, alloc: Global, tx: &mut Sending, lists: &mut ListSystem) {
-    for turn in 0..POLLS {
-        let now = GAP * u64::from(turn);
-        let answer = poll_at(rt, tx, now);
-        let wanted = lists.poll(alloc, now).expect(rt, "memory");
-        let standing = Standing {
-            a: lists.a.stands,
-            b: lists.b.stands,
-        };
-        assert_same(rt, answer, wanted, standing);
-        assert_shown(rt, tx, lists);
-    }
-}
-
-// A run over these links, where A fails at hand `k` and B at hand `m`, counted from 1.
+// A run over these links, where A fails at hand `k` and B at hand `m`, counted from 1. Polls are a gap apart.
 fn run<R: Abort>(rt: &R, alloc: Global, links: Vec<ListLink>, k: u8, m: u8) {
-    let config = config_of(rt, alloc, links.as_slice());
-    let mut opened = open(rt, alloc, config, (u64::from(k), u64::from(m)));
-    send_each(rt, alloc, &mut opened.ports, links.as_slice());
+    let mut rig = open_links(rt, alloc, links.as_slice(), (u64::from(k), u64::from(m)));
+    send_each(rt, alloc, &mut rig, links.as_slice());
     let mut lists = ListSystem {
         links,
         a: ListNetwork::new(alloc, k),
         b: ListNetwork::new(alloc, m),
     };
-    poll_all(rt, alloc, &mut opened.tx, &mut lists);
-    assert_shown(rt, &opened.tx, &lists);
-    let (a, b) = opened.tx.into_networks();
-    assert_list(rt, &a, &lists.a);
-    assert_list(rt, &b, &lists.b);
+    for turn in 0..POLLS {
+        let now = GAP * u64::from(turn);
+        let answer = rig.poll(rt, now);
+        let wanted = lists.poll(alloc, now).expect(rt, "memory");
+        let (a, b) = (lists.a.stands, lists.b.stands);
+        assert_answer(rt, answer, wanted, Standing { a, b });
+        assert_shown(rt, &rig, &lists);
+    }
 }
 
 /// A link with so many messages.

@@ -2,10 +2,12 @@
 ghost use Rattle.std.specs.Prelude.{◌≤◌, length};
 ghost use Rattle.subvl_queue.specs.Messages.{most_bytes};
 
+use crate::play::Step::*;
+use crate::play::{Step, act};
+use crate::rig::*;
 use crate::testing::*;
-use afdx_plan::VlId;
 use afdx_tx::{Refusal, TxPort};
-use std::alloc::AllocError;
+use std::sync::Wait;
 use std::thread;
 use std::thread::{JoinHandle, Threads};
 use subvl_queue::{Receiver, Sender, make};
@@ -13,120 +15,85 @@ use subvl_queue::{Receiver, Sender, make};
 // How often a thread looks for what another sends.
 const TURNS: u64 = 100_000_000;
 
-// The emitter of that plan, and its ports on sub-VL 0 and sub-VL 1.
-fn open_apart<R: Abort>(rt: &R, alloc: Global) -> OpenedTwo {
-    open_two(rt, alloc, plan_of(rt, alloc, TWO_SUB_VLS), NEVER)
+// How many bytes a port sends, the steps in its pause, whether they are taken, and why it is refused, if it is.
+type Paused<'a> = (usize, &'a [Step<'a>], bool, Option<Refusal>);
+
+fn act_all<R: Abort + Wait>(rt: &R, alloc: Global, rig: &mut Rig, steps: &[Step]) {
+    for step in steps {
+        act(rt, alloc, rig, *step);
+    }
 }
 
-// The second sub-VL releases what its port sends.
-fn send_second<R: Abort>(rt: &R, alloc: Global, tx: &mut Sending, second: &mut TxPort) {
-    send_taken(rt, alloc, second, &[2]);
-    assert_one(rt, tx, 0, release(1, 1, 0));
-}
-
-// A port sends, and in its pause the port of the other sub-VL sends, whose message goes out.
-fn send_around<R: Abort>(
+// A port sends with a pause.
+fn send_paused<R: Abort + Wait>(
     rt: &R,
     alloc: Global,
-    tx: &mut Sending,
-    first: &mut TxPort,
-    second: &mut TxPort,
+    rig: &mut Rig,
+    port: &mut TxPort,
+    (size, steps, is_taken, why): Paused,
 ) {
-    let bytes = vec![in alloc; 1u8].expect(rt, "memory");
-    let sent = first.send_with(bytes, || send_second(rt, alloc, tx, second));
-    assert!(rt; sent.is_ok());
+    let bytes = Vec::from_elem(alloc, 1u8, size).expect(rt, "memory");
+    let mut ran = false;
+    let sent = port.send_with(bytes, || {
+        act_all(rt, alloc, rig, steps);
+        ran = true;
+    });
+    assert_same(rt, sent.err().map(|fault| fault.why), why);
+    assert_same(rt, ran, is_taken);
+}
+
+// The port of sub-VL 0 sends, again and again, and then steps are taken. The port of sub-VL 1 is the only one of
+// the steps.
+fn play_paused<R: Abort + Wait>(rt: &R, alloc: Global, sends: &[Paused], after: &[Step]) {
+    let mut rig = open(rt, alloc, TWO_SUB_VLS, NEVER);
+    let mut port = rig.take_first(rt);
+    for paused in sends {
+        send_paused(rt, alloc, &mut rig, &mut port, *paused);
+    }
+    act_all(rt, alloc, &mut rig, after);
 }
 
 #[test]
 fn another_sub_vl_releases_in_the_pause_of_a_port(rt: HostRuntime) {
-    let alloc = rt.alloc();
-    let mut opened = open_apart(&rt, alloc);
-    send_around(
-        &rt,
-        alloc,
-        &mut opened.tx,
-        &mut opened.first,
-        &mut opened.second,
-    );
-    assert_one(&rt, &mut opened.tx, 1_000, release(1, 0, 1));
+    let steps = &[Sends(0, &[2]), Polls(0, &[(1, 1, 0)], BOTH)];
+    let after = &[Polls(1_000, &[(1, 0, 1)], BOTH)];
+    play_paused(&rt, rt.alloc(), &[(1, steps, true, None)], after);
 }
 
-// Closes the first sub-VL. How many messages it accepted.
-fn close_first(tx: &mut Sending) -> Option<u64> {
-    tx.close(VlId(1), 0).ok()
-}
-
-// A port sends, and in its pause its sub-VL is closed. The close counts the message.
-fn close_in_the_pause<R: Abort>(rt: &R, alloc: Global, tx: &mut Sending, port: &mut TxPort) {
-    let bytes = vec![in alloc; 1u8].expect(rt, "memory");
-    let mut told = None;
-    let sent = port.send_with(bytes, || told = close_first(tx));
-    assert!(rt; sent.is_ok());
-    assert_eq!(rt; told, Some(1));
-}
-
-// The message of the closed sub-VL goes out, and one of the other sub-VL, which is open.
-fn send_both<R: Abort>(rt: &R, alloc: Global, tx: &mut Sending, second: &mut TxPort) {
-    send_taken(rt, alloc, second, &[2]);
-    assert_one(rt, tx, 0, release(1, 0, 0));
-    assert_one(rt, tx, 1_000, release(1, 1, 1));
-}
-
+// The close in the pause counts the message. It goes out, and one of the other sub-VL, which is open.
 #[test]
 fn a_close_in_the_pause_of_a_port_counts_its_message(rt: HostRuntime) {
-    let alloc = rt.alloc();
-    let mut opened = open_apart(&rt, alloc);
-    close_in_the_pause(&rt, alloc, &mut opened.tx, &mut opened.first);
-    assert_refused(&rt, alloc, &mut opened.first, &[3], Refusal::Closed);
-    assert_closed(&rt, &mut opened.tx, 1, 0, Ok(1));
-    send_both(&rt, alloc, &mut opened.tx, &mut opened.second);
-    assert_closed(&rt, &mut opened.tx, 1, 1, Ok(1));
-}
-
-// Sends so many bytes, and asserts whether the pause ran, and why they were refused, if they were.
-fn assert_pause<R: Abort>(
-    rt: &R,
-    alloc: Global,
-    port: &mut TxPort,
-    size: usize,
-    wanted: (bool, Option<Refusal>),
-) {
-    let bytes = Vec::from_elem(alloc, 1u8, size).expect(rt, "memory");
-    let mut ran = false;
-    let why = match port.send_with(bytes, || ran = true) {
-        Ok(()) => None,
-        Err(fault) => Some(fault.why),
-    };
-    assert_eq!(rt; (ran, why), wanted);
+    let sends: [Paused; 2] = [
+        (1, &[Closes(1, 0, Ok(1))], true, None),
+        (1, &[], false, Some(Refusal::Closed)),
+    ];
+    let after = &[
+        Closes(1, 0, Ok(1)),
+        Sends(0, &[2]),
+        Polls(0, &[(1, 0, 0)], BOTH),
+        Polls(1_000, &[(1, 1, 1)], BOTH),
+        Closes(1, 1, Ok(1)),
+    ];
+    play_paused(&rt, rt.alloc(), &sends, after);
 }
 
 #[test]
 fn a_pause_runs_where_a_port_accepts_alone(rt: HostRuntime) {
-    let alloc = rt.alloc();
-    let mut opened = open_apart(&rt, alloc);
-    let port = &mut opened.first;
-    assert_pause(&rt, alloc, port, 0, (false, Some(Refusal::Empty)));
-    assert_pause(&rt, alloc, port, 8193, (false, Some(Refusal::TooLong)));
-    assert_pause(&rt, alloc, port, 8192, (true, None));
-    assert_pause(&rt, alloc, port, 1, (true, None));
-    assert_pause(&rt, alloc, port, 1, (false, Some(Refusal::Full)));
-    assert_closed(&rt, &mut opened.tx, 1, 0, Ok(2));
-    assert_pause(&rt, alloc, port, 1, (false, Some(Refusal::Closed)));
-}
-
-// A port sends, and a poll in its pause finds nothing.
-fn poll_in_the_pause<R: Abort>(rt: &R, alloc: Global, tx: &mut Sending, port: &mut TxPort) {
-    let bytes = vec![in alloc; 1u8].expect(rt, "memory");
-    let sent = port.send_with(bytes, || assert_none(rt, tx, 0));
-    assert!(rt; sent.is_ok());
+    let sends: [Paused; 5] = [
+        (0, &[], false, Some(Refusal::Empty)),
+        (8_193, &[], false, Some(Refusal::TooLong)),
+        (8_192, &[], true, None),
+        (1, &[], true, None),
+        (1, &[], false, Some(Refusal::Full)),
+    ];
+    play_paused(&rt, rt.alloc(), &sends, &[Closes(1, 0, Ok(2))]);
 }
 
 #[test]
 fn a_message_goes_out_after_the_pause_of_its_port(rt: HostRuntime) {
-    let alloc = rt.alloc();
-    let mut opened = open_apart(&rt, alloc);
-    poll_in_the_pause(&rt, alloc, &mut opened.tx, &mut opened.first);
-    assert_one(&rt, &mut opened.tx, 0, release(1, 0, 0));
+    let steps = &[Polls(0, &[], BOTH)];
+    let after = &[Polls(0, &[(1, 0, 0)], BOTH)];
+    play_paused(&rt, rt.alloc(), &[(1, steps, true, None)], after);
 }
 
 // A queue of one message, and its one sender, which may send once.
@@ -200,20 +167,20 @@ fn hold<R: Threads + Abort>(rt: &R, alloc: Global, port: TxPort) -> Held {
     Held { worker, go }
 }
 
-// The second sub-VL releases what its port sends, and the first, whose port is held, does not.
-fn release_second<R: Abort>(rt: &R, alloc: Global, tx: &mut Sending, second: &mut TxPort) {
-    send_second(rt, alloc, tx, second);
-    assert_none(rt, tx, 1_000);
-}
-
 #[test]
 fn a_port_held_in_its_pause_holds_back_its_own_sub_vl_alone(rt: HostRuntime) {
     // the other sub-VL releases meanwhile, and the first once its port may go on
     let alloc = rt.alloc();
-    let mut opened = open_apart(&rt, alloc);
-    let mut held = hold(&rt, alloc, opened.first);
-    release_second(&rt, alloc, &mut opened.tx, &mut opened.second);
+    let mut rig = open(&rt, alloc, TWO_SUB_VLS, NEVER);
+    let port = rig.take_first(&rt);
+    let mut held = hold(&rt, alloc, port);
+    let meanwhile = [
+        Sends(0, &[2]),
+        Polls(0, &[(1, 1, 0)], BOTH),
+        Polls(1_000, &[], BOTH),
+    ];
+    act_all(&rt, alloc, &mut rig, &meanwhile);
     assert!(rt; say(alloc, &mut held.go));
     assert!(rt; held.worker.join(&rt));
-    assert_one(&rt, &mut opened.tx, 1_000, release(1, 0, 1));
+    act(&rt, alloc, &mut rig, Polls(1_000, &[(1, 0, 1)], BOTH));
 }

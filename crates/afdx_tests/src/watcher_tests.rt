@@ -2,6 +2,7 @@
 ghost use Rattle.std.specs.Prelude.{◌<◌};
 ghost use Rattle.status_board.specs.Views.{links_of};
 
+use crate::rig::*;
 use crate::testing::*;
 use afdx_tx::TxPort;
 use status_board::{Counts, Monitor};
@@ -11,10 +12,8 @@ use std::thread;
 // How often the emitter is polled, and publishes.
 const POLLS: u64 = 10_000;
 
-// The bytes of each frame, and the gap of the link in microseconds.
+// The bytes of each frame.
 const FRAME: u64 = 60;
-
-const GAP: u64 = 1_000;
 
 // Whether the counts are of one entry: each frame has a message of its own, a gap after the one before.
 fn is_whole(found: &Counts) -> bool {
@@ -42,26 +41,34 @@ fn watch<R: Wait>(rt: &R, mut monitor: Monitor) -> bool
     unreachable!()
 }
 
-// Sends a message, whose frame is released at this moment.
-fn send_and_poll<R: Abort>(rt: &R, alloc: Global, tx: &mut Sending, port: &mut TxPort, now: u64) {
-    send_taken(rt, alloc, port, &[7]);
-    let report = poll_at(rt, tx, now).expect(rt, "both networks stand");
-    assert_length(rt, report.released.len(), 1);
-}
-
-// Sends a message, polls and publishes, again and again.
-fn send_and_publish<R: Abort + Wait>(rt: &R, alloc: Global, tx: &mut Sending, port: &mut TxPort) {
+// Sends a message, whose frame is released at once, and publishes, again and again.
+fn send_and_publish<R: Abort + Wait>(
+    rt: &R,
+    alloc: Global,
+    tx: &mut Sending,
+    ports: &mut [TxPort],
+) {
     for turn in 0..POLLS {
-        send_and_poll(rt, alloc, tx, port, turn * GAP);
+        for port in ports.iter_mut() {
+            send_taken(rt, alloc, port, &[7]);
+        }
+        let now = turn * GAP;
+        assert!(rt; tx.now() <= now);
+        let report = tx.poll(now).expect(rt, "both networks are up");
+        assert_same(rt, report.released.len(), 1);
         tx.publish(rt);
     }
 }
 
 #[test]
 fn a_watcher_reads_whole_counts_while_the_emitter_polls_and_publishes(rt: HostRuntime) {
-    let mut opened = open_demo(&rt, rt.alloc(), NEVER);
-    let monitor = opened.monitor;
+    let Rig {
+        mut tx,
+        mut ports,
+        monitor,
+    } = open(&rt, rt.alloc(), DEMO, NEVER);
+    assert!(rt; !tx.config().links().is_empty());
     let watcher = thread::spawn(&rt, move || watch(&rt, monitor)).expect(&rt, "a thread");
-    send_and_publish(&rt, rt.alloc(), &mut opened.tx, &mut opened.port);
+    send_and_publish(&rt, rt.alloc(), &mut tx, &mut ports);
     assert!(rt; watcher.join(&rt));
 }

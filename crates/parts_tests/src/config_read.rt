@@ -149,17 +149,19 @@ fn a_port_may_have_a_unicast_address(rt: HostRuntime) {
     assert_same(&rt, port.unicast, Some([10, 0, 2, 1]));
 }
 
-/// Asserts the number of the fault, or 0, where a second link's port has an address of the partition.
-fn assert_address(rt: &impl Abort, alloc: Global, address: &str, number: u8) {
+/// Asserts the number of the fault, or 0, where a second link's port of a partition has an address.
+fn assert_address(rt: &impl Abort, alloc: Global, partition: &str, address: &str, number: u8) {
     let link = changed(rt, alloc, LINK, "id = 1", "id = 2");
     let port = changed(rt, alloc, PORT, "id = 10\nvl = 1", "id = 11\nvl = 2");
+    let port = changed(rt, alloc, &port, "partition = 1", partition);
     assert_joined(rt, alloc, &[TEXT, ADDRESS, &link, &port, address], number);
 }
 
 #[test]
 fn one_unicast_address_of_a_partition_is_of_one_link(rt: HostRuntime) {
-    assert_address(&rt, rt.alloc(), OTHER_ADDRESS, 0);
-    assert_address(&rt, rt.alloc(), ADDRESS, 13);
+    assert_address(&rt, rt.alloc(), "partition = 1", OTHER_ADDRESS, 0);
+    assert_address(&rt, rt.alloc(), "partition = 1", ADDRESS, 13);
+    assert_address(&rt, rt.alloc(), "partition = 2", ADDRESS, 0);
 }
 
 #[test]

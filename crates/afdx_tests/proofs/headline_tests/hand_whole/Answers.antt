@@ -37,20 +37,20 @@ two_own port back fresh is = is.own ∙ ap (λ own. (own ++ (1 ∷ []) ∷ []) +
 
 pub gather_one-draining-requires : goal.gather_one-draining-requires
 gather_one-draining-requires g c =
-    let old = c.open_demo-opened.result.tx in
-    let new = c.send_beside-port.new.tx in
-    let port = c.send_beside-port.result in
-    let own = c.send_beside-port.ensures.port.of old c.open_demo-opened.ensures.port.of in
-    subst (λ (p : Plan). BelongsTo p (queues_in new.links) port) (sym c.send_beside-port.ensures.plan)
-    (subst (λ q. BelongsTo old.plan q port) (sym c.send_beside-port.ensures.queues) own)
+    let old = c.open_demo-tx.result.0 in
+    let new = c.send_beside-back.new.tx in
+    let port = c.send_beside-back.result in
+    let own = c.send_beside-back.ensures.port.of old c.open_demo-tx.ensures.port.of in
+    subst (λ (p : Plan). BelongsTo p (queues_in new.links) port) (sym c.send_beside-back.ensures.plan)
+    (subst (λ q. BelongsTo old.plan q port) (sym c.send_beside-back.ensures.queues) own)
 
 pub returns : goal.returns
 returns g c =
-    let opened = c.open_demo-opened in
+    let opened = c.open_demo-tx in
     let gathered = c.gather_one-draining.result in
     let drained = c.drain_whole.new.draining in
-    let plan = c.drain_whole.ensures.plan ∙ c.gather_one-draining.ensures.plan ∙ c.send_beside-port.ensures.plan ∙ opened.ensures.plan in
-    let own = two_own opened.result.port c.send_beside-port.result opened.ensures.port.fresh c.send_beside-port.ensures.port in
+    let plan = c.drain_whole.ensures.plan ∙ c.gather_one-draining.ensures.plan ∙ c.send_beside-back.ensures.plan ∙ opened.ensures.plan in
+    let own = two_own opened.result.1 c.send_beside-back.result opened.ensures.port.fresh c.send_beside-back.ensures.port in
     whole drained.plan (accepted_in drained.links) (λ place. two_messages) drained.lines _ _ plan c.into_networks.ensures.a
     c.into_networks.ensures.b c.into_networks.ensures.legal c.into_networks.ensures.allowed
     (subst (λ p. AreOwn p (accepted_in drained.links) (λ place. two_messages)) (sym c.drain_whole.ensures.plan)

@@ -1,0 +1,50 @@
+use Rattle.std.proofs.Common.{ℕ, Vec, Global, zero, suc, ◌≡◌, ◌∙◌, List, [], ◌∷◌, sym, subst, arith}
+use Rattle.std.specs.Prelude.{All, IfOk}
+use Rattle.afdx_plan.specs.Config.{Plan}
+use Rattle.afdx_tx.specs.Closing.{ClosesTx, IsSubAt}
+use Rattle.afdx_tx.specs.Emitter.{Tx, queues_in, total_in}
+use Rattle.afdx_tx.specs.Gathering.{IsGatheredTx}
+use Rattle.afdx_tx.specs.Ports.{PortView, BelongsTo, IsPortOfTx}
+use Rattle.afdx_tx.proofs.ClosedTotals.{closes_total, total_whole}
+use Rattle.afdx_tests.specs.Closing.{HasAccepted}
+use Rattle.afdx_tests.proofs.headline_tests.close_poll_and_gather.Goals as goal
+
+-- what was accepted in the end, where an emitter was closed, polled and gathered
+accepted_is : (old closed polled new : Tx) (ports : List PortView) (vl sub total : ℕ) → ClosesTx old vl sub total closed
+    → closed.plan ≡ old.plan → polled.plan ≡ closed.plan
+    → ((k s : ℕ) → total_in polled.links k s ≡ total_in closed.links k s) → IsGatheredTx polled ports new
+    → HasAccepted new vl sub total
+accepted_is old closed polled new ports vl sub total c plan polls totals g = record {
+  place = c.place;
+  at = subst (λ (p : Plan). IsSubAt p vl sub c.place) (sym (g.plan ∙ polls ∙ plan)) c.at;
+  accepted = total_whole polled ports new c.place sub total g
+      (totals c.place sub ∙ closes_total old vl sub total closed c);
+}
+
+-- an emitter of the same plan and queues has the same port, alone in a list
+alone : (old new : Tx) (port : PortView) → new.plan ≡ old.plan → queues_in new.links ≡ queues_in old.links
+    → IsPortOfTx old port → All (IsPortOfTx new) (port ∷ [])
+alone old new port plan queues own zero d lt =
+    subst (λ (p : Plan). BelongsTo p (queues_in new.links) port) (sym plan)
+    (subst (λ q. BelongsTo old.plan q port) (sym queues) own)
+alone old new port plan queues own (suc k) d lt = absurd (omega arith)
+
+pub gather-draining-requires : goal.gather-draining-requires
+gather-draining-requires g c =
+    let tx = c.args.tx in
+    let polled = c.poll_meanwhile.new.tx in
+    let own : IsPortOfTx tx c.send-2.new.port =
+    c.send-2.ensures tx (c.send.ensures tx c.requires) in
+    record {
+      opened = subst (λ (ports : List PortView). All (IsPortOfTx polled) ports) (sym (subst (λ r. IfOk r (λ (v : Vec PortView Global). v.items ≡ c.send-2.new.port ∷ [])) c.expect-ports.ensures c.from_array.ensures.items))
+          (alone tx polled c.send-2.new.port (c.poll_meanwhile.ensures.plan ∙ c.close.ensures.plan)
+          (c.poll_meanwhile.ensures.queues ∙ c.close.ensures.queues) own);
+    }
+
+pub returns : goal.returns
+returns g c =
+    let tx = c.args.tx in
+    accepted_is tx c.close.new.self c.poll_meanwhile.new.tx c.gather-draining.result c.expect-ports.result.items 1 0
+    c.expect-total.result
+    (subst (λ r. IfOk r (λ (total : ℕ). ClosesTx tx 1 0 total c.close.new.self)) c.expect-total.ensures c.close.ensures.closed)
+    c.close.ensures.plan c.poll_meanwhile.ensures.plan c.poll_meanwhile.ensures.totals c.gather-draining.ensures

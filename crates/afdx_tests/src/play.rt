@@ -1,0 +1,148 @@
+//! A test as a list of steps.
+use crate::rig::*;
+use crate::testing::*;
+use afdx_plan::VlId;
+use afdx_tx::{NoSuchSub, PollFault, Refusal, Report};
+use redundant_mux::Standing;
+use status_board::Counts;
+use std::sync::Wait;
+
+/// A frame that a poll releases: its link, its sub-VL and its sequence number.
+pub(crate) type Frame = (u16, u8, u8);
+
+/// The counts of a link: frames, bytes, messages, and the time of the last frame in microseconds.
+pub(crate) type Counted = (u64, u64, u64, u64);
+
+/// What a test does, and what comes of it.
+#[derive(Clone, Copy)]
+pub(crate) enum Step<'a> {
+    /// The port at this place sends a message, which is accepted.
+    Sends(usize, &'a [u8]),
+    /// The port at this place sends a message, which is refused and comes back.
+    Refused(usize, &'a [u8], Refusal),
+    /// The port at this place has this identifier, and so many messages of it were accepted.
+    Accepted(usize, u16, u64),
+    /// A sub-VL of a link is closed, or isn't there.
+    Closes(u16, u8, Result<u64, NoSuchSub>),
+    /// A poll at this time releases these frames, and these networks are up after it.
+    Polls(u64, &'a [Frame], Standing),
+    /// A poll at this time finds both networks down.
+    FindsBothDown(u64),
+    /// The last poll that found a network up was at this time.
+    IsAt(u64),
+    /// These are the counts of a link.
+    Counts(u16, Option<Counted>),
+    /// The counts are published, and the monitor reads these, in the order of the configuration, as often as
+    /// it reads.
+    Reads(&'a [Counted]),
+    /// Each network holds the frames of so many polls, which are 1 ms apart, and failed so often.
+    Holds((u8, u64), (u8, u64)),
+    /// Each accepted message was sent, or isn't.
+    IsDone(bool),
+}
+
+/// The plan of a text, the hands at which the networks fail, counted from 1, and steps.
+#[derive(Clone, Copy)]
+pub(crate) struct Play<'a> {
+    pub(crate) text: &'a str,
+    pub(crate) fails: (u64, u64),
+    pub(crate) steps: &'a [Step<'a>],
+    /// The steps after the ports came back.
+    pub(crate) rest: &'a [Step<'a>],
+}
+
+// A report tells these frames and networks.
+fn assert_told(rt: &impl Abort, report: &Report, frames: &[Frame], standing: Standing) {
+    assert_same(rt, report.released.len(), frames.len());
+    for (release, frame) in report.released.iter().zip(frames) {
+        assert_same(rt, (release.vl.0, release.sub, release.number), *frame);
+    }
+    assert_same(rt, report.standing, standing);
+}
+
+/// A poll released these frames, and left these networks up.
+pub(crate) fn assert_report(
+    rt: &impl Abort,
+    answer: Result<Report, PollFault>,
+    frames: &[Frame],
+    standing: Standing,
+) {
+    match answer {
+        Ok(report) => assert_told(rt, &report, frames, standing),
+        Err(PollFault::BothDown) => panic!(rt; "some network is up"),
+    }
+}
+
+// The monitor reads these counts.
+fn assert_read<S: System, R: Abort + Wait>(rt: &R, system: &mut S, counts: &[Counted]) {
+    for (place, wanted) in counts.iter().enumerate() {
+        assert_same(rt, counted(system.read(rt, place)), *wanted);
+    }
+}
+
+fn counted(counts: Counts) -> Counted {
+    (counts.frames, counts.bytes, counts.messages, counts.last)
+}
+
+// A step before the ports came back, and after.
+fn common<S: System, R: Abort + Wait>(rt: &R, system: &mut S, step: Step) {
+    match step {
+        Step::Polls(now, frames, standing) => {
+            let answer = system.poll(rt, now);
+            assert_report(rt, answer, frames, standing);
+        }
+        Step::FindsBothDown(now) => {
+            let answer = system.poll(rt, now);
+            assert_same(rt, answer.err(), Some(PollFault::BothDown));
+        }
+        Step::IsAt(now) => assert_same(rt, system.now(), now),
+        Step::Counts(vl, counts) => assert_same(rt, system.counts(vl).map(counted), counts),
+        Step::Reads(counts) => {
+            system.publish(rt);
+            assert_read(rt, system, counts);
+            assert_read(rt, system, counts);
+        }
+        Step::Holds(on_a, on_b) => {
+            let (a, b) = system.networks();
+            assert_holds(rt, a, on_a);
+            assert_holds(rt, b, on_b);
+        }
+        _ => panic!(rt; "a step of ports, or of a drain"),
+    }
+}
+
+/// Takes a step while the ports are out.
+pub(crate) fn act<R: Abort + Wait>(rt: &R, alloc: Global, rig: &mut Rig, step: Step) {
+    match step {
+        Step::Sends(place, bytes) => assert_same(rt, rig.send(rt, alloc, place, bytes), None),
+        Step::Refused(place, bytes, why) => {
+            assert_same(rt, rig.send(rt, alloc, place, bytes), Some(why));
+        }
+        Step::Accepted(place, id, count) => {
+            assert_same(rt, rig.told(rt, place), (id, count));
+        }
+        Step::Closes(vl, sub, answer) => assert_same(rt, rig.tx.close(VlId(vl), sub), answer),
+        _ => common(rt, rig, step),
+    }
+}
+
+/// Takes a step after the ports came back.
+pub(crate) fn act_in_rest<R: Abort + Wait>(rt: &R, rest: &mut Rest, step: Step) {
+    match step {
+        Step::IsDone(is_done) => assert_same(rt, rest.draining.is_done(), is_done),
+        _ => common(rt, rest, step),
+    }
+}
+
+/// Plays the steps. What is left then.
+pub(crate) fn played<R: Abort + Wait>(rt: &R, alloc: Global, play: &Play) -> Rest {
+    let mut rig = open(rt, alloc, play.text, play.fails);
+    for step in play.steps {
+        act(rt, alloc, &mut rig, *step);
+    }
+    let mut rest = rig.gather(rt, alloc);
+    for step in play.rest {
+        act_in_rest(rt, &mut rest, *step);
+    }
+    rest
+}

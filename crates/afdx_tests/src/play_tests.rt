@@ -1,0 +1,351 @@
+//! Tests on one thread, each a list of steps.
+use crate::play::Step::*;
+use crate::play::{Play, played};
+use crate::rig::{Rig, open};
+use crate::testing::*;
+use afdx_tx::{NoSuchSub, Refusal};
+use redundant_mux::MemNetwork;
+
+// The first message of port 10, of the one byte 01, for network A. That for network B has 0x40 at 11.
+const FOR_A: [u8; 60] = *b"\x03\x00\x00\x00\x00\x01\x02\x00\x00\x00\x01\x20\x08\x00\
+    \x45\x00\x00\x1d\x00\x00\x00\x00\x01\x11\xcd\xee\x0a\x00\x01\x01\xe0\xe0\x00\x01\
+    \x03\xe8\x07\xd0\x00\x09\x00\x00\x01\
+    \x00\x00\x00\x00\x00\x00\x00\x00\x00\x00\x00\x00\x00\x00\x00\x00\x00";
+
+// It goes out as one frame of 60 bytes on each network, and is counted once it is sent. A link that isn't there
+// isn't counted.
+const ONE_BYTE: Play = Play {
+    text: DEMO,
+    fails: NEVER,
+    steps: &[
+        Reads(&[(0, 0, 0, 0)]),
+        Sends(0, &[1]),
+        Reads(&[(0, 0, 0, 0)]),
+        Polls(0, &[(1, 0, 0)], BOTH),
+        Reads(&[(1, 60, 1, 0)]),
+        Counts(0, None),
+        Counts(2, None),
+    ],
+    rest: &[IsDone(true), Holds((1, 0), (1, 0))],
+};
+
+// A network holds this frame alone.
+fn assert_first(rt: &impl Abort, network: &MemNetwork, frame: &[u8]) {
+    for entry in network.handed() {
+        assert_bytes(rt, entry.frame.as_slice(), frame);
+    }
+}
+
+#[test]
+fn a_message_of_one_byte_goes_out_as_one_frame_on_each_network(rt: HostRuntime) {
+    let rest = played(&rt, rt.alloc(), &ONE_BYTE);
+    let (a, b) = rest.draining.into_networks();
+    let mut for_b = FOR_A;
+    for_b[11] = 0x40;
+    assert_first(&rt, &a, &FOR_A);
+    assert_first(&rt, &b, &for_b);
+}
+
+// 1,472 bytes are cut in two: frames of 14 + 20 + 1,472 + 1 bytes, and of 60, the least.
+const TWO_FRAMES: Play = Play {
+    text: DEMO,
+    fails: NEVER,
+    steps: &[
+        Sends(0, &[0xaa; 1_472]),
+        Counts(1, Some((0, 0, 0, 0))),
+        Polls(0, &[(1, 0, 0)], BOTH),
+        Counts(1, Some((1, 1_507, 0, 0))),
+        Reads(&[(1, 1_507, 0, 0)]),
+        Polls(999, &[], BOTH),
+        Reads(&[(1, 1_507, 0, 0)]),
+        Polls(1_000, &[(1, 0, 1)], BOTH),
+        Counts(1, Some((2, 1_567, 1, 1_000))),
+        Reads(&[(2, 1_567, 1, 1_000)]),
+    ],
+    rest: &[Counts(1, Some((2, 1_567, 1, 1_000))), IsDone(true)],
+};
+
+#[test]
+fn a_message_in_two_frames_counts_with_its_last(rt: HostRuntime) {
+    let _rest = played(&rt, rt.alloc(), &TWO_FRAMES);
+}
+
+const GAPS: Play = Play {
+    text: DEMO,
+    fails: NEVER,
+    steps: &[
+        Sends(0, &[1]),
+        Sends(0, &[2]),
+        Polls(0, &[(1, 0, 0)], BOTH),
+        Polls(999, &[], BOTH),
+        Polls(1_000, &[(1, 0, 1)], BOTH),
+    ],
+    rest: &[Holds((2, 0), (2, 0))],
+};
+
+#[test]
+fn a_link_releases_nothing_before_its_gap_is_over(rt: HostRuntime) {
+    let _rest = played(&rt, rt.alloc(), &GAPS);
+}
+
+// A fails at its third hand. B, the last that is up, fails at its sixth: that frame is lost and isn't counted.
+const FAILING: Play = Play {
+    text: SIX,
+    fails: (3, 6),
+    steps: &[
+        Sends(0, &[1]),
+        Sends(0, &[2]),
+        Sends(0, &[3]),
+        Sends(0, &[4]),
+        Sends(0, &[5]),
+        Polls(0, &[(1, 0, 0)], BOTH),
+        Reads(&[(1, 60, 1, 0)]),
+        Polls(1_000, &[(1, 0, 1)], BOTH),
+        Reads(&[(2, 120, 2, 1_000)]),
+        Polls(2_000, &[(1, 0, 2)], ONLY_B),
+        Reads(&[(3, 180, 3, 2_000)]),
+        Polls(3_000, &[(1, 0, 3)], ONLY_B),
+        Reads(&[(4, 240, 4, 3_000)]),
+        Polls(4_000, &[(1, 0, 4)], ONLY_B),
+        Reads(&[(5, 300, 5, 4_000)]),
+        Sends(0, &[6]),
+        Polls(5_000, &[], NEITHER),
+        Reads(&[(5, 300, 5, 4_000)]),
+        FindsBothDown(6_000),
+        Reads(&[(5, 300, 5, 4_000)]),
+        IsAt(5_000),
+        Holds((2, 1), (5, 1)),
+    ],
+    rest: &[FindsBothDown(7_000), IsAt(5_000), IsDone(false)],
+};
+
+#[test]
+fn frames_that_one_network_alone_took_count_and_those_that_none_took_do_not(rt: HostRuntime) {
+    let _rest = played(&rt, rt.alloc(), &FAILING);
+}
+
+// Messages fill the queue before the close. They go out after it, and what comes is refused as closed.
+const CLOSED: Play = Play {
+    text: DEMO,
+    fails: NEVER,
+    steps: &[
+        Sends(0, &[1]),
+        Sends(0, &[2]),
+        Refused(0, &[3], Refusal::Full),
+        Closes(1, 0, Ok(2)),
+        Refused(0, &[3], Refusal::Closed),
+        Closes(1, 0, Ok(2)),
+        Polls(0, &[(1, 0, 0)], BOTH),
+        Refused(0, &[3], Refusal::Closed),
+        Polls(1_000, &[(1, 0, 1)], BOTH),
+        Polls(2_000, &[], BOTH),
+        Closes(1, 0, Ok(2)),
+        Accepted(0, 10, 2),
+    ],
+    rest: &[IsDone(true), Holds((2, 0), (2, 0))],
+};
+
+#[test]
+fn a_closed_sub_vl_refuses_what_comes_and_sends_what_it_accepted(rt: HostRuntime) {
+    let _rest = played(&rt, rt.alloc(), &CLOSED);
+}
+
+const CLOSED_FIRST: Play = Play {
+    text: DEMO,
+    fails: NEVER,
+    steps: &[
+        Closes(1, 0, Ok(0)),
+        Refused(0, &[1], Refusal::Closed),
+        Polls(0, &[], BOTH),
+        Accepted(0, 10, 0),
+    ],
+    rest: &[IsDone(true), Holds((0, 0), (0, 0))],
+};
+
+#[test]
+fn a_sub_vl_that_is_closed_first_accepts_none(rt: HostRuntime) {
+    let _rest = played(&rt, rt.alloc(), &CLOSED_FIRST);
+}
+
+// The link is not there, or the index is not, or neither is.
+const NOT_THERE: Play = Play {
+    text: DEMO,
+    fails: NEVER,
+    steps: &[
+        Sends(0, &[1]),
+        Polls(1_000, &[(1, 0, 0)], BOTH),
+        Closes(2, 1, Err(NoSuchSub)),
+        Closes(2, 0, Err(NoSuchSub)),
+        Closes(1, 1, Err(NoSuchSub)),
+        Closes(1, 255, Err(NoSuchSub)),
+        IsAt(1_000),
+        Sends(0, &[2]),
+        Polls(2_000, &[(1, 0, 1)], BOTH),
+    ],
+    rest: &[IsDone(true)],
+};
+
+#[test]
+fn a_sub_vl_that_is_not_there_is_not_closed(rt: HostRuntime) {
+    let _rest = played(&rt, rt.alloc(), &NOT_THERE);
+}
+
+const LEFT: Play = Play {
+    text: DEMO,
+    fails: NEVER,
+    steps: &[Sends(0, &[1]), Sends(0, &[2])],
+    rest: &[
+        Polls(0, &[(1, 0, 0)], BOTH),
+        IsDone(false),
+        Polls(1_000, &[(1, 0, 1)], BOTH),
+        IsDone(true),
+        Polls(2_000, &[], BOTH),
+        IsDone(true),
+        IsAt(2_000),
+        Holds((2, 0), (2, 0)),
+    ],
+};
+
+#[test]
+fn what_is_left_goes_out_after_the_port_came_back(rt: HostRuntime) {
+    let _rest = played(&rt, rt.alloc(), &LEFT);
+}
+
+const LOST: Play = Play {
+    text: DEMO,
+    fails: (2, 2),
+    steps: &[Sends(0, &[1]), Sends(0, &[2])],
+    rest: &[
+        Polls(0, &[(1, 0, 0)], BOTH),
+        IsDone(false),
+        Polls(1_000, &[], NEITHER),
+        IsDone(false),
+        FindsBothDown(2_000),
+        IsAt(1_000),
+        IsDone(false),
+    ],
+};
+
+#[test]
+fn a_lost_frame_is_never_done(rt: HostRuntime) {
+    let _rest = played(&rt, rt.alloc(), &LOST);
+}
+
+// Networks are seen while ports send, while what is left goes out, and when they come back.
+const SEEN: Play = Play {
+    text: DEMO,
+    fails: (u64::MAX, 2),
+    steps: &[
+        Sends(0, &[1]),
+        Sends(0, &[2]),
+        Holds((0, 0), (0, 0)),
+        Polls(0, &[(1, 0, 0)], BOTH),
+        Holds((1, 0), (1, 0)),
+    ],
+    rest: &[
+        Holds((1, 0), (1, 0)),
+        Polls(1_000, &[(1, 0, 1)], ONLY_A),
+        IsDone(true),
+        Holds((2, 0), (1, 1)),
+    ],
+};
+
+#[test]
+fn networks_are_seen_while_ports_send_and_while_what_is_left_goes_out(rt: HostRuntime) {
+    let rest = played(&rt, rt.alloc(), &SEEN);
+    let (a, b) = rest.draining.into_networks();
+    assert_holds(&rt, &a, (2, 0));
+    assert_holds(&rt, &b, (1, 1));
+}
+
+// Link 1 on network A alone and link 2 on both, with ports 10 and 11.
+const ON_A_AND_ON_BOTH: &str = "version = 2
+end_system = { id = 1 }
+vl = [
+    { id = 1, bag_ms = 1, lmax = 1518, sub_vls = 1, capacity = 2, networks = 'a' },
+    { id = 2, bag_ms = 1, lmax = 1518, sub_vls = 1, capacity = 2, networks = 'both' },
+]
+port = [
+    { id = 10, vl = 1, sub = 0, partition = 1, kind = 'queuing', source = 1000, destination = 2000, max = 8192 },
+    { id = 11, vl = 2, sub = 0, partition = 1, kind = 'queuing', source = 1000, destination = 2000, max = 8192 },
+]
+";
+
+// Network A fails at its first hand, which is for link 1: link 2 goes out on B all the same, and the lost
+// frame isn't counted.
+const BEHIND_A: Play = Play {
+    text: ON_A_AND_ON_BOTH,
+    fails: (1, u64::MAX),
+    steps: &[
+        Sends(0, &[1]),
+        Sends(1, &[2]),
+        Polls(0, &[(2, 0, 0)], ONLY_B),
+        Polls(1_000, &[], ONLY_B),
+        Reads(&[(0, 0, 0, 0), (1, 60, 1, 0)]),
+    ],
+    rest: &[
+        IsAt(1_000),
+        IsDone(false),
+        Polls(2_000, &[], ONLY_B),
+        IsDone(false),
+        Holds((0, 1), (1, 0)),
+    ],
+};
+
+#[test]
+fn a_link_whose_network_failed_holds_up_no_other_and_is_never_done(rt: HostRuntime) {
+    let _rest = played(&rt, rt.alloc(), &BEHIND_A);
+}
+
+// One sub-VL with room for two messages, and two ports on it, of 100 bytes and of 4.
+const TWO_PORTS: &str = "end_system = { id = 1 }
+vl = [{ id = 1, bag_ms = 1, lmax = 1518, sub_vls = 1, capacity = 2 }]
+port = [
+    { id = 10, vl = 1, sub = 0, partition = 1, kind = 'queuing', source = 1000, destination = 2000, max = 100 },
+    { id = 20, vl = 1, sub = 0, partition = 2, kind = 'queuing', source = 1000, destination = 2000, max = 4 },
+]
+";
+
+// Both ports send as much as they may, which fills the queue. What is less or more is refused.
+const FILLED: Play = Play {
+    text: TWO_PORTS,
+    fails: NEVER,
+    steps: &[
+        Refused(0, &[], Refusal::Empty),
+        Refused(1, &[7; 5], Refusal::TooLong),
+        Sends(1, &[7; 4]),
+        Sends(0, &[8; 100]),
+        Refused(0, &[9], Refusal::Full),
+        Accepted(0, 10, 1),
+        Accepted(1, 20, 1),
+        Polls(0, &[(1, 0, 0)], BOTH),
+    ],
+    rest: &[
+        IsAt(0),
+        IsDone(false),
+        Polls(1_000, &[(1, 0, 1)], BOTH),
+        IsDone(true),
+    ],
+};
+
+#[test]
+fn what_two_ports_sent_into_one_queue_goes_out_before_and_after_they_are_gathered(rt: HostRuntime) {
+    let _rest = played(&rt, rt.alloc(), &FILLED);
+}
+
+// The queue is there as long as one of its ends is, and stays full.
+#[test]
+fn a_full_queue_stays_full_without_its_emitter(rt: HostRuntime) {
+    let mut rig = open(&rt, rt.alloc(), DEMO, NEVER);
+    rig.send_each(&rt, rt.alloc(), 2);
+    let Rig {
+        tx,
+        mut ports,
+        monitor: _,
+    } = rig;
+    drop(tx);
+    for port in ports.iter_mut() {
+        let refused = crate::rig::send(&rt, rt.alloc(), port, &[9]);
+        assert_same(&rt, refused, Some(Refusal::Full));
+    }
+}

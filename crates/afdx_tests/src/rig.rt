@@ -1,0 +1,225 @@
+//! An end system under test, over two networks in memory.
+ghost use Rattle.std.specs.Prelude.{◌≡◌, length};
+ghost use Rattle.afdx_tx.specs.Emitter.{Tx};
+ghost use Rattle.afdx_tx.specs.Ports.{IsPortOfTx};
+ghost use Rattle.status_board.specs.Views.{links_of};
+
+use crate::testing::*;
+use afdx_config::read_config;
+use afdx_plan::VlId;
+use afdx_tx::{Draining, Emitter, PollFault, Refusal, Report, TxPort, open_tx};
+use redundant_mux::MemNetwork;
+use status_board::{Counts, Monitor};
+use std::marker::Model;
+use std::sync::Wait;
+
+pub(crate) type Sending = Emitter<MemNetwork, MemNetwork>;
+
+pub(crate) type Drain = Draining<MemNetwork, MemNetwork>;
+
+/// An emitter, its ports in the order of the configuration, and its monitor.
+#[derive(Drop)]
+pub(crate) struct Rig {
+    pub(crate) tx: Sending,
+    pub(crate) ports: Vec<TxPort>,
+    pub(crate) monitor: Monitor,
+}
+
+impl Model for Rig {
+    ghost use Rattle.std.specs.Prelude.{◌≡◌, length};
+    ghost use Rattle.afdx_tx.specs.Emitter.{Tx};
+    ghost use Rattle.afdx_tx.specs.Ports.{AreOpenedWith};
+    ghost use Rattle.status_board.specs.Views.{links_of};
+
+    ghost Value = { Tx };
+
+    ghost view = { λ r. r.tx };
+
+    ghost invariant = { λ r. AreOpenedWith r.tx r.ports.items
+        × (links_of r.monitor ≡ length r.tx.plan.links) };
+}
+
+/// What is left to be sent after the ports came back, and the monitor.
+#[derive(Drop)]
+pub(crate) struct Rest {
+    pub(crate) draining: Drain,
+    pub(crate) monitor: Monitor,
+}
+
+impl Model for Rest {
+    ghost use Rattle.std.specs.Prelude.{◌≡◌, length};
+    ghost use Rattle.afdx_tx.specs.Emitter.{Tx};
+    ghost use Rattle.status_board.specs.Views.{links_of};
+
+    ghost Value = { Tx };
+
+    ghost view = { λ r. r.draining };
+
+    ghost invariant = { λ r. links_of r.monitor ≡ length r.draining.plan.links };
+}
+
+/// What an end system answers before its ports came back, and after.
+pub(crate) trait System {
+    /// Polls, at a time that isn't before the last one.
+    fn poll<R: Abort>(&mut self, rt: &R, now: u64) -> Result<Report, PollFault>;
+
+    /// The time of the last poll.
+    fn now(&self) -> u64;
+
+    /// The counts of a link.
+    fn counts(&self, vl: u16) -> Option<Counts>;
+
+    /// Publishes the counts.
+    fn publish<R: Wait>(&mut self, rt: &R);
+
+    /// What the monitor reads of the link at a place.
+    fn read<R: Abort + Wait>(&mut self, rt: &R, place: usize) -> Counts;
+
+    /// Networks A and B.
+    fn networks(&self) -> (&MemNetwork, &MemNetwork);
+}
+
+impl System for Rig {
+    fn poll<R: Abort>(&mut self, rt: &R, now: u64) -> Result<Report, PollFault> {
+        assert!(rt; self.tx.now() <= now);
+        self.tx.poll(now)
+    }
+
+    fn now(&self) -> u64 {
+        self.tx.now()
+    }
+
+    fn counts(&self, vl: u16) -> Option<Counts> {
+        self.tx.counts(VlId(vl))
+    }
+
+    fn publish<R: Wait>(&mut self, rt: &R) {
+        self.tx.publish(rt);
+    }
+
+    fn read<R: Abort + Wait>(&mut self, rt: &R, place: usize) -> Counts {
+        assert!(rt; place < self.tx.config().links().len());
+        self.monitor.read(rt, place)
+    }
+
+    fn networks(&self) -> (&MemNetwork, &MemNetwork) {
+        (self.tx.network_a(), self.tx.network_b())
+    }
+}
+
+impl System for Rest {
+    fn poll<R: Abort>(&mut self, rt: &R, now: u64) -> Result<Report, PollFault> {
+        assert!(rt; self.draining.now() <= now);
+        self.draining.poll(now)
+    }
+
+    fn now(&self) -> u64 {
+        self.draining.now()
+    }
+
+    fn counts(&self, vl: u16) -> Option<Counts> {
+        self.draining.counts(VlId(vl))
+    }
+
+    fn publish<R: Wait>(&mut self, rt: &R) {
+        self.draining.publish(rt);
+    }
+
+    fn read<R: Abort + Wait>(&mut self, rt: &R, place: usize) -> Counts {
+        assert!(rt; place < self.draining.config().links().len());
+        self.monitor.read(rt, place)
+    }
+
+    fn networks(&self) -> (&MemNetwork, &MemNetwork) {
+        (self.draining.network_a(), self.draining.network_b())
+    }
+}
+
+/// Opens the plan of a text over networks that fail at these hands, counted from 1.
+pub(crate) fn open<R: Abort>(rt: &R, alloc: Global, text: &str, fails: (u64, u64)) -> Rig {
+    let config = read_config(alloc, text.as_bytes()).expect(rt, "a valid plan");
+    let a = MemNetwork::failing_at(alloc, fails.0);
+    let b = MemNetwork::failing_at(alloc, fails.1);
+    match open_tx(alloc, config, a, b) {
+        Ok((tx, ports, monitor)) => Rig { tx, ports, monitor },
+        Err(_) => panic!(rt; "no memory"),
+    }
+}
+
+/// Sends a message. Why it was refused, if it was; it came back then. The port stays one of its emitter.
+pub(crate) fn send<R: Abort>(
+    rt: &R,
+    alloc: Global,
+    port: &mut TxPort,
+    bytes: &[u8],
+) -> Option<Refusal>
+    ensures { (tx : Tx) → IsPortOfTx tx port.old → IsPortOfTx tx port.new }
+{
+    let message = bytes.to_vec(alloc).expect(rt, "memory");
+    match port.send(message) {
+        Ok(()) => None,
+        Err(fault) => {
+            assert_bytes(rt, fault.bytes.as_slice(), bytes);
+            Some(fault.why)
+        }
+    }
+}
+
+impl Rig {
+    /// The port at a place sends a message. Why it was refused, if it was.
+    pub(crate) fn send<R: Abort>(
+        &mut self,
+        rt: &R,
+        alloc: Global,
+        place: usize,
+        bytes: &[u8],
+    ) -> Option<Refusal> {
+        assert!(rt; place < self.ports.len());
+        send(rt, alloc, &mut self.ports[place], bytes)
+    }
+
+    /// The identifier of the port at a place, and how many messages of it were accepted.
+    pub(crate) fn told<R: Abort>(&self, rt: &R, place: usize) -> (u16, u64) {
+        assert!(rt; place < self.ports.len());
+        let port = &self.ports[place];
+        (port.id().0, port.accepted())
+    }
+
+    /// Each port sends so many messages of one byte, which are accepted.
+    pub(crate) fn send_each<R: Abort>(&mut self, rt: &R, alloc: Global, many: u8) {
+        for place in 0..self.ports.len() {
+            for byte in 0..many {
+                assert_same(rt, self.send(rt, alloc, place, &[byte]), None);
+            }
+        }
+    }
+
+    /// Takes the first port out.
+    pub(crate) fn take_first<R: Abort>(&mut self, rt: &R) -> TxPort {
+        assert!(rt; !self.ports.is_empty());
+        self.ports.remove(0)
+    }
+
+    // Takes the ports back, the last one first.
+    fn take_ports<R: Abort>(&mut self, rt: &R) {
+        let last = self.ports.pop().expect(rt, "a port");
+        self.ports.insert(0, last).expect(rt, "memory");
+    }
+
+    /// Gathers the ports, the last one first, and before it none of them, which is refused.
+    pub(crate) fn gather<R: Abort>(mut self, rt: &R, alloc: Global) -> Rest {
+        self.take_ports(rt);
+        let Rig { tx, ports, monitor } = self;
+        let tx = match tx.gather(Vec::new(alloc)) {
+            Ok(_) => panic!(rt; "gathered without ports"),
+            Err((back, none)) => {
+                assert_same(rt, none.len(), 0);
+                back
+            }
+        };
+        match tx.gather(ports) {
+            Ok(draining) => Rest { draining, monitor },
+            Err(_) => panic!(rt; "each port is there"),
+        }
+    }
+}
