@@ -1,0 +1,53 @@
+-- What an analysis says of a plan.
+use Rattle.std.specs.Prelude.{ℕ, ◌≡◌, ◌+◌, ◌*◌, List, map}
+use Rattle.afdx_plan.specs.Config.{Plan}
+use Rattle.afdx_plan.specs.Plan.{jitter_of}
+use Rattle.afdx_plan.specs.declared.link_plan.LinkPlan.{LinkPlan}
+use Rattle.afdx_plan.specs.declared.port_plan.PortPlan.{PortPlan}
+use Rattle.plan_analysis.specs.declared.analysis.Analysis.{Analysis}
+use Rattle.plan_analysis.specs.declared.link_row.LinkRow.{LinkRow}
+use Rattle.plan_analysis.specs.declared.network_row.NetworkName.{NetworkName}
+use Rattle.plan_analysis.specs.declared.network_row.NetworkName.TheVariants.{A, B}
+use Rattle.plan_analysis.specs.declared.network_row.NetworkRow.{NetworkRow}
+use Rattle.plan_analysis.specs.declared.port_row.PortRow.{PortRow}
+use Rattle.plan_analysis.specs.Load.{window_bits, line_bits, bit_rate, share, is_over}
+use Rattle.plan_analysis.specs.Wait.{link_of, port_pieces, worst_wait, sustained}
+
+-- a link: its part of the jitter is 80 nanoseconds for each byte of its greatest frame on the wire
+abbrev pub link_row : LinkPlan → LinkRow
+link_row link = record {
+  plan = link;
+  load = bit_rate (window_bits link);
+  share = share (window_bits link);
+  jitter = 80 * (20 + link.lmax);
+}
+
+-- a network that carries some of these links
+abbrev pub network_row : NetworkName → List LinkPlan → NetworkRow
+network_row name links = record {
+  name = name;
+  load = bit_rate (line_bits name links);
+  share = share (line_bits name links);
+  exceeded = is_over (line_bits name links);
+}
+
+-- a port, where polls come so late at most
+abbrev pub port_row : ℕ → Plan → PortPlan → PortRow
+port_row late plan port = record {
+  id = port.id;
+  vl = port.vl;
+  sub = port.sub;
+  fragments = port_pieces (link_of plan port) port;
+  wait = worst_wait late plan port;
+  sustained = sustained (link_of plan port) port;
+}
+
+-- the analysis of a plan
+pub record IsAnalysisOf (plan : Plan) (late : ℕ) (analysis : Analysis) : Type 0 where
+  pub end_system : analysis.end_system ≡ plan.end_system
+  pub lateness : analysis.lateness ≡ late
+  pub links : analysis.links.items ≡ map link_row plan.links
+  pub network_a : analysis.network_a ≡ network_row A plan.links
+  pub network_b : analysis.network_b ≡ network_row B plan.links
+  pub jitter : analysis.jitter ≡ jitter_of plan.links
+  pub ports : analysis.ports.items ≡ map (port_row late plan) plan.ports

@@ -1,0 +1,42 @@
+-- The load that a plan may put on its networks, on the wire.
+use Rattle.std.specs.Prelude.{ℕ, ◌+◌, ◌*◌, ◌/◌, List, Bool, nat_lt, sum_by, if◌then◌else◌}
+use Rattle.std.specs.Int.{div_ceil}
+use Rattle.afdx_plan.specs.Networks.{names_a, names_b}
+use Rattle.afdx_plan.specs.Plan.{bag_ms}
+use Rattle.afdx_plan.specs.declared.link_plan.LinkPlan.{LinkPlan}
+use Rattle.afdx_plan.specs.declared.networks.Networks.{Networks}
+use Rattle.plan_analysis.specs.declared.network_row.NetworkName.{NetworkName}
+use Rattle.plan_analysis.specs.declared.network_row.NetworkName.TheVariants.{A, B}
+
+-- A link's greatest frame in bits, with the 20 bytes around it on the wire: preamble, start delimiter and gap.
+abbrev pub wire_bits : LinkPlan → ℕ
+wire_bits link = 8 * (link.lmax + 20)
+
+-- The most bits of a link in 128 milliseconds, the greatest BAG: a greatest frame each BAG. Every BAG divides it.
+abbrev pub window_bits : LinkPlan → ℕ
+window_bits link = wire_bits link * (128 / bag_ms link.bag)
+
+-- a network carries the links on these networks
+abbrev pub carries : NetworkName → Networks → Bool
+carries A networks = names_a networks
+carries B networks = names_b networks
+
+-- the most bits of all links that a network carries, in the same time
+abbrev pub line_bits : NetworkName → List LinkPlan → ℕ
+line_bits network links = sum_by (λ link. if carries network link.networks then window_bits link else 0) links
+
+-- bits in 128 milliseconds as bits a second, rounded up
+abbrev pub bit_rate : ℕ → ℕ
+bit_rate bits = div_ceil (bits * 1000) 128
+
+-- the bits of 100 Mbit/s in 128 milliseconds
+abbrev pub line_window : ℕ
+line_window = 12800000
+
+-- bits in 128 milliseconds as hundredths of a percent of 100 Mbit/s, rounded up
+abbrev pub share : ℕ → ℕ
+share bits = div_ceil (bits * 10000) line_window
+
+-- they are more than 100 Mbit/s
+abbrev pub is_over : ℕ → Bool
+is_over bits = nat_lt line_window bits

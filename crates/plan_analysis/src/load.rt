@@ -1,0 +1,73 @@
+//! The load on the wire.
+ghost use Rattle.std.specs.Prelude.{◌≡◌, ◌+◌, ◌*◌, ◌≤◌, All, length};
+ghost use Rattle.afdx_plan.specs.Plan.{IsLink};
+ghost use Rattle.plan_analysis.specs.Load.{window_bits as bits_of_window, line_bits, bit_rate as rate_of_bits};
+ghost use Rattle.plan_analysis.specs.Load.{share as share_of_bits, is_over as is_over_line, carries as is_on};
+
+use crate::network_row::NetworkName;
+use afdx_plan::{LinkPlan, Networks};
+
+/// The bytes around each frame on the wire: preamble, start delimiter and gap.
+const AROUND: u64 = 20;
+
+/// The greatest BAG in milliseconds. In so long a time each link has a whole number of BAGs.
+const WINDOW_MS: u64 = 128;
+
+/// The bits that a line of 100 Mbit/s carries in that time.
+const WINDOW_BITS: u64 = 12_800_000;
+
+/// The most bits that a link puts on the wire in 128 milliseconds.
+pub(crate) fn window_bits(link: &LinkPlan) -> u64
+    ensures bits { result ≡ bits_of_window link.now }
+    ensures most { result ≤ 1574912 }
+{
+    8 * (link.lmax.bytes() as u64 + AROUND) * (WINDOW_MS / link.bag.ms())
+}
+
+/// Whether a network carries a link.
+fn carries(network: NetworkName, networks: Networks) -> bool
+    ensures { result ≡ is_on network networks }
+{
+    match network {
+        NetworkName::A => networks.names_a(),
+        NetworkName::B => networks.names_b(),
+    }
+}
+
+/// The most bits that the links put on a network in 128 milliseconds.
+pub(crate) fn network_bits(network: NetworkName, links: &[LinkPlan]) -> u64
+    requires { length links.now ≤ 64 }
+    ensures bits { result ≡ line_bits network links.now }
+    ensures most { result ≤ 1574912 * 64 }
+{
+    let mut bits = 0;
+    for link in links {
+        if carries(network, link.networks) {
+            bits += window_bits(link);
+        }
+    }
+    bits
+}
+
+/// Bits in 128 milliseconds as bits a second, rounded up.
+pub(crate) fn bit_rate(bits: u64) -> u64
+    requires { bits ≤ 1574912 * 64 }
+    ensures { result ≡ rate_of_bits bits }
+{
+    (bits * 1_000).div_ceil(WINDOW_MS)
+}
+
+/// Bits in 128 milliseconds as hundredths of a percent of 100 Mbit/s, rounded up.
+pub(crate) fn share(bits: u64) -> u64
+    requires { bits ≤ 1574912 * 64 }
+    ensures { result ≡ share_of_bits bits }
+{
+    (bits * 10_000).div_ceil(WINDOW_BITS)
+}
+
+/// Whether that is more than 100 Mbit/s.
+pub(crate) fn is_over(bits: u64) -> bool
+    ensures { result ≡ is_over_line bits }
+{
+    bits > WINDOW_BITS
+}
