@@ -1,3 +1,4 @@
 pub mod Load
 pub mod Wait
 pub mod Analysis
+pub mod Text

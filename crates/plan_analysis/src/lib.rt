@@ -9,9 +9,11 @@ mod link_row;
 mod load;
 mod network_row;
 mod port_row;
+mod text;
 
 pub use analysis::{Analysis, analyze};
 pub use limits::{JITTER_LIMIT, LATENESS_LIMIT};
 pub use link_row::LinkRow;
 pub use network_row::{NetworkName, NetworkRow};
 pub use port_row::PortRow;
+pub use text::write_analysis;

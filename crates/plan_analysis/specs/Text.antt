@@ -1,0 +1,109 @@
+-- The text of an analysis: a table for the links, one for the networks and one for the ports.
+use Rattle.std.specs.Prelude.{codes, ℕ, ◌/◌, ◌%◌, List, [], ◌∷◌, ◌++◌, Bool, nat_lt, if◌then◌else◌, flat_map, decimal}
+use Rattle.std.specs.Fmt.{styled_decimal, format_spec}
+use Rattle.afdx_plan.specs.Plan.{bag_ms}
+use Rattle.afdx_plan.specs.declared.link_plan.LinkPlan.{LinkPlan}
+use Rattle.afdx_plan.specs.declared.networks.Networks.{Networks}
+use Rattle.afdx_plan.specs.declared.networks.Networks.TheVariants.{Both, OnlyA, OnlyB}
+use Rattle.plan_analysis.specs.declared.limits.TheConstants.{JITTER_LIMIT}
+use Rattle.plan_analysis.specs.declared.analysis.Analysis.{Analysis}
+use Rattle.plan_analysis.specs.declared.link_row.LinkRow.{LinkRow}
+use Rattle.plan_analysis.specs.declared.network_row.NetworkName.{NetworkName}
+use Rattle.plan_analysis.specs.declared.network_row.NetworkName.TheVariants.{A, B}
+use Rattle.plan_analysis.specs.declared.network_row.NetworkRow.{NetworkRow}
+use Rattle.plan_analysis.specs.declared.port_row.PortRow.{PortRow}
+
+-- A number at the right end of a column of so many characters: what std writes of `{n:>width}`.
+abbrev pub right : ℕ → ℕ → List ℕ
+right width n = styled_decimal (format_spec 32 3 0 width 18446744073709551615) n
+
+-- a number in so many digits at least: what std writes of `{n:0width}`
+abbrev pub in_digits : ℕ → ℕ → List ℕ
+in_digits width n = styled_decimal (format_spec 32 0 4 width 18446744073709551615) n
+
+-- thousandths, in a column with so many characters before the point
+unfoldable pub thousandths : ℕ → ℕ → List ℕ
+thousandths width n = right width (n / 1000) ++ codes "." ++ in_digits 3 (n % 1000)
+
+-- hundredths, in such a column
+unfoldable pub hundredths : ℕ → ℕ → List ℕ
+hundredths width n = right width (n / 100) ++ codes "." ++ in_digits 2 (n % 100)
+
+-- what the analysis is of
+unfoldable pub head_line : ℕ → ℕ → List ℕ
+head_line end_system lateness = codes "end system " ++ decimal end_system ++ codes ", polls up to "
+    ++ decimal lateness ++ codes " us late" ++ 10 ∷ []
+
+-- the networks of a link, in five characters
+abbrev pub networks_cell : Networks → List ℕ
+networks_cell Both = codes "  A+B"
+networks_cell OnlyA = codes "    A"
+networks_cell OnlyB = codes "    B"
+
+-- the heads of the columns
+unfoldable pub links_head : List ℕ
+links_head = codes " link bag-ms lmax subs  nets    load-kbit/s  share-%  jitter-ns" ++ 10 ∷ []
+
+-- what the plan says of a link
+unfoldable pub link_cells : LinkPlan → List ℕ
+link_cells plan = right 5 plan.id.0 ++ right 7 (bag_ms plan.bag) ++ right 5 plan.lmax ++ right 5 plan.sub_vls
+    ++ codes " " ++ networks_cell plan.networks
+
+-- a link
+unfoldable pub link_line : LinkRow → List ℕ
+link_line row = link_cells row.plan ++ thousandths 11 row.load ++ hundredths 6 row.share
+    ++ right 11 row.jitter ++ 10 ∷ []
+
+-- the jitter of all links
+unfoldable pub jitter_line : ℕ → List ℕ
+jitter_line jitter = codes "jitter " ++ decimal jitter ++ codes " ns of " ++ decimal JITTER_LIMIT
+    ++ (if nat_lt JITTER_LIMIT jitter then codes ", exceeded" ++ 10 ∷ [] else 10 ∷ [])
+
+-- the heads of the columns
+unfoldable pub networks_head : List ℕ
+networks_head = codes "network    load-kbit/s  share-%  exceeded" ++ 10 ∷ []
+
+-- the name of a network
+abbrev pub network_name : NetworkName → List ℕ
+network_name A = codes "      A"
+network_name B = codes "      B"
+
+-- whether its load is more than it carries
+abbrev pub exceeded_cell : Bool → List ℕ
+exceeded_cell exceeded = if exceeded then codes "       yes" else codes "        no"
+
+-- a network
+unfoldable pub network_line : NetworkRow → List ℕ
+network_line row = network_name row.name ++ thousandths 11 row.load ++ hundredths 6 row.share
+    ++ exceeded_cell row.exceeded ++ 10 ∷ []
+
+-- the heads of the columns
+unfoldable pub ports_head : List ℕ
+ports_head = codes " port  link sub fragments        wait-us   messages/s" ++ 10 ∷ []
+
+-- where a port sends
+unfoldable pub port_cells : PortRow → List ℕ
+port_cells row = right 5 row.id.0 ++ right 6 row.vl.0 ++ right 4 row.sub
+
+-- a port
+unfoldable pub port_line : PortRow → List ℕ
+port_line row = port_cells row ++ right 10 row.fragments ++ right 15 row.wait ++ thousandths 9 row.sustained ++ 10 ∷ []
+
+-- the table of the links, with the jitter of all of them
+unfoldable pub links_table : List LinkRow → ℕ → List ℕ
+links_table rows jitter = links_head ++ flat_map link_line rows ++ jitter_line jitter
+
+-- the table of the networks
+unfoldable pub networks_table : NetworkRow → NetworkRow → List ℕ
+networks_table a b = networks_head ++ network_line a ++ network_line b
+
+-- the table of the ports
+unfoldable pub ports_table : List PortRow → List ℕ
+ports_table rows = ports_head ++ flat_map port_line rows
+
+-- the whole text
+unfoldable pub text_of : Analysis → List ℕ
+text_of analysis = head_line analysis.end_system analysis.lateness
+    ++ links_table analysis.links.items analysis.jitter
+    ++ networks_table analysis.network_a analysis.network_b
+    ++ ports_table analysis.ports.items

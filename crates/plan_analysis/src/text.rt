@@ -1,0 +1,248 @@
+//! The text of an analysis.
+ghost use Rattle.std.specs.Prelude.{◌≡◌, OnOk, flat_map};
+ghost use Rattle.std.specs.Io.KnownBytes.{Appends};
+ghost use Rattle.plan_analysis.specs.Text.{thousandths as text_of_thousandths, hundredths as text_of_hundredths};
+ghost use Rattle.plan_analysis.specs.Text.{head_line, links_head, link_cells, link_line, jitter_line};
+ghost use Rattle.plan_analysis.specs.Text.{networks_head, network_line, ports_head, port_cells, port_line};
+ghost use Rattle.plan_analysis.specs.Text.{links_table, networks_table, ports_table, text_of};
+ghost use Rattle.plan_analysis.specs.Text.{networks_cell as cell_of_networks, network_name as name_of_network};
+ghost use Rattle.plan_analysis.specs.Text.{exceeded_cell as cell_of_exceeded};
+
+use crate::analysis::Analysis;
+use crate::limits::JITTER_LIMIT;
+use crate::link_row::LinkRow;
+use crate::network_row::{NetworkName, NetworkRow};
+use crate::port_row::PortRow;
+use afdx_plan::{LinkPlan, Networks};
+use std::io::{self, Write};
+
+/// Writes an analysis as tables of text: of the links, of the networks and of the ports. Each row is a line, and its
+/// cells are words, so that a script may cut it.
+#[tactic(auto, unfolding(crate::specs::Text::text_of))]
+pub fn write_analysis<W: Write>(writer: &mut W, analysis: &Analysis) -> io::Result<()>
+    ensures { OnOk result (Appends (W.contents writer.old) (W.contents writer.new)
+        (text_of analysis.now)) }
+{
+    write_head(writer, analysis.end_system, analysis.lateness)?;
+    write_links_table(writer, analysis.links.as_slice(), analysis.jitter)?;
+    write_networks_table(writer, &analysis.network_a, &analysis.network_b)?;
+    write_ports_table(writer, analysis.ports.as_slice())
+}
+
+#[tactic(auto, unfolding(crate::specs::Text::links_table))]
+fn write_links_table<W: Write>(writer: &mut W, links: &[LinkRow], jitter: u64) -> io::Result<()>
+    ensures { OnOk result (Appends (W.contents writer.old) (W.contents writer.new)
+        (links_table links.now jitter)) }
+{
+    write_links_head(writer)?;
+    write_links(writer, links)?;
+    write_jitter(writer, jitter)
+}
+
+#[tactic(auto, unfolding(crate::specs::Text::networks_table))]
+fn write_networks_table<W: Write>(writer: &mut W, a: &NetworkRow, b: &NetworkRow) -> io::Result<()>
+    ensures { OnOk result (Appends (W.contents writer.old) (W.contents writer.new)
+        (networks_table a.now b.now)) }
+{
+    write_networks_head(writer)?;
+    write_network(writer, a)?;
+    write_network(writer, b)
+}
+
+#[tactic(auto, unfolding(crate::specs::Text::ports_table))]
+fn write_ports_table<W: Write>(writer: &mut W, ports: &[PortRow]) -> io::Result<()>
+    ensures { OnOk result (Appends (W.contents writer.old) (W.contents writer.new)
+        (ports_table ports.now)) }
+{
+    write_ports_head(writer)?;
+    write_ports(writer, ports)
+}
+
+#[tactic(auto, unfolding(crate::specs::Text::head_line))]
+fn write_head<W: Write>(writer: &mut W, end_system: u16, lateness: u64) -> io::Result<()>
+    ensures { OnOk result (Appends (W.contents writer.old) (W.contents writer.new)
+        (head_line end_system lateness)) }
+{
+    writeln!(
+        writer,
+        "end system {end_system}, polls up to {lateness} us late"
+    )
+}
+
+#[tactic(auto, unfolding(crate::specs::Text::links_head))]
+fn write_links_head<W: Write>(writer: &mut W) -> io::Result<()>
+    ensures { OnOk result (Appends (W.contents writer.old) (W.contents writer.new)
+        links_head) }
+{
+    writer.write_all(b" link bag-ms lmax subs  nets    load-kbit/s  share-%  jitter-ns\n")
+}
+
+fn write_links<W: Write>(writer: &mut W, links: &[LinkRow]) -> io::Result<()>
+    ensures { OnOk result (Appends (W.contents writer.old) (W.contents writer.new)
+        (flat_map link_line links.now)) }
+{
+    for link in links {
+        write_link(writer, link)?;
+    }
+    Ok(())
+}
+
+#[tactic(auto, unfolding(crate::specs::Text::link_line))]
+fn write_link<W: Write>(writer: &mut W, row: &LinkRow) -> io::Result<()>
+    ensures { OnOk result (Appends (W.contents writer.old) (W.contents writer.new)
+        (link_line row.now)) }
+{
+    write_plan(writer, &row.plan)?;
+    write_load(writer, row.load)?;
+    write_share(writer, row.share)?;
+    let jitter = row.jitter;
+    writeln!(writer, "{jitter:>11}")
+}
+
+/// What the plan says of a link.
+#[tactic(auto, unfolding(crate::specs::Text::link_cells))]
+fn write_plan<W: Write>(writer: &mut W, plan: &LinkPlan) -> io::Result<()>
+    ensures { OnOk result (Appends (W.contents writer.old) (W.contents writer.new)
+        (link_cells plan.now)) }
+{
+    let id = plan.id.0;
+    let bag = plan.bag.ms();
+    let lmax = plan.lmax.bytes();
+    let subs = plan.sub_vls;
+    let networks = networks_cell(plan.networks);
+    write!(writer, "{id:>5}{bag:>7}{lmax:>5}{subs:>5} {networks}")
+}
+
+fn networks_cell(networks: Networks) -> &'static str
+    ensures { result.now ≡ cell_of_networks networks }
+{
+    match networks {
+        Networks::Both => "  A+B",
+        Networks::OnlyA => "    A",
+        Networks::OnlyB => "    B",
+    }
+}
+
+/// A load in kbit/s.
+#[tactic(auto, unfolding(crate::specs::Text::thousandths))]
+fn write_load<W: Write>(writer: &mut W, load: u64) -> io::Result<()>
+    ensures { OnOk result (Appends (W.contents writer.old) (W.contents writer.new)
+        (text_of_thousandths 11 load)) }
+{
+    let whole = load / 1_000;
+    let rest = load % 1_000;
+    write!(writer, "{whole:>11}.{rest:03}")
+}
+
+/// A share in percent.
+#[tactic(auto, unfolding(crate::specs::Text::hundredths))]
+fn write_share<W: Write>(writer: &mut W, share: u64) -> io::Result<()>
+    ensures { OnOk result (Appends (W.contents writer.old) (W.contents writer.new)
+        (text_of_hundredths 6 share)) }
+{
+    let whole = share / 100;
+    let rest = share % 100;
+    write!(writer, "{whole:>6}.{rest:02}")
+}
+
+#[tactic(auto, unfolding(crate::specs::Text::jitter_line))]
+fn write_jitter<W: Write>(writer: &mut W, jitter: u64) -> io::Result<()>
+    ensures { OnOk result (Appends (W.contents writer.old) (W.contents writer.new)
+        (jitter_line jitter)) }
+{
+    write!(writer, "jitter {jitter} ns of {JITTER_LIMIT}")?;
+    if jitter > JITTER_LIMIT {
+        writer.write_all(b", exceeded\n")
+    } else {
+        writer.write_all(b"\n")
+    }
+}
+
+#[tactic(auto, unfolding(crate::specs::Text::networks_head))]
+fn write_networks_head<W: Write>(writer: &mut W) -> io::Result<()>
+    ensures { OnOk result (Appends (W.contents writer.old) (W.contents writer.new)
+        networks_head) }
+{
+    writer.write_all(b"network    load-kbit/s  share-%  exceeded\n")
+}
+
+#[tactic(auto, unfolding(crate::specs::Text::network_line))]
+fn write_network<W: Write>(writer: &mut W, row: &NetworkRow) -> io::Result<()>
+    ensures { OnOk result (Appends (W.contents writer.old) (W.contents writer.new)
+        (network_line row.now)) }
+{
+    writer.write_all(network_name(row.name).as_bytes())?;
+    write_load(writer, row.load)?;
+    write_share(writer, row.share)?;
+    let exceeded = exceeded_cell(row.exceeded);
+    writeln!(writer, "{exceeded}")
+}
+
+fn network_name(name: NetworkName) -> &'static str
+    ensures { result.now ≡ name_of_network name }
+{
+    match name {
+        NetworkName::A => "      A",
+        NetworkName::B => "      B",
+    }
+}
+
+fn exceeded_cell(exceeded: bool) -> &'static str
+    ensures { result.now ≡ cell_of_exceeded exceeded }
+{
+    if exceeded { "       yes" } else { "        no" }
+}
+
+#[tactic(auto, unfolding(crate::specs::Text::ports_head))]
+fn write_ports_head<W: Write>(writer: &mut W) -> io::Result<()>
+    ensures { OnOk result (Appends (W.contents writer.old) (W.contents writer.new)
+        ports_head) }
+{
+    writer.write_all(b" port  link sub fragments        wait-us   messages/s\n")
+}
+
+fn write_ports<W: Write>(writer: &mut W, ports: &[PortRow]) -> io::Result<()>
+    ensures { OnOk result (Appends (W.contents writer.old) (W.contents writer.new)
+        (flat_map port_line ports.now)) }
+{
+    for port in ports {
+        write_port(writer, port)?;
+    }
+    Ok(())
+}
+
+#[tactic(auto, unfolding(crate::specs::Text::port_line))]
+fn write_port<W: Write>(writer: &mut W, row: &PortRow) -> io::Result<()>
+    ensures { OnOk result (Appends (W.contents writer.old) (W.contents writer.new)
+        (port_line row.now)) }
+{
+    write_place(writer, row)?;
+    let fragments = row.fragments;
+    let wait = row.wait;
+    write!(writer, "{fragments:>10}{wait:>15}")?;
+    write_sustained(writer, row.sustained)?;
+    writer.write_all(b"\n")
+}
+
+/// Where a port sends.
+#[tactic(auto, unfolding(crate::specs::Text::port_cells))]
+fn write_place<W: Write>(writer: &mut W, row: &PortRow) -> io::Result<()>
+    ensures { OnOk result (Appends (W.contents writer.old) (W.contents writer.new)
+        (port_cells row.now)) }
+{
+    let id = row.id.0;
+    let link = row.vl.0;
+    let sub = row.sub;
+    write!(writer, "{id:>5}{link:>6}{sub:>4}")
+}
+
+/// Messages a second.
+#[tactic(auto, unfolding(crate::specs::Text::thousandths))]
+fn write_sustained<W: Write>(writer: &mut W, sustained: u64) -> io::Result<()>
+    ensures { OnOk result (Appends (W.contents writer.old) (W.contents writer.new)
+        (text_of_thousandths 9 sustained)) }
+{
+    let whole = sustained / 1_000;
+    let rest = sustained % 1_000;
+    write!(writer, "{whole:>9}.{rest:03}")
+}
