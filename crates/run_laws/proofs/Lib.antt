@@ -2,3 +2,6 @@ pub mod PollStep
 pub mod Ran
 pub mod KeepReady
 pub mod WorkedRuns
+pub mod Timely
+pub mod Pieces
+pub mod MessageRun

@@ -23,7 +23,7 @@ use Rattle.afdx_tx.specs.DrainEnds.{stream_at}
 use Rattle.afdx_laws.specs.NextFragment.{link_wait}
 use Rattle.afdx_laws.proofs.NextFragment.{next_polled_in_time, wait_at}
 use Rattle.run_laws.specs.Runs.{EmitterPolls, DrainPolls, AreRuns}
-use Rattle.run_laws.proofs.PollStep.{Adds, StandsAt, gap_at, subs_at, StepsAt, emitter_step, drain_step, emitter_endures, drain_poll_endures}
+use Rattle.run_laws.proofs.PollStep.{Adds, StandsAt, gap_at, subs_at, StepsAt, emitter_step, emitter_lacks, drain_step, drain_lacks, emitter_endures, drain_poll_endures}
 
 -- the entry that a poll released, if it released one, and those after it
 abbrev pub ShowsOne : ℕ → Option ℕ → (added rest : List Entry) → Type 0
@@ -50,12 +50,12 @@ latest_is before [] = refl
 latest_is before (p ∷ polls) = latest_is p.at polls
 
 -- what a poll adds to the count of a sub-VL's frames
-counted : (x bound : ℕ) (p : Poll) (polls : List Poll) → released_by x bound (p ∷ polls)
+pub counted : (x bound : ℕ) (p : Poll) (polls : List Poll) → released_by x bound (p ∷ polls)
     ≡ cond (nat_le p.at bound && is_of x p.released) 1 0 + released_by x bound polls
 counted x bound p polls = sum_by-cons (λ (q : Poll). cond (nat_le q.at bound && is_of x q.released) 1 0) p polls
 
 -- a poll that released none of them adds nothing
-adds_none : (x bound : ℕ) (p : Poll) (polls : List Poll) → (nat_le p.at bound && is_of x p.released) ≡ false
+pub adds_none : (x bound : ℕ) (p : Poll) (polls : List Poll) → (nat_le p.at bound && is_of x p.released) ≡ false
     → released_by x bound (p ∷ polls) ≡ released_by x bound polls
 adds_none x bound p polls none = grind (arith, counted x bound p polls)
 
@@ -128,12 +128,12 @@ begun_push begun [] e x = refl
 begun_push begun (d ∷ S) e x = begun_push (begun_after begun d) S e x
 
 -- a poll, as a link sees it
-abbrev poll_of : ℕ → (ℕ → Bool) → Option ℕ → Poll
+abbrev pub poll_of : ℕ → (ℕ → Bool) → Option ℕ → Poll
 poll_of now has released = record { at = now; has = has; released = released }
 
 -- Polls of a link at these times, which find a fragment of a sub-VL waiting until `many` of its frames are
 -- released, and what they add to its stream.
-record HaveRun (gap subs x many : ℕ) (moments : List ℕ) (S T : List Entry) : Type 0 where
+pub record HaveRun (gap subs x many : ℕ) (moments : List ℕ) (S T : List Entry) : Type 0 where
   pub polls : List Poll
   pub at : map at_of polls ≡ moments
   pub served : AreServed gap subs (latest None S) polls
@@ -143,7 +143,7 @@ record HaveRun (gap subs x many : ℕ) (moments : List ℕ) (S T : List Entry) :
   pub show : Show polls added
 
 -- the fragments that are still waited for, after a poll
-abbrev left : ℕ → ℕ → Option ℕ → ℕ
+abbrev pub left : ℕ → ℕ → Option ℕ → ℕ
 left x many released = many - cond (is_of x released) 1 0
 
 -- a message of a sub-VL is begun while one of its fragments is waited for
@@ -156,7 +156,7 @@ still_waits : (now x many : ℕ) (released : Option ℕ) (S M : List Entry) → 
 still_waits now x many released S M few begun adds some = grind (arith, nat_tests, begun_push none_begun S)
 
 -- one poll before others
-run_more : (now gap subs x many : ℕ) (moments : List ℕ) (released : Option ℕ) (has : ℕ → Bool) (S M T : List Entry)
+pub run_more : (now gap subs x many : ℕ) (moments : List ℕ) (released : Option ℕ) (has : ℕ → Bool) (S M T : List Entry)
     → IsServed gap subs (latest None S) (poll_of now has released) released
     → (1 ≤ many → has x ≡ true) → Adds now released S M
     → HaveRun gap subs x (left x many released) moments M T → HaveRun gap subs x many (now ∷ moments) S T
@@ -184,10 +184,14 @@ run_more now gap subs x many moments (Some chosen) has S M T served had (frame, 
 
 -- what a poll does to the stream of a link
 step_of : (now : ℕ) (plan : Plan) (k x : ℕ) (lines after : Lines) → IsPlan plan → k < length plan.links
-    → EmitterPolls plan now lines after ⊎ DrainPolls plan now lines after → StandsAt plan k after → StepsAt now plan k x lines after
-step_of now plan k x lines after valid inside p stands = ⊎_elim
-    (λ emitter. emitter_step now plan k x lines after valid inside emitter stands)
-    (λ drain. drain_step now plan k x lines after valid inside drain stands)
+    → EmitterPolls plan now lines after ⊎ DrainPolls plan now lines after → StandsAt plan k after
+    → StepsAt now plan k x (begun_by none_begun (stream_at plan k lines) x) lines after
+step_of now plan k x lines after valid inside p stands =
+    let b = begun_by none_begun (stream_at plan k lines) x in
+    ⊎_elim
+    (λ emitter. emitter_step now plan k x b lines after valid inside emitter (emitter_lacks now plan k x lines after inside emitter) stands)
+    (λ drain. drain_step now plan drain.accepted k x b lines after valid inside drain.run
+    (drain_lacks now plan drain.accepted k x (stream_at plan k lines) inside drain.allowed) stands)
     p
 
 -- networks that are down after polls were down before them, or failed
@@ -214,7 +218,7 @@ have_run [] plan k x many lines after valid inside r stands few begun = record {
 have_run (now ∷ moments) plan k x many lines after valid inside r stands few begun =
     let stood : StandsAt plan k r.0 = stood_before r.0 after (link_plan_at plan.links k).networks
     (runs_endure plan moments r.0 after r.2) stands in
-    let step : StepsAt now plan k x lines r.0 = step_of now plan k x lines r.0 valid inside r.1 stood in
+    let step : StepsAt now plan k x (begun_by none_begun (stream_at plan k lines) x) lines r.0 = step_of now plan k x lines r.0 valid inside r.1 stood in
     let waits = still_waits now x many step.released (stream_at plan k lines) (stream_at plan k r.0) few begun step.adds in
     run_more now (gap_at plan k) (subs_at plan k) x many moments step.released step.has
     (stream_at plan k lines) (stream_at plan k r.0) (stream_at plan k after)
@@ -226,7 +230,7 @@ have_run (now ∷ moments) plan k x many lines after valid inside r stands few b
     fewer many t few = grind arith
 
 -- a gap isn't nothing
-some_gap : (bag : Bag) → 1 ≤ 1000 * bag_ms bag
+pub some_gap : (bag : Bag) → 1 ≤ 1000 * bag_ms bag
 some_gap bag = grind arith
 
 -- the next entry of the sub-VL, by a moment

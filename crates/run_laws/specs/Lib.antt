@@ -1,3 +1,5 @@
 pub mod Runs
 pub mod NextInRun
 pub mod WorkedRun
+pub mod Timely
+pub mod MessageInRun

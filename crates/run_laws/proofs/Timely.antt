@@ -1,0 +1,203 @@
+-- How long a sub-VL waits, where polls come when its link is due.
+use Rattle.std.proofs.Common.{ℕ, suc, zero, ◌≡◌, ◌⊎◌, ◌+◌, ◌-◌, ◌*◌, ◌%◌, ◌<◌, ◌≤◌, List, [], ◌∷◌, Bool, true, false, ◌&&◌, cond, nat_le, arith, refl, ap, ◌∙◌, sym, Option, Some, None, inl, inr, map}
+use native.Mathlib.Nat.{mul-suc}
+use Rattle.std.proofs.Math.Nat.{mod-add-mod, mod-lt}
+use Rattle.std.proofs.lemmas.Nat.{mul-le}
+use Rattle.std.proofs.lemmas.Bool.{cases_lt, cases_eq, eq-eqb, ne_eqb, le-leb}
+use Rattle.vl_shaper.specs.Choices.{Choice, next_turn, IsChosen}
+use Rattle.vl_shaper.specs.Pace.{is_due, turn_of, IsLater}
+use Rattle.vl_shaper.specs.Polls.{Poll, IsServed, AreServed, HasAtPolls, is_of, released_by}
+use Rattle.vl_shaper.specs.declared.shaper.Stamp.{Stamp}
+use Rattle.vl_shaper.proofs.OneEach.{back, back_lt, back_self, chosen_behind, turn_cases}
+use Rattle.run_laws.specs.NextInRun.{ComeWithin, latest_of}
+use Rattle.run_laws.specs.Timely.{ComesIn, AreTimely, ApartAreTimely}
+use Rattle.run_laws.proofs.Ran.{at_of, counted}
+
+-- a poll comes in its span, where the end isn't nearer
+comes_due : (gap late end before : ℕ) (moments : List ℕ) → AreTimely gap late end before moments → before + (gap + late) ≤ end
+    → ComesIn (before + gap) (before + (gap + late)) moments
+comes_due gap late end before [] timely far = absurd (omega arith)
+comes_due gap late end before (now ∷ moments) timely far = timely.1 far
+
+-- what comes in a span comes after the start
+not_before : (gap late end before low high : ℕ) (moments : List ℕ) → AreTimely gap late end before moments → ComesIn low high moments
+    → before ≤ high
+not_before gap late end before low high [] timely comes = absurd comes
+not_before gap late end before low high (now ∷ moments) timely (inl here) = omega arith
+not_before gap late end before low high (now ∷ moments) timely (inr later) =
+    let rest = not_before gap late end now low high moments timely.2 later in
+    omega arith
+
+-- a poll that released one of them adds it to the count
+counts : (x moment : ℕ) (poll : Poll) (polls : List Poll) → poll.at ≤ moment → is_of x poll.released ≡ true
+    → released_by x moment (poll ∷ polls) ≡ 1 + released_by x moment polls
+counts x moment poll polls soon mine =
+    let whole = counted x moment poll polls in
+    let both : (nat_le poll.at moment && is_of x poll.released) ≡ true =
+    ap (λ (t : Bool). t && is_of x poll.released) (le-leb poll.at moment soon) ∙ mine in
+    let one = ap (λ (t : Bool). cond t 1 0 + released_by x moment polls) both in
+    omega arith
+
+no_less : (x moment : ℕ) (poll : Poll) (polls : List Poll) → released_by x moment polls ≤ released_by x moment (poll ∷ polls)
+no_less x moment poll polls = let whole = counted x moment poll polls in omega arith
+
+-- a number of choices that is one fewer needs one pause less
+one_pause : (fewer more pause : ℕ) → suc fewer ≤ more → pause + fewer * pause ≤ more * pause
+one_pause fewer more pause less = let m = mul-le (suc fewer) pause more pause less (omega arith) in omega arith
+
+by_release : (o : Option ℕ) → (o ≡ None) ⊎ ((chosen : ℕ) × (o ≡ Some chosen))
+by_release None = inl refl
+by_release (Some chosen) = inr (chosen, refl)
+
+-- a link is due a gap after a time that isn't before its last release
+due_then : (gap before moment : ℕ) (last : Option Stamp) → IsLater last before → before + gap ≤ moment
+    → is_due gap last moment ≡ true
+due_then gap before moment None after late = refl
+due_then gap before moment (Some l) after late = le-leb gap (moment - l.at) (omega arith)
+
+-- a poll that released none, though a sub-VL had something, came before the link was due
+not_due : (gap subs before x : ℕ) (last : Option Stamp) (p : Poll) → x < subs → IsLater last before
+    → IsServed gap subs last p None → p.has x ≡ true → p.at < before + gap
+not_due gap subs before x last p xl after idle had = elim (cases_lt p.at (before + gap)) [
+  | inl early ↦ early
+  | inr due ↦ absurd (cc (had, idle (due_then gap before p.at last after due) x xl))
+]
+
+-- the sub-VLs are asked in cyclic order behind one of them
+abbrev pub IsBehind : ℕ → ℕ → Option Stamp → Type 0
+IsBehind subs l last = (c : Choice) → IsChosen subs (turn_of subs last) c → IsChosen subs (next_turn subs l) c
+
+-- at first behind the last of them
+from_0 : (subs k : ℕ) → k < subs → next_turn subs (subs - 1) k ≡ k
+from_0 subs k lt = grind (arith, turn_cases subs (subs - 1) k (omega arith) lt)
+
+-- the one behind which they are asked
+abbrev pub behind : ℕ → Option Stamp → ℕ
+behind subs None = subs - 1
+behind subs (Some l) = l.sub % subs
+
+pub behind_lt : (subs : ℕ) (last : Option Stamp) → 1 ≤ subs → behind subs last < subs
+behind_lt subs None some = omega arith
+behind_lt subs (Some l) some = mod-lt l.sub (omega arith)
+
+same_turn : (subs last k : ℕ) → next_turn subs (last % subs) k ≡ next_turn subs last k
+same_turn subs last k =
+    let left : last % subs + 1 + k ≡ last % subs + (1 + k) = omega arith in
+    let right : last + 1 + k ≡ last + (1 + k) = omega arith in
+    rw (left, right) (mod-add-mod last subs (1 + k))
+
+reordered : (subs : ℕ) (f g : ℕ → ℕ) (c : Choice) → ((k : ℕ) → k < subs → g k ≡ f k) → IsChosen subs f c → IsChosen subs g c
+reordered subs f g c same ch = record {
+  turn = ch.turn;
+  within = ch.within;
+  is = ch.is ∙ sym (same ch.turn ch.within);
+  had = ch.had;
+  before = λ k h. let w = ch.within in ap c.has (same k (omega arith)) ∙ ch.before k h;
+}
+
+pub is_behind : (subs : ℕ) (last : Option Stamp) → IsBehind subs (behind subs last) last
+is_behind subs None c ch = reordered subs (turn_of subs None) (next_turn subs (subs - 1)) c (from_0 subs) ch
+is_behind subs (Some l) c ch = reordered subs (turn_of subs (Some l)) (next_turn subs (l.sub % subs)) c (λ k lt. same_turn subs l.sub k) ch
+
+-- from any poll on: there is still a round for each turn but what is left of the first
+in_due : (polls : List Poll) (subs x l f gap late before polled end : ℕ) (last : Option Stamp)
+    → x < subs → l < subs → 1 ≤ gap → IsLater last before → IsBehind subs l last
+    → AreServed gap subs last polls → HasAtPolls x f polls
+    → AreTimely gap late end polled (map at_of polls)
+    → (before + (gap + late) ≤ end → ComesIn (before + gap) (before + (gap + late)) (map at_of polls))
+    → (1 ≤ f → before + (subs * f - back subs x l) * (gap + late) ≤ end)
+    → f ≤ released_by x end polls
+in_due polls subs x l zero gap late before polled end last xl ll some after order served has timely span enough = omega arith
+in_due [] subs x l (suc f) gap late before polled end last xl ll some after order served has timely span enough =
+    let b = back_lt subs x l xl ll in
+    let m = mul-suc subs f in
+    let e = enough (omega arith) in
+    let p = one_pause 0 (subs * suc f - back subs x l) (gap + late) (omega arith) in
+    absurd (span (omega arith))
+in_due (p ∷ ps) subs x l (suc f) gap late before polled end last xl ll some after order served has timely span enough =
+    let pause : ℕ = gap + late in
+    let had : p.has x ≡ true = has.0 (omega arith) in
+    let b = back_lt subs x l xl ll in
+    let m = mul-suc subs f in
+    let e = enough (omega arith) in
+    let one = one_pause 0 (subs * suc f - back subs x l) pause (omega arith) in
+    let comes : ComesIn (before + gap) (before + (gap + late)) (map at_of (p ∷ ps)) = span (omega arith) in
+    elim (by_release p.released) [
+      | inl is ↦
+          let early : p.at < before + gap = not_due gap subs before x last p xl after (rw is at served.0) had in
+          let left : suc f - cond (is_of x p.released) 1 0 ≡ suc f = rw is (omega arith) in
+          let later : ComesIn (before + gap) (before + (gap + late)) (map at_of ps) = after_early p.at before (map at_of ps) early comes in
+          let rest : suc f ≤ released_by x end ps =
+          in_due ps subs x l (suc f) gap late before p.at end last xl ll some after order
+          (rw is at served.1) (rw left at has.1) timely.2 (λ far. later) enough in
+          let more = no_less x end p ps in
+          omega arith
+      | inr (chosen, is) ↦
+          let stamp : Stamp = record { at = p.at; sub = chosen } in
+          let made : IsServed gap subs last p (Some chosen) = rw is at served.0 in
+          let served' : AreServed gap subs (Some stamp) ps = rw is at served.1 in
+          let to = chosen_behind subs x l (record { has = p.has; sub = chosen }) xl ll (order _ made.1) had in
+          let soon : p.at ≤ before + pause = first_soon p.at before (map at_of ps) timely.2 comes in
+          let next = λ (left : ℕ) (fewer : suc (subs * left - back subs x chosen) ≤ subs * suc f - back subs x l) (has' : HasAtPolls x left ps).
+          let one = one_pause (subs * left - back subs x chosen) (subs * suc f - back subs x l) pause fewer in
+          in_due ps subs x chosen left gap late p.at p.at end (Some stamp) xl to.0 some (omega arith)
+          (λ c ch. ch) served' has' timely.2 (comes_due gap late end p.at (map at_of ps) timely.2) (λ h. omega arith) in
+          elim (cases_eq chosen x) [
+            | inl own ↦
+                let mine : is_of x p.released ≡ true = ap (is_of x) is ∙ eq-eqb chosen x own in
+                let left : suc f - cond (is_of x p.released) 1 0 ≡ f = rw mine (omega arith) in
+                let none = back_self subs x chosen xl own in
+                let rest : f ≤ released_by x end ps = next f (omega arith) (rw left at has.1) in
+                let count = counts x end p ps (omega arith) mine in
+                omega arith
+            | inr ne ↦
+                let other : is_of x p.released ≡ false = ap (is_of x) is ∙ ne_eqb chosen x ne in
+                let left : suc f - cond (is_of x p.released) 1 0 ≡ suc f = rw other (omega arith) in
+                let far = to.1 ne in
+                let near = back_lt subs x chosen xl to.0 in
+                let rest : suc f ≤ released_by x end ps = next (suc f) (omega arith) (rw left at has.1) in
+                let more = no_less x end p ps in
+                omega arith
+          ]
+    ]
+  where
+    after_early : (now before : ℕ) (moments : List ℕ) → now < before + gap → ComesIn (before + gap) (before + (gap + late)) (now ∷ moments)
+        → ComesIn (before + gap) (before + (gap + late)) moments
+    after_early now before moments early (inl here) = absurd (omega arith)
+    after_early now before moments early (inr later) = later
+
+    first_soon : (now before : ℕ) (moments : List ℕ) → AreTimely gap late end now moments
+        → ComesIn (before + gap) (before + (gap + late)) (now ∷ moments) → now ≤ before + (gap + late)
+    first_soon now before moments timely (inl here) = here.1
+    first_soon now before moments timely (inr later) = not_before gap late end now _ _ moments timely later
+
+-- So many frames of a sub-VL are released within as many rounds, each turn of which takes a gap and a lateness.
+pub timely_released : (polls : List Poll) (subs x f gap late start end : ℕ) (last : Option Stamp)
+    → x < subs → 1 ≤ gap → IsLater last start
+    → AreServed gap subs last polls → HasAtPolls x f polls
+    → AreTimely gap late end start (map at_of polls)
+    → start + subs * f * (gap + late) ≤ end
+    → f ≤ released_by x end polls
+timely_released polls subs x f gap late start end last xl some after served has timely enough =
+    let l : ℕ = behind subs last in
+    let fewer = mul-le (subs * f - back subs x l) (gap + late) (subs * f) (gap + late) (omega arith) (omega arith) in
+    in_due polls subs x l f gap late start start end last xl (behind_lt subs last (omega arith)) some after (is_behind subs last)
+    served has timely (comes_due gap late end start (map at_of polls) timely) (λ h. omega arith)
+
+-- of polls that follow one another closely, one comes in a span
+comes_close : (late low high from : ℕ) (moments : List ℕ) → from < low → high ≡ low + late → ComeWithin (late + 1) from moments
+    → high ≤ latest_of from moments → ComesIn low high moments
+comes_close late low high from [] before wide close far = absurd (omega arith)
+comes_close late low high from (now ∷ moments) before wide close far = elim (cases_lt now low) [
+  | inl early ↦ inr (comes_close late low high now moments early wide close.2 far)
+  | inr here ↦ inl (omega arith, omega arith)
+]
+
+-- polls that are no further apart come when a link is due
+pub apart_timely : ApartAreTimely
+apart_timely gap late end before [] some close far = omega arith
+apart_timely gap late end before (now ∷ moments) some close far = (
+  omega arith,
+  λ near. comes_close late (before + gap) (before + (gap + late)) before (now ∷ moments) (omega arith) (omega arith) close (omega arith),
+  apart_timely gap late end now moments some close.2 far,
+)
