@@ -5,3 +5,4 @@ pub mod WorkedRuns
 pub mod Timely
 pub mod Pieces
 pub mod MessageRun
+pub mod WorkedWaits

@@ -43,7 +43,7 @@ unfolding log checksum addresses header_front internet_header link_header udp_he
 released = refl
 
 -- a network that takes a frame stays up
-takes : (old new : List Entry) → Endures true true old new 0 0
+pub takes : (old new : List Entry) → Endures true true old new 0 0
 takes old new = record {
   stays = ((λ up. (refl, refl)), (λ both. refl));
   least = omega arith;

@@ -3,3 +3,4 @@ pub mod NextInRun
 pub mod WorkedRun
 pub mod Timely
 pub mod MessageInRun
+pub mod WorkedWait

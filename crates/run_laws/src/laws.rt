@@ -4,6 +4,7 @@ ghost use Rattle.run_laws.specs.NextInRun.{NextInRun};
 ghost use Rattle.run_laws.specs.Runs.{KeptReady};
 ghost use Rattle.run_laws.specs.Timely.{ApartAreTimely};
 ghost use Rattle.run_laws.specs.WorkedRun.{ComesInRun, NeedsARun};
+ghost use Rattle.run_laws.specs.WorkedWait.{MeetsTheWait, NeedsItsPremises};
 
 /// In a run of polls of an emitter, or of its drain, the next fragment of a message is released within the bound
 /// of its link: as many BAGs and latenesses as the link has sub-VLs, after the fragment before it.
@@ -44,4 +45,10 @@ pub fn message_in_run()
 
     // polls that are no further apart than the lateness and a microsecond
     ensures apart { ApartAreTimely }
+
+    // a message that is released just as its wait is over, and no microsecond earlier
+    ensures worked { MeetsTheWait }
+
+    // a poll that is late; and a queue that holds more than it has room for
+    ensures needed { NeedsItsPremises }
 {}

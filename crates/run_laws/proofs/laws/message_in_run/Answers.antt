@@ -1,6 +1,12 @@
 use Rattle.run_laws.proofs.MessageRun.{message_in_run_holds}
 use Rattle.run_laws.proofs.Timely.{apart_timely}
+use Rattle.run_laws.proofs.WorkedWaits.{meets_the_wait, needs_its_premises}
 use Rattle.run_laws.proofs.laws.message_in_run.Goals as goal
 
 pub returns : goal.returns
-returns c = record { wait = message_in_run_holds; apart = apart_timely }
+returns c = record {
+  wait = message_in_run_holds;
+  apart = apart_timely;
+  worked = meets_the_wait;
+  needed = needs_its_premises;
+}
