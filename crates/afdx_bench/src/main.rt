@@ -5,12 +5,14 @@
 ghost use Rattle.bench_words.specs.Words.{IsInRange};
 
 mod files;
+mod report;
 
 use afdx_plan::{Config, demo_config};
 use bench_words::{Words, read_words, tell_words};
 use capture::write_capture;
 use files::{create, open, stand_in};
 use plan_report::{End, Failure, Halting, check, read_plan, status_of};
+use report::report;
 use std::alloc::Global;
 use std::fs::File;
 use std::io::{self, BufWriter, IsTerminal, Write};
@@ -110,6 +112,7 @@ fn obey<W: Write, T: Threads + Wait + Sync>(
             check(alloc, open(rt, config.as_str())?, writer)?;
             Ok(End::Told)
         }
+        Words::Report { config, lateness } => report(rt, config.as_str(), lateness, writer),
         Words::Storm {
             config,
             messages,

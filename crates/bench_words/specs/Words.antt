@@ -1,10 +1,11 @@
 -- What a command line may ask for.
 use Rattle.std.specs.Prelude.{◌≤◌, ⊤}
 use Rattle.bench_words.specs.declared.words.Words.{Words}
-use Rattle.bench_words.specs.declared.words.Words.TheVariants.{Storm}
+use Rattle.bench_words.specs.declared.words.Words.TheVariants.{Report, Storm}
 
--- the numbers of a storm lie in their ranges
+-- the numbers of a storm and of a report lie in their ranges
 abbrev pub IsInRange : Words → Type 0
 IsInRange (Storm config messages turns) =
     ((1 ≤ messages) × (messages ≤ 65535)) × ((1 ≤ turns) × (turns ≤ 1000000000))
+IsInRange (Report config lateness) = lateness ≤ 1000000
 IsInRange _ = ⊤

@@ -1,6 +1,7 @@
 //! The words of the command line, and what is told of them.
 #![tactic(auto)]
 
+mod report;
 mod told;
 mod words;
 

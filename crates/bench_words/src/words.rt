@@ -3,6 +3,7 @@ ghost use Rattle.std.specs.Prelude.{◌≡◌, ◌≤◌, ◌⊎◌, Some, None,
 ghost use Rattle.script_text.specs.Numbers.{number_of};
 ghost use Rattle.bench_words.specs.Words.{IsInRange};
 
+use crate::report::{report_command, report_words};
 use clap::error::ErrorKind;
 use clap::{Arg, ArgAction, ArgMatches, Command, Error, value_parser};
 use script_text::number;
@@ -24,6 +25,11 @@ pub enum Words {
     /// `check <config>`
     Check {
         config: String,
+    },
+    /// `report <config>`, with how late polls come in microseconds
+    Report {
+        config: String,
+        lateness: u64,
     },
     /// `storm <config> --messages <n> --turns <t>`
     Storm {
@@ -76,6 +82,7 @@ pub fn parse<'a>(alloc: Global, words: &'a [String]) -> Result<Words, Error>
         Some(("check", inner)) => Ok(Words::Check {
             config: path(alloc, inner, "config")?,
         }),
+        Some(("report", inner)) => report_words(alloc, inner),
         Some((_, inner)) => storm_words(alloc, inner),
         None => Ok(Words::Script),
     }
@@ -92,11 +99,14 @@ fn storm_words(alloc: Global, matches: &ArgMatches<'_>) -> Result<Words, Error>
             turns,
         }),
         // clap has checked the ranges, but it accepts a plus sign.
-        _ => {
-            let text = "a number is written in decimal digits alone";
-            Err(command(alloc)?.error(ErrorKind::InvalidValue, text)?)
-        }
+        _ => Err(not_decimal(alloc)?),
     }
+}
+
+/// What is told of a number that isn't decimal digits alone.
+pub(crate) fn not_decimal(alloc: Global) -> Result<Error, AllocError> {
+    let text = "a number is written in decimal digits alone";
+    command(alloc)?.error(ErrorKind::InvalidValue, text)
 }
 
 /// How many messages each port is to send.
@@ -128,7 +138,11 @@ fn count(word: &str, most: u64) -> Option<u64>
 }
 
 /// The path that a word gives.
-fn path(alloc: Global, matches: &ArgMatches<'_>, id: &str) -> Result<String, AllocError> {
+pub(crate) fn path(
+    alloc: Global,
+    matches: &ArgMatches<'_>,
+    id: &str,
+) -> Result<String, AllocError> {
     String::from_str(alloc, matches.get_str(id).unwrap_or(""))
 }
 
@@ -153,6 +167,7 @@ fn command<'a>(alloc: Global) -> Result<Command<'a>, AllocError> {
         .disable_help_subcommand(true)
         .subcommand(run_command(alloc)?)?
         .subcommand(check_command(alloc)?)?
+        .subcommand(report_command(alloc)?)?
         .subcommand(storm_command(alloc)?)
 }
 
@@ -195,6 +210,6 @@ fn storm_command<'a>(alloc: Global) -> Result<Command<'a>, AllocError> {
         .arg(turns)
 }
 
-fn file<'a>(alloc: Global, id: &'a str) -> Arg<'a> {
+pub(crate) fn file<'a>(alloc: Global, id: &'a str) -> Arg<'a> {
     Arg::new(alloc, id).required(true).action(ArgAction::Set)
 }

@@ -1,0 +1,46 @@
+//! The words of `report`.
+ghost use Rattle.std.specs.Prelude.{◌≤◌, IfOk, IfSome};
+ghost use Rattle.bench_words.specs.Words.{IsInRange};
+
+use crate::words::{Words, file, not_decimal, path};
+use clap::{Arg, ArgAction, ArgMatches, Command, Error, value_parser};
+use plan_analysis::LATENESS_LIMIT;
+use script_text::number;
+use std::alloc::{AllocError, Global};
+
+/// The words of `report`.
+pub(crate) fn report_words(alloc: Global, matches: &ArgMatches<'_>) -> Result<Words, Error>
+    ensures { IfOk result IsInRange }
+{
+    match lateness_of(matches) {
+        Some(lateness) => Ok(Words::Report {
+            config: path(alloc, matches, "config")?,
+            lateness,
+        }),
+        None => Err(not_decimal(alloc)?),
+    }
+}
+
+/// How late polls come at most, in microseconds: 0 if no word says it.
+fn lateness_of(matches: &ArgMatches<'_>) -> Option<u64>
+    ensures { IfSome result (λ lateness. lateness ≤ LATENESS_LIMIT) }
+{
+    match matches.get_str("lateness") {
+        Some(word) => number(word.as_bytes(), LATENESS_LIMIT),
+        None => Some(0),
+    }
+}
+
+/// The command line of `report`.
+pub(crate) fn report_command<'a>(alloc: Global) -> Result<Command<'a>, AllocError> {
+    let lateness = Arg::new(alloc, "lateness")
+        .long("lateness")
+        .action(ArgAction::Set)
+        .value_name("micros")
+        .value_parser(value_parser!(u64).range(0..1_000_001))
+        .help("How late polls come at most, in microseconds: 0 if left out");
+    Command::new(alloc, "report")
+        .about("Prints the loads, the jitter and the longest waits of a configuration")
+        .arg(file(alloc, "config").help("The file of the configuration"))?
+        .arg(lateness)
+}
