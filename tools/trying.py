@@ -30,9 +30,9 @@ A transmitting AFDX end system. Without words it runs a script from standard inp
 Usage: afdx_bench [COMMAND]
 
 Commands:
-  run    Runs a script over a configuration and prints what both networks were handed
-  check  Prints the plan and the jitter of a configuration
-  storm  Has all ports of a configuration send at once, and prints what came of it
+  run     Runs a script over a configuration and prints what both networks were handed
+  check   Prints the plan and the jitter of a configuration\n  report  Prints the loads, the jitter and the longest waits of a configuration
+  storm   Has all ports of a configuration send at once, and prints what came of it
 
 Options:
   -h, --help  Print help

@@ -112,7 +112,11 @@ fn obey<W: Write, T: Threads + Wait + Sync>(
             check(alloc, open(rt, config.as_str())?, writer)?;
             Ok(End::Told)
         }
-        Words::Report { config, lateness } => report(rt, config.as_str(), lateness, writer),
+        Words::Report {
+            config,
+            lateness,
+            html,
+        } => report(rt, config.as_str(), lateness, html, writer),
         Words::Storm {
             config,
             messages,

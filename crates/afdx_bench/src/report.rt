@@ -1,29 +1,46 @@
 //! The command `report`.
 ghost use Rattle.std.specs.Prelude.{◌≤◌};
 
-use crate::files::open;
-use plan_analysis::{LATENESS_LIMIT, analyze, write_analysis};
-use plan_report::{End, Failure, read_plan};
-use std::io::Write;
+use crate::files::{create, open};
+use plan_analysis::{Analysis, LATENESS_LIMIT, analyze, write_analysis, write_page};
+use plan_report::{End, Failure, Halting, read_plan};
+use std::alloc::Global;
+use std::fs::File;
+use std::io::{self, BufWriter, Write};
 use tx_script::RunFault;
 
 /// Writes the loads, the jitter and the longest waits of a configuration, by the path of its file, where polls come
-/// so many microseconds late at most.
+/// so many microseconds late at most; and before that the page, to the file that is named for it.
 pub fn report<W: Write>(
     rt: &HostRuntime,
     config: &str,
     lateness: u64,
+    html: Option<String>,
     writer: &mut W,
 ) -> Result<End, Failure>
     requires { lateness ≤ LATENESS_LIMIT }
 {
     let alloc = rt.alloc();
-    let config = read_plan(alloc, open(rt, config)?)?;
-    match analyze(alloc, &config, lateness) {
-        Ok(analysis) => match write_analysis(writer, &analysis) {
-            Ok(()) => Ok(End::Told),
-            Err(_) => Err(Failure::Run(RunFault::Write)),
-        },
-        Err(_) => Err(Failure::Run(RunFault::Memory)),
+    let text = open(rt, config)?;
+    let plan = read_plan(alloc, &text)?;
+    let analysis = analyze(alloc, &plan, lateness).map_err(|_| Failure::Run(RunFault::Memory))?;
+    if let Some(path) = html {
+        let page = create(rt, path.as_str(), &text, &text)?;
+        save_page(alloc, page, &analysis)?;
     }
+    write_analysis(writer, &analysis).map_err(unwritten)?;
+    Ok(End::Told)
+}
+
+/// Writes the page of an analysis to a file.
+fn save_page(alloc: Global, page: File, analysis: &Analysis) -> Result<(), Failure> {
+    let file = BufWriter::new(alloc, Halting::new(page));
+    let mut output = file.map_err(|_| Failure::Run(RunFault::Memory))?;
+    write_page(&mut output, analysis).map_err(unwritten)?;
+    output.flush().map_err(unwritten)
+}
+
+/// What becomes of a report that could not be written.
+fn unwritten(_error: io::Error) -> Failure {
+    Failure::Run(RunFault::Write)
 }

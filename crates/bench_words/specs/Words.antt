@@ -7,5 +7,5 @@ use Rattle.bench_words.specs.declared.words.Words.TheVariants.{Report, Storm}
 abbrev pub IsInRange : Words → Type 0
 IsInRange (Storm config messages turns) =
     ((1 ≤ messages) × (messages ≤ 65535)) × ((1 ≤ turns) × (turns ≤ 1000000000))
-IsInRange (Report config lateness) = lateness ≤ 1000000
+IsInRange (Report config lateness html) = lateness ≤ 1000000
 IsInRange _ = ⊤

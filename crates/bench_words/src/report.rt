@@ -2,7 +2,7 @@
 ghost use Rattle.std.specs.Prelude.{◌≤◌, IfOk, IfSome};
 ghost use Rattle.bench_words.specs.Words.{IsInRange};
 
-use crate::words::{Words, file, not_decimal, path};
+use crate::words::{Words, file, given_path, not_decimal, path};
 use clap::{Arg, ArgAction, ArgMatches, Command, Error, value_parser};
 use plan_analysis::LATENESS_LIMIT;
 use script_text::number;
@@ -16,6 +16,7 @@ pub(crate) fn report_words(alloc: Global, matches: &ArgMatches<'_>) -> Result<Wo
         Some(lateness) => Ok(Words::Report {
             config: path(alloc, matches, "config")?,
             lateness,
+            html: given_path(alloc, matches, "html")?,
         }),
         None => Err(not_decimal(alloc)?),
     }
@@ -39,8 +40,14 @@ pub(crate) fn report_command<'a>(alloc: Global) -> Result<Command<'a>, AllocErro
         .value_name("micros")
         .value_parser(value_parser!(u64).range(0..1_000_001))
         .help("How late polls come at most, in microseconds: 0 if left out");
+    let html = Arg::new(alloc, "html")
+        .long("html")
+        .action(ArgAction::Set)
+        .value_name("file")
+        .help("Also writes the report as a page to a file");
     Command::new(alloc, "report")
         .about("Prints the loads, the jitter and the longest waits of a configuration")
         .arg(file(alloc, "config").help("The file of the configuration"))?
-        .arg(lateness)
+        .arg(lateness)?
+        .arg(html)
 }

@@ -26,10 +26,11 @@ pub enum Words {
     Check {
         config: String,
     },
-    /// `report <config>`, with how late polls come in microseconds
+    /// `report <config>`, with how late polls come in microseconds, and where a page is to be written
     Report {
         config: String,
         lateness: u64,
+        html: Option<String>,
     },
     /// `storm <config> --messages <n> --turns <t>`
     Storm {
@@ -147,7 +148,7 @@ pub(crate) fn path(
 }
 
 /// The path that a word gives, where there is one.
-fn given_path(
+pub(crate) fn given_path(
     alloc: Global,
     matches: &ArgMatches<'_>,
     id: &str,

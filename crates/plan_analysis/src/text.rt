@@ -113,7 +113,7 @@ fn write_plan<W: Write>(writer: &mut W, plan: &LinkPlan) -> io::Result<()>
     write!(writer, "{id:>5}{bag:>7}{lmax:>5}{subs:>5} {networks}")
 }
 
-fn networks_cell(networks: Networks) -> &'static str
+pub(crate) fn networks_cell(networks: Networks) -> &'static str
     ensures { result.now ≡ cell_of_networks networks }
 {
     match networks {
@@ -125,7 +125,7 @@ fn networks_cell(networks: Networks) -> &'static str
 
 /// A load in kbit/s.
 #[tactic(auto, unfolding(crate::specs::Text::thousandths))]
-fn write_load<W: Write>(writer: &mut W, load: u64) -> io::Result<()>
+pub(crate) fn write_load<W: Write>(writer: &mut W, load: u64) -> io::Result<()>
     ensures { OnOk result (Appends (W.contents writer.old) (W.contents writer.new)
         (text_of_thousandths 11 load)) }
 {
@@ -136,7 +136,7 @@ fn write_load<W: Write>(writer: &mut W, load: u64) -> io::Result<()>
 
 /// A share in percent.
 #[tactic(auto, unfolding(crate::specs::Text::hundredths))]
-fn write_share<W: Write>(writer: &mut W, share: u64) -> io::Result<()>
+pub(crate) fn write_share<W: Write>(writer: &mut W, share: u64) -> io::Result<()>
     ensures { OnOk result (Appends (W.contents writer.old) (W.contents writer.new)
         (text_of_hundredths 6 share)) }
 {
@@ -178,7 +178,7 @@ fn write_network<W: Write>(writer: &mut W, row: &NetworkRow) -> io::Result<()>
     writeln!(writer, "{exceeded}")
 }
 
-fn network_name(name: NetworkName) -> &'static str
+pub(crate) fn network_name(name: NetworkName) -> &'static str
     ensures { result.now ≡ name_of_network name }
 {
     match name {
@@ -238,7 +238,7 @@ fn write_place<W: Write>(writer: &mut W, row: &PortRow) -> io::Result<()>
 
 /// Messages a second.
 #[tactic(auto, unfolding(crate::specs::Text::thousandths))]
-fn write_sustained<W: Write>(writer: &mut W, sustained: u64) -> io::Result<()>
+pub(crate) fn write_sustained<W: Write>(writer: &mut W, sustained: u64) -> io::Result<()>
     ensures { OnOk result (Appends (W.contents writer.old) (W.contents writer.new)
         (text_of_thousandths 9 sustained)) }
 {

@@ -1,8 +1,10 @@
 //! Tests of scripts: their lines, their running over whole end systems, and what is written of it. Every
 //! short script runs against an end system that is told again as bounded lists. And tests of the program's
-//! other parts: its words, the report on a plan, failures and exit statuses.
+//! other parts: its words, the reports on a plan, failures and exit statuses.
 #![tactic(auto)]
 
+#[cfg(test)]
+mod analysis_tests;
 #[cfg(test)]
 mod capture_tests;
 #[cfg(test)]

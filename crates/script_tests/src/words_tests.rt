@@ -27,6 +27,9 @@ check a.toml => Check { config: \"a.toml\" }
 run a.toml b.txt => Run { config: \"a.toml\", script: \"b.txt\", capture: None }
 run a.toml b.txt --capture c.pcapng => Run { config: \"a.toml\", script: \"b.txt\", capture: Some(\"c.pcapng\") }
 run --capture=c.pcapng a.toml b.txt => Run { config: \"a.toml\", script: \"b.txt\", capture: Some(\"c.pcapng\") }
+report a.toml => Report { config: \"a.toml\", lateness: 0, html: None }
+report a.toml --lateness 1000000 --html b.html => Report { config: \"a.toml\", lateness: 1000000, html: Some(\"b.html\") }
+report --lateness=007 a.toml => Report { config: \"a.toml\", lateness: 7, html: None }
 storm a.toml --messages 65535 --turns 1000000000 => Storm { config: \"a.toml\", messages: 65535, turns: 1000000000 }
 storm --turns 1 --messages 2 a.toml => Storm { config: \"a.toml\", messages: 2, turns: 1 }
 storm a.toml --messages 0065535 --turns=01 => Storm { config: \"a.toml\", messages: 65535, turns: 1 }";
@@ -45,7 +48,7 @@ fn assert_ends(rt: &(impl Host + Print + Eprint), line: &str, end: End) {
     assert_same_at(rt, tell_words(rt, &error), end, line);
 }
 
-const OTHER_WORDS: [&str; 25] = [
+const OTHER_WORDS: [&str; 30] = [
     "help",
     "chekc a.toml",
     "check",
@@ -56,6 +59,11 @@ const OTHER_WORDS: [&str; 25] = [
     "run a.toml b.txt --capture",
     "run a.toml b.txt --capture c --capture d",
     "check a.toml --capture c.pcapng",
+    "report",
+    "report a.toml --lateness 1000001",
+    "report a.toml --lateness +1",
+    "report a.toml --html",
+    "report a.toml --capture c.pcapng",
     "storm a.toml",
     "storm a.toml --messages 1",
     "storm a.toml --messages 0 --turns 1",
@@ -82,7 +90,14 @@ fn other_words_are_refused(rt: HostRuntime) {
 
 #[test]
 fn help_is_told(rt: HostRuntime) {
-    for line in ["--help", "-h", "check --help", "run -h", "storm --help"] {
+    for line in [
+        "--help",
+        "-h",
+        "check --help",
+        "run -h",
+        "report -h",
+        "storm --help",
+    ] {
         assert_ends(&rt, line, End::Told);
     }
 }

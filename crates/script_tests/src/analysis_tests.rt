@@ -1,0 +1,78 @@
+//! Tests of the loads, the jitter and the longest waits of a plan.
+use crate::helpers::*;
+use plan_analysis::{analyze, write_analysis, write_page};
+use plan_report::read_plan;
+
+// The demonstration: 11 fragments may come before the six of a message.
+const ANALYSIS: &str = "end system 1, polls up to 0 us late
+ link bag-ms lmax subs  nets    load-kbit/s  share-%  jitter-ns
+    1      1 1518    1   A+B      12304.000    12.31     123040
+jitter 163040 ns of 500000
+network    load-kbit/s  share-%  exceeded
+      A      12304.000    12.31        no
+      B      12304.000    12.31        no
+ port  link sub fragments        wait-us   messages/s
+   10     1   0         6          17000      166.666
+";
+
+// A link of four sub-VLs, two of which have ports of unequal greatest messages, and one on network B alone.
+const UNEQUAL: &str = "version = 2
+end_system = { id = 1 }
+vl = [
+    { id = 1, bag_ms = 2, lmax = 200, sub_vls = 4, capacity = 3 },
+    { id = 2, bag_ms = 128, lmax = 65, sub_vls = 1, capacity = 1, networks = 'b' },
+]
+port = [
+    { id = 10, vl = 1, sub = 0, partition = 0, kind = 'queuing', source = 1, destination = 1, max = 10 },
+    { id = 11, vl = 1, sub = 0, partition = 1, kind = 'queuing', source = 1, destination = 1, max = 1000 },
+    { id = 12, vl = 1, sub = 3, partition = 2, kind = 'queuing', source = 1, destination = 1, max = 200 },
+    { id = 13, vl = 2, sub = 0, partition = 3, kind = 'queuing', source = 1, destination = 1, max = 41 },
+]
+";
+
+// Its analysis where polls come up to 250 microseconds late: port 10 waits 4 (3 * 7 - 1 + 1) 2,250 microseconds.
+const ANALYSIS_OF_UNEQUAL: &str = "end system 1, polls up to 250 us late
+ link bag-ms lmax subs  nets    load-kbit/s  share-%  jitter-ns
+    1      2  200    4   A+B        880.000     0.88      17600
+    2    128   65    1     B          5.313     0.01       6800
+jitter 64400 ns of 500000
+network    load-kbit/s  share-%  exceeded
+      A        880.000     0.88        no
+      B        885.313     0.89        no
+ port  link sub fragments        wait-us   messages/s
+   10     1   0         1         189000      500.000
+   11     1   0         7         243000       71.428
+   12     1   3         2          63000      250.000
+   13     2   0         2         384750        3.906
+";
+
+// Asserts what is written of a plan's analysis.
+fn assert_analysis(rt: &impl Host, plan: &str, lateness: u64, wanted: &str) {
+    let config = read_plan(rt.alloc(), plan.as_bytes()).ok().expect(rt, plan);
+    let analysis = analyze(rt.alloc(), &config, lateness).ok().expect(rt, plan);
+    let mut text = Vec::new(rt.alloc());
+    write_analysis(&mut text, &analysis).ok().expect(rt, plan);
+    assert_same(rt, text.as_slice(), wanted.as_bytes());
+}
+
+#[test]
+fn the_demonstration_has_its_analysis(rt: HostRuntime) {
+    assert_analysis(&rt, DEMO, 0, ANALYSIS);
+}
+
+#[test]
+fn a_port_waits_for_the_longest_of_its_sub_vl(rt: HostRuntime) {
+    assert_analysis(&rt, UNEQUAL, 250, ANALYSIS_OF_UNEQUAL);
+}
+
+#[test]
+fn a_page_is_written(rt: HostRuntime) {
+    let config = read_plan(rt.alloc(), DEMO.as_bytes())
+        .ok()
+        .expect(&rt, "plan");
+    let analysis = analyze(rt.alloc(), &config, 0).ok().expect(&rt, "memory");
+    let mut page = Vec::new(rt.alloc());
+    write_page(&mut page, &analysis).ok().expect(&rt, "memory");
+    assert_same(&rt, page.as_slice().starts_with(b"<!DOCTYPE html>"), true);
+    assert_same(&rt, page.as_slice().ends_with(b"</html>\n"), true);
+}

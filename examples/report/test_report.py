@@ -1,0 +1,258 @@
+#!/usr/bin/env python3
+"""Tries `afdx_bench report`: its text against numbers that are computed here from the plan, its page against its text,
+number by number, and its waits against runs of the end system. The last line is 'N passed, M failed'.
+
+    python3 examples/report/test_report.py [PLANS]
+
+PLANS small plans, 500 if left out, are run as scripts, in each of which one message meets the worst that the others can
+send: it is released no later than its printed wait, and exactly then where each other sub-VL of its link sends.
+"""
+import html.parser
+import os
+import random
+import subprocess
+import sys
+import tempfile
+import tomllib
+from collections.abc import Iterator
+from fractions import Fraction
+
+HERE = os.path.dirname(os.path.abspath(__file__))
+ROOT = os.path.dirname(os.path.dirname(HERE))
+PROGRAM = f"{ROOT}/crates/afdx_bench/out/afdx_bench"
+
+Plan = dict
+Tables = dict[str, list[list[str]]]
+
+
+def up(value: Fraction) -> int:
+    """The least whole number that isn't below a value."""
+    return -(-value.numerator // value.denominator)
+
+
+def fixed(value: int, digits: int) -> str:
+    """A number of parts as a decimal with so many digits after the point."""
+    return f"{value // 10**digits}.{value % 10**digits:0{digits}}"
+
+
+def pieces(link: Plan, size: int) -> int:
+    """How many fragments a message has: 14 + 20 + 1 + 4 bytes of each frame are its own."""
+    room, datagram, count = link["lmax"] - 39, size + 8, 1
+    while datagram > room:
+        datagram, count = datagram - room // 8 * 8, count + 1
+    return count
+
+
+def wanted(plan: Plan, lateness: int) -> Tables:
+    """The rows of a report."""
+    links = {link["id"]: link for link in plan["vl"]}
+    load = {link["id"]: Fraction(8000 * (link["lmax"] + 20), link["bag_ms"]) for link in plan["vl"]}
+    carried = {"A": ("both", "a"), "B": ("both", "b")}
+    tables: Tables = {"links": [], "networks": [], "ports": []}
+    for link in plan["vl"]:
+        bits, name = load[link["id"]], {"both": "A+B", "a": "A", "b": "B"}[link.get("networks", "both")]
+        tables["links"].append(
+            [*(str(link[key]) for key in ("id", "bag_ms", "lmax", "sub_vls")), name, fixed(up(bits), 3), fixed(up(bits / 10_000), 2)]
+            + [str(80 * (link["lmax"] + 20))]
+        )
+    for name, kinds in carried.items():
+        bits = sum((load[link["id"]] for link in plan["vl"] if link.get("networks", "both") in kinds), Fraction())
+        tables["networks"].append([name, fixed(up(bits), 3), fixed(up(bits / 10_000), 2), "yes" if bits > 10**8 else "no"])
+    for port in plan["port"]:
+        link = links[port["vl"]]
+        own = pieces(link, port["max"])
+        most = max(pieces(link, other["max"]) for other in plan["port"] if (other["vl"], other["sub"]) == (port["vl"], port["sub"]))
+        wait = link["sub_vls"] * (link["capacity"] * most - 1 + own) * (1000 * link["bag_ms"] + lateness)
+        often = fixed(10**6 // (link["bag_ms"] * own), 3)
+        tables["ports"].append([*(str(port[key]) for key in ("id", "vl", "sub")), str(own), str(wait), often])
+    return tables
+
+
+class Page(html.parser.HTMLParser):
+    """The tables of a page, and the texts that have a name."""
+
+    def __init__(self, text: str) -> None:
+        super().__init__()
+        self.tables: Tables = {}
+        self.named: dict[str, str] = {}
+        self.rows: list[list[str]] | None = None
+        self.name: str | None = None
+        self.elsewhere: list[str] = []
+        self.feed(text)
+
+    def handle_starttag(self, tag: str, attrs: list[tuple[str, str | None]]) -> None:
+        words = dict(attrs)
+        self.elsewhere += [f"{tag} {key}" for key in words if key in ("src", "href")] + ([tag] if tag == "script" else [])
+        self.name = words.get("id")
+        if tag == "table":
+            self.rows = self.tables.setdefault(str(self.name), [])
+        elif tag == "tr" and self.rows is not None:
+            self.rows.append([])
+        elif tag == "td" and self.rows is not None:
+            self.rows[-1].append("")
+
+    def handle_endtag(self, tag: str) -> None:
+        self.rows = None if tag == "table" else self.rows
+        self.name = None
+
+    def handle_data(self, data: str) -> None:
+        if self.rows and self.rows[-1]:
+            self.rows[-1][-1] = (self.rows[-1][-1] + data).strip()
+        elif self.name:
+            self.named[self.name] = data
+
+
+def report(text: str, *words: str) -> subprocess.CompletedProcess[str]:
+    """A report of a configuration's text, in a folder of its own where `page.html` is the page."""
+    with open("plan.toml", "w", encoding="utf-8") as file:
+        file.write(text)
+    return subprocess.run([PROGRAM, "report", "plan.toml", *words], capture_output=True, text=True, check=False, timeout=60)
+
+
+def tables_of(text: str) -> Tables:
+    """The tables of a report's text."""
+    heads, name, tables = {"link": "links", "network": "networks", "port": "ports"}, "", {}
+    for line in text.splitlines():
+        words = line.split()
+        if words[0] in heads:
+            name = heads[words[0]]
+            tables[name] = []
+        elif name and words[0] != "jitter":
+            tables[name].append(words)
+    return tables
+
+
+def faults_of(text: str, lateness: int) -> Iterator[str]:
+    """What is wrong with the report of a configuration's text, and with its page."""
+    plan = tomllib.loads(text)
+    ran = report(text, "--lateness", str(lateness), "--html", "page.html")
+    if ran.returncode:
+        yield f"status {ran.returncode}: {ran.stderr}"
+        return
+    jitter = 40_000 + sum(80 * (link["lmax"] + 20) for link in plan["vl"])
+    line = f"jitter {jitter} ns of 500000" + (", exceeded" if jitter > 500_000 else "")
+    if line not in ran.stdout.splitlines():
+        yield f"no line {line}"
+    if ran.stdout.splitlines()[0] != f"end system {plan['end_system']['id']}, polls up to {lateness} us late":
+        yield f"first line {ran.stdout.splitlines()[0]}"
+    with open("page.html", encoding="utf-8") as file:
+        page = Page(file.read())
+    told, shown = tables_of(ran.stdout), {name: [row for row in rows if row] for name, rows in page.tables.items()}
+    for name, rows in wanted(plan, lateness).items():
+        yield from (f"text, {name}: {is_} for {to_be}" for is_, to_be in zip(told.get(name, []), rows, strict=False) if is_ != to_be)
+        if told.get(name) != rows or shown.get(name) != rows:
+            yield f"{name} differ: {len(told.get(name, []))} rows of text, {len(shown.get(name, []))} of the page"
+    named = {"end-system": str(plan["end_system"]["id"]), "lateness": str(lateness), "jitter": str(jitter)}
+    if page.named | named != page.named:
+        yield f"the page names {page.named}"
+    yield from (f"the page has {what}" for what in page.elsewhere)
+
+
+def configuration(links: list[Plan], ports: list[Plan]) -> str:
+    """The text of a configuration."""
+    parts = ["version = 2", "[end_system]", "id = 1"]
+    for name, tables in (("vl", links), ("port", ports)):
+        for table in tables:
+            parts += [f"[[{name}]]", *(f'{key} = "{v}"' if isinstance(v, str) else f"{key} = {v}" for key, v in table.items())]
+    return "\n".join(parts) + "\n"
+
+
+def port_of(number: int, vl: int, sub: int, size: int) -> Plan:
+    """A queuing port."""
+    common = {"partition": number % 32, "kind": "queuing", "source": 1000 + number, "destination": 2000}
+    return {"id": number, "vl": vl, "sub": sub, **common, "max": size}
+
+
+def greatest() -> str:
+    """The greatest plan: 64 links of four sub-VLs, and 256 ports."""
+    kinds = ("both", "a", "b")
+    links = [
+        {"id": 65535 - k, "bag_ms": 2 ** (k % 8), "lmax": (1518, 64)[k % 2], "sub_vls": 4, "capacity": 256, "networks": kinds[k % 3]}
+        for k in range(64)
+    ]
+    return configuration(links, [port_of(p, 65535 - p // 4, p % 4, 8192 - 31 * (p % 4)) for p in range(256)])
+
+
+def random_plan(rng: random.Random) -> tuple[str, list[Plan], Plan]:
+    """A plan of one small link, its ports, and one of them."""
+    link = {"id": 7, "bag_ms": rng.choice((1, 2, 4)), "lmax": rng.choice((64, 72, 100, 200))}
+    link |= {"sub_vls": rng.randint(1, 4), "capacity": rng.randint(1, 3), "networks": rng.choice(("both", "a", "b"))}
+    subs = range(link["sub_vls"])
+    few = [port_of(10 + sub, 7, sub, rng.randint(1, 300)) for sub in subs if sub == 0 or rng.random() < 0.9]
+    more = [port_of(20 + i, 7, rng.choice(few)["sub"], rng.randint(1, 300)) for i in range(rng.randint(0, 3))]
+    return configuration([link], few + more), few + more, rng.choice(few + more)
+
+
+def worst_wait(text: str, ports: list[Plan], port: Plan, lateness: int, rng: random.Random) -> tuple[int, int]:
+    """The wait that is printed for a port, and that of one of its messages in a run in which the others send the most."""
+    printed = next(int(row[4]) for row in tables_of(report(text, "--lateness", str(lateness)).stdout)["ports"] if row[0] == str(port["id"]))
+    link = tomllib.loads(text)["vl"][0]
+
+    def send(sender: Plan) -> str:
+        return f"send {sender['id']} {'5a' * sender['max']}"
+
+    mates = [other for other in ports if other["sub"] == port["sub"]]
+    big = max(mates, key=lambda other: other["max"])
+    others = [other for other in ports if other["sub"] != port["sub"]]
+    # its sub-VL sends the first frame of a greatest message, and then its queue is filled, with this message last
+    script = [send(big), "at 0", *[send(big)] * (link["capacity"] - 1), send(port)]
+    for turn in range(1, printed // (1000 * link["bag_ms"] + lateness) + 1):
+        script += [send(other) for other in rng.sample(others, len(others))] + [send(big)]
+        script.append(f"at {turn * (1000 * link['bag_ms'] + lateness)}")
+    with open("script.txt", "w", encoding="utf-8") as file:
+        file.write("\n".join(script) + "\n")
+    ran = subprocess.run([PROGRAM, "run", "plan.toml", "script.txt"], capture_output=True, text=True, check=False, timeout=60)
+    mark, last = 4 * link["capacity"] + port["sub"], -1
+    for line in ran.stdout.splitlines():
+        words = line.split()
+        # the identification of its datagram, and its last fragment
+        if words[0] in "AB" and int(words[2][36:40], 16) == mark and not int(words[2][40:44], 16) & 0x2000:
+            last = int(words[1])
+    return printed, last
+
+
+def wait_faults(seed: int) -> Iterator[str]:
+    """What is wrong with the wait of a random plan."""
+    rng = random.Random(seed)
+    text, ports, port = random_plan(rng)
+    lateness = rng.choice((0, 0, 1, 250, 999))
+    printed, last = worst_wait(text, ports, port, lateness, rng)
+    busy = {other["sub"] for other in ports}
+    every = len(busy) == tomllib.loads(text)["vl"][0]["sub_vls"]
+    if last < 0 or last > printed or (every and last != printed):
+        yield f"plan {seed}: port {port['id']} is done at {last}, and its wait is {printed}\n{text}"
+
+
+def main() -> int:
+    """Tries all of it."""
+    plans = int(sys.argv[1]) if sys.argv[1:] else 500
+    demo = open(f"{ROOT}/examples/c/demo.toml", encoding="utf-8").read()
+    four = [port_of(10 + i, 1, sub, size) for i, (sub, size) in enumerate(((0, 10), (0, 1000), (1, 200), (2, 8192), (3, 1), (3, 5000)))]
+    link = {"id": 1, "bag_ms": 2, "lmax": 200, "sub_vls": 4, "capacity": 3}
+    lone = {"id": 2, "bag_ms": 128, "lmax": 65, "sub_vls": 1, "capacity": 1, "networks": "b"}
+    full = [{"id": k, "bag_ms": 1, "lmax": 1518, "sub_vls": 1, "capacity": 1, "networks": "a"} for k in range(9)]
+    tries = {
+        "the demonstration": lambda: faults_of(demo, 0),
+        "four sub-VLs of unequal ports, and a link on one network": lambda: faults_of(
+            configuration([link, lone], [*four, port_of(30, 2, 0, 41)]), 250
+        ),
+        "a network that is exceeded": lambda: faults_of(configuration(full, [port_of(k, k, 0, 8192) for k in range(9)]), 0),
+        "the greatest plan": lambda: faults_of(greatest(), 1_000_000),
+        "a page in the place of its configuration": lambda: (
+            [] if report(demo, "--html", "plan.toml").returncode == 4 and open("plan.toml", encoding="utf-8").read() == demo else ["it is made"]
+        ),
+        f"{plans} waits": lambda: (fault for seed in range(plans) for fault in wait_faults(seed)),
+    }
+    failed = 0
+    with tempfile.TemporaryDirectory() as folder:
+        os.chdir(folder)
+        for name, faults in tries.items():
+            found = list(faults())
+            failed += bool(found)
+            print(f"{name}: {'FAILED' if found else 'ok'}", *found[:4], sep="\n    " if found else "", flush=True)
+    print(f"{len(tries) - failed} passed, {failed} failed")
+    return 1 if failed else 0
+
+
+if __name__ == "__main__":
+    sys.exit(main())
