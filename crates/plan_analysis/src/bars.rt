@@ -4,6 +4,9 @@ use std::io::{self, Write};
 /// The width of a bar's drawing.
 const WIDTH: u64 = 10_000;
 
+/// The width of a mark.
+const MARK: u64 = 50;
+
 /// A bar in the making: its scale, and how far it is filled, both in the unit of its values.
 #[derive(Drop)]
 pub(crate) struct Bar {
@@ -31,7 +34,11 @@ impl Bar {
     pub(crate) fn begin<W: Write>(&self, writer: &mut W) -> io::Result<()> {
         write!(
             writer,
-            "<svg viewBox=\"0 0 {WIDTH} 100\" preserveAspectRatio=\"none\" aria-hidden=\"true\"><rect class=\"track\" width=\"{WIDTH}\" height=\"100\"/>"
+            "<svg viewBox=\"0 0 {WIDTH} 100\" preserveAspectRatio=\"none\" "
+        )?;
+        write!(
+            writer,
+            "aria-hidden=\"true\"><rect class=\"track\" width=\"{WIDTH}\" height=\"100\"/>"
         )
     }
 
@@ -50,10 +57,10 @@ impl Bar {
 
     /// Marks a limit.
     pub(crate) fn mark<W: Write>(&self, writer: &mut W, limit: u64) -> io::Result<()> {
-        let place = self.place(limit).saturating_sub(30);
+        let place = self.place(limit).saturating_sub(MARK);
         write!(
             writer,
-            "<rect class=\"mark\" x=\"{place}\" width=\"30\" height=\"100\"/>"
+            "<rect class=\"mark\" x=\"{place}\" width=\"{MARK}\" height=\"100\"/>"
         )
     }
 

@@ -18,6 +18,7 @@ const LINE_RATE: u64 = 100_000_000;
 pub fn write_page<W: Write>(writer: &mut W, analysis: &Analysis) -> io::Result<()> {
     write_top(writer, analysis)?;
     write_loads(writer, analysis)?;
+    write_links(writer, analysis.links.as_slice())?;
     write_jitter(writer, analysis)?;
     write_waits(writer, analysis)?;
     writer.write_all(b"</body>\n</html>\n")
@@ -43,30 +44,33 @@ fn write_top<W: Write>(writer: &mut W, analysis: &Analysis) -> io::Result<()> {
     )
 }
 
-/// Loads: a bar for each network, the table of the networks, a bar for each link, and the table of the links.
+/// Loads: a bar for each network, by its links, and the table of the networks.
 fn write_loads<W: Write>(writer: &mut W, analysis: &Analysis) -> io::Result<()> {
-    writer.write_all(
-        b"<h2>Load on the wire</h2>\n<p>Each network by its links. The mark is 100 Mbit/s.</p>\n",
-    )?;
-    writer.write_all(b"<div class=\"bars\">\n")?;
+    writer.write_all(b"<h2>Load on the wire</h2>\n<p>Each network by its links, in the order of ")?;
+    writer.write_all(b"their table. The mark is 100 Mbit/s.</p>\n<div class=\"bars\">\n")?;
     write_network_bar(writer, &analysis.network_a, analysis.links.as_slice())?;
     write_network_bar(writer, &analysis.network_b, analysis.links.as_slice())?;
-    writer.write_all(
-        b"</div>\n<div class=\"scroll\"><table id=\"networks\">\n<tr><th>network<th>load kbit/s<th>share %<th>exceeded\n",
-    )?;
+    writer.write_all(b"</div>\n<div class=\"scroll\"><table id=\"networks\">\n")?;
+    writer.write_all(b"<tr><th>network<th>load kbit/s<th>share %<th>exceeded\n")?;
     write_network(writer, &analysis.network_a)?;
     write_network(writer, &analysis.network_b)?;
+    writer.write_all(b"</table></div>\n")
+}
+
+/// Links: a bar for the load of each, and their table.
+fn write_links<W: Write>(writer: &mut W, links: &[LinkRow]) -> io::Result<()> {
     writer.write_all(
-        b"</table></div>\n<h2>Links</h2>\n<p>Load of each link in kbit/s. A whole bar is 100 Mbit/s.</p>\n",
+        b"<h2>Links</h2>\n<p>Load of each link in kbit/s. A whole bar is 100 Mbit/s.</p>\n",
     )?;
     writer.write_all(b"<div class=\"bars\">\n")?;
-    for row in analysis.links.as_slice() {
+    for row in links {
         write_link_bar(writer, row)?;
     }
     writer.write_all(
-        b"</div>\n<div class=\"scroll\"><table id=\"links\">\n<tr><th>link<th>BAG ms<th>Lmax<th>sub-VLs<th>networks<th>load kbit/s<th>share %<th>jitter ns\n",
+        b"</div>\n<div class=\"scroll\"><table id=\"links\">\n<tr><th>link<th>BAG ms",
     )?;
-    for row in analysis.links.as_slice() {
+    writer.write_all(b"<th>Lmax<th>sub-VLs<th>networks<th>load kbit/s<th>share %<th>jitter ns\n")?;
+    for row in links {
         write_link(writer, row)?;
     }
     writer.write_all(b"</table></div>\n")
@@ -146,8 +150,13 @@ fn write_jitter<W: Write>(writer: &mut W, analysis: &Analysis) -> io::Result<()>
     };
     writeln!(
         writer,
-        "<h2>Jitter</h2>\n<p><span{over}><span id=\"jitter\">{jitter}</span> ns</span> of {JITTER_LIMIT} ns, the mark: 40,000 ns, and then each link's part.</p>"
+        "<h2>Jitter</h2>\n<p><span{over}><span id=\"jitter\">{jitter}</span> ns</span>."
     )?;
+    writeln!(
+        writer,
+        "The mark is {JITTER_LIMIT} ns. The first part is the end system's own, then"
+    )?;
+    writer.write_all(b"each link's. Below, a whole bar is the mark.</p>\n")?;
     writer.write_all(b"<div class=\"bars\">\n<span>all</span>")?;
     write_jitter_bar(writer, analysis)?;
     writeln!(writer, "<span>{jitter}</span>")?;
@@ -184,8 +193,12 @@ fn write_waits<W: Write>(writer: &mut W, analysis: &Analysis) -> io::Result<()> 
         longest = row.wait.max(longest);
     }
     writer.write_all(
-        b"<h2>Longest wait</h2>\n<p>Of an accepted message of each port, until its last fragment is released, in &micro;s: whatever the other ports send, while polls come and no sender is stopped in the middle of a send.</p>\n",
+        b"<h2>Longest wait</h2>\n<p>Of an accepted message of each port, until its last ",
     )?;
+    writer.write_all(
+        b"fragment is released, in &micro;s: whatever the other ports send, while polls ",
+    )?;
+    writer.write_all(b"come and no sender is stopped in the middle of a send.</p>\n")?;
     writer.write_all(b"<div class=\"bars\">\n")?;
     for row in analysis.ports.as_slice() {
         let id = row.id.0;
@@ -194,9 +207,8 @@ fn write_waits<W: Write>(writer: &mut W, analysis: &Analysis) -> io::Result<()> 
         write_bar(writer, longest, wait)?;
         writeln!(writer, "<span>{wait}</span>")?;
     }
-    writer.write_all(
-        b"</div>\n<div class=\"scroll\"><table id=\"ports\">\n<tr><th>port<th>link<th>sub-VL<th>fragments<th>wait &micro;s<th>messages/s\n",
-    )?;
+    writer.write_all(b"</div>\n<div class=\"scroll\"><table id=\"ports\">\n<tr><th>port<th>link")?;
+    writer.write_all(b"<th>sub-VL<th>fragments<th>wait &micro;s<th>messages/s\n")?;
     for row in analysis.ports.as_slice() {
         write_port(writer, row)?;
     }

@@ -6,3 +6,4 @@ pub mod Timely
 pub mod Pieces
 pub mod MessageRun
 pub mod WorkedWaits
+pub mod Gathered

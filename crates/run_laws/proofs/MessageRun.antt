@@ -276,7 +276,7 @@ module _ (plan : Plan) (k s : ℕ) (valid : IsPlan plan) (inside : k < length pl
       ]
 
 -- the link of a message's port is the one that it was accepted over
-own_link : (plan : Plan) (k s : ℕ) (sent : Sent) → IsPlan plan → k < length plan.links → IsAllowed plan k s sent
+pub own_link : (plan : Plan) (k s : ℕ) (sent : Sent) → IsPlan plan → k < length plan.links → IsAllowed plan k s sent
     → link_place plan sent.port ≡ k
 own_link plan k s sent valid inside of =
     let has : HasLink plan.links sent.port = All-contains (HasLink plan.links) plan.ports sent.port valid.linked of.port in

@@ -4,3 +4,4 @@ pub mod WorkedRun
 pub mod Timely
 pub mod MessageInRun
 pub mod WorkedWait
+pub mod Gathered

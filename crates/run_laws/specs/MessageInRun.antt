@@ -16,6 +16,7 @@ use Rattle.afdx_tx.specs.Drain.{IsDrained}
 use Rattle.afdx_tx.specs.DrainEnds.{stream_at}
 use Rattle.plan_analysis.specs.Wait.{worst_wait}
 use Rattle.run_laws.specs.Runs.{EmitterPolls}
+use Rattle.run_laws.specs.Gathered.{FitsItsPort}
 use Rattle.run_laws.specs.Timely.{AreTimely}
 
 -- the fragments of messages of a sub-VL of the link at a place, the first that it accepted
@@ -34,7 +35,7 @@ pub record IsAccepted (plan : Plan) (accepted : Accepted) (k s : ℕ)
   pub sub : s < (link_plan_at plan.links k).sub_vls
   pub are : accepted k s ≡ earlier ++ sent ∷ later
   pub allowed : AreAllowed plan accepted
-  pub sizes : All (λ (m : Sent). length m.bytes ≤ m.port.max) (accepted k s)
+  pub sizes : All FitsItsPort (accepted k s)
 
 -- A message was accepted into a queue of this capacity: of the messages before it, each that lies so many places before
 -- it or more is begun.

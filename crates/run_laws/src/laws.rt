@@ -1,4 +1,5 @@
 //! Laws over runs of an emitter. Their functions do nothing: the contract is the law.
+ghost use Rattle.run_laws.specs.Gathered.{GatheredFit};
 ghost use Rattle.run_laws.specs.MessageInRun.{MessageInRun};
 ghost use Rattle.run_laws.specs.NextInRun.{NextInRun};
 ghost use Rattle.run_laws.specs.Runs.{KeptReady};
@@ -29,7 +30,7 @@ pub fn next_in_run()
 ///
 /// The time runs from any start at or after the last release before the polls, so from the last poll before the
 /// message was accepted. The message is told by the accepted list of its sub-VL (`IsAccepted`): what `gather` ties to
-/// the ports' own lists. The premises:
+/// the ports' own lists (`allowed`, and `sizes`). The premises:
 ///
 /// - After the start and after each poll, a poll comes a BAG later or at most the lateness after that, until the wait
 ///   is over (`AreTimely`). Polls at most the lateness and a microsecond apart do (`apart`); so do polls at every
@@ -45,6 +46,9 @@ pub fn message_in_run()
 
     // polls that are no further apart than the lateness and a microsecond
     ensures apart { ApartAreTimely }
+
+    // no accepted message is longer than its port may send, once the ports came back
+    ensures sizes { GatheredFit }
 
     // a message that is released just as its wait is over, and no microsecond earlier
     ensures worked { MeetsTheWait }
