@@ -1,6 +1,7 @@
 #!/usr/bin/env python3
 """Tries `afdx_bench report`: its text against numbers that are computed here from the plan, its page against its text,
-number by number, and its waits against runs of the end system. The last line is 'N passed, M failed'.
+number by number, its waits against runs of the end system, and its ends when memory or a write is refused. The last line
+is 'N passed, M failed'.
 
     python3 examples/report/test_report.py [PLANS]
 
@@ -20,6 +21,10 @@ from fractions import Fraction
 HERE = os.path.dirname(os.path.abspath(__file__))
 ROOT = os.path.dirname(os.path.dirname(HERE))
 PROGRAM = f"{ROOT}/crates/afdx_bench/out/afdx_bench"
+sys.dont_write_bytecode = True
+sys.path.insert(0, f"{ROOT}/tools")
+import refusals  # noqa: E402
+import refusals_wanted  # noqa: E402
 
 Plan = dict
 Tables = dict[str, list[list[str]]]
@@ -223,6 +228,20 @@ def wait_faults(seed: int) -> Iterator[str]:
         yield f"plan {seed}: port {port['id']} is done at {last}, and its wait is {printed}\n{text}"
 
 
+def refusal_faults(text: str, *more: str) -> Iterator[str]:
+    """What is wrong with runs of a report in each of which a request for memory or a write is refused, or whose standard
+    output is a closed pipe."""
+    words = ["report", "plan.toml", *more]
+    answer = report(text, *more).stdout
+    bench = refusals.Bench(os.getcwd())
+    with open("plan.toml", "w", encoding="utf-8") as file:
+        file.write(text)
+    yield from refusals.tried_case(bench, PROGRAM, refusals_wanted.command(words, answer))[0]
+    yield from refusals.tried_case(bench, PROGRAM, refusals_wanted.command(words, answer, many=0))[0]
+    yield from refusals.tried_writes(bench, PROGRAM, words)[0]
+    yield from refusals.tried_closed(bench, PROGRAM, words)[0]
+
+
 def main() -> int:
     """Tries all of it."""
     plans = int(sys.argv[1]) if sys.argv[1:] else 500
@@ -241,6 +260,8 @@ def main() -> int:
         "a page in the place of its configuration": lambda: (
             [] if report(demo, "--html", "plan.toml").returncode == 4 and open("plan.toml", encoding="utf-8").read() == demo else ["it is made"]
         ),
+        "refused memory and writes": lambda: refusal_faults(demo),
+        "refused memory and writes, with a page": lambda: refusal_faults(demo, "--html", "page.html"),
         f"{plans} waits": lambda: (fault for seed in range(plans) for fault in wait_faults(seed)),
     }
     failed = 0
