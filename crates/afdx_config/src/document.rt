@@ -23,7 +23,7 @@ fn is_version_2(document: &Table) -> bool
 }
 
 /// The keys of a table in the version of the text, of those that it has in version 2.
-fn fields_in<'a>(document: &Table, fields: &'a [Field]) -> &'a [Field]
+pub(crate) fn fields_in<'a>(document: &Table, fields: &'a [Field]) -> &'a [Field]
     ensures { map field_of result.now
         ≡ fields_in (is_version_2 (table_view document.now)) (map field_of fields.now) }
 {

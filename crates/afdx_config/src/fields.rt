@@ -60,7 +60,7 @@ fn content_fault(content: Content, value: &Value) -> Option<ConfigFault>
 }
 
 /// The fault of a key of a table: it is missing, or its value shows one.
-fn field_fault(table: &Table, field: &Field) -> Option<ConfigFault>
+pub(crate) fn field_fault(table: &Table, field: &Field) -> Option<ConfigFault>
     ensures value { result ≡ field_fault (table_view table.now) (field_of field.now) }
     ensures small { IfSome result IsOfValues }
 {
@@ -78,7 +78,7 @@ fn names_some(fields: &[Field], key: &str) -> bool
 }
 
 /// The key is one of the fields'.
-fn is_key_of(fields: &[Field], key: &str) -> bool
+pub(crate) fn is_key_of(fields: &[Field], key: &str) -> bool
     ensures { result ≡ is_key_of (map field_of fields.now) key.now }
 {
     names_some(fields, key)

@@ -3,16 +3,25 @@
 
 mod document;
 mod entries;
+mod explaining;
 mod fields;
+mod findings;
 mod format;
 pub mod laws;
 mod parts;
+mod plan_findings;
 mod read;
+mod rows;
 mod sections;
+mod sites;
+mod told;
+mod value_findings;
 mod values;
 
 pub use afdx_plan::{
     Bag, CAPACITY_LIMIT, Config, ConfigFault, Kind, LINKS_LIMIT, LinkPlan, Lmax, MESSAGE_LIMIT,
     Networks, PORTS_LIMIT, PortId, PortPlan, SUB_PORTS_LIMIT, UdpSum, VlId, demo_config, jitter_ns,
 };
+pub use explaining::{Explanation, explain};
+pub use findings::{Finding, Place};
 pub use read::read_config;

@@ -1,0 +1,127 @@
+-- Findings that were added one after the other.
+use Rattle.std.proofs.Common.{◌≡◌, ℕ, ◌+◌, ◌<◌, List, [], ◌∷◌, ◌++◌, length, get_or, drop, refl, ap, sym, subst, ◌∙◌, map, append_assoc, Option, Some, None, option_map, string_bytes, append-nil}
+use Rattle.std.proofs.lemmas.List.{drop_more}
+use Rattle.std.specs.List.{position, flat_map}
+use Rattle.std.proofs.lemmas.List.Folds.{flat_map-map}
+use Rattle.toml.specs.Data.{Members}
+use Rattle.toml.specs.View.{table_view, members_view}
+use Rattle.std.specs.Map.{keys_of}
+use Rattle.std.proofs.Common.{String, Global}
+use Rattle.toml.specs.declared.value.Value.{Value}
+use Rattle.afdx_plan.specs.declared.fault.ConfigFault.{ConfigFault}
+use Rattle.afdx_plan.specs.declared.link_plan.LinkPlan.{LinkPlan}
+use Rattle.afdx_plan.specs.declared.port_plan.PortPlan.{PortPlan}
+use Rattle.afdx_config.specs.declared.findings.Place.{Place}
+use Rattle.afdx_config.specs.declared.findings.Place.TheVariants.{Link, Port}
+use Rattle.afdx_config.specs.declared.rows.LinkRow.{LinkRow}
+use Rattle.afdx_config.specs.declared.rows.PortRow.{PortRow}
+use Rattle.afdx_config.specs.declared.sites.Site.{Site as Table}
+use Rattle.afdx_config.specs.declared.findings.Finding.{Finding as Written}
+use Rattle.afdx_config.specs.Format.{Field}
+use Rattle.afdx_config.specs.Findings.{Finding, found, one_if, plan_key, pair_finding, link_findings, links_clash, port_finding, port_findings, ports_clash, is_misfit, link_number, is_last_crowded, count_findings, plan_findings, field_findings, key_findings, member_keys, site_findings, sites, findings, findings_of, shown_faults}
+use Rattle.afdx_config.specs.Seen.{Adds, finding_of, link_in, port_in, site_of}
+use Rattle.afdx_config.specs.Views.{field_of, AreSectionsOf}
+use Rattle.afdx_config.specs.declared.sections.Sections.{Sections}
+use Rattle.afdx_config.specs.PlanOf.{link_of, port_of}
+use Rattle.afdx_config.specs.Tables.{rows_at}
+use Rattle.afdx_config.proofs.SectionLemmas.{Found}
+use Rattle.std.proofs.lemmas.Simd.{map-map}
+use Rattle.std.proofs.Common.{codes}
+
+-- one after the other
+pub adds_both : (old mid new : List Written) (a b : List Finding) → Adds old mid a → Adds mid new b → Adds old new (a ++ b)
+adds_both old mid new a b p q = q ∙ ap (λ xs. xs ++ b) p ∙ append_assoc (map finding_of old) a b
+
+-- what is left, after one step
+step : (mid new : List Written) (more rest whole : List Finding) → Adds mid new more
+    → map finding_of mid ++ (more ++ rest) ≡ whole → map finding_of new ++ rest ≡ whole
+step mid new more rest whole this before = rw this (append_assoc (map finding_of mid) more rest ∙ before)
+
+-- one link more
+pub link_more : (fault : ConfigFault) (i : ℕ) (links rest : List LinkRow) (x d : LinkRow) (mid new : List Written) (whole : List Finding)
+    → i < length links → x ≡ get_or links i d → rest ≡ drop (i + 1) links
+    → map finding_of mid ++ link_findings fault (i + 1) (map link_in (drop i links)) ≡ whole
+    → Adds mid new (pair_finding fault Link (i + 1) (position (links_clash fault (link_in x)) (map link_in rest)))
+    → map finding_of new ++ link_findings fault (i + 1 + 1) (map link_in (drop (i + 1) links)) ≡ whole
+link_more fault i links rest x d mid new whole inside here behind before this = step mid new
+    (pair_finding fault Link (i + 1) (position (links_clash fault (link_in x)) (map link_in rest)))
+    (link_findings fault (i + 1 + 1) (map link_in (drop (i + 1) links))) whole this
+    (ap (λ rows. map finding_of mid ++ (pair_finding fault Link (i + 1) (position (links_clash fault (link_in x)) (map link_in rows))
+    ++ link_findings fault (i + 1 + 1) (map link_in (drop (i + 1) links)))) behind
+    ∙ ap (λ rows. map finding_of mid ++ link_findings fault (i + 1) (map link_in rows)) (ap (λ y. y ∷ drop (i + 1) links) here ∙ sym (drop_more links i d inside)) ∙ before)
+
+-- one port more
+pub port_more : (fault : ConfigFault) (links : List LinkPlan) (all : List PortPlan) (i : ℕ) (ports rest : List PortRow) (x d : PortRow)
+    (mid one two new : List Written) (whole : List Finding) → i < length ports → x ≡ get_or ports i d → rest ≡ drop (i + 1) ports
+    → map finding_of mid ++ port_findings fault links all (i + 1) (map port_in (drop i ports)) ≡ whole
+    → Adds mid one (pair_finding fault Port (i + 1) (position (ports_clash fault (port_in x)) (map port_in rest)))
+    → Adds one two (one_if (is_misfit fault links (port_in x))
+    (found fault (Port (i + 1)) (plan_key fault) (link_number links (port_in x))))
+    → Adds two new (one_if (is_last_crowded fault all (port_in x) (map port_in rest))
+    (found fault (Port (i + 1)) (plan_key fault) None))
+    → map finding_of new ++ port_findings fault links all (i + 1 + 1) (map port_in (drop (i + 1) ports)) ≡ whole
+unfolding port_finding
+port_more fault links all i ports rest x d mid one two new whole inside here behind before p q r = step mid new
+    (port_finding fault links all (i + 1) (port_in x) (map port_in rest))
+    (port_findings fault links all (i + 1 + 1) (map port_in (drop (i + 1) ports))) whole
+    (adds_both mid two new _ _ (adds_both mid one two _ _ p q) r)
+    (ap (λ rows. map finding_of mid ++ (port_finding fault links all (i + 1) (port_in x) (map port_in rows)
+    ++ port_findings fault links all (i + 1 + 1) (map port_in (drop (i + 1) ports)))) behind
+    ∙ ap (λ rows. map finding_of mid ++ port_findings fault links all (i + 1) (map port_in rows)) (ap (λ y. y ∷ drop (i + 1) ports) here ∙ sym (drop_more ports i d inside)) ∙ before)
+
+-- all of a plan
+pub plan_all : (fault : ConfigFault) (links : List LinkPlan) (ports : List PortPlan) (old one two new : List Written)
+    → Adds old one (link_findings fault 1 links) → Adds one two (count_findings fault links ports)
+    → Adds two new (port_findings fault links ports 1 ports) → Adds old new (plan_findings fault links ports)
+unfolding plan_findings
+plan_all fault links ports old one two new p q r = adds_both old two new _ _ (adds_both old one two _ _ p q) r
+
+-- the keys of a table
+keys_are : (es : List (String Global × Value)) → map (λ k. string_bytes k) (keys_of es) ≡ member_keys (members_view es)
+keys_are [] = refl
+keys_are (e ∷ es) = ap (λ ks. string_bytes e.0 ∷ ks) (keys_are es)
+
+-- all of a table
+pub site_all : (fault : ConfigFault) (site : Table) (old mid new : List Written)
+    → Adds old mid (flat_map (λ f. field_findings fault site.place (table_view site.table.now) (field_of f)) site.fields.now)
+    → Adds mid new (flat_map (λ k. key_findings fault site.place (map field_of site.fields.now) (string_bytes k)) (keys_of site.table.now.entries))
+    → Adds old new (site_findings fault (site_of site))
+unfolding site_findings
+site_all fault site old mid new p q =
+    let fields = flat_map-map (field_findings fault site.place (table_view site.table.now)) field_of site.fields.now in
+    let keys = flat_map-map (key_findings fault site.place (map field_of site.fields.now)) (λ (k : String Global). string_bytes k)
+    (keys_of site.table.now.entries)
+    ∙ sym refl in
+    adds_both old mid new _ _ (p ∙ ap (λ xs. map finding_of old ++ xs) (sym fields))
+    (q ∙ ap (λ xs. map finding_of mid ++ xs) (sym keys
+    ∙ ap (flat_map (key_findings fault site.place (map field_of site.fields.now))) (keys_are site.table.now.entries)))
+
+-- lists of the same
+flat_map_same : {A B : Type 0} (f g : A → List B) (xs : List A) → ((x : A) → f x ≡ g x) → flat_map f xs ≡ flat_map g xs
+flat_map_same f g [] same = refl
+flat_map_same f g (x ∷ xs) same = rw (same x, flat_map_same f g xs same) refl
+
+-- all of a document
+pub all_found : (doc : Members) (s : Sections) (tables : List Table) (links : List LinkRow) (ports : List PortRow)
+    (ls ps : List Found) (old new : List Written) → AreSectionsOf doc s → old ≡ [] → map site_of tables ≡ sites doc
+    → ls ≡ s.links.items → map link_in links ≡ map (λ t. link_of (table_view t.now)) ls
+    → ps ≡ s.ports.items → map port_in ports ≡ map (λ t. port_of (table_view t.now)) ps
+    → Adds old new (flat_map (λ fault. flat_map (λ t. site_findings fault (site_of t)) tables
+    ++ plan_findings fault (map link_in links) (map port_in ports)) shown_faults)
+    → map finding_of new ≡ findings doc
+all_found doc s tables links ports ls ps old new are none at_sites at_ls at_links at_ps at_ports added =
+    let links_are : map link_in links ≡ map link_of (rows_at (codes "vl") doc) =
+    at_links ∙ sym (map-map link_of (λ (t : Found). table_view t.now) ls)
+    ∙ ap (λ ts. map link_of (map (λ (t : Found). table_view t.now) ts)) at_ls ∙ ap (map link_of) are.links_are in
+    let ports_are : map port_in ports ≡ map port_of (rows_at (codes "port") doc) =
+    at_ports ∙ sym (map-map port_of (λ (t : Found). table_view t.now) ps)
+    ∙ ap (λ ts. map port_of (map (λ (t : Found). table_view t.now) ts)) at_ps ∙ ap (map port_of) are.ports_are in
+    added ∙ ap (λ xs. map finding_of xs ++ flat_map (λ fault. flat_map (λ t. site_findings fault (site_of t)) tables
+    ++ plan_findings fault (map link_in links) (map port_in ports)) shown_faults) none
+    ∙ flat_map_same (λ fault. flat_map (λ t. site_findings fault (site_of t)) tables
+    ++ plan_findings fault (map link_in links) (map port_in ports)) (λ fault. findings_of fault doc) shown_faults
+    (λ fault. ap (λ xs. xs ++ plan_findings fault (map link_in links) (map port_in ports))
+    (sym (flat_map-map (site_findings fault) site_of tables) ∙ ap (flat_map (site_findings fault)) at_sites)
+    ∙ ap (λ xs. flat_map (site_findings fault) (sites doc) ++ plan_findings fault xs (map port_in ports)) links_are
+    ∙ ap (λ xs. flat_map (site_findings fault) (sites doc)
+    ++ plan_findings fault (map link_of (rows_at (codes "vl") doc)) xs) ports_are)

@@ -1,0 +1,37 @@
+-- The tables of a document at their places, beside the code's values.
+use Rattle.afdx_config.proofs.Names.{◌≡◌, codes, List, [], ◌∷◌, map, Option, option_map, refl, ap, sym, ◌∙◌, Members, table_view}
+use Rattle.afdx_config.proofs.Names.{Field, link_fields, port_fields, fields_in, document_fields, is_version_2, AreSectionsOf, Sections}
+use Rattle.std.proofs.Common.{◌++◌, append_assoc}
+use Rattle.afdx_config.proofs.SectionLemmas.{Found}
+use Rattle.afdx_config.specs.declared.findings.Place.TheVariants.{Top, Link, Port}
+use Rattle.afdx_config.specs.Findings.{Site, site, sites, end_sites, row_sites}
+use Rattle.afdx_config.specs.Tables.{section_at, rows_at}
+
+-- four parts, put together from the front
+four_parts : (x : Site) (one two three four end links ports : List Site) → one ≡ x ∷ [] → two ≡ one ++ end → three ≡ two ++ links
+    → four ≡ three ++ ports → four ≡ x ∷ (end ++ (links ++ ports))
+four_parts x one two three four end links ports p q r t = rw (t, r, q, p) (ap (λ xs. x ∷ xs) (append_assoc end links ports))
+
+-- all tables, added one after the other
+pub sites_whole : (doc : Members) (s : Sections) (lf pf : List Field) (ls ps : List Found) (one two three four : List Site)
+    → AreSectionsOf doc s
+    → lf ≡ fields_in (is_version_2 doc) link_fields → pf ≡ fields_in (is_version_2 doc) port_fields
+    → ls ≡ s.links.items → ps ≡ s.ports.items
+    → one ≡ site Top document_fields doc ∷ []
+    → two ≡ one ++ end_sites (option_map (λ t. table_view t.now) s.end)
+    → three ≡ two ++ row_sites Link lf 1 (map (λ t. table_view t.now) ls)
+    → four ≡ three ++ row_sites Port pf 1 (map (λ t. table_view t.now) ps)
+    → four ≡ sites doc
+sites_whole doc s lf pf ls ps one two three four are lf_is pf_is ls_is ps_is p q r t =
+    four_parts (site Top document_fields doc) one two three four
+    (end_sites (section_at (codes "end_system") doc))
+    (row_sites Link (fields_in (is_version_2 doc) link_fields) 1 (rows_at (codes "vl") doc))
+    (row_sites Port (fields_in (is_version_2 doc) port_fields) 1 (rows_at (codes "port") doc))
+    p
+    (q ∙ ap (λ e. one ++ end_sites e) are.end_is)
+    (r ∙ ap (λ fields. two ++ row_sites Link fields 1 (map (λ t. table_view t.now) ls)) lf_is
+    ∙ ap (λ rows. two ++ row_sites Link (fields_in (is_version_2 doc) link_fields) 1 rows)
+    (ap (map (λ t. table_view t.now)) ls_is ∙ are.links_are))
+    (t ∙ ap (λ fields. three ++ row_sites Port fields 1 (map (λ t. table_view t.now) ps)) pf_is
+    ∙ ap (λ rows. three ++ row_sites Port (fields_in (is_version_2 doc) port_fields) 1 rows)
+    (ap (map (λ t. table_view t.now)) ps_is ∙ are.ports_are))

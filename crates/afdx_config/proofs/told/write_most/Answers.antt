@@ -1,0 +1,14 @@
+use Rattle.std.proofs.Common.{codes}
+use Rattle.std.proofs.KnownBytes.{Appends-trans}
+use Rattle.std.proofs.lemmas.Result.{on_ok_weaker}
+use Rattle.toml.specs.View.{table_view}
+use Rattle.afdx_config.specs.Told.{link_text, most_text}
+use Rattle.afdx_config.proofs.told.write_most.Goals as goal
+
+pub returns : goal.returns
+unfolding most_text
+returns g c = on_ok_weaker c.write_link.result
+    (λ last. Appends-trans (g.W.Write.contents c.args.writer.now) (g.W.Write.contents c.write_all.new.self)
+    (g.W.Write.contents c.write_link.new.writer) (codes "at most lmax - 47 of its vl")
+    (link_text (table_view c.args.document.now) c.args.other (codes "lmax"))
+    c.in_ok-write_all.ensures.bytes last) c.write_link.ensures

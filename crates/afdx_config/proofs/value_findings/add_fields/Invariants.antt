@@ -1,0 +1,10 @@
+use Rattle.afdx_config.proofs.Names.{take, table_view, field_of}
+use Rattle.std.specs.List.{flat_map}
+use Rattle.afdx_config.specs.Findings.{field_findings}
+use Rattle.afdx_config.specs.Seen.{Adds}
+use Rattle.afdx_config.proofs.value_findings.add_fields.Given as goal
+
+abbrev pub invariant-loop-field : goal.invariant-loop-field
+invariant-loop-field l = Adds l.initial.found.items l.found.items
+    (flat_map (λ f. field_findings l.fault l.site.place (table_view l.site.table.now) (field_of f))
+    (take l.field-index l.site.fields.now))

@@ -1,0 +1,9 @@
+use Rattle.afdx_config.proofs.Names.{map, string_bytes, field_of}
+use Rattle.std.specs.List.{flat_map}
+use Rattle.afdx_config.specs.Findings.{key_findings}
+use Rattle.afdx_config.specs.Seen.{Adds}
+use Rattle.afdx_config.proofs.value_findings.add_keys.Given as goal
+
+abbrev pub invariant-loop-key : goal.invariant-loop-key
+invariant-loop-key l = Adds l.initial.found.items l.found.items
+    (flat_map (λ k. key_findings l.fault l.site.place (map field_of l.site.fields.now) (string_bytes k.now)) l.yielded)

@@ -1,0 +1,9 @@
+use Rattle.afdx_config.proofs.Names.{take}
+use Rattle.std.specs.List.{flat_map}
+use Rattle.afdx_config.specs.Findings.{site_findings}
+use Rattle.afdx_config.specs.Seen.{Adds, site_of}
+use Rattle.afdx_config.proofs.value_findings.add_sites.Given as goal
+
+abbrev pub invariant-loop-site : goal.invariant-loop-site
+invariant-loop-site l = Adds l.initial.found.items l.found.items
+    (flat_map (λ s. site_findings l.fault (site_of s)) (take l.site-index l.sites))

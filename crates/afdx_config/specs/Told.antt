@@ -1,0 +1,259 @@
+-- The text of findings.
+use Rattle.std.specs.Prelude.{codes, ℕ, ℤ, ◌+◌, ◌-◌, ◌/◌, ◌%◌, List, [], ◌∷◌, ◌++◌, length, take, find, Bool, true, false, ◌&&◌, not, if◌then◌else◌, ◌==◌, nat_lt, nat_le, bytes_eq, Option, Some, None, option_and_then, slice_get, decimal}
+use Rattle.std.specs.Fmt.{signed_decimal}
+use Rattle.std.specs.List.{flat_map}
+use Rattle.std.specs.Option.{option_map_or}
+use Rattle.toml.specs.Data.{Data, string, integer, array, type_name, Items, no_items, item, Members, get_member}
+use Rattle.afdx_plan.specs.PlanFaults.{fault_number}
+use Rattle.afdx_plan.specs.declared.fault.ConfigFault.{ConfigFault}
+use Rattle.afdx_plan.specs.declared.fault.ConfigFault.TheVariants.{Toml, MissingKey, UnknownKey, WrongKind, OutOfRange, BadBag, DuplicateVl, DuplicatePort, NoSuchVl, NoSuchSub, SamplingTooLong, SameFlow, SharedUnicast, Limit, Memory}
+use Rattle.afdx_config.specs.declared.findings.Place.{Place}
+use Rattle.afdx_config.specs.declared.findings.Place.TheVariants.{Text, Top, EndSystem, Link, Port}
+use Rattle.afdx_config.specs.declared.format.Content.{Content}
+use Rattle.afdx_config.specs.declared.format.Content.TheVariants.{Whole, Gap, Networks, PortKind, Address, Checksum, Section, Rows}
+use Rattle.afdx_config.specs.Entries.{whole_at}
+use Rattle.afdx_config.specs.Findings.{Finding}
+use Rattle.afdx_config.specs.Format.{Field, document_fields, end_fields, link_fields, port_fields, fields_in}
+use Rattle.afdx_config.specs.Tables.{rows_at, section_at, is_version_2}
+
+-- the name of a fault
+abbrev pub fault_name : ConfigFault → List ℕ
+fault_name Toml = codes "Toml"
+fault_name MissingKey = codes "MissingKey"
+fault_name UnknownKey = codes "UnknownKey"
+fault_name WrongKind = codes "WrongKind"
+fault_name OutOfRange = codes "OutOfRange"
+fault_name BadBag = codes "BadBag"
+fault_name DuplicateVl = codes "DuplicateVl"
+fault_name DuplicatePort = codes "DuplicatePort"
+fault_name NoSuchVl = codes "NoSuchVl"
+fault_name NoSuchSub = codes "NoSuchSub"
+fault_name SamplingTooLong = codes "SamplingTooLong"
+fault_name SameFlow = codes "SameFlow"
+fault_name SharedUnicast = codes "SharedUnicast"
+fault_name Limit = codes "Limit"
+fault_name Memory = codes "Memory"
+
+-- a byte that prints, and is neither a quote nor a backslash
+abbrev pub is_plain : ℕ → Bool
+is_plain byte = nat_le 32 byte && nat_le byte 126 && not (byte == 34) && not (byte == 92)
+
+-- a hexadecimal digit
+abbrev pub hex_digit : ℕ → ℕ
+hex_digit digit = if nat_lt digit 10 then 48 + digit else 87 + digit
+
+-- a byte as it is told: itself, or a backslash, x and two digits
+unfoldable pub escaped : ℕ → List ℕ
+escaped byte = if is_plain byte then byte ∷ []
+    else 92 ∷ 120 ∷ hex_digit (byte / 16) ∷ hex_digit (byte % 16) ∷ []
+
+-- the first 40 bytes of a text, and dots where it is longer
+unfoldable pub cut_text : List ℕ → List ℕ
+cut_text text = flat_map escaped (take 40 text) ++ (if nat_lt 40 (length text) then codes "..." else [])
+
+-- how many items an array has
+abbrev pub items_count : Items → ℕ
+items_count no_items = 0
+items_count (item value rest) = 1 + items_count rest
+
+-- an array of so many items
+unfoldable pub array_text : ℕ → List ℕ
+array_text count = codes "an array of " ++ decimal count
+
+-- a value: a text in quotes, a whole number, of others the kind
+unfoldable pub known_text : Data → List ℕ
+known_text (string text) = 34 ∷ [] ++ cut_text text ++ 34 ∷ []
+known_text (integer number) = signed_decimal number
+known_text (array items) = array_text (items_count items)
+known_text value = codes "a " ++ type_name value
+
+-- what stands under a key
+unfoldable pub value_text : Option Data → List ℕ
+value_text None = codes "missing"
+value_text (Some value) = known_text value
+
+-- the table at a place
+abbrev pub members_at : Members → Place → Option Members
+members_at document (Text line column) = None
+members_at document Top = Some document
+members_at document EndSystem = section_at (codes "end_system") document
+members_at document (Link k) = slice_get (rows_at (codes "vl") document) (k - 1)
+members_at document (Port k) = slice_get (rows_at (codes "port") document) (k - 1)
+
+-- an identifier, where it is a whole number
+unfoldable pub id_text : Option ℤ → List ℕ
+id_text None = []
+id_text (Some id) = codes " (id " ++ signed_decimal id ++ codes ")"
+
+-- the identifier of the table at a place
+abbrev pub id_at : Members → Place → Option ℤ
+id_at document place = option_and_then (whole_at (codes "id")) (members_at document place)
+
+-- a place in a text
+unfoldable pub stop_text : ℕ → ℕ → List ℕ
+stop_text line column = codes "line " ++ decimal line ++ codes ", column " ++ decimal column
+
+-- a place
+unfoldable pub place_text : Members → Place → List ℕ
+place_text document (Text line column) = stop_text line column
+place_text document Top = []
+place_text document EndSystem = codes "end_system"
+place_text document (Link k) = codes "vl " ++ decimal k ++ id_text (id_at document (Link k))
+place_text document (Port k) = codes "port " ++ decimal k ++ id_text (id_at document (Port k))
+
+-- what stands between a place and a key of it
+abbrev pub joint : Place → List ℕ
+joint (Text line column) = codes ": "
+joint Top = []
+joint EndSystem = codes "."
+joint (Link k) = codes ", "
+joint (Port k) = codes ", "
+
+-- what stands under a key of a place
+unfoldable pub subject : Members → Place → List ℕ → List ℕ
+subject document place key = place_text document place ++ joint place ++ cut_text key ++ codes " is "
+    ++ value_text (option_and_then (get_member key) (members_at document place))
+
+-- the keys that the table at a place may have
+abbrev pub fields_at : Members → Place → List Field
+fields_at document (Text line column) = []
+fields_at document Top = document_fields
+fields_at document EndSystem = end_fields
+fields_at document (Link k) = fields_in (is_version_2 document) link_fields
+fields_at document (Port k) = fields_in (is_version_2 document) port_fields
+
+-- what may stand under the key of a place
+abbrev pub field_at : Members → Place → List ℕ → Option Field
+field_at document place key = find (λ field. bytes_eq key field.key) (fields_at document place)
+
+-- the values that a content allows
+unfoldable pub content_text : Content → List ℕ
+content_text (Whole range) = decimal range.0 ++ codes " to " ++ decimal range.1
+content_text Gap = codes "1, 2, 4, 8, 16, 32, 64 or 128"
+content_text Networks = codes "both, a or b"
+content_text PortKind = codes "sampling or queuing"
+content_text Address = codes "an address in 10.0.0.0/8"
+content_text Checksum = codes "none or udp"
+content_text Section = codes "a table"
+content_text Rows = codes "an array of tables"
+
+-- the kind of value that it wants
+abbrev pub kind_text : Content → List ℕ
+kind_text (Whole range) = codes "a whole number"
+kind_text Gap = codes "a whole number"
+kind_text Networks = codes "a text"
+kind_text PortKind = codes "a text"
+kind_text Address = codes "a text"
+kind_text Checksum = codes "a text"
+kind_text Section = codes "a table"
+kind_text Rows = codes "an array of tables"
+
+-- the keys of a table
+abbrev pub key_names : List Field → List ℕ
+key_names fields = flat_map (λ field. codes " " ++ field.key) fields
+
+-- how many tables or ports there may be
+abbrev pub limit_text : Place → List ℕ → List ℕ
+limit_text Top key = if bytes_eq key (codes "vl") then codes "1 to 64 tables" else codes "1 to 256 tables"
+limit_text _ key = codes "at most 64 ports of one sub-VL"
+
+-- a port's link, and what stands under a key of it
+unfoldable pub link_text : Members → Option ℕ → List ℕ → List ℕ
+link_text document None key = []
+link_text document (Some k) key = codes "; " ++ subject document (Link k) key
+
+-- what may stand under a key
+abbrev pub content_at : Members → Finding → List ℕ
+content_at document f = option_map_or (λ field. content_text field.content) (field_at document f.place f.key) []
+
+-- the kind of value that is wanted there
+abbrev pub kind_at : Members → Finding → List ℕ
+kind_at document f = option_map_or (λ field. kind_text field.content) (field_at document f.place f.key) []
+
+-- the keys that a table may have
+unfoldable pub keys_text : List Field → List ℕ
+keys_text fields = codes "the keys are" ++ key_names fields
+
+-- the kind of value that is wanted
+unfoldable pub wanted_text : Members → Finding → List ℕ
+wanted_text document f = kind_at document f ++ codes " is wanted"
+
+-- which sub-VLs a port's link has
+unfoldable pub below_text : Members → Option ℕ → List ℕ
+below_text document other = codes "below sub_vls of its vl" ++ link_text document other (codes "sub_vls")
+
+-- what fits into one frame of a port's link
+unfoldable pub most_text : Members → Option ℕ → List ℕ
+most_text document other = codes "at most lmax - 47 of its vl" ++ link_text document other (codes "lmax")
+
+-- what is allowed where a fault is found
+unfoldable pub allowed_text : ConfigFault → Members → Finding → List ℕ
+allowed_text UnknownKey document f = keys_text (fields_at document f.place)
+allowed_text WrongKind document f = wanted_text document f
+allowed_text NoSuchVl document f = codes "no vl has this id"
+allowed_text NoSuchSub document f = below_text document f.other
+allowed_text SamplingTooLong document f = most_text document f.other
+allowed_text Limit document f = limit_text f.place f.key
+allowed_text _ document f = content_at document f
+
+-- the other table of a pair is of the same array
+abbrev pub row_like : Place → ℕ → Place
+row_like (Link k) other = Link other
+row_like _ other = Port other
+
+-- two tables that agree
+unfoldable pub pair_text : Members → Place → Option ℕ → List ℕ
+pair_text document place None = place_text document place
+pair_text document place (Some other) =
+    place_text document place ++ codes " and " ++ place_text document (row_like place other)
+
+-- what two tables agree in
+abbrev pub same_text : ConfigFault → List ℕ
+same_text SameFlow = codes "the same vl, partition, source, destination and dest_ip"
+same_text SharedUnicast = codes "the same partition and dest_ip, but another vl"
+same_text _ = codes "the same id"
+
+-- it is a fault of two tables
+abbrev pub is_of_pair : ConfigFault → Bool
+is_of_pair DuplicateVl = true
+is_of_pair DuplicatePort = true
+is_of_pair SameFlow = true
+is_of_pair SharedUnicast = true
+is_of_pair _ = false
+
+-- a fault of two tables
+unfoldable pub pair_line : Members → Finding → List ℕ
+pair_line document f = pair_text document f.place f.other ++ codes ": " ++ same_text f.fault
+
+-- a fault of one key
+unfoldable pub key_line : Members → Finding → List ℕ
+key_line document f = subject document f.place f.key ++ codes ": " ++ allowed_text f.fault document f
+
+-- a finding behind its number and name
+abbrev pub told : Members → Finding → List ℕ
+told document f = if is_of_pair f.fault then pair_line document f else key_line document f
+
+-- the line of a finding
+unfoldable pub finding_line : Members → Finding → List ℕ
+finding_line document f = decimal (fault_number f.fault) ++ codes " " ++ fault_name f.fault ++ codes ": "
+    ++ told document f ++ 10 ∷ []
+
+-- how many there are
+unfoldable pub count_line : ℕ → List ℕ
+count_line count =
+    if count == 0 then codes "no faults" ++ 10 ∷ []
+    else if count == 1 then codes "1 fault" ++ 10 ∷ []
+    else decimal count ++ codes " faults" ++ 10 ∷ []
+
+-- all findings of a document
+unfoldable pub explanation : Members → List Finding → List ℕ
+explanation document findings = count_line (length findings) ++ flat_map (finding_line document) findings
+
+-- where a text stops to be TOML, and what its reader says
+unfoldable pub toml_line : ℕ → ℕ → List ℕ → List ℕ
+toml_line line column message =
+    codes "1 Toml: " ++ stop_text line column ++ codes ": " ++ message ++ 10 ∷ []
+
+-- all that is told of a text that isn't TOML
+unfoldable pub toml_text : ℕ → ℕ → List ℕ → List ℕ
+toml_text line column message = codes "1 fault" ++ 10 ∷ [] ++ toml_line line column message

@@ -1,0 +1,194 @@
+//! All faults of a configuration's text, each with its place.
+ghost use Rattle.std.specs.Prelude.{◌≡◌, ◌++◌, map, IfOk, OnOk};
+ghost use Rattle.std.specs.List.{flat_map};
+ghost use Rattle.toml.specs.Errors.{IsWithin};
+ghost use Rattle.toml.specs.View.{table_view};
+ghost use Rattle.afdx_config.specs.Explained.{begins_character, column_after, line_of, Explains, TellsDocument, TellsStop, TellsToml};
+ghost use Rattle.afdx_config.specs.Findings.{findings as findings_in, site_findings, plan_findings};
+ghost use Rattle.afdx_config.specs.Seen.{Adds, finding_of, link_in, port_in, site_of};
+ghost use Rattle.afdx_config.specs.Views.{AreSectionsOf};
+
+use crate::findings::{Finding, Place, add};
+use crate::plan_findings::add_plan;
+use crate::rows::{LinkRow, PortRow, link_rows, port_rows};
+use crate::sections::Sections;
+use crate::sites::{Site, sites_of};
+use crate::told::{write_explanation, write_toml};
+use crate::value_findings::add_sites;
+use afdx_plan::ConfigFault;
+use std::alloc::{AllocError, Global};
+use toml::Table;
+use toml::de::Error;
+
+/// The faults that documents show, in the order of their numbers.
+const SHOWN_FAULTS: [ConfigFault; 13] = [
+    ConfigFault::MissingKey,
+    ConfigFault::UnknownKey,
+    ConfigFault::WrongKind,
+    ConfigFault::OutOfRange,
+    ConfigFault::BadBag,
+    ConfigFault::DuplicateVl,
+    ConfigFault::DuplicatePort,
+    ConfigFault::NoSuchVl,
+    ConfigFault::NoSuchSub,
+    ConfigFault::SamplingTooLong,
+    ConfigFault::SameFlow,
+    ConfigFault::SharedUnicast,
+    ConfigFault::Limit,
+];
+
+/// All faults of a text.
+#[derive(Debug, Drop)]
+pub struct Explanation {
+    /// In the order of the faults' numbers, and of one fault in that of the text's tables.
+    pub findings: Vec<Finding>,
+    /// A line that counts the findings, and one for each.
+    pub text: Vec<u8>,
+}
+
+/// Adds what a document shows of these faults.
+fn add_faults(
+    alloc: Global,
+    found: &mut Vec<Finding>,
+    faults: &[ConfigFault],
+    sites: &[Site<'_>],
+    links: &[LinkRow],
+    ports: &[PortRow],
+) -> Result<(), AllocError>
+    ensures { OnOk result (Adds found.old.items found.new.items
+        (flat_map
+        (λ fault. flat_map (λ s. site_findings fault (site_of s)) sites.now
+        ++ plan_findings fault (map link_in links.now) (map port_in ports.now))
+        faults.now)) }
+{
+    for fault in faults {
+        add_sites(alloc, found, *fault, sites)?;
+        add_plan(alloc, found, *fault, links, ports)?;
+    }
+    Ok(())
+}
+
+/// The findings of a document.
+fn findings_in(
+    alloc: Global,
+    document: &Table,
+    sections: &Sections<'_>,
+) -> Result<Vec<Finding>, AllocError>
+    requires { AreSectionsOf (table_view document.now) sections.now }
+    ensures { IfOk result (λ found.
+        map finding_of found.items ≡ findings_in (table_view document.now)) }
+{
+    let sites = sites_of(alloc, document, sections)?;
+    let links = link_rows(alloc, sections.links.as_slice())?;
+    let ports = port_rows(alloc, sections.ports.as_slice())?;
+    let mut found = Vec::new(alloc);
+    add_faults(
+        alloc,
+        &mut found,
+        &SHOWN_FAULTS,
+        sites.as_slice(),
+        links.as_slice(),
+        ports.as_slice(),
+    )?;
+    Ok(found)
+}
+
+/// All faults of a document.
+fn explain_document(alloc: Global, document: &Table) -> Result<Explanation, AllocError>
+    ensures { IfOk result (λ e.
+        TellsDocument (table_view document.now) (map finding_of e.findings.items) e.text.items) }
+{
+    let sections = Sections::of(alloc, document)?;
+    let findings = findings_in(alloc, document, &sections)?;
+    let mut text = Vec::new(alloc);
+    match write_explanation(&mut text, document, &sections, findings.as_slice()) {
+        Ok(()) => Ok(Explanation { findings, text }),
+        Err(_) => Err(AllocError),
+    }
+}
+
+/// The line, from 1, of the place after these bytes.
+fn line_of(before: &[u8]) -> usize
+    ensures { result ≡ line_of before.now }
+{
+    1 + before.iter().filter(|byte| **byte == b'\n').count()
+}
+
+/// The column, from 1, of the place after these bytes. It counts characters.
+fn column_of(before: &[u8]) -> usize
+    ensures { result ≡ column_after 0 before.now }
+{
+    let mut characters = 0usize;
+    for byte in before {
+        if *byte == b'\n' {
+            characters = 0;
+        } else if begins_character(*byte) {
+            characters += 1;
+        }
+    }
+    1 + characters
+}
+
+/// A byte is none of those behind the first one of a character.
+fn begins_character(byte: u8) -> bool
+    ensures { result ≡ begins_character byte }
+{
+    !(128 <= byte && byte < 192)
+}
+
+/// The fault of a text that isn't TOML.
+fn explain_toml(alloc: Global, text: &[u8], error: &Error) -> Result<Explanation, AllocError>
+    requires { IsWithin text.now error.now }
+    ensures { IfOk result (λ e.
+        TellsToml text.now (map finding_of e.findings.items) e.text.items) }
+{
+    let start = match error.span() {
+        Some(span) => span.start,
+        None => 0,
+    };
+    let (before, _rest) = text.split_at(start);
+    tell_toml(alloc, before, error.message())
+}
+
+/// The one finding of a text that isn't TOML after these bytes.
+fn tell_toml(alloc: Global, before: &[u8], message: &str) -> Result<Explanation, AllocError>
+    ensures { IfOk result (λ e. TellsStop before.now message.now
+        (map finding_of e.findings.items) e.text.items) }
+{
+    let line = line_of(before);
+    let column = column_of(before);
+    let mut findings = Vec::new(alloc);
+    let place = Place::Text(line, column);
+    add(
+        alloc,
+        &mut findings,
+        ConfigFault::Toml,
+        place,
+        message,
+        None,
+    )?;
+    let mut text = Vec::new(alloc);
+    match write_toml(&mut text, line, column, message) {
+        Ok(()) => Ok(Explanation { findings, text }),
+        Err(_) => Err(AllocError),
+    }
+}
+
+/// All faults of a configuration's text, each with its place: those of the document that it writes,
+/// or that it isn't TOML. Where it has none the text says so, and `read_config` answers its plan;
+/// the fault of the first finding is else what `read_config` answers.
+pub fn explain(alloc: Global, text: &[u8]) -> Result<Explanation, AllocError>
+    ensures { IfOk result (λ e.
+        Explains text.now (map finding_of e.findings.items) e.text.items) }
+{
+    match toml::table_from_slice(alloc, text) {
+        Ok(document) => explain_document(alloc, &document),
+        Err(error) => {
+            if error.is_memory() {
+                Err(AllocError)
+            } else {
+                explain_toml(alloc, text, &error)
+            }
+        }
+    }
+}

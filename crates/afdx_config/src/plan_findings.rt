@@ -1,0 +1,427 @@
+//! The faults that a plan shows, with their places. Values that have a fault of their own are in it
+//! as 0 or as the first variant.
+ghost use Rattle.std.specs.Prelude.{◌≡◌, ◌==◌, ◌&&◌, ◌+◌, ◌<◌, ◌≤◌, ◌^◌, not, map, find, option_copied, option_map, length, IfSome, OnOk};
+ghost use Rattle.std.specs.List.{list_any, position};
+ghost use Rattle.afdx_plan.specs.Config.{ports_on};
+ghost use Rattle.afdx_plan.specs.PlanFaults.{is_link_of, names_no_link, names_no_sub, is_too_long, are_one_address, are_one_destination, has_same_flow, shares_unicast, is_no_count, is_crowded};
+ghost use Rattle.afdx_config.specs.Findings.{found as finding_at, one_if, plan_key, pair_finding, links_clash, link_findings, ports_clash, is_misfit, link_number, has_same_sub, is_last_crowded, port_finding, port_findings, count_is_wrong, count_findings, plan_findings};
+ghost use Rattle.afdx_config.specs.Seen.{Adds, link_in, port_in};
+ghost use Rattle.afdx_config.specs.declared.findings.Place.TheVariants.{Link, Port};
+
+use crate::findings::{Finding, Place, add};
+use crate::rows::{LinkRow, PortRow};
+use afdx_plan::{ConfigFault, Kind, LINKS_LIMIT, PORTS_LIMIT, SUB_PORTS_LIMIT};
+use std::alloc::{AllocError, Global};
+
+/// The key that a plan's fault is told of.
+fn plan_key(fault: ConfigFault) -> &'static str
+    ensures { result.now ≡ plan_key fault }
+{
+    match fault {
+        ConfigFault::SameFlow => "destination",
+        ConfigFault::SharedUnicast => "dest_ip",
+        ConfigFault::NoSuchVl => "vl",
+        ConfigFault::NoSuchSub => "sub",
+        ConfigFault::SamplingTooLong => "max",
+        ConfigFault::Limit => "sub",
+        _ => "id",
+    }
+}
+
+/// Two links agree in what no two links may.
+fn links_clash(fault: ConfigFault, a: &LinkRow, b: &LinkRow) -> bool
+    ensures { result ≡ links_clash fault (link_in a.now) (link_in b.now) }
+{
+    match fault {
+        ConfigFault::DuplicateVl => a.id == b.id,
+        _ => false,
+    }
+}
+
+/// How many links further on is one that the link agrees with.
+fn next_link(fault: ConfigFault, link: &LinkRow, rest: &[LinkRow]) -> Option<usize>
+    ensures { result ≡ position (links_clash fault (link_in link.now)) (map link_in rest.now) }
+{
+    next_link_row(fault, link, rest)
+}
+
+fn next_link_row(fault: ConfigFault, link: &LinkRow, rest: &[LinkRow]) -> Option<usize>
+    ensures { result ≡ position (λ b. links_clash fault (link_in link.now) (link_in b)) rest.now }
+{
+    rest.iter()
+        .position(|other| links_clash(fault, link, other))
+}
+
+/// Adds the link, where it agrees with a later one.
+fn add_link(
+    alloc: Global,
+    found: &mut Vec<Finding>,
+    fault: ConfigFault,
+    i: usize,
+    link: &LinkRow,
+    rest: &[LinkRow],
+) -> Result<(), AllocError>
+    requires { i + 1 + length rest.now < 2 ^ 63 }
+    ensures { OnOk result (Adds found.old.items found.new.items
+        (pair_finding fault Link (i + 1)
+        (position (links_clash fault (link_in link.now)) (map link_in rest.now)))) }
+{
+    if let Some(behind) = next_link(fault, link, rest) {
+        let other = Some(i + 2 + behind);
+        add(
+            alloc,
+            found,
+            fault,
+            Place::Link(i + 1),
+            plan_key(fault),
+            other,
+        )?;
+    }
+    Ok(())
+}
+
+/// Adds the links that agree with a later one.
+fn add_links(
+    alloc: Global,
+    found: &mut Vec<Finding>,
+    fault: ConfigFault,
+    links: &[LinkRow],
+) -> Result<(), AllocError>
+    ensures { OnOk result (Adds found.old.items found.new.items
+        (link_findings fault 1 (map link_in links.now))) }
+{
+    for (i, link) in links.iter().enumerate() {
+        add_link(alloc, found, fault, i, link, &links[i + 1..])?;
+    }
+    Ok(())
+}
+
+/// Two ports agree in what no two ports may.
+fn ports_clash(fault: ConfigFault, a: &PortRow, b: &PortRow) -> bool
+    ensures { result ≡ ports_clash fault (port_in a.now) (port_in b.now) }
+{
+    match fault {
+        ConfigFault::DuplicatePort => a.id == b.id,
+        ConfigFault::SameFlow => is_same_flow(a, b),
+        ConfigFault::SharedUnicast => shares_address(a, b),
+        _ => false,
+    }
+}
+
+fn is_same_flow(a: &PortRow, b: &PortRow) -> bool
+    ensures { result ≡ has_same_flow (port_in a.now) (port_in b.now) }
+{
+    a.vl == b.vl
+        && a.partition == b.partition
+        && a.source == b.source
+        && a.destination == b.destination
+        && is_one_destination(a.unicast, b.unicast)
+}
+
+fn is_one_destination(a: Option<[u8; 4]>, b: Option<[u8; 4]>) -> bool
+    ensures { result ≡ are_one_destination a b }
+{
+    match (a, b) {
+        (None, None) => true,
+        (Some(one), Some(other)) => one == other,
+        _ => false,
+    }
+}
+
+fn shares_address(a: &PortRow, b: &PortRow) -> bool
+    ensures { result ≡ shares_unicast (port_in a.now) (port_in b.now) }
+{
+    a.vl != b.vl && a.partition == b.partition && is_one_address(a.unicast, b.unicast)
+}
+
+fn is_one_address(a: Option<[u8; 4]>, b: Option<[u8; 4]>) -> bool
+    ensures { result ≡ are_one_address a b }
+{
+    match (a, b) {
+        (Some(one), Some(other)) => one == other,
+        _ => false,
+    }
+}
+
+/// How many ports further on is one that the port agrees with.
+fn next_port(fault: ConfigFault, port: &PortRow, rest: &[PortRow]) -> Option<usize>
+    ensures { result ≡ position (ports_clash fault (port_in port.now)) (map port_in rest.now) }
+{
+    next_port_row(fault, port, rest)
+}
+
+fn next_port_row(fault: ConfigFault, port: &PortRow, rest: &[PortRow]) -> Option<usize>
+    ensures { result ≡ position (λ b. ports_clash fault (port_in port.now) (port_in b)) rest.now }
+{
+    rest.iter()
+        .position(|other| ports_clash(fault, port, other))
+}
+
+/// Where the row of a port's link stands.
+fn link_place(links: &[LinkRow], port: &PortRow) -> Option<usize>
+    ensures place { result ≡ position (λ l. is_link_of (port_in port.now) (link_in l)) links.now }
+    ensures within { IfSome result (λ i. i < length links.now) }
+{
+    links.iter().position(|link| link.id == port.vl)
+}
+
+/// The link of a port.
+fn link_of<'a>(links: &'a [LinkRow], port: &PortRow) -> Option<&'a LinkRow>
+    ensures { option_map link_in (option_copied result)
+        ≡ find (is_link_of (port_in port.now)) (map link_in links.now) }
+{
+    link_row_of(links, port)
+}
+
+fn link_row_of<'a>(links: &'a [LinkRow], port: &PortRow) -> Option<&'a LinkRow>
+    ensures { option_copied result ≡ find (λ l. is_link_of (port_in port.now) (link_in l)) links.now }
+{
+    links.iter().find(|link| link.id == port.vl)
+}
+
+/// A port names a link that isn't there.
+fn has_no_link(links: &[LinkRow], port: &PortRow) -> bool
+    ensures { result ≡ names_no_link (map link_in links.now) (port_in port.now) }
+{
+    !some_is_link_of(links, port)
+}
+
+fn some_is_link_of(links: &[LinkRow], port: &PortRow) -> bool
+    ensures { result ≡ list_any (λ l. is_link_of (port_in port.now) (link_in l)) links.now }
+{
+    links.iter().any(|link| link.id == port.vl)
+}
+
+/// A port doesn't fit to its link, or has none.
+fn is_misfit(fault: ConfigFault, links: &[LinkRow], port: &PortRow) -> bool
+    ensures { result ≡ is_misfit fault (map link_in links.now) (port_in port.now) }
+{
+    match fault {
+        ConfigFault::NoSuchVl => has_no_link(links, port),
+        ConfigFault::NoSuchSub => has_no_sub(links, port),
+        ConfigFault::SamplingTooLong => is_too_long(links, port),
+        _ => false,
+    }
+}
+
+fn has_no_sub(links: &[LinkRow], port: &PortRow) -> bool
+    ensures { result ≡ names_no_sub (map link_in links.now) (port_in port.now) }
+{
+    match link_of(links, port) {
+        Some(link) => link.sub_vls <= port.sub,
+        None => false,
+    }
+}
+
+fn is_too_long(links: &[LinkRow], port: &PortRow) -> bool
+    ensures { result ≡ is_too_long (map link_in links.now) (port_in port.now) }
+{
+    match port.kind {
+        Kind::Queuing => false,
+        Kind::Sampling => match link_of(links, port) {
+            Some(link) => link.lmax.saturating_sub(47) < port.max,
+            None => false,
+        },
+    }
+}
+
+/// The number of a port's link.
+fn link_number(links: &[LinkRow], port: &PortRow) -> Option<usize>
+    ensures { result ≡ link_number (map link_in links.now) (port_in port.now) }
+{
+    match link_place(links, port) {
+        Some(i) => Some(i + 1),
+        None => None,
+    }
+}
+
+/// The ports of a sub-VL.
+fn count_on(ports: &[PortRow], port: &PortRow) -> usize
+    ensures { result ≡ ports_on (map port_in ports.now) port.now.vl port.now.sub }
+{
+    ports
+        .iter()
+        .filter(|other| other.vl == port.vl && other.sub == port.sub)
+        .count()
+}
+
+fn is_crowded(ports: &[PortRow], port: &PortRow) -> bool
+    ensures { result ≡ is_crowded (map port_in ports.now) (port_in port.now) }
+{
+    SUB_PORTS_LIMIT < count_on(ports, port)
+}
+
+/// A port of the same sub-VL follows.
+fn is_followed(port: &PortRow, rest: &[PortRow]) -> bool
+    ensures { result ≡ list_any (has_same_sub (port_in port.now)) (map port_in rest.now) }
+{
+    some_has_same_sub(port, rest)
+}
+
+fn some_has_same_sub(port: &PortRow, rest: &[PortRow]) -> bool
+    ensures { result ≡ list_any (λ b. has_same_sub (port_in port.now) (port_in b)) rest.now }
+{
+    rest.iter()
+        .any(|other| other.vl == port.vl && other.sub == port.sub)
+}
+
+/// The port is the last one of a sub-VL that has too many.
+fn is_last_crowded(fault: ConfigFault, ports: &[PortRow], port: &PortRow, rest: &[PortRow]) -> bool
+    ensures { result
+        ≡ is_last_crowded fault (map port_in ports.now) (port_in port.now) (map port_in rest.now) }
+{
+    match fault {
+        ConfigFault::Limit => is_crowded(ports, port) && !is_followed(port, rest),
+        _ => false,
+    }
+}
+
+/// Adds the port that agrees with a later one.
+fn add_clash(
+    alloc: Global,
+    found: &mut Vec<Finding>,
+    fault: ConfigFault,
+    i: usize,
+    port: &PortRow,
+    rest: &[PortRow],
+) -> Result<(), AllocError>
+    requires { i + 1 + length rest.now < 2 ^ 63 }
+    ensures { OnOk result (Adds found.old.items found.new.items
+        (pair_finding fault Port (i + 1)
+        (position (ports_clash fault (port_in port.now)) (map port_in rest.now)))) }
+{
+    if let Some(behind) = next_port(fault, port, rest) {
+        let other = Some(i + 2 + behind);
+        add(
+            alloc,
+            found,
+            fault,
+            Place::Port(i + 1),
+            plan_key(fault),
+            other,
+        )?;
+    }
+    Ok(())
+}
+
+/// Adds the port that doesn't fit to its link.
+fn add_misfit(
+    alloc: Global,
+    found: &mut Vec<Finding>,
+    fault: ConfigFault,
+    i: usize,
+    port: &PortRow,
+    links: &[LinkRow],
+) -> Result<(), AllocError>
+    requires { i < 2 ^ 63 }
+    ensures { OnOk result (Adds found.old.items found.new.items
+        (one_if (is_misfit fault (map link_in links.now) (port_in port.now))
+        (finding_at fault (Port (i + 1)) (plan_key fault)
+        (link_number (map link_in links.now) (port_in port.now))))) }
+{
+    if is_misfit(fault, links, port) {
+        let link = link_number(links, port);
+        add(
+            alloc,
+            found,
+            fault,
+            Place::Port(i + 1),
+            plan_key(fault),
+            link,
+        )?;
+    }
+    Ok(())
+}
+
+/// Adds the port, where it is the last one of a sub-VL that has too many.
+fn add_crowded(
+    alloc: Global,
+    found: &mut Vec<Finding>,
+    fault: ConfigFault,
+    i: usize,
+    port: &PortRow,
+    ports: &[PortRow],
+    rest: &[PortRow],
+) -> Result<(), AllocError>
+    requires { i < 2 ^ 63 }
+    ensures { OnOk result (Adds found.old.items found.new.items
+        (one_if (is_last_crowded fault (map port_in ports.now) (port_in port.now) (map port_in rest.now))
+        (finding_at fault (Port (i + 1)) (plan_key fault) None))) }
+{
+    if is_last_crowded(fault, ports, port, rest) {
+        add(
+            alloc,
+            found,
+            fault,
+            Place::Port(i + 1),
+            plan_key(fault),
+            None,
+        )?;
+    }
+    Ok(())
+}
+
+/// Adds what ports show.
+fn add_ports(
+    alloc: Global,
+    found: &mut Vec<Finding>,
+    fault: ConfigFault,
+    links: &[LinkRow],
+    ports: &[PortRow],
+) -> Result<(), AllocError>
+    ensures { OnOk result (Adds found.old.items found.new.items
+        (port_findings fault (map link_in links.now) (map port_in ports.now) 1 (map port_in ports.now))) }
+{
+    for (i, port) in ports.iter().enumerate() {
+        let rest = &ports[i + 1..];
+        add_clash(alloc, found, fault, i, port, rest)?;
+        add_misfit(alloc, found, fault, i, port, links)?;
+        add_crowded(alloc, found, fault, i, port, ports, rest)?;
+    }
+    Ok(())
+}
+
+fn count_is_wrong(fault: ConfigFault, most: usize, count: usize) -> bool
+    ensures { result ≡ count_is_wrong fault most count }
+{
+    match fault {
+        ConfigFault::Limit => count == 0 || most < count,
+        _ => false,
+    }
+}
+
+/// Adds that there are no or too many links or ports.
+fn add_counts(
+    alloc: Global,
+    found: &mut Vec<Finding>,
+    fault: ConfigFault,
+    links: &[LinkRow],
+    ports: &[PortRow],
+) -> Result<(), AllocError>
+    ensures { OnOk result (Adds found.old.items found.new.items
+        (count_findings fault (map link_in links.now) (map port_in ports.now))) }
+{
+    if count_is_wrong(fault, LINKS_LIMIT, links.len()) {
+        add(alloc, found, fault, Place::Top, "vl", None)?;
+    }
+    if count_is_wrong(fault, PORTS_LIMIT, ports.len()) {
+        add(alloc, found, fault, Place::Top, "port", None)?;
+    }
+    Ok(())
+}
+
+/// Adds what links and ports show of a fault.
+pub(crate) fn add_plan(
+    alloc: Global,
+    found: &mut Vec<Finding>,
+    fault: ConfigFault,
+    links: &[LinkRow],
+    ports: &[PortRow],
+) -> Result<(), AllocError>
+    ensures { OnOk result (Adds found.old.items found.new.items
+        (plan_findings fault (map link_in links.now) (map port_in ports.now))) }
+{
+    add_links(alloc, found, fault, links)?;
+    add_counts(alloc, found, fault, links, ports)?;
+    add_ports(alloc, found, fault, links, ports)
+}

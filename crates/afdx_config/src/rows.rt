@@ -1,0 +1,117 @@
+//! Links and ports as their tables write them, without a fault or with one.
+ghost use Rattle.std.specs.Prelude.{◌≡◌, codes, map, IfOk};
+ghost use Rattle.toml.specs.View.{table_view};
+ghost use Rattle.afdx_config.specs.Entries.{natural, number_at};
+ghost use Rattle.afdx_config.specs.PlanOf.{link_of, port_of};
+ghost use Rattle.afdx_config.specs.Seen.{link_in, port_in};
+
+use crate::entries::{text, whole_number};
+use crate::values::{bag_of_ms, checksum_named, kind_named, networks_named, unicast_address};
+use afdx_plan::{Bag, Kind, Networks, UdpSum};
+use std::alloc::{AllocError, Global};
+use toml::Table;
+
+/// A link as its table writes it: where a value is missing or of another kind, 0 or the first
+/// variant stands in its place.
+#[derive(Clone, Copy)]
+pub(crate) struct LinkRow {
+    pub id: u64,
+    pub bag: Bag,
+    pub lmax: u64,
+    pub sub_vls: u64,
+    pub capacity: u64,
+    pub networks: Networks,
+}
+
+/// A port as its table writes it, in the same way.
+#[derive(Clone, Copy)]
+pub(crate) struct PortRow {
+    pub id: u64,
+    pub vl: u64,
+    pub sub: u64,
+    pub partition: u64,
+    pub kind: Kind,
+    pub source: u64,
+    pub destination: u64,
+    pub max: u64,
+    pub unicast: Option<[u8; 4]>,
+    pub checksum: UdpSum,
+}
+
+/// The number under a key, or 0.
+fn number_or_0(table: &Table, key: &str) -> u64
+    ensures { result ≡ number_at key.now (table_view table.now) }
+{
+    match whole_number(table, key) {
+        Some(number) => natural(number),
+        None => 0,
+    }
+}
+
+/// A number that isn't below 0.
+fn natural(number: i64) -> u64
+    ensures { result ≡ natural number }
+{
+    if number < 0 { 0 } else { number as u64 }
+}
+
+#[tactic(auto, unfolding(crate::specs::PlanOf::link_of))]
+fn link_row(table: &Table) -> LinkRow
+    ensures { link_in result ≡ link_of (table_view table.now) }
+{
+    let bag = whole_number(table, "bag_ms").and_then(bag_of_ms);
+    let networks = text(table, "networks").and_then(networks_named);
+    LinkRow {
+        id: number_or_0(table, "id"),
+        bag: bag.unwrap_or(Bag::Ms1),
+        lmax: number_or_0(table, "lmax"),
+        sub_vls: number_or_0(table, "sub_vls"),
+        capacity: number_or_0(table, "capacity"),
+        networks: networks.unwrap_or(Networks::Both),
+    }
+}
+
+#[tactic(auto, unfolding(crate::specs::PlanOf::port_of))]
+fn port_row(table: &Table) -> PortRow
+    ensures { port_in result ≡ port_of (table_view table.now) }
+{
+    let kind = text(table, "kind").and_then(kind_named);
+    let unicast = text(table, "dest_ip").and_then(unicast_address);
+    let checksum = text(table, "checksum").and_then(checksum_named);
+    PortRow {
+        id: number_or_0(table, "id"),
+        vl: number_or_0(table, "vl"),
+        sub: number_or_0(table, "sub"),
+        partition: number_or_0(table, "partition"),
+        kind: kind.unwrap_or(Kind::Sampling),
+        source: number_or_0(table, "source"),
+        destination: number_or_0(table, "destination"),
+        max: number_or_0(table, "max"),
+        unicast,
+        checksum: checksum.unwrap_or(UdpSum::Omitted),
+    }
+}
+
+/// The links of tables, in their order.
+pub(crate) fn link_rows(alloc: Global, tables: &[&Table]) -> Result<Vec<LinkRow>, AllocError>
+    ensures { IfOk result (λ rows.
+        map link_in rows.items ≡ map (λ t. link_of (table_view t.now)) tables.now) }
+{
+    let mut rows = Vec::new(alloc);
+    for table in tables {
+        rows.push(link_row(table))?;
+    }
+    Ok(rows)
+}
+
+/// The ports of tables, in their order.
+pub(crate) fn port_rows(alloc: Global, tables: &[&Table]) -> Result<Vec<PortRow>, AllocError>
+    ensures { IfOk result (λ rows.
+        map port_in rows.items ≡ map (λ t. port_of (table_view t.now)) tables.now) }
+{
+    let mut rows = Vec::new(alloc);
+    for table in tables {
+        rows.push(port_row(table))?;
+    }
+    Ok(rows)
+}
