@@ -58,14 +58,14 @@ plan_err doc plan (Err e) is values found = λ other.
     plan_least doc e values (ap (λ p. find (λ f. plan_shows f p) plan_faults) (sym is) ∙ found)
 
 -- what a document does not show, its text has not: the text is read as one document
-hasnt : (f : ConfigFault) (text : List ℕ) (doc : Members) → Reads text doc → shows f doc ≡ false → ¬ HasFault f text
+pub hasnt : (f : ConfigFault) (text : List ℕ) (doc : Members) → Reads text doc → shows f doc ≡ false → ¬ HasFault f text
 hasnt Toml text doc reads h = λ k. k doc reads
 hasnt f text doc reads h = λ (d, r, k).
     let same : d ≡ doc = same_Some d doc (sym r.1 ∙ reads.1) in
     let now : shows f doc ≡ true = subst (λ (x : Members). shows f x ≡ true) same k in cc
 
 -- what it shows, its text has
-has : (f : ConfigFault) (text : List ℕ) (doc : Members) → Reads text doc → shows f doc ≡ true → 2 ≤ fault_number f
+pub has : (f : ConfigFault) (text : List ℕ) (doc : Members) → Reads text doc → shows f doc ≡ true → 2 ≤ fault_number f
     → HasFault f text
 has Toml text doc reads h some = absurd (omega arith)
 has f text doc reads h some = (doc, reads, h)
