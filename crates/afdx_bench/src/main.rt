@@ -11,7 +11,7 @@ use afdx_plan::{Config, demo_config};
 use bench_words::{Words, read_words, tell_words};
 use capture::write_capture;
 use files::{create, open, stand_in};
-use plan_report::{End, Failure, Halting, check, read_plan, status_of};
+use plan_report::{End, Failure, Halting, check, read_plan, status_of, tell_faults};
 use report::report;
 use std::alloc::Global;
 use std::fs::File;
@@ -112,6 +112,7 @@ fn obey<W: Write, T: Threads + Wait + Sync>(
             check(alloc, open(rt, config.as_str())?, writer)?;
             Ok(End::Told)
         }
+        Words::Explain { config } => tell_faults(alloc, open(rt, config.as_str())?, writer),
         Words::Report {
             config,
             lateness,

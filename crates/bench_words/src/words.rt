@@ -26,6 +26,10 @@ pub enum Words {
     Check {
         config: String,
     },
+    /// `explain <config>`
+    Explain {
+        config: String,
+    },
     /// `report <config>`, with how late polls come in microseconds, and where a page is to be written
     Report {
         config: String,
@@ -81,6 +85,9 @@ pub fn parse<'a>(alloc: Global, words: &'a [String]) -> Result<Words, Error>
             capture: given_path(alloc, inner, "capture")?,
         }),
         Some(("check", inner)) => Ok(Words::Check {
+            config: path(alloc, inner, "config")?,
+        }),
+        Some(("explain", inner)) => Ok(Words::Explain {
             config: path(alloc, inner, "config")?,
         }),
         Some(("report", inner)) => report_words(alloc, inner),
@@ -168,6 +175,7 @@ fn command<'a>(alloc: Global) -> Result<Command<'a>, AllocError> {
         .disable_help_subcommand(true)
         .subcommand(run_command(alloc)?)?
         .subcommand(check_command(alloc)?)?
+        .subcommand(explain_command(alloc)?)?
         .subcommand(report_command(alloc)?)?
         .subcommand(storm_command(alloc)?)
 }
@@ -187,7 +195,17 @@ fn run_command<'a>(alloc: Global) -> Result<Command<'a>, AllocError> {
 
 fn check_command<'a>(alloc: Global) -> Result<Command<'a>, AllocError> {
     Command::new(alloc, "check")
-        .about("Prints the plan and the jitter of a configuration")
+        .about(
+            "Prints the plan and the jitter of a configuration; `explain` tells where its faults are",
+        )
+        .arg(file(alloc, "config").help("The file of the configuration"))
+}
+
+fn explain_command<'a>(alloc: Global) -> Result<Command<'a>, AllocError> {
+    Command::new(alloc, "explain")
+        .about(
+            "Prints all faults of a configuration, each with its place and what is allowed there",
+        )
         .arg(file(alloc, "config").help("The file of the configuration"))
 }
 

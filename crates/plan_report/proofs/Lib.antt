@@ -1,2 +1,3 @@
+pub mod FaultsLemmas
 mod ReadingLemmas
 mod ReportLemmas

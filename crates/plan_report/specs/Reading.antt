@@ -1,12 +1,16 @@
 -- What the text of a configuration gives.
-use Rattle.std.specs.Prelude.{◌≢◌, ℕ, List, Option, ⊤}
+use Rattle.std.specs.Prelude.{◌≡◌, ◌≢◌, ℕ, List, [], ◌∷◌, Option, ⊤}
 use Rattle.std.specs.Io.KnownBytes.{Appends}
 use Rattle.plan_report.specs.Report.{report_of}
+use Rattle.plan_report.specs.declared.status.End.{End}
+use Rattle.plan_report.specs.declared.status.End.TheVariants.{Told, FaultsTold}
 use Rattle.plan_report.specs.declared.failure.Failure.{Failure}
 use Rattle.plan_report.specs.declared.failure.Failure.TheVariants.{Config, Run}
 use Rattle.afdx_plan.specs.Config.{Plan}
 use Rattle.afdx_config.specs.Faults.{IsPlanOf, IsLeastFault}
 use Rattle.afdx_plan.specs.declared.fault.ConfigFault.TheVariants.{Memory}
+use Rattle.afdx_config.specs.Explained.{Explains}
+use Rattle.afdx_config.specs.Findings.{Finding}
 use Rattle.script_text.specs.declared.run_fault.RunFault.TheVariants as Ran
 
 -- a text is refused for its fault of the least number; memory or the reading of it may fail
@@ -21,3 +25,16 @@ pub record Reports (text : List ℕ) (old new : Option (List ℕ)) : Type 0 wher
   pub plan : Plan
   pub is_plan : IsPlanOf text plan
   pub wrote : Appends old new (report_of plan)
+
+-- how a command ends that told these findings
+abbrev pub end_of : List Finding → End
+end_of [] = Told
+end_of (first ∷ rest) = FaultsTold
+
+-- all findings of a text were told
+pub record TellsFaults (text : List ℕ) (end : End) (old new : Option (List ℕ)) : Type 0 where
+  pub findings : List Finding
+  pub told : List ℕ
+  pub explained : Explains text findings told
+  pub wrote : Appends old new told
+  pub end_is : end ≡ end_of findings

@@ -3,7 +3,7 @@ use Rattle.std.specs.Prelude.{ℕ, nat_eq, if◌then◌else◌}
 use Rattle.plan_report.specs.declared.failure.Failure.{Failure}
 use Rattle.plan_report.specs.declared.failure.Failure.TheVariants.{Config, Run, Short, Turns}
 use Rattle.plan_report.specs.declared.status.End.{End}
-use Rattle.plan_report.specs.declared.status.End.TheVariants.{Told, Ran, WordsRefused, Failed}
+use Rattle.plan_report.specs.declared.status.End.TheVariants.{Told, Ran, FaultsTold, WordsRefused, Failed}
 use Rattle.afdx_plan.specs.declared.fault.ConfigFault.TheVariants as Plan
 use Rattle.script_text.specs.declared.run_fault.RunFault.{RunFault}
 use Rattle.script_text.specs.declared.run_fault.RunFault.TheVariants.{Line, Lines, Read, Write, Memory}
@@ -25,9 +25,10 @@ failure_status Short = 2
 failure_status Turns = 5
 
 -- 0 where all that was asked for was done, 3 where lines of the script were refused, and 2 where
--- the words were
+-- the words were, or faults of a configuration were written
 abbrev pub exit_status : End → ℕ
 exit_status Told = 0
 exit_status (Ran summary) = if nat_eq summary.refused 0 then 0 else 3
+exit_status FaultsTold = 2
 exit_status WordsRefused = 2
 exit_status (Failed failure) = failure_status failure

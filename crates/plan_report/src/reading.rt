@@ -1,12 +1,14 @@
-//! Reading the plan of an end system, and the command `check`.
-ghost use Rattle.std.specs.Prelude.{◌≡◌, ◌≢◌, ◌≤◌, ◌⊎◌, IfOk, IfErr, IfSome, OnOk, vec_len};
+//! Reading the plan of an end system, and the commands `check` and `explain`.
+ghost use Rattle.std.specs.Prelude.{◌≡◌, ◌≢◌, ◌≤◌, ◌⊎◌, map, IfOk, IfErr, IfSome, OnOk, vec_len};
 ghost use Rattle.std.specs.Io.KnownBytes.{Keeps};
-ghost use Rattle.plan_report.specs.Reading.{IsRefusal, Reports};
+ghost use Rattle.plan_report.specs.Reading.{IsRefusal, Reports, TellsFaults, end_of};
 ghost use Rattle.afdx_config.specs.Faults.{IsPlanOf};
+ghost use Rattle.afdx_config.specs.Seen.{finding_of};
 
 use crate::failure::Failure;
 use crate::report::write_report;
-use afdx_config::read_config;
+use crate::status::End;
+use afdx_config::{Explanation, explain, read_config};
 use afdx_plan::Config;
 use script_text::RunFault;
 use std::alloc::Global;
@@ -44,6 +46,43 @@ pub fn check<R: Read + Drop, W: Write>(
 {
     let config = read_plan(alloc, reader)?;
     write_report(writer, &config).map_err(|_| Failure::Run(RunFault::Write))
+}
+
+/// Reads a configuration and writes all of its faults, each with its place. Where memory or the
+/// reader fails before, nothing is written.
+pub fn tell_faults<R: Read + Drop, W: Write>(
+    alloc: Global,
+    reader: R,
+    writer: &mut W,
+) -> Result<End, Failure>
+    ensures ok { IfOk result (λ end. IfSome (R.remaining reader) (λ text.
+        TellsFaults text end (W.contents writer.old) (W.contents writer.new))) }
+    ensures failed { IfErr result (λ failure. (failure ≡ Failure.Run RunFault.Read)
+        ⊎ (failure ≡ Failure.Run RunFault.Memory) ⊎ (failure ≡ Failure.Run RunFault.Write)) }
+    ensures unchanged { IfErr result (λ failure. failure ≢ Failure.Run RunFault.Write →
+        Keeps (W.contents writer.old) (W.contents writer.new)) }
+{
+    let text = read_text(alloc, reader)?;
+    match explain(alloc, text.as_slice()) {
+        Ok(told) => {
+            let end = end_of(&told);
+            match writer.write_all(told.text.as_slice()) {
+                Ok(()) => Ok(end),
+                Err(_) => Err(Failure::Run(RunFault::Write)),
+            }
+        }
+        Err(_) => Err(Failure::Run(RunFault::Memory)),
+    }
+}
+
+fn end_of(told: &Explanation) -> End
+    ensures { result ≡ end_of (map finding_of told.now.findings.items) }
+{
+    if told.findings.is_empty() {
+        End::Told
+    } else {
+        End::FaultsTold
+    }
 }
 
 /// All bytes that a reader has left.

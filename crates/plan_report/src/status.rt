@@ -28,6 +28,8 @@ pub enum End {
     Told,
     /// The script was run to its end.
     Ran(Summary),
+    /// The faults of a configuration were written.
+    FaultsTold,
     /// The words of the command line were refused, which was told already.
     WordsRefused,
     /// The command ended early.
@@ -42,6 +44,7 @@ pub fn status_of(end: &End) -> u8
         End::Told => DONE,
         End::Ran(summary) if summary.refused == 0 => DONE,
         End::Ran(_) => LINES_REFUSED,
+        End::FaultsTold => REFUSED,
         End::WordsRefused => REFUSED,
         End::Failed(failure) => failure_status(failure),
     }

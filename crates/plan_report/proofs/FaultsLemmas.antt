@@ -1,0 +1,19 @@
+-- The faults of a text that was read whole.
+use Rattle.std.proofs.Common.{◌≡◌, ℕ, List, Option, Some, None, IfSome, subst, ◌∙◌}
+use Rattle.std.specs.Io.KnownBytes.{Appends}
+use Rattle.afdx_config.specs.Explained.{Explains}
+use Rattle.afdx_config.specs.Findings.{Finding}
+use Rattle.plan_report.specs.Reading.{TellsFaults, end_of}
+use Rattle.plan_report.specs.declared.status.End.{End}
+
+pub tells_faults : (known : Option (List ℕ)) (text slice told bytes : List ℕ) (findings : List Finding) (end : End)
+    (old new : Option (List ℕ)) → IfSome known (λ all. text ≡ all) → slice ≡ text → Explains slice findings told
+    → end ≡ end_of findings → bytes ≡ told → Appends old new bytes → IfSome known (λ all. TellsFaults all end old new)
+tells_faults None text slice told bytes findings end old new whole at explained ends same wrote = tt
+tells_faults (Some all) text slice told bytes findings end old new whole at explained ends same wrote = record {
+  findings = findings;
+  told = told;
+  explained = subst (λ (t : List ℕ). Explains t findings told) (at ∙ whole) explained;
+  wrote = subst (λ (b : List ℕ). Appends old new b) same wrote;
+  end_is = ends;
+}
