@@ -237,12 +237,10 @@ static void check_ports(void) {
     CHECK(afdx_port_of(&all.it, 10, &more) == 0 && more.held);
     CHECK(send_bytes(&more, 8192) == 0 && afdx_give_back(&all.it, &more) == 0);
     CHECK(afdx_port_of(&all.it, 10, &all.ports[0]) == 0 && accepted(&all.ports[0]) == 1);
-    /* a port of another end system, where all of this one's are back: it is handed back, and can be used on */
+    /* a port of another end system, where all of this one's are back (examples/c/owners.c has more) */
     open_all(&other);
-    before = other.ports[0];
     for (int k = 0; k < 3; k++) CHECK(afdx_give_back(&all.it, &all.ports[k]) == 0);
     CHECK(afdx_give_back(&all.it, &other.ports[0]) == AFDX_NO_PORT);
-    CHECK(other.ports[0].at == before.at && other.ports[0].held == before.held);
     CHECK(send_bytes(&other.ports[0], 1) == 0 && poll(&other.it, 0) == 3 && frames(&other.it, AFDX_A) == 1);
     CHECK(afdx_gather(&all.it) == 0);
     let_go(&other);

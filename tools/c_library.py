@@ -6,9 +6,9 @@
 It takes what `rt ci` has left, the libraries of the crates and the program `afdx_bench`, and a C compiler: `CC`, or
 `cc`. `rt ci` proves the C library and doesn't build it, so it is built first, `crates/afdx/out/libafdx.a`, as `rt lib`
 builds it, but over these libraries: `rt lib` would prove all of them once more. A library that is there already is
-replaced. The tests of the calls (`tools/c_calls.c`) and the example (`examples/c/example.c`) are compiled with all
-warnings as errors, once as they are and once with the address sanitizer, which finds leaks too. What the example prints
-with `--dump` has to be what `afdx_bench run` prints of the same messages and times. The last line is 'N passed, M
+replaced. The tests of the calls (`c_calls.c`, `owners.c`) and the example (`examples/c/example.c`) are compiled with all
+warnings as errors, once as they are and once with the sanitizers of addresses and leaks and of undefined behaviour. What
+the example prints with `--dump` has to be what `afdx_bench run` prints of the same messages and times. The last line is 'N passed, M
 failed', and the exit status 0 exactly if nothing failed.
 """
 import os
@@ -28,7 +28,7 @@ BENCH = f"{ROOT}/crates/afdx_bench/out/afdx_bench"
 EXAMPLE = f"{ROOT}/examples/c"
 WARNINGS = ["-Wall", "-Wextra", "-Werror", "-Wpedantic", "-g", "-O2"]
 WRAPPED = ["-Wl,--wrap=malloc", "-Wl,--wrap=realloc", "-Wl,--wrap=free"]
-SANITIZER = ["-fsanitize=address"]
+SANITIZER = ["-fsanitize=address,undefined", "-fno-sanitize-recover"]
 # What the header names and no test of the calls answers: how much there is at most, and what takes 2^40 sends.
 UNMET = {"AFDX_GREATEST_FRAME", "AFDX_MOST_FRAMES", "AFDX_EXHAUSTED"}
 
@@ -111,9 +111,9 @@ def try_header(tries, room):
     tries.show(f"{len(named)} numbers of the header", [] if unmet == UNMET else [f"not looked for: {sorted(unmet)}"])
 
 
-def try_calls(tries, room, name, flags):
-    """The tests of the calls, whose last line counts them."""
-    path = compiled(tries, room, name, f"{ROOT}/tools/c_calls.c", [*WRAPPED, *flags])
+def try_calls(tries, room, name, source, flags):
+    """Tests of the calls, whose last line counts them."""
+    path = compiled(tries, room, name, f"{ROOT}/{source}", [*WRAPPED, *flags])
     if path is None:
         return
     calls = ran([path], room)
@@ -172,8 +172,9 @@ def main():
         try_header(tries, room)
         if not is_built(tries):
             return tries.end()
-        try_calls(tries, room, "c_calls", [])
-        try_calls(tries, room, "c_calls-sanitized", SANITIZER)
+        for name, source in (("c_calls", "tools/c_calls.c"), ("owners", "examples/c/owners.c")):
+            try_calls(tries, room, name, source, [])
+            try_calls(tries, room, f"{name}-sanitized", source, SANITIZER)
         for name, flags in (("example", ["-Wconversion"]), ("example-sanitized", SANITIZER)):
             program = compiled(tries, room, name, f"{EXAMPLE}/example.c", flags)
             if program is None:

@@ -12,19 +12,20 @@
 
    What a caller owes, since no call can tell it:
    - a handle is all zeroes before it is first given to afdx_open or afdx_port_of, and is changed by calls alone: it is not
-     copied, and not written;
+     written, and where it is moved, as a struct that is returned or assigned, the old one is not used any more. A copy
+     of a handle that was freed since is not told from one that wasn't: all that a call has of it are its bytes, and
+     they point to memory that is gone. C++ and Python have handles that can't be copied;
    - one call at a time on a handle. Different handles may be used by different threads at the same time; a handle goes
      from one thread to another as any data does, by a lock or by a thread's start or end;
-   - pointers lead to as many bytes as are told, and aren't NULL, even for 0 bytes; nobody else writes there meanwhile,
-     and what is written through lies apart from what is read and from what else is written through;
-   - a port is given back to the end system that it was taken from;
+   - pointers lead to as many bytes as are told, and aren't NULL but where 0 bytes are told; nobody else writes there
+     meanwhile, and what is written through lies apart from what is read and from what else is written through;
    - the two handles of one call are two;
    - malloc, realloc and free come from one allocator. No call is made from a signal handler or in the forked child of a
      process with threads.
    No call takes a pointer to const where it takes a handle, even if it changes nothing of the end system: each takes the
    content out of the handle and puts it back before it returns.
-   A call after afdx_free, a port asked for twice, a moment that goes back, an unknown identifier and a buffer that is too
-   small are told by their numbers. */
+   A call after afdx_free, a port asked for twice, a port of another end system, a moment that goes back, an unknown
+   identifier and a buffer that is too small are told by their numbers. */
 #ifndef AFDX_H
 #define AFDX_H
 
@@ -46,12 +47,14 @@ extern "C" {
 typedef struct {
     void *at;
     uint8_t held;
+    uint64_t mark; /* which end system it is: no other that is there, or of which a port is there, has this number */
 } afdx_end_system;
 
 /* A port of an end system. {0} is none, in C++ {}. */
 typedef struct {
     void *at;
     uint8_t held;
+    uint64_t mark; /* that of its end system */
 } afdx_port;
 
 /* What was sent of a virtual link. */
@@ -165,8 +168,8 @@ uint8_t afdx_close(afdx_end_system *it, uint16_t vl, uint8_t sub, uint64_t *tota
 uint8_t afdx_link_counts(afdx_end_system *it, uint16_t vl, afdx_counts *counts);
 
 /* Gives a port back to the end system that it was taken from. It can be taken again. Its handle holds nothing then. It asks
-   for no memory. Refused: AFDX_NOT_HELD, AFDX_WRONG_HANDLE (of either), AFDX_GATHERED, AFDX_NO_PORT (the end system has
-   as many ports as it can have, so this isn't one of its own). */
+   for no memory. Refused: AFDX_NOT_HELD, AFDX_WRONG_HANDLE (of either), AFDX_GATHERED, AFDX_NO_PORT: it isn't one
+   of this end system's, and stays as it was; also where the end system that it was taken from was freed. */
 uint8_t afdx_give_back(afdx_end_system *it, afdx_port *port);
 
 /* Gathers the ports, all of which were given back or never taken: what they had accepted is known whole, and each later

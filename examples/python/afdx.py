@@ -268,7 +268,7 @@ CONFIG_ERRORS, SEND_ERRORS, POLL_ERRORS, MISUSES = map(_errors, (ConfigError, Se
 
 
 class _Handle(ctypes.Structure):
-    _fields_ = [("at", c_void_p), ("held", c_uint8)]
+    _fields_ = [("at", c_void_p), ("held", c_uint8), ("mark", c_uint64)]
 
 
 class _Counts(ctypes.Structure):

@@ -19,19 +19,45 @@ use afdx_handle::answer::{
     BOTH_DOWN, DONE, GATHERED, HELD, MEMORY, NO_FRAME, NO_LINK, NO_NETWORK, NO_PORT, NO_SUB,
     NOT_GATHERED, NOT_HELD, PORT_MISSING, SMALL_BUFFER, TIME_BACK, WRONG_HANDLE, net_of,
 };
-use afdx_handle::{Handle, Home, LinkCounts, gather_in, give_in, open_home, send, take_port};
+use afdx_handle::{
+    Handle, Home, LinkCounts, Marked, Opening, gather_in, give_in, open_home, send, take_port,
+};
 use std::alloc::Global;
 
-// The answer of `$answer` over what a handle holds, if that is of the variant `$wanted`. The box is taken out
-// meanwhile.
-macro_rules! with_held {
-    ($handle:ident, $wanted:ident($held:ident) not $other:ident => $answer:expr) => {{
+// The answer of `$answer` over the end system that a handle holds. The box is taken out meanwhile.
+macro_rules! with_end {
+    ($handle:expr, $held:ident => $answer:expr) => {{
         let Some(mut home) = $handle.take() else {
             return NOT_HELD;
         };
         let answer = match &mut *home {
-            Home::$wanted($held) => $answer,
-            Home::$other(_) => WRONG_HANDLE,
+            Home::EndSystem(inside) => match &mut **inside {
+                Some($held) => $answer,
+                None => NOT_HELD,
+            },
+            Home::Port(_) => WRONG_HANDLE,
+            Home::Nothing => NOT_HELD,
+        };
+        $handle.put(home);
+        answer
+    }};
+}
+
+// The answer of `$answer` over the port that a handle holds. The box is taken out meanwhile.
+macro_rules! with_port {
+    ($handle:expr, $held:ident => $answer:expr) => {{
+        let Some(mut home) = $handle.take() else {
+            return NOT_HELD;
+        };
+        let answer = match &mut *home {
+            Home::Port(own) => {
+                let $held = &mut own.port;
+                $answer
+            }
+            Home::EndSystem(inside) => match **inside {
+                Some(_) => WRONG_HANDLE,
+                None => NOT_HELD,
+            },
             Home::Nothing => NOT_HELD,
         };
         $handle.put(home);
@@ -41,19 +67,21 @@ macro_rules! with_held {
 
 /// Opens an end system from the text of a configuration.
 #[unsafe(no_mangle)]
-pub extern "C" fn afdx_open(alloc: Global, out: &mut Handle, text: &[u8]) -> u8
-    ensures held { (result ≡ HELD) ↔ IsSome out.old.kept.home }
-    ensures opened { result ≡ DONE → IsSomeAnd (end_of out.new.kept.home) (IsOpened text.now) }
+pub extern "C" fn afdx_open(alloc: Global, out: &mut Opening, text: &[u8]) -> u8
+    ensures held { (result ≡ HELD) ↔ IsSome out.old.handle.kept.home }
+    ensures opened { result ≡ DONE → IsSomeAnd (end_of out.new.handle.kept.home) (IsOpened text.now) }
     ensures fault { result ≢ DONE → result ≢ HELD → (fault : ConfigFault) × (result ≡ fault_number fault)
         × (fault ≢ Memory → IsLeastFault text.now fault) }
-    ensures refused { result ≢ DONE → out.new.kept.home ≡ out.old.kept.home }
+    ensures refused { result ≢ DONE → (out.new.handle.kept.home ≡ out.old.handle.kept.home)
+        × (out.new.mark ≡ out.old.mark) }
 {
-    if !out.is_empty() {
+    if !out.handle.is_empty() {
         return HELD;
     }
     match open_home(alloc, text) {
-        Ok(home) => {
-            out.put(home);
+        Ok((home, mark)) => {
+            out.handle.put(home);
+            out.mark = mark;
             DONE
         }
         Err(fault) => fault.number(),
@@ -62,30 +90,34 @@ pub extern "C" fn afdx_open(alloc: Global, out: &mut Handle, text: &[u8]) -> u8
 
 /// Takes the port with an identifier, once.
 #[unsafe(no_mangle)]
-pub extern "C" fn afdx_port_of(alloc: Global, it: &mut Handle, id: u16, out: &mut Handle) -> u8
+pub extern "C" fn afdx_port_of(alloc: Global, it: &mut Marked, id: u16, out: &mut Marked) -> u8
     ensures answers { IsOneOf result
         (DONE ∷ HELD ∷ NOT_HELD ∷ WRONG_HANDLE ∷ GATHERED ∷ NO_PORT ∷ MEMORY ∷ []) }
-    ensures held { (result ≡ HELD) ↔ IsSome out.old.kept.home }
+    ensures held { (result ≡ HELD) ↔ IsSome out.old.handle.kept.home }
     ensures not_held { (result ≡ NOT_HELD) ↔
-        (IsNone out.old.kept.home × HoldsNothing it.old.kept.home) }
+        (IsNone out.old.handle.kept.home × HoldsNothing it.old.handle.kept.home) }
     ensures wrong_handle { (result ≡ WRONG_HANDLE) ↔
-        (IsNone out.old.kept.home × IsSome (port_of it.old.kept.home)) }
-    ensures gathered { (result ≡ GATHERED) ↔ (IsNone out.old.kept.home
-        × IsSomeAnd (end_of it.old.kept.home) (λ end. end.gathered ≡ true)) }
-    ensures no_port { (result ≡ NO_PORT) ↔ (IsNone out.old.kept.home
-        × IsSomeAnd (end_of it.old.kept.home) (λ end.
+        (IsNone out.old.handle.kept.home × IsSome (port_of it.old.handle.kept.home)) }
+    ensures gathered { (result ≡ GATHERED) ↔ (IsNone out.old.handle.kept.home
+        × IsSomeAnd (end_of it.old.handle.kept.home) (λ end. end.gathered ≡ true)) }
+    ensures no_port { (result ≡ NO_PORT) ↔ (IsNone out.old.handle.kept.home
+        × IsSomeAnd (end_of it.old.handle.kept.home) (λ end.
         (end.gathered ≡ false) × (position (has_id id) end.ports ≡ None))) }
-    ensures taken { result ≡ DONE → IsSomeAnd (port_of out.new.kept.home) (λ port.
-        EndDoes it.old.kept.home it.new.kept.home (λ old new. TakesPort old id port new)) }
-    ensures refused { result ≢ DONE → HoldsSame it.old.kept.home it.new.kept.home }
-    ensures left { result ≢ DONE → out.new.kept.home ≡ out.old.kept.home }
+    ensures taken { result ≡ DONE → IsSomeAnd (port_of out.new.handle.kept.home) (λ port.
+        EndDoes it.old.handle.kept.home it.new.handle.kept.home (λ old new. TakesPort old id port new)) }
+    ensures marked { result ≡ DONE → out.new.mark ≡ it.old.mark }
+    ensures same { it.new.mark ≡ it.old.mark }
+    ensures refused { result ≢ DONE → HoldsSame it.old.handle.kept.home it.new.handle.kept.home }
+    ensures left { result ≢ DONE → (out.new.handle.kept.home ≡ out.old.handle.kept.home)
+        × (out.new.mark ≡ out.old.mark) }
 {
-    if !out.is_empty() {
+    if !out.handle.is_empty() {
         return HELD;
     }
-    with_held!(it, EndSystem(end_system) not Port => match take_port(alloc, end_system, id) {
+    with_end!(it.handle, end_system => match take_port(alloc, end_system, id) {
         Ok(port) => {
-            out.put(port);
+            out.handle.put(port);
+            out.mark = it.mark;
             DONE
         }
         Err(number) => number,
@@ -105,7 +137,7 @@ pub extern "C" fn afdx_send(alloc: Global, port: &mut Handle, message: &[u8]) ->
     ensures unsent { result ≡ MEMORY → HoldsSame port.old.kept.home port.new.kept.home }
     ensures misused { 32 ≤ result → HoldsSame port.old.kept.home port.new.kept.home }
 {
-    with_held!(port, Port(own) not EndSystem => send(alloc, own, message))
+    with_port!(port, own => send(alloc, own, message))
 }
 
 /// How many messages of a port were accepted.
@@ -119,7 +151,7 @@ pub extern "C" fn afdx_accepted(port: &mut Handle, count: &mut u64) -> u8
     ensures same { HoldsSame port.old.kept.home port.new.kept.home }
     ensures unwritten { result ≢ DONE → count.new ≡ count.old }
 {
-    with_held!(port, Port(own) not EndSystem => {
+    with_port!(port, own => {
         *count = own.accepted();
         DONE
     })
@@ -142,7 +174,7 @@ pub extern "C" fn afdx_poll(it: &mut Handle, now: u64, standing: &mut u8) -> u8
     ensures none_stands { result ≡ BOTH_DOWN → standing.new ≡ 0 }
     ensures unwritten { result ≢ DONE → result ≢ BOTH_DOWN → standing.new ≡ standing.old }
 {
-    with_held!(it, EndSystem(end_system) not Port => end_system.poll(now, standing))
+    with_end!(it, end_system => end_system.poll(now, standing))
 }
 
 /// How many frames the last poll made for a network.
@@ -158,7 +190,7 @@ pub extern "C" fn afdx_frames(it: &mut Handle, network: u8, count: &mut usize) -
     ensures same { HoldsSame it.old.kept.home it.new.kept.home }
     ensures unwritten { result ≢ DONE → count.new ≡ count.old }
 {
-    with_held!(it, EndSystem(end_system) not Port => match net_of(network) {
+    with_end!(it, end_system => match net_of(network) {
         Some(net) => {
             *count = end_system.frames(net);
             DONE
@@ -196,7 +228,7 @@ pub extern "C" fn afdx_frame(
     ensures same { HoldsSame it.old.kept.home it.new.kept.home }
     ensures unwritten { result ≢ DONE → (buffer.new ≡ buffer.old) × (size.new ≡ size.old) }
 {
-    with_held!(it, EndSystem(end_system) not Port => match net_of(network) {
+    with_end!(it, end_system => match net_of(network) {
         Some(net) => end_system.frame(net, k, buffer, size),
         None => NO_NETWORK,
     })
@@ -212,7 +244,7 @@ pub extern "C" fn afdx_fail(it: &mut Handle, network: u8) -> u8
         (IsSome (end_of it.old.kept.home) × IsNone (net_of network)) }
     ensures same { HoldsSame it.old.kept.home it.new.kept.home }
 {
-    with_held!(it, EndSystem(end_system) not Port => match net_of(network) {
+    with_end!(it, end_system => match net_of(network) {
         Some(net) => {
             end_system.fail(net);
             DONE
@@ -236,7 +268,7 @@ pub extern "C" fn afdx_close(it: &mut Handle, vl: u16, sub: u8, total: &mut u64)
     ensures refused { result ≢ DONE → HoldsSame it.old.kept.home it.new.kept.home }
     ensures unwritten { result ≢ DONE → total.new ≡ total.old }
 {
-    with_held!(it, EndSystem(end_system) not Port => end_system.close(vl, sub, total))
+    with_end!(it, end_system => end_system.close(vl, sub, total))
 }
 
 /// What was sent of a virtual link so far.
@@ -252,7 +284,7 @@ pub extern "C" fn afdx_link_counts(it: &mut Handle, vl: u16, counts: &mut LinkCo
     ensures same { HoldsSame it.old.kept.home it.new.kept.home }
     ensures unwritten { result ≢ DONE → counts.new ≡ counts.old }
 {
-    with_held!(it, EndSystem(end_system) not Port => match end_system.counts(vl) {
+    with_end!(it, end_system => match end_system.counts(vl) {
         Ok(sent) => {
             *counts = LinkCounts {
                 frames: sent.frames,
@@ -280,7 +312,7 @@ pub extern "C" fn afdx_is_done(it: &mut Handle, done: &mut u8) -> u8
     ensures same { HoldsSame it.old.kept.home it.new.kept.home }
     ensures unwritten { result ≢ DONE → done.new ≡ done.old }
 {
-    with_held!(it, EndSystem(end_system) not Port => end_system.is_done(done))
+    with_end!(it, end_system => end_system.is_done(done))
 }
 
 /// Gives back what belongs to an end system.
@@ -292,7 +324,7 @@ pub extern "C" fn afdx_free(it: &mut Handle) -> u8
     ensures freed { result ≡ DONE → IsNone it.new.kept.home }
     ensures refused { result ≢ DONE → HoldsSame it.old.kept.home it.new.kept.home }
 {
-    let answer = with_held!(it, EndSystem(_end_system) not Port => DONE);
+    let answer = with_end!(it, _end_system => DONE);
     if answer == DONE {
         drop(it.take());
     }
@@ -308,7 +340,7 @@ pub extern "C" fn afdx_free_port(port: &mut Handle) -> u8
     ensures freed { result ≡ DONE → IsNone port.new.kept.home }
     ensures refused { result ≢ DONE → HoldsSame port.old.kept.home port.new.kept.home }
 {
-    let answer = with_held!(port, Port(_own) not EndSystem => DONE);
+    let answer = with_port!(port, _own => DONE);
     if answer == DONE {
         drop(port.take());
     }
@@ -317,38 +349,44 @@ pub extern "C" fn afdx_free_port(port: &mut Handle) -> u8
 
 /// Gives a port back to the end system that it was taken from. Its handle holds nothing then.
 #[unsafe(no_mangle)]
-pub extern "C" fn afdx_give_back(it: &mut Handle, port: &mut Handle) -> u8
-    requires own { (end : EndView) → (own : PortView) → end_of it.old.kept.home ≡ Some end
-        → port_of port.old.kept.home ≡ Some own → end.gathered ≡ false → IsPortOfTx end.tx own }
+pub extern "C" fn afdx_give_back(it: &mut Marked, port: &mut Marked) -> u8
+    // Two handles with one mark are of one end system: a mark is the address of a block that the end system
+    // and each of its ports own.
+    requires own { (end : EndView) → (own : PortView) → end_of it.old.handle.kept.home ≡ Some end
+        → port_of port.old.handle.kept.home ≡ Some own → it.old.mark ≡ port.old.mark
+        → end.gathered ≡ false → IsPortOfTx end.tx own }
     ensures answers { IsOneOf result (DONE ∷ NOT_HELD ∷ WRONG_HANDLE ∷ GATHERED ∷ NO_PORT ∷ []) }
     ensures not_held { (result ≡ NOT_HELD) ↔
-        (HoldsNothing it.old.kept.home ⊎ HoldsNothing port.old.kept.home) }
+        (HoldsNothing it.old.handle.kept.home ⊎ HoldsNothing port.old.handle.kept.home) }
     ensures wrong_handle { (result ≡ WRONG_HANDLE) ↔
-        ((IsSome (port_of it.old.kept.home) × HoldsOne port.old.kept.home)
-        ⊎ (IsSome (end_of it.old.kept.home) × IsSome (end_of port.old.kept.home))) }
-    ensures foreign { result ≡ NO_PORT → IsSomeAnd (end_of it.old.kept.home) (λ end.
-        end.room ≡ length end.ports) }
-    ensures gathered { (result ≡ GATHERED) ↔ (IsSome (port_of port.old.kept.home)
-        × IsSomeAnd (end_of it.old.kept.home) (λ end. end.gathered ≡ true)) }
-    ensures given { result ≡ DONE → IsSomeAnd (port_of port.old.kept.home) (λ own.
-        EndDoes it.old.kept.home it.new.kept.home (λ old new. GivesBack old own new)) }
-    ensures none { result ≡ DONE → port.new.kept.home ≡ None }
-    ensures refused { result ≢ DONE → HoldsSame it.old.kept.home it.new.kept.home }
-    ensures kept { result ≢ DONE → HoldsSame port.old.kept.home port.new.kept.home }
+        ((IsSome (port_of it.old.handle.kept.home) × HoldsOne port.old.handle.kept.home)
+        ⊎ (IsSome (end_of it.old.handle.kept.home) × IsSome (end_of port.old.handle.kept.home))) }
+    ensures no_port { (result ≡ NO_PORT) ↔ (IsSome (port_of port.old.handle.kept.home)
+        × IsSomeAnd (end_of it.old.handle.kept.home) (λ end. (end.gathered ≡ false)
+        × ((it.old.mark ≢ port.old.mark) ⊎ (end.room ≡ length end.ports)))) }
+    ensures gathered { (result ≡ GATHERED) ↔ (IsSome (port_of port.old.handle.kept.home)
+        × IsSomeAnd (end_of it.old.handle.kept.home) (λ end. end.gathered ≡ true)) }
+    ensures given { result ≡ DONE → IsSomeAnd (port_of port.old.handle.kept.home) (λ own.
+        EndDoes it.old.handle.kept.home it.new.handle.kept.home (λ old new. GivesBack old own new)) }
+    ensures none { result ≡ DONE → port.new.handle.kept.home ≡ None }
+    ensures refused { result ≢ DONE → HoldsSame it.old.handle.kept.home it.new.handle.kept.home }
+    ensures kept { result ≢ DONE → HoldsSame port.old.handle.kept.home port.new.handle.kept.home }
+    ensures marks { (it.new.mark ≡ it.old.mark) × (port.new.mark ≡ port.old.mark) }
 {
-    let Some(mut home) = it.take() else {
+    let own = it.mark == port.mark;
+    let Some(mut home) = it.handle.take() else {
         return NOT_HELD;
     };
-    let Some(mut theirs) = port.take() else {
-        it.put(home);
+    let Some(mut theirs) = port.handle.take() else {
+        it.handle.put(home);
         return NOT_HELD;
     };
-    let answer = give_in(&mut home, &mut theirs);
-    it.put(home);
+    let answer = give_in(&mut home, &mut theirs, own);
+    it.handle.put(home);
     if answer == DONE {
         drop(theirs);
     } else {
-        port.put(theirs);
+        port.handle.put(theirs);
     }
     answer
 }

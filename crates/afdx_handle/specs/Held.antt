@@ -8,7 +8,7 @@ use Rattle.afdx_handle.specs.declared.home.Home.TheVariants as is
 -- the end system
 abbrev pub end_of : Option Home → Option EndView
 end_of None = None
-end_of (Some (is.EndSystem it)) = Some it
+end_of (Some (is.EndSystem it)) = it.value
 end_of (Some (is.Port port)) = None
 end_of (Some is.Nothing) = None
 
@@ -16,7 +16,7 @@ end_of (Some is.Nothing) = None
 abbrev pub port_of : Option Home → Option PortView
 port_of None = None
 port_of (Some (is.EndSystem it)) = None
-port_of (Some (is.Port port)) = Some port
+port_of (Some (is.Port own)) = Some own.port
 port_of (Some is.Nothing) = None
 
 -- neither

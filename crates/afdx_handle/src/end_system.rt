@@ -24,13 +24,16 @@ pub struct Side {
     pub fails: Arc<AtomicBool, Global>,
 }
 
-/// An end system: its emitter, the ports that are here, and what is kept of its networks.
+/// An end system: its emitter, the ports that are here, what is kept of its networks, and the block whose
+/// address is its mark. Each port that is out owns that block too, so no other mark is the same as long as
+/// the end system or one of its ports is there.
 #[derive(Drop)]
 pub struct EndSystem {
     pub stage: Stage,
     pub ports: Vec<TxPort>,
     pub a: Side,
     pub b: Side,
+    pub mark: Arc<u8, Global>,
 }
 
 impl Model for EndSystem {

@@ -17,6 +17,24 @@ pub struct Handle {
     ghost something: { 0 < held → IsSome kept.home },
 }
 
+/// A handle with the mark of the end system that it holds, or of whose ports it holds one, as C has it: the
+/// address of a block as a number. Without what `Handle` holds the mark says nothing.
+#[repr(C)]
+#[derive(Drop)]
+pub struct Marked {
+    pub handle: Handle,
+    pub mark: u64,
+}
+
+/// The same handle where it is filled with an end system: there the mark is written as the address that it
+/// is, which no code here can read as a number.
+#[repr(C)]
+#[derive(Drop)]
+pub struct Opening {
+    pub handle: Handle,
+    pub mark: *const u8,
+}
+
 impl Handle {
     /// Whether it holds nothing.
     pub fn is_empty(&self) -> bool

@@ -13,8 +13,8 @@ mod stage;
 
 pub use answer::LinkCounts;
 pub use end_system::{EndSystem, Side};
-pub use handle::Handle;
-pub use home::Home;
+pub use handle::{Handle, Marked, Opening};
+pub use home::{Home, OwnPort};
 pub use opening::open_home;
 pub use ports::{gather_in, give_in, send, take_port};
 pub use seal::Sealed;

@@ -27,12 +27,10 @@ fn make_outbox(alloc: Global) -> Result<(Outbox, Side), AllocError>
     Ok((outbox, Side { before: 0, fails }))
 }
 
-/// What a handle of an end system of a configuration owns, with all its ports. It makes all the room that
-/// polling, closing and gathering take. Refused with the fault of the least number, or with `Memory` if an
-/// allocation fails.
-pub fn open_home(alloc: Global, text: &[u8]) -> Result<Box<Home>, ConfigFault>
-    ensures opened { IfOk result (λ home.
-        IsSomeAnd (end_of (Some home.value)) (IsOpened text.now)) }
+/// An end system of a configuration, with all its ports. It makes all the room that polling, closing and
+/// gathering take. Refused with the fault of the least number, or with `Memory` if an allocation fails.
+fn open_end(alloc: Global, text: &[u8]) -> Result<EndSystem, ConfigFault>
+    ensures opened { IfOk result (IsOpened text.now) }
     ensures fault { IfErr result (λ fault.
         fault ≢ ConfigFault.Memory → IsLeastFault text.now fault) }
 {
@@ -46,10 +44,34 @@ pub fn open_home(alloc: Global, text: &[u8]) -> Result<Box<Home>, ConfigFault>
     let Ok((emitter, ports, _monitor)) = open_tx(alloc, config, outbox_a, outbox_b) else {
         return Err(ConfigFault::Memory);
     };
+    let Ok(mark) = Arc::new(alloc, 0) else {
+        return Err(ConfigFault::Memory);
+    };
     let stage = Stage::Sending(emitter);
-    let end_system = EndSystem { stage, ports, a, b };
-    match Box::new(alloc, Home::EndSystem(end_system)).ok() {
-        Some(home) => Ok(home),
+    Ok(EndSystem {
+        stage,
+        ports,
+        a,
+        b,
+        mark,
+    })
+}
+
+/// What a handle of an end system of a configuration owns, and the mark of the end system. Refused as
+/// `open_end` is.
+pub fn open_home(alloc: Global, text: &[u8]) -> Result<(Box<Home>, *const u8), ConfigFault>
+    ensures opened { IfOk result (λ made.
+        IsSomeAnd (end_of (Some made.0.value)) (IsOpened text.now)) }
+    ensures fault { IfErr result (λ fault.
+        fault ≢ ConfigFault.Memory → IsLeastFault text.now fault) }
+{
+    let end_system = open_end(alloc, text)?;
+    let mark = Arc::as_ptr(&end_system.mark);
+    let Some(boxed) = Box::new(alloc, Some(end_system)).ok() else {
+        return Err(ConfigFault::Memory);
+    };
+    match Box::new(alloc, Home::EndSystem(boxed)).ok() {
+        Some(home) => Ok((home, mark)),
         None => Err(ConfigFault::Memory),
     }
 }

@@ -1,5 +1,5 @@
 //! The ports of an end system: a message sent, and ports taken out, given back and gathered.
-ghost use Rattle.std.specs.Prelude.{◌≡◌, ◌≢◌, ◌≤◌, ◌<◌, ◌⊎◌, ◌↔◌, ◌++◌, [], ◌∷◌, Option, Some, None, true, false, length, position, IfOk, IfErr, OnOk, OnErr, IsSome, IsSomeAnd};
+ghost use Rattle.std.specs.Prelude.{◌≡◌, ◌≢◌, ◌≤◌, ◌<◌, ◌⊎◌, ◌↔◌, ◌++◌, [], ◌∷◌, Option, Some, None, true, false, length, position, IfOk, IfErr, OnOk, OnErr, IsSome, IsSomeAnd, MatchBool};
 ghost use Rattle.afdx_tx.specs.Ports.{PortView, Accepts, Refuses, IsPortOfTx, LacksPlace};
 ghost use Rattle.afdx_tx.specs.declared.fault.Refusal.{Refusal};
 ghost use Rattle.afdx_handle.specs.EndSystem.{EndView, has_id, TakesPort, GivesBack, GathersEnd};
@@ -10,11 +10,12 @@ use crate::answer::{
     DONE, GATHERED, MEMORY, NO_PORT, NOT_HELD, PORT_MISSING, WRONG_HANDLE, refusal_number,
 };
 use crate::end_system::EndSystem;
-use crate::home::Home;
+use crate::home::{Home, OwnPort};
 use crate::stage::Stage;
 use afdx_tx::TxPort;
 use std::alloc::Global;
 use std::mem;
+use std::sync::Arc;
 
 /// Copies a message in. `MEMORY` where memory for the copy was refused; then the port is as it was. Or the
 /// number of the refusal.
@@ -49,22 +50,26 @@ fn take_at(it: &mut EndSystem, id: u16, at: usize) -> TxPort
     it.ports.swap_remove(at)
 }
 
-/// Puts a port to those that are here. Handed back where the ports were gathered, or where there is room
-/// for no port more, so that it isn't of this end system: then nothing has changed. It asks for no memory.
-fn give_back(it: &mut EndSystem, port: TxPort) -> Result<(), (TxPort, u8)>
-    requires { it.old.gathered ≡ false → IsPortOfTx it.old.tx port }
+/// Puts a port to those that are here. Handed back where the ports were gathered, or where it isn't one of
+/// this end system, as its mark tells, or there is room for no port more: then nothing has changed. It asks
+/// for no memory.
+fn give_back(it: &mut EndSystem, port: TxPort, own: bool) -> Result<(), (TxPort, u8)>
+    requires { own ≡ true → it.old.gathered ≡ false → IsPortOfTx it.old.tx port }
     ensures given { OnOk result (GivesBack it.old port it.new) }
     ensures refused { OnErr result (it.new ≡ it.old) }
     ensures back { IfErr result (λ refused. refused.0 ≡ port) }
     ensures gathered { IfErr result (λ refused. (refused.1 ≡ GATHERED) ↔ (it.old.gathered ≡ true)) }
     ensures not_gathered { OnOk result (it.old.gathered ≡ false) }
-    ensures foreign { IfErr result (λ refused. (refused.1 ≡ NO_PORT) → (it.old.room ≡ length it.old.ports)) }
+    ensures own { OnOk result (own ≡ true) }
+    ensures room { OnOk result (it.old.room ≢ length it.old.ports) }
+    ensures no_port { IfErr result (λ refused. (refused.1 ≡ NO_PORT) →
+        ((own ≡ false) ⊎ (it.old.room ≡ length it.old.ports))) }
     ensures answers { IfErr result (λ refused. (refused.1 ≡ GATHERED) ⊎ (refused.1 ≡ NO_PORT)) }
 {
     if let Stage::Draining(_) = &it.stage {
         return Err((port, GATHERED));
     }
-    if it.ports.len() == it.ports.capacity() {
+    if !own || it.ports.len() == it.ports.capacity() {
         return Err((port, NO_PORT));
     }
     match it.ports.push(port) {
@@ -83,21 +88,48 @@ fn gather(alloc: Global, it: EndSystem) -> (EndSystem, u8)
     ensures gathers { result.1 ≡ DONE → GathersEnd it result.0 }
     ensures refused { result.1 ≢ DONE → result.0 ≡ it }
 {
-    let EndSystem { stage, ports, a, b } = it;
+    let EndSystem {
+        stage,
+        ports,
+        a,
+        b,
+        mark,
+    } = it;
     match stage {
         Stage::Draining(draining) => {
             let stage = Stage::Draining(draining);
-            (EndSystem { stage, ports, a, b }, GATHERED)
+            let same = EndSystem {
+                stage,
+                ports,
+                a,
+                b,
+                mark,
+            };
+            (same, GATHERED)
         }
         Stage::Sending(emitter) => match emitter.gather(ports) {
             Ok(draining) => {
                 let stage = Stage::Draining(draining);
                 let ports = Vec::new(alloc);
-                (EndSystem { stage, ports, a, b }, DONE)
+                let gathered = EndSystem {
+                    stage,
+                    ports,
+                    a,
+                    b,
+                    mark,
+                };
+                (gathered, DONE)
             }
             Err((emitter, ports)) => {
                 let stage = Stage::Sending(emitter);
-                (EndSystem { stage, ports, a, b }, PORT_MISSING)
+                let same = EndSystem {
+                    stage,
+                    ports,
+                    a,
+                    b,
+                    mark,
+                };
+                (same, PORT_MISSING)
             }
         },
     }
@@ -135,55 +167,100 @@ pub fn take_port(alloc: Global, it: &mut EndSystem, id: u16) -> Result<Box<Home>
     let Some(mut home) = Box::new(alloc, Home::Nothing).ok() else {
         return Err(MEMORY);
     };
-    fill(&mut home, Home::Port(take_at(it, id, at)));
+    let Ok(mark) = Arc::try_clone(&it.mark) else {
+        return Err(MEMORY);
+    };
+    let port = take_at(it, id, at);
+    fill(&mut home, Home::Port(OwnPort { port, mark }));
     Ok(home)
+}
+
+/// Whether a home is nothing.
+fn is_nothing(home: &Home) -> bool
+    ensures { MatchBool result (HoldsNothing (Some home.now)) (HoldsOne (Some home.now)) }
+{
+    match home {
+        Home::EndSystem(inside) => inside.is_none(),
+        Home::Port(_) => false,
+        Home::Nothing => true,
+    }
+}
+
+/// Puts the port that a home is to the ports of an end system; the home is nothing then. `NOT_HELD` where
+/// it is nothing, `WRONG_HANDLE` where it is an end system, and the numbers of `give_back`: then nothing
+/// has changed.
+fn give_to(it: &mut EndSystem, theirs: &mut Home, own: bool) -> u8
+    requires own { (port : PortView) → port_of (Some theirs.old) ≡ Some port → own ≡ true
+        → it.old.gathered ≡ false → IsPortOfTx it.old.tx port }
+    ensures not_held { (result ≡ NOT_HELD) ↔ HoldsNothing (Some theirs.old) }
+    ensures wrong_handle { (result ≡ WRONG_HANDLE) ↔ IsSome (end_of (Some theirs.old)) }
+    ensures no_port { (result ≡ NO_PORT) ↔ (IsSome (port_of (Some theirs.old))
+        × (it.old.gathered ≡ false) × ((own ≡ false) ⊎ (it.old.room ≡ length it.old.ports))) }
+    ensures answers { IsOneOf result
+        (DONE ∷ NOT_HELD ∷ WRONG_HANDLE ∷ GATHERED ∷ NO_PORT ∷ []) }
+    ensures gathered { (result ≡ GATHERED) ↔
+        (IsSome (port_of (Some theirs.old)) × (it.old.gathered ≡ true)) }
+    ensures given { result ≡ DONE →
+        IsSomeAnd (port_of (Some theirs.old)) (λ port. GivesBack it.old port it.new) }
+    ensures refused { result ≢ DONE → it.new ≡ it.old }
+    ensures kept { result ≢ DONE → HoldsSame (Some theirs.old) (Some theirs.new) }
+{
+    if is_nothing(theirs) {
+        return NOT_HELD;
+    }
+    match mem::replace(theirs, Home::Nothing) {
+        Home::Port(OwnPort { port, mark }) => match give_back(it, port, own) {
+            Ok(()) => DONE,
+            Err((port, number)) => {
+                fill(theirs, Home::Port(OwnPort { port, mark }));
+                number
+            }
+        },
+        other => {
+            fill(theirs, other);
+            WRONG_HANDLE
+        }
+    }
 }
 
 /// Puts the port that a home is to the ports of the end system that another is; that home is nothing then.
 /// `NOT_HELD` where one of them is nothing, `WRONG_HANDLE` where one is of the other kind, `GATHERED` where
-/// the ports were gathered, and `NO_PORT` where there is room for no port more, so that it isn't of this
-/// end system: then nothing has changed.
-pub fn give_in(home: &mut Home, theirs: &mut Home) -> u8
-    requires own { (end : EndView) → (own : PortView) → end_of (Some home.old) ≡ Some end
-        → port_of (Some theirs.old) ≡ Some own → end.gathered ≡ false → IsPortOfTx end.tx own }
+/// the ports were gathered, and `NO_PORT` where it isn't one of this end system, as its mark tells, or there
+/// is room for no port more: then nothing has changed.
+pub fn give_in(home: &mut Home, theirs: &mut Home, own: bool) -> u8
+    requires own { (end : EndView) → (port : PortView) → end_of (Some home.old) ≡ Some end
+        → port_of (Some theirs.old) ≡ Some port → own ≡ true → end.gathered ≡ false
+        → IsPortOfTx end.tx port }
     ensures not_held { (result ≡ NOT_HELD) ↔
         (HoldsNothing (Some home.old) ⊎ HoldsNothing (Some theirs.old)) }
     ensures wrong_handle { (result ≡ WRONG_HANDLE) ↔
         ((IsSome (port_of (Some home.old)) × HoldsOne (Some theirs.old))
         ⊎ (IsSome (end_of (Some home.old)) × IsSome (end_of (Some theirs.old)))) }
-    ensures foreign { result ≡ NO_PORT → IsSomeAnd (end_of (Some home.old)) (λ end.
-        end.room ≡ length end.ports) }
+    ensures no_port { (result ≡ NO_PORT) ↔ (IsSome (port_of (Some theirs.old))
+        × IsSomeAnd (end_of (Some home.old)) (λ end. (end.gathered ≡ false)
+        × ((own ≡ false) ⊎ (end.room ≡ length end.ports)))) }
     ensures answers { IsOneOf result
         (DONE ∷ NOT_HELD ∷ WRONG_HANDLE ∷ GATHERED ∷ NO_PORT ∷ []) }
     ensures gathered { (result ≡ GATHERED) ↔ (IsSome (port_of (Some theirs.old))
         × IsSomeAnd (end_of (Some home.old)) (λ end. end.gathered ≡ true)) }
-    ensures given { result ≡ DONE → IsSomeAnd (port_of (Some theirs.old)) (λ own.
-        EndDoes (Some home.old) (Some home.new) (λ old new. GivesBack old own new)) }
+    ensures given { result ≡ DONE → IsSomeAnd (port_of (Some theirs.old)) (λ port.
+        EndDoes (Some home.old) (Some home.new) (λ old new. GivesBack old port new)) }
     ensures refused { result ≢ DONE → HoldsSame (Some home.old) (Some home.new) }
     ensures kept { result ≢ DONE → HoldsSame (Some theirs.old) (Some theirs.new) }
 {
-    if let Home::Nothing = home {
-        return NOT_HELD;
-    }
-    match mem::replace(theirs, Home::Nothing) {
-        Home::Nothing => NOT_HELD,
-        Home::EndSystem(end_system) => {
-            fill(theirs, Home::EndSystem(end_system));
-            WRONG_HANDLE
-        }
-        Home::Port(port) => {
-            let Home::EndSystem(end_system) = home else {
-                fill(theirs, Home::Port(port));
-                return WRONG_HANDLE;
-            };
-            match give_back(end_system, port) {
-                Ok(()) => DONE,
-                Err((port, number)) => {
-                    fill(theirs, Home::Port(port));
-                    number
-                }
+    match home {
+        Home::EndSystem(inside) => match &mut **inside {
+            Some(end_system) => give_to(end_system, theirs, own),
+            None => NOT_HELD,
+        },
+        Home::Port(_) => {
+            if is_nothing(theirs) {
+                NOT_HELD
+            } else {
+                WRONG_HANDLE
             }
         }
+        Home::Nothing => NOT_HELD,
     }
 }
 
@@ -202,16 +279,15 @@ pub fn gather_in(alloc: Global, home: &mut Home) -> u8
     ensures gathers { result ≡ DONE → EndDoes (Some home.old) (Some home.new) GathersEnd }
     ensures refused { result ≢ DONE → HoldsSame (Some home.old) (Some home.new) }
 {
-    match mem::replace(home, Home::Nothing) {
-        Home::EndSystem(end_system) => {
-            let (gathered, answer) = gather(alloc, end_system);
-            fill(home, Home::EndSystem(gathered));
-            answer
-        }
-        Home::Port(port) => {
-            fill(home, Home::Port(port));
-            WRONG_HANDLE
-        }
-        Home::Nothing => NOT_HELD,
-    }
+    let inside = match home {
+        Home::EndSystem(inside) => inside,
+        Home::Port(_) => return WRONG_HANDLE,
+        Home::Nothing => return NOT_HELD,
+    };
+    let Some(end_system) = mem::replace(&mut **inside, None) else {
+        return NOT_HELD;
+    };
+    let (gathered, answer) = gather(alloc, end_system);
+    drop(mem::replace(&mut **inside, Some(gathered)));
+    answer
 }

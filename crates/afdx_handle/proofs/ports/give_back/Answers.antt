@@ -1,4 +1,4 @@
-use Rattle.afdx_handle.proofs.Names.{◌≡◌, ◌∙◌, ap, sym, subst, false, vec_capacity, PortView, IsPortOfTx, EndView}
+use Rattle.afdx_handle.proofs.Names.{◌≡◌, ◌∙◌, ap, sym, subst, true, false, rules, vec_capacity, PortView, IsPortOfTx, EndView}
 use Rattle.afdx_handle.proofs.Names.{the_view}
 use Rattle.std.proofs.Common.{List, [], ◌∷◌, ◌++◌}
 use Rattle.afdx_handle.proofs.EndPorts.{gives_kept}
@@ -6,8 +6,9 @@ use Rattle.afdx_handle.proofs.ports.give_back.Goals as goal
 
 pub invariant_of-it : goal.invariant_of-it
 invariant_of-it c =
+    let own : c.args.own ≡ true = search rules in
     gives_kept (the_view c.it.inside) c.push.new.self.items (vec_capacity c.push.new.self) c.args.port c.it.invariant
-    (subst (λ (it : EndView). it.gathered ≡ false → IsPortOfTx it.tx c.args.port) (sym c.it.view_is) c.requires)
+    (subst (λ (it : EndView). it.gathered ≡ false → IsPortOfTx it.tx c.args.port) (sym c.it.view_is) (c.requires own))
     c.in-Ok.ensures.items
 
 pub returns-clause-given : goal.returns-clause-given

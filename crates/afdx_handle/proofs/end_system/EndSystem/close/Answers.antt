@@ -1,10 +1,31 @@
-use Rattle.afdx_handle.proofs.Names.{rules}
+use Rattle.afdx_handle.proofs.Names.{◌≡◌, ◌∙◌, ap, sym, subst, false, rules, vec_capacity, Stage, is_gathered, tx_of}
+use Rattle.afdx_handle.proofs.Names.{EndView, end_view}
+use Rattle.std.specs.Prelude.{◌↔◌}
+use Rattle.afdx_tx.specs.Closing.{LacksSub}
+use Rattle.afdx_handle.specs.EndSystem.{ClosesEnd}
+use Rattle.afdx_handle.proofs.end_system.EndSystem.close.Goals.{in-Ok, in-Err, Joined-close}
 use Rattle.afdx_handle.proofs.end_system.EndSystem.close.Goals as goal
 
--- at half of its limits the search proves this only where it is asked for it
-pub returns-clause-no_sub : goal.returns-clause-no_sub
-returns-clause-no_sub c = search rules
+-- the end system before the call, whose stage is known
+sends : (c : Joined-close) → end_view false c.in-Sending.emitter c.self.inside.ports.items (vec_capacity c.self.inside.ports) c.self.inside.a.before c.self.inside.b.before ≡ c.args.self.now
+sends c =
+    let own = c.self.inside in
+    ap (λ (stage : Stage). end_view (is_gathered stage) (tx_of stage) own.ports.items (vec_capacity own.ports) own.a.before own.b.before)
+    (sym c.in-Sending.is) ∙ c.self.view_is
 
--- at half of its limits the search proves this only where it is asked for it
+pub returns-clause-no_sub : goal.returns-clause-no_sub
+returns-clause-no_sub c =
+    subst (λ (it : EndView). (c.match-close.result ≡ 37) ↔ ((it.gathered ≡ false) × LacksSub it.tx.plan c.args.vl c.args.sub)) (sends c)
+    (elim c.match-close.branch [
+      | in-Ok w ↦ search rules
+      | in-Err w ↦ search rules
+    ])
+
 pub returns-clause-closed : goal.returns-clause-closed
-returns-clause-closed c = search rules
+returns-clause-closed c =
+    subst (λ (it : EndView). c.match-close.result ≡ 0 → ClosesEnd it c.args.vl c.args.sub c.match-close.total
+    (end_view false c.close.new.self c.self.inside.ports.items (vec_capacity c.self.inside.ports) c.self.inside.a.before c.self.inside.b.before)) (sends c)
+    (elim c.match-close.branch [
+      | in-Ok w ↦ search rules
+      | in-Err w ↦ search rules
+    ])

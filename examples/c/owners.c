@@ -1,0 +1,178 @@
+/* What two end systems side by side, no bytes at all and the allocator show of the calls of afdx.h: a port is given back
+   to its own end system alone, NULL is legal for 0 bytes, and an end system asks for as much memory as
+   docs/c-library.md says.
+
+   tools/c_library.py builds and runs it. Requests for memory go through `__wrap_malloc` and its kin below (by the
+   linker's --wrap), which count their bytes. A failed check is told by its line; the last line is 'N passed, M failed'. */
+#include "afdx.h"
+
+#include <stdbool.h>
+#include <stdio.h>
+#include <stdlib.h>
+#include <string.h>
+
+static unsigned passed, failed;
+
+static void check(bool holds, int line, const char *what) {
+    if (!holds) printf("line %d: %s\n", line, what);
+    *(holds ? &passed : &failed) += 1;
+}
+
+#define CHECK(holds) check((holds), __LINE__, #holds)
+
+/* Memory: the bytes and the blocks that are out, the most bytes that were, and how often a block was asked for. */
+static size_t bytes, most, blocks, requests;
+
+enum { HEAD = 16 };
+
+void *__real_realloc(void *old, size_t size);
+void __real_free(void *block);
+
+/* Each block has its size in front of it. */
+void *__wrap_realloc(void *old, size_t size) {
+    unsigned char *block = old == NULL ? NULL : (unsigned char *)old - HEAD;
+    size_t before = 0;
+    if (block != NULL) memcpy(&before, block, sizeof before);
+    unsigned char *new = __real_realloc(block, size + HEAD);
+    if (new == NULL) return NULL;
+    memcpy(new, &size, sizeof size);
+    requests++;
+    blocks += block == NULL;
+    bytes += size - before;
+    if (bytes > most) most = bytes;
+    return new + HEAD;
+}
+
+void *__wrap_malloc(size_t size) { return __wrap_realloc(NULL, size); }
+
+void __wrap_free(void *block) {
+    if (block == NULL) return;
+    size_t before = 0;
+    memcpy(&before, (unsigned char *)block - HEAD, sizeof before);
+    bytes -= before;
+    blocks--;
+    __real_free((unsigned char *)block - HEAD);
+}
+
+/* The text of a plan of so many links, each of so many sub-VLs with queues of this capacity, and `each` ports to a
+   sub-VL. */
+static const char *plan(int links, int sub_vls, int capacity, int each) {
+    static char text[64000];
+    int end = snprintf(text, sizeof text, "version = 2\n[end_system]\nid = 7\n");
+    for (int k = 0; k < links; k++)
+        end += snprintf(text + end, sizeof text - (size_t)end, "[[vl]]\nid = %d\nbag_ms = 1\nlmax = 1518\nsub_vls = %d\ncapacity = %d\n",
+            900 - k, sub_vls, capacity);
+    for (int k = 0; k < links * sub_vls * each; k++)
+        end += snprintf(text + end, sizeof text - (size_t)end,
+            "[[port]]\nid = %d\nvl = %d\nsub = %d\npartition = 1\nkind = \"queuing\"\nsource = %d\ndestination = 2\nmax = 8192\n", k,
+            900 - k / each / sub_vls, k / each % sub_vls, 1000 + k);
+    return text;
+}
+
+static void open_plan(afdx_end_system *it, const char *text) {
+    CHECK(afdx_open(it, (const uint8_t *)text, strlen(text)) == AFDX_OK && it->held && it->mark != 0);
+}
+
+static uint64_t accepted(afdx_port *port) {
+    uint64_t count = 77;
+    CHECK(afdx_accepted(port, &count) == AFDX_OK);
+    return count;
+}
+
+/* Two end systems of one text, each with a port out at each place: only its own comes back. */
+static void check_owners(void) {
+    afdx_end_system one = {0}, two = {0};
+    afdx_port ports[2] = {{0}}, others[2] = {{0}};
+    uint8_t done = 7;
+    open_plan(&one, plan(1, 2, 2, 1));
+    open_plan(&two, plan(1, 2, 2, 1));
+    CHECK(one.mark != two.mark);
+    for (uint16_t k = 0; k < 2; k++) {
+        CHECK(afdx_port_of(&one, k, &ports[k]) == AFDX_OK && ports[k].mark == one.mark);
+        CHECK(afdx_port_of(&two, k, &others[k]) == AFDX_OK && others[k].mark == two.mark);
+        CHECK(afdx_send(&ports[k], (const uint8_t *)"one", 3) == AFDX_OK && afdx_send(&others[k], (const uint8_t *)"two!", 4) == AFDX_OK);
+    }
+    for (int k = 0; k < 2; k++) {
+        afdx_port before = others[k];
+        CHECK(afdx_give_back(&one, &others[k]) == AFDX_NO_PORT && memcmp(&before, &others[k], sizeof before) == 0);
+        CHECK(accepted(&others[k]) == 1 && afdx_send(&others[k], (const uint8_t *)"2", 1) == AFDX_OK);
+        CHECK(afdx_gather(&one) == AFDX_PORT_MISSING);
+        CHECK(afdx_give_back(&one, &ports[k]) == AFDX_OK && !ports[k].held);
+        CHECK(afdx_give_back(&one, &ports[k]) == AFDX_NOT_HELD);
+    }
+    CHECK(afdx_gather(&one) == AFDX_OK && afdx_is_done(&one, &done) == AFDX_OK && done == 0);
+    CHECK(afdx_give_back(&one, &others[0]) == AFDX_GATHERED && others[0].held);
+    /* a port whose end system is freed is that of no other, wherever that lies */
+    CHECK(afdx_free(&two) == AFDX_OK);
+    for (int times = 0; times < 20; times++) {
+        afdx_end_system three = {0};
+        open_plan(&three, plan(1, 2, 2, 1));
+        CHECK(three.mark != others[0].mark && afdx_give_back(&three, &others[0]) == AFDX_NO_PORT && others[0].held);
+        CHECK(afdx_free(&three) == AFDX_OK);
+    }
+    for (int k = 0; k < 2; k++) CHECK(afdx_free_port(&others[k]) == AFDX_OK);
+    CHECK(afdx_free(&one) == AFDX_OK && blocks == 0);
+}
+
+/* NULL where there are no bytes. */
+static void check_null(void) {
+    afdx_end_system it = {0};
+    afdx_port port = {0};
+    uint8_t standing = 7;
+    size_t length = 7;
+    CHECK(afdx_open(&it, NULL, 0) == AFDX_CONFIG_MISSING_KEY && !it.held);
+    open_plan(&it, plan(1, 1, 2, 1));
+    CHECK(afdx_port_of(&it, 0, &port) == AFDX_OK);
+    CHECK(afdx_send(&port, NULL, 0) == AFDX_EMPTY && accepted(&port) == 0);
+    CHECK(afdx_send(&port, (const uint8_t *)"x", 1) == AFDX_OK && afdx_poll(&it, 0, &standing) == AFDX_OK);
+    CHECK(afdx_frame(&it, AFDX_A, 0, NULL, 0, &length) == AFDX_SMALL_BUFFER && length == 7);
+    CHECK(afdx_frame(&it, AFDX_A, 1, NULL, 0, &length) == AFDX_NO_FRAME && length == 7);
+    CHECK(afdx_free_port(&port) == AFDX_OK && afdx_free(&it) == AFDX_OK && blocks == 0);
+}
+
+/* The room of a list of so many that has grown one by one. */
+static size_t room(size_t many) {
+    size_t room = many == 0 ? 0 : 4;
+    while (room < many) room *= 2;
+    return room;
+}
+
+/* What an end system holds from afdx_open to afdx_free, in bytes: docs/c-library.md has this formula. */
+static size_t formula(size_t links, size_t sub_vls, size_t capacity, size_t each) {
+    size_t ports = links * sub_vls * each;
+    size_t of_sub_vl = 296 + 48 * capacity + 32 * room(each);
+    return 200088 + 272 * links + 24 * room(links) + 80 * ports + 32 * room(ports) + links * sub_vls * of_sub_vl;
+}
+
+static void check_memory(void) {
+    static const int rows[][4] = {{1, 1, 1, 1}, {1, 1, 2, 1}, {1, 1, 1, 2}, {1, 2, 1, 1},
+                                  {2, 1, 1, 1}, {64, 4, 256, 1}, {8, 2, 10, 4}, {1, 1, 256, 64}, {5, 3, 7, 5}};
+    for (size_t k = 0; k < sizeof rows / sizeof *rows; k++) {
+        const int *row = rows[k];
+        afdx_end_system it = {0};
+        afdx_port port = {0};
+        uint8_t standing, frame[AFDX_GREATEST_FRAME], message[8192] = {1};
+        size_t length = 0, wanted = formula((size_t)row[0], (size_t)row[1], (size_t)row[2], (size_t)row[3]);
+        const char *text = plan(row[0], row[1], row[2], row[3]);
+        most = bytes;
+        open_plan(&it, text);
+        CHECK(bytes == wanted);
+        CHECK(most == wanted || most < 60 * strlen(text));
+        CHECK(afdx_port_of(&it, 0, &port) == AFDX_OK && bytes == wanted + 96);
+        CHECK(afdx_send(&port, message, sizeof message) == AFDX_OK && bytes == wanted + 96 + sizeof message);
+        /* from here on nothing is asked for */
+        size_t asked = requests;
+        for (uint64_t now = 0; now < 10000; now += 1000) CHECK(afdx_poll(&it, now, &standing) == AFDX_OK);
+        CHECK(afdx_frame(&it, AFDX_A, 0, frame, sizeof frame, &length) == AFDX_NO_FRAME);
+        CHECK(afdx_give_back(&it, &port) == AFDX_OK && afdx_gather(&it) == AFDX_OK && requests == asked);
+        CHECK(afdx_free(&it) == AFDX_OK && blocks == 0 && bytes == 0);
+    }
+}
+
+int main(void) {
+    check_owners();
+    check_null();
+    check_memory();
+    printf("%u passed, %u failed\n", passed, failed);
+    return failed != 0;
+}
