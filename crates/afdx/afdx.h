@@ -74,6 +74,10 @@ enum { AFDX_A_STANDS = 1, AFDX_B_STANDS = 2 };
 /* The greatest frame in bytes, and the most frames of a network that one poll makes: one of each virtual link. */
 enum { AFDX_GREATEST_FRAME = 1514, AFDX_MOST_FRAMES = 64 };
 
+/* The most virtual links and the most ports of a configuration. */
+#define AFDX_MOST_LINKS 64
+#define AFDX_MOST_PORTS 256
+
 /* Success, of any call. */
 enum { AFDX_OK = 0 };
 
@@ -113,7 +117,7 @@ enum {
     AFDX_NO_LINK = 38,      /* no such virtual link */
     AFDX_NO_NETWORK = 39,   /* neither AFDX_A nor AFDX_B */
     AFDX_NO_FRAME = 40,     /* the last poll made fewer frames for this network */
-    AFDX_SMALL_BUFFER = 41, /* the frame has more bytes than the buffer */
+    AFDX_SMALL_BUFFER = 41, /* a frame has more bytes than the buffer, or there is room for fewer than all */
     AFDX_PORT_MISSING = 42, /* a port of the configuration is out */
     AFDX_GATHERED = 43,     /* the ports were gathered: nothing is taken, given back, closed or gathered any more */
     AFDX_NOT_GATHERED = 44  /* the ports weren't gathered yet */
@@ -127,6 +131,13 @@ uint8_t afdx_open(afdx_end_system *out, const uint8_t *text, size_t length);
 /* Takes the port with an identifier, once. It may go to a thread of its own. Refused: AFDX_HELD (of `out`),
    AFDX_NOT_HELD, AFDX_WRONG_HANDLE, AFDX_GATHERED, AFDX_NO_PORT, AFDX_MEMORY (the port can be taken later). */
 uint8_t afdx_port_of(afdx_end_system *it, uint16_t id, afdx_port *out);
+
+/* The identifiers of all ports, and of all virtual links, in the order of the configuration, whether or not a port is out:
+   writes them into `ids`, which has room for `room` of them, and how many they are. Refused: AFDX_NOT_HELD,
+   AFDX_WRONG_HANDLE; then nothing is written; AFDX_SMALL_BUFFER: `room` is less than that, and `count` alone is written.
+   So NULL and 0 ask how many they are: at most AFDX_MOST_PORTS and AFDX_MOST_LINKS. */
+uint8_t afdx_ports(afdx_end_system *it, uint16_t *ids, size_t room, size_t *count);
+uint8_t afdx_links(afdx_end_system *it, uint16_t *ids, size_t room, size_t *count);
 
 /* Copies a message in, at the end of the queue of the port's sub-VL. By the thread that has the port. It waits for
    nobody, unless malloc does: it asks malloc for the copy, and a later afdx_poll frees it, so either of them may meet a
@@ -153,6 +164,14 @@ uint8_t afdx_frames(afdx_end_system *it, uint8_t network, size_t *count);
    AFDX_GREATEST_FRAME. Nothing behind those is written. `length` doesn't lie in `buffer`. Refused: AFDX_NOT_HELD, AFDX_WRONG_HANDLE, AFDX_NO_NETWORK,
    AFDX_NO_FRAME, AFDX_SMALL_BUFFER; then nothing is written. */
 uint8_t afdx_frame(afdx_end_system *it, uint8_t network, size_t k, uint8_t *buffer, size_t size, size_t *length);
+
+/* Copies all frames that the last poll made for a network into a buffer, one behind the other and with nothing between
+   them, writes how many bytes each has into `lengths`, which has room for `room` of them, and how many they are. Frame k
+   begins behind the bytes of the k frames before it. Refused: AFDX_NOT_HELD, AFDX_WRONG_HANDLE, AFDX_NO_NETWORK; then
+   nothing is written; AFDX_SMALL_BUFFER: they have more bytes than `size`, or are more than `room`, and `count` alone is
+   written. AFDX_MOST_FRAMES * AFDX_GREATEST_FRAME bytes and AFDX_MOST_FRAMES lengths are always enough. */
+uint8_t afdx_all_frames(afdx_end_system *it, uint8_t network, uint8_t *buffer, size_t size, size_t *lengths, size_t room,
+                        size_t *count);
 
 /* A network failed: the next frame that is handed to it fails, and it is given up for good. Refused: AFDX_NOT_HELD,
    AFDX_WRONG_HANDLE, AFDX_NO_NETWORK. */

@@ -1,6 +1,6 @@
-/* What two end systems side by side, no bytes at all and the allocator show of the calls of afdx.h: a port is given back
-   to its own end system alone, NULL is legal for 0 bytes, and an end system asks for as much memory as
-   docs/c-library.md says.
+/* What two end systems side by side, no bytes at all, lists and the allocator show of the calls of afdx.h: a port is
+   given back to its own end system alone, NULL is legal for 0 bytes, all frames of a poll at once are those of the calls
+   for one, and an end system asks for as much memory as docs/c-library.md says.
 
    tools/c_library.py builds and runs it. Requests for memory go through `__wrap_malloc` and its kin below (by the
    linker's --wrap), which count their bytes. A failed check is told by its line; the last line is 'N passed, M failed'. */
@@ -130,6 +130,78 @@ static void check_null(void) {
     CHECK(afdx_free_port(&port) == AFDX_OK && afdx_free(&it) == AFDX_OK && blocks == 0);
 }
 
+/* The identifiers of ports and links, and a list that has no room for them. */
+static void check_lists(void) {
+    afdx_end_system it = {0};
+    afdx_port port = {0};
+    uint16_t ids[AFDX_MOST_PORTS];
+    size_t count = 7;
+    CHECK(afdx_ports(&it, ids, 1, &count) == AFDX_NOT_HELD && afdx_links(&it, ids, 1, &count) == AFDX_NOT_HELD && count == 7);
+    open_plan(&it, plan(3, 2, 1, 2));
+    CHECK(afdx_port_of(&it, 11, &port) == AFDX_OK);
+    afdx_end_system wrong = {.at = port.at, .held = port.held};
+    CHECK(afdx_ports(&wrong, ids, 1, &count) == AFDX_WRONG_HANDLE && count == 7);
+    CHECK(afdx_links(&wrong, ids, 1, &count) == AFDX_WRONG_HANDLE && count == 7);
+    CHECK(afdx_ports(&it, NULL, 0, &count) == AFDX_SMALL_BUFFER && count == 12);
+    CHECK(afdx_links(&it, NULL, 0, &count) == AFDX_SMALL_BUFFER && count == 3);
+    memset(ids, 0x77, sizeof ids);
+    CHECK(afdx_ports(&it, ids, 11, &count) == AFDX_SMALL_BUFFER && count == 12 && ids[0] == 0x7777);
+    CHECK(afdx_links(&it, ids, 2, &count) == AFDX_SMALL_BUFFER && count == 3 && ids[0] == 0x7777);
+    CHECK(afdx_ports(&it, ids, 12, &count) == AFDX_OK && count == 12);
+    for (uint16_t k = 0; k < 12; k++) CHECK(ids[k] == k);
+    CHECK(ids[12] == 0x7777);
+    CHECK(afdx_links(&it, ids, AFDX_MOST_LINKS, &count) == AFDX_OK && count == 3);
+    CHECK(ids[0] == 900 && ids[1] == 899 && ids[2] == 898 && ids[3] == 3);
+    CHECK(afdx_free_port(&port) == AFDX_OK && afdx_free(&it) == AFDX_OK && blocks == 0);
+}
+
+/* All frames of a poll in one call are those of the calls for each. */
+static void frames_are(afdx_end_system *it, uint8_t network, size_t wanted) {
+    static uint8_t all[AFDX_MOST_FRAMES * AFDX_GREATEST_FRAME], frame[AFDX_GREATEST_FRAME];
+    size_t lengths[AFDX_MOST_FRAMES + 1], count = 7, length = 0, at = 0;
+    memset(all, 0x5a, sizeof all);
+    memset(lengths, 0, sizeof lengths);
+    CHECK(afdx_all_frames(it, network, all, sizeof all, lengths, AFDX_MOST_FRAMES, &count) == AFDX_OK && count == wanted);
+    for (size_t k = 0; k < wanted; k++) {
+        CHECK(afdx_frame(it, network, k, frame, sizeof frame, &length) == AFDX_OK && lengths[k] == length);
+        CHECK(memcmp(all + at, frame, length) == 0);
+        at += length;
+    }
+    CHECK(lengths[wanted] == 0 && (at == sizeof all || all[at] == 0x5a));
+    if (wanted == 0) return;
+    /* one byte or one length too few: nothing is written but the count */
+    count = 7;
+    memset(all, 0x5a, sizeof all);
+    CHECK(afdx_all_frames(it, network, all, at - 1, lengths, wanted, &count) == AFDX_SMALL_BUFFER && count == wanted);
+    CHECK(afdx_all_frames(it, network, all, at, lengths, wanted - 1, &count) == AFDX_SMALL_BUFFER && count == wanted);
+    CHECK(afdx_all_frames(it, network, NULL, 0, NULL, 0, &count) == AFDX_SMALL_BUFFER && count == wanted && all[0] == 0x5a);
+    CHECK(afdx_all_frames(it, network, all, at, lengths, wanted, &count) == AFDX_OK && count == wanted && all[0] != 0x5a);
+}
+
+static void check_all_frames(void) {
+    afdx_end_system it = {0};
+    afdx_port port = {0};
+    uint8_t standing = 7, message[2000] = {0};
+    size_t count = 7;
+    CHECK(afdx_all_frames(&it, AFDX_A, NULL, 0, NULL, 0, &count) == AFDX_NOT_HELD && count == 7);
+    open_plan(&it, plan(64, 1, 2, 1));
+    CHECK(afdx_all_frames(&it, 2, NULL, 0, NULL, 0, &count) == AFDX_NO_NETWORK && count == 7);
+    CHECK(afdx_all_frames(&it, AFDX_A, NULL, 0, NULL, 0, &count) == AFDX_OK && count == 0);
+    for (uint16_t k = 0; k < 64; k++) {
+        message[0] = (uint8_t)k;
+        CHECK(afdx_port_of(&it, k, &port) == AFDX_OK);
+        CHECK(afdx_send(&port, message, k < 32 ? 1 + (size_t)k : sizeof message) == AFDX_OK);
+        CHECK(afdx_give_back(&it, &port) == AFDX_OK);
+    }
+    CHECK(afdx_poll(&it, 0, &standing) == AFDX_OK);
+    frames_are(&it, AFDX_A, 64);
+    frames_are(&it, AFDX_B, 64);
+    CHECK(afdx_fail(&it, AFDX_B) == AFDX_OK && afdx_poll(&it, 1000, &standing) == AFDX_OK && standing == AFDX_A_STANDS);
+    frames_are(&it, AFDX_A, 32);
+    frames_are(&it, AFDX_B, 0);
+    CHECK(afdx_free(&it) == AFDX_OK && blocks == 0);
+}
+
 /* The room of a list of so many that has grown one by one. */
 static size_t room(size_t many) {
     size_t room = many == 0 ? 0 : 4;
@@ -172,6 +244,8 @@ static void check_memory(void) {
 int main(void) {
     check_owners();
     check_null();
+    check_lists();
+    check_all_frames();
     check_memory();
     printf("%u passed, %u failed\n", passed, failed);
     return failed != 0;

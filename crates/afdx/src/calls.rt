@@ -13,6 +13,8 @@ ghost use Rattle.afdx_handle.specs.Numbers.{AreCountsOf, IsOneOf, net_of, refusa
 ghost use Rattle.afdx_handle.specs.EndSystem.{EndView, has_id, made_for, made_at, PollsEnd, ClosesEnd, GathersEnd, GivesBack, TakesPort, IsAllSent, IsOpened};
 ghost use Rattle.afdx_legal.specs.Counting.{counts_in};
 ghost use Rattle.afdx_legal.specs.Own.{own_stream};
+ghost use Rattle.afdx_handle.specs.Listing.{with_front, port_ids, link_ids, all_made, bytes_of, lengths_of};
+ghost use Rattle.std.specs.List.{concat};
 ghost use Rattle.afdx_handle.specs.Held.{end_of, port_of, HoldsNothing, HoldsOne, HoldsSame, EndDoes, PortDoes};
 
 use afdx_handle::answer::{
@@ -124,6 +126,44 @@ pub extern "C" fn afdx_port_of(alloc: Global, it: &mut Marked, id: u16, out: &mu
     })
 }
 
+/// Writes the identifiers of the ports, in the order of the configuration, and how many they are.
+#[unsafe(no_mangle)]
+pub extern "C" fn afdx_ports(it: &mut Handle, ids: &mut [u16], count: &mut usize) -> u8
+    ensures answers { IsOneOf result (DONE ∷ NOT_HELD ∷ WRONG_HANDLE ∷ SMALL_BUFFER ∷ []) }
+    ensures not_held { (result ≡ NOT_HELD) ↔ HoldsNothing it.old.kept.home }
+    ensures wrong_handle { (result ≡ WRONG_HANDLE) ↔ IsSome (port_of it.old.kept.home) }
+    ensures small { (result ≡ SMALL_BUFFER) ↔ IsSomeAnd (end_of it.old.kept.home) (λ end.
+        length ids.old < length (port_ids end)) }
+    ensures listed { result ≡ DONE → IsSomeAnd (end_of it.old.kept.home) (λ end.
+        ids.new ≡ with_front (port_ids end) ids.old) }
+    ensures count { ((result ≡ DONE) ⊎ (result ≡ SMALL_BUFFER)) →
+        IsSomeAnd (end_of it.old.kept.home) (λ end. count.new ≡ length (port_ids end)) }
+    ensures same { HoldsSame it.old.kept.home it.new.kept.home }
+    ensures unwritten { result ≢ DONE → ids.new ≡ ids.old }
+    ensures uncounted { 32 ≤ result → result ≢ SMALL_BUFFER → count.new ≡ count.old }
+{
+    with_end!(it, end_system => end_system.port_ids(ids, count))
+}
+
+/// Writes the identifiers of the links, in the order of the configuration, and how many they are.
+#[unsafe(no_mangle)]
+pub extern "C" fn afdx_links(it: &mut Handle, ids: &mut [u16], count: &mut usize) -> u8
+    ensures answers { IsOneOf result (DONE ∷ NOT_HELD ∷ WRONG_HANDLE ∷ SMALL_BUFFER ∷ []) }
+    ensures not_held { (result ≡ NOT_HELD) ↔ HoldsNothing it.old.kept.home }
+    ensures wrong_handle { (result ≡ WRONG_HANDLE) ↔ IsSome (port_of it.old.kept.home) }
+    ensures small { (result ≡ SMALL_BUFFER) ↔ IsSomeAnd (end_of it.old.kept.home) (λ end.
+        length ids.old < length (link_ids end)) }
+    ensures listed { result ≡ DONE → IsSomeAnd (end_of it.old.kept.home) (λ end.
+        ids.new ≡ with_front (link_ids end) ids.old) }
+    ensures count { ((result ≡ DONE) ⊎ (result ≡ SMALL_BUFFER)) →
+        IsSomeAnd (end_of it.old.kept.home) (λ end. count.new ≡ length (link_ids end)) }
+    ensures same { HoldsSame it.old.kept.home it.new.kept.home }
+    ensures unwritten { result ≢ DONE → ids.new ≡ ids.old }
+    ensures uncounted { 32 ≤ result → result ≢ SMALL_BUFFER → count.new ≡ count.old }
+{
+    with_end!(it, end_system => end_system.link_ids(ids, count))
+}
+
 /// Copies a message in, at the end of the queue of the port's sub-VL.
 #[unsafe(no_mangle)]
 pub extern "C" fn afdx_send(alloc: Global, port: &mut Handle, message: &[u8]) -> u8
@@ -230,6 +270,44 @@ pub extern "C" fn afdx_frame(
 {
     with_end!(it, end_system => match net_of(network) {
         Some(net) => end_system.frame(net, k, buffer, size),
+        None => NO_NETWORK,
+    })
+}
+
+/// Copies all frames that the last poll made for a network into a buffer, one behind the other, and writes
+/// how many bytes each has and how many they are.
+#[unsafe(no_mangle)]
+pub extern "C" fn afdx_all_frames(
+    it: &mut Handle,
+    network: u8,
+    buffer: &mut [u8],
+    lengths: &mut [usize],
+    count: &mut usize,
+) -> u8
+    ensures answers { IsOneOf result
+        (DONE ∷ NOT_HELD ∷ WRONG_HANDLE ∷ NO_NETWORK ∷ SMALL_BUFFER ∷ []) }
+    ensures not_held { (result ≡ NOT_HELD) ↔ HoldsNothing it.old.kept.home }
+    ensures wrong_handle { (result ≡ WRONG_HANDLE) ↔ IsSome (port_of it.old.kept.home) }
+    ensures no_network { (result ≡ NO_NETWORK) ↔
+        (IsSome (end_of it.old.kept.home) × IsNone (net_of network)) }
+    ensures small { (result ≡ SMALL_BUFFER) ↔ IsSomeAnd (end_of it.old.kept.home) (λ end.
+        IsSomeAnd (net_of network) (λ net. (length buffer.old < bytes_of (all_made net end))
+        ⊎ (length lengths.old < made_for net end))) }
+    ensures copied { result ≡ DONE → IsSomeAnd (end_of it.old.kept.home) (λ end.
+        IsSomeAnd (net_of network) (λ net.
+        buffer.new ≡ with_front (concat (all_made net end)) buffer.old)) }
+    ensures lengths { result ≡ DONE → IsSomeAnd (end_of it.old.kept.home) (λ end.
+        IsSomeAnd (net_of network) (λ net.
+        lengths.new ≡ with_front (lengths_of (all_made net end)) lengths.old)) }
+    ensures count { ((result ≡ DONE) ⊎ (result ≡ SMALL_BUFFER)) →
+        IsSomeAnd (end_of it.old.kept.home) (λ end.
+        IsSomeAnd (net_of network) (λ net. count.new ≡ made_for net end)) }
+    ensures same { HoldsSame it.old.kept.home it.new.kept.home }
+    ensures unwritten { result ≢ DONE → (buffer.new ≡ buffer.old) × (lengths.new ≡ lengths.old) }
+    ensures uncounted { 32 ≤ result → result ≢ SMALL_BUFFER → count.new ≡ count.old }
+{
+    with_end!(it, end_system => match net_of(network) {
+        Some(net) => end_system.all_frames(net, buffer, lengths, count),
         None => NO_NETWORK,
     })
 }

@@ -1,4 +1,6 @@
 pub mod AsBox
 pub mod EndPorts
 pub mod FewFrames
+pub mod Fronts
+pub mod MadeFrames
 mod Names

@@ -3,3 +3,4 @@ pub mod Polling
 pub mod EndSystem
 pub mod Sealed
 pub mod Held
+pub mod Listing

@@ -5,6 +5,7 @@ use crate::answer::{
     BOTH_DOWN, DONE, GATHERED, NO_FRAME, NO_LINK, NO_SUB, NOT_GATHERED, SMALL_BUFFER, TIME_BACK,
     standing_bits,
 };
+use crate::listing::{put_at, write_link_ids, write_port_ids};
 use crate::stage::Stage;
 use afdx_frame::Net;
 use afdx_plan::VlId;
@@ -57,6 +58,8 @@ impl EndSystem {
     ghost use Rattle.afdx_legal.specs.Own.{own_stream};
     ghost use Rattle.afdx_handle.specs.Numbers.{line_of, standing_bits};
     ghost use Rattle.afdx_handle.specs.EndSystem.{PollsEnd, ClosesEnd, before_of, made_for, made_at, IsAllSent};
+    ghost use Rattle.afdx_handle.specs.Listing.{with_front, port_ids, link_ids, all_made, bytes_of, lengths_of};
+    ghost use Rattle.std.specs.List.{concat};
 
     /// Gives each link its turn at a moment, in microseconds, and tells which networks stand afterwards,
     /// as bits. `TIME_BACK` where the moment is before that of an earlier poll; `BOTH_DOWN`, with no
@@ -103,7 +106,8 @@ impl EndSystem {
 
     /// How many frames the last poll made for a network.
     pub fn frames(&self, net: Net) -> usize
-        ensures { result ≡ made_for net self.now }
+        ensures count { result ≡ made_for net self.now }
+        ensures few { result ≤ 64 }
     {
         let (first, end) = self.numbers(net);
         end.saturating_sub(first) as usize
@@ -135,6 +139,101 @@ impl EndSystem {
         }
         buffer[..bytes.len()].copy_from_slice(bytes);
         *size = bytes.len();
+        DONE
+    }
+
+    /// Writes the identifiers of the ports, in the order of the configuration, and how many they are.
+    /// `SMALL_BUFFER` where there is room for fewer: then their number alone is written.
+    pub fn port_ids(&self, ids: &mut [u16], count: &mut usize) -> u8
+        ensures answers { (result ≡ DONE) ⊎ (result ≡ SMALL_BUFFER) }
+        ensures small { (result ≡ SMALL_BUFFER) ↔ (length ids.old < length (port_ids self.now)) }
+        ensures listed { result ≡ DONE → ids.new ≡ with_front (port_ids self.now) ids.old }
+        ensures count { count.new ≡ length (port_ids self.now) }
+        ensures unwritten { result ≢ DONE → ids.new ≡ ids.old }
+    {
+        let ports = self.stage.config().ports();
+        *count = ports.len();
+        if ids.len() < ports.len() {
+            return SMALL_BUFFER;
+        }
+        write_port_ids(ports, ids);
+        DONE
+    }
+
+    /// Writes the identifiers of the links, in the order of the configuration, and how many they are.
+    /// `SMALL_BUFFER` where there is room for fewer: then their number alone is written.
+    pub fn link_ids(&self, ids: &mut [u16], count: &mut usize) -> u8
+        ensures answers { (result ≡ DONE) ⊎ (result ≡ SMALL_BUFFER) }
+        ensures small { (result ≡ SMALL_BUFFER) ↔ (length ids.old < length (link_ids self.now)) }
+        ensures listed { result ≡ DONE → ids.new ≡ with_front (link_ids self.now) ids.old }
+        ensures count { count.new ≡ length (link_ids self.now) }
+        ensures unwritten { result ≢ DONE → ids.new ≡ ids.old }
+    {
+        let links = self.stage.config().links();
+        *count = links.len();
+        if ids.len() < links.len() {
+            return SMALL_BUFFER;
+        }
+        write_link_ids(links, ids);
+        DONE
+    }
+
+    /// Frame `k`, from 0, that the last poll made for a network.
+    fn made(&self, net: Net, k: usize) -> &[u8]
+        requires { k < made_for net self.now }
+        ensures frame { result.now ≡ made_at net k self.now }
+        ensures most { length result.now ≤ 1514 }
+    {
+        let (first, _end) = self.numbers(net);
+        let Some(kept) = self.stage.network(net).frame(first + k as u64) else {
+            unreachable!();
+        };
+        kept.frame.as_slice()
+    }
+
+    /// How many bytes the frames have in all that the last poll made for a network.
+    fn made_bytes(&self, net: Net) -> usize
+        ensures { result ≡ bytes_of (all_made net self.now) }
+    {
+        let mut total = 0;
+        for k in 0..self.frames(net) {
+            total += self.made(net, k).len();
+        }
+        total
+    }
+
+    /// Copies all frames that the last poll made for a network into a buffer, one behind the other, and
+    /// writes how many bytes each has and how many they are. `SMALL_BUFFER` where they have more bytes
+    /// than the buffer, or are more than there is room for lengths: then their number alone is written.
+    pub fn all_frames(
+        &self,
+        net: Net,
+        buffer: &mut [u8],
+        lengths: &mut [usize],
+        count: &mut usize,
+    ) -> u8
+        ensures answers { (result ≡ DONE) ⊎ (result ≡ SMALL_BUFFER) }
+        ensures small { (result ≡ SMALL_BUFFER) ↔ ((length buffer.old < bytes_of (all_made net self.now))
+            ⊎ (length lengths.old < made_for net self.now)) }
+        ensures copied { result ≡ DONE →
+            buffer.new ≡ with_front (concat (all_made net self.now)) buffer.old }
+        ensures lengths { result ≡ DONE →
+            lengths.new ≡ with_front (lengths_of (all_made net self.now)) lengths.old }
+        ensures count { count.new ≡ made_for net self.now }
+        ensures unwritten { result ≢ DONE → (buffer.new ≡ buffer.old) × (lengths.new ≡ lengths.old) }
+    {
+        let many = self.frames(net);
+        *count = many;
+        if lengths.len() < many || buffer.len() < self.made_bytes(net) {
+            return SMALL_BUFFER;
+        }
+        let mut at = 0;
+        for k in 0..many {
+            let bytes = self.made(net, k);
+            put_at(buffer, at, bytes);
+            lengths[k] = bytes.len();
+            at += bytes.len();
+        }
         DONE
     }
 

@@ -6,6 +6,7 @@ pub mod answer;
 mod end_system;
 mod handle;
 mod home;
+mod listing;
 mod opening;
 mod ports;
 mod seal;

@@ -2,7 +2,7 @@
 ghost use Rattle.std.specs.Prelude.{◌≡◌, ℕ};
 
 use afdx_frame::Net;
-use afdx_plan::VlId;
+use afdx_plan::{Config, VlId};
 use afdx_tx::{Draining, Emitter, PollFault, Report};
 use redundant_mux::Outbox;
 use status_board::Counts;
@@ -42,6 +42,16 @@ impl Stage {
             (Stage::Sending(emitter), Net::B) => emitter.network_b(),
             (Stage::Draining(draining), Net::A) => draining.network_a(),
             (Stage::Draining(draining), Net::B) => draining.network_b(),
+        }
+    }
+
+    /// The configuration.
+    pub fn config(&self) -> &Config
+        ensures { result.now ≡ (tx_of self.now).plan }
+    {
+        match self {
+            Stage::Sending(emitter) => emitter.config(),
+            Stage::Draining(draining) => draining.config(),
         }
     }
 

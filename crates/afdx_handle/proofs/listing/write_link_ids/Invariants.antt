@@ -1,0 +1,6 @@
+use Rattle.std.proofs.Common.{◌≡◌, map, take}
+use Rattle.afdx_handle.specs.Listing.{with_front, link_id}
+use Rattle.afdx_handle.proofs.listing.write_link_ids.Given as goal
+
+abbrev pub invariant-loop-k : goal.invariant-loop-k
+invariant-loop-k l = l.ids ≡ with_front (map link_id (take l.k l.links)) l.fn.ids
