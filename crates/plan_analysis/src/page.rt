@@ -48,8 +48,14 @@ fn write_top<W: Write>(writer: &mut W, analysis: &Analysis) -> io::Result<()> {
 fn write_loads<W: Write>(writer: &mut W, analysis: &Analysis) -> io::Result<()> {
     writer.write_all(b"<h2>Load on the wire</h2>\n<p>Each network by its links, in the order of ")?;
     writer.write_all(b"their table. The mark is 100 Mbit/s.</p>\n<div class=\"bars\">\n")?;
-    write_network_bar(writer, &analysis.network_a, analysis.links.as_slice())?;
-    write_network_bar(writer, &analysis.network_b, analysis.links.as_slice())?;
+    let links = analysis.links.as_slice();
+    let scale = analysis
+        .network_a
+        .load
+        .max(analysis.network_b.load)
+        .max(LINE_RATE);
+    write_network_bar(writer, scale, &analysis.network_a, links)?;
+    write_network_bar(writer, scale, &analysis.network_b, links)?;
     writer.write_all(b"</div>\n<div class=\"scroll\"><table id=\"networks\">\n")?;
     writer.write_all(b"<tr><th>network<th>load kbit/s<th>share %<th>exceeded\n")?;
     write_network(writer, &analysis.network_a)?;
@@ -76,15 +82,16 @@ fn write_links<W: Write>(writer: &mut W, links: &[LinkRow]) -> io::Result<()> {
     writer.write_all(b"</table></div>\n")
 }
 
-/// The load of a network, by its links.
+/// The load of a network, by its links, in a bar that `scale` fills.
 fn write_network_bar<W: Write>(
     writer: &mut W,
+    scale: u64,
     network: &NetworkRow,
     links: &[LinkRow],
 ) -> io::Result<()> {
     let name = network_name(network.name);
     write!(writer, "<span>{name}</span>")?;
-    let mut bar = Bar::new(network.load.max(LINE_RATE));
+    let mut bar = Bar::new(scale);
     bar.begin(writer)?;
     for row in links {
         if carries(network.name, row.plan.networks) {
