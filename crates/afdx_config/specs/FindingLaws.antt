@@ -1,12 +1,20 @@
 -- What the findings of a document say of its faults.
-use Rattle.std.specs.Prelude.{◌≡◌, ◌==◌, ◌∷◌, [], ℕ, List, Bool, true}
+use Rattle.std.specs.Prelude.{◌≡◌, ◌==◌, ◌∷◌, [], ◌-◌, ℕ, List, length, codes, bytes_eq, slice_get, nat_lt, Bool, true, false, ◌&&◌, ◌||◌, not, Option, Some, None, All}
 use Rattle.std.specs.List.{list_any}
+use Rattle.std.specs.Option.{option_map_or}
 use Rattle.toml.specs.Data.{Members}
 use Rattle.afdx_plan.specs.PlanFaults.{fault_number}
 use Rattle.afdx_plan.specs.declared.fault.ConfigFault.{ConfigFault}
+use Rattle.afdx_plan.specs.declared.fault.ConfigFault.TheVariants.{UnknownKey}
+use Rattle.afdx_plan.specs.declared.link_plan.LinkPlan.{LinkPlan}
+use Rattle.afdx_plan.specs.declared.port_plan.PortPlan.{PortPlan}
+use Rattle.afdx_config.specs.declared.findings.Place.{Place}
+use Rattle.afdx_config.specs.declared.findings.Place.TheVariants.{Top, Link, Port}
 use Rattle.afdx_config.specs.Faults.{shows, Reads, IsLeastFault, IsPlanOf}
-use Rattle.afdx_config.specs.Findings.{Finding, findings}
+use Rattle.afdx_config.specs.Findings.{Finding, findings, member_keys, links_clash, ports_clash, is_misfit, is_last_crowded, count_is_wrong}
 use Rattle.afdx_config.specs.PlanOf.{plan_of}
+use Rattle.afdx_config.specs.Tables.{field_fault, is_fault, is_key_of}
+use Rattle.afdx_config.specs.Told.{members_at, fields_at}
 
 -- a finding has this fault
 abbrev pub has : ConfigFault → Finding → Bool
@@ -23,3 +31,46 @@ abbrev pub FirstIsAnswered : Type 0
 FirstIsAnswered = (text : List ℕ) (document : Members) → Reads text document
     → (findings document ≡ [] → IsPlanOf text (plan_of document))
     × ((first : Finding) (rest : List Finding) → findings document ≡ first ∷ rest → IsLeastFault text first.fault)
+
+-- what a test answers of the table at a place; no where there is none
+abbrev pub table_has : (Members → Bool) → Members → Place → Bool
+table_has test document place = option_map_or test (members_at document place) false
+
+-- a key of the table's format has the finding's name, and shows its fault
+abbrev pub value_has : Members → Finding → Bool
+value_has document f = table_has (λ members. list_any
+    (λ field. bytes_eq f.key field.key && is_fault f.fault (field_fault members field))
+    (fields_at document f.place)) document f.place
+
+-- the table has the finding's key, and its format hasn't
+abbrev pub key_has : Members → Finding → Bool
+key_has document f = table_has (λ members. (is_fault f.fault (Some UnknownKey) && not (is_key_of (fields_at document f.place) f.key))
+    && list_any (bytes_eq f.key) (member_keys members)) document f.place
+
+-- the row k passes a test, from 1
+abbrev pub row_has : {A : Type 0} → (A → Bool) → List A → ℕ → Bool
+row_has test rows k = option_map_or test (slice_get rows (k - 1)) false
+
+-- the row k and a later one are related
+abbrev pub rows_have : {A : Type 0} → (A → A → Bool) → List A → ℕ → Option ℕ → Bool
+rows_have related rows k None = false
+rows_have related rows k (Some j) = nat_lt k j && row_has (λ a. row_has (related a) rows j) rows k
+
+-- the link, the port or the count at the finding's place has the fault
+abbrev pub plan_has : List LinkPlan → List PortPlan → ConfigFault → Place → List ℕ → Option ℕ → Bool
+plan_has links ports fault (Link k) key other = rows_have (links_clash fault) links k other
+plan_has links ports fault (Port k) key other = rows_have (ports_clash fault) ports k other
+    || (row_has (is_misfit fault links) ports k || row_has (λ p. is_last_crowded fault ports p []) ports k)
+plan_has links ports fault Top key other = (bytes_eq key (codes "vl") && count_is_wrong fault 64 (length links))
+    || (bytes_eq key (codes "port") && count_is_wrong fault 256 (length ports))
+plan_has links ports fault _ key other = false
+
+-- what stands at a finding's place has its fault
+abbrev pub has_place : Members → Finding → Bool
+has_place document f = (value_has document f || key_has document f)
+    || plan_has (plan_of document).links (plan_of document).ports f.fault f.place f.key f.other
+
+-- each finding's place has its fault: the key is missing there, its value is of another kind or outside of its
+-- range, or the key is unknown; of two tables that agree, both are there, the later one behind
+abbrev pub PlacesHaveFaults : Type 0
+PlacesHaveFaults = (document : Members) → All (λ f. has_place document f ≡ true) (findings document)

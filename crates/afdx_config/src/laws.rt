@@ -1,5 +1,5 @@
 //! Laws of plans and their texts. Their functions do nothing: the contract is the law.
-ghost use Rattle.afdx_config.specs.FindingLaws.{FaultsAreFound, FirstIsAnswered};
+ghost use Rattle.afdx_config.specs.FindingLaws.{FaultsAreFound, FirstIsAnswered, PlacesHaveFaults};
 ghost use Rattle.afdx_config.specs.Values.{AddressesAreDotted};
 
 pub use afdx_plan::laws::{flows_apart, valid_plans_show_no_fault};
@@ -19,4 +19,9 @@ pub fn faults_are_found()
 /// TOML has no finding, `read_config` answers its plan.
 pub fn first_is_answered()
     ensures { FirstIsAnswered }
+{}
+
+/// What stands at the place of a finding has its fault.
+pub fn places_have_faults()
+    ensures { PlacesHaveFaults }
 {}
