@@ -16,18 +16,14 @@ const FIRST: Counts = Counts {
 };
 
 /// Tells a reading.
-pub fn tell_counts<W: Write>(out: &mut W, counts: Counts) -> Result<(), Trouble> {
+pub fn tell_counts<W: Write + Drop>(out: &mut Out<W>, counts: Counts) {
     let Counts {
         frames,
         bytes,
         messages,
         last,
     } = counts;
-    writeln!(
-        out,
-        "frames {frames}, bytes {bytes}, messages {messages}, last {last}"
-    )?;
-    Ok(())
+    out.line(format_args!("frames {frames}, bytes {bytes}, messages {messages}, last {last}"));
 }
 
 /// Compares both ends of a new board of one link, which changes neither.
@@ -42,12 +38,12 @@ pub fn compare_ends<R: Wait>(rt: &R, board: &mut Board, monitor: &mut Monitor)
 }
 
 /// Reads before the first entry and after it.
-pub fn publish_told<W: Write, R: Wait>(
+pub fn publish_told<W: Write + Drop, R: Wait>(
     rt: &R,
-    out: &mut W,
+    out: &mut Out<W>,
     mut board: Board,
     mut monitor: Monitor,
-) -> Result<(), Trouble>
+)
     requires board { length board ≡ 1 }
     requires monitor { links_of monitor ≡ 1 }
     requires new { AreNew board monitor }
@@ -55,18 +51,26 @@ pub fn publish_told<W: Write, R: Wait>(
     let before = monitor.read(rt, 0);
     board.publish(rt, 0, FIRST);
     let after = monitor.read(rt, 0);
-    tell_counts(out, before)?;
+    tell_counts(out, before);
     tell_counts(out, after)
 }
 
 /// Opens a board of one link, once more where memory was refused.
-pub fn open<W: Write, R: Wait>(rt: &R, alloc: Global, out: &mut W) -> Result<(), Trouble> {
+pub fn open<W: Write + Drop, R: Wait>(
+    rt: &R,
+    alloc: Global,
+    out: &mut Out<W>,
+) -> Result<(), Trouble> {
     if let Ok((board, monitor)) = open_board(alloc, 1) {
-        return publish_told(rt, out, board, monitor);
+        publish_told(rt, out, board, monitor);
+        return Ok(());
     }
-    writeln!(out, "refused AllocError")?;
+    out.line("refused AllocError");
     match open_board(alloc, 1) {
-        Ok((board, monitor)) => publish_told(rt, out, board, monitor),
+        Ok((board, monitor)) => {
+            publish_told(rt, out, board, monitor);
+            Ok(())
+        }
         Err(_) => Err(Trouble::Twice),
     }
 }

@@ -28,39 +28,43 @@ fn is_refused(answer: &Result<Config, ConfigFault>) -> bool {
 }
 
 /// Tells the plan, or the fault.
-fn tell<W: Write>(out: &mut W, answer: &Result<Config, ConfigFault>) -> Result<(), Trouble> {
+fn tell<W: Write + Drop>(out: &mut Out<W>, answer: &Result<Config, ConfigFault>) {
     match answer {
-        Ok(config) => write_report(out, config)?,
-        Err(fault) => writeln!(out, "{} {fault}", fault.number())?,
+        Ok(config) => {
+            let is_printed = write_report(out.writer(), config).is_ok();
+            out.note(is_printed);
+        }
+        Err(fault) => out.line(format_args!("{} {fault}", fault.number())),
     }
-    Ok(())
 }
 
 /// Reads a text, once more where memory was refused.
-fn read_text<W: Write>(alloc: Global, out: &mut W, text: &str) -> Result<(), Trouble> {
+fn read_text<W: Write + Drop>(alloc: Global, out: &mut Out<W>, text: &str) {
     let mut answer = read_config(alloc, text.as_bytes());
     if is_refused(&answer) {
-        writeln!(out, "refused Memory")?;
+        out.line("refused Memory");
         answer = read_config(alloc, text.as_bytes());
     }
     tell(out, &answer)
 }
 
 /// Reads a plan, a text of a late fault, and one that is no TOML.
-pub fn read<W: Write>(alloc: Global, out: &mut W) -> Result<(), Trouble> {
-    read_text(alloc, out, DEMO)?;
-    read_text(alloc, out, SHARED)?;
-    read_text(alloc, out, CUT)
+pub fn read<W: Write + Drop>(alloc: Global, out: &mut Out<W>) -> Result<(), Trouble> {
+    read_text(alloc, out, DEMO);
+    read_text(alloc, out, SHARED);
+    read_text(alloc, out, CUT);
+    Ok(())
 }
 
 /// Makes the demonstration configuration, once more where memory was refused.
-pub fn demo<W: Write>(alloc: Global, out: &mut W) -> Result<(), Trouble> {
+pub fn demo<W: Write + Drop>(alloc: Global, out: &mut Out<W>) -> Result<(), Trouble> {
     let mut answer = demo_config(alloc);
     if is_refused(&answer) {
-        writeln!(out, "refused Memory")?;
+        out.line("refused Memory");
         answer = demo_config(alloc);
     }
-    tell(out, &answer)
+    tell(out, &answer);
+    Ok(())
 }
 
 /// The demonstration configuration, made before the call that a case is about.

@@ -29,44 +29,36 @@ fn open(alloc: Global) -> Result<Opened, Trouble> {
 }
 
 /// Tells what a network was handed, and how often it failed.
-fn tell<W: Write>(out: &mut W, name: &str, network: &MemNetwork) -> Result<(), Trouble> {
+fn tell<W: Write + Drop>(out: &mut Out<W>, name: &str, network: &MemNetwork) {
     let (handed, failures) = (network.handed().len(), network.failures());
-    writeln!(out, "{name}: handed {handed}, failures {failures}")?;
-    Ok(())
+    out.line(format_args!("{name}: handed {handed}, failures {failures}"));
 }
 
 /// Tells what both networks were handed. Whether one of them failed.
-fn tell_both<W: Write>(out: &mut W, a: &MemNetwork, b: &MemNetwork) -> Result<bool, Trouble> {
-    tell(out, "A", a)?;
-    tell(out, "B", b)?;
-    Ok(a.failures() != 0 || b.failures() != 0)
+fn tell_both<W: Write + Drop>(out: &mut Out<W>, a: &MemNetwork, b: &MemNetwork) -> bool {
+    tell(out, "A", a);
+    tell(out, "B", b);
+    a.failures() != 0 || b.failures() != 0
 }
 
 /// Sends two messages. Whether a network failed.
-fn send_two<W: Write>(out: &mut W, opened: Opened) -> Result<bool, Trouble> {
+fn send_two<W: Write + Drop>(out: &mut Out<W>, opened: Opened) -> bool {
     let Opened {
         mut tx,
         mut ports,
         messages,
     } = opened;
-    let sent = send_two_told(out, &mut tx, &mut ports, messages);
+    send_two_told(out, &mut tx, &mut ports, messages);
     let (a, b) = tx.into_networks();
-    match sent {
-        Ok(()) => tell_both(out, &a, &b),
-        Err(trouble) => Err(trouble),
-    }
+    tell_both(out, &a, &b)
 }
 
 /// Sends two messages, once more where memory was refused to a network.
-pub fn hand<W: Write>(alloc: Global, out: &mut W) -> Result<(), Trouble> {
+pub fn hand<W: Write + Drop>(alloc: Global, out: &mut Out<W>) -> Result<(), Trouble> {
     let first = open(alloc)?;
     let second = open(alloc)?;
-    let mut answer = send_two(out, first);
-    if let Ok(true) = answer {
-        answer = send_two(out, second);
-    } else {
-        drop(second);
+    if send_two(out, first) {
+        let _has_failed = send_two(out, second);
     }
-    let _has_failed = answer?;
     Ok(())
 }

@@ -20,26 +20,28 @@ fn is_refused(answer: &Result<Line, LineFault>) -> bool {
 }
 
 /// Tells what a line says, or its fault.
-fn tell<W: Write>(out: &mut W, answer: &Result<Line, LineFault>) -> Result<(), Trouble> {
+fn tell<W: Write + Drop>(out: &mut Out<W>, answer: &Result<Line, LineFault>) {
     match answer {
-        Ok(Line::Send { port, bytes }) => writeln!(out, "send {port} {:?}", bytes.as_slice())?,
-        Ok(Line::At(moment)) => writeln!(out, "at {moment}")?,
-        Ok(Line::Close { vl, sub }) => writeln!(out, "close {vl} {sub}")?,
-        Ok(Line::Nothing) => writeln!(out, "nothing")?,
-        Err(fault) => writeln!(out, "{} {fault}", fault.number())?,
+        Ok(Line::Send { port, bytes }) => out.line(format_args!(
+            "send {port} {:?}",
+            bytes.as_slice()
+        )),
+        Ok(Line::At(moment)) => out.line(format_args!("at {moment}")),
+        Ok(Line::Close { vl, sub }) => out.line(format_args!("close {vl} {sub}")),
+        Ok(Line::Nothing) => out.line("nothing"),
+        Err(fault) => out.line(format_args!("{} {fault}", fault.number())),
     }
-    Ok(())
 }
 
 /// Reads each line, once more where memory was refused.
-pub fn read<W: Write>(alloc: Global, out: &mut W) -> Result<(), Trouble> {
+pub fn read<W: Write + Drop>(alloc: Global, out: &mut Out<W>) -> Result<(), Trouble> {
     for line in LINES {
         let mut answer = read_line(alloc, line.as_bytes());
         if is_refused(&answer) {
-            writeln!(out, "refused Memory")?;
+            out.line("refused Memory");
             answer = read_line(alloc, line.as_bytes());
         }
-        tell(out, &answer)?;
+        tell(out, &answer);
     }
     Ok(())
 }

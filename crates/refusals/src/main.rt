@@ -38,10 +38,10 @@ const CASES: [&str; 11] = [
 ];
 
 /// Runs the case that a word names.
-fn run_case<W: Write, R: Threads + Wait + Sync>(
+fn run_case<W: Write + Drop, R: Threads + Wait + Sync>(
     rt: &R,
     alloc: Global,
-    out: &mut W,
+    out: &mut Out<W>,
     word: &str,
 ) -> Result<(), Trouble> {
     match word {
@@ -61,13 +61,13 @@ fn run_case<W: Write, R: Threads + Wait + Sync>(
 }
 
 /// Runs all cases, each behind a line that names it.
-fn run_all<W: Write, R: Threads + Wait + Sync>(
+fn run_all<W: Write + Drop, R: Threads + Wait + Sync>(
     rt: &R,
     alloc: Global,
-    out: &mut W,
+    out: &mut Out<W>,
 ) -> Result<(), Trouble> {
     for word in CASES.iter() {
-        writeln!(out, "== {word}")?;
+        out.line(format_args!("== {word}"));
         run_case(rt, alloc, out, word)?;
     }
     Ok(())
@@ -75,13 +75,14 @@ fn run_all<W: Write, R: Threads + Wait + Sync>(
 
 /// Runs the case that the first word of the command line names, or all.
 fn run<T: Threads + Wait + Sync>(rt: &HostRuntime, threads: &T) -> Result<(), Trouble> {
-    let mut out = io::writer(rt);
+    let mut out = Out::new(io::writer(rt));
     let mut words = std::env::args(rt).map_err(|_| Trouble::Unprepared)?;
     let _program = words.next();
     match words.next() {
-        Some(word) => run_case(threads, rt.alloc(), &mut out, word.as_str()),
-        None => run_all(threads, rt.alloc(), &mut out),
+        Some(word) => run_case(threads, rt.alloc(), &mut out, word.as_str())?,
+        None => run_all(threads, rt.alloc(), &mut out)?,
     }
+    out.end()
 }
 
 fn main(rt: HostRuntime) -> ExitCode {

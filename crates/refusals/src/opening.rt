@@ -11,40 +11,34 @@ use status_board::Monitor;
 type Opened = (Emitter<Shelf, Shelf>, Vec<TxPort>, Monitor);
 
 /// Tells that an opening was refused, and whether what it was given is as it was.
-fn tell_back<W: Write>(
-    out: &mut W,
-    kept: &Config,
-    back: &OpenFault<Shelf, Shelf>,
-) -> Result<(), Trouble> {
+fn tell_back<W: Write + Drop>(out: &mut Out<W>, kept: &Config, back: &OpenFault<Shelf, Shelf>) {
     let is_same = back.config.end_system() == kept.end_system()
         && back.config.links() == kept.links()
         && back.config.ports() == kept.ports();
     let plan = if is_same { "same" } else { "other" };
-    writeln!(out, "refused OpenFault, plan {plan}")?;
-    tell_network(out, "A", &back.a)?;
+    out.line(format_args!("refused OpenFault, plan {plan}"));
+    tell_network(out, "A", &back.a);
     tell_network(out, "B", &back.b)
 }
 
 /// Tells of a network that came back how many frames it takes, and what was handed to it.
-fn tell_network<W: Write>(out: &mut W, name: &str, network: &Shelf) -> Result<(), Trouble> {
-    writeln!(
-        out,
+fn tell_network<W: Write + Drop>(out: &mut Out<W>, name: &str, network: &Shelf) {
+    out.line(format_args!(
         "{name} takes {}, kept {}, failures {}",
         network.takes,
         network.kept.len(),
         network.failures
-    )?;
-    Ok(())
+    ));
 }
 
 /// Opens an emitter over two networks, of which A takes one frame and B four. Where memory was refused,
 /// what came back is opened once more.
-fn open_told<W: Write>(alloc: Global, out: &mut W) -> Result<Opened, Trouble> {
+fn open_told<W: Write + Drop>(alloc: Global, out: &mut Out<W>) -> Result<Opened, Trouble> {
     let (kept, config) = (prepared(alloc)?, prepared(alloc)?);
     match open_tx(alloc, config, empty_shelf(1), empty_shelf(4)) {
         Ok(opened) => Ok(opened),
         Err(back) => {
-            tell_back(out, &kept, &back)?;
+            tell_back(out, &kept, &back);
             let OpenFault { config, a, b } = back;
             open_tx(alloc, config, a, b).ok().ok_or(Trouble::Twice)
         }
@@ -52,8 +46,9 @@ fn open_told<W: Write>(alloc: Global, out: &mut W) -> Result<Opened, Trouble> {
 }
 
 /// Opens an emitter, and sends two messages, each of which is polled for.
-pub fn open<W: Write>(alloc: Global, out: &mut W) -> Result<(), Trouble> {
+pub fn open<W: Write + Drop>(alloc: Global, out: &mut Out<W>) -> Result<(), Trouble> {
     let messages = (message(alloc, 1)?, message(alloc, 2)?);
     let (mut tx, mut ports, _monitor) = open_told(alloc, out)?;
-    send_two_told(out, &mut tx, &mut ports, messages)
+    send_two_told(out, &mut tx, &mut ports, messages);
+    Ok(())
 }

@@ -30,44 +30,44 @@ fn told(is_so: bool) -> &'static str {
 }
 
 /// Sends two messages, takes one out of the queue, closes it, and sends a third.
-fn send_and_close<W: Write>(
-    out: &mut W,
+fn send_and_close<W: Write + Drop>(
+    out: &mut Out<W>,
     receiver: &mut Receiver,
     sender: &mut Sender,
     messages: Three,
-) -> Result<(), Trouble>
+)
     ensures receiver { receiver.new.queue ≡ receiver.old.queue }
     ensures sender { sender.new.queue ≡ sender.old.queue }
 {
     let (first, second, third) = messages;
-    send_told(out, sender, first)?;
-    send_paused_told(out, sender, second)?;
-    take_told(out, receiver)?;
-    writeln!(out, "closed {}", receiver.close())?;
-    send_told(out, sender, third)?;
+    send_told(out, sender, first);
+    send_paused_told(out, sender, second);
+    take_told(out, receiver);
+    out.line(format_args!("closed {}", receiver.close()));
+    send_told(out, sender, third);
     let (index, accepted) = (sender.index(), sender.accepted());
-    writeln!(out, "sender {index} accepted {accepted}")?;
-    Ok(())
+    out.line(format_args!("sender {index} accepted {accepted}"));
 }
 
 /// Takes a message out of a queue, closes it, and gathers its sender.
-fn use_queue<W: Write>(
-    out: &mut W,
+fn use_queue<W: Write + Drop>(
+    out: &mut Out<W>,
     mut receiver: Receiver,
     mut senders: Vec<Sender>,
     messages: Three,
-) -> Result<(), Trouble>
+)
     requires { AreOf receiver.queue senders.items }
 {
     if senders.len() != 1 {
-        return Err(Trouble::Missing);
+        out.line("missing");
+        return;
     }
-    send_and_close(out, &mut receiver, &mut senders[0], messages)?;
+    send_and_close(out, &mut receiver, &mut senders[0], messages);
     gather_told(out, receiver, senders)
 }
 
 /// Stamps a release, and tells which sub-VL is asked first and whether the link is due.
-fn use_shaper<W: Write>(out: &mut W) -> Result<(), Trouble> {
+fn use_shaper<W: Write + Drop>(out: &mut Out<W>) {
     one_each();
     let mut shaper = Shaper::new(Bag::Ms1, 2);
     let many = shaper.sub_vls();
@@ -75,12 +75,10 @@ fn use_shaper<W: Write>(out: &mut W) -> Result<(), Trouble> {
     let number = shaper.stamp(0, 0);
     let next = shaper.turn(0);
     let (early, late) = (told(shaper.due(999)), told(shaper.due(1_000)));
-    writeln!(
-        out,
+    out.line(format_args!(
         "{many} sub-VLs: asks {first}, number {number}, asks {next}\n\
         due at 999: {early}, at 1000: {late}"
-    )?;
-    Ok(())
+    ));
 }
 
 /// The demonstration port's message of the byte 01, for network A.
@@ -100,54 +98,53 @@ fn frame_for_a() -> Frame
 }
 
 /// Tells which networks of a mux stand, by each call that says so, and what each of them has.
-fn tell_mux<W: Write>(out: &mut W, mux: &Mux<Shelf, Shelf>) -> Result<(), Trouble> {
+fn tell_mux<W: Write + Drop>(out: &mut Out<W>, mux: &Mux<Shelf, Shelf>) {
     let standing = mux.standing();
     let (a, b) = (told(standing.a), told(standing.b));
     let on_a = told(mux.stands_for(Networks::OnlyA));
     let on_b = told(mux.stands_for(Networks::OnlyB));
-    writeln!(out, "A stands: {a} {on_a}, B stands: {b} {on_b}")?;
+    out.line(format_args!("A stands: {a} {on_a}, B stands: {b} {on_b}"));
     let (kept, failures) = (mux.network_a().kept.len(), mux.network_b().failures);
-    writeln!(out, "A keeps {kept}, B has failed {failures}")?;
-    Ok(())
+    out.line(format_args!("A keeps {kept}, B has failed {failures}"));
 }
 
 /// Hands a frame to two networks, of which B takes none.
-fn use_mux<W: Write>(out: &mut W) -> Result<(), Trouble> {
+fn use_mux<W: Write + Drop>(out: &mut Out<W>) {
     let mut mux = Mux::new(empty_shelf(4), empty_shelf(0));
     let frame = frame_for_a();
     match mux.hand(7, &frame, Networks::Both) {
         Ok(standing) => {
             let (a, b) = (told(standing.a), told(standing.b));
-            writeln!(out, "A stands: {a}, B stands: {b}")?;
+            out.line(format_args!("A stands: {a}, B stands: {b}"));
         }
-        Err(_) => writeln!(out, "both down")?,
+        Err(_) => out.line("both down"),
     }
-    tell_mux(out, &mux)?;
+    tell_mux(out, &mux);
     let (a, b) = mux.into_networks();
     let (a_kept, b_failures) = (a.kept.len(), b.failures);
-    writeln!(out, "A kept {a_kept}, B failed {b_failures}")?;
-    Ok(())
+    out.line(format_args!("A kept {a_kept}, B failed {b_failures}"));
 }
 
 /// Makes networks in memory, which are handed nothing.
-fn use_memory<W: Write>(alloc: Global, out: &mut W) -> Result<(), Trouble> {
+fn use_memory<W: Write + Drop>(alloc: Global, out: &mut Out<W>) {
     let (fresh, failing) = (MemNetwork::new(alloc), MemNetwork::failing_at(alloc, 1));
     let handed = fresh.handed().len() + failing.handed().len();
     let (first, second) = (fresh.failures(), failing.failures());
-    writeln!(out, "handed {handed}, failures {first} and {second}")?;
-    Ok(())
+    out.line(format_args!("handed {handed}, failures {first} and {second}"));
 }
 
 /// Cuts a message of the first port of a configuration into two frames, and tells the second, for each
 /// network.
-fn use_cut<W: Write>(out: &mut W, config: &Config, message: Vec<u8>) -> Result<(), Trouble> {
+fn use_cut<W: Write + Drop>(out: &mut Out<W>, config: &Config, message: Vec<u8>) {
     if config.ports().is_empty() || config.links().is_empty() {
-        return Err(Trouble::Missing);
+        out.line("missing");
+        return;
     }
     let (port, link) = (config.ports()[0], config.links()[0]);
     let is_over = link.id == port.vl && port.sub < link.sub_vls;
     if !is_over || message.is_empty() || message.len() > 8_192 {
-        return Err(Trouble::Missing);
+        out.line("missing");
+        return;
     }
     let (second, is_done) = {
         let mut cut = Cut::new(message, 0, &port);
@@ -156,67 +153,63 @@ fn use_cut<W: Write>(out: &mut W, config: &Config, message: Vec<u8>) -> Result<(
         let second = cut.next_frame(&link, 1, 1, Net::A).unwrap_or_default();
         (second, cut.is_done())
     };
-    writeln!(out, "all given: {}", told(is_done))?;
-    tell_fields(out, second.as_slice())?;
+    out.line(format_args!("all given: {}", told(is_done)));
+    tell_fields(out, second.as_slice());
     tell_fields(out, twin(&second, Net::B).as_slice())
 }
 
 /// Tells what a configuration says.
-fn use_plan<W: Write>(out: &mut W, config: &Config) -> Result<(), Trouble> {
+fn use_plan<W: Write + Drop>(out: &mut Out<W>, config: &Config) {
     flows_apart(config);
-    writeln!(out, "end system {}", config.end_system())?;
+    out.line(format_args!("end system {}", config.end_system()));
     for link in config.links() {
         let place = config.link_index(link.id).unwrap_or(64);
         let (bag, gap) = (link.bag.ms(), link.bag.micros());
         let (most, room) = (link.lmax.bytes(), link.lmax.room());
-        writeln!(
-            out,
-            "link at {place}: BAG {bag}, gap {gap}, lmax {most}, room {room}"
-        )?;
+        out.line(format_args!("link at {place}: BAG {bag}, gap {gap}, lmax {most}, room {room}"));
     }
     for port in config.ports() {
         let place = config.port_index(port.id).unwrap_or(256);
-        writeln!(out, "port at {place}")?;
+        out.line(format_args!("port at {place}"));
     }
-    writeln!(out, "jitter {}", jitter_ns(config))?;
-    Ok(())
+    out.line(format_args!("jitter {}", jitter_ns(config)));
 }
 
 /// Uses what needs no queue and no board.
-fn use_rest<W: Write>(
-    alloc: Global,
-    out: &mut W,
-    config: &Config,
-    long: Vec<u8>,
-) -> Result<(), Trouble> {
-    use_shaper(out)?;
-    use_mux(out)?;
-    use_memory(alloc, out)?;
-    use_cut(out, config, long)?;
+fn use_rest<W: Write + Drop>(alloc: Global, out: &mut Out<W>, config: &Config, long: Vec<u8>) {
+    use_shaper(out);
+    use_mux(out);
+    use_memory(alloc, out);
+    use_cut(out, config, long);
     use_plan(out, config)
 }
 
 /// Makes messages, a queue and a board, and calls the parts. What is printed behind `made` takes no
 /// memory.
-fn call_over<W: Write, R: Wait>(
+fn call_over<W: Write + Drop, R: Wait>(
     rt: &R,
     alloc: Global,
-    out: &mut W,
+    out: &mut Out<W>,
     config: &Config,
 ) -> Result<(), Trouble> {
     let messages = (message(alloc, 1)?, message(alloc, 2)?, message(alloc, 3)?);
     let long = vec![in alloc; 0xaau8; 1_472]?;
     let (receiver, senders) = make(alloc, 2, 1, 8)?;
     let (mut board, mut monitor) = open_board(alloc, 1)?;
-    writeln!(out, "made")?;
-    use_queue(out, receiver, senders, messages)?;
+    out.line("made");
+    use_queue(out, receiver, senders, messages);
     compare_ends(rt, &mut board, &mut monitor);
-    publish_told(rt, out, board, monitor)?;
-    use_rest(alloc, out, config, long)
+    publish_told(rt, out, board, monitor);
+    use_rest(alloc, out, config, long);
+    Ok(())
 }
 
 /// Makes a configuration, and calls the parts over it.
-pub fn call<W: Write, R: Wait>(rt: &R, alloc: Global, out: &mut W) -> Result<(), Trouble> {
+pub fn call<W: Write + Drop, R: Wait>(
+    rt: &R,
+    alloc: Global,
+    out: &mut Out<W>,
+) -> Result<(), Trouble> {
     let config = prepared(alloc)?;
     call_over(rt, alloc, out, &config)
 }

@@ -13,61 +13,57 @@ fn state(stands: bool) -> &'static str {
 }
 
 /// Tells what a poll released, and which networks stand then.
-pub fn tell_report<W: Write>(
-    out: &mut W,
-    now: u64,
-    answer: Result<Report, PollFault>,
-) -> Result<(), Trouble> {
+pub fn tell_report<W: Write + Drop>(out: &mut Out<W>, now: u64, answer: Result<Report, PollFault>) {
     match answer {
         Ok(report) => {
             let released = report.released.len();
             let (a, b) = (state(report.standing.a), state(report.standing.b));
-            writeln!(out, "poll {now}: released {released}, A {a}, B {b}")?;
+            out.line(format_args!("poll {now}: released {released}, A {a}, B {b}"));
         }
-        Err(fault) => writeln!(out, "poll {now}: {fault}")?,
+        Err(fault) => out.line(format_args!("poll {now}: {fault}")),
     }
-    Ok(())
 }
 
 /// Polls at a moment that isn't before the last one, and tells what came of it.
-pub fn poll_told<W: Write, A: Network + Drop, B: Network + Drop>(
-    out: &mut W,
+pub fn poll_told<W: Write + Drop, A: Network + Drop, B: Network + Drop>(
+    out: &mut Out<W>,
     tx: &mut Emitter<A, B>,
     now: u64,
-) -> Result<(), Trouble>
-    ensures { OnOk result ((port : PortView) → IsPortOfTx tx.old port → IsPortOfTx tx.new port) }
+)
+    ensures { (port : PortView) → IsPortOfTx tx.old port → IsPortOfTx tx.new port }
 {
     if now < tx.now() {
-        return Err(Trouble::Missing);
+        out.line("missing");
+        return;
     }
     let answer = tx.poll(now);
     tell_report(out, now, answer)
 }
 
 /// Sends a message, and tells how it is refused, if it is. The port stays one of its emitter.
-pub fn send_told<W: Write>(out: &mut W, port: &mut TxPort, message: Vec<u8>) -> Result<(), Trouble>
+pub fn send_told<W: Write + Drop>(out: &mut Out<W>, port: &mut TxPort, message: Vec<u8>)
     ensures { (tx : Tx) → IsPortOfTx tx port.old → IsPortOfTx tx port.new }
 {
     match port.send(message) {
-        Ok(()) => writeln!(out, "send: Ok")?,
-        Err(fault) => writeln!(out, "send: {}", fault.why)?,
+        Ok(()) => out.line("send: Ok"),
+        Err(fault) => out.line(format_args!("send: {}", fault.why)),
     }
-    Ok(())
 }
 
 /// Sends two messages by the last port, and polls twice.
-pub fn send_two_told<W: Write, A: Network + Drop, B: Network + Drop>(
-    out: &mut W,
+pub fn send_two_told<W: Write + Drop, A: Network + Drop, B: Network + Drop>(
+    out: &mut Out<W>,
     tx: &mut Emitter<A, B>,
     ports: &mut [TxPort],
     messages: (Vec<u8>, Vec<u8>),
-) -> Result<(), Trouble> {
+) {
     let Some(port) = ports.last_mut() else {
-        return Err(Trouble::Missing);
+        out.line("missing");
+        return;
     };
-    send_told(out, port, messages.0)?;
-    send_told(out, port, messages.1)?;
-    poll_told(out, tx, 0)?;
+    send_told(out, port, messages.0);
+    send_told(out, port, messages.1);
+    poll_told(out, tx, 0);
     poll_told(out, tx, 1_000)
 }
 

@@ -10,138 +10,128 @@ use subvl_queue::{Gathered, Receiver, Sender, make};
 const GREATEST: usize = 8_192;
 
 /// Sends a message, and tells why it is refused, if it is.
-pub fn send_told<W: Write>(
-    out: &mut W,
-    sender: &mut Sender,
-    message: Vec<u8>,
-) -> Result<(), Trouble>
+pub fn send_told<W: Write + Drop>(out: &mut Out<W>, sender: &mut Sender, message: Vec<u8>)
     ensures { sender.new.queue ≡ sender.old.queue }
 {
     if message.is_empty() || message.len() > GREATEST {
-        return Err(Trouble::Missing);
+        out.line("missing");
+        return;
     }
     match sender.send(message) {
-        Ok(()) => writeln!(out, "send: Ok")?,
-        Err(refused) => writeln!(out, "send: {}", refused.why)?,
+        Ok(()) => out.line("send: Ok"),
+        Err(refused) => out.line(format_args!("send: {}", refused.why)),
     }
-    Ok(())
 }
 
 /// Sends a message with a pause that does nothing, and tells why it is refused, if it is.
-pub fn send_paused_told<W: Write>(
-    out: &mut W,
-    sender: &mut Sender,
-    message: Vec<u8>,
-) -> Result<(), Trouble>
+pub fn send_paused_told<W: Write + Drop>(out: &mut Out<W>, sender: &mut Sender, message: Vec<u8>)
     ensures { sender.new.queue ≡ sender.old.queue }
 {
     if message.is_empty() || message.len() > GREATEST {
-        return Err(Trouble::Missing);
+        out.line("missing");
+        return;
     }
     match sender.send_with(message, || {}) {
-        Ok(()) => writeln!(out, "send: Ok")?,
-        Err(refused) => writeln!(out, "send: {}", refused.why)?,
+        Ok(()) => out.line("send: Ok"),
+        Err(refused) => out.line(format_args!("send: {}", refused.why)),
     }
-    Ok(())
 }
 
 /// Takes the next message, and tells its bytes, if there is one.
-pub fn take_told<W: Write>(out: &mut W, receiver: &mut Receiver) -> Result<(), Trouble>
+pub fn take_told<W: Write + Drop>(out: &mut Out<W>, receiver: &mut Receiver)
     ensures { receiver.new.queue ≡ receiver.old.queue }
 {
     match receiver.take() {
-        Some(item) => writeln!(out, "take: {} {:?}", item.port, item.bytes.as_slice())?,
-        None => writeln!(out, "take: None")?,
+        Some(item) => out.line(format_args!("take: {} {:?}", item.port, item.bytes.as_slice())),
+        None => out.line("take: None"),
     }
-    Ok(())
 }
 
 /// Gathers a sender, and tells what is left.
-pub fn gather_told<W: Write>(
-    out: &mut W,
-    receiver: Receiver,
-    senders: Vec<Sender>,
-) -> Result<(), Trouble>
+pub fn gather_told<W: Write + Drop>(out: &mut Out<W>, receiver: Receiver, senders: Vec<Sender>)
     requires { AreOf receiver.queue senders.items }
 {
     match receiver.gather(senders).ok() {
         Some(gathered) => take_left(out, gathered),
-        None => Err(Trouble::Missing),
+        None => out.line("missing"),
     }
 }
 
 /// Takes the next message of a gathered queue, and tells its bytes, if there is one.
-fn take_left<W: Write>(out: &mut W, mut gathered: Gathered) -> Result<(), Trouble> {
+fn take_left<W: Write + Drop>(out: &mut Out<W>, mut gathered: Gathered) {
     match gathered.take() {
-        Some(item) => writeln!(out, "left: {} {:?}", item.port, item.bytes.as_slice())?,
-        None => writeln!(out, "left: None")?,
+        Some(item) => out.line(format_args!("left: {} {:?}", item.port, item.bytes.as_slice())),
+        None => out.line("left: None"),
     }
     let drained = if gathered.is_drained() { "yes" } else { "no" };
-    writeln!(out, "drained: {drained}")?;
-    Ok(())
+    out.line(format_args!("drained: {drained}"));
 }
 
 /// Four messages of one byte.
 type Four = (Vec<u8>, Vec<u8>, Vec<u8>, Vec<u8>);
 
 /// Sends two messages.
-pub fn send_both<W: Write>(
-    out: &mut W,
+pub fn send_both<W: Write + Drop>(
+    out: &mut Out<W>,
     sender: &mut Sender,
     first: Vec<u8>,
     second: Vec<u8>,
-) -> Result<(), Trouble>
+)
     ensures { sender.new.queue ≡ sender.old.queue }
 {
-    send_told(out, sender, first)?;
+    send_told(out, sender, first);
     send_told(out, sender, second)
 }
 
 /// Sends more messages than have room, and more than may be asked for.
-fn send_four<W: Write>(
-    out: &mut W,
+fn send_four<W: Write + Drop>(
+    out: &mut Out<W>,
     receiver: &mut Receiver,
     sender: &mut Sender,
     messages: Four,
-) -> Result<(), Trouble>
+)
     ensures receiver { receiver.new.queue ≡ receiver.old.queue }
     ensures sender { sender.new.queue ≡ sender.old.queue }
 {
     let (first, second, third, fourth) = messages;
-    send_both(out, sender, first, second)?;
-    send_told(out, sender, third)?;
-    take_told(out, receiver)?;
-    send_told(out, sender, fourth)?;
-    writeln!(out, "accepted {}", sender.accepted())?;
-    Ok(())
+    send_both(out, sender, first, second);
+    send_told(out, sender, third);
+    take_told(out, receiver);
+    send_told(out, sender, fourth);
+    out.line(format_args!("accepted {}", sender.accepted()));
 }
 
 /// Uses a queue of one place and one sender.
-fn answer<W: Write>(
-    out: &mut W,
+fn answer<W: Write + Drop>(
+    out: &mut Out<W>,
     mut receiver: Receiver,
     mut senders: Vec<Sender>,
     messages: Four,
-) -> Result<(), Trouble>
+)
     requires { AreOf receiver.queue senders.items }
 {
     if senders.len() != 1 {
-        return Err(Trouble::Missing);
+        out.line("missing");
+        return;
     }
-    send_four(out, &mut receiver, &mut senders[0], messages)?;
+    send_four(out, &mut receiver, &mut senders[0], messages);
     gather_told(out, receiver, senders)
 }
 
 /// Makes a queue of one place, whose sender may ask twice; once more where memory was refused.
-pub fn make_one<W: Write>(alloc: Global, out: &mut W) -> Result<(), Trouble> {
+pub fn make_one<W: Write + Drop>(alloc: Global, out: &mut Out<W>) -> Result<(), Trouble> {
     let (first, second) = (message(alloc, 1)?, message(alloc, 2)?);
     let messages = (first, second, message(alloc, 3)?, message(alloc, 4)?);
     if let Ok((receiver, senders)) = make(alloc, 1, 1, 2) {
-        return answer(out, receiver, senders, messages);
+        answer(out, receiver, senders, messages);
+        return Ok(());
     }
-    writeln!(out, "refused AllocError")?;
+    out.line("refused AllocError");
     match make(alloc, 1, 1, 2) {
-        Ok((receiver, senders)) => answer(out, receiver, senders, messages),
+        Ok((receiver, senders)) => {
+            answer(out, receiver, senders, messages);
+            Ok(())
+        }
         Err(_) => Err(Trouble::Twice),
     }
 }

@@ -56,54 +56,48 @@ fn open(alloc: Global) -> Result<Opened, Trouble>
 
 /// Sends a message with a pause that does nothing, and tells how it is refused, if it is. The port stays
 /// one of its emitter.
-fn send_paused_told<W: Write>(
-    out: &mut W,
-    port: &mut TxPort,
-    message: Vec<u8>,
-) -> Result<(), Trouble>
+fn send_paused_told<W: Write + Drop>(out: &mut Out<W>, port: &mut TxPort, message: Vec<u8>)
     ensures { (tx : Tx) → IsPortOfTx tx port.old → IsPortOfTx tx port.new }
 {
     match port.send_with(message, || {}) {
-        Ok(()) => writeln!(out, "send: Ok")?,
-        Err(fault) => writeln!(out, "send: {}", fault.why)?,
+        Ok(()) => out.line("send: Ok"),
+        Err(fault) => out.line(format_args!("send: {}", fault.why)),
     }
-    Ok(())
 }
 
 /// Tells what a port is asked.
-fn tell_port<W: Write>(out: &mut W, port: &TxPort) -> Result<(), Trouble> {
+fn tell_port<W: Write + Drop>(out: &mut Out<W>, port: &TxPort) {
     let (id, accepted) = (port.id().0, port.accepted());
-    writeln!(out, "port {id} accepted {accepted}")?;
-    Ok(())
+    out.line(format_args!("port {id} accepted {accepted}"));
 }
 
 /// Tells what an emitter is asked between its polls.
-fn tell_emitter<W: Write>(out: &mut W, tx: &Emitter<Shelf, Shelf>) -> Result<(), Trouble> {
+fn tell_emitter<W: Write + Drop>(out: &mut Out<W>, tx: &Emitter<Shelf, Shelf>) {
     let (links, now) = (tx.config().links().len(), tx.now());
     let (a, b) = (tx.network_a().kept.len(), tx.network_b().kept.len());
-    writeln!(out, "links {links}, now {now}, A has {a}, B has {b}")?;
+    out.line(format_args!("links {links}, now {now}, A has {a}, B has {b}"));
     match tx.counts(VlId(1)) {
         Some(counts) => tell_counts(out, counts),
-        None => Err(Trouble::Missing),
+        None => out.line("missing"),
     }
 }
 
 /// Tells what an emitter is asked while it drains.
-fn tell_draining<W: Write>(out: &mut W, draining: &Draining<Shelf, Shelf>) -> Result<(), Trouble> {
+fn tell_draining<W: Write + Drop>(out: &mut Out<W>, draining: &Draining<Shelf, Shelf>) {
     let (links, now) = (draining.config().links().len(), draining.now());
     let (a, b) = (
         draining.network_a().kept.len(),
         draining.network_b().kept.len(),
     );
-    writeln!(out, "links {links}, now {now}, A has {a}, B has {b}")?;
+    out.line(format_args!("links {links}, now {now}, A has {a}, B has {b}"));
     match draining.counts(VlId(1)) {
         Some(counts) => tell_counts(out, counts),
-        None => Err(Trouble::Missing),
+        None => out.line("missing"),
     }
 }
 
 /// Takes the networks back from an emitter that sent nothing.
-fn give_up<W: Write>(out: &mut W, opened: Opened) -> Result<(), Trouble> {
+fn give_up<W: Write + Drop>(out: &mut Out<W>, opened: Opened) {
     let Opened {
         tx,
         port: _port,
@@ -112,31 +106,30 @@ fn give_up<W: Write>(out: &mut W, opened: Opened) -> Result<(), Trouble> {
     } = opened;
     let (a, b) = tx.into_networks();
     let (a, b) = (a.kept.len(), b.kept.len());
-    writeln!(out, "given up: A has {a}, B has {b}")?;
-    Ok(())
+    out.line(format_args!("given up: A has {a}, B has {b}"));
 }
 
 /// Sends a message, and polls twice.
-fn send_and_poll<W: Write>(
-    out: &mut W,
+fn send_and_poll<W: Write + Drop>(
+    out: &mut Out<W>,
     tx: &mut Emitter<Shelf, Shelf>,
     port: &mut TxPort,
     message: Vec<u8>,
-) -> Result<(), Trouble>
-    ensures { OnOk result (IsPortOfTx tx.old port.old → IsPortOfTx tx.new port.new) }
+)
+    ensures { IsPortOfTx tx.old port.old → IsPortOfTx tx.new port.new }
 {
-    send_told(out, port, message)?;
-    poll_told(out, tx, 0)?;
+    send_told(out, port, message);
+    poll_told(out, tx, 0);
     poll_told(out, tx, 1_000)
 }
 
 /// Publishes, and reads the board.
-fn publish_and_read<W: Write, R: Wait>(
+fn publish_and_read<W: Write + Drop, R: Wait>(
     rt: &R,
-    out: &mut W,
+    out: &mut Out<W>,
     tx: &mut Emitter<Shelf, Shelf>,
     monitor: &mut Monitor,
-) -> Result<(), Trouble>
+)
     requires { 0 < links_of monitor.old }
     ensures { tx.new ≡ record tx.old { board = tx.new.board } }
 {
@@ -145,18 +138,17 @@ fn publish_and_read<W: Write, R: Wait>(
 }
 
 /// Closes the one sub-VL, and tells how many messages were accepted.
-fn close_told<W: Write>(out: &mut W, tx: &mut Emitter<Shelf, Shelf>) -> Result<(), Trouble>
-    ensures { OnOk result ((port : PortView) → IsPortOfTx tx.old port → IsPortOfTx tx.new port) }
+fn close_told<W: Write + Drop>(out: &mut Out<W>, tx: &mut Emitter<Shelf, Shelf>)
+    ensures { (port : PortView) → IsPortOfTx tx.old port → IsPortOfTx tx.new port }
 {
     match tx.close(VlId(1), 0) {
-        Ok(total) => writeln!(out, "closed {total}")?,
-        Err(fault) => writeln!(out, "{fault}")?,
+        Ok(total) => out.line(format_args!("closed {total}")),
+        Err(fault) => out.line(format_args!("{fault}")),
     }
-    Ok(())
 }
 
 /// Gathers the one port, in the list that it came out of.
-fn gather(opened: Opened) -> Result<Draining<Shelf, Shelf>, Trouble>
+fn gather(opened: Opened) -> Option<Draining<Shelf, Shelf>>
     requires { IsPortOfTx opened.tx opened.port }
 {
     let Opened {
@@ -167,40 +159,34 @@ fn gather(opened: Opened) -> Result<Draining<Shelf, Shelf>, Trouble>
     } = opened;
     let mut ports = others;
     ports.clear();
-    ports.push(port)?;
-    match tx.gather(ports) {
-        Ok(draining) => Ok(draining),
-        Err(back) => {
-            drop(back);
-            Err(Trouble::Missing)
-        }
-    }
+    ports.push(port).ok()?;
+    tx.gather(ports).ok()
 }
 
 /// Polls for what is left, and publishes.
-fn drain<W: Write, R: Wait>(
+fn drain<W: Write + Drop, R: Wait>(
     rt: &R,
-    out: &mut W,
+    out: &mut Out<W>,
     draining: &mut Draining<Shelf, Shelf>,
-) -> Result<(), Trouble> {
+) {
     if 2_000 < draining.now() {
-        return Err(Trouble::Missing);
+        out.line("missing");
+        return;
     }
     let answer = draining.poll(2_000);
-    tell_report(out, 2_000, answer)?;
+    tell_report(out, 2_000, answer);
     draining.publish(rt);
-    tell_draining(out, draining)?;
+    tell_draining(out, draining);
     let done = if draining.is_done() {
         "done"
     } else {
         "not done"
     };
-    writeln!(out, "{done}")?;
-    Ok(())
+    out.line(format_args!("{done}"));
 }
 
 /// Tells the fields of a frame.
-pub fn tell_fields<W: Write>(out: &mut W, frame: &[u8]) -> Result<(), Trouble> {
+pub fn tell_fields<W: Write + Drop>(out: &mut Out<W>, frame: &[u8]) {
     let (vl, sub, number) = (vl_of(frame), sub_of(frame), sn_of(frame));
     let (ident, offset, more) = (ident_of(frame), offset_of(frame), more_of(frame));
     let vl = vl.map_or(0, |id| id.0);
@@ -208,81 +194,79 @@ pub fn tell_fields<W: Write>(out: &mut W, frame: &[u8]) -> Result<(), Trouble> {
     let (ident, offset) = (ident.unwrap_or(65_535), offset.unwrap_or(65_535));
     let more = if more == Some(true) { "more" } else { "last" };
     let length = frame.len();
-    writeln!(
-        out,
+    out.line(format_args!(
         "{length} bytes, link {vl} sub {sub}, number {number}\n\
         message {ident}, offset {offset}, {more}"
-    )?;
-    Ok(())
+    ));
 }
 
 /// Tells what a network was handed.
-fn tell_shelf<W: Write>(out: &mut W, name: &str, shelf: &Shelf) -> Result<(), Trouble> {
+fn tell_shelf<W: Write + Drop>(out: &mut Out<W>, name: &str, shelf: &Shelf) {
     for kept in shelf.kept.as_slice() {
-        writeln!(out, "{name} {}", kept.at)?;
-        tell_fields(out, kept.frame.as_slice())?;
+        out.line(format_args!("{name} {}", kept.at));
+        tell_fields(out, kept.frame.as_slice());
     }
-    Ok(())
 }
 
 /// Sends, polls, publishes, reads, sends once more and closes. What is printed behind `opened` takes no
 /// memory.
-fn use_opened<W: Write, R: Wait>(
+fn use_opened<W: Write + Drop, R: Wait>(
     rt: &R,
-    out: &mut W,
+    out: &mut Out<W>,
     opened: &mut Opened,
     long: Vec<u8>,
     short: Vec<u8>,
-) -> Result<(), Trouble>
+)
     requires { 0 < links_of opened.old.monitor }
-    ensures { OnOk result (IsPortOfTx opened.old.tx opened.old.port
-        → IsPortOfTx opened.new.tx opened.new.port) }
+    ensures { IsPortOfTx opened.old.tx opened.old.port
+        → IsPortOfTx opened.new.tx opened.new.port }
 {
-    writeln!(out, "opened")?;
-    send_and_poll(out, &mut opened.tx, &mut opened.port, long)?;
-    publish_and_read(rt, out, &mut opened.tx, &mut opened.monitor)?;
-    tell_emitter(out, &opened.tx)?;
-    send_paused_told(out, &mut opened.port, short)?;
-    tell_port(out, &opened.port)?;
+    out.line("opened");
+    send_and_poll(out, &mut opened.tx, &mut opened.port, long);
+    publish_and_read(rt, out, &mut opened.tx, &mut opened.monitor);
+    tell_emitter(out, &opened.tx);
+    send_paused_told(out, &mut opened.port, short);
+    tell_port(out, &opened.port);
     close_told(out, &mut opened.tx)
 }
 
 /// Uses what is opened, gathers, and tells what the networks were handed.
-fn use_all<W: Write, R: Wait>(
+fn use_all<W: Write + Drop, R: Wait>(
     rt: &R,
-    out: &mut W,
+    out: &mut Out<W>,
     mut opened: Opened,
     long: Vec<u8>,
     short: Vec<u8>,
-) -> Result<(), Trouble>
+)
     requires port { IsPortOfTx opened.tx opened.port }
     requires monitor { 0 < links_of opened.monitor }
 {
-    if let Err(trouble) = use_opened(rt, out, &mut opened, long, short) {
-        drop(opened);
-        return Err(trouble);
-    }
-    let mut draining = gather(opened)?;
-    let drained = drain(rt, out, &mut draining);
+    use_opened(rt, out, &mut opened, long, short);
+    let Some(mut draining) = gather(opened) else {
+        out.line("missing");
+        return;
+    };
+    drain(rt, out, &mut draining);
     let (a, b) = draining.into_networks();
-    drained?;
-    tell_shelf(out, "A", &a)?;
+    tell_shelf(out, "A", &a);
     tell_shelf(out, "B", &b)
 }
 
 /// Sends a message of two frames, and one that is left to the drain. Both are made before the emitter is
 /// opened, and so is another one, which sends nothing.
-pub fn send<W: Write, R: Wait>(rt: &R, alloc: Global, out: &mut W) -> Result<(), Trouble> {
+pub fn send<W: Write + Drop, R: Wait>(
+    rt: &R,
+    alloc: Global,
+    out: &mut Out<W>,
+) -> Result<(), Trouble> {
     let long = vec![in alloc; 0xaau8; 1_472]?;
     let short = message(alloc, 1)?;
     let spare = open(alloc)?;
     match open(alloc) {
         Ok(opened) => {
-            if let Err(trouble) = give_up(out, spare) {
-                drop(opened);
-                return Err(trouble);
-            }
-            use_all(rt, out, opened, long, short)
+            give_up(out, spare);
+            use_all(rt, out, opened, long, short);
+            Ok(())
         }
         Err(trouble) => {
             drop(spare);

@@ -7,7 +7,7 @@ use tx_script::{RunFault, Summary, run_script};
 const SCRIPT: &str = "send 10 01\nsend 10 02\nsend 10 03\nat 0\nsend 10 03\nat 1000\nat 2000\n";
 
 /// Tells the counts of a run, or its fault.
-fn tell<W: Write>(out: &mut W, answer: Result<Summary, RunFault>) -> Result<(), Trouble> {
+fn tell<W: Write + Drop>(out: &mut Out<W>, answer: Result<Summary, RunFault>) {
     match answer {
         Ok(
             Summary {
@@ -15,22 +15,19 @@ fn tell<W: Write>(out: &mut W, answer: Result<Summary, RunFault>) -> Result<(), 
                 refused,
                 frames,
             },
-        ) => writeln!(
-            out,
-            "accepted {accepted}, refused {refused}, frames {frames}"
-        )?,
-        Err(fault) => writeln!(out, "{fault}")?,
+        ) => out.line(format_args!("accepted {accepted}, refused {refused}, frames {frames}")),
+        Err(fault) => out.line(format_args!("{fault}")),
     }
-    Ok(())
 }
 
 /// Runs a script, and prints its transcript; once more where memory was refused.
-pub fn run<W: Write>(alloc: Global, out: &mut W) -> Result<(), Trouble> {
+pub fn run<W: Write + Drop>(alloc: Global, out: &mut Out<W>) -> Result<(), Trouble> {
     let (first, second) = (prepared(alloc)?, prepared(alloc)?);
-    let mut answer = run_script(alloc, first, SCRIPT.as_bytes(), out);
+    let mut answer = run_script(alloc, first, SCRIPT.as_bytes(), out.writer());
     if answer == Err(RunFault::Memory) {
-        writeln!(out, "refused Memory")?;
-        answer = run_script(alloc, second, SCRIPT.as_bytes(), out);
+        out.line("refused Memory");
+        answer = run_script(alloc, second, SCRIPT.as_bytes(), out.writer());
     }
-    tell(out, answer)
+    tell(out, answer);
+    Ok(())
 }

@@ -27,44 +27,45 @@ fn plan(alloc: Global) -> Result<Config, Trouble> {
 }
 
 /// Tells the totals of a storm over these links.
-fn tell<W: Write>(out: &mut W, links: &[LinkPlan], report: &StormReport) -> Result<(), Trouble> {
+fn tell<W: Write + Drop>(out: &mut Out<W>, links: &[LinkPlan], report: &StormReport) {
     if report.links.len() != links.len() {
-        return Err(Trouble::Missing);
+        out.line("missing");
+        return;
     }
-    write_totals(out, links, report)?;
-    Ok(())
+    let is_printed = write_totals(out.writer(), links, report).is_ok();
+    out.note(is_printed);
 }
 
 /// Throws a storm over a configuration. Whether it is worth another: it was refused, or a network failed.
-fn throw_once<W: Write, R: Threads + Wait + Sync>(
+fn throw_once<W: Write + Drop, R: Threads + Wait + Sync>(
     rt: &R,
     alloc: Global,
-    out: &mut W,
+    out: &mut Out<W>,
     config: Config,
     links: &[LinkPlan],
-) -> Result<bool, Trouble> {
+) -> bool {
     match storm(rt, alloc, config, MESSAGES, TURNS, &OpenGate) {
         Ok(report) => {
-            tell(out, links, &report)?;
-            Ok(!report.equal)
+            tell(out, links, &report);
+            !report.equal
         }
         Err(fault) => {
-            writeln!(out, "refused {fault}")?;
-            Ok(fault == StormFault::Memory)
+            out.line(format_args!("refused {fault}"));
+            fault == StormFault::Memory
         }
     }
 }
 
 /// Throws a storm, once more where memory was refused, to a call or to a network.
-pub fn throw<W: Write, R: Threads + Wait + Sync>(
+pub fn throw<W: Write + Drop, R: Threads + Wait + Sync>(
     rt: &R,
     alloc: Global,
-    out: &mut W,
+    out: &mut Out<W>,
 ) -> Result<(), Trouble> {
     let (first, second) = (plan(alloc)?, plan(alloc)?);
     let links = first.links().to_vec(alloc)?;
-    if throw_once(rt, alloc, out, first, links.as_slice())? {
-        throw_once(rt, alloc, out, second, links.as_slice())?;
+    if throw_once(rt, alloc, out, first, links.as_slice()) {
+        throw_once(rt, alloc, out, second, links.as_slice());
     }
     Ok(())
 }

@@ -1,7 +1,7 @@
 //! Why a case ends early, and what each case makes use of.
 pub use std::alloc::Global;
 use std::alloc::{AllocError, AllocFailed};
-use std::io;
+use std::fmt::Display;
 pub use std::io::Write;
 use thiserror::Error;
 
@@ -51,8 +51,44 @@ impl<T: Drop> From<AllocFailed<T>> for Trouble {
     }
 }
 
-impl From<io::Error> for Trouble {
-    fn from(_error: io::Error) -> Trouble {
-        Trouble::Output
+/// Where cases print. After a line that could not be printed no other is.
+#[derive(Drop)]
+pub struct Out<W: Write + Drop> {
+    writer: W,
+    failed: bool,
+}
+
+impl<W: Write + Drop> Out<W> {
+    pub fn new(writer: W) -> Out<W> {
+        Out {
+            writer,
+            failed: false,
+        }
+    }
+
+    /// Prints a line.
+    pub fn line(&mut self, text: impl Display + Drop) {
+        if !self.failed {
+            self.failed = writeln!(self.writer, "{text}").is_err();
+        }
+    }
+
+    /// What a call of the library prints to, which then says whether it could.
+    pub fn writer(&mut self) -> &mut W {
+        &mut self.writer
+    }
+
+    /// Takes note of whether that call could print.
+    pub fn note(&mut self, is_printed: bool) {
+        self.failed = self.failed || !is_printed;
+    }
+
+    /// Whether each line was printed.
+    pub fn end(&self) -> Result<(), Trouble> {
+        if self.failed {
+            Err(Trouble::Output)
+        } else {
+            Ok(())
+        }
     }
 }
