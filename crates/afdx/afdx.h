@@ -156,6 +156,16 @@ uint8_t afdx_accepted(afdx_port *port, uint64_t *count);
    still there. */
 uint8_t afdx_poll(afdx_end_system *it, uint64_t now, uint8_t *standing);
 
+/* No moment: what afdx_next_due writes where no virtual link becomes due. */
+#define AFDX_NEVER UINT64_MAX
+
+/* When a poll can have something to do again, for a thread that sleeps between polls. Writes the first moment after that of
+   the last poll, in microseconds, at which a virtual link becomes due that wasn't then and that is carried by a network that
+   stands; or AFDX_NEVER. Before it a poll makes frames only of links that were due at the last poll and had nothing to send
+   then: so sleep until that moment, or until a port has sent, which afdx.h can't tell. Whether the link has something to
+   send isn't known before it is polled. Refused: AFDX_NOT_HELD, AFDX_WRONG_HANDLE; then nothing is written. */
+uint8_t afdx_next_due(afdx_end_system *it, uint64_t *at);
+
 /* How many frames the last poll made for a network. Refused: AFDX_NOT_HELD, AFDX_WRONG_HANDLE, AFDX_NO_NETWORK; then
    nothing is written. */
 uint8_t afdx_frames(afdx_end_system *it, uint8_t network, size_t *count);

@@ -1,6 +1,6 @@
 /* What two end systems side by side, no bytes at all, lists and the allocator show of the calls of afdx.h: a port is
    given back to its own end system alone, NULL is legal for 0 bytes, all frames of a poll at once are those of the calls
-   for one, and an end system asks for as much memory as docs/c-library.md says.
+   for one, a moment until which a poller may sleep is one at which a link becomes due, and an end system asks for as much memory as docs/c-library.md says.
 
    tools/c_library.py builds and runs it. Requests for memory go through `__wrap_malloc` and its kin below (by the
    linker's --wrap), which count their bytes. A failed check is told by its line; the last line is 'N passed, M failed'. */
@@ -202,6 +202,73 @@ static void check_all_frames(void) {
     CHECK(afdx_free(&it) == AFDX_OK && blocks == 0);
 }
 
+/* When the next link becomes due: a gap after its last frame, for the links that sent and that a network carries. */
+static void next_is(afdx_end_system *it, uint64_t wanted) {
+    uint64_t at = 7;
+    CHECK(afdx_next_due(it, &at) == AFDX_OK && at == wanted);
+}
+
+static void poll_makes(afdx_end_system *it, uint64_t now, size_t wanted) {
+    uint8_t standing = 7;
+    size_t count = 7;
+    CHECK(afdx_poll(it, now, &standing) == AFDX_OK && afdx_frames(it, AFDX_A, &count) == AFDX_OK && count == wanted);
+}
+
+static void check_next_due(void) {
+    static const char text[] =
+        "version = 2\n[end_system]\nid = 1\n"
+        "[[vl]]\nid = 1\nbag_ms = 8\nlmax = 1518\nsub_vls = 1\ncapacity = 4\n"
+        "[[vl]]\nid = 2\nbag_ms = 2\nlmax = 1518\nsub_vls = 1\ncapacity = 4\nnetworks = \"a\"\n"
+        "[[port]]\nid = 1\nvl = 1\nsub = 0\npartition = 1\nkind = \"queuing\"\nsource = 1\ndestination = 2\nmax = 100\n"
+        "[[port]]\nid = 2\nvl = 2\nsub = 0\npartition = 1\nkind = \"queuing\"\nsource = 2\ndestination = 2\nmax = 100\n";
+    afdx_end_system it = {0};
+    afdx_port ports[2] = {{0}};
+    uint8_t standing = 7, done = 0;
+    uint64_t at = 7;
+    CHECK(afdx_next_due(&it, &at) == AFDX_NOT_HELD && at == 7);
+    open_plan(&it, text);
+    for (uint16_t k = 0; k < 2; k++) CHECK(afdx_port_of(&it, 1 + k, &ports[k]) == AFDX_OK);
+    afdx_end_system wrong = {.at = ports[0].at, .held = ports[0].held};
+    CHECK(afdx_next_due(&wrong, &at) == AFDX_WRONG_HANDLE && at == 7);
+    /* links that sent nothing are due all the time: only a send makes something to do */
+    next_is(&it, AFDX_NEVER);
+    poll_makes(&it, 100, 0);
+    next_is(&it, AFDX_NEVER);
+    for (int k = 0; k < 3; k++) CHECK(afdx_send(&ports[k / 2], (const uint8_t *)"x", 1) == AFDX_OK);
+    next_is(&it, AFDX_NEVER);
+    poll_makes(&it, 1000, 2);
+    next_is(&it, 3000);
+    poll_makes(&it, 2999, 0);
+    next_is(&it, 3000);
+    /* at that moment the second link is due and has nothing to send: the first is next */
+    poll_makes(&it, 3000, 0);
+    next_is(&it, 9000);
+    CHECK(afdx_send(&ports[1], (const uint8_t *)"x", 1) == AFDX_OK);
+    poll_makes(&it, 5000, 1);
+    next_is(&it, 7000);
+    for (int k = 0; k < 2; k++) CHECK(afdx_give_back(&it, &ports[k]) == AFDX_OK);
+    CHECK(afdx_gather(&it) == AFDX_OK);
+    next_is(&it, 7000);
+    poll_makes(&it, 9000, 1);
+    next_is(&it, 17000);
+    CHECK(afdx_is_done(&it, &done) == AFDX_OK && done == 1 && afdx_free(&it) == AFDX_OK);
+    /* a link whose network is down becomes due no more */
+    open_plan(&it, text);
+    for (uint16_t k = 0; k < 2; k++) {
+        CHECK(afdx_port_of(&it, 1 + k, &ports[k]) == AFDX_OK && afdx_send(&ports[k], (const uint8_t *)"x", 1) == AFDX_OK);
+    }
+    CHECK(afdx_send(&ports[1], (const uint8_t *)"x", 1) == AFDX_OK);
+    for (int k = 0; k < 2; k++) CHECK(afdx_free_port(&ports[k]) == AFDX_OK);
+    poll_makes(&it, 0, 2);
+    CHECK(afdx_fail(&it, AFDX_A) == AFDX_OK);
+    next_is(&it, 2000);
+    poll_makes(&it, 2000, 0);
+    next_is(&it, 8000);
+    CHECK(afdx_poll(&it, UINT64_MAX - 1, &standing) == AFDX_OK);
+    next_is(&it, AFDX_NEVER);
+    CHECK(afdx_free(&it) == AFDX_OK && blocks == 0);
+}
+
 /* The room of a list of so many that has grown one by one. */
 static size_t room(size_t many) {
     size_t room = many == 0 ? 0 : 4;
@@ -246,6 +313,7 @@ int main(void) {
     check_null();
     check_lists();
     check_all_frames();
+    check_next_due();
     check_memory();
     printf("%u passed, %u failed\n", passed, failed);
     return failed != 0;

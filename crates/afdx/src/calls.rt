@@ -13,6 +13,7 @@ ghost use Rattle.afdx_handle.specs.Numbers.{AreCountsOf, IsOneOf, net_of, refusa
 ghost use Rattle.afdx_handle.specs.EndSystem.{EndView, has_id, made_for, made_at, PollsEnd, ClosesEnd, GathersEnd, GivesBack, TakesPort, IsAllSent, IsOpened};
 ghost use Rattle.afdx_legal.specs.Counting.{counts_in};
 ghost use Rattle.afdx_legal.specs.Own.{own_stream};
+ghost use Rattle.afdx_handle.specs.Polling.{IsNextDue};
 ghost use Rattle.afdx_handle.specs.Listing.{with_front, port_ids, link_ids, all_made, bytes_of, lengths_of};
 ghost use Rattle.std.specs.List.{concat};
 ghost use Rattle.afdx_handle.specs.Held.{end_of, port_of, HoldsNothing, HoldsOne, HoldsSame, EndDoes, PortDoes};
@@ -215,6 +216,22 @@ pub extern "C" fn afdx_poll(it: &mut Handle, now: u64, standing: &mut u8) -> u8
     ensures unwritten { result ≢ DONE → result ≢ BOTH_DOWN → standing.new ≡ standing.old }
 {
     with_end!(it, end_system => end_system.poll(now, standing))
+}
+
+/// The first moment after that of the last poll at which a link may release a frame that might not then.
+#[unsafe(no_mangle)]
+pub extern "C" fn afdx_next_due(it: &mut Handle, at: &mut u64) -> u8
+    ensures answers { IsOneOf result (DONE ∷ NOT_HELD ∷ WRONG_HANDLE ∷ []) }
+    ensures not_held { (result ≡ NOT_HELD) ↔ HoldsNothing it.old.kept.home }
+    ensures wrong_handle { (result ≡ WRONG_HANDLE) ↔ IsSome (port_of it.old.kept.home) }
+    ensures due { result ≡ DONE → IsSomeAnd (end_of it.old.kept.home) (λ end. IsNextDue end.tx at.new) }
+    ensures same { HoldsSame it.old.kept.home it.new.kept.home }
+    ensures unwritten { result ≢ DONE → at.new ≡ at.old }
+{
+    with_end!(it, end_system => {
+        *at = end_system.next_due();
+        DONE
+    })
 }
 
 /// How many frames the last poll made for a network.

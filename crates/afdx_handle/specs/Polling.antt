@@ -1,5 +1,5 @@
 -- An emitter and its polls, while ports send and once they are gathered.
-use Rattle.std.specs.Prelude.{ℕ, ◌≡◌, List, Bool, true, false}
+use Rattle.std.specs.Prelude.{ℕ, ◌≡◌, ◌-◌, ◌^◌, List, Bool, true, false, Option, Some, None}
 use Rattle.redundant_mux.specs.Lines.{BothEndure, IsMirrored, log}
 use Rattle.afdx_legal.specs.Legal.{Accepted, IsLegal}
 use Rattle.afdx_legal.specs.Allowed.{AreAllowed}
@@ -9,10 +9,20 @@ use Rattle.vl_link.specs.Links.{LinkState}
 use Rattle.afdx_tx.specs.Emitter.{Tx, AreTied, taken_in, queues_in, total_in}
 use Rattle.afdx_tx.specs.Drain.{IsDrained, accepted_in}
 use Rattle.afdx_tx.specs.Run.{IsRun}
+use Rattle.afdx_tx.specs.NextDue.{TellsNextDue}
 use Rattle.afdx_tx.specs.Report.{Polls}
 use Rattle.afdx_tx.specs.declared.report.Report.{Report}
 use Rattle.afdx_handle.specs.declared.stage.Stage.{Stage}
 use Rattle.afdx_handle.specs.declared.stage.Stage.TheVariants.{Sending, Draining}
+
+-- a moment, or the greatest number of 64 bits where there is none
+abbrev pub or_never : Option ℕ → ℕ
+or_never None = 2 ^ 64 - 1
+or_never (Some at) = at
+
+-- the first moment after that of the last poll at which a link may release a frame that might not then
+abbrev pub IsNextDue : Tx → ℕ → Type 0
+IsNextDue tx at = (next : Option ℕ) × TellsNextDue tx next × (at ≡ or_never next)
 
 -- whether the ports are gathered
 abbrev pub is_gathered : Stage → Bool

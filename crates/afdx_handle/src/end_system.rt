@@ -57,6 +57,7 @@ impl EndSystem {
     ghost use Rattle.afdx_legal.specs.Counting.{counts_in};
     ghost use Rattle.afdx_legal.specs.Own.{own_stream};
     ghost use Rattle.afdx_handle.specs.Numbers.{line_of, standing_bits};
+    ghost use Rattle.afdx_handle.specs.Polling.{IsNextDue};
     ghost use Rattle.afdx_handle.specs.EndSystem.{PollsEnd, ClosesEnd, before_of, made_for, made_at, IsAllSent};
     ghost use Rattle.afdx_handle.specs.Listing.{with_front, port_ids, link_ids, all_made, bytes_of, lengths_of};
     ghost use Rattle.std.specs.List.{concat};
@@ -235,6 +236,17 @@ impl EndSystem {
             at += bytes.len();
         }
         DONE
+    }
+
+    /// The first moment after that of the last poll, in microseconds, at which a link may release a frame
+    /// that might not then, or the greatest number where there is none.
+    pub fn next_due(&self) -> u64
+        ensures { IsNextDue self.now.tx result }
+    {
+        match self.stage.next_due() {
+            Some(at) => at,
+            None => u64::MAX,
+        }
     }
 
     /// Makes a network fail from now on, which shows at the next frame for it.

@@ -18,6 +18,7 @@ impl Stage {
     ghost use Rattle.std.specs.Prelude.{◌≡◌, ◌≤◌, ◌↔◌, false, true, IsErr, OnErr, IfOk, IsNone, IfSome};
     ghost use Rattle.redundant_mux.specs.Lines.{is_alive};
     ghost use Rattle.afdx_tx.specs.Naming.{LacksLink};
+    ghost use Rattle.afdx_tx.specs.NextDue.{TellsNextDue};
     ghost use Rattle.afdx_legal.specs.Counting.{counts_in};
     ghost use Rattle.afdx_legal.specs.Own.{own_stream};
     ghost use Rattle.afdx_handle.specs.Numbers.{line_of};
@@ -52,6 +53,16 @@ impl Stage {
         match self {
             Stage::Sending(emitter) => emitter.config(),
             Stage::Draining(draining) => draining.config(),
+        }
+    }
+
+    /// The first moment after that of the last poll at which a link may release a frame that might not then.
+    pub fn next_due(&self) -> Option<u64>
+        ensures { TellsNextDue (tx_of self.now) result }
+    {
+        match self {
+            Stage::Sending(emitter) => emitter.next_due(),
+            Stage::Draining(draining) => draining.next_due(),
         }
     }
 

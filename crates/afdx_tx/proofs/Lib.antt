@@ -11,6 +11,7 @@ pub mod HandedFronts
 pub mod KeptLinks
 pub mod LegalLists
 mod Names
+pub mod NextDue
 pub mod NothingLeft
 pub mod OneSub
 pub mod OpenedPorts

@@ -5,6 +5,7 @@ pub mod Publishing
 pub mod Naming
 pub mod Sending
 pub mod Serving
+pub mod NextDue
 pub mod Ports
 pub mod Drain
 pub mod Gathering

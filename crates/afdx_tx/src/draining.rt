@@ -34,6 +34,7 @@ impl<A: Network + Drop, B: Network + Drop> Draining<A, B> {
     ghost use Rattle.afdx_legal.specs.Turns.{TakeTurns};
     ghost use Rattle.afdx_tx.specs.Report.{Polls};
     ghost use Rattle.afdx_tx.specs.Publishing.{Publishes, ShowsCounts};
+    ghost use Rattle.afdx_tx.specs.NextDue.{TellsNextDue};
     ghost use Rattle.afdx_legal.specs.Done.{IsAllDone};
     ghost use Rattle.afdx_tx.specs.Drain.{IsDrained, accepted_in};
     ghost use Rattle.afdx_legal.specs.Own.{AreOwnStreams};
@@ -86,6 +87,13 @@ impl<A: Network + Drop, B: Network + Drop> Draining<A, B> {
         ensures { ShowsCounts self.now vl.0 result }
     {
         self.inner.counts(vl)
+    }
+
+    /// As `Emitter::next_due`.
+    pub fn next_due(&self) -> Option<u64>
+        ensures { TellsNextDue self.now result }
+    {
+        self.inner.next_due()
     }
 
     /// The two networks, with what was sent to them.

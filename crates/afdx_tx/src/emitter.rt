@@ -40,6 +40,7 @@ impl<A: Network + Drop, B: Network + Drop> Emitter<A, B> {
     ghost use Rattle.afdx_tx.specs.Report.{Polls};
     ghost use Rattle.afdx_tx.specs.Emitter.{AreTied, taken_in, queues_in, total_in};
     ghost use Rattle.afdx_tx.specs.Publishing.{Publishes, ShowsCounts};
+    ghost use Rattle.afdx_tx.specs.NextDue.{TellsNextDue};
     ghost use Rattle.afdx_tx.specs.Ports.{AreOpenedWith, LacksPlace};
     ghost use Rattle.afdx_tx.specs.Gathering.{IsGatheredTx};
     ghost use Rattle.afdx_tx.specs.Closing.{LacksSub, ClosesTx};
@@ -82,6 +83,16 @@ impl<A: Network + Drop, B: Network + Drop> Emitter<A, B> {
         ensures { ShowsCounts self.now vl.0 result }
     {
         self.inner.counts(vl)
+    }
+
+    /// The first moment after that of the last poll, in microseconds, at which a link becomes due that wasn't
+    /// then and that a network carries that is up; `None` if there is none, or it has more than 64 bits. A
+    /// poll before it releases frames only of links that were due at the last poll and had nothing to send
+    /// then. So whoever polls may sleep until then, or until a message is sent.
+    pub fn next_due(&self) -> Option<u64>
+        ensures { TellsNextDue self.now result }
+    {
+        self.inner.next_due()
     }
 
     /// The two networks, with what was sent to them.

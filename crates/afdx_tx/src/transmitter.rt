@@ -4,7 +4,8 @@ ghost use Rattle.arrayvec.specs.ArrayVec.{array_vec_len};
 ghost use Rattle.redundant_mux.specs.Lines.{BothEndure};
 ghost use Rattle.afdx_tx.specs.Run.{IsRun};
 ghost use Rattle.afdx_tx.specs.Report.{IsTold, turn_release};
-ghost use Rattle.afdx_tx.specs.Emitter.{AreApart, AreWhole};
+ghost use Rattle.afdx_tx.specs.Emitter.{AreApart, AreServedBy, AreWhole};
+ghost use Rattle.afdx_tx.specs.NextDue.{earlier, IsFirstDue};
 ghost use Rattle.afdx_tx.specs.Serving.{IsSteady, TellsAllDone};
 ghost use Rattle.afdx_tx.specs.Publishing.{Reaches, PublishesCounts};
 
@@ -67,6 +68,33 @@ fn all_done(links: &[Link]) -> bool
     links.iter().all(|link| link.is_done())
 }
 
+/// The earlier of two moments.
+fn earlier(a: Option<u64>, b: Option<u64>) -> Option<u64>
+    ensures { result ≡ earlier a b }
+{
+    match (a, b) {
+        (Some(at), Some(other)) => Some(if other < at { other } else { at }),
+        (Some(at), None) => Some(at),
+        (None, other) => other,
+    }
+}
+
+/// The first moment after `now` at which a link may release a frame that may not now.
+fn first_due<A: Network + Drop, B: Network + Drop>(
+    links: &[Link],
+    mux: &Mux<A, B>,
+    now: u64,
+) -> Option<u64>
+    requires { AreServedBy now links.now }
+    ensures { IsFirstDue now links.now mux.now (length links.now) result }
+{
+    let mut first = None;
+    for link in links {
+        first = earlier(first, link.next_due(mux, now));
+    }
+    first
+}
+
 /// Publishes the counts of each link on a board.
 fn publish_all<R: Wait>(rt: &R, links: &[Link], board: &mut Board)
     requires { Reaches links.now board.old }
@@ -121,6 +149,7 @@ impl<A: Network + Drop, B: Network + Drop> Transmitter<A, B> {
     ghost use Rattle.afdx_tx.specs.Emitter.{IsFreshTx, AreFreshLinks, AreLinksOf, AreReceiving, IsSamePlan};
     ghost use Rattle.afdx_tx.specs.Serving.{Conforms};
     ghost use Rattle.afdx_tx.specs.Publishing.{Publishes, ShowsCounts};
+    ghost use Rattle.afdx_tx.specs.NextDue.{TellsNextDue};
     ghost use Rattle.afdx_tx.specs.Drain.{AreGathered, accepted_in};
     ghost use Rattle.afdx_tx.specs.Ports.{AreOpenedWith, HasEveryPlace};
     ghost use Rattle.afdx_tx.specs.Gathering.{IsGatheredTx};
@@ -159,6 +188,13 @@ impl<A: Network + Drop, B: Network + Drop> Transmitter<A, B> {
         ensures conforms { Conforms self.now }
     {
         all_done(&self.links)
+    }
+
+    /// The first moment after that of the last poll at which a link may release a frame that might not then.
+    pub fn next_due(&self) -> Option<u64>
+        ensures { TellsNextDue self.now result }
+    {
+        first_due(&self.links, &self.mux, self.moment)
     }
 
     /// The counts of a link, by its identifier, as they would be published now.

@@ -1,5 +1,6 @@
 pub mod Seen
 pub mod Turn
+pub mod Due
 pub mod Links
 pub mod Subs
 pub mod Kept

@@ -143,9 +143,10 @@ impl Link {
     ghost use Rattle.status_board.specs.History.{zeros};
     ghost use Rattle.vl_link.specs.Links.{LinkState, AreNamed, Serves, Follows, IsSameLink, pace_of};
     ghost use Rattle.vl_link.specs.Turn.{is_lost, may_release};
+    ghost use Rattle.vl_link.specs.Due.{BecomesDue, StaysAsIs};
     ghost use Rattle.vl_link.specs.LinkDone.{TellsLinkDone};
     ghost use Rattle.vl_link.specs.LinkGathering.{AreFullSubs, GathersLink};
-    ghost use Rattle.std.specs.Prelude.{◌<◌, ◌≤◌, Some, IfOk, IfErr};
+    ghost use Rattle.std.specs.Prelude.{◌<◌, ◌≤◌, Some, IfOk, IfErr, MatchOption};
     ghost use Rattle.subvl_queue.specs.Messages.{most_calls};
     ghost use Rattle.vl_link.specs.Seen.{IsReceiving, queue_of};
     ghost use Rattle.vl_link.specs.LinkSenders.{LacksSender, LinkMakesSender, LinkTakesBack};
@@ -215,6 +216,24 @@ impl Link {
     {
         // Most links aren't due at most polls, so that test comes first.
         self.shaper.due(now) && mux.stands_for(self.plan.networks)
+    }
+
+    /// The first moment after `now`, in microseconds, at which it may release a frame, where it may not at
+    /// `now`. `None` where it may, where no network that carries it is up, and where that moment has more
+    /// than 64 bits.
+    pub fn next_due<A: Network + Drop, B: Network + Drop>(
+        &self,
+        mux: &Mux<A, B>,
+        now: u64,
+    ) -> Option<u64>
+        requires { IsLater self.now.pace.last now }
+        ensures { MatchOption result (StaysAsIs now self.now.plan self.now.pace mux.now)
+            (λ at. BecomesDue now at self.now.plan self.now.pace mux.now) }
+    {
+        if self.shaper.due(now) || !mux.stands_for(self.plan.networks) {
+            return None;
+        }
+        self.shaper.due_from()
     }
 
     /// One turn of the link at `now`, in microseconds, when it may release a frame. The frame is made in

@@ -14,6 +14,11 @@ abbrev pub is_due : ℕ → Option Stamp → ℕ → Bool
 is_due gap None now = true
 is_due gap (Some last) now = nat_le gap (now - last.at)
 
+-- the moment from which a link is due
+abbrev pub due_from : ℕ → Option Stamp → ℕ
+due_from gap None = 0
+due_from gap (Some last) = last.at + gap
+
 -- the moment isn't before the last release
 abbrev pub IsLater : Option Stamp → ℕ → Type 0
 IsLater None now = Unit {0}

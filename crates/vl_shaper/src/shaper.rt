@@ -1,8 +1,8 @@
 //! Numbers, spacing and cyclic order of a virtual link.
-ghost use Rattle.std.specs.Prelude.{◌≡◌, ℕ, ◌+◌, ◌-◌, ◌*◌, ◌%◌, ◌^◌, ◌<◌, ◌≤◌, None, Some, true};
+ghost use Rattle.std.specs.Prelude.{◌≡◌, ℕ, ◌+◌, ◌-◌, ◌*◌, ◌%◌, ◌^◌, ◌<◌, ◌≤◌, None, Some, true, MatchOption};
 ghost use Rattle.afdx_plan.specs.Plan.{bag_micros};
 ghost use Rattle.afdx_plan.specs.Numbers.{sequence_number};
-ghost use Rattle.vl_shaper.specs.Pace.{Pace, is_due, IsLater, turn_of};
+ghost use Rattle.vl_shaper.specs.Pace.{Pace, is_due, due_from, IsLater, turn_of};
 
 use afdx_plan::Bag;
 use std::marker::Model;
@@ -79,6 +79,18 @@ impl Shaper {
         match self.last {
             None => true,
             Some(last) => self.gap <= now - last.at,
+        }
+    }
+
+    /// The moment from which it is due, in microseconds: 0 where nothing was released, and `None` where that
+    /// moment has more than 64 bits.
+    pub fn due_from(&self) -> Option<u64>
+        ensures { MatchOption result (2 ^ 64 ≤ due_from self.now.gap self.now.last)
+            (λ at. at ≡ due_from self.now.gap self.now.last) }
+    {
+        match self.last {
+            None => Some(0),
+            Some(last) => last.at.checked_add(self.gap),
         }
     }
 

@@ -1,0 +1,75 @@
+-- The first due moment of one link more.
+use Rattle.afdx_tx.proofs.Names.{ℕ, ◌≡◌, ◌∙◌, ◌≤◌, ◌+◌, sym, subst, arith, inl, inr, true, false, LinkState, link_at, Lines}
+use Rattle.std.proofs.Common.{List, Option, Some, None, ◌^◌, min}
+use Rattle.std.proofs.lemmas.Bool.{cases_lt}
+use Rattle.std.specs.Prelude.{MatchOption}
+use Rattle.afdx_plan.specs.declared.link_plan.LinkPlan.{LinkPlan}
+use Rattle.vl_shaper.specs.Pace.{Pace}
+use Rattle.vl_link.specs.Turn.{may_release}
+use Rattle.vl_link.specs.Due.{RestsUntil, BecomesDue, StaysAsIs}
+use Rattle.afdx_tx.specs.NextDue.{NoneDueBefore, OneDueAt, IsFirstDue, earlier}
+
+-- up to an earlier moment it rests, too
+sooner : (from until before : ℕ) (plan : LinkPlan) (pace : Pace) (lines : Lines) → before ≤ until
+    → RestsUntil from until plan pace lines → RestsUntil from before plan pace lines
+sooner from until before plan pace lines le rests = λ now late early. rests now late (omega (arith, le, early))
+
+none_sooner : (now : ℕ) (links : List LinkState) (lines : Lines) (many until before : ℕ) → before ≤ until
+    → NoneDueBefore now links lines many until → NoneDueBefore now links lines many before
+none_sooner now links lines many until before le none = λ k within rests.
+    sooner now until before (link_at links k).plan (link_at links k).pace lines le (none k within rests)
+
+-- what stays as it is and may not release rests for good
+stays : (now : ℕ) (plan : LinkPlan) (pace : Pace) (lines : Lines) → StaysAsIs now plan pace lines → may_release now plan pace lines ≡ false
+    → RestsUntil now (2 ^ 64) plan pace lines
+stays now plan pace lines (inl may) rests = absurd (let no : true ≡ false = sym may ∙ rests in cc)
+stays now plan pace lines (inr rested) rests = rested
+
+-- one link more
+none_more : (now : ℕ) (links : List LinkState) (lines : Lines) (many until : ℕ) → NoneDueBefore now links lines many until
+    → (may_release now (link_at links many).plan (link_at links many).pace lines ≡ false
+    → RestsUntil now until (link_at links many).plan (link_at links many).pace lines)
+    → NoneDueBefore now links lines (many + 1) until
+none_more now links lines many until none own = λ k within rests. elim (cases_lt k many) [
+  | inl lt ↦ none k lt rests
+  | inr ge ↦
+      let is : k ≡ many = omega (arith, ge, within) in
+      subst (λ (n : ℕ). may_release now (link_at links n).plan (link_at links n).pace lines ≡ false
+      → RestsUntil now until (link_at links n).plan (link_at links n).pace lines) (sym is) own rests
+]
+
+one_more : (now : ℕ) (links : List LinkState) (lines : Lines) (many at : ℕ) → OneDueAt now links lines many at → OneDueAt now links lines (many + 1) at
+one_more now links lines many at one = record { place = one.place; within = omega (arith, one.within); due = one.due }
+
+pub first_of_more : (now : ℕ) (links : List LinkState) (lines : Lines) (many : ℕ) (first own : Option ℕ)
+    → IsFirstDue now links lines many first
+    → MatchOption own (StaysAsIs now (link_at links many).plan (link_at links many).pace lines)
+    (λ at. BecomesDue now at (link_at links many).plan (link_at links many).pace lines)
+    → IsFirstDue now links lines (many + 1) (earlier first own)
+first_of_more now links lines many None None none as_is =
+    none_more now links lines many (2 ^ 64) none (stays now (link_at links many).plan (link_at links many).pace lines as_is)
+first_of_more now links lines many None (Some at) none due = (
+  record { place = many; within = omega arith; due = due },
+  none_more now links lines many at (none_sooner now links lines many (2 ^ 64) at (omega (arith, due.few)) none) (λ rests. due.until),
+)
+first_of_more now links lines many (Some at) None first as_is =
+    let plan = (link_at links many).plan in let pace = (link_at links many).pace in (
+      one_more now links lines many at first.0,
+      none_more now links lines many at first.1
+          (λ rests. sooner now (2 ^ 64) at plan pace lines (omega (arith, first.0.due.few)) (stays now plan pace lines as_is rests)),
+    )
+first_of_more now links lines many (Some at) (Some other) first due = elim (cases_lt other at) [
+  | inl lt ↦
+      let is : other ≡ min at other = omega (arith, lt) in
+      subst (λ (t : ℕ). IsFirstDue now links lines (many + 1) (Some t)) is (
+        record { place = many; within = omega arith; due = due },
+        none_more now links lines many other (none_sooner now links lines many at other (omega (arith, lt)) first.1) (λ rests. due.until),
+      )
+  | inr ge ↦
+      let is : at ≡ min at other = omega (arith, ge) in
+      subst (λ (t : ℕ). IsFirstDue now links lines (many + 1) (Some t)) is (
+        one_more now links lines many at first.0,
+        none_more now links lines many at first.1
+            (λ rests. sooner now other at (link_at links many).plan (link_at links many).pace lines ge due.until),
+      )
+]
