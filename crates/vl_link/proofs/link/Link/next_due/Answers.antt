@@ -1,0 +1,35 @@
+use Rattle.std.proofs.Common.{ℕ, ◌≡◌, ◌&&◌, Bool, true, false, inl, inr, refl, rules}
+use Rattle.std.proofs.lemmas.Bool.{cases_Bool}
+use Rattle.afdx_plan.specs.declared.link_plan.LinkPlan.{LinkPlan}
+use Rattle.redundant_mux.specs.Lines.{Lines, stands_for}
+use Rattle.vl_shaper.specs.Pace.{Pace, is_due}
+use Rattle.vl_link.specs.Due.{StaysAsIs}
+use Rattle.vl_link.proofs.link.Link.next_due.Goals.{then-due-via-then-due, then-due-via-else-due+then-not-stands_for}
+use Rattle.vl_link.proofs.link.Link.next_due.Goals as goal
+
+both : (a b : Bool) → a ≡ true → b ≡ true → a && b ≡ true
+both true b due up = up
+both false b due up = due
+
+none : (a b : Bool) → b ≡ false → a && b ≡ false
+none true b down = down
+none false b down = refl
+
+-- no network carries the link
+down_stays : (now : ℕ) (plan : LinkPlan) (pace : Pace) (lines : Lines) → stands_for plan.networks lines ≡ false → StaysAsIs now plan pace lines
+down_stays now plan pace lines down = inr (λ m late early. none (is_due pace.gap pace.last m) (stands_for plan.networks lines) down)
+
+-- it is due
+due_stays : (now : ℕ) (plan : LinkPlan) (pace : Pace) (lines : Lines) → is_due pace.gap pace.last now ≡ true → StaysAsIs now plan pace lines
+due_stays now plan pace lines due = elim (cases_Bool (stands_for plan.networks lines)) [
+  | inl up ↦ inl (both (is_due pace.gap pace.last now) (stands_for plan.networks lines) due up)
+  | inr down ↦ down_stays now plan pace lines down
+]
+
+pub returns-then-due : goal.returns-then-due
+returns-then-due g c =
+    let now = c.args.now in let link = c.args.self.now in let lines = c.args.mux.now in
+    elim c.then-due.branch [
+      | then-due-via-then-due w ↦ due_stays now link.plan link.pace lines (search rules)
+      | then-due-via-else-due+then-not-stands_for w ↦ down_stays now link.plan link.pace lines (search rules)
+    ]
