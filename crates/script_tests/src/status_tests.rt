@@ -13,6 +13,7 @@ fn the_status_tells_how_the_program_ended(rt: HostRuntime) {
         (End::Ran(sums(1, 0, 1)), 0),
         (End::Ran(sums(1, 1, 1)), 3),
         (End::Ran(sums(2, 2, 2)), 3),
+        (End::FaultsTold, 2),
         (End::WordsRefused, 2),
         (End::Failed(Failure::Short), 2),
         (End::Failed(Failure::Turns), 5),

@@ -24,6 +24,7 @@ fn assert_asks(rt: &impl Host, line: &str, wanted: &str) {
 // Words, and what they ask for.
 const COMMANDS: &str = " => Script
 check a.toml => Check { config: \"a.toml\" }
+explain a.toml => Explain { config: \"a.toml\" }
 run a.toml b.txt => Run { config: \"a.toml\", script: \"b.txt\", capture: None }
 run a.toml b.txt --capture c.pcapng => Run { config: \"a.toml\", script: \"b.txt\", capture: Some(\"c.pcapng\") }
 run --capture=c.pcapng a.toml b.txt => Run { config: \"a.toml\", script: \"b.txt\", capture: Some(\"c.pcapng\") }
