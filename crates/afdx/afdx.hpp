@@ -20,6 +20,7 @@
 #include <memory>
 #include <stdexcept>
 #include <string>
+#include <vector>
 
 namespace afdx {
 
@@ -152,8 +153,7 @@ public:
 
     /* The same with the answer of afdx_send in place of its exceptions. */
     std::uint8_t try_send(const std::uint8_t *message, std::size_t length) {
-        const std::uint8_t nothing = 0;
-        return afdx_send(handle_.get(), length == 0 ? &nothing : message, length);
+        return afdx_send(handle_.get(), message, length);
     }
 
     /* How many messages were accepted. */
@@ -211,6 +211,14 @@ public:
         return length;
     }
 
+    /* Copies all frames of the last poll into a buffer, one behind the other, and their lengths, and returns how many they
+       are. Throws Misuse (SmallBuffer: there is room for fewer). */
+    std::size_t all_frames(Network network, std::uint8_t *buffer, std::size_t size, std::size_t *lengths, std::size_t room) {
+        std::size_t count = 0;
+        detail::want(afdx_all_frames(handle_.get(), static_cast<std::uint8_t>(network), buffer, size, lengths, room, &count));
+        return count;
+    }
+
     /* Calls `sink` with the bytes and the length of each frame that the last poll made for a network. */
     template <typename Sink> void each_frame(Network network, Sink &&sink) {
         std::uint8_t buffer[AFDX_GREATEST_FRAME];
@@ -220,6 +228,20 @@ public:
             sink(static_cast<const std::uint8_t *>(buffer), length);
         }
     }
+
+    /* The first time after that of the last poll at which a virtual link becomes due that wasn't then, or AFDX_NEVER: a
+       poller may sleep until it, or until a port has sent. */
+    std::uint64_t next_due() {
+        std::uint64_t at = 0;
+        detail::want(afdx_next_due(handle_.get(), &at));
+        return at;
+    }
+
+    /* The identifiers of all ports, whether or not a port is out, in the order of the configuration. */
+    std::vector<std::uint16_t> ports() { return listed(afdx_ports); }
+
+    /* The identifiers of all virtual links, in the order of the configuration. */
+    std::vector<std::uint16_t> links() { return listed(afdx_links); }
 
     /* A network failed: its next frame fails, and it gets none after that. */
     void fail(Network network) { detail::want(afdx_fail(handle_.get(), static_cast<std::uint8_t>(network))); }
@@ -253,6 +275,14 @@ public:
     }
 
 private:
+    template <typename Call> std::vector<std::uint16_t> listed(Call call) {
+        std::vector<std::uint16_t> ids(AFDX_MOST_PORTS);
+        std::size_t count = 0;
+        detail::want(call(handle_.get(), ids.data(), ids.size(), &count));
+        ids.resize(count);
+        return ids;
+    }
+
     detail::Handle<afdx_end_system> handle_;
 };
 

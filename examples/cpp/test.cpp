@@ -99,6 +99,25 @@ static void try_misuse(const std::string &demo) {
     CHECK(is_misuse(MisuseFault::NotGathered, [&] { it.is_done(); }));
 }
 
+static void try_listing(const std::string &demo) {
+    afdx::EndSystem it(demo);
+    CHECK(it.ports() == std::vector<std::uint16_t>{10} && it.links() == std::vector<std::uint16_t>{1});
+    CHECK(it.next_due() == AFDX_NEVER);
+    it.port(10).send(std::string("x"));
+    it.poll(5);
+    CHECK(it.next_due() == 1005);
+    std::uint8_t buffer[60];
+    std::size_t length = 0;
+    CHECK(it.all_frames(Network::B, buffer, sizeof buffer, &length, 1) == 1 && length == 60 && buffer[42] == 'x');
+    CHECK(is_misuse(MisuseFault::SmallBuffer, [&] { it.all_frames(Network::A, buffer, 59, &length, 1); }));
+    CHECK(is_misuse(MisuseFault::SmallBuffer, [&] { it.all_frames(Network::A, buffer, 60, &length, 0); }));
+    afdx::EndSystem other(demo);
+    afdx::Port foreign = other.port(10);
+    CHECK(is_misuse(MisuseFault::NoPort, [&] { it.give_back(std::move(foreign)); }));
+    other.give_back(std::move(foreign));
+    other.gather();
+}
+
 static void try_moving(const std::string &demo) {
     afdx::EndSystem first(demo);
     afdx::Port port = first.port(10);
@@ -162,7 +181,7 @@ int main(int argc, char **argv) {
     std::ifstream file(argv[1], std::ios::binary);
     const std::string demo{std::istreambuf_iterator<char>(file), std::istreambuf_iterator<char>()};
     try {
-        for (auto test : {try_opening, try_sending, try_misuse, try_moving, try_failing, try_thread}) test(demo);
+        for (auto test : {try_opening, try_sending, try_misuse, try_listing, try_moving, try_failing, try_thread}) test(demo);
     } catch (const std::exception &error) {
         check(false, __LINE__, error.what());
     }

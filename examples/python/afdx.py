@@ -25,10 +25,12 @@ from ctypes import POINTER, byref, c_size_t, c_uint8, c_uint16, c_uint64, c_void
 from dataclasses import dataclass
 from pathlib import Path
 from types import TracebackType
-from typing import Iterator, NamedTuple
+from typing import Callable, Iterator, NamedTuple
 
 A, B = 0, 1
 GREATEST_FRAME, MOST_FRAMES = 1514, 64
+MOST_LINKS, MOST_PORTS = 64, 256
+NEVER = 2**64 - 1
 
 
 class AfdxError(Exception):
@@ -291,6 +293,10 @@ def _calls(library: ctypes.CDLL) -> None:
         "poll": [handle, c_uint64, POINTER(c_uint8)],
         "frames": [handle, c_uint8, POINTER(size)],
         "frame": [handle, c_uint8, size, c_void_p, size, POINTER(size)],
+        "all_frames": [handle, c_uint8, c_void_p, size, POINTER(size), size, POINTER(size)],
+        "next_due": [handle, POINTER(c_uint64)],
+        "ports": [handle, POINTER(c_uint16), size, POINTER(size)],
+        "links": [handle, POINTER(c_uint16), size, POINTER(size)],
         "fail": [handle, c_uint8],
         "close": [handle, c_uint16, c_uint8, POINTER(c_uint64)],
         "link_counts": [handle, c_uint16, POINTER(_Counts)],
@@ -400,7 +406,8 @@ class EndSystem:
     def __init__(self, text: str | bytes) -> None:
         data = text.encode() if isinstance(text, str) else text
         _want(_lib.afdx_open(byref(self._handle), data, len(data)), CONFIG_ERRORS)
-        self._buffer = ctypes.create_string_buffer(GREATEST_FRAME)
+        self._buffer = ctypes.create_string_buffer(MOST_FRAMES * GREATEST_FRAME)
+        self._lengths = (c_size_t * MOST_FRAMES)()
 
     def port(self, id: int) -> Port:
         """Takes the port with an identifier. Raises `NoPort` if there is none or it is out, `Gathered` after `gather`, or
@@ -415,9 +422,13 @@ class EndSystem:
 
     def frames(self, network: int) -> list[bytes]:
         """The frames that the last poll made for a network, `A` or `B`. Raises `NoNetwork`."""
-        count = c_size_t()
-        _want(_lib.afdx_frames(byref(self._handle), _fits(network, 8), byref(count)))
-        return [self.frame(network, k) for k in range(count.value)]
+        count, frames, at = c_size_t(), [], ctypes.addressof(self._buffer)
+        room = (self._buffer, len(self._buffer), self._lengths, MOST_FRAMES)
+        _want(_lib.afdx_all_frames(byref(self._handle), _fits(network, 8), *room, byref(count)))
+        for length in self._lengths[: count.value]:
+            frames.append(ctypes.string_at(at, length))
+            at += length
+        return frames
 
     def frame(self, network: int, k: int, size: int = GREATEST_FRAME) -> bytes:
         """Frame `k`, from 0, of those, which has at most `size` bytes. Raises `NoNetwork`, `NoFrame` or `SmallBuffer`."""
@@ -425,6 +436,29 @@ class EndSystem:
         room = _fits(min(size, GREATEST_FRAME), 64)
         _want(_lib.afdx_frame(byref(self._handle), _fits(network, 8), _fits(k, 64), self._buffer, room, byref(length)))
         return ctypes.string_at(self._buffer, length.value)
+
+    @property
+    def next_due(self) -> int | None:
+        """The first time after that of the last poll, in microseconds, at which a virtual link becomes due that wasn't
+        then: a poller may sleep until it, or until a port has sent. None if no link does."""
+        at = c_uint64()
+        _want(_lib.afdx_next_due(byref(self._handle), byref(at)))
+        return None if at.value == NEVER else at.value
+
+    @property
+    def ports(self) -> list[int]:
+        """The identifiers of all ports, in the order of the configuration, whether or not a port is out."""
+        return self._list(_lib.afdx_ports, MOST_PORTS)
+
+    @property
+    def links(self) -> list[int]:
+        """The identifiers of all virtual links, in the order of the configuration."""
+        return self._list(_lib.afdx_links, MOST_LINKS)
+
+    def _list(self, call: Callable[..., int], most: int) -> list[int]:
+        ids, count = (c_uint16 * most)(), c_size_t()
+        _want(call(byref(self._handle), ids, most, byref(count)))
+        return ids[: count.value]
 
     def fail(self, network: int) -> None:
         """A network, `A` or `B`, failed: its next frame fails, and it gets none after that. Raises `NoNetwork`."""
@@ -443,7 +477,7 @@ class EndSystem:
         return Counts(counts.frames, counts.bytes, counts.messages, counts.last)
 
     def give_back(self, port: Port) -> None:
-        """Takes back a port that came from this end system. Raises `Gathered`, or `NoPort` if all its ports are back."""
+        """Takes back a port that came from this end system. Raises `Gathered`, or `NoPort` of another end system's."""
         _want(_lib.afdx_give_back(byref(self._handle), byref(port._handle)))
 
     def gather(self) -> None:

@@ -148,6 +148,17 @@ def answers() -> None:
     raises(afdx.NotHeld, it.poll, 3005)
 
 
+def lists() -> None:
+    """The ports, the virtual links, and when the next of them is due."""
+    with EndSystem(SHARED.replace("10.0.0.1", "10.0.0.2", 1)) as it, it.port(11) as port:
+        assert it.ports == [10, 11] and it.links == [1, 2]
+        assert it.next_due is None
+        port.send(b"1")
+        (frame,) = it.poll(5).b
+        assert it.next_due == 1005 and it.frames(B) == [it.frame(B, 0)] == [frame]
+        assert not it.poll(1004).a and it.next_due == 1005
+
+
 def all_raised() -> None:
     """The tests before have met each exception but one."""
     tables = (afdx.CONFIG_ERRORS, afdx.SEND_ERRORS, afdx.POLL_ERRORS, afdx.MISUSES)
@@ -212,7 +223,7 @@ def speed() -> None:
 
 def main() -> int:
     passed = failed = 0
-    for test in (first_message, names, configurations, answers, all_raised, threads, bench, speed):
+    for test in (first_message, names, configurations, answers, lists, all_raised, threads, bench, speed):
         try:
             test()
             passed += 1
