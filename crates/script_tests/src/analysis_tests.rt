@@ -1,6 +1,8 @@
 //! Tests of the loads, the jitter and the longest waits of a plan.
+ghost use Rattle.std.specs.Prelude.{◌≤◌};
+
 use crate::helpers::*;
-use plan_analysis::{analyze, write_analysis, write_page};
+use plan_analysis::{LATENESS_LIMIT, analyze, write_analysis, write_page};
 use plan_report::read_plan;
 
 // The demonstration: 11 fragments may come before the six of a message.
@@ -47,7 +49,9 @@ network    load-kbit/s  share-%  exceeded
 ";
 
 // Asserts what is written of a plan's analysis.
-fn assert_analysis(rt: &impl Host, plan: &str, lateness: u64, wanted: &str) {
+fn assert_analysis(rt: &impl Host, plan: &str, lateness: u64, wanted: &str)
+    requires { lateness ≤ LATENESS_LIMIT }
+{
     let config = read_plan(rt.alloc(), plan.as_bytes()).ok().expect(rt, plan);
     let analysis = analyze(rt.alloc(), &config, lateness).ok().expect(rt, plan);
     let mut text = Vec::new(rt.alloc());
