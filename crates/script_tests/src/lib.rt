@@ -14,6 +14,8 @@ mod close_tests;
 #[cfg(test)]
 mod every_script_tests;
 #[cfg(test)]
+mod explain_tests;
+#[cfg(test)]
 mod helpers;
 #[cfg(test)]
 mod line_tests;
