@@ -128,6 +128,13 @@ enum {
    handle is as it was. */
 uint8_t afdx_open(afdx_end_system *out, const uint8_t *text, size_t length);
 
+/* Explains a configuration that is refused: all of its faults, each with its place, as `afdx_bench explain` prints them
+   (docs/program.md), in lines that end in a line feed; "no faults" if there is none. Copies as much of the explanation as
+   there is room for into a buffer, without a zero behind it, and writes how many bytes the explanation has. Refused:
+   AFDX_MEMORY; then nothing is written; AFDX_SMALL_BUFFER: the explanation is longer than the buffer, and its front was
+   written. So NULL and 0 ask how long it is. */
+uint8_t afdx_explain(const uint8_t *text, size_t length, uint8_t *buffer, size_t size, size_t *written);
+
 /* Takes the port with an identifier, once. It may go to a thread of its own. Refused: AFDX_HELD (of `out`),
    AFDX_NOT_HELD, AFDX_WRONG_HANDLE, AFDX_GATHERED, AFDX_NO_PORT, AFDX_MEMORY (the port can be taken later). */
 uint8_t afdx_port_of(afdx_end_system *it, uint16_t id, afdx_port *out);

@@ -136,6 +136,21 @@ private:
 
 } // namespace detail
 
+/* Explains a configuration that is refused: all of its faults, each with its place, in lines; "no faults" if there is
+   none. Throws OutOfMemory. */
+inline std::string explain(const std::string &text) {
+    const auto *bytes = reinterpret_cast<const std::uint8_t *>(text.data());
+    std::size_t length = 0;
+    std::uint8_t answer = afdx_explain(bytes, text.size(), nullptr, 0, &length);
+    std::string told(length, ' ');
+    if (answer == AFDX_SMALL_BUFFER) {
+        auto *front = reinterpret_cast<std::uint8_t *>(&told[0]);
+        answer = afdx_explain(bytes, text.size(), front, told.size(), &length);
+    }
+    detail::want(answer);
+    return told;
+}
+
 /* A port of an end system. What it accepted is still transmitted after it is freed, but its end system can't gather then:
    give it back instead. */
 class Port {

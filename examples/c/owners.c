@@ -1,6 +1,7 @@
 /* What two end systems side by side, no bytes at all, lists and the allocator show of the calls of afdx.h: a port is
    given back to its own end system alone, NULL is legal for 0 bytes, all frames of a poll at once are those of the calls
-   for one, a moment until which a poller may sleep is one at which a link becomes due, and an end system asks for as much memory as docs/c-library.md says.
+   for one, a moment until which a poller may sleep is one at which a link becomes due, an explanation is cut to its buffer,
+   and an end system asks for as much memory as docs/c-library.md says.
 
    tools/c_library.py builds and runs it. Requests for memory go through `__wrap_malloc` and its kin below (by the
    linker's --wrap), which count their bytes. A failed check is told by its line; the last line is 'N passed, M failed'. */
@@ -270,6 +271,27 @@ static void check_next_due(void) {
 }
 
 /* The room of a list of so many that has grown one by one. */
+/* The explanation of a text is this, in a buffer of any size. */
+static void explains(const char *text, const char *told) {
+    size_t all = strlen(told), length = 0;
+    uint8_t buffer[1000];
+    for (size_t size = 0; size <= all + 1; size++) {
+        memset(buffer, '?', sizeof buffer);
+        uint8_t answer = afdx_explain((const uint8_t *)text, strlen(text), size == 0 ? NULL : buffer, size, &length);
+        CHECK(answer == (size < all ? AFDX_SMALL_BUFFER : AFDX_OK) && length == all);
+        CHECK(memcmp(buffer, told, size < all ? size : all) == 0 && buffer[size < all ? size : all] == '?');
+    }
+}
+
+static void check_explain(void) {
+    explains(plan(1, 1, 2, 1), "no faults\n");
+    explains("", "5 faults\n2 MissingKey: end_system is missing: a table\n2 MissingKey: vl is missing: an array of tables\n"
+                 "2 MissingKey: port is missing: an array of tables\n14 Limit: vl is missing: 1 to 64 tables\n"
+                 "14 Limit: port is missing: 1 to 256 tables\n");
+    explains("a = ", "1 fault\n1 Toml: line 1, column 5: invalid value, expected a string, number, boolean, date-time, array "
+                     "or inline table\n");
+}
+
 static size_t room(size_t many) {
     size_t room = many == 0 ? 0 : 4;
     while (room < many) room *= 2;
@@ -314,6 +336,7 @@ int main(void) {
     check_lists();
     check_all_frames();
     check_next_due();
+    check_explain();
     check_memory();
     printf("%u passed, %u failed\n", passed, failed);
     return failed != 0;

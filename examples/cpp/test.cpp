@@ -62,6 +62,8 @@ static void try_opening(const std::string &demo) {
     CHECK(is_refused(ConfigFault::OutOfRange, replaced(demo, "1518", "63")));
     CHECK(is_refused(ConfigFault::BadBag, replaced(demo, "bag_ms = 1", "bag_ms = 3")));
     CHECK(is_refused(ConfigFault::NoSuchSub, replaced(demo, "sub = 0", "sub = 1")));
+    CHECK(afdx::explain(demo) == "no faults\n");
+    CHECK(afdx::explain(replaced(demo, "1518", "63")) == "1 fault\n5 OutOfRange: vl 1 (id 1), lmax is 63: 64 to 1518\n");
 }
 
 static void try_sending(const std::string &demo) {

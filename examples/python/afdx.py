@@ -287,6 +287,7 @@ def _calls(library: ctypes.CDLL) -> None:
     handle, size = POINTER(_Handle), c_size_t
     for name, arguments in {
         "open": [handle, ctypes.c_char_p, size],
+        "explain": [ctypes.c_char_p, size, c_void_p, size, POINTER(size)],
         "port_of": [handle, c_uint16, handle],
         "send": [handle, ctypes.c_char_p, size],
         "accepted": [handle, POINTER(c_uint64)],
@@ -324,6 +325,17 @@ def _fits(value: int, bits: int) -> int:
     if not 0 <= value < 1 << bits:
         raise OverflowError(f"{value} isn't a number of {bits} bits")
     return value
+
+
+def explain(text: str | bytes) -> str:
+    """All faults of a configuration, each with its place, in lines; "no faults" if there is none. Raises `OutOfMemory`."""
+    data, length = text.encode() if isinstance(text, str) else text, c_size_t()
+    answer = _lib.afdx_explain(data, len(data), None, 0, byref(length))
+    told = ctypes.create_string_buffer(length.value)
+    if answer == SmallBuffer.number:
+        answer = _lib.afdx_explain(data, len(data), told, len(told), byref(length))
+    _want(answer)
+    return told.raw.decode()
 
 
 class Counts(NamedTuple):

@@ -101,6 +101,9 @@ def configurations() -> None:
     ]:
         raises(error, EndSystem, (DEMO + SECOND).replace(old, new, 1))
     raises(afdx.SharedUnicast, EndSystem, SHARED)
+    assert afdx.explain(DEMO) == "no faults\n"
+    wanted = "1 fault\n5 OutOfRange: vl 1 (id 1), lmax is 63: 64 to 1518\n"
+    assert afdx.explain(DEMO.replace("1518", "63")) == wanted
     with no_more_memory():
         raises(afdx.OutOfMemory, EndSystem, GREAT)
 

@@ -13,6 +13,7 @@ ghost use Rattle.afdx_handle.specs.Numbers.{AreCountsOf, IsOneOf, net_of, refusa
 ghost use Rattle.afdx_handle.specs.EndSystem.{EndView, has_id, made_for, made_at, PollsEnd, ClosesEnd, GathersEnd, GivesBack, TakesPort, IsAllSent, IsOpened};
 ghost use Rattle.afdx_legal.specs.Counting.{counts_in};
 ghost use Rattle.afdx_legal.specs.Own.{own_stream};
+ghost use Rattle.afdx_handle.specs.Explaining.{IsExplainedIn};
 ghost use Rattle.afdx_handle.specs.Polling.{IsNextDue};
 ghost use Rattle.afdx_handle.specs.Listing.{with_front, port_ids, link_ids, all_made, bytes_of, lengths_of};
 ghost use Rattle.std.specs.List.{concat};
@@ -23,7 +24,8 @@ use afdx_handle::answer::{
     NOT_GATHERED, NOT_HELD, PORT_MISSING, SMALL_BUFFER, TIME_BACK, WRONG_HANDLE, net_of,
 };
 use afdx_handle::{
-    Handle, Home, LinkCounts, Marked, Opening, gather_in, give_in, open_home, send, take_port,
+    Handle, Home, LinkCounts, Marked, Opening, explain_into, gather_in, give_in, open_home, send,
+    take_port,
 };
 use std::alloc::Global;
 
@@ -89,6 +91,24 @@ pub extern "C" fn afdx_open(alloc: Global, out: &mut Opening, text: &[u8]) -> u8
         }
         Err(fault) => fault.number(),
     }
+}
+
+/// Explains the faults of a configuration's text: writes as much of the explanation as there is room for, and
+/// how many bytes it has.
+#[unsafe(no_mangle)]
+pub extern "C" fn afdx_explain(
+    alloc: Global,
+    text: &[u8],
+    buffer: &mut [u8],
+    size: &mut usize,
+) -> u8
+    ensures answers { IsOneOf result (DONE ∷ MEMORY ∷ SMALL_BUFFER ∷ []) }
+    ensures explained { result ≢ MEMORY → IsExplainedIn text.now buffer.old buffer.new size.new }
+    ensures whole { result ≡ DONE → size.new ≤ length buffer.old }
+    ensures small { result ≡ SMALL_BUFFER → length buffer.old < size.new }
+    ensures unwritten { result ≡ MEMORY → (buffer.new ≡ buffer.old) × (size.new ≡ size.old) }
+{
+    explain_into(alloc, text, buffer, size)
 }
 
 /// Takes the port with an identifier, once.

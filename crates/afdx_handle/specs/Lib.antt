@@ -4,3 +4,4 @@ pub mod EndSystem
 pub mod Sealed
 pub mod Held
 pub mod Listing
+pub mod Explaining

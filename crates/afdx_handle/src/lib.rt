@@ -4,6 +4,7 @@
 
 pub mod answer;
 mod end_system;
+mod explaining;
 mod handle;
 mod home;
 mod listing;
@@ -14,6 +15,7 @@ mod stage;
 
 pub use answer::LinkCounts;
 pub use end_system::{EndSystem, Side};
+pub use explaining::explain_into;
 pub use handle::{Handle, Marked, Opening};
 pub use home::{Home, OwnPort};
 pub use opening::open_home;

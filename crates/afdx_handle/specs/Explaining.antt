@@ -1,0 +1,13 @@
+-- The explanation of a configuration's text, as far as a buffer has room for it.
+use Rattle.std.specs.Prelude.{ℕ, ◌≡◌, List, length, take}
+use Rattle.afdx_config.specs.Findings.{Finding}
+use Rattle.afdx_config.specs.Explained.{Explains}
+use Rattle.afdx_handle.specs.Listing.{with_front}
+
+-- the explanation of a text has so many bytes, and as many of them as a buffer holds were written over its front
+pub record IsExplainedIn (text old new : List ℕ) (size : ℕ) : Type 0 where
+  pub findings : List Finding
+  pub told : List ℕ
+  pub explains : Explains text findings told
+  pub size_is : size ≡ length told
+  pub front : new ≡ with_front (take (length old) told) old
