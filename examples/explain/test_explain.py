@@ -26,8 +26,9 @@ sys.dont_write_bytecode = True
 sys.path[:0] = [f"{ROOT}/tools", os.path.dirname(os.path.abspath(__file__))]
 import refusals  # noqa: E402
 import refusals_wanted  # noqa: E402
-from trying import DEMO, Tries, text_of as file_of  # noqa: E402
-from wanted import ADDRESS, FIELDS, GAPS, ID, NAMES, OPTIONAL, SAME, Table, explanation, fields, kind_of, place, rows, subject  # noqa: E402
+import trying  # noqa: E402
+from planting import bad_values, plan_of, planted, text_of  # noqa: E402
+from wanted import FIELDS, GAPS, NAMES, OPTIONAL, SAME, explanation, subject  # noqa: E402
 
 
 def ran(command: str, text: bytes) -> subprocess.CompletedProcess[bytes]:
@@ -54,7 +55,8 @@ def faults_of(text: str | bytes, lines: Iterable[str] = (), whole: str | None = 
     faults += [f"not told: {line}" for line in lines if not any(is_.startswith(line) for is_ in rest)]
     faults += [f"the first line is {head}"] if head != f"{len(rest) or 'no'} fault{'s' * (len(rest) != 1)}" else []
     faults += [f"check: {checked}, explain: {explained}"] if (checked.returncode, checked.stderr) != answer else []
-    faults += [f"status {explained.returncode}, {explained.stderr!r}"] if (explained.returncode, explained.stderr) != (answer[0], b"") else []
+    is_ended = (explained.returncode, explained.stderr) == (answer[0], b"")
+    faults += [] if is_ended else [f"status {explained.returncode}, {explained.stderr!r}"]
     return [f"{fault}\nof the text\n{raw.decode(errors='replace')[:1500]}" for fault in faults]
 
 
@@ -62,108 +64,6 @@ def all_faults(texts: Iterable[tuple]) -> list[str]:
     """What is wrong with the explanations of texts."""
     with ThreadPoolExecutor(len(os.sched_getaffinity(0))) as pool:
         return [fault for found in pool.map(lambda words: faults_of(*words), texts) for fault in found]
-
-
-def written(value) -> str:
-    """A value as TOML."""
-    if isinstance(value, str):
-        return '"' + "".join(c if c.isprintable() and c not in '"\\' else f"\\u{ord(c):04x}" for c in value) + '"'
-    if isinstance(value, list):
-        return f"[{', '.join(map(written, value))}]"
-    if isinstance(value, dict):
-        return "{" + ", ".join(f"{written(k)} = {written(v)}" for k, v in value.items()) + "}"
-    return str(value).lower()
-
-
-def text_of(document: Table, rng: random.Random) -> str:
-    """A text of a document: tables of both arrays between one another, keys in any order."""
-    arrays = {k: v for k, v in document.items() if k in ("vl", "port") and isinstance(v, list) and v and rows(document, k) == v}
-    parts = [f"{written(k)} = {written(v)}" for k, v in document.items() if k not in arrays]
-    turns = [name for name, array in arrays.items() for _ in array]
-    rng.shuffle(turns)
-    left = {name: iter(array) for name, array in arrays.items()}
-    for name in turns:
-        table = list(next(left[name]).items())
-        rng.shuffle(table)
-        parts += [f"[[{name}]] # {name}", *(f"{written(k)} = {written(v)}" for k, v in table)]
-    return "\n".join(parts) + "\n"
-
-
-def plan_of(rng: random.Random, links: int, ports: int, version: int | None = None) -> Table:
-    """A plan without a fault: the identifiers of its links are 100 and more, and those of its ports 1,000 and more."""
-    vl = [{"id": 100 + k, "bag_ms": rng.choice(GAPS), "lmax": rng.randint(300, 1518)} for k in range(links)]
-    vl = [link | {"sub_vls": rng.randint(2, 4), "capacity": rng.randint(1, 256)} for link in vl]
-    port = [{"id": 1000 + k, "vl": 100 + k % links, "sub": k % 2, "partition": k % 32, "kind": rng.choice(FIELDS["port"]["kind"])} for k in range(ports)]
-    port = [p | {"source": p["id"], "destination": 2000, "max": rng.randint(1, 253)} for p in port]
-    for table, key in [(t, "networks") for t in vl] + [(t, "checksum") for t in port] if version == 2 else []:
-        table |= {key: rng.choice(FIELDS["vl" if key == "networks" else "port"][key])} if rng.random() < 0.5 else {}
-    for k in rng.sample(range(ports), ports // 3):
-        port[k]["dest_ip"] = f"10.0.{k % 256}.255"
-    return ({"version": version} if version else {}) | {"end_system": {"id": rng.choice(ID)}, "vl": vl, "port": port}
-
-
-def bad_values(content, fault: int) -> list:
-    """Values that show a fault of 4 to 6 where this is allowed."""
-    if fault == 4:
-        other = [7, -9] if kind_of(content) != "a whole number" else ["7", "é" * 20, 'q"\\\n\x7f' * 9, "x" * 40, "x" * 41]
-        return [*other, 2.5, True, [1, 2], *([{"id": 1}] if not isinstance(content, str) else [[{}, 1]] if "array" in content else [[{}]])]
-    if isinstance(content, range):
-        return [content[0] - 1, content[-1] + 1, -(2**63), 2**63 - 1]
-    texts = ["10.0.0", "10.0.0.256", "10.0.0.01", "11.0.0.1", "10.0.0.1.1"] if content is ADDRESS else ["A", "both ", "Queuing"]
-    return [0, 3, -1, 129, 256] if content is GAPS else [*texts, ""]
-
-
-def plant(rng: random.Random, document: Table, fault: int, free: dict[str, list[int]]):
-    """Plants a fault in tables that are free: what begins its line, once all are planted."""
-    def take(name: str, count: int = 1) -> list[int]:
-        taken = sorted(rng.sample(free[name], count))
-        free[name] = [k for k in free[name] if k not in taken]
-        return taken
-
-    vl, port = document["vl"], document["port"]
-    head = f"{fault} {NAMES[fault]}: "
-    if fault < 7:
-        name = "vl" if fault == 6 else rng.choice(("vl", "port"))
-        (k,) = take(name)
-        table, known = document[name][k], fields(document, name)
-        few = {2: [key for key in known if key not in OPTIONAL], 3: ["extra", "Id", "x" * 41, 'q"\u00e9', "checksums"], 6: ["bag_ms"]}
-        key = rng.choice(few.get(fault, [key for key in known if fault == 4 or key != "bag_ms"]))
-        table[key] = rng.choice(bad_values(known[key], fault)) if fault > 3 else 7
-        if fault == 2:
-            del table[key]
-        return lambda: f"{head}{subject(document, (name, k + 1), key)}: "
-    if fault in (7, 8, 12, 13):
-        name = "vl" if fault == 7 else "port"
-        one, other = take(name, 2)
-        a, b = document[name][one], document[name][other]
-        keys = {12: ["vl", "partition", "source", "destination"], 13: ["partition"]}.get(fault, ["id"])
-        b |= {key: a[key] for key in keys}
-        if fault > 11:
-            a["dest_ip"] = b["dest_ip"] = f"10.255.{one}.0"
-        if fault == 13:
-            b["vl"] = 100 + (a["vl"] - 99) % len(vl)
-        return lambda: f"{head}{place(document, (name, one + 1))} and {place(document, (name, other + 1))}: "
-    (link,), (k,) = take("vl"), take("port")
-    port[k] |= {9: {"vl": 60_000 + k}, 10: {"vl": 100 + link, "sub": 3}, 11: {"vl": 100 + link, "kind": "sampling"}}.get(fault, {})
-    if fault == 10:
-        vl[link]["sub_vls"] = rng.randint(1, 3)
-    elif fault == 11:
-        port[k]["max"] = vl[link]["lmax"] - 46
-    elif fault == 14:
-        port += [port[k] | {"id": 3000 + n, "source": 3000 + n, "vl": 100 + link} for n in range(65)]
-        k = len(port) - 1
-    key = {9: "vl", 10: "sub", 11: "max", 14: "sub"}[fault]
-    return lambda: f"{head}{subject(document, ('port', k + 1), key)}: "
-
-
-def planted(seed: int) -> tuple[str, list[str]]:
-    """A text with one to three planted faults, and what begins their lines."""
-    rng = random.Random(seed)
-    document = plan_of(rng, rng.randint(6, 8), rng.randint(6, 12), rng.choice((None, 1, 2)))
-    free = {name: list(range(len(document[name]))) for name in ("vl", "port")}
-    # (the first one takes its turn, so that each number comes)
-    lines = [plant(rng, document, f, free) for f in (2 + seed % 13, *(rng.randint(2, 13) for _ in range(seed // 13 % 3)))]
-    return text_of(document, rng), [line() for line in lines]
 
 
 # A text of two links and three ports without a fault.
@@ -203,6 +103,8 @@ max = 1
 """
 # The table of a small link, what a table's keys are told to be, and changes of the text, each with the lines that it wants.
 SMALL, HEADS = "{{id = {}, bag_ms = 1, lmax = 64, sub_vls = 1, capacity = 1}}, ", "version end_system vl port"
+AND_NEXT = "7 DuplicateVl: vl 2 (id 9) and vl 3 (id 9): the same id"
+LAST = THREE.rpartition("id = 22")[2]
 PORT_KEYS = "id vl sub partition kind source destination max dest_ip"
 CHANGES = [
     ("id = 20\n", "", "2 MissingKey: port 1, id is missing: 0 to 65535"),
@@ -223,7 +125,7 @@ CHANGES = [
     ("bag_ms = 1", "bag_ms = 256", "6 BadBag: vl 1 (id 7), bag_ms is 256: 1, 2, 4, 8, 16, 32, 64 or 128"),
     ("bag_ms = 2", "bag_ms = -2", "6 BadBag: vl 2 (id 8), bag_ms is -2: 1, 2, 4, 8, 16, 32, 64 or 128"),
     ("}]", "}, " + SMALL.format(7) + "]", "7 DuplicateVl: vl 1 (id 7) and vl 3 (id 7): the same id"),
-    ("vl = [", f"vl = [{SMALL.format(9) * 2}", "7 DuplicateVl: vl 1 (id 9) and vl 2 (id 9): the same id"),
+    ("vl = [", f"vl = [{SMALL.format(9) * 3}", "7 DuplicateVl: vl 1 (id 9) and vl 2 (id 9): the same id", AND_NEXT),
     ("id = 21", "id = 20", "8 DuplicatePort: port 1 (id 20) and port 2 (id 20): the same id"),
     ("id = 22", "id = 21", "8 DuplicatePort: port 2 (id 21) and port 3 (id 21): the same id"),
     ("vl = 7", "vl = 9", "9 NoSuchVl: port 1 (id 20), vl is 9: no vl has this id"),
@@ -233,7 +135,7 @@ CHANGES = [
     ("max = 153", "max = 154", "11 SamplingTooLong: port 1 (id 20), max is 154: at most lmax - 47 of its vl; vl 1 (id 7), lmax is 200"),
     ("queuing", "sampling", "11 SamplingTooLong: port 2 (id 21), max is 8000: at most lmax - 47 of its vl; vl 2 (id 8), lmax is 64"),
     ("source = 1002", "source = 1000", f"12 SameFlow: port 1 (id 20) and port 3 (id 22): {SAME[12]}"),
-    ("max = 1\n", "max = 1\n[[port]]\nid = 23" + THREE.rpartition("id = 22")[2], f"12 SameFlow: port 3 (id 22) and port 4 (id 23): {SAME[12]}"),
+    ("max = 1\n", f"max = 1\n[[port]]\nid = 23{LAST}", f"12 SameFlow: port 3 (id 22) and port 4 (id 23): {SAME[12]}"),
     ("source = 1002", "source = 1002\ndest_ip = '10.1.2.3'", f"13 SharedUnicast: port 2 (id 21) and port 3 (id 22): {SAME[13]}"),
     ("id = 20", "id = 20\ndest_ip = '10.1.2.3'", f"13 SharedUnicast: port 1 (id 20) and port 2 (id 21): {SAME[13]}"),
     ("vl = [", "vl = [" + "".join(map(SMALL.format, range(100, 163))), "14 Limit: vl is an array of 65: 1 to 64 tables"),
@@ -267,6 +169,8 @@ def numbers() -> Iterable[tuple]:
         yield THREE.replace(old, new, 1), (), wanted_lines(tuple(lines))
     rng = random.Random(14)
     yield text_of(plan_of(rng, 8, 257), rng), (), wanted_lines(("14 Limit: port is an array of 257: 1 to 256 tables",))
+    crowd = [f"14 Limit: port {k} (id {999 + k}), sub is {k - 129}: at most 64 ports of one sub-VL" for k in (129, 130)]
+    yield text_of(plan_of(rng, 1, 130), rng), (), wanted_lines(tuple(crowd))
     yield text_of(plan_of(rng, 8, 3) | {"vl": []}, rng), ["14 Limit: vl is an array of 0: 1 to 64 tables"]
     yield text_of(plan_of(rng, 8, 3) | {"port": []}, rng), (), wanted_lines(("14 Limit: port is an array of 0: 1 to 256 tables",))
     for text, line, column in STOPS:
@@ -279,7 +183,8 @@ def keys() -> Iterable[tuple]:
     for name, known in FIELDS.items():
         for key, content in known.items():
             found = 6 if content is GAPS else 5
-            bad = [(fault, value) for fault in (4, found) for value in (bad_values(content, fault) if fault == 4 or not isinstance(content, str) else [])]
+            faults = (4, found) if not isinstance(content, str) else (4,)
+            bad = [(fault, value) for fault in faults for value in bad_values(content, fault)]
             good = [content[0], content[-1]] if isinstance(content, (range, list, tuple)) else []
             for fault, value in [(2, None), *bad, *((0, value) for value in good)]:
                 document = plan_of(rng, 2, 5, 2)
@@ -320,7 +225,7 @@ def times() -> tuple[list[str], str]:
 
 def documented() -> list[str]:
     """The keys that the table of `docs/configuration.md` has are those that are tried."""
-    cells = re.findall(r"(?m)^\| (`[a-z_`., ]+) \|", file_of("docs/configuration.md"))
+    cells = re.findall(r"(?m)^\| (`[a-z_`., ]+) \|", trying.text_of("docs/configuration.md"))
     told = {word for cell in cells for word in re.findall(r"`([^`]+)`", cell)}
     tried = {f"{name}.{key}" for name in FIELDS if name for key in FIELDS[name]} | {"version"}
     return [f"{word} is told or tried alone" for word in sorted(told ^ tried)]
@@ -329,8 +234,8 @@ def documented() -> list[str]:
 def main() -> int:
     """Tries all of it."""
     count = int(sys.argv[1]) if sys.argv[1:] else 2_000
-    tries = Tries()
-    demo = file_of("examples/c/demo.toml").encode()
+    tries, rng = trying.Tries(), random.Random(0)
+    demo = trying.text_of("examples/c/demo.toml").encode()
     with tempfile.TemporaryDirectory() as folder:
         os.chdir(folder)
         tries.show("the documented keys", documented())
@@ -338,9 +243,11 @@ def main() -> int:
         tries.show("each key", all_faults(keys()))
         tries.show("each prefix", all_faults((demo[:size],) for size in range(len(demo) + 1)))
         tries.show(f"{count} texts with planted faults", all_faults(planted(seed) for seed in range(count)))
-        tries.attempt("refused memory and writes, no fault", lambda: (refused(DEMO, 0), ""))
-        tries.attempt("refused memory, two faults", lambda: (refused(DEMO.replace("bag_ms = 1", "bag_ms = 3\nx = 1"), 2), ""))
-        tries.attempt("refused memory, no TOML", lambda: (refused(DEMO + "=", 2), ""))
+        sound = [(text_of(plan_of(rng, k % 8 + 1, k + 1, (None, 1, 2)[k % 3]), rng), (), "no faults\n") for k in range(65)]
+        tries.show("65 plans without a fault", all_faults(sound))
+        tries.attempt("refused memory and writes, no fault", lambda: (refused(trying.DEMO, 0), ""))
+        tries.attempt("refused memory, two faults", lambda: (refused(trying.DEMO.replace("bag_ms = 1", "bag_ms = 3\nx = 1"), 2), ""))
+        tries.attempt("refused memory, no TOML", lambda: (refused(trying.DEMO + "=", 2), ""))
         tries.attempt("64 links and 256 ports, 100 faults", times)
     return tries.end()
 

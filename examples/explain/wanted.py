@@ -58,8 +58,10 @@ def allowed(content) -> str:
 def fault_of(content, value) -> int:
     """The number of a value's fault, or 0."""
     kind = kind_of(content)
+    if content == "a table":
+        return 0 if isinstance(value, dict) else 4
     if isinstance(content, str):
-        return 0 if isinstance(value, dict) or (kind != "a table" and isinstance(value, list) and all(isinstance(v, dict) for v in value)) else 4
+        return 0 if isinstance(value, list) and all(isinstance(item, dict) for item in value) else 4
     if type(value) is not (str if kind == TEXT else int):
         return 4
     if content is ADDRESS:
@@ -112,7 +114,8 @@ def value_lines(document: Table, fault: int) -> Iterable[str]:
             if found == fault:
                 yield f"{subject(document, at, key)}: " + (f"{kind_of(content)} is wanted" if found == 4 else allowed(content))
         if fault == 3:
-            yield from (f"{subject(document, at, key)}: the keys are {' '.join(known)}" for key in sorted(table, key=str.encode) if key not in known)
+            others = sorted((key for key in table if key not in known), key=str.encode)
+            yield from (f"{subject(document, at, key)}: the keys are {' '.join(known)}" for key in others)
 
 
 def plan_lines(document: Table, fault: int) -> Iterable[str]:
