@@ -8,8 +8,8 @@ It takes what `rt ci` has left, the libraries of the crates and the program `afd
 builds it, but over these libraries: `rt lib` would prove all of them once more. A library that is there already is
 replaced. The tests of the calls (`c_calls.c`, `owners.c`) and the example (`examples/c/example.c`) are compiled with all
 warnings as errors, once as they are and once with the sanitizers of addresses and leaks and of undefined behaviour. What
-the example prints with `--dump` has to be what `afdx_bench run` prints of the same messages and times. The last line is 'N passed, M
-failed', and the exit status 0 exactly if nothing failed.
+the example prints with `--dump` has to be what `afdx_bench run` prints of the same messages and times. The last line is
+'N passed, M failed', and the exit status 0 exactly if nothing failed.
 """
 import os
 import re

@@ -178,8 +178,8 @@ uint8_t afdx_next_due(afdx_end_system *it, uint64_t *at);
 uint8_t afdx_frames(afdx_end_system *it, uint8_t network, size_t *count);
 
 /* Copies frame k, from 0, that the last poll made for a network into a buffer, and writes how many bytes it has: at most
-   AFDX_GREATEST_FRAME. Nothing behind those is written. `length` doesn't lie in `buffer`. Refused: AFDX_NOT_HELD, AFDX_WRONG_HANDLE, AFDX_NO_NETWORK,
-   AFDX_NO_FRAME, AFDX_SMALL_BUFFER; then nothing is written. */
+   AFDX_GREATEST_FRAME. Nothing behind those is written. `length` doesn't lie in `buffer`. Refused: AFDX_NOT_HELD,
+   AFDX_WRONG_HANDLE, AFDX_NO_NETWORK, AFDX_NO_FRAME, AFDX_SMALL_BUFFER; then nothing is written. */
 uint8_t afdx_frame(afdx_end_system *it, uint8_t network, size_t k, uint8_t *buffer, size_t size, size_t *length);
 
 /* Copies all frames that the last poll made for a network into a buffer, one behind the other and with nothing between
