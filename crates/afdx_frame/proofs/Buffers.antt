@@ -1,4 +1,4 @@
--- What a buffer knows after fragments of one datagram.
+-- What a buffer holds after fragments of one datagram are put into it.
 use Rattle.std.proofs.Common.{◌≡◌, ℕ, zero, suc, ◌+◌, ◌-◌, ◌*◌, ◌/◌, ◌≤◌, ◌<◌, inl, inr, Bool, true, false, not, nat_le, nat_lt, List, [], ◌∷◌, length, drop, get_or, refl, sym, ap, ◌∙◌, subst, arith}
 use Rattle.std.specs.Prelude.{All, Contains, Option, Some, None, slice_index, if◌then◌else◌}
 use Rattle.std.specs.List.{list_any}
@@ -11,17 +11,17 @@ use Rattle.afdx_frame.specs.Cutting.{cutting, pieces_from}
 use Rattle.afdx_frame.specs.Reassembly.{Fragment, Buffer, empty, covers, put, put_all, joined, bytes_from, bytes_to, fragment_of, fragments_of, AnyOrder, NotBefore}
 use Rattle.afdx_frame.proofs.CuttingLaw.{IsPart, pieces_are, cover_of}
 
--- a fragment of this datagram
+-- the fragment carries bytes of this datagram, at their positions
 record Agrees (d : List ℕ) (f : Fragment) : Type 0 where
   pub same : (i : ℕ) → covers f i ≡ true → slice_index f.bytes (i - 8 * f.offset) ≡ slice_index d i
   pub total : f.more ≡ false → 8 * f.offset + length f.bytes ≡ length d
 
--- one value, whichever way a test goes
+-- A test with the same value in both branches has that value.
 either : {A : Type 0} (b : Bool) (x : A) → (if b then x else x) ≡ x
 either true x = refl
 either false x = refl
 
--- the byte at a position, after fragments of this datagram
+-- After fragments of the datagram, the buffer holds the datagram's byte at each covered position.
 byte_after : (d : List ℕ) (i : ℕ) (fs : List Fragment) (b : Buffer) → All (Agrees d) fs
     → (put_all b fs).byte_at i ≡ (if list_any (λ f. covers f i) fs then Some (slice_index d i) else b.byte_at i)
 byte_after d i [] b all = refl
@@ -30,7 +30,7 @@ byte_after d i (f ∷ fs) b all = byte_after d i fs (put b f) (All-tail (Agrees 
   | inr isnt ↦ rw isnt refl
 ]
 
--- and the length
+-- After fragments of the datagram, the length is the datagram's if the last one came.
 total_after : (d : List ℕ) (fs : List Fragment) (b : Buffer) → All (Agrees d) fs
     → (put_all b fs).total ≡ (if list_any (λ f. not f.more) fs then Some (length d) else b.total)
 total_after d [] b all = refl
@@ -39,7 +39,7 @@ total_after d (f ∷ fs) b all = total_after d fs (put b f) (All-tail (Agrees d)
   | inr ends ↦ rw (ends, (All-head (Agrees d) f fs all).total ends) (either (list_any (λ g. not g.more) fs) _)
 ]
 
--- all positions are known
+-- If all positions are known, the bytes are given.
 all_bytes : (xs : List ℕ) (byte_at : ℕ → Option ℕ) (start : ℕ)
     → ((k j : ℕ) → j ≡ start + k → k < length xs → byte_at j ≡ Some (get_or xs k 0))
     → bytes_from byte_at start (length xs) ≡ Some xs
@@ -50,7 +50,7 @@ all_bytes (x ∷ xs) byte_at start each =
       all_bytes xs byte_at (start + 1) (λ k j e h. each (suc k) j (omega arith) (omega arith)),
     ) refl
 
--- one isn't, and nothing is given
+-- If one position is unknown, nothing is given.
 none_given : (n : ℕ) (byte_at : ℕ → Option ℕ) (start i : ℕ) → start ≤ i → i < start + n → byte_at i ≡ None
     → bytes_from byte_at start n ≡ None
 none_given zero byte_at start i low high none = absurd (omega arith)
@@ -63,12 +63,12 @@ none_given (suc n) byte_at start i low high none = elim (cases_lt start i) [
     joined_none None = refl
     joined_none (Some x) = refl
 
--- the bounds of a fragment
+-- the bounds of the positions that a fragment covers
 covers_parts : (f : Fragment) (i : ℕ) → covers f i ≡ true → (8 * f.offset ≤ i) × (i < 8 * f.offset + length f.bytes)
 covers_parts f i in_it = let p = and_parts (nat_le (8 * f.offset) i)
     (nat_lt i (8 * f.offset + length f.bytes)) in_it in (leb-true _ _ p.0, ltb-true _ _ p.1)
 
--- how much a fragment carries
+-- The data of a piece's fragment has the length of the piece.
 data_length : (d : List ℕ) (p : Piece) → p.start + p.len ≤ length d → length (fragment_of d p).bytes ≡ p.len
 data_length d p within = let a = length-take p.len (drop p.start d) in let b = length-drop p.start d in omega arith
 
@@ -96,7 +96,7 @@ module _ (room : ℕ) (d : List ℕ) (came : List Fragment) (least : 8 ≤ room)
   part : (p : Piece) → Contains pieces p → IsPart room (length d) p
   part p among = All-contains (IsPart room (length d)) pieces p parts among
 
-  -- the piece of a fragment
+  -- a fragment of one of the datagram's pieces
   abbrev From : Fragment → Type 0
   From f = (p : Piece) × Contains pieces p × (fragment_of d p ≡ f)
 
@@ -105,16 +105,16 @@ module _ (room : ℕ) (d : List ℕ) (came : List Fragment) (least : 8 ≤ room)
       (All-weaker (Contains pieces) (λ p. From (fragment_of d p)) (λ p has. (p, has, refl)) pieces
       (All-contains_itself pieces))) among
 
-  -- what came agrees with the datagram
+  -- Each fragment that came is one of the datagram.
   agree : All (Agrees d) came
   agree = λ k e inside. let src = source_of _ (only _ (Contains-get_or came k e inside)) in
       subst (Agrees d) src.2 (agrees_of room d src.0 (part src.0 src.1))
 
-  -- one that came passes a test of one that it is
+  -- If one that came passes a test, some fragment passes it.
   came_some : (test : Fragment → Bool) (f : Fragment) → Contains came f → test f ≡ true → list_any test came ≡ true
   came_some test f (k, inside, here) passes = list_any_at test came k f inside (rw here passes)
 
-  -- all of them came
+  -- If all fragments came, the buffer gives the datagram.
   whole : ((f : Fragment) → Contains (fragments_of room d) f → Contains came f)
       → bytes_to (put_all empty came).byte_at (put_all empty came).total ≡ Some d
   whole has = rw total (all_bytes d (put_all empty came).byte_at 0
@@ -152,7 +152,7 @@ module _ (room : ℕ) (d : List ℕ) (came : List Fragment) (least : 8 ≤ room)
           total_after d came empty agree
           ∙ rw (came_some (λ g. not g.more) (fragment_of d last.piece) (among last.piece last.among) (rw ends refl)) refl
 
-  -- one of them is missing, and its first byte stays unknown
+  -- If one fragment is missing, its first byte is unknown.
   lacking : (missing : Fragment) → Contains (fragments_of room d) missing → (Contains came missing → ⊥)
       → bytes_to (put_all empty came).byte_at (put_all empty came).total ≡ None
   lacking missing has lacks =

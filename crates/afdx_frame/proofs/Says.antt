@@ -1,4 +1,4 @@
--- Each frame says what went in.
+-- Each frame gives back the fields that it was written with.
 use Rattle.std.proofs.Common.{◌≡◌, ℕ, ◌+◌, ◌%◌, ◌<◌, Option, Some, None, List, length, refl, arith, ◌-◌, ◌/◌, ◌≤◌, ◌⊎◌, inl, inr, Bool, true, [], ◌∷◌, ◌++◌, take, drop, get_or, replicate, max, sym, ap, ◌∙◌, append_assoc, length-append}
 use Rattle.std.specs.Prelude.{IfSome, slice_index, nat_le, if◌then◌else◌}
 use Rattle.afdx_plan.specs.declared.port_plan.PortPlan.{PortPlan}
@@ -19,23 +19,23 @@ use Rattle.afdx_frame.specs.Header.{IsFrameOf}
 use Rattle.afdx_frame.specs.ReadBack.{IsPiece, Says}
 use Rattle.afdx_frame.proofs.Datagram.{length-udp_header}
 
--- the address has four bytes
+-- A destination address has four bytes.
 pub length-destination : (vl : ℕ) (unicast : Option (List ℕ)) → IfSome unicast IsUnicast → length (destination_of vl unicast) ≡ 4
 length-destination vl None is = refl
 length-destination vl (Some address) is = is.four
 
--- the addresses have 8 bytes
+-- The two addresses have eight bytes.
 pub length-addresses : (end_system : ℕ) (port : PortPlan) → IsPort port → length (addresses end_system port) ≡ 8
 unfolding addresses
 length-addresses end_system port is = let four = length-destination port.vl.0 port.unicast is.unicast in omega arith
 
--- an internet header has 20 bytes
+-- An internet header has 20 bytes.
 pub length-internet : (end_system : ℕ) (port : PortPlan) (ident : ℕ) (piece : Piece) → IsPort port
     → length (internet_header end_system port ident piece) ≡ 20
 unfolding internet_header header_front
 length-internet end_system port ident piece is = let eight = length-addresses end_system port is in omega arith
 
--- the checksum is a number of two bytes, and closes the sum
+-- A checksum is below 65,535.
 checksum_range : (sum : ℕ) → checksum sum < 65535
 unfolding checksum
 checksum_range sum = omega arith
@@ -45,7 +45,7 @@ checksum_closes : (sum total : ℕ) → total ≡ sum + checksum sum → total %
 unfolding checksum
 checksum_closes sum total is = omega arith
 
--- the sum of the header's words
+-- The sum of the words of an internet header.
 header_sum : (end_system : ℕ) (port : PortPlan) (ident : ℕ) (piece : Piece)
     → word_sum (internet_header end_system port ident piece)
     ≡ word_sum (header_front ident piece) + word_sum (addresses end_system port) + checksum
@@ -54,12 +54,12 @@ unfolding internet_header header_front addresses
 header_sum end_system port ident piece =
     let range = checksum_range (word_sum (header_front ident piece) + word_sum (addresses end_system port)) in omega arith
 
--- so is the sum of a header
+-- The words of an internet header add up to a multiple of 65,535.
 pub header_closes : (end_system : ℕ) (port : PortPlan) (ident : ℕ) (piece : Piece)
     → word_sum (internet_header end_system port ident piece) % 65535 ≡ 0
 header_closes end_system port ident piece = checksum_closes _ _ (header_sum end_system port ident piece)
 
--- flags and offset in one number
+-- The word of flags and offset, read back.
 word_of_flags : (more : Bool) (start : ℕ) → start ≤ 8200
     → (((if more then 8192 else 0) + start / 8) < 16384) ×
     (((if more then 8192 else 0) + start / 8) % 8192 ≡ start / 8) ×
@@ -77,7 +77,7 @@ module _ (end_system : ℕ) (port : PortPlan) (message : List ℕ) (place : ℕ)
   abbrev payload : List ℕ
   payload = take piece.len (drop piece.start (datagram end_system port message))
 
-  -- the padding and the number
+  -- the padding and the sequence number
   abbrev tail : List ℕ
   tail = replicate (25 - piece.len) 0 ++ number ∷ []
 
@@ -135,12 +135,12 @@ module _ (end_system : ℕ) (port : PortPlan) (message : List ℕ) (place : ℕ)
         length-drop piece.start (udp_header end_system port message ++ message),
       )
 
-  -- the frame from its internet header on
+  -- The frame from its internet header on.
   behind_link : drop 14 frame ≡ header ++ (payload ++ tail)
   unfolding unnumbered link_header
   behind_link = simp append_assoc
 
-  -- and from its piece on
+  -- The frame from its piece on.
   behind_header : IsPort port → drop 34 frame ≡ payload ++ tail
   behind_header is = sym (drop-drop 20 14 frame) ∙ ap (drop 20) behind_link
       ∙ drop_at header (payload ++ tail) 20 (length-internet end_system port (identification place port.sub) piece is)

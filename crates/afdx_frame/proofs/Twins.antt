@@ -13,11 +13,11 @@ use Rattle.afdx_frame.specs.Header.{link_in, sub_in, number_in}
 use Rattle.afdx_frame.specs.Twin.{twin_of}
 use Rattle.afdx_frame.specs.Fragments.{Sent, blanked, fragments_at, fragments_from}
 
--- every byte but the interface identifier stays
+-- A twin differs in the byte of the interface identifier alone.
 pub twin_elsewhere : (net : Net) (frame : List ℕ) (k : ℕ) → k ≢ 11 → slice_index (twin_of net frame) k ≡ slice_index frame k
 twin_elsewhere net frame k other = get_or-set_other frame 11 k (interface_byte net) 0 other
 
--- a word that the identifier is no part of
+-- A word without that byte is the same in a twin.
 pub twin_word : (net : Net) (frame : List ℕ) (k : ℕ) → k ≢ 11 → k + 1 ≢ 11 → word_at (twin_of net frame) k ≡ word_at frame k
 twin_word net frame k first second =
     ap (λ (high : ℕ). 256 * high + slice_index (twin_of net frame) (k + 1)) (twin_elsewhere net frame k first)
@@ -40,7 +40,7 @@ twin_number net frame long =
 pub twin_interface : (net : Net) (frame : List ℕ) → 60 ≤ length frame → slice_index (twin_of net frame) 11 ≡ interface_byte net
 twin_interface net frame long = get_or-set_same frame 11 (interface_byte net) 0 (omega arith)
 
--- a frame that carries a network's identifier is its own twin for it
+-- A frame with a network's identifier is its own twin for that network.
 pub twin_same : (net : Net) (frame : List ℕ) → slice_index frame 11 ≡ interface_byte net → twin_of net frame ≡ frame
 twin_same net frame is = ap (set frame 11) (sym is) ∙ set-get_or frame 11 0
 
@@ -55,7 +55,7 @@ twin_blanked net frame =
           ∙ sym (set_past (blanked frame) 11 (interface_byte net) (omega (arith, length-take (length frame - 1) frame)))
     ]
 
--- the twins of a message's fragments are its fragments for that network
+-- The twins of a message's fragments are its fragments for the other network.
 twin_message : (end_system room : ℕ) (place : ℕ) (sent : Sent) (net other : Net)
     → map (twin_of net) (fragments_at end_system room other place sent) ≡ fragments_at end_system room net place sent
 unfolding fragments_at unnumbered link_header
@@ -67,7 +67,7 @@ twin_fragments end_system room net other place [] = refl
 twin_fragments end_system room net other place (sent ∷ later) =
     rw (map-append, twin_message end_system room place sent net other, twin_fragments end_system room net other (suc place) later) refl
 
--- the identification repeats after 16,384 places, and nothing else of a fragment depends on the place
+-- The identification repeats after 16,384 places, so a fragment depends on the place modulo 16,384.
 ident_again : (place sub : ℕ) → identification (place % 16384) sub ≡ identification place sub
 ident_again place sub = omega arith
 

@@ -10,7 +10,7 @@ use Rattle.afdx_frame.specs.UdpCheck.{ChecksumsPass, ReassembledPass, ChangedWor
 use Rattle.afdx_frame.proofs.Buffers.{any_order_holds}
 use Rattle.afdx_frame.proofs.Datagram.{length-udp_header}
 
--- one number closes a sum
+-- One number from 1 to 65,535 closes a sum.
 pub one_udp_checksum : OneUdpChecksum
 unfolding udp_checksum
 one_udp_checksum sum = (
@@ -19,7 +19,7 @@ one_udp_checksum sum = (
       is.multiple in omega arith,
 )
 
--- the words of whole words and what follows them
+-- The word sum of two lists, if the first has an even length.
 pub word_sum-append : (words : ℕ) (xs ys : List ℕ) → length xs ≡ 2 * words → word_sum (xs ++ ys) ≡ word_sum xs + word_sum ys
 word_sum-append words [] ys whole = omega arith
 word_sum-append words (a ∷ []) ys whole = absurd (omega (arith, whole))
@@ -27,7 +27,7 @@ word_sum-append zero (a ∷ b ∷ xs) ys whole = absurd (omega (arith, whole))
 word_sum-append (suc words) (a ∷ b ∷ xs) ys whole =
     let later = word_sum-append words xs ys (omega (arith, whole)) in omega (arith, later)
 
--- the header adds its checksum to the words before it
+-- The word sum of the UDP header.
 header_sum : (end_system : ℕ) (port : PortPlan) (message : List ℕ) → port.checksum ≡ Generated
     → word_sum (udp_header end_system port message)
     ≡ word_sum (udp_front port message) + udp_checksum (udp_sum end_system port message)
@@ -37,7 +37,7 @@ header_sum end_system port message generated =
     ap (λ kind. word_sum (udp_front port message ++ two_bytes (udp_field kind (udp_sum end_system port message)))) generated
     ∙ omega (arith, range)
 
--- the datagram adds it to the words of the header and the message
+-- The word sum of the datagram.
 datagram_sum : (end_system : ℕ) (port : PortPlan) (message : List ℕ) → port.checksum ≡ Generated
     → word_sum (datagram end_system port message)
     ≡ word_sum (udp_front port message) + udp_checksum (udp_sum end_system port message) + word_sum message
@@ -47,7 +47,7 @@ datagram_sum end_system port message generated =
     let both = word_sum-append 4 (udp_header end_system port message) message (length-udp_header end_system port message) in
     omega (arith, header, both)
 
--- how long the datagram is
+-- The length of the datagram.
 length-datagram : (end_system : ℕ) (port : PortPlan) (message : List ℕ)
     → length (datagram end_system port message) ≡ datagram_len message
 unfolding datagram
@@ -55,7 +55,7 @@ length-datagram end_system port message =
     length-append (udp_header end_system port message) message
     ∙ ap (λ n. n + length message) (length-udp_header end_system port message)
 
--- so a receiver's sum is the sender's with its checksum, and passes
+-- The receiver's sum is the sender's sum with its checksum, and passes.
 pub checksums_pass : ChecksumsPass
 unfolding udp_sum
 checksums_pass end_system port message generated =
@@ -64,7 +64,7 @@ checksums_pass end_system port message generated =
     let closes = (one_udp_checksum (udp_sum end_system port message)).0.multiple in
     omega (arith, words, len, closes)
 
--- also put together of its fragments
+-- The same holds of the datagram put together from its fragments.
 pub reassembled_pass : ReassembledPass
 reassembled_pass end_system port message room came generated least all =
     let len = length-datagram end_system port message in (
@@ -73,7 +73,7 @@ reassembled_pass end_system port message room came generated least all =
       checksums_pass end_system port message generated,
     )
 
--- a word and what follows it
+-- The word sum of a word and what follows it.
 word_then : (word rest : List ℕ) → (length word ≡ 2) ⊎ ((length word ≡ 1) × (rest ≡ []))
     → word_sum (word ++ rest) ≡ word_sum word + word_sum rest
 word_then word rest (inl two) = word_sum-append 1 word rest two
@@ -82,7 +82,7 @@ word_then [] rest (inr one) = absurd (let none = one.0 in omega arith)
 word_then (a ∷ b ∷ word) rest (inr one) = absurd (let none = one.0 in omega arith)
 word_then (a ∷ []) (b ∷ rest) (inr one) = absurd (let none = ap length one.1 in omega (arith, none))
 
--- the words of a list around one of them
+-- The word sum of a list around one of its words.
 around : (words : ℕ) (front word rest : List ℕ) → length front ≡ 2 * words
     → (length word ≡ 2) ⊎ ((length word ≡ 1) × (rest ≡ []))
     → word_sum (front ++ (word ++ rest)) ≡ word_sum front + (word_sum word + word_sum rest)
@@ -90,17 +90,17 @@ around words front word rest whole one =
     let both = word_sum-append words front (word ++ rest) whole in
     let last = word_then word rest one in omega (arith, both, last)
 
--- a word of the same length stands where the old one stood
+-- A changed word of the same length keeps the words after it.
 stands_too : (old new rest : List ℕ) → length new ≡ length old → (length old ≡ 2) ⊎ ((length old ≡ 1) × (rest ≡ []))
     → (length new ≡ 2) ⊎ ((length new ≡ 1) × (rest ≡ []))
 stands_too old new rest same one = grind arith
 
--- how long a list is around a word
+-- The length of a list around one of its words.
 long_around : (front word rest : List ℕ) → length (front ++ (word ++ rest)) ≡ length front + (length word + length rest)
 long_around front word rest =
     length-append front (word ++ rest) ∙ ap (λ n. length front + n) (length-append word rest)
 
--- so another remainder of one word is another one of the sum
+-- A word with another remainder gives a sum with another remainder.
 pub changed_words_fail : ChangedWordsFail
 changed_words_fail ends before after passes changed still =
     let b = ap word_sum changed.before_is ∙ around changed.words changed.front changed.old changed.rest changed.in_words changed.one_word in

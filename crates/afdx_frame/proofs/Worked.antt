@@ -1,4 +1,4 @@
--- The worked rows of the laws, by computation.
+-- The worked cases of the laws, by computation.
 use Rattle.std.proofs.Common.{◌≡◌, ℕ, zero, suc, ◌+◌, ◌≤◌, ◌<◌, [], ◌∷◌, slice_index, refl, arith, List, get_or, ap, inr}
 use Rattle.afdx_frame.specs.Checksum.{checksum, udp_checksum}
 use Rattle.afdx_frame.specs.Cutting.{IsCutting, cutting, piece_at, pieces_left}
@@ -17,7 +17,6 @@ use Rattle.std.proofs.lemmas.List.Elements.{All-contains, All-from_recursion}
 use Rattle.afdx_frame.specs.Reassembly.{Fragment}
 use Rattle.afdx_frame.specs.UdpCheck.{IsWordChanged}
 
--- the row of a header
 pub checks_one_header : ChecksOneHeader
 unfolding checksum
 checks_one_header = record {
@@ -28,7 +27,7 @@ checks_one_header = record {
   full = λ is. let r = is.range in absurd (omega arith);
 }
 
--- the lengths of two pieces
+-- The two pieces are a cutting.
 two_are : IsCutting 25 49 (24 ∷ 25 ∷ [])
 two_are = record { some = omega arith; total = refl; full = full; last = last; tight = tight }
   where
@@ -42,7 +41,6 @@ two_are = record { some = omega arith; total = refl; full = full; last = last; t
     tight : (k : ℕ) → k + 2 ≡ 2 → 25 < slice_index (24 ∷ 25 ∷ []) k + slice_index (24 ∷ 25 ∷ []) (suc k)
     tight k h = let first : k ≡ 0 = omega arith in rw first (omega arith)
 
--- the row of a cutting
 pub cuts_in_two : CutsInTwo
 unfolding cutting
 cuts_in_two = record {
@@ -52,7 +50,6 @@ cuts_in_two = record {
   narrow = λ is. let t : ◌≡◌ {A = ℕ} 0 9 = is.total in absurd (omega arith);
 }
 
--- the row of two pieces
 pub keeps_two_pieces : KeepsTwoPieces
 unfolding cutting
 keeps_two_pieces = record {
@@ -62,7 +59,6 @@ keeps_two_pieces = record {
   wide = λ each. let l : 1480 ≤ 1479 = each.0.len.1 in absurd (omega arith);
 }
 
--- a frame and its twin
 pub turns_one_frame : TurnsOneFrame
 unfolding checksum addresses header_front internet_header link_header udp_header datagram unnumbered
 turns_one_frame = record {
@@ -72,12 +68,11 @@ turns_one_frame = record {
   other = λ same. let b : ◌≡◌ {A = ℕ} 32 64 = ap (λ (f : List ℕ). slice_index f 11) same in absurd (omega arith);
 }
 
--- the second piece is one
+-- The second piece meets what a frame needs.
 piece_is : IsPiece 41 (piece_at 25 49 24)
 unfolding cutting
 piece_is = (pieces_are 49 25 41 0 (omega arith) (omega arith) (omega arith) (omega arith) refl).1.0
 
--- a frame's fields
 pub says_its_fields : SaysItsFields
 unfolding unnumbered link_header internet_header header_front
 says_its_fields = record {
@@ -89,7 +84,6 @@ says_its_fields = record {
   unsaid = λ it. let t : 21 ≤ 20 = it.frame.internet.total in absurd (omega arith);
 }
 
--- one message more
 pub grows_by_one : GrowsByOne
 unfolding checksum addresses header_front internet_header link_header udp_header datagram unnumbered cutting fragments_at
 grows_by_one = record {
@@ -99,12 +93,10 @@ grows_by_one = record {
       = ap (λ (frames : List (List ℕ)). slice_index (get_or frames 2 []) 19) same in absurd (omega arith);
 }
 
--- a cut
 pub cuts_both : CutsBoth
 unfolding checksum addresses header_front internet_header link_header udp_header datagram unnumbered cutting pieces_left fragments_at
 cuts_both = record { whole = refl; both = refl; one = refl }
 
--- three fragments and their twins
 pub turns_three_fragments : TurnsThreeFragments
 unfolding checksum addresses header_front internet_header link_header udp_header datagram unnumbered cutting fragments_at
 turns_three_fragments = record {
@@ -113,15 +105,14 @@ turns_three_fragments = record {
       = ap (λ (frames : List (List ℕ)). slice_index (get_or frames 0 []) 11) same in absurd (omega arith);
 }
 
--- what holds of each fragment of a list holds of one that it contains
+-- A property of each element of a list, for one that it contains.
 each : (P : Fragment → Type 0) (fs : List Fragment) (f : Fragment) → AllByRecursion P fs → Contains fs f → P f
 each P fs f all among = All-contains P fs f (All-from_recursion P fs all) among
 
--- the fragments of the twenty bytes
+-- the three fragments of the twenty bytes
 abbrev three : List Fragment
 three = first_bytes ∷ middle_bytes ∷ last_bytes ∷ []
 
--- what came whole
 pub three_pieces : ThreePieces
 unfolding cutting
 three_pieces = record {
@@ -135,7 +126,6 @@ three_pieces = record {
   missing = refl;
 }
 
--- what came without the middle
 pub misses_the_middle : MissesTheMiddle
 unfolding cutting
 misses_the_middle = record {
@@ -150,7 +140,7 @@ misses_the_middle = record {
   another = refl;
 }
 
--- the last byte is a word of its own
+-- The last byte is a word of its own.
 one_changed : IsWordChanged first_datagram damaged_datagram
 one_changed = record {
   words = 4;
@@ -166,7 +156,6 @@ one_changed = record {
   other = λ same. omega (arith, same);
 }
 
--- the row
 pub checks_three_datagrams : ChecksThreeDatagrams
 unfolding addresses datagram udp_checksum udp_header udp_sum
 checks_three_datagrams = record {

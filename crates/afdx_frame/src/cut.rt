@@ -1,4 +1,4 @@
-//! A message that is cut into frames, one piece per call.
+//! A message, cut into frames, one piece per call.
 ghost use Rattle.std.specs.Prelude.{◌≡◌, ℕ, ◌+◌, ◌≤◌, ◌<◌, ◌-◌, ◌↔◌, length, [], ◌∷◌, List, IsTrue, true, false, MatchOption, vec_len, vec_capacity};
 ghost use Rattle.afdx_plan.specs.Plan.{IsPort, SendsOver};
 ghost use Rattle.afdx_plan.specs.Room.{room_of};
@@ -16,9 +16,8 @@ use afdx_plan::{LinkPlan, PortPlan};
 use arrayvec::ArrayVec;
 use std::marker::Model;
 
-/// A message of a port at a place of its sub-VL, which is given frame by frame: the datagram's
-/// bytes before `start` were given. Its calls' bodies ask for no memory beyond the message, and the
-/// message's list doesn't grow.
+/// A message of a port at a place of its sub-VL, given frame by frame. The datagram's bytes before
+/// `start` were given. No call allocates, and the message's list doesn't grow.
 #[derive(Drop)]
 pub struct Cut {
     bytes: Vec<u8>,
@@ -44,8 +43,8 @@ impl Model for Cut {
     ghost invariant = { λ c. IsCut c.port c.bytes.items c.start };
 }
 
-/// The piece that starts there, if there is one. What does not fit in the room loses the greatest
-/// multiple of 8 bytes that does (RFC 791, the example procedure of fragmentation).
+/// The next piece, if there is one. If the rest doesn't fit into the room, the piece is the
+/// greatest multiple of 8 bytes that does (RFC 791, the example procedure of fragmentation).
 fn next_piece(room: usize, len: usize, start: usize) -> Option<Piece>
     requires room { 25 ≤ room }
     requires len { len ≤ greatest_datagram }
@@ -73,8 +72,8 @@ fn next_piece(room: usize, len: usize, start: usize) -> Option<Piece>
 }
 
 impl Cut {
-    /// A message of a port of a configuration, of 1 to 8,192 bytes, of which nothing was given. Its
-    /// place counts the accepted messages of its sub-VL from 0.
+    /// Begins to cut a message of 1 to 8,192 bytes. `place` counts the accepted messages of the
+    /// sub-VL from 0.
     pub fn new(bytes: Vec<u8>, place: u64, port: &PortPlan) -> Cut
         requires port { IsPort port.now }
         requires some { 1 ≤ vec_len bytes }
@@ -105,8 +104,8 @@ impl Cut {
         self.start == 8 + self.bytes.len()
     }
 
-    /// The frame of the next piece, with this sequence number, for this network. None exactly where
-    /// all pieces were given; nothing is changed then.
+    /// Returns the frame of the next piece, with this sequence number, for this network. Returns
+    /// `None`, and changes nothing, exactly if all pieces were given.
     #[inline(always)]
     pub fn next_frame(
         &mut self,
@@ -137,8 +136,8 @@ impl Cut {
         Some(frame)
     }
 
-    /// As `next_frame`, into a buffer that the caller keeps, whose old bytes go. Answers whether a
-    /// piece was left; where none was, the buffer and the message stay as they were.
+    /// As `next_frame`, into the caller's buffer, which it overwrites. Returns whether a piece was
+    /// left; if none was, the buffer and the message are unchanged.
     #[inline(always)]
     pub fn write_next(
         &mut self,
