@@ -1,11 +1,11 @@
--- Networks through some hands.
+-- Networks through a list of hands.
 use Rattle.std.proofs.Common.{ℕ, ◌≡◌, List, Bool, true, false, refl, sym, ◌∙◌, inl, inr, ⊎_elim, arith}
 use Rattle.std.proofs.lemmas.Bool.{cases_Bool, both_ways, and_parts, and_from, or_cases, or_left, or_right}
 use Rattle.afdx_plan.specs.declared.networks.Networks.{Networks}
 use Rattle.redundant_mux.specs.Entry.{Entry}
 use Rattle.redundant_mux.specs.Lines.{Lines, Handing, Endures, BothEndure, stands_for}
 
--- through none
+-- No hand keeps the relation.
 endures_none : (s : Bool) (h : List Entry) (f : ℕ) → Endures s s h h f f
 endures_none s h f = record {
   stays = ((λ up. (up, refl)), (λ both. both.0));
@@ -14,7 +14,7 @@ endures_none s h f = record {
   down = λ _. (refl, refl);
 }
 
--- through one
+-- One hand keeps the relation.
 endures_hand : (named : Bool) (e : Entry) (stood stands : Bool) (old new : List Entry) (f g : ℕ)
     → Handing named e stood stands old new f g → Endures stood stands old new f g
 endures_hand false e stood stands old new f g p = rw (p.0, p.1, p.2) (endures_none stood old f)
@@ -33,7 +33,7 @@ endures_hand true e true false old new f g p = record {
 endures_hand true e false false old new f g p = rw (p.0, p.1) (endures_none false old f)
 endures_hand true e false true old new f g p = absurd p
 
--- through some, and then some more
+-- The relation is transitive.
 endures_on : (s m t : Bool) (h i j : List Entry) (f g k : ℕ) → Endures s m h i f g → Endures m t i j g k → Endures s t h j f k
 endures_on s m t h i j f g k p q = record {
   stays = (
@@ -53,14 +53,14 @@ endures_on s m t h i j f g k p q = record {
   ];
 }
 
--- both through none
+-- No hand, for both networks.
 pub both_none : (lines : Lines) → BothEndure lines lines
 both_none lines = record {
   a = endures_none lines.a_stands lines.a lines.a_failures;
   b = endures_none lines.b_stands lines.b lines.b_failures;
 }
 
--- both through one
+-- One hand, for both networks.
 pub both_hands : (before after : Lines) (for_a for_b : Bool) (e f : Entry)
     → Handing for_a e before.a_stands after.a_stands before.a after.a before.a_failures after.a_failures
     → Handing for_b f before.b_stands after.b_stands before.b after.b before.b_failures after.b_failures
@@ -70,14 +70,14 @@ both_hands before after for_a for_b e f p q = record {
   b = endures_hand for_b f _ _ _ _ _ _ q;
 }
 
--- both through some, and then some more
+-- Transitivity, for both networks.
 pub both_on : (before mid after : Lines) → BothEndure before mid → BothEndure mid after → BothEndure before after
 both_on before mid after p q = record {
   a = endures_on _ _ _ _ _ _ _ _ _ p.a q.a;
   b = endures_on _ _ _ _ _ _ _ _ _ p.b q.b;
 }
 
--- a network that stands at the end stood before
+-- A network that is up at the end was up before.
 pub stood_before : (before after : Lines) (networks : Networks) → BothEndure before after → stands_for networks after ≡ true
     → stands_for networks before ≡ true
 stood_before before after networks p some = ⊎_elim

@@ -1,4 +1,4 @@
--- The lists of the two networks, and what was logged.
+-- The lists of the two networks, and the log.
 use Rattle.std.proofs.Common.{ℕ, ◌≡◌, List, [], ◌∷◌, ◌++◌, Bool, true, false, ◌&&◌, cond, map, refl, ap, ◌∙◌, sym, inl, inr, ⊎_elim}
 use Rattle.std.proofs.lemmas.List.{map-append, append-nil, append_assoc}
 use Rattle.std.proofs.lemmas.List.Elements.{filter-append, All-nil, All-push}
@@ -11,11 +11,11 @@ use Rattle.redundant_mux.specs.Entry.{Entry}
 use Rattle.redundant_mux.specs.Logged.{Logged, logged_for, entries_of, names, only, side, sent_to}
 use Rattle.redundant_mux.specs.Lines.{Lines, lines_of, Handing, Keeps, IsMirrored, AreInStep, stands_for, log}
 
--- the entries of two lists
+-- The entries of two lists.
 pub entries_append : (xs ys : List Logged) → entries_of (xs ++ ys) ≡ entries_of xs ++ entries_of ys
 entries_append xs ys = map-append (λ (l : Logged). l.entry) xs ys
 
--- what a network gets of one entry more
+-- One entry more in the log, as a network gets it.
 sent_push : (net : Net) (seen : List Logged) (l : Logged)
     → sent_to net (seen ++ l ∷ []) ≡ sent_to net seen ++ cond (names net l.networks) (side net l.entry ∷ []) []
 sent_push net seen l =
@@ -27,7 +27,7 @@ sent_push net seen l =
     one true = refl
     one false = refl
 
--- what a hand did to a network that stands afterwards, and to one that is down or wasn't meant
+-- the effect of a hand on one network
 record AfterHand (named : Bool) (e : Entry) (stood stands : Bool) (old new : List Entry) : Type 0 where
   stays : stands ≡ true → stood ≡ true
   gets : stands ≡ true → new ≡ old ++ cond named (e ∷ []) []
@@ -50,7 +50,7 @@ after_hand true e false true old new f g p = absurd p
 after_hand false e stood stands old new f g p =
     record { stays = λ up. sym p.0 ∙ up; gets = λ _. p.1 ∙ sym (append-nil old); rests = λ _. p.1 }
 
--- a network's list after a hand of which the entry is logged
+-- A network's list after a hand whose entry is logged.
 keeps_logged : (net : Net) (networks : Networks) (e : Entry) (stood stands : Bool) (h h' : List Entry) (logged more : List Logged)
     → Keeps net stood h logged → AfterHand (names net networks) (side net e) stood stands h h'
     → (stands ≡ false → networks ≡ only net → ⊥) → more ≡ logged ++ logged_for networks e ∷ [] → Keeps net stands h' more
@@ -75,7 +75,7 @@ keeps_logged net networks e stood false h h' logged more k p other is = record {
   all = λ up. let same : false ≡ true = up in cc;
 }
 
--- and after one of which nothing is
+-- A network's list after a hand whose entry isn't logged.
 abbrev keeps_same : (net : Net) (networks : Networks) (e : Entry) (stood stands : Bool) (h h' : List Entry)
     (logged more : List Logged) → Keeps net stood h logged → AfterHand (names net networks) (side net e) stood stands h h'
     → (names net networks && stands) ≡ false → more ≡ logged → Keeps net stands h' more
@@ -88,7 +88,7 @@ keeps_same net networks e stood stands h h' logged more k p idle is = record {
   all = λ up. k.all (p.stays up);
 }
 
--- What a hand leaves mirrors what was logged.
+-- After a hand both lists mirror the log.
 pub handed_on : (old new : Lines) (networks : Networks) (e : Entry) → IsMirrored old → side A e ≡ e
     → Handing (names_a networks) e old.a_stands new.a_stands old.a new.a old.a_failures new.a_failures
     → Handing (names_b networks) (side B e) old.b_stands new.b_stands old.b new.b old.b_failures new.b_failures
@@ -121,27 +121,27 @@ handed_on old new networks e m t p q enters lost =
           }
     ]
 
--- what is logged adds its entry to the log
+-- A logged entry is appended to the log.
 pub log_more : (lines after : Lines) (l : Logged) → after.logged ≡ lines.logged ++ l ∷ []
     → log after ≡ log lines ++ l.entry ∷ []
 unfolding log
 log_more lines after l more = ap entries_of more ∙ entries_append lines.logged (l ∷ [])
 
--- and where nothing is, it stays
+-- Without a logged entry the log is the same.
 pub log_same : (lines after : Lines) → after.logged ≡ lines.logged → log after ≡ log lines
 unfolding log
 log_same lines after same = ap entries_of same
 
--- the lines of two networks that were handed nothing
+-- the lines of two networks that accepted nothing
 abbrev pub fresh_lines : Lines
 fresh_lines = lines_of [] [] 0 0 true true []
 
--- their log is empty
+-- Their log is empty.
 pub fresh_log : log fresh_lines ≡ []
 unfolding log
 fresh_log = refl
 
--- an empty list missed nothing
+-- An empty list missed nothing.
 abbrev fresh_keeps : (net : Net) → Keeps net true [] []
 fresh_keeps net = record {
   seen = [];
@@ -152,7 +152,7 @@ fresh_keeps net = record {
   all = λ _. refl;
 }
 
--- they are in step
+-- They are in step.
 pub fresh_in_step : AreInStep fresh_lines
 fresh_in_step = record {
   a_unfailed = λ _. refl;

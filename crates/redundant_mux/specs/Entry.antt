@@ -1,7 +1,7 @@
--- A frame that was handed to a network.
+-- A frame that a network accepted.
 use Rattle.std.specs.Prelude.{ℕ, List}
 
--- its moment in microseconds, and its bytes
+-- its time in microseconds, and its bytes
 pub record Entry : Type 0 where
   pub at : ℕ
   pub frame : List ℕ

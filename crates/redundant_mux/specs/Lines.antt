@@ -1,4 +1,4 @@
--- What was handed to two networks, and which of them still stand.
+-- The frames that two networks accepted, and which networks are up.
 use Rattle.std.specs.Prelude.{ℕ, ◌≡◌, ◌⊎◌, ◌↔◌, ◌+◌, ◌≤◌, List, [], ◌∷◌, ◌++◌, Bool, true, false, ◌&&◌, ◌||◌, All}
 use Rattle.afdx_plan.specs.declared.networks.Networks.{Networks}
 use Rattle.afdx_plan.specs.Networks.{names_a, names_b}
@@ -7,8 +7,8 @@ use Rattle.afdx_frame.specs.declared.net.Net.TheVariants.{A, B}
 use Rattle.redundant_mux.specs.Entry.{Entry}
 use Rattle.redundant_mux.specs.Logged.{Logged, entries_of, only, side, sent_to}
 
--- The two handed lists, the failures of each network, and whether it stands; and in order what at least
--- one of them took.
+-- The frames that each network accepted, its failures, and whether it is up. `logged` has in order
+-- the frames that at least one network accepted.
 pub record Lines : Type 0 where
   pub a : List Entry
   pub b : List Entry
@@ -23,50 +23,51 @@ abbrev pub lines_of : (a b : List Entry) (a_failures b_failures : ℕ) (a_stands
 lines_of a b f g s t logged =
     record { a = a; b = b; a_failures = f; b_failures = g; a_stands = s; b_stands = t; logged = logged }
 
--- One network when an entry is handed over, by whether it is named, and whether it stood before and stands afterwards.
+-- One network at a hand of an entry. `named` says whether the entry is for it, `stood` and `stands`
+-- whether it is up before and afterwards.
 abbrev pub Handing : (named : Bool) (handed : Entry) (stood stands : Bool) (old new : List Entry) (failures_old failures_new : ℕ) → Type 0
--- it isn't meant
+-- The entry isn't for this network.
 Handing false handed stood stands old new f g = (stands ≡ stood) × (new ≡ old) × (g ≡ f)
--- it takes the entry
+-- The network accepts the entry.
 Handing true handed true true old new f g = (new ≡ old ++ handed ∷ []) × (g ≡ f)
--- its hand failed
+-- The hand fails.
 Handing true handed true false old new f g = (new ≡ old) × (g ≡ f + 1)
--- it was down, and gets nothing
+-- The network has failed before, and gets nothing.
 Handing true handed false false old new f g = (new ≡ old) × (g ≡ f)
--- it doesn't come back
+-- A network that has failed stays down.
 Handing true handed false true old new f g = ⊥
 
--- One network through some hands: it stands afterwards exactly where it stood and none of them failed;
--- at most one fails; and while it is down it gets nothing.
+-- One network through a list of hands: it is up afterwards exactly if it was up and no hand failed.
+-- At most one hand fails, and a network that is down gets nothing.
 pub record Endures (stood stands : Bool) (old new : List Entry) (failures_old failures_new : ℕ) : Type 0 where
   pub stays : (stands ≡ true) ↔ ((stood ≡ true) × (failures_new ≡ failures_old))
   pub least : failures_old ≤ failures_new
   pub most : failures_new ≤ failures_old + 1
   pub down : stood ≡ false → (new ≡ old) × (failures_new ≡ failures_old)
 
--- both networks through some hands
+-- both networks through a list of hands
 pub record BothEndure (before after : Lines) : Type 0 where
   pub a : Endures before.a_stands after.a_stands before.a after.a before.a_failures after.a_failures
   pub b : Endures before.b_stands after.b_stands before.b after.b before.b_failures after.b_failures
 
--- some of these networks stands, by whether each does
+-- one of these networks is up
 abbrev pub some_of : Networks → (a b : Bool) → Bool
 some_of networks a b = (names_a networks && a) || (names_b networks && b)
 
--- some network that is named stands
+-- one of the named networks is up
 abbrev pub stands_for : Networks → Lines → Bool
 stands_for networks lines = some_of networks lines.a_stands lines.b_stands
 
--- some network stands
+-- a network is up
 abbrev pub is_alive : Lines → Bool
 is_alive lines = lines.a_stands || lines.b_stands
 
--- what at least one network took, in order, its frames for network A
+-- the frames that at least one network accepted, in order, as for network A
 unfoldable pub log : Lines → List Entry
 log lines = entries_of lines.logged
 
--- One network's list is what it gets of a beginning of what was logged, of all of it where the network
--- stands. What it missed isn't for it alone.
+-- One network's list is what it gets of a prefix of the log, and of the whole log if it is up.
+-- Nothing of the rest is for this network alone.
 pub record Keeps (net : Net) (stands : Bool) (handed : List Entry) (logged : List Logged) : Type 0 where
   pub seen : List Logged
   pub missed : List Logged
@@ -75,15 +76,15 @@ pub record Keeps (net : Net) (stands : Bool) (handed : List Entry) (logged : Lis
   pub shared : All (λ (l : Logged). l.networks ≡ only net → ⊥) missed
   pub all : stands ≡ true → missed ≡ []
 
--- Both lists are so, and one of the networks missed nothing.
+-- Both lists mirror the log, and one of the networks missed nothing.
 pub record IsMirrored (lines : Lines) : Type 0 where
   pub first : Keeps A lines.a_stands lines.a lines.logged
   pub second : Keeps B lines.b_stands lines.b lines.logged
   pub one : (first.missed ≡ []) ⊎ (second.missed ≡ [])
   pub for_a : All (λ (l : Logged). side A l.entry ≡ l.entry) lines.logged
 
--- What holds of two networks that are given up at their first failure: one that stands has not
--- failed, and their lists mirror what was logged.
+-- The invariant of two networks, each of which is abandoned at its first failure: one that is up
+-- has not failed, and the lists mirror the log.
 pub record AreInStep (lines : Lines) : Type 0 where
   pub a_unfailed : lines.a_stands ≡ true → lines.a_failures ≡ 0
   pub b_unfailed : lines.b_stands ≡ true → lines.b_failures ≡ 0

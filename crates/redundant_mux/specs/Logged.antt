@@ -1,4 +1,4 @@
--- What was handed over to two networks, in order.
+-- The log of the frames for two networks, in order.
 use Rattle.std.specs.Prelude.{List, Bool, map, filter}
 use Rattle.afdx_plan.specs.declared.networks.Networks.{Networks}
 use Rattle.afdx_plan.specs.declared.networks.Networks.TheVariants.{OnlyA, OnlyB}
@@ -8,7 +8,7 @@ use Rattle.afdx_frame.specs.declared.net.Net.TheVariants.{A, B}
 use Rattle.afdx_frame.specs.Twin.{twin_of}
 use Rattle.redundant_mux.specs.Entry.{Entry}
 
--- an entry with the networks that it is for, its frame that for network A
+-- an entry, with its frame for network A, and the networks that it is for
 pub record Logged : Type 0 where
   pub networks : Networks
   pub entry : Entry
@@ -16,24 +16,24 @@ pub record Logged : Type 0 where
 abbrev pub logged_for : Networks → Entry → Logged
 logged_for networks e = record { networks = networks; entry = e }
 
--- the entries
+-- the entries of a log
 abbrev pub entries_of : List Logged → List Entry
 entries_of logged = map (λ (l : Logged). l.entry) logged
 
--- whether a network is one of those named
+-- the network is among those named
 abbrev pub names : Net → Networks → Bool
 names A networks = names_a networks
 names B networks = names_b networks
 
--- the one network
+-- this network alone
 abbrev pub only : Net → Networks
 only A = OnlyA
 only B = OnlyB
 
--- the entry for a network
+-- the entry with its frame for this network
 abbrev pub side : Net → Entry → Entry
 side net e = record { at = e.at; frame = twin_of net e.frame }
 
--- of these, what a network gets
+-- what a network gets of a log
 abbrev pub sent_to : Net → List Logged → List Entry
 sent_to net logged = map (side net) (entries_of (filter (λ (l : Logged). names net l.networks) logged))

@@ -3,8 +3,8 @@ use Rattle.std.specs.Prelude.{ℕ, List, [], Option, map}
 use Rattle.redundant_mux.specs.Entry.{Entry, entry}
 use Rattle.redundant_mux.specs.declared.memory.Handed.{Handed}
 
--- what was handed to it, for how many frames it has memory, how often it failed and was asked, and
--- which hand is to fail, counted from 1
+-- the frames that it accepted, its capacity in frames, the number of failures and of calls, and the
+-- number of the call that fails, from 1
 pub record Memory : Type 0 where
   pub handed : List Entry
   pub capacity : ℕ
@@ -12,7 +12,7 @@ pub record Memory : Type 0 where
   pub asked : ℕ
   pub fails_at : Option ℕ
 
--- one that was handed nothing, by which hand is to fail
+-- a network that has had no call
 abbrev pub unused : Option ℕ → Memory
 unused fails_at = record { handed = []; capacity = 0; failures = 0; asked = 0; fails_at = fails_at }
 

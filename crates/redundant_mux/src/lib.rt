@@ -1,5 +1,5 @@
-//! A frame goes to the networks that it is for, each of which is given up at its first failure. Two networks: one
-//! that keeps all frames in memory, and one that keeps the last.
+//! Sends each frame to the networks that it is for, and abandons a network at its first failure.
+//! Has two networks: one keeps all frames in memory, the other the last 64.
 #![tactic(auto)]
 
 mod memory;

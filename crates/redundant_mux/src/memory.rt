@@ -8,7 +8,7 @@ use afdx_frame::{Frame, GREATEST_FRAME};
 use std::alloc::Global;
 use std::marker::Model;
 
-/// A frame that was handed over, and its time in microseconds.
+/// A frame that a network accepted, and its time in microseconds.
 #[derive(Debug, Drop)]
 pub struct Handed {
     pub at: u64,
@@ -18,7 +18,7 @@ pub struct Handed {
 impl Handed {
     ghost use Rattle.redundant_mux.specs.Memory.{entry_of};
 
-    /// A place for a frame.
+    /// An entry without a frame, to be filled.
     pub(crate) fn empty() -> Handed {
         Handed {
             at: 0,
@@ -26,7 +26,7 @@ impl Handed {
         }
     }
 
-    /// Puts a frame in the place of another.
+    /// Overwrites the entry.
     pub(crate) fn fill(&mut self, at: u64, frame: &[u8])
         requires { length frame.now ≤ GREATEST_FRAME }
         ensures { entry_of self.new ≡ entry at frame.now }
@@ -39,8 +39,8 @@ impl Handed {
     }
 }
 
-/// A network that keeps what it is handed. Contracts see the frames, for how many there is memory, the
-/// failures, how often `hand` was called, and which of these calls is to fail.
+/// A network that keeps all frames in memory. Contracts see the frames, the capacity, the number of
+/// failures and of calls of `hand`, and the number of the call that fails.
 #[derive(Drop)]
 pub struct MemNetwork {
     handed: Vec<Handed>,
@@ -67,7 +67,7 @@ impl Model for MemNetwork {
 impl MemNetwork {
     ghost use Rattle.redundant_mux.specs.Memory.{entries, unused};
 
-    /// A network that was handed nothing. A hand fails only if an allocation fails.
+    /// A network without frames. `hand` fails only if an allocation fails.
     pub fn new(alloc: Global) -> MemNetwork
         ensures { result ≡ unused None }
     {
@@ -79,8 +79,8 @@ impl MemNetwork {
         }
     }
 
-    /// As `new`, but call `k` of `hand`, counted from 1, fails. Later calls succeed again: to give a
-    /// network up is its caller's part.
+    /// As `new`, but call `k` of `hand`, counted from 1, fails. Later calls succeed again:
+    /// abandoning a network is its caller's task.
     pub fn failing_at(alloc: Global, k: u64) -> MemNetwork
         ensures { result ≡ unused (Some k) }
     {
@@ -89,14 +89,14 @@ impl MemNetwork {
         network
     }
 
-    /// What was handed over, in order.
+    /// The accepted frames, in order.
     pub fn handed(&self) -> &[Handed]
         ensures { entries result.now ≡ self.now.handed }
     {
         &self.handed
     }
 
-    /// How many calls of `hand` failed.
+    /// The number of failed calls of `hand`.
     pub fn failures(&self) -> u64
         ensures { result ≡ self.now.failures }
     {
@@ -111,8 +111,8 @@ impl Network for MemNetwork {
 
     ghost failures = { λ m. m.failures };
 
-    /// Appends the frame. Only the call that is to fail does, and one for which an allocation fails. The
-    /// count of calls stays at the greatest u64, and no later call is the one that is to fail.
+    /// Appends the frame. Fails only at the call that is to fail, or if an allocation fails. The
+    /// count of calls stops at the greatest u64, and no later call is the one that is to fail.
     fn hand(&mut self, at: u64, frame: &[u8]) -> Result<(), HandFault>
         requires short { length frame.now ≤ GREATEST_FRAME }
         requires few { self.old.failures + 1 < 2 ^ 64 }
@@ -137,7 +137,7 @@ impl Network for MemNetwork {
     }
 }
 
-/// Counts a call, up to the greatest u64. Returns whether it is the one that is to fail.
+/// Counts a call, up to the greatest u64. Returns whether this call is to fail.
 fn counts_to(asked: &mut u64, fails_at: Option<u64>) -> bool
     ensures fails { fails_at ≡ Some (asked.old + 1) → result ≡ true }
     ensures other { fails_at ≢ Some (asked.old + 1) → result ≡ false }
@@ -152,7 +152,7 @@ fn counts_to(asked: &mut u64, fails_at: Option<u64>) -> bool
     }
 }
 
-/// Appends a frame, and returns whether memory sufficed. The frame is filled in place.
+/// Appends a frame, filled in place. Returns false if an allocation fails.
 fn keep(handed: &mut Vec<Handed>, at: u64, frame: &[u8]) -> bool
     requires { length frame.now ≤ GREATEST_FRAME }
     ensures kept { result ≡ true →

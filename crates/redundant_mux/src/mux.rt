@@ -13,11 +13,11 @@ use afdx_frame::{Frame, GREATEST_FRAME, Net, make_twin};
 use afdx_plan::Networks;
 use std::marker::Model;
 
-/// Both networks were down.
+/// Both networks have failed before.
 #[derive(Clone, Copy, Debug, PartialEq, Eq)]
 pub struct BothDown;
 
-/// Which networks stand.
+/// Which networks are up.
 #[derive(Clone, Copy, Debug, PartialEq, Eq)]
 pub struct Standing {
     pub a: bool,
@@ -25,7 +25,7 @@ pub struct Standing {
 }
 
 impl Standing {
-    /// Whether some of these networks stands.
+    /// Whether one of these networks is up.
     #[inline(always)]
     fn has_one_of(&self, networks: Networks) -> bool
         ensures { result ≡ some_of networks self.now.a self.now.b }
@@ -34,16 +34,17 @@ impl Standing {
     }
 }
 
-/// Two networks, each of which is given up for good at its first failure. Contracts see what was
-/// handed to them, their failures, which of them stand, and in order what at least one of them took.
+/// Two networks, each of which is abandoned at its first failure. Contracts see the frames that
+/// each accepted, the failures, which networks are up, and in order the frames that at least one
+/// accepted.
 #[derive(Drop)]
 pub struct Mux<A: Network + Drop, B: Network + Drop> {
     a: A,
     b: B,
     standing: Standing,
-    // Where B's twin of a frame is made.
+    // The buffer of B's twin of a frame.
     twin: [u8; GREATEST_FRAME],
-    // What at least one network took, for proofs alone.
+    // The frames that at least one network accepted, for proofs alone.
     trail: Trail,
 }
 
@@ -59,7 +60,7 @@ impl<A: Network + Drop, B: Network + Drop> Model for Mux<A, B> {
         (B.failures m.b) m.standing.a m.standing.b m.trail.logged) };
 }
 
-/// Hands a network that is named and stands a frame, once. It is down for good where it fails.
+/// Sends a frame once to the network if it is named and up. A failure takes the network down.
 #[inline(always)]
 fn hand_to<N: Network + Drop>(
     network: &mut N,
@@ -80,7 +81,7 @@ fn hand_to<N: Network + Drop>(
     }
 }
 
-/// Hands a network that is named and stands the twin for B of a frame for A, which is made in a buffer.
+/// As `hand_to`, with B's twin of a frame for A, made in `buffer`.
 #[inline(always)]
 fn hand_twin<N: Network + Drop>(
     network: &mut N,
@@ -105,7 +106,7 @@ fn hand_twin<N: Network + Drop>(
     }
 }
 
-/// Notes an entry that some network took.
+/// Logs the entry if a network accepted it.
 #[inline(always)]
 fn note(trail: &mut Trail, taken: bool, networks: Networks, at: u64, frame: &[u8])
     ensures taken { taken ≡ true → trail.new.logged ≡
@@ -118,7 +119,7 @@ fn note(trail: &mut Trail, taken: bool, networks: Networks, at: u64, frame: &[u8
 }
 
 impl<A: Network + Drop, B: Network + Drop> Mux<A, B> {
-    /// Over two networks that were handed nothing and have not failed. Both stand.
+    /// Over two networks without frames or failures. Both are up.
     pub fn new(a: A, b: B) -> Mux<A, B>
         requires a { A.failures a ≡ 0 }
         requires b { B.failures b ≡ 0 }
@@ -143,7 +144,7 @@ impl<A: Network + Drop, B: Network + Drop> Mux<A, B> {
         }
     }
 
-    /// Which networks stand.
+    /// Which networks are up.
     pub fn standing(&self) -> Standing
         ensures a { result.a ≡ self.now.a_stands }
         ensures b { result.b ≡ self.now.b_stands }
@@ -152,7 +153,7 @@ impl<A: Network + Drop, B: Network + Drop> Mux<A, B> {
         self.standing
     }
 
-    /// Whether some network that is named stands.
+    /// Whether one of the named networks is up.
     #[inline(always)]
     pub fn stands_for(&self, networks: Networks) -> bool
         ensures { result ≡ stands_for networks self.now }
@@ -160,7 +161,7 @@ impl<A: Network + Drop, B: Network + Drop> Mux<A, B> {
         self.standing.has_one_of(networks)
     }
 
-    /// Network A, with what was handed to it so far.
+    /// Network A.
     pub fn network_a(&self) -> &A
         ensures handed { A.handed result.now ≡ self.now.a }
         ensures failures { A.failures result.now ≡ self.now.a_failures }
@@ -168,7 +169,7 @@ impl<A: Network + Drop, B: Network + Drop> Mux<A, B> {
         &self.a
     }
 
-    /// Network B, with what was handed to it so far.
+    /// Network B.
     pub fn network_b(&self) -> &B
         ensures handed { B.handed result.now ≡ self.now.b }
         ensures failures { B.failures result.now ≡ self.now.b_failures }
@@ -176,7 +177,7 @@ impl<A: Network + Drop, B: Network + Drop> Mux<A, B> {
         &self.b
     }
 
-    /// The networks, with what was handed to them.
+    /// Returns the two networks.
     pub fn into_networks(self) -> (A, B)
         ensures a { A.handed result.0 ≡ self.a }
         ensures b { B.handed result.1 ≡ self.b }
@@ -194,9 +195,9 @@ impl<A: Network + Drop, B: Network + Drop> Mux<A, B> {
         (a, b)
     }
 
-    /// Hands each network that is named and up its twin of a frame for A, once, at `at` in microseconds. A
-    /// network that fails stays down. Returns which networks are up afterwards, or `BothDown` if neither
-    /// was before. If no network that is named was up, nothing has changed.
+    /// Sends each named network that is up its twin of `frame`, a frame for A, once, at `at` in
+    /// microseconds. A network that fails stays down. Returns which networks are up afterwards, or
+    /// `BothDown` if neither was up before. If no named network was up, nothing changes.
     pub fn hand(&mut self, at: u64, frame: &Frame, networks: Networks) -> Result<Standing, BothDown>
         requires { twin_of ForA frame.now.items ≡ frame.now.items }
         ensures down { IsErr result ↔ ((self.old.a_stands ≡ false) × (self.old.b_stands ≡ false)) }

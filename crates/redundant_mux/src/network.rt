@@ -1,22 +1,22 @@
-//! What a network is.
+//! The interface of a network.
 ghost use Rattle.std.specs.Prelude.{◌≡◌, ℕ, ◌+◌, ◌^◌, ◌<◌, ◌≤◌, List, [], ◌∷◌, ◌++◌, length, OnOk, OnErr};
 ghost use Rattle.redundant_mux.specs.Entry.{Entry, entry};
 
 use afdx_frame::GREATEST_FRAME;
 
-/// A network did not take a frame.
+/// The network did not accept a frame.
 #[derive(Clone, Copy, Debug, PartialEq, Eq)]
 pub struct HandFault;
 
-/// A network tells what was handed to it so far, with moments in microseconds, and how often it
-/// failed.
+/// A network, seen by contracts as the frames that it accepted, with their times in microseconds,
+/// and its number of failures.
 pub trait Network {
     ghost handed: { Self → List Entry };
 
     ghost failures: { Self → ℕ };
 
-    /// Hands the network a frame, from destination MAC address to sequence number, at a moment in
-    /// microseconds. After an error the network holds what it held, and has failed once more.
+    /// Sends the network a frame, from destination MAC address to sequence number, at `at` in
+    /// microseconds. After an error the network has the same frames and one failure more.
     fn hand(&mut self, at: u64, frame: &[u8]) -> Result<(), HandFault>
         requires short { length frame.now ≤ GREATEST_FRAME }
         requires few { failures self.old + 1 < 2 ^ 64 }

@@ -1,4 +1,4 @@
-//! A network that keeps the last frames that it was handed.
+//! A network that keeps the last frames that it accepted.
 ghost use Rattle.std.specs.Prelude.{◌≡◌, length, IfOk};
 
 use crate::memory::Handed;
@@ -11,19 +11,19 @@ use std::marker::Model;
 use std::sync::Arc;
 use std::sync::atomic::{AtomicBool, Ordering};
 
-/// How many frames are kept: the most of one poll, one of each virtual link.
+/// The number of frames that are kept: the most of one poll, one per virtual link.
 pub const ROOM: usize = 64;
 
-/// A network that keeps the last 64 frames that it was handed, each under its number, and fails every `hand` while
-/// its flag is set. Contracts see all that was handed to it, and its failures.
+/// A network that keeps the last 64 frames that it accepted, by their numbers, and fails each
+/// `hand` while its flag is set. Contracts see all frames that it accepted, and the failures.
 #[derive(Drop)]
 pub struct Outbox {
-    // The frame with number n is in slot n modulo 64.
+    // Frame n is in slot n modulo 64.
     slots: BoxedSlice<Handed>,
     count: u64,
     failures: u64,
     fails: Arc<AtomicBool, Global>,
-    // All that was handed over, for proofs alone.
+    // All frames accepted so far, for proofs alone.
     trail: Trail,
 }
 
@@ -42,7 +42,7 @@ impl Model for Outbox {
     ghost invariant = { λ o. KeepsLast (boxed_slice_items o.slots) o.count (entries_of o.trail.logged) };
 }
 
-/// Slots for 64 frames.
+/// 64 empty slots.
 fn make_slots(alloc: Global) -> Result<Vec<Handed>, AllocError>
     ensures { IfOk result (λ slots. length slots.items ≡ 64) }
 {
@@ -58,8 +58,8 @@ impl Outbox {
     ghost use Rattle.redundant_mux.specs.Outbox.{IsAmongLast, entry_at};
     ghost use Rattle.redundant_mux.specs.Memory.{entry_of};
 
-    /// An outbox that was handed nothing. It fails every `hand` while `fails` is set. Later calls allocate
-    /// nothing.
+    /// An outbox without frames. It fails each `hand` while `fails` is set. No later call
+    /// allocates.
     pub fn new(alloc: Global, fails: Arc<AtomicBool, Global>) -> Result<Outbox, AllocError>
         ensures { IfOk result (λ outbox. outbox ≡ record { handed = []; failures = 0 }) }
     {
@@ -72,14 +72,14 @@ impl Outbox {
         })
     }
 
-    /// How many frames it was handed.
+    /// The number of frames accepted so far.
     pub fn count(&self) -> u64
         ensures { result ≡ length self.now.handed }
     {
         self.count
     }
 
-    /// The frame with a number, counted from 0: `None` exactly if it isn't among the last 64.
+    /// The frame with this number, from 0, or `None` exactly if it isn't among the last 64.
     pub fn frame(&self, number: u64) -> Option<&Handed>
         ensures some { IsSome result ↔ IsAmongLast (length self.now.handed) number }
         ensures frame { IfSome result (λ kept. entry_of kept.now ≡ entry_at self.now.handed number) }
@@ -98,8 +98,8 @@ impl Network for Outbox {
 
     ghost failures = { λ o. o.failures };
 
-    /// Puts the frame in the slot of the one 64 frames before. It fails while its flag is set, and once it
-    /// was handed 2^64 - 1 frames.
+    /// Overwrites the frame accepted 64 frames before. Fails while the flag is set, and after 2^64
+    /// - 1 frames.
     fn hand(&mut self, at: u64, frame: &[u8]) -> Result<(), HandFault> {
         if self.fails.load(Ordering::SeqCst) || self.count == u64::MAX {
             self.failures += 1;

@@ -1,4 +1,4 @@
-//! What was handed over, for proofs alone.
+//! The accepted frames, for proofs alone.
 ghost use Rattle.std.specs.Prelude.{◌≡◌, List, [], ◌∷◌, ◌++◌};
 ghost use Rattle.std.specs.Borrow.{ftrue};
 ghost use Rattle.redundant_mux.specs.Entry.{entry};
@@ -7,9 +7,9 @@ ghost use Rattle.redundant_mux.specs.Logged.{Logged, logged_for};
 use afdx_plan::Networks;
 use std::marker::Model;
 
-/// The frames that were handed over, with their moments and the networks that they were for, as
-/// contracts see them. It takes no bytes, and its calls do nothing when they run: so a network that
-/// keeps none of its frames can still promise what a `Network` promises.
+/// The accepted frames with their times and the networks that they were for, as contracts see them.
+/// A trail takes no bytes, and its calls do nothing at run time. So a network that keeps none of
+/// its frames can still promise what a `Network` promises.
 #[derive(Drop)]
 pub struct Trail {
     pub ghost logged: { List Logged },
@@ -22,7 +22,7 @@ impl Model for Trail {
 // SAFETY: it owns nothing (proofs/trail/Trail/TheSendSync).
 unsafe impl Send for Trail {}
 
-/// How a trail is read off a value.
+/// How a value gives the list of a trail.
 trait Shows<X> {
     ghost logged: { X → List Logged };
 }
@@ -46,14 +46,14 @@ impl Trail {
         Trail {}
     }
 
-    /// Of no frame.
+    /// The trail of no frame.
     pub fn new() -> Trail
         ensures { result.logged ≡ [] }
     {
         Trail::of::<(), Nothing>(&())
     }
 
-    /// With one frame more at its end.
+    /// The trail `before` with one frame appended.
     pub fn with(before: &Trail, networks: &Networks, at: &u64, frame: &[u8]) -> Trail
         ensures { result.logged ≡
             before.now.logged ++ logged_for networks.now (entry at.now frame.now) ∷ [] }

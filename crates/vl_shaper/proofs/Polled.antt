@@ -1,4 +1,4 @@
--- The wait of a message, by the polls of its link.
+-- How long a message waits, by the polls of its link.
 use Rattle.std.proofs.Common.{ℕ, zero, suc, ◌≡◌, ◌+◌, ◌-◌, ◌*◌, ◌<◌, ◌≤◌, Bool, true, false, nat_le, ◌&&◌, cond, List, [], ◌∷◌, arith, refl, ap, ◌∙◌, sym, ◌⊎◌, inl, inr}
 use native.Mathlib.Nat.{mul-suc}
 use Rattle.std.specs.Prelude.{Option, Some, None}
@@ -11,13 +11,13 @@ use Rattle.vl_shaper.specs.declared.shaper.Stamp.{Stamp}
 use Rattle.vl_shaper.specs.Polls.{Poll, IsServed, AreServed, ArePolled, latest_poll, is_of, HasAtPolls, released_by, PolledInTime}
 use Rattle.vl_shaper.proofs.OneEach.{back, back_lt, back_self, turn_cases, chosen_behind}
 
--- what a poll adds to the count
+-- A poll adds at most one to the count.
 counted : (x moment : ℕ) (poll : Poll) (polls : List Poll)
     → released_by x moment (poll ∷ polls)
     ≡ cond (nat_le poll.at moment && is_of x poll.released) 1 0 + released_by x moment polls
 counted x moment poll polls = sum_by-cons (λ (p : Poll). cond (nat_le p.at moment && is_of x p.released) 1 0) poll polls
 
--- a release in time counts
+-- A release in time counts.
 counts : (x moment : ℕ) (poll : Poll) (polls : List Poll) → poll.at ≤ moment → is_of x poll.released ≡ true
     → released_by x moment (poll ∷ polls) ≡ suc (released_by x moment polls)
 counts x moment poll polls soon own =
@@ -26,26 +26,26 @@ counts x moment poll polls soon own =
     (and_from (nat_le poll.at moment) (is_of x poll.released) (le-leb poll.at moment soon) own) in
     omega arith
 
--- no poll takes from the count
+-- No poll lowers the count.
 no_less : (x moment : ℕ) (poll : Poll) (polls : List Poll) → released_by x moment polls ≤ released_by x moment (poll ∷ polls)
 no_less x moment poll polls = let whole = counted x moment poll polls in omega arith
 
--- a number of choices that is one fewer needs one pause less
+-- One choice fewer needs one pause fewer.
 one_pause : (fewer more pause : ℕ) → suc fewer ≤ more → pause + fewer * pause ≤ more * pause
 one_pause fewer more pause less = let m = mul-le (suc fewer) pause more pause less (omega arith) in omega arith
 
--- a frame was released, or none
+-- A poll releases a frame or none.
 by_release : (o : Option ℕ) → (o ≡ None) ⊎ ((chosen : ℕ) × (o ≡ Some chosen))
 by_release None = inl refl
 by_release (Some chosen) = inr (chosen, refl)
 
--- a link is due a gap after a moment that isn't before its last release
+-- A link is due one gap after its last release.
 due_then : (gap before moment : ℕ) (last : Option Stamp) → IsLater last before → before + gap ≤ moment
     → is_due gap last moment ≡ true
 due_then gap before moment None after late = refl
 due_then gap before moment (Some l) after late = le-leb gap (moment - l.at) (omega arith)
 
--- a poll that released none, though a sub-VL had something, came before the link was due
+-- If a sub-VL had something and the poll released nothing, the link wasn't due.
 not_due : (gap subs before x : ℕ) (last : Option Stamp) (p : Poll) → x < subs → IsLater last before
     → IsServed gap subs last p None → p.has x ≡ true → p.at < before + gap
 not_due gap subs before x last p xl after idle had = elim (cases_lt p.at (before + gap)) [
@@ -53,15 +53,15 @@ not_due gap subs before x last p xl after idle had = elim (cases_lt p.at (before
   | inr due ↦ absurd (cc (had, idle (due_then gap before p.at last after due) x xl))
 ]
 
--- after a release the sub-VLs are asked in cyclic order
+-- After a release the turns are in cyclic order.
 behind_release : (subs : ℕ) (l : Stamp) (c : Choice) → IsChosen subs (turn_of subs (Some l)) c → IsChosen subs (next_turn subs l.sub) c
 behind_release subs l c ch = ch
 
--- at first they are asked from 0 on, as behind a release of the last of them
+-- The first turns start at sub-VL 0, as after a release of the last sub-VL.
 from_0 : (subs k : ℕ) → k < subs → next_turn subs (subs - 1) k ≡ k
 from_0 subs k lt = grind (arith, turn_cases subs (subs - 1) k (omega arith) lt)
 
--- so they are where the link released nothing
+-- The same holds of the choice on a link that has released nothing.
 at_first : (subs : ℕ) (c : Choice) → IsChosen subs (turn_of subs None) c → IsChosen subs (next_turn subs (subs - 1)) c
 at_first subs c ch = record {
   turn = ch.turn;
@@ -71,7 +71,7 @@ at_first subs c ch = record {
   before = λ k h. let w = ch.within in ap c.has (from_0 subs k (omega arith)) ∙ ch.before k h;
 }
 
--- from any poll on: there is still a round for each turn but what is left of the first
+-- From any poll on, one round is left for each turn but the rest of the first.
 in_time : (polls : List Poll) (subs x l f gap late before polled moment : ℕ) (last : Option Stamp)
     → x < subs → l < subs → 1 ≤ gap → IsLater last before
     → ((c : Choice) → IsChosen subs (turn_of subs last) c → IsChosen subs (next_turn subs l) c)
@@ -132,7 +132,7 @@ in_time (p ∷ ps) subs x l (suc f) gap late before polled moment last xl ll som
           ]
     ]
 
--- the law, from a moment of acceptance behind which the sub-VL lies
+-- The law, from the acceptance on, after a given last served sub-VL.
 accepted_in_time : (polls : List Poll) (subs x l f gap late accepted : ℕ) (last : Option Stamp)
     → x < subs → l < subs → 1 ≤ gap → IsLater last accepted
     → ((c : Choice) → IsChosen subs (turn_of subs last) c → IsChosen subs (next_turn subs l) c)
@@ -145,7 +145,7 @@ accepted_in_time polls subs x l f gap late accepted last xl ll some after order 
     omega arith)
     reach
 
--- the law
+-- The law.
 pub polled_in_time_holds : PolledInTime
 polled_in_time_holds subs x q f gap late accepted None polls xl some below after served paced has reach =
     accepted_in_time polls subs x (subs - 1) (q + f) gap late accepted None xl (omega arith) some after

@@ -6,12 +6,12 @@ use Rattle.std.proofs.lemmas.Nat.{mod_below, mod-mul-add, div-add-mod'}
 use Rattle.vl_shaper.specs.Pace.{turn_of}
 use Rattle.vl_shaper.specs.declared.shaper.Stamp.{Stamp}
 
--- each turn is of a sub-VL of the link
+-- Each turn is that of a sub-VL of the link.
 pub turn_below : (sub_vls : ℕ) (last : Option Stamp) (k : ℕ) → k < sub_vls → turn_of sub_vls last k < sub_vls
 turn_below sub_vls None k lt = lt
 turn_below sub_vls (Some last) k lt = mod_below (last.sub + 1 + k) sub_vls (omega arith)
 
--- each sub-VL has its turn
+-- Each sub-VL has a turn.
 pub turn_onto : (sub_vls : ℕ) (last : Option Stamp) (s : ℕ) → s < sub_vls
     → (k : ℕ) × (k < sub_vls) × (turn_of sub_vls last k ≡ s)
 turn_onto sub_vls None s lt = (s, lt, refl)

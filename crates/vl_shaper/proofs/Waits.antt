@@ -9,7 +9,7 @@ use Rattle.vl_shaper.specs.Latency.{turns_of, HasUntil, QueuedMessage, BoundIsMe
 use Rattle.vl_shaper.specs.WorkedChoices.{busy_choice}
 use Rattle.vl_shaper.proofs.OneEach.{back, back_cases, back_lt, back_self, turn_cases, turn_lt, chosen_behind, count_cases}
 
--- the first n choices: more than the sub-VLs that are still before x, and a round for each turn but the first
+-- n choices suffice: the sub-VLs still before x, and one round for each turn but the first.
 pub waits : (n : ℕ) (choices : List Choice) (subs x l f : ℕ) → x < subs → l < subs → AreChosen subs l choices → HasUntil x f choices
     → n ≤ length choices → subs * f ≤ n + back subs x l → f ≤ turns_of x (take n choices)
 waits n choices subs x l zero xl ll a h long enough = omega arith
@@ -33,13 +33,13 @@ waits (suc n) (c ∷ cs) subs x l (suc f) xl ll a h long enough =
           omega arith
     ]
 
--- the law, from any sub-VL that was served last
+-- The law, after any last served sub-VL.
 pub queued_message_holds : QueuedMessage
 queued_message_holds subs x last q f choices xl ll a h enough =
     subst (λ (cs : List Choice). q + f ≤ turns_of x cs) (take_all (length choices) choices (omega arith))
     (waits (length choices) choices subs x last (q + f) xl ll a h (omega arith) (omega arith))
 
--- n releases lie within n pauses
+-- n releases lie within n pauses.
 by_then : (n gap late start : ℕ) (releases : List Release) → IsPaced gap late start releases
     → All (IsBy (start + n * (gap + late))) (take n releases)
 by_then zero gap late start releases p = All-nil (IsBy (start + 0 * (gap + late)))
@@ -51,7 +51,7 @@ by_then (suc n) gap late start (r ∷ releases) p =
     (All-weaker (IsBy (r.at + n * (gap + late))) (IsBy (start + suc n * (gap + late))) (λ s h. omega arith)
     (take n releases) (by_then n gap late r.at releases p.1))
 
--- the law, by the first releases alone
+-- The law, by the first releases.
 pub in_time_holds : InTime
 in_time_holds subs x last q f gap late start releases xl ll chosen has paced enough =
     let n : ℕ = subs * (q + f) in
@@ -61,17 +61,17 @@ in_time_holds subs x last q f gap late start releases xl ll chosen has paced eno
       by_then n gap late start releases paced,
     )
 
--- n choices at which every sub-VL has something, after this one was served
+-- n choices at which every sub-VL has something, after this last served sub-VL
 abbrev rounds : ℕ → ℕ → ℕ → List Choice
 rounds subs last zero = []
 rounds subs last (suc n) = busy_choice (next_turn subs last 0) ∷ rounds subs (next_turn subs last 0) n
 
--- there are so many
+-- The rounds are n choices.
 length-rounds : (n subs last : ℕ) → length (rounds subs last n) ≡ n
 length-rounds zero subs last = refl
 length-rounds (suc n) subs last = ap suc (length-rounds n subs (next_turn subs last 0))
 
--- each is the first in cyclic order
+-- Each choice is the first in cyclic order.
 rounds_chosen : (n subs last : ℕ) → last < subs → AreChosen subs last (rounds subs last n)
 rounds_chosen zero subs last below = tt
 rounds_chosen (suc n) subs last below = (
@@ -79,24 +79,24 @@ rounds_chosen (suc n) subs last below = (
   rounds_chosen n subs (next_turn subs last 0) (turn_lt subs last 0 below (omega arith)),
 )
 
--- each sub-VL had something throughout
+-- Each sub-VL had something at each choice.
 rounds_have : (n subs last x many : ℕ) → HasUntil x many (rounds subs last n)
 rounds_have zero subs last x many = tt
 rounds_have (suc n) subs last x many =
     let next : ℕ = next_turn subs last 0 in
     ((λ h. refl), rounds_have n subs next x (many - turns_of x (busy_choice next ∷ [])))
 
--- the next one lies one further behind x, or is x itself
+-- The next choice is x, or is one further after x.
 one_further : (subs x l : ℕ) → x < subs → l < subs → next_turn subs l 0 ≢ x
     → back subs x (next_turn subs l 0) ≡ suc (back subs x l)
 one_further subs x l xl ll ne =
     grind (arith, turn_cases subs l 0 ll (omega arith), back_cases subs x l, back_cases subs x (next_turn subs l 0))
 
--- the one before x lies a whole round but one behind it
+-- The sub-VL before x is a whole round but one after it.
 just_before : (subs x l : ℕ) → x < subs → l < subs → next_turn subs l 0 ≡ x → suc (back subs x l) ≡ subs
 just_before subs x l xl ll e = grind (arith, turn_cases subs l 0 ll (omega arith), back_cases subs x l)
 
--- x has at most a turn a round
+-- x has at most one turn per round.
 few_turns : (n subs x l : ℕ) → x < subs → l < subs → subs * turns_of x (rounds subs l n) ≤ n + back subs x l
 few_turns zero subs x l xl ll = omega arith
 few_turns (suc n) subs x l xl ll =
@@ -116,7 +116,7 @@ few_turns (suc n) subs x l xl ll =
           omega arith
     ]
 
--- the law, by rounds that begin behind x itself
+-- The law, by rounds that begin after x itself.
 pub bound_is_met_holds : BoundIsMet
 bound_is_met_holds subs x zero xl some = absurd (omega arith)
 bound_is_met_holds subs x (suc f) xl some =

@@ -6,7 +6,7 @@ use Rattle.vl_shaper.specs.Pace.{turn_of}
 use Rattle.vl_shaper.specs.WorkedPolls.{served_at_0, ServesInTime, ReleasesAtOnce, PolledTooLate}
 use Rattle.vl_shaper.proofs.WorkedTurns.{first_chosen}
 
--- the other one had nothing, and this one is chosen
+-- Sub-VL 1 had nothing, so sub-VL 0 is chosen.
 second_chosen : IsChosen 2 (turn_of 2 served_at_0) (record { has = λ s. nat_eq s 0; sub = 0 })
 second_chosen = record {
   turn = 1;
@@ -16,14 +16,11 @@ second_chosen = record {
   before = λ k h. ne_eqb (turn_of 2 served_at_0 k) 0 (λ e. omega arith);
 }
 
--- the row
 pub serves_in_time : ServesInTime
 serves_in_time = search (arith, first_chosen)
 
--- the row of a message on an idle link
 pub releases_at_once : ReleasesAtOnce
 releases_at_once = search (arith, second_chosen, first_chosen)
 
--- the row of a late poll
 pub polled_too_late : PolledTooLate
 polled_too_late = search (arith, first_chosen)

@@ -5,13 +5,13 @@ use Rattle.std.proofs.lemmas.List.Elements.{All-from_recursion}
 use Rattle.vl_shaper.specs.Choices.{Choice, next_turn, IsChosen}
 use Rattle.vl_shaper.specs.WorkedChoices.{lone_choice, busy_release, ChoosesOneEach, WaitsBehindOne, LeavesOneBehind, WaitsFourChoices, ReleasesTooLate}
 
--- the sub-VL that is asked first is chosen
+-- A sub-VL that has the first turn and has something is chosen.
 pub first_chosen : (subs : ℕ) (order : ℕ → ℕ) (c : Choice) → 1 ≤ subs → c.sub ≡ order 0 → c.has c.sub ≡ true
     → IsChosen subs order c
 first_chosen subs order c some is had =
     record { turn = 0; within = omega arith; is = is; had = had; before = λ k h. absurd (omega arith) }
 
--- the others had nothing, and sub-VL 1 is chosen again
+-- The others had nothing, so sub-VL 1 is chosen again.
 again : (subs turn : ℕ) → turn < subs → 1 ≡ next_turn subs 1 turn → ((k : ℕ) → k < turn → next_turn subs 1 k ≢ 1)
     → IsChosen subs (next_turn subs 1) lone_choice
 again subs turn within is before = record {
@@ -22,23 +22,18 @@ again subs turn within is before = record {
   before = λ k h. ne_eqb (next_turn subs 1 k) 1 (before k h);
 }
 
--- the row of one each
 pub chooses_one_each : ChoosesOneEach
 chooses_one_each = search (arith, first_chosen, again 3 2 (omega arith) refl (λ k h e. omega arith))
 
--- the row of a message behind another one
 pub waits_behind_one : WaitsBehindOne
 waits_behind_one = search (arith, first_chosen, again 2 1 (omega arith) refl (λ k h e. omega arith))
 
--- the row of one choice fewer
 pub leaves_one_behind : LeavesOneBehind
 leaves_one_behind = search (arith, first_chosen)
 
--- the row of a wait
 pub waits_four_choices : WaitsFourChoices
 waits_four_choices = search (arith, first_chosen, All-from_recursion)
 
--- the row of a late release
 pub releases_too_late : ReleasesTooLate
 releases_too_late = record {
   chosen = search (arith, first_chosen);

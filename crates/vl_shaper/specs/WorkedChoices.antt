@@ -3,24 +3,24 @@ use Rattle.std.specs.Prelude.{ℕ, ◌≡◌, ◌+◌, ◌*◌, ◌<◌, ◌≤�
 use Rattle.vl_shaper.specs.Choices.{Choice, AreChosen, IsPassedOver}
 use Rattle.vl_shaper.specs.Latency.{turns_of, HasUntil, Release, choices_of, IsPaced, IsBy}
 
--- a choice at which every sub-VL had something
+-- a choice at which each sub-VL had something
 abbrev pub busy_choice : ℕ → Choice
 busy_choice chosen = record { has = λ sub. true; sub = chosen }
 
--- one at which sub-VL 1 alone had
+-- a choice at which sub-VL 1 alone had something
 abbrev pub lone_choice : Choice
 lone_choice = record { has = λ sub. nat_eq sub 1; sub = 1 }
 
--- choices after sub-VL 0 was served, on a link of three
+-- choices after sub-VL 0 was served, on a link of three sub-VLs
 abbrev pub both_others : List Choice
 both_others = busy_choice 1 ∷ busy_choice 2 ∷ []
 
--- and where it has nothing
+-- the same number of choices while sub-VL 0 has nothing
 abbrev pub lone_choices : List Choice
 lone_choices = lone_choice ∷ lone_choice ∷ lone_choice ∷ lone_choice ∷ []
 
--- While sub-VL 0 is passed over, sub-VL 1 is chosen once. Where it has nothing it isn't passed over, and
--- sub-VL 1 is chosen again and again.
+-- While sub-VL 0 is passed over, sub-VL 1 is chosen once. If sub-VL 0 has nothing, it isn't passed
+-- over, and sub-VL 1 is chosen again and again.
 pub record ChoosesOneEach : Type 0 where
   pub chosen : AreChosen 3 0 both_others
   pub passed : IsPassedOver 0 both_others
@@ -29,16 +29,16 @@ pub record ChoosesOneEach : Type 0 where
   pub idle : IsPassedOver 0 lone_choices → ⊥
   pub often : turns_of 1 lone_choices ≡ 4
 
--- choices after sub-VL 0 was served, on a link of two
+-- choices after sub-VL 0 was served, on a link of two sub-VLs
 abbrev pub three_choices : List Choice
 three_choices = busy_choice 1 ∷ busy_choice 0 ∷ busy_choice 1 ∷ []
 
--- and one more
+-- the same and one more
 abbrev pub four_choices : List Choice
 four_choices = busy_choice 1 ∷ busy_choice 0 ∷ busy_choice 1 ∷ busy_choice 0 ∷ []
 
--- A message of one fragment of sub-VL 0, behind one that was queued, is released with the fourth choice.
--- Three are too few, and so are four where the sub-VL had nothing.
+-- A message of one fragment of sub-VL 0, after a queued one, is released with the fourth choice.
+-- Three choices are too few, and so are four if the sub-VL had nothing.
 pub record WaitsBehindOne : Type 0 where
   pub chosen : AreChosen 2 0 four_choices
   pub had : HasUntil 0 (1 + 1) four_choices
@@ -50,8 +50,8 @@ pub record WaitsBehindOne : Type 0 where
   pub idle : HasUntil 0 (1 + 1) lone_choices → ⊥
   pub none : 1 + 1 ≤ turns_of 0 lone_choices → ⊥
 
--- Three choices, one fewer than the rounds of two fragments, leave one behind. For no fragment there is
--- no such list.
+-- Three choices, one fewer than the rounds of two fragments, leave one fragment queued. For no
+-- fragment there is no such list.
 pub record LeavesOneBehind : Type 0 where
   pub chosen : AreChosen 2 0 three_choices
   pub had : HasUntil 0 2 three_choices
@@ -59,17 +59,17 @@ pub record LeavesOneBehind : Type 0 where
   pub left : turns_of 0 three_choices < 2
   pub none : (choices : List Choice) → length choices + 1 ≡ 2 * 0 → ⊥
 
--- a release of a link all of whose sub-VLs have something
+-- a release of a link whose sub-VLs all have something
 abbrev pub busy_release : ℕ → ℕ → Release
 busy_release moment chosen = record { at = moment; choice = busy_choice chosen }
 
--- Four releases, the last of them at `moment`. Sub-VL 0 was served last and has two fragments, the gap is 1,000 microseconds, and
--- polls are up to 100 late.
+-- Four releases, the last at `moment`. Sub-VL 0 was served last and has two fragments, the gap is
+-- 1,000 microseconds, and polls are up to 100 late.
 abbrev pub four_releases : ℕ → List Release
 four_releases moment = busy_release 1100 1 ∷ busy_release 2100 0 ∷ busy_release 3200 1 ∷ busy_release moment 0 ∷ []
 
--- With the last at 4,300 they meet what the law of the wait by the clock asks for. The second fragment goes with the fourth, and
--- the bound on its moment is 4,400.
+-- With the last at 4,300 the premises of the law by the clock hold. The second fragment is released
+-- with the fourth choice, and the bound on its time is 4,400.
 pub record WaitsFourChoices : Type 0 where
   pub chosen : AreChosen 2 0 (choices_of (four_releases 4300))
   pub had : HasUntil 0 2 (choices_of (four_releases 4300))
@@ -78,7 +78,8 @@ pub record WaitsFourChoices : Type 0 where
   pub released : 2 ≤ turns_of 0 (choices_of (take (2 * 2) (four_releases 4300)))
   pub by : All (IsBy (0 + 2 * 2 * (1000 + 100))) (take (2 * 2) (four_releases 4300))
 
--- With the last at 4,500 they meet all but the lateness, and the second fragment goes after 4,400.
+-- With the last at 4,500 all premises but the lateness hold, and the second fragment is released
+-- after 4,400.
 pub record ReleasesTooLate : Type 0 where
   pub chosen : AreChosen 2 0 (choices_of (four_releases 4500))
   pub had : HasUntil 0 2 (choices_of (four_releases 4500))

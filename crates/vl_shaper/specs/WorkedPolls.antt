@@ -5,23 +5,23 @@ use Rattle.vl_shaper.specs.Pace.{IsBelow, IsLater}
 use Rattle.vl_shaper.specs.declared.shaper.Stamp.{Stamp}
 use Rattle.vl_shaper.specs.Polls.{Poll, AreServed, ArePolled, HasAtPolls, latest_poll, released_by}
 
--- a poll at which every sub-VL has something
+-- a poll at which each sub-VL has something
 abbrev pub busy_poll : ℕ → Option ℕ → Poll
 busy_poll moment chosen = record { at = moment; has = λ sub. true; released = chosen }
 
--- one at which sub-VL 0 alone has
+-- a poll at which sub-VL 0 alone has something
 abbrev pub own_poll : ℕ → Option ℕ → Poll
 own_poll moment chosen = record { at = moment; has = λ sub. nat_eq sub 0; released = chosen }
 
--- one at which none has
+-- a poll at which no sub-VL has something
 abbrev pub idle_poll : ℕ → Poll
 idle_poll moment = record { at = moment; has = λ sub. false; released = None }
 
--- sub-VL 0 was served at the moment 0
+-- sub-VL 0 was served at time 0
 abbrev pub served_at_0 : Option Stamp
 served_at_0 = Some (record { at = 0; sub = 0 })
 
--- the link is due at the second, the fourth and the sixth
+-- polls that find the link due at the second, the fourth and the sixth
 abbrev pub six_polls : List Poll
 six_polls = busy_poll 500 None
     ∷ busy_poll 1100 (Some 1)
@@ -31,7 +31,7 @@ six_polls = busy_poll 500 None
     ∷ busy_poll 3300 (Some 1)
     ∷ []
 
--- Accepted at that moment, they meet what the law asks for, and the fragment is released by 3,200.
+-- For a message accepted at 0 the premises hold, and the fragment is released by 3,200.
 pub record ServesInTime : Type 0 where
   pub below : IsBelow 2 served_at_0
   pub later : IsLater served_at_0 0
@@ -41,7 +41,7 @@ pub record ServesInTime : Type 0 where
   pub reached : 0 + 2 * 1 * (1000 + 600) ≤ latest_poll 0 six_polls
   pub released : released_by 0 (0 + 2 * 1 * (1000 + 600)) six_polls ≡ 1
 
--- the link has nothing but the message, and is due all the time before it
+-- the link has only this message, and was due at all times before it
 abbrev pub polls_from_5000 : List Poll
 polls_from_5000 = own_poll 5400 (Some 0)
     ∷ idle_poll 6000
@@ -51,8 +51,8 @@ polls_from_5000 = own_poll 5400 (Some 0)
     ∷ idle_poll 8400
     ∷ []
 
--- Accepted at 5,000 on a link that is due, since nothing was released yet or since sub-VL 0 was served
--- at 0: they meet what the law asks for, and the fragment is released at the next poll.
+-- For a message accepted at 5,000 on a link that is due, since it has released nothing or since
+-- sub-VL 0 was served at 0, the premises hold. The fragment is released at the next poll.
 pub record ReleasesAtOnce : Type 0 where
   pub below : IsBelow 2 served_at_0
   pub later : IsLater served_at_0 5000
@@ -64,11 +64,12 @@ pub record ReleasesAtOnce : Type 0 where
   pub released : released_by 0 (5000 + 2 * 1 * (1000 + 600)) polls_from_5000 ≡ 1
   pub at_once : released_by 0 5400 polls_from_5000 ≡ 1
 
--- the third comes too late
+-- polls of which the third is too late
 abbrev pub late_polls : List Poll
 late_polls = busy_poll 500 None ∷ busy_poll 1100 (Some 1) ∷ busy_poll 3300 (Some 0) ∷ []
 
--- Accepted at 0, they meet all but the lateness, and the fragment isn't released by 3,200.
+-- For a message accepted at 0 all premises but the lateness hold, and the fragment isn't released
+-- by 3,200.
 pub record PolledTooLate : Type 0 where
   pub below : IsBelow 2 served_at_0
   pub later : IsLater served_at_0 0

@@ -1,4 +1,4 @@
-//! Laws of the definitions. Their functions do nothing: the contract is the law.
+//! Laws of the definitions. These functions do nothing: the contract is the law.
 ghost use Rattle.vl_shaper.specs.Choices.{OneEach};
 ghost use Rattle.vl_shaper.specs.Latency.{BoundIsMet, InTime, QueuedMessage};
 ghost use Rattle.vl_shaper.specs.Polls.{PolledInTime};
@@ -14,20 +14,20 @@ pub fn one_each()
     ensures worked { ChoosesOneEach }
 {}
 
-/// A message of f fragments, behind q fragments of its own sub-VL, on a link of s sub-VLs, is wholly
+/// A message of f fragments, after q fragments of its own sub-VL, on a link of s sub-VLs, is wholly
 /// released after s (q + f) choices of the link, whatever the other sub-VLs send.
 ///
-/// A choice is a poll at which the link was due and some sub-VL had something. That the message's
-/// own sub-VL had something until then is a premise, and so is that such polls happen.
+/// A choice is a poll at which the link was due and some sub-VL had something. Two premises: the
+/// message's own sub-VL had something until then, and such polls happen.
 pub fn queued_message()
     ensures released { QueuedMessage }
 
-    // two fragments and two sub-VLs: four choices, of which three are too few
+    // two fragments and two sub-VLs: four choices are enough, three are too few
     ensures worked { WaitsBehindOne }
 {}
 
-/// One choice fewer is not enough, on any link and for any number of fragments, where all sub-VLs have
-/// something all the while.
+/// One choice fewer is not enough, on any link and for any number of fragments, if all sub-VLs have
+/// something throughout.
 pub fn bound_is_met()
     ensures met { BoundIsMet }
 
@@ -35,38 +35,38 @@ pub fn bound_is_met()
     ensures worked { LeavesOneBehind }
 {}
 
-/// By the clock, in the unit of the gap: the message is wholly released s (q + f) (gap + late) after
-/// the start at the latest, where each choice follows the one before it, or the start, within the
-/// gap and the lateness of the poll that makes it.
+/// By the clock, in the unit of the gap: the message is wholly released by s (q + f) (gap + late)
+/// after the start, if each choice follows the previous one, or the start, within the gap and the
+/// lateness of the poll that makes it.
 ///
-/// That polls come and are that late at most is a premise. Nothing is said of the time that the
-/// networks take, nor of a frame that the last network failed to take: it counts as a choice.
+/// A premise: polls come, and are at most that late. The law doesn't cover the time that the
+/// networks take, nor a frame that the last network failed to take: it counts as a choice.
 pub fn in_time()
     ensures bound { InTime }
 
     // four choices, the last of them within the bound
     ensures worked { WaitsFourChoices }
 
-    // the last comes too late, and so does the message
+    // the last choice is too late, and so is the message
     ensures late { ReleasesTooLate }
 {}
 
-/// By the polls of the link: where each poll follows the one before it within the lateness, from the
-/// acceptance of the message on, it is wholly released s (q + f) (gap + late) after its acceptance at the
-/// latest.
+/// By the polls of the link: if each poll follows the previous one, or the acceptance of the
+/// message, within the lateness, the message is wholly released by s (q + f) (gap + late) after its
+/// acceptance.
 ///
-/// The link may have released a frame before, or none, and may be due or not when the message is accepted.
-/// That polls come until then is a premise, and that the message's sub-VL has something at each of them
-/// until it is wholly released. Nothing is said of the time that the networks take.
+/// At acceptance the link may be due or not, and may have released a frame before or not. Two
+/// premises: polls come until then, and the message's sub-VL has something at each of them until
+/// the message is wholly released. The law doesn't cover the time that the networks take.
 pub fn polled_in_time()
     ensures bound { PolledInTime }
 
     // six polls, three of which find the link due
     ensures worked { ServesInTime }
 
-    // a message that is accepted on an idle link goes at the next poll
+    // a message accepted on an idle link is released at the next poll
     ensures idle { ReleasesAtOnce }
 
-    // one poll comes too late, and so does the message
+    // one poll is too late, and so is the message
     ensures late { PolledTooLate }
 {}

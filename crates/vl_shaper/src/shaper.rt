@@ -1,4 +1,4 @@
-//! Numbers, spacing and cyclic order of a virtual link.
+//! Sequence numbers, gap and cyclic order of a virtual link.
 ghost use Rattle.std.specs.Prelude.{◌≡◌, ℕ, ◌+◌, ◌-◌, ◌*◌, ◌%◌, ◌^◌, ◌<◌, ◌≤◌, None, Some, true, MatchOption};
 ghost use Rattle.afdx_plan.specs.Plan.{bag_micros};
 ghost use Rattle.afdx_plan.specs.Numbers.{sequence_number};
@@ -7,15 +7,15 @@ ghost use Rattle.vl_shaper.specs.Pace.{Pace, is_due, due_from, IsLater, turn_of}
 use afdx_plan::Bag;
 use std::marker::Model;
 
-/// When a frame was released, in microseconds, and of which sub-VL.
+/// A release: its time in microseconds, and its sub-VL.
 #[derive(Clone, Copy, Debug, PartialEq, Eq)]
 pub struct Stamp {
     pub at: u64,
     pub sub: u8,
 }
 
-/// The regulation of a virtual link: which moments are due, in which order its sub-VLs are asked,
-/// and which sequence number comes next (ARINC 664 Part 7, end system, virtual link scheduling).
+/// The regulation of a virtual link: when it is due, in which order its sub-VLs have their turns,
+/// and which sequence number is next (ARINC 664 Part 7, end system, virtual link scheduling).
 #[derive(Drop)]
 pub struct Shaper {
     gap: u64,
@@ -41,7 +41,7 @@ impl Model for Shaper {
 }
 
 impl Shaper {
-    /// A link that has released nothing: it is due at every moment, sub-VL 0 is asked first, and
+    /// A link that has released nothing: it is due at any time, sub-VL 0 has the first turn, and
     /// the next number is 0.
     pub fn new(bag: Bag, sub_vls: u8) -> Shaper
         requires some { 1 ≤ sub_vls }
@@ -61,7 +61,7 @@ impl Shaper {
         }
     }
 
-    /// How many sub-VLs the link has.
+    /// The number of the link's sub-VLs.
     pub fn sub_vls(&self) -> u8
         ensures value { result ≡ self.now.sub_vls }
         ensures some { 1 ≤ result }
@@ -70,8 +70,8 @@ impl Shaper {
         self.sub_vls
     }
 
-    /// Whether a frame may be released at a moment, in microseconds: none has been, or the last one
-    /// a gap ago. A link that is served late doesn't catch up.
+    /// Whether a frame may be released at `now`, in microseconds: none was released, or the last
+    /// one at least a gap ago. A link that is served late doesn't catch up.
     pub fn due(&self, now: u64) -> bool
         requires { IsLater self.now.last now }
         ensures { result ≡ is_due self.now.gap self.now.last now }
@@ -82,8 +82,8 @@ impl Shaper {
         }
     }
 
-    /// The moment from which it is due, in microseconds: 0 where nothing was released, and `None` where that
-    /// moment has more than 64 bits.
+    /// The time in microseconds from which the link is due: 0 if nothing was released, and `None`
+    /// if that time has more than 64 bits.
     pub fn due_from(&self) -> Option<u64>
         ensures { MatchOption result (2 ^ 64 ≤ due_from self.now.gap self.now.last)
             (λ at. at ≡ due_from self.now.gap self.now.last) }
@@ -94,8 +94,8 @@ impl Shaper {
         }
     }
 
-    /// The sub-VL that is asked as number `k`, from 0: cyclic order behind the one served last.
-    /// Each sub-VL has one turn.
+    /// The sub-VL of turn `k`, from 0: cyclic order after the last served sub-VL. Each sub-VL has
+    /// one turn.
     pub fn turn(&self, k: u8) -> u8
         requires { k < self.now.sub_vls }
         ensures turn { result ≡ turn_of self.now.sub_vls self.now.last k }
@@ -116,8 +116,8 @@ impl Shaper {
         }
     }
 
-    /// Notes a release of a sub-VL at a moment, in microseconds, and answers its sequence number: 0
-    /// for the first, then 1 to 255, and after 255 comes 1.
+    /// Records a release of a sub-VL at `now`, in microseconds, and returns its sequence number: 0
+    /// for the first, then 1 to 255, and 1 again after 255.
     pub fn stamp(&mut self, now: u64, sub: u8) -> u8
         requires later { IsLater self.old.last now }
         requires due { is_due self.old.gap self.old.last now ≡ true }

@@ -1,4 +1,4 @@
--- The empty frame at the end of the list is filled where it stands.
+-- The empty frame at the end of the list is filled in place.
 use Rattle.std.proofs.Common.{arith}
 use Rattle.std.proofs.lemmas.Grind.{common_steps}
 use Rattle.std.proofs.lemmas.List.{map-append}

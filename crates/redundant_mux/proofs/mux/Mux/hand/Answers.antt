@@ -6,7 +6,7 @@ use Rattle.redundant_mux.proofs.MirroredLines.{handed_on}
 use Rattle.redundant_mux.proofs.mux.Mux.hand.Given
 use Rattle.redundant_mux.proofs.mux.Mux.hand.Goals as goal
 
--- what the hand leaves
+-- The lines after the hand are in step.
 left : (g : Given.Over) (c : goal.After-result-1 g)
     → IsMirrored (lines_of (g.A.Network.handed c.hand_to.new.network) (g.B.Network.handed c.hand_twin.new.network)
     (g.A.Network.failures c.hand_to.new.network) (g.B.Network.failures c.hand_twin.new.network)

@@ -1,4 +1,4 @@
--- A value of no bytes, whose list is read off the argument.
+-- A value of no bytes, whose list is read from the argument.
 use Rattle.std.proofs.Common.{◌≡◌, List, [], ◌∷◌, refl}
 use Rattle.std.proofs.raw_atomic.Walks.{proved, leaves}
 use mir.Syntax.{a_type, dcons, dnil, named}
