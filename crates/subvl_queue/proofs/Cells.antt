@@ -1,4 +1,4 @@
--- What stays of the rule when one cell and one seat move.
+-- How the rule is kept when one cell and one seat change.
 use Rattle.std.proofs.Common.{◌≡◌, ◌≢◌, ℕ, zero, suc, ◌+◌, ◌*◌, ◌^◌, ◌%◌, ◌<◌, ◌≤◌, ◌⊎◌, inl, inr, Bool, List, [], ◌∷◌, length, get_or, set, sym, refl, ap, ◌∙◌, subst, ⊎_elim, arith, mod-lt, length-set, get_or-set_other}
 use mathlib.Core.Path.{Path}
 use mathlib.Core.Option.{some}
@@ -34,13 +34,13 @@ at_put cells i c F j here other = go (ℕ_discrete j i)
 pub put_here : (cells : ℕ → Cell) (i : ℕ) (c : Cell) → Path Cell (put cells i c i) c
 put_here cells i c = at_put cells i c (λ q x. q ≡ i → Path Cell x c) i (λ _. refl) (λ n. absurd (n refl)) refl
 
--- what holds of the changed member and of the others, holds of each
+-- A property of the changed member and of the others holds of each member.
 pub each_after : {A : Type 0} (l : List A) (i : ℕ) (a : A) (F : ℕ → A → Type 0) → F i a
     → ((j : ℕ) (b : A) → j ≢ i → get_elem? l j ≡ some b → F j b) → (j : ℕ) (b : A) → get_elem? (set l i a) j ≡ some b → F j b
 each_after {A} l i a F here other j b e = ⊎_elim (λ (t : (j ≡ i) × (a ≡ b)). subst (λ (y : ℕ × A). F y.0 y.1) (λ k. (sym t.0 k, t.1 k)) here)
     (λ (t : (j ≢ i) × (get_elem? l j ≡ some b)). other j b t.0 t.1) (at_set l i j a b e)
 
--- the number moves on by one at most, and then it was in this turn of the ring
+-- The number grows by at most one, from a value of this turn of the ring.
 abbrev pub Next : (n i a a' : ℕ) → Type 0
 Next n i a a' = (a' ≡ a) ⊎ ((a' ≡ suc a) × (a % n ≡ i))
 
@@ -91,7 +91,7 @@ module _ {T : Type 0} where
       → Has log c ph at item → Has log' c' ph at item
   has_stays log log' c c' ph at item more same k = (same ∙ k.0, (k.1.0, k.1.1, more at k.1.0 k.1.2))
 
-  -- what a seat knows of its own slot stays
+  -- The relation of a seat to its own slot is kept.
   knows_stays : (t t' : ℕ) (log log' : List (ℕ × T)) (j : ℕ) (c c' : Cell) (at : ℕ) (item : Option (ℕ × T)) → Longer log log'
       → (holder c.1 ≡ suc j → Path Cell c' c) → (Path Cell c (at, reading j) → t' ≡ t)
       → (st : Stage) → Knows t log j c at item st → Knows t' log' j c' at item st
@@ -110,12 +110,12 @@ module _ {T : Type 0} where
     pub fits : (id : ℕ) (v : View T) (ro : Role) → get_elem? s.views id ≡ some v → v.role ≡ ro → Fits (length s.views) r.freed r.log id v ro
     fits id v ro at e = subst (Fits (length s.views) r.freed r.log id v) e (r.each_seat id v at)
 
-    -- a seat that isn't busy holds no cell
+    -- A seat that isn't busy holds no cell.
     pub holds_none : (id : ℕ) (v : View T) → get_elem? s.views id ≡ some v → (Busy v.stage → ⊥) → (i : ℕ) → i < n → holder (r.cells i).1 ≢ suc id
     holds_none id v at calm i near e = let b = r.busy i id near e in
         calm (subst (λ (z : View T). Busy z.stage) (maybe.some-injective b.0 v (sym b.1 ∙ at)) b.2)
 
-    -- the seat holds no cell but that of its place
+    -- A seat holds no cell but that of its place.
     pub holds_one : (id : ℕ) (v : View T) → get_elem? s.views id ≡ some v → (i : ℕ) → i < n → i ≢ v.at % n → holder (r.cells i).1 ≢ suc id
     holds_one id v at i near other e = let b = r.busy i id near e in let is : b.0 ≡ v = maybe.some-injective b.0 v (sym b.1 ∙ at) in
         other (sym (r.each_cell i near).lies ∙ ap (λ (z : ℕ). z % n) (sym b.3 ∙ ap (λ (z : View T). z.at) is))
@@ -138,7 +138,8 @@ module _ {T : Type 0} where
       whole_stays id v w log' at same u.all g.2,
     )
 
-    -- what the receiver has gathered stays where the stepping seat keeps its role and its own share of it
+    -- The receiver's gathered list is kept if the stepping seat keeps its role and its own part of
+    -- the list.
     pub gathers_stay : (closed' : Bool) (log' : List (ℕ × T)) (id : ℕ) (v w : View T) → get_elem? s.views id ≡ some v → w.role ≡ v.role
         → w.total ≡ v.total → w.joined ≡ v.joined → w.all ≡ v.all
         → ((u : View T) → get_elem? s.views 0 ≡ some u → Collects r.closed r.log s.views u → Collects closed' log' s.views u) → (u : View T)

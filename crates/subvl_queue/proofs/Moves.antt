@@ -31,12 +31,12 @@ totals_open : (closed : Bool) (a b : ℕ) → closed ≡ false → (o : Option �
 totals_open closed a b e None k = k
 totals_open closed a b e (Some t) k = absurd (let shut = k.0 in cc)
 
--- a place that was drawn lies before the total
+-- A drawn place is below the total.
 before_total : (closed : Bool) (n p : ℕ) (o : Option ℕ) → p < n → Totals closed n o → IfSome o (λ t. p < t)
 before_total closed n p None below k = tt
 before_total closed n p (Some t) below k = let last = k.1 in omega arith
 
--- the words from the third on stay
+-- The words from the third on are unchanged.
 abbrev Heads : List ℕ → List ℕ → Type 0
 Heads ws ws' = (length ws' ≡ length ws) × ((i : ℕ) → get_or ws' (i + 2) 0 ≡ get_or ws (i + 2) 0)
 
@@ -48,7 +48,7 @@ module _ {T : Type 0} where
   Goes s k id me then x = (w : View T) × (a : Act (Option (ℕ × T))) × Valid s.homes me.1 a × Queue (stepped s k x id me.1 w a)
       × then (get_or s.words k 0) (w, carried_after me.1 a)
 
-  -- a step that touches no slot, by a seat that holds none
+  -- A step that changes no slot, by a seat that holds none.
   quiet : (s : St T) (r : Queue s) (words' : List ℕ) (id late' : ℕ) (closed' : Bool) (v w : View T) → get_elem? s.views id ≡ some v
       → (Busy v.stage → ⊥) → Heads s.words words'
       → get_or words' 0 0 + length r.log + total in_hand (set s.views id w) ≡ 2 ^ 32 + length s.homes + r.freed
@@ -89,7 +89,7 @@ module _ {T : Type 0} where
             (b.0, set_else s.views id j w (λ e. holds_none s r id v at calm i near (held ∙ ap suc e)) ∙ b.1, b.2, b.3);
       }
 
-  -- such a step of a sender, by which its own list stays
+  -- Such a step of a sender that keeps its own list.
   sends : (s : St T) (r : Queue s) (words' : List ℕ) (id late' : ℕ) (v : View T) (st st' : Stage) (asks' load glances : ℕ) (shut : Bool)
       → get_elem? s.views id ≡ some v → v.role ≡ Sender → v.stage ≡ st → (Busy st → ⊥) → Heads s.words words'
       → get_or words' 0 0 + hand_of st' ≡ get_or s.words 0 0 + hand_of st
@@ -111,7 +111,7 @@ module _ {T : Type 0} where
       (gathers_stay s r r.closed r.log id v w at refl refl refl refl (λ _ _ g. g))
       (subst (Fits (length s.views) r.freed r.log id w) (sym is) (f.0, f.1, few f.2)) knew
 
-  -- such a step of the receiver between its calls
+  -- Such a step of the receiver between its calls.
   receives : (s : St T) (r : Queue s) (words' : List ℕ) (id : ℕ) (closed' : Bool) (v : View T) (looks : ℕ) (found : Bool) (last : Option ℕ)
       (all : Option (List (ℕ × T))) → get_elem? s.views id ≡ some v → v.role ≡ Receiver → v.stage ≡ Idle → Heads s.words words'
       → get_or words' 0 0 ≡ get_or s.words 0 0
@@ -134,7 +134,7 @@ module _ {T : Type 0} where
       (roles_stay s r closed' r.log id v w w at refl (counted, (r.gathered v at0).1, whole)))
       (subst (Fits (length s.views) r.freed r.log id w) (sym is) f) (r.each_hand id v at)
 
-  -- a step that reads a word
+  -- A step that only reads a word.
   reads : (s : St T) (k id : ℕ) (w : View T) → Queue record { words = s.words; homes = s.homes; views = set s.views id w }
       → Queue record { words = set s.words k (get_or s.words k 0); homes = s.homes; views = set s.views id w }
   reads s k id w = subst (λ (ws : List ℕ). Queue record { words = ws; homes = s.homes; views = set s.views id w }) (sym (set-get_or s.words k 0))
@@ -174,7 +174,7 @@ module _ {T : Type 0} where
       )
       go (no d) = (with_ask me.0 Refused held, keeps, tt, went Refused refl refl tt (omega arith), (refl, counted, (λ more. absurd (d more)), λ _. refl))
 
-  -- an ask without room, or one that drew late, is given back
+  -- A slot request without room, or with a late place, is given back.
   pub gives_ok : (n id : ℕ) (me : Seated T) → me.0.role ≡ Sender → (me.0.stage ≡ Refused) ⊎ (me.0.stage ≡ Late)
       → Allows Queue n id me 0 (λ x. (x + 1) % 2 ^ 64) (gives_back (step n 0 1 0 none) me)
   gives_ok n id me is was s r wide at small =
@@ -190,7 +190,7 @@ module _ {T : Type 0} where
           (heads s.words 0 x' (omega arith)) (omega arith) (get_or-set_other s.words 0 1 x' 0 (omega arith) ∙ r.tail_is) r.none_late
           (omega arith) (omega arith) (λ z. z) tt
 
-  -- the slot at which the next place falls is free
+  -- The slot of the next place is free.
   is_free : (t m F : ℕ) (log : List (ℕ × T)) (homes : Homes T) (i q : ℕ) → length log ≡ t → F ≤ t → t < F + m → q < F + m → t % m ≡ q % m
       → (ph : Phase) → InPhase F log homes i q ph
       → (ph ≡ free) × (get_elem? homes i ≡ some (some None)) × (t ≡ q)
@@ -207,7 +207,7 @@ module _ {T : Type 0} where
   few_drawn s r = let a : total asks_of s.views ≤ total budget s.views = total_le asks_of budget s.views
       (λ j v e. asks_by_role _ _ _ j v v.role (r.each_seat j v e)) in let b = r.budgeted in let c = r.counted in omega arith
 
-  -- a message of another port leaves what a seat knows of the log
+  -- A message of another port keeps a seat's relation to the log.
   other_port : (seats freed : ℕ) (log : List (ℕ × T)) (x : ℕ × T) (j id port : ℕ) (d : View T) → id ≡ suc port → x.0 ≡ port → freed ≤ length log
       → j ≢ id → (ro : Role) → Fits seats freed log j d ro → Fits seats freed (log ++ x ∷ []) j d ro
   other_port seats freed log x j id port d here said behind other Sender f =
@@ -220,7 +220,7 @@ module _ {T : Type 0} where
   whole_open log log' views port here None k = tt
   whole_open log log' views port here (Some l) k = absurd (here (k.1 port))
 
-  -- an open queue whose sender is there has no total yet, and no joined list of that sender
+  -- An open queue whose sender isn't back has no total, and no joined list of that sender.
   grows : (closed : Bool) (log : List (ℕ × T)) (views : List (View T)) (x : ℕ × T) (port : ℕ) → closed ≡ false → x.0 ≡ port
       → (Gone views (suc port) → ⊥) → (u : View T) → Collects closed log views u → Collects closed (log ++ x ∷ []) views u
   grows closed log views x port e said here u g = (
@@ -229,7 +229,7 @@ module _ {T : Type 0} where
     whole_open log (log ++ x ∷ []) views port here u.all g.2,
   )
 
-  -- a place is drawn: for the message, or too late where the queue is closed
+  -- Drawing a place: for the message, or a late one if the queue is closed.
   pub draws_ok : (said : Option (ℕ × T)) (x : ℕ × T) (n id : ℕ) (me : Seated T) → said ≡ Some x → x.0 ≡ me.0.port → me.0.role ≡ Sender
       → me.0.stage ≡ Asked → me.1 ≡ []
       → Allows Queue n id me 1 (λ y. (y + 1) % 2 ^ 64) (draws said (step n 1 1 0 none) me)
@@ -342,7 +342,7 @@ module _ {T : Type 0} where
         (refl, refl),
       )
 
-  -- the cell of the next place, where its word says that it is ready
+  -- The cell of the next place, if its word says that it is ready.
   is_ready : (m F : ℕ) (log : List (ℕ × T)) (homes : Homes T) (i q : ℕ) → 0 < m → q < F + m → (ph : Phase) → (ph ≡ reading 0 → ⊥)
       → shown m q ph ≡ suc F → InPhase F log homes i q ph
       → (ph ≡ full) × (q ≡ F) × (q < length log) × ((x : ℕ × T) × (get_elem? log q ≡ some x) × (get_elem? homes i ≡ some (some (Some x))))
@@ -356,7 +356,7 @@ module _ {T : Type 0} where
   if_whole log views F None k h = tt
   if_whole log views F (Some l) k h = subst F (sym k.0) (h k.1)
 
-  -- where no seat has a slot, the next place is ready if it was drawn
+  -- If no seat holds a slot, a drawn next place is ready.
   surely : (m F y : ℕ) (log : List (ℕ × T)) (homes : Homes T) (i q : ℕ) → F % m ≡ q % m → q < F + m → F < length log → (ph : Phase)
       → ((j : ℕ) → holder ph ≡ suc j → ⊥) → y ≡ shown m q ph → InPhase F log homes i q ph → y ≡ suc F
   surely m F y log homes i q lies early below free calm e k = let l = k.0 in let t = one_turn F q m (omega arith) (omega arith) lies in absurd (omega arith)
@@ -498,7 +498,7 @@ module _ {T : Type 0} where
       later seats log j d ne Receiver k = absurd (ne k.0)
       later seats log j d ne ro k = k
 
-  -- a glance at the tail
+  -- A load of the tail, to see whether the queue is closed.
   pub glances_ok : (n id : ℕ) (me : Seated T) → me.0.role ≡ Sender → me.0.stage ≡ Idle → Allows Queue n id me 1 (λ x. x) (glances_at (step n 1 0 0 none) me)
   glances_ok n id me is was s r wide at small = go (dec_le (2 ^ 63) (get_or s.words 1 0))
     where
@@ -510,13 +510,13 @@ module _ {T : Type 0} where
       go (yes d) = (with_glance me.0 true, keeps, tt, went true, (refl, (λ lt. absurd (omega arith)), λ _. refl))
       go (no d) = (with_glance me.0 false, keeps, tt, went false, (refl, (λ _. refl), λ ge. absurd (d ge)))
 
-  -- where the queue is open, its tail is the length of the log
+  -- The tail of an open queue is the length of the log.
   open_tail : (s : St T) (r : Queue s) (o : Option ℕ) → o ≡ None → Totals r.closed (length r.log) o
       → (shut_bit r.closed ≡ 0) × (r.late ≡ 0) × (get_or s.words 1 0 ≡ length r.log)
   open_tail s r o none' k = let shut : r.closed ≡ false = subst (Totals r.closed (length r.log)) none' k in
       let bit : shut_bit r.closed ≡ 0 = ap shut_bit shut in let late = r.none_late shut in (bit, late, omega arith)
 
-  -- the first close
+  -- The first close.
   pub closes_ok : (n id : ℕ) (me : Seated T) → me.0.role ≡ Receiver → me.0.stage ≡ Idle → me.0.total ≡ None
       → Allows Queue n id me 1 (λ y. bit_or y (2 ^ 63)) (closes (step n 1 (2 ^ 63) 0 none) me)
   closes_ok n id me is was none' s r wide at small =
@@ -536,7 +536,7 @@ module _ {T : Type 0} where
         (refl, omega arith, omega arith, refl),
       )
 
-  -- the log itself, once every sender has joined
+  -- Once every sender has joined, the receiver has the log itself.
   pub gathers_ok : (n id : ℕ) (me : Seated T) → me.0.role ≡ Receiver → me.0.stage ≡ Idle
       → ((k : ℕ) → k < me.0.made → (i : ℕ) × (l : List (ℕ × T)) × (get_elem? me.0.joined i ≡ some (k, l)))
       → Allows Queue n id me 1 (λ x. x) (gathers (step n 1 0 0 none) me)

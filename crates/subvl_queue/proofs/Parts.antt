@@ -33,7 +33,7 @@ module _ {T : Type 0} where
   owned_other k n [] x e = ap (λ (b : Bool). cond b ((n, x.1) ∷ []) []) (ne_eqb x.0 k e)
   owned_other k n (y ∷ l) x e = ap (λ (zs : List (ℕ × T)). cond (eqb y.0 k) ((n, y.1) ∷ zs) zs) (owned_other k (suc n) l x e)
 
-  -- if the port has no message, the first is not its, nor is one of the rest
+  -- If the port has no message, neither the first nor one of the rest is the port's.
   rest_none : (k n : ℕ) (x : ℕ × T) (l : List (ℕ × T)) → owned k n (x ∷ l) ≡ [] → (x.0 ≢ k) × (owned k (suc n) l ≡ [])
   rest_none k n x l e = elim (ℕ_discrete x.0 k) [
     | yes is ↦ absurd (let first : (n, x.1) ∷ owned k (suc n) l ≡ [] = sym
@@ -41,7 +41,7 @@ module _ {T : Type 0} where
     | no not ↦ (not, sym (ap (λ (b : Bool). cond b ((n, x.1) ∷ owned k (suc n) l) (owned k (suc n) l)) (ne_eqb x.0 k not)) ∙ e)
   ]
 
-  -- a message in the list is one of its port
+  -- A message in the list is in the part of its port.
   pub owned_at : (k n : ℕ) (l : List (ℕ × T)) (i : ℕ) (x : ℕ × T) → get_elem? l i ≡ some x → x.0 ≡ k → owned k n l ≡ [] → ⊥
   owned_at k n [] i x at is none' = some-ne-none x (sym at)
   owned_at k n (y ∷ l) zero x at is none' = (rest_none k n y l none').0 (ap (λ (z : ℕ × T). z.0) (some-injective y x at) ∙ is)
@@ -52,7 +52,7 @@ take_next [] i a e = absurd (some-ne-none a (sym e))
 take_next (x ∷ xs) zero a e = λ k. sym (some-injective x a e) k ∷ []
 take_next (x ∷ xs) (suc i) a e = ap (λ l. x ∷ l) (take_next xs i a e)
 
--- a port's part of the messages
+-- The part of a port, by the messages' bytes.
 pub part_is : (k n : ℕ) (l : List (ℕ × Message)) → own_of (owned k n l) ≡ part_of k (items_of l)
 part_is k n [] = refl
 part_is k n (x ∷ l) =
@@ -81,7 +81,7 @@ next_at : (n p : ℕ) (item : ℕ × List ℕ) (list : List (ℕ × List ℕ)) �
     → get_or (item ∷ list) (p - n) (0, []) ≡ get_or list (p - suc n) (0, [])
 next_at n p item list lt = ap (λ (e : ℕ). get_or (item ∷ list) e (0, [])) (let e : p - n ≡ suc (p - suc n) = omega arith in e)
 
--- a message of another sender comes before them
+-- A message of another sender in front.
 other : (n port : ℕ) (item : ℕ × List ℕ) (list : List (ℕ × List ℕ)) (own : List (List ℕ)) (places : List ℕ)
     → StandFrom (suc n) list port own places → StandFrom n (item ∷ list) port own places
 other n port item list own places h = record {
@@ -91,7 +91,7 @@ other n port item list own places h = record {
   at = λ i lt. (let w = h.within i lt in next_at n (get_or places i 0) item list (omega arith) ∙ h.at i lt);
 }
 
--- one of the same sender comes before them
+-- A message of the same sender in front.
 mine : (n port : ℕ) (item : ℕ × List ℕ) (list : List (ℕ × List ℕ)) (own : List (List ℕ)) (places : List ℕ) → item.0 ≡ port
     → StandFrom (suc n) list port own places → StandFrom n (item ∷ list) port (item.1 ∷ own) (n ∷ places)
 mine n port item list own places same h =
@@ -125,7 +125,7 @@ stand_from n port (item ∷ items) = either (item.0 == port) (eqb-true item.0 po
     either true same h = mine n port item items _ _ (same refl) h
     either false same h = other n port item items _ _ h
 
--- a sender's own list stands at its places
+-- A sender's own list is in the log at its places.
 pub stand_at : (list : List (ℕ × List ℕ)) (port : ℕ) (own : List (List ℕ)) (places : List ℕ) → part_of port list ≡ own
     → places_from 0 port list ≡ places → StandAt list port own places
 stand_at list port own places is at = subst (λ (y : List (List ℕ) × List ℕ). StandAt list port y.0 y.1) (λ k. (is k, at k))
@@ -137,7 +137,7 @@ stand_at list port own places is at = subst (λ (y : List (List ℕ) × List ℕ
           ap (λ (e : ℕ). get_or list e (0, [])) (let e : p ≡ p - 0 = omega arith in e) ∙ h.at i lt;
     })
 
--- if no other port has a message, all are messages of these ports
+-- If no other port has a message, all messages are of these ports.
 pub are_items : (ports n : ℕ) (l : List (ℕ × Message)) → ((k : ℕ) → ports ≤ k → owned k n l ≡ []) → AreItems ports (items_of l)
 are_items ports n [] h = All-nil (IsItem ports)
 are_items ports n (x ∷ l) h =
@@ -151,7 +151,7 @@ same_next n m = elim (ℕ_discrete n m) [
   | no not ↦ ne_eqb n m not ∙ sym (ne_eqb (suc n) (suc m) (λ e. not (omega arith)))
 ]
 
--- whether nothing is left
+-- The total says whether a message is left.
 pub tells : (n total : ℕ) (l : List (ℕ × Message)) → n ≤ total → total ≡ length l → TellsLeft (n == total) (items_of (drop n l))
 tells zero total [] le is = subst (λ (b : Bool). TellsLeft b []) (sym (eq-eqb 0 total (sym is))) refl
 tells zero total (x ∷ l) le is = subst (λ (b : Bool). TellsLeft b (items_of (x ∷ l))) (sym (ne_eqb 0 total (λ e. omega arith))) x.1.sound

@@ -1,4 +1,4 @@
--- The table at the start, a new sender, and a sender that has ended.
+-- The rule at the start, with a new sender, and after a sender has ended.
 use Rattle.std.proofs.Common.{◌≡◌, ◌≢◌, ℕ, zero, suc, ◌+◌, ◌-◌, ◌^◌, ◌%◌, ◌<◌, ◌≤◌, false, List, [], ◌∷◌, ◌++◌, map, length, get_or, set, replicate, sym, refl, ap, ◌∙◌, subst, ⊎_elim, arith, mod-eq_of_lt, length-set, length-append}
 use mathlib.Core.Option.{none, some}
 use mathlib.Core.Option as maybe
@@ -16,7 +16,7 @@ use Rattle.subvl_queue.proofs.Totals.{sums, sums_end}
 use Rattle.subvl_queue.proofs.Cells.{fits, holds_none, each_after}
 use Rattle.subvl_queue.proofs.Moves.{calm_at}
 
--- what holds of the changed or added member and of the others, holds of each
+-- A property of the changed or added member and of the others holds of each member.
 each_end : {A : Type 0} (l : List A) (a : A) (F : ℕ → A → Type 0) → F (length l) a → ((j : ℕ) (b : A) → get_elem? l j ≡ some b → F j b)
     → (j : ℕ) (b : A) → get_elem? (l ++ a ∷ []) j ≡ some b → F j b
 each_end [] a F here other zero b e = subst (F 0) (maybe.some-injective a b e) here

@@ -1,4 +1,4 @@
--- The list of the senders, and what the receiver has of it.
+-- The senders in a list, and what the receiver has of them.
 use Rattle.std.proofs.Common.{◌≡◌, ℕ, zero, suc, ◌+◌, ◌<◌, ◌≤◌, List, [], ◌∷◌, ◌++◌, length, take, drop, get_or, sym, refl, ap, ◌∙◌, subst, arith, length-append}
 use Rattle.std.proofs.lemmas.List.{take-append-drop, map-append}
 use Rattle.std.proofs.lemmas.List.Elements.{Contains-append_right}
@@ -14,26 +14,26 @@ use Rattle.subvl_queue.specs.Steps.{IsLog, with_all, holding, freed_of}
 use Rattle.subvl_queue.specs.Views.{SenderView, Brought, HasPort, HasEvery, IsBack, AreBack, IsWhole, brought_by, brought_by_all}
 use Rattle.subvl_queue.proofs.Parts.{part_is, places_are, take_next, stand_at}
 
--- where none was found, no sender of the port is there
+-- If none was found, no sender of the port is in the list.
 pub none_there : (senders : List SenderView) (n p : ℕ) → length senders ≤ n → ((k : ℕ) (d : SenderView) → k < n → (get_or senders k d).port ≡ p → ⊥)
     → HasPort senders p → ⊥
 none_there [] n p le away h = omega (arith, h.1)
 none_there (s ∷ ss) n p le away h = let lt = h.1 in away h.0 s (omega arith) (h.2 s)
 
--- where what was brought stands among the joined lists
+-- The index of a joined list.
 found : (joined : List (ℕ × List (ℕ × Message))) (b : Brought) (k : ℕ) → k < length (map brought_of joined) → get_or (map brought_of joined) k b ≡ b
     → (i : ℕ) × (p : ℕ) × (l : List (ℕ × Message)) × (get_elem? joined i ≡ some (p, l)) × (brought_of (p, l) ≡ b)
 found [] b k lt e = absurd (omega arith)
 found (x ∷ xs) b zero lt e = (zero, x.0, x.1, refl, e)
 found (x ∷ xs) b (suc k) lt e = let r = found xs b k (omega arith) e in (suc r.0, r.1, r.2, r.3, r.4)
 
--- the sender of a port that is back has joined
+-- The sender of a port that is back has joined.
 pub joined_for : (v : View Message) (ports : ℕ) → AreBack ports (brought_back v) → (k : ℕ) → k < ports
     → (i : ℕ) × (l : List (ℕ × Message)) × (get_elem? v.joined i ≡ some (k, l))
 joined_for v ports every k lt = let there = every k lt in let at = found v.joined there.0 there.1.0 there.1.1 there.1.2 in
     (at.0, at.2, at.3 ∙ ap (λ (p : ℕ). some (p, at.2)) (ap (λ (b : Brought). b.port) at.4 ∙ there.2))
 
--- the sender of a port in the list brings its part
+-- A sender in the list brings the part of its port.
 brought_has : (senders : List SenderView) (p k : ℕ) → k < length senders → ((d : SenderView) → (get_or senders k d).port ≡ p)
     → IsBack (brought_by_all senders) p
 brought_has [] p k lt is = absurd (omega arith)
@@ -44,11 +44,11 @@ brought_has (s ∷ ss) p (suc k) lt is = let r = brought_has ss p k (omega arith
 pub all_brought : (senders : List SenderView) (ports : ℕ) → HasEvery ports senders → AreBack ports (brought_by_all senders)
 all_brought senders ports every p lt = let there = every p lt in brought_has senders p there.0 there.1 there.2
 
--- who is back among the last is back among all
+-- A sender that is back among the last is back among all.
 pub back_among : (before last : List Brought) (ports : ℕ) → AreBack ports last → AreBack ports (before ++ last)
 back_among before last ports every p lt = let there = every p lt in (there.0, Contains-append_right before last there.0 there.1, there.2)
 
--- what is whole by all is whole by the last, if no port is missing
+-- A list that is whole by all senders is whole by the last ones, if they include each port.
 pub whole_by : (before last : List Brought) (ports : ℕ) (l : List (ℕ × List ℕ)) → AreBack ports last → IsWhole ports (before ++ last) l
     → IsWhole ports last l
 whole_by before last ports l every known = record {
@@ -58,11 +58,11 @@ whole_by before last ports l every known = record {
   no_more = known.no_more;
 }
 
--- where nothing was brought, none has joined
+-- If nothing was brought, no sender has joined.
 pub none_joined : (v : View Message) → brought_back v ≡ [] → v.joined ≡ []
 none_joined v none = elim v.joined as (λ l. map brought_of l ≡ [] → l ≡ []) [ [] ↦ λ e. refl | x ∷ xs ↦ λ e. absurd (cc) ] none
 
--- the log is the whole of what the senders that are back had accepted
+-- The log is whole: it has exactly the own lists of the senders that are back.
 pub is_whole : (slots ports : ℕ) (v : View Message) (l : List (ℕ × Message)) → AreBack ports (brought_back v) → IsLog slots v l → v.made ≡ ports
     → IsWhole ports (brought_back v) (items_of l)
 is_whole slots ports v l every log made =
@@ -82,7 +82,7 @@ is_whole slots ports v l every log made =
       no_more = λ p le. sym (part_is p 0 l) ∙ ap own_of (log.no_more p (subst (λ (n : ℕ). n ≤ p) (sym made) le));
     }
 
--- the log is what was taken and what is left
+-- The log is the messages taken and the messages left.
 pub accepted_is : (slots n : ℕ) (v w : View Message) (l : List (ℕ × Message)) → IsLog slots v l → n ≡ length v.taken → w ≡ with_all v l
     → items_of l ≡ items_of w.taken ++ items_of (drop n (whole w))
 accepted_is slots n v w l log counted is = sym (
@@ -91,12 +91,12 @@ accepted_is slots n v w l log counted is = sym (
     ∙ ap (λ (z : List (ℕ × Message)). items_of (z ++ drop n l)) (log.begins ∙ ap (λ (m : ℕ). take m l) (sym counted))
     ∙ ap items_of (take-append-drop n l))
 
--- what is listed next
+-- The next message of the list.
 pub next_listed : (taken : ℕ) (v : View Message) (x : ℕ × Message) → v.all ≡ Some (whole v)
     → IfSome v.all (λ l. (taken < length l) × (get_elem? l taken ≡ some x)) → (taken < length (whole v)) × (get_elem? (whole v) taken ≡ some x)
 next_listed taken v x e = subst (λ (o : Option (List (ℕ × Message))). IfSome o (λ l. (taken < length l) × (get_elem? l taken ≡ some x))) e
 
--- the next of it was taken
+-- After the next message was taken, the list is still gathered.
 pub goes_on : (taken next total : ℕ) (v w : View Message) (x : ℕ × Message) → IsGathered taken total v → w ≡ freed_of (holding v taken x) x
     → (taken < length (whole v)) × (get_elem? (whole v) taken ≡ some x) → next ≡ taken + 1 → IsGathered next total w
 goes_on taken next total v w x old is at more =
@@ -110,7 +110,7 @@ goes_on taken next total v w x old is at more =
       few = old.few;
     }
 
--- it stood first of what was left
+-- The taken message was the first of those left.
 pub leaves : (taken next : ℕ) (v w : View Message) (x : ℕ × Message) → w ≡ freed_of (holding v taken x) x → get_elem? (whole v) taken ≡ some x
     → next ≡ taken + 1 → items_of (drop taken (whole v)) ≡ (x.0, x.1.bytes.items) ∷ items_of (drop next (whole w))
 leaves taken next v w x is at more =

@@ -1,4 +1,4 @@
--- Sums over the views, and steps on the words.
+-- Sums over the views, and arithmetic of the words.
 use Rattle.std.proofs.Common.{◌≡◌, ℕ, zero, suc, ◌+◌, ◌-◌, ◌^◌, ◌%◌, ◌<◌, ◌≤◌, List, [], ◌∷◌, ◌++◌, length, set, sym, refl, ap, ◌∙◌, subst, arith, mod-eq_of_lt}
 use mathlib.Core.Option.{some, some-injective, some-ne-none}
 use native.Mathlib.Nat.{add-mod_right}
@@ -10,7 +10,7 @@ use Rattle.subvl_queue.specs.declared.rule.Role.{Role}
 use Rattle.subvl_queue.specs.declared.rule.Role.TheVariants.{Spent}
 use Rattle.subvl_queue.specs.Queue.{total, hand_of, found_of, wait_of, budget_of, in_hand, in_room, waiting, asks_of, budget}
 
--- the total after a change of one member
+-- The total after one member changed.
 pub total_set : {A : Type 0} (f : A → ℕ) (l : List A) (j : ℕ) (v w : A) → get_elem? l j ≡ some v → total f (set l j w) + f v ≡ total f l + f w
 total_set f [] j v w e = absurd (some-ne-none v (sym e))
 total_set f (x ∷ xs) zero v w e = let is : f x ≡ f v = ap f (some-injective x v e) in omega arith
@@ -29,7 +29,8 @@ module _ {T : Type 0} where
   hands_small [] = omega arith
   hands_small (v ∷ vs) = let r = hands_small vs in let h = stage_small v.stage in omega arith
 
-  -- the sums over the views before and after one of them changes, from the stage, the asks, the made senders and the role before
+  -- The sums over the views before and after one view changes in its stage, slot requests, made
+  -- senders and role.
   pub record Sums (l l' : List (View T)) (st : Stage) (a m : ℕ) (ro : Role) (st' : Stage) (a' m' : ℕ) (ro' : Role) : Type 0 where
     pub hands : total in_hand l' + hand_of st ≡ total in_hand l + hand_of st'
     pub rooms : total in_room l' + found_of st ≡ total in_room l + found_of st'
@@ -58,7 +59,7 @@ module _ {T : Type 0} where
     budgets = total_end budget l w;
   }
 
-  -- the sum of what each member has is at most the sum of what each may have
+  -- A sum is at most the sum of the members' bounds.
   pub total_le : (f g : View T → ℕ) (l : List (View T)) → ((j : ℕ) (v : View T) → get_elem? l j ≡ some v → f v ≤ g v) → total f l ≤ total g l
   total_le f g [] h = omega arith
   total_le f g (v ∷ vs) h = let r = total_le f g vs (λ j w e. h (suc j) w e) in let m = h 0 v refl in omega arith

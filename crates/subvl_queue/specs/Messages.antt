@@ -1,16 +1,16 @@
--- Messages in a queue. Each stands with the index of its sender, as a pair of the index and the bytes.
+-- Messages in a queue. Each is a pair of its sender's index and its bytes.
 use Rattle.std.specs.Prelude.{ℕ, ◌==◌, ◌^◌, ◌<◌, ◌≤◌, length, if◌then◌else◌, List, [], ◌∷◌, All}
 
--- the most bytes of a message
+-- the greatest length of a message in bytes
 abbrev pub most_bytes : ℕ
 most_bytes = 8192
 
--- the bytes of a message
+-- these bytes may be a message
 pub record IsMessage (bytes : List ℕ) : Type 0 where
   pub some : 1 ≤ length bytes
   pub most : length bytes ≤ most_bytes
 
--- a message of one of so many senders
+-- a message of one of `ports` senders
 pub record IsItem (ports : ℕ) (item : ℕ × List ℕ) : Type 0 where
   pub port : item.0 < ports
   pub message : IsMessage item.1
@@ -18,11 +18,11 @@ pub record IsItem (ports : ℕ) (item : ℕ × List ℕ) : Type 0 where
 abbrev pub AreItems : ℕ → List (ℕ × List ℕ) → Type 0
 AreItems ports items = All (IsItem ports) items
 
--- the greatest number of calls of one sender
+-- the greatest number of slot requests of one sender
 abbrev pub most_calls : ℕ
 most_calls = 2 ^ 40
 
--- the bytes of those that are of one sender, in order
+-- the bytes of one sender's messages, in order
 abbrev pub part_of : ℕ → List (ℕ × List ℕ) → List (List ℕ)
 part_of port [] = []
 part_of port (item ∷ items) = if item.0 == port then item.1 ∷ part_of port items else part_of port items

@@ -1,7 +1,7 @@
--- The rule of the table of a queue.
--- Word 0 is the room: 2 ^ 32 and the capacity, less the held messages and the asks in hand. Word 1 is the number of accepted
--- messages and of late places, and its bit 63 says that the queue is closed. Word i + 2 is 0, or one more than the last place
--- that was made ready in the slot i.
+-- The rule of a queue's table.
+-- Word 0 is ROOM: 2 ^ 32 and the capacity, less the held messages and the slot requests under way.
+-- Word 1 is TAIL: the number of accepted messages and of late places. Its bit 63 says that the queue
+-- is closed. Word i + 2 is 0, or one more than the last place made ready in slot i.
 use Rattle.std.specs.Prelude.{◌≡◌, ℕ, suc, ◌+◌, ◌-◌, ◌*◌, ◌%◌, ◌^◌, ◌<◌, ◌≤◌, eqb, cond, Bool, true, false, List, [], ◌∷◌, length, take, slice_index_or, Option, Some, None}
 use mathlib.Core.Option.{some}
 use mathlib.Core.Option as maybe
@@ -15,7 +15,7 @@ use Rattle.subvl_queue.specs.declared.rule.Role.TheVariants.{Sender, Receiver, S
 use Rattle.subvl_queue.specs.declared.rule.Stage.{Stage}
 use Rattle.subvl_queue.specs.declared.rule.Stage.TheVariants.{Idle, Asked, Refused, Drew, Late, Holding}
 
--- the messages of the port k, each with its place, in a list whose first place is n
+-- the messages of port k, each with its place, in a list whose first place is n
 abbrev pub owned : {T : Type 0} → ℕ → ℕ → List (ℕ × T) → List (ℕ × T)
 owned k n [] = []
 owned k n (x ∷ xs) = cond (eqb x.0 k) ((n, x.1) ∷ owned k (suc n) xs) (owned k (suc n) xs)
@@ -24,32 +24,32 @@ abbrev pub total : {A : Type 0} → (A → ℕ) → List A → ℕ
 total f [] = 0
 total f (x ∷ xs) = f x + total f xs
 
--- an ask that met neither an accept nor an undo
+-- 1 for a slot request that is neither accepted nor undone
 abbrev pub hand_of : Stage → ℕ
 hand_of Asked = 1
 hand_of Refused = 1
 hand_of Late = 1
 hand_of stage = 0
 
--- an ask in hand that found room
+-- 1 for a slot request under way that found room
 abbrev pub found_of : Stage → ℕ
 found_of Asked = 1
 found_of Late = 1
 found_of stage = 0
 
--- an ask in hand that has not drawn
+-- 1 for a slot request under way that has not drawn a place
 abbrev pub wait_of : Stage → ℕ
 wait_of Asked = 1
 wait_of Refused = 1
 wait_of stage = 0
 
--- the asks that a seat may have made and may still make
+-- the slot requests that a seat has made and may still make
 abbrev pub budget_of : ℕ → ℕ → Role → ℕ
 budget_of asks made Sender = 2 ^ 40
 budget_of asks made Receiver = asks + (64 - made) * 2 ^ 40
 budget_of asks made Spent = 0
 
--- bit 63 of the tail
+-- bit 63 of TAIL
 abbrev pub shut_bit : Bool → ℕ
 shut_bit true = 2 ^ 63
 shut_bit false = 0
@@ -66,11 +66,11 @@ pub data Phase : Type 0 where
   full : Phase
   reading : ℕ → Phase
 
--- the place that a slot is at, and how far it is
+-- the place of a slot, and its phase
 abbrev pub Cell : Type 0
 Cell = ℕ × Phase
 
--- 0, or the seat that holds the cell's slot, and 1
+-- one more than the seat that holds the cell's slot, or 0 if none does
 abbrev pub holder : Phase → ℕ
 holder free = 0
 holder (writing j) = suc j
@@ -83,7 +83,7 @@ shown n p (writing j) = suc p - n
 shown n p full = suc p
 shown n p (reading j) = suc p
 
--- the receiver has the total exactly where the queue is closed
+-- the receiver knows the total exactly if the queue is closed
 abbrev pub Totals : Bool → ℕ → Option ℕ → Type 0
 Totals closed n None = closed ≡ false
 Totals closed n (Some t) = (closed ≡ true) × (t ≡ n)
@@ -120,7 +120,7 @@ module _ {T : Type 0} where
     pub late : length log ≤ c.0 + n
     pub phase : InPhase freed log homes i c.0 c.1
 
-  -- the slot that a seat has, of the place `at`, with the item that was accepted there
+  -- the slot that a seat holds, of the place `at`, with the item accepted there
   abbrev pub Has : List (ℕ × T) → Cell → Phase → ℕ → Option (ℕ × T) → Type 0
   Has log c phase at item = (c ≡ (at, phase)) × ((x : ℕ × T) × (item ≡ Some x) × (get_elem? log at ≡ some x))
 
@@ -130,7 +130,7 @@ module _ {T : Type 0} where
     Knows Holding = Has log c (reading j) at item × (at ≡ freed)
     Knows stage = Unit {0}
 
-  -- Seat 0 is the receiver's, and seat k + 1 that of the port k
+  -- seat 0 is the receiver's, seat k + 1 that of port k
   module _ (seats freed : ℕ) (log : List (ℕ × T)) (j : ℕ) (v : View T) where
     abbrev pub Fits : Role → Type 0
     Fits Sender = (j ≡ suc v.port) × (v.own ≡ owned v.port 0 log) × (v.asks ≤ 2 ^ 40)
@@ -140,11 +140,11 @@ module _ {T : Type 0} where
   abbrev pub Gone : List (View T) → ℕ → Type 0
   Gone views j = (d : View T) → get_elem? views j ≡ some d → d.role ≡ Spent
 
-  -- each joined list is that port's part of the log, and its sender is gone
+  -- each joined list is its port's part of the log, and the sender is gone
   abbrev pub Joined : List (ℕ × T) → List (View T) → List (ℕ × List (ℕ × T)) → Type 0
   Joined log views joined = (i k : ℕ) (l : List (ℕ × T)) → get_elem? joined i ≡ some (k, l) → (l ≡ owned k 0 log) × Gone views (suc k)
 
-  -- the receiver has the log itself only where all senders are gone
+  -- the receiver has the log itself only if all senders are gone
   abbrev pub Whole : List (ℕ × T) → List (View T) → Option (List (ℕ × T)) → Type 0
   Whole log views None = Unit {0}
   Whole log views (Some l) = (l ≡ log) × ((j : ℕ) → Gone views (suc j))
@@ -156,7 +156,7 @@ module _ {T : Type 0} where
   pub record Slots (words : List ℕ) (homes : List (maybe.Option (Option (ℕ × T)))) : Type 0 where
     pub log : List (ℕ × T)
     pub freed : ℕ
-    -- places that were drawn after the close
+    -- the number of places drawn after the close
     pub late : ℕ
     pub closed : Bool
     pub cells : ℕ → Cell
@@ -172,7 +172,7 @@ module _ {T : Type 0} where
     pub slots : Slots s.words s.homes
     pub open slots use *
     pub few_seats : length s.views ≤ 65
-    -- held messages and asks that found room are within the capacity
+    -- the held messages and the slot requests that found room are within the capacity
     pub within : length log + total in_room s.views ≤ freed + length s.homes
     pub room_is : slice_index_or s.words 0 0 + length log + total in_hand s.views ≡ 2 ^ 32 + length s.homes + freed
     pub counted : length log + late + total waiting s.views ≤ total asks_of s.views
@@ -181,16 +181,17 @@ module _ {T : Type 0} where
         Fits (length s.views) freed log j v v.role
     pub each_hand : (j : ℕ) (v : View T) → get_elem? s.views j ≡ some v →
         Knows freed log j (cells (v.at % length s.homes)) v.at v.item v.stage
-    -- a port with no sender has no message
+    -- a port without a sender has no message
     pub unmade : (k : ℕ) → length s.views ≤ suc k → owned k 0 log ≡ []
     pub gathered : (u : View T) → get_elem? s.views 0 ≡ some u → Collects closed log s.views u
     pub busy : (i j : ℕ) → i < length s.homes → holder (cells i).1 ≡ suc j →
         (v : View T) × (get_elem? s.views j ≡ some v) × Busy v.stage × (v.at ≡ (cells i).0)
 
--- the seat is one of the table's
+-- the seat belongs to this table
 abbrev pub IsAtTable : {T : Type 0} → TableId → Seat (Option (ℕ × T)) (View T) → Type 0
 IsAtTable z seat = seat.table_id ≡ z
 
--- the seat is the table's, in this role, between calls: no slot is held, no ask is under way
+-- the seat belongs to this table, in this role, between calls: it holds no slot, and no slot
+-- request is under way
 abbrev pub RestsAs : {T : Type 0} → TableId → Role → Seat (Option (ℕ × T)) (View T) → Type 0
 RestsAs z role seat = IsAtTable z seat × (seat.me.1 ≡ []) × (seat.me.0.role ≡ role) × (seat.me.0.stage ≡ Idle)

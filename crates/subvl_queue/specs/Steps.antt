@@ -1,4 +1,4 @@
--- What a seat knows at the start, and what each step tells its caller.
+-- The first knowledge of a seat, and the outcome of each step.
 use Rattle.std.specs.Prelude.{◌≡◌, ◌≢◌, ℕ, suc, ◌+◌, ◌%◌, ◌^◌, ◌<◌, ◌≤◌, ◌⊎◌, Bool, true, false, List, [], ◌∷◌, ◌++◌, length, take, Option, Some, None, IfSome}
 use mathlib.Core.Option.{some}
 use lib.ListN.{get_elem?}
@@ -16,7 +16,7 @@ abbrev pub Seated : Type 0 → Type 0
 Seated T = Me (Option (ℕ × T)) (View T)
 
 module _ {T : Type 0} where
-  -- a seat in this role, with this port, that did nothing yet
+  -- a seat in this role, with this port, before its first step
   abbrev pub idle_view : Role → ℕ → View T
   idle_view role port = record {
     role = role;
@@ -38,15 +38,15 @@ module _ {T : Type 0} where
     all = None;
   }
 
-  -- the first view of a table
+  -- the view of a new table's receiver
   abbrev pub first_view : View T
   first_view = idle_view Receiver 0
 
-  -- a new sender's view
+  -- the view of a new sender
   abbrev pub new_seat : ℕ → View T
   new_seat port = idle_view Sender port
 
-  -- the view of a sender that was taken in
+  -- the view of a sender that was taken back
   abbrev pub spent_view : View T
   spent_view = idle_view Spent 0
 
@@ -86,8 +86,9 @@ module _ {T : Type 0} where
   abbrev pub freed_of : View T → ℕ × T → View T
   freed_of v x = record v { stage = Idle; taken = v.taken ++ x ∷ [] }
 
-  -- The word that the ask read is 2 ^ 32 and the capacity, less the held messages and the asks in hand: `load` is how many
-  -- these were. Room was found exactly where the word was over 2 ^ 32.
+  -- A slot request reads 2 ^ 32 and the capacity, less the held messages and the slot requests
+  -- under way; `load` is the number of these. It finds room exactly if the word read is over 2 ^
+  -- 32.
   abbrev pub asks : Step (Option (ℕ × T)) → Seated T → ℕ → Seated T → Type 0
   asks st m r m' = (m'.1 ≡ m.1) × (r + m'.0.load ≡ 2 ^ 32 + st.slots)
       × (2 ^ 32 < r → m'.0 ≡ with_ask m.0 Asked m'.0.load) × (r ≤ 2 ^ 32 → m'.0 ≡ with_ask m.0 Refused m'.0.load)
@@ -95,7 +96,7 @@ module _ {T : Type 0} where
   abbrev pub gives_back : Step (Option (ℕ × T)) → Seated T → ℕ → Seated T → Type 0
   gives_back st m r m' = (m'.1 ≡ m.1) × (m'.0 ≡ idle m.0)
 
-  -- bit 63 says that the queue is closed
+  -- bit 63 of the word read says that the queue is closed
   abbrev pub draws : Option (ℕ × T) → Step (Option (ℕ × T)) → Seated T → ℕ → Seated T → Type 0
   draws said st m r m' =
       (r < 2 ^ 63 → (x : ℕ × T) × (said ≡ Some x) × (m'.0 ≡ drawn m.0 r x) × (m'.1 ≡ (r % st.slots, None) ∷ []))
@@ -104,18 +105,18 @@ module _ {T : Type 0} where
   abbrev pub readies : Step (Option (ℕ × T)) → Seated T → ℕ → Seated T → Type 0
   readies st m r m' = (m'.1 ≡ []) × (m'.0 ≡ idle m.0)
 
-  -- the message x stands at the place p, after those that were taken
+  -- the message x is at place p, the next after those taken
   pub record IsNext (v : View T) (p : ℕ) (x : ℕ × T) : Type 0 where
     pub few : p < 2 ^ 46
     pub port : x.0 < v.made
     pub below : IfSome v.total (λ t. p < t)
     pub listed : IfSome v.all (λ l. (p < length l) × (get_elem? l p ≡ some x))
 
-  -- the message x is ready at the place p, and its slot is taken
+  -- the message x is ready at place p, and its slot is taken
   abbrev pub Finds : (slots p : ℕ) → Seated T → Seated T → ℕ × T → Type 0
   Finds slots p m m' x = IsNext m.0 p x × (m' ≡ (holding m.0 p x, (p % slots, Some x) ∷ []))
 
-  -- nothing is ready at the place p
+  -- nothing is ready at place p
   abbrev pub Misses : ℕ → Seated T → Seated T → Type 0
   Misses p m m' = (m' ≡ (with_look m.0 false, [])) × IfSome m.0.all (λ l. length l ≤ p)
 
@@ -131,7 +132,8 @@ module _ {T : Type 0} where
   abbrev pub closes : Step (Option (ℕ × T)) → Seated T → ℕ → Seated T → Type 0
   closes st m r m' = (m'.1 ≡ m.1) × (r < 2 ^ 63) × (length m.0.taken ≤ r) × (m'.0 ≡ with_total m.0 r)
 
-  -- the list is that of all accepted messages, of which a receiver knows this, once every sender has joined
+  -- once every sender has joined, l is the list of all accepted messages, in agreement with the
+  -- receiver's view
   pub record IsLog (slots : ℕ) (v : View T) (l : List (ℕ × T)) : Type 0 where
     pub begins : v.taken ≡ take (length v.taken) l
     pub behind : length v.taken ≤ length l
@@ -141,16 +143,16 @@ module _ {T : Type 0} where
     pub no_more : (k : ℕ) → v.made ≤ k → owned k 0 l ≡ []
     pub total_is : (t : ℕ) → v.total ≡ Some t → t ≡ length l
 
-  -- the log; where the queue was not closed, the word is its length
+  -- the receiver gets the log; if the queue was open, the word read is its length
   abbrev pub gathers : Step (Option (ℕ × T)) → Seated T → ℕ → Seated T → Type 0
   gathers st m r m' = (m'.1 ≡ m.1)
       × ((l : List (ℕ × T)) × (m'.0 ≡ with_all m.0 l) × IsLog st.slots m.0 l × (m.0.total ≡ None → r ≡ length l))
 
-  -- what a send leaves up to its place
+  -- the view after a slot request that found room
   abbrev pub asked_with_room : View T → ℕ → View T
   asked_with_room v load = with_ask (with_glance v false) Asked load
 
-  -- Why no place was drawn, and what that leaves of the view.
+  -- the reason that no place was drawn, and the view afterwards
   abbrev pub RefusedBy : (calls capacity : ℕ) → View T → View T → Why → Type 0
   RefusedBy calls capacity v w Closed = (w ≡ with_glance v true)
       ⊎ ((v.asks < calls) × (w.load < capacity) × (w ≡ idle (lated (asked_with_room v w.load))))

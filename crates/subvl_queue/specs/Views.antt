@@ -1,17 +1,19 @@
--- What contracts see of the ends of a queue. A message stands with its sender's index, as a pair of the index and the bytes.
+-- The ends of a queue as contracts see them. A message is a pair of its sender's index and its
+-- bytes.
 use Rattle.std.specs.Prelude.{◌≡◌, ℕ, ◌+◌, ◌<◌, ◌≤◌, Bool, true, false, ◌⊎◌, List, [], ◌∷◌, ◌++◌, length, map, get_or, slice_index_or, Contains, Option, Some, None}
 use Rattle.atomic_table.specs.Seated.{TableId}
 use Rattle.subvl_queue.specs.declared.refused.Why.{Why}
 use Rattle.subvl_queue.specs.declared.refused.Why.TheVariants.{Closed, Exhausted, Full}
 use Rattle.subvl_queue.specs.Messages.{IsMessage, part_of}
 
--- which queue an end belongs to; callers only compare names
+-- the identity of a queue; callers only compare it
 abbrev pub QueueName : Type 0
 QueueName = TableId
 
--- A sender: how often it asked, of `calls`, and how many messages the queue held and asks were in hand when it last did;
--- how often it glanced, and whether it last found the queue closed; its own messages that were accepted, in order, and their
--- places among all that were.
+-- A sender. `asks` is the number of its slot requests, at most `calls`; `load` is the number of
+-- held messages and slot requests under way that the last one found. `glances` is how often it
+-- checked whether the queue is closed, and `shut` what it found last. `own` has its accepted
+-- messages in order, and `places` their places among all accepted messages.
 pub record SenderView : Type 0 where
   pub queue : QueueName
   pub capacity : ℕ
@@ -24,14 +26,17 @@ pub record SenderView : Type 0 where
   pub own : List (List ℕ)
   pub places : List ℕ
 
--- what a sender brings back: its index, its own messages that were accepted, and their places among all that were
+-- what a sender brings back: its index, its own accepted messages, and their places among all
+-- accepted messages
 pub record Brought : Type 0 where
   pub port : ℕ
   pub own : List (List ℕ)
   pub places : List ℕ
 
--- A receiver: how many senders its queue has; how often it looked, and whether the last look found a message; what it took,
--- in order; the total of its close; what the senders brought that it has taken back.
+-- A receiver. `ports` is the number of its queue's senders; `looks` is how often it polled the
+-- queue, and `found` whether the last poll found a message. `taken` has the messages taken, in
+-- order, `total` the number of accepted messages once the queue is closed, and `back` what the
+-- senders brought that were taken back.
 pub record ReceiverView : Type 0 where
   pub queue : QueueName
   pub capacity : ℕ
@@ -42,13 +47,13 @@ pub record ReceiverView : Type 0 where
   pub total : Option ℕ
   pub back : List Brought
 
--- all ends in one hand: what was taken, and what was accepted and not taken yet
+-- all ends together: the messages taken, and those accepted and not taken yet
 pub record GatheredView : Type 0 where
   pub ports : ℕ
   pub taken : List (ℕ × List ℕ)
   pub left : List (ℕ × List ℕ)
 
--- a sender that did not ask yet
+-- a sender before its first slot request
 abbrev pub new_sender : (queue : QueueName) (capacity calls port : ℕ) → SenderView
 new_sender queue capacity calls port = record {
   queue = queue;
@@ -63,7 +68,7 @@ new_sender queue capacity calls port = record {
   places = [];
 }
 
--- a receiver that did not look yet
+-- a receiver before its first poll
 abbrev pub new_receiver : (queue : QueueName) (capacity ports : ℕ) → ReceiverView
 new_receiver queue capacity ports = record {
   queue = queue;
@@ -76,15 +81,15 @@ new_receiver queue capacity ports = record {
   back = [];
 }
 
--- after a glance, which found the queue closed or not
+-- after a check whether the queue is closed
 abbrev pub glanced : SenderView → Bool → SenderView
 glanced s shut = record s { glances = s.glances + 1; shut = shut }
 
--- after an ask, which found so many messages held and asks in hand
+-- after a slot request that found this load
 abbrev pub asked : SenderView → ℕ → SenderView
 asked s load = record s { asks = s.asks + 1; load = load }
 
--- after an ask that found this load, and a message that was accepted at this place
+-- after a message was accepted at this place, by a slot request that found this load
 abbrev pub sent : SenderView → (load place : ℕ) → List ℕ → SenderView
 sent s load place bytes = record s {
   asks = s.asks + 1;
@@ -95,23 +100,24 @@ sent s load place bytes = record s {
   places = s.places ++ place ∷ [];
 }
 
--- The message was accepted, at the place that was drawn for it. The call's own ask found the queue below its capacity.
+-- The message was accepted at the place drawn for it. The call's own slot request found the queue
+-- below its capacity.
 abbrev pub IsPlaced : SenderView → List ℕ → SenderView → Type 0
 IsPlaced s bytes t = (s.asks < s.calls) × (t.load < s.capacity) × ((place : ℕ) × (t ≡ sent s t.load place bytes))
 
--- Why a message was refused, and what that leaves of the sender. The queue is closed where the glance found it closed, or where
--- the place that was drawn came too late. It is full where the call's own ask found as many messages held and asks in hand as
--- its capacity.
+-- The reason that a message was refused, and the sender afterwards. Closed: the check found the
+-- queue closed, or the place was drawn after the close. Full: the call's own slot request found at
+-- least as many held messages and slot requests under way as the capacity.
 abbrev pub IsRefused : SenderView → Why → SenderView → Type 0
 IsRefused s Closed t = (t ≡ glanced s true) ⊎ ((s.asks < s.calls) × (t.load < s.capacity) × (t ≡ asked (glanced s true) t.load))
 IsRefused s Exhausted t = (s.asks ≡ s.calls) × (t ≡ glanced s false)
 IsRefused s Full t = (s.asks < s.calls) × (s.capacity ≤ t.load) × (t ≡ asked (glanced s false) t.load)
 
--- after a look that gave a message
+-- after a poll that took a message
 abbrev pub after_take : ReceiverView → ℕ × List ℕ → ReceiverView
 after_take r item = record r { looks = r.looks + 1; found = true; taken = r.taken ++ item ∷ [] }
 
--- after a look that found nothing ready
+-- after a poll that found nothing ready
 abbrev pub looked : ReceiverView → ReceiverView
 looked r = record r { looks = r.looks + 1; found = false }
 
@@ -119,15 +125,15 @@ looked r = record r { looks = r.looks + 1; found = false }
 abbrev pub closed : ReceiverView → ℕ → ReceiverView
 closed r total = record r { total = Some total }
 
--- all messages that were accepted, in the order in which they are taken
+-- all accepted messages, in the order in which they are taken
 abbrev pub accepted_of : GatheredView → List (ℕ × List ℕ)
 accepted_of g = g.taken ++ g.left
 
--- what a sender brings
+-- what a sender brings back
 abbrev pub brought_by : SenderView → Brought
 brought_by s = record { port = s.port; own = s.own; places = s.places }
 
--- what each of these senders brings
+-- what each of these senders brings back
 abbrev pub brought_by_all : List SenderView → List Brought
 brought_by_all = map brought_by
 
@@ -139,15 +145,15 @@ one_more r = record r { ports = r.ports + 1 }
 abbrev pub taken_back : ReceiverView → SenderView → ReceiverView
 taken_back r s = record r { back = r.back ++ brought_by s ∷ [] }
 
--- a sender of this port is in the list
+-- the list has a sender of this port
 abbrev pub HasPort : List SenderView → ℕ → Type 0
 HasPort senders p = (k : ℕ) × (k < length senders) × ((d : SenderView) → (slice_index_or senders k d).port ≡ p)
 
--- each sender of the queue is in the list
+-- the list has each sender of the queue
 abbrev pub HasEvery : ℕ → List SenderView → Type 0
 HasEvery ports senders = (p : ℕ) → p < ports → HasPort senders p
 
--- some sender of the queue is not in the list
+-- the list lacks a sender of the queue
 abbrev pub LacksOne : ℕ → List SenderView → Type 0
 LacksOne ports senders = (p : ℕ) × (p < ports) × (HasPort senders p → ⊥)
 
@@ -155,7 +161,7 @@ LacksOne ports senders = (p : ℕ) × (p < ports) × (HasPort senders p → ⊥)
 abbrev pub AreOf : QueueName → List SenderView → Type 0
 AreOf queue senders = (k : ℕ) (d : SenderView) → k < length senders → (slice_index_or senders k d).queue ≡ queue
 
--- The messages of a sender stand in a list at these places, which rise.
+-- the messages of a sender are in the list at these places, which rise
 pub record StandAt (list : List (ℕ × List ℕ)) (port : ℕ) (own : List (List ℕ)) (places : List ℕ) : Type 0 where
   pub count : length places ≡ length own
   pub within : (i : ℕ) → i < length own → get_or places i 0 < length list
@@ -170,15 +176,15 @@ IsBack back p = (b : Brought) × Contains back b × (b.port ≡ p)
 abbrev pub AreBack : ℕ → List Brought → Type 0
 AreBack ports back = (p : ℕ) → p < ports → IsBack back p
 
--- The accepted messages: the part of each sender that is back is its own list, at its places, and there is nothing else
--- among them.
+-- The accepted messages are exactly those of the senders that are back: each sender's part is its
+-- own list, at its places.
 pub record IsWhole (ports : ℕ) (back : List Brought) (accepted : List (ℕ × List ℕ)) : Type 0 where
   pub every : AreBack ports back
   pub parts : (b : Brought) → Contains back b → part_of b.port accepted ≡ b.own
   pub places : (b : Brought) → Contains back b → StandAt accepted b.port b.own b.places
   pub no_more : (p : ℕ) → ports ≤ p → part_of p accepted ≡ []
 
--- whether nothing is left; what is left begins with a message
+-- whether no message is left; if one is, the list begins with a message
 abbrev pub TellsLeft : Bool → List (ℕ × List ℕ) → Type 0
 TellsLeft true left = left ≡ []
 TellsLeft false [] = ⊥

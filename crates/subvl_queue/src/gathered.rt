@@ -1,4 +1,4 @@
-//! All ends of a queue in one hand.
+//! All ends of a queue together.
 ghost use Rattle.std.specs.Prelude.{◌≡◌, ◌^◌, ◌<◌, ◌≤◌, [], ◌∷◌, ◌++◌, take, drop, length, Some, IfSome, IfNone};
 ghost use Rattle.subvl_queue.specs.declared.rule.Role.TheVariants.{Receiver as AsReceiver};
 ghost use Rattle.subvl_queue.specs.Messages.{IsMessage};
@@ -12,8 +12,8 @@ use crate::ring::{Knowing, Ring};
 use std::marker::Model;
 use std::sync::Arc;
 
-/// All ends of a queue, so that its accepted messages are known whole. Contracts see how many
-/// senders the queue has, what was taken, and what was accepted and not taken yet.
+/// All ends of a queue together, so that its accepted messages are known whole. Contracts see the
+/// number of the queue's senders, the messages taken, and those accepted and not taken yet.
 #[derive(Drop)]
 pub struct Gathered {
     pub(crate) ring: Arc<Ring>,
@@ -42,7 +42,7 @@ impl Model for Gathered {
 }
 
 impl Gathered {
-    /// Takes the next accepted message, and none exactly where all were taken.
+    /// Takes the next accepted message, or returns `None` exactly if all were taken.
     #[inline(always)]
     pub fn take(&mut self) -> Option<Item>
         ensures none { IfNone result (self.old.left ≡ []) }

@@ -1,11 +1,11 @@
-//! The ends of a queue come together.
+//! Brings the ends of a queue together.
 ghost use Rattle.std.specs.Prelude.{◌≡◌, ◌++◌, MatchBool};
 ghost use Rattle.subvl_queue.specs.Views.{HasPort, HasEvery, LacksOne, AreOf, brought_by_all};
 
 use crate::receiver::Receiver;
 use crate::sender::Sender;
 
-// Whether a sender of the port is there.
+// Whether the list has a sender of the port.
 fn has_port(senders: &[Sender], port: usize) -> bool
     ensures { MatchBool result (HasPort senders.now port) (HasPort senders.now port → ⊥) }
 {
@@ -17,7 +17,7 @@ fn has_port(senders: &[Sender], port: usize) -> bool
     false
 }
 
-/// Whether a sender of each port is there.
+/// Whether the list has a sender of each port.
 pub fn has_every(senders: &[Sender], ports: usize) -> bool
     ensures { MatchBool result (HasEvery ports senders.now) (LacksOne ports senders.now) }
 {
@@ -29,7 +29,7 @@ pub fn has_every(senders: &[Sender], ports: usize) -> bool
     true
 }
 
-/// The receiver takes each sender back.
+/// Takes each sender back.
 pub fn take_all_back(receiver: &mut Receiver, senders: Vec<Sender>)
     requires { AreOf receiver.old.queue senders.items }
     ensures { receiver.new ≡ record receiver.old {

@@ -1,4 +1,4 @@
-//! What goes through a queue.
+//! The messages of a queue.
 ghost use Rattle.subvl_queue.specs.Messages.{IsMessage};
 
 use std::marker::Model;
@@ -18,7 +18,7 @@ impl Model for Item {
     ghost view = { λ i. (i.port, i.bytes.items) };
 }
 
-/// The bytes of a message, as a slot holds them.
+/// The bytes of a message, in its slot.
 #[derive(Drop)]
 pub struct Message {
     pub bytes: Vec<u8>,

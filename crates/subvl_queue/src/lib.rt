@@ -1,5 +1,5 @@
-//! The queue of one sub-VL: senders that may go to threads of their own, and one receiver. It has no
-//! lock, and no call on it waits.
+//! The queue of one sub-VL: senders, each of which may be on a thread of its own, and one receiver.
+//! It has no lock, and no call waits.
 #![tactic(auto)]
 
 mod gathered;

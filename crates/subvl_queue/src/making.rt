@@ -1,4 +1,4 @@
-//! A queue is made.
+//! Makes a queue.
 ghost use Rattle.std.specs.Prelude.{◌≡◌, ℕ, ◌^◌, ◌<◌, ◌≤◌, [], length, IfOk, slice_index_or};
 ghost use Rattle.subvl_queue.specs.Queue.{IsAtTable};
 ghost use Rattle.subvl_queue.specs.Steps.{first_view};
@@ -12,9 +12,8 @@ use std::alloc::{AllocError, Global};
 use std::sync::Arc;
 
 /// A queue for `capacity` messages, 1 to 256: its receiver, and `ports` senders with the indexes 0,
-/// 1 and so on, in order. Each sender may ask `calls` times, 1 to 2^40. Nothing was asked or
-/// accepted yet. All memory that the queue ever needs besides its messages is asked for here; where
-/// some is refused, what was had is given back.
+/// 1 and so on, in order. Each sender may request `calls` slots, 1 to 2^40. Allocates all memory
+/// that the queue ever needs besides its messages; if an allocation fails, frees what it had.
 pub fn make(
     alloc: Global,
     capacity: usize,
@@ -39,8 +38,8 @@ pub fn make(
     Ok((receiver, senders))
 }
 
-/// A queue for `capacity` messages, 1 to 256, that has no sender yet. All memory that it ever needs
-/// besides its messages is asked for here; where some is refused, what was had is given back.
+/// A queue for `capacity` messages, 1 to 256, without a sender. Allocates all memory that the queue
+/// ever needs besides its messages; if an allocation fails, frees what it had.
 pub fn open_queue(alloc: Global, capacity: usize) -> Result<Receiver, AllocError>
     requires some { 1 ≤ capacity }
     requires capacity { capacity ≤ 256 }
@@ -56,7 +55,7 @@ pub fn open_queue(alloc: Global, capacity: usize) -> Result<Receiver, AllocError
     })
 }
 
-// The table of a queue that is empty.
+// The table of an empty queue.
 fn empty_ring(alloc: Global, capacity: usize) -> Result<(Arc<Ring>, Knowing), AllocError>
     requires some { 1 ≤ capacity }
     requires capacity { capacity ≤ 256 }

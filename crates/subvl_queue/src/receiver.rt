@@ -37,9 +37,9 @@ pub fn fetch(ring: &Ring, seat: &mut Knowing, taken: &mut u64) -> Option<Parcel>
     Some(parcel)
 }
 
-/// The receiver of a queue. Contracts see its queue and the queue's capacity, how many senders the
-/// queue has, how often it looked, what it last found and what it took, the total of its close, and
-/// what the senders brought that it has taken back.
+/// The receiver of a queue. Contracts see its queue with its capacity, the number of senders, how
+/// often it polled the queue, what the last poll found, the messages taken, the total of its close,
+/// and what the senders brought that were taken back.
 #[derive(Drop)]
 pub struct Receiver {
     pub(crate) ring: Arc<Ring>,
@@ -76,9 +76,9 @@ impl Model for Receiver {
 }
 
 impl Receiver {
-    /// One more sender, with the next index. A queue has at most 64, and gives no more once one was
-    /// taken back. It may ask `calls` times, at most 2^40. Where memory is refused nothing has
-    /// changed.
+    /// Makes one more sender, with the next index, for at most `calls` slot requests, up to 2^40. A
+    /// queue has at most 64 senders, and makes none once one was taken back. If an allocation
+    /// fails, nothing changes.
     pub fn new_sender(&mut self, calls: u64) -> Result<Sender, AllocError>
         requires few { self.old.ports < 64 }
         requires none_back { self.old.back ≡ [] }
@@ -102,7 +102,7 @@ impl Receiver {
         })
     }
 
-    /// Takes the message of the next place, where it is ready. Either way it has looked once more.
+    /// Takes the message of the next place, if it is ready. Counts as a poll either way.
     #[inline(always)]
     pub fn take(&mut self) -> Option<Item>
         ensures none { IfNone result (self.new ≡ looked self.old) }
@@ -119,8 +119,8 @@ impl Receiver {
         })
     }
 
-    /// Closes the queue, and says how many messages were accepted. No message is accepted from then
-    /// on, and each later close says the same.
+    /// Closes the queue, and returns the number of accepted messages. No message is accepted from
+    /// then on, and each later close returns the same.
     pub fn close(&mut self) -> u64
         ensures first { self.old.total ≡ None → self.new ≡ closed self.old result }
         ensures behind { length self.old.taken ≤ result }
@@ -135,7 +135,7 @@ impl Receiver {
         total
     }
 
-    /// Takes a sender of the queue back, with what it had accepted.
+    /// Takes back a sender of the queue, with its accepted messages.
     pub fn take_back(&mut self, sender: Sender)
         requires { sender.queue ≡ self.old.queue }
         ensures { self.new ≡ taken_back self.old sender }
@@ -143,8 +143,8 @@ impl Receiver {
         self.ring.take_in(&mut self.seat, sender.seat);
     }
 
-    /// All ends of the queue together, once each sender is back. From then on the accepted messages
-    /// are known whole.
+    /// Brings all ends of the queue together, once each sender is back. From then on the accepted
+    /// messages are known whole.
     pub fn into_gathered(self) -> Gathered
         requires every { AreBack self.ports self.back }
         ensures taken { result.taken ≡ self.taken }
@@ -175,8 +175,8 @@ impl Receiver {
         }
     }
 
-    /// Takes all ends of the queue together, in any order of the senders, or hands both back as
-    /// they were where a sender is missing. From then on the accepted messages are known whole.
+    /// Brings all ends of the queue together, with the senders in any order. From then on the
+    /// accepted messages are known whole. If a sender is missing, returns both unchanged.
     pub fn gather(self, senders: Vec<Sender>) -> Result<Gathered, (Receiver, Vec<Sender>)>
         requires together { AreOf self.queue senders.items }
         ensures taken { IfOk result (λ g. g.taken ≡ self.taken) }

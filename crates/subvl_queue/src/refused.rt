@@ -1,21 +1,22 @@
-//! Why a queue did not take a message.
+//! Reasons that a queue refuses a message.
 use thiserror::Error;
 
-/// Why a queue did not take a message, the first of Closed, Exhausted and Full that was found.
+/// Why a queue refused a message: the first of Closed, Exhausted and Full that was found.
 #[derive(Clone, Copy, Debug, PartialEq, Eq, Error)]
 pub enum Why {
-    /// The queue is closed. The sender has asked once more where it was closed after its glance.
+    /// The queue is closed. If it was closed after the sender's first check, a slot request was
+    /// used.
     #[error("Closed")]
     Closed = 1,
-    /// The queue was open, and the sender has asked as often as it may.
+    /// The queue was open, and the sender has used all its slot requests.
     #[error("Exhausted")]
     Exhausted = 2,
-    /// The queue was open, and had no room. The sender has asked once more.
+    /// The queue was open, and had no room. A slot request was used.
     #[error("Full")]
     Full = 3,
 }
 
-/// A message that was refused, and why. The accepted messages are as they were.
+/// A refused message, and why. The accepted messages are unchanged.
 #[derive(Debug, Drop)]
 pub struct Refused {
     pub why: Why,

@@ -14,19 +14,19 @@ use crate::rule::{
 use atomic_table::{Seat, Table};
 use std::alloc::Global;
 
-/// The word of the room.
+/// The index of the word of the room.
 pub const ROOM: usize = 0;
 
-/// The word of the places that were drawn.
+/// The index of the word of drawn places.
 pub const TAIL: usize = 1;
 
-/// The first of the words that say which places are ready.
+/// The index of the first word that says which place is ready in a slot.
 pub const READY: usize = 2;
 
-/// There is room where the room's word is over this.
+/// There is room if the room's word is over this.
 pub const NO_ROOM: u64 = 1 << 32;
 
-/// The bit of the tail that says that the queue is closed.
+/// The bit of TAIL that says that the queue is closed.
 pub const CLOSED: u64 = 1 << 63;
 
 /// A message and the index of its sender.
@@ -47,8 +47,8 @@ pub struct Ring {
 }
 
 impl Ring {
-    /// Asks for room, and says whether there was some: fewer messages held and asks in hand than the
-    /// capacity.
+    /// Requests a slot, and returns whether there was room: fewer held messages and slot requests
+    /// under way than the capacity.
     pub fn ask(&self, seat: &mut Knowing) -> bool
         requires seat { RestsAs self.now.table.shared.table_id Sender seat.old }
         requires asks { seat.old.me.0.asks < 2 ^ 40 }
@@ -61,7 +61,7 @@ impl Ring {
         self.table.shared.fetch_sub::<Ask>(seat, ROOM, 1) > NO_ROOM
     }
 
-    /// Gives back an ask that found no room, or that came too late.
+    /// Gives back a slot request that found no room, or whose place was late.
     pub fn give_back(&self, seat: &mut Knowing)
         requires seat { IsAtTable self.now.table.shared.table_id seat.old × (seat.old.me.1 ≡ []) }
         requires role { seat.old.me.0.role ≡ Sender }
@@ -72,8 +72,8 @@ impl Ring {
         self.table.shared.fetch_add::<GiveBack>(seat, ROOM, 1);
     }
 
-    /// Draws a place for the parcel. It is accepted there, and its slot is taken, unless the queue is
-    /// closed.
+    /// Draws a place for the parcel, which is accepted there unless the queue is closed. Its slot
+    /// is then the seat's.
     pub fn draw<W: Said<Parcel>>(&self, seat: &mut Knowing, parcel: &Parcel) -> u64
         requires said { (W.item ≡ Some parcel.now) × (parcel.now.0 ≡ seat.old.me.0.port) }
         requires seat { IsAtTable self.now.table.shared.table_id seat.old × (seat.old.me.1 ≡ []) }
@@ -92,7 +92,7 @@ impl Ring {
         (place % self.capacity as u64) as usize
     }
 
-    /// Puts the parcel into the slot of the place that was drawn for it, and makes it ready.
+    /// Puts the parcel into the slot of its place, and makes it ready.
     pub fn ready(&self, seat: &mut Knowing, place: u64, parcel: Parcel)
         requires seat { IsAtTable self.now.table.shared.table_id seat.old × (place < 2 ^ 63) }
         requires slot { seat.old.me.1 ≡ (place % self.now.capacity, None) ∷ [] }
@@ -111,7 +111,7 @@ impl Ring {
             .store::<Ready>(seat, READY + slot, place + 1);
     }
 
-    /// Looks whether the place after those that were taken is ready. Then its slot is taken.
+    /// Whether the place after those taken is ready. If so, its slot is then the seat's.
     pub fn look(&self, seat: &mut Knowing, place: u64) -> bool
         requires seat { RestsAs self.now.table.shared.table_id Receiver seat.old }
         requires place { (place ≡ length seat.old.me.0.taken) × (place < 2 ^ 63) }
@@ -140,7 +140,7 @@ impl Ring {
         parcel
     }
 
-    /// Glances whether the queue is closed.
+    /// Whether the queue is closed.
     pub fn glance(&self, seat: &mut Knowing) -> bool
         requires { RestsAs self.now.table.shared.table_id Sender seat.old }
         ensures seat { IsAtTable self.now.table.shared.table_id seat.new }
@@ -149,7 +149,7 @@ impl Ring {
         self.table.shared.load::<Glance>(seat, TAIL) >= CLOSED
     }
 
-    /// Closes the queue, and says how many messages were accepted.
+    /// Closes the queue, and returns the number of accepted messages.
     pub fn close(&self, seat: &mut Knowing) -> u64
         requires seat { RestsAs self.now.table.shared.table_id Receiver seat.old }
         requires open { seat.old.me.0.total ≡ None }
@@ -160,8 +160,8 @@ impl Ring {
         self.table.shared.fetch_or::<Close>(seat, TAIL, CLOSED)
     }
 
-    /// All that was accepted, once each sender has joined. Where the queue was not closed, the result
-    /// is how many they are.
+    /// All accepted messages, once each sender has joined. If the queue is open, returns their
+    /// number.
     pub fn gather(&self, seat: &mut Knowing) -> u64
         requires seat { RestsAs self.now.table.shared.table_id Receiver seat.old }
         requires every { (k : ℕ) → k < seat.old.me.0.made →
@@ -186,7 +186,7 @@ impl Ring {
         self.table.shared.split_seat::<Make>(seat)
     }
 
-    /// Takes in a sender's seat, and what it knows.
+    /// Takes in a sender's seat, with what it knows.
     pub fn take_in(&self, seat: &mut Knowing, other: Knowing)
         requires seat { RestsAs self.now.table.shared.table_id Receiver seat.old }
         requires all { seat.old.me.0.all ≡ None }

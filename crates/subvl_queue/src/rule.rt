@@ -1,4 +1,5 @@
-//! The rule, what a seat at the table knows, and what each step tells. No value of these types is made.
+//! The rule, what a seat at the table knows, and the outcome of each step. No value of these types
+//! is made.
 ghost use Rattle.std.specs.Prelude.{Option, None, length};
 ghost use Rattle.subvl_queue.specs.Queue.{Queue};
 ghost use Rattle.subvl_queue.specs.Steps.{first_view, new_seat, spent_view, asks, gives_back, draws, readies, looks, frees, glances_at, closes, gathers, one_made, with_joined};
@@ -22,8 +23,9 @@ pub enum Stage {
     Holding,
 }
 
-// `own` has each accepted message with its place; `load` is how many messages were held and asks in
-// hand when the seat last asked; `at` and `item` are of the slot in hand.
+// `own` has each accepted message with its place. `load` is the number of held messages and slot
+// requests under way at the seat's last slot request. `at` and `item` are of the slot that it
+// holds.
 pub struct View<T> {
     pub role: Role,
     pub port: u64,

@@ -13,7 +13,7 @@ use crate::ring::{CLOSED, Knowing, Parcel, Ring};
 use std::marker::{Brand, Model};
 use std::sync::Arc;
 
-// The steps of one send up to its place: a glance at the close, an ask for room, and a place.
+// The steps of a send up to its place: check for a close, request a slot, draw a place.
 #[inline(always)]
 fn draw_place(
     ring: &Ring,
@@ -54,9 +54,9 @@ fn draw_place(
     Ok(place)
 }
 
-/// A sender of a queue, which may go to a thread of its own. Contracts see its queue and the queue's
-/// capacity, its index, how often it asked and may ask, what it last found, and its own messages
-/// that were accepted, with their places.
+/// A sender of a queue, which may be moved to a thread of its own. Contracts see its queue with its
+/// capacity, its index, its slot requests and their limit, what it found last, and its own accepted
+/// messages with their places.
 #[derive(Drop)]
 pub struct Sender {
     pub(crate) ring: Arc<Ring>,
@@ -95,8 +95,8 @@ impl Model for Sender {
 }
 
 impl Sender {
-    /// Accepts a message of 1 to 8,192 bytes at the next place of the queue, or hands it back. A
-    /// message that is refused isn't accepted, and `Why` says what it leaves.
+    /// Accepts a message of 1 to 8,192 bytes at the next place of the queue, or returns it with the
+    /// reason. A refused message isn't accepted.
     #[inline(always)]
     pub fn send(&mut self, bytes: Vec<u8>) -> Result<(), Refused>
         requires some { 1 ≤ length bytes.items }
@@ -108,8 +108,8 @@ impl Sender {
         self.send_with(bytes, || {})
     }
 
-    /// As `send`. Where the message is accepted, `pause` runs before it is ready to be taken. Where
-    /// it is refused, `pause` doesn't run.
+    /// As `send`. If the message is accepted, `pause` runs before the message is ready to be taken;
+    /// if it is refused, `pause` doesn't run.
     #[inline(always)]
     pub fn send_with<F: FnOnce()>(&mut self, bytes: Vec<u8>, pause: F) -> Result<(), Refused>
     where
@@ -143,7 +143,7 @@ impl Sender {
         }
     }
 
-    /// Its index among the senders of its queue.
+    /// Its index among the queue's senders.
     pub fn index(&self) -> usize
         ensures index { result ≡ self.now.port }
         ensures small { result < 256 }
@@ -151,7 +151,7 @@ impl Sender {
         usize::from(self.port)
     }
 
-    /// How many of its messages were accepted.
+    /// The number of its accepted messages.
     pub fn accepted(&self) -> u64
         ensures { result ≡ length self.now.own }
     {

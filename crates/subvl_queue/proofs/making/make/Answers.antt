@@ -3,7 +3,7 @@ use Rattle.std.proofs.lemmas.List.{get_or_append_left, get_or_push}
 use Rattle.subvl_queue.specs.Views.{new_sender, one_more}
 use Rattle.subvl_queue.proofs.making.make.Goals as goal
 
--- one more row of a table
+-- One more row of a table.
 next_row : {A : Type 0} (xs : List A) (y d : A) (f : ℕ → A) (n : ℕ) → length xs ≡ n → y ≡ f n → ((k : ℕ) → k < n → get_or xs k d ≡ f k)
     → (k : ℕ) → k < n + 1 → get_or (xs ++ y ∷ []) k d ≡ f k
 next_row xs y d f n e is h =
