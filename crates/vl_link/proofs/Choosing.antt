@@ -1,15 +1,15 @@
--- Sub-VLs asked in turn.
+-- Sub-VLs polled in the order of turns.
 use Rattle.vl_link.proofs.Names.{ℕ, zero, suc, ◌≡◌, ◌≢◌, ◌⊎◌, ◌+◌, ◌<◌, ◌≤◌, List, Bool, true, false, length, set}
 use Rattle.vl_link.proofs.Names.{get_or, below_more, arith, ◌∙◌, sym, subst, inl, inr, ⊎_elim, length-set}
 use Rattle.vl_link.proofs.Names.{get_or-set_same, get_or-set_other, get_or_default, cases_eq, Pace, turn_of, Held}
 use Rattle.vl_link.proofs.Names.{held_at, nothing_held, Asks, Passes, PassedOver}
 use Rattle.std.proofs.lemmas.Grind.{get_or-set_at}
 
--- the sub-VL that was set
+-- The sub-VL that was set.
 pub held_same : (subs : List Held) (s : ℕ) (h : Held) → s < length subs → held_at (set subs s h) s ≡ h
 held_same subs s h lt = get_or-set_same subs s h nothing_held lt
 
--- a fact of each element of a list, where one was set
+-- A property of each element of a list of which one was set.
 pub each_set : {X : Type 0} (P : ℕ → X → Type 0) (xs : List X) (i : ℕ) (new d : X) → i < length xs → P i new
     → ((k : ℕ) → k ≢ i → P k (get_or xs k d)) → (k : ℕ) → P k (get_or (set xs i new) k d)
 each_set P xs i new d lt here others k = ⊎_elim
@@ -17,7 +17,7 @@ each_set P xs i new d lt here others k = ⊎_elim
     (λ (ne : k ≢ i). rw (get_or-set_other xs i k new d ne) (others k ne))
     (cases_eq k i)
 
--- whether a number is among the first k values
+-- A number is among the first k values or isn't.
 pub met : (f : ℕ → ℕ) (k s : ℕ) → ((j : ℕ) × (j < k) × (f j ≡ s)) ⊎ ((j : ℕ) → j < k → f j ≡ s → ⊥)
 met f zero s = inr (λ j lt e. absurd (omega arith))
 met f (suc k) s = ⊎_elim
@@ -26,7 +26,7 @@ met f (suc k) s = ⊎_elim
     (λ ne. inr (λ j lt. below_more (λ i. f i ≡ s → ⊥) k h ne j (omega arith))) (cases_eq (f k) s))
     (met f k s)
 
--- the next one in turn was asked
+-- the next sub-VL in the order of turns is polled
 pub record AskedNext (pace : Pace) (old new : List Held) (k sub : ℕ) (has : Bool) : Type 0 where
   pub count : length new ≡ length old
   pub here : Asks has (held_at old sub) (held_at new sub)
@@ -50,7 +50,7 @@ asked_next pace old new k sub d h has p is only kl lt a =
           ∙ p.others s (λ j jl. not j (omega arith));
     }
 
--- it had nothing
+-- If it had nothing, it is passed over too.
 pub passed_next : (pace : Pace) (old new : List Held) (k sub : ℕ) → AskedNext pace old new k sub false
     → sub ≡ turn_of pace.sub_vls pace.last k → PassedOver pace old new (k + 1)
 passed_next pace old new k sub asked is = record {
@@ -61,11 +61,11 @@ passed_next pace old new k sub asked is = record {
   others = λ s not. asked.others s (λ j jl. not j (omega arith));
 }
 
--- a sub-VL was asked, or is as it was
+-- a sub-VL was polled, or is unchanged
 abbrev pub Moves : Held → Held → Type 0
 Moves old new = Asks false old new ⊎ (Asks true old new ⊎ (new ≡ old))
 
--- what happened to each sub-VL where all were passed over
+-- After all were passed over, each sub-VL was polled or is unchanged.
 pub moves_passed : (pace : Pace) (old new : List Held) (n : ℕ) → PassedOver pace old new n → (s : ℕ)
     → Moves (held_at old s) (held_at new s)
 moves_passed pace old new n p s = ⊎_elim

@@ -1,4 +1,4 @@
--- A chosen sub-VL that became another.
+-- The chosen sub-VL after it gave a frame.
 use Rattle.vl_link.proofs.Names.{ℕ, ◌≡◌, ◌≢◌, ◌<◌, List, set, get_or, arith, ap, ◌∙◌, sym, subst, []}
 use Rattle.vl_link.proofs.Names.{get_or_default, get_or-set_other, LinkPlan, A, IsFrameOf, Pace, turn_of, SubVl}
 use Rattle.vl_link.proofs.Names.{Held, held_at, nothing_held, Passes, Gives, IsPicked, PassedOver, AreSubsOf}
@@ -6,19 +6,19 @@ use Rattle.vl_link.proofs.Names.{IsSameSub, AreSameSubs, held_view, IsChoice, No
 use Rattle.vl_link.proofs.Choosing.{each_set, held_same}
 use Rattle.vl_link.proofs.SubInStep.{asked_left, chosen_same, same_sub_on, gave_same}
 
--- the chosen one, whatever the default of the index
+-- The chosen sub-VL, for any default of the index.
 item_is : (pace : Pace) (old : List Held) (sub : ℕ) (mid : List Held) (d : Held) → IsPicked pace old sub mid
     → get_or mid sub d ≡ held_at mid sub
 item_is pace old sub mid d c = get_or_default mid sub d nothing_held (omega (arith, c.count, c.below))
 
--- it has a fragment left
+-- It has a fragment left.
 pub chosen_left : (pace : Pace) (old : List Held) (sub : ℕ) (mid : List Held) (d : Held)
     → IsPicked pace old sub mid → (get_or mid sub d).left ≡ [] → ⊥
 chosen_left pace old sub mid d c e =
     asked_left (held_at old sub) (held_at mid sub) c.choice.chosen
     (sym (ap (λ (h : Held). h.left) (item_is pace old sub mid d c)) ∙ e)
 
--- the frame of the chosen one is of its link
+-- Its frame is one of the link.
 pub frame_at : (pace : Pace) (plan : LinkPlan) (old : List Held) (sub : ℕ) (mid : List Held) (d : Held) (number : ℕ)
     (frame : List ℕ) → IsPicked pace old sub mid → AreSubsOf plan old
     → IsFrameOf (get_or mid sub d).of.link.id.0 (get_or mid sub d).of.sub number A frame
@@ -28,7 +28,7 @@ frame_at pace plan old sub mid d number frame c n f =
     let own = n sub c.below in
     rw (ap (λ (of : SubVl). of.link) same ∙ own.0, ap (λ (of : SubVl). of.sub) same ∙ own.1) at f
 
--- all stay themselves where it gives a frame
+-- Each sub-VL stays the same after one gave a frame.
 pub set_same : (pace : Pace) (old : List Held) (sub : ℕ) (mid : List Held) (d h : Held) (frame : List ℕ)
     → IsPicked pace old sub mid → Gives (get_or mid sub d) frame h → AreSameSubs old (set mid sub h)
 set_same pace old sub mid d h frame c g = each_set (λ s held. IsSameSub (held_at old s) held) mid sub h nothing_held
@@ -37,7 +37,7 @@ set_same pace old sub mid d h frame c g = each_set (λ s held. IsSameSub (held_a
     (gave_same frame (held_at mid sub) h (rw (item_is pace old sub mid d c) at g)))
     (λ s _. chosen_same pace old sub mid c s)
 
--- the choice, once the chosen one became another that gave a frame
+-- The choice, after the chosen sub-VL gave a frame.
 pub chosen_gives : (pace : Pace) (old : List Held) (sub : ℕ) (mid : List Held) (d h : Held) (frame : List ℕ)
     → IsPicked pace old sub mid → Gives (get_or mid sub d) frame h
     → IsChoice pace (λ s. (held_view old (set mid sub h)).gives s frame) (held_view old (set mid sub h)).lacks
@@ -61,7 +61,7 @@ chosen_gives pace old sub mid d h frame c g = record {
       ∙ c.choice.others s not;
 }
 
--- where all were passed over, none has anything
+-- If all were passed over, none has anything.
 pub none_has : (pace : Pace) (old new : List Held) → PassedOver pace old new pace.sub_vls
     → NoneHas pace (held_view old new).lacks (held_view old new).rests
 none_has pace old new p = record {

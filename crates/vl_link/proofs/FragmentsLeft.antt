@@ -1,16 +1,16 @@
--- Small facts on lists and fragments.
+-- Facts about lists and fragments.
 use Rattle.vl_link.proofs.Names.{ℕ, ◌≡◌, ◌≢◌, ◌+◌, ◌<◌, List, [], ◌∷◌, length, map, arith, refl, ap, Bool, true}
 use Rattle.vl_link.proofs.Names.{false, not, Some, room_of, A, Cutting, cutting, pieces_from, pieces_left, Sent}
 use Rattle.vl_link.proofs.Names.{cutting_some, SubVl, TellsCutting, left_of, message_fragments}
 use Rattle.afdx_frame.specs.Fragments.{fragments_at}
 use Rattle.afdx_frame.specs.Frame.{unnumbered}
 
--- nothing is mapped from nothing alone
+-- Only an empty list has an empty image.
 map_nil : {X Y : Type 0} (f : X → Y) (xs : List X) → map f xs ≡ [] → xs ≡ []
 map_nil f [] e = refl
 map_nil f (x ∷ xs) e = cc
 
--- whether a cut is done tells whether fragments of it are left
+-- A cut is done exactly if none of its fragments is left.
 pub done_tells : (of : SubVl) (cut : Cutting) (done : Bool)
     → ((room : ℕ) → (done ≡ true → pieces_left room cut ≡ []) × (pieces_left room cut ≡ [] → done ≡ true))
     → TellsCutting (not done) (left_of of (Some cut))
@@ -18,7 +18,7 @@ done_tells of cut true h = ap (map _) ((h (room_of of.link.lmax)).0 refl)
 done_tells of cut false h = λ none. let e : false ≡ true =
     (h (room_of of.link.lmax)).1 (map_nil _ (pieces_left (room_of of.link.lmax) cut) none) in cc
 
--- every message has a fragment
+-- Each message has a fragment.
 pub fragments_some : (of : SubVl) (place : ℕ) (sent : Sent) → message_fragments of place sent ≢ []
 unfolding fragments_at
 fragments_some of place sent = some (cutting (room_of of.link.lmax) (8 + length sent.bytes)) (cutting_some _ _ (omega arith))

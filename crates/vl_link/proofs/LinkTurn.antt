@@ -1,4 +1,4 @@
--- One turn of a link, against its stream.
+-- One turn of a link, and its stream.
 use Rattle.vl_link.proofs.Names.{ℕ, ◌≡◌, ◌≢◌, ◌<◌, List, length, false, arith, ap, ◌∙◌, sym, subst, inl, inr}
 use Rattle.vl_link.proofs.Names.{⊎_elim, Option, None, cases_eq, and_parts, both_ways, room_of, sequence_number, A}
 use Rattle.vl_link.proofs.Names.{sub_in, fragments, Entry, entry, Lines, log, log_same, Stamp, Pace, IsLater}
@@ -13,7 +13,7 @@ use Rattle.vl_link.proofs.TurnLaws.{choice_below, choice_other}
 use Rattle.vl_link.proofs.SubInStep.{tied_moves, tied_gave, prefix_of, shown, gave_shown}
 use Rattle.vl_link.proofs.PaceOfStream.{stream_more, stream_same}
 
--- a turn of a link that was where its stream is
+-- a turn of a link whose regulation agrees with its stream
 pub record Turned (now : ℕ) (link new : LinkState) (lines after : Lines) (did : Served) : Type 0 where
   pub serves : Serves now link.plan link.pace link.subs new.subs lines after did
   pub paced : Follows new.plan.id.0 new.pace after did
@@ -23,11 +23,11 @@ pub record Turned (now : ℕ) (link new : LinkState) (lines after : Lines) (did 
   pub lost : new.lost ≡ is_lost did
   pub counted : new.counts ≡ counts_in (link_stream new.plan.id.0 (log after))
 
--- a link is one of its plan
+-- the link is one of its plan
 abbrev pub IsOwn : LinkState → Type 0
 IsOwn link = IsLinkOfPlan link.end_system link.plan link.pace link.subs
 
--- what each of its sub-VLs took is of its ports
+-- each sub-VL's taken messages are of its ports
 abbrev pub HasItems : LinkState → Type 0
 HasItems link = (s : ℕ) → s < length link.subs → HasOwnItems (held_at link.subs s)
 
@@ -39,7 +39,7 @@ of_plan link new = record new {
   pace = record new.pace { gap = link.pace.gap; sub_vls = link.pace.sub_vls };
 }
 
--- the same link has the same plan
+-- The same link has the same plan.
 same_plan : (link new : LinkState) → IsSameLink link new → new ≡ of_plan link new
 same_plan link new s = λ i. record new {
   end_system = s.end_system i;
@@ -47,7 +47,7 @@ same_plan link new s = λ i. record new {
   pace = record new.pace { gap = s.gap i; sub_vls = s.sub_vls i };
 }
 
--- the link stays one of its plan
+-- After a turn the link is still one of its plan.
 pub link_turn : (now : ℕ) (link new : LinkState) (lines after : Lines) (did : Served)
     → Turned now link new lines after did → IsOwn link → IsOwn new
 link_turn now link new lines after did t own = subst IsOwn (sym (same_plan link new t.same)) (record {
@@ -57,7 +57,7 @@ link_turn now link new lines after did t own = subst IsOwn (sym (same_plan link 
   named = λ s lt. (t.same.subs s).of ∙ own.named s (omega (arith, t.same.count));
 })
 
--- a prefix of what a sub-VL shows, by the sub-VL that it is
+-- A prefix of a sub-VL's fragments, by the sub-VL after the turn.
 prefix_at : (link new : LinkState) (s : ℕ) (front : List (List ℕ)) → IsOwn link → IsSameLink link new → s < link.plan.sub_vls
     → IsPrefixOf front (shown (held_at new.subs s))
     → IsPrefixOf front (fragments link.end_system (room_of link.plan.lmax) A (taken_by (held_at new.subs s)))
@@ -65,7 +65,7 @@ prefix_at link new s front own same lt p =
     subst (λ (o : SubVl). IsPrefixOf front (sub_fragments o 0 (taken_by (held_at new.subs s))))
     ((same.subs s).of ∙ own.named s (omega (arith, own.count, own.sub_vls))) p
 
--- each sub-VL's stream after the frame of the chosen one entered
+-- Each sub-VL's stream after the chosen one's frame entered it.
 tied_released : (now number : ℕ) (link : LinkState) (sub : ℕ) (news : List Held) (lines after : Lines)
     (at : Releases now link.plan link.pace (held_view link.subs news) sub number lines after)
     → IsLinkTied link (log lines) → (s : ℕ) → s < link.plan.sub_vls
@@ -87,7 +87,7 @@ tied_released now number link sub news lines after at before s lt =
     (⊎_elim (λ p. inl p) (λ e. inr (inr e)) (choice_other link.pace _ _ _ sub at.choice s ne)) (before s lt)))
     (cases_eq s sub)
 
--- each sub-VL's stream begins the fragments of what it took, where a frame of the chosen one was lost
+-- Each sub-VL's stream is a prefix of its fragments after the chosen one's frame was lost.
 prefix_lost : (link : LinkState) (news : List Held) (lines after : Lines)
     (at : Loses link.plan link.pace (held_view link.subs news) lines after)
     → IsLinkTied link (log lines) → (s : ℕ) → s < link.plan.sub_vls
@@ -101,7 +101,7 @@ prefix_lost link news lines after at before s lt = ⊎_elim
     (⊎_elim (λ p. inl p) (λ e. inr (inr e)) (choice_other link.pace _ _ _ at.sub at.choice s ne)) (before s lt)))
     (cases_eq s at.sub)
 
--- the same, at a link that has the plan of the one before
+-- The invariant after a turn, for a link with the plan of the one before.
 kept_of_plan : (now : ℕ) (did : Served) (link new : LinkState) (lines after : Lines)
     → Turned now link (of_plan link new) lines after did → IsOwn link → HasItems link → IsKept link (log lines)
     → IsKept (of_plan link new) (log after)
@@ -168,7 +168,7 @@ kept_of_plan now Lost link new lines after t own items k =
       counted = rw same at t.counted;
     })
 
--- a link that kept what links keep does after its turn
+-- The invariant after a turn.
 pub kept_turn : (now : ℕ) (did : Served) (link new : LinkState) (lines after : Lines)
     → Turned now link new lines after did → IsOwn link → HasItems link → IsKept link (log lines) → IsKept new (log after)
 kept_turn now did link new lines after t own items k =
@@ -177,7 +177,7 @@ kept_turn now did link new lines after t own items k =
     (kept_of_plan now did link new lines after (subst (λ (l : LinkState). Turned now link l lines after did) is t) own
     items k)
 
--- another link's stream
+-- The stream of another link.
 pub other_stream : (now vl : ℕ) (did : Served) (link new : LinkState) (lines after : Lines)
     → Turned now link new lines after did → IsOwn link → link.plan.id.0 ≢ vl
     → link_stream vl (log after) ≡ link_stream vl (log lines)
@@ -187,7 +187,7 @@ other_stream now vl (Released sub number) link new lines after t own ne =
     stream_same link.plan.id.0 vl now sub number link.plan.networks at.frame lines after at.of at.enters ne
 other_stream now vl Lost link new lines after t own ne = ap (link_stream vl) (log_same lines after t.serves.1.same)
 
--- a link whose stream is the same keeps what it kept
+-- A link with the same stream keeps the invariant.
 pub kept_stream : (other : LinkState) (H J : List Entry)
     → link_stream other.plan.id.0 J ≡ link_stream other.plan.id.0 H → IsKept other H → IsKept other J
 kept_stream other H J e k = record {
@@ -201,7 +201,7 @@ kept_stream other H J e k = record {
   counted = rw e k.counted;
 }
 
--- the sub-VL that released a frame is one of its link's
+-- The sub-VL that released a frame is one of the link's.
 pub released_below : (now number : ℕ) (link : LinkState) (view : TurnView) (sub : ℕ) (lines after : Lines)
     → Releases now link.plan link.pace view sub number lines after → IsOwn link → sub < link.plan.sub_vls
 released_below now number link view sub lines after at own =

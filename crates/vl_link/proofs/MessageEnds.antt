@@ -1,4 +1,4 @@
--- Where a sub-VL's stream is the fragments of whole messages, no message of it is begun.
+-- If a sub-VL's stream is the fragments of whole messages, no message of it is begun.
 use Rattle.vl_link.proofs.Names.{ℕ, zero, suc, ◌≡◌, ◌+◌, ◌-◌, ◌<◌, ◌≤◌, List, [], ◌∷◌, ◌++◌, Bool, true, false}
 use Rattle.vl_link.proofs.Names.{cond, eqb, nat_le, length, map, arith, refl, ap, subst, All, get_or-take}
 use Rattle.vl_link.proofs.Names.{length-take, All-head, All-tail, lt-leb, step_of, PortPlan, sub_in, cut_by}
@@ -11,12 +11,12 @@ use Rattle.afdx_frame.specs.Frame.{unnumbered, link_header, internet_header, hea
 use Rattle.afdx_frame.specs.Cutting.{cutting}
 use Rattle.afdx_frame.specs.Fragments.{fragments_at}
 
--- a message whose pieces start where the offset can tell it
+-- a message whose pieces start within the range of the offset
 abbrev pub IsShort : Sent → Type 0
 IsShort sent = length sent.bytes ≤ 8192
 
--- Frames that have the field of the flag, the last of which says that no more fragments follow; `more` is what the
--- frame before them says.
+-- frames that are long enough for the flag, of which the last says that no more fragments follow;
+-- `more` is the flag before them
 abbrev Ends : Bool → List (List ℕ) → Type 0
 Ends more [] = more ≡ false
 Ends more (frame ∷ frames) = (22 ≤ length frame) × Ends (more_in frame) frames
@@ -25,24 +25,24 @@ ends_append : (more : Bool) (xs ys : List (List ℕ)) → Ends more xs → Ends 
 ends_append more [] ys e f = rw e f
 ends_append more (x ∷ xs) ys e f = (e.0, ends_append (more_in x) xs ys e.1 f)
 
--- the front of a frame has the field
+-- The front of a frame is long enough for the flag.
 piece_long : (end_system : ℕ) (port : PortPlan) (message : List ℕ) (place : ℕ) (piece : Piece) (net : Net)
     → 22 ≤ length (unnumbered end_system port message place piece net)
 unfolding unnumbered link_header internet_header header_front
 piece_long end_system port message place piece net = omega arith
 
--- the last piece says that no more follow
+-- The last piece says that no more follow.
 last_piece : (end_system : ℕ) (sent : Sent) (place : ℕ) (net : Net) (start len : ℕ) → start < 65536
     → more_in (unnumbered end_system sent.port sent.bytes place (record { start = start; len = len; more = false }) net) ≡ false
 unfolding unnumbered link_header internet_header header_front
 last_piece end_system sent place net start len h = lt-leb 8192 _ (omega arith)
 
--- the length of some pieces
+-- the total length of pieces
 abbrev total : List ℕ → ℕ
 total [] = 0
 total (len ∷ rest) = len + total rest
 
--- a cutting is no longer than what is cut
+-- A cutting is at most as long as the datagram.
 cut_total : (turns room n : ℕ) → total (cut_by turns room n) ≤ n
 cut_total zero room n = omega arith
 cut_total (suc turns) room n = grind (arith, nat_tests, cut_total turns room (n - step_of room), step_le room)
@@ -57,7 +57,7 @@ pieces_end end_system sent place net start len (next ∷ rest) h = (
   pieces_end end_system sent place net (start + len) next rest (omega arith),
 )
 
--- the fragments of a message
+-- The fragments of a message end it.
 message_end : (end_system room : ℕ) (net : Net) (place : ℕ) (sent : Sent) → IsShort sent
     → Ends false (fragments_at end_system room net place sent)
 unfolding fragments_at cutting
@@ -69,7 +69,7 @@ message_end end_system room net place sent short =
     one [] h = refl
     one (len ∷ rest) h = pieces_end end_system sent place net 0 len rest (omega arith)
 
--- those of a list of messages
+-- The fragments of a list of messages end the last one.
 fragments_end : (end_system room : ℕ) (net : Net) (place : ℕ) (messages : List Sent) → All IsShort messages
     → Ends false (fragments_from end_system room net place messages)
 fragments_end end_system room net place [] short = refl
@@ -78,7 +78,7 @@ fragments_end end_system room net place (sent ∷ later) short =
     (message_end end_system room net place sent (All-head IsShort sent later short))
     (fragments_end end_system room net (suc place) later (All-tail IsShort sent later short))
 
--- a frame without its number says the same
+-- A frame without its sequence number has the same flag.
 more_blanked : (frame : List ℕ) → 22 ≤ length (blanked frame) → more_in (blanked frame) ≡ more_in frame
 more_blanked frame long =
     let size = length-take (length frame - 1) frame in
@@ -88,7 +88,7 @@ more_blanked frame long =
       get_or-take (length frame - 1) frame 21 0 (omega arith),
     ))
 
--- no message is begun where the frames of a sub-VL end one
+-- No message is begun if the frames of the sub-VL end one.
 ended : (begun : ℕ → Bool) (S : List Entry) (s : ℕ) → Ends (begun s) (told (sub_stream s S)) → begun_by begun S s ≡ false
 ended begun [] s h = h
 ended begun (e ∷ es) s h = ended (begun_after begun e) es s (one (eqb (sub_in e.frame) s) h)
@@ -98,7 +98,7 @@ ended begun (e ∷ es) s h = ended (begun_after begun e) es s (one (eqb (sub_in 
     one true h = subst (λ (m : Bool). Ends m (told (sub_stream s es))) (more_blanked e.frame h.0) h.1
     one false h = h
 
--- No message is begun where the stream is the fragments of whole messages.
+-- No message is begun if the stream is the fragments of whole messages.
 pub not_begun : (end_system room : ℕ) (net : Net) (S : List Entry) (s : ℕ) (messages : List Sent) → All IsShort messages
     → fragments_from end_system room net 0 messages ≡ told (sub_stream s S) → begun_by none_begun S s ≡ false
 not_begun end_system room net S s messages short e =

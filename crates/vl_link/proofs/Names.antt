@@ -1,4 +1,4 @@
--- The names of other crates, and of this one's definitions, that the proofs here use.
+-- Names of other crates, and of this crate's definitions, for the proofs here.
 pub use Rattle.std.proofs.Common.{Bool, List, None, Option, Some, [], ap, arith, below_more, cond, eqb, false}
 pub use Rattle.std.proofs.Common.{filter, get_or, inl, inr, length, map, nat_le, not, refl, set, subst, suc, sym}
 pub use Rattle.std.proofs.Common.{true, zero, ℕ, ⊎_elim, ◌%◌, ◌++◌, ◌+◌, ◌-◌, ◌<◌, ◌∙◌, ◌∷◌, ◌≡◌, ◌≢◌, ◌≤◌, ◌⊎◌}

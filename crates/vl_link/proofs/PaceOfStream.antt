@@ -6,7 +6,7 @@ use Rattle.vl_link.proofs.Names.{with_push_out}
 use Rattle.afdx_plan.specs.declared.networks.Networks.{Networks}
 use Rattle.redundant_mux.specs.Logged.{logged_for}
 
--- the link's stream has the frame
+-- The frame is appended to the link's stream.
 pub stream_more : (vl now sub number : ℕ) (networks : Networks) (frame : List ℕ) (lines after : Lines)
     → IsFrameOf vl sub number A frame → after.logged ≡ lines.logged ++ logged_for networks (entry now frame) ∷ []
     → link_stream vl (log after) ≡ link_stream vl (log lines) ++ entry now frame ∷ []
@@ -14,7 +14,7 @@ stream_more vl now sub number networks frame lines after of enters =
     ap (link_stream vl) (log_more lines after (logged_for networks (entry now frame)) enters)
     ∙ with_push_in (λ (e : Entry). link_in e.frame) vl (log lines) (entry now frame) of.link
 
--- another link's stream hasn't
+-- The streams of other links are the same.
 pub stream_same : (vl other now sub number : ℕ) (networks : Networks) (frame : List ℕ) (lines after : Lines)
     → IsFrameOf vl sub number A frame → after.logged ≡ lines.logged ++ logged_for networks (entry now frame) ∷ []
     → vl ≢ other → link_stream other (log after) ≡ link_stream other (log lines)
@@ -22,7 +22,7 @@ stream_same vl other now sub number networks frame lines after of enters ne =
     ap (link_stream other) (log_more lines after (logged_for networks (entry now frame)) enters)
     ∙ with_push_out (λ (e : Entry). link_in e.frame) other (log lines) (entry now frame) (λ e. ne (sym of.link ∙ e))
 
--- the shaper that noted the frame is where the stream is
+-- The shaper that recorded the frame agrees with the stream.
 pub follows_more : (now sub : ℕ) (frame : List ℕ) (old new : Pace) (stream after : List Entry)
     → old ≡ pace_of old.gap old.sub_vls stream → after ≡ stream ++ entry now frame ∷ [] → sub_in frame ≡ sub
     → new.last ≡ Some (record { at = now; sub = sub })

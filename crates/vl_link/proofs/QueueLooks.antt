@@ -1,66 +1,66 @@
--- A queue after a look into it.
+-- A queue after a poll.
 use Rattle.vl_link.proofs.Names.{ℕ, ◌≡◌, ◌≤◌, ◌∙◌, List, [], ◌∷◌, ◌++◌, Some, arith, refl, ap, sym, subst}
 use Rattle.vl_link.proofs.Names.{append_assoc, length-append, get_or_append_left, All-push, All-weaker}
 use Rattle.vl_link.proofs.Names.{BecomesWhole, Seen, receiving, gathered, taken_of, known_of, ports_of, queue_of}
 use Rattle.vl_link.proofs.Names.{total_of, FindsNothing, Finds, IsReceiving, IsSameQueue}
 use Rattle.subvl_queue.specs.Messages.{IsItem, AreItems}
 
--- nothing more was taken where nothing was found
+-- A poll that found nothing took nothing.
 pub taken_nothing : (old new : Seen) → FindsNothing old new → taken_of new ≡ taken_of old
 taken_nothing (receiving r) new f = ap taken_of f
 taken_nothing (gathered g) new f = ap taken_of f.1
 
--- what was found was taken
+-- A poll that found a message took it.
 pub taken_finds : (old : Seen) (message : ℕ × List ℕ) (new : Seen) → Finds old message new
     → taken_of new ≡ taken_of old ++ message ∷ []
 taken_finds (receiving r) message new f = ap taken_of f
 taken_finds (gathered g) message new f = ap taken_of f.2
 
--- a queue in which nothing was found is the same
+-- After a poll that found nothing the queue is the same.
 pub same_nothing : (old new : Seen) → FindsNothing old new → IsSameQueue old new
 same_nothing (receiving r) new f = subst (IsSameQueue (receiving r)) (sym f) (refl, refl, refl, refl)
 same_nothing (gathered g) new f = subst (IsSameQueue (gathered g)) (sym f.1) (refl, refl)
 
--- and so is one from which a message was taken
+-- After a poll that found a message the queue is the same.
 pub same_finds : (old : Seen) (message : ℕ × List ℕ) (new : Seen) → Finds old message new → IsSameQueue old new
 same_finds (receiving r) message new f = subst (IsSameQueue (receiving r)) (sym f) (refl, refl, refl, refl)
 same_finds (gathered g) message new f = rw f.2 (refl, append_assoc g.taken (message ∷ []) f.0 ∙ rw f.1 refl)
 
--- where nothing was found, no more is known
+-- After a poll that found nothing no more is known.
 pub items_nothing : (n : ℕ) (old new : Seen) → FindsNothing old new → AreItems n (known_of old) → AreItems n (known_of new)
 items_nothing n (receiving r) new f items = subst (λ (seen : Seen). AreItems n (known_of seen)) (sym f) items
 items_nothing n (gathered g) new f items = subst (λ (seen : Seen). AreItems n (known_of seen)) (sym f.1) items
 
--- what was found is known then; where the messages are known whole, it was known before
+-- A found message is known afterwards; with the messages known whole, it was known before.
 pub items_finds : (n : ℕ) (old : Seen) (message : ℕ × List ℕ) (new : Seen) → Finds old message new → IsItem n message
     → AreItems n (known_of old) → AreItems n (known_of new)
 items_finds n (receiving r) message new f item items =
     subst (λ (seen : Seen). AreItems n (known_of seen)) (sym f) (All-push (IsItem n) r.taken message items item)
 items_finds n (gathered g) message new f item items = rw (f.2, append_assoc g.taken (message ∷ []) f.0, ← f.1) items
 
--- a message of a port is one of more ports
+-- A message of one of few ports is a message of one of more ports.
 pub item_of_more : (few many : ℕ) (item : ℕ × List ℕ) → few ≤ many → IsItem few item → IsItem many item
 item_of_more few many item le own = record { port = (let below = own.port in omega arith); message = own.message }
 
--- what is known of a queue that was gathered is of its ports
+-- The known messages of a gathered queue are of its ports.
 pub items_whole : (n : ℕ) (old new : Seen) → ports_of old ≤ n → BecomesWhole old new → AreItems n (known_of new)
 items_whole n (receiving old) (gathered new) many b =
     All-weaker (IsItem old.ports) (IsItem n) (λ item own. item_of_more old.ports n item many own) (known_of (gathered new)) b.2
 items_whole n (gathered old) (gathered new) many b = absurd b
 items_whole n old new many b = absurd b
 
--- what was taken is of the ports that all that is known is of
+-- The messages taken are of the ports of the known messages.
 pub items_taken : (n : ℕ) (seen : Seen) → AreItems n (known_of seen) → AreItems n (taken_of seen)
 items_taken n (receiving r) items = items
 items_taken n (gathered g) items = λ k d lt.
     subst (IsItem n) (get_or_append_left g.taken g.left d k lt) (items k d (omega (arith, length-append g.taken g.left)))
 
--- a queue is the same as itself
+-- The relation is reflexive.
 pub same_here : (seen : Seen) → IsSameQueue seen seen
 same_here (receiving r) = (refl, refl, refl, refl)
 same_here (gathered g) = (refl, refl)
 
--- the same over two steps
+-- The relation is transitive.
 pub same_on : (a b c : Seen) → IsSameQueue a b → IsSameQueue b c → IsSameQueue a c
 same_on (receiving a) (receiving b) (receiving c) p q = (q.0 ∙ p.0, q.1 ∙ p.1, q.2 ∙ p.2, q.3 ∙ p.3)
 same_on (gathered a) (gathered b) (gathered c) p q = (q.0 ∙ p.0, q.1 ∙ p.1)
@@ -68,25 +68,25 @@ same_on (receiving a) (receiving b) (gathered c) p q = absurd q
 same_on (gathered a) (gathered b) (receiving c) p q = absurd q
 same_on a b c p q = absurd p
 
--- the same queue has as many ports
+-- The same queue has the same number of ports.
 pub same_ports : (old new : Seen) → IsSameQueue old new → ports_of new ≡ ports_of old
 same_ports (receiving r) (receiving s) e = e.2
 same_ports (gathered g) (gathered h) e = e.0
 same_ports old new e = absurd e
 
--- and the same name
+-- The same queue has the same identity.
 pub same_name : (old new : Seen) → IsSameQueue old new → queue_of new ≡ queue_of old
 same_name (receiving r) (receiving s) e = ap Some e.0
 same_name (gathered g) (gathered h) e = refl
 same_name old new e = absurd e
 
--- and is closed or not as before
+-- The same queue has the same total.
 pub same_total : (old new : Seen) → IsSameQueue old new → total_of new ≡ total_of old
 same_total (receiving r) (receiving s) e = e.3
 same_total (gathered g) (gathered h) e = refl
 same_total old new e = absurd e
 
--- while ports may send, they may send on
+-- The same queue may still receive.
 pub still_receiving : (old new : Seen) → IsSameQueue old new → IsReceiving old → IsReceiving new
 still_receiving (receiving r) (receiving s) e i = tt
 still_receiving (gathered g) new e i = absurd i

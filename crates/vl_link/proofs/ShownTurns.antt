@@ -12,20 +12,20 @@ use Rattle.vl_shaper.proofs.OneEach.{turn_cases, one_each_holds}
 use Rattle.vl_link.proofs.QueueLooks.{items_taken}
 use Rattle.vl_link.proofs.MessageEnds.{IsShort, not_begun}
 
--- the chosen sub-VL is one of the link's
+-- The chosen sub-VL is one of the link's.
 pub chosen_below : (subs : ℕ) (last : Option Stamp) (begun : ℕ → Bool) (sub : ℕ)
     → IsChosen subs (turn_of subs last) (shown_choice begun sub) → sub < subs
 chosen_below subs last begun sub c =
     subst (λ (n : ℕ). n < subs) (sym c.is) (turn_below subs last c.turn c.within)
 
--- so is the one of the last entry
+-- The sub-VL of the last entry is one of the link's.
 pub last_below : (subs : ℕ) (last : Option Stamp) (begun : ℕ → Bool) (S : List Entry) → IsBelow subs last
     → ShowsChoices subs last begun S → IsBelow subs (latest last S)
 last_below subs last begun [] below h = below
 last_below subs last begun (e ∷ es) below h =
     last_below subs (Some (stamp_of e)) (begun_after begun e) es (chosen_below subs last begun (sub_in e.frame) h.0) h.1
 
--- one more choice is shown
+-- One more choice is shown.
 pub shows_push : (subs : ℕ) (last : Option Stamp) (begun : ℕ → Bool) (S : List Entry) (e : Entry)
     → ShowsChoices subs last begun S
     → IsChosen subs (turn_of subs (latest last S)) (shown_choice (begun_by begun S) (sub_in e.frame))
@@ -33,21 +33,21 @@ pub shows_push : (subs : ℕ) (last : Option Stamp) (begun : ℕ → Bool) (S : 
 shows_push subs last begun [] e h c = (c, tt)
 shows_push subs last begun (x ∷ xs) e h c = (h.0, shows_push subs (Some (stamp_of x)) (begun_after begun x) xs e h.1 c)
 
--- no two turns are of one sub-VL
+-- No two turns are of one sub-VL.
 pub turns_differ : (subs : ℕ) (last : Option Stamp) (j k : ℕ) → IsBelow subs last → j < subs → k < subs
     → turn_of subs last j ≡ turn_of subs last k → j ≡ k
 turns_differ subs None j k below jl kl e = e
 turns_differ subs (Some last) j k below jl kl e =
     grind (arith, turn_cases subs last.sub j below jl, turn_cases subs last.sub k below kl)
 
--- the choices that the entries before the next one of a sub-VL show
+-- the choices that the entries show before the next entry of a sub-VL
 record ShowsPassed (subs last x y : ℕ) (entries : List Entry) : Type 0 where
   choices : List Choice
   chosen : AreChosen subs last choices
   passed : IsPassedOver x choices
   count : count_by (λ (c : Choice). eqb c.sub y) choices ≡ length (sub_stream y entries)
 
--- one entry and one choice more
+-- One entry and one choice more.
 count_more : (y : ℕ) (c : Choice) (cs : List Choice) (e : Entry) (es : List Entry) → c.sub ≡ sub_in e.frame
     → count_by (λ (d : Choice). eqb d.sub y) cs ≡ length (sub_stream y es)
     → count_by (λ (d : Choice). eqb d.sub y) (c ∷ cs) ≡ length (sub_stream y (e ∷ es))
@@ -61,11 +61,11 @@ count_more y c cs e es q h =
     one true = omega arith
     one false = omega arith
 
--- no entry before the next one of a sub-VL that comes at once
+-- The next entry of the sub-VL is the first: there is none before it.
 shows_none : (subs last x y : ℕ) → ShowsPassed subs last x y []
 shows_none subs last x y = record { choices = []; chosen = tt; passed = tt; count = refl }
 
--- the entries before the next one of a sub-VL of which a message is begun
+-- The entries before the next one of a sub-VL with a begun message.
 shows_passed : (subs x y : ℕ) (last : Stamp) (begun : ℕ → Bool) (S : List Entry) → begun x ≡ true
     → ShowsChoices subs (Some last) begun S → ShowsPassed subs last.sub x y (before_next x S)
 shows_passed subs x y last begun [] is h = shows_none subs last.sub x y
@@ -98,7 +98,7 @@ takes_turns subs last begun (e ∷ es) h = (
   takes_turns subs (Some (stamp_of e)) (begun_after begun e) es h.1,
 )
 
--- a sub-VL that was passed over has no message begun
+-- A sub-VL that was passed over has no message begun.
 passed_whole : (link : LinkState) (new : Held) (log : List Entry) (s : ℕ) → IsLinkTied link log → s < link.plan.sub_vls
     → HasOwnItems (held_at link.subs s) → Passes (held_at link.subs s) new
     → begun_by none_begun (link_stream link.plan.id.0 log) s ≡ false
@@ -111,7 +111,7 @@ passed_whole link new log s tied lt items p =
     (tied s lt ∙ ap (λ (left : List (List ℕ)). told (sub_stream s stream) ++ left) p.whole
     ∙ append-nil (told (sub_stream s stream)))
 
--- The released frame is of the sub-VL that was chosen, as its link's stream shows it.
+-- The released frame is of the sub-VL that the link's stream shows as chosen.
 pub choice_shown : (now number : ℕ) (link : LinkState) (sub : ℕ) (news : List Held) (lines after : Lines)
     (at : Releases now link.plan link.pace (held_view link.subs news) sub number lines after)
     → IsLinkOfPlan link.end_system link.plan link.pace link.subs → IsLinkTied link (log lines)

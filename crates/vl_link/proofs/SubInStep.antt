@@ -1,4 +1,4 @@
--- A sub-VL that was asked or gave a frame, against its stream.
+-- A sub-VL that was polled or gave a frame, and its stream.
 use Rattle.vl_link.proofs.Names.{ℕ, ◌≡◌, ◌≢◌, List, [], ◌∷◌, ◌++◌, true, length, arith, refl, ap, ◌∙◌, sym, subst}
 use Rattle.vl_link.proofs.Names.{inl, inr, ⊎_elim, cases_eq, append-nil, append_assoc, map-append, length-map}
 use Rattle.vl_link.proofs.Names.{room_of, A, Sent, blanked, Entry, entry, Pace, SubVl, taken_of, told, IsPrefixOf}
@@ -9,18 +9,18 @@ use Rattle.vl_link.proofs.Choosing.{Moves, moves_passed}
 use Rattle.vl_link.proofs.TurnLaws.{choice_other}
 use Rattle.vl_link.proofs.QueueLooks.{taken_nothing, taken_finds, items_nothing, items_finds, same_nothing, same_finds, same_here, same_on}
 
--- what was asked and has something has a fragment left
+-- A polled sub-VL that has something has a fragment left.
 pub asked_left : (old new : Held) → Asks true old new → new.left ≢ []
 asked_left old new a none = ⊎_elim
     (λ (g : GoesOn old new). g.some (sym (ap (λ (h : Held). h.left) g.same) ∙ none))
     (λ (s : Starts old new). s.some none)
     a
 
--- a sub-VL that did nothing stays itself
+-- An unchanged sub-VL is the same.
 pub same_sub_here : (old new : Held) → new ≡ old → IsSameSub old new
 same_sub_here old new e = subst (IsSameSub old) (sym e) (record { of = refl; ports = refl; queue = same_here old.seen; items = λ i. i })
 
--- a sub-VL stays itself over two steps
+-- The relation is transitive.
 pub same_sub_on : (a b c : Held) → IsSameSub a b → IsSameSub b c → IsSameSub a c
 same_sub_on a b c p q =
     record {
@@ -30,7 +30,7 @@ same_sub_on a b c p q =
       items = λ i. q.items (p.items i);
     }
 
--- a sub-VL that is asked stays itself
+-- A polled sub-VL is the same.
 pub moves_of : (old new : Held) → Moves old new → IsSameSub old new
 moves_of old new (inl p) = rw p.same (record {
   of = refl;
@@ -47,11 +47,11 @@ moves_of old new (inr (inl (inr s))) = record {
 }
 moves_of old new (inr (inr e)) = same_sub_here old new e
 
--- sub-VLs that were passed over stay themselves
+-- Sub-VLs that were passed over are the same.
 pub passed_same : (pace : Pace) (old new : List Held) (n : ℕ) → PassedOver pace old new n → AreSameSubs old new
 passed_same pace old new n p s = moves_of (held_at old s) (held_at new s) (moves_passed pace old new n p s)
 
--- sub-VLs of which one was chosen stay themselves
+-- Sub-VLs of which one was chosen are the same.
 pub chosen_same : (pace : Pace) (old : List Held) (sub : ℕ) (new : List Held) → IsPicked pace old sub new
     → AreSameSubs old new
 chosen_same pace old sub new c s = moves_of (held_at old s) (held_at new s) (⊎_elim
@@ -59,22 +59,22 @@ chosen_same pace old sub new c s = moves_of (held_at old s) (held_at new s) (⊎
     (λ (ne : s ≢ sub). ⊎_elim (λ p. inl p) (λ e. inr (inr e)) (choice_other pace _ _ _ sub c.choice s ne))
     (cases_eq s sub))
 
--- and so does one that gave its next frame
+-- A sub-VL that gave its next frame is the same.
 pub gave_same : (frame : List ℕ) (old new : Held) → Gives old frame new → IsSameSub old new
 gave_same frame old new g = rw g.same (record { of = refl; ports = refl; queue = same_here old.seen; items = λ i. i })
 
--- the fragments of one message more
+-- The fragments of one message more.
 fragments_push : (of : SubVl) (xs : List Sent) (m : Sent)
     → sub_fragments of 0 (xs ++ m ∷ []) ≡ sub_fragments of 0 xs ++ message_fragments of (length xs) m
 fragments_push of xs m = fragments_more xs of.end_system (room_of of.link.lmax) A 0 m
     ∙ ap (λ (p : ℕ). sub_fragments of 0 xs ++ message_fragments of p m) (omega arith)
 
--- what was told begins the fragments of what was taken
+-- The stream is a prefix of the fragments of the messages taken.
 pub prefix_of : (held : Held) (stream : List Entry) → IsTied held stream
     → IsPrefixOf (told stream) (sub_fragments held.of 0 (taken_by held))
 prefix_of held stream t = (held.left, sym t)
 
--- a sub-VL that began its next message is where its stream is
+-- A sub-VL that began its next message is tied to its stream.
 tied_starts : (old new : Held) (stream : List Entry) → Starts old new → IsTied old stream → IsTied new stream
 tied_starts old new stream p t =
     rw (p.of, p.ports, p.left, taken_finds old.seen p.message new.seen p.finds)
@@ -82,22 +82,22 @@ tied_starts old new stream p t =
     ∙ fragments_push old.of (taken_by old) (sent_of old.ports p.message)
     ∙ rw (length-map (taken_of old.seen) (sent_of old.ports), t, p.whole, append-nil (told stream)) refl)
 
--- a sub-VL that was asked is where its stream is
+-- A sub-VL that was polled is tied to its stream.
 pub tied_moves : (old new : Held) (stream : List Entry) → Moves old new → IsTied old stream → IsTied new stream
 tied_moves old new stream (inl p) t = rw (p.same, taken_nothing old.seen new.seen p.nothing) t
 tied_moves old new stream (inr (inl (inl g))) t = rw g.same t
 tied_moves old new stream (inr (inl (inr p))) t = tied_starts old new stream p t
 tied_moves old new stream (inr (inr e)) t = rw e t
 
--- the fragments of what a sub-VL took
+-- the fragments of the messages that a sub-VL took
 abbrev pub shown : Held → List (List ℕ)
 shown held = sub_fragments held.of 0 (taken_by held)
 
--- a sub-VL that gave its next frame took nothing more
+-- A sub-VL that gave its next frame took no message.
 pub gave_shown : (frame : List ℕ) (old new : Held) → Gives old frame new → shown new ≡ shown old
 gave_shown frame old new g = ap shown g.same
 
--- and is where its stream is
+-- A sub-VL that gave its next frame is tied to its stream.
 pub tied_gave : (now : ℕ) (frame : List ℕ) (old new : Held) (stream : List Entry)
     → Gives old frame new → IsTied old stream → IsTied new (stream ++ entry now frame ∷ [])
 tied_gave now frame old new stream g t =

@@ -1,9 +1,9 @@
--- What the fields of a sub-VL keep over a look into its queue.
+-- The invariant of a sub-VL after a poll of its queue.
 use Rattle.vl_link.proofs.Names.{ℕ, ◌≡◌, ◌+◌, ◌%◌, List, [], ◌∷◌, Option, Some, arith, length-append, PortPlan}
 use Rattle.vl_link.proofs.Names.{Cutting, SubVl, Seen, taken_of, ports_of, Finds, IsSub, IsCutOf}
 use Rattle.vl_link.proofs.QueueLooks.{same_finds, same_ports, taken_finds}
 
--- a queue of as many ports, of which as much was taken
+-- A queue with the same number of ports and of messages taken.
 pub kept_as : (of : SubVl) (ports : List PortPlan) (sending : Option Cutting) (old new : Seen) (place : ℕ)
     → IsSub of ports sending old place → ports_of new ≡ ports_of old → taken_of new ≡ taken_of old
     → IsSub of ports sending new place
@@ -15,7 +15,7 @@ kept_as of ports sending old new place h many taken = record {
   place = rw taken h.place;
 }
 
--- a message was found, and is cut: the next place is one on
+-- A message was found and is cut: the next place is one higher.
 pub kept_finds : (of : SubVl) (ports : List PortPlan) (sending : Option Cutting) (cut : Cutting) (old new : Seen) (place : ℕ)
     (message : ℕ × List ℕ) → IsSub of ports sending old place → Finds old message new → IsCutOf of cut
     → IsSub of ports (Some cut) new ((place + 1) % 16384)

@@ -1,4 +1,4 @@
--- A turn of a link, whatever is known of its sub-VLs.
+-- A turn of a link, for any view of its sub-VLs.
 use Rattle.vl_link.proofs.Names.{ℕ, zero, suc, ◌≡◌, ◌≢◌, ◌⊎◌, ◌+◌, ◌<◌, ◌≤◌, List, true, false, arith, refl, ap}
 use Rattle.vl_link.proofs.Names.{◌∙◌, sym, subst, inl, inr, ⊎_elim, cases_eq, cases_lt, and_right, LinkPlan, Lines}
 use Rattle.vl_link.proofs.Names.{BothEndure, stands_for, Pace, turn_of, is_due, Served, Nothing, Released, Lost}
@@ -6,13 +6,13 @@ use Rattle.vl_link.proofs.Names.{TurnView, IsChoice, Turn, AreTurns, may_release
 use Rattle.redundant_mux.proofs.Enduring.{both_none, both_on}
 use Rattle.vl_link.proofs.Choosing.{met}
 
--- the chosen one is one of the sub-VLs
+-- The chosen sub-VL is one of the link's.
 pub choice_below : (pace : Pace) (has lacks rests : ℕ → Type 0) (sub : ℕ) → IsChoice pace has lacks rests sub
     → sub < pace.sub_vls
 choice_below pace has lacks rests sub c =
     rw c.is (turn_below pace.sub_vls pace.last c.turn c.within)
 
--- another than the chosen one has nothing, or wasn't asked
+-- A sub-VL other than the chosen one has nothing, or wasn't polled.
 pub choice_other : (pace : Pace) (has lacks rests : ℕ → Type 0) (sub : ℕ) → IsChoice pace has lacks rests sub
     → (s : ℕ) → s ≢ sub → lacks s ⊎ rests s
 choice_other pace has lacks rests sub c s ne = ⊎_elim
@@ -23,13 +23,13 @@ choice_other pace has lacks rests sub c s ne = ⊎_elim
     (cases_lt k c.turn))))
     (met (turn_of pace.sub_vls pace.last) c.turn s)
 
--- what is known in one view is known in another
+-- what holds in one view holds in the other
 pub record IsSeenIn (pace : Pace) (view other : TurnView) : Type 0 where
   pub lacks : (s : ℕ) → s < pace.sub_vls → view.lacks s → other.lacks s
   pub rests : (s : ℕ) → view.rests s → other.rests s
   pub gives : (s : ℕ) (frame : List ℕ) → s < pace.sub_vls → view.gives s frame → other.gives s frame
 
--- a choice in one view is one in the other
+-- A choice in one view is a choice in the other.
 choice_seen : (pace : Pace) (view other : TurnView) (frame : List ℕ) (sub : ℕ) → IsSeenIn pace view other
     → IsChoice pace (λ s. view.gives s frame) view.lacks view.rests sub
     → IsChoice pace (λ s. other.gives s frame) other.lacks other.rests sub
@@ -43,8 +43,8 @@ choice_seen pace view other frame sub i c = record {
   others = λ s not. i.rests s (c.others s not);
 }
 
--- A turn in one view is one in another that knows no more: of those that weren't asked, and of the others
--- where the link may release a frame.
+-- A turn in one view is a turn in another that says no more: of the sub-VLs that weren't polled,
+-- and of the others if the link may release a frame.
 pub turn_seen : (now : ℕ) (plan : LinkPlan) (pace : Pace) (view other : TurnView) (lines after : Lines) (did : Served)
     → ((s : ℕ) → view.rests s → other.rests s) → (may_release now plan pace lines ≡ true → IsSeenIn pace view other)
     → Turn now plan pace view lines after did → Turn now plan pace other lines after did
@@ -85,14 +85,14 @@ turn_seen now plan pace view other lines after Lost rests seen t = (
   },
 )
 
--- A network that is down after a turn was down before it, or failed.
+-- A network that is down after a turn was down before it, or failed in it.
 pub turn_endures : (now : ℕ) (plan : LinkPlan) (pace : Pace) (view : TurnView) (lines after : Lines) (did : Served)
     → Turn now plan pace view lines after did → BothEndure lines after
 turn_endures now plan pace view lines after Nothing t = subst (BothEndure lines) (sym t.1) (both_none lines)
 turn_endures now plan pace view lines after (Released sub number) t = t.2.endure
 turn_endures now plan pace view lines after Lost t = t.1.endure
 
--- so through turns
+-- The same through a list of turns.
 pub turns_endure : (P : ℕ → Lines → Lines → Served → Type 0) (k many : ℕ) (lines after : Lines)
     → ((i : ℕ) (before behind : Lines) (did : Served) → P i before behind did → BothEndure before behind)
     → AreTurns P k many lines after → BothEndure lines after
@@ -100,7 +100,7 @@ turns_endure P k zero lines after f r = subst (BothEndure lines) (sym r) (both_n
 turns_endure P k (suc many) lines after f r =
     both_on lines r.0 after (f k lines r.0 r.1 r.2) (turns_endure P (k + 1) many r.0 after f r.3)
 
--- no turn of a link of whose networks none stands releases anything
+-- A link none of whose networks is up releases nothing.
 pub may_not : (now : ℕ) (plan : LinkPlan) (pace : Pace) (lines : Lines) → stands_for plan.networks lines ≡ false
     → may_release now plan pace lines ≡ false
 may_not now plan pace lines down = and_right (is_due pace.gap pace.last now) _ down
@@ -117,7 +117,7 @@ turns_seen P Q k (suc many) lines after f r = (
   turns_seen P Q (k + 1) many r.0 after (λ i le lt. f i (omega arith) (omega arith)) r.3,
 )
 
--- One turn more behind them.
+-- One turn more at the end.
 pub turns_push : (P : ℕ → Lines → Lines → Served → Type 0) (k many : ℕ) (lines mid after : Lines) (did : Served)
     → AreTurns P k many lines mid → P (k + many) mid after did
     → AreTurns P k (suc many) lines after
@@ -136,7 +136,7 @@ turns_push P k (suc many) lines mid after did r t =
       turns_push P (k + 1) many r.0 mid after did r.3 (subst (λ (i : ℕ). P i mid after did) at t),
     )
 
--- What each turn shows holds at each place.
+-- A property that each turn shows holds at each place.
 pub turns_each : (P : ℕ → Lines → Lines → Served → Type 0) (Q : ℕ → Type 0) (k many : ℕ) (lines after : Lines)
     → ((i : ℕ) (before behind : Lines) (did : Served) → P i before behind did → Q i)
     → AreTurns P k many lines after → (i : ℕ) → k ≤ i → i < k + many → Q i

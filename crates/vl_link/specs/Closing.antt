@@ -4,8 +4,8 @@ use Rattle.subvl_queue.specs.Views.{closed}
 use Rattle.vl_link.specs.Seen.{Seen, receiving, gathered}
 use Rattle.vl_link.specs.Links.{Held, LinkState, held_at}
 
--- A queue is closed with this total, which is how many messages it accepted, for good: it has given no
--- more than those, and where it was closed before, the total is the one of then.
+-- The queue is closed with this total, the final number of accepted messages. It has given no more
+-- than those, and if it was closed before, the total is the same.
 abbrev pub Closes : (old : Seen) → ℕ → (new : Seen) → Type 0
 Closes (receiving old) total new =
     (new ≡ receiving (closed old total))
@@ -13,12 +13,12 @@ Closes (receiving old) total new =
     × IfSome old.total (λ before. total ≡ before)
 Closes (gathered old) total new = ⊥
 
--- a sub-VL but for its queue, which is closed
+-- a sub-VL whose queue is closed; all else is unchanged
 pub record ClosesSub (old : Held) (total : ℕ) (new : Held) : Type 0 where
   pub same : new ≡ record old { seen = new.seen }
   pub queue : Closes old.seen total new.seen
 
--- a link but for one of its sub-VLs, which is closed
+-- a link one of whose sub-VLs is closed; all else is unchanged
 pub record ClosesLink (old : LinkState) (sub total : ℕ) (new : LinkState) : Type 0 where
   pub within : sub < length old.subs
   pub same : new ≡ record old { subs = slice_set old.subs sub (held_at new.subs sub) }

@@ -1,4 +1,4 @@
--- A link of an emitter, and what one turn of it does.
+-- A link of an emitter, and the effect of one turn.
 use Rattle.std.specs.Prelude.{ℕ, ◌≡◌, ◌⊎◌, ◌<◌, List, [], ◌∷◌, Bool, true, false, length, map, get_or, Option, Some, None}
 use Rattle.afdx_plan.specs.Config.{link_plan_at, port_plan_at}
 use Rattle.afdx_plan.specs.Plan.{bag_micros}
@@ -22,18 +22,18 @@ use Rattle.status_board.specs.History.{zeros}
 use Rattle.afdx_legal.specs.Streams.{link_stream, latest}
 use Rattle.vl_link.specs.Seen.{Seen, taken_of, known_of, nothing_seen, FindsNothing, Finds, IsSameQueue}
 
--- the fragments of a sub-VL's messages for network A, the first of which has this place
+-- the fragments for network A of a sub-VL's messages, the first of which has this place
 abbrev pub sub_fragments : SubVl → ℕ → List Sent → List (List ℕ)
 sub_fragments of place messages =
     fragments_from of.end_system (room_of of.link.lmax) A place messages
 
--- the fragments of the message at this place
+-- the fragments for network A of the message at this place
 abbrev pub message_fragments : SubVl → ℕ → Sent → List (List ℕ)
 message_fragments of place sent =
     fragments_at of.end_system (room_of of.link.lmax) A place sent
 
--- A sub-VL: its ports in the order of the configuration, the fragments left of the message that is
--- being sent, and its queue.
+-- A sub-VL: its ports in the order of the configuration, the fragments left of the message being
+-- sent, and its queue.
 pub record Held : Type 0 where
   pub of : SubVl
   pub ports : List PortPlan
@@ -57,21 +57,21 @@ abbrev pub left_of : SubVl → Option Cutting → List (List ℕ)
 left_of of None = []
 left_of of (Some cut) = fragments_left of.end_system (room_of of.link.lmax) A cut
 
--- whether some fragment is left
+-- whether a fragment is left
 abbrev pub TellsCutting : Bool → List (List ℕ) → Type 0
 TellsCutting true left = left ≡ [] → ⊥
 TellsCutting false left = left ≡ []
 
--- a message is being sent: nothing changes
+-- a message is being sent, and nothing changes
 pub record GoesOn (old new : Held) : Type 0 where
   pub some : old.left ≡ [] → ⊥
   pub same : new ≡ old
 
--- what is known of a sub-VL's queue is of its ports
+-- the known messages of the sub-VL's queue are of its ports
 abbrev pub HasOwnItems : Held → Type 0
 HasOwnItems held = AreItems (length held.ports) (known_of held.seen)
 
--- no message was being sent, and the one of its ports that was found in the queue now is
+-- no message was being sent, and the next one in the queue now is
 pub record Starts (old new : Held) : Type 0 where
   pub message : ℕ × List ℕ
   pub item : IsItem (length old.ports) message
@@ -83,22 +83,22 @@ pub record Starts (old new : Held) : Type 0 where
   pub of : new.of ≡ old.of
   pub ports : new.ports ≡ old.ports
 
--- no message is being sent, and none was found in the queue
+-- no message is being sent, and the queue has none ready
 pub record Passes (old new : Held) : Type 0 where
   pub whole : old.left ≡ []
   pub nothing : FindsNothing old.seen new.seen
   pub same : new ≡ record old { seen = new.seen }
 
--- a sub-VL was asked, and answered whether it has something
+-- a sub-VL is polled, and has something or not
 abbrev pub Asks : Bool → Held → Held → Type 0
 Asks true old new = GoesOn old new ⊎ Starts old new
 Asks false old new = Passes old new
 
--- the plan at a place behind the last
+-- the plan at a place after the last
 abbrev pub no_link_plan : LinkPlan
 no_link_plan = link_plan_at [] 0
 
--- the sub-VL at an index behind the last
+-- the sub-VL at an index after the last
 abbrev pub nothing_held : Held
 nothing_held = record {
   of = record { end_system = 0; link = no_link_plan; sub = 0 };
@@ -111,7 +111,7 @@ nothing_held = record {
 abbrev pub held_at : List Held → ℕ → Held
 held_at subs sub = get_or subs sub nothing_held
 
--- the first in cyclic order that has something was chosen, and is then sending its message
+-- the first sub-VL in cyclic order that has something is chosen, and its message is being sent
 pub record IsPicked (pace : Pace) (old : List Held) (sub : ℕ) (new : List Held) : Type 0 where
   pub count : length new ≡ length old
   pub below : sub < length old
@@ -120,7 +120,7 @@ pub record IsPicked (pace : Pace) (old : List Held) (sub : ℕ) (new : List Held
       (λ s. Asks false (held_at old s) (held_at new s))
       (λ s. held_at new s ≡ held_at old s) sub
 
--- the first sub-VLs that were asked had nothing
+-- the first `asked` sub-VLs in cyclic order had nothing
 pub record PassedOver (pace : Pace) (old new : List Held) (asked : ℕ) : Type 0 where
   pub count : length new ≡ length old
   pub before : (k : ℕ) → k < asked
@@ -129,8 +129,8 @@ pub record PassedOver (pace : Pace) (old new : List Held) (asked : ℕ) : Type 0
   pub others : (s : ℕ) → ((k : ℕ) → k < asked → turn_of pace.sub_vls pace.last k ≡ s → ⊥)
       → held_at new s ≡ held_at old s
 
--- A link: its plan, its regulation, its sub-VLs, whether a frame of it was lost with the last
--- network that carries it, and the counts of what it sent.
+-- A link: its plan, its regulation, its sub-VLs, whether one of its frames was lost with the last
+-- network that carries it, and the counts of its frames.
 pub record LinkState : Type 0 where
   pub end_system : ℕ
   pub plan : LinkPlan
@@ -139,7 +139,7 @@ pub record LinkState : Type 0 where
   pub lost : Bool
   pub counts : Counts
 
--- the link at a place behind the last
+-- the link at a place after the last
 abbrev pub no_link : LinkState
 no_link = record {
   end_system = 0;
@@ -159,30 +159,31 @@ abbrev pub AreNamed : ℕ → LinkPlan → List Held → Type 0
 AreNamed end_system plan subs = (s : ℕ) → s < length subs
     → (held_at subs s).of ≡ record { end_system = end_system; link = plan; sub = s }
 
--- the same, but for the end system
+-- the sub-VLs of a link are those of its plan, whatever the end system
 abbrev pub AreSubsOf : LinkPlan → List Held → Type 0
 AreSubsOf plan subs = (s : ℕ) → s < length subs
     → ((held_at subs s).of.link ≡ plan) × ((held_at subs s).of.sub ≡ s)
 
--- a sub-VL is the one that it was, with the same ports and queue, and what is known of it stays of its ports
+-- The sub-VL is the same, with the same ports and queue. If the known messages were of its ports,
+-- they still are.
 pub record IsSameSub (old new : Held) : Type 0 where
   pub of : new.of ≡ old.of
   pub ports : new.ports ≡ old.ports
   pub queue : IsSameQueue old.seen new.seen
   pub items : HasOwnItems old → HasOwnItems new
 
--- each sub-VL is the one that it was
+-- each sub-VL is the same
 abbrev pub AreSameSubs : (old new : List Held) → Type 0
 AreSameSubs old new = (s : ℕ) → IsSameSub (held_at old s) (held_at new s)
 
--- what the fields of a link keep
+-- the invariant of a link and its plan
 pub record IsLinkOfPlan (end_system : ℕ) (plan : LinkPlan) (pace : Pace) (subs : List Held) : Type 0 where
   pub count : length subs ≡ pace.sub_vls
   pub sub_vls : pace.sub_vls ≡ plan.sub_vls
   pub gap : pace.gap ≡ bag_micros plan.bag
   pub named : AreNamed end_system plan subs
 
--- what a link's stream says of its regulation: its last release, and the number that comes next
+-- a link's regulation by its stream: its last release, and the next sequence number
 abbrev pub pace_of : ℕ → ℕ → List Entry → Pace
 pace_of gap sub_vls stream = record {
   gap = gap;
@@ -191,12 +192,12 @@ pace_of gap sub_vls stream = record {
   next = sequence_number (length stream);
 }
 
--- a sub-VL gave its next frame
+-- a sub-VL gives its next frame
 pub record Gives (old : Held) (frame : List ℕ) (new : Held) : Type 0 where
   pub next : old.left ≡ blanked frame ∷ new.left
   pub same : new ≡ record old { left = new.left }
 
--- a sub-VL had something when it was asked, and gave its next frame
+-- a sub-VL is polled, has something, and gives its next frame
 pub record GivesFrame (old : Held) (frame : List ℕ) (new : Held) : Type 0 where
   pub mid : Held
   pub asked : Asks true old mid
@@ -210,11 +211,11 @@ held_view old new = record {
   gives = λ s frame. GivesFrame (held_at old s) frame (held_at new s);
 }
 
--- One turn of a link, whose sub-VLs are asked by looks into their queues.
+-- one turn of a link that polls the queues of its sub-VLs
 abbrev pub Serves : ℕ → LinkPlan → Pace → (old new : List Held) → (lines after : Lines) → Served → Type 0
 Serves now plan pace old new lines after did = Turn now plan pace (held_view old new) lines after did
 
--- where no frame was lost, the regulation is again where the stream is
+-- if no frame was lost, the regulation agrees with the stream
 abbrev pub Follows : ℕ → Pace → Lines → Served → Type 0
 Follows vl pace after Nothing =
     pace ≡ pace_of pace.gap pace.sub_vls (link_stream vl (log after))
@@ -222,7 +223,7 @@ Follows vl pace after (Released sub number) =
     pace ≡ pace_of pace.gap pace.sub_vls (link_stream vl (log after))
 Follows vl pace after Lost = Unit {0}
 
--- the link of the plan stays the same, and so do its sub-VLs
+-- the link and its sub-VLs are the same
 pub record IsSameLink (old new : LinkState) : Type 0 where
   pub end_system : new.end_system ≡ old.end_system
   pub plan : new.plan ≡ old.plan

@@ -1,29 +1,28 @@
--- The taking end of a sub-VL's queue. A message stands with the index of its port, as a pair of the
--- index and the bytes.
+-- The taking end of a sub-VL's queue. A message is a pair of its port's index and its bytes.
 use Rattle.std.specs.Prelude.{ℕ, ◌≡◌, List, [], ◌∷◌, ◌++◌, Bool, true, false, Option, Some, None}
 use Rattle.subvl_queue.specs.Views.{QueueName, ReceiverView, GatheredView, looked, after_take, accepted_of}
 
--- a receiver, whose ports may still send; or all ends of the queue, whose messages are known whole
+-- a receiver whose ports may still send, or all ends of the queue, with its messages known whole
 pub data Seen : Type 0 where
   receiving : ReceiverView → Seen
   gathered : GatheredView → Seen
 
--- what was taken so far, in order
+-- the messages taken so far, in order
 abbrev pub taken_of : Seen → List (ℕ × List ℕ)
 taken_of (receiving r) = r.taken
 taken_of (gathered g) = g.taken
 
--- how many ports the queue has
+-- the number of the queue's ports
 abbrev pub ports_of : Seen → ℕ
 ports_of (receiving r) = r.ports
 ports_of (gathered g) = g.ports
 
--- the queue that a receiver belongs to
+-- the identity of a receiver's queue
 abbrev pub queue_of : Seen → Option QueueName
 queue_of (receiving r) = Some r.queue
 queue_of (gathered g) = None
 
--- the total that a close told of a queue whose receiver is at hand
+-- the total of a closed queue that isn't gathered
 abbrev pub total_of : Seen → Option ℕ
 total_of (receiving r) = r.total
 total_of (gathered g) = None
@@ -38,16 +37,16 @@ abbrev pub IsKnownWhole : Seen → Type 0
 IsKnownWhole (receiving r) = ⊥
 IsKnownWhole (gathered g) = Unit {0}
 
--- all ends of a queue of no ports
+-- all ends of a queue without ports
 abbrev pub nothing_seen : Seen
 nothing_seen = gathered (record { ports = 0; taken = []; left = [] })
 
--- a look that found nothing ready; where the messages are known whole, none is left
+-- a poll that finds nothing ready; if the messages are known whole, none is left
 abbrev pub FindsNothing : (old new : Seen) → Type 0
 FindsNothing (receiving old) new = new ≡ receiving (looked old)
 FindsNothing (gathered old) new = (old.left ≡ []) × (new ≡ gathered old)
 
--- a look that found this message, which is taken; where the messages are known whole, it is the next
+-- a poll that finds and takes this message; if the messages are known whole, it is the next
 abbrev pub Finds : (old : Seen) → ℕ × List ℕ → (new : Seen) → Type 0
 Finds (receiving old) message new = new ≡ receiving (after_take old message)
 Finds (gathered old) message new =
@@ -59,14 +58,14 @@ Finds (gathered old) message new =
       left = more;
     }))
 
--- whether it is known that nothing is left to be taken
+-- whether it is known that no message is left
 abbrev pub TellsDrained : Bool → Seen → Type 0
 TellsDrained true (receiving r) = ⊥
 TellsDrained false (receiving r) = Unit {0}
 TellsDrained true (gathered g) = g.left ≡ []
 TellsDrained false (gathered g) = g.left ≡ [] → ⊥
 
--- The same queue, closed or not as before, of which more may have been taken. Where its accepted
+-- The queue is the same, with the same total. More messages may have been taken. If its accepted
 -- messages are known whole, they are the same.
 abbrev pub IsSameQueue : (old new : Seen) → Type 0
 IsSameQueue (receiving old) (receiving new) =
@@ -77,7 +76,7 @@ IsSameQueue (gathered old) (gathered new) =
 IsSameQueue (receiving old) (gathered new) = ⊥
 IsSameQueue (gathered old) (receiving new) = ⊥
 
--- what was accepted into a queue; before it is gathered, as much of it as was taken
+-- the known accepted messages: those taken, or all once the queue is gathered
 abbrev pub known_of : Seen → List (ℕ × List ℕ)
 known_of (receiving r) = r.taken
 known_of (gathered g) = accepted_of g

@@ -1,4 +1,4 @@
--- What the fields of a sub-VL keep.
+-- The invariant of a sub-VL.
 use Rattle.std.specs.Prelude.{ℕ, ◌≡◌, ◌≤◌, ◌%◌, List, length, All, Option, IfSome}
 use Rattle.afdx_plan.specs.Plan.{IsLink, IsPort, SendsOver}
 use Rattle.afdx_plan.specs.declared.port_plan.PortPlan.{PortPlan}
@@ -8,7 +8,7 @@ use Rattle.vl_link.specs.declared.queue.Queue.{Queue}
 use Rattle.vl_link.specs.declared.queue.Queue.TheVariants.{Receiving, Gathered, Empty}
 use Rattle.vl_link.specs.Seen.{Seen, receiving, gathered, nothing_seen, taken_of, ports_of}
 
--- the receiver, or all ends; a queue that was moved out stands as one of no ports
+-- the receiver, or all ends; a queue that was moved out counts as one without ports
 abbrev pub seen_of : Queue → Seen
 seen_of (Receiving r) = receiving r
 seen_of (Gathered g) = gathered g
@@ -20,13 +20,13 @@ pub record IsPortOf (owner : SubVl) (sender : PortPlan) : Type 0 where
   pub over : SendsOver sender owner.link
   pub of_sub : sender.sub ≡ owner.sub
 
--- the message that is being sent is of this sub-VL
+-- the message being sent is of this sub-VL
 pub record IsCutOf (owner : SubVl) (cut : Cutting) : Type 0 where
   pub over : SendsOver cut.port owner.link
   pub of_sub : cut.port.sub ≡ owner.sub
 
--- The ports are of this sub-VL, and the queue has no more senders. The next message's place counts
--- those that were taken, modulo 16,384.
+-- The ports are of this sub-VL, and the queue has no more senders than ports. The place of the next
+-- message is the number of messages taken modulo 16,384.
 pub record IsSub (owner : SubVl) (ports : List PortPlan) (sending : Option Cutting)
     (seen : Seen) (next : ℕ) : Type 0 where
   pub link : IsLink owner.link

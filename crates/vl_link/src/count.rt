@@ -1,4 +1,4 @@
-//! What was sent of a link is counted.
+//! The counts of a link's frames.
 ghost use Rattle.std.specs.Prelude.{◌≡◌, ◌≤◌, ◌++◌, List, length, nat_lt, if◌then◌else◌};
 ghost use Rattle.afdx_frame.specs.Profile.{fragment_field};
 ghost use Rattle.afdx_frame.specs.Roles.{more_fragments};
@@ -9,7 +9,8 @@ ghost use Rattle.vl_link.specs.Turn.{entered, HasHeaders};
 use crate::served::Served;
 use status_board::Counts;
 
-// How many messages end with a frame: one, unless the flag of more fragments is set (RFC 791, 3.1).
+// The number of messages that end with a frame: one, unless the flag of more fragments is set (RFC
+// 791, 3.1).
 #[inline(always)]
 fn messages_ended(frame: &[u8]) -> u64
     requires { 22 ≤ length frame.now }
@@ -18,8 +19,8 @@ fn messages_ended(frame: &[u8]) -> u64
     if frame[20] < 0x20 { 1 } else { 0 }
 }
 
-/// The counts of a link's stream after a turn, which made the frame that it released. A count stays at the
-/// greatest number once it is there.
+/// The counts of a link's stream after a turn that released this frame. A count stops at its
+/// greatest value.
 #[inline(always)]
 pub fn counts_after(counts: &Counts, did: &Served, now: u64, frame: &[u8]) -> Counts
     requires { HasHeaders did.now frame.now }

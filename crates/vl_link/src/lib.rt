@@ -1,4 +1,4 @@
-//! One turn of a virtual link: its sub-VLs, their queues, and the frame that goes out.
+//! One turn of a virtual link: its sub-VLs, their queues, and the released frame.
 #![tactic(auto)]
 
 mod count;

@@ -38,7 +38,7 @@ fn choose(shaper: &Shaper, subs: &mut [Sub]) -> Option<u8>
     None
 }
 
-/// One turn of the parts of a link that may release a frame.
+/// One turn of a link that may release a frame, on the parts of the link.
 fn serve_due<A: Network + Drop, B: Network + Drop>(
     plan: &LinkPlan,
     shaper: &mut Shaper,
@@ -79,7 +79,7 @@ fn serve_due<A: Network + Drop, B: Network + Drop>(
     }
 }
 
-/// Whether no sub-VL has anything left.
+/// Whether all sub-VLs are done.
 fn subs_done(subs: &[Sub]) -> bool
     ensures { TellsSubsDone result subs.now }
 {
@@ -102,8 +102,8 @@ fn gather_subs(subs: &mut [Sub])
 }
 
 /// A virtual link: its sub-VLs and its regulation. Contracts see its plan, its regulation, its
-/// sub-VLs, whether a frame of it was lost with the last network that carries it, and the counts of
-/// what it sent.
+/// sub-VLs, whether one of its frames was lost with the last network that carries it, and the
+/// counts of its frames.
 #[derive(Drop)]
 pub struct Link {
     end_system: u16,
@@ -153,7 +153,7 @@ impl Link {
     ghost use Rattle.vl_link.specs.Links.{held_at};
     ghost use Rattle.vl_link.specs.Closing.{ClosesLink};
 
-    /// A link of these sub-VLs, those of its plan. Nothing was released yet.
+    /// A link of these sub-VLs, those of its plan, which has released nothing.
     pub fn new(end_system: u16, plan: LinkPlan, subs: Vec<Sub>) -> Link
         requires plan { IsLink plan }
         requires count { length subs.items ≡ plan.sub_vls }
@@ -189,14 +189,14 @@ impl Link {
         self.plan.id
     }
 
-    /// What was sent of it.
+    /// The counts of its frames.
     pub fn counts(&self) -> Counts
         ensures { result ≡ self.now.counts }
     {
         self.counts
     }
 
-    /// Whether it has lost no frame, and no sub-VL has anything left.
+    /// Whether it has lost no frame, and all its sub-VLs are done.
     pub fn is_done(&self) -> bool
         ensures { TellsLinkDone result self.now }
     {
@@ -218,8 +218,8 @@ impl Link {
         self.shaper.due(now) && mux.stands_for(self.plan.networks)
     }
 
-    /// The first moment after `now`, in microseconds, at which it may release a frame, where it may not at
-    /// `now`. `None` where it may, where no network that carries it is up, and where that moment has more
+    /// The first time after `now`, in microseconds, at which it may release a frame, if it may not
+    /// at `now`. `None` if it may, if no network that carries it is up, or if that time has more
     /// than 64 bits.
     pub fn next_due<A: Network + Drop, B: Network + Drop>(
         &self,
@@ -236,8 +236,8 @@ impl Link {
         self.shaper.due_from()
     }
 
-    /// One turn of the link at `now`, in microseconds, when it may release a frame. The frame is made in
-    /// a kept buffer.
+    /// One turn of the link at `now`, in microseconds, when it may release a frame. Makes the frame
+    /// in the caller's buffer.
     pub fn serve<A: Network + Drop, B: Network + Drop>(
         &mut self,
         frame: &mut Frame,
@@ -281,8 +281,8 @@ impl Link {
         self.subs[sub as usize].close()
     }
 
-    /// The sender of the next port of a sub-VL, for at most `calls` calls. If an allocation fails, nothing
-    /// has changed.
+    /// Makes the sender of the next port of a sub-VL, for at most `calls` calls. If an allocation
+    /// fails, nothing changes.
     #[tactic(auto, using(std::proofs::lemmas::Grind::common_steps))]
     pub fn new_sender(&mut self, sub: u8, calls: u64) -> Result<Sender, AllocError>
         requires within { sub < length self.old.subs }

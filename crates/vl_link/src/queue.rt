@@ -1,4 +1,4 @@
-//! The taking end of a sub-VL's queue, while its ports send and after they are gathered.
+//! The taking end of a sub-VL's queue, before and after its ports are gathered.
 use subvl_queue::{Gathered, Item, Receiver};
 
 /// The taking end of a queue: a receiver, or all ends.
@@ -16,7 +16,7 @@ impl Queue {
     ghost use Rattle.vl_link.specs.Seen.{ports_of, FindsNothing, Finds, TellsDrained};
     ghost use Rattle.vl_link.specs.Subs.{seen_of};
 
-    /// The next message, if one is ready. It waits for nobody.
+    /// Takes the next message, if one is ready. Never waits.
     pub fn take(&mut self) -> Option<Item>
         ensures none { IfNone result (FindsNothing (seen_of self.old) (seen_of self.new)) }
         ensures some { IfSome result (λ item. Finds (seen_of self.old) item (seen_of self.new)) }
@@ -29,7 +29,7 @@ impl Queue {
         }
     }
 
-    /// Whether it is known that nothing is left to be taken.
+    /// Whether it is known that no message is left.
     pub fn is_drained(&self) -> bool
         ensures { TellsDrained result (seen_of self.now) }
     {

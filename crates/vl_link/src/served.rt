@@ -1,15 +1,15 @@
-//! What one turn of a link did.
+//! The outcome of one turn of a link.
 ghost use Rattle.std.specs.Prelude.{◌≡◌};
 ghost use Rattle.vl_link.specs.Turn.{is_lost};
 
-/// What one turn of a link did.
+/// The outcome of one turn of a link.
 #[derive(Clone, Copy, Debug, PartialEq, Eq)]
 pub enum Served {
-    /// It wasn't due, or no network that carries it stood, or no sub-VL had anything.
+    /// The link wasn't due, none of its networks was up, or no sub-VL had anything.
     Nothing,
-    /// A frame of this sub-VL went out, with this sequence number.
+    /// A frame of this sub-VL was released, with this sequence number.
     Released { sub: u8, number: u8 },
-    /// The last network that carries it failed, and a frame with it.
+    /// The last network that carries the link failed, and a frame was lost.
     Lost,
 }
 

@@ -1,4 +1,4 @@
-//! A sub-VL: the queue of its messages, and one that is being sent.
+//! A sub-VL: its queue, and the message being sent.
 ghost use Rattle.std.specs.Prelude.{◌≡◌, ◌≢◌, ◌≤◌, [], ◌∷◌, length, All, Some, IfOk, IfErr};
 ghost use Rattle.afdx_plan.specs.Plan.{IsLink};
 ghost use Rattle.afdx_frame.specs.declared.net.Net.TheVariants.{A as ForA};
@@ -16,12 +16,11 @@ use std::marker::Model;
 use std::mem::replace;
 use subvl_queue::{Item, Receiver, Sender};
 
-/// A sub-VL. Contracts see its ports, the fragments left of the message that is being sent, and its
-/// queue.
+/// A sub-VL. Contracts see its ports, the fragments left of the message being sent, and its queue.
 #[derive(Drop)]
 pub struct Sub {
     of: SubVl,
-    // In the order of the configuration; a message's port is an index into them.
+    // In the order of the configuration. A message's port is an index into them.
     ports: BoxedSlice<PortPlan>,
     sending: Option<Cut>,
     queue: Queue,
@@ -57,7 +56,8 @@ impl Sub {
     ghost use Rattle.vl_link.specs.LinkSenders.{LacksSender, SubMakesSender, SubTakesBack};
     ghost use Rattle.vl_link.specs.Closing.{ClosesSub};
 
-    /// A sub-VL of these ports, over a queue with no more senders. Nothing was taken yet.
+    /// A sub-VL of these ports, over a queue with no more senders than ports, which has taken
+    /// nothing.
     pub fn new(of: SubVl, ports: Vec<PortPlan>, receiver: Receiver) -> Sub
         requires link { IsLink of.link }
         requires ports { All (IsPortOf of) ports.items }
@@ -106,7 +106,8 @@ impl Sub {
         !is_cutting(&self.of, &self.sending) && self.queue.is_drained()
     }
 
-    /// Writes the next frame, for network A and with this sequence number, into a kept buffer.
+    /// Writes the next frame, for network A and with this sequence number, into the caller's
+    /// buffer.
     pub fn write_next(&mut self, number: u8, out: &mut Frame)
         requires { self.old.left ≢ [] }
         ensures left { self.old.left ≡ blanked out.new.items ∷ self.new.left }
@@ -124,8 +125,8 @@ impl Sub {
         }
     }
 
-    /// Closes its queue, and returns the final number of accepted messages. None is accepted from then
-    /// on, and each later close returns the same. It waits for nobody.
+    /// Closes its queue, and returns the final number of accepted messages. None is accepted from
+    /// then on, and each later close returns the same. Never waits.
     pub fn close(&mut self) -> u64
         requires receiving { IsReceiving self.old.seen }
         ensures { ClosesSub self.old result self.new }
@@ -136,8 +137,8 @@ impl Sub {
         }
     }
 
-    /// The sender of its next port, for at most `calls` calls. If an allocation fails, nothing has
-    /// changed.
+    /// Makes the sender of its next port, for at most `calls` calls. If an allocation fails,
+    /// nothing changes.
     pub fn new_sender(&mut self, calls: u64) -> Result<Sender, AllocError>
         requires lacks { LacksSender self.old }
         requires calls { calls ≤ most_calls }
@@ -161,7 +162,7 @@ impl Sub {
         }
     }
 
-    /// Gathers its queue, all of whose senders are back. It waits for nobody.
+    /// Gathers its queue, all of whose senders are back. Never waits.
     pub fn gather(&mut self)
         requires full { IsFullSub self.old }
         ensures { GathersSub self.old self.new }

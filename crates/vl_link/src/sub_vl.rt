@@ -1,4 +1,4 @@
-//! Which sub-VL of which end system.
+//! The identity of a sub-VL.
 use afdx_plan::LinkPlan;
 
 /// A sub-VL: its end system, its link, and its index there.

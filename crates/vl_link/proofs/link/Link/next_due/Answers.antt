@@ -15,11 +15,11 @@ none : (a b : Bool) → b ≡ false → a && b ≡ false
 none true b down = down
 none false b down = refl
 
--- no network carries the link
+-- No network that carries the link is up.
 down_stays : (now : ℕ) (plan : LinkPlan) (pace : Pace) (lines : Lines) → stands_for plan.networks lines ≡ false → StaysAsIs now plan pace lines
 down_stays now plan pace lines down = inr (λ m late early. none (is_due pace.gap pace.last m) (stands_for plan.networks lines) down)
 
--- it is due
+-- The link is due.
 due_stays : (now : ℕ) (plan : LinkPlan) (pace : Pace) (lines : Lines) → is_due pace.gap pace.last now ≡ true → StaysAsIs now plan pace lines
 due_stays now plan pace lines due = elim (cases_Bool (stands_for plan.networks lines)) [
   | inl up ↦ inl (both (is_due pace.gap pace.last now) (stands_for plan.networks lines) due up)

@@ -7,13 +7,13 @@ use Rattle.vl_link.proofs.QueueLooks.{item_of_more, same_nothing, same_ports, ta
 use Rattle.vl_link.proofs.SubKept.{kept_as, kept_finds}
 use Rattle.vl_link.proofs.sub.Sub.ready.Goals as goal
 
--- the message's port is one of the sub-VL's
+-- The message's port is one of the sub-VL's.
 has_port : (c : goal.After-self-in-Some-1) → c.from.result < length c.self.inside.ports.items.items
 has_port c =
     let place = c.from.ensures ∙ ap (λ (i : ℕ × List ℕ). i.0) c.item.view_is in
     let port = c.in-Some.ensures.item.port in let count = c.self.invariant.count in omega arith
 
--- so what is cut is of this sub-VL
+-- The cut is of this sub-VL.
 own : (c : goal.After-self-in-Some-1) → IsCutOf c.self.inside.of c.new.result
 own c =
     let port = subst (IsPortOf c.self.inside.of) (sym c.index.ensures)
@@ -21,7 +21,7 @@ own c =
     let same = c.new.ensures.message.0 in
     record { over = rw same port.over; of_sub = rw same port.of_sub }
 
--- the message that was cut is the one that was found
+-- The cut message is the found one.
 cut_is : (c : goal.After-self-in-Some-1)
     → record { port = c.index.result.now; bytes = c.item.inside.bytes.items } ≡ sent_of c.self.inside.ports.items.items c.in-Some.item
 cut_is c =
@@ -33,7 +33,7 @@ cut_is c =
       bytes = (c.item.view_is i).1;
     }
 
--- no message was being sent
+-- No message was being sent.
 is_whole : (of : SubVl) (sending : Option Cutting) (cutting : Bool)
     → cutting ≡ false → TellsCutting cutting (left_of of sending) → left_of of sending ≡ []
 is_whole of sending cutting idle tells = rw idle at tells
