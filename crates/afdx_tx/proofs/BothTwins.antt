@@ -1,4 +1,4 @@
--- Of links on both networks, what was handed to the one is twins of what was handed to the other.
+-- On links that both networks carry, the frames of one network are the twins of the other's.
 use Rattle.afdx_tx.proofs.Names.{get_or, subst, ℕ, ◌≡◌, ◌≤◌, List, ◌++◌, Bool, true, length, map, take, arith, ap}
 use Rattle.afdx_tx.proofs.Names.{◌∙◌, sym, All, and_parts, get_or-map, length-map, take_all, take-append-le}
 use Rattle.afdx_tx.proofs.Names.{take-map, filter-append, LinkPlan, Networks, Plan, IsPlan, Net, A, B, link_in}
@@ -11,11 +11,11 @@ use Rattle.afdx_legal.proofs.OnBoth.{on_both_is}
 use Rattle.afdx_tx.proofs.HandedFronts.{picked, all_front, log_parts}
 use Rattle.afdx_tx.proofs.OwnStreams.{sides}
 
--- an entry is of a link on both where it was logged for both
+-- an entry of a link on both networks was logged for both
 abbrev IsPlanned : List LinkPlan → Logged → Type 0
 IsPlanned links l = is_on_both links (link_in l.entry.frame) ≡ is_both l.networks
 
--- known entries that are carried by their links' networks are so
+-- Known entries carried by their links' networks are logged so.
 planned : (plan : Plan) (ls : List Logged) → IsPlan plan → AreKnown plan.links A (entries_of ls)
     → AreCarried plan.links ls → All (IsPlanned plan.links) ls
 planned plan ls valid known carried i d lt =
@@ -25,30 +25,30 @@ planned plan ls valid known carried i d lt =
     ap (is_on_both plan.links) k.link ∙ on_both_is plan k.k valid k.within
     ∙ ap is_both (sym (carried k.k k.within i d lt k.link))
 
--- so those that were logged
+-- The logged entries are logged so.
 logged_planned : (plan : Plan) (lines : Lines) → IsPlan plan → AreCarried plan.links lines.logged
     → AreKnown plan.links A (log lines) → All (IsPlanned plan.links) lines.logged
 unfolding log
 logged_planned plan lines valid carried known = planned plan lines.logged valid known carried
 
--- what is for both is for each
+-- An entry for both networks is for each.
 both_names : (net : Net) (networks : Networks) → is_both networks ≡ true → names net networks ≡ true
 both_names A networks is = (and_parts (names_a networks) (names_b networks) is).0
 both_names B networks is = (and_parts (names_a networks) (names_b networks) is).1
 
--- of links on both, what a network was handed is the twins of what was logged
+-- On such links, a network's frames are the twins of the log.
 both_sent : (links : List LinkPlan) (net : Net) (ls : List Logged) → All (IsPlanned links) ls
     → on_both links (sent_to net ls) ≡ map (side net) (on_both links (entries_of ls))
 both_sent links net ls own = picked net _ (λ e. ap (is_on_both links) (twin_link net e.frame)) ls
     (λ k d lt on. both_names net _ (sym (own k d lt) ∙ on))
 
--- a list that another begins: what is taken of the one is the other
+-- Two lists with a common extension agree as far as the shorter one reaches.
 taken_front : (xs ys zs ws : List Entry) → xs ++ ys ≡ zs ++ ws → length zs ≤ length xs → take (length zs) xs ≡ zs
 taken_front xs ys zs ws same le =
     sym (take-append-le (length zs) xs ys le) ∙ ap (take (length zs)) same ∙ take-append-le (length zs) zs ws (omega arith)
     ∙ take_all (length zs) zs (omega arith)
 
--- twins of two fronts of one list
+-- Two prefixes of one list, each turned to its network, are twins.
 front_twins : (xs ys zs ws : List Entry) → xs ++ ys ≡ zs ++ ws → AreTwins side (map (side A) xs) (map (side B) zs)
 front_twins xs ys zs ws same = record {
   b_shorter = λ le. shorter B A zs xs (taken_front xs ys zs ws same (omega (arith, le, length-map xs (side A), length-map zs (side B))));
@@ -63,11 +63,11 @@ front_twins xs ys zs ws same = record {
         ∙ sides net other (take (length front) whole)
         ∙ ap (map (side net)) is)
 
--- the entries of links on both, in two lists
+-- The entries of such links in two lists.
 both_append : (links : List LinkPlan) (xs ys : List Entry) → on_both links (xs ++ ys) ≡ on_both links xs ++ on_both links ys
 both_append links xs ys = filter-append (λ (e : Entry). is_on_both links (link_in e.frame)) xs ys
 
--- What was handed to the two networks of links on both is twins.
+-- On such links the frames of the two networks are twins.
 pub both_twins : (plan : Plan) (lines : Lines) → IsPlan plan → IsMirrored lines → AreCarried plan.links lines.logged
     → AreKnown plan.links A (log lines) → AreTwins side (on_both plan.links lines.a) (on_both plan.links lines.b)
 both_twins plan lines valid m carried known =

@@ -1,4 +1,4 @@
--- An emitter of which a sub-VL was closed is as sound as it was.
+-- An emitter with one closed sub-VL is still sound.
 use Rattle.afdx_tx.proofs.Names.{ℕ, ◌≡◌, ◌<◌, ◌≤◌, List, length, set, arith, refl, ap, ◌∙◌, sym, subst, ⊎_elim}
 use Rattle.afdx_tx.proofs.Names.{Result, Ok, Err, OnErr, IfOk, cases_lt, length-set, get_or_past, Plan, IsPlan}
 use Rattle.afdx_tx.proofs.Names.{link_plan_at, queue_of, Held, LinkState, held_at, link_at, no_link, ClosesSub}
@@ -8,7 +8,7 @@ use Rattle.afdx_tx.proofs.SoundEmitter.{alike_queues}
 use Rattle.afdx_tx.proofs.KeptLinks.{KeepsSub, KeepLinks}
 use Rattle.afdx_tx.proofs.OneSub.{one_link, one_count, one_each}
 
--- a sub-VL but for whether its queue is closed
+-- a sub-VL that may have been closed; all else is unchanged
 pub record ClosedSub (old new : Held) : Type 0 where
   pub keeps : KeepsSub old new
   pub name : queue_of new.seen ≡ queue_of old.seen
@@ -37,14 +37,14 @@ sub_closed old total new c = record {
   name = closes_name old.seen total new.seen c.queue;
 }
 
--- links but for whether their queues are closed
+-- links whose sub-VLs may have been closed; all else is unchanged
 pub record ClosedLinks (old new : List LinkState) : Type 0 where
   pub count : length new ≡ length old
   pub same : (k : ℕ) → link_at new k ≡ record (link_at old k) { subs = (link_at new k).subs }
   pub subs : (k : ℕ) → length (link_at new k).subs ≡ length (link_at old k).subs
   pub each : (k s : ℕ) → ClosedSub (held_at (link_at old k).subs s) (held_at (link_at new k).subs s)
 
--- one link was set to itself with a sub-VL closed
+-- One link had one sub-VL closed.
 pub links_closed : (old : List LinkState) (place sub total : ℕ) (new : LinkState)
     → ClosesLink (link_at old place) sub total new → place < length old → ClosedLinks old (set old place new)
 links_closed old place sub total new c within = record {
@@ -55,37 +55,37 @@ links_closed old place sub total new c within = record {
       (sub_closed (held_at (link_at old place).subs sub) total (held_at new.subs sub) c.closes);
 }
 
--- nothing but the queues has changed
+-- Only the queues have changed.
 pub closed_kept : (old new : List LinkState) → ClosedLinks old new → KeepLinks old new
 closed_kept old new c = record {
   count = c.count;
   each = λ k lt. record { same = c.same k; count = c.subs k; each = λ s slt. (c.each k s).keeps };
 }
 
--- the queues have their names
+-- The queues have the same identities.
 queues_same : (old new : List LinkState) → ClosedLinks old new → queues_in new ≡ queues_in old
 queues_same old new c = alike_queues old new c.count (λ k _. c.subs k) (λ k s _. (c.each k s).name)
 
--- a link that is found has no such sub-VL, and no other link has its identifier
+-- A found link lacks this sub-VL, and no other link has its identifier.
 pub lacks_at : (plan : Plan) (vl sub place : ℕ) → IsPlan plan → place < length plan.links
     → (link_plan_at plan.links place).id.0 ≡ vl → (link_plan_at plan.links place).sub_vls ≤ sub → LacksSub plan vl sub
 lacks_at plan vl sub place valid within id few other at =
     let same = valid.links_apart other place at.within within (λ i. record { 0 = (at.id ∙ sym id) i }) in
     let below = rw same at at.below in omega arith
 
--- the link whose sub-VL was closed is one of the emitter's
+-- The link of the closed sub-VL is one of the emitter's.
 pub closes_within : (old : Tx) (vl sub total : ℕ) (new : Tx) (c : ClosesTx old vl sub total new) → c.place < length old.links
 closes_within old vl sub total new c = ⊎_elim (λ lt. lt)
     (λ past. absurd (let below = rw (get_or_past old.links c.place no_link past) at c.closes.within in omega arith))
     (cases_lt c.place (length old.links))
 
--- the links of an emitter but for a queue that is closed
+-- The links after the close.
 pub closes_links : (old : Tx) (vl sub total : ℕ) (new : Tx) → ClosesTx old vl sub total new → ClosedLinks old.links new.links
 closes_links old vl sub total new c =
     subst (ClosedLinks old.links) (sym (ap (λ (t : Tx). t.links) c.same))
     (links_closed old.links c.place sub total (link_at new.links c.place) c.closes (closes_within old vl sub total new c))
 
--- whether a sub-VL was closed or refused, the queues have their names
+-- Closed or refused, the queues have the same identities.
 pub answered_queues : {E : Type 0} (answer : Result ℕ E) (old : Tx) (vl sub : ℕ) (new : Tx) → OnErr answer (new ≡ old)
     → IfOk answer (λ (total : ℕ). ClosesTx old vl sub total new) → queues_in new.links ≡ queues_in old.links
 answered_queues (Ok total) old vl sub new unchanged closed = queues_same old.links new.links (closes_links old vl sub total new closed)

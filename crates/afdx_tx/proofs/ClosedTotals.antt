@@ -1,10 +1,10 @@
--- The total of a sub-VL that was closed is how many messages it accepted.
+-- The total of a closed sub-VL is the number of messages that it accepted.
 use Rattle.afdx_tx.proofs.Names.{ℕ, ◌≡◌, ◌<◌, List, length, refl, ap, ◌∙◌, sym, ⊎_elim, Option, Some, None, get_or}
 use Rattle.afdx_tx.proofs.Names.{cases_lt, get_or_past, length-map, Seen, receiving, gathered, known_of, total_of}
 use Rattle.afdx_tx.proofs.Names.{Held, LinkState, held_at, link_at, no_link, nothing_held, sent_of, Closes}
 use Rattle.afdx_tx.proofs.Names.{BecomesWhole, Tx, total_in, PortView, accepted_in, ClosesTx, IsGatheredTx}
 
--- a sub-VL that was closed shows its total
+-- A closed sub-VL has its total.
 pub closes_total : (old : Tx) (vl sub total : ℕ) (new : Tx) (c : ClosesTx old vl sub total new)
     → total_in new.links c.place sub ≡ Some total
 closes_total old vl sub total new c =
@@ -15,21 +15,21 @@ closes_total old vl sub total new c =
     closed_total (receiving before) total after c = ap total_of c.0
     closed_total (gathered before) total after c = absurd c
 
--- an element that shows a total is one of the list
+-- An element with a total is within the list.
 shows : {X : Type 0} (show : X → Option ℕ) (xs : List X) (k total : ℕ) (past : X) → show past ≡ None
     → show (get_or xs k past) ≡ Some total → k < length xs
 shows show xs k total past none shown = ⊎_elim (λ lt. lt)
     (λ ge. absurd (let e : None ≡ Some total = sym none ∙ ap show (sym (get_or_past xs k past ge)) ∙ shown in cc))
     (cases_lt k (length xs))
 
--- the total of a queue is how many messages are known of it once it is gathered
+-- The total of a queue is the number of its known messages once it is gathered.
 whole_total : (old new : Seen) (total : ℕ) → BecomesWhole old new → total_of old ≡ Some total → length (known_of new) ≡ total
 whole_total (receiving old) (gathered new) total b shown =
     sym (rw shown at b.3)
 whole_total (gathered old) (gathered new) total b shown = absurd b
 whole_total old new total b shown = absurd b
 
--- the total of a sub-VL is how many messages it accepted, known whole once the ports are gathered
+-- The total of a sub-VL is the number of its accepted messages once the ports are gathered.
 pub total_whole : (old : Tx) (ports : List PortView) (new : Tx) (k s total : ℕ) → IsGatheredTx old ports new
     → total_in old.links k s ≡ Some total → length (accepted_in new.links k s) ≡ total
 total_whole old ports new k s total g shown =

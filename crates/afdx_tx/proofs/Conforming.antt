@@ -1,4 +1,4 @@
--- What was sent by a sound emitter conforms.
+-- A sound emitter's frames conform.
 use Rattle.afdx_tx.proofs.Names.{Tx, IsSound, Conforms}
 use Rattle.afdx_tx.proofs.DrainKeeps.{legal_accepted}
 use Rattle.afdx_tx.proofs.PortMessages.{taken_allowed, accepted_allowed}

@@ -1,4 +1,4 @@
--- Each poll of a drain that finds a link due sends one of its frames, until it owes none.
+-- Each poll of a drain at which a link is due sends one of its frames, until it owes none.
 use Rattle.afdx_tx.proofs.Names.{ℕ, zero, suc, ◌≡◌, ◌≢◌, ◌⊎◌, ◌+◌, ◌-◌, ◌<◌, ◌≤◌, List, [], ◌∷◌, ◌++◌, true, length}
 use Rattle.afdx_tx.proofs.Names.{arith, refl, ap, ◌∙◌, sym, subst, Option, Some, None, inl, inr, ⊎_elim, and_from}
 use Rattle.afdx_tx.proofs.Names.{both_ways, cases_eq, le-leb, length-append, length-map, length_push, LinkPlan}
@@ -12,16 +12,16 @@ use Rattle.vl_link.proofs.PaceOfStream.{stream_more, stream_same}
 use Rattle.afdx_legal.proofs.LongerStream.{latest_push, with_push_in, with_push_out}
 use Rattle.afdx_tx.proofs.PollTurns.{later_on}
 
--- the fragments of the accepted messages of a sub-VL
+-- the fragments of a sub-VL's accepted messages
 abbrev due_of : ℕ → LinkPlan → (ℕ → List Sent) → ℕ → List (List ℕ)
 due_of end_system link accepted sub = fragments end_system (room_of link.lmax) A (accepted sub)
 
--- a link's stream has them all
+-- the link's stream has all of them
 abbrev HasAll : ℕ → LinkPlan → (ℕ → List Sent) → List Entry → Type 0
 HasAll end_system link accepted S = (s : ℕ) → s < link.sub_vls
     → due_of end_system link accepted s ≡ told (sub_stream s S)
 
--- a link's stream lacked one of a sub-VL, and has one more frame of it
+-- the link's stream lacked a fragment of a sub-VL, and now has one frame more of it
 record Gains (now end_system : ℕ) (link : LinkPlan) (accepted : ℕ → List Sent) (S T : List Entry) : Type 0 where
   pub sub : ℕ
   pub within : sub < link.sub_vls
@@ -30,17 +30,17 @@ record Gains (now end_system : ℕ) (link : LinkPlan) (accepted : ℕ → List S
   pub of : sub_in frame ≡ sub
   pub stream : T ≡ S ++ entry now frame ∷ []
 
--- what a poll does to the stream of a link that is due
+-- the effect of a poll on the stream of a due link
 abbrev Comes : (now end_system : ℕ) (link : LinkPlan) (accepted : ℕ → List Sent) (S T : List Entry) → Type 0
 Comes now end_system link accepted S T =
     ((T ≡ S) × HasAll end_system link accepted S) ⊎ Gains now end_system link accepted S T
 
--- a list with an end is longer than the list
+-- A list with a non-empty end is longer than without it.
 longer : (xs ys zs : List (List ℕ)) → (zs ≡ [] → ⊥) → xs ≡ ys ++ zs → length ys < length xs
 longer xs ys [] some e = absurd (some refl)
 longer xs ys (z ∷ zs) some e = omega (arith, ap length e, length-append ys (z ∷ zs))
 
--- the turn of the link itself, where a network that carries it stands afterwards
+-- The turn of the link itself, if a network that carries it is up afterwards.
 own_turn : (now end_system : ℕ) (link : LinkPlan) (accepted : ℕ → List Sent) (lines after : Lines) (did : Served)
     → is_due (bag_micros link.bag) (latest None (link_stream link.id.0 (log lines))) now ≡ true
     → Drains now end_system link accepted lines after did → stands_for link.networks after ≡ true
@@ -63,7 +63,7 @@ own_turn now end_system link accepted lines after (Released sub number) due t st
     })
 own_turn now end_system link accepted lines after Lost due t stands = absurd (both_ways _ t.1.down stands)
 
--- the turn of another link
+-- The turn of another link.
 other_turn : (now end_system : ℕ) (link : LinkPlan) (accepted : ℕ → List Sent) (lines after : Lines) (did : Served) (vl : ℕ)
     → link.id.0 ≢ vl → Drains now end_system link accepted lines after did
     → link_stream vl (log after) ≡ link_stream vl (log lines)
@@ -75,7 +75,7 @@ other_turn now end_system link accepted lines after (Released sub number) vl ne 
 other_turn now end_system link accepted lines after Lost vl ne t =
     ap (link_stream vl) (log_same lines after t.1.same)
 
--- a network that is down after turns was down before them, or failed
+-- A network that is down after turns was down before, or failed.
 drains_endure : (now : ℕ) (plan : Plan) (accepted : Accepted) (i many : ℕ) (lines after : Lines)
     → AreTurns (DrainsAt now plan accepted) i many lines after → BothEndure lines after
 drains_endure now plan accepted i many lines after t =
@@ -83,11 +83,11 @@ drains_endure now plan accepted i many lines after t =
     (λ k before behind did turn. turn_endures now (link_plan_at plan.links k) (pace_in (link_plan_at plan.links k) (log before))
     (accepted_view plan.end_system (link_plan_at plan.links k) (accepted k) (log before)) before behind did turn) t
 
--- the link at a place differs from another
+-- the link at this place isn't that one
 abbrev IsOther : Plan → ℕ → ℕ → Type 0
 IsOther plan k j = (link_plan_at plan.links j).id.0 ≢ (link_plan_at plan.links k).id.0
 
--- the turns of other links
+-- The turns of other links.
 other_turns : (now : ℕ) (plan : Plan) (accepted : Accepted) (k i many : ℕ) (lines after : Lines)
     → ((j : ℕ) → i ≤ j → j < i + many → IsOther plan k j)
     → AreTurns (DrainsAt now plan accepted) i many lines after
@@ -98,19 +98,19 @@ other_turns now plan accepted k i (suc many) lines after ne t =
     ∙ other_turn now plan.end_system (link_plan_at plan.links i) (accepted i) lines t.0 t.1 (link_plan_at plan.links k).id.0
     (ne i (omega arith) (omega arith)) t.2
 
--- what the poll does to the stream of the link at a place
+-- the effect of a poll on the stream of the link at a place
 abbrev ComesAt : ℕ → Plan → Accepted → ℕ → (S T : List Entry) → Type 0
 ComesAt now plan accepted k S T = Comes now plan.end_system (link_plan_at plan.links k) (accepted k) S T
 
--- the link at a place is due by its stream
+-- the link at a place is due, by its stream
 abbrev IsDueBy : ℕ → Plan → ℕ → List Entry → Type 0
 IsDueBy now plan k S = is_due (bag_micros (link_plan_at plan.links k).bag) (latest None S) now ≡ true
 
--- a network that carries the link at a place stands
+-- a network that carries the link at a place is up
 abbrev StandsAt : Plan → ℕ → Lines → Type 0
 StandsAt plan k lines = stands_for (link_plan_at plan.links k).networks lines ≡ true
 
--- the turns of all links, that of the link among them
+-- The turns of all links, this one among them.
 turns_come : (now : ℕ) (plan : Plan) (accepted : Accepted) (k i many : ℕ) (lines after : Lines)
     → i ≤ k → k < i + many
     → ((j : ℕ) → j < i + many → (j ≡ k → ⊥) → IsOther plan k j)
@@ -134,19 +134,19 @@ turns_come now plan accepted k i (suc many) lines after le lt ne due t stands = 
     (λ j jlt. ne j (omega arith)) (rw same due) t.3 stands))
     (cases_eq i k)
 
--- a gap after a moment that isn't before the last release
+-- The link is due one gap after any time that isn't before its last release.
 due_by : (bag gap before now : ℕ) (last : Option Stamp) → bag ≤ gap → before + gap ≤ now → IsLater last before
     → is_due bag last now ≡ true
 due_by bag gap before now None small apart later = refl
 due_by bag gap before now (Some last) small apart later = le-leb bag (now - last.at) (omega arith)
 
--- another sub-VL's frames are the same
+-- The frames of other sub-VLs are the same.
 told_other : (now sub s : ℕ) (frame : List ℕ) (S T : List Entry) → sub_in frame ≡ sub → s ≢ sub → T ≡ S ++ entry now frame ∷ []
     → length (told (sub_stream s T)) ≡ length (told (sub_stream s S))
 told_other now sub s frame S T of ne more =
     rw (more, with_push_out (λ (e : Entry). sub_in e.frame) s S (entry now frame) (λ e. ne (sym e ∙ of))) refl
 
--- the sub-VL's own are one more
+-- The sub-VL has one frame more.
 told_own : (now sub : ℕ) (frame : List ℕ) (S T : List Entry) → sub_in frame ≡ sub → T ≡ S ++ entry now frame ∷ []
     → length (told (sub_stream sub T)) ≡ length (told (sub_stream sub S)) + 1
 told_own now sub frame S T of more =
@@ -155,7 +155,7 @@ told_own now sub frame S T of more =
 
 module _ (now end_system : ℕ) (link : LinkPlan) (accepted : ℕ → List Sent) (S T : List Entry)
     (g : Gains now end_system link accepted S T) where
-  -- the sub-VLs below owe what they owed
+  -- The sub-VLs below owe the same.
   below_same : (n : ℕ) → n ≤ g.sub → owed end_system link accepted T n ≡ owed end_system link accepted S n
   below_same zero le = refl
   below_same (suc n) le =
@@ -163,7 +163,7 @@ module _ (now end_system : ℕ) (link : LinkPlan) (accepted : ℕ → List Sent)
       let other = told_other now g.sub n g.frame S T g.of (λ e. absurd (omega (arith, e))) g.stream in
       omega (arith, before, other)
 
-  -- with the sub-VL they owe one less
+  -- Together with this sub-VL they owe one less.
   one_less : (n : ℕ) → g.sub < n → owed end_system link accepted T n + 1 ≤ owed end_system link accepted S n
   one_less zero lt = absurd (omega arith)
   one_less (suc n) lt = ⊎_elim
@@ -178,11 +178,11 @@ module _ (now end_system : ℕ) (link : LinkPlan) (accepted : ℕ → List Sent)
       omega (arith, before, other))
       (cases_eq n g.sub)
 
-  -- the release is the latest
+  -- The release is the latest.
   gained_later : IsLater (latest None T) now
   gained_later = rw (g.stream, latest_push None S (entry now g.frame)) (omega arith)
 
-  -- what has all gains nothing
+  -- A link that has all gains nothing.
   none_gained : HasAll end_system link accepted S → ⊥
   none_gained all = let same = ap length (all g.sub g.within) in let short = g.short in omega (arith, same, short)
 
@@ -190,7 +190,7 @@ module _ (now end_system : ℕ) (link : LinkPlan) (accepted : ℕ → List Sent)
 abbrev HasAllAt : Plan → Accepted → ℕ → List Entry → Type 0
 HasAllAt plan accepted k S = HasAll plan.end_system (link_plan_at plan.links k) (accepted k) S
 
--- a network that is down after polls was down before them, or failed
+-- A network that is down after polls was down before, or failed.
 drained_endure : (plan : Plan) (accepted : Accepted) (moments : List ℕ) (lines after : Lines)
     → AreDrained plan accepted moments lines after → BothEndure lines after
 drained_endure plan accepted [] lines after p = rw p (both_none lines)
@@ -198,7 +198,7 @@ drained_endure plan accepted (now ∷ moments) lines after p =
     both_on lines p.0 after (drains_endure now plan accepted 0 (length plan.links) lines p.0 p.1)
     (drained_endure plan accepted moments p.0 after p.2)
 
--- a link has all after more polls than it owes frames, and keeps it
+-- A link has all after more polls than the frames that it owes, and keeps it.
 ends : (plan : Plan) (accepted : Accepted) (k : ℕ) (moments : List ℕ) (lines after : Lines) (start gap : ℕ)
     → IsPlan plan → k < length plan.links → bag_micros (link_plan_at plan.links k).bag ≤ gap
     → IsLater (latest None (stream_at plan k lines)) start
@@ -220,7 +220,7 @@ ends plan accepted k (now ∷ moments) lines after start gap valid lt small late
     (λ j jlt ne e. ne (valid.links_apart j k (omega arith) lt (λ i. record { 0 = e i })))
     (due_by _ gap start now _ small apart.0 later) p.1 (stood_before p.0 after (link_plan_at plan.links k).networks (drained_endure plan accepted moments p.0 after p.2) stands))
 
--- so have all links
+-- The same of all links.
 pub drain_ends_holds : DrainEnds
 drain_ends_holds plan accepted moments lines after start gap valid later small apart p stand few = λ k lt.
     ends plan accepted k moments lines after start gap valid lt (small k lt) (later k lt) apart p (stand k lt)

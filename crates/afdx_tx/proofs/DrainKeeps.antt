@@ -1,4 +1,4 @@
--- What stays of accepted messages that are known whole.
+-- Polls keep the accepted messages once these are known whole.
 use Rattle.afdx_tx.proofs.Names.{ℕ, ◌≡◌, ◌<◌, List, ◌++◌, length, arith, refl, ap, ◌∙◌, sym, ⊎_elim, Result, Ok}
 use Rattle.afdx_tx.proofs.Names.{Err, OnOk, append_assoc, get_or_past, cases_lt, Plan, link_plan_at, room_of, Net}
 use Rattle.afdx_tx.proofs.Names.{A, B, Entry, Seen, receiving, gathered, IsKnownWhole, IsSameQueue, known_of}
@@ -6,13 +6,13 @@ use Rattle.afdx_tx.proofs.Names.{told_of, IsLegalOn, IsLegal, Held, LinkState, h
 use Rattle.afdx_tx.proofs.Names.{no_link, IsSameSub, IsSamePlan, taken_in, AreGathered, accepted_by, accepted_in}
 use Rattle.afdx_tx.proofs.OwedFragments.{owed_split, untaken}
 
--- the same queue accepted the same messages
+-- The same queue has the same accepted messages.
 same_known : (old new : Seen) → IsKnownWhole old → IsSameQueue old new → known_of new ≡ known_of old
 same_known (receiving r) new g e = absurd g
 same_known (gathered q) (gathered h) g e = e.1
 same_known (gathered q) (receiving s) g e = absurd e
 
--- a sub-VL behind the last has no queue
+-- A sub-VL after the last has no queue.
 gathered_past : (links : List LinkState) (k s : ℕ) → AreGathered links → IsKnownWhole (held_at (link_at links k).subs s).seen
 gathered_past links k s g = ⊎_elim
     (λ lt. ⊎_elim (g k s lt) (λ ge. rw (get_or_past (link_at links k).subs s nothing_held ge) tt)
@@ -20,11 +20,11 @@ gathered_past links k s g = ⊎_elim
     (λ ge. rw (get_or_past links k no_link ge) tt)
     (cases_lt k (length links))
 
--- the accepted list of a sub-VL is the same
+-- The accepted list of a sub-VL is the same.
 same_accepted : (old new : Held) → IsKnownWhole old.seen → IsSameSub old new → accepted_by new ≡ accepted_by old
 same_accepted old new g e = rw (e.ports, same_known old.seen new.seen g e.queue) refl
 
--- each accepted list is the same
+-- Each accepted list is the same.
 each_same : (old new : List LinkState) → IsSamePlan old new → AreGathered old → (k s : ℕ)
     → accepted_in new k s ≡ accepted_in old k s
 each_same old new p g k s = ⊎_elim
@@ -33,11 +33,11 @@ each_same old new p g k s = ⊎_elim
     (λ ge. rw (get_or_past new k no_link (omega (arith, p.count)), get_or_past old k no_link ge) refl)
     (cases_lt k (length old))
 
--- the accepted lists are the same
+-- The accepted lists are the same.
 pub accepted_same : (old new : List LinkState) → IsSamePlan old new → AreGathered old → accepted_in new ≡ accepted_in old
 accepted_same old new p g = λ i. λ k s. each_same old new p g k s i
 
--- what was handed to a network is legal for what was accepted
+-- A network's frames are legal for the accepted messages.
 legal_on : (plan : Plan) (links : List LinkState) (net : Net) (handed : List Entry)
     → IsLegalOn plan (taken_in links) net handed → IsLegalOn plan (accepted_in links) net handed
 legal_on plan links net handed l = record {
@@ -57,13 +57,13 @@ legal_on plan links net handed l = record {
   spaced = l.spaced;
 }
 
--- What is legal for what was taken is legal for what was accepted.
+-- Frames that are legal for the messages taken are legal for the accepted ones.
 pub legal_accepted : (plan : Plan) (links : List LinkState) (a b : List Entry)
     → IsLegal plan (taken_in links) a b → IsLegal plan (accepted_in links) a b
 legal_accepted plan links a b l =
     record { on_a = legal_on plan links A a l.on_a; on_b = legal_on plan links B b l.on_b; twins = l.twins }
 
--- what follows from a result that is Ok
+-- A consequence of a result that is Ok.
 pub on_ok : {T E : Type 0} (r : Result T E) (P Q : Type 0) → (P → Q) → OnOk r P → OnOk r Q
 on_ok (Ok x) P Q f h = f h
 on_ok (Err e) P Q f h = tt

@@ -6,11 +6,11 @@ use Rattle.afdx_tx.proofs.Names.{DrainsAt, IsDrained, IsOwn, turn_seen, turns_se
 use Rattle.afdx_tx.proofs.SoundEmitter.{plan_is, count_is}
 use Rattle.afdx_tx.proofs.OwedFragments.{stands_of, lists_of, passed_released, asked_owes}
 
--- the accepted messages of a link are known whole
+-- the accepted messages of the link are known whole
 abbrev pub IsLinkGathered : LinkState → Type 0
 IsLinkGathered link = (s : ℕ) → s < length link.subs → IsKnownWhole (held_at link.subs s).seen
 
--- one turn of a link
+-- One turn of a link.
 drain_turn : (now end_system : ℕ) (link new : LinkState) (lines after : Lines) (did : Served)
     → link.end_system ≡ end_system → IsOwn link → IsLinkGathered link → IsTurn now link new lines after did
     → Drains now end_system link.plan (lists_of link.subs) lines after did
@@ -28,7 +28,7 @@ drain_turn now end_system link new lines after did e own g t =
     })
     (rw (own.gap, own.sub_vls) at t.serves))
 
--- the turn of the link at a place
+-- The turn of the link at a place.
 drains_at : (now : ℕ) (config : Plan) (links news : List LinkState) → AreLinksOf config links → AreGathered links
     → (k : ℕ) → k < length links → (lines after : Lines) (did : Served) → IsTurnAt now links news k lines after did
     → DrainsAt now config (accepted_in links) k lines after did
@@ -37,7 +37,7 @@ drains_at now config links news of g k lt lines after did t =
     (drain_turn now config.end_system (link_at links k) (link_at news k) lines after did
     (of.end_system k lt) (of.each k lt) (λ s slt. g k s lt slt) t)
 
--- a poll
+-- A poll.
 pub run_drained : (now : ℕ) (config : Plan) (links news : List LinkState) (lines after : Lines)
     → AreLinksOf config links → AreGathered links → IsRun now links news lines after
     → IsDrained now config (accepted_in links) lines after

@@ -1,11 +1,11 @@
--- An emitter of which nothing was asked yet.
+-- An emitter before its first call.
 use Rattle.afdx_tx.proofs.Names.{ℕ, ◌≡◌, ◌<◌, List, length, arith, refl, ap, ◌∙◌, sym, both_ways, ext_get_or}
 use Rattle.afdx_tx.proofs.Names.{All-nil, LinkPlan, Plan, IsPlan, link_plan_at, link_in, Logged, fresh_lines}
 use Rattle.afdx_tx.proofs.Names.{fresh_log, fresh_in_step, IsItem, LinkState, no_link_plan, AreFreshLinks, plans}
 use Rattle.afdx_tx.proofs.Names.{ports_of_sub, IsSound}
 use Rattle.afdx_tx.proofs.PollTurns.{plan_at_is, plans_length}
 
--- a fresh emitter is sound
+-- A fresh emitter is sound.
 pub fresh_sound : (config : Plan) (links : List LinkState) → IsPlan config
     → AreFreshLinks config links → IsSound config links fresh_lines 0
 fresh_sound config links valid f =

@@ -1,4 +1,4 @@
--- What was accepted of each port that came back.
+-- The accepted messages of each port that was gathered.
 use Rattle.afdx_tx.proofs.Names.{ℕ, ◌≡◌, ◌<◌, List, length, arith, ap, ◌∙◌, subst, Contains, All-contains, PortPlan}
 use Rattle.afdx_tx.proofs.Names.{Plan, IsPlan, port_plan_at, link_place, part_of, brought_by, known_of}
 use Rattle.afdx_tx.proofs.Names.{IsKnownWhole, receiving, gathered, Seen, taken_of, Held, LinkState, held_at}
@@ -11,13 +11,13 @@ use Rattle.afdx_tx.proofs.Publishing.{reaches_kept}
 use Rattle.afdx_tx.proofs.KeptLinks.{kept_sound, KeepLinks}
 use Rattle.afdx_tx.proofs.TakenBack.{whole_from, back_kept}
 
--- what was taken stands
+-- The messages taken are the same.
 taken_same : (old new : Seen) → BecomesWhole old new → taken_of new ≡ taken_of old
 taken_same (receiving old) (gathered new) b = b.0
 taken_same (gathered old) (gathered new) b = absurd b
 taken_same old new b = absurd b
 
--- nothing but the queues has changed
+-- Only the queues have changed.
 gathered_kept : (old new : List LinkState) → GathersLinks old new → KeepLinks old new
 gathered_kept old new g = record {
   count = g.count;
@@ -38,7 +38,7 @@ gathered_kept old new g = record {
       };
 }
 
--- a gathered link is the one that it was before senders came back, but for its queues
+-- A gathered link is the same as before the senders were taken back, apart from its queues.
 link_gathered : (old mid new : List LinkState) (k : ℕ) → k < length mid → OnlyTakeBack old mid → GathersLinks mid new
     → IsGatheredLink (link_at old k) (link_at new k)
 link_gathered old mid new k lt takes gathers =
@@ -53,13 +53,13 @@ link_gathered old mid new k lt takes gathers =
           };
     }
 
--- a queue that became whole is known whole
+-- A queue that became whole is known whole.
 is_known : (old new : Seen) → BecomesWhole old new → IsKnownWhole new
 is_known (receiving old) (gathered new) whole = tt
 is_known (gathered old) (gathered new) whole = tt
 is_known old new whole = absurd whole
 
--- every queue is gathered
+-- Each queue is gathered.
 pub all_gathered : (mid new : List LinkState) → GathersLinks mid new → AreGathered new
 all_gathered mid new g k s lt slt =
     let below : k < length mid = omega (arith, g.count) in
@@ -67,7 +67,7 @@ all_gathered mid new g k s lt slt =
     let sub : s < length (link_at mid k).subs = omega (arith, link.subs.count) in
     is_known _ _ (link.subs.each s sub).gathers.queue
 
--- of the port at a place its sub-VL accepted its own list
+-- The part of the port at a place is its own list.
 own_part : (tx new : Tx) (mid : List LinkState) (ports : List PortView) (place : ℕ) → IsPlan tx.plan
     → AreLinksOf tx.plan tx.links → OnlyTakeBack tx.links mid → GathersLinks mid new.links → new.plan ≡ tx.plan
     → AreLinksOf new.plan new.links → HaveOwnItems new.links → AreOpenedWith tx ports → place < length tx.plan.ports
@@ -100,20 +100,20 @@ own_part tx new mid ports place valid was takes g same of items opened lt has ba
       accepted = own_messages new place has.port.sender.own (rw same valid) of items (rw same lt) moved;
     }
 
--- the emitter is as sound as it was
+-- The emitter is still sound.
 pub gathers_sound : (config : Plan) (old : List LinkState) (ports : List PortView) (new : List LinkState) (lines : Lines) (moment : ℕ)
     → GathersPorts config old ports new → IsSound config old lines moment → IsSound config new lines moment
 gathers_sound config old ports new lines moment g sound =
     kept_sound config g.mid new lines moment (gathered_kept g.mid new g.gathers)
     (kept_sound config old g.mid lines moment (back_kept old g.mid g.takes) sound)
 
--- and what was published stays below what is counted
+-- The published counts are still at most the current ones.
 pub gathers_reaches : (config : Plan) (old : List LinkState) (ports : List PortView) (new : List LinkState) (board : List Published)
     → GathersPorts config old ports new → Reaches old board → Reaches new board
 gathers_reaches config old ports new board g r =
     reaches_kept g.mid new board (gathered_kept g.mid new g.gathers) (reaches_kept old g.mid board (back_kept old g.mid g.takes) r)
 
--- and of each port its own list is what was accepted
+-- The accepted messages of each port are its own list.
 pub gathers_tx : (old new : Tx) (ports : List PortView) → GathersPorts old.plan old.links ports new.links
     → new ≡ record old { links = new.links } → IsSound old.plan old.links old.lines old.moment
     → IsSound new.plan new.links new.lines new.moment → AreOpenedWith old ports

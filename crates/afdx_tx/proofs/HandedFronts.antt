@@ -1,4 +1,4 @@
--- The streams of what a network was handed begin those of the log.
+-- The streams of a network are prefixes of the log's streams.
 use Rattle.afdx_tx.proofs.Names.{ℕ, ◌≡◌, ◌≤◌, List, [], ◌∷◌, ◌++◌, Bool, true, false, length, map, nat_eq, arith}
 use Rattle.afdx_tx.proofs.Names.{refl, ap, ◌∙◌, sym, subst, inl, inr, All, both_ways, cases_Bool, eqb-true}
 use Rattle.afdx_tx.proofs.Names.{false_from_ne_true, get_or_append_left, length-append, length-map, All-tail}
@@ -8,16 +8,17 @@ use Rattle.afdx_tx.proofs.Names.{link_stream, with_append, with_map}
 use Rattle.std.specs.Prelude.{filter}
 use Rattle.redundant_mux.specs.Lines.{log}
 
--- the stream of a link, turned to a network
+-- The stream of a link, turned to a network.
 pub link_side : (net : Net) (vl : ℕ) (H : List Entry)
     → link_stream vl (map (side net) H) ≡ map (side net) (link_stream vl H)
 link_side net vl H = with_map _ (λ (e : Entry). link_in e.frame) (side net) vl (λ e. twin_link net e.frame) H
 
--- an entry that passes was logged for the network, or was not
+-- an entry that passes was logged for the network, or not
 abbrev pub IsSent : (Entry → Bool) → Net → Bool → Logged → Type 0
 IsSent p net sent l = p l.entry ≡ true → names net l.networks ≡ sent
 
--- of what was handed to a network, what passes a test that twins pass alike, where all of it was meant for the network
+-- The entries of a network that pass a test, if all of them were for it and the test doesn't depend
+-- on the network.
 pub picked : (net : Net) (p : Entry → Bool) → ((e : Entry) → p (side net e) ≡ p e) → (ls : List Logged)
     → All (IsSent p net true) ls → filter p (sent_to net ls) ≡ map (side net) (filter p (entries_of ls))
 picked net p twin [] all = refl
@@ -31,13 +32,13 @@ picked net p twin (l ∷ ls) all =
       ]
     ]
 
--- where nothing passes
+-- No element passes.
 filter_none : {X : Type 0} (p : X → Bool) (xs : List X) → All (λ x. p x ≡ true → ⊥) xs → filter p xs ≡ []
 filter_none p [] none = refl
 filter_none p (x ∷ xs) none =
     rw (false_from_ne_true (p x) (none 0 x (omega arith))) (filter_none p xs (All-tail (λ y. p y ≡ true → ⊥) x xs none))
 
--- where none of it was meant for the network
+-- The same, if none of them was for the network.
 unpicked : (net : Net) (p : Entry → Bool) → ((e : Entry) → p (side net e) ≡ p e) → (ls : List Logged)
     → All (IsSent p net false) ls → filter p (sent_to net ls) ≡ []
 unpicked net p twin ls all =
@@ -51,23 +52,23 @@ unpicked net p twin ls all =
 abbrev pub IsFor : ℕ → Networks → Logged → Type 0
 IsFor vl networks l = link_in l.entry.frame ≡ vl → l.networks ≡ networks
 
--- what holds of two lists holds of the first
+-- A property of two lists holds of the first.
 pub all_front : {X : Type 0} (P : X → Type 0) (xs ys : List X) → All P (xs ++ ys) → All P xs
 all_front P xs ys h = λ k d lt. subst P (get_or_append_left xs ys d k lt) (h k d (omega (arith, length-append xs ys)))
 
--- and of the second
+-- A property of two lists holds of the second.
 all_back : {X : Type 0} (P : X → Type 0) (xs ys : List X) → All P (xs ++ ys) → All P ys
 all_back P [] ys h = h
 all_back P (x ∷ xs) ys h = all_back P xs ys (All-tail P x (xs ++ ys) h)
 
--- a stream that a network was handed is the front of another one, turned to it
+-- the network's stream is a prefix of the whole one, turned to it
 pub record IsFront (net : Net) (whole handed : List Entry) : Type 0 where
   pub front : List Entry
   pub behind : List Entry
   pub is : whole ≡ front ++ behind
   pub got : handed ≡ map (side net) front
 
--- the log by what the network saw and what it missed
+-- The log is what the network saw and what it missed.
 pub log_parts : (lines : Lines) (seen missed : List Logged) → lines.logged ≡ seen ++ missed
     → log lines ≡ entries_of seen ++ entries_of missed
 unfolding log
@@ -75,21 +76,21 @@ log_parts lines seen missed whole = ap entries_of whole ∙ entries_append seen 
 
 module _ (net : Net) (stands : Bool) (handed : List Entry) (lines : Lines) (vl : ℕ) (networks : Networks)
     (k : Keeps net stands handed lines.logged) (own : All (IsFor vl networks) lines.logged) where
-  -- an entry of the link that the network saw was logged for it if it carries the link
+  -- An entry of the link that the network saw was logged for it if it carries the link.
   sent : (t : Bool) → names net networks ≡ t → All (IsSent (λ e. nat_eq (link_in e.frame) vl) net t) k.seen
   sent t is = λ j d lt on. ap (names net) (all_front (IsFor vl networks) k.seen k.missed (rw k.whole at own) j d lt (eqb-true _ _ on)) ∙ is
 
-  -- of a link that the network carries it was handed what it saw
+  -- The stream of a link that the network carries is what it saw.
   named_stream : names net networks ≡ true → link_stream vl handed ≡ map (side net) (link_stream vl (entries_of k.seen))
   named_stream is = ap (link_stream vl) k.got
       ∙ picked net _ (λ e. ap (λ (n : ℕ). nat_eq n vl) (twin_link net e.frame)) k.seen (sent true is)
 
-  -- and of one that it doesn't carry nothing
+  -- The stream of a link that it doesn't carry is empty.
   pub unnamed_stream : names net networks ≡ false → link_stream vl handed ≡ []
   unnamed_stream isnt = ap (link_stream vl) k.got
       ∙ unpicked net _ (λ e. ap (λ (n : ℕ). nat_eq n vl) (twin_link net e.frame)) k.seen (sent false isnt)
 
-  -- what it saw and what it missed
+  -- The link's stream is what the network saw and what it missed.
   parts : link_stream vl (log lines) ≡ link_stream vl (entries_of k.seen) ++ link_stream vl (entries_of k.missed)
   parts = ap (link_stream vl) (log_parts lines k.seen k.missed k.whole) ∙ with_append (λ (e : Entry). link_in e.frame) vl _ _
 
@@ -99,7 +100,7 @@ module _ (net : Net) (stands : Bool) (handed : List Entry) (lines : Lines) (vl :
     | inr isnt ↦ record { front = []; behind = link_stream vl (log lines); is = refl; got = unnamed_stream isnt }
   ]
 
-  -- a network that carries a link and missed nothing of it was handed as much as was logged
+  -- A network that carries the link and missed nothing of it has the whole stream.
   pub all_handed : names net networks ≡ true → link_stream vl (entries_of k.missed) ≡ []
       → length (link_stream vl (log lines)) ≤ length (link_stream vl handed)
   all_handed is none = omega (
@@ -111,7 +112,7 @@ module _ (net : Net) (stands : Bool) (handed : List Entry) (lines : Lines) (vl :
     ap length none,
   )
 
-  -- a network that carries a link alone missed nothing of it
+  -- A network that alone carries the link missed nothing of it.
   pub whole_alone : networks ≡ only net → link_stream vl (entries_of k.missed) ≡ []
   whole_alone is = filter_none _ (entries_of k.missed) (All-map (λ e. nat_eq (link_in e.frame) vl ≡ true → ⊥) (λ (l : Logged). l.entry) k.missed
       (λ j d lt on. k.shared j d lt (all_back (IsFor vl networks) k.seen k.missed (rw k.whole at own) j d lt (eqb-true _ _ on) ∙ is)))

@@ -1,10 +1,10 @@
--- Links of which the queues alone have changed, and from which nothing more was taken.
+-- Links of which only the queues have changed, without any message taken.
 use Rattle.afdx_tx.proofs.Names.{ℕ, ◌≡◌, ◌<◌, ◌++◌, List, length, arith, refl, ap, ◌∙◌, sym, subst, Plan, Entry}
 use Rattle.afdx_tx.proofs.Names.{Lines, log, told, taken_of, Held, LinkState, held_at, link_at, HasOwnItems}
 use Rattle.afdx_tx.proofs.Names.{IsLinkOfPlan, taken_by, sub_fragments, IsKept, IsTied, IsBehind, IsSound}
 use Rattle.afdx_tx.proofs.SoundEmitter.{plans_after}
 
--- a sub-VL but for its queue, from which nothing more was taken
+-- a sub-VL whose queue may have changed, without any message taken
 pub record KeepsSub (old new : Held) : Type 0 where
   pub of : new.of ≡ old.of
   pub ports : new.ports ≡ old.ports
@@ -12,35 +12,35 @@ pub record KeepsSub (old new : Held) : Type 0 where
   pub taken : taken_of new.seen ≡ taken_of old.seen
   pub items : HasOwnItems old → HasOwnItems new
 
--- a link but for the queues of its sub-VLs
+-- a link whose queues may have changed
 pub record KeepsLink (old new : LinkState) : Type 0 where
   pub same : new ≡ record old { subs = new.subs }
   pub count : length new.subs ≡ length old.subs
   pub each : (s : ℕ) → s < length old.subs → KeepsSub (held_at old.subs s) (held_at new.subs s)
 
--- links but for their queues
+-- links whose queues may have changed
 pub record KeepLinks (old new : List LinkState) : Type 0 where
   pub count : length new ≡ length old
   pub each : (k : ℕ) → k < length old → KeepsLink (link_at old k) (link_at new k)
 
--- a sub-VL took the same messages
+-- The messages taken are the same.
 taken_by_same : (old new : Held) → KeepsSub old new → taken_by new ≡ taken_by old
 taken_by_same old new s = rw (s.ports, s.taken) refl
 
--- so its fragments are the same
+-- The fragments are the same.
 shown_same : (old new : Held) → KeepsSub old new → sub_fragments new.of 0 (taken_by new) ≡ sub_fragments old.of 0 (taken_by old)
 shown_same old new s = rw s.of (ap (sub_fragments old.of 0) (taken_by_same old new s))
 
--- and it is tied to the stream that it was tied to
+-- The sub-VL is tied to the same stream.
 tied_same : (old new : Held) (stream : List Entry) → KeepsSub old new → IsTied old stream → IsTied new stream
 tied_same old new stream s tied =
     shown_same old new s ∙ tied ∙ ap (λ (left : List (List ℕ)). told stream ++ left) (sym s.left)
 
--- or behind the one that it was behind
+-- The sub-VL lacks fragments in the same stream.
 behind_same : (old new : Held) (stream : List Entry) → KeepsSub old new → IsBehind old stream → IsBehind new stream
 behind_same old new stream s b = record { left = b.left; some = b.some; ahead = shown_same old new s ∙ b.ahead }
 
--- a link keeps what its fields keep
+-- The link keeps its invariant.
 own_same : (old new : LinkState) → KeepsLink old new → IsLinkOfPlan old.end_system old.plan old.pace old.subs
     → IsLinkOfPlan new.end_system new.plan new.pace new.subs
 own_same old new g own =
@@ -52,7 +52,7 @@ own_same old new g own =
       named = λ s lt. let below : s < length old.subs = omega (arith, g.count) in (g.each s below).of ∙ own.named s below;
     })
 
--- and what it keeps of a log
+-- The link keeps its invariant with a log.
 kept_same : (old new : LinkState) (log : List Entry) → KeepsLink old new
     → IsLinkOfPlan old.end_system old.plan old.pace old.subs → IsKept old log → IsKept new log
 kept_same old new log g own kept =
@@ -76,7 +76,7 @@ kept_same old new log g own kept =
       counted = kept.counted;
     })
 
--- the emitter is as sound as it was
+-- The emitter is still sound.
 pub kept_sound : (config : Plan) (old new : List LinkState) (lines : Lines) (moment : ℕ) → KeepLinks old new
     → IsSound config old lines moment → IsSound config new lines moment
 kept_sound config old new lines moment g s =

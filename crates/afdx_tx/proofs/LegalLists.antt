@@ -1,4 +1,4 @@
--- From the log to the two handed lists.
+-- From the log to the frames of the two networks.
 use Rattle.afdx_tx.proofs.Names.{ℕ, ◌≡◌, ◌+◌, ◌<◌, ◌≤◌, List, [], ◌∷◌, ◌++◌, Bool, length, map, eqb, arith, refl}
 use Rattle.afdx_tx.proofs.Names.{ap, ◌∙◌, sym, Option, Some, None, inl, inr, cases_Bool, map-append, append_assoc}
 use Rattle.afdx_tx.proofs.Names.{All, All-weaker, All-filter, All-tail, LinkPlan, Plan, IsPlan, link_plan_at}
@@ -12,16 +12,16 @@ use Rattle.afdx_frame.specs.Twin.{twin_of}
 use Rattle.afdx_tx.proofs.HandedFronts.{IsFront, log_parts, front_of, unnamed_stream}
 use Rattle.afdx_tx.proofs.BothTwins.{both_twins}
 
--- an entry whose frame has all fields that are read
+-- an entry whose frame is long enough for all fields that are read
 abbrev IsLongEntry : Entry → Type 0
 IsLongEntry e = 60 ≤ length e.frame
 
--- the fragments that a stream shows, turned to a network
+-- The fragments of a stream, turned to a network.
 told_side : (net : Net) (T : List Entry) → told (map (side net) T) ≡ map (twin_of net) (told T)
 told_side net [] = refl
 told_side net (e ∷ es) = rw (twin_blanked net e.frame, told_side net es) refl
 
--- the front of a numbered stream, turned to a network, is numbered
+-- A prefix of a numbered stream, turned to a network, is numbered.
 numbered_side : (net : Net) (i : ℕ) (xs ys : List Entry) → All IsLongEntry (xs ++ ys) → IsNumbered entry_number i (xs ++ ys)
     → IsNumbered entry_number i (map (side net) xs)
 numbered_side net i [] ys long h = tt
@@ -30,7 +30,7 @@ numbered_side net i (x ∷ xs) ys long h = (
   numbered_side net (i + 1) xs ys (All-tail IsLongEntry x (xs ++ ys) long) h.1,
 )
 
--- the front of a spaced stream, turned to a network, is spaced
+-- A prefix of a spaced stream, turned to a network, is spaced.
 spaced_side : (net : Net) (gap : ℕ) (before : Option Stamp) (xs ys : List Entry)
     → IsSpaced gap before (xs ++ ys) → IsSpaced gap before (map (side net) xs)
 spaced_side net gap before [] ys h = tt
@@ -39,7 +39,7 @@ spaced_side net gap before (x ∷ xs) ys h = (
   rw (twin_sub net x.frame) (spaced_side net gap (Some (stamp_of x)) xs ys h.1),
 )
 
--- a known frame, turned to a network, is known there
+-- A known frame, turned to a network, is known there.
 known_twin : (links : List LinkPlan) (net : Net) (e : Entry) → IsKnown links A e.frame → IsKnown links net (side net e).frame
 known_twin links net e h = record {
   size = omega (arith, length-twin net e.frame, h.size);
@@ -50,7 +50,7 @@ known_twin links net e h = record {
   interface = twin_interface net e.frame h.size;
 }
 
--- what a network gets of known entries is known there
+-- A network's entries of a known log are known there.
 known_sent : (links : List LinkPlan) (net : Net) (ls : List Logged) (rest : List Entry)
     → AreKnown links A (entries_of ls ++ rest) → AreKnown links net (sent_to net ls)
 known_sent links net [] rest h = tt
@@ -61,7 +61,7 @@ known_sent links net (l ∷ ls) rest h =
       | inr isnt ↦ rw isnt known
     ]
 
--- what is legal of the log
+-- the log is legal
 pub record IsLogLegal (plan : Plan) (accepted : Accepted) (H : List Entry) : Type 0 where
   pub known : AreKnown plan.links A H
   pub prefixes : (k s : ℕ) → k < length plan.links → s < (link_plan_at plan.links k).sub_vls
@@ -71,7 +71,7 @@ pub record IsLogLegal (plan : Plan) (accepted : Accepted) (H : List Entry) : Typ
   pub spaced : (k : ℕ) → k < length plan.links
       → IsSpaced (bag_micros (link_plan_at plan.links k).bag) None (link_stream (link_plan_at plan.links k).id.0 H)
 
--- a prefix of a stream, turned to a network
+-- A prefix of a stream, turned to a network.
 prefix_side : (net : Net) (s end_system room : ℕ) (messages : List Sent) (S D : List Entry) → (f : IsFront net S D)
     → IsPrefixOf (told (sub_stream s S)) (fragments end_system room A messages)
     → IsPrefixOf (told (sub_stream s D)) (fragments end_system room net messages)
@@ -90,7 +90,7 @@ prefix_side net s end_system room messages S D f p =
           ∙ twin_fragments end_system room net A 0 messages,
     )
 
--- a list that keeps a legal log is legal
+-- The frames of a network are legal if the log is.
 legal_keeps : (plan : Plan) (accepted : Accepted) (net : Net) (stands : Bool) (handed : List Entry) (lines : Lines)
     → (k : Keeps net stands handed lines.logged) → AreCarried plan.links lines.logged → IsLogLegal plan accepted (log lines)
     → IsLegalOn plan accepted net handed
@@ -116,7 +116,7 @@ legal_keeps plan accepted net stands handed lines keeps carried l =
           rw f.got (spaced_side net _ None f.front f.behind (rw f.is at (l.spaced k klt)));
     }
 
--- What is legal of the log is legal of the two lists.
+-- The frames of both networks are legal if the log is.
 pub legal_of : (plan : Plan) (accepted : Accepted) (lines : Lines) → IsPlan plan → IsMirrored lines
     → AreCarried plan.links lines.logged → IsLogLegal plan accepted (log lines) → IsLegal plan accepted lines.a lines.b
 legal_of plan accepted lines valid m carried l =

@@ -1,4 +1,4 @@
--- The names of other crates, and of this one's definitions, that the proofs here use.
+-- Names of other crates, and of this crate's definitions, for the proofs here.
 pub use Rattle.std.proofs.Common.{Bool, Err, IfOk, List, None, Ok, OnErr, Option, Result, Some, [], add-one}
 pub use Rattle.std.proofs.Common.{add-zero, ap, arith, below_more, cond, drop, drop-cons, eqb, false, filter}
 pub use Rattle.std.proofs.Common.{get_or, inl, inr, length, map, map-id, nat_eq, refl, rules, set, subst, suc, sym}

@@ -1,4 +1,4 @@
--- The first due moment of one link more.
+-- The first time at which one link more becomes due.
 use Rattle.afdx_tx.proofs.Names.{ℕ, ◌≡◌, ◌∙◌, ◌≤◌, ◌+◌, sym, subst, arith, inl, inr, true, false, LinkState, link_at, Lines}
 use Rattle.std.proofs.Common.{List, Option, Some, None, ◌^◌, min}
 use Rattle.std.proofs.lemmas.Bool.{cases_lt}
@@ -9,7 +9,7 @@ use Rattle.vl_link.specs.Turn.{may_release}
 use Rattle.vl_link.specs.Due.{RestsUntil, BecomesDue, StaysAsIs}
 use Rattle.afdx_tx.specs.NextDue.{NoneDueBefore, OneDueAt, IsFirstDue, earlier}
 
--- up to an earlier moment it rests, too
+-- A link that rests until a time rests until each earlier one.
 sooner : (from until before : ℕ) (plan : LinkPlan) (pace : Pace) (lines : Lines) → before ≤ until
     → RestsUntil from until plan pace lines → RestsUntil from before plan pace lines
 sooner from until before plan pace lines le rests = λ now late early. rests now late (omega (arith, le, early))
@@ -19,13 +19,13 @@ none_sooner : (now : ℕ) (links : List LinkState) (lines : Lines) (many until b
 none_sooner now links lines many until before le none = λ k within rests.
     sooner now until before (link_at links k).plan (link_at links k).pace lines le (none k within rests)
 
--- what stays as it is and may not release rests for good
+-- A link that stays as it is and may not release a frame rests at all times of 64 bits.
 stays : (now : ℕ) (plan : LinkPlan) (pace : Pace) (lines : Lines) → StaysAsIs now plan pace lines → may_release now plan pace lines ≡ false
     → RestsUntil now (2 ^ 64) plan pace lines
 stays now plan pace lines (inl may) rests = absurd (let no : true ≡ false = sym may ∙ rests in cc)
 stays now plan pace lines (inr rested) rests = rested
 
--- one link more
+-- One link more.
 none_more : (now : ℕ) (links : List LinkState) (lines : Lines) (many until : ℕ) → NoneDueBefore now links lines many until
     → (may_release now (link_at links many).plan (link_at links many).pace lines ≡ false
     → RestsUntil now until (link_at links many).plan (link_at links many).pace lines)

@@ -9,12 +9,12 @@ use Rattle.afdx_tx.proofs.SoundEmitter.{plan_is, count_is}
 use Rattle.afdx_tx.proofs.OwedFragments.{rest_of, stands_of, lists_of, all_released, owes_taken, owes_rest, owes_not}
 use Rattle.afdx_tx.proofs.DrainTurns.{IsLinkGathered}
 
--- a drained queue has nothing left
+-- A drained queue has nothing left.
 drained_rest : (seen : Seen) → TellsDrained true seen → rest_of seen ≡ []
 drained_rest (receiving r) d = absurd d
 drained_rest (gathered g) d = d
 
--- a link that is done is wholly released
+-- A link that is done is wholly released.
 link_done : (link : LinkState) (log : List Entry) → IsOwn link → IsKept link log → IsLinkGathered link
     → TellsLinkDone true link → IsLinkDone link.end_system link.plan (lists_of link.subs) log
 link_done link log own kept g d s lt =
@@ -23,18 +23,18 @@ link_done link log own kept g d s lt =
     (g s within))
     (d.1 s within).0 (drained_rest (held_at link.subs s).seen (d.1 s within).1)
 
--- a queue that isn't drained has something left
+-- A queue that isn't drained has something left.
 left_rest : (seen : Seen) → IsKnownWhole seen → TellsDrained false seen → rest_of seen ≡ [] → ⊥
 left_rest (receiving r) g d = absurd g
 left_rest (gathered q) g d = d
 
--- a sub-VL of a link that isn't wholly released
+-- a sub-VL of the link isn't wholly released
 pub record HasOwing (link : LinkState) (log : List Entry) : Type 0 where
   pub sub : ℕ
   pub within : sub < link.plan.sub_vls
   pub owes : Owes link.end_system link.plan (lists_of link.subs) log sub
 
--- where a frame was lost
+-- If a frame was lost.
 lost_owes : (link : LinkState) (log : List Entry) → IsOwn link → IsKept link log → link.lost ≡ true → HasOwing link log
 lost_owes link log own kept lost =
     let b = kept.behind lost in
@@ -46,7 +46,7 @@ lost_owes link log own kept lost =
           (ap (λ (of : SubVl). sub_fragments of 0 (taken_by (held_at link.subs b.sub))) (sym (own.named b.sub within)) ∙ b.behind.ahead);
     }
 
--- where something is left, and no frame was lost
+-- If something is left and no frame was lost.
 left_owes : (link : LinkState) (log : List Entry) → IsOwn link → IsKept link log → IsLinkGathered link
     → HasSubLeft link.subs → link.lost ≡ false → HasOwing link log
 left_owes link log own kept g d whole =
@@ -61,7 +61,7 @@ left_owes link log own kept g d whole =
           d.left;
     }
 
--- a link that isn't done
+-- A link that isn't done owes a fragment.
 link_owes : (link : LinkState) (log : List Entry) → IsOwn link → IsKept link log → IsLinkGathered link
     → TellsLinkDone false link → HasOwing link log
 link_owes link log own kept g d =
@@ -70,7 +70,7 @@ link_owes link log own kept g d =
       | inr whole ↦ left_owes link log own kept g (⊎_elim (λ lost. absurd (both_ways _ whole lost)) (λ left. left) d) whole
     ]
 
--- where all links are done, all accepted messages are wholly released
+-- If all links are done, all accepted messages are wholly released.
 done_true : (config : Plan) (links : List LinkState) (lines : Lines) (moment : ℕ)
     → IsSound config links lines moment → AreGathered links → TellsAllDone true links
     → IsAllDone config (accepted_in links) (log lines)
@@ -79,7 +79,7 @@ done_true config links lines moment sound g d k lt =
     rw (plan_is config links sound.of_plan k here, ← sound.of_plan.end_system k here)
     (link_done (link_at links k) (log lines) (sound.of_plan.each k here) (sound.kept k here) (λ s slt. g k s here slt) (d k no_link (omega arith) here))
 
--- and where one isn't, some are not
+-- If one isn't, some message isn't wholly released.
 done_false : (config : Plan) (links : List LinkState) (lines : Lines) (moment : ℕ)
     → IsSound config links lines moment → AreGathered links → TellsAllDone false links
     → IsAllDone config (accepted_in links) (log lines) → ⊥
@@ -93,7 +93,7 @@ done_false config links lines moment sound g d all =
     owes_not link.end_system link.plan (lists_of link.subs) (log lines) owing.sub owing.owes
     (done owing.sub owing.within)
 
--- Whether all links are done is whether all accepted messages are wholly released.
+-- All links are done exactly if all accepted messages are wholly released.
 pub all_done : (done : Bool) (config : Plan) (links : List LinkState) (lines : Lines) (moment : ℕ)
     → IsSound config links lines moment → AreGathered links → TellsAllDone done links
     → (done ≡ true → IsAllDone config (accepted_in links) (log lines))

@@ -1,4 +1,4 @@
--- Links, nothing of which was taken yet, whose ports are given their senders.
+-- New links, while the senders of their ports are made.
 use Rattle.afdx_tx.proofs.Names.{ℕ, ◌≡◌, ◌+◌, ◌<◌, List, [], ◌∷◌, ◌++◌, length, take, get_or, set, arith, refl, ap}
 use Rattle.afdx_tx.proofs.Names.{◌∙◌, sym, subst, below_more, Option, Some, None, and_right, ne_eqb, length-append}
 use Rattle.afdx_tx.proofs.Names.{get_or_append_left, get_or_push, length-set, LinkPlan, PortPlan, Plan, IsPlan}
@@ -13,21 +13,21 @@ use Rattle.afdx_tx.proofs.OneSub.{one_count, one_each}
 use Rattle.afdx_tx.proofs.PortSeats.{few_ports, IsAt, seats, seats_within, index_at, seat_at, others_at, other_at}
 use Rattle.afdx_tx.proofs.SoundEmitter.{alike_queues}
 
--- the queue of a sub-VL, as the list of all queues has it
+-- The queue of a sub-VL in the list of all queues.
 pub queue_at_is : (links : List LinkState) (k s : ℕ)
     → queue_at (queues_in links) k s ≡ queue_of (held_at (link_at links k).subs s).seen
 queue_at_is links k s =
     ap (λ (qs : List (Option QueueName)). get_or qs s None) (get_or-map link_queues links k no_link)
     ∙ get_or-map held_queue (link_at links k).subs s nothing_held
 
--- a fact of each element of a list, with one more
+-- A property of each element of a list, with one element more.
 pub each_push : {X : Type 0} (P : ℕ → X → Type 0) (xs : List X) (new d : X) (n : ℕ) → length xs ≡ n
     → ((k : ℕ) → k < n → P k (get_or xs k d)) → P n new → (k : ℕ) → k < n + 1 → P k (get_or (xs ++ new ∷ []) k d)
 each_push P xs new d n count each last = below_more (λ k. P k (get_or (xs ++ new ∷ []) k d)) n
     (λ k lt. rw (get_or_append_left xs (new ∷ []) d k (omega arith)) (each k lt))
     (rw (get_or_push xs new d n count) last)
 
--- one link more
+-- One link more.
 pub links_push : (config : Plan) (first : List PortPlan) (links : List LinkState) (n : ℕ) (new : LinkState)
     → AreOpenedLinks config first links n → IsOpenedLink config.end_system config.ports first (link_plan_at config.links n) new
     → AreOpenedLinks config first (links ++ new ∷ []) (n + 1)
@@ -37,7 +37,7 @@ links_push config first links n new are opened = record {
       links new no_link n are.count are.each opened;
 }
 
--- the sub-VL of the next port, with a sender for each of its ports before it
+-- The sub-VL of the next port has a sender for each of its earlier ports.
 pub sub_at : (config : Plan) (links : List LinkState) (place k s : ℕ) → IsAt config place k s
     → AreOpenedLinks config (take place config.ports) links (length config.links)
     → IsOpenedSub (record { end_system = config.end_system; link = link_plan_at config.links k; sub = s })
@@ -45,7 +45,7 @@ pub sub_at : (config : Plan) (links : List LinkState) (place k s : ℕ) → IsAt
 sub_at config links place k s at are =
     rw (index_at config place k s at) ((are.each k at.link).subs.each s (rw at.sub at at.over.sub))
 
--- it lacks a sender
+-- The sub-VL of the next port lacks a sender.
 pub lacks_at : (config : Plan) (links : List LinkState) (place k s : ℕ) → IsPlan config → IsAt config place k s
     → AreOpenedLinks config (take place config.ports) links (length config.links)
     → (k < length links) × (s < length (link_at links k).subs) × LacksSender (held_at (link_at links k).subs s)
@@ -63,14 +63,14 @@ lacks_at config links place k s valid at are =
       record { below = omega arith; more = rw opened.seen (omega arith, refl) },
     )
 
--- a queue has one more sender
+-- A queue has one sender more.
 makes_seen : (old : Seen) (calls : ℕ) (sender : SenderView) (new : Seen) (queue : QueueName) (capacity n : ℕ)
     → MakesSender old calls sender new → old ≡ receiving (new_receiver queue capacity n)
     → (new ≡ receiving (new_receiver queue capacity (n + 1))) × (sender ≡ new_sender queue capacity calls n)
 makes_seen old calls sender new queue capacity n makes is =
     let here = subst (λ (seen : Seen). MakesSender seen calls sender new) is makes in (here.1, here.0)
 
--- and so has a sub-VL
+-- A sub-VL has one sender more.
 makes_sub : (own : SubVl) (ports : List PortPlan) (n : ℕ) (old : Held) (calls : ℕ) (sender : SenderView) (new : Held)
     → IsOpenedSub own ports n old → SubMakesSender old calls sender new → IsOpenedSub own ports (n + 1) new
 makes_sub own ports n old calls sender new opened makes = rw makes.same (record {
@@ -81,7 +81,7 @@ makes_sub own ports n old calls sender new opened makes = rw makes.same (record 
   seen = (makes_seen old.seen calls sender new.seen opened.queue own.link.capacity n makes.queue opened.seen).0;
 })
 
--- a link with other sub-VLs, which have senders for these ports
+-- A link with other sub-VLs, which have senders for these ports.
 with_subs : (own : ℕ) (ports first more : List PortPlan) (link : LinkPlan) (state : LinkState) (subs : List Held)
     → IsOpenedLink own ports first link state → AreOpenedSubs own ports more link subs link.sub_vls
     → IsOpenedLink own ports more link (record state { subs = subs })
@@ -94,7 +94,7 @@ with_subs own ports first more link state subs opened these = record {
   counts = opened.counts;
 }
 
--- the link of the next port, whose sender was made
+-- The link of the next port, after its sender was made.
 link_more : (config : Plan) (old : LinkState) (place k s calls : ℕ) (sender : SenderView) (new : LinkState) → IsAt config place k s
     → IsOpenedLink config.end_system config.ports (take place config.ports) (link_plan_at config.links k) old
     → LinkMakesSender old s calls sender new
@@ -118,7 +118,7 @@ link_more config old place k s calls sender new at opened makes =
           t lt;
     }))
 
--- all links, of which one made the sender of the next port
+-- All links, one of which made the sender of the next port.
 pub opened_more : (config : Plan) (links : List LinkState) (place k s calls : ℕ) (sender : SenderView) (new : LinkState) → IsPlan config
     → IsAt config place k s → AreOpenedLinks config (take place config.ports) links (length config.links)
     → LinkMakesSender (link_at links k) s calls sender new
@@ -140,7 +140,7 @@ opened_more config links place k s calls sender new valid at are makes =
           }));
     }
 
--- the queues keep their names
+-- The queues have the same identities.
 makes_name : (old : Seen) (calls : ℕ) (sender : SenderView) (new : Seen) → MakesSender old calls sender new → queue_of new ≡ queue_of old
 makes_name (receiving old) calls sender new makes = ap queue_of makes.1
 makes_name (gathered old) calls sender new makes = absurd makes
@@ -152,7 +152,7 @@ names_more links k s calls sender new within makes = alike_queues links (set lin
     (λ m t _. one_each links k s new within makes.same (λ old held. held_queue held ≡ held_queue old) (λ held. refl)
     (makes_name _ calls sender _ makes.makes.queue) m t)
 
--- the port at the next place, with the sender that was made for it
+-- The port at the next place, with its sender.
 pub fresh_port : (config : Plan) (links : List LinkState) (place k s : ℕ) (plan : PortPlan) (sender : SenderView) (new : LinkState)
     → IsAt config place k s → AreOpenedLinks config (take place config.ports) links (length config.links)
     → LinkMakesSender (link_at links k) s most_calls sender new

@@ -1,4 +1,4 @@
--- The fragments of a sub-VL's accepted messages, against its stream.
+-- The fragments of a sub-VL's accepted messages, and its stream.
 use Rattle.afdx_tx.proofs.Names.{ℕ, suc, ◌≡◌, ◌+◌, ◌<◌, List, [], ◌∷◌, ◌++◌, true, false, length, arith, refl, ap}
 use Rattle.afdx_tx.proofs.Names.{◌∙◌, sym, inl, inr, append-nil, append_assoc, map-append, nil_from_length}
 use Rattle.afdx_tx.proofs.Names.{length-append, room_of, LinkPlan, Net, A, Sent, fragments, fragments_at}
@@ -7,27 +7,27 @@ use Rattle.afdx_tx.proofs.Names.{Finds, IsKnownWhole, known_of, told_of, Held, L
 use Rattle.afdx_tx.proofs.Names.{sent_by, taken_by, sub_fragments, IsLinkTied, IsReleased, Owes, accepted_by, IsOwn}
 use Rattle.vl_link.proofs.FragmentsLeft.{fragments_some}
 
--- what is known to be left of a queue
+-- the messages known to be left in a queue
 abbrev pub rest_of : Seen → List (ℕ × List ℕ)
 rest_of (receiving r) = []
 rest_of (gathered g) = g.left
 
--- what was accepted is what was taken, and what is left
+-- The accepted messages are those taken and those left.
 known_rest : (seen : Seen) → known_of seen ≡ taken_of seen ++ rest_of seen
 known_rest (receiving r) = sym (append-nil r.taken)
 known_rest (gathered g) = refl
 
--- where nothing was found, nothing is left
+-- If a poll found nothing, nothing is left.
 rest_none : (old new : Seen) → IsKnownWhole old → FindsNothing old new → rest_of old ≡ []
 rest_none (receiving r) new g f = absurd g
 rest_none (gathered q) new g f = f.0
 
--- where something was found, something is left
+-- If a poll found a message, something is left.
 rest_some : (old : Seen) (message : ℕ × List ℕ) (new : Seen) → IsKnownWhole old → Finds old message new → rest_of old ≡ [] → ⊥
 rest_some (receiving r) message new g f none = absurd g
 rest_some (gathered q) message new g f none = let e : [] ≡ message ∷ f.0 = sym none ∙ f.1 in cc
 
--- the fragments of two lists of messages
+-- The fragments of two lists of messages.
 fragments_append : (end_system room : ℕ) (net : Net) (place : ℕ) (xs ys : List Sent)
     → fragments_from end_system room net place (xs ++ ys)
     ≡ fragments_from end_system room net place xs ++ fragments_from end_system room net (place + length xs) ys
@@ -39,12 +39,12 @@ fragments_append end_system room net place (x ∷ xs) ys =
     (omega arith))
     ∙ sym (append_assoc (fragments_at end_system room net place x) _ _)
 
--- the fragments of the messages of a sub-VL that were accepted and not taken
+-- the fragments of a sub-VL's messages that were accepted and not taken
 abbrev pub untaken : ℕ → ℕ → Net → Held → List (List ℕ)
 untaken end_system room net held =
     fragments_from end_system room net (0 + length (taken_by held)) (sent_by held.ports (rest_of held.seen))
 
--- the fragments of a sub-VL's accepted messages
+-- The fragments of a sub-VL's accepted messages.
 pub owed_split : (end_system room : ℕ) (net : Net) (held : Held)
     → fragments end_system room net (accepted_by held)
     ≡ fragments end_system room net (taken_by held) ++ untaken end_system room net held
@@ -52,17 +52,17 @@ owed_split end_system room net held =
     rw (known_rest held.seen, map-append (sent_of held.ports) (taken_of held.seen) (rest_of held.seen))
     (fragments_append end_system room net 0 (taken_by held) (sent_by held.ports (rest_of held.seen)))
 
--- two lists make none only where both are none
+-- Two lists are empty if together they are.
 nils : {X : Type 0} (xs ys : List X) → xs ++ ys ≡ [] → (xs ≡ []) × (ys ≡ [])
 nils [] ys e = (refl, e)
 nils (x ∷ xs) ys e = absurd (let no : x ∷ (xs ++ ys) ≡ [] = e in cc)
 
--- a sub-VL of a link where its stream is, whose accepted messages are known whole
+-- a sub-VL of a link, tied to its stream, with its accepted messages known whole
 pub record Stands (end_system : ℕ) (link : LinkPlan) (log : List Entry) (s : ℕ) (held : Held) : Type 0 where
   pub taken : fragments end_system (room_of link.lmax) A (taken_by held) ≡ told_of link.id.0 s log ++ held.left
   pub seen : IsKnownWhole held.seen
 
--- each sub-VL of a tied link is
+-- Each sub-VL of a tied link is such.
 pub stands_of : (link : LinkState) (log : List Entry) (s : ℕ) → IsOwn link → IsLinkTied link log
     → s < length link.subs → IsKnownWhole (held_at link.subs s).seen
     → Stands link.end_system link.plan log s (held_at link.subs s)
@@ -78,7 +78,7 @@ abbrev pub lists_of : List Held → ℕ → List Sent
 lists_of subs s = accepted_by (held_at subs s)
 
 module _ (end_system : ℕ) (link : LinkPlan) (log : List Entry) (s : ℕ) (subs : List Held) where
-  -- nothing is left of what was taken, nor to be taken
+  -- Nothing is left of the messages taken, and none is left to take.
   pub all_released : Stands end_system link log s (held_at subs s) → (held_at subs s).left ≡ []
       → rest_of (held_at subs s).seen ≡ []
       → IsReleased end_system link (lists_of subs) log s
@@ -94,7 +94,7 @@ module _ (end_system : ℕ) (link : LinkPlan) (log : List Entry) (s : ℕ) (subs
         append-nil (told_of link.id.0 s log),
       ) refl
 
-  -- the stream of a sub-VL is behind what was taken
+  -- The stream lacks fragments of the messages taken.
   pub owes_taken : (left : List (List ℕ)) → (left ≡ [] → ⊥)
       → fragments end_system (room_of link.lmax) A (taken_by (held_at subs s)) ≡ told_of link.id.0 s log ++ left
       → Owes end_system link (lists_of subs) log s
@@ -107,7 +107,7 @@ module _ (end_system : ℕ) (link : LinkPlan) (log : List Entry) (s : ℕ) (subs
             ∙ rw e (append_assoc (told_of link.id.0 s log) left more);
       }
 
-  -- a message is left to be taken
+  -- A message is left to take.
   pub owes_rest : Stands end_system link log s (held_at subs s) → (rest_of (held_at subs s).seen ≡ [] → ⊥)
       → Owes end_system link (lists_of subs) log s
   owes_rest at some = by_rest (rest_of (held_at subs s).seen) refl
@@ -128,18 +128,18 @@ module _ (end_system : ℕ) (link : LinkPlan) (log : List Entry) (s : ℕ) (subs
                 ∙ rw (e, at.taken) (append_assoc (told_of link.id.0 s log) held.left next);
           }
 
-  -- what was asked and has nothing is wholly released
+  -- A polled sub-VL that has nothing is wholly released.
   pub passed_released : (new : Held) → Stands end_system link log s (held_at subs s) → Asks false (held_at subs s) new
       → IsReleased end_system link (lists_of subs) log s
   passed_released new at p = all_released at p.whole (rest_none (held_at subs s).seen new.seen at.seen p.nothing)
 
-  -- and what has something is not
+  -- A polled sub-VL that has something isn't wholly released.
   pub asked_owes : (new : Held) → Stands end_system link log s (held_at subs s) → Asks true (held_at subs s) new
       → Owes end_system link (lists_of subs) log s
   asked_owes new at (inl g) = owes_taken (held_at subs s).left g.some at.taken
   asked_owes new at (inr p) = owes_rest at (rest_some (held_at subs s).seen p.message new.seen at.seen p.finds)
 
--- no sub-VL is both
+-- No sub-VL is both.
 pub owes_not : (end_system : ℕ) (link : LinkPlan) (accepted : ℕ → List Sent) (log : List Entry) (s : ℕ)
     → Owes end_system link accepted log s → IsReleased end_system link accepted log s → ⊥
 owes_not end_system link accepted log s o r =

@@ -1,4 +1,4 @@
--- One more link of a poll has had its turn.
+-- A poll after one more link's turn.
 use Rattle.afdx_tx.proofs.Names.{ℕ, ◌≡◌, ◌≢◌, ◌<◌, List, [], ◌∷◌, ◌++◌, ◌||◌, false, length, map, set, get_or}
 use Rattle.afdx_tx.proofs.Names.{arith, refl, ap, ◌∙◌, sym, subst, ◌≤◌, Option, Some, None, length-set, ext_get_or}
 use Rattle.afdx_tx.proofs.Names.{get_or-map, length-map, All-push, VlId, LinkPlan, link_plan_at, A, link_in, Entry}
@@ -10,12 +10,12 @@ use Rattle.afdx_tx.proofs.Names.{IsSteady, Turned, IsOwn, HasItems, link_turn, k
 use Rattle.afdx_tx.proofs.Names.{released_below, each_set}
 use Rattle.vl_link.proofs.SubInStep.{same_sub_on, same_sub_here}
 
--- a later moment
+-- A later time.
 pub later_on : (last : Option Stamp) (m n : ℕ) → m ≤ n → IsLater last m → IsLater last n
 later_on None m n le later = tt
 later_on (Some last) m n le later = omega arith
 
--- a link is the one that it is
+-- The relation is reflexive.
 pub same_link : (link : LinkState) → IsSameLink link link
 same_link link = record {
   end_system = refl;
@@ -26,7 +26,7 @@ same_link link = record {
   subs = λ s. same_sub_here (held_at link.subs s) (held_at link.subs s) refl;
 }
 
--- what serving one of the links came to, as its turn at its place
+-- The turn of one link, at its place.
 pub turned_at : (now i : ℕ) (links : List LinkState) (item new : LinkState) (lines after : Lines) (did : Served)
     → item ≡ link_at links i → i < length links → AreServedBy now links → (link_at links i).lost ≡ false
     → Serves now item.plan item.pace item.subs new.subs lines after did → Follows new.plan.id.0 new.pace after did
@@ -45,14 +45,14 @@ turned_at now i links item new lines after did is lt later whole serves paced sa
       counted = counted;
     })
 
--- a fact of each link, where one was set
+-- A property of each link of which one was set.
 pub at_each : (P : ℕ → LinkState → Type 0) (links : List LinkState) (i : ℕ) (new : LinkState)
     → i < length links → P i new → ((k : ℕ) → k < length links → k ≢ i → P k (link_at links k)) → (k : ℕ)
     → k < length links → P k (link_at (set links i new) k)
 at_each P links i new lt p q k klt =
     each_set (λ j l. j < length links → P j l) links i new no_link lt (λ _. p) (λ j ne jlt. q j jlt ne) k klt
 
--- the plan of a link stays the same over two steps
+-- The relation is transitive.
 trans_same : (a b c : LinkState) → IsSameLink a b → IsSameLink b c → IsSameLink a c
 trans_same a b c p q =
     record {
@@ -64,7 +64,7 @@ trans_same a b c p q =
       subs = λ s. same_sub_on (held_at a.subs s) (held_at b.subs s) (held_at c.subs s) (p.subs s) (q.subs s);
     }
 
--- two links of the running list have different identifiers
+-- Two links of the running list have different identifiers.
 apart_now : (old links : List LinkState) (i k : ℕ) → AreApart old → IsSamePlan old links → i < length links
     → k < length links → k ≢ i → (link_at links i).plan.id.0 ≢ (link_at links k).plan.id.0
 apart_now old links i k apart same lt klt ne e =
@@ -74,29 +74,29 @@ apart_now old links i k apart same lt klt ne e =
     let made = λ (n : ℕ). let v : VlId = record { 0 = n } in v in
     ne (sym (apart i k il kl (sym (id i il) ∙ ap made e ∙ id k kl)))
 
--- a known frame at the end of a known list
+-- A known frame at the end of a known list.
 known_push : (links : List LinkPlan) (H : List Entry) (e : Entry) → AreKnown links A H
     → IsKnown links A e.frame → AreKnown links A (H ++ e ∷ [])
 known_push links [] e h k = (k, tt)
 known_push links (x ∷ xs) e h k = (h.0, known_push links xs e h.1 k)
 
--- the plan at a place is that of the link there
+-- The plan at a place is that of the link there.
 pub plan_at_is : (links : List LinkState) (k : ℕ) → k < length links
     → link_plan_at (plans links) k ≡ (link_at links k).plan
 plan_at_is links k lt = get_or-map plan_of_link links k no_link no_link_plan lt
 
--- there are as many plans as links
+-- There are as many plans as links.
 pub plans_length : (links : List LinkState) → length (plans links) ≡ length links
 plans_length links = length-map links plan_of_link
 
--- what is read of each element of two lists is the same
+-- Equal elements have equal images.
 pub map_alike : {X Y : Type 0} (f : X → Y) (xs ys : List X) (d : X) → length xs ≡ length ys
     → ((k : ℕ) → k < length ys → f (get_or xs k d) ≡ f (get_or ys k d)) → map f xs ≡ map f ys
 map_alike f xs ys d same each = ext_get_or (f d) (map f xs) (map f ys) (length-map xs f ∙ same ∙ sym (length-map ys f))
     (λ k lt. let here : k < length xs = omega (arith, length-map xs f) in let there : k < length ys = omega arith in
     get_or-map f xs k d (f d) here ∙ each k there ∙ sym (get_or-map f ys k d (f d) there))
 
--- what was handed over is known after a turn
+-- The frames are known after a turn.
 known_after : (now i : ℕ) (old : List LinkState) (did : Served) (links : List LinkState) (new : LinkState) (lines after : Lines)
     → IsSamePlan old links → i < length links → IsOwn (link_at links i)
     → Turned now (link_at links i) new lines after did → AreKnown (plans old) A (log lines)
@@ -118,7 +118,7 @@ known_after now i old (Released sub number) links new lines after same lt own t 
     }))
 known_after now i old Lost links new lines after same lt own t h = rw (log_same lines after t.serves.1.same) h
 
--- what was logged is carried by the networks of its links after a turn
+-- After a turn the log is carried by its links' networks.
 carried_after : (now i : ℕ) (old : List LinkState) (did : Served) (links : List LinkState) (new : LinkState) (lines after : Lines)
     → AreApart old → IsSamePlan old links → i < length links
     → Turned now (link_at links i) new lines after did → AreCarried (plans old) lines.logged
@@ -137,7 +137,7 @@ carried_after now i old (Released sub number) links new lines after apart same l
     (ap (λ (p : LinkPlan). p.id) (sym plan) ∙ ap made (sym r.of.link ∙ of) ∙ ap (λ (p : LinkPlan). p.id) (plan_at_is old k kl)))))
 carried_after now i old Lost links new lines after apart same lt t h k klt = rw t.serves.1.same (h k klt)
 
--- every turn keeps what turns keep
+-- Each turn keeps the invariant of turns.
 pub steady_more : (now i : ℕ) (old links : List LinkState) (lines after : Lines) (new : LinkState) (did : Served)
     → IsSteady now old links lines → AreApart old → i < length links
     → Turned now (link_at links i) new lines after did → IsLater new.pace.last now

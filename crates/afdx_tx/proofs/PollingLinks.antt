@@ -1,4 +1,4 @@
--- One more link of a poll was asked whether it is due, and served where it is.
+-- A poll after one more link was tested for due, and served if it was.
 use Rattle.afdx_tx.proofs.Names.{ℕ, ◌≡◌, ◌+◌, ◌<◌, List, [], ◌++◌, false, length, set, refl, arith, ap, sym, ◌≤◌}
 use Rattle.afdx_tx.proofs.Names.{◌∷◌, ◌∙◌, add-one, true, subst, inl, inr, append-nil, map-append, append_assoc}
 use Rattle.afdx_tx.proofs.Names.{length-append, length-set, get_or-set_same, get_or-set_other, Lines, BothEndure}
@@ -9,13 +9,13 @@ use Rattle.afdx_tx.proofs.Names.{Nothing, Released, Lost, cases_Bool, both_ways,
 use Rattle.afdx_tx.proofs.Names.{IsKept, turns_seen, turns_push, may_not}
 use Rattle.afdx_tx.proofs.PollTurns.{same_link, at_each, steady_more}
 
--- where nothing entered nothing more is told
+-- If nothing entered the log, nothing more is reported.
 told_same : (now : ℕ) (rs : List Release) (before lines after : Lines) → log after ≡ log lines
     → IsTold now rs before lines → IsTold now (rs ++ []) before after
 told_same now rs before lines after e t =
     record { entries = t.entries; grown = e ∙ t.grown; named = t.named ∙ sym (append-nil rs); moments = t.moments }
 
--- what one turn released is told behind the releases before it
+-- The release of a turn is reported after the earlier ones.
 pub told_more : (now : ℕ) (did : Served) (link new : LinkState) (rs : List Release) (before lines after : Lines)
     → Turned now link new lines after did → IsTold now rs before lines
     → IsTold now (rs ++ turn_release link.plan.id did) before after
@@ -37,21 +37,21 @@ told_more now (Released sub number) link new rs before lines after t h =
 told_more now Lost link new rs before lines after t h =
     told_same now rs before lines after (log_same lines after t.serves.1.same) h
 
--- one turn releases one frame at most
+-- A turn releases at most one frame.
 pub few_released : (vl : VlId) (did : Served) (rs : List Release) (i : ℕ) → length rs ≤ i
     → length (rs ++ turn_release vl did) ≤ i + 1
 few_released vl Nothing rs i h = omega (arith, length-append rs [])
 few_released vl (Released sub number) rs i h = omega (arith, length-append rs (turn_release vl (Released sub number)))
 few_released vl Lost rs i h = omega (arith, length-append rs [])
 
--- a link that lost a frame has no network any more
+-- All networks of a link that lost a frame are down.
 whole_after : (now : ℕ) (did : Served) (link new : LinkState) (lines after : Lines)
     → Turned now link new lines after did → stands_for new.plan.networks after ≡ true → new.lost ≡ false
 whole_after now Nothing link new lines after t stands = t.lost
 whole_after now (Released sub number) link new lines after t stands = t.lost
 whole_after now Lost link new lines after t stands = absurd (both_ways _ t.serves.1.down (rw t.same.plan at stands))
 
--- one turn more
+-- One turn more.
 turns_on : (now i : ℕ) (old news : List LinkState) (before lines after : Lines) (did : Served)
     → AreTurns (IsTurnAt now old news) 0 i before lines → IsTurnAt now old news i lines after did
     → AreTurns (IsTurnAt now old news) 0 (i + 1) before after
@@ -59,7 +59,7 @@ turns_on now i old news before lines after did turns turn = rw add-one
     (turns_push (IsTurnAt now old news) 0 i before lines after did
     turns (subst (λ (n : ℕ). IsTurnAt now old news n lines after did) (omega arith) turn))
 
--- the turn of a link that may not release a frame
+-- The turn of a link that may not release a frame.
 idle_turn : (now : ℕ) (link : LinkState) (lines : Lines) → may_release now link.plan link.pace lines ≡ false
     → (stands_for link.plan.networks lines ≡ true → link.lost ≡ false) → IsKept link (log lines)
     → IsTurn now link link lines lines Nothing
@@ -78,7 +78,7 @@ idle_turn now link lines may_not_now whole kept = record {
       | inr down ↦ may_not now link.plan stream_pace lines down
     ]
 
--- one more link had its turn
+-- One more link has had its turn.
 pub polling_more : (now i : ℕ) (old links : List LinkState) (before lines after : Lines) (new : LinkState) (did : Served)
     (released : List Release) → IsPolling now i old links before lines released → AreApart old → i < length links
     → Turned now (link_at links i) new lines after did → IsLater new.pace.last now
@@ -105,7 +105,7 @@ polling_more now i old links before lines after new did released p apart lt turn
       endure = both_on before lines after p.endure endure;
     }
 
--- one more link may not release a frame
+-- One more link may not release a frame.
 pub polling_on : (now i : ℕ) (old links : List LinkState) (before lines : Lines) (released : List Release)
     → IsPolling now i old links before lines released → i < length links
     → may_release now (link_at links i).plan (link_at links i).pace lines ≡ false

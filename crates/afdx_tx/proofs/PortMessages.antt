@@ -1,4 +1,4 @@
--- What a sub-VL accepted of each of its ports.
+-- The messages of each port that its sub-VL accepted.
 use Rattle.afdx_tx.proofs.Names.{ℕ, suc, ◌≡◌, ◌≢◌, ◌<◌, List, [], ◌∷◌, Bool, true, ◌≤◌, cond, nat_eq, filter, ◌+◌}
 use Rattle.afdx_tx.proofs.Names.{◌++◌, drop, drop-cons, length, take, get_or, arith, refl, ap, ◌∙◌, sym, subst}
 use Rattle.afdx_tx.proofs.Names.{⊎_elim, All, Contains, ◌==◌, AllPairs, cases_eq, cases_lt, eq-eqb, ne_eqb}
@@ -14,7 +14,7 @@ use Rattle.afdx_tx.proofs.SoundEmitter.{plan_is, count_is}
 use Rattle.afdx_tx.proofs.PortLink.{link_within}
 use Rattle.afdx_tx.proofs.PortSeats.{of_sub, on_own, on_sub_vl, seats_more, seats_within}
 
--- what an item of a sub-VL's queue stands for is of one of its ports
+-- The message of an item of a sub-VL's queue is one that its port may send.
 item_allowed : (config : Plan) (k s : ℕ) (item : ℕ × List ℕ)
     → IsItem (length (ports_of_sub config.ports (link_plan_at config.links k).id.0 s)) item
     → IsAllowed config k s (sent_of (ports_of_sub config.ports (link_plan_at config.links k).id.0 s) item)
@@ -29,7 +29,7 @@ item_allowed config k s item is =
       most = is.message.most;
     }
 
--- and so are those of a list
+-- The same of a list of items.
 items_allowed : (config : Plan) (k s : ℕ) (ports : List PortPlan) (items : List (ℕ × List ℕ))
     → ports ≡ ports_of_sub config.ports (link_plan_at config.links k).id.0 s → AreItems (length ports) items
     → All (IsAllowed config k s) (sent_by ports items)
@@ -39,12 +39,12 @@ items_allowed config k s ports items are own =
     (λ j d lt. item_allowed config k s (get_or items j d) ((rw are at own) j d lt)))
 
 module _ (config : Plan) (links : List LinkState) (of : AreLinksOf config links) where
-  -- the ports of a sub-VL of a link
+  -- The ports of a sub-VL of a link.
   ports_are : (k s : ℕ) → k < length links → s < length (link_at links k).subs
       → (held_at (link_at links k).subs s).ports ≡ ports_of_sub config.ports (link_plan_at config.links k).id.0 s
   ports_are k s lt slt = rw (plan_is config links of k lt) (of.ports k s lt slt)
 
-  -- a link has as many sub-VLs as the plan says
+  -- A link has the number of sub-VLs that the plan says.
   pub sub_within : (k s : ℕ) → k < length links → s < (link_plan_at config.links k).sub_vls
       → s < length (link_at links k).subs
   sub_within k s lt slt = omega (
@@ -54,7 +54,7 @@ module _ (config : Plan) (links : List LinkState) (of : AreLinksOf config links)
     (of.each k lt).sub_vls,
   )
 
-  -- the sub-VL of the port at a place is one of the links'
+  -- The sub-VL of the port at a place is one of the links'.
   pub port_within : (place : ℕ) → IsPlan config → place < length config.ports
       → (link_place config (port_plan_at config.ports place) < length links)
       × ((port_plan_at config.ports place).sub < length (link_at links (link_place config (port_plan_at config.ports place))).subs)
@@ -64,7 +64,7 @@ module _ (config : Plan) (links : List LinkState) (of : AreLinksOf config links)
       let here : link_place config (port_plan_at config.ports place) < length links = omega (arith, linked.0, count_is config links of) in
       (here, sub_within _ _ here linked.1.sub, linked.1)
 
-  -- messages of each sub-VL's own ports are of its ports in the configuration
+  -- Messages of each sub-VL's own ports are of its ports in the configuration.
   own_allowed : (read : Seen → List (ℕ × List ℕ))
       → ((k s : ℕ) → k < length links → s < length (link_at links k).subs
       → AreItems (length (held_at (link_at links k).subs s).ports) (read (held_at (link_at links k).subs s).seen))
@@ -76,16 +76,17 @@ module _ (config : Plan) (links : List LinkState) (of : AreLinksOf config links)
       items_allowed config k s _ (read (held_at (link_at links k).subs s).seen) (ports_are k s lt sub)
       (items k s lt sub)
 
-  -- each accepted message is of a port of its sub-VL
+  -- Each accepted message is of a port of its sub-VL.
   pub accepted_allowed : HaveOwnItems links → AreAllowed config (accepted_in links)
   accepted_allowed items = own_allowed known_of items
 
-  -- and so is each that was taken
+  -- Each message taken is of a port of its sub-VL.
   pub taken_allowed : HaveOwnItems links → AreAllowed config (taken_in links)
   taken_allowed items = own_allowed taken_of (λ k s lt slt. items_taken _ (held_at (link_at links k).subs s).seen
       (items k s lt slt))
 
--- an element that passes a test stands in the filter behind those that pass before it
+-- An element that passes a test has as its index in the filter the number of earlier ones that
+-- pass.
 place_in : {X : Type 0} (on : X → Bool) (xs : List X) (place : ℕ) (d : X) → place < length xs → on (get_or xs place d) ≡ true
     → get_or (filter on xs) (length (filter on (take place xs))) d ≡ get_or xs place d
 place_in on xs place d lt e =
@@ -101,7 +102,7 @@ place_in on xs place d lt e =
 abbrev AreOthers : PortPlan → PortPlan → Type 0
 AreOthers p q = p.id.0 ≢ q.id.0
 
--- no two ports of a valid plan have one
+-- No two ports of a valid plan have the same identifier.
 ports_differ : (config : Plan) → IsPlan config → AllPairs AreOthers config.ports
 ports_differ config valid i j d lt jlt e =
     let made = λ (n : ℕ). let v : PortId = record { 0 = n } in v in
@@ -112,7 +113,7 @@ ports_differ config valid i j d lt jlt e =
     ∙ ap (λ (p : PortPlan). p.id) (get_or_default config.ports j d none jlt)) in
     omega arith
 
--- among ports with different identifiers, the index tells the identifier
+-- Among ports with different identifiers, the index determines the identifier.
 is_index : (ports : List PortPlan) → AllPairs AreOthers ports → (index id : ℕ) → index < length ports
     → (port_plan_at ports index).id.0 ≡ id → (i : ℕ) → i < length ports
     → (i == index) ≡ nat_eq (port_plan_at ports i).id.0 id
@@ -125,7 +126,7 @@ is_index ports apart index id lt own i ilt = ⊎_elim
     (cases_lt i index))))
     (cases_eq i index)
 
--- so a sender's part of the items is the messages of its port
+-- A sender's part of the items is the messages of its port.
 part_is : (ports : List PortPlan) (index : ℕ) (port : PortPlan) (items : List (ℕ × List ℕ))
     → ((i : ℕ) → i < length ports → (i == index) ≡ nat_eq (port_plan_at ports i).id.0 port.id.0) → AreItems (length ports) items
     → part_of index items ≡ messages_of port (sent_by ports items)
@@ -135,7 +136,7 @@ part_is ports index port (item ∷ items) same all =
     let rest = part_is ports index port items same (All-tail (IsItem (length ports)) item items all) in
     rw (same item.0 is.port, rest) refl
 
--- a port among those of its sub-VL
+-- A port among those of its sub-VL.
 own_index : (config : Plan) (place : ℕ) → IsPlan config → place < length config.ports → (i : ℕ)
     → i < length (ports_of_sub config.ports (port_plan_at config.ports place).vl.0 (port_plan_at config.ports place).sub)
     → (i == index_of config.ports place) ≡ nat_eq (port_plan_at (ports_of_sub config.ports
@@ -155,7 +156,7 @@ own_index config place valid lt =
     ))
     (ap (λ (p : PortPlan). p.id.0) (place_in on config.ports place (port_plan_at [] 0) lt passes))
 
--- what a sub-VL accepted of a port, by its identifier
+-- The accepted messages of a port, by its identifier.
 pub own_messages : (tx : Tx) (place : ℕ) (own : List (List ℕ)) → IsPlan tx.plan → AreLinksOf tx.plan tx.links
     → HaveOwnItems tx.links → place < length tx.plan.ports
     → part_of (index_of tx.plan.ports place) (known_of (held_for tx (port_plan_at tx.plan.ports place)).seen) ≡ own

@@ -1,4 +1,4 @@
--- How many of the first ports of a configuration are of a sub-VL.
+-- The number of the first ports of a configuration that are of a sub-VL.
 use Rattle.afdx_tx.proofs.Names.{ℕ, ◌≡◌, ◌+◌, ◌<◌, ◌≤◌, List, ◌++◌, Bool, true, false, ◌&&◌, nat_eq, cond, length}
 use Rattle.afdx_tx.proofs.Names.{take, drop, arith, refl, ap, ◌∙◌, sym, add-zero, eq-eqb, ne_eqb, and_from}
 use Rattle.afdx_tx.proofs.Names.{and_left, and_parts, eqb-true, length-append, take-append-drop, filter-append}
@@ -8,20 +8,20 @@ use Rattle.std.proofs.Common.{All}
 use Rattle.std.proofs.lemmas.List.Filters.{length-filter_more}
 use Rattle.vl_link.specs.Subs.{IsPortOf}
 
--- whether a port is of a sub-VL
+-- whether the port is of the sub-VL
 abbrev pub on_sub_vl : ℕ → ℕ → PortPlan → Bool
 on_sub_vl vl sub port = nat_eq port.vl.0 vl && nat_eq port.sub sub
 
--- how many of the first ports are of a sub-VL
+-- the number of the first ports that are of the sub-VL
 abbrev pub seats : List PortPlan → ℕ → ℕ → ℕ → ℕ
 seats ports first vl sub = length (ports_of_sub (take first ports) vl sub)
 
--- one port more
+-- One port more.
 pub seats_more : (ports : List PortPlan) (i vl sub : ℕ) → i < length ports
     → seats ports (i + 1) vl sub ≡ seats ports i vl sub + cond (on_sub_vl vl sub (port_plan_at ports i)) 1 0
 seats_more ports i vl sub lt = length-filter_more (on_sub_vl vl sub) ports i _ lt
 
--- no more than all
+-- The number is at most that of all ports.
 pub seats_within : (ports : List PortPlan) (i vl sub : ℕ) → seats ports i vl sub ≤ length (ports_of_sub ports vl sub)
 seats_within ports i vl sub =
     let whole : ports_of_sub ports vl sub ≡ ports_of_sub (take i ports) vl sub ++ ports_of_sub (drop i ports) vl sub =
@@ -29,7 +29,7 @@ seats_within ports i vl sub =
     ∙ filter-append (on_sub_vl vl sub) (take i ports) (drop i ports) in
     omega (arith, ap length whole, length-append (ports_of_sub (take i ports) vl sub) (ports_of_sub (drop i ports) vl sub))
 
--- a port is of its own sub-VL
+-- A port is of its own sub-VL.
 pub on_own : (port : PortPlan) (vl sub : ℕ) → port.vl.0 ≡ vl → port.sub ≡ sub → on_sub_vl vl sub port ≡ true
 on_own port vl sub v s = and_from _ _ (eq-eqb _ _ v) (eq-eqb _ _ s)
 
@@ -41,44 +41,44 @@ pub record IsAt (config : Plan) (place k s : ℕ) : Type 0 where
   pub sub : (port_plan_at config.ports place).sub ≡ s
 
 module _ (config : Plan) (place k s : ℕ) (at : IsAt config place k s) where
-  -- the port is of that sub-VL
+  -- The port is of that sub-VL.
   pub own_at : on_sub_vl (link_plan_at config.links k).id.0 s (port_plan_at config.ports place) ≡ true
   own_at = on_own (port_plan_at config.ports place) _ _ (ap (λ (id : VlId). id.0) (sym at.over.id)) at.sub
 
-  -- its index is how many ports before it are of its sub-VL
+  -- Its index is the number of earlier ports of its sub-VL.
   pub index_at : index_of config.ports place ≡ seats config.ports place (link_plan_at config.links k).id.0 s
   index_at = rw (at.over.id, at.sub) refl
 
-  -- there is a seat more for it
+  -- The number after it is one higher.
   pub seat_at : seats config.ports (place + 1) (link_plan_at config.links k).id.0 s ≡ index_of config.ports place + 1
   seat_at = rw index_at (rw own_at at (seats_more config.ports place (link_plan_at config.links k).id.0 s at.within))
 
--- it is of no other link
+-- The port is of no other link.
 pub other_at : (config : Plan) (place k s other t : ℕ) → IsPlan config → IsAt config place k s → other < length config.links
     → (other ≡ k → ⊥) → on_sub_vl (link_plan_at config.links other).id.0 t (port_plan_at config.ports place) ≡ false
 other_at config place k s other t valid at lt ne = and_left _ _ (ne_eqb _ _
     (λ e. ne (valid.links_apart other k lt at.link
     (λ i. record { 0 = (sym e ∙ ap (λ (v : VlId). v.0) (sym at.over.id)) i }))))
 
--- the seats of the other sub-VLs are as many
+-- The numbers of the other sub-VLs are the same.
 pub others_at : (config : Plan) (place vl t : ℕ) → place < length config.ports
     → on_sub_vl vl t (port_plan_at config.ports place) ≡ false
     → seats config.ports (place + 1) vl t ≡ seats config.ports place vl t
 others_at config place vl t lt off = rw off at (seats_more config.ports place vl t lt)
     ∙ add-zero (seats config.ports place vl t)
 
--- the port at a place, where a configuration is shown by a reference
+-- The port at a place, for a configuration behind a reference.
 pub place_at : (config shown : Plan) (place k s : ℕ) (plan : PortPlan) → shown ≡ config
     → plan ≡ port_plan_at shown.ports place → place < length shown.ports → k < length shown.links
     → SendsOver plan (link_plan_at shown.links k) → s ≡ plan.sub → IsAt config place k s
 place_at config shown place k s plan e is within link over sub =
     rw (← e) (record { within = within; link = link; over = rw (← is) over; sub = rw (← is) (sym sub) })
 
--- they are few
+-- A sub-VL has few ports.
 pub few_ports : (config : Plan) (vl sub : ℕ) → IsPlan config → length (ports_of_sub config.ports vl sub) ≤ 64
 few_ports config vl sub valid = omega (arith, valid.few_ports vl sub, length-filter (on_sub_vl vl sub) config.ports)
 
--- and each is one of the configuration's, and of it
+-- Each is one of the configuration's, and of the sub-VL.
 pub of_sub : (P : PortPlan → Type 0) (ports : List PortPlan) (vl sub : ℕ) → All P ports
     → All (λ (port : PortPlan). P port × (port.vl.0 ≡ vl) × (port.sub ≡ sub)) (ports_of_sub ports vl sub)
 of_sub P ports vl sub all k d lt =

@@ -1,4 +1,4 @@
--- The counts of links are published one after the other.
+-- The counts of the links are published one after the other.
 use Rattle.afdx_tx.proofs.Names.{ℕ, ◌≡◌, ◌≤◌, ◌<◌, List, [], ◌++◌, length, zero-le, arith, sym, ap, ◌∙◌, LinkPlan}
 use Rattle.afdx_tx.proofs.Names.{link_in, Entry, zeros, NoFieldFalls, Published, published, last_of, with_entry}
 use Rattle.afdx_tx.proofs.Names.{link_stream, with_append, LinkState, link_at, IsKept, AreKept, IsSamePlan, Reaches}
@@ -8,7 +8,7 @@ use Rattle.status_board.proofs.Histories.{last_or-push, falls_not_same, falls_no
 use Rattle.afdx_legal.proofs.CountingLemmas.{counts_more}
 use Rattle.afdx_tx.proofs.KeptLinks.{KeepLinks}
 
--- the counts of the first links were published, and the others stand as they were
+-- the counts of the first links were published, and the others are unchanged
 pub record IsPublishing (links : List LinkState) (old new : List Published) (many : ℕ) : Type 0 where
   pub count : length new ≡ length old
   pub first : (k : ℕ) → k < many → published new k ≡ with_entry (published old k) (link_at links k).counts
@@ -18,7 +18,7 @@ pub publishing_all : (links : List LinkState) (old new : List Published) → IsP
     → PublishesCounts links old new
 publishing_all links old new p = record { count = p.count; each = p.first }
 
--- what was published last is then what is counted
+-- The last published counts are then the current ones.
 pub reaches_all : (links : List LinkState) (old new : List Published) → length old ≡ length links
     → PublishesCounts links old new → Reaches links new
 reaches_all links old new count p = record {
@@ -27,7 +27,7 @@ reaches_all links old new count p = record {
       (falls_not_same (link_at links k).counts);
 }
 
--- nothing published is above no count
+-- With nothing published, no published count is above the current one.
 pub reaches_none : (links : List LinkState) (board : List Published) → length board ≡ length links
     → ((k : ℕ) → (published board k).history ≡ []) → Reaches links board
 reaches_none links board count none = record {
@@ -38,7 +38,7 @@ reaches_none links board count none = record {
     least : {c : Counts} → NoFieldFalls zeros c
     least = record { frames = zero-le; bytes = zero-le; messages = zero-le; last = zero-le }
 
--- no count of a link falls as more is handed over
+-- No count of a link falls as the log grows.
 rises_on : (old new : LinkState) (before entries after : List Entry) → new.plan ≡ old.plan → after ≡ before ++ entries
     → IsKept old before → IsKept new after → NoFieldFalls old.counts new.counts
 rises_on old new before entries after plan grown was is =
@@ -48,7 +48,7 @@ rises_on old new before entries after plan grown was is =
     rw (was.counted, is.counted, stream)
     (counts_more new.pace.gap (link_stream vl before) (link_stream vl entries) (rw stream at is.spaced))
 
--- a board stays below the counts of its links as more is handed over
+-- The published counts are at most the current ones as the log grows.
 pub reaches_on : (old new : List LinkState) (board : List Published) (before entries after : List Entry) → IsSamePlan old new
     → after ≡ before ++ entries → AreKept old before → AreKept new after → Reaches old board → Reaches new board
 reaches_on old new board before entries after same grown was is r = record {
@@ -59,7 +59,7 @@ reaches_on old new board before entries after same grown was is r = record {
       (rises_on (link_at old k) (link_at new k) before entries after (same.each k here).plan grown (was k here) (is k under));
 }
 
--- what was published of each link stays below its counts while queues alone change
+-- The published counts are at most the current ones while only queues change.
 pub reaches_kept : (old new : List LinkState) (board : List Published) → KeepLinks old new → Reaches old board → Reaches new board
 reaches_kept old new board g r = record {
   count = r.count ∙ sym g.count;

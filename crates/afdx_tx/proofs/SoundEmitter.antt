@@ -1,4 +1,4 @@
--- An emitter after its links had their turns.
+-- An emitter after the turns of its links.
 use Rattle.afdx_tx.proofs.Names.{ℕ, ◌≡◌, ◌<◌, List, length, arith, refl, ap, ◌∙◌, sym, None, ⊎_elim, Bool, subst}
 use Rattle.afdx_tx.proofs.Names.{cases_lt, get_or_past, LinkPlan, Plan, IsPlan, link_plan_at, Lines, log}
 use Rattle.afdx_tx.proofs.Names.{IsMirrored, Keeps, link_stream, IsLegal, counts_in, own_stream, AreOwnStreams}
@@ -15,7 +15,7 @@ use Rattle.vl_link.specs.Shown.{none_begun}
 use Rattle.vl_link.proofs.ShownTurns.{takes_turns}
 use Rattle.afdx_tx.proofs.HandedFronts.{front_of}
 
--- links that keep their plans, and their sub-VLs the ports
+-- the links have the same plans, and their sub-VLs the same ports
 pub record KeepPlans (old new : List LinkState) : Type 0 where
   pub count : length new ≡ length old
   pub end_system : (k : ℕ) → k < length old → (link_at new k).end_system ≡ (link_at old k).end_system
@@ -24,7 +24,7 @@ pub record KeepPlans (old new : List LinkState) : Type 0 where
   pub ports : (k s : ℕ) → k < length old → s < length (link_at old k).subs
       → (held_at (link_at new k).subs s).ports ≡ (held_at (link_at old k).subs s).ports
 
--- they stay those of the configuration
+-- They are still those of the configuration.
 pub plans_after : (config : Plan) (old new : List LinkState) → AreLinksOf config old → KeepPlans old new → AreLinks new
     → AreLinksOf config new
 plans_after config old new of keep each = record {
@@ -37,23 +37,23 @@ plans_after config old new of keep each = record {
       rw (keep.plan k o) (keep.ports k s o t ∙ of.ports k s o t);
 }
 
--- the plan of a link, read off the configuration
+-- The plan of a link, from the configuration.
 pub plan_is : (config : Plan) (links : List LinkState) → AreLinksOf config links → (k : ℕ) → k < length links
     → link_plan_at config.links k ≡ (link_at links k).plan
 plan_is config links of k lt = ap (λ (ps : List LinkPlan). link_plan_at ps k) (sym of.each_plan) ∙ plan_at_is links k lt
 
--- there are as many links as the configuration has
+-- There are as many links as the configuration has.
 pub count_is : (config : Plan) (links : List LinkState) → AreLinksOf config links → length links ≡ length config.links
 count_is config links of = sym (plans_length links) ∙ ap length of.each_plan
 
--- the identifiers of a valid plan's links differ
+-- The identifiers of a valid plan's links differ.
 pub links_apart : (config : Plan) (links : List LinkState) → IsPlan config → AreLinksOf config links → AreApart links
 links_apart config links valid of i j ilt jlt e =
     let n = count_is config links of in
     let id = λ (k : ℕ) (lt : k < length links). ap (λ (p : LinkPlan). p.id) (plan_is config links of k lt) in
     valid.links_apart i j (omega arith) (omega arith) (id i ilt ∙ e ∙ sym (id j jlt))
 
--- the emitter stays sound
+-- The emitter is still sound.
 pub sound_after : (config : Plan) (old new : List LinkState) (lines : Lines) (now : ℕ) → IsPlan config
     → AreLinksOf config old → IsSteady now old new lines → IsMirrored lines
     → AreWhole new lines → IsSound config new lines now
@@ -81,7 +81,7 @@ module _ (config : Plan) (links : List LinkState) (lines : Lines) (moment : ℕ)
     plan_here : (k : ℕ) → k < length config.links → link_plan_at config.links k ≡ (link_at links k).plan
     plan_here k lt = plan_is config links s.of_plan k (omega (arith, count_is config links s.of_plan))
 
-    -- what was handed over is legal for the messages that were taken
+    -- The frames of both networks are legal for the messages taken.
     pub sound_legal : IsLegal config (taken_in links) lines.a lines.b
     sound_legal =
         let n = count_is config links s.of_plan in
@@ -93,11 +93,11 @@ module _ (config : Plan) (links : List LinkState) (lines : Lines) (moment : ℕ)
               ((s.kept k (omega arith)).prefixes t (rw (plan_here k lt) at tlt));
         })
 
-    -- each link's stream is the longer of its own two
+    -- Each link's stream is the longer of its two.
     pub sound_streams : AreOwnStreams config (log lines) lines.a lines.b
     sound_streams = own_streams config lines s.mirrored s.carried
 
-    -- the counts of each link are those of its own stream
+    -- The counts of each link are those of its own stream.
     pub sound_counts : (k : ℕ) → k < length links
         → (link_at links k).counts ≡ counts_in (own_stream (link_plan_at config.links k).id.0 lines.a lines.b)
     sound_counts k lt =
@@ -106,7 +106,7 @@ module _ (config : Plan) (links : List LinkState) (lines : Lines) (moment : ℕ)
         (sym (plan_here k inside))
         ∙ ap counts_in (sound_streams k inside)
 
--- the queues of all links are the same if those of the sub-VLs are
+-- The queues of all links are the same if those of the sub-VLs are.
 pub alike_queues : (old new : List LinkState) → length new ≡ length old
     → ((k : ℕ) → k < length old → length (link_at new k).subs ≡ length (link_at old k).subs)
     → ((k s : ℕ) → k < length old → held_queue (held_at (link_at new k).subs s) ≡ held_queue (held_at (link_at old k).subs s))
@@ -114,7 +114,7 @@ pub alike_queues : (old new : List LinkState) → length new ≡ length old
 alike_queues old new count subs each = map_alike link_queues new old no_link count
     (λ k lt. map_alike held_queue (link_at new k).subs (link_at old k).subs nothing_held (subs k lt) (λ s _. each k s lt))
 
--- a sub-VL is closed or not as before
+-- The total of a sub-VL is the same.
 pub same_totals : (old new : List LinkState) → IsSamePlan old new → (k s : ℕ) → total_in new k s ≡ total_in old k s
 same_totals old new p k s = ⊎_elim
     (λ (lt : k < length old). same_total (held_at (link_at old k).subs s).seen (held_at (link_at new k).subs s).seen
@@ -122,19 +122,19 @@ same_totals old new p k s = ⊎_elim
     (λ past. rw (get_or_past new k no_link (omega (arith, p.count)), get_or_past old k no_link past) refl)
     (cases_lt k (length old))
 
--- the queues of all links stay the same
+-- The queues of all links are the same.
 pub same_queues : (old new : List LinkState) → IsSamePlan old new → queues_in new ≡ queues_in old
 same_queues old new p = alike_queues old new p.count (λ k lt. (p.each k lt).count)
     (λ k s lt. same_name (held_at (link_at old k).subs s).seen (held_at (link_at new k).subs s).seen ((p.each k lt).subs s).queue)
 
--- a list that keeps a log in which they do
+-- The frames of a network take turns if the log does.
 turns_keeps : (plan : Plan) (net : Net) (stands : Bool) (handed : List Entry) (lines : Lines) → Keeps net stands handed lines.logged
     → AreCarried plan.links lines.logged → TakeTurnsOn plan (log lines) → TakeTurnsOn plan handed
 turns_keeps plan net stands handed lines keeps carried turns k klt =
     let f = front_of net stands handed lines (link_plan_at plan.links k).id.0 (link_plan_at plan.links k).networks keeps (carried k klt) in
     subst TakesTurns (sym f.got) (turns_side net f.front f.behind (subst TakesTurns f.is (turns k klt)))
 
--- What each link keeps says so of the log.
+-- The frames of both networks take turns.
 pub sound_turns : (config : Plan) (links : List LinkState) (lines : Lines) (moment : ℕ)
     → IsSound config links lines moment → TakeTurns config lines.a lines.b
 sound_turns config links lines moment s =

@@ -1,4 +1,4 @@
--- The queues of an emitter take the senders of its ports back.
+-- The queues of an emitter take back the senders of its ports.
 use Rattle.afdx_tx.proofs.Names.{ℕ, zero, suc, ◌≡◌, ◌+◌, ◌<◌, ◌≤◌, List, [], ◌∷◌, Bool, true, false, cond, length}
 use Rattle.afdx_tx.proofs.Names.{set, arith, refl, ap, ◌∙◌, sym, subst, ⊎_elim, All, Contains, and_parts, cases_lt}
 use Rattle.afdx_tx.proofs.Names.{eqb-true, length-set, get_or-set_same, All-contains, Contains-push}
@@ -15,17 +15,17 @@ use Rattle.afdx_tx.proofs.SoundEmitter.{plan_is, count_is}
 use Rattle.afdx_tx.proofs.PortSeats.{seats, seats_more, on_sub_vl}
 use Rattle.afdx_tx.proofs.PortLink.{link_within}
 
--- a queue takes nothing but senders back where it does nothing
+-- The relation is reflexive.
 only_here : (seen : Seen) → OnlyTakesBack seen seen
 only_here (receiving r) = refl
 only_here (gathered g) = refl
 
--- or where it takes one
+-- Taking back one sender.
 only_one : (old : Seen) (sender : SenderView) (new : Seen) → TakesBack old sender new → OnlyTakesBack old new
 only_one (receiving old) sender new takes = subst (OnlyTakesBack (receiving old)) (sym takes) refl
 only_one (gathered old) sender new takes = absurd takes
 
--- over two steps
+-- The relation is transitive.
 only_on : (a b c : Seen) → OnlyTakesBack a b → OnlyTakesBack b c → OnlyTakesBack a c
 only_on (receiving a) (receiving b) (receiving c) p q = q ∙ ap (λ (r : ReceiverView). record r { back = c.back }) p
 only_on (gathered a) (gathered b) (gathered c) p q = q ∙ p
@@ -33,20 +33,20 @@ only_on (receiving a) (receiving b) (gathered c) p q = absurd q
 only_on (gathered a) (gathered b) (receiving c) p q = absurd q
 only_on a b c p q = absurd p
 
--- what is read of it stands, but for who is back
+-- All else of the queue is the same.
 only_read : {X : Type 0} (read : Seen → X) → ((r : ReceiverView) (back : List Brought) → read (receiving (record r { back = back })) ≡ read (receiving r))
     → (old new : Seen) → OnlyTakesBack old new → read new ≡ read old
 only_read read same (receiving old) (receiving new) only = ap (λ r. read (receiving r)) only ∙ same old new.back
 only_read read same (gathered old) (gathered new) only = ap (λ g. read (gathered g)) only
 only_read read same old new only = absurd only
 
--- and its receiver is at hand
+-- The queue still has its receiver.
 only_receiving : (old new : Seen) → OnlyTakesBack old new → IsReceiving old → IsReceiving new
 only_receiving (receiving old) (receiving new) only may = tt
 only_receiving (gathered old) new only may = absurd may
 only_receiving (receiving old) (gathered new) only may = absurd only
 
--- a queue that becomes whole then, becomes whole from what it was
+-- A queue that then becomes whole becomes whole from the one before.
 pub whole_from : (old mid new : Seen) → OnlyTakesBack old mid → BecomesWhole mid new → BecomesWhole old new
 whole_from (receiving old) (receiving mid) (gathered new) only whole =
     let back : record mid { back = old.back } ≡ old = ap (λ (r : ReceiverView). record r { back = old.back }) only in
@@ -57,7 +57,7 @@ whole_from (gathered old) (gathered mid) (gathered new) only whole = absurd whol
 whole_from (gathered old) (gathered mid) (receiving new) only whole = absurd whole
 whole_from old mid new only whole = absurd only
 
--- who was back is back still, and so is the one that came
+-- The senders that were back still are, and so is this one.
 more_back : (old : Seen) (sender : SenderView) (new : Seen) (b : Brought) → TakesBack old sender new → Contains (back_of old) b
     → Contains (back_of new) b
 more_back (receiving old) sender new b takes was = rw takes (Contains-append_left old.back (brought_by sender ∷ []) b
@@ -68,12 +68,12 @@ one_back : (old : Seen) (sender : SenderView) (new : Seen) → TakesBack old sen
 one_back (receiving old) sender new takes = rw takes (Contains-push old.back (brought_by sender))
 one_back (gathered old) sender new takes = absurd takes
 
--- a sub-VL but for who came back to its queue
+-- a sub-VL whose queue took back a sender; all else is unchanged
 record SubTakes (old new : Held) : Type 0 where
   pub same : new ≡ record old { seen = new.seen }
   pub queue : OnlyTakesBack old.seen new.seen
 
--- one was taken back
+-- One sender was taken back.
 pub take_one : (links : List LinkState) (k s : ℕ) (sender : SenderView) (new : LinkState) → k < length links
     → LinkTakesBack (link_at links k) s sender new → OnlyTakeBack links (set links k new)
 take_one links k s sender new within takes =
@@ -89,7 +89,7 @@ take_one links k s sender new within takes =
       queues = λ m t. (all m t).queue;
     }
 
--- one after the other
+-- The relation of links is transitive.
 pub take_on : (a b c : List LinkState) → OnlyTakeBack a b → OnlyTakeBack b c → OnlyTakeBack a c
 take_on a b c p q = record {
   count = q.count ∙ p.count;
@@ -100,7 +100,7 @@ take_on a b c p q = record {
   queues = λ k s. only_on _ _ _ (p.queues k s) (q.queues k s);
 }
 
--- nothing but the queues has changed
+-- Only the queues have changed.
 pub back_kept : (old new : List LinkState) → OnlyTakeBack old new → KeepLinks old new
 back_kept old new t = record {
   count = t.count;
@@ -119,12 +119,12 @@ back_kept old new t = record {
   };
 }
 
--- the queue of each sub-VL is the one that it was
+-- The queue of each sub-VL has the same identity.
 pub back_name : (old new : List LinkState) (k s : ℕ) → OnlyTakeBack old new
     → queue_of (held_at (link_at new k).subs s).seen ≡ queue_of (held_at (link_at old k).subs s).seen
 back_name old new k s t = only_read queue_of (λ r b. refl) _ _ (t.queues k s)
 
--- a port that was taken back stays so
+-- A port that was taken back still is.
 pub stays_back : (config : Plan) (links : List LinkState) (k s : ℕ) (sender : SenderView) (new : LinkState) (port : PortView)
     → k < length links → LinkTakesBack (link_at links k) s sender new → IsTakenBack config links port
     → IsTakenBack config (set links k new) port
@@ -134,7 +134,7 @@ stays_back config links k s sender new port within takes was =
     (λ _ h. h) (more_back _ sender _ (brought_by port.sender) takes.takes.queue) in
     record { messages = was.messages; back = all (link_place config port.plan) port.plan.sub was.back }
 
--- the port whose sender is taken back
+-- The port of the sender is taken back.
 pub comes_back : (config : Plan) (links : List LinkState) (k s : ℕ) (new : LinkState) (port : PortView)
     → k < length links → k ≡ link_place config port.plan → s ≡ port.plan.sub
     → LinkTakesBack (link_at links k) s port.sender new → HasOwnMessages port → IsTakenBack config (set links k new) port
@@ -145,7 +145,7 @@ comes_back config links k s new port within link sub takes messages =
           (one_back _ port.sender _ takes.takes.queue);
     }
 
--- the port of a sub-VL that has an index there
+-- the port of a sub-VL with this index is at this place
 record HasIndex (ports : List PortPlan) (vl sub index place : ℕ) : Type 0 where
   pub within : place < length ports
   pub own : on_sub_vl vl sub (port_plan_at ports place) ≡ true
@@ -171,7 +171,7 @@ indexed : (ports : List PortPlan) (vl sub index : ℕ) → index < length (ports
 indexed ports vl sub index lt = indexed_to ports vl sub index (length ports) (omega arith)
     (rw (take-length ports) lt)
 
--- where the ports of all places were taken back, each sub-VL has all its senders
+-- If the ports of all places were taken back, each sub-VL has all its senders.
 pub full_back : (config : Plan) (old new : List LinkState) (ports : List PortView) → IsPlan config → AreLinksOf config old
     → AreReceiving old → OnlyTakeBack old new → All (BelongsTo config (queues_in old)) ports
     → HasEveryPlace (length config.ports) ports → All (IsTakenBack config new) ports → AreFull new

@@ -11,22 +11,22 @@ use Rattle.afdx_frame.specs.Frame.{addresses, header_front, internet_header, lin
 use Rattle.redundant_mux.specs.Lines.{log}
 use Rattle.afdx_legal.specs.WorkedMessage.{one_byte_accepted, one_frame}
 
--- there is one link, and one sub-VL
+-- There is one link, and one sub-VL.
 only_one : (P : ℕ → Type 0) → P 0 → (k : ℕ) → k < 1 → P k
 only_one P here zero lt = here
 only_one P here (suc k) lt = absurd (omega arith)
 
--- the message's fragment is handed over
+-- The message's fragment is transmitted.
 released : IsReleased 1 demo_link (one_byte_accepted 0) (log one_line) 0
 unfolding log checksum addresses header_front internet_header link_header udp_header datagram unnumbered cutting fragments_at
 released = refl
 
--- at first it isn't
+-- At first it isn't.
 owes : Owes 1 demo_link (one_byte_accepted 0) (log no_lines) 0
 unfolding log checksum addresses header_front internet_header link_header udp_header datagram unnumbered cutting fragments_at
 owes = record { left = blanked (one_frame A) ∷ []; some = λ e. cc; ahead = refl }
 
--- the first poll hands it over
+-- The first poll transmits it.
 first_turn : Drains 1000 1 demo_link (one_byte_accepted 0) no_lines one_line (Released 0 0)
 unfolding log checksum addresses header_front internet_header link_header udp_header datagram unnumbered
 first_turn = (
@@ -58,29 +58,28 @@ first_turn = (
   },
 )
 
--- the second has nothing to hand over
+-- The second poll has nothing to transmit.
 second_turn : Drains 2000 1 demo_link (one_byte_accepted 0) one_line one_line Nothing
 unfolding log checksum addresses header_front internet_header link_header udp_header datagram unnumbered
 second_turn = (inr (refl, record { each = only_one _ released; others = λ s le. tt }), refl)
 
--- a poll is the turn of the one link
+-- A poll is the turn of the one link.
 first_poll : IsDrained 1000 demo_plan one_byte_accepted no_lines one_line
 first_poll = (one_line, Released 0 0, first_turn, refl)
 
 second_poll : IsDrained 2000 demo_plan one_byte_accepted one_line one_line
 second_poll = (one_line, Nothing, second_turn, refl)
 
--- nothing was released before
+-- Nothing was released before.
 fresh : (k : ℕ) → k < 1 → IsLater (latest None (stream_at demo_plan k no_lines)) 0
 unfolding log
 fresh k lt = tt
 
--- the link owes one frame
+-- The link owes one frame.
 one_owed : owed_at demo_plan one_byte_accepted 0 no_lines ≡ 1
 unfolding log checksum addresses header_front internet_header link_header udp_header datagram unnumbered cutting fragments_at
 one_owed = refl
 
--- the row
 pub drains_one : DrainsOne
 drains_one = record {
   valid = demo_valid;

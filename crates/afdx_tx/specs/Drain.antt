@@ -1,5 +1,5 @@
--- Sending what is left, once all that was accepted is known: told by the plan, the accepted lists and
--- what was handed over, whatever was taken from the queues.
+-- Transmitting what is left once all accepted messages are known: stated by the plan, the accepted
+-- lists and the transmitted frames, whatever was taken from the queues.
 use Rattle.std.specs.Prelude.{ℕ, ◌<◌, List, length}
 use Rattle.afdx_plan.specs.Config.{Plan, link_plan_at}
 use Rattle.afdx_plan.specs.Plan.{bag_micros}
@@ -16,7 +16,7 @@ use Rattle.afdx_legal.specs.Done.{IsReleased, Owes}
 use Rattle.vl_link.specs.Links.{Held, LinkState, held_at, link_at, sent_by, pace_of}
 use Rattle.vl_link.specs.Turn.{TurnView, Turn, AreTurns}
 
--- every queue is gathered
+-- each queue is gathered
 abbrev pub AreGathered : List LinkState → Type 0
 AreGathered links = (k s : ℕ) → k < length links → s < length (link_at links k).subs
     → IsKnownWhole (held_at (link_at links k).subs s).seen
@@ -29,11 +29,12 @@ accepted_by held = sent_by held.ports (known_of held.seen)
 abbrev pub accepted_in : List LinkState → Accepted
 accepted_in links k s = accepted_by (held_at (link_at links k).subs s)
 
--- the regulation of a link of the plan, read off its stream
+-- the regulation of a link of the plan, by its stream
 abbrev pub pace_in : LinkPlan → List Entry → Pace
 pace_in link log = pace_of (bag_micros link.bag) link.sub_vls (link_stream link.id.0 log)
 
--- a turn over accepted lists: a sub-VL has something where an accepted message isn't wholly released
+-- a turn over accepted lists: a sub-VL has something if one of its accepted messages isn't wholly
+-- released
 abbrev pub accepted_view : ℕ → LinkPlan → (ℕ → List Sent) → List Entry → TurnView
 accepted_view end_system link accepted log = record {
   lacks = IsReleased end_system link accepted log;
@@ -52,7 +53,7 @@ abbrev pub DrainsAt : ℕ → Plan → Accepted → ℕ → (lines after : Lines
 DrainsAt now plan accepted k lines after did =
     Drains now plan.end_system (link_plan_at plan.links k) (accepted k) lines after did
 
--- The links of a plan have their turns in order.
+-- the links of a plan have their turns in order
 abbrev pub IsDrained : ℕ → Plan → Accepted → (lines after : Lines) → Type 0
 IsDrained now plan accepted lines after =
     AreTurns (DrainsAt now plan accepted) 0 (length plan.links) lines after

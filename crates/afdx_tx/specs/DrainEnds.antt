@@ -1,4 +1,4 @@
--- A drain comes to its end: by how many polls, where a network that carries each link stands.
+-- The number of polls after which a drain ends, if a network that carries each link is up.
 use Rattle.std.specs.Prelude.{ℕ, zero, suc, ◌≡◌, ◌+◌, ◌-◌, ◌<◌, ◌≤◌, List, [], ◌∷◌, length, true, None}
 use Rattle.afdx_plan.specs.Config.{Plan, IsPlan, link_plan_at}
 use Rattle.afdx_plan.specs.Demo.{demo_plan}
@@ -18,7 +18,7 @@ use Rattle.afdx_legal.specs.Done.{IsAllDone}
 use Rattle.afdx_legal.specs.WorkedMessage.{one_byte_accepted, one_frame, one_entry_at}
 use Rattle.afdx_tx.specs.Drain.{IsDrained}
 
--- how many fragments of the accepted messages of a link's first so many sub-VLs its stream lacks
+-- the number of fragments of the accepted messages of a link's first sub-VLs that its stream lacks
 abbrev pub owed : ℕ → LinkPlan → (ℕ → List Sent) → List Entry → ℕ → ℕ
 owed end_system link accepted stream zero = 0
 owed end_system link accepted stream (suc sub) = owed end_system link accepted stream sub
@@ -28,25 +28,25 @@ owed end_system link accepted stream (suc sub) = owed end_system link accepted s
 abbrev pub stream_at : Plan → ℕ → Lines → List Entry
 stream_at plan k lines = link_stream (link_plan_at plan.links k).id.0 (log lines)
 
--- how many frames the link at a place owes
+-- the number of frames that the link at a place owes
 abbrev pub owed_at : Plan → Accepted → ℕ → Lines → ℕ
 owed_at plan accepted k lines = owed plan.end_system (link_plan_at plan.links k) (accepted k)
     (stream_at plan k lines) (link_plan_at plan.links k).sub_vls
 
--- each of these moments lies a gap after the one before it
+-- each of these times is at least a gap after the previous one
 abbrev pub AreApartBy : ℕ → ℕ → List ℕ → Type 0
 AreApartBy gap before [] = Unit {0}
 AreApartBy gap before (now ∷ moments) = (before + gap ≤ now) × AreApartBy gap now moments
 
--- polls of a drain at these moments
+-- polls of a drain at these times
 abbrev pub AreDrained : Plan → Accepted → List ℕ → (lines after : Lines) → Type 0
 AreDrained plan accepted [] lines after = after ≡ lines
 AreDrained plan accepted (now ∷ moments) lines after =
     (mid : Lines) × IsDrained now plan accepted lines mid × AreDrained plan accepted moments mid after
 
--- Polls that lie apart by the greatest gap of the plan, the first of them that long after every
--- release, send all that is left, where they are more than each link owes and a network that carries it
--- stands afterwards.
+-- Polls that are apart by the greatest gap of the plan, the first of them that long after each
+-- release, transmit all that is left, if they are more than the frames that each link owes and a
+-- network that carries it is up afterwards.
 abbrev pub DrainEnds : Type 0
 DrainEnds = (plan : Plan) (accepted : Accepted) (moments : List ℕ) (lines after : Lines) (start gap : ℕ)
     → IsPlan plan
@@ -58,21 +58,21 @@ DrainEnds = (plan : Plan) (accepted : Accepted) (moments : List ℕ) (lines afte
     → ((k : ℕ) → k < length plan.links → owed_at plan accepted k lines < length moments)
     → IsAllDone plan accepted (log after)
 
--- A worked drain: over the demonstration configuration one message of one byte was accepted and not sent
--- yet, and two polls follow, a gap apart. Nothing was handed over before them.
+-- A worked drain over the demonstration configuration. One message of one byte was accepted and not
+-- transmitted, and two polls follow, a gap apart. No frame was transmitted before them.
 abbrev pub no_lines : Lines
 no_lines = lines_of [] [] 0 0 true true []
 
--- the frame was handed to both networks
+-- both networks accepted the frame
 abbrev pub one_line : Lines
 one_line = lines_of (one_entry_at 1000 A) (one_entry_at 1000 B) 0 0 true true
     (logged_for Both (entry 1000 (one_frame A)) ∷ [])
 
--- the polls
+-- the times of the polls
 abbrev pub two_moments : List ℕ
 two_moments = 1000 ∷ 2000 ∷ []
 
--- The drain meets what the law asks for, and has come to its end.
+-- The premises of the law hold, and the drain has ended.
 pub record DrainsOne : Type 0 where
   pub valid : IsPlan demo_plan
   pub later : (k : ℕ) → k < length demo_plan.links → IsLater (latest None (stream_at demo_plan k no_lines)) 0

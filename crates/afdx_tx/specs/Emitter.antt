@@ -20,8 +20,8 @@ use Rattle.afdx_legal.specs.Legal.{Accepted, AreKnown}
 use Rattle.vl_link.specs.Links.{Held, LinkState, held_at, link_at, taken_by, HasOwnItems, IsLinkOfPlan, IsSameLink}
 use Rattle.vl_link.specs.Kept.{IsLinkTied, IsKept}
 
--- An emitter: its plan, its links in the order of the plan, what was handed over, the moment of the
--- last poll, and what was published of each link.
+-- An emitter: its plan, its links in the order of the plan, the frames that the networks accepted,
+-- the time of the last poll, and what was published of each link.
 pub record Tx : Type 0 where
   pub plan : Plan
   pub links : List LinkState
@@ -29,7 +29,7 @@ pub record Tx : Type 0 where
   pub moment : ℕ
   pub board : List Published
 
--- the plans of links
+-- the plan of a link
 abbrev pub plan_of_link : LinkState → LinkPlan
 plan_of_link link = link.plan
 
@@ -37,13 +37,13 @@ plan_of_link link = link.plan
 abbrev pub plans : List LinkState → List LinkPlan
 plans links = map plan_of_link links
 
--- each link keeps what its fields keep
+-- each link keeps its invariant
 abbrev pub AreLinks : List LinkState → Type 0
 AreLinks links = (k : ℕ) → k < length links
     → IsLinkOfPlan (link_at links k).end_system (link_at links k).plan
     (link_at links k).pace (link_at links k).subs
 
--- no two links have one identifier
+-- no two links have the same identifier
 abbrev pub AreApart : List LinkState → Type 0
 AreApart links = (i j : ℕ) → i < length links → j < length links
     → (link_at links i).plan.id ≡ (link_at links j).plan.id → i ≡ j
@@ -53,7 +53,7 @@ abbrev pub ports_of_sub : List PortPlan → ℕ → ℕ → List PortPlan
 ports_of_sub ports vl sub =
     filter (λ (port : PortPlan). nat_eq port.vl.0 vl && nat_eq port.sub sub) ports
 
--- the links are those of a plan, in its order, and so are the ports of their sub-VLs
+-- the links are those of the plan, in its order, and so are the ports of their sub-VLs
 pub record AreLinksOf (config : Plan) (links : List LinkState) : Type 0 where
   pub each_plan : plans links ≡ config.links
   pub end_system : (k : ℕ) → k < length links
@@ -63,7 +63,7 @@ pub record AreLinksOf (config : Plan) (links : List LinkState) : Type 0 where
       → (held_at (link_at links k).subs s).ports
       ≡ ports_of_sub config.ports (link_at links k).plan.id.0 s
 
--- Nothing of a sub-VL was sent or taken yet, and its queue, which was not looked into, has so many senders.
+-- A new sub-VL: nothing was taken or sent, and its queue was not polled and has this many senders.
 pub record IsOpenedSub (own : SubVl) (ports : List PortPlan) (senders : ℕ) (held : Held) : Type 0 where
   pub of : held.of ≡ own
   pub ports_are : held.ports ≡ ports
@@ -71,7 +71,7 @@ pub record IsOpenedSub (own : SubVl) (ports : List PortPlan) (senders : ℕ) (he
   pub queue : QueueName
   pub seen : held.seen ≡ receiving (new_receiver queue own.link.capacity senders)
 
--- so many sub-VLs of a link, nothing of which was sent or taken yet, with senders for these first ports
+-- the first `many` sub-VLs of a new link, with senders for these first ports
 pub record AreOpenedSubs (end_system : ℕ) (ports first : List PortPlan) (link : LinkPlan)
     (subs : List Held) (many : ℕ) : Type 0 where
   pub count : length subs ≡ many
@@ -79,7 +79,7 @@ pub record AreOpenedSubs (end_system : ℕ) (ports first : List PortPlan) (link 
       → IsOpenedSub (record { end_system = end_system; link = link; sub = s })
       (ports_of_sub ports link.id.0 s) (length (ports_of_sub first link.id.0 s)) (held_at subs s)
 
--- nothing of a link was taken or released yet, and it has senders for these first ports
+-- a new link: nothing was taken or released, and it has senders for these first ports
 pub record IsOpenedLink (own : ℕ) (ports first : List PortPlan) (link : LinkPlan)
     (state : LinkState) : Type 0 where
   pub end_system : state.end_system ≡ own
@@ -94,11 +94,11 @@ pub record IsOpenedLink (own : ℕ) (ports first : List PortPlan) (link : LinkPl
   pub lost : state.lost ≡ false
   pub counts : state.counts ≡ zeros
 
--- each link keeps that
+-- each link and its stream keep their invariant
 abbrev pub AreKept : List LinkState → List Entry → Type 0
 AreKept links log = (k : ℕ) → k < length links → IsKept (link_at links k) log
 
--- no link lost a frame that is carried by a network that stands
+-- no link lost a frame while a network that carries it is up
 abbrev pub AreWhole : List LinkState → Lines → Type 0
 AreWhole links lines = (k : ℕ) → k < length links → stands_for (link_at links k).plan.networks lines ≡ true
     → (link_at links k).lost ≡ false
@@ -109,16 +109,16 @@ AreCarried links logged = (k : ℕ) → k < length links
     → All (λ (l : Logged). link_in l.entry.frame ≡ (link_plan_at links k).id.0
     → l.networks ≡ (link_plan_at links k).networks) logged
 
--- no link was served after this moment
+-- no link was served after this time
 abbrev pub AreServedBy : ℕ → List LinkState → Type 0
 AreServedBy now links = (k : ℕ) → k < length links → IsLater (link_at links k).pace.last now
 
--- what was taken from each queue is of the ports of its sub-VL
+-- the known messages of each queue are of its sub-VL's ports
 abbrev pub HaveOwnItems : List LinkState → Type 0
 HaveOwnItems links = (k s : ℕ) → k < length links → s < length (link_at links k).subs
     → HasOwnItems (held_at (link_at links k).subs s)
 
--- what every emitter keeps
+-- the invariant of an emitter
 pub record IsSound (config : Plan) (links : List LinkState)
     (lines : Lines) (moment : ℕ) : Type 0 where
   pub valid : IsPlan config
@@ -131,33 +131,33 @@ pub record IsSound (config : Plan) (links : List LinkState)
   pub whole : AreWhole links lines
   pub items : HaveOwnItems links
 
--- each link that lost no frame is tied to its streams
+-- each link that lost no frame is tied to its stream
 abbrev pub AreTied : List LinkState → List Entry → Type 0
 AreTied links log = (k : ℕ) → k < length links → (link_at links k).lost ≡ false
     → IsLinkTied (link_at links k) log
 
--- the messages that were taken of each sub-VL
+-- the messages taken of each sub-VL
 abbrev pub taken_in : List LinkState → Accepted
 taken_in links k s = taken_by (held_at (link_at links k).subs s)
 
--- the ports of every queue may still send
+-- the ports of each queue may still send
 abbrev pub AreReceiving : List LinkState → Type 0
 AreReceiving links = (k s : ℕ) → k < length links → s < length (link_at links k).subs
     → IsReceiving (held_at (link_at links k).subs s).seen
 
--- the queue of a sub-VL
+-- the identity of a sub-VL's queue
 abbrev pub held_queue : Held → Option QueueName
 held_queue held = queue_of held.seen
 
--- the queues of a link's sub-VLs
+-- the identities of the queues of a link's sub-VLs
 abbrev pub link_queues : LinkState → List (Option QueueName)
 link_queues link = map held_queue link.subs
 
--- the queues of each link
+-- the identities of the queues of each link
 abbrev pub queues_in : List LinkState → List (List (Option QueueName))
 queues_in links = map link_queues links
 
--- the total of a sub-VL that was closed
+-- the total of a sub-VL, if it was closed
 abbrev pub total_in : List LinkState → ℕ → ℕ → Option ℕ
 total_in links k s = total_of (held_at (link_at links k).subs s).seen
 
@@ -166,18 +166,18 @@ pub record IsSamePlan (old new : List LinkState) : Type 0 where
   pub count : length new ≡ length old
   pub each : (k : ℕ) → k < length old → IsSameLink (link_at old k) (link_at new k)
 
--- the first links of a plan, nothing of which was taken or released yet, with senders for these first ports
+-- the first links of a plan, new, with senders for these first ports
 pub record AreOpenedLinks (config : Plan) (first : List PortPlan) (links : List LinkState) (many : ℕ) : Type 0 where
   pub count : length links ≡ many
   pub each : (k : ℕ) → k < many
       → IsOpenedLink config.end_system config.ports first (link_plan_at config.links k)
       (link_at links k)
 
--- the links of a plan, nothing of which was taken or released yet, with a sender for each port
+-- the links of a plan, new, with a sender for each port
 abbrev pub AreFreshLinks : Plan → List LinkState → Type 0
 AreFreshLinks config links = AreOpenedLinks config config.ports links (length config.links)
 
--- nothing was taken, handed over or polled yet, and both networks stand
+-- nothing was taken, transmitted or polled, and both networks are up
 pub record IsFreshTx (config : Plan) (tx : Tx) : Type 0 where
   pub plan : tx.plan ≡ config
   pub links : AreFreshLinks config tx.links

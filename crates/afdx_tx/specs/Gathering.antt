@@ -1,4 +1,4 @@
--- The ports of an emitter come back.
+-- Taking back the ports of an emitter.
 use Rattle.std.specs.Prelude.{ℕ, ◌≡◌, ◌<◌, List, length, All, Contains}
 use Rattle.afdx_plan.specs.Config.{Plan, port_plan_at}
 use Rattle.afdx_plan.specs.declared.port_plan.PortPlan.{PortPlan}
@@ -14,14 +14,14 @@ use Rattle.afdx_tx.specs.Drain.{accepted_in}
 use Rattle.vl_link.specs.LinkSenders.{back_of}
 use Rattle.vl_link.specs.LinkGathering.{BecomesWhole, GathersLink, AreFullSubs}
 
--- a queue but for the senders that it took back
+-- a queue that may have taken back senders; all else is unchanged
 abbrev pub OnlyTakesBack : (old new : Seen) → Type 0
 OnlyTakesBack (receiving old) (receiving new) = new ≡ record old { back = new.back }
 OnlyTakesBack (gathered old) (gathered new) = new ≡ old
 OnlyTakesBack (receiving old) (gathered new) = ⊥
 OnlyTakesBack (gathered old) (receiving new) = ⊥
 
--- links but for the senders that their queues took back
+-- links whose queues may have taken back senders; all else is unchanged
 pub record OnlyTakeBack (old new : List LinkState) : Type 0 where
   pub count : length new ≡ length old
   pub links : (k : ℕ) → link_at new k ≡ record (link_at old k) { subs = (link_at new k).subs }
@@ -30,7 +30,7 @@ pub record OnlyTakeBack (old new : List LinkState) : Type 0 where
       ≡ record (held_at (link_at old k).subs s) { seen = (held_at (link_at new k).subs s).seen }
   pub queues : (k s : ℕ) → OnlyTakesBack (held_at (link_at old k).subs s).seen (held_at (link_at new k).subs s).seen
 
--- the queue of a port's sub-VL took its sender back, with messages that the port may send
+-- the queue of the port's sub-VL took back its sender, with messages that the port may send
 pub record IsTakenBack (config : Plan) (links : List LinkState) (port : PortView) : Type 0 where
   pub messages : HasOwnMessages port
   pub back : Contains (back_of (held_at (link_at links (link_place config port.plan)).subs port.plan.sub).seen)
@@ -40,12 +40,12 @@ pub record IsTakenBack (config : Plan) (links : List LinkState) (port : PortView
 abbrev pub AreFull : List LinkState → Type 0
 AreFull links = (k : ℕ) → k < length links → AreFullSubs (link_at links k).subs
 
--- the queues of the links are gathered
+-- each link is gathered
 pub record GathersLinks (old new : List LinkState) : Type 0 where
   pub count : length new ≡ length old
   pub each : (k : ℕ) → k < length old → GathersLink (link_at old k) (link_at new k)
 
--- the queues of the ports' sub-VLs took all their senders back, and then all queues are gathered
+-- the queues of the ports' sub-VLs took back all their senders, and then all queues are gathered
 pub record GathersPorts (config : Plan) (old : List LinkState) (ports : List PortView) (new : List LinkState) : Type 0 where
   pub mid : List LinkState
   pub takes : OnlyTakeBack old mid
@@ -56,8 +56,9 @@ pub record GathersPorts (config : Plan) (old : List LinkState) (ports : List Por
 abbrev pub held_for : Tx → PortPlan → Held
 held_for tx port = held_at (link_at tx.links (link_place tx.plan port)).subs port.sub
 
--- The port at a place is in a list. What its sub-VL accepted of it is the port's own list, of messages
--- that it may send. Among all that the sub-VL accepted, they stand at the places that its sends drew.
+-- The port at this place is in the list. The part of it that its sub-VL accepted is the port's own
+-- list, of messages that it may send. In the sub-VL's list they are at the places that the port's
+-- sends drew.
 pub record HasOwnPart (tx : Tx) (ports : List PortView) (place : ℕ) : Type 0 where
   pub port : PortView
   pub inside : Contains ports port
@@ -69,19 +70,19 @@ pub record HasOwnPart (tx : Tx) (ports : List PortView) (place : ℕ) : Type 0 w
       (index_of tx.plan.ports place) port.sender.own port.sender.places
   pub accepted : port_messages tx.plan (accepted_in tx.links) place ≡ port.sender.own
 
--- a sub-VL but for its queue, whose accepted messages are known whole
+-- a sub-VL whose queue's accepted messages are known whole; all else is unchanged
 pub record IsGatheredSub (old new : Held) : Type 0 where
   pub same : new ≡ record old { seen = new.seen }
   pub queue : BecomesWhole old.seen new.seen
 
--- a link but for the queues of its sub-VLs
+-- a link whose queues' accepted messages are known whole; all else is unchanged
 pub record IsGatheredLink (old new : LinkState) : Type 0 where
   pub same : new ≡ record old { subs = new.subs }
   pub count : length new.subs ≡ length old.subs
   pub each : (s : ℕ) → s < length old.subs → IsGatheredSub (held_at old.subs s) (held_at new.subs s)
 
--- An emitter but for its queues: of each sub-VL the accepted messages are known whole, and of each
--- port they are its own list, in order.
+-- An emitter whose accepted messages are known whole, and those of each port are its own list, in
+-- order; all else is unchanged.
 pub record IsGatheredTx (old : Tx) (ports : List PortView) (new : Tx) : Type 0 where
   pub plan : new.plan ≡ old.plan
   pub lines : new.lines ≡ old.lines

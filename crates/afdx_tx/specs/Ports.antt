@@ -11,32 +11,32 @@ use Rattle.afdx_tx.specs.declared.fault.Refusal.TheVariants.{Empty, TooLong, Clo
 use Rattle.afdx_plan.specs.Places.{link_place}
 use Rattle.afdx_tx.specs.Emitter.{Tx, queues_in, ports_of_sub}
 
--- A port: its place in the configuration, what the configuration says of it, and its sender.
+-- A port: its place in the configuration, its entry there, and its sender.
 pub record PortView : Type 0 where
   pub place : ℕ
   pub plan : PortPlan
   pub sender : SenderView
 
--- a port may send a message of so many bytes
+-- the port may send a message of this size
 pub record MaySend (port : PortPlan) (size : ℕ) : Type 0 where
   pub some : 1 ≤ size
   pub most : size ≤ port.max
 
--- each message of a port's own is one that it may send
+-- the port may send each of its own messages
 abbrev pub HasOwnMessages : PortView → Type 0
 HasOwnMessages port = All (λ (bytes : List ℕ). MaySend port.plan (length bytes)) port.sender.own
 
--- a message was accepted: it is the last of the port's own
+-- the message was accepted, as the last of the port's own
 abbrev pub Accepts : PortView → List ℕ → PortView → Type 0
 Accepts old bytes new = IsPlaced old.sender bytes new.sender × (new ≡ record old { sender = new.sender })
 
--- a message that the port may send was refused by its queue
+-- the queue refused a message that the port may send
 pub record QueueRefuses (old : PortView) (size : ℕ) (why : Why) (new : PortView) : Type 0 where
   pub may : MaySend old.plan size
   pub queue : IsRefused old.sender why new.sender
   pub same : new ≡ record old { sender = new.sender }
 
--- Why a message of so many bytes was refused, and what that leaves of the port.
+-- The reason that a message of this size was refused, and the port afterwards.
 abbrev pub Refuses : PortView → ℕ → Refusal → PortView → Type 0
 Refuses old size Empty new = (size ≡ 0) × (new ≡ old)
 Refuses old size TooLong new = (old.plan.max < size) × (new ≡ old)
@@ -49,16 +49,16 @@ abbrev pub index_of : List PortPlan → ℕ → ℕ
 index_of ports place =
     length (ports_of_sub (take place ports) (port_plan_at ports place).vl.0 (port_plan_at ports place).sub)
 
--- the queue of a sub-VL
+-- the identity of a sub-VL's queue
 abbrev pub queue_at : List (List (Option QueueName)) → ℕ → ℕ → Option QueueName
 queue_at queues link sub = get_or (get_or queues link []) sub None
 
--- the queue of a port's sub-VL
+-- the identity of the queue of a port's sub-VL
 abbrev pub queue_for : Plan → List (List (Option QueueName)) → PortPlan → Option QueueName
 queue_for config queues port = queue_at queues (link_place config port) port.sub
 
--- A port of a configuration over these queues: what is said at its place, and a sender of the queue
--- of its sub-VL, with its index there.
+-- A port of a configuration over these queues: it has the entry at its place, and a sender of its
+-- sub-VL's queue, with its index there.
 pub record BelongsTo (config : Plan) (queues : List (List (Option QueueName)))
     (port : PortView) : Type 0 where
   pub within : port.place < length config.ports
@@ -66,21 +66,21 @@ pub record BelongsTo (config : Plan) (queues : List (List (Option QueueName)))
   pub queue : queue_for config queues port.plan ≡ Some port.sender.queue
   pub index : port.sender.port ≡ index_of config.ports port.place
 
--- a port of an emitter
+-- a port of this emitter
 abbrev pub IsPortOfTx : Tx → PortView → Type 0
 IsPortOfTx tx port = BelongsTo tx.plan (queues_in tx.links) port
 
--- each port of a list is one of the emitter's
+-- each port of the list is of this emitter
 abbrev pub AreOpenedWith : Tx → List PortView → Type 0
 AreOpenedWith tx ports = All (IsPortOfTx tx) ports
 
--- a sender of a queue, with this index, that has not asked yet
+-- a new sender of the queue, with this index
 pub record IsFreshSender (queue : Option QueueName) (capacity index : ℕ)
     (sender : SenderView) : Type 0 where
   pub of : queue ≡ Some sender.queue
   pub is : sender ≡ new_sender sender.queue capacity most_calls index
 
--- the port at a place, that has not asked yet
+-- the port at this place, new
 pub record IsFreshPort (config : Plan) (queues : List (List (Option QueueName)))
     (place : ℕ) (port : PortView) : Type 0 where
   pub at : port.place ≡ place
@@ -89,32 +89,32 @@ pub record IsFreshPort (config : Plan) (queues : List (List (Option QueueName)))
       (link_plan_at config.links (link_place config port.plan)).capacity
       (index_of config.ports place) port.sender
 
--- the ports of a configuration in its order, none of which has asked yet
+-- the ports of a configuration, new, in its order
 pub record ArePortsOf (config : Plan) (queues : List (List (Option QueueName)))
     (ports : List PortView) : Type 0 where
   pub count : length ports ≡ length config.ports
   pub each : (k : ℕ) (d : PortView) → k < length config.ports
       → IsFreshPort config queues k (slice_index_or ports k d)
 
--- the ports of an emitter, that have not asked yet
+-- the ports of this emitter, new
 abbrev pub AreFreshPorts : Tx → List PortView → Type 0
 AreFreshPorts tx ports = ArePortsOf tx.plan (queues_in tx.links) ports
 
--- the port at a place is in a list
+-- the port at this place is in the list
 pub record HasPlace (ports : List PortView) (place : ℕ) : Type 0 where
   pub port : PortView
   pub inside : Contains ports port
   pub at : port.place ≡ place
 
--- each port of a configuration of so many is in a list
+-- the port at each of `many` places is in the list
 abbrev pub HasEveryPlace : ℕ → List PortView → Type 0
 HasEveryPlace many ports = (place : ℕ) → place < many → HasPlace ports place
 
--- some port of a configuration of so many isn't in a list
+-- the port at one of `many` places isn't in the list
 abbrev pub LacksPlace : ℕ → List PortView → Type 0
 LacksPlace many ports = (place : ℕ) × (place < many) × (HasPlace ports place → ⊥)
 
--- why a port refused what its queue refused
+-- a port's reason for its queue's refusal
 abbrev pub refusal_of : Why → Refusal
 refusal_of QueueClosed = Closed
 refusal_of QueueExhausted = Exhausted

@@ -1,4 +1,4 @@
--- The counts of the links are published.
+-- Publishing the counts of the links.
 use Rattle.std.specs.Prelude.{ℕ, ◌≡◌, ◌↔◌, ◌<◌, List, length, Option, IsNone, IfSome}
 use Rattle.afdx_plan.specs.Config.{link_plan_at}
 use Rattle.status_board.specs.declared.counts.Counts.{Counts}
@@ -10,7 +10,7 @@ use Rattle.vl_link.specs.Links.{LinkState, link_at}
 use Rattle.afdx_tx.specs.Emitter.{Tx}
 use Rattle.afdx_tx.specs.Naming.{IsLinkAt, LacksLink}
 
--- a board has these links, and no count of a link falls from what was published last of it
+-- the board has these links, and the last published counts of each are at most the current ones
 pub record Reaches (links : List LinkState) (board : List Published) : Type 0 where
   pub count : length board ≡ length links
   pub each : (k : ℕ) → k < length links → NoFieldFalls (last_of board k) (link_at links k).counts
@@ -25,14 +25,15 @@ pub record PublishesCounts (links : List LinkState) (old new : List Published) :
 abbrev pub counts_at : Tx → ℕ → Counts
 counts_at tx k = counts_in (own_stream (link_plan_at tx.plan.links k).id.0 tx.lines.a tx.lines.b)
 
--- the counts of the link with an identifier, as they would be published now, or none where there is no such link
+-- the counts of the link with this identifier, as they would be published now; none exactly if
+-- there is no such link
 pub record ShowsCounts (tx : Tx) (vl : ℕ) (shown : Option Counts) : Type 0 where
   pub missing : IsNone shown ↔ LacksLink tx.plan vl
   pub counts : IfSome shown (λ counts. counts ≡ counts_in (own_stream vl tx.lines.a tx.lines.b))
   pub as_published : IfSome shown (λ counts. (place : ℕ) → IsLinkAt tx.plan vl place → counts ≡ counts_at tx place)
 
--- An emitter but for its board, which has one entry more of each link, in the order of the plan: the
--- counts of the link's own stream. No field of it falls.
+-- An emitter whose board has one entry more of each link, in the order of the plan: the counts of
+-- the link's own stream. No field falls; all else is unchanged.
 pub record Publishes (old new : Tx) : Type 0 where
   pub same : new ≡ record old { board = new.board }
   pub count : length new.board ≡ length old.board

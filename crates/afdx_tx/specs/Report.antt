@@ -1,4 +1,4 @@
--- What a poll reports.
+-- The report of a poll.
 use Rattle.std.specs.Prelude.{ℕ, ◌≡◌, List, [], ◌∷◌, ◌++◌, map}
 use Rattle.afdx_plan.specs.declared.identifiers.VlId.{VlId}
 use Rattle.afdx_frame.specs.Header.{link_in, sub_in, number_in}
@@ -10,7 +10,7 @@ use Rattle.afdx_tx.specs.declared.report.Release.{Release}
 use Rattle.afdx_tx.specs.declared.report.Report.{Report}
 use Rattle.afdx_tx.specs.Emitter.{Tx}
 
--- the release that an entry shows
+-- the release of an entry
 abbrev pub release_of : Entry → Release
 release_of e = record {
   vl = record { 0 = link_in e.frame };
@@ -24,15 +24,15 @@ turn_release vl Nothing = []
 turn_release vl (Released sub number) = record { vl = vl; sub = sub; number = number } ∷ []
 turn_release vl Lost = []
 
--- The releases name the new entries of the log, in order, all of this moment.
+-- the releases are the new entries of the log, in order, all of this time
 pub record IsTold (now : ℕ) (released : List Release) (before lines : Lines) : Type 0 where
   pub entries : List Entry
   pub grown : log lines ≡ log before ++ entries
   pub named : map release_of entries ≡ released
   pub moments : map (λ (e : Entry). e.at) entries ≡ map (λ (e : Entry). now) entries
 
--- What a poll tells of what it did: the moment is now this one, the report names what was released,
--- and says which networks stand.
+-- A poll, by its report: `now` is the time of the last poll, and the report has the released frames
+-- and the networks that are up.
 pub record Polls (now : ℕ) (old : Tx) (report : Report) (new : Tx) : Type 0 where
   pub moment : new.moment ≡ now
   pub released : IsTold now report.released.items old.lines new.lines

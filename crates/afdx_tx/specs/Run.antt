@@ -1,4 +1,4 @@
--- All links of an emitter, one turn after the other.
+-- The turns of an emitter's links, in order.
 use Rattle.std.specs.Prelude.{ℕ, ◌≡◌, List, length, true}
 use Rattle.redundant_mux.specs.Lines.{Lines, stands_for, log}
 use Rattle.vl_link.specs.declared.served.Served.{Served}
@@ -7,8 +7,8 @@ use Rattle.vl_link.specs.Turn.{AreTurns}
 use Rattle.vl_link.specs.Links.{LinkState, link_at, pace_of, Serves, IsSameLink}
 use Rattle.vl_link.specs.Kept.{IsLinkTied}
 
--- One turn of a link, whose regulation is read off its stream, and whose sub-VLs are tied to their streams
--- before it where a network that carries it stands.
+-- One turn of a link, with the regulation by its stream. Its sub-VLs are tied to their streams
+-- before the turn if a network that carries it is up.
 pub record IsTurn (now : ℕ) (link new : LinkState)
     (lines after : Lines) (did : Served) : Type 0 where
   pub same : IsSameLink link new
@@ -22,7 +22,7 @@ abbrev pub IsTurnAt : ℕ → (links news : List LinkState) → ℕ → (lines a
 IsTurnAt now links news k lines after did =
     IsTurn now (link_at links k) (link_at news k) lines after did
 
--- The links have their turns in order.
+-- the links have their turns in order
 pub record IsRun (now : ℕ) (links news : List LinkState) (lines after : Lines) : Type 0 where
   pub count : length news ≡ length links
   pub turns : AreTurns (IsTurnAt now links news) 0 (length links) lines after

@@ -1,4 +1,4 @@
--- What the parts of an emitter tell one another, of all its links.
+-- What the parts of an emitter promise one another, of all its links.
 use Rattle.std.specs.Prelude.{ℕ, ◌≡◌, ◌<◌, ◌≤◌, List, Bool, true, false, length, MatchBool}
 use Rattle.std.specs.List.{AllWithin, HoldsAt}
 use Rattle.afdx_frame.specs.declared.net.Net.TheVariants.{A}
@@ -16,9 +16,8 @@ use Rattle.afdx_tx.specs.Emitter.{Tx, plans, AreLinks, AreKept, AreCarried, AreW
 use Rattle.afdx_tx.specs.Run.{IsTurnAt}
 use Rattle.afdx_tx.specs.Report.{IsTold}
 
--- What holds of every emitter. What was sent is legal for the messages that were taken, and so for those
--- that were accepted; these are messages that the ports may send; and each stream of what was sent is the
--- link's own.
+-- The properties of each emitter. The transmitted frames are legal for the messages taken, and so
+-- for the accepted ones; the ports may send these messages; and each link's stream is its own.
 pub record Conforms (tx : Tx) : Type 0 where
   pub legal : IsLegal tx.plan (taken_in tx.links) tx.lines.a tx.lines.b
   pub legal_accepted : IsLegal tx.plan (accepted_in tx.links) tx.lines.a tx.lines.b
@@ -29,7 +28,7 @@ pub record Conforms (tx : Tx) : Type 0 where
   pub mirrored : IsMirrored tx.lines
   pub streams : AreOwnStreams tx.plan (log tx.lines) tx.lines.a tx.lines.b
 
--- what every turn keeps
+-- the invariant of turns
 pub record IsSteady (now : ℕ) (old links : List LinkState) (lines : Lines) : Type 0 where
   pub same : IsSamePlan old links
   pub each : AreLinks links
@@ -39,8 +38,8 @@ pub record IsSteady (now : ℕ) (old links : List LinkState) (lines : Lines) : T
   pub carried : AreCarried (plans old) lines.logged
   pub items : HaveOwnItems links
 
--- the first i links had their turns and the others are as they were, at most so many releases are told, and a
--- network is down only where it was or failed
+-- The first i links had their turns, and the others are unchanged. At most i releases are reported.
+-- A network is down only if it was or failed.
 pub record IsPolling (now i : ℕ) (old links : List LinkState)
     (before lines : Lines) (released : List Release) : Type 0 where
   pub steady : IsSteady now old links lines

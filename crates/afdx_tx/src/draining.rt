@@ -1,4 +1,4 @@
-//! The emitter after its ports were taken back: it sends what is left.
+//! The emitter after its ports were taken back: it transmits what is left.
 use crate::fault::PollFault;
 use crate::report::Report;
 use crate::transmitter::Transmitter;
@@ -55,8 +55,8 @@ impl<A: Network + Drop, B: Network + Drop> Draining<A, B> {
         self.inner.moment
     }
 
-    /// Whether at least one network accepted each fragment of each accepted message. After a frame was lost
-    /// with the last network that carries its link it stays false.
+    /// Whether at least one network accepted each fragment of each accepted message. After a frame
+    /// was lost with the last network that carries its link, this stays false.
     pub fn is_done(&self) -> bool
         ensures done { IsTrue result ↔ IsAllDone self.now.plan
             (accepted_in self.now.links) (log self.now.lines) }
@@ -66,7 +66,7 @@ impl<A: Network + Drop, B: Network + Drop> Draining<A, B> {
         self.inner.is_done()
     }
 
-    /// Network A, with what was sent to it so far.
+    /// Network A.
     pub fn network_a(&self) -> &A
         ensures handed { A.handed result.now ≡ self.now.lines.a }
         ensures failures { A.failures result.now ≡ self.now.lines.a_failures }
@@ -74,7 +74,7 @@ impl<A: Network + Drop, B: Network + Drop> Draining<A, B> {
         self.inner.mux.network_a()
     }
 
-    /// Network B, with what was sent to it so far.
+    /// Network B.
     pub fn network_b(&self) -> &B
         ensures handed { B.handed result.now ≡ self.now.lines.b }
         ensures failures { B.failures result.now ≡ self.now.lines.b_failures }
@@ -96,7 +96,7 @@ impl<A: Network + Drop, B: Network + Drop> Draining<A, B> {
         self.inner.next_due()
     }
 
-    /// The two networks, with what was sent to them.
+    /// Returns the two networks.
     pub fn into_networks(self) -> (A, B)
         ensures a { A.handed result.0 ≡ self.lines.a }
         ensures b { B.handed result.1 ≡ self.lines.b }
@@ -110,8 +110,8 @@ impl<A: Network + Drop, B: Network + Drop> Draining<A, B> {
         inner.into_networks()
     }
 
-    /// As `Emitter::poll`. A due link has something to send exactly if an accepted message of it isn't wholly
-    /// released.
+    /// As `Emitter::poll`. A due link has something to send exactly if one of its accepted messages
+    /// isn't wholly released.
     pub fn poll(&mut self, now: u64) -> Result<Report, PollFault>
         requires { self.old.moment ≤ now }
         ensures both_down { IsErr result ↔ (is_alive self.old.lines ≡ false) }
@@ -141,9 +141,9 @@ impl<A: Network + Drop, B: Network + Drop> Draining<A, B> {
         self.inner.publish(rt);
     }
 
-    /// Reads the link at a place of the configuration by the monitor that was opened with the emitter, as
-    /// `Monitor::read` does, by one load. With both ends of the board at hand it returns what was published
-    /// last of the link, or zeros before the first entry. It takes no memory.
+    /// Reads the link at a place of the configuration by the emitter's monitor, as `Monitor::read`
+    /// does, with one load. Since both ends of the board are here, it returns the last published
+    /// counts of the link, or zeros before the first. Allocates nothing.
     pub fn read_last<R: Wait>(&mut self, rt: &R, monitor: &mut Monitor, link: usize) -> Counts
         requires published { link < length self.old.board }
         requires read { link < links_of monitor.old }

@@ -11,8 +11,8 @@ use status_board::Counts;
 use std::marker::Model;
 use std::sync::Wait;
 
-/// Transmits the messages of its ports on two networks. Contracts see its plan, its links, what was
-/// sent to the networks, the time of the last poll, and what was published.
+/// Transmits the messages of its ports on two networks. Contracts see its plan, its links, the
+/// frames that the networks accepted, the time of the last poll, and what was published.
 #[derive(Drop)]
 pub struct Emitter<A: Network + Drop, B: Network + Drop> {
     pub(crate) inner: Transmitter<A, B>,
@@ -59,7 +59,7 @@ impl<A: Network + Drop, B: Network + Drop> Emitter<A, B> {
         self.inner.moment
     }
 
-    /// Network A, with what was sent to it so far.
+    /// Network A.
     pub fn network_a(&self) -> &A
         ensures handed { A.handed result.now ≡ self.now.lines.a }
         ensures failures { A.failures result.now ≡ self.now.lines.a_failures }
@@ -67,7 +67,7 @@ impl<A: Network + Drop, B: Network + Drop> Emitter<A, B> {
         self.inner.mux.network_a()
     }
 
-    /// Network B, with what was sent to it so far.
+    /// Network B.
     pub fn network_b(&self) -> &B
         ensures handed { B.handed result.now ≡ self.now.lines.b }
         ensures failures { B.failures result.now ≡ self.now.lines.b_failures }
@@ -75,27 +75,29 @@ impl<A: Network + Drop, B: Network + Drop> Emitter<A, B> {
         self.inner.mux.network_b()
     }
 
-    /// The counts of a link, by its identifier, as `publish` would publish them now: the frames of the
-    /// longer of its two streams, the sum of their lengths in bytes, the messages whose last frame is among
-    /// them, and the time of the last frame in microseconds, or 0 if there is none. Returns `None` exactly
-    /// if the configuration has no such link. It reads no board, waits for nobody and takes no memory.
+    /// The counts of a link, by its identifier, as `publish` would publish them now: the frames of
+    /// the longer of its two streams, the sum of their lengths in bytes, the messages whose last
+    /// frame is among them, and the time of the last frame in microseconds, or 0 if there is none.
+    /// Returns `None` exactly if the configuration has no such link. Reads no board, never waits,
+    /// and allocates nothing.
     pub fn counts(&self, vl: VlId) -> Option<Counts>
         ensures { ShowsCounts self.now vl.0 result }
     {
         self.inner.counts(vl)
     }
 
-    /// The first moment after that of the last poll, in microseconds, at which a link becomes due that wasn't
-    /// then and that a network carries that is up; `None` if there is none, or it has more than 64 bits. A
-    /// poll before it releases frames only of links that were due at the last poll and had nothing to send
-    /// then. So whoever polls may sleep until then, or until a message is sent.
+    /// The first time after the last poll, in microseconds, at which a link becomes due that wasn't
+    /// due then, and that a network carries that is up; `None` if there is none, or it has more
+    /// than 64 bits. An earlier poll releases frames only of links that were due at the last poll
+    /// and had nothing to send then. So a poller may sleep until this time, or until a message is
+    /// sent.
     pub fn next_due(&self) -> Option<u64>
         ensures { TellsNextDue self.now result }
     {
         self.inner.next_due()
     }
 
-    /// The two networks, with what was sent to them.
+    /// Returns the two networks.
     pub fn into_networks(self) -> (A, B)
         ensures a { A.handed result.0 ≡ self.lines.a }
         ensures b { B.handed result.1 ≡ self.lines.b }
@@ -109,11 +111,11 @@ impl<A: Network + Drop, B: Network + Drop> Emitter<A, B> {
         inner.into_networks()
     }
 
-    /// Gives each link its turn at the time `now`, in microseconds, in the order of the configuration. A due
-    /// link with something to send releases exactly one frame (ARINC 664 Part 7, bandwidth allocation
-    /// gap), unless the last network that carries it fails with that frame. A link whose networks are all
-    /// down is skipped. After `BothDown` nothing has changed. It waits for nobody, and its body takes no
-    /// memory.
+    /// Gives each link its turn at `now`, in microseconds, in the order of the configuration. A due
+    /// link with something to send releases exactly one frame (ARINC 664 Part 7, bandwidth
+    /// allocation gap), unless the last network that carries it fails with that frame. A link whose
+    /// networks are all down is skipped. After `BothDown` nothing has changed. Never waits, and
+    /// allocates nothing.
     pub fn poll(&mut self, now: u64) -> Result<Report, PollFault>
         requires { self.old.moment ≤ now }
         ensures both_down { IsErr result ↔ (is_alive self.old.lines ≡ false) }
@@ -137,11 +139,11 @@ impl<A: Network + Drop, B: Network + Drop> Emitter<A, B> {
         self.inner.poll(now)
     }
 
-    /// Closes a sub-VL, by its link and its index there, and returns how many messages of its ports were
-    /// accepted. None is accepted from then on: each later close returns the same number, and so does
-    /// gathering the ports. Messages that were accepted are still transmitted. It fails exactly if the
-    /// configuration has no such sub-VL; then nothing has changed. It waits for nobody, and its body
-    /// takes no memory.
+    /// Closes a sub-VL, by its link and its index there, and returns the number of accepted
+    /// messages. None is accepted from then on: each later close returns the same number, and so
+    /// does gathering the ports. Accepted messages are still transmitted. Fails, and changes
+    /// nothing, exactly if the configuration has no such sub-VL. Never waits, and allocates
+    /// nothing.
     pub fn close(&mut self, vl: VlId, sub: u8) -> Result<u64, NoSuchSub>
         ensures missing { IsErr result ↔ LacksSub self.old.plan vl.0 sub }
         ensures unchanged { OnErr result (self.new ≡ self.old) }
@@ -154,18 +156,18 @@ impl<A: Network + Drop, B: Network + Drop> Emitter<A, B> {
         self.inner.close(vl, sub)
     }
 
-    /// Publishes the counts of each link, once, in the order of the configuration: those of the longer of
-    /// its two streams, which were kept as the frames were sent. It may wait for a monitor that is in the
-    /// middle of a reading. It takes no memory.
+    /// Publishes the counts of each link, once, in the order of the configuration: those of the
+    /// longer of its two streams. May wait for a monitor that is in the middle of a reading.
+    /// Allocates nothing.
     pub fn publish<R: Wait>(&mut self, rt: &R)
         ensures { Publishes self.old self.new }
     {
         self.inner.publish(rt);
     }
 
-    /// Takes back all ports, in any order, and starts draining: all accepted messages are then known, and
-    /// can be sent. It fails exactly if a port of the configuration isn't in the list; then both are
-    /// returned as they were. It waits for nobody, and its body takes no memory.
+    /// Takes back all ports, in any order, and starts draining: all accepted messages are then
+    /// known, and can be transmitted. Fails exactly if the list lacks a port of the configuration,
+    /// and then returns both unchanged. Never waits, and allocates nothing.
     pub fn gather(self, ports: Vec<TxPort>) -> Result<Draining<A, B>, (Emitter<A, B>, Vec<TxPort>)>
         requires opened { AreOpenedWith self ports.items }
         ensures gathered { IfOk result (λ draining. IsGatheredTx self ports.items draining) }

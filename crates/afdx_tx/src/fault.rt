@@ -1,53 +1,52 @@
-//! Why a call was refused.
+//! Reasons that a call is refused.
 use afdx_plan::Config;
 use redundant_mux::Network;
 use thiserror::Error;
 
-/// Why a port did not take a message. The length of the message is asked first, and then the queue
-/// of the port's sub-VL.
+/// Why a port refused a message. The length is checked first, then the queue of the port's sub-VL.
 #[derive(Clone, Copy, Debug, PartialEq, Eq, Error)]
 pub enum Refusal {
-    /// The message has no bytes. The port is as it was.
+    /// The message has no bytes. The port is unchanged.
     #[error("Empty")]
     Empty = 1,
-    /// The message is over the port's greatest message. The port is as it was.
+    /// The message is over the port's greatest message. The port is unchanged.
     #[error("TooLong")]
     TooLong = 2,
-    /// The queue is closed, by `Emitter::close`. The port has asked once more where the queue was
-    /// closed after its glance. A port whose emitter is gone, and whose queue is open, is accepted
+    /// The queue was closed by `Emitter::close`. If it was closed after the port's first check, a
+    /// slot request was used. A port whose emitter is gone, and whose queue is open, still accepts
     /// until there is no room.
     #[error("Closed")]
     Closed = 3,
-    /// The queue was open, and the port has asked as often as it may. It has asked no more.
+    /// The queue was open, and the port has used all its slot requests.
     #[error("Exhausted")]
     Exhausted = 4,
-    /// The queue was open, and had no room: messages in it and asks under way were as many as its
-    /// capacity. The port has asked once more.
+    /// The queue was open, and had no room: the held messages and slot requests under way filled
+    /// its capacity. A slot request was used.
     #[error("Full")]
     Full = 5,
 }
 
-/// A message that was refused, and why. The accepted messages are as they were.
+/// A refused message, and why. The accepted messages are unchanged.
 #[derive(Debug, Drop)]
 pub struct SendFault {
     pub why: Refusal,
     pub bytes: Vec<u8>,
 }
 
-/// Why a poll did nothing. The emitter is as it was before the call.
+/// Why a poll did nothing. The emitter is unchanged.
 #[derive(Clone, Copy, Debug, PartialEq, Eq, Error)]
 pub enum PollFault {
-    /// Both networks were down already.
+    /// Both networks have failed before.
     #[error("BothDown")]
     BothDown = 1,
 }
 
-/// The configuration has no such sub-VL. The emitter is as it was before the call.
+/// The configuration has no such sub-VL. The emitter is unchanged.
 #[derive(Clone, Copy, Debug, PartialEq, Eq, Error)]
 #[error("NoSuchSub")]
 pub struct NoSuchSub;
 
-/// Memory was refused. What was handed in comes back as it was.
+/// An allocation failed. The arguments are returned unchanged.
 #[derive(Drop)]
 pub struct OpenFault<A: Network + Drop, B: Network + Drop> {
     pub config: Config,

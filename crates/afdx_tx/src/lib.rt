@@ -1,5 +1,5 @@
-//! The emitter of an AFDX end system: messages of ports wait in the queues of their sub-VLs, and go
-//! out as numbered, spaced frames on two networks.
+//! The emitter of an AFDX end system: messages of ports wait in the queues of their sub-VLs, and
+//! are transmitted as numbered, spaced frames on two networks.
 #![tactic(auto)]
 
 mod draining;

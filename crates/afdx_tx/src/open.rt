@@ -18,7 +18,7 @@ use std::alloc::{AllocError, Global};
 use subvl_queue::open_queue;
 use vl_link::{Link, Sub, SubVl};
 
-/// How many slots a port may request: 2^40.
+/// The number of slot requests of a port: 2^40.
 const CALLS: u64 = 1_099_511_627_776;
 
 /// Whether a port is one of a sub-VL.
@@ -42,7 +42,7 @@ fn ports_of(alloc: Global, ports: &[PortPlan], of: &SubVl) -> Result<Vec<PortPla
     Ok(own)
 }
 
-/// A sub-VL of a configuration, whose ports have no senders yet.
+/// A sub-VL of a configuration, without senders.
 fn open_sub(alloc: Global, config: &Config, of: SubVl) -> Result<Sub, AllocError>
     requires link { IsLink of.link }
     requires sub { of.sub < of.link.sub_vls }
@@ -54,7 +54,7 @@ fn open_sub(alloc: Global, config: &Config, of: SubVl) -> Result<Sub, AllocError
     Ok(Sub::new(of, ports, receiver))
 }
 
-/// A link of a configuration, whose ports have no senders yet.
+/// A link of a configuration, without senders.
 fn open_link(alloc: Global, config: &Config, plan: &LinkPlan) -> Result<Link, AllocError>
     requires { IsLink plan.now }
     ensures { IfOk result
@@ -72,7 +72,7 @@ fn open_link(alloc: Global, config: &Config, plan: &LinkPlan) -> Result<Link, Al
     Ok(Link::new(config.end_system(), *plan, subs))
 }
 
-/// The links of a configuration, whose ports have no senders yet.
+/// The links of a configuration, without senders.
 fn open_links(alloc: Global, config: &Config) -> Result<Vec<Link>, AllocError>
     ensures opened { IfOk result
         (λ links. AreOpenedLinks config.now [] links.items (length config.now.links)) }
@@ -122,11 +122,11 @@ fn open_parts(
     Ok((links, ports, board, monitor))
 }
 
-/// Opens an emitter for a configuration over two networks to which nothing was sent and which have not
-/// failed. Returns it with its ports, in the order of the configuration, and the monitor that reads the
-/// counts of each link by its place in the configuration. It takes all memory that sending, polling,
-/// publishing and gathering need. Nothing is accepted or published yet, both networks are up, and each
-/// port may request 2^40 slots. If an allocation fails, all is returned as it was.
+/// Opens an emitter for a configuration over two networks that have accepted no frame and have not
+/// failed. Returns it with its ports, in the order of the configuration, and the monitor that reads
+/// the counts of each link by its place there. Allocates all memory that sending, polling,
+/// publishing and gathering need. Nothing is accepted or published yet, both networks are up, and
+/// each port has 2^40 slot requests. If an allocation fails, returns all arguments unchanged.
 pub fn open_tx<A: Network + Drop, B: Network + Drop>(
     alloc: Global,
     config: Config,

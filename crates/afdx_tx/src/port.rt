@@ -8,7 +8,7 @@ use afdx_plan::{PortId, PortPlan};
 use std::marker::Model;
 use subvl_queue::{Refused, Sender, Why};
 
-/// Why a port doesn't take a message of so many bytes, whatever its queue holds.
+/// The reason that a port refuses a message by its length, whatever its queue holds.
 fn length_refusal(port: &PortPlan, size: usize) -> Option<Refusal>
     ensures { result ≡ length_refusal port.now size }
 {
@@ -21,9 +21,8 @@ fn length_refusal(port: &PortPlan, size: usize) -> Option<Refusal>
     None
 }
 
-/// A port of an emitter, which may go to another thread. Contracts see its place in the
-/// configuration, what the configuration says of it, and its sender, with the messages of it that
-/// were accepted.
+/// A port of an emitter, which may be moved to another thread. Contracts see its place in the
+/// configuration, its entry there, and its sender with the port's accepted messages.
 #[derive(Drop)]
 pub struct TxPort {
     plan: PortPlan,
@@ -52,7 +51,7 @@ impl TxPort {
     ghost use Rattle.afdx_plan.specs.Plan.{IsPort};
     ghost use Rattle.afdx_tx.specs.Ports.{PortView, MaySend, HasOwnMessages, Accepts, Refuses};
 
-    // The port of a configuration at a place, with a sender of its sub-VL's queue.
+    // The port at a place of a configuration, with a sender of its sub-VL's queue.
     pub(crate) fn new(plan: PortPlan, place: usize, sender: Sender) -> TxPort
         requires port { IsPort plan }
         requires fresh { sender.own ≡ [] }
@@ -76,7 +75,7 @@ impl TxPort {
         self.plan.id
     }
 
-    /// How many of its messages were accepted. Each has from 1 byte to its greatest message.
+    /// The number of its accepted messages. Each has from 1 byte to its greatest message.
     pub fn accepted(&self) -> u64
         ensures count { result ≡ length self.now.sender.own }
         ensures messages { HasOwnMessages self.now }
@@ -104,10 +103,10 @@ impl TxPort {
         sender
     }
 
-    /// Puts a message at the end of the queue of its sub-VL, or hands it back and says why: it has
-    /// no bytes, it is over the port's greatest message, or its queue refused it. Where the length
-    /// is refused nothing has changed; otherwise only how often the port asked, and what it found.
-    /// The call waits for nobody. Its body asks for no memory.
+    /// Puts a message at the end of the queue of its sub-VL. Returns it with the reason if it is
+    /// empty, is over the port's greatest message, or its queue refuses it. A refusal by length
+    /// changes nothing; one by the queue only what the port has used and found. Never waits, and
+    /// allocates nothing.
     pub fn send(&mut self, bytes: Vec<u8>) -> Result<(), SendFault>
         ensures accepted { IfOk result (λ _. Accepts self.old bytes.items self.new) }
         ensures sendable { IfOk result (λ _. MaySend self.old.plan (length bytes.items)) }
@@ -119,8 +118,8 @@ impl TxPort {
         self.send_with(bytes, || {})
     }
 
-    /// As `send`. Where the message is accepted, `pause` runs before it can be taken. Where it is
-    /// refused, `pause` doesn't run.
+    /// As `send`. If the message is accepted, `pause` runs before the message can be taken; if it
+    /// is refused, `pause` doesn't run.
     pub fn send_with<F: FnOnce()>(&mut self, bytes: Vec<u8>, pause: F) -> Result<(), SendFault>
     where
         F: Drop,
@@ -143,7 +142,7 @@ impl TxPort {
     }
 }
 
-// The message that a queue refused.
+// The fault for a message that a queue refused.
 fn handed_back(refused: Refused) -> SendFault
     ensures why { result.why ≡ refusal_of refused.why }
     ensures bytes { result.bytes.items ≡ refused.bytes.items }

@@ -1,10 +1,11 @@
-//! What a poll did.
+//! The report of a poll.
 use afdx_plan::VlId;
 use arrayvec::ArrayVec;
 use redundant_mux::Standing;
 use std::default::Default;
 
-/// A frame that at least one network took: its virtual link, its sub-VL and its sequence number.
+/// A frame that at least one network accepted: its virtual link, its sub-VL and its sequence
+/// number.
 #[derive(Clone, Copy, Debug, PartialEq, Eq)]
 pub struct Release {
     pub vl: VlId,
@@ -22,7 +23,7 @@ impl Default for Release {
     }
 }
 
-/// The frames that a poll released, in order, and which networks stand afterwards.
+/// The frames that a poll released, in order, and which networks are up afterwards.
 #[derive(Drop)]
 pub struct Report {
     pub released: ArrayVec<Release, 64>,

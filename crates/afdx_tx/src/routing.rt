@@ -32,7 +32,8 @@ pub fn link_of(config: &Config, port: &PortPlan) -> usize
     }
 }
 
-/// The place in the configuration of the link that has a sub-VL, if there is one.
+/// The place in the configuration of the link with this identifier and a sub-VL of this index, if
+/// there is one.
 pub fn link_of_sub(config: &Config, vl: VlId, sub: u8) -> Option<usize>
     ensures none { IfNone result (LacksSub config.now vl.0 sub) }
     ensures some { IfSome result (IsSubAt config.now vl.0 sub) }

@@ -24,7 +24,7 @@ use std::marker::Model;
 use std::sync::Wait;
 use vl_link::{Link, Served};
 
-/// Adds what a turn released.
+/// Appends the frame that a turn released, if any.
 fn note(released: &mut ArrayVec<Release, 64>, vl: VlId, did: &Served)
     requires { array_vec_len released.old < 64 }
     ensures { released.new.items ≡ released.old.items ++ turn_release vl did.now }
@@ -68,7 +68,7 @@ fn all_done(links: &[Link]) -> bool
     links.iter().all(|link| link.is_done())
 }
 
-/// The earlier of two moments.
+/// The earlier of two times.
 fn earlier(a: Option<u64>, b: Option<u64>) -> Option<u64>
     ensures { result ≡ earlier a b }
 {
@@ -79,7 +79,7 @@ fn earlier(a: Option<u64>, b: Option<u64>) -> Option<u64>
     }
 }
 
-/// The first moment after `now` at which a link may release a frame that may not now.
+/// The first time after `now` at which a link may release a frame and may not now.
 fn first_due<A: Network + Drop, B: Network + Drop>(
     links: &[Link],
     mux: &Mux<A, B>,
@@ -106,14 +106,14 @@ fn publish_all<R: Wait>(rt: &R, links: &[Link], board: &mut Board)
     }
 }
 
-/// What an `Emitter` and a `Draining` have in common. It transmits what it takes from the queues of the
+/// The common part of an `Emitter` and a `Draining`: transmits the messages in the queues of the
 /// sub-VLs.
 #[derive(Drop)]
 pub struct Transmitter<A: Network + Drop, B: Network + Drop> {
     pub(crate) config: Config,
     links: BoxedSlice<Link>,
     pub(crate) mux: Mux<A, B>,
-    // Where each frame is made.
+    // The buffer of each frame.
     frame: Frame,
     pub(crate) moment: u64,
     pub(crate) board: Board,
@@ -155,8 +155,7 @@ impl<A: Network + Drop, B: Network + Drop> Transmitter<A, B> {
     ghost use Rattle.afdx_tx.specs.Gathering.{IsGatheredTx};
     ghost use Rattle.afdx_tx.specs.Closing.{LacksSub, ClosesTx};
 
-    /// Over fresh links of a configuration, networks to which nothing was sent, and a board of the links
-    /// on which nothing was published.
+    /// Over new links of a configuration, networks that have accepted no frame, and an empty board.
     pub fn over(config: Config, links: Vec<Link>, a: A, b: B, board: Board) -> Transmitter<A, B>
         requires valid { IsPlan config }
         requires fresh { AreFreshLinks config links.items }
@@ -190,7 +189,7 @@ impl<A: Network + Drop, B: Network + Drop> Transmitter<A, B> {
         all_done(&self.links)
     }
 
-    /// The first moment after that of the last poll at which a link may release a frame that might not then.
+    /// The first time after the last poll at which a link may release a frame and couldn't then.
     pub fn next_due(&self) -> Option<u64>
         ensures { TellsNextDue self.now result }
     {
@@ -205,7 +204,7 @@ impl<A: Network + Drop, B: Network + Drop> Transmitter<A, B> {
         Some(self.links[place].counts())
     }
 
-    /// The two networks, with what was sent to them.
+    /// Returns the two networks.
     pub fn into_networks(self) -> (A, B)
         ensures a { A.handed result.0 ≡ self.lines.a }
         ensures b { B.handed result.1 ≡ self.lines.b }
@@ -224,7 +223,7 @@ impl<A: Network + Drop, B: Network + Drop> Transmitter<A, B> {
         mux.into_networks()
     }
 
-    /// Gives each link its turn at the time `now`, in microseconds, in the order of the configuration.
+    /// Gives each link its turn at `now`, in microseconds, in the order of the configuration.
     pub fn poll(&mut self, now: u64) -> Result<Report, PollFault>
         requires { self.old.moment ≤ now }
         ensures both_down { IsErr result ↔ (is_alive self.old.lines ≡ false) }
@@ -257,7 +256,7 @@ impl<A: Network + Drop, B: Network + Drop> Transmitter<A, B> {
         })
     }
 
-    /// Closes the queue of a sub-VL, and returns how many messages it accepted.
+    /// Closes the queue of a sub-VL, and returns the number of its accepted messages.
     pub fn close(&mut self, vl: VlId, sub: u8) -> Result<u64, NoSuchSub>
         requires receiving { AreReceiving self.old.links }
         ensures missing { IsErr result ↔ LacksSub self.old.plan vl.0 sub }

@@ -10,19 +10,19 @@ use Rattle.afdx_tx.proofs.TakenBack.{take_one, take_on, back_name, stays_back, c
 use Rattle.afdx_tx.proofs.gather.take_back_all.Goals.{After-place, After-into_sender}
 use Rattle.afdx_tx.proofs.gather.take_back_all.Goals as goal
 
--- the port that comes back is one that was opened with the links
+-- The returned port was opened with the links.
 own : (c : After-place) → BelongsTo c.args.config.now (queues_in c.args.links.now) c.in-Some.port
 own c =
     let turn = YieldsList-turn (YieldsList-from_vec {s = c.into_iter-port-iterator.result} c.args.ports.items (search rules) (search rules))
     c.loop-port.yielded c.loop-port.port-iterator c.loop-port.yielded_by c.next.result c.next.new.self c.in-Some.port c.in-Some.is c.next.ensures.steps in
     subst (BelongsTo c.args.config.now (queues_in c.args.links.now)) (sym turn.1) (c.requires.opened _ c.in-Some.port turn.0)
 
--- so what is said at its place is said of it
+-- Its plan is the one at its place.
 plan_is : (c : After-into_sender) → BelongsTo c.args.config.now (queues_in c.args.links.now) c.in-Some.port
     → c.port_at-plan.result ≡ c.in-Some.port.plan
 plan_is c belongs = c.port_at-plan.ensures.value ∙ rw c.place.ensures (sym belongs.plan)
 
--- its link is one of the links
+-- Its link is one of the links.
 within : (c : After-into_sender) → c.link_of-link.result < length c.loop-port.links
 within c =
     let count = count_is c.args.config.now c.args.links.now c.requires.of_plan in

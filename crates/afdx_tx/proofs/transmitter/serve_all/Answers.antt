@@ -7,11 +7,11 @@ use Rattle.afdx_tx.proofs.transmitter.serve_all.Goals.{then-may_release, else-ma
 use Rattle.afdx_tx.proofs.transmitter.serve_all.Given
 use Rattle.afdx_tx.proofs.transmitter.serve_all.Goals as goal
 
--- the place is one of a link
+-- The place is that of a link.
 within : (g : Given.Over) (c : goal.Joined-may_release g) → c.loop-link.link-index < length c.loop-link.links
 within g c = let q = c.loop-link.invariant.steady.same.count in let r = c.loop-link-test.true in omega arith
 
--- the link that was asked is the one at that place
+-- The tested link is the one at that place.
 asked : (g : Given.Over) (c : goal.Joined-may_release g)
     → get_or c.loop-link.links c.loop-link.link-index c.link-item.result
     ≡ link_at c.loop-link.links c.loop-link.link-index

@@ -6,12 +6,12 @@ use Rattle.afdx_tx.proofs.SoundEmitter.{count_is, sound_counts}
 use Rattle.afdx_tx.proofs.transmitter.Transmitter.counts.Given
 use Rattle.afdx_tx.proofs.transmitter.Transmitter.counts.Goals as goal
 
--- the link that was found
+-- The found link.
 there : (g : Given.Over) (c : goal.After-counts g) → IsLinkAt c.self.inside.config c.args.vl.0 c.in_ok-place.place
 there g c = let at = found_at c.self.inside.config.links c.args.vl.0 c.in_ok-place.place (sym c.link_index.ensures ∙ c.in_ok-place.was) in
     record { within = at.0; id = at.1 }
 
--- its counts
+-- Its counts.
 found : (g : Given.Over) (c : goal.After-counts g)
     → c.counts.result ≡ counts_in (own_stream c.args.vl.0 c.self.inside.mux.a c.self.inside.mux.b)
 found g c =

@@ -4,18 +4,18 @@ use Rattle.afdx_tx.proofs.GatheredPorts.{gathers_sound, gathers_reaches, gathers
 use Rattle.afdx_tx.proofs.transmitter.Transmitter.gather.Given
 use Rattle.afdx_tx.proofs.transmitter.Transmitter.gather.Goals as goal
 
--- what gathering did, over the links that it had
+-- The effect of gathering on the links before it.
 gathers : (g : Given.Over) (c : goal.After-self-1 g)
     → GathersPorts c.self.inside.config c.self.inside.links.items.items c.args.ports.items c.gather_links.new.links
 gathers g c = rw c.deref_mut.ensures.value at c.gather_links.ensures
 
--- the links that the transmitter then has
+-- The links of the transmitter afterwards.
 links_are : (g : Given.Over) (c : goal.After-self-1 g)
     → (with_items c.self.inside.links.items c.gather_links.new.links).items ≡ c.gather_links.new.links
 links_are g c = with_items_is c.self.inside.links.items c.gather_links.new.links
     (c.gather_links.ensures.gathers.count ∙ c.gather_links.ensures.takes.count ∙ c.deref_mut.ensures.len)
 
--- the transmitter is as sound as it was
+-- The transmitter is still sound.
 sound : (g : Given.Over) (c : goal.After-self-1 g)
     → IsSound c.self.inside.config (with_items c.self.inside.links.items c.gather_links.new.links).items c.self.inside.mux c.self.inside.moment
 sound g c = rw (links_are g c) (gathers_sound _ _ _ _ _ _ (gathers g c) c.self.invariant.0)

@@ -9,18 +9,18 @@ pub serve_all-requires-clause-apart : goal.serve_all-requires-clause-apart
 serve_all-requires-clause-apart g c =
     rw c.deref_mut.ensures.value (links_apart _ _ c.self.invariant.0.valid c.self.invariant.0.of_plan)
 
--- the links that the transmitter then has
+-- The links of the transmitter afterwards.
 links_are : (g : Given.Over) (c : goal.After-standing g)
     → (with_items c.self.inside.links.items c.serve_all.new.links).items ≡ c.serve_all.new.links
 links_are g c = with_items_is c.self.inside.links.items c.serve_all.new.links
     (c.serve_all.ensures.steady.same.count ∙ c.deref_mut.ensures.len)
 
--- what the turns kept, over the links that it had
+-- The turns kept the invariant, over the links before them.
 steady : (g : Given.Over) (c : goal.After-standing g)
     → IsSteady c.args.now c.self.inside.links.items.items c.serve_all.new.links c.serve_all.new.mux
 steady g c = rw c.deref_mut.ensures.value at c.serve_all.ensures.steady
 
--- the transmitter that a poll leaves is sound
+-- The transmitter is sound after the poll.
 sound : (g : Given.Over) (c : goal.After-standing g)
     → IsSound c.self.inside.config (with_items c.self.inside.links.items c.serve_all.new.links).items c.serve_all.new.mux c.args.now
 sound g c = rw (links_are g c) (sound_after _ _ _ _ _ c.self.invariant.0.valid c.self.invariant.0.of_plan (steady g c)

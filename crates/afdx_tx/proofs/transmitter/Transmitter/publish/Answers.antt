@@ -3,7 +3,7 @@ use Rattle.afdx_tx.proofs.Names.{last_of, with_entry, Tx, IsSound, Reaches, Publ
 use Rattle.afdx_tx.proofs.SoundEmitter.{count_is, sound_counts}
 use Rattle.afdx_tx.proofs.transmitter.Transmitter.publish.Goals as goal
 
--- what was published of a sound transmitter's links are the counts of their own streams
+-- The published counts of a sound transmitter's links are those of their own streams.
 publishes : (old : Tx) (board : List Published) → IsSound old.plan old.links old.lines old.moment → Reaches old.links old.board
     → PublishesCounts old.links old.board board → Publishes old (record old { board = board })
 publishes old board sound reaches p =
