@@ -2,30 +2,31 @@
 
    Build: cc program.c $(pkg-config --cflags --libs afdx), after `bash install/install.sh PREFIX`.
 
-   An end system is opened from the text of a configuration. Its ports may each go to a thread of their own, where they
-   send. One thread polls with the present moment and then copies the frames of that poll out, those for network A and
-   those for network B, from the destination MAC address to the sequence number, without the frame check sequence. Where
-   all ports have come back, the end system sends what is left and tells when it is done.
+   An end system is opened from the text of a configuration. Each of its ports may be moved to a thread of its own,
+   which sends. One thread polls with the present time and then copies out the frames of that poll, for network A and
+   for network B, from the destination MAC address to the sequence number, without the frame check sequence. Once all
+   ports were given back and gathered, the end system transmits what is left and reports when it is done.
 
-   Every call answers 0 or a number below, and after any other number than 0 nothing has changed but for what is said
-   beside it. Numbers are in the order in which the call looks: the first that holds is answered.
+   Every call returns 0 or a number below. After any other number than 0 nothing has changed except as stated with
+   the call. The numbers of a call are in the order in which it checks them, and the first that applies is returned.
 
-   What a caller owes, since no call can tell it:
-   - a handle is all zeroes before it is first given to afdx_open or afdx_port_of, and is changed by calls alone: it is not
-     written, and where it is moved, as a struct that is returned or assigned, the old one is not used any more. A copy
-     of a handle that was freed since is not told from one that wasn't: all that a call has of it are its bytes, and
-     they point to memory that is gone. C++ and Python have handles that can't be copied;
-   - one call at a time on a handle. Different handles may be used by different threads at the same time; a handle goes
-     from one thread to another as any data does, by a lock or by a thread's start or end;
-   - pointers lead to as many bytes as are told, and aren't NULL but where 0 bytes are told; nobody else writes there
-     meanwhile, and what is written through lies apart from what is read and from what else is written through;
-   - the two handles of one call are two;
-   - malloc, realloc and free come from one allocator. No call is made from a signal handler or in the forked child of a
-     process with threads.
-   No call takes a pointer to const where it takes a handle, even if it changes nothing of the end system: each takes the
+   The caller must keep these rules, which no call can check:
+   - A handle is all zeroes before it is first passed to afdx_open or afdx_port_of, and only calls change it. Where
+     it is moved, as a struct that is returned or assigned, the old one is not used again. A call sees only the bytes
+     of a handle: a copy of a freed one looks like one in use, and points to memory that is gone. C++ and Python have
+     handles that can't be copied.
+   - One call at a time uses a handle. Different threads may use different handles at the same time. A handle moves
+     from one thread to another as any data does, by a lock or by a thread's start or end.
+   - A pointer leads to as many bytes as the call states, and may be NULL only for 0 bytes. Nobody else writes there
+     during the call. What is written lies apart from what is read and from everything else that is written.
+   - The two handles of one call are different.
+   - malloc, realloc and free come from one allocator. No call is made from a signal handler, or in the forked child
+     of a process with threads.
+   No call takes a pointer to const for a handle, even if it changes nothing of the end system: each takes the
    content out of the handle and puts it back before it returns.
-   A call after afdx_free, a port asked for twice, a port of another end system, a moment that goes back, an unknown
-   identifier and a buffer that is too small are told by their numbers. */
+
+   Calls detect, and report by their numbers: a call after afdx_free, a port that is taken twice, a port of another
+   end system, a time that goes back, an unknown identifier, and a buffer that is too small. */
 #ifndef AFDX_H
 #define AFDX_H
 
@@ -36,18 +37,18 @@
 extern "C" {
 #endif
 
-/* The version of this header and of the library that is installed with it: MAJOR changes with what is not compatible. */
+/* The version of this header and of the library installed with it. MAJOR changes with incompatible changes. */
 #define AFDX_VERSION_MAJOR 1
 #define AFDX_VERSION_MINOR 0
 #define AFDX_VERSION_PATCH 0
 #define AFDX_VERSION "1.0.0"
 
-/* An end system: sending while its ports are out, or draining once it has gathered them. {0} is one that isn't open, in
-   C++ {}. */
+/* An end system: sending while its ports are out, or draining after it has gathered them. {0} is one that isn't
+   open, in C++ {}. */
 typedef struct {
     void *at;
     uint8_t held;
-    uint64_t mark; /* which end system it is: no other that is there, or of which a port is there, has this number */
+    uint64_t mark; /* which end system it is: no other has this number while it or one of its ports exists */
 } afdx_end_system;
 
 /* A port of an end system. {0} is none, in C++ {}. */
@@ -57,31 +58,31 @@ typedef struct {
     uint64_t mark; /* that of its end system */
 } afdx_port;
 
-/* What was sent of a virtual link. */
+/* The counts of a virtual link. */
 typedef struct {
-    uint64_t frames;   /* those that at least one network took */
+    uint64_t frames;   /* accepted by at least one network */
     uint64_t bytes;    /* the sum of their lengths */
     uint64_t messages; /* those whose last frame is among them */
-    uint64_t last;     /* the moment of the last frame in microseconds, 0 before the first */
+    uint64_t last;     /* the time of the last frame in microseconds, 0 before the first */
 } afdx_counts;
 
 /* The networks. */
 enum { AFDX_A = 0, AFDX_B = 1 };
 
-/* Which networks stand, as bits of what afdx_poll writes. */
+/* Which networks are up, as the bits that afdx_poll writes. */
 enum { AFDX_A_STANDS = 1, AFDX_B_STANDS = 2 };
 
-/* The greatest frame in bytes, and the most frames of a network that one poll makes: one of each virtual link. */
+/* The greatest frame in bytes, and the most frames that one poll makes for a network: one per virtual link. */
 enum { AFDX_GREATEST_FRAME = 1514, AFDX_MOST_FRAMES = 64 };
 
 /* The most virtual links and the most ports of a configuration. */
 #define AFDX_MOST_LINKS 64
 #define AFDX_MOST_PORTS 256
 
-/* Success, of any call. */
+/* Success of any call. */
 enum { AFDX_OK = 0 };
 
-/* Why a configuration is refused by afdx_open: the fault of the least number, as docs/configuration.md tells them. */
+/* Why afdx_open refuses a configuration: the fault with the least number, as docs/configuration.md lists them. */
 enum {
     AFDX_CONFIG_TOML = 1,
     AFDX_CONFIG_MISSING_KEY = 2,
@@ -97,141 +98,143 @@ enum {
     AFDX_CONFIG_SAME_FLOW = 12,
     AFDX_CONFIG_SHARED_UNICAST = 13,
     AFDX_CONFIG_LIMIT = 14,
-    AFDX_MEMORY = 15 /* memory was refused */
+    AFDX_MEMORY = 15 /* an allocation failed */
 };
 
-/* Why a message is refused by afdx_send. AFDX_MEMORY: memory for the copy was refused. */
+/* Why afdx_send refuses a message. AFDX_MEMORY: the copy could not be allocated. */
 enum { AFDX_EMPTY = 1, AFDX_TOO_LONG = 2, AFDX_CLOSED = 3, AFDX_EXHAUSTED = 4, AFDX_FULL = 5 };
 
-/* Why a poll does nothing: both networks were down already. */
+/* Why a poll does nothing: both networks have failed before. */
 enum { AFDX_BOTH_DOWN = 1 };
 
-/* Misuse, of any call. */
+/* Misuse of any call. */
 enum {
-    AFDX_NOT_HELD = 32,     /* the handle holds nothing: not opened, or freed, or given back */
-    AFDX_WRONG_HANDLE = 33, /* it holds a port where an end system is wanted, or the other way round */
-    AFDX_HELD = 34,         /* a handle that is to be filled holds something */
-    AFDX_TIME_BACK = 35,    /* the moment is before that of an earlier poll */
-    AFDX_NO_PORT = 36,      /* no such identifier, or the port was taken already; or a port that isn't of the end system */
+    AFDX_NOT_HELD = 32,     /* the handle holds nothing: not opened, freed, or given back */
+    AFDX_WRONG_HANDLE = 33, /* it holds a port instead of an end system, or an end system instead of a port */
+    AFDX_HELD = 34,         /* the handle to be filled holds something */
+    AFDX_TIME_BACK = 35,    /* the time is before that of an earlier poll */
+    AFDX_NO_PORT = 36,      /* no such identifier, the port is out already, or it isn't of this end system */
     AFDX_NO_SUB = 37,       /* no such virtual link, or no such sub-VL of it */
     AFDX_NO_LINK = 38,      /* no such virtual link */
     AFDX_NO_NETWORK = 39,   /* neither AFDX_A nor AFDX_B */
     AFDX_NO_FRAME = 40,     /* the last poll made fewer frames for this network */
-    AFDX_SMALL_BUFFER = 41, /* a frame has more bytes than the buffer, or there is room for fewer than all */
+    AFDX_SMALL_BUFFER = 41, /* a frame has more bytes than the buffer, or there is no room for all */
     AFDX_PORT_MISSING = 42, /* a port of the configuration is out */
-    AFDX_GATHERED = 43,     /* the ports were gathered: nothing is taken, given back, closed or gathered any more */
+    AFDX_GATHERED = 43,     /* the ports were gathered: none is taken, given back, closed or gathered any more */
     AFDX_NOT_GATHERED = 44  /* the ports weren't gathered yet */
 };
 
-/* Opens an end system from the text of a configuration, `length` bytes, which are copied. It makes all the room that
-   polling, closing and gathering take. Refused: AFDX_HELD; or the number of the fault, 1 to 15. After a refusal the
-   handle is as it was. */
+/* Opens an end system from the text of a configuration, `length` bytes, which are copied. Allocates all memory that
+   polling, closing and gathering need. Refused: AFDX_HELD; or the number of the fault, 1 to 15. After a refusal the
+   handle is unchanged. */
 uint8_t afdx_open(afdx_end_system *out, const uint8_t *text, size_t length);
 
-/* Explains a configuration that is refused: all of its faults, each with its place, as `afdx_bench explain` prints them
-   (docs/program.md), in lines that end in a line feed; "no faults" if there is none. Copies as much of the explanation as
-   there is room for into a buffer, without a zero behind it, and writes how many bytes the explanation has. Refused:
-   AFDX_MEMORY; then nothing is written; AFDX_SMALL_BUFFER: the explanation is longer than the buffer, and its front was
-   written. So NULL and 0 ask how long it is. */
+/* Explains a refused configuration: all of its faults, each with its place, as `afdx_bench explain` prints them
+   (docs/program.md), in lines that end in a line feed; "no faults" if there is none. Copies as much of the
+   explanation as fits into the buffer, without a terminating zero, and writes its length. Refused: AFDX_MEMORY, with
+   nothing written; AFDX_SMALL_BUFFER: the explanation is longer than the buffer, and its front was written. So NULL
+   and 0 give the length. */
 uint8_t afdx_explain(const uint8_t *text, size_t length, uint8_t *buffer, size_t size, size_t *written);
 
-/* Takes the port with an identifier, once. It may go to a thread of its own. Refused: AFDX_HELD (of `out`),
+/* Takes the port with an identifier, once. It may be moved to a thread of its own. Refused: AFDX_HELD (of `out`),
    AFDX_NOT_HELD, AFDX_WRONG_HANDLE, AFDX_GATHERED, AFDX_NO_PORT, AFDX_MEMORY (the port can be taken later). */
 uint8_t afdx_port_of(afdx_end_system *it, uint16_t id, afdx_port *out);
 
-/* The identifiers of all ports, and of all virtual links, in the order of the configuration, whether or not a port is out:
-   writes them into `ids`, which has room for `room` of them, and how many they are. Refused: AFDX_NOT_HELD,
-   AFDX_WRONG_HANDLE; then nothing is written; AFDX_SMALL_BUFFER: `room` is less than that, and `count` alone is written.
-   So NULL and 0 ask how many they are: at most AFDX_MOST_PORTS and AFDX_MOST_LINKS. */
+/* The identifiers of all ports, and of all virtual links, in the order of the configuration, whether or not a port
+   is out: writes them into `ids`, which has room for `room` of them, and their number. Refused: AFDX_NOT_HELD,
+   AFDX_WRONG_HANDLE, with nothing written; AFDX_SMALL_BUFFER: `room` is less than their number, and only `count` is
+   written. So NULL and 0 give the number: at most AFDX_MOST_PORTS and AFDX_MOST_LINKS. */
 uint8_t afdx_ports(afdx_end_system *it, uint16_t *ids, size_t room, size_t *count);
 uint8_t afdx_links(afdx_end_system *it, uint16_t *ids, size_t room, size_t *count);
 
-/* Copies a message in, at the end of the queue of the port's sub-VL. By the thread that has the port. It waits for
-   nobody, unless malloc does: it asks malloc for the copy, and a later afdx_poll frees it, so either of them may meet a
-   lock of the allocator. Refused: AFDX_NOT_HELD, AFDX_WRONG_HANDLE; AFDX_MEMORY; AFDX_EMPTY, AFDX_TOO_LONG, AFDX_CLOSED,
-   AFDX_EXHAUSTED (the port has asked 2^40 times), AFDX_FULL: try again after a poll. */
+/* Copies a message in, at the end of the queue of the port's sub-VL. Called by the thread that has the port. Never
+   waits, unless malloc does: the copy comes from malloc, and a later afdx_poll frees it, so either may meet a lock
+   of the allocator. Refused: AFDX_NOT_HELD, AFDX_WRONG_HANDLE; AFDX_MEMORY; AFDX_EMPTY, AFDX_TOO_LONG, AFDX_CLOSED,
+   AFDX_EXHAUSTED (the port has used its 2^40 slot requests), AFDX_FULL: try again after a poll. */
 uint8_t afdx_send(afdx_port *port, const uint8_t *message, size_t length);
 
-/* How many messages of a port were accepted. By the thread that has the port. Refused: AFDX_NOT_HELD, AFDX_WRONG_HANDLE;
-   then nothing is written. */
+/* Writes the number of a port's accepted messages. Called by the thread that has the port. Refused: AFDX_NOT_HELD,
+   AFDX_WRONG_HANDLE, with nothing written. */
 uint8_t afdx_accepted(afdx_port *port, uint64_t *count);
 
-/* Gives each virtual link its turn at a moment in microseconds: one that is due and has something to send makes exactly
-   one frame. Writes which networks stand afterwards. The frames of the poll before are gone. By one thread at a time, as
-   all calls on an end system; it waits for nobody (but see afdx_send) and asks for no memory. Refused: AFDX_NOT_HELD,
-   AFDX_WRONG_HANDLE, AFDX_TIME_BACK, AFDX_BOTH_DOWN (standing is written as 0); then the frames of the poll before are
-   still there. */
+/* Gives each virtual link its turn at `now`, in microseconds: one that is due and has something to send makes
+   exactly one frame. Writes which networks are up afterwards. The frames of the poll before are gone. Called by one
+   thread at a time, as all calls on an end system. Never waits (but see afdx_send), and allocates nothing. Refused:
+   AFDX_NOT_HELD, AFDX_WRONG_HANDLE, AFDX_TIME_BACK, AFDX_BOTH_DOWN (standing is written as 0); the frames of the
+   poll before are then kept. */
 uint8_t afdx_poll(afdx_end_system *it, uint64_t now, uint8_t *standing);
 
-/* No moment: what afdx_next_due writes where no virtual link becomes due. */
+/* No time: afdx_next_due writes it if no virtual link becomes due. */
 #define AFDX_NEVER UINT64_MAX
 
-/* When a poll can have something to do again, for a thread that sleeps between polls. Writes the first moment after that of
-   the last poll, in microseconds, at which a virtual link becomes due that wasn't then and that is carried by a network that
-   stands; or AFDX_NEVER. Before it a poll makes frames only of links that were due at the last poll and had nothing to send
-   then: so sleep until that moment, or until a port has sent, which afdx.h can't tell. Whether the link has something to
-   send isn't known before it is polled. Refused: AFDX_NOT_HELD, AFDX_WRONG_HANDLE; then nothing is written. */
+/* When a poll may have something to do again, for a thread that sleeps between polls. Writes the first time after
+   the last poll, in microseconds, at which a virtual link becomes due that wasn't due then and that a network
+   carries that is up; or AFDX_NEVER. An earlier poll makes frames only of links that were due at the last poll and
+   had nothing to send then. So sleep until that time, or until a port has sent, which no call reports. Whether the
+   link has something to send isn't known before it is polled. Refused: AFDX_NOT_HELD, AFDX_WRONG_HANDLE, with
+   nothing written. */
 uint8_t afdx_next_due(afdx_end_system *it, uint64_t *at);
 
-/* How many frames the last poll made for a network. Refused: AFDX_NOT_HELD, AFDX_WRONG_HANDLE, AFDX_NO_NETWORK; then
-   nothing is written. */
+/* Writes the number of frames that the last poll made for a network. Refused: AFDX_NOT_HELD, AFDX_WRONG_HANDLE,
+   AFDX_NO_NETWORK, with nothing written. */
 uint8_t afdx_frames(afdx_end_system *it, uint8_t network, size_t *count);
 
-/* Copies frame k, from 0, that the last poll made for a network into a buffer, and writes how many bytes it has: at most
-   AFDX_GREATEST_FRAME. Nothing behind those is written. `length` doesn't lie in `buffer`. Refused: AFDX_NOT_HELD,
-   AFDX_WRONG_HANDLE, AFDX_NO_NETWORK, AFDX_NO_FRAME, AFDX_SMALL_BUFFER; then nothing is written. */
+/* Copies frame k, from 0, that the last poll made for a network into a buffer, and writes its length: at most
+   AFDX_GREATEST_FRAME. Nothing is written after those bytes. `length` doesn't lie in `buffer`. Refused:
+   AFDX_NOT_HELD, AFDX_WRONG_HANDLE, AFDX_NO_NETWORK, AFDX_NO_FRAME, AFDX_SMALL_BUFFER, with nothing written. */
 uint8_t afdx_frame(afdx_end_system *it, uint8_t network, size_t k, uint8_t *buffer, size_t size, size_t *length);
 
-/* Copies all frames that the last poll made for a network into a buffer, one behind the other and with nothing between
-   them, writes how many bytes each has into `lengths`, which has room for `room` of them, and how many they are. Frame k
-   begins behind the bytes of the k frames before it. Refused: AFDX_NOT_HELD, AFDX_WRONG_HANDLE, AFDX_NO_NETWORK; then
-   nothing is written; AFDX_SMALL_BUFFER: they have more bytes than `size`, or are more than `room`, and `count` alone is
-   written. AFDX_MOST_FRAMES * AFDX_GREATEST_FRAME bytes and AFDX_MOST_FRAMES lengths are always enough. */
+/* Copies all frames that the last poll made for a network into a buffer, one after the other without gaps, writes
+   their lengths into `lengths`, which has room for `room` of them, and their number. Frame k begins after the bytes
+   of the k frames before it. Refused: AFDX_NOT_HELD, AFDX_WRONG_HANDLE, AFDX_NO_NETWORK, with nothing written;
+   AFDX_SMALL_BUFFER: they have more bytes than `size`, or are more than `room`, and only `count` is written.
+   AFDX_MOST_FRAMES * AFDX_GREATEST_FRAME bytes and AFDX_MOST_FRAMES lengths are always enough. */
 uint8_t afdx_all_frames(afdx_end_system *it, uint8_t network, uint8_t *buffer, size_t size, size_t *lengths, size_t room,
                         size_t *count);
 
-/* A network failed: the next frame that is handed to it fails, and it is given up for good. Refused: AFDX_NOT_HELD,
+/* Makes a network fail: its next frame fails, and it gets none afterwards. Refused: AFDX_NOT_HELD,
    AFDX_WRONG_HANDLE, AFDX_NO_NETWORK. */
 uint8_t afdx_fail(afdx_end_system *it, uint8_t network);
 
-/* Closes a sub-VL: no message is accepted from then on; those that were still go out. Writes how many were accepted in
-   all; a later close writes the same. Refused: AFDX_NOT_HELD, AFDX_WRONG_HANDLE, AFDX_GATHERED, AFDX_NO_SUB; then nothing
-   is written. */
+/* Closes a sub-VL: no message is accepted from then on, and accepted ones are still transmitted. Writes the number
+   of accepted messages; a later close writes the same. Refused: AFDX_NOT_HELD, AFDX_WRONG_HANDLE, AFDX_GATHERED,
+   AFDX_NO_SUB, with nothing written. */
 uint8_t afdx_close(afdx_end_system *it, uint16_t vl, uint8_t sub, uint64_t *total);
 
-/* What was sent of a virtual link so far. Refused: AFDX_NOT_HELD, AFDX_WRONG_HANDLE, AFDX_NO_LINK; then nothing is
+/* Writes the counts of a virtual link so far. Refused: AFDX_NOT_HELD, AFDX_WRONG_HANDLE, AFDX_NO_LINK, with nothing
    written. */
 uint8_t afdx_link_counts(afdx_end_system *it, uint16_t vl, afdx_counts *counts);
 
-/* Gives a port back to the end system that it was taken from. It can be taken again. Its handle holds nothing then. It asks
-   for no memory. Refused: AFDX_NOT_HELD, AFDX_WRONG_HANDLE (of either), AFDX_GATHERED, AFDX_NO_PORT: it isn't one
-   of this end system's, and stays as it was; also where the end system that it was taken from was freed. */
+/* Gives a port back to the end system that it was taken from. It can be taken again. Its handle is empty then.
+   Allocates nothing. Refused: AFDX_NOT_HELD, AFDX_WRONG_HANDLE (of either), AFDX_GATHERED, AFDX_NO_PORT: it isn't of
+   this end system, also if the end system that it was taken from was freed; the port is unchanged. */
 uint8_t afdx_give_back(afdx_end_system *it, afdx_port *port);
 
-/* Gathers the ports, all of which were given back or never taken: what they had accepted is known whole, and each later
-   poll sends what is left of it. Refused: AFDX_NOT_HELD, AFDX_WRONG_HANDLE, AFDX_GATHERED, AFDX_PORT_MISSING. */
+/* Gathers the ports, each of which was given back or never taken. Their accepted messages are then known whole, and
+   later polls transmit what is left. Refused: AFDX_NOT_HELD, AFDX_WRONG_HANDLE, AFDX_GATHERED, AFDX_PORT_MISSING. */
 uint8_t afdx_gather(afdx_end_system *it);
 
-/* Whether every fragment of every accepted message was taken by at least one network: writes 1 or 0. Once a frame was
+/* Writes 1 if at least one network accepted each fragment of each accepted message, otherwise 0. After a frame was
    lost with the last network that carries its link it stays 0. Refused: AFDX_NOT_HELD, AFDX_WRONG_HANDLE,
-   AFDX_NOT_GATHERED; then nothing is written. */
+   AFDX_NOT_GATHERED, with nothing written. */
 uint8_t afdx_is_done(afdx_end_system *it, uint8_t *done);
 
-/* Gives back what belongs to an end system; its handle holds nothing then. Ports that are out stay usable: their sends
-   are accepted up to the room that is left, and then AFDX_FULL. Refused: AFDX_NOT_HELD, AFDX_WRONG_HANDLE. */
+/* Frees an end system; its handle is empty then. Ports that are out stay usable: their sends are accepted up to the
+   room that is left, and then AFDX_FULL. Refused: AFDX_NOT_HELD, AFDX_WRONG_HANDLE. */
 uint8_t afdx_free(afdx_end_system *it);
 
-/* Gives back what belongs to a port; its handle holds nothing then. What it sent still goes out, but the end system can't
-   be gathered any more. Refused: AFDX_NOT_HELD, AFDX_WRONG_HANDLE. */
+/* Frees a port; its handle is empty then. Its accepted messages are still transmitted, but the end system can't be
+   gathered any more. Refused: AFDX_NOT_HELD, AFDX_WRONG_HANDLE. */
 uint8_t afdx_free_port(afdx_port *port);
 
-/* The calls, by how their least numbers read: those of afdx_open, afdx_send and afdx_poll mean faults of their own. */
+/* The calls, by the meaning of their least numbers: those of afdx_open, afdx_send and afdx_poll are faults of their
+   own. */
 typedef enum { AFDX_CALL_OPEN, AFDX_CALL_SEND, AFDX_CALL_POLL, AFDX_CALL_OTHER } afdx_call;
 
 /* AFDX_VERSION. */
 static inline const char *afdx_version(void) { return AFDX_VERSION; }
 
-/* The name above of an answer of a call, as "AFDX_FULL" of 5 and AFDX_CALL_SEND, or "unknown answer". */
+/* The name above of a number that a call returned, as "AFDX_FULL" of 5 and AFDX_CALL_SEND, or "unknown answer". */
 static inline const char *afdx_answer_name(afdx_call call, uint8_t answer) {
     static const char *const of_open[] = {
         "AFDX_CONFIG_TOML", "AFDX_CONFIG_MISSING_KEY", "AFDX_CONFIG_UNKNOWN_KEY", "AFDX_CONFIG_WRONG_KIND",

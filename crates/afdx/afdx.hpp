@@ -6,10 +6,10 @@
        it.poll(now);
        it.each_frame(afdx::Network::A, [](const std::uint8_t *frame, std::size_t length) { ... });
 
-   An end system and a port are moved and never copied, and free what they hold when they end. One call at a time uses an
-   object, so no call is const; a port may be moved into a thread of its own. Times are in microseconds and don't go back.
-   afdx.h says of each call what it does and when it is refused; an answer other than AFDX_OK is an exception here. A
-   program that is compiled without exceptions uses afdx.h. */
+   An end system and a port are moved and never copied, and their destructors free what they hold. One call at a time
+   uses an object, so no call is const; a port may be moved into a thread of its own. Times are in microseconds and
+   don't go back. afdx.h states what each call does and when it is refused. A number other than AFDX_OK is an
+   exception here; a program that is compiled without exceptions uses afdx.h. */
 #ifndef AFDX_HPP
 #define AFDX_HPP
 
@@ -70,7 +70,7 @@ enum class MisuseFault : std::uint8_t {
     NotGathered = AFDX_NOT_GATHERED
 };
 
-/* An answer other than AFDX_OK. `what` is its name in afdx.h. */
+/* A number other than AFDX_OK. `what` is its name in afdx.h. */
 class Error : public std::runtime_error {
 public:
     Error(afdx_call call, std::uint8_t answer) : std::runtime_error(afdx_answer_name(call, answer)), answer_(answer) {}
@@ -99,7 +99,7 @@ struct OutOfMemory : Error { using Error::Error; };
 
 namespace detail {
 
-/* Throws what an answer of a call means, if it isn't AFDX_OK. */
+/* Throws the exception of a number that a call returned, if it isn't AFDX_OK. */
 inline void want(std::uint8_t answer, afdx_call call = AFDX_CALL_OTHER) {
     if (answer == AFDX_OK) return;
     if (answer == AFDX_MEMORY) throw OutOfMemory(call, answer);
@@ -121,7 +121,7 @@ struct Free {
     }
 };
 
-/* A handle of afdx.h, which stays where it is when its object is moved. */
+/* A handle of afdx.h, which keeps its address when its object is moved. */
 template <typename Kind> class Handle {
 public:
     Handle() : at_(new Kind()) {}
@@ -136,8 +136,8 @@ private:
 
 } // namespace detail
 
-/* Explains a configuration that is refused: all of its faults, each with its place, in lines; "no faults" if there is
-   none. Throws OutOfMemory. */
+/* Explains a refused configuration: all of its faults, each with its place, in lines; "no faults" if there is none.
+   Throws OutOfMemory. */
 inline std::string explain(const std::string &text) {
     const auto *bytes = reinterpret_cast<const std::uint8_t *>(text.data());
     std::size_t length = 0;
@@ -151,8 +151,8 @@ inline std::string explain(const std::string &text) {
     return told;
 }
 
-/* A port of an end system. What it accepted is still transmitted after it is freed, but its end system can't gather then:
-   give it back instead. */
+/* A port of an end system. Its accepted messages are still transmitted after it is freed, but its end system can't
+   gather then: give it back instead. */
 class Port {
 public:
     /* Copies a message in. Throws SendError (of Full: poll, and try again) or OutOfMemory. */
@@ -160,18 +160,18 @@ public:
         detail::want(try_send(message, length), AFDX_CALL_SEND);
     }
 
-    /* The same of a vector, string, array or span of bytes. */
+    /* The same for a vector, string, array or span of bytes. */
     template <typename Bytes> void send(const Bytes &message) {
         static_assert(sizeof *message.data() == 1, "a message is bytes");
         send(reinterpret_cast<const std::uint8_t *>(message.data()), message.size());
     }
 
-    /* The same with the answer of afdx_send in place of its exceptions. */
+    /* The same, but returns the number of afdx_send instead of throwing. */
     std::uint8_t try_send(const std::uint8_t *message, std::size_t length) {
         return afdx_send(handle_.get(), message, length);
     }
 
-    /* How many messages were accepted. */
+    /* The number of accepted messages. */
     std::uint64_t accepted() {
         std::uint64_t count = 0;
         detail::want(afdx_accepted(handle_.get(), &count));
@@ -212,7 +212,7 @@ public:
         return {(up & AFDX_A_STANDS) != 0, (up & AFDX_B_STANDS) != 0};
     }
 
-    /* How many frames the last poll made for a network. */
+    /* The number of frames that the last poll made for a network. */
     std::size_t frames(Network network) {
         std::size_t count = 0;
         detail::want(afdx_frames(handle_.get(), static_cast<std::uint8_t>(network), &count));
@@ -226,8 +226,8 @@ public:
         return length;
     }
 
-    /* Copies all frames of the last poll into a buffer, one behind the other, and their lengths, and returns how many they
-       are. Throws Misuse (SmallBuffer: there is room for fewer). */
+    /* Copies all frames of the last poll into a buffer, one after the other, and their lengths, and returns their
+       number. Throws Misuse (SmallBuffer: there is room for fewer). */
     std::size_t all_frames(Network network, std::uint8_t *buffer, std::size_t size, std::size_t *lengths, std::size_t room) {
         std::size_t count = 0;
         detail::want(afdx_all_frames(handle_.get(), static_cast<std::uint8_t>(network), buffer, size, lengths, room, &count));
@@ -244,7 +244,7 @@ public:
         }
     }
 
-    /* The first time after that of the last poll at which a virtual link becomes due that wasn't then, or AFDX_NEVER: a
+    /* The first time after the last poll at which a virtual link becomes due that wasn't due then, or AFDX_NEVER: a
        poller may sleep until it, or until a port has sent. */
     std::uint64_t next_due() {
         std::uint64_t at = 0;
@@ -258,31 +258,31 @@ public:
     /* The identifiers of all virtual links, in the order of the configuration. */
     std::vector<std::uint16_t> links() { return listed(afdx_links); }
 
-    /* A network failed: its next frame fails, and it gets none after that. */
+    /* Makes a network fail: its next frame fails, and it gets none afterwards. */
     void fail(Network network) { detail::want(afdx_fail(handle_.get(), static_cast<std::uint8_t>(network))); }
 
-    /* Closes a sub-VL, and returns how many messages it accepted. Throws Misuse (NoSub, Gathered). */
+    /* Closes a sub-VL, and returns the number of its accepted messages. Throws Misuse (NoSub, Gathered). */
     std::uint64_t close(std::uint16_t vl, std::uint8_t sub) {
         std::uint64_t total = 0;
         detail::want(afdx_close(handle_.get(), vl, sub, &total));
         return total;
     }
 
-    /* What was sent of a virtual link. Throws Misuse (NoLink). */
+    /* The counts of a virtual link. Throws Misuse (NoLink). */
     afdx_counts counts(std::uint16_t vl) {
         afdx_counts counts = afdx_counts();
         detail::want(afdx_link_counts(handle_.get(), vl, &counts));
         return counts;
     }
 
-    /* Takes a port back that came from this end system; it holds nothing then. Throws Misuse (Gathered, NoPort), and the
-       port stays as it is. */
+    /* Takes back a port of this end system, which is empty then. Throws Misuse (Gathered, NoPort), and the port is
+       unchanged. */
     void give_back(Port &&port) { detail::want(afdx_give_back(handle_.get(), port.handle_.get())); }
 
-    /* Has each later poll send what is left. Throws Misuse (PortMissing while a port is out, Gathered). */
+    /* Makes each later poll transmit what is left. Throws Misuse (PortMissing while a port is out, Gathered). */
     void gather() { detail::want(afdx_gather(handle_.get())); }
 
-    /* Whether all that was accepted has been transmitted. Throws Misuse (NotGathered). */
+    /* Whether all accepted messages were transmitted. Throws Misuse (NotGathered). */
     bool is_done() {
         std::uint8_t done = 0;
         detail::want(afdx_is_done(handle_.get(), &done));

@@ -1,4 +1,4 @@
-//! What C calls, as `afdx.h` tells it. Each call takes what a handle owns out of it, and puts it back.
+//! The calls of `afdx.h`. Each takes the content out of a handle, and puts it back.
 ghost use Rattle.std.specs.Prelude.{◌≡◌, ◌≢◌, ◌⊎◌, ◌↔◌, ◌<◌, ◌≤◌, ◌++◌, [], ◌∷◌, ℕ, None, Some, IsSome, IsNone, IsSomeAnd, IsTrue, true, false, length, drop, position};
 ghost use Rattle.redundant_mux.specs.Lines.{is_alive};
 ghost use Rattle.afdx_config.specs.Faults.{IsLeastFault};
@@ -29,7 +29,7 @@ use afdx_handle::{
 };
 use std::alloc::Global;
 
-// The answer of `$answer` over the end system that a handle holds. The box is taken out meanwhile.
+// The answer of `$answer` over the end system in a handle. The box is taken out meanwhile.
 macro_rules! with_end {
     ($handle:expr, $held:ident => $answer:expr) => {{
         let Some(mut home) = $handle.take() else {
@@ -48,7 +48,7 @@ macro_rules! with_end {
     }};
 }
 
-// The answer of `$answer` over the port that a handle holds. The box is taken out meanwhile.
+// The answer of `$answer` over the port in a handle. The box is taken out meanwhile.
 macro_rules! with_port {
     ($handle:expr, $held:ident => $answer:expr) => {{
         let Some(mut home) = $handle.take() else {
@@ -93,8 +93,8 @@ pub extern "C" fn afdx_open(alloc: Global, out: &mut Opening, text: &[u8]) -> u8
     }
 }
 
-/// Explains the faults of a configuration's text: writes as much of the explanation as there is room for, and
-/// how many bytes it has.
+/// Explains the faults of a configuration's text: writes as much of the explanation as fits, and
+/// its length.
 #[unsafe(no_mangle)]
 pub extern "C" fn afdx_explain(
     alloc: Global,
@@ -147,7 +147,7 @@ pub extern "C" fn afdx_port_of(alloc: Global, it: &mut Marked, id: u16, out: &mu
     })
 }
 
-/// Writes the identifiers of the ports, in the order of the configuration, and how many they are.
+/// Writes the identifiers of the ports, in the order of the configuration, and their number.
 #[unsafe(no_mangle)]
 pub extern "C" fn afdx_ports(it: &mut Handle, ids: &mut [u16], count: &mut usize) -> u8
     ensures answers { IsOneOf result (DONE ∷ NOT_HELD ∷ WRONG_HANDLE ∷ SMALL_BUFFER ∷ []) }
@@ -166,7 +166,7 @@ pub extern "C" fn afdx_ports(it: &mut Handle, ids: &mut [u16], count: &mut usize
     with_end!(it, end_system => end_system.port_ids(ids, count))
 }
 
-/// Writes the identifiers of the links, in the order of the configuration, and how many they are.
+/// Writes the identifiers of the links, in the order of the configuration, and their number.
 #[unsafe(no_mangle)]
 pub extern "C" fn afdx_links(it: &mut Handle, ids: &mut [u16], count: &mut usize) -> u8
     ensures answers { IsOneOf result (DONE ∷ NOT_HELD ∷ WRONG_HANDLE ∷ SMALL_BUFFER ∷ []) }
@@ -201,7 +201,7 @@ pub extern "C" fn afdx_send(alloc: Global, port: &mut Handle, message: &[u8]) ->
     with_port!(port, own => send(alloc, own, message))
 }
 
-/// How many messages of a port were accepted.
+/// Writes the number of a port's accepted messages.
 #[unsafe(no_mangle)]
 pub extern "C" fn afdx_accepted(port: &mut Handle, count: &mut u64) -> u8
     ensures answers { IsOneOf result (DONE ∷ NOT_HELD ∷ WRONG_HANDLE ∷ []) }
@@ -218,7 +218,7 @@ pub extern "C" fn afdx_accepted(port: &mut Handle, count: &mut u64) -> u8
     })
 }
 
-/// Gives each virtual link its turn at a moment in microseconds, and tells which networks stand.
+/// Gives each virtual link its turn at `now`, in microseconds, and writes which networks are up.
 #[unsafe(no_mangle)]
 pub extern "C" fn afdx_poll(it: &mut Handle, now: u64, standing: &mut u8) -> u8
     ensures answers { IsOneOf result (DONE ∷ NOT_HELD ∷ WRONG_HANDLE ∷ TIME_BACK ∷ BOTH_DOWN ∷ []) }
@@ -238,7 +238,7 @@ pub extern "C" fn afdx_poll(it: &mut Handle, now: u64, standing: &mut u8) -> u8
     with_end!(it, end_system => end_system.poll(now, standing))
 }
 
-/// The first moment after that of the last poll at which a link may release a frame that might not then.
+/// Writes the first time after the last poll at which a link may release a frame and couldn't then.
 #[unsafe(no_mangle)]
 pub extern "C" fn afdx_next_due(it: &mut Handle, at: &mut u64) -> u8
     ensures answers { IsOneOf result (DONE ∷ NOT_HELD ∷ WRONG_HANDLE ∷ []) }
@@ -254,7 +254,7 @@ pub extern "C" fn afdx_next_due(it: &mut Handle, at: &mut u64) -> u8
     })
 }
 
-/// How many frames the last poll made for a network.
+/// Writes the number of frames that the last poll made for a network.
 #[unsafe(no_mangle)]
 pub extern "C" fn afdx_frames(it: &mut Handle, network: u8, count: &mut usize) -> u8
     ensures answers { IsOneOf result (DONE ∷ NOT_HELD ∷ WRONG_HANDLE ∷ NO_NETWORK ∷ []) }
@@ -276,8 +276,8 @@ pub extern "C" fn afdx_frames(it: &mut Handle, network: u8, count: &mut usize) -
     })
 }
 
-/// Copies frame `k`, from 0, that the last poll made for a network into a buffer, and writes how many
-/// bytes it has.
+/// Copies frame `k`, from 0, that the last poll made for a network into a buffer, and writes its
+/// length.
 #[unsafe(no_mangle)]
 pub extern "C" fn afdx_frame(
     it: &mut Handle,
@@ -311,8 +311,8 @@ pub extern "C" fn afdx_frame(
     })
 }
 
-/// Copies all frames that the last poll made for a network into a buffer, one behind the other, and writes
-/// how many bytes each has and how many they are.
+/// Copies all frames that the last poll made for a network into a buffer, one after the other, and
+/// writes their lengths and their number.
 #[unsafe(no_mangle)]
 pub extern "C" fn afdx_all_frames(
     it: &mut Handle,
@@ -349,7 +349,7 @@ pub extern "C" fn afdx_all_frames(
     })
 }
 
-/// Makes a network fail at the next frame that is handed to it.
+/// Makes a network fail at its next frame.
 #[unsafe(no_mangle)]
 pub extern "C" fn afdx_fail(it: &mut Handle, network: u8) -> u8
     ensures answers { IsOneOf result (DONE ∷ NOT_HELD ∷ WRONG_HANDLE ∷ NO_NETWORK ∷ []) }
@@ -368,7 +368,7 @@ pub extern "C" fn afdx_fail(it: &mut Handle, network: u8) -> u8
     })
 }
 
-/// Closes a sub-VL, and writes how many messages were accepted in all.
+/// Closes a sub-VL, and writes the number of accepted messages.
 #[unsafe(no_mangle)]
 pub extern "C" fn afdx_close(it: &mut Handle, vl: u16, sub: u8, total: &mut u64) -> u8
     ensures answers { IsOneOf result (DONE ∷ NOT_HELD ∷ WRONG_HANDLE ∷ GATHERED ∷ NO_SUB ∷ []) }
@@ -386,7 +386,7 @@ pub extern "C" fn afdx_close(it: &mut Handle, vl: u16, sub: u8, total: &mut u64)
     with_end!(it, end_system => end_system.close(vl, sub, total))
 }
 
-/// What was sent of a virtual link so far.
+/// Writes the counts of a virtual link.
 #[unsafe(no_mangle)]
 pub extern "C" fn afdx_link_counts(it: &mut Handle, vl: u16, counts: &mut LinkCounts) -> u8
     ensures answers { IsOneOf result (DONE ∷ NOT_HELD ∷ WRONG_HANDLE ∷ NO_LINK ∷ []) }
@@ -413,7 +413,7 @@ pub extern "C" fn afdx_link_counts(it: &mut Handle, vl: u16, counts: &mut LinkCo
     })
 }
 
-/// Whether every fragment of every accepted message was taken by at least one network: writes 1 or 0.
+/// Writes 1 if at least one network accepted each fragment of each accepted message, otherwise 0.
 #[unsafe(no_mangle)]
 pub extern "C" fn afdx_is_done(it: &mut Handle, done: &mut u8) -> u8
     ensures answers { IsOneOf result (DONE ∷ NOT_HELD ∷ WRONG_HANDLE ∷ NOT_GATHERED ∷ []) }
@@ -430,7 +430,7 @@ pub extern "C" fn afdx_is_done(it: &mut Handle, done: &mut u8) -> u8
     with_end!(it, end_system => end_system.is_done(done))
 }
 
-/// Gives back what belongs to an end system.
+/// Frees an end system.
 #[unsafe(no_mangle)]
 pub extern "C" fn afdx_free(it: &mut Handle) -> u8
     ensures answers { IsOneOf result (DONE ∷ NOT_HELD ∷ WRONG_HANDLE ∷ []) }
@@ -446,7 +446,7 @@ pub extern "C" fn afdx_free(it: &mut Handle) -> u8
     answer
 }
 
-/// Gives back what belongs to a port.
+/// Frees a port.
 #[unsafe(no_mangle)]
 pub extern "C" fn afdx_free_port(port: &mut Handle) -> u8
     ensures answers { IsOneOf result (DONE ∷ NOT_HELD ∷ WRONG_HANDLE ∷ []) }
@@ -462,11 +462,11 @@ pub extern "C" fn afdx_free_port(port: &mut Handle) -> u8
     answer
 }
 
-/// Gives a port back to the end system that it was taken from. Its handle holds nothing then.
+/// Returns a port to the end system that it was taken from. Its handle is empty then.
 #[unsafe(no_mangle)]
 pub extern "C" fn afdx_give_back(it: &mut Marked, port: &mut Marked) -> u8
-    // Two handles with one mark are of one end system: a mark is the address of a block that the end system
-    // and each of its ports own.
+    // Two handles with the same mark are of the same end system: a mark is the address of a block
+    // that the end system and each of its ports own.
     requires own { (end : EndView) → (own : PortView) → end_of it.old.handle.kept.home ≡ Some end
         → port_of port.old.handle.kept.home ≡ Some own → it.old.mark ≡ port.old.mark
         → end.gathered ≡ false → IsPortOfTx end.tx own }
@@ -506,7 +506,7 @@ pub extern "C" fn afdx_give_back(it: &mut Marked, port: &mut Marked) -> u8
     answer
 }
 
-/// Gathers the ports, all of which are here.
+/// Gathers the ports, all of which are in the end system.
 #[unsafe(no_mangle)]
 pub extern "C" fn afdx_gather(alloc: Global, it: &mut Handle) -> u8
     ensures answers { IsOneOf result

@@ -1,4 +1,4 @@
-//! The proved transmitting AFDX end system, for C: the library behind `afdx.h`.
+//! The proved transmitting AFDX end system, for C: the library of `afdx.h`.
 #![tactic(auto)]
 
 mod calls;

@@ -1,5 +1,5 @@
 -- The seal and its parts own what a box at the same types owns.
---     held_of     what an `Option` holds, where it holds something
+--     held_of     what an `Option` holds, if it holds something
 use Rattle.afdx_handle.proofs.Names.{impl, tnil, dnil, [], Slot, plain, Option, None, IsSome, false≢true, refl, Bx}
 use Rattle.std.specs.Prelude.{◌≡◌, Some}
 use Rattle.std_heap.specs.contracts.GlobalAllocator.TheImpl.{ghosts, dict}

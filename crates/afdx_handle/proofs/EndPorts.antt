@@ -1,4 +1,4 @@
--- The ports that are here stay those of their emitter.
+-- The ports in an end system are those of its emitter.
 use Rattle.afdx_handle.proofs.Names.{ℕ, ◌≡◌, length, sym, subst, Some, true, false, eqb-true, All-push, All-head}
 use Rattle.afdx_handle.proofs.Names.{All, IsPermutation, get_or, swap_remove, Tx, PortView, IsPortOfTx, LacksPlace}
 use Rattle.afdx_handle.proofs.Names.{IsGatheredTx, EndView, has_id, IsEndSystem, TakesPort}
@@ -7,13 +7,13 @@ use Rattle.std.proofs.lemmas.List.Quantifiers.{position-Some}
 use Rattle.std.proofs.lemmas.List.Sorted.{All-permutation, IsPermutation-swap_remove}
 use Rattle.std.specs.Prelude.{position}
 
--- none of the ports that are gathered is missing
+-- If no port is missing, gathering has all of them.
 pub gathered_whole : (it : EndView) (new : Tx) → IsGatheredTx it.tx it.ports new → LacksPlace (length it.tx.plan.ports) it.ports → ⊥
 gathered_whole it new gathered lacks =
     let own = gathered.own lacks.0 lacks.1 in
     lacks.2 (record { port = own.port; inside = own.inside; at = own.at })
 
--- one port more
+-- One port more.
 pub gives_kept : (it : EndView) (new : List PortView) (room : ℕ) (port : PortView) → IsEndSystem it
     → (it.gathered ≡ false → IsPortOfTx it.tx port) → new ≡ it.ports ++ port ∷ []
     → IsEndSystem (record it { ports = new; room = room })
@@ -25,7 +25,7 @@ gives_kept it new room port kept own is = record {
   few_b = kept.few_b;
 }
 
--- the port that is taken out is one of the emitter's
+-- A port that is taken out is one of the emitter's.
 pub taken : (it : EndView) (left : List PortView) (id at : ℕ) (port : PortView) → IsEndSystem it
     → position (has_id id) it.ports ≡ Some at → port ≡ get_or it.ports at port → left ≡ swap_remove it.ports at port
     → TakesPort it id port (record it { ports = left })

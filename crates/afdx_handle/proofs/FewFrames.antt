@@ -25,7 +25,7 @@ use Rattle.afdx_tx.specs.Report.{release_of}
 use Rattle.afdx_tx.specs.Run.{IsTurnAt}
 use Rattle.afdx_tx.specs.declared.report.Report.{Report}
 
--- how many of these a network gets
+-- the number of these entries that a network gets
 many_for : Net → List Logged → ℕ
 many_for net logged = length (filter (λ (l : Logged). names net l.networks) logged)
 
@@ -40,7 +40,7 @@ unfolding many_for
 many_most net logged =
     omega (arith, length-filter_both (λ (l : Logged). names net l.networks) (λ (l : Logged). not (names net l.networks)) (λ l. refl) logged)
 
--- a network gets at most what is logged more
+-- a network gets at most as many frames as were logged
 abbrev GetsWithin : Net → (before after : Lines) → Type 0
 GetsWithin net before after = many_for net after.logged + length before.logged ≤ many_for net before.logged + length after.logged
 
@@ -71,7 +71,7 @@ run_within net true now old new run =
     turn_within net now link (pace_in link (log before))
     (accepted_view old.plan.end_system link (accepted_in old.links i) (log before)) before behind did t) run
 
--- of what was logged a network got all but what it missed
+-- A network has all of the log apart from what it missed.
 kept_parts : (net : Net) (stands : Bool) (handed : List Entry) (logged : List Logged) (k : Keeps net stands handed logged)
     → many_for net logged ≡ length handed + many_for net k.missed
 unfolding many_for
@@ -81,7 +81,7 @@ kept_parts net stands handed logged k =
     ap length k.got ∙ length-map (entries_of seen) (side net) ∙ length-map seen (λ (l : Logged). l.entry) in
     ap (many_for net) k.whole ∙ many_on net k.seen k.missed ∙ ap (λ n. n + many_for net k.missed) (sym got)
 
--- a network that isn't down already gets at most what was logged more
+-- A network that was up gets at most as many frames as were logged.
 few_for : (net : Net) (stood stands : Bool) (old new : List Entry) (f g : ℕ) (before after : List Logged) (most : ℕ)
     → Keeps net stood old before → Keeps net stands new after → Endures stood stands old new f g
     → many_for net after ≤ many_for net before + most → length new ≤ length old + most
@@ -93,7 +93,7 @@ few_for net stood stands old new f g before after most keeps kept endures grown 
       omega (arith, kept_parts net stood old before keeps, kept_parts net stands new after kept)
 ]
 
--- as many more were logged as were reported
+-- As many entries were logged as were reported.
 logged_more : (before after : Lines) (entries : List Entry) → log after ≡ log before ++ entries
     → length after.logged ≡ length before.logged + length entries
 unfolding log
@@ -106,7 +106,7 @@ logged_more before after entries told =
       length-map after.logged (λ (l : Logged). l.entry),
     )
 
--- the ports that are here stay the emitter's
+-- The ports in the end system are still the emitter's.
 still_own : (gathered : Bool) (now : ℕ) (old new : Tx) (report : Report) (ports : List PortView)
     → PollsTx gathered now old report new → (gathered ≡ false → AreOpenedWith old ports) → gathered ≡ false → AreOpenedWith new ports
 still_own true now old new report ports polls own sending = absurd (let no : true ≡ false = sending in cc)
@@ -114,7 +114,7 @@ still_own false now old new report ports polls own sending =
     subst (λ (plan : Plan). All (BelongsTo plan (queues_in new.links)) ports) (sym polls.plan)
     (subst (λ (queues : List (List (Option QueueName))). All (BelongsTo old.plan queues) ports) (sym polls.messages.queues) (own refl))
 
--- an end system that was polled keeps what each keeps
+-- A polled end system keeps its invariant.
 pub poll_keeps : (old : EndView) (new : Tx) (a b now : ℕ) (report : Report) → IsEndSystem old
     → PollsTx old.gathered now old.tx report new → length report.released.items ≤ 64
     → a ≡ length old.tx.lines.a → b ≡ length old.tx.lines.b

@@ -1,11 +1,11 @@
--- A list is written from its front on, one element or one part after the other.
+-- A list written from its front on, by one element or one part at a time.
 use Rattle.afdx_handle.proofs.Names.{ℕ, ◌≡◌, ◌≤◌, ◌+◌, ◌∙◌, length, suc, sym, ap, arith}
 use Rattle.std.proofs.Common.{List, [], ◌∷◌, ◌++◌, ◌<◌, set, take, drop, map, append_assoc, drop-cons, length-append, length-take-le, get_or}
 use Rattle.std.proofs.lemmas.List.{length-map, map_more, drop-drop}
 use Rattle.std.proofs.Math.Seq.{drop-append-add, set-append_seam, take-append_seam}
 use Rattle.afdx_handle.specs.Listing.{with_front}
 
--- one element more is written
+-- One element more.
 pub set_front : {X : Type 0} (front old : List X) (k : ℕ) (x : X) → length front ≡ k → k < length old
     → set (with_front front old) k x ≡ with_front (front ++ x ∷ []) old
 set_front {X} front old k x is within =
@@ -17,7 +17,7 @@ set_front {X} front old k x is within =
     ∙ sym (append_assoc front (x ∷ []) (drop (suc (length front)) old))
     ∙ ap (λ (n : ℕ). front ++ x ∷ [] ++ drop n old) (sym long)
 
--- the image of one element more is written
+-- The image of one element more.
 pub set_map : {X Y : Type 0} (f : X → Y) (xs : List X) (old ys : List Y) (k : ℕ) (d : X) → k < length xs → length xs ≤ length old
     → ys ≡ with_front (map f (take k xs)) old → set ys k (f (get_or xs k d)) ≡ with_front (map f (take (k + 1) xs)) old
 set_map f xs old ys k d within few is =
@@ -25,7 +25,7 @@ set_map f xs old ys k d within few is =
     ∙ set_front (map f (take k xs)) old k (f (get_or xs k d)) (length-map (take k xs) f ∙ length-take-le k xs (omega (arith, within))) (omega (arith, within, few))
     ∙ ap (λ zs. with_front zs old) (sym (map_more f xs k d within))
 
--- one part more is written
+-- One part more.
 pub put_front : (front part old : List ℕ) (at : ℕ) → length front ≡ at
     → take at (with_front front old) ++ part ++ drop (at + length part) (with_front front old) ≡ with_front (front ++ part) old
 put_front front part old at is =

@@ -9,11 +9,11 @@ use Rattle.afdx_frame.specs.declared.net.Net.{Net}
 use Rattle.afdx_handle.specs.EndSystem.{made_at}
 use Rattle.afdx_handle.specs.Listing.{first_made, bytes_of, lengths_of}
 
--- one frame more
+-- One frame more.
 pub first_more : (net : Net) (k : ℕ) (it : EndView) → first_made net (k + 1) it ≡ first_made net k it ++ made_at net k it ∷ []
 first_more net k it = map-range_with_len_more (λ (n : ℕ). made_at net n it) 0 k k (omega arith)
 
--- its bytes come behind those of the others
+-- Its bytes follow those of the others.
 pub concat_more : (net : Net) (k : ℕ) (it : EndView) → concat (first_made net (k + 1) it) ≡ concat (first_made net k it) ++ made_at net k it
 concat_more net k it =
     ap concat (first_more net k it) ∙ concat-append (first_made net k it) (made_at net k it ∷ [])
@@ -30,7 +30,7 @@ pub count_made : (net : Net) (k : ℕ) (it : EndView) → length (lengths_of (fi
 count_made net k it =
     length-map (first_made net k it) (λ (frame : List ℕ). length frame) ∙ length-map-range_with_len (λ (n : ℕ). made_at net n it) 0 k
 
--- the first frames have at most as many bytes as more of them
+-- The first frames have at most as many bytes as more of them.
 pub bytes_rise : (net : Net) (k more : ℕ) (it : EndView) → bytes_of (first_made net k it) ≤ bytes_of (first_made net (k + more) it)
 bytes_rise net k zero it =
     let none : k + zero ≡ k = omega arith in

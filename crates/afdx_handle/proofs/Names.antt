@@ -1,4 +1,4 @@
--- The names of other crates, and of this one's definitions, that the proofs here use.
+-- Names of other crates, and of this crate's definitions, for the proofs here.
 pub use Rattle.std.proofs.Common.{Bool, Some, ap, arith, false, inl, inr, length, position, rules, subst, suc, sym}
 pub use Rattle.std.proofs.Common.{true, vec_capacity, zero, ℕ, ◌+◌, ◌∙◌, ◌≡◌, ◌≤◌}
 pub use Rattle.std.proofs.lemmas.Bool.{cases_Bool, eqb-true, false≢true}

@@ -1,4 +1,4 @@
--- What contracts see of an end system, and what each of its calls does.
+-- An end system as contracts see it, and the effect of each of its calls.
 use Rattle.std.specs.Prelude.{ℕ, ◌≡◌, ◌≤◌, ◌+◌, ◌-◌, List, [], ◌∷◌, ◌++◌, length, Bool, true, false, nat_eq, IsPermutation}
 use Rattle.afdx_frame.specs.declared.net.Net.{Net}
 use Rattle.afdx_frame.specs.declared.net.Net.TheVariants.{A, B}
@@ -16,8 +16,8 @@ use Rattle.afdx_tx.specs.declared.report.Report.{Report}
 use Rattle.afdx_handle.specs.Numbers.{line_of}
 use Rattle.afdx_handle.specs.Polling.{PollsTx}
 
--- An end system: whether its ports are gathered, its emitter, the ports that are here and room for how many, and how
--- many frames each network was handed before the last poll.
+-- An end system: whether its ports are gathered, its emitter, the ports in it and the capacity of
+-- their list, and the number of frames that each network had accepted before the last poll.
 pub record EndView : Type 0 where
   pub gathered : Bool
   pub tx : Tx
@@ -37,12 +37,12 @@ end_view gathered tx ports room a_before b_before = record {
   b_before = b_before;
 }
 
--- how many frames a network was handed before the last poll
+-- the number of frames that a network had accepted before the last poll
 abbrev pub before_of : Net → EndView → ℕ
 before_of A it = it.a_before
 before_of B it = it.b_before
 
--- how many frames the last poll made for a network
+-- the number of frames that the last poll made for a network
 abbrev pub made_for : Net → EndView → ℕ
 made_for net it = length (line_of net it.tx.lines) - before_of net it
 
@@ -50,19 +50,19 @@ made_for net it = length (line_of net it.tx.lines) - before_of net it
 abbrev pub made_at : Net → ℕ → EndView → List ℕ
 made_at net k it = (entry_at (line_of net it.tx.lines) (before_of net it + k)).frame
 
--- every fragment of every accepted message was taken by at least one network
+-- at least one network accepted each fragment of each accepted message
 abbrev pub IsAllSent : EndView → Type 0
 IsAllSent it = IsAllDone it.tx.plan (accepted_in it.tx.links) (log it.tx.lines)
 
--- what every end system keeps: the ports that are here are its emitter's, and a poll makes at most 64 frames for a
--- network
+-- the invariant of an end system: its ports are its emitter's, and a poll makes at most 64 frames
+-- for a network
 pub record IsEndSystem (it : EndView) : Type 0 where
   pub mirrored : IsMirrored it.tx.lines
   pub own : it.gathered ≡ false → AreOpenedWith it.tx it.ports
   pub few_a : length it.tx.lines.a ≤ it.a_before + 64
   pub few_b : length it.tx.lines.b ≤ it.b_before + 64
 
--- A poll: the frames that it makes for a network are those behind the ones that were handed over before.
+-- A poll: the frames that it makes for a network are those after the frames accepted before.
 pub record PollsEnd (now : ℕ) (old new : EndView) : Type 0 where
   pub report : Report
   pub polls : PollsTx old.gathered now old.tx report new.tx
@@ -72,34 +72,35 @@ pub record PollsEnd (now : ℕ) (old new : EndView) : Type 0 where
   pub a_before : new.a_before ≡ length old.tx.lines.a
   pub b_before : new.b_before ≡ length old.tx.lines.b
 
--- an end system but for its emitter, of which a sub-VL is closed with this total
+-- an end system one of whose sub-VLs is closed with this total; all else is unchanged
 pub record ClosesEnd (old : EndView) (vl sub total : ℕ) (new : EndView) : Type 0 where
   pub same : new ≡ record old { tx = new.tx }
   pub closes : ClosesTx old.tx vl sub total new.tx
 
--- The ports, all of which are here, are gathered.
+-- the ports, all of which are in the end system, are gathered
 pub record GathersEnd (old new : EndView) : Type 0 where
   pub gathered : new.gathered ≡ true
   pub tx : IsGatheredTx old.tx old.ports new.tx
   pub a_before : new.a_before ≡ old.a_before
   pub b_before : new.b_before ≡ old.b_before
 
--- the port with this identifier is one of these
+-- the port has this identifier
 abbrev pub has_id : ℕ → PortView → Bool
 has_id id port = nat_eq port.plan.id.0 id
 
--- A port with this identifier is taken out of those that are here. It is one of the emitter's.
+-- A port with this identifier is taken out of the end system. It is one of the emitter's.
 pub record TakesPort (old : EndView) (id : ℕ) (port : PortView) (new : EndView) : Type 0 where
   pub named : port.plan.id.0 ≡ id
   pub ports : IsPermutation old.ports (port ∷ new.ports)
   pub same : new ≡ record old { ports = new.ports }
   pub own : old.gathered ≡ false → IsPortOfTx old.tx port
 
--- a port is put to those that are here
+-- the port is put back into the end system
 pub record GivesBack (old : EndView) (port : PortView) (new : EndView) : Type 0 where
   pub same : new ≡ record old { ports = old.ports ++ port ∷ []; room = new.room }
 
--- An end system of a text: nothing was accepted, polled or handed over yet, and all its ports are here.
+-- An end system of this text: nothing was accepted, polled or transmitted, and all its ports are in
+-- it.
 pub record IsOpened (text : List ℕ) (it : EndView) : Type 0 where
   pub plan : Plan
   pub of : IsPlanOf text plan

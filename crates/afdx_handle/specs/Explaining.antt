@@ -1,10 +1,11 @@
--- The explanation of a configuration's text, as far as a buffer has room for it.
+-- The explanation of a configuration's text, as far as it fits into a buffer.
 use Rattle.std.specs.Prelude.{ℕ, ◌≡◌, List, length, take}
 use Rattle.afdx_config.specs.Findings.{Finding}
 use Rattle.afdx_config.specs.Explained.{Explains}
 use Rattle.afdx_handle.specs.Listing.{with_front}
 
--- the explanation of a text has so many bytes, and as many of them as a buffer holds were written over its front
+-- the explanation of the text has `size` bytes, and as many of them as fit were written over the
+-- buffer's front
 pub record IsExplainedIn (text old new : List ℕ) (size : ℕ) : Type 0 where
   pub findings : List Finding
   pub told : List ℕ

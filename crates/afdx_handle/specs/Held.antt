@@ -1,40 +1,40 @@
--- What a handle holds, by kind.
+-- The content of a handle, by kind.
 use Rattle.std.specs.Prelude.{◌≡◌, ◌⊎◌, Option, Some, None, IsNone, IsSome, IsSomeAnd}
 use Rattle.afdx_tx.specs.Ports.{PortView}
 use Rattle.afdx_handle.specs.EndSystem.{EndView}
 use Rattle.afdx_handle.specs.declared.home.Home.{Home}
 use Rattle.afdx_handle.specs.declared.home.Home.TheVariants as is
 
--- the end system
+-- the end system, if it holds one
 abbrev pub end_of : Option Home → Option EndView
 end_of None = None
 end_of (Some (is.EndSystem it)) = it.value
 end_of (Some (is.Port port)) = None
 end_of (Some is.Nothing) = None
 
--- the port
+-- the port, if it holds one
 abbrev pub port_of : Option Home → Option PortView
 port_of None = None
 port_of (Some (is.EndSystem it)) = None
 port_of (Some (is.Port own)) = Some own.port
 port_of (Some is.Nothing) = None
 
--- neither
+-- it holds neither
 abbrev pub HoldsNothing : Option Home → Type 0
 HoldsNothing held = IsNone (end_of held) × IsNone (port_of held)
 
--- one of them
+-- it holds one of them
 abbrev pub HoldsOne : Option Home → Type 0
 HoldsOne held = IsSome (end_of held) ⊎ IsSome (port_of held)
 
--- the same end system, the same port or neither
+-- both hold the same end system, the same port, or neither
 abbrev pub HoldsSame : Option Home → Option Home → Type 0
 HoldsSame old new = (end_of new ≡ end_of old) × (port_of new ≡ port_of old)
 
--- what happens to the end system that is held before and afterwards
+-- the relation between the end system before and afterwards
 abbrev pub EndDoes : Option Home → Option Home → (EndView → EndView → Type 0) → Type 0
 EndDoes old new Does = IsSomeAnd (end_of old) (λ before. IsSomeAnd (end_of new) (Does before))
 
--- what happens to the port that is held before and afterwards
+-- the relation between the port before and afterwards
 abbrev pub PortDoes : Option Home → Option Home → (PortView → PortView → Type 0) → Type 0
 PortDoes old new Does = IsSomeAnd (port_of old) (λ before. IsSomeAnd (port_of new) (Does before))

@@ -1,4 +1,4 @@
--- What is listed of an end system, and where it is written to.
+-- The lists of an end system, and where they are written.
 use Rattle.std.specs.Prelude.{ℕ, ◌++◌, List, map, length, drop}
 use Rattle.std.specs.List.{concat, range_with_len}
 use Rattle.afdx_plan.specs.declared.link_plan.LinkPlan.{LinkPlan}
@@ -6,7 +6,7 @@ use Rattle.afdx_plan.specs.declared.port_plan.PortPlan.{PortPlan}
 use Rattle.afdx_frame.specs.declared.net.Net.{Net}
 use Rattle.afdx_handle.specs.EndSystem.{EndView, made_for, made_at}
 
--- a list over whose first elements these were written
+-- a list with these elements written over its front
 abbrev pub with_front : {X : Type 0} → List X → List X → List X
 with_front front old = front ++ drop (length front) old
 
@@ -25,7 +25,7 @@ port_ids it = map port_id it.tx.plan.ports
 abbrev pub link_ids : EndView → List ℕ
 link_ids it = map link_id it.tx.plan.links
 
--- the first so many frames that the last poll made for a network
+-- the first `many` frames that the last poll made for a network
 abbrev pub first_made : Net → ℕ → EndView → List (List ℕ)
 first_made net many it = map (λ k. made_at net k it) (range_with_len 0 many)
 
@@ -33,10 +33,10 @@ first_made net many it = map (λ k. made_at net k it) (range_with_len 0 many)
 abbrev pub all_made : Net → EndView → List (List ℕ)
 all_made net it = first_made net (made_for net it) it
 
--- how many bytes they have, each
+-- the length of each
 abbrev pub lengths_of : List (List ℕ) → List ℕ
 lengths_of frames = map (λ (frame : List ℕ). length frame) frames
 
--- how many bytes they have in all
+-- their length in all
 abbrev pub bytes_of : List (List ℕ) → ℕ
 bytes_of frames = length (concat frames)

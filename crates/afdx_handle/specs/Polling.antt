@@ -1,4 +1,4 @@
--- An emitter and its polls, while ports send and once they are gathered.
+-- An emitter and its polls, before and after its ports are gathered.
 use Rattle.std.specs.Prelude.{ℕ, ◌≡◌, ◌-◌, ◌^◌, List, Bool, true, false, Option, Some, None}
 use Rattle.redundant_mux.specs.Lines.{BothEndure, IsMirrored, log}
 use Rattle.afdx_legal.specs.Legal.{Accepted, IsLegal}
@@ -15,12 +15,12 @@ use Rattle.afdx_tx.specs.declared.report.Report.{Report}
 use Rattle.afdx_handle.specs.declared.stage.Stage.{Stage}
 use Rattle.afdx_handle.specs.declared.stage.Stage.TheVariants.{Sending, Draining}
 
--- a moment, or the greatest number of 64 bits where there is none
+-- a time, or the greatest number of 64 bits if there is none
 abbrev pub or_never : Option ℕ → ℕ
 or_never None = 2 ^ 64 - 1
 or_never (Some at) = at
 
--- the first moment after that of the last poll at which a link may release a frame that might not then
+-- the first time after the last poll at which a link may release a frame and couldn't then
 abbrev pub IsNextDue : Tx → ℕ → Type 0
 IsNextDue tx at = (next : Option ℕ) × TellsNextDue tx next × (at ≡ or_never next)
 
@@ -34,7 +34,7 @@ abbrev pub tx_of : Stage → Tx
 tx_of (Sending tx) = tx
 tx_of (Draining tx) = tx
 
--- the messages that are known: those that were taken, and once the ports are gathered all that were accepted
+-- the known messages: those taken, or all accepted ones once the ports are gathered
 abbrev pub known_in : Bool → List LinkState → Accepted
 known_in false links = taken_in links
 known_in true links = accepted_in links
@@ -44,20 +44,20 @@ abbrev pub Runs : Bool → ℕ → (old new : Tx) → Type 0
 Runs false now old new = IsRun now old.links new.links old.lines new.lines
 Runs true now old new = IsDrained now old.plan (accepted_in old.links) old.lines new.lines
 
--- what is still to send while ports send: the links are tied to their streams, and the queues and the totals of
--- those that were closed stay
+-- the messages still to send while ports send: the links are tied to their streams, and the queues
+-- and their totals are the same
 pub record KeepsQueues (old new : Tx) : Type 0 where
   pub tied : AreTied new.links (log new.lines)
   pub queues : queues_in new.links ≡ queues_in old.links
   pub totals : (k s : ℕ) → total_in new.links k s ≡ total_in old.links k s
 
--- what is still to send: once the ports are gathered what was accepted stays
+-- the messages still to send: once the ports are gathered, the accepted messages are the same
 abbrev pub KeepsMessages : Bool → (old new : Tx) → Type 0
 KeepsMessages false old new = KeepsQueues old new
 KeepsMessages true old new = accepted_in new.links ≡ accepted_in old.links
 
--- A poll at a moment: what it tells, that all that was handed over so far is legal and takes turns, and that the
--- links had their turns.
+-- A poll at `now`: its report, the turns of the links, and that the transmitted frames are legal
+-- and take turns.
 pub record PollsTx (gathered : Bool) (now : ℕ) (old : Tx) (report : Report) (new : Tx) : Type 0 where
   pub told : Polls now old report new
   pub run : Runs gathered now old new

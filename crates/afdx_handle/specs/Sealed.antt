@@ -1,4 +1,5 @@
--- What a `Sealed` owns: nothing while it is empty, and else the same as a `Box<Home>` from the C library's heap.
+-- A `Sealed` owns nothing while it is empty, and otherwise the same as a `Box<Home>` from the C
+-- library's heap.
 use base.Fml.{Fml, ftrue}
 use denote.RawPtr.{Ptr}
 use Rattle.std.specs.Prelude.{Option, Some, None}

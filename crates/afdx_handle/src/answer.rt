@@ -1,5 +1,5 @@
-//! The numbers that calls answer, as `afdx.h` has them, and what the other numbers there mean; and counts, as
-//! C has them.
+//! The numbers that calls return, as `afdx.h` has them, the meaning of the other numbers there, and
+//! the counts in the layout of C.
 ghost use Rattle.std.specs.Prelude.{◌≡◌};
 ghost use Rattle.afdx_handle.specs.Numbers.{net_of, refusal_number, standing_bits};
 
@@ -7,28 +7,28 @@ use afdx_frame::Net;
 use afdx_tx::Refusal;
 use redundant_mux::Standing;
 
-/// The call did what it is for.
+/// Success.
 pub const DONE: u8 = 0;
 
-/// Both networks were down already.
+/// Both networks have failed before.
 pub const BOTH_DOWN: u8 = 1;
 
-/// Memory was refused.
+/// An allocation failed.
 pub const MEMORY: u8 = 15;
 
 /// The handle holds nothing.
 pub const NOT_HELD: u8 = 32;
 
-/// The handle holds a port where an end system is wanted, or the other way round.
+/// The handle holds a port instead of an end system, or an end system instead of a port.
 pub const WRONG_HANDLE: u8 = 33;
 
-/// A handle that is to be filled holds something.
+/// The handle to be filled holds something.
 pub const HELD: u8 = 34;
 
-/// The moment is before that of an earlier poll.
+/// The time is before that of an earlier poll.
 pub const TIME_BACK: u8 = 35;
 
-/// No such port is here.
+/// The end system doesn't hold such a port.
 pub const NO_PORT: u8 = 36;
 
 /// No such virtual link, or no such sub-VL of it.
@@ -49,13 +49,13 @@ pub const SMALL_BUFFER: u8 = 41;
 /// A port of the configuration is out.
 pub const PORT_MISSING: u8 = 42;
 
-/// The ports were gathered.
+/// The ports were gathered before.
 pub const GATHERED: u8 = 43;
 
 /// The ports weren't gathered yet.
 pub const NOT_GATHERED: u8 = 44;
 
-/// The network with a number.
+/// The network with this number.
 pub fn net_of(number: u8) -> Option<Net>
     ensures { result ≡ net_of number }
 {
@@ -79,7 +79,7 @@ pub fn refusal_number(why: Refusal) -> u8
     }
 }
 
-/// Which networks stand, as bits: 1 for A and 2 for B.
+/// The networks that are up, as bits: 1 for A and 2 for B.
 pub fn standing_bits(standing: Standing) -> u8
     ensures { result ≡ standing_bits standing.a standing.b }
 {
@@ -91,8 +91,9 @@ pub fn standing_bits(standing: Standing) -> u8
     }
 }
 
-/// What was sent of a virtual link: the frames that at least one network accepted, the sum of their lengths
-/// in bytes, the messages whose last frame is among them, and the time of the last frame in microseconds.
+/// The counts of a virtual link: the frames that at least one network accepted, the sum of their
+/// lengths in bytes, the messages whose last frame is among them, and the time of the last frame in
+/// microseconds.
 #[repr(C)]
 #[derive(Clone, Copy)]
 pub struct LinkCounts {

@@ -17,17 +17,17 @@ use std::marker::Model;
 use std::sync::Arc;
 use std::sync::atomic::{AtomicBool, Ordering};
 
-/// What is kept of a network: how many frames it was handed before the last poll, and the flag by which
-/// it is made to fail.
+/// The number of frames that a network had accepted before the last poll, and the flag that makes
+/// the network fail.
 #[derive(Drop)]
 pub struct Side {
     pub before: u64,
     pub fails: Arc<AtomicBool, Global>,
 }
 
-/// An end system: its emitter, the ports that are here, what is kept of its networks, and the block whose
-/// address is its mark. Each port that is out owns that block too, so no other mark is the same as long as
-/// the end system or one of its ports is there.
+/// An end system: its emitter, the ports in it, the sides of its networks, and the block whose
+/// address is its mark. Each port that is out owns that block too. So no other end system has the
+/// same mark while this one or one of its ports exists.
 #[derive(Drop)]
 pub struct EndSystem {
     pub stage: Stage,
@@ -62,9 +62,9 @@ impl EndSystem {
     ghost use Rattle.afdx_handle.specs.Listing.{with_front, port_ids, link_ids, all_made, bytes_of, lengths_of};
     ghost use Rattle.std.specs.List.{concat};
 
-    /// Gives each link its turn at a moment, in microseconds, and tells which networks stand afterwards,
-    /// as bits. `TIME_BACK` where the moment is before that of an earlier poll; `BOTH_DOWN`, with no
-    /// bits, where both networks were down. Then nothing has changed.
+    /// Gives each link its turn at `now`, in microseconds, and writes the networks that are up
+    /// afterwards, as bits. `TIME_BACK` if `now` is before an earlier poll; `BOTH_DOWN`, with no
+    /// bits, if both networks have failed before. Then nothing else changes.
     pub fn poll(&mut self, now: u64, standing: &mut u8) -> u8
         ensures answers { (result ≡ DONE) ⊎ ((result ≡ TIME_BACK) ⊎ (result ≡ BOTH_DOWN)) }
         ensures time_back { (result ≡ TIME_BACK) ↔ (now < self.old.tx.moment) }
@@ -93,7 +93,8 @@ impl EndSystem {
         DONE
     }
 
-    /// The number of the first frame that the last poll made for a network, and the number behind its last.
+    /// The number of the first frame that the last poll made for a network, and the number after
+    /// its last.
     fn numbers(&self, net: Net) -> (u64, u64)
         ensures first { result.0 ≡ before_of net self.now }
         ensures end { result.1 ≡ length (line_of net self.now.tx.lines) }
@@ -105,7 +106,7 @@ impl EndSystem {
         }
     }
 
-    /// How many frames the last poll made for a network.
+    /// The number of frames that the last poll made for a network.
     pub fn frames(&self, net: Net) -> usize
         ensures count { result ≡ made_for net self.now }
         ensures few { result ≤ 64 }
@@ -114,9 +115,9 @@ impl EndSystem {
         end.saturating_sub(first) as usize
     }
 
-    /// Copies frame `k`, from 0, that the last poll made for a network into a buffer, and tells how many
-    /// bytes it has. `NO_FRAME` where the poll made fewer frames, `SMALL_BUFFER` where the frame has more
-    /// bytes than the buffer: then nothing is written.
+    /// Copies frame `k`, from 0, that the last poll made for a network into a buffer, and writes
+    /// its length. Writes nothing on `NO_FRAME`, if the poll made fewer frames, and on
+    /// `SMALL_BUFFER`, if the frame is longer than the buffer.
     pub fn frame(&self, net: Net, k: usize, buffer: &mut [u8], size: &mut usize) -> u8
         ensures answers { (result ≡ DONE) ⊎ ((result ≡ NO_FRAME) ⊎ (result ≡ SMALL_BUFFER)) }
         ensures no_frame { (result ≡ NO_FRAME) ↔ (made_for net self.now ≤ k) }
@@ -143,8 +144,8 @@ impl EndSystem {
         DONE
     }
 
-    /// Writes the identifiers of the ports, in the order of the configuration, and how many they are.
-    /// `SMALL_BUFFER` where there is room for fewer: then their number alone is written.
+    /// Writes the identifiers of the ports, in the order of the configuration, and their number. On
+    /// `SMALL_BUFFER`, if there is room for fewer, writes only the number.
     pub fn port_ids(&self, ids: &mut [u16], count: &mut usize) -> u8
         ensures answers { (result ≡ DONE) ⊎ (result ≡ SMALL_BUFFER) }
         ensures small { (result ≡ SMALL_BUFFER) ↔ (length ids.old < length (port_ids self.now)) }
@@ -161,8 +162,8 @@ impl EndSystem {
         DONE
     }
 
-    /// Writes the identifiers of the links, in the order of the configuration, and how many they are.
-    /// `SMALL_BUFFER` where there is room for fewer: then their number alone is written.
+    /// Writes the identifiers of the links, in the order of the configuration, and their number. On
+    /// `SMALL_BUFFER`, if there is room for fewer, writes only the number.
     pub fn link_ids(&self, ids: &mut [u16], count: &mut usize) -> u8
         ensures answers { (result ≡ DONE) ⊎ (result ≡ SMALL_BUFFER) }
         ensures small { (result ≡ SMALL_BUFFER) ↔ (length ids.old < length (link_ids self.now)) }
@@ -192,7 +193,7 @@ impl EndSystem {
         kept.frame.as_slice()
     }
 
-    /// How many bytes the frames have in all that the last poll made for a network.
+    /// The length in all of the frames that the last poll made for a network.
     fn made_bytes(&self, net: Net) -> usize
         ensures { result ≡ bytes_of (all_made net self.now) }
     {
@@ -203,9 +204,9 @@ impl EndSystem {
         total
     }
 
-    /// Copies all frames that the last poll made for a network into a buffer, one behind the other, and
-    /// writes how many bytes each has and how many they are. `SMALL_BUFFER` where they have more bytes
-    /// than the buffer, or are more than there is room for lengths: then their number alone is written.
+    /// Copies all frames that the last poll made for a network into a buffer, one after the other,
+    /// and writes their lengths and their number. On `SMALL_BUFFER`, if they have more bytes than
+    /// the buffer or are more than there is room for lengths, writes only the number.
     pub fn all_frames(
         &self,
         net: Net,
@@ -238,8 +239,8 @@ impl EndSystem {
         DONE
     }
 
-    /// The first moment after that of the last poll, in microseconds, at which a link may release a frame
-    /// that might not then, or the greatest number where there is none.
+    /// The first time after the last poll, in microseconds, at which a link may release a frame and
+    /// couldn't then, or the greatest number if there is none.
     pub fn next_due(&self) -> u64
         ensures { IsNextDue self.now.tx result }
     {
@@ -249,7 +250,7 @@ impl EndSystem {
         }
     }
 
-    /// Makes a network fail from now on, which shows at the next frame for it.
+    /// Makes a network fail at its next frame.
     pub fn fail(&self, net: Net) {
         let side = match net {
             Net::A => &self.a,
@@ -271,9 +272,9 @@ impl EndSystem {
         }
     }
 
-    /// Closes a sub-VL, by its link and its index there, and says how many messages were accepted in all.
-    /// `GATHERED` where the ports were gathered, `NO_SUB` where there is no such sub-VL: then nothing has
-    /// changed.
+    /// Closes a sub-VL, by its link and its index there, and writes the number of accepted
+    /// messages. `GATHERED` if the ports were gathered, `NO_SUB` if there is no such sub-VL; then
+    /// nothing changes.
     pub fn close(&mut self, vl: u16, sub: u8, total: &mut u64) -> u8
         ensures answers { (result ≡ DONE) ⊎ ((result ≡ GATHERED) ⊎ (result ≡ NO_SUB)) }
         ensures gathered { (result ≡ GATHERED) ↔ (self.old.gathered ≡ true) }
@@ -294,8 +295,8 @@ impl EndSystem {
         }
     }
 
-    /// Whether every fragment of every accepted message was taken by at least one network: writes 1 or 0.
-    /// `NOT_GATHERED` where the ports weren't gathered yet; then nothing is written.
+    /// Writes 1 if at least one network accepted each fragment of each accepted message, otherwise
+    /// 0. `NOT_GATHERED`, with nothing written, if the ports weren't gathered yet.
     pub fn is_done(&self, done: &mut u8) -> u8
         ensures answers { (result ≡ DONE) ⊎ (result ≡ NOT_GATHERED) }
         ensures not_gathered { (result ≡ NOT_GATHERED) ↔ (self.now.gathered ≡ false) }

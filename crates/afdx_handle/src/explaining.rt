@@ -1,4 +1,4 @@
-//! The faults of a configuration's text, told to C.
+//! The faults of a configuration's text, explained to C.
 ghost use Rattle.std.specs.Prelude.{◌≡◌, ◌≢◌, ◌⊎◌, ◌<◌, ◌≤◌, [], ◌∷◌, length, take};
 ghost use Rattle.afdx_handle.specs.Explaining.{IsExplainedIn};
 ghost use Rattle.afdx_handle.specs.Listing.{with_front};
@@ -8,7 +8,7 @@ use crate::answer::{DONE, MEMORY, SMALL_BUFFER};
 use afdx_config::explain;
 use std::alloc::Global;
 
-/// Writes as much of a text as a buffer holds.
+/// Writes as much of a text as fits into the buffer.
 fn write_front(buffer: &mut [u8], text: &[u8]) -> u8
     ensures answers { IsOneOf result (DONE ∷ SMALL_BUFFER ∷ []) }
     ensures whole { result ≡ DONE → length text.now ≤ length buffer.old }
@@ -24,7 +24,7 @@ fn write_front(buffer: &mut [u8], text: &[u8]) -> u8
     }
 }
 
-/// Explains a configuration's text into a buffer, and tells how many bytes the explanation has.
+/// Writes the explanation of a configuration's text into a buffer, and its length.
 pub fn explain_into(alloc: Global, text: &[u8], buffer: &mut [u8], size: &mut usize) -> u8
     ensures answers { IsOneOf result (DONE ∷ MEMORY ∷ SMALL_BUFFER ∷ []) }
     ensures explained { result ≢ MEMORY → IsExplainedIn text.now buffer.old buffer.new size.new }

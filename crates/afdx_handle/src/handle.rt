@@ -6,7 +6,7 @@ use crate::seal::Sealed;
 use std::alloc::Global;
 use std::mem;
 
-/// A home, or nothing. In C all bytes zero is a handle of nothing.
+/// A home, or nothing. In C a handle whose bytes are all zero holds nothing.
 #[repr(C)]
 #[derive(Drop)]
 pub struct Handle {
@@ -17,8 +17,9 @@ pub struct Handle {
     ghost something: { 0 < held → IsSome kept.home },
 }
 
-/// A handle with the mark of the end system that it holds, or of whose ports it holds one, as C has it: the
-/// address of a block as a number. Without what `Handle` holds the mark says nothing.
+/// A handle in the layout of C, with the mark of the end system that it holds or that its port is
+/// of: the address of a block, as a number. The mark means something only beside what `Handle`
+/// holds.
 #[repr(C)]
 #[derive(Drop)]
 pub struct Marked {
@@ -26,8 +27,8 @@ pub struct Marked {
     pub mark: u64,
 }
 
-/// The same handle where it is filled with an end system: there the mark is written as the address that it
-/// is, which no code here can read as a number.
+/// The same handle when it is filled with an end system. The mark is written as an address, which
+/// no code here can read as a number.
 #[repr(C)]
 #[derive(Drop)]
 pub struct Opening {
@@ -43,7 +44,7 @@ impl Handle {
         self.held == 0
     }
 
-    /// Takes the home out, and leaves nothing.
+    /// Takes the home out, and leaves the handle empty.
     pub fn take(&mut self) -> Option<Box<Home>>
         ensures taken { MatchOption result (self.old.kept.home ≡ None) (λ home. self.old.kept.home ≡ Some home.value) }
         ensures left { self.new.kept.home ≡ None }

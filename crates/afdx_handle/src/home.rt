@@ -1,4 +1,4 @@
-//! What a handle owns.
+//! The content of a handle.
 use crate::end_system::EndSystem;
 use afdx_tx::TxPort;
 use std::alloc::Global;
@@ -11,9 +11,9 @@ pub struct OwnPort {
     pub mark: Arc<u8, Global>,
 }
 
-/// What a handle owns: an end system, or a port; or nothing, while what it owned changes its kind. An end
-/// system lies in a block of its own, so that the block of a port is small; it is taken out of it while its
-/// ports are gathered.
+/// The content of a handle: an end system, a port, or nothing while the content changes its kind.
+/// An end system is in a block of its own, so that the block of a port is small. It is taken out of
+/// the block while its ports are gathered.
 #[derive(Drop)]
 pub enum Home {
     EndSystem(Box<Option<EndSystem>>),
@@ -21,7 +21,7 @@ pub enum Home {
     Nothing,
 }
 
-// What moves to another thread has to be proved to be `Send`: C may move a handle, and what it owns.
+// C may move a handle to another thread, so its content must be `Send`.
 fn needs_send<T: Send>(_it: &T) {}
 
 fn home_is_send(it: &Home) {

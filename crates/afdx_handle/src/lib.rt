@@ -1,5 +1,5 @@
-//! What the library for C holds behind its handles: end systems and ports, and what its calls do with
-//! them. Each number that is answered is one of `afdx.h`.
+//! The content of the C library's handles: end systems and ports, and the calls on them. Each
+//! number returned is one of `afdx.h`.
 #![tactic(auto)]
 
 pub mod answer;

@@ -1,4 +1,4 @@
-//! What is written over the front of a list of the caller's.
+//! Writes over the front of a caller's list.
 ghost use Rattle.std.specs.Prelude.{◌≡◌, ◌+◌, ◌≤◌, ◌++◌, length, map, take, drop};
 ghost use Rattle.afdx_handle.specs.Listing.{with_front, port_id, link_id};
 
@@ -24,7 +24,7 @@ pub fn write_link_ids(links: &[LinkPlan], ids: &mut [u16])
     }
 }
 
-/// Writes bytes into a buffer at a place.
+/// Writes bytes into a buffer from an index on.
 pub fn put_at(buffer: &mut [u8], at: usize, bytes: &[u8])
     requires { at + length bytes.now ≤ length buffer.old }
     ensures { buffer.new ≡

@@ -14,7 +14,7 @@ use std::alloc::{AllocError, Global};
 use std::sync::Arc;
 use std::sync::atomic::AtomicBool;
 
-/// An outbox that was handed nothing, and the flag by which it is made to fail.
+/// A new outbox, and the flag that makes it fail.
 fn make_outbox(alloc: Global) -> Result<(Outbox, Side), AllocError>
     ensures outbox { IfOk result (λ made. made.0 ≡ record { handed = []; failures = 0 }) }
     ensures side { IfOk result (λ made. made.1.before ≡ 0) }
@@ -27,8 +27,9 @@ fn make_outbox(alloc: Global) -> Result<(Outbox, Side), AllocError>
     Ok((outbox, Side { before: 0, fails }))
 }
 
-/// An end system of a configuration, with all its ports. It makes all the room that polling, closing and
-/// gathering take. Refused with the fault of the least number, or with `Memory` if an allocation fails.
+/// An end system of a configuration, with all its ports. Allocates all memory that polling, closing
+/// and gathering need. Fails with the fault of the least number, or with `Memory` if an allocation
+/// fails.
 fn open_end(alloc: Global, text: &[u8]) -> Result<EndSystem, ConfigFault>
     ensures opened { IfOk result (IsOpened text.now) }
     ensures fault { IfErr result (λ fault.
@@ -57,8 +58,8 @@ fn open_end(alloc: Global, text: &[u8]) -> Result<EndSystem, ConfigFault>
     })
 }
 
-/// What a handle of an end system of a configuration owns, and the mark of the end system. Refused as
-/// `open_end` is.
+/// The content of a handle of an end system of a configuration, and the mark of the end system.
+/// Fails as `open_end` does.
 pub fn open_home(alloc: Global, text: &[u8]) -> Result<(Box<Home>, *const u8), ConfigFault>
     ensures opened { IfOk result (λ made.
         IsSomeAnd (end_of (Some made.0.value)) (IsOpened text.now)) }

@@ -1,4 +1,5 @@
-//! The ports of an end system: a message sent, and ports taken out, given back and gathered.
+//! The ports of an end system: sending a message, and taking ports out, giving them back and
+//! gathering them.
 ghost use Rattle.std.specs.Prelude.{◌≡◌, ◌≢◌, ◌≤◌, ◌<◌, ◌⊎◌, ◌↔◌, ◌++◌, [], ◌∷◌, Option, Some, None, true, false, length, position, IfOk, IfErr, OnOk, OnErr, IsSome, IsSomeAnd, MatchBool};
 ghost use Rattle.afdx_tx.specs.Ports.{PortView, Accepts, Refuses, IsPortOfTx, LacksPlace};
 ghost use Rattle.afdx_tx.specs.declared.fault.Refusal.{Refusal};
@@ -17,8 +18,8 @@ use std::alloc::Global;
 use std::mem;
 use std::sync::Arc;
 
-/// Copies a message in. `MEMORY` where memory for the copy was refused; then the port is as it was. Or the
-/// number of the refusal.
+/// Copies a message in. Returns the number of the refusal, or `MEMORY` if the copy can't be
+/// allocated; then the port is unchanged.
 pub fn send(alloc: Global, port: &mut TxPort, message: &[u8]) -> u8
     ensures answers { (result ≤ 5) ⊎ (result ≡ MEMORY) }
     ensures accepted { result ≡ DONE → Accepts port.old message.now port.new }
@@ -35,14 +36,14 @@ pub fn send(alloc: Global, port: &mut TxPort, message: &[u8]) -> u8
     }
 }
 
-/// Where the port with an identifier is, if it is here.
+/// The index of the port with this identifier, if it is in the list.
 fn position_of(ports: &[TxPort], id: u16) -> Option<usize>
     ensures { result ≡ position (has_id id) ports.now }
 {
     ports.iter().position(|port| port.id().0 == id)
 }
 
-/// Takes out the port at a place.
+/// Takes out the port at an index.
 fn take_at(it: &mut EndSystem, id: u16, at: usize) -> TxPort
     requires { position (has_id id) it.old.ports ≡ Some at }
     ensures { TakesPort it.old id result it.new }
@@ -50,9 +51,9 @@ fn take_at(it: &mut EndSystem, id: u16, at: usize) -> TxPort
     it.ports.swap_remove(at)
 }
 
-/// Puts a port to those that are here. Handed back where the ports were gathered, or where it isn't one of
-/// this end system, as its mark tells, or there is room for no port more: then nothing has changed. It asks
-/// for no memory.
+/// Puts a port back, or returns it with a number: `GATHERED` if the ports were gathered, `NO_PORT`
+/// if its mark is of another end system, or if every port is already back. A refusal changes
+/// nothing. Allocates nothing.
 fn give_back(it: &mut EndSystem, port: TxPort, own: bool) -> Result<(), (TxPort, u8)>
     requires { own ≡ true → it.old.gathered ≡ false → IsPortOfTx it.old.tx port }
     ensures given { OnOk result (GivesBack it.old port it.new) }
@@ -78,8 +79,8 @@ fn give_back(it: &mut EndSystem, port: TxPort, own: bool) -> Result<(), (TxPort,
     }
 }
 
-/// Gathers the ports. `GATHERED` where they were gathered, `PORT_MISSING` where a port of the
-/// configuration isn't here: then nothing has changed.
+/// Gathers the ports. `GATHERED` if they were gathered before, `PORT_MISSING` if a port of the
+/// configuration is out; then nothing changes.
 fn gather(alloc: Global, it: EndSystem) -> (EndSystem, u8)
     ensures answers { (result.1 ≡ DONE) ⊎ ((result.1 ≡ GATHERED) ⊎ (result.1 ≡ PORT_MISSING)) }
     ensures gathered { (result.1 ≡ GATHERED) ↔ (it.gathered ≡ true) }
@@ -135,17 +136,17 @@ fn gather(alloc: Global, it: EndSystem) -> (EndSystem, u8)
     }
 }
 
-/// Puts a home in the place of another. A call of `drop` lets go of what was there in one step, where an
-/// assignment takes it apart field by field.
+/// Replaces a home. `drop` frees the old one in one step; an assignment takes it apart field by
+/// field.
 fn fill(place: &mut Home, home: Home)
     ensures { place.new ≡ home }
 {
     drop(mem::replace(place, home));
 }
 
-/// Takes the port with an identifier out, in a box for which memory is asked first. `GATHERED` where the
-/// ports were gathered, `NO_PORT` where none with this identifier is here, and `MEMORY`: then nothing has
-/// changed.
+/// Takes out the port with this identifier, in a box that is allocated first. `GATHERED` if the
+/// ports were gathered, `NO_PORT` if no such port is in the end system, `MEMORY` if an allocation
+/// fails; then nothing changes.
 pub fn take_port(alloc: Global, it: &mut EndSystem, id: u16) -> Result<Box<Home>, u8>
     ensures numbers { IfErr result (λ number.
         (number ≡ GATHERED) ⊎ ((number ≡ NO_PORT) ⊎ (number ≡ MEMORY))) }
@@ -175,7 +176,7 @@ pub fn take_port(alloc: Global, it: &mut EndSystem, id: u16) -> Result<Box<Home>
     Ok(home)
 }
 
-/// Whether a home is nothing.
+/// Whether the home is empty.
 fn is_nothing(home: &Home) -> bool
     ensures { MatchBool result (HoldsNothing (Some home.now)) (HoldsOne (Some home.now)) }
 {
@@ -186,9 +187,9 @@ fn is_nothing(home: &Home) -> bool
     }
 }
 
-/// Puts the port that a home is to the ports of an end system; the home is nothing then. `NOT_HELD` where
-/// it is nothing, `WRONG_HANDLE` where it is an end system, and the numbers of `give_back`: then nothing
-/// has changed.
+/// Returns the port in `theirs` to the end system, leaving `theirs` empty. `NOT_HELD` if `theirs`
+/// is empty, `WRONG_HANDLE` if it is an end system, and the numbers of `give_back`; then nothing
+/// changes.
 fn give_to(it: &mut EndSystem, theirs: &mut Home, own: bool) -> u8
     requires own { (port : PortView) → port_of (Some theirs.old) ≡ Some port → own ≡ true
         → it.old.gathered ≡ false → IsPortOfTx it.old.tx port }
@@ -223,10 +224,10 @@ fn give_to(it: &mut EndSystem, theirs: &mut Home, own: bool) -> u8
     }
 }
 
-/// Puts the port that a home is to the ports of the end system that another is; that home is nothing then.
-/// `NOT_HELD` where one of them is nothing, `WRONG_HANDLE` where one is of the other kind, `GATHERED` where
-/// the ports were gathered, and `NO_PORT` where it isn't one of this end system, as its mark tells, or there
-/// is room for no port more: then nothing has changed.
+/// Returns the port in `theirs` to the end system in `home`, leaving `theirs` empty. `NOT_HELD` if
+/// one of them is empty, `WRONG_HANDLE` if one is of the other kind, `GATHERED` if the ports were
+/// gathered, `NO_PORT` if the port's mark is of another end system, or if every port is already
+/// back; then nothing changes.
 pub fn give_in(home: &mut Home, theirs: &mut Home, own: bool) -> u8
     requires own { (end : EndView) → (port : PortView) → end_of (Some home.old) ≡ Some end
         → port_of (Some theirs.old) ≡ Some port → own ≡ true → end.gathered ≡ false
@@ -264,9 +265,9 @@ pub fn give_in(home: &mut Home, theirs: &mut Home, own: bool) -> u8
     }
 }
 
-/// Gathers the ports of the end system that a home is. `NOT_HELD` where it is nothing, `WRONG_HANDLE` where
-/// it is a port, `GATHERED` where the ports were gathered, and `PORT_MISSING` where one of them isn't here:
-/// then nothing has changed.
+/// Gathers the ports of the end system in `home`. `NOT_HELD` if `home` is empty, `WRONG_HANDLE` if
+/// it is a port, `GATHERED` if the ports were gathered before, `PORT_MISSING` if one of them is
+/// out; then nothing changes.
 pub fn gather_in(alloc: Global, home: &mut Home) -> u8
     ensures answers { IsOneOf result
         (DONE ∷ NOT_HELD ∷ WRONG_HANDLE ∷ GATHERED ∷ PORT_MISSING ∷ []) }

@@ -11,7 +11,8 @@ use std::alloc::Global;
 use std::marker::Model;
 use std::ptr::null_mut;
 
-/// A box whose type names no other type, or nothing. Dropping it frees nothing: what it owned then is C's.
+/// A box whose type names no other type, or nothing. Dropping it frees nothing: its content is then
+/// C's.
 #[repr(C)]
 #[derive(Drop)]
 pub struct Sealed {
@@ -25,7 +26,7 @@ impl Model for Sealed {
 }
 
 impl Sealed {
-    /// Nothing.
+    /// An empty seal.
     pub fn empty(alloc: Global) -> Sealed
         ensures { result.home ≡ None }
     {
@@ -56,7 +57,7 @@ impl Sealed {
         }
     }
 
-    /// The box.
+    /// The seal of a box.
     pub fn of(home: Box<Home>) -> Sealed
         ensures { result.home ≡ Some home.value }
     {

@@ -1,4 +1,4 @@
-//! The emitter of an end system, while its ports send and once they are gathered.
+//! The emitter of an end system, before and after its ports are gathered.
 ghost use Rattle.std.specs.Prelude.{◌≡◌, ℕ};
 
 use afdx_frame::Net;
@@ -7,7 +7,7 @@ use afdx_tx::{Draining, Emitter, PollFault, Report};
 use redundant_mux::Outbox;
 use status_board::Counts;
 
-/// An emitter over two outboxes, while its ports send, or once they are gathered.
+/// An emitter over two outboxes, before or after its ports are gathered.
 #[derive(Drop)]
 pub enum Stage {
     Sending(Emitter<Outbox, Outbox>),
@@ -24,7 +24,7 @@ impl Stage {
     ghost use Rattle.afdx_handle.specs.Numbers.{line_of};
     ghost use Rattle.afdx_handle.specs.Polling.{tx_of, is_gathered, PollsTx};
 
-    /// The moment of the last poll, in microseconds.
+    /// The time of the last poll, in microseconds.
     pub fn now(&self) -> u64
         ensures { result ≡ (tx_of self.now).moment }
     {
@@ -34,7 +34,7 @@ impl Stage {
         }
     }
 
-    /// A network, with what was handed to it.
+    /// A network.
     pub fn network(&self, net: Net) -> &Outbox
         ensures { result.now.handed ≡ line_of net (tx_of self.now).lines }
     {
@@ -56,7 +56,7 @@ impl Stage {
         }
     }
 
-    /// The first moment after that of the last poll at which a link may release a frame that might not then.
+    /// The first time after the last poll at which a link may release a frame and couldn't then.
     pub fn next_due(&self) -> Option<u64>
         ensures { TellsNextDue (tx_of self.now) result }
     {
@@ -78,7 +78,7 @@ impl Stage {
         }
     }
 
-    /// Gives each link its turn at a moment, in microseconds. After an error nothing has changed.
+    /// Gives each link its turn at `now`, in microseconds. An error changes nothing.
     pub fn poll(&mut self, now: u64) -> Result<Report, PollFault>
         requires { (tx_of self.old).moment ≤ now }
         ensures both_down { IsErr result ↔ (is_alive (tx_of self.old).lines ≡ false) }

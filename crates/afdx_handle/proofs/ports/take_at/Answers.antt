@@ -13,6 +13,6 @@ returns c =
     (subst (λ (room : ℕ). TakesPort it c.args.id port (record it { ports = left.items; room = room })) (sym c.swap_remove.ensures.capacity)
     (taken it left.items c.args.id c.args.at port c.it.invariant here c.swap_remove.ensures.value c.swap_remove.ensures.items))
 
--- at half of its limits the search proves this only where it is asked for it
+-- at half of its limits the search finds this only if it is stated here
 pub invariant_of-it : goal.invariant_of-it
 invariant_of-it c = search rules

@@ -6,7 +6,7 @@ use Rattle.afdx_handle.specs.EndSystem.{ClosesEnd}
 use Rattle.afdx_handle.proofs.end_system.EndSystem.close.Goals.{in-Ok, in-Err, Joined-close}
 use Rattle.afdx_handle.proofs.end_system.EndSystem.close.Goals as goal
 
--- the end system before the call, whose stage is known
+-- The end system before the call, in its known stage.
 sends : (c : Joined-close) → end_view false c.in-Sending.emitter c.self.inside.ports.items (vec_capacity c.self.inside.ports) c.self.inside.a.before c.self.inside.b.before ≡ c.args.self.now
 sends c =
     let own = c.self.inside in

@@ -1,4 +1,4 @@
--- `empty` puts null and the allocator's handle together, and owns nothing beside them.
+-- `empty` puts null and the allocator's handle together, and owns nothing else.
 use Rattle.afdx_handle.proofs.Names.{refl, List, [], ◌∷◌, ◌++◌, T, lit<, Ura, w64, Val, vint, vstruct, vcons, vnil}
 use Rattle.afdx_handle.proofs.Names.{has_ty, WT, SProp, ent, emp, id⊢, ftrue, fsep, Memory, Routine, WpFn, Tables}
 use Rattle.afdx_handle.proofs.Names.{Logic, Fun, tables, WpFn-mono, Item, ‵, raw, ◌⊛◌, ◌$◌, ◌∵◌, !, qed, by, move}

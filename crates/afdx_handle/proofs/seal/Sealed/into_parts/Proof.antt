@@ -1,4 +1,4 @@
--- `into_parts` moves two fields, and what they own goes with them.
+-- `into_parts` moves two fields, with what they own.
 use Rattle.afdx_handle.proofs.Names.{refl, List, [], ◌∷◌, ◌++◌, Ura, Val, SProp, ent, id⊢, ftrue, fsep, Memory}
 use Rattle.afdx_handle.proofs.Names.{Routine, WpFn, Tables, Logic, Fun, fact, tables, WpFn-mono, Item, ‵, raw, ◌⊛◌}
 use Rattle.afdx_handle.proofs.Names.{◌$◌, ◌∵◌, !, qed, by, move, drop, use1, join, split, rewrite, fsplit, fjoin}

@@ -1,4 +1,4 @@
--- `of_parts` moves two fields, and what they own goes with them.
+-- `of_parts` moves two fields, with what they own.
 use Rattle.afdx_handle.proofs.Names.{refl, List, [], ◌∷◌, ◌++◌, Ura, Val, SProp, ent, emp, id⊢, ftrue, fsep, Memory}
 use Rattle.afdx_handle.proofs.Names.{Routine, WpFn, Tables, Logic, Fun, tables, WpFn-mono, Item, ‵, raw, ◌⊛◌, ◌$◌}
 use Rattle.afdx_handle.proofs.Names.{◌∵◌, !, qed, by, move, drop, use1, join, split, fsplit, fjoin, suffices, done}

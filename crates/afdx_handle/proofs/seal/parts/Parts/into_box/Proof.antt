@@ -1,4 +1,4 @@
--- `into_box` hands what the parts own to `from_raw`.
+-- `into_box` passes what the parts own to `from_raw`.
 use Rattle.afdx_handle.proofs.Names.{refl, List, [], ◌∷◌, ◌++◌, T, Ura, Fn, Body, place, copy, assign, rv_opd, seq}
 use Rattle.afdx_handle.proofs.Names.{return, inst_fn, Val, vptr, has_ty, WT, SProp, ent, id⊢, ftrue, fsep, flft}
 use Rattle.afdx_handle.proofs.Names.{◌⊑◌, Memory, Routine, WpFn, Tables, Logic, Fun, fact, tables, fm_of, WpFn-mono}
