@@ -210,8 +210,8 @@ uint8_t afdx_link_counts(afdx_end_system *it, uint16_t vl, afdx_counts *counts);
    this end system, also if the end system that it was taken from was freed; the port is unchanged. */
 uint8_t afdx_give_back(afdx_end_system *it, afdx_port *port);
 
-/* Gathers the ports, each of which was given back or never taken. Their accepted messages are then known whole, and
-   later polls transmit what is left. Refused: AFDX_NOT_HELD, AFDX_WRONG_HANDLE, AFDX_GATHERED, AFDX_PORT_MISSING. */
+/* Starts draining, once each port was given back or never taken. The accepted messages are then known whole, and later
+   polls transmit what is left. Refused: AFDX_NOT_HELD, AFDX_WRONG_HANDLE, AFDX_GATHERED, AFDX_PORT_MISSING. */
 uint8_t afdx_gather(afdx_end_system *it);
 
 /* Writes 1 if at least one network accepted each fragment of each accepted message, otherwise 0. After a frame was

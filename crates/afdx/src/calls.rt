@@ -506,7 +506,7 @@ pub extern "C" fn afdx_give_back(it: &mut Marked, port: &mut Marked) -> u8
     answer
 }
 
-/// Gathers the ports, all of which are in the end system.
+/// Starts draining. All ports are in the end system.
 #[unsafe(no_mangle)]
 pub extern "C" fn afdx_gather(alloc: Global, it: &mut Handle) -> u8
     ensures answers { IsOneOf result

@@ -79,7 +79,7 @@ fn give_back(it: &mut EndSystem, port: TxPort, own: bool) -> Result<(), (TxPort,
     }
 }
 
-/// Gathers the ports. `GATHERED` if they were gathered before, `PORT_MISSING` if a port of the
+/// Starts draining. `GATHERED` if the ports were gathered before, `PORT_MISSING` if a port of the
 /// configuration is out; then nothing changes.
 fn gather(alloc: Global, it: EndSystem) -> (EndSystem, u8)
     ensures answers { (result.1 ≡ DONE) ⊎ ((result.1 ≡ GATHERED) ⊎ (result.1 ≡ PORT_MISSING)) }
@@ -265,7 +265,7 @@ pub fn give_in(home: &mut Home, theirs: &mut Home, own: bool) -> u8
     }
 }
 
-/// Gathers the ports of the end system in `home`. `NOT_HELD` if `home` is empty, `WRONG_HANDLE` if
+/// Starts draining the end system in `home`. `NOT_HELD` if `home` is empty, `WRONG_HANDLE` if
 /// it is a port, `GATHERED` if the ports were gathered before, `PORT_MISSING` if one of them is
 /// out; then nothing changes.
 pub fn gather_in(alloc: Global, home: &mut Home) -> u8

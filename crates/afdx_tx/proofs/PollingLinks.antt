@@ -9,7 +9,7 @@ use Rattle.afdx_tx.proofs.Names.{Nothing, Released, Lost, cases_Bool, both_ways,
 use Rattle.afdx_tx.proofs.Names.{IsKept, turns_seen, turns_push, may_not}
 use Rattle.afdx_tx.proofs.PollTurns.{same_link, at_each, steady_more}
 
--- If nothing entered the log, nothing more is reported.
+-- If nothing entered the log, no release is reported.
 told_same : (now : ℕ) (rs : List Release) (before lines after : Lines) → log after ≡ log lines
     → IsTold now rs before lines → IsTold now (rs ++ []) before after
 told_same now rs before lines after e t =

@@ -48,7 +48,7 @@ fn take_back_all(config: &Config, links: &mut [Link], ports: Vec<TxPort>)
     }
 }
 
-// Gathers the queue of each sub-VL, after all its senders were returned.
+// Brings the ends of each sub-VL's queue together, after all its senders were returned.
 fn gather_all(links: &mut [Link])
     requires full { AreFull links.old }
     ensures { GathersLinks links.old links.new }
@@ -58,7 +58,7 @@ fn gather_all(links: &mut [Link])
     }
 }
 
-/// Takes back all ports of a configuration, and gathers the queue of each sub-VL.
+/// Takes back all ports of a configuration, and brings the ends of each sub-VL's queue together.
 pub fn gather_links(config: &Config, links: &mut [Link], ports: Vec<TxPort>)
     requires valid { IsPlan config.now }
     requires of_plan { AreLinksOf config.now links.old }

@@ -276,7 +276,7 @@ impl<A: Network + Drop, B: Network + Drop> Transmitter<A, B> {
         publish_all(rt, &self.links, &mut self.board);
     }
 
-    /// Takes back all ports, and gathers the queue of each sub-VL.
+    /// Takes back all ports, and brings the ends of each sub-VL's queue together.
     pub fn gather(&mut self, ports: Vec<TxPort>)
         requires receiving { AreReceiving self.old.links }
         requires opened { AreOpenedWith self.old ports.items }

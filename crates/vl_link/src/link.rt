@@ -91,7 +91,7 @@ fn subs_done(subs: &[Sub]) -> bool
     true
 }
 
-/// Gathers the queue of each sub-VL, all of whose senders are back.
+/// Brings the ends of each sub-VL's queue together, once all its senders are back.
 fn gather_subs(subs: &mut [Sub])
     requires full { AreFullSubs subs.old }
     ensures { GathersSubs subs.old subs.new }
@@ -304,7 +304,7 @@ impl Link {
         self.subs[sub as usize].take_back(sender);
     }
 
-    /// Gathers the queue of each sub-VL, all of whose senders are back.
+    /// Brings the ends of each sub-VL's queue together, once all its senders are back.
     #[tactic(auto, using(std::proofs::lemmas::Grind::common_steps))]
     pub fn gather(&mut self)
         requires full { AreFullSubs self.old.subs }

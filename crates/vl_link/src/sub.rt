@@ -162,7 +162,7 @@ impl Sub {
         }
     }
 
-    /// Gathers its queue, all of whose senders are back. Never waits.
+    /// Brings the ends of its queue together, once all its senders are back. Never waits.
     pub fn gather(&mut self)
         requires full { IsFullSub self.old }
         ensures { GathersSub self.old self.new }
