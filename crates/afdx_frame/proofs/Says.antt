@@ -1,22 +1,11 @@
 -- Each frame gives back the fields that it was written with.
-use Rattle.std.proofs.Common.{◌≡◌, ℕ, ◌+◌, ◌%◌, ◌<◌, Option, Some, None, List, length, refl, arith, ◌-◌, ◌/◌, ◌≤◌, ◌⊎◌, inl, inr, Bool, true, [], ◌∷◌, ◌++◌, take, drop, get_or, replicate, max, sym, ap, ◌∙◌, append_assoc, length-append}
-use Rattle.std.specs.Prelude.{IfSome, slice_index, nat_le, if◌then◌else◌}
-use Rattle.afdx_plan.specs.declared.port_plan.PortPlan.{PortPlan}
+use Rattle.afdx_frame.proofs.Names.{◌≡◌, ℕ, ◌+◌, ◌%◌, ◌<◌, Option, Some, None, List, length, refl, arith, ◌-◌, ◌/◌, ◌≤◌, ◌⊎◌, inl, inr, Bool, true, [], ◌∷◌, ◌++◌, take, drop, get_or, replicate, max}
+use Rattle.afdx_frame.proofs.Names.{sym, ap, ◌∙◌, append_assoc, IfSome, slice_index, nat_le, if◌then◌else◌, PortPlan, destination_of, Piece, word_sum, checksum, addresses, header_front}
+use Rattle.afdx_frame.proofs.Names.{internet_header, interface_byte, link_header, udp_header, datagram, unnumbered, frame_of, fragment_word, drop-drop, drop_at, take_at, length-take, length-drop}
+use Rattle.afdx_frame.proofs.Names.{get_or-drop, get_or_append_left, get_or-replicate, get_or_push, nat_tests, get_or-append_right, length-replicate, identification, Net, A, B, word_at, total_length}
+use Rattle.afdx_frame.proofs.Names.{fragment_field, HasLinkHeader, HasAddresses, HasZeroPadding, IsFrameOf, IsPiece, Says}
+use Rattle.std.proofs.Common.{length-append}
 use Rattle.afdx_plan.specs.Plan.{IsPort, IsUnicast}
-use Rattle.afdx_plan.specs.Address.{destination_of}
-use Rattle.afdx_frame.specs.declared.piece.Piece.{Piece}
-use Rattle.afdx_frame.specs.Checksum.{word_sum, checksum}
-use Rattle.afdx_frame.specs.Frame.{addresses, header_front, internet_header, interface_byte, link_header, udp_header, datagram, unnumbered, frame_of, fragment_word}
-use Rattle.std.proofs.lemmas.List.{drop-drop, drop_at, take_at, length-take, length-drop, get_or-drop, get_or_append_left, get_or-replicate, get_or_push}
-use Rattle.std.proofs.lemmas.Bool.Decides.{nat_tests}
-use Rattle.std.proofs.Math.Seq.{get_or-append_right}
-use Rattle.std.proofs.Math.ListN.{length-replicate}
-use Rattle.afdx_plan.specs.Numbers.{identification}
-use Rattle.afdx_frame.specs.declared.net.Net.{Net}
-use Rattle.afdx_frame.specs.declared.net.Net.TheVariants.{A, B}
-use Rattle.afdx_frame.specs.Profile.{word_at, total_length, fragment_field, HasLinkHeader, HasAddresses, HasZeroPadding}
-use Rattle.afdx_frame.specs.Header.{IsFrameOf}
-use Rattle.afdx_frame.specs.ReadBack.{IsPiece, Says}
 use Rattle.afdx_frame.proofs.Datagram.{length-udp_header}
 
 -- A destination address has four bytes.

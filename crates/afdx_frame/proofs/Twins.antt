@@ -1,17 +1,9 @@
 -- Twins of any frame, and of the fragments of a list of messages.
-use Rattle.std.proofs.Common.{◌≡◌, ◌≢◌, ℕ, suc, ◌+◌, ◌-◌, ◌*◌, ◌%◌, ◌≤◌, inl, inr, List, [], ◌∷◌, length, map, take, set, refl, sym, ap, ◌∙◌, arith}
-use Rattle.std.specs.Prelude.{slice_index}
-use Rattle.std.proofs.lemmas.List.{length-set, length-take, get_or-set_same, get_or-set_other, set-get_or, set-set, set_past, take-set-le, map-append}
-use Rattle.std.proofs.lemmas.Bool.{cases_lt}
-use Rattle.std.proofs.Math.Seq.{take-set-lt}
+use Rattle.afdx_frame.proofs.Names.{◌≡◌, ◌≢◌, ℕ, suc, ◌+◌, ◌-◌, ◌*◌, ◌%◌, ◌≤◌, inl, inr, List, [], ◌∷◌, length, map, take, set, refl, sym, ap, ◌∙◌, arith, slice_index, length-set, length-take}
+use Rattle.afdx_frame.proofs.Names.{get_or-set_same, get_or-set_other, set-get_or, set-set, set_past, take-set-le, map-append, cases_lt, take-set-lt, identification, Net, interface_byte, link_header}
+use Rattle.afdx_frame.proofs.Names.{unnumbered, word_at, link_in, sub_in, number_in, Sent, blanked, fragments_at, fragments_from}
 use Rattle.std.proofs.lemmas.Simd.{map-map}
-use Rattle.afdx_plan.specs.Numbers.{identification}
-use Rattle.afdx_frame.specs.declared.net.Net.{Net}
-use Rattle.afdx_frame.specs.Frame.{interface_byte, link_header, unnumbered}
-use Rattle.afdx_frame.specs.Profile.{word_at}
-use Rattle.afdx_frame.specs.Header.{link_in, sub_in, number_in}
 use Rattle.afdx_frame.specs.Twin.{twin_of}
-use Rattle.afdx_frame.specs.Fragments.{Sent, blanked, fragments_at, fragments_from}
 
 -- A twin differs in the byte of the interface identifier alone.
 pub twin_elsewhere : (net : Net) (frame : List ℕ) (k : ℕ) → k ≢ 11 → slice_index (twin_of net frame) k ≡ slice_index frame k

@@ -1,12 +1,8 @@
 -- A generated checksum passes the receiver's check, and a changed word fails it.
-use Rattle.std.proofs.Common.{◌≡◌, ℕ, zero, suc, ◌+◌, ◌*◌, ◌⊎◌, inl, inr, List, [], ◌∷◌, ◌++◌, length, ap, ◌∙◌, arith}
+use Rattle.afdx_frame.proofs.Names.{◌≡◌, ℕ, zero, suc, ◌+◌, ◌*◌, ◌⊎◌, inl, inr, List, [], ◌∷◌, ◌++◌, length, ap, ◌∙◌, arith, PortPlan, two_bytes, OneUdpChecksum, word_sum, udp_checksum, datagram}
+use Rattle.afdx_frame.proofs.Names.{datagram_len, udp_field, udp_front, udp_header, udp_sum, ChecksumsPass, ReassembledPass, ChangedWordsFail}
 use Rattle.std.proofs.lemmas.List.{length-append}
 use Rattle.afdx_plan.specs.declared.identifiers.UdpSum.TheVariants.{Generated}
-use Rattle.afdx_plan.specs.declared.port_plan.PortPlan.{PortPlan}
-use Rattle.afdx_plan.specs.Address.{two_bytes}
-use Rattle.afdx_frame.specs.Checksum.{OneUdpChecksum, word_sum, udp_checksum}
-use Rattle.afdx_frame.specs.Frame.{datagram, datagram_len, udp_field, udp_front, udp_header, udp_sum}
-use Rattle.afdx_frame.specs.UdpCheck.{ChecksumsPass, ReassembledPass, ChangedWordsFail}
 use Rattle.afdx_frame.proofs.Buffers.{any_order_holds}
 use Rattle.afdx_frame.proofs.Datagram.{length-udp_header}
 

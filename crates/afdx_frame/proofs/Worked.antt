@@ -1,21 +1,12 @@
 -- The worked cases of the laws, by computation.
-use Rattle.std.proofs.Common.{◌≡◌, ℕ, zero, suc, ◌+◌, ◌≤◌, ◌<◌, [], ◌∷◌, slice_index, refl, arith, List, get_or, ap, inr}
-use Rattle.afdx_frame.specs.Checksum.{checksum, udp_checksum}
-use Rattle.afdx_frame.specs.Cutting.{IsCutting, cutting, piece_at, pieces_left}
+use Rattle.afdx_frame.proofs.Names.{◌≡◌, ℕ, zero, suc, ◌+◌, ◌≤◌, ◌<◌, [], ◌∷◌, slice_index, refl, arith, List, get_or, ap, inr, checksum, udp_checksum, IsCutting, cutting, piece_at, pieces_left, A}
+use Rattle.afdx_frame.proofs.Names.{addresses, header_front, internet_header, link_header, udp_header, datagram, unnumbered, udp_sum, fragments_at, IsPiece, Contains, AllByRecursion, All-contains}
+use Rattle.afdx_frame.proofs.Names.{All-from_recursion, Fragment, IsWordChanged}
 use Rattle.afdx_frame.specs.Worked.{ChecksOneHeader, CutsInTwo, KeepsTwoPieces, long_sent, TurnsOneFrame, SaysItsFields, GrowsByOne, CutsBoth, TurnsThreeFragments, first_bytes, middle_bytes, last_bytes, foreign_bytes, four_came, three_came, ThreePieces, MissesTheMiddle, ChecksThreeDatagrams, first_datagram, damaged_datagram}
 use Rattle.afdx_frame.proofs.PiecesAre.{pieces_are}
 use Rattle.afdx_plan.specs.Demo.{demo_port}
 use Rattle.afdx_plan.proofs.DemoPlan.{demo_port_is}
-use Rattle.afdx_frame.specs.declared.net.Net.TheVariants.{A}
-use Rattle.afdx_frame.specs.Frame.{addresses, header_front, internet_header, link_header, udp_header, datagram, unnumbered, udp_sum}
-use Rattle.afdx_frame.specs.Fragments.{fragments_at}
-use Rattle.afdx_frame.specs.ReadBack.{IsPiece}
 use Rattle.afdx_frame.proofs.Says.{says}
-use Rattle.std.specs.Prelude.{Contains}
-use Rattle.std.specs.List.{AllByRecursion}
-use Rattle.std.proofs.lemmas.List.Elements.{All-contains, All-from_recursion}
-use Rattle.afdx_frame.specs.Reassembly.{Fragment}
-use Rattle.afdx_frame.specs.UdpCheck.{IsWordChanged}
 
 pub checks_one_header : ChecksOneHeader
 unfolding checksum

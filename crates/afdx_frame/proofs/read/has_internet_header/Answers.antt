@@ -1,4 +1,4 @@
-use Rattle.std.proofs.Common.{rules}
+use Rattle.afdx_frame.proofs.Names.{rules}
 use Rattle.afdx_frame.proofs.read.has_internet_header.Goals as goal
 
 -- at half of its limits the search finds this only if it is stated here

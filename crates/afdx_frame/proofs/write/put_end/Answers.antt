@@ -1,6 +1,4 @@
-use Rattle.std.proofs.Common.{ℕ, refl}
-use Rattle.std.proofs.lemmas.List.{take-replicate}
-use Rattle.std.proofs.Math.ListN.{length-replicate}
+use Rattle.afdx_frame.proofs.Names.{ℕ, refl, take-replicate, length-replicate}
 use Rattle.afdx_frame.proofs.write.put_end.Goals as goal
 
 pub returns : goal.returns

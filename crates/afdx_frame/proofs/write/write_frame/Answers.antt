@@ -1,5 +1,4 @@
-use Rattle.std.proofs.Common.{◌≡◌, length, refl, arith}
-use Rattle.afdx_frame.specs.Frame.{unnumbered}
+use Rattle.afdx_frame.proofs.Names.{◌≡◌, length, refl, arith, unnumbered}
 use Rattle.afdx_frame.proofs.Says.{length-destination}
 use Rattle.afdx_frame.proofs.write.write_frame.Goals as goal
 

@@ -1,8 +1,5 @@
-use Rattle.std.proofs.Common.{◌≡◌, ◌+◌, ◌≤◌, length, arith, refl, subst, rules, vec_capacity}
-use Rattle.afdx_plan.specs.Room.{room_of}
-use Rattle.afdx_frame.specs.Cutting.{Cutting, piece_at}
+use Rattle.afdx_frame.proofs.Names.{◌≡◌, ◌+◌, ◌≤◌, length, arith, refl, subst, rules, vec_capacity, room_of, Cutting, piece_at, IsFrameOf}
 use Rattle.afdx_frame.proofs.CuttingLemmas.{left_none, left_first}
-use Rattle.afdx_frame.specs.Header.{IsFrameOf}
 use Rattle.afdx_frame.proofs.Says.{header_says}
 use Rattle.afdx_frame.proofs.FragmentLemmas.{step_fragments}
 use Rattle.afdx_frame.proofs.cut.Cut.write_next.Goals as goal
