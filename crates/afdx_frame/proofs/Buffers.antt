@@ -71,7 +71,6 @@ data_length d p within = let a = length-take p.len (drop p.start d) in let b = l
 -- the fragment of a piece agrees with the datagram
 agrees_of : (room : ℕ) (d : List ℕ) (p : Piece) → IsPart room (length d) p → Agrees d (fragment_of d p)
 agrees_of room d p is =
-    let aligned = is.units in
     let len = data_length d p is.within in
     record {
       same = λ i in_it. let c = covers_parts (fragment_of d p) i in_it in let low = c.0 in let high = c.1 in
@@ -127,10 +126,7 @@ module _ (room : ℕ) (d : List ℕ) (came : List Fragment) (least : 8 ≤ room)
       known i below =
           let cover = cover_of room i (length d) least below in
           let is = part cover.piece cover.among in
-          let aligned = is.units in
           let len = data_length d cover.piece is.within in
-          let low = cover.from in
-          let high = cover.below in
           let f : Fragment = fragment_of d cover.piece in
           let in_it : covers f i ≡ true
           = and_from (nat_le (8 * f.offset) i) (nat_lt i (8 * f.offset + length f.bytes)) (le-leb _ _ (omega arith))
@@ -142,7 +138,6 @@ module _ (room : ℕ) (d : List ℕ) (came : List Fragment) (least : 8 ≤ room)
       total =
           let last = cover_of room (length d - 1) (length d) least (omega arith) in
           let is = part last.piece last.among in
-          let below = last.below in
           let ends : last.piece.more ≡ false
           = false_from_ne_true last.piece.more (λ more. let h = (is.going more).0 in omega arith) in
           total_after d came empty agree
@@ -155,14 +150,12 @@ module _ (room : ℕ) (d : List ℕ) (came : List Fragment) (least : 8 ≤ room)
       let src = source_of missing has in
       let is = part src.0 src.1 in
       let within = is.within in
-      let long = is.len.0 in
       let at = src.0.start in
       let cover = cover_of room at (length d) least (omega arith) in
       let uncovered : list_any (λ f. covers f at) came ≡ false = list_any_none (λ f. covers f at) came (λ k e inside.
       let there = Contains-get_or came k e inside in
       let other = source_of _ (only _ there) in
       let its = part other.0 other.1 in
-      let aligned = its.units in
       let len = data_length d other.0 its.within in
       false_from_ne_true _ (λ in_it.
       let (low, high) = covers_parts (fragment_of d other.0) at (ap (λ (g : Fragment). covers g at) other.2 ∙ in_it) in

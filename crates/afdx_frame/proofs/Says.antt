@@ -188,7 +188,6 @@ module _ (end_system : ℕ) (port : PortPlan) (message : List ℕ) (place : ℕ)
       let total = total_ok len.1 in
       let size = length-frame is within in
       let ident = ident_ok in
-      let sub = is.sub in
       record {
         frame = record {
           size = (omega arith, omega arith);
@@ -220,7 +219,6 @@ module _ (end_system : ℕ) (port : PortPlan) (message : List ℕ) (place : ℕ)
 
   pub header_says : IsPort port → piece.start + piece.len ≤ 8 + length message → IsFrameOf port.vl.0 port.sub number net frame
   header_says is within =
-      let sub = is.sub in
       let ident = ident_ok in
       let size = length-frame is within in
       record {
