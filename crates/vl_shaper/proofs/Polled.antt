@@ -1,13 +1,6 @@
 -- How long a message waits, by the polls of its link.
-use Rattle.std.proofs.Common.{ℕ, zero, suc, ◌≡◌, ◌+◌, ◌-◌, ◌*◌, ◌<◌, ◌≤◌, Bool, true, false, nat_le, ◌&&◌, cond, List, [], ◌∷◌, arith, refl, ap, ◌∙◌, sym, ◌⊎◌, inl, inr}
-use native.Mathlib.Nat.{mul-suc}
-use Rattle.std.specs.Prelude.{Option, Some, None}
-use Rattle.std.proofs.lemmas.Bool.{and_from, le-leb, cases_lt, cases_eq, eq-eqb, ne_eqb}
-use Rattle.std.proofs.lemmas.Nat.{mul-le}
-use Rattle.std.proofs.lemmas.List.Sums.{sum_by-cons}
-use Rattle.vl_shaper.specs.Choices.{Choice, next_turn, IsChosen}
-use Rattle.vl_shaper.specs.Pace.{is_due, turn_of, IsLater}
-use Rattle.vl_shaper.specs.declared.shaper.Stamp.{Stamp}
+use Rattle.vl_shaper.proofs.Names.{ℕ, zero, suc, ◌≡◌, ◌+◌, ◌-◌, ◌*◌, ◌<◌, ◌≤◌, Bool, true, false, nat_le, ◌&&◌, cond, List, [], ◌∷◌, arith, refl, ap, ◌∙◌, sym, ◌⊎◌, inl, inr, mul-suc, Option, Some}
+use Rattle.vl_shaper.proofs.Names.{None, and_from, le-leb, cases_lt, cases_eq, eq-eqb, ne_eqb, mul-le, sum_by-cons, Choice, next_turn, IsChosen, is_due, turn_of, IsLater, Stamp}
 use Rattle.vl_shaper.specs.Polls.{Poll, IsServed, AreServed, ArePolled, latest_poll, is_of, HasAtPolls, released_by, PolledInTime}
 use Rattle.vl_shaper.proofs.OneEach.{back, back_lt, back_self, turn_cases, chosen_behind}
 
@@ -90,7 +83,6 @@ in_time [] subs x l (suc f) gap late before polled moment last xl ll some after 
 in_time (p ∷ ps) subs x l (suc f) gap late before polled moment last xl ll some after order served paced has near enough reach =
     let pause : ℕ = gap + late in
     let had : p.has x ≡ true = has.0 (omega arith) in
-    let step = paced.0 in
     let b = back_lt subs x l xl ll in
     let m = mul-suc subs f in
     let e = enough (omega arith) in

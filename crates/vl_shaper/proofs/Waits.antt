@@ -1,12 +1,8 @@
 -- How long a sub-VL waits, in choices and by the clock, and rounds in which it waits that long.
-use Rattle.std.proofs.Common.{ℕ, zero, suc, ◌≡◌, ◌≢◌, ◌+◌, ◌-◌, ◌*◌, ◌<◌, ◌≤◌, List, [], ◌∷◌, length, take, arith, refl, ap, ◌∙◌, subst, inl, inr}
-use native.Mathlib.Nat.{mul-suc, suc-mul, lt_of_mul-lt-mul_left}
+use Rattle.vl_shaper.proofs.Names.{ℕ, zero, suc, ◌≡◌, ◌≢◌, ◌+◌, ◌-◌, ◌*◌, ◌<◌, ◌≤◌, List, [], ◌∷◌, length, take, arith, refl, ap, ◌∙◌, subst, inl, inr, mul-suc, suc-mul, lt_of_mul-lt-mul_left}
+use Rattle.vl_shaper.proofs.Names.{All-cons, All-nil, All-weaker, Choice, next_turn, AreChosen, turns_of, HasUntil, QueuedMessage, BoundIsMet, Release, choices_of, IsPaced, IsBy, InTime, busy_choice}
 use Rattle.std.specs.Prelude.{All}
 use Rattle.std.proofs.lemmas.List.{length-map, take-map, take_all}
-use Rattle.std.proofs.lemmas.List.Elements.{All-cons, All-nil, All-weaker}
-use Rattle.vl_shaper.specs.Choices.{Choice, next_turn, AreChosen}
-use Rattle.vl_shaper.specs.Latency.{turns_of, HasUntil, QueuedMessage, BoundIsMet, Release, choices_of, IsPaced, IsBy, InTime}
-use Rattle.vl_shaper.specs.WorkedChoices.{busy_choice}
 use Rattle.vl_shaper.proofs.OneEach.{back, back_cases, back_lt, back_self, turn_cases, turn_lt, chosen_behind, count_cases}
 
 -- n choices suffice: the sub-VLs still before x, and one round for each turn but the first.
@@ -45,7 +41,6 @@ by_then : (n gap late start : ℕ) (releases : List Release) → IsPaced gap lat
 by_then zero gap late start releases p = All-nil (IsBy (start + 0 * (gap + late)))
 by_then (suc n) gap late start [] p = All-nil (IsBy (start + suc n * (gap + late)))
 by_then (suc n) gap late start (r ∷ releases) p =
-    let first = p.0 in
     let wide = suc-mul n (gap + late) in
     All-cons (IsBy (start + suc n * (gap + late))) r (take n releases) (omega arith)
     (All-weaker (IsBy (r.at + n * (gap + late))) (IsBy (start + suc n * (gap + late))) (λ s h. omega arith)

@@ -1,8 +1,5 @@
 -- The worked polls, by computation.
-use Rattle.std.proofs.Common.{nat_eq, refl, arith}
-use Rattle.std.proofs.lemmas.Bool.{ne_eqb}
-use Rattle.vl_shaper.specs.Choices.{IsChosen}
-use Rattle.vl_shaper.specs.Pace.{turn_of}
+use Rattle.vl_shaper.proofs.Names.{nat_eq, refl, arith, ne_eqb, IsChosen, turn_of}
 use Rattle.vl_shaper.specs.WorkedPolls.{served_at_0, ServesInTime, ReleasesAtOnce, PolledTooLate}
 use Rattle.vl_shaper.proofs.WorkedTurns.{first_chosen}
 

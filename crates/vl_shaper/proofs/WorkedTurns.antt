@@ -1,9 +1,6 @@
 -- The worked choices and the worked wait, by computation.
-use Rattle.std.proofs.Common.{ℕ, ◌≡◌, ◌≢◌, ◌<◌, ◌≤◌, true, refl, arith}
-use Rattle.std.proofs.lemmas.Bool.{ne_eqb}
-use Rattle.std.proofs.lemmas.List.Elements.{All-from_recursion}
-use Rattle.vl_shaper.specs.Choices.{Choice, next_turn, IsChosen}
-use Rattle.vl_shaper.specs.WorkedChoices.{lone_choice, busy_release, ChoosesOneEach, WaitsBehindOne, LeavesOneBehind, WaitsFourChoices, ReleasesTooLate}
+use Rattle.vl_shaper.proofs.Names.{ℕ, ◌≡◌, ◌≢◌, ◌<◌, ◌≤◌, true, refl, arith, ne_eqb, All-from_recursion, Choice, next_turn, IsChosen, lone_choice, busy_release, ChoosesOneEach, WaitsBehindOne}
+use Rattle.vl_shaper.proofs.Names.{LeavesOneBehind, WaitsFourChoices, ReleasesTooLate}
 
 -- A sub-VL that has the first turn and has something is chosen.
 pub first_chosen : (subs : ℕ) (order : ℕ → ℕ) (c : Choice) → 1 ≤ subs → c.sub ≡ order 0 → c.has c.sub ≡ true

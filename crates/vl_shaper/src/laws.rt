@@ -19,6 +19,7 @@ pub fn one_each()
 ///
 /// A choice is a poll at which the link was due and some sub-VL had something. Two premises: the
 /// message's own sub-VL had something until then, and such polls happen.
+#[tactic(auto, using(crate::proofs::Waits::queued_message_holds, crate::proofs::WorkedTurns::waits_behind_one))]
 pub fn queued_message()
     ensures released { QueuedMessage }
 
@@ -41,6 +42,7 @@ pub fn bound_is_met()
 ///
 /// A premise: polls come, and are at most that late. The law doesn't cover the time that the
 /// networks take, nor a frame that the last network failed to take: it counts as a choice.
+#[tactic(auto, using(crate::proofs::Waits::in_time_holds, crate::proofs::WorkedTurns::waits_four_choices, crate::proofs::WorkedTurns::releases_too_late))]
 pub fn in_time()
     ensures bound { InTime }
 
@@ -58,6 +60,7 @@ pub fn in_time()
 /// At acceptance the link may be due or not, and may have released a frame before or not. Two
 /// premises: polls come until then, and the message's sub-VL has something at each of them until
 /// the message is wholly released. The law doesn't cover the time that the networks take.
+#[tactic(auto, using(crate::proofs::Polled::polled_in_time_holds, crate::proofs::WorkedSixPolls::serves_in_time, crate::proofs::WorkedSixPolls::releases_at_once, crate::proofs::WorkedSixPolls::polled_too_late))]
 pub fn polled_in_time()
     ensures bound { PolledInTime }
 
