@@ -1,20 +1,10 @@
 -- How the rule is kept when one cell and one seat change.
-use Rattle.std.proofs.Common.{◌≡◌, ◌≢◌, ℕ, zero, suc, ◌+◌, ◌*◌, ◌^◌, ◌%◌, ◌<◌, ◌≤◌, ◌⊎◌, inl, inr, Bool, List, [], ◌∷◌, length, get_or, set, sym, refl, ap, ◌∙◌, subst, ⊎_elim, arith, mod-lt, length-set, get_or-set_other}
+use Rattle.subvl_queue.proofs.Names.{◌≡◌, ◌≢◌, ℕ, zero, suc, ◌+◌, ◌*◌, ◌^◌, ◌%◌, ◌<◌, ◌≤◌, ◌⊎◌, inl, inr, Bool, List, [], ◌∷◌, length, get_or, set, sym, refl, ap, ◌∙◌, subst, ⊎_elim, arith, mod-lt}
+use Rattle.subvl_queue.proofs.Names.{length-set, get_or-set_other, some, Option, Some, None, add-mod_right, ℕ_discrete, get_elem?, State, at_set, set_else, set_here, View, Role, Spent, Stage, Drew}
+use Rattle.subvl_queue.proofs.Names.{Holding, owned, total, in_hand, in_room, waiting, asks_of, budget, shut_bit, Gone, Totals, Joined, Whole, Collects, Busy, Phase, free, writing, full, reading}
+use Rattle.subvl_queue.proofs.Names.{Cell, holder, InPhase, CellOk, Has, Knows, Fits, Queue}
 use mathlib.Core.Path.{Path}
-use mathlib.Core.Option.{some}
 use mathlib.Core.Option as maybe
-use Rattle.std.specs.Prelude.{Option, Some, None}
-use native.Mathlib.Nat.{add-mod_right}
-use native.Mathlib.Decide.{ℕ_discrete}
-use lib.ListN.{get_elem?}
-use Rattle.atomic_table.specs.Table.{State}
-use Rattle.atomic_table.proofs.Lists.{at_set, set_else, set_here}
-use Rattle.subvl_queue.specs.declared.rule.View.{View}
-use Rattle.subvl_queue.specs.declared.rule.Role.{Role}
-use Rattle.subvl_queue.specs.declared.rule.Role.TheVariants.{Spent}
-use Rattle.subvl_queue.specs.declared.rule.Stage.{Stage}
-use Rattle.subvl_queue.specs.declared.rule.Stage.TheVariants.{Drew, Holding}
-use Rattle.subvl_queue.specs.Queue.{owned, total, in_hand, in_room, waiting, asks_of, budget, shut_bit, Gone, Totals, Joined, Whole, Collects, Busy, Phase, free, writing, full, reading, Cell, holder, InPhase, CellOk, Has, Knows, Fits, Queue}
 
 abbrev pick : {P : Type 0} → Dec P → Cell → Cell → Cell
 pick (yes _) a b = a

@@ -1,3 +1,4 @@
+mod Names
 pub mod Totals
 pub mod Cells
 pub mod Parts

@@ -1,24 +1,14 @@
 -- Each step keeps the rule.
-use Rattle.std.proofs.Common.{◌≡◌, ◌≢◌, ℕ, zero, suc, ◌+◌, ◌-◌, ◌*◌, ◌^◌, ◌%◌, ◌<◌, ◌≤◌, ◌⊎◌, inl, inr, Bool, true, false, List, [], ◌∷◌, ◌++◌, length, take, get_or, set, sym, refl, ap, ◌∙◌, subst, ⊎_elim, arith, mod-lt, suc-ne-zero, length-set, length-append, get_or-set_other, get_or-set_same, zero-add, lt_of_not-le}
-use Rattle.std.proofs.lemmas.Bool.{cases_Bool}
+use Rattle.subvl_queue.proofs.Names.{◌≡◌, ◌≢◌, ℕ, zero, suc, ◌+◌, ◌-◌, ◌*◌, ◌^◌, ◌%◌, ◌<◌, ◌≤◌, ◌⊎◌, inl, inr, Bool, true, false, List, [], ◌∷◌, ◌++◌, length, take, get_or, set, sym, refl, ap, ◌∙◌}
+use Rattle.subvl_queue.proofs.Names.{subst, ⊎_elim, arith, mod-lt, suc-ne-zero, length-set, length-append, get_or-set_other, get_or-set_same, zero-add, lt_of_not-le, cases_Bool, none, some}
+use Rattle.subvl_queue.proofs.Names.{add-mod_right, ℕ_discrete, dec_le, get_elem?, Option, Some, None, IfSome, bit_or, take-append-le, step, Act, keeps, takes, gives, Valid, carried_after, stepped}
+use Rattle.subvl_queue.proofs.Names.{Allows, set_here, set_else, at_last, at_longer, one_turn, View, Role, Sender, Receiver, Spent, Stage, Idle, Asked, Refused, Drew, Late, Holding, owned, total}
+use Rattle.subvl_queue.proofs.Names.{hand_of, found_of, wait_of, budget_of, shut_bit, in_hand, in_room, waiting, asks_of, budget, Totals, Gone, Whole, Collects, Busy, Phase, free, writing, full}
+use Rattle.subvl_queue.proofs.Names.{reading, Cell, holder, shown, InPhase, CellOk, Knows, Fits, Queue, Seated, with_ask, idle, drawn, with_look, holding, freed_of, lated, with_glance, with_total}
+use Rattle.subvl_queue.proofs.Names.{with_all, asks, gives_back, draws, readies, looks, frees, glances_at, closes, gathers}
 use mathlib.Core.Logic.{dite}
-use mathlib.Core.Option.{none, some}
 use mathlib.Core.Option as maybe
-use native.Mathlib.Nat.{add-mod_right}
-use native.Mathlib.Decide.{ℕ_discrete, dec_le}
-use lib.ListN.{get_elem?}
 use lib.Seq.{set-get_or}
-use Rattle.std.specs.Prelude.{Option, Some, None, IfSome, bit_or}
-use Rattle.std.proofs.lemmas.List.{take-append-le}
-use Rattle.atomic_table.specs.Table.{step, Act, keeps, takes, gives, Valid, carried_after, stepped, Allows}
-use Rattle.atomic_table.proofs.Lists.{set_here, set_else, at_last, at_longer, one_turn}
-use Rattle.subvl_queue.specs.declared.rule.View.{View}
-use Rattle.subvl_queue.specs.declared.rule.Role.{Role}
-use Rattle.subvl_queue.specs.declared.rule.Role.TheVariants.{Sender, Receiver, Spent}
-use Rattle.subvl_queue.specs.declared.rule.Stage.{Stage}
-use Rattle.subvl_queue.specs.declared.rule.Stage.TheVariants.{Idle, Asked, Refused, Drew, Late, Holding}
-use Rattle.subvl_queue.specs.Queue.{owned, total, hand_of, found_of, wait_of, budget_of, shut_bit, in_hand, in_room, waiting, asks_of, budget, Totals, Gone, Whole, Collects, Busy, Phase, free, writing, full, reading, Cell, holder, shown, InPhase, CellOk, Knows, Fits, Queue}
-use Rattle.subvl_queue.specs.Steps.{Seated, with_ask, idle, drawn, with_look, holding, freed_of, lated, with_glance, with_total, with_all, asks, gives_back, draws, readies, looks, frees, glances_at, closes, gathers}
 use Rattle.subvl_queue.proofs.Totals.{sums, hands_small, rooms_small, total_le, one_less, one_more}
 use Rattle.subvl_queue.proofs.Parts.{owned_mine, owned_other, owned_at, take_next}
 use lib.Bits.{or_shifted_r}
@@ -466,7 +456,6 @@ module _ {T : Type 0} where
       let w = freed_of me.0 x in
       let sum = sums s.views id me.0 w Holding Receiver Receiver at was is is in
       let now = get_or-set_same s.words 0 y' 0 (omega arith) in
-      let below : p < length r.log = ok.phase.1 in
       let logged : get_elem? r.log F ≡ some x = ap (get_elem? r.log) (sym pF) ∙ kn.0.1.2 in
       let count = length-append me.0.taken (x ∷ []) in
       subst (λ (cs : List (ℕ × Option (ℕ × T))). Goes s 0 id (me.0, cs) (frees (step n 0 1 0 none) (me.0, cs)) y') {x = (i, None) ∷ []}

@@ -1,15 +1,7 @@
 -- The messages of one port in a list, and their places.
-use Rattle.std.proofs.Common.{◌≡◌, ◌≢◌, ℕ, zero, suc, ◌+◌, ◌-◌, ◌==◌, ◌<◌, ◌≤◌, if◌then◌else◌, List, [], ◌∷◌, ◌++◌, length, map, take, drop, get_or, Bool, true, false, eqb, cond, sym, refl, ap, ◌∙◌, subst, arith, eq-eqb, ne_eqb, lt_of_not-le}
-use mathlib.Core.Option.{some, some-injective, some-ne-none}
-use native.Mathlib.Decide.{ℕ_discrete}
-use lib.ListN.{get_elem?}
-use Rattle.std.proofs.lemmas.Bool.{eqb-true}
-use Rattle.std.proofs.lemmas.List.Elements.{All-cons, All-nil}
-use Rattle.subvl_queue.specs.declared.item.Message.{Message}
-use Rattle.subvl_queue.specs.Gathers.{items_of, own_of, places_of}
-use Rattle.subvl_queue.specs.Messages.{IsItem, AreItems, part_of}
-use Rattle.subvl_queue.specs.Queue.{owned}
-use Rattle.subvl_queue.specs.Views.{StandAt, TellsLeft}
+use Rattle.subvl_queue.proofs.Names.{◌≡◌, ◌≢◌, ℕ, zero, suc, ◌+◌, ◌-◌, ◌==◌, ◌<◌, ◌≤◌, if◌then◌else◌, List, [], ◌∷◌, ◌++◌, length, map, take, drop, get_or, Bool, true, false, eqb, cond, sym, refl, ap}
+use Rattle.subvl_queue.proofs.Names.{◌∙◌, subst, arith, eq-eqb, ne_eqb, lt_of_not-le, some, some-injective, some-ne-none, ℕ_discrete, get_elem?, eqb-true, All-cons, All-nil, Message, items_of, own_of}
+use Rattle.subvl_queue.proofs.Names.{places_of, IsItem, AreItems, part_of, owned, StandAt, TellsLeft}
 
 cond_append : {A : Type 0} (b : Bool) (x : A) (l r : List A) → cond b (x ∷ (l ++ r)) (l ++ r) ≡ cond b (x ∷ l) l ++ r
 cond_append true x l r = refl

@@ -1,17 +1,8 @@
 -- The rule at the start, with a new sender, and after a sender has ended.
-use Rattle.std.proofs.Common.{◌≡◌, ◌≢◌, ℕ, zero, suc, ◌+◌, ◌-◌, ◌^◌, ◌%◌, ◌<◌, ◌≤◌, false, List, [], ◌∷◌, ◌++◌, map, length, get_or, set, replicate, sym, refl, ap, ◌∙◌, subst, ⊎_elim, arith, mod-eq_of_lt, length-set, length-append}
-use mathlib.Core.Option.{none, some}
+use Rattle.subvl_queue.proofs.Names.{◌≡◌, ◌≢◌, ℕ, zero, suc, ◌+◌, ◌-◌, ◌^◌, ◌%◌, ◌<◌, ◌≤◌, false, List, [], ◌∷◌, ◌++◌, map, length, get_or, set, replicate, sym, refl, ap, ◌∙◌, subst, ⊎_elim, arith}
+use Rattle.subvl_queue.proofs.Names.{mod-eq_of_lt, length-set, length-append, none, some, get_elem?, length-map, length-replicate, Option, None, Splits, Joins, opening, set_else, at_snoc, at_longer}
+use Rattle.subvl_queue.proofs.Names.{View, Role, Sender, Receiver, Spent, Idle, owned, Gone, Whole, Collects, free, Knows, Fits, Queue, first_view, new_seat, spent_view, one_made, with_joined}
 use mathlib.Core.Option as maybe
-use lib.ListN.{get_elem?, length-map, length-replicate}
-use Rattle.std.specs.Prelude.{Option, None}
-use Rattle.atomic_table.specs.Table.{Splits, Joins, opening}
-use Rattle.atomic_table.proofs.Lists.{set_else, at_snoc, at_longer}
-use Rattle.subvl_queue.specs.declared.rule.View.{View}
-use Rattle.subvl_queue.specs.declared.rule.Role.{Role}
-use Rattle.subvl_queue.specs.declared.rule.Role.TheVariants.{Sender, Receiver, Spent}
-use Rattle.subvl_queue.specs.declared.rule.Stage.TheVariants.{Idle}
-use Rattle.subvl_queue.specs.Queue.{owned, Gone, Whole, Collects, free, Knows, Fits, Queue}
-use Rattle.subvl_queue.specs.Steps.{first_view, new_seat, spent_view, one_made, with_joined}
 use Rattle.subvl_queue.proofs.Totals.{sums, sums_end}
 use Rattle.subvl_queue.proofs.Cells.{fits, holds_none, each_after}
 use Rattle.subvl_queue.proofs.Moves.{calm_at}

@@ -1,17 +1,7 @@
 -- The senders in a list, and what the receiver has of them.
-use Rattle.std.proofs.Common.{◌≡◌, ℕ, zero, suc, ◌+◌, ◌<◌, ◌≤◌, List, [], ◌∷◌, ◌++◌, length, take, drop, get_or, sym, refl, ap, ◌∙◌, subst, arith, length-append}
-use Rattle.std.proofs.lemmas.List.{take-append-drop, map-append}
-use Rattle.std.proofs.lemmas.List.Elements.{Contains-append_right}
-use Rattle.std.specs.Prelude.{map, Contains, Option, Some, IfSome}
-use Rattle.atomic_table.proofs.Lists.{drop_at}
-use mathlib.Core.Option.{some}
-use lib.ListN.{get_elem?}
-use Rattle.subvl_queue.specs.declared.item.Message.{Message}
-use Rattle.subvl_queue.specs.declared.rule.View.{View}
-use Rattle.subvl_queue.specs.Gathers.{items_of, own_of, places_of, IsGathered, whole, brought_of, brought_back}
-use Rattle.subvl_queue.specs.Queue.{owned}
-use Rattle.subvl_queue.specs.Steps.{IsLog, with_all, holding, freed_of}
-use Rattle.subvl_queue.specs.Views.{SenderView, Brought, HasPort, HasEvery, IsBack, AreBack, IsWhole, brought_by, brought_by_all}
+use Rattle.subvl_queue.proofs.Names.{◌≡◌, ℕ, zero, suc, ◌+◌, ◌<◌, ◌≤◌, List, [], ◌∷◌, ◌++◌, length, take, drop, get_or, sym, refl, ap, ◌∙◌, subst, arith, length-append, take-append-drop, map-append}
+use Rattle.subvl_queue.proofs.Names.{Contains-append_right, map, Contains, Option, Some, IfSome, drop_at, some, get_elem?, Message, View, items_of, own_of, places_of, IsGathered, whole, brought_of}
+use Rattle.subvl_queue.proofs.Names.{brought_back, owned, IsLog, with_all, holding, freed_of, SenderView, Brought, HasPort, HasEvery, IsBack, AreBack, IsWhole, brought_by, brought_by_all}
 use Rattle.subvl_queue.proofs.Parts.{part_is, places_are, take_next, stand_at}
 
 -- If none was found, no sender of the port is in the list.

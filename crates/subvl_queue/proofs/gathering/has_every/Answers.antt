@@ -1,4 +1,4 @@
-use Rattle.std.proofs.Common.{below_more}
+use Rattle.subvl_queue.proofs.Names.{below_more}
 use Rattle.subvl_queue.proofs.gathering.has_every.Goals as goal
 
 pub loop-port-preserved : goal.loop-port-preserved

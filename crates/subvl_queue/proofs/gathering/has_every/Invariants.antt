@@ -1,5 +1,4 @@
-use Rattle.std.proofs.Common.{ℕ, ◌<◌}
-use Rattle.subvl_queue.specs.Views.{HasPort}
+use Rattle.subvl_queue.proofs.Names.{ℕ, ◌<◌, HasPort}
 use Rattle.subvl_queue.proofs.gathering.has_every.Given as goal
 
 abbrev pub invariant-loop-port : goal.invariant-loop-port

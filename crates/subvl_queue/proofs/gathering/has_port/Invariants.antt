@@ -1,5 +1,4 @@
-use Rattle.std.proofs.Common.{◌≡◌, ℕ, ◌<◌, get_or}
-use Rattle.subvl_queue.specs.Views.{SenderView}
+use Rattle.subvl_queue.proofs.Names.{◌≡◌, ℕ, ◌<◌, get_or, SenderView}
 use Rattle.subvl_queue.proofs.gathering.has_port.Given as goal
 
 abbrev pub invariant-loop-sender : goal.invariant-loop-sender

@@ -1,8 +1,6 @@
-use Rattle.std.proofs.Common.{rules, List, [], ◌∷◌, ◌++◌, sym, ap, ◌∙◌, append_assoc, append-nil}
-use Rattle.std.proofs.lemmas.List.{map-append, map-id}
+use Rattle.subvl_queue.proofs.Names.{rules, List, [], ◌∷◌, ◌++◌, sym, ap, ◌∙◌, append_assoc, append-nil, map-append, map-id, SenderView, ReceiverView, Brought, brought_by, brought_by_all, taken_back}
 use Rattle.std.proofs.lemmas.Iterator.Adapters.{YieldsList-from_vec}
 use Rattle.std.proofs.lemmas.Iterator.Consumers.{YieldsList-turn, YieldsList-end}
-use Rattle.subvl_queue.specs.Views.{SenderView, ReceiverView, Brought, brought_by, brought_by_all, taken_back}
 use Rattle.subvl_queue.proofs.gathering.take_all_back.Goals as goal
 
 pub loop-sender-init : goal.loop-sender-init

@@ -1,5 +1,4 @@
-use Rattle.std.proofs.Common.{◌≡◌, ◌++◌}
-use Rattle.subvl_queue.specs.Views.{brought_by_all}
+use Rattle.subvl_queue.proofs.Names.{◌≡◌, ◌++◌, brought_by_all}
 use Rattle.subvl_queue.proofs.gathering.take_all_back.Given as goal
 
 abbrev pub invariant-loop-sender : goal.invariant-loop-sender

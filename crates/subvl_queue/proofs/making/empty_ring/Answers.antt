@@ -1,4 +1,4 @@
-use Rattle.std.proofs.Common.{rules}
+use Rattle.subvl_queue.proofs.Names.{rules}
 use Rattle.subvl_queue.proofs.Seats.{starts_ok}
 use Rattle.subvl_queue.proofs.making.empty_ring.Goals as goal
 

@@ -1,4 +1,4 @@
-use Rattle.std.proofs.Common.{◌≡◌, ℕ, ◌+◌, ◌^◌, ◌<◌, length, get_or}
+use Rattle.subvl_queue.proofs.Names.{◌≡◌, ℕ, ◌+◌, ◌^◌, ◌<◌, length, get_or}
 use Rattle.subvl_queue.proofs.making.empty_ring.Given as goal
 
 abbrev pub invariant-loop-i : goal.invariant-loop-i

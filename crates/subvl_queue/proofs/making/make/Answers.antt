@@ -1,6 +1,4 @@
-use Rattle.std.proofs.Common.{rules, ◌≡◌, ℕ, ◌+◌, ◌<◌, List, [], ◌∷◌, ◌++◌, length, get_or, ◌∙◌, ap, arith, below_more, length-append}
-use Rattle.std.proofs.lemmas.List.{get_or_append_left, get_or_push}
-use Rattle.subvl_queue.specs.Views.{new_sender, one_more}
+use Rattle.subvl_queue.proofs.Names.{rules, ◌≡◌, ℕ, ◌+◌, ◌<◌, List, [], ◌∷◌, ◌++◌, length, get_or, ◌∙◌, ap, arith, below_more, length-append, get_or_append_left, get_or_push, new_sender, one_more}
 use Rattle.subvl_queue.proofs.making.make.Goals as goal
 
 -- One more row of a table.

@@ -1,6 +1,4 @@
-use Rattle.std.proofs.Common.{ap, ◌∙◌, subst, ◌≡◌}
-use Rattle.std.specs.Prelude.{Option, Some}
-use Rattle.subvl_queue.specs.Steps.{holding, freed_of, IsNext}
+use Rattle.subvl_queue.proofs.Names.{ap, ◌∙◌, subst, ◌≡◌, Option, Some, holding, freed_of, IsNext}
 use Rattle.subvl_queue.proofs.receiver.fetch.Goals as goal
 
 same_item : {A : Type 0} (x y : A) (o : Option A) → o ≡ Some x → o ≡ Some y → x ≡ y

@@ -1,4 +1,4 @@
-use Rattle.std.proofs.Common.{Some}
+use Rattle.subvl_queue.proofs.Names.{Some}
 use Rattle.subvl_queue.proofs.sender.draw_place.Given as goal
 
 abbrev pub ghosts-draw : goal.ghosts-draw

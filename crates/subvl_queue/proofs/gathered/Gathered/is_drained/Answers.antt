@@ -1,5 +1,4 @@
-use Rattle.std.proofs.Common.{ap, sym}
-use Rattle.subvl_queue.specs.Gathers.{whole}
+use Rattle.subvl_queue.proofs.Names.{ap, sym, whole}
 use Rattle.subvl_queue.proofs.Parts.{tells}
 use Rattle.subvl_queue.proofs.gathered.Gathered.is_drained.Goals as goal
 

@@ -1,5 +1,4 @@
-use Rattle.std.proofs.Common.{rules, ℕ, sym, ap, ◌∙◌}
-use Rattle.subvl_queue.specs.declared.item.Message.{Message}
+use Rattle.subvl_queue.proofs.Names.{rules, ℕ, sym, ap, ◌∙◌, Message}
 use Rattle.subvl_queue.proofs.Senders.{next_listed, goes_on, leaves}
 use Rattle.subvl_queue.proofs.gathered.Gathered.take.Goals as goal
 

@@ -1,5 +1,4 @@
-use Rattle.std.proofs.Common.{ℕ, List, sym, ap, subst}
-use Rattle.subvl_queue.specs.Views.{SenderView, ReceiverView, HasEvery, LacksOne, AreBack, IsWhole, brought_by_all, accepted_of}
+use Rattle.subvl_queue.proofs.Names.{ℕ, List, sym, ap, subst, SenderView, ReceiverView, HasEvery, LacksOne, AreBack, IsWhole, brought_by_all, accepted_of}
 use Rattle.subvl_queue.proofs.Senders.{all_brought, back_among, whole_by}
 use Rattle.subvl_queue.proofs.receiver.Receiver.gather.Goals as goal
 

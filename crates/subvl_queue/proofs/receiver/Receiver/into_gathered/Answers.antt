@@ -1,7 +1,4 @@
-use Rattle.std.proofs.Common.{ℕ, ◌<◌, ◌≤◌, List, sym, ap, subst}
-use Rattle.subvl_queue.specs.Gathers.{brought_back}
-use Rattle.subvl_queue.specs.Messages.{AreItems}
-use Rattle.subvl_queue.specs.Views.{ReceiverView, AreBack, IsWhole}
+use Rattle.subvl_queue.proofs.Names.{ℕ, ◌<◌, ◌≤◌, List, sym, ap, subst, brought_back, AreItems, ReceiverView, AreBack, IsWhole}
 use Rattle.subvl_queue.proofs.Parts.{are_items}
 use Rattle.subvl_queue.proofs.Senders.{joined_for, is_whole, accepted_is}
 use Rattle.subvl_queue.proofs.receiver.Receiver.into_gathered.Goals as goal

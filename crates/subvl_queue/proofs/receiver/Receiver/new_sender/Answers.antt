@@ -1,5 +1,4 @@
-use Rattle.std.proofs.Common.{ap, ◌∙◌}
-use Rattle.subvl_queue.specs.Views.{ReceiverView}
+use Rattle.subvl_queue.proofs.Names.{ap, ◌∙◌, ReceiverView}
 use Rattle.subvl_queue.proofs.Senders.{none_joined}
 use Rattle.subvl_queue.proofs.receiver.Receiver.new_sender.Goals as goal
 

@@ -1,5 +1,4 @@
-use Rattle.std.proofs.Common.{rules, arith}
-use Rattle.std.proofs.lemmas.Bool.{ltb-true, ltb-false}
+use Rattle.subvl_queue.proofs.Names.{rules, arith, ltb-true, ltb-false}
 use Rattle.subvl_queue.proofs.Moves.{asks_ok}
 use Rattle.subvl_queue.proofs.ring.Ring.ask.Goals as goal
 
@@ -12,8 +11,6 @@ returns-clause-found c = λ found. c.fetch_sub.ensures.2.2 (ltb-true _ _ found)
 pub returns-clause-room : goal.returns-clause-room
 returns-clause-room c = λ found.
     let over = ltb-true _ _ found in
-    let word = c.fetch_sub.ensures.2.1 in
-    let capacity = c.args.self.now.sized.1 in
     omega arith
 
 pub returns-clause-none : goal.returns-clause-none
@@ -22,6 +19,4 @@ returns-clause-none c = λ none. c.fetch_sub.ensures.2.3 (ltb-false _ _ none)
 pub returns-clause-full : goal.returns-clause-full
 returns-clause-full c = λ none.
     let under = ltb-false _ _ none in
-    let word = c.fetch_sub.ensures.2.1 in
-    let capacity = c.args.self.now.sized.1 in
     omega arith

@@ -1,5 +1,4 @@
-use Rattle.std.proofs.Common.{rules, ◌%◌, ◌∷◌, [], Some, None, sym, ap, ◌∙◌}
-use Rattle.atomic_table.specs.Table.{rest}
+use Rattle.subvl_queue.proofs.Names.{rules, ◌%◌, ◌∷◌, [], Some, None, sym, ap, ◌∙◌, rest}
 use Rattle.subvl_queue.proofs.Moves.{frees_ok}
 use Rattle.subvl_queue.proofs.ring.Ring.free.Goals as goal
 

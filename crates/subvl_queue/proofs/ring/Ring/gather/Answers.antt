@@ -1,5 +1,4 @@
-use Rattle.std.proofs.Common.{rules, subst}
-use Rattle.subvl_queue.specs.Steps.{IsLog}
+use Rattle.subvl_queue.proofs.Names.{rules, subst, IsLog}
 use Rattle.subvl_queue.proofs.Moves.{gathers_ok}
 use Rattle.subvl_queue.proofs.ring.Ring.gather.Goals as goal
 

@@ -1,4 +1,4 @@
-use Rattle.std.proofs.Common.{rules}
+use Rattle.subvl_queue.proofs.Names.{rules}
 use Rattle.subvl_queue.proofs.Moves.{gives_ok}
 use Rattle.subvl_queue.proofs.ring.Ring.give_back.Goals as goal
 

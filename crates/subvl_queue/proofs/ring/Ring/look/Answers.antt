@@ -1,6 +1,4 @@
-use Rattle.std.proofs.Common.{rules, ℕ, suc, ◌≡◌, ◌%◌, ◌+◌, ◌∙◌, refl, sym, subst, arith, length}
-use Rattle.std.proofs.lemmas.Bool.{eqb-true, eqb-false}
-use Rattle.subvl_queue.specs.Steps.{Finds, Misses}
+use Rattle.subvl_queue.proofs.Names.{rules, ℕ, suc, ◌≡◌, ◌%◌, ◌+◌, ◌∙◌, refl, sym, subst, arith, length, eqb-true, eqb-false, Finds, Misses}
 use Rattle.subvl_queue.proofs.Moves.{looks_ok}
 use Rattle.subvl_queue.proofs.ring.Ring.look.Goals as goal
 

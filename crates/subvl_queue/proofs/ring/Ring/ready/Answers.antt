@@ -1,5 +1,4 @@
-use Rattle.std.proofs.Common.{rules, ◌%◌, ◌∷◌, None, sym, ap, ◌∙◌, arith}
-use Rattle.atomic_table.specs.Table.{rest}
+use Rattle.subvl_queue.proofs.Names.{rules, ◌%◌, ◌∷◌, None, sym, ap, ◌∙◌, arith, rest}
 use Rattle.subvl_queue.proofs.Moves.{readies_ok}
 use Rattle.subvl_queue.proofs.ring.Ring.ready.Goals as goal
 

@@ -1,4 +1,4 @@
-use Rattle.std.proofs.Common.{rules}
+use Rattle.subvl_queue.proofs.Names.{rules}
 use Rattle.subvl_queue.proofs.Seats.{joins_ok}
 use Rattle.subvl_queue.proofs.ring.Ring.take_in.Goals as goal
 
