@@ -1,8 +1,6 @@
 -- The chosen sub-VL after it gave a frame.
-use Rattle.vl_link.proofs.Names.{ℕ, ◌≡◌, ◌≢◌, ◌<◌, List, set, get_or, arith, ap, ◌∙◌, sym, subst, []}
-use Rattle.vl_link.proofs.Names.{get_or_default, get_or-set_other, LinkPlan, A, IsFrameOf, Pace, turn_of, SubVl}
-use Rattle.vl_link.proofs.Names.{Held, held_at, nothing_held, Passes, Gives, IsPicked, PassedOver, AreSubsOf}
-use Rattle.vl_link.proofs.Names.{IsSameSub, AreSameSubs, held_view, IsChoice, NoneHas, turn_below, turn_onto}
+use Rattle.vl_link.proofs.Names.{ℕ, ◌≡◌, ◌≢◌, ◌<◌, List, set, get_or, arith, ap, ◌∙◌, sym, subst, [], get_or_default, get_or-set_other, LinkPlan, A, IsFrameOf, Pace, turn_of, SubVl, Held, held_at}
+use Rattle.vl_link.proofs.Names.{nothing_held, Passes, Gives, IsPicked, PassedOver, AreSubsOf, IsSameSub, AreSameSubs, held_view, IsChoice, NoneHas, turn_below, turn_onto}
 use Rattle.vl_link.proofs.Choosing.{each_set, held_same}
 use Rattle.vl_link.proofs.SubInStep.{asked_left, chosen_same, same_sub_on, gave_same}
 

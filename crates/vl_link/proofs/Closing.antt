@@ -12,11 +12,6 @@ pub closes_known : (old : Seen) (total : ℕ) (new : Seen) → Closes old total 
 closes_known (receiving old) total new c = ap known_of c.0
 closes_known (gathered old) total new c = absurd c
 
--- The number of ports is the same.
-pub closes_ports : (old : Seen) (total : ℕ) (new : Seen) → Closes old total new → ports_of new ≡ ports_of old
-closes_ports (receiving old) total new c = ap ports_of c.0
-closes_ports (gathered old) total new c = absurd c
-
 -- The identity is the same.
 pub closes_name : (old : Seen) (total : ℕ) (new : Seen) → Closes old total new → queue_of new ≡ queue_of old
 closes_name (receiving old) total new c = ap queue_of c.0

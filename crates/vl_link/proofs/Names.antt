@@ -1,25 +1,16 @@
 -- Names of other crates, and of this crate's definitions, for the proofs here.
-pub use Rattle.std.proofs.Common.{Bool, List, None, Option, Some, [], ap, arith, below_more, cond, eqb, false}
-pub use Rattle.std.proofs.Common.{filter, get_or, inl, inr, length, map, nat_le, not, refl, set, subst, suc, sym}
-pub use Rattle.std.proofs.Common.{true, zero, ℕ, ⊎_elim, ◌%◌, ◌++◌, ◌+◌, ◌-◌, ◌<◌, ◌∙◌, ◌∷◌, ◌≡◌, ◌≢◌, ◌≤◌, ◌⊎◌}
-pub use Rattle.std.proofs.lemmas.Bool.{and_parts, and_right, both_ways, cases_eq, cases_lt, eq-eqb, lt-leb, ne_eqb}
-pub use Rattle.std.proofs.lemmas.List.{append-nil, append_assoc, get_or-set_other, get_or-set_same, get_or-take}
-pub use Rattle.std.proofs.lemmas.List.{get_or_append_left, get_or_default, get_or_read, length-append, length-map}
-pub use Rattle.std.proofs.lemmas.List.{length-set, length-take, length_push, map-append, with_items_is}
-pub use Rattle.std.proofs.lemmas.List.Elements.{All-head, All-map, All-push, All-tail, All-weaker, filter-append}
-pub use Rattle.std.proofs.lemmas.List.Sums.{sum_by-append, sum_by-cons}
-pub use Rattle.std.specs.Prelude.{All, count_by}
 pub use Rattle.afdx_frame.proofs.CuttingLemmas.{cutting_some, step_le}
 pub use Rattle.afdx_frame.proofs.Twins.{fragments_again, twin_same}
-pub use Rattle.afdx_frame.specs.Cutting.{Cutting, cut_by, cutting, pieces_from, pieces_left}
+unfoldable pub use Rattle.afdx_frame.specs.Cutting.{cutting}
+pub use Rattle.afdx_frame.specs.Cutting.{Cutting, cut_by, pieces_from, pieces_left}
+unfoldable pub use Rattle.afdx_frame.specs.Fragments.{fragments_at}
 pub use Rattle.afdx_frame.specs.Fragments.{Sent, blanked, fragments, fragments_from}
+unfoldable pub use Rattle.afdx_frame.specs.Frame.{header_front, internet_header, link_header, unnumbered}
 pub use Rattle.afdx_frame.specs.Header.{IsFrameOf, link_in, sub_in}
 pub use Rattle.afdx_frame.specs.declared.net.Net.TheVariants.{A}
-pub use Rattle.afdx_legal.proofs.LongerStream.{due_apart, latest_push, numbered_push, spaced_push, with_push_in}
-pub use Rattle.afdx_legal.proofs.LongerStream.{with_push_out}
+pub use Rattle.afdx_legal.proofs.LongerStream.{due_apart, latest_push, numbered_push, spaced_push, with_push_in, with_push_out}
 pub use Rattle.afdx_legal.specs.Counting.{counts_in, ends_message, messages_ended, moment_after}
-pub use Rattle.afdx_legal.specs.Streams.{IsApart, IsNumbered, IsPrefixOf, IsSpaced, entry_number, latest}
-pub use Rattle.afdx_legal.specs.Streams.{link_stream, stamp_of, sub_stream, told}
+pub use Rattle.afdx_legal.specs.Streams.{IsApart, IsNumbered, IsPrefixOf, IsSpaced, entry_number, latest, link_stream, stamp_of, sub_stream, told}
 pub use Rattle.afdx_legal.specs.Turns.{TakesTurns, before_next, more_in}
 pub use Rattle.afdx_plan.specs.Numbers.{sequence_number}
 pub use Rattle.afdx_plan.specs.Room.{room_of, step_of}
@@ -28,21 +19,25 @@ pub use Rattle.afdx_plan.specs.declared.port_plan.PortPlan.{PortPlan}
 pub use Rattle.redundant_mux.proofs.MirroredLines.{log_more, log_same}
 pub use Rattle.redundant_mux.specs.Entry.{Entry, entry}
 pub use Rattle.redundant_mux.specs.Lines.{BothEndure, Lines, log, stands_for}
-pub use Rattle.vl_shaper.proofs.Turns.{turn_below, turn_onto}
-pub use Rattle.vl_shaper.specs.Pace.{IsBelow, IsLater, Pace, is_due, turn_of}
-pub use Rattle.vl_shaper.specs.declared.shaper.Stamp.{Stamp}
+pub use Rattle.std.proofs.Common.{Bool, List, None, Option, Some, [], ap, arith, below_more, cond, eqb, false, filter, get_or, inl, inr, length, map, nat_le, not, refl, rules, set, subst, suc, sym}
+pub use Rattle.std.proofs.Common.{true, zero, ℕ, ⊎_elim, ◌%◌, ◌&&◌, ◌++◌, ◌+◌, ◌-◌, ◌<◌, ◌∙◌, ◌∷◌, ◌≡◌, ◌≢◌, ◌≤◌, ◌⊎◌}
+pub use Rattle.std.proofs.lemmas.Bool.{and_parts, and_right, both_ways, cases_Bool, cases_eq, cases_lt, eq-eqb, lt-leb, ne_eqb}
+pub use Rattle.std.proofs.lemmas.List.{append-nil, append_assoc, get_or-set_other, get_or-set_same, get_or-take, get_or_append_left, get_or_default, get_or_read, length-append, length-map, length-set}
+pub use Rattle.std.proofs.lemmas.List.{length-take, length_push, map-append, with_items_is}
+pub use Rattle.std.proofs.lemmas.List.Elements.{All-head, All-map, All-push, All-tail, All-weaker, filter-append}
+pub use Rattle.std.proofs.lemmas.List.Sums.{sum_by-append, sum_by-cons}
+pub use Rattle.std.specs.Prelude.{All, count_by}
 pub use Rattle.vl_link.specs.Kept.{IsKept, IsLinkTied, IsTied}
 pub use Rattle.vl_link.specs.LinkGathering.{AreFullSubs, BecomesWhole, GathersSub, IsFullSub}
-pub use Rattle.vl_link.specs.Links.{AreSameSubs, AreSubsOf, Asks, Follows, Gives, GivesFrame, GoesOn, HasOwnItems}
-pub use Rattle.vl_link.specs.Links.{Held, IsLinkOfPlan, IsPicked, IsSameLink, IsSameSub, LinkState, PassedOver}
-pub use Rattle.vl_link.specs.Links.{Passes, Serves, Starts, TellsCutting, held_at, held_view, left_of}
-pub use Rattle.vl_link.specs.Links.{message_fragments, nothing_held, pace_of, sent_of, sub_fragments, taken_by}
-pub use Rattle.vl_link.specs.Seen.{Finds, FindsNothing, IsReceiving, IsSameQueue, Seen, gathered, known_of}
-pub use Rattle.vl_link.specs.Seen.{ports_of, queue_of, receiving, taken_of, total_of}
+pub use Rattle.vl_link.specs.Links.{AreSameSubs, AreSubsOf, Asks, Follows, Gives, GivesFrame, GoesOn, HasOwnItems, Held, IsLinkOfPlan, IsPicked, IsSameLink, IsSameSub, LinkState, PassedOver, Passes}
+pub use Rattle.vl_link.specs.Links.{Serves, Starts, TellsCutting, held_at, held_view, left_of, message_fragments, nothing_held, pace_of, sent_of, sub_fragments, taken_by}
+pub use Rattle.vl_link.specs.Seen.{Finds, FindsNothing, IsReceiving, IsSameQueue, Seen, gathered, known_of, ports_of, queue_of, receiving, taken_of, total_of}
 pub use Rattle.vl_link.specs.Shown.{ShowsChoices, begun_after, begun_by, none_begun, shown_choice}
 pub use Rattle.vl_link.specs.Subs.{IsCutOf, IsPortOf, IsSub, seen_of}
-pub use Rattle.vl_link.specs.Turn.{AreTurns, IsChoice, Loses, NoneHas, Releases, Turn, TurnView, entered, is_lost}
-pub use Rattle.vl_link.specs.Turn.{may_release}
+pub use Rattle.vl_link.specs.Turn.{AreTurns, IsChoice, Loses, NoneHas, Releases, Turn, TurnView, entered, is_lost, may_release}
 pub use Rattle.vl_link.specs.declared.served.Served.{Served}
 pub use Rattle.vl_link.specs.declared.served.Served.TheVariants.{Lost, Nothing, Released}
 pub use Rattle.vl_link.specs.declared.sub_vl.SubVl.{SubVl}
+pub use Rattle.vl_shaper.proofs.Turns.{turn_below, turn_onto}
+pub use Rattle.vl_shaper.specs.Pace.{IsBelow, IsLater, Pace, is_due, turn_of}
+pub use Rattle.vl_shaper.specs.declared.shaper.Stamp.{Stamp}

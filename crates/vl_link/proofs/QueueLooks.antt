@@ -1,8 +1,6 @@
 -- A queue after a poll.
-use Rattle.vl_link.proofs.Names.{ℕ, ◌≡◌, ◌≤◌, ◌∙◌, List, [], ◌∷◌, ◌++◌, Some, arith, refl, ap, sym, subst}
-use Rattle.vl_link.proofs.Names.{append_assoc, length-append, get_or_append_left, All-push, All-weaker}
-use Rattle.vl_link.proofs.Names.{BecomesWhole, Seen, receiving, gathered, taken_of, known_of, ports_of, queue_of}
-use Rattle.vl_link.proofs.Names.{total_of, FindsNothing, Finds, IsReceiving, IsSameQueue}
+use Rattle.vl_link.proofs.Names.{ℕ, ◌≡◌, ◌≤◌, ◌∙◌, List, [], ◌∷◌, ◌++◌, Some, arith, refl, ap, sym, subst, append_assoc, length-append, get_or_append_left, All-push, All-weaker, BecomesWhole, Seen}
+use Rattle.vl_link.proofs.Names.{receiving, gathered, taken_of, known_of, ports_of, queue_of, total_of, FindsNothing, Finds, IsReceiving, IsSameQueue}
 use Rattle.subvl_queue.specs.Messages.{IsItem, AreItems}
 
 -- A poll that found nothing took nothing.
@@ -41,13 +39,6 @@ items_finds n (gathered g) message new f item items = rw (f.2, append_assoc g.ta
 -- A message of one of few ports is a message of one of more ports.
 pub item_of_more : (few many : ℕ) (item : ℕ × List ℕ) → few ≤ many → IsItem few item → IsItem many item
 item_of_more few many item le own = record { port = (let below = own.port in omega arith); message = own.message }
-
--- The known messages of a gathered queue are of its ports.
-pub items_whole : (n : ℕ) (old new : Seen) → ports_of old ≤ n → BecomesWhole old new → AreItems n (known_of new)
-items_whole n (receiving old) (gathered new) many b =
-    All-weaker (IsItem old.ports) (IsItem n) (λ item own. item_of_more old.ports n item many own) (known_of (gathered new)) b.2
-items_whole n (gathered old) (gathered new) many b = absurd b
-items_whole n old new many b = absurd b
 
 -- The messages taken are of the ports of the known messages.
 pub items_taken : (n : ℕ) (seen : Seen) → AreItems n (known_of seen) → AreItems n (taken_of seen)

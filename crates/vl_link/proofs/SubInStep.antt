@@ -1,8 +1,6 @@
 -- A sub-VL that was polled or gave a frame, and its stream.
-use Rattle.vl_link.proofs.Names.{ℕ, ◌≡◌, ◌≢◌, List, [], ◌∷◌, ◌++◌, true, length, arith, refl, ap, ◌∙◌, sym, subst}
-use Rattle.vl_link.proofs.Names.{inl, inr, ⊎_elim, cases_eq, append-nil, append_assoc, map-append, length-map}
-use Rattle.vl_link.proofs.Names.{room_of, A, Sent, blanked, Entry, entry, Pace, SubVl, taken_of, told, IsPrefixOf}
-use Rattle.vl_link.proofs.Names.{Held, held_at, GoesOn, Starts, Asks, IsPicked, PassedOver, Gives, IsSameSub}
+use Rattle.vl_link.proofs.Names.{ℕ, ◌≡◌, ◌≢◌, List, [], ◌∷◌, ◌++◌, true, length, arith, refl, ap, ◌∙◌, sym, subst, inl, inr, ⊎_elim, cases_eq, append-nil, append_assoc, map-append, length-map}
+use Rattle.vl_link.proofs.Names.{room_of, A, Sent, blanked, Entry, entry, Pace, SubVl, taken_of, told, IsPrefixOf, Held, held_at, GoesOn, Starts, Asks, IsPicked, PassedOver, Gives, IsSameSub}
 use Rattle.vl_link.proofs.Names.{AreSameSubs, sub_fragments, message_fragments, sent_of, taken_by, IsTied}
 use Rattle.afdx_frame.proofs.FragmentLemmas.{fragments_more}
 use Rattle.vl_link.proofs.Choosing.{Moves, moves_passed}

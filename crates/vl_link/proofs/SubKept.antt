@@ -1,6 +1,5 @@
 -- The invariant of a sub-VL after a poll of its queue.
-use Rattle.vl_link.proofs.Names.{ℕ, ◌≡◌, ◌+◌, ◌%◌, List, [], ◌∷◌, Option, Some, arith, length-append, PortPlan}
-use Rattle.vl_link.proofs.Names.{Cutting, SubVl, Seen, taken_of, ports_of, Finds, IsSub, IsCutOf}
+use Rattle.vl_link.proofs.Names.{ℕ, ◌≡◌, ◌+◌, ◌%◌, List, [], ◌∷◌, Option, Some, arith, length-append, PortPlan, Cutting, SubVl, Seen, taken_of, ports_of, Finds, IsSub, IsCutOf}
 use Rattle.vl_link.proofs.QueueLooks.{same_finds, same_ports, taken_finds}
 
 -- A queue with the same number of ports and of messages taken.

@@ -1,5 +1,4 @@
-use Rattle.vl_link.proofs.Names.{◌+◌, ◌<◌, length, arith, ◌∙◌, get_or_default, get_or-set_other, length-set}
-use Rattle.vl_link.proofs.Names.{held_at, nothing_held, GathersSub}
+use Rattle.vl_link.proofs.Names.{◌+◌, ◌<◌, length, arith, ◌∙◌, get_or_default, get_or-set_other, length-set, held_at, nothing_held, GathersSub}
 use Rattle.vl_link.proofs.Choosing.{each_set}
 use Rattle.vl_link.proofs.link.gather_subs.Goals as goal
 

@@ -1,8 +1,4 @@
-use Rattle.std.proofs.Common.{ℕ, ◌≡◌, ◌&&◌, Bool, true, false, inl, inr, refl, rules}
-use Rattle.std.proofs.lemmas.Bool.{cases_Bool}
-use Rattle.afdx_plan.specs.declared.link_plan.LinkPlan.{LinkPlan}
-use Rattle.redundant_mux.specs.Lines.{Lines, stands_for}
-use Rattle.vl_shaper.specs.Pace.{Pace, is_due}
+use Rattle.vl_link.proofs.Names.{ℕ, ◌≡◌, ◌&&◌, Bool, true, false, inl, inr, refl, rules, cases_Bool, LinkPlan, Lines, stands_for, Pace, is_due}
 use Rattle.vl_link.specs.Due.{StaysAsIs}
 use Rattle.vl_link.proofs.link.Link.next_due.Goals.{then-due-via-then-due, then-due-via-else-due+then-not-stands_for}
 use Rattle.vl_link.proofs.link.Link.next_due.Goals as goal

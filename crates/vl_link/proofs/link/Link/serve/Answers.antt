@@ -1,5 +1,4 @@
-use Rattle.vl_link.proofs.Names.{ℕ, ◌≡◌, ◌++◌, ◌∙◌, List, length, refl, ap, sym, with_items_is, log, link_stream}
-use Rattle.vl_link.proofs.Names.{counts_in, entered}
+use Rattle.vl_link.proofs.Names.{ℕ, ◌≡◌, ◌++◌, ◌∙◌, List, length, refl, ap, sym, with_items_is, log, link_stream, counts_in, entered}
 use Rattle.std.specs.Vec.{with_items}
 use Rattle.vl_link.proofs.link.Link.serve.Goals.{then-self, else-self}
 use Rattle.vl_link.proofs.link.Link.serve.Goals as goal
