@@ -1,12 +1,8 @@
 -- On links that both networks carry, the frames of one network are the twins of the other's.
-use Rattle.afdx_tx.proofs.Names.{get_or, subst, ℕ, ◌≡◌, ◌≤◌, List, ◌++◌, Bool, true, length, map, take, arith, ap}
-use Rattle.afdx_tx.proofs.Names.{◌∙◌, sym, All, and_parts, get_or-map, length-map, take_all, take-append-le}
-use Rattle.afdx_tx.proofs.Names.{take-map, filter-append, LinkPlan, Networks, Plan, IsPlan, Net, A, B, link_in}
-use Rattle.afdx_tx.proofs.Names.{twin_link, Entry, Logged, entries_of, names, side, sent_to, Lines, Keeps}
-use Rattle.afdx_tx.proofs.Names.{IsMirrored, IsKnown, AreKnown, is_on_both, on_both, AreTwins, known_all}
-use Rattle.afdx_tx.proofs.Names.{AreCarried}
+use Rattle.afdx_tx.proofs.Names.{get_or, subst, ℕ, ◌≡◌, ◌≤◌, List, ◌++◌, Bool, true, length, map, take, arith, ap, ◌∙◌, sym, All, and_parts, get_or-map, length-map, take_all, take-append-le, take-map}
+use Rattle.afdx_tx.proofs.Names.{filter-append, LinkPlan, Networks, Plan, IsPlan, Net, A, B, link_in, twin_link, Entry, Logged, entries_of, names, side, sent_to, Lines, Keeps, IsMirrored, IsKnown}
+use Rattle.afdx_tx.proofs.Names.{AreKnown, is_on_both, on_both, AreTwins, known_all, AreCarried, log}
 use Rattle.afdx_plan.specs.Networks.{names_a, names_b, is_both}
-use Rattle.redundant_mux.specs.Lines.{log}
 use Rattle.afdx_legal.proofs.OnBoth.{on_both_is}
 use Rattle.afdx_tx.proofs.HandedFronts.{picked, all_front, log_parts}
 use Rattle.afdx_tx.proofs.OwnStreams.{sides}

@@ -1,9 +1,7 @@
 -- Polls keep the accepted messages once these are known whole.
-use Rattle.afdx_tx.proofs.Names.{ℕ, ◌≡◌, ◌<◌, List, ◌++◌, length, arith, refl, ap, ◌∙◌, sym, ⊎_elim, Result, Ok}
-use Rattle.afdx_tx.proofs.Names.{Err, OnOk, append_assoc, get_or_past, cases_lt, Plan, link_plan_at, room_of, Net}
-use Rattle.afdx_tx.proofs.Names.{A, B, Entry, Seen, receiving, gathered, IsKnownWhole, IsSameQueue, known_of}
-use Rattle.afdx_tx.proofs.Names.{told_of, IsLegalOn, IsLegal, Held, LinkState, held_at, link_at, nothing_held}
-use Rattle.afdx_tx.proofs.Names.{no_link, IsSameSub, IsSamePlan, taken_in, AreGathered, accepted_by, accepted_in}
+use Rattle.afdx_tx.proofs.Names.{ℕ, ◌≡◌, ◌<◌, List, ◌++◌, length, arith, refl, ap, ◌∙◌, sym, ⊎_elim, Result, Ok, Err, OnOk, append_assoc, get_or_past, cases_lt, Plan, link_plan_at, room_of, Net, A, B}
+use Rattle.afdx_tx.proofs.Names.{Entry, Seen, receiving, gathered, IsKnownWhole, IsSameQueue, known_of, told_of, IsLegalOn, IsLegal, Held, LinkState, held_at, link_at, nothing_held, no_link}
+use Rattle.afdx_tx.proofs.Names.{IsSameSub, IsSamePlan, taken_in, AreGathered, accepted_by, accepted_in}
 use Rattle.afdx_tx.proofs.OwedFragments.{owed_split, untaken}
 
 -- The same queue has the same accepted messages.

@@ -1,8 +1,6 @@
 -- The turns of links whose accepted messages are known whole.
-use Rattle.afdx_tx.proofs.Names.{ℕ, ◌≡◌, ◌<◌, List, length, arith, subst, and_parts, Plan, Lines, log, Served}
-use Rattle.afdx_tx.proofs.Names.{IsKnownWhole, AreTurns, LinkState, held_at, link_at, held_view, IsTurn, IsTurnAt}
-use Rattle.afdx_tx.proofs.Names.{IsRun, AreLinksOf, AreGathered, accepted_in, accepted_view, pace_in, Drains}
-use Rattle.afdx_tx.proofs.Names.{DrainsAt, IsDrained, IsOwn, turn_seen, turns_seen}
+use Rattle.afdx_tx.proofs.Names.{ℕ, ◌≡◌, ◌<◌, List, length, arith, subst, and_parts, Plan, Lines, log, Served, IsKnownWhole, AreTurns, LinkState, held_at, link_at, held_view, IsTurn, IsTurnAt, IsRun}
+use Rattle.afdx_tx.proofs.Names.{AreLinksOf, AreGathered, accepted_in, accepted_view, pace_in, Drains, DrainsAt, IsDrained, IsOwn, turn_seen, turns_seen}
 use Rattle.afdx_tx.proofs.SoundEmitter.{plan_is, count_is}
 use Rattle.afdx_tx.proofs.OwedFragments.{stands_of, lists_of, passed_released, asked_owes}
 

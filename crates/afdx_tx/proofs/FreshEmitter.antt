@@ -1,8 +1,6 @@
 -- An emitter before its first call.
-use Rattle.afdx_tx.proofs.Names.{ℕ, ◌≡◌, ◌<◌, List, length, arith, refl, ap, ◌∙◌, sym, both_ways, ext_get_or}
-use Rattle.afdx_tx.proofs.Names.{All-nil, LinkPlan, Plan, IsPlan, link_plan_at, link_in, Logged, fresh_lines}
-use Rattle.afdx_tx.proofs.Names.{fresh_log, fresh_in_step, IsItem, LinkState, no_link_plan, AreFreshLinks, plans}
-use Rattle.afdx_tx.proofs.Names.{ports_of_sub, IsSound}
+use Rattle.afdx_tx.proofs.Names.{ℕ, ◌≡◌, ◌<◌, List, length, arith, refl, ap, ◌∙◌, sym, both_ways, ext_get_or, All-nil, LinkPlan, Plan, IsPlan, link_plan_at, link_in, Logged, fresh_lines, fresh_log}
+use Rattle.afdx_tx.proofs.Names.{fresh_in_step, IsItem, LinkState, no_link_plan, AreFreshLinks, plans, ports_of_sub, IsSound}
 use Rattle.afdx_tx.proofs.PollTurns.{plan_at_is, plans_length}
 
 -- A fresh emitter is sound.

@@ -1,6 +1,5 @@
 -- Links of which only the queues have changed, without any message taken.
-use Rattle.afdx_tx.proofs.Names.{ℕ, ◌≡◌, ◌<◌, ◌++◌, List, length, arith, refl, ap, ◌∙◌, sym, subst, Plan, Entry}
-use Rattle.afdx_tx.proofs.Names.{Lines, log, told, taken_of, Held, LinkState, held_at, link_at, HasOwnItems}
+use Rattle.afdx_tx.proofs.Names.{ℕ, ◌≡◌, ◌<◌, ◌++◌, List, length, arith, refl, ap, ◌∙◌, sym, subst, Plan, Entry, Lines, log, told, taken_of, Held, LinkState, held_at, link_at, HasOwnItems}
 use Rattle.afdx_tx.proofs.Names.{IsLinkOfPlan, taken_by, sub_fragments, IsKept, IsTied, IsBehind, IsSound}
 use Rattle.afdx_tx.proofs.SoundEmitter.{plans_after}
 

@@ -1,38 +1,16 @@
 -- Names of other crates, and of this crate's definitions, for the proofs here.
-pub use Rattle.std.proofs.Common.{Bool, Err, IfOk, List, None, Ok, OnErr, Option, Result, Some, [], add-one}
-pub use Rattle.std.proofs.Common.{add-zero, ap, arith, below_more, cond, drop, drop-cons, eqb, false, filter}
-pub use Rattle.std.proofs.Common.{get_or, inl, inr, length, map, map-id, nat_eq, refl, rules, set, subst, suc, sym}
-pub use Rattle.std.proofs.Common.{take, true, unwrap_or, zero, zero-le, ℕ, ⊎_elim, ◌&&◌, ◌++◌, ◌+◌, ◌-◌, ◌<◌, ◌||◌}
-pub use Rattle.std.proofs.Common.{◌∙◌, ◌∷◌, ◌≡◌, ◌≢◌, ◌≤◌, ◌⊎◌}
-pub use Rattle.std.proofs.lemmas.Bool.{and_from, and_left, and_parts, and_right, both_ways, cases_Bool, cases_eq}
-pub use Rattle.std.proofs.lemmas.Bool.{cases_lt, eq-eqb, eqb-true, false_from_ne_true, le-leb, le-ltb, lt-ltb}
-pub use Rattle.std.proofs.lemmas.Bool.{ne_eqb}
-pub use Rattle.std.proofs.lemmas.List.{append-nil, append_assoc, ext_get_or, get_or-map, get_or-set_other}
-pub use Rattle.std.proofs.lemmas.List.{get_or-set_same, get_or_append_left, get_or_at, get_or_default, get_or_past}
-pub use Rattle.std.proofs.lemmas.List.{get_or_push, length-append, length-map, length-set, length_push, map-append}
-pub use Rattle.std.proofs.lemmas.List.{nil_from_length, set-get_or, take-append-drop, take-append-le, take-map}
-pub use Rattle.std.proofs.lemmas.List.{take_all, with_items_is}
-pub use Rattle.std.proofs.lemmas.List.Elements.{All-contains, All-contains_itself, All-filter, All-head, All-map}
-pub use Rattle.std.proofs.lemmas.List.Elements.{All-nil, All-push, All-tail, All-weaker, Contains-append_left}
-pub use Rattle.std.proofs.lemmas.List.Elements.{Contains-push, filter-append, filter_passes}
-pub use Rattle.std.proofs.lemmas.List.Sums.{fails_before_first, length-filter}
-pub use Rattle.std.specs.List.{AllPairs, position, position_or_len}
-pub use Rattle.std.specs.Prelude.{All, Contains, OnOk, ◌==◌}
-pub use Rattle.std.specs.Vec.{with_items}
-pub use Rattle.afdx_frame.proofs.Twins.{length-twin, twin_blanked, twin_fragments, twin_interface, twin_link}
-pub use Rattle.afdx_frame.proofs.Twins.{twin_number, twin_sub, twin_twice}
-pub use Rattle.afdx_frame.specs.Fragments.{Sent, blanked, fragments, fragments_at, fragments_from}
+pub use Rattle.afdx_frame.proofs.Twins.{length-twin, twin_blanked, twin_fragments, twin_interface, twin_link, twin_number, twin_sub, twin_twice}
+unfoldable pub use Rattle.afdx_frame.specs.Fragments.{fragments_at}
+pub use Rattle.afdx_frame.specs.Fragments.{Sent, blanked, fragments, fragments_from}
 pub use Rattle.afdx_frame.specs.Header.{link_in, sub_in}
 pub use Rattle.afdx_frame.specs.declared.net.Net.{Net}
 pub use Rattle.afdx_frame.specs.declared.net.Net.TheVariants.{A, B}
 pub use Rattle.afdx_legal.proofs.StreamLemmas.{known_all, with_append, with_map}
 pub use Rattle.afdx_legal.specs.Counting.{counts_in}
 pub use Rattle.afdx_legal.specs.Done.{IsAllDone, IsLinkDone, IsReleased, Owes}
-pub use Rattle.afdx_legal.specs.Legal.{Accepted, AreKnown, AreTwins, IsKnown, IsLegal, IsLegalOn, is_on_both}
-pub use Rattle.afdx_legal.specs.Legal.{on_both}
+pub use Rattle.afdx_legal.specs.Legal.{Accepted, AreKnown, AreTwins, IsKnown, IsLegal, IsLegalOn, is_on_both, on_both}
 pub use Rattle.afdx_legal.specs.Own.{AreOwnStreams, longer, own_stream}
-pub use Rattle.afdx_legal.specs.Streams.{IsNumbered, IsPrefixOf, IsSpaced, entry_number, latest, link_stream}
-pub use Rattle.afdx_legal.specs.Streams.{stamp_of, sub_stream, told, told_of}
+pub use Rattle.afdx_legal.specs.Streams.{IsNumbered, IsPrefixOf, IsSpaced, entry_number, latest, link_stream, stamp_of, sub_stream, told, told_of}
 pub use Rattle.afdx_plan.specs.Config.{HasLink, IsPlan, Plan, link_plan_at, port_plan_at}
 pub use Rattle.afdx_plan.specs.Places.{link_place}
 pub use Rattle.afdx_plan.specs.Plan.{IsPort, SendsOver, bag_micros}
@@ -41,54 +19,56 @@ pub use Rattle.afdx_plan.specs.declared.identifiers.VlId.{VlId}
 pub use Rattle.afdx_plan.specs.declared.link_plan.LinkPlan.{LinkPlan}
 pub use Rattle.afdx_plan.specs.declared.networks.Networks.{Networks}
 pub use Rattle.afdx_plan.specs.declared.port_plan.PortPlan.{PortPlan}
+pub use Rattle.afdx_tx.specs.Closing.{ClosesTx, LacksSub}
+pub use Rattle.afdx_tx.specs.Drain.{AreGathered, Drains, DrainsAt, IsDrained, accepted_by, accepted_in, accepted_view, pace_in}
+pub use Rattle.afdx_tx.specs.DrainEnds.{AreApartBy, AreDrained, DrainEnds, DrainsOne, no_lines, one_line, owed, owed_at, stream_at}
+pub use Rattle.afdx_tx.specs.Emitter.{AreApart, AreCarried, AreFreshLinks, AreKept, AreLinks, AreLinksOf, AreOpenedLinks, AreOpenedSubs, AreReceiving, AreServedBy, AreWhole, HaveOwnItems}
+pub use Rattle.afdx_tx.specs.Emitter.{IsOpenedLink, IsOpenedSub, IsSamePlan, IsSound, Tx, held_queue, link_queues, plan_of_link, plans, ports_of_sub, queues_in, taken_in, total_in}
+pub use Rattle.afdx_tx.specs.Gathering.{AreFull, GathersLinks, GathersPorts, HasOwnPart, IsGatheredLink, IsGatheredTx, IsTakenBack, OnlyTakeBack, OnlyTakesBack, held_for}
+pub use Rattle.afdx_tx.specs.NextDue.{IsFirstDue, NoneDueBefore, OneDueAt, earlier}
+pub use Rattle.afdx_tx.specs.Ports.{AreOpenedWith, BelongsTo, HasEveryPlace, HasOwnMessages, HasPlace, IsFreshPort, IsFreshSender, PortView, index_of, queue_at, queue_for}
+pub use Rattle.afdx_tx.specs.Publishing.{Publishes, PublishesCounts, Reaches}
+pub use Rattle.afdx_tx.specs.Report.{IsTold, release_of, turn_release}
+pub use Rattle.afdx_tx.specs.Run.{IsRun, IsTurn, IsTurnAt}
+pub use Rattle.afdx_tx.specs.Serving.{Conforms, IsPolling, IsSteady, TellsAllDone}
+pub use Rattle.afdx_tx.specs.declared.report.Release.{Release}
 pub use Rattle.redundant_mux.proofs.Enduring.{both_none, both_on, stood_before}
-pub use Rattle.redundant_mux.proofs.MirroredLines.{entries_append, fresh_in_step, fresh_lines, fresh_log, log_more}
-pub use Rattle.redundant_mux.proofs.MirroredLines.{log_same}
+pub use Rattle.redundant_mux.proofs.MirroredLines.{entries_append, fresh_in_step, fresh_lines, fresh_log, log_more, log_same}
 pub use Rattle.redundant_mux.specs.Entry.{Entry, entry}
-pub use Rattle.redundant_mux.specs.Lines.{BothEndure, IsMirrored, Keeps, Lines, log, stands_for}
+unfoldable pub use Rattle.redundant_mux.specs.Lines.{log}
+pub use Rattle.redundant_mux.specs.Lines.{BothEndure, IsMirrored, Keeps, Lines, stands_for}
 pub use Rattle.redundant_mux.specs.Logged.{Logged, entries_of, logged_for, names, only, sent_to, side}
 pub use Rattle.status_board.specs.History.{NoFieldFalls, zeros}
 pub use Rattle.status_board.specs.Views.{Published, last_of, published, with_entry}
+pub use Rattle.std.proofs.Common.{Bool, Err, IfOk, List, None, Ok, OnErr, Option, Result, Some, [], add-one, add-zero, ap, arith, below_more, cond, drop, drop-cons, eqb, false, filter, get_or, inl}
+pub use Rattle.std.proofs.Common.{inr, length, map, map-id, min, nat_eq, refl, rules, set, subst, suc, sym, take, true, unwrap_or, zero, zero-le, ℕ, ⊎_elim, ◌&&◌, ◌++◌, ◌+◌, ◌-◌, ◌<◌, ◌^◌, ◌||◌, ◌∙◌}
+pub use Rattle.std.proofs.Common.{◌∷◌, ◌≡◌, ◌≢◌, ◌≤◌, ◌⊎◌}
+pub use Rattle.std.proofs.lemmas.Bool.{and_from, and_left, and_parts, and_right, both_ways, cases_Bool, cases_eq, cases_lt, eq-eqb, eqb-true, false_from_ne_true, le-leb, le-ltb, lt-ltb, ne_eqb}
+pub use Rattle.std.proofs.lemmas.List.{append-nil, append_assoc, ext_get_or, get_or-map, get_or-set_other, get_or-set_same, get_or_append_left, get_or_at, get_or_default, get_or_past, get_or_push}
+pub use Rattle.std.proofs.lemmas.List.{length-append, length-map, length-set, length_push, map-append, nil_from_length, set-get_or, take-append-drop, take-append-le, take-map, take_all, with_items_is}
+pub use Rattle.std.proofs.lemmas.List.Elements.{All-contains, All-contains_itself, All-filter, All-head, All-map, All-nil, All-push, All-tail, All-weaker, Contains-append_left, Contains-push}
+pub use Rattle.std.proofs.lemmas.List.Elements.{filter-append, filter_passes}
+pub use Rattle.std.proofs.lemmas.List.Sums.{fails_before_first, length-filter}
+pub use Rattle.std.specs.List.{AllPairs, position, position_or_len}
+pub use Rattle.std.specs.Prelude.{All, Contains, MatchOption, OnOk, ◌==◌}
+pub use Rattle.std.specs.Vec.{with_items}
 pub use Rattle.subvl_queue.specs.Messages.{AreItems, IsItem, most_calls, part_of}
-pub use Rattle.subvl_queue.specs.Views.{Brought, QueueName, ReceiverView, SenderView, brought_by, new_receiver}
-pub use Rattle.subvl_queue.specs.Views.{new_sender}
+pub use Rattle.subvl_queue.specs.Views.{Brought, QueueName, ReceiverView, SenderView, brought_by, new_receiver, new_sender}
 pub use Rattle.vl_link.proofs.Choosing.{each_set}
-pub use Rattle.vl_link.proofs.LinkTurn.{HasItems, IsOwn, Turned, kept_stream, kept_turn, link_turn, other_stream}
-pub use Rattle.vl_link.proofs.LinkTurn.{released_below}
-pub use Rattle.vl_link.proofs.QueueLooks.{items_taken, same_name, same_total, still_receiving}
-pub use Rattle.vl_link.proofs.TurnLaws.{choice_below, may_not, turn_endures, turn_seen, turns_endure, turns_push}
-pub use Rattle.vl_link.proofs.TurnLaws.{turns_seen}
+pub use Rattle.vl_link.proofs.LinkTurn.{HasItems, IsOwn, Turned, kept_stream, kept_turn, link_turn, other_stream, released_below}
+pub use Rattle.vl_link.proofs.QueueLooks.{items_taken, same_name, same_total}
+pub use Rattle.vl_link.proofs.TurnLaws.{choice_below, may_not, turn_endures, turn_seen, turns_endure, turns_push, turns_seen}
 pub use Rattle.vl_link.specs.Closing.{Closes, ClosesLink, ClosesSub}
+pub use Rattle.vl_link.specs.Due.{BecomesDue, RestsUntil, StaysAsIs}
 pub use Rattle.vl_link.specs.Kept.{IsBehind, IsKept, IsLinkTied, IsTied}
 pub use Rattle.vl_link.specs.LinkGathering.{BecomesWhole, GathersLink}
-pub use Rattle.vl_link.specs.LinkSenders.{LacksSender, LinkMakesSender, LinkTakesBack, MakesSender, SubMakesSender}
-pub use Rattle.vl_link.specs.LinkSenders.{TakesBack, back_of}
-pub use Rattle.vl_link.specs.Links.{Asks, Follows, HasOwnItems, Held, IsLinkOfPlan, IsSameLink, IsSameSub}
-pub use Rattle.vl_link.specs.Links.{LinkState, Serves, held_at, held_view, link_at, no_link, no_link_plan}
-pub use Rattle.vl_link.specs.Links.{nothing_held, pace_of, sent_by, sent_of, sub_fragments, taken_by}
-pub use Rattle.vl_link.specs.Seen.{Finds, FindsNothing, IsKnownWhole, IsReceiving, IsSameQueue, Seen, TellsDrained}
-pub use Rattle.vl_link.specs.Seen.{gathered, known_of, ports_of, queue_of, receiving, taken_of, total_of}
+pub use Rattle.vl_link.specs.LinkSenders.{LacksSender, LinkMakesSender, LinkTakesBack, MakesSender, SubMakesSender, TakesBack, back_of}
+pub use Rattle.vl_link.specs.Links.{Asks, Follows, HasOwnItems, Held, IsLinkOfPlan, IsSameLink, IsSameSub, LinkState, Serves, held_at, held_view, link_at, no_link, no_link_plan, nothing_held, pace_of}
+pub use Rattle.vl_link.specs.Links.{sent_by, sent_of, sub_fragments, taken_by}
+pub use Rattle.vl_link.specs.Seen.{Finds, FindsNothing, IsKnownWhole, IsReceiving, IsSameQueue, Seen, TellsDrained, gathered, known_of, ports_of, queue_of, receiving, taken_of, total_of}
 pub use Rattle.vl_link.specs.Turn.{AreTurns, is_lost, may_release}
 pub use Rattle.vl_link.specs.declared.served.Served.{Served}
 pub use Rattle.vl_link.specs.declared.served.Served.TheVariants.{Lost, Nothing, Released}
 pub use Rattle.vl_link.specs.declared.sub_vl.SubVl.{SubVl}
 pub use Rattle.vl_shaper.specs.Pace.{IsLater, Pace, is_due}
 pub use Rattle.vl_shaper.specs.declared.shaper.Stamp.{Stamp}
-pub use Rattle.afdx_tx.specs.Closing.{ClosesTx, LacksSub}
-pub use Rattle.afdx_tx.specs.Drain.{AreGathered, Drains, DrainsAt, IsDrained, accepted_by, accepted_in}
-pub use Rattle.afdx_tx.specs.Drain.{accepted_view, pace_in}
-pub use Rattle.afdx_tx.specs.DrainEnds.{AreApartBy, AreDrained, DrainEnds, DrainsOne, no_lines, one_line, owed}
-pub use Rattle.afdx_tx.specs.DrainEnds.{owed_at, stream_at}
-pub use Rattle.afdx_tx.specs.Emitter.{AreApart, AreCarried, AreFreshLinks, AreKept, AreLinks, AreLinksOf}
-pub use Rattle.afdx_tx.specs.Emitter.{AreOpenedLinks, AreOpenedSubs, AreReceiving, AreServedBy, AreWhole}
-pub use Rattle.afdx_tx.specs.Emitter.{HaveOwnItems, IsOpenedLink, IsOpenedSub, IsSamePlan, IsSound, Tx, held_queue}
-pub use Rattle.afdx_tx.specs.Emitter.{link_queues, plan_of_link, plans, ports_of_sub, queues_in, taken_in, total_in}
-pub use Rattle.afdx_tx.specs.Gathering.{AreFull, GathersLinks, GathersPorts, HasOwnPart, IsGatheredLink}
-pub use Rattle.afdx_tx.specs.Gathering.{IsGatheredTx, IsTakenBack, OnlyTakeBack, OnlyTakesBack, held_for}
-pub use Rattle.afdx_tx.specs.Ports.{AreOpenedWith, BelongsTo, HasEveryPlace, HasOwnMessages, HasPlace, IsFreshPort}
-pub use Rattle.afdx_tx.specs.Ports.{IsFreshSender, PortView, index_of, queue_at, queue_for}
-pub use Rattle.afdx_tx.specs.Publishing.{Publishes, PublishesCounts, Reaches}
-pub use Rattle.afdx_tx.specs.Report.{IsTold, release_of, turn_release}
-pub use Rattle.afdx_tx.specs.Run.{IsRun, IsTurn, IsTurnAt}
-pub use Rattle.afdx_tx.specs.Serving.{Conforms, IsPolling, IsSteady, TellsAllDone}
-pub use Rattle.afdx_tx.specs.declared.report.Release.{Release}

@@ -1,13 +1,6 @@
 -- The first time at which one link more becomes due.
-use Rattle.afdx_tx.proofs.Names.{ℕ, ◌≡◌, ◌∙◌, ◌≤◌, ◌+◌, sym, subst, arith, inl, inr, true, false, LinkState, link_at, Lines}
-use Rattle.std.proofs.Common.{List, Option, Some, None, ◌^◌, min}
-use Rattle.std.proofs.lemmas.Bool.{cases_lt}
-use Rattle.std.specs.Prelude.{MatchOption}
-use Rattle.afdx_plan.specs.declared.link_plan.LinkPlan.{LinkPlan}
-use Rattle.vl_shaper.specs.Pace.{Pace}
-use Rattle.vl_link.specs.Turn.{may_release}
-use Rattle.vl_link.specs.Due.{RestsUntil, BecomesDue, StaysAsIs}
-use Rattle.afdx_tx.specs.NextDue.{NoneDueBefore, OneDueAt, IsFirstDue, earlier}
+use Rattle.afdx_tx.proofs.Names.{ℕ, ◌≡◌, ◌∙◌, ◌≤◌, ◌+◌, sym, subst, arith, inl, inr, true, false, LinkState, link_at, Lines, List, Option, Some, None, ◌^◌, min, cases_lt, MatchOption, LinkPlan, Pace}
+use Rattle.afdx_tx.proofs.Names.{may_release, RestsUntil, BecomesDue, StaysAsIs, NoneDueBefore, OneDueAt, IsFirstDue, earlier}
 
 -- A link that rests until a time rests until each earlier one.
 sooner : (from until before : ℕ) (plan : LinkPlan) (pace : Pace) (lines : Lines) → before ≤ until

@@ -1,9 +1,7 @@
 -- Whether all accepted messages are wholly released.
-use Rattle.afdx_tx.proofs.Names.{ℕ, ◌≡◌, ◌<◌, List, [], Bool, true, false, length, arith, refl, ap, ◌∙◌, sym}
-use Rattle.afdx_tx.proofs.Names.{⊎_elim, inl, inr, both_ways, cases_Bool, Plan, Entry, Lines, log, SubVl, Seen}
-use Rattle.afdx_tx.proofs.Names.{receiving, gathered, IsKnownWhole, TellsDrained, LinkState, held_at, link_at}
-use Rattle.afdx_tx.proofs.Names.{no_link, sub_fragments, taken_by, IsKept, IsSound, Owes, IsLinkDone, IsAllDone}
-use Rattle.afdx_tx.proofs.Names.{AreGathered, accepted_in, TellsAllDone, IsOwn}
+use Rattle.afdx_tx.proofs.Names.{ℕ, ◌≡◌, ◌<◌, List, [], Bool, true, false, length, arith, refl, ap, ◌∙◌, sym, ⊎_elim, inl, inr, both_ways, cases_Bool, Plan, Entry, Lines, log, SubVl, Seen, receiving}
+use Rattle.afdx_tx.proofs.Names.{gathered, IsKnownWhole, TellsDrained, LinkState, held_at, link_at, no_link, sub_fragments, taken_by, IsKept, IsSound, Owes, IsLinkDone, IsAllDone, AreGathered}
+use Rattle.afdx_tx.proofs.Names.{accepted_in, TellsAllDone, IsOwn}
 use Rattle.vl_link.specs.LinkDone.{HasSubLeft, TellsLinkDone}
 use Rattle.afdx_tx.proofs.SoundEmitter.{plan_is, count_is}
 use Rattle.afdx_tx.proofs.OwedFragments.{rest_of, stands_of, lists_of, all_released, owes_taken, owes_rest, owes_not}

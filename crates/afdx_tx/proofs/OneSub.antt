@@ -1,6 +1,5 @@
 -- Links one of whose sub-VLs has changed.
-use Rattle.afdx_tx.proofs.Names.{ℕ, ◌≡◌, ◌≢◌, ◌<◌, List, length, set, refl, ap, ◌∙◌, sym, subst, ⊎_elim, cases_eq}
-use Rattle.afdx_tx.proofs.Names.{length-set, get_or-set_other, each_set, Held, LinkState, held_at, link_at, no_link}
+use Rattle.afdx_tx.proofs.Names.{ℕ, ◌≡◌, ◌≢◌, ◌<◌, List, length, set, refl, ap, ◌∙◌, sym, subst, ⊎_elim, cases_eq, length-set, get_or-set_other, each_set, Held, LinkState, held_at, link_at, no_link}
 use Rattle.afdx_tx.proofs.Names.{nothing_held}
 
 module _ (links : List LinkState) (k s : ℕ) (new : LinkState) (within : k < length links)

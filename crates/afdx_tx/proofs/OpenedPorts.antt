@@ -1,13 +1,9 @@
 -- New links, while the senders of their ports are made.
-use Rattle.afdx_tx.proofs.Names.{ℕ, ◌≡◌, ◌+◌, ◌<◌, List, [], ◌∷◌, ◌++◌, length, take, get_or, set, arith, refl, ap}
-use Rattle.afdx_tx.proofs.Names.{◌∙◌, sym, subst, below_more, Option, Some, None, and_right, ne_eqb, length-append}
-use Rattle.afdx_tx.proofs.Names.{get_or_append_left, get_or_push, length-set, LinkPlan, PortPlan, Plan, IsPlan}
-use Rattle.afdx_tx.proofs.Names.{link_plan_at, port_plan_at, link_place, most_calls, QueueName, SenderView}
-use Rattle.afdx_tx.proofs.Names.{new_receiver, new_sender, SubVl, Seen, receiving, gathered, queue_of, ports_of}
-use Rattle.afdx_tx.proofs.Names.{Held, LinkState, held_at, link_at, nothing_held, no_link, MakesSender, LacksSender}
-use Rattle.afdx_tx.proofs.Names.{SubMakesSender, LinkMakesSender, ports_of_sub, held_queue, link_queues, queues_in}
-use Rattle.afdx_tx.proofs.Names.{IsOpenedSub, AreOpenedSubs, IsOpenedLink, AreOpenedLinks, queue_at, index_of}
-use Rattle.afdx_tx.proofs.Names.{IsFreshSender, IsFreshPort, each_set}
+use Rattle.afdx_tx.proofs.Names.{ℕ, ◌≡◌, ◌+◌, ◌<◌, List, [], ◌∷◌, ◌++◌, length, take, get_or, set, arith, refl, ap, ◌∙◌, sym, subst, below_more, Option, Some, None, and_right, ne_eqb, length-append}
+use Rattle.afdx_tx.proofs.Names.{get_or_append_left, get_or_push, length-set, LinkPlan, PortPlan, Plan, IsPlan, link_plan_at, port_plan_at, link_place, most_calls, QueueName, SenderView, new_receiver}
+use Rattle.afdx_tx.proofs.Names.{new_sender, SubVl, Seen, receiving, gathered, queue_of, ports_of, Held, LinkState, held_at, link_at, nothing_held, no_link, MakesSender, LacksSender, SubMakesSender}
+use Rattle.afdx_tx.proofs.Names.{LinkMakesSender, ports_of_sub, held_queue, link_queues, queues_in, IsOpenedSub, AreOpenedSubs, IsOpenedLink, AreOpenedLinks, queue_at, index_of, IsFreshSender}
+use Rattle.afdx_tx.proofs.Names.{IsFreshPort, each_set}
 use Rattle.std.proofs.Math.ListN.{get_or-map}
 use Rattle.afdx_tx.proofs.OneSub.{one_count, one_each}
 use Rattle.afdx_tx.proofs.PortSeats.{few_ports, IsAt, seats, seats_within, index_at, seat_at, others_at, other_at}

@@ -1,11 +1,8 @@
 -- Each link's stream of the log is the longer of its two streams.
-use Rattle.afdx_tx.proofs.Names.{ℕ, ◌≡◌, ◌⊎◌, ◌<◌, ◌≤◌, List, [], ◌∷◌, length, map, arith, refl, ap, ◌∙◌, sym, inl}
-use Rattle.afdx_tx.proofs.Names.{inr, ⊎_elim, All, cases_lt, lt-ltb, le-ltb, append-nil, length-append, length-map}
-use Rattle.afdx_tx.proofs.Names.{nil_from_length, All-tail, Networks, Plan, link_plan_at, Net, A, B, twin_twice}
-use Rattle.afdx_tx.proofs.Names.{Entry, Logged, entries_of, side, Lines, IsMirrored, link_stream, longer}
-use Rattle.afdx_tx.proofs.Names.{own_stream, AreOwnStreams, AreCarried}
+use Rattle.afdx_tx.proofs.Names.{ℕ, ◌≡◌, ◌⊎◌, ◌<◌, ◌≤◌, List, [], ◌∷◌, length, map, arith, refl, ap, ◌∙◌, sym, inl, inr, ⊎_elim, All, cases_lt, lt-ltb, le-ltb, append-nil, length-append, length-map}
+use Rattle.afdx_tx.proofs.Names.{nil_from_length, All-tail, Networks, Plan, link_plan_at, Net, A, B, twin_twice, Entry, Logged, entries_of, side, Lines, IsMirrored, link_stream, longer, own_stream}
+use Rattle.afdx_tx.proofs.Names.{AreOwnStreams, AreCarried, log}
 use Rattle.afdx_plan.specs.declared.networks.Networks.TheVariants.{Both, OnlyA, OnlyB}
-use Rattle.redundant_mux.specs.Lines.{log}
 use Rattle.afdx_tx.proofs.HandedFronts.{IsFor, IsFront, link_side, front_of, all_handed, whole_alone}
 
 -- The twin of a twin.

@@ -1,12 +1,8 @@
 -- A poll after one more link's turn.
-use Rattle.afdx_tx.proofs.Names.{ℕ, ◌≡◌, ◌≢◌, ◌<◌, List, [], ◌∷◌, ◌++◌, ◌||◌, false, length, map, set, get_or}
-use Rattle.afdx_tx.proofs.Names.{arith, refl, ap, ◌∙◌, sym, subst, ◌≤◌, Option, Some, None, length-set, ext_get_or}
-use Rattle.afdx_tx.proofs.Names.{get_or-map, length-map, All-push, VlId, LinkPlan, link_plan_at, A, link_in, Entry}
-use Rattle.afdx_tx.proofs.Names.{entry, Logged, logged_for, Lines, log, log_more, log_same, Stamp, IsLater, Served}
-use Rattle.afdx_tx.proofs.Names.{Nothing, Released, Lost, counts_in, link_stream, IsKnown, AreKnown, LinkState}
-use Rattle.afdx_tx.proofs.Names.{link_at, held_at, no_link, no_link_plan, Serves, Follows, IsSameLink, is_lost}
-use Rattle.afdx_tx.proofs.Names.{plan_of_link, plans, AreApart, AreCarried, AreServedBy, IsSamePlan, IsKept}
-use Rattle.afdx_tx.proofs.Names.{IsSteady, Turned, IsOwn, HasItems, link_turn, kept_turn, other_stream, kept_stream}
+use Rattle.afdx_tx.proofs.Names.{ℕ, ◌≡◌, ◌≢◌, ◌<◌, List, [], ◌∷◌, ◌++◌, ◌||◌, false, length, map, set, get_or, arith, refl, ap, ◌∙◌, sym, subst, ◌≤◌, Option, Some, None, length-set, ext_get_or}
+use Rattle.afdx_tx.proofs.Names.{get_or-map, length-map, All-push, VlId, LinkPlan, link_plan_at, A, link_in, Entry, entry, Logged, logged_for, Lines, log, log_more, log_same, Stamp, IsLater, Served}
+use Rattle.afdx_tx.proofs.Names.{Nothing, Released, Lost, counts_in, link_stream, IsKnown, AreKnown, LinkState, link_at, held_at, no_link, no_link_plan, Serves, Follows, IsSameLink, is_lost}
+use Rattle.afdx_tx.proofs.Names.{plan_of_link, plans, AreApart, AreCarried, AreServedBy, IsSamePlan, IsKept, IsSteady, Turned, IsOwn, HasItems, link_turn, kept_turn, other_stream, kept_stream}
 use Rattle.afdx_tx.proofs.Names.{released_below, each_set}
 use Rattle.vl_link.proofs.SubInStep.{same_sub_on, same_sub_here}
 

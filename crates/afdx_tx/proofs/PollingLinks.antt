@@ -1,12 +1,8 @@
 -- A poll after one more link was tested for due, and served if it was.
-use Rattle.afdx_tx.proofs.Names.{ℕ, ◌≡◌, ◌+◌, ◌<◌, List, [], ◌++◌, false, length, set, refl, arith, ap, sym, ◌≤◌}
-use Rattle.afdx_tx.proofs.Names.{◌∷◌, ◌∙◌, add-one, true, subst, inl, inr, append-nil, map-append, append_assoc}
-use Rattle.afdx_tx.proofs.Names.{length-append, length-set, get_or-set_same, get_or-set_other, Lines, BothEndure}
-use Rattle.afdx_tx.proofs.Names.{log, stands_for, both_on, stood_before, IsLater, Pace, Served, LinkState, link_at}
-use Rattle.afdx_tx.proofs.Names.{no_link, pace_of, may_release, AreTurns, Turned, Release, AreApart, turn_release}
-use Rattle.afdx_tx.proofs.Names.{release_of, IsTold, IsPolling, VlId, Entry, entry, logged_for, log_more, log_same}
-use Rattle.afdx_tx.proofs.Names.{Nothing, Released, Lost, cases_Bool, both_ways, link_stream, IsTurn, IsTurnAt}
-use Rattle.afdx_tx.proofs.Names.{IsKept, turns_seen, turns_push, may_not}
+use Rattle.afdx_tx.proofs.Names.{ℕ, ◌≡◌, ◌+◌, ◌<◌, List, [], ◌++◌, false, length, set, refl, arith, ap, sym, ◌≤◌, ◌∷◌, ◌∙◌, add-one, true, subst, inl, inr, append-nil, map-append, append_assoc}
+use Rattle.afdx_tx.proofs.Names.{length-append, length-set, get_or-set_same, get_or-set_other, Lines, BothEndure, log, stands_for, both_on, stood_before, IsLater, Pace, Served, LinkState, link_at}
+use Rattle.afdx_tx.proofs.Names.{no_link, pace_of, may_release, AreTurns, Turned, Release, AreApart, turn_release, release_of, IsTold, IsPolling, VlId, Entry, entry, logged_for, log_more, log_same}
+use Rattle.afdx_tx.proofs.Names.{Nothing, Released, Lost, cases_Bool, both_ways, link_stream, IsTurn, IsTurnAt, IsKept, turns_seen, turns_push, may_not}
 use Rattle.afdx_tx.proofs.PollTurns.{same_link, at_each, steady_more}
 
 -- If nothing entered the log, no release is reported.

@@ -1,8 +1,6 @@
 -- The link of a port.
-use Rattle.afdx_tx.proofs.Names.{ℕ, ◌≡◌, ◌<◌, List, Bool, length, arith, ap, ◌∙◌, sym, refl, Option, Some, None}
-use Rattle.afdx_tx.proofs.Names.{unwrap_or, ⊎_elim, eq-eqb, lt-ltb, eqb-true, both_ways, cases_lt}
-use Rattle.afdx_tx.proofs.Names.{fails_before_first, position, position_or_len, ◌==◌, VlId, LinkPlan, PortPlan}
-use Rattle.afdx_tx.proofs.Names.{SendsOver, Plan, IsPlan, HasLink, link_plan_at, no_link_plan, link_place}
+use Rattle.afdx_tx.proofs.Names.{ℕ, ◌≡◌, ◌<◌, List, Bool, length, arith, ap, ◌∙◌, sym, refl, Option, Some, None, unwrap_or, ⊎_elim, eq-eqb, lt-ltb, eqb-true, both_ways, cases_lt, fails_before_first}
+use Rattle.afdx_tx.proofs.Names.{position, position_or_len, ◌==◌, VlId, LinkPlan, PortPlan, SendsOver, Plan, IsPlan, HasLink, link_plan_at, no_link_plan, link_place}
 use Rattle.std.proofs.lemmas.List.Quantifiers.{position-Some}
 
 -- whether the link has this identifier

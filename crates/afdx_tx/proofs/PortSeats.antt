@@ -1,10 +1,7 @@
 -- The number of the first ports of a configuration that are of a sub-VL.
-use Rattle.afdx_tx.proofs.Names.{ℕ, ◌≡◌, ◌+◌, ◌<◌, ◌≤◌, List, ◌++◌, Bool, true, false, ◌&&◌, nat_eq, cond, length}
-use Rattle.afdx_tx.proofs.Names.{take, drop, arith, refl, ap, ◌∙◌, sym, add-zero, eq-eqb, ne_eqb, and_from}
-use Rattle.afdx_tx.proofs.Names.{and_left, and_parts, eqb-true, length-append, take-append-drop, filter-append}
-use Rattle.afdx_tx.proofs.Names.{All-filter, filter_passes, VlId, PortPlan, Plan, IsPlan, link_plan_at}
-use Rattle.afdx_tx.proofs.Names.{port_plan_at, SendsOver, IsPort, ports_of_sub, index_of, length-filter, SubVl}
-use Rattle.std.proofs.Common.{All}
+use Rattle.afdx_tx.proofs.Names.{ℕ, ◌≡◌, ◌+◌, ◌<◌, ◌≤◌, List, ◌++◌, Bool, true, false, ◌&&◌, nat_eq, cond, length, take, drop, arith, refl, ap, ◌∙◌, sym, add-zero, eq-eqb, ne_eqb, and_from, and_left}
+use Rattle.afdx_tx.proofs.Names.{and_parts, eqb-true, length-append, take-append-drop, filter-append, All-filter, filter_passes, VlId, PortPlan, Plan, IsPlan, link_plan_at, port_plan_at, SendsOver}
+use Rattle.afdx_tx.proofs.Names.{IsPort, ports_of_sub, index_of, length-filter, SubVl, All}
 use Rattle.std.proofs.lemmas.List.Filters.{length-filter_more}
 use Rattle.vl_link.specs.Subs.{IsPortOf}
 

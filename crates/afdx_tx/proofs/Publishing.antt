@@ -1,8 +1,6 @@
 -- The counts of the links are published one after the other.
-use Rattle.afdx_tx.proofs.Names.{ℕ, ◌≡◌, ◌≤◌, ◌<◌, List, [], ◌++◌, length, zero-le, arith, sym, ap, ◌∙◌, LinkPlan}
-use Rattle.afdx_tx.proofs.Names.{link_in, Entry, zeros, NoFieldFalls, Published, published, last_of, with_entry}
-use Rattle.afdx_tx.proofs.Names.{link_stream, with_append, LinkState, link_at, IsKept, AreKept, IsSamePlan, Reaches}
-use Rattle.afdx_tx.proofs.Names.{PublishesCounts}
+use Rattle.afdx_tx.proofs.Names.{ℕ, ◌≡◌, ◌≤◌, ◌<◌, List, [], ◌++◌, length, zero-le, arith, sym, ap, ◌∙◌, LinkPlan, link_in, Entry, zeros, NoFieldFalls, Published, published, last_of, with_entry}
+use Rattle.afdx_tx.proofs.Names.{link_stream, with_append, LinkState, link_at, IsKept, AreKept, IsSamePlan, Reaches, PublishesCounts}
 use Rattle.status_board.specs.declared.counts.Counts.{Counts}
 use Rattle.status_board.proofs.Histories.{last_or-push, falls_not_same, falls_not_through}
 use Rattle.afdx_legal.proofs.CountingLemmas.{counts_more}

@@ -1,13 +1,9 @@
 -- The queues of an emitter take back the senders of its ports.
-use Rattle.afdx_tx.proofs.Names.{ℕ, zero, suc, ◌≡◌, ◌+◌, ◌<◌, ◌≤◌, List, [], ◌∷◌, Bool, true, false, cond, length}
-use Rattle.afdx_tx.proofs.Names.{set, arith, refl, ap, ◌∙◌, sym, subst, ⊎_elim, All, Contains, and_parts, cases_lt}
-use Rattle.afdx_tx.proofs.Names.{eqb-true, length-set, get_or-set_same, All-contains, Contains-push}
-use Rattle.afdx_tx.proofs.Names.{Contains-append_left, VlId, PortPlan, Plan, IsPlan, link_plan_at, port_plan_at}
-use Rattle.afdx_tx.proofs.Names.{link_place, SenderView, ReceiverView, Brought, brought_by, Seen, receiving}
-use Rattle.afdx_tx.proofs.Names.{gathered, queue_of, taken_of, known_of, IsReceiving, Held, LinkState, held_at}
-use Rattle.afdx_tx.proofs.Names.{link_at, no_link, TakesBack, back_of, LinkTakesBack, BecomesWhole, AreLinksOf}
-use Rattle.afdx_tx.proofs.Names.{AreReceiving, ports_of_sub, queues_in, PortView, HasEveryPlace, BelongsTo}
-use Rattle.afdx_tx.proofs.Names.{HasOwnMessages, index_of, OnlyTakesBack, OnlyTakeBack, IsTakenBack, AreFull}
+use Rattle.afdx_tx.proofs.Names.{ℕ, zero, suc, ◌≡◌, ◌+◌, ◌<◌, ◌≤◌, List, [], ◌∷◌, Bool, true, false, cond, length, set, arith, refl, ap, ◌∙◌, sym, subst, ⊎_elim, All, Contains, and_parts, cases_lt}
+use Rattle.afdx_tx.proofs.Names.{eqb-true, length-set, get_or-set_same, All-contains, Contains-push, Contains-append_left, VlId, PortPlan, Plan, IsPlan, link_plan_at, port_plan_at, link_place}
+use Rattle.afdx_tx.proofs.Names.{SenderView, ReceiverView, Brought, brought_by, Seen, receiving, gathered, queue_of, taken_of, known_of, IsReceiving, Held, LinkState, held_at, link_at, no_link}
+use Rattle.afdx_tx.proofs.Names.{TakesBack, back_of, LinkTakesBack, BecomesWhole, AreLinksOf, AreReceiving, ports_of_sub, queues_in, PortView, HasEveryPlace, BelongsTo, HasOwnMessages, index_of}
+use Rattle.afdx_tx.proofs.Names.{OnlyTakesBack, OnlyTakeBack, IsTakenBack, AreFull}
 use Rattle.std.proofs.Math.Seq.{take-length}
 use Rattle.afdx_tx.proofs.OneSub.{one_link, one_count, one_each}
 use Rattle.afdx_tx.proofs.KeptLinks.{KeepLinks}

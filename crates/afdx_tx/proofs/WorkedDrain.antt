@@ -1,14 +1,11 @@
 -- The worked drain, by computation.
-use Rattle.afdx_tx.proofs.Names.{◌≡◌, ℕ, zero, suc, ◌<◌, [], ◌∷◌, length, true, false, None, refl, arith, inr, A}
-use Rattle.afdx_tx.proofs.Names.{blanked, IsLater, latest, IsReleased, Owes, Nothing, Released, Drains, IsDrained}
-use Rattle.afdx_tx.proofs.Names.{stream_at, owed_at, DrainsOne, no_lines, one_line}
+use Rattle.afdx_tx.proofs.Names.{◌≡◌, ℕ, zero, suc, ◌<◌, [], ◌∷◌, length, true, false, None, refl, arith, inr, A, blanked, IsLater, latest, IsReleased, Owes, Nothing, Released, Drains, IsDrained}
+use Rattle.afdx_tx.proofs.Names.{stream_at, owed_at, DrainsOne, no_lines, one_line, fragments_at, log}
 use Rattle.afdx_plan.specs.Demo.{demo_plan, demo_link}
 use Rattle.afdx_plan.proofs.DemoPlan.{demo_valid}
 use Rattle.afdx_frame.specs.Checksum.{checksum}
 use Rattle.afdx_frame.specs.Cutting.{cutting}
-use Rattle.afdx_frame.specs.Fragments.{fragments_at}
 use Rattle.afdx_frame.specs.Frame.{addresses, header_front, internet_header, link_header, udp_header, datagram, unnumbered}
-use Rattle.redundant_mux.specs.Lines.{log}
 use Rattle.afdx_legal.specs.WorkedMessage.{one_byte_accepted, one_frame}
 
 -- There is one link, and one sub-VL.

@@ -1,5 +1,4 @@
-use Rattle.afdx_tx.proofs.Names.{◌+◌, ◌<◌, length, arith, ◌∙◌, get_or_default, get_or-set_other, length-set}
-use Rattle.afdx_tx.proofs.Names.{link_at, no_link, GathersLink, each_set}
+use Rattle.afdx_tx.proofs.Names.{◌+◌, ◌<◌, length, arith, ◌∙◌, get_or_default, get_or-set_other, length-set, link_at, no_link, GathersLink, each_set}
 use Rattle.afdx_tx.proofs.gather.gather_all.Goals as goal
 
 pub gather-requires : goal.gather-requires

@@ -1,5 +1,4 @@
-use Rattle.afdx_tx.proofs.Names.{◌<◌, List, [], length, get_or, arith, ap, ◌∙◌, get_or_default, LinkPlan}
-use Rattle.afdx_tx.proofs.Names.{no_link_plan}
+use Rattle.afdx_tx.proofs.Names.{◌<◌, List, [], length, get_or, arith, ap, ◌∙◌, get_or_default, LinkPlan, no_link_plan}
 use Rattle.afdx_tx.proofs.OpenedPorts.{links_push}
 use Rattle.afdx_tx.proofs.open.open_links.Goals as goal
 

@@ -1,5 +1,4 @@
-use Rattle.afdx_tx.proofs.Names.{ℕ, ◌≡◌, ◌<◌, length, get_or, take, queues_in, AreOpenedLinks, PortView}
-use Rattle.afdx_tx.proofs.Names.{IsFreshPort}
+use Rattle.afdx_tx.proofs.Names.{ℕ, ◌≡◌, ◌<◌, length, get_or, take, queues_in, AreOpenedLinks, PortView, IsFreshPort}
 use Rattle.afdx_tx.proofs.open.open_ports.Given as goal
 
 abbrev pub invariant-loop-place : goal.invariant-loop-place

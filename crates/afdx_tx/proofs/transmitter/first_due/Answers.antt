@@ -1,8 +1,4 @@
-use Rattle.afdx_tx.proofs.Names.{◌≡◌, ◌∙◌, ◌+◌, sym, subst, get_or_default, LinkState, no_link, link_at}
-use Rattle.std.proofs.Common.{ℕ, Option}
-use Rattle.std.specs.Prelude.{MatchOption}
-use Rattle.vl_link.specs.Due.{BecomesDue, StaysAsIs}
-use Rattle.afdx_tx.specs.NextDue.{IsFirstDue}
+use Rattle.afdx_tx.proofs.Names.{◌≡◌, ◌∙◌, ◌+◌, sym, subst, get_or_default, LinkState, no_link, link_at, ℕ, Option, MatchOption, BecomesDue, StaysAsIs, IsFirstDue}
 use Rattle.afdx_tx.proofs.NextDue.{first_of_more}
 use Rattle.afdx_tx.proofs.transmitter.first_due.Goals as goal
 

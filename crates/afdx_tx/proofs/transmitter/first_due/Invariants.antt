@@ -1,4 +1,4 @@
-use Rattle.afdx_tx.specs.NextDue.{IsFirstDue}
+use Rattle.afdx_tx.proofs.Names.{IsFirstDue}
 use Rattle.afdx_tx.proofs.transmitter.first_due.Given as goal
 
 abbrev pub invariant-loop-link : goal.invariant-loop-link

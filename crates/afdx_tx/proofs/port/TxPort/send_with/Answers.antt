@@ -1,4 +1,4 @@
-use Rattle.std.proofs.Common.{arith}
+use Rattle.afdx_tx.proofs.Names.{arith}
 use Rattle.std.proofs.lemmas.Grind.{common_steps}
 use Rattle.afdx_tx.proofs.port.TxPort.send_with.Goals as goal
 

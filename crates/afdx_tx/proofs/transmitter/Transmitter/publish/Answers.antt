@@ -1,5 +1,4 @@
-use Rattle.afdx_tx.proofs.Names.{◌<◌, List, length, refl, ap, ◌∙◌, subst, arith, NoFieldFalls, Published, published}
-use Rattle.afdx_tx.proofs.Names.{last_of, with_entry, Tx, IsSound, Reaches, PublishesCounts, Publishes}
+use Rattle.afdx_tx.proofs.Names.{◌<◌, List, length, refl, ap, ◌∙◌, subst, arith, NoFieldFalls, Published, published, last_of, with_entry, Tx, IsSound, Reaches, PublishesCounts, Publishes}
 use Rattle.afdx_tx.proofs.SoundEmitter.{count_is, sound_counts}
 use Rattle.afdx_tx.proofs.transmitter.Transmitter.publish.Goals as goal
 
