@@ -20,7 +20,7 @@ import tty
 # (no compiled copy is left beside the scripts)
 sys.dont_write_bytecode = True
 import pcapng
-from trying import DEMO, HELP, ONE_FRAME, REPORT, SCRIPT, WRONG, Tries, built, started, totals
+from trying import DEMO, HELP, ONE_FRAME, REPORT, SCRIPT, WRONG, Tries, built, started, text_of, totals
 
 # A second link, on network B alone, and a port of it.
 LINK, PORT = DEMO[DEMO.index("[[vl]]") : DEMO.index("[[port]]")], DEMO[DEMO.index("[[port]]") :]
@@ -55,6 +55,7 @@ RUN, CHECK = ["run", "demo.toml", "short.txt"], ["check", "demo.toml"]
 STORM = ["storm", "demo.toml", "--messages", "2", "--turns", "1000"]
 LATE = ["storm", "demo.toml", "--messages", "3", "--turns", "1"]
 CAPTURED = [*RUN, "--capture", "frames.pcapng"]
+VERSION = re.search('AFDX_VERSION "(.*)"', text_of("crates/afdx/afdx.h"))[1]
 BAD_BAG = "configuration refused: 6 BadBag\n"
 
 # Words, and how a run of them ends: its status, standard output and standard error. Standard input is empty.
@@ -64,6 +65,7 @@ ROWS = [
     (STORM, 0, totals(2), ""),
     ([*STORM[:3], "002", "--turns", "01000"], 0, totals(2), ""),
     (["--help"], 0, HELP, ""),
+    (["--version"], 0, f"afdx_bench {VERSION}\n", ""),
     (["frob"], 2, "", WRONG),
     (["check", "wrong.toml"], 2, "", BAD_BAG),
     (["storm", "wrong.toml", *STORM[2:]], 2, "", BAD_BAG),

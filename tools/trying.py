@@ -37,7 +37,8 @@ Commands:
   storm    Has all ports of a configuration send at once, and prints what came of it
 
 Options:
-  -h, --help  Print help
+  -h, --help     Print help
+  -V, --version  Print version
 """
 WRONG = """\
 error: unrecognized subcommand 'frob'

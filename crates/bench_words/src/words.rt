@@ -166,9 +166,13 @@ pub(crate) fn given_path(
     }
 }
 
+/// The program's version, which is the library's: `AFDX_VERSION` in `afdx.h`.
+const VERSION: &str = "1.0.0";
+
 /// All command lines of the program.
 fn command<'a>(alloc: Global) -> Result<Command<'a>, AllocError> {
     Command::new(alloc, "afdx_bench")
+        .version(VERSION)
         .about(
             "A transmitting AFDX end system. Without words it runs a script from standard input.",
         )

@@ -79,7 +79,7 @@ const OTHER_WORDS: [&str; 30] = [
     "storm a.toml --messages= --turns 1",
     "storm a.toml --messages 0x5 --turns 1",
     "storm a.toml --messages 5 --turns 1_000",
-    "--version",
+    "check --version",
 ];
 
 #[test]
@@ -90,8 +90,10 @@ fn other_words_are_refused(rt: HostRuntime) {
 }
 
 #[test]
-fn help_is_told(rt: HostRuntime) {
+fn help_and_the_version_are_printed(rt: HostRuntime) {
     for line in [
+        "--version",
+        "-V",
         "--help",
         "-h",
         "check --help",
