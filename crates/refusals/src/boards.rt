@@ -16,7 +16,7 @@ const FIRST: Counts = Counts {
 };
 
 /// Tells a reading.
-pub fn tell_counts<W: Write + Drop>(out: &mut Out<W>, counts: Counts) {
+pub fn tell_counts(out: &mut Out<'_>, counts: Counts) {
     let Counts {
         frames,
         bytes,
@@ -38,12 +38,7 @@ pub fn compare_ends<R: Wait>(rt: &R, board: &mut Board, monitor: &mut Monitor)
 }
 
 /// Reads before the first entry and after it.
-pub fn publish_told<W: Write + Drop, R: Wait>(
-    rt: &R,
-    out: &mut Out<W>,
-    mut board: Board,
-    mut monitor: Monitor,
-)
+pub fn publish_told<R: Wait>(rt: &R, out: &mut Out<'_>, mut board: Board, mut monitor: Monitor)
     requires board { length board ≡ 1 }
     requires monitor { links_of monitor ≡ 1 }
     requires new { AreNew board monitor }
@@ -56,11 +51,7 @@ pub fn publish_told<W: Write + Drop, R: Wait>(
 }
 
 /// Opens a board of one link, once more where memory was refused.
-pub fn open<W: Write + Drop, R: Wait>(
-    rt: &R,
-    alloc: Global,
-    out: &mut Out<W>,
-) -> Result<(), Trouble> {
+pub fn open<R: Wait>(rt: &R, alloc: Global, out: &mut Out<'_>) -> Result<(), Trouble> {
     if let Ok((board, monitor)) = open_board(alloc, 1) {
         publish_told(rt, out, board, monitor);
         return Ok(());

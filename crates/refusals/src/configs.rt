@@ -28,7 +28,7 @@ fn is_refused(answer: &Result<Config, ConfigFault>) -> bool {
 }
 
 /// Tells the plan, or the fault.
-fn tell<W: Write + Drop>(out: &mut Out<W>, answer: &Result<Config, ConfigFault>) {
+fn tell(out: &mut Out<'_>, answer: &Result<Config, ConfigFault>) {
     match answer {
         Ok(config) => {
             let is_printed = write_report(out.writer(), config).is_ok();
@@ -39,7 +39,7 @@ fn tell<W: Write + Drop>(out: &mut Out<W>, answer: &Result<Config, ConfigFault>)
 }
 
 /// Reads a text, once more where memory was refused.
-fn read_text<W: Write + Drop>(alloc: Global, out: &mut Out<W>, text: &str) {
+fn read_text(alloc: Global, out: &mut Out<'_>, text: &str) {
     let mut answer = read_config(alloc, text.as_bytes());
     if is_refused(&answer) {
         out.line("refused Memory");
@@ -49,7 +49,7 @@ fn read_text<W: Write + Drop>(alloc: Global, out: &mut Out<W>, text: &str) {
 }
 
 /// Reads a plan, a text of a late fault, and one that is no TOML.
-pub fn read<W: Write + Drop>(alloc: Global, out: &mut Out<W>) -> Result<(), Trouble> {
+pub fn read(alloc: Global, out: &mut Out<'_>) -> Result<(), Trouble> {
     read_text(alloc, out, DEMO);
     read_text(alloc, out, SHARED);
     read_text(alloc, out, CUT);
@@ -57,7 +57,7 @@ pub fn read<W: Write + Drop>(alloc: Global, out: &mut Out<W>) -> Result<(), Trou
 }
 
 /// Makes the demonstration configuration, once more where memory was refused.
-pub fn demo<W: Write + Drop>(alloc: Global, out: &mut Out<W>) -> Result<(), Trouble> {
+pub fn demo(alloc: Global, out: &mut Out<'_>) -> Result<(), Trouble> {
     let mut answer = demo_config(alloc);
     if is_refused(&answer) {
         out.line("refused Memory");

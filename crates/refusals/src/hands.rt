@@ -29,20 +29,20 @@ fn open(alloc: Global) -> Result<Opened, Trouble> {
 }
 
 /// Tells what a network was handed, and how often it failed.
-fn tell<W: Write + Drop>(out: &mut Out<W>, name: &str, network: &MemNetwork) {
+fn tell(out: &mut Out<'_>, name: &str, network: &MemNetwork) {
     let (handed, failures) = (network.handed().len(), network.failures());
     out.line(format_args!("{name}: handed {handed}, failures {failures}"));
 }
 
 /// Tells what both networks were handed. Whether one of them failed.
-fn tell_both<W: Write + Drop>(out: &mut Out<W>, a: &MemNetwork, b: &MemNetwork) -> bool {
+fn tell_both(out: &mut Out<'_>, a: &MemNetwork, b: &MemNetwork) -> bool {
     tell(out, "A", a);
     tell(out, "B", b);
     a.failures() != 0 || b.failures() != 0
 }
 
 /// Sends two messages. Whether a network failed.
-fn send_two<W: Write + Drop>(out: &mut Out<W>, opened: Opened) -> bool {
+fn send_two(out: &mut Out<'_>, opened: Opened) -> bool {
     let Opened {
         mut tx,
         mut ports,
@@ -54,7 +54,7 @@ fn send_two<W: Write + Drop>(out: &mut Out<W>, opened: Opened) -> bool {
 }
 
 /// Sends two messages, once more where memory was refused to a network.
-pub fn hand<W: Write + Drop>(alloc: Global, out: &mut Out<W>) -> Result<(), Trouble> {
+pub fn hand(alloc: Global, out: &mut Out<'_>) -> Result<(), Trouble> {
     let first = open(alloc)?;
     let second = open(alloc)?;
     if send_two(out, first) {

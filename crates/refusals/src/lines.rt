@@ -20,7 +20,7 @@ fn is_refused(answer: &Result<Line, LineFault>) -> bool {
 }
 
 /// Tells what a line says, or its fault.
-fn tell<W: Write + Drop>(out: &mut Out<W>, answer: &Result<Line, LineFault>) {
+fn tell(out: &mut Out<'_>, answer: &Result<Line, LineFault>) {
     match answer {
         Ok(Line::Send { port, bytes }) => out.line(format_args!(
             "send {port} {:?}",
@@ -34,7 +34,7 @@ fn tell<W: Write + Drop>(out: &mut Out<W>, answer: &Result<Line, LineFault>) {
 }
 
 /// Reads each line, once more where memory was refused.
-pub fn read<W: Write + Drop>(alloc: Global, out: &mut Out<W>) -> Result<(), Trouble> {
+pub fn read(alloc: Global, out: &mut Out<'_>) -> Result<(), Trouble> {
     for line in LINES {
         let mut answer = read_line(alloc, line.as_bytes());
         if is_refused(&answer) {

@@ -16,7 +16,6 @@ mod shelf;
 mod storms;
 mod trouble;
 
-use std::io;
 use std::process::ExitCode;
 use std::sync::Wait;
 use std::thread::Threads;
@@ -38,10 +37,10 @@ const CASES: [&str; 11] = [
 ];
 
 /// Runs the case that a word names.
-fn run_case<W: Write + Drop, R: Threads + Wait + Sync>(
+fn run_case<R: Threads + Wait + Sync>(
     rt: &R,
     alloc: Global,
-    out: &mut Out<W>,
+    out: &mut Out<'_>,
     word: &str,
 ) -> Result<(), Trouble> {
     match word {
@@ -61,10 +60,10 @@ fn run_case<W: Write + Drop, R: Threads + Wait + Sync>(
 }
 
 /// Runs all cases, each behind a line that names it.
-fn run_all<W: Write + Drop, R: Threads + Wait + Sync>(
+fn run_all<R: Threads + Wait + Sync>(
     rt: &R,
     alloc: Global,
-    out: &mut Out<W>,
+    out: &mut Out<'_>,
 ) -> Result<(), Trouble> {
     for word in CASES.iter() {
         out.line(format_args!("== {word}"));
@@ -75,7 +74,7 @@ fn run_all<W: Write + Drop, R: Threads + Wait + Sync>(
 
 /// Runs the case that the first word of the command line names, or all.
 fn run<T: Threads + Wait + Sync>(rt: &HostRuntime, threads: &T) -> Result<(), Trouble> {
-    let mut out = Out::new(io::writer(rt));
+    let mut out = Out::new(rt);
     let mut words = std::env::args(rt).map_err(|_| Trouble::Unprepared)?;
     let _program = words.next();
     match words.next() {

@@ -11,7 +11,7 @@ use status_board::Monitor;
 type Opened = (Emitter<Shelf, Shelf>, Vec<TxPort>, Monitor);
 
 /// Tells that an opening was refused, and whether what it was given is as it was.
-fn tell_back<W: Write + Drop>(out: &mut Out<W>, kept: &Config, back: &OpenFault<Shelf, Shelf>) {
+fn tell_back(out: &mut Out<'_>, kept: &Config, back: &OpenFault<Shelf, Shelf>) {
     let is_same = back.config.end_system() == kept.end_system()
         && back.config.links() == kept.links()
         && back.config.ports() == kept.ports();
@@ -22,7 +22,7 @@ fn tell_back<W: Write + Drop>(out: &mut Out<W>, kept: &Config, back: &OpenFault<
 }
 
 /// Tells of a network that came back how many frames it takes, and what was handed to it.
-fn tell_network<W: Write + Drop>(out: &mut Out<W>, name: &str, network: &Shelf) {
+fn tell_network(out: &mut Out<'_>, name: &str, network: &Shelf) {
     out.line(format_args!(
         "{name} takes {}, kept {}, failures {}",
         network.takes,
@@ -33,7 +33,7 @@ fn tell_network<W: Write + Drop>(out: &mut Out<W>, name: &str, network: &Shelf) 
 
 /// Opens an emitter over two networks, of which A takes one frame and B four. Where memory was refused,
 /// what came back is opened once more.
-fn open_told<W: Write + Drop>(alloc: Global, out: &mut Out<W>) -> Result<Opened, Trouble> {
+fn open_told(alloc: Global, out: &mut Out<'_>) -> Result<Opened, Trouble> {
     let (kept, config) = (prepared(alloc)?, prepared(alloc)?);
     match open_tx(alloc, config, empty_shelf(1), empty_shelf(4)) {
         Ok(opened) => Ok(opened),
@@ -46,7 +46,7 @@ fn open_told<W: Write + Drop>(alloc: Global, out: &mut Out<W>) -> Result<Opened,
 }
 
 /// Opens an emitter, and sends two messages, each of which is polled for.
-pub fn open<W: Write + Drop>(alloc: Global, out: &mut Out<W>) -> Result<(), Trouble> {
+pub fn open(alloc: Global, out: &mut Out<'_>) -> Result<(), Trouble> {
     let messages = (message(alloc, 1)?, message(alloc, 2)?);
     let (mut tx, mut ports, _monitor) = open_told(alloc, out)?;
     send_two_told(out, &mut tx, &mut ports, messages);

@@ -30,12 +30,7 @@ fn told(is_so: bool) -> &'static str {
 }
 
 /// Sends two messages, takes one out of the queue, closes it, and sends a third.
-fn send_and_close<W: Write + Drop>(
-    out: &mut Out<W>,
-    receiver: &mut Receiver,
-    sender: &mut Sender,
-    messages: Three,
-)
+fn send_and_close(out: &mut Out<'_>, receiver: &mut Receiver, sender: &mut Sender, messages: Three)
     ensures receiver { receiver.new.queue ≡ receiver.old.queue }
     ensures sender { sender.new.queue ≡ sender.old.queue }
 {
@@ -50,12 +45,7 @@ fn send_and_close<W: Write + Drop>(
 }
 
 /// Takes a message out of a queue, closes it, and gathers its sender.
-fn use_queue<W: Write + Drop>(
-    out: &mut Out<W>,
-    mut receiver: Receiver,
-    mut senders: Vec<Sender>,
-    messages: Three,
-)
+fn use_queue(out: &mut Out<'_>, mut receiver: Receiver, mut senders: Vec<Sender>, messages: Three)
     requires { AreOf receiver.queue senders.items }
 {
     if senders.len() != 1 {
@@ -67,7 +57,7 @@ fn use_queue<W: Write + Drop>(
 }
 
 /// Stamps a release, and tells which sub-VL is asked first and whether the link is due.
-fn use_shaper<W: Write + Drop>(out: &mut Out<W>) {
+fn use_shaper(out: &mut Out<'_>) {
     one_each();
     let mut shaper = Shaper::new(Bag::Ms1, 2);
     let many = shaper.sub_vls();
@@ -98,7 +88,7 @@ fn frame_for_a() -> Frame
 }
 
 /// Tells which networks of a mux stand, by each call that says so, and what each of them has.
-fn tell_mux<W: Write + Drop>(out: &mut Out<W>, mux: &Mux<Shelf, Shelf>) {
+fn tell_mux(out: &mut Out<'_>, mux: &Mux<Shelf, Shelf>) {
     let standing = mux.standing();
     let (a, b) = (told(standing.a), told(standing.b));
     let on_a = told(mux.stands_for(Networks::OnlyA));
@@ -109,7 +99,7 @@ fn tell_mux<W: Write + Drop>(out: &mut Out<W>, mux: &Mux<Shelf, Shelf>) {
 }
 
 /// Hands a frame to two networks, of which B takes none.
-fn use_mux<W: Write + Drop>(out: &mut Out<W>) {
+fn use_mux(out: &mut Out<'_>) {
     let mut mux = Mux::new(empty_shelf(4), empty_shelf(0));
     let frame = frame_for_a();
     match mux.hand(7, &frame, Networks::Both) {
@@ -126,7 +116,7 @@ fn use_mux<W: Write + Drop>(out: &mut Out<W>) {
 }
 
 /// Makes networks in memory, which are handed nothing.
-fn use_memory<W: Write + Drop>(alloc: Global, out: &mut Out<W>) {
+fn use_memory(alloc: Global, out: &mut Out<'_>) {
     let (fresh, failing) = (MemNetwork::new(alloc), MemNetwork::failing_at(alloc, 1));
     let handed = fresh.handed().len() + failing.handed().len();
     let (first, second) = (fresh.failures(), failing.failures());
@@ -135,7 +125,7 @@ fn use_memory<W: Write + Drop>(alloc: Global, out: &mut Out<W>) {
 
 /// Cuts a message of the first port of a configuration into two frames, and tells the second, for each
 /// network.
-fn use_cut<W: Write + Drop>(out: &mut Out<W>, config: &Config, message: Vec<u8>) {
+fn use_cut(out: &mut Out<'_>, config: &Config, message: Vec<u8>) {
     if config.ports().is_empty() || config.links().is_empty() {
         out.line("missing");
         return;
@@ -159,7 +149,7 @@ fn use_cut<W: Write + Drop>(out: &mut Out<W>, config: &Config, message: Vec<u8>)
 }
 
 /// Tells what a configuration says.
-fn use_plan<W: Write + Drop>(out: &mut Out<W>, config: &Config) {
+fn use_plan(out: &mut Out<'_>, config: &Config) {
     flows_apart(config);
     out.line(format_args!("end system {}", config.end_system()));
     for link in config.links() {
@@ -176,7 +166,7 @@ fn use_plan<W: Write + Drop>(out: &mut Out<W>, config: &Config) {
 }
 
 /// Uses what needs no queue and no board.
-fn use_rest<W: Write + Drop>(alloc: Global, out: &mut Out<W>, config: &Config, long: Vec<u8>) {
+fn use_rest(alloc: Global, out: &mut Out<'_>, config: &Config, long: Vec<u8>) {
     use_shaper(out);
     use_mux(out);
     use_memory(alloc, out);
@@ -186,10 +176,10 @@ fn use_rest<W: Write + Drop>(alloc: Global, out: &mut Out<W>, config: &Config, l
 
 /// Makes messages, a queue and a board, and calls the parts. What is printed behind `made` takes no
 /// memory.
-fn call_over<W: Write + Drop, R: Wait>(
+fn call_over<R: Wait>(
     rt: &R,
     alloc: Global,
-    out: &mut Out<W>,
+    out: &mut Out<'_>,
     config: &Config,
 ) -> Result<(), Trouble> {
     let messages = (message(alloc, 1)?, message(alloc, 2)?, message(alloc, 3)?);
@@ -205,11 +195,7 @@ fn call_over<W: Write + Drop, R: Wait>(
 }
 
 /// Makes a configuration, and calls the parts over it.
-pub fn call<W: Write + Drop, R: Wait>(
-    rt: &R,
-    alloc: Global,
-    out: &mut Out<W>,
-) -> Result<(), Trouble> {
+pub fn call<R: Wait>(rt: &R, alloc: Global, out: &mut Out<'_>) -> Result<(), Trouble> {
     let config = prepared(alloc)?;
     call_over(rt, alloc, out, &config)
 }

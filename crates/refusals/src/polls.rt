@@ -13,7 +13,7 @@ fn state(stands: bool) -> &'static str {
 }
 
 /// Tells what a poll released, and which networks stand then.
-pub fn tell_report<W: Write + Drop>(out: &mut Out<W>, now: u64, answer: Result<Report, PollFault>) {
+pub fn tell_report(out: &mut Out<'_>, now: u64, answer: Result<Report, PollFault>) {
     match answer {
         Ok(report) => {
             let released = report.released.len();
@@ -25,8 +25,8 @@ pub fn tell_report<W: Write + Drop>(out: &mut Out<W>, now: u64, answer: Result<R
 }
 
 /// Polls at a moment that isn't before the last one, and tells what came of it.
-pub fn poll_told<W: Write + Drop, A: Network + Drop, B: Network + Drop>(
-    out: &mut Out<W>,
+pub fn poll_told<A: Network + Drop, B: Network + Drop>(
+    out: &mut Out<'_>,
     tx: &mut Emitter<A, B>,
     now: u64,
 )
@@ -41,7 +41,7 @@ pub fn poll_told<W: Write + Drop, A: Network + Drop, B: Network + Drop>(
 }
 
 /// Sends a message, and tells how it is refused, if it is. The port stays one of its emitter.
-pub fn send_told<W: Write + Drop>(out: &mut Out<W>, port: &mut TxPort, message: Vec<u8>)
+pub fn send_told(out: &mut Out<'_>, port: &mut TxPort, message: Vec<u8>)
     ensures { (tx : Tx) → IsPortOfTx tx port.old → IsPortOfTx tx port.new }
 {
     match port.send(message) {
@@ -51,8 +51,8 @@ pub fn send_told<W: Write + Drop>(out: &mut Out<W>, port: &mut TxPort, message: 
 }
 
 /// Sends two messages by the last port, and polls twice.
-pub fn send_two_told<W: Write + Drop, A: Network + Drop, B: Network + Drop>(
-    out: &mut Out<W>,
+pub fn send_two_told<A: Network + Drop, B: Network + Drop>(
+    out: &mut Out<'_>,
     tx: &mut Emitter<A, B>,
     ports: &mut [TxPort],
     messages: (Vec<u8>, Vec<u8>),

@@ -10,7 +10,7 @@ use subvl_queue::{Gathered, Receiver, Sender, make};
 const GREATEST: usize = 8_192;
 
 /// Sends a message, and tells why it is refused, if it is.
-pub fn send_told<W: Write + Drop>(out: &mut Out<W>, sender: &mut Sender, message: Vec<u8>)
+pub fn send_told(out: &mut Out<'_>, sender: &mut Sender, message: Vec<u8>)
     ensures { sender.new.queue ≡ sender.old.queue }
 {
     if message.is_empty() || message.len() > GREATEST {
@@ -24,7 +24,7 @@ pub fn send_told<W: Write + Drop>(out: &mut Out<W>, sender: &mut Sender, message
 }
 
 /// Sends a message with a pause that does nothing, and tells why it is refused, if it is.
-pub fn send_paused_told<W: Write + Drop>(out: &mut Out<W>, sender: &mut Sender, message: Vec<u8>)
+pub fn send_paused_told(out: &mut Out<'_>, sender: &mut Sender, message: Vec<u8>)
     ensures { sender.new.queue ≡ sender.old.queue }
 {
     if message.is_empty() || message.len() > GREATEST {
@@ -38,7 +38,7 @@ pub fn send_paused_told<W: Write + Drop>(out: &mut Out<W>, sender: &mut Sender, 
 }
 
 /// Takes the next message, and tells its bytes, if there is one.
-pub fn take_told<W: Write + Drop>(out: &mut Out<W>, receiver: &mut Receiver)
+pub fn take_told(out: &mut Out<'_>, receiver: &mut Receiver)
     ensures { receiver.new.queue ≡ receiver.old.queue }
 {
     match receiver.take() {
@@ -48,7 +48,7 @@ pub fn take_told<W: Write + Drop>(out: &mut Out<W>, receiver: &mut Receiver)
 }
 
 /// Gathers a sender, and tells what is left.
-pub fn gather_told<W: Write + Drop>(out: &mut Out<W>, receiver: Receiver, senders: Vec<Sender>)
+pub fn gather_told(out: &mut Out<'_>, receiver: Receiver, senders: Vec<Sender>)
     requires { AreOf receiver.queue senders.items }
 {
     match receiver.gather(senders).ok() {
@@ -58,7 +58,7 @@ pub fn gather_told<W: Write + Drop>(out: &mut Out<W>, receiver: Receiver, sender
 }
 
 /// Takes the next message of a gathered queue, and tells its bytes, if there is one.
-fn take_left<W: Write + Drop>(out: &mut Out<W>, mut gathered: Gathered) {
+fn take_left(out: &mut Out<'_>, mut gathered: Gathered) {
     match gathered.take() {
         Some(item) => out.line(format_args!("left: {} {:?}", item.port, item.bytes.as_slice())),
         None => out.line("left: None"),
@@ -71,12 +71,7 @@ fn take_left<W: Write + Drop>(out: &mut Out<W>, mut gathered: Gathered) {
 type Four = (Vec<u8>, Vec<u8>, Vec<u8>, Vec<u8>);
 
 /// Sends two messages.
-pub fn send_both<W: Write + Drop>(
-    out: &mut Out<W>,
-    sender: &mut Sender,
-    first: Vec<u8>,
-    second: Vec<u8>,
-)
+pub fn send_both(out: &mut Out<'_>, sender: &mut Sender, first: Vec<u8>, second: Vec<u8>)
     ensures { sender.new.queue ≡ sender.old.queue }
 {
     send_told(out, sender, first);
@@ -84,12 +79,7 @@ pub fn send_both<W: Write + Drop>(
 }
 
 /// Sends more messages than have room, and more than may be asked for.
-fn send_four<W: Write + Drop>(
-    out: &mut Out<W>,
-    receiver: &mut Receiver,
-    sender: &mut Sender,
-    messages: Four,
-)
+fn send_four(out: &mut Out<'_>, receiver: &mut Receiver, sender: &mut Sender, messages: Four)
     ensures receiver { receiver.new.queue ≡ receiver.old.queue }
     ensures sender { sender.new.queue ≡ sender.old.queue }
 {
@@ -102,12 +92,7 @@ fn send_four<W: Write + Drop>(
 }
 
 /// Uses a queue of one place and one sender.
-fn answer<W: Write + Drop>(
-    out: &mut Out<W>,
-    mut receiver: Receiver,
-    mut senders: Vec<Sender>,
-    messages: Four,
-)
+fn answer(out: &mut Out<'_>, mut receiver: Receiver, mut senders: Vec<Sender>, messages: Four)
     requires { AreOf receiver.queue senders.items }
 {
     if senders.len() != 1 {
@@ -119,7 +104,7 @@ fn answer<W: Write + Drop>(
 }
 
 /// Makes a queue of one place, whose sender may ask twice; once more where memory was refused.
-pub fn make_one<W: Write + Drop>(alloc: Global, out: &mut Out<W>) -> Result<(), Trouble> {
+pub fn make_one(alloc: Global, out: &mut Out<'_>) -> Result<(), Trouble> {
     let (first, second) = (message(alloc, 1)?, message(alloc, 2)?);
     let messages = (first, second, message(alloc, 3)?, message(alloc, 4)?);
     if let Ok((receiver, senders)) = make(alloc, 1, 1, 2) {

@@ -56,7 +56,7 @@ fn open(alloc: Global) -> Result<Opened, Trouble>
 
 /// Sends a message with a pause that does nothing, and tells how it is refused, if it is. The port stays
 /// one of its emitter.
-fn send_paused_told<W: Write + Drop>(out: &mut Out<W>, port: &mut TxPort, message: Vec<u8>)
+fn send_paused_told(out: &mut Out<'_>, port: &mut TxPort, message: Vec<u8>)
     ensures { (tx : Tx) → IsPortOfTx tx port.old → IsPortOfTx tx port.new }
 {
     match port.send_with(message, || {}) {
@@ -66,13 +66,13 @@ fn send_paused_told<W: Write + Drop>(out: &mut Out<W>, port: &mut TxPort, messag
 }
 
 /// Tells what a port is asked.
-fn tell_port<W: Write + Drop>(out: &mut Out<W>, port: &TxPort) {
+fn tell_port(out: &mut Out<'_>, port: &TxPort) {
     let (id, accepted) = (port.id().0, port.accepted());
     out.line(format_args!("port {id} accepted {accepted}"));
 }
 
 /// Tells what an emitter is asked between its polls.
-fn tell_emitter<W: Write + Drop>(out: &mut Out<W>, tx: &Emitter<Shelf, Shelf>) {
+fn tell_emitter(out: &mut Out<'_>, tx: &Emitter<Shelf, Shelf>) {
     let (links, now) = (tx.config().links().len(), tx.now());
     let (a, b) = (tx.network_a().kept.len(), tx.network_b().kept.len());
     out.line(format_args!("links {links}, now {now}, A has {a}, B has {b}"));
@@ -83,7 +83,7 @@ fn tell_emitter<W: Write + Drop>(out: &mut Out<W>, tx: &Emitter<Shelf, Shelf>) {
 }
 
 /// Tells what an emitter is asked while it drains.
-fn tell_draining<W: Write + Drop>(out: &mut Out<W>, draining: &Draining<Shelf, Shelf>) {
+fn tell_draining(out: &mut Out<'_>, draining: &Draining<Shelf, Shelf>) {
     let (links, now) = (draining.config().links().len(), draining.now());
     let (a, b) = (
         draining.network_a().kept.len(),
@@ -97,7 +97,7 @@ fn tell_draining<W: Write + Drop>(out: &mut Out<W>, draining: &Draining<Shelf, S
 }
 
 /// Takes the networks back from an emitter that sent nothing.
-fn give_up<W: Write + Drop>(out: &mut Out<W>, opened: Opened) {
+fn give_up(out: &mut Out<'_>, opened: Opened) {
     let Opened {
         tx,
         port: _port,
@@ -110,8 +110,8 @@ fn give_up<W: Write + Drop>(out: &mut Out<W>, opened: Opened) {
 }
 
 /// Sends a message, and polls twice.
-fn send_and_poll<W: Write + Drop>(
-    out: &mut Out<W>,
+fn send_and_poll(
+    out: &mut Out<'_>,
     tx: &mut Emitter<Shelf, Shelf>,
     port: &mut TxPort,
     message: Vec<u8>,
@@ -124,9 +124,9 @@ fn send_and_poll<W: Write + Drop>(
 }
 
 /// Publishes, and reads the board.
-fn publish_and_read<W: Write + Drop, R: Wait>(
+fn publish_and_read<R: Wait>(
     rt: &R,
-    out: &mut Out<W>,
+    out: &mut Out<'_>,
     tx: &mut Emitter<Shelf, Shelf>,
     monitor: &mut Monitor,
 )
@@ -138,7 +138,7 @@ fn publish_and_read<W: Write + Drop, R: Wait>(
 }
 
 /// Closes the one sub-VL, and tells how many messages were accepted.
-fn close_told<W: Write + Drop>(out: &mut Out<W>, tx: &mut Emitter<Shelf, Shelf>)
+fn close_told(out: &mut Out<'_>, tx: &mut Emitter<Shelf, Shelf>)
     ensures { (port : PortView) → IsPortOfTx tx.old port → IsPortOfTx tx.new port }
 {
     match tx.close(VlId(1), 0) {
@@ -164,11 +164,7 @@ fn gather(opened: Opened) -> Option<Draining<Shelf, Shelf>>
 }
 
 /// Polls for what is left, and publishes.
-fn drain<W: Write + Drop, R: Wait>(
-    rt: &R,
-    out: &mut Out<W>,
-    draining: &mut Draining<Shelf, Shelf>,
-) {
+fn drain<R: Wait>(rt: &R, out: &mut Out<'_>, draining: &mut Draining<Shelf, Shelf>) {
     if 2_000 < draining.now() {
         out.line("missing");
         return;
@@ -186,7 +182,7 @@ fn drain<W: Write + Drop, R: Wait>(
 }
 
 /// Tells the fields of a frame.
-pub fn tell_fields<W: Write + Drop>(out: &mut Out<W>, frame: &[u8]) {
+pub fn tell_fields(out: &mut Out<'_>, frame: &[u8]) {
     let (vl, sub, number) = (vl_of(frame), sub_of(frame), sn_of(frame));
     let (ident, offset, more) = (ident_of(frame), offset_of(frame), more_of(frame));
     let vl = vl.map_or(0, |id| id.0);
@@ -201,7 +197,7 @@ pub fn tell_fields<W: Write + Drop>(out: &mut Out<W>, frame: &[u8]) {
 }
 
 /// Tells what a network was handed.
-fn tell_shelf<W: Write + Drop>(out: &mut Out<W>, name: &str, shelf: &Shelf) {
+fn tell_shelf(out: &mut Out<'_>, name: &str, shelf: &Shelf) {
     for kept in shelf.kept.as_slice() {
         out.line(format_args!("{name} {}", kept.at));
         tell_fields(out, kept.frame.as_slice());
@@ -210,9 +206,9 @@ fn tell_shelf<W: Write + Drop>(out: &mut Out<W>, name: &str, shelf: &Shelf) {
 
 /// Sends, polls, publishes, reads, sends once more and closes. What is printed behind `opened` takes no
 /// memory.
-fn use_opened<W: Write + Drop, R: Wait>(
+fn use_opened<R: Wait>(
     rt: &R,
-    out: &mut Out<W>,
+    out: &mut Out<'_>,
     opened: &mut Opened,
     long: Vec<u8>,
     short: Vec<u8>,
@@ -231,13 +227,7 @@ fn use_opened<W: Write + Drop, R: Wait>(
 }
 
 /// Uses what is opened, gathers, and tells what the networks were handed.
-fn use_all<W: Write + Drop, R: Wait>(
-    rt: &R,
-    out: &mut Out<W>,
-    mut opened: Opened,
-    long: Vec<u8>,
-    short: Vec<u8>,
-)
+fn use_all<R: Wait>(rt: &R, out: &mut Out<'_>, mut opened: Opened, long: Vec<u8>, short: Vec<u8>)
     requires port { IsPortOfTx opened.tx opened.port }
     requires monitor { 0 < links_of opened.monitor }
 {
@@ -254,11 +244,7 @@ fn use_all<W: Write + Drop, R: Wait>(
 
 /// Sends a message of two frames, and one that is left to the drain. Both are made before the emitter is
 /// opened, and so is another one, which sends nothing.
-pub fn send<W: Write + Drop, R: Wait>(
-    rt: &R,
-    alloc: Global,
-    out: &mut Out<W>,
-) -> Result<(), Trouble> {
+pub fn send<R: Wait>(rt: &R, alloc: Global, out: &mut Out<'_>) -> Result<(), Trouble> {
     let long = vec![in alloc; 0xaau8; 1_472]?;
     let short = message(alloc, 1)?;
     let spare = open(alloc)?;

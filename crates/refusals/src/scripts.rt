@@ -7,7 +7,7 @@ use tx_script::{RunFault, Summary, run_script};
 const SCRIPT: &str = "send 10 01\nsend 10 02\nsend 10 03\nat 0\nsend 10 03\nat 1000\nat 2000\n";
 
 /// Tells the counts of a run, or its fault.
-fn tell<W: Write + Drop>(out: &mut Out<W>, answer: Result<Summary, RunFault>) {
+fn tell(out: &mut Out<'_>, answer: Result<Summary, RunFault>) {
     match answer {
         Ok(
             Summary {
@@ -21,7 +21,7 @@ fn tell<W: Write + Drop>(out: &mut Out<W>, answer: Result<Summary, RunFault>) {
 }
 
 /// Runs a script, and prints its transcript; once more where memory was refused.
-pub fn run<W: Write + Drop>(alloc: Global, out: &mut Out<W>) -> Result<(), Trouble> {
+pub fn run(alloc: Global, out: &mut Out<'_>) -> Result<(), Trouble> {
     let (first, second) = (prepared(alloc)?, prepared(alloc)?);
     let mut answer = run_script(alloc, first, SCRIPT.as_bytes(), out.writer());
     if answer == Err(RunFault::Memory) {

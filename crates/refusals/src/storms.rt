@@ -27,7 +27,7 @@ fn plan(alloc: Global) -> Result<Config, Trouble> {
 }
 
 /// Tells the totals of a storm over these links.
-fn tell<W: Write + Drop>(out: &mut Out<W>, links: &[LinkPlan], report: &StormReport) {
+fn tell(out: &mut Out<'_>, links: &[LinkPlan], report: &StormReport) {
     if report.links.len() != links.len() {
         out.line("missing");
         return;
@@ -37,10 +37,10 @@ fn tell<W: Write + Drop>(out: &mut Out<W>, links: &[LinkPlan], report: &StormRep
 }
 
 /// Throws a storm over a configuration. Whether it is worth another: it was refused, or a network failed.
-fn throw_once<W: Write + Drop, R: Threads + Wait + Sync>(
+fn throw_once<R: Threads + Wait + Sync>(
     rt: &R,
     alloc: Global,
-    out: &mut Out<W>,
+    out: &mut Out<'_>,
     config: Config,
     links: &[LinkPlan],
 ) -> bool {
@@ -57,10 +57,10 @@ fn throw_once<W: Write + Drop, R: Threads + Wait + Sync>(
 }
 
 /// Throws a storm, once more where memory was refused, to a call or to a network.
-pub fn throw<W: Write + Drop, R: Threads + Wait + Sync>(
+pub fn throw<R: Threads + Wait + Sync>(
     rt: &R,
     alloc: Global,
-    out: &mut Out<W>,
+    out: &mut Out<'_>,
 ) -> Result<(), Trouble> {
     let (first, second) = (plan(alloc)?, plan(alloc)?);
     let links = first.links().to_vec(alloc)?;

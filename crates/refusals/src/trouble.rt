@@ -2,7 +2,7 @@
 pub use std::alloc::Global;
 use std::alloc::{AllocError, AllocFailed};
 use std::fmt::Display;
-pub use std::io::Write;
+use std::io::{self, Printer, Write};
 use thiserror::Error;
 
 /// Why a case ends before its answer.
@@ -53,15 +53,15 @@ impl<T: Drop> From<AllocFailed<T>> for Trouble {
 
 /// Where cases print. After a line that could not be printed no other is.
 #[derive(Drop)]
-pub struct Out<W: Write + Drop> {
-    writer: W,
+pub struct Out<'a> {
+    writer: Printer<'a, HostRuntime>,
     failed: bool,
 }
 
-impl<W: Write + Drop> Out<W> {
-    pub fn new(writer: W) -> Out<W> {
+impl<'a> Out<'a> {
+    pub fn new(rt: &'a HostRuntime) -> Out<'a> {
         Out {
-            writer,
+            writer: io::writer(rt),
             failed: false,
         }
     }
@@ -74,7 +74,7 @@ impl<W: Write + Drop> Out<W> {
     }
 
     /// What a call of the library prints to, which then says whether it could.
-    pub fn writer(&mut self) -> &mut W {
+    pub fn writer(&mut self) -> &mut Printer<'a, HostRuntime> {
         &mut self.writer
     }
 
