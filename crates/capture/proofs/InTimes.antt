@@ -1,4 +1,4 @@
--- The frames of a capture are in the order of their moments.
+-- The frames of a capture are in the order of their times.
 use Rattle.std.proofs.Common.{ℕ, List, [], ◌∷◌}
 use Rattle.redundant_mux.specs.Entry.{Entry}
 use Rattle.capture.specs.InTime.{RiseFrom, moments, captured_moments, IsInTime}

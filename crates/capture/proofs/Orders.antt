@@ -32,7 +32,7 @@ order_b (a ∷ xs) (b ∷ bs) rest e net is = by (nat_lt b.at a.at) net
     by true earlier = cc
     by false later = cc
 
--- where one of B comes next and there is none, all are given
+-- if one of B comes next and there is none, all are given
 pub order_none : (xs bs : List Entry) → B ≡ next_net xs bs → bs ≡ [] → in_order xs bs ≡ []
 unfolding in_order
 order_none [] [] net is = refl

@@ -10,7 +10,7 @@ pub length-packet_body : (interface : ℕ) (e : Entry)
 unfolding word
 length-packet_body interface e = simp (length-append, length-replicate) (omega arith)
 
--- a frame between what stands before it and what stands behind it, in a block of this length
+-- a frame between the front of its packet and the end, in a block of this length
 pub packet_is : (interface : ℕ) (e : Entry) (whole : ℕ) → whole ≡ 32 + (length e.frame + fill (length e.frame))
     → packet_front interface e.at (length e.frame) whole ++ filled e.frame ++ word whole
     ≡ block 6 (packet_body interface e)

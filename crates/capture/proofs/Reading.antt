@@ -1,4 +1,4 @@
--- A reader of captures takes the blocks that are written.
+-- A reader of captures accepts the blocks that are written.
 use Rattle.std.proofs.Common.{◌≡◌, ℕ, ◌+◌, ◌-◌, ◌*◌, ◌/◌, ◌%◌, ◌^◌, ◌≤◌, ◌<◌, Bool, true, List, [], ◌∷◌, ◌++◌, length, take, drop, replicate, Some, None, refl, sym, ap, ◌∙◌, append_assoc, length-append, eq-eqb, arith}
 use Rattle.std.specs.Prelude.{if◌then◌else◌}
 use borrow.Author.Tests.{lt-ltb, le-leb}
@@ -23,7 +23,7 @@ same_block : (kind kind' : ℕ) (body body' behind behind' : List ℕ) → kind 
     ≡ record { kind = kind'; body = body'; behind = behind' }
 same_block kind kind' body body' behind behind' k b r = cc
 
--- the bytes of a block, and others behind it
+-- the bytes of a block, and others after it
 abbrev then_more : ℕ → List ℕ → List ℕ → List ℕ
 then_more kind body rest = block kind body ++ rest
 
@@ -36,7 +36,7 @@ length-word x = refl
 length-then_more : (kind : ℕ) (body rest : List ℕ) → length (then_more kind body rest) ≡ 12 + length body + length rest
 length-then_more kind body rest = simp (length-append, length-word) (omega arith)
 
--- what stands behind what is in a block
+-- the bytes after the body of a block
 tail_is : (kind len : ℕ) (body rest : List ℕ) → len ≡ 12 + length body
     → drop (len - 12) (drop 8 (then_more kind body rest)) ≡ word len ++ rest
 unfolding word

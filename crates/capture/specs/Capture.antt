@@ -15,15 +15,15 @@ half x = little_bytes 2 x
 unfoldable pub word : ℕ → List ℕ
 word x = little_bytes 4 x
 
--- how many zeroes fill so many bytes up to a multiple of 4
+-- the padding of `len` bytes to a multiple of 4
 abbrev pub fill : ℕ → ℕ
 fill len = (4 - len % 4) % 4
 
--- bytes, filled up
+-- bytes with their padding
 abbrev pub filled : List ℕ → List ℕ
 filled bytes = bytes ++ replicate (fill (length bytes)) 0
 
--- a block: its type, its length, what is in it, and its length once more
+-- a block: its type, its length, its body, and its length once more
 abbrev pub block : ℕ → List ℕ → List ℕ
 block kind body = word kind ++ (word (12 + length body) ++ (body ++ word (12 + length body)))
 
@@ -31,8 +31,7 @@ block kind body = word kind ++ (word (12 + length body) ++ (body ++ word (12 + l
 abbrev pub option : ℕ → List ℕ → List ℕ
 option code value = half code ++ (half (length value) ++ filled value)
 
--- The section header block: the number that tells the order of bytes, version 1.0, and a section of
--- unknown length.
+-- The section header block: the byte-order magic, version 1.0, and a section of unknown length.
 abbrev pub section_body : List ℕ
 section_body = word 0x1a2b3c4d ++ (half 1 ++ (half 0 ++ replicate 8 255))
 
@@ -51,7 +50,7 @@ abbrev pub interface_of : Net → ℕ
 interface_of A = 0
 interface_of B = 1
 
--- An enhanced packet block: the interface, the moment in microseconds with its high word first, how
+-- An enhanced packet block: the interface, the time in microseconds with its high word first, how
 -- many bytes were captured and how many there were, and the frame.
 abbrev pub packet_body : ℕ → Entry → List ℕ
 packet_body interface e =
@@ -61,7 +60,7 @@ packet_body interface e =
 unfoldable pub packet_block : Captured → List ℕ
 packet_block c = block 6 (packet_body (interface_of c.net) c.entry)
 
--- the front of such a block, up to the frame, which has so many bytes in a block of so many
+-- the front of such a block, up to the frame: `len` bytes in a block of `whole`
 abbrev pub packet_front : ℕ → ℕ → ℕ → ℕ → List ℕ
 packet_front interface at len whole =
     word 6 ++ word whole ++ word interface ++ word (at / 2 ^ 32) ++ word (at % 2 ^ 32) ++ word len ++ word len
@@ -70,10 +69,10 @@ packet_front interface at len whole =
 unfoldable pub packet_blocks : List Captured → List ℕ
 packet_blocks cs = flat_map packet_block cs
 
--- what stands before the packets: interface 0 is network A, and 1 is B
+-- the blocks before the packets: interface 0 is network A, and 1 is B
 unfoldable pub header_blocks : List ℕ
 header_blocks = section_block ++ (interface_block (codes "A") ++ interface_block (codes "B"))
 
--- the capture of what was handed to network A and to network B
+-- the capture of the frames of network A and of network B
 abbrev pub capture_bytes : List Entry → List Entry → List ℕ
 capture_bytes a b = header_blocks ++ packet_blocks (in_order a b)

@@ -1,11 +1,11 @@
--- Going over the frames of two logs.
+-- Iterating over the frames of two logs.
 use Rattle.std.specs.Prelude.{◌≡◌, ◌≤◌, List, [], ◌∷◌, length, Option, Some, None}
 use Rattle.afdx_frame.specs.declared.net.TheConstants.{GREATEST_FRAME}
 use Rattle.redundant_mux.specs.Entry.{entry}
 use Rattle.capture.specs.declared.in_order.Packet.{Packet}
 use Rattle.capture.specs.Order.{Captured, on}
 
--- what a packet shows: its network, its moment and its bytes
+-- a packet's network, time and bytes
 abbrev pub shown : Packet → Captured
 shown packet = on packet.net (entry packet.at packet.frame.now)
 

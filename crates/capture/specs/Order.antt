@@ -4,7 +4,7 @@ use Rattle.afdx_frame.specs.declared.net.Net.{Net}
 use Rattle.afdx_frame.specs.declared.net.Net.TheVariants.{A, B}
 use Rattle.redundant_mux.specs.Entry.{Entry}
 
--- a frame, with the network that it was handed to
+-- a frame with its network
 pub record Captured : Type 0 where
   pub net : Net
   pub entry : Entry

@@ -1,5 +1,5 @@
--- Reading a capture: a reader of pcapng whose numbers have their lowest byte first. It takes one section,
--- interfaces for Ethernet with a name and no other option, and packets with no option.
+-- Reading a capture: a reader of little-endian pcapng. It accepts one section, interfaces for Ethernet
+-- with a name and no other option, and packets with no option.
 use Rattle.std.specs.Prelude.{ℕ, zero, suc, ◌+◌, ◌-◌, ◌*◌, ◌%◌, ◌^◌, Bool, ◌&&◌, nat_eq, nat_le, nat_lt, if◌then◌else◌, List, [], ◌∷◌, ◌++◌, length, take, drop, Option, Some, None}
 use Rattle.byteorder.specs.Endian.{little_number}
 use Rattle.redundant_mux.specs.Entry.{Entry, entry}
@@ -17,7 +17,7 @@ abbrev pub then_read : {X Y : Type 0} → Option X → (X → Option Y) → Opti
 then_read None read = None
 then_read (Some x) read = read x
 
--- a block: its type, what is in it, and the bytes behind it
+-- a block: its type, its body, and the bytes after it
 pub record Block : Type 0 where
   pub kind : ℕ
   pub body : List ℕ
@@ -43,7 +43,7 @@ unfoldable pub first_block : List ℕ → Option Block
 first_block bytes =
     let len = first_word (drop 4 bytes) in if is_block len bytes then Some (block_of len bytes) else None
 
--- a packet: the number of its interface, its moment and its bytes
+-- a packet: the number of its interface, its time and its bytes
 pub record Packet : Type 0 where
   pub interface : ℕ
   pub entry : Entry
@@ -53,7 +53,7 @@ pub record Capture : Type 0 where
   pub names : List (List ℕ)
   pub packets : List Packet
 
--- a section header: this order of bytes, version 1.0, and no option
+-- a section header: this byte order, version 1.0, and no option
 abbrev pub is_section : Block → Bool
 is_section b =
     (nat_eq b.kind 0x0a0d0d0a && nat_eq (first_word b.body) 0x1a2b3c4d)
@@ -75,13 +75,13 @@ with_interface seen body =
     then Some (record seen { names = seen.names ++ take len (drop 12 body) ∷ [] })
     else None
 
--- a packet of one of so many interfaces, all of whose bytes were captured, with so many bytes
+-- a packet of one of the interfaces, all of whose `len` bytes were captured
 abbrev pub is_packet : ℕ → ℕ → List ℕ → Bool
 is_packet interfaces len body =
     (nat_lt (first_word body) interfaces && nat_eq (first_word (drop 16 body)) len)
     && nat_eq (length body) (20 + (len + fill len))
 
--- the packet, by how many bytes it has
+-- the packet, of `len` bytes
 abbrev pub packet_of : ℕ → List ℕ → Packet
 packet_of len body = record {
   interface = first_word body;
@@ -102,14 +102,14 @@ with_block seen b =
     if nat_eq b.kind 1 then with_interface seen b.body
     else (if nat_eq b.kind 6 then with_packet seen b.body else None)
 
--- all blocks, of which there are at most so many
+-- all blocks, at most `most`
 unfoldable pub with_blocks : ℕ → Capture → List ℕ → Option Capture
 with_blocks most seen [] = Some seen
 with_blocks zero seen (byte ∷ bytes) = None
 with_blocks (suc most) seen (byte ∷ bytes) =
     then_read (first_block (byte ∷ bytes)) (λ b. then_read (with_block seen b) (λ more. with_blocks most more b.behind))
 
--- what bytes are a capture of; none where they are malformed
+-- the capture that bytes are; none if they are malformed
 unfoldable pub read_capture : List ℕ → Option Capture
 read_capture bytes =
     then_read (first_block bytes) (λ b.

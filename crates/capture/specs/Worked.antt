@@ -7,14 +7,14 @@ use Rattle.capture.specs.InTime.{RiseFrom, captured_moments}
 use Rattle.capture.specs.Order.{on, in_order}
 use Rattle.capture.specs.Reader.{read_capture}
 
--- what network A was handed, at 0x100000002 microseconds, and network B, at 3
+-- a frame of network A, at 0x100000002 microseconds, and one of network B, at 3
 abbrev pub on_a : Entry
 on_a = entry 0x100000002 (0x11 ∷ 0x12 ∷ 0x13 ∷ 0x14 ∷ 0x15 ∷ [])
 
 abbrev pub on_b : Entry
 on_b = entry 3 (0x21 ∷ 0x22 ∷ 0x23 ∷ 0x24 ∷ [])
 
--- the frame of B, of 36 bytes in all, and then that of A, of 40 bytes with three that fill it up
+-- the frame of B, of 36 bytes in all, and then that of A, of 40 bytes with three of padding
 abbrev pub two_packets : List ℕ
 two_packets =
     (6 ∷ 0 ∷ 0 ∷ 0 ∷ 36 ∷ 0 ∷ 0 ∷ 0 ∷ 1 ∷ 0 ∷ 0 ∷ 0 ∷ 0 ∷ 0 ∷ 0 ∷ 0 ∷ 3 ∷ 0 ∷ 0 ∷ 0
@@ -32,7 +32,7 @@ pub record ReadsTwoFrames : Type 0 where
         packets = record { interface = 1; entry = on_b } ∷ record { interface = 0; entry = on_a } ∷ [];
       })
 
--- the moments of the capture rise, and those of the two lists one behind the other don't
+-- the times of the capture rise, and those of the two lists one after the other don't
 pub record RiseInTwoFrames : Type 0 where
   pub rise : RiseFrom 0 (captured_moments (in_order (on_a ∷ []) (on_b ∷ [])))
   pub fall : RiseFrom 0 (captured_moments (on A on_a ∷ on B on_b ∷ [])) → ⊥

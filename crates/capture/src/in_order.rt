@@ -8,7 +8,7 @@ use afdx_frame::Net;
 use script_text::{FrameLog, LogFrames};
 use std::marker::Model;
 
-/// A frame that a network was handed at a moment, in microseconds.
+/// A frame of a network, with its time in microseconds.
 #[derive(Clone, Copy, Debug)]
 pub(crate) struct Packet<'a> {
     pub(crate) net: Net,
@@ -16,7 +16,7 @@ pub(crate) struct Packet<'a> {
     pub(crate) frame: &'a [u8],
 }
 
-/// The frames of two logs that are left. The earlier one comes first, and at one moment A's.
+/// The frames of two logs that are left. The earlier one comes first; of two frames at one time, A's.
 #[derive(Drop)]
 pub(crate) struct InOrder<'a> {
     a: LogFrames<'a>,
@@ -30,7 +30,6 @@ impl<'a> Model for InOrder<'a> {
 }
 
 impl<'a> InOrder<'a> {
-    /// The frames that two networks were handed.
     pub(crate) fn new(a: &'a FrameLog, b: &'a FrameLog) -> InOrder<'a>
         ensures { result ≡ in_order a.now.handed b.now.handed }
     {

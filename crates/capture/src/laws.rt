@@ -3,9 +3,9 @@ ghost use Rattle.capture.specs.InTime.{IsInTime};
 ghost use Rattle.capture.specs.ReadBack.{ReadsBack};
 ghost use Rattle.capture.specs.Worked.{ReadsTwoFrames, RiseInTwoFrames};
 
-/// A reader takes what is written for a capture, and has of each interface the frames of its network,
-/// in their order, with their moments: whatever frames of at most 1,514 bytes they are, handed over at
-/// whatever moments of 64 bits.
+/// A reader accepts what is written for a capture, and has of each interface the frames of its network,
+/// in their order, with their times: for all frames of at most 1,514 bytes, sent at any times of 64
+/// bits.
 pub fn reads_back()
     ensures back { ReadsBack }
 
@@ -13,10 +13,10 @@ pub fn reads_back()
     ensures worked { ReadsTwoFrames }
 {}
 
-/// Where the moments of each network's frames rise, or stay, so do those of the capture.
+/// If the times of each network's frames rise, or stay, so do those of the capture.
 pub fn in_time()
     ensures time { IsInTime }
 
-    // a frame at 3 microseconds on network B before one at 4,294,967,298 on A, which was handed over first
+    // a frame at 3 microseconds on network B before one at 4,294,967,298 on A, which was sent first
     ensures worked { RiseInTwoFrames }
 {}

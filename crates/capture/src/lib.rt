@@ -1,4 +1,4 @@
-//! What two networks were handed, as one capture in the pcapng format.
+//! The frames of two networks, as one capture in the pcapng format.
 #![tactic(auto)]
 
 mod in_order;

@@ -10,8 +10,8 @@ use byteorder::{LittleEndian, WriteBytesExt};
 use script_text::FrameLog;
 use std::io::{self, Write};
 
-// The section header block: its type, its length, the number that tells the order of bytes, version 1.0,
-// a section of unknown length, and the length of the block again.
+// The section header block: its type, its length, the byte-order magic, version 1.0, a section of
+// unknown length, and the length of the block again.
 const SECTION: [u8; 28] = [
     0x0a, 0x0d, 0x0d, 0x0a, 28, 0, 0, 0, 0x4d, 0x3c, 0x2b, 0x1a, 1, 0, 0, 0, 0xff, 0xff, 0xff,
     0xff, 0xff, 0xff, 0xff, 0xff, 28, 0, 0, 0,
@@ -20,13 +20,13 @@ const SECTION: [u8; 28] = [
 // One more than the greatest number of 32 bits.
 const WORD: u64 = 0x1_0000_0000;
 
-// What fills a frame up.
+// The padding of a frame.
 const ZEROES: [u8; 3] = [0; 3];
 
-/// Writes what two networks were handed as a capture in the pcapng format: a section header, an
-/// interface for each network, and then a packet for each frame, with its moment in microseconds. The
-/// earlier frame comes first, and at one moment A's. Where the writer failed, a part of the capture may
-/// have been written.
+/// Writes the frames of two networks as a capture in the pcapng format: a section header, an interface
+/// for each network, and then a packet for each frame, with its time in microseconds. The earlier frame
+/// comes first; of two frames at one time, A's. If the writer fails, it may have written a part of the
+/// capture.
 pub fn write_capture<W: Write>(writer: &mut W, a: &FrameLog, b: &FrameLog) -> io::Result<()>
     ensures { OnOk result (Appends (W.contents writer.old) (W.contents writer.new)
         (capture_bytes a.now.handed b.now.handed)) }
@@ -48,7 +48,6 @@ fn write_header<W: Write>(writer: &mut W) -> io::Result<()>
     write_interface(writer, b'B')
 }
 
-/// Writes the section header.
 #[tactic(auto, unfolding(crate::specs::Capture::section_block, crate::specs::Capture::word, crate::specs::Capture::half))]
 fn write_section<W: Write>(writer: &mut W) -> io::Result<()>
     ensures { OnOk result (Appends (W.contents writer.old) (W.contents writer.new) section_block) }
@@ -84,7 +83,7 @@ fn write_packet<W: Write>(writer: &mut W, packet: Packet<'_>) -> io::Result<()>
     Ok(())
 }
 
-/// Writes what stands before the bytes of a frame of this length, in a block of this length.
+/// Writes the front of a packet, up to the frame's bytes: `len` bytes in a block of `whole`.
 #[tactic(auto, unfolding(crate::specs::Capture::word))]
 fn write_front<W: Write>(writer: &mut W, net: Net, at: u64, len: u32, whole: u32) -> io::Result<()>
     ensures { OnOk result (Appends (W.contents writer.old) (W.contents writer.new)
@@ -102,7 +101,7 @@ fn write_front<W: Write>(writer: &mut W, net: Net, at: u64, len: u32, whole: u32
     ])
 }
 
-/// Writes bytes, and zeroes up to a multiple of 4.
+/// Writes bytes, padded with zeros to a multiple of 4.
 fn write_filled<W: Write>(writer: &mut W, bytes: &[u8]) -> io::Result<()>
     ensures { OnOk result (Appends (W.contents writer.old) (W.contents writer.new) (filled bytes.now)) }
 {
@@ -110,7 +109,6 @@ fn write_filled<W: Write>(writer: &mut W, bytes: &[u8]) -> io::Result<()>
     writer.write_all(&ZEROES[..fill_of(bytes.len())])
 }
 
-/// Writes a number of 32 bits.
 #[tactic(auto, unfolding(crate::specs::Capture::word))]
 fn write_word<W: Write>(writer: &mut W, number: u32) -> io::Result<()>
     ensures { OnOk result (Appends (W.contents writer.old) (W.contents writer.new) (word number)) }
@@ -118,7 +116,7 @@ fn write_word<W: Write>(writer: &mut W, number: u32) -> io::Result<()>
     writer.write_u32::<LittleEndian>(number)
 }
 
-/// How many zeroes fill so many bytes up to a multiple of 4.
+/// The padding of `len` bytes to a multiple of 4.
 fn fill_of(len: usize) -> usize
     ensures value { result ≡ fill len }
     ensures most { result ≤ 3 }
@@ -126,7 +124,6 @@ fn fill_of(len: usize) -> usize
     (4 - len % 4) % 4
 }
 
-/// The number of a network's interface.
 fn interface(net: Net) -> u32
     ensures { result ≡ interface_of net }
 {

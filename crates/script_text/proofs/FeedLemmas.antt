@@ -1,4 +1,4 @@
--- The bytes before a line feed, as they stand in a buffer.
+-- The bytes before a line feed in a buffer.
 use Rattle.std.proofs.Common.{◌≡◌, ℕ, ◌+◌, ◌-◌, ◌≤◌, ◌<◌, ◌==◌, Bool, true, false, List, [], ◌∷◌, ◌++◌, zero, suc, length, take, drop, get_or, refl, ap, sym, ◌∙◌, arith, append_assoc, if◌then◌else◌, length-take, length-append, drop-drop, subst, Option, Some, None}
 use Rattle.std.proofs.lemmas.Bool.{false_from_ne_true}
 use Rattle.std.proofs.lemmas.List.{take_all, drop-take}
@@ -7,7 +7,7 @@ use Rattle.std.specs.Prelude.{slice_range}
 use Rattle.std.specs.Io.KnownBytes.{Consumes, prepend_known}
 use Rattle.script_text.specs.Lines.{before_feed, IsPlain, TakesPlain}
 
--- so many bytes, none of them a line feed, which a line feed or the end follows
+-- `place` bytes, none of them a line feed, before a line feed or the end
 pub before_at : (text : List ℕ) (place : ℕ) → ((k : ℕ) → k < place → ¬ ((get_or text k 0 == 10) ≡ true))
     → (place < length text → (get_or text place 0 == 10) ≡ true) → take place text ≡ before_feed text
 before_at [] place none feed = take_all place [] (omega arith)
@@ -46,7 +46,7 @@ before_range buffer start end plain is =
     ∙ drop-take (length plain) (end - (start + length plain)) (drop start buffer)
     ∙ ap (take (end - (start + length plain))) (drop-drop (length plain) start buffer))
 
--- they are taken from a reader's bytes, of which a range of a buffer is the front
+-- they are taken from a reader's bytes, whose front is a range of a buffer
 before_taken : (buffer : List ℕ) (start end : ℕ) (plain : List ℕ) (known : Option (List ℕ))
     → plain ≡ before_feed (slice_range buffer start end)
     → Consumes (prepend_known (slice_range buffer start end) known)

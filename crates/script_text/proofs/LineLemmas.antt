@@ -21,7 +21,7 @@ plain_parts x xs h = by (x == 10) h
     by true e = cc
     by false e = (refl, e)
 
--- a plain text in front of another: what stands before the first line feed and behind it, and whether there is one
+-- a plain text in front of another: the bytes before the first line feed and after it, and whether there is one
 record IsInFront (xs ys : List ℕ) : Type 0 where
   before : before_feed (xs ++ ys) ≡ xs ++ before_feed ys
   behind : after_feed (xs ++ ys) ≡ after_feed ys
@@ -84,7 +84,7 @@ whole_end : (old mid new : Option (List ℕ)) (items : List ℕ) → HasRead old
 whole_end old mid new items h f a = IfSome_then old (whole old mid new items [] h f) (λ text w.
     let none : w.left ≡ [] = rw w.left_is at a in rw (w.left_is, w.is, none) (refl, refl))
 
--- the first line where no line feed follows, and where one does
+-- the first line if no line feed follows, and if one does
 line_end : (items : List ℕ) → IsPlain items → first_line (items ++ []) ≡ items
 line_end items p = let front = plain_front items [] p in rw (front.feed, front.before) (append-nil items)
 

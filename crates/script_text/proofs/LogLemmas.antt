@@ -8,7 +8,7 @@ use Rattle.redundant_mux.specs.Entry.{Entry, entry}
 use Rattle.script_text.specs.FrameLog.{spelled, AreInLog, bytes_in, LacksRoom}
 use Rattle.script_text.specs.declared.frame_log.Mark.{Mark}
 
--- the frames that are spelled once one more stands behind them
+-- the frames that are spelled with one more at their end
 pub spelled_more : (marks : List Mark) (bytes : List ℕ) (mark : Mark) (frame : List ℕ)
     → sum_by (λ (m : Mark). m.len) marks ≡ length bytes → mark.len ≡ length frame
     → spelled (marks ++ mark ∷ []) (bytes ++ frame) ≡ spelled marks bytes ++ entry mark.at frame ∷ []
@@ -22,7 +22,7 @@ spelled_more (m ∷ ms) bytes mark frame all len =
     (ap (λ (es : List Entry). entry m.at (take m.len bytes) ∷ es)
     (spelled_more ms (drop m.len bytes) mark frame rest len))
 
--- the frames behind the first
+-- the frames after the first
 pub kept_tail : (mark : Mark) (marks : List Mark) (bytes : List ℕ) → AreInLog (mark ∷ marks) bytes
     → AreInLog marks (drop mark.len bytes)
 kept_tail mark marks bytes h = record {
@@ -50,7 +50,7 @@ spelled_bytes (m ∷ ms) bytes all =
     (spelled ms (drop m.len bytes)) in
     omega (arith, length-take-le m.len bytes within, length-drop m.len bytes, spelled_bytes ms (drop m.len bytes) rest)
 
--- where one of the lists has no room, the log has none
+-- if one of the lists has no room, the log has none
 pub lacks_room : (marks : List Mark) (bytes : List ℕ) (frames_capacity bytes_capacity failures size : ℕ) → AreInLog marks bytes
     → (length marks < frames_capacity → bytes_capacity < length bytes + size)
     → LacksRoom (record {

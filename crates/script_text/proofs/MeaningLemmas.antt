@@ -11,7 +11,7 @@ use Rattle.script_text.specs.declared.line_fault.LineFault.TheVariants.{Word, Nu
 some_word : (x : List ℕ) (xs : List (List ℕ)) → nat_lt 0 (length (x ∷ xs)) ≡ true
 some_word x xs = lt-ltb 0 (length (x ∷ xs)) (omega arith)
 
--- the words behind `send`
+-- the words after `send`
 pub send_none : (ws : List (List ℕ)) → ws ≡ [] → send_fault ws ≡ Some Word
 send_none ws h = rw h refl
 
@@ -34,7 +34,7 @@ pub send_ok : (ws more rest : List (List ℕ)) (n m bs : List ℕ) (p : ℕ) →
     → Some p ≡ port_number n → message_of m ≡ Some bs → rest ≡ [] → IsSaidSend ws (Send p bs)
 send_ok ws more rest n m bs p h k e f r = rw (h, k, ← e, f, r) (refl, refl)
 
--- the words behind `at`
+-- the words after `at`
 pub at_none : (ws : List (List ℕ)) → ws ≡ [] → at_fault ws ≡ Some Word
 at_none ws h = rw h refl
 
@@ -47,7 +47,7 @@ at_extra ws more last n x p h e r = rw (h, ← e, r) (rw (some_word x last) refl
 pub at_ok : (ws more : List (List ℕ)) (n : List ℕ) (p : ℕ) → ws ≡ n ∷ more → Some p ≡ moment_of n → more ≡ [] → IsSaidAt ws (At p)
 at_ok ws more n p h e r = rw (h, ← e, r) (refl, refl)
 
--- the words behind `close`
+-- the words after `close`
 pub close_none : (ws : List (List ℕ)) → ws ≡ [] → close_fault ws ≡ Some Word
 close_none ws h = rw h refl
 

@@ -15,7 +15,7 @@ skip_front (x ∷ xs) (suc n) h =
     let first : is_blank x ≡ true = h 0 (omega arith) in
     rw first (skip_front xs n (λ k lt. h (suc k) (omega arith)))
 
--- a text of so many bytes before its first blank, and the parts that follow
+-- a text of `m` bytes before its first blank, and the parts that follow
 record FirstPart (text : List ℕ) (m : ℕ) : Type 0 where
   others : List (List ℕ)
   is : slice_split is_blank text ≡ take m text ∷ others

@@ -5,12 +5,12 @@ use Rattle.hex.specs.Hex.{decode_of}
 use Rattle.script_text.specs.Numbers.{number_of}
 use Rattle.script_text.specs.Words.{words_of}
 
--- no words where the first one begins with a number sign (35)
+-- no words if the first one begins with a number sign (35)
 abbrev pub without_note : List (List ℕ) → List (List ℕ)
 without_note [] = []
 without_note (w ∷ ws) = if slice_index w 0 == 35 then [] else w ∷ ws
 
--- the words of a line's command: none at a blank line and at a note
+-- the words of a line's command: none at a blank line and at a comment
 abbrev pub command_of : List ℕ → List (List ℕ)
 command_of line = without_note (words_of line)
 
@@ -30,7 +30,7 @@ is_close word = bytes_eq word (codes "close")
 abbrev pub port_number : List ℕ → Option ℕ
 port_number word = number_of 65535 word
 
--- the moment that a word names, in microseconds
+-- the time that a word names, in microseconds
 abbrev pub moment_of : List ℕ → Option ℕ
 moment_of word = number_of 18446744073709551615 word
 

@@ -27,12 +27,12 @@ abbrev pub lacks_word : List (List ℕ) → Bool
 lacks_word [] = false
 lacks_word (w ∷ ws) = option_map_or (λ n. nat_lt (length ws + 1) n) (form_len w) true
 
--- behind a link, a sub-VL that is no number in its range
+-- after a link, a sub-VL that is no number in its range
 abbrev pub has_bad_sub : List (List ℕ) → Bool
 has_bad_sub [] = false
 has_bad_sub (s ∷ ws) = is_none (sub_number s)
 
--- a port, a moment, a link or a sub-VL that is no number in its range
+-- a port, a time, a link or a sub-VL that is no number in its range
 abbrev pub has_bad_number : List (List ℕ) → Bool
 has_bad_number (w ∷ n ∷ ws) =
     if is_send w then is_none (port_number n)
@@ -59,7 +59,7 @@ has_fault Hex line = has_bad_hex (command_of line)
 has_fault Extra line = has_extra (command_of line)
 has_fault Memory line = false
 
--- the order in which faults are told
+-- the order in which faults are reported
 abbrev pub rank : LineFault → ℕ
 rank Long = 0
 rank Word = 1
@@ -68,7 +68,7 @@ rank Hex = 3
 rank Extra = 4
 rank Memory = 5
 
--- a line has this fault, and none that is told before it
+-- a line has this fault, and none that is reported before it
 abbrev pub IsFirstFault : List ℕ → LineFault → Type 0
 IsFirstFault line fault =
     (has_fault fault line ≡ true)
@@ -78,7 +78,7 @@ IsFirstFault line fault =
 abbrev pub IsFaultless : List ℕ → Type 0
 IsFaultless line = (fault : LineFault) → has_fault fault line ≡ false
 
--- the first fault of the words behind `send`
+-- the first fault of the words after `send`
 abbrev pub send_fault : List (List ℕ) → Option LineFault
 send_fault (n ∷ h ∷ ws) =
     if is_none (port_number n) then Some Number
@@ -87,7 +87,7 @@ send_fault (n ∷ h ∷ ws) =
     else None
 send_fault _ = Some Word
 
--- the first fault of the words behind `at`
+-- the first fault of the words after `at`
 abbrev pub at_fault : List (List ℕ) → Option LineFault
 at_fault (n ∷ ws) =
     if is_none (moment_of n) then Some Number
@@ -95,7 +95,7 @@ at_fault (n ∷ ws) =
     else None
 at_fault _ = Some Word
 
--- the first fault of the words behind `close`
+-- the first fault of the words after `close`
 abbrev pub close_fault : List (List ℕ) → Option LineFault
 close_fault (n ∷ s ∷ ws) =
     if is_none (link_number n) || is_none (sub_number s) then Some Number

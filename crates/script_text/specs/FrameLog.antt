@@ -1,12 +1,11 @@
--- What a network that keeps all bytes in one place was handed.
+-- The frames of a network that keeps all bytes in one buffer.
 use Rattle.std.specs.Prelude.{ℕ, ◌≡◌, ◌+◌, ◌<◌, ◌≤◌, ◌⊎◌, List, [], ◌∷◌, length, take, drop, All}
 use Rattle.std.specs.List.{sum_by}
 use Rattle.afdx_frame.specs.declared.net.TheConstants.{GREATEST_FRAME}
 use Rattle.redundant_mux.specs.Entry.{Entry, entry}
 use Rattle.script_text.specs.declared.frame_log.Mark.{Mark}
 
--- what was handed over, for how many frames and for how many bytes there is memory, and how often a
--- hand failed
+-- the frames, for how many frames and for how many bytes there is memory, and how often a hand failed
 pub record FrameLog : Type 0 where
   pub handed : List Entry
   pub frames_capacity : ℕ
@@ -17,12 +16,12 @@ pub record FrameLog : Type 0 where
 abbrev pub bytes_in : List Entry → ℕ
 bytes_in handed = sum_by (λ (e : Entry). length e.frame) handed
 
--- a log has no memory for one more frame, of so many bytes
+-- a log has no memory for one more frame, of `size` bytes
 abbrev pub LacksRoom : FrameLog → ℕ → Type 0
 LacksRoom log size =
     (log.frames_capacity ≤ length log.handed) ⊎ (log.bytes_capacity < bytes_in log.handed + size)
 
--- the frames whose bytes stand one after the other
+-- the frames whose bytes follow one another
 abbrev pub spelled : List Mark → List ℕ → List Entry
 spelled [] bytes = []
 spelled (mark ∷ marks) bytes = entry mark.at (take mark.len bytes) ∷ spelled marks (drop mark.len bytes)

@@ -7,7 +7,7 @@ abbrev pub before_feed : List ℕ → List ℕ
 before_feed [] = []
 before_feed (x ∷ xs) = if x == 10 then [] else x ∷ before_feed xs
 
--- the bytes behind it
+-- the bytes after it
 abbrev pub after_feed : List ℕ → List ℕ
 after_feed [] = []
 after_feed (x ∷ xs) = if x == 10 then xs else after_feed xs
@@ -39,7 +39,7 @@ without_return xs =
 abbrev pub first_line : List ℕ → List ℕ
 first_line text = if has_feed text then without_return (before_feed text) else before_feed text
 
--- a text is a line, which is short enough, and what is left behind its end
+-- a text is a line, which is short enough, and what follows its end
 pub record Splits (text line : List ℕ) (left : Option (List ℕ)) : Type 0 where
   pub some : 0 < length text
   pub first : line ≡ first_line text

@@ -1,21 +1,21 @@
--- What a line says that has no fault.
+-- What a line without a fault says.
 use Rattle.std.specs.Prelude.{◌≡◌, ℕ, if◌then◌else◌, List, [], ◌∷◌, unwrap_or, None}
 use Rattle.script_text.specs.Command.{command_of, is_send, is_at, is_close, port_number, moment_of, link_number, sub_number, message_of}
 use Rattle.script_text.specs.Faults.{send_fault, at_fault, close_fault}
 use Rattle.script_text.specs.declared.line.Line.{Line}
 use Rattle.script_text.specs.declared.line.Line.TheVariants.{Send, At, Close, Nothing}
 
--- what the words behind `send` say
+-- what the words after `send` say
 abbrev pub said_send : List (List ℕ) → Line
 said_send (p ∷ m ∷ ws) = Send (unwrap_or (port_number p) 0) (unwrap_or (message_of m) [])
 said_send _ = Nothing
 
--- what the words behind `at` say
+-- what the words after `at` say
 abbrev pub said_at : List (List ℕ) → Line
 said_at (t ∷ ws) = At (unwrap_or (moment_of t) 0)
 said_at _ = Nothing
 
--- what the words behind `close` say
+-- what the words after `close` say
 abbrev pub said_close : List (List ℕ) → Line
 said_close (l ∷ s ∷ ws) = Close (unwrap_or (link_number l) 0) (unwrap_or (sub_number s) 0)
 said_close _ = Nothing
@@ -33,14 +33,14 @@ said_by (w ∷ ws) =
 abbrev pub meaning_of : List ℕ → Line
 meaning_of line = said_by (command_of line)
 
--- the words behind `send` have no fault and say this
+-- the words after `send` have no fault and say this
 abbrev pub IsSaidSend : List (List ℕ) → Line → Type 0
 IsSaidSend ws line = (send_fault ws ≡ None) × (line ≡ said_send ws)
 
--- the words behind `at` have no fault and say this
+-- the words after `at` have no fault and say this
 abbrev pub IsSaidAt : List (List ℕ) → Line → Type 0
 IsSaidAt ws line = (at_fault ws ≡ None) × (line ≡ said_at ws)
 
--- the words behind `close` have no fault and say this
+-- the words after `close` have no fault and say this
 abbrev pub IsSaidClose : List (List ℕ) → Line → Type 0
 IsSaidClose ws line = (close_fault ws ≡ None) × (line ≡ said_close ws)

@@ -12,7 +12,7 @@ counted (Refused refusal) sums = record sums { refused = sums.refused + 1 }
 counted (Released frames) sums = record sums { frames = sums.frames + frames }
 counted (Closed total) sums = sums
 
--- a line releases a frame of each of 64 links at most
+-- a line releases at most one frame of each of 64 links
 abbrev pub HasFew : Outcome → Type 0
 HasFew (Released frames) = frames ≤ 64
 HasFew _ = ⊤

@@ -28,11 +28,11 @@ refusal_name TimeBack = codes "TimeBack"
 abbrev pub refused_note : ℕ → List ℕ → List ℕ
 refused_note line name = codes "line " ++ decimal line ++ codes ": refused " ++ name ++ 10 ∷ []
 
--- the note on a line that closed a sub-VL, which accepted so many messages in all
+-- the note on a line that closed a sub-VL, which accepted `total` messages
 abbrev pub closed_note : ℕ → ℕ → List ℕ
 closed_note line total = codes "line " ++ decimal line ++ codes ": closed " ++ decimal total ++ 10 ∷ []
 
--- what is written of a line when it was run
+-- what a line that was run adds to the transcript
 unfoldable pub note_of : ℕ → Outcome → List ℕ
 note_of line (Became.Refused refusal) = refused_note line (refusal_name refusal)
 note_of line (Became.Closed total) = closed_note line total
@@ -43,7 +43,7 @@ abbrev pub net_name : Net → List ℕ
 net_name A = codes "A"
 net_name B = codes "B"
 
--- the line of a frame: the network, the moment in microseconds, and the frame in lower case
+-- the line of a frame: the network, the time in microseconds, and the frame in lower case
 -- hexadecimal
 abbrev pub frame_line : Net → Entry → List ℕ
 frame_line net e =
@@ -57,7 +57,7 @@ frame_lines net es = flat_map (frame_line net) es
 abbrev pub streams : List Entry → List Entry → List ℕ
 streams a b = frame_lines A a ++ frame_lines B b
 
--- nothing more is written once the writer failed or memory was refused
+-- the run stops writing after the writer or an allocation failed
 abbrev pub ends_writing : RunFault → Bool
 ends_writing Write = true
 ends_writing Memory = true

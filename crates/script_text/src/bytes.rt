@@ -11,8 +11,8 @@ use std::marker::Model;
 
 const BUFFER_SIZE: usize = 4096;
 
-/// The bytes of a reader, which is asked for 4,096 at a time. Contracts see the bytes that are
-/// left, where those are known.
+/// The bytes of a reader, read 4,096 at a time. Contracts see the bytes that are left, if those are
+/// known.
 #[derive(Drop)]
 pub struct Bytes<R: Read + Drop> {
     reader: R,
@@ -34,7 +34,6 @@ impl<R: Read + Drop> Model for Bytes<R> {
 }
 
 impl<R: Read + Drop> Bytes<R> {
-    /// The bytes that a reader has left.
     pub fn new(reader: R) -> Self
         ensures { result ≡ R.remaining reader }
     {
@@ -46,8 +45,8 @@ impl<R: Read + Drop> Bytes<R> {
         }
     }
 
-    /// Takes the next byte; `None` at the end. Each failure of the reader is passed on, an
-    /// interruption too, and no byte is lost by it.
+    /// Takes the next byte; `None` at the end. Each failure of the reader is returned, an interruption too,
+    /// and loses no byte.
     pub fn next(&mut self) -> io::Result<Option<u8>>
         ensures taken { IfOk result (λ byte. Consumes self.old self.new (option_to_list byte)) }
         ensures ended { IfOk result (λ byte. byte ≡ None → IsAtEnd self.new) }
@@ -69,7 +68,7 @@ impl<R: Read + Drop> Bytes<R> {
         Ok(Some(self.buffer[0]))
     }
 
-    /// Appends to a line the bytes that stand in the buffer before a line feed, and takes them.
+    /// Appends to a line the buffered bytes before a line feed, and takes them.
     pub fn take_plain(&mut self, line: &mut Vec<u8>) -> Result<(), AllocError>
         ensures { OnOk result (TakesPlain self.old self.new line.old.items line.new.items) }
     {

@@ -4,7 +4,7 @@ ghost use Rattle.std.specs.Char.{is_ascii_digit};
 ghost use Rattle.std.specs.List.{list_all};
 ghost use Rattle.script_text.specs.Numbers.{number_of, is_numeral as is_numeral_text};
 
-/// The number that a word writes in decimal digits alone, where it is at most the greatest.
+/// The number that a word writes in decimal digits alone, if it is at most `greatest`.
 #[tactic(auto, using(crate::proofs::NumberLemmas::number_rules), unfolding(crate::specs::Numbers::number_of))]
 pub fn number(word: &[u8], most: u64) -> Option<u64>
     ensures value { result ≡ number_of most word.now }
@@ -23,7 +23,7 @@ pub fn number(word: &[u8], most: u64) -> Option<u64>
     if value <= most { Some(value) } else { None }
 }
 
-// Whether a word has digits, one at least, and nothing else.
+// Whether a word is one digit or more.
 fn is_numeral(word: &[u8]) -> bool
     ensures { result ≡ is_numeral_text word.now }
 {
@@ -36,7 +36,7 @@ fn has_digits_alone(word: &[u8]) -> bool
     word.iter().all(|byte| byte.is_ascii_digit())
 }
 
-// The number with one more digit at its end, where it fits.
+// The number with one more digit at its end, if it fits.
 fn with_digit(value: u64, digit: u8) -> Option<u64>
     ensures { let next = value * 10 + (digit - 48) in
         MatchOption result (2 ^ 64 ≤ next) (λ sum. sum ≡ next) }

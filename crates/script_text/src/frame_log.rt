@@ -1,4 +1,4 @@
-//! A network that keeps what it is handed.
+//! A network that keeps its frames.
 ghost use Rattle.std.specs.Prelude.{◌≡◌, ◌+◌, ◌^◌, ◌<◌, ◌≤◌, [], ◌∷◌, ◌++◌, true, false, length, OnOk, OnErr, vec_capacity};
 ghost use Rattle.redundant_mux.specs.Entry.{entry};
 ghost use Rattle.script_text.specs.FrameLog.{AreInLog, spelled};
@@ -9,15 +9,15 @@ use redundant_mux::{HandFault, Network};
 use std::alloc::Global;
 use std::marker::Model;
 
-/// The moment of a frame that was handed over, in microseconds, and how many bytes it has.
+/// The time of a frame in microseconds, and its length in bytes.
 #[derive(Clone, Copy, Debug, PartialEq, Eq)]
 pub struct Mark {
     pub at: u64,
     pub len: usize,
 }
 
-/// A network that keeps what it is handed: the bytes of all frames one after the other. Contracts
-/// see what was handed to it, for how many frames and bytes it has memory, and its failures.
+/// A network that keeps its frames, the bytes of all in one buffer. Contracts see the frames, for how many
+/// frames and bytes it has memory, and its failures.
 #[derive(Drop)]
 pub struct FrameLog {
     marks: Vec<Mark>,
@@ -42,7 +42,7 @@ impl Model for FrameLog {
 }
 
 impl FrameLog {
-    /// A network that was handed nothing. A hand fails only where memory was refused.
+    /// A network to which nothing was sent. A hand fails only if an allocation fails.
     pub fn new(alloc: Global) -> FrameLog
         ensures { result ≡ record {
           handed = [];
@@ -58,7 +58,7 @@ impl FrameLog {
         }
     }
 
-    /// The frames that were handed over, in their order.
+    /// The frames, in the order in which they were sent.
     pub fn frames(&self) -> LogFrames<'_>
         ensures { result ≡ self.now.handed }
     {
@@ -73,9 +73,8 @@ impl Network for FrameLog {
 
     ghost failures = { λ l. l.failures };
 
-    /// Keeps the frame and its moment at the end. A hand for which memory is refused fails, and no
-    /// other: what was handed over is as it was, the failure is counted, and the next hand is tried like
-    /// any other.
+    /// Appends the frame and its time. It fails only if an allocation fails: then the frames are unchanged,
+    /// the failure is counted, and the next hand may succeed.
     fn hand(&mut self, at: u64, frame: &[u8]) -> Result<(), HandFault>
         requires short { length frame.now ≤ GREATEST_FRAME }
         requires few { self.old.failures + 1 < 2 ^ 64 }
@@ -96,7 +95,7 @@ impl Network for FrameLog {
     }
 }
 
-// Keeps a frame at the end, where memory suffices. Whether it does.
+// Appends a frame. Returns whether memory sufficed.
 fn keep(marks: &mut Vec<Mark>, bytes: &mut Vec<u8>, at: u64, frame: &[u8]) -> bool
     requires short { length frame.now ≤ GREATEST_FRAME }
     requires before { AreInLog marks.old.items bytes.old.items }

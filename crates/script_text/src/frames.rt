@@ -13,7 +13,7 @@ use std::io::Write;
 // Two digits for each byte of a frame.
 const DIGITS: usize = 2 * GREATEST_FRAME;
 
-/// Writes what was handed to network A, and then what was handed to B.
+/// Writes the frames of network A, and then those of B.
 pub fn write_streams<W: Write>(writer: &mut W, a: &FrameLog, b: &FrameLog) -> Result<(), RunFault>
     ensures ok { OnOk result (Appends (W.contents writer.old) (W.contents writer.new)
         (streams a.now.handed b.now.handed)) }
@@ -30,7 +30,7 @@ fn write_both<W: Write>(writer: &mut W, a: &FrameLog, b: &FrameLog) -> io::Resul
     write_lines(writer, Net::B, b)
 }
 
-// Writes a line for each frame that was sent to a network, under its name.
+// Writes a line for each frame of a network, under its name.
 fn write_lines<W: Write>(writer: &mut W, net: Net, log: &FrameLog) -> io::Result<()>
     ensures { OnOk result (Appends (W.contents writer.old) (W.contents writer.new)
         (frame_lines net log.now.handed)) }

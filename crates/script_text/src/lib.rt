@@ -1,5 +1,5 @@
 //! The text of scripts: what the lines of a script say, and the transcript of its run, the notes on its lines and the
-//! lines of the frames that two networks were handed.
+//! lines of the frames of two networks.
 #![tactic(auto)]
 
 mod bytes;

@@ -1,8 +1,8 @@
 //! What a line of a script says.
 use crate::message::Message;
 
-/// What a line says: a port sends a message, one poll at a moment in microseconds, the close of a
-/// sub-VL of a virtual link, or nothing, as a blank line and a note do.
+/// What a line says: a port sends a message, one poll at a time in microseconds, the close of a sub-VL of
+/// a virtual link, or nothing, as a blank line and a comment do.
 #[derive(Debug, Drop)]
 pub enum Line {
     Send { port: u16, bytes: Message },

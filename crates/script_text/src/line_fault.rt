@@ -4,10 +4,10 @@ ghost use Rattle.script_text.specs.Faults.{line_fault_number};
 
 use thiserror::Error;
 
-/// Why a line says nothing that can be done. Its text is its name.
+/// Why a line has no meaning. `Display` prints the variant's name.
 #[derive(Clone, Copy, Debug, PartialEq, Eq, Error)]
 pub enum LineFault {
-    /// The first word is another one, or a word is missing.
+    /// The first word is unknown, or a word is missing.
     #[error("Word")]
     Word = 1,
     /// A number has other bytes than decimal digits, or is over its range.
@@ -22,7 +22,7 @@ pub enum LineFault {
     /// The line has more than 20,000 bytes without its end.
     #[error("Long")]
     Long,
-    /// Memory was refused.
+    /// An allocation failed.
     #[error("Memory")]
     Memory,
 }

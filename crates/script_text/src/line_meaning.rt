@@ -13,7 +13,7 @@ use crate::line_words::next_word;
 use crate::message::Message;
 use std::alloc::Global;
 
-/// What a line says, which is given without its end, or its first fault, in the order
+/// What a line says, given without its end, or its first fault in the order
 /// `Long`, `Word`, `Number`, `Hex`, `Extra`. `Memory` may be returned in place of any answer.
 #[tactic(auto, unfolding(crate::specs::Command::is_send, crate::specs::Command::is_at, crate::specs::Command::is_close))]
 pub fn read_line(alloc: Global, line: &[u8]) -> Result<Line, LineFault>
@@ -43,7 +43,7 @@ pub fn read_line(alloc: Global, line: &[u8]) -> Result<Line, LineFault>
     }
 }
 
-// What the words behind `send` say.
+// What the words after `send` say.
 #[tactic(auto, using(crate::proofs::MeaningLemmas::send_rules))]
 fn read_send(alloc: Global, rest: &[u8]) -> Result<Line, LineFault>
     ensures ok { IfOk result (IsSaidSend (words_of rest.now)) }
@@ -88,7 +88,7 @@ fn message(alloc: Global, word: &[u8]) -> Result<Message, LineFault>
     }
 }
 
-// What the words behind `at` say.
+// What the words after `at` say.
 #[tactic(auto, using(crate::proofs::MeaningLemmas::at_rules))]
 fn read_at(rest: &[u8]) -> Result<Line, LineFault>
     ensures ok { IfOk result (IsSaidAt (words_of rest.now)) }
@@ -106,7 +106,7 @@ fn read_at(rest: &[u8]) -> Result<Line, LineFault>
     }
 }
 
-// What the words behind `close` say.
+// What the words after `close` say.
 #[tactic(auto, using(crate::proofs::MeaningLemmas::close_rules))]
 fn read_close(rest: &[u8]) -> Result<Line, LineFault>
     ensures ok { IfOk result (IsSaidClose (words_of rest.now)) }

@@ -12,7 +12,7 @@ use std::io::Read;
 /// The greatest length of a line, in bytes without its end.
 pub const LINE_LIMIT: usize = 20_000;
 
-/// What a reader had next.
+/// What a reader has next.
 #[derive(Clone, Copy, Debug, PartialEq, Eq)]
 pub enum Next {
     Line,
@@ -67,9 +67,9 @@ fn drop_return(line: &mut Vec<u8>)
     }
 }
 
-/// Reads the next line into a buffer, without its end. `Long` where the line has more than 20,000
-/// bytes, and `End` where the reader has no byte left. After `Long` and after an error the reader
-/// stands somewhere in the line.
+/// Reads the next line into a buffer, without its end. `Long` if the line has more than 20,000 bytes, and
+/// `End` if the reader has no byte left. After `Long` and after an error the reader is somewhere in the
+/// line.
 pub fn next_line<R: Read + Drop>(
     bytes: &mut Bytes<R>,
     line: &mut Vec<u8>,

@@ -8,7 +8,7 @@ fn is_blank(byte: u8) -> bool
     byte == b' ' || byte == b'\t'
 }
 
-// The place of the first byte that is no blank, or the length.
+// The index of the first byte that is no blank, or the length.
 fn text_at(line: &[u8]) -> usize
     ensures within { result ≤ length line.now }
     ensures before { (k : ℕ) → k < result → is_blank_byte (slice_index line.now k) ≡ true }
@@ -22,7 +22,7 @@ fn text_at(line: &[u8]) -> usize
     line.len()
 }
 
-// The place of the first blank, or the length.
+// The index of the first blank, or the length.
 fn blank_at(text: &[u8]) -> usize
     ensures within { result ≤ length text.now }
     ensures before { (k : ℕ) → k < result → is_blank_byte (slice_index text.now k) ≡ false }
@@ -36,7 +36,7 @@ fn blank_at(text: &[u8]) -> usize
     text.len()
 }
 
-/// The first word of a line and what follows it, where there is a word.
+/// The first word of a line and what follows it, if there is a word.
 pub fn next_word(line: &[u8]) -> Option<(&[u8], &[u8])>
     ensures { MatchOption result (words_of line.now ≡ [])
         (λ p. words_of line.now ≡ p.0.now ∷ words_of p.1.now) }

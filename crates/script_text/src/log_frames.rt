@@ -1,4 +1,4 @@
-//! Going over the frames of a log.
+//! Iterating over the frames of a log.
 ghost use Rattle.std.specs.Prelude.{List, map};
 ghost use Rattle.std.specs.Iterator.{item_count};
 ghost use Rattle.redundant_mux.specs.Entry.{Entry};
@@ -8,9 +8,9 @@ ghost use Rattle.script_text.specs.LogFrames.{TakesFrame, first_moment};
 use crate::frame_log::Mark;
 use std::marker::Model;
 
-/// The frames of a log that are left, in the order in which they were handed over. Each comes with its
-/// moment in microseconds; its bytes go from the destination MAC address to the sequence number.
-/// Contracts see the frames that are left.
+/// The frames of a log that are left, in the order in which they were sent. Each has its time in
+/// microseconds, and its bytes from the destination MAC address to the sequence number. Contracts see the
+/// frames that are left.
 #[derive(Drop)]
 pub struct LogFrames<'a> {
     marks: &'a [Mark],
@@ -28,7 +28,7 @@ impl<'a> Model for LogFrames<'a> {
 impl<'a> LogFrames<'a> {
     ghost use Rattle.std.specs.Prelude.{◌≡◌};
 
-    /// The frames whose bytes stand one after the other.
+    /// The frames whose bytes follow one another.
     pub(crate) fn new(marks: &'a [Mark], bytes: &'a [u8]) -> LogFrames<'a>
         requires { AreInLog marks.now bytes.now }
         ensures { result ≡ spelled marks.now bytes.now }
@@ -36,7 +36,7 @@ impl<'a> LogFrames<'a> {
         LogFrames { marks, bytes }
     }
 
-    /// The moment of the next frame, in microseconds; `None` where none is left.
+    /// The time of the next frame, in microseconds; `None` if none is left.
     pub fn next_moment(&self) -> Option<u64>
         ensures { result ≡ first_moment self.now }
     {

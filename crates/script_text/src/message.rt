@@ -18,21 +18,18 @@ impl Model for Message {
 }
 
 impl Message {
-    /// The message of some bytes.
     pub fn new(bytes: Vec<u8>) -> Message
         ensures { result ≡ bytes.items }
     {
         Message { bytes }
     }
 
-    /// Its bytes.
     pub fn as_slice(&self) -> &[u8]
         ensures { result.now ≡ self.now }
     {
         &self.bytes
     }
 
-    /// Its bytes, by value.
     pub fn into_vec(self) -> Vec<u8>
         ensures { result.items ≡ self }
     {

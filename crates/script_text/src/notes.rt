@@ -9,8 +9,8 @@ use crate::run_fault::RunFault;
 use std::io;
 use std::io::Write;
 
-/// Writes the note on a line, counted from 1: a line of text where it was refused or closed a
-/// sub-VL, and nothing otherwise.
+/// Writes the note on a line, counted from 1: a line of text if it was refused or closed a sub-VL, and
+/// nothing otherwise.
 #[tactic(auto, unfolding(crate::specs::Transcript::note_of))]
 #[inline(always)]
 pub fn write_note<W: Write>(writer: &mut W, line: u64, outcome: Outcome) -> Result<(), RunFault>

@@ -1,9 +1,9 @@
-//! What becomes of a line.
+//! The outcome of a line.
 use crate::refusal::Refusal;
 
-/// What became of a line: nothing at a line that says nothing, a message that was accepted, a
-/// refusal, a poll that released so many frames, or the close of a sub-VL that accepted so many
-/// messages.
+/// The outcome of a line: nothing for a line that says nothing, an accepted message, a refusal, a poll
+/// with the number of frames that it released, or the close of a sub-VL with the number of messages that
+/// it accepted.
 #[derive(Clone, Copy, Debug, PartialEq, Eq)]
 pub enum Outcome {
     Quiet,

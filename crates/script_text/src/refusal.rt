@@ -2,16 +2,16 @@
 ghost use Rattle.std.specs.Prelude.{◌≡◌};
 ghost use Rattle.script_text.specs.Transcript.{refusal_name};
 
-/// Why a line was refused while running.
+/// Why a line was refused at run time.
 #[derive(Clone, Copy, Debug, PartialEq, Eq)]
 pub enum Refusal {
     /// The message has no bytes.
     Empty,
-    /// The message is longer than the port's greatest.
+    /// The message is longer than the port's maximum.
     TooLong,
     /// The port's queue is closed.
     Closed,
-    /// The port has asked its queue for room as often as it may.
+    /// The port has requested as many slots as it may.
     Exhausted,
     /// The port's queue is full.
     Full,
@@ -19,12 +19,12 @@ pub enum Refusal {
     NoPort,
     /// No virtual link has this identifier, or the link has no sub-VL of this index.
     NoSub,
-    /// The moment lies before the last one.
+    /// The time is before the last one.
     TimeBack,
 }
 
 impl Refusal {
-    /// Its name, as a transcript has it.
+    /// Its name in a transcript.
     pub fn name(self) -> &'static str
         ensures { result.now ≡ refusal_name self }
     {

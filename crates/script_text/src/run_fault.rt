@@ -5,7 +5,7 @@ ghost use Rattle.script_text.specs.Transcript.{ends_writing};
 use crate::LineFault;
 use thiserror::Error;
 
-/// Why a run ended before the end of its script. Its text is what a program tells of it.
+/// Why a run ended before the end of its script. `Display` prints the message of the program.
 #[derive(Clone, Copy, Debug, PartialEq, Eq, Error)]
 pub enum RunFault {
     /// A line, counted from 1, has a fault.
@@ -20,13 +20,13 @@ pub enum RunFault {
     /// The writer failed.
     #[error("write failed")]
     Write,
-    /// Memory was refused.
+    /// An allocation failed.
     #[error("out of memory")]
     Memory,
 }
 
 impl RunFault {
-    /// Whether nothing more is written once a run was told it.
+    /// Whether the run stops writing after this fault.
     pub fn ends_writing(self) -> bool
         ensures { result ≡ ends_writing self }
     {

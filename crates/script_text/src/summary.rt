@@ -4,7 +4,7 @@ ghost use Rattle.script_text.specs.Summary.{counted, HasFew};
 
 use crate::outcome::Outcome;
 
-/// How many messages were accepted, how many lines were refused while running, and how many frames
+/// How many messages were accepted, how many lines were refused at run time, and how many frames
 /// were released.
 #[derive(Clone, Copy, Debug, PartialEq, Eq)]
 pub struct Summary {
