@@ -1,4 +1,4 @@
-//! A board that is opened.
+//! Opens a board.
 ghost use Rattle.std.specs.Prelude.{◌≡◌, length};
 ghost use Rattle.status_board.specs.Views.{links_of, AreNew};
 
@@ -7,7 +7,7 @@ use status_board::laws::seen_begins;
 use status_board::{Board, Counts, Monitor, open_board};
 use std::sync::Wait;
 
-/// What is published.
+/// The counts that are published.
 const FIRST: Counts = Counts {
     frames: 1,
     bytes: 60,
@@ -15,7 +15,7 @@ const FIRST: Counts = Counts {
     last: 0,
 };
 
-/// Tells a reading.
+/// Prints a reading.
 pub fn tell_counts(out: &mut Out<'_>, counts: Counts) {
     let Counts {
         frames,
@@ -26,7 +26,7 @@ pub fn tell_counts(out: &mut Out<'_>, counts: Counts) {
     out.line(format_args!("frames {frames}, bytes {bytes}, messages {messages}, last {last}"));
 }
 
-/// Compares both ends of a new board of one link, which changes neither.
+/// Compares both ends of a new board of one link.
 pub fn compare_ends<R: Wait>(rt: &R, board: &mut Board, monitor: &mut Monitor)
     requires board { length board.old ≡ 1 }
     requires monitor { links_of monitor.old ≡ 1 }
@@ -37,7 +37,7 @@ pub fn compare_ends<R: Wait>(rt: &R, board: &mut Board, monitor: &mut Monitor)
     seen_begins(rt, board, monitor, 0);
 }
 
-/// Reads before the first entry and after it.
+/// Reads before the first entry and after it, and prints both readings.
 pub fn publish_told<R: Wait>(rt: &R, out: &mut Out<'_>, mut board: Board, mut monitor: Monitor)
     requires board { length board ≡ 1 }
     requires monitor { links_of monitor ≡ 1 }
@@ -50,7 +50,7 @@ pub fn publish_told<R: Wait>(rt: &R, out: &mut Out<'_>, mut board: Board, mut mo
     tell_counts(out, after)
 }
 
-/// Opens a board of one link, once more where memory was refused.
+/// Opens a board of one link, a second time if an allocation fails.
 pub fn open<R: Wait>(rt: &R, alloc: Global, out: &mut Out<'_>) -> Result<(), Trouble> {
     if let Ok((board, monitor)) = open_board(alloc, 1) {
         publish_told(rt, out, board, monitor);

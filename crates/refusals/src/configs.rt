@@ -1,4 +1,4 @@
-//! Configurations that are read or made.
+//! Reads and makes configurations.
 use crate::trouble::*;
 use afdx_config::read_config;
 use afdx_plan::{Config, ConfigFault, demo_config};
@@ -19,15 +19,10 @@ const SHARED: &str = "[end_system]\nid = 1\n\
     [[port]]\nid = 11\nvl = 2\nsub = 0\npartition = 1\nkind = \"queuing\"\n\
     source = 1000\ndestination = 2000\nmax = 8192\ndest_ip = \"10.0.2.1\"\n";
 
-/// A text that is cut off behind a sign `=`.
+/// A text that ends after an equals sign.
 const CUT: &str = "[end_system]\nid = 1\n[[vl]]\nid = 1\nbag_ms = 1\nlmax =";
 
-/// Whether memory was refused.
-fn is_refused(answer: &Result<Config, ConfigFault>) -> bool {
-    matches!(answer, Err(ConfigFault::Memory))
-}
-
-/// Tells the plan, or the fault.
+/// Prints the plan or the fault.
 fn tell(out: &mut Out<'_>, answer: &Result<Config, ConfigFault>) {
     match answer {
         Ok(config) => {
@@ -38,17 +33,17 @@ fn tell(out: &mut Out<'_>, answer: &Result<Config, ConfigFault>) {
     }
 }
 
-/// Reads a text, once more where memory was refused.
+/// Reads a text, a second time if an allocation fails.
 fn read_text(alloc: Global, out: &mut Out<'_>, text: &str) {
     let mut answer = read_config(alloc, text.as_bytes());
-    if is_refused(&answer) {
+    if matches!(answer, Err(ConfigFault::Memory)) {
         out.line("refused Memory");
         answer = read_config(alloc, text.as_bytes());
     }
     tell(out, &answer)
 }
 
-/// Reads a plan, a text of a late fault, and one that is no TOML.
+/// Reads a plan, a text with a late fault, and one that is no TOML.
 pub fn read(alloc: Global, out: &mut Out<'_>) -> Result<(), Trouble> {
     read_text(alloc, out, DEMO);
     read_text(alloc, out, SHARED);
@@ -56,10 +51,10 @@ pub fn read(alloc: Global, out: &mut Out<'_>) -> Result<(), Trouble> {
     Ok(())
 }
 
-/// Makes the demonstration configuration, once more where memory was refused.
+/// Makes the demonstration configuration, a second time if an allocation fails.
 pub fn demo(alloc: Global, out: &mut Out<'_>) -> Result<(), Trouble> {
     let mut answer = demo_config(alloc);
-    if is_refused(&answer) {
+    if matches!(answer, Err(ConfigFault::Memory)) {
         out.line("refused Memory");
         answer = demo_config(alloc);
     }
@@ -67,7 +62,7 @@ pub fn demo(alloc: Global, out: &mut Out<'_>) -> Result<(), Trouble> {
     Ok(())
 }
 
-/// The demonstration configuration, made before the call that a case is about.
+/// The demonstration configuration, made before the call under test.
 pub fn prepared(alloc: Global) -> Result<Config, Trouble> {
     demo_config(alloc).map_err(|_| Trouble::Unprepared)
 }

@@ -1,4 +1,4 @@
-//! Networks in memory that are handed frames.
+//! Transmits frames to networks in memory.
 use crate::configs::prepared;
 use crate::polls::{message, send_two_told};
 use crate::trouble::*;
@@ -13,7 +13,6 @@ struct Opened {
     messages: (Vec<u8>, Vec<u8>),
 }
 
-/// Makes two messages and opens an emitter.
 fn open(alloc: Global) -> Result<Opened, Trouble> {
     let messages = (message(alloc, 1)?, message(alloc, 2)?);
     let config = prepared(alloc)?;
@@ -28,20 +27,20 @@ fn open(alloc: Global) -> Result<Opened, Trouble> {
     }
 }
 
-/// Tells what a network was handed, and how often it failed.
+/// Prints how many frames a network accepted, and how often it failed.
 fn tell(out: &mut Out<'_>, name: &str, network: &MemNetwork) {
     let (handed, failures) = (network.handed().len(), network.failures());
     out.line(format_args!("{name}: handed {handed}, failures {failures}"));
 }
 
-/// Tells what both networks were handed. Whether one of them failed.
+/// The same of both networks. Returns whether one of them failed.
 fn tell_both(out: &mut Out<'_>, a: &MemNetwork, b: &MemNetwork) -> bool {
     tell(out, "A", a);
     tell(out, "B", b);
     a.failures() != 0 || b.failures() != 0
 }
 
-/// Sends two messages. Whether a network failed.
+/// Sends two messages. Returns whether a network failed.
 fn send_two(out: &mut Out<'_>, opened: Opened) -> bool {
     let Opened {
         mut tx,
@@ -53,7 +52,7 @@ fn send_two(out: &mut Out<'_>, opened: Opened) -> bool {
     tell_both(out, &a, &b)
 }
 
-/// Sends two messages, once more where memory was refused to a network.
+/// Sends two messages, a second time if an allocation of a network fails.
 pub fn hand(alloc: Global, out: &mut Out<'_>) -> Result<(), Trouble> {
     let first = open(alloc)?;
     let second = open(alloc)?;

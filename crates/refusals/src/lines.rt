@@ -1,8 +1,8 @@
-//! Lines of a script that are read.
+//! Reads lines of a script.
 use crate::trouble::*;
 use script_text::{Line, LineFault, read_line};
 
-/// A line of each kind, and some that have a fault.
+/// A line of each kind, and some with a fault.
 const LINES: [&str; 8] = [
     "send 10 01",
     "send 10 0123456789abcdef",
@@ -14,12 +14,7 @@ const LINES: [&str; 8] = [
     "send 10 01 02",
 ];
 
-/// Whether memory was refused.
-fn is_refused(answer: &Result<Line, LineFault>) -> bool {
-    matches!(answer, Err(LineFault::Memory))
-}
-
-/// Tells what a line says, or its fault.
+/// Prints what a line says, or its fault.
 fn tell(out: &mut Out<'_>, answer: &Result<Line, LineFault>) {
     match answer {
         Ok(Line::Send { port, bytes }) => out.line(format_args!(
@@ -33,11 +28,11 @@ fn tell(out: &mut Out<'_>, answer: &Result<Line, LineFault>) {
     }
 }
 
-/// Reads each line, once more where memory was refused.
+/// Reads each line, a second time if an allocation fails.
 pub fn read(alloc: Global, out: &mut Out<'_>) -> Result<(), Trouble> {
     for line in LINES {
         let mut answer = read_line(alloc, line.as_bytes());
-        if is_refused(&answer) {
+        if matches!(answer, Err(LineFault::Memory)) {
             out.line("refused Memory");
             answer = read_line(alloc, line.as_bytes());
         }

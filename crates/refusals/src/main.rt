@@ -1,5 +1,5 @@
-//! What calls of the library answer where memory is refused: a case for each word. A call that is refused
-//! prints its fault, and is made once more. Without a word all cases are run.
+//! Calls of the library whose allocations fail: a case for each word. A call that fails prints its fault
+//! and is made a second time. Without a word all cases run.
 #![tactic(auto)]
 
 mod boards;
@@ -21,7 +21,7 @@ use std::sync::Wait;
 use std::thread::Threads;
 use trouble::*;
 
-/// The words that name cases, in the order in which all are run.
+/// The words that name cases, in the order in which all run.
 const CASES: [&str; 11] = [
     "read_config",
     "demo_config",
@@ -59,7 +59,7 @@ fn run_case<R: Threads + Wait + Sync>(
     }
 }
 
-/// Runs all cases, each behind a line that names it.
+/// Runs all cases, each after a line that names it.
 fn run_all<R: Threads + Wait + Sync>(
     rt: &R,
     alloc: Global,

@@ -1,4 +1,4 @@
-//! An emitter that is opened.
+//! Opens an emitter.
 use crate::configs::prepared;
 use crate::polls::{message, send_two_told};
 use crate::shelf::{Shelf, empty_shelf};
@@ -10,7 +10,7 @@ use status_board::Monitor;
 /// An emitter, its ports and its monitor.
 type Opened = (Emitter<Shelf, Shelf>, Vec<TxPort>, Monitor);
 
-/// Tells that an opening was refused, and whether what it was given is as it was.
+/// Prints that an opening failed, and whether its arguments are returned unchanged.
 fn tell_back(out: &mut Out<'_>, kept: &Config, back: &OpenFault<Shelf, Shelf>) {
     let is_same = back.config.end_system() == kept.end_system()
         && back.config.links() == kept.links()
@@ -21,7 +21,7 @@ fn tell_back(out: &mut Out<'_>, kept: &Config, back: &OpenFault<Shelf, Shelf>) {
     tell_network(out, "B", &back.b)
 }
 
-/// Tells of a network that came back how many frames it takes, and what was handed to it.
+/// Prints how many frames a returned network takes, how many it has, and how often it failed.
 fn tell_network(out: &mut Out<'_>, name: &str, network: &Shelf) {
     out.line(format_args!(
         "{name} takes {}, kept {}, failures {}",
@@ -31,8 +31,8 @@ fn tell_network(out: &mut Out<'_>, name: &str, network: &Shelf) {
     ));
 }
 
-/// Opens an emitter over two networks, of which A takes one frame and B four. Where memory was refused,
-/// what came back is opened once more.
+/// Opens an emitter over two networks, of which A takes one frame and B four. If an allocation fails,
+/// opens what is returned a second time.
 fn open_told(alloc: Global, out: &mut Out<'_>) -> Result<Opened, Trouble> {
     let (kept, config) = (prepared(alloc)?, prepared(alloc)?);
     match open_tx(alloc, config, empty_shelf(1), empty_shelf(4)) {
@@ -45,7 +45,7 @@ fn open_told(alloc: Global, out: &mut Out<'_>) -> Result<Opened, Trouble> {
     }
 }
 
-/// Opens an emitter, and sends two messages, each of which is polled for.
+/// Opens an emitter, sends two messages and polls for each.
 pub fn open(alloc: Global, out: &mut Out<'_>) -> Result<(), Trouble> {
     let messages = (message(alloc, 1)?, message(alloc, 2)?);
     let (mut tx, mut ports, _monitor) = open_told(alloc, out)?;

@@ -1,4 +1,4 @@
-//! The parts of an end system, which take no memory once a queue and a board are made.
+//! Calls the parts of an end system, which allocate nothing once a queue and a board exist.
 ghost use Rattle.std.specs.Prelude.{◌≡◌, ◌<◌, ◌≤◌, length};
 ghost use Rattle.afdx_frame.specs.Twin.{twin_of};
 ghost use Rattle.afdx_frame.specs.declared.net.Net.TheVariants.{A as ForA};
@@ -24,7 +24,6 @@ use vl_shaper::laws::one_each;
 /// Three messages of a queue, each of one byte.
 type Three = (Vec<u8>, Vec<u8>, Vec<u8>);
 
-/// Whether something is so, in a word.
 fn told(is_so: bool) -> &'static str {
     if is_so { "yes" } else { "no" }
 }
@@ -44,7 +43,7 @@ fn send_and_close(out: &mut Out<'_>, receiver: &mut Receiver, sender: &mut Sende
     out.line(format_args!("sender {index} accepted {accepted}"));
 }
 
-/// Takes a message out of a queue, closes it, and gathers its sender.
+/// Takes a message out of a queue, closes it, and takes its sender back.
 fn use_queue(out: &mut Out<'_>, mut receiver: Receiver, mut senders: Vec<Sender>, messages: Three)
     requires { AreOf receiver.queue senders.items }
 {
@@ -56,7 +55,7 @@ fn use_queue(out: &mut Out<'_>, mut receiver: Receiver, mut senders: Vec<Sender>
     gather_told(out, receiver, senders)
 }
 
-/// Stamps a release, and tells which sub-VL is asked first and whether the link is due.
+/// Stamps a release, and prints which sub-VL is first and whether the link is due.
 fn use_shaper(out: &mut Out<'_>) {
     one_each();
     let mut shaper = Shaper::new(Bag::Ms1, 2);
@@ -87,7 +86,7 @@ fn frame_for_a() -> Frame
     frame
 }
 
-/// Tells which networks of a mux stand, by each call that says so, and what each of them has.
+/// Prints which networks of a mux are up, by each call that says so, and what each of them has.
 fn tell_mux(out: &mut Out<'_>, mux: &Mux<Shelf, Shelf>) {
     let standing = mux.standing();
     let (a, b) = (told(standing.a), told(standing.b));
@@ -98,7 +97,7 @@ fn tell_mux(out: &mut Out<'_>, mux: &Mux<Shelf, Shelf>) {
     out.line(format_args!("A keeps {kept}, B has failed {failures}"));
 }
 
-/// Hands a frame to two networks, of which B takes none.
+/// Sends a frame to two networks, of which B accepts none.
 fn use_mux(out: &mut Out<'_>) {
     let mut mux = Mux::new(empty_shelf(4), empty_shelf(0));
     let frame = frame_for_a();
@@ -115,7 +114,7 @@ fn use_mux(out: &mut Out<'_>) {
     out.line(format_args!("A kept {a_kept}, B failed {b_failures}"));
 }
 
-/// Makes networks in memory, which are handed nothing.
+/// Makes networks in memory, to which nothing is sent.
 fn use_memory(alloc: Global, out: &mut Out<'_>) {
     let (fresh, failing) = (MemNetwork::new(alloc), MemNetwork::failing_at(alloc, 1));
     let handed = fresh.handed().len() + failing.handed().len();
@@ -123,7 +122,7 @@ fn use_memory(alloc: Global, out: &mut Out<'_>) {
     out.line(format_args!("handed {handed}, failures {first} and {second}"));
 }
 
-/// Cuts a message of the first port of a configuration into two frames, and tells the second, for each
+/// Cuts a message of the first port of a configuration into two frames, and prints the second, for each
 /// network.
 fn use_cut(out: &mut Out<'_>, config: &Config, message: Vec<u8>) {
     if config.ports().is_empty() || config.links().is_empty() {
@@ -148,7 +147,7 @@ fn use_cut(out: &mut Out<'_>, config: &Config, message: Vec<u8>) {
     tell_fields(out, twin(&second, Net::B).as_slice())
 }
 
-/// Tells what a configuration says.
+/// Prints what a configuration says.
 fn use_plan(out: &mut Out<'_>, config: &Config) {
     flows_apart(config);
     out.line(format_args!("end system {}", config.end_system()));
@@ -174,8 +173,8 @@ fn use_rest(alloc: Global, out: &mut Out<'_>, config: &Config, long: Vec<u8>) {
     use_plan(out, config)
 }
 
-/// Makes messages, a queue and a board, and calls the parts. What is printed behind `made` takes no
-/// memory.
+/// Makes messages, a queue and a board, and calls the parts. What is printed after `made` allocates
+/// nothing.
 fn call_over<R: Wait>(
     rt: &R,
     alloc: Global,
@@ -194,7 +193,6 @@ fn call_over<R: Wait>(
     Ok(())
 }
 
-/// Makes a configuration, and calls the parts over it.
 pub fn call<R: Wait>(rt: &R, alloc: Global, out: &mut Out<'_>) -> Result<(), Trouble> {
     let config = prepared(alloc)?;
     call_over(rt, alloc, out, &config)

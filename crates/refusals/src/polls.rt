@@ -1,4 +1,4 @@
-//! Polls that are told.
+//! Sends and polls, and prints the answers.
 ghost use Rattle.std.specs.Prelude.{◌≡◌, OnOk};
 ghost use Rattle.afdx_tx.specs.Emitter.{Tx};
 ghost use Rattle.afdx_tx.specs.Ports.{PortView, IsPortOfTx};
@@ -7,12 +7,11 @@ use crate::trouble::*;
 use afdx_tx::{Emitter, PollFault, Report, TxPort};
 use redundant_mux::Network;
 
-/// Whether a network stands, in a word.
 fn state(stands: bool) -> &'static str {
     if stands { "stands" } else { "down" }
 }
 
-/// Tells what a poll released, and which networks stand then.
+/// Prints what a poll released, and which networks are up after it.
 pub fn tell_report(out: &mut Out<'_>, now: u64, answer: Result<Report, PollFault>) {
     match answer {
         Ok(report) => {
@@ -24,7 +23,7 @@ pub fn tell_report(out: &mut Out<'_>, now: u64, answer: Result<Report, PollFault
     }
 }
 
-/// Polls at a moment that isn't before the last one, and tells what came of it.
+/// Polls at a time that isn't before the last one, and prints the answer.
 pub fn poll_told<A: Network + Drop, B: Network + Drop>(
     out: &mut Out<'_>,
     tx: &mut Emitter<A, B>,
@@ -40,7 +39,7 @@ pub fn poll_told<A: Network + Drop, B: Network + Drop>(
     tell_report(out, now, answer)
 }
 
-/// Sends a message, and tells how it is refused, if it is. The port stays one of its emitter.
+/// Sends a message, and prints the answer.
 pub fn send_told(out: &mut Out<'_>, port: &mut TxPort, message: Vec<u8>)
     ensures { (tx : Tx) → IsPortOfTx tx port.old → IsPortOfTx tx port.new }
 {

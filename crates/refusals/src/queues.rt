@@ -1,4 +1,4 @@
-//! A queue that is made.
+//! Makes a queue.
 ghost use Rattle.std.specs.Prelude.{◌≡◌};
 ghost use Rattle.subvl_queue.specs.Views.{AreOf};
 
@@ -9,7 +9,7 @@ use subvl_queue::{Gathered, Receiver, Sender, make};
 /// The greatest message of a queue.
 const GREATEST: usize = 8_192;
 
-/// Sends a message, and tells why it is refused, if it is.
+/// Sends a message, and prints the answer.
 pub fn send_told(out: &mut Out<'_>, sender: &mut Sender, message: Vec<u8>)
     ensures { sender.new.queue ≡ sender.old.queue }
 {
@@ -23,7 +23,7 @@ pub fn send_told(out: &mut Out<'_>, sender: &mut Sender, message: Vec<u8>)
     }
 }
 
-/// Sends a message with a pause that does nothing, and tells why it is refused, if it is.
+/// Sends a message with a pause that does nothing, and prints the answer.
 pub fn send_paused_told(out: &mut Out<'_>, sender: &mut Sender, message: Vec<u8>)
     ensures { sender.new.queue ≡ sender.old.queue }
 {
@@ -37,7 +37,7 @@ pub fn send_paused_told(out: &mut Out<'_>, sender: &mut Sender, message: Vec<u8>
     }
 }
 
-/// Takes the next message, and tells its bytes, if there is one.
+/// Takes the next message, and prints its bytes.
 pub fn take_told(out: &mut Out<'_>, receiver: &mut Receiver)
     ensures { receiver.new.queue ≡ receiver.old.queue }
 {
@@ -47,7 +47,7 @@ pub fn take_told(out: &mut Out<'_>, receiver: &mut Receiver)
     }
 }
 
-/// Gathers a sender, and tells what is left.
+/// Takes a sender back, and prints what is left.
 pub fn gather_told(out: &mut Out<'_>, receiver: Receiver, senders: Vec<Sender>)
     requires { AreOf receiver.queue senders.items }
 {
@@ -57,7 +57,7 @@ pub fn gather_told(out: &mut Out<'_>, receiver: Receiver, senders: Vec<Sender>)
     }
 }
 
-/// Takes the next message of a gathered queue, and tells its bytes, if there is one.
+/// Takes the next message that is left, and prints its bytes.
 fn take_left(out: &mut Out<'_>, mut gathered: Gathered) {
     match gathered.take() {
         Some(item) => out.line(format_args!("left: {} {:?}", item.port, item.bytes.as_slice())),
@@ -70,7 +70,6 @@ fn take_left(out: &mut Out<'_>, mut gathered: Gathered) {
 /// Four messages of one byte.
 type Four = (Vec<u8>, Vec<u8>, Vec<u8>, Vec<u8>);
 
-/// Sends two messages.
 pub fn send_both(out: &mut Out<'_>, sender: &mut Sender, first: Vec<u8>, second: Vec<u8>)
     ensures { sender.new.queue ≡ sender.old.queue }
 {
@@ -78,7 +77,7 @@ pub fn send_both(out: &mut Out<'_>, sender: &mut Sender, first: Vec<u8>, second:
     send_told(out, sender, second)
 }
 
-/// Sends more messages than have room, and more than may be asked for.
+/// Sends more messages than have room, and more than the sender may.
 fn send_four(out: &mut Out<'_>, receiver: &mut Receiver, sender: &mut Sender, messages: Four)
     ensures receiver { receiver.new.queue ≡ receiver.old.queue }
     ensures sender { sender.new.queue ≡ sender.old.queue }
@@ -103,7 +102,7 @@ fn answer(out: &mut Out<'_>, mut receiver: Receiver, mut senders: Vec<Sender>, m
     gather_told(out, receiver, senders)
 }
 
-/// Makes a queue of one place, whose sender may ask twice; once more where memory was refused.
+/// Makes a queue of one place, whose sender may send twice; a second time if an allocation fails.
 pub fn make_one(alloc: Global, out: &mut Out<'_>) -> Result<(), Trouble> {
     let (first, second) = (message(alloc, 1)?, message(alloc, 2)?);
     let messages = (first, second, message(alloc, 3)?, message(alloc, 4)?);

@@ -1,4 +1,4 @@
-//! An emitter that takes no memory once it is opened.
+//! An emitter that allocates nothing once it is open.
 ghost use Rattle.std.specs.Prelude.{◌≡◌, ◌<◌, IfOk, OnOk};
 ghost use Rattle.status_board.specs.Views.{links_of};
 ghost use Rattle.afdx_tx.specs.Emitter.{Tx};
@@ -12,11 +12,11 @@ use crate::trouble::*;
 use afdx_frame::{ident_of, more_of, offset_of, sn_of, sub_of, vl_of};
 use afdx_plan::VlId;
 use afdx_tx::{Draining, Emitter, TxPort, open_tx};
-use status_board::Monitor;
+use status_board::{Counts, Monitor};
 use std::sync::Wait;
 
-/// What is opened, with the one port taken out of the list of ports. It is large: a call of `drop`
-/// lets go of it in one step, where the end of a scope takes it apart field by field.
+/// An open emitter, its one port taken out of the list of ports. It is large: `drop` frees it in one step,
+/// while the end of a scope takes it apart field by field.
 #[derive(Drop)]
 struct Opened {
     tx: Emitter<Shelf, Shelf>,
@@ -25,7 +25,7 @@ struct Opened {
     monitor: Monitor,
 }
 
-/// Opens the demonstration configuration over networks that take no memory.
+/// Opens the demonstration configuration over networks that allocate nothing.
 fn open(alloc: Global) -> Result<Opened, Trouble>
     ensures port { IfOk result (λ opened. IsPortOfTx opened.tx opened.port) }
     ensures monitor { IfOk result (λ opened. 0 < links_of opened.monitor) }
@@ -54,8 +54,7 @@ fn open(alloc: Global) -> Result<Opened, Trouble>
     }
 }
 
-/// Sends a message with a pause that does nothing, and tells how it is refused, if it is. The port stays
-/// one of its emitter.
+/// Sends a message with a pause that does nothing, and prints the answer.
 fn send_paused_told(out: &mut Out<'_>, port: &mut TxPort, message: Vec<u8>)
     ensures { (tx : Tx) → IsPortOfTx tx port.old → IsPortOfTx tx port.new }
 {
@@ -65,35 +64,42 @@ fn send_paused_told(out: &mut Out<'_>, port: &mut TxPort, message: Vec<u8>)
     }
 }
 
-/// Tells what a port is asked.
+/// Prints a port's identifier and count.
 fn tell_port(out: &mut Out<'_>, port: &TxPort) {
     let (id, accepted) = (port.id().0, port.accepted());
     out.line(format_args!("port {id} accepted {accepted}"));
 }
 
-/// Tells what an emitter is asked between its polls.
-fn tell_emitter(out: &mut Out<'_>, tx: &Emitter<Shelf, Shelf>) {
-    let (links, now) = (tx.config().links().len(), tx.now());
-    let (a, b) = (tx.network_a().kept.len(), tx.network_b().kept.len());
+/// Prints the state of an emitter: the number of links, the time of the last poll, both networks' frames, and the
+/// counts of link 1.
+fn tell_state(out: &mut Out<'_>, of: (usize, u64), nets: (&Shelf, &Shelf), counts: Option<Counts>) {
+    let (links, now) = of;
+    let (a, b) = (nets.0.kept.len(), nets.1.kept.len());
     out.line(format_args!("links {links}, now {now}, A has {a}, B has {b}"));
-    match tx.counts(VlId(1)) {
+    match counts {
         Some(counts) => tell_counts(out, counts),
         None => out.line("missing"),
     }
 }
 
-/// Tells what an emitter is asked while it drains.
-fn tell_draining(out: &mut Out<'_>, draining: &Draining<Shelf, Shelf>) {
-    let (links, now) = (draining.config().links().len(), draining.now());
-    let (a, b) = (
-        draining.network_a().kept.len(),
-        draining.network_b().kept.len(),
-    );
-    out.line(format_args!("links {links}, now {now}, A has {a}, B has {b}"));
-    match draining.counts(VlId(1)) {
-        Some(counts) => tell_counts(out, counts),
-        None => out.line("missing"),
-    }
+fn tell_emitter(out: &mut Out<'_>, tx: &Emitter<Shelf, Shelf>) {
+    let of = (tx.config().links().len(), tx.now());
+    tell_state(
+        out,
+        of,
+        (tx.network_a(), tx.network_b()),
+        tx.counts(VlId(1)),
+    )
+}
+
+fn tell_draining(out: &mut Out<'_>, tx: &Draining<Shelf, Shelf>) {
+    let of = (tx.config().links().len(), tx.now());
+    tell_state(
+        out,
+        of,
+        (tx.network_a(), tx.network_b()),
+        tx.counts(VlId(1)),
+    )
 }
 
 /// Takes the networks back from an emitter that sent nothing.
@@ -109,7 +115,6 @@ fn give_up(out: &mut Out<'_>, opened: Opened) {
     out.line(format_args!("given up: A has {a}, B has {b}"));
 }
 
-/// Sends a message, and polls twice.
 fn send_and_poll(
     out: &mut Out<'_>,
     tx: &mut Emitter<Shelf, Shelf>,
@@ -123,7 +128,6 @@ fn send_and_poll(
     poll_told(out, tx, 1_000)
 }
 
-/// Publishes, and reads the board.
 fn publish_and_read<R: Wait>(
     rt: &R,
     out: &mut Out<'_>,
@@ -137,7 +141,7 @@ fn publish_and_read<R: Wait>(
     tell_counts(out, monitor.read(rt, 0))
 }
 
-/// Closes the one sub-VL, and tells how many messages were accepted.
+/// Closes the one sub-VL, and prints how many messages it accepted.
 fn close_told(out: &mut Out<'_>, tx: &mut Emitter<Shelf, Shelf>)
     ensures { (port : PortView) → IsPortOfTx tx.old port → IsPortOfTx tx.new port }
 {
@@ -147,7 +151,7 @@ fn close_told(out: &mut Out<'_>, tx: &mut Emitter<Shelf, Shelf>)
     }
 }
 
-/// Gathers the one port, in the list that it came out of.
+/// Takes back the one port, in the list that it came from, and starts draining.
 fn gather(opened: Opened) -> Option<Draining<Shelf, Shelf>>
     requires { IsPortOfTx opened.tx opened.port }
 {
@@ -173,15 +177,14 @@ fn drain<R: Wait>(rt: &R, out: &mut Out<'_>, draining: &mut Draining<Shelf, Shel
     tell_report(out, 2_000, answer);
     draining.publish(rt);
     tell_draining(out, draining);
-    let done = if draining.is_done() {
+    out.line(if draining.is_done() {
         "done"
     } else {
         "not done"
-    };
-    out.line(format_args!("{done}"));
+    });
 }
 
-/// Tells the fields of a frame.
+/// Prints the fields of a frame.
 pub fn tell_fields(out: &mut Out<'_>, frame: &[u8]) {
     let (vl, sub, number) = (vl_of(frame), sub_of(frame), sn_of(frame));
     let (ident, offset, more) = (ident_of(frame), offset_of(frame), more_of(frame));
@@ -196,7 +199,7 @@ pub fn tell_fields(out: &mut Out<'_>, frame: &[u8]) {
     ));
 }
 
-/// Tells what a network was handed.
+/// Prints the frames that a network accepted.
 fn tell_shelf(out: &mut Out<'_>, name: &str, shelf: &Shelf) {
     for kept in shelf.kept.as_slice() {
         out.line(format_args!("{name} {}", kept.at));
@@ -204,8 +207,8 @@ fn tell_shelf(out: &mut Out<'_>, name: &str, shelf: &Shelf) {
     }
 }
 
-/// Sends, polls, publishes, reads, sends once more and closes. What is printed behind `opened` takes no
-/// memory.
+/// Sends, polls, publishes, reads, sends once more and closes. What is printed after `opened` allocates
+/// nothing.
 fn use_opened<R: Wait>(
     rt: &R,
     out: &mut Out<'_>,
@@ -226,7 +229,7 @@ fn use_opened<R: Wait>(
     close_told(out, &mut opened.tx)
 }
 
-/// Uses what is opened, gathers, and tells what the networks were handed.
+/// Uses an open emitter, drains it, and prints what both networks accepted.
 fn use_all<R: Wait>(rt: &R, out: &mut Out<'_>, mut opened: Opened, long: Vec<u8>, short: Vec<u8>)
     requires port { IsPortOfTx opened.tx opened.port }
     requires monitor { 0 < links_of opened.monitor }
@@ -243,7 +246,7 @@ fn use_all<R: Wait>(rt: &R, out: &mut Out<'_>, mut opened: Opened, long: Vec<u8>
 }
 
 /// Sends a message of two frames, and one that is left to the drain. Both are made before the emitter is
-/// opened, and so is another one, which sends nothing.
+/// opened, and so is another emitter, which sends nothing.
 pub fn send<R: Wait>(rt: &R, alloc: Global, out: &mut Out<'_>) -> Result<(), Trouble> {
     let long = vec![in alloc; 0xaau8; 1_472]?;
     let short = message(alloc, 1)?;

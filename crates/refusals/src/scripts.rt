@@ -1,4 +1,4 @@
-//! A script that is run.
+//! Runs a script.
 use crate::configs::prepared;
 use crate::trouble::*;
 use tx_script::{RunFault, Summary, run_script};
@@ -6,7 +6,7 @@ use tx_script::{RunFault, Summary, run_script};
 /// The third message has no room at first, and is sent again.
 const SCRIPT: &str = "send 10 01\nsend 10 02\nsend 10 03\nat 0\nsend 10 03\nat 1000\nat 2000\n";
 
-/// Tells the counts of a run, or its fault.
+/// Prints the counts of a run, or its fault.
 fn tell(out: &mut Out<'_>, answer: Result<Summary, RunFault>) {
     match answer {
         Ok(
@@ -20,7 +20,7 @@ fn tell(out: &mut Out<'_>, answer: Result<Summary, RunFault>) {
     }
 }
 
-/// Runs a script, and prints its transcript; once more where memory was refused.
+/// Runs a script and prints its transcript, a second time if an allocation fails.
 pub fn run(alloc: Global, out: &mut Out<'_>) -> Result<(), Trouble> {
     let (first, second) = (prepared(alloc)?, prepared(alloc)?);
     let mut answer = run_script(alloc, first, SCRIPT.as_bytes(), out.writer());

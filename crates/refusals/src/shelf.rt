@@ -1,4 +1,4 @@
-//! A network that takes no memory.
+//! A network that allocates nothing.
 ghost use Rattle.std.specs.Prelude.{◌≡◌, [], map};
 ghost use Rattle.redundant_mux.specs.Entry.{entry};
 
@@ -10,7 +10,7 @@ use std::default::Default;
 /// How many frames a shelf can hold.
 pub const PLACES: usize = 4;
 
-/// A frame that was handed over, and its moment in microseconds.
+/// A frame, and its time in microseconds.
 #[derive(Drop)]
 pub struct Kept {
     pub at: u64,
@@ -26,7 +26,7 @@ impl Default for Kept {
     }
 }
 
-/// A network that has its room for four frames in itself, and takes so many of them.
+/// A network that has room for four frames in itself, and accepts `takes` of them.
 #[derive(Drop)]
 pub struct Shelf {
     pub kept: ArrayVec<Kept, PLACES>,
@@ -51,7 +51,7 @@ impl Network for Shelf {
     }
 }
 
-/// A shelf that was handed nothing, and takes so many frames.
+/// An empty shelf.
 pub fn empty_shelf(takes: usize) -> Shelf
     ensures empty { map (λ k. entry k.at k.frame.items) result.kept.items ≡ [] }
     ensures new { result.failures ≡ 0 }

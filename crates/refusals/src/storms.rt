@@ -1,4 +1,4 @@
-//! A storm of messages.
+//! Runs a storm of messages.
 use crate::trouble::*;
 use afdx_config::read_config;
 use afdx_plan::{Config, LinkPlan};
@@ -26,7 +26,7 @@ fn plan(alloc: Global) -> Result<Config, Trouble> {
     read_config(alloc, PLAN.as_bytes()).map_err(|_| Trouble::Unprepared)
 }
 
-/// Tells the totals of a storm over these links.
+/// Prints the totals of a storm over these links.
 fn tell(out: &mut Out<'_>, links: &[LinkPlan], report: &StormReport) {
     if report.links.len() != links.len() {
         out.line("missing");
@@ -36,7 +36,7 @@ fn tell(out: &mut Out<'_>, links: &[LinkPlan], report: &StormReport) {
     out.note(is_printed);
 }
 
-/// Throws a storm over a configuration. Whether it is worth another: it was refused, or a network failed.
+/// Runs a storm over a configuration. Returns whether an allocation failed, of a call or of a network.
 fn throw_once<R: Threads + Wait + Sync>(
     rt: &R,
     alloc: Global,
@@ -56,7 +56,7 @@ fn throw_once<R: Threads + Wait + Sync>(
     }
 }
 
-/// Throws a storm, once more where memory was refused, to a call or to a network.
+/// Runs a storm, a second time if an allocation fails.
 pub fn throw<R: Threads + Wait + Sync>(
     rt: &R,
     alloc: Global,

@@ -1,4 +1,4 @@
-//! Why a case ends early, and what each case makes use of.
+//! Why a case ends early, and its output.
 pub use std::alloc::Global;
 use std::alloc::{AllocError, AllocFailed};
 use std::fmt::Display;
@@ -8,16 +8,16 @@ use thiserror::Error;
 /// Why a case ends before its answer.
 #[derive(Clone, Copy, Debug, PartialEq, Eq, Error)]
 pub enum Trouble {
-    /// Memory was refused before the call that the case is about.
+    /// An allocation failed before the call under test.
     #[error("no memory before the call")]
     Unprepared,
-    /// Memory was refused to `open_tx`.
+    /// An allocation of `open_tx` failed.
     #[error("refused OpenFault")]
     NotOpened,
-    /// A call was refused a second time, with ample memory.
+    /// A call failed a second time, with ample memory.
     #[error("refused twice")]
     Twice,
-    /// Something that a case has made isn't there.
+    /// Something that a case has made is missing.
     #[error("missing")]
     Missing,
     /// Standard output can't be written.
@@ -51,7 +51,7 @@ impl<T: Drop> From<AllocFailed<T>> for Trouble {
     }
 }
 
-/// Where cases print. After a line that could not be printed no other is.
+/// The output of all cases. It prints nothing after a line that could not be printed.
 #[derive(Drop)]
 pub struct Out<'a> {
     writer: Printer<'a, HostRuntime>,
@@ -66,19 +66,18 @@ impl<'a> Out<'a> {
         }
     }
 
-    /// Prints a line.
     pub fn line(&mut self, text: impl Display + Drop) {
         if !self.failed {
             self.failed = writeln!(self.writer, "{text}").is_err();
         }
     }
 
-    /// What a call of the library prints to, which then says whether it could.
+    /// The writer, for a call that prints by itself and says whether it could.
     pub fn writer(&mut self) -> &mut Printer<'a, HostRuntime> {
         &mut self.writer
     }
 
-    /// Takes note of whether that call could print.
+    /// Records whether that call could print.
     pub fn note(&mut self, is_printed: bool) {
         self.failed = self.failed || !is_printed;
     }
