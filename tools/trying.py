@@ -30,8 +30,8 @@ A transmitting AFDX end system. Without words it runs a script from standard inp
 Usage: afdx_bench [COMMAND]
 
 Commands:
-  run      Runs a script over a configuration and prints what both networks were handed
-  check    Prints the plan and the jitter of a configuration; `explain` tells where its faults are
+  run      Runs a script over a configuration and prints the frames of both networks
+  check    Prints the plan and the jitter of a configuration; `explain` locates its faults
   explain  Prints all faults of a configuration, each with its place and what is allowed there
   report   Prints the loads, the jitter and the longest waits of a configuration
   storm    Has all ports of a configuration send at once, and prints what came of it

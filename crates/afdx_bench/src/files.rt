@@ -6,8 +6,8 @@ use std::os::fd::AsRawFd;
 use std::os::unix::fs::MetadataExt;
 use tx_script::RunFault;
 
-/// Takes the number of a standard stream that is closed, so that no other file gets it. A folder can be
-/// neither read nor written, so the stream still fails. `None` if all three streams are open.
+/// Takes the number of a closed standard stream, so that no other file gets it. A folder can be neither
+/// read nor written, so the stream still fails. `None` if all three streams are open.
 pub fn stand_in(rt: &HostRuntime) -> Option<File> {
     let folder = File::open(rt, "/").ok()?;
     if folder.as_raw_fd() <= 2 {
@@ -22,8 +22,8 @@ pub fn open(rt: &HostRuntime, path: &str) -> Result<File, Failure> {
     File::open(rt, path).map_err(|error| failed(&error, RunFault::Read))
 }
 
-/// Makes a file that a word names, or empties it. If that is the configuration or the script, under any name,
-/// the answer is Write, and the file stays as it is.
+/// Makes a file that a word names, or empties it. If it is the configuration or the script, under any name,
+/// returns Write and leaves the file unchanged.
 pub fn create(rt: &HostRuntime, path: &str, config: &File, script: &File) -> Result<File, Failure> {
     match is_either(rt, path, config, script) {
         Ok(false) => {}

@@ -22,16 +22,16 @@ use std::thread::Threads;
 use storm::{OpenGate, Progress, bench_storm};
 use tx_script::{Played, RunFault, play_script, run_script};
 
-// How many bytes of a capture are written at a time, at most.
+// The size of a capture's write buffer in bytes.
 const CAPTURE_BUFFER: usize = 65_536;
 
-/// What becomes of a run whose output could not be written.
+/// The failure of a run whose output can't be written.
 fn unwritten(_error: io::Error) -> Failure {
     Failure::Run(RunFault::Write)
 }
 
-/// Runs a script, and then writes what both networks were handed to a file. The file stays empty if the
-/// transcript could not be written or memory was refused.
+/// Runs a script, and then writes the frames of both networks to a file. The file stays empty if the
+/// transcript can't be written or an allocation fails.
 fn run_captured<W: Write>(
     alloc: Global,
     config: Config,
@@ -77,7 +77,7 @@ fn run_files<W: Write>(
     }
 }
 
-/// What tells of a storm on standard error, where that is a terminal.
+/// Shows the progress of a storm on standard error, if that is a terminal.
 fn progress_of(rt: &HostRuntime, messages: u32) -> Option<Progress<'_, HostRuntime>> {
     if rt.stderr().is_terminal() {
         Progress::begin(rt, messages).ok()
@@ -86,8 +86,8 @@ fn progress_of(rt: &HostRuntime, messages: u32) -> Option<Progress<'_, HostRunti
     }
 }
 
-/// Does what the words ask for. The runtime comes a second time for threads, since only a bound lets a
-/// function start them.
+/// Runs the command of the words. The runtime is passed a second time for threads, since only a bound
+/// lets a function start them.
 fn obey<W: Write, T: Threads + Wait + Sync>(
     rt: &HostRuntime,
     threads: &T,
@@ -137,8 +137,7 @@ fn obey<W: Write, T: Threads + Wait + Sync>(
     }
 }
 
-/// Does what the words ask for, and writes what the output still holds. After a write that failed there is
-/// no other.
+/// Runs the command of the words, and flushes the output. A failed write is the last one.
 fn run<T: Threads + Wait + Sync>(
     rt: &HostRuntime,
     threads: &T,

@@ -9,8 +9,8 @@ use std::fs::File;
 use std::io::{self, BufWriter, Write};
 use tx_script::RunFault;
 
-/// Writes the loads, the jitter and the longest waits of a configuration, by the path of its file, where polls come
-/// so many microseconds late at most; and before that the page, to the file that is named for it.
+/// Writes the loads, the jitter and the longest waits of a configuration, by the path of its file, if polls come at
+/// most `lateness` microseconds late; and before that the page, to the file that `html` names.
 pub fn report<W: Write>(
     rt: &HostRuntime,
     config: &str,
@@ -40,7 +40,7 @@ fn save_page(alloc: Global, page: File, analysis: &Analysis) -> Result<(), Failu
     output.flush().map_err(unwritten)
 }
 
-/// What becomes of a report that could not be written.
+/// The failure of a report that can't be written.
 fn unwritten(_error: io::Error) -> Failure {
     Failure::Run(RunFault::Write)
 }

@@ -1,4 +1,4 @@
--- What a command line may ask for.
+-- The ranges of a command line.
 use Rattle.std.specs.Prelude.{◌≤◌, ⊤}
 use Rattle.bench_words.specs.declared.words.Words.{Words}
 use Rattle.bench_words.specs.declared.words.Words.TheVariants.{Report, Storm}

@@ -1,4 +1,4 @@
-//! The words of the command line, and what is told of them.
+//! The words of the command line, and the messages about them.
 #![tactic(auto)]
 
 mod report;

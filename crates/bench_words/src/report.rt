@@ -8,7 +8,6 @@ use plan_analysis::LATENESS_LIMIT;
 use script_text::number;
 use std::alloc::{AllocError, Global};
 
-/// The words of `report`.
 pub(crate) fn report_words(alloc: Global, matches: &ArgMatches<'_>) -> Result<Words, Error>
     ensures { IfOk result IsInRange }
 {
@@ -22,7 +21,7 @@ pub(crate) fn report_words(alloc: Global, matches: &ArgMatches<'_>) -> Result<Wo
     }
 }
 
-/// How late polls come at most, in microseconds: 0 if no word says it.
+/// The greatest lateness of a poll, in microseconds: 0 if no word gives it.
 fn lateness_of(matches: &ArgMatches<'_>) -> Option<u64>
     ensures { IfSome result (λ lateness. lateness ≤ LATENESS_LIMIT) }
 {
@@ -32,7 +31,6 @@ fn lateness_of(matches: &ArgMatches<'_>) -> Option<u64>
     }
 }
 
-/// The command line of `report`.
 pub(crate) fn report_command<'a>(alloc: Global) -> Result<Command<'a>, AllocError> {
     let lateness = Arg::new(alloc, "lateness")
         .long("lateness")

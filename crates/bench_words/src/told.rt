@@ -1,4 +1,4 @@
-//! What is told of the words.
+//! The messages about the words.
 ghost use Rattle.clap.specs.Values.{kind_of};
 ghost use Rattle.bench_words.specs.Told.{EndsWords};
 
@@ -7,8 +7,8 @@ use clap::error::ErrorKind;
 use plan_report::{End, Failure};
 use script_text::RunFault;
 
-/// Prints what there is to tell of the words, where no command is to be done: help to standard
-/// output, and what is wrong with them to standard error.
+/// Prints the message of an error: help and the version to standard output, and what is wrong with the
+/// words to standard error.
 pub fn tell_words<R: Print + Eprint>(rt: &R, error: &Error) -> End
     ensures { EndsWords (kind_of error.now) result }
 {

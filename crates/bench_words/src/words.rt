@@ -11,12 +11,12 @@ use std::alloc::{AllocError, Global};
 use std::io;
 use std::rt::Env;
 
-/// What a command line asks for. Configurations and scripts are named by the paths of their files.
+/// A parsed command line. Configurations and scripts are named by the paths of their files.
 #[derive(Debug, Drop)]
 pub enum Words {
     /// No word: a script from standard input, over the demonstration configuration.
     Script,
-    /// `run <config> <script>`, and where a capture is to be written `--capture <file>`
+    /// `run <config> <script>`, and `--capture <file>` for a capture
     Run {
         config: String,
         script: String,
@@ -30,7 +30,7 @@ pub enum Words {
     Explain {
         config: String,
     },
-    /// `report <config>`, with how late polls come in microseconds, and where a page is to be written
+    /// `report <config>`, with the greatest lateness of a poll in microseconds, and the file of a page
     Report {
         config: String,
         lateness: u64,
@@ -44,14 +44,14 @@ pub enum Words {
     },
 }
 
-/// The most messages that each port may be asked to send.
+/// The greatest number of messages of a port.
 const MESSAGES_LIMIT: u32 = 65_535;
 
-/// The most turns that a thread may have.
+/// The greatest number of turns of a thread.
 const TURNS_LIMIT: u64 = 1_000_000_000;
 
-/// The words that the program was started with, or what is to be told of them: help that was asked
-/// for, which words are wrong, or that memory was refused.
+/// Parses the words that the program was started with. The error is a request for help or the version,
+/// wrong words, or a failed allocation.
 pub fn read_words<R: Env + AllocGlobal>(rt: &R) -> Result<Words, Error>
     ensures { IfOk result IsInRange }
 {
@@ -65,7 +65,7 @@ pub fn read_words<R: Env + AllocGlobal>(rt: &R) -> Result<Words, Error>
     }
 }
 
-/// What is told where the words can't be had.
+/// The error if the words can't be read.
 fn unread(alloc: Global, error: &io::Error) -> Result<Error, AllocError> {
     if error.kind() == io::ErrorKind::OutOfMemory {
         return Err(AllocError);
@@ -73,7 +73,7 @@ fn unread(alloc: Global, error: &io::Error) -> Result<Error, AllocError> {
     command(alloc)?.error(ErrorKind::InvalidValue, "a word is not UTF-8")
 }
 
-/// What a command line says. Its first word, the program's name, is passed over.
+/// Parses a command line. Its first word is the program's name.
 pub fn parse<'a>(alloc: Global, words: &'a [String]) -> Result<Words, Error>
     ensures { IfOk result IsInRange }
 {
@@ -96,7 +96,6 @@ pub fn parse<'a>(alloc: Global, words: &'a [String]) -> Result<Words, Error>
     }
 }
 
-/// The words of `storm`.
 fn storm_words(alloc: Global, matches: &ArgMatches<'_>) -> Result<Words, Error>
     ensures { IfOk result IsInRange }
 {
@@ -111,7 +110,7 @@ fn storm_words(alloc: Global, matches: &ArgMatches<'_>) -> Result<Words, Error>
     }
 }
 
-/// What is told of a number that isn't decimal digits alone.
+/// The error of a number that isn't decimal digits alone.
 pub(crate) fn not_decimal(alloc: Global) -> Result<Error, AllocError> {
     let text = "a number is written in decimal digits alone";
     command(alloc)?.error(ErrorKind::InvalidValue, text)
@@ -154,7 +153,7 @@ pub(crate) fn path(
     String::from_str(alloc, matches.get_str(id).unwrap_or(""))
 }
 
-/// The path that a word gives, where there is one.
+/// The path that a word gives, if there is one.
 pub(crate) fn given_path(
     alloc: Global,
     matches: &ArgMatches<'_>,
@@ -189,9 +188,9 @@ fn run_command<'a>(alloc: Global) -> Result<Command<'a>, AllocError> {
         .long("capture")
         .action(ArgAction::Set)
         .value_name("file")
-        .help("Also writes what both networks were handed to a file in the pcapng format");
+        .help("Also writes the frames of both networks to a file in the pcapng format");
     Command::new(alloc, "run")
-        .about("Runs a script over a configuration and prints what both networks were handed")
+        .about("Runs a script over a configuration and prints the frames of both networks")
         .arg(file(alloc, "config").help("The file of the configuration"))?
         .arg(file(alloc, "script").help("The file of the script"))?
         .arg(capture)
@@ -199,9 +198,7 @@ fn run_command<'a>(alloc: Global) -> Result<Command<'a>, AllocError> {
 
 fn check_command<'a>(alloc: Global) -> Result<Command<'a>, AllocError> {
     Command::new(alloc, "check")
-        .about(
-            "Prints the plan and the jitter of a configuration; `explain` tells where its faults are",
-        )
+        .about("Prints the plan and the jitter of a configuration; `explain` locates its faults")
         .arg(file(alloc, "config").help("The file of the configuration"))
 }
 
