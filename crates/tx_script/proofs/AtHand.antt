@@ -1,4 +1,4 @@
--- The ports at hand: at the beginning, and after a send.
+-- The ports of a bench: at the beginning, and after a send.
 use Rattle.std.proofs.Common.{ℕ, ◌≡◌, ◌≤◌, ◌<◌, ◌+◌, if◌then◌else◌, List, [], ◌++◌, length, set, get_or, nat_eq, refl, ap, ◌∙◌, sym, subst, arith, append-nil, Some}
 use Rattle.std.proofs.lemmas.List.{length-set}
 use Rattle.std.proofs.lemmas.List.Elements.{All-set}
@@ -13,7 +13,7 @@ use Rattle.afdx_tx.specs.Ports.{PortView, BelongsTo, AreFreshPorts, queue_for, i
 use Rattle.tx_script.specs.AtBench.{IsAtHand, HaveAsked, HaveSent, Sends}
 use Rattle.tx_script.specs.Play.{Messages, added, with_messages}
 
--- None of them asked or sent.
+-- None of them requested a slot or sent.
 pub fresh_asked : (tx : Tx) (ports : List PortView) → AreFreshPorts tx ports → HaveAsked 0 ports
 fresh_asked tx ports f = λ k d lt.
     let here = f.each k d (omega (arith, f.count)) in
@@ -24,12 +24,12 @@ pub fresh_sent : (tx : Tx) (ports : List PortView) → AreFreshPorts tx ports �
 fresh_sent tx ports f = λ k d lt.
     ap (λ (sender : SenderView). sender.own) (f.each k d (omega (arith, f.count))).sender.is
 
--- More asks are allowed.
+-- A greater bound on requests holds.
 pub asked_on : (count more : ℕ) (ports : List PortView) → count ≤ more → HaveAsked count ports → HaveAsked more ports
 asked_on count more ports le h =
     λ k d inside. let before : (get_or ports k d).sender.asks ≤ count = h k d inside in omega arith
 
--- A port was given a message.
+-- A port sent a message.
 module _ (ports : List PortView) (i : ℕ) (d new : PortView) (bytes : List ℕ) (outcome : Outcome)
     (lt : i < length ports) (s : Sends (get_or ports i d) bytes new outcome) where
   -- what holds of it, and of each other port at its place, holds of each
@@ -40,7 +40,7 @@ module _ (ports : List PortView) (i : ℕ) (d new : PortView) (bytes : List ℕ)
       each_set (λ j port. j < length ports → Says j port) ports i new e lt (λ _. here) (λ j ne within. others j e within ne)
       k (let size = length-set ports i new in omega arith)
 
-  -- The ports stay at hand.
+  -- The ports stay the bench's.
   pub sent_at_hand : (tx : Tx) → IsAtHand tx ports → IsAtHand tx (set ports i new)
   sent_at_hand tx h = record {
     valid = h.valid;
@@ -59,7 +59,7 @@ module _ (ports : List PortView) (i : ℕ) (d new : PortView) (bytes : List ℕ)
         index = s.index ∙ b.index ∙ ap (index_of tx.plan.ports) (sym s.place);
       }
 
-  -- It asked once more at most.
+  -- It requested at most one slot more.
   pub asked_more : (count : ℕ) → HaveAsked count ports → HaveAsked (count + 1) (set ports i new)
   asked_more count h =
       All-set (λ (port : PortView). port.sender.asks ≤ count + 1) ports i new

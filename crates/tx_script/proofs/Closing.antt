@@ -23,7 +23,7 @@ use Rattle.tx_script.proofs.AtHand.{asked_on}
 use Rattle.tx_script.proofs.Matched.{still_planned}
 use Rattle.tx_script.proofs.Sending.{obeys_still}
 
--- a total stays where a queue was closed before, and where a line closes another
+-- a total stays if a queue was closed before, and if a line closes another
 abbrev StaysAt : Tx → (vl sub : ℕ) → (place index : ℕ) → (old new : Option ℕ) → Type 0
 StaysAt tx vl sub place index old new =
     ((t : ℕ) → old ≡ Some t → new ≡ Some t) × ((ClosesAt tx.plan (Close vl sub) place index → ⊥) → new ≡ old)
@@ -79,7 +79,7 @@ same_place : (plan : Plan) (vl sub place k : ℕ) → IsPlan plan → IsSubAt pl
 same_place plan vl sub place k valid at lt id =
     valid.links_apart k place lt at.within (ap (λ (n : ℕ). let made : VlId = record { 0 = n } in made) (id ∙ sym at.id))
 
--- what becomes of the close of a sub-VL that is there
+-- the outcome of the close of a sub-VL that is there
 closed_there : (plan : Plan) (vl sub place : ℕ) (answer : Answer) → IsPlan plan → IsSubAt plan vl sub place
     → closed_at plan (link_of plan vl) sub answer ≡ Became.Closed (told_by answer)
 closed_there plan vl sub place answer valid at = by (link_of plan vl) refl

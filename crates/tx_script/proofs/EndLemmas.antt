@@ -29,7 +29,7 @@ ends_more plan text Ran More Halts Begun more (Err Fault.Memory) begun h = begun
 ends_more plan text Ran More Halts Begun more _ begun h =
     record { turns = h.turns; ran = more h.turns h.ran; at = h.at }
 
--- the ports were gathered after some lines were run
+-- the ports were taken back after some lines were run
 are_run : (plan : Plan) (text : List ℕ) (old mid : Option (List ℕ)) (before bench : AtBench) (turns : List AnsweredLine)
     → Running plan text old mid before turns → OnlyTakes before bench → IsGathered bench → AreRun plan text turns
 are_run plan text old mid before bench turns ran since gathered = record {

@@ -1,5 +1,5 @@
--- What is known of a run once its ports are gathered: polls found the first of what was sent, and closes reported the
--- totals.
+-- What is known of a run once its ports are taken back: polls found the first of what was sent, and closes reported
+-- the totals.
 use Rattle.std.proofs.Common.{ℕ, ◌≡◌, ◌<◌, List, [], ◌∷◌, ◌++◌, Bool, true, false, if◌then◌else◌, nat_eq, length, get_or, append_assoc, arith, refl, ap, ◌∙◌, sym, subst, inl, inr}
 use Rattle.std.specs.Prelude.{All}
 use Rattle.std.proofs.lemmas.Bool.{cases_lt, eqb-true, and_parts}
@@ -96,7 +96,7 @@ closes_sub : (plan : Plan) (line : Line) (place sub : ℕ) → ClosesAt plan lin
 closes_sub plan (Close vl closed) place sub at = (vl, at.0)
 closes_sub plan _ place sub at = absurd at
 
--- A run whose ports were gathered, since when nothing was sent or closed.
+-- A run whose ports were taken back, since when nothing was sent or closed.
 module _ (st : Play) (before bench : AtBench) (m : Matches st.accepted st.es before) (f : OnlyTakes before bench)
     (g : IsGathered bench) where
   same : bench.tx.plan ≡ st.es.plan

@@ -68,7 +68,7 @@ shows_plain old frame new g = record {
   taken = ap taken_by g.gives.same;
 }
 
--- one that was asked in vain took nothing
+-- one whose queue gave nothing took nothing
 passes_plain : (old new : Held) → Passes old new → progress_of new ≡ progress_of old
 passes_plain old new p = rw p.same (rw (taken_nothing old.seen new.seen p.nothing) refl)
 

@@ -31,7 +31,7 @@ pub record IsWithin (sums : Sums) (count : ℕ) : Type 0 where
   pub refused : sums.refused ≤ count
   pub frames : sums.frames ≤ 64 * count
 
--- one line counts one at most, and 64 frames
+-- one line counts at most one, and 64 frames
 pub within_more : (outcome : Outcome) (sums : Sums) (count : ℕ) → HasFew outcome → IsWithin sums count
     → IsWithin (counted outcome sums) (count + 1)
 unfolding counted

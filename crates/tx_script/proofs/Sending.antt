@@ -45,7 +45,7 @@ sends_accepted old new bytes may a = rw (a.1, a.0.2.1) (record {
   asks = omega arith;
 })
 
--- a sender but for how often it asked and glanced, and what it found
+-- a sender but for its counts of requests and of loads of the closed flag, and what it found
 abbrev asked_so : SenderView → SenderView → SenderView
 asked_so old new = record old { asks = new.asks; load = new.load; glances = new.glances; shut = new.shut }
 
@@ -161,7 +161,7 @@ obeys_send tx ports id place d new bytes outcome h found lt s = record {
     few None closes = tt
     few None _ = tt
 
--- A port was found by its identifier and given a message: the ports stay at hand, and the line is obeyed.
+-- A port was found by its identifier and sent a message: the ports stay the bench's, and the line is obeyed.
 pub sent_at : (tx : Tx) (ports : List PortView) (id place : ℕ) (port new : PortView) (bytes : List ℕ)
     (outcome : Outcome) (config : Plan) (at : Option ℕ) → IsAtHand tx ports → config ≡ tx.plan
     → at ≡ place_of config id → at ≡ Some place → port ≡ get_or ports place port → Sends port bytes new outcome

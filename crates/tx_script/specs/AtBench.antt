@@ -1,4 +1,4 @@
--- An emitter with its ports, as a run of a script has them at hand, and the end system that it matches.
+-- An emitter with its ports, as a run of a script holds them, and the end system that it matches.
 use Rattle.std.specs.Prelude.{ℕ, ◌≡◌, ◌≤◌, ◌<◌, ◌+◌, ◌++◌, List, length, slice_index_or, All, Some, None}
 use Rattle.afdx_plan.specs.Config.{Plan, IsPlan, link_plan_at}
 use Rattle.afdx_plan.specs.declared.link_plan.LinkPlan.{LinkPlan}
@@ -46,8 +46,8 @@ pub record AtBench : Type 0 where
   pub tx : Tx
   pub ports : List PortView
 
--- The ports of an emitter are in the order of its configuration, which is valid, and may ask as
--- often as any.
+-- The ports of an emitter are in the order of its configuration, which is valid, and none has used up
+-- its calls.
 pub record IsAtHand (tx : Tx) (ports : List PortView) : Type 0 where
   pub valid : IsPlan tx.plan
   pub many : length ports ≡ length tx.plan.ports
@@ -56,7 +56,7 @@ pub record IsAtHand (tx : Tx) (ports : List PortView) : Type 0 where
       → (slice_index_or ports place d).place ≡ place
   pub calls : All (λ (port : PortView). port.sender.calls ≡ most_calls) ports
 
--- no port asked more often
+-- no port requested more slots
 abbrev pub HaveAsked : ℕ → List PortView → Type 0
 HaveAsked count ports = All (λ (port : PortView). port.sender.asks ≤ count) ports
 
@@ -75,8 +75,8 @@ pub record Matches (accepted : Messages) (es : EndSystem) (bench : AtBench) : Ty
   pub emitter : MatchesTx es bench.tx
   pub own : HaveSent accepted bench.ports
 
--- A port was given a message: what became of it, by the answer of its queue, and the port as it was but for what its
--- sender sent, which asked once more at most.
+-- A port sent a message: its outcome, by the answer of its queue, and the port, of which only the sender's messages
+-- and its count of requests changed; it requested one slot at most.
 pub record Sends (old : PortView) (bytes : List ℕ) (new : PortView) (outcome : Outcome) : Type 0 where
   pub answer : Answer
   pub is : outcome ≡ passed_on (length_refusal old.plan (length bytes)) answer
@@ -108,7 +108,7 @@ abbrev pub TellsTotal : Tx → Line → Answer → Type 0
 TellsTotal tx line answer = (place sub : ℕ) → ClosesAt tx.plan line place sub
     → total_in tx.links place sub ≡ Some (told_by answer)
 
--- so did each close among some lines
+-- so it is of each close among some lines
 abbrev pub AreTold : Tx → List AnsweredLine → Type 0
 AreTold tx turns = All (λ (turn : AnsweredLine). TellsTotal tx (meaning_of turn.line) turn.answer) turns
 
@@ -135,7 +135,7 @@ pub record OnlyTakes (old new : AtBench) : Type 0 where
   pub grown : (k s : ℕ) → k < length old.tx.links
       → (more : List Sent) × (taken_in new.tx.links k s ≡ taken_in old.tx.links k s ++ more)
 
--- the ports of a bench were gathered, and all that was accepted is known
+-- the ports of a bench were taken back, and all that was accepted is known
 pub record IsGathered (bench : AtBench) : Type 0 where
   pub hand : IsAtHand bench.tx bench.ports
   pub drain : Tx

@@ -1,4 +1,4 @@
--- An end system as a transcript knows it: what was taken of each sub-VL and what is left, no queue.
+-- An end system as a transcript shows it: what was taken of each sub-VL and what is left, no queue.
 use Rattle.std.specs.Prelude.{ℕ, ◌≡◌, ◌⊎◌, List, [], ◌∷◌, ◌++◌, length, true}
 use Rattle.afdx_plan.specs.Config.{Plan, link_plan_at}
 use Rattle.afdx_plan.specs.declared.link_plan.LinkPlan.{LinkPlan}
@@ -18,8 +18,8 @@ pub record Progress : Type 0 where
   pub taken : List Sent
   pub left : List (List ℕ)
 
--- The plan, the sub-VLs by the place of their link and their index, what was handed over, each frame with
--- the networks that it is for, and the moment of the last poll.
+-- The plan, the sub-VLs by the place of their link and their index, the transmitted frames, each with the
+-- networks that it is for, and the time of the last poll.
 pub record EndSystem : Type 0 where
   pub plan : Plan
   pub subs : ℕ → ℕ → Progress
@@ -33,7 +33,7 @@ started of old message = record {
   left = message_fragments of (length old.taken) message;
 }
 
--- a sub-VL goes on with its message, or nothing is left of it and a look finds the next one
+-- a sub-VL goes on with its message, or nothing is left of it and it takes the next one
 abbrev pub GoesOnOrFinds : SubVl → (old mid : Progress) → Type 0
 GoesOnOrFinds of old mid =
     ((old.left ≡ [] → ⊥) × (mid ≡ old))
@@ -46,7 +46,7 @@ pub record SendsFrame (of : SubVl) (old : Progress) (frame : List ℕ) (new : Pr
   pub next : mid.left ≡ blanked frame ∷ new.left
   pub taken : new.taken ≡ mid.taken
 
--- a turn over the sub-VLs of a link: one has nothing where a look finds nothing either
+-- a turn over the sub-VLs of a link: one has nothing if its queue gives nothing either
 abbrev pub progress_view : ℕ → LinkPlan → (old new : ℕ → Progress) → TurnView
 progress_view end_system link old new = record {
   lacks = λ s. ((old s).left ≡ []) × (new s ≡ old s);
@@ -62,7 +62,7 @@ HasTurnAt now old new k lines after did =
     Turn now link (pace_in link (log_of lines)) (progress_view old.plan.end_system link (old.subs k) (new.subs k))
     lines after did
 
--- A poll: the links have their turns in order. Both networks stand afterwards, so that no turn lost a frame.
+-- A poll: the links have their turns in order. Both networks are up afterwards, so no turn lost a frame.
 pub record HasPolled (now : ℕ) (old new : EndSystem) : Type 0 where
   pub plan : new.plan ≡ old.plan
   pub moment : new.moment ≡ now
@@ -78,10 +78,10 @@ pub record HasPolled (now : ℕ) (old new : EndSystem) : Type 0 where
 abbrev pub no_progress : Progress
 no_progress = record { taken = []; left = [] }
 
--- nothing was sent, handed over or polled yet
+-- nothing was sent, transmitted or polled yet
 abbrev pub fresh : Plan → EndSystem
 fresh plan = record { plan = plan; subs = λ k s. no_progress; log = []; moment = 0 }
 
--- what was handed to a network
+-- the frames of a network
 abbrev pub handed : Net → EndSystem → List Entry
 handed net es = sent_to net es.log

@@ -1,4 +1,4 @@
--- A run of lines, with answers of queues that nothing but the run knows.
+-- A run of lines, with answers of queues that only the run knows.
 use Rattle.std.specs.Prelude.{◌≡◌, ◌<◌, ◌≤◌, ℕ, ◌+◌, ◌-◌, nat_lt, nat_eq, ◌==◌, if◌then◌else◌, List, [], ◌∷◌, ◌++◌, length, position, All, Option, Some, None, zero, suc, ◌&&◌, Bool}
 use Rattle.afdx_plan.specs.Config.{Plan, port_plan_at, link_plan_at}
 use Rattle.afdx_plan.specs.declared.link_plan.LinkPlan.{LinkPlan}
@@ -69,7 +69,7 @@ abbrev pub passed_on : Option SendRefusal → Answer → Outcome
 passed_on (Some why) answer = Became.Refused (script_refusal why)
 passed_on None answer = queued answer
 
--- what becomes of a message for the port at a place
+-- the outcome of a message for the port at a place
 abbrev pub sent_to : Plan → Option ℕ → List ℕ → Answer → Outcome
 sent_to plan None bytes answer = Became.Refused NoPort
 sent_to plan (Some place) bytes answer =
@@ -79,14 +79,14 @@ sent_to plan (Some place) bytes answer =
 abbrev pub link_of : Plan → ℕ → Option ℕ
 link_of plan id = position (λ (link : LinkPlan). link.id.0 == id) plan.links
 
--- what becomes of the close of a sub-VL of the link at a place
+-- the outcome of the close of a sub-VL of the link at a place
 abbrev pub closed_at : Plan → Option ℕ → ℕ → Answer → Outcome
 closed_at plan None sub answer = Became.Refused NoSub
 closed_at plan (Some place) sub answer =
     if nat_lt sub (link_plan_at plan.links place).sub_vls then Became.Closed (told_by answer)
     else Became.Refused NoSub
 
--- what becomes of a line
+-- the outcome of a line
 abbrev pub outcome_of : EndSystem → Line → Answer → Outcome
 outcome_of es (Send port bytes) answer = sent_to es.plan (place_of es.plan port) bytes answer
 outcome_of es (At moment) answer =
@@ -155,7 +155,7 @@ play plan [] = record {
 }
 play plan (turn ∷ before) = play_line turn (play plan before)
 
--- the whole text: the notes, the lines of what was handed to network A and then those of B
+-- the whole text: the notes, the lines of network A's frames and then those of B's
 abbrev pub transcript : Play → List ℕ
 transcript st = st.notes ++ streams (handed A st.es) (handed B st.es)
 

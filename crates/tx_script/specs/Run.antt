@@ -54,7 +54,7 @@ pub record HasBegun (plan : Plan) (text : List ℕ) (old new : Option (List ℕ)
   pub begins : transcript (play plan turns) ≡ written ++ unwritten
   pub wrote : Appends old new written
 
--- a run stopped after some lines of a text: this is known of the lines, and of what is left and what they came to
+-- a run stopped after some lines of a text: what is known of the lines, of the rest of the text, and of the play
 pub record StopsAt (plan : Plan) (text : List ℕ) (Ran : List AnsweredLine → Type 0) (At : List ℕ → Play → Type 0)
     : Type 0 where
   pub turns : List AnsweredLine

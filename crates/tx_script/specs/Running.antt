@@ -59,12 +59,12 @@ abbrev pub Stops : Plan → List ℕ → (old new : Option (List ℕ)) → AtBen
 Stops plan text old new bench result =
     Ends plan text (Running plan text old new bench) (Halted plan text old new bench) result
 
--- the fault of a run whose line has this fault
+-- the run fault of a line's fault
 abbrev pub run_fault_of : ℕ → LineFault → RunFault
 run_fault_of line OutOfMemory = Memory
 run_fault_of line fault = Line line fault
 
--- the ports of a bench were gathered, the streams of its networks were written, and this is what they hold
+-- the ports of a bench were taken back, its networks have these frames, and their streams were written
 pub record HandsOver (bench : AtBench) (a b : FrameLog) (old new : Option (List ℕ)) : Type 0 where
   pub on_a : a.handed ≡ bench.tx.lines.a
   pub on_b : b.handed ≡ bench.tx.lines.b
@@ -76,7 +76,7 @@ abbrev pub Finishes : Result Sums RunFault → AtBench → (old new : Option (Li
 Finishes ended bench old new (Whole told a b) = (told ≡ ended) × HandsOver bench a b old new
 Finishes ended bench old new (Broken told) = told ≡ Write
 
--- what is written after a fault: the streams, or nothing more
+-- what is written after a fault: the streams, or none
 abbrev pub EndsEarly : RunFault → AtBench → (old new : Option (List ℕ)) → Played → Type 0
 EndsEarly fault bench old new played =
     ((ends_writing fault ≡ false) × Finishes (Err fault) bench old new played)

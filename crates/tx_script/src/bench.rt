@@ -36,7 +36,7 @@ impl Bench {
     ghost use Rattle.script_text.specs.declared.run_fault.RunFault.TheVariants as RunFault;
     ghost use Rattle.tx_script.specs.AtBench.{IsFreshBench, IsGathered};
 
-    /// A bench at which nothing was done. The only fault is Memory.
+    /// A fresh bench. The only fault is Memory.
     pub fn open(alloc: Global, config: Config) -> Result<Bench, RunFault>
         ensures fresh { IfOk result (λ bench. IsFreshBench config bench) }
         ensures err { IfErr result (λ fault. fault ≡ RunFault.Memory) }
@@ -49,8 +49,8 @@ impl Bench {
         }
     }
 
-    /// The two networks, with what was sent to them. All ports are gathered first, so that all that
-    /// was accepted is known.
+    /// The two networks, with the frames sent to them. All ports are taken back first, so all that was
+    /// accepted is known.
     pub fn into_networks(self) -> (FrameLog, FrameLog)
         ensures a { result.0.handed ≡ self.tx.lines.a }
         ensures b { result.1.handed ≡ self.tx.lines.b }
@@ -64,7 +64,6 @@ impl Bench {
     }
 }
 
-/// The name of a port's refusal.
 fn refused_for(why: afdx_tx::Refusal) -> Refusal
     ensures { result ≡ script_refusal why }
 {
@@ -77,7 +76,8 @@ fn refused_for(why: afdx_tx::Refusal) -> Refusal
     }
 }
 
-/// Gives a port a message. A script has fewer lines than a port may ask, so that none is exhausted.
+/// Sends a message by a port. A script has fewer lines than a port may request slots, so none is
+/// exhausted.
 fn send_message(port: &mut TxPort, message: Message) -> Outcome
     requires calls { port.old.sender.calls ≡ most_calls }
     requires asks { port.old.sender.asks ≤ LINES_LIMIT }
@@ -131,8 +131,7 @@ fn obey_close(bench: &mut Bench, vl: u16, sub: u8) -> Outcome
     }
 }
 
-/// Obeys a line. The only fault is Memory; after it the ports sent nothing more, and the same
-/// sub-VLs are closed.
+/// Obeys a line. The only fault is Memory; then the line sent no message and closed no sub-VL.
 pub fn obey(bench: &mut Bench, line: Line) -> Result<Outcome, RunFault>
     requires { HaveAsked LINES_LIMIT bench.old.ports }
     ensures ok { IfOk result (Obeys line bench.old bench.new) }

@@ -5,22 +5,21 @@
 //! | Line | Meaning |
 //! |---|---|
 //! | no word, or a first word that begins with `#` | nothing |
-//! | `send <port> <hex>` | the port with this identifier sends these bytes; `-` stands for none |
-//! | `at <micros>` | one poll at this moment, in microseconds |
-//! | `close <vl> <sub>` | a sub-VL takes no more messages; those that it accepted still go out |
+//! | `send <port> <hex>` | the port with this identifier sends these bytes; `-` means none |
+//! | `at <micros>` | one poll at this time, in microseconds |
+//! | `close <vl> <sub>` | a sub-VL accepts no more messages; those that it accepted are still sent |
 //!
-//! What it writes begins with the notes, in the order of the lines, which are counted from 1. A line
-//! that was refused changes nothing, and the run goes on:
+//! The transcript begins with the notes, in the order of the lines, which are counted from 1. A refused
+//! line changes nothing, and the run goes on:
 //!
-//! | Note | Told of |
+//! | Note | Line |
 //! |---|---|
-//! | `line <k>: refused <Name>` | a message, a close or a moment that was refused (`Refusal::name`) |
-//! | `line <k>: closed <total>` | a close, with how many messages the sub-VL accepted in all |
+//! | `line <k>: refused <Name>` | a refused message, close or poll (`Refusal::name`) |
+//! | `line <k>: closed <total>` | a close, with the number of messages that the sub-VL accepted |
 //!
-//! Behind them stand the frames that were handed to network A, in their order, and then those that were
-//! handed to B, each with its moment and its bytes in hexadecimal, from the destination MAC address to
-//! the sequence number. Each frame is written on the networks that its link names. What is still queued
-//! at the end of the script isn't sent.
+//! Then come the frames of network A, in their order, and those of B, each with its time and its bytes
+//! in hexadecimal, from the destination MAC address to the sequence number. Each frame is written on the
+//! networks that its link names. What is still queued at the end of the script isn't sent.
 //!
 //! # An example
 //!
@@ -40,7 +39,7 @@
 //!
 //! The third message finds the queue full. The poll at 0 releases the first message. The one at 999
 //! releases nothing, since the gap of a millisecond isn't over. After the close nothing is accepted, no
-//! port has the identifier 11, and moments don't go back:
+//! port has the identifier 11, and time doesn't go back:
 //!
 //! ```text
 //! line 3: refused Full
@@ -57,9 +56,8 @@
 //! # Ends
 //!
 //! A line with a fault, a line past the limit and a failing reader end the run there: the lines before
-//! were run, and their notes and frames are written. A failing writer ends it at once, and want of
-//! memory after the notes that were written. `RunFault` names each, and `RunFault::ends_writing` tells
-//! after which of them nothing more is written.
+//! were run, and their notes and frames are written. A failing writer ends the run at once, a failed
+//! allocation after the notes that were written: `RunFault::ends_writing`.
 #![tactic(auto)]
 
 mod bench;

@@ -13,7 +13,7 @@ use std::io::{Read, Write};
 /// How many lines a script may have.
 pub const LINES_LIMIT: u64 = 1_000_000;
 
-/// What a fault of a line is for the run.
+/// Converts a fault of a line to a fault of the run.
 fn at_line(line: u64, fault: LineFault) -> RunFault
     ensures { result ≡ run_fault_of line fault }
 {
@@ -23,7 +23,7 @@ fn at_line(line: u64, fault: LineFault) -> RunFault
     }
 }
 
-/// What the next line of a reader says, which has this number; `None` at the end.
+/// What the next line of a reader says, line number `line`; `None` at the end.
 fn next_said<R: Read + Drop>(
     alloc: Global,
     bytes: &mut Bytes<R>,

@@ -22,8 +22,8 @@ fn write_handed<W: Write>(writer: &mut W, bench: Bench, ended: Result<Summary, R
     }
 }
 
-/// Writes the streams after a fault, unless it ends the writing. The ports are gathered whatever the
-/// fault: only then are the totals known that were noted.
+/// Writes the streams after a fault, unless it ends the writing. The ports are taken back in both cases:
+/// only then are the noted totals known.
 fn end_early<W: Write>(writer: &mut W, bench: Bench, fault: RunFault) -> Played
     ensures { EndsEarly fault bench (W.contents writer.old) (W.contents writer.new) result }
 {
@@ -34,8 +34,8 @@ fn end_early<W: Write>(writer: &mut W, bench: Bench, fault: RunFault) -> Played
     write_handed(writer, bench, Err(fault))
 }
 
-/// Runs a script as `run_script` does, and also returns what was sent to the two networks if the
-/// transcript is written whole.
+/// Runs a script as `run_script` does, and also returns the two networks if the transcript is written
+/// whole.
 pub fn play_script<R: Read + Drop, W: Write>(
     alloc: Global,
     config: Config,
@@ -56,13 +56,12 @@ pub fn play_script<R: Read + Drop, W: Write>(
 }
 
 /// Runs a script over a configuration and two networks in memory, and writes its transcript: the
-/// notes on lines that were refused or closed a sub-VL, in their order, then the frames that were
-/// handed to network A, then those handed to B. A script has at most 1,000,000 lines of at most
-/// 20,000 bytes each.
+/// notes on lines that were refused or closed a sub-VL, in their order, then the frames of network A,
+/// then those of B. A script has at most 1,000,000 lines of at most 20,000 bytes each.
 ///
-/// A line's fault, `Lines` and `Read` end the run there: the lines before it were run, and their
-/// notes and frames are written. After `Write`, when the writer failed, and after `Memory` nothing
-/// more is written; what was written before `Memory` begins the transcript of lines that were run.
+/// A line's fault, `Lines` and `Read` end the run there: the lines before it were run, and their notes
+/// and frames are written. `Write`, when the writer failed, and `Memory` end the writing; what was
+/// written before `Memory` begins the transcript of lines that were run.
 pub fn run_script<R: Read + Drop, W: Write>(
     alloc: Global,
     config: Config,
