@@ -1,4 +1,4 @@
--- How often a worker's port asked.
+-- How many slots a worker's port requested.
 use Rattle.storm.proofs.Names.{◌≡◌, ℕ, zero, suc, ◌+◌, ◌<◌, ◌≤◌, List, [], ◌∷◌, ◌++◌, length, get_or, map, ap}
 use Rattle.storm.proofs.Names.{sym, ◌∙◌, subst, ⊎_elim, arith, length-map, map-append, SenderView, IsRefused}
 use Rattle.storm.proofs.Names.{PortView, Accepts, Refuses, asked_by, AreAtMost}
@@ -7,11 +7,11 @@ use Rattle.afdx_tx.specs.declared.fault.Refusal.{Refusal}
 use Rattle.afdx_tx.specs.declared.fault.Refusal.TheVariants.{Empty, TooLong, Closed, Exhausted, Full}
 use Rattle.subvl_queue.specs.declared.refused.Why.TheVariants as Queue
 
--- a send that is accepted asks once
+-- an accepted send requests one slot
 pub asks_accepted : (old new : PortView) (bytes : List ℕ) → Accepts old bytes new → new.sender.asks ≡ old.sender.asks + 1
 asks_accepted old new bytes done = ap (λ (s : SenderView). s.asks) done.0.2.1
 
--- a queue that refuses was asked once at most
+-- a refused send requests at most one
 asks_queue : (old new : SenderView) (why : Why) → IsRefused old why new → new.asks ≤ old.asks + 1
 asks_queue old new Queue.Closed r =
     ⊎_elim
@@ -21,7 +21,7 @@ asks_queue old new Queue.Closed r =
 asks_queue old new Queue.Exhausted r = let same = ap (λ (s : SenderView). s.asks) r.1 in omega (arith, same)
 asks_queue old new Queue.Full r = let once = ap (λ (s : SenderView). s.asks) r.2 in omega (arith, once)
 
--- so does one that is refused
+-- a refused port requests at most one
 pub asks_refused : (old new : PortView) (size : ℕ) (why : Refusal) → Refuses old size why new
     → new.sender.asks ≤ old.sender.asks + 1
 asks_refused old new size Empty r = let same = ap (λ (p : PortView). p.sender.asks) r.1 in omega (arith, same)
@@ -41,7 +41,7 @@ at_most_push (x ∷ low) (y ∷ high) n m count all le zero lt = all 0 (omega ar
 at_most_push (x ∷ low) (y ∷ high) n m count all le (suc k) lt =
     at_most_push low high n m (omega arith) (λ j below. all (suc j) (omega arith)) le k (omega arith)
 
--- one port more, which asked no more often than it may
+-- one port more, within its requests
 pub asks_push : {W : Type 0} (f : W → ℕ) (ports : List PortView) (ws : List W) (port : PortView) (w : W)
     → length ports ≡ length ws → AreAtMost (map asked_by ports) (map f ws) → asked_by port ≤ f w
     → AreAtMost (map asked_by (ports ++ port ∷ [])) (map f (ws ++ w ∷ []))

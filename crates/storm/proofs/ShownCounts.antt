@@ -8,7 +8,7 @@ use Rattle.status_board.proofs.Histories.{last_or-push}
 use Rattle.afdx_legal.specs.Counting.{counts_in}
 use Rattle.afdx_tx.specs.Publishing.{Publishes, counts_at}
 
--- the counts of links of the same plan, of which the same was handed over
+-- the counts of links of the same plan and the same frames
 counts_same : (old new : Tx) (k : ℕ) → new.plan ≡ old.plan → new.lines ≡ old.lines → counts_at old k ≡ counts_at new k
 counts_same old new k plan lines =
     ap (λ (p : Plan). counts_in (own_stream (link_plan_at p.links k).id.0 old.lines.a old.lines.b)) (sym plan)
@@ -74,7 +74,7 @@ read_all tx k counts end is =
     let all = all_counts tx.plan.links tx.lines.a tx.lines.b in
     is ∙ ap (λ (n : ℕ). take n all) (end ∙ sym (length-map tx.plan.links (own_counts tx.lines.a tx.lines.b))) ∙ take-length all
 
--- the counts of links of the same plan, of which the same was handed over
+-- the counts of links of the same plan and the same frames
 pub counts_kept : (old new : Plan) (a b a' b' : List Entry) (counts : List Counts) → counts ≡ all_counts new.links a b → new ≡ old
     → a' ≡ a → b' ≡ b → counts ≡ all_counts old.links a' b'
 counts_kept old new a b a' b' counts is plan at_a at_b =

@@ -34,7 +34,7 @@ spent_port old new n turns k before after plan queues place at own of e asks =
       asks = asks;
     }
 
--- a port that asked at most once for each of its turns, since it was fresh
+-- a port that requested at most one slot for each of its turns, since it was fresh
 asks_at : (before after : List PortView) (turns k : ℕ) (d : PortView) → length after ≡ length before → k < length after
     → (get_or before k d).sender.asks ≡ 0 → AreAtMost (map asked_by after) (map (asked_after turns) before)
     → (get_or after k d).sender.asks ≤ turns

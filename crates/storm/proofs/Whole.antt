@@ -1,4 +1,4 @@
--- What was handed over, once the ports of a storm are gathered and all is sent.
+-- The frames of a storm, once its ports are taken back and all is sent.
 use Rattle.storm.proofs.Names.{◌≡◌, ◌∙◌, ℕ, ◌<◌, List, length, All, ap, sym, subst, All-contains, Plan, Entry, log}
 use Rattle.storm.proofs.Names.{Accepted, IsLegal, AreAllowed, AreOwn, AreOwnStreams, accepted_in, Tx, PortView}
 use Rattle.storm.proofs.Names.{own_messages, AreSpent}
@@ -14,7 +14,7 @@ gathered_own tx gathered n turns ports spent g place lt =
     let all : All P ports = λ k d below. (spent.each k d below).own ∙ ap (own_messages tx.plan n) (sym (spent.each k d below).at) in
     own.accepted ∙ All-contains P ports own.port all own.inside ∙ ap (own_messages tx.plan n) own.at
 
--- what the networks were handed in the end
+-- the frames of the networks in the end
 pub handed_whole : (tx gathered drained : Tx) (n turns : ℕ) (ports : List PortView) (a b : List Entry) → AreSpent tx n turns ports
     → IsGatheredTx tx ports gathered → drained.plan ≡ gathered.plan → accepted_in drained.links ≡ accepted_in gathered.links
     → IsAllDone drained.plan (accepted_in drained.links) (log drained.lines)

@@ -23,7 +23,7 @@ pub record IsShown (tx : Tx) : Type 0 where
   pub count : length tx.board ≡ length tx.plan.links
   pub each : (k : ℕ) → k < length tx.plan.links → last_of tx.board k ≡ counts_at tx k
 
--- the counts of a link's own stream of two handed lists, the longer of its two
+-- the counts of a link's own stream of two networks' frames, the longer of its two
 abbrev pub own_counts : (a b : List Entry) → LinkPlan → Counts
 own_counts a b link = counts_in (own_stream link.id.0 a b)
 

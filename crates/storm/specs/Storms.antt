@@ -1,4 +1,4 @@
--- What a storm over a plan answers, and what the command `storm` writes of the text of a configuration.
+-- The results of a storm over a plan, and what the command `storm` writes of the text of a configuration.
 use Rattle.std.specs.Prelude.{◌≡◌, ◌≢◌, ◌<◌, ◌↔◌, ◌*◌, ℕ, List, length, map, Option, Result, Ok, Err, Bool, false, IsTrue, ⊤}
 use Rattle.std.specs.Io.KnownBytes.{Appends}
 use Rattle.std.specs.List.{Any}
@@ -31,17 +31,16 @@ abbrev pub IsShort : {T : Type 0} → Result T StormFault → Type 0
 IsShort {T} (Ok report) = ⊥
 IsShort {T} (Err fault) = fault ≡ Short
 
--- A storm over a plan came to its end, each of whose ports sent its messages 1 to n: all of them were accepted and
--- handed over legally, every fragment of them, and nothing else; the last readings are the counts of each link's own
--- stream; and no count was seen to fall.
+-- A storm over a plan ended, each of whose ports sent its messages 1 to n: exactly these were accepted and legally
+-- transmitted, every fragment of them; the last readings are the counts of each link's own stream; and no count was seen
+-- to fall.
 pub record IsEnded (plan : Plan) (n total : ℕ) (counts : List Counts) (fell : Bool) (a b : List Entry) : Type 0 where
   pub whole : IsHandedWhole plan (own_messages plan n) a b
   pub accepted : total ≡ length plan.ports * n
   pub links : counts ≡ all_counts plan.links a b
   pub back : fell ≡ false
 
--- What is reported of it: the networks are equal exactly where what they were handed of links on both is twins entry by
--- entry.
+-- Its report: the networks are equal if and only if their frames of links on both are twins, entry by entry.
 pub record IsReportOf (plan : Plan) (n : ℕ) (report : StormReport) : Type 0 where
   pub ended : IsEnded plan n report.accepted report.links.items report.back report.a.handed report.b.handed
   pub equal : IsTrue report.equal ↔ (on_both plan.links report.b.handed ≡ map (side B) (on_both plan.links report.a.handed))
@@ -52,8 +51,8 @@ failure_of Short = Failures.Short
 failure_of Turns = Failures.Turns
 failure_of Memory = Failures.Run Ran.Memory
 
--- Why a storm over a plan ends early: for a short port, whatever else would stop it, and for another reason only where
--- no port is short.
+-- Why a storm over a plan ends early: for a short port, whatever else would stop it, and for another reason only if no
+-- port is short.
 abbrev pub IsPlanRefusal : Plan → Failure → Type 0
 IsPlanRefusal plan Failures.Short = HasShortPort plan
 IsPlanRefusal plan Failures.Turns = HasShortPort plan → ⊥

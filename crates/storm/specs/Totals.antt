@@ -1,4 +1,4 @@
--- What is told of a storm.
+-- The text of a storm's totals.
 use Rattle.std.specs.Prelude.{codes, ℕ, zero, suc, List, [], ◌∷◌, ◌++◌, length, slice_index_or, Bool, if◌then◌else◌, decimal}
 use Rattle.afdx_plan.specs.Config.{link_plan_at}
 use Rattle.afdx_plan.specs.declared.link_plan.LinkPlan.{LinkPlan}
@@ -19,13 +19,13 @@ link_line id counts = codes "link " ++ decimal id ++ codes ": frames " ++ decima
 abbrev pub counts_at : List Counts → ℕ → Counts
 counts_at counts k = slice_index_or counts k zeros
 
--- the counts of so many links, the first of them
+-- the counts of the first links, as many as the number
 abbrev pub link_lines_to : List LinkPlan → List Counts → ℕ → List ℕ
 link_lines_to links counts zero = []
 link_lines_to links counts (suc k) =
     link_lines_to links counts k ++ link_line (link_plan_at links k).id.0 (counts_at counts k)
 
--- whether both networks were handed the same
+-- whether both networks have the same frames
 unfoldable pub networks_line : Bool → List ℕ
 networks_line equal = if equal then codes "networks equal" ++ 10 ∷ [] else codes "networks differ" ++ 10 ∷ []
 

@@ -6,7 +6,7 @@ use Rattle.afdx_tx.specs.Emitter.{Tx}
 use Rattle.afdx_tx.specs.Ports.{PortView, IsPortOfTx}
 use Rattle.storm.specs.Messages.{messages_to, own_messages}
 
--- what a port is, and its own messages: all of it but how often it asked, and what it found
+-- a port without its count of slot requests and what these found
 pub record Named : Type 0 where
   pub place : ℕ
   pub plan : PortPlan
@@ -23,7 +23,7 @@ named port = record {
   own = port.sender.own;
 }
 
--- a port with these messages more of its own
+-- the port with `more` appended to its own list
 abbrev pub with_more : PortView → List (List ℕ) → Named
 with_more port more = record (named port) { own = port.sender.own ++ more }
 
@@ -31,11 +31,11 @@ with_more port more = record (named port) { own = port.sender.own ++ more }
 abbrev pub sent_all : ℕ → PortView → Named
 sent_all n port = with_more port (messages_to port.plan.id.0 n)
 
--- how often a port asked
+-- how many slots a port requested
 abbrev pub asked_by : PortView → ℕ
 asked_by port = port.sender.asks
 
--- how often a port asked once it used up so many turns, each for an ask
+-- how many slots a port requested after `turns` turns, one request each
 abbrev pub asked_after : ℕ → PortView → ℕ
 asked_after turns port = port.sender.asks + turns
 
@@ -43,16 +43,15 @@ asked_after turns port = port.sender.asks + turns
 abbrev pub AreAtMost : List ℕ → List ℕ → Type 0
 AreAtMost low high = (k : ℕ) → k < length low → slice_index low k ≤ slice_index high k
 
--- The port of an emitter at a place, which sent its messages 1 to n and nothing else, and asked at most once for each of its
--- turns.
+-- The port of an emitter at a place, which sent exactly its messages 1 to n, and requested at most one slot for each of
+-- its turns.
 pub record IsSpent (tx : Tx) (n turns place : ℕ) (port : PortView) : Type 0 where
   pub of : IsPortOfTx tx port
   pub at : port.place ≡ place
   pub own : port.sender.own ≡ own_messages tx.plan n place
   pub asks : port.sender.asks ≤ turns
 
--- All ports of an emitter, in the order of its plan, each of which sent its messages 1 to n and nothing else, within its
--- turns.
+-- All ports of an emitter, in the order of its plan, each of which sent exactly its messages 1 to n, within its turns.
 pub record AreSpent (tx : Tx) (n turns : ℕ) (ports : List PortView) : Type 0 where
   pub count : length ports ≡ length tx.plan.ports
   pub each : (k : ℕ) (d : PortView) → k < length ports → IsSpent tx n turns k (slice_index_or ports k d)

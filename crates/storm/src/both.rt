@@ -1,4 +1,4 @@
-//! Whether two networks were handed the same over the links that both carry.
+//! Comparing the frames of two networks over the links that both carry.
 ghost use Rattle.std.specs.Prelude.{◌≡◌, ◌↔◌, ◌≤◌, length, map, IsTrue, All};
 ghost use Rattle.afdx_frame.specs.Header.{link_in};
 ghost use Rattle.afdx_frame.specs.declared.net.Net.TheVariants.{A as ForA, B as ForB};
@@ -10,11 +10,10 @@ use afdx_plan::{LINKS_LIMIT, LinkPlan, VlId};
 use redundant_mux::{Handed, MemNetwork};
 use std::marker::Model;
 
-/// The links of a configuration, which outlive it, without memory of their own. Contracts see their
-/// list.
+/// A copy of a configuration's links that outlives it and allocates nothing. Contracts see their list.
 #[derive(Drop)]
 pub struct KeptLinks {
-    // The first so many are the links.
+    // The first `count` are the links.
     places: [LinkPlan; LINKS_LIMIT],
     count: usize,
 }
@@ -32,7 +31,7 @@ impl Model for KeptLinks {
 }
 
 impl KeptLinks {
-    /// These links. The places behind them hold the first one again.
+    /// Copies these links. The places after them hold the first one again.
     pub fn of(links: &[LinkPlan]) -> KeptLinks
         requires some { 1 ≤ length links.now }
         requires most { length links.now ≤ LINKS_LIMIT }
@@ -44,7 +43,6 @@ impl KeptLinks {
         KeptLinks { places, count }
     }
 
-    /// The links.
     pub fn as_slice(&self) -> &[LinkPlan]
         ensures { result.now ≡ self.now }
     {
@@ -52,7 +50,6 @@ impl KeptLinks {
     }
 }
 
-/// Whether both networks carry the link with an identifier.
 fn is_on_both(links: &[LinkPlan], vl: VlId) -> bool
     ensures { result ≡ is_on_both links.now vl.0 }
 {
@@ -67,7 +64,6 @@ fn link_of(frame: &[u8]) -> VlId
     VlId(256 * u16::from(frame[4]) + u16::from(frame[5]))
 }
 
-/// How many of these frames are of links that both networks carry.
 fn count_on_both(links: &[LinkPlan], handed: &[Handed]) -> usize
     requires { All (λ e. 6 ≤ length e.frame) (entries handed.now) }
     ensures { result ≡ length (on_both links.now (entries handed.now)) }
@@ -81,8 +77,8 @@ fn count_on_both(links: &[LinkPlan], handed: &[Handed]) -> usize
     count
 }
 
-/// Whether two networks were handed twins, entry by entry, over the links that both carry. What the one
-/// was handed over these is the twins of a beginning of what the other was.
+/// Whether two networks have twins, entry by entry, over the links that both carry. One of them has the
+/// twins of a beginning of the other's, so counting them is enough.
 pub(crate) fn are_equal(links: &[LinkPlan], a: &MemNetwork, b: &MemNetwork) -> bool
     requires known_a { AreKnown links.now ForA a.now.handed }
     requires known_b { AreKnown links.now ForB b.now.handed }

@@ -16,8 +16,8 @@ use std::io::{Read, Write};
 use std::sync::Wait;
 use std::thread::Threads;
 
-/// Reads a configuration, throws a storm at an end system of it, and writes what came of it. Where it is
-/// refused, or ends early, nothing is written.
+/// Reads a configuration, runs a storm over an end system of it, and writes the totals. If the configuration
+/// is refused or the storm ends early, writes nothing.
 pub fn bench_storm<I: Read + Drop, W: Write, G: Gate + Sync, R: Threads + Wait + Sync>(
     rt: &R,
     alloc: Global,
@@ -40,8 +40,8 @@ pub fn bench_storm<I: Read + Drop, W: Write, G: Gate + Sync, R: Threads + Wait +
     throw_storm(rt, alloc, config, writer, messages, turns, gate)
 }
 
-/// Throws a storm at an end system of a configuration, and writes what came of it. A short port comes
-/// before all else that may end it early.
+/// Runs a storm over an end system of a configuration, and writes the totals. A short port takes precedence
+/// over other failures.
 fn throw_storm<W: Write, G: Gate + Sync, R: Threads + Wait + Sync>(
     rt: &R,
     alloc: Global,
@@ -69,7 +69,6 @@ fn throw_storm<W: Write, G: Gate + Sync, R: Threads + Wait + Sync>(
     }
 }
 
-/// The failure that a fault is told as.
 fn failure_of(fault: StormFault) -> Failure
     ensures { result ≡ failure_of_fault fault }
 {

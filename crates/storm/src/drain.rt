@@ -1,4 +1,4 @@
-//! After the joins: the ports are gathered, and what is left is sent.
+//! After the joins: takes back the ports, and sends what is left.
 ghost use Rattle.std.specs.Prelude.{◌≡◌, ◌*◌, ◌≤◌, length, IfOk};
 ghost use Rattle.redundant_mux.specs.Lines.{log};
 ghost use Rattle.afdx_legal.specs.Allowed.{AreOwn};
@@ -16,7 +16,7 @@ use afdx_tx::{Draining, Emitter, TxPort};
 use redundant_mux::Network;
 use std::sync::Wait;
 
-/// Gathers all ports. None is missing.
+/// Takes back all ports and starts draining.
 pub(crate) fn gather_all<A: Network + Drop, B: Network + Drop>(
     tx: Emitter<A, B>,
     ports: Vec<TxPort>,
@@ -31,7 +31,7 @@ pub(crate) fn gather_all<A: Network + Drop, B: Network + Drop>(
     }
 }
 
-/// Polls and publishes. Whether a network stands.
+/// Polls and publishes. Returns whether a network is up.
 fn drain_once<A: Network + Drop, B: Network + Drop, G: Gate, R: Wait>(
     rt: &R,
     draining: &mut Draining<A, B>,
@@ -54,8 +54,7 @@ fn drain_once<A: Network + Drop, B: Network + Drop, G: Gate, R: Wait>(
     report.standing.a | report.standing.b
 }
 
-/// Polls on from a poll of that number, at most so many times, until all that was accepted is handed
-/// over.
+/// Polls from poll number `first` on, at most `turns` times, until all that was accepted is transmitted.
 pub(crate) fn drain<A: Network + Drop, B: Network + Drop, G: Gate, R: Wait>(
     rt: &R,
     draining: Draining<A, B>,

@@ -5,8 +5,8 @@ ghost use Rattle.storm.specs.declared.fault.Stop.TheVariants.{Memory as OutOfMem
 use std::alloc::{AllocError, AllocFailed};
 use thiserror::Error;
 
-/// Why a storm gives no report. `Short` comes before `Memory`, and `Memory` before `Turns`. Its text is
-/// its name.
+/// Why a storm gives no report. `Short` comes before `Memory`, and `Memory` before `Turns`. `Display` prints
+/// the variant's name.
 #[derive(Clone, Copy, Debug, PartialEq, Eq, Error)]
 pub enum StormFault {
     /// A port's greatest message is below 6 bytes. No thread was started.
@@ -15,12 +15,12 @@ pub enum StormFault {
     /// A worker used up its sends or was ended by the gate, or the drain used up its polls.
     #[error("Turns")]
     Turns = 2,
-    /// Memory was refused, a thread couldn't be started, or both networks failed.
+    /// An allocation failed, a thread couldn't be started, or both networks failed.
     #[error("Memory")]
     Memory = 3,
 }
 
-/// Why a storm that was begun stops early.
+/// Why a running storm stops early.
 #[derive(Clone, Copy, Debug, PartialEq, Eq)]
 pub(crate) enum Stop {
     Memory,
@@ -43,7 +43,6 @@ impl<T: Drop> From<AllocFailed<T>> for Stop {
     }
 }
 
-/// The fault that a stop is told as.
 pub(crate) fn fault_of(stop: Stop) -> StormFault
     ensures short { result ≢ StormFault.Short }
     ensures memory { (result ≡ StormFault.Memory) ↔ (stop ≡ OutOfMemory) }

@@ -1,6 +1,5 @@
-//! A storm over a whole end system: each of its ports sends from a thread of its own, while the emitter
-//! is polled and another thread reads the counts of its links; and the command that throws one and prints
-//! what came of it.
+//! A storm over a whole end system: each of its ports sends from a thread of its own, while one thread polls
+//! the emitter and another reads the counts of its links; and the command that runs one and prints its totals.
 #![tactic(auto)]
 
 mod both;

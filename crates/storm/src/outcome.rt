@@ -1,4 +1,4 @@
-//! What comes of a storm, over any two networks.
+//! A storm over any two networks.
 ghost use Rattle.std.specs.Prelude.{◌≡◌, ◌≤◌, ◌<◌, ◌^◌, [], length, IfOk};
 ghost use Rattle.std.specs.List.{sum_by};
 ghost use Rattle.storm.specs.Boards.{cells_of, cells_read, IsShown, all_counts};
@@ -18,8 +18,7 @@ use std::alloc::{AllocError, Global};
 use std::sync::Wait;
 use std::thread::Threads;
 
-/// How many messages were accepted, the last reading of each link, whether a count was seen to fall, and
-/// the networks.
+/// How many messages were accepted, the last reading of each link, whether a count fell, and the networks.
 #[derive(Drop)]
 pub(crate) struct Outcome<A: Network + Drop, B: Network + Drop> {
     pub accepted: u64,
@@ -29,7 +28,6 @@ pub(crate) struct Outcome<A: Network + Drop, B: Network + Drop> {
     pub b: B,
 }
 
-/// How many messages of these ports were accepted.
 fn count_accepted(ports: &[TxPort]) -> u64
     requires { sum_by (λ port. length port.sender.own) ports.now < 2 ^ 64 }
     ensures { result ≡ sum_by (λ port. length port.sender.own) ports.now }
@@ -41,7 +39,7 @@ fn count_accepted(ports: &[TxPort]) -> u64
     accepted
 }
 
-/// A reading of each link, in the order of the configuration: what was published of it last.
+/// The last published counts of each link, in the order of the configuration.
 fn read_links<A: Network + Drop, B: Network + Drop, R: Wait>(
     rt: &R,
     alloc: Global,
@@ -63,7 +61,7 @@ fn read_links<A: Network + Drop, B: Network + Drop, R: Wait>(
     Ok(counts)
 }
 
-/// Gathers the ports, sends what is left, and reads what came of it all.
+/// Takes back the ports, sends what is left, and reads the counts.
 fn finish<A: Network + Drop, B: Network + Drop, G: Gate, R: Wait>(
     rt: &R,
     alloc: Global,
@@ -100,7 +98,6 @@ fn finish<A: Network + Drop, B: Network + Drop, G: Gate, R: Wait>(
     })
 }
 
-/// An emitter over two networks that were handed nothing and have not failed.
 fn open<A: Network + Drop, B: Network + Drop>(
     alloc: Global,
     config: Config,
@@ -121,8 +118,8 @@ fn open<A: Network + Drop, B: Network + Drop>(
     }
 }
 
-/// Opens an emitter over two networks, has each of its ports send its messages from a thread of its
-/// own while it is polled, and sends all to its end.
+/// Opens an emitter over two networks, polls it while each of its ports sends from a thread of its own, and
+/// sends what is left.
 pub(crate) fn run_storm<A, B, G, R>(
     rt: &R,
     alloc: Global,

@@ -10,11 +10,11 @@ use std::sync::Wait;
 use std::sync::atomic::{AtomicU64, Ordering};
 use std::thread;
 
-/// From one poll to the next, in microseconds: the greatest gap of a link, so that each poll finds every
-/// link due.
+/// The time between two polls in microseconds: the greatest gap of a link, so each poll finds every link
+/// due.
 pub(crate) const STEP: u64 = 128_000;
 
-/// Polls and publishes. Whether a network stands.
+/// Polls and publishes. Returns whether a network is up.
 fn poll_once<A: Network + Drop, B: Network + Drop, G: Gate, R: Wait>(
     rt: &R,
     tx: &mut Emitter<A, B>,
@@ -40,8 +40,8 @@ fn poll_once<A: Network + Drop, B: Network + Drop, G: Gate, R: Wait>(
     report.standing.a | report.standing.b
 }
 
-/// Polls and publishes while workers run, at most so many times. How many times that was; none where no
-/// network stands any more.
+/// Polls and publishes while workers run, at most `turns` times. Returns how often it polled; `None` if no
+/// network is up any more.
 pub(crate) fn poll_while<A: Network + Drop, B: Network + Drop, G: Gate, R: Wait>(
     rt: &R,
     tx: &mut Emitter<A, B>,

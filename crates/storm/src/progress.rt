@@ -1,12 +1,11 @@
-//! How far a storm has come, told on a terminal.
+//! The progress of a storm, shown on a terminal.
 use crate::gate::Gate;
 use std::io::{self, Eprint};
 use std::sync::atomic::{AtomicU64, Ordering};
 use std::time::{Clock, Instant};
 
-/// A gate that is always open. On standard error it tells how many messages were accepted, of those of
-/// all workers that have begun, and how many frames were released: at most once in each tenth of a
-/// second.
+/// A gate that is always open. At most ten times a second it prints to standard error how many messages
+/// were accepted, of those of all workers that have begun, and how many frames were released.
 #[derive(Drop)]
 pub struct Progress<'a, R: Clock + Eprint> {
     rt: &'a R,
@@ -15,12 +14,12 @@ pub struct Progress<'a, R: Clock + Eprint> {
     workers: AtomicU64,
     accepted: AtomicU64,
     frames: AtomicU64,
-    // The tenth of a second in which it told last, counted from the beginning.
+    // The tenth of a second of the last print, counted from the beginning.
     told: AtomicU64,
 }
 
 impl<'a, R: Clock + Eprint> Progress<'a, R> {
-    /// Of a storm that begins now, in which each port sends so many messages.
+    /// The progress of a storm that begins now, in which each port sends `messages` messages.
     pub fn begin(rt: &'a R, messages: u32) -> io::Result<Progress<'a, R>> {
         Ok(Progress {
             rt,
@@ -33,14 +32,14 @@ impl<'a, R: Clock + Eprint> Progress<'a, R> {
         })
     }
 
-    /// Ends the line, where anything was told.
+    /// Ends the line, if anything was printed.
     pub fn end(&self) {
         if self.told.load(Ordering::SeqCst) > 0 {
             let _told = eprintln!(self.rt; "");
         }
     }
 
-    /// Whether this is a tenth of a second in which nothing was told yet.
+    /// Whether nothing was printed yet in this tenth of a second.
     fn is_due(&self) -> bool {
         let Ok(passed) = self.begun.elapsed(self.rt) else {
             return false;

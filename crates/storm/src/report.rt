@@ -14,32 +14,32 @@ use std::alloc::Global;
 use std::sync::Wait;
 use std::thread::Threads;
 
-/// What came of a storm.
+/// The report of a storm.
 #[derive(Drop)]
 pub struct StormReport {
     /// How many messages of all ports were accepted.
     pub accepted: u64,
-    /// A reading of each link, in the order of the configuration, once all was sent: the counts of the
-    /// longer of the link's two streams.
+    /// The counts of each link, in the order of the configuration, once all was sent: those of the longer of
+    /// the link's two streams.
     pub links: Vec<Counts>,
-    /// Whether over the links that both networks carry they were handed the same frames, each its twins,
-    /// at the same moments.
+    /// Whether over the links that both networks carry they have the same frames, each its twins, at the
+    /// same times.
     pub equal: bool,
     /// Whether a count of a link was seen to fall.
     pub back: bool,
-    /// The networks, with what was handed to them.
+    /// The networks, with their frames.
     pub a: MemNetwork,
     pub b: MemNetwork,
 }
 
-/// Whether some port can't send a message of a storm.
+/// Whether some port's maximum is below a storm's message.
 fn has_short_port(config: &Config) -> bool
     ensures { IsTrue result ↔ HasShortPort config.now }
 {
     config.ports().iter().any(|port| port.max < MESSAGE_BYTES)
 }
 
-/// `storm` over two networks in memory that were handed nothing and have not failed.
+/// `storm` over two networks in memory that are new: no frame, no failure.
 pub fn storm_over<G: Gate + Sync, R: Threads + Wait + Sync>(
     rt: &R,
     alloc: Global,
@@ -75,15 +75,15 @@ pub fn storm_over<G: Gate + Sync, R: Threads + Wait + Sync>(
     })
 }
 
-/// Throws threads at a whole end system of a configuration over two networks in memory: each of its
-/// ports sends its messages 1 to `messages` from a thread of its own, while this thread polls and
-/// publishes, and another one reads each link `messages` times. Then the threads are joined, the ports
-/// gathered, and what is left is sent. A worker may send `turns` times, a refused message again and again,
-/// and this thread may poll `turns` times while they run, and as often once more after them.
+/// Runs a whole end system of a configuration over two networks in memory: each of its ports sends its
+/// messages 1 to `messages` from a thread of its own, while this thread polls and publishes, and another
+/// one reads each link `messages` times. Then it joins the threads, takes back the ports, and sends what is
+/// left. A worker may send `turns` times, including repeats of a refused message. This thread may poll
+/// `turns` times while they run, and `turns` times after them.
 ///
-/// Where it answers, all that the ports sent was handed over legally, every fragment of it, and nothing
-/// else. What is left of a link that one network alone carries is never sent once that network failed:
-/// while the other one stands, the turns are used up.
+/// If it returns a report, exactly what the ports sent was transmitted, legally and every fragment of it.
+/// What is left of a link that one network alone carries is never sent once that network failed: while the
+/// other one is up, the turns are used up.
 pub fn storm<G: Gate + Sync, R: Threads + Wait + Sync>(
     rt: &R,
     alloc: Global,

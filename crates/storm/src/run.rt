@@ -26,8 +26,7 @@ pub(crate) struct Opened<A: Network + Drop, B: Network + Drop> {
     pub monitor: Monitor,
 }
 
-/// The same once all threads are joined, with how often the emitter was polled, and whether a count was
-/// seen to fall.
+/// The same once all threads are joined, with the number of polls and whether a count was seen to fall.
 #[derive(Drop)]
 pub(crate) struct Joined<A: Network + Drop, B: Network + Drop> {
     pub tx: Emitter<A, B>,
@@ -68,7 +67,7 @@ where
     let links = tx.config().links().len();
     let watching = start_watcher(scope, rt, gate, monitor, links, load.messages)?;
     let started = start_workers(scope, alloc, ports, load, gate, running);
-    // Where not all were started, those that were are polled for too: so they come to their end.
+    // If not all were started, polling lets those that were come to their end.
     let polls = poll_while(rt, &mut tx, gate, running, load.turns);
     let ended = join_workers(rt, alloc, started?);
     let (monitor, back) = watching.join(rt);

@@ -11,8 +11,8 @@ use std::snapshot::Snapshot;
 use std::sync::atomic::{AtomicU64, Ordering};
 use std::thread::{Promise, PromisedHandle, Scope, Threads};
 
-/// A worker gives its port back, which asked at most once for each turn. Where it ended well, the port
-/// sent all its messages, and is otherwise the one that it was.
+/// A worker returns its port, which requested at most one slot for each turn. If it succeeded, the port sent
+/// all its messages, and is otherwise unchanged.
 #[derive(Drop)]
 pub(crate) struct SendsAll {
     pub before: Snapshot<TxPort>,
@@ -30,7 +30,7 @@ impl Promise<(TxPort, Result<(), Stop>)> for SendsAll {
 
 pub(crate) type Worker = PromisedHandle<(TxPort, Result<(), Stop>), SendsAll>;
 
-/// What a worker's thread does. It counts itself out.
+/// The body of a worker's thread, which counts itself out.
 fn run_worker<G: Gate>(
     alloc: Global,
     port: TxPort,
@@ -78,7 +78,7 @@ fn start_worker<'s, E: 's, G: Gate + Sync>(
     }
 }
 
-/// Starts a worker for each port, in their order. Where one can't be started, no more are.
+/// Starts a worker for each port, in their order, until one can't be started.
 pub(crate) fn start_workers<'s, E: 's, G: Gate + Sync>(
     scope: &'s Scope<'s, E>,
     alloc: Global,
@@ -103,7 +103,7 @@ pub(crate) fn start_workers<'s, E: 's, G: Gate + Sync>(
     Ok(workers)
 }
 
-/// Joins the workers. Their ports, in order, where all ended well.
+/// Joins the workers. Returns their ports, in order, if all succeeded.
 pub(crate) fn join_workers<R: Threads>(
     rt: &R,
     alloc: Global,
@@ -127,7 +127,7 @@ pub(crate) fn join_workers<R: Threads>(
     }
 }
 
-/// Why some worker ended early, of those before and this one. Want of memory comes before turns.
+/// The worse of two ends of workers: out of memory, then turns.
 fn worse(worst: Option<Stop>, ended: Result<(), Stop>) -> Option<Stop>
     ensures none { result ≡ None ↔ ((worst ≡ None) × (ended ≡ Ok tt)) }
     ensures memory { result ≡ Some Stop.Memory

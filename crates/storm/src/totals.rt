@@ -1,4 +1,4 @@
-//! What is told of a storm.
+//! Writing the totals of a storm.
 ghost use Rattle.std.specs.Prelude.{◌≡◌, length, OnOk};
 ghost use Rattle.std.specs.Io.KnownBytes.{Appends};
 ghost use Rattle.storm.specs.Totals.{accepted_line, link_line, link_lines_to, networks_line, watcher_line, totals_of};
@@ -8,9 +8,9 @@ use afdx_plan::{LinkPlan, VlId};
 use status_board::Counts;
 use std::io::{self, Write};
 
-/// Writes what came of a storm over these links, in the order of their plan: how many messages were
-/// accepted, the counts of each link, whether both networks were handed the same, and whether a count
-/// was seen to fall.
+/// Writes the totals of a storm over these links, in the order of their plan: how many messages were
+/// accepted, the counts of each link, whether both networks have the same frames, and whether a count was
+/// seen to fall.
 #[tactic(auto, unfolding(crate::specs::Totals::totals_text))]
 pub fn write_totals<W: Write>(
     writer: &mut W,

@@ -11,7 +11,7 @@ use std::snapshot::Snapshot;
 use std::sync::Wait;
 use std::thread::{Promise, PromisedHandle, Scope};
 
-/// The monitor comes back, each of whose links was read so many times, and no count was seen to fall.
+/// The watcher returns the monitor, each of whose links was read `times` times, and saw no count fall.
 #[derive(Drop)]
 pub(crate) struct WatchesAll {
     pub before: Snapshot<Monitor>,
@@ -37,7 +37,7 @@ fn is_back(earlier: &Counts, later: &Counts) -> bool
         || later.last < earlier.last
 }
 
-/// Reads a link so many times, and tells the gate of each reading. Whether a count fell.
+/// Reads a link `times` times. Returns whether a count fell.
 fn watch_link<G: Gate, R: Wait>(
     rt: &R,
     gate: &G,
@@ -61,7 +61,7 @@ fn watch_link<G: Gate, R: Wait>(
     back
 }
 
-/// Reads each link so many times, and gives the monitor back. Whether a count fell.
+/// Reads each link `times` times. Returns the monitor, and whether a count fell.
 fn watch<G: Gate, R: Wait>(
     rt: &R,
     gate: &G,
@@ -82,7 +82,6 @@ fn watch<G: Gate, R: Wait>(
     (monitor, back)
 }
 
-/// Starts the thread that watches.
 pub(crate) fn start_watcher<'s, E: 's, G: Gate + Sync, R: Wait + Sync>(
     scope: &'s Scope<'s, E>,
     rt: &'s R,

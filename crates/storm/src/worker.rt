@@ -1,4 +1,4 @@
-//! What one worker sends, and how.
+//! The sends of one worker.
 ghost use Rattle.std.specs.Prelude.{◌≡◌, ◌≤◌, [], ◌∷◌, OnOk, IfOk};
 ghost use Rattle.storm.specs.Messages.{message};
 ghost use Rattle.storm.specs.Workers.{named, with_more, sent_all, asked_by, asked_after};
@@ -10,8 +10,8 @@ use afdx_tx::TxPort;
 use std::alloc::{AllocError, Global};
 use std::thread;
 
-/// How many messages each port sends, and how often each thread may try: a worker to send, and the main
-/// thread to poll, while the workers run and once more after them.
+/// How many messages each port sends, and how often a worker may send and the main thread may poll, while
+/// the workers run and again after them.
 #[derive(Clone, Copy, Debug, PartialEq, Eq)]
 pub(crate) struct Load {
     pub messages: u32,
@@ -31,8 +31,7 @@ fn make_message(alloc: Global, port: PortId, call: u32) -> Result<Vec<u8>, Alloc
     Ok(bytes)
 }
 
-/// Sends a message, and again after it was refused, which is where its queue is full. Each send is a
-/// turn.
+/// Sends a message, again and again if it is refused, as by a full queue. Each send is a turn.
 fn send_on(port: &mut TxPort, bytes: Vec<u8>, turns: &mut u64) -> Result<(), Stop>
     ensures sent { OnOk result (named port.new ≡ with_more port.old (bytes.items ∷ [])) }
     ensures asks { asked_after turns.new port.new ≤ asked_after turns.old port.old }
