@@ -17,7 +17,7 @@ network    load-kbit/s  share-%  exceeded
    10     1   0         6          17000      166.666
 ";
 
-// A link of four sub-VLs, two of which have ports of unequal greatest messages, and one on network B alone.
+// A link of four sub-VLs, two of which have ports with unequal maxima, and a link on network B alone.
 const UNEQUAL: &str = "version = 2
 end_system = { id = 1 }
 vl = [
@@ -32,7 +32,7 @@ port = [
 ]
 ";
 
-// Its analysis where polls come up to 250 microseconds late: port 10 waits 4 (3 * 7 - 1 + 1) 2,250 microseconds.
+// Its analysis if polls come up to 250 microseconds late: port 10 waits 4 (3 * 7 - 1 + 1) 2,250 microseconds.
 const ANALYSIS_OF_UNEQUAL: &str = "end system 1, polls up to 250 us late
  link bag-ms lmax subs  nets    load-kbit/s  share-%  jitter-ns
     1      2  200    4   A+B        880.000     0.88      17600
@@ -48,7 +48,6 @@ network    load-kbit/s  share-%  exceeded
    13     2   0         2         384750        3.906
 ";
 
-// Asserts what is written of a plan's analysis.
 fn assert_analysis(rt: &impl Host, plan: &str, lateness: u64, wanted: &str)
     requires { lateness ≤ LATENESS_LIMIT }
 {

@@ -25,7 +25,6 @@ fn a_reader_without_end_is_left(rt: HostRuntime) {
     assert_check(&rt, endless, failed, "");
 }
 
-// Asserts that a writer with room for so many bytes can't be given the report.
 fn assert_no_room(rt: &impl Host, mut room: &mut [u8]) {
     let size = room.len();
     let told = check(rt.alloc(), DEMO.as_bytes(), &mut room);
@@ -51,7 +50,7 @@ fn report(rt: &impl Host, lapsing: &mut Lapsing) -> Result<(), Failure> {
     }
 }
 
-// Asserts that nothing is written after a write that failed.
+// Asserts that a failed write is the last one.
 fn assert_last(rt: &impl Host, number: usize, answer: Answer) {
     let mut lapsing = Lapsing::new(rt, number, answer);
     let told = report(rt, &mut lapsing);

@@ -3,7 +3,7 @@ use crate::helpers::*;
 use crate::plan_tests::SENT_IN_TURN;
 use tx_script::LineFault;
 
-// The message 02, a gap behind the first one.
+// The message 02, a gap after the first one.
 const SECOND: OneByte = (1_000, 4, 0xcdea, 2, 1);
 
 #[test]
@@ -20,8 +20,7 @@ fn a_closed_sub_vl_sends_what_it_accepted_and_takes_no_more(rt: HostRuntime) {
     }
 }
 
-// Asserts what a script over the demonstration comes to, whose link has two sub-VLs, and its notes. It sends
-// one message.
+// Asserts the notes of a script over the demonstration whose link has two sub-VLs. It sends one message.
 fn assert_noted(rt: &impl Host, script: &str, refused: u64, notes: &str) {
     let plan = changed(rt, DEMO, &[("sub_vls = 1", "sub_vls = 2")]);
     let wanted = expected(rt, notes, &[FIRST]);
@@ -50,7 +49,7 @@ fn a_total_counts_messages_that_went_out_too(rt: HostRuntime) {
     assert_sent(&rt, script.as_slice(), told, notes, &[FIRST, SECOND]);
 }
 
-// A message of three pieces, of which one goes out before its sub-VL is closed. The other sub-VL is
+// A message of three fragments, of which one is released before its sub-VL is closed. The other sub-VL is
 // open until it is closed too.
 #[test]
 fn a_message_that_is_being_sent_goes_out_whole_from_a_closed_sub_vl(rt: HostRuntime) {
@@ -85,8 +84,8 @@ port = [
 ]
 ";
 
-// What both links send: the link, the UDP port that it comes from, and the message. The header checksum
-// goes down by one for each one that the link and the identification go up.
+// What both links send: the link, the UDP source port, and the message. The header checksum goes down by
+// one for each one that the link and the identification go up.
 const ON_LINKS: [(u16, u16, OneByte); 6] = [
     (1, 1000, FIRST),
     (2, 1000, (0, 0, 0xcded, 4, 0)),

@@ -1,16 +1,15 @@
-//! Every short script, against an end system of one link with two sub-VLs, and a port on each, that is told
-//! again as bounded lists. The lists stand on none of the crates that are tested.
+//! Every short script, against a model of one link with two sub-VLs, and a port on each, made of bounded
+//! lists. The model uses none of the crates under test.
 use crate::helpers::*;
 use std::alloc::Global;
 use std::fmt::Write;
 
-/// How many messages a sub-VL holds at most.
+/// The capacity of a sub-VL in messages.
 const CAPACITY: usize = 2;
 
 /// The link's bandwidth allocation gap in microseconds.
 const GAP: u64 = 1_000;
 
-/// One of the two sub-VLs.
 #[derive(Clone, Copy)]
 enum Sub {
     First,
@@ -26,8 +25,8 @@ impl Sub {
     }
 }
 
-/// The identifications of the messages that a sub-VL accepted and did not yet send, the one that comes
-/// next, how many messages were accepted in all, and whether no more are.
+/// The identifications of the messages that a sub-VL accepted and did not yet send, the next one, how many
+/// messages were accepted, and whether the sub-VL is closed.
 #[derive(Drop)]
 struct Queue {
     held: Vec<u16>,
@@ -46,7 +45,7 @@ impl Queue {
         }
     }
 
-    /// Accepts a message, or answers the name of its refusal.
+    /// Accepts a message, or returns the name of its refusal.
     fn send(&mut self) -> Result<Option<&'static str>, AllocError> {
         if self.closed {
             return Ok(Some("Closed"));
@@ -60,7 +59,6 @@ impl Queue {
         Ok(None)
     }
 
-    /// The message that was accepted first of those that it holds.
     fn take(&mut self) -> Option<u16> {
         if self.held.is_empty() {
             return None;
@@ -69,7 +67,7 @@ impl Queue {
     }
 }
 
-/// What a line of a script says: the message of a sub-VL's port, a poll at a moment, or the close of
+/// What a line of a script says: the message of a sub-VL's port, a poll at a time, or the close of
 /// the first sub-VL.
 #[derive(Clone, Copy)]
 enum Line {
@@ -78,8 +76,8 @@ enum Line {
     CloseFirst,
 }
 
-/// The end system: its sub-VLs, and which of them is asked first; the moment of the last poll; the moments
-/// and identifications of the messages that it sent; the notes on the lines that it obeyed; how many messages
+/// The end system: its sub-VLs, and which of them is first; the time of the last poll; the times and
+/// identifications of the messages that it sent; the notes on the lines that it obeyed; how many messages
 /// it accepted and lines it refused.
 #[derive(Drop)]
 struct EndSystem {
@@ -114,7 +112,7 @@ impl EndSystem {
         }
     }
 
-    /// Does what a line says, which has this number.
+    /// Obeys line `number`.
     fn obey(&mut self, number: u32, said: Line) -> Written {
         match said {
             Line::Send(sub) => {
@@ -152,7 +150,7 @@ impl EndSystem {
         Ok(())
     }
 
-    /// A message of the sub-VL whose turn it is, or of the other one where that has none.
+    /// A message of the sub-VL whose turn it is, or of the other one if that has none.
     fn next_message(&mut self) -> Option<u16> {
         for sub in [self.turn, self.turn.other()] {
             let taken = self.queue(sub).take();
@@ -164,7 +162,7 @@ impl EndSystem {
         None
     }
 
-    /// How many messages were accepted, how many lines refused, and how many frames went out.
+    /// How many messages were accepted, how many lines refused, and how many frames released.
     fn counts(&self) -> (u64, u64, u64) {
         (self.accepted, self.refused, self.sent.len() as u64)
     }
@@ -192,7 +190,7 @@ fn checksum(ident: u16) -> u16 {
     (0xffff - sum % 0xffff) as u16
 }
 
-// The lines that scripts are made of.
+// The lines of which scripts are made.
 const LINES: [(&str, Line); 5] = [
     ("send 20 01\n", Line::Send(Sub::First)),
     ("send 21 02\n", Line::Send(Sub::Second)),
@@ -201,8 +199,8 @@ const LINES: [(&str, Line); 5] = [
     ("close 1 0\n", Line::CloseFirst),
 ];
 
-// Asserts what the script of so many lines comes to, and what is written of it. A number tells the lines
-// by its digits to the base 5, the last one first.
+// Asserts the result and the transcript of a script of `lines` lines. The digits of `number` to the base 5
+// choose the lines, the last digit first.
 fn assert_script(rt: &impl Host, lines: u32, number: u32) {
     let mut script = String::new(rt.alloc());
     let mut end_system = EndSystem::new(rt.alloc());

@@ -10,18 +10,17 @@ use std::io::{self, Read, Write};
 pub use std::process::Abort;
 use tx_script::{LineFault, RunFault, Summary, run_script};
 
-/// The runtime of a test, which asserts and gives memory.
+/// The runtime of a test, which asserts and allocates.
 pub trait Host: Abort + AllocGlobal {}
 
 impl<R: Abort + AllocGlobal> Host for R {}
 
-/// Asserts that two values are the same. A test that calls this has a short proof, since an assertion
-/// of its own is long to prove.
+/// Asserts that two values are the same.
 pub fn assert_same<V: PartialEq + Debug + Copy>(rt: &impl Abort, told: V, wanted: V) {
     assert_eq!(rt; told, wanted);
 }
 
-/// Asserts that two values are the same, and prints the place where they are not.
+/// Asserts that two values are the same, and prints the place if they are not.
 pub fn assert_same_at<V: PartialEq + Debug + Copy, P: Debug + Copy>(
     rt: &impl Abort,
     told: V,
@@ -31,7 +30,7 @@ pub fn assert_same_at<V: PartialEq + Debug + Copy, P: Debug + Copy>(
     assert_eq!(rt; told, wanted, "at {place:?}");
 }
 
-/// Gives `most` bytes a call at most, and fails once between two parts of its text, if it is to.
+/// Gives at most `most` bytes a call, and returns `failure` once between two parts of its text.
 #[derive(Drop)]
 pub struct Failing<'a> {
     pub before: &'a [u8],
@@ -41,7 +40,7 @@ pub struct Failing<'a> {
 }
 
 impl Failing<'_> {
-    /// One that fails at the end of its text.
+    /// A reader that fails at the end of its text.
     pub fn at_end(before: &[u8], kind: ErrorKind) -> Failing<'_> {
         Failing {
             before,
@@ -65,14 +64,14 @@ impl Read for Failing<'_> {
     }
 }
 
-/// How the writer below answers the call that it doesn't take.
+/// The answer to the write that the writer below refuses.
 #[derive(Clone, Copy, Debug)]
 pub enum Answer {
     Error(ErrorKind),
     Nothing,
 }
 
-/// Takes each write but the one with this number, counted from 1. It counts writes and flushes.
+/// Accepts each write but number `number`, counted from 1. It counts writes and flushes.
 #[derive(Drop)]
 pub struct Lapsing {
     number: usize,
@@ -143,17 +142,14 @@ port = [
 ]
 ";
 
-/// Texts, one after the other.
 pub fn joined(rt: &impl Host, parts: &[&str]) -> String {
     parts.concat(rt.alloc()).expect(rt, "memory")
 }
 
-/// The same text, `many` times.
 pub fn repeated(rt: &impl Host, part: &str, many: usize) -> String {
     part.repeat(rt.alloc(), many).expect(rt, "memory")
 }
 
-/// A text with changes.
 pub fn changed(rt: &impl Host, text: &str, changes: &[(&str, &str)]) -> String {
     let mut changed = joined(rt, &[text]);
     for &(old, new) in changes {
@@ -162,12 +158,11 @@ pub fn changed(rt: &impl Host, text: &str, changes: &[(&str, &str)]) -> String {
     changed
 }
 
-/// A text in version 2, with changes.
 pub fn version_2(rt: &impl Host, text: &str, changes: &[(&str, &str)]) -> String {
     changed(rt, &joined(rt, &["version = 2\n", text]), changes)
 }
 
-/// Asserts what `check` comes to, and what it writes.
+/// Asserts the result of `check`, and what it writes.
 pub fn assert_check(
     rt: &impl Host,
     reader: impl Read + Drop,
@@ -180,7 +175,7 @@ pub fn assert_check(
     assert_same(rt, report.as_slice(), wanted_report.as_bytes());
 }
 
-/// What a run comes to.
+/// The result of a run.
 pub type Ran = Result<Summary, RunFault>;
 
 pub fn sums(accepted: u64, refused: u64, frames: u64) -> Summary {
@@ -195,20 +190,20 @@ pub fn at_line(line: u64, fault: LineFault) -> RunFault {
     RunFault::Line { line, fault }
 }
 
-/// What a script over the demonstration configuration comes to.
+/// Runs a script over the demonstration configuration.
 pub fn run(rt: &impl Host, script: impl Read + Drop, text: &mut impl Write) -> Ran {
     let config = demo_config(rt.alloc()).expect(rt, "memory");
     run_script(rt.alloc(), config, script, text)
 }
 
-/// The same, and what it writes.
+/// The same. Returns the transcript, too.
 pub fn transcript(rt: &impl Host, script: impl Read + Drop) -> (Ran, Vec<u8>) {
     let mut text = Vec::new(rt.alloc());
     let ran = run(rt, script, &mut text);
     (ran, text)
 }
 
-/// The same of a script over another configuration, by its text.
+/// The same over another configuration, by its text.
 pub fn transcript_over(rt: &impl Host, plan: &str, script: &str) -> (Ran, Vec<u8>) {
     let config = read_config(rt.alloc(), plan.as_bytes()).expect(rt, "a plan");
     let mut text = Vec::new(rt.alloc());
@@ -216,15 +211,14 @@ pub fn transcript_over(rt: &impl Host, plan: &str, script: &str) -> (Ran, Vec<u8
     (ran, text)
 }
 
-/// Asserts what a script over the demonstration configuration comes to, and what it writes. A test that
-/// calls this has a short proof, since it keeps no writer of its own.
+/// Asserts the result and the transcript of a script over the demonstration configuration.
 pub fn assert_run(rt: &impl Host, script: impl Read + Drop, wanted: Ran, wanted_text: &str) {
     let (told, text) = transcript(rt, script);
     assert_same(rt, told, wanted);
     assert_same(rt, text.as_slice(), wanted_text.as_bytes());
 }
 
-/// The same of a script over another configuration.
+/// The same over another configuration.
 pub fn assert_run_over(rt: &impl Host, plan: &str, script: &str, wanted: Summary, lines: &str) {
     let (told, text) = transcript_over(rt, plan, script);
     assert_same(rt, told, Ok(wanted));
@@ -238,7 +232,7 @@ pub const NETS: [Net; 2] = [("A", "20"), ("B", "40")];
 
 pub type Written = Result<(), AllocError>;
 
-// What a line on a network begins with: a moment, and the Ethernet header of a virtual link.
+// The beginning of a frame's line: the time, and the Ethernet header of a virtual link.
 fn push_head(text: &mut String, net: Net, at: u64, vl: u16) -> Written {
     let (name, byte_11) = net;
     write!(text, "{name} {at} 03000000{vl:04x}0200000001{byte_11}0800")
@@ -250,7 +244,7 @@ fn push_frame(text: &mut String, net: Net, number: u8, packet: &str) -> Written 
     writeln!(text, "{packet:0<90}{number:02x}")
 }
 
-/// The lines of A, and then those of B, of frames of virtual link 1 that went out a gap apart: of each its
+/// The lines of A, and then those of B, of frames of virtual link 1, released a gap apart: of each its
 /// IPv4 packet in hexadecimal.
 pub fn frame_lines(rt: &impl Host, packets: &[&str]) -> String {
     let mut text = String::new(rt.alloc());
@@ -263,13 +257,13 @@ pub fn frame_lines(rt: &impl Host, packets: &[&str]) -> String {
 }
 
 /// Asserts that each message of a script over a configuration is accepted, of which there are `many`, and
-/// which frames go out.
+/// which frames are sent.
 pub fn assert_frames(rt: &impl Host, plan: &str, script: &str, many: u64, packets: &[&str]) {
     let wanted = sums(many, 0, packets.len() as u64);
     assert_run_over(rt, plan, script, wanted, &frame_lines(rt, packets));
 }
 
-/// A message of one byte that went out as a frame of 60 bytes: its moment, the identification and the
+/// A message of one byte that was sent as a frame of 60 bytes: its time, the identification and the
 /// checksum of the IPv4 header, the byte and the sequence number.
 pub type OneByte = (u64, u16, u16, u8, u8);
 
@@ -305,8 +299,8 @@ pub fn expected(rt: &impl Host, notes: &str, sent: &[OneByte]) -> String {
     expected_on(rt, &NETS, notes, sent)
 }
 
-/// Asserts what a script over the demonstration configuration comes to, its notes, and which messages
-/// go out.
+/// Asserts the result of a script over the demonstration configuration, its notes, and which messages are
+/// sent.
 pub fn assert_sent(
     rt: &impl Host,
     script: impl Read + Drop,

@@ -1,6 +1,6 @@
-//! Tests of scripts: their lines, their running over whole end systems, and what is written of it. Every
-//! short script runs against an end system that is told again as bounded lists. And tests of the program's
-//! other parts: its words, the reports on a plan, failures and exit statuses.
+//! Tests of scripts: their lines, whole runs, and their transcripts. Every short script runs against a model
+//! made of bounded lists. And tests of the program's other parts: its words, the reports on a plan, failures
+//! and exit statuses.
 #![tactic(auto)]
 
 #[cfg(test)]

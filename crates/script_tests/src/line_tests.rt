@@ -17,7 +17,6 @@ close 1 0 => Close { vl: 1, sub: 0 }
 # note => Nothing
  #send 10 0g => Nothing";
 
-// Asserts what a line says.
 fn assert_says(rt: &impl Host, line: &str, wanted: &str) {
     let said = read_line(rt.alloc(), line.as_bytes()).expect(rt, wanted);
     let text = format!(in rt.alloc(); "{said:?}").expect(rt, wanted);
@@ -93,8 +92,6 @@ fn a_line_of_20_001_bytes_is_long(rt: HostRuntime) {
     }
 }
 
-// Asserts the next line of a reader. A test that calls this has a short proof, since it learns nothing
-// of the reader.
 fn assert_line<R: Read + Drop>(
     rt: &impl Abort,
     bytes: &mut Bytes<R>,
@@ -115,7 +112,7 @@ fn lines_lose_their_ends(rt: HostRuntime) {
     assert_same(&rt, next_line(&mut bytes, &mut line), Ok(Next::End));
 }
 
-// Asserts what a text begins with: many blanks, and an end after them. How long its first line is.
+// Asserts what a text of blanks and an end begins with. Returns the length of its first line.
 fn assert_first(rt: &impl Host, blanks: usize, end: &str, wanted: Next) -> usize {
     let text = joined(rt, &[&repeated(rt, " ", blanks), end]);
     let mut line = Vec::new(rt.alloc());

@@ -11,7 +11,7 @@ fn long_send(rt: &impl Host) -> String {
     )
 }
 
-// Asserts that this message goes out as two frames, of which the first has this UDP checksum.
+// Asserts that this message is sent as two frames, of which the first has this UDP checksum.
 fn assert_long(rt: &impl Host, plan: &str, checksum: &str) {
     let header = "450005d4000020000111a8370a000101e0e0000103e807d005c8";
     let first = joined(rt, &[header, checksum, &repeated(rt, "aa", 1_464)]);
@@ -42,7 +42,7 @@ fn plan_with(rt: &impl Host, end: &str) -> String {
     version_2(rt, DEMO, &[("max = 8192", end)])
 }
 
-// The end of a port's table that asks for checksums.
+// The end of a port's table that turns checksums on.
 const WITH: &str = "max = 8192\nchecksum = 'udp'";
 
 #[test]
@@ -70,7 +70,7 @@ fn the_first_of_two_frames_carries_the_checksum_of_both(rt: HostRuntime) {
     assert_long(&rt, &plan_with(&rt, WITH), "5219");
 }
 
-// A message of one byte over a link with this end of its table, whose frame goes out on these networks.
+// A message of one byte over a link with this end of its table, whose frame is sent on these networks.
 fn assert_nets(rt: &impl Host, end: &str, nets: &[Net]) {
     let plan = version_2(rt, DEMO, &[("capacity = 2", end)]);
     let wanted = expected_on(rt, nets, "", &[FIRST]);
@@ -90,7 +90,7 @@ fn a_link_on_both_is_handed_to_both(rt: HostRuntime) {
     }
 }
 
-// Asserts which messages go out, each of a script over the demonstration with changes.
+// Asserts which messages are sent of a script over the demonstration with changes.
 fn assert_each(rt: &impl Host, changes: &[(&str, &str)], script: &str, sent: &[OneByte]) {
     let plan = changed(rt, DEMO, changes);
     let many = sent.len() as u64;
@@ -154,7 +154,7 @@ fn greatest_plan(text: &mut String) -> Written {
     Ok(())
 }
 
-// A port sends 256 messages of one byte, which are all that its queue holds, and one more.
+// A port sends 256 messages of one byte, which fill its queue, and one more.
 fn push_sends(script: &mut String, port: u16) -> Written {
     for message in 0..=255u8 {
         writeln!(script, "send {port} {message:02x}")?;
@@ -174,7 +174,7 @@ fn greatest_script(script: &mut String) -> Written {
     Ok(())
 }
 
-// The lines of a network: at each poll one frame of each link, in the order of the plan. At its poll number k
+// The lines of a network: at each poll one frame of each link, in the order of the plan. At poll number k
 // a link's sub-VLs take turns, so it releases message k / 4 of sub-VL k % 4, and its identification is k. The
 // header checksum goes down by one for each one that the address and the identification go up.
 fn push_polls(text: &mut String, net: Net) -> Written {

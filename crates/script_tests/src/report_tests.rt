@@ -25,15 +25,15 @@ port 2: link 7 sub 3, partition 0, queuing, 65535 to 1, max 1, multicast
 jitter 169760 ns, limit 500000
 ";
 
-// Asserts the report on the demonstration in version 2, with more behind a key, and more behind the words of
-// the report that tell it.
+// Asserts the report on the demonstration in version 2 with more text after a key, whose line has more text
+// after some words.
 fn assert_more(rt: &impl Host, key: (&str, &str), told: (&str, &str)) {
     let plan = version_2(rt, DEMO, &[(key.0, &joined(rt, &[key.0, key.1]))]);
     let report = changed(rt, REPORT, &[(told.0, &joined(rt, &[told.0, told.1]))]);
     assert_check(rt, plan.as_bytes(), Ok(()), &report);
 }
 
-// What the table of a port may say of its checksum, and what its line tells then.
+// More keys in the table of a port, and the end of its line.
 const CHECKSUMS: [(&str, &str); 3] = [
     ("", ""),
     ("\nchecksum = 'none'", ""),
@@ -62,7 +62,7 @@ fn the_line_of_a_link_on_one_network_says_so(rt: HostRuntime) {
     }
 }
 
-// Each line tells of its own link: the first is on B, the second on A.
+// Each line is of its own link: the first is on B, the second on A.
 #[test]
 fn links_on_one_network_each_are_told_apart(rt: HostRuntime) {
     let changes = [

@@ -4,7 +4,7 @@ use crate::line_tests::{FAULTS, LINES};
 use std::io::Write;
 use tx_script::{LineFault, RunFault};
 
-/// What is written of the message 01 that went out at 0.
+/// The lines of the message 01, sent at 0.
 pub const FIRST_LINES: &str = "\
     A 0 03000000000102000000012008004500001d000000000111cdee0a000101e0e0000103e807d\
     000090000010000000000000000000000000000000000\n\
@@ -43,7 +43,7 @@ fn a_full_queue_refuses_a_message_until_a_frame_went_out(rt: HostRuntime) {
     assert_sent(&rt, script.as_slice(), Ok(sums(3, 1, 3)), notes, &sent);
 }
 
-// An empty message, one that is too long, one of no port, and then one that is taken.
+// An empty message, one that is too long, one of no port, and then one that is accepted.
 #[test]
 fn a_refused_message_takes_no_identification(rt: HostRuntime) {
     let rest = "\nsend 99 01\nsend 10 07\nat 0\n";
@@ -65,7 +65,7 @@ fn an_earlier_moment_is_refused_and_an_equal_one_is_not(rt: HostRuntime) {
     assert_sent(&rt, script.as_slice(), Ok(sums(2, 1, 1)), notes, &last);
 }
 
-// Adds the message 01 and a poll, a gap apart, so often that the numbers begin again, and the frames of these.
+// Adds the message 01 and a poll, a gap apart, until the numbers begin again, and the frames of these.
 fn push_257(script: &mut String, frames: &mut Vec<OneByte>) -> Written {
     for place in 0..257u16 {
         let at = 1_000 * u64::from(place);
@@ -110,7 +110,6 @@ fn notes_and_frames_so_far_are_written_after_a_fault(rt: HostRuntime) {
     assert_sent(&rt, reader, Err(RunFault::Read), notes, &[FIRST]);
 }
 
-// A script over a writer with this room.
 fn run_within(rt: &impl Host, mut room: &mut [u8], script: &[u8]) -> Ran {
     run(rt, script, &mut room)
 }

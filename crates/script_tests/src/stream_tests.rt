@@ -2,17 +2,17 @@
 use crate::helpers::*;
 use tx_script::{LineFault, RunFault, Summary};
 
-// The lines of the first message, of the one byte 01, that went out at a moment.
+// The lines of the first message, of the one byte 01, sent at a time.
 fn first_at(rt: &impl Host, at: u64) -> String {
     expected(rt, "", &[(at, 0, 0xcdee, 1, 0)])
 }
 
-// Two messages, of which the first goes out at the last moment, and an earlier moment.
+// Two messages, of which the first is sent at the last time, and an earlier time.
 const LATE: &str = "send 10 01\nsend 10 02\nat 18446744073709551615\n\
     at 18446744073709551615\nat 5\n";
 
-// What is written of `LATE` where `bytes` bytes of it were read: the frame once the third line was, and a note
-// once the last was.
+// The transcript of the first `bytes` bytes of `LATE`: the frame from the third line on, and a note from
+// the last.
 fn late_text(rt: &impl Host, bytes: usize) -> String {
     let late = [(u64::MAX, 0, 0xcdee, 1, 0)];
     let is_read = bytes >= 75;
@@ -65,14 +65,14 @@ fn a_reader_that_fails_at_any_byte_ends_the_run_there(rt: HostRuntime) {
     }
 }
 
-// What a script comes to over a writer that fails at this write, and the writer.
+// Runs a script over a writer that fails at this write. Returns the writer, too.
 fn run_lapsing(rt: &impl Host, script: &str, number: usize) -> (Ran, Lapsing) {
     let mut writer = Lapsing::new(rt, number, Answer::Error(ErrorKind::Other));
     let told = run(rt, script.as_bytes(), &mut writer);
     (told, writer)
 }
 
-// Asserts that a writer which fails at any write of a script's run ends it, and is asked no more.
+// Asserts that a writer which fails at any write of a script's run ends it, and is not called again.
 fn assert_limited(rt: &impl Host, script: &str, wanted: Summary) {
     let (told, whole) = run_lapsing(rt, script, 0);
     assert_same(rt, told, Ok(wanted));
@@ -101,7 +101,7 @@ fn lines_may_end_in_carriage_returns_and_have_many_blanks(rt: HostRuntime) {
     assert_run(&rt, script.as_slice(), Ok(sums(1, 0, 1)), &wanted);
 }
 
-// Asserts what a run with a third line comes to, once the first two sent a message.
+// Asserts the result of a run with a third line, after two that sent a message.
 fn assert_third(rt: &impl Host, line: &[u8], wanted: Ran) {
     let parts = [b"send 10 01\nat 0\r\n".as_slice(), line];
     let script = parts.concat(rt.alloc()).expect(rt, "memory");
@@ -127,7 +127,7 @@ fn odd_bytes_are_no_words_and_no_numbers(rt: HostRuntime) {
     }
 }
 
-// What the first bytes of a script come to: a fault, or none.
+// The fault of the first bytes of a script, if they have one.
 fn prefix_fault(bytes: usize) -> Option<RunFault> {
     match bytes {
         0 | 10 | 11 | 15 | 16 => None,
@@ -148,7 +148,7 @@ fn each_prefix_of_a_script_has_its_fault_or_none(rt: HostRuntime) {
     }
 }
 
-// Asserts what a run comes to whose third line begins with many blanks.
+// Asserts the result of a run whose third line begins with many blanks.
 fn assert_long(rt: &impl Host, blanks: usize, end: &str, wanted: Ran) {
     let line = joined(rt, &[&repeated(rt, " ", blanks), end]);
     assert_third(rt, line.as_bytes(), wanted);

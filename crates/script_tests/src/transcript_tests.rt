@@ -79,7 +79,7 @@ fn a_summary_counts_what_became_of_lines(rt: HostRuntime) {
     assert_same(&rt, one.count(Outcome::Closed(3)), one);
 }
 
-// Why a line is refused while running, and the name that a note has of it.
+// Why a line is refused at run time, and its name in a note.
 const REFUSALS: [(Refusal, &str); 8] = [
     (Refusal::Empty, "Empty"),
     (Refusal::TooLong, "TooLong"),

@@ -4,7 +4,7 @@ use bench_words::{Words, parse, tell_words};
 use clap::Error;
 use plan_report::End;
 
-// What the words of a line ask for. It is split at its blanks, after the program's name.
+// Parses a line, which is split at its blanks, after the program's name.
 fn parsed(rt: &impl Host, line: &str) -> Result<Words, Error> {
     let mut words = Vec::new(rt.alloc());
     words.push(joined(rt, &["afdx_bench"])).expect(rt, "memory");
@@ -14,14 +14,13 @@ fn parsed(rt: &impl Host, line: &str) -> Result<Words, Error> {
     parse(rt.alloc(), words.as_slice())
 }
 
-// Asserts what the words of a line ask for.
 fn assert_asks(rt: &impl Host, line: &str, wanted: &str) {
     let words = parsed(rt, line).ok().expect(rt, line);
     let text = format!(in rt.alloc(); "{words:?}").expect(rt, line);
     assert_same(rt, text.as_str(), wanted);
 }
 
-// Words, and what they ask for.
+// Command lines, and their commands.
 const COMMANDS: &str = " => Script
 check a.toml => Check { config: \"a.toml\" }
 explain a.toml => Explain { config: \"a.toml\" }
@@ -43,7 +42,7 @@ fn each_command_has_its_words(rt: HostRuntime) {
     }
 }
 
-// Asserts how the program ends at a line whose words ask for no command.
+// Asserts how the program ends at a line that has no command.
 fn assert_ends(rt: &(impl Host + Print + Eprint), line: &str, end: End) {
     let error = parsed(rt, line).err().expect(rt, line);
     assert_same_at(rt, tell_words(rt, &error), end, line);

@@ -1,7 +1,7 @@
 //! Storms over networks that fail.
 use crate::plans::*;
 
-// All was sent, and the networks were handed these many frames.
+// All was sent, and the networks have this many frames.
 fn assert_unequal(rt: &impl Abort, report: &StormReport, a: usize, b: usize) {
     assert_same(rt, report.accepted, 400);
     assert_same(rt, (report.equal, report.back), (false, false));

@@ -3,10 +3,10 @@ use std::sync::atomic::{AtomicU64, Ordering};
 use std::thread;
 use storm::Gate;
 
-// How often a thread looks at a count at most.
+// How often a thread loads a count at most.
 const LOOKS: u64 = 100_000_000;
 
-/// What threads count up together.
+/// A count that threads share.
 #[derive(Drop)]
 pub struct Count(AtomicU64);
 
@@ -19,41 +19,41 @@ impl Count {
         self.0.load(Ordering::SeqCst)
     }
 
-    // Adds to it. What it was before.
+    // Adds to it. Returns its value before.
     fn add(&self, more: u64) -> u64 {
         self.0.fetch_add(more, Ordering::SeqCst)
     }
 
-    // Waits until it has come so far, unless that takes too many looks. Whether it has.
+    // Waits until it is `least` or more, at most `LOOKS` loads long. Returns whether it is.
     fn reaches(&self, least: u64) -> bool {
         for _look in 0..LOOKS {
             if self.get() >= least {
                 return true;
             }
-            // (those that are still to count have the processor meanwhile)
+            // (the threads that are still to count have the processor meanwhile)
             thread::yield_now();
         }
         false
     }
 }
 
-/// What a gate waits for.
+/// The condition that a gate waits for.
 #[derive(Clone, Copy)]
 pub enum Until {
-    /// The first call of each worker waits until those of all have entered, of which there are so many.
+    /// The first call of each worker waits until this many workers have entered.
     Entered(u64),
-    /// The first call of each worker waits until the main thread has polled so often.
+    /// The first call of each worker waits until the main thread has polled this often.
     Polled(u64),
-    /// The first call of each worker waits until the watcher has read each of two links so often.
+    /// The first call of each worker waits until the watcher has read each of two links this often.
     Read(u64),
     /// The main thread waits after a poll until a message was accepted, and a worker before its call of
-    /// this number until a frame was released. So one frame at least isn't left for the drain.
+    /// this number until a frame was released. So at least one frame isn't left for the drain.
     Released(u32),
-    /// One worker isn't let in at one call.
+    /// One worker is refused at one call.
     Never { worker: usize, call: u32 },
 }
 
-/// A gate that counts what comes to it, and holds the workers until something has come so far.
+/// A gate that counts its calls, and holds the workers until a condition is met.
 #[derive(Drop)]
 pub struct Holding {
     until: Until,
@@ -118,8 +118,8 @@ impl Gate for Holding {
     }
 }
 
-/// Follows the one worker of a storm. In each of its calls it waits for some polls, after which the
-/// frames of just those messages were released that were accepted before the call.
+/// Follows the one worker of a storm. Each of its calls waits for some polls, after which exactly the
+/// frames of the messages that were accepted before the call are released.
 #[derive(Drop)]
 pub struct Following {
     polls: Count,
@@ -140,10 +140,10 @@ impl Following {
         }
     }
 
-    // The worker calls, so many of its calls before this one, when so many messages were accepted.
+    // The worker's call after `before` others, when `accepted` messages were accepted.
     fn follow(&self, before: u64, accepted: u64) {
         let calls = self.calls.add(1);
-        // Of these polls the second at the latest was begun after the call.
+        // Of these polls the second at the latest began after the call.
         let is_polled = self.polls.reaches(self.polls.get().saturating_add(3));
         if !is_polled || calls != before || self.frames.get() != accepted {
             self.wrong.add(1);

@@ -1,8 +1,8 @@
 //! Storms over links of which one is on one network alone.
 use crate::plans::*;
 
-// Ten messages of each of the two ports were accepted, sent and counted. The networks were handed
-// these many frames, and are equal or not.
+// Ten messages of each of the two ports were accepted, sent and counted. The networks have this many
+// frames, and are equal or not.
 fn assert_report(rt: &impl Abort, report: &StormReport, handed: (usize, usize), equal: bool) {
     assert_same(rt, report.accepted, 20);
     assert_same(rt, report.links.len(), 2);

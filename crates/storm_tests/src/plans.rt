@@ -11,30 +11,29 @@ use std::thread::Threads;
 pub use storm::{Gate, OpenGate, StormFault, StormReport};
 use storm::{storm, storm_over};
 
-/// The runtime of a test, which asserts, gives memory, starts threads and waits for them.
+/// The runtime of a test, which asserts, allocates, starts threads and waits for them.
 pub trait Host: Abort + AllocGlobal + Threads + Wait + Sync {}
 
 impl<R: Abort + AllocGlobal + Threads + Wait + Sync> Host for R {}
 
-/// Asserts that two values are the same. A test that calls this has a short proof, since an assertion
-/// of its own is long to prove.
+/// Asserts that two values are the same.
 pub fn assert_same<V: PartialEq + Debug + Copy>(rt: &impl Abort, told: V, wanted: V) {
     assert_eq!(rt; told, wanted);
 }
 
-/// Asserts how many frames the networks of a storm were handed.
+/// Asserts how many frames the networks of a storm have.
 pub fn assert_handed(rt: &impl Abort, report: &StormReport, a: usize, b: usize) {
     assert_same(rt, report.a.handed().len(), a);
     assert_same(rt, report.b.handed().len(), b);
 }
 
-/// What was counted of the one link that a report is asserted to be on.
+/// The counts of a report's only link.
 pub fn only_link(rt: &impl Abort, report: &StormReport) -> Counts {
     assert_same(rt, report.links.len(), 1);
     *report.links.first().expect(rt, "one")
 }
 
-/// The plan of a text that is asserted to be one.
+/// The plan of a text.
 pub fn plan_of(rt: &impl Host, text: Result<String, AllocError>) -> Config {
     let text = text.expect(rt, "memory");
     read_config(rt.alloc(), text.as_bytes()).expect(rt, "a valid plan")
@@ -50,8 +49,8 @@ fn push_port(text: &mut String, id: u16, vl: u16, sub: u16, max: u16) -> Result<
     writeln!(text, "source = 1000\ndestination = 2000\nmax = {max}")
 }
 
-/// End system 1 with one link of two sub-VLs with room for so many messages. Ports 1 to 4 are of
-/// partitions 1 to 4, the first two on sub-VL 0. Port 3 sends messages of at most so many bytes.
+/// End system 1 with one link of two sub-VLs of this capacity. Ports 1 to 4 are of partitions 1 to 4, the
+/// first two on sub-VL 0. Port 3 sends messages of at most `max` bytes.
 pub fn small_text(alloc: Global, capacity: u16, max: u16) -> Result<String, AllocError> {
     let mut text = "[end_system]\nid = 1\n".to_string(alloc)?;
     text.push_str("[[vl]]\nid = 1\nbag_ms = 1\nlmax = 1518\nsub_vls = 2\n")?;
@@ -75,8 +74,8 @@ pub fn text_with_link_on_a(alloc: Global) -> Result<String, AllocError> {
     Ok(text)
 }
 
-/// End system 1 with a link for each of these: its identifier, its gap in milliseconds, and how many ports
-/// it has on its one sub-VL. Ports are numbered from 1.
+/// End system 1 with a link for each of these: its identifier, its gap in milliseconds, and the number of
+/// ports on its one sub-VL. Ports are numbered from 1.
 pub fn links_text(alloc: Global, links: &[(u16, u16, u16)]) -> Result<String, AllocError> {
     let mut text = "[end_system]\nid = 1\n".to_string(alloc)?;
     for &(vl, gap, _ports) in links {
@@ -96,7 +95,7 @@ pub fn links_text(alloc: Global, links: &[(u16, u16, u16)]) -> Result<String, Al
 /// How many links the great plan has, with a sub-VL for each of four ports.
 pub const GREAT_LINKS: u16 = 64;
 
-/// The greatest plan: 256 ports on 64 links, each on a sub-VL of its own with room for so many messages.
+/// The greatest plan: 256 ports on 64 links, each on a sub-VL of its own with this capacity.
 pub fn great_text(alloc: Global, capacity: u16) -> Result<String, AllocError> {
     let mut text = "[end_system]\nid = 1\n".to_string(alloc)?;
     for vl in 0..GREAT_LINKS {
@@ -111,10 +110,10 @@ pub fn great_text(alloc: Global, capacity: u16) -> Result<String, AllocError> {
     Ok(text)
 }
 
-/// What comes of a storm.
+/// The result of a storm.
 pub type Ended = Result<StormReport, StormFault>;
 
-/// What comes of a storm in which each port sends so many messages, and each thread may try so often.
+/// Runs a storm in which each port sends `load.0` messages, and each thread may try `load.1` times.
 pub fn storm_of<G: Gate + Sync>(
     rt: &impl Host,
     config: Config,

@@ -3,11 +3,11 @@ use crate::gates::{Holding, Until};
 use crate::plans::*;
 use redundant_mux::MemNetwork;
 
-// How often a thread may try, where it comes to that.
+// How often a thread may try if it has to.
 const TURNS: u64 = 100_000_000;
 
-// A frame holds the next message, numbered from 1, of the port that its partition names. So many calls
-// of each port came before it.
+// A frame holds the next message, numbered from 1, of the port that its partition names, after `calls`
+// messages of each port.
 fn assert_message(rt: &impl Abort, frame: &[u8], calls: &mut [u16; 5], messages: u16) {
     assert!(rt; frame.len() == 60);
     let port = frame[29];
@@ -19,7 +19,7 @@ fn assert_message(rt: &impl Abort, frame: &[u8], calls: &mut [u16; 5], messages:
     calls[usize::from(port)] = call + 1;
 }
 
-// Each port's messages were handed over whole, in its order.
+// Each port's messages were transmitted whole, in its order.
 fn assert_messages(rt: &impl Abort, network: &MemNetwork, messages: u16) {
     let handed = network.handed();
     let all = usize::from(PORTS) * usize::from(messages);
@@ -31,8 +31,8 @@ fn assert_messages(rt: &impl Abort, network: &MemNetwork, messages: u16) {
     assert_same(rt, &calls[1..], [messages; 4].as_slice());
 }
 
-// So many messages of each of the four ports were accepted, sent and counted, and both networks were
-// handed the same.
+// `messages` messages of each of the four ports were accepted, sent and counted, and both networks have
+// the same frames.
 fn assert_report(rt: &impl Abort, report: &StormReport, messages: u16) {
     let sent = u64::from(PORTS) * u64::from(messages);
     assert_same(rt, report.accepted, sent);
@@ -44,23 +44,20 @@ fn assert_report(rt: &impl Abort, report: &StormReport, messages: u16) {
     assert_messages(rt, &report.b, messages);
 }
 
-// The room of each sub-VL of the small plan and its third port's greatest message, and the messages and tries.
+// The capacity of each sub-VL of the small plan and its third port's maximum, and the messages and tries.
 type Setting = ((u16, u16), (u16, u64));
 
-// What comes of a storm over the small plan.
 fn small_storm(rt: &impl Host, setting: Setting, gate: &(impl Gate + Sync)) -> Ended {
     let ((capacity, max), load) = setting;
     let config = plan_of(rt, small_text(rt.alloc(), capacity, max));
     storm_of(rt, config, load, gate)
 }
 
-// Asserts that such a storm sends all its messages.
 fn assert_sent(rt: &impl Host, setting: Setting, gate: &(impl Gate + Sync)) {
     let report = small_storm(rt, setting, gate).expect(rt, "a report");
     assert_report(rt, &report, setting.1.0);
 }
 
-// Asserts that such a storm has a fault.
 fn assert_fault(rt: &impl Host, setting: Setting, gate: &(impl Gate + Sync), fault: StormFault) {
     assert_same(rt, small_storm(rt, setting, gate).err(), Some(fault));
 }
@@ -104,7 +101,7 @@ fn a_gate_that_refuses_ends_its_worker_and_no_other(rt: HostRuntime) {
     assert_same(&rt, gate.accepted.get(), 32);
 }
 
-// Twenty messages of a frame each of all ports were accepted, sent and counted.
+// Twenty messages of one frame of all ports were accepted, sent and counted.
 fn assert_great(rt: &impl Abort, report: &StormReport) {
     assert_same(rt, report.accepted, 256 * 20);
     assert_same(rt, report.links.len(), usize::from(GREAT_LINKS));

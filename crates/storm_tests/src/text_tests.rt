@@ -1,4 +1,4 @@
-//! What the command tells of storms.
+//! What the command prints of storms.
 ghost use Rattle.std.specs.Prelude.{◌≡◌, ◌≤◌, ◌+◌, IfOk, length};
 
 use crate::plans::*;
@@ -9,8 +9,7 @@ use script_text::RunFault;
 use status_board::Counts;
 use storm::{bench_storm, write_totals};
 
-// Asserts what the command comes to over the small plan with this greatest message, and what is written
-// of it.
+// Asserts the result of the command over the small plan with this maximum, and what it writes.
 fn assert_told(rt: &impl Host, max: u16, turns: u64, wanted: Result<(), Failure>, lines: &str)
     requires { (1 ≤ turns) × (turns ≤ 1000000000) }
 {
@@ -69,7 +68,6 @@ fn bad_report(alloc: Global) -> Result<StormReport, AllocError>
     })
 }
 
-// A link with this identifier.
 fn link(id: u16) -> LinkPlan {
     LinkPlan {
         id: VlId(id),

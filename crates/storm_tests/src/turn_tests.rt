@@ -1,21 +1,19 @@
-//! How often the threads of a storm may try, and when a worker asks its gate.
+//! How often the threads of a storm may try, and when a worker calls its gate.
 use crate::gates::{Following, Holding, Until};
 use crate::plans::*;
 
-// What comes of a storm over one link with the greatest gap and so many ports.
+// Runs a storm over one link with the greatest gap and some ports.
 fn slow_storm(rt: &impl Host, ports: u16, load: (u16, u64), gate: &(impl Gate + Sync)) -> Ended {
     let config = plan_of(rt, links_text(rt.alloc(), &[(1, 128, ports)]));
     storm_of(rt, config, load, gate)
 }
 
-// Asserts that it sends all messages.
 fn assert_sent(rt: &impl Host, ports: u16, load: (u16, u64), gate: &(impl Gate + Sync)) {
     let report = slow_storm(rt, ports, load, gate).expect(rt, "a report");
     let all = u64::from(ports) * u64::from(load.0);
     assert_same(rt, (report.accepted, report.equal), (all, true));
 }
 
-// Asserts that it uses up its turns.
 fn assert_used_up(rt: &impl Host, ports: u16, load: (u16, u64), gate: &(impl Gate + Sync)) {
     let fault = slow_storm(rt, ports, load, gate).err();
     assert_same(rt, fault, Some(StormFault::Turns));

@@ -1,4 +1,4 @@
-//! Storms over two links, which are read by a watcher and told in the order of the configuration.
+//! Storms over two links, which a watcher reads and which are reported in the order of the configuration.
 use crate::gates::{Holding, Until};
 use crate::plans::*;
 use storm::bench_storm;
@@ -39,7 +39,7 @@ fn links_are_told_in_the_order_of_the_configuration(rt: HostRuntime) {
     assert_same(&rt, told.as_slice(), REPORT.as_bytes());
 }
 
-// The workers are held until the watcher has read both links as often as it is to.
+// The workers are held until the watcher has read both links as often as it has to.
 #[test]
 fn a_watcher_reads_each_link_while_the_workers_are_held(rt: HostRuntime) {
     let config = plan_of(&rt, links_text(rt.alloc(), &LINKS));
