@@ -19,8 +19,7 @@ use Rattle.script_text.specs.declared.refusal.Refusal.TheVariants.{NoSub}
 use Rattle.tx_script.specs.AtBench.{AtBench, IsAtHand, Obeys, progress_of, MatchesTx}
 use Rattle.tx_script.specs.EndSystem.{EndSystem}
 use Rattle.tx_script.specs.Play.{Answer, tells, fills, told_by, closed_at, link_of, ClosesAt}
-use Rattle.tx_script.proofs.AtHand.{asked_on}
-use Rattle.tx_script.proofs.Matched.{still_planned}
+use Rattle.tx_script.proofs.Matched.{asked_on, still_planned}
 use Rattle.tx_script.proofs.Sending.{obeys_still}
 
 -- a total stays if a queue was closed before, and if a line closes another

@@ -1,19 +1,22 @@
 -- What is known of a run once its ports are taken back: polls found the first of what was sent, and closes reported
 -- the totals.
-use Rattle.std.proofs.Common.{ℕ, ◌≡◌, ◌<◌, List, [], ◌∷◌, ◌++◌, Bool, true, false, if◌then◌else◌, nat_eq, length, get_or, append_assoc, arith, refl, ap, ◌∙◌, sym, subst, inl, inr}
+use Rattle.std.proofs.Common.{ℕ, zero, suc, ◌≡◌, ◌≢◌, ◌+◌, ◌<◌, Bool, true, false, if◌then◌else◌, List, [], ◌∷◌, length, arith, refl, ap, ◌∙◌, sym, ⊎_elim, ◌++◌, nat_eq, get_or, append_assoc, subst, inl, inr}
 use Rattle.std.specs.Prelude.{All}
-use Rattle.std.proofs.lemmas.Bool.{cases_lt, eqb-true, and_parts}
-use Rattle.std.proofs.lemmas.List.{get_or_past, get_or_append_left, length-append, map-append}
-use Rattle.std.proofs.lemmas.List.Elements.{All-weaker, Contains-get_or}
+use Rattle.std.specs.Cmp.Derive.{both_true}
+use Rattle.std.proofs.lemmas.Bool.{cases_eq, eq-eqb, ne_eqb, cases_lt, eqb-true, and_parts}
+use Rattle.std.proofs.lemmas.List.{get_or_default, get_or_past, get_or_append_left, length-append, map-append}
+use Rattle.std.proofs.lemmas.List.Elements.{All-tail, All-weaker, Contains-get_or}
 use Rattle.afdx_plan.specs.Config.{Plan, IsPlan, link_plan_at, port_plan_at}
-use Rattle.afdx_plan.specs.Places.{link_place}
-use Rattle.afdx_plan.specs.declared.identifiers.VlId.{VlId}
+use Rattle.afdx_plan.specs.declared.identifiers.PortId.{PortId}
 use Rattle.afdx_plan.specs.declared.port_plan.PortPlan.{PortPlan}
 use Rattle.afdx_frame.specs.Fragments.{Sent}
+use Rattle.afdx_legal.specs.Allowed.{IsAllowed, messages_of, AreAllowed, port_messages}
+use Rattle.tx_script.specs.Play.{Messages, is_on, accepted_among, AnsweredLine, Play, FindsFirst, IsTotal, AreTotals, ClosesAt, found}
+use Rattle.afdx_plan.specs.Places.{link_place}
+use Rattle.afdx_plan.specs.declared.identifiers.VlId.{VlId}
 use Rattle.vl_link.specs.LinkGathering.{BecomesWhole}
 use Rattle.vl_link.specs.Links.{nothing_held, no_link, Held, held_at, link_at, sent_of, sent_by}
 use Rattle.vl_link.specs.Seen.{Seen, receiving, gathered, taken_of, known_of}
-use Rattle.afdx_legal.specs.Allowed.{IsAllowed, AreAllowed, messages_of, port_messages}
 use Rattle.afdx_tx.specs.Closing.{IsSubAt}
 use Rattle.afdx_tx.specs.Drain.{accepted_in}
 use Rattle.afdx_tx.specs.Emitter.{Tx, taken_in}
@@ -26,8 +29,67 @@ use Rattle.script_text.specs.declared.line.Line.{Line}
 use Rattle.script_text.specs.declared.line.Line.TheVariants.{Close}
 use Rattle.tx_script.specs.AtBench.{AtBench, IsAtHand, Matches, OnlyTakes, TellsTotal, AreTold, IsGathered}
 use Rattle.tx_script.specs.EndSystem.{Progress}
-use Rattle.tx_script.specs.Play.{AnsweredLine, Play, FindsFirst, IsTotal, AreTotals, ClosesAt, found, is_on}
-use Rattle.tx_script.proofs.Totals.{each_port, among_same, counted}
+
+-- the messages of each port among some
+abbrev pub each_port : Plan → List Sent → Messages
+each_port plan sents place = messages_of (port_plan_at plan.ports place) sents
+
+module _ (plan : Plan) (vl sub : ℕ) where
+  -- As many of each port on a sub-VL are as many on the sub-VL.
+  pub among_same : (a b : Messages) (many : ℕ)
+      → ((k : ℕ) → k < many → is_on vl sub (port_plan_at plan.ports k) ≡ true → length (a k) ≡ length (b k))
+      → accepted_among plan a vl sub many ≡ accepted_among plan b vl sub many
+  among_same a b zero each = refl
+  among_same a b (suc k) each =
+      by (is_on vl sub (port_plan_at plan.ports k)) (each k (omega arith)) (among_same a b k (λ j lt. each j (omega arith)))
+    where
+      by : (on : Bool) → (on ≡ true → length (a k) ≡ length (b k)) → accepted_among plan a vl sub k ≡ accepted_among plan b vl sub k
+          → accepted_among plan a vl sub k + (if on then length (a k) else 0)
+          ≡ accepted_among plan b vl sub k + (if on then length (b k) else 0)
+      by true same front = omega (arith, same refl)
+      by false same front = omega arith
+
+  -- one more of a port on it is one more on the sub-VL
+  among_more : (a b : Messages) (at many : ℕ) → is_on vl sub (port_plan_at plan.ports at) ≡ true
+      → length (a at) ≡ length (b at) + 1 → ((k : ℕ) → k < many → k ≢ at → length (a k) ≡ length (b k)) → at < many
+      → accepted_among plan a vl sub many ≡ accepted_among plan b vl sub many + 1
+  among_more a b at zero on one others lt = absurd (omega arith)
+  among_more a b at (suc k) on one others lt = ⊎_elim
+      (λ (e : k ≡ at).
+      let front = among_same a b k (λ j less its. others j (omega arith) (λ is. absurd (omega arith))) in
+      rw (e, on) (rw (← e) (omega (arith, rw (← e) at one))))
+      (λ (ne : k ≢ at).
+      let front = among_more a b at k on one (λ j less. others j (omega arith)) (omega arith) in
+      rw (others k (omega arith) ne) (omega arith))
+      (cases_eq k at)
+
+  -- of no messages there are none
+  among_none : (many : ℕ) → accepted_among plan (each_port plan []) vl sub many ≡ 0
+  among_none zero = refl
+  among_none (suc k) =
+      let last = elim (is_on vl sub (port_plan_at plan.ports k)) as
+      (λ on. ◌≡◌ {A = ℕ} (if on then 0 else 0) 0) [ true ↦ refl | false ↦ refl ] in
+      rw (among_none k, last) refl
+
+-- The messages of a sub-VL are those of its ports.
+pub counted : (plan : Plan) (k sub : ℕ) (sents : List Sent) → IsPlan plan → All (IsAllowed plan k sub) sents
+    → accepted_among plan (each_port plan sents) (link_plan_at plan.links k).id.0 sub (length plan.ports) ≡ length sents
+counted plan k sub [] valid all = among_none plan (link_plan_at plan.links k).id.0 sub (length plan.ports)
+counted plan k sub (sent ∷ more) valid all =
+    let first : IsAllowed plan k sub sent = all 0 sent (omega arith) in
+    let at : ℕ = first.port.0 in
+    let port : port_plan_at plan.ports at ≡ sent.port =
+    get_or_default plan.ports at (port_plan_at [] 0) sent.port first.port.1 ∙ first.port.2 in
+    let number : (port_plan_at plan.ports at).id.0 ≡ sent.port.id.0 = ap (λ (p : PortPlan). p.id.0) port in
+    let on : is_on (link_plan_at plan.links k).id.0 sub sent.port ≡ true =
+    both_true (eq-eqb _ _ first.over) (eq-eqb _ _ first.its) in
+    among_more plan (link_plan_at plan.links k).id.0 sub (each_port plan (sent ∷ more)) (each_port plan more) at
+    (length plan.ports) (rw port on) (rw (eq-eqb _ _ (sym number)) (omega arith))
+    (λ j less ne. rw (ne_eqb sent.port.id.0 (port_plan_at plan.ports j).id.0
+    (λ e. ne (valid.ports_apart j at less first.port.1
+    (ap (λ (n : ℕ). let made : PortId = record { 0 = n } in made) (sym e ∙ sym number))))) refl)
+    first.port.1
+    ∙ rw (counted plan k sub more valid (All-tail (IsAllowed plan k sub) sent more all)) (omega arith)
 
 -- the port at a place, whatever the value after the last
 some_port : (ports : List PortView) (place : ℕ) → place < length ports → PortView

@@ -1,9 +1,6 @@
-mod AtHand
 mod Closing
-mod EndLemmas
 mod Finding
 mod Matched
 mod Polling
 mod RunLemmas
 mod Sending
-mod Totals

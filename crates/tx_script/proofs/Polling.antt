@@ -29,8 +29,7 @@ use Rattle.script_text.specs.declared.outcome.Outcome.TheVariants as Became
 use Rattle.tx_script.specs.EndSystem.{Progress, EndSystem, started, SendsFrame, progress_view, HasTurnAt, HasPolled}
 use Rattle.tx_script.specs.AtBench.{AtBench, IsPlannedLink, progress_of, MatchesTx, Obeys, OnlyTakes}
 use Rattle.tx_script.specs.Play.{leaves}
-use Rattle.tx_script.proofs.AtHand.{asked_on}
-use Rattle.tx_script.proofs.Matched.{same_totals, still_planned}
+use Rattle.tx_script.proofs.Matched.{asked_on, same_totals, still_planned}
 
 -- as many entries as were logged
 log_many : (lines : Lines) → length (log lines) ≡ length lines.logged

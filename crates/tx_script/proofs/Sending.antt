@@ -22,8 +22,7 @@ use Rattle.script_text.specs.Summary.{HasFew}
 use Rattle.tx_script.specs.AtBench.{AtBench, IsAtHand, Matches, Sends, Obeys, ObeysAt}
 use Rattle.tx_script.specs.EndSystem.{EndSystem}
 use Rattle.tx_script.specs.Play.{Answer, Messages, takes, closes, fills, place_of, passed_on, queued, sent_to, script_refusal, outcome_of}
-use Rattle.tx_script.proofs.AtHand.{asked_on, sent_at_hand, asked_more, have_sent}
-use Rattle.tx_script.proofs.Matched.{same_totals}
+use Rattle.tx_script.proofs.Matched.{asked_on, sent_at_hand, asked_more, have_sent, same_totals}
 
 -- a message that the port may send
 may_pass : (port : PortPlan) (size : ℕ) → MaySend port size → length_refusal port size ≡ None

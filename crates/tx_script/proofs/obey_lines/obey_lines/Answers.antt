@@ -1,6 +1,6 @@
 use Rattle.std.proofs.Common.{◌≡◌, arith}
 use Rattle.std.proofs.lemmas.Result.{err_from_is_err_and}
-use Rattle.tx_script.proofs.AtHand.{fresh_asked, asked_on}
+use Rattle.tx_script.proofs.Matched.{fresh_asked, asked_on}
 use Rattle.tx_script.proofs.RunLemmas.{running_none, running_turn, within_more, stop_memory, stop_fault, stop_lines}
 use Rattle.tx_script.proofs.obey_lines.obey_lines.Goals as goal
 

@@ -1,5 +1,5 @@
 use Rattle.std.specs.Prelude.{Ok, Err}
-use Rattle.tx_script.proofs.EndLemmas.{finished, early, plays_by, plays_none}
+use Rattle.tx_script.proofs.RunLemmas.{finished, early, plays_by, plays_none}
 use Rattle.tx_script.proofs.script.play_script.Goals as goal
 
 pub returns-in_default : goal.returns-in_default
