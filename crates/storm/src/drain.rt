@@ -12,15 +12,12 @@ ghost use Rattle.storm.specs.Boards.{cells_of, IsShown};
 use crate::fault::Stop;
 use crate::gate::Gate;
 use crate::polling::STEP;
-use afdx_tx::{Draining, Emitter, TxPort};
-use redundant_mux::Network;
+use crate::run::{StormDraining, StormTx};
+use afdx_tx::TxPort;
 use std::sync::Wait;
 
 /// Takes back all ports and starts draining.
-pub(crate) fn gather_all<A: Network + Drop, B: Network + Drop>(
-    tx: Emitter<A, B>,
-    ports: Vec<TxPort>,
-) -> Draining<A, B>
+pub(crate) fn gather_all(tx: StormTx, ports: Vec<TxPort>) -> StormDraining
     requires opened { AreOpenedWith tx ports.items }
     requires every { HasEveryPlace (length tx.plan.ports) ports.items }
     ensures { IsGatheredTx tx ports.items result }
@@ -32,12 +29,7 @@ pub(crate) fn gather_all<A: Network + Drop, B: Network + Drop>(
 }
 
 /// Polls and publishes. Returns whether a network is up.
-fn drain_once<A: Network + Drop, B: Network + Drop, G: Gate, R: Wait>(
-    rt: &R,
-    draining: &mut Draining<A, B>,
-    gate: &G,
-    now: u64,
-) -> bool
+fn drain_once<G: Gate, R: Wait>(rt: &R, draining: &mut StormDraining, gate: &G, now: u64) -> bool
     requires moment { draining.old.moment ≤ now }
     requires shown { IsShown draining.old }
     ensures plan { draining.new.plan ≡ draining.old.plan }
@@ -55,13 +47,13 @@ fn drain_once<A: Network + Drop, B: Network + Drop, G: Gate, R: Wait>(
 }
 
 /// Polls from poll number `first` on, at most `turns` times, until all that was accepted is transmitted.
-pub(crate) fn drain<A: Network + Drop, B: Network + Drop, G: Gate, R: Wait>(
+pub(crate) fn drain<G: Gate, R: Wait>(
     rt: &R,
-    draining: Draining<A, B>,
+    draining: StormDraining,
     gate: &G,
     first: u64,
     turns: u64,
-) -> Result<Draining<A, B>, Stop>
+) -> Result<StormDraining, Stop>
     requires moment { draining.moment ≤ first * STEP }
     requires first { first ≤ 1000000000 }
     requires turns { turns ≤ 1000000000 }

@@ -1,4 +1,4 @@
-//! A storm over any two networks.
+//! A storm over two networks in memory.
 ghost use Rattle.std.specs.Prelude.{◌≡◌, ◌≤◌, ◌<◌, ◌^◌, [], length, IfOk};
 ghost use Rattle.std.specs.List.{sum_by};
 ghost use Rattle.storm.specs.Boards.{cells_of, cells_read, IsShown, all_counts};
@@ -8,11 +8,11 @@ ghost use Rattle.storm.specs.Threads.{IsReady, IsJoined};
 use crate::drain::{drain, gather_all};
 use crate::fault::Stop;
 use crate::gate::Gate;
-use crate::run::{Joined, Opened, run_threads};
+use crate::run::{Joined, Opened, StormDraining, run_threads};
 use crate::worker::Load;
 use afdx_plan::Config;
-use afdx_tx::{Draining, TxPort, open_tx};
-use redundant_mux::Network;
+use afdx_tx::{TxPort, open_tx};
+use redundant_mux::MemNetwork;
 use status_board::{Counts, Monitor};
 use std::alloc::{AllocError, Global};
 use std::sync::Wait;
@@ -20,12 +20,12 @@ use std::thread::Threads;
 
 /// How many messages were accepted, the last reading of each link, whether a count fell, and the networks.
 #[derive(Drop)]
-pub(crate) struct Outcome<A: Network + Drop, B: Network + Drop> {
+pub(crate) struct Outcome {
     pub accepted: u64,
     pub links: Vec<Counts>,
     pub back: bool,
-    pub a: A,
-    pub b: B,
+    pub a: MemNetwork,
+    pub b: MemNetwork,
 }
 
 fn count_accepted(ports: &[TxPort]) -> u64
@@ -40,10 +40,10 @@ fn count_accepted(ports: &[TxPort]) -> u64
 }
 
 /// The last published counts of each link, in the order of the configuration.
-fn read_links<A: Network + Drop, B: Network + Drop, R: Wait>(
+fn read_links<R: Wait>(
     rt: &R,
     alloc: Global,
-    draining: &mut Draining<A, B>,
+    draining: &mut StormDraining,
     monitor: &mut Monitor,
     links: usize,
 ) -> Result<Vec<Counts>, AllocError>
@@ -62,19 +62,19 @@ fn read_links<A: Network + Drop, B: Network + Drop, R: Wait>(
 }
 
 /// Takes back the ports, sends what is left, and reads the counts.
-fn finish<A: Network + Drop, B: Network + Drop, G: Gate, R: Wait>(
+fn finish<G: Gate, R: Wait>(
     rt: &R,
     alloc: Global,
-    joined: Joined<A, B>,
+    joined: Joined,
     load: Load,
     gate: &G,
-) -> Result<Outcome<A, B>, Stop>
+) -> Result<Outcome, Stop>
     requires joined { IsJoined load.messages load.turns
         joined.tx joined.ports.items joined.monitor joined.polls joined.back }
     requires messages { load.messages < 65536 }
     requires turns { load.turns ≤ 1000000000 }
     ensures { IfOk result (λ outcome. IsEnded joined.tx.plan load.messages outcome.accepted
-        outcome.links.items outcome.back (A.handed outcome.a) (B.handed outcome.b)) }
+        outcome.links.items outcome.back outcome.a.handed outcome.b.handed) }
 {
     let Joined {
         tx,
@@ -98,16 +98,11 @@ fn finish<A: Network + Drop, B: Network + Drop, G: Gate, R: Wait>(
     })
 }
 
-fn open<A: Network + Drop, B: Network + Drop>(
-    alloc: Global,
-    config: Config,
-    a: A,
-    b: B,
-) -> Result<Opened<A, B>, Stop>
-    requires a_empty { A.handed a ≡ [] }
-    requires b_empty { B.handed b ≡ [] }
-    requires a_new { A.failures a ≡ 0 }
-    requires b_new { B.failures b ≡ 0 }
+fn open(alloc: Global, config: Config, a: MemNetwork, b: MemNetwork) -> Result<Opened, Stop>
+    requires a_empty { a.handed ≡ [] }
+    requires b_empty { b.handed ≡ [] }
+    requires a_new { a.failures ≡ 0 }
+    requires b_new { b.failures ≡ 0 }
     ensures plan { IfOk result (λ opened. opened.tx.plan ≡ config) }
     ensures ready { IfOk result (λ opened.
         IsReady opened.tx opened.ports.items opened.monitor) }
@@ -120,28 +115,23 @@ fn open<A: Network + Drop, B: Network + Drop>(
 
 /// Opens an emitter over two networks, polls it while each of its ports sends from a thread of its own, and
 /// sends what is left.
-pub(crate) fn run_storm<A, B, G, R>(
+pub(crate) fn run_storm<G: Gate + Sync, R: Threads + Wait + Sync>(
     rt: &R,
     alloc: Global,
     config: Config,
-    a: A,
-    b: B,
+    a: MemNetwork,
+    b: MemNetwork,
     load: Load,
     gate: &G,
-) -> Result<Outcome<A, B>, Stop>
-where
-    A: Network + Drop,
-    B: Network + Drop,
-    G: Gate + Sync,
-    R: Threads + Wait + Sync,
-    requires a_empty { A.handed a ≡ [] }
-    requires b_empty { B.handed b ≡ [] }
-    requires a_new { A.failures a ≡ 0 }
-    requires b_new { B.failures b ≡ 0 }
+) -> Result<Outcome, Stop>
+    requires a_empty { a.handed ≡ [] }
+    requires b_empty { b.handed ≡ [] }
+    requires a_new { a.failures ≡ 0 }
+    requires b_new { b.failures ≡ 0 }
     requires messages { load.messages < 65536 }
     requires turns { load.turns ≤ 1000000000 }
     ensures { IfOk result (λ outcome. IsEnded config load.messages outcome.accepted
-        outcome.links.items outcome.back (A.handed outcome.a) (B.handed outcome.b)) }
+        outcome.links.items outcome.back outcome.a.handed outcome.b.handed) }
 {
     let opened = open(alloc, config, a, b)?;
     let joined = run_threads(rt, alloc, opened, load, gate)?;

@@ -4,8 +4,7 @@ ghost use Rattle.afdx_tx.specs.Emitter.{queues_in};
 ghost use Rattle.storm.specs.Boards.{cells_of, IsShown};
 
 use crate::gate::Gate;
-use afdx_tx::Emitter;
-use redundant_mux::Network;
+use crate::run::StormTx;
 use std::sync::Wait;
 use std::sync::atomic::{AtomicU64, Ordering};
 use std::thread;
@@ -15,12 +14,7 @@ use std::thread;
 pub(crate) const STEP: u64 = 128_000;
 
 /// Polls and publishes. Returns whether a network is up.
-fn poll_once<A: Network + Drop, B: Network + Drop, G: Gate, R: Wait>(
-    rt: &R,
-    tx: &mut Emitter<A, B>,
-    gate: &G,
-    now: u64,
-) -> bool
+fn poll_once<G: Gate, R: Wait>(rt: &R, tx: &mut StormTx, gate: &G, now: u64) -> bool
     requires moment { tx.old.moment ≤ now }
     requires shown { IsShown tx.old }
     ensures plan { tx.new.plan ≡ tx.old.plan }
@@ -42,9 +36,9 @@ fn poll_once<A: Network + Drop, B: Network + Drop, G: Gate, R: Wait>(
 
 /// Polls and publishes while workers run, at most `turns` times. Returns how often it polled; `None` if no
 /// network is up any more.
-pub(crate) fn poll_while<A: Network + Drop, B: Network + Drop, G: Gate, R: Wait>(
+pub(crate) fn poll_while<G: Gate, R: Wait>(
     rt: &R,
-    tx: &mut Emitter<A, B>,
+    tx: &mut StormTx,
     gate: &G,
     running: &AtomicU64,
     turns: u64,

@@ -9,8 +9,8 @@ use crate::polling::poll_while;
 use crate::start::{join_workers, start_workers};
 use crate::watcher::start_watcher;
 use crate::worker::Load;
-use afdx_tx::{Emitter, TxPort};
-use redundant_mux::Network;
+use afdx_tx::{Draining, Emitter, TxPort};
+use redundant_mux::MemNetwork;
 use status_board::Monitor;
 use std::alloc::Global;
 use std::sync::Wait;
@@ -18,18 +18,24 @@ use std::sync::atomic::AtomicU64;
 use std::thread;
 use std::thread::{Scope, Threads};
 
+/// The emitter of a storm, over two networks in memory.
+pub(crate) type StormTx = Emitter<MemNetwork, MemNetwork>;
+
+/// The same while it drains.
+pub(crate) type StormDraining = Draining<MemNetwork, MemNetwork>;
+
 /// An emitter, its ports and its monitor.
 #[derive(Drop)]
-pub(crate) struct Opened<A: Network + Drop, B: Network + Drop> {
-    pub tx: Emitter<A, B>,
+pub(crate) struct Opened {
+    pub tx: StormTx,
     pub ports: Vec<TxPort>,
     pub monitor: Monitor,
 }
 
 /// The same once all threads are joined, with the number of polls and whether a count was seen to fall.
 #[derive(Drop)]
-pub(crate) struct Joined<A: Network + Drop, B: Network + Drop> {
-    pub tx: Emitter<A, B>,
+pub(crate) struct Joined {
+    pub tx: StormTx,
     pub ports: Vec<TxPort>,
     pub monitor: Monitor,
     pub polls: u64,
@@ -37,20 +43,15 @@ pub(crate) struct Joined<A: Network + Drop, B: Network + Drop> {
 }
 
 /// Starts the watcher and the workers, polls while these run, and joins all.
-fn run_in_scope<'s, E: 's, A, B, G, R>(
+fn run_in_scope<'s, E: 's, G: Gate + Sync, R: Threads + Wait + Sync>(
     scope: &'s Scope<'s, E>,
     rt: &'s R,
     alloc: Global,
-    opened: Opened<A, B>,
+    opened: Opened,
     load: Load,
     gate: &'s G,
     running: &'s AtomicU64,
-) -> Result<Joined<A, B>, Stop>
-where
-    A: Network + Drop,
-    B: Network + Drop,
-    G: Gate + Sync,
-    R: Threads + Wait + Sync,
+) -> Result<Joined, Stop>
     requires ready { IsReady opened.tx opened.ports.items opened.monitor }
     requires turns { load.turns ≤ 1000000000 }
     ensures plan { IfOk result (λ joined. joined.tx.plan ≡ opened.tx.plan) }
@@ -83,18 +84,13 @@ where
 
 /// Sends from all ports at once, each in a thread of its own, while this thread polls and another one
 /// reads the board.
-pub(crate) fn run_threads<A, B, G, R>(
+pub(crate) fn run_threads<G: Gate + Sync, R: Threads + Wait + Sync>(
     rt: &R,
     alloc: Global,
-    opened: Opened<A, B>,
+    opened: Opened,
     load: Load,
     gate: &G,
-) -> Result<Joined<A, B>, Stop>
-where
-    A: Network + Drop,
-    B: Network + Drop,
-    G: Gate + Sync,
-    R: Threads + Wait + Sync,
+) -> Result<Joined, Stop>
     requires ready { IsReady opened.tx opened.ports.items opened.monitor }
     requires turns { load.turns ≤ 1000000000 }
     ensures plan { IfOk result (λ joined. joined.tx.plan ≡ opened.tx.plan) }
@@ -108,7 +104,7 @@ where
     thread::scope(
         thread::scope_env(),
         rt,
-        move |scope| -> Result<Joined<A, B>, Stop>
+        move |scope| -> Result<Joined, Stop>
             requires ready { IsReady opened.tx opened.ports.items opened.monitor }
             requires turns { load.turns ≤ 1000000000 }
             ensures plan { IfOk result (λ joined. joined.tx.plan ≡ opened.tx.plan) }

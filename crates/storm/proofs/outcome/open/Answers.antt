@@ -4,7 +4,7 @@ use Rattle.storm.proofs.ShownCounts.{shown_fresh}
 use Rattle.storm.proofs.outcome.open.Goals as goal
 
 pub returns-in-Ok-clause-ready : goal.returns-in-Ok-clause-ready
-returns-in-Ok-clause-ready g c =
+returns-in-Ok-clause-ready c =
     let opened = c.in-Ok.ensures in
     record {
       first = opened.fresh.moment;
