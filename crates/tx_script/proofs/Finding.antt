@@ -91,20 +91,15 @@ counted plan k sub (sent ∷ more) valid all =
     first.port.1
     ∙ rw (counted plan k sub more valid (All-tail (IsAllowed plan k sub) sent more all)) (omega arith)
 
--- the port at a place, whatever the value after the last
-some_port : (ports : List PortView) (place : ℕ) → place < length ports → PortView
-some_port [] place lt = absurd (omega arith)
-some_port (port ∷ ports) place lt = port
-
 -- No port of the configuration is missing.
 pub none_missing : (tx : Tx) (ports : List PortView) → IsAtHand tx ports → LacksPlace (length tx.plan.ports) ports → ⊥
-none_missing tx ports h lacks =
-    let inside : lacks.0 < length ports = omega (arith, lacks.1, h.many) in
-    let d : PortView = some_port ports lacks.0 inside in
+none_missing tx [] h lacks = absurd (omega (arith, lacks.1, h.many))
+none_missing tx (port ∷ more) h lacks =
+    let inside : lacks.0 < length (port ∷ more) = omega (arith, lacks.1, h.many) in
     lacks.2 (record {
-      port = get_or ports lacks.0 d;
-      inside = Contains-get_or ports lacks.0 d inside;
-      at = h.placed lacks.0 d inside;
+      port = get_or (port ∷ more) lacks.0 port;
+      inside = Contains-get_or (port ∷ more) lacks.0 port inside;
+      at = h.placed lacks.0 port inside;
     })
 
 -- what was accepted of a sub-VL begins with what was taken

@@ -83,48 +83,6 @@ pub told_still : (line : Said) (old new : Tx) (turns : List AnsweredLine) → Cl
 told_still line old new turns closes told = λ k d lt place sub its.
     closes.kept place sub _ (told k d lt place sub (rw closes.plan at its))
 
--- a line was read, obeyed and noted
-pub running_turn : (plan : Plan) (bytes left new old mid fin : Option (List ℕ)) (bench bench2 : AtBench) (count : ℕ)
-    (sums : Sums) (said : Said) (outcome : Outcome) → IsRunning plan bytes left old mid bench count sums
-    → IfSome left (λ known. ReadsLine known new (count + 1) (Ok (Some said))) → Obeys said bench bench2 outcome
-    → Appends mid fin (note_of (count + 1) outcome)
-    → IsRunning plan bytes new old fin bench2 (count + 1) (counted outcome sums)
-running_turn plan bytes left new old mid fin bench bench2 count sums said outcome goes reads obeys wrote =
-    IfSome_then bytes goes (λ text known.
-    let st : Play = play plan known.turns in
-    let says : SaysLine (left_after text known.turns) new said = rw known.left_is at reads in
-    let line : List ℕ = first_line (left_after text known.turns) in
-    let obeyed : Obeys (meaning_of line) bench bench2 outcome =
-    subst (λ (s : Said). Obeys s bench bench2 outcome) says.said_is obeys in
-    let ran = obeyed.ok st.accepted st.es known.ran.matches in
-    let turn : AnsweredLine = record { line = line; answer = ran.answer } in
-    record {
-      turns = turn ∷ known.turns;
-      left_is = says.behind;
-      count_is = ap (λ (n : ℕ). n + 1) known.count_is;
-      sums_are = rw (← ran.is, known.sums_are) refl;
-      ran = record {
-        lines = (record { some = says.some; first = refl; faultless = says.faultless; may = ran.may }, known.ran.lines);
-        matches = ran.matches;
-        told = All-cons (λ (t : AnsweredLine). TellsTotal bench2.tx (meaning_of t.line) t.answer) turn known.turns ran.told
-            (told_still (meaning_of line) bench.tx bench2.tx known.turns obeyed.closes known.ran.told);
-        others = λ place sub none.
-            let mine = rw obeyed.closes.plan at none in
-            let not = λ (t : AnsweredLine). ClosesAt bench.tx.plan (meaning_of t.line) place sub → ⊥ in
-            obeyed.closes.only place sub (All-head not turn known.turns mine)
-            ∙ known.ran.others place sub (All-tail not turn known.turns mine);
-        wrote = rw (known.count_is, ← ran.is)
-            (Appends-trans old mid fin st.notes (note_of (count + 1) outcome) known.ran.wrote wrote);
-      };
-    })
-
--- an allocation failed at a line
-pub stop_memory : (plan : Plan) (bytes left old mid : Option (List ℕ)) (bench bench2 : AtBench) (count : ℕ) (sums : Sums)
-    → IsRunning plan bytes left old mid bench count sums → OnlyTakes bench bench2
-    → IfSome bytes (λ text. Halted plan text old mid bench2)
-stop_memory plan bytes left old mid bench bench2 count sums goes since = IfSome_then bytes goes
-    (λ text known. record { before = bench; turns = known.turns; ran = known.ran; since = since })
-
 -- A bench that stays as it is.
 pub stays : (bench : AtBench) → OnlyTakes bench bench
 stays bench = record {
@@ -133,44 +91,78 @@ stays bench = record {
   grown = λ k s lt. ([], sym (append-nil (taken_in bench.tx.links k s)));
 }
 
--- the next line has a fault, or could not be read
-stop_known : (plan : Plan) (text : List ℕ) (left new old mid : Option (List ℕ)) (bench : AtBench) (count : ℕ) (sums : Sums)
-    (fault : RunFault) → count < 1000000 → (known : Goes plan text left old mid bench count sums)
-    → ReadsLine (left_after text known.turns) new (count + 1) (Err fault) → Stops plan text old mid bench (Err fault)
-stop_known plan text left new old mid bench count sums (Fault.Line number fault) few known reads = record {
-  turns = known.turns;
-  ran = known.ran;
-  at = (reads.0, omega (arith, reads.1, known.count_is), omega (arith, reads.1), reads.2);
-}
-stop_known plan text left new old mid bench count sums Fault.Lines few known reads = absurd reads
-stop_known plan text left new old mid bench count sums Fault.Read few known reads =
-    record { turns = known.turns; ran = known.ran; at = omega (arith, known.count_is) }
-stop_known plan text left new old mid bench count sums Fault.Write few known reads = tt
-stop_known plan text left new old mid bench count sums Fault.Memory few known reads =
-    record { before = bench; turns = known.turns; ran = known.ran; since = stays bench }
+-- Some lines were run.
+module _ (plan : Plan) (bytes left old mid : Option (List ℕ)) (bench : AtBench) (count : ℕ) (sums : Sums)
+    (goes : IsRunning plan bytes left old mid bench count sums) where
+  -- a line was read, obeyed and noted
+  pub running_turn : (new fin : Option (List ℕ)) (bench2 : AtBench) (said : Said) (outcome : Outcome)
+      → IfSome left (λ known. ReadsLine known new (count + 1) (Ok (Some said))) → Obeys said bench bench2 outcome
+      → Appends mid fin (note_of (count + 1) outcome)
+      → IsRunning plan bytes new old fin bench2 (count + 1) (counted outcome sums)
+  running_turn new fin bench2 said outcome reads obeys wrote = IfSome_then bytes goes (λ text known.
+      let st : Play = play plan known.turns in
+      let says : SaysLine (left_after text known.turns) new said = rw known.left_is at reads in
+      let line : List ℕ = first_line (left_after text known.turns) in
+      let obeyed : Obeys (meaning_of line) bench bench2 outcome =
+      subst (λ (s : Said). Obeys s bench bench2 outcome) says.said_is obeys in
+      let ran = obeyed.ok st.accepted st.es known.ran.matches in
+      let turn : AnsweredLine = record { line = line; answer = ran.answer } in
+      record {
+        turns = turn ∷ known.turns;
+        left_is = says.behind;
+        count_is = ap (λ (n : ℕ). n + 1) known.count_is;
+        sums_are = rw (← ran.is, known.sums_are) refl;
+        ran = record {
+          lines = (record { some = says.some; first = refl; faultless = says.faultless; may = ran.may }, known.ran.lines);
+          matches = ran.matches;
+          told = All-cons (λ (t : AnsweredLine). TellsTotal bench2.tx (meaning_of t.line) t.answer) turn known.turns ran.told
+              (told_still (meaning_of line) bench.tx bench2.tx known.turns obeyed.closes known.ran.told);
+          others = λ place sub none.
+              let mine = rw obeyed.closes.plan at none in
+              let not = λ (t : AnsweredLine). ClosesAt bench.tx.plan (meaning_of t.line) place sub → ⊥ in
+              obeyed.closes.only place sub (All-head not turn known.turns mine)
+              ∙ known.ran.others place sub (All-tail not turn known.turns mine);
+          wrote = rw (known.count_is, ← ran.is)
+              (Appends-trans old mid fin st.notes (note_of (count + 1) outcome) known.ran.wrote wrote);
+        };
+      })
 
--- the same if the reader's bytes may be unknown
-pub stop_fault : (plan : Plan) (bytes left new old mid : Option (List ℕ)) (bench : AtBench) (count : ℕ) (sums : Sums)
-    (fault : RunFault) → count < 1000000 → IsRunning plan bytes left old mid bench count sums
-    → IfSome left (λ known. ReadsLine known new (count + 1) (Err fault))
-    → IfSome bytes (λ text. Stops plan text old mid bench (Err fault))
-stop_fault plan bytes left new old mid bench count sums fault few goes reads = IfSome_then bytes goes
-    (λ text known. stop_known plan text left new old mid bench count sums fault few known (rw known.left_is at reads))
+  -- an allocation failed at a line
+  pub stop_memory : (bench2 : AtBench) → OnlyTakes bench bench2 → IfSome bytes (λ text. Halted plan text old mid bench2)
+  stop_memory bench2 since = IfSome_then bytes goes
+      (λ text known. record { before = bench; turns = known.turns; ran = known.ran; since = since })
 
--- there is a line too many
-pub stop_lines : (plan : Plan) (bytes left new old mid : Option (List ℕ)) (bench : AtBench) (count : ℕ) (sums : Sums)
-    (byte : ℕ) → count ≡ 1000000 → IsRunning plan bytes left old mid bench count sums → Consumes left new (byte ∷ [])
-    → IfSome bytes (λ text. Stops plan text old mid bench (Err Fault.Lines))
-stop_lines plan bytes left new old mid bench count sums byte all goes taken = IfSome_then bytes goes (λ text known. record {
-  turns = known.turns;
-  ran = known.ran;
-  at = (some_left (left_after text known.turns) new (rw known.left_is at taken), known.count_is ∙ all);
-})
-  where
-    some_left : (rest : List ℕ) (after : Option (List ℕ)) → Consumes (Some rest) after (byte ∷ [])
-        → 0 < length rest
-    some_left rest None h = absurd h
-    some_left rest (Some xs) h = omega (arith, ap length h)
+  -- the next line has a fault, or could not be read
+  pub stop_fault : (new : Option (List ℕ)) (fault : RunFault) → count < 1000000
+      → IfSome left (λ known. ReadsLine known new (count + 1) (Err fault))
+      → IfSome bytes (λ text. Stops plan text old mid bench (Err fault))
+  stop_fault new fault few reads = IfSome_then bytes goes (λ text known. by text fault known (rw known.left_is at reads))
+    where
+      by : (text : List ℕ) (fault : RunFault) (known : Goes plan text left old mid bench count sums)
+          → ReadsLine (left_after text known.turns) new (count + 1) (Err fault) → Stops plan text old mid bench (Err fault)
+      by text (Fault.Line number fault) known reads = record {
+        turns = known.turns;
+        ran = known.ran;
+        at = (reads.0, omega (arith, reads.1, known.count_is), omega (arith, reads.1), reads.2);
+      }
+      by text Fault.Lines known reads = absurd reads
+      by text Fault.Read known reads = record { turns = known.turns; ran = known.ran; at = omega (arith, known.count_is) }
+      by text Fault.Write known reads = tt
+      by text Fault.Memory known reads =
+          record { before = bench; turns = known.turns; ran = known.ran; since = stays bench }
+
+  -- there is a line too many
+  pub stop_lines : (new : Option (List ℕ)) (byte : ℕ) → count ≡ 1000000 → Consumes left new (byte ∷ [])
+      → IfSome bytes (λ text. Stops plan text old mid bench (Err Fault.Lines))
+  stop_lines new byte all taken = IfSome_then bytes goes (λ text known. record {
+    turns = known.turns;
+    ran = known.ran;
+    at = (some_left (left_after text known.turns) new (rw known.left_is at taken), known.count_is ∙ all);
+  })
+    where
+      some_left : (rest : List ℕ) (after : Option (List ℕ)) → Consumes (Some rest) after (byte ∷ []) → 0 < length rest
+      some_left rest None h = absurd h
+      some_left rest (Some xs) h = omega (arith, ap length h)
 
 -- what is known of the lines that were run is known at the end
 ends_more : (plan : Plan) (text : List ℕ) (Ran More : List AnsweredLine → Type 0) (Halts Begun : Type 0)
@@ -181,67 +173,65 @@ ends_more plan text Ran More Halts Begun more (Err Fault.Memory) begun h = begun
 ends_more plan text Ran More Halts Begun more _ begun h =
     record { turns = h.turns; ran = more h.turns h.ran; at = h.at }
 
--- the ports were taken back after some lines were run
-are_run : (plan : Plan) (text : List ℕ) (old mid : Option (List ℕ)) (before bench : AtBench) (turns : List AnsweredLine)
-    → Running plan text old mid before turns → OnlyTakes before bench → IsGathered bench → AreRun plan text turns
-are_run plan text old mid before bench turns ran since gathered = record {
-  lines = ran.lines;
-  finds = finds_first (play plan turns) before bench ran.matches since gathered;
-  totals = totals_are (play plan turns) before bench ran.matches since gathered turns
-      (told_still _ before.tx bench.tx turns since.closes ran.told);
-}
+-- The lines of a text stopped, and its streams may have been written.
+module _ (plan : Plan) (text : List ℕ) (old mid fin : Option (List ℕ)) (bench : AtBench) where
+  -- the ports were taken back after some lines were run
+  are_run : (before : AtBench) (turns : List AnsweredLine) → Running plan text old mid before turns
+      → OnlyTakes before bench → IsGathered bench → AreRun plan text turns
+  are_run before turns ran since gathered = record {
+    lines = ran.lines;
+    finds = finds_first (play plan turns) before bench ran.matches since gathered;
+    totals = totals_are (play plan turns) before bench ran.matches since gathered turns
+        (told_still _ before.tx bench.tx turns since.closes ran.told);
+  }
 
--- the streams follow the notes
-has_played : (plan : Plan) (text : List ℕ) (old mid fin : Option (List ℕ)) (bench : AtBench) (a b : FrameLog)
-    (turns : List AnsweredLine) → Running plan text old mid bench turns → HandsOver bench a b mid fin
-    → HasPlayed plan text old fin a.handed b.handed turns
-has_played plan text old mid fin bench a b turns ran hands =
-    let st : Play = play plan turns in
-    let m = ran.matches.emitter in
-    let same : st.notes ++ streams bench.tx.lines.a bench.tx.lines.b ≡ transcript st = rw (m.a, m.b) refl in
-    record {
-      ran = record {
-        run = are_run plan text old mid bench bench turns ran (stays bench) hands.gathered;
-        wrote = subst (Appends old fin) same (Appends-trans old mid fin st.notes _ ran.wrote hands.wrote);
-      };
-      on_a = sym (hands.on_a ∙ m.a);
-      on_b = sym (hands.on_b ∙ m.b);
-    }
+  -- the streams follow the notes
+  has_played : (a b : FrameLog) (turns : List AnsweredLine) → Running plan text old mid bench turns
+      → HandsOver bench a b mid fin → HasPlayed plan text old fin a.handed b.handed turns
+  has_played a b turns ran hands =
+      let st : Play = play plan turns in
+      let m = ran.matches.emitter in
+      let same : st.notes ++ streams bench.tx.lines.a bench.tx.lines.b ≡ transcript st = rw (m.a, m.b) refl in
+      record {
+        ran = record {
+          run = are_run bench turns ran (stays bench) hands.gathered;
+          wrote = subst (Appends old fin) same (Appends-trans old mid fin st.notes _ ran.wrote hands.wrote);
+        };
+        on_a = sym (hands.on_a ∙ m.a);
+        on_b = sym (hands.on_b ∙ m.b);
+      }
 
--- The lines stopped, and the streams were written unless the writer failed.
-pub finished : (plan : Plan) (text : List ℕ) (old mid fin : Option (List ℕ)) (bench : AtBench) (ended : Result Sums RunFault)
-    (played : Played) → IsWhole ended → Stops plan text old mid bench ended → Finishes ended bench mid fin played
-    → Plays plan text old fin played
-finished plan text old mid fin bench ended (Whole told a b) whole stops w = rw w.0 (
-  whole,
-  ends_more plan text (Running plan text old mid bench) (HasPlayed plan text old fin a.handed b.handed)
-      (Halted plan text old mid bench) ⊥
-      (λ turns ran. has_played plan text old mid fin bench a b turns ran w.1) ended
-      (λ is. false≢true (sym (rw is at whole))) stops,
-)
-finished plan text old mid fin bench ended (Broken told) whole stops w = rw w (refl, tt)
+  -- The streams were written unless the writer failed.
+  pub finished : (ended : Result Sums RunFault) (played : Played) → IsWhole ended → Stops plan text old mid bench ended
+      → Finishes ended bench mid fin played → Plays plan text old fin played
+  finished ended (Whole told a b) whole stops w = rw w.0 (
+    whole,
+    ends_more plan text (Running plan text old mid bench) (HasPlayed plan text old fin a.handed b.handed)
+        (Halted plan text old mid bench) ⊥ (λ turns ran. has_played a b turns ran w.1) ended
+        (λ is. false≢true (sym (rw is at whole))) stops,
+  )
+  finished ended (Broken told) whole stops w = rw w (refl, tt)
 
--- The lines stopped at a fault.
-pub early : (plan : Plan) (text : List ℕ) (old mid fin : Option (List ℕ)) (bench : AtBench) (fault : RunFault)
-    (played : Played) → Stops plan text old mid bench (Err fault) → EndsEarly fault bench mid fin played
-    → Plays plan text old fin played
-early plan text old mid fin bench fault played stops (inl w) = finished plan text old mid fin bench (Err fault) played w.0 stops w.1
-early plan text old mid fin bench fault played stops (inr w) = rw w.1 (w.0, silent fault stops w.0)
-  where
-    silent : (end : RunFault) → Stops plan text old mid bench (Err end) → ends_writing end ≡ true
-        → Leaves plan text old fin (Err end)
-    silent Fault.Memory halted ends =
-        let st : Play = play plan halted.turns in
-        record {
-          turns = halted.turns;
-          run = are_run plan text old mid halted.before bench halted.turns halted.ran halted.since w.3;
-          written = st.notes;
-          unwritten = _;
-          begins = refl;
-          wrote = Appends-kept old mid fin st.notes halted.ran.wrote w.2;
-        }
-    silent Fault.Write halted ends = tt
-    silent _ halted ends = absurd (false≢true ends)
+  -- The lines stopped at a fault.
+  pub early : (fault : RunFault) (played : Played) → Stops plan text old mid bench (Err fault)
+      → EndsEarly fault bench mid fin played → Plays plan text old fin played
+  early fault played stops (inl w) = finished (Err fault) played w.0 stops w.1
+  early fault played stops (inr w) = rw w.1 (w.0, silent fault stops w.0)
+    where
+      silent : (end : RunFault) → Stops plan text old mid bench (Err end) → ends_writing end ≡ true
+          → Leaves plan text old fin (Err end)
+      silent Fault.Memory halted ends =
+          let st : Play = play plan halted.turns in
+          record {
+            turns = halted.turns;
+            run = are_run halted.before halted.turns halted.ran halted.since w.3;
+            written = st.notes;
+            unwritten = _;
+            begins = refl;
+            wrote = Appends-kept old mid fin st.notes halted.ran.wrote w.2;
+          }
+      silent Fault.Write halted ends = tt
+      silent _ halted ends = absurd (false≢true ends)
 
 -- The same of the plan and the bytes that were given.
 pub plays_by : (plan own : Plan) (bytes given old mid fin : Option (List ℕ)) (bench : AtBench)

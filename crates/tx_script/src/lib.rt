@@ -1,25 +1,9 @@
 //! Running a script of an end system.
 //!
-//! [`run_script`] takes a configuration and the lines of a script, one after the other:
-//!
-//! | Line | Meaning |
-//! |---|---|
-//! | no word, or a first word that begins with `#` | nothing |
-//! | `send <port> <hex>` | the port with this identifier sends these bytes; `-` means none |
-//! | `at <micros>` | one poll at this time, in microseconds |
-//! | `close <vl> <sub>` | a sub-VL accepts no more messages; those that it accepted are still sent |
-//!
-//! The transcript begins with the notes, in the order of the lines, which are counted from 1. A refused
-//! line changes nothing, and the run goes on:
-//!
-//! | Note | Line |
-//! |---|---|
-//! | `line <k>: refused <Name>` | a refused message, close or poll (`Refusal::name`) |
-//! | `line <k>: closed <total>` | a close, with the number of messages that the sub-VL accepted |
-//!
-//! Then come the frames of network A, in their order, and those of B, each with its time and its bytes
-//! in hexadecimal, from the destination MAC address to the sequence number. Each frame is written on the
-//! networks that its link names. What is still queued at the end of the script isn't sent.
+//! [`run_script`] takes a configuration and the lines of a script, obeys them one after the other, and writes the
+//! transcript: the notes on lines, which are counted from 1, then the frames of network A, in their order, and
+//! those of B, each with its time and its bytes in hexadecimal. `docs/scripts.md` has the lines, the notes and the
+//! ends of a run.
 //!
 //! # An example
 //!
@@ -52,12 +36,6 @@
 //! ```
 //!
 //! The summary is 2 accepted, 4 refused and 1 frame: a close is neither.
-//!
-//! # Ends
-//!
-//! A line with a fault, a line past the limit and a failing reader end the run there: the lines before
-//! were run, and their notes and frames are written. A failing writer ends the run at once, a failed
-//! allocation after the notes that were written: `RunFault::ends_writing`.
 #![tactic(auto)]
 
 mod bench;

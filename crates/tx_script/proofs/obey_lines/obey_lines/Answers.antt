@@ -14,16 +14,16 @@ loop-count-init g c = record {
 pub returns-in_err-said : goal.returns-in_err-said
 returns-in_err-said g c =
     let told = err_from_is_err_and c.from_residual.result c.from_residual.ensures.1 in
-    rw (told.1, told.2) (stop_fault _ _ c.loop-count.bytes c.next_said.new.bytes _ _ c.loop-count.bench
-    c.loop-count.count c.loop-count.sums _ (omega arith) c.loop-count.invariant.running c.in_err-said.ensures)
+    rw (told.1, told.2) (stop_fault _ _ c.loop-count.bytes _ _ c.loop-count.bench c.loop-count.count c.loop-count.sums
+    c.loop-count.invariant.running c.next_said.new.bytes _ (omega arith) c.in_err-said.ensures)
 
 pub returns-in_err-outcome : goal.returns-in_err-outcome
 returns-in_err-outcome g c =
     let told =
     err_from_is_err_and c.from_residual-in_err-outcome.result c.from_residual-in_err-outcome.ensures.1 in
     rw (told.1, told.2, c.in_err-outcome.ensures.err)
-    (stop_memory _ _ c.loop-count.bytes _ _ c.loop-count.bench c.obey.new.bench
-    c.loop-count.count c.loop-count.sums c.loop-count.invariant.running c.in_err-outcome.ensures.halted)
+    (stop_memory _ _ c.loop-count.bytes _ _ c.loop-count.bench c.loop-count.count c.loop-count.sums
+    c.loop-count.invariant.running c.obey.new.bench c.in_err-outcome.ensures.halted)
 
 pub loop-count-preserved : goal.loop-count-preserved
 loop-count-preserved g c =
@@ -31,9 +31,9 @@ loop-count-preserved g c =
     rw c.count-sums.ensures (record {
       asked = c.in_ok-outcome.ensures.ok.asked c.loop-count.count c.loop-count.invariant.asked;
       running =
-          running_turn _ _ c.loop-count.bytes c.next_said.new.bytes _ _ _ _ c.obey.new.bench c.loop-count.count
-          c.loop-count.sums c.in-Some.said c.in_ok-outcome.outcome
-          c.loop-count.invariant.running reads c.in_ok-outcome.ensures.ok c.in_ok-write_note.ensures.ok;
+          running_turn _ _ c.loop-count.bytes _ _ _ c.loop-count.count c.loop-count.sums c.loop-count.invariant.running
+          c.next_said.new.bytes _ c.obey.new.bench c.in-Some.said c.in_ok-outcome.outcome
+          reads c.in_ok-outcome.ensures.ok c.in_ok-write_note.ensures.ok;
       within = within_more _ _ _ c.in_ok-outcome.ensures.ok.few c.loop-count.invariant.within;
     })
 
@@ -41,8 +41,8 @@ pub returns-in-Ok-Some : goal.returns-in-Ok-Some
 returns-in-Ok-Some g c =
     let all : c.loop-count.count ≡ 1000000 = omega arith in
     let taken = rw c.in-Ok-Some.field-0-is at c.in-Ok-Some.ensures.taken in
-    stop_lines _ _ c.loop-count.bytes c.next.new.self _ _ c.loop-count.bench c.loop-count.count
-    c.loop-count.sums _ all c.loop-count.invariant.running taken
+    stop_lines _ _ c.loop-count.bytes _ _ c.loop-count.bench c.loop-count.count c.loop-count.sums
+    c.loop-count.invariant.running c.next.new.self _ all taken
 
 pub obey-requires : goal.obey-requires
 obey-requires g c = asked_on c.loop-count.count _ _ (omega arith) c.loop-count.invariant.asked
