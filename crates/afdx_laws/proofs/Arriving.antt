@@ -1,19 +1,15 @@
 -- The receiver has the first of the accepted messages.
-use Rattle.afdx_laws.proofs.Names.{◌≡◌, ℕ, ◌%◌, ◌≤◌, nat_eq, List, ◌++◌, length, map, take, drop, refl, ap, sym}
-use Rattle.afdx_laws.proofs.Names.{◌∙◌, arith, All, append_assoc, map-append, take-append-drop, length-map}
-use Rattle.afdx_laws.proofs.Names.{length-append, take-take, take-map, map-map, All-filter, All-map, All-weaker}
-use Rattle.afdx_laws.proofs.Names.{All-take, Net, A, datagram, twin_of, word_at, Sent, blanked, fragments, empty}
-use Rattle.afdx_laws.proofs.Names.{those_with, IsPrefixOf, with_append, begin, received, carried, sub_in, number_in}
-use Rattle.afdx_laws.proofs.Names.{IsLong, most_carried, next_alone, frames_at, delivered, of_sub, sent_from}
-use Rattle.afdx_laws.proofs.Names.{HasByte, HasUpTo, fragment_in, messages_in, IsSent, IsSending, AreFirst}
-use Rattle.afdx_laws.proofs.Names.{MessagesArrive, DespiteLoss}
+use Rattle.afdx_laws.proofs.Names.{◌≡◌, ℕ, ◌%◌, ◌≤◌, nat_eq, List, ◌++◌, length, map, take, drop, refl, ap, sym, ◌∙◌, arith, All, append_assoc, map-append}
+use Rattle.afdx_laws.proofs.Names.{take-append-drop, length-map, length-append, take-take, take-map, map-map, All-filter, All-map, All-weaker, All-take, Net, A}
+use Rattle.afdx_laws.proofs.Names.{datagram, twin_of, word_at, Sent, blanked, fragments, empty, those_with, IsPrefixOf, with_append, begin, received, carried}
+use Rattle.afdx_laws.proofs.Names.{sub_in, number_in, IsLong, most_carried, next_alone, frames_at, delivered, of_sub, sent_from, HasByte, HasUpTo, fragment_in}
+use Rattle.afdx_laws.proofs.Names.{messages_in, IsSent, IsSending, AreFirst, MessagesArrive, DespiteLoss}
 use Rattle.afdx_laws.proofs.Receiving.{exactly_once_holds}
 use Rattle.afdx_laws.proofs.Losing.{loss_masked_holds}
 use Rattle.afdx_laws.proofs.ListLemmas.{append_same, map_same}
 use Rattle.afdx_laws.proofs.InOrder.{in_order_holds}
 use Rattle.afdx_laws.proofs.Reading.{same_fragment, read_any, reads_all, reads_frames, of_sub_is, length-datagram, drop-datagram}
 
--- the fragments that were received
 fragments_received : (got sent : List (List ℕ)) → map (twin_of A) got ≡ map (twin_of A) sent
     → map fragment_in got ≡ map fragment_in sent
 fragments_received got sent same =
@@ -25,22 +21,18 @@ fragments_received got sent same =
       map_same fragment_in (λ f. fragment_in (twin_of A f)) sent (λ f. sym (same_fragment A f)),
     )
 
--- the first frames of a link have the first frames of a sub
 sub_take : (sub n : ℕ) (stream : List (List ℕ))
     → those_with sub_in sub stream ≡ those_with sub_in sub (take n stream) ++ those_with sub_in sub (drop n stream)
 sub_take sub n stream = ap (those_with sub_in sub) (sym (take-append-drop n stream))
     ∙ with_append sub_in sub (take n stream) (drop n stream)
 
--- more frames of a link are no fewer of a sub
 more_of_sub : (sub few many : ℕ) (stream : List (List ℕ)) → few ≤ many
     → length (those_with sub_in sub (take few stream)) ≤ length (those_with sub_in sub (take many stream))
 more_of_sub sub few many stream less = grind (arith, sub_take sub few (take many stream), length-append, take-take)
 
--- the datagrams of accepted messages
 abbrev pub datagrams_of : ℕ → List Sent → List (List ℕ)
 datagrams_of end_system accepted = map (λ (sent : Sent). datagram end_system sent.port sent.bytes) accepted
 
--- the messages in the first datagrams
 bytes_of : (end_system many : ℕ) (accepted : List Sent) → map (drop 8) (take many (datagrams_of end_system accepted))
     ≡ take many (map (λ (sent : Sent). sent.bytes) accepted)
 bytes_of end_system many accepted =
@@ -48,7 +40,6 @@ bytes_of end_system many accepted =
     ∙ ap (take many) (map-map (drop 8) (λ (sent : Sent). datagram end_system sent.port sent.bytes) accepted
     ∙ map_same _ (λ (sent : Sent). sent.bytes) accepted (drop-datagram end_system))
 
--- each has a byte
 pub some_bytes : (end_system sub : ℕ) (accepted : List Sent) → All (IsSent sub) accepted
     → All HasByte (datagrams_of end_system accepted)
 some_bytes end_system sub accepted sent =
@@ -56,7 +47,6 @@ some_bytes end_system sub accepted sent =
     (All-weaker (IsSent sub) (λ (s : Sent). 1 ≤ length (datagram end_system s.port s.bytes))
     (λ s is. omega (arith, length-datagram end_system s)) accepted sent)
 
--- and at most the header's eight and a message's 8,192
 pub few_bytes : (end_system sub : ℕ) (accepted : List Sent) → All (IsSent sub) accepted
     → All (HasUpTo 8200) (datagrams_of end_system accepted)
 few_bytes end_system sub accepted sent =
@@ -71,7 +61,6 @@ own_fragments sub count stream got first =
     ap (of_sub sub) (fragments_received got (take count stream) (first ∙ take-map (twin_of A) count stream))
     ∙ of_sub_is sub (take count stream)
 
--- they are the first of its datagrams
 pub first_come : (end_system room sub count : ℕ) (accepted : List Sent) (net : Net) (stream got : List (List ℕ))
     → IsSending end_system room sub accepted net stream
     → map (twin_of A) got ≡ take count (map (twin_of A) stream)
@@ -122,14 +111,12 @@ arrived end_system room sub few many accepted net stream got sending first less 
           ));
     }
 
--- the law, by what the receiver accepts
 pub messages_arrive_holds : MessagesArrive
 messages_arrive_holds end_system room sub lag tolerance accepted net stream arrivals sending fit carry =
     arrived end_system room sub (most_carried arrivals) (most_carried arrivals) accepted net stream
     (received number_in tolerance begin arrivals) sending
     (exactly_once_holds lag tolerance stream arrivals fit sending.frames carry) (omega arith)
 
--- the law, by what the receiver accepts despite loss
 pub despite_loss_holds : DespiteLoss
 despite_loss_holds end_system room sub check whole accepted net stream came sending some close =
     let masked = loss_masked_holds whole check stream came some sending.frames close in

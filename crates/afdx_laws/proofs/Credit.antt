@@ -1,33 +1,27 @@
 -- The account always has what the next frame costs: a spaced stream on its way is on time, and passes.
-use Rattle.afdx_laws.proofs.Names.{ℕ, ◌≡◌, ◌+◌, ◌-◌, ◌*◌, ◌≤◌, List, [], ◌∷◌, map, arith, refl, ap, ◌∙◌, suc}
-use Rattle.afdx_laws.proofs.Names.{mul-le, Arrival, Rule, Account, Charge, by_bytes, by_frames, full, filled, paid}
-use Rattle.afdx_laws.proofs.Names.{price, passed, Passage, arrival, IsOnTime, AreOnTime, NoneDropped, IsUpTo}
-use Rattle.afdx_laws.proofs.Names.{IsOnItsWay, rule_around, StreamPasses, Option, Some, None, All, AllZip, Entry}
-use Rattle.afdx_laws.proofs.Names.{stamp_of, IsSpaced}
+use Rattle.afdx_laws.proofs.Names.{ℕ, ◌≡◌, ◌+◌, ◌-◌, ◌*◌, ◌≤◌, List, [], ◌∷◌, map, arith, refl, ap, ◌∙◌, suc, mul-le, Arrival, Rule, Account, Charge, by_bytes}
+use Rattle.afdx_laws.proofs.Names.{by_frames, full, filled, paid, price, passed, Passage, arrival, IsOnTime, AreOnTime, NoneDropped, IsUpTo, IsOnItsWay}
+use Rattle.afdx_laws.proofs.Names.{rule_around, StreamPasses, Option, Some, None, All, AllZip, Entry, stamp_of, IsSpaced}
 use Rattle.std.proofs.Math.Nat.{mul-add, le-min}
 use Rattle.vl_shaper.specs.declared.shaper.Stamp.{Stamp}
 
--- no frame costs more than the greatest
 price_le : (charge : Charge) (rule : Rule) (frame : Arrival) → frame.size ≤ rule.lmax
     → price charge rule frame ≤ rule.lmax * rule.gap
 price_le by_bytes rule frame h = mul-le frame.size rule.gap rule.lmax rule.gap h (omega arith)
 price_le by_frames rule frame h = omega arith
 
--- what stands on the account when a frame comes: its price, and what filled while it was on its way
+-- the credit when a frame arrives: its price, and what accrued while it was on its way
 abbrev IsReady : Rule → Account → Passage → Type 0
 IsReady rule account p = rule.lmax * (rule.gap + (p.arrived - p.released)) ≤ (filled rule account p.arrived).credit
 
--- so it is at the first frame, when the account is full
 ready_first : (rule : Rule) (p : Passage) → IsOnTime rule p → IsReady rule (full rule) p
 ready_first rule p on = grind arith
 
--- after it is paid, what filled while it was on its way is left
 left : (rule : Rule) (account : Account) (p : Passage) (cost : ℕ) → IsReady rule account p
     → cost ≤ rule.lmax * rule.gap
     → rule.lmax * (p.arrived - p.released) ≤ (paid (filled rule account p.arrived) cost).credit
 left rule account p cost ready cheap = grind arith
 
--- so it is at the next frame
 ready_next : (rule : Rule) (credit : ℕ) (p q : Passage) → IsOnTime rule p → IsOnTime rule q
     → p.released + rule.gap ≤ q.released
     → rule.lmax * (p.arrived - p.released) ≤ credit → IsReady rule (record { credit = credit; since = p.arrived }) q
@@ -40,19 +34,16 @@ ready_next rule credit p q on next apart has =
     let s = mul-add rule.lmax (p.arrived - p.released) (q.arrived - p.arrived) in
     le-min m (omega arith)
 
--- a frame that can be paid passes
 passes : (charge : Charge) (rule : Rule) (account : Account) (p : Passage) (frames : List Arrival)
     → price charge rule (arrival p) ≤ (filled rule account p.arrived).credit
     → passed charge rule account (arrival p ∷ frames) ≡ arrival p ∷ passed charge rule
     (paid (filled rule account p.arrived) (price charge rule (arrival p))) frames
 passes charge rule account p frames h = grind arith
 
--- the first frame's price is there
 enough : (charge : Charge) (rule : Rule) (account : Account) (p : Passage) → IsReady rule account p
     → IsOnTime rule p → price charge rule (arrival p) ≤ (filled rule account p.arrived).credit
 enough charge rule account p ready on = grind (arith, price_le charge rule (arrival p) on.small)
 
--- all frames pass from there on
 all_pass : (charge : Charge) (rule : Rule) (account : Account) (p : Passage) (rest : List Passage)
     → AreOnTime rule (p ∷ rest) → IsReady rule account p
     → passed charge rule account (map arrival (p ∷ rest)) ≡ map arrival (p ∷ rest)
@@ -69,19 +60,16 @@ all_pass charge rule account p (q ∷ rest) on ready =
     head_on : (rule : Rule) (q : Passage) (rest : List Passage) → AreOnTime rule (q ∷ rest) → IsOnTime rule q
     head_on rule q rest on = grind arith
 
--- the law
 pub none_dropped_holds : NoneDropped
 none_dropped_holds charge rule [] on = refl
 none_dropped_holds charge rule (p ∷ []) on = all_pass charge rule (full rule) p [] on (ready_first rule p on)
 none_dropped_holds charge rule (p ∷ q ∷ rest) on =
     all_pass charge rule (full rule) p (q ∷ rest) on (ready_first rule p on.0)
 
--- a frame on its way is on time
 on_time : (gap lmax jitter around : ℕ) (r : Entry) (p : Passage) → IsUpTo lmax r → IsOnItsWay around jitter r p
     → IsOnTime (rule_around gap lmax jitter around) p
 on_time gap lmax jitter around r p small way = omega arith
 
--- so are all of a spaced stream
 are_on_time : (gap lmax jitter around : ℕ) (before : Option Stamp) (stream : List Entry) (passages : List Passage)
     → IsSpaced gap before stream → All (IsUpTo lmax) stream → AllZip (IsOnItsWay around jitter) stream passages
     → AreOnTime (rule_around gap lmax jitter around) passages
@@ -100,7 +88,6 @@ are_on_time gap lmax jitter around before (r ∷ s ∷ later) (p ∷ q ∷ passa
           (λ k d h. small (suc k) d (omega arith)) way.1,
     )
 
--- the law
 pub stream_passes_holds : StreamPasses
 stream_passes_holds charge gap lmax jitter around stream passages spaced small way =
     none_dropped_holds charge (rule_around gap lmax jitter around) passages

@@ -1,13 +1,11 @@
--- The longer list is the stream that a network was handed: what was handed over arrives, also despite losses.
-use Rattle.afdx_laws.proofs.Names.{◌≡◌, ℕ, suc, ◌≤◌, ◌<◌, inl, inr, Bool, cond, List, [], ◌∷◌, ◌++◌, length, map}
-use Rattle.afdx_laws.proofs.Names.{take, drop, refl, ap, ◌∙◌, arith, All, cases_lt, lt-ltb, le-ltb, append_assoc}
-use Rattle.afdx_laws.proofs.Names.{map-append, take-append-drop, map-map, Net, A, B, twin_of, Sent, twin_twice}
-use Rattle.afdx_laws.proofs.Names.{IsPrefixOf, carried, AreCarried, IsSent, IsLinkOf, IsSending, IsOfNet, IsHanded}
-use Rattle.afdx_laws.proofs.Names.{AreHanded, AreCarriedOf, longer, HandedArrive, HandedDespiteLoss}
+-- The longer list is the stream sent to a network: what was transmitted arrives, also despite losses.
+use Rattle.afdx_laws.proofs.Names.{◌≡◌, ℕ, suc, ◌≤◌, ◌<◌, inl, inr, Bool, cond, List, [], ◌∷◌, ◌++◌, length, map, take, drop, refl, ap, ◌∙◌, arith, All}
+use Rattle.afdx_laws.proofs.Names.{cases_lt, lt-ltb, le-ltb, append_assoc, map-append, take-append-drop, map-map, Net, A, B, twin_of, Sent, twin_twice}
+use Rattle.afdx_laws.proofs.Names.{IsPrefixOf, carried, AreCarried, IsSent, IsLinkOf, IsSending, IsOfNet, IsHanded, AreHanded, AreCarriedOf, longer}
+use Rattle.afdx_laws.proofs.Names.{HandedArrive, HandedDespiteLoss}
 use Rattle.afdx_laws.proofs.ListLemmas.{cons_same, map_same}
 use Rattle.afdx_laws.proofs.Arriving.{messages_arrive_holds, despite_loss_holds}
 
--- a beginning of twins of the first frames is one of the twins
 begins_twins : (net : Net) (n : ℕ) (xs front all : List (List ℕ)) → front ≡ map (twin_of net) (take n all)
     → IsPrefixOf xs front → IsPrefixOf xs (map (twin_of net) all)
 begins_twins net n xs front all is p = (
@@ -15,27 +13,22 @@ begins_twins net n xs front all is p = (
   grind (arith, append_assoc, p.1, is, map-append, take-append-drop n all),
 )
 
--- a network's own frames are their twins for it
 pub own_twins : (net : Net) (xs : List (List ℕ)) → All (IsOfNet net) xs → map (twin_of net) xs ≡ xs
 own_twins net [] all = refl
 own_twins net (x ∷ xs) all =
     cons_same (all 0 x (omega arith)) (own_twins net xs (λ k d h. all (suc k) d (omega arith)))
 
--- a twin of a twin
 pub twin_twin : (first second : Net) (xs : List (List ℕ))
     → map (twin_of second) (map (twin_of first) xs) ≡ map (twin_of second) xs
 twin_twin first second xs =
     map-map (twin_of second) (twin_of first) xs ∙ map_same _ (twin_of second) xs (λ x. twin_twice second first x)
 
--- the longer list is B's
 pub longer_b : (a b : List (List ℕ)) → length a < length b → longer a b ≡ b
 longer_b a b shorter = ap (λ (t : Bool). cond t b a) (lt-ltb (length a) (length b) shorter)
 
--- and where it is A's
 pub longer_a : (a b : List (List ℕ)) → length b ≤ length a → longer a b ≡ a
 longer_a a b as_long = ap (λ (t : Bool). cond t b a) (le-ltb (length a) (length b) as_long)
 
--- what was handed to a network is sent to it
 pub sending_to : {end_system room sub : ℕ} {accepted : List Sent} {net : Net} {handed : List (List ℕ)}
     → IsLinkOf end_system room → All (IsSent sub) accepted → IsHanded end_system room sub accepted net handed
     → IsSending end_system room sub accepted net handed
@@ -70,14 +63,12 @@ carried_longer end_system room sub lag accepted a b handed = elim (cases_lt (len
   }
 ]
 
--- the law
 pub handed_arrive_holds : HandedArrive
 handed_arrive_holds end_system room sub lag tolerance accepted a b arrivals handed fit carry =
     let longest = carried_longer end_system room sub lag accepted a b handed in
     messages_arrive_holds end_system room sub lag tolerance accepted longest.net (longer a b) arrivals
     longest.sending fit (longest.carry arrivals carry)
 
--- the law despite loss
 pub handed_despite_loss_holds : HandedDespiteLoss
 handed_despite_loss_holds end_system room sub check whole accepted a b came handed some close =
     let longest = carried_longer end_system room sub 0 accepted a b handed in

@@ -1,11 +1,9 @@
 -- Fragments in order complete their datagrams in order, and need one buffer.
-use Rattle.afdx_laws.proofs.Names.{◌≡◌, ℕ, zero, suc, ◌+◌, ◌%◌, ◌≤◌, ◌<◌, inl, inr, true, false, nat_eq, cond, List}
-use Rattle.afdx_laws.proofs.Names.{[], ◌∷◌, ◌++◌, length, map, take, refl, ap, sym, ◌∙◌, arith, All, Option, Some}
-use Rattle.afdx_laws.proofs.Names.{None, nat_tests, cases_lt, cases_Bool, eqb-true, append_assoc, length-append}
-use Rattle.afdx_laws.proofs.Names.{length-map, identification, cutting, pieces_from, cutting_some, Fragment, Buffer}
-use Rattle.afdx_laws.proofs.Names.{empty, put, put_all, bytes_to, datagram_in, fragment_of, fragments_of}
-use Rattle.afdx_laws.proofs.Names.{IsPrefixOf, with_buffer, kept_in, given, delivered, of_sub, keyed, sent_from}
-use Rattle.afdx_laws.proofs.Names.{HasByte, AreGiven, InOrder, buffers_after}
+use Rattle.afdx_laws.proofs.Names.{◌≡◌, ℕ, zero, suc, ◌+◌, ◌%◌, ◌≤◌, ◌<◌, inl, inr, true, false, nat_eq, cond, List, [], ◌∷◌, ◌++◌, length, map, take, refl, ap}
+use Rattle.afdx_laws.proofs.Names.{sym, ◌∙◌, arith, All, Option, Some, None, nat_tests, cases_lt, cases_Bool, eqb-true, append_assoc, length-append, length-map}
+use Rattle.afdx_laws.proofs.Names.{identification, cutting, pieces_from, cutting_some, Fragment, Buffer, empty, put, put_all, bytes_to, datagram_in}
+use Rattle.afdx_laws.proofs.Names.{fragment_of, fragments_of, IsPrefixOf, with_buffer, kept_in, given, delivered, of_sub, keyed, sent_from, HasByte, AreGiven}
+use Rattle.afdx_laws.proofs.Names.{InOrder, buffers_after}
 use Rattle.afdx_frame.proofs.Buffers.{any_order_holds}
 use Rattle.afdx_laws.proofs.ListLemmas.{cons_parts, nil_isnt_cons, nil_begins}
 
@@ -13,12 +11,11 @@ use Rattle.afdx_laws.proofs.ListLemmas.{cons_parts, nil_isnt_cons, nil_begins}
 abbrev pub AreSame : ℕ → (ℕ → Buffer) → (ℕ → Buffer) → Type 0
 AreSame sub xs ys = (k : ℕ) → k % 4 ≡ sub → xs k ≡ ys k
 
--- they stay so where the buffer of another sub-VL changes
 other_with : (sub key : ℕ) (b : Buffer) (xs ys : ℕ → Buffer) → nat_eq (key % 4) sub ≡ false → AreSame sub xs ys
     → AreSame sub (with_buffer key b xs) ys
 other_with sub key b xs ys isnt same k is = let mine = same k is in grind (arith, nat_tests)
 
--- what is given for this sub-VL is one of its datagrams, and for another it isn't
+-- a datagram given under a key of this sub-VL is one of its datagrams; under another key it isn't
 of_given : (sub key : ℕ) (o : Option (List ℕ)) (rest : List (ℕ × List ℕ)) → nat_eq (key % 4) sub ≡ true
     → of_sub sub (given key o rest) ≡ given key o (of_sub sub rest)
 of_given sub key o rest is = grind arith
@@ -61,7 +58,6 @@ IsBlock [] = ⊥
 IsBlock (f ∷ []) = Unit {0}
 IsBlock (f ∷ g ∷ rest) = (f.more ≡ true) × IsBlock (g ∷ rest)
 
--- the fragments of pieces are such a block
 is_block : (d : List ℕ) (start : ℕ) (lens : List ℕ) → 0 < length lens
     → IsBlock (map (fragment_of d) (pieces_from start lens))
 is_block d start [] some = absurd (omega arith)
@@ -69,7 +65,7 @@ is_block d start (len ∷ []) some = tt
 is_block d start (len ∷ next ∷ lens) some =
     (grind (arith, nat_tests), is_block d (start + len) (next ∷ lens) (omega arith))
 
--- the first fragment of a datagram, and those behind it
+-- the first fragment of a datagram, and those after it
 record Begins (fs : List Fragment) : Type 0 where
   pub first : Fragment
   pub behind : List Fragment
@@ -84,7 +80,6 @@ begins room d some =
     first [] b = absurd b
     first (f ∷ fs) b = record { first = f; behind = fs; is = refl; chain = b }
 
--- one fragment more
 put_more : (fs : List Fragment) (b : Buffer) (f : Fragment) → put_all b (fs ++ f ∷ []) ≡ put (put_all b fs) f
 put_more [] b f = refl
 put_more (g ∷ fs) b f = put_more fs (put b g) f
@@ -94,8 +89,8 @@ pub record IsAlone (sub : ℕ) (buffers : ℕ → Buffer) : Type 0 where
   pub key : ℕ
   pub others : (k : ℕ) → k % 4 ≡ sub → (k ≡ key → ⊥) → buffers k ≡ empty
 
--- What comes of datagrams from a place on, where some fragments of the first came already: the first ones are given,
--- and all whose fragments came, so many of which, `left`, were missing of the first.
+-- What is given of the datagrams from a place on, if all but `left` fragments of the first came before: the first ones,
+-- and all whose fragments came.
 record DeliversFrom (room sub place left : ℕ) (buffers : ℕ → Buffer) (came : List (ℕ × Fragment)) (d : List ℕ)
     (later : List (List ℕ)) : Type 0 where
   pub many : ℕ
@@ -109,14 +104,12 @@ abbrev HoldsSoFar : ℕ → ℕ → (ℕ → Buffer) → List Fragment → Type 
 HoldsSoFar sub key buffers done = (buffers key ≡ put_all empty done)
     × ((k : ℕ) → k % 4 ≡ sub → (k ≡ key → ⊥) → buffers k ≡ empty)
 
--- the buffer that was changed, and each other one
 with_same : (key : ℕ) (b : Buffer) (buffers : ℕ → Buffer) → with_buffer key b buffers key ≡ b
 with_same key b buffers = grind (arith, nat_tests)
 
 with_else : (key k : ℕ) (b : Buffer) (buffers : ℕ → Buffer) → (k ≡ key → ⊥) → with_buffer key b buffers k ≡ buffers k
 with_else key k b buffers ne = grind (arith, nat_tests)
 
--- after a datagram all buffers of its sub-VL are empty
 all_empty : (sub key : ℕ) (buffers : ℕ → Buffer) → ((k : ℕ) → k % 4 ≡ sub → (k ≡ key → ⊥) → buffers k ≡ empty)
     → (k : ℕ) → k % 4 ≡ sub → with_buffer key empty buffers k ≡ empty
 all_empty sub key buffers others k is = grind (arith, nat_tests)
@@ -130,7 +123,6 @@ all_more room sub place n many d later block each zero few enough = omega arith
 all_more room sub place n many d later block each (suc i) few enough =
     grind (arith, each i, ap length block.is, length-append, length-map)
 
--- the last fragment of a datagram gives it
 completes : (b : Buffer) (f : Fragment) (room : ℕ) (done : List Fragment) (d : List ℕ) → 8 ≤ room → 1 ≤ length d
     → fragments_of room d ≡ done ++ f ∷ [] → b ≡ put_all empty done → datagram_in (put b f) ≡ Some d
 completes b f room done d least some split holds =
@@ -208,12 +200,10 @@ goes (c ∷ came) room sub place buffers done f [] d (e ∷ later) rest least sm
       alone = rw whole more.alone;
     })
 
--- what comes of a sub-VL's datagrams, and of its buffers
 pub record Reassembles (room sub : ℕ) (datagrams : List (List ℕ)) (came : List (ℕ × Fragment)) : Type 0 where
   pub given : AreGiven room sub datagrams came
   pub alone : IsAlone sub (buffers_after (λ key. empty) came)
 
--- where no fragment came none of a datagram with a byte did
 none_sent : (room sub : ℕ) (datagrams : List (List ℕ)) → All HasByte datagrams → (j : ℕ) → j ≤ length datagrams
     → length (sent_from room sub 0 (take j datagrams)) ≤ 0 → j ≤ 0
 none_sent room sub [] some j few none = few
@@ -221,7 +211,6 @@ none_sent room sub (d ∷ later) some j few none =
     all_more room sub 0 0 0 d later (begins room d (some 0 d (omega arith)))
     (λ i within enough. absurd (omega arith)) j few none
 
--- so nothing is given
 nothing : (room sub : ℕ) (datagrams : List (List ℕ)) (came : List (ℕ × Fragment)) → All HasByte datagrams
     → of_sub sub came ≡ []
     → Reassembles room sub datagrams came
@@ -240,12 +229,11 @@ nothing room sub datagrams came some none =
       };
     }
 
--- no identification tells a sub-VL past the fourth
+-- no identification is of a sub-VL past the fourth
 none_past : (sub : ℕ) (es : List (ℕ × Fragment)) → 4 ≤ sub → of_sub sub es ≡ []
 none_past sub [] past = refl
 none_past sub (e ∷ es) past = grind (arith, nat_tests, none_past sub es past)
 
--- of a sub-VL of a link
 below : (room sub : ℕ) (datagrams : List (List ℕ)) (came : List (ℕ × Fragment)) → 8 ≤ room → sub < 4
     → All HasByte datagrams → IsPrefixOf (of_sub sub came) (sent_from room sub 0 datagrams)
     → Reassembles room sub datagrams came
@@ -275,6 +263,5 @@ reassembles room sub datagrams came least some begun = elim (cases_lt sub 4) [
   | inr past ↦ nothing room sub datagrams came some (none_past sub came past)
 ]
 
--- the law
 pub in_order_holds : InOrder
 in_order_holds room sub datagrams came least some begun = (reassembles room sub datagrams came least some begun).given

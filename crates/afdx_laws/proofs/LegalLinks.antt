@@ -1,23 +1,17 @@
--- Each link of a plan, by what was handed over legally.
-use Rattle.afdx_laws.proofs.Names.{◌≡◌, ℕ, ◌≤◌, nat_eq, List, ◌++◌, length, map, take, drop, refl, ap, sym, ◌∙◌}
-use Rattle.afdx_laws.proofs.Names.{arith, ◌<◌, inl, inr, Bool, true, [], ◌∷◌, All, filter, take-append_seam}
-use Rattle.afdx_laws.proofs.Names.{take-append-drop, length-map, length-take, take_all, take-map, All-weaker}
-use Rattle.afdx_laws.proofs.Names.{All-map, All-filter, All-contains, map-map, LinkPlan, Net, A, B, blanked, Sent}
-use Rattle.afdx_laws.proofs.Names.{link_in, sub_in, number_in, twin_of, twin_same, twin_link, Entry, side, names}
-use Rattle.afdx_laws.proofs.Names.{those_with, link_stream, sub_stream, told, entry_number, IsNumbered, IsKnown}
-use Rattle.afdx_laws.proofs.Names.{AreKnown, AreTwins, Accepted, is_on_both, on_both, IsLegal, IsLegalOn, known_all}
-use Rattle.afdx_laws.proofs.Names.{with_append, with_map, numbered_map, IsLong, IsOfNet, IsHanded, AreHanded}
-use Rattle.afdx_laws.proofs.Names.{frames_of, id_at, piece_room, IsHandedOver, LegalArrive, LegalDespiteLoss}
-use Rattle.afdx_laws.proofs.Names.{cases_lt, eqb-true, Plan, IsPlan, link_plan_at, is_both, Networks, Both, OnlyA}
-use Rattle.afdx_laws.proofs.Names.{OnlyB, IsLink, IsPort, IsSent, IsLinkOf, IsAllowed}
-use Rattle.afdx_laws.proofs.HandedOver.{own_twins, twin_twin, handed_arrive_holds, handed_despite_loss_holds}
+-- Each link of a plan, by what was transmitted legally.
+use Rattle.afdx_laws.proofs.Names.{◌≡◌, ℕ, ◌≤◌, nat_eq, List, ◌++◌, length, map, take, drop, refl, ap, sym, ◌∙◌, arith, ◌<◌, inl, inr, Bool, true, [], ◌∷◌, All}
+use Rattle.afdx_laws.proofs.Names.{filter, take-append_seam, take-append-drop, length-map, length-take, take_all, take-map, All-weaker, All-map, All-filter}
+use Rattle.afdx_laws.proofs.Names.{All-contains, map-map, LinkPlan, Net, A, B, blanked, Sent, link_in, sub_in, number_in, twin_of, twin_same, twin_link, Entry}
+use Rattle.afdx_laws.proofs.Names.{side, names, those_with, link_stream, sub_stream, told, entry_number, IsNumbered, IsKnown, AreKnown, AreTwins, Accepted}
+use Rattle.afdx_laws.proofs.Names.{is_on_both, on_both, IsLegal, IsLegalOn, known_all, with_append, with_map, numbered_map, IsLong, IsOfNet, IsHanded}
+use Rattle.afdx_laws.proofs.Names.{AreHanded, frames_of, id_at, piece_room, IsHandedOver, LegalArrive, LegalDespiteLoss, cases_lt, eqb-true, Plan, IsPlan}
+use Rattle.afdx_laws.proofs.Names.{link_plan_at, is_both, Networks, Both, OnlyA, OnlyB, IsLink, IsPort, IsSent, IsLinkOf, IsAllowed}
 use Rattle.afdx_legal.proofs.OnBoth.{on_both_is}
+use Rattle.afdx_laws.proofs.HandedOver.{own_twins, twin_twin, handed_arrive_holds, handed_despite_loss_holds}
 
--- the frame of an entry
 abbrev frame_of_entry : Entry → List ℕ
 frame_of_entry e = e.frame
 
--- what holds of each known frame holds of a link's frames
 of_known : (P : List ℕ → Type 0) (links : List LinkPlan) (net : Net) (vl : ℕ) (es : List Entry)
     → ((frame : List ℕ) → IsKnown links net frame → P frame) → AreKnown links net es → All P (frames_of vl es)
 of_known P links net vl es each known =
@@ -26,36 +20,29 @@ of_known P links net vl es each known =
     All-map P frame_of_entry (link_stream vl es)
     (All-filter (λ (e : Entry). nat_eq (link_in e.frame) vl) (λ (e : Entry). P e.frame) es all)
 
--- a link's frames have all fields that are read
 pub long_of : (links : List LinkPlan) (net : Net) (vl : ℕ) (es : List Entry) → AreKnown links net es → All IsLong (frames_of vl es)
 long_of links net vl es known = of_known IsLong links net vl es (λ frame is. is.size) known
 
--- they are the network's own
 pub own_of : (links : List LinkPlan) (net : Net) (vl : ℕ) (es : List Entry) → AreKnown links net es
     → All (IsOfNet net) (frames_of vl es)
 own_of links net vl es known = of_known (IsOfNet net) links net vl es (λ frame is. twin_same net frame is.interface) known
 
--- and numbered as its entries are
 pub numbered_of : (es : List Entry) → IsNumbered entry_number 0 es → IsNumbered number_in 0 (map frame_of_entry es)
 numbered_of es numbered = numbered_map entry_number number_in frame_of_entry 0 es (λ k d inside. refl) numbered
 
--- a sub-VL's fragments, by entries and by frames
 pub told_is : (sub : ℕ) (es : List Entry)
     → told (sub_stream sub es) ≡ map blanked (those_with sub_in sub (map frame_of_entry es))
 told_is sub es =
     sym (map-map blanked frame_of_entry (sub_stream sub es))
     ∙ ap (map blanked) (sym (with_map (λ (e : Entry). sub_in e.frame) sub_in frame_of_entry sub (λ e. refl) es))
 
--- the frames of entries for another network
 pub frames_side : (net : Net) (es : List Entry) → map frame_of_entry (map (side net) es) ≡ map (twin_of net) (map frame_of_entry es)
 frames_side net es = map-map frame_of_entry (side net) es ∙ sym (map-map (twin_of net) frame_of_entry es)
 
--- a link's entries of entries for another network
 pub stream_side : (net : Net) (vl : ℕ) (es : List Entry) → link_stream vl (map (side net) es) ≡ map (side net) (link_stream vl es)
 stream_side net vl es = with_map (λ (e : Entry). link_in e.frame) (λ (e : Entry). link_in e.frame) (side net) vl
     (λ e. twin_link net e.frame) es
 
--- a link's entries in the first entries are its first
 stream_take : (vl n : ℕ) (es : List Entry)
     → link_stream vl (take n es) ≡ take (length (link_stream vl (take n es))) (link_stream vl es)
 stream_take vl n es = grind (
@@ -65,7 +52,6 @@ stream_take vl n es = grind (
   with_append (λ (e : Entry). link_in e.frame) vl (take n es) (drop n es),
 )
 
--- twins of the first entries have a link's entries as twins of its first
 pub stream_front : (net : Net) (vl : ℕ) (longer shorter : List Entry) → shorter ≡ map (side net) (take (length shorter) longer)
     → link_stream vl shorter ≡ map (side net) (take (length (link_stream vl shorter)) (link_stream vl longer))
 stream_front net vl longer shorter is = grind (
@@ -76,7 +62,6 @@ stream_front net vl longer shorter is = grind (
   stream_take vl (length shorter) longer,
 )
 
--- and its frames as twins of its first frames
 pub frames_front : (net : Net) (vl : ℕ) (longer shorter : List Entry) → shorter ≡ map (side net) (take (length shorter) longer)
     → frames_of vl shorter ≡ map (twin_of net) (take (length (frames_of vl shorter)) (frames_of vl longer))
 frames_front net vl longer shorter is = grind (
@@ -87,22 +72,20 @@ frames_front net vl longer shorter is = grind (
   length-map,
 )
 
--- where twins of the first of a network's own frames are as many, these are their twins in turn
+-- if all of a network's own frames have twins in a list, they are the twins of the first of that list
 turned_back : (first second : Net) (xs ys : List (List ℕ)) → All (IsOfNet first) xs
     → ys ≡ map (twin_of second) (take (length ys) xs) → length xs ≤ length ys
     → xs ≡ map (twin_of first) (take (length xs) ys)
 turned_back first second xs ys own is as_long =
     grind (arith, ap length is, length-map, length-take, take_all, twin_twin, own_twins first xs own)
 
--- so the shorter list is twins of the longer one's beginning, whichever that is
+-- the shorter list is twins of a beginning of the longer one, whichever that is
 pub twins_by_b : (xs ys : List (List ℕ)) → All (IsOfNet A) xs → ys ≡ map (twin_of B) (take (length ys) xs) → AreTwins twin_of xs ys
 twins_by_b xs ys own is = record { b_shorter = λ h. is; a_shorter = λ h. turned_back A B xs ys own is h }
 
--- and the other way round
 pub twins_by_a : (xs ys : List (List ℕ)) → All (IsOfNet B) ys → xs ≡ map (twin_of A) (take (length xs) ys) → AreTwins twin_of xs ys
 twins_by_a xs ys own is = record { b_shorter = λ h. turned_back B A ys xs own is h; a_shorter = λ h. is }
 
--- where all that passes p passes q, p leaves the same of what passed q
 filter_twice : {X : Type 0} (p q : X → Bool) → ((x : X) → p x ≡ true → q x ≡ true) → (xs : List X)
     → filter p (filter q xs) ≡ filter p xs
 filter_twice p q each [] = refl
@@ -115,7 +98,6 @@ frames_on_both links vl es on = ap (map (λ (e : Entry). e.frame))
     (filter_twice (λ (e : Entry). nat_eq (link_in e.frame) vl) (λ (e : Entry). is_on_both links (link_in e.frame))
     (λ e own. ap (is_on_both links) (eqb-true (link_in e.frame) vl own) ∙ on) es)
 
--- twins have a link's frames as twins
 frames_twins : (vl : ℕ) (a b : List Entry) → All (IsOfNet A) (frames_of vl a) → All (IsOfNet B) (frames_of vl b)
     → AreTwins side a b → AreTwins twin_of (frames_of vl a) (frames_of vl b)
 frames_twins vl a b own_a own_b twins = elim (cases_lt (length a) (length b)) [
@@ -123,12 +105,10 @@ frames_twins vl a b own_a own_b twins = elim (cases_lt (length a) (length b)) [
   | inr as_long ↦ twins_by_b (frames_of vl a) (frames_of vl b) own_a (frames_front B vl a b (twins.b_shorter (omega arith)))
 ]
 
--- nothing is twins of nothing
 nothing : (net : Net) (xs : List (List ℕ)) → length xs ≤ 0 → xs ≡ map (twin_of net) (take (length xs) [])
 nothing net [] h = refl
 nothing net (x ∷ xs) h = absurd (omega arith)
 
--- a link's frames are twins
 pub twins_are : (plan : Plan) (accepted : Accepted) (a b : List Entry) (k : ℕ) → IsPlan plan → IsLegal plan accepted a b
     → k < length plan.links → AreTwins twin_of (frames_of (id_at plan k) a) (frames_of (id_at plan k) b)
 twins_are plan accepted a b k valid legal inside = by_networks (link_plan_at plan.links k).networks refl
@@ -157,23 +137,19 @@ twins_are plan accepted a b k valid legal inside = by_networks (link_plan_at pla
         let none : frames_of vl a ≡ [] = ap frames (legal.on_a.carried k inside (ap (names A) is)) in
         rw none (record { b_shorter = nothing B (frames_of vl b); a_shorter = λ h. refl })
 
--- a link of a valid plan is one
 pub link_is : (plan : Plan) (k : ℕ) → IsPlan plan → k < length plan.links → IsLink (link_plan_at plan.links k)
 link_is plan k valid inside = valid.each_link k _ inside
 
--- it has its room
 room_is : (plan : Plan) (k : ℕ) → IsPlan plan → k < length plan.links → IsLinkOf plan.end_system (piece_room plan k)
 room_is plan k valid inside =
     let lmax = (link_is plan k valid inside).lmax in
     record { numbered = valid.end_system; least = omega arith; greatest = omega arith }
 
--- what may be sent by the plan may be sent
 pub sent_is : (plan : Plan) (k sub : ℕ) (sent : Sent) → IsPlan plan → IsAllowed plan k sub sent → IsSent sub sent
 sent_is plan k sub sent valid allowed =
     let port : IsPort sent.port = All-contains IsPort plan.ports sent.port valid.each_port allowed.port in
     record { port = port; its = allowed.its; some = allowed.some; most = allowed.most }
 
--- a link's frames were handed to a network
 pub handed_is : (plan : Plan) (accepted : Accepted) (net : Net) (handed : List Entry) (k sub : ℕ)
     → IsLegalOn plan accepted net handed → k < length plan.links → sub < (link_plan_at plan.links k).sub_vls
     → IsHanded plan.end_system (piece_room plan k) sub (accepted k sub) net (frames_of (id_at plan k) handed)
@@ -190,7 +166,6 @@ handed_is plan accepted net handed k sub legal inside index =
       first = (first.0, ap (λ (fs : List (List ℕ)). fs ++ first.0) (sym told) ∙ first.1);
     }
 
--- so a link's frames were handed to both networks
 pub are_handed : (plan : Plan) (accepted : Accepted) (a b : List Entry) (k sub : ℕ)
     → IsHandedOver plan accepted a b k sub
     → AreHanded plan.end_system (piece_room plan k) sub (accepted k sub)
@@ -204,14 +179,12 @@ are_handed plan accepted a b k sub h = record {
   twins = twins_are plan accepted a b k h.valid h.legal h.inside;
 }
 
--- the law
 pub legal_arrive_holds : LegalArrive
 legal_arrive_holds plan accepted a b k sub lag tolerance arrivals handed fit carry =
     handed_arrive_holds plan.end_system (piece_room plan k) sub lag tolerance (accepted k sub)
     (frames_of (id_at plan k) a) (frames_of (id_at plan k) b) arrivals
     (are_handed plan accepted a b k sub handed) fit carry
 
--- the law despite loss
 pub legal_despite_loss_holds : LegalDespiteLoss
 legal_despite_loss_holds plan accepted a b k sub check whole came handed some close =
     handed_despite_loss_holds plan.end_system (piece_room plan k) sub check whole (accepted k sub)

@@ -1,14 +1,10 @@
--- Each link of a plan keeps its gap and its greatest frame, by what was handed over legally: no fragment is greater.
-use Rattle.afdx_laws.proofs.Names.{ℕ, suc, ◌+◌, ◌-◌, ◌≤◌, inl, inr, List, [], ◌∷◌, length, map, get_or, sym, subst}
-use Rattle.afdx_laws.proofs.Names.{arith, ◌≡◌, ◌<◌, Bool, true, nat_eq, refl, ◌∙◌, All, filter, cases_Bool}
-use Rattle.afdx_laws.proofs.Names.{eqb-true, eq-eqb, false≢true, length-append, length-take, All-cons, All-nil}
-use Rattle.afdx_laws.proofs.Names.{All-append, All-filter, All-from_recursion, All-head, All-map, All-tail}
-use Rattle.afdx_laws.proofs.Names.{All-weaker, filter_passes, Plan, IsPlan, link_plan_at, IsPort, bag_micros}
-use Rattle.afdx_laws.proofs.Names.{room_of, Net, Piece, cutting, pieces_from, Sent, fragments_from, blanked}
-use Rattle.afdx_laws.proofs.Names.{unnumbered, link_in, sub_in, IsPiece, length-frame, Entry, link_stream, told_of}
-use Rattle.afdx_laws.proofs.Names.{Accepted, IsKnown, AreKnown, IsLegalOn, IsAllowed, known_all, IsLong, IsSent}
-use Rattle.afdx_laws.proofs.Names.{IsUpTo, id_at, LegalPasses}
-use Rattle.afdx_frame.specs.Fragments.{fragments_at}
+-- Each link of a plan keeps its gap and its greatest frame, by what was transmitted legally: no fragment is greater.
+use Rattle.afdx_laws.proofs.Names.{ℕ, suc, ◌+◌, ◌-◌, ◌≤◌, inl, inr, List, [], ◌∷◌, length, map, get_or, sym, subst, arith, ◌≡◌, ◌<◌, Bool, true, nat_eq, refl}
+use Rattle.afdx_laws.proofs.Names.{◌∙◌, All, filter, cases_Bool, eqb-true, eq-eqb, false≢true, length-append, length-take, All-cons, All-nil, All-append}
+use Rattle.afdx_laws.proofs.Names.{All-filter, All-from_recursion, All-head, All-map, All-tail, All-weaker, filter_passes, Plan, IsPlan, link_plan_at, IsPort}
+use Rattle.afdx_laws.proofs.Names.{bag_micros, room_of, Net, Piece, cutting, pieces_from, Sent, fragments_from, blanked, unnumbered, link_in, sub_in, IsPiece}
+use Rattle.afdx_laws.proofs.Names.{length-frame, Entry, link_stream, told_of, Accepted, IsKnown, AreKnown, IsLegalOn, IsAllowed, known_all, IsLong, IsSent}
+use Rattle.afdx_laws.proofs.Names.{IsUpTo, id_at, LegalPasses, fragments_at}
 use Rattle.afdx_laws.proofs.ListLemmas.{all_front}
 use Rattle.afdx_laws.proofs.Reading.{cutting_lies, from_start}
 use Rattle.afdx_laws.proofs.LegalLinks.{link_is, sent_is}
@@ -18,7 +14,6 @@ use Rattle.afdx_laws.proofs.Credit.{stream_passes_holds}
 abbrev pub IsShort : ℕ → List ℕ → Type 0
 IsShort lmax frame = length frame + 5 ≤ lmax
 
--- the fragment of a piece is short enough
 short_piece : (end_system lmax place : ℕ) (sent : Sent) (piece : Piece) (net : Net) → 64 ≤ lmax → IsPort sent.port
     → IsPiece (length sent.bytes) piece → piece.len ≤ room_of lmax
     → IsShort lmax (unnumbered end_system sent.port sent.bytes place piece net)
@@ -27,7 +22,6 @@ short_piece end_system lmax place sent piece net least port is fits =
     let parts = length-append (unnumbered end_system sent.port sent.bytes place piece net) (0 ∷ []) in
     omega arith
 
--- so are those of a message
 short_message : (end_system lmax place : ℕ) (sent : Sent) (net : Net) → 64 ≤ lmax → lmax ≤ 1518 → IsPort sent.port
     → All (IsShort lmax) (fragments_at end_system (room_of lmax) net place sent)
 unfolding fragments_at
@@ -39,7 +33,6 @@ short_message end_system lmax place sent net least greatest port =
     (All-from_recursion (IsPiece size) pieces (from_start (room_of lmax) size (omega arith) (omega arith)) i d h)
     (cutting_lies (room_of lmax) (8 + size) i d h).0)
 
--- and of all messages
 short_messages : (accepted : List Sent) (end_system lmax sub place : ℕ) (net : Net) → 64 ≤ lmax → lmax ≤ 1518
     → All (IsSent sub) accepted → All (IsShort lmax) (fragments_from end_system (room_of lmax) net place accepted)
 short_messages [] end_system lmax sub place net least greatest sent = All-nil (IsShort lmax)
@@ -49,12 +42,11 @@ short_messages (s ∷ later) end_system lmax sub place net least greatest sent =
     (short_message end_system lmax place s net least greatest (sent 0 s (omega arith)).port)
     (short_messages later end_system lmax sub (suc place) net least greatest (λ k d h. sent (suc k) d (omega arith)))
 
--- an entry of one of so many sub-VLs, with a frame that has all fields
+-- an entry of one of the sub-VLs, with a frame that has all fields
 pub record IsOfSubs (subs : ℕ) (e : Entry) : Type 0 where
   pub long : IsLong e.frame
   pub of_sub : sub_in e.frame < subs
 
--- a known entry of a link is of one of its sub-VLs
 known_within : (plan : Plan) (net : Net) (k : ℕ) (e : Entry) → IsPlan plan → k < length plan.links
     → IsKnown plan.links net e.frame → nat_eq (link_in e.frame) (id_at plan k) ≡ true → IsOfSubs (link_plan_at plan.links k).sub_vls e
 known_within plan net k e valid inside known on =
@@ -65,7 +57,6 @@ known_within plan net k e valid inside known on =
       of_sub = subst (λ (j : ℕ). sub_in e.frame < (link_plan_at plan.links j).sub_vls) at known.of_sub;
     }
 
--- so are all of its stream
 pub stream_within : (plan : Plan) (net : Net) (k : ℕ) (es : List Entry) → IsPlan plan → k < length plan.links
     → AreKnown plan.links net es → All (IsOfSubs (link_plan_at plan.links k).sub_vls) (link_stream (id_at plan k) es)
 stream_within plan net k es valid inside known i d h =
@@ -74,7 +65,7 @@ stream_within plan net k es valid inside known i d h =
     (All-filter on (λ (e : Entry). IsKnown plan.links net e.frame) es (known_all plan.links net es known) i d h)
     (filter_passes on es i d h)
 
--- what holds of what was made of those that pass a test holds of each that passes it
+-- what holds of the images of the elements that pass a test
 of_passed : {X Y : Type 0} (P : Y → Type 0) (f : X → Y) (test : X → Bool) (xs : List X) → All P (map f (filter test xs))
     → All (λ x. test x ≡ true → P (f x)) xs
 of_passed P f test [] all = All-nil (λ x. test x ≡ true → P (f x))
@@ -87,7 +78,6 @@ of_passed P f test (x ∷ xs) all = elim (cases_Bool (test x)) [
       (of_passed P f test xs (rw isnt at all))
 ]
 
--- the fragments of each sub-VL are short enough
 short_told : (plan : Plan) (accepted : Accepted) (net : Net) (handed : List Entry) (k sub : ℕ) → IsPlan plan
     → IsLegalOn plan accepted net handed → k < length plan.links → sub < (link_plan_at plan.links k).sub_vls
     → All (IsAllowed plan k sub) (accepted k sub)
@@ -99,7 +89,6 @@ short_told plan accepted net handed k sub valid legal inside index allowed =
     (short_messages (accepted k sub) plan.end_system (link_plan_at plan.links k).lmax sub 0 net lmax.0 lmax.1
     (All-weaker (IsAllowed plan k sub) (IsSent sub) (λ sent is. sent_is plan k sub sent valid is) (accepted k sub) allowed))
 
--- the law: a link's frames are no greater than its greatest
 pub legal_passes_holds : LegalPasses
 legal_passes_holds plan accepted net handed valid legal k inside allowed charge jitter around passages way =
     let stream : List Entry = link_stream (id_at plan k) handed in

@@ -1,46 +1,36 @@
 -- Lists that are the same, and what holds of the one place of a list.
-use Rattle.afdx_laws.proofs.Names.{◌≡◌, ℕ, ◌<◌, false, nat_eq, List, [], ◌∷◌, ◌++◌, length, map, refl, sym, subst}
-use Rattle.afdx_laws.proofs.Names.{arith, All, take-append_seam, All-take}
+use Rattle.afdx_laws.proofs.Names.{◌≡◌, ℕ, ◌<◌, false, nat_eq, List, [], ◌∷◌, ◌++◌, length, map, refl, sym, subst, arith, All, take-append_seam, All-take}
 
--- the parts of two lists that are the same
 pub cons_parts : {X : Type 0} {x y : X} {xs ys : List X} → x ∷ xs ≡ y ∷ ys → (x ≡ y) × (xs ≡ ys)
 cons_parts e = (cc, cc)
 
--- lists with the same parts are the same
 pub cons_same : {X : Type 0} {x y : X} {xs ys : List X} → x ≡ y → xs ≡ ys → x ∷ xs ≡ y ∷ ys
 cons_same here later = cc
 
 pub append_same : {X : Type 0} {xs ys us vs : List X} → xs ≡ ys → us ≡ vs → xs ++ us ≡ ys ++ vs
 append_same front back = cc
 
--- the empty list has no parts
 pub nil_isnt_cons : {X : Type 0} {x : X} {xs : List X} → [] ≡ x ∷ xs → ⊥
 nil_isnt_cons e = cc
 
--- nothing begins with nothing alone
 pub nil_begins : {X : Type 0} (xs ys : List X) → xs ++ ys ≡ [] → xs ≡ []
 nil_begins [] ys e = refl
 nil_begins (x ∷ xs) ys e = cc
 
--- what holds of a list holds of its beginning
 pub all_front : {X : Type 0} (P : X → Type 0) (xs rest ys : List X) → xs ++ rest ≡ ys → All P ys → All P xs
 all_front {X = X} P xs rest ys is all =
     subst (λ (zs : List X). All P zs) (take-append_seam xs rest)
     (All-take P (length xs) (xs ++ rest) (subst (λ (zs : List X). All P zs) (sym is) all))
 
--- functions that agree
 pub map_same : {X Y : Type 0} (f g : X → Y) (xs : List X) → ((x : X) → f x ≡ g x) → map f xs ≡ map g xs
 map_same f g [] same = refl
 map_same f g (x ∷ xs) same = cons_same (same x) (map_same f g xs same)
 
--- lists of other lengths are others
 pub other_length : {X : Type 0} {xs ys : List X} → nat_eq (length xs) (length ys) ≡ false → xs ≡ ys → ⊥
 other_length other is = grind arith
 
--- what holds of 0 holds below 1
 pub below_one : (P : ℕ → Type 0) → P 0 → (k : ℕ) → k < 1 → P k
 below_one P p k below = grind arith
 
--- and of two places
 pub below_both : (P : ℕ → ℕ → Type 0) (most : ℕ → ℕ) → most 0 ≡ 1 → P 0 0 → (k s : ℕ) → k < 1 → s < most k → P k s
 below_both P most one p k s in_k in_s = grind arith

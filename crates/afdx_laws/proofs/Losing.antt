@@ -1,11 +1,9 @@
 -- The whole network makes good what the other one loses.
-use Rattle.afdx_laws.proofs.Names.{◌&&◌, ◌≡◌, ℕ, suc, ◌+◌, ◌-◌, ◌≤◌, ◌<◌, ◌⊎◌, inl, inr, Bool, true, false, cond}
-use Rattle.afdx_laws.proofs.Names.{max, List, [], ◌∷◌, ◌++◌, length, map, take, get_or, refl, ap, sym, ◌∙◌, subst}
-use Rattle.afdx_laws.proofs.Names.{arith, Some, None, cases_Bool, and_parts, append-nil, get_or-map, length-map}
-use Rattle.afdx_laws.proofs.Names.{sequence_number, Net, A, twin_of, Tolerance, State, other, begin, is_accepted}
-use Rattle.afdx_laws.proofs.Names.{is_valid, is_ahead, received, carried, with_seen, with_accepted, seen_on}
-use Rattle.afdx_laws.proofs.Names.{number_in, same_net, AreWithin, StartsFirst, AreClose, BeginsFirst, frame_at}
-use Rattle.afdx_laws.proofs.Names.{LossMasked, FirstComes, MaskedFromFirst, NumbersClash}
+use Rattle.afdx_laws.proofs.Names.{◌&&◌, ◌≡◌, ℕ, suc, ◌+◌, ◌-◌, ◌≤◌, ◌<◌, ◌⊎◌, inl, inr, Bool, true, false, cond, max, List, [], ◌∷◌, ◌++◌, length, map, take}
+use Rattle.afdx_laws.proofs.Names.{get_or, refl, ap, sym, ◌∙◌, subst, arith, Some, None, cases_Bool, and_parts, append-nil, get_or-map, length-map}
+use Rattle.afdx_laws.proofs.Names.{sequence_number, Net, A, twin_of, Tolerance, State, other, begin, is_accepted, is_valid, is_ahead, received, carried}
+use Rattle.afdx_laws.proofs.Names.{with_seen, with_accepted, seen_on, number_in, same_net, AreWithin, StartsFirst, AreClose, BeginsFirst, frame_at, LossMasked}
+use Rattle.afdx_laws.proofs.Names.{FirstComes, MaskedFromFirst, NumbersClash}
 use Rattle.afdx_laws.proofs.NumberLemmas.{last, new_next, valid_next, old_copy, old_is_ahead, next_is, differ}
 use Rattle.afdx_laws.proofs.Receiving.{IsPlaced, grows, placed}
 
@@ -13,36 +11,30 @@ use Rattle.afdx_laws.proofs.Receiving.{IsPlaced, grows, placed}
 too_far : (c i : ℕ) → 1 ≤ c → c < i → i < c + 255 → is_ahead 1 (last c) (sequence_number i) ≡ false
 too_far c i some far near = grind (arith, next_is, differ)
 
--- what is accepted is the next frame
 is_next : (c i high : ℕ) → high ≤ i + 254 → c ≤ high → i < c + 255 → (high ≡ 0 → i ≡ 0) → (high ≡ 0) ⊎ (1 ≤ c)
     → is_ahead 1 (last c) (sequence_number i) ≡ true → i ≡ c
 is_next c i high near within far first begun new = grind (arith, old_copy, too_far)
 
--- the state after a frame
 accepted_seen : (net : Net) (n : ℕ) (state : State) → (with_seen net n state).accepted ≡ state.accepted
 accepted_seen net n state = grind arith
 
--- accepting a frame leaves what was seen
 seen_accepted : (net : Net) (n : ℕ) (state : State) → seen_on net (with_accepted n state) ≡ seen_on net state
 seen_accepted net n state = grind arith
 
--- what was seen last on the whole network, after a frame
 seen_after : (whole net : Net) (b i : ℕ) (state : State) → seen_on whole state ≡ last b
     → (same_net whole net ≡ true → i ≡ b)
     → seen_on whole (with_seen net (sequence_number i) state) ≡ last (cond (same_net whole net) (b + 1) b)
 seen_after whole net b i state seen own = grind arith
 
--- what was seen last on the frame's own network
 seen_own : (whole net : Net) (state : State) → same_net whole net ≡ true → seen_on net state ≡ seen_on whole state
 seen_own whole net state same = grind arith
 
--- what the whole network carried, counted from a place
 count_whole : {F : Type 0} (whole net : Net) (frame : F) (b : ℕ) (es : List (Net × F))
     → cond (same_net whole net) (b + 1) b + length (carried whole es) ≡ b + length
     (carried whole ((net, frame) ∷ es))
 count_whole whole net frame b es = grind arith
 
--- where the receiver drops a frame, it isn't behind the whole network, and has accepted one
+-- if the receiver drops a frame, it has accepted at least as many as the whole network carried, and at least one
 dropped : (check : ℕ) (whole net : Net) (b c i high : ℕ) (state : State) → 1 ≤ check → seen_on whole state ≡ last b
     → b ≤ c → c ≤ high → (high ≡ 0 → i ≡ 0) → (high ≡ 0) ⊎ (1 ≤ c) → (same_net whole net ≡ true → i ≡ b)
     → (is_valid check (seen_on net state) (sequence_number i) && is_ahead 1 (last c) (sequence_number i)) ≡ false
@@ -50,7 +42,6 @@ dropped : (check : ℕ) (whole net : Net) (b c i high : ℕ) (state : State) →
 dropped check whole net b c i high state some seen behind within first begun own drops =
     grind (arith, valid_next, new_next, seen_own)
 
--- nor is it behind where it accepts
 grown_le_suc : (t : Bool) (b c : ℕ) → b ≤ c → cond t (b + 1) b ≤ suc c
 grown_le_suc t b c le = grind arith
 
@@ -60,7 +51,6 @@ pub record Masks {F : Type 0} (h : F → F) (stream got : List F) (c reach : ℕ
   pub reaches : reach ≤ many
   pub are : take c stream ++ map h got ≡ take many stream
 
--- whatever comes next, so it is accepted
 masks : {F : Type 0} (number : F → ℕ) (h : F → F) (stream : List F) (frame : Net → ℕ → F)
     (check : ℕ) (whole : Net) (es : List (Net × ℕ)) (state : State) (high b c : ℕ)
     → 1 ≤ check → ((net : Net) (i : ℕ) → i < length stream → IsPlaced number h stream i (frame net i))
@@ -118,7 +108,6 @@ masks {F = F} number h stream frame check whole
           record { many = more.many; reaches = omega arith; are = rw (test ∙ drops) more.are }
     ]
 
--- the law
 pub loss_masked_holds : LossMasked
 loss_masked_holds whole check stream came some frames close =
     let size = length-map stream (twin_of A) in
@@ -137,24 +126,20 @@ loss_masked_holds whole check stream came some frames close =
     begun : (whole : Net) → seen_on whole begin ≡ None
     begun whole = grind arith
 
--- the first frame to come is of the whole network or of the other
 starts : (whole : Net) (n : ℕ) (came : List (Net × ℕ)) → AreWithin whole n 0 0 came → BeginsFirst (other whole) came
     → StartsFirst came
 starts whole n [] within begins = tt
 starts whole n ((net, i) ∷ es) within begins = grind (arith, within.0.in_order, begins i (carried (other whole) es))
 
--- where both networks begin with the first frame, it comes first
 pub first_comes_holds : FirstComes
 first_comes_holds whole n came within begins =
     record { within = within; first = λ none. starts whole n came within begins }
 
--- so a loss is masked
 pub masked_from_first_holds : MaskedFromFirst
 masked_from_first_holds whole check stream came some frames within begins =
     loss_masked_holds whole check stream came some frames
     (first_comes_holds whole (length stream) came within begins)
 
--- the law of the clash
 pub numbers_clash_holds : NumbersClash
 numbers_clash_holds check window lag place checks opens behind apart old =
     grind (arith, valid_next check place, old_is_ahead window (place + lag - 1) place)

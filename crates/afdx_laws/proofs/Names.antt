@@ -1,15 +1,15 @@
 -- The names of other crates, and of this one's definitions, that the proofs here use.
-pub use Rattle.std.proofs.Common.{Bool, List, [], ap, arith, cond, drop, eqb, false, get_or, inl, inr, length, map}
-pub use Rattle.std.proofs.Common.{max, nat_eq, nat_le, nat_lt, not, refl, rules, subst, suc, sym, take, true, zero}
-pub use Rattle.std.proofs.Common.{ℕ, ◌%◌, ◌&&◌, ◌*◌, ◌++◌, ◌+◌, ◌-◌, ◌/◌, ◌<◌, ◌||◌, ◌∙◌, ◌∷◌, ◌≡◌, ◌≢◌, ◌≤◌, ◌⊎◌}
+pub use Rattle.std.proofs.Common.{Bool, List, [], ap, arith, cond, drop, eqb, false, get_or, inl, inr, length, map, max}
+pub use Rattle.std.proofs.Common.{nat_eq, nat_le, nat_lt, not, refl, rules, subst, suc, sym, take, true, zero, ℕ, ◌%◌}
+pub use Rattle.std.proofs.Common.{◌&&◌, ◌*◌, ◌++◌, ◌+◌, ◌-◌, ◌/◌, ◌<◌, ◌||◌, ◌∙◌, ◌∷◌, ◌≡◌, ◌≢◌, ◌≤◌, ◌⊎◌}
 pub use Rattle.std.proofs.Math.Seq.{take-append_seam}
-pub use Rattle.std.proofs.lemmas.Bool.{and_parts, cases_Bool, cases_eq, cases_lt, eq-eqb, eqb-true, false≢true}
-pub use Rattle.std.proofs.lemmas.Bool.{le-leb, le-ltb, lt-ltb, ne_eqb}
+pub use Rattle.std.proofs.lemmas.Bool.{and_parts, cases_Bool, cases_eq, cases_lt, eq-eqb, eqb-true, false≢true, le-leb}
+pub use Rattle.std.proofs.lemmas.Bool.{le-ltb, lt-ltb, ne_eqb}
 pub use Rattle.std.proofs.lemmas.Bool.Decides.{nat_tests}
 pub use Rattle.std.proofs.lemmas.Grind.{common_steps}
-pub use Rattle.std.proofs.lemmas.List.{append-nil, append_assoc, drop-set-lt, drop_all, drop_at, drop_more}
-pub use Rattle.std.proofs.lemmas.List.{get_or-map, length-append, length-drop, length-map, length-take, map-append}
-pub use Rattle.std.proofs.lemmas.List.{set-set, take-append-drop, take-map, take-take, take_all, take_more}
+pub use Rattle.std.proofs.lemmas.List.{append-nil, append_assoc, drop-set-lt, drop_all, drop_at, drop_more, get_or-map}
+pub use Rattle.std.proofs.lemmas.List.{length-append, length-drop, length-map, length-take, map-append, set-set}
+pub use Rattle.std.proofs.lemmas.List.{take-append-drop, take-map, take-take, take_all, take_more}
 pub use Rattle.std.proofs.lemmas.List.Elements.{All-append, All-cons, All-contains, All-filter, All-from_recursion}
 pub use Rattle.std.proofs.lemmas.List.Elements.{All-head, All-map, All-nil, All-tail, All-take, All-weaker}
 pub use Rattle.std.proofs.lemmas.List.Elements.{filter_passes}
@@ -18,28 +18,6 @@ pub use Rattle.std.proofs.lemmas.Nat.{le-div, mul-le}
 pub use Rattle.std.proofs.lemmas.Simd.{map-map}
 pub use Rattle.std.specs.List.{AllByRecursion, AllZip, IsDistinct, list_any}
 pub use Rattle.std.specs.Prelude.{All, Contains, None, Option, Some, filter, if◌then◌else◌, slice_index}
-pub use Rattle.afdx_frame.proofs.CuttingLemmas.{cut_last, cut_more, cutting_some, step_le}
-pub use Rattle.afdx_frame.proofs.Says.{length-frame, payload_says, says, total_ok}
-pub use Rattle.afdx_frame.proofs.Twins.{twin_link, twin_number, twin_same, twin_sub, twin_twice, twin_word}
-pub use Rattle.afdx_frame.specs.Cutting.{cut_by, cutting, pieces_from}
-pub use Rattle.afdx_frame.specs.Fragments.{Sent, blanked, fragments, fragments_from}
-pub use Rattle.afdx_frame.specs.Frame.{datagram, frame_of, interface_byte, udp_header, unnumbered}
-pub use Rattle.afdx_frame.specs.Header.{link_in, number_in, sub_in}
-pub use Rattle.afdx_frame.specs.Profile.{total_length, word_at}
-pub use Rattle.afdx_frame.specs.ReadBack.{IsPiece}
-pub use Rattle.afdx_frame.specs.Reassembly.{Buffer, Fragment, bytes_to, datagram_in, empty, end_of, fragment_of}
-pub use Rattle.afdx_frame.specs.Reassembly.{fragments_of, put, put_all}
-pub use Rattle.afdx_frame.specs.Twin.{twin_of}
-pub use Rattle.afdx_frame.specs.declared.net.Net.{Net}
-pub use Rattle.afdx_frame.specs.declared.net.Net.TheVariants.{A, B}
-pub use Rattle.afdx_frame.specs.declared.piece.Piece.{Piece}
-pub use Rattle.afdx_legal.proofs.StreamLemmas.{known_all, numbered_at, numbered_map, with_append, with_map}
-pub use Rattle.afdx_legal.specs.Allowed.{IsAllowed, messages_of}
-pub use Rattle.afdx_legal.specs.Legal.{Accepted, AreKnown, AreTwins, IsKnown, IsLegal, IsLegalOn, is_on_both}
-pub use Rattle.afdx_legal.specs.Legal.{on_both}
-pub use Rattle.afdx_legal.specs.Own.{own_stream}
-pub use Rattle.afdx_legal.specs.Streams.{IsNumbered, IsPrefixOf, IsSpaced, entry_number, link_stream, stamp_of}
-pub use Rattle.afdx_legal.specs.Streams.{sub_stream, those_with, told, told_of}
 pub use Rattle.afdx_plan.proofs.DemoPlan.{demo_port_is, demo_valid}
 pub use Rattle.afdx_plan.specs.Config.{HasLink, IsPlan, Plan, link_plan_at, port_plan_at}
 pub use Rattle.afdx_plan.specs.Networks.{is_both}
@@ -49,8 +27,34 @@ pub use Rattle.afdx_plan.specs.Room.{room_of, step_of}
 pub use Rattle.afdx_plan.specs.declared.link_plan.LinkPlan.{LinkPlan}
 pub use Rattle.afdx_plan.specs.declared.networks.Networks.{Networks}
 pub use Rattle.afdx_plan.specs.declared.networks.Networks.TheVariants.{Both, OnlyA, OnlyB}
+pub use Rattle.afdx_frame.proofs.CuttingLemmas.{cut_last, cut_more, cutting_some, step_le}
+pub use Rattle.afdx_frame.proofs.Says.{length-frame, payload_says, says, total_ok}
+pub use Rattle.afdx_frame.proofs.Twins.{twin_link, twin_number, twin_same, twin_sub, twin_twice, twin_word}
+unfoldable pub use Rattle.afdx_frame.specs.Checksum.{checksum}
+pub use Rattle.afdx_frame.specs.Cutting.{cut_by, pieces_from}
+unfoldable pub use Rattle.afdx_frame.specs.Cutting.{cutting}
+pub use Rattle.afdx_frame.specs.Fragments.{Sent, blanked, fragments, fragments_from}
+unfoldable pub use Rattle.afdx_frame.specs.Fragments.{fragments_at}
+pub use Rattle.afdx_frame.specs.Frame.{frame_of, interface_byte}
+unfoldable pub use Rattle.afdx_frame.specs.Frame.{addresses, datagram, header_front, internet_header, link_header}
+unfoldable pub use Rattle.afdx_frame.specs.Frame.{udp_header, unnumbered}
+pub use Rattle.afdx_frame.specs.Header.{link_in, number_in, sub_in}
+pub use Rattle.afdx_frame.specs.Profile.{total_length, word_at}
+pub use Rattle.afdx_frame.specs.ReadBack.{IsPiece}
+pub use Rattle.afdx_frame.specs.Reassembly.{Buffer, Fragment, bytes_to, datagram_in, empty, end_of, fragment_of}
+pub use Rattle.afdx_frame.specs.Reassembly.{fragments_of, put, put_all}
+pub use Rattle.afdx_frame.specs.Twin.{twin_of}
+pub use Rattle.afdx_frame.specs.declared.net.Net.{Net}
+pub use Rattle.afdx_frame.specs.declared.net.Net.TheVariants.{A, B}
+pub use Rattle.afdx_frame.specs.declared.piece.Piece.{Piece}
 pub use Rattle.redundant_mux.specs.Entry.{Entry, entry}
 pub use Rattle.redundant_mux.specs.Logged.{names, side}
+pub use Rattle.afdx_legal.proofs.StreamLemmas.{known_all, numbered_at, numbered_map, with_append, with_map}
+pub use Rattle.afdx_legal.specs.Allowed.{IsAllowed, messages_of}
+pub use Rattle.afdx_legal.specs.Legal.{Accepted, AreKnown, AreTwins, IsKnown, IsLegal, IsLegalOn, is_on_both, on_both}
+pub use Rattle.afdx_legal.specs.Own.{own_stream}
+pub use Rattle.afdx_legal.specs.Streams.{IsNumbered, IsPrefixOf, IsSpaced, entry_number, link_stream, stamp_of}
+pub use Rattle.afdx_legal.specs.Streams.{sub_stream, those_with, told, told_of}
 pub use Rattle.afdx_laws.specs.Buffers.{HandedNeedOne, HasUpTo, HoldsOne, IsOneEnough, LegalNeedOne}
 pub use Rattle.afdx_laws.specs.Buffers.{LegalNeedOneDespite, OneBuffer, buffers_after}
 pub use Rattle.afdx_laws.specs.Delivery.{AreGiven, HasByte, InOrder, delivered, given, kept_in, keyed, of_sub}
@@ -63,18 +67,17 @@ pub use Rattle.afdx_laws.specs.Messages.{AreFirst, DespiteLoss, IsLinkOf, IsSend
 pub use Rattle.afdx_laws.specs.Messages.{fragment_in, messages_in}
 pub use Rattle.afdx_laws.specs.Networks.{AreCarried, ExactlyOnce, IsLong, IsStream, most_carried}
 pub use Rattle.afdx_laws.specs.Plans.{AllOnBoth, IsHandedOver, IsOn, IsOnBoth, LegalArrive, LegalDespiteLoss}
-pub use Rattle.afdx_laws.specs.Plans.{LegalPasses, OneNetworkArrives, OwnListsArrive, all_from, frames_of}
-pub use Rattle.afdx_laws.specs.Plans.{handed_to, id_at, longer_of, piece_room}
-pub use Rattle.afdx_laws.specs.Policer.{Account, AreBetween, AreOnTime, Arrival, Charge, IsOnItsWay, IsOnTime}
-pub use Rattle.afdx_laws.specs.Policer.{IsUpTo, NoMorePasses, NoneDropped, Passage, Rule, StreamPasses, arrival}
-pub use Rattle.afdx_laws.specs.Policer.{by_bytes, by_frames, cost, filled, full, limit, paid, passed, price}
-pub use Rattle.afdx_laws.specs.Policer.{rule_around}
+pub use Rattle.afdx_laws.specs.Plans.{LegalPasses, OneNetworkArrives, OwnListsArrive, all_from, frames_of, handed_to}
+pub use Rattle.afdx_laws.specs.Plans.{id_at, longer_of, piece_room}
+pub use Rattle.afdx_laws.specs.Policer.{Account, AreBetween, AreOnTime, Arrival, Charge, IsOnItsWay, IsOnTime, IsUpTo}
+pub use Rattle.afdx_laws.specs.Policer.{NoMorePasses, NoneDropped, Passage, Rule, StreamPasses, arrival, by_bytes}
+pub use Rattle.afdx_laws.specs.Policer.{by_frames, cost, filled, full, limit, paid, passed, price, rule_around}
 pub use Rattle.afdx_laws.specs.Receiver.{IsNear, State, Tolerance, ahead, begin, carried, carried_by, is_accepted}
 pub use Rattle.afdx_laws.specs.Receiver.{is_ahead, is_valid, next_number, other, received, seen_on, with_accepted}
 pub use Rattle.afdx_laws.specs.Receiver.{with_seen}
 pub use Rattle.afdx_laws.specs.WorkedDelivery.{AcceptsEachOnce, NeedsALag, NeedsAStream, NeedsHanding, NeedsNumbers}
-pub use Rattle.afdx_laws.specs.WorkedDelivery.{OneMessageArrives, bare_frame, bare_stream, both_frames}
-pub use Rattle.afdx_laws.specs.WorkedDelivery.{closed_receiver, far_behind, four_arrivals, one_accepted}
-pub use Rattle.afdx_laws.specs.WorkedDelivery.{plain_receiver, same_twice, three_arrivals, wide_receiver}
+pub use Rattle.afdx_laws.specs.WorkedDelivery.{OneMessageArrives, bare_frame, bare_stream, both_frames, closed_receiver}
+pub use Rattle.afdx_laws.specs.WorkedDelivery.{far_behind, four_arrivals, one_accepted, plain_receiver, same_twice}
+pub use Rattle.afdx_laws.specs.WorkedDelivery.{three_arrivals, wide_receiver}
 pub use Rattle.afdx_laws.specs.WorkedLoss.{BeginsOnBoth, ComesDespiteLoss, MasksOneLoss, NeedsAWholeNetwork}
 pub use Rattle.afdx_laws.specs.WorkedLoss.{NeedsOneWhole, NeedsTheFirst, first_lost, messages_despite, second_lost}

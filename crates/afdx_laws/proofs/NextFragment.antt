@@ -1,10 +1,8 @@
 -- The next fragment of a message comes within a round of the sub-VLs.
-use Rattle.afdx_laws.proofs.Names.{◌≡◌, ◌≢◌, ℕ, zero, suc, ◌+◌, ◌*◌, ◌≤◌, ◌<◌, Bool, true, false, eqb, nat_eq, cond}
-use Rattle.afdx_laws.proofs.Names.{List, [], ◌∷◌, ◌++◌, length, map, refl, subst, arith, All, AllByRecursion}
-use Rattle.afdx_laws.proofs.Names.{IsDistinct, list_any, nat_tests, eq-eqb, ne_eqb, false≢true, length-map}
-use Rattle.afdx_laws.proofs.Names.{length-filter, count_by-le-length, All-tail, All-weaker, All-from_recursion}
-use Rattle.afdx_laws.proofs.Names.{link_plan_at, bag_micros, LinkPlan, sub_in, Entry, mul-le, sub_stream}
-use Rattle.afdx_laws.proofs.Names.{link_stream, id_at}
+use Rattle.afdx_laws.proofs.Names.{◌≡◌, ◌≢◌, ℕ, zero, suc, ◌+◌, ◌*◌, ◌≤◌, ◌<◌, Bool, true, false, eqb, nat_eq, cond, List, [], ◌∷◌, ◌++◌, length, map, refl}
+use Rattle.afdx_laws.proofs.Names.{subst, arith, All, AllByRecursion, IsDistinct, list_any, nat_tests, eq-eqb, ne_eqb, false≢true, length-map, length-filter}
+use Rattle.afdx_laws.proofs.Names.{count_by-le-length, All-tail, All-weaker, All-from_recursion, link_plan_at, bag_micros, LinkPlan, sub_in, Entry, mul-le}
+use Rattle.afdx_laws.proofs.Names.{sub_stream, link_stream, id_at}
 use Rattle.std.proofs.Common.{Some}
 use Rattle.std.proofs.lemmas.Map.Keys.{IsDistinct-cons, IsDistinct-from_apart}
 use Rattle.std.proofs.lemmas.Map.Steps.{length-le_from_distinct_below}
@@ -15,16 +13,13 @@ use Rattle.afdx_legal.specs.WorkedTurns.{turn_entry, TurnsAreTold}
 use Rattle.afdx_laws.proofs.ListLemmas.{all_front}
 use Rattle.afdx_laws.proofs.LegalSpacing.{IsOfSubs, stream_within}
 
--- the sub-VLs of entries
 abbrev subs_of : List Entry → List ℕ
 subs_of es = map (λ (e : Entry). sub_in e.frame) es
 
--- a sub-VL without an entry is none of them
 none_in : (x : ℕ) (es : List Entry) → length (sub_stream x es) ≤ 0 → AllByRecursion (λ y. eqb x y ≡ false) (subs_of es)
 none_in x [] none = tt
 none_in x (e ∷ es) none = grind (arith, nat_tests, none_in x es)
 
--- where each has one entry at most, they differ
 distinct_of : (es : List Entry) → ((y : ℕ) → length (sub_stream y es) ≤ 1) → IsDistinct eqb (subs_of es)
 distinct_of [] one = IsDistinct-from_apart eqb [] (λ i j d before inside. absurd (omega arith))
 distinct_of (e ∷ es) one = IsDistinct-cons eqb (sub_in e.frame) (subs_of es)
@@ -36,19 +31,16 @@ distinct_of (e ∷ es) one = IsDistinct-cons eqb (sub_in e.frame) (subs_of es)
         → length (sub_stream y es) ≤ 1
     fewer y t one = grind arith
 
--- all are the link's
 below_of : (n : ℕ) (es : List Entry) → All (IsOfOneOf n) es → (q : ℕ) → list_any (eqb q) (subs_of es) ≡ true → q < n
 below_of n [] of q any = absurd (false≢true any)
 below_of n (e ∷ es) of q any =
     grind (arith, nat_tests, below_of n es (λ k d h. of (suc k) d (omega arith)) q, of 0 e (omega arith))
 
--- none of these entries is of this sub-VL
 none_of : (x : ℕ) (es : List Entry) → All (λ (e : Entry). sub_in e.frame ≢ x) es → length (sub_stream x es) ≤ 0
 none_of x [] others = omega arith
 none_of x (e ∷ es) others = rw (ne_eqb (sub_in e.frame) x (others 0 e (omega arith)))
     (none_of x es (λ k d h. others (suc k) d (omega arith)))
 
--- what lies before the next entry of a sub-VL
 before_is : (x : ℕ) (between : List Entry) (next : Entry) (after : List Entry)
     → All (λ (e : Entry). sub_in e.frame ≢ x) between → sub_in next.frame ≡ x
     → before_next x (between ++ next ∷ after) ≡ between
@@ -60,7 +52,7 @@ before_is x (e ∷ es) next after others its = grind (
   before_is x es next after (λ k d h. others (suc k) d (omega arith)) its,
 )
 
--- the entry is followed in turn, and those behind it are of the link's sub-VLs
+-- the entry is followed in turn, and those after it are of the link's sub-VLs
 turn_at : (before : List Entry) (first : Entry) (rest : List Entry) → TakesTurns (before ++ first ∷ rest)
     → IsFollowedInTurn first rest
 turn_at [] first rest h = h.0
@@ -70,14 +62,12 @@ tail_at : (subs : ℕ) (before rest : List Entry) → All (IsOfOneOf subs) (befo
 tail_at subs [] rest of = of
 tail_at subs (e ∷ es) rest of = tail_at subs es rest (All-tail (IsOfOneOf subs) e (es ++ rest) of)
 
--- the entries between two neighbours
 between_of : (subs : ℕ) (stream : List Entry) (first : Entry) (between : List Entry) (next : Entry)
     → All (IsOfOneOf subs) stream → (n : AreNeighbours stream first between next)
     → All (IsOfOneOf subs) (first ∷ (between ++ next ∷ n.after))
 between_of subs stream first between next of n =
     tail_at subs n.before (first ∷ (between ++ next ∷ n.after)) (subst (All (IsOfOneOf subs)) n.is of)
 
--- the law
 pub next_in_a_round : NextInARound
 next_in_a_round subs stream first between next turns of n =
     let x : ℕ = sub_in first.frame in
@@ -93,13 +83,11 @@ next_in_a_round subs stream first between next turns of n =
     (IsDistinct-cons eqb x (subs_of between) apart (distinct_of between one)) (below_of subs (first ∷ between) all) in
     omega (arith, length-map between (λ (e : Entry). sub_in e.frame))
 
--- the moment of the last entry that follows
 last_within : (most before : ℕ) (es : List Entry) (e : Entry) → FollowWithin most before (es ++ e ∷ [])
     → e.at ≤ before + (length es + 1) * most
 last_within most before [] e h = let a = h.0 in omega arith
 last_within most before (d ∷ es) e h = grind (arith, last_within most d.at es e h.1)
 
--- by the clock
 pub next_in_time : NextInTime
 next_in_time subs gap late stream first between next turns of n follow =
     let round = next_in_a_round subs stream first between next turns of n in
@@ -107,21 +95,18 @@ next_in_time subs gap late stream first between next turns of n follow =
     let more = mul-le (length between + 1) (gap + late) subs (gap + late) round (omega arith) in
     omega arith
 
--- by the polls
 pub next_polled_in_time : NextPolledInTime
 next_polled_in_time subs x gap late released polls xl some served paced has reach =
     let law = polled_in_time_holds subs x 0 1 gap late released (Some (record { at = released; sub = x })) polls xl some xl
     (omega arith) served paced has (grind arith) in
     grind arith
 
--- a link's number is one of those that the greatest is of
 pub wait_at : (late : ℕ) (links : List LinkPlan) (k : ℕ) → k < length links
     → link_wait late (link_plan_at links k) ≤ longest_wait late links
 wait_at late [] k lt = absurd (omega arith)
 wait_at late (link ∷ links) zero lt = omega arith
 wait_at late (link ∷ links) (suc k) lt = let h = wait_at late links k (omega arith) in omega arith
 
--- of a plan
 pub next_in_plan : NextInPlan
 next_in_plan plan accepted net handed late k first between next valid legal turns inside n follow =
     let subs : ℕ = (link_plan_at plan.links k).sub_vls in
@@ -134,7 +119,6 @@ next_in_plan plan accepted net handed late k first between next valid legal turn
     let most = wait_at late plan.links k inside in
     omega arith
 
--- the worked pair
 pub lie_two_gaps_apart : LieTwoGapsApart
 lie_two_gaps_apart = record {
   are = record {
@@ -152,13 +136,11 @@ lie_two_gaps_apart = record {
   number = refl;
 }
 
--- a sub-VL has no more entries than there are
 few_in : (sub : ℕ) (es : List Entry) → length (sub_stream sub es) ≤ length es
 few_in sub es =
     let test : Entry → Bool = λ e. nat_eq (sub_in e.frame) sub in
     omega (arith, length-filter test es, count_by-le-length test es)
 
--- the worked streams
 pub turns_are_told : TurnsAreTold
 turns_are_told = record {
   kept = (

@@ -1,12 +1,10 @@
 -- Numbers that differ.
-use Rattle.afdx_laws.proofs.Names.{◌≡◌, ℕ, zero, suc, ◌+◌, ◌-◌, ◌%◌, ◌≤◌, ◌<◌, true, false, refl, arith, Option}
-use Rattle.afdx_laws.proofs.Names.{Some, None, sequence_number, next_number, ahead, is_ahead, is_valid}
+use Rattle.afdx_laws.proofs.Names.{◌≡◌, ℕ, zero, suc, ◌+◌, ◌-◌, ◌%◌, ◌≤◌, ◌<◌, true, false, refl, arith, Option, Some, None, sequence_number, next_number}
+use Rattle.afdx_laws.proofs.Names.{ahead, is_ahead, is_valid}
 
--- the number of a place behind the first
 number_is : (i : ℕ) → sequence_number (suc i) ≡ i % 255 + 1
 number_is i = grind arith
 
--- the next number is that of the next place
 pub next_is : (i : ℕ) → next_number (sequence_number i) ≡ sequence_number (suc i)
 next_is i = grind (arith, number_is)
 
@@ -14,11 +12,9 @@ next_is i = grind (arith, number_is)
 pub differ : (a k : ℕ) → a < k → k < a + 255 → sequence_number a ≡ sequence_number k → ⊥
 differ a k later near same = grind (arith, number_is)
 
--- the next number is ahead
 ahead_next : (many j n : ℕ) → 1 ≤ many → n ≡ next_number j → ahead many j n ≡ true
 ahead_next many j n some e = grind arith
 
--- an old one isn't
 pub ahead_old : (many j a : ℕ) → a ≤ j → j + many < a + 255
     → ahead many (sequence_number j) (sequence_number a) ≡ false
 ahead_old zero j a old near = refl
@@ -29,11 +25,9 @@ abbrev pub last : ℕ → Option ℕ
 last zero = None
 last (suc i) = Some (sequence_number i)
 
--- the next frame is new
 pub new_next : (many a : ℕ) → 1 ≤ many → is_ahead many (last a) (sequence_number a) ≡ true
 new_next many a some = grind (arith, ahead_next, next_is)
 
--- and valid
 pub valid_next : (many a : ℕ) → 1 ≤ many → is_valid many (last a) (sequence_number a) ≡ true
 valid_next many a some = grind (arith, new_next)
 
@@ -45,7 +39,6 @@ old_copy many a b older near = grind (arith, ahead_old)
 same_again : (i : ℕ) → 1 ≤ i → sequence_number (i + 255) ≡ sequence_number i
 same_again i some = grind (arith, number_is)
 
--- the last number that is ahead
 ahead_last : (many j : ℕ) → ahead (suc many) (sequence_number j) (sequence_number (suc j + many)) ≡ true
 ahead_last zero j = grind (arith, next_is j)
 ahead_last (suc many) j = grind (arith, ahead_last many (suc j), next_is j)

@@ -1,18 +1,15 @@
 -- Fragments in order need one buffer for each sub-VL.
-use Rattle.afdx_laws.proofs.Names.{◌≡◌, ℕ, suc, ◌≤◌, List, [], ◌∷◌, length, drop, get_or, refl, ap, ◌∙◌, arith, All}
-use Rattle.afdx_laws.proofs.Names.{Option, None, nat_tests, length-take, length-drop, All-nil, All-append, All-map}
-use Rattle.afdx_laws.proofs.Names.{identification, Piece, cutting, pieces_from, Fragment, Buffer, put, end_of}
-use Rattle.afdx_laws.proofs.Names.{datagram_in, fragment_of, fragments_of, empty, with_buffer, kept_in, keyed}
-use Rattle.afdx_laws.proofs.Names.{sent_from, of_sub, buffers_after, HasUpTo, OneBuffer}
+use Rattle.afdx_laws.proofs.Names.{◌≡◌, ℕ, suc, ◌≤◌, List, [], ◌∷◌, length, drop, get_or, refl, ap, ◌∙◌, arith, All, Option, None, nat_tests, length-take}
+use Rattle.afdx_laws.proofs.Names.{length-drop, All-nil, All-append, All-map, identification, Piece, cutting, pieces_from, Fragment, Buffer, put, end_of}
+use Rattle.afdx_laws.proofs.Names.{datagram_in, fragment_of, fragments_of, empty, with_buffer, kept_in, keyed, sent_from, of_sub, buffers_after, HasUpTo}
+use Rattle.afdx_laws.proofs.Names.{OneBuffer}
 use Rattle.afdx_laws.proofs.ListLemmas.{all_front}
 use Rattle.afdx_laws.proofs.Reading.{cutting_lies}
 use Rattle.afdx_laws.proofs.InOrder.{apart, reassembles}
 
--- a fragment ends by byte `most`
 abbrev pub EndsBefore : ℕ → ℕ × Fragment → Type 0
 EndsBefore most e = end_of e.1 ≤ most
 
--- so do all of a datagram of no more
 keyed_end : (room most key : ℕ) (d : List ℕ) → length d ≤ most → All (EndsBefore most) (keyed key (fragments_of room d))
 keyed_end room most key d fits =
     let pieces : List Piece = pieces_from 0 (cutting room (length d)) in
@@ -25,7 +22,6 @@ keyed_end room most key d fits =
     let lies = (cutting_lies room (length d) i x h).1 in
     omega arith))
 
--- and those of datagrams of no more
 pub sent_end : (datagrams : List (List ℕ)) (room sub place most : ℕ) → All (HasUpTo most) datagrams
     → All (EndsBefore most) (sent_from room sub place datagrams)
 sent_end [] room sub place most fit = All-nil (EndsBefore most)
@@ -39,20 +35,16 @@ sent_end (d ∷ later) room sub place most fit =
 abbrev pub HasNoneBehind : ℕ → Buffer → Type 0
 HasNoneBehind most b = (i : ℕ) → most ≤ i → b.byte_at i ≡ None
 
--- nor has it with a fragment more that ends before them
 put_within : (most : ℕ) (b : Buffer) (f : Fragment) → HasNoneBehind most b → end_of f ≤ most → HasNoneBehind most (put b f)
 put_within most b f none ends i past = grind (arith, nat_tests, none i past)
 
--- nor where it gave its datagram
 kept_within : (most : ℕ) (b : Buffer) (given : Option (List ℕ)) → HasNoneBehind most b → HasNoneBehind most (kept_in b given)
 kept_within most b given none = grind arith
 
--- nor have others
 with_within : (most key : ℕ) (b : Buffer) (buffers : ℕ → Buffer) → HasNoneBehind most b
     → ((k : ℕ) → HasNoneBehind most (buffers k)) → (k : ℕ) → HasNoneBehind most (with_buffer key b buffers k)
 with_within most key b buffers one each k = grind arith
 
--- so it is with all buffers, whatever came of such fragments
 pub after_within : (es : List (ℕ × Fragment)) (most : ℕ) (buffers : ℕ → Buffer)
     → ((k : ℕ) → HasNoneBehind most (buffers k)) → All (EndsBefore most) es
     → (k : ℕ) → HasNoneBehind most (buffers_after buffers es k)
@@ -64,7 +56,6 @@ after_within (e ∷ es) most buffers each ends =
     (kept_within most b (datagram_in b) (put_within most (buffers e.0) e.1 (each e.0) (ends 0 e (omega arith)))) each)
     (λ k d h. ends (suc k) d (omega arith))
 
--- the law
 pub one_buffer : OneBuffer
 one_buffer room sub most datagrams came least some fit begun =
     let one = (reassembles room sub datagrams came least some begun).alone in

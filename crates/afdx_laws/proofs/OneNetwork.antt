@@ -1,25 +1,20 @@
--- What is handed over of a link on one network arrives from there.
-use Rattle.afdx_laws.proofs.Names.{◌≡◌, ℕ, List, [], ◌∷◌, ◌++◌, length, map, take, refl, ap, sym, ◌∙◌, subst, arith}
-use Rattle.afdx_laws.proofs.Names.{All, take-append_seam, Plan, Net, A, B, number_in, twin_of, Entry, IsPrefixOf}
-use Rattle.afdx_laws.proofs.Names.{Accepted, begin, received, other, carried_by, carried, IsNear, most_carried}
-use Rattle.afdx_laws.proofs.Names.{messages_in, AreFirst, IsOfNet, IsHanded, id_at, piece_room, frames_of}
-use Rattle.afdx_laws.proofs.Names.{handed_to, all_from, IsHandedOver, OneNetworkArrives}
+-- What is transmitted of a link on one network arrives from that network.
+use Rattle.afdx_laws.proofs.Names.{◌≡◌, ℕ, List, [], ◌∷◌, ◌++◌, length, map, take, refl, ap, sym, ◌∙◌, subst, arith, All, take-append_seam, Plan, Net, A, B}
+use Rattle.afdx_laws.proofs.Names.{number_in, twin_of, Entry, IsPrefixOf, Accepted, begin, received, other, carried_by, carried, IsNear, most_carried}
+use Rattle.afdx_laws.proofs.Names.{messages_in, AreFirst, IsOfNet, IsHanded, id_at, piece_room, frames_of, handed_to, all_from, IsHandedOver, OneNetworkArrives}
 use Rattle.afdx_laws.proofs.ListLemmas.{cons_parts, nil_isnt_cons}
 use Rattle.afdx_laws.proofs.Arriving.{messages_arrive_holds}
 use Rattle.afdx_laws.proofs.HandedOver.{own_twins, sending_to}
 use Rattle.afdx_laws.proofs.LegalLinks.{are_handed}
 
--- the network carried all that came
 carried_all : (net : Net) (frames : List (List ℕ)) → carried net (all_from net frames) ≡ frames
 carried_all net [] = refl
 carried_all net (f ∷ fs) = grind (arith, carried_all net fs)
 
--- and the other nothing
 carried_none : (net : Net) (frames : List (List ℕ)) → carried (other net) (all_from net frames) ≡ []
 carried_none net [] = refl
 carried_none net (f ∷ fs) = grind (arith, carried_none net fs)
 
--- the other network carries no frame of this one
 skips : (net : Net) (frame : List ℕ) (later : List (List ℕ)) → carried_by (other net) net frame later ≡ later
 skips net frame later = grind arith
 
@@ -37,12 +32,10 @@ all_its net (f ∷ fs) (x ∷ before) after e is =
           ∙ skips net f (carried (other net) before) ∙ rest.1,
     )
 
--- so none is behind the other network
 never_behind : (net : Net) (frames : List (List ℕ)) → IsNear 0 (all_from net frames)
 never_behind net frames before after from frame is =
     grind (arith, all_its net frames before after (from, frame) is)
 
--- the one that carried more frames carried all
 many_from : (net : Net) (frames : List (List ℕ)) → most_carried (all_from net frames) ≡ length frames
 many_from net frames = grind (arith, carried_all net frames, carried_none net frames)
 
@@ -54,7 +47,6 @@ begins_for B B came mine own begins = rw (carried_all B came, own_twins B mine o
 begins_for A B came mine own begins = rw (carried_none B came) (map (twin_of A) mine, refl)
 begins_for B A came mine own begins = rw (carried_none A came) (map (twin_of B) mine, refl)
 
--- what was handed to one of the networks
 handed_by : (plan : Plan) (accepted : Accepted) (a b : List Entry) (k sub : ℕ) (net : Net)
     → IsHandedOver plan accepted a b k sub
     → IsHanded plan.end_system (piece_room plan k) sub (accepted k sub) net
@@ -62,7 +54,7 @@ handed_by : (plan : Plan) (accepted : Accepted) (a b : List Entry) (k sub : ℕ)
 handed_by plan accepted a b k sub A handed = (are_handed plan accepted a b k sub handed).on_a
 handed_by plan accepted a b k sub B handed = (are_handed plan accepted a b k sub handed).on_b
 
--- the law: as many of its frames as came are those that came
+-- the first `length came` frames of the link are those that came
 pub one_network_arrives_holds : OneNetworkArrives
 one_network_arrives_holds plan accepted a b k sub net tolerance came handed alone fit begins =
     let mine : List (List ℕ) = frames_of (id_at plan k) (handed_to net a b) in

@@ -1,16 +1,10 @@
 -- What is read of a frame is what went in.
-use Rattle.afdx_laws.proofs.Names.{◌≡◌, ℕ, zero, suc, inl, inr, ◌+◌, ◌-◌, ◌%◌, ◌≤◌, List, [], ◌∷◌, ◌++◌, length}
-use Rattle.afdx_laws.proofs.Names.{map, take, drop, get_or, refl, ap, sym, ◌∙◌, subst, arith, All, AllByRecursion}
-use Rattle.afdx_laws.proofs.Names.{cases_lt, All-from_recursion, drop-set-lt, map-append, length-append, drop_at}
-use Rattle.afdx_laws.proofs.Names.{take_more, take_all, IsPort, identification, Net, Piece, step_of, cut_by}
-use Rattle.afdx_laws.proofs.Names.{pieces_from, step_le, cut_last, cut_more, interface_byte, udp_header, unnumbered}
-use Rattle.afdx_laws.proofs.Names.{frame_of, twin_of, total_length, Sent, blanked, fragments_from, IsPiece}
-use Rattle.afdx_laws.proofs.Names.{twin_word, says, total_ok, payload_says, Fragment, fragment_of, fragments_of}
-use Rattle.afdx_laws.proofs.Names.{sub_in, those_with, with_map, of_sub, keyed, sent_from, IsLong, fragment_in}
-use Rattle.afdx_laws.proofs.Names.{IsSent}
-use Rattle.afdx_frame.specs.Cutting.{cutting}
-use Rattle.afdx_frame.specs.Frame.{datagram}
-use Rattle.afdx_frame.specs.Fragments.{fragments_at}
+use Rattle.afdx_laws.proofs.Names.{◌≡◌, ℕ, zero, suc, inl, inr, ◌+◌, ◌-◌, ◌%◌, ◌≤◌, List, [], ◌∷◌, ◌++◌, length, map, take, drop, get_or, refl, ap, sym, ◌∙◌}
+use Rattle.afdx_laws.proofs.Names.{subst, arith, All, AllByRecursion, cases_lt, All-from_recursion, drop-set-lt, map-append, length-append, drop_at, take_more}
+use Rattle.afdx_laws.proofs.Names.{take_all, IsPort, identification, Net, Piece, step_of, cut_by, pieces_from, step_le, cut_last, cut_more, interface_byte}
+use Rattle.afdx_laws.proofs.Names.{udp_header, unnumbered, frame_of, twin_of, total_length, Sent, blanked, fragments_from, IsPiece, twin_word, says, total_ok}
+use Rattle.afdx_laws.proofs.Names.{payload_says, Fragment, fragment_of, fragments_of, sub_in, those_with, with_map, of_sub, keyed, sent_from, IsLong}
+use Rattle.afdx_laws.proofs.Names.{fragment_in, IsSent, cutting, datagram, fragments_at}
 use Rattle.afdx_frame.proofs.PiecesAre.{pieces_are}
 use Rattle.afdx_frame.proofs.Datagram.{length-udp_header}
 use Rattle.afdx_laws.proofs.ListLemmas.{cons_parts, cons_same, append_same, nil_isnt_cons}
@@ -24,7 +18,7 @@ same_fragment net frame =
     let behind = drop-set-lt 34 frame 11 (interface_byte net) (omega arith) in
     cc
 
--- the frame of a piece says its fragment
+-- the frame of a piece carries its fragment
 read_piece : (end_system : ℕ) (sent : Sent) (net : Net) (place : ℕ) (piece : Piece) (number : ℕ) → IsPort sent.port
     → length sent.bytes ≤ 8192 → IsPiece (length sent.bytes) piece
     → fragment_in (unnumbered end_system sent.port sent.bytes place piece net ++ number ∷ [])
@@ -40,20 +34,17 @@ read_piece end_system sent net place piece number port most is =
     ∙ payload_says end_system sent.port sent.bytes place piece net number port is.within in
     cc (s.ident_says, s.offset_says, s.more_says)
 
--- what an unnumbered frame says, whatever its number is
+-- the fragment of an unnumbered frame, whatever its number is
 abbrev pub read_any : List ℕ → ℕ × Fragment
 read_any u = fragment_in (u ++ 0 ∷ [])
 
--- its fragment doesn't depend on the number
 abbrev pub IsRead : List ℕ → Type 0
 IsRead u = (number : ℕ) → fragment_in (u ++ number ∷ []) ≡ read_any u
 
--- such frames, and their fragments
 pub record AreRead (us : List (List ℕ)) (fs : List (ℕ × Fragment)) : Type 0 where
   pub each : AllByRecursion IsRead us
   pub are : map read_any us ≡ fs
 
--- the frames of pieces are read as their fragments
 reads_pieces : (ps : List Piece) (end_system : ℕ) (sent : Sent) (net : Net) (place : ℕ) → IsPort sent.port
     → length sent.bytes ≤ 8192 → AllByRecursion (IsPiece (length sent.bytes)) ps
     → AreRead (map (λ piece. unnumbered end_system sent.port sent.bytes place piece net) ps)
@@ -65,7 +56,6 @@ reads_pieces (p ∷ ps) end_system sent net place port most are =
     let one = λ (n : ℕ). read_piece end_system sent net place p n port most are.0 in
     record { each = (λ number. one number ∙ sym (one 0), rest.each); are = cons_same (one 0) rest.are }
 
--- a datagram has its header and the message
 pub length-datagram : (end_system : ℕ) (sent : Sent) → length
     (datagram end_system sent.port sent.bytes) ≡ 8 + length sent.bytes
 unfolding datagram
@@ -76,13 +66,11 @@ length-datagram end_system sent = omega (
   length-udp_header end_system sent.port sent.bytes,
 )
 
--- without its header it is the message
 pub drop-datagram : (end_system : ℕ) (sent : Sent) → drop 8 (datagram end_system sent.port sent.bytes) ≡ sent.bytes
 unfolding datagram
 drop-datagram end_system sent = drop_at (udp_header end_system sent.port sent.bytes) sent.bytes 8
     (length-udp_header end_system sent.port sent.bytes)
 
--- each piece of a message is one
 pub from_start : (room size : ℕ) → 25 ≤ room → room ≤ 1479
     → AllByRecursion (IsPiece size) (pieces_from 0 (cutting room (8 + size)))
 from_start room size least greatest =
@@ -90,7 +78,6 @@ from_start room size least greatest =
     subst (λ (n : ℕ). AllByRecursion (IsPiece size) (pieces_from 0 (cutting room n))) whole
     (pieces_are (8 + size) room size 0 (omega arith) least greatest (omega arith) (omega arith))
 
--- a piece of n bytes fits into the room and lies before the end
 abbrev pub IsCut : (room end : ℕ) → Piece → Type 0
 IsCut room end piece = (piece.len ≤ room) × (piece.start + piece.len ≤ end)
 
@@ -105,13 +92,11 @@ cut_by_lies (suc turns) room n start end inside = elim (cases_lt room n) [
   | inr fits ↦ rw (cut_last turns room n fits) ((fits, inside), tt)
 ]
 
--- so does each piece of a cutting
 pub cutting_lies : (room n : ℕ) → All (IsCut room n) (pieces_from 0 (cutting room n))
 unfolding cutting
 cutting_lies room n =
     All-from_recursion (IsCut room n) (pieces_from 0 (cutting room n)) (cut_by_lies n room n 0 n (omega arith))
 
--- the frames of a message are read as its fragments
 reads_message : (end_system room : ℕ) (sent : Sent) (net : Net) (place : ℕ) → 25 ≤ room → room ≤ 1479
     → IsPort sent.port → length sent.bytes ≤ 8192
     → AreRead (fragments_at end_system room net place sent)
@@ -122,13 +107,11 @@ reads_message end_system room sent net place least greatest port most =
     (reads_pieces (pieces_from 0 (cutting room (8 + length sent.bytes))) end_system sent net place port most
     (from_start room (length sent.bytes) least greatest))
 
--- what holds of two lists
 all_append : {X : Type 0} (P : X → Type 0) (xs ys : List X) → AllByRecursion P xs → AllByRecursion P ys
     → AllByRecursion P (xs ++ ys)
 all_append P [] ys a b = b
 all_append P (x ∷ xs) ys a b = (a.0, all_append P xs ys a.1 b)
 
--- the frames of all messages are read as their fragments
 pub reads_all : (accepted : List Sent) (end_system room sub place : ℕ) (net : Net) → 25 ≤ room → room ≤ 1479
     → All (IsSent sub) accepted
     → AreRead (fragments_from end_system room net place accepted)
@@ -166,7 +149,6 @@ reads_frames (f ∷ frames) (u ∷ us) rest each long is = grind (
   reads_frames frames us rest each.1 (λ k d h. long (suc k) d (omega arith)) (cons_parts is).1,
 )
 
--- a sub's fragments are those of its frames
 pub of_sub_is : (sub : ℕ) (frames : List (List ℕ))
     → of_sub sub (map fragment_in frames) ≡ map fragment_in (those_with sub_in sub frames)
 of_sub_is sub frames = with_map sub_in (λ (e : ℕ × Fragment). e.0 % 4) fragment_in sub (λ frame. refl) frames

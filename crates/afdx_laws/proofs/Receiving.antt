@@ -1,14 +1,12 @@
--- What a receiver hands on of what two networks carry.
-use Rattle.afdx_laws.proofs.Names.{◌≡◌, ℕ, suc, ◌+◌, ◌≤◌, ◌<◌, true, false, max, List, [], ◌∷◌, ◌++◌, length, map}
-use Rattle.afdx_laws.proofs.Names.{take, get_or, refl, ap, sym, ◌∙◌, arith, drop, cases_lt, Option, All, take_more}
-use Rattle.afdx_laws.proofs.Names.{append_assoc, append-nil, drop_more, drop_all, get_or-map, length-map, set-set}
-use Rattle.afdx_laws.proofs.Names.{Net, A, B, sequence_number, Tolerance, State, is_valid, is_ahead, received}
-use Rattle.afdx_laws.proofs.Names.{carried, with_seen, with_accepted, seen_on, other, carried_by, IsNear}
-use Rattle.afdx_laws.proofs.Names.{IsNumbered, IsPrefixOf, numbered_at, interface_byte, twin_of, number_in}
-use Rattle.afdx_laws.proofs.Names.{twin_number, IsLong, most_carried, ExactlyOnce}
+-- What a receiver accepts of what two networks carry.
+use Rattle.afdx_laws.proofs.Names.{◌≡◌, ℕ, suc, ◌+◌, ◌≤◌, ◌<◌, true, false, max, List, [], ◌∷◌, ◌++◌, length, map, take, get_or, refl, ap, sym, ◌∙◌, arith}
+use Rattle.afdx_laws.proofs.Names.{drop, cases_lt, Option, All, take_more, append_assoc, append-nil, drop_more, drop_all, get_or-map, length-map, set-set, Net}
+use Rattle.afdx_laws.proofs.Names.{A, B, sequence_number, Tolerance, State, is_valid, is_ahead, received, carried, with_seen, with_accepted, seen_on, other}
+use Rattle.afdx_laws.proofs.Names.{carried_by, IsNear, IsNumbered, IsPrefixOf, numbered_at, interface_byte, twin_of, number_in, twin_number, IsLong}
+use Rattle.afdx_laws.proofs.Names.{most_carried, ExactlyOnce}
 use Rattle.afdx_laws.proofs.NumberLemmas.{last, new_next, valid_next, old_copy}
 
--- the state after so many frames of each network
+-- the state after `a` frames of network A and `b` of B
 abbrev pub state_at : ℕ → ℕ → State
 state_at a b = record { seen_a = last a; seen_b = last b; accepted = last (max a b) }
 
@@ -25,7 +23,6 @@ Comes number h stream lag a b ((A, frame) ∷ es) = IsPlaced number h stream a f
 Comes number h stream lag a b ((B, frame) ∷ es) = IsPlaced number h stream b frame × (a ≤ b + lag)
     × Comes number h stream lag a (suc b) es
 
--- a frame that is valid and new is accepted
 pub takes_it : {F : Type 0} (number : F → ℕ) (tolerance : Tolerance) (state after : State) (net : Net) (frame : F)
     (es : List (Net × F)) (n : ℕ)
     → number frame ≡ n → is_valid tolerance.check (seen_on net state) n ≡ true
@@ -33,22 +30,19 @@ pub takes_it : {F : Type 0} (number : F → ℕ) (tolerance : Tolerance) (state 
     → received number tolerance state ((net, frame) ∷ es) ≡ frame ∷ received number tolerance after es
 takes_it number tolerance state after net frame es n is valid new then_is = grind arith
 
--- a frame that isn't new is dropped
 pub drops_it : {F : Type 0} (number : F → ℕ) (tolerance : Tolerance) (state after : State) (net : Net) (frame : F)
     (es : List (Net × F)) (n : ℕ)
     → number frame ≡ n → is_ahead tolerance.window state.accepted n ≡ false → with_seen net n state ≡ after
     → received number tolerance state ((net, frame) ∷ es) ≡ received number tolerance after es
 drops_it number tolerance state after net frame es n is old then_is = grind arith
 
--- one more frame of the stream
 pub grows : {F : Type 0} (h : F → F) (stream : List F) (i : ℕ) (frame : F) (rest : List F) → i < length stream
     → h frame ≡ get_or stream i (h frame)
     → take i stream ++ (h frame ∷ rest) ≡ take (suc i) stream ++ rest
 grows h stream i frame rest inside is =
     grind (arith, take_more stream i (h frame) inside, append_assoc (take i stream) (h frame ∷ []) rest)
 
--- One frame of a network, where the states differ in what was seen on it and in what was accepted last: at `from` it
--- is one of `a` frames, where `b` came from the other network.
+-- One frame of a network, after `a` frames of that network and `b` of the other.
 one_more : {F : Type 0} (number : F → ℕ) (h : F → F) (stream : List F) (tolerance : Tolerance) (lag : ℕ) (net : Net)
     (from to : Option ℕ → State) (frame : F) (es : List (Net × F)) (a b m next : ℕ)
     → 1 ≤ tolerance.check → 1 ≤ tolerance.window → lag + tolerance.window ≤ 255 → IsPlaced number h stream a frame
@@ -77,7 +71,7 @@ one_more {F = F} number h stream tolerance lag net from to frame es a b m next
       grows h stream a frame (map h (received number tolerance (to (last (suc a))) es)) placed.0 placed.2,
     )
 
--- what is accepted carries on the stream from where it stands
+-- what is accepted continues the stream
 pub hands_on : {F : Type 0} (number : F → ℕ) (h : F → F) (stream : List F)
     (tolerance : Tolerance) (lag : ℕ) (arrivals : List (Net × F)) (a b : ℕ)
     → 1 ≤ tolerance.check → 1 ≤ tolerance.window → lag + tolerance.window ≤ 255
@@ -99,18 +93,15 @@ hands_on number h stream tolerance lag ((B, frame) ∷ es) a b check window near
     ∙ hands_on number h stream tolerance lag es a (suc b) check window near comes.2
     ∙ ap (λ (k : ℕ). take k stream) (omega arith)
 
--- one more, or none
 len_by : {F : Type 0} (net from : Net) (frame : F) (rest : List F)
     → length (carried_by net from frame rest) ≡ length (carried_by net from frame []) + length rest
 len_by net from frame rest = grind arith
 
--- the count of what was carried, after one arrival more
 count_more : {F : Type 0} (net : Net) (before : List (Net × F)) (e : Net × F)
     → length (carried net (before ++ e ∷ [])) ≡ length (carried net before) + length (carried net (e ∷ []))
 count_more net [] e = omega arith
 count_more net (x ∷ before) e = grind (arith, count_more net before e, len_by net x.0 x.1)
 
--- the first of what is left
 pub first_of_rest : {X : Type 0} (xs : List X) (i : ℕ) (y : X) (ys : List X) → y ∷ ys ≡ drop i xs → (i < length xs)
     × (y ≡ get_or xs i y) × (ys ≡ drop (suc i) xs)
 first_of_rest xs i y ys e = grind (arith, drop_more xs i y, drop_all i xs)
@@ -174,7 +165,6 @@ comes stream lag arrivals ((B, frame) ∷ es) before a b long numbered near whol
     (omega arith) (omega arith) pa one.2 in
     (one.0, one.1, next)
 
--- the law
 pub exactly_once_holds : ExactlyOnce
 exactly_once_holds lag tolerance stream arrivals fit frames carry =
     let c = comes stream lag arrivals arrivals [] 0 0 frames.long frames.numbered carry.near refl refl refl

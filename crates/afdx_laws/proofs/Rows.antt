@@ -1,11 +1,9 @@
 -- Rows of premises that fail.
 use Rattle.afdx_laws.specs.Rows.{BothFail, NeedsEach}
 
--- where a law holds and what it says fails, its premise fails
 pub fails_by : {P Q : Type 0} → (P → Q) → (Q → ⊥) → BothFail P Q
 fails_by law fails = record { premise = λ p. fails (law p); conclusion = fails }
 
--- so for each premise of a law
 pub needs_each : {X Y Z : Type 0} {P : X → Type 0} {Q : Y → Type 0} {R : Z → Type 0} {Says : X → Y → Z → Type 0}
     {x no_x : X} {y no_y : Y} {z no_z : Z} → ((x : X) (y : Y) (z : Z) → P x → Q y → R z → Says x y z)
     → P x → Q y → R z → (Says no_x y z → ⊥) → (Says x no_y z → ⊥) → (Says x y no_z → ⊥)

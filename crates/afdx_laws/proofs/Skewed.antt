@@ -1,11 +1,10 @@
 -- Frames that are near by the clock are near by their count.
-use Rattle.afdx_laws.proofs.Names.{◌≡◌, ℕ, zero, suc, ◌+◌, ◌-◌, ◌*◌, ◌/◌, ◌≤◌, ◌<◌, inl, inr, List, [], ◌∷◌, ◌++◌}
-use Rattle.afdx_laws.proofs.Names.{length, refl, ap, ◌∙◌, arith, cases_lt, le-div, append_assoc, length-append, Net}
-use Rattle.afdx_laws.proofs.Names.{A, B, other, carried}
+use Rattle.afdx_laws.proofs.Names.{◌≡◌, ℕ, zero, suc, ◌+◌, ◌-◌, ◌*◌, ◌/◌, ◌≤◌, ◌<◌, inl, inr, List, [], ◌∷◌, ◌++◌, length, refl, ap, ◌∙◌, arith, cases_lt}
+use Rattle.afdx_laws.proofs.Names.{le-div, append_assoc, length-append, Net, A, B, other, carried}
 use Rattle.afdx_laws.specs.Skew.{SkewIsNear, IsDelivered, released_at, arrival_of, both_copies, ComesInTime}
 use Rattle.afdx_laws.proofs.WorkedMessage.{few_are_near}
 
--- where a network's frame number k came
+-- the arrival of a network's frame number `k`
 record Found {F : Type 0} (net : Net) (k : ℕ) (xs : List (Net × F)) : Type 0 where
   before : List (Net × F)
   frame : F
@@ -13,7 +12,6 @@ record Found {F : Type 0} (net : Net) (k : ℕ) (xs : List (Net × F)) : Type 0 
   is : xs ≡ before ++ (net, frame) ∷ after
   count : length (carried net before) ≡ k
 
--- a frame that is behind another one
 behind : {F : Type 0} (net : Net) (k j : ℕ) (e : Net × F) (xs : List (Net × F)) (r : Found net k xs)
     → length (carried net (e ∷ r.before)) ≡ j → Found net j (e ∷ xs)
 behind net k j e xs r count_is = record {
@@ -24,7 +22,6 @@ behind net k j e xs r count_is = record {
   count = count_is;
 }
 
--- where a frame is that was carried
 found : {F : Type 0} (net : Net) (k : ℕ) (xs : List (Net × F)) → k < length (carried net xs) → Found net k xs
 found net k [] inside = absurd (omega arith)
 found A zero ((A, f) ∷ xs) inside = record { before = []; frame = f; after = xs; is = refl; count = refl }
@@ -36,18 +33,15 @@ found B (suc k) ((B, f) ∷ xs) inside = let r = found B k xs (omega arith) in
 found A k ((B, f) ∷ xs) inside = let r = found A k xs inside in behind A k k (B, f) xs r r.count
 found B k ((A, f) ∷ xs) inside = let r = found B k xs inside in behind B k k (A, f) xs r r.count
 
--- moments don't go back, and releases lie apart
 later : (at : ℕ → ℕ) → ((k : ℕ) → at k ≤ at (k + 1)) → (j n : ℕ) → at j ≤ at (j + n)
 later at step j zero = grind arith
 later at step j (suc n) = grind (arith, later at step j n, step (j + n))
 
--- so many releases are so many gaps apart
 spread : (gap : ℕ) (released : ℕ → ℕ) → ((i : ℕ) → released i + gap ≤ released (i + 1))
     → (i n : ℕ) → released i + n * gap ≤ released (i + n)
 spread gap released step i zero = grind arith
 spread gap released step i (suc n) = grind (arith, spread gap released step i n, step (i + n))
 
--- the law
 pub skew_is_near_holds : SkewIsNear
 skew_is_near_holds gap delay released at arrivals some apart forward delivered before after net frame is =
     let i : ℕ = length (carried net before) in
@@ -68,13 +62,11 @@ skew_is_near_holds gap delay released at arrivals some apart forward delivered b
           omega arith
     ]
 
--- each copy comes in time
 both_delivered : IsDelivered 400 released_at arrival_of both_copies
 both_delivered [] after net frame is = (omega arith, omega arith)
 both_delivered (x ∷ []) after net frame is = grind arith
 both_delivered (x ∷ y ∷ before) after net frame is = grind (arith, ap length is, length-append)
 
--- the row: the second copy comes a frame behind
 pub comes_in_time : ComesInTime
 comes_in_time = record {
   apart = omega arith;

@@ -1,9 +1,7 @@
 -- What passes is paid for.
-use Rattle.afdx_laws.proofs.Names.{ℕ, ◌≡◌, ◌+◌, ◌-◌, ◌*◌, ◌<◌, ◌≤◌, inl, inr, List, [], ◌∷◌, arith, cases_lt}
-use Rattle.afdx_laws.proofs.Names.{le-leb, sum_by-cons, Arrival, Rule, Account, Charge, limit, filled, paid, price}
-use Rattle.afdx_laws.proofs.Names.{passed, cost, AreBetween, NoMorePasses}
+use Rattle.afdx_laws.proofs.Names.{ℕ, ◌≡◌, ◌+◌, ◌-◌, ◌*◌, ◌<◌, ◌≤◌, inl, inr, List, [], ◌∷◌, arith, cases_lt, le-leb, sum_by-cons, Arrival, Rule, Account}
+use Rattle.afdx_laws.proofs.Names.{Charge, limit, filled, paid, price, passed, cost, AreBetween, NoMorePasses}
 
--- a frame that passes, and what passes behind it
 one_passed : (charge : Charge) (rule : Rule) (account : Account) (f : Arrival) (later : List Arrival)
     → price charge rule f ≤ (filled rule account f.at).credit
     → cost charge rule (passed charge rule account (f ∷ later))
@@ -14,24 +12,20 @@ one_passed charge rule account f later can =
     rw t (sum_by-cons (price charge rule) f
     (passed charge rule (paid (filled rule account f.at) (price charge rule f)) later))
 
--- a frame that is dropped
 one_dropped : (charge : Charge) (rule : Rule) (account : Account) (f : Arrival) (later : List Arrival)
     → (filled rule account f.at).credit < price charge rule f
     → cost charge rule (passed charge rule account (f ∷ later))
     ≡ cost charge rule (passed charge rule (filled rule account f.at) later)
 one_dropped charge rule account f later cannot = grind arith
 
--- what fills from one moment to a third, by one between them
 filled_over : (l since now end : ℕ) → since ≤ now → now ≤ end → l * (now - since) + l * (end - now) ≡ l * (end - since)
 filled_over l since now end first second = grind arith
 
--- the last moment isn't before the first
 in_order : (start end : ℕ) (frames : List Arrival) → AreBetween start end frames → start ≤ end
 in_order start end [] between = between
 in_order start end (f ∷ later) between = grind (arith, in_order f.at end later between.1)
 
--- it can't cost more than what was there, nor than the limit, and what filled: no more is there when the first frame
--- comes
+-- the cost is at most the credit, and at most the limit, each with what accrues until the end
 spent : (charge : Charge) (rule : Rule) (credit start end : ℕ) (frames : List Arrival) → AreBetween start end frames
     → (cost charge rule (passed charge rule (record { credit = credit; since = start }) frames)
     ≤ credit + rule.lmax * (end - start))
@@ -54,7 +48,6 @@ spent charge rule credit start end (f ∷ later) between =
           omega arith
     ]
 
--- the law
 pub no_more_passes_holds : NoMorePasses
 no_more_passes_holds charge rule credit start end frames between =
     grind (arith, (spent charge rule credit start end frames between).1)

@@ -1,22 +1,18 @@
--- All that was accepted was handed over, and came.
-use Rattle.afdx_laws.proofs.Names.{◌≡◌, ℕ, ◌≤◌, List, length, map, ap, ◌∙◌, arith, take_all, length-map, Plan}
-use Rattle.afdx_laws.proofs.Names.{link_plan_at, Net, A, Sent, fragments, sub_in, twin_of, twin_sub, Entry}
-use Rattle.afdx_laws.proofs.Names.{those_with, link_stream, Accepted, own_stream, with_map, most_carried, longer}
-use Rattle.afdx_laws.proofs.Names.{id_at, piece_room, frames_of, longer_of, OwnListsArrive}
+-- All that was accepted was transmitted, and arrives.
+use Rattle.afdx_laws.proofs.Names.{◌≡◌, ℕ, ◌≤◌, List, length, map, ap, ◌∙◌, arith, take_all, length-map, Plan, link_plan_at, Net, A, Sent, fragments, sub_in}
+use Rattle.afdx_laws.proofs.Names.{twin_of, twin_sub, Entry, those_with, link_stream, Accepted, own_stream, with_map, most_carried, longer, id_at, piece_room}
+use Rattle.afdx_laws.proofs.Names.{frames_of, longer_of, OwnListsArrive}
 use Rattle.afdx_legal.specs.Own.{longer as longer_stream}
 use Rattle.afdx_legal.specs.Done.{IsReleased}
 use Rattle.afdx_laws.proofs.LegalLinks.{told_is, frames_side, legal_arrive_holds}
 
--- how many frames of a list are of a sub-VL
 abbrev many_of : ℕ → List (List ℕ) → ℕ
 many_of sub frames = length (those_with sub_in sub frames)
 
--- as many of their twins are
 many_twins : (net : Net) (sub : ℕ) (frames : List (List ℕ)) → many_of sub (map (twin_of net) frames) ≡ many_of sub frames
 many_twins net sub frames =
     grind (arith, ap length (with_map sub_in sub_in (twin_of net) sub (λ f. twin_sub net f) frames), length-map)
 
--- the frames of the longer of two streams are the longer list of their frames
 longer_frames : (xs ys : List Entry) → map (λ (e : Entry). e.frame) (longer_stream xs ys)
     ≡ longer (map (λ (e : Entry). e.frame) xs) (map (λ (e : Entry). e.frame) ys)
 longer_frames xs ys = grind (arith, length-map)
@@ -47,7 +43,6 @@ all_handed plan accepted log a b k sub own released =
       many_own sub (id_at plan k) a b,
     )
 
--- the law
 pub own_lists_arrive_holds : OwnListsArrive
 own_lists_arrive_holds plan own a b valid handed k sub inside index lag tolerance arrivals fit carry whole =
     let sent : List Sent = handed.accepted k sub in

@@ -1,18 +1,13 @@
--- The worked handing over of a plan, by computation: of one message, also to its end and on one network, and of two.
-use Rattle.afdx_laws.proofs.Names.{◌≡◌, ℕ, true, [], ◌∷◌, refl, sym, ◌∙◌, arith, ◌≤◌, Bool, false, nat_eq, List}
-use Rattle.afdx_laws.proofs.Names.{length, map, ap, ◌<◌, false≢true, All-from_recursion, All-contains}
-use Rattle.afdx_laws.proofs.Names.{if◌then◌else◌, All, Contains, AllZip, port_plan_at, IsPlan, HasLink, IsLink}
-use Rattle.afdx_laws.proofs.Names.{Networks, Both, OnlyA, demo_valid, Net, A, B, Sent, names, link_stream, Accepted}
-use Rattle.afdx_laws.proofs.Names.{IsKnown, IsLegalOn, IsLegal, IsAllowed, messages_of, by_frames, IsOnItsWay}
-use Rattle.afdx_laws.proofs.Names.{AreClose, AreCarriedOf, frames_of, IsOn, IsOnBoth, IsHandedOver, plain_receiver}
-use Rattle.afdx_laws.proofs.Names.{closed_receiver, first_lost}
+-- The worked transmissions of a plan, by computation: of one message, also complete and on one network, and of two.
+use Rattle.afdx_laws.proofs.Names.{◌≡◌, ℕ, true, [], ◌∷◌, refl, sym, ◌∙◌, arith, ◌≤◌, Bool, false, nat_eq, List, length, map, ap, ◌<◌, false≢true}
+use Rattle.afdx_laws.proofs.Names.{All-from_recursion, All-contains, if◌then◌else◌, All, Contains, AllZip, port_plan_at, IsPlan, HasLink, IsLink, Networks}
+use Rattle.afdx_laws.proofs.Names.{Both, OnlyA, demo_valid, Net, A, B, Sent, names, link_stream, Accepted, IsKnown, IsLegalOn, IsLegal, IsAllowed, messages_of}
+use Rattle.afdx_laws.proofs.Names.{by_frames, IsOnItsWay, AreClose, AreCarriedOf, frames_of, IsOn, IsOnBoth, IsHandedOver, plain_receiver, closed_receiver}
+use Rattle.afdx_laws.proofs.Names.{first_lost, checksum, cutting, fragments_at, addresses, header_front, internet_header, link_header, udp_header, datagram}
+use Rattle.afdx_laws.proofs.Names.{unnumbered}
 use Rattle.afdx_plan.specs.Demo.{demo_plan, demo_port, demo_link}
 use Rattle.afdx_plan.specs.declared.identifiers.Kind.TheVariants.{Sampling, Queuing}
 use Rattle.afdx_plan.specs.declared.port_plan.PortPlan.{PortPlan}
-use Rattle.afdx_frame.specs.Checksum.{checksum}
-use Rattle.afdx_frame.specs.Cutting.{cutting}
-use Rattle.afdx_frame.specs.Fragments.{fragments_at}
-use Rattle.afdx_frame.specs.Frame.{addresses, header_front, internet_header, link_header, udp_header, datagram, unnumbered}
 use Rattle.afdx_legal.specs.WorkedMessage.{one_byte_accepted, one_frame, one_byte}
 use Rattle.afdx_laws.specs.WorkedPlan.{one_entry, two_arrivals, OneIsLegal, only_lost, LegalDespiteOneLoss, one_own, other_own, OwnComes, OneIsWhole, NeedsAll, demo_on, ComesFromOne, AreTwinsOfOne, two_accepted, swapped_accepted, second_frame, pair_at, two_entries, longer_pair, PairHanded, AreSwapped, both_arrive, second_arrives, PairArrives, NeedsLegal, both_from_b, PairDespite, NeedsClose, pair_passes, PassesAGapApart}
 use Rattle.afdx_laws.proofs.AllOnBoth.{all_on_both_holds}
@@ -23,13 +18,11 @@ use Rattle.afdx_laws.proofs.Rows.{fails_by, needs_each}
 use Rattle.afdx_laws.proofs.WholeHanded.{own_lists_arrive_holds}
 use Rattle.afdx_laws.proofs.WorkedMessage.{few_are_near, not_first, too_few, close_by_test}
 
--- the frame is known
 one_known : (carriers : Networks) (net : Net) → IsKnown (demo_on carriers).links net (one_frame net)
 unfolding checksum addresses header_front internet_header link_header udp_header datagram unnumbered
 one_known carriers net =
     record { size = omega arith; k = 0; within = omega arith; link = refl; of_sub = omega arith; interface = refl }
 
--- it is handed over legally to a network that carries its link
 legal_on : (carriers : Networks) (net : Net) → names net carriers ≡ true
     → IsLegalOn (demo_on carriers) one_byte_accepted net (one_entry net)
 unfolding checksum addresses header_front internet_header link_header udp_header datagram unnumbered cutting fragments_at
@@ -41,13 +34,11 @@ legal_on carriers net named = record {
   spaced = below_one _ (tt, tt);
 }
 
--- a message of a byte may be sent
 byte_allowed : (carriers : Networks) (byte : ℕ)
     → IsAllowed (demo_on carriers) 0 0 (record { port = demo_port; bytes = byte ∷ [] })
 byte_allowed carriers byte =
     record { port = (0, omega arith, refl); over = refl; its = refl; some = omega arith; most = omega arith }
 
--- the message is handed over to both networks
 one_handed : IsHandedOver demo_plan one_byte_accepted (one_entry A) (one_entry B) 0 0
 unfolding checksum addresses header_front internet_header link_header udp_header datagram unnumbered
 one_handed = record {
@@ -62,7 +53,6 @@ one_handed = record {
   allowed = All-from_recursion (IsAllowed demo_plan 0 0) (one_byte_accepted 0 0) (byte_allowed Both 1, tt);
 }
 
--- the row
 pub one_is_legal : OneIsLegal
 unfolding checksum addresses header_front internet_header link_header udp_header datagram unnumbered
 one_is_legal = record {
@@ -73,7 +63,6 @@ one_is_legal = record {
   passes = refl;
 }
 
--- the row despite a loss
 pub legal_despite_one_loss : LegalDespiteOneLoss
 unfolding checksum addresses header_front internet_header link_header udp_header datagram unnumbered
 legal_despite_one_loss = record {
@@ -83,7 +72,6 @@ legal_despite_one_loss = record {
   first = record { many = 1; are = refl; all = λ j few enough. few };
 }
 
--- the row to its end
 pub one_is_whole : OneIsWhole
 unfolding checksum addresses header_front internet_header link_header udp_header datagram unnumbered cutting fragments_at
 one_is_whole = record {
@@ -109,11 +97,9 @@ one_is_whole = record {
   };
 }
 
--- the one port is on the one sub-VL
 one_on : IsOn demo_plan 0 0 0
 one_on = record { within = omega arith; link = refl; its = refl }
 
--- the port's own list isn't another
 other_lost : OwnComes other_own two_arrivals → ⊥
 other_lost lists = lost lists.sent (sym one_is_legal.message ∙ lists.are) (lists.ports 0 one_on)
   where
@@ -127,7 +113,6 @@ other_lost lists = lost lists.sent (sym one_is_legal.message ∙ lists.are) (lis
     lost (s ∷ []) is own = one_lost (nat_eq s.port.id.0 10) s.bytes is own
     lost (s ∷ t ∷ later) is own = let count = ap length is in omega arith
 
--- nor is it none
 none_lost : OwnComes one_own [] → ⊥
 none_lost lists = lost lists.sent lists.are (lists.ports 0 one_on)
   where
@@ -135,7 +120,6 @@ none_lost lists = lost lists.sent lists.are (lists.ports 0 one_on)
     lost [] is own = nil_isnt_cons own
     lost (s ∷ later) is own = nil_isnt_cons is
 
--- the row of lists that don't come
 pub needs_all : NeedsAll
 unfolding checksum addresses header_front internet_header link_header udp_header datagram unnumbered
 needs_all = record {
@@ -178,7 +162,6 @@ demo_with_valid carriers most least greatest = record {
         (All-from_recursion (λ (q : PortPlan). q.kind ≡ Queuing) demo_plan.ports (refl, tt)) has in
         cc
 
--- the row of one network
 pub comes_from_one : ComesFromOne
 unfolding checksum addresses header_front internet_header link_header udp_header datagram unnumbered
 comes_from_one = record {
@@ -208,11 +191,9 @@ comes_from_one = record {
   lost = refl;
 }
 
--- the one link is on both networks
 one_on_both : All IsOnBoth (demo_on Both).links
 one_on_both = All-from_recursion IsOnBoth (demo_on Both).links (refl, tt)
 
--- the row of both networks
 pub are_twins_of_one : AreTwinsOfOne
 unfolding checksum addresses header_front internet_header link_header udp_header datagram unnumbered
 are_twins_of_one = record {
@@ -224,13 +205,11 @@ are_twins_of_one = record {
   cut = refl;
 }
 
--- the second frame is known
 second_known : (net : Net) → IsKnown demo_plan.links net (second_frame net)
 unfolding checksum addresses header_front internet_header link_header udp_header datagram unnumbered
 second_known net =
     record { size = omega arith; k = 0; within = omega arith; link = refl; of_sub = omega arith; interface = refl }
 
--- a gap apart the frames are handed over legally to a network
 pair_legal_on : (net : Net) → IsLegalOn demo_plan two_accepted net (two_entries net)
 unfolding checksum addresses header_front internet_header link_header udp_header datagram unnumbered cutting fragments_at
 pair_legal_on net = record {
@@ -245,7 +224,6 @@ pair_legal_on net = record {
     carries A none = absurd (false≢true (sym none))
     carries B none = absurd (false≢true (sym none))
 
--- each message may be sent
 two_allowed : All (IsAllowed demo_plan 0 0) (two_accepted 0 0)
 two_allowed =
     All-from_recursion (IsAllowed demo_plan 0 0) (two_accepted 0 0) (byte_allowed Both 1, (byte_allowed Both 2, tt))
@@ -254,13 +232,11 @@ swapped_allowed : All (IsAllowed demo_plan 0 0) (swapped_accepted 0 0)
 swapped_allowed =
     All-from_recursion (IsAllowed demo_plan 0 0) (swapped_accepted 0 0) (byte_allowed Both 2, (byte_allowed Both 1, tt))
 
--- what was handed over legally to both is what the laws speak of
 handed_pair : (accepted : Accepted) → All (IsAllowed demo_plan 0 0) (accepted 0 0)
     → IsLegal demo_plan accepted (two_entries A) (two_entries B) → PairHanded accepted
 handed_pair accepted allowed legal =
     record { valid = demo_valid; legal = legal; inside = omega arith; index = omega arith; allowed = allowed }
 
--- so are the two messages
 two_handed : PairHanded two_accepted
 unfolding checksum addresses header_front internet_header link_header udp_header datagram unnumbered
 two_handed = handed_pair two_accepted two_allowed (record {
@@ -269,7 +245,6 @@ two_handed = handed_pair two_accepted two_allowed (record {
   twins = record { b_shorter = λ h. refl; a_shorter = λ h. refl };
 })
 
--- network A carries both frames, and network B none
 pair_carried : AreCarriedOf 3 (frames_of 1 (two_entries A)) (frames_of 1 (two_entries B)) both_arrive
 unfolding checksum addresses header_front internet_header link_header udp_header datagram unnumbered
 pair_carried = record {
@@ -278,7 +253,7 @@ pair_carried = record {
   near = few_are_near 3 both_arrive (omega arith);
 }
 
--- messages in another order don't arrive; nor does the second where no number is new, nor the first where it is lost
+-- messages in another order don't arrive; nor does the second if no number is new, nor the first if it is lost
 swapped_lost : PairArrives swapped_accepted plain_receiver both_arrive → ⊥
 unfolding checksum addresses header_front internet_header link_header udp_header datagram unnumbered
 swapped_lost = not_first refl refl
@@ -291,7 +266,6 @@ first_is_lost : PairArrives two_accepted plain_receiver second_arrives → ⊥
 unfolding checksum addresses header_front internet_header link_header udp_header datagram unnumbered
 first_is_lost = not_first refl refl
 
--- the swapped ones aren't handed over legally
 are_swapped : AreSwapped
 are_swapped = record {
   allowed = swapped_allowed;
@@ -299,7 +273,6 @@ are_swapped = record {
       (handed_pair swapped_accepted swapped_allowed legal) (omega arith) pair_carried);
 }
 
--- the row of a plan whose messages don't arrive
 pub needs_legal : NeedsLegal
 needs_legal = record {
   swapped = are_swapped;
@@ -308,12 +281,10 @@ needs_legal = record {
       two_handed (omega arith) pair_carried swapped_lost second_lost first_is_lost;
 }
 
--- the frames come from network B
 pair_is_close : AreClose B (length longer_pair) 0 0 both_from_b
 unfolding checksum addresses header_front internet_header link_header udp_header datagram unnumbered
 pair_is_close = close_by_test both_from_b B 2 refl refl
 
--- so it is despite losses
 swapped_despite : PairDespite swapped_accepted 1 both_from_b → ⊥
 unfolding checksum addresses header_front internet_header link_header udp_header datagram unnumbered
 swapped_despite = not_first refl refl
@@ -326,7 +297,6 @@ second_despite : PairDespite two_accepted 0 both_from_b → ⊥
 unfolding checksum addresses header_front internet_header link_header udp_header datagram unnumbered cutting fragments_at
 second_despite = too_few 2 refl (omega arith) (omega arith) (omega arith)
 
--- the row of losses
 pub needs_close : NeedsClose
 needs_close = record {
   swapped = are_swapped;
@@ -335,12 +305,10 @@ needs_close = record {
       two_handed (omega arith) pair_is_close swapped_despite second_despite first_despite;
 }
 
--- the frames are on their way
 pair_way : (now : ℕ) → AllZip (IsOnItsWay 0 0) (link_stream 1 (pair_at now A)) (pair_passes 0 now now)
 unfolding checksum addresses header_front internet_header link_header udp_header datagram unnumbered
 pair_way now = omega arith
 
--- the row of a switch: a microsecond early the second is dropped, and where the first is late
 pub passes_a_gap_apart : PassesAGapApart
 passes_a_gap_apart = record {
   valid = demo_valid;

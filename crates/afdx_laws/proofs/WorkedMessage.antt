@@ -1,27 +1,19 @@
 -- The worked delivery, the worked runs of a receiver and the worked losses, by computation.
-use Rattle.afdx_laws.proofs.Names.{◌≡◌, ◌≤◌, ◌<◌, List, [], ◌∷◌, length, map, take, ◌+◌, ℕ, suc, false, nat_eq}
-use Rattle.afdx_laws.proofs.Names.{refl, ap, sym, ◌∙◌, arith, max, Bool, true, not, ◌&&◌, ◌||◌, nat_lt, nat_le}
-use Rattle.afdx_laws.proofs.Names.{cond, and_parts, nat_tests, slice_index, length-append, length-take, length-map}
-use Rattle.afdx_laws.proofs.Names.{All-from_recursion, demo_port_is, Net, A, B, Sent, fragments, sub_in, number_in}
-use Rattle.afdx_laws.proofs.Names.{twin_of, those_with, begin, received, carried, other, IsNear, IsLong, IsStream}
-use Rattle.afdx_laws.proofs.Names.{AreCarried, AreWithin, StartsFirst, AreClose, same_net, one_lost, IsSent}
-use Rattle.afdx_laws.proofs.Names.{IsSending, AreFirst, messages_in, IsOfNet, IsHanded, AreHanded, one_accepted}
-use Rattle.afdx_laws.proofs.Names.{both_frames, four_arrivals, three_arrivals, plain_receiver, closed_receiver}
-use Rattle.afdx_laws.proofs.Names.{OneMessageArrives, NeedsHanding, bare_frame, bare_stream, same_twice, far_behind}
-use Rattle.afdx_laws.proofs.Names.{wide_receiver, AcceptsEachOnce, NeedsNumbers, NeedsALag, NeedsAStream}
-use Rattle.afdx_laws.proofs.Names.{second_lost, first_lost, messages_despite, MasksOneLoss, NeedsTheFirst}
-use Rattle.afdx_laws.proofs.Names.{BeginsOnBoth, ComesDespiteLoss, NeedsAWholeNetwork, NeedsOneWhole}
-use Rattle.afdx_frame.specs.Checksum.{checksum}
-use Rattle.afdx_frame.specs.Cutting.{cutting}
-use Rattle.afdx_frame.specs.Frame.{addresses, header_front, internet_header, link_header, udp_header, datagram, unnumbered}
-use Rattle.afdx_frame.specs.Fragments.{fragments_at}
+use Rattle.afdx_laws.proofs.Names.{◌≡◌, ◌≤◌, ◌<◌, List, [], ◌∷◌, length, map, take, ◌+◌, ℕ, suc, false, nat_eq, refl, ap, sym, ◌∙◌, arith, max, Bool, true, not}
+use Rattle.afdx_laws.proofs.Names.{◌&&◌, ◌||◌, nat_lt, nat_le, cond, and_parts, nat_tests, slice_index, length-append, length-take, length-map}
+use Rattle.afdx_laws.proofs.Names.{All-from_recursion, demo_port_is, Net, A, B, Sent, fragments, sub_in, number_in, twin_of, those_with, begin, received}
+use Rattle.afdx_laws.proofs.Names.{carried, other, IsNear, IsLong, IsStream, AreCarried, AreWithin, StartsFirst, AreClose, same_net, one_lost, IsSent}
+use Rattle.afdx_laws.proofs.Names.{IsSending, AreFirst, messages_in, IsOfNet, IsHanded, AreHanded, one_accepted, both_frames, four_arrivals, three_arrivals}
+use Rattle.afdx_laws.proofs.Names.{plain_receiver, closed_receiver, OneMessageArrives, NeedsHanding, bare_frame, bare_stream, same_twice, far_behind}
+use Rattle.afdx_laws.proofs.Names.{wide_receiver, AcceptsEachOnce, NeedsNumbers, NeedsALag, NeedsAStream, second_lost, first_lost, messages_despite}
+use Rattle.afdx_laws.proofs.Names.{MasksOneLoss, NeedsTheFirst, BeginsOnBoth, ComesDespiteLoss, NeedsAWholeNetwork, NeedsOneWhole, checksum, cutting, addresses}
+use Rattle.afdx_laws.proofs.Names.{header_front, internet_header, link_header, udp_header, datagram, unnumbered, fragments_at}
 use Rattle.afdx_laws.proofs.ListLemmas.{cons_parts, other_length}
 use Rattle.afdx_laws.proofs.Rows.{fails_by, needs_each}
 use Rattle.afdx_laws.proofs.Receiving.{exactly_once_holds}
 use Rattle.afdx_laws.proofs.Arriving.{messages_arrive_holds, despite_loss_holds}
 use Rattle.afdx_laws.proofs.HandedOver.{sending_to, handed_arrive_holds, handed_despite_loss_holds}
 
--- what was handed to a network, by computation
 handed_to : (net : Net) → IsHanded 1 25 0 one_accepted net (both_frames net)
 unfolding checksum addresses header_front internet_header link_header udp_header datagram unnumbered cutting fragments_at
 handed_to net = record {
@@ -30,7 +22,6 @@ handed_to net = record {
   first = ([], refl);
 }
 
--- so the frames were handed to both networks
 pub both_handed : AreHanded 1 25 0 one_accepted (both_frames A) (both_frames B)
 unfolding checksum addresses header_front internet_header link_header udp_header datagram unnumbered
 both_handed = record {
@@ -45,43 +36,37 @@ both_handed = record {
 are_sent : IsSending 1 25 0 one_accepted A (both_frames A)
 are_sent = sending_to both_handed.link both_handed.sent both_handed.on_a
 
--- a network carried no more than came
 carried_le : {F : Type 0} (net : Net) (xs : List (Net × F)) → length (carried net xs) ≤ length xs
 carried_le net [] = omega arith
 carried_le net ((from, frame) ∷ xs) = grind (arith, carried_le net xs)
 
--- few arrivals are near
 pub few_are_near : {F : Type 0} (lag : ℕ) (arrivals : List (Net × F)) → length arrivals ≤ lag + 1 → IsNear lag arrivals
 few_are_near lag arrivals few_came before after net frame is =
     grind (arith, ap length is, length-append, carried_le (other net) before)
 
--- the row
 pub one_message_arrives : OneMessageArrives
 unfolding checksum addresses header_front internet_header link_header udp_header datagram unnumbered
 one_message_arrives = record { accepts = refl; message = refl }
 
--- what is read of the first of some lists
 abbrev pub first_of : (List ℕ → ℕ) → List (List ℕ) → ℕ
 first_of read [] = 0
 first_of read (x ∷ later) = read x
 
--- lists of which the first differs aren't the first of others
 pub not_front : (read : List ℕ → ℕ) {m : List ℕ} {later : List (List ℕ)} (xs : List (List ℕ)) (many : ℕ)
     → nat_eq (read m) (first_of read xs) ≡ false → m ∷ later ≡ take many xs → ⊥
 not_front read xs many other is = grind arith
 
--- the first byte of a message
 abbrev pub first_byte : List ℕ → ℕ
 first_byte message = slice_index message 0
 
--- so messages that begin with another byte than those that were sent aren't the first of them
+-- messages that begin with another byte than those sent aren't the first of them
 pub not_first : {room : ℕ} {accepted : List Sent} {m : List ℕ} {later frames messages : List (List ℕ)}
     → messages ≡ m ∷ later → nat_eq (first_byte m) (first_of first_byte (map (λ (s : Sent). s.bytes) accepted)) ≡ false
     → AreFirst 1 room 0 accepted frames messages → ⊥
 not_first {accepted = accepted} are other first =
     not_front first_byte (map (λ (s : Sent). s.bytes) accepted) first.many other (sym are ∙ first.are)
 
--- nor are fewer than those of which all frames came
+-- nor are fewer than those whose frames all came
 pub too_few : {room : ℕ} {accepted : List Sent} {frames messages given : List (List ℕ)} (n : ℕ)
     → messages ≡ given → length given < n → n ≤ length accepted
     → length (fragments 1 room A (take n accepted)) ≤ length (those_with sub_in 0 frames)
@@ -95,7 +80,6 @@ whole_lost : {messages : List (List ℕ)} → messages ≡ []
 unfolding checksum addresses header_front internet_header link_header udp_header datagram unnumbered cutting fragments_at
 whole_lost none = too_few 1 none (omega arith) (omega arith) (omega arith)
 
--- where no number is new its first frame alone is accepted; where the second comes first it alone is
 none_new : messages_in 0 (received number_in closed_receiver begin four_arrivals) ≡ []
 unfolding checksum addresses header_front internet_header link_header udp_header datagram unnumbered
 none_new = refl
@@ -104,7 +88,6 @@ none_ahead : messages_in 0 (received number_in plain_receiver begin three_arriva
 unfolding checksum addresses header_front internet_header link_header udp_header datagram unnumbered
 none_ahead = refl
 
--- the row of what was handed over
 pub needs_handing : NeedsHanding
 needs_handing = needs_each
     (λ accepted tolerance arrivals.
@@ -113,19 +96,16 @@ needs_handing = needs_each
     (record { on_a = ([], refl); on_b = ([], refl); near = few_are_near 3 four_arrivals (omega arith) })
     (not_first one_message_arrives.message refl) (whole_lost none_new) (whole_lost none_ahead)
 
--- what the two networks carried of the stream
 pub four_carried : AreCarried 3 (both_frames A) four_arrivals
 unfolding checksum addresses header_front internet_header link_header udp_header datagram unnumbered
 four_carried = record { on_a = ([], refl); on_b = ([], refl); near = few_are_near 3 four_arrivals (omega arith) }
 
--- the row of a stream
 pub needs_a_stream : NeedsAStream
 needs_a_stream = needs_each
     (λ accepted tolerance arrivals. messages_arrive_holds 1 25 0 3 tolerance accepted A (both_frames A) arrivals)
     are_sent (omega arith) four_carried
     (not_first one_message_arrives.message refl) (whole_lost none_new) (whole_lost none_ahead)
 
--- the row
 pub accepts_each_once : AcceptsEachOnce
 unfolding checksum addresses header_front internet_header link_header udp_header datagram unnumbered
 accepts_each_once = record {
@@ -136,7 +116,6 @@ accepts_each_once = record {
   round = refl;
 }
 
--- the row of the numbers: the second of two frames of one number is dropped
 pub needs_numbers : NeedsNumbers
 needs_numbers = record {
   carry = record {
@@ -150,14 +129,12 @@ needs_numbers = record {
   };
 }
 
--- bare frames are a stream
 bare_three : IsStream (bare_stream (0 ∷ 1 ∷ 2 ∷ []))
 bare_three = record {
   long = All-from_recursion IsLong (bare_stream (0 ∷ 1 ∷ 2 ∷ [])) (omega arith);
   numbered = (refl, (refl, (refl, tt)));
 }
 
--- the row of the lag: an old frame is accepted again
 pub needs_a_lag : NeedsALag
 needs_a_lag = record {
   stream = bare_three;
@@ -173,7 +150,7 @@ needs_a_lag = record {
   };
 }
 
--- what AreWithin says of a run, as a test
+-- `AreWithin` as a test
 abbrev lies_within : Net → ℕ → ℕ → ℕ → List (Net × ℕ) → Bool
 lies_within whole n farthest carries [] = true
 lies_within whole n farthest carries (e ∷ es) =
@@ -181,7 +158,6 @@ lies_within whole n farthest carries (e ∷ es) =
     && (not (same_net whole e.0) || nat_eq e.1 carries))
     && lies_within whole n (max farthest (e.1 + 1)) (cond (same_net whole e.0) (carries + 1) carries) es
 
--- frames are near to each other where the test says so
 within_by_test : (came : List (Net × ℕ)) (whole : Net) (n farthest carries : ℕ)
     → lies_within whole n farthest carries came ≡ true → AreWithin whole n farthest carries came
 within_by_test [] whole n farthest carries test = tt
@@ -193,17 +169,14 @@ within_by_test (e ∷ es) whole n farthest carries test =
       within_by_test es whole n (max farthest (e.1 + 1)) (cond (same_net whole e.0) (carries + 1) carries) parts.1,
     )
 
--- they are close where the first of the stream comes first
 pub close_by_test : (came : List (Net × ℕ)) (whole : Net) (n : ℕ)
     → lies_within whole n 0 0 came ≡ true → StartsFirst came → AreClose whole n 0 0 came
 close_by_test came whole n test starts =
     record { within = within_by_test came whole n 0 0 test; first = λ none. starts }
 
--- the frames of a message come close to each other
 second_is_close : AreClose B 2 0 0 second_lost
 second_is_close = close_by_test second_lost B 2 refl refl
 
--- the row of the losses
 pub masks_one_loss : MasksOneLoss
 unfolding checksum addresses header_front internet_header link_header udp_header datagram unnumbered
 masks_one_loss = record {
@@ -214,11 +187,9 @@ masks_one_loss = record {
   masked = refl;
 }
 
--- the stream's first frame doesn't come first
 pub not_close : {n i : ℕ} {es : List (Net × ℕ)} → AreClose B n 0 0 ((A, suc i) ∷ es) → ⊥
 not_close close = let first = close.first refl in omega arith
 
--- the row of the first frame: the stream's beginnings don't begin with its second frame
 pub needs_the_first : NeedsTheFirst
 unfolding checksum addresses header_front internet_header link_header udp_header datagram unnumbered
 needs_the_first = record {
@@ -231,7 +202,6 @@ needs_the_first = record {
   numbers = refl;
 }
 
--- the row of networks that begin with it
 pub begins_on_both : BeginsOnBoth
 unfolding checksum addresses header_front internet_header link_header udp_header datagram unnumbered
 begins_on_both = record {
@@ -241,12 +211,10 @@ begins_on_both = record {
   dropped = refl;
 }
 
--- the row of a message that comes despite a loss, of its stream and of what was handed over
 pub comes_despite_loss : ComesDespiteLoss
 unfolding checksum addresses header_front internet_header link_header udp_header datagram unnumbered
 comes_despite_loss = refl
 
--- where the check takes no number but 0 its first frame alone is accepted; where the second comes first it alone is
 none_checked : messages_despite 0 (both_frames A) second_lost ≡ []
 unfolding checksum addresses header_front internet_header link_header udp_header datagram unnumbered
 none_checked = refl
@@ -255,14 +223,12 @@ none_after : messages_despite 1 (both_frames A) first_lost ≡ []
 unfolding checksum addresses header_front internet_header link_header udp_header datagram unnumbered
 none_after = refl
 
--- the row of a stream despite a loss
 pub needs_a_whole_network : NeedsAWholeNetwork
 needs_a_whole_network = needs_each
     (λ accepted check came. despite_loss_holds 1 25 0 check B accepted A (both_frames A) came)
     are_sent (omega arith) second_is_close
     (not_first comes_despite_loss refl) (whole_lost none_checked) (whole_lost none_after)
 
--- the row of what was handed over despite a loss
 pub needs_one_whole : NeedsOneWhole
 needs_one_whole = needs_each
     (λ accepted check came. handed_despite_loss_holds 1 25 0 check B accepted (both_frames A) (both_frames B) came)

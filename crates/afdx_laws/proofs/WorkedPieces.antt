@@ -1,11 +1,8 @@
 -- The worked reassembly and its buffers, by computation.
-use Rattle.afdx_laws.proofs.Names.{ℕ, ◌≤◌, false, [], ◌∷◌, length, take, refl, arith, ◌≡◌, inl, inr, ap, sym, true}
-use Rattle.afdx_laws.proofs.Names.{All, Some, None, cases_eq, All-from_recursion, A, B, Buffer, empty, HasByte}
-use Rattle.afdx_laws.proofs.Names.{of_sub, sent_from, buffers_after, HoldsOne, HasUpTo, one_accepted, both_frames}
-use Rattle.afdx_laws.proofs.Names.{four_arrivals, plain_receiver}
-use Rattle.afdx_frame.specs.Checksum.{checksum}
-use Rattle.afdx_frame.specs.Cutting.{cutting}
-use Rattle.afdx_frame.specs.Frame.{addresses, header_front, internet_header, link_header, udp_header, datagram, unnumbered}
+use Rattle.afdx_laws.proofs.Names.{ℕ, ◌≤◌, false, [], ◌∷◌, length, take, refl, arith, ◌≡◌, inl, inr, ap, sym, true, All, Some, None, cases_eq}
+use Rattle.afdx_laws.proofs.Names.{All-from_recursion, A, B, Buffer, empty, HasByte, of_sub, sent_from, buffers_after, HoldsOne, HasUpTo, one_accepted}
+use Rattle.afdx_laws.proofs.Names.{both_frames, four_arrivals, plain_receiver, checksum, cutting, addresses, header_front, internet_header, link_header}
+use Rattle.afdx_laws.proofs.Names.{udp_header, datagram, unnumbered}
 use Rattle.afdx_laws.specs.WorkedOrder.{two_datagrams, five_fragments, second_came, one_without_bytes, eight_bytes, piece, FirstIsGiven, NeedsOrder, two_begun, NeedsInTurn, HoldsAFrame}
 use Rattle.afdx_laws.proofs.Rows.{fails_by}
 use Rattle.afdx_laws.proofs.InOrder.{in_order_holds}
@@ -13,22 +10,18 @@ use Rattle.afdx_laws.proofs.OneBuffer.{one_buffer}
 use Rattle.afdx_laws.proofs.NeededBuffers.{handed_need_one}
 use Rattle.afdx_laws.proofs.WorkedMessage.{not_front, both_handed, needs_handing}
 
--- fragments of both are more than came
 first_alone : (j : ℕ) → j ≤ length two_datagrams
     → length (sent_from 8 0 0 (take j two_datagrams)) ≤ length (of_sub 0 five_fragments) → j ≤ 1
 unfolding cutting
 first_alone j few enough = grind arith
 
--- both datagrams have a byte
 two_some : All HasByte two_datagrams
 two_some = All-from_recursion HasByte two_datagrams (omega arith)
 
--- the row
 pub first_is_given : FirstIsGiven
 unfolding cutting
 first_is_given = record { some = two_some; first = (piece 4 1 false 29 4 ∷ [], refl); given = refl; all = first_alone }
 
--- the row of fragments that are out of order
 pub needs_order : NeedsOrder
 unfolding cutting
 needs_order = record {
@@ -44,11 +37,9 @@ needs_order = record {
   small = record { premise = omega arith; conclusion = λ are. not_front length eight_bytes are.0 refl are.1 };
 }
 
--- a buffer that has a byte isn't empty
 has_byte : (b : Buffer) (x : ℕ) → b.byte_at 0 ≡ Some x → b ≡ empty → ⊥
 has_byte b x has is = cc (ap (λ (c : Buffer). c.byte_at 0) is)
 
--- two buffers have a byte
 two_hold : HoldsOne 0 20 (buffers_after (λ key. empty) two_begun) → ⊥
 two_hold one = elim (cases_eq one.key 0) [
   | inl first ↦ has_byte (buffers_after (λ key. empty) two_begun 4) 21 refl
@@ -56,11 +47,9 @@ two_hold one = elim (cases_eq one.key 0) [
   | inr other ↦ has_byte (buffers_after (λ key. empty) two_begun 0) 1 refl (one.others 0 refl (λ is. other (sym is)))
 ]
 
--- no datagram has more than 20 bytes
 two_sizes : All (HasUpTo 20) two_datagrams
 two_sizes = All-from_recursion (HasUpTo 20) two_datagrams (omega arith)
 
--- the row of datagrams that are begun at once, and of a buffer that is too small
 pub needs_in_turn : NeedsInTurn
 unfolding cutting
 needs_in_turn = record {
@@ -74,7 +63,6 @@ needs_in_turn = record {
   };
 }
 
--- the row of a frame
 pub holds_a_frame : HoldsAFrame
 unfolding checksum addresses header_front internet_header link_header udp_header datagram unnumbered
 holds_a_frame = record {

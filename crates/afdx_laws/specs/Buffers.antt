@@ -15,7 +15,6 @@ use Rattle.afdx_laws.specs.Messages.{fragment_in}
 use Rattle.afdx_laws.specs.Handed.{AreHanded, AreCarriedOf}
 use Rattle.afdx_laws.specs.Plans.{id_at, frames_of, longer_of, IsHandedOver}
 
--- the buffers after these fragments
 abbrev pub buffers_after : (ℕ → Buffer) → List (ℕ × Fragment) → ℕ → Buffer
 buffers_after buffers [] = buffers
 buffers_after buffers (e ∷ es) = buffers_after (with_buffer e.0
@@ -28,19 +27,17 @@ pub record HoldsOne (sub most : ℕ) (buffers : ℕ → Buffer) : Type 0 where
   pub others : (k : ℕ) → k % 4 ≡ sub → (k ≡ key → ⊥) → buffers k ≡ empty
   pub within : (k : ℕ) → k % 4 ≡ sub → (i : ℕ) → most ≤ i → (buffers k).byte_at i ≡ None
 
--- a datagram has at most `most` bytes
 abbrev pub HasUpTo : ℕ → List ℕ → Type 0
 HasUpTo most datagram = length datagram ≤ most
 
--- Where the fragments that come of a sub-VL are the first of its datagrams' fragments, in order, among
--- fragments of other sub-VLs, one buffer of the greatest datagram is enough for it, whatever came so far.
+-- If the fragments received of a sub-VL are the first of its datagrams' fragments, in order, among fragments of other
+-- sub-VLs, one buffer of the greatest datagram is enough for it at any time.
 abbrev pub OneBuffer : Type 0
 OneBuffer = (room sub most : ℕ) (datagrams : List (List ℕ)) (came : List (ℕ × Fragment)) → 8 ≤ room
     → All HasByte datagrams → All (HasUpTo most) datagrams
     → IsPrefixOf (of_sub sub came) (sent_from room sub 0 datagrams)
     → HoldsOne sub most (buffers_after (λ key. empty) came)
 
--- the buffers of a receiver after these frames
 abbrev pub buffers_in : List (List ℕ) → ℕ → Buffer
 buffers_in frames = buffers_after (λ key. empty) (map fragment_in frames)
 
@@ -48,9 +45,8 @@ buffers_in frames = buffers_after (λ key. empty) (map fragment_in frames)
 abbrev pub IsOneEnough : ℕ → List (List ℕ) → Type 0
 IsOneEnough sub frames = HoldsOne sub 8200 (buffers_in frames)
 
--- It is enough for the frames that a receiver accepts, of what was handed to two networks over a link, where
--- each carries some beginning of it and the two are near. So it is at any point: what came so far is such a
--- beginning too.
+-- It is enough for the frames that a receiver accepts if each network carries some beginning of what it was sent over a
+-- link and the two are near. It is enough at any time, as what came so far is such a beginning too.
 abbrev pub HandedNeedOne : Type 0
 HandedNeedOne = (end_system room sub lag : ℕ) (tolerance : Tolerance) (accepted : List Sent)
     (a b : List (List ℕ)) (arrivals : List (Net × List ℕ))
@@ -58,15 +54,15 @@ HandedNeedOne = (end_system room sub lag : ℕ) (tolerance : Tolerance) (accepte
     → IsFitFor lag tolerance → AreCarriedOf lag a b arrivals
     → IsOneEnough sub (received number_in tolerance begin arrivals)
 
--- So it is for each link and sub-VL of a valid plan, of what was handed over legally.
+-- The same for each link and sub-VL of a valid plan, of what was transmitted legally.
 abbrev pub LegalNeedOne : Type 0
 LegalNeedOne = (plan : Plan) (accepted : Accepted) (a b : List Entry) (k sub lag : ℕ) (tolerance : Tolerance)
     (arrivals : List (Net × List ℕ)) → IsHandedOver plan accepted a b k sub → IsFitFor lag tolerance
     → AreCarriedOf lag (frames_of (id_at plan k) a) (frames_of (id_at plan k) b) arrivals
     → IsOneEnough sub (received number_in tolerance begin arrivals)
 
--- And so it is although one network loses, repeats and reorders frames, where the other carries them all and
--- the next number alone is new to the receiver.
+-- The same if one network loses, repeats and reorders frames, the other carries them all, and only the next number is
+-- new to the receiver.
 abbrev pub LegalNeedOneDespite : Type 0
 LegalNeedOneDespite = (plan : Plan) (accepted : Accepted) (a b : List Entry) (k sub check : ℕ) (whole : Net)
     (came : List (Net × ℕ)) → IsHandedOver plan accepted a b k sub → 1 ≤ check

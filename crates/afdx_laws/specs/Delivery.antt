@@ -1,4 +1,4 @@
--- From the fragments of a link to the datagrams of its sub-VLs, at the receiving end.
+-- Reassembly at the receiving end: from the fragments of a link to the datagrams of its sub-VLs.
 use Rattle.std.specs.Prelude.{◌≡◌, ℕ, suc, ◌%◌, ◌≤◌, nat_eq, if◌then◌else◌, Option, Some, None, List, [], ◌∷◌, ◌++◌, length, map, take, All}
 use Rattle.afdx_plan.specs.Numbers.{identification}
 use Rattle.afdx_frame.specs.Reassembly.{Fragment, Buffer, empty, put, datagram_in, fragments_of}
@@ -13,7 +13,6 @@ abbrev pub kept_in : Buffer → Option (List ℕ) → Buffer
 kept_in buffer None = buffer
 kept_in buffer (Some datagram) = empty
 
--- a datagram that is given before others
 abbrev pub given : ℕ → Option (List ℕ) → List (ℕ × List ℕ) → List (ℕ × List ℕ)
 given key None later = later
 given key (Some datagram) later = (key, datagram) ∷ later
@@ -26,11 +25,10 @@ delivered buffers (e ∷ es) =
     (delivered (with_buffer e.0
     (kept_in (put (buffers e.0) e.1) (datagram_in (put (buffers e.0) e.1))) buffers) es)
 
--- those of a sub-VL, which is the identification modulo 4
+-- the entries of a sub-VL, which is the identification modulo 4
 abbrev pub of_sub : {X : Type 0} → ℕ → List (ℕ × X) → List (ℕ × X)
 of_sub {X} sub entries = those_with (λ (e : ℕ × X). e.0 % 4) sub entries
 
--- fragments of one identification
 abbrev pub keyed : ℕ → List Fragment → List (ℕ × Fragment)
 keyed key fragments = map (λ (f : Fragment). (key, f)) fragments
 
@@ -41,12 +39,10 @@ sent_from room sub place (datagram ∷ later) =
     keyed (identification place sub) (fragments_of room datagram)
     ++ sent_from room sub (suc place) later
 
--- a datagram isn't empty
 abbrev pub HasByte : List ℕ → Type 0
 HasByte datagram = 1 ≤ length datagram
 
--- The first datagrams of a sub-VL are given: in order, each once, and all those of which each fragment
--- came.
+-- The first datagrams of a sub-VL are given, in order and each once, and all those whose fragments all came.
 abbrev pub AreGiven : (room sub : ℕ) → List (List ℕ) → List (ℕ × Fragment) → Type 0
 AreGiven room sub datagrams came = (many : ℕ)
     × (map (λ (e : ℕ × List ℕ). e.1) (of_sub sub (delivered (λ key. empty) came))
@@ -54,8 +50,8 @@ AreGiven room sub datagrams came = (many : ℕ)
     × ((j : ℕ) → j ≤ length datagrams
     → length (sent_from room sub 0 (take j datagrams)) ≤ length (of_sub sub came) → j ≤ many)
 
--- They are where the fragments that come of the sub-VL are the first of its datagrams' fragments, in
--- order, among fragments of other sub-VLs.
+-- They are if the fragments received of the sub-VL are the first of its datagrams' fragments, in order, among fragments
+-- of other sub-VLs.
 abbrev pub InOrder : Type 0
 InOrder = (room sub : ℕ) (datagrams : List (List ℕ)) (came : List (ℕ × Fragment)) → 8 ≤ room
     → All HasByte datagrams

@@ -1,4 +1,4 @@
--- From the frames of a link to the messages of its sub-VLs, at the receiving end.
+-- The receiving end: from the frames of a link to the messages of its sub-VLs.
 use Rattle.std.specs.Prelude.{◌≡◌, ℕ, ◌-◌, ◌%◌, ◌≤◌, ◌<◌, nat_le, List, length, map, take, drop, All}
 use Rattle.afdx_plan.specs.Plan.{IsPort}
 use Rattle.afdx_frame.specs.declared.net.Net.{Net}
@@ -24,8 +24,7 @@ fragment_in frame = (
   },
 )
 
--- a sub-VL's messages in a link's frames: its datagrams, reassembled, without the eight bytes of
--- their UDP header (RFC 768)
+-- a sub-VL's messages in a link's frames: its reassembled datagrams without the 8 bytes of their UDP header (RFC 768)
 abbrev pub messages_in : ℕ → List (List ℕ) → List (List ℕ)
 messages_in sub frames = map (λ (e : ℕ × List ℕ). drop 8 e.1)
     (of_sub sub (delivered (λ key. empty) (map fragment_in frames)))
@@ -37,7 +36,7 @@ pub record IsSent (sub : ℕ) (sent : Sent) : Type 0 where
   pub some : 1 ≤ length sent.bytes
   pub most : length sent.bytes ≤ 8192
 
--- an end system, and the room of a piece on a link, as every plan has them
+-- an end system and the room of a piece on a link, within the bounds of every valid plan
 pub record IsLinkOf (end_system room : ℕ) : Type 0 where
   pub numbered : end_system < 65536
   pub least : 25 ≤ room
@@ -51,8 +50,7 @@ pub record IsSending (end_system room sub : ℕ) (accepted : List Sent) (net : N
   pub frames : IsStream stream
   pub first : IsPrefixOf (map blanked (those_with sub_in sub stream)) (fragments end_system room net accepted)
 
--- Messages are the first of the accepted ones, in order and each once, and among them are all whose
--- fragments are in these frames.
+-- Messages are the first accepted ones, in order and each once, and among them are all whose fragments are in `frames`.
 pub record AreFirst (end_system room sub : ℕ) (accepted : List Sent) (frames messages : List (List ℕ)) : Type 0 where
   pub many : ℕ
   pub are : messages ≡ take many (map (λ (sent : Sent). sent.bytes) accepted)
@@ -69,8 +67,8 @@ MessagesArrive = (end_system room sub lag : ℕ) (tolerance : Tolerance) (accept
     → AreFirst end_system room sub accepted (take (most_carried arrivals) stream)
     (messages_in sub (received number_in tolerance begin arrivals))
 
--- They are so although one network loses, repeats and reorders frames, where the other carries them
--- all and the next number alone is new to the receiver.
+-- The same if one network loses, repeats and reorders frames, the other carries them all, and only the next number is
+-- new to the receiver.
 abbrev pub DespiteLoss : Type 0
 DespiteLoss = (end_system room sub check : ℕ) (whole : Net) (accepted : List Sent) (net : Net)
     (stream : List (List ℕ)) (came : List (Net × ℕ))

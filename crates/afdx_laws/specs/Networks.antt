@@ -16,24 +16,24 @@ pub record IsStream (stream : List (List ℕ)) : Type 0 where
   pub long : All IsLong stream
   pub numbered : IsNumbered number_in 0 stream
 
--- what two networks carried of a link's stream, in the order in which it came from both: each the
--- beginning of the stream, without loss up to where it ends, and each near to the other
+-- what two networks carried of a link's stream, in the order in which it came from both: each a beginning of the
+-- stream, without a gap, and near to the other
 pub record AreCarried (lag : ℕ) (stream : List (List ℕ)) (arrivals : List (Net × List ℕ)) : Type 0 where
   pub on_a : IsPrefixOf (carried A arrivals) (map (twin_of A) stream)
   pub on_b : IsPrefixOf (carried B arrivals) (map (twin_of B) stream)
   pub near : IsNear lag arrivals
 
--- how many frames came from the network that carried more of them
+-- the number of frames from the network that carried more
 abbrev pub most_carried : List (Net × List ℕ) → ℕ
 most_carried arrivals = max (length (carried A arrivals)) (length (carried B arrivals))
 
--- The receiver accepts each frame of the stream once, in order, as far as one network carried it. Frames
--- are compared as network A has them.
+-- The receiver accepts each frame of the stream once, in order, as far as one network carried it. Frames are compared
+-- as network A has them.
 abbrev pub IsOnce : Tolerance → List (List ℕ) → List (Net × List ℕ) → Type 0
 IsOnce tolerance stream arrivals = map (twin_of A) (received number_in tolerance begin arrivals)
     ≡ take (most_carried arrivals) (map (twin_of A) stream)
 
--- It does, however the two networks are interleaved.
+-- It does, in any interleaving of the two networks.
 abbrev pub ExactlyOnce : Type 0
 ExactlyOnce = (lag : ℕ) (tolerance : Tolerance) (stream : List (List ℕ))
     (arrivals : List (Net × List ℕ))

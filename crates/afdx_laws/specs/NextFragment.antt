@@ -1,4 +1,4 @@
--- How far two neighbouring fragments of a message lie apart, where the sub-VLs of their link take turns.
+-- How far two neighbouring fragments of a message lie apart if the sub-VLs of their link take turns.
 use Rattle.std.specs.Prelude.{◌≡◌, ◌≢◌, ℕ, ◌+◌, ◌*◌, ◌≤◌, ◌<◌, max, true, Some, List, [], ◌∷◌, ◌++◌, length, All, false}
 use Rattle.afdx_plan.specs.Config.{Plan, IsPlan, link_plan_at}
 use Rattle.afdx_plan.specs.Plan.{bag_micros}
@@ -14,8 +14,8 @@ use Rattle.afdx_laws.specs.Plans.{id_at}
 use Rattle.afdx_plan.specs.Demo.{demo_plan}
 use Rattle.afdx_legal.specs.WorkedTurns.{turn_entry, in_turn}
 
--- In a stream, an entry behind which more fragments of its message are to come, the entries of other
--- sub-VLs that follow, and then the next entry of its own.
+-- In a stream, an entry with the flag of more fragments, the entries of other sub-VLs that follow, and then the next
+-- entry of its own sub-VL.
 pub record AreNeighbours (stream : List Entry) (first : Entry) (between : List Entry) (next : Entry) : Type 0 where
   pub before : List Entry
   pub after : List Entry
@@ -24,30 +24,29 @@ pub record AreNeighbours (stream : List Entry) (first : Entry) (between : List E
   pub others : All (λ (e : Entry). sub_in e.frame ≢ sub_in first.frame) between
   pub its : sub_in next.frame ≡ sub_in first.frame
 
--- an entry of one of so many sub-VLs
 abbrev pub IsOfOneOf : ℕ → Entry → Type 0
 IsOfOneOf subs e = sub_in e.frame < subs
 
--- The next fragment is one of the next entries of the link, as many as the link has sub-VLs.
+-- The next fragment is one of the next `subs` entries of the link.
 abbrev pub NextInARound : Type 0
 NextInARound = (subs : ℕ) (stream : List Entry) (first : Entry) (between : List Entry) (next : Entry)
     → TakesTurns stream → All (IsOfOneOf subs) stream → AreNeighbours stream first between next
     → length between + 1 ≤ subs
 
--- each entry follows the one before it, or a moment, within a time
+-- each entry follows the one before it, the first a start, within `most`
 abbrev pub FollowWithin : ℕ → ℕ → List Entry → Type 0
 FollowWithin most before [] = Unit {0}
 FollowWithin most before (e ∷ es) = (e.at ≤ before + most) × FollowWithin most e.at es
 
--- So it comes after as many BAGs and latenesses, where the link releases a frame in each while it waits.
+-- So it is released within `subs` BAGs and latenesses, if the link releases a frame in each while it waits.
 abbrev pub NextInTime : Type 0
 NextInTime = (subs gap late : ℕ) (stream : List Entry) (first : Entry) (between : List Entry) (next : Entry)
     → TakesTurns stream → All (IsOfOneOf subs) stream → AreNeighbours stream first between next
     → FollowWithin (gap + late) first.at (between ++ next ∷ [])
     → next.at ≤ first.at + subs * (gap + late)
 
--- The same by the polls of the link: from the release of a fragment on each poll follows the one before
--- it within the lateness, and finds the next fragment waiting until it is released.
+-- The same by the polls of the link: after the release of a fragment each poll follows the one before it within the
+-- lateness, and finds the next fragment waiting until it is released.
 abbrev pub NextPolledInTime : Type 0
 NextPolledInTime = (subs x gap late released : ℕ) (polls : List Poll) → x < subs → 1 ≤ gap
     → AreServed gap subs (Some (record { at = released; sub = x })) polls
@@ -56,17 +55,15 @@ NextPolledInTime = (subs x gap late released : ℕ) (polls : List Poll) → x < 
     → released + subs * (gap + late) ≤ latest_poll released polls
     → 1 ≤ released_by x (released + subs * (gap + late)) polls
 
--- the longest that two neighbouring fragments of a message lie apart on a link, where polls are so late
--- at most, in microseconds
+-- the longest time between two neighbouring fragments of a message on a link, in microseconds
 abbrev pub link_wait : ℕ → LinkPlan → ℕ
 link_wait late link = link.sub_vls * (bag_micros link.bag + late)
 
--- on any of these links
 abbrev pub longest_wait : ℕ → List LinkPlan → ℕ
 longest_wait late [] = 0
 longest_wait late (link ∷ links) = max (link_wait late link) (longest_wait late links)
 
--- That number bounds it for a whole configuration, in what was handed over to a network.
+-- The bound for a whole configuration, in what was sent to a network.
 abbrev pub NextInPlan : Type 0
 NextInPlan = (plan : Plan) (accepted : Accepted) (net : Net) (handed : List Entry) (late k : ℕ)
     (first : Entry) (between : List Entry) (next : Entry)
@@ -75,12 +72,11 @@ NextInPlan = (plan : Plan) (accepted : Accepted) (net : Net) (handed : List Entr
     → FollowWithin (bag_micros (link_plan_at plan.links k).bag + late) first.at (between ++ next ∷ [])
     → next.at ≤ first.at + longest_wait late plan.links
 
--- the entry between them
 abbrev pub one_between : List Entry
 one_between = turn_entry 1000 1 false ∷ []
 
--- They lie two gaps apart on a link of two sub-VLs, so the bound is met. With polls that are 50
--- microseconds late it is a little more on the demonstration's one link.
+-- Two fragments lie two gaps apart on a link of two sub-VLs, which is the bound. With polls up to 50 microseconds late,
+-- the bound of the demonstration's one link is 1,050.
 pub record LieTwoGapsApart : Type 0 where
   pub are : AreNeighbours in_turn (turn_entry 0 0 true) one_between (turn_entry 2000 0 false)
   pub round : length one_between + 1 ≡ 2

@@ -4,20 +4,20 @@ use Rattle.std.specs.List.{AllZip}
 use Rattle.redundant_mux.specs.Entry.{Entry}
 use Rattle.afdx_legal.specs.Streams.{IsSpaced}
 
--- a frame that comes to the switch: the moment in microseconds, and its bytes on the wire
+-- a frame that arrives at the switch: its time in microseconds, and its bytes on the wire
 pub record Arrival : Type 0 where
   pub at : ℕ
   pub size : ℕ
 
--- what a switch is told of a link: its gap in microseconds, its greatest frame in bytes on the wire,
--- and the greatest jitter that it allows, in microseconds
+-- a switch's rule for a link: its gap in microseconds, its greatest frame in bytes on the wire, and the greatest jitter
+-- that it allows, in microseconds
 pub record Rule : Type 0 where
   pub gap : ℕ
   pub lmax : ℕ
   pub jitter : ℕ
 
--- A link's account, and when it was last filled. A credit of one byte is counted as `gap`, so that
--- lmax bytes a gap are lmax a microsecond, without fractions.
+-- A link's account, and when it was last filled. A credit of one byte counts as `gap`, so that lmax bytes a gap are
+-- lmax a microsecond, without fractions.
 pub record Account : Type 0 where
   pub credit : ℕ
   pub since : ℕ
@@ -26,7 +26,7 @@ pub record Account : Type 0 where
 abbrev pub limit : Rule → ℕ
 limit rule = rule.lmax * (rule.gap + rule.jitter)
 
--- it begins there
+-- it begins full
 abbrev pub full : Rule → Account
 full rule = record { credit = limit rule; since = 0 }
 
@@ -37,7 +37,6 @@ filled rule account now = record {
   since = now;
 }
 
--- a frame that passes is paid for
 abbrev pub paid : Account → ℕ → Account
 paid account price = record { credit = account.credit - price; since = account.since }
 
@@ -46,12 +45,11 @@ pub data Charge : Type 0 where
   by_bytes : Charge
   by_frames : Charge
 
--- what a frame costs
 abbrev pub price : Charge → Rule → Arrival → ℕ
 price by_bytes rule frame = frame.size * rule.gap
 price by_frames rule frame = rule.lmax * rule.gap
 
--- the frames that pass: those whose price the account can pay
+-- the frames that pass: the account pays their price
 abbrev pub passed : Charge → Rule → Account → List Arrival → List Arrival
 passed charge rule account [] = []
 passed charge rule account (frame ∷ frames) =
@@ -60,23 +58,22 @@ passed charge rule account (frame ∷ frames) =
     (paid (filled rule account frame.at) (price charge rule frame)) frames
     else passed charge rule (filled rule account frame.at) frames
 
--- a frame on its way: the moment of its release, and the one at which it comes to the switch
+-- a frame on its way: the times of its release and of its arrival at the switch, and its size
 pub record Passage : Type 0 where
   pub released : ℕ
   pub arrived : ℕ
   pub size : ℕ
 
--- what the switch sees of it
 abbrev pub arrival : Passage → Arrival
 arrival passage = record { at = passage.arrived; size = passage.size }
 
--- it was on its way for at most the jitter, and is no greater than the greatest
+-- it arrives at most the jitter after its release, and is no greater than the rule allows
 pub record IsOnTime (rule : Rule) (passage : Passage) : Type 0 where
   pub after : passage.released ≤ passage.arrived
   pub soon : passage.arrived ≤ passage.released + rule.jitter
   pub small : passage.size ≤ rule.lmax
 
--- such frames, neighbours released at least a gap apart
+-- frames on time, neighbours released at least a gap apart
 abbrev pub AreOnTime : Rule → List Passage → Type 0
 AreOnTime rule [] = Unit {0}
 AreOnTime rule (first ∷ []) = IsOnTime rule first
@@ -93,17 +90,16 @@ abbrev pub NoneDropped : Type 0
 NoneDropped = (charge : Charge) (rule : Rule) (passages : List Passage) → AreOnTime rule passages
     → AllPass charge rule passages
 
--- what some frames cost
 abbrev pub cost : Charge → Rule → List Arrival → ℕ
 cost charge rule frames = sum_by (price charge rule) frames
 
--- moments that don't go back, from a start to an end
+-- times that don't go back, from a start to an end
 abbrev pub AreBetween : ℕ → ℕ → List Arrival → Type 0
 AreBetween start end [] = start ≤ end
 AreBetween start end (frame ∷ later) = (start ≤ frame.at) × AreBetween frame.at end later
 
--- It is no switch that lets all pass: whatever comes, and whatever is on the account, what passes from one
--- moment to another costs at most lmax bytes for each gap between them, and lmax (1 + jitter / gap) more.
+-- It does not let everything pass: whatever arrives, and whatever the credit is, the frames that pass between two times
+-- cost at most lmax bytes for each gap between them, and lmax (1 + jitter / gap) more.
 abbrev pub NoMorePasses : Type 0
 NoMorePasses = (charge : Charge) (rule : Rule) (credit start end : ℕ) (frames : List Arrival)
     → AreBetween start end frames
@@ -122,20 +118,20 @@ EarlyDropped = (charge : Charge) (gap lmax a b : ℕ) → 1 ≤ lmax → a ≤ b
 abbrev pub IsUpTo : ℕ → Entry → Type 0
 IsUpTo lmax e = length e.frame + 4 ≤ lmax
 
--- a released frame on its way to a switch: it comes at most the jitter after its release, and takes so
--- many bytes on the wire beside its own (none, or 20 of preamble, delimiter and gap)
+-- a released frame on its way to a switch: it arrives at most the jitter after its release, and takes `around` bytes on
+-- the wire beside its own (none, or 20 of preamble, delimiter and gap)
 pub record IsOnItsWay (around jitter : ℕ) (e : Entry) (passage : Passage) : Type 0 where
   pub released : passage.released ≡ e.at
   pub size : passage.size ≡ length e.frame + 4 + around
   pub after : e.at ≤ passage.arrived
   pub soon : passage.arrived ≤ e.at + jitter
 
--- what a switch is told where frames take so many bytes on the wire beside their own
+-- a switch's rule if frames take `around` bytes on the wire beside their own
 abbrev pub rule_around : (gap lmax jitter around : ℕ) → Rule
 rule_around gap lmax jitter around = record { gap = gap; lmax = lmax + around; jitter = jitter }
 
--- A switch that polices by the gap, the greatest frame and the jitter drops no frame of a spaced
--- stream, whatever each is delayed by, up to the jitter.
+-- A switch that polices by the gap, the greatest frame and the jitter drops no frame of a spaced stream, if each is
+-- delayed by at most the jitter.
 abbrev pub StreamPasses : Type 0
 StreamPasses = (charge : Charge) (gap lmax jitter around : ℕ) (stream : List Entry) (passages : List Passage)
     → IsSpaced gap None stream → All (IsUpTo lmax) stream → AllZip (IsOnItsWay around jitter) stream passages

@@ -1,6 +1,5 @@
--- The receiving end of a virtual link (ARINC 664 Part 7, integrity checking and redundancy
--- management): a check of each network's numbers, then the first valid frame wins. It sees numbers
--- alone, so that it is defined for frames of any kind.
+-- The receiving end of a virtual link (ARINC 664 Part 7, integrity checking and redundancy management): a check of each
+-- network's numbers, then the first valid frame wins. It reads only the numbers, so frames may be of any type.
 use Rattle.std.specs.Prelude.{◌≡◌, ℕ, zero, suc, ◌+◌, ◌≤◌, nat_eq, ◌&&◌, ◌||◌, Bool, true, false, if◌then◌else◌, Option, Some, None, List, [], ◌∷◌, ◌++◌, length}
 use Rattle.afdx_frame.specs.declared.net.Net.{Net}
 use Rattle.afdx_frame.specs.declared.net.Net.TheVariants.{A, B}
@@ -14,14 +13,14 @@ other B = A
 abbrev pub next_number : ℕ → ℕ
 next_number n = if nat_eq n 255 then 1 else n + 1
 
--- one of so many numbers after a number
+-- `n` is one of the `many` numbers after `last`
 abbrev pub ahead : ℕ → ℕ → ℕ → Bool
 ahead zero last n = false
 ahead (suc many) last n = nat_eq n (next_number last) || ahead many (next_number last) n
 
--- How many numbers after the last one of its network the check takes as valid, and how many after the
--- last accepted one are new. What is not new is the copy of an old frame. A receiver that expects the
--- next number alone has 1; the standard's check of the next two has 2.
+-- How many numbers after the last one of its network the check takes as valid, and how many after the last accepted one
+-- are new. A frame that is not new is the copy of an old one. A receiver that expects only the next number has 1; the
+-- standard's check of the next two has 2.
 pub record Tolerance : Type 0 where
   pub check : ℕ
   pub window : ℕ
@@ -32,11 +31,9 @@ pub record State : Type 0 where
   pub seen_b : Option ℕ
   pub accepted : Option ℕ
 
--- before the first frame
 abbrev pub begin : State
 begin = record { seen_a = None; seen_b = None; accepted = None }
 
--- one of so many numbers after the last one, or the first of all
 abbrev pub is_ahead : ℕ → Option ℕ → ℕ → Bool
 is_ahead many None n = true
 is_ahead many (Some last) n = ahead many last n
@@ -45,17 +42,14 @@ is_ahead many (Some last) n = ahead many last n
 abbrev pub is_valid : ℕ → Option ℕ → ℕ → Bool
 is_valid many last n = nat_eq n 0 || is_ahead many last n
 
--- the number seen last on a network
 abbrev pub seen_on : Net → State → Option ℕ
 seen_on A state = state.seen_a
 seen_on B state = state.seen_b
 
--- after a frame of a network
 abbrev pub with_seen : Net → ℕ → State → State
 with_seen A n state = record { seen_a = Some n; seen_b = state.seen_b; accepted = state.accepted }
 with_seen B n state = record { seen_a = state.seen_a; seen_b = Some n; accepted = state.accepted }
 
--- after one that was accepted
 abbrev pub with_accepted : ℕ → State → State
 with_accepted n state = record {
   seen_a = state.seen_a;
@@ -63,12 +57,11 @@ with_accepted n state = record {
   accepted = Some n;
 }
 
--- the frame is valid and new
 abbrev pub is_accepted : Tolerance → State → Net → ℕ → Bool
 is_accepted tolerance state net n =
     is_valid tolerance.check (seen_on net state) n && is_ahead tolerance.window state.accepted n
 
--- the frames that are accepted, of those that come from both networks in this order
+-- the frames that are accepted, of those that arrive from both networks in this order
 abbrev pub received : {F : Type 0} → (F → ℕ) → Tolerance → State → List (Net × F) → List F
 received number tolerance state [] = []
 received number tolerance state (e ∷ es) =
@@ -77,14 +70,13 @@ received number tolerance state (e ∷ es) =
     (with_accepted (number e.1) (with_seen e.0 (number e.1) state)) es
     else received number tolerance (with_seen e.0 (number e.1) state) es
 
--- what one network carried, of what came from both
 abbrev pub carried_by : {F : Type 0} → Net → Net → F → List F → List F
 carried_by A A frame later = frame ∷ later
 carried_by B B frame later = frame ∷ later
 carried_by A B frame later = later
 carried_by B A frame later = later
 
--- all of it, in order
+-- what one network carried, of what came from both, in order
 abbrev pub carried : {F : Type 0} → Net → List (Net × F) → List F
 carried net [] = []
 carried net (e ∷ es) = carried_by net e.0 e.1 (carried net es)

@@ -1,13 +1,13 @@
--- The words of the worked rows.
+-- The shapes of the worked cases of laws.
 use Rattle.std.specs.Prelude.{Bool, true, false}
 
--- a premise of a law and what the law says, in a case in which neither holds
+-- a case in which a premise of a law fails, and its conclusion too
 pub record BothFail (Premise Conclusion : Type 0) : Type 0 where
   pub premise : Premise → ⊥
   pub conclusion : Conclusion → ⊥
 
--- A law of three premises: a case in which all hold, and so does what it says; and for each premise one in which it
--- alone fails, and what it says with it.
+-- A law of three premises: a case in which all hold, and so does the conclusion; and for each premise a case in which
+-- it alone fails, and the conclusion with it.
 pub record NeedsEach {X Y Z : Type 0} (P : X → Type 0) (Q : Y → Type 0) (R : Z → Type 0)
     (Says : X → Y → Z → Type 0) (x no_x : X) (y no_y : Y) (z no_z : Z) : Type 0 where
   pub first : P x

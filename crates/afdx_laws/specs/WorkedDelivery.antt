@@ -1,6 +1,5 @@
--- A worked delivery: the demonstration port sends 41 bytes over a link with frames of up to 64, which
--- takes two frames. Network B is behind by one frame, and then ahead. Then runs of a receiver for which the
--- next number alone is new.
+-- A worked delivery: the demonstration port sends 41 bytes over a link with frames of up to 64 bytes, so two frames.
+-- Network B lags by one frame, and then leads. Then runs of a receiver for which only the next number is new.
 use Rattle.std.specs.Prelude.{◌≡◌, ℕ, List, [], ◌∷◌, replicate, take, Some, ◌++◌, map}
 use Rattle.afdx_plan.specs.Demo.{demo_port}
 use Rattle.afdx_frame.specs.declared.net.Net.{Net}
@@ -18,7 +17,6 @@ use Rattle.afdx_laws.specs.Rows.{BothFail, NeedsEach}
 use Rattle.afdx_plan.specs.Numbers.{sequence_number}
 use Rattle.afdx_frame.specs.Twin.{twin_of}
 
--- the message
 abbrev pub bytes_41 : List ℕ
 bytes_41 = replicate 41 0xaa
 
@@ -26,7 +24,7 @@ bytes_41 = replicate 41 0xaa
 abbrev pub one_accepted : List Sent
 one_accepted = record { port = demo_port; bytes = bytes_41 } ∷ []
 
--- another message, which isn't sent
+-- another message, which is not sent
 abbrev pub other_accepted : List Sent
 other_accepted = record { port = demo_port; bytes = replicate 41 0xbb } ∷ []
 
@@ -34,15 +32,15 @@ other_accepted = record { port = demo_port; bytes = replicate 41 0xbb } ∷ []
 abbrev pub front_frame : Net → List ℕ
 front_frame net = frame_of 1 demo_port bytes_41 0 (piece_at 25 49 0) net 0
 
--- and its second: bytes 24 to 48
+-- its second frame: bytes 24 to 48
 abbrev pub back_frame : Net → List ℕ
 back_frame net = frame_of 1 demo_port bytes_41 0 (piece_at 25 49 24) net 1
 
--- what was handed to a network
+-- what was sent to a network
 abbrev pub both_frames : Net → List (List ℕ)
 both_frames net = front_frame net ∷ back_frame net ∷ []
 
--- what comes, and in which order
+-- what arrives, in order
 abbrev pub four_arrivals : List (Net × List ℕ)
 four_arrivals = (A, front_frame A) ∷ (B, front_frame B) ∷ (B, back_frame B) ∷ (A, back_frame A) ∷ []
 
@@ -50,7 +48,7 @@ four_arrivals = (A, front_frame A) ∷ (B, front_frame B) ∷ (B, back_frame B) 
 abbrev pub three_arrivals : List (Net × List ℕ)
 three_arrivals = (B, back_frame B) ∷ (A, front_frame A) ∷ (A, back_frame A) ∷ []
 
--- the next number alone is new
+-- only the next number is new
 abbrev pub plain_receiver : Tolerance
 plain_receiver = next_alone 1
 
@@ -63,30 +61,29 @@ pub record OneMessageArrives : Type 0 where
   pub accepts : received number_in plain_receiver begin four_arrivals ≡ front_frame A ∷ back_frame B ∷ []
   pub message : messages_in 0 (received number_in plain_receiver begin four_arrivals) ≡ bytes_41 ∷ []
 
--- what a receiver has of these frames is what the laws of delivery say
+-- the conclusion of the laws of delivery for these frames
 abbrev pub Arrives : List (List ℕ) → List Sent → Tolerance → List (Net × List ℕ) → Type 0
 Arrives frames accepted tolerance arrivals = AreFirst 1 25 0 accepted (take (most_carried arrivals) frames)
     (messages_in 0 (received number_in tolerance begin arrivals))
 
--- Of what was handed over, they meet what the law asks for, and each premise is needed. Where another message was
--- accepted, that one doesn't arrive; where no number is new to the receiver, or network B loses the first frame and
--- is ahead, none does.
+-- The frames meet the premises, and each premise is needed. If another message was accepted, it does not arrive; if no
+-- number is new to the receiver, or network B loses the first frame and leads, none does.
 abbrev pub NeedsHanding : Type 0
 NeedsHanding = NeedsEach (λ (accepted : List Sent). AreHanded 1 25 0 accepted (both_frames A) (both_frames B))
     (IsFitFor 3) (AreCarriedOf 3 (both_frames A) (both_frames B)) (Arrives (longer (both_frames A) (both_frames B)))
     one_accepted other_accepted plain_receiver closed_receiver four_arrivals three_arrivals
 
--- So it is of the stream, of which the same message arrives.
+-- The same of the stream.
 abbrev pub NeedsAStream : Type 0
 NeedsAStream = NeedsEach (λ (accepted : List Sent). IsSending 1 25 0 accepted A (both_frames A))
     (IsFitFor 3) (AreCarried 3 (both_frames A)) (Arrives (both_frames A))
     one_accepted other_accepted plain_receiver closed_receiver four_arrivals three_arrivals
 
--- frames of network A by their numbers, which come round
+-- frames of network A by their numbers, which wrap around
 abbrev pub past_255 : List (Net × ℕ)
 past_255 = (A, 254) ∷ (A, 255) ∷ (A, 1) ∷ (A, 2) ∷ []
 
--- network A carried the first frame and so many more, and network B the first alone
+-- network A carried the first frame and `many` more, network B only the first
 abbrev pub ahead_by : ℕ → State
 ahead_by many = record {
   seen_a = Some (sequence_number many);
@@ -94,8 +91,8 @@ ahead_by many = record {
   accepted = Some (sequence_number many);
 }
 
--- The frames of the worked delivery meet what the law asks for, and the receiver accepts each once. So
--- it does frames whose numbers come round after 255.
+-- The frames of the worked delivery meet the premises, and the receiver accepts each once. It also accepts frames whose
+-- numbers wrap around after 255.
 pub record AcceptsEachOnce : Type 0 where
   pub fit : IsFitFor 3 plain_receiver
   pub stream : IsStream (both_frames A)
@@ -103,14 +100,13 @@ pub record AcceptsEachOnce : Type 0 where
   pub once : IsOnce plain_receiver (both_frames A) four_arrivals
   pub round : received (λ (n : ℕ). n) plain_receiver begin past_255 ≡ 254 ∷ 255 ∷ 1 ∷ 2 ∷ []
 
--- a frame of 60 bytes that has a number and nothing else, and such frames
+-- frames of 60 bytes that are 0 but for the number
 abbrev pub bare_frame : ℕ → List ℕ
 bare_frame n = replicate 59 0 ++ n ∷ []
 
 abbrev pub bare_stream : List ℕ → List (List ℕ)
 bare_stream numbers = map bare_frame numbers
 
--- it comes from a network
 abbrev pub bare_from : Net → ℕ → Net × List ℕ
 bare_from net n = (net, twin_of net (bare_frame n))
 
@@ -122,28 +118,28 @@ same_twice = bare_from A 0 ∷ bare_from A 0 ∷ []
 abbrev pub second_alone : List (Net × List ℕ)
 second_alone = bare_from A 1 ∷ []
 
--- network B is three frames behind
+-- network B lags by three frames
 abbrev pub far_behind : List (Net × List ℕ)
 far_behind = bare_from A 0 ∷ bare_from A 1 ∷ bare_from A 2 ∷ bare_from B 0 ∷ bare_from B 1 ∷ []
 
--- a receiver for which all numbers but the last accepted one, and 0, are new
+-- a receiver for which all numbers are new but the last accepted one and 0
 abbrev pub wide_receiver : Tolerance
 wide_receiver = record { check = 1; window = 254 }
 
--- Of two frames that carry one number, the second is taken for a copy.
+-- If two frames carry one number, the second is dropped as a copy.
 pub record NeedsNumbers : Type 0 where
   pub carry : AreCarried 3 (bare_stream (0 ∷ 0 ∷ [])) same_twice
   pub stream : BothFail (IsStream (bare_stream (0 ∷ 0 ∷ [])))
       (IsOnce plain_receiver (bare_stream (0 ∷ 0 ∷ [])) same_twice)
 
--- A network that loses the first frame brings the second, and not the first.
+-- If a network loses the first frame, only the second is accepted.
 pub record NeedsBeginnings : Type 0 where
   pub stream : IsStream (bare_stream (0 ∷ 1 ∷ []))
   pub carry : BothFail (AreCarried 3 (bare_stream (0 ∷ 1 ∷ [])) second_alone)
       (IsOnce plain_receiver (bare_stream (0 ∷ 1 ∷ [])) second_alone)
 
--- With a wide window an old frame of a network that is too far behind is accepted again. At a lag of 1 the
--- receiver is fit and the networks are not near; at a lag of 4 they are near and it is not fit.
+-- With a wide window an old frame of a network that lags too far is accepted again. At a lag of 1 the receiver is fit
+-- and the networks are not near; at a lag of 4 they are near and it is not fit.
 pub record NeedsALag : Type 0 where
   pub stream : IsStream (bare_stream (0 ∷ 1 ∷ 2 ∷ []))
   pub fit : IsFitFor 1 wide_receiver
@@ -152,8 +148,8 @@ pub record NeedsALag : Type 0 where
   pub unfit : IsFitFor 4 wide_receiver → ⊥
   pub carry : AreCarried 4 (bare_stream (0 ∷ 1 ∷ 2 ∷ [])) far_behind
 
--- Where network B is 254 frames behind, its second frame is dropped, which A's was accepted for. One
--- frame more is out of bounds, and it is accepted again.
+-- If network B lags by 254 frames, its second frame is dropped, as A's was accepted. With a lag of one more, out of
+-- bounds, it is accepted again.
 pub record ClashesPast254 : Type 0 where
   pub fit : IsFitFor 254 plain_receiver
   pub once : received (λ (n : ℕ). n) plain_receiver (ahead_by 254) ((B, 1) ∷ []) ≡ []

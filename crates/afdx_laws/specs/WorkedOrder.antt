@@ -1,5 +1,5 @@
--- A worked reassembly, of pieces of up to 8 bytes: sub-VL 0 sends a datagram of 20 bytes and one of 12,
--- and sub-VL 1 one of a single byte between them. The last fragment doesn't come. Then the buffers that it needs.
+-- A worked reassembly, of pieces of up to 8 bytes: sub-VL 0 sends a datagram of 20 bytes and one of 12, and sub-VL 1
+-- one of a single byte between them. The last fragment is lost. Then the buffers that it needs.
 use Rattle.std.specs.Prelude.{◌≡◌, ℕ, ◌≤◌, Bool, true, false, List, [], ◌∷◌, length, map, take, All, Some, None}
 use Rattle.std.specs.List.{range_with_len}
 use Rattle.afdx_frame.specs.Reassembly.{Fragment, empty}
@@ -20,7 +20,7 @@ two_datagrams = range_with_len 1 20 ∷ range_with_len 21 12 ∷ []
 abbrev pub piece : (key offset : ℕ) → Bool → (first len : ℕ) → ℕ × Fragment
 piece key offset more first len = (key, record { offset = offset; more = more; bytes = range_with_len first len })
 
--- what comes
+-- what arrives
 abbrev pub five_fragments : List (ℕ × Fragment)
 five_fragments = piece 0 0 true 1 8
     ∷ piece 1 0 false 7 1
@@ -29,8 +29,7 @@ five_fragments = piece 0 0 true 1 8
     ∷ piece 4 0 true 21 8
     ∷ []
 
--- They meet what the law of order asks for. The first datagram is given, and the second, of which a
--- fragment lacks, isn't.
+-- They meet the premises of the law of order. The first datagram is given; the second lacks a fragment and is not.
 pub record FirstIsGiven : Type 0 where
   pub some : All HasByte two_datagrams
   pub first : IsPrefixOf (of_sub 0 five_fragments) (sent_from 8 0 0 two_datagrams)
@@ -39,7 +38,7 @@ pub record FirstIsGiven : Type 0 where
   pub all : (j : ℕ) → j ≤ length two_datagrams
       → length (sent_from 8 0 0 (take j two_datagrams)) ≤ length (of_sub 0 five_fragments) → j ≤ 1
 
--- the second datagram comes, and of the first nothing
+-- the fragments of the second datagram alone
 abbrev pub second_came : List (ℕ × Fragment)
 second_came = piece 4 0 true 21 8 ∷ piece 4 1 false 29 4 ∷ []
 
@@ -47,12 +46,11 @@ second_came = piece 4 0 true 21 8 ∷ piece 4 1 false 29 4 ∷ []
 abbrev pub one_without_bytes : List (List ℕ)
 one_without_bytes = [] ∷ (7 ∷ []) ∷ []
 
--- a datagram of 8 bytes
 abbrev pub eight_bytes : List (List ℕ)
 eight_bytes = range_with_len 1 8 ∷ []
 
--- Where the first datagram is lost, the second is given and isn't the first. A datagram of no byte has no
--- fragment, and isn't given. With room for 7 bytes no piece has a byte, and an empty datagram is given.
+-- If the first datagram is lost, the second is given first. A datagram of no byte has no fragment, and is not given.
+-- With room for 7 bytes no piece has a byte, and an empty datagram is given.
 pub record NeedsOrder : Type 0 where
   pub lost : BothFail (IsPrefixOf (of_sub 0 second_came) (sent_from 8 0 0 two_datagrams))
       (AreGiven 8 0 two_datagrams second_came)
@@ -63,7 +61,7 @@ pub record NeedsOrder : Type 0 where
   pub small_first : IsPrefixOf (of_sub 0 (sent_from 7 0 0 eight_bytes)) (sent_from 7 0 0 eight_bytes)
   pub small : BothFail (8 ≤ 7) (AreGiven 7 0 eight_bytes (sent_from 7 0 0 eight_bytes))
 
--- the first fragments of two datagrams of sub-VL 0, as no transmitter sends them
+-- the first fragments of two datagrams of sub-VL 0, which no transmitter sends in this order
 abbrev pub two_begun : List (ℕ × Fragment)
 two_begun = piece 0 0 true 1 8 ∷ piece 4 0 true 21 8 ∷ []
 
@@ -71,8 +69,8 @@ two_begun = piece 0 0 true 1 8 ∷ piece 4 0 true 21 8 ∷ []
 abbrev pub two_of_three : List (ℕ × Fragment)
 two_of_three = piece 0 0 true 1 8 ∷ piece 0 1 true 9 8 ∷ []
 
--- The second datagram of sub-VL 0 waits for its last fragment, with 8 bytes, and the others gave their
--- datagrams. Where two datagrams of one sub-VL are begun, one buffer isn't enough.
+-- The second datagram of sub-VL 0 waits for its last fragment, with 8 bytes; the other buffers gave their datagrams. If
+-- two datagrams of one sub-VL are begun, one buffer is not enough.
 pub record HoldsTheSecond : Type 0 where
   pub first : buffers_after (λ key. empty) five_fragments 0 ≡ empty
   pub other : buffers_after (λ key. empty) five_fragments 1 ≡ empty
@@ -80,8 +78,8 @@ pub record HoldsTheSecond : Type 0 where
   pub begun : (buffers_after (λ key. empty) two_begun 0).byte_at 0 ≡ Some 1
   pub both : (buffers_after (λ key. empty) two_begun 4).byte_at 0 ≡ Some 21
 
--- Each premise is needed. If two datagrams of one sub-VL are begun at once there is no prefix, and two buffers hold
--- bytes; and a buffer of 8 bytes isn't enough for a datagram of 20.
+-- Each premise is needed. If two datagrams of one sub-VL are begun at once, the fragments are no prefix, and two
+-- buffers hold bytes. A buffer of 8 bytes is not enough for a datagram of 20.
 pub record NeedsInTurn : Type 0 where
   pub some : All HasByte two_datagrams
   pub size : All (HasUpTo 20) two_datagrams
@@ -90,8 +88,8 @@ pub record NeedsInTurn : Type 0 where
   pub first : IsPrefixOf (of_sub 0 two_of_three) (sent_from 8 0 0 two_datagrams)
   pub small : BothFail (All (HasUpTo 8) two_datagrams) (HoldsOne 0 8 (buffers_after (λ key. empty) two_of_three))
 
--- The first frame of the worked delivery fills a buffer with the 24 bytes of its fragment, and no other
--- byte. With the second frame the message is given, and the buffer is empty.
+-- The first frame of the worked delivery fills a buffer with the 24 bytes of its fragment. With the second frame the
+-- message is given, and the buffer is empty.
 pub record HoldsAFrame : Type 0 where
   pub last : (buffers_in (front_frame A ∷ []) 0).byte_at 23 ≡ Some 170
   pub next : (buffers_in (front_frame A ∷ []) 0).byte_at 24 ≡ None

@@ -1,6 +1,6 @@
--- Worked handing over of a plan, the demonstration configuration. One message of one byte is accepted, and its frame is
--- handed to both networks at the moment 0: also to its end, where the message was all that its port had accepted, and
--- with the link on network A alone. Then two messages, the second handed over some time after the first.
+-- Worked transmissions of a plan, the demonstration configuration. One message of one byte is accepted, and its frame
+-- sent to both networks at time 0; also if that message was all that its port had accepted, and with the link on
+-- network A alone. Then two messages, the second sent some time after the first.
 use Rattle.std.specs.Prelude.{◌≡◌, ℕ, List, [], ◌∷◌, take, All, ◌≤◌, length}
 use Rattle.std.specs.List.{AllZip}
 use Rattle.afdx_plan.specs.Config.{IsPlan, Plan, link_plan_at}
@@ -33,11 +33,11 @@ use Rattle.afdx_laws.specs.WorkedDelivery.{plain_receiver, closed_receiver, back
 use Rattle.afdx_laws.specs.WorkedLoss.{first_lost, messages_despite}
 use Rattle.afdx_laws.specs.WorkedPolicing.{passage}
 
--- what was handed to the network
+-- what was sent to the network
 abbrev pub one_entry : Net → List Entry
 one_entry net = one_entry_at 0 net
 
--- what comes from both
+-- what arrives from both
 abbrev pub two_arrivals : List (Net × List ℕ)
 two_arrivals = (B, one_frame B) ∷ (A, one_frame A) ∷ []
 
@@ -45,7 +45,7 @@ two_arrivals = (B, one_frame B) ∷ (A, one_frame A) ∷ []
 abbrev pub one_passage : List Passage
 one_passage = passage 0 40 84 ∷ []
 
--- It meets what the laws of a plan ask for: the message comes, and a switch drops no frame.
+-- It meets the premises of the laws of a plan: the message arrives, and a switch drops no frame.
 pub record OneIsLegal : Type 0 where
   pub handed : IsHandedOver demo_plan one_byte_accepted (one_entry A) (one_entry B) 0 0
   pub carry : AreCarriedOf 1 (frames_of 1 (one_entry A)) (frames_of 1 (one_entry B)) two_arrivals
@@ -53,7 +53,6 @@ pub record OneIsLegal : Type 0 where
   pub way : AllZip (IsOnItsWay 20 500) (link_stream 1 (one_entry A)) one_passage
   pub passes : AllPass by_bytes (rule_at demo_plan 0 20 500) one_passage
 
--- the frames of the longer list
 abbrev pub longer_of_one : List (List ℕ)
 longer_of_one = longer_of 1 (one_entry A) (one_entry B)
 
@@ -61,7 +60,7 @@ longer_of_one = longer_of 1 (one_entry A) (one_entry B)
 abbrev pub only_lost : List (Net × ℕ)
 only_lost = (B, 0) ∷ []
 
--- So it comes where network A loses its frame.
+-- The message also arrives if network A loses its frame.
 pub record LegalDespiteOneLoss : Type 0 where
   pub handed : IsHandedOver demo_plan one_byte_accepted (one_entry A) (one_entry B) 0 0
   pub close : AreClose B (length longer_of_one) 0 0 only_lost
@@ -69,20 +68,18 @@ pub record LegalDespiteOneLoss : Type 0 where
   pub first : AreFirst 1 1479 0 (one_byte_accepted 0 0) (take (length (carried B only_lost)) longer_of_one)
       (messages_despite 1 longer_of_one only_lost)
 
--- the one port's own list
 abbrev pub one_own : ℕ → List (List ℕ)
 one_own place = (1 ∷ []) ∷ []
 
--- another list than the port's own
 abbrev pub other_own : ℕ → List (List ℕ)
 other_own place = (2 ∷ []) ∷ []
 
--- what a receiver has is the port's own list
+-- the receiver's messages are the port's own list
 abbrev pub OwnComes : (ℕ → List (List ℕ)) → List (Net × List ℕ) → Type 0
 OwnComes own arrivals =
     AreOwnLists demo_plan 0 0 own (messages_in 0 (received number_in plain_receiver begin arrivals))
 
--- It meets what the law of the ports' own lists asks for, and the list comes.
+-- It meets the premises of the law of the ports' own lists, and the list arrives.
 pub record OneIsWhole : Type 0 where
   pub valid : IsPlan demo_plan
   pub handed : IsHandedWhole demo_plan one_own (one_entry A) (one_entry B)
@@ -91,8 +88,8 @@ pub record OneIsWhole : Type 0 where
   pub all : length longer_of_one ≤ most_carried two_arrivals
   pub whole : OwnComes one_own two_arrivals
 
--- Each premise is needed: another list than the port's own doesn't come, and where the frame is lost on both
--- networks its own doesn't.
+-- Each premise is needed: another list than the port's own does not arrive, nor does its own if both networks lose the
+-- frame.
 pub record NeedsAll : Type 0 where
   pub other : BothFail (IsHandedWhole demo_plan other_own (one_entry A) (one_entry B)) (OwnComes other_own two_arrivals)
   pub lost_carry : AreCarriedOf 1 (frames_of 1 (one_entry A)) (frames_of 1 (one_entry B)) []
@@ -102,9 +99,9 @@ pub record NeedsAll : Type 0 where
 abbrev pub demo_on : Networks → Plan
 demo_on carriers = record demo_plan { links = record demo_link { networks = carriers } ∷ [] }
 
--- The link is on network A alone, and the frame of one message is handed to that network: the message comes.
--- Were the frame handed to network B too, that wouldn't be legal. Where the one network loses the first of
--- two frames, nothing comes of their message.
+-- The link is on network A alone, and the frame of one message is sent to that network: the message arrives. To send
+-- the frame to network B too would not be legal. If the one network loses the first of two frames, their message is
+-- lost.
 pub record ComesFromOne : Type 0 where
   pub handed : IsHandedOver (demo_on OnlyA) one_byte_accepted (one_entry A) [] 0 0
   pub alone : (link_plan_at (demo_on OnlyA).links 0).networks ≡ only A
@@ -117,8 +114,8 @@ pub record ComesFromOne : Type 0 where
   pub elsewhere : IsLegal (demo_on OnlyA) one_byte_accepted (one_entry A) (one_entry B) → ⊥
   pub lost : messages_in 0 (received number_in plain_receiver begin (all_from A (back_frame A ∷ []))) ≡ []
 
--- The link is on both networks: the two lists are twins, and its own stream is what was handed to network A.
--- With the link on network A alone the list has no entry of a link on both.
+-- The link is on both networks: the two lists are twins, and its own stream is what was sent to network A. With the
+-- link on network A alone, the list has no entry of a link on both.
 pub record AreTwinsOfOne : Type 0 where
   pub both : All IsOnBoth (demo_on Both).links
   pub legal : IsLegal (demo_on Both) one_byte_accepted (one_entry A) (one_entry B)
@@ -127,7 +124,6 @@ pub record AreTwinsOfOne : Type 0 where
   pub alone : All IsOnBoth (demo_on OnlyA).links → ⊥
   pub cut : on_both (demo_on OnlyA).links (one_entry A) ≡ []
 
--- the second message
 abbrev pub other_byte : Sent
 other_byte = record { port = demo_port; bytes = 2 ∷ [] }
 
@@ -138,78 +134,75 @@ two_accepted k sub = one_byte ∷ other_byte ∷ []
 abbrev pub swapped_accepted : Accepted
 swapped_accepted k sub = other_byte ∷ one_byte ∷ []
 
--- the frame of the second message for a network
+-- the frame of the second message
 abbrev pub second_frame : Net → List ℕ
 second_frame net = frame_of 1 demo_port (2 ∷ []) 1 (piece_at 1479 9 0) net 1
 
--- what was handed to the network, the second frame at a moment
+-- what was sent to the network, the second frame at `now`
 abbrev pub pair_at : ℕ → Net → List Entry
 pair_at now net = entry 0 (one_frame net) ∷ entry now (second_frame net) ∷ []
 
--- a gap after the first
 abbrev pub two_entries : Net → List Entry
 two_entries net = pair_at 1000 net
 
--- the frames of the longer list
 abbrev pub longer_pair : List (List ℕ)
 longer_pair = longer_of 1 (two_entries A) (two_entries B)
 
--- these messages are handed over legally
+-- these messages are transmitted legally
 abbrev pub PairHanded : Accepted → Type 0
 PairHanded accepted = IsHandedOver demo_plan accepted (two_entries A) (two_entries B) 0 0
 
--- Accepted in the other order they may be sent, and aren't handed over legally.
+-- Accepted in the other order, they may be sent, but are not transmitted legally.
 pub record AreSwapped : Type 0 where
   pub allowed : All (IsAllowed demo_plan 0 0) (swapped_accepted 0 0)
   pub legal : IsLegal demo_plan swapped_accepted (two_entries A) (two_entries B) → ⊥
 
--- what comes: all of network A's; or network A loses the first
+-- what arrives: both frames of network A, or only the second
 abbrev pub both_arrive : List (Net × List ℕ)
 both_arrive = (A, one_frame A) ∷ (A, second_frame A) ∷ []
 
 abbrev pub second_arrives : List (Net × List ℕ)
 second_arrives = (A, second_frame A) ∷ []
 
--- what a receiver has of them is what the law of a plan says
+-- the conclusion of the law of a plan
 abbrev pub PairArrives : Accepted → Tolerance → List (Net × List ℕ) → Type 0
 PairArrives accepted tolerance arrivals = AreFirst 1 1479 0 (accepted 0 0) (take (most_carried arrivals) longer_pair)
     (messages_in 0 (received number_in tolerance begin arrivals))
 
--- Each premise is needed. Messages that were accepted in another order don't arrive in that order; where no
--- number is new to the receiver the second doesn't arrive; and where network A loses the first, the second
--- isn't the first accepted one.
+-- Each premise is needed. Messages accepted in another order do not arrive in that order. If no number is new to the
+-- receiver, the second does not arrive. If network A loses the first, the second is not the first accepted one.
 pub record NeedsLegal : Type 0 where
   pub swapped : AreSwapped
   pub each : NeedsEach PairHanded (IsFitFor 3)
       (AreCarriedOf 3 (frames_of 1 (two_entries A)) (frames_of 1 (two_entries B))) PairArrives
       two_accepted swapped_accepted plain_receiver closed_receiver both_arrive second_arrives
 
--- both frames come from network B alone
+-- both frames arrive from network B alone
 abbrev pub both_from_b : List (Net × ℕ)
 both_from_b = (B, 0) ∷ (B, 1) ∷ []
 
--- what a receiver has of them despite losses is what the law says
+-- the conclusion of the law of a plan despite loss
 abbrev pub PairDespite : Accepted → ℕ → List (Net × ℕ) → Type 0
 PairDespite accepted check came = AreFirst 1 1479 0 (accepted 0 0) (take (length (carried B came)) longer_pair)
     (messages_despite check longer_pair came)
 
--- Each premise is needed: messages accepted in another order don't arrive in that order; where the check takes no
--- number but 0 the second doesn't; and where network A loses the first frame and is ahead the first doesn't.
+-- Each premise is needed. Messages accepted in another order do not arrive in that order. If the check takes no number
+-- but 0, the second does not arrive. If network A loses the first frame and leads, the first does not.
 pub record NeedsClose : Type 0 where
   pub swapped : AreSwapped
   pub each : NeedsEach PairHanded (λ (check : ℕ). 1 ≤ check) (AreClose B (length longer_pair) 0 0) PairDespite
       two_accepted swapped_accepted 1 0 both_from_b first_lost
 
--- the frames on their way to a switch, the second released at a moment: when each arrives
+-- the frames on their way to a switch, with their arrivals and the release of the second
 abbrev pub pair_passes : (first second now : ℕ) → List Passage
 pair_passes first second now = passage 0 first 64 ∷ passage now second 64 ∷ []
 
--- a switch that charges each frame as the greatest one, and allows no jitter, passes them
+-- a switch that charges each frame as the greatest one and allows no jitter passes them
 abbrev pub PairPasses : List Passage → Type 0
 PairPasses passages = AllPass by_frames (rule_at demo_plan 0 0 0) passages
 
--- A gap apart both frames pass. A microsecond less apart they aren't handed over legally, and the second is
--- dropped; so it is where the first comes a microsecond late.
+-- A gap apart both frames pass. A microsecond less apart they are not transmitted legally, and the second is dropped.
+-- It is also dropped if the first arrives a microsecond late.
 pub record PassesAGapApart : Type 0 where
   pub valid : IsPlan demo_plan
   pub legal : IsLegalOn demo_plan two_accepted A (pair_at 1000 A)

@@ -1,13 +1,13 @@
-//! Laws of a receiver, and of what an integrator reckons with. Their functions do nothing: the contract is the
-//! law. Those of a switch stand in `switching`.
+//! Laws of a receiver, for an integrator. The functions are empty: each contract is a law. `switching` has the laws of
+//! a switch.
 //!
-//! That a receiver works as it is defined in specs/ is a premise of each, and so is that the networks deliver
-//! what is said. None says anything of frames that no network delivers (both, or the one that a link is on), of a
-//! transmitter that begins anew with number 0, of a receiver that starts later than the stream, or of its timer
-//! for late frames (SkewMax). None says when a message comes, but where a time is named.
+//! Each law assumes that the receiver works as specs/ defines it, and that the networks deliver what the law states. No
+//! law covers frames that no network of their link delivers, a transmitter that restarts with number 0, a receiver that
+//! starts later than the stream, or its timer for late frames (SkewMax). A law bounds the time of a message only if it
+//! names a time.
 //!
-//! Beside a law stand worked rows: `worked`, what it says of a case by computation; and `needed`, or the name of a
-//! premise, that its premises hold there, and cases in which one fails and what the law says with it.
+//! Each law comes with worked cases. `worked` computes one case. `needed`, or the name of a premise, shows that the
+//! premises hold there, and gives cases in which one of them fails, and the conclusion with it.
 ghost use Rattle.afdx_legal.specs.WorkedTurns.{TurnsAreTold};
 ghost use Rattle.afdx_laws.specs.Buffers.{OneBuffer, HandedNeedOne, LegalNeedOne, LegalNeedOneDespite};
 ghost use Rattle.afdx_laws.specs.Counted.{CountsRise, CountsTwo};
@@ -25,12 +25,10 @@ ghost use Rattle.afdx_laws.specs.WorkedLoss.{MasksOneLoss, NeedsTheFirst, Begins
 ghost use Rattle.afdx_laws.specs.WorkedPlan.{AreTwinsOfOne, ComesFromOne, OneIsLegal, NeedsLegal, LegalDespiteOneLoss, NeedsClose, OneIsWhole, NeedsAll};
 ghost use Rattle.afdx_laws.specs.WorkedPolled.{PollsInTime, NeedsInTime};
 
-/// A receiver accepts each frame of a link exactly once and in order, as far as one of the networks
-/// carried them, from any interleaving of what the two networks carried, as long as none is more
-/// than 255 less its window frames behind the other.
+/// A receiver accepts each frame of a link exactly once and in order, as far as one of the networks carried them, from
+/// any interleaving of the two networks, as long as neither lags the other by more than 255 - window frames.
 ///
-/// Each network may stop carrying at any point, and then carries nothing more. Nothing is said of a
-/// network that loses a frame and goes on: see `loss_masked`.
+/// Each network may stop for ever at any point. For a network that loses a frame and goes on see `loss_masked`.
 pub fn exactly_once()
     ensures once { ExactlyOnce }
     ensures worked { AcceptsEachOnce }
@@ -39,55 +37,54 @@ pub fn exactly_once()
     ensures lag { NeedsALag }
 {}
 
-/// A receiver for which the next number alone is new accepts each frame once and in order although
-/// one network loses, repeats and reorders frames, where the other carries them all.
+/// A receiver for which only the next number is new accepts each frame once and in order even if one network loses,
+/// repeats and reorders frames, as long as the other carries them all.
 ///
-/// The two are less than 255 frames apart, and the first frame to come from either is the stream's first
-/// (`first` in `AreClose`): see `both_begin`. Without that a receiver accepts a later frame first, and takes
-/// those before it for old copies. Nothing is said for the time after the whole network stopped: then a
-/// frame that the other one loses holds up the receiver until the numbers come round.
+/// The two are less than 255 frames apart, and the first frame to arrive from either is the stream's first (`first` in
+/// `AreClose`): see `both_begin`. Otherwise a receiver accepts a later frame first, and drops those before it as old
+/// copies. The law does not cover the time after the whole network stopped: then a frame that the other one loses stops
+/// the receiver until the numbers wrap around.
 pub fn loss_masked()
     ensures masked { LossMasked }
     ensures worked { MasksOneLoss }
     ensures needed { NeedsTheFirst }
 {}
 
-/// Where both networks begin with a stream's first frame, it comes before all others, as `loss_masked` and
-/// the laws above it ask for: a receiver that starts with the stream masks what one network loses later.
+/// If both networks begin with a stream's first frame, it arrives before all others, as `loss_masked` and the laws
+/// above it require: a receiver that starts with the stream masks what one network loses later.
 ///
-/// The network that carries every frame begins with the first; that the other does is the premise. So the
-/// transmitter's user sends nothing before the receivers run and both networks carry frames, and neither
-/// network may lose a link's first frame and then be ahead.
+/// The network that carries every frame begins with the first; that the other does is the premise. So the transmitter's
+/// user sends nothing before the receivers run and both networks carry frames, and neither network may lose a link's
+/// first frame and then lead.
 pub fn both_begin()
     ensures close { FirstComes }
     ensures masked { MaskedFromFirst }
     ensures worked { BeginsOnBoth }
 {}
 
-/// A receiver for which the next two numbers are new drops the good copy of a frame that the network
-/// that is ahead lost, and one for which the next alone is new accepts it.
+/// A receiver for which the next two numbers are new drops the only copy of a frame that the leading network lost; one
+/// for which only the next is new accepts it.
 ///
-/// It is one run of five arrivals. With two networks that are level it needn't happen.
+/// This is one run of five arrivals. It need not happen if neither network leads.
 pub fn loss_not_masked()
     ensures { LossNotMasked }
 {}
 
-/// The bound on the lag is exact, for each window: one frame of lag more, and the receiver accepts
-/// an old frame as new.
+/// The bound on the lag is exact, for each window: with a lag of one frame more, the receiver accepts an old frame as
+/// new.
 ///
-/// The receiver's state is written out: network A carried so many frames more than B, and B's next
-/// comes. That a run ends in this state is not proved.
+/// The law starts from a state of the receiver: network A carried `lag` frames more than B, and B's next one arrives.
+/// That a run ends in this state is not proved.
 pub fn numbers_clash()
     ensures clash { NumbersClash }
     ensures worked { ClashesPast254 }
 {}
 
-/// Networks that deliver each frame within a delay of its release are never further apart than
-/// 1 + delay / gap frames, so that a receiver's bound on the lag is one on the delay.
+/// Networks that deliver each frame within a delay of its release are never more than 1 + delay / gap frames apart, so
+/// a receiver's bound on the lag is a bound on the delay.
 ///
-/// A receiver bears them just where the delay is under 255 less its window gaps: under 254 gaps where the
-/// next number alone is new, and under 253 where the next two are. That each network delivers all frames in
-/// order, and none before its release, are premises.
+/// A receiver tolerates exactly the delays under 255 - window gaps: under 254 gaps if only the next number is new,
+/// under 253 if the next two are. Premises: each network delivers all frames in order, and none before its release.
 pub fn skew_is_near()
     ensures near { SkewIsNear }
     ensures fit { SkewIsFit }
@@ -95,144 +92,136 @@ pub fn skew_is_near()
     ensures longest { BearsUnder254 }
 {}
 
-/// Of the fragments of several sub-VLs, each sub-VL's own in order, the first datagrams of each are
-/// reassembled in order, each once, and all of those whose fragments came.
+/// From the fragments of several sub-VLs, each sub-VL's own in order, a receiver reassembles the first datagrams of
+/// each, in order and each once, and all whose fragments came.
 ///
-/// A receiver keeps a buffer for each identification, as many as it needs, and never gives one up.
-/// Nothing is said of fragments of one sub-VL that come out of order.
+/// It keeps a buffer for each identification, as many as it needs, and never discards one. The law does not cover
+/// fragments of one sub-VL that arrive out of order.
 pub fn in_order()
     ensures ordered { InOrder }
     ensures worked { FirstIsGiven }
     ensures needed { NeedsOrder }
 {}
 
-/// A receiver's messages of a sub-VL are the first of those that were accepted for it, each once and
-/// in order, and all whose fragments one of the networks carried.
+/// A receiver's messages of a sub-VL are the first accepted ones, each once and in order, and all whose fragments one
+/// of the networks carried.
 ///
-/// The premises are those of `exactly_once`, and that the link's frames of this sub-VL are the first
-/// fragments of its accepted messages.
+/// Premises: those of `exactly_once`, and the link's frames of this sub-VL are the first fragments of its accepted
+/// messages.
 pub fn messages_arrive()
     ensures arrive { MessagesArrive }
     ensures worked { OneMessageArrives }
     ensures needed { NeedsAStream }
 {}
 
-/// A receiver's messages of a sub-VL are the first accepted ones although one network loses, repeats and
-/// reorders frames, where the other carries them all and the next number alone is new to the receiver.
+/// A receiver's messages of a sub-VL are the first accepted ones even if one network loses, repeats and reorders
+/// frames, if the other carries them all and only the next number is new to the receiver.
 ///
-/// The stream's first frame comes before all others (`first` in `AreClose`, see `both_begin`). What
-/// `loss_masked` doesn't say isn't said here.
+/// The stream's first frame arrives before all others (`first` in `AreClose`, see `both_begin`). The limits of
+/// `loss_masked` apply.
 pub fn despite_loss()
     ensures arrive { DespiteLoss }
     ensures worked { ComesDespiteLoss }
     ensures needed { NeedsAWholeNetwork }
 {}
 
-/// The same as `messages_arrive`, by what was handed to the two networks over a link: two lists, twins as far as
-/// both go, numbered, and of the sub-VL the first fragments of its accepted messages. Of a link on one network the
+/// The same as `messages_arrive`, by what was sent to the two networks over a link: two numbered lists, twins as far as
+/// both go, which contain the first fragments of the accepted messages of the sub-VL. For a link on one network the
 /// other list is empty.
 ///
-/// It reads identification, offset, flags, total length and number of each frame. That its addresses,
-/// its ports and its checksum are right, other laws say (`afdx_frame::laws::each_frame_says`).
+/// The law reads identification, offset, flags, total length and number of each frame. For its addresses, its ports and
+/// its checksum see `afdx_frame::laws::each_frame_says`.
 pub fn handed_arrive()
     ensures arrive { HandedArrive }
     ensures worked { OneMessageArrives }
     ensures needed { NeedsHanding }
 {}
 
-/// The same as `despite_loss`, by what was handed to the two networks over a link.
-///
-/// It speaks of a link on both networks: the one makes good what the other loses.
+/// The same as `despite_loss`, by what was sent to the two networks over a link on both networks.
 pub fn handed_despite_loss()
     ensures arrive { HandedDespiteLoss }
     ensures worked { HandedDespiteOneLoss }
     ensures needed { NeedsOneWhole }
 {}
 
-/// For each link and sub-VL of a valid plan: from what was handed over legally, the receiver's
-/// messages are the first accepted ones, each once and in order, and among them all whose fragments
-/// one network carried.
+/// For each link and sub-VL of a valid plan: from what was transmitted legally, the receiver's messages are the first
+/// accepted ones, each once and in order, and among them all whose fragments one network carried.
 ///
-/// What the emitter hands over is legal (`afdx_legal`, `IsLegal`): with that, this says what the calls of
-/// the emitter mean at the receiving end. That each network carries a beginning of a link's frames and
-/// that the two are near are premises, and that accepted messages are such as a port accepts
-/// (`TxPort::send` of afdx_tx). It speaks of every link: of one on one network alone nothing comes from the
-/// other network, and then `one_network_arrives` says it without the two being near.
+/// What the emitter transmits is legal (`afdx_legal`, `IsLegal`), so this law states what the calls of the emitter mean
+/// at the receiving end. Premises: each network carries a beginning of a link's frames, the two are near, and accepted
+/// messages are such as a port accepts (`TxPort::send` of afdx_tx). For a link on one network see also
+/// `one_network_arrives`, which does not need the two to be near.
 pub fn legal_arrive()
     ensures arrive { LegalArrive }
     ensures worked { OneIsLegal }
     ensures needed { NeedsLegal }
 {}
 
-/// The same although one network loses, repeats and reorders frames, where the other carries all frames of the
-/// link and the next number alone is new to the receiver.
+/// The same even if one network loses, repeats and reorders frames, if the other carries all frames of the link and
+/// only the next number is new to the receiver.
 ///
-/// Of a link on one network that one is the network that carries all, and nothing comes from the other: there
-/// it says no more than `one_network_arrives`, since nothing makes good what that network loses. The stream's
-/// first frame comes before all others (`first` in `AreClose`, see `both_begin`). What `loss_masked` doesn't
-/// say isn't said here.
+/// For a link on one network, that network carries all, and the law adds nothing to `one_network_arrives`: no other
+/// network replaces what it loses. The stream's first frame arrives before all others (`first` in `AreClose`, see
+/// `both_begin`). The limits of `loss_masked` apply.
 pub fn legal_despite_loss()
     ensures arrive { LegalDespiteLoss }
     ensures worked { LegalDespiteOneLoss }
     ensures needed { NeedsClose }
 {}
 
-/// For each link and sub-VL of a valid plan: where all that was accepted was handed over legally, and
-/// one network carried all of the link, the receiver's messages are the ports' own lists, each message
-/// once and in order.
+/// For each link and sub-VL of a valid plan: if all that was accepted was transmitted legally, and one network carried
+/// all of the link, the receiver's messages are the ports' own lists, each message once and in order.
 ///
-/// What was handed over (`afdx_legal`, `IsHandedWhole`) is what the calls of `afdx_tx` tell:
-/// `Emitter::gather` (`gathered`: what was accepted of each port is its own list), `Draining::poll`
-/// (`accepted`: that stays so), `Draining::is_done`, and `Draining::into_networks` (`legal`, `allowed`).
-/// A test of `afdx_tests` joins them. The premises at the other end are those of `legal_arrive`, and it
-/// speaks of every link as that does: of a link on one network it is that network that carried all.
+/// The premise on the transmitter (`afdx_legal`, `IsHandedWhole`) follows from the contracts of `afdx_tx`:
+/// `Emitter::gather` (`gathered`: what was accepted of each port is its own list), `Draining::poll` (`accepted`: it
+/// stays so), `Draining::is_done`, and `Draining::into_networks` (`legal`, `allowed`). A test of `afdx_tests` combines
+/// them. The premises at the other end are those of `legal_arrive`. For a link on one network, that network carried
+/// all.
 pub fn own_lists_arrive()
     ensures arrive { OwnListsArrive }
     ensures worked { OneIsWhole }
     ensures needed { NeedsAll }
 {}
 
-/// For each link of a valid plan that is on one network alone, and each sub-VL of it: from what was handed
-/// over legally, the receiver's messages are the first accepted ones, each once and in order, and among
-/// them all whose fragments came.
+/// For each link of a valid plan that is on one network, and each of its sub-VLs: from what was transmitted legally,
+/// the receiver's messages are the first accepted ones, each once and in order, and among them all whose fragments
+/// came.
 ///
-/// That the network carries a beginning of the link's frames, in order, is a premise. How near two networks
-/// are is none: the other one was handed no frame of the link. Nothing is said of a network that loses a
-/// frame and goes on, since no other makes it good.
+/// Premise: the network carries a beginning of the link's frames, in order. The other network may lag or lead: it
+/// carries no frame of the link. The law does not cover a network that loses a frame and goes on, as no other replaces
+/// the frame.
 pub fn one_network_arrives()
     ensures arrive { OneNetworkArrives }
     ensures worked { ComesFromOne }
 {}
 
-/// In a plan whose links are all on both networks, what was handed over legally to the one network is twins
-/// of all that was handed to the other, and each link's own stream is its stream in the longer list.
+/// In a plan whose links are all on both networks, all that was sent legally to the one network is twins of all that
+/// was sent to the other, and each link's own stream is its stream in the longer list.
 ///
-/// So there what `afdx_legal` says of each link (`twins` in `IsLegal`, `own_stream`) is said of the two lists
-/// as they are. Nothing is said of a plan that has a link on one network: there a list may be the longer one
-/// and have fewer frames of a link.
+/// So there the statements of `afdx_legal` on each link (`twins` in `IsLegal`, `own_stream`) hold of the two lists as
+/// they are. With a link on one network, the longer list may have fewer frames of a link.
 pub fn all_on_both()
     ensures twins { AllOnBoth }
     ensures worked { AreTwinsOfOne }
 {}
 
-/// The counts of a link's stream (frames, bytes, whole messages, the moment of the last frame) don't
-/// fall as the stream grows.
+/// The counts of a link's stream (frames, bytes, whole messages, the time of the last frame) don't fall as the stream
+/// grows.
 ///
-/// That the stream is spaced is a premise: legal handing over has it. Each count stays at the greatest
-/// number of 64 bits once it is there.
+/// Premise: the stream is spaced, as legal transmission is. Each count saturates at 2^64 - 1.
 pub fn counts_rise()
     ensures rise { CountsRise }
     ensures worked { CountsTwo }
 {}
 
-/// Where the sub-VLs of a link take turns, the next fragment of a message is one of the link's next
-/// frames, as many as the link has sub-VLs: however long the messages of the others are.
+/// If the sub-VLs of a link take turns, the next fragment of a message is one of the link's next frames, at most one
+/// per sub-VL, however long the messages of the others are.
 ///
-/// What the emitter hands over is so (`turns` of both polls, of `gather` and of both `into_networks`). By the
-/// clock it comes after as many BAGs, each with the lateness of a poll: where the link releases a frame in
-/// each such time while the fragment waits (`time`), or by the polls of the link, each of which finds it
-/// waiting (`polled`). `longest_wait` is that bound for a whole configuration. That polls come, and how late,
-/// is a premise. Nothing is said of frames that no network took.
+/// The sub-VLs of the emitter take turns (`turns` of both polls, of `gather` and of both `into_networks`). The fragment
+/// is released within one BAG and the lateness of a poll per sub-VL: if the link releases a frame in each such time
+/// while the fragment waits (`time`), or if each poll of the link finds it waiting (`polled`). `longest_wait` is that
+/// bound for a whole configuration. That polls come, and how late, is a premise. The law does not cover frames that no
+/// network accepted.
 pub fn next_fragment()
     ensures round { NextInARound }
     ensures time { NextInTime }
@@ -244,14 +233,12 @@ pub fn next_fragment()
     ensures needed { NeedsInTime }
 {}
 
-/// A receiver that reassembles the messages of a link needs one buffer of 8,200 bytes for each of its sub-VLs:
-/// it never holds fragments of two datagrams of one sub-VL, nor a byte after the first 8,200 of one. A bound
-/// on its memory.
+/// A receiver that reassembles the messages of a link needs one buffer of 8,200 bytes for each of its sub-VLs: it never
+/// holds fragments of two datagrams of one sub-VL, nor a byte after the first 8,200 of one.
 ///
-/// Of fragments alone (`one`) the premises are those of `in_order`, and the bound on the bytes is that on the
-/// datagrams: each sub-VL's fragments come in order, none lost and none twice. Of what was handed over
-/// (`handed`), for each link of a valid plan (`legal`), and although one network loses frames (`despite`), they
-/// are those of `handed_arrive`, `legal_arrive` and `legal_despite_loss`.
+/// For fragments (`one`) the premises are those of `in_order`, and the bound on the bytes is that on the datagrams. For
+/// what was sent to two networks (`handed`), for each link of a valid plan (`legal`), and if one network loses frames
+/// (`despite`), they are those of `handed_arrive`, `legal_arrive` and `legal_despite_loss`.
 pub fn one_buffer()
     ensures one { OneBuffer }
     ensures handed { HandedNeedOne }

@@ -1,5 +1,5 @@
-//! What receivers, switches and integrators can rely on, as laws. No receiver and no switch is built
-//! here: they are definitions in specs/, for the statements alone.
+//! What receivers, switches and integrators can rely on, as laws. This crate builds no receiver and no switch: specs/
+//! defines them for the statements.
 #![tactic(auto)]
 
 pub mod laws;

@@ -1,25 +1,23 @@
-//! Laws of a switch that polices links. Their functions do nothing: the contract is the law, and worked rows beside it.
+//! Laws of a switch that polices links. The functions are empty: each contract is a law, with worked cases.
 //!
-//! That a switch works as it is defined in specs/ is a premise of each, and so is that frames are delayed by no
-//! more than is said. None says anything of the queues of the switch.
+//! Each law assumes that the switch works as specs/ defines it, and that frames are delayed by at most the stated
+//! jitter. No law covers the queues of the switch.
 ghost use Rattle.afdx_laws.specs.Plans.{LegalPasses};
 ghost use Rattle.afdx_laws.specs.Policer.{EarlyDropped, NoMorePasses, NoneDropped, StreamPasses};
 ghost use Rattle.afdx_laws.specs.WorkedPlan.{PassesAGapApart};
 ghost use Rattle.afdx_laws.specs.WorkedPolicing.{PolicesThree, SpendsAll, NeedsRisingMoments, DropsTheEarly, PassesTwo, NeedsTheGap, NeedsTheGreatest, NeedsTheJitter};
 
-/// A switch that polices a link by its gap, its greatest frame and a jitter, by bytes or by frames,
-/// drops no frame of a link that keeps its gap, whatever each frame is delayed by on its way, up to
-/// the jitter. One link alone.
+/// A switch that polices a link by its gap, its greatest frame and a jitter, by bytes or by frames, drops no frame of a
+/// link that keeps its gap, if each frame is delayed by at most the jitter.
 pub fn none_dropped()
     ensures passed { NoneDropped }
     ensures worked { PolicesThree }
 {}
 
-/// Whatever comes, no more passes than the rule allows: what passes from one moment to another costs at
-/// most Lmax bytes for each gap between them, and Lmax (1 + jitter / gap) more.
+/// Whatever arrives, no more passes than the rule allows: the frames that pass between two times cost at most Lmax
+/// bytes for each gap between them, and Lmax (1 + jitter / gap) more.
 ///
-/// Moments that don't go back are a premise, and what is on the account at first is none. It doesn't say
-/// which frames pass.
+/// Premise: times don't go back. The initial credit is arbitrary.
 pub fn no_more_passes()
     ensures paid { NoMorePasses }
     ensures worked { SpendsAll }
@@ -28,16 +26,14 @@ pub fn no_more_passes()
 
 /// Of two greatest frames less than a gap apart a switch that allows no jitter drops the second.
 ///
-/// It says nothing of smaller frames: charged by their bytes, two of them may pass at once.
+/// The law does not cover smaller frames: charged by their bytes, two of them may pass at once.
 pub fn early_dropped()
     ensures dropped { EarlyDropped }
     ensures worked { DropsTheEarly }
 {}
 
-/// A switch drops no frame of a spaced stream of frames, whatever each is delayed by on its way, up to
-/// the jitter that the switch allows.
-///
-/// That the frames are no greater than Lmax and delayed by no more than the jitter are premises.
+/// A switch drops no frame of a spaced stream, if no frame is greater than Lmax or delayed by more than the jitter that
+/// the switch allows.
 pub fn stream_passes()
     ensures passes { StreamPasses }
     ensures worked { PassesTwo }
@@ -46,9 +42,8 @@ pub fn stream_passes()
     ensures jitter { NeedsTheJitter }
 {}
 
-/// For each link of a valid plan, on both networks or on one: of what was handed over legally to a network,
-/// a switch that polices the link by its gap and its greatest frame drops none, whatever each frame is
-/// delayed by on its way, up to the jitter that the switch allows.
+/// For each link of a valid plan: a switch that polices the link by its gap and its greatest frame drops no frame that
+/// was sent legally to its network, if each frame is delayed by at most the jitter that the switch allows.
 pub fn legal_passes()
     ensures passes { LegalPasses }
     ensures worked { PassesAGapApart }

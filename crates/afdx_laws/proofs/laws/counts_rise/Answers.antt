@@ -1,11 +1,8 @@
-use Rattle.afdx_laws.proofs.Names.{refl, arith}
-use Rattle.afdx_frame.specs.Checksum.{checksum}
-use Rattle.afdx_frame.specs.Frame.{addresses, header_front, internet_header, link_header, udp_header, datagram, unnumbered}
+use Rattle.afdx_laws.proofs.Names.{refl, arith, checksum, addresses, header_front, internet_header, link_header, udp_header, datagram, unnumbered}
 use Rattle.afdx_legal.proofs.CountingLemmas.{counts_more}
 use Rattle.afdx_laws.specs.Counted.{CountsTwo}
 use Rattle.afdx_laws.proofs.laws.counts_rise.Goals as goal
 
--- the worked counts, by computation
 counts_two : CountsTwo
 unfolding checksum addresses header_front internet_header link_header udp_header datagram unnumbered
 counts_two = record {

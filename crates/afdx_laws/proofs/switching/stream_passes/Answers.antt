@@ -4,7 +4,6 @@ use Rattle.afdx_laws.proofs.Credit.{stream_passes_holds}
 use Rattle.afdx_laws.proofs.ListLemmas.{other_length}
 use Rattle.afdx_laws.proofs.switching.stream_passes.Goals as goal
 
--- frames that are greater
 needs_the_greatest : NeedsTheGreatest
 needs_the_greatest = record {
   spaced = omega arith;
