@@ -15,8 +15,7 @@ known_on_both links net frame all known =
     (link_plan_at [] 0) known.within
     (let both = all known.k (link_plan_at [] 0) known.within in grind (arith, nat_tests))
 
-none_cut : (links : List LinkPlan) (net : Net) (es : List Entry) → All IsOnBoth links → AreKnown links net es
-    → on_both links es ≡ es
+none_cut : (links : List LinkPlan) (net : Net) (es : List Entry) → All IsOnBoth links → AreKnown links net es → on_both links es ≡ es
 none_cut links net [] all known = refl
 none_cut links net (e ∷ es) all known =
     rw (known_on_both links net e.frame all known.0)
@@ -26,8 +25,7 @@ side_side : (net other : Net) (es : List Entry) → map (side net) (map (side ot
 side_side net other es = map-map (side net) (side other) es
     ∙ map_same _ (side net) es (λ (e : Entry). ap (entry e.at) (twin_twice net other e.frame))
 
-no_longer : (net : Net) (whole front : List Entry) → front ≡ map (side net) (take (length front) whole)
-    → length front ≤ length whole
+no_longer : (net : Net) (whole front : List Entry) → front ≡ map (side net) (take (length front) whole) → length front ≤ length whole
 no_longer net whole front is = grind (arith, ap length is, length-map, length-take)
 
 -- a link's own stream is in the longer list

@@ -10,8 +10,7 @@ use Rattle.afdx_laws.proofs.ListLemmas.{append_same, map_same}
 use Rattle.afdx_laws.proofs.InOrder.{in_order_holds}
 use Rattle.afdx_laws.proofs.Reading.{same_fragment, read_any, reads_all, reads_frames, of_sub_is, length-datagram, drop-datagram}
 
-fragments_received : (got sent : List (List ℕ)) → map (twin_of A) got ≡ map (twin_of A) sent
-    → map fragment_in got ≡ map fragment_in sent
+fragments_received : (got sent : List (List ℕ)) → map (twin_of A) got ≡ map (twin_of A) sent → map fragment_in got ≡ map fragment_in sent
 fragments_received got sent same =
     grind (
       arith,
@@ -40,8 +39,7 @@ bytes_of end_system many accepted =
     ∙ ap (take many) (map-map (drop 8) (λ (sent : Sent). datagram end_system sent.port sent.bytes) accepted
     ∙ map_same _ (λ (sent : Sent). sent.bytes) accepted (drop-datagram end_system))
 
-pub some_bytes : (end_system sub : ℕ) (accepted : List Sent) → All (IsSent sub) accepted
-    → All HasByte (datagrams_of end_system accepted)
+pub some_bytes : (end_system sub : ℕ) (accepted : List Sent) → All (IsSent sub) accepted → All HasByte (datagrams_of end_system accepted)
 some_bytes end_system sub accepted sent =
     All-map HasByte (λ (s : Sent). datagram end_system s.port s.bytes) accepted
     (All-weaker (IsSent sub) (λ (s : Sent). 1 ≤ length (datagram end_system s.port s.bytes))
@@ -62,8 +60,7 @@ own_fragments sub count stream got first =
     ∙ of_sub_is sub (take count stream)
 
 pub first_come : (end_system room sub count : ℕ) (accepted : List Sent) (net : Net) (stream got : List (List ℕ))
-    → IsSending end_system room sub accepted net stream
-    → map (twin_of A) got ≡ take count (map (twin_of A) stream)
+    → IsSending end_system room sub accepted net stream → map (twin_of A) got ≡ take count (map (twin_of A) stream)
     → IsPrefixOf (of_sub sub (map fragment_in got)) (sent_from room sub 0 (datagrams_of end_system accepted))
 first_come end_system room sub count accepted net stream got sending first =
     let front : List (List ℕ) = those_with sub_in sub (take count stream) in
@@ -84,8 +81,7 @@ first_come end_system room sub count accepted net stream got sending first =
 
 -- what is in frames that are the first of the stream's, at least as many as these
 pub arrived : (end_system room sub few many : ℕ) (accepted : List Sent) (net : Net) (stream got : List (List ℕ))
-    → IsSending end_system room sub accepted net stream
-    → map (twin_of A) got ≡ take many (map (twin_of A) stream) → few ≤ many
+    → IsSending end_system room sub accepted net stream → map (twin_of A) got ≡ take many (map (twin_of A) stream) → few ≤ many
     → AreFirst end_system room sub accepted (take few stream) (messages_in sub got)
 arrived end_system room sub few many accepted net stream got sending first less =
     let least = sending.link.least in

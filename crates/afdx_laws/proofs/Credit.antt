@@ -1,12 +1,12 @@
--- The account always has what the next frame costs: a spaced stream on its way is on time, and passes.
+-- The account of a policer: a spaced stream on its way is on time and passes, and what passes is paid for.
 use Rattle.afdx_laws.proofs.Names.{ℕ, ◌≡◌, ◌+◌, ◌-◌, ◌*◌, ◌≤◌, List, [], ◌∷◌, map, arith, refl, ap, ◌∙◌, suc, mul-le, Arrival, Rule, Account, Charge, by_bytes}
 use Rattle.afdx_laws.proofs.Names.{by_frames, full, filled, paid, price, passed, Passage, arrival, IsOnTime, AreOnTime, NoneDropped, IsUpTo, IsOnItsWay}
-use Rattle.afdx_laws.proofs.Names.{rule_around, StreamPasses, Option, Some, None, All, AllZip, Entry, stamp_of, IsSpaced}
+use Rattle.afdx_laws.proofs.Names.{rule_around, StreamPasses, Option, Some, None, All, AllZip, Entry, stamp_of, IsSpaced, ◌<◌, inl, inr, cases_lt, le-leb}
+use Rattle.afdx_laws.proofs.Names.{sum_by-cons, limit, cost, AreBetween, NoMorePasses}
 use Rattle.std.proofs.Math.Nat.{mul-add, le-min}
 use Rattle.vl_shaper.specs.declared.shaper.Stamp.{Stamp}
 
-price_le : (charge : Charge) (rule : Rule) (frame : Arrival) → frame.size ≤ rule.lmax
-    → price charge rule frame ≤ rule.lmax * rule.gap
+price_le : (charge : Charge) (rule : Rule) (frame : Arrival) → frame.size ≤ rule.lmax → price charge rule frame ≤ rule.lmax * rule.gap
 price_le by_bytes rule frame h = mul-le frame.size rule.gap rule.lmax rule.gap h (omega arith)
 price_le by_frames rule frame h = omega arith
 
@@ -17,13 +17,11 @@ IsReady rule account p = rule.lmax * (rule.gap + (p.arrived - p.released)) ≤ (
 ready_first : (rule : Rule) (p : Passage) → IsOnTime rule p → IsReady rule (full rule) p
 ready_first rule p on = grind arith
 
-left : (rule : Rule) (account : Account) (p : Passage) (cost : ℕ) → IsReady rule account p
-    → cost ≤ rule.lmax * rule.gap
+left : (rule : Rule) (account : Account) (p : Passage) (cost : ℕ) → IsReady rule account p → cost ≤ rule.lmax * rule.gap
     → rule.lmax * (p.arrived - p.released) ≤ (paid (filled rule account p.arrived) cost).credit
 left rule account p cost ready cheap = grind arith
 
-ready_next : (rule : Rule) (credit : ℕ) (p q : Passage) → IsOnTime rule p → IsOnTime rule q
-    → p.released + rule.gap ≤ q.released
+ready_next : (rule : Rule) (credit : ℕ) (p q : Passage) → IsOnTime rule p → IsOnTime rule q → p.released + rule.gap ≤ q.released
     → rule.lmax * (p.arrived - p.released) ≤ credit → IsReady rule (record { credit = credit; since = p.arrived }) q
 ready_next rule credit p q on next apart has =
     let a1 = on.after in let a2 = next.after in let soon = next.soon in
@@ -45,8 +43,7 @@ enough : (charge : Charge) (rule : Rule) (account : Account) (p : Passage) → I
 enough charge rule account p ready on = grind (arith, price_le charge rule (arrival p) on.small)
 
 all_pass : (charge : Charge) (rule : Rule) (account : Account) (p : Passage) (rest : List Passage)
-    → AreOnTime rule (p ∷ rest) → IsReady rule account p
-    → passed charge rule account (map arrival (p ∷ rest)) ≡ map arrival (p ∷ rest)
+    → AreOnTime rule (p ∷ rest) → IsReady rule account p → passed charge rule account (map arrival (p ∷ rest)) ≡ map arrival (p ∷ rest)
 all_pass charge rule account p [] on ready = passes charge rule account p [] (enough charge rule account p ready on)
 all_pass charge rule account p (q ∷ rest) on ready =
     let cost = price charge rule (arrival p) in
@@ -63,8 +60,7 @@ all_pass charge rule account p (q ∷ rest) on ready =
 pub none_dropped_holds : NoneDropped
 none_dropped_holds charge rule [] on = refl
 none_dropped_holds charge rule (p ∷ []) on = all_pass charge rule (full rule) p [] on (ready_first rule p on)
-none_dropped_holds charge rule (p ∷ q ∷ rest) on =
-    all_pass charge rule (full rule) p (q ∷ rest) on (ready_first rule p on.0)
+none_dropped_holds charge rule (p ∷ q ∷ rest) on = all_pass charge rule (full rule) p (q ∷ rest) on (ready_first rule p on.0)
 
 on_time : (gap lmax jitter around : ℕ) (r : Entry) (p : Passage) → IsUpTo lmax r → IsOnItsWay around jitter r p
     → IsOnTime (rule_around gap lmax jitter around) p
@@ -92,3 +88,50 @@ pub stream_passes_holds : StreamPasses
 stream_passes_holds charge gap lmax jitter around stream passages spaced small way =
     none_dropped_holds charge (rule_around gap lmax jitter around) passages
     (are_on_time gap lmax jitter around None stream passages spaced small way)
+
+one_passed : (charge : Charge) (rule : Rule) (account : Account) (f : Arrival) (later : List Arrival)
+    → price charge rule f ≤ (filled rule account f.at).credit → cost charge rule (passed charge rule account (f ∷ later))
+    ≡ price charge rule f + cost charge rule
+    (passed charge rule (paid (filled rule account f.at) (price charge rule f)) later)
+one_passed charge rule account f later can =
+    let t = le-leb _ _ can in
+    rw t (sum_by-cons (price charge rule) f
+    (passed charge rule (paid (filled rule account f.at) (price charge rule f)) later))
+
+one_dropped : (charge : Charge) (rule : Rule) (account : Account) (f : Arrival) (later : List Arrival)
+    → (filled rule account f.at).credit < price charge rule f → cost charge rule (passed charge rule account (f ∷ later))
+    ≡ cost charge rule (passed charge rule (filled rule account f.at) later)
+one_dropped charge rule account f later cannot = grind arith
+
+filled_over : (l since now end : ℕ) → since ≤ now → now ≤ end → l * (now - since) + l * (end - now) ≡ l * (end - since)
+filled_over l since now end first second = grind arith
+
+in_order : (start end : ℕ) (frames : List Arrival) → AreBetween start end frames → start ≤ end
+in_order start end [] between = between
+in_order start end (f ∷ later) between = grind (arith, in_order f.at end later between.1)
+
+-- the cost is at most the credit, and at most the limit, each with what accrues until the end
+spent : (charge : Charge) (rule : Rule) (credit start end : ℕ) (frames : List Arrival) → AreBetween start end frames
+    → (cost charge rule (passed charge rule (record { credit = credit; since = start }) frames)
+    ≤ credit + rule.lmax * (end - start))
+    × (cost charge rule (passed charge rule (record { credit = credit; since = start }) frames)
+    ≤ limit rule + rule.lmax * (end - start))
+spent charge rule credit start end [] between = (omega arith, omega arith)
+spent charge rule credit start end (f ∷ later) between =
+    let account : Account = record { credit = credit; since = start } in
+    let now : Account = filled rule account f.at in
+    let order = in_order f.at end later between.1 in
+    let whole = filled_over rule.lmax start f.at end between.0 order in
+    elim (cases_lt now.credit (price charge rule f)) [
+      | inl cannot ↦
+          let rest = (spent charge rule now.credit f.at end later between.1).0 in
+          let same = one_dropped charge rule account f later cannot in
+          omega arith
+      | inr can ↦
+          let rest = (spent charge rule (now.credit - price charge rule f) f.at end later between.1).0 in
+          let same = one_passed charge rule account f later can in
+          omega arith
+    ]
+
+pub no_more_passes_holds : NoMorePasses
+no_more_passes_holds charge rule credit start end frames between = grind (arith, (spent charge rule credit start end frames between).1)

@@ -15,13 +15,10 @@ begins_twins net n xs front all is p = (
 
 pub own_twins : (net : Net) (xs : List (List ℕ)) → All (IsOfNet net) xs → map (twin_of net) xs ≡ xs
 own_twins net [] all = refl
-own_twins net (x ∷ xs) all =
-    cons_same (all 0 x (omega arith)) (own_twins net xs (λ k d h. all (suc k) d (omega arith)))
+own_twins net (x ∷ xs) all = cons_same (all 0 x (omega arith)) (own_twins net xs (λ k d h. all (suc k) d (omega arith)))
 
-pub twin_twin : (first second : Net) (xs : List (List ℕ))
-    → map (twin_of second) (map (twin_of first) xs) ≡ map (twin_of second) xs
-twin_twin first second xs =
-    map-map (twin_of second) (twin_of first) xs ∙ map_same _ (twin_of second) xs (λ x. twin_twice second first x)
+pub twin_twin : (first second : Net) (xs : List (List ℕ)) → map (twin_of second) (map (twin_of first) xs) ≡ map (twin_of second) xs
+twin_twin first second xs = map-map (twin_of second) (twin_of first) xs ∙ map_same _ (twin_of second) xs (λ x. twin_twice second first x)
 
 pub longer_b : (a b : List (List ℕ)) → length a < length b → longer a b ≡ b
 longer_b a b shorter = ap (λ (t : Bool). cond t b a) (lt-ltb (length a) (length b) shorter)
@@ -66,8 +63,7 @@ carried_longer end_system room sub lag accepted a b handed = elim (cases_lt (len
 pub handed_arrive_holds : HandedArrive
 handed_arrive_holds end_system room sub lag tolerance accepted a b arrivals handed fit carry =
     let longest = carried_longer end_system room sub lag accepted a b handed in
-    messages_arrive_holds end_system room sub lag tolerance accepted longest.net (longer a b) arrivals
-    longest.sending fit (longest.carry arrivals carry)
+    messages_arrive_holds _ _ _ lag tolerance _ _ (longer a b) arrivals longest.sending fit (longest.carry arrivals carry)
 
 pub handed_despite_loss_holds : HandedDespiteLoss
 handed_despite_loss_holds end_system room sub check whole accepted a b came handed some close =

@@ -46,10 +46,7 @@ apart sub (e ∷ es) xs ys same = elim (cases_Bool (nat_eq (e.0 % 4) sub)) [
       let b : Buffer = put (xs e.0) e.1 in
       let rest = apart sub es (with_buffer e.0 (kept_in b (datagram_in b)) xs) ys
       (other_with sub e.0 (kept_in b (datagram_in b)) xs ys isnt same) in
-      record {
-        given = rw isnt (of_other sub e.0 (datagram_in b) _ isnt ∙ rest.given);
-        buffers = λ k of. rw isnt (rest.buffers k of);
-      }
+      record { given = rw isnt (of_other sub e.0 (datagram_in b) _ isnt ∙ rest.given); buffers = λ k of. rw isnt (rest.buffers k of) }
 ]
 
 -- all but the last say that more follow
@@ -58,12 +55,10 @@ IsBlock [] = ⊥
 IsBlock (f ∷ []) = Unit {0}
 IsBlock (f ∷ g ∷ rest) = (f.more ≡ true) × IsBlock (g ∷ rest)
 
-is_block : (d : List ℕ) (start : ℕ) (lens : List ℕ) → 0 < length lens
-    → IsBlock (map (fragment_of d) (pieces_from start lens))
+is_block : (d : List ℕ) (start : ℕ) (lens : List ℕ) → 0 < length lens → IsBlock (map (fragment_of d) (pieces_from start lens))
 is_block d start [] some = absurd (omega arith)
 is_block d start (len ∷ []) some = tt
-is_block d start (len ∷ next ∷ lens) some =
-    (grind (arith, nat_tests), is_block d (start + len) (next ∷ lens) (omega arith))
+is_block d start (len ∷ next ∷ lens) some = (grind (arith, nat_tests), is_block d (start + len) (next ∷ lens) (omega arith))
 
 -- the first fragment of a datagram, and those after it
 record Begins (fs : List Fragment) : Type 0 where
@@ -95,8 +90,7 @@ record DeliversFrom (room sub place left : ℕ) (buffers : ℕ → Buffer) (came
     (later : List (List ℕ)) : Type 0 where
   pub many : ℕ
   pub are : map (λ (e : ℕ × List ℕ). e.1) (delivered buffers came) ≡ take many (d ∷ later)
-  pub all : (j : ℕ) → j ≤ length later
-      → left + length (sent_from room sub (suc place) (take j later)) ≤ length came → j < many
+  pub all : (j : ℕ) → j ≤ length later → left + length (sent_from room sub (suc place) (take j later)) ≤ length came → j < many
   pub alone : IsAlone sub (buffers_after buffers came)
 
 -- what a state keeps: this datagram's buffer holds what came of it, each other buffer is empty
@@ -116,12 +110,10 @@ all_empty sub key buffers others k is = grind (arith, nat_tests)
 
 -- datagrams of which all fragments came, by those of which all but the first one's came
 all_more : (room sub place n many : ℕ) (d : List ℕ) (later : List (List ℕ)) (block : Begins (fragments_of room d))
-    → ((i : ℕ) → i ≤ length later
-    → suc (length block.behind) + length (sent_from room sub (suc place) (take i later)) ≤ n → i < many)
+    → ((i : ℕ) → i ≤ length later → suc (length block.behind) + length (sent_from room sub (suc place) (take i later)) ≤ n → i < many)
     → (j : ℕ) → j ≤ length (d ∷ later) → length (sent_from room sub place (take j (d ∷ later))) ≤ n → j ≤ many
 all_more room sub place n many d later block each zero few enough = omega arith
-all_more room sub place n many d later block each (suc i) few enough =
-    grind (arith, each i, ap length block.is, length-append, length-map)
+all_more room sub place n many d later block each (suc i) few enough = grind (arith, each i, ap length block.is, length-append, length-map)
 
 completes : (b : Buffer) (f : Fragment) (room : ℕ) (done : List Fragment) (d : List ℕ) → 8 ≤ room → 1 ≤ length d
     → fragments_of room d ≡ done ++ f ∷ [] → b ≡ put_all empty done → datagram_in (put b f) ≡ Some d
@@ -132,8 +124,7 @@ completes b f room done d least some split holds =
 -- from any place on, by induction over what comes
 goes : (came : List (ℕ × Fragment)) (room sub place : ℕ) (buffers : ℕ → Buffer) (done : List Fragment)
     (f : Fragment) (todo : List Fragment) (d : List ℕ) (later : List (List ℕ)) (rest : List (ℕ × Fragment))
-    → 8 ≤ room → sub < 4 → All HasByte (d ∷ later)
-    → fragments_of room d ≡ done ++ f ∷ todo → IsBlock (f ∷ todo)
+    → 8 ≤ room → sub < 4 → All HasByte (d ∷ later) → fragments_of room d ≡ done ++ f ∷ todo → IsBlock (f ∷ todo)
     → (buffers (identification place sub)).total ≡ None → HoldsSoFar sub (identification place sub) buffers done
     → keyed (identification place sub) (f ∷ todo) ++ sent_from room sub (suc place) later ≡ came ++ rest
     → DeliversFrom room sub place (suc (length todo)) buffers came d later
@@ -169,10 +160,7 @@ goes (c ∷ []) room sub place buffers done f [] d [] rest least small some spli
       many = 1;
       are = rw whole refl;
       all = λ j few enough. omega arith;
-      alone = rw whole (record {
-        key = 0;
-        others = λ m is_m ne. all_empty sub (identification place sub) buffers holds.1 m is_m;
-      });
+      alone = rw whole (record { key = 0; others = λ m is_m ne. all_empty sub (identification place sub) buffers holds.1 m is_m });
     })
 goes (c ∷ x ∷ came) room sub place buffers done f [] d [] rest least small some split block none holds is =
     absurd (nil_isnt_cons (cons_parts is).1)
@@ -211,8 +199,7 @@ none_sent room sub (d ∷ later) some j few none =
     all_more room sub 0 0 0 d later (begins room d (some 0 d (omega arith)))
     (λ i within enough. absurd (omega arith)) j few none
 
-nothing : (room sub : ℕ) (datagrams : List (List ℕ)) (came : List (ℕ × Fragment)) → All HasByte datagrams
-    → of_sub sub came ≡ []
+nothing : (room sub : ℕ) (datagrams : List (List ℕ)) (came : List (ℕ × Fragment)) → All HasByte datagrams → of_sub sub came ≡ []
     → Reassembles room sub datagrams came
 nothing room sub datagrams came some none =
     let own = apart sub came (λ key. empty) (λ key. empty) (λ k h. refl) in
@@ -235,10 +222,8 @@ none_past sub [] past = refl
 none_past sub (e ∷ es) past = grind (arith, nat_tests, none_past sub es past)
 
 below : (room sub : ℕ) (datagrams : List (List ℕ)) (came : List (ℕ × Fragment)) → 8 ≤ room → sub < 4
-    → All HasByte datagrams → IsPrefixOf (of_sub sub came) (sent_from room sub 0 datagrams)
-    → Reassembles room sub datagrams came
-below room sub [] came least small some begun =
-    nothing room sub [] came some (nil_begins (of_sub sub came) begun.0 begun.1)
+    → All HasByte datagrams → IsPrefixOf (of_sub sub came) (sent_from room sub 0 datagrams) → Reassembles room sub datagrams came
+below room sub [] came least small some begun = nothing room sub [] came some (nil_begins (of_sub sub came) begun.0 begun.1)
 below room sub (d ∷ later) came least small some (rest, begun) =
     let block = begins room d (some 0 d (omega arith)) in
     let own = apart sub came (λ key. empty) (λ key. empty) (λ k h. refl) in
@@ -256,8 +241,7 @@ below room sub (d ∷ later) came least small some (rest, begun) =
     }
 
 pub reassembles : (room sub : ℕ) (datagrams : List (List ℕ)) (came : List (ℕ × Fragment)) → 8 ≤ room
-    → All HasByte datagrams → IsPrefixOf (of_sub sub came) (sent_from room sub 0 datagrams)
-    → Reassembles room sub datagrams came
+    → All HasByte datagrams → IsPrefixOf (of_sub sub came) (sent_from room sub 0 datagrams) → Reassembles room sub datagrams came
 reassembles room sub datagrams came least some begun = elim (cases_lt sub 4) [
   | inl small ↦ below room sub datagrams came least small some begun
   | inr past ↦ nothing room sub datagrams came some (none_past sub came past)

@@ -23,15 +23,13 @@ of_known P links net vl es each known =
 pub long_of : (links : List LinkPlan) (net : Net) (vl : ℕ) (es : List Entry) → AreKnown links net es → All IsLong (frames_of vl es)
 long_of links net vl es known = of_known IsLong links net vl es (λ frame is. is.size) known
 
-pub own_of : (links : List LinkPlan) (net : Net) (vl : ℕ) (es : List Entry) → AreKnown links net es
-    → All (IsOfNet net) (frames_of vl es)
+pub own_of : (links : List LinkPlan) (net : Net) (vl : ℕ) (es : List Entry) → AreKnown links net es → All (IsOfNet net) (frames_of vl es)
 own_of links net vl es known = of_known (IsOfNet net) links net vl es (λ frame is. twin_same net frame is.interface) known
 
 pub numbered_of : (es : List Entry) → IsNumbered entry_number 0 es → IsNumbered number_in 0 (map frame_of_entry es)
 numbered_of es numbered = numbered_map entry_number number_in frame_of_entry 0 es (λ k d inside. refl) numbered
 
-pub told_is : (sub : ℕ) (es : List Entry)
-    → told (sub_stream sub es) ≡ map blanked (those_with sub_in sub (map frame_of_entry es))
+pub told_is : (sub : ℕ) (es : List Entry) → told (sub_stream sub es) ≡ map blanked (those_with sub_in sub (map frame_of_entry es))
 told_is sub es =
     sym (map-map blanked frame_of_entry (sub_stream sub es))
     ∙ ap (map blanked) (sym (with_map (λ (e : Entry). sub_in e.frame) sub_in frame_of_entry sub (λ e. refl) es))
@@ -43,8 +41,7 @@ pub stream_side : (net : Net) (vl : ℕ) (es : List Entry) → link_stream vl (m
 stream_side net vl es = with_map (λ (e : Entry). link_in e.frame) (λ (e : Entry). link_in e.frame) (side net) vl
     (λ e. twin_link net e.frame) es
 
-stream_take : (vl n : ℕ) (es : List Entry)
-    → link_stream vl (take n es) ≡ take (length (link_stream vl (take n es))) (link_stream vl es)
+stream_take : (vl n : ℕ) (es : List Entry) → link_stream vl (take n es) ≡ take (length (link_stream vl (take n es))) (link_stream vl es)
 stream_take vl n es = grind (
   arith,
   take-append-drop n es,
@@ -74,8 +71,7 @@ frames_front net vl longer shorter is = grind (
 
 -- if all of a network's own frames have twins in a list, they are the twins of the first of that list
 turned_back : (first second : Net) (xs ys : List (List ℕ)) → All (IsOfNet first) xs
-    → ys ≡ map (twin_of second) (take (length ys) xs) → length xs ≤ length ys
-    → xs ≡ map (twin_of first) (take (length xs) ys)
+    → ys ≡ map (twin_of second) (take (length ys) xs) → length xs ≤ length ys → xs ≡ map (twin_of first) (take (length xs) ys)
 turned_back first second xs ys own is as_long =
     grind (arith, ap length is, length-map, length-take, take_all, twin_twin, own_twins first xs own)
 
@@ -86,8 +82,7 @@ twins_by_b xs ys own is = record { b_shorter = λ h. is; a_shorter = λ h. turne
 pub twins_by_a : (xs ys : List (List ℕ)) → All (IsOfNet B) ys → xs ≡ map (twin_of A) (take (length xs) ys) → AreTwins twin_of xs ys
 twins_by_a xs ys own is = record { b_shorter = λ h. turned_back B A ys xs own is h; a_shorter = λ h. is }
 
-filter_twice : {X : Type 0} (p q : X → Bool) → ((x : X) → p x ≡ true → q x ≡ true) → (xs : List X)
-    → filter p (filter q xs) ≡ filter p xs
+filter_twice : {X : Type 0} (p q : X → Bool) → ((x : X) → p x ≡ true → q x ≡ true) → (xs : List X) → filter p (filter q xs) ≡ filter p xs
 filter_twice p q each [] = refl
 filter_twice p q each (x ∷ xs) = grind (arith, filter_twice p q each xs, each x)
 
@@ -127,8 +122,7 @@ twins_are plan accepted a b k valid legal inside = by_networks (link_plan_at pla
         (rw all_a (own_of plan.links A vl a legal.on_a.known)) (rw all_b (own_of plan.links B vl b legal.on_b.known))
         legal.twins)
 
-    by_networks : (n : Networks) → (link_plan_at plan.links k).networks ≡ n
-        → AreTwins twin_of (frames_of vl a) (frames_of vl b)
+    by_networks : (n : Networks) → (link_plan_at plan.links k).networks ≡ n → AreTwins twin_of (frames_of vl a) (frames_of vl b)
     by_networks Both is = on_both_nets (on_both_is plan k valid inside ∙ ap is_both is)
     by_networks OnlyA is =
         let none : frames_of vl b ≡ [] = ap frames (legal.on_b.carried k inside (ap (names B) is)) in
@@ -166,8 +160,7 @@ handed_is plan accepted net handed k sub legal inside index =
       first = (first.0, ap (λ (fs : List (List ℕ)). fs ++ first.0) (sym told) ∙ first.1);
     }
 
-pub are_handed : (plan : Plan) (accepted : Accepted) (a b : List Entry) (k sub : ℕ)
-    → IsHandedOver plan accepted a b k sub
+pub are_handed : (plan : Plan) (accepted : Accepted) (a b : List Entry) (k sub : ℕ) → IsHandedOver plan accepted a b k sub
     → AreHanded plan.end_system (piece_room plan k) sub (accepted k sub)
     (frames_of (id_at plan k) a) (frames_of (id_at plan k) b)
 are_handed plan accepted a b k sub h = record {
@@ -181,12 +174,8 @@ are_handed plan accepted a b k sub h = record {
 
 pub legal_arrive_holds : LegalArrive
 legal_arrive_holds plan accepted a b k sub lag tolerance arrivals handed fit carry =
-    handed_arrive_holds plan.end_system (piece_room plan k) sub lag tolerance (accepted k sub)
-    (frames_of (id_at plan k) a) (frames_of (id_at plan k) b) arrivals
-    (are_handed plan accepted a b k sub handed) fit carry
+    handed_arrive_holds _ _ _ _ _ _ _ _ _ (are_handed plan accepted a b k sub handed) fit carry
 
 pub legal_despite_loss_holds : LegalDespiteLoss
 legal_despite_loss_holds plan accepted a b k sub check whole came handed some close =
-    handed_despite_loss_holds plan.end_system (piece_room plan k) sub check whole (accepted k sub)
-    (frames_of (id_at plan k) a) (frames_of (id_at plan k) b) came
-    (are_handed plan accepted a b k sub handed) some close
+    handed_despite_loss_holds _ _ _ _ _ _ _ _ _ (are_handed plan accepted a b k sub handed) some close

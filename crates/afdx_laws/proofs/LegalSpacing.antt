@@ -52,10 +52,7 @@ known_within : (plan : Plan) (net : Net) (k : ℕ) (e : Entry) → IsPlan plan �
 known_within plan net k e valid inside known on =
     let at : known.k ≡ k = valid.links_apart known.k k known.within inside
     (let number = eqb-true (link_in e.frame) (id_at plan k) on in grind arith) in
-    record {
-      long = known.size;
-      of_sub = subst (λ (j : ℕ). sub_in e.frame < (link_plan_at plan.links j).sub_vls) at known.of_sub;
-    }
+    record { long = known.size; of_sub = subst (λ (j : ℕ). sub_in e.frame < (link_plan_at plan.links j).sub_vls) at known.of_sub }
 
 pub stream_within : (plan : Plan) (net : Net) (k : ℕ) (es : List Entry) → IsPlan plan → k < length plan.links
     → AreKnown plan.links net es → All (IsOfSubs (link_plan_at plan.links k).sub_vls) (link_stream (id_at plan k) es)
@@ -80,8 +77,7 @@ of_passed P f test (x ∷ xs) all = elim (cases_Bool (test x)) [
 
 short_told : (plan : Plan) (accepted : Accepted) (net : Net) (handed : List Entry) (k sub : ℕ) → IsPlan plan
     → IsLegalOn plan accepted net handed → k < length plan.links → sub < (link_plan_at plan.links k).sub_vls
-    → All (IsAllowed plan k sub) (accepted k sub)
-    → All (IsShort (link_plan_at plan.links k).lmax) (told_of (id_at plan k) sub handed)
+    → All (IsAllowed plan k sub) (accepted k sub) → All (IsShort (link_plan_at plan.links k).lmax) (told_of (id_at plan k) sub handed)
 short_told plan accepted net handed k sub valid legal inside index allowed =
     let lmax = (link_is plan k valid inside).lmax in
     let first = legal.prefixes k sub inside index in

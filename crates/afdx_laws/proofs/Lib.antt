@@ -8,16 +8,13 @@ pub mod LegalSpacing
 pub mod ListLemmas
 pub mod Losing
 mod Names
-pub mod NeededBuffers
 pub mod NextFragment
 pub mod NumberLemmas
 pub mod OneBuffer
 pub mod OneNetwork
 pub mod Reading
 pub mod Receiving
-pub mod Rows
 pub mod Skewed
-pub mod Spent
 pub mod WholeHanded
 pub mod WorkedDemo
 pub mod WorkedMessage

@@ -1,5 +1,6 @@
--- Lists that are the same, and what holds of the one place of a list.
+-- Lists, what holds of the one place of a list, and worked cases in which premises fail.
 use Rattle.afdx_laws.proofs.Names.{◌≡◌, ℕ, ◌<◌, false, nat_eq, List, [], ◌∷◌, ◌++◌, length, map, refl, sym, subst, arith, All, take-append_seam, All-take}
+use Rattle.afdx_laws.specs.Rows.{BothFail, NeedsEach}
 
 pub cons_parts : {X : Type 0} {x y : X} {xs ys : List X} → x ∷ xs ≡ y ∷ ys → (x ≡ y) × (xs ≡ ys)
 cons_parts e = (cc, cc)
@@ -34,3 +35,19 @@ below_one P p k below = grind arith
 
 pub below_both : (P : ℕ → ℕ → Type 0) (most : ℕ → ℕ) → most 0 ≡ 1 → P 0 0 → (k s : ℕ) → k < 1 → s < most k → P k s
 below_both P most one p k s in_k in_s = grind arith
+
+pub fails_by : {P Q : Type 0} → (P → Q) → (Q → ⊥) → BothFail P Q
+fails_by law fails = record { premise = λ p. fails (law p); conclusion = fails }
+
+pub needs_each : {X Y Z : Type 0} {P : X → Type 0} {Q : Y → Type 0} {R : Z → Type 0} {Says : X → Y → Z → Type 0}
+    {x no_x : X} {y no_y : Y} {z no_z : Z} → ((x : X) (y : Y) (z : Z) → P x → Q y → R z → Says x y z)
+    → P x → Q y → R z → (Says no_x y z → ⊥) → (Says x no_y z → ⊥) → (Says x y no_z → ⊥) → NeedsEach P Q R Says x no_x y no_y z no_z
+needs_each {x = x} {no_x = no_x} {y = y} {no_y = no_y} {z = z} {no_z = no_z} law p q r no_p no_q no_r = record {
+  first = p;
+  second = q;
+  third = r;
+  says = law x y z p q r;
+  not_first = fails_by (λ is. law no_x y z is q r) no_p;
+  not_second = fails_by (λ is. law x no_y z p is r) no_q;
+  not_third = fails_by (λ is. law x y no_z p q is) no_r;
+}

@@ -21,8 +21,7 @@ accepted_seen net n state = grind arith
 seen_accepted : (net : Net) (n : ℕ) (state : State) → seen_on net (with_accepted n state) ≡ seen_on net state
 seen_accepted net n state = grind arith
 
-seen_after : (whole net : Net) (b i : ℕ) (state : State) → seen_on whole state ≡ last b
-    → (same_net whole net ≡ true → i ≡ b)
+seen_after : (whole net : Net) (b i : ℕ) (state : State) → seen_on whole state ≡ last b → (same_net whole net ≡ true → i ≡ b)
     → seen_on whole (with_seen net (sequence_number i) state) ≡ last (cond (same_net whole net) (b + 1) b)
 seen_after whole net b i state seen own = grind arith
 
@@ -39,8 +38,7 @@ dropped : (check : ℕ) (whole net : Net) (b c i high : ℕ) (state : State) →
     → b ≤ c → c ≤ high → (high ≡ 0 → i ≡ 0) → (high ≡ 0) ⊎ (1 ≤ c) → (same_net whole net ≡ true → i ≡ b)
     → (is_valid check (seen_on net state) (sequence_number i) && is_ahead 1 (last c) (sequence_number i)) ≡ false
     → (cond (same_net whole net) (b + 1) b ≤ c) × (1 ≤ c)
-dropped check whole net b c i high state some seen behind within first begun own drops =
-    grind (arith, valid_next, new_next, seen_own)
+dropped check whole net b c i high state some seen behind within first begun own drops = grind (arith, valid_next, new_next, seen_own)
 
 grown_le_suc : (t : Bool) (b c : ℕ) → b ≤ c → cond t (b + 1) b ≤ suc c
 grown_le_suc t b c le = grind arith
@@ -55,8 +53,7 @@ masks : {F : Type 0} (number : F → ℕ) (h : F → F) (stream : List F) (frame
     (check : ℕ) (whole : Net) (es : List (Net × ℕ)) (state : State) (high b c : ℕ)
     → 1 ≤ check → ((net : Net) (i : ℕ) → i < length stream → IsPlaced number h stream i (frame net i))
     → AreWithin whole (length stream) high b es → (high ≡ 0 → StartsFirst es)
-    → seen_on whole state ≡ last b → state.accepted ≡ last c → b ≤ c
-    → c ≤ high → (high ≡ 0) ⊎ (1 ≤ c)
+    → seen_on whole state ≡ last b → state.accepted ≡ last c → b ≤ c → c ≤ high → (high ≡ 0) ⊎ (1 ≤ c)
     → Masks h stream (received number (record { check = check; window = 1 }) state
     (map (λ (e : Net × ℕ). (e.0, frame e.0 e.1)) es)) c (b + length (carried whole es))
 masks number h stream frame check whole [] state high b c some each close first seen took behind within begun = record {
@@ -126,14 +123,12 @@ loss_masked_holds whole check stream came some frames close =
     begun : (whole : Net) → seen_on whole begin ≡ None
     begun whole = grind arith
 
-starts : (whole : Net) (n : ℕ) (came : List (Net × ℕ)) → AreWithin whole n 0 0 came → BeginsFirst (other whole) came
-    → StartsFirst came
+starts : (whole : Net) (n : ℕ) (came : List (Net × ℕ)) → AreWithin whole n 0 0 came → BeginsFirst (other whole) came → StartsFirst came
 starts whole n [] within begins = tt
 starts whole n ((net, i) ∷ es) within begins = grind (arith, within.0.in_order, begins i (carried (other whole) es))
 
 pub first_comes_holds : FirstComes
-first_comes_holds whole n came within begins =
-    record { within = within; first = λ none. starts whole n came within begins }
+first_comes_holds whole n came within begins = record { within = within; first = λ none. starts whole n came within begins }
 
 pub masked_from_first_holds : MaskedFromFirst
 masked_from_first_holds whole check stream came some frames within begins =

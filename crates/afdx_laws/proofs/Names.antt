@@ -55,29 +55,29 @@ pub use Rattle.afdx_legal.specs.Legal.{Accepted, AreKnown, AreTwins, IsKnown, Is
 pub use Rattle.afdx_legal.specs.Own.{own_stream}
 pub use Rattle.afdx_legal.specs.Streams.{IsNumbered, IsPrefixOf, IsSpaced, entry_number, link_stream, stamp_of}
 pub use Rattle.afdx_legal.specs.Streams.{sub_stream, those_with, told, told_of}
-pub use Rattle.afdx_laws.specs.Buffers.{HandedNeedOne, HasUpTo, HoldsOne, IsOneEnough, LegalNeedOne}
-pub use Rattle.afdx_laws.specs.Buffers.{LegalNeedOneDespite, OneBuffer, buffers_after}
-pub use Rattle.afdx_laws.specs.Delivery.{AreGiven, HasByte, InOrder, delivered, given, kept_in, keyed, of_sub}
-pub use Rattle.afdx_laws.specs.Delivery.{sent_from, with_buffer}
-pub use Rattle.afdx_laws.specs.Handed.{AreCarriedOf, AreHanded, HandedArrive, HandedDespiteLoss, IsHanded, IsOfNet}
-pub use Rattle.afdx_laws.specs.Handed.{longer}
+pub use Rattle.afdx_laws.specs.Buffers.{FirstIsGiven, HandedNeedOne, HasUpTo, HoldsAFrame, HoldsOne, IsOneEnough}
+pub use Rattle.afdx_laws.specs.Buffers.{LegalNeedOne, LegalNeedOneDespite, NeedsInTurn, NeedsOrder, OneBuffer}
+pub use Rattle.afdx_laws.specs.Buffers.{buffers_after, eight_bytes, five_fragments, one_without_bytes, piece}
+pub use Rattle.afdx_laws.specs.Buffers.{second_came, two_begun, two_datagrams}
+pub use Rattle.afdx_laws.specs.Delivery.{AreCarriedOf, AreFirst, AreGiven, AreHanded, DespiteLoss, HandedArrive}
+pub use Rattle.afdx_laws.specs.Delivery.{HandedDespiteLoss, HasByte, InOrder, IsHanded, IsLinkOf, IsOfNet, IsSending}
+pub use Rattle.afdx_laws.specs.Delivery.{IsSent, MessagesArrive, delivered, fragment_in, given, kept_in, keyed, longer}
+pub use Rattle.afdx_laws.specs.Delivery.{messages_in, of_sub, sent_from, with_buffer}
 pub use Rattle.afdx_laws.specs.Loss.{AreClose, AreWithin, BeginsFirst, FirstComes, LossMasked, MaskedFromFirst}
 pub use Rattle.afdx_laws.specs.Loss.{NumbersClash, StartsFirst, frame_at, frames_at, next_alone, one_lost, same_net}
-pub use Rattle.afdx_laws.specs.Messages.{AreFirst, DespiteLoss, IsLinkOf, IsSending, IsSent, MessagesArrive}
-pub use Rattle.afdx_laws.specs.Messages.{fragment_in, messages_in}
-pub use Rattle.afdx_laws.specs.Networks.{AreCarried, ExactlyOnce, IsLong, IsStream, most_carried}
 pub use Rattle.afdx_laws.specs.Plans.{AllOnBoth, IsHandedOver, IsOn, IsOnBoth, LegalArrive, LegalDespiteLoss}
 pub use Rattle.afdx_laws.specs.Plans.{LegalPasses, OneNetworkArrives, OwnListsArrive, all_from, frames_of, handed_to}
 pub use Rattle.afdx_laws.specs.Plans.{id_at, longer_of, piece_room}
 pub use Rattle.afdx_laws.specs.Policer.{Account, AreBetween, AreOnTime, Arrival, Charge, IsOnItsWay, IsOnTime, IsUpTo}
-pub use Rattle.afdx_laws.specs.Policer.{NoMorePasses, NoneDropped, Passage, Rule, StreamPasses, arrival, by_bytes}
-pub use Rattle.afdx_laws.specs.Policer.{by_frames, cost, filled, full, limit, paid, passed, price, rule_around}
-pub use Rattle.afdx_laws.specs.Receiver.{IsNear, State, Tolerance, ahead, begin, carried, carried_by, is_accepted}
-pub use Rattle.afdx_laws.specs.Receiver.{is_ahead, is_valid, next_number, other, received, seen_on, with_accepted}
-pub use Rattle.afdx_laws.specs.Receiver.{with_seen}
-pub use Rattle.afdx_laws.specs.WorkedDelivery.{AcceptsEachOnce, NeedsALag, NeedsAStream, NeedsHanding, NeedsNumbers}
-pub use Rattle.afdx_laws.specs.WorkedDelivery.{OneMessageArrives, bare_frame, bare_stream, both_frames, closed_receiver}
-pub use Rattle.afdx_laws.specs.WorkedDelivery.{far_behind, four_arrivals, one_accepted, plain_receiver, same_twice}
+pub use Rattle.afdx_laws.specs.Policer.{NeedsTheGreatest, NoMorePasses, NoneDropped, Passage, Rule, StreamPasses}
+pub use Rattle.afdx_laws.specs.Policer.{arrival, by_bytes, by_frames, cost, filled, full, limit, paid, passed, price}
+pub use Rattle.afdx_laws.specs.Policer.{rule_around}
+pub use Rattle.afdx_laws.specs.Receiver.{AreCarried, ExactlyOnce, IsLong, IsNear, IsStream, State, Tolerance, ahead}
+pub use Rattle.afdx_laws.specs.Receiver.{begin, carried, carried_by, is_accepted, is_ahead, is_valid, most_carried}
+pub use Rattle.afdx_laws.specs.Receiver.{next_number, other, received, seen_on, with_accepted, with_seen}
+pub use Rattle.afdx_laws.specs.WorkedDelivery.{AcceptsEachOnce, BeginsOnBoth, ComesDespiteLoss, MasksOneLoss, NeedsALag}
+pub use Rattle.afdx_laws.specs.WorkedDelivery.{NeedsAStream, NeedsAWholeNetwork, NeedsHanding, NeedsNumbers}
+pub use Rattle.afdx_laws.specs.WorkedDelivery.{NeedsOneWhole, NeedsTheFirst, OneMessageArrives, bare_frame, bare_stream}
+pub use Rattle.afdx_laws.specs.WorkedDelivery.{both_frames, closed_receiver, far_behind, first_lost, four_arrivals}
+pub use Rattle.afdx_laws.specs.WorkedDelivery.{messages_despite, one_accepted, plain_receiver, same_twice, second_lost}
 pub use Rattle.afdx_laws.specs.WorkedDelivery.{three_arrivals, wide_receiver}
-pub use Rattle.afdx_laws.specs.WorkedLoss.{BeginsOnBoth, ComesDespiteLoss, MasksOneLoss, NeedsAWholeNetwork}
-pub use Rattle.afdx_laws.specs.WorkedLoss.{NeedsOneWhole, NeedsTheFirst, first_lost, messages_despite, second_lost}

@@ -27,14 +27,12 @@ distinct_of (e ∷ es) one = IsDistinct-cons eqb (sub_in e.frame) (subs_of es)
     (let first = rw (eq-eqb (sub_in e.frame) (sub_in e.frame) refl) at (one (sub_in e.frame)) in omega arith))
     (distinct_of es (λ y. fewer y (eqb (sub_in e.frame) y) (one y)))
   where
-    fewer : (y : ℕ) (t : Bool) → length (cond t (e ∷ sub_stream y es) (sub_stream y es)) ≤ 1
-        → length (sub_stream y es) ≤ 1
+    fewer : (y : ℕ) (t : Bool) → length (cond t (e ∷ sub_stream y es) (sub_stream y es)) ≤ 1 → length (sub_stream y es) ≤ 1
     fewer y t one = grind arith
 
 below_of : (n : ℕ) (es : List Entry) → All (IsOfOneOf n) es → (q : ℕ) → list_any (eqb q) (subs_of es) ≡ true → q < n
 below_of n [] of q any = absurd (false≢true any)
-below_of n (e ∷ es) of q any =
-    grind (arith, nat_tests, below_of n es (λ k d h. of (suc k) d (omega arith)) q, of 0 e (omega arith))
+below_of n (e ∷ es) of q any = grind (arith, nat_tests, below_of n es (λ k d h. of (suc k) d (omega arith)) q, of 0 e (omega arith))
 
 none_of : (x : ℕ) (es : List Entry) → All (λ (e : Entry). sub_in e.frame ≢ x) es → length (sub_stream x es) ≤ 0
 none_of x [] others = omega arith
@@ -42,8 +40,7 @@ none_of x (e ∷ es) others = rw (ne_eqb (sub_in e.frame) x (others 0 e (omega a
     (none_of x es (λ k d h. others (suc k) d (omega arith)))
 
 before_is : (x : ℕ) (between : List Entry) (next : Entry) (after : List Entry)
-    → All (λ (e : Entry). sub_in e.frame ≢ x) between → sub_in next.frame ≡ x
-    → before_next x (between ++ next ∷ after) ≡ between
+    → All (λ (e : Entry). sub_in e.frame ≢ x) between → sub_in next.frame ≡ x → before_next x (between ++ next ∷ after) ≡ between
 before_is x [] next after others its = rw (eq-eqb (sub_in next.frame) x its) refl
 before_is x (e ∷ es) next after others its = grind (
   arith,
@@ -53,8 +50,7 @@ before_is x (e ∷ es) next after others its = grind (
 )
 
 -- the entry is followed in turn, and those after it are of the link's sub-VLs
-turn_at : (before : List Entry) (first : Entry) (rest : List Entry) → TakesTurns (before ++ first ∷ rest)
-    → IsFollowedInTurn first rest
+turn_at : (before : List Entry) (first : Entry) (rest : List Entry) → TakesTurns (before ++ first ∷ rest) → IsFollowedInTurn first rest
 turn_at [] first rest h = h.0
 turn_at (e ∷ es) first rest h = turn_at es first rest h.1
 
@@ -150,9 +146,6 @@ turns_are_told = record {
   failed = λ turns. let two : 2 ≤ 1 = turns.0 refl 1 in omega arith;
   free = (
     λ more other. absurd (let e : false ≡ true = more in cc),
-    (
-      λ more other. omega arith,
-      (λ more other. few_in other (turn_entry 3000 0 false ∷ []), (λ more other. omega arith, tt)),
-    ),
+    (λ more other. omega arith, (λ more other. few_in other (turn_entry 3000 0 false ∷ []), (λ more other. omega arith, tt))),
   );
 }

@@ -15,8 +15,7 @@ differ a k later near same = grind (arith, number_is)
 ahead_next : (many j n : ℕ) → 1 ≤ many → n ≡ next_number j → ahead many j n ≡ true
 ahead_next many j n some e = grind arith
 
-pub ahead_old : (many j a : ℕ) → a ≤ j → j + many < a + 255
-    → ahead many (sequence_number j) (sequence_number a) ≡ false
+pub ahead_old : (many j a : ℕ) → a ≤ j → j + many < a + 255 → ahead many (sequence_number j) (sequence_number a) ≡ false
 ahead_old zero j a old near = refl
 ahead_old (suc many) j a old near = grind (arith, ahead_old many (suc j) a, next_is j, differ a (suc j))
 

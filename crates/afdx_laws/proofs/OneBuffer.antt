@@ -1,11 +1,17 @@
--- Fragments in order need one buffer for each sub-VL.
+-- One buffer for each sub-VL is enough for fragments in order, and so for what a receiver accepts.
 use Rattle.afdx_laws.proofs.Names.{◌≡◌, ℕ, suc, ◌≤◌, List, [], ◌∷◌, length, drop, get_or, refl, ap, ◌∙◌, arith, All, Option, None, nat_tests, length-take}
 use Rattle.afdx_laws.proofs.Names.{length-drop, All-nil, All-append, All-map, identification, Piece, cutting, pieces_from, Fragment, Buffer, put, end_of}
 use Rattle.afdx_laws.proofs.Names.{datagram_in, fragment_of, fragments_of, empty, with_buffer, kept_in, keyed, sent_from, of_sub, buffers_after, HasUpTo}
-use Rattle.afdx_laws.proofs.Names.{OneBuffer}
+use Rattle.afdx_laws.proofs.Names.{OneBuffer, map, take, Net, A, number_in, twin_of, Sent, begin, received, most_carried, next_alone, frames_at, fragment_in}
+use Rattle.afdx_laws.proofs.Names.{IsSending, longer, id_at, piece_room, frames_of, longer_of, IsOneEnough, HandedNeedOne, LegalNeedOne, LegalNeedOneDespite}
 use Rattle.afdx_laws.proofs.ListLemmas.{all_front}
 use Rattle.afdx_laws.proofs.Reading.{cutting_lies}
 use Rattle.afdx_laws.proofs.InOrder.{apart, reassembles}
+use Rattle.afdx_laws.proofs.Receiving.{exactly_once_holds}
+use Rattle.afdx_laws.proofs.Losing.{loss_masked_holds}
+use Rattle.afdx_laws.proofs.Arriving.{datagrams_of, some_bytes, few_bytes, first_come}
+use Rattle.afdx_laws.proofs.HandedOver.{carried_longer}
+use Rattle.afdx_laws.proofs.LegalLinks.{are_handed}
 
 abbrev pub EndsBefore : ℕ → ℕ × Fragment → Type 0
 EndsBefore most e = end_of e.1 ≤ most
@@ -46,8 +52,7 @@ with_within : (most key : ℕ) (b : Buffer) (buffers : ℕ → Buffer) → HasNo
 with_within most key b buffers one each k = grind arith
 
 pub after_within : (es : List (ℕ × Fragment)) (most : ℕ) (buffers : ℕ → Buffer)
-    → ((k : ℕ) → HasNoneBehind most (buffers k)) → All (EndsBefore most) es
-    → (k : ℕ) → HasNoneBehind most (buffers_after buffers es k)
+    → ((k : ℕ) → HasNoneBehind most (buffers k)) → All (EndsBefore most) es → (k : ℕ) → HasNoneBehind most (buffers_after buffers es k)
 after_within [] most buffers each ends = each
 after_within (e ∷ es) most buffers each ends =
     let b : Buffer = put (buffers e.0) e.1 in
@@ -69,3 +74,28 @@ one_buffer room sub most datagrams came least some fit begun =
           ap (λ (b : Buffer). b.byte_at i) ((apart sub came (λ key. empty) (λ key. empty) (λ j h. refl)).buffers k is)
           ∙ after_within (of_sub sub came) most (λ key. empty) (λ j m h. refl) ends k i past;
     }
+
+first_need_one : (end_system room sub count : ℕ) (accepted : List Sent) (net : Net) (stream got : List (List ℕ))
+    → IsSending end_system room sub accepted net stream → map (twin_of A) got ≡ take count (map (twin_of A) stream) → IsOneEnough sub got
+first_need_one end_system room sub count accepted net stream got sending first =
+    let least = sending.link.least in
+    one_buffer room sub 8200 (datagrams_of end_system accepted) (map fragment_in got) (omega arith)
+    (some_bytes end_system sub accepted sending.sent) (few_bytes end_system sub accepted sending.sent)
+    (first_come end_system room sub count accepted net stream got sending first)
+
+pub handed_need_one : HandedNeedOne
+handed_need_one end_system room sub lag tolerance accepted a b arrivals handed fit carry =
+    let longest = carried_longer end_system room sub lag accepted a b handed in
+    first_need_one end_system room sub _ accepted longest.net (longer a b) _ longest.sending
+    (exactly_once_holds lag tolerance (longer a b) arrivals fit longest.sending.frames (longest.carry arrivals carry))
+
+pub legal_need_one : LegalNeedOne
+legal_need_one plan accepted a b k sub lag tolerance arrivals handed fit carry =
+    handed_need_one _ _ _ _ _ _ _ _ _ (are_handed plan accepted a b k sub handed) fit carry
+
+pub legal_need_one_despite : LegalNeedOneDespite
+legal_need_one_despite plan accepted a b k sub check whole came handed some close =
+    let all : List (List ℕ) = longer_of (id_at plan k) a b in
+    let longest = carried_longer _ _ _ 0 _ _ _ (are_handed plan accepted a b k sub handed) in
+    let masked = loss_masked_holds whole check all came some longest.sending.frames close in
+    first_need_one plan.end_system (piece_room plan k) sub masked.0 (accepted k sub) longest.net all _ longest.sending masked.2

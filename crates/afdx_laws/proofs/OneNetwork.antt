@@ -33,8 +33,7 @@ all_its net (f ∷ fs) (x ∷ before) after e is =
     )
 
 never_behind : (net : Net) (frames : List (List ℕ)) → IsNear 0 (all_from net frames)
-never_behind net frames before after from frame is =
-    grind (arith, all_its net frames before after (from, frame) is)
+never_behind net frames before after from frame is = grind (arith, all_its net frames before after (from, frame) is)
 
 many_from : (net : Net) (frames : List (List ℕ)) → most_carried (all_from net frames) ≡ length frames
 many_from net frames = grind (arith, carried_all net frames, carried_none net frames)
@@ -47,8 +46,7 @@ begins_for B B came mine own begins = rw (carried_all B came, own_twins B mine o
 begins_for A B came mine own begins = rw (carried_none B came) (map (twin_of A) mine, refl)
 begins_for B A came mine own begins = rw (carried_none A came) (map (twin_of B) mine, refl)
 
-handed_by : (plan : Plan) (accepted : Accepted) (a b : List Entry) (k sub : ℕ) (net : Net)
-    → IsHandedOver plan accepted a b k sub
+handed_by : (plan : Plan) (accepted : Accepted) (a b : List Entry) (k sub : ℕ) (net : Net) → IsHandedOver plan accepted a b k sub
     → IsHanded plan.end_system (piece_room plan k) sub (accepted k sub) net
     (frames_of (id_at plan k) (handed_to net a b))
 handed_by plan accepted a b k sub A handed = (are_handed plan accepted a b k sub handed).on_a

@@ -29,8 +29,7 @@ read_piece end_system sent net place piece number port most is =
     let total = total_ok end_system sent.port sent.bytes place piece net number (is.len).1 in
     let bytes_len : total_length frame - 20 ≡ piece.len = omega arith in
     let bytes_are : take (total_length frame - 20) (drop 34 frame) ≡ take piece.len
-    (drop piece.start (datagram end_system sent.port sent.bytes)) =
-    ap (λ (n : ℕ). take n (drop 34 frame)) bytes_len
+    (drop piece.start (datagram end_system sent.port sent.bytes)) = ap (λ (n : ℕ). take n (drop 34 frame)) bytes_len
     ∙ payload_says end_system sent.port sent.bytes place piece net number port is.within in
     cc (s.ident_says, s.offset_says, s.more_says)
 
@@ -71,8 +70,7 @@ unfolding datagram
 drop-datagram end_system sent = drop_at (udp_header end_system sent.port sent.bytes) sent.bytes 8
     (length-udp_header end_system sent.port sent.bytes)
 
-pub from_start : (room size : ℕ) → 25 ≤ room → room ≤ 1479
-    → AllByRecursion (IsPiece size) (pieces_from 0 (cutting room (8 + size)))
+pub from_start : (room size : ℕ) → 25 ≤ room → room ≤ 1479 → AllByRecursion (IsPiece size) (pieces_from 0 (cutting room (8 + size)))
 from_start room size least greatest =
     let whole : 8 + size - 0 ≡ 8 + size = omega arith in
     subst (λ (n : ℕ). AllByRecursion (IsPiece size) (pieces_from 0 (cutting room n))) whole
@@ -81,8 +79,7 @@ from_start room size least greatest =
 abbrev pub IsCut : (room end : ℕ) → Piece → Type 0
 IsCut room end piece = (piece.len ≤ room) × (piece.start + piece.len ≤ end)
 
-cut_by_lies : (turns room n start end : ℕ) → start + n ≤ end
-    → AllByRecursion (IsCut room end) (pieces_from start (cut_by turns room n))
+cut_by_lies : (turns room n start end : ℕ) → start + n ≤ end → AllByRecursion (IsCut room end) (pieces_from start (cut_by turns room n))
 cut_by_lies zero room n start end inside = tt
 cut_by_lies (suc turns) room n start end inside = elim (cases_lt room n) [
   | inl over ↦
@@ -94,12 +91,10 @@ cut_by_lies (suc turns) room n start end inside = elim (cases_lt room n) [
 
 pub cutting_lies : (room n : ℕ) → All (IsCut room n) (pieces_from 0 (cutting room n))
 unfolding cutting
-cutting_lies room n =
-    All-from_recursion (IsCut room n) (pieces_from 0 (cutting room n)) (cut_by_lies n room n 0 n (omega arith))
+cutting_lies room n = All-from_recursion (IsCut room n) (pieces_from 0 (cutting room n)) (cut_by_lies n room n 0 n (omega arith))
 
 reads_message : (end_system room : ℕ) (sent : Sent) (net : Net) (place : ℕ) → 25 ≤ room → room ≤ 1479
-    → IsPort sent.port → length sent.bytes ≤ 8192
-    → AreRead (fragments_at end_system room net place sent)
+    → IsPort sent.port → length sent.bytes ≤ 8192 → AreRead (fragments_at end_system room net place sent)
     (keyed (identification place sent.port.sub) (fragments_of room (datagram end_system sent.port sent.bytes)))
 unfolding fragments_at
 reads_message end_system room sent net place least greatest port most =
@@ -107,13 +102,11 @@ reads_message end_system room sent net place least greatest port most =
     (reads_pieces (pieces_from 0 (cutting room (8 + length sent.bytes))) end_system sent net place port most
     (from_start room (length sent.bytes) least greatest))
 
-all_append : {X : Type 0} (P : X → Type 0) (xs ys : List X) → AllByRecursion P xs → AllByRecursion P ys
-    → AllByRecursion P (xs ++ ys)
+all_append : {X : Type 0} (P : X → Type 0) (xs ys : List X) → AllByRecursion P xs → AllByRecursion P ys → AllByRecursion P (xs ++ ys)
 all_append P [] ys a b = b
 all_append P (x ∷ xs) ys a b = (a.0, all_append P xs ys a.1 b)
 
-pub reads_all : (accepted : List Sent) (end_system room sub place : ℕ) (net : Net) → 25 ≤ room → room ≤ 1479
-    → All (IsSent sub) accepted
+pub reads_all : (accepted : List Sent) (end_system room sub place : ℕ) (net : Net) → 25 ≤ room → room ≤ 1479 → All (IsSent sub) accepted
     → AreRead (fragments_from end_system room net place accepted)
     (sent_from room sub place (map (λ (sent : Sent). datagram end_system sent.port sent.bytes) accepted))
 reads_all [] end_system room sub place net least greatest are = record { each = tt; are = refl }
@@ -136,8 +129,7 @@ with_last : (frame : List ℕ) → 1 ≤ length frame → frame ≡ blanked fram
 with_last frame some = grind (arith, take_all, take_more)
 
 -- frames that are the first of these fragments are read as the first of these
-pub reads_frames : (frames us rest : List (List ℕ)) → AllByRecursion IsRead us → All IsLong frames
-    → us ≡ map blanked frames ++ rest
+pub reads_frames : (frames us rest : List (List ℕ)) → AllByRecursion IsRead us → All IsLong frames → us ≡ map blanked frames ++ rest
     → map read_any us ≡ map fragment_in frames ++ map read_any rest
 reads_frames [] us rest each long is = ap (map read_any) is
 reads_frames (f ∷ frames) [] rest each long is = absurd (nil_isnt_cons is)
@@ -149,6 +141,5 @@ reads_frames (f ∷ frames) (u ∷ us) rest each long is = grind (
   reads_frames frames us rest each.1 (λ k d h. long (suc k) d (omega arith)) (cons_parts is).1,
 )
 
-pub of_sub_is : (sub : ℕ) (frames : List (List ℕ))
-    → of_sub sub (map fragment_in frames) ≡ map fragment_in (those_with sub_in sub frames)
+pub of_sub_is : (sub : ℕ) (frames : List (List ℕ)) → of_sub sub (map fragment_in frames) ≡ map fragment_in (those_with sub_in sub frames)
 of_sub_is sub frames = with_map sub_in (λ (e : ℕ × Fragment). e.0 % 4) fragment_in sub (λ frame. refl) frames

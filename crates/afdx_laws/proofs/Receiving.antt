@@ -24,23 +24,19 @@ Comes number h stream lag a b ((B, frame) ∷ es) = IsPlaced number h stream b f
     × Comes number h stream lag a (suc b) es
 
 pub takes_it : {F : Type 0} (number : F → ℕ) (tolerance : Tolerance) (state after : State) (net : Net) (frame : F)
-    (es : List (Net × F)) (n : ℕ)
-    → number frame ≡ n → is_valid tolerance.check (seen_on net state) n ≡ true
+    (es : List (Net × F)) (n : ℕ) → number frame ≡ n → is_valid tolerance.check (seen_on net state) n ≡ true
     → is_ahead tolerance.window state.accepted n ≡ true → with_accepted n (with_seen net n state) ≡ after
     → received number tolerance state ((net, frame) ∷ es) ≡ frame ∷ received number tolerance after es
 takes_it number tolerance state after net frame es n is valid new then_is = grind arith
 
 pub drops_it : {F : Type 0} (number : F → ℕ) (tolerance : Tolerance) (state after : State) (net : Net) (frame : F)
-    (es : List (Net × F)) (n : ℕ)
-    → number frame ≡ n → is_ahead tolerance.window state.accepted n ≡ false → with_seen net n state ≡ after
+    (es : List (Net × F)) (n : ℕ) → number frame ≡ n → is_ahead tolerance.window state.accepted n ≡ false → with_seen net n state ≡ after
     → received number tolerance state ((net, frame) ∷ es) ≡ received number tolerance after es
 drops_it number tolerance state after net frame es n is old then_is = grind arith
 
 pub grows : {F : Type 0} (h : F → F) (stream : List F) (i : ℕ) (frame : F) (rest : List F) → i < length stream
-    → h frame ≡ get_or stream i (h frame)
-    → take i stream ++ (h frame ∷ rest) ≡ take (suc i) stream ++ rest
-grows h stream i frame rest inside is =
-    grind (arith, take_more stream i (h frame) inside, append_assoc (take i stream) (h frame ∷ []) rest)
+    → h frame ≡ get_or stream i (h frame) → take i stream ++ (h frame ∷ rest) ≡ take (suc i) stream ++ rest
+grows h stream i frame rest inside is = grind (arith, take_more stream i (h frame) inside, append_assoc (take i stream) (h frame ∷ []) rest)
 
 -- One frame of a network, after `a` frames of that network and `b` of the other.
 one_more : {F : Type 0} (number : F → ℕ) (h : F → F) (stream : List F) (tolerance : Tolerance) (lag : ℕ) (net : Net)
@@ -74,8 +70,7 @@ one_more {F = F} number h stream tolerance lag net from to frame es a b m next
 -- what is accepted continues the stream
 pub hands_on : {F : Type 0} (number : F → ℕ) (h : F → F) (stream : List F)
     (tolerance : Tolerance) (lag : ℕ) (arrivals : List (Net × F)) (a b : ℕ)
-    → 1 ≤ tolerance.check → 1 ≤ tolerance.window → lag + tolerance.window ≤ 255
-    → Comes number h stream lag a b arrivals
+    → 1 ≤ tolerance.check → 1 ≤ tolerance.window → lag + tolerance.window ≤ 255 → Comes number h stream lag a b arrivals
     → take (max a b) stream ++ map h (received number tolerance (state_at a b) arrivals)
     ≡ take (max (a + length (carried A arrivals)) (b + length (carried B arrivals))) stream
 hands_on number h stream tolerance lag [] a b check window near comes =
@@ -107,8 +102,7 @@ pub first_of_rest : {X : Type 0} (xs : List X) (i : ℕ) (y : X) (ys : List X) �
 first_of_rest xs i y ys e = grind (arith, drop_more xs i y, drop_all i xs)
 
 -- the frame at a place, as a network has it
-pub placed : (net : Net) (stream : List (List ℕ)) (i : ℕ) (frame : List ℕ) → All IsLong stream
-    → IsNumbered number_in 0 stream
+pub placed : (net : Net) (stream : List (List ℕ)) (i : ℕ) (frame : List ℕ) → All IsLong stream → IsNumbered number_in 0 stream
     → i < length (map (twin_of net) stream) → frame ≡ get_or (map (twin_of net) stream) i frame
     → IsPlaced number_in (twin_of A) (map (twin_of A) stream) i frame
 placed net stream i frame long numbered inside is =
@@ -143,11 +137,9 @@ one_comes net stream lag i j arrivals es before frame long numbered near whole m
 
 -- what two networks carry comes as the receiver needs it
 comes : (stream : List (List ℕ)) (lag : ℕ) (arrivals : List (Net × List ℕ)) (rest before : List (Net × List ℕ))
-    (a b : ℕ)
-    → All IsLong stream → IsNumbered number_in 0 stream → IsNear lag arrivals
+    (a b : ℕ) → All IsLong stream → IsNumbered number_in 0 stream → IsNear lag arrivals
     → arrivals ≡ before ++ rest → a ≡ length (carried A before) → b ≡ length (carried B before)
-    → IsPrefixOf (carried A rest) (drop a (map (twin_of A) stream))
-    → IsPrefixOf (carried B rest) (drop b (map (twin_of B) stream))
+    → IsPrefixOf (carried A rest) (drop a (map (twin_of A) stream)) → IsPrefixOf (carried B rest) (drop b (map (twin_of B) stream))
     → Comes number_in (twin_of A) (map (twin_of A) stream) lag a b rest
 comes stream lag arrivals [] before a b long numbered near whole na nb pa pb = tt
 comes stream lag arrivals ((A, frame) ∷ es) before a b long numbered near whole na nb pa pb =

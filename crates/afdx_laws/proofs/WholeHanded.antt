@@ -10,8 +10,7 @@ abbrev many_of : ℕ → List (List ℕ) → ℕ
 many_of sub frames = length (those_with sub_in sub frames)
 
 many_twins : (net : Net) (sub : ℕ) (frames : List (List ℕ)) → many_of sub (map (twin_of net) frames) ≡ many_of sub frames
-many_twins net sub frames =
-    grind (arith, ap length (with_map sub_in sub_in (twin_of net) sub (λ f. twin_sub net f) frames), length-map)
+many_twins net sub frames = grind (arith, ap length (with_map sub_in sub_in (twin_of net) sub (λ f. twin_sub net f) frames), length-map)
 
 longer_frames : (xs ys : List Entry) → map (λ (e : Entry). e.frame) (longer_stream xs ys)
     ≡ longer (map (λ (e : Entry). e.frame) xs) (map (λ (e : Entry). e.frame) ys)
@@ -34,26 +33,14 @@ all_handed : (plan : Plan) (accepted : Accepted) (log a b : List Entry) (k sub :
     → length (fragments plan.end_system (piece_room plan k) A (accepted k sub))
     ≡ many_of sub (longer (frames_of (id_at plan k) a) (frames_of (id_at plan k) b))
 all_handed plan accepted log a b k sub own released =
-    grind (
-      arith,
-      ap length released,
-      told_is sub (link_stream (id_at plan k) log),
-      length-map,
-      own,
-      many_own sub (id_at plan k) a b,
-    )
+    grind (arith, ap length released, told_is sub (link_stream (id_at plan k) log), length-map, own, many_own sub (id_at plan k) a b)
 
 pub own_lists_arrive_holds : OwnListsArrive
 own_lists_arrive_holds plan own a b valid handed k sub inside index lag tolerance arrivals fit carry whole =
     let sent : List Sent = handed.accepted k sub in
     let first = legal_arrive_holds plan handed.accepted a b k sub lag tolerance arrivals
-    (record {
-      valid = valid;
-      legal = handed.legal;
-      inside = inside;
-      index = index;
-      allowed = handed.allowed k sub inside index;
-    }) fit carry in
+    (record { valid = valid; legal = handed.legal; inside = inside; index = index; allowed = handed.allowed k sub inside index })
+    fit carry in
     let all = all_handed plan handed.accepted handed.log a b k sub (handed.streams k inside)
     (handed.done k inside sub index) in
     let came = ap (many_of sub) (take_all (most_carried arrivals) (longer_of (id_at plan k) a b) whole) in

@@ -13,15 +13,13 @@ use Rattle.afdx_laws.specs.WorkedPlan.{one_entry, two_arrivals, OneIsLegal, only
 use Rattle.afdx_laws.proofs.AllOnBoth.{all_on_both_holds}
 use Rattle.afdx_laws.proofs.LegalLinks.{legal_arrive_holds, legal_despite_loss_holds}
 use Rattle.afdx_laws.proofs.LegalSpacing.{legal_passes_holds}
-use Rattle.afdx_laws.proofs.ListLemmas.{below_one, below_both, nil_isnt_cons, other_length}
-use Rattle.afdx_laws.proofs.Rows.{fails_by, needs_each}
+use Rattle.afdx_laws.proofs.ListLemmas.{below_one, below_both, nil_isnt_cons, other_length, fails_by, needs_each}
 use Rattle.afdx_laws.proofs.WholeHanded.{own_lists_arrive_holds}
 use Rattle.afdx_laws.proofs.WorkedMessage.{few_are_near, not_first, too_few, close_by_test}
 
 one_known : (carriers : Networks) (net : Net) → IsKnown (demo_on carriers).links net (one_frame net)
 unfolding checksum addresses header_front internet_header link_header udp_header datagram unnumbered
-one_known carriers net =
-    record { size = omega arith; k = 0; within = omega arith; link = refl; of_sub = omega arith; interface = refl }
+one_known carriers net = record { size = omega arith; k = 0; within = omega arith; link = refl; of_sub = omega arith; interface = refl }
 
 legal_on : (carriers : Networks) (net : Net) → names net carriers ≡ true
     → IsLegalOn (demo_on carriers) one_byte_accepted net (one_entry net)
@@ -34,10 +32,8 @@ legal_on carriers net named = record {
   spaced = below_one _ (tt, tt);
 }
 
-byte_allowed : (carriers : Networks) (byte : ℕ)
-    → IsAllowed (demo_on carriers) 0 0 (record { port = demo_port; bytes = byte ∷ [] })
-byte_allowed carriers byte =
-    record { port = (0, omega arith, refl); over = refl; its = refl; some = omega arith; most = omega arith }
+byte_allowed : (carriers : Networks) (byte : ℕ) → IsAllowed (demo_on carriers) 0 0 (record { port = demo_port; bytes = byte ∷ [] })
+byte_allowed carriers byte = record { port = (0, omega arith, refl); over = refl; its = refl; some = omega arith; most = omega arith }
 
 one_handed : IsHandedOver demo_plan one_byte_accepted (one_entry A) (one_entry B) 0 0
 unfolding checksum addresses header_front internet_header link_header udp_header datagram unnumbered
@@ -103,12 +99,10 @@ one_on = record { within = omega arith; link = refl; its = refl }
 other_lost : OwnComes other_own two_arrivals → ⊥
 other_lost lists = lost lists.sent (sym one_is_legal.message ∙ lists.are) (lists.ports 0 one_on)
   where
-    one_lost : (t : Bool) (bytes : List ℕ) → (1 ∷ []) ∷ [] ≡ bytes ∷ []
-        → (if t then bytes ∷ [] else []) ≡ (2 ∷ []) ∷ [] → ⊥
+    one_lost : (t : Bool) (bytes : List ℕ) → (1 ∷ []) ∷ [] ≡ bytes ∷ [] → (if t then bytes ∷ [] else []) ≡ (2 ∷ []) ∷ [] → ⊥
     one_lost t bytes is own = grind arith
 
-    lost : (sent : List Sent) → (1 ∷ []) ∷ [] ≡ map (λ (s : Sent). s.bytes) sent
-        → messages_of demo_port sent ≡ (2 ∷ []) ∷ [] → ⊥
+    lost : (sent : List Sent) → (1 ∷ []) ∷ [] ≡ map (λ (s : Sent). s.bytes) sent → messages_of demo_port sent ≡ (2 ∷ []) ∷ [] → ⊥
     lost [] is own = nil_isnt_cons (sym is)
     lost (s ∷ []) is own = one_lost (nat_eq s.port.id.0 10) s.bytes is own
     lost (s ∷ t ∷ later) is own = let count = ap length is in omega arith
@@ -207,8 +201,7 @@ are_twins_of_one = record {
 
 second_known : (net : Net) → IsKnown demo_plan.links net (second_frame net)
 unfolding checksum addresses header_front internet_header link_header udp_header datagram unnumbered
-second_known net =
-    record { size = omega arith; k = 0; within = omega arith; link = refl; of_sub = omega arith; interface = refl }
+second_known net = record { size = omega arith; k = 0; within = omega arith; link = refl; of_sub = omega arith; interface = refl }
 
 pair_legal_on : (net : Net) → IsLegalOn demo_plan two_accepted net (two_entries net)
 unfolding checksum addresses header_front internet_header link_header udp_header datagram unnumbered cutting fragments_at
@@ -225,12 +218,10 @@ pair_legal_on net = record {
     carries B none = absurd (false≢true (sym none))
 
 two_allowed : All (IsAllowed demo_plan 0 0) (two_accepted 0 0)
-two_allowed =
-    All-from_recursion (IsAllowed demo_plan 0 0) (two_accepted 0 0) (byte_allowed Both 1, (byte_allowed Both 2, tt))
+two_allowed = All-from_recursion (IsAllowed demo_plan 0 0) (two_accepted 0 0) (byte_allowed Both 1, (byte_allowed Both 2, tt))
 
 swapped_allowed : All (IsAllowed demo_plan 0 0) (swapped_accepted 0 0)
-swapped_allowed =
-    All-from_recursion (IsAllowed demo_plan 0 0) (swapped_accepted 0 0) (byte_allowed Both 2, (byte_allowed Both 1, tt))
+swapped_allowed = All-from_recursion (IsAllowed demo_plan 0 0) (swapped_accepted 0 0) (byte_allowed Both 2, (byte_allowed Both 1, tt))
 
 handed_pair : (accepted : Accepted) → All (IsAllowed demo_plan 0 0) (accepted 0 0)
     → IsLegal demo_plan accepted (two_entries A) (two_entries B) → PairHanded accepted
@@ -247,11 +238,7 @@ two_handed = handed_pair two_accepted two_allowed (record {
 
 pair_carried : AreCarriedOf 3 (frames_of 1 (two_entries A)) (frames_of 1 (two_entries B)) both_arrive
 unfolding checksum addresses header_front internet_header link_header udp_header datagram unnumbered
-pair_carried = record {
-  on_a = ([], refl);
-  on_b = (frames_of 1 (two_entries B), refl);
-  near = few_are_near 3 both_arrive (omega arith);
-}
+pair_carried = record { on_a = ([], refl); on_b = (frames_of 1 (two_entries B), refl); near = few_are_near 3 both_arrive (omega arith) }
 
 -- messages in another order don't arrive; nor does the second if no number is new, nor the first if it is lost
 swapped_lost : PairArrives swapped_accepted plain_receiver both_arrive → ⊥

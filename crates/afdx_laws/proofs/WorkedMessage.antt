@@ -8,8 +8,7 @@ use Rattle.afdx_laws.proofs.Names.{plain_receiver, closed_receiver, OneMessageAr
 use Rattle.afdx_laws.proofs.Names.{wide_receiver, AcceptsEachOnce, NeedsNumbers, NeedsALag, NeedsAStream, second_lost, first_lost, messages_despite}
 use Rattle.afdx_laws.proofs.Names.{MasksOneLoss, NeedsTheFirst, BeginsOnBoth, ComesDespiteLoss, NeedsAWholeNetwork, NeedsOneWhole, checksum, cutting, addresses}
 use Rattle.afdx_laws.proofs.Names.{header_front, internet_header, link_header, udp_header, datagram, unnumbered, fragments_at}
-use Rattle.afdx_laws.proofs.ListLemmas.{cons_parts, other_length}
-use Rattle.afdx_laws.proofs.Rows.{fails_by, needs_each}
+use Rattle.afdx_laws.proofs.ListLemmas.{cons_parts, other_length, fails_by, needs_each}
 use Rattle.afdx_laws.proofs.Receiving.{exactly_once_holds}
 use Rattle.afdx_laws.proofs.Arriving.{messages_arrive_holds, despite_loss_holds}
 use Rattle.afdx_laws.proofs.HandedOver.{sending_to, handed_arrive_holds, handed_despite_loss_holds}
@@ -41,8 +40,7 @@ carried_le net [] = omega arith
 carried_le net ((from, frame) ∷ xs) = grind (arith, carried_le net xs)
 
 pub few_are_near : {F : Type 0} (lag : ℕ) (arrivals : List (Net × F)) → length arrivals ≤ lag + 1 → IsNear lag arrivals
-few_are_near lag arrivals few_came before after net frame is =
-    grind (arith, ap length is, length-append, carried_le (other net) before)
+few_are_near lag arrivals few_came before after net frame is = grind (arith, ap length is, length-append, carried_le (other net) before)
 
 pub one_message_arrives : OneMessageArrives
 unfolding checksum addresses header_front internet_header link_header udp_header datagram unnumbered
@@ -69,14 +67,12 @@ not_first {accepted = accepted} are other first =
 -- nor are fewer than those whose frames all came
 pub too_few : {room : ℕ} {accepted : List Sent} {frames messages given : List (List ℕ)} (n : ℕ)
     → messages ≡ given → length given < n → n ≤ length accepted
-    → length (fragments 1 room A (take n accepted)) ≤ length (those_with sub_in 0 frames)
-    → AreFirst 1 room 0 accepted frames messages → ⊥
+    → length (fragments 1 room A (take n accepted)) ≤ length (those_with sub_in 0 frames) → AreFirst 1 room 0 accepted frames messages → ⊥
 too_few {accepted = accepted} n are short within enough first =
     grind (arith, first.all n within enough, ap length (sym are ∙ first.are), length-take, length-map)
 
 -- the worked message has two frames, and both are among the stream's first two
-whole_lost : {messages : List (List ℕ)} → messages ≡ []
-    → AreFirst 1 25 0 one_accepted (take 2 (both_frames A)) messages → ⊥
+whole_lost : {messages : List (List ℕ)} → messages ≡ [] → AreFirst 1 25 0 one_accepted (take 2 (both_frames A)) messages → ⊥
 unfolding checksum addresses header_front internet_header link_header udp_header datagram unnumbered cutting fragments_at
 whole_lost none = too_few 1 none (omega arith) (omega arith) (omega arith)
 
@@ -108,13 +104,7 @@ needs_a_stream = needs_each
 
 pub accepts_each_once : AcceptsEachOnce
 unfolding checksum addresses header_front internet_header link_header udp_header datagram unnumbered
-accepts_each_once = record {
-  fit = omega arith;
-  stream = are_sent.frames;
-  carry = four_carried;
-  once = refl;
-  round = refl;
-}
+accepts_each_once = record { fit = omega arith; stream = are_sent.frames; carry = four_carried; once = refl; round = refl }
 
 pub needs_numbers : NeedsNumbers
 needs_numbers = record {
@@ -123,17 +113,11 @@ needs_numbers = record {
     on_b = (map (twin_of B) (bare_stream (0 ∷ 0 ∷ [])), refl);
     near = few_are_near 3 same_twice (omega arith);
   };
-  stream = record {
-    premise = λ stream. let second : 0 ≡ 1 = stream.numbered.1.0 in omega arith;
-    conclusion = other_length refl;
-  };
+  stream = record { premise = λ stream. let second : 0 ≡ 1 = stream.numbered.1.0 in omega arith; conclusion = other_length refl };
 }
 
 bare_three : IsStream (bare_stream (0 ∷ 1 ∷ 2 ∷ []))
-bare_three = record {
-  long = All-from_recursion IsLong (bare_stream (0 ∷ 1 ∷ 2 ∷ [])) (omega arith);
-  numbered = (refl, (refl, (refl, tt)));
-}
+bare_three = record { long = All-from_recursion IsLong (bare_stream (0 ∷ 1 ∷ 2 ∷ [])) (omega arith); numbered = (refl, (refl, (refl, tt))) }
 
 pub needs_a_lag : NeedsALag
 needs_a_lag = record {
@@ -143,11 +127,7 @@ needs_a_lag = record {
       (exactly_once_holds 1 wide_receiver (bare_stream (0 ∷ 1 ∷ 2 ∷ [])) far_behind (omega arith) bare_three)
       (other_length refl);
   unfit = λ fit. let apart : 258 ≤ 255 = fit.apart in omega arith;
-  carry = record {
-    on_a = ([], refl);
-    on_b = (twin_of B (bare_frame 2) ∷ [], refl);
-    near = few_are_near 4 far_behind (omega arith);
-  };
+  carry = record { on_a = ([], refl); on_b = (twin_of B (bare_frame 2) ∷ [], refl); near = few_are_near 4 far_behind (omega arith) };
 }
 
 -- `AreWithin` as a test
@@ -171,8 +151,7 @@ within_by_test (e ∷ es) whole n farthest carries test =
 
 pub close_by_test : (came : List (Net × ℕ)) (whole : Net) (n : ℕ)
     → lies_within whole n 0 0 came ≡ true → StartsFirst came → AreClose whole n 0 0 came
-close_by_test came whole n test starts =
-    record { within = within_by_test came whole n 0 0 test; first = λ none. starts }
+close_by_test came whole n test starts = record { within = within_by_test came whole n 0 0 test; first = λ none. starts }
 
 second_is_close : AreClose B 2 0 0 second_lost
 second_is_close = close_by_test second_lost B 2 refl refl

@@ -2,12 +2,11 @@
 use Rattle.afdx_laws.proofs.Names.{ℕ, ◌≤◌, false, [], ◌∷◌, length, take, refl, arith, ◌≡◌, inl, inr, ap, sym, true, All, Some, None, cases_eq}
 use Rattle.afdx_laws.proofs.Names.{All-from_recursion, A, B, Buffer, empty, HasByte, of_sub, sent_from, buffers_after, HoldsOne, HasUpTo, one_accepted}
 use Rattle.afdx_laws.proofs.Names.{both_frames, four_arrivals, plain_receiver, checksum, cutting, addresses, header_front, internet_header, link_header}
-use Rattle.afdx_laws.proofs.Names.{udp_header, datagram, unnumbered}
-use Rattle.afdx_laws.specs.WorkedOrder.{two_datagrams, five_fragments, second_came, one_without_bytes, eight_bytes, piece, FirstIsGiven, NeedsOrder, two_begun, NeedsInTurn, HoldsAFrame}
-use Rattle.afdx_laws.proofs.Rows.{fails_by}
+use Rattle.afdx_laws.proofs.Names.{udp_header, datagram, unnumbered, two_datagrams, five_fragments, second_came, one_without_bytes, eight_bytes, piece}
+use Rattle.afdx_laws.proofs.Names.{FirstIsGiven, NeedsOrder, two_begun, NeedsInTurn, HoldsAFrame}
+use Rattle.afdx_laws.proofs.ListLemmas.{fails_by}
 use Rattle.afdx_laws.proofs.InOrder.{in_order_holds}
-use Rattle.afdx_laws.proofs.OneBuffer.{one_buffer}
-use Rattle.afdx_laws.proofs.NeededBuffers.{handed_need_one}
+use Rattle.afdx_laws.proofs.OneBuffer.{one_buffer, handed_need_one}
 use Rattle.afdx_laws.proofs.WorkedMessage.{not_front, both_handed, needs_handing}
 
 first_alone : (j : ℕ) → j ≤ length two_datagrams

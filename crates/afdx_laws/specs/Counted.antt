@@ -25,8 +25,7 @@ abbrev pub both_fragments : (first second : ℕ) → List Entry
 both_fragments first second = entry first (fragment_from 0 0) ∷ entry second (fragment_from 24 1) ∷ []
 
 abbrev pub counts : (frames bytes messages last : ℕ) → Counts
-counts frames bytes messages last =
-    record { frames = frames; bytes = bytes; messages = messages; last = last }
+counts frames bytes messages last = record { frames = frames; bytes = bytes; messages = messages; last = last }
 
 -- The message is counted with its last frame. If times go back, a count falls.
 pub record CountsTwo : Type 0 where

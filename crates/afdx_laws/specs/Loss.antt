@@ -5,8 +5,7 @@ use Rattle.afdx_frame.specs.declared.net.Net.{Net}
 use Rattle.afdx_frame.specs.declared.net.Net.TheVariants.{A, B}
 use Rattle.afdx_frame.specs.Header.{number_in}
 use Rattle.afdx_frame.specs.Twin.{twin_of}
-use Rattle.afdx_laws.specs.Receiver.{Tolerance, other, begin, is_accepted, received, carried}
-use Rattle.afdx_laws.specs.Networks.{IsStream}
+use Rattle.afdx_laws.specs.Receiver.{Tolerance, other, begin, is_accepted, received, carried, IsStream}
 
 abbrev pub same_net : Net → Net → Bool
 same_net A A = true
@@ -59,8 +58,7 @@ IsMasked whole check stream came = (many : ℕ)
 -- It does if the frames arrive near to each other, the stream's first before all others.
 abbrev pub LossMasked : Type 0
 LossMasked = (whole : Net) (check : ℕ) (stream : List (List ℕ)) (came : List (Net × ℕ)) → 1 ≤ check
-    → IsStream stream → AreClose whole (length stream) 0 0 came
-    → IsMasked whole check stream came
+    → IsStream stream → AreClose whole (length stream) 0 0 came → IsMasked whole check stream came
 
 -- what a network carries, if anything, begins with the first frame of the stream
 abbrev pub BeginsFirst : Net → List (Net × ℕ) → Type 0
@@ -75,8 +73,7 @@ FirstComes = (whole : Net) (n : ℕ) (came : List (Net × ℕ)) → AreWithin wh
 -- So a receiver that starts with the stream masks a loss if both networks begin with the first frame.
 abbrev pub MaskedFromFirst : Type 0
 MaskedFromFirst = (whole : Net) (check : ℕ) (stream : List (List ℕ)) (came : List (Net × ℕ))
-    → 1 ≤ check → IsStream stream
-    → AreWithin whole (length stream) 0 0 came → BeginsFirst (other whole) came
+    → 1 ≤ check → IsStream stream → AreWithin whole (length stream) 0 0 came → BeginsFirst (other whole) came
     → IsMasked whole check stream came
 
 -- numbers as they arrive: network A, which is ahead, loses 1
@@ -92,8 +89,7 @@ LossNotMasked =
 -- The bound on the lag is exact, for each window: if network A has carried 256 - window frames more than B, B's next
 -- frame, an old one, is accepted as new.
 abbrev pub NumbersClash : Type 0
-NumbersClash = (check window lag place : ℕ) → 1 ≤ check → 1 ≤ window → 1 ≤ lag
-    → lag + window ≡ 256 → 1 ≤ place
+NumbersClash = (check window lag place : ℕ) → 1 ≤ check → 1 ≤ window → 1 ≤ lag → lag + window ≡ 256 → 1 ≤ place
     → is_accepted (record { check = check; window = window }) (record {
       seen_a = Some (sequence_number (place + lag - 1));
       seen_b = Some (sequence_number (place - 1));

@@ -19,11 +19,9 @@ use Rattle.afdx_legal.specs.Allowed.{IsAllowed, messages_of}
 use Rattle.afdx_legal.specs.Done.{IsHandedWhole}
 use Rattle.afdx_legal.specs.Own.{longer as longer_stream, own_stream}
 use Rattle.afdx_laws.specs.Policer.{Charge, Rule, Passage, AllPass, IsOnItsWay, rule_around}
-use Rattle.afdx_laws.specs.Receiver.{Tolerance, IsFitFor, begin, received, carried}
-use Rattle.afdx_laws.specs.Networks.{most_carried}
+use Rattle.afdx_laws.specs.Receiver.{Tolerance, IsFitFor, begin, received, carried, most_carried}
 use Rattle.afdx_laws.specs.Loss.{AreClose, next_alone, frames_at}
-use Rattle.afdx_laws.specs.Messages.{messages_in, AreFirst}
-use Rattle.afdx_laws.specs.Handed.{AreCarriedOf, longer}
+use Rattle.afdx_laws.specs.Delivery.{messages_in, AreFirst, AreCarriedOf, longer}
 
 abbrev pub id_at : Plan → ℕ → ℕ
 id_at plan k = (link_plan_at plan.links k).id.0
@@ -79,10 +77,8 @@ rule_at plan k around most =
 -- valid plan, if each is delayed by at most the jitter.
 abbrev pub LegalPasses : Type 0
 LegalPasses = (plan : Plan) (accepted : Accepted) (net : Net) (handed : List Entry)
-    → IsPlan plan → IsLegalOn plan accepted net handed
-    → (k : ℕ) → k < length plan.links
-    → ((sub : ℕ) → sub < (link_plan_at plan.links k).sub_vls
-    → All (IsAllowed plan k sub) (accepted k sub))
+    → IsPlan plan → IsLegalOn plan accepted net handed → (k : ℕ) → k < length plan.links
+    → ((sub : ℕ) → sub < (link_plan_at plan.links k).sub_vls → All (IsAllowed plan k sub) (accepted k sub))
     → (charge : Charge) (jitter around : ℕ) (passages : List Passage)
     → AllZip (IsOnItsWay around jitter) (link_stream (id_at plan k) handed) passages
     → AllPass charge (rule_at plan k around jitter) passages
@@ -116,14 +112,12 @@ pub record IsOn (plan : Plan) (k sub place : ℕ) : Type 0 where
 pub record AreOwnLists (plan : Plan) (k sub : ℕ) (own : ℕ → List (List ℕ)) (messages : List (List ℕ)) : Type 0 where
   pub sent : List Sent
   pub are : messages ≡ map (λ (s : Sent). s.bytes) sent
-  pub ports : (place : ℕ) → IsOn plan k sub place
-      → messages_of (port_plan_at plan.ports place) sent ≡ own place
+  pub ports : (place : ℕ) → IsOn plan k sub place → messages_of (port_plan_at plan.ports place) sent ≡ own place
 
 -- All that a plan's ports accepted was transmitted, and one network carried everything of a link, near to the other.
 -- Then the receiver's messages of each sub-VL are its ports' own lists.
 abbrev pub OwnListsArrive : Type 0
-OwnListsArrive = (plan : Plan) (own : ℕ → List (List ℕ)) (a b : List Entry)
-    → IsPlan plan → IsHandedWhole plan own a b
+OwnListsArrive = (plan : Plan) (own : ℕ → List (List ℕ)) (a b : List Entry) → IsPlan plan → IsHandedWhole plan own a b
     → (k sub : ℕ) → k < length plan.links → sub < (link_plan_at plan.links k).sub_vls
     → (lag : ℕ) (tolerance : Tolerance) (arrivals : List (Net × List ℕ)) → IsFitFor lag tolerance
     → AreCarriedOf lag (frames_of (id_at plan k) a) (frames_of (id_at plan k) b) arrivals

@@ -8,8 +8,7 @@ use Rattle.afdx_laws.specs.WorkedDelivery.{plain_receiver}
 -- Arrival `k` is at time `at k`. Each network delivers frame `i` at most `delay` after its release, and not before.
 abbrev pub IsDelivered : ℕ → (ℕ → ℕ) → (ℕ → ℕ) → List (Net × List ℕ) → Type 0
 IsDelivered delay released at arrivals =
-    (before after : List (Net × List ℕ)) (net : Net) (frame : List ℕ)
-    → arrivals ≡ before ++ (net, frame) ∷ after
+    (before after : List (Net × List ℕ)) (net : Net) (frame : List ℕ) → arrivals ≡ before ++ (net, frame) ∷ after
     → (released (length (carried net before)) ≤ at (length before))
     × (at (length before) ≤ released (length (carried net before)) + delay)
 
@@ -20,15 +19,12 @@ frames_behind gap delay = 1 + delay / gap
 -- If frames are released at least a gap apart, neither network lags the other by more than 1 + delay / gap frames.
 abbrev pub SkewIsNear : Type 0
 SkewIsNear = (gap delay : ℕ) (released at : ℕ → ℕ) (arrivals : List (Net × List ℕ)) → 1 ≤ gap
-    → ((i : ℕ) → released i + gap ≤ released (i + 1))
-    → ((k : ℕ) → at k ≤ at (k + 1))
-    → IsDelivered delay released at arrivals
-    → IsNear (frames_behind gap delay) arrivals
+    → ((i : ℕ) → released i + gap ≤ released (i + 1)) → ((k : ℕ) → at k ≤ at (k + 1))
+    → IsDelivered delay released at arrivals → IsNear (frames_behind gap delay) arrivals
 
 -- So a receiver tolerates exactly the delays under 255 - window gaps: under 254 gaps if only the next number is new.
 abbrev pub SkewIsFit : Type 0
-SkewIsFit = (gap delay : ℕ) (tolerance : Tolerance) → 1 ≤ gap
-    → 1 ≤ tolerance.check → 1 ≤ tolerance.window
+SkewIsFit = (gap delay : ℕ) (tolerance : Tolerance) → 1 ≤ gap → 1 ≤ tolerance.check → 1 ≤ tolerance.window
     → IsFitFor (frames_behind gap delay) tolerance ↔ (delay < (255 - tolerance.window) * gap)
 
 abbrev pub released_at : ℕ → ℕ

@@ -21,17 +21,13 @@ use Rattle.afdx_legal.specs.Allowed.{IsAllowed}
 use Rattle.afdx_legal.specs.Done.{IsHandedWhole}
 use Rattle.afdx_legal.specs.Own.{own_stream}
 use Rattle.afdx_legal.specs.WorkedMessage.{one_byte, one_byte_accepted, one_frame, one_entry_at}
-use Rattle.afdx_laws.specs.Policer.{Passage, AllPass, IsOnItsWay, by_bytes, by_frames}
-use Rattle.afdx_laws.specs.Receiver.{Tolerance, IsFitFor, begin, received, carried}
-use Rattle.afdx_laws.specs.Networks.{most_carried}
+use Rattle.afdx_laws.specs.Policer.{Passage, AllPass, IsOnItsWay, by_bytes, by_frames, passage}
+use Rattle.afdx_laws.specs.Receiver.{Tolerance, IsFitFor, begin, received, carried, most_carried}
 use Rattle.afdx_laws.specs.Loss.{AreClose}
-use Rattle.afdx_laws.specs.Messages.{messages_in, AreFirst}
-use Rattle.afdx_laws.specs.Handed.{AreCarriedOf}
+use Rattle.afdx_laws.specs.Delivery.{messages_in, AreFirst, AreCarriedOf}
 use Rattle.afdx_laws.specs.Plans.{frames_of, longer_of, rule_at, all_from, IsHandedOver, AreOwnLists, IsOnBoth, AreTwinsWhole}
 use Rattle.afdx_laws.specs.Rows.{BothFail, NeedsEach}
-use Rattle.afdx_laws.specs.WorkedDelivery.{plain_receiver, closed_receiver, back_frame}
-use Rattle.afdx_laws.specs.WorkedLoss.{first_lost, messages_despite}
-use Rattle.afdx_laws.specs.WorkedPolicing.{passage}
+use Rattle.afdx_laws.specs.WorkedDelivery.{plain_receiver, closed_receiver, back_frame, first_lost, messages_despite}
 
 -- what was sent to the network
 abbrev pub one_entry : Net → List Entry
@@ -76,8 +72,7 @@ other_own place = (2 ∷ []) ∷ []
 
 -- the receiver's messages are the port's own list
 abbrev pub OwnComes : (ℕ → List (List ℕ)) → List (Net × List ℕ) → Type 0
-OwnComes own arrivals =
-    AreOwnLists demo_plan 0 0 own (messages_in 0 (received number_in plain_receiver begin arrivals))
+OwnComes own arrivals = AreOwnLists demo_plan 0 0 own (messages_in 0 (received number_in plain_receiver begin arrivals))
 
 -- It meets the premises of the law of the ports' own lists, and the list arrives.
 pub record OneIsWhole : Type 0 where

@@ -1,32 +1,19 @@
 -- An emitter stays ready.
-use Rattle.std.proofs.Common.{ℕ, ◌≡◌, ◌<◌, List, [], length, arith, ap, ◌∙◌, sym, subst}
-use Rattle.std.specs.Prelude.{All}
-use Rattle.std.proofs.lemmas.List.Elements.{All-nil}
-use Rattle.afdx_plan.specs.Config.{Plan}
-use Rattle.afdx_plan.specs.declared.port_plan.PortPlan.{PortPlan}
-use Rattle.vl_shaper.specs.Pace.{Pace}
+use Rattle.run_laws.proofs.Names.{ℕ, ◌≡◌, ◌<◌, List, [], length, arith, ap, ◌∙◌, sym, subst, All, All-nil, Plan, PortPlan, Pace, Held, LinkState, held_at}
+use Rattle.run_laws.proofs.Names.{link_at, sent_by, taken_by, IsSameLink, turns_each, IsAllowed, AreAllowed, Tx, taken_in, IsOpenedSub, IsFreshTx, IsRun}
+use Rattle.run_laws.proofs.Names.{IsTurnAt, IsPlanned, IsReadyFor, IsReady, KeptReady}
 use Rattle.vl_link.specs.declared.sub_vl.SubVl.{SubVl}
 use Rattle.vl_link.specs.Seen.{Seen, taken_of}
-use Rattle.vl_link.specs.Links.{Held, LinkState, held_at, link_at, sent_by, taken_by, IsSameLink}
-use Rattle.vl_link.proofs.TurnLaws.{turns_each}
-use Rattle.afdx_legal.specs.Allowed.{IsAllowed, AreAllowed}
-use Rattle.afdx_tx.specs.Emitter.{Tx, taken_in, IsOpenedSub, IsFreshTx}
-use Rattle.afdx_tx.specs.Run.{IsRun, IsTurnAt}
 use Rattle.afdx_tx.specs.Closing.{ClosesTx}
 use Rattle.afdx_tx.specs.Publishing.{Publishes}
 use Rattle.afdx_tx.proofs.ClosedEmitter.{ClosedSub, ClosedLinks, closes_links}
-use Rattle.run_laws.specs.Runs.{IsPlanned, IsReadyFor, IsReady, KeptReady}
 
--- ready for a plan that is its own
 by_own : (plan : Plan) (tx : Tx) → tx.plan ≡ plan → IsReadyFor plan tx → IsReady tx
 by_own plan tx of ready = subst (λ (p : Plan). IsReadyFor p tx) (sym of) ready
 
--- a sub-VL that was just opened took nothing
-opened_taken : (own : SubVl) (ports : List PortPlan) (senders : ℕ) (held : Held) → IsOpenedSub own ports senders held
-    → taken_by held ≡ []
+opened_taken : (own : SubVl) (ports : List PortPlan) (senders : ℕ) (held : Held) → IsOpenedSub own ports senders held → taken_by held ≡ []
 opened_taken own ports senders held f = ap (λ (seen : Seen). sent_by held.ports (taken_of seen)) f.seen
 
--- an emitter that was just opened is ready
 opened : (config : Plan) (tx : Tx) → IsFreshTx config tx → IsReady tx
 opened config tx f = by_own config tx f.plan (record {
   count = f.links.count;
@@ -38,7 +25,6 @@ opened config tx f = by_own config tx f.plan (record {
       (All-nil (IsAllowed config k s));
 })
 
--- a link of the plan stays one
 planned_on : (plan : Plan) (old new : List LinkState) (k : ℕ) → IsSameLink (link_at old k) (link_at new k)
     → IsPlanned plan old k → IsPlanned plan new k
 planned_on plan old new k same own = record {
@@ -47,7 +33,6 @@ planned_on plan old new k same own = record {
   sub_vls = same.sub_vls ∙ own.sub_vls;
 }
 
--- a poll leaves an emitter ready
 polled : (now : ℕ) (old new : Tx) → IsReady old → new.plan ≡ old.plan
     → IsRun now old.links new.links old.lines new.lines → AreAllowed new.plan (taken_in new.links) → IsReady new
 polled now old new ready plan run allowed = by_own old.plan new plan (record {
@@ -60,13 +45,11 @@ polled now old new ready plan run allowed = by_own old.plan new plan (record {
     same k lt = turns_each (IsTurnAt now old.links new.links) (λ (i : ℕ). IsSameLink (link_at old.links i) (link_at new.links i))
         0 (length old.links) old.lines new.lines (λ i before behind did t. t.same) run.turns k (omega arith) (omega arith)
 
--- what a sub-VL took stays as it was when its queue is closed
 closed_taken : (old new : Held) → ClosedSub old new → taken_by new ≡ taken_by old
 closed_taken old new c =
     ap (λ (ports : List PortPlan). sent_by ports (taken_of new.seen)) c.keeps.ports
     ∙ ap (sent_by old.ports) c.keeps.taken
 
--- a close leaves an emitter ready
 closed : (old new : Tx) (vl sub total : ℕ) → IsReady old → ClosesTx old vl sub total new → IsReady new
 closed old new vl sub total ready c =
     let links : ClosedLinks old.links new.links = closes_links old vl sub total new c in
@@ -85,11 +68,8 @@ closed old new vl sub total ready c =
           (ready.allowed k s lt slt);
     })
 
--- so does publishing
 published : (old new : Tx) → IsReady old → Publishes old new → IsReady new
-published old new ready p =
-    subst IsReady (sym p.same) (record { count = ready.count; links = ready.links; allowed = ready.allowed })
+published old new ready p = subst IsReady (sym p.same) (record { count = ready.count; links = ready.links; allowed = ready.allowed })
 
--- and all of them
 pub kept_ready : KeptReady
 kept_ready = record { opened = opened; polled = polled; closed = closed; published = published }

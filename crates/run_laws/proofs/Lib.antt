@@ -1,5 +1,7 @@
+mod Names
 pub mod PollStep
 pub mod Ran
+pub mod NextRun
 pub mod KeepReady
 pub mod WorkedRuns
 pub mod Timely

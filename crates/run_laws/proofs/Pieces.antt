@@ -1,25 +1,14 @@
 -- How many fragments messages have.
-use Rattle.std.proofs.Common.{ℕ, suc, zero, ◌≡◌, ◌+◌, ◌-◌, ◌*◌, ◌<◌, ◌≤◌, true, ◌&&◌, nat_eq, List, [], ◌∷◌, ◌++◌, length, arith, refl, ap, ◌∙◌, sym, inl, inr}
-use Rattle.std.specs.Prelude.{All, Contains}
+use Rattle.run_laws.proofs.Names.{ℕ, suc, zero, ◌≡◌, ◌+◌, ◌-◌, ◌*◌, ◌<◌, ◌≤◌, true, ◌&&◌, nat_eq, List, [], ◌∷◌, ◌++◌, length, arith, refl, ap, ◌∙◌, sym, inl}
+use Rattle.run_laws.proofs.Names.{inr, All, Contains, mul-le, cases_lt, and_from, eq-eqb, length-append, length-map, append_assoc, All-head, All-tail}
+use Rattle.run_laws.proofs.Names.{All-contains, suc-mul, step_of, cutting, cut_by, pieces_from, Sent, fragments_at, fragments_from, unnumbered, LinkPlan}
+use Rattle.run_laws.proofs.Names.{PortPlan, pieces_of, port_pieces, pieces_on, most_pieces}
 use Rattle.std.specs.Int.{div_ceil}
 use Rattle.std.proofs.lemmas.Grind.{div_ceil_times}
-use Rattle.std.proofs.lemmas.Nat.{mul-le}
-use Rattle.std.proofs.lemmas.Bool.{cases_lt, and_from, eq-eqb}
-use Rattle.std.proofs.lemmas.List.{length-append, length-map, append_assoc}
-use Rattle.std.proofs.lemmas.List.Elements.{All-head, All-tail, All-contains}
 use Rattle.std.proofs.lemmas.List.Recursion.{max_bounds}
-use native.Mathlib.Nat.{suc-mul}
-use Rattle.afdx_plan.specs.Room.{step_of}
 use Rattle.afdx_frame.specs.declared.net.Net.{Net}
-use Rattle.afdx_frame.specs.Cutting.{cutting, cut_by, pieces_from}
-use Rattle.afdx_frame.specs.Fragments.{Sent, fragments_at, fragments_from}
 use Rattle.afdx_frame.proofs.CuttingLemmas.{cut_last, cut_more, step_pos, step_le}
-use Rattle.afdx_frame.specs.Frame.{unnumbered}
-use Rattle.afdx_plan.specs.declared.link_plan.LinkPlan.{LinkPlan}
-use Rattle.afdx_plan.specs.declared.port_plan.PortPlan.{PortPlan}
-use Rattle.plan_analysis.specs.Wait.{pieces_of, port_pieces, pieces_on, most_pieces}
 
--- one number alone lies so between
 one_quotient : (a s c d : ℕ) → a ≤ c * s → c * s < a + s → a ≤ d * s → d * s < a + s → c ≡ d
 one_quotient a s c d c_most c_least d_most d_least = elim (cases_lt c d) [
   | inl less ↦ let m = mul-le (suc c) s d s (omega arith) (omega arith) in absurd (omega arith)
@@ -29,11 +18,9 @@ one_quotient a s c d c_most c_least d_most d_least = elim (cases_lt c d) [
   ]
 ]
 
--- nothing has no part
 ceil_none : (s : ℕ) → 1 ≤ s → div_ceil 0 s ≡ 0
 ceil_none s step = grind (arith, div_ceil_times 0 s)
 
--- one step less is one part less
 ceil_less : (a s : ℕ) → 1 ≤ a → 1 ≤ s → div_ceil a s ≡ 1 + div_ceil (a - s) s
 ceil_less a s some step =
     let whole = div_ceil_times a s (omega arith) in
@@ -48,7 +35,6 @@ ceil_less a s some step =
       | inr more ↦ one_quotient a s (div_ceil a s) (1 + div_ceil (a - s) s) whole.0 whole.1 (omega arith) (omega arith)
     ]
 
--- more bytes have no fewer parts
 ceil_mono : (a b s : ℕ) → 1 ≤ s → a ≤ b → div_ceil a s ≤ div_ceil b s
 ceil_mono a b s step le =
     let of_a = div_ceil_times a s (omega arith) in
@@ -59,8 +45,7 @@ ceil_mono a b s step le =
     ]
 
 -- the number of pieces of some bytes
-cut_count : (turns room n : ℕ) → 8 ≤ room → 1 ≤ n → n ≤ turns
-    → length (cut_by turns room n) ≡ 1 + div_ceil (n - room) (step_of room)
+cut_count : (turns room n : ℕ) → 8 ≤ room → 1 ≤ n → n ≤ turns → length (cut_by turns room n) ≡ 1 + div_ceil (n - room) (step_of room)
 cut_count zero room n wide some few = absurd (omega arith)
 cut_count (suc turns) room n wide some few =
     let step = step_pos room wide in
@@ -81,7 +66,6 @@ pieces_count : (lengths : List ℕ) (start : ℕ) → length (pieces_from start 
 pieces_count [] start = refl
 pieces_count (len ∷ rest) start = ap suc (pieces_count rest (start + len))
 
--- a message has as many fragments as its bytes take
 pub message_pieces : (end_system room : ℕ) (net : Net) (place : ℕ) (sent : Sent) → 8 ≤ room
     → length (fragments_at end_system room net place sent) ≡ pieces_of room (length sent.bytes)
 unfolding fragments_at cutting
@@ -91,14 +75,13 @@ message_pieces end_system room net place sent wide =
     ∙ pieces_count (cut_by size room size) 0
     ∙ cut_count size room size wide (omega arith) (omega arith)
 
--- more bytes take no fewer
 pub pieces_mono : (room a b : ℕ) → 8 ≤ room → a ≤ b → pieces_of room a ≤ pieces_of room b
 pieces_mono room a b wide le =
     let step = step_pos room wide in
     let more = ceil_mono (8 + a - room) (8 + b - room) (step_of room) (omega arith) (omega arith) in
     omega arith
 
--- the fragments of messages none of which has more than so many
+-- messages of at most `most` fragments each
 pub list_most : (end_system room : ℕ) (net : Net) (place most : ℕ) (messages : List Sent) → 8 ≤ room
     → All (λ (m : Sent). pieces_of room (length m.bytes) ≤ most) messages
     → length (fragments_from end_system room net place messages) ≤ length messages * most
@@ -112,9 +95,7 @@ list_most end_system room net place most (sent ∷ later) wide few =
     let wide_sum = suc-mul (length later) most in
     omega arith
 
--- the fragments of two lists of messages
-pub fragments_both : (end_system room : ℕ) (net : Net) (place : ℕ) (xs ys : List Sent)
-    → fragments_from end_system room net place (xs ++ ys)
+pub fragments_both : (end_system room : ℕ) (net : Net) (place : ℕ) (xs ys : List Sent) → fragments_from end_system room net place (xs ++ ys)
     ≡ fragments_from end_system room net place xs ++ fragments_from end_system room net (place + length xs) ys
 fragments_both end_system room net place [] ys = ap (λ (p : ℕ). fragments_from end_system room net p ys) (omega arith)
 fragments_both end_system room net place (x ∷ xs) ys =
@@ -124,7 +105,7 @@ fragments_both end_system room net place (x ∷ xs) ys =
     (omega arith))
     ∙ sym (append_assoc (fragments_at end_system room net place x) _ _)
 
--- a port's message has at most as many as any of its sub-VL
+-- a port needs at most as many fragments per message as the neediest of its sub-VL
 pub port_most : (link : LinkPlan) (ports : List PortPlan) (port : PortPlan) → Contains ports port → port.vl.0 ≡ link.id.0
     → port_pieces link port ≤ most_pieces link port.sub ports
 port_most link ports port inside over =

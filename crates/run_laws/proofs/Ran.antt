@@ -1,135 +1,112 @@
--- A run of polls, as the polls of one link.
-use Rattle.std.proofs.Common.{ℕ, inl, inr, ◌≡◌, ◌≢◌, ◌+◌, ◌<◌, ◌≤◌, List, [], ◌∷◌, ◌++◌, Bool, false, ◌&&◌, cond, nat_le, arith, refl, ap, ◌∙◌, sym, Option, Some, None, ⊎_elim, ◌⊎◌, ◌-◌, ◌*◌, true, length, subst}
-use Rattle.std.specs.Prelude.{All, map}
-use Rattle.std.proofs.lemmas.Bool.Decides.{nat_tests}
-use Rattle.std.proofs.lemmas.Bool.{cases_eq, cases_lt, eq-eqb}
-use Rattle.std.proofs.lemmas.List.Sums.{sum_by-cons}
-use Rattle.std.proofs.lemmas.List.Elements.{All-cons, All-nil}
-use Rattle.afdx_frame.specs.Header.{sub_in}
-use Rattle.redundant_mux.specs.Entry.{Entry, entry}
-use Rattle.vl_shaper.specs.Polls.{Poll, ArePolled, latest_poll, is_of, released_by, IsServed, AreServed, HasAtPolls}
-use Rattle.run_laws.specs.NextInRun.{ComeWithin, latest_of, ComesBy, NextInRun}
-use Rattle.std.proofs.lemmas.List.{append_assoc, append-nil}
-use Rattle.afdx_plan.specs.Config.{Plan, IsPlan, link_plan_at}
-use Rattle.afdx_plan.specs.Plan.{bag_ms}
+-- A run of polls, as the polls of one link, and what it adds to the stream of the link.
+use Rattle.run_laws.proofs.Names.{false, ℕ, ◌≡◌, ◌+◌, ◌<◌, ◌≤◌, List, [], ◌∷◌, ◌++◌, Bool, true, ◌&&◌, cond, nat_eq, nat_le, arith, refl, ap, ◌∙◌, sym, Option}
+use Rattle.run_laws.proofs.Names.{Some, None, inl, inr, ◌-◌, ◌*◌, length, map, subst, All, nat_tests, cases_lt, sum_by-cons, All-cons, All-nil, All-drop}
+use Rattle.run_laws.proofs.Names.{filter-append, append_assoc, append-nil, length-append, map-append, Plan, link_plan_at, bag_ms, blanked, sub_in, Entry, entry}
+use Rattle.run_laws.proofs.Names.{Lines, BothEndure, both_none, both_on, stood_before, Poll, is_of, released_by, IsServed, AreServed, HasAtPolls, latest}
+use Rattle.run_laws.proofs.Names.{sub_stream, latest_push, stream_at, ArePolls, AreTimely, seen_of}
+use Rattle.std.proofs.Math.Seq.{drop-append_seam}
 use Rattle.afdx_plan.specs.declared.bag.Bag.{Bag}
-use Rattle.redundant_mux.specs.Lines.{Lines, BothEndure}
-use Rattle.redundant_mux.proofs.Enduring.{both_none, both_on, stood_before}
-use Rattle.vl_link.specs.Shown.{none_begun, begun_after, begun_by}
-use Rattle.afdx_legal.specs.Streams.{stamp_of, latest}
-use Rattle.afdx_legal.specs.Turns.{more_in}
-use Rattle.afdx_legal.proofs.LongerStream.{latest_push}
-use Rattle.afdx_tx.specs.DrainEnds.{stream_at}
-use Rattle.afdx_laws.specs.NextFragment.{link_wait}
-use Rattle.afdx_laws.proofs.NextFragment.{next_polled_in_time, wait_at}
-use Rattle.run_laws.specs.Runs.{EmitterPolls, DrainPolls, AreRuns}
-use Rattle.run_laws.proofs.PollStep.{Adds, StandsAt, gap_at, subs_at, StepsAt, emitter_step, emitter_lacks, drain_step, drain_lacks, emitter_endures, drain_poll_endures}
+use Rattle.run_laws.proofs.PollStep.{Adds, IsStep, StandsAt, gap_at, subs_at, StepsAt}
 
--- the entry that a poll released, if it released one, and those after it
+-- the entry that a poll released, if any, and those after it
 abbrev pub ShowsOne : ℕ → Option ℕ → (added rest : List Entry) → Type 0
 ShowsOne now None added rest = added ≡ rest
-ShowsOne now (Some chosen) added rest =
-    (e : Entry) × (added ≡ e ∷ rest) × (e.at ≡ now) × (sub_in e.frame ≡ chosen)
+ShowsOne now (Some chosen) added rest = (e : Entry) × (added ≡ e ∷ rest) × (e.at ≡ now) × (sub_in e.frame ≡ chosen)
 
 -- the entries that polls released, in order
 abbrev pub Show : List Poll → List Entry → Type 0
 Show [] added = added ≡ []
 Show (p ∷ polls) added = (rest : List Entry) × ShowsOne p.at p.released added rest × Show polls rest
 
--- the time of a poll
 abbrev pub at_of : Poll → ℕ
 at_of p = p.at
-
--- polls that come within the lateness
-pub polled_of : (late before : ℕ) (polls : List Poll) → ComeWithin late before (map at_of polls) → ArePolled late before polls
-polled_of late before [] come = tt
-polled_of late before (p ∷ polls) come = (come.1, polled_of late p.at polls come.2)
-
-pub latest_is : (before : ℕ) (polls : List Poll) → latest_poll before polls ≡ latest_of before (map at_of polls)
-latest_is before [] = refl
-latest_is before (p ∷ polls) = latest_is p.at polls
 
 -- what a poll adds to the count of a sub-VL's frames
 pub counted : (x bound : ℕ) (p : Poll) (polls : List Poll) → released_by x bound (p ∷ polls)
     ≡ cond (nat_le p.at bound && is_of x p.released) 1 0 + released_by x bound polls
 counted x bound p polls = sum_by-cons (λ (q : Poll). cond (nat_le q.at bound && is_of x q.released) 1 0) p polls
 
--- a poll that released none of them adds nothing
-pub adds_none : (x bound : ℕ) (p : Poll) (polls : List Poll) → (nat_le p.at bound && is_of x p.released) ≡ false
-    → released_by x bound (p ∷ polls) ≡ released_by x bound polls
-adds_none x bound p polls none = grind (arith, counted x bound p polls)
+-- the fragments in two parts of a stream
+pub seen_append : (x : ℕ) (S U : List Entry) → seen_of x (S ++ U) ≡ seen_of x S ++ seen_of x U
+seen_append x S U =
+    ap (map (λ (e : Entry). blanked e.frame)) (filter-append (λ (e : Entry). nat_eq (sub_in e.frame) x) S U)
+    ∙ map-append (λ (e : Entry). blanked e.frame) (sub_stream x S) (sub_stream x U)
+
+pub seen_both : (x : ℕ) (S U : List Entry) → length (seen_of x (S ++ U)) ≡ length (seen_of x S) + length (seen_of x U)
+seen_both x S U = ap length (seen_append x S U) ∙ length-append (seen_of x S) (seen_of x U)
+
+-- one entry more, in front
+seen_first : (x : ℕ) (e : Entry) (U : List Entry) → length (seen_of x (e ∷ U)) ≡ cond (nat_eq (sub_in e.frame) x) 1 0 + length (seen_of x U)
+seen_first x e U = grind (arith, nat_tests)
+
+-- what a poll adds to the fragments that were sent
+pub adds_seen : (now x : ℕ) (released : Option ℕ) (S T : List Entry) → Adds now released S T
+    → length (seen_of x T) ≡ length (seen_of x S) + cond (is_of x released) 1 0
+adds_seen now x None S T same = ap (λ (s : List Entry). length (seen_of x s)) same ∙ omega arith
+adds_seen now x (Some chosen) S T (frame, of, more) =
+    ap (λ (s : List Entry). length (seen_of x s)) more ∙ seen_both x S (entry now frame ∷ [])
+    ∙ ap (λ (n : ℕ). length (seen_of x S) + n) (seen_first x (entry now frame) [])
+    ∙ ap (λ (c : ℕ). length (seen_of x S) + (cond (nat_eq c x) 1 0 + 0)) of ∙ omega arith
+
+-- the times of polls don't fall
+abbrev pub Rise : ℕ → List Poll → Type 0
+Rise before [] = Unit {0}
+Rise before (p ∷ polls) = (before ≤ p.at) × Rise p.at polls
+
+pub timely_rise : (gap late end before : ℕ) (polls : List Poll) → AreTimely gap late end before (map at_of polls) → Rise before polls
+timely_rise gap late end before [] timely = tt
+timely_rise gap late end before (p ∷ polls) timely = (timely.0, timely_rise gap late end p.at polls timely.2)
+
+-- entries by a time, with at least `many` of a sub-VL
+pub record IsSplit (x bound many : ℕ) (added : List Entry) : Type 0 where
+  pub soon : List Entry
+  pub more : List Entry
+  pub is : added ≡ soon ++ more
+  pub by : All (λ (e : Entry). e.at ≤ bound) soon
+  pub seen : many ≤ length (seen_of x soon)
 
 -- nothing is counted after the bound
-late_none : (late x bound before : ℕ) (polls : List Poll) → bound < before → ComeWithin late before (map at_of polls)
-    → released_by x bound polls ≡ 0
-late_none late x bound before [] past come = refl
-late_none late x bound before (p ∷ polls) past come =
+past_none : (x bound before : ℕ) (polls : List Poll) → bound < before → Rise before polls → released_by x bound polls ≡ 0
+past_none x bound before [] past rise = refl
+past_none x bound before (p ∷ polls) past rise =
     let later : bound < p.at = omega arith in
-    grind (arith, nat_tests, adds_none x bound p polls, late_none late x bound p.at polls later come.2)
+    grind (arith, nat_tests, counted x bound p polls, past_none x bound p.at polls later rise.1)
 
--- the first entry of a sub-VL is among these, and was released by this time
-pub record IsFound (x bound : ℕ) (added : List Entry) : Type 0 where
-  pub between : List Entry
-  pub next : Entry
-  pub later : List Entry
-  pub is : added ≡ between ++ next ∷ later
-  pub others : All (λ (e : Entry). sub_in e.frame ≢ x) between
-  pub its : sub_in next.frame ≡ x
-  pub soon : next.at ≤ bound
-
--- after an entry of another sub-VL
-found_after : (x bound : ℕ) (e : Entry) (added rest : List Entry) → added ≡ e ∷ rest → sub_in e.frame ≢ x
-    → IsFound x bound rest → IsFound x bound added
-found_after x bound e added rest is ne found = record {
-  between = e ∷ found.between;
-  next = found.next;
-  later = found.later;
-  is = is ∙ ap (λ (es : List Entry). e ∷ es) found.is;
-  others = All-cons (λ (d : Entry). sub_in d.frame ≢ x) e found.between ne found.others;
-  its = found.its;
-  soon = found.soon;
-}
-
--- one that was released by this time is found
-pub finds : (polls : List Poll) (added : List Entry) (late x bound before : ℕ)
-    → ComeWithin late before (map at_of polls)
-    → Show polls added
-    → 1 ≤ released_by x bound polls → IsFound x bound added
-finds [] added late x bound before come show one = absurd (omega arith)
-finds (p ∷ polls) added late x bound before come show one =
-    by_release p.released refl show.1 (finds polls show.0 late x bound p.at come.2 show.2)
+-- what polls release by a time comes first
+pub splits : (polls : List Poll) (added : List Entry) (x bound before : ℕ) → Rise before polls → Show polls added
+    → IsSplit x bound (released_by x bound polls) added
+splits [] added x bound before rise show = record { soon = []; more = added; is = refl; by = All-nil _; seen = omega arith }
+splits (p ∷ polls) added x bound before rise show = elim (cases_lt bound p.at) [
+  | inl past ↦
+      let none = past_none x bound p.at (p ∷ polls) past (omega arith, rise.1) in
+      record { soon = []; more = added; is = refl; by = All-nil _; seen = omega arith }
+  | inr soon ↦ by_release soon p.released refl show.1 (splits polls show.0 x bound p.at rise.1 show.2)
+]
   where
-    by_release : (o : Option ℕ) → p.released ≡ o → ShowsOne p.at o added show.0
-        → (1 ≤ released_by x bound polls → IsFound x bound show.0) → IsFound x bound added
-    by_release None is same rest = rw same (rest (grind (arith, adds_none x bound p polls, is)))
-    by_release (Some chosen) is (e, more, at, of) rest = elim (cases_eq chosen x) [
-      | inl own ↦ record {
-        between = [];
-        next = e;
-        later = show.0;
-        is = more;
-        others = All-nil (λ (d : Entry). sub_in d.frame ≢ x);
-        its = of ∙ own;
-        soon = elim (cases_lt bound p.at) [
-          | inl past ↦
-              let none = late_none late x bound p.at (p ∷ polls) past (omega arith, omega arith, come.2) in
-              absurd (omega arith)
-          | inr soon ↦ omega arith
-        ];
-      }
-      | inr other ↦ found_after x bound e added show.0 more (λ (mine : sub_in e.frame ≡ x). other (sym of ∙ mine))
-          (rest (grind (arith, nat_tests, adds_none x bound p polls, is)))
-    ]
+    by_release : p.at ≤ bound → (o : Option ℕ) → p.released ≡ o → ShowsOne p.at o added show.0 → IsSplit x bound (released_by x bound polls) show.0
+        → IsSplit x bound (released_by x bound (p ∷ polls)) added
+    by_release soon None is same rest =
+        let few = rest.seen in
+        let none : (nat_le p.at bound && is_of x p.released) ≡ false = grind (arith, is) in
+        let whole : released_by x bound (p ∷ polls) ≡ released_by x bound polls = grind (arith, counted x bound p polls) in
+        record { soon = rest.soon; more = rest.more; is = same ∙ rest.is; by = rest.by; seen = omega arith }
+    by_release soon (Some chosen) is (e, more, at, of) rest =
+        let whole = counted x bound p polls in
+        let first = seen_first x e rest.soon in
+        let test : cond {A = ℕ} (nat_le p.at bound && is_of x p.released) 1 0 ≤ cond {A = ℕ} (nat_eq (sub_in e.frame) x) 1 0 = grind (arith, nat_tests, is, of) in
+        let few = rest.seen in
+        record {
+          soon = e ∷ rest.soon;
+          more = rest.more;
+          is = more ∙ ap (λ (es : List Entry). e ∷ es) rest.is;
+          by = All-cons (λ (d : Entry). d.at ≤ bound) e rest.soon (omega arith) rest.by;
+          seen = omega arith;
+        }
 
--- whether a message of a sub-VL is begun, after one more entry
-begun_push : (begun : ℕ → Bool) (S : List Entry) (e : Entry) (x : ℕ)
-    → begun_by begun (S ++ e ∷ []) x ≡ begun_after (begun_by begun S) e x
-begun_push begun [] e x = refl
-begun_push begun (d ∷ S) e x = begun_push (begun_after begun d) S e x
-
--- a poll, as a link sees it
-abbrev pub poll_of : ℕ → (ℕ → Bool) → Option ℕ → Poll
-poll_of now has released = record { at = now; has = has; released = released }
+-- what holds of a list holds of its end
+pub all_back : {X : Type 0} (P : X → Type 0) (front ys : List X) → All P (front ++ ys) → All P ys
+all_back {X = X} P front ys all =
+    subst (λ (zs : List X). All P zs) (drop-append_seam front ys) (All-drop P (length front) (front ++ ys) all)
 
 -- Polls of a link at these times, which find a fragment of a sub-VL waiting until `many` of its frames are
 -- released, and what they add to its stream.
@@ -146,67 +123,60 @@ pub record HaveRun (gap subs x many : ℕ) (moments : List ℕ) (S T : List Entr
 abbrev pub left : ℕ → ℕ → Option ℕ → ℕ
 left x many released = many - cond (is_of x released) 1 0
 
--- a message of a sub-VL is begun while one of its fragments is waited for
-abbrev Waits : ℕ → ℕ → List Entry → Type 0
-Waits x many S = 1 ≤ many → begun_by none_begun S x ≡ true
-
--- so it is after a poll
-still_waits : (now x many : ℕ) (released : Option ℕ) (S M : List Entry) → many ≤ 1 → Waits x many S → Adds now released S M
-    → Waits x (left x many released) M
-still_waits now x many released S M few begun adds some = grind (arith, nat_tests, begun_push none_begun S)
-
 -- one poll before others
-pub run_more : (now gap subs x many : ℕ) (moments : List ℕ) (released : Option ℕ) (has : ℕ → Bool) (S M T : List Entry)
-    → IsServed gap subs (latest None S) (poll_of now has released) released
-    → (1 ≤ many → has x ≡ true) → Adds now released S M
-    → HaveRun gap subs x (left x many released) moments M T → HaveRun gap subs x many (now ∷ moments) S T
-run_more now gap subs x many moments None has S M T served had same run = record {
-  polls = poll_of now has None ∷ run.polls;
-  at = ap (λ (ms : List ℕ). now ∷ ms) run.at;
-  served = (served, rw same at run.served);
-  had = (had, run.had);
-  added = run.added;
-  grown = run.grown ∙ ap (λ (l : List Entry). l ++ run.added) same;
-  show = (run.added, refl, run.show);
-}
-run_more now gap subs x many moments (Some chosen) has S M T served had (frame, of, more) run =
-    let last : latest None M ≡ Some (record { at = now; sub = chosen }) =
-    grind (arith, latest_push None S (entry now frame), of, more) in
-    record {
-      polls = poll_of now has (Some chosen) ∷ run.polls;
+run_more : (now gap subs x many : ℕ) (b : Bool) (moments : List ℕ) (S M T : List Entry) (step : IsStep now gap subs x b S M)
+    → (1 ≤ many → b ≡ true) → HaveRun gap subs x (left x many step.released) moments M T → HaveRun gap subs x many (now ∷ moments) S T
+run_more now gap subs x many b moments S M T step waits run = by_release step.released step.served step.adds run
+  where
+    by_release : (o : Option ℕ) → IsServed gap subs (latest None S) (record { at = now; has = step.has; released = o }) o → Adds now o S M
+        → HaveRun gap subs x (left x many o) moments M T → HaveRun gap subs x many (now ∷ moments) S T
+    by_release None served same run = record {
+      polls = record { at = now; has = step.has; released = None } ∷ run.polls;
       at = ap (λ (ms : List ℕ). now ∷ ms) run.at;
-      served = (served, rw last at run.served);
-      had = (had, run.had);
-      added = entry now frame ∷ run.added;
-      grown = run.grown ∙ ap (λ (l : List Entry). l ++ run.added) more ∙ append_assoc S (entry now frame ∷ []) run.added;
-      show = (run.added, (entry now frame, refl, refl, of), run.show);
+      served = (served, rw same at run.served);
+      had = ((λ some. step.waits (waits some)), run.had);
+      added = run.added;
+      grown = run.grown ∙ ap (λ (l : List Entry). l ++ run.added) same;
+      show = (run.added, refl, run.show);
     }
+    by_release (Some chosen) served (frame, of, more) run =
+        let last : latest None M ≡ Some (record { at = now; sub = chosen }) =
+        grind (arith, latest_push None S (entry now frame), of, more) in
+        record {
+          polls = record { at = now; has = step.has; released = Some chosen } ∷ run.polls;
+          at = ap (λ (ms : List ℕ). now ∷ ms) run.at;
+          served = (served, rw last at run.served);
+          had = ((λ some. step.waits (waits some)), run.had);
+          added = entry now frame ∷ run.added;
+          grown = run.grown ∙ ap (λ (l : List Entry). l ++ run.added) more ∙ append_assoc S (entry now frame ∷ []) run.added;
+          show = (run.added, (entry now frame, refl, refl, of), run.show);
+        }
 
--- what a poll does to the stream of a link
-step_of : (now : ℕ) (plan : Plan) (k x : ℕ) (lines after : Lines) → IsPlan plan → k < length plan.links
-    → EmitterPolls plan now lines after ⊎ DrainPolls plan now lines after → StandsAt plan k after
-    → StepsAt now plan k x (begun_by none_begun (stream_at plan k lines) x) lines after
-step_of now plan k x lines after valid inside p stands =
-    let b = begun_by none_begun (stream_at plan k lines) x in
-    ⊎_elim
-    (λ emitter. emitter_step now plan k x b lines after valid inside emitter (emitter_lacks now plan k x lines after inside emitter) stands)
-    (λ drain. drain_step now plan drain.accepted k x b lines after valid inside drain.run
-    (drain_lacks now plan drain.accepted k x (stream_at plan k lines) inside drain.allowed) stands)
-    p
+-- Polls of one kind step on the link at a place: by this test of its stream a fragment of a sub-VL waits, as long as
+-- some are awaited.
+pub record AreSteps (plan : Plan) (k x : ℕ) (Polls : ℕ → Lines → Lines → Type 0) (Awaits : ℕ → List Entry → Type 0)
+    (test : List Entry → Bool) : Type 0 where
+  pub endure : (now : ℕ) (lines after : Lines) → Polls now lines after → BothEndure lines after
+  pub step : (now : ℕ) (lines after : Lines) → Polls now lines after → StandsAt plan k after
+      → StepsAt now plan k x (test (stream_at plan k lines)) lines after
+  pub waits : (many : ℕ) (S : List Entry) → Awaits many S → 1 ≤ many → test S ≡ true
+  pub still : (now many : ℕ) (released : Option ℕ) (S M : List Entry) → Awaits many S → Adds now released S M
+      → Awaits (left x many released) M
 
--- networks that are down after polls were down before them, or failed
-runs_endure : (plan : Plan) (moments : List ℕ) (lines after : Lines) → AreRuns plan moments lines after → BothEndure lines after
-runs_endure plan [] lines after r = subst (BothEndure lines) (sym r) (both_none lines)
-runs_endure plan (now ∷ moments) lines after r =
-    both_on lines r.0 after
-    (⊎_elim (λ emitter. emitter_endures now plan lines r.0 emitter) (λ drain. drain_poll_endures now plan lines r.0 drain) r.1)
-    (runs_endure plan moments r.0 after r.2)
+-- they never bring a network up
+polls_endure : (Polls : ℕ → Lines → Lines → Type 0) (moments : List ℕ) (lines after : Lines)
+    → ((now : ℕ) (lines after : Lines) → Polls now lines after → BothEndure lines after)
+    → ArePolls Polls moments lines after → BothEndure lines after
+polls_endure Polls [] lines after each r = subst (BothEndure lines) (sym r) (both_none lines)
+polls_endure Polls (now ∷ moments) lines after each r =
+    both_on lines r.0 after (each now lines r.0 r.1) (polls_endure Polls moments r.0 after each r.2)
 
 -- the run of polls
-have_run : (moments : List ℕ) (plan : Plan) (k x many : ℕ) (lines after : Lines) → IsPlan plan → k < length plan.links
-    → AreRuns plan moments lines after → StandsAt plan k after → many ≤ 1 → Waits x many (stream_at plan k lines)
+pub have_run : (moments : List ℕ) (plan : Plan) (k x many : ℕ) (Polls : ℕ → Lines → Lines → Type 0) (Awaits : ℕ → List Entry → Type 0)
+    (test : List Entry → Bool) (lines after : Lines) → AreSteps plan k x Polls Awaits test
+    → ArePolls Polls moments lines after → StandsAt plan k after → Awaits many (stream_at plan k lines)
     → HaveRun (gap_at plan k) (subs_at plan k) x many moments (stream_at plan k lines) (stream_at plan k after)
-have_run [] plan k x many lines after valid inside r stands few begun = record {
+have_run [] plan k x many Polls Awaits test lines after each r stands awaits = record {
   polls = [];
   at = refl;
   served = tt;
@@ -215,63 +185,14 @@ have_run [] plan k x many lines after valid inside r stands few begun = record {
   grown = ap (stream_at plan k) r ∙ sym (append-nil (stream_at plan k lines));
   show = refl;
 }
-have_run (now ∷ moments) plan k x many lines after valid inside r stands few begun =
+have_run (now ∷ moments) plan k x many Polls Awaits test lines after each r stands awaits =
     let stood : StandsAt plan k r.0 = stood_before r.0 after (link_plan_at plan.links k).networks
-    (runs_endure plan moments r.0 after r.2) stands in
-    let step : StepsAt now plan k x (begun_by none_begun (stream_at plan k lines) x) lines r.0 = step_of now plan k x lines r.0 valid inside r.1 stood in
-    let waits = still_waits now x many step.released (stream_at plan k lines) (stream_at plan k r.0) few begun step.adds in
-    run_more now (gap_at plan k) (subs_at plan k) x many moments step.released step.has
-    (stream_at plan k lines) (stream_at plan k r.0) (stream_at plan k after)
-    step.served (λ some. step.waits (begun some)) step.adds
-    (have_run moments plan k x (left x many step.released) r.0 after valid inside r.2 stands
-    (fewer many (is_of x step.released) few) waits)
-  where
-    fewer : (many : ℕ) (t : Bool) → many ≤ 1 → many - cond t 1 0 ≤ 1
-    fewer many t few = grind arith
+    (polls_endure Polls moments r.0 after each.endure r.2) stands in
+    let step : StepsAt now plan k x (test (stream_at plan k lines)) lines r.0 = each.step now lines r.0 r.1 stood in
+    run_more now (gap_at plan k) (subs_at plan k) x many (test (stream_at plan k lines)) moments (stream_at plan k lines)
+    (stream_at plan k r.0) (stream_at plan k after) step (each.waits many (stream_at plan k lines) awaits)
+    (have_run moments plan k x (left x many step.released) Polls Awaits test r.0 after each r.2 stands
+    (each.still now many step.released (stream_at plan k lines) (stream_at plan k r.0) awaits step.adds))
 
--- a gap isn't nothing
 pub some_gap : (bag : Bag) → 1 ≤ 1000 * bag_ms bag
 some_gap bag = grind arith
-
--- the next entry of the sub-VL, by a moment
-next_by : (T earlier added : List Entry) (first : Entry) (bound : ℕ) → more_in first.frame ≡ true
-    → T ≡ (earlier ++ first ∷ []) ++ added → IsFound (sub_in first.frame) bound added → ComesBy T first bound
-next_by T earlier added first bound more grown found = record {
-  between = found.between;
-  next = found.next;
-  are = record {
-    before = earlier;
-    after = found.later;
-    is = grown ∙ append_assoc earlier (first ∷ []) added ∙ ap (λ (es : List Entry). earlier ++ first ∷ es) found.is;
-    more = more;
-    others = found.others;
-    its = found.its;
-  };
-  soon = found.soon;
-}
-
--- the law
-pub next_in_run_holds : NextInRun
-next_in_run_holds plan moments lines after k late earlier first valid inside ends more below runs stands come reach =
-    let x : ℕ = sub_in first.frame in
-    let gap : ℕ = gap_at plan k in
-    let subs : ℕ = subs_at plan k in
-    let S : List Entry = stream_at plan k lines in
-    let bound : ℕ = first.at + link_wait late (link_plan_at plan.links k) in
-    let begun : begun_by none_begun (stream_at plan k lines) (sub_in first.frame) ≡ true =
-    rw (ends, begun_push none_begun earlier first x, eq-eqb x x refl) more in
-    let run = have_run moments plan k x 1 lines after valid inside runs stands (omega arith) (λ some. begun) in
-    let last : latest None (stream_at plan k lines) ≡ Some (stamp_of first) =
-    ap (latest None) ends ∙ latest_push None earlier first in
-    let within : ComeWithin late first.at (map at_of run.polls) = rw run.at come in
-    let latest_moment : latest_poll first.at run.polls ≡ latest_of first.at moments =
-    latest_is first.at run.polls ∙ ap (latest_of first.at) run.at in
-    let one = next_polled_in_time subs x gap late first.at run.polls below (some_gap (link_plan_at plan.links k).bag)
-    (rw last at run.served) (polled_of late first.at run.polls within) run.had (rw latest_moment reach) in
-    let found = finds run.polls run.added late x bound first.at within run.show one in
-    let grown : stream_at plan k after ≡ (earlier ++ first ∷ []) ++ run.added =
-    run.grown ∙ ap (λ (l : List Entry). l ++ run.added) ends in
-    let comes = next_by (stream_at plan k after) earlier run.added first bound more grown found in
-    let soon = comes.soon in
-    let longest = wait_at late plan.links k inside in
-    (comes, record { between = comes.between; next = comes.next; are = comes.are; soon = omega arith })

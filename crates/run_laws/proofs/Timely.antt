@@ -1,25 +1,18 @@
--- How long a sub-VL waits, where polls come when its link is due.
-use Rattle.std.proofs.Common.{ℕ, suc, zero, ◌≡◌, ◌⊎◌, ◌+◌, ◌-◌, ◌*◌, ◌%◌, ◌<◌, ◌≤◌, List, [], ◌∷◌, Bool, true, false, ◌&&◌, cond, nat_le, arith, refl, ap, ◌∙◌, sym, Option, Some, None, inl, inr, map}
-use native.Mathlib.Nat.{mul-suc}
+-- How long a sub-VL waits if polls come when its link is due.
+use Rattle.run_laws.proofs.Names.{ℕ, suc, zero, ◌≡◌, ◌⊎◌, ◌+◌, ◌-◌, ◌*◌, ◌%◌, ◌<◌, ◌≤◌, List, [], ◌∷◌, Bool, true, false, ◌&&◌, cond, nat_le, arith, refl, ap}
+use Rattle.run_laws.proofs.Names.{◌∙◌, sym, Option, Some, None, inl, inr, map, mul-suc, mul-le, cases_lt, cases_eq, eq-eqb, ne_eqb, le-leb, is_due, turn_of}
+use Rattle.run_laws.proofs.Names.{IsLater, Poll, IsServed, AreServed, HasAtPolls, is_of, released_by, ComeWithin, latest_of, ComesIn, AreTimely, ApartAreTimely}
 use Rattle.std.proofs.Math.Nat.{mod-add-mod, mod-lt}
-use Rattle.std.proofs.lemmas.Nat.{mul-le}
-use Rattle.std.proofs.lemmas.Bool.{cases_lt, cases_eq, eq-eqb, ne_eqb, le-leb}
 use Rattle.vl_shaper.specs.Choices.{Choice, next_turn, IsChosen}
-use Rattle.vl_shaper.specs.Pace.{is_due, turn_of, IsLater}
-use Rattle.vl_shaper.specs.Polls.{Poll, IsServed, AreServed, HasAtPolls, is_of, released_by}
 use Rattle.vl_shaper.specs.declared.shaper.Stamp.{Stamp}
 use Rattle.vl_shaper.proofs.OneEach.{back, back_lt, back_self, chosen_behind, turn_cases}
-use Rattle.run_laws.specs.NextInRun.{ComeWithin, latest_of}
-use Rattle.run_laws.specs.Timely.{ComesIn, AreTimely, ApartAreTimely}
 use Rattle.run_laws.proofs.Ran.{at_of, counted}
 
--- a poll comes in its span, where the end isn't nearer
 comes_due : (gap late end before : ℕ) (moments : List ℕ) → AreTimely gap late end before moments → before + (gap + late) ≤ end
     → ComesIn (before + gap) (before + (gap + late)) moments
 comes_due gap late end before [] timely far = absurd (omega arith)
 comes_due gap late end before (now ∷ moments) timely far = timely.1 far
 
--- what comes in a span comes after the start
 not_before : (gap late end before low high : ℕ) (moments : List ℕ) → AreTimely gap late end before moments → ComesIn low high moments
     → before ≤ high
 not_before gap late end before low high [] timely comes = absurd comes
@@ -28,7 +21,6 @@ not_before gap late end before low high (now ∷ moments) timely (inr later) =
     let rest = not_before gap late end now low high moments timely.2 later in
     omega arith
 
--- a poll that released one of them adds it to the count
 counts : (x moment : ℕ) (poll : Poll) (polls : List Poll) → poll.at ≤ moment → is_of x poll.released ≡ true
     → released_by x moment (poll ∷ polls) ≡ 1 + released_by x moment polls
 counts x moment poll polls soon mine =
@@ -41,7 +33,6 @@ counts x moment poll polls soon mine =
 no_less : (x moment : ℕ) (poll : Poll) (polls : List Poll) → released_by x moment polls ≤ released_by x moment (poll ∷ polls)
 no_less x moment poll polls = let whole = counted x moment poll polls in omega arith
 
--- a number of choices that is one fewer needs one pause less
 one_pause : (fewer more pause : ℕ) → suc fewer ≤ more → pause + fewer * pause ≤ more * pause
 one_pause fewer more pause less = let m = mul-le (suc fewer) pause more pause less (omega arith) in omega arith
 
@@ -50,8 +41,7 @@ by_release None = inl refl
 by_release (Some chosen) = inr (chosen, refl)
 
 -- a link is due a gap after a time that isn't before its last release
-due_then : (gap before moment : ℕ) (last : Option Stamp) → IsLater last before → before + gap ≤ moment
-    → is_due gap last moment ≡ true
+due_then : (gap before moment : ℕ) (last : Option Stamp) → IsLater last before → before + gap ≤ moment → is_due gap last moment ≡ true
 due_then gap before moment None after late = refl
 due_then gap before moment (Some l) after late = le-leb gap (moment - l.at) (omega arith)
 
@@ -63,15 +53,14 @@ not_due gap subs before x last p xl after idle had = elim (cases_lt p.at (before
   | inr due ↦ absurd (cc (had, idle (due_then gap before p.at last after due) x xl))
 ]
 
--- the sub-VLs are asked in cyclic order behind one of them
+-- the cyclic order of the sub-VLs starts after `l`
 abbrev pub IsBehind : ℕ → ℕ → Option Stamp → Type 0
 IsBehind subs l last = (c : Choice) → IsChosen subs (turn_of subs last) c → IsChosen subs (next_turn subs l) c
 
--- at first behind the last of them
 from_0 : (subs k : ℕ) → k < subs → next_turn subs (subs - 1) k ≡ k
 from_0 subs k lt = grind (arith, turn_cases subs (subs - 1) k (omega arith) lt)
 
--- the one behind which they are asked
+-- the sub-VL after which the order starts
 abbrev pub behind : ℕ → Option Stamp → ℕ
 behind subs None = subs - 1
 behind subs (Some l) = l.sub % subs
@@ -99,14 +88,12 @@ pub is_behind : (subs : ℕ) (last : Option Stamp) → IsBehind subs (behind sub
 is_behind subs None c ch = reordered subs (turn_of subs None) (next_turn subs (subs - 1)) c (from_0 subs) ch
 is_behind subs (Some l) c ch = reordered subs (turn_of subs (Some l)) (next_turn subs (l.sub % subs)) c (λ k lt. same_turn subs l.sub k) ch
 
--- from any poll on: there is still a round for each turn but what is left of the first
+-- from any poll on, by induction: a round per frame, less what the order has passed of the first round
 in_due : (polls : List Poll) (subs x l f gap late before polled end : ℕ) (last : Option Stamp)
-    → x < subs → l < subs → 1 ≤ gap → IsLater last before → IsBehind subs l last
-    → AreServed gap subs last polls → HasAtPolls x f polls
+    → x < subs → l < subs → 1 ≤ gap → IsLater last before → IsBehind subs l last → AreServed gap subs last polls → HasAtPolls x f polls
     → AreTimely gap late end polled (map at_of polls)
     → (before + (gap + late) ≤ end → ComesIn (before + gap) (before + (gap + late)) (map at_of polls))
-    → (1 ≤ f → before + (subs * f - back subs x l) * (gap + late) ≤ end)
-    → f ≤ released_by x end polls
+    → (1 ≤ f → before + (subs * f - back subs x l) * (gap + late) ≤ end) → f ≤ released_by x end polls
 in_due polls subs x l zero gap late before polled end last xl ll some after order served has timely span enough = omega arith
 in_due [] subs x l (suc f) gap late before polled end last xl ll some after order served has timely span enough =
     let b = back_lt subs x l xl ll in
@@ -171,20 +158,16 @@ in_due (p ∷ ps) subs x l (suc f) gap late before polled end last xl ll some af
     first_soon now before moments timely (inl here) = here.1
     first_soon now before moments timely (inr later) = not_before gap late end now _ _ moments timely later
 
--- So many frames of a sub-VL are released within as many rounds, each turn of which takes a gap and a lateness.
-pub timely_released : (polls : List Poll) (subs x f gap late start end : ℕ) (last : Option Stamp)
-    → x < subs → 1 ≤ gap → IsLater last start
-    → AreServed gap subs last polls → HasAtPolls x f polls
-    → AreTimely gap late end start (map at_of polls)
-    → start + subs * f * (gap + late) ≤ end
-    → f ≤ released_by x end polls
+-- `f` frames of a sub-VL are released within `f` rounds, of one gap and one lateness per sub-VL.
+pub timely_released : (polls : List Poll) (subs x f gap late start end : ℕ) (last : Option Stamp) → x < subs → 1 ≤ gap → IsLater last start
+    → AreServed gap subs last polls → HasAtPolls x f polls → AreTimely gap late end start (map at_of polls)
+    → start + subs * f * (gap + late) ≤ end → f ≤ released_by x end polls
 timely_released polls subs x f gap late start end last xl some after served has timely enough =
     let l : ℕ = behind subs last in
     let fewer = mul-le (subs * f - back subs x l) (gap + late) (subs * f) (gap + late) (omega arith) (omega arith) in
     in_due polls subs x l f gap late start start end last xl (behind_lt subs last (omega arith)) some after (is_behind subs last)
     served has timely (comes_due gap late end start (map at_of polls) timely) (λ h. omega arith)
 
--- of polls that follow one another closely, one comes in a span
 comes_close : (late low high from : ℕ) (moments : List ℕ) → from < low → high ≡ low + late → ComeWithin (late + 1) from moments
     → high ≤ latest_of from moments → ComesIn low high moments
 comes_close late low high from [] before wide close far = absurd (omega arith)
@@ -193,7 +176,6 @@ comes_close late low high from (now ∷ moments) before wide close far = elim (c
   | inr here ↦ inl (omega arith, omega arith)
 ]
 
--- polls that are no further apart come when a link is due
 pub apart_timely : ApartAreTimely
 apart_timely gap late end before [] some close far = omega arith
 apart_timely gap late end before (now ∷ moments) some close far = (

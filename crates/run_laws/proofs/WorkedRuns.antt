@@ -1,48 +1,29 @@
 -- The worked run, by computation.
-use Rattle.std.proofs.Common.{◌≡◌, ℕ, ◌+◌, ◌≤◌, ◌⊎◌, List, [], ◌∷◌, ◌++◌, length, Bool, true, false, ◌&&◌, refl, ap, sym, ◌∙◌, arith, inl, inr, Some}
-use Rattle.std.proofs.lemmas.Bool.{false≢true}
-use Rattle.std.proofs.lemmas.List.{length-append}
-use Rattle.std.proofs.lemmas.List.Elements.{All-from_recursion}
-use Rattle.afdx_plan.specs.declared.networks.Networks.TheVariants.{Both}
-use Rattle.afdx_frame.specs.declared.net.Net.TheVariants.{A}
-use Rattle.afdx_frame.specs.Checksum.{checksum}
-use Rattle.afdx_frame.specs.Cutting.{cutting}
-use Rattle.afdx_frame.specs.Fragments.{fragments_at, blanked}
-use Rattle.afdx_frame.specs.Frame.{addresses, header_front, internet_header, link_header, udp_header, datagram, unnumbered}
-use Rattle.redundant_mux.specs.Entry.{Entry, entry}
-use Rattle.redundant_mux.specs.Lines.{Lines, Endures, log}
-use Rattle.vl_shaper.specs.Pace.{is_due}
-use Rattle.afdx_legal.specs.Allowed.{IsAllowed, AreAllowed}
+use Rattle.run_laws.proofs.Names.{◌≡◌, ℕ, ◌+◌, ◌<◌, ◌≤◌, ◌⊎◌, List, [], ◌∷◌, ◌++◌, length, Bool, true, false, ◌&&◌, refl, ap, sym, ◌∙◌, arith, inl, inr, Some}
+use Rattle.run_laws.proofs.Names.{false≢true, length-append, All-from_recursion, A, checksum, cutting, fragments_at, blanked, Sent, addresses, header_front}
+use Rattle.run_laws.proofs.Names.{internet_header, link_header, udp_header, datagram, unnumbered, Entry, entry, Lines, Endures, BothEndure, log, stands_for}
+use Rattle.run_laws.proofs.Names.{IsFrameOf, LinkPlan, may_release, is_due, turn_of, IsAllowed, AreAllowed, Served, Nothing, Released, Lost, Drains, pace_in}
+use Rattle.run_laws.proofs.Names.{stream_at, link_wait, EmitterPolls, DrainPolls, AreRuns, ComesBy, cons_parts, below_one, below_both, both_at, lost_line}
+use Rattle.run_laws.proofs.Names.{NeedsARun, small_link, small_plan, message_accepted, front_line, both_lines, front_entry, ComesInRun}
 use Rattle.afdx_legal.specs.Done.{IsReleased, Owes}
-use Rattle.vl_link.specs.declared.served.Served.{Served}
-use Rattle.vl_link.specs.declared.served.Served.TheVariants.{Nothing, Released, Lost}
-use Rattle.afdx_tx.specs.Drain.{Drains}
-use Rattle.afdx_tx.specs.DrainEnds.{stream_at}
-use Rattle.afdx_laws.specs.NextFragment.{link_wait}
+use Rattle.afdx_plan.specs.declared.networks.Networks.TheVariants.{Both}
+use Rattle.redundant_mux.specs.Logged.{logged_for}
 use Rattle.afdx_laws.specs.WorkedDelivery.{back_frame}
-use Rattle.run_laws.specs.Runs.{EmitterPolls, DrainPolls, AreRuns}
-use Rattle.run_laws.specs.NextInRun.{ComesBy}
-use Rattle.run_laws.specs.WorkedRun.{both_at, lost_line, NeedsARun, small_link, small_plan, message_accepted, front_line, both_lines, front_entry, ComesInRun}
-use Rattle.afdx_laws.proofs.ListLemmas.{cons_parts, below_one, below_both}
 use Rattle.afdx_laws.proofs.WorkedDemo.{demo_with_valid}
-use Rattle.run_laws.proofs.Ran.{next_in_run_holds}
+use Rattle.run_laws.proofs.NextRun.{next_in_run_holds}
 
--- the message may be sent
 each_allowed : AreAllowed small_plan message_accepted
 each_allowed = below_both _ _ refl (All-from_recursion (IsAllowed small_plan 0 0) (message_accepted 0 0)
     (record { port = (0, omega arith, refl); over = refl; its = refl; some = omega arith; most = omega arith }, tt))
 
--- at first the second fragment is owed
 owes : Owes 1 small_link (message_accepted 0) (log front_line) 0
 unfolding log checksum addresses header_front internet_header link_header udp_header datagram unnumbered cutting fragments_at
 owes = record { left = blanked (back_frame A) ∷ []; some = λ e. cc; ahead = refl }
 
--- then nothing is
 released : IsReleased 1 small_link (message_accepted 0) (log both_lines) 0
 unfolding log checksum addresses header_front internet_header link_header udp_header datagram unnumbered cutting fragments_at
 released = refl
 
--- a network that takes a frame stays up
 pub takes : (old new : List Entry) → Endures true true old new 0 0
 takes old new = record {
   stays = ((λ up. (refl, refl)), (λ both. refl));
@@ -51,7 +32,6 @@ takes old new = record {
   down = λ (no : true ≡ false). cc;
 }
 
--- one that fails is down
 fails : (handed : List Entry) → Endures true false handed handed 0 1
 fails handed = record {
   stays = ((λ up. absurd (false≢true up)), (λ both. let same = both.1 in absurd (omega arith)));
@@ -60,37 +40,34 @@ fails handed = record {
   down = λ (no : true ≡ false). cc;
 }
 
--- the first poll that may release a frame hands it over
-back_turn : (now : ℕ) → is_due 1000 (Some (record { at = 0; sub = 0 })) now ≡ true
-    → Drains now 1 small_link (message_accepted 0) front_line (both_at now) (Released 0 1)
-unfolding log checksum addresses header_front internet_header link_header udp_header datagram unnumbered
-back_turn now due = (
-  ap (λ (t : Bool). t && true) due,
-  refl,
+-- a turn that releases the next frame of the one sub-VL, on both networks
+pub releases : (now number : ℕ) (link : LinkPlan) (accepted : ℕ → List Sent) (lines after : Lines) (frame : List ℕ)
+    → may_release now link (pace_in link (log lines)) lines ≡ true → number ≡ (pace_in link (log lines)).next
+    → 0 < link.sub_vls → 0 ≡ turn_of link.sub_vls (pace_in link (log lines)).last 0 → Owes 1 link accepted (log lines) 0
+    → IsFrameOf link.id.0 0 number A frame → after.logged ≡ lines.logged ++ logged_for link.networks (entry now frame) ∷ []
+    → stands_for link.networks after ≡ true → BothEndure lines after → Drains now 1 link accepted lines after (Released 0 number)
+releases now number link accepted lines after frame may next some is owed of enters stands endure = (
+  may,
+  next,
   record {
-    frame = back_frame A;
-    choice = record {
-      turn = 0;
-      within = omega arith;
-      is = refl;
-      chosen = owes;
-      before = λ k lt. absurd (omega arith);
-      others = λ s other. tt;
-    };
-    of = record {
-      size = let size : length (back_frame A) ≡ 60 = refl in omega arith;
-      link = refl;
-      of_sub = refl;
-      carries = refl;
-      interface = refl;
-    };
-    enters = refl;
-    stands = refl;
-    endure = record { a = takes _ _; b = takes _ _ };
+    frame = frame;
+    choice = record { turn = 0; within = some; is = is; chosen = owed; before = λ k lt. absurd (omega arith); others = λ s other. tt };
+    of = of;
+    enters = enters;
+    stands = stands;
+    endure = endure;
   },
 )
 
--- or both networks fail with it
+-- the first poll that may release a frame transmits it
+back_turn : (now : ℕ) → is_due 1000 (Some (record { at = 0; sub = 0 })) now ≡ true
+    → Drains now 1 small_link (message_accepted 0) front_line (both_at now) (Released 0 1)
+unfolding log checksum addresses header_front internet_header link_header udp_header datagram unnumbered
+back_turn now due = releases now 1 small_link (message_accepted 0) front_line (both_at now) (back_frame A)
+    (ap (λ (t : Bool). t && true) due) refl (omega arith) refl owes
+    (record { size = let size : length (back_frame A) ≡ 60 = refl in omega arith; link = refl; of_sub = refl; carries = refl; interface = refl })
+    refl refl (record { a = takes _ _; b = takes _ _ })
+
 lost_turn : Drains 1000 1 small_link (message_accepted 0) front_line lost_line Lost
 unfolding log checksum addresses header_front internet_header link_header udp_header datagram unnumbered
 lost_turn = (
@@ -105,21 +82,17 @@ lost_turn = (
   },
 )
 
--- and then nothing is sent
 down_turn : Drains 2000 1 small_link (message_accepted 0) lost_line lost_line Nothing
 unfolding log checksum addresses header_front internet_header link_header udp_header datagram unnumbered
 down_turn = (inl (refl, λ s. tt), refl)
 
--- the second has nothing to hand over
 second_turn : Drains 2000 1 small_link (message_accepted 0) both_lines both_lines Nothing
 unfolding log checksum addresses header_front internet_header link_header udp_header datagram unnumbered
 second_turn = (inr (refl, record { each = below_one _ released; others = λ s le. tt }), refl)
 
--- a poll is the turn of the one link
 a_poll : (now : ℕ) (lines after : Lines) (did : Served) → Drains now 1 small_link (message_accepted 0) lines after did
     → EmitterPolls small_plan now lines after ⊎ DrainPolls small_plan now lines after
-a_poll now lines after did turn =
-    inr (record { accepted = message_accepted; allowed = each_allowed; run = (after, did, turn, refl) })
+a_poll now lines after did turn = inr (record { accepted = message_accepted; allowed = each_allowed; run = (after, did, turn, refl) })
 
 two_polls : AreRuns small_plan (1000 ∷ 2000 ∷ []) front_line both_lines
 two_polls = (
@@ -144,7 +117,6 @@ second_is (x ∷ xs) between after first second e next is =
     let rest = length-append between (next ∷ after) in
     absurd (omega (arith, ap length is))
 
--- so it came by the bound
 comes_when : (now bound : ℕ) (stream : List Entry) → stream ≡ front_entry ∷ entry now (back_frame A) ∷ []
     → ComesBy stream front_entry bound → now ≤ bound
 comes_when now bound stream is comes =
@@ -152,7 +124,6 @@ comes_when now bound stream is comes =
     front_entry comes.next (sym is ∙ comes.are.is) in
     grind arith
 
--- the row
 pub comes_in_run : ComesInRun
 unfolding log checksum addresses header_front internet_header link_header udp_header datagram unnumbered
 comes_in_run = record {
@@ -171,7 +142,6 @@ comes_in_run = record {
   };
 }
 
--- the row of runs that don't bring it
 pub needs_a_run : NeedsARun
 unfolding log checksum addresses header_front internet_header link_header udp_header datagram unnumbered
 needs_a_run = record {

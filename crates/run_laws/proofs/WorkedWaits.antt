@@ -1,59 +1,20 @@
 -- The worked wait, by computation.
-use Rattle.std.proofs.Common.{◌≡◌, ℕ, suc, ◌≤◌, ◌<◌, List, [], ◌∷◌, ◌++◌, length, Bool, true, refl, ap, arith, inl, inr, Some, None, nat_eq, ◌&&◌, ⊎_elim}
-use Rattle.std.specs.Prelude.{All}
-use Rattle.std.proofs.lemmas.List.{length-append, length-map}
-use Rattle.std.proofs.lemmas.List.Elements.{All-head, All-tail, All-from_recursion}
-use Rattle.afdx_plan.specs.Config.{IsPlan}
-use Rattle.afdx_plan.specs.Plan.{IsLink, IsPort}
+use Rattle.run_laws.proofs.Names.{false, ◌≡◌, ℕ, suc, ◌≤◌, ◌<◌, List, [], ◌∷◌, ◌++◌, length, Bool, true, refl, ap, arith, inl, inr, Some, None, nat_eq, ◌&&◌}
+use Rattle.run_laws.proofs.Names.{⊎_elim, All, length-append, length-map, All-head, All-tail, All-from_recursion, IsPlan, IsLink, IsPort, A, checksum, cutting}
+use Rattle.run_laws.proofs.Names.{fragments_at, blanked, Sent, addresses, header_front, internet_header, link_header, udp_header, datagram, unnumbered, Entry}
+use Rattle.run_laws.proofs.Names.{entry, log, sub_in, IsLater, is_due, AreTimely, count_by-le-length, length-filter, IsAllowed, AreAllowed, latest, IsPrefixOf}
+use Rattle.run_laws.proofs.Names.{sub_stream, Released, Drains, stream_at, cons_parts, below_both, IsAccepted, HasPlace, AreFinding, fragments_of, seen_of}
+use Rattle.run_laws.proofs.Names.{tight_link, tight_port, tight_plan, tight_sent, tight_accepted, tight_frame, tight_lines, one_shown, two_shown, three_shown}
+use Rattle.run_laws.proofs.Names.{four_shown, TightReleased, TightCase, MeetsTheWait, NeedsItsPremises}
 use Rattle.afdx_plan.proofs.PlanLemmas.{valid}
-use Rattle.afdx_frame.specs.declared.net.Net.TheVariants.{A}
-use Rattle.afdx_frame.specs.Checksum.{checksum}
-use Rattle.afdx_frame.specs.Cutting.{cutting}
-use Rattle.afdx_frame.specs.Fragments.{fragments_at, blanked, Sent}
-use Rattle.afdx_frame.specs.Frame.{addresses, header_front, internet_header, link_header, udp_header, datagram, unnumbered}
-use Rattle.redundant_mux.specs.Entry.{Entry, entry}
-use Rattle.redundant_mux.specs.Lines.{log}
-use Rattle.afdx_frame.specs.Header.{sub_in}
-use Rattle.vl_shaper.specs.Pace.{IsLater, is_due}
-use Rattle.plan_analysis.specs.Wait.{worst_wait}
-use Rattle.run_laws.specs.Timely.{AreTimely}
-use Rattle.std.proofs.lemmas.List.Sums.{count_by-le-length, length-filter}
-use Rattle.afdx_legal.specs.Allowed.{IsAllowed, AreAllowed}
-use Rattle.afdx_legal.specs.Streams.{latest, IsPrefixOf, sub_stream}
-use Rattle.vl_link.specs.declared.served.Served.TheVariants.{Released}
-use Rattle.afdx_tx.specs.Drain.{Drains}
-use Rattle.afdx_tx.specs.DrainEnds.{stream_at}
-use Rattle.afdx_laws.proofs.ListLemmas.{cons_parts, below_both}
-use Rattle.run_laws.specs.WorkedWait.{tight_link, tight_port, tight_plan, tight_sent, tight_accepted, tight_frame, tight_lines, one_shown, two_shown, three_shown, four_shown, TightReleased, MeetsTheWait, NeedsItsPremises}
-use Rattle.run_laws.specs.MessageInRun.{IsAccepted, HasPlace, AreFinding, fragments_of, seen_of}
+use Rattle.afdx_laws.specs.Rows.{Holds}
 use Rattle.run_laws.proofs.MessageRun.{message_in_run_holds}
-use Rattle.run_laws.proofs.WorkedRuns.{takes}
+use Rattle.run_laws.proofs.WorkedRuns.{takes, releases}
 
--- the plan is valid
 tight_valid : IsPlan tight_plan
-tight_valid = valid tight_plan (omega arith) (All-from_recursion IsLink (tight_link ∷ []) (
-  record {
-    id = omega arith;
-    lmax = (omega arith, omega arith);
-    sub_vls = (omega arith, omega arith);
-    capacity = (omega arith, omega arith);
-  },
-  tt,
-)) (All-from_recursion IsPort (tight_port ∷ []) (
-  record {
-    id = omega arith;
-    vl = omega arith;
-    sub = omega arith;
-    partition = omega arith;
-    source = (omega arith, omega arith);
-    destination = (omega arith, omega arith);
-    max = (omega arith, omega arith);
-    unicast = tt;
-  },
-  tt,
-)) refl
+tight_valid = valid tight_plan (omega arith) (All-from_recursion IsLink (tight_link ∷ []) (omega arith))
+    (All-from_recursion IsPort (tight_port ∷ []) (omega arith)) refl
 
--- a message may be sent
 may_send : IsAllowed tight_plan 0 0 tight_sent
 may_send = record { port = (0, omega arith, refl); over = refl; its = refl; some = omega arith; most = omega arith }
 
@@ -69,7 +30,6 @@ accepted_is = record {
   sizes = All-from_recursion (λ (m : Sent). length m.bytes ≤ m.port.max) (tight_accepted 0 0) (omega arith, (omega arith, tt));
 }
 
--- of one message before another the queue has room for none that isn't begun
 has_place : HasPlace tight_plan 0 0 (tight_sent ∷ []) (stream_at tight_plan 0 (tight_lines one_shown))
 unfolding log checksum addresses header_front internet_header link_header udp_header datagram unnumbered
 has_place [] back is room = omega arith
@@ -79,85 +39,28 @@ has_place (f ∷ front) (b ∷ back) is room =
     let size : length (tight_sent ∷ []) ≡ suc (length (front ++ b ∷ back)) = ap length is in
     absurd (omega arith)
 
--- the second frame is owed, and released
 second_turn : Drains 1000 1 tight_link (tight_accepted 0) (tight_lines one_shown) (tight_lines two_shown) (Released 0 1)
 unfolding log checksum addresses header_front internet_header link_header udp_header datagram unnumbered cutting fragments_at
-second_turn = (
-  refl,
-  refl,
-  record {
-    frame = tight_frame 0 24 1 A;
-    choice = record {
-      turn = 0;
-      within = omega arith;
-      is = refl;
-      chosen = record {
-        left = blanked (tight_frame 0 24 1 A) ∷ blanked (tight_frame 1 0 2 A) ∷ blanked (tight_frame 1 24 3 A) ∷ [];
-        some = λ e. cc;
-        ahead = refl;
-      };
-      before = λ k lt. absurd (omega arith);
-      others = λ s other. tt;
-    };
-    of = record { size = let size : length (tight_frame 0 24 1 A) ≡ 60 = refl in omega arith; link = refl; of_sub = refl; carries = refl; interface = refl };
-    enters = refl;
-    stands = refl;
-    endure = record { a = takes _ _; b = takes _ _ };
-  },
-)
+second_turn = releases 1000 1 tight_link (tight_accepted 0) (tight_lines one_shown) (tight_lines two_shown) (tight_frame 0 24 1 A) refl refl (omega arith) refl
+    (record { left = blanked (tight_frame 0 24 1 A) ∷ blanked (tight_frame 1 0 2 A) ∷ blanked (tight_frame 1 24 3 A) ∷ []; some = λ e. cc; ahead = refl })
+    (record { size = let size : length (tight_frame 0 24 1 A) ≡ 60 = refl in omega arith; link = refl; of_sub = refl; carries = refl; interface = refl })
+    refl refl (record { a = takes _ _; b = takes _ _ })
 
--- then the first of the other message
 third_turn : Drains 2000 1 tight_link (tight_accepted 0) (tight_lines two_shown) (tight_lines three_shown) (Released 0 2)
 unfolding log checksum addresses header_front internet_header link_header udp_header datagram unnumbered cutting fragments_at
-third_turn = (
-  refl,
-  refl,
-  record {
-    frame = tight_frame 1 0 2 A;
-    choice = record {
-      turn = 0;
-      within = omega arith;
-      is = refl;
-      chosen = record {
-        left = blanked (tight_frame 1 0 2 A) ∷ blanked (tight_frame 1 24 3 A) ∷ [];
-        some = λ e. cc;
-        ahead = refl;
-      };
-      before = λ k lt. absurd (omega arith);
-      others = λ s other. tt;
-    };
-    of = record { size = let size : length (tight_frame 1 0 2 A) ≡ 60 = refl in omega arith; link = refl; of_sub = refl; carries = refl; interface = refl };
-    enters = refl;
-    stands = refl;
-    endure = record { a = takes _ _; b = takes _ _ };
-  },
-)
+third_turn = releases 2000 2 tight_link (tight_accepted 0) (tight_lines two_shown) (tight_lines three_shown) (tight_frame 1 0 2 A) refl refl (omega arith) refl
+    (record { left = blanked (tight_frame 1 0 2 A) ∷ blanked (tight_frame 1 24 3 A) ∷ []; some = λ e. cc; ahead = refl })
+    (record { size = let size : length (tight_frame 1 0 2 A) ≡ 60 = refl in omega arith; link = refl; of_sub = refl; carries = refl; interface = refl })
+    refl refl (record { a = takes _ _; b = takes _ _ })
 
--- and its second
 fourth_turn : (last : ℕ) → is_due 1000 (Some (record { at = 2000; sub = 0 })) last ≡ true
     → Drains last 1 tight_link (tight_accepted 0) (tight_lines three_shown) (tight_lines (four_shown last)) (Released 0 3)
 unfolding log checksum addresses header_front internet_header link_header udp_header datagram unnumbered cutting fragments_at
-fourth_turn last due = (
-  ap (λ (t : Bool). t && true) due,
-  refl,
-  record {
-    frame = tight_frame 1 24 3 A;
-    choice = record {
-      turn = 0;
-      within = omega arith;
-      is = refl;
-      chosen = record { left = blanked (tight_frame 1 24 3 A) ∷ []; some = λ e. cc; ahead = refl };
-      before = λ k lt. absurd (omega arith);
-      others = λ s other. tt;
-    };
-    of = record { size = let size : length (tight_frame 1 24 3 A) ≡ 60 = refl in omega arith; link = refl; of_sub = refl; carries = refl; interface = refl };
-    enters = refl;
-    stands = refl;
-    endure = record { a = takes _ _; b = takes _ _ };
-  },
-)
+fourth_turn last due = releases last 3 tight_link (tight_accepted 0) (tight_lines three_shown) (tight_lines (four_shown last)) (tight_frame 1 24 3 A) (ap (λ (t : Bool). t && true) due) refl (omega arith) refl
+    (record { left = blanked (tight_frame 1 24 3 A) ∷ []; some = λ e. cc; ahead = refl })
+    (record { size = let size : length (tight_frame 1 24 3 A) ≡ 60 = refl in omega arith; link = refl; of_sub = refl; carries = refl; interface = refl })
+    refl refl (record { a = takes _ _; b = takes _ _ })
 
--- the run
 run_to : (last : ℕ) → is_due 1000 (Some (record { at = 2000; sub = 0 })) last ≡ true
     → AreFinding tight_plan tight_accepted 0 0 4 (1000 ∷ 2000 ∷ last ∷ []) (tight_lines one_shown) (tight_lines (four_shown last))
 run_to last due = (
@@ -182,13 +85,12 @@ leaves_last bound (r ∷ rest) (e ∷ soon) more last is by late =
     let fewer = leaves_last bound rest soon more last (cons_parts is).1 (All-tail (λ (d : Entry). d.at ≤ bound) e soon by) late in
     omega arith
 
--- fragments that were seen are no more than the entries
 few_seen : (x : ℕ) (es : List Entry) → length (seen_of x es) ≤ length es
 few_seen x es =
     let test : Entry → Bool = λ e. nat_eq (sub_in e.frame) x in
     omega (arith, length-map (sub_stream x es) (λ (e : Entry). blanked e.frame), length-filter test es, count_by-le-length test es)
 
--- without the last frame the second message isn't whole
+-- without the last frame the second message is incomplete
 not_by : (last bound : ℕ) → bound < last → TightReleased (tight_lines (four_shown last)) bound → ⊥
 unfolding log checksum addresses header_front internet_header link_header udp_header datagram unnumbered cutting fragments_at
 not_by last bound late r =
@@ -215,53 +117,39 @@ timely_is : AreTimely 1000 0 3000 0 (1000 ∷ 2000 ∷ 3000 ∷ [])
 timely_is = (
   omega arith,
   λ near. inl (omega arith, omega arith),
-  (
-    omega arith,
-    λ near. inl (omega arith, omega arith),
-    (omega arith, λ near. inl (omega arith, omega arith), omega arith),
-  ),
+  (omega arith, λ near. inl (omega arith, omega arith), (omega arith, λ near. inl (omega arith, omega arith), omega arith)),
 )
 
-wait_is : worst_wait 0 tight_plan tight_port ≡ 3000
-wait_is = refl
+-- the case of a last poll at this time
+tight_case : (last : ℕ) (timely : Bool) → is_due 1000 (Some (record { at = 2000; sub = 0 })) last ≡ true
+    → Holds timely (AreTimely 1000 0 3000 0 (1000 ∷ 2000 ∷ last ∷ [])) → Holds timely (TightReleased (tight_lines (four_shown last)) 3000)
+    → TightCase last timely
+tight_case last timely due comes released = record {
+  accepted = accepted_is;
+  start = start_is;
+  place = has_place;
+  finding = run_to last due;
+  begins = begins_to last;
+  is_up = refl;
+  comes = comes;
+  released = released;
+}
 
--- the row that meets it
 pub meets_the_wait : MeetsTheWait
 unfolding cutting fragments_at
 meets_the_wait = record {
   valid = tight_valid;
-  wait = wait_is;
-  met = record {
-    accepted = accepted_is;
-    start = start_is;
-    place = has_place;
-    finding = run_to 3000 refl;
-    begins = begins_to 3000;
-    is_up = refl;
-    comes = timely_is;
-    released = message_in_run_holds tight_plan tight_accepted (1000 ∷ 2000 ∷ 3000 ∷ []) (tight_lines one_shown)
-        (tight_lines (four_shown 3000)) 0 0 0 0 (tight_sent ∷ []) tight_sent []
-        tight_valid accepted_is start_is has_place (run_to 3000 refl) (begins_to 3000) refl timely_is;
-  };
+  wait = refl;
+  met = tight_case 3000 true refl timely_is (message_in_run_holds tight_plan tight_accepted (1000 ∷ 2000 ∷ 3000 ∷ [])
+      (tight_lines one_shown) (tight_lines (four_shown 3000)) 0 0 0 0 (tight_sent ∷ []) tight_sent [] tight_valid accepted_is start_is has_place (run_to 3000 refl) (begins_to 3000) refl timely_is);
   sooner = not_by 3000 2999 (omega arith);
 }
 
--- polls that are late aren't timely
 not_timely : AreTimely 1000 0 3000 0 (1000 ∷ 2000 ∷ 3001 ∷ []) → ⊥
 not_timely timely = ⊎_elim (λ here. absurd (omega arith)) (λ none. none) (timely.2.2.1 (omega arith))
 
--- the rows of what fails
 pub needs_its_premises : NeedsItsPremises
 needs_its_premises = record {
-  late = record {
-    accepted = accepted_is;
-    start = start_is;
-    place = has_place;
-    finding = run_to 3001 refl;
-    begins = begins_to 3001;
-    is_up = refl;
-    comes = not_timely;
-    released = not_by 3001 3000 (omega arith);
-  };
+  late = tight_case 3001 false refl not_timely (not_by 3001 3000 (omega arith));
   crowded = λ place. let none = place [] (tight_sent ∷ []) refl (omega arith) in absurd (omega arith);
 }

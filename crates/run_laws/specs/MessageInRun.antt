@@ -1,4 +1,4 @@
--- How long an accepted message waits in a run of polls, whatever the others send.
+-- How long an accepted message waits in a run of polls, whatever the other ports send.
 use Rattle.std.specs.Prelude.{ℕ, ◌≡◌, ◌⊎◌, ◌+◌, ◌≤◌, ◌<◌, true, List, [], ◌∷◌, ◌++◌, length, All, None}
 use Rattle.afdx_plan.specs.Config.{Plan, IsPlan, link_plan_at}
 use Rattle.afdx_plan.specs.Plan.{bag_micros}
@@ -12,23 +12,51 @@ use Rattle.afdx_legal.specs.Streams.{sub_stream, told, latest, IsPrefixOf}
 use Rattle.afdx_legal.specs.Legal.{Accepted}
 use Rattle.afdx_legal.specs.Allowed.{AreAllowed}
 use Rattle.vl_link.specs.Links.{Passes, held_at, link_at}
-use Rattle.afdx_tx.specs.Drain.{IsDrained}
+use Rattle.afdx_tx.specs.Drain.{IsDrained, accepted_in}
 use Rattle.afdx_tx.specs.DrainEnds.{stream_at}
 use Rattle.plan_analysis.specs.Wait.{worst_wait}
-use Rattle.run_laws.specs.Runs.{EmitterPolls}
-use Rattle.run_laws.specs.Gathered.{FitsItsPort}
-use Rattle.run_laws.specs.Timely.{AreTimely}
+use Rattle.afdx_tx.specs.Emitter.{Tx}
+use Rattle.afdx_tx.specs.Gathering.{IsGatheredTx}
+use Rattle.afdx_tx.specs.Ports.{PortView, AreOpenedWith}
+use Rattle.run_laws.specs.Runs.{ArePolls, EmitterPolls, ComeWithin, latest_of}
 
--- the fragments of messages of a sub-VL of the link at a place, the first that it accepted
+-- one of these times lies between `low` and `high`
+abbrev pub ComesIn : ℕ → ℕ → List ℕ → Type 0
+ComesIn low high [] = ⊥
+ComesIn low high (now ∷ moments) = ((low ≤ now) × (now ≤ high)) ⊎ ComesIn low high moments
+
+-- Polls follow a start. After it and after each poll, a poll comes between a gap and a gap and the lateness later,
+-- unless the end comes first.
+abbrev pub AreTimely : (gap late end before : ℕ) → List ℕ → Type 0
+AreTimely gap late end before [] = end < before + (gap + late)
+AreTimely gap late end before (now ∷ moments) = (before ≤ now)
+    × (before + (gap + late) ≤ end → ComesIn (before + gap) (before + (gap + late)) (now ∷ moments))
+    × AreTimely gap late end now moments
+
+-- Polls that follow the start and one another within the lateness and a microsecond, until the end, are timely.
+abbrev pub ApartAreTimely : Type 0
+ApartAreTimely = (gap late end before : ℕ) (moments : List ℕ) → 1 ≤ gap → ComeWithin (late + 1) before moments
+    → end ≤ latest_of before moments → AreTimely gap late end before moments
+
+abbrev pub FitsItsPort : Sent → Type 0
+FitsItsPort m = length m.bytes ≤ m.port.max
+
+-- After an emitter has gathered its ports, each accepted message is no longer than its port may send.
+abbrev pub GatheredFit : Type 0
+GatheredFit = (old new : Tx) (ports : List PortView) → IsPlan new.plan → AreOpenedWith old ports
+    → IsGatheredTx old ports new → AreAllowed new.plan (accepted_in new.links)
+    → (k s : ℕ) → k < length new.plan.links → s < (link_plan_at new.plan.links k).sub_vls
+    → All FitsItsPort (accepted_in new.links k s)
+
+-- the fragments of the first messages of a sub-VL of link `k`
 abbrev pub fragments_of : Plan → ℕ → List Sent → List (List ℕ)
 fragments_of plan k messages = fragments plan.end_system (room_of (link_plan_at plan.links k).lmax) A messages
 
--- the fragments that a sub-VL was seen to send, in a stream of its link
+-- the fragments of a sub-VL in a stream of its link
 abbrev pub seen_of : ℕ → List Entry → List (List ℕ)
 seen_of sub stream = told (sub_stream sub stream)
 
--- A message was accepted, after these of its sub-VL and before those. Each is of a port of the sub-VL, and one that the
--- port may send.
+-- Sub-VL `s` of link `k` accepted `sent` after `earlier` and before `later`, each a message that its port may send.
 pub record IsAccepted (plan : Plan) (accepted : Accepted) (k s : ℕ)
     (earlier : List Sent) (sent : Sent) (later : List Sent) : Type 0 where
   pub link : k < length plan.links
@@ -37,28 +65,25 @@ pub record IsAccepted (plan : Plan) (accepted : Accepted) (k s : ℕ)
   pub allowed : AreAllowed plan accepted
   pub sizes : All FitsItsPort (accepted k s)
 
--- A message was accepted into a queue of this capacity: of the messages before it, each that lies so many places before
--- it or more is begun.
+-- The queue had room for the message: each earlier message that precedes it by at least the capacity is begun.
 abbrev pub HasPlace : Plan → (k s : ℕ) → List Sent → List Entry → Type 0
 HasPlace plan k s earlier stream = (front back : List Sent) → earlier ≡ front ++ back
     → (link_plan_at plan.links k).capacity ≤ length back
     → length (fragments_of plan k front) < length (seen_of s stream)
 
--- A poll of an emitter that finds a sub-VL with nothing, if it asks it, has sent so many fragments of it before.
+-- A poll of an emitter. If it finds the queue of the sub-VL empty, `many` fragments of the sub-VL were sent before.
 pub record FindsIt (plan : Plan) (k s many now : ℕ) (lines after : Lines) : Type 0 where
   pub poll : EmitterPolls plan now lines after
   pub finds : Passes (held_at (link_at poll.old.links k).subs s) (held_at (link_at poll.new.links k).subs s)
       → many ≤ length (seen_of s (stream_at plan k lines))
 
--- Polls at these times, of an emitter that finds its messages until so many fragments of the sub-VL are sent, or of a
--- drain of the accepted messages.
+-- Polls of an emitter that finds its messages until `many` fragments of the sub-VL are sent, or of a drain of the
+-- accepted messages.
 abbrev pub AreFinding : Plan → Accepted → (k s many : ℕ) → List ℕ → (lines after : Lines) → Type 0
-AreFinding plan accepted k s many [] lines after = after ≡ lines
-AreFinding plan accepted k s many (now ∷ moments) lines after = (mid : Lines)
-    × (FindsIt plan k s many now lines mid ⊎ IsDrained now plan accepted lines mid)
-    × AreFinding plan accepted k s many moments mid after
+AreFinding plan accepted k s many =
+    ArePolls (λ now lines after. FindsIt plan k s many now lines after ⊎ IsDrained now plan accepted lines after)
 
--- A link's stream has grown, by this time at the latest by so much that each fragment of these messages is sent.
+-- A link's stream has grown from `before` to `stream`, and every fragment of these messages was sent by the bound.
 pub record AreReleasedBy (plan : Plan) (k s : ℕ) (messages : List Sent) (before stream : List Entry)
     (bound : ℕ) : Type 0 where
   pub soon : List Entry
@@ -67,14 +92,13 @@ pub record AreReleasedBy (plan : Plan) (k s : ℕ) (messages : List Sent) (befor
   pub by : All (λ (e : Entry). e.at ≤ bound) soon
   pub whole : IsPrefixOf (fragments_of plan k messages) (seen_of s (before ++ soon))
 
--- A message is wholly released within the longest wait of its port, which the plan and the lateness give: in a run of
--- polls that come when its link is due, find it, and go on as long. A network that carries the link is up after them.
+-- A message is wholly released within the longest wait of its port, which the plan and the lateness determine. The
+-- polls come when its link is due, find the message, and continue until the wait is over. A network that carries the
+-- link is up after them.
 abbrev pub MessageInRun : Type 0
 MessageInRun = (plan : Plan) (accepted : Accepted) (moments : List ℕ) (lines after : Lines) (k s late start : ℕ)
-    (earlier : List Sent) (sent : Sent) (later : List Sent)
-    → IsPlan plan
-    → IsAccepted plan accepted k s earlier sent later
-    → IsLater (latest None (stream_at plan k lines)) start
+    (earlier : List Sent) (sent : Sent) (later : List Sent) → IsPlan plan
+    → IsAccepted plan accepted k s earlier sent later → IsLater (latest None (stream_at plan k lines)) start
     → HasPlace plan k s earlier (stream_at plan k lines)
     → AreFinding plan accepted k s (length (fragments_of plan k (earlier ++ sent ∷ []))) moments lines after
     → IsPrefixOf (seen_of s (stream_at plan k after)) (fragments_of plan k (accepted k s))

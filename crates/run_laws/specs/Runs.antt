@@ -1,8 +1,9 @@
--- Runs of polls of an emitter and of its drain, by what their calls promise.
-use Rattle.std.specs.Prelude.{ℕ, ◌≡◌, ◌⊎◌, ◌<◌, List, [], ◌∷◌, length}
-use Rattle.afdx_plan.specs.Config.{Plan, link_plan_at}
+-- Runs of polls of an emitter and of its drain, by the contracts of the calls, and when the next fragment of a message is
+-- released in them.
+use Rattle.std.specs.Prelude.{ℕ, ◌≡◌, ◌⊎◌, ◌<◌, List, [], ◌∷◌, length, ◌+◌, ◌≤◌, true, ◌++◌}
+use Rattle.afdx_plan.specs.Config.{Plan, link_plan_at, IsPlan}
 use Rattle.afdx_plan.specs.Plan.{bag_micros}
-use Rattle.redundant_mux.specs.Lines.{Lines}
+use Rattle.redundant_mux.specs.Lines.{Lines, stands_for}
 use Rattle.afdx_legal.specs.Legal.{Accepted}
 use Rattle.afdx_legal.specs.Allowed.{AreAllowed}
 use Rattle.vl_link.specs.Links.{LinkState, link_at}
@@ -11,14 +12,19 @@ use Rattle.afdx_tx.specs.Run.{IsRun}
 use Rattle.afdx_tx.specs.Closing.{ClosesTx}
 use Rattle.afdx_tx.specs.Publishing.{Publishes}
 use Rattle.afdx_tx.specs.Drain.{IsDrained}
+use Rattle.afdx_frame.specs.Header.{sub_in}
+use Rattle.redundant_mux.specs.Entry.{Entry}
+use Rattle.afdx_legal.specs.Turns.{more_in}
+use Rattle.afdx_tx.specs.DrainEnds.{stream_at}
+use Rattle.afdx_laws.specs.NextFragment.{AreNeighbours, link_wait, longest_wait}
 
--- a link has the plan, the gap and the number of sub-VLs of the one at its place in a plan
+-- the link at place `k` has the configuration, the gap and the number of sub-VLs that the plan gives
 pub record IsPlanned (plan : Plan) (links : List LinkState) (k : ℕ) : Type 0 where
   pub plan_is : (link_at links k).plan ≡ link_plan_at plan.links k
   pub gap : (link_at links k).pace.gap ≡ bag_micros (link_plan_at plan.links k).bag
   pub sub_vls : (link_at links k).pace.sub_vls ≡ (link_plan_at plan.links k).sub_vls
 
--- An emitter has the links of a plan, and took such messages as its ports may send: its own plan, where it is ready.
+-- An emitter has the links of a plan, and took only messages that its ports may send.
 pub record IsReadyFor (plan : Plan) (tx : Tx) : Type 0 where
   pub count : length tx.links ≡ length plan.links
   pub links : (k : ℕ) → k < length plan.links → IsPlanned plan tx.links k
@@ -35,7 +41,7 @@ pub record KeptReady : Type 0 where
   pub closed : (old new : Tx) (vl sub total : ℕ) → IsReady old → ClosesTx old vl sub total new → IsReady new
   pub published : (old new : Tx) → IsReady old → Publishes old new → IsReady new
 
--- a poll of a ready emitter of a plan, by what was transmitted before it and after it
+-- a poll of a ready emitter of a plan, by what was transmitted before and after it
 pub record EmitterPolls (plan : Plan) (now : ℕ) (lines after : Lines) : Type 0 where
   pub old : Tx
   pub new : Tx
@@ -51,9 +57,39 @@ pub record DrainPolls (plan : Plan) (now : ℕ) (lines after : Lines) : Type 0 w
   pub allowed : AreAllowed plan accepted
   pub run : IsDrained now plan accepted lines after
 
--- polls at these times, of an emitter or of its drain; between them nothing is transmitted
+-- polls at these times, each of this kind; between them nothing is transmitted
+abbrev pub ArePolls : (ℕ → (lines after : Lines) → Type 0) → List ℕ → (lines after : Lines) → Type 0
+ArePolls Polls [] lines after = after ≡ lines
+ArePolls Polls (now ∷ moments) lines after = (mid : Lines) × Polls now lines mid × ArePolls Polls moments mid after
+
+-- polls of an emitter or of its drain
 abbrev pub AreRuns : Plan → List ℕ → (lines after : Lines) → Type 0
-AreRuns plan [] lines after = after ≡ lines
-AreRuns plan (now ∷ moments) lines after = (mid : Lines)
-    × (EmitterPolls plan now lines mid ⊎ DrainPolls plan now lines mid)
-    × AreRuns plan moments mid after
+AreRuns plan = ArePolls (λ now lines after. EmitterPolls plan now lines after ⊎ DrainPolls plan now lines after)
+
+-- each time follows the one before it, the first a start, within the lateness
+abbrev pub ComeWithin : ℕ → ℕ → List ℕ → Type 0
+ComeWithin late before [] = Unit {0}
+ComeWithin late before (now ∷ moments) = (before ≤ now) × (now ≤ before + late) × ComeWithin late now moments
+
+abbrev pub latest_of : ℕ → List ℕ → ℕ
+latest_of before [] = before
+latest_of before (now ∷ moments) = latest_of now moments
+
+-- The next fragment of the message of entry `first` is in the stream, and was released by the bound.
+pub record ComesBy (stream : List Entry) (first : Entry) (bound : ℕ) : Type 0 where
+  pub between : List Entry
+  pub next : Entry
+  pub are : AreNeighbours stream first between next
+  pub soon : next.at ≤ bound
+
+-- The last entry of a link's stream has the flag of more fragments. Polls follow it within the lateness, and continue
+-- until the bound; after them a network that carries the link is up. Then the next fragment was released by the bound
+-- of the link, and so by that of the configuration.
+abbrev pub NextInRun : Type 0
+NextInRun = (plan : Plan) (moments : List ℕ) (lines after : Lines) (k late : ℕ) (earlier : List Entry) (first : Entry)
+    → IsPlan plan → k < length plan.links → stream_at plan k lines ≡ earlier ++ first ∷ [] → more_in first.frame ≡ true
+    → sub_in first.frame < (link_plan_at plan.links k).sub_vls → AreRuns plan moments lines after
+    → stands_for (link_plan_at plan.links k).networks after ≡ true → ComeWithin late first.at moments
+    → first.at + link_wait late (link_plan_at plan.links k) ≤ latest_of first.at moments
+    → ComesBy (stream_at plan k after) first (first.at + link_wait late (link_plan_at plan.links k))
+    × ComesBy (stream_at plan k after) first (first.at + longest_wait late plan.links)

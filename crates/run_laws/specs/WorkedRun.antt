@@ -1,8 +1,7 @@
--- A worked run: over the demonstration configuration with frames of up to 64 bytes, a message of two fragments is
--- accepted, and its first frame is transmitted at time 0. Two polls of a drain follow, a gap apart.
-use Rattle.std.specs.Prelude.{Bool, true, false, ◌&&◌, ℕ, ◌≡◌, ◌+◌, ◌≤◌, ◌<◌, List, [], ◌∷◌}
+-- Worked runs, of polls of a drain.
+use Rattle.std.specs.Prelude.{Bool, true, false, ◌&&◌, ℕ, ◌≡◌, ◌+◌, ◌≤◌, ◌<◌, List, [], ◌∷◌, map, None}
 use Rattle.afdx_plan.specs.Config.{Plan, IsPlan, link_plan_at}
-use Rattle.afdx_plan.specs.Demo.{demo_plan, demo_link}
+use Rattle.afdx_plan.specs.Demo.{demo_plan, demo_link, demo_port}
 use Rattle.afdx_plan.specs.declared.link_plan.LinkPlan.{LinkPlan}
 use Rattle.afdx_plan.specs.declared.networks.Networks.TheVariants.{Both}
 use Rattle.afdx_frame.specs.declared.net.Net.TheVariants.{A, B}
@@ -15,11 +14,21 @@ use Rattle.afdx_legal.specs.Turns.{more_in}
 use Rattle.afdx_tx.specs.DrainEnds.{stream_at}
 use Rattle.afdx_laws.specs.NextFragment.{link_wait}
 use Rattle.afdx_laws.specs.Rows.{Holds}
-use Rattle.afdx_laws.specs.WorkedDelivery.{one_accepted, front_frame, back_frame}
-use Rattle.run_laws.specs.Runs.{AreRuns}
-use Rattle.run_laws.specs.NextInRun.{ComeWithin, latest_of, ComesBy}
+use Rattle.afdx_laws.specs.WorkedDelivery.{one_accepted, front_frame, back_frame, bytes_41}
+use Rattle.afdx_plan.specs.declared.port_plan.PortPlan.{PortPlan}
+use Rattle.afdx_frame.specs.declared.net.Net.{Net}
+use Rattle.afdx_frame.specs.Cutting.{piece_at}
+use Rattle.afdx_frame.specs.Frame.{frame_of}
+use Rattle.afdx_frame.specs.Fragments.{Sent}
+use Rattle.vl_shaper.specs.Pace.{IsLater}
+use Rattle.afdx_legal.specs.Streams.{latest, IsPrefixOf}
+use Rattle.plan_analysis.specs.Wait.{worst_wait}
+use Rattle.run_laws.specs.Runs.{AreRuns, ComeWithin, latest_of, ComesBy}
+use Rattle.run_laws.specs.MessageInRun.{AreTimely, fragments_of, seen_of, IsAccepted, HasPlace, AreFinding, AreReleasedBy}
 
--- the link, and its configuration
+-- The demonstration configuration with frames of up to 64 bytes: a message of two fragments was accepted, and its first
+-- frame transmitted at time 0. Two polls follow, a gap apart.
+
 abbrev pub small_link : LinkPlan
 small_link = record demo_link { lmax = 64 }
 
@@ -30,18 +39,17 @@ small_plan = record demo_plan { links = small_link ∷ [] }
 abbrev pub message_accepted : Accepted
 message_accepted k sub = one_accepted
 
--- the first frame was transmitted on both networks
+-- both networks carried the first frame
 abbrev pub front_line : Lines
 front_line = lines_of (entry 0 (front_frame A) ∷ []) (entry 0 (front_frame B) ∷ []) 0 0 true true
     (logged_for Both (entry 0 (front_frame A)) ∷ [])
 
--- and then the second, at this time
+-- and then the second, transmitted at `now`
 abbrev pub both_at : ℕ → Lines
 both_at now = lines_of (entry 0 (front_frame A) ∷ entry now (back_frame A) ∷ [])
     (entry 0 (front_frame B) ∷ entry now (back_frame B) ∷ []) 0 0 true true
     (logged_for Both (entry 0 (front_frame A)) ∷ logged_for Both (entry now (back_frame A)) ∷ [])
 
--- a gap later
 abbrev pub both_lines : Lines
 both_lines = both_at 1000
 
@@ -50,16 +58,15 @@ abbrev pub lost_line : Lines
 lost_line = lines_of (entry 0 (front_frame A) ∷ []) (entry 0 (front_frame B) ∷ []) 1 1 false false
     (logged_for Both (entry 0 (front_frame A)) ∷ [])
 
--- the first fragment
 abbrev pub front_entry : Entry
 front_entry = entry 0 (front_frame A)
 
--- the second fragment is in the link's stream, by the bound of polls up to 1,000 microseconds apart, which is 2,000
+-- the second fragment was released by the bound for polls up to 1,000 microseconds apart, which is 2,000
 abbrev pub Comes : Lines → Type 0
 Comes lines = ComesBy (stream_at small_plan 0 lines) front_entry (0 + link_wait 1000 small_link)
 
--- The law for a run of polls at these times: each premise that is told as true holds, and another fails; and the second
--- fragment is released by the bound just if all hold.
+-- The law for a run of polls at these times. Each premise with flag `true` holds, each other one fails. The second
+-- fragment is released by the bound if and only if all hold.
 pub record RunCase (moments : List ℕ) (lines : Lines) (up come reach : Bool) : Type 0 where
   pub runs : AreRuns small_plan moments front_line lines
   pub is_up : Holds up (stands_for (link_plan_at small_plan.links 0).networks lines ≡ true)
@@ -67,7 +74,7 @@ pub record RunCase (moments : List ℕ) (lines : Lines) (up come reach : Bool) :
   pub reaches : Holds reach (0 + link_wait 1000 small_link ≤ latest_of 0 moments)
   pub next : Holds (up && come && reach) (Comes lines)
 
--- The run meets what the law asks for, and the second fragment is released at 1,000.
+-- The run meets the premises, and the second fragment is released at 1,000.
 pub record ComesInRun : Type 0 where
   pub valid : IsPlan small_plan
   pub ends : stream_at small_plan 0 front_line ≡ front_entry ∷ []
@@ -75,9 +82,89 @@ pub record ComesInRun : Type 0 where
   pub below : sub_in (front_frame A) < small_link.sub_vls
   pub run : RunCase (1000 ∷ 2000 ∷ []) both_lines true true true
 
--- Each premise is needed. Without a poll the bound isn't reached, and the second fragment doesn't come. A poll that
--- is late releases it after the bound. If both networks fail with its frame, it never comes.
+-- Each premise is needed. Without a poll the second fragment is not released. A late poll releases it after the bound.
+-- If both networks fail with its frame, it is lost.
 pub record NeedsARun : Type 0 where
   pub none : RunCase [] front_line true true false
   pub late : RunCase (5000 ∷ []) (both_at 5000) true false true
   pub lost : RunCase (1000 ∷ 2000 ∷ []) lost_line false true true
+
+-- A link of one sub-VL with a queue of one message, and a port that sends messages of up to 41 bytes, two frames each.
+-- The first frame of a message is transmitted at time 0, and then another message is accepted.
+
+abbrev pub tight_link : LinkPlan
+tight_link = record demo_link { lmax = 64; capacity = 1 }
+
+abbrev pub tight_port : PortPlan
+tight_port = record demo_port { max = 41 }
+
+abbrev pub tight_plan : Plan
+tight_plan = record demo_plan { links = tight_link ∷ []; ports = tight_port ∷ [] }
+
+abbrev pub tight_sent : Sent
+tight_sent = record { port = tight_port; bytes = bytes_41 }
+
+-- the accepted messages of the one sub-VL
+abbrev pub tight_accepted : Accepted
+tight_accepted k sub = tight_sent ∷ tight_sent ∷ []
+
+-- the frame of the message at `place` whose piece begins at byte `start`
+abbrev pub tight_frame : (place start number : ℕ) → Net → List ℕ
+tight_frame place start number net = frame_of 1 tight_port bytes_41 place (piece_at 25 49 start) net number
+
+-- a frame, with the time of its transmission
+pub data Shown : Type 0 where
+  shown : (at place start number : ℕ) → Shown
+
+abbrev pub shown_on : Net → Shown → Entry
+shown_on net (shown at place start number) = entry at (tight_frame place start number net)
+
+-- both networks carried these frames
+abbrev pub tight_lines : List Shown → Lines
+tight_lines frames = lines_of (map (shown_on A) frames) (map (shown_on B) frames) 0 0 true true
+    (map (λ (f : Shown). logged_for Both (shown_on A f)) frames)
+
+abbrev pub one_shown : List Shown
+one_shown = shown 0 0 0 0 ∷ []
+
+abbrev pub two_shown : List Shown
+two_shown = shown 0 0 0 0 ∷ shown 1000 0 24 1 ∷ []
+
+abbrev pub three_shown : List Shown
+three_shown = shown 0 0 0 0 ∷ shown 1000 0 24 1 ∷ shown 2000 1 0 2 ∷ []
+
+abbrev pub four_shown : ℕ → List Shown
+four_shown last = shown 0 0 0 0 ∷ shown 1000 0 24 1 ∷ shown 2000 1 0 2 ∷ shown last 1 24 3 ∷ []
+
+-- both messages are wholly released by the bound
+abbrev pub TightReleased : Lines → ℕ → Type 0
+TightReleased lines bound = AreReleasedBy tight_plan 0 0 (tight_sent ∷ tight_sent ∷ [])
+    (stream_at tight_plan 0 (tight_lines one_shown)) (stream_at tight_plan 0 lines) bound
+
+-- The law for polls at 1,000, 2,000 and `last`, with no lateness. Each premise holds, except that the polls may not be
+-- timely; the message is wholly released within its wait if and only if they are.
+pub record TightCase (last : ℕ) (timely : Bool) : Type 0 where
+  pub accepted : IsAccepted tight_plan tight_accepted 0 0 (tight_sent ∷ []) tight_sent []
+  pub start : IsLater (latest None (stream_at tight_plan 0 (tight_lines one_shown))) 0
+  pub place : HasPlace tight_plan 0 0 (tight_sent ∷ []) (stream_at tight_plan 0 (tight_lines one_shown))
+  pub finding : AreFinding tight_plan tight_accepted 0 0 4 (1000 ∷ 2000 ∷ last ∷ []) (tight_lines one_shown)
+      (tight_lines (four_shown last))
+  pub begins : IsPrefixOf (seen_of 0 (stream_at tight_plan 0 (tight_lines (four_shown last))))
+      (fragments_of tight_plan 0 (tight_accepted 0 0))
+  pub is_up : stands_for (link_plan_at tight_plan.links 0).networks (tight_lines (four_shown last)) ≡ true
+  pub comes : Holds timely (AreTimely 1000 0 3000 0 (1000 ∷ 2000 ∷ last ∷ []))
+  pub released : Holds timely (TightReleased (tight_lines (four_shown last)) 3000)
+
+-- The wait of the port is 3,000 microseconds: one gap for each of three fragments, the message's own two and one before
+-- them. The message takes exactly that.
+pub record MeetsTheWait : Type 0 where
+  pub valid : IsPlan tight_plan
+  pub wait : worst_wait 0 tight_plan tight_port ≡ 3000
+  pub met : TightCase 3000 true
+  pub sooner : TightReleased (tight_lines (four_shown 3000)) 2999 → ⊥
+
+-- If the last poll is a microsecond late, the message is not released within the wait. If nothing was transmitted
+-- before the polls, the queue would hold two messages, one more than its capacity.
+pub record NeedsItsPremises : Type 0 where
+  pub late : TightCase 3001 false
+  pub crowded : HasPlace tight_plan 0 0 (tight_sent ∷ []) [] → ⊥

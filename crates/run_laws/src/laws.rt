@@ -1,19 +1,15 @@
-//! Laws over runs of an emitter. Their functions do nothing: the contract is the law.
-ghost use Rattle.run_laws.specs.Gathered.{GatheredFit};
-ghost use Rattle.run_laws.specs.MessageInRun.{MessageInRun};
-ghost use Rattle.run_laws.specs.NextInRun.{NextInRun};
-ghost use Rattle.run_laws.specs.Runs.{KeptReady};
-ghost use Rattle.run_laws.specs.Timely.{ApartAreTimely};
-ghost use Rattle.run_laws.specs.WorkedRun.{ComesInRun, NeedsARun};
-ghost use Rattle.run_laws.specs.WorkedWait.{MeetsTheWait, NeedsItsPremises};
+//! Laws over runs of polls. The functions are empty: each contract is a law.
+ghost use Rattle.run_laws.specs.MessageInRun.{GatheredFit, MessageInRun, ApartAreTimely};
+ghost use Rattle.run_laws.specs.Runs.{NextInRun, KeptReady};
+ghost use Rattle.run_laws.specs.WorkedRun.{ComesInRun, NeedsARun, MeetsTheWait, NeedsItsPremises};
 
-/// In a run of polls of an emitter, or of its drain, the next fragment of a message is released within the bound
-/// of its link: as many BAGs and latenesses as the link has sub-VLs, after the fragment before it.
+/// An emitter, or its drain, releases the next fragment of a message within the bound of its link: one BAG and one
+/// lateness per sub-VL of the link, counted from the fragment before it.
 ///
-/// A run (`AreRuns`) is what the calls promise: `Emitter::poll` (`run`, `plan`, `allowed`) and `Draining::poll`
-/// (`run`, `plan`, `allowed`, `accepted`), of an emitter that is ready (`IsReady`), as `open_tx` makes it and
-/// polls, `close` and `publish` leave it (`ready`). That polls come until the bound, at most the lateness
-/// apart, is a premise, and that a network which carries the link is up afterwards.
+/// A run (`AreRuns`) follows from the contracts of `Emitter::poll` (`run`, `plan`, `allowed`), for a ready emitter
+/// (`IsReady`), and of `Draining::poll` (`run`, `plan`, `allowed`, `accepted`). `open_tx` makes a ready emitter, and
+/// polls, `close` and `publish` keep it ready (`ready`). Two premises: polls come at most the lateness apart until the
+/// bound, and a network that carries the link is up afterwards.
 pub fn next_in_run()
     ensures next { NextInRun }
     ensures ready { KeptReady }
@@ -21,38 +17,38 @@ pub fn next_in_run()
     // two polls of a drain, of which the first releases the second fragment
     ensures worked { ComesInRun }
 
-    // no poll; one that is late; and networks that fail with the fragment
+    // no poll; a late poll; networks that fail with the fragment
     ensures needed { NeedsARun }
 {}
 
-/// An accepted message is wholly released within the longest wait of its port, which `plan_analysis` computes from
-/// the plan and the lateness of polls (`worst_wait`): whatever the other ports and the other sub-VLs send.
+/// An accepted message is wholly released within the longest wait of its port, whatever the other ports and the other
+/// sub-VLs send. `plan_analysis` computes that wait from the plan and the lateness of polls (`worst_wait`).
 ///
-/// The time runs from any start at or after the last release before the polls, so from the last poll before the
-/// message was accepted. The message is told by the accepted list of its sub-VL (`IsAccepted`): what `gather` ties to
-/// the ports' own lists (`allowed`, and `sizes`). The premises:
+/// The wait starts at any time not before the last release, for example at the last poll before the message was
+/// accepted. The message is one of the accepted list of its sub-VL (`IsAccepted`), which `gather` ties to the ports'
+/// own lists (`allowed`, `sizes`). Premises:
 ///
-/// - After the start and after each poll, a poll comes a BAG later or at most the lateness after that, until the wait
-///   is over (`AreTimely`). Polls at most the lateness and a microsecond apart do (`apart`); so do polls at every
-///   multiple of a millisecond, with a lateness of 0.
-/// - A poll of the emitter that asks the sub-VL finds a message there until this one is wholly released (`FindsIt`): no
-///   sender is stopped between accepting and handing over. Of a drain that is no premise.
-/// - Of the messages that were accepted before it, each that lies as many places before it as the queue has room, or
-///   more, had its first fragment released (`HasPlace`): the queue holds no more than its capacity.
-/// - What the sub-VL was seen to send is a beginning of the fragments of its accepted list (`legal` of the calls), and
-///   a network that carries the link is up after the polls.
+/// - After the start and after each poll, a poll comes between one BAG and one BAG and the lateness later, until the
+///   wait is over (`AreTimely`). Polls at most the lateness and a microsecond apart meet this (`apart`). So do polls at
+///   every multiple of a millisecond, with a lateness of 0.
+/// - A poll of the emitter that polls the queue of the sub-VL finds a message there until this one is wholly released
+///   (`FindsIt`): no sender stops between accepting a message and queueing it. A drain needs no such premise.
+/// - Each message accepted before this one by at least the queue's capacity had its first fragment released
+///   (`HasPlace`): the queue never exceeds its capacity.
+/// - The fragments sent so far begin the fragments of the accepted list (`legal` of the calls), and a network that
+///   carries the link is up after the polls.
 pub fn message_in_run()
     ensures wait { MessageInRun }
 
-    // polls that are no further apart than the lateness and a microsecond
+    // polls at most the lateness and a microsecond apart
     ensures apart { ApartAreTimely }
 
-    // no accepted message is longer than its port may send, once the ports came back
+    // after `gather`, no accepted message is longer than its port may send
     ensures sizes { GatheredFit }
 
-    // a message that is released just as its wait is over, and no microsecond earlier
+    // a message that takes exactly its wait
     ensures worked { MeetsTheWait }
 
-    // a poll that is late; and a queue that holds more than it has room for
+    // a late poll; a queue that exceeds its capacity
     ensures needed { NeedsItsPremises }
 {}

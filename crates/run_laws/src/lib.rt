@@ -1,5 +1,5 @@
-//! Laws over runs of an emitter: what the promises of its calls come to together. The definitions in specs/ are
-//! for the statements alone, and each function is empty or one call.
+//! Laws over runs of an emitter: what the contracts of its calls imply together. The definitions in specs/ serve the
+//! statements only, and each function is empty or one call.
 #![tactic(auto)]
 
 pub mod laws;

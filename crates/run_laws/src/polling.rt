@@ -1,4 +1,4 @@
-//! A poll is a step of a run.
+//! Polls as steps of a run.
 ghost use Rattle.std.specs.Prelude.{◌≡◌, ◌≤◌, ◌↔◌, false, IsErr, OnErr, OnOk, IfOk};
 ghost use Rattle.redundant_mux.specs.Lines.{is_alive};
 ghost use Rattle.afdx_tx.specs.Report.{Polls};
@@ -7,7 +7,7 @@ ghost use Rattle.run_laws.specs.Runs.{IsReady, EmitterPolls, DrainPolls};
 use afdx_tx::{Draining, Emitter, PollFault, Report};
 use redundant_mux::Network;
 
-/// Polls an emitter that is ready, and leaves it ready: a step of a run, by the promises of `Emitter::poll` alone.
+/// Polls a ready emitter and leaves it ready: a step of a run, by the contract of `Emitter::poll` alone.
 pub fn poll_emitter<A: Network + Drop, B: Network + Drop>(
     emitter: &mut Emitter<A, B>,
     now: u64,
@@ -23,7 +23,7 @@ pub fn poll_emitter<A: Network + Drop, B: Network + Drop>(
     emitter.poll(now)
 }
 
-/// Polls a drain: a step of a run, by the promises of `Draining::poll` alone.
+/// Polls a drain: a step of a run, by the contract of `Draining::poll` alone.
 pub fn poll_drain<A: Network + Drop, B: Network + Drop>(
     draining: &mut Draining<A, B>,
     now: u64,

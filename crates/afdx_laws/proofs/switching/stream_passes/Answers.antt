@@ -1,5 +1,4 @@
-use Rattle.afdx_laws.proofs.Names.{refl, arith, ◌≤◌, [], entry}
-use Rattle.afdx_laws.specs.WorkedPolicing.{NeedsTheGreatest}
+use Rattle.afdx_laws.proofs.Names.{refl, arith, ◌≤◌, [], entry, NeedsTheGreatest}
 use Rattle.afdx_laws.proofs.Credit.{stream_passes_holds}
 use Rattle.afdx_laws.proofs.ListLemmas.{other_length}
 use Rattle.afdx_laws.proofs.switching.stream_passes.Goals as goal

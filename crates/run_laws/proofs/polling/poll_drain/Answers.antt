@@ -1,9 +1,4 @@
-use Rattle.std.proofs.Common.{subst}
-use Rattle.std.proofs.lemmas.Result.{on_ok_weaker}
-use Rattle.afdx_plan.specs.Config.{Plan}
-use Rattle.afdx_legal.specs.Legal.{Accepted}
-use Rattle.afdx_legal.specs.Allowed.{AreAllowed}
-use Rattle.afdx_tx.specs.Drain.{accepted_in}
+use Rattle.run_laws.proofs.Names.{subst, on_ok_weaker, Plan, Accepted, AreAllowed, accepted_in}
 use Rattle.run_laws.proofs.polling.poll_drain.Goals as goal
 
 pub returns-clause-step : goal.returns-clause-step

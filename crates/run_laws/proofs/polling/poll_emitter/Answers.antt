@@ -1,5 +1,4 @@
-use Rattle.std.proofs.Common.{refl}
-use Rattle.std.proofs.lemmas.Result.{on_ok_weaker}
+use Rattle.run_laws.proofs.Names.{refl, on_ok_weaker}
 use Rattle.run_laws.proofs.KeepReady.{kept_ready}
 use Rattle.run_laws.proofs.polling.poll_emitter.Goals as goal
 

@@ -1,0 +1,66 @@
+-- The names of other crates, and of this one's definitions, that the proofs here use.
+pub use Rattle.std.proofs.Common.{Bool, List, None, Option, Some, [], ap, arith, cond, drop, false, get_or}
+pub use Rattle.std.proofs.Common.{if◌then◌else◌, inl, inr, length, map, nat_eq, nat_le, nat_lt, refl, subst, suc, sym}
+pub use Rattle.std.proofs.Common.{take, true, zero, ℕ, ⊎_elim, ◌%◌, ◌&&◌, ◌*◌, ◌++◌, ◌+◌, ◌-◌, ◌<◌, ◌||◌, ◌∙◌, ◌∷◌, ◌≡◌}
+pub use Rattle.std.proofs.Common.{◌≢◌, ◌≤◌, ◌⊎◌}
+pub use Rattle.std.proofs.lemmas.Bool.{and_from, and_parts, both_ways, cases_eq, cases_lt, eq-eqb, false≢true, le-leb}
+pub use Rattle.std.proofs.lemmas.Bool.{le-ltb, lt-ltb, ne_eqb}
+pub use Rattle.std.proofs.lemmas.Bool.Decides.{nat_tests}
+pub use Rattle.std.proofs.lemmas.List.{append-nil, append_assoc, get_or_default, length-append, length-drop, length-map}
+pub use Rattle.std.proofs.lemmas.List.{map-append, take-append-drop}
+pub use Rattle.std.proofs.lemmas.List.Elements.{All-cons, All-contains, All-drop, All-from_recursion, All-head, All-nil}
+pub use Rattle.std.proofs.lemmas.List.Elements.{All-tail, All-weaker, filter-append}
+pub use Rattle.std.proofs.lemmas.List.Sums.{count_by-le-length, length-filter, sum_by-cons}
+pub use Rattle.std.proofs.lemmas.Nat.{mul-le}
+pub use Rattle.std.proofs.lemmas.Result.{on_ok_weaker}
+pub use Rattle.std.specs.Prelude.{All, Contains}
+pub use native.Mathlib.Nat.{mul-suc, suc-mul}
+pub use Rattle.afdx_plan.specs.Config.{HasLink, IsPlan, Plan, link_plan_at, port_plan_at}
+pub use Rattle.afdx_plan.specs.Places.{link_place}
+pub use Rattle.afdx_plan.specs.Plan.{IsLink, IsPort, bag_micros, bag_ms}
+pub use Rattle.afdx_plan.specs.Room.{room_of, step_of}
+pub use Rattle.afdx_plan.specs.declared.link_plan.LinkPlan.{LinkPlan}
+pub use Rattle.afdx_plan.specs.declared.port_plan.PortPlan.{PortPlan}
+unfoldable pub use Rattle.afdx_frame.specs.Checksum.{checksum}
+pub use Rattle.afdx_frame.specs.Cutting.{cut_by, pieces_from}
+unfoldable pub use Rattle.afdx_frame.specs.Cutting.{cutting}
+pub use Rattle.afdx_frame.specs.Fragments.{Sent, blanked, fragments_from}
+unfoldable pub use Rattle.afdx_frame.specs.Fragments.{fragments_at}
+unfoldable pub use Rattle.afdx_frame.specs.Frame.{addresses, datagram, header_front, internet_header, link_header}
+unfoldable pub use Rattle.afdx_frame.specs.Frame.{udp_header, unnumbered}
+pub use Rattle.afdx_frame.specs.Header.{IsFrameOf, sub_in}
+pub use Rattle.afdx_frame.specs.declared.net.Net.TheVariants.{A}
+pub use Rattle.redundant_mux.proofs.Enduring.{both_none, both_on, stood_before}
+pub use Rattle.redundant_mux.specs.Entry.{Entry, entry}
+pub use Rattle.redundant_mux.specs.Lines.{BothEndure, Endures, Lines, stands_for}
+unfoldable pub use Rattle.redundant_mux.specs.Lines.{log}
+pub use Rattle.vl_shaper.specs.Pace.{IsLater, Pace, is_due, turn_of}
+pub use Rattle.vl_shaper.specs.Polls.{ArePolled, AreServed, HasAtPolls, IsServed, Poll, is_of, latest_poll, released_by}
+pub use Rattle.afdx_legal.proofs.LongerStream.{latest_push}
+pub use Rattle.afdx_legal.specs.Allowed.{AreAllowed, IsAllowed, messages_of}
+pub use Rattle.afdx_legal.specs.Legal.{Accepted}
+pub use Rattle.afdx_legal.specs.Streams.{IsPrefixOf, latest, link_stream, stamp_of, sub_stream, told}
+pub use Rattle.vl_link.proofs.TurnLaws.{turn_endures, turns_each, turns_endure, turns_seen}
+pub use Rattle.vl_link.specs.Links.{Held, IsSameLink, LinkState, Passes, held_at, held_view, link_at, no_link_plan}
+pub use Rattle.vl_link.specs.Links.{pace_of, sent_by, taken_by}
+pub use Rattle.vl_link.specs.Shown.{begun_after, begun_by, none_begun}
+pub use Rattle.vl_link.specs.Turn.{AreTurns, Turn, TurnView, may_release}
+pub use Rattle.vl_link.specs.declared.served.Served.{Served}
+pub use Rattle.vl_link.specs.declared.served.Served.TheVariants.{Lost, Nothing, Released}
+pub use Rattle.afdx_tx.specs.Drain.{Drains, DrainsAt, IsDrained, accepted_in, accepted_view, pace_in}
+pub use Rattle.afdx_tx.specs.DrainEnds.{stream_at}
+pub use Rattle.afdx_tx.specs.Emitter.{IsFreshTx, IsOpenedSub, Tx, taken_in}
+pub use Rattle.afdx_tx.specs.Run.{IsRun, IsTurnAt}
+pub use Rattle.plan_analysis.specs.Wait.{message_wait, most_pieces, pieces_of, pieces_on, port_pieces, queued_before}
+pub use Rattle.plan_analysis.specs.Wait.{worst_wait}
+pub use Rattle.afdx_laws.proofs.ListLemmas.{all_front, below_both, below_one, cons_parts, cons_same}
+pub use Rattle.afdx_laws.specs.NextFragment.{link_wait}
+pub use Rattle.run_laws.specs.MessageInRun.{ApartAreTimely, AreFinding, AreTimely, ComesIn, FindsIt, FitsItsPort}
+pub use Rattle.run_laws.specs.MessageInRun.{GatheredFit, HasPlace, IsAccepted, MessageInRun, fragments_of, seen_of}
+pub use Rattle.run_laws.specs.Runs.{ArePolls, AreRuns, ComeWithin, ComesBy, DrainPolls, EmitterPolls, IsPlanned}
+pub use Rattle.run_laws.specs.Runs.{IsReady, IsReadyFor, KeptReady, NextInRun, latest_of}
+pub use Rattle.run_laws.specs.WorkedRun.{ComesInRun, MeetsTheWait, NeedsARun, NeedsItsPremises, TightCase}
+pub use Rattle.run_laws.specs.WorkedRun.{TightReleased, both_at, both_lines, four_shown, front_entry, front_line}
+pub use Rattle.run_laws.specs.WorkedRun.{lost_line, message_accepted, one_shown, small_link, small_plan, three_shown}
+pub use Rattle.run_laws.specs.WorkedRun.{tight_accepted, tight_frame, tight_lines, tight_link, tight_plan, tight_port}
+pub use Rattle.run_laws.specs.WorkedRun.{tight_sent, two_shown}

@@ -1,0 +1,119 @@
+-- The law of the next fragment in a run of polls.
+use Rattle.run_laws.proofs.Names.{ℕ, ◌≡◌, ◌≢◌, ◌⊎◌, ◌+◌, ◌<◌, ◌≤◌, List, [], ◌∷◌, ◌++◌, Bool, true, map, length, arith, refl, ap, ◌∙◌, subst, Option, Some}
+use Rattle.run_laws.proofs.Names.{None, inl, inr, ⊎_elim, All, nat_tests, cases_eq, eq-eqb, append_assoc, All-cons, All-nil, All-head, Plan, IsPlan}
+use Rattle.run_laws.proofs.Names.{link_plan_at, sub_in, Entry, Poll, ArePolled, latest_poll, none_begun, begun_after, begun_by, stamp_of, latest, latest_push}
+use Rattle.run_laws.proofs.Names.{stream_at, link_wait, seen_of, ComeWithin, latest_of, NextInRun, EmitterPolls, DrainPolls, ComesBy}
+use Rattle.afdx_laws.proofs.NextFragment.{next_polled_in_time, wait_at}
+use Rattle.afdx_legal.specs.Turns.{more_in}
+use Rattle.run_laws.proofs.PollStep.{Adds, gap_at, subs_at, emitter_step, emitter_lacks, drain_step, drain_lacks, emitter_endures, drain_endures}
+use Rattle.run_laws.proofs.Ran.{at_of, Rise, splits, left, AreSteps, have_run, some_gap, all_back}
+
+-- polls that come within the lateness, as a law of the shaper says it
+polled_of : (late before : ℕ) (polls : List Poll) → ComeWithin late before (map at_of polls) → ArePolled late before polls
+polled_of late before [] come = tt
+polled_of late before (p ∷ polls) come = (come.1, polled_of late p.at polls come.2)
+
+within_rise : (late before : ℕ) (polls : List Poll) → ComeWithin late before (map at_of polls) → Rise before polls
+within_rise late before [] come = tt
+within_rise late before (p ∷ polls) come = (come.0, within_rise late p.at polls come.2)
+
+latest_is : (before : ℕ) (polls : List Poll) → latest_poll before polls ≡ latest_of before (map at_of polls)
+latest_is before [] = refl
+latest_is before (p ∷ polls) = latest_is p.at polls
+
+-- the first entry of a sub-VL among these
+record IsFound (x : ℕ) (added : List Entry) : Type 0 where
+  pub between : List Entry
+  pub next : Entry
+  pub later : List Entry
+  pub is : added ≡ between ++ next ∷ later
+  pub others : All (λ (e : Entry). sub_in e.frame ≢ x) between
+  pub its : sub_in next.frame ≡ x
+
+finds : (x : ℕ) (added : List Entry) → 1 ≤ length (seen_of x added) → IsFound x added
+finds x [] one = absurd (omega arith)
+finds x (e ∷ added) one = elim (cases_eq (sub_in e.frame) x) [
+  | inl own ↦ record { between = []; next = e; later = added; is = refl; others = All-nil _; its = own }
+  | inr other ↦
+      let rest = finds x added (grind (arith, nat_tests)) in
+      record {
+        between = e ∷ rest.between;
+        next = rest.next;
+        later = rest.later;
+        is = ap (λ (es : List Entry). e ∷ es) rest.is;
+        others = All-cons (λ (d : Entry). sub_in d.frame ≢ x) e rest.between other rest.others;
+        its = rest.its;
+      }
+]
+
+-- whether a message of a sub-VL is begun, after one more entry
+begun_push : (begun : ℕ → Bool) (S : List Entry) (e : Entry) (x : ℕ) → begun_by begun (S ++ e ∷ []) x ≡ begun_after (begun_by begun S) e x
+begun_push begun [] e x = refl
+begun_push begun (d ∷ S) e x = begun_push (begun_after begun d) S e x
+
+-- one fragment at most is awaited, and only of a message that is begun
+abbrev AwaitsOne : ℕ → ℕ → List Entry → Type 0
+AwaitsOne x many S = (many ≤ 1) × (1 ≤ many → begun_by none_begun S x ≡ true)
+
+still_awaits : (now x many : ℕ) (released : Option ℕ) (S M : List Entry) → AwaitsOne x many S → Adds now released S M
+    → AwaitsOne x (left x many released) M
+still_awaits now x many released S M (few, begun) adds = (grind arith, λ some. grind (arith, nat_tests, begun_push none_begun S))
+
+polls_step : (plan : Plan) (k x : ℕ) → IsPlan plan → k < length plan.links
+    → AreSteps plan k x (λ now lines after. EmitterPolls plan now lines after ⊎ DrainPolls plan now lines after) (AwaitsOne x)
+    (λ S. begun_by none_begun S x)
+polls_step plan k x valid inside = record {
+  endure = λ now lines after p. ⊎_elim (λ emitter. emitter_endures now plan lines after emitter)
+      (λ drain. drain_endures now plan drain.accepted lines after drain.run) p;
+  step = λ now lines after p stands. ⊎_elim
+      (λ emitter. emitter_step now plan k x _ lines after valid inside emitter (emitter_lacks now plan k x lines after inside emitter) stands)
+      (λ drain. drain_step now plan drain.accepted k x _ lines after valid inside drain.run
+      (drain_lacks now plan drain.accepted k x (stream_at plan k lines) inside drain.allowed) stands)
+      p;
+  waits = λ many S awaits. awaits.1;
+  still = λ now many released S M. still_awaits now x many released S M;
+}
+
+next_by : (T earlier soon more : List Entry) (first : Entry) (bound : ℕ) → more_in first.frame ≡ true
+    → T ≡ (earlier ++ first ∷ []) ++ (soon ++ more) → All (λ (e : Entry). e.at ≤ bound) soon → IsFound (sub_in first.frame) soon
+    → ComesBy T first bound
+next_by T earlier soon more first bound flag grown by found = record {
+  between = found.between;
+  next = found.next;
+  are = record {
+    before = earlier;
+    after = found.later ++ more;
+    is = grown ∙ append_assoc earlier (first ∷ []) (soon ++ more) ∙ ap (λ (es : List Entry). earlier ++ first ∷ es)
+        (ap (λ (es : List Entry). es ++ more) found.is ∙ append_assoc found.between (found.next ∷ found.later) more);
+    more = flag;
+    others = found.others;
+    its = found.its;
+  };
+  soon = All-head (λ (e : Entry). e.at ≤ bound) found.next found.later (all_back (λ (e : Entry). e.at ≤ bound) found.between
+      (found.next ∷ found.later) (subst (All (λ (e : Entry). e.at ≤ bound)) found.is by));
+}
+
+pub next_in_run_holds : NextInRun
+next_in_run_holds plan moments lines after k late earlier first valid inside ends more below runs stands come reach =
+    let x : ℕ = sub_in first.frame in
+    let S : List Entry = stream_at plan k lines in
+    let bound : ℕ = first.at + link_wait late (link_plan_at plan.links k) in
+    let begun : begun_by none_begun (stream_at plan k lines) (sub_in first.frame) ≡ true =
+    rw (ends, begun_push none_begun earlier first x, eq-eqb x x refl) more in
+    let run = have_run moments plan k x 1 _ (AwaitsOne x) _ lines after (polls_step plan k x valid inside) runs stands
+    (omega arith, λ some. begun) in
+    let last : latest None (stream_at plan k lines) ≡ Some (stamp_of first) =
+    ap (latest None) ends ∙ latest_push None earlier first in
+    let within : ComeWithin late first.at (map at_of run.polls) = rw run.at come in
+    let latest_moment : latest_poll first.at run.polls ≡ latest_of first.at moments =
+    latest_is first.at run.polls ∙ ap (latest_of first.at) run.at in
+    let one = next_polled_in_time (subs_at plan k) x (gap_at plan k) late first.at run.polls below (some_gap (link_plan_at plan.links k).bag)
+    (rw last at run.served) (polled_of late first.at run.polls within) run.had (rw latest_moment reach) in
+    let split = splits run.polls run.added x bound first.at (within_rise late first.at run.polls within) run.show in
+    let many = split.seen in
+    let grown : stream_at plan k after ≡ (earlier ++ first ∷ []) ++ (split.soon ++ split.more) =
+    run.grown ∙ ap (λ (l : List Entry). l ++ run.added) ends ∙ ap (λ (l : List Entry). (earlier ++ first ∷ []) ++ l) split.is in
+    let comes = next_by (stream_at plan k after) earlier split.soon split.more first bound more grown split.by (finds x split.soon (omega arith)) in
+    let soon = comes.soon in
+    let longest = wait_at late plan.links k inside in
+    (comes, record { between = comes.between; next = comes.next; are = comes.are; soon = omega arith })
