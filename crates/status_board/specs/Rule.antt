@@ -10,7 +10,6 @@ use Rattle.status_board.specs.History.{value_of, IsRising, StartsWith}
 abbrev pub stamped : Counts → ℕ → Stamped
 stamped counts loads = record { counts = counts; loads = loads }
 
--- the entries without their stamps
 abbrev pub counts_of : List Stamped → List Counts
 counts_of entries = map (λ e. e.counts) entries
 
@@ -19,8 +18,9 @@ abbrev pub AreAfter : ℕ → List Stamped → Type 0
 AreAfter loads [] = Unit {0}
 AreAfter loads (e ∷ es) = (e.loads ≡ loads) × AreAfter loads es
 
--- What a pass knows holds. One pass is the writer's and knows the whole history. One is the monitor's and knows the number of
--- its loads: each entry that it has not seen was published after exactly these, so a load shows all that was published before.
+-- What a pass knows holds. One pass is the writer's and knows the whole history. One is the monitor's and knows the
+-- number of its loads: each entry that it has not seen was published after exactly these, so a load shows all that was
+-- published before.
 pub record Fits (writer monitor loads : ℕ) (history : List Stamped) (pass : ℕ) (v : View) : Type 0 where
   pub knows : StartsWith history v.history
   pub heard : StartsWith history v.heard
@@ -37,13 +37,11 @@ pub record KeepsHistory (value : Counts) (views : List View) : Type 0 where
   pub rising : IsRising (counts_of history)
   pub each : (pass : ℕ) (v : View) → get_elem? views pass ≡ some v → Fits writer monitor loads history pass v
 
--- the writer adds what it publishes
 pub record Adds (old : View) (before published : Counts) (new : View) : Type 0 where
   pub loads : ℕ
   pub is : new ≡ record old { history = old.history ++ stamped published loads ∷ [] }
 
--- One more load, which found the value of a history that is seen now. It begins with all that was seen, and with all
--- that was heard.
+-- One more load, which found the value of a history. The history begins with all that was seen, and all that was heard.
 pub record FindsEntry (old : View) (before found : Counts) (new : View) : Type 0 where
   pub writes : new.writes ≡ old.writes
   pub reads : new.reads ≡ old.reads
@@ -71,7 +69,7 @@ without_reading v = record v { reads = false }
 abbrev pub as_monitor : View → View
 as_monitor v = record v { writes = false }
 
--- what is reported of the history
+-- a pass that only carries what is known of the history
 abbrev pub as_told : View → View
 as_told v = record v { writes = false; reads = false }
 
@@ -79,6 +77,6 @@ as_told v = record v { writes = false; reads = false }
 abbrev pub hearing : View → View → View
 hearing v w = record v { heard = w.history }
 
--- what a pass knows that no end has
+-- what a pass knows that belongs to neither end
 abbrev pub nobody : View
 nobody = as_told opener

@@ -19,28 +19,23 @@ pub record Watched : Type 0 where
 abbrev pub no_cell : TableId
 no_cell = record { words = 0; slots = 0; views_name = 0; atom = 0; block = 0; offset = 0; slot_names = [] }
 
--- what was published of a link
 abbrev pub published : List Published → ℕ → Published
 published board link = slice_index_or board link (record { cell = no_cell; history = [] })
 
--- what was seen of a link
 abbrev pub seen : List Watched → ℕ → Watched
 seen monitor link = slice_index_or monitor link (record { cell = no_cell; history = []; loads = 0 })
 
--- the value of a link's history
 abbrev pub last_of : List Published → ℕ → Counts
 last_of board link = value_of (published board link).history
 
--- how many links a monitor reads
 abbrev pub links_of : List Watched → ℕ
 links_of monitor = length monitor
 
--- with an entry more
 abbrev pub with_entry : Published → Counts → Published
 with_entry link counts = record link { history = link.history ++ counts ∷ [] }
 
--- A reading: one load more. What it found is, whole, the value of a history that begins with all that was seen
--- before, and is seen now; so no field falls from one reading to the next.
+-- One more load. It found the value of a history that begins with all that was seen before, so no field falls from one
+-- reading to the next.
 pub record IsReading (before : Watched) (found : Counts) (after : Watched) : Type 0 where
   pub cell : after.cell ≡ before.cell
   pub loads : after.loads ≡ before.loads + 1
@@ -49,13 +44,12 @@ pub record IsReading (before : Watched) (found : Counts) (after : Watched) : Typ
   pub value : found ≡ value_of after.history
   pub above : NoFieldFalls (value_of before.history) found
 
--- both ends of a link are of one cell, of which nothing was published and nothing seen
+-- both ends of a link are of one cell; nothing was published, and nothing seen
 pub record IsNew (written : Published) (read : Watched) : Type 0 where
   pub cell : written.cell ≡ read.cell
   pub unpublished : written.history ≡ []
   pub unseen : read.history ≡ []
   pub unread : read.loads ≡ 0
 
--- so it is of each link
 abbrev pub AreNew : List Published → List Watched → Type 0
 AreNew board monitor = (link : ℕ) → IsNew (published board link) (seen monitor link)

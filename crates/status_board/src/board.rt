@@ -1,4 +1,4 @@
-//! The end of the board that publishes, and that of one link's cell.
+//! The publishing end of the board, and of one link's cell.
 ghost use Rattle.std.specs.Prelude.{◌≡◌, ◌<◌, length, slice_set};
 ghost use Rattle.status_board.specs.History.{NoFieldFalls, value_of, StartsWith};
 ghost use Rattle.status_board.specs.Views.{published, last_of, with_entry, IsReading};
@@ -10,7 +10,7 @@ use std::boxed::BoxedSlice;
 use std::marker::Model;
 use std::sync::{Arc, Wait};
 
-/// The end of the board that publishes. Contracts see the cell of each link, and its history.
+/// The publishing end of the board. Contracts see the cell of each link, and its history.
 #[derive(Drop)]
 pub struct Board {
     pub(crate) links: BoxedSlice<Writer>,
@@ -27,8 +27,8 @@ impl Model for Board {
 }
 
 impl Board {
-    /// Adds an entry to the history of a link. No field of it is below that of the link's last entry.
-    /// It may wait for a monitor that is in the middle of a reading of this link. It takes no memory.
+    /// Adds an entry to the history of a link. No field may be below that of the link's last entry.
+    /// May wait for a monitor that is reading this link. Does not allocate.
     #[inline(always)]
     pub fn publish<R: Wait>(&mut self, rt: &R, link: usize, counts: Counts)
         requires link { link < length self.old }
@@ -41,7 +41,7 @@ impl Board {
     }
 }
 
-/// The end of one link's cell that publishes. Contracts see its cell and the whole history.
+/// The publishing end of one link's cell. Contracts see the cell and the whole history.
 #[derive(Drop)]
 pub struct Writer {
     pub(crate) cell: Arc<Cell>,
@@ -75,7 +75,7 @@ impl Writer {
             .swap_as::<Publishes, R>(rt, &mut self.pass, counts);
     }
 
-    /// Shows that what a reader of the cell has seen begins the history.
+    /// Proves that what a reader of the cell has seen begins the history.
     pub fn compare<R: Wait>(&mut self, rt: &R, reader: &mut Reader)
         requires same { self.old.cell ≡ reader.old.cell }
         ensures writer { self.new ≡ self.old }
@@ -87,7 +87,7 @@ impl Writer {
         self.cell.load_as::<Compares, R>(rt, &mut self.pass);
     }
 
-    /// A reader of the cell hears the whole history, and takes one load, which finds the last entry.
+    /// Gives a reader of the cell the whole history, and loads once, which returns the last entry.
     pub fn read_last<R: Wait>(&mut self, rt: &R, reader: &mut Reader) -> Counts
         requires same { self.old.cell ≡ reader.old.cell }
         ensures writer { self.new ≡ self.old }

@@ -1,11 +1,10 @@
-//! What is counted of a virtual link.
+//! The counts of a virtual link.
 ghost use Rattle.std.specs.Prelude.{[], ◌∷◌};
 
 use crossbeam_utils::atomic::Words;
 
-/// What was sent of a virtual link: the frames that a network took at least, the sum of their lengths,
-/// the messages whose last frame is among them, and the moment of the last of them in microseconds,
-/// 0 before the first.
+/// What was sent over a virtual link: the frames that at least one network accepted, the sum of their lengths, the
+/// messages whose last frame is among them, and the time of the last frame in microseconds, 0 before the first.
 #[derive(Clone, Copy, Debug, PartialEq, Eq)]
 pub struct Counts {
     pub frames: u64,
@@ -15,7 +14,7 @@ pub struct Counts {
 }
 
 impl Counts {
-    /// Of a link that has sent nothing.
+    /// The counts of a link that has sent nothing.
     pub const ZERO: Counts = Counts {
         frames: 0,
         bytes: 0,

@@ -1,4 +1,4 @@
-//! What holds of a board and its monitor together.
+//! Calls that need a board and its monitor together.
 ghost use Rattle.std.specs.Prelude.{◌≡◌, ◌<◌, length, slice_set};
 ghost use Rattle.status_board.specs.History.{StartsWith};
 ghost use Rattle.status_board.specs.Views.{published, last_of, seen, links_of, IsReading};
@@ -10,8 +10,7 @@ use std::sync::Wait;
 
 /// What the monitor has seen of a link begins the link's history.
 ///
-/// `Monitor::read` can't say it, since the history is in the hand of the thread that publishes. Both
-/// ends are in hand here.
+/// `Monitor::read` cannot state this, as the publishing thread owns the history. Here the caller has both ends.
 pub fn seen_begins<R: Wait>(rt: &R, board: &mut Board, monitor: &mut Monitor, link: usize)
     requires published { link < length board.old }
     requires read { link < links_of monitor.old }
@@ -23,10 +22,10 @@ pub fn seen_begins<R: Wait>(rt: &R, board: &mut Board, monitor: &mut Monitor, li
     board.links[link].compare(rt, &mut monitor.links[link]);
 }
 
-/// Reads a link as `Monitor::read` does, with both ends in hand: by one load, which finds the entry that
-/// was published last, all zeros before the first.
+/// Reads a link as `Monitor::read` does, for a caller that has both ends: one load returns the entry that was published
+/// last, all zeros before the first.
 ///
-/// Between two threads no call can say that, since there is no telling which came first.
+/// Between two threads no call can state this, as neither thread knows which of them came first.
 pub fn read_last<R: Wait>(rt: &R, board: &mut Board, monitor: &mut Monitor, link: usize) -> Counts
     requires published { link < length board.old }
     requires read { link < links_of monitor.old }

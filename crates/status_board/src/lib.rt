@@ -1,4 +1,4 @@
-//! How far each virtual link has come: published by one thread, read whole by another.
+//! Counts of each virtual link, published by one thread and read by another. A read is never torn.
 #![tactic(auto)]
 
 mod board;

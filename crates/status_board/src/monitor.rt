@@ -1,4 +1,4 @@
-//! The end of the board that reads, and that of one link's cell.
+//! The reading end of the board, and of one link's cell.
 ghost use Rattle.std.specs.Prelude.{◌≡◌, ◌<◌, slice_set};
 ghost use Rattle.status_board.specs.Views.{seen, links_of, IsReading};
 
@@ -8,8 +8,8 @@ use std::boxed::BoxedSlice;
 use std::marker::Model;
 use std::sync::{Arc, Wait};
 
-/// The end of the board that reads, in any thread. Contracts see the cell of each link, what was seen
-/// of its history, and how many loads were made.
+/// The reading end of the board, for any thread. Contracts see the cell of each link, what was seen of its history, and
+/// the number of loads.
 #[derive(Drop)]
 pub struct Monitor {
     pub(crate) links: BoxedSlice<Reader>,
@@ -26,9 +26,9 @@ impl Model for Monitor {
 }
 
 impl Monitor {
-    /// Reads a link by one load: the value of its history as far as it was published, which begins with
-    /// all that this monitor had seen before. All zeros before the first entry. It may wait for an entry
-    /// that is being published on this link. It takes no memory.
+    /// Reads a link by one load: the last entry of its history as published so far, which begins with all that this
+    /// monitor has seen before. All zeros before the first entry. May wait for a `publish` on this link. Does not
+    /// allocate.
     #[inline(always)]
     pub fn read<R: Wait>(&mut self, rt: &R, link: usize) -> Counts
         requires { link < links_of self.old }
@@ -40,8 +40,7 @@ impl Monitor {
     }
 }
 
-/// The end of one link's cell that reads. Contracts see its cell, what it has seen of the history, and how many loads it
-/// has made.
+/// The reading end of one link's cell. Contracts see the cell, what was seen of the history, and the number of loads.
 #[derive(Drop)]
 pub struct Reader {
     pub(crate) cell: Arc<Cell>,
@@ -68,7 +67,7 @@ impl Model for Reader {
 }
 
 impl Reader {
-    /// Takes one load, and returns what it found.
+    /// Loads once.
     #[inline(always)]
     pub fn read<R: Wait>(&mut self, rt: &R) -> Counts
         ensures { IsReading self.old result self.new }

@@ -1,4 +1,4 @@
-//! A board is opened.
+//! Opens a board.
 ghost use Rattle.std.specs.Prelude.{◌≡◌, length, IfOk};
 ghost use Rattle.status_board.specs.Views.{links_of, AreNew, IsNew};
 
@@ -9,8 +9,8 @@ use crate::rule::{Cell, Makes};
 use std::alloc::{AllocError, Global};
 use std::sync::Arc;
 
-/// A board of so many links on which nothing was published, and the monitor that reads it and has seen
-/// nothing. All memory that its ends need is asked for here.
+/// Opens a board of `links` links on which nothing was published, and its monitor. Makes all allocations that the two
+/// need.
 pub fn open_board(alloc: Global, links: usize) -> Result<(Board, Monitor), AllocError>
     ensures board { IfOk result (λ r. length r.0 ≡ links) }
     ensures monitor { IfOk result (λ r. links_of r.1 ≡ links) }

@@ -1,5 +1,5 @@
-//! The rule of a link's cell: it holds the value of one history, which the writer knows whole, and the
-//! monitor as far as it was published before its last load.
+//! The rule of a link's cell: it holds the value of one history. The writer knows the whole history, the monitor what
+//! was published before its last load.
 ghost use Rattle.status_board.specs.Rule.{KeepsHistory, opener, Adds, FindsEntry, Agrees, without_reading, as_monitor, as_told, hearing, nobody};
 
 use crate::counts::Counts;
@@ -14,16 +14,15 @@ pub type Cell = RuledSeqCell<Counts, View, History, 4>;
 /// What an end of the cell knows.
 pub type Knowing = Pass<Counts, View>;
 
-/// An entry of the history, with the number of loads that the monitor had made before it. No value of
-/// it is made.
+/// An entry of the history, with the number of loads that the monitor made before it. Exists only in contracts.
 pub struct Stamped {
     pub counts: Counts,
     pub loads: u64,
 }
 
-/// What a pass knows. No value of it is made.
-// `history` is what it knows of the history, `loads` the number of its loads, and `heard` what another
-// pass told it of the history.
+/// What a pass knows. Exists only in contracts.
+// `history` is what the pass knows of the history, `loads` the number of its loads, and `heard` what another pass knew
+// of the history when the two were joined.
 pub struct View {
     pub writes: bool,
     pub reads: bool,
@@ -55,7 +54,7 @@ impl Outcome<Counts, View> for Loads {
     ghost then = { FindsEntry };
 }
 
-/// The writer compares what it heard with what it published.
+/// The writer compares what it has heard with what it published.
 pub struct Compares;
 
 impl Outcome<Counts, View> for Compares {
@@ -71,7 +70,7 @@ impl Split<View> for Makes {
     ghost right = { as_monitor };
 }
 
-/// The monitor tells what it has seen, and the writer hears it.
+/// One end reports what it knows of the history, and the other hears it.
 pub struct Tells;
 
 impl Split<View> for Tells {
