@@ -23,7 +23,7 @@ messages_more stream more =
     ∙ length-append (filter ends_message stream) (filter ends_message more) in
     omega arith
 
--- the moment of the stamp before, 0 where there is none
+-- the time of the stamp, 0 if there is none
 abbrev moment_of : Option Stamp → ℕ
 moment_of None = 0
 moment_of (Some stamp) = stamp.at
@@ -41,7 +41,6 @@ moment_more : (gap : ℕ) (before : Option Stamp) (stream more : List Entry) →
 moment_more gap before [] more spaced = moment_later gap before more spaced
 moment_more gap before (e ∷ stream) more spaced = moment_more gap (Some (stamp_of e)) stream more spaced.1
 
--- of a stream whose frames lie apart no count falls as it grows
 pub counts_more : (gap : ℕ) (stream more : List Entry) → IsSpaced gap None (stream ++ more)
     → NoFieldFalls (counts_in stream) (counts_in (stream ++ more))
 counts_more gap stream more spaced = record {

@@ -9,11 +9,9 @@ use Rattle.afdx_plan.specs.Networks.{is_both}
 use Rattle.afdx_plan.specs.Config.{Plan, IsPlan, link_plan_at}
 use Rattle.afdx_legal.specs.Legal.{is_on_both}
 
--- the plan that no link has
 abbrev no_link : LinkPlan
 no_link = link_plan_at [] 0
 
--- a link of a valid plan is on both where its networks are
 pub on_both_is : (plan : Plan) (k : ℕ) → IsPlan plan → k < length plan.links
     → is_on_both plan.links (link_plan_at plan.links k).id.0 ≡ is_both (link_plan_at plan.links k).networks
 on_both_is plan k valid lt = elim (cases_Bool (is_both (link_plan_at plan.links k).networks)) [

@@ -1,4 +1,4 @@
--- The words of streams, over lists that are mapped, joined or looked into.
+-- Streams of lists that are mapped or joined, and their elements.
 use Rattle.std.proofs.Common.{ℕ, ◌≡◌, zero, suc, ◌+◌, ◌<◌, List, [], ◌∷◌, ◌++◌, nat_eq, length, map, get_or, arith, refl, ap, ◌∙◌, inl, inr}
 use Rattle.std.specs.Prelude.{All}
 use Rattle.std.proofs.lemmas.Bool.{cases_Bool}
@@ -10,12 +10,10 @@ use Rattle.redundant_mux.specs.Entry.{Entry}
 use Rattle.afdx_legal.specs.Streams.{those_with, IsNumbered}
 use Rattle.afdx_legal.specs.Legal.{IsKnown, AreKnown}
 
--- those of two lists
 pub with_append : {F : Type 0} (read : F → ℕ) (n : ℕ) (xs ys : List F)
     → those_with read n (xs ++ ys) ≡ those_with read n xs ++ those_with read n ys
 with_append {F = F} read n xs ys = filter-append (λ (x : F). nat_eq (read x) n) xs ys
 
--- those of what was mapped, where each is read as before
 pub with_map : {X Y : Type 0} (of_x : X → ℕ) (of_y : Y → ℕ) (f : X → Y) (n : ℕ) → ((x : X) → of_y (f x) ≡ of_x x)
     → (xs : List X) → those_with of_y n (map f xs) ≡ map f (those_with of_x n xs)
 with_map of_x of_y f n same [] = refl
@@ -24,7 +22,6 @@ with_map {Y = Y} of_x of_y f n same (x ∷ xs) = elim (cases_Bool (nat_eq (of_x 
   | inr isnt ↦ rw (same x, isnt) (with_map of_x of_y f n same xs)
 ]
 
--- the sequence number at a place
 pub numbered_at : {F : Type 0} (number : F → ℕ) (start : ℕ) (xs : List F) → IsNumbered number start xs → (i : ℕ) (spare : F)
     → i < length xs → number (get_or xs i spare) ≡ sequence_number (start + i)
 numbered_at number start [] numbered i spare inside = absurd (omega arith)
@@ -32,14 +29,12 @@ numbered_at number start (x ∷ xs) numbered zero spare inside = numbered.0 ∙ 
 numbered_at number start (x ∷ xs) numbered (suc i) spare inside =
     numbered_at number (start + 1) xs numbered.1 i spare (omega arith) ∙ ap sequence_number (omega arith)
 
--- what has the same numbers is numbered alike
 pub numbered_map : {X Y : Type 0} (of_x : X → ℕ) (of_y : Y → ℕ) (f : X → Y) (start : ℕ) (xs : List X)
     → All (λ x. of_y (f x) ≡ of_x x) xs → IsNumbered of_x start xs → IsNumbered of_y start (map f xs)
 numbered_map of_x of_y f start [] same numbered = tt
 numbered_map of_x of_y f start (x ∷ xs) same numbered =
     (same 0 x (omega arith) ∙ numbered.0, numbered_map of_x of_y f (start + 1) xs (All-tail (λ z. of_y (f z) ≡ of_x z) x xs same) numbered.1)
 
--- known entries, by their places
 pub known_all : (links : List LinkPlan) (net : Net) (es : List Entry) → AreKnown links net es
     → All (λ (e : Entry). IsKnown links net e.frame) es
 known_all links net [] known = All-nil (λ (e : Entry). IsKnown links net e.frame)

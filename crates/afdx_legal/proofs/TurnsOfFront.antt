@@ -10,17 +10,16 @@ use Rattle.redundant_mux.specs.Logged.{side}
 use Rattle.afdx_legal.specs.Streams.{sub_stream}
 use Rattle.afdx_legal.specs.Turns.{more_in, before_next, TakesTurns}
 
--- a frame's twin says the same of fragments to come
+-- a frame's twin has the same flag of more fragments
 twin_more : (net : Net) (e : Entry) → more_in (side net e).frame ≡ more_in e.frame
 twin_more net e = ap (nat_le more_fragments) (twin_word net e.frame 20 (λ q. omega arith) (λ q. omega arith))
 
--- one entry more on both sides
 counts : (t : Bool) (us vs : List Entry) (u v : Entry) → length us ≤ length vs
     → length (cond t (u ∷ us) us) ≤ length (cond t (v ∷ vs) vs)
 counts true us vs u v le = omega arith
 counts false us vs u v le = le
 
--- what was turned to a network and is cut short has no more entries of a sub-VL before the next one
+-- a stream turned to a network and cut short has no more entries of a sub-VL before the next one
 fewer_before : (net : Net) (sub other : ℕ) (xs ys : List Entry)
     → length (sub_stream other (before_next sub (map (side net) xs))) ≤ length (sub_stream other (before_next sub (xs ++ ys)))
 fewer_before net sub other [] ys = omega arith
@@ -30,7 +29,6 @@ fewer_before net sub other (x ∷ xs) ys = elim (cases_Bool (eqb (sub_in x.frame
       (counts (eqb (sub_in x.frame) other) _ _ (side net x) x (fewer_before net sub other xs ys))
 ]
 
--- The law holds of what was turned to a network and is cut short.
 pub turns_side : (net : Net) (xs ys : List Entry) → TakesTurns (xs ++ ys) → TakesTurns (map (side net) xs)
 turns_side net [] ys h = tt
 turns_side net (x ∷ xs) ys h = (

@@ -1,4 +1,4 @@
--- What the messages of the accepted lists are.
+-- The messages of the accepted lists.
 use Rattle.std.specs.Prelude.{ℕ, ◌≡◌, ◌≤◌, ◌<◌, nat_eq, if◌then◌else◌, List, [], ◌∷◌, length, All, Contains}
 use Rattle.afdx_plan.specs.Config.{Plan, link_plan_at, port_plan_at}
 use Rattle.afdx_plan.specs.Places.{link_place}
@@ -7,7 +7,7 @@ use Rattle.afdx_frame.specs.Fragments.{Sent}
 use Rattle.afdx_frame.specs.Roles.{greatest_message}
 use Rattle.afdx_legal.specs.Legal.{Accepted}
 
--- a message of a port of the plan, over the link at a place and a sub-VL of it
+-- a message of a port of the plan, on sub-VL `sub` of link `k`
 pub record IsAllowed (plan : Plan) (k sub : ℕ) (sent : Sent) : Type 0 where
   pub port : Contains plan.ports sent.port
   pub over : sent.port.vl.0 ≡ (link_plan_at plan.links k).id.0
@@ -15,19 +15,18 @@ pub record IsAllowed (plan : Plan) (k sub : ℕ) (sent : Sent) : Type 0 where
   pub some : 1 ≤ length sent.bytes
   pub most : length sent.bytes ≤ greatest_message
 
--- each message of each sub-VL is of one of its ports
 abbrev pub AreAllowed : Plan → Accepted → Type 0
 AreAllowed plan accepted = (k s : ℕ) → k < length plan.links → s < (link_plan_at plan.links k).sub_vls
     → All (IsAllowed plan k s) (accepted k s)
 
--- the messages of a port among these, in their order
+-- the messages of a port in a list, in order
 abbrev pub messages_of : PortPlan → List Sent → List (List ℕ)
 messages_of port [] = []
 messages_of port (sent ∷ more) =
     if nat_eq sent.port.id.0 port.id.0 then sent.bytes ∷ messages_of port more
     else messages_of port more
 
--- what was accepted of the port at a place in the plan
+-- the accepted messages of the port at `place` in the plan
 abbrev pub port_messages : Plan → Accepted → ℕ → List (List ℕ)
 port_messages plan accepted place = messages_of (port_plan_at plan.ports place)
     (accepted (link_place plan (port_plan_at plan.ports place)) (port_plan_at plan.ports place).sub)

@@ -1,4 +1,4 @@
--- What was sent of a link, counted in its stream: read out of what was handed over alone.
+-- The counts of a link, read from its stream.
 use Rattle.std.specs.Prelude.{ℕ, ◌-◌, ◌^◌, List, [], ◌∷◌, Bool, nat_lt, min, length, filter}
 use Rattle.std.specs.List.{sum_by}
 use Rattle.afdx_frame.specs.Profile.{fragment_field}
@@ -6,7 +6,7 @@ use Rattle.afdx_frame.specs.Roles.{more_fragments}
 use Rattle.redundant_mux.specs.Entry.{Entry}
 use Rattle.status_board.specs.declared.counts.Counts.{Counts}
 
--- a count stays at the greatest number of 64 bits once it is there
+-- a count saturates at 2^64 - 1
 abbrev pub capped : ℕ → ℕ
 capped n = min n (2 ^ 64 - 1)
 
@@ -22,12 +22,11 @@ ends_message e = nat_lt (fragment_field e.frame) more_fragments
 abbrev pub messages_ended : List Entry → ℕ
 messages_ended stream = length (filter ends_message stream)
 
--- the moment of the last entry, or this one where there is none
+-- the time of the last entry, or `at` if there is none
 abbrev pub moment_after : ℕ → List Entry → ℕ
 moment_after at [] = at
 moment_after at (e ∷ es) = moment_after e.at es
 
--- the counts of a stream
 abbrev pub counts_in : List Entry → Counts
 counts_in stream = record {
   frames = capped (length stream);

@@ -1,4 +1,4 @@
--- Whether all that was accepted was handed over.
+-- Whether all that was accepted was transmitted.
 use Rattle.std.specs.Prelude.{ℕ, ◌≡◌, ◌<◌, List, [], ◌++◌, length}
 use Rattle.afdx_plan.specs.Config.{Plan, link_plan_at}
 use Rattle.afdx_plan.specs.Room.{room_of}
@@ -11,13 +11,12 @@ use Rattle.afdx_legal.specs.Legal.{Accepted, IsLegal}
 use Rattle.afdx_legal.specs.Allowed.{AreAllowed, AreOwn}
 use Rattle.afdx_legal.specs.Own.{AreOwnStreams}
 
--- The accepted messages of a sub-VL are wholly released: their fragments are its stream, the sequence
--- numbers left open.
+-- The accepted messages of a sub-VL are wholly released: their fragments are its stream, but for sequence numbers.
 abbrev pub IsReleased : ℕ → LinkPlan → (ℕ → List Sent) → List Entry → ℕ → Type 0
 IsReleased end_system link accepted log sub =
     fragments end_system (room_of link.lmax) A (accepted sub) ≡ told_of link.id.0 sub log
 
--- an accepted message of a sub-VL isn't wholly released: its stream is shorter than their fragments
+-- the stream of a sub-VL lacks fragments of its accepted messages
 pub record Owes (end_system : ℕ) (link : LinkPlan) (accepted : ℕ → List Sent)
     (log : List Entry) (sub : ℕ) : Type 0 where
   pub left : List (List ℕ)
@@ -30,13 +29,13 @@ abbrev pub IsLinkDone : ℕ → LinkPlan → (ℕ → List Sent) → List Entry 
 IsLinkDone end_system link accepted log = (s : ℕ) → s < link.sub_vls
     → IsReleased end_system link accepted log s
 
--- every fragment of every accepted message was taken by at least one network
+-- at least one network accepted every fragment of every accepted message
 abbrev pub IsAllDone : Plan → Accepted → List Entry → Type 0
 IsAllDone plan accepted log = (k : ℕ) → k < length plan.links
     → IsLinkDone plan.end_system (link_plan_at plan.links k) (accepted k) log
 
--- All that was accepted of the ports of a plan, of each its own list, was handed over legally, every
--- fragment of it, and nothing else: by a log of which each link's stream is the longer of its two.
+-- Exactly what the ports of a plan accepted, of each its own list, was transmitted legally and in full: by a log in
+-- which each link's stream is the longer of its two.
 pub record IsHandedWhole (plan : Plan) (own : ℕ → List (List ℕ)) (a b : List Entry) : Type 0 where
   pub accepted : Accepted
   pub legal : IsLegal plan accepted a b

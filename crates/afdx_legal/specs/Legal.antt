@@ -1,5 +1,4 @@
--- Legal handing over: of a plan, the accepted lists and two handed lists, and nothing else. Who checks the
--- headline reads this crate, and what it stands on.
+-- Legal transmission: a relation between a plan, the accepted lists and the lists `a` and `b` sent to the two networks.
 use Rattle.std.specs.Prelude.{ℕ, ◌≡◌, ◌≤◌, ◌<◌, List, [], ◌∷◌, Bool, false, ◌&&◌, nat_eq, length, map, take, filter, slice_index, None}
 use Rattle.std.specs.List.{list_any}
 use Rattle.afdx_plan.specs.Config.{Plan, link_plan_at}
@@ -29,14 +28,13 @@ pub record IsKnown (links : List LinkPlan) (net : Net) (frame : List ℕ) : Type
   pub of_sub : sub_in frame < (link_plan_at links k).sub_vls
   pub interface : slice_index frame 11 ≡ interface_byte net
 
--- each frame of a list is known
 abbrev pub AreKnown : List LinkPlan → Net → List Entry → Type 0
 AreKnown links net [] = Unit {0}
 AreKnown links net (e ∷ es) = IsKnown links net e.frame × AreKnown links net es
 
--- What was handed to one network. Every frame is known, and none is of a link that the network doesn't
--- carry; each sub-VL's stream is a prefix of the fragments of its accepted messages; each link's stream is
--- numbered and spaced.
+-- What was sent to one network is legal. Every frame is known, and none is of a link that the network doesn't carry.
+-- Each sub-VL's stream is a prefix of the fragments of its accepted messages. Each link's stream is numbered and
+-- spaced.
 pub record IsLegalOn (plan : Plan) (accepted : Accepted)
     (net : Net) (handed : List Entry) : Type 0 where
   pub known : AreKnown plan.links net handed
@@ -55,17 +53,15 @@ pub record IsLegalOn (plan : Plan) (accepted : Accepted)
 abbrev pub is_on_both : List LinkPlan → ℕ → Bool
 is_on_both links vl = list_any (λ (link : LinkPlan). nat_eq link.id.0 vl && is_both link.networks) links
 
--- the entries of links on both networks
 abbrev pub on_both : List LinkPlan → List Entry → List Entry
 on_both links handed = filter (λ (e : Entry). is_on_both links (link_in e.frame)) handed
 
--- the shorter list is the twins of a prefix of the longer, where each is turned to its network
+-- the shorter list is a prefix of the longer, each entry turned to the other network
 pub record AreTwins {F : Type 0} (turn : Net → F → F) (a b : List F) : Type 0 where
   pub b_shorter : length b ≤ length a → b ≡ map (turn B) (take (length b) a)
   pub a_shorter : length a ≤ length b → a ≡ map (turn A) (take (length a) b)
 
--- What was handed to the two networks is legal for the accepted lists. Of links on both, what was handed to
--- the one is twins of what was handed to the other.
+-- What was sent to the two networks is legal for the accepted lists. For links on both, the two lists are twins.
 pub record IsLegal (plan : Plan) (accepted : Accepted) (a b : List Entry) : Type 0 where
   pub on_a : IsLegalOn plan accepted A a
   pub on_b : IsLegalOn plan accepted B b

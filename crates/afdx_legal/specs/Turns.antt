@@ -1,5 +1,4 @@
--- The turn law, read out of what was handed over alone: how much of other sub-VLs comes between two
--- fragments of a message. Who checks it reads this file, and what it stands on.
+-- The turn law: how many entries of other sub-VLs lie between two fragments of a message.
 use Rattle.std.specs.Prelude.{ℕ, ◌≡◌, ◌<◌, ◌≤◌, Bool, true, nat_eq, nat_le, if◌then◌else◌, List, [], ◌∷◌, length}
 use Rattle.afdx_plan.specs.Config.{Plan, link_plan_at}
 use Rattle.afdx_frame.specs.Header.{sub_in}
@@ -17,18 +16,17 @@ abbrev pub before_next : ℕ → List Entry → List Entry
 before_next sub [] = []
 before_next sub (e ∷ es) = if nat_eq (sub_in e.frame) sub then [] else e ∷ before_next sub es
 
--- Where more fragments are to come behind an entry, each other sub-VL has at most one entry before the
--- next one of this sub-VL.
+-- If more fragments follow an entry, each other sub-VL has at most one entry before the next one of this sub-VL.
 abbrev pub IsFollowedInTurn : Entry → List Entry → Type 0
 IsFollowedInTurn e later = more_in e.frame ≡ true → (other : ℕ)
     → length (sub_stream other (before_next (sub_in e.frame) later)) ≤ 1
 
--- so behind each entry of a link's stream
+-- every entry of a link's stream is followed in turn
 abbrev pub TakesTurns : List Entry → Type 0
 TakesTurns [] = Unit {0}
 TakesTurns (e ∷ es) = IsFollowedInTurn e es × TakesTurns es
 
--- the sub-VLs of each link of a plan take turns, in what was handed to a network
+-- the sub-VLs of each link of a plan take turns on a network
 abbrev pub TakeTurnsOn : Plan → List Entry → Type 0
 TakeTurnsOn plan handed = (k : ℕ) → k < length plan.links
     → TakesTurns (link_stream (link_plan_at plan.links k).id.0 handed)

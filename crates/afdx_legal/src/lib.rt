@@ -1,3 +1,3 @@
-//! What legal handing over is: definitions alone, over the bytes that were handed to two networks.
-//! Who checks the headline reads this crate, and what it stands on.
+//! Legal transmission, defined over the bytes that were sent to two networks. To check the main theorem, read this
+//! crate and what it depends on.
 #![tactic(auto)]
