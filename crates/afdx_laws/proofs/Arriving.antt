@@ -97,14 +97,7 @@ arrived end_system room sub few many accepted net stream got sending first less 
           let read = reads_all (take j accepted) end_system room sub 0 A least sending.link.greatest
           (All-take (IsSent sub) j accepted sending.sent) in
           ends.2 j (omega (arith, length-map accepted (λ (s : Sent). datagram end_system s.port s.bytes)))
-          (grind (
-            arith,
-            ap length read.are,
-            take-map,
-            length-map,
-            ap length (own_fragments sub many stream got first),
-            more_of_sub sub few many stream less,
-          ));
+          (grind (arith, ap length read.are, take-map, length-map, ap length (own_fragments sub many stream got first), more_of_sub sub few many stream less));
     }
 
 pub messages_arrive_holds : MessagesArrive

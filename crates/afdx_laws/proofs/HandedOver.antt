@@ -8,10 +8,7 @@ use Rattle.afdx_laws.proofs.Arriving.{messages_arrive_holds, despite_loss_holds}
 
 begins_twins : (net : Net) (n : ℕ) (xs front all : List (List ℕ)) → front ≡ map (twin_of net) (take n all)
     → IsPrefixOf xs front → IsPrefixOf xs (map (twin_of net) all)
-begins_twins net n xs front all is p = (
-  p.0 ++ map (twin_of net) (drop n all),
-  grind (arith, append_assoc, p.1, is, map-append, take-append-drop n all),
-)
+begins_twins net n xs front all is p = (p.0 ++ map (twin_of net) (drop n all), grind (arith, append_assoc, p.1, is, map-append, take-append-drop n all))
 
 pub own_twins : (net : Net) (xs : List (List ℕ)) → All (IsOfNet net) xs → map (twin_of net) xs ≡ xs
 own_twins net [] all = refl

@@ -232,11 +232,7 @@ below room sub (d ∷ later) came least small some (rest, begun) =
     (ap (λ (fs : List Fragment). keyed (identification 0 sub) fs ++ sent_from room sub 1 later) (sym block.is)
     ∙ sym begun) in
     record {
-      given = (
-        got.many,
-        ap (map (λ (e : ℕ × List ℕ). e.1)) own.given ∙ got.are,
-        all_more room sub 0 (length (of_sub sub came)) got.many d later block got.all,
-      );
+      given = (got.many, ap (map (λ (e : ℕ × List ℕ). e.1)) own.given ∙ got.are, all_more room sub 0 (length (of_sub sub came)) got.many d later block got.all);
       alone = record { key = got.alone.key; others = λ k is ne. own.buffers k is ∙ got.alone.others k is ne };
     }
 

@@ -132,7 +132,7 @@ lie_two_gaps_apart = record {
   number = refl;
 }
 
-few_in : (sub : ℕ) (es : List Entry) → length (sub_stream sub es) ≤ length es
+pub few_in : (sub : ℕ) (es : List Entry) → length (sub_stream sub es) ≤ length es
 few_in sub es =
     let test : Entry → Bool = λ e. nat_eq (sub_in e.frame) sub in
     omega (arith, length-filter test es, count_by-le-length test es)

@@ -2,8 +2,8 @@
 use Rattle.afdx_laws.proofs.Names.{◌≡◌, ℕ, suc, ◌≤◌, List, [], ◌∷◌, length, drop, get_or, refl, ap, ◌∙◌, arith, All, Option, None, nat_tests, length-take}
 use Rattle.afdx_laws.proofs.Names.{length-drop, All-nil, All-append, All-map, identification, Piece, cutting, pieces_from, Fragment, Buffer, put, end_of}
 use Rattle.afdx_laws.proofs.Names.{datagram_in, fragment_of, fragments_of, empty, with_buffer, kept_in, keyed, sent_from, of_sub, buffers_after, HasUpTo}
-use Rattle.afdx_laws.proofs.Names.{OneBuffer, map, take, Net, A, number_in, twin_of, Sent, begin, received, most_carried, next_alone, frames_at, fragment_in}
-use Rattle.afdx_laws.proofs.Names.{IsSending, longer, id_at, piece_room, frames_of, longer_of, IsOneEnough, HandedNeedOne, LegalNeedOne, LegalNeedOneDespite}
+use Rattle.afdx_laws.proofs.Names.{OneBuffer, map, take, Net, A, twin_of, Sent, fragment_in, IsSending, longer, id_at, piece_room, longer_of, IsOneEnough}
+use Rattle.afdx_laws.proofs.Names.{HandedNeedOne, LegalNeedOne, LegalNeedOneDespite}
 use Rattle.afdx_laws.proofs.ListLemmas.{all_front}
 use Rattle.afdx_laws.proofs.Reading.{cutting_lies}
 use Rattle.afdx_laws.proofs.InOrder.{apart, reassembles}

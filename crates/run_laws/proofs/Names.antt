@@ -10,7 +10,7 @@ pub use Rattle.std.proofs.lemmas.List.{append-nil, append_assoc, get_or_default,
 pub use Rattle.std.proofs.lemmas.List.{map-append, take-append-drop}
 pub use Rattle.std.proofs.lemmas.List.Elements.{All-cons, All-contains, All-drop, All-from_recursion, All-head, All-nil}
 pub use Rattle.std.proofs.lemmas.List.Elements.{All-tail, All-weaker, filter-append}
-pub use Rattle.std.proofs.lemmas.List.Sums.{count_by-le-length, length-filter, sum_by-cons}
+pub use Rattle.std.proofs.lemmas.List.Sums.{sum_by-cons}
 pub use Rattle.std.proofs.lemmas.Nat.{mul-le}
 pub use Rattle.std.proofs.lemmas.Result.{on_ok_weaker}
 pub use Rattle.std.specs.Prelude.{All, Contains}
@@ -54,6 +54,7 @@ pub use Rattle.afdx_tx.specs.Run.{IsRun, IsTurnAt}
 pub use Rattle.plan_analysis.specs.Wait.{message_wait, most_pieces, pieces_of, pieces_on, port_pieces, queued_before}
 pub use Rattle.plan_analysis.specs.Wait.{worst_wait}
 pub use Rattle.afdx_laws.proofs.ListLemmas.{all_front, below_both, below_one, cons_parts, cons_same}
+pub use Rattle.afdx_laws.proofs.NextFragment.{few_in, next_polled_in_time, wait_at}
 pub use Rattle.afdx_laws.specs.NextFragment.{link_wait}
 pub use Rattle.run_laws.specs.MessageInRun.{ApartAreTimely, AreFinding, AreTimely, ComesIn, FindsIt, FitsItsPort}
 pub use Rattle.run_laws.specs.MessageInRun.{GatheredFit, HasPlace, IsAccepted, MessageInRun, fragments_of, seen_of}

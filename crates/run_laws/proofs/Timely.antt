@@ -1,7 +1,7 @@
 -- How long a sub-VL waits if polls come when its link is due.
-use Rattle.run_laws.proofs.Names.{ℕ, suc, zero, ◌≡◌, ◌⊎◌, ◌+◌, ◌-◌, ◌*◌, ◌%◌, ◌<◌, ◌≤◌, List, [], ◌∷◌, Bool, true, false, ◌&&◌, cond, nat_le, arith, refl, ap}
-use Rattle.run_laws.proofs.Names.{◌∙◌, sym, Option, Some, None, inl, inr, map, mul-suc, mul-le, cases_lt, cases_eq, eq-eqb, ne_eqb, le-leb, is_due, turn_of}
-use Rattle.run_laws.proofs.Names.{IsLater, Poll, IsServed, AreServed, HasAtPolls, is_of, released_by, ComeWithin, latest_of, ComesIn, AreTimely, ApartAreTimely}
+use Rattle.run_laws.proofs.Names.{ℕ, suc, zero, ◌≡◌, ◌⊎◌, ◌+◌, ◌-◌, ◌*◌, ◌%◌, ◌<◌, ◌≤◌, List, [], ◌∷◌, true, false, ◌&&◌, cond, nat_le, arith, refl, ap, ◌∙◌}
+use Rattle.run_laws.proofs.Names.{sym, Option, Some, None, inl, inr, map, mul-suc, mul-le, cases_lt, cases_eq, eq-eqb, ne_eqb, le-leb, is_due, turn_of, IsLater}
+use Rattle.run_laws.proofs.Names.{Poll, IsServed, AreServed, HasAtPolls, is_of, released_by, ComeWithin, latest_of, ComesIn, AreTimely, ApartAreTimely}
 use Rattle.std.proofs.Math.Nat.{mod-add-mod, mod-lt}
 use Rattle.vl_shaper.specs.Choices.{Choice, next_turn, IsChosen}
 use Rattle.vl_shaper.specs.declared.shaper.Stamp.{Stamp}
@@ -20,18 +20,6 @@ not_before gap late end before low high (now ∷ moments) timely (inl here) = om
 not_before gap late end before low high (now ∷ moments) timely (inr later) =
     let rest = not_before gap late end now low high moments timely.2 later in
     omega arith
-
-counts : (x moment : ℕ) (poll : Poll) (polls : List Poll) → poll.at ≤ moment → is_of x poll.released ≡ true
-    → released_by x moment (poll ∷ polls) ≡ 1 + released_by x moment polls
-counts x moment poll polls soon mine =
-    let whole = counted x moment poll polls in
-    let both : (nat_le poll.at moment && is_of x poll.released) ≡ true =
-    ap (λ (t : Bool). t && is_of x poll.released) (le-leb poll.at moment soon) ∙ mine in
-    let one = ap (λ (t : Bool). cond t 1 0 + released_by x moment polls) both in
-    omega arith
-
-no_less : (x moment : ℕ) (poll : Poll) (polls : List Poll) → released_by x moment polls ≤ released_by x moment (poll ∷ polls)
-no_less x moment poll polls = let whole = counted x moment poll polls in omega arith
 
 one_pause : (fewer more pause : ℕ) → suc fewer ≤ more → pause + fewer * pause ≤ more * pause
 one_pause fewer more pause less = let m = mul-le (suc fewer) pause more pause less (omega arith) in omega arith
@@ -117,7 +105,7 @@ in_due (p ∷ ps) subs x l (suc f) gap late before polled end last xl ll some af
           let rest : suc f ≤ released_by x end ps =
           in_due ps subs x l (suc f) gap late before p.at end last xl ll some after order
           (rw is at served.1) (rw left at has.1) timely.2 (λ far. later) enough in
-          let more = no_less x end p ps in
+          let more = counted x end p ps in
           omega arith
       | inr (chosen, is) ↦
           let stamp : Stamp = record { at = p.at; sub = chosen } in
@@ -135,7 +123,9 @@ in_due (p ∷ ps) subs x l (suc f) gap late before polled end last xl ll some af
                 let left : suc f - cond (is_of x p.released) 1 0 ≡ f = rw mine (omega arith) in
                 let none = back_self subs x chosen xl own in
                 let rest : f ≤ released_by x end ps = next f (omega arith) (rw left at has.1) in
-                let count = counts x end p ps (omega arith) mine in
+                let soon_enough : nat_le p.at end ≡ true = le-leb p.at end (omega arith) in
+                let one : cond {A = ℕ} (nat_le p.at end && is_of x p.released) 1 0 ≡ 1 = rw (soon_enough, mine) refl in
+                let count = counted x end p ps in
                 omega arith
             | inr ne ↦
                 let other : is_of x p.released ≡ false = ap (is_of x) is ∙ ne_eqb chosen x ne in
@@ -143,7 +133,7 @@ in_due (p ∷ ps) subs x l (suc f) gap late before polled end last xl ll some af
                 let far = to.1 ne in
                 let near = back_lt subs x chosen xl to.0 in
                 let rest : suc f ≤ released_by x end ps = next (suc f) (omega arith) (rw left at has.1) in
-                let more = no_less x end p ps in
+                let more = counted x end p ps in
                 omega arith
           ]
     ]

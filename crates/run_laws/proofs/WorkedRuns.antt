@@ -162,11 +162,7 @@ needs_a_run = record {
         omega arith;
   };
   lost = record {
-    runs = (
-      lost_line,
-      a_poll 1000 front_line lost_line Lost lost_turn,
-      (lost_line, a_poll 2000 lost_line lost_line Nothing down_turn, refl),
-    );
+    runs = (lost_line, a_poll 1000 front_line lost_line Lost lost_turn, (lost_line, a_poll 2000 lost_line lost_line Nothing down_turn, refl));
     is_up = λ up. false≢true up;
     comes = omega arith;
     reaches = omega arith;

@@ -1,11 +1,11 @@
 -- The worked wait, by computation.
-use Rattle.run_laws.proofs.Names.{false, ◌≡◌, ℕ, suc, ◌≤◌, ◌<◌, List, [], ◌∷◌, ◌++◌, length, Bool, true, refl, ap, arith, inl, inr, Some, None, nat_eq, ◌&&◌}
-use Rattle.run_laws.proofs.Names.{⊎_elim, All, length-append, length-map, All-head, All-tail, All-from_recursion, IsPlan, IsLink, IsPort, A, checksum, cutting}
+use Rattle.run_laws.proofs.Names.{false, ◌≡◌, ℕ, suc, ◌≤◌, ◌<◌, List, [], ◌∷◌, ◌++◌, length, Bool, true, refl, ap, arith, inl, inr, Some, None, ◌&&◌, ⊎_elim}
+use Rattle.run_laws.proofs.Names.{All, length-append, length-map, All-head, All-tail, All-from_recursion, IsPlan, IsLink, IsPort, A, checksum, cutting}
 use Rattle.run_laws.proofs.Names.{fragments_at, blanked, Sent, addresses, header_front, internet_header, link_header, udp_header, datagram, unnumbered, Entry}
-use Rattle.run_laws.proofs.Names.{entry, log, sub_in, IsLater, is_due, AreTimely, count_by-le-length, length-filter, IsAllowed, AreAllowed, latest, IsPrefixOf}
-use Rattle.run_laws.proofs.Names.{sub_stream, Released, Drains, stream_at, cons_parts, below_both, IsAccepted, HasPlace, AreFinding, fragments_of, seen_of}
-use Rattle.run_laws.proofs.Names.{tight_link, tight_port, tight_plan, tight_sent, tight_accepted, tight_frame, tight_lines, one_shown, two_shown, three_shown}
-use Rattle.run_laws.proofs.Names.{four_shown, TightReleased, TightCase, MeetsTheWait, NeedsItsPremises}
+use Rattle.run_laws.proofs.Names.{entry, log, IsLater, is_due, AreTimely, IsAllowed, AreAllowed, latest, IsPrefixOf, sub_stream, Released, Drains, stream_at}
+use Rattle.run_laws.proofs.Names.{cons_parts, below_both, IsAccepted, HasPlace, AreFinding, fragments_of, seen_of, tight_link, tight_port, tight_plan}
+use Rattle.run_laws.proofs.Names.{tight_sent, tight_accepted, tight_frame, tight_lines, one_shown, two_shown, three_shown, four_shown, TightReleased, TightCase}
+use Rattle.run_laws.proofs.Names.{MeetsTheWait, NeedsItsPremises, few_in}
 use Rattle.afdx_plan.proofs.PlanLemmas.{valid}
 use Rattle.afdx_laws.specs.Rows.{Holds}
 use Rattle.run_laws.proofs.MessageRun.{message_in_run_holds}
@@ -86,9 +86,7 @@ leaves_last bound (r ∷ rest) (e ∷ soon) more last is by late =
     omega arith
 
 few_seen : (x : ℕ) (es : List Entry) → length (seen_of x es) ≤ length es
-few_seen x es =
-    let test : Entry → Bool = λ e. nat_eq (sub_in e.frame) x in
-    omega (arith, length-map (sub_stream x es) (λ (e : Entry). blanked e.frame), length-filter test es, count_by-le-length test es)
+few_seen x es = omega (arith, length-map (sub_stream x es) (λ (e : Entry). blanked e.frame), few_in x es)
 
 -- without the last frame the second message is incomplete
 not_by : (last bound : ℕ) → bound < last → TightReleased (tight_lines (four_shown last)) bound → ⊥

@@ -1,5 +1,4 @@
--- Runs of polls of an emitter and of its drain, by the contracts of the calls, and when the next fragment of a message is
--- released in them.
+-- Runs of polls of an emitter and of its drain, and when they release the next fragment of a message.
 use Rattle.std.specs.Prelude.{ℕ, ◌≡◌, ◌⊎◌, ◌<◌, List, [], ◌∷◌, length, ◌+◌, ◌≤◌, true, ◌++◌}
 use Rattle.afdx_plan.specs.Config.{Plan, link_plan_at, IsPlan}
 use Rattle.afdx_plan.specs.Plan.{bag_micros}
