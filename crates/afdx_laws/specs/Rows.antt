@@ -18,7 +18,7 @@ pub record NeedsEach {X Y Z : Type 0} (P : X → Type 0) (Q : Y → Type 0) (R :
   pub not_second : BothFail (Q no_y) (Says x no_y z)
   pub not_third : BothFail (R no_z) (Says x y no_z)
 
--- a statement holds, or it fails
+-- the statement holds if the flag is `true`, and fails if it is `false`
 abbrev pub Holds : Bool → Type 0 → Type 0
 Holds true P = P
 Holds false P = P → ⊥

@@ -71,7 +71,7 @@ HasPlace plan k s earlier stream = (front back : List Sent) → earlier ≡ fron
     → (link_plan_at plan.links k).capacity ≤ length back
     → length (fragments_of plan k front) < length (seen_of s stream)
 
--- A poll of an emitter. If it finds the queue of the sub-VL empty, `many` fragments of the sub-VL were sent before.
+-- A poll of an emitter. If it finds nothing of the sub-VL to send, at least `many` fragments of it were sent before.
 pub record FindsIt (plan : Plan) (k s many now : ℕ) (lines after : Lines) : Type 0 where
   pub poll : EmitterPolls plan now lines after
   pub finds : Passes (held_at (link_at poll.old.links k).subs s) (held_at (link_at poll.new.links k).subs s)

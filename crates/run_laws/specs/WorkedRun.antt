@@ -40,7 +40,7 @@ small_plan = record demo_plan { links = small_link ∷ [] }
 abbrev pub message_accepted : Accepted
 message_accepted k sub = one_accepted
 
--- both networks carried the first frame
+-- the first frame, transmitted on both networks
 abbrev pub front_line : Lines
 front_line = lines_of (entry 0 (front_frame A) ∷ []) (entry 0 (front_frame B) ∷ []) 0 0 true true
     (logged_for Both (entry 0 (front_frame A)) ∷ [])
@@ -120,7 +120,7 @@ pub data Shown : Type 0 where
 abbrev pub shown_on : Net → Shown → Entry
 shown_on net (shown at place start number) = entry at (tight_frame place start number net)
 
--- both networks carried these frames
+-- these frames, transmitted on both networks
 abbrev pub tight_lines : List Shown → Lines
 tight_lines frames = lines_of (map (shown_on A) frames) (map (shown_on B) frames) 0 0 true true
     (map (λ (f : Shown). logged_for Both (shown_on A f)) frames)
