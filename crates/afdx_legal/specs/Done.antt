@@ -29,7 +29,7 @@ abbrev pub IsLinkDone : ℕ → LinkPlan → (ℕ → List Sent) → List Entry 
 IsLinkDone end_system link accepted log = (s : ℕ) → s < link.sub_vls
     → IsReleased end_system link accepted log s
 
--- at least one network accepted every fragment of every accepted message
+-- each fragment of each accepted message was accepted by at least one network
 abbrev pub IsAllDone : Plan → Accepted → List Entry → Type 0
 IsAllDone plan accepted log = (k : ℕ) → k < length plan.links
     → IsLinkDone plan.end_system (link_plan_at plan.links k) (accepted k) log

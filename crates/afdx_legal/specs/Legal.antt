@@ -56,12 +56,12 @@ is_on_both links vl = list_any (λ (link : LinkPlan). nat_eq link.id.0 vl && is_
 abbrev pub on_both : List LinkPlan → List Entry → List Entry
 on_both links handed = filter (λ (e : Entry). is_on_both links (link_in e.frame)) handed
 
--- the shorter list is a prefix of the longer, each entry turned to the other network
+-- the shorter list is a prefix of the longer, with each entry turned to the network of the shorter
 pub record AreTwins {F : Type 0} (turn : Net → F → F) (a b : List F) : Type 0 where
   pub b_shorter : length b ≤ length a → b ≡ map (turn B) (take (length b) a)
   pub a_shorter : length a ≤ length b → a ≡ map (turn A) (take (length a) b)
 
--- What was sent to the two networks is legal for the accepted lists. For links on both, the two lists are twins.
+-- What was sent to the two networks is legal for the accepted lists. Of links on both, the two lists are twins.
 pub record IsLegal (plan : Plan) (accepted : Accepted) (a b : List Entry) : Type 0 where
   pub on_a : IsLegalOn plan accepted A a
   pub on_b : IsLegalOn plan accepted B b
