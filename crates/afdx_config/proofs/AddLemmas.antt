@@ -1,32 +1,17 @@
 -- Findings that were added one after the other.
-use Rattle.std.proofs.Common.{◌≡◌, ℕ, ◌+◌, ◌<◌, List, [], ◌∷◌, ◌++◌, length, get_or, drop, refl, ap, sym, subst, ◌∙◌, map, append_assoc, Option, Some, None, option_map, string_bytes, append-nil}
-use Rattle.std.proofs.lemmas.List.{drop_more}
-use Rattle.std.specs.List.{position, flat_map}
-use Rattle.std.proofs.lemmas.List.Folds.{flat_map-map}
-use Rattle.toml.specs.Data.{Members}
-use Rattle.toml.specs.View.{table_view, members_view}
-use Rattle.std.specs.Map.{keys_of}
-use Rattle.std.proofs.Common.{String, Global}
-use Rattle.toml.specs.declared.value.Value.{Value}
-use Rattle.afdx_plan.specs.declared.fault.ConfigFault.{ConfigFault}
-use Rattle.afdx_plan.specs.declared.link_plan.LinkPlan.{LinkPlan}
-use Rattle.afdx_plan.specs.declared.port_plan.PortPlan.{PortPlan}
-use Rattle.afdx_config.specs.declared.findings.Place.{Place}
-use Rattle.afdx_config.specs.declared.findings.Place.TheVariants.{Link, Port}
-use Rattle.afdx_config.specs.declared.rows.LinkRow.{LinkRow}
-use Rattle.afdx_config.specs.declared.rows.PortRow.{PortRow}
+use Rattle.afdx_config.proofs.Names.{◌≡◌, ℕ, ◌+◌, ◌<◌, List, [], ◌∷◌, ◌++◌, length, get_or, drop, refl, ap, sym, subst}
+use Rattle.afdx_config.proofs.Names.{◌∙◌, map, append_assoc, Option, Some, None, option_map, string_bytes, append-nil}
+use Rattle.afdx_config.proofs.Names.{drop_more, position, flat_map, flat_map-map, Members, table_view, members_view}
+use Rattle.afdx_config.proofs.Names.{keys_of, String, Global, Value, ConfigFault, LinkPlan, PortPlan, Place, Link, Port}
+use Rattle.afdx_config.proofs.Names.{Field, Finding, found, one_if, plan_key, pair_finding, link_findings, links_clash}
+use Rattle.afdx_config.proofs.Names.{port_findings, ports_clash, is_misfit, link_number, is_last_crowded}
+use Rattle.afdx_config.proofs.Names.{count_findings, field_findings, key_findings, member_keys, sites, findings}
+use Rattle.afdx_config.proofs.Names.{findings_of, shown_faults, Adds, finding_of, site_of, field_of, AreSectionsOf}
+use Rattle.afdx_config.proofs.Names.{Sections, link_of, port_of, rows_at, map-map, codes}
 use Rattle.afdx_config.specs.declared.sites.Site.{Site as Table}
 use Rattle.afdx_config.specs.declared.findings.Finding.{Finding as Written}
-use Rattle.afdx_config.specs.Format.{Field}
-use Rattle.afdx_config.specs.Findings.{Finding, found, one_if, plan_key, pair_finding, link_findings, links_clash, port_finding, port_findings, ports_clash, is_misfit, link_number, is_last_crowded, count_findings, plan_findings, field_findings, key_findings, member_keys, site_findings, sites, findings, findings_of, shown_faults}
-use Rattle.afdx_config.specs.Seen.{Adds, finding_of, link_in, port_in, site_of}
-use Rattle.afdx_config.specs.Views.{field_of, AreSectionsOf}
-use Rattle.afdx_config.specs.declared.sections.Sections.{Sections}
-use Rattle.afdx_config.specs.PlanOf.{link_of, port_of}
-use Rattle.afdx_config.specs.Tables.{rows_at}
+use Rattle.afdx_config.specs.Findings.{port_finding, plan_findings, site_findings}
 use Rattle.afdx_config.proofs.SectionLemmas.{Found}
-use Rattle.std.proofs.lemmas.Simd.{map-map}
-use Rattle.std.proofs.Common.{codes}
 
 -- one after the other
 pub adds_both : (old mid new : List Written) (a b : List Finding) → Adds old mid a → Adds mid new b → Adds old new (a ++ b)
@@ -38,36 +23,36 @@ step : (mid new : List Written) (more rest whole : List Finding) → Adds mid ne
 step mid new more rest whole this before = rw this (append_assoc (map finding_of mid) more rest ∙ before)
 
 -- one link more
-pub link_more : (fault : ConfigFault) (i : ℕ) (links rest : List LinkRow) (x d : LinkRow) (mid new : List Written) (whole : List Finding)
+pub link_more : (fault : ConfigFault) (i : ℕ) (links rest : List LinkPlan) (x d : LinkPlan) (mid new : List Written) (whole : List Finding)
     → i < length links → x ≡ get_or links i d → rest ≡ drop (i + 1) links
-    → map finding_of mid ++ link_findings fault (i + 1) (map link_in (drop i links)) ≡ whole
-    → Adds mid new (pair_finding fault Link (i + 1) (position (links_clash fault (link_in x)) (map link_in rest)))
-    → map finding_of new ++ link_findings fault (i + 1 + 1) (map link_in (drop (i + 1) links)) ≡ whole
+    → map finding_of mid ++ link_findings fault (i + 1) (drop i links) ≡ whole
+    → Adds mid new (pair_finding fault Link (i + 1) (position (links_clash fault x) rest))
+    → map finding_of new ++ link_findings fault (i + 1 + 1) (drop (i + 1) links) ≡ whole
 link_more fault i links rest x d mid new whole inside here behind before this = step mid new
-    (pair_finding fault Link (i + 1) (position (links_clash fault (link_in x)) (map link_in rest)))
-    (link_findings fault (i + 1 + 1) (map link_in (drop (i + 1) links))) whole this
-    (ap (λ rows. map finding_of mid ++ (pair_finding fault Link (i + 1) (position (links_clash fault (link_in x)) (map link_in rows))
-    ++ link_findings fault (i + 1 + 1) (map link_in (drop (i + 1) links)))) behind
-    ∙ ap (λ rows. map finding_of mid ++ link_findings fault (i + 1) (map link_in rows)) (ap (λ y. y ∷ drop (i + 1) links) here ∙ sym (drop_more links i d inside)) ∙ before)
+    (pair_finding fault Link (i + 1) (position (links_clash fault x) rest))
+    (link_findings fault (i + 1 + 1) (drop (i + 1) links)) whole this
+    (ap (λ rows. map finding_of mid ++ (pair_finding fault Link (i + 1) (position (links_clash fault x) rows)
+    ++ link_findings fault (i + 1 + 1) (drop (i + 1) links))) behind
+    ∙ ap (λ rows. map finding_of mid ++ link_findings fault (i + 1) rows) (ap (λ y. y ∷ drop (i + 1) links) here ∙ sym (drop_more links i d inside)) ∙ before)
 
 -- one port more
-pub port_more : (fault : ConfigFault) (links : List LinkPlan) (all : List PortPlan) (i : ℕ) (ports rest : List PortRow) (x d : PortRow)
+pub port_more : (fault : ConfigFault) (links : List LinkPlan) (all : List PortPlan) (i : ℕ) (ports rest : List PortPlan) (x d : PortPlan)
     (mid one two new : List Written) (whole : List Finding) → i < length ports → x ≡ get_or ports i d → rest ≡ drop (i + 1) ports
-    → map finding_of mid ++ port_findings fault links all (i + 1) (map port_in (drop i ports)) ≡ whole
-    → Adds mid one (pair_finding fault Port (i + 1) (position (ports_clash fault (port_in x)) (map port_in rest)))
-    → Adds one two (one_if (is_misfit fault links (port_in x))
-    (found fault (Port (i + 1)) (plan_key fault) (link_number links (port_in x))))
-    → Adds two new (one_if (is_last_crowded fault all (port_in x) (map port_in rest))
+    → map finding_of mid ++ port_findings fault links all (i + 1) (drop i ports) ≡ whole
+    → Adds mid one (pair_finding fault Port (i + 1) (position (ports_clash fault x) rest))
+    → Adds one two (one_if (is_misfit fault links x)
+    (found fault (Port (i + 1)) (plan_key fault) (link_number links x)))
+    → Adds two new (one_if (is_last_crowded fault all x rest)
     (found fault (Port (i + 1)) (plan_key fault) None))
-    → map finding_of new ++ port_findings fault links all (i + 1 + 1) (map port_in (drop (i + 1) ports)) ≡ whole
+    → map finding_of new ++ port_findings fault links all (i + 1 + 1) (drop (i + 1) ports) ≡ whole
 unfolding port_finding
 port_more fault links all i ports rest x d mid one two new whole inside here behind before p q r = step mid new
-    (port_finding fault links all (i + 1) (port_in x) (map port_in rest))
-    (port_findings fault links all (i + 1 + 1) (map port_in (drop (i + 1) ports))) whole
+    (port_finding fault links all (i + 1) x rest)
+    (port_findings fault links all (i + 1 + 1) (drop (i + 1) ports)) whole
     (adds_both mid two new _ _ (adds_both mid one two _ _ p q) r)
-    (ap (λ rows. map finding_of mid ++ (port_finding fault links all (i + 1) (port_in x) (map port_in rows)
-    ++ port_findings fault links all (i + 1 + 1) (map port_in (drop (i + 1) ports)))) behind
-    ∙ ap (λ rows. map finding_of mid ++ port_findings fault links all (i + 1) (map port_in rows)) (ap (λ y. y ∷ drop (i + 1) ports) here ∙ sym (drop_more ports i d inside)) ∙ before)
+    (ap (λ rows. map finding_of mid ++ (port_finding fault links all (i + 1) x rows
+    ++ port_findings fault links all (i + 1 + 1) (drop (i + 1) ports))) behind
+    ∙ ap (λ rows. map finding_of mid ++ port_findings fault links all (i + 1) rows) (ap (λ y. y ∷ drop (i + 1) ports) here ∙ sym (drop_more ports i d inside)) ∙ before)
 
 -- all of a plan
 pub plan_all : (fault : ConfigFault) (links : List LinkPlan) (ports : List PortPlan) (old one two new : List Written)
@@ -102,26 +87,26 @@ flat_map_same f g [] same = refl
 flat_map_same f g (x ∷ xs) same = rw (same x, flat_map_same f g xs same) refl
 
 -- all of a document
-pub all_found : (doc : Members) (s : Sections) (tables : List Table) (links : List LinkRow) (ports : List PortRow)
+pub all_found : (doc : Members) (s : Sections) (tables : List Table) (links : List LinkPlan) (ports : List PortPlan)
     (ls ps : List Found) (old new : List Written) → AreSectionsOf doc s → old ≡ [] → map site_of tables ≡ sites doc
-    → ls ≡ s.links.items → map link_in links ≡ map (λ t. link_of (table_view t.now)) ls
-    → ps ≡ s.ports.items → map port_in ports ≡ map (λ t. port_of (table_view t.now)) ps
+    → ls ≡ s.links.items → links ≡ map (λ t. link_of (table_view t.now)) ls
+    → ps ≡ s.ports.items → ports ≡ map (λ t. port_of (table_view t.now)) ps
     → Adds old new (flat_map (λ fault. flat_map (λ t. site_findings fault (site_of t)) tables
-    ++ plan_findings fault (map link_in links) (map port_in ports)) shown_faults)
+    ++ plan_findings fault links ports) shown_faults)
     → map finding_of new ≡ findings doc
 all_found doc s tables links ports ls ps old new are none at_sites at_ls at_links at_ps at_ports added =
-    let links_are : map link_in links ≡ map link_of (rows_at (codes "vl") doc) =
+    let links_are : links ≡ map link_of (rows_at (codes "vl") doc) =
     at_links ∙ sym (map-map link_of (λ (t : Found). table_view t.now) ls)
     ∙ ap (λ ts. map link_of (map (λ (t : Found). table_view t.now) ts)) at_ls ∙ ap (map link_of) are.links_are in
-    let ports_are : map port_in ports ≡ map port_of (rows_at (codes "port") doc) =
+    let ports_are : ports ≡ map port_of (rows_at (codes "port") doc) =
     at_ports ∙ sym (map-map port_of (λ (t : Found). table_view t.now) ps)
     ∙ ap (λ ts. map port_of (map (λ (t : Found). table_view t.now) ts)) at_ps ∙ ap (map port_of) are.ports_are in
     added ∙ ap (λ xs. map finding_of xs ++ flat_map (λ fault. flat_map (λ t. site_findings fault (site_of t)) tables
-    ++ plan_findings fault (map link_in links) (map port_in ports)) shown_faults) none
+    ++ plan_findings fault links ports) shown_faults) none
     ∙ flat_map_same (λ fault. flat_map (λ t. site_findings fault (site_of t)) tables
-    ++ plan_findings fault (map link_in links) (map port_in ports)) (λ fault. findings_of fault doc) shown_faults
-    (λ fault. ap (λ xs. xs ++ plan_findings fault (map link_in links) (map port_in ports))
+    ++ plan_findings fault links ports) (λ fault. findings_of fault doc) shown_faults
+    (λ fault. ap (λ xs. xs ++ plan_findings fault links ports)
     (sym (flat_map-map (site_findings fault) site_of tables) ∙ ap (flat_map (site_findings fault)) at_sites)
-    ∙ ap (λ xs. flat_map (site_findings fault) (sites doc) ++ plan_findings fault xs (map port_in ports)) links_are
+    ∙ ap (λ xs. flat_map (site_findings fault) (sites doc) ++ plan_findings fault xs ports) links_are
     ∙ ap (λ xs. flat_map (site_findings fault) (sites doc)
     ++ plan_findings fault (map link_of (rows_at (codes "vl") doc)) xs) ports_are)

@@ -1,12 +1,7 @@
 -- A text that writes four numbers is read as them.
-use Rattle.afdx_config.proofs.Names.{◌≡◌, ℕ, List, [], ◌∷◌, Option, Some, None, refl, ap, sym, ◌∙◌, lit≤}
-use Rattle.afdx_config.proofs.Names.{append-nil, eq-eqb, ◌==◌, eqb-true}
-use Rattle.std.specs.Prelude.{if◌then◌else◌, slice_index}
-use Rattle.std.specs.Net.Grammar.{IsDotted}
-use Rattle.std.specs.Net.Reader.{read_ipv4}
-use Rattle.std.specs.declared.net.ipv4_addr.Ipv4Addr.{Ipv4Addr}
-use Rattle.std.proofs.NetLemmas.Ipv4.{read_ipv4_complete, read_ipv4_sound}
-use Rattle.std.proofs.NetLemmas.Options.{and_then_some, cond_some}
+use Rattle.afdx_config.proofs.Names.{◌≡◌, ℕ, List, [], ◌∷◌, Option, Some, None, refl, ap, sym, ◌∙◌, lit≤, append-nil}
+use Rattle.afdx_config.proofs.Names.{eq-eqb, ◌==◌, eqb-true, if◌then◌else◌, slice_index, IsDotted, read_ipv4, Ipv4Addr}
+use Rattle.afdx_config.proofs.Names.{read_ipv4_complete, read_ipv4_sound, and_then_some, cond_some}
 use Rattle.afdx_config.specs.Values.{in_network_10, address_of, AddressesAreDotted}
 
 -- a text that writes an address is read as it, where its first number is 10

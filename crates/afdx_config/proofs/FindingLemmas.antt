@@ -1,7 +1,7 @@
 -- Findings beside the code's values.
-use Rattle.std.proofs.Common.{◌≡◌, ℕ, ◌+◌, List, [], ◌∷◌, ◌++◌, Bool, true, false, ◌||◌, cond, Option, Some, None, refl, ap, sym, ◌∙◌, map, find, option_map, arith}
-use Rattle.std.specs.List.{position, position_from, list_any, flat_map}
-use Rattle.std.proofs.lemmas.Iterator.Adapters.{position_from-zero}
+use Rattle.afdx_config.proofs.Names.{◌≡◌, ℕ, ◌+◌, List, [], ◌∷◌, ◌++◌, Bool, true, false, ◌||◌, cond, Option, Some}
+use Rattle.afdx_config.proofs.Names.{None, refl, ap, sym, ◌∙◌, map, find, option_map, arith, position, position_from}
+use Rattle.afdx_config.proofs.Names.{list_any, flat_map, position_from-zero}
 
 -- what is found first of what a map gives
 pub find_map : {A B : Type 0} (p : B → Bool) (f : A → B) (xs : List A)

@@ -1,15 +1,8 @@
 -- The first finding has the fault of the least number.
-use Rattle.std.proofs.Common.{◌≡◌, ℕ, ◌+◌, ◌<◌, ◌≤◌, List, [], ◌∷◌, ◌++◌, Bool, true, false, ◌||◌, ◌&&◌, refl, ap, sym, subst, ◌∙◌, arith, lit≤}
-use Rattle.std.proofs.Common.{◌==◌, eq-eqb}
-use Rattle.std.proofs.lemmas.Bool.{and_parts, eqb-true}
-use Rattle.std.specs.List.{list_any, flat_map}
-use Rattle.toml.specs.Data.{Members}
-use Rattle.afdx_plan.specs.PlanFaults.{fault_number}
-use Rattle.afdx_plan.specs.declared.fault.ConfigFault.{ConfigFault}
-use Rattle.afdx_plan.specs.declared.fault.ConfigFault.TheVariants.{Toml}
-use Rattle.afdx_config.specs.Faults.{shows, Reads}
-use Rattle.afdx_config.specs.Findings.{Finding, findings, findings_of, shown_faults}
-use Rattle.afdx_config.specs.FindingLaws.{has, FirstIsAnswered}
+use Rattle.afdx_config.proofs.Names.{◌≡◌, ℕ, ◌+◌, ◌<◌, ◌≤◌, List, [], ◌∷◌, ◌++◌, Bool, true, false, ◌||◌, ◌&&◌, refl}
+use Rattle.afdx_config.proofs.Names.{ap, sym, subst, ◌∙◌, arith, lit≤, ◌==◌, eq-eqb, and_parts, eqb-true, list_any}
+use Rattle.afdx_config.proofs.Names.{flat_map, Members, fault_number, ConfigFault, Toml, shows, Reads, Finding}
+use Rattle.afdx_config.proofs.Names.{findings, findings_of, shown_faults, has, FirstIsAnswered}
 use Rattle.afdx_config.proofs.ShownLemmas.{any_append, of_shown, faults_are_found, no_toml}
 use Rattle.afdx_config.proofs.TextLemmas.{hasnt, has as of_text}
 

@@ -1,13 +1,9 @@
 -- The least of several faults.
-use Rattle.afdx_config.proofs.Names.{◌≡◌, ℕ, ◌+◌, ◌<◌, ◌≤◌, inl, inr, Bool, List, map, get_or, length}
-use Rattle.afdx_config.proofs.Names.{take, Option, Some, None, refl, sym, ap, ◌∙◌, arith, IfSome}
-use Rattle.afdx_config.proofs.Names.{then_some, list_any, cases_lt, lt-ltb, le-ltb}
-use Rattle.afdx_config.proofs.Names.{or_from, take_all, Members, table_view, fault_number, ConfigFault, UnknownKey}
-use Rattle.afdx_config.proofs.Names.{has_key_besides, Field, field_fault, keys_fault, is_key_of, is_fault}
-use Rattle.afdx_config.proofs.Names.{IsLeastOf, IsOfValues, field_of, lesser}
-use Rattle.std.specs.Prelude.{◌||◌}
-use Rattle.std.proofs.lemmas.Bool.Decides.{nat_tests}
-use Rattle.std.proofs.lemmas.List.Folds.{list_any_more}
+use Rattle.afdx_config.proofs.Names.{◌≡◌, ℕ, ◌+◌, ◌<◌, ◌≤◌, inl, inr, Bool, List, map, get_or, length, take, Option}
+use Rattle.afdx_config.proofs.Names.{Some, None, refl, sym, ap, ◌∙◌, arith, IfSome, then_some, list_any, cases_lt}
+use Rattle.afdx_config.proofs.Names.{lt-ltb, le-ltb, or_from, take_all, Members, table_view, fault_number, ConfigFault}
+use Rattle.afdx_config.proofs.Names.{UnknownKey, has_key_besides, Field, field_fault, keys_fault, is_key_of, is_fault}
+use Rattle.afdx_config.proofs.Names.{IsLeastOf, IsOfValues, field_of, lesser, ◌||◌, nat_tests, list_any_more}
 use Rattle.afdx_config.specs.declared.format.Field.{Field as Written}
 use Rattle.afdx_config.specs.Tables.{table_shows}
 use Rattle.afdx_config.proofs.SectionLemmas.{Found, list_any-map}

@@ -1,28 +1,19 @@
 -- Each finding's place has its fault.
-use Rattle.std.proofs.Common.{◌≡◌, ℕ, zero, suc, ◌+◌, ◌-◌, ◌<◌, ◌≤◌, List, [], ◌∷◌, ◌++◌, length, get_or, Bool, true, false, ◌||◌, ◌&&◌, not, Option, Some, None, refl, ap, sym, ◌∙◌, codes, arith, lit≤, bytes_eq, slice_get}
-use Rattle.std.specs.Prelude.{nat_lt, All}
-use Rattle.std.specs.List.{position, list_any, flat_map, AllByRecursion}
-use Rattle.std.specs.Option.{option_map_or}
-use Rattle.std.proofs.Math.Bool.{or-true}
-use Rattle.std.proofs.lemmas.Bool.{and_parts, lt-ltb}
-use Rattle.std.proofs.lemmas.List.Elements.{All-from_recursion}
-use Rattle.std.proofs.lemmas.List.Quantifiers.{position-Some}
-use Rattle.std.proofs.lemmas.Option.{slice_get-get_or}
-use Rattle.std.proofs.lemmas.Slice.Eq.{bytes_eq-Decides}
-use Rattle.toml.specs.Data.{Members}
-use Rattle.afdx_plan.specs.PlanFaults.{is_crowded}
-use Rattle.afdx_plan.specs.declared.fault.ConfigFault.{ConfigFault}
-use Rattle.afdx_plan.specs.declared.fault.ConfigFault.TheVariants.{UnknownKey, Limit}
-use Rattle.afdx_plan.specs.declared.link_plan.LinkPlan.{LinkPlan}
-use Rattle.afdx_plan.specs.declared.port_plan.PortPlan.{PortPlan}
-use Rattle.afdx_config.specs.declared.findings.Place.{Place}
-use Rattle.afdx_config.specs.declared.findings.Place.TheVariants.{Top, EndSystem, Link, Port}
-use Rattle.afdx_config.specs.Findings.{Finding, found, one_if, Site, site, row_sites, end_sites, sites, field_findings, key_findings, member_keys, site_findings, plan_key, pair_finding, links_clash, link_findings, ports_clash, is_misfit, link_number, has_same_sub, is_last_crowded, port_finding, port_findings, count_is_wrong, count_findings, plan_findings, findings_of, shown_faults, findings}
-use Rattle.afdx_config.specs.FindingLaws.{row_has, rows_have, plan_has, value_has, key_has, has_place, PlacesHaveFaults}
-use Rattle.afdx_config.specs.Format.{Field, document_fields, end_fields, link_fields, port_fields, fields_in}
-use Rattle.afdx_config.specs.PlanOf.{plan_of}
-use Rattle.afdx_config.specs.Tables.{field_fault, is_fault, is_key_of, is_version_2, rows_at, section_at}
-use Rattle.afdx_config.specs.Told.{members_at, fields_at}
+use Rattle.afdx_config.proofs.Names.{◌≡◌, ℕ, zero, suc, ◌+◌, ◌-◌, ◌<◌, ◌≤◌, List, [], ◌∷◌, ◌++◌, length, get_or, Bool}
+use Rattle.afdx_config.proofs.Names.{true, false, ◌||◌, ◌&&◌, not, Option, Some, None, refl, ap, sym, ◌∙◌, codes, arith}
+use Rattle.afdx_config.proofs.Names.{lit≤, bytes_eq, slice_get, nat_lt, All, position, list_any, flat_map}
+use Rattle.afdx_config.proofs.Names.{AllByRecursion, option_map_or, or-true, and_parts, lt-ltb, All-from_recursion}
+use Rattle.afdx_config.proofs.Names.{position-Some, slice_get-get_or, bytes_eq-Decides, Members, is_crowded}
+use Rattle.afdx_config.proofs.Names.{ConfigFault, UnknownKey, Limit, LinkPlan, PortPlan, Place, Top, EndSystem, Link}
+use Rattle.afdx_config.proofs.Names.{Port, Finding, found, one_if, Site, site, row_sites, end_sites, sites}
+use Rattle.afdx_config.proofs.Names.{field_findings, key_findings, member_keys, plan_key, pair_finding, links_clash}
+use Rattle.afdx_config.proofs.Names.{link_findings, ports_clash, is_misfit, link_number, has_same_sub, is_last_crowded}
+use Rattle.afdx_config.proofs.Names.{port_findings, count_is_wrong, count_findings, findings_of, shown_faults, findings}
+use Rattle.afdx_config.proofs.Names.{row_has, rows_have, plan_has, value_has, key_has, has_place, PlacesHaveFaults}
+use Rattle.afdx_config.proofs.Names.{Field, document_fields, end_fields, link_fields, port_fields, fields_in, plan_of}
+use Rattle.afdx_config.proofs.Names.{field_fault, is_fault, is_key_of, is_version_2, rows_at, section_at, members_at}
+use Rattle.afdx_config.proofs.Names.{fields_at}
+use Rattle.afdx_config.specs.Findings.{site_findings, port_finding, plan_findings}
 
 -- of two lists
 r_append : {A : Type 0} (P : A → Type 0) (xs ys : List A) → AllByRecursion P xs → AllByRecursion P ys → AllByRecursion P (xs ++ ys)

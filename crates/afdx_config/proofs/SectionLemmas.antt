@@ -1,13 +1,11 @@
 -- The tables and keys of a document, beside the code's values; what is found in the code's tables is found in the document's.
 use Rattle.afdx_config.proofs.Names.{◌≡◌, ℕ, Bool, not, ◌||◌, is_none, List, [], ◌∷◌, String, Global, string_bytes}
 use Rattle.afdx_config.proofs.Names.{refl, ap, ◌-◌, false, map, length, take, Option, Some, None, option_map, Bor}
-use Rattle.afdx_config.proofs.Names.{BTreeMap, cons_option, filter_map, list_any, as_table, Members, view}
-use Rattle.afdx_config.proofs.Names.{items_view, members_view, table_view, has_key_besides, tables_among}
-use Rattle.afdx_config.proofs.Names.{has_other_item, is_version_2, table_shows, take-map, length-map, option_map_or}
-use Rattle.afdx_config.proofs.Names.{ConfigFault, document_fields, end_fields, link_fields, port_fields, fields_in}
-use Rattle.afdx_config.proofs.Names.{AreSectionsOf, field_of, Sections}
-use Rattle.std.specs.Map.{keys_of}
-use Rattle.toml.specs.declared.value.Value.{Value}
+use Rattle.afdx_config.proofs.Names.{BTreeMap, cons_option, filter_map, list_any, as_table, Members, view, items_view}
+use Rattle.afdx_config.proofs.Names.{members_view, table_view, has_key_besides, tables_among, has_other_item}
+use Rattle.afdx_config.proofs.Names.{is_version_2, table_shows, take-map, length-map, option_map_or, ConfigFault}
+use Rattle.afdx_config.proofs.Names.{document_fields, end_fields, link_fields, port_fields, fields_in, AreSectionsOf}
+use Rattle.afdx_config.proofs.Names.{field_of, Sections, keys_of, Value}
 use Rattle.afdx_config.specs.Tables.{values_show}
 use Rattle.afdx_config.specs.declared.format.Field.{Field as Written}
 

@@ -1,35 +1,26 @@
 -- A fault is shown by a document exactly where some finding has it.
-use Rattle.std.proofs.Common.{◌≡◌, ℕ, ◌+◌, ◌<◌, ◌≤◌, List, [], ◌∷◌, ◌++◌, length, Bool, true, false, ◌||◌, ◌&&◌, not, cond, Option, Some, None, refl, ap, sym, subst, ◌∙◌, map, find, option_map, codes, arith, is_some}
-use Rattle.std.proofs.Common.{◌==◌}
-use Rattle.std.proofs.lemmas.Bool.{and_parts, eqb-true}
-use Rattle.std.proofs.Math.Bool.{or-true}
-use Rattle.std.specs.List.{position, position_from, list_any, flat_map}
-use Rattle.std.specs.Bool.{then_some}
-use Rattle.std.specs.Option.{option_map_or}
-use Rattle.std.proofs.lemmas.Iterator.Adapters.{position_from-zero}
-use Rattle.toml.specs.Data.{Data, Members, no_members, member, get_member, as_integer, as_str, as_array, as_table}
-use Rattle.afdx_config.specs.Values.{bag_of, networks_of, kind_of, address_of, checksum_of}
-use Rattle.std.proofs.Common.{is_none}
-use Rattle.afdx_plan.specs.Config.{Plan, ports_on}
-use Rattle.afdx_plan.specs.PlanFaults.{fault_number, has_pair, has_same_vl, has_same_port, has_same_flow, shares_unicast, names_no_link, names_no_sub, is_too_long, is_no_count, is_crowded, is_past_limits, parts_show}
-use Rattle.afdx_plan.specs.declared.fault.ConfigFault.{ConfigFault}
-use Rattle.afdx_plan.specs.declared.fault.ConfigFault.TheVariants.{Toml, Memory, MissingKey, WrongKind, OutOfRange, BadBag, UnknownKey, DuplicateVl, DuplicatePort, NoSuchVl, NoSuchSub, SamplingTooLong, SameFlow, SharedUnicast, Limit}
-use Rattle.afdx_plan.specs.declared.link_plan.LinkPlan.{LinkPlan}
-use Rattle.afdx_plan.specs.declared.port_plan.PortPlan.{PortPlan}
-use Rattle.afdx_config.specs.declared.findings.Place.{Place}
-use Rattle.afdx_config.specs.declared.findings.Place.TheVariants.{Top, Link, Port}
-use Rattle.afdx_config.specs.Entries.{has_key_besides, lies_outside}
-use Rattle.afdx_config.specs.Format.{Field, document_fields, end_fields, link_fields, port_fields, fields_in}
-use Rattle.afdx_config.specs.PlanOf.{plan_of}
-use Rattle.afdx_config.specs.Faults.{shows}
-use Rattle.afdx_config.specs.Findings.{Finding, found, one_if, Site, site, row_sites, end_sites, sites, field_findings, key_findings, member_keys, site_findings, plan_key, pair_finding, links_clash, link_findings, ports_clash, is_misfit, link_number, has_same_sub, is_last_crowded, port_finding, port_findings, count_is_wrong, count_findings, plan_findings, findings_of, shown_faults, findings}
-use Rattle.afdx_config.specs.Tables.{field_fault, is_fault, is_key_of, keys_fault, table_shows, values_show, is_version_2, rows_at, section_at}
-use Rattle.afdx_config.specs.Tables.{fault_in, content_fault, fault_under, has_other_item}
-use Rattle.afdx_config.specs.Views.{IsOfValues}
-use Rattle.afdx_config.specs.declared.format.Content.{Content}
-use Rattle.afdx_config.specs.declared.format.Content.TheVariants.{Whole, Gap, Networks, PortKind, Address, Checksum, Section, Rows}
-use Rattle.std.proofs.Common.{IfSome, lit≤}
-use Rattle.afdx_config.specs.FindingLaws.{has, FaultsAreFound}
+use Rattle.afdx_config.proofs.Names.{◌≡◌, ℕ, ◌+◌, ◌<◌, ◌≤◌, List, [], ◌∷◌, ◌++◌, length, Bool, true, false, ◌||◌, ◌&&◌}
+use Rattle.afdx_config.proofs.Names.{not, cond, Option, Some, None, refl, ap, sym, subst, ◌∙◌, map, find, option_map}
+use Rattle.afdx_config.proofs.Names.{codes, arith, is_some, ◌==◌, and_parts, eqb-true, or-true, position, position_from}
+use Rattle.afdx_config.proofs.Names.{list_any, flat_map, then_some, option_map_or, position_from-zero, Data, Members}
+use Rattle.afdx_config.proofs.Names.{no_members, member, get_member, as_integer, as_str, as_array, as_table, bag_of}
+use Rattle.afdx_config.proofs.Names.{networks_of, kind_of, address_of, checksum_of, is_none, Plan, ports_on}
+use Rattle.afdx_config.proofs.Names.{fault_number, has_pair, has_same_vl, has_same_port, has_same_flow, shares_unicast}
+use Rattle.afdx_config.proofs.Names.{names_no_link, names_no_sub, is_too_long, is_no_count, is_crowded, is_past_limits}
+use Rattle.afdx_config.proofs.Names.{parts_show, ConfigFault, Toml, Memory, MissingKey, WrongKind, OutOfRange, BadBag}
+use Rattle.afdx_config.proofs.Names.{UnknownKey, DuplicateVl, DuplicatePort, NoSuchVl, NoSuchSub, SamplingTooLong}
+use Rattle.afdx_config.proofs.Names.{SameFlow, SharedUnicast, Limit, LinkPlan, PortPlan, Place, Top, Link, Port}
+use Rattle.afdx_config.proofs.Names.{has_key_besides, lies_outside, Field, document_fields, end_fields, link_fields}
+use Rattle.afdx_config.proofs.Names.{port_fields, fields_in, plan_of, shows, Finding, found, one_if, Site, site}
+use Rattle.afdx_config.proofs.Names.{row_sites, end_sites, sites, field_findings, key_findings, member_keys, plan_key}
+use Rattle.afdx_config.proofs.Names.{pair_finding, links_clash, link_findings, ports_clash, is_misfit, link_number}
+use Rattle.afdx_config.proofs.Names.{has_same_sub, is_last_crowded, port_findings, count_is_wrong, count_findings}
+use Rattle.afdx_config.proofs.Names.{findings_of, shown_faults, findings, field_fault, is_fault, is_key_of, keys_fault}
+use Rattle.afdx_config.proofs.Names.{is_version_2, rows_at, section_at, fault_in, content_fault, fault_under}
+use Rattle.afdx_config.proofs.Names.{has_other_item, IsOfValues, Content, Whole, Gap, Networks, PortKind, Address}
+use Rattle.afdx_config.proofs.Names.{Checksum, Section, Rows, IfSome, lit≤, has, FaultsAreFound}
+use Rattle.afdx_config.specs.Findings.{site_findings, port_finding, plan_findings}
+use Rattle.afdx_config.specs.Tables.{table_shows, values_show}
 
 -- tests of two lists
 pub any_append : {A : Type 0} (p : A → Bool) (xs ys : List A) → list_any p (xs ++ ys) ≡ (list_any p xs || list_any p ys)

@@ -1,11 +1,9 @@
 -- The tables of a document at their places, beside the code's values.
-use Rattle.afdx_config.proofs.Names.{◌≡◌, codes, List, [], ◌∷◌, map, Option, option_map, refl, ap, sym, ◌∙◌, Members, table_view}
-use Rattle.afdx_config.proofs.Names.{Field, link_fields, port_fields, fields_in, document_fields, is_version_2, AreSectionsOf, Sections}
-use Rattle.std.proofs.Common.{◌++◌, append_assoc}
+use Rattle.afdx_config.proofs.Names.{◌≡◌, codes, List, [], ◌∷◌, map, Option, option_map, refl, ap, sym, ◌∙◌, Members}
+use Rattle.afdx_config.proofs.Names.{table_view, Field, link_fields, port_fields, fields_in, document_fields}
+use Rattle.afdx_config.proofs.Names.{is_version_2, AreSectionsOf, Sections, ◌++◌, append_assoc, Top, Link, Port, Site}
+use Rattle.afdx_config.proofs.Names.{site, sites, end_sites, row_sites, section_at, rows_at}
 use Rattle.afdx_config.proofs.SectionLemmas.{Found}
-use Rattle.afdx_config.specs.declared.findings.Place.TheVariants.{Top, Link, Port}
-use Rattle.afdx_config.specs.Findings.{Site, site, sites, end_sites, row_sites}
-use Rattle.afdx_config.specs.Tables.{section_at, rows_at}
 
 -- four parts, put together from the front
 four_parts : (x : Site) (one two three four end links ports : List Site) → one ≡ x ∷ [] → two ≡ one ++ end → three ≡ two ++ links

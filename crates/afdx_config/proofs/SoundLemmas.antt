@@ -1,14 +1,11 @@
 -- A document whose values show no fault has tables without fault.
-use Rattle.afdx_config.proofs.Names.{◌≡◌, ◌-◌, codes, Bool, true, false, List, [], ◌∷◌, map, length, Option, Some}
-use Rattle.afdx_config.proofs.Names.{None, ℕ, refl, ap, sym, ◌∙◌, eq-eqb, same_Some, All-cons, All-nil, All-take}
+use Rattle.afdx_config.proofs.Names.{◌≡◌, ◌-◌, codes, Bool, true, false, List, [], ◌∷◌, map, length, Option, Some, None}
+use Rattle.afdx_config.proofs.Names.{ℕ, refl, ap, sym, ◌∙◌, eq-eqb, same_Some, All-cons, All-nil, All-take}
 use Rattle.afdx_config.proofs.Names.{All-from_recursion, recursion_from_All, or_parts, All, list_any, option_map_or}
 use Rattle.afdx_config.proofs.Names.{ForSome, Members, table_view, fault_number, ConfigFault, number_at, Field}
 use Rattle.afdx_config.proofs.Names.{end_fields, link_fields, port_fields, fields_in, link_of, port_of, plan_of}
 use Rattle.afdx_config.proofs.Names.{is_fault, field_fault, is_version_2, values_show, AreSectionsOf, AreSound}
-use Rattle.afdx_config.proofs.Names.{IsSoundTable, Sections}
-use Rattle.std.proofs.lemmas.Simd.{map-map}
-use Rattle.afdx_plan.specs.declared.link_plan.LinkPlan.{LinkPlan}
-use Rattle.afdx_plan.specs.declared.port_plan.PortPlan.{PortPlan}
+use Rattle.afdx_config.proofs.Names.{IsSoundTable, Sections, map-map, LinkPlan, PortPlan}
 use Rattle.afdx_config.specs.Tables.{table_shows}
 use Rattle.afdx_config.proofs.SectionLemmas.{Found, shown_in, option_maps}
 

@@ -1,14 +1,8 @@
 -- Texts of values.
-use Rattle.std.proofs.Common.{◌≡◌, ℕ, ◌+◌, ◌≤◌, List, [], ◌∷◌, ◌++◌, length, take, refl, ap, sym, ◌∙◌, map, codes, arith, decimal, append-nil}
-use Rattle.std.proofs.Common.{Vec, Global}
-use Rattle.std.proofs.lemmas.Bool.{le-ltb}
-use Rattle.std.proofs.lemmas.List.{take_all}
-use Rattle.std.specs.List.{flat_map}
-use Rattle.toml.specs.Data.{array}
-use Rattle.toml.specs.View.{items_view, view}
-use Rattle.toml.specs.declared.value.Value.{Value, Array}
-use Rattle.toml.proofs.Views.{view-Array}
-use Rattle.afdx_config.specs.Told.{escaped, cut_text, array_text, items_count, known_text}
+use Rattle.afdx_config.proofs.Names.{◌≡◌, ℕ, ◌+◌, ◌≤◌, List, [], ◌∷◌, ◌++◌, length, take, refl, ap, sym, ◌∙◌, map}
+use Rattle.afdx_config.proofs.Names.{codes, arith, decimal, append-nil, Vec, Global, le-ltb, take_all, flat_map, array}
+use Rattle.afdx_config.proofs.Names.{items_view, view, Value, Array, view-Array, escaped}
+use Rattle.afdx_config.specs.Told.{cut_text, array_text, items_count, known_text}
 
 -- a text that isn't cut
 pub cut_short : (text : List ℕ) → length text ≤ 40 → flat_map escaped text ≡ cut_text text

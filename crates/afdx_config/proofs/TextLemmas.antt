@@ -1,11 +1,9 @@
 -- What is known of a document's faults, of its text's.
-use Rattle.afdx_config.proofs.Names.{◌≡◌, ℕ, ◌<◌, ◌≤◌, true, false, List, Some, None, refl, sym, ap, ◌∙◌, arith}
-use Rattle.afdx_config.proofs.Names.{subst, find, Result, Ok, Err, IfOk, IfErr, ◌≢◌, or_from, same_Some, Members}
-use Rattle.afdx_config.proofs.Names.{fault_number, plan_shows, plan_faults, ConfigFault, Toml, DuplicateVl}
-use Rattle.afdx_config.proofs.Names.{DuplicatePort, NoSuchVl, NoSuchSub, SamplingTooLong, SameFlow, SharedUnicast}
-use Rattle.afdx_config.proofs.Names.{Limit, Memory, plan_of, values_show, IsLeast}
-use Rattle.afdx_plan.specs.Config.{Plan}
-use Rattle.afdx_config.specs.Faults.{shows, Reads, HasFault, IsLeastFault, IsPlanOf}
+use Rattle.afdx_config.proofs.Names.{◌≡◌, ℕ, ◌<◌, ◌≤◌, true, false, List, Some, None, refl, sym, ap, ◌∙◌, arith, subst}
+use Rattle.afdx_config.proofs.Names.{find, Result, Ok, Err, IfOk, IfErr, ◌≢◌, or_from, same_Some, Members, fault_number}
+use Rattle.afdx_config.proofs.Names.{plan_shows, plan_faults, ConfigFault, Toml, DuplicateVl, DuplicatePort, NoSuchVl}
+use Rattle.afdx_config.proofs.Names.{NoSuchSub, SamplingTooLong, SameFlow, SharedUnicast, Limit, Memory, plan_of}
+use Rattle.afdx_config.proofs.Names.{values_show, IsLeast, Plan, shows, Reads, HasFault, IsLeastFault, IsPlanOf}
 
 -- a document of which neither values nor plan show a fault
 none_shown : (doc : Members) → ((f : ConfigFault) → values_show f doc ≡ false)

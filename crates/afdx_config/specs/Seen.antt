@@ -1,13 +1,9 @@
 -- What the code's values for findings stand for.
 use Rattle.std.specs.Prelude.{◌≡◌, ℕ, ◌++◌, List, map, string_bytes}
 use Rattle.toml.specs.View.{table_view}
-use Rattle.afdx_plan.specs.declared.link_plan.LinkPlan.{LinkPlan}
-use Rattle.afdx_plan.specs.declared.port_plan.PortPlan.{PortPlan}
 use Rattle.afdx_config.specs.Findings.{Finding, Site}
 use Rattle.afdx_config.specs.Views.{field_of}
 use Rattle.afdx_config.specs.declared.findings.Finding.{Finding as Written}
-use Rattle.afdx_config.specs.declared.rows.LinkRow.{LinkRow}
-use Rattle.afdx_config.specs.declared.rows.PortRow.{PortRow}
 use Rattle.afdx_config.specs.declared.findings.Place.{Place}
 use Rattle.afdx_config.specs.declared.findings.Place.TheVariants.{Link, Port}
 use Rattle.afdx_config.specs.declared.sites.Rows.{Rows}
@@ -35,29 +31,3 @@ Adds old new more = map finding_of new ≡ map finding_of old ++ more
 -- the table at its place
 abbrev pub site_of : Table → Site
 site_of t = record { place = t.place; fields = map field_of t.fields.now; members = table_view t.table.now }
-
--- the link of a row
-abbrev pub link_in : LinkRow → LinkPlan
-link_in row = record {
-  id = record { 0 = row.id };
-  bag = row.bag;
-  lmax = row.lmax;
-  sub_vls = row.sub_vls;
-  capacity = row.capacity;
-  networks = row.networks;
-}
-
--- the port of a row
-abbrev pub port_in : PortRow → PortPlan
-port_in row = record {
-  id = record { 0 = row.id };
-  vl = record { 0 = row.vl };
-  sub = row.sub;
-  partition = row.partition;
-  kind = row.kind;
-  source = row.source;
-  destination = row.destination;
-  max = row.max;
-  unicast = row.unicast;
-  checksum = row.checksum;
-}

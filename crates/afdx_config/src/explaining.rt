@@ -5,7 +5,7 @@ ghost use Rattle.toml.specs.Errors.{IsWithin};
 ghost use Rattle.toml.specs.View.{table_view};
 ghost use Rattle.afdx_config.specs.Explained.{begins_character, column_after, line_of, Explains, TellsDocument, TellsStop, TellsToml};
 ghost use Rattle.afdx_config.specs.Findings.{findings as findings_in, site_findings, plan_findings};
-ghost use Rattle.afdx_config.specs.Seen.{Adds, finding_of, link_in, port_in, site_of};
+ghost use Rattle.afdx_config.specs.Seen.{Adds, finding_of, site_of};
 ghost use Rattle.afdx_config.specs.Views.{AreSectionsOf};
 
 use crate::findings::{Finding, Place, add};
@@ -58,7 +58,7 @@ fn add_faults(
     ensures { OnOk result (Adds found.old.items found.new.items
         (flat_map
         (λ fault. flat_map (λ s. site_findings fault (site_of s)) sites.now
-        ++ plan_findings fault (map link_in links.now) (map port_in ports.now))
+        ++ plan_findings fault links.now ports.now)
         faults.now)) }
 {
     for fault in faults {

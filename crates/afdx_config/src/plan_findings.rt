@@ -5,7 +5,7 @@ ghost use Rattle.std.specs.List.{list_any, position};
 ghost use Rattle.afdx_plan.specs.Config.{ports_on};
 ghost use Rattle.afdx_plan.specs.PlanFaults.{is_link_of, names_no_link, names_no_sub, is_too_long, are_one_address, are_one_destination, has_same_flow, shares_unicast, is_no_count, is_crowded};
 ghost use Rattle.afdx_config.specs.Findings.{found as finding_at, one_if, plan_key, pair_finding, links_clash, link_findings, ports_clash, is_misfit, link_number, has_same_sub, is_last_crowded, port_finding, port_findings, count_is_wrong, count_findings, plan_findings};
-ghost use Rattle.afdx_config.specs.Seen.{Adds, link_in, port_in};
+ghost use Rattle.afdx_config.specs.Seen.{Adds};
 ghost use Rattle.afdx_config.specs.declared.findings.Place.TheVariants.{Link, Port};
 
 use crate::findings::{Finding, Place, add};
@@ -30,7 +30,7 @@ fn plan_key(fault: ConfigFault) -> &'static str
 
 /// Two links agree in what no two links may.
 fn links_clash(fault: ConfigFault, a: &LinkRow, b: &LinkRow) -> bool
-    ensures { result ≡ links_clash fault (link_in a.now) (link_in b.now) }
+    ensures { result ≡ links_clash fault a.now b.now }
 {
     match fault {
         ConfigFault::DuplicateVl => a.id == b.id,
@@ -40,13 +40,7 @@ fn links_clash(fault: ConfigFault, a: &LinkRow, b: &LinkRow) -> bool
 
 /// How many links further on is one that the link agrees with.
 fn next_link(fault: ConfigFault, link: &LinkRow, rest: &[LinkRow]) -> Option<usize>
-    ensures { result ≡ position (links_clash fault (link_in link.now)) (map link_in rest.now) }
-{
-    next_link_row(fault, link, rest)
-}
-
-fn next_link_row(fault: ConfigFault, link: &LinkRow, rest: &[LinkRow]) -> Option<usize>
-    ensures { result ≡ position (λ b. links_clash fault (link_in link.now) (link_in b)) rest.now }
+    ensures { result ≡ position (links_clash fault link.now) rest.now }
 {
     rest.iter()
         .position(|other| links_clash(fault, link, other))
@@ -64,7 +58,7 @@ fn add_link(
     requires { i + 1 + length rest.now < 2 ^ 63 }
     ensures { OnOk result (Adds found.old.items found.new.items
         (pair_finding fault Link (i + 1)
-        (position (links_clash fault (link_in link.now)) (map link_in rest.now)))) }
+        (position (links_clash fault link.now) rest.now))) }
 {
     if let Some(behind) = next_link(fault, link, rest) {
         let other = Some(i + 2 + behind);
@@ -88,7 +82,7 @@ fn add_links(
     links: &[LinkRow],
 ) -> Result<(), AllocError>
     ensures { OnOk result (Adds found.old.items found.new.items
-        (link_findings fault 1 (map link_in links.now))) }
+        (link_findings fault 1 links.now)) }
 {
     for (i, link) in links.iter().enumerate() {
         add_link(alloc, found, fault, i, link, &links[i + 1..])?;
@@ -98,7 +92,7 @@ fn add_links(
 
 /// Two ports agree in what no two ports may.
 fn ports_clash(fault: ConfigFault, a: &PortRow, b: &PortRow) -> bool
-    ensures { result ≡ ports_clash fault (port_in a.now) (port_in b.now) }
+    ensures { result ≡ ports_clash fault a.now b.now }
 {
     match fault {
         ConfigFault::DuplicatePort => a.id == b.id,
@@ -109,7 +103,7 @@ fn ports_clash(fault: ConfigFault, a: &PortRow, b: &PortRow) -> bool
 }
 
 fn is_same_flow(a: &PortRow, b: &PortRow) -> bool
-    ensures { result ≡ has_same_flow (port_in a.now) (port_in b.now) }
+    ensures { result ≡ has_same_flow a.now b.now }
 {
     a.vl == b.vl
         && a.partition == b.partition
@@ -129,7 +123,7 @@ fn is_one_destination(a: Option<[u8; 4]>, b: Option<[u8; 4]>) -> bool
 }
 
 fn shares_address(a: &PortRow, b: &PortRow) -> bool
-    ensures { result ≡ shares_unicast (port_in a.now) (port_in b.now) }
+    ensures { result ≡ shares_unicast a.now b.now }
 {
     a.vl != b.vl && a.partition == b.partition && is_one_address(a.unicast, b.unicast)
 }
@@ -145,13 +139,7 @@ fn is_one_address(a: Option<[u8; 4]>, b: Option<[u8; 4]>) -> bool
 
 /// How many ports further on is one that the port agrees with.
 fn next_port(fault: ConfigFault, port: &PortRow, rest: &[PortRow]) -> Option<usize>
-    ensures { result ≡ position (ports_clash fault (port_in port.now)) (map port_in rest.now) }
-{
-    next_port_row(fault, port, rest)
-}
-
-fn next_port_row(fault: ConfigFault, port: &PortRow, rest: &[PortRow]) -> Option<usize>
-    ensures { result ≡ position (λ b. ports_clash fault (port_in port.now) (port_in b)) rest.now }
+    ensures { result ≡ position (ports_clash fault port.now) rest.now }
 {
     rest.iter()
         .position(|other| ports_clash(fault, port, other))
@@ -159,7 +147,7 @@ fn next_port_row(fault: ConfigFault, port: &PortRow, rest: &[PortRow]) -> Option
 
 /// Where the row of a port's link stands.
 fn link_place(links: &[LinkRow], port: &PortRow) -> Option<usize>
-    ensures place { result ≡ position (λ l. is_link_of (port_in port.now) (link_in l)) links.now }
+    ensures place { result ≡ position (is_link_of port.now) links.now }
     ensures within { IfSome result (λ i. i < length links.now) }
 {
     links.iter().position(|link| link.id == port.vl)
@@ -167,37 +155,24 @@ fn link_place(links: &[LinkRow], port: &PortRow) -> Option<usize>
 
 /// The link of a port.
 fn link_of<'a>(links: &'a [LinkRow], port: &PortRow) -> Option<&'a LinkRow>
-    ensures { option_map link_in (option_copied result)
-        ≡ find (is_link_of (port_in port.now)) (map link_in links.now) }
-{
-    link_row_of(links, port)
-}
-
-fn link_row_of<'a>(links: &'a [LinkRow], port: &PortRow) -> Option<&'a LinkRow>
-    ensures { option_copied result ≡ find (λ l. is_link_of (port_in port.now) (link_in l)) links.now }
+    ensures { option_copied result
+        ≡ find (is_link_of port.now) links.now }
 {
     links.iter().find(|link| link.id == port.vl)
 }
 
-/// A port names a link that isn't there.
-fn has_no_link(links: &[LinkRow], port: &PortRow) -> bool
-    ensures { result ≡ names_no_link (map link_in links.now) (port_in port.now) }
-{
-    !some_is_link_of(links, port)
-}
-
-fn some_is_link_of(links: &[LinkRow], port: &PortRow) -> bool
-    ensures { result ≡ list_any (λ l. is_link_of (port_in port.now) (link_in l)) links.now }
+fn has_link(links: &[LinkRow], port: &PortRow) -> bool
+    ensures { result ≡ list_any (is_link_of port.now) links.now }
 {
     links.iter().any(|link| link.id == port.vl)
 }
 
 /// A port doesn't fit to its link, or has none.
 fn is_misfit(fault: ConfigFault, links: &[LinkRow], port: &PortRow) -> bool
-    ensures { result ≡ is_misfit fault (map link_in links.now) (port_in port.now) }
+    ensures { result ≡ is_misfit fault links.now port.now }
 {
     match fault {
-        ConfigFault::NoSuchVl => has_no_link(links, port),
+        ConfigFault::NoSuchVl => !has_link(links, port),
         ConfigFault::NoSuchSub => has_no_sub(links, port),
         ConfigFault::SamplingTooLong => is_too_long(links, port),
         _ => false,
@@ -205,7 +180,7 @@ fn is_misfit(fault: ConfigFault, links: &[LinkRow], port: &PortRow) -> bool
 }
 
 fn has_no_sub(links: &[LinkRow], port: &PortRow) -> bool
-    ensures { result ≡ names_no_sub (map link_in links.now) (port_in port.now) }
+    ensures { result ≡ names_no_sub links.now port.now }
 {
     match link_of(links, port) {
         Some(link) => link.sub_vls <= port.sub,
@@ -214,7 +189,7 @@ fn has_no_sub(links: &[LinkRow], port: &PortRow) -> bool
 }
 
 fn is_too_long(links: &[LinkRow], port: &PortRow) -> bool
-    ensures { result ≡ is_too_long (map link_in links.now) (port_in port.now) }
+    ensures { result ≡ is_too_long links.now port.now }
 {
     match port.kind {
         Kind::Queuing => false,
@@ -227,7 +202,7 @@ fn is_too_long(links: &[LinkRow], port: &PortRow) -> bool
 
 /// The number of a port's link.
 fn link_number(links: &[LinkRow], port: &PortRow) -> Option<usize>
-    ensures { result ≡ link_number (map link_in links.now) (port_in port.now) }
+    ensures { result ≡ link_number links.now port.now }
 {
     match link_place(links, port) {
         Some(i) => Some(i + 1),
@@ -237,7 +212,7 @@ fn link_number(links: &[LinkRow], port: &PortRow) -> Option<usize>
 
 /// The ports of a sub-VL.
 fn count_on(ports: &[PortRow], port: &PortRow) -> usize
-    ensures { result ≡ ports_on (map port_in ports.now) port.now.vl port.now.sub }
+    ensures { result ≡ ports_on ports.now port.now.vl.0 port.now.sub }
 {
     ports
         .iter()
@@ -246,20 +221,14 @@ fn count_on(ports: &[PortRow], port: &PortRow) -> usize
 }
 
 fn is_crowded(ports: &[PortRow], port: &PortRow) -> bool
-    ensures { result ≡ is_crowded (map port_in ports.now) (port_in port.now) }
+    ensures { result ≡ is_crowded ports.now port.now }
 {
     SUB_PORTS_LIMIT < count_on(ports, port)
 }
 
 /// A port of the same sub-VL follows.
 fn is_followed(port: &PortRow, rest: &[PortRow]) -> bool
-    ensures { result ≡ list_any (has_same_sub (port_in port.now)) (map port_in rest.now) }
-{
-    some_has_same_sub(port, rest)
-}
-
-fn some_has_same_sub(port: &PortRow, rest: &[PortRow]) -> bool
-    ensures { result ≡ list_any (λ b. has_same_sub (port_in port.now) (port_in b)) rest.now }
+    ensures { result ≡ list_any (has_same_sub port.now) rest.now }
 {
     rest.iter()
         .any(|other| other.vl == port.vl && other.sub == port.sub)
@@ -268,7 +237,7 @@ fn some_has_same_sub(port: &PortRow, rest: &[PortRow]) -> bool
 /// The port is the last one of a sub-VL that has too many.
 fn is_last_crowded(fault: ConfigFault, ports: &[PortRow], port: &PortRow, rest: &[PortRow]) -> bool
     ensures { result
-        ≡ is_last_crowded fault (map port_in ports.now) (port_in port.now) (map port_in rest.now) }
+        ≡ is_last_crowded fault ports.now port.now rest.now }
 {
     match fault {
         ConfigFault::Limit => is_crowded(ports, port) && !is_followed(port, rest),
@@ -288,7 +257,7 @@ fn add_clash(
     requires { i + 1 + length rest.now < 2 ^ 63 }
     ensures { OnOk result (Adds found.old.items found.new.items
         (pair_finding fault Port (i + 1)
-        (position (ports_clash fault (port_in port.now)) (map port_in rest.now)))) }
+        (position (ports_clash fault port.now) rest.now))) }
 {
     if let Some(behind) = next_port(fault, port, rest) {
         let other = Some(i + 2 + behind);
@@ -315,9 +284,9 @@ fn add_misfit(
 ) -> Result<(), AllocError>
     requires { i < 2 ^ 63 }
     ensures { OnOk result (Adds found.old.items found.new.items
-        (one_if (is_misfit fault (map link_in links.now) (port_in port.now))
+        (one_if (is_misfit fault links.now port.now)
         (finding_at fault (Port (i + 1)) (plan_key fault)
-        (link_number (map link_in links.now) (port_in port.now))))) }
+        (link_number links.now port.now)))) }
 {
     if is_misfit(fault, links, port) {
         let link = link_number(links, port);
@@ -345,7 +314,7 @@ fn add_crowded(
 ) -> Result<(), AllocError>
     requires { i < 2 ^ 63 }
     ensures { OnOk result (Adds found.old.items found.new.items
-        (one_if (is_last_crowded fault (map port_in ports.now) (port_in port.now) (map port_in rest.now))
+        (one_if (is_last_crowded fault ports.now port.now rest.now)
         (finding_at fault (Port (i + 1)) (plan_key fault) None))) }
 {
     if is_last_crowded(fault, ports, port, rest) {
@@ -370,7 +339,7 @@ fn add_ports(
     ports: &[PortRow],
 ) -> Result<(), AllocError>
     ensures { OnOk result (Adds found.old.items found.new.items
-        (port_findings fault (map link_in links.now) (map port_in ports.now) 1 (map port_in ports.now))) }
+        (port_findings fault links.now ports.now 1 ports.now)) }
 {
     for (i, port) in ports.iter().enumerate() {
         let rest = &ports[i + 1..];
@@ -399,7 +368,7 @@ fn add_counts(
     ports: &[PortRow],
 ) -> Result<(), AllocError>
     ensures { OnOk result (Adds found.old.items found.new.items
-        (count_findings fault (map link_in links.now) (map port_in ports.now))) }
+        (count_findings fault links.now ports.now)) }
 {
     if count_is_wrong(fault, LINKS_LIMIT, links.len()) {
         add(alloc, found, fault, Place::Top, "vl", None)?;
@@ -419,7 +388,7 @@ pub(crate) fn add_plan(
     ports: &[PortRow],
 ) -> Result<(), AllocError>
     ensures { OnOk result (Adds found.old.items found.new.items
-        (plan_findings fault (map link_in links.now) (map port_in ports.now))) }
+        (plan_findings fault links.now ports.now)) }
 {
     add_links(alloc, found, fault, links)?;
     add_counts(alloc, found, fault, links, ports)?;

@@ -3,17 +3,17 @@ ghost use Rattle.std.specs.Prelude.{◌≡◌, codes, map, IfOk};
 ghost use Rattle.toml.specs.View.{table_view};
 ghost use Rattle.afdx_config.specs.Entries.{natural, number_at};
 ghost use Rattle.afdx_config.specs.PlanOf.{link_of, port_of};
-ghost use Rattle.afdx_config.specs.Seen.{link_in, port_in};
 
 use crate::entries::{text, whole_number};
 use crate::values::{bag_of_ms, checksum_named, kind_named, networks_named, unicast_address};
 use afdx_plan::{Bag, Kind, Networks, UdpSum};
 use std::alloc::{AllocError, Global};
+use std::marker::Model;
 use toml::Table;
 
 /// A link as its table writes it: where a value is missing or of another kind, 0 or the first
 /// variant stands in its place.
-#[derive(Clone, Copy)]
+#[derive(Drop)]
 pub(crate) struct LinkRow {
     pub id: u64,
     pub bag: Bag,
@@ -23,8 +23,23 @@ pub(crate) struct LinkRow {
     pub networks: Networks,
 }
 
+impl Model for LinkRow {
+    ghost use Rattle.afdx_plan.specs.declared.link_plan.LinkPlan.{LinkPlan};
+
+    ghost Value = { LinkPlan };
+
+    ghost view = { λ r. record {
+      id = record { 0 = r.id };
+      bag = r.bag;
+      lmax = r.lmax;
+      sub_vls = r.sub_vls;
+      capacity = r.capacity;
+      networks = r.networks;
+    } };
+}
+
 /// A port as its table writes it, in the same way.
-#[derive(Clone, Copy)]
+#[derive(Drop)]
 pub(crate) struct PortRow {
     pub id: u64,
     pub vl: u64,
@@ -36,6 +51,25 @@ pub(crate) struct PortRow {
     pub max: u64,
     pub unicast: Option<[u8; 4]>,
     pub checksum: UdpSum,
+}
+
+impl Model for PortRow {
+    ghost use Rattle.afdx_plan.specs.declared.port_plan.PortPlan.{PortPlan};
+
+    ghost Value = { PortPlan };
+
+    ghost view = { λ r. record {
+      id = record { 0 = r.id };
+      vl = record { 0 = r.vl };
+      sub = r.sub;
+      partition = r.partition;
+      kind = r.kind;
+      source = r.source;
+      destination = r.destination;
+      max = r.max;
+      unicast = r.unicast;
+      checksum = r.checksum;
+    } };
 }
 
 /// The number under a key, or 0.
@@ -57,7 +91,7 @@ fn natural(number: i64) -> u64
 
 #[tactic(auto, unfolding(crate::specs::PlanOf::link_of))]
 fn link_row(table: &Table) -> LinkRow
-    ensures { link_in result ≡ link_of (table_view table.now) }
+    ensures { result ≡ link_of (table_view table.now) }
 {
     let bag = whole_number(table, "bag_ms").and_then(bag_of_ms);
     let networks = text(table, "networks").and_then(networks_named);
@@ -73,7 +107,7 @@ fn link_row(table: &Table) -> LinkRow
 
 #[tactic(auto, unfolding(crate::specs::PlanOf::port_of))]
 fn port_row(table: &Table) -> PortRow
-    ensures { port_in result ≡ port_of (table_view table.now) }
+    ensures { result ≡ port_of (table_view table.now) }
 {
     let kind = text(table, "kind").and_then(kind_named);
     let unicast = text(table, "dest_ip").and_then(unicast_address);
@@ -95,7 +129,7 @@ fn port_row(table: &Table) -> PortRow
 /// The links of tables, in their order.
 pub(crate) fn link_rows(alloc: Global, tables: &[&Table]) -> Result<Vec<LinkRow>, AllocError>
     ensures { IfOk result (λ rows.
-        map link_in rows.items ≡ map (λ t. link_of (table_view t.now)) tables.now) }
+        rows.items ≡ map (λ t. link_of (table_view t.now)) tables.now) }
 {
     let mut rows = Vec::new(alloc);
     for table in tables {
@@ -107,7 +141,7 @@ pub(crate) fn link_rows(alloc: Global, tables: &[&Table]) -> Result<Vec<LinkRow>
 /// The ports of tables, in their order.
 pub(crate) fn port_rows(alloc: Global, tables: &[&Table]) -> Result<Vec<PortRow>, AllocError>
     ensures { IfOk result (λ rows.
-        map port_in rows.items ≡ map (λ t. port_of (table_view t.now)) tables.now) }
+        rows.items ≡ map (λ t. port_of (table_view t.now)) tables.now) }
 {
     let mut rows = Vec::new(alloc);
     for table in tables {

@@ -1,4 +1,4 @@
-use Rattle.toml.proofs.Views.{table_get}
+use Rattle.afdx_config.proofs.Names.{table_get}
 use Rattle.afdx_config.proofs.entries.value_at.Goals as goal
 
 pub returns : goal.returns

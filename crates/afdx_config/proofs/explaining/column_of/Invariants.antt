@@ -1,5 +1,4 @@
-use Rattle.std.proofs.Common.{◌≡◌, ◌≤◌, drop, length}
-use Rattle.afdx_config.specs.Explained.{column_after}
+use Rattle.afdx_config.proofs.Names.{◌≡◌, ◌≤◌, drop, length, column_after}
 use Rattle.afdx_config.proofs.explaining.column_of.Given as goal
 
 abbrev pub invariant-loop-byte : goal.invariant-loop-byte

@@ -1,4 +1,4 @@
-use Rattle.std.proofs.lemmas.Result.{on_ok_weaker}
+use Rattle.afdx_config.proofs.Names.{on_ok_weaker}
 use Rattle.afdx_config.proofs.AddLemmas.{plan_all}
 use Rattle.afdx_config.proofs.plan_findings.add_plan.Goals as goal
 

@@ -1,5 +1,4 @@
-use Rattle.afdx_config.proofs.Names.{refl}
-use Rattle.std.proofs.lemmas.Result.{IfOk-weaker}
+use Rattle.afdx_config.proofs.Names.{refl, IfOk-weaker}
 use Rattle.afdx_config.proofs.SiteLemmas.{sites_whole}
 use Rattle.afdx_config.proofs.sites.sites_of.Goals as goal
 

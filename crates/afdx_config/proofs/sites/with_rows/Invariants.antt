@@ -1,7 +1,4 @@
-use Rattle.afdx_config.proofs.Names.{◌≡◌, ◌+◌, map, table_view, field_of}
-use Rattle.std.proofs.Common.{◌++◌, drop}
-use Rattle.afdx_config.specs.Findings.{row_sites}
-use Rattle.afdx_config.specs.Seen.{site_of, row_place}
+use Rattle.afdx_config.proofs.Names.{◌≡◌, ◌+◌, map, table_view, field_of, ◌++◌, drop, row_sites, site_of, row_place}
 use Rattle.afdx_config.proofs.sites.with_rows.Given as goal
 
 abbrev pub invariant-loop-i : goal.invariant-loop-i

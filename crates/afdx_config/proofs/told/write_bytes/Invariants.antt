@@ -1,7 +1,4 @@
-use Rattle.std.proofs.Common.{take}
-use Rattle.std.specs.Io.KnownBytes.{Appends}
-use Rattle.std.specs.List.{flat_map}
-use Rattle.afdx_config.specs.Told.{escaped}
+use Rattle.afdx_config.proofs.Names.{take, Appends, flat_map, escaped}
 use Rattle.afdx_config.proofs.told.write_bytes.Given as goal
 
 abbrev pub invariant-loop-byte : goal.invariant-loop-byte

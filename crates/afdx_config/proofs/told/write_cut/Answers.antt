@@ -1,6 +1,4 @@
-use Rattle.std.proofs.Common.{subst, ℕ, List}
-use Rattle.std.specs.Io.KnownBytes.{Appends}
-use Rattle.std.proofs.lemmas.Result.{on_ok_weaker}
+use Rattle.afdx_config.proofs.Names.{subst, ℕ, List, Appends, on_ok_weaker}
 use Rattle.afdx_config.proofs.TellLemmas.{cut_short}
 use Rattle.afdx_config.proofs.told.write_cut.Goals as goal
 

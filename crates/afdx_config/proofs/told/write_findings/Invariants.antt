@@ -1,9 +1,4 @@
-use Rattle.std.proofs.Common.{take, map}
-use Rattle.std.specs.Io.KnownBytes.{Appends}
-use Rattle.std.specs.List.{flat_map}
-use Rattle.toml.specs.View.{table_view}
-use Rattle.afdx_config.specs.Seen.{finding_of}
-use Rattle.afdx_config.specs.Told.{finding_line}
+use Rattle.afdx_config.proofs.Names.{take, map, Appends, flat_map, table_view, finding_of, finding_line}
 use Rattle.afdx_config.proofs.told.write_findings.Given as goal
 
 abbrev pub invariant-loop-finding : goal.invariant-loop-finding

@@ -1,8 +1,5 @@
-use Rattle.std.proofs.Common.{codes, map}
-use Rattle.std.proofs.KnownBytes.{Appends-trans}
-use Rattle.std.proofs.lemmas.Result.{on_ok_weaker}
-use Rattle.afdx_config.specs.Told.{key_names, keys_text}
-use Rattle.afdx_config.specs.Views.{field_of}
+use Rattle.afdx_config.proofs.Names.{codes, map, Appends-trans, on_ok_weaker, key_names, field_of}
+use Rattle.afdx_config.specs.Told.{keys_text}
 use Rattle.afdx_config.proofs.told.write_keys.Goals as goal
 
 pub returns : goal.returns

@@ -1,8 +1,5 @@
-use Rattle.std.proofs.Common.{codes}
-use Rattle.std.proofs.KnownBytes.{Appends-trans}
-use Rattle.std.proofs.lemmas.Result.{on_ok_weaker}
-use Rattle.toml.specs.View.{table_view}
-use Rattle.afdx_config.specs.Told.{link_text, most_text}
+use Rattle.afdx_config.proofs.Names.{codes, Appends-trans, on_ok_weaker, table_view, link_text}
+use Rattle.afdx_config.specs.Told.{most_text}
 use Rattle.afdx_config.proofs.told.write_most.Goals as goal
 
 pub returns : goal.returns

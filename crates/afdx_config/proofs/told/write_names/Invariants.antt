@@ -1,7 +1,4 @@
-use Rattle.std.proofs.Common.{take, map}
-use Rattle.std.specs.Io.KnownBytes.{Appends}
-use Rattle.afdx_config.specs.Told.{key_names}
-use Rattle.afdx_config.specs.Views.{field_of}
+use Rattle.afdx_config.proofs.Names.{take, map, Appends, key_names, field_of}
 use Rattle.afdx_config.proofs.told.write_names.Given as goal
 
 abbrev pub invariant-loop-field : goal.invariant-loop-field

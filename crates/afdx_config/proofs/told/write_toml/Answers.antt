@@ -1,6 +1,4 @@
-use Rattle.std.proofs.Common.{codes, ◌++◌, ◌∷◌, []}
-use Rattle.std.proofs.KnownBytes.{Appends-trans}
-use Rattle.std.proofs.lemmas.Result.{on_ok_weaker}
+use Rattle.afdx_config.proofs.Names.{codes, ◌++◌, ◌∷◌, [], Appends-trans, on_ok_weaker}
 use Rattle.afdx_config.specs.Told.{toml_line, toml_text}
 use Rattle.afdx_config.proofs.told.write_toml.Goals as goal
 

@@ -1,7 +1,4 @@
-use Rattle.afdx_config.proofs.Names.{take, table_view, field_of}
-use Rattle.std.specs.List.{flat_map}
-use Rattle.afdx_config.specs.Findings.{field_findings}
-use Rattle.afdx_config.specs.Seen.{Adds}
+use Rattle.afdx_config.proofs.Names.{take, table_view, field_of, flat_map, field_findings, Adds}
 use Rattle.afdx_config.proofs.value_findings.add_fields.Given as goal
 
 abbrev pub invariant-loop-field : goal.invariant-loop-field

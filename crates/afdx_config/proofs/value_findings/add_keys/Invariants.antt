@@ -1,7 +1,4 @@
-use Rattle.afdx_config.proofs.Names.{map, string_bytes, field_of}
-use Rattle.std.specs.List.{flat_map}
-use Rattle.afdx_config.specs.Findings.{key_findings}
-use Rattle.afdx_config.specs.Seen.{Adds}
+use Rattle.afdx_config.proofs.Names.{map, string_bytes, field_of, flat_map, key_findings, Adds}
 use Rattle.afdx_config.proofs.value_findings.add_keys.Given as goal
 
 abbrev pub invariant-loop-key : goal.invariant-loop-key

@@ -1,7 +1,4 @@
-use Rattle.afdx_config.proofs.Names.{take}
-use Rattle.std.specs.List.{flat_map}
-use Rattle.afdx_config.specs.Findings.{site_findings}
-use Rattle.afdx_config.specs.Seen.{Adds, site_of}
+use Rattle.afdx_config.proofs.Names.{take, flat_map, site_findings, Adds, site_of}
 use Rattle.afdx_config.proofs.value_findings.add_sites.Given as goal
 
 abbrev pub invariant-loop-site : goal.invariant-loop-site

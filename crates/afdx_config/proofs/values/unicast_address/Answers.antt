@@ -1,5 +1,4 @@
-use Rattle.afdx_config.proofs.Names.{ℕ, List, ◌∙◌, ap, sym, if◌then◌else◌, slice_index, Some, None}
-use Rattle.std.proofs.Common.{◌==◌}
+use Rattle.afdx_config.proofs.Names.{ℕ, List, ◌∙◌, ap, sym, if◌then◌else◌, slice_index, Some, None, ◌==◌}
 use Rattle.afdx_config.proofs.AddressLemmas.{address_of-dotted, address_of-none}
 use Rattle.afdx_config.proofs.values.unicast_address.Goals as goal
 
