@@ -6,8 +6,8 @@ use Rattle.afdx_config.proofs.Names.{keys_of, String, Global, Value, ConfigFault
 use Rattle.afdx_config.proofs.Names.{Field, Finding, found, one_if, plan_key, pair_finding, link_findings, links_clash}
 use Rattle.afdx_config.proofs.Names.{port_findings, ports_clash, is_misfit, link_number, is_last_crowded}
 use Rattle.afdx_config.proofs.Names.{count_findings, field_findings, key_findings, member_keys, sites, findings}
-use Rattle.afdx_config.proofs.Names.{findings_of, shown_faults, Adds, finding_of, site_of, field_of, AreSectionsOf}
-use Rattle.afdx_config.proofs.Names.{Sections, link_of, port_of, rows_at, map-map, codes}
+use Rattle.afdx_config.proofs.Names.{findings_of, shown_faults, Adds, finding_of, site_of, field_of, IsDocument}
+use Rattle.afdx_config.proofs.Names.{Document, data_of, link_of, port_of, rows_at, map-map, codes}
 use Rattle.afdx_config.specs.declared.sites.Site.{Site as Table}
 use Rattle.afdx_config.specs.declared.findings.Finding.{Finding as Written}
 use Rattle.afdx_config.specs.Findings.{port_finding, plan_findings, site_findings}
@@ -87,26 +87,26 @@ flat_map_same f g [] same = refl
 flat_map_same f g (x ∷ xs) same = rw (same x, flat_map_same f g xs same) refl
 
 -- all of a document
-pub all_found : (doc : Members) (s : Sections) (tables : List Table) (links : List LinkPlan) (ports : List PortPlan)
-    (ls ps : List Found) (old new : List Written) → AreSectionsOf doc s → old ≡ [] → map site_of tables ≡ sites doc
+pub all_found : (s : Document) (tables : List Table) (links : List LinkPlan) (ports : List PortPlan)
+    (ls ps : List Found) (old new : List Written) → IsDocument s → old ≡ [] → map site_of tables ≡ sites (data_of s)
     → ls ≡ s.links.items → links ≡ map (λ t. link_of (table_view t.now)) ls
     → ps ≡ s.ports.items → ports ≡ map (λ t. port_of (table_view t.now)) ps
     → Adds old new (flat_map (λ fault. flat_map (λ t. site_findings fault (site_of t)) tables
     ++ plan_findings fault links ports) shown_faults)
-    → map finding_of new ≡ findings doc
-all_found doc s tables links ports ls ps old new are none at_sites at_ls at_links at_ps at_ports added =
-    let links_are : links ≡ map link_of (rows_at (codes "vl") doc) =
+    → map finding_of new ≡ findings (data_of s)
+all_found s tables links ports ls ps old new are none at_sites at_ls at_links at_ps at_ports added =
+    let links_are : links ≡ map link_of (rows_at (codes "vl") (data_of s)) =
     at_links ∙ sym (map-map link_of (λ (t : Found). table_view t.now) ls)
     ∙ ap (λ ts. map link_of (map (λ (t : Found). table_view t.now) ts)) at_ls ∙ ap (map link_of) are.links_are in
-    let ports_are : ports ≡ map port_of (rows_at (codes "port") doc) =
+    let ports_are : ports ≡ map port_of (rows_at (codes "port") (data_of s)) =
     at_ports ∙ sym (map-map port_of (λ (t : Found). table_view t.now) ps)
     ∙ ap (λ ts. map port_of (map (λ (t : Found). table_view t.now) ts)) at_ps ∙ ap (map port_of) are.ports_are in
     added ∙ ap (λ xs. map finding_of xs ++ flat_map (λ fault. flat_map (λ t. site_findings fault (site_of t)) tables
     ++ plan_findings fault links ports) shown_faults) none
     ∙ flat_map_same (λ fault. flat_map (λ t. site_findings fault (site_of t)) tables
-    ++ plan_findings fault links ports) (λ fault. findings_of fault doc) shown_faults
+    ++ plan_findings fault links ports) (λ fault. findings_of fault (data_of s)) shown_faults
     (λ fault. ap (λ xs. xs ++ plan_findings fault links ports)
     (sym (flat_map-map (site_findings fault) site_of tables) ∙ ap (flat_map (site_findings fault)) at_sites)
-    ∙ ap (λ xs. flat_map (site_findings fault) (sites doc) ++ plan_findings fault xs ports) links_are
-    ∙ ap (λ xs. flat_map (site_findings fault) (sites doc)
-    ++ plan_findings fault (map link_of (rows_at (codes "vl") doc)) xs) ports_are)
+    ∙ ap (λ xs. flat_map (site_findings fault) (sites (data_of s)) ++ plan_findings fault xs ports) links_are
+    ∙ ap (λ xs. flat_map (site_findings fault) (sites (data_of s))
+    ++ plan_findings fault (map link_of (rows_at (codes "vl") (data_of s))) xs) ports_are)

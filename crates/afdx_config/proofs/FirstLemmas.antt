@@ -1,9 +1,9 @@
 -- The first finding has the fault of the least number.
 use Rattle.afdx_config.proofs.Names.{◌≡◌, ℕ, ◌+◌, ◌<◌, ◌≤◌, List, [], ◌∷◌, ◌++◌, Bool, true, false, ◌||◌, ◌&&◌, refl}
 use Rattle.afdx_config.proofs.Names.{ap, sym, subst, ◌∙◌, arith, lit≤, ◌==◌, eq-eqb, and_parts, eqb-true, list_any}
-use Rattle.afdx_config.proofs.Names.{flat_map, Members, fault_number, ConfigFault, Toml, shows, Reads, Finding}
+use Rattle.afdx_config.proofs.Names.{flat_map, list_any-append, Members, fault_number, ConfigFault, Toml, shows, Reads, Finding}
 use Rattle.afdx_config.proofs.Names.{findings, findings_of, shown_faults, has, FirstIsAnswered}
-use Rattle.afdx_config.proofs.ShownLemmas.{any_append, of_shown, faults_are_found, no_toml}
+use Rattle.afdx_config.proofs.ShownLemmas.{of_shown, faults_are_found, no_toml}
 use Rattle.afdx_config.proofs.TextLemmas.{hasnt, has as of_text}
 
 -- faults of the numbers from n on
@@ -25,7 +25,7 @@ low : (h : ConfigFault) (doc : Members) (n : ℕ) (gs : List ConfigFault) → Is
 low h doc n [] from below = refl
 low h doc n (g ∷ gs) from below =
     let under : fault_number h < fault_number g = rw from.0 below in
-    any_append (has h) (findings_of g doc) (flat_map (λ x. findings_of x doc) gs)
+    list_any-append (has h) (findings_of g doc) (flat_map (λ x. findings_of x doc) gs)
     ∙ rw (of_shown h g doc, others (fault_number h) (fault_number g) under, low h doc (n + 1) gs from.1 (omega arith)) refl
 
 -- nor one below that of the first

@@ -5,7 +5,7 @@ pub use Rattle.std.proofs.Common.{if◌then◌else◌, inl, inr, is_none, is_som
 pub use Rattle.std.proofs.Common.{option_map, refl, rules, slice_get, slice_index, string_bytes, subst, suc, sym, take}
 pub use Rattle.std.proofs.Common.{true, zero, ℕ, ◌&&◌, ◌++◌, ◌+◌, ◌-◌, ◌<◌, ◌||◌, ◌∙◌, ◌∷◌, ◌≡◌, ◌≤◌}
 pub use Rattle.std.proofs.KnownBytes.{Appends-trans}
-pub use Rattle.std.proofs.Math.Bool.{or-true}
+pub use Rattle.std.proofs.Math.Bool.{or-false, or-true}
 pub use Rattle.std.proofs.NetLemmas.Ipv4.{read_ipv4_complete, read_ipv4_sound}
 pub use Rattle.std.proofs.NetLemmas.Options.{and_then_some, cond_some}
 pub use Rattle.std.proofs.lemmas.Bool.{and_parts, cases_lt, eqb-true, le-ltb, lt-ltb, or_from, or_parts}
@@ -15,7 +15,7 @@ pub use Rattle.std.proofs.lemmas.Iterator.Adapters.{position_from-zero}
 pub use Rattle.std.proofs.lemmas.List.{drop_more, length-map, take-map, take_all}
 pub use Rattle.std.proofs.lemmas.List.Elements.{All-cons, All-from_recursion, All-nil, All-take, filter_map-append}
 pub use Rattle.std.proofs.lemmas.List.Elements.{recursion_from_All}
-pub use Rattle.std.proofs.lemmas.List.Folds.{flat_map-map, list_any_more}
+pub use Rattle.std.proofs.lemmas.List.Folds.{flat_map-map, list_any-append, list_any_more}
 pub use Rattle.std.proofs.lemmas.List.Quantifiers.{position-Some}
 pub use Rattle.std.proofs.lemmas.Option.{same_Some, slice_get-get_or}
 pub use Rattle.std.proofs.lemmas.Result.{IfOk-weaker, on_ok_weaker}
@@ -31,8 +31,7 @@ pub use Rattle.std.specs.Option.{ForSome, option_map_or}
 pub use Rattle.std.specs.Prelude.{All, Err, IfErr, IfOk, IfSome, Ok, Result, bytes_eq, find, nat_lt, ◌==◌, ◌≢◌}
 pub use Rattle.std.specs.declared.net.ipv4_addr.Ipv4Addr.{Ipv4Addr}
 pub use Rattle.toml.proofs.Views.{table_get, view-Array}
-pub use Rattle.toml.specs.Data.{Data, Members, array, as_array, as_integer, as_str, as_table, get_member, member}
-pub use Rattle.toml.specs.Data.{no_members}
+pub use Rattle.toml.specs.Data.{Data, Members, array, as_array, as_integer, as_str, as_table, get_member}
 pub use Rattle.toml.specs.View.{items_view, members_view, table_view, view}
 pub use Rattle.toml.specs.declared.value.Value.{Array, Value}
 pub use Rattle.afdx_plan.specs.Config.{Plan, ports_on}
@@ -63,13 +62,13 @@ pub use Rattle.afdx_config.specs.Seen.{Adds, finding_of, row_place, site_of}
 pub use Rattle.afdx_config.specs.Tables.{content_fault, fault_in, fault_under, field_fault, has_other_item, is_fault}
 pub use Rattle.afdx_config.specs.Tables.{is_key_of, is_version_2, keys_fault, rows_at, section_at, table_shows}
 pub use Rattle.afdx_config.specs.Tables.{values_show}
-pub use Rattle.afdx_config.specs.Told.{escaped, fields_at, finding_line, key_names, link_text, members_at}
+pub use Rattle.afdx_config.specs.Told.{escaped, fields_at, finding_line, key_names, members_at}
 pub use Rattle.afdx_config.specs.Values.{address_of, bag_of, checksum_of, kind_of, networks_of}
-pub use Rattle.afdx_config.specs.Views.{AreSectionsOf, AreSound, IsLeast, IsLeastOf, IsOfValues, IsSoundTable, field_of}
-pub use Rattle.afdx_config.specs.Views.{lesser, plan_in}
+pub use Rattle.afdx_config.specs.Views.{AreSound, IsDocument, IsLeast, IsLeastOf, IsOfValues, IsSoundTable, data_of}
+pub use Rattle.afdx_config.specs.Views.{field_of, lesser, plan_in}
+pub use Rattle.afdx_config.specs.declared.document.Document.{Document}
 pub use Rattle.afdx_config.specs.declared.findings.Place.{Place}
 pub use Rattle.afdx_config.specs.declared.findings.Place.TheVariants.{EndSystem, Link, Port, Top}
 pub use Rattle.afdx_config.specs.declared.format.Content.{Content}
 pub use Rattle.afdx_config.specs.declared.format.Content.TheVariants.{Address, Checksum, Gap, Networks, PortKind, Rows}
 pub use Rattle.afdx_config.specs.declared.format.Content.TheVariants.{Section, Whole}
-pub use Rattle.afdx_config.specs.declared.sections.Sections.{Sections}

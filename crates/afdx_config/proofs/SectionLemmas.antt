@@ -4,8 +4,8 @@ use Rattle.afdx_config.proofs.Names.{refl, ap, ◌-◌, false, map, length, take
 use Rattle.afdx_config.proofs.Names.{BTreeMap, cons_option, filter_map, list_any, as_table, Members, view, items_view}
 use Rattle.afdx_config.proofs.Names.{members_view, table_view, has_key_besides, tables_among, has_other_item}
 use Rattle.afdx_config.proofs.Names.{is_version_2, table_shows, take-map, length-map, option_map_or, ConfigFault}
-use Rattle.afdx_config.proofs.Names.{document_fields, end_fields, link_fields, port_fields, fields_in, AreSectionsOf}
-use Rattle.afdx_config.proofs.Names.{field_of, Sections, keys_of, Value}
+use Rattle.afdx_config.proofs.Names.{document_fields, end_fields, link_fields, port_fields, fields_in, IsDocument}
+use Rattle.afdx_config.proofs.Names.{field_of, Document, data_of, keys_of, Value}
 use Rattle.afdx_config.specs.Tables.{values_show}
 use Rattle.afdx_config.specs.declared.format.Field.{Field as Written}
 
@@ -47,21 +47,21 @@ first_fields is_2 count fields not_2 counted =
     rw (counted, ← take-map field_of (length fields - 1) fields, ← length-map fields field_of, ← not_2) refl
 
 -- a document shows a fault of 2 to 6 at its top, or in one of the tables that were found
-abbrev pub sections_show : Members → Sections → ConfigFault → Bool
-sections_show doc s f = table_shows f document_fields doc
+abbrev pub document_shows : Document → ConfigFault → Bool
+document_shows s f = table_shows f document_fields (data_of s)
     || option_map_or (λ t. table_shows f end_fields (table_view t.now)) s.end false
-    || list_any (λ t. table_shows f (fields_in (is_version_2 doc) link_fields) (table_view t.now)) s.links.items
-    || list_any (λ t. table_shows f (fields_in (is_version_2 doc) port_fields) (table_view t.now)) s.ports.items
+    || list_any (λ t. table_shows f (fields_in (is_version_2 (data_of s)) link_fields) (table_view t.now)) s.links.items
+    || list_any (λ t. table_shows f (fields_in (is_version_2 (data_of s)) port_fields) (table_view t.now)) s.ports.items
 
 -- these are all
-pub shown_in : (doc : Members) (s : Sections) → AreSectionsOf doc s → (f : ConfigFault)
-    → values_show f doc ≡ sections_show doc s f
+pub shown_in : (s : Document) → IsDocument s → (f : ConfigFault)
+    → values_show f (data_of s) ≡ document_shows s f
 unfolding values_show
-shown_in doc s are f = rw (
+shown_in s are f = rw (
   ← are.end_is,
   ← are.links_are,
   ← are.ports_are,
   option_maps (table_shows f end_fields) (λ t. table_view t.now) s.end false,
-  list_any-map (table_shows f (fields_in (is_version_2 doc) link_fields)) (λ t. table_view t.now) s.links.items,
-  list_any-map (table_shows f (fields_in (is_version_2 doc) port_fields)) (λ t. table_view t.now) s.ports.items,
+  list_any-map (table_shows f (fields_in (is_version_2 (data_of s)) link_fields)) (λ t. table_view t.now) s.links.items,
+  list_any-map (table_shows f (fields_in (is_version_2 (data_of s)) port_fields)) (λ t. table_view t.now) s.ports.items,
 ) refl

@@ -1,36 +1,28 @@
 -- A fault is shown by a document exactly where some finding has it.
 use Rattle.afdx_config.proofs.Names.{◌≡◌, ℕ, ◌+◌, ◌<◌, ◌≤◌, List, [], ◌∷◌, ◌++◌, length, Bool, true, false, ◌||◌, ◌&&◌}
 use Rattle.afdx_config.proofs.Names.{not, cond, Option, Some, None, refl, ap, sym, subst, ◌∙◌, map, find, option_map}
-use Rattle.afdx_config.proofs.Names.{codes, arith, is_some, ◌==◌, and_parts, eqb-true, or-true, position, position_from}
-use Rattle.afdx_config.proofs.Names.{list_any, flat_map, then_some, option_map_or, position_from-zero, Data, Members}
-use Rattle.afdx_config.proofs.Names.{no_members, member, get_member, as_integer, as_str, as_array, as_table, bag_of}
-use Rattle.afdx_config.proofs.Names.{networks_of, kind_of, address_of, checksum_of, is_none, Plan, ports_on}
-use Rattle.afdx_config.proofs.Names.{fault_number, has_pair, has_same_vl, has_same_port, has_same_flow, shares_unicast}
-use Rattle.afdx_config.proofs.Names.{names_no_link, names_no_sub, is_too_long, is_no_count, is_crowded, is_past_limits}
-use Rattle.afdx_config.proofs.Names.{parts_show, ConfigFault, Toml, Memory, MissingKey, WrongKind, OutOfRange, BadBag}
-use Rattle.afdx_config.proofs.Names.{UnknownKey, DuplicateVl, DuplicatePort, NoSuchVl, NoSuchSub, SamplingTooLong}
-use Rattle.afdx_config.proofs.Names.{SameFlow, SharedUnicast, Limit, LinkPlan, PortPlan, Place, Top, Link, Port}
-use Rattle.afdx_config.proofs.Names.{has_key_besides, lies_outside, Field, document_fields, end_fields, link_fields}
-use Rattle.afdx_config.proofs.Names.{port_fields, fields_in, plan_of, shows, Finding, found, one_if, Site, site}
-use Rattle.afdx_config.proofs.Names.{row_sites, end_sites, sites, field_findings, key_findings, member_keys, plan_key}
-use Rattle.afdx_config.proofs.Names.{pair_finding, links_clash, link_findings, ports_clash, is_misfit, link_number}
-use Rattle.afdx_config.proofs.Names.{has_same_sub, is_last_crowded, port_findings, count_is_wrong, count_findings}
-use Rattle.afdx_config.proofs.Names.{findings_of, shown_faults, findings, field_fault, is_fault, is_key_of, keys_fault}
-use Rattle.afdx_config.proofs.Names.{is_version_2, rows_at, section_at, fault_in, content_fault, fault_under}
-use Rattle.afdx_config.proofs.Names.{has_other_item, IsOfValues, Content, Whole, Gap, Networks, PortKind, Address}
-use Rattle.afdx_config.proofs.Names.{Checksum, Section, Rows, IfSome, lit≤, has, FaultsAreFound}
+use Rattle.afdx_config.proofs.Names.{codes, arith, is_some, ◌==◌, and_parts, eqb-true, or-true, or-false}
+use Rattle.afdx_config.proofs.Names.{list_any-append, position, position_from, list_any, flat_map, then_some}
+use Rattle.afdx_config.proofs.Names.{option_map_or, position_from-zero, Data, Members, get_member}
+use Rattle.afdx_config.proofs.Names.{as_integer, as_str, as_array, as_table, bag_of, networks_of, kind_of, address_of}
+use Rattle.afdx_config.proofs.Names.{checksum_of, is_none, Plan, ports_on, fault_number, has_pair, has_same_vl}
+use Rattle.afdx_config.proofs.Names.{has_same_port, has_same_flow, shares_unicast, names_no_link, names_no_sub}
+use Rattle.afdx_config.proofs.Names.{is_too_long, is_no_count, is_crowded, is_past_limits, parts_show, ConfigFault}
+use Rattle.afdx_config.proofs.Names.{Toml, Memory, MissingKey, WrongKind, OutOfRange, BadBag, UnknownKey, DuplicateVl}
+use Rattle.afdx_config.proofs.Names.{DuplicatePort, NoSuchVl, NoSuchSub, SamplingTooLong, SameFlow, SharedUnicast}
+use Rattle.afdx_config.proofs.Names.{Limit, LinkPlan, PortPlan, Place, Top, Link, Port, has_key_besides, lies_outside}
+use Rattle.afdx_config.proofs.Names.{Field, document_fields, end_fields, link_fields, port_fields, fields_in, plan_of}
+use Rattle.afdx_config.proofs.Names.{shows, Finding, found, one_if, Site, site, row_sites, end_sites, sites}
+use Rattle.afdx_config.proofs.Names.{field_findings, key_findings, member_keys, plan_key, pair_finding, links_clash}
+use Rattle.afdx_config.proofs.Names.{link_findings, ports_clash, is_misfit, link_number, has_same_sub, is_last_crowded}
+use Rattle.afdx_config.proofs.Names.{port_findings, count_is_wrong, count_findings, findings_of, shown_faults, findings}
+use Rattle.afdx_config.proofs.Names.{field_fault, is_fault, is_key_of, keys_fault, is_version_2, rows_at, section_at}
+use Rattle.afdx_config.proofs.Names.{fault_in, content_fault, fault_under, has_other_item, IsOfValues, Content, Whole}
+use Rattle.afdx_config.proofs.Names.{Gap, Networks, PortKind, Address, Checksum, Section, Rows, IfSome, lit≤, has}
+use Rattle.afdx_config.proofs.Names.{FaultsAreFound}
+use Rattle.toml.specs.Data.{no_members, member}
 use Rattle.afdx_config.specs.Findings.{site_findings, port_finding, plan_findings}
 use Rattle.afdx_config.specs.Tables.{table_shows, values_show}
-
--- tests of two lists
-pub any_append : {A : Type 0} (p : A → Bool) (xs ys : List A) → list_any p (xs ++ ys) ≡ (list_any p xs || list_any p ys)
-any_append p [] ys = refl
-any_append p (x ∷ xs) ys = here (p x) (any_append p xs ys)
-  where
-    here : (b : Bool) → list_any p (xs ++ ys) ≡ (list_any p xs || list_any p ys)
-        → (b || list_any p (xs ++ ys)) ≡ ((b || list_any p xs) || list_any p ys)
-    here true is = refl
-    here false is = is
 
 -- no element passes
 any_no : {A : Type 0} (xs : List A) → list_any (λ x. false) xs ≡ false
@@ -64,7 +56,7 @@ one f false x = sym (and_no (has f x))
 many : {A : Type 0} (f : ConfigFault) (a : Bool) (F : A → List Finding) (t : A → Bool) (xs : List A)
     → ((x : A) → list_any (has f) (F x) ≡ (a && t x)) → list_any (has f) (flat_map F xs) ≡ (a && list_any t xs)
 many f a F t [] each = sym (and_no a)
-many f a F t (x ∷ xs) each = any_append (has f) (F x) (flat_map F xs)
+many f a F t (x ∷ xs) each = list_any-append (has f) (F x) (flat_map F xs)
     ∙ rw (each x, many f a F t xs each) (and_or a (t x) (list_any t xs))
 
 -- a place is found where some element passes
@@ -94,7 +86,7 @@ pair f g at k (Some d) = one f true (found g (at k) (plan_key g) (Some (k + 1 + 
 links_shown : (f g : ConfigFault) (k : ℕ) (links : List LinkPlan)
     → list_any (has f) (link_findings g k links) ≡ (same f g && has_pair (links_clash g) links)
 links_shown f g k [] = sym (and_no (same f g))
-links_shown f g k (l ∷ rest) = any_append (has f) (pair_finding g Link k (position (links_clash g l) rest)) (link_findings g (k + 1) rest)
+links_shown f g k (l ∷ rest) = list_any-append (has f) (pair_finding g Link k (position (links_clash g l) rest)) (link_findings g (k + 1) rest)
     ∙ rw (pair f g Link k (position (links_clash g l) rest), place_some (links_clash g l) rest, links_shown f g (k + 1) rest)
     (and_or (same f g) (list_any (links_clash g l) rest) (has_pair (links_clash g) rest))
 
@@ -104,16 +96,7 @@ some_last g all [] = false
 some_last g all (p ∷ rest) = is_last_crowded g all p rest || some_last g all rest
 
 six : (a x y z u v w : Bool) → (((a && x) || ((a && y))) || (a && z) || (a && ((u || v) || w))) ≡ (a && (((x || u) || (y || v)) || (z || w)))
-six true true y z u v w = refl
-six true false true z true v w = refl
-six true false true z false v w = refl
-six true false false true true v w = refl
-six true false false true false true w = refl
-six true false false true false false w = refl
-six true false false false true v w = refl
-six true false false false false true w = refl
-six true false false false false false w = refl
-six false x y z u v w = refl
+six a x y z u v w = grind arith
 
 ports_shown : (f g : ConfigFault) (links : List LinkPlan) (all : List PortPlan) (k : ℕ) (ports : List PortPlan)
     → list_any (has f) (port_findings g links all k ports)
@@ -121,19 +104,17 @@ ports_shown : (f g : ConfigFault) (links : List LinkPlan) (all : List PortPlan) 
 unfolding port_finding
 ports_shown f g links all k [] = sym (and_no (same f g))
 ports_shown f g links all k (p ∷ rest) =
-    any_append (has f) (port_finding g links all k p rest) (port_findings g links all (k + 1) rest)
-    ∙ ap (λ b. b || list_any (has f) (port_findings g links all (k + 1) rest))
-    (any_append (has f) (pair_finding g Port k (position (ports_clash g p) rest)
-    ++ one_if (is_misfit g links p) (found g (Port k) (plan_key g) (link_number links p)))
-    (one_if (is_last_crowded g all p rest) (found g (Port k) (plan_key g) None))
-    ∙ ap (λ b. b || list_any (has f) (one_if (is_last_crowded g all p rest) (found g (Port k) (plan_key g) None)))
-    (any_append (has f) (pair_finding g Port k (position (ports_clash g p) rest))
-    (one_if (is_misfit g links p) (found g (Port k) (plan_key g) (link_number links p)))))
-    ∙ rw (
+    let misfit = found g (Port k) (plan_key g) (link_number links p) in
+    let last = found g (Port k) (plan_key g) None in
+    rw (
+      list_any-append (has f) (port_finding g links all k p rest) (port_findings g links all (k + 1) rest),
+      list_any-append (has f) (pair_finding g Port k (position (ports_clash g p) rest) ++ one_if (is_misfit g links p) misfit)
+          (one_if (is_last_crowded g all p rest) last),
+      list_any-append (has f) (pair_finding g Port k (position (ports_clash g p) rest)) (one_if (is_misfit g links p) misfit),
       pair f g Port k (position (ports_clash g p) rest),
       place_some (ports_clash g p) rest,
-      one f (is_misfit g links p) (found g (Port k) (plan_key g) (link_number links p)),
-      one f (is_last_crowded g all p rest) (found g (Port k) (plan_key g) None),
+      one f (is_misfit g links p) misfit,
+      one f (is_last_crowded g all p rest) last,
       ports_shown f g links all (k + 1) rest,
     ) (six (same f g) (list_any (ports_clash g p) rest) (is_misfit g links p) (is_last_crowded g all p rest)
     (has_pair (ports_clash g) rest) (list_any (is_misfit g links) rest) (some_last g all rest))
@@ -147,7 +128,7 @@ pair_no (x ∷ xs) = rw (any_no xs, pair_no xs) refl
 counts_shown : (f g : ConfigFault) (links : List LinkPlan) (ports : List PortPlan)
     → list_any (has f) (count_findings g links ports)
     ≡ (same f g && (count_is_wrong g 64 (length links) || count_is_wrong g 256 (length ports)))
-counts_shown f g links ports = any_append (has f)
+counts_shown f g links ports = list_any-append (has f)
     (one_if (count_is_wrong g 64 (length links)) (found g Top (codes "vl") None))
     (one_if (count_is_wrong g 256 (length ports)) (found g Top (codes "port") None))
     ∙ rw (
@@ -194,26 +175,22 @@ plan_tests g links ports = (has_pair (links_clash g) links
     || (count_is_wrong g 64 (length links) || count_is_wrong g 256 (length ports)))
     || ((has_pair (ports_clash g) ports || list_any (is_misfit g links) ports) || some_last g ports ports)
 
-or_false : (b : Bool) → (b || false) ≡ b
-or_false true = refl
-or_false false = refl
-
 -- is what the plan shows
 plan_same : (g : ConfigFault) (links : List LinkPlan) (ports : List PortPlan) → plan_tests g links ports ≡ parts_show links ports g
 plan_same DuplicateVl links ports = rw (pair_no ports, any_no ports)
-    (or_false (has_pair has_same_vl links || false) ∙ or_false (has_pair has_same_vl links))
+    (or-false (has_pair has_same_vl links || false) ∙ or-false (has_pair has_same_vl links))
 plan_same DuplicatePort links ports = rw (pair_no links, any_no ports)
-    (or_false (has_pair has_same_port ports || false) ∙ or_false (has_pair has_same_port ports))
+    (or-false (has_pair has_same_port ports || false) ∙ or-false (has_pair has_same_port ports))
 plan_same SameFlow links ports = rw (pair_no links, any_no ports)
-    (or_false (has_pair has_same_flow ports || false) ∙ or_false (has_pair has_same_flow ports))
+    (or-false (has_pair has_same_flow ports || false) ∙ or-false (has_pair has_same_flow ports))
 plan_same SharedUnicast links ports = rw (pair_no links, any_no ports)
-    (or_false (has_pair shares_unicast ports || false) ∙ or_false (has_pair shares_unicast ports))
+    (or-false (has_pair shares_unicast ports || false) ∙ or-false (has_pair shares_unicast ports))
 plan_same NoSuchVl links ports = rw (pair_no links, pair_no ports, last_no NoSuchVl ports ports (λ p rest. refl))
-    (or_false (list_any (names_no_link links) ports))
+    (or-false (list_any (names_no_link links) ports))
 plan_same NoSuchSub links ports = rw (pair_no links, pair_no ports, last_no NoSuchSub ports ports (λ p rest. refl))
-    (or_false (list_any (names_no_sub links) ports))
+    (or-false (list_any (names_no_sub links) ports))
 plan_same SamplingTooLong links ports = rw (pair_no links, pair_no ports, last_no SamplingTooLong ports ports (λ p rest. refl))
-    (or_false (list_any (is_too_long links) ports))
+    (or-false (list_any (is_too_long links) ports))
 plan_same Limit links ports = rw (pair_no links, pair_no ports, any_no ports, last_is ports ports) refl
 plan_same g links ports = rw (pair_no links, pair_no ports, any_no ports) refl
 
@@ -222,16 +199,17 @@ plan_shown : (f g : ConfigFault) (links : List LinkPlan) (ports : List PortPlan)
     → list_any (has f) (plan_findings g links ports) ≡ (same f g && parts_show links ports g)
 unfolding plan_findings
 plan_shown f g links ports =
-    any_append (has f) (link_findings g 1 links ++ count_findings g links ports) (port_findings g links ports 1 ports)
-    ∙ ap (λ b. b || list_any (has f) (port_findings g links ports 1 ports))
-    (any_append (has f) (link_findings g 1 links) (count_findings g links ports)
-    ∙ rw (links_shown f g 1 links, counts_shown f g links ports) (and_or (same f g) (has_pair (links_clash g) links)
-    (count_is_wrong g 64 (length links) || count_is_wrong g 256 (length ports))))
-    ∙ ap (λ b. (same f g && (has_pair (links_clash g) links || (count_is_wrong g 64 (length links) || count_is_wrong g 256 (length ports)))) || b)
-    (ports_shown f g links ports 1 ports)
-    ∙ and_or (same f g) (has_pair (links_clash g) links || (count_is_wrong g 64 (length links) || count_is_wrong g 256 (length ports)))
-    ((has_pair (ports_clash g) ports || list_any (is_misfit g links) ports) || some_last g ports ports)
-    ∙ ap (λ b. same f g && b) (plan_same g links ports)
+    let numbers = count_is_wrong g 64 (length links) || count_is_wrong g 256 (length ports) in
+    let of_ports = (has_pair (ports_clash g) ports || list_any (is_misfit g links) ports) || some_last g ports ports in
+    rw (
+      list_any-append (has f) (link_findings g 1 links ++ count_findings g links ports) (port_findings g links ports 1 ports),
+      list_any-append (has f) (link_findings g 1 links) (count_findings g links ports),
+      links_shown f g 1 links,
+      counts_shown f g links ports,
+      ports_shown f g links ports 1 ports,
+      and_or (same f g) (has_pair (links_clash g) links) numbers,
+      and_or (same f g) (has_pair (links_clash g) links || numbers) of_ports,
+    ) (ap (λ b. same f g && b) (plan_same g links ports))
 
 -- the unknown keys of a table
 key_test : (u n h : Bool) → ((u && n) || (h && u)) ≡ ((n || h) && u)
@@ -253,7 +231,7 @@ fault_then g false = refl
 site_shown : (f g : ConfigFault) (s : Site) → list_any (has f) (site_findings g s) ≡ (same f g && table_shows g s.fields s.members)
 unfolding site_findings table_shows
 site_shown f g s =
-    any_append (has f) (flat_map (field_findings g s.place s.members) s.fields)
+    list_any-append (has f) (flat_map (field_findings g s.place s.members) s.fields)
     (flat_map (key_findings g s.place s.fields) (member_keys s.members))
     ∙ rw (
       many f (same f g) (field_findings g s.place s.members) (λ field. is_fault g (field_fault s.members field)) s.fields
@@ -275,13 +253,10 @@ rows_any g at fields k (m ∷ ms) = ap (λ b. table_shows g fields m || b) (rows
 end_any : (g : ConfigFault) (o : Option Members)
     → list_any (λ s. table_shows g s.fields s.members) (end_sites o) ≡ option_map_or (table_shows g end_fields) o false
 end_any g None = refl
-end_any g (Some m) = or_false (table_shows g end_fields m)
+end_any g (Some m) = or-false (table_shows g end_fields m)
 
-or_assoc : (a b c d : Bool) → (a || (b || (c || d))) ≡ (((a || b) || c) || d)
-or_assoc true b c d = refl
-or_assoc false true c d = refl
-or_assoc false false true d = refl
-or_assoc false false false d = refl
+or_four : (a b c d : Bool) → (a || (b || (c || d))) ≡ (((a || b) || c) || d)
+or_four a b c d = grind arith
 
 values_any : (g : ConfigFault) (doc : Members) → list_any (λ s. table_shows g s.fields s.members) (sites doc) ≡ values_show g doc
 unfolding values_show
@@ -290,23 +265,18 @@ values_any g doc =
     let ports = row_sites Port (fields_in (is_version_2 doc) port_fields) 1 (rows_at (codes "port") doc) in
     let end = end_sites (section_at (codes "end_system") doc) in
     let test : Site → Bool = λ s. table_shows g s.fields s.members in
-    ap (λ b. table_shows g document_fields doc || b) (any_append test end (links ++ ports)
-    ∙ ap (λ b. list_any test end || b) (any_append test links ports))
-    ∙ or_assoc (table_shows g document_fields doc) (list_any test end) (list_any test links) (list_any test ports)
-    ∙ ap (λ b. ((table_shows g document_fields doc || b) || list_any test links) || list_any test ports)
-    (end_any g (section_at (codes "end_system") doc))
-    ∙ ap (λ b. ((table_shows g document_fields doc
-    || option_map_or (table_shows g end_fields) (section_at (codes "end_system") doc) false) || b) || list_any test ports)
-    (rows_any g Link (fields_in (is_version_2 doc) link_fields) 1 (rows_at (codes "vl") doc))
-    ∙ ap (λ b. ((table_shows g document_fields doc
-    || option_map_or (table_shows g end_fields) (section_at (codes "end_system") doc) false)
-    || list_any (table_shows g (fields_in (is_version_2 doc) link_fields)) (rows_at (codes "vl") doc)) || b)
-    (rows_any g Port (fields_in (is_version_2 doc) port_fields) 1 (rows_at (codes "port") doc))
+    rw (
+      list_any-append test end (links ++ ports),
+      list_any-append test links ports,
+      end_any g (section_at (codes "end_system") doc),
+      rows_any g Link (fields_in (is_version_2 doc) link_fields) 1 (rows_at (codes "vl") doc),
+      rows_any g Port (fields_in (is_version_2 doc) port_fields) 1 (rows_at (codes "port") doc),
+    ) (or_four (table_shows g document_fields doc) _ _ _)
 
 -- a document's findings of a fault
 pub of_shown : (f g : ConfigFault) (doc : Members) → list_any (has f) (findings_of g doc) ≡ (same f g && shows g doc)
 of_shown f g doc =
-    any_append (has f) (flat_map (site_findings g) (sites doc)) (plan_findings g (plan_of doc).links (plan_of doc).ports)
+    list_any-append (has f) (flat_map (site_findings g) (sites doc)) (plan_findings g (plan_of doc).links (plan_of doc).ports)
     ∙ rw (
       many f (same f g) (site_findings g) (λ s. table_shows g s.fields s.members) (sites doc) (site_shown f g),
       values_any g doc,
@@ -324,15 +294,7 @@ in_small fault refuses None is = (lit≤ tt, lit≤ tt)
 in_small fault refuses (Some x) is = one_small (refuses x) fault is
 
 content_small : (content : Content) (value : Data) → IfSome (content_fault content value) IsOfValues
-content_small (Whole range) value =
-    in_small OutOfRange (lies_outside range.0 range.1) (as_integer value) (lit≤ tt, lit≤ tt)
-content_small Gap value = in_small BadBag (λ x. is_none (bag_of x)) (as_integer value) (lit≤ tt, lit≤ tt)
-content_small Networks value = in_small OutOfRange (λ x. is_none (networks_of x)) (as_str value) (lit≤ tt, lit≤ tt)
-content_small PortKind value = in_small OutOfRange (λ x. is_none (kind_of x)) (as_str value) (lit≤ tt, lit≤ tt)
-content_small Address value = in_small OutOfRange (λ x. is_none (address_of x)) (as_str value) (lit≤ tt, lit≤ tt)
-content_small Checksum value = in_small OutOfRange (λ x. is_none (checksum_of x)) (as_str value) (lit≤ tt, lit≤ tt)
-content_small Section value = in_small WrongKind (λ x. false) (as_table value) (lit≤ tt, lit≤ tt)
-content_small Rows value = in_small WrongKind has_other_item (as_array value) (lit≤ tt, lit≤ tt)
+content_small content value = grind (arith, in_small)
 
 under_small : (field : Field) (o : Option Data) → IfSome (fault_under field o) IsOfValues
 under_small field None = one_small field.is_needed MissingKey (lit≤ tt, lit≤ tt)
@@ -372,7 +334,7 @@ no_memory doc = rw (values_far Memory doc (λ is. absurd (omega (arith, is.1))))
 among : (f : ConfigFault) (doc : Members) → list_any (λ g. same f g && shows g doc) shown_faults ≡ shows f doc
 among Toml doc = sym (no_toml doc)
 among Memory doc = sym (no_memory doc)
-among f doc = or_false (shows f doc)
+among f doc = or-false (shows f doc)
 
 pub faults_are_found : FaultsAreFound
 faults_are_found doc f = sym (many f true (λ g. findings_of g doc) (λ g. same f g && shows g doc) shown_faults

@@ -4,8 +4,8 @@ use Rattle.afdx_config.proofs.Names.{ℕ, refl, ap, sym, ◌∙◌, eq-eqb, same
 use Rattle.afdx_config.proofs.Names.{All-from_recursion, recursion_from_All, or_parts, All, list_any, option_map_or}
 use Rattle.afdx_config.proofs.Names.{ForSome, Members, table_view, fault_number, ConfigFault, number_at, Field}
 use Rattle.afdx_config.proofs.Names.{end_fields, link_fields, port_fields, fields_in, link_of, port_of, plan_of}
-use Rattle.afdx_config.proofs.Names.{is_fault, field_fault, is_version_2, values_show, AreSectionsOf, AreSound}
-use Rattle.afdx_config.proofs.Names.{IsSoundTable, Sections, map-map, LinkPlan, PortPlan}
+use Rattle.afdx_config.proofs.Names.{is_fault, field_fault, is_version_2, values_show, IsDocument, AreSound}
+use Rattle.afdx_config.proofs.Names.{IsSoundTable, Document, data_of, map-map, LinkPlan, PortPlan}
 use Rattle.afdx_config.specs.Tables.{table_shows}
 use Rattle.afdx_config.proofs.SectionLemmas.{Found, shown_in, option_maps}
 
@@ -56,23 +56,23 @@ end_sound None none = λ t e. cc
 end_sound (Some x) none = λ t e. rw (← same_Some x t e) (table_sound end_fields (table_view x.now) none)
 
 -- no fault of the values: the tables are sound
-pub sound : (doc : Members) (s : Sections) → AreSectionsOf doc s → ((f : ConfigFault) → values_show f doc ≡ false)
+pub sound : (s : Document) → IsDocument s → ((f : ConfigFault) → values_show f (data_of s) ≡ false)
     → AreSound s
-sound doc s are none =
-    let ports = λ (f : ConfigFault). or_parts _ _ (sym (shown_in doc s are f) ∙ none f) in
+sound s are none =
+    let ports = λ (f : ConfigFault). or_parts _ _ (sym (shown_in s are f) ∙ none f) in
     let links = λ (f : ConfigFault). or_parts _ _ (ports f).0 in
     record {
       end_sound = end_sound s.end (λ f. (or_parts _ _ (links f).0).1);
-      links_sound = all_sound (is_version_2 doc) link_fields s.links.items (λ f. (links f).1);
-      ports_sound = all_sound (is_version_2 doc) port_fields s.ports.items (λ f. (ports f).1);
+      links_sound = all_sound (is_version_2 (data_of s)) link_fields s.links.items (λ f. (links f).1);
+      ports_sound = all_sound (is_version_2 (data_of s)) port_fields s.ports.items (λ f. (ports f).1);
     }
 
 -- the plan of the parts is that of the document
-pub plan_parts : (doc : Members) (s : Sections) (e : ℕ) (ls : List LinkPlan) (ps : List PortPlan) → AreSectionsOf doc s
+pub plan_parts : (s : Document) (e : ℕ) (ls : List LinkPlan) (ps : List PortPlan) → IsDocument s
     → e ≡ option_map_or (λ t. number_at (codes "id") (table_view t.now)) s.end 0
     → ls ≡ map (λ t. link_of (table_view t.now)) s.links.items
-    → ps ≡ map (λ t. port_of (table_view t.now)) s.ports.items → record { end_system = e; links = ls; ports = ps } ≡ plan_of doc
-plan_parts doc s e ls ps are he hl hp =
+    → ps ≡ map (λ t. port_of (table_view t.now)) s.ports.items → record { end_system = e; links = ls; ports = ps } ≡ plan_of (data_of s)
+plan_parts s e ls ps are he hl hp =
     let a = he ∙ sym (option_maps (number_at (codes "id")) (λ t. table_view t.now) s.end 0)
     ∙ ap (λ o. option_map_or (number_at (codes "id")) o 0) are.end_is in
     let b = hl ∙ sym (map-map link_of (λ t. table_view t.now) s.links.items) ∙ ap (map link_of) are.links_are in

@@ -141,12 +141,9 @@ content_text Rows = codes "an array of tables"
 abbrev pub kind_text : Content → List ℕ
 kind_text (Whole range) = codes "a whole number"
 kind_text Gap = codes "a whole number"
-kind_text Networks = codes "a text"
-kind_text PortKind = codes "a text"
-kind_text Address = codes "a text"
-kind_text Checksum = codes "a text"
 kind_text Section = codes "a table"
 kind_text Rows = codes "an array of tables"
+kind_text _ = codes "a text"
 
 -- the keys of a table
 abbrev pub key_names : List Field → List ℕ
@@ -178,21 +175,17 @@ keys_text fields = codes "the keys are" ++ key_names fields
 unfoldable pub wanted_text : Members → Finding → List ℕ
 wanted_text document f = kind_at document f ++ codes " is wanted"
 
--- which sub-VLs a port's link has
-unfoldable pub below_text : Members → Option ℕ → List ℕ
-below_text document other = codes "below sub_vls of its vl" ++ link_text document other (codes "sub_vls")
-
--- what fits into one frame of a port's link
-unfoldable pub most_text : Members → Option ℕ → List ℕ
-most_text document other = codes "at most lmax - 47 of its vl" ++ link_text document other (codes "lmax")
+-- a bound that a port's link sets, and the value there
+unfoldable pub bound_text : Members → Option ℕ → List ℕ → List ℕ → List ℕ
+bound_text document other bound key = bound ++ link_text document other key
 
 -- what is allowed where a fault is found
 unfoldable pub allowed_text : ConfigFault → Members → Finding → List ℕ
 allowed_text UnknownKey document f = keys_text (fields_at document f.place)
 allowed_text WrongKind document f = wanted_text document f
 allowed_text NoSuchVl document f = codes "no vl has this id"
-allowed_text NoSuchSub document f = below_text document f.other
-allowed_text SamplingTooLong document f = most_text document f.other
+allowed_text NoSuchSub document f = bound_text document f.other (codes "below sub_vls of its vl") (codes "sub_vls")
+allowed_text SamplingTooLong document f = bound_text document f.other (codes "at most lmax - 47 of its vl") (codes "lmax")
 allowed_text Limit document f = limit_text f.place f.key
 allowed_text _ document f = content_at document f
 

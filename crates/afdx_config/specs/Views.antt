@@ -10,7 +10,7 @@ use Rattle.afdx_plan.specs.Config.{Plan, plan_of_parts}
 use Rattle.afdx_config.specs.Format.{Field, end_fields, link_fields, port_fields, fields_in}
 use Rattle.afdx_config.specs.Tables.{field_fault, section_at, rows_at}
 use Rattle.afdx_config.specs.declared.format.Field.{Field as Written}
-use Rattle.afdx_config.specs.declared.sections.Sections.{Sections}
+use Rattle.afdx_config.specs.declared.document.Document.{Document}
 use Rattle.afdx_config.specs.declared.parts.Parts.{Parts}
 
 -- the field that the code writes
@@ -21,12 +21,15 @@ field_of written = record {
   content = written.2;
 }
 
--- these are the document's tables
-pub record AreSectionsOf (document : Members) (sections : Sections) : Type 0 where
-  pub end_is : option_map (λ t. table_view t.now) sections.end
-      ≡ section_at (codes "end_system") document
-  pub links_are : map (λ r. table_view r.now) sections.links.items ≡ rows_at (codes "vl") document
-  pub ports_are : map (λ r. table_view r.now) sections.ports.items ≡ rows_at (codes "port") document
+-- the data of a document
+abbrev pub data_of : Document → Members
+data_of document = table_view document.top.now
+
+-- its tables are those that the format names in it
+pub record IsDocument (document : Document) : Type 0 where
+  pub end_is : option_map (λ t. table_view t.now) document.end ≡ section_at (codes "end_system") (data_of document)
+  pub links_are : map (λ r. table_view r.now) document.links.items ≡ rows_at (codes "vl") (data_of document)
+  pub ports_are : map (λ r. table_view r.now) document.ports.items ≡ rows_at (codes "port") (data_of document)
 
 -- the fault of the least number that passes a test
 pub record IsLeast (shows : ConfigFault → Bool) (least : ConfigFault) : Type 0 where
@@ -53,10 +56,10 @@ abbrev pub IsSoundTable : List Field → Members → Type 0
 IsSoundTable fields members = AllByRecursion (λ field. field_fault members field ≡ None) fields
 
 -- each of the tables is without fault; a link's and a port's in the keys that it has in both versions
-pub record AreSound (sections : Sections) : Type 0 where
-  pub end_sound : ForSome sections.end (λ t. IsSoundTable end_fields (table_view t.now))
-  pub links_sound : All (λ r. IsSoundTable (fields_in false link_fields) (table_view r.now)) sections.links.items
-  pub ports_sound : All (λ r. IsSoundTable (fields_in false port_fields) (table_view r.now)) sections.ports.items
+pub record AreSound (document : Document) : Type 0 where
+  pub end_sound : ForSome document.end (λ t. IsSoundTable end_fields (table_view t.now))
+  pub links_sound : All (λ r. IsSoundTable (fields_in false link_fields) (table_view r.now)) document.links.items
+  pub ports_sound : All (λ r. IsSoundTable (fields_in false port_fields) (table_view r.now)) document.ports.items
 
 -- the plan of parts that weren't judged as a whole
 abbrev pub plan_in : Parts → Plan

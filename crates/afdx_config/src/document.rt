@@ -1,31 +1,73 @@
-//! The fault that the values of a document show.
-ghost use Rattle.std.specs.Prelude.{◌≡◌, map};
-ghost use Rattle.toml.specs.View.{table_view};
-ghost use Rattle.afdx_config.specs.Tables.{is_version_2, values_show};
+//! A configuration's document and its tables.
+ghost use Rattle.std.specs.Prelude.{◌≡◌, map, IfOk, option_map};
+ghost use Rattle.toml.specs.View.{table_view, items_view};
+ghost use Rattle.afdx_config.specs.Entries.{tables_among};
 ghost use Rattle.afdx_config.specs.Format.{fields_in};
-ghost use Rattle.afdx_config.specs.Views.{AreSectionsOf, IsLeastOf, field_of};
+ghost use Rattle.afdx_config.specs.Tables.{rows_at, section_at, is_version_2};
+ghost use Rattle.afdx_config.specs.Views.{IsDocument, data_of, field_of};
 
-use crate::entries::whole_number;
-use crate::fields::{lesser, table_fault, tables_fault};
-use crate::format::{DOCUMENT, END, Field, LINK, PORT};
-use crate::sections::Sections;
-use afdx_plan::ConfigFault;
-use toml::Table;
+use crate::entries::{value_at, whole_number};
+use crate::format::Field;
+use std::alloc::{AllocError, Global};
+use toml::{Table, Value};
+
+/// A document, and the tables that the format names in it: the end system's, those of the links and
+/// those of the ports, in the order of the text.
+#[derive(Drop)]
+pub(crate) struct Document<'a> {
+    pub top: &'a Table,
+    pub end: Option<&'a Table>,
+    pub links: Vec<&'a Table>,
+    pub ports: Vec<&'a Table>,
+}
+
+/// The tables of an array.
+fn tables_of<'a>(alloc: Global, values: &'a [Value]) -> Result<Vec<&'a Table>, AllocError>
+    ensures { IfOk result (λ rows.
+        map (λ r. table_view r.now) rows.items ≡ tables_among (items_view values.now)) }
+{
+    let mut rows = Vec::new(alloc);
+    for value in values {
+        if let Some(table) = value.as_table() {
+            rows.push(table)?;
+        }
+    }
+    Ok(rows)
+}
+
+/// The tables of the array under a key.
+fn rows<'a>(alloc: Global, document: &'a Table, key: &str) -> Result<Vec<&'a Table>, AllocError>
+    ensures { IfOk result (λ rows.
+        map (λ r. table_view r.now) rows.items ≡ rows_at key.now (table_view document.now)) }
+{
+    match value_at(document, key).and_then(|value| value.as_array()) {
+        Some(values) => tables_of(alloc, values.as_slice()),
+        None => Ok(Vec::new(alloc)),
+    }
+}
+
+/// The table under a key.
+fn section<'a>(document: &'a Table, key: &str) -> Option<&'a Table>
+    ensures { option_map (λ t. table_view t.now) result
+        ≡ section_at key.now (table_view document.now) }
+{
+    value_at(document, key).and_then(|value| value.as_table())
+}
 
 /// The text is of version 2.
-fn is_version_2(document: &Table) -> bool
-    ensures { result ≡ is_version_2 (table_view document.now) }
+fn is_version_2(document: &Document<'_>) -> bool
+    ensures { result ≡ is_version_2 (data_of document.now) }
 {
-    match whole_number(document, "version") {
+    match whole_number(document.top, "version") {
         Some(version) => version == 2,
         None => false,
     }
 }
 
 /// The keys of a table in the version of the text, of those that it has in version 2.
-pub(crate) fn fields_in<'a>(document: &Table, fields: &'a [Field]) -> &'a [Field]
+pub(crate) fn fields_in<'a>(document: &Document<'_>, fields: &'a [Field]) -> &'a [Field]
     ensures { map field_of result.now
-        ≡ fields_in (is_version_2 (table_view document.now)) (map field_of fields.now) }
+        ≡ fields_in (is_version_2 (data_of document.now)) (map field_of fields.now) }
 {
     if is_version_2(document) {
         fields
@@ -34,19 +76,17 @@ pub(crate) fn fields_in<'a>(document: &Table, fields: &'a [Field]) -> &'a [Field
     }
 }
 
-/// The fault of the least number that a document's values show.
-pub(crate) fn value_fault(document: &Table, sections: &Sections<'_>) -> Option<ConfigFault>
-    requires { AreSectionsOf (table_view document.now) sections.now }
-    ensures { IsLeastOf (λ fault. values_show fault (table_view document.now)) result }
-{
-    let at_top = table_fault(document, &DOCUMENT);
-    let in_end = match sections.end {
-        Some(table) => table_fault(table, &END),
-        None => None,
-    };
-    let links = sections.links.as_slice();
-    let in_links = tables_fault(links, fields_in(document, &LINK));
-    let ports = sections.ports.as_slice();
-    let in_ports = tables_fault(ports, fields_in(document, &PORT));
-    lesser(lesser(lesser(at_top, in_end), in_links), in_ports)
+impl<'a> Document<'a> {
+    /// Finds the tables.
+    pub(crate) fn of(alloc: Global, table: &'a Table) -> Result<Document<'a>, AllocError>
+        ensures whole { IfOk result IsDocument }
+        ensures same { IfOk result (λ document. data_of document ≡ table_view table.now) }
+    {
+        Ok(Document {
+            top: table,
+            end: section(table, "end_system"),
+            links: rows(alloc, table, "vl")?,
+            ports: rows(alloc, table, "port")?,
+        })
+    }
 }

@@ -6,12 +6,12 @@ ghost use Rattle.toml.specs.View.{table_view};
 ghost use Rattle.afdx_config.specs.Explained.{begins_character, column_after, line_of, Explains, TellsDocument, TellsStop, TellsToml};
 ghost use Rattle.afdx_config.specs.Findings.{findings as findings_in, site_findings, plan_findings};
 ghost use Rattle.afdx_config.specs.Seen.{Adds, finding_of, site_of};
-ghost use Rattle.afdx_config.specs.Views.{AreSectionsOf};
+ghost use Rattle.afdx_config.specs.Views.{IsDocument, data_of};
 
+use crate::document::Document;
 use crate::findings::{Finding, Place, add};
 use crate::plan_findings::add_plan;
 use crate::rows::{LinkRow, PortRow, link_rows, port_rows};
-use crate::sections::Sections;
 use crate::sites::{Site, sites_of};
 use crate::told::{write_explanation, write_toml};
 use crate::value_findings::add_sites;
@@ -69,18 +69,14 @@ fn add_faults(
 }
 
 /// The findings of a document.
-fn findings_in(
-    alloc: Global,
-    document: &Table,
-    sections: &Sections<'_>,
-) -> Result<Vec<Finding>, AllocError>
-    requires { AreSectionsOf (table_view document.now) sections.now }
+fn findings_in(alloc: Global, document: &Document<'_>) -> Result<Vec<Finding>, AllocError>
+    requires { IsDocument document.now }
     ensures { IfOk result (λ found.
-        map finding_of found.items ≡ findings_in (table_view document.now)) }
+        map finding_of found.items ≡ findings_in (data_of document.now)) }
 {
-    let sites = sites_of(alloc, document, sections)?;
-    let links = link_rows(alloc, sections.links.as_slice())?;
-    let ports = port_rows(alloc, sections.ports.as_slice())?;
+    let sites = sites_of(alloc, document)?;
+    let links = link_rows(alloc, document.links.as_slice())?;
+    let ports = port_rows(alloc, document.ports.as_slice())?;
     let mut found = Vec::new(alloc);
     add_faults(
         alloc,
@@ -94,14 +90,14 @@ fn findings_in(
 }
 
 /// All faults of a document.
-fn explain_document(alloc: Global, document: &Table) -> Result<Explanation, AllocError>
+fn explain_document(alloc: Global, table: &Table) -> Result<Explanation, AllocError>
     ensures { IfOk result (λ e.
-        TellsDocument (table_view document.now) (map finding_of e.findings.items) e.text.items) }
+        TellsDocument (table_view table.now) (map finding_of e.findings.items) e.text.items) }
 {
-    let sections = Sections::of(alloc, document)?;
-    let findings = findings_in(alloc, document, &sections)?;
+    let document = Document::of(alloc, table)?;
+    let findings = findings_in(alloc, &document)?;
     let mut text = Vec::new(alloc);
-    match write_explanation(&mut text, document, &sections, findings.as_slice()) {
+    match write_explanation(&mut text, &document, findings.as_slice()) {
         Ok(()) => Ok(Explanation { findings, text }),
         Err(_) => Err(AllocError),
     }
@@ -182,7 +178,7 @@ pub fn explain(alloc: Global, text: &[u8]) -> Result<Explanation, AllocError>
         Explains text.now (map finding_of e.findings.items) e.text.items) }
 {
     match toml::table_from_slice(alloc, text) {
-        Ok(document) => explain_document(alloc, &document),
+        Ok(table) => explain_document(alloc, &table),
         Err(error) => {
             if error.is_memory() {
                 Err(AllocError)

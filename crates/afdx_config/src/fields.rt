@@ -5,11 +5,12 @@ ghost use Rattle.std.specs.BTreeMap.{keys};
 ghost use Rattle.toml.specs.Data.{as_table};
 ghost use Rattle.toml.specs.View.{table_view, items_view, view};
 ghost use Rattle.afdx_config.specs.Entries.{lies_outside};
-ghost use Rattle.afdx_config.specs.Tables.{has_other_item, content_fault, field_fault, is_key_of, table_shows};
-ghost use Rattle.afdx_config.specs.Views.{field_of, lesser, IsLeastOf, IsOfValues};
+ghost use Rattle.afdx_config.specs.Tables.{has_other_item, content_fault, field_fault, is_key_of, table_shows, values_show};
+ghost use Rattle.afdx_config.specs.Views.{IsDocument, data_of, field_of, lesser, IsLeastOf, IsOfValues};
 
+use crate::document::{Document, fields_in};
 use crate::entries::value_at;
-use crate::format::{Content, Field, Range};
+use crate::format::{Content, DOCUMENT, END, Field, LINK, PORT, Range};
 use crate::values::{bag_of_ms, checksum_named, kind_named, networks_named, unicast_address};
 use afdx_plan::ConfigFault;
 use toml::{Table, Value};
@@ -133,4 +134,21 @@ pub(crate) fn tables_fault(tables: &[&Table], fields: &[Field]) -> Option<Config
         least = lesser(least, table_fault(table, fields));
     }
     least
+}
+
+/// The fault of the least number that a document's values show.
+pub(crate) fn value_fault(document: &Document<'_>) -> Option<ConfigFault>
+    requires { IsDocument document.now }
+    ensures { IsLeastOf (λ fault. values_show fault (data_of document.now)) result }
+{
+    let at_top = table_fault(document.top, &DOCUMENT);
+    let in_end = match document.end {
+        Some(table) => table_fault(table, &END),
+        None => None,
+    };
+    let links = document.links.as_slice();
+    let in_links = tables_fault(links, fields_in(document, &LINK));
+    let ports = document.ports.as_slice();
+    let in_ports = tables_fault(ports, fields_in(document, &PORT));
+    lesser(lesser(lesser(at_top, in_end), in_links), in_ports)
 }

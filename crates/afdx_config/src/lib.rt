@@ -12,7 +12,6 @@ mod parts;
 mod plan_findings;
 mod read;
 mod rows;
-mod sections;
 mod sites;
 mod told;
 mod value_findings;

@@ -6,11 +6,11 @@ ghost use Rattle.afdx_plan.specs.Plan.{IsLink, IsPort};
 ghost use Rattle.afdx_config.specs.Entries.{number_at};
 ghost use Rattle.afdx_config.specs.Format.{end_fields, link_fields, port_fields, fields_in};
 ghost use Rattle.afdx_config.specs.PlanOf.{link_of, port_of, plan_of};
-ghost use Rattle.afdx_config.specs.Views.{AreSectionsOf, AreSound, IsSoundTable, plan_in};
+ghost use Rattle.afdx_config.specs.Views.{IsDocument, data_of, AreSound, IsSoundTable, plan_in};
 
+use crate::document::Document;
 use crate::entries::{number, text, whole_number};
 use crate::format::{CAPACITY, IDENTIFIER, LMAX, MESSAGE, PARTITION, SUB_VL, SUB_VLS, UDP_PORT};
-use crate::sections::Sections;
 use crate::values::{bag_of_ms, checksum_named, kind_named, networks_named, unicast_address};
 use afdx_plan::{Bag, Kind, LinkPlan, Lmax, Networks, PortId, PortPlan, UdpSum, VlId};
 use std::alloc::{AllocError, Global};
@@ -108,20 +108,16 @@ fn port_plans(alloc: Global, tables: &[&Table]) -> Result<Vec<PortPlan>, AllocEr
 }
 
 /// The plan of a document whose values show no fault.
-pub(crate) fn parts_of(
-    alloc: Global,
-    document: &Table,
-    sections: &Sections<'_>,
-) -> Result<Parts, AllocError>
-    requires found { AreSectionsOf (table_view document.now) sections.now }
-    requires sound { AreSound sections.now }
-    ensures value { IfOk result (λ parts. plan_in parts ≡ plan_of (table_view document.now)) }
+pub(crate) fn parts_of(alloc: Global, document: &Document<'_>) -> Result<Parts, AllocError>
+    requires found { IsDocument document.now }
+    requires sound { AreSound document.now }
+    ensures value { IfOk result (λ parts. plan_in parts ≡ plan_of (data_of document.now)) }
     ensures links { IfOk result (λ parts. All IsLink parts.links.items) }
     ensures ports { IfOk result (λ parts. All IsPort parts.ports.items) }
 {
-    let end_system = end_system(sections.end);
-    let links = link_plans(alloc, sections.links.as_slice())?;
-    let ports = port_plans(alloc, sections.ports.as_slice())?;
+    let end_system = end_system(document.end);
+    let links = link_plans(alloc, document.links.as_slice())?;
+    let ports = port_plans(alloc, document.ports.as_slice())?;
     Ok(Parts {
         end_system,
         links,

@@ -1,33 +1,31 @@
 //! Reading a configuration.
 ghost use Rattle.std.specs.Prelude.{◌≡◌, ◌≢◌, ◌≤◌, false, IfOk, IfErr};
-ghost use Rattle.toml.specs.View.{table_view};
 ghost use Rattle.afdx_plan.specs.PlanFaults.{fault_number};
 ghost use Rattle.afdx_plan.specs.declared.fault.ConfigFault.{ConfigFault};
 ghost use Rattle.afdx_config.specs.PlanOf.{plan_of};
 ghost use Rattle.afdx_config.specs.Faults.{shows, IsPlanOf, IsLeastFault};
-ghost use Rattle.afdx_config.specs.Views.{IsLeast};
+ghost use Rattle.afdx_config.specs.Views.{IsDocument, IsLeast, data_of};
 
-use crate::document::value_fault;
+use crate::document::Document;
+use crate::fields::value_fault;
 use crate::parts::parts_of;
-use crate::sections::Sections;
 use afdx_plan::{Config, ConfigFault};
 use std::alloc::Global;
-use toml::Table;
 
 /// The configuration that a document writes.
-fn read_document(alloc: Global, document: &Table) -> Result<Config, ConfigFault>
+fn read_document(alloc: Global, document: &Document<'_>) -> Result<Config, ConfigFault>
+    requires { IsDocument document.now }
     ensures fine { IfOk result (λ _. (fault : ConfigFault) →
-        shows fault (table_view document.now) ≡ false) }
-    ensures plan { IfOk result (λ config. config ≡ plan_of (table_view document.now)) }
+        shows fault (data_of document.now) ≡ false) }
+    ensures plan { IfOk result (λ config. config ≡ plan_of (data_of document.now)) }
     ensures fault { IfErr result (λ least. least ≢ ConfigFault.Memory →
-        IsLeast (λ fault. shows fault (table_view document.now)) least
+        IsLeast (λ fault. shows fault (data_of document.now)) least
         × (2 ≤ fault_number least)) }
 {
-    let sections = Sections::of(alloc, document).map_err(|_| ConfigFault::Memory)?;
-    if let Some(fault) = value_fault(document, &sections) {
+    if let Some(fault) = value_fault(document) {
         return Err(fault);
     }
-    let parts = parts_of(alloc, document, &sections).map_err(|_| ConfigFault::Memory)?;
+    let parts = parts_of(alloc, document).map_err(|_| ConfigFault::Memory)?;
     Config::new(parts.end_system, parts.links, parts.ports)
 }
 
@@ -39,7 +37,10 @@ pub fn read_config(alloc: Global, text: &[u8]) -> Result<Config, ConfigFault>
         least ≢ ConfigFault.Memory → IsLeastFault text.now least) }
 {
     match toml::table_from_slice(alloc, text) {
-        Ok(document) => read_document(alloc, &document),
+        Ok(table) => {
+            let document = Document::of(alloc, &table).map_err(|_| ConfigFault::Memory)?;
+            read_document(alloc, &document)
+        }
         Err(error) => {
             if error.is_memory() {
                 Err(ConfigFault::Memory)

@@ -3,12 +3,11 @@ ghost use Rattle.std.specs.Prelude.{◌≡◌, ◌++◌, map, option_map, IfOk};
 ghost use Rattle.toml.specs.View.{table_view};
 ghost use Rattle.afdx_config.specs.Findings.{end_sites, row_sites, sites as sites_in};
 ghost use Rattle.afdx_config.specs.Seen.{site_of, row_place};
-ghost use Rattle.afdx_config.specs.Views.{AreSectionsOf, field_of};
+ghost use Rattle.afdx_config.specs.Views.{IsDocument, data_of, field_of};
 
-use crate::document::fields_in;
+use crate::document::{Document, fields_in};
 use crate::findings::Place;
 use crate::format::{DOCUMENT, END, Field, LINK, PORT};
-use crate::sections::Sections;
 use std::alloc::{AllocError, Global};
 use toml::Table;
 
@@ -79,21 +78,20 @@ fn with_end<'a>(
 /// All tables of a document.
 pub(crate) fn sites_of<'a>(
     alloc: Global,
-    document: &'a Table,
-    sections: &Sections<'a>,
+    document: &Document<'a>,
 ) -> Result<Vec<Site<'a>>, AllocError>
-    requires { AreSectionsOf (table_view document.now) sections.now }
-    ensures { IfOk result (λ sites. map site_of sites.items ≡ sites_in (table_view document.now)) }
+    requires { IsDocument document.now }
+    ensures { IfOk result (λ sites. map site_of sites.items ≡ sites_in (data_of document.now)) }
 {
     let mut sites: Vec<Site<'a>> = Vec::new(alloc);
     sites.push(Site {
         place: Place::Top,
         fields: &DOCUMENT,
-        table: document,
+        table: document.top,
     })?;
-    let sites = with_end(sites, sections.end)?;
-    let links = sections.links.as_slice();
+    let sites = with_end(sites, document.end)?;
+    let links = document.links.as_slice();
     let sites = with_rows(sites, Rows::Links, fields_in(document, &LINK), links)?;
-    let ports = sections.ports.as_slice();
+    let ports = document.ports.as_slice();
     with_rows(sites, Rows::Ports, fields_in(document, &PORT), ports)
 }

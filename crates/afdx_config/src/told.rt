@@ -5,14 +5,13 @@ ghost use Rattle.std.specs.List.{flat_map};
 ghost use Rattle.toml.specs.Data.{get_member};
 ghost use Rattle.toml.specs.View.{table_view, view};
 ghost use Rattle.afdx_config.specs.Seen.{finding_of};
-ghost use Rattle.afdx_config.specs.Told.{fault_name, is_plain, hex_digit, escaped, cut_text, array_text, known_text, value_text, members_at, id_text, id_at, place_text, joint, subject, fields_at, field_at, content_text, kind_text, key_names, limit_text, link_text, content_at, kind_at, keys_text, wanted_text, below_text, most_text, allowed_text, row_like, pair_text, same_text, is_of_pair, pair_line, key_line, told, stop_text, toml_line, toml_text, finding_line, count_line, explanation};
-ghost use Rattle.afdx_config.specs.Views.{AreSectionsOf, field_of};
+ghost use Rattle.afdx_config.specs.Told.{fault_name, is_plain, hex_digit, escaped, cut_text, array_text, known_text, value_text, members_at, id_text, id_at, place_text, joint, subject, fields_at, field_at, content_text, kind_text, key_names, limit_text, link_text, content_at, kind_at, keys_text, wanted_text, bound_text, allowed_text, row_like, pair_text, same_text, is_of_pair, pair_line, key_line, told, stop_text, toml_line, toml_text, finding_line, count_line, explanation};
+ghost use Rattle.afdx_config.specs.Views.{IsDocument, data_of, field_of};
 
-use crate::document::fields_in;
+use crate::document::{Document, fields_in};
 use crate::entries::{value_at, whole_number};
 use crate::findings::{Finding, Place};
 use crate::format::{Content, DOCUMENT, END, Field, LINK, PORT};
-use crate::sections::Sections;
 use afdx_plan::ConfigFault;
 use std::io::{self, Write};
 use toml::{Table, Value};
@@ -139,26 +138,26 @@ fn row_at<'a>(rows: &[&'a Table], k: usize) -> Option<&'a Table>
 }
 
 /// The table at a place.
-fn table_at<'a>(document: &'a Table, sections: &Sections<'a>, place: Place) -> Option<&'a Table>
-    requires { AreSectionsOf (table_view document.now) sections.now }
+fn table_at<'a>(document: &Document<'a>, place: Place) -> Option<&'a Table>
+    requires { IsDocument document.now }
     ensures { option_map (λ t. table_view t.now) result
-        ≡ members_at (table_view document.now) place }
+        ≡ members_at (data_of document.now) place }
 {
     match place {
         Place::Text(_, _) => None,
-        Place::Top => Some(document),
-        Place::EndSystem => sections.end,
-        Place::Link(k) => row_at(sections.links.as_slice(), k),
-        Place::Port(k) => row_at(sections.ports.as_slice(), k),
+        Place::Top => Some(document.top),
+        Place::EndSystem => document.end,
+        Place::Link(k) => row_at(document.links.as_slice(), k),
+        Place::Port(k) => row_at(document.ports.as_slice(), k),
     }
 }
 
 /// The identifier of the table at a place.
-fn id_at(document: &Table, sections: &Sections<'_>, place: Place) -> Option<i64>
-    requires { AreSectionsOf (table_view document.now) sections.now }
-    ensures { result ≡ id_at (table_view document.now) place }
+fn id_at(document: &Document<'_>, place: Place) -> Option<i64>
+    requires { IsDocument document.now }
+    ensures { result ≡ id_at (data_of document.now) place }
 {
-    match table_at(document, sections, place) {
+    match table_at(document, place) {
         Some(table) => whole_number(table, "id"),
         None => None,
     }
@@ -175,15 +174,10 @@ fn write_id<W: Write>(writer: &mut W, id: Option<i64>) -> io::Result<()>
 }
 
 #[tactic(auto, unfolding(crate::specs::Told::place_text))]
-fn write_place<W: Write>(
-    writer: &mut W,
-    document: &Table,
-    sections: &Sections<'_>,
-    place: Place,
-) -> io::Result<()>
-    requires { AreSectionsOf (table_view document.now) sections.now }
+fn write_place<W: Write>(writer: &mut W, document: &Document<'_>, place: Place) -> io::Result<()>
+    requires { IsDocument document.now }
     ensures { OnOk result (Appends (W.contents writer.old) (W.contents writer.new)
-        (place_text (table_view document.now) place)) }
+        (place_text (data_of document.now) place)) }
 {
     match place {
         Place::Text(line, column) => write_stop(writer, line, column),
@@ -191,11 +185,11 @@ fn write_place<W: Write>(
         Place::EndSystem => writer.write_all(b"end_system"),
         Place::Link(k) => {
             write!(writer, "vl {k}")?;
-            write_id(writer, id_at(document, sections, place))
+            write_id(writer, id_at(document, place))
         }
         Place::Port(k) => {
             write!(writer, "port {k}")?;
-            write_id(writer, id_at(document, sections, place))
+            write_id(writer, id_at(document, place))
         }
     }
 }
@@ -214,17 +208,12 @@ fn joint(place: Place) -> &'static str
 }
 
 /// What stands under a key of a place.
-fn value_under<'a>(
-    document: &'a Table,
-    sections: &Sections<'a>,
-    place: Place,
-    key: &str,
-) -> Option<&'a Value>
-    requires { AreSectionsOf (table_view document.now) sections.now }
+fn value_under<'a>(document: &Document<'a>, place: Place, key: &str) -> Option<&'a Value>
+    requires { IsDocument document.now }
     ensures { option_map (λ v. view v.now) result
-        ≡ option_and_then (get_member key.now) (members_at (table_view document.now) place) }
+        ≡ option_and_then (get_member key.now) (members_at (data_of document.now) place) }
 {
-    match table_at(document, sections, place) {
+    match table_at(document, place) {
         Some(table) => value_at(table, key),
         None => None,
     }
@@ -233,25 +222,24 @@ fn value_under<'a>(
 #[tactic(auto, unfolding(crate::specs::Told::subject))]
 fn write_subject<W: Write>(
     writer: &mut W,
-    document: &Table,
-    sections: &Sections<'_>,
+    document: &Document<'_>,
     place: Place,
     key: &str,
 ) -> io::Result<()>
-    requires { AreSectionsOf (table_view document.now) sections.now }
+    requires { IsDocument document.now }
     ensures { OnOk result (Appends (W.contents writer.old) (W.contents writer.new)
-        (subject (table_view document.now) place key.now)) }
+        (subject (data_of document.now) place key.now)) }
 {
-    write_place(writer, document, sections, place)?;
+    write_place(writer, document, place)?;
     writer.write_all(joint(place).as_bytes())?;
     write_cut(writer, key.as_bytes())?;
     writer.write_all(b" is ")?;
-    write_value(writer, value_under(document, sections, place, key))
+    write_value(writer, value_under(document, place, key))
 }
 
 /// The keys that the table at a place may have.
-fn fields_at(document: &Table, place: Place) -> &'static [Field]
-    ensures { map field_of result.now ≡ fields_at (table_view document.now) place }
+fn fields_at(document: &Document<'_>, place: Place) -> &'static [Field]
+    ensures { map field_of result.now ≡ fields_at (data_of document.now) place }
 {
     match place {
         Place::Text(_, _) => &[],
@@ -295,28 +283,28 @@ fn kind_text(content: Content) -> &'static str
     ensures { result.now ≡ kind_text content }
 {
     match content {
-        Content::Whole(_) => "a whole number",
-        Content::Gap => "a whole number",
-        Content::Networks => "a text",
-        Content::PortKind => "a text",
-        Content::Address => "a text",
-        Content::Checksum => "a text",
+        Content::Whole(_) | Content::Gap => "a whole number",
         Content::Section => "a table",
         Content::Rows => "an array of tables",
+        _ => "a text",
     }
 }
 
 /// What may stand under the key of a finding.
-fn field_at(document: &Table, finding: &Finding) -> Option<Field>
+fn field_at(document: &Document<'_>, finding: &Finding) -> Option<Field>
     ensures { option_map field_of result
-        ≡ field_at (table_view document.now) finding.now.place (finding_of finding.now).key }
+        ≡ field_at (data_of document.now) finding.now.place (finding_of finding.now).key }
 {
     field_named(fields_at(document, finding.place), finding.key.as_str())
 }
 
-fn write_content_at<W: Write>(writer: &mut W, document: &Table, finding: &Finding) -> io::Result<()>
+fn write_content_at<W: Write>(
+    writer: &mut W,
+    document: &Document<'_>,
+    finding: &Finding,
+) -> io::Result<()>
     ensures { OnOk result (Appends (W.contents writer.old) (W.contents writer.new)
-        (content_at (table_view document.now) (finding_of finding.now))) }
+        (content_at (data_of document.now) (finding_of finding.now))) }
 {
     match field_at(document, finding) {
         Some(field) => write_content(writer, field.2),
@@ -324,9 +312,13 @@ fn write_content_at<W: Write>(writer: &mut W, document: &Table, finding: &Findin
     }
 }
 
-fn write_kind_at<W: Write>(writer: &mut W, document: &Table, finding: &Finding) -> io::Result<()>
+fn write_kind_at<W: Write>(
+    writer: &mut W,
+    document: &Document<'_>,
+    finding: &Finding,
+) -> io::Result<()>
     ensures { OnOk result (Appends (W.contents writer.old) (W.contents writer.new)
-        (kind_at (table_view document.now) (finding_of finding.now))) }
+        (kind_at (data_of document.now) (finding_of finding.now))) }
 {
     match field_at(document, finding) {
         Some(field) => writer.write_all(kind_text(field.2).as_bytes()),
@@ -368,30 +360,22 @@ fn limit_text(place: Place, key: &str) -> &'static str
     }
 }
 
-fn write_limit<W: Write>(writer: &mut W, place: Place, key: &str) -> io::Result<()>
-    ensures { OnOk result (Appends (W.contents writer.old) (W.contents writer.new)
-        (limit_text place key.now)) }
-{
-    writer.write_all(limit_text(place, key).as_bytes())
-}
-
 /// A port's link.
 #[tactic(auto, unfolding(crate::specs::Told::link_text))]
 fn write_link<W: Write>(
     writer: &mut W,
-    document: &Table,
-    sections: &Sections<'_>,
+    document: &Document<'_>,
     other: Option<usize>,
     key: &str,
 ) -> io::Result<()>
-    requires { AreSectionsOf (table_view document.now) sections.now }
+    requires { IsDocument document.now }
     ensures { OnOk result (Appends (W.contents writer.old) (W.contents writer.new)
-        (link_text (table_view document.now) other key.now)) }
+        (link_text (data_of document.now) other key.now)) }
 {
     match other {
         Some(k) => {
             writer.write_all(b"; ")?;
-            write_subject(writer, document, sections, Place::Link(k), key)
+            write_subject(writer, document, Place::Link(k), key)
         }
         None => Ok(()),
     }
@@ -407,64 +391,62 @@ fn write_keys<W: Write>(writer: &mut W, fields: &[Field]) -> io::Result<()>
 }
 
 #[tactic(auto, unfolding(crate::specs::Told::wanted_text))]
-fn write_wanted<W: Write>(writer: &mut W, document: &Table, finding: &Finding) -> io::Result<()>
+fn write_wanted<W: Write>(
+    writer: &mut W,
+    document: &Document<'_>,
+    finding: &Finding,
+) -> io::Result<()>
     ensures { OnOk result (Appends (W.contents writer.old) (W.contents writer.new)
-        (wanted_text (table_view document.now) (finding_of finding.now))) }
+        (wanted_text (data_of document.now) (finding_of finding.now))) }
 {
     write_kind_at(writer, document, finding)?;
     writer.write_all(b" is wanted")
 }
 
-#[tactic(auto, unfolding(crate::specs::Told::below_text))]
-fn write_below<W: Write>(
+/// A bound that a port's link sets.
+#[tactic(auto, unfolding(crate::specs::Told::bound_text))]
+fn write_bound<W: Write>(
     writer: &mut W,
-    document: &Table,
-    sections: &Sections<'_>,
+    document: &Document<'_>,
     other: Option<usize>,
+    bound: &str,
+    key: &str,
 ) -> io::Result<()>
-    requires { AreSectionsOf (table_view document.now) sections.now }
+    requires { IsDocument document.now }
     ensures { OnOk result (Appends (W.contents writer.old) (W.contents writer.new)
-        (below_text (table_view document.now) other)) }
+        (bound_text (data_of document.now) other bound.now key.now)) }
 {
-    writer.write_all(b"below sub_vls of its vl")?;
-    write_link(writer, document, sections, other, "sub_vls")
-}
-
-#[tactic(auto, unfolding(crate::specs::Told::most_text))]
-fn write_most<W: Write>(
-    writer: &mut W,
-    document: &Table,
-    sections: &Sections<'_>,
-    other: Option<usize>,
-) -> io::Result<()>
-    requires { AreSectionsOf (table_view document.now) sections.now }
-    ensures { OnOk result (Appends (W.contents writer.old) (W.contents writer.new)
-        (most_text (table_view document.now) other)) }
-{
-    writer.write_all(b"at most lmax - 47 of its vl")?;
-    write_link(writer, document, sections, other, "lmax")
+    writer.write_all(bound.as_bytes())?;
+    write_link(writer, document, other, key)
 }
 
 /// What is allowed where a fault is found.
 #[tactic(auto, unfolding(crate::specs::Told::allowed_text))]
 fn write_allowed<W: Write>(
     writer: &mut W,
-    document: &Table,
-    sections: &Sections<'_>,
+    document: &Document<'_>,
     fault: ConfigFault,
     finding: &Finding,
 ) -> io::Result<()>
-    requires { AreSectionsOf (table_view document.now) sections.now }
+    requires { IsDocument document.now }
     ensures { OnOk result (Appends (W.contents writer.old) (W.contents writer.new)
-        (allowed_text fault (table_view document.now) (finding_of finding.now))) }
+        (allowed_text fault (data_of document.now) (finding_of finding.now))) }
 {
     match fault {
         ConfigFault::UnknownKey => write_keys(writer, fields_at(document, finding.place)),
         ConfigFault::WrongKind => write_wanted(writer, document, finding),
         ConfigFault::NoSuchVl => writer.write_all(b"no vl has this id"),
-        ConfigFault::NoSuchSub => write_below(writer, document, sections, finding.other),
-        ConfigFault::SamplingTooLong => write_most(writer, document, sections, finding.other),
-        ConfigFault::Limit => write_limit(writer, finding.place, finding.key.as_str()),
+        ConfigFault::NoSuchSub => {
+            let bound = "below sub_vls of its vl";
+            write_bound(writer, document, finding.other, bound, "sub_vls")
+        }
+        ConfigFault::SamplingTooLong => {
+            let bound = "at most lmax - 47 of its vl";
+            write_bound(writer, document, finding.other, bound, "lmax")
+        }
+        ConfigFault::Limit => {
+            writer.write_all(limit_text(finding.place, finding.key.as_str()).as_bytes())
+        }
         _ => write_content_at(writer, document, finding),
     }
 }
@@ -482,22 +464,21 @@ fn row_like(place: Place, other: usize) -> Place
 #[tactic(auto, unfolding(crate::specs::Told::pair_text))]
 fn write_pair<W: Write>(
     writer: &mut W,
-    document: &Table,
-    sections: &Sections<'_>,
+    document: &Document<'_>,
     place: Place,
     other: Option<usize>,
 ) -> io::Result<()>
-    requires { AreSectionsOf (table_view document.now) sections.now }
+    requires { IsDocument document.now }
     ensures { OnOk result (Appends (W.contents writer.old) (W.contents writer.new)
-        (pair_text (table_view document.now) place other)) }
+        (pair_text (data_of document.now) place other)) }
 {
     match other {
         Some(k) => {
-            write_place(writer, document, sections, place)?;
+            write_place(writer, document, place)?;
             writer.write_all(b" and ")?;
-            write_place(writer, document, sections, row_like(place, k))
+            write_place(writer, document, row_like(place, k))
         }
-        None => write_place(writer, document, sections, place),
+        None => write_place(writer, document, place),
     }
 }
 
@@ -528,15 +509,14 @@ fn is_of_pair(fault: ConfigFault) -> bool
 #[tactic(auto, unfolding(crate::specs::Told::pair_line))]
 fn write_pair_line<W: Write>(
     writer: &mut W,
-    document: &Table,
-    sections: &Sections<'_>,
+    document: &Document<'_>,
     finding: &Finding,
 ) -> io::Result<()>
-    requires { AreSectionsOf (table_view document.now) sections.now }
+    requires { IsDocument document.now }
     ensures { OnOk result (Appends (W.contents writer.old) (W.contents writer.new)
-        (pair_line (table_view document.now) (finding_of finding.now))) }
+        (pair_line (data_of document.now) (finding_of finding.now))) }
 {
-    write_pair(writer, document, sections, finding.place, finding.other)?;
+    write_pair(writer, document, finding.place, finding.other)?;
     writer.write_all(b": ")?;
     writer.write_all(same_text(finding.fault).as_bytes())
 }
@@ -544,58 +524,49 @@ fn write_pair_line<W: Write>(
 #[tactic(auto, unfolding(crate::specs::Told::key_line))]
 fn write_key_line<W: Write>(
     writer: &mut W,
-    document: &Table,
-    sections: &Sections<'_>,
+    document: &Document<'_>,
     finding: &Finding,
 ) -> io::Result<()>
-    requires { AreSectionsOf (table_view document.now) sections.now }
+    requires { IsDocument document.now }
     ensures { OnOk result (Appends (W.contents writer.old) (W.contents writer.new)
-        (key_line (table_view document.now) (finding_of finding.now))) }
+        (key_line (data_of document.now) (finding_of finding.now))) }
 {
-    write_subject(
-        writer,
-        document,
-        sections,
-        finding.place,
-        finding.key.as_str(),
-    )?;
+    write_subject(writer, document, finding.place, finding.key.as_str())?;
     writer.write_all(b": ")?;
-    write_allowed(writer, document, sections, finding.fault, finding)
+    write_allowed(writer, document, finding.fault, finding)
 }
 
 /// A finding behind its number and name.
 fn write_told<W: Write>(
     writer: &mut W,
-    document: &Table,
-    sections: &Sections<'_>,
+    document: &Document<'_>,
     finding: &Finding,
 ) -> io::Result<()>
-    requires { AreSectionsOf (table_view document.now) sections.now }
+    requires { IsDocument document.now }
     ensures { OnOk result (Appends (W.contents writer.old) (W.contents writer.new)
-        (told (table_view document.now) (finding_of finding.now))) }
+        (told (data_of document.now) (finding_of finding.now))) }
 {
     if is_of_pair(finding.fault) {
-        write_pair_line(writer, document, sections, finding)
+        write_pair_line(writer, document, finding)
     } else {
-        write_key_line(writer, document, sections, finding)
+        write_key_line(writer, document, finding)
     }
 }
 
 #[tactic(auto, unfolding(crate::specs::Told::finding_line))]
 fn write_finding<W: Write>(
     writer: &mut W,
-    document: &Table,
-    sections: &Sections<'_>,
+    document: &Document<'_>,
     finding: &Finding,
 ) -> io::Result<()>
-    requires { AreSectionsOf (table_view document.now) sections.now }
+    requires { IsDocument document.now }
     ensures { OnOk result (Appends (W.contents writer.old) (W.contents writer.new)
-        (finding_line (table_view document.now) (finding_of finding.now))) }
+        (finding_line (data_of document.now) (finding_of finding.now))) }
 {
     let number = finding.fault.number();
     let name = fault_name(finding.fault);
     write!(writer, "{number} {name}: ")?;
-    write_told(writer, document, sections, finding)?;
+    write_told(writer, document, finding)?;
     writer.write_all(b"\n")
 }
 
@@ -616,16 +587,15 @@ fn write_count<W: Write>(writer: &mut W, count: usize) -> io::Result<()>
 
 fn write_findings<W: Write>(
     writer: &mut W,
-    document: &Table,
-    sections: &Sections<'_>,
+    document: &Document<'_>,
     findings: &[Finding],
 ) -> io::Result<()>
-    requires { AreSectionsOf (table_view document.now) sections.now }
+    requires { IsDocument document.now }
     ensures { OnOk result (Appends (W.contents writer.old) (W.contents writer.new)
-        (flat_map (finding_line (table_view document.now)) (map finding_of findings.now))) }
+        (flat_map (finding_line (data_of document.now)) (map finding_of findings.now))) }
 {
     for finding in findings {
-        write_finding(writer, document, sections, finding)?;
+        write_finding(writer, document, finding)?;
     }
     Ok(())
 }
@@ -634,16 +604,15 @@ fn write_findings<W: Write>(
 #[tactic(auto, unfolding(crate::specs::Told::explanation))]
 pub(crate) fn write_explanation<W: Write>(
     writer: &mut W,
-    document: &Table,
-    sections: &Sections<'_>,
+    document: &Document<'_>,
     findings: &[Finding],
 ) -> io::Result<()>
-    requires { AreSectionsOf (table_view document.now) sections.now }
+    requires { IsDocument document.now }
     ensures { OnOk result (Appends (W.contents writer.old) (W.contents writer.new)
-        (explanation (table_view document.now) (map finding_of findings.now))) }
+        (explanation (data_of document.now) (map finding_of findings.now))) }
 {
     write_count(writer, findings.len())?;
-    write_findings(writer, document, sections, findings)
+    write_findings(writer, document, findings)
 }
 
 #[tactic(auto, unfolding(crate::specs::Told::stop_text))]

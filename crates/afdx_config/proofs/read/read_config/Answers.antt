@@ -1,8 +1,13 @@
+use Rattle.afdx_config.proofs.Names.{◌≡◌, rules, data_of, table_view}
 use Rattle.afdx_config.proofs.TextLemmas.{answer_ok, answer_err}
 use Rattle.afdx_config.proofs.read.read_config.Goals as goal
 
-pub returns-in-Ok-clause-plan : goal.returns-in-Ok-clause-plan
-returns-in-Ok-clause-plan c = answer_ok _ _ _ c.in-Ok.ensures.ok c.read_document.ensures.fine c.read_document.ensures.plan
+pub returns-in_ok-document-in-Ok-clause-plan : goal.returns-in_ok-document-in-Ok-clause-plan
+returns-in_ok-document-in-Ok-clause-plan c =
+    let same : data_of c.in_ok-document-in-Ok.document ≡ table_view c.in-Ok.table = search rules in
+    answer_ok _ _ _ (rw (← same) at c.in-Ok.ensures.ok) c.read_document.ensures.fine c.read_document.ensures.plan
 
-pub returns-in-Ok-clause-fault : goal.returns-in-Ok-clause-fault
-returns-in-Ok-clause-fault c = answer_err _ _ _ c.in-Ok.ensures.ok c.read_document.ensures.fault
+pub returns-in_ok-document-in-Ok-clause-fault : goal.returns-in_ok-document-in-Ok-clause-fault
+returns-in_ok-document-in-Ok-clause-fault c =
+    let same : data_of c.in_ok-document-in-Ok.document ≡ table_view c.in-Ok.table = search rules in
+    answer_err _ _ _ (rw (← same) at c.in-Ok.ensures.ok) c.read_document.ensures.fault

@@ -1,5 +1,5 @@
 use Rattle.afdx_config.proofs.Names.{◌≡◌, map, take, filter_map, as_table, table_view, view}
-use Rattle.afdx_config.proofs.sections.tables_of.Given as goal
+use Rattle.afdx_config.proofs.document.tables_of.Given as goal
 
 abbrev pub invariant-loop-value : goal.invariant-loop-value
 invariant-loop-value l =
