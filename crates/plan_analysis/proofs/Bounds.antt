@@ -1,4 +1,4 @@
--- What the numbers of an analysis keep.
+-- Bounds of the numbers of an analysis.
 use Rattle.std.proofs.Common.{ℕ, ◌≡◌, ◌≤◌, List, [], ◌∷◌, ◌++◌, max, arith, refl}
 use Rattle.std.proofs.lemmas.List.Recursion.{max_push}
 use Rattle.afdx_plan.specs.Plan.{bag_micros}
@@ -11,7 +11,7 @@ use Rattle.plan_analysis.specs.Wait.{pieces_on, most_pieces}
 pub bag_most : (bag : Bag) → bag_micros bag ≤ 128000
 bag_most bag = grind arith
 
--- one port more
+-- adding one port
 pub most_push : (link : LinkPlan) (sub : ℕ) (ports : List PortPlan) (port : PortPlan)
     → most_pieces link sub (ports ++ port ∷ []) ≡ max (most_pieces link sub ports) (pieces_on link sub port)
 most_push link sub ports port =

@@ -1,4 +1,4 @@
--- What an analysis says of a plan.
+-- The analysis of a plan.
 use Rattle.std.specs.Prelude.{ℕ, ◌≡◌, ◌+◌, ◌*◌, List, map}
 use Rattle.afdx_plan.specs.Config.{Plan}
 use Rattle.afdx_plan.specs.Plan.{jitter_of}
@@ -13,7 +13,7 @@ use Rattle.plan_analysis.specs.declared.port_row.PortRow.{PortRow}
 use Rattle.plan_analysis.specs.Load.{window_bits, line_bits, bit_rate, share, is_over}
 use Rattle.plan_analysis.specs.Wait.{link_of, port_pieces, worst_wait, sustained}
 
--- a link: its part of the jitter is 80 nanoseconds for each byte of its greatest frame on the wire
+-- the row of a link: its part of the jitter is 80 nanoseconds for each byte of its greatest frame on the wire
 abbrev pub link_row : LinkPlan → LinkRow
 link_row link = record {
   plan = link;
@@ -22,7 +22,7 @@ link_row link = record {
   jitter = 80 * (20 + link.lmax);
 }
 
--- a network that carries some of these links
+-- the row of a network
 abbrev pub network_row : NetworkName → List LinkPlan → NetworkRow
 network_row name links = record {
   name = name;
@@ -31,7 +31,7 @@ network_row name links = record {
   exceeded = is_over (line_bits name links);
 }
 
--- a port, where polls come so late at most
+-- the row of a port, if polls come at most `late` microseconds late
 abbrev pub port_row : ℕ → Plan → PortPlan → PortRow
 port_row late plan port = record {
   id = port.id;

@@ -1,4 +1,4 @@
--- The load that a plan may put on its networks, on the wire.
+-- The greatest load that a plan puts on its networks, on the wire.
 use Rattle.std.specs.Prelude.{ℕ, ◌+◌, ◌*◌, ◌/◌, List, Bool, nat_lt, sum_by, if◌then◌else◌}
 use Rattle.std.specs.Int.{div_ceil}
 use Rattle.afdx_plan.specs.Networks.{names_a, names_b}
@@ -16,16 +16,16 @@ wire_bits link = 8 * (link.lmax + 20)
 abbrev pub window_bits : LinkPlan → ℕ
 window_bits link = wire_bits link * (128 / bag_ms link.bag)
 
--- a network carries the links on these networks
+-- a network is one of those that carry a link
 abbrev pub carries : NetworkName → Networks → Bool
 carries A networks = names_a networks
 carries B networks = names_b networks
 
--- the most bits of all links that a network carries, in the same time
+-- the most bits in 128 milliseconds of all links that a network carries
 abbrev pub line_bits : NetworkName → List LinkPlan → ℕ
 line_bits network links = sum_by (λ link. if carries network link.networks then window_bits link else 0) links
 
--- bits in 128 milliseconds as bits a second, rounded up
+-- bits in 128 milliseconds as bits per second, rounded up
 abbrev pub bit_rate : ℕ → ℕ
 bit_rate bits = div_ceil (bits * 1000) 128
 
@@ -37,6 +37,6 @@ line_window = 12800000
 abbrev pub share : ℕ → ℕ
 share bits = div_ceil (bits * 10000) line_window
 
--- they are more than 100 Mbit/s
+-- bits in 128 milliseconds are more than 100 Mbit/s
 abbrev pub is_over : ℕ → Bool
 is_over bits = nat_lt line_window bits

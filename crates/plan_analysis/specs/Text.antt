@@ -13,53 +13,53 @@ use Rattle.plan_analysis.specs.declared.network_row.NetworkName.TheVariants.{A, 
 use Rattle.plan_analysis.specs.declared.network_row.NetworkRow.{NetworkRow}
 use Rattle.plan_analysis.specs.declared.port_row.PortRow.{PortRow}
 
--- A number at the right end of a column of so many characters: what std writes of `{n:>width}`.
+-- a number at the right end of a column of `width` characters, as `{n:>width}` prints it
 abbrev pub right : ℕ → ℕ → List ℕ
 right width n = styled_decimal (format_spec 32 3 0 width 18446744073709551615) n
 
--- a number in so many digits at least: what std writes of `{n:0width}`
+-- a number in at least `width` digits, as `{n:0width}` prints it
 abbrev pub in_digits : ℕ → ℕ → List ℕ
 in_digits width n = styled_decimal (format_spec 32 0 4 width 18446744073709551615) n
 
--- thousandths, in a column with so many characters before the point
+-- a number of thousandths with its decimal point, and `width` characters before it
 unfoldable pub thousandths : ℕ → ℕ → List ℕ
 thousandths width n = right width (n / 1000) ++ codes "." ++ in_digits 3 (n % 1000)
 
--- hundredths, in such a column
+-- a number of hundredths with its decimal point, and `width` characters before it
 unfoldable pub hundredths : ℕ → ℕ → List ℕ
 hundredths width n = right width (n / 100) ++ codes "." ++ in_digits 2 (n % 100)
 
--- what the analysis is of
+-- the first line: the end system and the lateness of polls
 unfoldable pub head_line : ℕ → ℕ → List ℕ
 head_line end_system lateness = codes "end system " ++ decimal end_system ++ codes ", polls up to "
     ++ decimal lateness ++ codes " us late" ++ 10 ∷ []
 
--- the networks of a link, in five characters
+-- the networks of a link
 abbrev pub networks_cell : Networks → List ℕ
 networks_cell Both = codes "  A+B"
 networks_cell OnlyA = codes "    A"
 networks_cell OnlyB = codes "    B"
 
--- the heads of the columns
+-- the column heads of the links
 unfoldable pub links_head : List ℕ
 links_head = codes " link bag-ms lmax subs  nets    load-kbit/s  share-%  jitter-ns" ++ 10 ∷ []
 
--- what the plan says of a link
+-- the columns of a link that come from the plan
 unfoldable pub link_cells : LinkPlan → List ℕ
 link_cells plan = right 5 plan.id.0 ++ right 7 (bag_ms plan.bag) ++ right 5 plan.lmax ++ right 5 plan.sub_vls
     ++ codes " " ++ networks_cell plan.networks
 
--- a link
+-- the row of a link
 unfoldable pub link_line : LinkRow → List ℕ
 link_line row = link_cells row.plan ++ thousandths 11 row.load ++ hundredths 6 row.share
     ++ right 11 row.jitter ++ 10 ∷ []
 
--- the jitter of all links
+-- the jitter of all links, its limit, and whether it is exceeded
 unfoldable pub jitter_line : ℕ → List ℕ
 jitter_line jitter = codes "jitter " ++ decimal jitter ++ codes " ns of " ++ decimal JITTER_LIMIT
     ++ (if nat_lt JITTER_LIMIT jitter then codes ", exceeded" ++ 10 ∷ [] else 10 ∷ [])
 
--- the heads of the columns
+-- the column heads of the networks
 unfoldable pub networks_head : List ℕ
 networks_head = codes "network    load-kbit/s  share-%  exceeded" ++ 10 ∷ []
 
@@ -68,24 +68,24 @@ abbrev pub network_name : NetworkName → List ℕ
 network_name A = codes "      A"
 network_name B = codes "      B"
 
--- whether its load is more than it carries
+-- whether the load of a network is more than 100 Mbit/s
 abbrev pub exceeded_cell : Bool → List ℕ
 exceeded_cell exceeded = if exceeded then codes "       yes" else codes "        no"
 
--- a network
+-- the row of a network
 unfoldable pub network_line : NetworkRow → List ℕ
 network_line row = network_name row.name ++ thousandths 11 row.load ++ hundredths 6 row.share
     ++ exceeded_cell row.exceeded ++ 10 ∷ []
 
--- the heads of the columns
+-- the column heads of the ports
 unfoldable pub ports_head : List ℕ
 ports_head = codes " port  link sub fragments        wait-us   messages/s" ++ 10 ∷ []
 
--- where a port sends
+-- the columns of a port, its link and its sub-VL
 unfoldable pub port_cells : PortRow → List ℕ
 port_cells row = right 5 row.id.0 ++ right 6 row.vl.0 ++ right 4 row.sub
 
--- a port
+-- the row of a port
 unfoldable pub port_line : PortRow → List ℕ
 port_line row = port_cells row ++ right 10 row.fragments ++ right 15 row.wait ++ thousandths 9 row.sustained ++ 10 ∷ []
 

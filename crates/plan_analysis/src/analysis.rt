@@ -9,11 +9,11 @@ use crate::port_row::{PortRow, port_row};
 use afdx_plan::{Config, LinkPlan, jitter_ns};
 use std::alloc::{AllocError, Global};
 
-/// A plan as people look at it: rows in the order of the plan.
+/// The analysis of a plan, with rows in the order of the plan.
 #[derive(Debug, Drop)]
 pub struct Analysis {
     pub end_system: u16,
-    // how late polls come at most, in microseconds
+    // the greatest lateness of a poll, in microseconds
     pub lateness: u64,
     pub links: Vec<LinkRow>,
     pub network_a: NetworkRow,
@@ -23,7 +23,8 @@ pub struct Analysis {
     pub ports: Vec<PortRow>,
 }
 
-/// The analysis of a plan, where polls come so late at most, in microseconds. Memory alone refuses it.
+/// Analyzes a plan whose polls come at most `lateness` microseconds late. Fails only if an allocation
+/// fails.
 pub fn analyze(alloc: Global, config: &Config, lateness: u64) -> Result<Analysis, AllocError>
     requires { lateness ≤ LATENESS_LIMIT }
     ensures { IfOk result (IsAnalysisOf config.now lateness) }
@@ -41,7 +42,7 @@ pub fn analyze(alloc: Global, config: &Config, lateness: u64) -> Result<Analysis
     })
 }
 
-/// What the analysis says of each link.
+/// The rows of the links.
 fn link_rows(alloc: Global, links: &[LinkPlan]) -> Result<Vec<LinkRow>, AllocError>
     ensures { IfOk result (λ rows. rows.items ≡ map row_of_link links.now) }
 {
@@ -52,7 +53,7 @@ fn link_rows(alloc: Global, links: &[LinkPlan]) -> Result<Vec<LinkRow>, AllocErr
     Ok(rows)
 }
 
-/// What the analysis says of each port.
+/// The rows of the ports.
 fn port_rows(alloc: Global, config: &Config, late: u64) -> Result<Vec<PortRow>, AllocError>
     requires { late ≤ LATENESS_LIMIT }
     ensures { IfOk result (λ rows. rows.items ≡ map (row_of_port late config.now) config.now.ports) }

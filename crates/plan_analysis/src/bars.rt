@@ -7,7 +7,7 @@ const WIDTH: u64 = 10_000;
 /// The width of a mark.
 const MARK: u64 = 50;
 
-/// A bar in the making: its scale, and how far it is filled, both in the unit of its values.
+/// A bar being drawn. Scale and fill are in the unit of its values.
 #[derive(Drop)]
 pub(crate) struct Bar {
     scale: u64,
@@ -16,7 +16,7 @@ pub(crate) struct Bar {
 }
 
 impl Bar {
-    /// An empty bar that `scale` fills.
+    /// An empty bar; a value of `scale` fills it.
     pub(crate) fn new(scale: u64) -> Bar {
         Bar {
             scale: scale.max(1),
@@ -25,7 +25,7 @@ impl Bar {
         }
     }
 
-    /// Where a value lies in the drawing.
+    /// The position of a value in the drawing.
     fn place(&self, value: u64) -> u64 {
         value.min(self.scale).saturating_mul(WIDTH) / self.scale.max(1)
     }
@@ -42,7 +42,7 @@ impl Bar {
         )
     }
 
-    /// Fills a part more. Parts that lie side by side differ in color.
+    /// Adds a part. Neighbouring parts differ in color.
     pub(crate) fn fill<W: Write>(&mut self, writer: &mut W, value: u64) -> io::Result<()> {
         let start = self.place(self.filled);
         self.filled = self.filled.saturating_add(value);

@@ -1,4 +1,4 @@
-//! How many fragments messages have, and how long one waits at most.
+//! The number of fragments of a message, and its longest wait.
 ghost use Rattle.std.specs.Prelude.{◌≡◌, ◌+◌, ◌*◌, ◌≤◌};
 ghost use Rattle.afdx_plan.specs.Plan.{IsLink, IsPort};
 ghost use Rattle.plan_analysis.specs.Wait.{port_pieces as pieces_of_port, most_pieces as most_pieces_of};
@@ -11,7 +11,7 @@ use afdx_plan::{LinkPlan, PortPlan};
 /// The bytes of a UDP header.
 const UDP_HEADER: u64 = 8;
 
-/// How many fragments the greatest message of a port has, over a link.
+/// The number of fragments of the greatest message of a port on a link.
 pub(crate) fn port_pieces(link: &LinkPlan, port: &PortPlan) -> u64
     requires { IsPort port.now }
     ensures value { result ≡ pieces_of_port link.now port.now }
@@ -24,7 +24,7 @@ pub(crate) fn port_pieces(link: &LinkPlan, port: &PortPlan) -> u64
     1 + datagram.saturating_sub(room).div_ceil(step)
 }
 
-/// The same if the port sends over this sub-VL of the link, and else 0.
+/// The same if the port sends on sub-VL `sub` of the link, else 0.
 fn pieces_on(link: &LinkPlan, sub: u8, port: &PortPlan) -> u64
     requires { IsPort port.now }
     ensures value { result ≡ pieces_of_sub link.now sub port.now }
@@ -37,7 +37,7 @@ fn pieces_on(link: &LinkPlan, sub: u8, port: &PortPlan) -> u64
     }
 }
 
-/// The most fragments that a message of a sub-VL of a link may have.
+/// The greatest number of fragments of a message on a sub-VL of a link.
 pub(crate) fn most_pieces(link: &LinkPlan, sub: u8, ports: &[PortPlan]) -> u64
     requires { All IsPort ports.now }
     ensures value { result ≡ most_pieces_of link.now sub ports.now }
@@ -50,7 +50,8 @@ pub(crate) fn most_pieces(link: &LinkPlan, sub: u8, ports: &[PortPlan]) -> u64
     most
 }
 
-/// The longest wait of a message of `own` fragments on a sub-VL whose messages have `most` at most, in microseconds.
+/// The longest wait, in microseconds, of a message of `own` fragments on a sub-VL whose messages have
+/// at most `most`.
 pub(crate) fn message_wait(late: u64, link: &LinkPlan, most: u64, own: u64) -> u64
     requires late { late ≤ 1000000 }
     requires link { IsLink link.now }
@@ -62,7 +63,7 @@ pub(crate) fn message_wait(late: u64, link: &LinkPlan, most: u64, own: u64) -> u
     link.sub_vls as u64 * (queued + own) * (link.bag.micros() + late)
 }
 
-/// How many messages of so many fragments the BAG of a link allows in 1,000 seconds.
+/// The number of greatest messages of a port that the BAG of a link allows in 1,000 seconds.
 pub(crate) fn sustained(link: &LinkPlan, port: &PortPlan) -> u64
     requires { IsPort port.now }
     ensures { result ≡ sustained_by link.now port.now }

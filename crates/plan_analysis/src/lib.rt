@@ -1,5 +1,5 @@
-//! The plan of an end system as people look at it: the load and the jitter of its links, the load of each network,
-//! and of each port how long one of its messages waits at most.
+//! Analyzes the plan of an end system: load and jitter of its links, load of each network, and the
+//! longest wait of a message of each port.
 #![tactic(auto)]
 
 mod analysis;

@@ -1,7 +1,7 @@
-//! What an analysis measures a plan by.
+//! The limits of an analysis.
 
-/// The most that a poll may come late, in microseconds.
+/// The greatest lateness of a poll that `analyze` accepts, in microseconds.
 pub const LATENESS_LIMIT: u64 = 1_000_000;
 
-/// The jitter over which a report says that it is exceeded, in nanoseconds.
+/// The jitter limit, in nanoseconds. The report marks a greater jitter as exceeded.
 pub const JITTER_LIMIT: u64 = 500_000;

@@ -1,15 +1,15 @@
-//! What an analysis says of a virtual link.
+//! The analysis of a virtual link.
 ghost use Rattle.std.specs.Prelude.{◌≡◌};
 ghost use Rattle.plan_analysis.specs.Analysis.{link_row as row_of_link};
 
 use crate::load::{bit_rate, share, window_bits};
 use afdx_plan::LinkPlan;
 
-/// A virtual link.
+/// The analysis of a virtual link.
 #[derive(Clone, Copy, Debug, PartialEq, Eq)]
 pub struct LinkRow {
     pub plan: LinkPlan,
-    // its greatest load in bits a second on the wire, rounded up
+    // the greatest load in bits per second on the wire, rounded up
     pub load: u64,
     // the same in hundredths of a percent of 100 Mbit/s, rounded up
     pub share: u64,
@@ -17,7 +17,7 @@ pub struct LinkRow {
     pub jitter: u64,
 }
 
-/// What an analysis says of a link.
+/// Analyzes a link.
 pub(crate) fn link_row(plan: &LinkPlan) -> LinkRow
     ensures { result ≡ row_of_link plan.now }
 {

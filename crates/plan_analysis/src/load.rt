@@ -10,10 +10,10 @@ use afdx_plan::{LinkPlan, Networks};
 /// The bytes around each frame on the wire: preamble, start delimiter and gap.
 const AROUND: u64 = 20;
 
-/// The greatest BAG in milliseconds. In so long a time each link has a whole number of BAGs.
+/// The greatest BAG in milliseconds. Every BAG divides it.
 const WINDOW_MS: u64 = 128;
 
-/// The bits that a line of 100 Mbit/s carries in that time.
+/// The bits that a line of 100 Mbit/s carries in 128 milliseconds.
 const WINDOW_BITS: u64 = 12_800_000;
 
 /// The most bits that a link puts on the wire in 128 milliseconds.
@@ -49,7 +49,7 @@ pub(crate) fn network_bits(network: NetworkName, links: &[LinkPlan]) -> u64
     bits
 }
 
-/// Bits in 128 milliseconds as bits a second, rounded up.
+/// Converts bits in 128 milliseconds to bits per second, rounded up.
 pub(crate) fn bit_rate(bits: u64) -> u64
     requires { bits ≤ 1574912 * 64 }
     ensures { result ≡ rate_of_bits bits }
@@ -57,7 +57,7 @@ pub(crate) fn bit_rate(bits: u64) -> u64
     (bits * 1_000).div_ceil(WINDOW_MS)
 }
 
-/// Bits in 128 milliseconds as hundredths of a percent of 100 Mbit/s, rounded up.
+/// Converts bits in 128 milliseconds to hundredths of a percent of 100 Mbit/s, rounded up.
 pub(crate) fn share(bits: u64) -> u64
     requires { bits ≤ 1574912 * 64 }
     ensures { result ≡ share_of_bits bits }
@@ -65,7 +65,7 @@ pub(crate) fn share(bits: u64) -> u64
     (bits * 10_000).div_ceil(WINDOW_BITS)
 }
 
-/// Whether that is more than 100 Mbit/s.
+/// Whether bits in 128 milliseconds exceed 100 Mbit/s.
 pub(crate) fn is_over(bits: u64) -> bool
     ensures { result ≡ is_over_line bits }
 {

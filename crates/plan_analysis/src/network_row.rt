@@ -1,4 +1,4 @@
-//! What an analysis says of a network.
+//! The analysis of a network.
 ghost use Rattle.std.specs.Prelude.{◌≡◌, ◌≤◌, length};
 ghost use Rattle.plan_analysis.specs.Analysis.{network_row as row_of_network};
 
@@ -12,19 +12,19 @@ pub enum NetworkName {
     B,
 }
 
-/// A network, by the links that it carries.
+/// The analysis of a network, from the links that it carries.
 #[derive(Clone, Copy, Debug, PartialEq, Eq)]
 pub struct NetworkRow {
     pub name: NetworkName,
-    // the greatest load of its links in bits a second on the wire, rounded up
+    // the greatest load of its links, in bits per second on the wire, rounded up
     pub load: u64,
     // the same in hundredths of a percent of 100 Mbit/s, rounded up
     pub share: u64,
-    // whether it is more than 100 Mbit/s
+    // whether the load is more than 100 Mbit/s
     pub exceeded: bool,
 }
 
-/// What an analysis says of a network that carries those of these links that are on it.
+/// Analyzes network `name`, which carries those of `links` that the plan routes over it.
 pub(crate) fn network_row(name: NetworkName, links: &[LinkPlan]) -> NetworkRow
     requires { length links.now ≤ 64 }
     ensures { result ≡ row_of_network name links.now }

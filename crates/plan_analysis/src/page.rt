@@ -1,4 +1,4 @@
-//! The page of an analysis: one file of HTML, with nothing from elsewhere.
+//! The page of an analysis: one self-contained HTML file.
 use crate::analysis::Analysis;
 use crate::bars::{Bar, write_bar};
 use crate::limits::JITTER_LIMIT;
@@ -13,8 +13,8 @@ use std::io::{self, Write};
 /// The rate of a network in bits a second.
 const LINE_RATE: u64 = 100_000_000;
 
-/// Writes an analysis as a page: the numbers of `write_analysis`, and bars of loads, jitter and waits. Every text on
-/// it is a number or fixed, so there is nothing to escape.
+/// Writes an analysis as a page: the numbers of `write_analysis`, and bars of loads, jitter and waits.
+/// All text on it is numeric or fixed, so nothing needs escaping.
 pub fn write_page<W: Write>(writer: &mut W, analysis: &Analysis) -> io::Result<()> {
     write_top(writer, analysis)?;
     write_loads(writer, analysis)?;
@@ -24,7 +24,7 @@ pub fn write_page<W: Write>(writer: &mut W, analysis: &Analysis) -> io::Result<(
     writer.write_all(b"</body>\n</html>\n")
 }
 
-/// The head of the page, and what it is of.
+/// Writes the head of the page and its title.
 fn write_top<W: Write>(writer: &mut W, analysis: &Analysis) -> io::Result<()> {
     let id = analysis.end_system;
     let lateness = analysis.lateness;
@@ -44,7 +44,7 @@ fn write_top<W: Write>(writer: &mut W, analysis: &Analysis) -> io::Result<()> {
     )
 }
 
-/// Loads: a bar for each network, by its links, and the table of the networks.
+/// Writes a load bar for each network, split by link, and the table of the networks.
 fn write_loads<W: Write>(writer: &mut W, analysis: &Analysis) -> io::Result<()> {
     writer.write_all(b"<h2>Load on the wire</h2>\n<p>Each network by its links, in the order of ")?;
     writer.write_all(b"their table. The mark is 100 Mbit/s.</p>\n<div class=\"bars\">\n")?;
@@ -63,7 +63,7 @@ fn write_loads<W: Write>(writer: &mut W, analysis: &Analysis) -> io::Result<()> 
     writer.write_all(b"</table></div>\n")
 }
 
-/// Links: a bar for the load of each, and their table.
+/// Writes a load bar for each link, and the table of the links.
 fn write_links<W: Write>(writer: &mut W, links: &[LinkRow]) -> io::Result<()> {
     writer.write_all(
         b"<h2>Links</h2>\n<p>Load of each link in kbit/s. A whole bar is 100 Mbit/s.</p>\n",
@@ -82,7 +82,7 @@ fn write_links<W: Write>(writer: &mut W, links: &[LinkRow]) -> io::Result<()> {
     writer.write_all(b"</table></div>\n")
 }
 
-/// The load of a network, by its links, in a bar that `scale` fills.
+/// Writes the load of a network, split by link, as a bar that `scale` fills.
 fn write_network_bar<W: Write>(
     writer: &mut W,
     scale: u64,
@@ -105,7 +105,7 @@ fn write_network_bar<W: Write>(
     writer.write_all(b" %</span>\n")
 }
 
-/// A row of the networks' table.
+/// Writes a row of the table of the networks.
 fn write_network<W: Write>(writer: &mut W, row: &NetworkRow) -> io::Result<()> {
     let name = network_name(row.name);
     write!(writer, "<tr><td>{name}<td>")?;
@@ -119,7 +119,7 @@ fn write_network<W: Write>(writer: &mut W, row: &NetworkRow) -> io::Result<()> {
     }
 }
 
-/// The load of a link.
+/// Writes the load bar of a link.
 fn write_link_bar<W: Write>(writer: &mut W, row: &LinkRow) -> io::Result<()> {
     let id = row.plan.id.0;
     write!(writer, "<span>link {id}</span>")?;
@@ -129,7 +129,7 @@ fn write_link_bar<W: Write>(writer: &mut W, row: &LinkRow) -> io::Result<()> {
     writer.write_all(b"</span>\n")
 }
 
-/// A row of the links' table.
+/// Writes a row of the table of the links.
 fn write_link<W: Write>(writer: &mut W, row: &LinkRow) -> io::Result<()> {
     let id = row.plan.id.0;
     let bag = row.plan.bag.ms();
@@ -147,7 +147,7 @@ fn write_link<W: Write>(writer: &mut W, row: &LinkRow) -> io::Result<()> {
     writeln!(writer, "<td>{jitter}")
 }
 
-/// Jitter: a bar of all links, and one for each.
+/// Writes a jitter bar of all links, and one for each link.
 fn write_jitter<W: Write>(writer: &mut W, analysis: &Analysis) -> io::Result<()> {
     let jitter = analysis.jitter;
     let over = if jitter > JITTER_LIMIT {
@@ -177,7 +177,7 @@ fn write_jitter<W: Write>(writer: &mut W, analysis: &Analysis) -> io::Result<()>
     writer.write_all(b"</div>\n")
 }
 
-/// What the jitter is made of.
+/// Writes the jitter of all links as a bar with a part for each.
 fn write_jitter_bar<W: Write>(writer: &mut W, analysis: &Analysis) -> io::Result<()> {
     let mut parts = 0u64;
     for row in analysis.links.as_slice() {
@@ -193,7 +193,7 @@ fn write_jitter_bar<W: Write>(writer: &mut W, analysis: &Analysis) -> io::Result
     bar.end(writer)
 }
 
-/// Waits: a bar for each port, and the table of the ports.
+/// Writes a bar of the longest wait for each port, and the table of the ports.
 fn write_waits<W: Write>(writer: &mut W, analysis: &Analysis) -> io::Result<()> {
     let mut longest = 0;
     for row in analysis.ports.as_slice() {
@@ -222,7 +222,7 @@ fn write_waits<W: Write>(writer: &mut W, analysis: &Analysis) -> io::Result<()> 
     writer.write_all(b"</table></div>\n")
 }
 
-/// A row of the ports' table.
+/// Writes a row of the table of the ports.
 fn write_port<W: Write>(writer: &mut W, row: &PortRow) -> io::Result<()> {
     let id = row.id.0;
     let link = row.vl.0;

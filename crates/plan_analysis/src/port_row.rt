@@ -1,4 +1,4 @@
-//! What an analysis says of a port.
+//! The analysis of a port.
 ghost use Rattle.std.specs.Prelude.{◌≡◌, ◌≤◌};
 ghost use Rattle.afdx_plan.specs.Plan.{IsLink, IsPort};
 ghost use Rattle.plan_analysis.specs.Wait.{link_of as link_of_port};
@@ -8,22 +8,22 @@ use crate::fragments::{message_wait, most_pieces, port_pieces, sustained};
 use crate::limits::LATENESS_LIMIT;
 use afdx_plan::{Config, LinkPlan, PortId, PortPlan, VlId};
 
-/// A port.
+/// The analysis of a port.
 #[derive(Clone, Copy, Debug, PartialEq, Eq)]
 pub struct PortRow {
     pub id: PortId,
     pub vl: VlId,
     // the index of the sub-VL in its link
     pub sub: u8,
-    // of its greatest message
+    // the number of fragments of its greatest message
     pub fragments: u64,
-    // the longest that a message waits from its acceptance until its last fragment is released, in microseconds
+    // the longest time from the acceptance of a message to the release of its last fragment, in microseconds
     pub wait: u64,
-    // how many greatest messages the BAG allows in 1,000 seconds
+    // the number of greatest messages that the BAG allows in 1,000 seconds
     pub sustained: u64,
 }
 
-/// What an analysis says of a port of a plan, where polls come so late at most, in microseconds.
+/// Analyzes a port of a plan whose polls come at most `late` microseconds late.
 pub(crate) fn port_row(late: u64, config: &Config, port: &PortPlan) -> PortRow
     requires late { late ≤ LATENESS_LIMIT }
     requires port { IsPort port.now }

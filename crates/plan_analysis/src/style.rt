@@ -1,6 +1,6 @@
-//! How the page looks.
+//! The style sheet of the page.
 
-/// The style of the page, in light and in dark.
+/// The style of the page, for light and dark color schemes.
 pub(crate) const STYLE: &str = "
 :root{color-scheme:light dark;--back:#fff;--text:#1b1f24;--quiet:#57606a;
 --line:#d8dee4;--one:#2f6fab;--two:#86b6e0;--over:#c4432b}

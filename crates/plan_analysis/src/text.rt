@@ -16,8 +16,8 @@ use crate::port_row::PortRow;
 use afdx_plan::{LinkPlan, Networks};
 use std::io::{self, Write};
 
-/// Writes an analysis as tables of text: of the links, of the networks and of the ports. Each row is a line, and its
-/// cells are words, so that a script may cut it.
+/// Writes an analysis as text: one table each for links, networks and ports. Each row is a line of
+/// words, so a script can split it.
 #[tactic(auto, unfolding(crate::specs::Text::text_of))]
 pub fn write_analysis<W: Write>(writer: &mut W, analysis: &Analysis) -> io::Result<()>
     ensures { OnOk result (Appends (W.contents writer.old) (W.contents writer.new)
@@ -99,7 +99,7 @@ fn write_link<W: Write>(writer: &mut W, row: &LinkRow) -> io::Result<()>
     writeln!(writer, "{jitter:>11}")
 }
 
-/// What the plan says of a link.
+/// The columns of a link that come from the plan.
 #[tactic(auto, unfolding(crate::specs::Text::link_cells))]
 fn write_plan<W: Write>(writer: &mut W, plan: &LinkPlan) -> io::Result<()>
     ensures { OnOk result (Appends (W.contents writer.old) (W.contents writer.new)
@@ -123,7 +123,7 @@ pub(crate) fn networks_cell(networks: Networks) -> &'static str
     }
 }
 
-/// A load in kbit/s.
+/// Writes a load in kbit/s.
 #[tactic(auto, unfolding(crate::specs::Text::thousandths))]
 pub(crate) fn write_load<W: Write>(writer: &mut W, load: u64) -> io::Result<()>
     ensures { OnOk result (Appends (W.contents writer.old) (W.contents writer.new)
@@ -134,7 +134,7 @@ pub(crate) fn write_load<W: Write>(writer: &mut W, load: u64) -> io::Result<()>
     write!(writer, "{whole:>11}.{rest:03}")
 }
 
-/// A share in percent.
+/// Writes a share in percent.
 #[tactic(auto, unfolding(crate::specs::Text::hundredths))]
 pub(crate) fn write_share<W: Write>(writer: &mut W, share: u64) -> io::Result<()>
     ensures { OnOk result (Appends (W.contents writer.old) (W.contents writer.new)
@@ -224,7 +224,7 @@ fn write_port<W: Write>(writer: &mut W, row: &PortRow) -> io::Result<()>
     writer.write_all(b"\n")
 }
 
-/// Where a port sends.
+/// Writes the port, its link and its sub-VL.
 #[tactic(auto, unfolding(crate::specs::Text::port_cells))]
 fn write_place<W: Write>(writer: &mut W, row: &PortRow) -> io::Result<()>
     ensures { OnOk result (Appends (W.contents writer.old) (W.contents writer.new)
@@ -236,7 +236,7 @@ fn write_place<W: Write>(writer: &mut W, row: &PortRow) -> io::Result<()>
     write!(writer, "{id:>5}{link:>6}{sub:>4}")
 }
 
-/// Messages a second.
+/// Writes a rate in messages per second.
 #[tactic(auto, unfolding(crate::specs::Text::thousandths))]
 pub(crate) fn write_sustained<W: Write>(writer: &mut W, sustained: u64) -> io::Result<()>
     ensures { OnOk result (Appends (W.contents writer.old) (W.contents writer.new)
