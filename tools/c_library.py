@@ -3,13 +3,11 @@
 
     python3 tools/c_library.py
 
-It takes what `rt ci` has left, the libraries of the crates and the program `afdx_bench`, and a C compiler: `CC`, or
-`cc`. `rt ci` proves the C library and doesn't build it, so it is built first, `crates/afdx/out/libafdx.a`, as `rt lib`
-builds it, but over these libraries: `rt lib` would prove all of them once more. A library that is there already is
-replaced. The tests of the calls (`c_calls.c`, `owners.c`) and the example (`examples/c/example.c`) are compiled with all
-warnings as errors, once as they are and once with the sanitizers of addresses and leaks and of undefined behaviour. What
-the example prints with `--dump` has to be what `afdx_bench run` prints of the same messages and times. The last line is
-'N passed, M failed', and the exit status 0 exactly if nothing failed.
+Of what `rt ci` has left it takes the libraries of the crates and the program `afdx_bench`, and it takes a C compiler:
+`CC`, or `cc`. It builds the C library first, which `rt ci` only proves, as `rt lib` does but without proving all below it
+once more. The tests of the calls (`c_calls.c`, `owners.c`) and the example are compiled with all warnings as errors, as
+they are and with the sanitizers of addresses, leaks and undefined behaviour. What the example prints with `--dump` has to
+be what `afdx_bench run` prints. The last line is 'N passed, M failed', and the exit status 0 exactly if nothing failed.
 """
 import os
 import re
@@ -29,8 +27,6 @@ EXAMPLE = f"{ROOT}/examples/c"
 WARNINGS = ["-Wall", "-Wextra", "-Werror", "-Wpedantic", "-g", "-O2"]
 WRAPPED = ["-Wl,--wrap=malloc", "-Wl,--wrap=realloc", "-Wl,--wrap=free"]
 SANITIZER = ["-fsanitize=address,undefined", "-fno-sanitize-recover"]
-# What the header names and no test of the calls answers: how much there is at most, and what takes 2^40 sends.
-UNMET = {"AFDX_GREATEST_FRAME", "AFDX_MOST_FRAMES", "AFDX_EXHAUSTED"}
 
 # What the example is to send: a configuration, and the words for its ports. All messages have room before the first poll.
 SENDING = [
@@ -74,7 +70,7 @@ def said(it):
 
 
 def is_built(tries):
-    """Builds the library anew, whatever stands there. Whether it could."""
+    """Builds the library anew, and returns whether it could."""
     os.makedirs(os.path.dirname(LIBRARY), exist_ok=True)
     if os.path.exists(LIBRARY):
         os.remove(LIBRARY)
@@ -94,7 +90,7 @@ def compiled(tries, room, name, source, flags):
 
 
 def try_header(tries, room):
-    """The header alone, as strict C99 and as C++; and each number that it names is one that the tests of the calls look for."""
+    """The header alone, as strict C99 and as C++."""
     source = f"{room}/header.c"
     with open(source, "w", encoding="utf-8") as file:
         file.write('#include "afdx.h"\n#include "afdx.h"\nint main(void) { return AFDX_A; }\n')
@@ -105,10 +101,6 @@ def try_header(tries, room):
             continue
         made = ran([program, *flags, "-pedantic-errors", *WARNINGS, f"-I{CRATE}", "-fsyntax-only", source])
         tries.show(f"the header, {' '.join(flags)}", [made.stderr] if made.returncode else [])
-    header, calls = (re.sub(r"/\*.*?\*/", "", text_of(it), flags=re.DOTALL) for it in ("crates/afdx/afdx.h", "tools/c_calls.c"))
-    named = set(re.findall(r"\b(AFDX_\w+) = ", header))
-    unmet = named - set(re.findall(r"\bAFDX_\w+\b", calls))
-    tries.show(f"{len(named)} numbers of the header", [] if unmet == UNMET else [f"not looked for: {sorted(unmet)}"])
 
 
 def try_calls(tries, room, name, source, flags):
@@ -144,7 +136,7 @@ def try_dump(tries, room, name, program, config, words):
 
 
 def try_full(tries, room, name, program):
-    """More messages than there is room for: each goes out, in order, once."""
+    """More messages than there is room for: each is transmitted once, in order."""
     dump = ran([program, "--dump", f"{EXAMPLE}/demo.toml", "10:300:1"], room)
     lines = [line.split(" ") for line in dump.stdout.splitlines()]
     wanted = [((k + 1) % 256, 0 if k == 0 else 1 + (k - 1) % 255) for k in range(300)]

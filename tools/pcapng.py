@@ -35,7 +35,7 @@ def filled(length):
 
 
 def options_of(order, data):
-    """The options, as pairs of a code and a value. Their end has to be told where there are any."""
+    """The options, as pairs of a code and a value. If there are any, an option ends them."""
     found, at = [], 0
     while at < len(data):
         want(at + 4 <= len(data), "an option is cut off")
@@ -43,7 +43,7 @@ def options_of(order, data):
         at += 4
         if code == END:
             want(length == 0, "the end of the options has a length")
-            want(at == len(data), f"{len(data) - at} bytes behind the end of the options")
+            want(at == len(data), f"{len(data) - at} bytes after the end of the options")
             return found
         want(at + filled(length) <= len(data), f"option {code} is longer than its block")
         want(not any(data[at + length : at + filled(length)]), f"the padding of option {code} isn't zero")
@@ -106,7 +106,7 @@ class Capture:
         want(length % 4 == 0 and length >= 12, f"length {length}")
         want(at + length <= len(data), f"length {length}, but {len(data) - at} bytes are left")
         (again,) = struct.unpack_from(self.order + "I", data, at + length - 4)
-        want(again == length, f"length {length} in front and {again} behind")
+        want(again == length, f"length {length} in front and {again} at the end")
         self.take(kind, data[at + 8 : at + length - 4])
         self.blocks += 1
         return length

@@ -38,8 +38,7 @@ class Ran:
         return (self.status, self.out, self.err) == (status, out, err)
 
     def __str__(self):
-        told = f"status {self.status}, {self.requests} requests"
-        return f"{told}, standard output {self.out!r}, standard error {self.err!r}"
+        return f"status {self.status}, {self.requests} requests, standard output {self.out!r}, standard error {self.err!r}"
 
 
 class Bench:
@@ -54,7 +53,7 @@ class Bench:
                 file.write(text)
 
     def run(self, program, words, given, number, many, **more):
-        """Runs a program, of which the request with this number is refused, and so many in all; 0: all later ones.
+        """Runs a program, of which `many` requests from this number on are refused; 0: all.
         `more` has what else its environment has."""
         with tempfile.NamedTemporaryFile(dir=self.room) as count:
             count.write(bytes(8))

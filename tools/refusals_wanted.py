@@ -38,7 +38,7 @@ class Case:
         self.status, self.err = status, err
 
     def way(self, ran):
-        """The way in which a run ended, or None where that isn't promised."""
+        """The way in which a run ended, or None if that isn't promised."""
         for name, ends in self.early:
             if ran.is_refused and ends(ran):
                 return name

@@ -3,7 +3,7 @@
  * REFUSE_FROM  the number, counted from 1, of the first request that is refused; 0 refuses none
  * REFUSE_MANY  how many requests are refused from there on; 0 refuses all
  * REFUSE_COUNT a file of eight bytes, in which the number of requests is kept while the program runs
- * REFUSE_WRITES where it is set, the requests that are counted and refused are the writes of the program, to all
+ * REFUSE_WRITES if it is set, the requests that are counted and refused are the writes of the program, to all
  *              but standard error: no room is left for one
  *
  * Requests are counted from the start of the program on, those of all its threads together. What the
@@ -40,7 +40,7 @@ static uint64_t number_in(const char *name) {
     return text ? strtoull(text, NULL, 10) : 0;
 }
 
-/* The file is mapped, so that the count stands there however the program ends. */
+/* The file is mapped, so that it has the count however the program ends. */
 __attribute__((constructor)) static void begin(void) {
     const char *path = getenv("REFUSE_COUNT");
     int file = path ? open(path, O_RDWR | O_CLOEXEC) : -1;

@@ -56,7 +56,7 @@ def totals(messages, networks="equal"):
 
 
 def compiler(variable="CC", names=("cc", "gcc", "clang")):
-    """The compiler that a variable names, or the first of these that is there; `None` where none is."""
+    """The compiler that a variable names, or the first of these that is there; `None` if none is."""
     return os.environ.get(variable) or next(filter(None, map(shutil.which, names)), None)
 
 
@@ -79,7 +79,7 @@ class Tries:
         self.passed, self.failed = 0, 0
 
     def show(self, name, faults=(), more=""):
-        """Prints a try with the first of its faults, of which there are none where all is as it has to be."""
+        """Prints a try with the first of its faults, of which there are none if all is as it has to be."""
         print(f"{name}: {'FAILED' if faults else 'ok'}{more and ': '}{more}", flush=True)
         for fault in faults[:8]:
             print(f"    {fault[:2000]}", flush=True)
