@@ -105,7 +105,7 @@ def cell(names):
         crate, owner, last = re.fullmatch(r"(\w+)::((?:\w+::)?)(.*)", name).groups()
         shown.append(last if [crate, owner] == before else owner + last if owner and crate == before[0] else name)
         before = [crate, owner]
-    return f"`{', '.join(shown)}`" if shown else ""
+    return f"`{', '.join(shown)}`"
 
 
 def promises_page(source):
@@ -118,7 +118,9 @@ def promises_page(source):
             edits = [it.partition("/")[2] for it in row.get("edits", [])]
             more = [f"`{', '.join(it)}`" if it else "" for it in (edits, row.get("tests"))]
             lines.append("|".join(["", row["says"], by, *more, ""]))
-    return "\n".join([*lines, "", "## Supporting", "", *(f"- {it['reason']}: {cell(it['functions'])}" for it in source["supporting"]), ""])
+    lines += ["", "## Supporting", "", "Public functions with a contract that no row has, by name in `promises.toml`:", ""]
+    lines += [f"- {len(it['functions'])} of `{it['functions'][0].partition('::')[0]}`: {it['reason']}" for it in source["supporting"]]
+    return "\n".join([*lines, ""])
 
 
 def headline_page(source, results):
