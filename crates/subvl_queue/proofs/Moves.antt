@@ -410,6 +410,7 @@ module _ {T : Type 0} where
             (
               record {
                 few = omega arith;
+                few_ports = omega (arith, r.few_seats, f.3);
                 port = lt_of_not-le (λ le. owned_at x.0 0 r.log p x logged refl (r.unmade x.0 (omega arith)));
                 below = before_total r.closed L p me.0.total below gath.0;
                 listed = if_whole r.log s.views (λ l. (p < length l) × (get_elem? l p ≡ some x)) me.0.all gath.2 (λ _. (below, logged));

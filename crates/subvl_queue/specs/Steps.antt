@@ -109,6 +109,7 @@ module _ {T : Type 0} where
   pub record IsNext (v : View T) (p : ℕ) (x : ℕ × T) : Type 0 where
     pub few : p < 2 ^ 46
     pub port : x.0 < v.made
+    pub few_ports : v.made ≤ 64
     pub below : IfSome v.total (λ t. p < t)
     pub listed : IfSome v.all (λ l. (p < length l) × (get_elem? l p ≡ some x))
 

@@ -56,7 +56,7 @@ impl Gathered {
     {
         let (port, message) = fetch(&self.ring, &mut self.seat, &mut self.taken)?;
         Some(Item {
-            port,
+            port: port as u8,
             bytes: message.bytes,
         })
     }

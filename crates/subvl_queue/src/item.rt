@@ -6,8 +6,9 @@ use std::marker::Model;
 /// A message of 1 to 8,192 bytes, and the index of its sender. Contracts see the two as a pair.
 #[derive(Debug, Drop)]
 pub struct Item {
-    pub port: u8,
+    // First, so that a move of an item has no odd bytes in its front.
     pub bytes: Vec<u8>,
+    pub port: u8,
 }
 
 impl Model for Item {

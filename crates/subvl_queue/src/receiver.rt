@@ -29,10 +29,11 @@ pub fn fetch(ring: &Ring, seat: &mut Knowing, taken: &mut u64) -> Option<Parcel>
     ensures ended { IfNone result (IfSome seat.old.me.0.all (λ l. length l ≤ taken.old)) }
 {
     let place = *taken;
-    if !ring.look(seat, place) {
+    let slot = ring.slot_of(place);
+    if !ring.look(seat, place, slot) {
         return None;
     }
-    let parcel = ring.free(seat, place);
+    let parcel = ring.free(seat, slot);
     *taken += 1;
     Some(parcel)
 }
@@ -114,7 +115,7 @@ impl Receiver {
     {
         let (port, message) = fetch(&self.ring, &mut self.seat, &mut self.taken)?;
         Some(Item {
-            port,
+            port: port as u8,
             bytes: message.bytes,
         })
     }

@@ -29,8 +29,8 @@ pub const NO_ROOM: u64 = 1 << 32;
 /// The bit of TAIL that says that the queue is closed.
 pub const CLOSED: u64 = 1 << 63;
 
-/// A message and the index of its sender.
-pub type Parcel = (u8, Message);
+/// A message and the index of its sender, a whole word so that no move of it has odd bytes.
+pub type Parcel = (u64, Message);
 
 /// A slot of the table.
 pub type Slot = Option<Parcel>;
@@ -86,7 +86,8 @@ impl Ring {
         self.table.shared.fetch_add::<Draw<W>>(seat, TAIL, 1)
     }
 
-    fn slot_of(&self, place: u64) -> usize
+    /// The slot of a place.
+    pub fn slot_of(&self, place: u64) -> usize
         ensures { (result ≡ place % self.now.capacity) × (result < self.now.capacity) }
     {
         (place % self.capacity as u64) as usize
@@ -112,29 +113,27 @@ impl Ring {
     }
 
     /// Whether the place after those taken is ready. If so, its slot is then the seat's.
-    pub fn look(&self, seat: &mut Knowing, place: u64) -> bool
+    pub fn look(&self, seat: &mut Knowing, place: u64, slot: usize) -> bool
         requires seat { RestsAs self.now.table.shared.table_id Receiver seat.old }
+        requires slot { (slot ≡ place % self.now.capacity) × (slot < self.now.capacity) }
         requires place { (place ≡ length seat.old.me.0.taken) × (place < 2 ^ 63) }
         ensures seat { IsAtTable self.now.table.shared.table_id seat.new }
         ensures found { IsTrue result → (x : _) × Finds self.now.capacity place seat.old.me seat.new.me x }
         ensures none { result ≡ false → Misses place seat.old.me seat.new.me }
     {
-        let slot = self.slot_of(place);
         self.table.shared.load::<Look>(seat, READY + slot) == place + 1
     }
 
     /// Takes the parcel out of the slot of the place, and gives the slot back.
-    pub fn free(&self, seat: &mut Knowing, place: u64) -> Parcel
+    pub fn free(&self, seat: &mut Knowing, slot: usize) -> Parcel
         requires seat { IsAtTable self.now.table.shared.table_id seat.old }
-        requires slot { (x : _) × (seat.old.me.1 ≡ (place % self.now.capacity, Some x) ∷ [])
-            × (seat.old.me.0.item ≡ Some x) }
+        requires slot { (x : _) × (seat.old.me.1 ≡ (slot, Some x) ∷ []) × (seat.old.me.0.item ≡ Some x) }
         requires view { (seat.old.me.0.role ≡ Receiver) × (seat.old.me.0.stage ≡ Holding) }
-        requires place { seat.old.me.0.at ≡ place }
+        requires place { seat.old.me.0.at % self.now.capacity ≡ slot }
         ensures seat { IsAtTable self.now.table.shared.table_id seat.new }
         ensures item { seat.old.me.0.item ≡ Some result }
         ensures view { seat.new.me ≡ (freed_of seat.old.me.0 result, []) }
     {
-        let slot = self.slot_of(place);
         let parcel = self.table.shared.exchange(seat, slot, None).unwrap();
         self.table.shared.fetch_add::<Freed>(seat, ROOM, 1);
         parcel

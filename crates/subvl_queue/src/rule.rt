@@ -33,22 +33,22 @@ pub struct View<T> {
     pub own: LinkedList<(u64, T)>,
     pub stage: Stage,
     pub at: u64,
-    pub item: Option<(u8, T)>,
+    pub item: Option<(u64, T)>,
     pub load: u64,
     pub glances: u64,
     pub shut: bool,
     pub looks: u64,
     pub found: bool,
-    pub taken: LinkedList<(u8, T)>,
+    pub taken: LinkedList<(u64, T)>,
     pub made: u64,
     pub joined: LinkedList<(u64, LinkedList<(u64, T)>)>,
     pub total: Option<u64>,
-    pub all: Option<LinkedList<(u8, T)>>,
+    pub all: Option<LinkedList<(u64, T)>>,
 }
 
 pub struct Rule;
 
-impl<T> TableRule<Option<(u8, T)>, View<T>, ()> for Rule {
+impl<T> TableRule<Option<(u64, T)>, View<T>, ()> for Rule {
     ghost holds = { λ _. Queue };
 
     ghost first = { λ _. first_view };
@@ -65,13 +65,13 @@ impl<X> Said<X> for Brand {
 
 pub(crate) struct Ask;
 
-impl<T> Play<Option<(u8, T)>, View<T>> for Ask {
+impl<T> Play<Option<(u64, T)>, View<T>> for Ask {
     ghost then = { asks };
 }
 
 pub(crate) struct GiveBack;
 
-impl<T> Play<Option<(u8, T)>, View<T>> for GiveBack {
+impl<T> Play<Option<(u64, T)>, View<T>> for GiveBack {
     ghost then = { gives_back };
 }
 
@@ -79,43 +79,43 @@ pub(crate) struct Draw<W> {
     marker: PhantomData<W>,
 }
 
-impl<T, W: Said<(u8, T)>> Play<Option<(u8, T)>, View<T>> for Draw<W> {
+impl<T, W: Said<(u64, T)>> Play<Option<(u64, T)>, View<T>> for Draw<W> {
     ghost then = { draws W.item };
 }
 
 pub(crate) struct Ready;
 
-impl<T> Play<Option<(u8, T)>, View<T>> for Ready {
+impl<T> Play<Option<(u64, T)>, View<T>> for Ready {
     ghost then = { readies };
 }
 
 pub(crate) struct Look;
 
-impl<T> Play<Option<(u8, T)>, View<T>> for Look {
+impl<T> Play<Option<(u64, T)>, View<T>> for Look {
     ghost then = { λ st m r n. looks (length m.0.taken) st m r n };
 }
 
 pub(crate) struct Freed;
 
-impl<T> Play<Option<(u8, T)>, View<T>> for Freed {
+impl<T> Play<Option<(u64, T)>, View<T>> for Freed {
     ghost then = { frees };
 }
 
 pub(crate) struct Glance;
 
-impl<T> Play<Option<(u8, T)>, View<T>> for Glance {
+impl<T> Play<Option<(u64, T)>, View<T>> for Glance {
     ghost then = { glances_at };
 }
 
 pub(crate) struct Close;
 
-impl<T> Play<Option<(u8, T)>, View<T>> for Close {
+impl<T> Play<Option<(u64, T)>, View<T>> for Close {
     ghost then = { closes };
 }
 
 pub(crate) struct Gather;
 
-impl<T> Play<Option<(u8, T)>, View<T>> for Gather {
+impl<T> Play<Option<(u64, T)>, View<T>> for Gather {
     ghost then = { gathers };
 }
 

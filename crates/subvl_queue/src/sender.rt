@@ -122,7 +122,7 @@ impl Sender {
         ensures back { IfErr result (λ e. e.bytes.items ≡ bytes.items) }
         ensures refused { IfErr result (λ e. IsRefused self.old e.why self.new) }
     {
-        let parcel = (self.port, Message { bytes });
+        let parcel = (u64::from(self.port), Message { bytes });
         match draw_place(
             &self.ring,
             &mut self.seat,

@@ -1,4 +1,4 @@
-use Rattle.subvl_queue.proofs.Names.{ap, ◌∙◌, subst, ◌≡◌, Option, Some, holding, freed_of, IsNext}
+use Rattle.subvl_queue.proofs.Names.{ap, ◌∙◌, ◌%◌, ◌∷◌, [], subst, sym, ◌≡◌, Option, Some, holding, freed_of, IsNext}
 use Rattle.subvl_queue.proofs.receiver.fetch.Goals as goal
 
 same_item : {A : Type 0} (x y : A) (o : Option A) → o ≡ Some x → o ≡ Some y → x ≡ y
@@ -7,7 +7,11 @@ same_item x y o e f = cc
 pub free-parcel-requires-clause-slot : goal.free-parcel-requires-clause-slot
 free-parcel-requires-clause-slot c =
     let found = c.look.ensures.found c.if-not-look.false in
-    (found.0, ap (λ m. m.1) found.1.1, ap (λ m. m.0.item) found.1.1)
+    (found.0, ap (λ m. m.1) found.1.1 ∙ (λ k. (sym c.slot_of-slot.ensures.0 k, Some found.0) ∷ []), ap (λ m. m.0.item) found.1.1)
+
+pub free-parcel-requires-clause-place : goal.free-parcel-requires-clause-place
+free-parcel-requires-clause-place c =
+    ap (λ m. m.0.at % c.args.ring.now.capacity) (c.look.ensures.found c.if-not-look.false).1.1 ∙ sym c.slot_of-slot.ensures.0
 
 pub returns-clause-next : goal.returns-clause-next
 returns-clause-next c =

@@ -6,7 +6,7 @@ pub exchange-requires : goal.exchange-requires
 exchange-requires c =
     let item = c.requires.slot.0 in
     let held = c.requires.slot.1 in
-    (c.requires.seat, (Some item, held ∙ (λ k. (sym c.slot_of-slot.ensures.0 k, Some item) ∷ rest (sym held k))))
+    (c.requires.seat, (Some item, held ∙ (λ k. (c.args.slot, Some item) ∷ rest (sym held k))))
 
 pub fetch_add-requires : goal.fetch_add-requires
 fetch_add-requires c =
@@ -18,6 +18,6 @@ fetch_add-requires c =
       search rules,
       search rules,
       frees_ok _ _ _ (ap (λ m. m.0.role) me ∙ view.0) (ap (λ m. m.0.stage) me ∙ view.1)
-          (ap (λ m. m.1) me ∙ (λ k. (c.slot_of-slot.ensures.0 k, None) ∷ rest (held k)) ∙ (λ k. (sym place k % sym capacity k, None) ∷ [])
+          (ap (λ m. m.1) me ∙ (λ k. (sym place k, None) ∷ rest (held k)) ∙ (λ k. (c.args.seat.now.me.0.at % sym capacity k, None) ∷ [])
           ∙ (λ k. ((sym me k).0.at % c.args.self.now.table.shared.table_id.slots, None) ∷ [])),
     )

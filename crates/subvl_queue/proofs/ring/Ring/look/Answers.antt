@@ -7,7 +7,7 @@ load-requires c =
     let seat = c.requires.seat in
     let place = c.requires.place.0 in
     let capacity = c.args.self.now.sized.1 in
-    let slot = c.slot_of-slot.ensures.0 ∙ (λ k. place k % sym capacity k) in
+    let slot = c.requires.slot.0 ∙ (λ k. place k % sym capacity k) in
     (search rules, search rules, looks_ok _ _ _ _ _ seat.2 seat.3 seat.1 refl (omega arith))
 
 pub returns-clause-found : goal.returns-clause-found
