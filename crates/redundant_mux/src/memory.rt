@@ -32,9 +32,14 @@ impl Handed {
         ensures { entry_of self.new ≡ entry at frame.now }
     {
         self.at = at;
-        self.frame.clear();
-        if self.frame.try_extend_from_slice(frame).is_err() {
-            unreachable!();
+        // What is cut off is blanked, so no more is cut off than is left over.
+        let kept = frame.len().min(self.frame.len());
+        self.frame.truncate(kept);
+        self.frame.copy_from_slice(&frame[..kept]);
+        if kept < frame.len() {
+            if self.frame.try_extend_from_slice(&frame[kept..]).is_err() {
+                unreachable!();
+            }
         }
     }
 }
