@@ -9,7 +9,7 @@ ghost use Rattle.redundant_mux.specs.Lines.{Handing, BothEndure, some_of, stands
 
 use crate::network::Network;
 use crate::trail::Trail;
-use afdx_frame::{Frame, GREATEST_FRAME, Net, make_twin};
+use afdx_frame::{Frame, GREATEST_FRAME, Net, make_twin, twin};
 use afdx_plan::Networks;
 use std::marker::Model;
 
@@ -42,8 +42,6 @@ pub struct Mux<A: Network + Drop, B: Network + Drop> {
     a: A,
     b: B,
     standing: Standing,
-    // The buffer of B's twin of a frame.
-    twin: [u8; GREATEST_FRAME],
     // The frames that at least one network accepted, for proofs alone.
     trail: Trail,
 }
@@ -81,28 +79,30 @@ fn hand_to<N: Network + Drop>(
     }
 }
 
-/// As `hand_to`, with B's twin of a frame for A, made in `buffer`.
+/// As `hand_to`, with B's twin of a frame for A. The twin is made in the frame's own bytes, which are then as
+/// they were.
+#[tactic(auto, using(afdx_frame::proofs::Twins::twin_twice))]
 #[inline(always)]
 fn hand_twin<N: Network + Drop>(
     network: &mut N,
     stands: &mut bool,
     named: bool,
-    buffer: &mut [u8; GREATEST_FRAME],
     at: u64,
-    frame: &[u8],
+    frame: &mut [u8],
 )
-    requires short { length frame.now ≤ GREATEST_FRAME }
+    requires for_a { twin_of ForA frame.old ≡ frame.old }
+    requires short { length frame.old ≤ GREATEST_FRAME }
     requires unfailed { stands.old ≡ true → N.failures network.old ≡ 0 }
-    ensures handing { Handing named (entry at (twin_of ForB frame.now)) stands.old stands.new
+    ensures handing { Handing named (entry at (twin_of ForB frame.old)) stands.old stands.new
         (N.handed network.old) (N.handed network.new)
         (N.failures network.old) (N.failures network.new) }
     ensures unfailed { stands.new ≡ true → N.failures network.new ≡ 0 }
+    ensures same { frame.new ≡ frame.old }
 {
     if named && *stands {
-        let twin = &mut buffer[..frame.len()];
-        twin.copy_from_slice(frame);
-        make_twin(twin, Net::B);
-        hand_to(network, stands, true, at, twin);
+        make_twin(frame, Net::B);
+        hand_to(network, stands, true, at, frame);
+        make_twin(frame, Net::A);
     }
 }
 
@@ -139,7 +139,6 @@ impl<A: Network + Drop, B: Network + Drop> Mux<A, B> {
             a,
             b,
             standing: Standing { a: true, b: true },
-            twin: [0; GREATEST_FRAME],
             trail: Trail::new(),
         }
     }
@@ -189,7 +188,6 @@ impl<A: Network + Drop, B: Network + Drop> Mux<A, B> {
             a,
             b,
             standing: _,
-            twin: _,
             trail: _,
         } = self;
         (a, b)
@@ -216,20 +214,42 @@ impl<A: Network + Drop, B: Network + Drop> Mux<A, B> {
         ensures a_stands { IfOk result (λ standing. standing.a ≡ self.new.a_stands) }
         ensures b_stands { IfOk result (λ standing. standing.b ≡ self.new.b_stands) }
     {
+        self.hand_lent(at, &mut twin(frame, Net::A), networks)
+    }
+
+    /// As `hand`, with a frame that is lent: the twin for B is made in its bytes, which are the same afterwards.
+    #[inline(always)]
+    pub fn hand_lent(
+        &mut self,
+        at: u64,
+        frame: &mut Frame,
+        networks: Networks,
+    ) -> Result<Standing, BothDown>
+        requires { twin_of ForA frame.old.items ≡ frame.old.items }
+        ensures same { frame.new.items ≡ frame.old.items }
+        ensures down { IsErr result ↔ ((self.old.a_stands ≡ false) × (self.old.b_stands ≡ false)) }
+        ensures err { OnErr result (self.new ≡ self.old) }
+        ensures a { Handing (names_a networks) (entry at (twin_of ForA frame.old.items))
+            self.old.a_stands self.new.a_stands
+            self.old.a self.new.a self.old.a_failures self.new.a_failures }
+        ensures b { Handing (names_b networks) (entry at (twin_of ForB frame.old.items))
+            self.old.b_stands self.new.b_stands
+            self.old.b self.new.b self.old.b_failures self.new.b_failures }
+        ensures enters { stands_for networks self.new ≡ true →
+            self.new.logged ≡ self.old.logged ++ logged_for networks (entry at frame.old.items) ∷ [] }
+        ensures lost { stands_for networks self.new ≡ false → self.new.logged ≡ self.old.logged }
+        ensures endure { BothEndure self.old self.new }
+        ensures mirrored { IsMirrored self.new }
+        ensures a_stands { IfOk result (λ standing. standing.a ≡ self.new.a_stands) }
+        ensures b_stands { IfOk result (λ standing. standing.b ≡ self.new.b_stands) }
+    {
         if !self.standing.a && !self.standing.b {
             return Err(BothDown);
         }
         let named_a = networks.names_a();
         let named_b = networks.names_b();
         hand_to(&mut self.a, &mut self.standing.a, named_a, at, frame);
-        hand_twin(
-            &mut self.b,
-            &mut self.standing.b,
-            named_b,
-            &mut self.twin,
-            at,
-            frame,
-        );
+        hand_twin(&mut self.b, &mut self.standing.b, named_b, at, frame);
         let taken = self.standing.has_one_of(networks);
         note(&mut self.trail, taken, networks, at, frame);
         Ok(self.standing)
