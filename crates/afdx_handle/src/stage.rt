@@ -79,6 +79,7 @@ impl Stage {
     }
 
     /// Gives each link its turn at `now`, in microseconds. An error changes nothing.
+    #[inline(always)]
     pub fn poll(&mut self, now: u64) -> Result<Report, PollFault>
         requires { (tx_of self.old).moment ≤ now }
         ensures both_down { IsErr result ↔ (is_alive (tx_of self.old).lines ≡ false) }

@@ -112,6 +112,7 @@ impl<A: Network + Drop, B: Network + Drop> Draining<A, B> {
 
     /// As `Emitter::poll`. A due link has something to send exactly if one of its accepted messages
     /// isn't wholly released.
+    #[inline(always)]
     pub fn poll(&mut self, now: u64) -> Result<Report, PollFault>
         requires { self.old.moment ≤ now }
         ensures both_down { IsErr result ↔ (is_alive self.old.lines ≡ false) }

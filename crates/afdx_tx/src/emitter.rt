@@ -116,6 +116,7 @@ impl<A: Network + Drop, B: Network + Drop> Emitter<A, B> {
     /// allocation gap), unless the last network that carries it fails with that frame. A link whose
     /// networks are all down is skipped. After `BothDown` nothing has changed. Never waits, and
     /// allocates nothing.
+    #[inline(always)]
     pub fn poll(&mut self, now: u64) -> Result<Report, PollFault>
         requires { self.old.moment ≤ now }
         ensures both_down { IsErr result ↔ (is_alive self.old.lines ≡ false) }

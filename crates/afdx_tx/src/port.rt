@@ -107,6 +107,7 @@ impl TxPort {
     /// empty, is over the port's greatest message, or its queue refuses it. A refusal by length
     /// changes nothing; one by the queue only what the port has used and found. Never waits, and
     /// allocates nothing.
+    #[inline(always)]
     pub fn send(&mut self, bytes: Vec<u8>) -> Result<(), SendFault>
         ensures accepted { IfOk result (λ _. Accepts self.old bytes.items self.new) }
         ensures sendable { IfOk result (λ _. MaySend self.old.plan (length bytes.items)) }

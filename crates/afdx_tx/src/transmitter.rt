@@ -224,6 +224,7 @@ impl<A: Network + Drop, B: Network + Drop> Transmitter<A, B> {
     }
 
     /// Gives each link its turn at `now`, in microseconds, in the order of the configuration.
+    #[inline(always)]
     pub fn poll(&mut self, now: u64) -> Result<Report, PollFault>
         requires { self.old.moment ≤ now }
         ensures both_down { IsErr result ↔ (is_alive self.old.lines ≡ false) }
