@@ -71,7 +71,7 @@ fn serve_due<A: Network + Drop, B: Network + Drop>(
     let number = shaper.stamp(now, sub);
     subs[sub as usize].write_next(number, frame);
     // If both networks are down, none is up for the link either.
-    let _standing = mux.hand(now, frame, plan.networks);
+    let _standing = mux.hand_lent(now, frame, plan.networks);
     if mux.stands_for(plan.networks) {
         Served::Released { sub, number }
     } else {

@@ -10,8 +10,8 @@ stamp-number-requires-clause-due g c = (and_parts _ _ c.requires.may).0
 pub write_next-requires : goal.write_next-requires
 write_next-requires g c = chosen_left _ _ _ _ c.index-subs-sub.result c.in-Some.ensures.chosen
 
-pub hand-standing-requires : goal.hand-standing-requires
-hand-standing-requires g c = twin_same A c.write_next.new.out.items c.write_next.ensures.frame.interface
+pub hand_lent-standing-requires : goal.hand_lent-standing-requires
+hand_lent-standing-requires g c = twin_same A c.write_next.new.out.items c.write_next.ensures.frame.interface
 
 pub returns-in_default-clause-serves : goal.returns-in_default-clause-serves
 returns-in_default-clause-serves g c = (inr (c.requires.may, none_has _ _ _ c.in_default.ensures.none), refl)
@@ -29,22 +29,22 @@ returns-then-stands_for-clause-serves g c =
         choice = chosen_gives _ _ _ _ c.index-subs-sub.result _ _ c.in-Some.ensures.chosen
             (record { next = c.write_next.ensures.left; same = c.write_next.ensures.same });
         of = frame_at _ _ _ _ _ c.index-subs-sub.result _ _ c.in-Some.ensures.chosen c.requires.named c.write_next.ensures.frame;
-        enters = c.hand-standing.ensures.enters stands;
+        enters = c.hand_lent-standing.ensures.enters stands;
         stands = stands;
-        endure = c.hand-standing.ensures.endure;
+        endure = c.hand_lent-standing.ensures.endure;
       },
     )
 
 pub returns-then-stands_for-clause-entered : goal.returns-then-stands_for-clause-entered
 returns-then-stands_for-clause-entered g c =
-    stream_more c.args.plan.now.id.0 c.args.now _ c.stamp-number.result _ c.write_next.new.out.items _ _
+    rw c.hand_lent-standing.ensures.same (stream_more c.args.plan.now.id.0 c.args.now _ c.stamp-number.result _ c.write_next.new.out.items _ _
     (frame_at _ _ _ _ _ c.index-subs-sub.result _ _ c.in-Some.ensures.chosen c.requires.named c.write_next.ensures.frame)
-    (c.hand-standing.ensures.enters (sym c.stands_for.ensures ∙ c.if-stands_for.true))
+    (c.hand_lent-standing.ensures.enters (sym c.stands_for.ensures ∙ c.if-stands_for.true)))
 
 pub returns-then-stands_for-clause-paced : goal.returns-then-stands_for-clause-paced
 returns-then-stands_for-clause-paced g c =
     follows_more c.args.now c.in-Some.sub c.write_next.new.out.items _ _ _ _ c.requires.paced
-    (returns-then-stands_for-clause-entered g c)
+    (rw c.hand_lent-standing.ensures.same at (returns-then-stands_for-clause-entered g c))
     (frame_at _ _ _ _ _ c.index-subs-sub.result _ _ c.in-Some.ensures.chosen c.requires.named
     c.write_next.ensures.frame).of_sub
     c.stamp-number.ensures.last c.stamp-number.ensures.next
@@ -62,16 +62,16 @@ returns-else-stands_for-clause-serves g c =
         frame = c.write_next.new.out.items;
         choice = chosen_gives _ _ _ _ c.index-subs-sub.result _ _ c.in-Some.ensures.chosen
             (record { next = c.write_next.ensures.left; same = c.write_next.ensures.same });
-        same = c.hand-standing.ensures.lost down;
+        same = c.hand_lent-standing.ensures.lost down;
         down = down;
-        endure = c.hand-standing.ensures.endure;
+        endure = c.hand_lent-standing.ensures.endure;
       },
     )
 
 pub returns-else-stands_for-clause-entered : goal.returns-else-stands_for-clause-entered
 returns-else-stands_for-clause-entered g c =
-    ap (link_stream c.args.plan.now.id.0) (log_same c.args.mux.now c.hand-standing.new.self
-    (c.hand-standing.ensures.lost (sym c.stands_for.ensures ∙ c.if-stands_for.false)))
+    ap (link_stream c.args.plan.now.id.0) (log_same c.args.mux.now c.hand_lent-standing.new.self
+    (c.hand_lent-standing.ensures.lost (sym c.stands_for.ensures ∙ c.if-stands_for.false)))
     ∙ sym (append-nil (link_stream c.args.plan.now.id.0 (log c.args.mux.now)))
 
 pub returns-else-stands_for-clause-same : goal.returns-else-stands_for-clause-same
