@@ -18,6 +18,8 @@ pub struct Stamp {
 /// and which sequence number is next (ARINC 664 Part 7, end system, virtual link scheduling).
 #[derive(Drop)]
 pub struct Shaper {
+    // No moment before it is due.
+    from: u64,
     gap: u64,
     sub_vls: u8,
     last: Option<Stamp>,
@@ -26,7 +28,7 @@ pub struct Shaper {
 
 impl Model for Shaper {
     ghost use Rattle.std.specs.Prelude.{◌≤◌};
-    ghost use Rattle.vl_shaper.specs.Pace.{Pace, IsShaped};
+    ghost use Rattle.vl_shaper.specs.Pace.{Pace, IsShaped, due_from};
 
     ghost Value = { Pace };
 
@@ -37,7 +39,7 @@ impl Model for Shaper {
       next = s.number;
     } };
 
-    ghost invariant = { λ s. IsShaped s.gap s.sub_vls s.last };
+    ghost invariant = { λ s. IsShaped s.gap s.sub_vls s.last × (s.from ≤ due_from s.gap s.last) };
 }
 
 impl Shaper {
@@ -54,6 +56,7 @@ impl Shaper {
         } }
     {
         Shaper {
+            from: 0,
             gap: bag.micros(),
             sub_vls,
             last: None,
@@ -76,6 +79,9 @@ impl Shaper {
         requires { IsLater self.now.last now }
         ensures { result ≡ is_due self.now.gap self.now.last now }
     {
+        if now < self.from {
+            return false;
+        }
         match self.last {
             None => true,
             Some(last) => self.gap <= now - last.at,
@@ -130,6 +136,7 @@ impl Shaper {
         ensures sub_vls { self.new.sub_vls ≡ self.old.sub_vls }
     {
         let number = self.number;
+        self.from = now.saturating_add(self.gap);
         self.last = Some(Stamp { at: now, sub });
         self.number = if number == 255 { 1 } else { number + 1 };
         number
