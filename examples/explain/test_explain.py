@@ -3,10 +3,10 @@
 
     python3 examples/explain/test_explain.py [TEXTS]
 
-It runs what `rt ci` has built. What is wanted is computed here, from the tables of `docs/configuration.md` and the lines of
-`docs/program.md`: all of the output, of each text that is TOML. TEXTS texts, 2,000 if left out, have one to three planted
-faults each, of which each must be told where it was planted. Whatever the text, the first line must count the others, and
-the first fault must be the one that `check` answers. The last line is 'N passed, M failed'.
+It runs what `rt ci` has built. What is wanted is computed here, from the tables of `docs/guide/configuration.md` and the
+lines of `docs/guide/program.md`: all of the output, of each text that is TOML. TEXTS texts, 2,000 if left out, have one to
+three planted faults each, each of which must be reported where it was planted. Whatever the text, the first line must
+count the others, and the first fault must be the one that `check` answers. The last line is 'N passed, M failed'.
 """
 import os
 import random
@@ -224,8 +224,8 @@ def times() -> tuple[list[str], str]:
 
 
 def documented() -> list[str]:
-    """The keys that the table of `docs/configuration.md` has are those that are tried."""
-    cells = re.findall(r"(?m)^\| (`[a-z_`., ]+) \|", trying.text_of("docs/configuration.md"))
+    """The keys that the table of `docs/guide/configuration.md` has are those that are tried."""
+    cells = re.findall(r"(?m)^\| (`[a-z_`., ]+) \|", trying.text_of("docs/guide/configuration.md"))
     told = {word for cell in cells for word in re.findall(r"`([^`]+)`", cell)}
     tried = {f"{name}.{key}" for name in FIELDS if name for key in FIELDS[name]} | {"version"}
     return [f"{word} is told or tried alone" for word in sorted(told ^ tried)]

@@ -1,5 +1,5 @@
-"""What `afdx_bench explain` has to print of a text that is TOML, from the tables of `docs/configuration.md` and the lines of
-`docs/program.md`."""
+"""What `afdx_bench explain` has to print of a text that is TOML, from the tables of `docs/guide/configuration.md`
+and the lines of `docs/guide/program.md`."""
 import re
 from collections.abc import Iterable
 

@@ -406,7 +406,7 @@ class Port:
 
 
 class EndSystem:
-    """An end system of a configuration (docs/configuration.md). Raises `ConfigError` or `OutOfMemory`."""
+    """An end system of a configuration (docs/guide/configuration.md). Raises `ConfigError` or `OutOfMemory`."""
 
     _handle: _Handle
 
