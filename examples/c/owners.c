@@ -1,7 +1,7 @@
 /* What two end systems side by side, no bytes at all, lists and the allocator show of the calls of afdx.h: a port is
    given back to its own end system alone, NULL is legal for 0 bytes, all frames of a poll at once are those of the calls
    for one, a moment until which a poller may sleep is one at which a link becomes due, an explanation is cut to its buffer,
-   and an end system asks for as much memory as docs/c-library.md says.
+   and an end system asks for as much memory as docs/guide/c.md says.
 
    tools/c_library.py builds and runs it. Requests for memory go through `__wrap_malloc` and its kin below (by the
    linker's --wrap), which count their bytes. A failed check is told by its line; the last line is 'N passed, M failed'. */
@@ -298,7 +298,7 @@ static size_t room(size_t many) {
     return room;
 }
 
-/* What an end system holds from afdx_open to afdx_free, in bytes: docs/c-library.md has this formula. */
+/* What an end system holds from afdx_open to afdx_free, in bytes: docs/guide/c.md has this formula. */
 static size_t formula(size_t links, size_t sub_vls, size_t capacity, size_t each) {
     size_t ports = links * sub_vls * each;
     size_t of_sub_vl = 296 + 48 * capacity + 32 * room(each);
