@@ -10,27 +10,17 @@ use Rattle.afdx_frame.proofs.Says.{says}
 
 pub checks_one_header : ChecksOneHeader
 unfolding checksum
-checks_one_header = record {
-  is = record { range = omega arith; multiple = refl };
-  computed = refl;
-  next = λ is. let m = is.multiple in absurd (omega arith);
-  zero = refl;
-  full = λ is. let r = is.range in absurd (omega arith);
-}
+checks_one_header = search arith
 
 -- The two pieces are a cutting.
 two_are : IsCutting 25 49 (24 ∷ 25 ∷ [])
-two_are = record { some = omega arith; total = refl; full = full; last = last; tight = tight }
-  where
-    full : (k : ℕ) → k + 1 < 2 → slice_index (24 ∷ 25 ∷ []) k ≡ 24
-    full zero h = refl
-    full (suc k) h = absurd (omega arith)
-
-    last : (k : ℕ) → k + 1 ≡ 2 → (1 ≤ slice_index (24 ∷ 25 ∷ []) k) × (slice_index (24 ∷ 25 ∷ []) k ≤ 25)
-    last k h = let second : k ≡ 1 = omega arith in rw second (omega arith, omega arith)
-
-    tight : (k : ℕ) → k + 2 ≡ 2 → 25 < slice_index (24 ∷ 25 ∷ []) k + slice_index (24 ∷ 25 ∷ []) (suc k)
-    tight k h = let first : k ≡ 0 = omega arith in rw first (omega arith)
+two_are = record {
+  some = omega arith;
+  total = refl;
+  full = λ k h. grind arith;
+  last = λ k h. grind arith;
+  tight = λ k h. grind arith;
+}
 
 pub cuts_in_two : CutsInTwo
 unfolding cutting
@@ -43,21 +33,11 @@ cuts_in_two = record {
 
 pub keeps_two_pieces : KeepsTwoPieces
 unfolding cutting
-keeps_two_pieces = record {
-  pieces = refl;
-  each = pieces_are 49 25 41 0 (omega arith) (omega arith) (omega arith) (omega arith) refl;
-  narrow = λ each. let l : 1 ≤ 0 = each.0.len.0 in absurd (omega arith);
-  wide = λ each. let l : 1480 ≤ 1479 = each.0.len.1 in absurd (omega arith);
-}
+keeps_two_pieces = search (arith, pieces_are 49 25 41 0 (omega arith) (omega arith) (omega arith) (omega arith) refl)
 
 pub turns_one_frame : TurnsOneFrame
 unfolding checksum addresses header_front internet_header link_header udp_header datagram unnumbered
-turns_one_frame = record {
-  turned = refl;
-  on_a = refl;
-  on_b = refl;
-  other = λ same. let b : ◌≡◌ {A = ℕ} 32 64 = ap (λ (f : List ℕ). slice_index f 11) same in absurd (omega arith);
-}
+turns_one_frame = search arith
 
 -- The second piece meets what a frame needs.
 piece_is : IsPiece 41 (piece_at 25 49 24)
@@ -66,23 +46,11 @@ piece_is = (pieces_are 49 25 41 0 (omega arith) (omega arith) (omega arith) (ome
 
 pub says_its_fields : SaysItsFields
 unfolding unnumbered link_header internet_header header_front
-says_its_fields = record {
-  port = demo_port_is;
-  most = omega arith;
-  piece = piece_is;
-  says = says 1 demo_port long_sent.bytes 0 (piece_at 25 49 24) A 1 demo_port_is (omega arith) piece_is;
-  empty = λ is. let l : 1 ≤ 0 = is.len.0 in absurd (omega arith);
-  unsaid = λ it. let t : 21 ≤ 20 = it.frame.internet.total in absurd (omega arith);
-}
+says_its_fields = search (arith, demo_port_is, piece_is, says 1 demo_port long_sent.bytes 0 (piece_at 25 49 24) A 1 demo_port_is (omega arith) piece_is)
 
 pub grows_by_one : GrowsByOne
 unfolding checksum addresses header_front internet_header link_header udp_header datagram unnumbered cutting fragments_at
-grows_by_one = record {
-  grows = refl;
-  count = refl;
-  place = λ same. let i : ◌≡◌ {A = ℕ} 4 0
-      = ap (λ (frames : List (List ℕ)). slice_index (get_or frames 2 []) 19) same in absurd (omega arith);
-}
+grows_by_one = search arith
 
 pub cuts_both : CutsBoth
 unfolding checksum addresses header_front internet_header link_header udp_header datagram unnumbered cutting pieces_left fragments_at
@@ -90,11 +58,7 @@ cuts_both = record { whole = refl; both = refl; one = refl }
 
 pub turns_three_fragments : TurnsThreeFragments
 unfolding checksum addresses header_front internet_header link_header udp_header datagram unnumbered cutting fragments_at
-turns_three_fragments = record {
-  turned = refl;
-  other = λ same. let i : ◌≡◌ {A = ℕ} 32 64
-      = ap (λ (frames : List (List ℕ)). slice_index (get_or frames 0 []) 11) same in absurd (omega arith);
-}
+turns_three_fragments = search arith
 
 -- A property of each element of a list, for one that it contains.
 each : (P : Fragment → Type 0) (fs : List Fragment) (f : Fragment) → AllByRecursion P fs → Contains fs f → P f
@@ -149,13 +113,4 @@ one_changed = record {
 
 pub checks_three_datagrams : ChecksThreeDatagrams
 unfolding addresses datagram udp_checksum udp_header udp_sum
-checks_three_datagrams = record {
-  first = refl;
-  passes = refl;
-  changed = one_changed;
-  refused = λ passes. absurd (omega (arith, passes));
-  full = refl;
-  never_zero = λ is. let s = is.some in absurd (omega arith);
-  computed = refl;
-  none = λ passes. absurd (omega (arith, passes));
-}
+checks_three_datagrams = search (arith, one_changed)
