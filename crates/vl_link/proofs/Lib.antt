@@ -1,5 +1,4 @@
 pub mod Choosing
-pub mod ChosenSub
 pub mod Closing
 pub mod FragmentsLeft
 pub mod LinkTurn
@@ -9,5 +8,4 @@ pub mod PaceOfStream
 pub mod QueueLooks
 pub mod ShownTurns
 pub mod SubInStep
-pub mod SubKept
 pub mod TurnLaws

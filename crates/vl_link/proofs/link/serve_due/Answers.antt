@@ -1,6 +1,5 @@
 use Rattle.vl_link.proofs.Names.{◌∙◌, ap, sym, refl, inr, and_parts, append-nil, A, twin_same, log, log_same, link_stream}
-use Rattle.vl_link.proofs.SubInStep.{passed_same}
-use Rattle.vl_link.proofs.ChosenSub.{chosen_left, chosen_gives, frame_at, set_same, none_has}
+use Rattle.vl_link.proofs.SubInStep.{passed_same, chosen_left, chosen_gives, frame_at, set_same, none_has}
 use Rattle.vl_link.proofs.PaceOfStream.{follows_more, stream_more}
 use Rattle.vl_link.proofs.link.serve_due.Goals as goal
 

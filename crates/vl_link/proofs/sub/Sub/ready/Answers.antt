@@ -2,8 +2,7 @@ use Rattle.vl_link.proofs.Names.{ℕ, ◌≡◌, ◌∙◌, ◌%◌, ◌<◌, ap
 use Rattle.vl_link.proofs.Names.{TellsCutting, left_of, message_fragments, sent_of, IsPortOf, IsCutOf, seen_of}
 use Rattle.afdx_plan.specs.Config.{port_plan_at}
 use Rattle.vl_link.proofs.FragmentsLeft.{fragments_some}
-use Rattle.vl_link.proofs.QueueLooks.{item_of_more, same_nothing, same_ports, taken_nothing}
-use Rattle.vl_link.proofs.SubKept.{kept_as, kept_finds}
+use Rattle.vl_link.proofs.QueueLooks.{item_of_more, same_nothing, same_ports, taken_nothing, kept_as, kept_finds}
 use Rattle.vl_link.proofs.sub.Sub.ready.Goals as goal
 
 -- The message's port is one of the sub-VL's.
