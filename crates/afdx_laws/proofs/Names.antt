@@ -78,6 +78,5 @@ pub use Rattle.afdx_laws.specs.Receiver.{next_number, other, received, seen_on, 
 pub use Rattle.afdx_laws.specs.WorkedDelivery.{AcceptsEachOnce, BeginsOnBoth, ComesDespiteLoss, MasksOneLoss, NeedsALag}
 pub use Rattle.afdx_laws.specs.WorkedDelivery.{NeedsAStream, NeedsAWholeNetwork, NeedsHanding, NeedsNumbers}
 pub use Rattle.afdx_laws.specs.WorkedDelivery.{NeedsOneWhole, NeedsTheFirst, OneMessageArrives, bare_frame, bare_stream}
-pub use Rattle.afdx_laws.specs.WorkedDelivery.{both_frames, closed_receiver, far_behind, first_lost, four_arrivals}
-pub use Rattle.afdx_laws.specs.WorkedDelivery.{messages_despite, one_accepted, plain_receiver, same_twice, second_lost}
-pub use Rattle.afdx_laws.specs.WorkedDelivery.{three_arrivals, wide_receiver}
+pub use Rattle.afdx_laws.specs.WorkedDelivery.{both_frames, far_behind, first_lost, four_arrivals, one_accepted}
+pub use Rattle.afdx_laws.specs.WorkedDelivery.{plain_receiver, same_twice, second_lost, wide_receiver}

@@ -1,13 +1,12 @@
 -- The worked delivery, the worked runs of a receiver and the worked losses, by computation.
 use Rattle.afdx_laws.proofs.Names.{◌≡◌, ◌≤◌, ◌<◌, List, [], ◌∷◌, length, map, take, ◌+◌, ℕ, suc, false, nat_eq, refl, ap, sym, ◌∙◌, arith, max, Bool, true, not}
 use Rattle.afdx_laws.proofs.Names.{◌&&◌, ◌||◌, nat_lt, nat_le, cond, and_parts, nat_tests, slice_index, length-append, length-take, length-map}
-use Rattle.afdx_laws.proofs.Names.{All-from_recursion, demo_port_is, Net, A, B, Sent, fragments, sub_in, number_in, twin_of, those_with, begin, received}
-use Rattle.afdx_laws.proofs.Names.{carried, other, IsNear, IsLong, IsStream, AreCarried, AreWithin, StartsFirst, AreClose, same_net, one_lost, IsSent}
-use Rattle.afdx_laws.proofs.Names.{IsSending, AreFirst, messages_in, IsOfNet, IsHanded, AreHanded, one_accepted, both_frames, four_arrivals, three_arrivals}
-use Rattle.afdx_laws.proofs.Names.{plain_receiver, closed_receiver, OneMessageArrives, NeedsHanding, bare_frame, bare_stream, same_twice, far_behind}
-use Rattle.afdx_laws.proofs.Names.{wide_receiver, AcceptsEachOnce, NeedsNumbers, NeedsALag, NeedsAStream, second_lost, first_lost, messages_despite}
-use Rattle.afdx_laws.proofs.Names.{MasksOneLoss, NeedsTheFirst, BeginsOnBoth, ComesDespiteLoss, NeedsAWholeNetwork, NeedsOneWhole, checksum, cutting, addresses}
-use Rattle.afdx_laws.proofs.Names.{header_front, internet_header, link_header, udp_header, datagram, unnumbered, fragments_at}
+use Rattle.afdx_laws.proofs.Names.{All-from_recursion, demo_port_is, Net, A, B, Sent, fragments, sub_in, number_in, twin_of, those_with, begin, carried, other}
+use Rattle.afdx_laws.proofs.Names.{IsNear, IsLong, IsStream, AreCarried, AreWithin, StartsFirst, AreClose, same_net, one_lost, IsSent, IsSending, AreFirst}
+use Rattle.afdx_laws.proofs.Names.{IsOfNet, IsHanded, AreHanded, one_accepted, both_frames, four_arrivals, OneMessageArrives, NeedsHanding, bare_frame}
+use Rattle.afdx_laws.proofs.Names.{bare_stream, same_twice, far_behind, wide_receiver, AcceptsEachOnce, NeedsNumbers, NeedsALag, NeedsAStream, second_lost}
+use Rattle.afdx_laws.proofs.Names.{first_lost, MasksOneLoss, NeedsTheFirst, BeginsOnBoth, ComesDespiteLoss, NeedsAWholeNetwork, NeedsOneWhole, checksum}
+use Rattle.afdx_laws.proofs.Names.{cutting, addresses, header_front, internet_header, link_header, udp_header, datagram, unnumbered, fragments_at}
 use Rattle.afdx_laws.proofs.ListLemmas.{cons_parts, other_length, fails_by, needs_each}
 use Rattle.afdx_laws.proofs.Receiving.{exactly_once_holds}
 use Rattle.afdx_laws.proofs.Arriving.{messages_arrive_holds, despite_loss_holds}
@@ -76,31 +75,25 @@ whole_lost : {messages : List (List ℕ)} → messages ≡ [] → AreFirst 1 25 
 unfolding checksum addresses header_front internet_header link_header udp_header datagram unnumbered cutting fragments_at
 whole_lost none = too_few 1 none (omega arith) (omega arith) (omega arith)
 
-none_new : messages_in 0 (received number_in closed_receiver begin four_arrivals) ≡ []
-unfolding checksum addresses header_front internet_header link_header udp_header datagram unnumbered
-none_new = refl
-
-none_ahead : messages_in 0 (received number_in plain_receiver begin three_arrivals) ≡ []
-unfolding checksum addresses header_front internet_header link_header udp_header datagram unnumbered
-none_ahead = refl
-
 pub needs_handing : NeedsHanding
+unfolding checksum addresses header_front internet_header link_header udp_header datagram unnumbered
 needs_handing = needs_each
     (λ accepted tolerance arrivals.
     handed_arrive_holds 1 25 0 3 tolerance accepted (both_frames A) (both_frames B) arrivals)
     both_handed (omega arith)
     (record { on_a = ([], refl); on_b = ([], refl); near = few_are_near 3 four_arrivals (omega arith) })
-    (not_first one_message_arrives.message refl) (whole_lost none_new) (whole_lost none_ahead)
+    (not_first one_message_arrives.message refl) (whole_lost refl) (whole_lost refl)
 
 pub four_carried : AreCarried 3 (both_frames A) four_arrivals
 unfolding checksum addresses header_front internet_header link_header udp_header datagram unnumbered
 four_carried = record { on_a = ([], refl); on_b = ([], refl); near = few_are_near 3 four_arrivals (omega arith) }
 
 pub needs_a_stream : NeedsAStream
+unfolding checksum addresses header_front internet_header link_header udp_header datagram unnumbered
 needs_a_stream = needs_each
     (λ accepted tolerance arrivals. messages_arrive_holds 1 25 0 3 tolerance accepted A (both_frames A) arrivals)
     are_sent (omega arith) four_carried
-    (not_first one_message_arrives.message refl) (whole_lost none_new) (whole_lost none_ahead)
+    (not_first one_message_arrives.message refl) (whole_lost refl) (whole_lost refl)
 
 pub accepts_each_once : AcceptsEachOnce
 unfolding checksum addresses header_front internet_header link_header udp_header datagram unnumbered
@@ -194,22 +187,16 @@ pub comes_despite_loss : ComesDespiteLoss
 unfolding checksum addresses header_front internet_header link_header udp_header datagram unnumbered
 comes_despite_loss = refl
 
-none_checked : messages_despite 0 (both_frames A) second_lost ≡ []
-unfolding checksum addresses header_front internet_header link_header udp_header datagram unnumbered
-none_checked = refl
-
-none_after : messages_despite 1 (both_frames A) first_lost ≡ []
-unfolding checksum addresses header_front internet_header link_header udp_header datagram unnumbered
-none_after = refl
-
 pub needs_a_whole_network : NeedsAWholeNetwork
+unfolding checksum addresses header_front internet_header link_header udp_header datagram unnumbered
 needs_a_whole_network = needs_each
     (λ accepted check came. despite_loss_holds 1 25 0 check B accepted A (both_frames A) came)
     are_sent (omega arith) second_is_close
-    (not_first comes_despite_loss refl) (whole_lost none_checked) (whole_lost none_after)
+    (not_first comes_despite_loss refl) (whole_lost refl) (whole_lost refl)
 
 pub needs_one_whole : NeedsOneWhole
+unfolding checksum addresses header_front internet_header link_header udp_header datagram unnumbered
 needs_one_whole = needs_each
     (λ accepted check came. handed_despite_loss_holds 1 25 0 check B accepted (both_frames A) (both_frames B) came)
     both_handed (omega arith) second_is_close
-    (not_first comes_despite_loss refl) (whole_lost none_checked) (whole_lost none_after)
+    (not_first comes_despite_loss refl) (whole_lost refl) (whole_lost refl)
