@@ -195,3 +195,7 @@ IsAtTable z seat = seat.table_id ≡ z
 -- request is under way
 abbrev pub RestsAs : {T : Type 0} → TableId → Role → Seat (Option (ℕ × T)) (View T) → Type 0
 RestsAs z role seat = IsAtTable z seat × (seat.me.1 ≡ []) × (seat.me.0.role ≡ role) × (seat.me.0.stage ≡ Idle)
+
+-- the slot of a place, of so many slots
+abbrev pub IsSlotOf : (slots place slot : ℕ) → Type 0
+IsSlotOf slots place slot = (slot ≡ place % slots) × (slot < slots)

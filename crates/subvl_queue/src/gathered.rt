@@ -19,13 +19,15 @@ pub struct Gathered {
     pub(crate) ring: Arc<Ring>,
     pub(crate) seat: Knowing,
     pub(crate) taken: u64,
+    // The slot of the next place.
+    pub(crate) slot: usize,
     pub(crate) total: u64,
 }
 
 impl Model for Gathered {
     ghost use Rattle.std.specs.Prelude.{drop};
     ghost use Rattle.subvl_queue.specs.declared.rule.Role.TheVariants.{Receiver as AsReceiver};
-    ghost use Rattle.subvl_queue.specs.Queue.{RestsAs};
+    ghost use Rattle.subvl_queue.specs.Queue.{RestsAs, IsSlotOf};
     ghost use Rattle.subvl_queue.specs.Gathers.{items_of, IsGathered, whole};
     ghost use Rattle.subvl_queue.specs.Views.{GatheredView};
 
@@ -38,7 +40,7 @@ impl Model for Gathered {
     } };
 
     ghost invariant = { λ g. RestsAs g.ring.value.table.shared.table_id AsReceiver g.seat
-        × IsGathered g.taken g.total g.seat.me.0 };
+        × IsGathered g.taken g.total g.seat.me.0 × IsSlotOf g.ring.value.capacity g.taken g.slot };
 }
 
 impl Gathered {
@@ -54,7 +56,7 @@ impl Gathered {
         ensures message { IfSome result (λ item. IsMessage item.1) }
         ensures few { length self.new.taken ≤ 2 ^ 46 }
     {
-        let (port, message) = fetch(&self.ring, &mut self.seat, &mut self.taken)?;
+        let (port, message) = fetch(&self.ring, &mut self.seat, &mut self.taken, &mut self.slot)?;
         Some(Item {
             port: port as u8,
             bytes: message.bytes,

@@ -51,6 +51,7 @@ pub fn open_queue(alloc: Global, capacity: usize) -> Result<Receiver, AllocError
         seat,
         ports: 0,
         taken: 0,
+        slot: 0,
         total: None,
     })
 }

@@ -2,7 +2,7 @@
 ghost use Rattle.std.specs.Prelude.{◌≡◌, ◌+◌, ◌^◌, ◌<◌, ◌≤◌, [], length, IfOk, IfErr, IfSome, IfNone, None, Some, false};
 ghost use Rattle.subvl_queue.specs.declared.rule.Role.TheVariants.{Receiver as AsReceiver};
 ghost use Rattle.subvl_queue.specs.Messages.{IsMessage, AreItems};
-ghost use Rattle.subvl_queue.specs.Queue.{IsAtTable, RestsAs};
+ghost use Rattle.subvl_queue.specs.Queue.{IsAtTable, RestsAs, IsSlotOf};
 ghost use Rattle.subvl_queue.specs.Steps.{IsNext, with_look, freed_of, holding};
 ghost use Rattle.subvl_queue.specs.Views.{new_receiver, new_sender, one_more, after_take, looked, closed, taken_back, accepted_of, brought_by_all, AreBack, LacksOne, AreOf, IsWhole};
 
@@ -16,9 +16,10 @@ use std::marker::Model;
 use std::sync::Arc;
 
 /// The steps of one take.
-pub fn fetch(ring: &Ring, seat: &mut Knowing, taken: &mut u64) -> Option<Parcel>
+pub fn fetch(ring: &Ring, seat: &mut Knowing, taken: &mut u64, slot: &mut usize) -> Option<Parcel>
     requires seat { RestsAs ring.now.table.shared.table_id AsReceiver seat.old }
     requires taken { (taken.old ≡ length seat.old.me.0.taken) × (taken.old ≤ 2 ^ 46) }
+    requires slot { IsSlotOf ring.now.capacity taken.old slot.old }
     ensures seat { IsAtTable ring.now.table.shared.table_id seat.new × (seat.new.me.1 ≡ []) }
     ensures some { IfSome result
         (λ x. seat.new.me.0 ≡ freed_of (holding seat.old.me.0 taken.old x) x) }
@@ -27,14 +28,15 @@ pub fn fetch(ring: &Ring, seat: &mut Knowing, taken: &mut u64) -> Option<Parcel>
     ensures none { IfNone result (seat.new.me.0 ≡ with_look seat.old.me.0 false) }
     ensures unchanged { IfNone result (taken.new ≡ taken.old) }
     ensures ended { IfNone result (IfSome seat.old.me.0.all (λ l. length l ≤ taken.old)) }
+    ensures slot { IsSlotOf ring.now.capacity taken.new slot.new }
 {
     let place = *taken;
-    let slot = ring.slot_of(place);
-    if !ring.look(seat, place, slot) {
+    if !ring.look(seat, place, *slot) {
         return None;
     }
-    let parcel = ring.free(seat, slot);
+    let parcel = ring.free(seat, *slot);
     *taken += 1;
+    *slot = ring.slot_after(*slot);
     Some(parcel)
 }
 
@@ -47,13 +49,15 @@ pub struct Receiver {
     pub(crate) seat: Knowing,
     pub(crate) ports: usize,
     pub(crate) taken: u64,
+    // The slot of the next place.
+    pub(crate) slot: usize,
     pub(crate) total: Option<u64>,
 }
 
 impl Model for Receiver {
     ghost use Rattle.std.specs.Prelude.{◌≡◌, ◌^◌, ◌≤◌, [], length, None, IfSome};
     ghost use Rattle.subvl_queue.specs.declared.rule.Role.TheVariants.{Receiver as AsReceiver};
-    ghost use Rattle.subvl_queue.specs.Queue.{RestsAs};
+    ghost use Rattle.subvl_queue.specs.Queue.{RestsAs, IsSlotOf};
     ghost use Rattle.subvl_queue.specs.Gathers.{items_of, brought_back};
     ghost use Rattle.subvl_queue.specs.Views.{ReceiverView};
 
@@ -73,7 +77,7 @@ impl Model for Receiver {
     ghost invariant = { λ r. RestsAs r.ring.value.table.shared.table_id AsReceiver r.seat
         × (r.seat.me.0.made ≡ r.ports) × (r.ports ≤ 64) × (r.taken ≡ length r.seat.me.0.taken) × (r.taken ≤ 2 ^ 46)
         × (r.seat.me.0.total ≡ r.total) × IfSome r.total (λ t. r.taken ≤ t)
-        × (r.seat.me.0.all ≡ None) };
+        × (r.seat.me.0.all ≡ None) × IsSlotOf r.ring.value.capacity r.taken r.slot };
 }
 
 impl Receiver {
@@ -113,7 +117,7 @@ impl Receiver {
         ensures few { length self.new.taken ≤ 2 ^ 46 }
         ensures within { IfSome self.old.total (λ t. length self.new.taken ≤ t) }
     {
-        let (port, message) = fetch(&self.ring, &mut self.seat, &mut self.taken)?;
+        let (port, message) = fetch(&self.ring, &mut self.seat, &mut self.taken, &mut self.slot)?;
         Some(Item {
             port: port as u8,
             bytes: message.bytes,
@@ -161,6 +165,7 @@ impl Receiver {
             mut seat,
             ports: _,
             taken,
+            slot,
             total,
         } = self;
         let drawn = ring.gather(&mut seat);
@@ -172,6 +177,7 @@ impl Receiver {
             ring,
             seat,
             taken,
+            slot,
             total,
         }
     }

@@ -93,6 +93,16 @@ impl Ring {
         (place % self.capacity as u64) as usize
     }
 
+    /// The slot after one, that of the next place.
+    pub fn slot_after(&self, slot: usize) -> usize
+        requires { slot < self.now.capacity }
+        ensures value { result ≡ (slot + 1) % self.now.capacity }
+        ensures within { result < self.now.capacity }
+    {
+        let capacity = self.capacity;
+        if slot + 1 < capacity { slot + 1 } else { 0 }
+    }
+
     /// Puts the parcel into the slot of its place, and makes it ready.
     pub fn ready(&self, seat: &mut Knowing, place: u64, parcel: Parcel)
         requires seat { IsAtTable self.now.table.shared.table_id seat.old × (place < 2 ^ 63) }

@@ -18,7 +18,7 @@ pub struct Stamp {
 /// and which sequence number is next (ARINC 664 Part 7, end system, virtual link scheduling).
 #[derive(Drop)]
 pub struct Shaper {
-    // No moment before it is due.
+    // It is not due before this moment.
     from: u64,
     gap: u64,
     sub_vls: u8,

@@ -1,4 +1,5 @@
-use Rattle.subvl_queue.proofs.Names.{ap, ◌∙◌, ◌%◌, ◌∷◌, [], subst, sym, ◌≡◌, Option, Some, holding, freed_of, IsNext}
+use Rattle.std.proofs.Math.Nat.{mod-add-mod}
+use Rattle.subvl_queue.proofs.Names.{ap, ◌∙◌, ◌+◌, ◌%◌, ◌∷◌, [], subst, sym, ◌≡◌, Option, Some, holding, freed_of, IsNext}
 use Rattle.subvl_queue.proofs.receiver.fetch.Goals as goal
 
 same_item : {A : Type 0} (x y : A) (o : Option A) → o ≡ Some x → o ≡ Some y → x ≡ y
@@ -7,11 +8,11 @@ same_item x y o e f = cc
 pub free-parcel-requires-clause-slot : goal.free-parcel-requires-clause-slot
 free-parcel-requires-clause-slot c =
     let found = c.look.ensures.found c.if-not-look.false in
-    (found.0, ap (λ m. m.1) found.1.1 ∙ (λ k. (sym c.slot_of-slot.ensures.0 k, Some found.0) ∷ []), ap (λ m. m.0.item) found.1.1)
+    (found.0, ap (λ m. m.1) found.1.1 ∙ (λ k. (sym c.requires.slot.0 k, Some found.0) ∷ []), ap (λ m. m.0.item) found.1.1)
 
 pub free-parcel-requires-clause-place : goal.free-parcel-requires-clause-place
 free-parcel-requires-clause-place c =
-    ap (λ m. m.0.at % c.args.ring.now.capacity) (c.look.ensures.found c.if-not-look.false).1.1 ∙ sym c.slot_of-slot.ensures.0
+    ap (λ m. m.0.at % c.args.ring.now.capacity) (c.look.ensures.found c.if-not-look.false).1.1 ∙ sym c.requires.slot.0
 
 pub returns-clause-next : goal.returns-clause-next
 returns-clause-next c =
@@ -24,3 +25,10 @@ returns-clause-some c =
     let same = same_item _ _ _ (ap (λ m. m.0.item) me) c.free-parcel.ensures.item in
     ap (λ m. m.0) c.free-parcel.ensures.view ∙ (λ k. freed_of (me k).0 c.free-parcel.result)
     ∙ ap (λ x. freed_of (holding c.args.seat.now.me.0 c.args.taken.now x) c.free-parcel.result) same
+
+pub returns-clause-slot : goal.returns-clause-slot
+returns-clause-slot c = (
+  c.slot_after.ensures.value ∙ ap (λ slot. (slot + 1) % c.args.ring.now.capacity) c.requires.slot.0
+      ∙ mod-add-mod c.args.taken.now c.args.ring.now.capacity 1,
+  c.slot_after.ensures.within,
+)

@@ -9,7 +9,7 @@ invariant_of-self-2 c =
     let x : ℕ × Message = (c.in_ok-port.port, c.in_ok-port.message) in
     let got = c.in_ok-port.ensures in
     let at = next_listed _ v x kept.1.all got.next.listed in
-    ((search rules, got.seat.1, ap (λ u. u.role) got.some ∙ kept.0.2, ap (λ u. u.stage) got.some), goes_on _ _ _ v _ x kept.1 got.some at got.counted)
+    ((search rules, got.seat.1, ap (λ u. u.role) got.some ∙ kept.0.2, ap (λ u. u.stage) got.some), goes_on _ _ _ v _ x kept.1 got.some at got.counted, (search rules, search rules))
 
 pub returns-clause-some : goal.returns-clause-some
 returns-clause-some c =
