@@ -4,8 +4,9 @@
 
    Both send the same messages and make the same frames, which is checked first. Then each work is measured in turn, the
    library and the other, ROUNDS times each (11 by default), and one line is printed: the least nanoseconds of each, the
-   ratio of these, and the least, median and greatest ratio of a repetition. The last lines have the time of one poll of 64
-   virtual links that are all due, as a distribution. The exit status is 0 if the frames were equal. */
+   ratio of these, and the least, median and greatest ratio of a repetition. Below are the time of a call that only looks
+   into its handle, and that of one poll of 64 virtual links that are all due, as a distribution. The exit status is 0 if
+   the frames were equal. */
 #define _GNU_SOURCE
 #include "afdx.h"
 #include "hand.h"
@@ -275,6 +276,23 @@ static void compare(const struct work *work, unsigned rounds) {
     fflush(stdout);
 }
 
+/* A call that does nothing but look into its handle: what each call of the C library costs before its own work. */
+static void handle_alone(unsigned rounds) {
+    enum { CALLS = 200000 };
+    static struct side sides[2];
+    double least = 0;
+    open_both(sides, (struct plan){1, 1518, 2, 1, GREATEST});
+    for (unsigned k = 0; k < rounds; k++) {
+        uint64_t count = 0;
+        double begun = now_ns();
+        for (unsigned j = 0; j < CALLS; j++) want(afdx_accepted(&sides[0].ports[0], &count) == 0, "a port is refused");
+        double time = (now_ns() - begun) / CALLS;
+        if (k == 0 || time < least) least = time;
+    }
+    close_both(sides);
+    printf("\nA call that only looks into its handle (afdx_accepted): %.1f ns, the least of %u.\n", least, rounds);
+}
+
 /* One poll of 64 links that are due, each with a frame of 1,514 bytes: half of the polls, 99 % and so on take at most. */
 static void distribution(unsigned polls) {
     static struct side sides[2];
@@ -303,6 +321,7 @@ int main(int count, char **words) {
     printf("| %-34s | %9s | %9s | %5s | %5s | %5s | %5s |\n", "nanoseconds", "library", "by hand", "ratio", "least", "half", "most");
     printf("|---|---|---|---|---|---|---|\n");
     for (size_t k = 0; k < sizeof WORKS / sizeof *WORKS; k++) compare(&WORKS[k], rounds);
+    handle_alone(rounds);
     printf("\n| %-34s | %7s | %7s | %7s | %7s |\n|---|---|---|---|---|\n", "microseconds of a poll, 64 links due", "half", "99 %", "99.99 %", "most");
     distribution(rounds < 11 ? 1000 : 1000000);
     return 0;
