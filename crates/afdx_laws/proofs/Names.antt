@@ -57,8 +57,8 @@ pub use Rattle.afdx_legal.specs.Streams.{IsNumbered, IsPrefixOf, IsSpaced, entry
 pub use Rattle.afdx_legal.specs.Streams.{sub_stream, those_with, told, told_of}
 pub use Rattle.afdx_laws.specs.Buffers.{FirstIsGiven, HandedNeedOne, HasUpTo, HoldsAFrame, HoldsOne, IsOneEnough}
 pub use Rattle.afdx_laws.specs.Buffers.{LegalNeedOne, LegalNeedOneDespite, NeedsInTurn, NeedsOrder, OneBuffer}
-pub use Rattle.afdx_laws.specs.Buffers.{buffers_after, eight_bytes, five_fragments, one_without_bytes, piece}
-pub use Rattle.afdx_laws.specs.Buffers.{second_came, two_begun, two_datagrams}
+pub use Rattle.afdx_laws.specs.Buffers.{buffers_after, eight_bytes, one_without_bytes, piece, second_came, two_begun}
+pub use Rattle.afdx_laws.specs.Buffers.{two_datagrams}
 pub use Rattle.afdx_laws.specs.Delivery.{AreCarriedOf, AreFirst, AreGiven, AreHanded, DespiteLoss, HandedArrive}
 pub use Rattle.afdx_laws.specs.Delivery.{HandedDespiteLoss, HasByte, InOrder, IsHanded, IsLinkOf, IsOfNet, IsSending}
 pub use Rattle.afdx_laws.specs.Delivery.{IsSent, MessagesArrive, delivered, fragment_in, given, kept_in, keyed, longer}

@@ -2,13 +2,13 @@
 use Rattle.afdx_laws.proofs.Names.{◌≡◌, ℕ, true, [], ◌∷◌, refl, sym, ◌∙◌, arith, ◌≤◌, Bool, false, nat_eq, List, length, map, ap, ◌<◌, false≢true}
 use Rattle.afdx_laws.proofs.Names.{All-from_recursion, All-contains, if◌then◌else◌, All, Contains, AllZip, port_plan_at, IsPlan, HasLink, IsLink, Networks}
 use Rattle.afdx_laws.proofs.Names.{Both, OnlyA, demo_valid, Net, A, B, Sent, names, link_stream, Accepted, IsKnown, IsLegalOn, IsLegal, IsAllowed, messages_of}
-use Rattle.afdx_laws.proofs.Names.{by_frames, IsOnItsWay, AreClose, AreCarriedOf, frames_of, IsOn, IsOnBoth, IsHandedOver, plain_receiver, checksum, cutting}
+use Rattle.afdx_laws.proofs.Names.{by_frames, IsOnItsWay, AreCarriedOf, frames_of, IsOn, IsOnBoth, IsHandedOver, plain_receiver, checksum, cutting}
 use Rattle.afdx_laws.proofs.Names.{fragments_at, addresses, header_front, internet_header, link_header, udp_header, datagram, unnumbered}
 use Rattle.afdx_plan.specs.Demo.{demo_plan, demo_port, demo_link}
 use Rattle.afdx_plan.specs.declared.identifiers.Kind.TheVariants.{Sampling, Queuing}
 use Rattle.afdx_plan.specs.declared.port_plan.PortPlan.{PortPlan}
 use Rattle.afdx_legal.specs.WorkedMessage.{one_byte_accepted, one_frame, one_byte}
-use Rattle.afdx_laws.specs.WorkedPlan.{one_entry, two_arrivals, OneIsLegal, only_lost, LegalDespiteOneLoss, one_own, other_own, OwnComes, OneIsWhole, NeedsAll, demo_on, ComesFromOne, AreTwinsOfOne, two_accepted, swapped_accepted, second_frame, pair_at, two_entries, longer_pair, PairHanded, AreSwapped, both_arrive, PairArrives, NeedsLegal, both_from_b, NeedsClose, pair_passes, PassesAGapApart}
+use Rattle.afdx_laws.specs.WorkedPlan.{one_entry, two_arrivals, OneIsLegal, only_lost, LegalDespiteOneLoss, one_own, other_own, OwnComes, OneIsWhole, NeedsAll, demo_on, ComesFromOne, AreTwinsOfOne, two_accepted, swapped_accepted, second_frame, pair_at, two_entries, PairHanded, AreSwapped, both_arrive, PairArrives, NeedsLegal, both_from_b, NeedsClose, pair_passes, PassesAGapApart}
 use Rattle.afdx_laws.proofs.AllOnBoth.{all_on_both_holds}
 use Rattle.afdx_laws.proofs.LegalLinks.{legal_arrive_holds, legal_despite_loss_holds}
 use Rattle.afdx_laws.proofs.LegalSpacing.{legal_passes_holds}
@@ -260,17 +260,13 @@ needs_legal = record {
       two_handed (omega arith) pair_carried swapped_lost (too_few 2 refl (omega arith) (omega arith) (omega arith)) (not_first refl refl);
 }
 
-pair_is_close : AreClose B (length longer_pair) 0 0 both_from_b
-unfolding checksum addresses header_front internet_header link_header udp_header datagram unnumbered
-pair_is_close = close_by_test both_from_b B 2 refl refl
-
 pub needs_close : NeedsClose
 unfolding checksum addresses header_front internet_header link_header udp_header datagram unnumbered cutting fragments_at
 needs_close = record {
   swapped = are_swapped;
   each = needs_each
       (λ accepted check came. legal_despite_loss_holds demo_plan accepted _ _ 0 0 check B came)
-      two_handed (omega arith) pair_is_close (not_first refl refl) (too_few 2 refl (omega arith) (omega arith) (omega arith)) (not_first refl refl);
+      two_handed (omega arith) (close_by_test both_from_b B 2 refl refl) (not_first refl refl) (too_few 2 refl (omega arith) (omega arith) (omega arith)) (not_first refl refl);
 }
 
 pair_way : (now : ℕ) → AllZip (IsOnItsWay 0 0) (link_stream 1 (pair_at now A)) (pair_passes 0 now now)

@@ -1,25 +1,19 @@
 -- The worked reassembly and its buffers, by computation.
-use Rattle.afdx_laws.proofs.Names.{ℕ, ◌≤◌, false, [], ◌∷◌, length, take, refl, arith, ◌≡◌, inl, inr, ap, sym, true, All, Some, None, cases_eq}
-use Rattle.afdx_laws.proofs.Names.{All-from_recursion, A, B, Buffer, empty, HasByte, of_sub, sent_from, buffers_after, HoldsOne, HasUpTo, one_accepted}
-use Rattle.afdx_laws.proofs.Names.{both_frames, four_arrivals, plain_receiver, checksum, cutting, addresses, header_front, internet_header, link_header}
-use Rattle.afdx_laws.proofs.Names.{udp_header, datagram, unnumbered, two_datagrams, five_fragments, second_came, one_without_bytes, eight_bytes, piece}
-use Rattle.afdx_laws.proofs.Names.{FirstIsGiven, NeedsOrder, two_begun, NeedsInTurn, HoldsAFrame}
+use Rattle.afdx_laws.proofs.Names.{ℕ, ◌≤◌, false, [], ◌∷◌, length, refl, arith, ◌≡◌, inl, inr, ap, sym, true, All, Some, None, cases_eq, All-from_recursion, A}
+use Rattle.afdx_laws.proofs.Names.{B, Buffer, empty, HasByte, buffers_after, HoldsOne, HasUpTo, one_accepted, both_frames, four_arrivals, plain_receiver}
+use Rattle.afdx_laws.proofs.Names.{checksum, cutting, addresses, header_front, internet_header, link_header, udp_header, datagram, unnumbered, two_datagrams}
+use Rattle.afdx_laws.proofs.Names.{second_came, one_without_bytes, eight_bytes, piece, FirstIsGiven, NeedsOrder, two_begun, NeedsInTurn, HoldsAFrame}
 use Rattle.afdx_laws.proofs.ListLemmas.{fails_by}
 use Rattle.afdx_laws.proofs.InOrder.{in_order_holds}
 use Rattle.afdx_laws.proofs.OneBuffer.{one_buffer, handed_need_one}
 use Rattle.afdx_laws.proofs.WorkedMessage.{not_front, both_handed, needs_handing}
-
-first_alone : (j : ℕ) → j ≤ length two_datagrams
-    → length (sent_from 8 0 0 (take j two_datagrams)) ≤ length (of_sub 0 five_fragments) → j ≤ 1
-unfolding cutting
-first_alone j few enough = grind arith
 
 two_some : All HasByte two_datagrams
 two_some = All-from_recursion HasByte two_datagrams (omega arith)
 
 pub first_is_given : FirstIsGiven
 unfolding cutting
-first_is_given = record { some = two_some; first = (piece 4 1 false 29 4 ∷ [], refl); given = refl; all = first_alone }
+first_is_given = record { some = two_some; first = (piece 4 1 false 29 4 ∷ [], refl); given = refl; all = λ j few enough. grind arith }
 
 pub needs_order : NeedsOrder
 unfolding cutting

@@ -10,10 +10,9 @@ pub use Rattle.std.proofs.lemmas.List.{append-nil, append_assoc, get_or_default,
 pub use Rattle.std.proofs.lemmas.List.{map-append, take-append-drop}
 pub use Rattle.std.proofs.lemmas.List.Elements.{All-cons, All-contains, All-drop, All-from_recursion, All-head, All-nil}
 pub use Rattle.std.proofs.lemmas.List.Elements.{All-tail, All-weaker, filter-append}
-pub use Rattle.std.proofs.lemmas.List.Sums.{sum_by-cons}
 pub use Rattle.std.proofs.lemmas.Nat.{mul-le}
 pub use Rattle.std.proofs.lemmas.Result.{on_ok_weaker}
-pub use Rattle.std.specs.Prelude.{All, Contains}
+pub use Rattle.std.specs.Prelude.{All, Contains, slice_index}
 pub use native.Mathlib.Nat.{mul-suc, suc-mul}
 pub use Rattle.afdx_plan.specs.Config.{HasLink, IsPlan, Plan, link_plan_at, port_plan_at}
 pub use Rattle.afdx_plan.specs.Places.{link_place}
@@ -26,9 +25,10 @@ pub use Rattle.afdx_frame.specs.Cutting.{cut_by, pieces_from}
 unfoldable pub use Rattle.afdx_frame.specs.Cutting.{cutting}
 pub use Rattle.afdx_frame.specs.Fragments.{Sent, blanked, fragments_from}
 unfoldable pub use Rattle.afdx_frame.specs.Fragments.{fragments_at}
+pub use Rattle.afdx_frame.specs.Frame.{interface_byte}
 unfoldable pub use Rattle.afdx_frame.specs.Frame.{addresses, datagram, header_front, internet_header, link_header}
 unfoldable pub use Rattle.afdx_frame.specs.Frame.{udp_header, unnumbered}
-pub use Rattle.afdx_frame.specs.Header.{IsFrameOf, sub_in}
+pub use Rattle.afdx_frame.specs.Header.{link_in, number_in, sub_in}
 pub use Rattle.afdx_frame.specs.declared.net.Net.TheVariants.{A}
 pub use Rattle.redundant_mux.proofs.Enduring.{both_none, both_on, stood_before}
 pub use Rattle.redundant_mux.specs.Entry.{Entry, entry}

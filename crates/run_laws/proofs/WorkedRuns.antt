@@ -2,10 +2,11 @@
 use Rattle.run_laws.proofs.Names.{◌≡◌, ℕ, ◌+◌, ◌<◌, ◌≤◌, ◌⊎◌, List, [], ◌∷◌, ◌++◌, length, Bool, true, false, ◌&&◌, refl, ap, sym, ◌∙◌, arith, inl, inr, Some}
 use Rattle.run_laws.proofs.Names.{false≢true, length-append, All-from_recursion, A, checksum, cutting, fragments_at, blanked, Sent, addresses, header_front}
 use Rattle.run_laws.proofs.Names.{internet_header, link_header, udp_header, datagram, unnumbered, Entry, entry, Lines, Endures, BothEndure, log, stands_for}
-use Rattle.run_laws.proofs.Names.{IsFrameOf, LinkPlan, may_release, is_due, turn_of, IsAllowed, AreAllowed, Served, Nothing, Released, Lost, Drains, pace_in}
-use Rattle.run_laws.proofs.Names.{stream_at, link_wait, EmitterPolls, DrainPolls, AreRuns, ComesBy, cons_parts, below_one, below_both, both_at, lost_line}
-use Rattle.run_laws.proofs.Names.{NeedsARun, small_link, small_plan, message_accepted, front_line, both_lines, front_entry, ComesInRun}
-use Rattle.afdx_legal.specs.Done.{IsReleased, Owes}
+use Rattle.run_laws.proofs.Names.{LinkPlan, may_release, is_due, turn_of, IsAllowed, AreAllowed, Served, Nothing, Released, Lost, Drains, pace_in, stream_at}
+use Rattle.run_laws.proofs.Names.{link_wait, EmitterPolls, DrainPolls, AreRuns, ComesBy, cons_parts, below_one, below_both, both_at, lost_line, NeedsARun}
+use Rattle.run_laws.proofs.Names.{small_link, small_plan, message_accepted, front_line, both_lines, front_entry, ComesInRun, slice_index, link_in, sub_in}
+use Rattle.run_laws.proofs.Names.{number_in, interface_byte}
+use Rattle.afdx_legal.specs.Done.{Owes}
 use Rattle.afdx_plan.specs.declared.networks.Networks.TheVariants.{Both}
 use Rattle.redundant_mux.specs.Logged.{logged_for}
 use Rattle.afdx_laws.specs.WorkedDelivery.{back_frame}
@@ -15,14 +16,6 @@ use Rattle.run_laws.proofs.NextRun.{next_in_run_holds}
 each_allowed : AreAllowed small_plan message_accepted
 each_allowed = below_both _ _ refl (All-from_recursion (IsAllowed small_plan 0 0) (message_accepted 0 0)
     (record { port = (0, omega arith, refl); over = refl; its = refl; some = omega arith; most = omega arith }, tt))
-
-owes : Owes 1 small_link (message_accepted 0) (log front_line) 0
-unfolding log checksum addresses header_front internet_header link_header udp_header datagram unnumbered cutting fragments_at
-owes = record { left = blanked (back_frame A) ∷ []; some = λ e. cc; ahead = refl }
-
-released : IsReleased 1 small_link (message_accepted 0) (log both_lines) 0
-unfolding log checksum addresses header_front internet_header link_header udp_header datagram unnumbered cutting fragments_at
-released = refl
 
 pub takes : (old new : List Entry) → Endures true true old new 0 0
 takes old new = record {
@@ -44,15 +37,16 @@ fails handed = record {
 pub releases : (now number : ℕ) (link : LinkPlan) (accepted : ℕ → List Sent) (lines after : Lines) (frame : List ℕ)
     → may_release now link (pace_in link (log lines)) lines ≡ true → number ≡ (pace_in link (log lines)).next
     → 0 < link.sub_vls → 0 ≡ turn_of link.sub_vls (pace_in link (log lines)).last 0 → Owes 1 link accepted (log lines) 0
-    → IsFrameOf link.id.0 0 number A frame → after.logged ≡ lines.logged ++ logged_for link.networks (entry now frame) ∷ []
+    → length frame ≡ 60 → link_in frame ≡ link.id.0 → sub_in frame ≡ 0 → number_in frame ≡ number → slice_index frame 11 ≡ interface_byte A
+    → after.logged ≡ lines.logged ++ logged_for link.networks (entry now frame) ∷ []
     → stands_for link.networks after ≡ true → BothEndure lines after → Drains now 1 link accepted lines after (Released 0 number)
-releases now number link accepted lines after frame may next some is owed of enters stands endure = (
+releases now number link accepted lines after frame may next some is owed size own sub carries interface enters stands endure = (
   may,
   next,
   record {
     frame = frame;
     choice = record { turn = 0; within = some; is = is; chosen = owed; before = λ k lt. absurd (omega arith); others = λ s other. tt };
-    of = of;
+    of = record { size = omega arith; link = own; of_sub = sub; carries = carries; interface = interface };
     enters = enters;
     stands = stands;
     endure = endure;
@@ -62,11 +56,10 @@ releases now number link accepted lines after frame may next some is owed of ent
 -- the first poll that may release a frame transmits it
 back_turn : (now : ℕ) → is_due 1000 (Some (record { at = 0; sub = 0 })) now ≡ true
     → Drains now 1 small_link (message_accepted 0) front_line (both_at now) (Released 0 1)
-unfolding log checksum addresses header_front internet_header link_header udp_header datagram unnumbered
+unfolding log checksum addresses header_front internet_header link_header udp_header datagram unnumbered cutting fragments_at
 back_turn now due = releases now 1 small_link (message_accepted 0) front_line (both_at now) (back_frame A)
-    (ap (λ (t : Bool). t && true) due) refl (omega arith) refl owes
-    (record { size = let size : length (back_frame A) ≡ 60 = refl in omega arith; link = refl; of_sub = refl; carries = refl; interface = refl })
-    refl refl (record { a = takes _ _; b = takes _ _ })
+    (ap (λ (t : Bool). t && true) due) refl (omega arith) refl
+    (record { left = blanked (back_frame A) ∷ []; some = λ e. cc; ahead = refl }) refl refl refl refl refl refl refl (record { a = takes _ _; b = takes _ _ })
 
 lost_turn : Drains 1000 1 small_link (message_accepted 0) front_line lost_line Lost
 unfolding log checksum addresses header_front internet_header link_header udp_header datagram unnumbered
@@ -82,23 +75,16 @@ lost_turn = (
   },
 )
 
-down_turn : Drains 2000 1 small_link (message_accepted 0) lost_line lost_line Nothing
-unfolding log checksum addresses header_front internet_header link_header udp_header datagram unnumbered
-down_turn = (inl (refl, λ s. tt), refl)
-
-second_turn : Drains 2000 1 small_link (message_accepted 0) both_lines both_lines Nothing
-unfolding log checksum addresses header_front internet_header link_header udp_header datagram unnumbered
-second_turn = (inr (refl, record { each = below_one _ released; others = λ s le. tt }), refl)
-
 a_poll : (now : ℕ) (lines after : Lines) (did : Served) → Drains now 1 small_link (message_accepted 0) lines after did
     → EmitterPolls small_plan now lines after ⊎ DrainPolls small_plan now lines after
 a_poll now lines after did turn = inr (record { accepted = message_accepted; allowed = each_allowed; run = (after, did, turn, refl) })
 
 two_polls : AreRuns small_plan (1000 ∷ 2000 ∷ []) front_line both_lines
+unfolding log checksum addresses header_front internet_header link_header udp_header datagram unnumbered cutting fragments_at
 two_polls = (
   both_lines,
   a_poll 1000 front_line both_lines (Released 0 1) (back_turn 1000 refl),
-  (both_lines, a_poll 2000 both_lines both_lines Nothing second_turn, refl),
+  (both_lines, a_poll 2000 both_lines both_lines Nothing (inr (refl, record { each = below_one _ refl; others = λ s le. tt }), refl), refl),
 )
 
 -- after it alone nothing comes
@@ -162,7 +148,7 @@ needs_a_run = record {
         omega arith;
   };
   lost = record {
-    runs = (lost_line, a_poll 1000 front_line lost_line Lost lost_turn, (lost_line, a_poll 2000 lost_line lost_line Nothing down_turn, refl));
+    runs = (lost_line, a_poll 1000 front_line lost_line Lost lost_turn, (lost_line, a_poll 2000 lost_line lost_line Nothing (inl (refl, λ s. tt), refl), refl));
     is_up = λ up. false≢true up;
     comes = omega arith;
     reaches = omega arith;

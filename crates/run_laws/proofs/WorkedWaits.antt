@@ -43,23 +43,20 @@ second_turn : Drains 1000 1 tight_link (tight_accepted 0) (tight_lines one_shown
 unfolding log checksum addresses header_front internet_header link_header udp_header datagram unnumbered cutting fragments_at
 second_turn = releases 1000 1 tight_link (tight_accepted 0) (tight_lines one_shown) (tight_lines two_shown) (tight_frame 0 24 1 A) refl refl (omega arith) refl
     (record { left = blanked (tight_frame 0 24 1 A) ∷ blanked (tight_frame 1 0 2 A) ∷ blanked (tight_frame 1 24 3 A) ∷ []; some = λ e. cc; ahead = refl })
-    (record { size = let size : length (tight_frame 0 24 1 A) ≡ 60 = refl in omega arith; link = refl; of_sub = refl; carries = refl; interface = refl })
-    refl refl (record { a = takes _ _; b = takes _ _ })
+    refl refl refl refl refl refl refl (record { a = takes _ _; b = takes _ _ })
 
 third_turn : Drains 2000 1 tight_link (tight_accepted 0) (tight_lines two_shown) (tight_lines three_shown) (Released 0 2)
 unfolding log checksum addresses header_front internet_header link_header udp_header datagram unnumbered cutting fragments_at
 third_turn = releases 2000 2 tight_link (tight_accepted 0) (tight_lines two_shown) (tight_lines three_shown) (tight_frame 1 0 2 A) refl refl (omega arith) refl
     (record { left = blanked (tight_frame 1 0 2 A) ∷ blanked (tight_frame 1 24 3 A) ∷ []; some = λ e. cc; ahead = refl })
-    (record { size = let size : length (tight_frame 1 0 2 A) ≡ 60 = refl in omega arith; link = refl; of_sub = refl; carries = refl; interface = refl })
-    refl refl (record { a = takes _ _; b = takes _ _ })
+    refl refl refl refl refl refl refl (record { a = takes _ _; b = takes _ _ })
 
 fourth_turn : (last : ℕ) → is_due 1000 (Some (record { at = 2000; sub = 0 })) last ≡ true
     → Drains last 1 tight_link (tight_accepted 0) (tight_lines three_shown) (tight_lines (four_shown last)) (Released 0 3)
 unfolding log checksum addresses header_front internet_header link_header udp_header datagram unnumbered cutting fragments_at
 fourth_turn last due = releases last 3 tight_link (tight_accepted 0) (tight_lines three_shown) (tight_lines (four_shown last)) (tight_frame 1 24 3 A) (ap (λ (t : Bool). t && true) due) refl (omega arith) refl
     (record { left = blanked (tight_frame 1 24 3 A) ∷ []; some = λ e. cc; ahead = refl })
-    (record { size = let size : length (tight_frame 1 24 3 A) ≡ 60 = refl in omega arith; link = refl; of_sub = refl; carries = refl; interface = refl })
-    refl refl (record { a = takes _ _; b = takes _ _ })
+    refl refl refl refl refl refl refl (record { a = takes _ _; b = takes _ _ })
 
 run_to : (last : ℕ) → is_due 1000 (Some (record { at = 2000; sub = 0 })) last ≡ true
     → AreFinding tight_plan tight_accepted 0 0 4 (1000 ∷ 2000 ∷ last ∷ []) (tight_lines one_shown) (tight_lines (four_shown last))
