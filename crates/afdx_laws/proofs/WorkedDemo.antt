@@ -8,7 +8,7 @@ use Rattle.afdx_plan.specs.Demo.{demo_plan, demo_port, demo_link}
 use Rattle.afdx_plan.specs.declared.identifiers.Kind.TheVariants.{Sampling, Queuing}
 use Rattle.afdx_plan.specs.declared.port_plan.PortPlan.{PortPlan}
 use Rattle.afdx_legal.specs.WorkedMessage.{one_byte_accepted, one_frame, one_byte}
-use Rattle.afdx_laws.specs.WorkedPlan.{one_entry, two_arrivals, OneIsLegal, only_lost, LegalDespiteOneLoss, one_own, other_own, OwnComes, OneIsWhole, NeedsAll, demo_on, ComesFromOne, AreTwinsOfOne, two_accepted, swapped_accepted, second_frame, pair_at, two_entries, PairHanded, AreSwapped, both_arrive, PairArrives, NeedsLegal, both_from_b, NeedsClose, pair_passes, PassesAGapApart}
+use Rattle.afdx_laws.specs.WorkedPlan.{one_entry, two_arrivals, OneIsLegal, only_lost, LegalDespiteOneLoss, one_own, other_own, OwnComes, OneIsWhole, NeedsAll, demo_on, ComesFromOne, AreTwinsOfOne, two_accepted, swapped_accepted, pair_at, two_entries, PairHanded, AreSwapped, both_arrive, PairArrives, NeedsLegal, both_from_b, NeedsClose, pair_passes, PassesAGapApart}
 use Rattle.afdx_laws.proofs.AllOnBoth.{all_on_both_holds}
 use Rattle.afdx_laws.proofs.LegalLinks.{legal_arrive_holds, legal_despite_loss_holds}
 use Rattle.afdx_laws.proofs.LegalSpacing.{legal_passes_holds}
@@ -198,14 +198,10 @@ are_twins_of_one = record {
   cut = refl;
 }
 
-second_known : (net : Net) → IsKnown demo_plan.links net (second_frame net)
-unfolding checksum addresses header_front internet_header link_header udp_header datagram unnumbered
-second_known net = record { size = omega arith; k = 0; within = omega arith; link = refl; of_sub = omega arith; interface = refl }
-
 pair_legal_on : (net : Net) → IsLegalOn demo_plan two_accepted net (two_entries net)
 unfolding checksum addresses header_front internet_header link_header udp_header datagram unnumbered cutting fragments_at
 pair_legal_on net = record {
-  known = (one_known Both net, (second_known net, tt));
+  known = (one_known Both net, (record { size = omega arith; k = 0; within = omega arith; link = refl; of_sub = omega arith; interface = refl }, tt));
   carried = below_one _ (carries net);
   prefixes = below_both _ _ refl ([], refl);
   numbered = below_one _ (refl, (refl, tt));

@@ -20,7 +20,6 @@ pub use Rattle.afdx_plan.specs.Plan.{IsLink, IsPort, bag_micros, bag_ms}
 pub use Rattle.afdx_plan.specs.Room.{room_of, step_of}
 pub use Rattle.afdx_plan.specs.declared.link_plan.LinkPlan.{LinkPlan}
 pub use Rattle.afdx_plan.specs.declared.port_plan.PortPlan.{PortPlan}
-unfoldable pub use Rattle.afdx_frame.specs.Checksum.{checksum}
 pub use Rattle.afdx_frame.specs.Cutting.{cut_by, pieces_from}
 unfoldable pub use Rattle.afdx_frame.specs.Cutting.{cutting}
 pub use Rattle.afdx_frame.specs.Fragments.{Sent, blanked, fragments_from}
@@ -60,8 +59,3 @@ pub use Rattle.run_laws.specs.MessageInRun.{ApartAreTimely, AreFinding, AreTimel
 pub use Rattle.run_laws.specs.MessageInRun.{GatheredFit, HasPlace, IsAccepted, MessageInRun, fragments_of, seen_of}
 pub use Rattle.run_laws.specs.Runs.{ArePolls, AreRuns, ComeWithin, ComesBy, DrainPolls, EmitterPolls, IsPlanned}
 pub use Rattle.run_laws.specs.Runs.{IsReady, IsReadyFor, KeptReady, NextInRun, latest_of}
-pub use Rattle.run_laws.specs.WorkedRun.{ComesInRun, MeetsTheWait, NeedsARun, NeedsItsPremises, TightCase}
-pub use Rattle.run_laws.specs.WorkedRun.{TightReleased, both_at, both_lines, four_shown, front_entry, front_line}
-pub use Rattle.run_laws.specs.WorkedRun.{lost_line, message_accepted, one_shown, small_link, small_plan, three_shown}
-pub use Rattle.run_laws.specs.WorkedRun.{tight_accepted, tight_frame, tight_lines, tight_link, tight_plan, tight_port}
-pub use Rattle.run_laws.specs.WorkedRun.{tight_sent, two_shown}

@@ -1,7 +1,7 @@
 use Rattle.run_laws.proofs.Gathered.{gathered_fit}
 use Rattle.run_laws.proofs.MessageRun.{message_in_run_holds}
 use Rattle.run_laws.proofs.Timely.{apart_timely}
-use Rattle.run_laws.proofs.WorkedWaits.{meets_the_wait, needs_its_premises}
+use Rattle.run_laws.proofs.WorkedRuns.{meets_the_wait, needs_its_premises}
 use Rattle.run_laws.proofs.laws.message_in_run.Goals as goal
 
 pub returns : goal.returns
