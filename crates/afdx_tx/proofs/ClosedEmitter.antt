@@ -1,10 +1,8 @@
 -- An emitter with one closed sub-VL is still sound.
-use Rattle.afdx_tx.proofs.Names.{ℕ, ◌≡◌, ◌<◌, ◌≤◌, List, length, set, arith, refl, ap, ◌∙◌, sym, subst, ⊎_elim, Result, Ok, Err, OnErr, IfOk, cases_lt, length-set, get_or_past, Plan, IsPlan}
-use Rattle.afdx_tx.proofs.Names.{link_plan_at, queue_of, Held, LinkState, held_at, link_at, no_link, ClosesSub, ClosesLink, Tx, queues_in, LacksSub, ClosesTx}
+use Rattle.afdx_tx.proofs.Names.{ℕ, ◌≡◌, ◌<◌, ◌≤◌, List, length, set, arith, refl, ap, ◌∙◌, sym, subst, ⊎_elim, Result, Ok, Err, OnErr, IfOk, cases_lt, length-set, get_or_past, Plan, IsPlan, link_plan_at, queue_of, Held, LinkState, held_at, link_at, no_link, ClosesSub, ClosesLink, Tx, queues_in, LacksSub, ClosesTx}
 use Rattle.vl_link.proofs.Closing.{closes_taken, closes_known, closes_name}
 use Rattle.afdx_tx.proofs.SoundEmitter.{alike_queues}
-use Rattle.afdx_tx.proofs.KeptLinks.{KeepsSub, KeepLinks}
-use Rattle.afdx_tx.proofs.OneSub.{one_link, one_count, one_each}
+use Rattle.afdx_tx.proofs.KeptLinks.{KeepsSub, KeepLinks, one_link, one_count, one_each}
 
 -- a sub-VL that may have been closed; all else is unchanged
 pub record ClosedSub (old new : Held) : Type 0 where

@@ -1,8 +1,70 @@
--- A sound emitter's frames conform.
-use Rattle.afdx_tx.proofs.Names.{Tx, IsSound, Conforms}
-use Rattle.afdx_tx.proofs.DrainKeeps.{legal_accepted}
+-- A sound emitter's frames conform, for the accepted messages too.
+use Rattle.afdx_tx.proofs.Names.{Tx, IsSound, Conforms, ℕ, ◌≡◌, ◌<◌, List, ◌++◌, length, arith, refl, ap, ◌∙◌, sym, ⊎_elim, Result, Ok, Err, OnOk, append_assoc, get_or_past, cases_lt, Plan, link_plan_at, room_of, Net, A, B, Entry, Seen, receiving, gathered, IsKnownWhole, IsSameQueue, known_of, told_of, IsLegalOn, IsLegal, Held, LinkState, held_at, link_at, nothing_held, no_link, IsSameSub, IsSamePlan, taken_in, AreGathered, accepted_by, accepted_in}
 use Rattle.afdx_tx.proofs.PortMessages.{taken_allowed, accepted_allowed}
 use Rattle.afdx_tx.proofs.SoundEmitter.{sound_legal, sound_streams, sound_turns}
+use Rattle.afdx_tx.proofs.OwedFragments.{owed_split, untaken}
+
+-- The same queue has the same accepted messages.
+same_known : (old new : Seen) → IsKnownWhole old → IsSameQueue old new → known_of new ≡ known_of old
+same_known (receiving r) new g e = absurd g
+same_known (gathered q) (gathered h) g e = e.1
+same_known (gathered q) (receiving s) g e = absurd e
+
+-- A sub-VL after the last has no queue.
+gathered_past : (links : List LinkState) (k s : ℕ) → AreGathered links → IsKnownWhole (held_at (link_at links k).subs s).seen
+gathered_past links k s g = ⊎_elim
+    (λ lt. ⊎_elim (g k s lt) (λ ge. rw (get_or_past (link_at links k).subs s nothing_held ge) tt)
+    (cases_lt s (length (link_at links k).subs)))
+    (λ ge. rw (get_or_past links k no_link ge) tt)
+    (cases_lt k (length links))
+
+-- The accepted list of a sub-VL is the same.
+same_accepted : (old new : Held) → IsKnownWhole old.seen → IsSameSub old new → accepted_by new ≡ accepted_by old
+same_accepted old new g e = rw (e.ports, same_known old.seen new.seen g e.queue) refl
+
+-- Each accepted list is the same.
+each_same : (old new : List LinkState) → IsSamePlan old new → AreGathered old → (k s : ℕ)
+    → accepted_in new k s ≡ accepted_in old k s
+each_same old new p g k s = ⊎_elim
+    (λ (lt : k < length old). same_accepted (held_at (link_at old k).subs s) (held_at (link_at new k).subs s)
+    (gathered_past old k s g) ((p.each k lt).subs s))
+    (λ ge. rw (get_or_past new k no_link (omega (arith, p.count)), get_or_past old k no_link ge) refl)
+    (cases_lt k (length old))
+
+-- The accepted lists are the same.
+pub accepted_same : (old new : List LinkState) → IsSamePlan old new → AreGathered old → accepted_in new ≡ accepted_in old
+accepted_same old new p g = λ i. λ k s. each_same old new p g k s i
+
+-- A network's frames are legal for the accepted messages.
+legal_on : (plan : Plan) (links : List LinkState) (net : Net) (handed : List Entry)
+    → IsLegalOn plan (taken_in links) net handed → IsLegalOn plan (accepted_in links) net handed
+legal_on plan links net handed l = record {
+  known = l.known;
+  carried = l.carried;
+  prefixes = λ k s lt slt.
+      let held = held_at (link_at links k).subs s in
+      let room = room_of (link_plan_at plan.links k).lmax in
+      let more = untaken plan.end_system room net held in
+      let begins = l.prefixes k s lt slt in (
+        begins.0 ++ more,
+        sym (append_assoc (told_of (link_plan_at plan.links k).id.0 s handed) begins.0 more)
+            ∙ ap (λ (x : List (List ℕ)). x ++ more) begins.1
+            ∙ sym (owed_split plan.end_system room net held),
+      );
+  numbered = l.numbered;
+  spaced = l.spaced;
+}
+
+-- Frames that are legal for the messages taken are legal for the accepted ones.
+pub legal_accepted : (plan : Plan) (links : List LinkState) (a b : List Entry)
+    → IsLegal plan (taken_in links) a b → IsLegal plan (accepted_in links) a b
+legal_accepted plan links a b l =
+    record { on_a = legal_on plan links A a l.on_a; on_b = legal_on plan links B b l.on_b; twins = l.twins }
+
+-- A consequence of a result that is Ok.
+pub on_ok : {T E : Type 0} (r : Result T E) (P Q : Type 0) → (P → Q) → OnOk r P → OnOk r Q
+on_ok (Ok x) P Q f h = f h
+on_ok (Err e) P Q f h = tt
 
 pub sound_conforms : (tx : Tx) → IsSound tx.plan tx.links tx.lines tx.moment → Conforms tx
 sound_conforms tx sound =

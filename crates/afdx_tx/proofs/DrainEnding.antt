@@ -1,9 +1,5 @@
 -- Each poll of a drain at which a link is due sends one of its frames, until it owes none.
-use Rattle.afdx_tx.proofs.Names.{ℕ, zero, suc, ◌≡◌, ◌≢◌, ◌⊎◌, ◌+◌, ◌-◌, ◌<◌, ◌≤◌, List, [], ◌∷◌, ◌++◌, true, length, arith, refl, ap, ◌∙◌, sym, subst, Option, Some, None, inl, inr, ⊎_elim, and_from}
-use Rattle.afdx_tx.proofs.Names.{both_ways, cases_eq, le-leb, length-append, length-map, length_push, LinkPlan, Plan, IsPlan, link_plan_at, bag_micros, room_of, A, sub_in, Sent, fragments, Entry}
-use Rattle.afdx_tx.proofs.Names.{entry, Lines, BothEndure, stands_for, log, both_none, both_on, stood_before, log_same, Stamp, IsLater, is_due, Served, Nothing, Released, Lost, AreTurns, choice_below}
-use Rattle.afdx_tx.proofs.Names.{turn_endures, turns_endure, latest, link_stream, sub_stream, told, Accepted, Drains, DrainsAt, pace_in, accepted_view, owed, stream_at, owed_at, AreApartBy}
-use Rattle.afdx_tx.proofs.Names.{AreDrained, DrainEnds}
+use Rattle.afdx_tx.proofs.Names.{ℕ, zero, suc, ◌≡◌, ◌≢◌, ◌⊎◌, ◌+◌, ◌-◌, ◌<◌, ◌≤◌, List, [], ◌∷◌, ◌++◌, true, length, arith, refl, ap, ◌∙◌, sym, subst, Option, Some, None, inl, inr, ⊎_elim, and_from, both_ways, cases_eq, le-leb, length-append, length-map, length_push, LinkPlan, Plan, IsPlan, link_plan_at, bag_micros, room_of, A, sub_in, Sent, fragments, Entry, entry, Lines, BothEndure, stands_for, log, both_none, both_on, stood_before, log_same, Stamp, IsLater, is_due, Served, Nothing, Released, Lost, AreTurns, choice_below, turn_endures, turns_endure, latest, link_stream, sub_stream, told, Accepted, Drains, DrainsAt, pace_in, accepted_view, owed, stream_at, owed_at, AreApartBy, AreDrained, DrainEnds}
 use Rattle.vl_link.proofs.PaceOfStream.{stream_more, stream_same}
 use Rattle.afdx_legal.proofs.LongerStream.{latest_push, with_push_in, with_push_out}
 use Rattle.afdx_tx.proofs.PollTurns.{later_on}

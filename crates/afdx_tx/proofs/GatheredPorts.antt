@@ -1,11 +1,7 @@
 -- The accepted messages of each port that was gathered.
-use Rattle.afdx_tx.proofs.Names.{ℕ, ◌≡◌, ◌<◌, List, length, arith, ap, ◌∙◌, subst, Contains, All-contains, PortPlan, Plan, IsPlan, port_plan_at, link_place, part_of, brought_by, known_of}
-use Rattle.afdx_tx.proofs.Names.{IsKnownWhole, receiving, gathered, Seen, taken_of, Held, LinkState, held_at, link_at, back_of, BecomesWhole, Lines, Tx, AreLinksOf, HaveOwnItems, IsSound, queues_in}
-use Rattle.afdx_tx.proofs.Names.{PortView, BelongsTo, AreOpenedWith, HasPlace, HasEveryPlace, index_of, AreGathered, OnlyTakeBack, IsTakenBack, GathersLinks, GathersPorts, IsGatheredLink}
-use Rattle.afdx_tx.proofs.Names.{IsGatheredTx, HasOwnPart, held_for, Published, Reaches}
+use Rattle.afdx_tx.proofs.Names.{ℕ, ◌≡◌, ◌<◌, List, length, arith, ap, ◌∙◌, subst, Contains, All-contains, PortPlan, Plan, IsPlan, port_plan_at, link_place, part_of, brought_by, known_of, IsKnownWhole, receiving, gathered, Seen, taken_of, Held, LinkState, held_at, link_at, back_of, BecomesWhole, Lines, Tx, AreLinksOf, HaveOwnItems, IsSound, queues_in, PortView, BelongsTo, AreOpenedWith, HasPlace, HasEveryPlace, index_of, AreGathered, OnlyTakeBack, IsTakenBack, GathersLinks, GathersPorts, IsGatheredLink, IsGatheredTx, HasOwnPart, held_for, Published, Reaches}
 use Rattle.afdx_tx.proofs.PortMessages.{own_messages, port_within}
-use Rattle.afdx_tx.proofs.Publishing.{reaches_kept}
-use Rattle.afdx_tx.proofs.KeptLinks.{kept_sound, KeepLinks}
+use Rattle.afdx_tx.proofs.KeptLinks.{reaches_kept, kept_sound, KeepLinks}
 use Rattle.afdx_tx.proofs.TakenBack.{whole_from, back_kept}
 
 -- The messages taken are the same.

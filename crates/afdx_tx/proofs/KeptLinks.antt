@@ -1,6 +1,8 @@
--- Links of which only the queues have changed, without any message taken.
-use Rattle.afdx_tx.proofs.Names.{ℕ, ◌≡◌, ◌<◌, ◌++◌, List, length, arith, refl, ap, ◌∙◌, sym, subst, Plan, Entry, Lines, log, told, taken_of, Held, LinkState, held_at, link_at, HasOwnItems}
-use Rattle.afdx_tx.proofs.Names.{IsLinkOfPlan, taken_by, sub_fragments, IsKept, IsTied, IsBehind, IsSound}
+-- Links one of whose sub-VLs has changed, or only their queues, and the counts published of them.
+use Rattle.afdx_tx.proofs.Names.{ℕ, ◌≡◌, ◌<◌, ◌++◌, List, length, arith, refl, ap, ◌∙◌, sym, subst, Plan, Entry, Lines, log, told, taken_of, Held, LinkState, held_at, link_at, HasOwnItems, IsLinkOfPlan, taken_by, sub_fragments, IsKept, IsTied, IsBehind, IsSound, ◌≢◌, set, ⊎_elim, cases_eq, length-set, get_or-set_other, each_set, no_link, nothing_held, ◌≤◌, [], zero-le, LinkPlan, link_in, zeros, NoFieldFalls, Published, published, last_of, with_entry, link_stream, with_append, AreKept, IsSamePlan, Reaches, PublishesCounts}
+use Rattle.status_board.specs.declared.counts.Counts.{Counts}
+use Rattle.status_board.proofs.Histories.{last_or-push, falls_not_same, falls_not_through}
+use Rattle.afdx_legal.proofs.CountingLemmas.{counts_more}
 use Rattle.afdx_tx.proofs.SoundEmitter.{plans_after}
 
 -- a sub-VL whose queue may have changed, without any message taken
@@ -102,3 +104,92 @@ kept_sound config old new lines moment g s =
           let sub : t < length (link_at old k).subs = omega (arith, link.count) in
           (link.each t sub).items (s.items k t (here k lt) sub);
     }
+
+module _ (links : List LinkState) (k s : ℕ) (new : LinkState) (within : k < length links)
+    (same : new ≡ record (link_at links k) { subs = set (link_at links k).subs s (held_at new.subs s) }) where
+  subs_are : new.subs ≡ set (link_at links k).subs s (held_at new.subs s)
+  subs_are = ap (λ (l : LinkState). l.subs) same
+
+  -- Each link is the same apart from its sub-VLs.
+  pub one_link : (m : ℕ) → link_at (set links k new) m ≡ record (link_at links m) { subs = (link_at (set links k new) m).subs }
+  one_link m = each_set (λ i l. l ≡ record (link_at links i) { subs = l.subs }) links k new no_link within
+      (same ∙ ap (λ (xs : List Held). record (link_at links k) { subs = xs }) (sym subs_are)) (λ i ne. refl) m
+
+  -- Each link has the same number of sub-VLs.
+  pub one_count : (m : ℕ) → length (link_at (set links k new) m).subs ≡ length (link_at links m).subs
+  one_count m = each_set (λ i l. length l.subs ≡ length (link_at links i).subs) links k new no_link within
+      (ap length subs_are ∙ length-set (link_at links k).subs s (held_at new.subs s)) (λ i ne. refl) m
+
+  -- A reflexive relation that holds of the changed sub-VL holds of all.
+  pub one_each : (R : Held → Held → Type 0) → ((held : Held) → R held held) → R (held_at (link_at links k).subs s) (held_at new.subs s)
+      → (m t : ℕ) → R (held_at (link_at links m).subs t) (held_at (link_at (set links k new) m).subs t)
+  one_each R itself changed m t = each_set (λ i l. R (held_at (link_at links i).subs t) (held_at l.subs t)) links k new
+      no_link within
+      (⊎_elim
+      (λ (its : t ≡ s). subst (λ (i : ℕ). R (held_at (link_at links k).subs i) (held_at new.subs i)) (sym its) changed)
+      (λ (ne : t ≢ s). subst (R (held_at (link_at links k).subs t))
+      (sym (ap (λ (xs : List Held). held_at xs t) subs_are
+      ∙ get_or-set_other (link_at links k).subs s t (held_at new.subs s) nothing_held ne))
+      (itself (held_at (link_at links k).subs t)))
+      (cases_eq t s))
+      (λ i ne. itself (held_at (link_at links i).subs t)) m
+
+-- the counts of the first links were published, and the others are unchanged
+pub record IsPublishing (links : List LinkState) (old new : List Published) (many : ℕ) : Type 0 where
+  pub count : length new ≡ length old
+  pub first : (k : ℕ) → k < many → published new k ≡ with_entry (published old k) (link_at links k).counts
+  pub rest : (k : ℕ) → many ≤ k → published new k ≡ published old k
+
+pub publishing_all : (links : List LinkState) (old new : List Published) → IsPublishing links old new (length links)
+    → PublishesCounts links old new
+publishing_all links old new p = record { count = p.count; each = p.first }
+
+-- The last published counts are then the current ones.
+pub reaches_all : (links : List LinkState) (old new : List Published) → length old ≡ length links
+    → PublishesCounts links old new → Reaches links new
+reaches_all links old new count p = record {
+  count = p.count ∙ count;
+  each = λ k under. rw (p.each k under, last_or-push zeros (published old k).history (link_at links k).counts)
+      (falls_not_same (link_at links k).counts);
+}
+
+-- With nothing published, no published count is above the current one.
+pub reaches_none : (links : List LinkState) (board : List Published) → length board ≡ length links
+    → ((k : ℕ) → (published board k).history ≡ []) → Reaches links board
+reaches_none links board count none = record {
+  count = count;
+  each = λ k under. rw (none k) least;
+}
+  where
+    least : {c : Counts} → NoFieldFalls zeros c
+    least = record { frames = zero-le; bytes = zero-le; messages = zero-le; last = zero-le }
+
+-- No count of a link falls as the log grows.
+rises_on : (old new : LinkState) (before entries after : List Entry) → new.plan ≡ old.plan → after ≡ before ++ entries
+    → IsKept old before → IsKept new after → NoFieldFalls old.counts new.counts
+rises_on old new before entries after plan grown was is =
+    let vl = old.plan.id.0 in
+    let stream = ap (λ (p : LinkPlan). link_stream p.id.0 after) plan ∙ ap (link_stream vl) grown
+    ∙ with_append (λ (e : Entry). link_in e.frame) vl before entries in
+    rw (was.counted, is.counted, stream)
+    (counts_more new.pace.gap (link_stream vl before) (link_stream vl entries) (rw stream at is.spaced))
+
+-- The published counts are at most the current ones as the log grows.
+pub reaches_on : (old new : List LinkState) (board : List Published) (before entries after : List Entry) → IsSamePlan old new
+    → after ≡ before ++ entries → AreKept old before → AreKept new after → Reaches old board → Reaches new board
+reaches_on old new board before entries after same grown was is r = record {
+  count = r.count ∙ sym same.count;
+  each = λ k under.
+      let here : k < length old = omega (arith, same.count) in
+      falls_not_through (last_of board k) (link_at old k).counts (link_at new k).counts (r.each k here)
+      (rises_on (link_at old k) (link_at new k) before entries after (same.each k here).plan grown (was k here) (is k under));
+}
+
+-- The published counts are at most the current ones while only queues change.
+pub reaches_kept : (old new : List LinkState) (board : List Published) → KeepLinks old new → Reaches old board → Reaches new board
+reaches_kept old new board g r = record {
+  count = r.count ∙ sym g.count;
+  each = λ k under.
+      let here : k < length old = omega (arith, g.count) in
+      rw (g.each k here).same (r.each k here);
+}

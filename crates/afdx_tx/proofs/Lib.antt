@@ -1,11 +1,7 @@
-pub mod BothTwins
 pub mod ClosedEmitter
 pub mod ClosedTotals
 pub mod Conforming
 pub mod DrainEnding
-pub mod DrainKeeps
-pub mod DrainTurns
-pub mod FreshEmitter
 pub mod GatheredPorts
 pub mod HandedFronts
 pub mod KeptLinks
@@ -13,16 +9,12 @@ pub mod LegalLists
 mod Names
 pub mod NextDue
 pub mod NothingLeft
-pub mod OneSub
 pub mod OpenedPorts
 pub mod OwedFragments
 pub mod OwnStreams
 pub mod PollTurns
-pub mod PollingLinks
 pub mod PortLink
 pub mod PortMessages
-pub mod PortSeats
-pub mod Publishing
 pub mod SoundEmitter
 pub mod TakenBack
 pub mod WorkedDrain

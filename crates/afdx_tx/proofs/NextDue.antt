@@ -1,6 +1,5 @@
 -- The first time at which one link more becomes due.
-use Rattle.afdx_tx.proofs.Names.{ℕ, ◌≡◌, ◌∙◌, ◌≤◌, ◌+◌, sym, subst, arith, inl, inr, true, false, LinkState, link_at, Lines, List, Option, Some, None, ◌^◌, min, cases_lt, MatchOption, LinkPlan, Pace}
-use Rattle.afdx_tx.proofs.Names.{may_release, RestsUntil, BecomesDue, StaysAsIs, NoneDueBefore, OneDueAt, IsFirstDue, earlier}
+use Rattle.afdx_tx.proofs.Names.{ℕ, ◌≡◌, ◌∙◌, ◌≤◌, ◌+◌, sym, subst, arith, inl, inr, true, false, LinkState, link_at, Lines, List, Option, Some, None, ◌^◌, min, cases_lt, MatchOption, LinkPlan, Pace, may_release, RestsUntil, BecomesDue, StaysAsIs, NoneDueBefore, OneDueAt, IsFirstDue, earlier}
 
 -- A link that rests until a time rests until each earlier one.
 sooner : (from until before : ℕ) (plan : LinkPlan) (pace : Pace) (lines : Lines) → before ≤ until

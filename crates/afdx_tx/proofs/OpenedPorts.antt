@@ -1,13 +1,10 @@
--- New links, while the senders of their ports are made.
-use Rattle.afdx_tx.proofs.Names.{ℕ, ◌≡◌, ◌+◌, ◌<◌, List, [], ◌∷◌, ◌++◌, length, take, get_or, set, arith, refl, ap, ◌∙◌, sym, subst, below_more, Option, Some, None, and_right, ne_eqb, length-append}
-use Rattle.afdx_tx.proofs.Names.{get_or_append_left, get_or_push, length-set, LinkPlan, PortPlan, Plan, IsPlan, link_plan_at, port_plan_at, link_place, most_calls, QueueName, SenderView, new_receiver}
-use Rattle.afdx_tx.proofs.Names.{new_sender, SubVl, Seen, receiving, gathered, queue_of, ports_of, Held, LinkState, held_at, link_at, nothing_held, no_link, MakesSender, LacksSender, SubMakesSender}
-use Rattle.afdx_tx.proofs.Names.{LinkMakesSender, ports_of_sub, held_queue, link_queues, queues_in, IsOpenedSub, AreOpenedSubs, IsOpenedLink, AreOpenedLinks, queue_at, index_of, IsFreshSender}
-use Rattle.afdx_tx.proofs.Names.{IsFreshPort, each_set}
+-- New links, while the senders of their ports are made, and an emitter before its first call.
+use Rattle.afdx_tx.proofs.Names.{ℕ, ◌≡◌, ◌+◌, ◌<◌, List, [], ◌∷◌, ◌++◌, length, take, get_or, set, arith, refl, ap, ◌∙◌, sym, subst, below_more, Option, Some, None, and_right, ne_eqb, length-append, get_or_append_left, get_or_push, length-set, LinkPlan, PortPlan, Plan, IsPlan, link_plan_at, port_plan_at, link_place, most_calls, QueueName, SenderView, new_receiver, new_sender, SubVl, Seen, receiving, gathered, queue_of, ports_of, Held, LinkState, held_at, link_at, nothing_held, no_link, MakesSender, LacksSender, SubMakesSender, LinkMakesSender, ports_of_sub, held_queue, link_queues, queues_in, IsOpenedSub, AreOpenedSubs, IsOpenedLink, AreOpenedLinks, queue_at, index_of, IsFreshSender, IsFreshPort, each_set, both_ways, ext_get_or, All-nil, link_in, Logged, fresh_lines, fresh_log, fresh_in_step, IsItem, no_link_plan, AreFreshLinks, plans, IsSound}
 use Rattle.std.proofs.Math.ListN.{get_or-map}
-use Rattle.afdx_tx.proofs.OneSub.{one_count, one_each}
-use Rattle.afdx_tx.proofs.PortSeats.{few_ports, IsAt, seats, seats_within, index_at, seat_at, others_at, other_at}
+use Rattle.afdx_tx.proofs.KeptLinks.{one_count, one_each}
+use Rattle.afdx_tx.proofs.PortLink.{few_ports, IsAt, seats, seats_within, index_at, seat_at, others_at, other_at}
 use Rattle.afdx_tx.proofs.SoundEmitter.{alike_queues}
+use Rattle.afdx_tx.proofs.PollTurns.{plan_at_is, plans_length}
 
 -- The queue of a sub-VL in the list of all queues.
 pub queue_at_is : (links : List LinkState) (k s : ℕ)
@@ -168,4 +165,52 @@ fresh_port config links place k s plan sender new at are makes is link sub =
       at = refl;
       plan = is;
       sender = rw (← link, ← sub) fresh;
+    }
+
+-- A fresh emitter is sound.
+pub fresh_sound : (config : Plan) (links : List LinkState) → IsPlan config
+    → AreFreshLinks config links → IsSound config links fresh_lines 0
+fresh_sound config links valid f =
+    let opened = λ (k : ℕ) (lt : k < length links). f.each k (omega (arith, f.count)) in
+    record {
+      valid = valid;
+      of_plan = record {
+        each_plan = ext_get_or no_link_plan (plans links) config.links (plans_length links ∙ f.count)
+            (λ k lt. plan_at_is links k (omega (arith, plans_length links))
+            ∙ (opened k (omega (arith, plans_length links))).plan);
+        end_system = λ k lt. (opened k lt).end_system;
+        each = λ k lt.
+            let link = opened k lt in
+            rw (link.pace, link.plan, link.end_system) (record {
+              count = link.subs.count;
+              sub_vls = refl;
+              gap = refl;
+              named = λ s slt. (link.subs.each s (omega (arith, link.subs.count))).of;
+            });
+        ports = λ k s lt slt.
+            let link = opened k lt in
+            (link.subs.each s (omega (arith, link.subs.count))).ports_are
+            ∙ ap (λ (p : LinkPlan). ports_of_sub config.ports p.id.0 s) (sym link.plan);
+      };
+      kept = λ k lt.
+          let link = opened k lt in
+          rw fresh_log (record {
+            numbered = tt;
+            spaced = tt;
+            prefixes = λ s slt. (_, refl);
+            chosen = tt;
+            paced = λ _. rw link.pace refl;
+            tied = λ _ s slt. let sub = link.subs.each s (rw link.plan at slt) in rw (sub.seen, sub.left) refl;
+            behind = λ lost. absurd (both_ways _ link.lost lost);
+            counted = link.counts;
+          });
+      later = λ k lt. rw (opened k lt).pace tt;
+      mirrored = fresh_in_step.mirrored;
+      known = rw fresh_log tt;
+      carried = λ k lt. All-nil (λ (l : Logged). link_in l.entry.frame ≡ (link_plan_at config.links k).id.0
+          → l.networks ≡ (link_plan_at config.links k).networks);
+      whole = λ k lt stands. (opened k lt).lost;
+      items = λ k s lt slt.
+          let subs = (opened k lt).subs in
+          rw (subs.each s (omega (arith, subs.count))).seen (All-nil (IsItem _));
     }

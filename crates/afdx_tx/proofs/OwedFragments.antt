@@ -1,7 +1,5 @@
 -- The fragments of a sub-VL's accepted messages, and its stream.
-use Rattle.afdx_tx.proofs.Names.{ℕ, suc, ◌≡◌, ◌+◌, ◌<◌, List, [], ◌∷◌, ◌++◌, true, false, length, arith, refl, ap, ◌∙◌, sym, inl, inr, append-nil, append_assoc, map-append, nil_from_length}
-use Rattle.afdx_tx.proofs.Names.{length-append, room_of, LinkPlan, Net, A, Sent, fragments, fragments_at, fragments_from, Entry, SubVl, Seen, receiving, gathered, taken_of, FindsNothing, Finds}
-use Rattle.afdx_tx.proofs.Names.{IsKnownWhole, known_of, told_of, Held, LinkState, held_at, Asks, sent_of, sent_by, taken_by, sub_fragments, IsLinkTied, IsReleased, Owes, accepted_by, IsOwn}
+use Rattle.afdx_tx.proofs.Names.{ℕ, suc, ◌≡◌, ◌+◌, ◌<◌, List, [], ◌∷◌, ◌++◌, true, false, length, arith, refl, ap, ◌∙◌, sym, inl, inr, append-nil, append_assoc, map-append, nil_from_length, length-append, room_of, LinkPlan, Net, A, Sent, fragments, fragments_at, fragments_from, Entry, SubVl, Seen, receiving, gathered, taken_of, FindsNothing, Finds, IsKnownWhole, known_of, told_of, Held, LinkState, held_at, Asks, sent_of, sent_by, taken_by, sub_fragments, IsLinkTied, IsReleased, Owes, accepted_by, IsOwn}
 use Rattle.vl_link.proofs.FragmentsLeft.{fragments_some}
 
 -- the messages known to be left in a queue

@@ -1,7 +1,9 @@
--- The link of a port.
-use Rattle.afdx_tx.proofs.Names.{ℕ, ◌≡◌, ◌<◌, List, Bool, length, arith, ap, ◌∙◌, sym, refl, Option, Some, None, unwrap_or, ⊎_elim, eq-eqb, lt-ltb, eqb-true, both_ways, cases_lt, fails_before_first}
-use Rattle.afdx_tx.proofs.Names.{position, position_or_len, ◌==◌, VlId, LinkPlan, PortPlan, SendsOver, Plan, IsPlan, HasLink, link_plan_at, no_link_plan, link_place}
+-- The link of a port, and the number of the first ports of a configuration that are of a sub-VL.
+use Rattle.afdx_tx.proofs.Names.{ℕ, ◌≡◌, ◌<◌, List, Bool, length, arith, ap, ◌∙◌, sym, refl, Option, Some, None, unwrap_or, ⊎_elim, eq-eqb, lt-ltb, eqb-true, both_ways, cases_lt, position, position_or_len, ◌==◌, VlId, LinkPlan, PortPlan, SendsOver, Plan, IsPlan, HasLink, link_plan_at, no_link_plan, link_place, ◌+◌, ◌≤◌, ◌++◌, true, false, ◌&&◌, nat_eq, cond, take, drop, add-zero, ne_eqb, and_from, and_left, and_parts, length-append, take-append-drop, filter-append, All-filter, filter_passes, port_plan_at, IsPort, ports_of_sub, index_of, SubVl, All}
+use Rattle.std.proofs.lemmas.List.Sums.{fails_before_first, length-filter}
 use Rattle.std.proofs.lemmas.List.Quantifiers.{position-Some}
+use Rattle.std.proofs.lemmas.List.Filters.{length-filter_more}
+use Rattle.vl_link.specs.Subs.{IsPortOf}
 
 -- whether the link has this identifier
 abbrev has_id : ℕ → LinkPlan → Bool
@@ -48,3 +50,86 @@ link_within plan port valid has = at (position (is_its port) plan.links) refl
         → (unwrap_or r 0 < length plan.links) × SendsOver port (link_plan_at plan.links (unwrap_or r 0))
     at None e = absurd (found plan.links port has e)
     at (Some k) e = ((found_at plan.links port.vl.0 k e).0, found_over plan port k valid has e)
+
+-- whether the port is of the sub-VL
+abbrev pub on_sub_vl : ℕ → ℕ → PortPlan → Bool
+on_sub_vl vl sub port = nat_eq port.vl.0 vl && nat_eq port.sub sub
+
+-- the number of the first ports that are of the sub-VL
+abbrev pub seats : List PortPlan → ℕ → ℕ → ℕ → ℕ
+seats ports first vl sub = length (ports_of_sub (take first ports) vl sub)
+
+-- One port more.
+pub seats_more : (ports : List PortPlan) (i vl sub : ℕ) → i < length ports
+    → seats ports (i + 1) vl sub ≡ seats ports i vl sub + cond (on_sub_vl vl sub (port_plan_at ports i)) 1 0
+seats_more ports i vl sub lt = length-filter_more (on_sub_vl vl sub) ports i _ lt
+
+-- The number is at most that of all ports.
+pub seats_within : (ports : List PortPlan) (i vl sub : ℕ) → seats ports i vl sub ≤ length (ports_of_sub ports vl sub)
+seats_within ports i vl sub =
+    let whole : ports_of_sub ports vl sub ≡ ports_of_sub (take i ports) vl sub ++ ports_of_sub (drop i ports) vl sub =
+    sym (ap (λ (all : List PortPlan). ports_of_sub all vl sub) (take-append-drop i ports))
+    ∙ filter-append (on_sub_vl vl sub) (take i ports) (drop i ports) in
+    omega (arith, ap length whole, length-append (ports_of_sub (take i ports) vl sub) (ports_of_sub (drop i ports) vl sub))
+
+-- A port is of its own sub-VL.
+pub on_own : (port : PortPlan) (vl sub : ℕ) → port.vl.0 ≡ vl → port.sub ≡ sub → on_sub_vl vl sub port ≡ true
+on_own port vl sub v s = and_from _ _ (eq-eqb _ _ v) (eq-eqb _ _ s)
+
+-- the port at a place sends over this sub-VL of this link
+pub record IsAt (config : Plan) (place k s : ℕ) : Type 0 where
+  pub within : place < length config.ports
+  pub link : k < length config.links
+  pub over : SendsOver (port_plan_at config.ports place) (link_plan_at config.links k)
+  pub sub : (port_plan_at config.ports place).sub ≡ s
+
+module _ (config : Plan) (place k s : ℕ) (at : IsAt config place k s) where
+  -- The port is of that sub-VL.
+  pub own_at : on_sub_vl (link_plan_at config.links k).id.0 s (port_plan_at config.ports place) ≡ true
+  own_at = on_own (port_plan_at config.ports place) _ _ (ap (λ (id : VlId). id.0) (sym at.over.id)) at.sub
+
+  -- Its index is the number of earlier ports of its sub-VL.
+  pub index_at : index_of config.ports place ≡ seats config.ports place (link_plan_at config.links k).id.0 s
+  index_at = rw (at.over.id, at.sub) refl
+
+  -- The number after it is one higher.
+  pub seat_at : seats config.ports (place + 1) (link_plan_at config.links k).id.0 s ≡ index_of config.ports place + 1
+  seat_at = rw index_at (rw own_at at (seats_more config.ports place (link_plan_at config.links k).id.0 s at.within))
+
+-- The port is of no other link.
+pub other_at : (config : Plan) (place k s other t : ℕ) → IsPlan config → IsAt config place k s → other < length config.links
+    → (other ≡ k → ⊥) → on_sub_vl (link_plan_at config.links other).id.0 t (port_plan_at config.ports place) ≡ false
+other_at config place k s other t valid at lt ne = and_left _ _ (ne_eqb _ _
+    (λ e. ne (valid.links_apart other k lt at.link
+    (λ i. record { 0 = (sym e ∙ ap (λ (v : VlId). v.0) (sym at.over.id)) i }))))
+
+-- The numbers of the other sub-VLs are the same.
+pub others_at : (config : Plan) (place vl t : ℕ) → place < length config.ports
+    → on_sub_vl vl t (port_plan_at config.ports place) ≡ false
+    → seats config.ports (place + 1) vl t ≡ seats config.ports place vl t
+others_at config place vl t lt off = rw off at (seats_more config.ports place vl t lt)
+    ∙ add-zero (seats config.ports place vl t)
+
+-- The port at a place, for a configuration behind a reference.
+pub place_at : (config shown : Plan) (place k s : ℕ) (plan : PortPlan) → shown ≡ config
+    → plan ≡ port_plan_at shown.ports place → place < length shown.ports → k < length shown.links
+    → SendsOver plan (link_plan_at shown.links k) → s ≡ plan.sub → IsAt config place k s
+place_at config shown place k s plan e is within link over sub =
+    rw (← e) (record { within = within; link = link; over = rw (← is) over; sub = rw (← is) (sym sub) })
+
+-- A sub-VL has few ports.
+pub few_ports : (config : Plan) (vl sub : ℕ) → IsPlan config → length (ports_of_sub config.ports vl sub) ≤ 64
+few_ports config vl sub valid = omega (arith, valid.few_ports vl sub, length-filter (on_sub_vl vl sub) config.ports)
+
+-- Each is one of the configuration's, and of the sub-VL.
+pub of_sub : (P : PortPlan → Type 0) (ports : List PortPlan) (vl sub : ℕ) → All P ports
+    → All (λ (port : PortPlan). P port × (port.vl.0 ≡ vl) × (port.sub ≡ sub)) (ports_of_sub ports vl sub)
+of_sub P ports vl sub all k d lt =
+    let both = and_parts _ _ (filter_passes (on_sub_vl vl sub) ports k d lt) in
+    (All-filter (on_sub_vl vl sub) P ports all k d lt, eqb-true _ _ both.0, eqb-true _ _ both.1)
+
+pub own_ports : (ports : List PortPlan) (of : SubVl) → All IsPort ports → of.sub < of.link.sub_vls
+    → All (IsPortOf of) (ports_of_sub ports of.link.id.0 of.sub)
+own_ports ports of each lt k d below =
+    let own = of_sub IsPort ports of.link.id.0 of.sub each k d below in
+    record { port = own.0; over = record { id = λ i. record { 0 = sym own.1 i }; sub = omega (arith, own.2, lt) }; of_sub = own.2 }

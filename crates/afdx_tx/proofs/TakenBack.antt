@@ -1,15 +1,9 @@
 -- The queues of an emitter take back the senders of its ports.
-use Rattle.afdx_tx.proofs.Names.{ℕ, zero, suc, ◌≡◌, ◌+◌, ◌<◌, ◌≤◌, List, [], ◌∷◌, Bool, true, false, cond, length, set, arith, refl, ap, ◌∙◌, sym, subst, ⊎_elim, All, Contains, and_parts, cases_lt}
-use Rattle.afdx_tx.proofs.Names.{eqb-true, length-set, get_or-set_same, All-contains, Contains-push, Contains-append_left, VlId, PortPlan, Plan, IsPlan, link_plan_at, port_plan_at, link_place}
-use Rattle.afdx_tx.proofs.Names.{SenderView, ReceiverView, Brought, brought_by, Seen, receiving, gathered, queue_of, taken_of, known_of, IsReceiving, Held, LinkState, held_at, link_at, no_link}
-use Rattle.afdx_tx.proofs.Names.{TakesBack, back_of, LinkTakesBack, BecomesWhole, AreLinksOf, AreReceiving, ports_of_sub, queues_in, PortView, HasEveryPlace, BelongsTo, HasOwnMessages, index_of}
-use Rattle.afdx_tx.proofs.Names.{OnlyTakesBack, OnlyTakeBack, IsTakenBack, AreFull}
+use Rattle.afdx_tx.proofs.Names.{ℕ, zero, suc, ◌≡◌, ◌+◌, ◌<◌, ◌≤◌, List, [], ◌∷◌, Bool, true, false, cond, length, set, arith, refl, ap, ◌∙◌, sym, subst, ⊎_elim, All, Contains, and_parts, cases_lt, eqb-true, length-set, get_or-set_same, All-contains, Contains-push, Contains-append_left, VlId, PortPlan, Plan, IsPlan, link_plan_at, port_plan_at, link_place, SenderView, ReceiverView, Brought, brought_by, Seen, receiving, gathered, queue_of, taken_of, known_of, IsReceiving, Held, LinkState, held_at, link_at, no_link, TakesBack, back_of, LinkTakesBack, BecomesWhole, AreLinksOf, AreReceiving, ports_of_sub, queues_in, PortView, HasEveryPlace, BelongsTo, HasOwnMessages, index_of, OnlyTakesBack, OnlyTakeBack, IsTakenBack, AreFull}
 use Rattle.std.proofs.Math.Seq.{take-length}
-use Rattle.afdx_tx.proofs.OneSub.{one_link, one_count, one_each}
-use Rattle.afdx_tx.proofs.KeptLinks.{KeepLinks}
+use Rattle.afdx_tx.proofs.KeptLinks.{one_link, one_count, one_each, KeepLinks}
 use Rattle.afdx_tx.proofs.SoundEmitter.{plan_is, count_is}
-use Rattle.afdx_tx.proofs.PortSeats.{seats, seats_more, on_sub_vl}
-use Rattle.afdx_tx.proofs.PortLink.{link_within}
+use Rattle.afdx_tx.proofs.PortLink.{seats, seats_more, on_sub_vl, link_within}
 
 -- The relation is reflexive.
 only_here : (seen : Seen) → OnlyTakesBack seen seen

@@ -1,6 +1,5 @@
 -- The worked drain, by computation.
-use Rattle.afdx_tx.proofs.Names.{◌≡◌, ℕ, zero, suc, ◌<◌, [], ◌∷◌, length, true, false, None, refl, arith, inr, A, blanked, IsLater, latest, IsReleased, Owes, Nothing, Released, Drains, IsDrained}
-use Rattle.afdx_tx.proofs.Names.{stream_at, owed_at, DrainsOne, no_lines, one_line, fragments_at, log}
+use Rattle.afdx_tx.proofs.Names.{◌≡◌, ℕ, zero, suc, ◌<◌, [], ◌∷◌, length, true, None, refl, arith, inr, A, blanked, IsLater, latest, IsReleased, Owes, Nothing, Released, Drains, stream_at, owed_at, DrainsOne, no_lines, one_line, fragments_at, log, B, entry, both_hands}
 use Rattle.afdx_plan.specs.Demo.{demo_plan, demo_link}
 use Rattle.afdx_plan.proofs.DemoPlan.{demo_valid}
 use Rattle.afdx_frame.specs.Checksum.{checksum}
@@ -48,10 +47,7 @@ first_turn = (
     };
     enters = refl;
     stands = refl;
-    endure = record {
-      a = record { stays = ((λ up. (refl, refl)), (λ both. refl)); least = omega arith; most = omega arith; down = λ (no : true ≡ false). cc };
-      b = record { stays = ((λ up. (refl, refl)), (λ both. refl)); least = omega arith; most = omega arith; down = λ (no : true ≡ false). cc };
-    };
+    endure = both_hands no_lines one_line true true (entry 1000 (one_frame A)) (entry 1000 (one_frame B)) (refl, refl) (refl, refl);
   },
 )
 
@@ -59,13 +55,6 @@ first_turn = (
 second_turn : Drains 2000 1 demo_link (one_byte_accepted 0) one_line one_line Nothing
 unfolding log checksum addresses header_front internet_header link_header udp_header datagram unnumbered
 second_turn = (inr (refl, record { each = only_one _ released; others = λ s le. tt }), refl)
-
--- A poll is the turn of the one link.
-first_poll : IsDrained 1000 demo_plan one_byte_accepted no_lines one_line
-first_poll = (one_line, Released 0 0, first_turn, refl)
-
-second_poll : IsDrained 2000 demo_plan one_byte_accepted one_line one_line
-second_poll = (one_line, Nothing, second_turn, refl)
 
 -- Nothing was released before.
 fresh : (k : ℕ) → k < 1 → IsLater (latest None (stream_at demo_plan k no_lines)) 0
@@ -83,7 +72,11 @@ drains_one = record {
   later = fresh;
   gap = only_one _ (omega arith);
   apart = (omega arith, (omega arith, tt));
-  drained = (one_line, first_poll, (one_line, second_poll, refl));
+  drained = (
+    one_line,
+    (one_line, Released 0 0, first_turn, refl),
+    (one_line, (one_line, Nothing, second_turn, refl), refl),
+  );
   stand = only_one _ refl;
   owed = only_one _ (omega (arith, one_owed));
   done = only_one _ (only_one _ released);

@@ -1,4 +1,4 @@
-use Rattle.afdx_tx.proofs.PortSeats.{own_ports}
+use Rattle.afdx_tx.proofs.PortLink.{own_ports}
 use Rattle.afdx_tx.proofs.open.open_sub.Goals as goal
 
 pub new-requires-clause-ports : goal.new-requires-clause-ports

@@ -1,4 +1,4 @@
-use Rattle.afdx_tx.proofs.Publishing.{IsPublishing}
+use Rattle.afdx_tx.proofs.KeptLinks.{IsPublishing}
 use Rattle.afdx_tx.proofs.transmitter.publish_all.Given as goal
 
 abbrev pub invariant-loop-link : goal.invariant-loop-link

@@ -1,7 +1,6 @@
 use Rattle.afdx_tx.proofs.Names.{◌++◌, ◌≡◌, ◌<◌, ◌∙◌, ap, sym, length, get_or, arith, and_parts, get_or_default, set-get_or, VlId, LinkPlan, link_at, no_link, Release, turn_release}
 use Rattle.arrayvec.specs.ArrayVec.{ArrayVec}
-use Rattle.afdx_tx.proofs.PollTurns.{turned_at}
-use Rattle.afdx_tx.proofs.PollingLinks.{polling_more, polling_on}
+use Rattle.afdx_tx.proofs.PollTurns.{turned_at, polling_more, polling_on}
 use Rattle.afdx_tx.proofs.transmitter.serve_all.Goals.{then-may_release, else-may_release}
 use Rattle.afdx_tx.proofs.transmitter.serve_all.Given
 use Rattle.afdx_tx.proofs.transmitter.serve_all.Goals as goal

@@ -1,5 +1,5 @@
-use Rattle.afdx_tx.proofs.DrainKeeps.{accepted_same, on_ok}
-use Rattle.afdx_tx.proofs.DrainTurns.{run_drained}
+use Rattle.afdx_tx.proofs.Conforming.{accepted_same, on_ok}
+use Rattle.afdx_tx.proofs.NothingLeft.{run_drained}
 use Rattle.afdx_tx.proofs.draining.Draining.poll.Goals as goal
 
 pub returns-clause-accepted : goal.returns-clause-accepted

@@ -1,7 +1,6 @@
 use Rattle.afdx_tx.proofs.Names.{◌∙◌, ◌<◌, length, arith, subst, get_or_default, LinkState, no_link, ClosesLink}
 use Rattle.afdx_tx.proofs.SoundEmitter.{count_is}
-use Rattle.afdx_tx.proofs.KeptLinks.{kept_sound}
-use Rattle.afdx_tx.proofs.Publishing.{reaches_kept}
+use Rattle.afdx_tx.proofs.KeptLinks.{kept_sound, reaches_kept}
 use Rattle.afdx_tx.proofs.ClosedEmitter.{links_closed, closed_kept}
 use Rattle.afdx_tx.proofs.transmitter.Transmitter.close.Goals as goal
 

@@ -1,6 +1,6 @@
 use Rattle.afdx_tx.proofs.Names.{◌∙◌, sym, subst, Lines, IsSound}
-use Rattle.afdx_tx.proofs.Publishing.{reaches_none}
-use Rattle.afdx_tx.proofs.FreshEmitter.{fresh_sound}
+use Rattle.afdx_tx.proofs.KeptLinks.{reaches_none}
+use Rattle.afdx_tx.proofs.OpenedPorts.{fresh_sound}
 use Rattle.afdx_tx.proofs.transmitter.Transmitter.over.Goals as goal
 
 pub invariant_of-result : goal.invariant_of-result

@@ -1,5 +1,5 @@
 use Rattle.afdx_tx.proofs.Names.{◌≡◌, ◌∙◌, with_items_is, with_items, log, IsSound, IsSteady}
-use Rattle.afdx_tx.proofs.Publishing.{reaches_on}
+use Rattle.afdx_tx.proofs.KeptLinks.{reaches_on}
 use Rattle.afdx_tx.proofs.SoundEmitter.{links_apart, sound_after}
 use Rattle.afdx_tx.proofs.Conforming.{sound_conforms}
 use Rattle.afdx_tx.proofs.transmitter.Transmitter.poll.Given
