@@ -1,7 +1,6 @@
 -- The seal and its parts own what a box at the same types owns.
 --     held_of     what an `Option` holds, if it holds something
-use Rattle.afdx_handle.proofs.Names.{impl, tnil, dnil, [], Slot, plain, Option, None, IsSome, false≢true, refl, Bx}
-use Rattle.std.specs.Prelude.{◌≡◌, Some}
+use Rattle.afdx_handle.proofs.Names.{impl, tnil, dnil, [], Slot, plain, Option, None, IsSome, false≢true, refl, Bx, ◌≡◌, Some}
 use Rattle.std_heap.specs.contracts.GlobalAllocator.TheImpl.{ghosts, dict}
 use Rattle.std_heap.specs.contracts.Global as Heap
 use Rattle.std_heap.proofs.Global.TheLaws as heap

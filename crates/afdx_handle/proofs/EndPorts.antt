@@ -1,11 +1,8 @@
 -- The ports in an end system are those of its emitter.
-use Rattle.afdx_handle.proofs.Names.{ℕ, ◌≡◌, length, sym, subst, Some, true, false, eqb-true, All-push, All-head}
-use Rattle.afdx_handle.proofs.Names.{All, IsPermutation, get_or, swap_remove, Tx, PortView, IsPortOfTx, LacksPlace}
-use Rattle.afdx_handle.proofs.Names.{IsGatheredTx, EndView, has_id, IsEndSystem, TakesPort}
+use Rattle.afdx_handle.proofs.Names.{ℕ, ◌≡◌, length, sym, subst, Some, true, false, eqb-true, All-push, All-head, All, IsPermutation, get_or, swap_remove, Tx, PortView, IsPortOfTx, LacksPlace, IsGatheredTx, EndView, has_id, IsEndSystem, TakesPort, position}
 use Rattle.std.proofs.Common.{List, [], ◌∷◌, ◌++◌, refl}
 use Rattle.std.proofs.lemmas.List.Quantifiers.{position-Some}
 use Rattle.std.proofs.lemmas.List.Sorted.{All-permutation, IsPermutation-swap_remove}
-use Rattle.std.specs.Prelude.{position}
 
 -- If no port is missing, gathering has all of them.
 pub gathered_whole : (it : EndView) (new : Tx) → IsGatheredTx it.tx it.ports new → LacksPlace (length it.tx.plan.ports) it.ports → ⊥

@@ -1,19 +1,13 @@
 -- A poll makes at most as many frames for a network as it reports.
-use Rattle.afdx_handle.proofs.Names.{ℕ, zero, suc, ◌≡◌, ◌≤◌, ◌+◌, length, sym, ap, subst, ◌∙◌, arith, inl, inr, not}
-use Rattle.afdx_handle.proofs.Names.{filter, Option, All, cases_Bool, filter-append, Lines, Endures, Keeps}
-use Rattle.afdx_handle.proofs.Names.{DrainsAt, accepted_in, accepted_view, pace_in, Tx, queues_in, PortView}
-use Rattle.afdx_handle.proofs.Names.{AreOpenedWith, BelongsTo, EndView, end_view, IsEndSystem, Runs, PollsTx}
+use Rattle.afdx_handle.proofs.Names.{ℕ, zero, suc, ◌≡◌, ◌≤◌, ◌+◌, length, sym, ap, subst, ◌∙◌, arith, inl, inr, not, filter, Option, All, cases_Bool, filter-append, Lines, Endures, Keeps, DrainsAt, accepted_in, accepted_view, pace_in, Tx, queues_in, PortView, AreOpenedWith, BelongsTo, EndView, end_view, IsEndSystem, Runs, PollsTx, Bool, true, false, length-map, Net, log}
 use Rattle.std.proofs.Common.{List, [], ◌∷◌, ◌++◌, refl}
-use Rattle.std.specs.Prelude.{Bool, true, false}
 use Rattle.std.proofs.lemmas.List.Filters.{length-filter_both}
-use Rattle.std.proofs.lemmas.List.{length-append, length-map}
+use Rattle.std.proofs.lemmas.List.{length-append}
 use Rattle.afdx_plan.specs.Config.{Plan, link_plan_at}
 use Rattle.afdx_plan.specs.declared.link_plan.LinkPlan.{LinkPlan}
-use Rattle.afdx_frame.specs.declared.net.Net.{Net}
 use Rattle.afdx_frame.specs.declared.net.Net.TheVariants.{A, B}
 use Rattle.redundant_mux.specs.Entry.{Entry, entry}
 use Rattle.redundant_mux.specs.Logged.{Logged, entries_of, logged_for, names, side}
-use Rattle.redundant_mux.specs.Lines.{log}
 use Rattle.vl_link.specs.declared.served.Served.{Served}
 use Rattle.vl_link.specs.declared.served.Served.TheVariants.{Nothing, Released, Lost}
 use Rattle.vl_link.specs.Links.{link_at, pace_of, held_view}

@@ -1,9 +1,7 @@
 -- A list written from its front on, by one element or one part at a time.
-use Rattle.afdx_handle.proofs.Names.{ℕ, ◌≡◌, ◌≤◌, ◌+◌, ◌∙◌, length, suc, sym, ap, arith}
-use Rattle.std.proofs.Common.{List, [], ◌∷◌, ◌++◌, ◌<◌, set, take, drop, map, append_assoc, drop-cons, length-append, length-take-le, get_or}
-use Rattle.std.proofs.lemmas.List.{length-map, map_more, drop-drop}
+use Rattle.afdx_handle.proofs.Names.{ℕ, ◌≡◌, ◌≤◌, ◌+◌, ◌∙◌, length, suc, sym, ap, arith, ◌<◌, set, take, map, append_assoc, drop-cons, length-take-le, get_or, length-map, map_more, drop-drop, with_front}
+use Rattle.std.proofs.Common.{List, [], ◌∷◌, ◌++◌, drop, length-append}
 use Rattle.std.proofs.Math.Seq.{drop-append-add, set-append_seam, take-append_seam}
-use Rattle.afdx_handle.specs.Listing.{with_front}
 
 -- One element more.
 pub set_front : {X : Type 0} (front old : List X) (k : ℕ) (x : X) → length front ≡ k → k < length old

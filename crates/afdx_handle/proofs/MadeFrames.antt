@@ -1,13 +1,8 @@
 -- The frames of a poll, one more at a time.
-use Rattle.afdx_handle.proofs.Names.{ℕ, zero, suc, ◌≡◌, ◌≤◌, ◌+◌, ◌∙◌, length, ap, arith, EndView}
+use Rattle.afdx_handle.proofs.Names.{ℕ, zero, suc, ◌≡◌, ◌≤◌, ◌+◌, ◌∙◌, length, ap, arith, EndView, length-map, map-append, append-nil, concat, Net, made_at, first_made, bytes_of, lengths_of}
 use Rattle.std.proofs.Common.{List, [], ◌∷◌, ◌++◌, length-append}
-use Rattle.std.proofs.lemmas.List.{length-map, map-append, append-nil}
 use Rattle.std.proofs.lemmas.List.Folds.{concat-append}
 use Rattle.std.proofs.lemmas.List.FromFn.{map-range_with_len_more, length-map-range_with_len}
-use Rattle.std.specs.List.{concat}
-use Rattle.afdx_frame.specs.declared.net.Net.{Net}
-use Rattle.afdx_handle.specs.EndSystem.{made_at}
-use Rattle.afdx_handle.specs.Listing.{first_made, bytes_of, lengths_of}
 
 -- One frame more.
 pub first_more : (net : Net) (k : ℕ) (it : EndView) → first_made net (k + 1) it ≡ first_made net k it ++ made_at net k it ∷ []

@@ -1,5 +1,5 @@
 use Rattle.afdx_handle.proofs.Fronts.{set_map}
-use Rattle.afdx_handle.specs.Listing.{link_id}
+use Rattle.afdx_handle.proofs.Names.{link_id}
 use Rattle.afdx_handle.proofs.listing.write_link_ids.Goals as goal
 
 pub loop-k-preserved : goal.loop-k-preserved

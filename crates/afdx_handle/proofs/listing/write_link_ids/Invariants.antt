@@ -1,5 +1,4 @@
-use Rattle.std.proofs.Common.{◌≡◌, map, take}
-use Rattle.afdx_handle.specs.Listing.{with_front, link_id}
+use Rattle.afdx_handle.proofs.Names.{◌≡◌, map, take, with_front, link_id}
 use Rattle.afdx_handle.proofs.listing.write_link_ids.Given as goal
 
 abbrev pub invariant-loop-k : goal.invariant-loop-k

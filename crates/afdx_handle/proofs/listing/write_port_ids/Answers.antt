@@ -1,5 +1,5 @@
 use Rattle.afdx_handle.proofs.Fronts.{set_map}
-use Rattle.afdx_handle.specs.Listing.{port_id}
+use Rattle.afdx_handle.proofs.Names.{port_id}
 use Rattle.afdx_handle.proofs.listing.write_port_ids.Goals as goal
 
 pub loop-k-preserved : goal.loop-k-preserved

@@ -1,5 +1,4 @@
-use Rattle.afdx_handle.proofs.Names.{length, sym, ap, subst, ◌∙◌, arith, vec_capacity, IsGatheredTx}
-use Rattle.afdx_handle.proofs.Names.{LacksPlace, Stage, is_gathered, tx_of, EndView, end_view}
+use Rattle.afdx_handle.proofs.Names.{length, sym, ap, subst, ◌∙◌, arith, vec_capacity, IsGatheredTx, LacksPlace, Stage, is_gathered, tx_of, EndView, end_view}
 use Rattle.std.proofs.Common.{refl}
 use Rattle.afdx_handle.proofs.EndPorts.{gathered_whole}
 use Rattle.afdx_handle.proofs.ports.gather.Goals as goal

@@ -1,5 +1,4 @@
-use Rattle.afdx_handle.proofs.Names.{◌≡◌, ◌∙◌, ap, sym, subst, true, false, rules, vec_capacity, PortView, IsPortOfTx, EndView}
-use Rattle.afdx_handle.proofs.Names.{the_view}
+use Rattle.afdx_handle.proofs.Names.{◌≡◌, ◌∙◌, ap, sym, subst, true, false, rules, vec_capacity, PortView, IsPortOfTx, EndView, the_view}
 use Rattle.std.proofs.Common.{List, [], ◌∷◌, ◌++◌}
 use Rattle.afdx_handle.proofs.EndPorts.{gives_kept}
 use Rattle.afdx_handle.proofs.ports.give_back.Goals as goal

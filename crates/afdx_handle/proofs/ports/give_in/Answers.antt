@@ -1,6 +1,4 @@
-use Rattle.afdx_handle.proofs.Names.{Some, sym, ap, ◌∙◌}
-use Rattle.afdx_handle.specs.declared.home.Home.{Home}
-use Rattle.afdx_handle.specs.Held.{end_of}
+use Rattle.afdx_handle.proofs.Names.{Some, sym, ap, ◌∙◌, Home, end_of}
 use Rattle.afdx_handle.proofs.ports.give_in.Goals as goal
 
 pub give_to-requires : goal.give_to-requires

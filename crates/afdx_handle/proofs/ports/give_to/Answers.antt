@@ -1,6 +1,4 @@
-use Rattle.afdx_handle.proofs.Names.{Some, sym, ap, ◌∙◌}
-use Rattle.afdx_handle.specs.declared.home.Home.{Home}
-use Rattle.afdx_handle.specs.Held.{port_of}
+use Rattle.afdx_handle.proofs.Names.{Some, sym, ap, ◌∙◌, Home, port_of}
 use Rattle.afdx_handle.proofs.ports.give_to.Goals as goal
 
 pub give_back-requires : goal.give_back-requires

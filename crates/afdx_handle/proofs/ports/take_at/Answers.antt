@@ -1,5 +1,4 @@
-use Rattle.afdx_handle.proofs.Names.{ℕ, ◌≡◌, sym, subst, Some, position, vec_capacity, rules, EndView, has_id}
-use Rattle.afdx_handle.proofs.Names.{TakesPort, the_view}
+use Rattle.afdx_handle.proofs.Names.{ℕ, ◌≡◌, sym, subst, Some, position, vec_capacity, rules, EndView, has_id, TakesPort, the_view}
 use Rattle.afdx_handle.proofs.EndPorts.{taken}
 use Rattle.afdx_handle.proofs.ports.take_at.Goals as goal
 

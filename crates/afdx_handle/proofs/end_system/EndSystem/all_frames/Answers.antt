@@ -1,8 +1,5 @@
-use Rattle.afdx_handle.proofs.Names.{◌≡◌, ◌≤◌, ◌+◌, ◌∙◌, ℕ, length, sym, ap, subst, arith}
-use Rattle.std.proofs.Common.{List, [], ◌∷◌, ◌++◌, take, drop, set, ◌-◌}
-use Rattle.std.specs.List.{concat}
-use Rattle.afdx_handle.specs.EndSystem.{made_for, made_at}
-use Rattle.afdx_handle.specs.Listing.{first_made, bytes_of, lengths_of, with_front}
+use Rattle.afdx_handle.proofs.Names.{◌≡◌, ◌≤◌, ◌+◌, ◌∙◌, ℕ, length, sym, ap, subst, arith, take, set, ◌-◌, concat, made_for, made_at, first_made, bytes_of, lengths_of, with_front}
+use Rattle.std.proofs.Common.{List, [], ◌∷◌, ◌++◌, drop}
 use Rattle.afdx_handle.proofs.Fronts.{set_front, put_front}
 use Rattle.afdx_handle.proofs.MadeFrames.{bytes_more, bytes_rise, concat_more, count_made, lengths_more}
 use Rattle.afdx_handle.proofs.end_system.EndSystem.all_frames.Goals as goal

@@ -1,6 +1,4 @@
-use Rattle.afdx_handle.proofs.Names.{◌≡◌}
-use Rattle.std.specs.List.{concat}
-use Rattle.afdx_handle.specs.Listing.{first_made, bytes_of, lengths_of, with_front}
+use Rattle.afdx_handle.proofs.Names.{◌≡◌, concat, first_made, bytes_of, lengths_of, with_front}
 use Rattle.afdx_handle.proofs.end_system.EndSystem.all_frames.Given as goal
 
 abbrev pub invariant-loop-k : goal.invariant-loop-k

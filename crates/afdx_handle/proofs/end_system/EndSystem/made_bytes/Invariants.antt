@@ -1,6 +1,4 @@
-use Rattle.afdx_handle.proofs.Names.{◌≡◌, ◌≤◌}
-use Rattle.std.proofs.Common.{◌*◌}
-use Rattle.afdx_handle.specs.Listing.{first_made, bytes_of}
+use Rattle.afdx_handle.proofs.Names.{◌≡◌, ◌≤◌, ◌*◌, first_made, bytes_of}
 use Rattle.afdx_handle.proofs.end_system.EndSystem.made_bytes.Given as goal
 
 abbrev pub invariant-loop-k : goal.invariant-loop-k

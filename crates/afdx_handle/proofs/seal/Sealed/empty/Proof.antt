@@ -1,14 +1,6 @@
 -- `empty` puts null and the allocator's handle together, and owns nothing else.
-use Rattle.afdx_handle.proofs.Names.{refl, List, [], ◌∷◌, ◌++◌, T, lit<, Ura, w64, Val, vint, vstruct, vcons, vnil}
-use Rattle.afdx_handle.proofs.Names.{has_ty, WT, SProp, ent, emp, id⊢, ftrue, fsep, Memory, Routine, WpFn, Tables}
-use Rattle.afdx_handle.proofs.Names.{Logic, Fun, tables, WpFn-mono, Item, ‵, raw, ◌⊛◌, ◌$◌, ◌∵◌, !, qed, by, move}
-use Rattle.afdx_handle.proofs.Names.{drop, use1, join, split, fsplit, fjoin, fpack, feq_i, suffices, done, agg, lit}
-use Rattle.afdx_handle.proofs.Names.{no_more, and_then, returns, enter, alloc_all, pass_all, free_all, look_at, get}
-use Rattle.afdx_handle.proofs.Names.{sets, yes, layout, Valss, null_ptr, ptr_val, type_at, nothing, triple_of}
-use Rattle.afdx_handle.proofs.Names.{entered, says, Stays, stay_dropped, walk_of, ends_at, Goes-dropped, walk_Meets}
-use Rattle.afdx_handle.proofs.Names.{α, Fits, handle_tells, None}
+use Rattle.afdx_handle.proofs.Names.{refl, List, [], ◌∷◌, ◌++◌, T, lit<, Ura, w64, Val, vint, vstruct, vcons, vnil, has_ty, WT, SProp, ent, emp, id⊢, ftrue, fsep, Memory, Routine, WpFn, Tables, Logic, Fun, tables, WpFn-mono, Item, ‵, raw, ◌⊛◌, ◌$◌, ◌∵◌, !, qed, by, move, drop, use1, join, split, fsplit, fjoin, fpack, feq_i, suffices, done, agg, lit, no_more, and_then, returns, enter, alloc_all, pass_all, free_all, look_at, get, sets, yes, layout, Valss, null_ptr, ptr_val, type_at, nothing, triple_of, entered, says, Stays, stay_dropped, walk_of, ends_at, Goes-dropped, walk_Meets, α, Fits, handle_tells, None, tables_of}
 use mathlib.Core.Path.{sym, subst}
-use contract.Running.{tables_of}
 use denote.Struct.Struct.{within}
 use denote.Struct.Owning.{fields, shape, to}
 use Rattle.std_alloc.proofs.ResultValues.{and_tt}

@@ -1,14 +1,6 @@
 -- `into_parts` moves two fields, with what they own.
-use Rattle.afdx_handle.proofs.Names.{refl, List, [], ◌∷◌, ◌++◌, Ura, Val, SProp, ent, id⊢, ftrue, fsep, Memory}
-use Rattle.afdx_handle.proofs.Names.{Routine, WpFn, Tables, Logic, Fun, fact, tables, WpFn-mono, Item, ‵, raw, ◌⊛◌}
-use Rattle.afdx_handle.proofs.Names.{◌$◌, ◌∵◌, !, qed, by, move, drop, use1, join, split, rewrite, fsplit, fjoin}
-use Rattle.afdx_handle.proofs.Names.{suffices, done, whole, sub, agg, stop, fld, no_more, and_then, of_opd, returns}
-use Rattle.afdx_handle.proofs.Names.{enter, alloc_all, pass_all, free_all, look_at, get, get_in, sets, yes, type_at}
-use Rattle.afdx_handle.proofs.Names.{heard, nothing, triple_of, entered, says, Stays, stay_dropped, walk_of}
-use Rattle.afdx_handle.proofs.Names.{ends_at, Goes-dropped, walk_Meets, Option, IsSome, D, X, B, word, box_typed}
-use Rattle.afdx_handle.proofs.Names.{box_out, box_in}
+use Rattle.afdx_handle.proofs.Names.{refl, List, [], ◌∷◌, ◌++◌, Ura, Val, SProp, ent, id⊢, ftrue, fsep, Memory, Routine, WpFn, Tables, Logic, Fun, fact, tables, WpFn-mono, Item, ‵, raw, ◌⊛◌, ◌$◌, ◌∵◌, !, qed, by, move, drop, use1, join, split, rewrite, fsplit, fjoin, suffices, done, whole, sub, agg, stop, fld, no_more, and_then, of_opd, returns, enter, alloc_all, pass_all, free_all, look_at, get, get_in, sets, yes, type_at, heard, nothing, triple_of, entered, says, Stays, stay_dropped, walk_of, ends_at, Goes-dropped, walk_Meets, Option, IsSome, D, X, B, word, box_typed, box_out, box_in, tables_of}
 use mathlib.Core.Path.{sym, subst}
-use contract.Running.{tables_of}
 use Rattle.afdx_handle.proofs.AsBox.{E, FromSeal as From, held_of}
 use Rattle.afdx_handle.specs.contracts.seal.Sealed.{the_row as Sealed}
 use Rattle.afdx_handle.specs.contracts.seal.Sealed.into_parts.Key.{name as #self}

@@ -1,14 +1,6 @@
 -- `of_parts` moves two fields, with what they own.
-use Rattle.afdx_handle.proofs.Names.{refl, List, [], ◌∷◌, ◌++◌, Ura, Val, SProp, ent, emp, id⊢, ftrue, fsep, Memory}
-use Rattle.afdx_handle.proofs.Names.{Routine, WpFn, Tables, Logic, Fun, tables, WpFn-mono, Item, ‵, raw, ◌⊛◌, ◌$◌}
-use Rattle.afdx_handle.proofs.Names.{◌∵◌, !, qed, by, move, drop, use1, join, split, fsplit, fjoin, suffices, done}
-use Rattle.afdx_handle.proofs.Names.{whole, sub, agg, stop, fld, no_more, and_then, of_opd, returns, enter}
-use Rattle.afdx_handle.proofs.Names.{alloc_all, pass_all, free_all, look_at, get, get_in, sets, yes, type_at}
-use Rattle.afdx_handle.proofs.Names.{nothing, triple_of, entered, says, Stays, stay_dropped, walk_of, ends_at}
-use Rattle.afdx_handle.proofs.Names.{Goes-dropped, walk_Meets, D, B, word, box_typed, box_out, box_in}
+use Rattle.afdx_handle.proofs.Names.{refl, List, [], ◌∷◌, ◌++◌, Ura, Val, SProp, ent, emp, id⊢, ftrue, fsep, Memory, Routine, WpFn, Tables, Logic, Fun, tables, WpFn-mono, Item, ‵, raw, ◌⊛◌, ◌$◌, ◌∵◌, !, qed, by, move, drop, use1, join, split, fsplit, fjoin, suffices, done, whole, sub, agg, stop, fld, no_more, and_then, of_opd, returns, enter, alloc_all, pass_all, free_all, look_at, get, get_in, sets, yes, type_at, nothing, triple_of, entered, says, Stays, stay_dropped, walk_of, ends_at, Goes-dropped, walk_Meets, D, B, word, box_typed, box_out, box_in, tables_of, Some}
 use mathlib.Core.Path.{sym, subst}
-use contract.Running.{tables_of}
-use Rattle.std.specs.Prelude.{Some}
 use Rattle.afdx_handle.proofs.AsBox.{E, FromParts as From}
 use Rattle.afdx_handle.specs.contracts.seal.Sealed.of_parts.Key.{name as #self}
 use Rattle.afdx_handle.specs.contracts.seal.Sealed.of_parts as F

@@ -1,17 +1,6 @@
 -- `into_box` passes what the parts own to `from_raw`.
-use Rattle.afdx_handle.proofs.Names.{refl, List, [], ◌∷◌, ◌++◌, T, Ura, Fn, Body, place, copy, assign, rv_opd, seq}
-use Rattle.afdx_handle.proofs.Names.{return, inst_fn, Val, vptr, has_ty, WT, SProp, ent, id⊢, ftrue, fsep, flft}
-use Rattle.afdx_handle.proofs.Names.{◌⊑◌, Memory, Routine, WpFn, Tables, Logic, Fun, fact, tables, fm_of, WpFn-mono}
-use Rattle.afdx_handle.proofs.Names.{Item, at_ret, ‵, raw, ◌⊛◌, some, later, ◌$◌, ◌∵◌, !, qed, by, move, drop, use1}
-use Rattle.afdx_handle.proofs.Names.{join, split, split3, pick, rewrite, fsplit, fjoin, feq_i, suffices, await}
-use Rattle.afdx_handle.proofs.Names.{done, whole, sub, stop, fld, no_more, and_then, of_opd, returns, enter, first}
-use Rattle.afdx_handle.proofs.Names.{blocks, exec, alloc_all, pass_all, free_all, look_at, get, get_in, sets}
-use Rattle.afdx_handle.proofs.Names.{lands_last, env, RattleType, no, block_ptr, plain, heard, nothing, only}
-use Rattle.afdx_handle.proofs.Names.{calls_at_last, Ended, Clauses, triple_of, Triple, Contract, entered, says}
-use Rattle.afdx_handle.proofs.Names.{Stays, stay_dropped, walk_of, ends_at, walk_Meets, token, Goes-blank, box_owns}
-use Rattle.afdx_handle.proofs.Names.{Bx, D, R, P, B, args, box_ty, word, box_typed, box_out, box_in}
+use Rattle.afdx_handle.proofs.Names.{refl, List, [], ◌∷◌, ◌++◌, T, Ura, Fn, Body, place, copy, assign, rv_opd, seq, return, inst_fn, Val, vptr, has_ty, WT, SProp, ent, id⊢, ftrue, fsep, flft, ◌⊑◌, Memory, Routine, WpFn, Tables, Logic, Fun, fact, tables, fm_of, WpFn-mono, Item, at_ret, ‵, raw, ◌⊛◌, some, later, ◌$◌, ◌∵◌, !, qed, by, move, drop, use1, join, split, split3, pick, rewrite, fsplit, fjoin, feq_i, suffices, await, done, whole, sub, stop, fld, no_more, and_then, of_opd, returns, enter, first, blocks, exec, alloc_all, pass_all, free_all, look_at, get, get_in, sets, lands_last, env, RattleType, no, block_ptr, plain, heard, nothing, only, calls_at_last, Ended, Clauses, triple_of, Triple, Contract, entered, says, Stays, stay_dropped, walk_of, ends_at, walk_Meets, token, Goes-blank, box_owns, Bx, D, R, P, B, args, box_ty, word, box_typed, box_out, box_in, tables_of}
 use mathlib.Core.Path.{◌≡◌, sym, subst, ap}
-use contract.Running.{tables_of}
 use Rattle.afdx_handle.specs.contracts.seal.parts.Parts.into_box.Key.{name as #self}
 use Rattle.afdx_handle.specs.contracts.seal.parts.Parts as parts
 use Rattle.std_alloc.specs.contracts.boxed.Box.from_raw as Fr

@@ -1,19 +1,7 @@
 -- `of` takes the box apart, and the parts own what it owned.
-use Rattle.afdx_handle.proofs.Names.{refl, List, [], ◌∷◌, ◌++◌, Ura, Fn, Args, Dict, a_type, dcons, dnil, inst_fn}
-use Rattle.afdx_handle.proofs.Names.{Val, vstruct, of_list, SProp, ent, id⊢, never, fst∗, ftrue, fsep, flft, ◌⊑◌}
-use Rattle.afdx_handle.proofs.Names.{Memory, Routine, WpFn, Tables, Logic, sem, Fun, fact, tables, fm_of, WpFn-mono}
-use Rattle.afdx_handle.proofs.Names.{Item, ‵, raw, ◌⊛◌, some, later, ◌$◌, ◌∵◌, !, qed, by, move, drop, use1, join}
-use Rattle.afdx_handle.proofs.Names.{split, split3, pick, rewrite, fsplit, fjoin, fpick, feq_l, suffices, await}
-use Rattle.afdx_handle.proofs.Names.{done, whole, sub, agg, stop, fld, no_more, and_then, of_opd, returns, enter}
-use Rattle.afdx_handle.proofs.Names.{alloc_all, pass_all, free_all, look_at, get, get_in, sets, lands_as}
-use Rattle.afdx_handle.proofs.Names.{RattleType, no, bounded, Ptr, RawPtr, block_ptr, null_ptr, ptr_val, in_a_block}
-use Rattle.afdx_handle.proofs.Names.{plain, heard, nothing, only, calls_at, Ended, Clauses, triple_of, Triple}
-use Rattle.afdx_handle.proofs.Names.{Contract, entered, says, Stays, stay_dropped, walk_of, ends_at, walk_Meets}
-use Rattle.afdx_handle.proofs.Names.{token, handle_tells, Goes-blank, box_owns, Bx, D, τ, R, P, B, word, box_typed}
-use Rattle.afdx_handle.proofs.Names.{box_out, box_in}
+use Rattle.afdx_handle.proofs.Names.{refl, List, [], ◌∷◌, ◌++◌, Ura, Fn, Args, Dict, a_type, dcons, dnil, inst_fn, Val, vstruct, of_list, SProp, ent, id⊢, never, fst∗, ftrue, fsep, flft, ◌⊑◌, Memory, Routine, WpFn, Tables, Logic, sem, Fun, fact, tables, fm_of, WpFn-mono, Item, ‵, raw, ◌⊛◌, some, later, ◌$◌, ◌∵◌, !, qed, by, move, drop, use1, join, split, split3, pick, rewrite, fsplit, fjoin, fpick, feq_l, suffices, await, done, whole, sub, agg, stop, fld, no_more, and_then, of_opd, returns, enter, alloc_all, pass_all, free_all, look_at, get, get_in, sets, lands_as, RattleType, no, bounded, Ptr, RawPtr, block_ptr, null_ptr, ptr_val, in_a_block, plain, heard, nothing, only, calls_at, Ended, Clauses, triple_of, Triple, Contract, entered, says, Stays, stay_dropped, walk_of, ends_at, walk_Meets, token, handle_tells, Goes-blank, box_owns, Bx, D, τ, R, P, B, word, box_typed, box_out, box_in, tables_of}
 use mathlib.Core.Path.{◌≡◌, sym, subst, ap, ◌∙◌}
 use mir.Raw.{raw as bare}
-use contract.Running.{tables_of}
 use denote.Struct.Tuple.{Tuple}
 use Rattle.afdx_handle.specs.contracts.seal.parts.Parts.of.Key.{name as #self}
 use Rattle.afdx_handle.specs.contracts.seal.parts.Parts as parts
