@@ -1,7 +1,5 @@
 -- Twins of any frame, and of the fragments of a list of messages.
-use Rattle.afdx_frame.proofs.Names.{◌≡◌, ◌≢◌, ℕ, suc, ◌+◌, ◌-◌, ◌*◌, ◌%◌, ◌≤◌, inl, inr, List, [], ◌∷◌, length, map, take, set, refl, sym, ap, ◌∙◌, arith, slice_index, length-set, length-take}
-use Rattle.afdx_frame.proofs.Names.{get_or-set_same, get_or-set_other, set-get_or, set-set, set_past, take-set-le, map-append, cases_lt, take-set-lt, identification, Net, interface_byte, link_header}
-use Rattle.afdx_frame.proofs.Names.{unnumbered, word_at, link_in, sub_in, number_in, Sent, blanked, fragments_at, fragments_from}
+use Rattle.afdx_frame.proofs.Names.{◌≡◌, ◌≢◌, ℕ, suc, ◌+◌, ◌-◌, ◌*◌, ◌%◌, ◌≤◌, inl, inr, List, [], ◌∷◌, length, map, take, set, refl, sym, ap, ◌∙◌, arith, slice_index, length-set, length-take, get_or-set_same, get_or-set_other, set-get_or, set-set, set_past, take-set-le, map-append, cases_lt, take-set-lt, identification, Net, interface_byte, link_header, unnumbered, word_at, link_in, sub_in, number_in, Sent, blanked, fragments_at, fragments_from}
 use Rattle.std.proofs.lemmas.Simd.{map-map}
 use Rattle.afdx_frame.specs.Twin.{twin_of}
 

@@ -1,6 +1,5 @@
 -- A generated checksum passes the receiver's check, and a changed word fails it.
-use Rattle.afdx_frame.proofs.Names.{◌≡◌, ℕ, zero, suc, ◌+◌, ◌*◌, ◌⊎◌, inl, inr, List, [], ◌∷◌, ◌++◌, length, ap, ◌∙◌, arith, PortPlan, two_bytes, OneUdpChecksum, word_sum, udp_checksum, datagram}
-use Rattle.afdx_frame.proofs.Names.{datagram_len, udp_field, udp_front, udp_header, udp_sum, ChecksumsPass, ReassembledPass, ChangedWordsFail}
+use Rattle.afdx_frame.proofs.Names.{◌≡◌, ℕ, zero, suc, ◌+◌, ◌*◌, ◌⊎◌, inl, inr, List, [], ◌∷◌, ◌++◌, length, ap, ◌∙◌, arith, PortPlan, two_bytes, OneUdpChecksum, word_sum, udp_checksum, datagram, datagram_len, udp_field, udp_front, udp_header, udp_sum, ChecksumsPass, ReassembledPass, ChangedWordsFail}
 use Rattle.std.proofs.lemmas.List.{length-append}
 use Rattle.afdx_plan.specs.declared.identifiers.UdpSum.TheVariants.{Generated}
 use Rattle.afdx_frame.proofs.Buffers.{any_order_holds}
@@ -11,8 +10,7 @@ pub one_udp_checksum : OneUdpChecksum
 unfolding udp_checksum
 one_udp_checksum sum = (
   record { some = omega arith; range = omega arith; multiple = omega arith },
-  λ c is. let s = is.some in let r = is.range in let m =
-      is.multiple in omega arith,
+  λ c is. let s = is.some in let r = is.range in let m = is.multiple in omega arith,
 )
 
 -- The word sum of two lists, if the first has an even length.
@@ -20,8 +18,7 @@ pub word_sum-append : (words : ℕ) (xs ys : List ℕ) → length xs ≡ 2 * wor
 word_sum-append words [] ys whole = omega arith
 word_sum-append words (a ∷ []) ys whole = absurd (omega (arith, whole))
 word_sum-append zero (a ∷ b ∷ xs) ys whole = absurd (omega (arith, whole))
-word_sum-append (suc words) (a ∷ b ∷ xs) ys whole =
-    let later = word_sum-append words xs ys (omega (arith, whole)) in omega (arith, later)
+word_sum-append (suc words) (a ∷ b ∷ xs) ys whole = omega (arith, word_sum-append words xs ys (omega (arith, whole)))
 
 -- The word sum of the UDP header.
 header_sum : (end_system : ℕ) (port : PortPlan) (message : List ℕ) → port.checksum ≡ Generated
