@@ -1,6 +1,5 @@
 -- How long a message waits, by the polls of its link.
-use Rattle.vl_shaper.proofs.Names.{ℕ, zero, suc, ◌≡◌, ◌+◌, ◌-◌, ◌*◌, ◌<◌, ◌≤◌, Bool, true, false, nat_le, ◌&&◌, cond, List, [], ◌∷◌, arith, refl, ap, ◌∙◌, sym, ◌⊎◌, inl, inr, mul-suc, Option, Some}
-use Rattle.vl_shaper.proofs.Names.{None, and_from, le-leb, cases_lt, cases_eq, eq-eqb, ne_eqb, mul-le, sum_by-cons, Choice, next_turn, IsChosen, is_due, turn_of, IsLater, Stamp}
+use Rattle.vl_shaper.proofs.Names.{ℕ, zero, suc, ◌≡◌, ◌+◌, ◌-◌, ◌*◌, ◌<◌, ◌≤◌, Bool, true, false, nat_le, ◌&&◌, cond, List, [], ◌∷◌, arith, refl, ap, ◌∙◌, sym, ◌⊎◌, inl, inr, mul-suc, Option, Some, None, and_from, le-leb, cases_lt, cases_eq, eq-eqb, ne_eqb, mul-le, sum_by-cons, Choice, next_turn, IsChosen, is_due, turn_of, IsLater, Stamp}
 use Rattle.vl_shaper.specs.Polls.{Poll, IsServed, AreServed, ArePolled, latest_poll, is_of, HasAtPolls, released_by, PolledInTime}
 use Rattle.vl_shaper.proofs.OneEach.{back, back_lt, back_self, turn_cases, chosen_behind}
 

@@ -1,6 +1,5 @@
 -- The turns of sub-VLs.
-use Rattle.vl_shaper.proofs.Names.{ℕ, suc, ◌≡◌, ◌+◌, ◌-◌, ◌*◌, ◌/◌, ◌%◌, ◌<◌, ◌≤◌, Option, Some, None, arith, refl, ap, ◌∙◌, ⊎_elim, suc-mul, cases_lt, mod_below, mod-mul-add, div-add-mod', turn_of}
-use Rattle.vl_shaper.proofs.Names.{Stamp}
+use Rattle.vl_shaper.proofs.Names.{ℕ, suc, ◌≡◌, ◌+◌, ◌-◌, ◌*◌, ◌/◌, ◌%◌, ◌<◌, ◌≤◌, Option, Some, None, arith, refl, ap, ◌∙◌, ⊎_elim, suc-mul, cases_lt, mod_below, mod-mul-add, div-add-mod', turn_of, Stamp}
 
 -- Each turn is that of a sub-VL of the link.
 pub turn_below : (sub_vls : ℕ) (last : Option Stamp) (k : ℕ) → k < sub_vls → turn_of sub_vls last k < sub_vls

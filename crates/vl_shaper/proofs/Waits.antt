@@ -1,6 +1,5 @@
 -- How long a sub-VL waits, in choices and by the clock, and rounds in which it waits that long.
-use Rattle.vl_shaper.proofs.Names.{ℕ, zero, suc, ◌≡◌, ◌≢◌, ◌+◌, ◌-◌, ◌*◌, ◌<◌, ◌≤◌, List, [], ◌∷◌, length, take, arith, refl, ap, ◌∙◌, subst, inl, inr, mul-suc, suc-mul, lt_of_mul-lt-mul_left}
-use Rattle.vl_shaper.proofs.Names.{All-cons, All-nil, All-weaker, Choice, next_turn, AreChosen, turns_of, HasUntil, QueuedMessage, BoundIsMet, Release, choices_of, IsPaced, IsBy, InTime, busy_choice}
+use Rattle.vl_shaper.proofs.Names.{ℕ, zero, suc, ◌≡◌, ◌≢◌, ◌+◌, ◌-◌, ◌*◌, ◌<◌, ◌≤◌, List, [], ◌∷◌, length, take, arith, refl, ap, ◌∙◌, subst, inl, inr, mul-suc, suc-mul, lt_of_mul-lt-mul_left, All-cons, All-nil, All-weaker, Choice, next_turn, AreChosen, turns_of, HasUntil, QueuedMessage, BoundIsMet, Release, choices_of, IsPaced, IsBy, InTime, busy_choice}
 use Rattle.std.specs.Prelude.{All}
 use Rattle.std.proofs.lemmas.List.{length-map, take-map, take_all}
 use Rattle.vl_shaper.proofs.OneEach.{back, back_cases, back_lt, back_self, turn_cases, turn_lt, chosen_behind, count_cases}

@@ -1,6 +1,7 @@
--- The worked choices and the worked wait, by computation.
+-- The worked choices, waits and polls, by computation.
 use Rattle.vl_shaper.proofs.Names.{ℕ, ◌≡◌, ◌≢◌, ◌<◌, ◌≤◌, true, refl, arith, ne_eqb, All-from_recursion, Choice, next_turn, IsChosen, lone_choice, busy_release, ChoosesOneEach, WaitsBehindOne}
-use Rattle.vl_shaper.proofs.Names.{LeavesOneBehind, WaitsFourChoices, ReleasesTooLate}
+use Rattle.vl_shaper.proofs.Names.{LeavesOneBehind, WaitsFourChoices, ReleasesTooLate, nat_eq, turn_of}
+use Rattle.vl_shaper.specs.WorkedPolls.{served_at_0, ServesInTime, ReleasesAtOnce, PolledTooLate}
 
 -- A sub-VL that has the first turn and has something is chosen.
 pub first_chosen : (subs : ℕ) (order : ℕ → ℕ) (c : Choice) → 1 ≤ subs → c.sub ≡ order 0 → c.has c.sub ≡ true
@@ -39,3 +40,22 @@ releases_too_late = record {
   rounds = omega arith;
   by = λ by. let fourth : 4500 ≤ 4400 = by 3 (busy_release 0 0) (omega arith) in absurd (omega arith);
 }
+
+-- Sub-VL 1 had nothing, so sub-VL 0 is chosen.
+second_chosen : IsChosen 2 (turn_of 2 served_at_0) (record { has = λ s. nat_eq s 0; sub = 0 })
+second_chosen = record {
+  turn = 1;
+  within = omega arith;
+  is = refl;
+  had = refl;
+  before = λ k h. ne_eqb (turn_of 2 served_at_0 k) 0 (λ e. omega arith);
+}
+
+pub serves_in_time : ServesInTime
+serves_in_time = search (arith, first_chosen)
+
+pub releases_at_once : ReleasesAtOnce
+releases_at_once = search (arith, second_chosen, first_chosen)
+
+pub polled_too_late : PolledTooLate
+polled_too_late = search (arith, first_chosen)

@@ -60,7 +60,7 @@ pub fn in_time()
 /// At acceptance the link may be due or not, and may have released a frame before or not. Two
 /// premises: polls come until then, and the message's sub-VL has something at each of them until
 /// the message is wholly released. The law doesn't cover the time that the networks take.
-#[tactic(auto, using(crate::proofs::Polled::polled_in_time_holds, crate::proofs::WorkedSixPolls::serves_in_time, crate::proofs::WorkedSixPolls::releases_at_once, crate::proofs::WorkedSixPolls::polled_too_late))]
+#[tactic(auto, using(crate::proofs::Polled::polled_in_time_holds, crate::proofs::WorkedTurns::serves_in_time, crate::proofs::WorkedTurns::releases_at_once, crate::proofs::WorkedTurns::polled_too_late))]
 pub fn polled_in_time()
     ensures bound { PolledInTime }
 
