@@ -1,5 +1,4 @@
--- A receiver's check of the UDP checksum (RFC 768), on the datagram put together from its
--- fragments.
+-- A receiver's check of the UDP checksum (RFC 768), on the datagram put together from its fragments.
 use Rattle.std.specs.Prelude.{◌≡◌, ◌≢◌, ℕ, ◌+◌, ◌*◌, ◌%◌, ◌≤◌, ◌⊎◌, ◌↔◌, Some, List, [], ◌++◌, length, Contains}
 use Rattle.afdx_plan.specs.declared.identifiers.UdpSum.TheVariants.{Generated}
 use Rattle.afdx_plan.specs.declared.port_plan.PortPlan.{PortPlan}

@@ -1,5 +1,4 @@
--- Worked cases of the laws, by subject: a header and a cutting, fragments, a reassembly, UDP
--- checksums.
+-- Worked cases of the laws, by subject: a header and a cutting, fragments, a reassembly, UDP checksums.
 use Rattle.std.specs.Prelude.{◌≡◌, ℕ, ◌+◌, List, [], ◌∷◌, ◌≤◌, false, ◌++◌, length, map, replicate, slice_index, ◌↔◌, true, Some, None, Contains}
 use Rattle.std.specs.List.{AllByRecursion}
 use Rattle.afdx_frame.specs.Checksum.{IsChecksum, word_sum, checksum, IsUdpChecksum, udp_checksum}

@@ -54,8 +54,7 @@ made_at net k it = (entry_at (line_of net it.tx.lines) (before_of net it + k)).f
 abbrev pub IsAllSent : EndView → Type 0
 IsAllSent it = IsAllDone it.tx.plan (accepted_in it.tx.links) (log it.tx.lines)
 
--- the invariant of an end system: its ports are its emitter's, and a poll makes at most 64 frames
--- for a network
+-- the invariant of an end system: its ports are its emitter's, and a poll makes at most 64 frames for a network
 pub record IsEndSystem (it : EndView) : Type 0 where
   pub mirrored : IsMirrored it.tx.lines
   pub own : it.gathered ≡ false → AreOpenedWith it.tx it.ports
@@ -99,8 +98,7 @@ pub record TakesPort (old : EndView) (id : ℕ) (port : PortView) (new : EndView
 pub record GivesBack (old : EndView) (port : PortView) (new : EndView) : Type 0 where
   pub same : new ≡ record old { ports = old.ports ++ port ∷ []; room = new.room }
 
--- An end system of this text: nothing was accepted, polled or transmitted, and all its ports are in
--- it.
+-- An end system of this text: nothing was accepted, polled or transmitted, and all its ports are in it.
 pub record IsOpened (text : List ℕ) (it : EndView) : Type 0 where
   pub plan : Plan
   pub of : IsPlanOf text plan

@@ -4,8 +4,7 @@ use Rattle.afdx_config.specs.Findings.{Finding}
 use Rattle.afdx_config.specs.Explained.{Explains}
 use Rattle.afdx_handle.specs.Listing.{with_front}
 
--- the explanation of the text has `size` bytes, and as many of them as fit were written over the
--- buffer's front
+-- the explanation of the text has `size` bytes, and as many of them as fit were written over the buffer's front
 pub record IsExplainedIn (text old new : List ℕ) (size : ℕ) : Type 0 where
   pub findings : List Finding
   pub told : List ℕ

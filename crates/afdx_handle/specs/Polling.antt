@@ -56,8 +56,7 @@ abbrev pub KeepsMessages : Bool → (old new : Tx) → Type 0
 KeepsMessages false old new = KeepsQueues old new
 KeepsMessages true old new = accepted_in new.links ≡ accepted_in old.links
 
--- A poll at `now`: its report, the turns of the links, and that the transmitted frames are legal
--- and take turns.
+-- A poll at `now`: its report, the turns of the links, and that the transmitted frames are legal and take turns.
 pub record PollsTx (gathered : Bool) (now : ℕ) (old : Tx) (report : Report) (new : Tx) : Type 0 where
   pub told : Polls now old report new
   pub run : Runs gathered now old new

@@ -1,5 +1,4 @@
--- A `Sealed` owns nothing while it is empty, and otherwise the same as a `Box<Home>` from the C
--- library's heap.
+-- A `Sealed` owns nothing while it is empty, and otherwise the same as a `Box<Home>` from the C library's heap.
 use base.Fml.{Fml, ftrue}
 use denote.RawPtr.{Ptr}
 use Rattle.std.specs.Prelude.{Option, Some, None}

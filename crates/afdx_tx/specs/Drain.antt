@@ -33,8 +33,7 @@ accepted_in links k s = accepted_by (held_at (link_at links k).subs s)
 abbrev pub pace_in : LinkPlan → List Entry → Pace
 pace_in link log = pace_of (bag_micros link.bag) link.sub_vls (link_stream link.id.0 log)
 
--- a turn over accepted lists: a sub-VL has something if one of its accepted messages isn't wholly
--- released
+-- a turn over accepted lists: a sub-VL has something if one of its accepted messages isn't wholly released
 abbrev pub accepted_view : ℕ → LinkPlan → (ℕ → List Sent) → List Entry → TurnView
 accepted_view end_system link accepted log = record {
   lacks = IsReleased end_system link accepted log;

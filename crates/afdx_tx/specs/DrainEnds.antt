@@ -44,9 +44,8 @@ AreDrained plan accepted [] lines after = after ≡ lines
 AreDrained plan accepted (now ∷ moments) lines after =
     (mid : Lines) × IsDrained now plan accepted lines mid × AreDrained plan accepted moments mid after
 
--- Polls that are apart by the greatest gap of the plan, the first of them that long after each
--- release, transmit all that is left, if they are more than the frames that each link owes and a
--- network that carries it is up afterwards.
+-- Polls that are apart by the greatest gap of the plan, the first of them that long after each release, transmit all
+-- that is left, if they are more than the frames that each link owes and a network that carries it is up afterwards.
 abbrev pub DrainEnds : Type 0
 DrainEnds = (plan : Plan) (accepted : Accepted) (moments : List ℕ) (lines after : Lines) (start gap : ℕ)
     → IsPlan plan

@@ -56,9 +56,8 @@ pub record GathersPorts (config : Plan) (old : List LinkState) (ports : List Por
 abbrev pub held_for : Tx → PortPlan → Held
 held_for tx port = held_at (link_at tx.links (link_place tx.plan port)).subs port.sub
 
--- The port at this place is in the list. The part of it that its sub-VL accepted is the port's own
--- list, of messages that it may send. In the sub-VL's list they are at the places that the port's
--- sends drew.
+-- The port at this place is in the list. The part of it that its sub-VL accepted is the port's own list, of messages
+-- that it may send. In the sub-VL's list they are at the places that the port's sends drew.
 pub record HasOwnPart (tx : Tx) (ports : List PortView) (place : ℕ) : Type 0 where
   pub port : PortView
   pub inside : Contains ports port

@@ -24,8 +24,7 @@ abbrev pub IsFirstDue : (now : ℕ) → List LinkState → Lines → (many : ℕ
 IsFirstDue now links lines many None = NoneDueBefore now links lines many (2 ^ 64)
 IsFirstDue now links lines many (Some at) = OneDueAt now links lines many at × NoneDueBefore now links lines many at
 
--- the first time after the last poll at which a link of the emitter may release a frame and
--- couldn't then
+-- the first time after the last poll at which a link of the emitter may release a frame and couldn't then
 abbrev pub TellsNextDue : Tx → Option ℕ → Type 0
 TellsNextDue tx next = IsFirstDue tx.moment tx.links tx.lines (length tx.links) next
 

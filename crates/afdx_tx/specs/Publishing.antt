@@ -25,8 +25,7 @@ pub record PublishesCounts (links : List LinkState) (old new : List Published) :
 abbrev pub counts_at : Tx → ℕ → Counts
 counts_at tx k = counts_in (own_stream (link_plan_at tx.plan.links k).id.0 tx.lines.a tx.lines.b)
 
--- the counts of the link with this identifier, as they would be published now; none exactly if
--- there is no such link
+-- the counts of the link with this identifier, as they would be published now; none exactly if there is no such link
 pub record ShowsCounts (tx : Tx) (vl : ℕ) (shown : Option Counts) : Type 0 where
   pub missing : IsNone shown ↔ LacksLink tx.plan vl
   pub counts : IfSome shown (λ counts. counts ≡ counts_in (own_stream vl tx.lines.a tx.lines.b))

@@ -86,9 +86,8 @@ module _ {T : Type 0} where
   abbrev pub freed_of : View T → ℕ × T → View T
   freed_of v x = record v { stage = Idle; taken = v.taken ++ x ∷ [] }
 
-  -- A slot request reads 2 ^ 32 and the capacity, less the held messages and the slot requests
-  -- under way; `load` is the number of these. It finds room exactly if the word read is over 2 ^
-  -- 32.
+  -- A slot request reads 2 ^ 32 and the capacity, less the held messages and the slot requests under way; `load` is
+  -- the number of these. It finds room exactly if the word read is over 2 ^ 32.
   abbrev pub asks : Step (Option (ℕ × T)) → Seated T → ℕ → Seated T → Type 0
   asks st m r m' = (m'.1 ≡ m.1) × (r + m'.0.load ≡ 2 ^ 32 + st.slots)
       × (2 ^ 32 < r → m'.0 ≡ with_ask m.0 Asked m'.0.load) × (r ≤ 2 ^ 32 → m'.0 ≡ with_ask m.0 Refused m'.0.load)
@@ -133,8 +132,7 @@ module _ {T : Type 0} where
   abbrev pub closes : Step (Option (ℕ × T)) → Seated T → ℕ → Seated T → Type 0
   closes st m r m' = (m'.1 ≡ m.1) × (r < 2 ^ 63) × (length m.0.taken ≤ r) × (m'.0 ≡ with_total m.0 r)
 
-  -- once every sender has joined, l is the list of all accepted messages, in agreement with the
-  -- receiver's view
+  -- once every sender has joined, l is the list of all accepted messages, in agreement with the receiver's view
   pub record IsLog (slots : ℕ) (v : View T) (l : List (ℕ × T)) : Type 0 where
     pub begins : v.taken ≡ take (length v.taken) l
     pub behind : length v.taken ≤ length l

@@ -1,5 +1,4 @@
--- The ends of a queue as contracts see them. A message is a pair of its sender's index and its
--- bytes.
+-- The ends of a queue as contracts see them. A message is a pair of its sender's index and its bytes.
 use Rattle.std.specs.Prelude.{◌≡◌, ℕ, ◌+◌, ◌<◌, ◌≤◌, Bool, true, false, ◌⊎◌, List, [], ◌∷◌, ◌++◌, length, map, get_or, slice_index_or, Contains, Option, Some, None}
 use Rattle.atomic_table.specs.Seated.{TableId}
 use Rattle.subvl_queue.specs.declared.refused.Why.{Why}
@@ -26,17 +25,15 @@ pub record SenderView : Type 0 where
   pub own : List (List ℕ)
   pub places : List ℕ
 
--- what a sender brings back: its index, its own accepted messages, and their places among all
--- accepted messages
+-- what a sender brings back: its index, its own accepted messages, and their places among all accepted messages
 pub record Brought : Type 0 where
   pub port : ℕ
   pub own : List (List ℕ)
   pub places : List ℕ
 
--- A receiver. `ports` is the number of its queue's senders; `looks` is how often it polled the
--- queue, and `found` whether the last poll found a message. `taken` has the messages taken, in
--- order, `total` the number of accepted messages once the queue is closed, and `back` what the
--- senders brought that were taken back.
+-- A receiver. `ports` is the number of its queue's senders; `looks` is how often it polled the queue, and `found`
+-- whether the last poll found a message. `taken` has the messages taken, in order, `total` the number of accepted
+-- messages once the queue is closed, and `back` what the senders brought that were taken back.
 pub record ReceiverView : Type 0 where
   pub queue : QueueName
   pub capacity : ℕ
@@ -100,8 +97,7 @@ sent s load place bytes = record s {
   places = s.places ++ place ∷ [];
 }
 
--- The message was accepted at the place drawn for it. The call's own slot request found the queue
--- below its capacity.
+-- The message was accepted at the place drawn for it. The call's own slot request found the queue below its capacity.
 abbrev pub IsPlaced : SenderView → List ℕ → SenderView → Type 0
 IsPlaced s bytes t = (s.asks < s.calls) × (t.load < s.capacity) × ((place : ℕ) × (t ≡ sent s t.load place bytes))
 

@@ -33,10 +33,9 @@ abbrev pub IsLinkTied : LinkState → List Entry → Type 0
 IsLinkTied link log = (s : ℕ) → s < link.plan.sub_vls
     → IsTied (held_at link.subs s) (sub_stream s (link_stream link.plan.id.0 log))
 
--- A link's stream is numbered and spaced, and each sub-VL's stream is a prefix of the fragments of
--- the messages that it took. Each frame is of the chosen sub-VL. If no frame was lost, the
--- regulation agrees with the stream, and each sub-VL is tied to its own. If one was lost, some
--- sub-VL lacks fragments. The counts are those of the stream.
+-- A link's stream is numbered and spaced, and each sub-VL's stream is a prefix of the fragments of the messages that
+-- it took. Each frame is of the chosen sub-VL. If no frame was lost, the regulation agrees with the stream, and each
+-- sub-VL is tied to its own. If one was lost, some sub-VL lacks fragments. The counts are those of the stream.
 pub record IsKept (link : LinkState) (log : List Entry) : Type 0 where
   pub numbered : IsNumbered entry_number 0 (link_stream link.plan.id.0 log)
   pub spaced : IsSpaced link.pace.gap None (link_stream link.plan.id.0 log)

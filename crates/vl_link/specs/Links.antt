@@ -32,8 +32,7 @@ abbrev pub message_fragments : SubVl → ℕ → Sent → List (List ℕ)
 message_fragments of place sent =
     fragments_at of.end_system (room_of of.link.lmax) A place sent
 
--- A sub-VL: its ports in the order of the configuration, the fragments left of the message being
--- sent, and its queue.
+-- A sub-VL: its ports in the order of the configuration, the fragments left of the message being sent, and its queue.
 pub record Held : Type 0 where
   pub of : SubVl
   pub ports : List PortPlan
@@ -164,8 +163,7 @@ abbrev pub AreSubsOf : LinkPlan → List Held → Type 0
 AreSubsOf plan subs = (s : ℕ) → s < length subs
     → ((held_at subs s).of.link ≡ plan) × ((held_at subs s).of.sub ≡ s)
 
--- The sub-VL is the same, with the same ports and queue. If the known messages were of its ports,
--- they still are.
+-- The sub-VL is the same, with the same ports and queue. If the known messages were of its ports, they still are.
 pub record IsSameSub (old new : Held) : Type 0 where
   pub of : new.of ≡ old.of
   pub ports : new.ports ≡ old.ports

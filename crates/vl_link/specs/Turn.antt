@@ -55,10 +55,9 @@ pub record Loses (plan : LinkPlan) (pace : Pace) (view : TurnView) (lines after 
   pub down : stands_for plan.networks after ≡ false
   pub endure : BothEndure lines after
 
--- One turn of a link, by its outcome. A link that isn't due, or whose networks are all down,
--- releases nothing and polls no sub-VL. If no sub-VL has anything, it releases nothing either.
--- Otherwise it releases one frame at `now` with the next number, unless the last network that
--- carries it fails.
+-- One turn of a link, by its outcome. A link that isn't due, or whose networks are all down, releases nothing and
+-- polls no sub-VL. If no sub-VL has anything, it releases nothing either. Otherwise it releases one frame at `now`
+-- with the next number, unless the last network that carries it fails.
 abbrev pub Turn : ℕ → LinkPlan → Pace → TurnView → (lines after : Lines) → Served → Type 0
 Turn now plan pace view lines after Nothing =
     (((may_release now plan pace lines ≡ false) × ((s : ℕ) → view.rests s))

@@ -12,9 +12,8 @@ HasUntil x many [] = Unit {0}
 HasUntil x many (choice ∷ choices) =
     (1 ≤ many → choice.has x ≡ true) × HasUntil x (many - turns_of x (choice ∷ [])) choices
 
--- A message of `fragments` fragments, after `queued` fragments of its own sub-VL, is wholly
--- released after `queued + fragments` rounds of the link's sub-VLs, whatever the other sub-VLs
--- send.
+-- A message of `fragments` fragments, after `queued` fragments of its own sub-VL, is wholly released after `queued +
+-- fragments` rounds of the link's sub-VLs, whatever the other sub-VLs send.
 abbrev pub QueuedMessage : Type 0
 QueuedMessage = (subs x last queued fragments : ℕ) (choices : List Choice) → x < subs → last < subs
     → AreChosen subs last choices → HasUntil x (queued + fragments) choices
@@ -50,9 +49,8 @@ IsPaced gap late before (r ∷ releases) =
 abbrev pub IsBy : ℕ → Release → Type 0
 IsBy moment r = r.at ≤ moment
 
--- A message of `fragments` fragments, after `queued` fragments of its own sub-VL, is wholly
--- released by a time known at the start: `queued + fragments` rounds of the sub-VLs, with a gap and
--- a lateness for each choice.
+-- A message of `fragments` fragments, after `queued` fragments of its own sub-VL, is wholly released by a time known
+-- at the start: `queued + fragments` rounds of the sub-VLs, with a gap and a lateness for each choice.
 abbrev pub InTime : Type 0
 InTime = (subs x last queued fragments gap late start : ℕ) (releases : List Release)
     → x < subs → last < subs

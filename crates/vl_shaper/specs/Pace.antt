@@ -24,8 +24,7 @@ abbrev pub IsLater : Option Stamp → ℕ → Type 0
 IsLater None now = Unit {0}
 IsLater (Some last) now = last.at ≤ now
 
--- the sub-VL of turn number k, from 0: cyclic order after the last served sub-VL, at first from
--- sub-VL 0
+-- the sub-VL of turn number k, from 0: cyclic order after the last served sub-VL, at first from sub-VL 0
 abbrev pub turn_of : ℕ → Option Stamp → ℕ → ℕ
 turn_of sub_vls None k = k
 turn_of sub_vls (Some last) k = (last.sub + 1 + k) % sub_vls

@@ -4,8 +4,7 @@ use Rattle.vl_shaper.specs.Choices.{IsChosen}
 use Rattle.vl_shaper.specs.Pace.{is_due, turn_of, IsBelow, IsLater}
 use Rattle.vl_shaper.specs.declared.shaper.Stamp.{Stamp}
 
--- a poll of a link: its time, the sub-VLs that have something, and the sub-VL of the released
--- frame, if there is one
+-- a poll of a link: its time, the sub-VLs that have something, and the sub-VL of the released frame, if there is one
 pub record Poll : Type 0 where
   pub at : ℕ
   pub has : ℕ → Bool

@@ -78,8 +78,7 @@ pub record WaitsFourChoices : Type 0 where
   pub released : 2 ≤ turns_of 0 (choices_of (take (2 * 2) (four_releases 4300)))
   pub by : All (IsBy (0 + 2 * 2 * (1000 + 100))) (take (2 * 2) (four_releases 4300))
 
--- With the last at 4,500 all premises but the lateness hold, and the second fragment is released
--- after 4,400.
+-- With the last at 4,500 all premises but the lateness hold, and the second fragment is released after 4,400.
 pub record ReleasesTooLate : Type 0 where
   pub chosen : AreChosen 2 0 (choices_of (four_releases 4500))
   pub had : HasUntil 0 2 (choices_of (four_releases 4500))

@@ -68,8 +68,7 @@ pub record ReleasesAtOnce : Type 0 where
 abbrev pub late_polls : List Poll
 late_polls = busy_poll 500 None ∷ busy_poll 1100 (Some 1) ∷ busy_poll 3300 (Some 0) ∷ []
 
--- For a message accepted at 0 all premises but the lateness hold, and the fragment isn't released
--- by 3,200.
+-- For a message accepted at 0 all premises but the lateness hold, and the fragment isn't released by 3,200.
 pub record PolledTooLate : Type 0 where
   pub below : IsBelow 2 served_at_0
   pub later : IsLater served_at_0 0
