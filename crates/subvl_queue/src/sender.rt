@@ -96,7 +96,7 @@ impl Model for Sender {
 
 impl Sender {
     /// Accepts a message of 1 to 8,192 bytes at the next place of the queue, or returns it with the
-    /// reason. A refused message isn't accepted.
+    /// reason.
     #[inline(always)]
     pub fn send(&mut self, bytes: Vec<u8>) -> Result<(), Refused>
         requires some { 1 ≤ length bytes.items }
