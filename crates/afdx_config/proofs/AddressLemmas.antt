@@ -1,23 +1,23 @@
--- A text that writes four numbers is read as them.
+-- Reading of dotted addresses.
 use Rattle.afdx_config.proofs.Names.{◌≡◌, ℕ, List, [], ◌∷◌, Option, Some, None, refl, ap, sym, ◌∙◌, lit≤, append-nil}
 use Rattle.afdx_config.proofs.Names.{eq-eqb, ◌==◌, eqb-true, if◌then◌else◌, slice_index, IsDotted, read_ipv4, Ipv4Addr}
 use Rattle.afdx_config.proofs.Names.{read_ipv4_complete, read_ipv4_sound, and_then_some, cond_some}
 use Rattle.afdx_config.specs.Values.{in_network_10, address_of, AddressesAreDotted}
 
--- a text that writes an address is read as it, where its first number is 10
+-- a dotted address is read if its first number is 10
 pub address_of-dotted : (text octets : List ℕ) → IsDotted text octets
     → address_of text ≡ (if slice_index octets 0 == 10 then Some octets else None)
 unfolding address_of
 address_of-dotted text octets is =
     let read = ap read_ipv4 (sym (append-nil text)) ∙ read_ipv4_complete text octets [] is (lit≤ tt) in rw read refl
 
--- an address that was taken is all that was read, and its first number is 10
+-- an accepted address is the whole text, and its first number is 10
 taken : (read : List ℕ × List ℕ) (address : List ℕ) → in_network_10 read ≡ Some address
     → (read ≡ (address, [])) × (slice_index address 0 ≡ 10)
 taken (octets, []) address is = let (ten, same) = cond_some _ octets address is in rw (← same) (refl, eqb-true _ 10 ten)
 taken (octets, _ ∷ _) address is = cc
 
--- an address is read where it is written, and only there
+-- a text has an address exactly if it is dotted and its first number is 10
 pub addresses_are_dotted : AddressesAreDotted
 unfolding address_of
 addresses_are_dotted text address = (
@@ -28,7 +28,7 @@ addresses_are_dotted text address = (
   λ (is, ten). rw (address_of-dotted text address is) (rw (eq-eqb (slice_index address 0) 10 ten) refl),
 )
 
--- a text that writes no address is read as none
+-- a text that is not dotted has no address
 pub address_of-none : (text : List ℕ) → ((a : Ipv4Addr) → IsDotted text a.octets → ⊥) → address_of text ≡ None
 address_of-none text none = each (address_of text) refl
   where

@@ -1,9 +1,9 @@
--- Findings beside the code's values.
+-- Searching in a mapped list.
 use Rattle.afdx_config.proofs.Names.{◌≡◌, ℕ, ◌+◌, List, [], ◌∷◌, ◌++◌, Bool, true, false, ◌||◌, cond, Option, Some}
 use Rattle.afdx_config.proofs.Names.{None, refl, ap, sym, ◌∙◌, map, find, option_map, arith, position, position_from}
 use Rattle.afdx_config.proofs.Names.{list_any, flat_map, position_from-zero}
 
--- what is found first of what a map gives
+-- `find` after `map`
 pub find_map : {A B : Type 0} (p : B → Bool) (f : A → B) (xs : List A)
     → find p (map f xs) ≡ option_map f (find (λ x. p (f x)) xs)
 find_map p f [] = refl

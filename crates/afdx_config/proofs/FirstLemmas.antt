@@ -11,7 +11,7 @@ abbrev IsFrom : ℕ → List ConfigFault → Type 0
 IsFrom n [] = Unit {0}
 IsFrom n (g ∷ gs) = (fault_number g ≡ n) × IsFrom (n + 1) gs
 
--- another number
+-- a smaller number is not equal
 others : (a b : ℕ) → a < b → (a == b) ≡ false
 others a b below = here (a == b) refl
   where
@@ -19,7 +19,7 @@ others a b below = here (a == b) refl
     here false is = refl
     here true is = let same : a ≡ b = eqb-true a b is in absurd (omega arith)
 
--- no finding has a fault below them
+-- no finding has a fault of a smaller number
 low : (h : ConfigFault) (doc : Members) (n : ℕ) (gs : List ConfigFault) → IsFrom n gs → fault_number h < n
     → list_any (has h) (flat_map (λ g. findings_of g doc) gs) ≡ false
 low h doc n [] from below = refl
@@ -28,7 +28,7 @@ low h doc n (g ∷ gs) from below =
     list_any-append (has h) (findings_of g doc) (flat_map (λ x. findings_of x doc) gs)
     ∙ rw (of_shown h g doc, others (fault_number h) (fault_number g) under, low h doc (n + 1) gs from.1 (omega arith)) refl
 
--- nor one below that of the first
+-- no finding has a fault of a smaller number than the first finding
 first : (h : ConfigFault) (doc : Members) (x : Finding) (rest : List Finding) (n : ℕ) (gs : List ConfigFault) → IsFrom n gs
     → flat_map (λ g. findings_of g doc) gs ≡ x ∷ rest → fault_number h < fault_number x.fault
     → list_any (has h) (flat_map (λ g. findings_of g doc) gs) ≡ false
@@ -51,7 +51,7 @@ first h doc x rest n (g ∷ gs) from is below = here (findings_of g doc) refl (f
         let start : fault_number g ≡ n = from.0 in
         low h doc n (g ∷ gs) from (omega arith)
 
--- a fault that is shown isn't that of a text that is no document
+-- a fault of a document is not `Toml`
 two : (e : ConfigFault) (doc : Members) → shows e doc ≡ true → 2 ≤ fault_number e
 two Toml doc shown = let none = no_toml doc in cc
 two _ doc shown = lit≤ tt

@@ -6,7 +6,7 @@ use Rattle.afdx_config.proofs.Names.{UnknownKey, has_key_besides, Field, field_f
 use Rattle.afdx_config.proofs.Names.{IsLeastOf, IsOfValues, field_of, lesser, ◌||◌, nat_tests, list_any_more}
 use Rattle.afdx_config.specs.declared.format.Field.{Field as Written}
 use Rattle.afdx_config.specs.Tables.{table_shows}
-use Rattle.afdx_config.proofs.SectionLemmas.{Found, list_any-map}
+use Rattle.afdx_config.proofs.SectionLemmas.{Found, list_any_map}
 
 -- a fault that a test adds
 one_if : (b : Bool) (fault : ConfigFault) → IsOfValues fault → IfSome (then_some b fault) IsOfValues
@@ -44,7 +44,7 @@ least_both P Q (Some d) (Some e) p q = elim (cases_lt (fault_number e) (fault_nu
   )
 ]
 
--- one element more
+-- adding one element
 pub least_next : {X : Type 0} (p : ConfigFault → X → Bool) (xs : List X) (i : ℕ) (d x : X)
     (least o : Option ConfigFault) → i < length xs → x ≡ get_or xs i d → IsLeastOf (λ f. list_any (p f) (take i xs)) least → IsLeastOf (λ f. p f x) o
     → IsLeastOf (λ f. list_any (p f) (take (i + 1) xs)) (lesser least o)
@@ -63,14 +63,14 @@ least_of_table fields members n least o long before keys =
     least_same (λ f. list_any (λ x. is_fault f (field_fault members (field_of x))) (take n fields)
     || is_fault f (keys_fault (map field_of fields) members)) _ (lesser least o)
     (λ f. rw (
-      list_any-map (λ field. is_fault f (field_fault members field)) field_of fields,
+      list_any_map (λ field. is_fault f (field_fault members field)) field_of fields,
       take_all n fields long,
     ) refl)
     (least_both _ _ least o before (least_one o (keys_fault (map field_of fields) members) keys
     (rw keys (one_if (has_key_besides (is_key_of (map field_of fields)) members) UnknownKey
     (omega arith, omega arith)))))
 
--- the least of the rows that were found, by the keys of their version
+-- the least fault of tables, by the keys of their version
 pub least_rows : (fields same : List Field) (tables others : List Found) (o : Option ConfigFault)
     → fields ≡ same → tables ≡ others → IsLeastOf (λ f. list_any (λ t. table_shows f fields (table_view t.now)) tables) o
     → IsLeastOf (λ f. list_any (λ t. table_shows f same (table_view t.now)) others) o

@@ -16,6 +16,7 @@ pub use Rattle.std.proofs.lemmas.List.{drop_more, length-map, take-map, take_all
 pub use Rattle.std.proofs.lemmas.List.Elements.{All-cons, All-from_recursion, All-nil, All-take, filter_map-append}
 pub use Rattle.std.proofs.lemmas.List.Elements.{recursion_from_All}
 pub use Rattle.std.proofs.lemmas.List.Folds.{flat_map-map, list_any-append, list_any_more}
+pub use Rattle.std.proofs.lemmas.Grind.{flat_map-append}
 pub use Rattle.std.proofs.lemmas.List.Quantifiers.{position-Some}
 pub use Rattle.std.proofs.lemmas.Option.{same_Some, slice_get-get_or}
 pub use Rattle.std.proofs.lemmas.Result.{IfOk-weaker, on_ok_weaker}

@@ -1,4 +1,4 @@
--- Each finding's place has its fault.
+-- The place of each finding has its fault.
 use Rattle.afdx_config.proofs.Names.{◌≡◌, ℕ, zero, suc, ◌+◌, ◌-◌, ◌<◌, ◌≤◌, List, [], ◌∷◌, ◌++◌, length, get_or, Bool}
 use Rattle.afdx_config.proofs.Names.{true, false, ◌||◌, ◌&&◌, not, Option, Some, None, refl, ap, sym, ◌∙◌, codes, arith}
 use Rattle.afdx_config.proofs.Names.{lit≤, bytes_eq, slice_get, nat_lt, All, position, list_any, flat_map}
@@ -15,12 +15,12 @@ use Rattle.afdx_config.proofs.Names.{field_fault, is_fault, is_key_of, is_versio
 use Rattle.afdx_config.proofs.Names.{fields_at}
 use Rattle.afdx_config.specs.Findings.{site_findings, port_finding, plan_findings}
 
--- of two lists
+-- a property of both lists is one of their concatenation
 r_append : {A : Type 0} (P : A → Type 0) (xs ys : List A) → AllByRecursion P xs → AllByRecursion P ys → AllByRecursion P (xs ++ ys)
 r_append P [] ys one two = two
 r_append P (x ∷ xs) ys one two = (one.0, r_append P xs ys one.1 two)
 
--- of lists
+-- a property of each list is one of their concatenation
 r_flat : {A B : Type 0} (P : B → Type 0) (Q : A → Type 0) (F : A → List B) (xs : List A) → AllByRecursion Q xs
     → ((x : A) → Q x → AllByRecursion P (F x)) → AllByRecursion P (flat_map F xs)
 r_flat P Q F [] each step = tt
@@ -35,23 +35,23 @@ r_map : {A : Type 0} (P Q : A → Type 0) (xs : List A) → ((x : A) → P x →
 r_map P Q [] step each = tt
 r_map P Q (x ∷ xs) step each = (step x each.0, r_map P Q xs step each.1)
 
--- of a test
+-- a property of a conditional finding
 r_one : (P : Finding → Type 0) (b : Bool) (x : Finding) → (b ≡ true → P x) → AllByRecursion P (one_if b x)
 r_one P true x step = (step refl, tt)
 r_one P false x step = tt
 
--- a text is itself
+-- a text equals itself
 bytes_same : (k : List ℕ) → bytes_eq k k ≡ true
 bytes_same k = (bytes_eq-Decides k k).1 refl
 
--- what passes in the rest passes in all
+-- a test that passes in the rest passes in the whole list
 abbrev Sub : {A : Type 0} → List A → List A → Type 0
 Sub {A} rest all = (q : A → Bool) → list_any q rest ≡ true → list_any q all ≡ true
 
 sub_next : {A : Type 0} (x : A) (rest all : List A) → Sub (x ∷ rest) all → Sub rest all
 sub_next x rest all sub q passes = sub q (rw passes (or-true (q x)))
 
--- a table stands at its place, with its keys
+-- a site has the table and the format of its place
 abbrev At : Members → Site → Type 0
 At doc s = (members_at doc s.place ≡ Some s.members) × (fields_at doc s.place ≡ s.fields)
 
@@ -88,7 +88,7 @@ site_fine doc g s at =
     (fields_fine doc g s s.fields at (λ q passes. passes))
     (keys_fine doc g s (member_keys s.members) at (λ q passes. passes))
 
--- the rest of the rows begins with the row k
+-- the rest begins with row k of all
 abbrev Tail : {A : Type 0} → ℕ → List A → List A → Type 0
 Tail k rest all = (i : ℕ) → slice_get all (k - 1 + i) ≡ slice_get rest i
 
@@ -129,7 +129,7 @@ sites_at_places doc =
           (rows_at (codes "port") doc) (λ j m h. (h, refl)) (lit≤ tt) (tail_all (rows_at (codes "port") doc)))),
     )
 
--- what a plan's place has
+-- the place of a finding of a plan has its fault
 abbrev Has : List LinkPlan → List PortPlan → Finding → Type 0
 Has links ports f = plan_has links ports f.fault f.place f.key f.other ≡ true
 

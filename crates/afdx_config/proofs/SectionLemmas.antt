@@ -1,4 +1,4 @@
--- The tables and keys of a document, beside the code's values; what is found in the code's tables is found in the document's.
+-- The tables and keys of a document, in the code and in the specification.
 use Rattle.afdx_config.proofs.Names.{◌≡◌, ℕ, Bool, not, ◌||◌, is_none, List, [], ◌∷◌, String, Global, string_bytes}
 use Rattle.afdx_config.proofs.Names.{refl, ap, ◌-◌, false, map, length, take, Option, Some, None, option_map, Bor}
 use Rattle.afdx_config.proofs.Names.{BTreeMap, cons_option, filter_map, list_any, as_table, Members, view, items_view}
@@ -9,7 +9,7 @@ use Rattle.afdx_config.proofs.Names.{field_of, Document, data_of, keys_of, Value
 use Rattle.afdx_config.specs.Tables.{values_show}
 use Rattle.afdx_config.specs.declared.format.Field.{Field as Written}
 
--- a key that isn't known, among the keys of the map
+-- an unknown key among the keys of the map
 pub has_key_besides-keys : (known : List ℕ → Bool) (es : List (String Global × Value))
     → list_any (λ k. not (known (string_bytes k))) (keys_of es) ≡ has_key_besides known (members_view es)
 has_key_besides-keys known [] = refl
@@ -20,40 +20,40 @@ pub tables_among-values : (vs : List Value) → filter_map (λ v. as_table (view
 tables_among-values [] = refl
 tables_among-values (v ∷ vs) = ap (cons_option (as_table (view v))) (tables_among-values vs)
 
--- an item that isn't a table, among the values
-pub has_other_item-values : (vs : List Value) → list_any (λ v. is_none (as_table (view v))) vs ≡ has_other_item (items_view vs)
-has_other_item-values [] = refl
-has_other_item-values (v ∷ vs) = ap (λ b. is_none (as_table (view v)) || b) (has_other_item-values vs)
+-- an item that is not a table, among the values
+pub other_item_among : (vs : List Value) → list_any (λ v. is_none (as_table (view v))) vs ≡ has_other_item (items_view vs)
+other_item_among [] = refl
+other_item_among (v ∷ vs) = ap (λ b. is_none (as_table (view v)) || b) (other_item_among vs)
 
--- a table that was found
+-- a borrowed table
 abbrev pub Found : Type 0
 Found = Bor (BTreeMap (String Global) Value)
 
--- a test of what a map gives
-pub list_any-map : {A B : Type 0} (p : B → Bool) (f : A → B) (xs : List A) → list_any p (map f xs) ≡ list_any (λ x. p (f x)) xs
-list_any-map p f [] = refl
-list_any-map p f (x ∷ xs) = ap (λ b. p (f x) || b) (list_any-map p f xs)
+-- `list_any` after `map`
+pub list_any_map : {A B : Type 0} (p : B → Bool) (f : A → B) (xs : List A) → list_any p (map f xs) ≡ list_any (λ x. p (f x)) xs
+list_any_map p f [] = refl
+list_any_map p f (x ∷ xs) = ap (λ b. p (f x) || b) (list_any_map p f xs)
 
--- the same at an option, with an answer for none
+-- `option_map_or` after `option_map`
 pub option_maps : {A B C : Type 0} (g : B → C) (f : A → B) (o : Option A) (d : C)
     → option_map_or g (option_map f o) d ≡ option_map_or (λ x. g (f x)) o d
 option_maps g f None d = refl
 option_maps g f (Some x) d = refl
 
--- the keys of version 1, as the code writes them
+-- the keys of version 1 in the code
 pub first_fields : (is_2 : Bool) (count : ℕ) (fields : List Written) → false ≡ is_2 → count ≡ length fields - 1
     → map field_of (take count fields) ≡ fields_in is_2 (map field_of fields)
 first_fields is_2 count fields not_2 counted =
     rw (counted, ← take-map field_of (length fields - 1) fields, ← length-map fields field_of, ← not_2) refl
 
--- a document shows a fault of 2 to 6 at its top, or in one of the tables that were found
+-- a document has a fault of 2 to 6 at its top level, or in one of its borrowed tables
 abbrev pub document_shows : Document → ConfigFault → Bool
 document_shows s f = table_shows f document_fields (data_of s)
     || option_map_or (λ t. table_shows f end_fields (table_view t.now)) s.end false
     || list_any (λ t. table_shows f (fields_in (is_version_2 (data_of s)) link_fields) (table_view t.now)) s.links.items
     || list_any (λ t. table_shows f (fields_in (is_version_2 (data_of s)) port_fields) (table_view t.now)) s.ports.items
 
--- these are all
+-- the borrowed tables are those of the document
 pub shown_in : (s : Document) → IsDocument s → (f : ConfigFault)
     → values_show f (data_of s) ≡ document_shows s f
 unfolding values_show
@@ -62,6 +62,6 @@ shown_in s are f = rw (
   ← are.links_are,
   ← are.ports_are,
   option_maps (table_shows f end_fields) (λ t. table_view t.now) s.end false,
-  list_any-map (table_shows f (fields_in (is_version_2 (data_of s)) link_fields)) (λ t. table_view t.now) s.links.items,
-  list_any-map (table_shows f (fields_in (is_version_2 (data_of s)) port_fields)) (λ t. table_view t.now) s.ports.items,
+  list_any_map (table_shows f (fields_in (is_version_2 (data_of s)) link_fields)) (λ t. table_view t.now) s.links.items,
+  list_any_map (table_shows f (fields_in (is_version_2 (data_of s)) port_fields)) (λ t. table_view t.now) s.ports.items,
 ) refl

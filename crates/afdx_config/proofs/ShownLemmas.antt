@@ -1,4 +1,4 @@
--- A fault is shown by a document exactly where some finding has it.
+-- A document has a fault exactly if some finding has it.
 use Rattle.afdx_config.proofs.Names.{◌≡◌, ℕ, ◌+◌, ◌<◌, ◌≤◌, List, [], ◌∷◌, ◌++◌, length, Bool, true, false, ◌||◌, ◌&&◌}
 use Rattle.afdx_config.proofs.Names.{not, cond, Option, Some, None, refl, ap, sym, subst, ◌∙◌, map, find, option_map}
 use Rattle.afdx_config.proofs.Names.{codes, arith, is_some, ◌==◌, and_parts, eqb-true, or-true, or-false}
@@ -29,12 +29,12 @@ any_no : {A : Type 0} (xs : List A) → list_any (λ x. false) xs ≡ false
 any_no [] = refl
 any_no (x ∷ xs) = any_no xs
 
--- elements that pass the same
+-- tests that agree
 any_same : {A : Type 0} (p q : A → Bool) (xs : List A) → ((x : A) → p x ≡ q x) → list_any p xs ≡ list_any q xs
 any_same p q [] same = refl
 any_same p q (x ∷ xs) same = rw (same x, any_same p q xs same) refl
 
--- what a condition and lists have in common
+-- a common condition
 and_or : (a b c : Bool) → ((a && b) || (a && c)) ≡ (a && (b || c))
 and_or true b c = refl
 and_or false b c = refl
@@ -43,7 +43,7 @@ and_no : (a : Bool) → (a && false) ≡ false
 and_no true = refl
 and_no false = refl
 
--- the list of a test
+-- a conditional finding
 one : (f : ConfigFault) (b : Bool) (x : Finding) → list_any (has f) (one_if b x) ≡ (has f x && b)
 one f true x = here (has f x)
   where
@@ -52,14 +52,14 @@ one f true x = here (has f x)
     here false = refl
 one f false x = sym (and_no (has f x))
 
--- lists of tests that speak of one fault
+-- conditional findings of one fault
 many : {A : Type 0} (f : ConfigFault) (a : Bool) (F : A → List Finding) (t : A → Bool) (xs : List A)
     → ((x : A) → list_any (has f) (F x) ≡ (a && t x)) → list_any (has f) (flat_map F xs) ≡ (a && list_any t xs)
 many f a F t [] each = sym (and_no a)
 many f a F t (x ∷ xs) each = list_any-append (has f) (F x) (flat_map F xs)
     ∙ rw (each x, many f a F t xs each) (and_or a (t x) (list_any t xs))
 
--- a place is found where some element passes
+-- `position` returns an index exactly if some element passes
 place_any : {A : Type 0} (p : A → Bool) (k : ℕ) (xs : List A) → is_some (position_from p k xs) ≡ list_any p xs
 place_any p k [] = refl
 place_any p k (x ∷ xs) = here (p x) (place_any p (k + 1) xs)
@@ -72,17 +72,17 @@ place_any p k (x ∷ xs) = here (p x) (place_any p (k + 1) xs)
 place_some : {A : Type 0} (p : A → Bool) (xs : List A) → is_some (position p xs) ≡ list_any p xs
 place_some p xs = ap is_some (position_from-zero p xs) ∙ place_any p 0 xs
 
--- same number: the test of a finding of this fault
+-- two faults have the same number
 abbrev same : ConfigFault → ConfigFault → Bool
 same f g = fault_number f == fault_number g
 
--- a pair is told where there is one
+-- the finding of a pair
 pair : (f g : ConfigFault) (at : ℕ → Place) (k : ℕ) (o : Option ℕ)
     → list_any (has f) (pair_finding g at k o) ≡ (same f g && is_some o)
 pair f g at k None = sym (and_no (same f g))
 pair f g at k (Some d) = one f true (found g (at k) (plan_key g) (Some (k + 1 + d)))
 
--- the links
+-- the findings of links
 links_shown : (f g : ConfigFault) (k : ℕ) (links : List LinkPlan)
     → list_any (has f) (link_findings g k links) ≡ (same f g && has_pair (links_clash g) links)
 links_shown f g k [] = sym (and_no (same f g))
@@ -90,7 +90,7 @@ links_shown f g k (l ∷ rest) = list_any-append (has f) (pair_finding g Link k 
     ∙ rw (pair f g Link k (position (links_clash g l) rest), place_some (links_clash g l) rest, links_shown f g (k + 1) rest)
     (and_or (same f g) (list_any (links_clash g l) rest) (has_pair (links_clash g) rest))
 
--- the ports: some pair, some misfit, some last one of a crowd
+-- some port is the last one on a crowded sub-VL
 abbrev some_last : ConfigFault → List PortPlan → List PortPlan → Bool
 some_last g all [] = false
 some_last g all (p ∷ rest) = is_last_crowded g all p rest || some_last g all rest
@@ -124,7 +124,7 @@ pair_no : {A : Type 0} (xs : List A) → has_pair (λ a b. false) xs ≡ false
 pair_no [] = refl
 pair_no (x ∷ xs) = rw (any_no xs, pair_no xs) refl
 
--- how many there are
+-- the findings of counts
 counts_shown : (f g : ConfigFault) (links : List LinkPlan) (ports : List PortPlan)
     → list_any (has f) (count_findings g links ports)
     ≡ (same f g && (count_is_wrong g 64 (length links) || count_is_wrong g 256 (length ports)))
@@ -136,7 +136,7 @@ counts_shown f g links ports = list_any-append (has f)
       one f (count_is_wrong g 256 (length ports)) (found g Top (codes "port") None),
     ) (and_or (same f g) (count_is_wrong g 64 (length links)) (count_is_wrong g 256 (length ports)))
 
--- a later port of the same sub-VL has as many beside it
+-- a later port on the same sub-VL is as crowded
 crowd_same : (all : List PortPlan) (p : PortPlan) (rest : List PortPlan) → list_any (has_same_sub p) rest ≡ true
     → is_crowded all p ≡ true → list_any (is_crowded all) rest ≡ true
 crowd_same all p [] follows crowded = cc
@@ -150,7 +150,7 @@ crowd_same all p (q ∷ rest) follows crowded = here (has_same_sub p q) refl fol
         rw (eqb-true q.vl.0 p.vl.0 vl, eqb-true q.sub p.sub sub, crowded) refl
     here false is some more = rw (more some crowded) (or-true (is_crowded all q))
 
--- the last of a crowd is there where a crowd is
+-- a crowded sub-VL has a last port
 last_is : (all ports : List PortPlan) → some_last Limit all ports ≡ list_any (is_crowded all) ports
 last_is all [] = refl
 last_is all (p ∷ rest) =
@@ -163,19 +163,19 @@ last_is all (p ∷ rest) =
     here true false crowded follows = refl
     here true true crowded follows = crowd_same all p rest follows crowded
 
--- no port is one
+-- no port is the last one on a crowded sub-VL
 last_no : (g : ConfigFault) (all ports : List PortPlan) → ((p : PortPlan) (rest : List PortPlan) → is_last_crowded g all p rest ≡ false)
     → some_last g all ports ≡ false
 last_no g all [] none = refl
 last_no g all (p ∷ rest) none = rw (none p rest, last_no g all rest none) refl
 
--- what links and ports show of a fault
+-- the tests of a fault in links and ports
 abbrev plan_tests : ConfigFault → List LinkPlan → List PortPlan → Bool
 plan_tests g links ports = (has_pair (links_clash g) links
     || (count_is_wrong g 64 (length links) || count_is_wrong g 256 (length ports)))
     || ((has_pair (ports_clash g) ports || list_any (is_misfit g links) ports) || some_last g ports ports)
 
--- is what the plan shows
+-- these tests are those of the plan
 plan_same : (g : ConfigFault) (links : List LinkPlan) (ports : List PortPlan) → plan_tests g links ports ≡ parts_show links ports g
 plan_same DuplicateVl links ports = rw (pair_no ports, any_no ports)
     (or-false (has_pair has_same_vl links || false) ∙ or-false (has_pair has_same_vl links))
@@ -194,7 +194,7 @@ plan_same SamplingTooLong links ports = rw (pair_no links, pair_no ports, last_n
 plan_same Limit links ports = rw (pair_no links, pair_no ports, any_no ports, last_is ports ports) refl
 plan_same g links ports = rw (pair_no links, pair_no ports, any_no ports) refl
 
--- a plan's findings
+-- the findings of a plan
 plan_shown : (f g : ConfigFault) (links : List LinkPlan) (ports : List PortPlan)
     → list_any (has f) (plan_findings g links ports) ≡ (same f g && parts_show links ports g)
 unfolding plan_findings
@@ -227,7 +227,7 @@ fault_then : (g : ConfigFault) (b : Bool) → is_fault g (then_some b UnknownKey
 fault_then g true = refl
 fault_then g false = refl
 
--- a table's findings
+-- the findings of a table
 site_shown : (f g : ConfigFault) (s : Site) → list_any (has f) (site_findings g s) ≡ (same f g && table_shows g s.fields s.members)
 unfolding site_findings table_shows
 site_shown f g s =
@@ -273,7 +273,7 @@ values_any g doc =
       rows_any g Port (fields_in (is_version_2 doc) port_fields) 1 (rows_at (codes "port") doc),
     ) (or_four (table_shows g document_fields doc) _ _ _)
 
--- a document's findings of a fault
+-- the findings of a fault in a document
 pub of_shown : (f g : ConfigFault) (doc : Members) → list_any (has f) (findings_of g doc) ≡ (same f g && shows g doc)
 of_shown f g doc =
     list_any-append (has f) (flat_map (site_findings g) (sites doc)) (plan_findings g (plan_of doc).links (plan_of doc).ports)
@@ -283,7 +283,7 @@ of_shown f g doc =
       plan_shown f g (plan_of doc).links (plan_of doc).ports,
     ) (and_or (same f g) (values_show g doc) (parts_show (plan_of doc).links (plan_of doc).ports g))
 
--- values show faults of 2 to 6 alone
+-- values have only faults of 2 to 6
 one_small : (b : Bool) (fault : ConfigFault) → IsOfValues fault → IfSome (then_some b fault) IsOfValues
 one_small true fault is = is
 one_small false fault is = tt
@@ -300,7 +300,7 @@ under_small : (field : Field) (o : Option Data) → IfSome (fault_under field o)
 under_small field None = one_small field.is_needed MissingKey (lit≤ tt, lit≤ tt)
 under_small field (Some value) = content_small field.content value
 
--- so another fault is none of theirs
+-- no other fault is a fault of values
 far : (g : ConfigFault) (o : Option ConfigFault) → (IsOfValues g → ⊥) → IfSome o IsOfValues → is_fault g o ≡ false
 far g None other small = refl
 far g (Some e) other small = here (fault_number g == fault_number e) refl
@@ -330,7 +330,7 @@ no_toml doc = rw (values_far Toml doc (λ is. absurd (omega (arith, is.0)))) ref
 no_memory : (doc : Members) → shows Memory doc ≡ false
 no_memory doc = rw (values_far Memory doc (λ is. absurd (omega (arith, is.1)))) refl
 
--- one of the faults that documents show
+-- each fault of a document is in the list of faults
 among : (f : ConfigFault) (doc : Members) → list_any (λ g. same f g && shows g doc) shown_faults ≡ shows f doc
 among Toml doc = sym (no_toml doc)
 among Memory doc = sym (no_memory doc)

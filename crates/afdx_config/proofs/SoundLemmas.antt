@@ -1,4 +1,4 @@
--- A document whose values show no fault has tables without fault.
+-- A document whose values have no fault has tables without faults.
 use Rattle.afdx_config.proofs.Names.{◌≡◌, ◌-◌, codes, Bool, true, false, List, [], ◌∷◌, map, length, Option, Some, None}
 use Rattle.afdx_config.proofs.Names.{ℕ, refl, ap, sym, ◌∙◌, eq-eqb, same_Some, All-cons, All-nil, All-take}
 use Rattle.afdx_config.proofs.Names.{All-from_recursion, recursion_from_All, or_parts, All, list_any, option_map_or}
@@ -9,12 +9,12 @@ use Rattle.afdx_config.proofs.Names.{IsSoundTable, Document, data_of, map-map, L
 use Rattle.afdx_config.specs.Tables.{table_shows}
 use Rattle.afdx_config.proofs.SectionLemmas.{Found, shown_in, option_maps}
 
--- a fault is itself
+-- an option that is no fault is none
 no_fault : (o : Option ConfigFault) → ((f : ConfigFault) → is_fault f o ≡ false) → o ≡ None
 no_fault None none = refl
 no_fault (Some g) none = let same = eq-eqb (fault_number g) (fault_number g) refl in let other = none g in cc
 
--- fields of which none shows a fault are sound
+-- fields without a fault are sound
 fields_sound : (fields : List Field) (members : Members)
     → ((f : ConfigFault) → list_any (λ field. is_fault f (field_fault members field)) fields ≡ false)
     → IsSoundTable fields members
@@ -24,20 +24,20 @@ fields_sound (x ∷ xs) members none = (
   fields_sound xs members (λ f. (or_parts _ _ (none f)).1),
 )
 
--- so is a table that shows none
+-- a table without a fault is sound
 table_sound : (fields : List Field) (members : Members) → ((f : ConfigFault) → table_shows f fields members ≡ false)
     → IsSoundTable fields members
 unfolding table_shows
 table_sound fields members none = fields_sound fields members (λ f. (or_parts _ _ (none f)).0)
 
--- a table that is sound in the keys of its version is so in those of both
+-- a table that is sound in its version is sound in version 1
 both_sound : (is_2 : Bool) (fields : List Field) (members : Members) → IsSoundTable (fields_in is_2 fields) members
     → IsSoundTable (fields_in false fields) members
 both_sound false fields members is = is
 both_sound true fields members is = recursion_from_All _ _ (All-take (λ field. field_fault members field ≡ None)
     (length fields - 1) fields (All-from_recursion (λ field. field_fault members field ≡ None) fields is))
 
--- so are those of a list
+-- the tables of a list are sound
 all_sound : (is_2 : Bool) (fields : List Field) (tables : List Found)
     → ((f : ConfigFault) → list_any (λ t. table_shows f (fields_in is_2 fields) (table_view t.now)) tables ≡ false)
     → All (λ t. IsSoundTable (fields_in false fields) (table_view t.now)) tables
@@ -48,14 +48,14 @@ all_sound is_2 fields (x ∷ xs) none =
     (table_sound (fields_in is_2 fields) (table_view x.now) (λ f. (or_parts _ _ (none f)).0)))
     (all_sound is_2 fields xs (λ f. (or_parts _ _ (none f)).1))
 
--- the end system's table
+-- the table of the end system is sound
 end_sound : (o : Option Found)
     → ((f : ConfigFault) → option_map_or (λ t. table_shows f end_fields (table_view t.now)) o false ≡ false)
     → ForSome o (λ t. IsSoundTable end_fields (table_view t.now))
 end_sound None none = λ t e. cc
 end_sound (Some x) none = λ t e. rw (← same_Some x t e) (table_sound end_fields (table_view x.now) none)
 
--- no fault of the values: the tables are sound
+-- the tables of a document whose values have no fault are sound
 pub sound : (s : Document) → IsDocument s → ((f : ConfigFault) → values_show f (data_of s) ≡ false)
     → AreSound s
 sound s are none =

@@ -4,12 +4,12 @@ use Rattle.afdx_config.proofs.Names.{codes, arith, decimal, append-nil, Vec, Glo
 use Rattle.afdx_config.proofs.Names.{items_view, view, Value, Array, view-Array, escaped}
 use Rattle.afdx_config.specs.Told.{cut_text, array_text, items_count, known_text}
 
--- a text that isn't cut
+-- a short string is not cut
 pub cut_short : (text : List ℕ) → length text ≤ 40 → flat_map escaped text ≡ cut_text text
 unfolding cut_text
 cut_short text short = rw (take_all 40 text short, le-ltb 40 (length text) short) (sym (append-nil (flat_map escaped text)))
 
--- how many items there are
+-- the number of items
 count_is : (vs : List Value) → items_count (items_view vs) ≡ length vs
 count_is [] = refl
 count_is (v ∷ vs) = rw (count_is vs) (omega arith)

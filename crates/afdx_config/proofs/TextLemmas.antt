@@ -1,21 +1,21 @@
--- What is known of a document's faults, of its text's.
+-- Faults of a text from those of its document.
 use Rattle.afdx_config.proofs.Names.{◌≡◌, ℕ, ◌<◌, ◌≤◌, true, false, List, Some, None, refl, sym, ap, ◌∙◌, arith, subst}
 use Rattle.afdx_config.proofs.Names.{find, Result, Ok, Err, IfOk, IfErr, ◌≢◌, or_from, same_Some, Members, fault_number}
 use Rattle.afdx_config.proofs.Names.{plan_shows, plan_faults, ConfigFault, Toml, DuplicateVl, DuplicatePort, NoSuchVl}
 use Rattle.afdx_config.proofs.Names.{NoSuchSub, SamplingTooLong, SameFlow, SharedUnicast, Limit, Memory, plan_of}
 use Rattle.afdx_config.proofs.Names.{values_show, IsLeast, Plan, shows, Reads, HasFault, IsLeastFault, IsPlanOf}
 
--- a document of which neither values nor plan show a fault
+-- a document whose values and plan have no fault has none
 none_shown : (doc : Members) → ((f : ConfigFault) → values_show f doc ≡ false)
     → find (λ f. plan_shows f (plan_of doc)) plan_faults ≡ None → (f : ConfigFault) → shows f doc ≡ false
 none_shown doc values plan f = grind (arith, values f)
 
--- what is found first of a plan is shown
+-- the first fault found in a plan is one of the plan
 first_shown : (plan : Plan) (e : ConfigFault) → find (λ f. plan_shows f plan) plan_faults ≡ Some e
     → (plan_shows e plan ≡ true) × (2 ≤ fault_number e)
 first_shown plan e found = grind arith
 
--- and none of a lower number is
+-- no fault of a lower number is one of the plan
 none_before : (plan : Plan) (e f : ConfigFault) → find (λ f. plan_shows f plan) plan_faults ≡ Some e
     → fault_number f < fault_number e → plan_shows f plan ≡ false
 none_before plan e DuplicateVl found l = grind arith
@@ -28,7 +28,7 @@ none_before plan e SharedUnicast found l = grind arith
 none_before plan e Limit found l = grind arith
 none_before plan e _ found l = refl
 
--- where values show none, it is the least of the document
+-- if values have no fault, it is the least of the document
 plan_least : (doc : Members) (e : ConfigFault) → ((f : ConfigFault) → values_show f doc ≡ false)
     → find (λ f. plan_shows f (plan_of doc)) plan_faults ≡ Some e → IsLeast (λ f. shows f doc) e × (2 ≤ fault_number e)
 plan_least doc e values found = let is = first_shown (plan_of doc) e found in (
@@ -39,7 +39,7 @@ plan_least doc e values found = let is = first_shown (plan_of doc) e found in (
   is.1,
 )
 
--- so of the answer of the plan's own judgement
+-- the same for the result of `Config::new`
 pub plan_ok : (doc : Members) (plan : Plan) (r : Result Plan ConfigFault) → plan ≡ plan_of doc
     → ((f : ConfigFault) → values_show f doc ≡ false) → IfOk r (λ c. find (λ f. plan_shows f plan) plan_faults ≡ None)
     → IfOk r (λ c. (f : ConfigFault) → shows f doc ≡ false)
@@ -55,26 +55,26 @@ plan_err doc plan (Ok c) is values found = tt
 plan_err doc plan (Err e) is values found = λ other.
     plan_least doc e values (ap (λ p. find (λ f. plan_shows f p) plan_faults) (sym is) ∙ found)
 
--- what a document does not show, its text has not: the text is read as one document
+-- a fault that a document lacks, its text lacks: a text is one document
 pub hasnt : (f : ConfigFault) (text : List ℕ) (doc : Members) → Reads text doc → shows f doc ≡ false → ¬ HasFault f text
 hasnt Toml text doc reads h = λ k. k doc reads
 hasnt f text doc reads h = λ (d, r, k).
     let same : d ≡ doc = same_Some d doc (sym r.1 ∙ reads.1) in
     let now : shows f doc ≡ true = subst (λ (x : Members). shows f x ≡ true) same k in cc
 
--- what it shows, its text has
+-- a fault of a document is one of its text
 pub has : (f : ConfigFault) (text : List ℕ) (doc : Members) → Reads text doc → shows f doc ≡ true → 2 ≤ fault_number f
     → HasFault f text
 has Toml text doc reads h some = absurd (omega arith)
 has f text doc reads h some = (doc, reads, h)
 
--- what is known of a document's answer, of its text's
+-- a plan of a document is one of its text
 pub answer_ok : (text : List ℕ) (doc : Members) (r : Result Plan ConfigFault) → Reads text doc
     → IfOk r (λ c. (f : ConfigFault) → shows f doc ≡ false) → IfOk r (λ c. c ≡ plan_of doc) → IfOk r (IsPlanOf text)
 answer_ok text doc (Ok c) reads fine is = (doc, reads, is, λ f. hasnt f text doc reads (fine f))
 answer_ok text doc (Err e) reads fine is = tt
 
--- and the same of a refusal
+-- the same for a fault
 pub answer_err : (text : List ℕ) (doc : Members) (r : Result Plan ConfigFault) → Reads text doc
     → IfErr r (λ e. e ≢ Memory → IsLeast (λ f. shows f doc) e × (2 ≤ fault_number e))
     → IfErr r (λ e. e ≢ Memory → IsLeastFault text e)

@@ -1,4 +1,4 @@
--- What stands under a key of a table, and which faults it shows.
+-- Values of a table by key.
 use Rattle.std.specs.Prelude.{ℕ, ℤ, pos, negsuc, nat_lt, List, [], Bool, true, false, not, ◌||◌, Option, option_and_then}
 use Rattle.std.specs.List.{cons_option}
 use Rattle.std.specs.Option.{option_map_or}
@@ -12,12 +12,12 @@ whole_at key members = option_and_then as_integer (get_member key members)
 abbrev pub text_at : List ℕ → Members → Option (List ℕ)
 text_at key members = option_and_then as_str (get_member key members)
 
--- a whole number lies outside least to most
+-- a whole number is not in the range from `least` to `most`
 abbrev pub lies_outside : ℕ → ℕ → ℤ → Bool
 lies_outside least most (pos n) = nat_lt n least || nat_lt most n
 lies_outside least most (negsuc n) = true
 
--- a whole number that isn't below 0
+-- a whole number, or 0 if it is negative
 abbrev pub natural : ℤ → ℕ
 natural (pos n) = n
 natural (negsuc n) = 0
@@ -26,7 +26,7 @@ natural (negsuc n) = 0
 abbrev pub number_at : List ℕ → Members → ℕ
 number_at key members = option_map_or natural (whole_at key members) 0
 
--- the table has a key that isn't known
+-- the table has an unknown key
 abbrev pub has_key_besides : (List ℕ → Bool) → Members → Bool
 has_key_besides known no_members = false
 has_key_besides known (member k d ms) = not (known k) || has_key_besides known ms

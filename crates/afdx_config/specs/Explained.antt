@@ -1,4 +1,4 @@
--- What is told of a text's faults.
+-- The explanation of a text.
 use Rattle.std.specs.Prelude.{◌≡◌, ◌≤◌, ◌⊎◌, ℕ, ◌+◌, List, [], ◌∷◌, length, take, count_by, Bool, not, ◌==◌, ◌&&◌, nat_le, nat_lt, if◌then◌else◌, None}
 use Rattle.toml.specs.Data.{Members}
 use Rattle.afdx_plan.specs.declared.fault.ConfigFault.TheVariants.{Toml}
@@ -7,38 +7,38 @@ use Rattle.afdx_config.specs.Faults.{Reads}
 use Rattle.afdx_config.specs.Findings.{Finding, found, findings}
 use Rattle.afdx_config.specs.Told.{explanation, toml_text}
 
--- the line of the place after these bytes, from 1
+-- the line after these bytes, counted from 1
 abbrev pub line_of : List ℕ → ℕ
 line_of before = 1 + count_by (λ byte. byte == 10) before
 
--- a byte is none of those behind the first one of a character
+-- a byte begins a UTF-8 character
 abbrev pub begins_character : ℕ → Bool
 begins_character byte = not (nat_le 128 byte && nat_lt byte 192)
 
--- the column of the place after these bytes, from 1, where k characters of the line came before
+-- the column after these bytes, counted from 1, if k characters of the line precede them
 abbrev pub column_after : ℕ → List ℕ → ℕ
 column_after k [] = 1 + k
 column_after k (byte ∷ rest) =
     column_after (if byte == 10 then 0 else if begins_character byte then k + 1 else k) rest
 
--- a document's findings, and their text
+-- the findings of a document and their text
 pub record TellsDocument (document : Members) (found_all : List Finding) (text : List ℕ) : Type 0 where
   pub findings_are : found_all ≡ findings document
   pub text_is : text ≡ explanation document found_all
 
--- the one finding of a text that isn't TOML after these bytes, and what its reader says
+-- the one finding of a text that stops being TOML after these bytes, and the message of the TOML parser
 pub record TellsStop (before message : List ℕ) (found_all : List Finding) (text : List ℕ) : Type 0 where
   pub finding_is : found_all ≡ found Toml (Text (line_of before) (column_after 0 before)) message None ∷ []
   pub text_is : text ≡ toml_text (line_of before) (column_after 0 before) message
 
--- the same, where its reader stopped at some place of the text
+-- the same, at some place of the text
 pub record TellsToml (input : List ℕ) (found_all : List Finding) (text : List ℕ) : Type 0 where
   pub at : ℕ
   pub within : at ≤ length input
   pub message : List ℕ
   pub tells : TellsStop (take at input) message found_all text
 
--- a text's findings, and their text: those of the document that it writes, or that it writes none
+-- the findings of a text and their text: those of its document, or that it is not TOML
 abbrev pub Explains : List ℕ → List Finding → List ℕ → Type 0
 Explains input found_all text =
     ((document : Members) × Reads input document × TellsDocument document found_all text)

@@ -1,4 +1,4 @@
--- Why a text is no configuration.
+-- The faults of a configuration.
 use Rattle.std.specs.Prelude.{◌≡◌, ℕ, ◌<◌, ◌||◌, List, Bool, true, Some, IsUtf8}
 use Rattle.toml.specs.Data.{Members}
 use Rattle.toml.specs.Parse.{parse_document}
@@ -9,11 +9,11 @@ use Rattle.afdx_config.specs.Tables.{values_show}
 use Rattle.afdx_plan.specs.declared.fault.ConfigFault.{ConfigFault}
 use Rattle.afdx_plan.specs.declared.fault.ConfigFault.TheVariants.{Toml}
 
--- a document shows a fault of 2 to 14: its values do, or its plan
+-- a document has a fault of 2 to 14, in its values or in its plan
 abbrev pub shows : ConfigFault → Members → Bool
 shows fault document = values_show fault document || plan_shows fault (plan_of document)
 
--- the document that a text writes
+-- the document of a text
 abbrev pub Reads : List ℕ → Members → Type 0
 Reads text document = IsUtf8 text × (parse_document text ≡ Some document)
 
@@ -22,7 +22,7 @@ abbrev pub HasFault : ConfigFault → List ℕ → Type 0
 HasFault Toml text = (document : Members) → ¬ Reads text document
 HasFault fault text = (document : Members) × Reads text document × (shows fault document ≡ true)
 
--- the fault is the one of the least number that the text has
+-- the fault of the least number that the text has
 abbrev pub IsLeastFault : List ℕ → ConfigFault → Type 0
 IsLeastFault text fault = HasFault fault text
     × ((other : ConfigFault) → fault_number other < fault_number fault → ¬ HasFault other text)

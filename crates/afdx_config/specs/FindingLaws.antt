@@ -1,4 +1,4 @@
--- What the findings of a document say of its faults.
+-- Laws of the findings of a document.
 use Rattle.std.specs.Prelude.{◌≡◌, ◌==◌, ◌∷◌, [], ◌-◌, ℕ, List, length, codes, bytes_eq, slice_get, nat_lt, Bool, true, false, ◌&&◌, ◌||◌, not, Option, Some, None, All}
 use Rattle.std.specs.List.{list_any}
 use Rattle.std.specs.Option.{option_map_or}
@@ -20,38 +20,38 @@ use Rattle.afdx_config.specs.Told.{members_at, fields_at}
 abbrev pub has : ConfigFault → Finding → Bool
 has fault finding = fault_number fault == fault_number finding.fault
 
--- a document shows a fault exactly where some finding has it
+-- a document has a fault exactly if some finding has it
 abbrev pub FaultsAreFound : Type 0
 FaultsAreFound = (document : Members) (fault : ConfigFault)
     → shows fault document ≡ list_any (has fault) (findings document)
 
--- the fault of the first finding is the one that `read_config` answers, and with no finding it answers
--- the document's plan
+-- the fault of the first finding is the one that `read_config` returns; without findings it returns the
+-- document's plan
 abbrev pub FirstIsAnswered : Type 0
 FirstIsAnswered = (text : List ℕ) (document : Members) → Reads text document
     → (findings document ≡ [] → IsPlanOf text (plan_of document))
     × ((first : Finding) (rest : List Finding) → findings document ≡ first ∷ rest → IsLeastFault text first.fault)
 
--- what a test answers of the table at a place; no where there is none
+-- the table at a place exists and passes a test
 abbrev pub table_has : (Members → Bool) → Members → Place → Bool
 table_has test document place = option_map_or test (members_at document place) false
 
--- a key of the table's format has the finding's name, and shows its fault
+-- the finding's key is in the table's format and has the fault
 abbrev pub value_has : Members → Finding → Bool
 value_has document f = table_has (λ members. list_any
     (λ field. bytes_eq f.key field.key && is_fault f.fault (field_fault members field))
     (fields_at document f.place)) document f.place
 
--- the table has the finding's key, and its format hasn't
+-- the finding's key is in the table but not in its format
 abbrev pub key_has : Members → Finding → Bool
 key_has document f = table_has (λ members. (is_fault f.fault (Some UnknownKey) && not (is_key_of (fields_at document f.place) f.key))
     && list_any (bytes_eq f.key) (member_keys members)) document f.place
 
--- the row k passes a test, from 1
+-- row k, counted from 1, passes a test
 abbrev pub row_has : {A : Type 0} → (A → Bool) → List A → ℕ → Bool
 row_has test rows k = option_map_or test (slice_get rows (k - 1)) false
 
--- the row k and a later one are related
+-- row k and a later one are related
 abbrev pub rows_have : {A : Type 0} → (A → A → Bool) → List A → ℕ → Option ℕ → Bool
 rows_have related rows k None = false
 rows_have related rows k (Some j) = nat_lt k j && row_has (λ a. row_has (related a) rows j) rows k
@@ -65,12 +65,12 @@ plan_has links ports fault Top key other = (bytes_eq key (codes "vl") && count_i
     || (bytes_eq key (codes "port") && count_is_wrong fault 256 (length ports))
 plan_has links ports fault _ key other = false
 
--- what stands at a finding's place has its fault
+-- the table or value at a finding's place has its fault
 abbrev pub has_place : Members → Finding → Bool
 has_place document f = (value_has document f || key_has document f)
     || plan_has (plan_of document).links (plan_of document).ports f.fault f.place f.key f.other
 
--- each finding's place has its fault: the key is missing there, its value is of another kind or outside of its
--- range, or the key is unknown; of two tables that agree, both are there, the later one behind
+-- the place of each finding has its fault: the key is missing, its value is of the wrong kind or out of range, or
+-- the key is unknown; both tables of a fault of two exist, and the second one is the later
 abbrev pub PlacesHaveFaults : Type 0
 PlacesHaveFaults = (document : Members) → All (λ f. has_place document f ≡ true) (findings document)

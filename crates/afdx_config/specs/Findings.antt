@@ -15,29 +15,29 @@ use Rattle.afdx_config.specs.Format.{Field, document_fields, end_fields, link_fi
 use Rattle.afdx_config.specs.PlanOf.{plan_of}
 use Rattle.afdx_config.specs.Tables.{field_fault, is_key_of, is_fault, rows_at, section_at, is_version_2}
 
--- a fault, its place, the key that it is of, and another table that it is of too
+-- a fault, its place, its key, and the other table of a fault of two
 pub record Finding : Type 0 where
   pub fault : ConfigFault
   pub place : Place
   pub key : List ℕ
   pub other : Option ℕ
 
--- a finding of these
+-- a finding made of its parts
 abbrev pub found : ConfigFault → Place → List ℕ → Option ℕ → Finding
 found which at name with_other = record { fault = which; place = at; key = name; other = with_other }
 
--- this finding, where the test says so
+-- this finding if the test holds, else none
 abbrev pub one_if : Bool → Finding → List Finding
 one_if true finding = finding ∷ []
 one_if false finding = []
 
--- a table of a document, its place, and the fields that it may have
+-- a table of a document, its place and its format
 pub record Site : Type 0 where
   pub place : Place
   pub fields : List Field
   pub members : Members
 
--- a table at its place
+-- a site made of its parts
 abbrev pub site : Place → List Field → Members → Site
 site at keys table = record { place = at; fields = keys; members = table }
 
@@ -50,19 +50,19 @@ row_sites at fields k (members ∷ rest) = site (at k) fields members ∷ row_si
 abbrev pub end_sites : Option Members → List Site
 end_sites end = option_map_or (λ members. site EndSystem end_fields members ∷ []) end []
 
--- the tables of a document: its top, the end system's, those of links and those of ports
+-- the tables of a document: the top level, the end system, the links and the ports
 abbrev pub sites : Members → List Site
 sites document = site Top document_fields document
     ∷ (end_sites (section_at (codes "end_system") document)
     ++ (row_sites Link (fields_in (is_version_2 document) link_fields) 1 (rows_at (codes "vl") document)
     ++ row_sites Port (fields_in (is_version_2 document) port_fields) 1 (rows_at (codes "port") document)))
 
--- a key of a table's format shows the fault
+-- the finding of a key of a table's format, if it has the fault
 abbrev pub field_findings : ConfigFault → Place → Members → Field → List Finding
 field_findings fault place members field =
     one_if (is_fault fault (field_fault members field)) (found fault place field.key None)
 
--- a key of a table is none of its format
+-- the finding of a key of a table, if it is not in the format
 abbrev pub key_findings : ConfigFault → Place → List Field → List ℕ → List Finding
 key_findings fault place fields key =
     one_if (is_fault fault (Some UnknownKey) && not (is_key_of fields key)) (found fault place key None)
@@ -77,7 +77,7 @@ unfoldable pub site_findings : ConfigFault → Site → List Finding
 site_findings fault s = flat_map (field_findings fault s.place s.members) s.fields
     ++ flat_map (key_findings fault s.place s.fields) (member_keys s.members)
 
--- the key that a plan's fault is told of
+-- the key that a finding of a plan's fault names
 abbrev pub plan_key : ConfigFault → List ℕ
 plan_key SameFlow = codes "destination"
 plan_key SharedUnicast = codes "dest_ip"
@@ -87,56 +87,56 @@ plan_key SamplingTooLong = codes "max"
 plan_key Limit = codes "sub"
 plan_key _ = codes "id"
 
--- the fault of the table k, and of the first one behind it that it agrees with, which is `behind` tables on
+-- the fault of table k and of the first later one that it clashes with, which is at index `behind` after it
 abbrev pub pair_finding : ConfigFault → (ℕ → Place) → ℕ → Option ℕ → List Finding
 pair_finding fault at k None = []
 pair_finding fault at k (Some behind) = found fault (at k) (plan_key fault) (Some (k + 1 + behind)) ∷ []
 
--- two links agree in what no two links may
+-- two links have this fault together
 abbrev pub links_clash : ConfigFault → LinkPlan → LinkPlan → Bool
 links_clash DuplicateVl a b = has_same_vl a b
 links_clash _ a b = false
 
--- the findings of links that agree, the first of them being the link k
+-- the findings of clashing links, counted from k
 abbrev pub link_findings : ConfigFault → ℕ → List LinkPlan → List Finding
 link_findings fault k [] = []
 link_findings fault k (link ∷ rest) =
     pair_finding fault Link k (position (links_clash fault link) rest) ++ link_findings fault (k + 1) rest
 
--- two ports agree in what no two ports may
+-- two ports have this fault together
 abbrev pub ports_clash : ConfigFault → PortPlan → PortPlan → Bool
 ports_clash DuplicatePort a b = has_same_port a b
 ports_clash SameFlow a b = has_same_flow a b
 ports_clash SharedUnicast a b = shares_unicast a b
 ports_clash _ a b = false
 
--- a port doesn't fit to its link
+-- a port does not fit its link
 abbrev pub is_misfit : ConfigFault → List LinkPlan → PortPlan → Bool
 is_misfit NoSuchVl links port = names_no_link links port
 is_misfit NoSuchSub links port = names_no_sub links port
 is_misfit SamplingTooLong links port = is_too_long links port
 is_misfit _ links port = false
 
--- the number of a port's link, where there is one
+-- the number of a port's link
 abbrev pub link_number : List LinkPlan → PortPlan → Option ℕ
 link_number links port = option_map (λ i. i + 1) (position (is_link_of port) links)
 
--- two ports are of one sub-VL
+-- two ports are on the same sub-VL
 abbrev pub has_same_sub : PortPlan → PortPlan → Bool
 has_same_sub a b = b.vl.0 == a.vl.0 && b.sub == a.sub
 
--- the last port of a sub-VL that has too many
+-- a port is the last one on a sub-VL with too many ports
 abbrev pub is_last_crowded : ConfigFault → List PortPlan → PortPlan → List PortPlan → Bool
 is_last_crowded Limit ports port rest = is_crowded ports port && not (list_any (has_same_sub port) rest)
 is_last_crowded _ ports port rest = false
 
--- what the port k shows, with the ports behind it
+-- the findings of port k, with the later ports
 unfoldable pub port_finding : ConfigFault → List LinkPlan → List PortPlan → ℕ → PortPlan → List PortPlan → List Finding
 port_finding fault links ports k port rest = pair_finding fault Port k (position (ports_clash fault port) rest)
     ++ one_if (is_misfit fault links port) (found fault (Port k) (plan_key fault) (link_number links port))
     ++ one_if (is_last_crowded fault ports port rest) (found fault (Port k) (plan_key fault) None)
 
--- the findings of ports, the first of them being the port k, among all ports
+-- the findings of ports, counted from k, among all ports
 abbrev pub port_findings : ConfigFault → List LinkPlan → List PortPlan → ℕ → List PortPlan → List Finding
 port_findings fault links ports k [] = []
 port_findings fault links ports k (port ∷ rest) =
@@ -147,23 +147,23 @@ abbrev pub count_is_wrong : ConfigFault → ℕ → ℕ → Bool
 count_is_wrong Limit most count = is_no_count most count
 count_is_wrong _ most count = false
 
--- the findings of how many links and ports there are
+-- the findings of the numbers of links and ports
 abbrev pub count_findings : ConfigFault → List LinkPlan → List PortPlan → List Finding
 count_findings fault links ports = one_if (count_is_wrong fault 64 (length links)) (found fault Top (codes "vl") None)
     ++ one_if (count_is_wrong fault 256 (length ports)) (found fault Top (codes "port") None)
 
--- a plan's findings of a fault
+-- the findings of a fault in a plan
 unfoldable pub plan_findings : ConfigFault → List LinkPlan → List PortPlan → List Finding
 plan_findings fault links ports = link_findings fault 1 links
     ++ count_findings fault links ports
     ++ port_findings fault links ports 1 ports
 
--- a document's findings of a fault
+-- the findings of a fault in a document
 abbrev pub findings_of : ConfigFault → Members → List Finding
 findings_of fault document = flat_map (site_findings fault) (sites document)
     ++ plan_findings fault (plan_of document).links (plan_of document).ports
 
--- the faults that documents show, in the order of their numbers
+-- the faults of documents, in the order of their numbers
 abbrev pub shown_faults : List ConfigFault
 shown_faults = MissingKey
     ∷ UnknownKey
@@ -180,6 +180,6 @@ shown_faults = MissingKey
     ∷ Limit
     ∷ []
 
--- all findings of a document, in the order of the faults' numbers, and of one fault in that of the tables
+-- all findings of a document, ordered by the number of the fault, then by the order of the tables
 abbrev pub findings : Members → List Finding
 findings document = flat_map (λ fault. findings_of fault document) shown_faults

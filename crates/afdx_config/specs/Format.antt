@@ -1,23 +1,23 @@
--- The format of a configuration: the keys of its tables, and what stands under them.
+-- The format of a configuration: the keys of its tables and their values.
 use Rattle.std.specs.Prelude.{codes, ℕ, ◌-◌, List, [], ◌∷◌, length, take, Bool, true, false}
 use Rattle.afdx_config.specs.declared.format.Content.{Content}
 use Rattle.afdx_config.specs.declared.format.Content.TheVariants.{Whole, Gap, Networks, PortKind, Address, Checksum, Section, Rows}
 
--- a key of a table, whether it must stand there, and what may stand under it
+-- a key of a table, whether it is required, and its value
 pub record Field : Type 0 where
   pub key : List ℕ
   pub is_needed : Bool
   pub content : Content
 
--- a key that must stand there
+-- a required key
 abbrev pub needed : List ℕ → Content → Field
 needed name what = record { key = name; is_needed = true; content = what }
 
--- a key that may be missing
+-- an optional key
 abbrev pub optional : List ℕ → Content → Field
 optional name what = record { key = name; is_needed = false; content = what }
 
--- the top of the text
+-- the top level of the text
 abbrev pub document_fields : List Field
 document_fields = optional (codes "version") (Whole (1, 2))
     ∷ needed (codes "end_system") Section
@@ -29,7 +29,7 @@ document_fields = optional (codes "version") (Whole (1, 2))
 abbrev pub end_fields : List Field
 end_fields = needed (codes "id") (Whole (0, 65535)) ∷ []
 
--- the table of a link in version 2; in version 1 it has no networks, which is the last of them
+-- the table of a link in version 2; version 1 lacks the last key
 abbrev pub link_fields : List Field
 link_fields = needed (codes "id") (Whole (0, 65535))
     ∷ needed (codes "bag_ms") Gap
@@ -39,7 +39,7 @@ link_fields = needed (codes "id") (Whole (0, 65535))
     ∷ optional (codes "networks") Networks
     ∷ []
 
--- the table of a port in version 2; in version 1 it has no checksum, which is the last of them
+-- the table of a port in version 2; version 1 lacks the last key
 abbrev pub port_fields : List Field
 port_fields = needed (codes "id") (Whole (0, 65535))
     ∷ needed (codes "vl") (Whole (0, 65535))
@@ -53,7 +53,7 @@ port_fields = needed (codes "id") (Whole (0, 65535))
     ∷ optional (codes "checksum") Checksum
     ∷ []
 
--- the keys of such a table, where the text is of version 2 and where it isn't
+-- the keys of such a table in version 2, and in version 1
 abbrev pub fields_in : Bool → List Field → List Field
 fields_in true fields = fields
 fields_in false fields = take (length fields - 1) fields

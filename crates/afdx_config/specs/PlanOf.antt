@@ -1,6 +1,5 @@
--- The plan that a document writes. It is total: where a value is missing or of another kind, 0 or
--- the first variant stands in its place, and the document has a fault of a lower number than those
--- that plans show.
+-- The plan of a document. It is total: a value that is missing or of the wrong kind is 0 or the first
+-- variant. Such a document has a fault of a lower number than those of plans.
 use Rattle.std.specs.Prelude.{codes, map, option_and_then, unwrap_or}
 use Rattle.std.specs.Option.{option_map_or}
 use Rattle.toml.specs.Data.{Members}

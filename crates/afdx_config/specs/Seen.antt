@@ -1,4 +1,4 @@
--- What the code's values for findings stand for.
+-- The specification values of findings and tables in the code.
 use Rattle.std.specs.Prelude.{◌≡◌, ℕ, ◌++◌, List, map, string_bytes}
 use Rattle.toml.specs.View.{table_view}
 use Rattle.afdx_config.specs.Findings.{Finding, Site}
@@ -6,11 +6,11 @@ use Rattle.afdx_config.specs.Views.{field_of}
 use Rattle.afdx_config.specs.declared.findings.Finding.{Finding as Written}
 use Rattle.afdx_config.specs.declared.findings.Place.{Place}
 use Rattle.afdx_config.specs.declared.findings.Place.TheVariants.{Link, Port}
-use Rattle.afdx_config.specs.declared.sites.Rows.{Rows}
-use Rattle.afdx_config.specs.declared.sites.Rows.TheVariants.{Links, Ports}
-use Rattle.afdx_config.specs.declared.sites.Site.{Site as Table}
+use Rattle.afdx_config.specs.declared.value_findings.Rows.{Rows}
+use Rattle.afdx_config.specs.declared.value_findings.Rows.TheVariants.{Links, Ports}
+use Rattle.afdx_config.specs.declared.value_findings.Site.{Site as Table}
 
--- the place of the table k of an array
+-- the place of table k of an array
 abbrev pub row_place : Rows → ℕ → Place
 row_place Links k = Link k
 row_place Ports k = Port k

@@ -1,4 +1,4 @@
--- The tables of a configuration's document, and the faults that its values show, by their format.
+-- The tables of a document, and the faults of their values.
 use Rattle.std.specs.Prelude.{codes, ℕ, List, [], Bool, false, ◌==◌, ◌||◌, is_none, bytes_eq, Option, Some, None, option_and_then}
 use Rattle.std.specs.Bool.{then_some}
 use Rattle.std.specs.List.{list_any}
@@ -13,12 +13,12 @@ use Rattle.afdx_config.specs.Entries.{number_at, tables_among, lies_outside, has
 use Rattle.afdx_config.specs.Values.{bag_of, networks_of, kind_of, address_of, checksum_of}
 use Rattle.afdx_config.specs.Format.{Field, document_fields, end_fields, link_fields, port_fields, fields_in}
 
--- an item isn't a table
+-- some item is not a table
 abbrev pub has_other_item : Items → Bool
 has_other_item no_items = false
 has_other_item (item d ds) = is_none (as_table d) || has_other_item ds
 
--- the fault of what was read of a value, where the test refuses it; nothing is read of another kind
+-- the fault of a value: `WrongKind` if nothing was read, else `fault` if the test refuses it
 abbrev pub fault_in : {X : Type 0} → ConfigFault → (X → Bool) → Option X → Option ConfigFault
 fault_in fault refuses None = Some WrongKind
 fault_in fault refuses (Some x) = then_some (refuses x) fault
@@ -34,7 +34,7 @@ content_fault Checksum value = fault_in OutOfRange (λ t. is_none (checksum_of t
 content_fault Section value = fault_in WrongKind (λ t. false) (as_table value)
 content_fault Rows value = fault_in WrongKind has_other_item (as_array value)
 
--- the fault of what stands under a key: a needed one is missing, or the value shows one
+-- the fault under a key: a required value is missing, or the value has a fault
 abbrev pub fault_under : Field → Option Data → Option ConfigFault
 fault_under field None = then_some field.is_needed MissingKey
 fault_under field (Some value) = content_fault field.content value
@@ -43,20 +43,20 @@ fault_under field (Some value) = content_fault field.content value
 abbrev pub field_fault : Members → Field → Option ConfigFault
 field_fault members field = fault_under field (get_member field.key members)
 
--- the key is one of these
+-- the key is in the format
 abbrev pub is_key_of : List Field → List ℕ → Bool
 is_key_of fields key = list_any (λ field. bytes_eq key field.key) fields
 
--- the fault of the keys of a table: one is none of these
+-- the fault of the keys of a table: one is not in the format
 abbrev pub keys_fault : List Field → Members → Option ConfigFault
 keys_fault fields members = then_some (has_key_besides (is_key_of fields) members) UnknownKey
 
--- it is this fault
+-- a fault is shown and is this one
 abbrev pub is_fault : ConfigFault → Option ConfigFault → Bool
 is_fault fault None = false
 is_fault fault (Some other) = fault_number fault == fault_number other
 
--- a table shows a fault of 2 to 6
+-- a table has a fault of 2 to 6
 unfoldable pub table_shows : ConfigFault → List Field → Members → Bool
 table_shows fault fields members =
     list_any (λ field. is_fault fault (field_fault members field)) fields || is_fault fault (keys_fault fields members)
@@ -70,11 +70,11 @@ rows_at key document =
 abbrev pub section_at : List ℕ → Members → Option Members
 section_at key document = option_and_then as_table (get_member key document)
 
--- the text is of version 2
+-- the document is of format version 2
 abbrev pub is_version_2 : Members → Bool
 is_version_2 document = number_at (codes "version") document == 2
 
--- the values of a document show a fault of 2 to 6: those at its top, or those of one of its tables
+-- the values of a document have a fault of 2 to 6, at the top level or in one of its tables
 unfoldable pub values_show : ConfigFault → Members → Bool
 values_show fault document = table_shows fault document_fields document
     || option_map_or (table_shows fault end_fields) (section_at (codes "end_system") document) false

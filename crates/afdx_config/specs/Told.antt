@@ -34,7 +34,7 @@ fault_name SharedUnicast = codes "SharedUnicast"
 fault_name Limit = codes "Limit"
 fault_name Memory = codes "Memory"
 
--- a byte that prints, and is neither a quote nor a backslash
+-- a byte is printable ASCII, but neither a quote nor a backslash
 abbrev pub is_plain : ℕ → Bool
 is_plain byte = nat_le 32 byte && nat_le byte 126 && not (byte == 34) && not (byte == 92)
 
@@ -42,32 +42,32 @@ is_plain byte = nat_le 32 byte && nat_le byte 126 && not (byte == 34) && not (by
 abbrev pub hex_digit : ℕ → ℕ
 hex_digit digit = if nat_lt digit 10 then 48 + digit else 87 + digit
 
--- a byte as it is told: itself, or a backslash, x and two digits
+-- a byte as it is printed: itself, or a backslash, x and two digits
 unfoldable pub escaped : ℕ → List ℕ
 escaped byte = if is_plain byte then byte ∷ []
     else 92 ∷ 120 ∷ hex_digit (byte / 16) ∷ hex_digit (byte % 16) ∷ []
 
--- the first 40 bytes of a text, and dots where it is longer
+-- the first 40 bytes of a string, and dots if it is longer
 unfoldable pub cut_text : List ℕ → List ℕ
 cut_text text = flat_map escaped (take 40 text) ++ (if nat_lt 40 (length text) then codes "..." else [])
 
--- how many items an array has
+-- the number of items of an array
 abbrev pub items_count : Items → ℕ
 items_count no_items = 0
 items_count (item value rest) = 1 + items_count rest
 
--- an array of so many items
+-- an array of `count` items
 unfoldable pub array_text : ℕ → List ℕ
 array_text count = codes "an array of " ++ decimal count
 
--- a value: a text in quotes, a whole number, of others the kind
+-- a value: a string in quotes, a whole number, else the kind
 unfoldable pub known_text : Data → List ℕ
 known_text (string text) = 34 ∷ [] ++ cut_text text ++ 34 ∷ []
 known_text (integer number) = signed_decimal number
 known_text (array items) = array_text (items_count items)
 known_text value = codes "a " ++ type_name value
 
--- what stands under a key
+-- the value under a key
 unfoldable pub value_text : Option Data → List ℕ
 value_text None = codes "missing"
 value_text (Some value) = known_text value
@@ -80,7 +80,7 @@ members_at document EndSystem = section_at (codes "end_system") document
 members_at document (Link k) = slice_get (rows_at (codes "vl") document) (k - 1)
 members_at document (Port k) = slice_get (rows_at (codes "port") document) (k - 1)
 
--- an identifier, where it is a whole number
+-- an identifier, if it is a whole number
 unfoldable pub id_text : Option ℤ → List ℕ
 id_text None = []
 id_text (Some id) = codes " (id " ++ signed_decimal id ++ codes ")"
@@ -101,7 +101,7 @@ place_text document EndSystem = codes "end_system"
 place_text document (Link k) = codes "vl " ++ decimal k ++ id_text (id_at document (Link k))
 place_text document (Port k) = codes "port " ++ decimal k ++ id_text (id_at document (Port k))
 
--- what stands between a place and a key of it
+-- the separator between a place and a key
 abbrev pub joint : Place → List ℕ
 joint (Text line column) = codes ": "
 joint Top = []
@@ -109,12 +109,12 @@ joint EndSystem = codes "."
 joint (Link k) = codes ", "
 joint (Port k) = codes ", "
 
--- what stands under a key of a place
+-- a key of a place and its value
 unfoldable pub subject : Members → Place → List ℕ → List ℕ
 subject document place key = place_text document place ++ joint place ++ cut_text key ++ codes " is "
     ++ value_text (option_and_then (get_member key) (members_at document place))
 
--- the keys that the table at a place may have
+-- the keys of the format of the table at a place
 abbrev pub fields_at : Members → Place → List Field
 fields_at document (Text line column) = []
 fields_at document Top = document_fields
@@ -122,7 +122,7 @@ fields_at document EndSystem = end_fields
 fields_at document (Link k) = fields_in (is_version_2 document) link_fields
 fields_at document (Port k) = fields_in (is_version_2 document) port_fields
 
--- what may stand under the key of a place
+-- the format of a key of a place
 abbrev pub field_at : Members → Place → List ℕ → Option Field
 field_at document place key = find (λ field. bytes_eq key field.key) (fields_at document place)
 
@@ -137,7 +137,7 @@ content_text Checksum = codes "none or udp"
 content_text Section = codes "a table"
 content_text Rows = codes "an array of tables"
 
--- the kind of value that it wants
+-- the kind of value that a content requires
 abbrev pub kind_text : Content → List ℕ
 kind_text (Whole range) = codes "a whole number"
 kind_text Gap = codes "a whole number"
@@ -145,41 +145,41 @@ kind_text Section = codes "a table"
 kind_text Rows = codes "an array of tables"
 kind_text _ = codes "a text"
 
--- the keys of a table
+-- the keys of a format
 abbrev pub key_names : List Field → List ℕ
 key_names fields = flat_map (λ field. codes " " ++ field.key) fields
 
--- how many tables or ports there may be
+-- the allowed number of tables or ports
 abbrev pub limit_text : Place → List ℕ → List ℕ
 limit_text Top key = if bytes_eq key (codes "vl") then codes "1 to 64 tables" else codes "1 to 256 tables"
 limit_text _ key = codes "at most 64 ports of one sub-VL"
 
--- a port's link, and what stands under a key of it
+-- a port's link, a key of it and its value
 unfoldable pub link_text : Members → Option ℕ → List ℕ → List ℕ
 link_text document None key = []
 link_text document (Some k) key = codes "; " ++ subject document (Link k) key
 
--- what may stand under a key
+-- the values that are allowed under the key of a finding
 abbrev pub content_at : Members → Finding → List ℕ
 content_at document f = option_map_or (λ field. content_text field.content) (field_at document f.place f.key) []
 
--- the kind of value that is wanted there
+-- the kind of value that the key of a finding requires
 abbrev pub kind_at : Members → Finding → List ℕ
 kind_at document f = option_map_or (λ field. kind_text field.content) (field_at document f.place f.key) []
 
--- the keys that a table may have
+-- the keys that a table can have
 unfoldable pub keys_text : List Field → List ℕ
 keys_text fields = codes "the keys are" ++ key_names fields
 
--- the kind of value that is wanted
+-- the kind of value that a finding requires
 unfoldable pub wanted_text : Members → Finding → List ℕ
 wanted_text document f = kind_at document f ++ codes " is wanted"
 
--- a bound that a port's link sets, and the value there
+-- a bound that a port's link sets, and the value of the link
 unfoldable pub bound_text : Members → Option ℕ → List ℕ → List ℕ → List ℕ
 bound_text document other bound key = bound ++ link_text document other key
 
--- what is allowed where a fault is found
+-- the values that are allowed at a finding
 unfoldable pub allowed_text : ConfigFault → Members → Finding → List ℕ
 allowed_text UnknownKey document f = keys_text (fields_at document f.place)
 allowed_text WrongKind document f = wanted_text document f
@@ -194,19 +194,19 @@ abbrev pub row_like : Place → ℕ → Place
 row_like (Link k) other = Link other
 row_like _ other = Port other
 
--- two tables that agree
+-- the places of two tables
 unfoldable pub pair_text : Members → Place → Option ℕ → List ℕ
 pair_text document place None = place_text document place
 pair_text document place (Some other) =
     place_text document place ++ codes " and " ++ place_text document (row_like place other)
 
--- what two tables agree in
+-- the values that the two tables of a fault share
 abbrev pub same_text : ConfigFault → List ℕ
 same_text SameFlow = codes "the same vl, partition, source, destination and dest_ip"
 same_text SharedUnicast = codes "the same partition and dest_ip, but another vl"
 same_text _ = codes "the same id"
 
--- it is a fault of two tables
+-- a fault is one of two tables
 abbrev pub is_of_pair : ConfigFault → Bool
 is_of_pair DuplicateVl = true
 is_of_pair DuplicatePort = true
@@ -222,7 +222,7 @@ pair_line document f = pair_text document f.place f.other ++ codes ": " ++ same_
 unfoldable pub key_line : Members → Finding → List ℕ
 key_line document f = subject document f.place f.key ++ codes ": " ++ allowed_text f.fault document f
 
--- a finding behind its number and name
+-- a finding without its number and name
 abbrev pub told : Members → Finding → List ℕ
 told document f = if is_of_pair f.fault then pair_line document f else key_line document f
 
@@ -231,7 +231,7 @@ unfoldable pub finding_line : Members → Finding → List ℕ
 finding_line document f = decimal (fault_number f.fault) ++ codes " " ++ fault_name f.fault ++ codes ": "
     ++ told document f ++ 10 ∷ []
 
--- how many there are
+-- the number of findings
 unfoldable pub count_line : ℕ → List ℕ
 count_line count =
     if count == 0 then codes "no faults" ++ 10 ∷ []
@@ -242,11 +242,11 @@ count_line count =
 unfoldable pub explanation : Members → List Finding → List ℕ
 explanation document findings = count_line (length findings) ++ flat_map (finding_line document) findings
 
--- where a text stops to be TOML, and what its reader says
+-- the place at which a text stops being TOML, and the message of the TOML parser
 unfoldable pub toml_line : ℕ → ℕ → List ℕ → List ℕ
 toml_line line column message =
     codes "1 Toml: " ++ stop_text line column ++ codes ": " ++ message ++ 10 ∷ []
 
--- all that is told of a text that isn't TOML
+-- the whole explanation of a text that is not TOML
 unfoldable pub toml_text : ℕ → ℕ → List ℕ → List ℕ
 toml_text line column message = codes "1 fault" ++ 10 ∷ [] ++ toml_line line column message

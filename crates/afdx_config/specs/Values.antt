@@ -1,4 +1,4 @@
--- The values of a plan, as a text writes them.
+-- Values of a plan in texts.
 use Rattle.std.specs.Prelude.{ℕ, ℤ, pos, negsuc, ◌==◌, if◌then◌else◌, List, [], ◌∷◌, codes, bytes_eq, Option, Some, None, option_and_then, ◌≡◌, ◌↔◌, slice_index}
 use Rattle.std.specs.Net.Reader.{read_ipv4}
 use Rattle.std.specs.Net.Grammar.{IsDotted}
@@ -11,7 +11,7 @@ use Rattle.afdx_plan.specs.declared.identifiers.UdpSum.TheVariants.{Omitted, Gen
 use Rattle.afdx_plan.specs.declared.networks.Networks.{Networks}
 use Rattle.afdx_plan.specs.declared.networks.Networks.TheVariants.{Both, OnlyA, OnlyB}
 
--- the gap of a number of milliseconds
+-- the BAG of a number of milliseconds
 unfoldable pub bag_of : ℤ → Option Bag
 bag_of (negsuc n) = None
 bag_of (pos n) =
@@ -47,17 +47,17 @@ checksum_of text =
     else if bytes_eq text (codes "udp") then Some Generated
     else None
 
--- four numbers that were read, where nothing follows them and the first is 10
+-- four numbers, if the first is 10 and no text follows them
 abbrev pub in_network_10 : List ℕ × List ℕ → Option (List ℕ)
 in_network_10 (octets, []) = if slice_index octets 0 == 10 then Some octets else None
 in_network_10 (octets, _ ∷ _) = None
 
--- the unicast address that a text writes
+-- the unicast address of a text
 unfoldable pub address_of : List ℕ → Option (List ℕ)
 address_of text = option_and_then in_network_10 (read_ipv4 text)
 
--- an address is read exactly where the text is its four numbers in decimal, joined by dots, none
--- with a leading zero, and the first is 10
+-- a text has an address exactly if it is four decimal numbers of 0 to 255 joined by dots, without
+-- leading zeros, and the first is 10
 abbrev pub AddressesAreDotted : Type 0
 AddressesAreDotted = (text address : List ℕ)
     → (address_of text ≡ Some address) ↔ (IsDotted text address × (slice_index address 0 ≡ 10))

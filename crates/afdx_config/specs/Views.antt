@@ -1,4 +1,4 @@
--- What the code's values stand for: the fields of the format, and the tables of a document.
+-- The specification values of formats and documents in the code.
 use Rattle.std.specs.Prelude.{◌≡◌, ◌≤◌, ◌<◌, nat_lt, if◌then◌else◌, codes, Bool, true, false, List, map, Option, Some, None, option_map, All}
 use Rattle.std.specs.List.{AllByRecursion}
 use Rattle.std.specs.Option.{ForSome}
@@ -13,7 +13,7 @@ use Rattle.afdx_config.specs.declared.format.Field.{Field as Written}
 use Rattle.afdx_config.specs.declared.document.Document.{Document}
 use Rattle.afdx_config.specs.declared.parts.Parts.{Parts}
 
--- the field that the code writes
+-- the field of the specification
 abbrev pub field_of : Written → Field
 field_of written = record {
   key = written.0.now;
@@ -25,7 +25,7 @@ field_of written = record {
 abbrev pub data_of : Document → Members
 data_of document = table_view document.top.now
 
--- its tables are those that the format names in it
+-- the tables are those of the document
 pub record IsDocument (document : Document) : Type 0 where
   pub end_is : option_map (λ t. table_view t.now) document.end ≡ section_at (codes "end_system") (data_of document)
   pub links_are : map (λ r. table_view r.now) document.links.items ≡ rows_at (codes "vl") (data_of document)
@@ -36,11 +36,11 @@ pub record IsLeast (shows : ConfigFault → Bool) (least : ConfigFault) : Type 0
   pub shown : shows least ≡ true
   pub first : (other : ConfigFault) → fault_number other < fault_number least → shows other ≡ false
 
--- a fault that values show
+-- a fault of values
 abbrev pub IsOfValues : ConfigFault → Type 0
 IsOfValues fault = (2 ≤ fault_number fault) × (fault_number fault ≤ 6)
 
--- the least fault of values that passes a test, or none where no fault does
+-- the least fault of values that passes a test, or none if no fault does
 abbrev pub IsLeastOf : (ConfigFault → Bool) → Option ConfigFault → Type 0
 IsLeastOf shows None = (fault : ConfigFault) → shows fault ≡ false
 IsLeastOf shows (Some least) = IsLeast shows least × IsOfValues least
@@ -51,16 +51,16 @@ lesser None b = b
 lesser (Some a) None = Some a
 lesser (Some a) (Some b) = if nat_lt (fault_number b) (fault_number a) then Some b else Some a
 
--- a table in which no key of these shows a fault
+-- no key of this format has a fault in the table
 abbrev pub IsSoundTable : List Field → Members → Type 0
 IsSoundTable fields members = AllByRecursion (λ field. field_fault members field ≡ None) fields
 
--- each of the tables is without fault; a link's and a port's in the keys that it has in both versions
+-- no table has a fault; for links and ports, in the keys of version 1
 pub record AreSound (document : Document) : Type 0 where
   pub end_sound : ForSome document.end (λ t. IsSoundTable end_fields (table_view t.now))
   pub links_sound : All (λ r. IsSoundTable (fields_in false link_fields) (table_view r.now)) document.links.items
   pub ports_sound : All (λ r. IsSoundTable (fields_in false port_fields) (table_view r.now)) document.ports.items
 
--- the plan of parts that weren't judged as a whole
+-- the plan of parts that are not yet checked against each other
 abbrev pub plan_in : Parts → Plan
 plan_in parts = plan_of_parts parts.end_system parts.links.items parts.ports.items

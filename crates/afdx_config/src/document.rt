@@ -1,4 +1,4 @@
-//! A configuration's document and its tables.
+//! The document of a configuration and its tables.
 ghost use Rattle.std.specs.Prelude.{◌≡◌, map, IfOk, option_map};
 ghost use Rattle.toml.specs.View.{table_view, items_view};
 ghost use Rattle.afdx_config.specs.Entries.{tables_among};
@@ -11,8 +11,7 @@ use crate::format::Field;
 use std::alloc::{AllocError, Global};
 use toml::{Table, Value};
 
-/// A document, and the tables that the format names in it: the end system's, those of the links and
-/// those of the ports, in the order of the text.
+/// A document with its tables of the end system, links and ports, in the order of the text.
 #[derive(Drop)]
 pub(crate) struct Document<'a> {
     pub top: &'a Table,
@@ -54,7 +53,7 @@ fn section<'a>(document: &'a Table, key: &str) -> Option<&'a Table>
     value_at(document, key).and_then(|value| value.as_table())
 }
 
-/// The text is of version 2.
+/// The document is of format version 2.
 fn is_version_2(document: &Document<'_>) -> bool
     ensures { result ≡ is_version_2 (data_of document.now) }
 {
@@ -64,7 +63,7 @@ fn is_version_2(document: &Document<'_>) -> bool
     }
 }
 
-/// The keys of a table in the version of the text, of those that it has in version 2.
+/// Restricts the keys of version 2 of the format to those of the document's version.
 pub(crate) fn fields_in<'a>(document: &Document<'_>, fields: &'a [Field]) -> &'a [Field]
     ensures { map field_of result.now
         ≡ fields_in (is_version_2 (data_of document.now)) (map field_of fields.now) }

@@ -1,4 +1,4 @@
-//! What stands under a key of a table.
+//! Values of a table by key.
 ghost use Rattle.std.specs.Prelude.{◌≡◌, ◌≤◌, None, option_map, option_copied};
 ghost use Rattle.toml.specs.Data.{get_member};
 ghost use Rattle.toml.specs.View.{view, table_view};
@@ -10,7 +10,8 @@ ghost use Rattle.afdx_config.specs.Entries.{whole_at, text_at, number_at};
 use crate::format::Range;
 use toml::{Table, Value};
 
-/// What stands under a key.
+/// The value under a key.
+#[tactic(auto, using(toml::proofs::Views::table_get))]
 pub(crate) fn value_at<'a>(table: &'a Table, key: &str) -> Option<&'a Value>
     ensures { option_map (λ v. view v.now) result ≡ get_member key.now (table_view table.now) }
 {
@@ -31,7 +32,7 @@ pub(crate) fn text<'a>(table: &'a Table, key: &str) -> Option<&'a str>
     value_at(table, key).and_then(|value| value.as_str())
 }
 
-/// The number under a key that shows no fault.
+/// The number under a key whose value has no fault.
 pub(crate) fn number(table: &Table, key: &str, range: Range) -> u16
     requires { field_fault (table_view table.now) (needed key.now (Whole range)) ≡ None }
     ensures value { result ≡ number_at key.now (table_view table.now) }

@@ -1,18 +1,17 @@
-//! All faults of a configuration's text, each with its place.
+//! All faults of a configuration, each with its place.
 ghost use Rattle.std.specs.Prelude.{◌≡◌, ◌++◌, map, IfOk, OnOk};
 ghost use Rattle.std.specs.List.{flat_map};
 ghost use Rattle.toml.specs.Errors.{IsWithin};
 ghost use Rattle.toml.specs.View.{table_view};
 ghost use Rattle.afdx_config.specs.Explained.{begins_character, column_after, line_of, Explains, TellsDocument, TellsStop, TellsToml};
-ghost use Rattle.afdx_config.specs.Findings.{findings as findings_in, site_findings, plan_findings};
-ghost use Rattle.afdx_config.specs.Seen.{Adds, finding_of, site_of};
+ghost use Rattle.afdx_config.specs.Findings.{findings as findings_in, plan_findings, site_findings, sites};
+ghost use Rattle.afdx_config.specs.Seen.{Adds, finding_of};
 ghost use Rattle.afdx_config.specs.Views.{IsDocument, data_of};
 
 use crate::document::Document;
 use crate::findings::{Finding, Place, add};
 use crate::plan_findings::add_plan;
 use crate::rows::{LinkRow, PortRow, link_rows, port_rows};
-use crate::sites::{Site, sites_of};
 use crate::told::{write_explanation, write_toml};
 use crate::value_findings::add_sites;
 use afdx_plan::ConfigFault;
@@ -20,7 +19,7 @@ use std::alloc::{AllocError, Global};
 use toml::Table;
 use toml::de::Error;
 
-/// The faults that documents show, in the order of their numbers.
+/// The faults of documents, in the order of their numbers.
 const SHOWN_FAULTS: [ConfigFault; 13] = [
     ConfigFault::MissingKey,
     ConfigFault::UnknownKey,
@@ -40,29 +39,30 @@ const SHOWN_FAULTS: [ConfigFault; 13] = [
 /// All faults of a text.
 #[derive(Debug, Drop)]
 pub struct Explanation {
-    /// In the order of the faults' numbers, and of one fault in that of the text's tables.
+    /// Ordered by the number of the fault, then by the order of the tables in the text.
     pub findings: Vec<Finding>,
-    /// A line that counts the findings, and one for each.
+    /// A line with the number of findings, and a line for each.
     pub text: Vec<u8>,
 }
 
-/// Adds what a document shows of these faults.
+/// Adds the findings of these faults.
 fn add_faults(
     alloc: Global,
     found: &mut Vec<Finding>,
     faults: &[ConfigFault],
-    sites: &[Site<'_>],
+    document: &Document<'_>,
     links: &[LinkRow],
     ports: &[PortRow],
 ) -> Result<(), AllocError>
+    requires { IsDocument document.now }
     ensures { OnOk result (Adds found.old.items found.new.items
         (flat_map
-        (λ fault. flat_map (λ s. site_findings fault (site_of s)) sites.now
+        (λ fault. flat_map (site_findings fault) (sites (data_of document.now))
         ++ plan_findings fault links.now ports.now)
         faults.now)) }
 {
     for fault in faults {
-        add_sites(alloc, found, *fault, sites)?;
+        add_sites(alloc, found, *fault, document)?;
         add_plan(alloc, found, *fault, links, ports)?;
     }
     Ok(())
@@ -74,7 +74,6 @@ fn findings_in(alloc: Global, document: &Document<'_>) -> Result<Vec<Finding>, A
     ensures { IfOk result (λ found.
         map finding_of found.items ≡ findings_in (data_of document.now)) }
 {
-    let sites = sites_of(alloc, document)?;
     let links = link_rows(alloc, document.links.as_slice())?;
     let ports = port_rows(alloc, document.ports.as_slice())?;
     let mut found = Vec::new(alloc);
@@ -82,14 +81,14 @@ fn findings_in(alloc: Global, document: &Document<'_>) -> Result<Vec<Finding>, A
         alloc,
         &mut found,
         &SHOWN_FAULTS,
-        sites.as_slice(),
+        document,
         links.as_slice(),
         ports.as_slice(),
     )?;
     Ok(found)
 }
 
-/// All faults of a document.
+/// Explains a document.
 fn explain_document(alloc: Global, table: &Table) -> Result<Explanation, AllocError>
     ensures { IfOk result (λ e.
         TellsDocument (table_view table.now) (map finding_of e.findings.items) e.text.items) }
@@ -103,14 +102,14 @@ fn explain_document(alloc: Global, table: &Table) -> Result<Explanation, AllocEr
     }
 }
 
-/// The line, from 1, of the place after these bytes.
+/// The line after these bytes, counted from 1.
 fn line_of(before: &[u8]) -> usize
     ensures { result ≡ line_of before.now }
 {
     1 + before.iter().filter(|byte| **byte == b'\n').count()
 }
 
-/// The column, from 1, of the place after these bytes. It counts characters.
+/// The column after these bytes in characters, counted from 1.
 fn column_of(before: &[u8]) -> usize
     ensures { result ≡ column_after 0 before.now }
 {
@@ -125,14 +124,14 @@ fn column_of(before: &[u8]) -> usize
     1 + characters
 }
 
-/// A byte is none of those behind the first one of a character.
+/// A byte begins a UTF-8 character.
 fn begins_character(byte: u8) -> bool
     ensures { result ≡ begins_character byte }
 {
     !(128 <= byte && byte < 192)
 }
 
-/// The fault of a text that isn't TOML.
+/// Explains a text that is not TOML.
 fn explain_toml(alloc: Global, text: &[u8], error: &Error) -> Result<Explanation, AllocError>
     requires { IsWithin text.now error.now }
     ensures { IfOk result (λ e.
@@ -146,7 +145,7 @@ fn explain_toml(alloc: Global, text: &[u8], error: &Error) -> Result<Explanation
     tell_toml(alloc, before, error.message())
 }
 
-/// The one finding of a text that isn't TOML after these bytes.
+/// Explains a text that stops being TOML after the bytes `before`.
 fn tell_toml(alloc: Global, before: &[u8], message: &str) -> Result<Explanation, AllocError>
     ensures { IfOk result (λ e. TellsStop before.now message.now
         (map finding_of e.findings.items) e.text.items) }
@@ -155,14 +154,8 @@ fn tell_toml(alloc: Global, before: &[u8], message: &str) -> Result<Explanation,
     let column = column_of(before);
     let mut findings = Vec::new(alloc);
     let place = Place::Text(line, column);
-    add(
-        alloc,
-        &mut findings,
-        ConfigFault::Toml,
-        place,
-        message,
-        None,
-    )?;
+    let fault = ConfigFault::Toml;
+    add(alloc, &mut findings, fault, place, message, None)?;
     let mut text = Vec::new(alloc);
     match write_toml(&mut text, line, column, message) {
         Ok(()) => Ok(Explanation { findings, text }),
@@ -170,9 +163,8 @@ fn tell_toml(alloc: Global, before: &[u8], message: &str) -> Result<Explanation,
     }
 }
 
-/// All faults of a configuration's text, each with its place: those of the document that it writes,
-/// or that it isn't TOML. Where it has none the text says so, and `read_config` answers its plan;
-/// the fault of the first finding is else what `read_config` answers.
+/// Finds all faults of a configuration, each with its place. A text that is not TOML has this one fault.
+/// `read_config` returns the fault of the first finding, or the plan if there is no finding.
 pub fn explain(alloc: Global, text: &[u8]) -> Result<Explanation, AllocError>
     ensures { IfOk result (λ e.
         Explains text.now (map finding_of e.findings.items) e.text.items) }

@@ -1,4 +1,4 @@
-//! The faults that the values of tables show.
+//! The faults of values of tables.
 ghost use Rattle.std.specs.Prelude.{◌≡◌, not, map, is_none, string_bytes, bytes_eq, IfSome};
 ghost use Rattle.std.specs.List.{list_any};
 ghost use Rattle.std.specs.BTreeMap.{keys};
@@ -21,7 +21,8 @@ fn some_is_no_table(values: &[Value]) -> bool
     values.iter().any(|value| !value.is_table())
 }
 
-/// An item isn't a table.
+/// Some item is not a table.
+#[tactic(auto, using(crate::proofs::SectionLemmas::other_item_among))]
 fn holds_other_item(values: &[Value]) -> bool
     ensures { result ≡ has_other_item (items_view values.now) }
 {
@@ -35,7 +36,7 @@ fn lies_outside(range: Range, number: i64) -> bool
     number < i64::from(least) || i64::from(most) < number
 }
 
-/// The fault of a value of this content: it is of another kind, outside its range, or no gap.
+/// The fault of a value: it is of the wrong kind, out of range, or not a BAG.
 fn content_fault(content: Content, value: &Value) -> Option<ConfigFault>
     ensures value { result ≡ content_fault content (view value.now) }
     ensures small { IfSome result IsOfValues }
@@ -60,7 +61,7 @@ fn content_fault(content: Content, value: &Value) -> Option<ConfigFault>
     }
 }
 
-/// The fault of a key of a table: it is missing, or its value shows one.
+/// The fault of a key of a table: the key is missing, or its value has a fault.
 pub(crate) fn field_fault(table: &Table, field: &Field) -> Option<ConfigFault>
     ensures value { result ≡ field_fault (table_view table.now) (field_of field.now) }
     ensures small { IfSome result IsOfValues }
@@ -78,7 +79,8 @@ fn names_some(fields: &[Field], key: &str) -> bool
     fields.iter().any(|field| key == field.0)
 }
 
-/// The key is one of the fields'.
+/// The key is in the format.
+#[tactic(auto, using(crate::proofs::SectionLemmas::list_any_map))]
 pub(crate) fn is_key_of(fields: &[Field], key: &str) -> bool
     ensures { result ≡ is_key_of (map field_of fields.now) key.now }
 {
@@ -105,7 +107,7 @@ pub(crate) fn lesser(a: Option<ConfigFault>, b: Option<ConfigFault>) -> Option<C
     }
 }
 
-/// The fault of the least number that a table shows.
+/// The fault of the least number in a table.
 pub(crate) fn table_fault(table: &Table, fields: &[Field]) -> Option<ConfigFault>
     ensures { IsLeastOf
         (λ fault. table_shows fault (map field_of fields.now) (table_view table.now))
@@ -121,7 +123,7 @@ pub(crate) fn table_fault(table: &Table, fields: &[Field]) -> Option<ConfigFault
     )
 }
 
-/// The fault of the least number that some table of these shows.
+/// The fault of the least number in these tables.
 pub(crate) fn tables_fault(tables: &[&Table], fields: &[Field]) -> Option<ConfigFault>
     ensures { IsLeastOf
         (λ fault. list_any
@@ -136,7 +138,7 @@ pub(crate) fn tables_fault(tables: &[&Table], fields: &[Field]) -> Option<Config
     least
 }
 
-/// The fault of the least number that a document's values show.
+/// The fault of the least number among the values of a document.
 pub(crate) fn value_fault(document: &Document<'_>) -> Option<ConfigFault>
     requires { IsDocument document.now }
     ensures { IsLeastOf (λ fault. values_show fault (data_of document.now)) result }

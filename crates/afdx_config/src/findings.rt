@@ -1,4 +1,4 @@
-//! A fault of a configuration's text, with its place.
+//! Faults of a configuration with their places.
 ghost use Rattle.std.specs.Prelude.{◌≡◌, ◌∷◌, [], OnOk};
 ghost use Rattle.afdx_config.specs.Findings.{found as finding_at};
 ghost use Rattle.afdx_config.specs.Seen.{Adds};
@@ -6,31 +6,31 @@ ghost use Rattle.afdx_config.specs.Seen.{Adds};
 use afdx_plan::ConfigFault;
 use std::alloc::{AllocError, Global};
 
-/// Where a fault stands. Tables are counted from 1, in the order of the text.
+/// The place of a fault. Tables are counted from 1, in the order of the text.
 #[derive(Clone, Copy, Debug, PartialEq, Eq)]
 pub enum Place {
-    /// the line and the column, from 1, at which a text stops to be TOML
+    /// The line and the column, from 1, at which a text stops being TOML.
     Text(usize, usize),
-    /// the top of the text
+    /// The top level of the text.
     Top,
-    /// the table of the end system
+    /// The table of the end system.
     EndSystem,
-    /// the table of a link
+    /// The table of a link.
     Link(usize),
-    /// the table of a port
+    /// The table of a port.
     Port(usize),
 }
 
-/// A fault, and where it stands.
+/// A fault and its place.
 #[derive(Debug, Drop)]
 pub struct Finding {
     pub fault: ConfigFault,
     pub place: Place,
-    /// The key that is missing, unknown, or whose value has the fault. Of `Toml` what its reader
-    /// says.
+    /// The key that is missing or unknown, or whose value has the fault. For `Toml`, the message of the
+    /// TOML parser.
     pub key: String,
-    /// Of two tables that agree, the number of the second one. Of a port that doesn't fit to its
-    /// link, the number of the link.
+    /// For a fault of two tables, the number of the second one. For a port that does not fit its link,
+    /// the number of the link.
     pub other: Option<usize>,
 }
 

@@ -1,7 +1,7 @@
-//! The format of a configuration: the keys of its tables, and what stands under them.
+//! The format of a configuration: the keys of its tables and their values.
 use afdx_plan::{CAPACITY_LIMIT, MESSAGE_LIMIT};
 
-/// The least and the greatest of a range of numbers.
+/// The least and the greatest number of a range.
 pub(crate) type Range = (u16, u16);
 
 pub(crate) const IDENTIFIER: Range = (0, 65535);
@@ -20,9 +20,8 @@ pub(crate) const UDP_PORT: Range = (1, 65535);
 
 pub(crate) const MESSAGE: Range = (1, MESSAGE_LIMIT as u16);
 
-/// What may stand under a key: a whole number from a least to a greatest one, the milliseconds of
-/// a gap, the name of a link's networks or of a kind of port, a unicast address, the name of a UDP
-/// checksum, a table, or an array of tables.
+/// The value of a key: an integer in a range, a BAG in milliseconds, the name of a link's networks, of a
+/// kind of port or of a UDP checksum, a unicast address, a table, or an array of tables.
 #[derive(Clone, Copy)]
 pub(crate) enum Content {
     Whole(Range),
@@ -35,7 +34,7 @@ pub(crate) enum Content {
     Rows,
 }
 
-/// A key of a table, whether it must stand there, and what may stand under it.
+/// A key of a table, whether it is required, and its value.
 #[derive(Clone, Copy)]
 pub(crate) struct Field(pub &'static str, pub bool, pub Content);
 
@@ -43,7 +42,7 @@ const NEEDED: bool = true;
 
 const OPTIONAL: bool = false;
 
-/// The top of the text.
+/// The top level of the text.
 pub(crate) const DOCUMENT: [Field; 4] = [
     Field("version", OPTIONAL, Content::Whole((1, 2))),
     Field("end_system", NEEDED, Content::Section),
@@ -54,7 +53,7 @@ pub(crate) const DOCUMENT: [Field; 4] = [
 /// The table of the end system.
 pub(crate) const END: [Field; 1] = [Field("id", NEEDED, Content::Whole(IDENTIFIER))];
 
-/// The table of a link in version 2. In version 1 it has no networks, which is the last of them.
+/// The table of a link in version 2. Version 1 lacks the last key.
 pub(crate) const LINK: [Field; 6] = [
     Field("id", NEEDED, Content::Whole(IDENTIFIER)),
     Field("bag_ms", NEEDED, Content::Gap),
@@ -64,7 +63,7 @@ pub(crate) const LINK: [Field; 6] = [
     Field("networks", OPTIONAL, Content::Networks),
 ];
 
-/// The table of a port in version 2. In version 1 it has no checksum, which is the last of them.
+/// The table of a port in version 2. Version 1 lacks the last key.
 pub(crate) const PORT: [Field; 10] = [
     Field("id", NEEDED, Content::Whole(IDENTIFIER)),
     Field("vl", NEEDED, Content::Whole(IDENTIFIER)),

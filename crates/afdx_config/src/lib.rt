@@ -1,4 +1,4 @@
-//! The text of a plan: a configuration.
+//! Configurations: plans of end systems as TOML texts.
 #![tactic(auto)]
 
 mod document;
@@ -12,7 +12,6 @@ mod parts;
 mod plan_findings;
 mod read;
 mod rows;
-mod sites;
 mod told;
 mod value_findings;
 mod values;

@@ -1,4 +1,4 @@
-//! A plan that wasn't judged as a whole.
+//! Parts of plans from tables without faults.
 ghost use Rattle.std.specs.Prelude.{◌≡◌, codes, false, map, IfOk, All};
 ghost use Rattle.std.specs.Option.{option_map_or, ForSome};
 ghost use Rattle.toml.specs.View.{table_view};
@@ -16,7 +16,7 @@ use afdx_plan::{Bag, Kind, LinkPlan, Lmax, Networks, PortId, PortPlan, UdpSum, V
 use std::alloc::{AllocError, Global};
 use toml::Table;
 
-/// The parts of a plan that wasn't judged as a whole.
+/// The parts of a plan, not yet checked against each other.
 #[derive(Drop)]
 pub(crate) struct Parts {
     pub end_system: u16,
@@ -24,7 +24,7 @@ pub(crate) struct Parts {
     pub ports: Vec<PortPlan>,
 }
 
-/// The end system's identifier, or 0 where there is no table.
+/// The identifier of the end system, or 0 if it has no table.
 fn end_system(end: Option<&Table>) -> u16
     requires { ForSome end (λ t. IsSoundTable end_fields (table_view t.now)) }
     ensures { result
@@ -36,7 +36,7 @@ fn end_system(end: Option<&Table>) -> u16
     }
 }
 
-/// The link of a table without fault.
+/// Converts a table without faults to a link.
 #[tactic(auto, unfolding(crate::specs::PlanOf::link_of))]
 fn link_plan(table: &Table) -> LinkPlan
     requires { IsSoundTable (fields_in false link_fields) (table_view table.now) }
@@ -55,7 +55,7 @@ fn link_plan(table: &Table) -> LinkPlan
     }
 }
 
-/// The port of a table without fault.
+/// Converts a table without faults to a port.
 #[tactic(auto, unfolding(crate::specs::PlanOf::port_of))]
 fn port_plan(table: &Table) -> PortPlan
     requires { IsSoundTable (fields_in false port_fields) (table_view table.now) }
@@ -79,35 +79,27 @@ fn port_plan(table: &Table) -> PortPlan
     }
 }
 
-/// The links of tables without fault, in their order.
+/// Converts tables without faults to links.
 fn link_plans(alloc: Global, tables: &[&Table]) -> Result<Vec<LinkPlan>, AllocError>
     requires { All (λ t. IsSoundTable (fields_in false link_fields) (table_view t.now)) tables.now }
     ensures value { IfOk result (λ links.
         links.items ≡ map (λ t. link_of (table_view t.now)) tables.now) }
     ensures ranges { IfOk result (λ links. All IsLink links.items) }
 {
-    let mut links = Vec::new(alloc);
-    for table in tables {
-        links.push(link_plan(table))?;
-    }
-    Ok(links)
+    tables.iter().map(|table| link_plan(table)).collect(alloc)
 }
 
-/// The ports of tables without fault, in their order.
+/// Converts tables without faults to ports.
 fn port_plans(alloc: Global, tables: &[&Table]) -> Result<Vec<PortPlan>, AllocError>
     requires { All (λ t. IsSoundTable (fields_in false port_fields) (table_view t.now)) tables.now }
     ensures value { IfOk result (λ ports.
         ports.items ≡ map (λ t. port_of (table_view t.now)) tables.now) }
     ensures ranges { IfOk result (λ ports. All IsPort ports.items) }
 {
-    let mut ports = Vec::new(alloc);
-    for table in tables {
-        ports.push(port_plan(table))?;
-    }
-    Ok(ports)
+    tables.iter().map(|table| port_plan(table)).collect(alloc)
 }
 
-/// The plan of a document whose values show no fault.
+/// Converts a document whose values have no fault.
 pub(crate) fn parts_of(alloc: Global, document: &Document<'_>) -> Result<Parts, AllocError>
     requires found { IsDocument document.now }
     requires sound { AreSound document.now }

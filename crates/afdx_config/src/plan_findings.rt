@@ -1,5 +1,4 @@
-//! The faults that a plan shows, with their places. Values that have a fault of their own are in it
-//! as 0 or as the first variant.
+//! The faults of plans with their places. In these plans a faulty value is 0 or the first variant.
 ghost use Rattle.std.specs.Prelude.{◌≡◌, ◌==◌, ◌&&◌, ◌+◌, ◌<◌, ◌≤◌, ◌^◌, not, map, find, option_copied, option_map, length, IfSome, OnOk};
 ghost use Rattle.std.specs.List.{list_any, position};
 ghost use Rattle.afdx_plan.specs.Config.{ports_on};
@@ -13,7 +12,7 @@ use crate::rows::{LinkRow, PortRow};
 use afdx_plan::{ConfigFault, Kind, LINKS_LIMIT, PORTS_LIMIT, SUB_PORTS_LIMIT};
 use std::alloc::{AllocError, Global};
 
-/// The key that a plan's fault is told of.
+/// The key that a finding of a plan's fault names.
 fn plan_key(fault: ConfigFault) -> &'static str
     ensures { result.now ≡ plan_key fault }
 {
@@ -28,7 +27,7 @@ fn plan_key(fault: ConfigFault) -> &'static str
     }
 }
 
-/// Two links agree in what no two links may.
+/// Two links have this fault together.
 fn links_clash(fault: ConfigFault, a: &LinkRow, b: &LinkRow) -> bool
     ensures { result ≡ links_clash fault a.now b.now }
 {
@@ -38,7 +37,7 @@ fn links_clash(fault: ConfigFault, a: &LinkRow, b: &LinkRow) -> bool
     }
 }
 
-/// How many links further on is one that the link agrees with.
+/// The index in `rest` of the first link that clashes with `link`.
 fn next_link(fault: ConfigFault, link: &LinkRow, rest: &[LinkRow]) -> Option<usize>
     ensures { result ≡ position (links_clash fault link.now) rest.now }
 {
@@ -46,7 +45,7 @@ fn next_link(fault: ConfigFault, link: &LinkRow, rest: &[LinkRow]) -> Option<usi
         .position(|other| links_clash(fault, link, other))
 }
 
-/// Adds the link, where it agrees with a later one.
+/// Adds the link if it clashes with a later one.
 fn add_link(
     alloc: Global,
     found: &mut Vec<Finding>,
@@ -62,19 +61,13 @@ fn add_link(
 {
     if let Some(behind) = next_link(fault, link, rest) {
         let other = Some(i + 2 + behind);
-        add(
-            alloc,
-            found,
-            fault,
-            Place::Link(i + 1),
-            plan_key(fault),
-            other,
-        )?;
+        let key = plan_key(fault);
+        add(alloc, found, fault, Place::Link(i + 1), key, other)?;
     }
     Ok(())
 }
 
-/// Adds the links that agree with a later one.
+/// Adds the links that clash with a later one.
 fn add_links(
     alloc: Global,
     found: &mut Vec<Finding>,
@@ -90,7 +83,7 @@ fn add_links(
     Ok(())
 }
 
-/// Two ports agree in what no two ports may.
+/// Two ports have this fault together.
 fn ports_clash(fault: ConfigFault, a: &PortRow, b: &PortRow) -> bool
     ensures { result ≡ ports_clash fault a.now b.now }
 {
@@ -137,7 +130,7 @@ fn is_one_address(a: Option<[u8; 4]>, b: Option<[u8; 4]>) -> bool
     }
 }
 
-/// How many ports further on is one that the port agrees with.
+/// The index in `rest` of the first port that clashes with `port`.
 fn next_port(fault: ConfigFault, port: &PortRow, rest: &[PortRow]) -> Option<usize>
     ensures { result ≡ position (ports_clash fault port.now) rest.now }
 {
@@ -145,7 +138,7 @@ fn next_port(fault: ConfigFault, port: &PortRow, rest: &[PortRow]) -> Option<usi
         .position(|other| ports_clash(fault, port, other))
 }
 
-/// Where the row of a port's link stands.
+/// The index of a port's link.
 fn link_place(links: &[LinkRow], port: &PortRow) -> Option<usize>
     ensures place { result ≡ position (is_link_of port.now) links.now }
     ensures within { IfSome result (λ i. i < length links.now) }
@@ -167,7 +160,7 @@ fn has_link(links: &[LinkRow], port: &PortRow) -> bool
     links.iter().any(|link| link.id == port.vl)
 }
 
-/// A port doesn't fit to its link, or has none.
+/// A port does not fit its link, or has no link.
 fn is_misfit(fault: ConfigFault, links: &[LinkRow], port: &PortRow) -> bool
     ensures { result ≡ is_misfit fault links.now port.now }
 {
@@ -200,7 +193,7 @@ fn is_too_long(links: &[LinkRow], port: &PortRow) -> bool
     }
 }
 
-/// The number of a port's link.
+/// The number of a port's link, counted from 1.
 fn link_number(links: &[LinkRow], port: &PortRow) -> Option<usize>
     ensures { result ≡ link_number links.now port.now }
 {
@@ -210,7 +203,7 @@ fn link_number(links: &[LinkRow], port: &PortRow) -> Option<usize>
     }
 }
 
-/// The ports of a sub-VL.
+/// The number of ports on a port's sub-VL.
 fn count_on(ports: &[PortRow], port: &PortRow) -> usize
     ensures { result ≡ ports_on ports.now port.now.vl.0 port.now.sub }
 {
@@ -226,7 +219,7 @@ fn is_crowded(ports: &[PortRow], port: &PortRow) -> bool
     SUB_PORTS_LIMIT < count_on(ports, port)
 }
 
-/// A port of the same sub-VL follows.
+/// A later port is on the same sub-VL.
 fn is_followed(port: &PortRow, rest: &[PortRow]) -> bool
     ensures { result ≡ list_any (has_same_sub port.now) rest.now }
 {
@@ -234,7 +227,7 @@ fn is_followed(port: &PortRow, rest: &[PortRow]) -> bool
         .any(|other| other.vl == port.vl && other.sub == port.sub)
 }
 
-/// The port is the last one of a sub-VL that has too many.
+/// The port is the last one on a sub-VL with too many ports.
 fn is_last_crowded(fault: ConfigFault, ports: &[PortRow], port: &PortRow, rest: &[PortRow]) -> bool
     ensures { result
         ≡ is_last_crowded fault ports.now port.now rest.now }
@@ -245,7 +238,7 @@ fn is_last_crowded(fault: ConfigFault, ports: &[PortRow], port: &PortRow, rest: 
     }
 }
 
-/// Adds the port that agrees with a later one.
+/// Adds the port if it clashes with a later one.
 fn add_clash(
     alloc: Global,
     found: &mut Vec<Finding>,
@@ -261,19 +254,13 @@ fn add_clash(
 {
     if let Some(behind) = next_port(fault, port, rest) {
         let other = Some(i + 2 + behind);
-        add(
-            alloc,
-            found,
-            fault,
-            Place::Port(i + 1),
-            plan_key(fault),
-            other,
-        )?;
+        let key = plan_key(fault);
+        add(alloc, found, fault, Place::Port(i + 1), key, other)?;
     }
     Ok(())
 }
 
-/// Adds the port that doesn't fit to its link.
+/// Adds the port if it does not fit its link.
 fn add_misfit(
     alloc: Global,
     found: &mut Vec<Finding>,
@@ -290,19 +277,13 @@ fn add_misfit(
 {
     if is_misfit(fault, links, port) {
         let link = link_number(links, port);
-        add(
-            alloc,
-            found,
-            fault,
-            Place::Port(i + 1),
-            plan_key(fault),
-            link,
-        )?;
+        let key = plan_key(fault);
+        add(alloc, found, fault, Place::Port(i + 1), key, link)?;
     }
     Ok(())
 }
 
-/// Adds the port, where it is the last one of a sub-VL that has too many.
+/// Adds the port if it is the last one on a sub-VL with too many ports.
 fn add_crowded(
     alloc: Global,
     found: &mut Vec<Finding>,
@@ -318,19 +299,13 @@ fn add_crowded(
         (finding_at fault (Port (i + 1)) (plan_key fault) None))) }
 {
     if is_last_crowded(fault, ports, port, rest) {
-        add(
-            alloc,
-            found,
-            fault,
-            Place::Port(i + 1),
-            plan_key(fault),
-            None,
-        )?;
+        let key = plan_key(fault);
+        add(alloc, found, fault, Place::Port(i + 1), key, None)?;
     }
     Ok(())
 }
 
-/// Adds what ports show.
+/// Adds the findings of ports.
 fn add_ports(
     alloc: Global,
     found: &mut Vec<Finding>,
@@ -359,7 +334,7 @@ fn count_is_wrong(fault: ConfigFault, most: usize, count: usize) -> bool
     }
 }
 
-/// Adds that there are no or too many links or ports.
+/// Adds a finding for no or too many links, and one for ports.
 fn add_counts(
     alloc: Global,
     found: &mut Vec<Finding>,
@@ -379,7 +354,7 @@ fn add_counts(
     Ok(())
 }
 
-/// Adds what links and ports show of a fault.
+/// Adds the findings of a fault in links and ports.
 pub(crate) fn add_plan(
     alloc: Global,
     found: &mut Vec<Finding>,

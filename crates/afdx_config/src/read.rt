@@ -12,7 +12,7 @@ use crate::parts::parts_of;
 use afdx_plan::{Config, ConfigFault};
 use std::alloc::Global;
 
-/// The configuration that a document writes.
+/// Converts a document.
 fn read_document(alloc: Global, document: &Document<'_>) -> Result<Config, ConfigFault>
     requires { IsDocument document.now }
     ensures fine { IfOk result (λ _. (fault : ConfigFault) →
@@ -29,8 +29,8 @@ fn read_document(alloc: Global, document: &Document<'_>) -> Result<Config, Confi
     Config::new(parts.end_system, parts.links, parts.ports)
 }
 
-/// Reads a configuration from a TOML text: the plan of a text without fault, else the fault of the
-/// least number that the text has. Want of memory may stand in place of any answer.
+/// Reads a configuration from a TOML text. Returns its plan, or the fault of the least number that the
+/// text has. May return `Memory` instead of any result.
 pub fn read_config(alloc: Global, text: &[u8]) -> Result<Config, ConfigFault>
     ensures plan { IfOk result (IsPlanOf text.now) }
     ensures fault { IfErr result (λ least.

@@ -1,4 +1,4 @@
-//! Links and ports as their tables write them, without a fault or with one.
+//! Links and ports from tables that may have faults.
 ghost use Rattle.std.specs.Prelude.{◌≡◌, codes, map, IfOk};
 ghost use Rattle.toml.specs.View.{table_view};
 ghost use Rattle.afdx_config.specs.Entries.{natural, number_at};
@@ -11,8 +11,7 @@ use std::alloc::{AllocError, Global};
 use std::marker::Model;
 use toml::Table;
 
-/// A link as its table writes it: where a value is missing or of another kind, 0 or the first
-/// variant stands in its place.
+/// A link from its table. A value that is missing or of the wrong kind is 0 or the first variant.
 #[derive(Drop)]
 pub(crate) struct LinkRow {
     pub id: u64,
@@ -38,7 +37,7 @@ impl Model for LinkRow {
     } };
 }
 
-/// A port as its table writes it, in the same way.
+/// A port from its table. A value that is missing or of the wrong kind is 0 or the first variant.
 #[derive(Drop)]
 pub(crate) struct PortRow {
     pub id: u64,
@@ -82,7 +81,7 @@ fn number_or_0(table: &Table, key: &str) -> u64
     }
 }
 
-/// A number that isn't below 0.
+/// A number, or 0 if it is negative.
 fn natural(number: i64) -> u64
     ensures { result ≡ natural number }
 {
@@ -126,26 +125,18 @@ fn port_row(table: &Table) -> PortRow
     }
 }
 
-/// The links of tables, in their order.
+/// Converts tables to links.
 pub(crate) fn link_rows(alloc: Global, tables: &[&Table]) -> Result<Vec<LinkRow>, AllocError>
     ensures { IfOk result (λ rows.
         rows.items ≡ map (λ t. link_of (table_view t.now)) tables.now) }
 {
-    let mut rows = Vec::new(alloc);
-    for table in tables {
-        rows.push(link_row(table))?;
-    }
-    Ok(rows)
+    tables.iter().map(|table| link_row(table)).collect(alloc)
 }
 
-/// The ports of tables, in their order.
+/// Converts tables to ports.
 pub(crate) fn port_rows(alloc: Global, tables: &[&Table]) -> Result<Vec<PortRow>, AllocError>
     ensures { IfOk result (λ rows.
         rows.items ≡ map (λ t. port_of (table_view t.now)) tables.now) }
 {
-    let mut rows = Vec::new(alloc);
-    for table in tables {
-        rows.push(port_row(table))?;
-    }
-    Ok(rows)
+    tables.iter().map(|table| port_row(table)).collect(alloc)
 }

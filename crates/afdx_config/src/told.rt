@@ -16,7 +16,7 @@ use afdx_plan::ConfigFault;
 use std::io::{self, Write};
 use toml::{Table, Value};
 
-/// The most bytes of a text that are told.
+/// The most bytes of a string that a finding prints.
 const TOLD_LIMIT: usize = 40;
 
 /// The name of a fault.
@@ -42,7 +42,7 @@ fn fault_name(fault: ConfigFault) -> &'static str
     }
 }
 
-/// A byte prints, and is neither a quote nor a backslash.
+/// A byte is printable ASCII, but neither a quote nor a backslash.
 fn is_plain(byte: u8) -> bool
     ensures { result ≡ is_plain byte }
 {
@@ -77,7 +77,7 @@ fn write_bytes<W: Write>(writer: &mut W, bytes: &[u8]) -> io::Result<()>
     Ok(())
 }
 
-/// The first bytes of a text.
+/// Writes a string, cut after `TOLD_LIMIT` bytes.
 #[tactic(auto, unfolding(crate::specs::Told::cut_text))]
 fn write_cut<W: Write>(writer: &mut W, text: &[u8]) -> io::Result<()>
     ensures { OnOk result (Appends (W.contents writer.old) (W.contents writer.new)
@@ -129,7 +129,7 @@ fn write_value<W: Write>(writer: &mut W, value: Option<&Value>) -> io::Result<()
     }
 }
 
-/// The row of this number.
+/// Table `k` of an array, counted from 1.
 fn row_at<'a>(rows: &[&'a Table], k: usize) -> Option<&'a Table>
     ensures { option_map (λ t. table_view t.now) result
         ≡ slice_get (map (λ t. table_view t.now) rows.now) (k - 1) }
@@ -194,7 +194,7 @@ fn write_place<W: Write>(writer: &mut W, document: &Document<'_>, place: Place) 
     }
 }
 
-/// What stands between a place and a key of it.
+/// The separator between a place and a key.
 fn joint(place: Place) -> &'static str
     ensures { result.now ≡ joint place }
 {
@@ -207,7 +207,7 @@ fn joint(place: Place) -> &'static str
     }
 }
 
-/// What stands under a key of a place.
+/// The value under a key of the table at a place.
 fn value_under<'a>(document: &Document<'a>, place: Place, key: &str) -> Option<&'a Value>
     requires { IsDocument document.now }
     ensures { option_map (λ v. view v.now) result
@@ -237,7 +237,7 @@ fn write_subject<W: Write>(
     write_value(writer, value_under(document, place, key))
 }
 
-/// The keys that the table at a place may have.
+/// The keys of the format of the table at a place.
 fn fields_at(document: &Document<'_>, place: Place) -> &'static [Field]
     ensures { map field_of result.now ≡ fields_at (data_of document.now) place }
 {
@@ -290,7 +290,7 @@ fn kind_text(content: Content) -> &'static str
     }
 }
 
-/// What may stand under the key of a finding.
+/// The format of a finding's key.
 fn field_at(document: &Document<'_>, finding: &Finding) -> Option<Field>
     ensures { option_map field_of result
         ≡ field_at (data_of document.now) finding.now.place (finding_of finding.now).key }
@@ -326,7 +326,7 @@ fn write_kind_at<W: Write>(
     }
 }
 
-/// The keys of a table.
+/// Writes the keys of a format.
 fn write_names<W: Write>(writer: &mut W, fields: &[Field]) -> io::Result<()>
     ensures { OnOk result (Appends (W.contents writer.old) (W.contents writer.new)
         (key_names (map field_of fields.now))) }
@@ -344,7 +344,7 @@ fn write_name<W: Write>(writer: &mut W, field: &Field) -> io::Result<()>
     write!(writer, " {}", field.0)
 }
 
-/// How many tables or ports there may be.
+/// The allowed number of tables or ports.
 fn limit_text(place: Place, key: &str) -> &'static str
     ensures { result.now ≡ limit_text place key.now }
 {
@@ -360,7 +360,7 @@ fn limit_text(place: Place, key: &str) -> &'static str
     }
 }
 
-/// A port's link.
+/// Writes the value of a port's link that sets a bound.
 #[tactic(auto, unfolding(crate::specs::Told::link_text))]
 fn write_link<W: Write>(
     writer: &mut W,
@@ -403,7 +403,7 @@ fn write_wanted<W: Write>(
     writer.write_all(b" is wanted")
 }
 
-/// A bound that a port's link sets.
+/// Writes a bound that a port's link sets.
 #[tactic(auto, unfolding(crate::specs::Told::bound_text))]
 fn write_bound<W: Write>(
     writer: &mut W,
@@ -420,7 +420,7 @@ fn write_bound<W: Write>(
     write_link(writer, document, other, key)
 }
 
-/// What is allowed where a fault is found.
+/// Writes the values that are allowed at a finding.
 #[tactic(auto, unfolding(crate::specs::Told::allowed_text))]
 fn write_allowed<W: Write>(
     writer: &mut W,
@@ -460,7 +460,7 @@ fn row_like(place: Place, other: usize) -> Place
     }
 }
 
-/// Two tables.
+/// Writes the places of two tables.
 #[tactic(auto, unfolding(crate::specs::Told::pair_text))]
 fn write_pair<W: Write>(
     writer: &mut W,
@@ -482,7 +482,7 @@ fn write_pair<W: Write>(
     }
 }
 
-/// What two tables agree in.
+/// The values that the two tables of a fault share.
 fn same_text(fault: ConfigFault) -> &'static str
     ensures { result.now ≡ same_text fault }
 {
@@ -493,7 +493,7 @@ fn same_text(fault: ConfigFault) -> &'static str
     }
 }
 
-/// It is a fault of two tables.
+/// A fault is one of two tables.
 fn is_of_pair(fault: ConfigFault) -> bool
     ensures { result ≡ is_of_pair fault }
 {
@@ -536,7 +536,7 @@ fn write_key_line<W: Write>(
     write_allowed(writer, document, finding.fault, finding)
 }
 
-/// A finding behind its number and name.
+/// Writes a finding without its number and name.
 fn write_told<W: Write>(
     writer: &mut W,
     document: &Document<'_>,
@@ -570,7 +570,7 @@ fn write_finding<W: Write>(
     writer.write_all(b"\n")
 }
 
-/// How many findings there are.
+/// Writes the number of findings.
 #[tactic(auto, unfolding(crate::specs::Told::count_line))]
 fn write_count<W: Write>(writer: &mut W, count: usize) -> io::Result<()>
     ensures { OnOk result (Appends (W.contents writer.old) (W.contents writer.new)
@@ -600,7 +600,7 @@ fn write_findings<W: Write>(
     Ok(())
 }
 
-/// Writes how many findings there are, and a line for each.
+/// Writes the number of findings, and a line for each.
 #[tactic(auto, unfolding(crate::specs::Told::explanation))]
 pub(crate) fn write_explanation<W: Write>(
     writer: &mut W,
@@ -640,7 +640,7 @@ fn write_toml_line<W: Write>(
     writer.write_all(b"\n")
 }
 
-/// Writes that a text isn't TOML from this place on, and what its reader says.
+/// Writes the place at which a text stops being TOML, and the message of the TOML parser.
 pub(crate) fn write_toml<W: Write>(
     writer: &mut W,
     line: usize,

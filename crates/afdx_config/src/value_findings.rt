@@ -1,21 +1,47 @@
-//! The faults that the values of tables show, with their places.
-ghost use Rattle.std.specs.Prelude.{◌≡◌, ◌&&◌, not, map, Some, OnOk, string_bytes};
+//! The faults of values of tables with their places.
+ghost use Rattle.std.specs.Prelude.{◌≡◌, ◌&&◌, not, map, Some, OnOk, option_map, string_bytes};
 ghost use Rattle.std.specs.List.{flat_map};
 ghost use Rattle.std.specs.BTreeMap.{keys};
 ghost use Rattle.toml.specs.View.{table_view};
-ghost use Rattle.afdx_config.specs.Findings.{field_findings, key_findings, site_findings};
-ghost use Rattle.afdx_config.specs.Seen.{Adds, site_of};
+ghost use Rattle.afdx_config.specs.Findings.{end_sites, field_findings, key_findings, row_sites, site_findings, sites};
+ghost use Rattle.afdx_config.specs.Seen.{Adds, row_place, site_of};
 ghost use Rattle.afdx_config.specs.Tables.{is_fault};
-ghost use Rattle.afdx_config.specs.Views.{field_of};
+ghost use Rattle.afdx_config.specs.Views.{IsDocument, data_of, field_of};
 
+use crate::document::{Document, fields_in};
 use crate::fields::{field_fault, is_key_of};
-use crate::findings::{Finding, add};
-use crate::format::Field;
-use crate::sites::Site;
+use crate::findings::{Finding, Place, add};
+use crate::format::{DOCUMENT, END, Field, LINK, PORT};
 use afdx_plan::ConfigFault;
 use std::alloc::{AllocError, Global};
+use toml::Table;
 
-/// It is this fault.
+/// A table of a document, its place and the keys of its format.
+#[derive(Clone, Copy)]
+pub(crate) struct Site<'a> {
+    pub place: Place,
+    pub fields: &'a [Field],
+    pub table: &'a Table,
+}
+
+/// An array of tables.
+#[derive(Clone, Copy)]
+pub(crate) enum Rows {
+    Links,
+    Ports,
+}
+
+/// The place of table `k` of an array.
+fn row_place(rows: Rows, k: usize) -> Place
+    ensures { result ≡ row_place rows k }
+{
+    match rows {
+        Rows::Links => Place::Link(k),
+        Rows::Ports => Place::Port(k),
+    }
+}
+
+/// A fault is shown and is this one.
 fn is_fault(fault: ConfigFault, shown: Option<ConfigFault>) -> bool
     ensures { result ≡ is_fault fault shown }
 {
@@ -25,7 +51,7 @@ fn is_fault(fault: ConfigFault, shown: Option<ConfigFault>) -> bool
     }
 }
 
-/// Adds a key of the table's format, where it shows the fault.
+/// Adds a key of the table's format if it has the fault.
 fn add_field(
     alloc: Global,
     found: &mut Vec<Finding>,
@@ -42,7 +68,7 @@ fn add_field(
     Ok(())
 }
 
-/// Adds a key of the table, where it is none of its format.
+/// Adds a key of the table if its format lacks it.
 fn add_key(
     alloc: Global,
     found: &mut Vec<Finding>,
@@ -59,7 +85,7 @@ fn add_key(
     Ok(())
 }
 
-/// Adds the keys of a table's format that show the fault.
+/// Adds the keys of a table's format that have the fault.
 fn add_fields(
     alloc: Global,
     found: &mut Vec<Finding>,
@@ -77,7 +103,7 @@ fn add_fields(
     Ok(())
 }
 
-/// Adds the keys of a table that are none of its format.
+/// Adds the keys of a table that its format lacks.
 fn add_keys(
     alloc: Global,
     found: &mut Vec<Finding>,
@@ -95,7 +121,7 @@ fn add_keys(
     Ok(())
 }
 
-/// Adds what a table shows of a fault.
+/// Adds the findings of a fault in a table.
 fn add_site(
     alloc: Global,
     found: &mut Vec<Finding>,
@@ -109,18 +135,73 @@ fn add_site(
     add_keys(alloc, found, fault, site)
 }
 
-/// Adds what tables show of a fault, in their order.
+/// Adds the findings of a fault in the tables of an array.
+fn add_rows(
+    alloc: Global,
+    found: &mut Vec<Finding>,
+    fault: ConfigFault,
+    rows: Rows,
+    fields: &[Field],
+    tables: &[&Table],
+) -> Result<(), AllocError>
+    ensures { OnOk result (Adds found.old.items found.new.items
+        (flat_map (site_findings fault) (row_sites (row_place rows) (map field_of fields.now) 1
+        (map (λ t. table_view t.now) tables.now)))) }
+{
+    for (i, table) in tables.iter().enumerate() {
+        let site = Site {
+            place: row_place(rows, i + 1),
+            fields,
+            table,
+        };
+        add_site(alloc, found, fault, &site)?;
+    }
+    Ok(())
+}
+
+/// Adds the findings of a fault in the table of the end system.
+fn add_end(
+    alloc: Global,
+    found: &mut Vec<Finding>,
+    fault: ConfigFault,
+    end: Option<&Table>,
+) -> Result<(), AllocError>
+    ensures { OnOk result (Adds found.old.items found.new.items
+        (flat_map (site_findings fault) (end_sites (option_map (λ t. table_view t.now) end.entry)))) }
+{
+    if let Some(table) = end {
+        let site = Site {
+            place: Place::EndSystem,
+            fields: &END,
+            table,
+        };
+        add_site(alloc, found, fault, &site)?;
+    }
+    Ok(())
+}
+
+/// Adds the findings of a fault in the tables of a document.
 pub(crate) fn add_sites(
     alloc: Global,
     found: &mut Vec<Finding>,
     fault: ConfigFault,
-    sites: &[Site<'_>],
+    document: &Document<'_>,
 ) -> Result<(), AllocError>
+    requires { IsDocument document.now }
     ensures { OnOk result (Adds found.old.items found.new.items
-        (flat_map (λ s. site_findings fault (site_of s)) sites.now)) }
+        (flat_map (site_findings fault) (sites (data_of document.now)))) }
 {
-    for site in sites {
-        add_site(alloc, found, fault, site)?;
-    }
-    Ok(())
+    let top = Site {
+        place: Place::Top,
+        fields: &DOCUMENT,
+        table: document.top,
+    };
+    add_site(alloc, found, fault, &top)?;
+    add_end(alloc, found, fault, document.end)?;
+    let fields = fields_in(document, &LINK);
+    let links = document.links.as_slice();
+    add_rows(alloc, found, fault, Rows::Links, fields, links)?;
+    let fields = fields_in(document, &PORT);
+    let ports = document.ports.as_slice();
+    add_rows(alloc, found, fault, Rows::Ports, fields, ports)
 }

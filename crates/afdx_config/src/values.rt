@@ -1,4 +1,4 @@
-//! Values of a plan, as a text writes them.
+//! Values of a plan in texts.
 ghost use Rattle.std.specs.Prelude.{◌≡◌, ◌==◌, if◌then◌else◌, slice_index, Some, None, IfSome};
 ghost use Rattle.afdx_plan.specs.Plan.{IsUnicast};
 ghost use Rattle.afdx_config.specs.Values.{bag_of, networks_of, kind_of, checksum_of, address_of};
@@ -6,7 +6,7 @@ ghost use Rattle.afdx_config.specs.Values.{bag_of, networks_of, kind_of, checksu
 use afdx_plan::{Bag, Kind, Networks, UdpSum};
 use std::net::Ipv4Addr;
 
-/// The gap of a number of milliseconds, where it is one.
+/// The BAG of a number of milliseconds.
 #[tactic(auto, unfolding(crate::specs::Values::bag_of))]
 pub(crate) fn bag_of_ms(number: i64) -> Option<Bag>
     ensures { result ≡ bag_of number }
@@ -68,7 +68,7 @@ pub(crate) fn checksum_named(text: &str) -> Option<UdpSum>
     }
 }
 
-/// The address in 10.0.0.0/8 that a text writes as four decimal numbers joined by dots.
+/// Parses a dotted address in 10.0.0.0/8.
 pub(crate) fn unicast_address(text: &str) -> Option<[u8; 4]>
     ensures value { result ≡ address_of text.now }
     ensures unicast { IfSome result IsUnicast }
@@ -79,7 +79,7 @@ pub(crate) fn unicast_address(text: &str) -> Option<[u8; 4]>
     }
 }
 
-/// The address, where its first byte is 10.
+/// The address, if its first byte is 10.
 fn in_network_10(octets: [u8; 4]) -> Option<[u8; 4]>
     ensures value { result ≡ (if slice_index octets 0 == 10 then Some octets else None) }
     ensures unicast { IfSome result IsUnicast }

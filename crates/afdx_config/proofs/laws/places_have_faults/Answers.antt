@@ -1,5 +1,0 @@
-use Rattle.afdx_config.proofs.PlaceLemmas.{places_have_faults as of_each}
-use Rattle.afdx_config.proofs.laws.places_have_faults.Goals as goal
-
-pub returns : goal.returns
-returns c = of_each
