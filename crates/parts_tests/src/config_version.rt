@@ -6,107 +6,74 @@ use afdx_config::{Networks, UdpSum};
 #[test]
 fn a_text_of_either_version_is_the_plan_of_the_demonstration(rt: HostRuntime) {
     for version in ["version = 1\n", "version = 2\n"] {
-        let text = joined(rt.alloc(), &[version, TEXT]).expect(&rt, "memory");
-        assert_demo(&rt, rt.alloc(), &text);
+        assert_demo(&rt, rt.alloc(), &joined(&rt, rt.alloc(), &[version, TEXT]));
     }
 }
 
-// What stands before the demonstration's text, what stands at the end of its port, and the number of
-// the fault then, or 0.
-const VERSIONS: [(&str, &str, u8); 20] = [
-    ("version = 2\n", "checksum = 'none'\n", 0),
-    ("version = 2\n", "checksum = 'udp'\n", 0),
-    ("version = 3\n", "", 5),
-    ("version = 0\n", "", 5),
-    ("version = -2\n", "", 5),
-    ("version = 9223372036854775807\n", "", 5),
-    ("version = '2'\n", "", 4),
-    ("version = 2.0\n", "", 4),
-    ("version = [2]\n", "", 4),
-    ("", "checksum = 'udp'\n", 3),
-    ("", "checksum = 'none'\n", 3),
-    ("version = 1\n", "checksum = 'udp'\n", 3),
-    ("version = 3\n", "checksum = 'udp'\n", 3),
-    ("version = '2'\n", "checksum = 'udp'\n", 3),
-    ("version = 2\nchecksum = 'udp'\n", "", 3),
-    ("version = 2\n", "version = 2\n", 3),
-    ("version = 2\n", "checksum = 'crc'\n", 5),
-    ("version = 2\n", "checksum = 'UDP'\n", 5),
-    ("version = 2\n", "checksum = 1\n", 4),
-    ("version = 2\n", "checksum = true\n", 4),
+// The first lines of a text, the last line of its link, that of its port, and the number of the fault,
+// or 0.
+const VERSIONS: [(&str, &str, &str, u8); 35] = [
+    ("version = 2\n", "", "checksum = 'none'\n", 0),
+    ("version = 2\n", "", "checksum = 'udp'\n", 0),
+    ("version = 3\n", "", "", 5),
+    ("version = 0\n", "", "", 5),
+    ("version = -2\n", "", "", 5),
+    ("version = 9223372036854775807\n", "", "", 5),
+    ("version = '2'\n", "", "", 4),
+    ("version = 2.0\n", "", "", 4),
+    ("version = [2]\n", "", "", 4),
+    ("", "", "checksum = 'udp'\n", 3),
+    ("", "", "checksum = 'none'\n", 3),
+    ("version = 1\n", "", "checksum = 'udp'\n", 3),
+    ("version = 3\n", "", "checksum = 'udp'\n", 3),
+    ("version = '2'\n", "", "checksum = 'udp'\n", 3),
+    ("version = 2\nchecksum = 'udp'\n", "", "", 3),
+    ("version = 2\n", "", "version = 2\n", 3),
+    ("version = 2\n", "", "checksum = 'crc'\n", 5),
+    ("version = 2\n", "", "checksum = 'UDP'\n", 5),
+    ("version = 2\n", "", "checksum = 1\n", 4),
+    ("version = 2\n", "", "checksum = true\n", 4),
+    ("version = 2\n", "networks = 'both'\n", "", 0),
+    ("version = 2\n", "networks = 'a'\n", "", 0),
+    ("version = 2\n", "networks = 'b'\n", "", 0),
+    ("", "networks = 'a'\n", "", 3),
+    ("", "networks = 'both'\n", "", 3),
+    ("version = 1\n", "networks = 'a'\n", "", 3),
+    ("version = 3\n", "networks = 'a'\n", "", 3),
+    ("version = 2\nnetworks = 'a'\n", "", "", 3),
+    ("version = 2\n", "checksum = 'udp'\n", "", 3),
+    ("version = 2\n", "networks = 'c'\n", "", 5),
+    ("version = 2\n", "networks = 'A'\n", "", 5),
+    ("version = 2\n", "networks = 'ab'\n", "", 5),
+    ("version = 2\n", "networks = ''\n", "", 5),
+    ("version = 2\n", "networks = 1\n", "", 4),
+    ("version = 2\n", "networks = ['a', 'b']\n", "", 4),
 ];
 
 #[test]
-fn a_checksum_is_a_key_of_version_2_alone(rt: HostRuntime) {
-    for &(before, behind, number) in &VERSIONS {
-        assert_joined(&rt, rt.alloc(), &[before, TEXT, behind], number);
-    }
-}
-
-/// Asserts the checksum of the port of a text, given by what stands at the port's end.
-fn assert_checksum(rt: &impl Abort, alloc: Global, behind: &str, checksum: UdpSum) {
-    let text = joined(alloc, &["version = 2\n", TEXT, behind]).expect(rt, "memory");
-    let config = read(rt, alloc, &text);
-    assert_same(rt, only(rt, config.ports()).checksum, checksum);
-}
-
-#[test]
-fn a_port_has_the_checksum_that_its_table_names(rt: HostRuntime) {
-    let named = [
-        ("", UdpSum::Omitted),
-        ("checksum = 'none'\n", UdpSum::Omitted),
-        ("checksum = 'udp'\n", UdpSum::Generated),
-    ];
-    for (behind, checksum) in named {
-        assert_checksum(&rt, rt.alloc(), behind, checksum);
-    }
-}
-
-// What stands before the demonstration's text, what stands at the end of its link, and the number of
-// the fault then, or 0.
-const NETWORKS: [(&str, &str, u8); 15] = [
-    ("version = 2\n", "networks = 'both'\n", 0),
-    ("version = 2\n", "networks = 'a'\n", 0),
-    ("version = 2\n", "networks = 'b'\n", 0),
-    ("", "networks = 'a'\n", 3),
-    ("", "networks = 'both'\n", 3),
-    ("version = 1\n", "networks = 'a'\n", 3),
-    ("version = 3\n", "networks = 'a'\n", 3),
-    ("version = 2\nnetworks = 'a'\n", "", 3),
-    ("version = 2\n", "checksum = 'udp'\n", 3),
-    ("version = 2\n", "networks = 'c'\n", 5),
-    ("version = 2\n", "networks = 'A'\n", 5),
-    ("version = 2\n", "networks = 'ab'\n", 5),
-    ("version = 2\n", "networks = ''\n", 5),
-    ("version = 2\n", "networks = 1\n", 4),
-    ("version = 2\n", "networks = ['a', 'b']\n", 4),
-];
-
-#[test]
-fn networks_are_a_key_of_version_2_alone(rt: HostRuntime) {
-    for &(before, behind, number) in &NETWORKS {
-        let parts = [before, HEAD, LINK, behind, PORT];
+fn checksums_and_networks_are_keys_of_version_2_alone(rt: HostRuntime) {
+    for &(first, of_link, of_port, number) in &VERSIONS {
+        let parts = [first, HEAD, LINK, of_link, PORT, of_port];
         assert_joined(&rt, rt.alloc(), &parts, number);
     }
 }
 
-/// Asserts the networks of the link of a text, given by what stands at the link's end.
-fn assert_networks(rt: &impl Abort, alloc: Global, behind: &str, networks: Networks) {
-    let parts = ["version = 2\n", HEAD, LINK, behind, PORT];
-    let text = joined(alloc, &parts).expect(rt, "memory");
-    let config = read(rt, alloc, &text);
-    assert_same(rt, only(rt, config.links()).networks, networks);
-}
+// The last line of a link, that of its port, and their values.
+const NAMED: [(&str, &str, Networks, UdpSum); 6] = [
+    ("", "", Networks::Both, UdpSum::Omitted),
+    ("", "checksum = 'none'\n", Networks::Both, UdpSum::Omitted),
+    ("", "checksum = 'udp'\n", Networks::Both, UdpSum::Generated),
+    ("networks = 'both'\n", "", Networks::Both, UdpSum::Omitted),
+    ("networks = 'a'\n", "", Networks::OnlyA, UdpSum::Omitted),
+    ("networks = 'b'\n", "", Networks::OnlyB, UdpSum::Omitted),
+];
 
 #[test]
-fn a_link_is_on_the_networks_that_its_table_names(rt: HostRuntime) {
-    let named = [
-        ("", Networks::Both),
-        ("networks = 'both'\n", Networks::Both),
-        ("networks = 'a'\n", Networks::OnlyA),
-        ("networks = 'b'\n", Networks::OnlyB),
-    ];
-    for (behind, networks) in named {
-        assert_networks(&rt, rt.alloc(), behind, networks);
+fn a_link_has_the_networks_and_a_port_the_checksum_that_its_table_names(rt: HostRuntime) {
+    for &(of_link, of_port, networks, checksum) in &NAMED {
+        let parts = ["version = 2\n", HEAD, LINK, of_link, PORT, of_port];
+        let config = read(&rt, rt.alloc(), &joined(&rt, rt.alloc(), &parts));
+        assert_same(&rt, only(&rt, config.links()).networks, networks);
+        assert_same(&rt, only(&rt, config.ports()).checksum, checksum);
     }
 }
