@@ -9,6 +9,27 @@ use afdx_frame::Frame;
 use afdx_plan::Networks;
 use redundant_mux::{BothDown, HandFault, MemNetwork, Mux, Network, Standing};
 
+const BOTH: Standing = Standing { a: true, b: true };
+
+const ONLY_A: Standing = Standing { a: true, b: false };
+
+const ONLY_B: Standing = Standing { a: false, b: true };
+
+const NEITHER: Standing = Standing { a: false, b: false };
+
+// A hand that no network has.
+const NEVER: u64 = u64::MAX;
+
+type Pair = Mux<MemNetwork, MemNetwork>;
+
+// Two networks that fail at these hands, counted from 1.
+fn failing_at(alloc: Global, (a, b): (u64, u64)) -> Pair {
+    Mux::new(
+        MemNetwork::failing_at(alloc, a),
+        MemNetwork::failing_at(alloc, b),
+    )
+}
+
 fn frame_for_a() -> Frame
     ensures { twin_of ForA result.items ≡ result.items }
 {
@@ -19,128 +40,105 @@ fn frame_for_a() -> Frame
     frame
 }
 
-// Hands the frame to those of these networks that stand. A test that calls this has a short proof, since
-// it keeps no frame and learns nothing of the networks.
-fn hand_for(
-    mux: &mut Mux<MemNetwork, MemNetwork>,
-    at: u64,
-    networks: Networks,
-) -> Result<Standing, BothDown> {
-    mux.hand(at, &frame_for_a(), networks)
+// The time of a hand, its networks, and its answer.
+type Hand = (u64, Networks, Result<Standing, BothDown>);
+
+// Hands the frame to networks, and asserts each answer.
+fn assert_hands(rt: &impl Abort, mux: &mut Pair, hands: &[Hand]) {
+    for &(at, networks, wanted) in hands {
+        assert_same(rt, mux.hand(at, &frame_for_a(), networks), wanted);
+    }
 }
 
-// Hands it to both.
-fn hand(mux: &mut Mux<MemNetwork, MemNetwork>, at: u64) -> Result<Standing, BothDown> {
-    hand_for(mux, at, Networks::Both)
-}
-
-// Asserts how many frames a network was handed, and how often it failed.
-fn assert_counts(rt: &impl Abort, network: &MemNetwork, handed: usize, failures: u64) {
-    assert_same(rt, network.handed().len(), handed);
+// Asserts that a network holds this frame at each of these times, and how often it failed.
+fn assert_holds(rt: &impl Abort, network: &MemNetwork, times: &[u64], frame: &[u8], failures: u64) {
+    assert_same(rt, network.handed().len(), times.len());
+    for (entry, at) in network.handed().iter().zip(times) {
+        assert_same(rt, entry.at, *at);
+        assert_same(rt, entry.frame.as_slice(), frame);
+    }
     assert_same(rt, network.failures(), failures);
 }
 
-// Asserts what a network was handed at a place, and at which moment.
-fn assert_handed(rt: &impl Abort, network: &MemNetwork, place: usize, at: u64, frame: &[u8]) {
-    let handed = network.handed();
-    assert!(rt; place < handed.len());
-    let told = &handed[place];
-    assert_same(rt, told.at, at);
-    assert_same(rt, told.frame.as_slice(), frame);
+// Asserts the same of both networks. The frames differ in byte 11 alone.
+fn assert_hold(rt: &impl Abort, mux: &Pair, on_a: (&[u64], u64), on_b: (&[u64], u64)) {
+    assert_holds(rt, mux.network_a(), on_a.0, &FIRST_FRAME, on_a.1);
+    assert_holds(rt, mux.network_b(), on_b.0, &first_frame_for_b(), on_b.1);
 }
 
 #[test]
 fn both_networks_keep_a_frame_that_differs_in_byte_11_alone(rt: HostRuntime) {
-    let alloc = rt.alloc();
-    let mut mux = Mux::new(MemNetwork::new(alloc), MemNetwork::new(alloc));
-    let standing = hand(&mut mux, 7);
-    assert_same(&rt, standing, Ok(Standing { a: true, b: true }));
+    let mut mux = failing_at(rt.alloc(), (NEVER, NEVER));
+    assert_hands(&rt, &mut mux, &[(7, Networks::Both, Ok(BOTH))]);
     let (a, b) = mux.into_networks();
-    assert_counts(&rt, &a, 1, 0);
-    assert_handed(&rt, &a, 0, 7, &FIRST_FRAME);
-    assert_counts(&rt, &b, 1, 0);
-    assert_handed(&rt, &b, 0, 7, &first_frame_for_b());
+    assert_holds(&rt, &a, &[7], &FIRST_FRAME, 0);
+    assert_holds(&rt, &b, &[7], &first_frame_for_b(), 0);
 }
 
 #[test]
-fn a_network_that_fails_at_its_second_hand_gets_nothing_more(rt: HostRuntime) {
-    let alloc = rt.alloc();
-    let mut mux = Mux::new(MemNetwork::failing_at(alloc, 2), MemNetwork::new(alloc));
-    assert_same(&rt, hand(&mut mux, 0), Ok(Standing { a: true, b: true }));
-    assert_same(&rt, hand(&mut mux, 1), Ok(Standing { a: false, b: true }));
-    assert_same(&rt, hand(&mut mux, 2), Ok(Standing { a: false, b: true }));
-    assert_same(&rt, mux.standing(), Standing { a: false, b: true });
-    let (a, b) = mux.into_networks();
-    assert_counts(&rt, &a, 1, 1);
-    assert_counts(&rt, &b, 3, 0);
+fn a_network_that_fails_at_its_second_hand_gets_no_later_frame(rt: HostRuntime) {
+    let mut mux = failing_at(rt.alloc(), (2, NEVER));
+    let hands = [
+        (0, Networks::Both, Ok(BOTH)),
+        (1, Networks::Both, Ok(ONLY_B)),
+        (2, Networks::Both, Ok(ONLY_B)),
+    ];
+    assert_hands(&rt, &mut mux, &hands);
+    assert_same(&rt, mux.standing(), ONLY_B);
+    assert_hold(&rt, &mux, (&[0], 1), (&[0, 1, 2], 0));
 }
 
 #[test]
 fn a_hand_after_both_failed_answers_both_down(rt: HostRuntime) {
-    let alloc = rt.alloc();
-    let mut mux = Mux::new(
-        MemNetwork::failing_at(alloc, 2),
-        MemNetwork::failing_at(alloc, 1),
-    );
-    assert_same(&rt, hand(&mut mux, 0), Ok(Standing { a: true, b: false }));
-    assert_same(&rt, hand(&mut mux, 1), Ok(Standing { a: false, b: false }));
-    assert_same(&rt, hand(&mut mux, 2), Err(BothDown));
-    let (a, b) = mux.into_networks();
-    assert_counts(&rt, &a, 1, 1);
-    assert_counts(&rt, &b, 0, 1);
+    let mut mux = failing_at(rt.alloc(), (2, 1));
+    let hands = [
+        (0, Networks::Both, Ok(ONLY_A)),
+        (1, Networks::Both, Ok(NEITHER)),
+        (2, Networks::Both, Err(BothDown)),
+    ];
+    assert_hands(&rt, &mut mux, &hands);
+    assert_hold(&rt, &mux, (&[0], 1), (&[], 1));
 }
 
 #[test]
-fn a_frame_for_one_network_goes_to_it_alone_and_nowhere_where_it_is_down(rt: HostRuntime) {
-    let alloc = rt.alloc();
-    let mut mux = Mux::new(MemNetwork::failing_at(alloc, 2), MemNetwork::new(alloc));
-    let both = Standing { a: true, b: true };
-    let only_b = Standing { a: false, b: true };
-    assert_same(&rt, hand_for(&mut mux, 0, Networks::OnlyA), Ok(both));
-    assert_same(&rt, hand_for(&mut mux, 1, Networks::OnlyB), Ok(both));
-    assert_same(&rt, hand_for(&mut mux, 2, Networks::OnlyA), Ok(only_b));
-    assert_same(&rt, hand_for(&mut mux, 3, Networks::OnlyA), Ok(only_b));
+fn a_frame_for_one_network_goes_to_it_alone_and_nowhere_if_it_is_down(rt: HostRuntime) {
+    let mut mux = failing_at(rt.alloc(), (2, NEVER));
+    let hands = [
+        (0, Networks::OnlyA, Ok(BOTH)),
+        (1, Networks::OnlyB, Ok(BOTH)),
+        (2, Networks::OnlyA, Ok(ONLY_B)),
+        (3, Networks::OnlyA, Ok(ONLY_B)),
+    ];
+    assert_hands(&rt, &mut mux, &hands);
     assert_same(&rt, mux.stands_for(Networks::OnlyA), false);
     assert_same(&rt, mux.stands_for(Networks::Both), true);
-    let (a, b) = mux.into_networks();
-    assert_counts(&rt, &a, 1, 1);
-    assert_handed(&rt, &a, 0, 0, &FIRST_FRAME);
-    assert_counts(&rt, &b, 1, 0);
-    assert_handed(&rt, &b, 0, 1, &first_frame_for_b());
+    assert_hold(&rt, &mux, (&[0], 1), (&[1], 0));
 }
 
 #[test]
-fn each_network_is_seen_with_what_was_handed_to_it_so_far(rt: HostRuntime) {
-    let alloc = rt.alloc();
-    let mut mux = Mux::new(
-        MemNetwork::failing_at(alloc, 3),
-        MemNetwork::failing_at(alloc, 2),
-    );
-    assert_counts(&rt, mux.network_a(), 0, 0);
-    assert_counts(&rt, mux.network_b(), 0, 0);
-    assert_same(&rt, hand(&mut mux, 7), Ok(Standing { a: true, b: true }));
-    assert_handed(&rt, mux.network_a(), 0, 7, &FIRST_FRAME);
-    assert_handed(&rt, mux.network_b(), 0, 7, &first_frame_for_b());
-    assert_same(&rt, hand(&mut mux, 8), Ok(Standing { a: true, b: false }));
-    assert_counts(&rt, mux.network_a(), 2, 0);
-    assert_counts(&rt, mux.network_b(), 1, 1);
-    assert_same(&rt, hand(&mut mux, 9), Ok(Standing { a: false, b: false }));
-    assert_same(&rt, hand(&mut mux, 10), Err(BothDown));
-    assert_counts(&rt, mux.network_a(), 2, 1);
-    assert_counts(&rt, mux.network_b(), 1, 1);
-    assert_handed(&rt, mux.network_a(), 1, 8, &FIRST_FRAME);
+fn each_network_shows_what_it_took_so_far_until_both_are_down(rt: HostRuntime) {
+    let mut mux = failing_at(rt.alloc(), (3, 2));
+    assert_hold(&rt, &mux, (&[], 0), (&[], 0));
+    assert_hands(&rt, &mut mux, &[(7, Networks::Both, Ok(BOTH))]);
+    assert_hold(&rt, &mux, (&[7], 0), (&[7], 0));
+    assert_hands(&rt, &mut mux, &[(8, Networks::Both, Ok(ONLY_A))]);
+    assert_hold(&rt, &mux, (&[7, 8], 0), (&[7], 1));
+    let hands = [
+        (9, Networks::Both, Ok(NEITHER)),
+        (10, Networks::Both, Err(BothDown)),
+    ];
+    assert_hands(&rt, &mut mux, &hands);
+    assert_hold(&rt, &mux, (&[7, 8], 1), (&[7], 1));
 }
 
 #[test]
-fn a_network_takes_frames_before_and_behind_the_hand_that_is_to_fail(rt: HostRuntime) {
+fn a_network_takes_frames_before_and_after_the_hand_that_is_to_fail(rt: HostRuntime) {
     let mut network = MemNetwork::failing_at(rt.alloc(), 2);
-    let first = network.hand(10, &[1, 2]);
-    let second = network.hand(20, &[3]);
-    let third = network.hand(30, &[]);
-    assert_same(&rt, first, Ok(()));
-    assert_same(&rt, second, Err(HandFault));
-    assert_same(&rt, third, Ok(()));
-    assert_counts(&rt, &network, 2, 1);
-    assert_handed(&rt, &network, 0, 10, &[1, 2]);
-    assert_handed(&rt, &network, 1, 30, &[]);
+    assert_same(&rt, network.hand(10, &[1, 2]), Ok(()));
+    assert_same(&rt, network.hand(20, &[3]), Err(HandFault));
+    assert_holds(&rt, &network, &[10], &[1, 2], 1);
+    assert_same(&rt, network.hand(30, &[]), Ok(()));
+    let last = network.handed().get(1).expect(&rt, "a second frame");
+    assert_same(&rt, (last.at, last.frame.len()), (30, 0));
+    assert_same(&rt, (network.handed().len(), network.failures()), (2, 1));
 }
