@@ -8,7 +8,7 @@ use status_board::{Board, Counts, Monitor, laws, open_board};
 use std::sync::Wait;
 use std::thread;
 
-// A message of one frame, sent at moment 0; some time later; the greatest counts.
+// A message of one frame, sent at time 0; some time later; the greatest counts.
 const ONE_FRAME: Counts = Counts {
     frames: 1,
     bytes: 60,
@@ -39,17 +39,11 @@ fn assert_read<R: Wait + Abort>(rt: &R, monitor: &mut Monitor, link: usize, want
 }
 
 #[test]
-fn a_link_reads_zeros_and_then_what_was_published(rt: HostRuntime) {
+fn a_link_reads_zeros_and_then_the_last_entry_as_often_as_one_reads(rt: HostRuntime) {
     let (mut board, mut monitor) = open_board(rt.alloc(), 1).expect(&rt, "memory");
     assert_read(&rt, &mut monitor, 0, Counts::ZERO);
     board.publish(&rt, 0, ONE_FRAME);
     assert_read(&rt, &mut monitor, 0, ONE_FRAME);
-}
-
-#[test]
-fn the_last_entry_is_read_as_often_as_one_reads(rt: HostRuntime) {
-    let (mut board, mut monitor) = open_board(rt.alloc(), 1).expect(&rt, "memory");
-    board.publish(&rt, 0, ONE_FRAME);
     board.publish(&rt, 0, LATER);
     assert_read(&rt, &mut monitor, 0, LATER);
     assert_read(&rt, &mut monitor, 0, LATER);
@@ -98,7 +92,7 @@ const FRAME: u64 = 60;
 
 const GAP: u64 = 1_000;
 
-// The entry after so many frames of a message each. Its fields tell one another.
+// The entry after `frames` frames of a message each. Each field gives the others.
 fn entry_after(frames: u64) -> Counts
     requires { frames ≤ ENTRIES }
     ensures { result ≡ record {
@@ -123,7 +117,7 @@ fn is_whole(found: &Counts) -> bool {
         && found.frames.checked_mul(GAP) == Some(found.last)
 }
 
-// Reads until the last entry is found. Whether each reading was whole, and none behind the one before.
+// Reads until the last entry is found. Whether each reading was whole, and none older than the one before.
 fn watch<R: Wait>(rt: &R, mut monitor: Monitor) -> bool
     requires { 0 < links_of monitor }
 {

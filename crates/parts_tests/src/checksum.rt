@@ -1,5 +1,4 @@
-//! Tests of the UDP checksum, against a receiver that puts the pieces of a message together and takes
-//! the sum over all words at once.
+//! Tests of the UDP checksum, against a receiver that reassembles a message and sums all its words at once.
 ghost use Rattle.std.specs.Prelude.{◌≡◌, ◌≤◌, length};
 ghost use Rattle.afdx_plan.specs.Plan.{IsPort, SendsOver};
 
@@ -30,7 +29,7 @@ fn words_of(bytes: &[u8]) -> u32 {
     sum
 }
 
-/// What a receiver has of a message: the addresses of its frames, and its datagram.
+/// A received message: the addresses of its frames, and its datagram.
 #[derive(Drop)]
 struct Received {
     addresses: Vec<u8>,
@@ -38,7 +37,7 @@ struct Received {
 }
 
 impl Received {
-    /// Adds what a frame carries of the datagram, and keeps the frame's addresses.
+    /// Appends a frame's piece of the datagram, and keeps the frame's addresses.
     fn add(&mut self, alloc: Global, frame: &Frame) -> Result<(), AllocError> {
         self.addresses = frame.get(26..34).unwrap_or(&[]).to_vec(alloc)?;
         self.datagram.extend_from_slice(piece_of(frame))
@@ -50,24 +49,9 @@ impl Received {
         let pseudo = words_of(&self.addresses).wrapping_add(17).wrapping_add(len);
         words_of(&self.datagram).wrapping_add(pseudo) % 65535
     }
-
-    /// The UDP header before its checksum.
-    fn front(&self) -> &[u8] {
-        self.datagram.get(..6).unwrap_or(&[])
-    }
-
-    /// The checksum field.
-    fn field(&self) -> &[u8] {
-        self.datagram.get(6..8).unwrap_or(&[])
-    }
-
-    /// The message.
-    fn message(&self) -> &[u8] {
-        self.datagram.get(8..).unwrap_or(&[])
-    }
 }
 
-/// What a frame carries of a datagram.
+/// A frame's piece of a datagram.
 fn piece_of(frame: &Frame) -> &[u8] {
     let total = match frame.get(16..18) {
         Some([high, low]) => 256 * usize::from(*high) + usize::from(*low),
@@ -76,7 +60,7 @@ fn piece_of(frame: &Frame) -> &[u8] {
     frame.get(34..14 + total).unwrap_or(&[])
 }
 
-/// Puts together what the frames of a message carry, of which there are 100 at most.
+/// Reassembles a message of at most 100 frames.
 fn put_together(
     received: &mut Received,
     alloc: Global,
@@ -94,7 +78,7 @@ fn put_together(
     Ok(())
 }
 
-/// What a receiver has of a message of a port, over frames of so many bytes at most.
+/// What a receiver has of a message of a port, over frames of at most `lmax` bytes.
 fn receive(rt: &impl Abort, alloc: Global, port: &PortPlan, lmax: Lmax, message: &[u8]) -> Received
     requires port { IsPort port.now }
     requires vl { port.now.vl ≡ record { 0 = 1 } }
@@ -111,23 +95,24 @@ fn receive(rt: &impl Abort, alloc: Global, port: &PortPlan, lmax: Lmax, message:
     received
 }
 
-/// Asserts that a message passes a receiver's check where its port has checksums, is never told as
-/// one without, and is otherwise what it is without.
+/// Asserts that a message passes a receiver's check if its port has checksums, which are never 0, and is otherwise
+/// what it is without.
 fn assert_checked(rt: &impl Abort, alloc: Global, lmax: Lmax, message: &[u8])
     requires some { 1 ≤ length message.now }
     requires most { length message.now ≤ 8192 }
 {
     let plain = receive(rt, alloc, &demo_port(), lmax, message);
     let summed = receive(rt, alloc, &summing_port(), lmax, message);
-    assert_same(rt, plain.message(), message);
-    assert_same(rt, plain.field(), [0, 0].as_slice());
-    assert_same(rt, summed.message(), message);
-    assert_same(rt, summed.front(), plain.front());
-    assert_ne!(rt; summed.field(), plain.field());
+    let (without, with) = (plain.datagram.as_slice(), summed.datagram.as_slice());
+    assert_same(rt, without.get(8..), Some(message));
+    assert_same(rt, without.get(6..8), Some([0, 0].as_slice()));
+    assert_same(rt, with.get(8..), Some(message));
+    assert_same(rt, with.get(..6), without.get(..6));
+    assert_ne!(rt; with.get(6..8), without.get(6..8));
     assert_same(rt, summed.sum(), 0);
 }
 
-/// Asserts the same of a message of so many bytes, over the shortest and the longest frames.
+/// Asserts the same of a message of `len` bytes, over the shortest and the longest frames.
 fn assert_len(rt: &impl Abort, alloc: Global, len: u16)
     requires some { 1 ≤ len }
     requires most { len ≤ 8192 }
@@ -151,7 +136,7 @@ fn messages_of_1_to_40_bytes_pass(rt: HostRuntime) {
 
 #[test]
 fn messages_at_the_edge_of_a_frame_pass(rt: HostRuntime) {
-    // a frame of 1,518 bytes carries 1,471 bytes of a message, and 1,464 where more follow
+    // a frame of 1,518 bytes carries 1,471 bytes of a message, and 1,464 if more follow
     for len in 1463..=1474 {
         assert_len(&rt, rt.alloc(), len);
     }
@@ -166,15 +151,11 @@ fn each_message_of_two_bytes_passes(rt: HostRuntime) {
     }
 }
 
-/// Asserts the checksum field of a message.
-fn assert_field(rt: &impl Abort, alloc: Global, message: &[u8; 2], field: &[u8; 2]) {
-    let lmax = Lmax::new(1518);
-    let received = receive(rt, alloc, &summing_port(), lmax, message);
-    assert_same(rt, received.field(), field.as_slice());
-}
-
 #[test]
 fn a_computed_zero_is_sent_as_65_535(rt: HostRuntime) {
-    assert_field(&rt, rt.alloc(), &[0x08, 0x40], &[0xff, 0xff]);
-    assert_field(&rt, rt.alloc(), &[0x08, 0x41], &[0xff, 0xfe]);
+    for (message, field) in [([0x08, 0x40], [0xff, 0xff]), ([0x08, 0x41], [0xff, 0xfe])] {
+        let lmax = Lmax::new(1518);
+        let received = receive(&rt, rt.alloc(), &summing_port(), lmax, &message);
+        assert_same(&rt, received.datagram.get(6..8), Some(field.as_slice()));
+    }
 }
