@@ -1,14 +1,10 @@
 //! Tests of frames: pieces, fields, twins, readers.
 ghost use Rattle.std.specs.Prelude.{◌≡◌, ◌<◌, ◌≤◌};
 ghost use Rattle.afdx_plan.specs.Plan.{IsPort, SendsOver};
-ghost use Rattle.afdx_frame.specs.Cutting.{SameMessage};
 
 use crate::testing::*;
 use afdx_frame::{Cut, Frame, Net, ident_of, more_of, offset_of, sn_of, sub_of, twin, vl_of};
 use afdx_plan::{Bag, Kind, LinkPlan, Lmax, Networks, PortId, PortPlan, UdpSum, VlId};
-
-// the MAC addresses and the type of each frame below: link 1, end system 1, network A
-const LINK_HEADER: &[u8; 14] = b"\x03\x00\x00\x00\x00\x01\x02\x00\x00\x00\x01\x20\x08\x00";
 
 /// The demonstration port's message 01 at place 0, with number 0.
 pub const FIRST_FRAME: [u8; 60] = *b"\x03\x00\x00\x00\x00\x01\x02\x00\x00\x00\x01\x20\x08\x00\
@@ -23,38 +19,34 @@ pub fn first_frame_for_b() -> [u8; 60] {
     twin
 }
 
-/// Appends a frame of network A, whose piece is what is given and then so many bytes `aa`.
-fn push_frame(
-    frame: &mut Vec<u8>,
-    header: &[u8; 20],
-    begin: &[u8],
-    len: usize,
-    number: u8,
-) -> Result<(), AllocError> {
-    frame.extend_from_slice(LINK_HEADER)?;
-    frame.extend_from_slice(header)?;
-    frame.extend_from_slice(begin)?;
-    let end = frame.len().saturating_add(len);
-    frame.resize(end, 0xaa)?;
-    frame.resize(end.max(59), 0)?;
-    frame.extend_from_slice(&[number])
+/// A frame of network A: the total length, fragment and checksum fields of its IP header, the UDP length field
+/// if its piece has one, how many bytes `aa` follow, and the length of the frame.
+type Piece = (u16, u16, u16, Option<u16>, usize, usize);
+
+/// A frame with this piece and this sequence number.
+fn frame_of(alloc: Global, piece: &Piece, number: u8) -> Result<Vec<u8>, AllocError> {
+    let (total, fragment, checksum, udp, len, _whole) = *piece;
+    let mut first = FIRST_FRAME;
+    first[16..18].copy_from_slice(total.to_be_bytes().as_slice());
+    first[20..22].copy_from_slice(fragment.to_be_bytes().as_slice());
+    first[24..26].copy_from_slice(checksum.to_be_bytes().as_slice());
+    first[38..40].copy_from_slice(udp.unwrap_or(0).to_be_bytes().as_slice());
+    let begin = if udp.is_some() { 42 } else { 34 };
+    let mut frame = first[..begin].to_vec(alloc)?;
+    frame.resize(begin.saturating_add(len), 0xaa)?;
+    frame.resize(frame.len().max(59), 0)?;
+    frame.push(number)?;
+    Ok(frame)
 }
 
-/// A frame of network A whose piece is what is given and then so many bytes `aa`.
-fn frame_of_aa(
-    rt: &impl Abort,
-    alloc: Global,
-    header: &[u8; 20],
-    begin: &[u8],
-    len: usize,
-    number: u8,
-) -> Vec<u8> {
-    let mut frame = Vec::new(alloc);
-    push_frame(&mut frame, header, begin, len, number).expect(rt, "memory");
-    frame
+/// Asserts that a frame has this piece and this sequence number.
+fn assert_piece(rt: &impl Abort, alloc: Global, frame: &[u8], piece: &Piece, number: u8) {
+    let wanted = frame_of(alloc, piece, number).expect(rt, "memory");
+    assert_same(rt, frame, wanted.as_slice());
+    assert_same(rt, frame.len(), piece.5);
 }
 
-/// Link 1 with greatest frames of so many bytes and so many sub-VLs.
+/// Link 1 with frames of at most `lmax` bytes.
 pub fn link(lmax: Lmax, sub_vls: u8) -> LinkPlan
     ensures id { result.id ≡ record { 0 = 1 } }
     ensures lmax { result.lmax ≡ lmax }
@@ -99,12 +91,25 @@ fn cut_of_one(rt: &impl Abort, alloc: Global, port: &PortPlan, place: u64) -> Cu
     Cut::new([1u8].to_vec(alloc).expect(rt, "memory"), place, port)
 }
 
+/// The first frame of that message for network A, over a link of `sub_vls` sub-VLs.
+fn first_frame(rt: &impl Abort, alloc: Global, port: &PortPlan, place: u64, sub_vls: u8) -> Frame
+    requires port { IsPort port.now }
+    requires vl { port.now.vl ≡ record { 0 = 1 } }
+    requires sub { port.now.sub < sub_vls }
+    requires sub_vls { sub_vls ≤ 4 }
+{
+    let mut cut = cut_of_one(rt, alloc, port, place);
+    assert_same(rt, cut.is_done(), false);
+    let link = link(Lmax::new(1518), sub_vls);
+    let frame = cut.next_frame(&link, 1, 0, Net::A).unwrap_or_default();
+    assert_same(rt, cut.is_done(), true);
+    frame
+}
+
 #[test]
 fn a_short_message_is_one_padded_frame(rt: HostRuntime) {
-    let mut cut = cut_of_one(&rt, rt.alloc(), &demo_port(), 0);
-    assert_same(&rt, cut.is_done(), false);
-    let link = link(Lmax::new(1518), 1);
-    assert_next(&rt, &mut cut, &link, 0, &FIRST_FRAME, true);
+    let frame = first_frame(&rt, rt.alloc(), &demo_port(), 0, 1);
+    assert_same(&rt, frame.as_slice(), FIRST_FRAME.as_slice());
 }
 
 #[test]
@@ -119,7 +124,7 @@ fn the_twin_differs_in_the_interface_alone(rt: HostRuntime) {
     assert_same(&rt, twin.as_slice(), FIRST_FRAME.as_slice());
 }
 
-/// A message of so many bytes `aa` of the demonstration port.
+/// A message of `len` bytes `aa` of the demonstration port.
 fn cut_of_aa(rt: &impl Abort, alloc: Global, len: usize) -> Cut
     requires some { 1 ≤ len }
     requires most { len ≤ 8192 }
@@ -130,123 +135,88 @@ fn cut_of_aa(rt: &impl Abort, alloc: Global, len: usize) -> Cut
     Cut::new(message, 0, &demo_port())
 }
 
-/// Asserts that the next frame of a message for network A is this one, and whether it is the last.
-fn assert_next(
-    rt: &impl Abort,
-    cut: &mut Cut,
-    link: &LinkPlan,
-    number: u8,
-    wanted: &[u8],
-    is_last: bool,
-)
+/// Asserts that a message has frames with these pieces, and no other.
+fn assert_cut(rt: &impl Abort, alloc: Global, cut: &mut Cut, link: &LinkPlan, pieces: &[Piece])
     requires { SendsOver cut.old.port link.now }
-    ensures { SameMessage cut.old cut.new }
 {
-    let frame = cut.next_frame(link, 1, number, Net::A).unwrap_or_default();
-    assert_same(rt, frame.as_slice(), wanted);
-    assert_same(rt, cut.is_done(), is_last);
+    for (number, piece) in (0u8..).zip(pieces) {
+        assert_same(rt, cut.is_done(), false);
+        let frame = cut.next_frame(link, 1, number, Net::A).unwrap_or_default();
+        assert_piece(rt, alloc, &frame, piece, number);
+    }
+    assert_same(rt, cut.is_done(), true);
+    assert_same(rt, cut.next_frame(link, 1, 9, Net::A).is_none(), true);
 }
 
-/// Asserts that a message of so many bytes `aa` goes out as these two frames and no more.
-fn assert_two_frames(
-    rt: &impl Abort,
-    alloc: Global,
-    len: usize,
-    lmax: Lmax,
-    first: &[u8],
-    second: &[u8],
-)
-    requires some { 1 ≤ len }
-    requires most { len ≤ 8192 }
-{
-    let link = link(lmax, 1);
-    let mut cut = cut_of_aa(rt, alloc, len);
-    assert_next(rt, &mut cut, &link, 0, first, false);
-    assert_next(rt, &mut cut, &link, 1, second, true);
-    assert_same(rt, cut.next_frame(&link, 1, 2, Net::A).is_none(), true);
-}
+const OF_1471: [Piece; 1] = [(0x05db, 0x0000, 0xc830, Some(0x05c7), 1471, 1514)];
 
 #[test]
 fn a_message_of_1471_bytes_fills_one_frame(rt: HostRuntime) {
-    let header =
-        b"\x45\x00\x05\xdb\x00\x00\x00\x00\x01\x11\xc8\x30\x0a\x00\x01\x01\xe0\xe0\x00\x01";
-    let udp = b"\x03\xe8\x07\xd0\x05\xc7\x00\x00";
-    let expected = frame_of_aa(&rt, rt.alloc(), header, udp, 1471, 0);
-    assert_same(&rt, expected.len(), 1514);
     let mut cut = cut_of_aa(&rt, rt.alloc(), 1471);
-    let link = link(Lmax::new(1518), 1);
-    assert_next(&rt, &mut cut, &link, 0, &expected, true);
+    assert_cut(
+        &rt,
+        rt.alloc(),
+        &mut cut,
+        &link(Lmax::new(1518), 1),
+        &OF_1471,
+    );
 }
+
+const OF_1472: [Piece; 2] = [
+    (0x05d4, 0x2000, 0xa837, Some(0x05c8), 1464, 1507),
+    LAST_PIECE,
+];
+
+const LAST_PIECE: Piece = (0x001c, 0x00b8, 0xcd37, None, 8, 60);
 
 #[test]
 fn a_message_of_1472_bytes_is_two_frames(rt: HostRuntime) {
-    let header =
-        b"\x45\x00\x05\xd4\x00\x00\x20\x00\x01\x11\xa8\x37\x0a\x00\x01\x01\xe0\xe0\x00\x01";
-    let udp = b"\x03\xe8\x07\xd0\x05\xc8\x00\x00";
-    let first = frame_of_aa(&rt, rt.alloc(), header, udp, 1464, 0);
-    assert_same(&rt, first.len(), 1507);
-    let header =
-        b"\x45\x00\x00\x1c\x00\x00\x00\xb8\x01\x11\xcd\x37\x0a\x00\x01\x01\xe0\xe0\x00\x01";
-    let second = frame_of_aa(&rt, rt.alloc(), header, b"", 8, 1);
-    assert_same(&rt, second.len(), 60);
-    assert_two_frames(&rt, rt.alloc(), 1472, Lmax::new(1518), &first, &second);
+    let mut cut = cut_of_aa(&rt, rt.alloc(), 1472);
+    assert_cut(
+        &rt,
+        rt.alloc(),
+        &mut cut,
+        &link(Lmax::new(1518), 1),
+        &OF_1472,
+    );
 }
+
+const OF_41: [Piece; 2] = [
+    (0x002c, 0x2000, 0xaddf, Some(0x0031), 16, 60),
+    (0x002d, 0x0003, 0xcddb, None, 25, 60),
+];
 
 #[test]
 fn the_last_piece_may_be_longer_than_a_step(rt: HostRuntime) {
-    let header =
-        b"\x45\x00\x00\x2c\x00\x00\x20\x00\x01\x11\xad\xdf\x0a\x00\x01\x01\xe0\xe0\x00\x01";
-    let udp = b"\x03\xe8\x07\xd0\x00\x31\x00\x00";
-    let first = frame_of_aa(&rt, rt.alloc(), header, udp, 16, 0);
-    let header =
-        b"\x45\x00\x00\x2d\x00\x00\x00\x03\x01\x11\xcd\xdb\x0a\x00\x01\x01\xe0\xe0\x00\x01";
-    let second = frame_of_aa(&rt, rt.alloc(), header, b"", 25, 1);
-    assert_two_frames(&rt, rt.alloc(), 41, Lmax::new(64), &first, &second);
+    let mut cut = cut_of_aa(&rt, rt.alloc(), 41);
+    assert_cut(&rt, rt.alloc(), &mut cut, &link(Lmax::new(64), 1), &OF_41);
 }
 
-/// Asserts of the next frame of a message its total length, its piece's offset, and whether more
+/// Asserts of the frames of a message their total lengths, the offsets of their pieces, and whether more
 /// pieces follow.
-fn assert_piece(
-    rt: &impl Abort,
-    cut: &mut Cut,
-    link: &LinkPlan,
-    number: u8,
-    total_length: u8,
-    offset: u16,
-    more: bool,
-)
-    requires { SendsOver cut.old.port link.now }
-    ensures { SameMessage cut.old cut.new }
+fn assert_offsets(rt: &impl Abort, cut: &mut Cut, wanted: &[(u8, u16, bool)])
+    requires vl { cut.old.port.vl ≡ record { 0 = 1 } }
+    requires sub { cut.old.port.sub ≡ 0 }
 {
-    let frame = cut.next_frame(link, 1, number, Net::A).unwrap_or_default();
-    assert_same(rt, frame.get(16..18), Some([0, total_length].as_slice()));
-    assert_same(rt, offset_of(&frame), Some(offset));
-    assert_same(rt, more_of(&frame), Some(more));
-    assert_same(rt, cut.is_done(), !more);
+    let link = link(Lmax::new(64), 1);
+    for &(total_length, offset, more) in wanted {
+        let frame = cut.next_frame(&link, 1, 0, Net::A).unwrap_or_default();
+        assert_same(rt, frame.get(16..18), Some([0, total_length].as_slice()));
+        assert_same(
+            rt,
+            (offset_of(&frame), more_of(&frame)),
+            (Some(offset), Some(more)),
+        );
+        assert_same(rt, cut.is_done(), !more);
+    }
 }
 
 #[test]
 fn frames_of_64_bytes_hold_pieces_of_25(rt: HostRuntime) {
-    let link = link(Lmax::new(64), 1);
-    // a datagram of 25 bytes is sent whole
-    let mut cut = cut_of_aa(&rt, rt.alloc(), 17);
-    assert_piece(&rt, &mut cut, &link, 0, 45, 0, false);
-    // one of 26 is cut at 24
-    let mut cut = cut_of_aa(&rt, rt.alloc(), 18);
-    assert_piece(&rt, &mut cut, &link, 0, 44, 0, true);
-    assert_piece(&rt, &mut cut, &link, 1, 22, 3, false);
-}
-
-/// The first frame of the message 01 of a port at a place, for network A.
-fn first_frame(rt: &impl Abort, alloc: Global, port: &PortPlan, place: u64, sub_vls: u8) -> Frame
-    requires port { IsPort port.now }
-    requires vl { port.now.vl ≡ record { 0 = 1 } }
-    requires sub { port.now.sub < sub_vls }
-    requires sub_vls { sub_vls ≤ 4 }
-{
-    let mut cut = cut_of_one(rt, alloc, port, place);
-    let link = link(Lmax::new(1518), sub_vls);
-    cut.next_frame(&link, 1, 0, Net::A).unwrap_or_default()
+    // a datagram of 25 bytes is sent whole, and one of 26 is cut at 24
+    assert_offsets(&rt, &mut cut_of_aa(&rt, rt.alloc(), 17), &[(45, 0, false)]);
+    let two = [(44, 0, true), (22, 3, false)];
+    assert_offsets(&rt, &mut cut_of_aa(&rt, rt.alloc(), 18), &two);
 }
 
 #[test]
@@ -256,16 +226,15 @@ fn a_unicast_port_s_frame_keeps_the_link_s_mac_address(rt: HostRuntime) {
         ..demo_port()
     };
     let frame = first_frame(&rt, rt.alloc(), &port, 0, 1);
-    let header =
-        b"\x45\x00\x00\x1d\x00\x00\x00\x00\x01\x11\xa2\xcf\x0a\x00\x01\x01\x0a\x00\x02\x01";
-    let piece = b"\x03\xe8\x07\xd0\x00\x09\x00\x00\x01";
-    let expected = frame_of_aa(&rt, rt.alloc(), header, piece, 0, 0);
-    assert_same(&rt, frame.as_slice(), expected.as_slice());
+    let mut wanted = FIRST_FRAME;
+    wanted[24..26].copy_from_slice(b"\xa2\xcf");
+    wanted[30..34].copy_from_slice(&[10, 0, 2, 1]);
+    assert_same(&rt, frame.as_slice(), wanted.as_slice());
     assert_same(&rt, vl_of(&frame), Some(VlId(1)));
 }
 
 #[test]
-fn identifications_tell_the_place_and_the_sub_vl(rt: HostRuntime) {
+fn identifications_give_the_place_and_the_sub_vl(rt: HostRuntime) {
     let port = PortPlan {
         sub: 3,
         ..demo_port()
@@ -277,7 +246,7 @@ fn identifications_tell_the_place_and_the_sub_vl(rt: HostRuntime) {
     }
 }
 
-/// What each reader gives.
+/// The value of each reader.
 #[derive(Clone, Copy, Debug, PartialEq, Eq)]
 struct Fields {
     vl: Option<VlId>,
@@ -288,7 +257,7 @@ struct Fields {
     more: Option<bool>,
 }
 
-/// What the readers give of `FIRST_FRAME`.
+/// The values for `FIRST_FRAME`.
 const FIRST_FIELDS: Fields = Fields {
     vl: Some(VlId(1)),
     sub: Some(0),
@@ -298,7 +267,7 @@ const FIRST_FIELDS: Fields = Fields {
     more: Some(false),
 };
 
-/// What they give of bytes that are no frame.
+/// The values for bytes that are no frame.
 const NO_FIELDS: Fields = Fields {
     vl: None,
     sub: None,
@@ -321,9 +290,7 @@ fn fields_of(bytes: &[u8]) -> Fields {
 
 #[test]
 fn the_readers_give_the_fields_of_a_last_fragment(rt: HostRuntime) {
-    let header =
-        b"\x45\x00\x00\x1c\x00\x00\x00\xb8\x01\x11\xcd\x37\x0a\x00\x01\x01\xe0\xe0\x00\x01";
-    let frame = frame_of_aa(&rt, rt.alloc(), header, b"", 8, 1);
+    let frame = frame_of(rt.alloc(), &LAST_PIECE, 1).expect(&rt, "memory");
     let wanted = Fields {
         number: Some(1),
         offset: Some(184),
