@@ -1,9 +1,23 @@
-//! What the tests of a queue share.
-ghost use Rattle.std.specs.Prelude.{◌≡◌, ◌^◌, ◌≤◌, ◌∷◌, [], length, IfOk, IfErr, IfSome};
+//! A test of a queue as a list of steps.
+ghost use Rattle.std.specs.Prelude.{◌≡◌, ◌^◌, ◌≤◌, ◌∷◌, length, IfOk, IfErr, IfSome};
 ghost use Rattle.subvl_queue.specs.Views.{AreOf};
 
 use crate::testing::*;
+use std::marker::Model;
 use subvl_queue::{Gathered, Item, Receiver, Refused, Sender, Why, make};
+
+/// What a test does with the ends of a queue, and what it expects.
+#[derive(Clone, Copy)]
+pub enum Step {
+    /// The sender at this place sends a message of two bytes. Why it is refused, if it is.
+    Sends(usize, [u8; 2], Option<Why>),
+    /// The index of the sender at this place, and how many of its messages were accepted.
+    Accepted(usize, u64),
+    /// The receiver takes the next message. Its port and its two bytes, if one is ready.
+    Takes(Option<[u8; 3]>),
+    /// The receiver closes the queue. The total.
+    Closes(u64),
+}
 
 /// A message of two bytes.
 pub fn message(alloc: Global, bytes: [u8; 2]) -> Result<Vec<u8>, AllocError>
@@ -12,8 +26,7 @@ pub fn message(alloc: Global, bytes: [u8; 2]) -> Result<Vec<u8>, AllocError>
     Ok(vec![in alloc; bytes[0], bytes[1]]?)
 }
 
-/// Sends a message of two bytes. A function that calls this has a short proof, since all of a `send`
-/// stands wherever it is called.
+/// Sends a message of two bytes.
 pub fn send(sender: &mut Sender, bytes: Vec<u8>) -> Result<(), Refused>
     requires { length bytes.items ≡ 2 }
     ensures queue { sender.new.queue ≡ sender.old.queue }
@@ -22,7 +35,7 @@ pub fn send(sender: &mut Sender, bytes: Vec<u8>) -> Result<(), Refused>
     sender.send(bytes)
 }
 
-/// Why a message was refused, if it was; it is asserted that it came back.
+/// Why a message was refused, if it was. Asserts that it was returned then.
 pub fn why_refused<R: Abort>(rt: &R, answer: &Result<(), Refused>, bytes: [u8; 2]) -> Option<Why> {
     match answer {
         Ok(()) => None,
@@ -33,124 +46,169 @@ pub fn why_refused<R: Abort>(rt: &R, answer: &Result<(), Refused>, bytes: [u8; 2
     }
 }
 
-/// Sends a message of two bytes, and asserts why it was refused, if it was; then it came back. A test
-/// that calls this has a short proof, since it keeps no message.
-pub fn assert_sent<R: Abort>(
+/// Sends a message of two bytes. Why it was refused, if it was.
+pub fn send_bytes<R: Abort>(
     rt: &R,
     alloc: Global,
     sender: &mut Sender,
     bytes: [u8; 2],
-    wanted: Option<Why>,
-)
+) -> Option<Why>
     ensures { sender.new.queue ≡ sender.old.queue }
 {
     let sent = message(alloc, bytes).expect(rt, "memory");
     let answer = send(sender, sent);
-    assert_same(rt, why_refused(rt, &answer, bytes), wanted);
+    why_refused(rt, &answer, bytes)
 }
 
-/// Takes the next message. A function that calls this has a short proof, as with `send`.
+/// Takes the next message.
 pub fn take(receiver: &mut Receiver) -> Option<Item>
     ensures { receiver.new.queue ≡ receiver.old.queue }
 {
     receiver.take()
 }
 
+/// Closes the queue. The total.
+pub fn close(receiver: &mut Receiver) -> u64
+    ensures { receiver.new.queue ≡ receiver.old.queue }
+{
+    receiver.close()
+}
+
 // An item's port and its two bytes.
 fn shown(taken: &Option<Item>) -> Option<[u8; 3]> {
     let item = taken.as_ref()?;
-    let first = item.bytes.first()?;
-    let second = item.bytes.get(1)?;
-    Some([item.port, *first, *second])
+    Some([item.port, *item.bytes.first()?, *item.bytes.get(1)?])
 }
 
-/// Takes the next message, and asserts what it is, if there is one.
-pub fn assert_taken<R: Abort>(rt: &R, receiver: &mut Receiver, wanted: Option<[u8; 3]>)
+/// A receiver takes a step.
+pub fn receive<R: Abort>(rt: &R, receiver: &mut Receiver, step: Step)
     ensures { receiver.new.queue ≡ receiver.old.queue }
 {
-    let taken = take(receiver);
-    assert_same(rt, shown(&taken), wanted);
+    match step {
+        Step::Takes(wanted) => {
+            let taken = take(receiver);
+            assert_same(rt, shown(&taken), wanted);
+        }
+        Step::Closes(total) => assert_same(rt, close(receiver), total),
+        _ => panic!(rt; "a step of a sender"),
+    }
 }
 
-/// Closes the queue, and asserts how many messages were accepted.
-pub fn assert_closed<R: Abort>(rt: &R, receiver: &mut Receiver, wanted: u64)
-    ensures { receiver.new.queue ≡ receiver.old.queue }
+/// The ends of a queue.
+#[derive(Drop)]
+pub struct Ends {
+    pub receiver: Receiver,
+    pub senders: Vec<Sender>,
+}
+
+impl Model for Ends {
+    ghost use Rattle.subvl_queue.specs.Views.{ReceiverView, AreOf};
+
+    ghost Value = { ReceiverView };
+
+    ghost view = { λ e. e.receiver };
+
+    ghost invariant = { λ e. AreOf e.receiver.queue e.senders.items };
+}
+
+/// Opens a queue with room for `capacity` messages, whose senders may each call `calls` times.
+pub fn open<R: Abort>(rt: &R, alloc: Global, capacity: usize, senders: usize, calls: u64) -> Ends
+    requires capacity { (1 ≤ capacity) × (capacity ≤ 256) }
+    requires senders { senders ≤ 64 }
+    requires calls { (1 ≤ calls) × (calls ≤ 2 ^ 40) }
 {
-    assert_same(rt, receiver.close(), wanted);
+    let (receiver, senders) = make(alloc, capacity, senders, calls).expect(rt, "memory");
+    Ends { receiver, senders }
 }
 
-/// Takes the next message that is left.
-pub fn take_left(gathered: &mut Gathered) -> Option<Item>
-    ensures { IfSome result (λ item. gathered.old.left ≡ item ∷ gathered.new.left) }
-{
-    gathered.take()
-}
-
-/// Takes the next message that is left, and asserts what it is, if there is one.
-pub fn assert_left<R: Abort>(rt: &R, gathered: &mut Gathered, wanted: Option<[u8; 3]>) {
-    let taken = take_left(gathered);
-    assert_same(rt, shown(&taken), wanted);
-}
-
-/// Asserts whether all messages were taken.
-pub fn assert_drained<R: Abort>(rt: &R, gathered: &Gathered, wanted: bool) {
-    assert_same(rt, gathered.is_drained(), wanted);
-}
-
-/// A queue of one sender.
+/// The ends of a queue of one sender.
 pub fn open_one<R: Abort>(rt: &R, alloc: Global, capacity: usize, calls: u64) -> (Receiver, Sender)
-    requires some { 1 ≤ capacity }
-    requires capacity { capacity ≤ 256 }
-    requires some_calls { 1 ≤ calls }
-    requires calls { calls ≤ 2 ^ 40 }
-    ensures { result.1.queue ≡ result.0.queue }
+    requires capacity { (1 ≤ capacity) × (capacity ≤ 256) }
+    requires calls { (1 ≤ calls) × (calls ≤ 2 ^ 40) }
 {
-    let (receiver, mut senders) = make(alloc, capacity, 1, calls).expect(rt, "memory");
+    let Ends {
+        receiver,
+        mut senders,
+    } = open(rt, alloc, capacity, 1, calls);
     let sender = senders.pop().expect(rt, "a sender");
     (receiver, sender)
 }
 
-/// A queue for eight messages of two senders.
-pub fn open_two<R: Abort>(rt: &R, alloc: Global) -> (Receiver, Sender, Sender)
-    ensures first { result.1.queue ≡ result.0.queue }
-    ensures second { result.2.queue ≡ result.0.queue }
-{
-    let (receiver, mut senders) = make(alloc, 8, 2, 10).expect(rt, "memory");
-    let second = senders.pop().expect(rt, "a sender");
-    let first = senders.pop().expect(rt, "a sender");
-    (receiver, first, second)
+impl Ends {
+    fn act<R: Abort>(&mut self, rt: &R, alloc: Global, step: Step) {
+        match step {
+            Step::Sends(place, bytes, wanted) => {
+                assert!(rt; place < self.senders.len());
+                let why = send_bytes(rt, alloc, &mut self.senders[place], bytes);
+                assert_same(rt, why, wanted);
+            }
+            Step::Accepted(place, accepted) => {
+                assert!(rt; place < self.senders.len());
+                let sender = &self.senders[place];
+                assert_same(rt, (sender.index(), sender.accepted()), (place, accepted));
+            }
+            _ => receive(rt, &mut self.receiver, step),
+        }
+    }
+
+    /// Takes the steps.
+    pub fn play<R: Abort>(&mut self, rt: &R, alloc: Global, steps: &[Step]) {
+        for step in steps {
+            self.act(rt, alloc, *step);
+        }
+    }
+
+    /// Gathers without the first sender, which is refused and returns all ends, and then with it as the last.
+    pub fn gather<R: Abort>(self, rt: &R) -> Gathered {
+        let Ends {
+            receiver,
+            mut senders,
+        } = self;
+        assert!(rt; !senders.is_empty());
+        let first = senders.remove(0);
+        match receiver.gather(senders) {
+            Ok(_) => panic!(rt; "a sender is missing"),
+            Err((receiver, others)) => {
+                let mut senders = others;
+                assert_indexes(rt, &senders);
+                senders.push(first).expect(rt, "memory");
+                receiver.gather(senders).ok().expect(rt, "each sender")
+            }
+        }
+    }
 }
 
-/// The sender alone in a list.
-pub fn one<R: Abort>(rt: &R, alloc: Global, sender: Sender) -> Vec<Sender>
-    ensures is { result.items ≡ sender ∷ [] }
-    ensures queue { AreOf sender.queue result.items }
-{
-    let mut senders = Vec::new(alloc);
-    senders.push(sender).expect(rt, "memory");
-    senders
+// Asserts the indexes of all senders of a queue but the first.
+fn assert_indexes<R: Abort>(rt: &R, senders: &[Sender]) {
+    for (index, sender) in (1usize..).zip(senders) {
+        assert_same(rt, sender.index(), index);
+    }
 }
 
-/// The senders in a list, in this order.
-pub fn two<R: Abort>(rt: &R, alloc: Global, first: Sender, second: Sender) -> Vec<Sender>
-    requires { second.queue ≡ first.queue }
-    ensures { AreOf first.queue result.items }
-{
-    let mut senders = one(rt, alloc, first);
-    senders.push(second).expect(rt, "memory");
-    senders
+/// Takes what is left, and asserts that it is these messages.
+pub fn assert_left<R: Abort>(rt: &R, gathered: Gathered, wanted: &[[u8; 3]]) {
+    let mut left = gathered;
+    for message in wanted {
+        assert_same(rt, left.is_drained(), false);
+        assert_same(rt, shown(&left.take()), Some(*message));
+    }
+    assert_same(rt, left.is_drained(), true);
+    assert_same(rt, shown(&left.take()), None);
+    assert_same(rt, shown(&left.take()), None);
 }
 
-/// Gathers the senders, each of which is there.
-pub fn gather<R: Abort>(rt: &R, receiver: Receiver, senders: Vec<Sender>) -> Gathered
-    requires { AreOf receiver.queue senders.items }
+/// Opens a queue of one sender, and takes the steps.
+pub fn play_one<R: Abort>(
+    rt: &R,
+    alloc: Global,
+    capacity: usize,
+    calls: u64,
+    steps: &[Step],
+) -> Ends
+    requires capacity { (1 ≤ capacity) × (capacity ≤ 256) }
+    requires calls { (1 ≤ calls) × (calls ≤ 2 ^ 40) }
 {
-    receiver.gather(senders).ok().expect(rt, "each sender")
-}
-
-/// Gathers the sender of a queue that has no other.
-pub fn gather_one<R: Abort>(rt: &R, alloc: Global, receiver: Receiver, sender: Sender) -> Gathered
-    requires { sender.queue ≡ receiver.queue }
-{
-    gather(rt, receiver, one(rt, alloc, sender))
+    let mut ends = open(rt, alloc, capacity, 1, calls);
+    ends.play(rt, alloc, steps);
+    ends
 }

@@ -1,6 +1,8 @@
-use Rattle.std.proofs.Common.{◌≡◌, List, Option, Some, IfSome, get_or, map, sym, ap, ◌∙◌, subst, arith}
-use Rattle.std.proofs.Math.ListN as base
-use Rattle.std.proofs.lemmas.List.{get_or-map}
+use Rattle.std.proofs.Common.{rules, ◌≡◌, List, Option, IfSome, [], ◌∷◌, ◌++◌, All, ap, sym, subst, ◌∙◌}
+use Rattle.std.specs.Prelude.{is_ok, if◌then◌else◌}
+use Rattle.std.proofs.lemmas.Iterator.Adapters.{YieldsList-from_vec}
+use Rattle.std.proofs.lemmas.Iterator.Consumers.{YieldsList-turn}
+use Rattle.std.proofs.lemmas.List.Elements.{All-push}
 use Rattle.std.specs.declared.thread.PromisedHandle.{PromisedHandle}
 use Rattle.subvl_queue.specs.Views.{SenderView}
 use Rattle.parts_tests.specs.declared.queue_threads.ComesBack.{ComesBack}
@@ -9,15 +11,17 @@ use Rattle.parts_tests.proofs.queue_threads.join_all.Goals as goal
 abbrev Worker : Type 0
 Worker = PromisedHandle (Option SenderView) ComesBack
 
-pub returns-clause-queues : goal.returns-clause-queues
-returns-clause-queues g c = λ k d e lt.
-    let workers : List Worker = c.args.workers.items in
-    let senders : List SenderView = c.all_back-senders.result.items in
-    let value : Worker → SenderView = λ h. h.promise.of.value in
-    let kept_at = (c.in_ok-ended.ensures.each k (Some e) (omega (arith, lt, c.args.workers.ok))).1 in
-    let h : Worker = kept_at.handle in
-    let got : get_or c.in_ok-ended.ended.items k (Some e) ≡ Some (get_or senders k e) =
-    ap (λ (l : List (Option SenderView)). get_or l k (Some e)) (sym c.all_back-senders.ensures) ∙ base.get_or-map Some senders k e in
-    let kept : (get_or senders k e).queue ≡ (value h).queue = subst (λ (o : Option SenderView). IfSome o (λ s. s.queue ≡ (value h).queue)) got kept_at.kept in
-    let one : get_or (map value workers) k d ≡ value h = get_or-map value workers k h d lt ∙ ap value (sym kept_at.handle_is) in
-    kept ∙ ap (λ (s : SenderView). s.queue) (sym one)
+pub loop-worker-preserved : goal.loop-worker-preserved
+loop-worker-preserved g c =
+    let worker : Worker = c.in-Some.worker in
+    let sender = c.expect-sender.result in
+    let old : List SenderView = c.loop-worker.senders.items in
+    let P : SenderView → Type 0 = λ s. s.queue ≡ c.args.receiver.now.queue in
+    let turn = YieldsList-turn (YieldsList-from_vec {s = c.into_iter-worker-iterator.result} c.args.workers.items (search rules) (search rules))
+    c.loop-worker.yielded c.loop-worker.worker-iterator c.loop-worker.yielded_by c.next.result c.next.new.self worker c.in-Some.is
+    c.next.ensures.steps in
+    let kept : sender.queue ≡ worker.promise.of.value.queue =
+    subst (λ (o : Option SenderView). IfSome o (λ s. s.queue ≡ worker.promise.of.value.queue)) c.expect-sender.ensures c.join.ensures in
+    let is : P sender = kept ∙ ap (λ (w : Worker). w.promise.of.value.queue) turn.1 ∙ c.requires _ worker turn.0 in
+    subst (All P) (sym (c.push.ensures.items ∙ ap (λ r. if is_ok r then old ++ sender ∷ [] else old) c.expect.ensures))
+    (All-push P old sender c.loop-worker.invariant is)
