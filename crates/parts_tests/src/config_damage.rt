@@ -30,7 +30,7 @@ fn assert_in_ranges(rt: &impl Abort, plan: &Config) {
     assert!(rt; is_port(port, link), "{port:?}");
 }
 
-/// The number of the fault of a text, or 0 where it is a plan, which is then asserted to be one.
+/// The number of the fault of a text, or 0 if it is a plan. Asserts that its values are in their ranges then.
 fn fault_of_checked(rt: &impl Abort, alloc: Global, text: &[u8]) -> u8 {
     match read_config(alloc, text) {
         Ok(plan) => {
@@ -76,7 +76,7 @@ fn each_byte_replaced_gives_a_plan_or_the_fault_of_another_reader(rt: HostRuntim
 // The greatest message of each prefix that is a plan, by how many bytes it lacks.
 const CUTS: [(usize, usize); 5] = [(4, 8), (3, 81), (2, 819), (1, 8192), (0, 8192)];
 
-/// The text of the demonstration without so many bytes at its end.
+/// The text of the demonstration without its last `lacking` bytes.
 fn cut_by(lacking: usize) -> &'static [u8] {
     let text = TEXT.as_bytes();
     &text[..text.len().saturating_sub(lacking)]

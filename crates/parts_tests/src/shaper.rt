@@ -5,7 +5,7 @@ use crate::testing::*;
 use afdx_plan::Bag;
 use vl_shaper::Shaper;
 
-// Asserts that a link is due, where what follows rests on it.
+// Asserts that a link is due, which `stamp` requires.
 fn assert_due(rt: &impl Abort, is_due: bool)
     ensures { is_due ≡ true }
 {
@@ -35,7 +35,7 @@ fn a_link_that_is_served_late_does_not_catch_up(rt: HostRuntime) {
 }
 
 #[test]
-fn a_link_that_released_at_the_last_moment_is_not_due_again(rt: HostRuntime) {
+fn a_link_that_released_at_the_last_time_is_not_due_again(rt: HostRuntime) {
     let mut shaper = Shaper::new(Bag::Ms1, 1);
     assert_due(&rt, shaper.due(u64::MAX));
     shaper.stamp(u64::MAX, 0);
@@ -53,7 +53,7 @@ fn the_numbers_are_0_then_1_to_255_then_1_again(rt: HostRuntime) {
 }
 
 #[test]
-fn sub_vls_are_asked_in_cyclic_order_behind_the_one_served_last(rt: HostRuntime) {
+fn sub_vls_take_turns_in_cyclic_order_after_the_one_served_last(rt: HostRuntime) {
     let mut shaper = Shaper::new(Bag::Ms1, 4);
     assert_same(&rt, shaper.sub_vls(), 4);
     for place in 0..4 {
