@@ -1,8 +1,5 @@
 -- How the rule is kept when one cell and one seat change.
-use Rattle.subvl_queue.proofs.Names.{◌≡◌, ◌≢◌, ℕ, zero, suc, ◌+◌, ◌*◌, ◌^◌, ◌%◌, ◌<◌, ◌≤◌, ◌⊎◌, inl, inr, Bool, List, [], ◌∷◌, length, get_or, set, sym, refl, ap, ◌∙◌, subst, ⊎_elim, arith, mod-lt}
-use Rattle.subvl_queue.proofs.Names.{length-set, get_or-set_other, some, Option, Some, None, add-mod_right, ℕ_discrete, get_elem?, State, at_set, set_else, set_here, View, Role, Spent, Stage, Drew}
-use Rattle.subvl_queue.proofs.Names.{Holding, owned, total, in_hand, in_room, waiting, asks_of, budget, shut_bit, Gone, Totals, Joined, Whole, Collects, Busy, Phase, free, writing, full, reading}
-use Rattle.subvl_queue.proofs.Names.{Cell, holder, InPhase, CellOk, Has, Knows, Fits, Queue}
+use Rattle.subvl_queue.proofs.Names.{◌≡◌, ◌≢◌, ℕ, zero, suc, ◌+◌, ◌*◌, ◌^◌, ◌%◌, ◌<◌, ◌≤◌, ◌⊎◌, inl, inr, Bool, List, [], ◌∷◌, length, get_or, set, sym, refl, ap, ◌∙◌, subst, ⊎_elim, arith, mod-lt, length-set, get_or-set_other, some, Option, Some, None, add-mod_right, ℕ_discrete, get_elem?, State, at_set, set_else, set_here, View, Role, Spent, Stage, Drew, Holding, owned, total, in_hand, in_room, waiting, asks_of, budget, shut_bit, Gone, Totals, Joined, Whole, Collects, Busy, Phase, free, writing, full, reading, Cell, holder, InPhase, CellOk, Has, Knows, Fits, Queue}
 use mathlib.Core.Path.{Path}
 use mathlib.Core.Option as maybe
 

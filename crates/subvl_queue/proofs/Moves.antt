@@ -1,11 +1,5 @@
 -- Each step keeps the rule.
-use Rattle.subvl_queue.proofs.Names.{◌≡◌, ◌≢◌, ℕ, zero, suc, ◌+◌, ◌-◌, ◌*◌, ◌^◌, ◌%◌, ◌<◌, ◌≤◌, ◌⊎◌, inl, inr, Bool, true, false, List, [], ◌∷◌, ◌++◌, length, take, get_or, set, sym, refl, ap, ◌∙◌}
-use Rattle.subvl_queue.proofs.Names.{subst, ⊎_elim, arith, mod-lt, suc-ne-zero, length-set, length-append, get_or-set_other, get_or-set_same, zero-add, lt_of_not-le, cases_Bool, none, some}
-use Rattle.subvl_queue.proofs.Names.{add-mod_right, ℕ_discrete, dec_le, get_elem?, Option, Some, None, IfSome, bit_or, take-append-le, step, Act, keeps, takes, gives, Valid, carried_after, stepped}
-use Rattle.subvl_queue.proofs.Names.{Allows, set_here, set_else, at_last, at_longer, one_turn, View, Role, Sender, Receiver, Spent, Stage, Idle, Asked, Refused, Drew, Late, Holding, owned, total}
-use Rattle.subvl_queue.proofs.Names.{hand_of, found_of, wait_of, budget_of, shut_bit, in_hand, in_room, waiting, asks_of, budget, Totals, Gone, Whole, Collects, Busy, Phase, free, writing, full}
-use Rattle.subvl_queue.proofs.Names.{reading, Cell, holder, shown, InPhase, CellOk, Knows, Fits, Queue, Seated, with_ask, idle, drawn, with_look, holding, freed_of, lated, with_glance, with_total}
-use Rattle.subvl_queue.proofs.Names.{with_all, asks, gives_back, draws, readies, looks, frees, glances_at, closes, gathers}
+use Rattle.subvl_queue.proofs.Names.{◌≡◌, ◌≢◌, ℕ, zero, suc, ◌+◌, ◌-◌, ◌*◌, ◌^◌, ◌%◌, ◌<◌, ◌≤◌, ◌⊎◌, inl, inr, Bool, true, false, List, [], ◌∷◌, ◌++◌, length, take, get_or, set, sym, refl, ap, ◌∙◌, subst, ⊎_elim, arith, mod-lt, suc-ne-zero, length-set, length-append, get_or-set_other, get_or-set_same, zero-add, lt_of_not-le, cases_Bool, none, some, add-mod_right, ℕ_discrete, dec_le, get_elem?, Option, Some, None, IfSome, bit_or, take-append-le, step, Act, keeps, takes, gives, Valid, carried_after, stepped, Allows, set_here, set_else, at_last, at_longer, one_turn, View, Role, Sender, Receiver, Spent, Stage, Idle, Asked, Refused, Drew, Late, Holding, owned, total, hand_of, found_of, wait_of, budget_of, shut_bit, in_hand, in_room, waiting, asks_of, budget, Totals, Gone, Whole, Collects, Busy, Phase, free, writing, full, reading, Cell, holder, shown, InPhase, CellOk, Knows, Fits, Queue, Seated, with_ask, idle, drawn, with_look, holding, freed_of, lated, with_glance, with_total, with_all, asks, gives_back, draws, readies, looks, frees, glances_at, closes, gathers}
 use mathlib.Core.Logic.{dite}
 use mathlib.Core.Option as maybe
 use lib.Seq.{set-get_or}

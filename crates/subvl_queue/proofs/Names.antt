@@ -1,21 +1,24 @@
 -- Names of other crates, and of this crate's definitions, for the proofs here.
 pub use Rattle.atomic_table.proofs.Lists.{at_last, at_longer, at_set, at_snoc, drop_at, one_turn, set_else, set_here}
 pub use Rattle.atomic_table.specs.Table.{Act, Allows, Joins, Splits, State, Valid, carried_after, gives, keeps, opening, rest, step, stepped, takes}
-pub use Rattle.std.proofs.Common.{Bool, List, None, Some, [], ap, append-nil, append_assoc, arith, below_more, cond, drop, eq-eqb, eqb, false, get_or, get_or-set_other, get_or-set_same, if◌then◌else◌}
-pub use Rattle.std.proofs.Common.{inl, inr, length, length-append, length-set, lt_of_not-le, map, mod-eq_of_lt, mod-lt, ne_eqb, refl, replicate, rules, set, subst, suc, suc-ne-zero, sym, take, true}
-pub use Rattle.std.proofs.Common.{vec_capacity, vec_len, zero, zero-add, ℕ, ⊎_elim, ◌%◌, ◌*◌, ◌++◌, ◌+◌, ◌-◌, ◌<◌, ◌==◌, ◌^◌, ◌∙◌, ◌∷◌, ◌≡◌, ◌≢◌, ◌≤◌, ◌⊎◌}
+pub use Rattle.std.proofs.Common.{Bool, List, None, Some, [], ap, append-nil, append_assoc, arith, below_more, cond, drop, eq-eqb, eqb, false, get_or}
+pub use Rattle.std.proofs.Common.{get_or-set_other, get_or-set_same, if◌then◌else◌, inl, inr, length, length-append, length-set, lt_of_not-le, map}
+pub use Rattle.std.proofs.Common.{mod-eq_of_lt, mod-lt, ne_eqb, refl, replicate, rules, set, subst, suc, suc-ne-zero, sym, take, true, vec_capacity, vec_len}
+pub use Rattle.std.proofs.Common.{zero, zero-add, ℕ, ⊎_elim, ◌%◌, ◌*◌, ◌++◌, ◌+◌, ◌-◌, ◌<◌, ◌==◌, ◌^◌, ◌∙◌, ◌∷◌, ◌≡◌, ◌≢◌, ◌≤◌, ◌⊎◌}
 pub use Rattle.std.proofs.lemmas.Bool.{cases_Bool, eqb-false, eqb-true, ltb-false, ltb-true}
 pub use Rattle.std.proofs.lemmas.List.{get_or_append_left, get_or_push, map-append, map-id, take-append-drop, take-append-le}
 pub use Rattle.std.proofs.lemmas.List.Elements.{All-cons, All-nil, Contains-append_right}
 pub use Rattle.std.specs.Prelude.{Contains, IfSome, Option, bit_or}
 pub use Rattle.subvl_queue.specs.Gathers.{IsGathered, brought_back, brought_of, items_of, own_of, places_of, whole}
 pub use Rattle.subvl_queue.specs.Messages.{AreItems, IsItem, part_of}
-pub use Rattle.subvl_queue.specs.Queue.{Busy, Cell, CellOk, Collects, Fits, Gone, Has, InPhase, Joined, Knows, Phase, Queue, Totals, Whole, asks_of, budget, budget_of, found_of, free, full, hand_of}
-pub use Rattle.subvl_queue.specs.Queue.{holder, in_hand, in_room, owned, reading, shown, shut_bit, total, wait_of, waiting, writing}
-pub use Rattle.subvl_queue.specs.Steps.{Finds, IsLog, IsNext, Misses, Seated, asks, closes, drawn, draws, first_view, freed_of, frees, gathers, gives_back, glances_at, holding, idle, lated, looks}
-pub use Rattle.subvl_queue.specs.Steps.{new_seat, one_made, readies, spent_view, with_all, with_ask, with_glance, with_joined, with_look, with_total}
-pub use Rattle.subvl_queue.specs.Views.{AreBack, Brought, HasEvery, HasPort, IsBack, IsWhole, LacksOne, ReceiverView, SenderView, StandAt, TellsLeft, accepted_of, brought_by, brought_by_all}
-pub use Rattle.subvl_queue.specs.Views.{new_receiver, new_sender, one_more, taken_back}
+pub use Rattle.subvl_queue.specs.Queue.{Busy, Cell, CellOk, Collects, Fits, Gone, Has, InPhase, Joined, Knows, Phase, Queue, Totals, Whole, asks_of, budget}
+pub use Rattle.subvl_queue.specs.Queue.{budget_of, found_of, free, full, hand_of, holder, in_hand, in_room, owned, reading, shown, shut_bit, total, wait_of}
+pub use Rattle.subvl_queue.specs.Queue.{waiting, writing}
+pub use Rattle.subvl_queue.specs.Steps.{Finds, IsLog, IsNext, Misses, Seated, asks, closes, drawn, draws, first_view, freed_of, frees, gathers, gives_back}
+pub use Rattle.subvl_queue.specs.Steps.{glances_at, holding, idle, lated, looks, new_seat, one_made, readies, spent_view, with_all, with_ask, with_glance}
+pub use Rattle.subvl_queue.specs.Steps.{with_joined, with_look, with_total}
+pub use Rattle.subvl_queue.specs.Views.{AreBack, Brought, HasEvery, HasPort, IsBack, IsWhole, LacksOne, ReceiverView, SenderView, StandAt, TellsLeft}
+pub use Rattle.subvl_queue.specs.Views.{accepted_of, brought_by, brought_by_all, new_receiver, new_sender, one_more, taken_back}
 pub use Rattle.subvl_queue.specs.declared.item.Message.{Message}
 pub use Rattle.subvl_queue.specs.declared.rule.Role.{Role}
 pub use Rattle.subvl_queue.specs.declared.rule.Role.TheVariants.{Receiver, Sender, Spent}

@@ -1,7 +1,5 @@
 -- The messages of one port in a list, and their places.
-use Rattle.subvl_queue.proofs.Names.{◌≡◌, ◌≢◌, ℕ, zero, suc, ◌+◌, ◌-◌, ◌==◌, ◌<◌, ◌≤◌, if◌then◌else◌, List, [], ◌∷◌, ◌++◌, length, map, take, drop, get_or, Bool, true, false, eqb, cond, sym, refl, ap}
-use Rattle.subvl_queue.proofs.Names.{◌∙◌, subst, arith, eq-eqb, ne_eqb, lt_of_not-le, some, some-injective, some-ne-none, ℕ_discrete, get_elem?, eqb-true, All-cons, All-nil, Message, items_of, own_of}
-use Rattle.subvl_queue.proofs.Names.{places_of, IsItem, AreItems, part_of, owned, StandAt, TellsLeft}
+use Rattle.subvl_queue.proofs.Names.{◌≡◌, ◌≢◌, ℕ, zero, suc, ◌+◌, ◌-◌, ◌==◌, ◌<◌, ◌≤◌, if◌then◌else◌, List, [], ◌∷◌, ◌++◌, length, map, take, drop, get_or, Bool, true, false, eqb, cond, sym, refl, ap, ◌∙◌, subst, arith, eq-eqb, ne_eqb, lt_of_not-le, some, some-injective, some-ne-none, ℕ_discrete, get_elem?, eqb-true, All-cons, All-nil, Message, items_of, own_of, places_of, IsItem, AreItems, part_of, owned, StandAt, TellsLeft}
 
 cond_append : {A : Type 0} (b : Bool) (x : A) (l r : List A) → cond b (x ∷ (l ++ r)) (l ++ r) ≡ cond b (x ∷ l) l ++ r
 cond_append true x l r = refl

@@ -1,7 +1,5 @@
 -- The senders in a list, and what the receiver has of them.
-use Rattle.subvl_queue.proofs.Names.{◌≡◌, ℕ, zero, suc, ◌+◌, ◌<◌, ◌≤◌, List, [], ◌∷◌, ◌++◌, length, take, drop, get_or, sym, refl, ap, ◌∙◌, subst, arith, length-append, take-append-drop, map-append}
-use Rattle.subvl_queue.proofs.Names.{Contains-append_right, map, Contains, Option, Some, IfSome, drop_at, some, get_elem?, Message, View, items_of, own_of, places_of, IsGathered, whole, brought_of}
-use Rattle.subvl_queue.proofs.Names.{brought_back, owned, IsLog, with_all, holding, freed_of, SenderView, Brought, HasPort, HasEvery, IsBack, AreBack, IsWhole, brought_by, brought_by_all}
+use Rattle.subvl_queue.proofs.Names.{◌≡◌, ℕ, zero, suc, ◌+◌, ◌<◌, ◌≤◌, List, [], ◌∷◌, ◌++◌, length, take, drop, get_or, sym, refl, ap, ◌∙◌, subst, arith, length-append, take-append-drop, map-append, Contains-append_right, map, Contains, Option, Some, IfSome, drop_at, some, get_elem?, Message, View, items_of, own_of, places_of, IsGathered, whole, brought_of, brought_back, owned, IsLog, with_all, holding, freed_of, SenderView, Brought, HasPort, HasEvery, IsBack, AreBack, IsWhole, brought_by, brought_by_all}
 use Rattle.subvl_queue.proofs.Parts.{part_is, places_are, take_next, stand_at}
 
 -- If none was found, no sender of the port is in the list.

@@ -1,6 +1,5 @@
 -- Sums over the views, and arithmetic of the words.
-use Rattle.subvl_queue.proofs.Names.{◌≡◌, ℕ, zero, suc, ◌+◌, ◌-◌, ◌^◌, ◌%◌, ◌<◌, ◌≤◌, List, [], ◌∷◌, ◌++◌, length, set, sym, refl, ap, ◌∙◌, subst, arith, mod-eq_of_lt, some, some-injective}
-use Rattle.subvl_queue.proofs.Names.{some-ne-none, add-mod_right, get_elem?, View, Stage, Idle, Role, Spent, total, hand_of, found_of, wait_of, budget_of, in_hand, in_room, waiting, asks_of, budget}
+use Rattle.subvl_queue.proofs.Names.{◌≡◌, ℕ, zero, suc, ◌+◌, ◌-◌, ◌^◌, ◌%◌, ◌<◌, ◌≤◌, List, [], ◌∷◌, ◌++◌, length, set, sym, refl, ap, ◌∙◌, subst, arith, mod-eq_of_lt, some, some-injective, some-ne-none, add-mod_right, get_elem?, View, Stage, Idle, Role, Spent, total, hand_of, found_of, wait_of, budget_of, in_hand, in_room, waiting, asks_of, budget}
 
 -- The total after one member changed.
 pub total_set : {A : Type 0} (f : A → ℕ) (l : List A) (j : ℕ) (v w : A) → get_elem? l j ≡ some v → total f (set l j w) + f v ≡ total f l + f w
