@@ -1,6 +1,5 @@
 -- Sub-VLs polled in the order of turns.
-use Rattle.vl_link.proofs.Names.{ℕ, zero, suc, ◌≡◌, ◌≢◌, ◌⊎◌, ◌+◌, ◌<◌, ◌≤◌, List, Bool, true, false, length, set, get_or, below_more, arith, ◌∙◌, sym, subst, inl, inr, ⊎_elim, length-set}
-use Rattle.vl_link.proofs.Names.{get_or-set_same, get_or-set_other, get_or_default, cases_eq, Pace, turn_of, Held, held_at, nothing_held, Asks, Passes, PassedOver}
+use Rattle.vl_link.proofs.Names.{ℕ, zero, suc, ◌≡◌, ◌≢◌, ◌⊎◌, ◌+◌, ◌<◌, ◌≤◌, List, Bool, true, false, length, set, get_or, below_more, arith, ◌∙◌, sym, subst, inl, inr, ⊎_elim, length-set, get_or-set_same, get_or-set_other, get_or_default, cases_eq, Pace, turn_of, Held, held_at, nothing_held, Asks, Passes, PassedOver}
 use Rattle.std.proofs.lemmas.Grind.{get_or-set_at}
 
 -- The sub-VL that was set.

@@ -1,6 +1,5 @@
 -- Facts about lists and fragments.
-use Rattle.vl_link.proofs.Names.{ℕ, ◌≡◌, ◌≢◌, ◌+◌, ◌<◌, List, [], ◌∷◌, length, map, arith, refl, ap, Bool, true, false, not, Some, room_of, A, Cutting, cutting, pieces_from, pieces_left, Sent}
-use Rattle.vl_link.proofs.Names.{cutting_some, SubVl, TellsCutting, left_of, message_fragments, fragments_at, unnumbered}
+use Rattle.vl_link.proofs.Names.{ℕ, ◌≡◌, ◌≢◌, ◌+◌, ◌<◌, List, [], ◌∷◌, length, map, arith, refl, ap, Bool, true, false, not, Some, room_of, A, Cutting, cutting, pieces_from, pieces_left, Sent, cutting_some, SubVl, TellsCutting, left_of, message_fragments, fragments_at, unnumbered}
 
 -- Only an empty list has an empty image.
 map_nil : {X Y : Type 0} (f : X → Y) (xs : List X) → map f xs ≡ [] → xs ≡ []

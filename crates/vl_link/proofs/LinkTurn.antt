@@ -1,9 +1,5 @@
 -- One turn of a link, and its stream.
-use Rattle.vl_link.proofs.Names.{ℕ, ◌≡◌, ◌≢◌, ◌<◌, List, length, false, arith, ap, ◌∙◌, sym, subst, inl, inr, ⊎_elim, Option, None, cases_eq, and_parts, both_ways, room_of, sequence_number, A, sub_in}
-use Rattle.vl_link.proofs.Names.{fragments, Entry, entry, Lines, log, log_same, Stamp, Pace, IsLater, Served, Nothing, Released, Lost, SubVl, counts_in, link_stream, sub_stream, told, entry_number}
-use Rattle.vl_link.proofs.Names.{IsNumbered, IsSpaced, IsApart, IsPrefixOf, TurnView, Releases, Loses, is_lost, Held, LinkState, held_at, GivesFrame, held_view, Serves, Follows, HasOwnItems}
-use Rattle.vl_link.proofs.Names.{IsSameLink, IsLinkOfPlan, sub_fragments, taken_by, IsKept, IsTied, IsLinkTied, none_begun, ShowsChoices, spaced_push, numbered_push, due_apart, with_push_in}
-use Rattle.vl_link.proofs.Names.{with_push_out}
+use Rattle.vl_link.proofs.Names.{ℕ, ◌≡◌, ◌≢◌, ◌<◌, List, length, false, arith, ap, ◌∙◌, sym, subst, inl, inr, ⊎_elim, Option, None, cases_eq, and_parts, both_ways, room_of, sequence_number, A, sub_in, fragments, Entry, entry, Lines, log, log_same, Stamp, Pace, IsLater, Served, Nothing, Released, Lost, SubVl, counts_in, link_stream, sub_stream, told, entry_number, IsNumbered, IsSpaced, IsApart, IsPrefixOf, TurnView, Releases, Loses, is_lost, Held, LinkState, held_at, GivesFrame, held_view, Serves, Follows, HasOwnItems, IsSameLink, IsLinkOfPlan, sub_fragments, taken_by, IsKept, IsTied, IsLinkTied, none_begun, ShowsChoices, spaced_push, numbered_push, due_apart, with_push_in, with_push_out}
 use Rattle.vl_link.proofs.ShownTurns.{shows_push, choice_shown}
 use Rattle.vl_link.proofs.TurnLaws.{choice_below, choice_other}
 use Rattle.vl_link.proofs.SubInStep.{tied_moves, tied_gave, prefix_of, shown, gave_shown}

@@ -19,18 +19,19 @@ pub use Rattle.afdx_plan.specs.declared.port_plan.PortPlan.{PortPlan}
 pub use Rattle.redundant_mux.proofs.MirroredLines.{log_more, log_same}
 pub use Rattle.redundant_mux.specs.Entry.{Entry, entry}
 pub use Rattle.redundant_mux.specs.Lines.{BothEndure, Lines, log, stands_for}
-pub use Rattle.std.proofs.Common.{Bool, List, None, Option, Some, [], ap, arith, below_more, cond, eqb, false, filter, get_or, inl, inr, length, map, nat_le, not, refl, rules, set, subst, suc, sym}
-pub use Rattle.std.proofs.Common.{true, zero, ℕ, ⊎_elim, ◌%◌, ◌&&◌, ◌++◌, ◌+◌, ◌-◌, ◌<◌, ◌∙◌, ◌∷◌, ◌≡◌, ◌≢◌, ◌≤◌, ◌⊎◌}
+pub use Rattle.std.proofs.Common.{Bool, List, None, Option, Some, [], ap, arith, below_more, cond, eqb, false, filter, get_or, inl, inr, length, map, nat_le}
+pub use Rattle.std.proofs.Common.{not, refl, rules, set, subst, suc, sym, true, zero, ℕ, ⊎_elim, ◌%◌, ◌&&◌, ◌++◌, ◌+◌, ◌-◌, ◌<◌, ◌∙◌, ◌∷◌, ◌≡◌, ◌≢◌, ◌≤◌, ◌⊎◌}
 pub use Rattle.std.proofs.lemmas.Bool.{and_parts, and_right, both_ways, cases_Bool, cases_eq, cases_lt, eq-eqb, lt-leb, ne_eqb}
-pub use Rattle.std.proofs.lemmas.List.{append-nil, append_assoc, get_or-set_other, get_or-set_same, get_or-take, get_or_append_left, get_or_default, get_or_read, length-append, length-map, length-set}
-pub use Rattle.std.proofs.lemmas.List.{length-take, length_push, map-append, with_items_is}
+pub use Rattle.std.proofs.lemmas.List.{append-nil, append_assoc, get_or-set_other, get_or-set_same, get_or-take, get_or_append_left, get_or_default}
+pub use Rattle.std.proofs.lemmas.List.{get_or_read, length-append, length-map, length-set, length-take, length_push, map-append, with_items_is}
 pub use Rattle.std.proofs.lemmas.List.Elements.{All-head, All-map, All-push, All-tail, All-weaker, filter-append}
 pub use Rattle.std.proofs.lemmas.List.Sums.{sum_by-append, sum_by-cons}
 pub use Rattle.std.specs.Prelude.{All, count_by}
 pub use Rattle.vl_link.specs.Kept.{IsKept, IsLinkTied, IsTied}
 pub use Rattle.vl_link.specs.LinkGathering.{AreFullSubs, BecomesWhole, GathersSub, IsFullSub}
-pub use Rattle.vl_link.specs.Links.{AreSameSubs, AreSubsOf, Asks, Follows, Gives, GivesFrame, GoesOn, HasOwnItems, Held, IsLinkOfPlan, IsPicked, IsSameLink, IsSameSub, LinkState, PassedOver, Passes}
-pub use Rattle.vl_link.specs.Links.{Serves, Starts, TellsCutting, held_at, held_view, left_of, message_fragments, nothing_held, pace_of, sent_of, sub_fragments, taken_by}
+pub use Rattle.vl_link.specs.Links.{AreSameSubs, AreSubsOf, Asks, Follows, Gives, GivesFrame, GoesOn, HasOwnItems, Held, IsLinkOfPlan, IsPicked, IsSameLink}
+pub use Rattle.vl_link.specs.Links.{IsSameSub, LinkState, PassedOver, Passes, Serves, Starts, TellsCutting, held_at, held_view, left_of, message_fragments}
+pub use Rattle.vl_link.specs.Links.{nothing_held, pace_of, sent_of, sub_fragments, taken_by}
 pub use Rattle.vl_link.specs.Seen.{Finds, FindsNothing, IsReceiving, IsSameQueue, Seen, gathered, known_of, ports_of, queue_of, receiving, taken_of, total_of}
 pub use Rattle.vl_link.specs.Shown.{ShowsChoices, begun_after, begun_by, none_begun, shown_choice}
 pub use Rattle.vl_link.specs.Subs.{IsCutOf, IsPortOf, IsSub, seen_of}

@@ -1,6 +1,5 @@
 -- The regulation of a link after a frame.
-use Rattle.vl_link.proofs.Names.{ℕ, ◌≡◌, ◌≢◌, ◌+◌, List, [], ◌∷◌, ◌++◌, length, ap, ◌∙◌, sym, Some, None, length_push, sequence_number, link_in, sub_in, IsFrameOf, Entry, entry, Lines, log, log_more}
-use Rattle.vl_link.proofs.Names.{Pace, latest, link_stream, A, pace_of, latest_push, with_push_in, with_push_out}
+use Rattle.vl_link.proofs.Names.{ℕ, ◌≡◌, ◌≢◌, ◌+◌, List, [], ◌∷◌, ◌++◌, length, ap, ◌∙◌, sym, Some, None, length_push, sequence_number, link_in, sub_in, IsFrameOf, Entry, entry, Lines, log, log_more, Pace, latest, link_stream, A, pace_of, latest_push, with_push_in, with_push_out}
 use Rattle.afdx_plan.specs.declared.networks.Networks.{Networks}
 use Rattle.redundant_mux.specs.Logged.{logged_for}
 

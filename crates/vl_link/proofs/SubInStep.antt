@@ -1,8 +1,5 @@
 -- A sub-VL that was polled, chosen or gave a frame, and its stream.
-use Rattle.vl_link.proofs.Names.{ℕ, ◌≡◌, ◌≢◌, List, [], ◌∷◌, ◌++◌, true, length, arith, refl, ap, ◌∙◌, sym, subst, inl, inr, ⊎_elim, cases_eq, append-nil, append_assoc, map-append, length-map}
-use Rattle.vl_link.proofs.Names.{room_of, A, Sent, blanked, Entry, entry, Pace, SubVl, taken_of, told, IsPrefixOf, Held, held_at, GoesOn, Starts, Asks, IsPicked, PassedOver, Gives, IsSameSub}
-use Rattle.vl_link.proofs.Names.{AreSameSubs, sub_fragments, message_fragments, sent_of, taken_by, IsTied, ◌<◌, set, get_or, get_or_default, get_or-set_other, LinkPlan, IsFrameOf, turn_of}
-use Rattle.vl_link.proofs.Names.{nothing_held, Passes, AreSubsOf, held_view, IsChoice, NoneHas, turn_below, turn_onto}
+use Rattle.vl_link.proofs.Names.{ℕ, ◌≡◌, ◌≢◌, List, [], ◌∷◌, ◌++◌, true, length, arith, refl, ap, ◌∙◌, sym, subst, inl, inr, ⊎_elim, cases_eq, append-nil, append_assoc, map-append, length-map, room_of, A, Sent, blanked, Entry, entry, Pace, SubVl, taken_of, told, IsPrefixOf, Held, held_at, GoesOn, Starts, Asks, IsPicked, PassedOver, Gives, IsSameSub, AreSameSubs, sub_fragments, message_fragments, sent_of, taken_by, IsTied, ◌<◌, set, get_or, get_or_default, get_or-set_other, LinkPlan, IsFrameOf, turn_of, nothing_held, Passes, AreSubsOf, held_view, IsChoice, NoneHas, turn_below, turn_onto}
 use Rattle.afdx_frame.proofs.FragmentLemmas.{fragments_more}
 use Rattle.vl_link.proofs.Choosing.{Moves, moves_passed, each_set, held_same}
 use Rattle.vl_link.proofs.TurnLaws.{choice_other}

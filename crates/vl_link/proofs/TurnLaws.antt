@@ -1,6 +1,5 @@
 -- A turn of a link, for any view of its sub-VLs.
-use Rattle.vl_link.proofs.Names.{ℕ, zero, suc, ◌≡◌, ◌≢◌, ◌⊎◌, ◌+◌, ◌<◌, ◌≤◌, List, true, false, arith, refl, ap, ◌∙◌, sym, subst, inl, inr, ⊎_elim, cases_eq, cases_lt, and_right, LinkPlan, Lines}
-use Rattle.vl_link.proofs.Names.{BothEndure, stands_for, Pace, turn_of, is_due, Served, Nothing, Released, Lost, TurnView, IsChoice, Turn, AreTurns, may_release, turn_below}
+use Rattle.vl_link.proofs.Names.{ℕ, zero, suc, ◌≡◌, ◌≢◌, ◌⊎◌, ◌+◌, ◌<◌, ◌≤◌, List, true, false, arith, refl, ap, ◌∙◌, sym, subst, inl, inr, ⊎_elim, cases_eq, cases_lt, and_right, LinkPlan, Lines, BothEndure, stands_for, Pace, turn_of, is_due, Served, Nothing, Released, Lost, TurnView, IsChoice, Turn, AreTurns, may_release, turn_below}
 use Rattle.redundant_mux.proofs.Enduring.{both_none, both_on}
 use Rattle.vl_link.proofs.Choosing.{met}
 

@@ -1,5 +1,4 @@
-use Rattle.vl_link.proofs.Names.{ℕ, ◌+◌, refl, ap, ◌∙◌, ◌≡◌, List, [], ◌∷◌, ◌++◌, Bool, true, false, length, filter, cond, arith, sym, sum_by-append, filter-append, Entry, entry, ends_message}
-use Rattle.vl_link.proofs.Names.{messages_ended, moment_after, counts_in}
+use Rattle.vl_link.proofs.Names.{ℕ, ◌+◌, refl, ap, ◌∙◌, ◌≡◌, List, [], ◌∷◌, ◌++◌, Bool, true, false, length, filter, cond, arith, sym, sum_by-append, filter-append, Entry, entry, ends_message, messages_ended, moment_after, counts_in}
 use Rattle.std.proofs.Common.{length-append}
 use Rattle.status_board.specs.declared.counts.Counts.{Counts}
 use Rattle.vl_link.proofs.count.counts_after.Goals as goal

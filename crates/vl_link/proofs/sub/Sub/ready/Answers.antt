@@ -1,5 +1,4 @@
-use Rattle.vl_link.proofs.Names.{ℕ, ◌≡◌, ◌∙◌, ◌%◌, ◌<◌, ap, sym, subst, refl, inr, arith, [], Bool, false, Option, List, length, get_or_read, room_of, Cutting, A, fragments_again, SubVl, taken_of}
-use Rattle.vl_link.proofs.Names.{TellsCutting, left_of, message_fragments, sent_of, IsPortOf, IsCutOf, seen_of}
+use Rattle.vl_link.proofs.Names.{ℕ, ◌≡◌, ◌∙◌, ◌%◌, ◌<◌, ap, sym, subst, refl, inr, arith, [], Bool, false, Option, List, length, get_or_read, room_of, Cutting, A, fragments_again, SubVl, taken_of, TellsCutting, left_of, message_fragments, sent_of, IsPortOf, IsCutOf, seen_of}
 use Rattle.afdx_plan.specs.Config.{port_plan_at}
 use Rattle.vl_link.proofs.FragmentsLeft.{fragments_some}
 use Rattle.vl_link.proofs.QueueLooks.{item_of_more, same_nothing, same_ports, taken_nothing, kept_as, kept_finds}
