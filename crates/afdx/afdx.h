@@ -82,7 +82,7 @@ enum { AFDX_GREATEST_FRAME = 1514, AFDX_MOST_FRAMES = 64 };
 /* Success of any call. */
 enum { AFDX_OK = 0 };
 
-/* Why afdx_open refuses a configuration: the fault with the least number, as docs/configuration.md lists them. */
+/* Why afdx_open refuses a configuration: the fault with the least number, as docs/guide/configuration.md lists them. */
 enum {
     AFDX_CONFIG_TOML = 1,
     AFDX_CONFIG_MISSING_KEY = 2,
@@ -130,7 +130,7 @@ enum {
 uint8_t afdx_open(afdx_end_system *out, const uint8_t *text, size_t length);
 
 /* Explains a refused configuration: all of its faults, each with its place, as `afdx_bench explain` prints them
-   (docs/program.md), in lines that end in a line feed; "no faults" if there is none. Copies as much of the
+   (docs/guide/program.md), in lines that end in a line feed; "no faults" if there is none. Copies as much of the
    explanation as fits into the buffer, without a terminating zero, and writes its length. Refused: AFDX_MEMORY, with
    nothing written; AFDX_SMALL_BUFFER: the explanation is longer than the buffer, and its front was written. So NULL
    and 0 give the length. */

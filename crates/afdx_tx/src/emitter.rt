@@ -114,8 +114,8 @@ impl<A: Network + Drop, B: Network + Drop> Emitter<A, B> {
     /// Gives each link its turn at `now`, in microseconds, in the order of the configuration. A due
     /// link with something to send releases exactly one frame (ARINC 664 Part 7, bandwidth
     /// allocation gap), unless the last network that carries it fails with that frame. A link whose
-    /// networks are all down is skipped. After `BothDown` nothing has changed. Never waits, and
-    /// allocates nothing.
+    /// networks are all down is skipped. After `BothDown` nothing has changed. Apart from what the
+    /// networks do, it never waits and allocates nothing.
     #[inline(always)]
     pub fn poll(&mut self, now: u64) -> Result<Report, PollFault>
         requires { self.old.moment ≤ now }

@@ -104,7 +104,7 @@ const NO_TOML: [u8; 4] = [0x00, 0x7f, 0x80, 0xff];
 
 // A byte, and the number of the fault, or 0, that the demonstration's text has with this byte in place of
 // each of its bytes in turn: of its head and its link, and then of its port. They were found by Python's
-// `tomllib` and the rules of `docs/configuration.md`. Where the byte stood there already, it is 0.
+// `tomllib` and the rules of `docs/guide/configuration.md`. Where the byte stood there already, it is 0.
 const BYTES: [u8; 12] = [
     b'\n', b' ', b'"', b'#', b'-', b'.', b'0', b'9', b'=', b'[', b']', b'a',
 ];

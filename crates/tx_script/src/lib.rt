@@ -2,7 +2,7 @@
 //!
 //! [`run_script`] takes a configuration and the lines of a script, obeys them one after the other, and writes the
 //! transcript: the notes on lines, which are counted from 1, then the frames of network A, in their order, and
-//! those of B, each with its time and its bytes in hexadecimal. `docs/scripts.md` has the lines, the notes and the
+//! those of B, each with its time and its bytes in hexadecimal. `docs/guide/program.md` has the lines, notes and
 //! ends of a run.
 //!
 //! # An example
