@@ -1,4 +1,4 @@
--- The faults of a text that was read whole.
+-- The faults of a text that was read to its end.
 use Rattle.std.proofs.Common.{◌≡◌, ℕ, List, Option, Some, None, IfSome, subst, ◌∙◌}
 use Rattle.std.specs.Io.KnownBytes.{Appends}
 use Rattle.afdx_config.specs.Explained.{Explains}

@@ -1,3 +1,2 @@
 pub mod FaultsLemmas
 mod ReadingLemmas
-mod ReportLemmas

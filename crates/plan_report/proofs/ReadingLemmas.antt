@@ -3,7 +3,7 @@ use Rattle.std.proofs.Common.{◌≡◌, ℕ, ◌+◌, ◌≤◌, List, [], ◌+
 use Rattle.std.proofs.lemmas.List.{take_all, length-take}
 use Rattle.std.specs.Prelude.{option_map}
 
--- a text within the limit is whole, where one byte more than the limit would have been read
+-- a text within the limit is whole, since a longer one would have been read past the limit
 pub within_limit : (known : Option (List ℕ)) (limit : ℕ) (text : List ℕ)
     → IfSome (option_map (take (limit + 1)) known) (λ bytes. text ≡ bytes) → length text ≤ limit
     → IfSome known (λ bytes. text ≡ bytes)
@@ -11,7 +11,7 @@ within_limit None limit text is few = tt
 within_limit (Some bytes) limit text is few =
     is ∙ take_all (limit + 1) bytes (omega (arith, ap length is, length-take (limit + 1) bytes))
 
--- the same of a reader that takes up to a limit from another one
+-- the same for a reader that takes up to a limit from another one
 pub whole_text : (known inner : Option (List ℕ)) (limit most : ℕ) (old text : List ℕ)
     → most ≡ limit + 1 → inner ≡ known → old ≡ []
     → IfSome (option_map (take most) inner) (λ bytes. text ≡ old ++ bytes) → length text ≤ limit

@@ -1,4 +1,4 @@
--- What the text of a configuration gives.
+-- Results of reading the text of a configuration.
 use Rattle.std.specs.Prelude.{◌≡◌, ◌≢◌, ℕ, List, [], ◌∷◌, Option, ⊤}
 use Rattle.std.specs.Io.KnownBytes.{Appends}
 use Rattle.plan_report.specs.Report.{report_of}
@@ -13,25 +13,25 @@ use Rattle.afdx_config.specs.Explained.{Explains}
 use Rattle.afdx_config.specs.Findings.{Finding}
 use Rattle.script_text.specs.declared.run_fault.RunFault.TheVariants as Ran
 
--- a text is refused for its fault of the least number; memory or the reading of it may fail
+-- a text is refused with its fault of the least number; an allocation or a read may fail
 abbrev pub IsRefusal : List ℕ → Failure → Type 0
 IsRefusal text (Config fault) = fault ≢ Memory → IsLeastFault text fault
 IsRefusal text (Run Ran.Read) = ⊤
 IsRefusal text (Run Ran.Memory) = ⊤
 IsRefusal text _ = ⊥
 
--- the report of the plan of a text was written
+-- the report on the plan of a text was written
 pub record Reports (text : List ℕ) (old new : Option (List ℕ)) : Type 0 where
   pub plan : Plan
   pub is_plan : IsPlanOf text plan
   pub wrote : Appends old new (report_of plan)
 
--- how a command ends that told these findings
+-- the end of `explain` with these findings
 abbrev pub end_of : List Finding → End
 end_of [] = Told
 end_of (first ∷ rest) = FaultsTold
 
--- all findings of a text were told
+-- all findings of a text were written
 pub record TellsFaults (text : List ℕ) (end : End) (old new : Option (List ℕ)) : Type 0 where
   pub findings : List Finding
   pub told : List ℕ

@@ -1,4 +1,4 @@
--- What `check` tells of a plan.
+-- The report of `check` on a plan.
 use Rattle.std.specs.Prelude.{codes, ℕ, List, [], ◌∷◌, ◌++◌, Option, Some, None, nat_lt, if◌then◌else◌, flat_map, decimal}
 use Rattle.std.specs.Net.Text.{ipv4_text}
 use Rattle.afdx_plan.specs.Config.{Plan}
@@ -12,7 +12,7 @@ use Rattle.afdx_plan.specs.declared.networks.Networks.{Networks}
 use Rattle.afdx_plan.specs.declared.networks.Networks.TheVariants.{Both, OnlyA, OnlyB}
 use Rattle.afdx_plan.specs.declared.port_plan.PortPlan.{PortPlan}
 
--- the end system
+-- the line of the end system
 unfoldable pub end_system_line : ℕ → List ℕ
 end_system_line id = codes "end system " ++ decimal id ++ 10 ∷ []
 
@@ -26,22 +26,22 @@ unfoldable pub queues_text : LinkPlan → List ℕ
 queues_text link = codes ", sub-VLs " ++ decimal link.sub_vls ++ codes ", capacity "
     ++ decimal link.capacity
 
--- which networks carry a virtual link: nothing is said of one on both
+-- the network of a virtual link; empty if it is on both
 abbrev pub networks_text : Networks → List ℕ
 networks_text Both = []
 networks_text OnlyA = codes ", network A"
 networks_text OnlyB = codes ", network B"
 
--- a virtual link
+-- the line of a virtual link
 unfoldable pub link_line : LinkPlan → List ℕ
 link_line link = pace_text link ++ queues_text link ++ networks_text link.networks ++ 10 ∷ []
 
--- a kind of ports
+-- the kind of a port
 abbrev pub kind_name : Kind → List ℕ
 kind_name Sampling = codes "sampling"
 kind_name Queuing = codes "queuing"
 
--- a port's destination: its unicast address with dots, or a word for its link's multicast address
+-- a port's destination: its unicast address, or the word `multicast`
 unfoldable pub destination_text : Option (List ℕ) → List ℕ
 destination_text None = codes "multicast"
 destination_text (Some address) = ipv4_text address
@@ -56,17 +56,17 @@ unfoldable pub flow_text : PortPlan → List ℕ
 flow_text port = codes ", " ++ kind_name port.kind ++ codes ", " ++ decimal port.source
     ++ codes " to " ++ decimal port.destination ++ codes ", max " ++ decimal port.max
 
--- whether its datagrams carry a checksum: nothing is said of one that doesn't
+-- the checksum of a port's datagrams; empty if they carry none
 abbrev pub checksum_text : UdpSum → List ℕ
 checksum_text Omitted = []
 checksum_text Generated = codes ", checksum udp"
 
--- a port
+-- the line of a port
 unfoldable pub port_line : PortPlan → List ℕ
 port_line port = way_text port ++ flow_text port ++ codes ", " ++ destination_text port.unicast
     ++ checksum_text port.checksum ++ 10 ∷ []
 
--- the jitter in nanoseconds, beside the most that the report calls good, and whether it is more
+-- the jitter in nanoseconds, its limit, and whether it is exceeded
 unfoldable pub jitter_line : ℕ → List ℕ
 jitter_line jitter = codes "jitter " ++ decimal jitter ++ codes " ns, limit " ++ decimal 500000
     ++ (if nat_lt 500000 jitter then codes ", exceeded" ++ 10 ∷ [] else 10 ∷ [])

@@ -1,4 +1,4 @@
--- How the program ends.
+-- The exit statuses of the program.
 use Rattle.std.specs.Prelude.{ℕ, nat_eq, if◌then◌else◌}
 use Rattle.plan_report.specs.declared.failure.Failure.{Failure}
 use Rattle.plan_report.specs.declared.failure.Failure.TheVariants.{Config, Run, Short, Turns}
@@ -8,7 +8,7 @@ use Rattle.afdx_plan.specs.declared.fault.ConfigFault.TheVariants as Plan
 use Rattle.script_text.specs.declared.run_fault.RunFault.{RunFault}
 use Rattle.script_text.specs.declared.run_fault.RunFault.TheVariants.{Line, Lines, Read, Write, Memory}
 
--- 2 where the script has a fault, and 4 where memory or a stream failed
+-- 2 if the script has a fault, 4 if an allocation, a read or a write failed
 abbrev pub run_status : RunFault → ℕ
 run_status (Line line fault) = 2
 run_status Lines = 2
@@ -16,7 +16,7 @@ run_status Read = 4
 run_status Write = 4
 run_status Memory = 4
 
--- 2 where the configuration has a fault or a port that a storm can't use, and 5 where a storm used up its turns
+-- 2 if the configuration has a fault or a port that a storm cannot use, 5 if a storm exhausted its turns
 abbrev pub failure_status : Failure → ℕ
 failure_status (Config Plan.Memory) = 4
 failure_status (Config _) = 2
@@ -24,8 +24,8 @@ failure_status (Run fault) = run_status fault
 failure_status Short = 2
 failure_status Turns = 5
 
--- 0 where all that was asked for was done, 3 where lines of the script were refused, and 2 where
--- the words were, or faults of a configuration were written
+-- 0 on success, 3 if lines of the script were refused, 2 if the command line was refused or faults of a
+-- configuration were written
 abbrev pub exit_status : End → ℕ
 exit_status Told = 0
 exit_status (Ran summary) = if nat_eq summary.refused 0 then 0 else 3

@@ -1,19 +1,19 @@
-//! Why a command ends early.
+//! The failures that end a command early.
 use afdx_plan::ConfigFault;
 use script_text::RunFault;
 use std::error::Error;
 use std::fmt;
 
-/// Why a command ends before its work is done. Its text is what standard error is told.
+/// A failure that ends a command early. `Display` prints the message for standard error.
 #[derive(Clone, Copy, Debug, PartialEq, Eq)]
 pub enum Failure {
     /// The configuration was refused.
     Config(ConfigFault),
-    /// The script has a fault; or, in any command, memory, reading or writing failed.
+    /// The script has a fault; or, in any command, an allocation, a read or a write failed.
     Run(RunFault),
-    /// A port of the configuration can't send a storm's messages.
+    /// The greatest message of a port is too short for the messages of a storm.
     Short,
-    /// A storm used up its turns.
+    /// A storm exhausted its turns.
     Turns,
 }
 

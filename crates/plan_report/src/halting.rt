@@ -1,4 +1,4 @@
-//! A writer that leaves another one alone after that has failed.
+//! A writer that stops calling its inner writer after a failure.
 ghost use Rattle.std.specs.Prelude.{◌≡◌, length, false};
 ghost use Rattle.std.specs.IoError.{error_kind};
 ghost use Rattle.plan_report.specs.Halting.{is_failure as is_failure_kind, flush_fails, write_fails};
@@ -6,9 +6,9 @@ ghost use Rattle.plan_report.specs.Halting.{is_failure as is_failure_kind, flush
 use std::io::{self, ErrorKind, Write};
 use std::marker::Model;
 
-/// A writer over another one. After a write or a flush of that one failed, every call fails and leaves it
-/// alone. An interruption is no failure; a write that takes none of its bytes is one. Contracts see the other
-/// writer, and whether it failed.
+/// Wraps a writer. After a write or a flush of the inner writer fails, every call fails and does not
+/// call the inner writer. An interruption is not a failure; a write that accepts none of its bytes is.
+/// Contracts see the inner writer and whether it has failed.
 #[derive(Drop)]
 pub struct Halting<W: Write + Drop> {
     writer: W,
@@ -24,7 +24,7 @@ impl<W: Write + Drop> Model for Halting<W> {
 }
 
 impl<W: Write + Drop> Halting<W> {
-    /// A writer over one that has not failed.
+    /// Wraps a writer that has not failed.
     pub fn new(writer: W) -> Halting<W>
         ensures { result ≡ record { writer = writer; failed = false } }
     {
@@ -43,7 +43,7 @@ impl<W: Write + Drop> Write for Halting<W> {
 
     ghost contents = { λ h. W.contents h.writer };
 
-    /// Writes to the other writer, unless that has failed.
+    /// Writes to the inner writer, unless that has failed.
     fn write(&mut self, buf: &[u8]) -> io::Result<usize>
         ensures bound { WritesAtMost result buf.now }
         ensures bytes { WriteAppends (W.contents self.old.writer) (W.contents self.new.writer)
@@ -60,7 +60,7 @@ impl<W: Write + Drop> Write for Halting<W> {
         written
     }
 
-    /// Flushes the other writer, unless that has failed.
+    /// Flushes the inner writer, unless that has failed.
     fn flush(&mut self) -> io::Result<()>
         ensures bytes { Keeps (W.contents self.old.writer) (W.contents self.new.writer) }
         ensures halted { self.old.failed ≡ true → IsErr result × (self.new ≡ self.old) }
@@ -75,12 +75,12 @@ impl<W: Write + Drop> Write for Halting<W> {
     }
 }
 
-/// The error of a call after the other writer has failed.
+/// The error of a call after the inner writer has failed.
 fn failed_before() -> io::Error {
     io::Error::new(ErrorKind::Other, "a write failed before")
 }
 
-/// Whether an error is more than an interruption.
+/// Whether an error is not an interruption.
 fn is_failure(error: &io::Error) -> bool
     ensures { result ≡ is_failure_kind (error_kind error.now) }
 {

@@ -1,4 +1,4 @@
-//! Reading a configuration, the report on its plan, and how a command ends.
+//! Reading of configurations, reports on plans, and the ends of commands.
 #![tactic(auto)]
 
 mod failure;

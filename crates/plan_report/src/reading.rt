@@ -1,4 +1,4 @@
-//! Reading the plan of an end system, and the commands `check` and `explain`.
+//! Reading of configurations, and the commands `check` and `explain`.
 ghost use Rattle.std.specs.Prelude.{◌≡◌, ◌≢◌, ◌≤◌, ◌⊎◌, map, IfOk, IfErr, IfSome, OnOk, vec_len};
 ghost use Rattle.std.specs.Io.KnownBytes.{Keeps};
 ghost use Rattle.plan_report.specs.Reading.{IsRefusal, Reports, TellsFaults, end_of};
@@ -14,12 +14,12 @@ use script_text::RunFault;
 use std::alloc::Global;
 use std::io::{self, Read, Write};
 
-/// The most bytes of a configuration's text, comments and all: some four hundred times what the
-/// greatest plan takes.
+/// The most bytes of a configuration's text, including comments: about four hundred times the size of
+/// the greatest plan.
 pub const TEXT_LIMIT: u64 = 16_777_216;
 
-/// Reads a configuration: the plan of all bytes that a reader has left. A reader that fails, or has
-/// more than `TEXT_LIMIT` bytes, is told as `Read`.
+/// Reads the rest of a reader as a configuration. Returns `Read` if the reader fails or has more than
+/// `TEXT_LIMIT` bytes.
 pub fn read_plan<R: Read + Drop>(alloc: Global, reader: R) -> Result<Config, Failure>
     ensures plan { IfOk result (λ config. IfSome (R.remaining reader) (λ text.
         IsPlanOf text config)) }
@@ -30,8 +30,8 @@ pub fn read_plan<R: Read + Drop>(alloc: Global, reader: R) -> Result<Config, Fai
     read_config(alloc, text.as_slice()).map_err(Failure::Config)
 }
 
-/// Reads a configuration and writes the report on its plan. Where it is refused, or memory or the
-/// reader fails before, nothing is written.
+/// Reads a configuration and writes the report on its plan. Writes nothing if the configuration is
+/// refused, an allocation fails, or the reader fails.
 pub fn check<R: Read + Drop, W: Write>(
     alloc: Global,
     reader: R,
@@ -48,8 +48,8 @@ pub fn check<R: Read + Drop, W: Write>(
     write_report(writer, &config).map_err(|_| Failure::Run(RunFault::Write))
 }
 
-/// Reads a configuration and writes all of its faults, each with its place. Where memory or the
-/// reader fails before, nothing is written.
+/// Reads a configuration and writes all of its faults, each with its place. Writes nothing if an
+/// allocation or the reader fails.
 pub fn tell_faults<R: Read + Drop, W: Write>(
     alloc: Global,
     reader: R,
@@ -85,7 +85,7 @@ fn end_of(told: &Explanation) -> End
     }
 }
 
-/// All bytes that a reader has left.
+/// Reads the rest of a reader.
 fn read_text<R: Read + Drop>(alloc: Global, reader: R) -> Result<Vec<u8>, Failure>
     ensures whole { IfOk result (λ text. IfSome (R.remaining reader) (λ bytes.
         text.items ≡ bytes)) }

@@ -1,4 +1,4 @@
-//! The report on a plan.
+//! The report of `check` on a plan.
 ghost use Rattle.std.specs.Prelude.{◌≡◌, OnOk, flat_map};
 ghost use Rattle.std.specs.Io.KnownBytes.{Appends};
 ghost use Rattle.plan_report.specs.Report.{kind_name as name_of_kind, checksum_text as text_of_checksum};
@@ -11,11 +11,12 @@ use afdx_plan::{Config, Kind, LinkPlan, Networks, PortPlan, UdpSum, jitter_ns};
 use std::io::{self, Write};
 use std::net::Ipv4Addr;
 
-/// The jitter, in nanoseconds, over which a report says that it is exceeded.
+/// The jitter limit, in nanoseconds. The report marks a greater jitter as exceeded.
 const JITTER_LIMIT: u64 = 500_000;
 
-/// Writes the report on a plan: a line for the end system, one for each link and one for each port,
-/// in the order of the text, and one for the jitter.
+/// Writes the report on a plan: a line each for the end system, every link and every port, in the
+/// order of the configuration, and a last one for the jitter.
+#[tactic(auto, unfolding(crate::specs::Report::report_of))]
 pub fn write_report<W: Write>(writer: &mut W, config: &Config) -> io::Result<()>
     ensures { OnOk result (Appends (W.contents writer.old) (W.contents writer.new)
         (report_of config.now)) }

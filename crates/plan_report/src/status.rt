@@ -1,4 +1,4 @@
-//! The ends of the program, and their exit statuses.
+//! The ends of the program and their exit statuses.
 ghost use Rattle.std.specs.Prelude.{◌≡◌};
 ghost use Rattle.plan_report.specs.Status.{exit_status, failure_status as status_of_failure, run_status as status_of_run};
 
@@ -6,31 +6,31 @@ use crate::failure::Failure;
 use afdx_plan::ConfigFault;
 use script_text::{RunFault, Summary};
 
-/// All that was asked for was done, and no line of a script was refused.
+/// Success: no line of a script was refused.
 pub const DONE: u8 = 0;
 
-/// The words, the configuration or the script were refused.
+/// The command line, the configuration or the script was refused.
 pub const REFUSED: u8 = 2;
 
 /// The script ended, and at least one of its lines was refused while running.
 pub const LINES_REFUSED: u8 = 3;
 
-/// Memory, reading or writing failed.
+/// An allocation, a read or a write failed.
 pub const FAILED: u8 = 4;
 
-/// A storm used up its turns.
+/// A storm exhausted its turns.
 pub const USED_UP: u8 = 5;
 
-/// How the program ends.
+/// The end of a run of the program.
 #[derive(Clone, Copy, Debug, PartialEq, Eq)]
 pub enum End {
-    /// Help, or what a command tells of a configuration, was written.
+    /// The program wrote its help, or a report on a configuration.
     Told,
     /// The script was run to its end.
     Ran(Summary),
     /// The faults of a configuration were written.
     FaultsTold,
-    /// The words of the command line were refused, which was told already.
+    /// The command line was refused, and its message is already written.
     WordsRefused,
     /// The command ended early.
     Failed(Failure),
