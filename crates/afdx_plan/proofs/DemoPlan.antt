@@ -6,7 +6,7 @@ use Rattle.afdx_plan.specs.Demo.{demo_plan, demo_link, demo_port}
 use Rattle.afdx_plan.specs.Plan.{IsLink, IsPort}
 use Rattle.afdx_plan.proofs.PlanLemmas.{valid}
 
--- the demonstration port is one
+-- the demonstration port is in its ranges
 pub demo_port_is : IsPort demo_port
 demo_port_is = record {
   id = omega arith;
@@ -19,7 +19,7 @@ demo_port_is = record {
   unicast = tt;
 }
 
--- so is its link
+-- the demonstration link is in its ranges
 demo_link_is : IsLink demo_link
 demo_link_is = record {
   id = omega arith;
@@ -28,7 +28,7 @@ demo_link_is = record {
   capacity = (omega arith, omega arith);
 }
 
--- their plan shows no fault
+-- the demonstration plan is valid
 pub demo_valid : IsPlan demo_plan
 demo_valid = valid demo_plan (omega arith) (All-cons IsLink demo_link [] demo_link_is (All-nil IsLink))
     (All-cons IsPort demo_port [] demo_port_is (All-nil IsPort)) refl

@@ -1,4 +1,4 @@
--- A plan is valid exactly where it shows no fault; flows of a valid plan lie apart.
+-- A plan is valid exactly if it has no fault. Flows of a valid plan are distinct.
 use Rattle.std.proofs.Common.{◌≡◌, ℕ, suc, zero, ◌-◌, ◌<◌, ◌≤◌, inl, inr, ◌⊎◌, Bool, true, false, cond, List, [], ◌∷◌, length, get_or, Option, Some, None, refl, ap, sym, ◌∙◌, arith, eq-eqb, subst, ◌/◌, ◌%◌}
 use Rattle.std.specs.Prelude.{◌&&◌, nat_lt, nat_eq, find, count_by, All, Contains, IfSome}
 use Rattle.std.specs.List.{list_any}
@@ -32,7 +32,7 @@ none_at p xs k d none below =
 none_of : {X : Type 0} (p : X → Bool) (xs : List X) (x : X) → list_any p xs ≡ false → Contains xs x → p x ≡ false
 none_of p xs x none in_x = All-contains (λ y. p y ≡ false) xs x (λ k d below. none_at p xs k d none below) in_x
 
--- no two elements at different places are related, the first before the second
+-- no element is related to a later one
 pair_at : {X : Type 0} (related : X → X → Bool) (xs : List X) (i j : ℕ) (d : X) → has_pair related xs ≡ false
     → i < j → j < length xs → related (get_or xs i d) (get_or xs j d) ≡ false
 pair_at related [] i j d none before below = absurd (omega arith)
@@ -42,21 +42,21 @@ pair_at related (x ∷ xs) zero (suc j) d none before below =
 pair_at related (x ∷ xs) (suc i) (suc j) d none before below =
     pair_at related xs i j d (or_parts _ _ none).1 (omega arith) (omega arith)
 
--- where related elements never stand at two places, they stand at one
+-- if no two elements are related, elements related both ways are at one index
 one_place : {X : Type 0} (related : X → X → Bool) (xs : List X) (i j : ℕ) (d : X) → has_pair related xs ≡ false
     → i < length xs → j < length xs → related (get_or xs i d) (get_or xs j d) ≡ true
     → related (get_or xs j d) (get_or xs i d) ≡ true → i ≡ j
 one_place related xs i j d none in_i in_j one other =
     grind (arith, pair_at related xs i j d none, pair_at related xs j i d none)
 
--- the place of what is found
+-- the index of the element that `find` returns
 pub record FoundAt (p : LinkPlan → Bool) (links : List LinkPlan) : Type 0 where
   pub at : ℕ
   pub within : at < length links
   pub passes : p (link_plan_at links at) ≡ true
   pub found : find p links ≡ Some (link_plan_at links at)
 
--- where some link passes, one is found
+-- if some link passes, `find` returns one
 pub found_at : (p : LinkPlan → Bool) (links : List LinkPlan) → list_any p links ≡ true → FoundAt p links
 found_at p [] some = cc
 found_at p (x ∷ xs) some = elim (cases_Bool (p x)) [
@@ -69,22 +69,22 @@ found_at p (x ∷ xs) some = elim (cases_Bool (p x)) [
   }
 ]
 
--- the identifiers of a link that a port names
+-- the link of a port has the identifier that the port names
 pub named : (port : PortPlan) (link : LinkPlan) → is_link_of port link ≡ true → link.id ≡ port.vl
 named port link is = grind (arith, nat_tests)
 
--- a port's link and sub-VL are there
+-- the link and the sub-VL of a port exist
 has_link : (links : List LinkPlan) (port : PortPlan) → names_no_link links port ≡ false
     → names_no_sub links port ≡ false → HasLink links port
 has_link links port linked sub =
     let found = found_at (is_link_of port) links (not-false _ linked) in
     record { at = found.at; within = found.within; over = grind (arith, nat_tests) }
 
--- the member of a list at its place
+-- the member of a list at its index
 place_of : {X : Type 0} (xs : List X) (x d : X) (member : Contains xs x) → get_or xs member.0 d ≡ x
 place_of xs x d member = get_or_default xs member.0 d x member.1 ∙ member.2
 
--- two links of one identifier are related
+-- links with the same identifier are one
 same_vl : (links : List LinkPlan) (i j : ℕ) → has_pair has_same_vl links ≡ false → i < length links → j < length links
     → (link_plan_at links i).id ≡ (link_plan_at links j).id → i ≡ j
 same_vl links i j none in_i in_j same =
@@ -106,13 +106,13 @@ fits links port link apart linked short member kind id =
     let long : nat_lt (here.lmax - 47) port.max ≡ false = rw (kind, found.found) at short in
     rw (← it) (ltb-false (here.lmax - 47) port.max long)
 
--- one destination is that of two links, or one unicast address
+-- two ports with one destination both have no unicast address, or the same one
 pub which_destination : (v w : ℕ) (s t : Option (List ℕ)) → IfSome s IsUnicast → IfSome t IsUnicast
     → destination_of v s ≡ destination_of w t
     → ((s ≡ None) × (t ≡ None)) ⊎ ((address : List ℕ) × (s ≡ Some address) × (t ≡ Some address))
 which_destination v w s t is_s is_t same = grind arith
 
--- so it is one to the test
+-- the test of destinations finds them equal
 one_destination : (p q : PortPlan) → IsPort p → IsPort q → AreSameFlow p q
     → are_one_destination p.unicast q.unicast ≡ true
 one_destination p q is_p is_q same = grind (
@@ -121,7 +121,7 @@ one_destination p q is_p is_q same = grind (
   which_destination p.vl.0 q.vl.0 p.unicast q.unicast is_p.unicast is_q.unicast same.address,
 )
 
--- agreeing ports have one flow
+-- the test of flows finds them equal
 same_flow : (p q : PortPlan) → IsPort p → IsPort q → AreSameFlow p q → has_same_flow p q ≡ true
 same_flow p q is_p is_q same = grind (arith, nat_tests, one_destination p q is_p is_q same)
 
@@ -150,13 +150,13 @@ unicast ports p q address none in_p in_q of_p of_q partition = elim (cases_eq p.
       (shared q p address of_q of_p (sym partition) (λ same. apart (sym same))))
 ]
 
--- a port that a count counts
+-- a port that passes a test
 record CountedAt (p : PortPlan → Bool) (ports : List PortPlan) : Type 0 where
   at : ℕ
   within : at < length ports
   passes : p (port_plan_at ports at) ≡ true
 
--- where a count is not 0, there is one that it counts
+-- if a count is not 0, some port passes its test
 counted : (p : PortPlan → Bool) (ports : List PortPlan) → 0 < count_by p ports → CountedAt p ports
 counted p [] some = absurd (omega arith)
 counted p (x ∷ xs) some = elim (cases_Bool (p x)) [
@@ -185,7 +185,7 @@ few ports vl sub none = elim (cases_lt 64 (ports_on ports vl sub)) [
 counts : (most n : ℕ) → is_no_count most n ≡ false → (1 ≤ n) × (n ≤ most)
 counts most n h = grind (arith, nat_tests)
 
--- no fault is shown where none is found
+-- if `least_plan_fault` returns none, the plan has no fault
 pub none_shown : (plan : Plan) (fault : ConfigFault) → least_plan_fault plan.links plan.ports ≡ None
     → plan_shows fault plan ≡ false
 none_shown plan fault none = grind arith
@@ -231,7 +231,7 @@ valid plan fits_end each_link each_port none =
       few_ports = λ vl sub. few plan.ports vl sub crowd;
     }
 
--- a list has no related pair where no two elements are related
+-- a list has no related pair if no two elements are related
 no_pair : {X : Type 0} (related : X → X → Bool) (xs : List X) (d : X)
     → ((i j : ℕ) → i < j → j < length xs → related (get_or xs i d) (get_or xs j d) ≡ false)
     → has_pair related xs ≡ false
@@ -246,11 +246,11 @@ names_link : (plan : Plan) (port : PortPlan) → HasLink plan.links port → lis
 names_link plan port has = list_any_at (is_link_of port) plan.links has.at _ has.within
     (eq-eqb _ _ (ap (λ (v : VlId). v.0) has.over.id))
 
--- its link, as it is found
+-- the link of a port, as `find` returns it
 linked : (plan : Plan) (port : PortPlan) → HasLink plan.links port → FoundAt (is_link_of port) plan.links
 linked plan port has = found_at (is_link_of port) plan.links (names_link plan port has)
 
--- and one of its sub-VLs
+-- a port names one of the sub-VLs of its link
 names_sub : (plan : Plan) (port : PortPlan) → IsPlan plan → HasLink plan.links port → names_no_sub plan.links port ≡ false
 names_sub plan port is has =
     let found = linked plan port has in
@@ -272,13 +272,13 @@ long_one plan port is member has =
 agree : (p q : PortPlan) → has_same_flow p q ≡ true → AreSameFlow p q
 agree p q one = grind (arith, nat_tests, bytes_eq-Decides)
 
--- ports at different places are different
+-- ports at different indices are different
 apart_ports : (plan : Plan) (i j : ℕ) → IsPlan plan → i < j → j < length plan.ports
     → port_plan_at plan.ports i ≡ port_plan_at plan.ports j → ⊥
 apart_ports plan i j is before below same =
     let one : i ≡ j = is.ports_apart i j (omega arith) below (ap (λ (port : PortPlan). port.id) same) in omega arith
 
--- ports at two places of a valid plan share no address
+-- ports of a valid plan share no address
 no_share : (plan : Plan) (p q : PortPlan) → IsPlan plan → Contains plan.ports p → Contains plan.ports q
     → shares_unicast p q ≡ true → ⊥
 no_share plan p q is in_p in_q shares =

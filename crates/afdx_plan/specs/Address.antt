@@ -11,8 +11,8 @@ two_bytes n = bytes_high_first 2 n
 abbrev pub source_address : ℕ → ℕ → List ℕ
 source_address end_system partition = 10 ∷ two_bytes end_system ++ partition ∷ []
 
--- the destination address: the unicast address that is given, or 224.224 and the identifier of the
--- virtual link (multicast)
+-- the destination address: the given unicast address, else 224.224 and the identifier of the virtual
+-- link (multicast)
 abbrev pub destination_of : ℕ → Option (List ℕ) → List ℕ
 destination_of vl None = 224 ∷ 224 ∷ two_bytes vl
 destination_of vl (Some address) = address

@@ -1,4 +1,4 @@
--- The plan of an end system, and when it is valid.
+-- Plans of end systems, and which are valid.
 use Rattle.std.specs.Prelude.{◌≡◌, ℕ, ◌-◌, ◌<◌, ◌≤◌, List, length, get_or, count_by, nat_eq, ◌&&◌, Some, None, All, Contains}
 use Rattle.afdx_plan.specs.declared.bag.Bag.TheVariants.{Ms1}
 use Rattle.afdx_plan.specs.declared.identifiers.Kind.TheVariants.{Sampling, Queuing}
@@ -9,7 +9,7 @@ use Rattle.afdx_plan.specs.declared.port_plan.PortPlan.{PortPlan}
 use Rattle.afdx_plan.specs.Address.{destination_address}
 use Rattle.afdx_plan.specs.Plan.{IsLink, IsPort, SendsOver}
 
--- an end system's identifier, its virtual links and its ports
+-- the plan of an end system
 pub record Plan : Type 0 where
   pub end_system : ℕ
   pub links : List LinkPlan
@@ -23,7 +23,7 @@ plan_of_parts number virtual_links senders = record {
   ports = senders;
 }
 
--- the link at a place; past the end a plan that no link has
+-- the link at an index; past the end, a plan that no link has
 abbrev pub link_plan_at : List LinkPlan → ℕ → LinkPlan
 link_plan_at links k = get_or links k (record {
   id = record { 0 = 0 };
@@ -34,7 +34,7 @@ link_plan_at links k = get_or links k (record {
   networks = Both;
 })
 
--- the port at a place; past the end a plan that no port has
+-- the port at an index; past the end, a plan that no port has
 abbrev pub port_plan_at : List PortPlan → ℕ → PortPlan
 port_plan_at ports k = get_or ports k (record {
   id = record { 0 = 0 };
@@ -49,7 +49,7 @@ port_plan_at ports k = get_or ports k (record {
   checksum = Omitted;
 })
 
--- a port sends over the link at a place, on one of its sub-VLs
+-- a port sends on a sub-VL of the link at index `at`
 pub record HasLink (links : List LinkPlan) (port : PortPlan) : Type 0 where
   pub at : ℕ
   pub within : at < length links
@@ -63,16 +63,15 @@ pub record AreSameFlow (p q : PortPlan) : Type 0 where
   pub destination : p.destination ≡ q.destination
   pub address : destination_address p ≡ destination_address q
 
--- how many ports a sub-VL has
+-- the number of ports on a sub-VL
 abbrev pub ports_on : List PortPlan → ℕ → ℕ → ℕ
 ports_on ports vl sub =
     count_by (λ (port : PortPlan). nat_eq port.vl.0 vl && nat_eq port.sub sub) ports
 
--- A valid plan. Ranges: each number lies in its own.
--- Identifiers: no two links share one, and no two ports. Ports: each has its link and sub-VL there,
--- and a sampling port's greatest message fits into one frame of its link.
--- Flows: no two ports agree in all that a flow shows, and ports on different links never share both
--- a partition and a unicast address.
+-- A valid plan. Each number is in its range. No two links share an identifier, nor do two ports. The
+-- link and the sub-VL of each port exist, and the greatest message of a sampling port fits into one
+-- frame of its link. No two ports agree in link, partition, both UDP ports and destination. Ports on
+-- different links never share both a partition and a unicast address.
 pub record IsPlan (plan : Plan) : Type 0 where
   pub end_system : plan.end_system < 65536
   pub links : (1 ≤ length plan.links) × (length plan.links ≤ 64)

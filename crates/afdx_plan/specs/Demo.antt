@@ -8,7 +8,7 @@ use Rattle.afdx_plan.specs.declared.networks.Networks.TheVariants.{Both}
 use Rattle.afdx_plan.specs.declared.port_plan.PortPlan.{PortPlan}
 use Rattle.afdx_plan.specs.Config.{Plan}
 
--- link 1 releases a frame a millisecond at most, on both networks, and its one queue holds two messages
+-- link 1 sends at most one frame per millisecond, on both networks; its one queue holds two messages
 abbrev pub demo_link : LinkPlan
 demo_link = record {
   id = record { 0 = 1 };
@@ -19,8 +19,8 @@ demo_link = record {
   networks = Both;
 }
 
--- port 10 of partition 1 sends messages of up to 8,192 bytes over it, to its multicast address and without
--- a UDP checksum
+-- port 10 of partition 1 sends messages of up to 8,192 bytes on link 1, to its multicast address and
+-- without a UDP checksum
 abbrev pub demo_port : PortPlan
 demo_port = record {
   id = record { 0 = 10 };
@@ -35,7 +35,7 @@ demo_port = record {
   checksum = Omitted;
 }
 
--- both, in end system 1
+-- end system 1 with this link and this port
 abbrev pub demo_plan : Plan
 demo_plan = record {
   end_system = 1;

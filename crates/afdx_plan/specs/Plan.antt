@@ -1,4 +1,4 @@
--- What a plan's numbers mean.
+-- Ranges and units of the numbers of a plan.
 use Rattle.std.specs.Prelude.{◌≡◌, ℕ, ◌+◌, ◌*◌, ◌<◌, ◌≤◌, List, length, slice_index, sum_by, IfSome}
 use Rattle.afdx_plan.specs.declared.bag.Bag.{Bag}
 use Rattle.afdx_plan.specs.declared.bag.Bag.TheVariants.{Ms1, Ms2, Ms4, Ms8, Ms16, Ms32, Ms64, Ms128}
@@ -16,7 +16,7 @@ bag_ms Ms32 = 32
 bag_ms Ms64 = 64
 bag_ms Ms128 = 128
 
--- the same in microseconds
+-- the bandwidth allocation gap in microseconds
 abbrev pub bag_micros : Bag → ℕ
 bag_micros bag = 1000 * bag_ms bag
 
@@ -26,14 +26,14 @@ pub record IsUnicast (address : List ℕ) : Type 0 where
   pub bytes : (i : ℕ) → slice_index address i < 256
   pub first : slice_index address 0 ≡ 10
 
--- what every link of a configuration keeps
+-- the numbers of a link are in their ranges
 pub record IsLink (link : LinkPlan) : Type 0 where
   pub id : link.id.0 < 65536
   pub lmax : (64 ≤ link.lmax) × (link.lmax ≤ 1518)
   pub sub_vls : (1 ≤ link.sub_vls) × (link.sub_vls ≤ 4)
   pub capacity : (1 ≤ link.capacity) × (link.capacity ≤ 256)
 
--- what every port of a configuration keeps
+-- the numbers and the address of a port are in their ranges
 pub record IsPort (port : PortPlan) : Type 0 where
   pub id : port.id.0 < 65536
   pub vl : port.vl.0 < 65536
@@ -44,11 +44,11 @@ pub record IsPort (port : PortPlan) : Type 0 where
   pub max : (1 ≤ port.max) × (port.max ≤ 8192)
   pub unicast : IfSome port.unicast IsUnicast
 
--- the port sends over this link
+-- the port sends on a sub-VL of this link
 pub record SendsOver (port : PortPlan) (link : LinkPlan) : Type 0 where
   pub id : link.id ≡ port.vl
   pub sub : port.sub < link.sub_vls
 
--- the report on jitter, in nanoseconds: 80 for a byte, and 20 bytes around each frame
+-- the jitter in nanoseconds: 40,000, and 80 for each byte of each greatest frame and the 20 bytes around it
 abbrev pub jitter_of : List LinkPlan → ℕ
 jitter_of links = 40000 + 80 * sum_by (λ link. 20 + link.lmax) links

@@ -33,7 +33,7 @@ impl Bag {
         }
     }
 
-    /// The gap in microseconds, the unit of all moments.
+    /// The gap in microseconds, the unit of all times.
     pub fn micros(self) -> u64
         ensures { result ≡ bag_micros self }
     {

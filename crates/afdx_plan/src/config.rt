@@ -1,4 +1,4 @@
-//! A valid plan.
+//! Valid plans.
 ghost use Rattle.std.specs.Prelude.{◌≡◌, ◌==◌, All, position, IfOk, IfErr, None, Some};
 ghost use Rattle.afdx_plan.specs.Config.{IsPlan, plan_of_parts};
 ghost use Rattle.afdx_plan.specs.Plan.{IsLink, IsPort};
@@ -11,7 +11,7 @@ use crate::plan_faults::plan_fault;
 use crate::port_plan::PortPlan;
 use std::marker::Model;
 
-/// A plan of an end system that has none of the faults of `ConfigFault`.
+/// A valid plan of an end system: it has none of the faults of `ConfigFault`.
 #[derive(Debug, Drop)]
 pub struct Config {
     end_system: u16,
@@ -30,7 +30,7 @@ impl Model for Config {
 }
 
 impl Config {
-    /// The plan of its parts, or the fault of the least number that they show.
+    /// Makes a plan of its parts. Fails with the fault of the least number that they have.
     pub fn new(
         end_system: u16,
         links: Vec<LinkPlan>,
@@ -50,7 +50,7 @@ impl Config {
         }
     }
 
-    /// The plan of parts without fault.
+    /// Makes a plan of parts that are known to be valid.
     pub(crate) fn of(end_system: u16, links: Vec<LinkPlan>, ports: Vec<PortPlan>) -> Config
         requires { IsPlan (plan_of_parts end_system links.items ports.items) }
         ensures { result ≡ plan_of_parts end_system links.items ports.items }
@@ -62,14 +62,14 @@ impl Config {
         }
     }
 
-    /// The end system's identifier.
+    /// The identifier of the end system.
     pub fn end_system(&self) -> u16
         ensures { result ≡ self.now.end_system }
     {
         self.end_system
     }
 
-    /// The links, in the order of the text.
+    /// The virtual links, in the order of the configuration.
     pub fn links(&self) -> &[LinkPlan]
         ensures plan { result.now ≡ self.now.links }
         ensures valid { IsPlan self.now }
@@ -78,7 +78,7 @@ impl Config {
         &self.links
     }
 
-    /// The ports, in the order of the text.
+    /// The ports, in the order of the configuration.
     pub fn ports(&self) -> &[PortPlan]
         ensures plan { result.now ≡ self.now.ports }
         ensures valid { IsPlan self.now }
@@ -87,14 +87,14 @@ impl Config {
         &self.ports
     }
 
-    /// The place of a link among the links.
+    /// The index of the link with this identifier in `links`.
     pub fn link_index(&self, id: VlId) -> Option<usize>
         ensures { result ≡ position (λ link. link.id.0 == id.0) self.now.links }
     {
         self.links.iter().position(|link| link.id.0 == id.0)
     }
 
-    /// The place of a port among the ports.
+    /// The index of the port with this identifier in `ports`.
     pub fn port_index(&self, id: PortId) -> Option<usize>
         ensures { result ≡ position (λ port. port.id.0 == id.0) self.now.ports }
     {

@@ -12,8 +12,8 @@ use crate::networks::Networks;
 use crate::port_plan::PortPlan;
 use std::alloc::Global;
 
-/// The demonstration configuration: end system 1 with link 1 and port 10. Only want of memory
-/// refuses it.
+/// The demonstration configuration: end system 1 with link 1 and port 10. Fails only if an allocation
+/// fails.
 pub fn demo_config(alloc: Global) -> Result<Config, ConfigFault>
     ensures plan { IfOk result (λ config. config ≡ demo_plan) }
     ensures refused { IfErr result (λ fault. fault ≡ ConfigFault.Memory) }
@@ -23,7 +23,7 @@ pub fn demo_config(alloc: Global) -> Result<Config, ConfigFault>
     Ok(Config::of(1, links, ports))
 }
 
-/// Its link.
+/// The link of the demonstration configuration.
 fn demo_link() -> LinkPlan
     ensures { result ≡ demo_link }
 {
@@ -37,7 +37,7 @@ fn demo_link() -> LinkPlan
     }
 }
 
-/// Its port.
+/// The port of the demonstration configuration.
 fn demo_port() -> PortPlan
     ensures { result ≡ demo_port }
 {

@@ -1,11 +1,11 @@
-//! Why a text is no configuration.
+//! The faults of a configuration.
 ghost use Rattle.std.specs.Prelude.{◌≡◌};
 ghost use Rattle.afdx_plan.specs.PlanFaults.{fault_number};
 
 use thiserror::Error;
 
-/// Why a text is no configuration. Of the faults of a text the one of the least number is
-/// answered; `Memory` may stand in place of any answer.
+/// A fault of a configuration. If a text has several, `read_config` returns the one of the least
+/// number. It may return `Memory` instead of any result.
 #[derive(Clone, Copy, Debug, PartialEq, Eq, Error)]
 pub enum ConfigFault {
     #[error("Toml")]

@@ -4,9 +4,9 @@ ghost use Rattle.afdx_plan.specs.Plan.{jitter_of};
 
 use crate::config::Config;
 
-/// How long a frame may wait for the other links' frames, in nanoseconds: 40,000 and, for each
-/// link, 80 for each byte of its greatest frame and of the 20 bytes around it on the wire. The
-/// formula is this project's own report, and no plan is refused for it.
+/// The time in nanoseconds that a frame may wait for frames of other links: 40,000, plus for each link
+/// 80 for each byte of its greatest frame and of the 20 bytes around it on the wire. This formula is
+/// only reported; no plan is refused for its jitter.
 pub fn jitter_ns(config: &Config) -> u64
     ensures { result ≡ jitter_of config.now.links }
 {

@@ -1,18 +1,18 @@
-//! Laws of plans. Their functions do nothing: the contract is the law.
+//! Laws of plans. Each function is empty; its contract is the law.
 ghost use Rattle.afdx_plan.specs.PlanFaults.{ValidPlansShowNoFault};
 ghost use Rattle.afdx_plan.specs.Flows.{FlowsApart};
 
 use crate::config::Config;
 
-/// Two messages share both addresses and the identification only where they are of one sub-VL and
-/// their places differ by a multiple of 16,384.
+/// Two messages share both addresses and the identification only if they are of one sub-VL and their
+/// numbers there differ by a multiple of 16,384.
 pub fn flows_apart(config: &Config)
     ensures { FlowsApart config.now }
 {
     let _ports = config.ports();
 }
 
-/// A valid plan shows none of the faults that plans show, so that validity asks no more than they.
+/// A valid plan has none of the faults of plans, so validity demands no more than their absence.
 pub fn valid_plans_show_no_fault()
     ensures { ValidPlansShowNoFault }
 {}

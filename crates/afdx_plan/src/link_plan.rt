@@ -4,16 +4,16 @@ use crate::identifiers::VlId;
 use crate::lmax::Lmax;
 use crate::networks::Networks;
 
-/// What the plan says of a virtual link.
+/// The plan of a virtual link.
 #[derive(Clone, Copy, Debug, PartialEq, Eq)]
 pub struct LinkPlan {
     pub id: VlId,
     pub bag: Bag,
     pub lmax: Lmax,
-    // 1 to 4
+    // the number of sub-VLs: 1 to 4
     pub sub_vls: u8,
-    // of each sub-VL's queue, in messages: 1 to 256
+    // the capacity of each sub-VL's queue, in messages: 1 to 256
     pub capacity: usize,
-    // which networks carry it
+    // the networks that carry it
     pub networks: Networks,
 }

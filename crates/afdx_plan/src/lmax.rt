@@ -23,7 +23,7 @@ impl Model for Lmax {
 }
 
 impl Lmax {
-    /// The greatest frame of so many bytes.
+    /// A greatest frame of `bytes` bytes.
     pub fn new(bytes: u16) -> Lmax
         requires least { 64 ≤ bytes }
         requires most { bytes ≤ 1518 }
@@ -41,7 +41,7 @@ impl Lmax {
         self.size
     }
 
-    /// The greatest piece of a datagram in bytes.
+    /// The most bytes of a datagram in one frame.
     pub fn room(self) -> u16
         ensures value { result ≡ room_of self }
         ensures least { 25 ≤ result }

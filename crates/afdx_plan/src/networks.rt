@@ -1,5 +1,6 @@
-//! Which networks carry a virtual link.
-/// The networks that carry a virtual link: both of them, or one alone.
+//! The networks that carry a virtual link.
+
+/// The networks that carry a virtual link.
 #[derive(Clone, Copy, Debug, PartialEq, Eq)]
 pub enum Networks {
     Both,

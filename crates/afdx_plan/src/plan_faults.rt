@@ -1,4 +1,4 @@
-//! The faults that a plan shows.
+//! The faults of plans.
 ghost use Rattle.std.specs.Prelude.{◌≡◌, ◌==◌, ◌&&◌, nat_eq, not, find, option_copied, count_by, ℕ, length};
 ghost use Rattle.std.specs.List.{list_any};
 ghost use Rattle.afdx_plan.specs.Config.{ports_on};
@@ -10,7 +10,7 @@ use crate::limits::{LINKS_LIMIT, PORTS_LIMIT, SUB_PORTS_LIMIT};
 use crate::link_plan::LinkPlan;
 use crate::port_plan::PortPlan;
 
-/// Two links have one identifier.
+/// Two links have the same identifier.
 fn two_links_are_one(links: &[LinkPlan]) -> bool
     ensures { result ≡ has_pair has_same_vl links.now }
 {
@@ -28,7 +28,7 @@ fn is_again_in(link: &LinkPlan, others: &[LinkPlan]) -> bool
     others.iter().any(|other| link.id.0 == other.id.0)
 }
 
-/// A port names a link that isn't there.
+/// Some port names a link that does not exist.
 fn some_port_has_no_link(links: &[LinkPlan], ports: &[PortPlan]) -> bool
     ensures { result ≡ list_any (names_no_link links.now) ports.now }
 {
@@ -48,7 +48,7 @@ fn link_of<'a>(links: &'a [LinkPlan], port: &PortPlan) -> Option<&'a LinkPlan>
     links.iter().find(|link| link.id.0 == port.vl.0)
 }
 
-/// A port's sub-VL isn't there.
+/// Some port names a sub-VL that does not exist.
 fn some_port_has_no_sub(links: &[LinkPlan], ports: &[PortPlan]) -> bool
     ensures { result ≡ list_any (names_no_sub links.now) ports.now }
 {
@@ -64,7 +64,7 @@ fn has_no_sub(links: &[LinkPlan], port: &PortPlan) -> bool
     }
 }
 
-/// A sampling port's greatest message doesn't fit into one frame.
+/// The greatest message of some sampling port does not fit into one frame.
 fn some_port_is_too_long(links: &[LinkPlan], ports: &[PortPlan]) -> bool
     ensures { result ≡ list_any (is_too_long links.now) ports.now }
 {
@@ -83,7 +83,7 @@ fn is_too_long(links: &[LinkPlan], port: &PortPlan) -> bool
     }
 }
 
-/// What no two ports may agree in.
+/// A value that must differ between any two ports.
 #[derive(Clone, Copy)]
 enum Clash {
     Identifier,
@@ -91,7 +91,7 @@ enum Clash {
     Address,
 }
 
-/// Two ports agree in it.
+/// Two ports agree in this value.
 fn two_ports_clash(clash: Clash, ports: &[PortPlan]) -> bool
     ensures { result ≡ has_pair (clashes clash) ports.now }
 {
@@ -119,7 +119,7 @@ fn clashes(clash: Clash, a: &PortPlan, b: &PortPlan) -> bool
     }
 }
 
-/// Two ports agree in all that their flow shows.
+/// Two ports agree in link, partition, both UDP ports and destination.
 fn is_same_flow(a: &PortPlan, b: &PortPlan) -> bool
     ensures { result ≡ has_same_flow a.now b.now }
 {
@@ -156,7 +156,7 @@ fn is_one_address(a: Option<[u8; 4]>, b: Option<[u8; 4]>) -> bool
     }
 }
 
-/// There are no or too many links or ports, or a sub-VL has too many ports.
+/// There are no links or ports, too many of them, or too many ports on a sub-VL.
 fn is_past_limits(links: &[LinkPlan], ports: &[PortPlan]) -> bool
     ensures { result ≡ is_past_limits links.now ports.now }
 {
@@ -184,7 +184,7 @@ fn is_crowded(ports: &[PortPlan], port: &PortPlan) -> bool
     SUB_PORTS_LIMIT < count_on(ports, port.vl.0, port.sub)
 }
 
-/// How many ports a sub-VL has.
+/// The number of ports on a sub-VL.
 fn count_on(ports: &[PortPlan], vl: u16, sub: u8) -> usize
     ensures { result ≡ ports_on ports.now vl sub }
 {
@@ -194,7 +194,7 @@ fn count_on(ports: &[PortPlan], vl: u16, sub: u8) -> usize
         .count()
 }
 
-/// The fault of the least number that the links and ports of a plan show.
+/// The fault of the least number of these links and ports.
 pub(crate) fn plan_fault(links: &[LinkPlan], ports: &[PortPlan]) -> Option<ConfigFault>
     ensures { result ≡ least_plan_fault links.now ports.now }
 {

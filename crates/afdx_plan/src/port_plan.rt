@@ -1,7 +1,7 @@
 //! A port of a plan.
 use crate::identifiers::{Kind, PortId, UdpSum, VlId};
 
-/// What the plan says of a port.
+/// The plan of a port.
 #[derive(Clone, Copy, Debug, PartialEq, Eq)]
 pub struct PortPlan {
     pub id: PortId,
@@ -16,8 +16,8 @@ pub struct PortPlan {
     pub destination: u16,
     // the greatest message, in bytes: 1 to 8,192
     pub max: usize,
-    // the destination in 10.0.0.0/8; with none it is the link's multicast address
+    // the destination in 10.0.0.0/8; if `None`, it is the link's multicast address
     pub unicast: Option<[u8; 4]>,
-    // what stands in the checksum field of its datagrams
+    // the checksum field of its datagrams
     pub checksum: UdpSum,
 }
