@@ -46,11 +46,7 @@ pub fn analyze(alloc: Global, config: &Config, lateness: u64) -> Result<Analysis
 fn link_rows(alloc: Global, links: &[LinkPlan]) -> Result<Vec<LinkRow>, AllocError>
     ensures { IfOk result (λ rows. rows.items ≡ map row_of_link links.now) }
 {
-    let mut rows = Vec::with_capacity(alloc, links.len())?;
-    for link in links {
-        rows.push_reserved(link_row(link));
-    }
-    Ok(rows)
+    links.iter().map(link_row).collect(alloc)
 }
 
 /// The rows of the ports.
@@ -59,9 +55,8 @@ fn port_rows(alloc: Global, config: &Config, late: u64) -> Result<Vec<PortRow>, 
     ensures { IfOk result (λ rows. rows.items ≡ map (row_of_port late config.now) config.now.ports) }
 {
     let ports = config.ports();
-    let mut rows = Vec::with_capacity(alloc, ports.len())?;
-    for port in ports {
-        rows.push_reserved(port_row(late, config, port));
-    }
-    Ok(rows)
+    ports
+        .iter()
+        .map(|port| port_row(late, config, port))
+        .collect(alloc)
 }
