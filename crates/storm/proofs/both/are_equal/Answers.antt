@@ -1,4 +1,4 @@
-use Rattle.storm.proofs.Names.{◌≤◌, length, All, arith, sym, subst, common_steps, Entry}
+use Rattle.storm.proofs.Names.{◌≤◌, length, All, sym, subst, Entry}
 use Rattle.afdx_frame.specs.declared.net.Net.TheVariants.{A, B}
 use Rattle.storm.proofs.OnBoth.{have_links}
 use Rattle.storm.proofs.both.are_equal.Goals as goal
@@ -12,6 +12,3 @@ pub count_on_both-requires-2 : goal.count_on_both-requires-2
 count_on_both-requires-2 c =
     subst (λ es. All (λ (e : Entry). 6 ≤ length e.frame) es) (sym c.handed-2.ensures)
     (have_links c.args.links.now B c.args.b.now.handed c.requires.known_b)
-
-pub returns : goal.returns
-returns c = grind (arith, common_steps)
