@@ -13,8 +13,8 @@ use crate::line_words::next_word;
 use crate::message::Message;
 use std::alloc::Global;
 
-/// What a line says, given without its end, or its first fault in the order
-/// `Long`, `Word`, `Number`, `Hex`, `Extra`. `Memory` may be returned in place of any answer.
+/// Parses a line, given without its end. The error is its first fault in the order `Long`, `Word`,
+/// `Number`, `Hex`, `Extra`; `Memory` may be returned in place of any answer.
 #[tactic(auto, unfolding(crate::specs::Command::is_send, crate::specs::Command::is_at, crate::specs::Command::is_close))]
 pub fn read_line(alloc: Global, line: &[u8]) -> Result<Line, LineFault>
     ensures ok { IfOk result (λ said. said ≡ meaning_of line.now) }
@@ -43,7 +43,7 @@ pub fn read_line(alloc: Global, line: &[u8]) -> Result<Line, LineFault>
     }
 }
 
-// What the words after `send` say.
+// Parses the words after `send`.
 #[tactic(auto, using(crate::proofs::MeaningLemmas::send_rules))]
 fn read_send(alloc: Global, rest: &[u8]) -> Result<Line, LineFault>
     ensures ok { IfOk result (IsSaidSend (words_of rest.now)) }
@@ -71,7 +71,7 @@ fn read_send(alloc: Global, rest: &[u8]) -> Result<Line, LineFault>
     }
 }
 
-// The message that a word writes.
+// Parses the message of a word.
 #[tactic(auto, unfolding(crate::specs::Command::message_of))]
 fn message(alloc: Global, word: &[u8]) -> Result<Message, LineFault>
     ensures ok { IfOk result (λ message. message_of word.now ≡ Some message) }
@@ -88,7 +88,7 @@ fn message(alloc: Global, word: &[u8]) -> Result<Message, LineFault>
     }
 }
 
-// What the words after `at` say.
+// Parses the words after `at`.
 #[tactic(auto, using(crate::proofs::MeaningLemmas::at_rules))]
 fn read_at(rest: &[u8]) -> Result<Line, LineFault>
     ensures ok { IfOk result (IsSaidAt (words_of rest.now)) }
@@ -106,7 +106,7 @@ fn read_at(rest: &[u8]) -> Result<Line, LineFault>
     }
 }
 
-// What the words after `close` say.
+// Parses the words after `close`.
 #[tactic(auto, using(crate::proofs::MeaningLemmas::close_rules))]
 fn read_close(rest: &[u8]) -> Result<Line, LineFault>
     ensures ok { IfOk result (IsSaidClose (words_of rest.now)) }

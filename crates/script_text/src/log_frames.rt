@@ -28,7 +28,6 @@ impl<'a> Model for LogFrames<'a> {
 impl<'a> LogFrames<'a> {
     ghost use Rattle.std.specs.Prelude.{◌≡◌};
 
-    /// The frames whose bytes follow one another.
     pub(crate) fn new(marks: &'a [Mark], bytes: &'a [u8]) -> LogFrames<'a>
         requires { AreInLog marks.now bytes.now }
         ensures { result ≡ spelled marks.now bytes.now }
