@@ -51,7 +51,7 @@ pub fn publish_told<R: Wait>(rt: &R, out: &mut Out<'_>, mut board: Board, mut mo
 }
 
 /// Opens a board of one link, a second time if an allocation fails.
-pub fn open<R: Wait>(rt: &R, alloc: Global, out: &mut Out<'_>) -> Result<(), Trouble> {
+pub fn open<R: Wait>(rt: &R, alloc: Global, out: &mut Out<'_>) -> Ended {
     if let Ok((board, monitor)) = open_board(alloc, 1) {
         publish_told(rt, out, board, monitor);
         return Ok(());

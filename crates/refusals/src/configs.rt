@@ -44,7 +44,7 @@ fn read_text(alloc: Global, out: &mut Out<'_>, text: &str) {
 }
 
 /// Reads a plan, a text with a late fault, and one that is no TOML.
-pub fn read(alloc: Global, out: &mut Out<'_>) -> Result<(), Trouble> {
+pub fn read(alloc: Global, out: &mut Out<'_>) -> Ended {
     read_text(alloc, out, DEMO);
     read_text(alloc, out, SHARED);
     read_text(alloc, out, CUT);
@@ -52,7 +52,7 @@ pub fn read(alloc: Global, out: &mut Out<'_>) -> Result<(), Trouble> {
 }
 
 /// Makes the demonstration configuration, a second time if an allocation fails.
-pub fn demo(alloc: Global, out: &mut Out<'_>) -> Result<(), Trouble> {
+pub fn demo(alloc: Global, out: &mut Out<'_>) -> Ended {
     let mut answer = demo_config(alloc);
     if matches!(answer, Err(ConfigFault::Memory)) {
         out.line("refused Memory");

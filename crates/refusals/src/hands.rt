@@ -53,7 +53,7 @@ fn send_two(out: &mut Out<'_>, opened: Opened) -> bool {
 }
 
 /// Sends two messages, a second time if an allocation of a network fails.
-pub fn hand(alloc: Global, out: &mut Out<'_>) -> Result<(), Trouble> {
+pub fn hand(alloc: Global, out: &mut Out<'_>) -> Ended {
     let first = open(alloc)?;
     let second = open(alloc)?;
     if send_two(out, first) {

@@ -42,7 +42,7 @@ fn run_case<R: Threads + Wait + Sync>(
     alloc: Global,
     out: &mut Out<'_>,
     word: &str,
-) -> Result<(), Trouble> {
+) -> Ended {
     match word {
         "read_config" => configs::read(alloc, out),
         "demo_config" => configs::demo(alloc, out),
@@ -60,11 +60,7 @@ fn run_case<R: Threads + Wait + Sync>(
 }
 
 /// Runs all cases, each after a line that names it.
-fn run_all<R: Threads + Wait + Sync>(
-    rt: &R,
-    alloc: Global,
-    out: &mut Out<'_>,
-) -> Result<(), Trouble> {
+fn run_all<R: Threads + Wait + Sync>(rt: &R, alloc: Global, out: &mut Out<'_>) -> Ended {
     for word in CASES.iter() {
         out.line(format_args!("== {word}"));
         run_case(rt, alloc, out, word)?;
@@ -73,7 +69,7 @@ fn run_all<R: Threads + Wait + Sync>(
 }
 
 /// Runs the case that the first word of the command line names, or all.
-fn run<T: Threads + Wait + Sync>(rt: &HostRuntime, threads: &T) -> Result<(), Trouble> {
+fn run<T: Threads + Wait + Sync>(rt: &HostRuntime, threads: &T) -> Ended {
     let mut out = Out::new(rt);
     let mut words = std::env::args(rt).map_err(|_| Trouble::Unprepared)?;
     let _program = words.next();

@@ -46,7 +46,7 @@ fn open_told(alloc: Global, out: &mut Out<'_>) -> Result<Opened, Trouble> {
 }
 
 /// Opens an emitter, sends two messages and polls for each.
-pub fn open(alloc: Global, out: &mut Out<'_>) -> Result<(), Trouble> {
+pub fn open(alloc: Global, out: &mut Out<'_>) -> Ended {
     let messages = (message(alloc, 1)?, message(alloc, 2)?);
     let (mut tx, mut ports, _monitor) = open_told(alloc, out)?;
     send_two_told(out, &mut tx, &mut ports, messages);

@@ -175,12 +175,7 @@ fn use_rest(alloc: Global, out: &mut Out<'_>, config: &Config, long: Vec<u8>) {
 
 /// Makes messages, a queue and a board, and calls the parts. What is printed after `made` allocates
 /// nothing.
-fn call_over<R: Wait>(
-    rt: &R,
-    alloc: Global,
-    out: &mut Out<'_>,
-    config: &Config,
-) -> Result<(), Trouble> {
+fn call_over<R: Wait>(rt: &R, alloc: Global, out: &mut Out<'_>, config: &Config) -> Ended {
     let messages = (message(alloc, 1)?, message(alloc, 2)?, message(alloc, 3)?);
     let long = vec![in alloc; 0xaau8; 1_472]?;
     let (receiver, senders) = make(alloc, 2, 1, 8)?;
@@ -193,7 +188,7 @@ fn call_over<R: Wait>(
     Ok(())
 }
 
-pub fn call<R: Wait>(rt: &R, alloc: Global, out: &mut Out<'_>) -> Result<(), Trouble> {
+pub fn call<R: Wait>(rt: &R, alloc: Global, out: &mut Out<'_>) -> Ended {
     let config = prepared(alloc)?;
     call_over(rt, alloc, out, &config)
 }

@@ -103,7 +103,7 @@ fn answer(out: &mut Out<'_>, mut receiver: Receiver, mut senders: Vec<Sender>, m
 }
 
 /// Makes a queue of one place, whose sender may send twice; a second time if an allocation fails.
-pub fn make_one(alloc: Global, out: &mut Out<'_>) -> Result<(), Trouble> {
+pub fn make_one(alloc: Global, out: &mut Out<'_>) -> Ended {
     let (first, second) = (message(alloc, 1)?, message(alloc, 2)?);
     let messages = (first, second, message(alloc, 3)?, message(alloc, 4)?);
     if let Ok((receiver, senders)) = make(alloc, 1, 1, 2) {

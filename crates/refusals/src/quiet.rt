@@ -15,11 +15,14 @@ use afdx_tx::{Draining, Emitter, TxPort, open_tx};
 use status_board::{Counts, Monitor};
 use std::sync::Wait;
 
+/// An emitter over networks that allocate nothing.
+type ShelfTx = Emitter<Shelf, Shelf>;
+
 /// An open emitter, its one port taken out of the list of ports. It is large: `drop` frees it in one step,
 /// while the end of a scope takes it apart field by field.
 #[derive(Drop)]
 struct Opened {
-    tx: Emitter<Shelf, Shelf>,
+    tx: ShelfTx,
     port: TxPort,
     others: Vec<TxPort>,
     monitor: Monitor,
@@ -82,7 +85,7 @@ fn tell_state(out: &mut Out<'_>, of: (usize, u64), nets: (&Shelf, &Shelf), count
     }
 }
 
-fn tell_emitter(out: &mut Out<'_>, tx: &Emitter<Shelf, Shelf>) {
+fn tell_emitter(out: &mut Out<'_>, tx: &ShelfTx) {
     let of = (tx.config().links().len(), tx.now());
     tell_state(
         out,
@@ -115,12 +118,7 @@ fn give_up(out: &mut Out<'_>, opened: Opened) {
     out.line(format_args!("given up: A has {a}, B has {b}"));
 }
 
-fn send_and_poll(
-    out: &mut Out<'_>,
-    tx: &mut Emitter<Shelf, Shelf>,
-    port: &mut TxPort,
-    message: Vec<u8>,
-)
+fn send_and_poll(out: &mut Out<'_>, tx: &mut ShelfTx, port: &mut TxPort, message: Vec<u8>)
     ensures { IsPortOfTx tx.old port.old → IsPortOfTx tx.new port.new }
 {
     send_told(out, port, message);
@@ -128,12 +126,7 @@ fn send_and_poll(
     poll_told(out, tx, 1_000)
 }
 
-fn publish_and_read<R: Wait>(
-    rt: &R,
-    out: &mut Out<'_>,
-    tx: &mut Emitter<Shelf, Shelf>,
-    monitor: &mut Monitor,
-)
+fn publish_and_read<R: Wait>(rt: &R, out: &mut Out<'_>, tx: &mut ShelfTx, monitor: &mut Monitor)
     requires { 0 < links_of monitor.old }
     ensures { tx.new ≡ record tx.old { board = tx.new.board } }
 {
@@ -142,7 +135,7 @@ fn publish_and_read<R: Wait>(
 }
 
 /// Closes the one sub-VL, and prints how many messages it accepted.
-fn close_told(out: &mut Out<'_>, tx: &mut Emitter<Shelf, Shelf>)
+fn close_told(out: &mut Out<'_>, tx: &mut ShelfTx)
     ensures { (port : PortView) → IsPortOfTx tx.old port → IsPortOfTx tx.new port }
 {
     match tx.close(VlId(1), 0) {
@@ -247,7 +240,7 @@ fn use_all<R: Wait>(rt: &R, out: &mut Out<'_>, mut opened: Opened, long: Vec<u8>
 
 /// Sends a message of two frames, and one that is left to the drain. Both are made before the emitter is
 /// opened, and so is another emitter, which sends nothing.
-pub fn send<R: Wait>(rt: &R, alloc: Global, out: &mut Out<'_>) -> Result<(), Trouble> {
+pub fn send<R: Wait>(rt: &R, alloc: Global, out: &mut Out<'_>) -> Ended {
     let long = vec![in alloc; 0xaau8; 1_472]?;
     let short = message(alloc, 1)?;
     let spare = open(alloc)?;

@@ -21,7 +21,7 @@ fn tell(out: &mut Out<'_>, answer: Result<Summary, RunFault>) {
 }
 
 /// Runs a script and prints its transcript, a second time if an allocation fails.
-pub fn run(alloc: Global, out: &mut Out<'_>) -> Result<(), Trouble> {
+pub fn run(alloc: Global, out: &mut Out<'_>) -> Ended {
     let (first, second) = (prepared(alloc)?, prepared(alloc)?);
     let mut answer = run_script(alloc, first, SCRIPT.as_bytes(), out.writer());
     if answer == Err(RunFault::Memory) {

@@ -57,11 +57,7 @@ fn throw_once<R: Threads + Wait + Sync>(
 }
 
 /// Runs a storm, a second time if an allocation fails.
-pub fn throw<R: Threads + Wait + Sync>(
-    rt: &R,
-    alloc: Global,
-    out: &mut Out<'_>,
-) -> Result<(), Trouble> {
+pub fn throw<R: Threads + Wait + Sync>(rt: &R, alloc: Global, out: &mut Out<'_>) -> Ended {
     let (first, second) = (plan(alloc)?, plan(alloc)?);
     let links = first.links().to_vec(alloc)?;
     if throw_once(rt, alloc, out, first, links.as_slice()) {

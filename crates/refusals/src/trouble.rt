@@ -28,6 +28,9 @@ pub enum Trouble {
     NoCase,
 }
 
+/// How a case ends.
+pub type Ended = Result<(), Trouble>;
+
 impl Trouble {
     /// The exit status of the program.
     pub fn status(self) -> u8 {
@@ -83,7 +86,7 @@ impl<'a> Out<'a> {
     }
 
     /// Whether each line was printed.
-    pub fn end(&self) -> Result<(), Trouble> {
+    pub fn end(&self) -> Ended {
         if self.failed {
             Err(Trouble::Output)
         } else {
