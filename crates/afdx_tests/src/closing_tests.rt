@@ -1,4 +1,4 @@
-//! Tests of closing sub-VLs whose ports send from threads of their own.
+//! Tests of closing sub-VLs while their ports send from threads of their own.
 ghost use Rattle.std.specs.Prelude.{◌≡◌, map};
 ghost use Rattle.afdx_tx.specs.Emitter.{queues_in};
 ghost use Rattle.afdx_tx.specs.Ports.{AreOpenedWith};
@@ -11,23 +11,23 @@ use afdx_tx::TxPort;
 use redundant_mux::MemNetwork;
 use std::thread::Threads;
 
-// How many messages each port would send.
+// How many messages each port tries to send.
 const MESSAGES: u8 = 100;
 
-// How many messages each sub-VL has room for.
+// The capacity of each sub-VL in messages.
 const CAPACITY: usize = 2;
 
-// How many messages are left in both queues at most.
+// At most this many messages are left in both queues.
 const LEFT: usize = 2 * CAPACITY;
 
-// What two closes told together, and what is left to be sent.
+// The sum of the totals of two closes, and what is left to be sent.
 #[derive(Drop)]
 struct Told {
     total: u64,
     draining: Drain,
 }
 
-// Closes a sub-VL of the link. The total.
+// Closes a sub-VL of the link and returns its total.
 fn close<R: Abort>(rt: &R, tx: &mut Sending, sub: u8) -> u64
     ensures plan { tx.new.plan ≡ tx.old.plan }
     ensures queues { queues_in tx.new.links ≡ queues_in tx.old.links }
@@ -35,7 +35,7 @@ fn close<R: Abort>(rt: &R, tx: &mut Sending, sub: u8) -> u64
     tx.close(VlId(1), sub).expect(rt, "the sub-VL is there")
 }
 
-// Closes sub-VL 0, polls on, and closes sub-VL 1, while the ports send. Their totals.
+// Closes sub-VL 0, polls on, and closes sub-VL 1, while the ports send. Returns their totals.
 fn close_both<R: Abort>(rt: &R, tx: &mut Sending) -> [u64; 2]
     ensures plan { tx.new.plan ≡ tx.old.plan }
     ensures queues { queues_in tx.new.links ≡ queues_in tx.old.links }
@@ -47,7 +47,7 @@ fn close_both<R: Abort>(rt: &R, tx: &mut Sending) -> [u64; 2]
     [first, second]
 }
 
-// How many messages of the ports of a sub-VL were accepted, as they were told.
+// How many messages the ports of a sub-VL report as accepted.
 fn accepted_on(ports: &[TxPort], sub: u16) -> u64 {
     let mut sum = 0u64;
     for port in ports {
@@ -58,8 +58,8 @@ fn accepted_on(ports: &[TxPort], sub: u16) -> u64 {
     sum
 }
 
-// The totals of two closed sub-VLs are the sums of what their ports were told, and both together are what
-// 60 polls released and no more than was left in the queues. The sum of both.
+// Asserts that the total of each sub-VL is the sum over its ports, and that both together are the 60 frames
+// that polls released and at most what was left in the queues. Returns the sum of both.
 fn check_totals(rt: &impl Abort, ports: &[TxPort], totals: [u64; 2]) -> u64 {
     let [first, second] = totals;
     assert_same(rt, accepted_on(ports, 0), first);
@@ -69,8 +69,8 @@ fn check_totals(rt: &impl Abort, ports: &[TxPort], totals: [u64; 2]) -> u64 {
     total
 }
 
-// Closes two sub-VLs whose ports send from threads of their own, and then the first once more, which
-// tells the same. Their ports, which came back, and the sum of both totals.
+// Closes two sub-VLs while their ports send from threads of their own, and then the first once more, which
+// returns the same total. Returns their ports and the sum of both totals.
 fn close_and_join<R: Threads + Abort>(
     rt: &R,
     alloc: Global,
@@ -87,8 +87,8 @@ fn close_and_join<R: Threads + Abort>(
     (ports, total)
 }
 
-// Two sub-VLs are closed while their ports send from threads of their own, and the ports are gathered.
-// How many messages were accepted, as the two closes told, and what is left to be sent.
+// Closes two sub-VLs while their ports send from threads of their own, takes back the ports and starts
+// draining.
 fn close_while_ports_send<R: Threads + Abort + Copy + Send + 'static>(
     rt: R,
     alloc: Global,
@@ -102,7 +102,7 @@ fn close_while_ports_send<R: Threads + Abort + Copy + Send + 'static>(
     }
 }
 
-// As many frames were handed over as messages were accepted.
+// Asserts that a network took as many frames as messages were accepted.
 fn check_total(rt: &impl Abort, network: &MemNetwork, total: u64) {
     assert_same(rt, network.handed().len() as u64, total);
     let _each = check_frames(rt, network, MESSAGES);

@@ -1,19 +1,18 @@
-//! Tests of what is left when the port comes back: at the last moments that there are, and over networks
-//! that fail.
+//! Tests of the drain: at the last times that there are, and over networks that fail.
 use crate::play::assert_report;
 use crate::rig::*;
 use crate::testing::*;
 use afdx_tx::PollFault;
 use redundant_mux::{MemNetwork, Standing};
 
-// What a poll answers: the number of the frame that it releases, if there is one, and which networks stand
-// then; nothing where both were down.
+// The answer of a poll: the number of the frame that it releases, if any, and which networks are up then.
+// None if both were down.
 type Answer = Option<(Option<u8>, Standing)>;
 
-// A poll: its moment, and what it answers.
+// The time of a poll, and its answer.
 type Poll = (u64, Answer);
 
-// Two messages, in how many frames they go out, the hands at which the networks fail, and the polls.
+// Two messages, the number of their frames, the hands at which the networks fail, and the polls.
 #[derive(Clone, Copy)]
 struct Run<'a> {
     messages: [&'a [u8]; 2],
@@ -22,7 +21,6 @@ struct Run<'a> {
     polls: &'a [Poll],
 }
 
-// Polls, and asserts the answer.
 fn assert_poll<S: System, R: Abort>(rt: &R, system: &mut S, poll: Poll) {
     let (now, wanted) = poll;
     let answer = system.poll(rt, now);
@@ -33,8 +31,8 @@ fn assert_poll<S: System, R: Abort>(rt: &R, system: &mut S, poll: Poll) {
     }
 }
 
-// Asserts the moment of the last of these polls at which a network was up, and that all of so many frames was
-// sent if one of the polls released the last.
+// Asserts that the time is that of the last of these polls that found a network up, and that the drain is
+// done if and only if one of them released the last of the frames.
 fn assert_left(rt: &impl Abort, rest: &Rest, polls: &[Poll], frames: u8) {
     let mut moment = 0;
     let mut is_done = false;
@@ -48,14 +46,14 @@ fn assert_left(rt: &impl Abort, rest: &Rest, polls: &[Poll], frames: u8) {
     assert_same(rt, rest.draining.is_done(), is_done);
 }
 
-// The length of the frame at a place. A message of 1,472 bytes is a piece of 1,472 bytes of its datagram,
-// and then one of 8 in the least frame.
+// The length of the frame at a place. A message of 1,472 bytes is sent as a piece of 1,472 bytes of its
+// datagram and one of 8 bytes in a frame of the least length.
 fn length_at(run: Run, place: u8) -> usize {
     let is_long = run.frames == 4 && place % 2 == 0;
     if is_long { 1_507 } else { 60 }
 }
 
-// Asserts that a network was handed the frame of each poll after which it stands, and no other.
+// Asserts that a network took the frame of each poll after which it is up, and no other.
 fn assert_kept(rt: &impl Abort, network: &MemNetwork, run: Run, is_a: bool) {
     let mut many = 0usize;
     for poll in run.polls {
@@ -71,7 +69,7 @@ fn assert_kept(rt: &impl Abort, network: &MemNetwork, run: Run, is_a: bool) {
     assert_same(rt, network.handed().len(), many);
 }
 
-// A run, in which the port comes back after so many polls.
+// Plays a run, in which the drain begins after `before` polls.
 fn run_polls<R: Abort>(rt: &R, alloc: Global, run: Run, before: usize) {
     let mut rig = open(rt, alloc, DEMO, run.fails);
     for message in run.messages {
@@ -93,31 +91,30 @@ fn run_polls<R: Abort>(rt: &R, alloc: Global, run: Run, before: usize) {
 
 const LAST: u64 = u64::MAX;
 
-// Polls of a link with a gap of 1,000 us and two messages: moments, and the numbers of the frames that
-// are released.
+// Polls of a link with a gap of 1,000 us and two messages: times, and the numbers of the frames that are released.
 const RUNS: [[(u64, Option<u8>); 3]; 8] = [
-    // The first poll at the last moment releases; the link is never due again.
+    // The first poll at the last time releases; the link is never due again.
     [(LAST, Some(0)), (LAST, None), (LAST, None)],
-    // The gap ends past the last moment.
+    // The gap ends after the last time.
     [(LAST - 500, Some(0)), (LAST, None), (LAST, None)],
     [(LAST - 999, Some(0)), (LAST - 1, None), (LAST, None)],
-    // It ends with the last moment.
+    // It ends at the last time.
     [(LAST - 1_000, Some(0)), (LAST, Some(1)), (LAST, None)],
     [(LAST - 1_000, Some(0)), (LAST - 1, None), (LAST, Some(1))],
     // It ends just before.
     [(LAST - 1_001, Some(0)), (LAST - 1, Some(1)), (LAST, None)],
-    // The same moment twice.
+    // The same time twice.
     [
         (LAST - 1_000, Some(0)),
         (LAST - 1_000, None),
         (LAST, Some(1)),
     ],
-    // From the first moment to the last.
+    // From the first time to the last.
     [(0, Some(0)), (0, None), (LAST, Some(1))],
 ];
 
-// Two messages of a byte over networks that don't fail, by the moments and numbers of polls, of which so many
-// come before the port comes back.
+// Two messages of one byte over networks that don't fail, polled at these times. The drain begins after
+// `before` polls.
 fn run_at_edge<R: Abort>(rt: &R, alloc: Global, moments: [(u64, Option<u8>); 3], before: usize) {
     let run = Run {
         messages: [&[1], &[2]],
@@ -137,9 +134,9 @@ fn no_gap_runs_over_the_last_moment(rt: HostRuntime) {
     }
 }
 
-// What the poll with this number, counted from 1, answers where the networks fail at these hands, of four
-// frames: a frame while one network stands and frames are left, nothing where the last network fails and
-// where none are left, and then nothing at all. Polls are a gap apart.
+// The poll with this number, counted from 1, of four frames over networks that fail at hands `a` and `b`.
+// It releases a frame while a network is up and frames are left, none if the last network fails or none are
+// left, and then finds both down. Polls are a gap apart.
 fn failing_poll(turn: u8, a: u8, b: u8) -> Poll {
     let at = 1_000 * u64::from(turn.saturating_sub(1));
     let (last, hands) = (a.max(b), turn.min(4));
@@ -159,8 +156,8 @@ fn failing_poll(turn: u8, a: u8, b: u8) -> Poll {
     (at, Some((number, standing)))
 }
 
-// Five polls for two messages of 1,472 bytes, in two frames each, of which so many come before the port comes
-// back, wherever A and B fail, or don't.
+// Five polls for two messages of 1,472 bytes, in two frames each, wherever A and B fail, or don't. The
+// drain begins after `before` polls.
 fn run_failing<R: Abort>(rt: &R, alloc: Global, before: usize) {
     for a in 1..=5u8 {
         for b in 1..=5u8 {

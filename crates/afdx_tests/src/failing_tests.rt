@@ -13,7 +13,7 @@ use arrayvec::ArrayVec;
 use redundant_mux::{HandFault, MemNetwork, Network, Standing};
 use std::default::Default;
 
-/// How many frames a poll released, and which networks stood then. None where both were down.
+/// How many frames a poll released, and which networks were up then. None if both were down.
 fn told_of(answer: Result<Report, PollFault>) -> Option<(usize, Standing)> {
     match answer {
         Ok(report) => Some((report.released.len(), report.standing)),
@@ -21,7 +21,7 @@ fn told_of(answer: Result<Report, PollFault>) -> Option<(usize, Standing)> {
     }
 }
 
-/// The same of the poll with this number, counted from 1, where A fails at hand `k` and B at hand `m`.
+/// The same of the poll with this number, counted from 1, if A fails at hand `k` and B at hand `m`.
 fn wanted_of(turn: u8, k: u8, m: u8) -> Option<(usize, Standing)> {
     let last = k.max(m);
     let standing = Standing {
@@ -35,14 +35,14 @@ fn wanted_of(turn: u8, k: u8, m: u8) -> Option<(usize, Standing)> {
     }
 }
 
-/// Asserts what the poll with this number, counted from 1, answers where A fails at hand `k` and B at
-/// hand `m`: a release while one of them stands, nothing where the last one fails, and then `BothDown`.
+/// Asserts the answer of the poll with this number, counted from 1, if A fails at hand `k` and B at hand
+/// `m`: a release while one of them is up, none when the last one fails, and then `BothDown`.
 fn assert_answer(rt: &impl Abort, turn: u8, k: u8, m: u8, answer: Result<Report, PollFault>) {
     let (told, wanted) = (told_of(answer), wanted_of(turn, k, m));
     assert_eq!(rt; told, wanted, "at poll {turn} of {k}, {m}");
 }
 
-/// A run of six polls where A fails at hand `k` and B at hand `m`.
+/// A run of six polls, in which A fails at hand `k` and B at hand `m`.
 fn run_failing<R: Abort>(rt: &R, alloc: Global, k: u8, m: u8)
     requires { (1 ≤ k) × (1 ≤ m) }
 {
@@ -67,7 +67,7 @@ fn each_network_keeps_the_frames_before_its_failure_whenever_both_fail(rt: HostR
     }
 }
 
-/// A frame that was handed over, and its moment in microseconds.
+/// A frame that a network took, and its time in microseconds.
 #[derive(Drop)]
 struct Kept {
     at: u64,
@@ -83,7 +83,7 @@ impl Default for Kept {
     }
 }
 
-/// A network with room for two frames, which fails where it is full.
+/// A network with room for two frames, which fails when it is full.
 #[derive(Drop)]
 struct Shelf {
     kept: ArrayVec<Kept, 2>,
@@ -116,7 +116,7 @@ fn empty_shelf() -> Shelf
     }
 }
 
-/// Asserts that a shelf keeps the first two frames, and failed once.
+/// Asserts that a shelf keeps the first two frames and failed once.
 fn assert_full(rt: &impl Abort, shelf: &Shelf) {
     assert_same(rt, shelf.kept.len(), 2);
     for (place, kept) in (0..2u8).zip(shelf.kept.iter()) {

@@ -2,7 +2,7 @@
 use afdx_tx::{NoSuchSub, PollFault, Refusal};
 use std::fmt::InlineText;
 
-// Why a port refuses a message, the number of that, and its name.
+// Why a port refuses a message, with the number and the name of that.
 const REFUSALS: [(Refusal, u8, &str); 5] = [
     (Refusal::Empty, 1, "Empty"),
     (Refusal::TooLong, 2, "TooLong"),

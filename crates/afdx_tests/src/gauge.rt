@@ -1,4 +1,4 @@
-//! A network that keeps no frame, and takes the right ones alone.
+//! A network that keeps no frame and takes only the right ones.
 ghost use Rattle.std.specs.Prelude.{◌≡◌, []};
 ghost use Rattle.redundant_mux.specs.Logged.{entries_of};
 
@@ -6,21 +6,21 @@ use crate::testing::GAP;
 use afdx_plan::Networks;
 use redundant_mux::{HandFault, Network, Trail};
 
-/// How many bytes each frame has: the least, for messages of eight bytes.
+/// The length of each frame in bytes: the least, for messages of eight bytes.
 pub(crate) const FRAME: usize = 60;
 
 // The place of the interface identifier, in which twins differ.
 const INTERFACE: usize = 11;
 
-// The prime by which a digest goes on (FNV-1a, 64 bits), and where it begins.
+// The prime and the first value of a digest (FNV-1a, 64 bits).
 const PRIME: u64 = 0x0000_0100_0000_01b3;
 
 const BASIS: u64 = 0xcbf2_9ce4_8422_2325;
 
-/// A network that keeps no frame, so its memory doesn't grow. It takes a frame only where that is the
-/// next one of the first sub-VL of a link with a gap of 1 ms: its sequence number and its identification
-/// follow those before, its message is its place in the run, as eight bytes, and it comes a gap after
-/// the last one or later. It fails where a frame is any other.
+/// A network that keeps no frame, so its memory doesn't grow. It takes only the next frame of the first
+/// sub-VL of a link with a gap of 1 ms: its sequence number and its identification follow those before, its
+/// message is its place in the run, as eight bytes, and it is at least a gap after the last one. It fails
+/// at any other frame.
 #[derive(Drop)]
 pub(crate) struct Gauge {
     interface: u8,
@@ -33,8 +33,8 @@ pub(crate) struct Gauge {
     trail: Trail,
 }
 
-/// What a network has seen: how many frames it took, the sequence number and the identification that
-/// come next, and a digest of each moment and of each frame but for its interface identifier.
+/// What a network has seen: how many frames it took, the next sequence number and the next identification,
+/// and a digest of the time and the bytes of each frame but for its interface identifier.
 #[derive(Clone, Copy, Debug, PartialEq, Eq)]
 pub(crate) struct Seen {
     pub(crate) frames: u64,
@@ -43,7 +43,7 @@ pub(crate) struct Seen {
     pub(crate) digest: u64,
 }
 
-/// The sequence number behind another one: 0, 1 to 255, and then 1 again.
+/// The sequence number after another one: 0, 1 to 255, and then 1 again.
 fn number_behind(number: u8) -> u8 {
     match number.checked_add(1) {
         Some(next) => next,
@@ -51,12 +51,12 @@ fn number_behind(number: u8) -> u8 {
     }
 }
 
-/// A digest that goes on by a byte.
+/// Adds a byte to a digest.
 fn digest_byte(digest: u64, byte: u8) -> u64 {
     (digest ^ u64::from(byte)).wrapping_mul(PRIME)
 }
 
-/// A digest that goes on by bytes.
+/// Adds bytes to a digest.
 fn digest_bytes(digest: u64, bytes: &[u8]) -> u64 {
     let mut sum = digest;
     for byte in bytes {
@@ -65,7 +65,7 @@ fn digest_bytes(digest: u64, bytes: &[u8]) -> u64 {
     sum
 }
 
-/// A digest that goes on by a moment and a frame without its interface identifier.
+/// Adds the time and the bytes of a frame, without its interface identifier, to a digest.
 fn digest_frame(digest: u64, at: u64, frame: &[u8]) -> u64 {
     let moment = digest_bytes(digest, at.to_be_bytes().as_slice());
     let front = digest_bytes(moment, frame.get(..INTERFACE).unwrap_or(&[]));
@@ -73,7 +73,7 @@ fn digest_frame(digest: u64, at: u64, frame: &[u8]) -> u64 {
 }
 
 impl Gauge {
-    /// One with this interface identifier, that was handed nothing.
+    /// An empty one with this interface identifier.
     pub(crate) fn new(interface: u8) -> Gauge
         ensures empty { entries_of result.trail.logged ≡ [] }
         ensures new { result.failures ≡ 0 }
@@ -90,7 +90,6 @@ impl Gauge {
         }
     }
 
-    /// How often it failed.
     pub(crate) fn failures(&self) -> u64
         ensures { result ≡ self.now.failures }
     {
@@ -107,7 +106,7 @@ impl Gauge {
         }
     }
 
-    // Whether a moment is a gap behind the last one.
+    // Whether a time is at least a gap after the last one.
     fn is_spaced(&self, at: u64) -> bool {
         match self.last {
             Some(last) => at >= last && at - last >= GAP,
@@ -141,7 +140,7 @@ impl Network for Gauge {
         self.identification = self.identification.wrapping_add(4);
         self.last = Some(at);
         self.digest = digest_frame(self.digest, at, frame);
-        // Its own list alone is told, so the networks that it names are indifferent.
+        // The contract ignores this value, so any `Networks` will do.
         self.trail = Trail::with(&self.trail, &Networks::Both, &at, frame);
         Ok(())
     }

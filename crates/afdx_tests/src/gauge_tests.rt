@@ -1,10 +1,10 @@
-//! Tests of the network that takes the right frames alone.
+//! Tests of the network that takes only the right frames.
 use crate::gauge::{FRAME, Gauge, Seen};
 use crate::testing::*;
 use redundant_mux::Network;
 
-// What a gauge looks at: the moment of a frame, and its interface identifier, identification, place in
-// the run and sequence number.
+// What a gauge checks: the time of a frame, and its interface identifier, identification, place in the run
+// and sequence number.
 type Handed = (u64, u8, u16, u64, u8);
 
 // A frame with these fields, which is zero elsewhere.
@@ -18,7 +18,7 @@ fn frame_of(handed: &Handed) -> [u8; FRAME] {
     frame
 }
 
-// Hands a frame to a gauge that has failed less than a hundred times. Whether it took the frame.
+// Hands a frame to a gauge that has failed less than a hundred times. Returns whether it took the frame.
 fn takes(gauge: &mut Gauge, handed: &Handed) -> bool {
     gauge.failures() < 100 && gauge.hand(handed.0, frame_of(handed).as_slice()).is_ok()
 }
@@ -30,7 +30,7 @@ const SECOND: Handed = (GAP, 0x20, 4, 1, 1);
 
 const THIRD: Handed = (2 * GAP, 0x20, 8, 2, 2);
 
-// What is not the second one.
+// Frames that aren't the second one.
 const WRONG: [Handed; 7] = [
     FIRST,
     THIRD,
@@ -54,7 +54,7 @@ fn a_gauge_takes_the_next_frame_alone(rt: HostRuntime) {
     assert_same(&rt, gauge.failures(), 7);
 }
 
-// What a gauge has seen after a first frame at a moment, for its interface, with this source byte.
+// What a gauge with this interface has seen after a first frame at a time, with this source byte.
 fn seen_with(at: u64, interface: u8, source: u8) -> Seen {
     let mut gauge = Gauge::new(interface);
     let mut frame = frame_of(&(at, interface, 0, 0, 0));

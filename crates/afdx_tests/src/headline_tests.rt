@@ -1,5 +1,5 @@
-//! The headline over a port's own list: the port sends from a thread of its own and comes back, and
-//! what it had accepted is what both networks were handed.
+//! The headline over a port's own list: the port sends from a thread of its own and is taken back, and both
+//! networks took what it had accepted.
 ghost use Rattle.std.specs.Prelude.{◌≡◌, ℕ, ◌∷◌, [], IfSome};
 ghost use Rattle.afdx_plan.specs.Demo.{demo_plan};
 ghost use Rattle.redundant_mux.specs.Lines.{log};
@@ -21,7 +21,7 @@ use std::snapshot::Snapshot;
 use std::thread;
 use std::thread::{Promise, Threads};
 
-// The emitter of the demonstration configuration, and its one port.
+// Opens the demonstration configuration. Returns the emitter and its one port.
 fn open_demo<R: Abort>(rt: &R, alloc: Global) -> (Sending, TxPort)
     ensures plan { result.0.plan ≡ demo_plan }
     ensures port { IsUnused result.0 result.1 }
@@ -35,7 +35,7 @@ fn open_demo<R: Abort>(rt: &R, alloc: Global) -> (Sending, TxPort)
     (tx, port)
 }
 
-// The port that comes back, if it does, is the one that was given after it sent two messages.
+// The port that a thread returns, if any, is the given one after it sent two messages.
 #[derive(Drop)]
 struct SendsTwo {
     of: Snapshot<TxPort>,
@@ -56,7 +56,7 @@ fn send_byte(alloc: Global, port: &mut TxPort, byte: u8) -> Option<()>
     port.send(message).ok()
 }
 
-// Sends two messages. The port, if both were accepted.
+// Sends two messages. Returns the port if both were accepted.
 fn send_two(alloc: Global, mut port: TxPort) -> Option<TxPort>
     ensures { IfSome result (SentTwo port) }
 {
@@ -78,7 +78,7 @@ fn poll_meanwhile<R: Abort>(rt: &R, tx: &mut Sending)
     }
 }
 
-// The port sends in a thread of its own, while the emitter is polled, and comes back.
+// The port sends in a thread of its own, while the emitter is polled. Returns the port after that.
 fn send_beside<R: Threads + Abort + Copy + Send + 'static>(
     rt: R,
     alloc: Global,
@@ -99,7 +99,7 @@ fn send_beside<R: Threads + Abort + Copy + Send + 'static>(
     back.expect(&rt, "both messages have room")
 }
 
-// Gathers the one port. What was accepted of it is its own list.
+// Takes back the one port and starts draining. What was accepted of it is its own list.
 fn gather_one<R: Abort>(rt: &R, alloc: Global, tx: Sending, port: TxPort) -> Drain
     requires { IsPortOfTx tx port }
     ensures plan { result.plan ≡ tx.plan }
@@ -109,7 +109,7 @@ fn gather_one<R: Abort>(rt: &R, alloc: Global, tx: Sending, port: TxPort) -> Dra
     gather(rt, tx, ports)
 }
 
-// Polls, a gap apart, until all was released.
+// Polls, a gap apart, until all is released.
 fn drain_whole<R: Abort>(rt: &R, draining: &mut Drain)
     ensures plan { draining.new.plan ≡ draining.old.plan }
     ensures accepted { accepted_in draining.new.links ≡ accepted_in draining.old.links }
@@ -128,7 +128,7 @@ fn drain_whole<R: Abort>(rt: &R, draining: &mut Drain)
     panic!(rt; "two polls send two frames")
 }
 
-// The two networks once all that the port had accepted from its thread was handed to them.
+// The two networks after they took all that the port had accepted from its thread.
 fn hand_whole<R: Threads + Abort + Copy + Send + 'static>(
     rt: R,
     alloc: Global,
@@ -142,7 +142,7 @@ fn hand_whole<R: Threads + Abort + Copy + Send + 'static>(
     draining.into_networks()
 }
 
-// A network was handed two frames, of the two messages in their order.
+// Asserts that a network took two frames, of the two messages in their order.
 fn check_two(rt: &impl Abort, network: &MemNetwork) {
     assert_same(rt, network.handed().len(), 2);
     for (byte, entry) in (1u8..).zip(network.handed()) {
@@ -157,8 +157,8 @@ fn a_port_sends_from_its_thread_and_its_own_list_is_handed_over(rt: HostRuntime)
     check_two(&rt, &b);
 }
 
-// Closes the sub-VL while its port may send, polls, and gathers. The total that the close told is how
-// many messages were accepted, whatever the port sent after it.
+// Closes the sub-VL while its port may send, polls, and starts draining. The total of the close is how many
+// messages were accepted, whatever the port sends after it.
 fn close_poll_and_gather<R: Abort>(
     rt: &R,
     alloc: Global,

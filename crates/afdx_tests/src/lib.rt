@@ -1,4 +1,4 @@
-//! Tests of the emitter, over what its users see.
+//! Tests of the emitter through its public calls.
 #![tactic(auto)]
 
 #[cfg(test)]

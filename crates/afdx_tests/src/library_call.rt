@@ -4,7 +4,7 @@ use afdx_plan::demo_config;
 use afdx_tx::{Report, open_tx};
 use redundant_mux::MemNetwork;
 
-/// Asserts that a network was handed one frame, with the message in it.
+/// Asserts that a network took one frame, with the message in it.
 fn assert_hello(rt: &impl Abort, network: &MemNetwork) {
     let handed = network.handed();
     assert_same(rt, handed.len(), 1);
@@ -13,7 +13,7 @@ fn assert_hello(rt: &impl Abort, network: &MemNetwork) {
     }
 }
 
-// Asserts that one frame was released, and that each network was handed it.
+// Asserts that one frame was released, and that each network took it.
 fn assert_sent(rt: &impl Abort, report: &Report, a: &MemNetwork, b: &MemNetwork) {
     assert_same(rt, report.released.len(), 1);
     assert_hello(rt, a);

@@ -1,11 +1,11 @@
-//! Networks and links as lists: what an end system hands over, told once more for tests. Each link has
-//! one sub-VL, and its messages have one frame each.
+//! A model of an end system for tests: networks and links as lists. Each link has one sub-VL, and its
+//! messages have one frame each.
 use afdx_plan::{Networks, VlId};
 use afdx_tx::Release;
 use status_board::Counts;
 use std::alloc::{AllocError, Global};
 
-/// A frame as a list keeps it: its moment in microseconds, its link and its sequence number.
+/// A frame as a list keeps it: its time in microseconds, its link and its sequence number.
 #[derive(Clone, Copy, Debug, PartialEq, Eq)]
 pub(crate) struct Seen {
     pub(crate) at: u64,
@@ -23,7 +23,6 @@ pub(crate) struct ListNetwork {
 }
 
 impl ListNetwork {
-    /// One that was handed nothing.
     pub(crate) fn new(alloc: Global, fails_at: u8) -> ListNetwork {
         ListNetwork {
             taken: Vec::new(alloc),
@@ -33,7 +32,7 @@ impl ListNetwork {
         }
     }
 
-    // Whether it takes a frame.
+    // Takes a frame, unless the network is down or fails at it. Returns whether it did.
     fn takes(&mut self, frame: Seen) -> Result<bool, AllocError> {
         if !self.stands {
             return Ok(false);
@@ -46,7 +45,7 @@ impl ListNetwork {
         Ok(self.stands)
     }
 
-    // How many frames of a link it took, and the moment of the last, 0 where there is none.
+    // How many frames of a link it took, and the time of the last, 0 if there is none.
     fn taken_of(&self, vl: u16) -> (u64, u64) {
         let mut frames = 0u64;
         let mut last = 0;
@@ -60,8 +59,7 @@ impl ListNetwork {
     }
 }
 
-/// A link as a list: the networks that carry it, how many messages it has left, and the number of its
-/// next frame.
+/// A link as a list: the networks that carry it, how many messages it has left, and the number of its next frame.
 #[derive(Clone, Copy, Debug, PartialEq, Eq)]
 pub(crate) struct ListLink {
     pub(crate) vl: u16,
@@ -78,7 +76,7 @@ pub(crate) struct ListSystem {
     pub(crate) b: ListNetwork,
 }
 
-// A link sends its next frame, where it has one and a network that carries it stands. What was released.
+// A link sends its next frame, if it has one and a network that carries it is up. Returns the release.
 fn turn(
     link: &mut ListLink,
     a: &mut ListNetwork,
@@ -110,7 +108,7 @@ fn turn(
 }
 
 impl ListSystem {
-    /// A poll: what each link released, in order. None where both networks were down.
+    /// Polls. Returns what each link released, in order, or None if both networks were down.
     pub(crate) fn poll(
         &mut self,
         alloc: Global,

@@ -10,7 +10,7 @@ use afdx_tx::{Emitter, TxPort, open_tx};
 use status_board::{Counts, Monitor};
 use std::sync::Wait;
 
-// How many messages go through the link.
+// How many messages the link sends.
 const MESSAGES: u64 = 1_000_000;
 
 type Tx = Emitter<Gauge, Gauge>;
@@ -23,8 +23,7 @@ fn number_at(place: u64) -> u8 {
     }
 }
 
-// The message at a place of the run is sent, goes out at once, a gap after the one before, and is
-// published.
+// Sends the message at a place of the run, polls a gap after the poll before, which releases it, and publishes.
 fn send_one<R: Abort + Wait>(rt: &R, alloc: Global, tx: &mut Tx, port: &mut TxPort, place: u64) {
     send_taken(rt, alloc, port, place.to_be_bytes().as_slice());
     let now = GAP.saturating_mul(place);
@@ -33,8 +32,8 @@ fn send_one<R: Abort + Wait>(rt: &R, alloc: Global, tx: &mut Tx, port: &mut TxPo
     tx.publish(rt);
 }
 
-// Asserts that a network saw all messages. The sequence number that comes next is that of place
-// 1,000,000, and the identification that comes next is 4,000,000 modulo 65,536.
+// Asserts that a network saw all messages. The next sequence number is that of place 1,000,000, and the
+// next identification is 4,000,000 modulo 65,536.
 fn assert_seen(rt: &impl Abort, seen: Seen) {
     assert_same(rt, seen.frames, MESSAGES);
     assert_same(rt, seen.number, 145);

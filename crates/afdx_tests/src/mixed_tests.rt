@@ -1,4 +1,4 @@
-//! Tests of links of which some are on both networks and some on one, against lists.
+//! Tests against the list model: links of which some are on both networks and some on one.
 use crate::list_model::{ListLink, ListNetwork, ListSystem, Seen};
 use crate::rig::*;
 use crate::testing::*;
@@ -47,7 +47,7 @@ pub(crate) fn open_links<R: Abort>(
     open(rt, alloc, &text, fails)
 }
 
-// Each port sends as many messages of one byte as its link is to have.
+// Each port sends as many messages of one byte as its link has in the list.
 fn send_each<R: Abort>(rt: &R, alloc: Global, rig: &mut Rig, links: &[ListLink]) {
     for (place, link) in links.iter().enumerate() {
         for byte in 0..link.left {
@@ -56,7 +56,7 @@ fn send_each<R: Abort>(rt: &R, alloc: Global, rig: &mut Rig, links: &[ListLink])
     }
 }
 
-// A poll answers what the lists do.
+// Asserts that a poll answers as the lists do.
 fn assert_answer(
     rt: &impl Abort,
     answer: Result<Report, PollFault>,
@@ -73,7 +73,7 @@ fn assert_answer(
     }
 }
 
-// What is seen of a frame that was handed over.
+// What a list keeps of a frame.
 fn seen_of(handed: &Handed) -> Option<Seen> {
     let frame = handed.frame.as_slice();
     Some(Seen {
@@ -83,7 +83,7 @@ fn seen_of(handed: &Handed) -> Option<Seen> {
     })
 }
 
-// A network was handed what the list has.
+// Asserts that a network took the frames of the list.
 fn assert_list(rt: &impl Abort, network: &MemNetwork, list: &ListNetwork) {
     assert_same(rt, network.handed().len(), list.taken.len());
     for (handed, seen) in network.handed().iter().zip(list.taken.iter()) {
@@ -91,7 +91,7 @@ fn assert_list(rt: &impl Abort, network: &MemNetwork, list: &ListNetwork) {
     }
 }
 
-// The emitter shows the networks as the lists have them, and the counts of each link.
+// Asserts that the emitter shows the networks as the lists have them, and the counts of each link.
 fn assert_shown<R: Abort>(rt: &R, rig: &Rig, lists: &ListSystem) {
     let (a, b) = rig.networks();
     assert_list(rt, a, &lists.a);
@@ -102,7 +102,7 @@ fn assert_shown<R: Abort>(rt: &R, rig: &Rig, lists: &ListSystem) {
     assert_same(rt, rig.counts(9), None);
 }
 
-// A run over these links, where A fails at hand `k` and B at hand `m`, counted from 1. Polls are a gap apart.
+// A run over these links, in which A fails at hand `k` and B at hand `m`, counted from 1. Polls are a gap apart.
 fn run<R: Abort>(rt: &R, alloc: Global, links: Vec<ListLink>, k: u8, m: u8) {
     let mut rig = open_links(rt, alloc, links.as_slice(), (u64::from(k), u64::from(m)));
     send_each(rt, alloc, &mut rig, links.as_slice());
@@ -121,7 +121,7 @@ fn run<R: Abort>(rt: &R, alloc: Global, links: Vec<ListLink>, k: u8, m: u8) {
     }
 }
 
-/// A link with so many messages.
+/// A link with `left` messages.
 pub(crate) fn link(vl: u16, networks: Networks, left: u8) -> ListLink {
     ListLink {
         vl,
@@ -131,7 +131,7 @@ pub(crate) fn link(vl: u16, networks: Networks, left: u8) -> ListLink {
     }
 }
 
-// Three links: on A, on B and on both. Each network is to take at most six frames.
+// Three links: on A, on B and on both. Each network takes at most six frames.
 #[test]
 fn links_on_a_on_b_and_on_both_whenever_both_networks_fail(rt: HostRuntime) {
     let alloc = rt.alloc();
@@ -148,7 +148,7 @@ fn links_on_a_on_b_and_on_both_whenever_both_networks_fail(rt: HostRuntime) {
     }
 }
 
-// The next number of a run that looks random (xorshift, 64 bits).
+// The next pseudo-random number (xorshift, 64 bits).
 fn shuffled(state: u64) -> u64 {
     let first = state ^ (state << 13);
     let second = first ^ (first >> 7);
@@ -173,7 +173,7 @@ fn up_to_12(number: u64) -> u8 {
     u8::try_from(number % 12).unwrap_or(0).saturating_add(1)
 }
 
-// As many links as a plan of this number has, one to five.
+// One to five links, by a number.
 fn some_links(alloc: Global, seed: u64) -> Result<Vec<ListLink>, AllocError> {
     let mut links = Vec::new(alloc);
     let mut state = seed;

@@ -1,4 +1,4 @@
-//! Tests of a port that is in its pause while others send.
+//! Tests of a port that pauses in a send while others send.
 ghost use Rattle.std.specs.Prelude.{◌≤◌, length};
 ghost use Rattle.subvl_queue.specs.Messages.{most_bytes};
 
@@ -12,10 +12,11 @@ use std::thread;
 use std::thread::{JoinHandle, Threads};
 use subvl_queue::{Receiver, Sender, make};
 
-// How often a thread looks for what another sends.
+// How often a thread polls for what another sends.
 const TURNS: u64 = 100_000_000;
 
-// How many bytes a port sends, the steps in its pause, whether they are taken, and why it is refused, if it is.
+// How many bytes a port sends, the steps in its pause, whether they are taken, and why the message is
+// refused, if it is.
 type Paused<'a> = (usize, &'a [Step<'a>], bool, Option<Refusal>);
 
 fn act_all<R: Abort + Wait>(rt: &R, alloc: Global, rig: &mut Rig, steps: &[Step]) {
@@ -42,8 +43,7 @@ fn send_paused<R: Abort + Wait>(
     assert_same(rt, ran, is_taken);
 }
 
-// The port of sub-VL 0 sends, again and again, and then steps are taken. The port of sub-VL 1 is the only one of
-// the steps.
+// The port of sub-VL 0 sends, again and again, and then steps are taken. The steps have the port of sub-VL 1 alone.
 fn play_paused<R: Abort + Wait>(rt: &R, alloc: Global, sends: &[Paused], after: &[Step]) {
     let mut rig = open(rt, alloc, TWO_SUB_VLS, NEVER);
     let mut port = rig.take_first(rt);
@@ -60,7 +60,7 @@ fn another_sub_vl_releases_in_the_pause_of_a_port(rt: HostRuntime) {
     play_paused(&rt, rt.alloc(), &[(1, steps, true, None)], after);
 }
 
-// The close in the pause counts the message. It goes out, and one of the other sub-VL, which is open.
+// The close in the pause counts the message. It is sent, and so is one of the other sub-VL, which is open.
 #[test]
 fn a_close_in_the_pause_of_a_port_counts_its_message(rt: HostRuntime) {
     let sends: [Paused; 2] = [
@@ -96,19 +96,18 @@ fn a_message_goes_out_after_the_pause_of_its_port(rt: HostRuntime) {
     play_paused(&rt, rt.alloc(), &[(1, steps, true, None)], after);
 }
 
-// A queue of one message, and its one sender, which may send once.
+// A queue of one message and its one sender, which may send once.
 fn queue(alloc: Global) -> Result<(Receiver, Vec<Sender>), AllocError> {
     make(alloc, 1, 1, 1)
 }
 
-// One end says a word, once, and the other hears it.
+// The two ends of a word that one thread says, once, and another hears.
 fn word(alloc: Global) -> Result<(Receiver, Sender), AllocError> {
     let (hears, mut says) = queue(alloc)?;
     let says = says.pop().ok_or(AllocError)?;
     Ok((hears, says))
 }
 
-// Sends a message. Whether it could.
 fn is_sent(says: &mut Sender, bytes: Vec<u8>) -> bool
     requires some { 1 ≤ length bytes.items }
     requires most { length bytes.items ≤ most_bytes }
@@ -116,7 +115,7 @@ fn is_sent(says: &mut Sender, bytes: Vec<u8>) -> bool
     says.send(bytes).is_ok()
 }
 
-// Says the word. Whether it could.
+// Says the word. Returns whether that succeeded.
 fn say(alloc: Global, says: &mut Sender) -> bool {
     match vec![in alloc; 0u8] {
         Ok(bytes) => is_sent(says, bytes),
@@ -124,7 +123,7 @@ fn say(alloc: Global, says: &mut Sender) -> bool {
     }
 }
 
-// Looks until the word is heard. Whether it was.
+// Polls until the word is heard. Returns whether it was.
 fn hear(hears: &mut Receiver) -> bool {
     for _turn in 0..TURNS {
         if hears.take().is_some() {
@@ -135,7 +134,7 @@ fn hear(hears: &mut Receiver) -> bool {
     false
 }
 
-// Sends a message, and in its pause says that it is there and is held until it may go on. Whether the
+// Sends a message. In its pause, says that it is there and waits until it may go on. Returns whether the
 // message was accepted.
 fn send_held(alloc: Global, mut port: TxPort, mut here: Sender, mut go: Receiver) -> bool {
     match vec![in alloc; 1u8] {

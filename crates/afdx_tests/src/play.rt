@@ -13,16 +13,16 @@ pub(crate) type Frame = (u16, u8, u8);
 /// The counts of a link: frames, bytes, messages, and the time of the last frame in microseconds.
 pub(crate) type Counted = (u64, u64, u64, u64);
 
-/// What a test does, and what comes of it.
+/// What a test does, and what it expects.
 #[derive(Clone, Copy)]
 pub(crate) enum Step<'a> {
     /// The port at this place sends a message, which is accepted.
     Sends(usize, &'a [u8]),
-    /// The port at this place sends a message, which is refused and comes back.
+    /// The port at this place sends a message, which is refused and returned.
     Refused(usize, &'a [u8], Refusal),
-    /// The port at this place has this identifier, and so many messages of it were accepted.
+    /// The port at this place has this identifier, and this many of its messages were accepted.
     Accepted(usize, u16, u64),
-    /// A sub-VL of a link is closed, or isn't there.
+    /// A sub-VL of a link is closed, or is missing.
     Closes(u16, u8, Result<u64, NoSuchSub>),
     /// A poll at this time releases these frames, and these networks are up after it.
     Polls(u64, &'a [Frame], Standing),
@@ -32,12 +32,11 @@ pub(crate) enum Step<'a> {
     IsAt(u64),
     /// These are the counts of a link.
     Counts(u16, Option<Counted>),
-    /// The counts are published, and the monitor reads these, in the order of the configuration, as often as
-    /// it reads.
+    /// The counts are published, and the monitor reads these each time, in the order of the configuration.
     Reads(&'a [Counted]),
-    /// Each network holds the frames of so many polls, which are 1 ms apart, and failed so often.
+    /// The number of frames that each network holds, of polls 1 ms apart, and how often it failed.
     Holds((u8, u64), (u8, u64)),
-    /// Each accepted message was sent, or isn't.
+    /// Whether each accepted message was sent.
     IsDone(bool),
 }
 
@@ -47,11 +46,11 @@ pub(crate) struct Play<'a> {
     pub(crate) text: &'a str,
     pub(crate) fails: (u64, u64),
     pub(crate) steps: &'a [Step<'a>],
-    /// The steps after the ports came back.
+    /// The steps of the drain.
     pub(crate) rest: &'a [Step<'a>],
 }
 
-// A report tells these frames and networks.
+// Asserts that a report has these frames and networks.
 fn assert_told(rt: &impl Abort, report: &Report, frames: &[Frame], standing: Standing) {
     assert_same(rt, report.released.len(), frames.len());
     for (release, frame) in report.released.iter().zip(frames) {
@@ -60,7 +59,7 @@ fn assert_told(rt: &impl Abort, report: &Report, frames: &[Frame], standing: Sta
     assert_same(rt, report.standing, standing);
 }
 
-/// A poll released these frames, and left these networks up.
+/// Asserts that a poll released these frames and left these networks up.
 pub(crate) fn assert_report(
     rt: &impl Abort,
     answer: Result<Report, PollFault>,
@@ -73,7 +72,7 @@ pub(crate) fn assert_report(
     }
 }
 
-// The monitor reads these counts.
+// Asserts that the monitor reads these counts.
 fn assert_read<S: System, R: Abort + Wait>(rt: &R, system: &mut S, counts: &[Counted]) {
     for (place, wanted) in counts.iter().enumerate() {
         assert_same(rt, counted(system.read(rt, place)), *wanted);
@@ -84,7 +83,7 @@ fn counted(counts: Counts) -> Counted {
     (counts.frames, counts.bytes, counts.messages, counts.last)
 }
 
-// A step before the ports came back, and after.
+// Takes a step that may be before or in the drain.
 fn common<S: System, R: Abort + Wait>(rt: &R, system: &mut S, step: Step) {
     match step {
         Step::Polls(now, frames, standing) => {
@@ -111,7 +110,7 @@ fn common<S: System, R: Abort + Wait>(rt: &R, system: &mut S, step: Step) {
     }
 }
 
-/// Takes a step while the ports are out.
+/// Takes a step before the drain.
 pub(crate) fn act<R: Abort + Wait>(rt: &R, alloc: Global, rig: &mut Rig, step: Step) {
     match step {
         Step::Sends(place, bytes) => assert_same(rt, rig.send(rt, alloc, place, bytes), None),
@@ -126,7 +125,7 @@ pub(crate) fn act<R: Abort + Wait>(rt: &R, alloc: Global, rig: &mut Rig, step: S
     }
 }
 
-/// Takes a step after the ports came back.
+/// Takes a step in the drain.
 pub(crate) fn act_in_rest<R: Abort + Wait>(rt: &R, rest: &mut Rest, step: Step) {
     match step {
         Step::IsDone(is_done) => assert_same(rt, rest.draining.is_done(), is_done),
@@ -134,7 +133,7 @@ pub(crate) fn act_in_rest<R: Abort + Wait>(rt: &R, rest: &mut Rest, step: Step) 
     }
 }
 
-/// Plays the steps. What is left then.
+/// Plays the steps. Returns what is left then.
 pub(crate) fn played<R: Abort + Wait>(rt: &R, alloc: Global, play: &Play) -> Rest {
     let mut rig = open(rt, alloc, play.text, play.fails);
     for step in play.steps {

@@ -12,8 +12,7 @@ const FOR_A: [u8; 60] = *b"\x03\x00\x00\x00\x00\x01\x02\x00\x00\x00\x01\x20\x08\
     \x03\xe8\x07\xd0\x00\x09\x00\x00\x01\
     \x00\x00\x00\x00\x00\x00\x00\x00\x00\x00\x00\x00\x00\x00\x00\x00\x00";
 
-// It goes out as one frame of 60 bytes on each network, and is counted once it is sent. A link that isn't there
-// isn't counted.
+// It is sent as one frame of 60 bytes on each network, and is counted once it is sent. A missing link has no counts.
 const ONE_BYTE: Play = Play {
     text: DEMO,
     fails: NEVER,
@@ -29,7 +28,7 @@ const ONE_BYTE: Play = Play {
     rest: &[IsDone(true), Holds((1, 0), (1, 0))],
 };
 
-// A network holds this frame alone.
+// Asserts that a network holds this frame alone.
 fn assert_first(rt: &impl Abort, network: &MemNetwork, frame: &[u8]) {
     for entry in network.handed() {
         assert_bytes(rt, entry.frame.as_slice(), frame);
@@ -46,7 +45,7 @@ fn a_message_of_one_byte_goes_out_as_one_frame_on_each_network(rt: HostRuntime) 
     assert_first(&rt, &b, &for_b);
 }
 
-// 1,472 bytes are cut in two: frames of 14 + 20 + 1,472 + 1 bytes, and of 60, the least.
+// 1,472 bytes are sent in two frames: of 14 + 20 + 1,472 + 1 bytes, and of 60, the least.
 const TWO_FRAMES: Play = Play {
     text: DEMO,
     fails: NEVER,
@@ -88,7 +87,7 @@ fn a_link_releases_nothing_before_its_gap_is_over(rt: HostRuntime) {
     let _rest = played(&rt, rt.alloc(), &GAPS);
 }
 
-// A fails at its third hand. B, the last that is up, fails at its sixth: that frame is lost and isn't counted.
+// A fails at its third hand. B, the last that is up, fails at its sixth. That frame is lost and isn't counted.
 const FAILING: Play = Play {
     text: SIX,
     fails: (3, 6),
@@ -124,7 +123,7 @@ fn frames_that_one_network_alone_took_count_and_those_that_none_took_do_not(rt: 
     let _rest = played(&rt, rt.alloc(), &FAILING);
 }
 
-// Messages fill the queue before the close. They go out after it, and what comes is refused as closed.
+// Messages fill the queue before the close. They are sent after it, and later ones are refused as closed.
 const CLOSED: Play = Play {
     text: DEMO,
     fails: NEVER,
@@ -167,7 +166,7 @@ fn a_sub_vl_that_is_closed_first_accepts_none(rt: HostRuntime) {
     let _rest = played(&rt, rt.alloc(), &CLOSED_FIRST);
 }
 
-// The link is not there, or the index is not, or neither is.
+// The link is missing, or the index is, or both are.
 const NOT_THERE: Play = Play {
     text: DEMO,
     fails: NEVER,
@@ -231,7 +230,7 @@ fn a_lost_frame_is_never_done(rt: HostRuntime) {
     let _rest = played(&rt, rt.alloc(), &LOST);
 }
 
-// Networks are seen while ports send, while what is left goes out, and when they come back.
+// Networks are seen while ports send, in the drain, and after it.
 const SEEN: Play = Play {
     text: DEMO,
     fails: (u64::MAX, 2),
@@ -271,7 +270,7 @@ port = [
 ]
 ";
 
-// Network A fails at its first hand, which is for link 1: link 2 goes out on B all the same, and the lost
+// Network A fails at its first hand, which is for link 1. Link 2 is sent on B all the same, and the lost
 // frame isn't counted.
 const BEHIND_A: Play = Play {
     text: ON_A_AND_ON_BOTH,
@@ -306,7 +305,8 @@ port = [
 ]
 ";
 
-// Both ports send as much as they may, which fills the queue. What is less or more is refused.
+// Each port sends a message of its greatest length, which fills the queue. An empty message, one that is too long
+// and one too many are refused.
 const FILLED: Play = Play {
     text: TWO_PORTS,
     fails: NEVER,
@@ -333,7 +333,7 @@ fn what_two_ports_sent_into_one_queue_goes_out_before_and_after_they_are_gathere
     let _rest = played(&rt, rt.alloc(), &FILLED);
 }
 
-// The queue is there as long as one of its ends is, and stays full.
+// The queue lives as long as one of its ends, and stays full.
 #[test]
 fn a_full_queue_stays_full_without_its_emitter(rt: HostRuntime) {
     let mut rig = open(&rt, rt.alloc(), DEMO, NEVER);

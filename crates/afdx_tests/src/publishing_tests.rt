@@ -8,21 +8,20 @@ use status_board::Monitor;
 use std::sync::Wait;
 use std::thread;
 
-// How many links there are, which is the most.
+// The number of links, which is the most that a plan may have.
 const LINKS: u16 = 64;
 
-// The place of the last one.
 const LAST: usize = 63;
 
-// How many messages each port sends, and the bytes of each, which go out in 342 frames: 341 pieces of 24
-// bytes, and one of the rest.
+// How many messages each port sends, and the bytes of each, which are sent in 342 frames: 341 pieces of
+// 24 bytes, and one of the rest.
 const MESSAGES: u8 = 16;
 
 const BYTES: usize = 8_192;
 
 const FRAMES: u64 = 16 * 342;
 
-// End system 1 with 64 links. The first and the last of them have a port each.
+// End system 1 with 64 links, of which the first and the last have a port each.
 fn plan_text(alloc: Global) -> Result<String, AllocError> {
     let mut text = format!(in alloc; "[end_system]\nid = 1\n")?;
     for vl in 0..LINKS {
@@ -52,7 +51,7 @@ fn poll_and_publish<R: Abort + Wait>(rt: &R, tx: &mut Sending) {
 }
 
 // Reads the last link and then the first one, which has as many frames at each poll, until all frames of
-// the last are counted. Whether the first one was never behind.
+// the last are counted. Returns whether the first one never had fewer.
 fn watch<R: Wait>(rt: &R, mut monitor: Monitor) -> bool
     requires { 64 ≤ links_of monitor }
 {

@@ -39,7 +39,7 @@ impl Model for Rig {
         × (links_of r.monitor ≡ length r.tx.plan.links) };
 }
 
-/// What is left to be sent after the ports came back, and the monitor.
+/// What is left to be sent in the drain, and the monitor.
 #[derive(Drop)]
 pub(crate) struct Rest {
     pub(crate) draining: Drain,
@@ -58,7 +58,7 @@ impl Model for Rest {
     ghost invariant = { λ r. links_of r.monitor ≡ length r.draining.plan.links };
 }
 
-/// What an end system answers before its ports came back, and after.
+/// What an end system answers before the drain and in it.
 pub(crate) trait System {
     /// Polls, at a time that isn't before the last one.
     fn poll<R: Abort>(&mut self, rt: &R, now: u64) -> Result<Report, PollFault>;
@@ -146,7 +146,8 @@ pub(crate) fn open<R: Abort>(rt: &R, alloc: Global, text: &str, fails: (u64, u64
     }
 }
 
-/// Sends a message. Why it was refused, if it was; it came back then. The port stays one of its emitter.
+/// Sends a message. Returns why it was refused, if it was, and asserts that the message is returned then. The
+/// port stays one of its emitter.
 pub(crate) fn send<R: Abort>(
     rt: &R,
     alloc: Global,
@@ -166,7 +167,7 @@ pub(crate) fn send<R: Abort>(
 }
 
 impl Rig {
-    /// The port at a place sends a message. Why it was refused, if it was.
+    /// The port at a place sends a message. Returns why it was refused, if it was.
     pub(crate) fn send<R: Abort>(
         &mut self,
         rt: &R,
@@ -178,14 +179,14 @@ impl Rig {
         send(rt, alloc, &mut self.ports[place], bytes)
     }
 
-    /// The identifier of the port at a place, and how many messages of it were accepted.
+    /// The identifier of the port at a place, and how many of its messages were accepted.
     pub(crate) fn told<R: Abort>(&self, rt: &R, place: usize) -> (u16, u64) {
         assert!(rt; place < self.ports.len());
         let port = &self.ports[place];
         (port.id().0, port.accepted())
     }
 
-    /// Each port sends so many messages of one byte, which are accepted.
+    /// Each port sends `many` messages of one byte, which are accepted.
     pub(crate) fn send_each<R: Abort>(&mut self, rt: &R, alloc: Global, many: u8) {
         for place in 0..self.ports.len() {
             for byte in 0..many {
@@ -200,13 +201,13 @@ impl Rig {
         self.ports.remove(0)
     }
 
-    // Takes the ports back, the last one first.
+    // Moves the last port to the front.
     fn take_ports<R: Abort>(&mut self, rt: &R) {
         let last = self.ports.pop().expect(rt, "a port");
         self.ports.insert(0, last).expect(rt, "memory");
     }
 
-    /// Gathers the ports, the last one first, and before it none of them, which is refused.
+    /// Calls `gather` without ports, which is refused, and then with all of them, the last one moved to the front.
     pub(crate) fn gather<R: Abort>(mut self, rt: &R, alloc: Global) -> Rest {
         self.take_ports(rt);
         let Rig { tx, ports, monitor } = self;

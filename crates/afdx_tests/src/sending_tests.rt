@@ -14,13 +14,13 @@ use std::sync::Wait;
 use std::thread;
 use std::thread::{Promise, PromisedHandle, Threads, join_promised};
 
-// How many ports the link has, two on each of its two sub-VLs.
+// The number of ports of the link, two on each of its two sub-VLs.
 pub(crate) const PORTS: u8 = 4;
 
 // How often a message is sent again after Full, and how often the emitter is polled meanwhile.
 const TURNS: u64 = 100_000_000;
 
-// The port that comes back, if one does, is of the same emitter as the one that was given.
+// The port that a thread returns, if any, is of the same emitter as the given one.
 #[derive(Drop)]
 pub(crate) struct ComesBack {
     of: Snapshot<TxPort>,
@@ -37,7 +37,7 @@ impl Promise<Option<TxPort>> for ComesBack {
 
 pub(crate) type Worker = PromisedHandle<Option<TxPort>, ComesBack>;
 
-// End system 1 with one link of two sub-VLs with room for so many messages. Ports 1 to 4 are of
+// End system 1 with one link of two sub-VLs with room for `capacity` messages. Ports 1 to 4 are of
 // partitions 1 to 4, the first two on sub-VL 0.
 fn plan_text(alloc: Global, capacity: usize) -> Result<String, AllocError> {
     let mut text = format!(in alloc;
@@ -55,7 +55,7 @@ fn plan_text(alloc: Global, capacity: usize) -> Result<String, AllocError> {
     Ok(text)
 }
 
-// Sends a message, and again after Full. Whether it was accepted.
+// Sends a message, and again after Full. Returns whether it was accepted.
 fn send_one(port: &mut TxPort, bytes: Vec<u8>) -> bool
     ensures { (tx : Tx) → IsPortOfTx tx port.old → IsPortOfTx tx port.new }
 {
@@ -78,8 +78,7 @@ fn send_one(port: &mut TxPort, bytes: Vec<u8>) -> bool
     false
 }
 
-// Sends the port's identifier with each number below `messages`, from 0 on, until one is refused for
-// good.
+// Sends the port's identifier with each number below `messages`, from 0 on, until one isn't accepted.
 fn send_all(alloc: Global, mut port: TxPort, messages: u8) -> Option<TxPort>
     ensures { IfSome result (λ back. (tx : Tx) → IsPortOfTx tx port → IsPortOfTx tx back) }
 {
@@ -93,7 +92,7 @@ fn send_all(alloc: Global, mut port: TxPort, messages: u8) -> Option<TxPort>
     Some(port)
 }
 
-// Each port sends in a thread of its own.
+// Starts a thread for each port, from which it sends.
 fn start_all<R: Threads + Abort + Copy + Send + 'static>(
     rt: R,
     alloc: Global,
@@ -114,7 +113,7 @@ fn start_all<R: Threads + Abort + Copy + Send + 'static>(
     workers
 }
 
-/// What is started: the emitter of that plan, the threads from which its ports send, and its monitor.
+/// The emitter of that plan, the threads from which its ports send, and its monitor.
 #[derive(Drop)]
 pub(crate) struct Started {
     pub(crate) tx: Sending,
@@ -122,7 +121,7 @@ pub(crate) struct Started {
     pub(crate) monitor: Monitor,
 }
 
-// Opens that plan over two networks that were handed nothing, and starts a thread for each port.
+// Opens that plan over two empty networks, and starts a thread for each port.
 pub(crate) fn open_and_start<R: Threads + Abort + Copy + Send + 'static>(
     rt: R,
     alloc: Global,
@@ -143,7 +142,7 @@ pub(crate) fn open_and_start<R: Threads + Abort + Copy + Send + 'static>(
     }
 }
 
-// The ports, if all came back.
+// The ports, if every thread returned one.
 fn all_back(alloc: Global, ended: Vec<Option<TxPort>>) -> Result<Vec<TxPort>, AllocError>
     ensures { IfOk result (λ ports. map Some ports.items ≡ ended.items) }
 {
@@ -154,7 +153,7 @@ fn all_back(alloc: Global, ended: Vec<Option<TxPort>>) -> Result<Vec<TxPort>, Al
     Ok(ports)
 }
 
-// Joins the workers. The ports that came back are of the same emitter as those that were given.
+// Joins the workers. The ports that they return are of the same emitter as the given ones.
 fn ports_back<R: Threads>(
     rt: &R,
     alloc: Global,
@@ -168,7 +167,7 @@ fn ports_back<R: Threads>(
     Ok(ports)
 }
 
-// The same, where all came back.
+// The same, if every worker returns its port.
 pub(crate) fn join_all<R: Threads + Abort>(
     rt: &R,
     alloc: Global,
@@ -180,7 +179,7 @@ pub(crate) fn join_all<R: Threads + Abort>(
     ports_back(rt, alloc, workers).expect(rt, "each port came back")
 }
 
-// Polls, a gap apart, until so many frames were released, while the ports send.
+// Polls, a gap apart, until `count` frames are released, while the ports send.
 pub(crate) fn poll_some<R: Abort>(rt: &R, tx: &mut Sending, count: usize)
     ensures plan { tx.new.plan ≡ tx.old.plan }
     ensures queues { queues_in tx.new.links ≡ queues_in tx.old.links }
@@ -199,7 +198,7 @@ pub(crate) fn poll_some<R: Abort>(rt: &R, tx: &mut Sending, count: usize)
     }
 }
 
-// Polls, a gap apart, until all was released, and no more often than so many times.
+// Polls, a gap apart, until all is released, at most `count` times.
 pub(crate) fn drain<R: Abort>(rt: &R, draining: &mut Drain, count: usize) {
     for _turn in 0..count {
         if draining.is_done() {
@@ -210,7 +209,7 @@ pub(crate) fn drain<R: Abort>(rt: &R, draining: &mut Drain, count: usize) {
     }
 }
 
-// The number of the frame at a place of a link's stream: 0, 1 to 255, 1 and so on.
+// The sequence number of the frame at a place of a link's stream: 0, 1 to 255, 1 and so on.
 fn number_at(place: usize) -> usize {
     match place.checked_sub(1) {
         Some(before) => before % 255 + 1,
@@ -218,15 +217,15 @@ fn number_at(place: usize) -> usize {
     }
 }
 
-// A frame has the least length, and the number of its place.
+// Asserts that a frame has the least length and the number of its place.
 fn check_place(rt: &impl Abort, frame: &[u8], place: usize) {
     assert_same(rt, frame.len(), 60);
     let number = frame.last().copied().expect(rt, "a number");
     assert_same(rt, usize::from(number), number_at(place));
 }
 
-// A frame has the next message of its port, whose number is below `messages`. The frame's partition
-// names the port.
+// Asserts that a frame has the next message of its port, whose number is below `messages`. The frame's
+// partition names the port.
 fn check_message(rt: &impl Abort, frame: &[u8], next: &mut [u8; PORTS as usize], messages: u8) {
     let port = frame.get(29).copied().expect(rt, "a partition");
     assert!(rt; 1 <= port);
@@ -238,8 +237,8 @@ fn check_message(rt: &impl Abort, frame: &[u8], next: &mut [u8; PORTS as usize],
     *number = number.saturating_add(1);
 }
 
-// Each port's messages were handed over in its order, with numbers below `messages`, and each frame has
-// the number of its place. How many messages of each port were handed over.
+// Asserts that a network took each port's messages in its order, with numbers below `messages`, and that
+// each frame has the number of its place. Returns how many messages of each port it took.
 pub(crate) fn check_frames(
     rt: &impl Abort,
     network: &MemNetwork,
@@ -253,7 +252,7 @@ pub(crate) fn check_frames(
     next
 }
 
-// Each port's messages were all handed over, and no more.
+// Asserts that a network took each port's messages, all of them and no other.
 fn check_whole(rt: &impl Abort, network: &MemNetwork, messages: u8) {
     let many = usize::from(PORTS).saturating_mul(usize::from(messages));
     assert_same(rt, network.handed().len(), many);
@@ -264,15 +263,15 @@ fn check_whole(rt: &impl Abort, network: &MemNetwork, messages: u8) {
     );
 }
 
-// What is gathered: what is left to be sent, and the monitor.
+// What is left to be sent in the drain, and the monitor.
 #[derive(Drop)]
 struct Gathered {
     draining: Drain,
     monitor: Monitor,
 }
 
-// Each port sends so many messages from a thread of its own, while the emitter is polled. All ports
-// come back, and no more messages are left than the capacity.
+// Each port sends `messages` messages from a thread of its own, while the emitter is polled. All ports are
+// taken back, and no more messages are left than the capacity.
 fn gather_from_threads<R: Threads + Abort + Copy + Send + 'static>(
     rt: R,
     alloc: Global,
@@ -282,7 +281,7 @@ fn gather_from_threads<R: Threads + Abort + Copy + Send + 'static>(
     ensures { 0 < links_of result.monitor }
 {
     let mut started = open_and_start(rt, alloc, capacity, messages);
-    // What is left then has room in any one queue, so each port can send its last message.
+    // The rest has room in any one queue, so each port can send its last message.
     let count = usize::from(PORTS).saturating_mul(usize::from(messages));
     poll_some(&rt, &mut started.tx, count.saturating_sub(capacity));
     let ports = join_all(&rt, alloc, started.workers);
@@ -293,14 +292,14 @@ fn gather_from_threads<R: Threads + Abort + Copy + Send + 'static>(
     }
 }
 
-// Each port had so many messages accepted.
+// Asserts that each port had `messages` messages accepted.
 fn check_accepted(rt: &impl Abort, ports: &[TxPort], messages: u8) {
     for port in ports {
         assert_same(rt, port.accepted(), u64::from(messages));
     }
 }
 
-// The monitor reads a frame of 60 bytes for each message.
+// Asserts that the monitor reads a frame of 60 bytes for each message.
 fn check_counts<R: Abort + Wait>(rt: &R, monitor: &mut Monitor, messages: u8)
     requires { 0 < links_of monitor.old }
 {
@@ -310,8 +309,8 @@ fn check_counts<R: Abort + Wait>(rt: &R, monitor: &mut Monitor, messages: u8)
     assert_same(rt, told, (sent, sent.saturating_mul(60), sent));
 }
 
-// After all ports came back from their threads, and what was left is sent, both networks have every
-// message, and the monitor reads so many.
+// Once all ports are taken back from their threads and the rest is sent, both networks have every message,
+// and the monitor counts as many.
 fn send_from_threads<R: Threads + Abort + Wait + Copy + Send + 'static>(
     rt: R,
     alloc: Global,

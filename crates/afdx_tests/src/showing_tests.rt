@@ -7,7 +7,7 @@ use std::sync::Wait;
 
 const NETWORKS: [Networks; 3] = [Networks::Both, Networks::OnlyA, Networks::OnlyB];
 
-// The hand at which a network fails: its first, one in between, or none of those that come.
+// The hand at which a network fails: its first, one in between, or one after all of them.
 const FAILING: [u64; 3] = [1, 3, 9];
 
 /// Which networks carry links 1 and 2, and at which hand, counted from 1, each network fails.
@@ -17,7 +17,7 @@ struct Setting {
     fails: (u64, u64),
 }
 
-// Links 1 and 2, with a port on each, which sent a message of one byte, and one of 18, which are cut in two.
+// Links 1 and 2 with a port on each, which has sent a message of one byte, and one of 18 in two frames.
 fn open_watched<R: Abort>(rt: &R, alloc: Global, setting: Setting) -> Rig {
     let links = [link(1, setting.links.0, 0), link(2, setting.links.1, 0)];
     let mut rig = open_links(rt, alloc, &links, setting.fails);
@@ -28,7 +28,7 @@ fn open_watched<R: Abort>(rt: &R, alloc: Global, setting: Setting) -> Rig {
     rig
 }
 
-// Polls, takes the counts, publishes, and asserts that the same is read.
+// Polls, takes the counts, publishes, and asserts that the monitor reads the same.
 fn assert_turn<S: System, R: Abort + Wait>(rt: &R, system: &mut S, now: u64) {
     let _ = system.poll(rt, now);
     let counts = (system.counts(1), system.counts(2));
@@ -38,7 +38,7 @@ fn assert_turn<S: System, R: Abort + Wait>(rt: &R, system: &mut S, now: u64) {
     assert_same(rt, counts.1, Some(system.read(rt, 1)));
 }
 
-// Polls of an emitter, a gap apart, one more than a link has frames.
+// Polls an emitter, a gap apart, once more than a link has frames.
 fn run_sending<R: Abort + Wait>(rt: &R, alloc: Global, setting: Setting) {
     let mut rig = open_watched(rt, alloc, setting);
     for turn in 0..4u64 {
@@ -46,7 +46,7 @@ fn run_sending<R: Abort + Wait>(rt: &R, alloc: Global, setting: Setting) {
     }
 }
 
-// Polls of a drain, the first at the moment of the emitter's one poll.
+// Polls a drain, the first time at the time of the emitter's one poll.
 fn run_drain<R: Abort + Wait>(rt: &R, alloc: Global, setting: Setting) {
     let mut rig = open_watched(rt, alloc, setting);
     let _ = rig.poll(rt, 0);

@@ -20,7 +20,7 @@ pub(crate) const ONLY_A: Standing = Standing { a: true, b: false };
 
 pub(crate) const ONLY_B: Standing = Standing { a: false, b: true };
 
-/// The hands, counted from 1, at which A and B fail, where neither does.
+/// The hands, counted from 1, at which A and B fail, if neither does.
 pub(crate) const NEVER: (u64, u64) = (u64::MAX, u64::MAX);
 
 /// The gap of each link in these tests, in microseconds.
@@ -34,8 +34,8 @@ port = [
 ]
 ";
 
-/// End system 1 with one link of two sub-VLs, each with room for two messages. Port 20 is on sub-VL 0,
-/// and port 21 on sub-VL 1. A piece has at most 25 bytes.
+/// End system 1 with one link of two sub-VLs, each with room for two messages. Port 20 is on sub-VL 0, and
+/// port 21 on sub-VL 1. A piece has at most 25 bytes.
 pub(crate) const TWO_SUB_VLS: &str = "end_system = { id = 1 }
 vl = [{ id = 1, bag_ms = 1, lmax = 64, sub_vls = 2, capacity = 2 }]
 port = [
@@ -52,13 +52,11 @@ port = [
 ]
 ";
 
-/// Asserts that two values are the same. A test that calls this has a short proof, since an assertion of its
-/// own is long to prove.
+/// Asserts that two values are the same.
 pub(crate) fn assert_same<V: PartialEq + Debug + Copy>(rt: &impl Abort, told: V, wanted: V) {
     assert_eq!(rt; told, wanted);
 }
 
-/// Asserts that these are the bytes.
 pub(crate) fn assert_bytes(rt: &impl Abort, found: &[u8], bytes: &[u8]) {
     assert_eq!(rt; found, bytes);
 }
@@ -71,14 +69,13 @@ pub(crate) fn send_taken<R: Abort>(rt: &R, alloc: Global, port: &mut TxPort, byt
     assert_same(rt, refused, None);
 }
 
-/// Asserts that a frame was handed over at this place of polls that are a gap apart, with that as its
-/// number.
+/// Asserts that a frame is of the poll at this place, of polls a gap apart, and has the place as its number.
 fn assert_entry(rt: &impl Abort, entry: &Handed, place: u8) {
     assert_same(rt, entry.at, GAP * u64::from(place));
     assert_same(rt, entry.frame.last().copied(), Some(place));
 }
 
-/// Asserts that a network holds the frames of so many polls, and how often it failed.
+/// Asserts that a network holds the frames of the first `many` polls, and how often it failed.
 pub(crate) fn assert_holds(rt: &impl Abort, network: &MemNetwork, (many, failures): (u8, u64)) {
     let handed = network.handed();
     assert_same(rt, handed.len(), usize::from(many));
@@ -88,7 +85,7 @@ pub(crate) fn assert_holds(rt: &impl Abort, network: &MemNetwork, (many, failure
     assert_same(rt, network.failures(), failures);
 }
 
-/// Gathers all ports of an emitter.
+/// Takes back all ports of an emitter and starts draining.
 pub(crate) fn gather<R: Abort>(rt: &R, tx: Sending, ports: Vec<TxPort>) -> Drain
     requires opened { AreOpenedWith tx ports.items }
     ensures { IsGatheredTx tx ports.items result }

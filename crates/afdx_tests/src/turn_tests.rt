@@ -1,5 +1,4 @@
-//! The sub-VLs of a link take turns: what the networks were handed, under the law that the emitter
-//! promises of it, and read frame by frame.
+//! The sub-VLs of a link take turns: what the networks took, by the emitter's contract and frame by frame.
 ghost use Rattle.std.specs.Prelude.{◌≡◌};
 ghost use Rattle.afdx_legal.specs.Turns.{TakeTurns};
 
@@ -19,7 +18,7 @@ port = [
 ]
 ";
 
-// The first port sends 60 bytes, which are three pieces, and each other two messages of one byte.
+// The first port sends 60 bytes, in three pieces, and each other port two messages of one byte.
 fn send_all<R: Abort>(rt: &R, alloc: Global, rig: &mut Rig) {
     assert_same(rt, rig.send(rt, alloc, 0, &[0xaa; 60]), None);
     for place in 1..rig.ports.len() {
@@ -28,7 +27,7 @@ fn send_all<R: Abort>(rt: &R, alloc: Global, rig: &mut Rig) {
     }
 }
 
-// So many polls a gap apart, from 0 on.
+// Polls `polls` times, a gap apart, from 0 on.
 fn poll_on<R: Abort>(rt: &R, tx: &mut Sending, polls: u8)
     ensures { tx.new.plan ≡ tx.old.plan }
 {
@@ -55,7 +54,7 @@ fn hand_in_turn<R: Abort>(rt: &R, rig: Rig, polls: u8) -> (MemNetwork, MemNetwor
 // Frames a gap apart, by their sub-VLs and their identifications.
 type Row<'a> = (&'a [u8], &'a [u16]);
 
-// A frame was handed over at its place in the row, with its sub-VL and its identification.
+// Asserts the place, the sub-VL and the identification of a frame in the row.
 fn assert_entry(rt: &impl Abort, entry: &Handed, place: u8, sub: u8, ident: u16) {
     let frame = entry.frame.as_slice();
     assert_same(rt, entry.at, GAP * u64::from(place));
@@ -64,7 +63,7 @@ fn assert_entry(rt: &impl Abort, entry: &Handed, place: u8, sub: u8, ident: u16)
     assert_same(rt, sn_of(frame), Some(place));
 }
 
-// A network was handed these frames.
+// Asserts that a network took these frames.
 fn assert_row(rt: &impl Abort, network: &MemNetwork, row: Row) {
     let (subs, idents) = row;
     assert_same(rt, network.handed().len(), subs.len());
@@ -76,7 +75,7 @@ fn assert_row(rt: &impl Abort, network: &MemNetwork, row: Row) {
     }
 }
 
-// What both networks were handed of a configuration, polled so many times.
+// Asserts what both networks took of a configuration in `polls` polls.
 fn assert_turns<R: Abort>(rt: &R, alloc: Global, text: &str, polls: u8, row: Row) {
     let mut rig = open(rt, alloc, text, NEVER);
     send_all(rt, alloc, &mut rig);

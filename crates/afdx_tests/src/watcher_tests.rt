@@ -9,10 +9,10 @@ use status_board::{Counts, Monitor};
 use std::sync::Wait;
 use std::thread;
 
-// How often the emitter is polled, and publishes.
+// How often the emitter is polled and publishes.
 const POLLS: u64 = 10_000;
 
-// The bytes of each frame.
+// The length of each frame in bytes.
 const FRAME: u64 = 60;
 
 // Whether the counts are of one entry: each frame has a message of its own, a gap after the one before.
@@ -22,7 +22,7 @@ fn is_whole(found: &Counts) -> bool {
         && found.frames.saturating_sub(1).checked_mul(GAP) == Some(found.last)
 }
 
-// Reads until all frames are counted. Whether each reading was whole, and none behind the one before.
+// Reads until all frames are counted. Returns whether each reading was whole, and none older than the one before.
 fn watch<R: Wait>(rt: &R, mut monitor: Monitor) -> bool
     requires { 0 < links_of monitor }
 {

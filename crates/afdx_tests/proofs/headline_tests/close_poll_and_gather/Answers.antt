@@ -9,7 +9,7 @@ use Rattle.afdx_tx.proofs.ClosedTotals.{closes_total, total_whole}
 use Rattle.afdx_tests.specs.Closing.{HasAccepted}
 use Rattle.afdx_tests.proofs.headline_tests.close_poll_and_gather.Goals as goal
 
--- what was accepted in the end, where an emitter was closed, polled and gathered
+-- the messages that a sub-VL accepted in all, if it was closed, the emitter polled and its ports taken back
 accepted_is : (old closed polled new : Tx) (ports : List PortView) (vl sub total : ℕ) → ClosesTx old vl sub total closed
     → closed.plan ≡ old.plan → polled.plan ≡ closed.plan
     → ((k s : ℕ) → total_in polled.links k s ≡ total_in closed.links k s) → IsGatheredTx polled ports new

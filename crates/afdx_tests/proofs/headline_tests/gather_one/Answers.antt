@@ -9,7 +9,7 @@ use Rattle.afdx_tx.specs.Ports.{PortView, IsPortOfTx}
 use Rattle.afdx_tx.specs.Gathering.{IsGatheredTx}
 use Rattle.afdx_tests.proofs.headline_tests.gather_one.Goals as goal
 
--- what was accepted of the one port that was gathered
+-- what was accepted of the one port
 own_one : (tx draining : Tx) (ports : List PortView) (port : PortView) → ports ≡ port ∷ [] → IsGatheredTx tx ports draining
     → AreOwn draining.plan (accepted_in draining.links) (λ place. port.sender.own)
 own_one tx draining ports port e gathered place lt =

@@ -13,7 +13,7 @@ use Rattle.afdx_tx.specs.Ports.{PortView, BelongsTo}
 use Rattle.afdx_tests.specs.Headline.{SentTwo, two_messages}
 use Rattle.afdx_tests.proofs.headline_tests.hand_whole.Goals as goal
 
--- what was handed over in the end
+-- what both networks took in the end
 whole : (plan : Plan) (accepted : Accepted) (own : ℕ → List (List ℕ)) (lines : Lines) (a b : List Entry) → plan ≡ demo_plan
     → a ≡ lines.a → b ≡ lines.b → IsLegal plan accepted lines.a lines.b → AreAllowed plan accepted → AreOwn plan accepted own
     → IsAllDone plan accepted (log lines) → AreOwnStreams plan (log lines) lines.a lines.b → IsHandedWhole demo_plan own a b
@@ -31,7 +31,7 @@ whole plan accepted own lines a b demo at_a at_b legal allowed owned done stream
       done = done;
     })))
 
--- what a port that was unused has sent
+-- what a port has sent that was unused before
 two_own : (port back : PortView) → port.sender.own ≡ [] → SentTwo port back → back.sender.own ≡ two_messages
 two_own port back fresh is = is.own ∙ ap (λ own. (own ++ (1 ∷ []) ∷ []) ++ (2 ∷ []) ∷ []) fresh
 

@@ -10,7 +10,7 @@ use Rattle.afdx_tx.specs.Ports.{PortView, IsPortOfTx, AreFreshPorts}
 use Rattle.afdx_tests.specs.Headline.{IsUnused}
 use Rattle.afdx_tests.proofs.headline_tests.open_demo.Goals as goal
 
--- the last port of an emitter of which nothing was accepted yet
+-- the last port of an emitter whose ports are all new
 last_unused : (tx : Tx) (ports rest : List PortView) (port : PortView) → ports ≡ rest ++ port ∷ [] → All (IsPortOfTx tx) ports
     → AreFreshPorts tx ports → IsUnused tx port
 last_unused tx ports rest port e opened fresh =

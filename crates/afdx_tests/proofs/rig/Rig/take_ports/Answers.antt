@@ -7,7 +7,7 @@ use Rattle.afdx_tx.proofs.HandedFronts.{all_front}
 use Rattle.afdx_tx.specs.Ports.{PortView, IsPortOfTx}
 use Rattle.afdx_tests.proofs.rig.Rig.take_ports.Goals as goal
 
--- what holds of each of a list holds of its last one
+-- what holds of each element of a list holds of the last one
 last_has : {X : Type 0} (P : X → Type 0) (rest : List X) (x : X) → All P (rest ++ x ∷ []) → P x
 last_has P rest x all =
     subst P (get_or_push rest x x (length rest) refl) (all (length rest) x (omega (arith, length-append rest (x ∷ []))))
